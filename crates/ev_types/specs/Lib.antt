@@ -1,0 +1,4 @@
+pub mod Sides
+pub mod Trace
+pub mod Taped
+pub mod TapeView
