@@ -2,3 +2,4 @@ pub mod Sides
 pub mod Trace
 pub mod Taped
 pub mod TapeView
+pub mod Growth

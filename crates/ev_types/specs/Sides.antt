@@ -1,5 +1,5 @@
 -- The sides of links as numbers. What a side does stands elsewhere.
-use Rattle.std.specs.Prelude.{ℕ, ◌+◌, ◌*◌}
+use Rattle.std.specs.Prelude.{ℕ, ◌+◌, ◌*◌, Bool, true, false, ◌==◌, ◌&&◌}
 use Rattle.ev_types.specs.declared.side.Side.{Side}
 use Rattle.ev_types.specs.declared.side.Side.TheVariants.{In, Out}
 use Rattle.ev_types.specs.declared.side.SideId.{SideId}
@@ -20,3 +20,13 @@ half Out = 1
 -- the place of a side among all sides: twice its link, and one more for Out
 abbrev pub number : SideId → ℕ
 number s = 2 * s.link + half s.side
+
+abbrev pub same_side : Side → Side → Bool
+same_side In In = true
+same_side Out Out = true
+same_side In Out = false
+same_side Out In = false
+
+-- do two names name one end
+abbrev pub same_end : SideId → SideId → Bool
+same_end a b = a.link == b.link && same_side a.side b.side

@@ -1,0 +1,3 @@
+pub mod Stream
+pub mod Told
+pub mod Calls

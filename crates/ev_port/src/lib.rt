@@ -1,0 +1,13 @@
+//! The outside of the relay: where text comes from and goes to, who keeps the trace, and the port that reaches
+//! the connections. Each is a trait with its meanings; beside each stand its implementations over memory, over a
+//! script and over the toolchain's streams. There is no socket here.
+#![tactic(auto)]
+
+mod port;
+mod scribe;
+mod stream;
+
+pub use ev_types::{ConnAnswer, ReadAnswer, WriteAnswer};
+pub use port::{Accepted, Addr, Polled, Port, Started, Want};
+pub use scribe::Scribe;
+pub use stream::{Given, Sink, Source, Taken};
