@@ -1,0 +1,3 @@
+//! What a run of the relay says: what was read and given, which traces are legal, what is conserved. Definitions stand
+//! in `specs/`, in the order in which `specs/Lib.antt` names them; the laws that they obey stand on the functions here.
+#![tactic(auto)]
