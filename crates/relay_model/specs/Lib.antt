@@ -1,3 +1,4 @@
 pub mod Trace
 pub mod Filter
+pub mod FilterLaws
 pub mod Flow
