@@ -1,0 +1,5 @@
+pub mod TraceLemmas
+pub mod ListLemmas
+pub mod FilterLemmas
+pub mod HexLemmas
+pub mod EveryFilter
