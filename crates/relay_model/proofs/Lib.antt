@@ -3,3 +3,4 @@ pub mod ListLemmas
 pub mod FilterLemmas
 pub mod HexLemmas
 pub mod EveryFilter
+pub mod ConservedLemmas

@@ -36,8 +36,8 @@ write_adds r w ended read f b =
 -- filters make of all that was read.
 abbrev pub AllIsThere : Type 0
 AllIsThere = (read_name write_name : FilterKind) (r w : Filter) (t : Trace) (from : SideId) (read taken : List ℕ) (ended : Bool) (f : Flow) (b : Buffers)
-    (reads writes : Running) → IsFilter r → IsFilter w → Accounted r w t from read taken ended f →
-    Holds read_name write_name r w read ended true true f b reads writes →
+    (reader writer : Running) → IsFilter r → IsFilter w → Accounted r w t from read taken ended f →
+    Holds read_name write_name r w read ended true true f b reader writer →
     taken ++ (b.raw_output ++ write_adds r w ended read f b) ≡ passed r w ended read
 
 -- After the side was freed, its free telling how many bytes were moved, and while the write filter is not finished: what was

@@ -1,5 +1,6 @@
 // The laws that the definitions obey, each on a function whose contract it is.
 ghost use Rattle.ev_types.specs.declared.filter.FilterKind.{FilterKind};
+ghost use Rattle.relay_model.specs.ConservedLaws.{AllIsThere, GivenBegins, RestAfterFree};
 ghost use Rattle.relay_model.specs.Filter.{filter_of};
 ghost use Rattle.relay_model.specs.FilterLaws.{IsFilter};
 
@@ -7,4 +8,19 @@ ghost use Rattle.relay_model.specs.FilterLaws.{IsFilter};
 /// bytes it used and the last of them.
 pub fn every_filter_is_lawful()
     ensures { (k : FilterKind) → IsFilter (filter_of k) }
+{}
+
+/// Whatever happens, the bytes given to an end begin what the filters make of the bytes read from its peer.
+pub fn given_begins_the_whole()
+    ensures { GivenBegins }
+{}
+
+/// While both sides live, what was given, what waits and what the filters will add for it are the whole.
+pub fn all_is_there()
+    ensures { AllIsThere }
+{}
+
+/// After the side was freed, what was given and what waits at its peer are what was moved before.
+pub fn rest_is_there_after_a_free()
+    ensures { RestAfterFree }
 {}
