@@ -35,6 +35,7 @@ prefix_of_local f l = record {
 badness_of_local : (f : Filter) → IsLocal f → BadLaw f
 badness_of_local f l = record {
   is_there = λ xs place h. absurd (let good = l.good xs in cc);
+  shows = λ xs place h. absurd (let good = l.good xs in cc);
   stays = λ xs ys place h. absurd (let good = l.good xs in cc);
   stops = λ xs place h. absurd (let good = l.good xs in cc);
   bad_at_end = λ xs place h. absurd (let good = l.good xs in cc);

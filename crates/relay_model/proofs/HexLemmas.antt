@@ -75,6 +75,24 @@ not_hex_from-there first (x ∷ xs) place h = by_digit (not_hex_from-there (firs
     by_digit rest true e = let k = rest e in record { above = omega arith; below = omega arith }
     by_digit rest false e = let k = some_same first place e in record { above = omega arith; below = omega arith }
 
+not_hex_from-shows : (first : ℕ) (xs : List ℕ) (n : ℕ) → not_hex_from first xs ≡ Some (first + n) → not_hex_from first (take (suc n) xs) ≡ Some (first + n)
+not_hex_from-shows first [] n h = absurd (cc)
+not_hex_from-shows first (x ∷ xs) zero h = by_digit (is_hex x) h
+  where
+    by_digit : (b : Bool) → (if b then not_hex_from (first + 1) xs else Some first) ≡ Some (first + 0) → (if b then None else Some first) ≡ Some (first + 0)
+    by_digit true e = absurd (let k = not_hex_from-there (first + 1) xs (first + 0) e in omega arith)
+    by_digit false e = e
+not_hex_from-shows first (x ∷ xs) (suc n) h = by_digit (not_hex_from-shows (first + 1) xs n) (is_hex x) h
+  where
+    same : first + suc n ≡ first + 1 + n
+    same = omega arith
+
+    by_digit : (not_hex_from (first + 1) xs ≡ Some (first + 1 + n) → not_hex_from (first + 1) (take (suc n) xs) ≡ Some (first + 1 + n)) → (b : Bool) →
+        (if b then not_hex_from (first + 1) xs else Some first) ≡ Some (first + suc n) →
+        (if b then not_hex_from (first + 1) (take (suc n) xs) else Some first) ≡ Some (first + suc n)
+    by_digit rest true e = rest (e ∙ ap Some same) ∙ ap Some (sym same)
+    by_digit rest false e = e
+
 -- where the first bad place is one of the first two, these are not both digits
 not_both : (first place : ℕ) (xs : List ℕ) → place < first + 2 → (b c : Bool) →
     (if b then (if c then not_hex_from (first + 1 + 1) xs else Some (first + 1)) else Some first) ≡ Some place → (b && c) ≡ false
@@ -137,6 +155,10 @@ hex_in_filter = record {
   prefix = record { empty = refl; grows = hex_in-grows; ends = λ xs. IsPrefixOf-same (hex_in xs) };
   badness = record {
     is_there = λ xs place h. (let k = not_hex_from-there 0 xs place h in let lt : place < length xs = omega arith in lt);
+    shows = λ xs place h.
+        let same : place ≡ 0 + place = omega arith in
+        let next : place + 1 ≡ suc place = omega arith in
+        ap (λ n. not_hex_from 0 (take n xs)) next ∙ not_hex_from-shows 0 xs place (h ∙ ap Some same) ∙ ap Some (sym same);
     stays = not_hex_from-stays 0;
     stops = λ xs place h. hex_in-stops 0 xs place (h ∙ ap Some (let k : place ≡ 0 + place = omega arith in k));
     bad_at_end = λ xs place h. ap (λ o. or_else o (odd_end xs)) h;

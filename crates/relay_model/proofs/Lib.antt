@@ -4,3 +4,4 @@ pub mod FilterLemmas
 pub mod HexLemmas
 pub mod EveryFilter
 pub mod ConservedLemmas
+pub mod MetLemmas

@@ -1,8 +1,8 @@
 -- What a filter must obey. Output is never taken back, it stops before a bad place, and a running filter is known by how
 -- many bytes it used and the last of them.
-use Rattle.std.specs.Prelude.{◌≡◌, ℕ, ◌<◌, ◌≤◌, List, [], ◌++◌, length, take, drop, Option, Some, None}
+use Rattle.std.specs.Prelude.{◌≡◌, ℕ, ◌+◌, ◌<◌, ◌≤◌, Bool, List, [], ◌++◌, length, take, drop, Option, Some, None}
 use Rattle.std.specs.List.{last_or}
-use Rattle.relay_model.specs.Filter.{Filter}
+use Rattle.relay_model.specs.Filter.{Filter, met}
 
 -- ys begins with xs
 abbrev pub IsPrefixOf : List ℕ → List ℕ → Type 0
@@ -26,10 +26,11 @@ pub record PrefixLaw (f : Filter) : Type 0 where
   pub grows : (xs ys : List ℕ) → IsPrefixOf (f.before xs) (f.before (xs ++ ys))
   pub ends : (xs : List ℕ) → IsPrefixOf (f.before xs) (f.at_end xs)
 
--- A bad place is the place of a byte, and stays bad whatever comes. Output stops before it. Where the end is bad, it adds
--- nothing.
+-- A bad place is the place of a byte; the bytes up to it show it, and it stays bad whatever comes, at the end too. Output
+-- stops before it. A bad end adds nothing.
 pub record BadLaw (f : Filter) : Type 0 where
   pub is_there : (xs : List ℕ) (place : ℕ) → f.bad xs ≡ Some place → place < length xs
+  pub shows : (xs : List ℕ) (place : ℕ) → f.bad xs ≡ Some place → f.bad (take (place + 1) xs) ≡ Some place
   pub stays : (xs ys : List ℕ) (place : ℕ) → f.bad xs ≡ Some place → f.bad (xs ++ ys) ≡ Some place
   pub stops : (xs : List ℕ) (place : ℕ) → f.bad xs ≡ Some place → f.before xs ≡ f.before (take place xs)
   pub bad_at_end : (xs : List ℕ) (place : ℕ) → f.bad xs ≡ Some place → f.bad_at_end xs ≡ Some place
@@ -51,7 +52,18 @@ pub record CutLaw (f : Filter) : Type 0 where
   pub same_bad : (xs zs : List ℕ) → LookAlike f xs zs → (ys : List ℕ) → f.bad (xs ++ ys) ≡ f.bad (zs ++ ys)
   pub same_bad_at_end : (xs zs : List ℕ) → LookAlike f xs zs → (ys : List ℕ) → f.bad_at_end (xs ++ ys) ≡ f.bad_at_end (zs ++ ys)
 
+-- the laws of a filter
 pub record IsFilter (f : Filter) : Type 0 where
   pub prefix : PrefixLaw f
   pub badness : BadLaw f
   pub cut : CutLaw f
+
+-- A place that is met is the bad one of the whole input at its end. Where a byte is left, it is bad before the end too; and
+-- where the bytes that were used are good, it is that byte's.
+pub record IsMetPlace (f : Filter) (xs : List ℕ) (used place : ℕ) : Type 0 where
+  pub at_end : f.bad_at_end xs ≡ Some place
+  pub before : used < length xs → f.bad xs ≡ Some place
+  pub next : used < length xs → f.bad (take used xs) ≡ None → place ≡ used
+
+abbrev pub MetIsBad : Type 0
+MetIsBad = (f : Filter) (xs : List ℕ) (used : ℕ) (over room : Bool) (place : ℕ) → IsFilter f → met f xs used over room ≡ Some place → IsMetPlace f xs used place

@@ -2,12 +2,17 @@
 ghost use Rattle.ev_types.specs.declared.filter.FilterKind.{FilterKind};
 ghost use Rattle.relay_model.specs.ConservedLaws.{AllIsThere, GivenBegins, RestAfterFree};
 ghost use Rattle.relay_model.specs.Filter.{filter_of};
-ghost use Rattle.relay_model.specs.FilterLaws.{IsFilter};
+ghost use Rattle.relay_model.specs.FilterLaws.{IsFilter, MetIsBad};
 
 /// Each of the five filters never takes output back, stops before a bad place, and is known while it runs by how many
 /// bytes it used and the last of them.
 pub fn every_filter_is_lawful()
     ensures { (k : FilterKind) → IsFilter (filter_of k) }
+{}
+
+/// The place that a filter meets is bad, and the first that is.
+pub fn what_is_met_is_bad()
+    ensures { MetIsBad }
 {}
 
 /// Whatever happens, the bytes given to an end begin what the filters make of the bytes read from its peer.
