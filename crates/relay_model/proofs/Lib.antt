@@ -5,3 +5,4 @@ pub mod HexLemmas
 pub mod EveryFilter
 pub mod ConservedLemmas
 pub mod MetLemmas
+mod Examples

@@ -4,4 +4,7 @@
 
 mod laws;
 
-pub use laws::{all_is_there, every_filter_is_lawful, given_begins_the_whole, rest_is_there_after_a_free, what_is_met_is_bad};
+pub use laws::{
+    all_is_there, every_filter_is_lawful, given_begins_the_whole, rest_is_there_after_a_free,
+    what_is_met_is_bad,
+};
