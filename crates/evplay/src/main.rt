@@ -1,0 +1,8 @@
+//! Plays a recorded script: from standard input to standard output.
+#![tactic(auto)]
+
+mod input;
+mod output;
+mod words;
+
+fn main() {}
