@@ -3,6 +3,7 @@
 
 mod input;
 mod output;
+mod status;
 mod words;
 
 fn main() {}
