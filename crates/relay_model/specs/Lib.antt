@@ -4,3 +4,6 @@ pub mod Flow
 pub mod Settings
 pub mod Due
 pub mod Plain
+pub mod Rates
+pub mod Groups
+pub mod Past
