@@ -10,6 +10,9 @@ use Rattle.relay_model.specs.Settings.{usual, GroupSet}
 use Rattle.relay_model.specs.Rates.{Limit, Spell, level}
 use Rattle.relay_model.specs.Groups.{share_among, group_level}
 use Rattle.relay_model.specs.Past.{Past}
+use Rattle.relay_model.specs.RatesKept.{RatesKept}
+use Rattle.relay_model.specs.Reasons.{raise}
+use Rattle.relay_model.specs.Rooms.{read_room}
 use Rattle.relay_model.specs.Due.{Due, Reason, with_reason, batch, event}
 use Rattle.relay_model.specs.Plain.{Plain, nothing_yet, with_link, side_at, freed}
 

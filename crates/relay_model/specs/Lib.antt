@@ -6,4 +6,7 @@ pub mod Due
 pub mod Plain
 pub mod Rates
 pub mod Groups
+pub mod RatesKept
 pub mod Past
+pub mod Rooms
+pub mod Reasons
