@@ -9,7 +9,10 @@ use Rattle.token_bucket.specs.declared.limit.LimitCfg.{LimitCfg}
 use Rattle.relay_model.specs.Settings.{usual, GroupSet}
 use Rattle.relay_model.specs.Rates.{Limit, Spell, level}
 use Rattle.relay_model.specs.Groups.{share_among, group_level}
-use Rattle.relay_model.specs.Past.{Past}
+use Rattle.relay_model.specs.Past.{Past, past}
+use Rattle.relay_model.specs.Asks.{refusal, done}
+use Rattle.relay_model.specs.Plans.{Planned, acts_behind}
+use Rattle.relay_model.specs.Moments.{poll_timeout, time_passed}
 use Rattle.relay_model.specs.RatesKept.{RatesKept}
 use Rattle.relay_model.specs.Reasons.{raise}
 use Rattle.relay_model.specs.Rooms.{read_room}

@@ -10,3 +10,6 @@ pub mod RatesKept
 pub mod Past
 pub mod Rooms
 pub mod Reasons
+pub mod Asks
+pub mod Plans
+pub mod Moments
