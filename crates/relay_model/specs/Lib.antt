@@ -13,3 +13,7 @@ pub mod Reasons
 pub mod Asks
 pub mod Plans
 pub mod Moments
+pub mod Pass
+pub mod Round
+pub mod Serve
+pub mod Close
