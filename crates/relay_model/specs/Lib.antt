@@ -7,3 +7,16 @@ pub mod ConservedLaws
 pub mod Settings
 pub mod Due
 pub mod Plain
+pub mod Rates
+pub mod Groups
+pub mod RatesKept
+pub mod Past
+pub mod Rooms
+pub mod Reasons
+pub mod Asks
+pub mod Plans
+pub mod Moments
+pub mod Pass
+pub mod Round
+pub mod Serve
+pub mod Close
