@@ -4,3 +4,5 @@ pub mod Faults
 pub mod Calls
 pub mod Polling
 pub mod Ends
+pub mod Memory
+pub mod MemoryView
