@@ -1,2 +1,4 @@
 pub mod Script
 pub mod ScriptView
+pub mod Pieces
+pub mod Numbers

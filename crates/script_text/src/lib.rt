@@ -2,5 +2,6 @@
 #![tactic(auto)]
 
 mod script;
+mod words;
 
 pub use script::{ByteList, LinkLine, Script, ScriptFault, TurnLine};
