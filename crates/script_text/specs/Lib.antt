@@ -2,3 +2,4 @@ pub mod Script
 pub mod ScriptView
 pub mod Pieces
 pub mod Numbers
+pub mod Grammar

@@ -1,6 +1,6 @@
 // The pieces of a text, the words of a line, and the numbers and bytes that words spell. What a line says with
 // them is left to the grammar.
-ghost use Rattle.std.specs.Prelude.{◌≡◌, ◌<◌, ◌≤◌, ◌^◌, ◌∷◌, length, map, IfOk, option_map, position, ◌==◌};
+ghost use Rattle.std.specs.Prelude.{◌≡◌, ◌<◌, ◌≤◌, ◌^◌, ◌∷◌, length, map, IfOk, option_map, position, ◌==◌, IfSome};
 ghost use Rattle.script_text.specs.Pieces.{pieces, words};
 ghost use Rattle.script_text.specs.Numbers.{bytes_of, number_within};
 
@@ -58,7 +58,8 @@ pub fn words_of<'a>(alloc: Global, line: &'a [u8]) -> Result<Vec<&'a [u8]>, Allo
 /// number above `max`.
 pub fn number(word: &[u8], max: u64) -> Option<u64>
     requires { max ≤ MAX_NUMBER }
-    ensures { result ≡ number_within max word.now }
+    ensures value { result ≡ number_within max word.now }
+    ensures within { IfSome result (λ n. n ≤ max) }
 {
     if word.is_empty() || (word.len() > 1 && word[0] == b'0') {
         return None;

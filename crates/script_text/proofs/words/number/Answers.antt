@@ -4,8 +4,8 @@ use Rattle.script_text.proofs.NumberLemmas.{value_of-above, number_within-above}
 use Rattle.script_text.proofs.words.number.Goals as goal
 
 -- one digit more makes the number at least ten times as great
-pub returns-then-value-max : goal.returns-then-value-max
-returns-then-value-max c =
+pub returns-then-value-max-clause-value : goal.returns-then-value-max-clause-value
+returns-then-value-max-clause-value c =
     let word = c.args.word.now in
     let past : c.args.max < c.loop-digit.value * 10 = omega arith in
     number_within-above c.args.max word
