@@ -1,3 +1,4 @@
+pub mod TurnExamples
 pub mod TraceLemmas
 pub mod ListLemmas
 pub mod FilterLemmas
