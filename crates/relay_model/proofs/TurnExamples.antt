@@ -15,6 +15,8 @@ use Rattle.relay_model.specs.Plans.{Planned, acts_behind}
 use Rattle.relay_model.specs.Moments.{poll_timeout, time_passed}
 use Rattle.relay_model.specs.Serve.{call_for}
 use Rattle.relay_model.specs.Close.{closing_entry}
+use Rattle.relay_model.specs.Turn.{Reaches}
+use Rattle.relay_model.specs.Answers.{EndsWith}
 use Rattle.relay_model.specs.RatesKept.{RatesKept}
 use Rattle.relay_model.specs.Reasons.{raise}
 use Rattle.relay_model.specs.Rooms.{read_room}

@@ -17,3 +17,6 @@ pub mod Pass
 pub mod Round
 pub mod Serve
 pub mod Close
+pub mod Stages
+pub mod Turn
+pub mod Answers
