@@ -1,6 +1,9 @@
 pub mod Trace
 pub mod Filter
+pub mod FilterLaws
 pub mod Flow
+pub mod Conserved
+pub mod ConservedLaws
 pub mod Settings
 pub mod Due
 pub mod Plain
