@@ -9,7 +9,6 @@ pub mod Due
 pub mod Plain
 pub mod Rates
 pub mod Groups
-pub mod RatesKept
 pub mod Past
 pub mod Rooms
 pub mod Reasons
@@ -23,3 +22,4 @@ pub mod Close
 pub mod Stages
 pub mod Turn
 pub mod Answers
+pub mod RatesKept
