@@ -7,3 +7,5 @@ pub mod EveryFilter
 pub mod ConservedLemmas
 pub mod MetLemmas
 mod Examples
+pub mod EndLemmas
+pub mod KeepsLemmas
