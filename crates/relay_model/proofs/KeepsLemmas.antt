@@ -104,14 +104,14 @@ Keeps-raise_read f g p e s = let r = raised_read g p e s in subst (λ z. Keeps f
 pub Keeps-raise_write : {A : Type 0} (f : PlainSide → A) (g : Settings) (p : Past) (e : SideId) (s : Plain) → Keeps f s (raise_write g p e s)
 Keeps-raise_write f g p e s = let r = raised_write g p e s in subst (λ z. Keeps f s z) (sym r.1) (Keeps-due f s r.0)
 
--- a change of a side that f does not see
-pub Keeps-change : {A : Type 0} (f : PlainSide → A) (e : SideId) (change : PlainSide → PlainSide) (s : Plain) → ((x : PlainSide) → f (change x) ≡ f x) → Keeps f s (change_side e change s)
-Keeps-change f e change s h = record {
+-- another value of a side, which f does not tell from the one before
+pub Keeps-put : {A : Type 0} (f : PlainSide → A) (e : SideId) (x : PlainSide) (s : Plain) → f x ≡ f (side_at s e) → Keeps f s (put_side e x s)
+Keeps-put f e x s h = record {
   time = refl;
   turn = refl;
   opened = refl;
   flows = refl;
-  sides = map-set_same f s.sides (number e) (change (side_at s e)) no_side (h (side_at s e));
+  sides = map-set_same f s.sides (number e) x no_side h;
 }
 
 pub Keeps-flow : {A : Type 0} (f : PlainSide → A) (e : SideId) (x : Flow) (s : Plain) → Keeps f s (put_flow e x s)

@@ -9,3 +9,4 @@ pub mod MetLemmas
 mod Examples
 pub mod EndLemmas
 pub mod KeepsLemmas
+pub mod SeenLemmas
