@@ -10,3 +10,6 @@ mod Examples
 pub mod EndLemmas
 pub mod KeepsLemmas
 pub mod SeenLemmas
+pub mod EffectLemmas
+pub mod PlacedLemmas
+pub mod AskLemmas

@@ -1,5 +1,5 @@
 -- What closing looks at of a side, and which steps leave that as it was.
-use Rattle.std.proofs.Common.{◌≡◌, ℕ, ◌+◌, ◌-◌, ◌<◌, ◌≤◌, Bool, true, false, ◌&&◌, not, if◌then◌else◌, List, [], ◌∷◌, ◌++◌, length, Option, Some, None, refl, sym, ◌∙◌, ap, fold}
+use Rattle.std.proofs.Common.{◌≡◌, ℕ, ◌+◌, ◌-◌, ◌<◌, ◌≤◌, Bool, true, false, ◌&&◌, not, if◌then◌else◌, List, [], ◌∷◌, ◌++◌, length, Option, Some, None, ◌⊎◌, inl, inr, refl, sym, ◌∙◌, ap, fold}
 use Rattle.std.specs.Prelude.{nat_le, nat_lt, filter}
 use Rattle.token_bucket.specs.declared.limit.Dir.{Dir}
 use Rattle.token_bucket.specs.declared.limit.Dir.TheVariants as dir
@@ -47,26 +47,25 @@ enabled-seen dir.Read on x = refl
 enabled-seen dir.Write on x = refl
 
 -- an ask frees a side, or leaves all that closing looks at
-pub data FreesOrNot : Act → Type 0 where
-  frees : (e : SideId) → FreesOrNot (act.Free e)
-  other : {a : Act} → ((g : Settings) (p : Past) (s : Plain) → Keeps seen s (done g p s a)) → FreesOrNot a
+abbrev pub FreesOrNot : Act → Type 0
+FreesOrNot a = ((e : SideId) × (a ≡ act.Free e)) ⊎ ((g : Settings) (p : Past) (s : Plain) → Keeps seen s (done g p s a))
 
 pub frees_or_not : (a : Act) → FreesOrNot a
-frees_or_not (act.Free e) = frees e
-frees_or_not (act.Enable e d) = other (λ g p s. Keeps-put seen e _ s (enabled-seen d true (side_at s e)))
-frees_or_not (act.Disable e d) = other (λ g p s. Keeps-put seen e _ s (enabled-seen d false (side_at s e)))
-frees_or_not (act.Marks e d low high) = other (λ g p s. Keeps-put seen e _ s refl)
-frees_or_not (act.Timeouts e read write) = other (λ g p s. Keeps-put seen e _ s refl)
-frees_or_not (act.Rate e cfg) = other (λ g p s. Keeps-put seen e _ s refl)
-frees_or_not (act.Join e group) = other (λ g p s. Keeps-put seen e _ s refl)
-frees_or_not (act.Leave e) = other (λ g p s. Keeps-put seen e _ s refl)
-frees_or_not (act.Trigger e dir.Read) = other (λ g p s. Keeps-raise_read seen g p e s)
-frees_or_not (act.Trigger e dir.Write) = other (λ g p s. Keeps-raise_write seen g p e s)
-frees_or_not (act.Timer e delay) = other (λ g p s. Keeps-timers seen s _)
-frees_or_not (act.Cancel e) = other (λ g p s. Keeps-timers seen s _)
-frees_or_not (act.Incref e) = other (λ g p s. Keeps-put seen e _ s refl)
-frees_or_not (act.Decref e) = other (λ g p s. Keeps-put seen e _ s refl)
-frees_or_not act.Stop = other (λ g p s. Keeps-refl seen s)
+frees_or_not (act.Free e) = inl (e, refl)
+frees_or_not (act.Enable e d) = inr (λ g p s. Keeps-put seen e _ s (enabled-seen d true (side_at s e)))
+frees_or_not (act.Disable e d) = inr (λ g p s. Keeps-put seen e _ s (enabled-seen d false (side_at s e)))
+frees_or_not (act.Marks e d low high) = inr (λ g p s. Keeps-put seen e _ s refl)
+frees_or_not (act.Timeouts e read write) = inr (λ g p s. Keeps-put seen e _ s refl)
+frees_or_not (act.Rate e cfg) = inr (λ g p s. Keeps-put seen e _ s refl)
+frees_or_not (act.Join e group) = inr (λ g p s. Keeps-put seen e _ s refl)
+frees_or_not (act.Leave e) = inr (λ g p s. Keeps-put seen e _ s refl)
+frees_or_not (act.Trigger e dir.Read) = inr (λ g p s. Keeps-raise_read seen g p e s)
+frees_or_not (act.Trigger e dir.Write) = inr (λ g p s. Keeps-raise_write seen g p e s)
+frees_or_not (act.Timer e delay) = inr (λ g p s. Keeps-timers seen s _)
+frees_or_not (act.Cancel e) = inr (λ g p s. Keeps-timers seen s _)
+frees_or_not (act.Incref e) = inr (λ g p s. Keeps-put seen e _ s refl)
+frees_or_not (act.Decref e) = inr (λ g p s. Keeps-put seen e _ s refl)
+frees_or_not act.Stop = inr (λ g p s. Keeps-refl seen s)
 
 -- Passing
 
