@@ -63,3 +63,11 @@ same_end-apart a b n h k = go (same_end a b) refl
     go : (q : Bool) → same_end a b ≡ q → same_end a b ≡ false
     go false e = e
     go true e = absurd (let l : a.link ≡ b.link = ap (λ x. x.link) (same_end-eq a b e) in omega arith)
+
+pub same_end-flip : (a b : SideId) (q : Bool) → same_end a b ≡ q → same_end b a ≡ q
+same_end-flip a b true h = ap (λ z. same_end z a) (sym (same_end-eq a b h)) ∙ same_end-refl a
+same_end-flip a b false h = go (same_end b a) refl
+  where
+    go : (q : Bool) → same_end b a ≡ q → same_end b a ≡ false
+    go false e = e
+    go true e = absurd (let r : same_end a b ≡ true = ap (λ z. same_end z b) (sym (same_end-eq b a e)) ∙ same_end-refl b in cc)

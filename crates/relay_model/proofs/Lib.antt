@@ -13,3 +13,5 @@ pub mod SeenLemmas
 pub mod EffectLemmas
 pub mod PlacedLemmas
 pub mod AskLemmas
+pub mod PutLemmas
+pub mod PutCases

@@ -65,7 +65,7 @@ room-write g p s e h = go (may_write s e) refl h
     go true e h = e
     go false e h = absurd (cc)
 
-connecting-live : (s : Plain) (e : SideId) → is_connecting s e ≡ true → is_live s e ≡ true
+pub connecting-live : (s : Plain) (e : SideId) → is_connecting s e ≡ true → is_live s e ≡ true
 connecting-live s e h = (and_parts (side_at s e).live (side_at s e).connecting h).0
 
 pub wants-live : (g : Settings) (p : Past) (s : Plain) (e : SideId) (d : Dir) → wants g p s e d ≡ true → is_live s e ≡ true
