@@ -15,3 +15,4 @@ pub mod PlacedLemmas
 pub mod AskLemmas
 pub mod PutLemmas
 pub mod PutCases
+pub mod ServeCases
