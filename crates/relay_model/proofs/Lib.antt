@@ -16,3 +16,6 @@ pub mod AskLemmas
 pub mod PutLemmas
 pub mod PutCases
 pub mod ServeCases
+pub mod CloseCases
+pub mod StepLemmas
+pub mod StageLemmas

@@ -50,7 +50,7 @@ use Rattle.relay_model.proofs.AskLemmas.{Frees, GoesOn, ask-outcome}
 use Rattle.relay_model.proofs.PutLemmas.{IsPlainEvent, effect-keeps, effect-at}
 
 -- a side that an entry names
-named-one : (s : Plain) (side : SideId) → side.link < s.opened → (e : SideId) → same_end side e ≡ true → e.link < s.opened
+pub named-one : (s : Plain) (side : SideId) → side.link < s.opened → (e : SideId) → same_end side e ≡ true → e.link < s.opened
 named-one s side lt e h = subst (λ z. z.link < s.opened) (same_end-eq side e h) lt
 
 -- an end fails
