@@ -19,3 +19,4 @@ pub mod ServeCases
 pub mod CloseCases
 pub mod StepLemmas
 pub mod StageLemmas
+pub mod ToldLemmas
