@@ -20,3 +20,5 @@ pub mod CloseCases
 pub mod StepLemmas
 pub mod StageLemmas
 pub mod ToldLemmas
+pub mod SplitLemmas
+pub mod KindLemmas
