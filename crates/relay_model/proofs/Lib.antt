@@ -22,3 +22,5 @@ pub mod StageLemmas
 pub mod ToldLemmas
 pub mod SplitLemmas
 pub mod KindLemmas
+pub mod FireLemmas
+pub mod HeldLemmas

@@ -24,3 +24,4 @@ pub mod Turn
 pub mod Answers
 pub mod RatesKept
 pub mod Told
+pub mod Quiet
