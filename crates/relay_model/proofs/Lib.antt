@@ -24,3 +24,4 @@ pub mod SplitLemmas
 pub mod KindLemmas
 pub mod FireLemmas
 pub mod HeldLemmas
+pub mod QuietLemmas
