@@ -25,3 +25,4 @@ pub mod KindLemmas
 pub mod FireLemmas
 pub mod HeldLemmas
 pub mod QuietLemmas
+pub mod FaultLemmas

@@ -25,3 +25,4 @@ pub mod Answers
 pub mod RatesKept
 pub mod Told
 pub mod Quiet
+pub mod Causes
