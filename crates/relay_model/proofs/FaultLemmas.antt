@@ -104,7 +104,7 @@ Awaits _ e = ⊤
 abbrev pub FaultsAwait : Stage → Plain → Type 0
 FaultsAwait x s = (e : SideId) → e.link < s.opened → is_live s e ≡ true → is_faulty (seen (side_at s e)) ≡ true → Awaits x e
 
-open-awaits : (x : Stage) (e : SideId) → is_open_stage x ≡ true → Awaits x e
+pub open-awaits : (x : Stage) (e : SideId) → is_open_stage x ≡ true → Awaits x e
 open-awaits Between e h = absurd (cc)
 open-awaits (Firing f rs) e h = tt
 open-awaits (Freeing gone f rs) e h = tt
@@ -124,7 +124,7 @@ looked-here k left e same Out z =
 looked-later : (k left : ℕ) (e : SideId) → list_any (looks_at e) (closing_from (k + 1) left) ≡ true → list_any (looks_at e) (closing_from k (suc left)) ≡ true
 looked-later k left e h = list_any-append (looks_at e) (closing_of k) (closing_from (k + 1) left) ∙ or_right (list_any (looks_at e) (closing_of k)) _ h
 
-looked-for : (k left : ℕ) (e : SideId) → k ≤ e.link → e.link < k + left → list_any (looks_at e) (closing_from k left) ≡ true
+pub looked-for : (k left : ℕ) (e : SideId) → k ≤ e.link → e.link < k + left → list_any (looks_at e) (closing_from k left) ≡ true
 looked-for k zero e h l = absurd (omega arith)
 looked-for k (suc left) e h l = go (cases_order k e.link) (λ lt. looked-for (k + 1) left e (omega arith) (omega arith))
   where
@@ -134,7 +134,7 @@ looked-for k (suc left) e h l = go (cases_order k e.link) (λ lt. looked-for (k 
     go (inr (inr gt)) later = absurd (omega arith)
 
 -- a step of closing leaves faults, and none of its entries tells of a failure or a turn
-closed-fails : (g : Settings) (p : Past) (s : Plain) (c : CloseStep) (e : Entry) → ClosedKind g p s c e → (z : SideId) → (failed_by z (e, []) ≡ false) × (begins_turn (e, []) ≡ false) × (looks_at z c ≡ true → freed_by z (e, []) ≡ true)
+pub closed-fails : (g : Settings) (p : Past) (s : Plain) (c : CloseStep) (e : Entry) → ClosedKind g p s c e → (z : SideId) → (failed_by z (e, []) ≡ false) × (begins_turn (e, []) ≡ false) × (looks_at z c ≡ true → freed_by z (e, []) ≡ true)
 closed-fails g p s c e (ClosedKind.faulty a b) z = (refl, refl, λ h. h)
 closed-fails g p s c e (ClosedKind.write_ended a b) z = (refl, refl, λ h. absurd (cc))
 closed-fails g p s c e (ClosedKind.in_done a b d f) z = (refl, refl, λ h. absurd (cc))
@@ -142,11 +142,11 @@ closed-fails g p s c e (ClosedKind.out_done) z = (refl, refl, λ h. absurd (cc))
 closed-fails g p s c e (ClosedKind.peer_gone a b d) z = (refl, refl, λ h. absurd (cc))
 closed-fails g p s c e (ClosedKind.shut a b) z = (refl, refl, λ h. absurd (cc))
 
-rest : (a b : Bool) → a ≡ false → (a || b) ≡ true → b ≡ true
+pub rest : (a b : Bool) → a ≡ false → (a || b) ≡ true → b ≡ true
 rest true b n h = absurd (cc)
 rest false b n h = h
 
-steps-looked : (c : CloseStep) (cs : List CloseStep) (z : SideId) → looks_at z c ≡ false → list_any (looks_at z) (c ∷ cs) ≡ true → list_any (looks_at z) (steps_left c cs) ≡ true
+pub steps-looked : (c : CloseStep) (cs : List CloseStep) (z : SideId) → looks_at z c ≡ false → list_any (looks_at z) (c ∷ cs) ≡ true → list_any (looks_at z) (steps_left c cs) ≡ true
 steps-looked (CloseStep.Faulty e) cs z n h = rest (same_end e z) _ n h
 steps-looked (CloseStep.EndWriting e) cs z n h = h
 steps-looked (CloseStep.BothDone k) cs z n h = h
@@ -155,14 +155,14 @@ steps-looked (CloseStep.PeerGone e) cs z n h = h
 steps-looked (CloseStep.Shut e) cs z n h = h
 
 -- what an entry that is no beginning of a turn does to a faulty side
-old-faulty : (e : SideId) (y : Event) (after : Stage) (old new : Seen) → SideEffect e y after old new → begins_turn y ≡ false → failed_by e y ≡ false → is_faulty new ≡ true → is_faulty old ≡ true
+pub old-faulty : (e : SideId) (y : Event) (after : Stage) (old new : Seen) → SideEffect e y after old new → begins_turn y ≡ false → failed_by e y ≡ false → is_faulty new ≡ true → is_faulty old ≡ true
 old-faulty e y after old new k turn fails h =
     let a : new.failed ≡ old.failed = k.failed ∙ sym (or_no old.failed (failed_by e y) fails) in
     let b : new.expired ≡ old.expired = k.expired turn in
     let c : new.bad ≡ old.bad = k.bad in
     (λ i. (sym a) i || (sym b) i || is_some ((sym c) i)) ∙ h
 
-was-live : (e : SideId) (y : Event) (after : Stage) (old new : Seen) → SideEffect e y after old new → new.live ≡ true → (old.live ≡ true) × (freed_by e y ≡ false)
+pub was-live : (e : SideId) (y : Event) (after : Stage) (old new : Seen) → SideEffect e y after old new → new.live ≡ true → (old.live ≡ true) × (freed_by e y ≡ false)
 was-live e y after old new k h =
     let parts = and_parts old.live (not (freed_by e y || is_freeing after e)) (sym k.live ∙ h) in
     (parts.0, (or_parts (freed_by e y) (is_freeing after e) (not-true _ parts.1)).0)

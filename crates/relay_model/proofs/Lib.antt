@@ -26,3 +26,5 @@ pub mod FireLemmas
 pub mod HeldLemmas
 pub mod QuietLemmas
 pub mod FaultLemmas
+pub mod TimeLemmas
+pub mod FaultSteps
