@@ -336,8 +336,12 @@ Eased-timers g p s =
     } in
     Eased-fold g p s (λ (state : Plain) (x : Timer). raise g x.side why.Timer state) (λ new x k. Eased-raise g p s new x.side why.Timer k) (record s { timers = later }) come begin
 
+time-eased : (g : Settings) (p : Past) (s : Plain) → Eased g p s (time_passed g p s)
+time-eased g p s =
+    Eased-fold g p s (side_timed g p) (λ new z m. Eased-fold g p s (timed g p z) (λ now d n. Eased-timed g p s now z d n) new both_ways m) (timers_taken g s) (all_sides s) (Eased-timers g p s)
+
 pub time-expired : (g : Settings) (p : Past) (s : Plain) (e : SideId) → (side_at (time_passed g p s) e).expired ≡ true → ((side_at s e).expired ≡ true) ⊎ IsLate g p s e
-time-expired g p s e h =
-    let k : Eased g p s (time_passed g p s) =
-        Eased-fold g p s (side_timed g p) (λ new z m. Eased-fold g p s (timed g p z) (λ now d n. Eased-timed g p s now z d n) new both_ways m) (timers_taken g s) (all_sides s) (Eased-timers g p s) in
-    k.expired e h
+time-expired g p s e h = (time-eased g p s).expired e h
+
+pub time-flows : (g : Settings) (p : Past) (s : Plain) → (time_passed g p s).flows ≡ s.flows
+time-flows g p s = (time-eased g p s).flows

@@ -44,7 +44,7 @@ freed-names : (e : SideId) (y : Event) → names e y ≡ false → freed_by e y 
 freed-names e (entry.Freed side why moved given, bytes) h = h
 freed-names e _ h = refl
 
-ended-names : (e : SideId) (y : Event) → names e y ≡ false → ended_by e y ≡ false
+pub ended-names : (e : SideId) (y : Event) → names e y ≡ false → ended_by e y ≡ false
 ended-names e (entry.Read side room read.Ended, bytes) h = h
 ended-names e _ h = refl
 

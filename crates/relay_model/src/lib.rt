@@ -9,4 +9,6 @@ pub use laws::{
     all_is_there, every_filter_is_lawful, given_begins_the_whole, rest_is_there_after_a_free,
     what_is_met_is_bad,
 };
-pub use legal_laws::{legal_is_quiet, links_in_order, state_is_told, time_rises};
+pub use legal_laws::{
+    faults_are_freed, frees_have_causes, legal_is_quiet, links_in_order, state_is_told, time_rises,
+};
