@@ -1,13 +1,13 @@
 -- How far the bytes of a direction have come only grows: what was read, and what was moved.
-use Rattle.std.proofs.Common.{◌≡◌, ℕ, zero, suc, ◌+◌, ◌-◌, ◌<◌, ◌≤◌, Bool, true, false, ◌&&◌, ◌||◌, ◌==◌, not, if◌then◌else◌, List, [], ◌∷◌, ◌++◌, length, take, drop, Option, Some, None, ◌⊎◌, inl, inr, refl, sym, ◌∙◌, ap, subst, arith, length-append, append_assoc}
-use Rattle.std.specs.Prelude.{nat_eq, nat_lt, nat_le, is_some}
-use Rattle.std.proofs.lemmas.Bool.{and_parts, and_from, or_cases, eq-eqb, ltb-true, ltb-false, eqb-true}
-use Rattle.std.proofs.lemmas.List.{append-nil, take-append-drop, take-append-le, take_all, take-take, length-take}
+use Rattle.std.proofs.Common.{◌≡◌, ℕ, zero, suc, ◌+◌, ◌-◌, ◌≤◌, Bool, true, false, ◌&&◌, ◌||◌, ◌==◌, not, if◌then◌else◌, List, [], ◌++◌, length, take, drop, Some, None, ◌⊎◌, inl, inr, refl, sym, ◌∙◌, ap, subst, arith, length-append, append_assoc}
+use Rattle.std.specs.Prelude.{nat_eq, nat_lt}
+use Rattle.std.proofs.lemmas.Bool.{and_parts, and_from, eq-eqb, eqb-true}
+use Rattle.std.proofs.lemmas.List.{append-nil, take-append-drop, take-append-le, take_all, take-take}
 use Rattle.relay_model.specs.Filter.{Filter, met}
 use Rattle.relay_model.specs.FilterLaws.{IsPrefixOf, PrefixLaw, BadLaw, IsFilter}
-use Rattle.relay_model.specs.Flow.{Flow, no_flow, middle, input, output}
+use Rattle.relay_model.specs.Flow.{Flow, middle, input, output}
 use Rattle.relay_model.specs.Conserved.{all_moved}
-use Rattle.relay_model.specs.Pass.{first_from, read_stops, with_used, read_place, is_over, with_read_done, with_moved, write_place}
+use Rattle.relay_model.specs.Pass.{first_from, read_stops, with_used, is_over, with_read_done, with_moved}
 use Rattle.relay_model.proofs.ListLemmas.{IsPrefixOf-rest}
 use Rattle.relay_model.proofs.MetLemmas.{bad-of_take}
 
