@@ -6,4 +6,6 @@ pub mod HexLemmas
 pub mod EveryFilter
 pub mod ConservedLemmas
 pub mod MetLemmas
+pub mod FlowSteps
+pub mod ConservedSteps
 mod Examples
