@@ -1,5 +1,5 @@
 -- The definitions of the turn at known values.
-use Rattle.std.specs.Prelude.{◌≡◌, ℕ, true, false, List, [], ◌∷◌, refl, length}
+use Rattle.std.specs.Prelude.{◌≡◌, ℕ, true, false, List, [], ◌∷◌, refl, Option, Some, None, length}
 use Rattle.ev_types.specs.declared.side.Side.TheVariants.{In, Out}
 use Rattle.ev_types.specs.declared.side.SideId.{SideId}
 use Rattle.ev_types.specs.declared.why.Why.TheVariants as why
@@ -9,8 +9,17 @@ use Rattle.token_bucket.specs.declared.limit.LimitCfg.{LimitCfg}
 use Rattle.relay_model.specs.Settings.{usual, GroupSet}
 use Rattle.relay_model.specs.Rates.{Limit, Spell, level}
 use Rattle.relay_model.specs.Groups.{share_among, group_level}
-use Rattle.relay_model.specs.Due.{Due, with_reason, batch, event}
-use Rattle.relay_model.specs.Plain.{nothing_yet, with_link}
+use Rattle.relay_model.specs.Past.{Past, past}
+use Rattle.relay_model.specs.Asks.{refusal, done}
+use Rattle.relay_model.specs.Plans.{Planned, acts_behind}
+use Rattle.relay_model.specs.Moments.{poll_timeout, time_passed}
+use Rattle.relay_model.specs.Serve.{call_for}
+use Rattle.relay_model.specs.Close.{closing_entry}
+use Rattle.relay_model.specs.RatesKept.{RatesKept}
+use Rattle.relay_model.specs.Reasons.{raise}
+use Rattle.relay_model.specs.Rooms.{read_room}
+use Rattle.relay_model.specs.Due.{Due, Reason, with_reason, batch, event}
+use Rattle.relay_model.specs.Plain.{Plain, nothing_yet, with_link, side_at, freed}
 
 abbrev in_of : ℕ → SideId
 in_of k = record { link = k; side = In }

@@ -1,5 +1,5 @@
 -- What time brings: the timeout of the poll, the timers that are taken as a turn begins, and the directions that expire.
-use Rattle.std.specs.Prelude.{ℕ, ◌+◌, ◌-◌, Bool, true, false, ◌==◌, ◌&&◌, ◌||◌, not, nat_lt, nat_le, if◌then◌else◌, List, [], ◌∷◌, ◌++◌, map, filter, length, fold, Option, Some, None, option_map}
+use Rattle.std.specs.Prelude.{ℕ, ◌+◌, ◌-◌, min, Bool, true, false, ◌==◌, ◌&&◌, ◌||◌, not, nat_lt, nat_le, if◌then◌else◌, List, [], ◌∷◌, ◌++◌, map, filter, length, fold, Option, Some, None, option_map}
 use Rattle.std.specs.List.{flat_map, list_any}
 use Rattle.token_bucket.specs.declared.limit.Dir.{Dir}
 use Rattle.token_bucket.specs.declared.limit.Dir.TheVariants as dir
@@ -103,8 +103,8 @@ timed g p e s d =
     if not (x.live && nat_le 1 (timeout_of x d)) then s
     else (if not (wants g p s e d) then change_side e (active_at s.time d) s
     else (if nat_le (timeout_of x d) (s.time - last_of x d)
-    then raise g e (happened d timeout_flag) (change_side e (λ y. record (enabled d false y) { expired = true }) s)
-    else s))
+        then raise g e (happened d timeout_flag) (change_side e (λ y. record (enabled d false y) { expired = true }) s)
+        else s))
 
 abbrev pub side_timed : Settings → Past → Plain → SideId → Plain
 side_timed g p s e = fold (timed g p e) s both_ways
