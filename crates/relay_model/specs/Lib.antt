@@ -10,7 +10,6 @@ pub mod Due
 pub mod Plain
 pub mod Rates
 pub mod Groups
-pub mod RatesKept
 pub mod Past
 pub mod Rooms
 pub mod Reasons
@@ -21,3 +20,7 @@ pub mod Pass
 pub mod Round
 pub mod Serve
 pub mod Close
+pub mod Stages
+pub mod Turn
+pub mod Answers
+pub mod RatesKept

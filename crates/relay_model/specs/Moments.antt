@@ -18,9 +18,9 @@ abbrev pub timeout_of : PlainSide → Dir → ℕ
 timeout_of x dir.Read = x.timeouts.read_ms
 timeout_of x dir.Write = x.timeouts.write_ms
 
-abbrev pub last_of : PlainSide → Dir → ℕ
-last_of x dir.Read = x.last_read
-last_of x dir.Write = x.last_write
+abbrev pub last_activity : PlainSide → Dir → ℕ
+last_activity x dir.Read = x.last_read
+last_activity x dir.Write = x.last_write
 
 -- a direction of a side was active at a time
 abbrev pub active_at : ℕ → Dir → PlainSide → PlainSide
@@ -39,7 +39,7 @@ moment_where holds moment = if holds then moment ∷ [] else []
 abbrev pub expiry : Settings → Past → Plain → SideId → Dir → List ℕ
 expiry g p s e d =
     let x = side_at s e in
-    moment_where (x.live && nat_le 1 (timeout_of x d) && wants g p s e d) (last_of x d + timeout_of x d)
+    moment_where (x.live && nat_le 1 (timeout_of x d) && wants g p s e d) (last_activity x d + timeout_of x d)
 
 abbrev pub is_used_up : Past → Plain → SideId → Standing → Dir → Bool
 is_used_up p s e x d = standing_level x d (p.turns e d) s.time == 0
@@ -102,7 +102,7 @@ timed g p e s d =
     let x = side_at s e in
     if not (x.live && nat_le 1 (timeout_of x d)) then s
     else (if not (wants g p s e d) then change_side e (active_at s.time d) s
-    else (if nat_le (timeout_of x d) (s.time - last_of x d)
+    else (if nat_le (timeout_of x d) (s.time - last_activity x d)
         then raise g e (happened d timeout_flag) (change_side e (λ y. record (enabled d false y) { expired = true }) s)
         else s))
 

@@ -2,26 +2,18 @@
 -- all that was read where it begins. A part looks at how much the four buffers hold, and never at a byte but to know a
 -- bad one.
 use Rattle.std.specs.Prelude.{ℕ, zero, suc, ◌+◌, ◌-◌, ◌/◌, Bool, true, false, ◌==◌, ◌&&◌, ◌||◌, not, nat_lt, nat_le, if◌then◌else◌, List, length, take, Option, None, is_some, is_none}
-use Rattle.relay_model.specs.Filter.{Filter}
+use Rattle.relay_model.specs.Filter.{Filter, holds, met}
 use Rattle.relay_model.specs.Flow.{Flow, middle, input, output, raw_output}
+use Rattle.relay_model.specs.Conserved.{all_moved}
 
 -- the first number from n on at which the test holds, or n + left where none of so many does
 abbrev pub first_from : (ℕ → Bool) → ℕ → ℕ → ℕ
 first_from stop n zero = n
 first_from stop n (suc left) = if stop n then n else first_from stop (n + 1) left
 
--- Does a filter hold something back that only its end would give?
-abbrev pub holds : Filter → List ℕ → Bool
-holds f xs = not (length (f.at_end xs) == length (f.before xs)) || (is_some (f.bad_at_end xs) && is_none (f.bad xs))
-
 -- A filter is finished at a good end, where it holds nothing back or its target has room.
 abbrev pub is_over : Filter → List ℕ → Bool → Bool
 is_over f xs room = is_none (f.bad_at_end xs) && (not (holds f xs) || room)
-
--- The bad place that a filter meets once it used n bytes of xs: the next byte, or the end where the end has come. While
--- its target has no room it meets none.
-abbrev pub met : Filter → List ℕ → ℕ → Bool → Bool → Option ℕ
-met f xs n over room = if not room then None else (if nat_lt n (length xs) then f.bad (take (n + 1) xs) else (if over then f.bad_at_end xs else None))
 
 module _ (r : Filter) (read : List ℕ) where
   -- Must the read filter stop at a place? The input is at the read mark, or the next byte is bad.
@@ -45,10 +37,6 @@ module _ (r : Filter) (read : List ℕ) where
   abbrev pub with_moved : Flow → Flow
   with_moved f = if not f.held && length (output r read f) == 0 then record f { moved = length (middle r read f) } else f
 
-  -- Has all that the write filter will ever get been moved?
-  abbrev pub is_all_moved : Flow → Bool
-  is_all_moved f = f.read_done && f.moved == length (middle r read f)
-
 module _ (r w : Filter) (read : List ℕ) where
   -- The direction becomes held where the raw output is at the hold mark or above. It stops being held where that is at
   -- half of the mark or below.
@@ -69,12 +57,12 @@ module _ (r w : Filter) (read : List ℕ) where
   abbrev pub write_place : ℕ → Bool → Flow → Option ℕ
   write_place hold may_end f =
       if f.held then None
-      else met w (take f.moved (middle r read f)) f.turned (may_end && is_all_moved r read f) (nat_lt (length (raw_output r w read f)) hold)
+      else met w (take f.moved (middle r read f)) f.turned (may_end && all_moved r read f) (nat_lt (length (raw_output r w read f)) hold)
 
   -- It is finished where all was moved and used, unless the direction is held.
   abbrev pub with_write_done : ℕ → Flow → Flow
   with_write_done hold f =
       if f.held then f
       else record f {
-        write_done = f.write_done || (is_all_moved r read f && f.turned == f.moved && is_over w (middle r read f) (nat_lt (length (raw_output r w read f)) hold));
+        write_done = f.write_done || (all_moved r read f && f.turned == f.moved && is_over w (middle r read f) (nat_lt (length (raw_output r w read f)) hold));
       }
