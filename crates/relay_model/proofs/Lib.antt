@@ -9,4 +9,5 @@ pub mod ConservedLemmas
 pub mod MetLemmas
 pub mod FlowSteps
 pub mod ConservedSteps
+pub mod PassKeeps
 mod Examples
