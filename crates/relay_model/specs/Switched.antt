@@ -1,5 +1,5 @@
 -- A filter that is another one from a place of its input on. Who may switch, and when, stands elsewhere.
-use Rattle.std.specs.Prelude.{◌≡◌, ℕ, ◌+◌, List, ◌++◌, take, drop, Option, Some, None}
+use Rattle.std.specs.Prelude.{◌≡◌, ℕ, ◌+◌, ◌++◌, take, drop, Option, Some, None}
 use Rattle.relay_model.specs.Filter.{Filter}
 use Rattle.relay_model.specs.FilterLaws.{IsFilter}
 
