@@ -10,4 +10,5 @@ pub mod MetLemmas
 pub mod FlowSteps
 pub mod ConservedSteps
 pub mod PassKeeps
+pub mod PassLemmas
 mod Examples

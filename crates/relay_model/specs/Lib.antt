@@ -17,6 +17,7 @@ pub mod Asks
 pub mod Plans
 pub mod Moments
 pub mod Pass
+pub mod PassLaws
 pub mod Round
 pub mod Serve
 pub mod Close

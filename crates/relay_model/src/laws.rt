@@ -3,6 +3,7 @@ ghost use Rattle.ev_types.specs.declared.filter.FilterKind.{FilterKind};
 ghost use Rattle.relay_model.specs.ConservedLaws.{AllIsThere, GivenBegins, RestAfterFree};
 ghost use Rattle.relay_model.specs.Filter.{filter_of};
 ghost use Rattle.relay_model.specs.FilterLaws.{IsFilter, MetIsBad};
+ghost use Rattle.relay_model.specs.PassLaws.{PassingEnds};
 ghost use Rattle.relay_model.specs.Switched.{SwitchedIsFilter};
 
 /// Each of the five filters never takes output back, stops before a bad place, and is known while it runs by how many
@@ -34,4 +35,10 @@ pub fn all_is_there()
 /// After the side was freed, what was given and what waits at its peer are what was moved before.
 pub fn rest_is_there_after_a_free()
     ensures { RestAfterFree }
+{}
+
+/// Once a round of passing changes nothing, a direction that isn't held has its first three buffers empty, and a held
+/// one has more than half of the hold mark in its raw output.
+pub fn passing_leaves_only_what_is_held()
+    ensures { PassingEnds }
 {}
