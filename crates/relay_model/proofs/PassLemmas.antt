@@ -1,14 +1,14 @@
 -- What passing leaves. Each part of a round sets one count or one flag, so where a round changes nothing no part does.
-use Rattle.std.proofs.Common.{◌≡◌, ℕ, zero, suc, ◌+◌, ◌-◌, ◌/◌, ◌<◌, ◌≤◌, Bool, true, false, ◌==◌, ◌&&◌, ◌||◌, not, if◌then◌else◌, ◌⊎◌, inl, inr, List, [], length, take, drop, Option, Some, None, is_none, refl, sym, ◌∙◌, ap, subst, arith, eq-eqb}
+use Rattle.std.proofs.Common.{◌≡◌, ℕ, zero, suc, ◌+◌, ◌-◌, ◌/◌, ◌<◌, ◌≤◌, Bool, true, false, ◌==◌, ◌&&◌, ◌||◌, not, if◌then◌else◌, ◌⊎◌, inl, inr, List, [], length, take, None, refl, sym, ◌∙◌, ap, arith, eq-eqb}
 use Rattle.std.specs.Prelude.{nat_lt, nat_le, is_some}
 use Rattle.std.proofs.lemmas.Bool.{leb-true, leb-false, lt-ltb, ltb-true, ltb-false}
 use Rattle.std.proofs.lemmas.List.{take-take, length-take-le}
 use Rattle.std.proofs.Math.ListN.{drop_of_length-le}
 use Rattle.relay_model.specs.Filter.{Filter, met}
-use Rattle.relay_model.specs.Flow.{Flow, Fits, middle, raw_input, input, output, raw_output}
+use Rattle.relay_model.specs.Flow.{Flow, middle, raw_input, input, output, raw_output}
 use Rattle.relay_model.specs.Conserved.{all_moved}
-use Rattle.relay_model.specs.Pass.{first_from, read_stops, with_used, read_place, with_read_done, with_moved, with_held, write_stops, with_turned, write_place, with_write_done}
-use Rattle.relay_model.specs.PassLaws.{whole_round, IsPassed, PassingEnds}
+use Rattle.relay_model.specs.Pass.{first_from, read_stops, with_used, with_read_done, with_moved, with_held, write_stops, with_turned, with_write_done}
+use Rattle.relay_model.specs.PassLaws.{whole_round, PassingEnds}
 use Rattle.relay_model.proofs.PassKeeps.{first_from-above}
 
 -- a search that stays at its start has nothing to go over, or stops there
@@ -145,8 +145,8 @@ passing_ends r w read ended mark hold f mark_some hold_some fits good_in good_ou
     good_next h lt =
         ap w.bad (sym (take-take (f.turned + 1) f.moved xs (omega arith)))
         ∙ met-none w (take f.moved xs) f.turned (all_moved r read f) (nat_lt full hold) (lt-ltb full hold (below h))
-          (let here = length-take-le f.moved xs fits.moved in omega arith)
-          (ap (λ b. if b then None else met w (take f.moved xs) f.turned (all_moved r read f) (nat_lt full hold)) (sym h) ∙ good_out)
+        (let here = length-take-le f.moved xs fits.moved in omega arith)
+        (ap (λ b. if b then None else met w (take f.moved xs) f.turned (all_moved r read f) (nat_lt full hold)) (sym h) ∙ good_out)
 
     turned_is : f.held ≡ false → first_from (write_stops r w read hold f) f.turned (f.moved - f.turned) ≡ f.turned
     turned_is h =
@@ -159,15 +159,15 @@ passing_ends r w read ended mark hold f mark_some hold_some fits good_in good_ou
         stops : f.turned < f.moved → write_stops r w read hold f f.turned ≡ true → f.turned ≡ f.moved
         stops lt e =
             elim (either_true (nat_le hold full) (is_some (w.bad (take (f.turned + 1) xs))) e) [
-              inl p ↦ absurd (let le = leb-true hold full p in let lt = below h in omega arith)
-            | inr q ↦ absurd (let good = ap is_some (good_next h lt) in cc)
+              | inl p ↦ absurd (let le = leb-true hold full p in let lt = below h in omega arith)
+              | inr q ↦ absurd (let good = ap is_some (good_next h lt) in cc)
             ]
 
         by_order : (b : Bool) → nat_lt f.turned f.moved ≡ b → f.turned ≡ f.moved
         by_order true p =
             elim (first_from-stays (write_stops r w read hold f) f.turned (f.moved - f.turned) (turned_is h)) [
-              inl q ↦ (let le = fits.turned in omega arith)
-            | inr q ↦ stops (ltb-true f.turned f.moved p) q
+              | inl q ↦ (let le = fits.turned in omega arith)
+              | inr q ↦ stops (ltb-true f.turned f.moved p) q
             ]
         by_order false p = let le = fits.turned in let ge = ltb-false f.turned f.moved p in omega arith
 
@@ -194,17 +194,17 @@ passing_ends r w read ended mark hold f mark_some hold_some fits good_in good_ou
         stops : f.used < length read → read_stops r read mark f f.used ≡ true → f.used ≡ length read
         stops lt e =
             elim (either_true (nat_le mark (length (input r read f))) (is_some (r.bad (take (f.used + 1) read))) e) [
-              inl p ↦ absurd (let le = leb-true mark (length (input r read f)) p in let lt = room in omega arith)
-            | inr q ↦
-              absurd
-              (let good = ap is_some (met-none r read f.used ended (nat_lt (length (input r read f)) mark) (lt-ltb (length (input r read f)) mark room) lt good_in) in cc)
+              | inl p ↦ absurd (let le = leb-true mark (length (input r read f)) p in let lt = room in omega arith)
+              | inr q ↦
+                  absurd
+                  (let good = ap is_some (met-none r read f.used ended (nat_lt (length (input r read f)) mark) (lt-ltb (length (input r read f)) mark room) lt good_in) in cc)
             ]
 
         by_order : (b : Bool) → nat_lt f.used (length read) ≡ b → f.used ≡ length read
         by_order true p =
             elim (first_from-stays (read_stops r read mark f) f.used (length read - f.used) (ap (λ x. x.used) (still_used r w read ended mark hold f still))) [
-              inl q ↦ (let le = fits.used in omega arith)
-            | inr q ↦ stops (ltb-true f.used (length read) p) q
+              | inl q ↦ (let le = fits.used in omega arith)
+              | inr q ↦ stops (ltb-true f.used (length read) p) q
             ]
         by_order false p = let le = fits.used in let ge = ltb-false f.used (length read) p in omega arith
 
