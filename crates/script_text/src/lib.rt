@@ -2,7 +2,10 @@
 #![tactic(auto)]
 
 mod line;
+mod read;
 mod script;
+mod tally;
 mod words;
 
+pub use read::read_script;
 pub use script::{ByteList, LinkLine, Script, ScriptFault, TurnLine};
