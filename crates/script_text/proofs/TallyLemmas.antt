@@ -1,18 +1,16 @@
 -- What is kept of the ends as a line more is counted.
-use Rattle.std.proofs.Common.{◌≡◌, ◌≢◌, ◌<◌, ◌≤◌, ◌+◌, ◌-◌, ◌*◌, ◌^◌, min, ℕ, zero, suc, Option, ltb-true, leb-true, Bool, true, false, cond, eqb, leb, ltb, not, ◌&&◌, ◌||◌, List, [], ◌∷◌, ◌++◌, length, get_or, set, refl, ap, sym, ◌∙◌, arith, inl, inr, rules, tests, length-append, length-set, get_or-set_same, get_or-set_other, count_by, sum_by}
-use Rattle.std.specs.List.{list_any}
+use Rattle.std.proofs.Common.{◌≡◌, ◌≢◌, ◌<◌, ◌≤◌, ◌+◌, ◌-◌, ◌*◌, ◌^◌, min, ℕ, zero, suc, Option, ltb-true, leb-true, Bool, true, false, cond, eqb, ◌||◌, List, [], ◌∷◌, ◌++◌, length, set, refl, ap, sym, ◌∙◌, arith, inl, inr, length-append, length-set, get_or-set_same, get_or-set_other}
 use Rattle.std.proofs.lemmas.Bool.{and_parts}
-use Rattle.std.proofs.lemmas.Bool.Decides.{eqb_tells, nat_tests}
+use Rattle.std.proofs.lemmas.Bool.Decides.{eqb_tells}
 use Rattle.std.proofs.lemmas.List.Sums.{sum_by_push}
 use Rattle.std.proofs.lemmas.List.Folds.{list_any-append}
 use Rattle.ev_types.specs.Sides.{number, half}
-use Rattle.ev_types.specs.declared.side.Side.{Side}
 use Rattle.ev_types.specs.declared.side.Side.TheVariants.{In, Out}
 use Rattle.ev_types.specs.declared.side.SideId.{SideId}
 use Rattle.script_text.specs.declared.script.TurnLine.{TurnLine}
 use Rattle.script_text.specs.declared.script.TurnLine.TheVariants.{NewLink, Pending, Eof, Take}
 use Rattle.script_text.specs.declared.tally.EndSoFar.{EndSoFar}
-use Rattle.script_text.specs.Order.{opened, is_opening, brought, is_end_of, bytes_for, is_ended, may_follow, is_in}
+use Rattle.script_text.specs.Order.{opened, is_opening, brought, is_end_of, bytes_for, is_ended, may_follow}
 use Rattle.script_text.specs.Tally.{IsTally, counted, kept_of, untouched}
 
 or-false : (b : Bool) → (b || false) ≡ b
@@ -33,9 +31,9 @@ kept_of-padded (x ∷ xs) (suc e) = kept_of-padded xs e
 
 pub kept_of-set : (ends : List EndSoFar) (k e : ℕ) (v : EndSoFar) → k < length ends → kept_of (set ends k v) e ≡ cond (eqb k e) v (kept_of ends e)
 kept_of-set ends k e v lt = elim (eqb_tells k e) [
-    inl h ↦ rw (h.0, ← h.1) (get_or-set_same ends k v untouched lt)
+  | inl h ↦ rw (h.0, ← h.1) (get_or-set_same ends k v untouched lt)
   | inr h ↦ let other : e ≢ k = λ same. h.1 (sym same) in rw h.0 (get_or-set_other ends k e v untouched other)
-  ]
+]
 
 -- the ends of an opened link are kept
 pub number-within : (side : SideId) (ends : List EndSoFar) (links : ℕ) → length ends ≡ 2 * links → side.link < links → number side < length ends
@@ -68,12 +66,12 @@ IsTally-brought ends before side bytes t lt small =
     record {
       count = length-set ends k grown ∙ t.count ∙ sym (omega (arith, sum_by_push (λ l. cond (is_opening l) 1 0) before line));
       bytes = λ e. ap (λ (x : EndSoFar). x.bytes) (kept_of-set ends k e grown lt) ∙ elim (eqb_tells k e) [
-        inl h ↦ rw (sum_by_push (brought e) before line, h.0, ← h.1) sum
-      | inr h ↦ rw (sum_by_push (brought e) before line, h.0) (omega (arith, t.bytes e))
+        | inl h ↦ rw (sum_by_push (brought e) before line, h.0, ← h.1) sum
+        | inr h ↦ rw (sum_by_push (brought e) before line, h.0) (omega (arith, t.bytes e))
       ];
       ended = λ e. ap (λ (x : EndSoFar). x.ended) (kept_of-set ends k e grown lt) ∙ elim (eqb_tells k e) [
-        inl h ↦ rw (is_ended-other e before line refl, h.0, ← h.1) (t.ended k)
-      | inr h ↦ rw (is_ended-other e before line refl, h.0) (t.ended e)
+        | inl h ↦ rw (is_ended-other e before line refl, h.0, ← h.1) (t.ended k)
+        | inr h ↦ rw (is_ended-other e before line refl, h.0) (t.ended e)
       ];
     }
 
@@ -87,12 +85,12 @@ IsTally-ended ends before side t lt =
     record {
       count = length-set ends k over ∙ t.count ∙ sym (omega (arith, sum_by_push (λ l. cond (is_opening l) 1 0) before (Eof side)));
       bytes = λ e. ap (λ (x : EndSoFar). x.bytes) (kept_of-set ends k e over lt) ∙ elim (eqb_tells k e) [
-        inl h ↦ rw (sum_by_push (brought e) before (Eof side), h.0, ← h.1) (omega (arith, t.bytes k))
-      | inr h ↦ rw (sum_by_push (brought e) before (Eof side), h.0) (omega (arith, t.bytes e))
+        | inl h ↦ rw (sum_by_push (brought e) before (Eof side), h.0, ← h.1) (omega (arith, t.bytes k))
+        | inr h ↦ rw (sum_by_push (brought e) before (Eof side), h.0) (omega (arith, t.bytes e))
       ];
       ended = λ e. ap (λ (x : EndSoFar). x.ended) (kept_of-set ends k e over lt) ∙ elim (eqb_tells k e) [
-        inl h ↦ rw (list_any-append (is_end_of e) before (Eof side ∷ []), h.0) (sym (or-true (is_ended e before)))
-      | inr h ↦ rw (list_any-append (is_end_of e) before (Eof side ∷ []), h.0) (t.ended e ∙ sym (or-false (is_ended e before)))
+        | inl h ↦ rw (list_any-append (is_end_of e) before (Eof side ∷ []), h.0) (sym (or-true (is_ended e before)))
+        | inr h ↦ rw (list_any-append (is_end_of e) before (Eof side ∷ []), h.0) (t.ended e ∙ sym (or-false (is_ended e before)))
       ];
     }
 

@@ -7,3 +7,7 @@ pub mod Order
 pub mod Spelled
 pub mod Tally
 pub mod ReadingView
+pub mod Lines
+pub mod ActLine
+pub mod TraceText
+pub mod ReportText

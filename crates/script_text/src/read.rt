@@ -108,7 +108,9 @@ impl Reading {
         match line {
             TurnLine::NewLink { .. } => self.links() < MAX_LINKS,
             TurnLine::Pending(side, list) => {
-                side.side == Side::In && self.is_known(*side) && self.has_room(*side, list.bytes.len())
+                side.side == Side::In
+                    && self.is_known(*side)
+                    && self.has_room(*side, list.bytes.len())
             }
             TurnLine::Eof(side) => side.side == Side::In && self.is_known(*side),
             TurnLine::Take(side, _) => side.side == Side::Out && self.is_known(*side),

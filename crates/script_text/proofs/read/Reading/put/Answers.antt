@@ -4,7 +4,7 @@ use Rattle.script_text.specs.declared.script.TurnLine.{TurnLine}
 use Rattle.script_text.specs.Script.{ScriptValue, TurnValue}
 use Rattle.script_text.specs.ScriptView.{turn_values}
 use Rattle.script_text.specs.Order.{turn_lines, with_line, may_follow}
-use Rattle.script_text.specs.Tally.{IsTally, counted}
+use Rattle.script_text.specs.Tally.{IsTally}
 use Rattle.script_text.proofs.TurnLemmas.{turn_value, turn_values-put, turn_values-same, turn_lines-with_line}
 use Rattle.script_text.proofs.TallyLemmas.{IsTally-counted}
 use Rattle.script_text.proofs.read.Reading.put.Goals as goal
