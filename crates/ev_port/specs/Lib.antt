@@ -1,3 +1,12 @@
 pub mod Stream
 pub mod Told
+pub mod Faults
 pub mod Calls
+pub mod Polling
+pub mod Ends
+pub mod Counting
+pub mod Memory
+pub mod MemoryView
+pub mod ScriptState
+pub mod ScriptEnds
+pub mod ScriptEndView

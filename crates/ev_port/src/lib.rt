@@ -3,11 +3,18 @@
 //! script and over the toolchain's streams. There is no socket here.
 #![tactic(auto)]
 
+mod memory;
+mod mute;
 mod port;
 mod scribe;
+mod script_end;
+mod standard;
 mod stream;
 
 pub use ev_types::{ConnAnswer, ReadAnswer, WriteAnswer};
+pub use memory::{MemSink, MemSource};
+pub use mute::Mute;
 pub use port::{Accepted, Addr, Polled, Port, Started, Want};
 pub use scribe::Scribe;
+pub use standard::{StdSink, StdSource};
 pub use stream::{Given, Sink, Source, Taken};

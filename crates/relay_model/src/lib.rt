@@ -1,3 +1,10 @@
 //! What a run of the relay says: what was read and given, which traces are legal, what is conserved. Definitions stand
 //! in `specs/`, in the order in which `specs/Lib.antt` names them; the laws that they obey stand on the functions here.
 #![tactic(auto)]
+
+mod laws;
+
+pub use laws::{
+    all_is_there, every_filter_is_lawful, given_begins_the_whole, rest_is_there_after_a_free,
+    what_is_met_is_bad,
+};

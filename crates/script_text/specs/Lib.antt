@@ -1,2 +1,5 @@
 pub mod Script
 pub mod ScriptView
+pub mod Pieces
+pub mod Numbers
+pub mod Grammar

@@ -1,0 +1,91 @@
+// A source and a sink over the toolchain's readers and writers, as standard input and output. They tell of their
+// bytes what the reader or writer tells; those of standard input and output tell nothing.
+ghost use Rattle.std.specs.Prelude.{◌≡◌, ◌<◌, ◌≤◌, length};
+
+use crate::{Given, Sink, Source, Taken};
+use std::io;
+use std::io::{ErrorKind, Read, Write};
+
+/// Reads from a reader. A read of no bytes is the end, an interrupted read is made again, and every other error is
+/// a fault.
+///
+/// Own.
+#[derive(Drop)]
+pub struct StdSource<R> {
+    reader: R,
+    faults: u64,
+}
+
+impl<R: Read> StdSource<R> {
+    /// A source that reads from this reader, with no fault so far.
+    pub fn new(reader: R) -> StdSource<R>
+        ensures reader { result.reader ≡ reader }
+        ensures faults { result.faults ≡ 0 }
+    {
+        StdSource { reader, faults: 0 }
+    }
+}
+
+impl<R: Read> Source for StdSource<R> {
+    ghost left = { λ s. R.remaining s.reader };
+
+    ghost faults = { λ s. s.faults };
+
+    fn read(&mut self, into: &mut [u8]) -> Taken {
+        for _try in 0..u64::MAX {
+            match self.reader.read(into) {
+                Ok(0) => return Taken::Ended,
+                Ok(count) => return Taken::Got(count),
+                Err(error) => {
+                    if error.kind() != ErrorKind::Interrupted {
+                        break;
+                    }
+                }
+            }
+        }
+        self.faults = self.faults.saturating_add(1);
+        Taken::Failed
+    }
+}
+
+/// Writes to a writer. A write that takes no bytes is a fault, an interrupted write is made again, and every other
+/// error is a fault.
+///
+/// Own.
+#[derive(Drop)]
+pub struct StdSink<W> {
+    writer: W,
+    faults: u64,
+}
+
+impl<W: Write> StdSink<W> {
+    /// A sink that writes to this writer, with no fault so far.
+    pub fn new(writer: W) -> StdSink<W>
+        ensures writer { result.writer ≡ writer }
+        ensures faults { result.faults ≡ 0 }
+    {
+        StdSink { writer, faults: 0 }
+    }
+}
+
+impl<W: Write> Sink for StdSink<W> {
+    ghost taken = { λ s. W.contents s.writer };
+
+    ghost faults = { λ s. s.faults };
+
+    fn write(&mut self, from: &[u8]) -> Given {
+        for _try in 0..u64::MAX {
+            match self.writer.write(from) {
+                Ok(0) => break,
+                Ok(count) => return Given::Took(count),
+                Err(error) => {
+                    if error.kind() != ErrorKind::Interrupted {
+                        break;
+                    }
+                }
+            }
+        }
+        self.faults = self.faults.saturating_add(1);
+        Given::Failed
+    }
+}

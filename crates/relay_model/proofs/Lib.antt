@@ -1,0 +1,9 @@
+pub mod TurnExamples
+pub mod TraceLemmas
+pub mod ListLemmas
+pub mod FilterLemmas
+pub mod HexLemmas
+pub mod EveryFilter
+pub mod ConservedLemmas
+pub mod MetLemmas
+mod Examples

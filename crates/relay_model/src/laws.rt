@@ -1,0 +1,31 @@
+// The laws that the definitions obey, each on a function whose contract it is.
+ghost use Rattle.ev_types.specs.declared.filter.FilterKind.{FilterKind};
+ghost use Rattle.relay_model.specs.ConservedLaws.{AllIsThere, GivenBegins, RestAfterFree};
+ghost use Rattle.relay_model.specs.Filter.{filter_of};
+ghost use Rattle.relay_model.specs.FilterLaws.{IsFilter, MetIsBad};
+
+/// Each of the five filters never takes output back, stops before a bad place, and is known while it runs by how many
+/// bytes it used and the last of them.
+pub fn every_filter_is_lawful()
+    ensures { (k : FilterKind) → IsFilter (filter_of k) }
+{}
+
+/// The place that a filter meets is bad, and the first that is.
+pub fn what_is_met_is_bad()
+    ensures { MetIsBad }
+{}
+
+/// Whatever happens, the bytes given to an end begin what the filters make of the bytes read from its peer.
+pub fn given_begins_the_whole()
+    ensures { GivenBegins }
+{}
+
+/// While both sides live, what was given, what waits and what the filters will add for it are the whole.
+pub fn all_is_there()
+    ensures { AllIsThere }
+{}
+
+/// After the side was freed, what was given and what waits at its peer are what was moved before.
+pub fn rest_is_there_after_a_free()
+    ensures { RestAfterFree }
+{}
