@@ -4,6 +4,10 @@ pub mod ListLemmas
 pub mod FilterLemmas
 pub mod HexLemmas
 pub mod EveryFilter
+pub mod SwitchedLemmas
 pub mod ConservedLemmas
 pub mod MetLemmas
+pub mod FlowSteps
+pub mod ConservedSteps
+pub mod PassKeeps
 mod Examples

@@ -5,6 +5,6 @@
 mod laws;
 
 pub use laws::{
-    all_is_there, every_filter_is_lawful, given_begins_the_whole, rest_is_there_after_a_free,
-    what_is_met_is_bad,
+    a_switched_filter_is_lawful, all_is_there, every_filter_is_lawful, given_begins_the_whole,
+    rest_is_there_after_a_free, what_is_met_is_bad,
 };
