@@ -6,3 +6,4 @@ pub mod HexLemmas
 pub mod EveryFilter
 pub mod ConservedLemmas
 pub mod MetLemmas
+pub mod PastLemmas
