@@ -7,3 +7,4 @@ pub mod EveryFilter
 pub mod ConservedLemmas
 pub mod MetLemmas
 pub mod PastLemmas
+pub mod PlainLemmas
