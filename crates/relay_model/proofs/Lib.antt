@@ -8,3 +8,4 @@ pub mod ConservedLemmas
 pub mod MetLemmas
 pub mod PastLemmas
 pub mod PlainLemmas
+pub mod QuietSteps
