@@ -11,3 +11,6 @@ pub mod FlowSteps
 pub mod ConservedSteps
 pub mod PassKeeps
 mod Examples
+pub mod PastLemmas
+pub mod PlainLemmas
+pub mod QuietSteps
