@@ -12,3 +12,6 @@ pub mod ConservedSteps
 pub mod PassKeeps
 pub mod PassLemmas
 mod Examples
+pub mod PastLemmas
+pub mod PlainLemmas
+pub mod QuietSteps
