@@ -9,6 +9,7 @@ pub mod ConservedLemmas
 pub mod MetLemmas
 pub mod FlowSteps
 pub mod ConservedSteps
+pub mod RunningLemmas
 pub mod PassKeeps
 pub mod PassLemmas
 mod Examples
