@@ -1,5 +1,5 @@
 -- Running filters: what they know after more bytes, and what they hold.
-use Rattle.std.proofs.Common.{◌≡◌, ℕ, ◌+◌, ◌%◌, ◌≤◌, Bool, true, false, not, ◌==◌, ◌&&◌, ◌||◌, if◌then◌else◌, List, [], ◌∷◌, ◌++◌, length, take, drop, Option, Some, None, is_none, refl, sym, ◌∙◌, ap, subst, arith, length-append}
+use Rattle.std.proofs.Common.{◌≡◌, ℕ, ◌+◌, ◌%◌, ◌≤◌, Bool, true, false, not, ◌==◌, ◌&&◌, ◌||◌, if◌then◌else◌, List, [], ◌∷◌, ◌++◌, length, take, drop, Option, Some, None, is_none, refl, sym, ◌∙◌, ap, arith, length-append}
 use Rattle.std.specs.Prelude.{is_some, bytes_eq}
 use Rattle.std.specs.List.{last_or}
 use Rattle.std.proofs.lemmas.List.{append-nil, length-take-le, drop-append-le}
@@ -7,8 +7,7 @@ use Rattle.std.proofs.lemmas.Slice.Eq.{bytes_eq-Decides}
 use Rattle.std.proofs.Math.Seq.{take-add}
 use Rattle.ev_types.specs.declared.filter.FilterKind.TheVariants as kind
 use Rattle.relay_model.specs.Filter.{Filter, filter_of, holds, CR, to_lf, last_cr, hex_in, not_hex_from, or_else, odd_end}
-use Rattle.relay_model.specs.FilterLaws.{LookAlike, last_of}
-use Rattle.relay_model.specs.Conserved.{StandsAt, Running}
+use Rattle.relay_model.specs.FilterLaws.{last_of}
 use Rattle.relay_model.specs.ConservedLaws.{RunningIsKnown}
 use Rattle.relay_model.proofs.ListLemmas.{last_or-append}
 use Rattle.relay_model.proofs.FilterLemmas.{cr_of, last_cr-last}
