@@ -6,4 +6,5 @@ pub mod HexLemmas
 pub mod EveryFilter
 pub mod ConservedLemmas
 pub mod MetLemmas
+pub mod StandsLemmas
 mod Examples

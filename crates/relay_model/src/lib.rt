@@ -3,8 +3,10 @@
 #![tactic(auto)]
 
 mod laws;
+mod played_laws;
 
 pub use laws::{
     all_is_there, every_filter_is_lawful, given_begins_the_whole, rest_is_there_after_a_free,
     what_is_met_is_bad,
 };
+pub use played_laws::{Vouches, any_stage_holds, cuts_join, nothing_stands, steps_join};
