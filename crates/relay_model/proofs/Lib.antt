@@ -7,4 +7,5 @@ pub mod EveryFilter
 pub mod ConservedLemmas
 pub mod MetLemmas
 pub mod StandsLemmas
+pub mod TiedLemmas
 mod Examples

@@ -24,3 +24,5 @@ pub mod Turn
 pub mod Answers
 pub mod RatesKept
 pub mod Stands
+pub mod Totals
+pub mod Tied
