@@ -12,6 +12,8 @@ pub mod ConservedSteps
 pub mod RunningLemmas
 pub mod PassKeeps
 pub mod PassLemmas
+pub mod StandsLemmas
+pub mod TiedLemmas
 mod Examples
 pub mod PastLemmas
 pub mod PlainLemmas

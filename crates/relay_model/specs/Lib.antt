@@ -25,3 +25,6 @@ pub mod Stages
 pub mod Turn
 pub mod Answers
 pub mod RatesKept
+pub mod Stands
+pub mod Totals
+pub mod Tied
