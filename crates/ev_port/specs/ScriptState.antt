@@ -17,3 +17,14 @@ pub record EndState : Type 0 where
 pub record EndKept : Type 0 where
   pub state : EndState
   pub to_come : List ℕ
+
+-- the links of the script, and what stands at their ends
+pub record LinksState : Type 0 where
+  pub waiting : List Bool  -- the links that wait to be accepted, each with whether its Out end is undecided
+  pub ends : List EndState  -- the ends of all links of the script, by the number of their side
+
+-- the links, with those that the script has yet to open and the bytes that it has yet to bring in at each end
+pub record LinksKept : Type 0 where
+  pub state : LinksState
+  pub to_open : List Bool
+  pub to_come : List (List ℕ)

@@ -8,6 +8,7 @@ mod mute;
 mod port;
 mod scribe;
 mod script_end;
+mod script_links;
 mod standard;
 mod stream;
 
