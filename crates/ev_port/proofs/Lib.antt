@@ -1,2 +1,3 @@
 pub mod EndLemmas
 pub mod ListLemmas
+pub mod LinkLemmas

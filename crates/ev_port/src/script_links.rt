@@ -235,13 +235,22 @@ impl ScriptLinks {
         }
     }
 
+    fn mark_want(&self, want: Want) -> Want
+        ensures { result ≡ marked self.now.state want }
+    {
+        Want {
+            can_read: want.read && self.can_read(want.side),
+            can_write: want.write && self.can_write(want.side),
+            ..want
+        }
+    }
+
     /// Marks what is wanted and can be done.
     pub fn mark(&self, wants: &mut [Want])
         ensures { wants.new ≡ map (λ w. marked self.now.state w) wants.old }
     {
         for want in wants.iter_mut() {
-            want.can_read = want.read && self.can_read(want.side);
-            want.can_write = want.write && self.can_write(want.side);
+            *want = self.mark_want(*want);
         }
     }
 

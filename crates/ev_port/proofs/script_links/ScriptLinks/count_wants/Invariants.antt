@@ -7,5 +7,5 @@ abbrev pub invariant-loop-want : goal.invariant-loop-want
 invariant-loop-want l = record {
   state : after_wants (drop l.want-index l.wants) l.self.state ≡ after_wants l.wants l.initial.self.state;
   to_open : l.self.to_open ≡ l.initial.self.to_open;
-  to_come : l.self.to_come ≡ l.initial.self.to_come
+  to_come : l.self.to_come ≡ l.initial.self.to_come;
 }

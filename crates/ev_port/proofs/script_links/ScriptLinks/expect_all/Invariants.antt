@@ -7,5 +7,5 @@ abbrev pub invariant-loop-line : goal.invariant-loop-line
 invariant-loop-line l = record {
   state : l.self.state ≡ l.initial.self.state;
   to_open : l.self.to_open ≡ l.initial.self.to_open;
-  to_come : with_all_bytes (drop l.line-index l.lines) l.self.to_come ≡ with_all_bytes l.lines l.initial.self.to_come
+  to_come : with_all_bytes (drop l.line-index l.lines) l.self.to_come ≡ with_all_bytes l.lines l.initial.self.to_come;
 }
