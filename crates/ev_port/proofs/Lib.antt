@@ -1,3 +1,4 @@
 pub mod EndLemmas
 pub mod ListLemmas
 pub mod LinkLemmas
+pub mod ScriptLemmas

@@ -13,3 +13,6 @@ pub mod ScriptEndView
 pub mod ScriptLinks
 pub mod ScriptKept
 pub mod ScriptLinksView
+pub mod ScriptPort
+pub mod ScriptTold
+pub mod ScriptPortView

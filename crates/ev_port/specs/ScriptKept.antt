@@ -70,9 +70,10 @@ abbrev pub bytes_of : ℕ → List TurnLine → List ℕ
 bytes_of k lines = flat_map (line_bytes k) lines
 
 -- what is to open and to come is what these lines bring
-pub record Brings (lines : List TurnLine) (to_open : List Bool) (to_come : List (List ℕ)) : Type 0 where
-  pub links : to_open ≡ links_of lines
-  pub bytes : (k : ℕ) → k < length to_come → kept_at k to_come ≡ bytes_of k lines
+pub record Brings (lines : List TurnLine) (l : LinksKept) : Type 0 where
+  pub links : l.to_open ≡ links_of lines
+  pub bytes : (k : ℕ) → k < length l.to_come → kept_at k l.to_come ≡ bytes_of k lines
+  pub ends : length l.state.ends ≡ length l.to_come
 
 -- the first link that waits was taken, if one does
 abbrev pub TookWaiting : LinksKept → LinksKept → Option Bool → Type 0

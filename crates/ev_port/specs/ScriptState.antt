@@ -2,6 +2,7 @@
 use Rattle.std.specs.Prelude.{ℕ, Bool, List, Option}
 use Rattle.script_text.specs.declared.script.TurnLine.{TurnLine}
 use Rattle.ev_port.specs.declared.script_end.EndTally.{EndTally}
+use Rattle.ev_port.specs.declared.script_port.PortTally.{PortTally}
 
 -- what stands at one end
 pub record EndState : Type 0 where
@@ -28,3 +29,11 @@ pub record LinksKept : Type 0 where
   pub state : LinksState
   pub to_open : List Bool
   pub to_come : List (List ℕ)
+
+-- the whole port
+pub record PortState : Type 0 where
+  pub turns : List (ℕ × List TurnLine)  -- the script: each turn's moment and its lines
+  pub begun : ℕ  -- how many of its turns began
+  pub clock : ℕ  -- the moment of the last of these, or 0
+  pub links : LinksState
+  pub tally : PortTally
