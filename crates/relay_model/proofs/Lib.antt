@@ -9,3 +9,5 @@ pub mod MetLemmas
 pub mod PastLemmas
 pub mod PlainLemmas
 pub mod QuietSteps
+pub mod StillEntries
+pub mod Clock
