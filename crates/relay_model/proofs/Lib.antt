@@ -11,3 +11,4 @@ pub mod PlainLemmas
 pub mod QuietSteps
 pub mod StillEntries
 pub mod Clock
+pub mod ReachLemmas

@@ -23,3 +23,4 @@ pub mod Stages
 pub mod Turn
 pub mod Answers
 pub mod RatesKept
+pub mod TurnLaws
