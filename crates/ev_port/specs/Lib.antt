@@ -4,5 +4,9 @@ pub mod Faults
 pub mod Calls
 pub mod Polling
 pub mod Ends
+pub mod Counting
 pub mod Memory
 pub mod MemoryView
+pub mod ScriptState
+pub mod ScriptEnds
+pub mod ScriptEndView

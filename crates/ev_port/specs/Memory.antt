@@ -1,12 +1,9 @@
 -- What a source and a sink over memory keep, and what each of their calls answers and leaves.
 use Rattle.std.specs.Prelude.{ℕ, ◌+◌, ◌-◌, ◌^◌, ◌==◌, min, length, drop, List, Bool, if◌then◌else◌}
 use Rattle.std.specs.List.{list_any}
+use Rattle.ev_port.specs.Counting.{counted}
 use Rattle.ev_port.specs.declared.stream.Taken.{Taken}
 use Rattle.ev_port.specs.declared.stream.Taken.TheVariants as taken
-
--- one more, up to the end of a u64
-abbrev pub one_more : ℕ → ℕ
-one_more n = min (n + 1) (2 ^ 64 - 1)
 
 -- what contracts see of a source over memory
 pub record MemSourceState : Type 0 where
@@ -26,7 +23,7 @@ pub record MemSinkState : Type 0 where
 
 -- the call after so many calls is one of those that fail
 abbrev pub is_failing : List ℕ → ℕ → Bool
-is_failing failing calls = list_any (λ k. k == one_more calls) failing
+is_failing failing calls = list_any (λ k. k == counted calls 1) failing
 
 -- a read fails where the list says so, ends where nothing is left, and else gives the least of the room and what is left
 abbrev pub source_answer : MemSourceState → ℕ → Taken
@@ -36,4 +33,4 @@ source_answer s room =
 -- a read that fails gives nothing and is counted as a fault
 abbrev pub source_after : MemSourceState → ℕ → MemSourceState
 source_after s room =
-    if is_failing s.failing s.calls then record s { calls = one_more s.calls; faults = one_more s.faults } else record s { calls = one_more s.calls; left = drop room s.left }
+    if is_failing s.failing s.calls then record s { calls = counted s.calls 1; faults = counted s.faults 1 } else record s { calls = counted s.calls 1; left = drop room s.left }

@@ -7,6 +7,7 @@ mod memory;
 mod mute;
 mod port;
 mod scribe;
+mod script_end;
 mod standard;
 mod stream;
 

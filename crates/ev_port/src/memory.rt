@@ -3,7 +3,8 @@ ghost use Rattle.std.specs.Prelude.{◌≡◌, ◌≢◌, ◌≤◌, ◌<◌, �
 ghost use Rattle.stream_words.specs.Faults.{Counted};
 ghost use Rattle.stream_words.specs.Streams.{Gave, TookOn};
 ghost use Rattle.ev_port.specs.Stream.{bytes_got, GotWithin, is_read_fault, bytes_taken, TookWithin, is_write_fault};
-ghost use Rattle.ev_port.specs.Memory.{one_more, is_failing, source_answer, source_after};
+ghost use Rattle.ev_port.specs.Counting.{counted};
+ghost use Rattle.ev_port.specs.Memory.{is_failing, source_answer, source_after};
 
 use crate::{Given, Sink, Source, Taken};
 use std::alloc::Global;
@@ -12,7 +13,7 @@ use std::marker::Model;
 // Counts a call, and tells whether it is one of those that fail.
 fn counts_failing(failing: &[u64], calls: &mut u64) -> bool
     ensures failing { result ≡ is_failing failing.now calls.old }
-    ensures calls { calls.new ≡ one_more calls.old }
+    ensures calls { calls.new ≡ counted calls.old 1 }
 {
     *calls = calls.saturating_add(1);
     failing.contains(calls)
@@ -165,8 +166,8 @@ impl Sink for MemSink {
 
         // What is kept, and what the call changes of it.
         ensures kept { self.new.bytes ≡ self.old.bytes ++ bytes_taken result from.now }
-        ensures calls { self.new.calls ≡ one_more self.old.calls }
-        ensures faults { self.new.faults ≡ (if is_write_fault result then one_more self.old.faults else self.old.faults) }
+        ensures calls { self.new.calls ≡ counted self.old.calls 1 }
+        ensures faults { self.new.faults ≡ (if is_write_fault result then counted self.old.faults 1 else self.old.faults) }
         ensures most { self.new.most ≡ self.old.most }
         ensures failing { self.new.failing ≡ self.old.failing }
 

@@ -22,8 +22,5 @@ pub use flags::SideFlags;
 pub use relay::Relay;
 pub use settings::Settings;
 
-
-
-
 #[cfg(test)]
 mod tests;

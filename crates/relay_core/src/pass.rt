@@ -27,7 +27,8 @@ impl SideState {
         let raw = self.raw_input.len();
         let input = self.input.len();
         if input > 0 || raw > READ_MARK {
-            self.input.reserve(raw.min(READ_MARK.saturating_sub(input)))?;
+            self.input
+                .reserve(raw.min(READ_MARK.saturating_sub(input)))?;
         }
         let most = raw + input + self.output.len();
         if self.raw_output.len() > 0 || most as u64 > hold {
@@ -86,7 +87,10 @@ impl SideState {
         }
         let room = hold.saturating_sub(self.raw_output.len() as u64);
         let count = self.output.len().min(room as usize);
-        let done = finish && self.flow.read_done && count == self.output.len() && self.input.len() == 0;
+        let done = finish
+            && self.flow.read_done
+            && count == self.output.len()
+            && self.input.len() == 0;
         self.output.give(&mut self.raw_output, count);
         self.flow.turned += count as u64;
         self.flow.write_done = self.flow.write_done || done;

@@ -6,13 +6,13 @@ const IN: SideId = SideId {
     link: 0,
     side: Side::In,
 };
+
 const OUT: SideId = SideId {
     link: 0,
     side: Side::Out,
 };
 
-fn close_all(relay: &mut Relay, link: u32)
-{
+fn close_all(relay: &mut Relay, link: u32) {
     for step in Closing::of(link).iter() {
         if link < relay.opened() && relay.calls_for(*step) {
             relay.close(*step);

@@ -1,18 +1,14 @@
 -- What follows where a direction is conserved: what was given and what waits make up the whole.
-use Rattle.std.proofs.Common.{◌≡◌, ℕ, ◌≤◌, Bool, true, false, ◌&&◌, if◌then◌else◌, List, [], ◌∷◌, ◌++◌, length, take, drop, Option, Some, None, is_none, refl, sym, ◌∙◌, ap, subst, append_assoc, arith}
-use Rattle.std.specs.Prelude.{All, Contains}
+use Rattle.std.proofs.Common.{◌≡◌, ℕ, ◌≤◌, Bool, true, false, ◌&&◌, if◌then◌else◌, List, [], ◌++◌, length, take, drop, None, is_none, refl, sym, ◌∙◌, ap, subst, append_assoc}
 use Rattle.std.proofs.lemmas.List.{append-nil, take-append-drop, take-take}
 use Rattle.std.proofs.lemmas.List.Elements.{All-contains}
 use Rattle.std.proofs.Math.Seq.{take-length}
-use Rattle.ev_types.specs.declared.filter.FilterKind.{FilterKind}
-use Rattle.ev_types.specs.declared.side.SideId.{SideId}
-use Rattle.ev_types.specs.Trace.{Trace}
 use Rattle.relay_model.specs.Trace.{moved_at_free}
 use Rattle.relay_model.specs.Filter.{Filter}
-use Rattle.relay_model.specs.FilterLaws.{IsPrefixOf, PrefixLaw, IsFilter, more, more_at_end}
-use Rattle.relay_model.specs.Flow.{Flow, Fits, middle, outcome, raw_input, input, output, raw_output, passed_on, passed_at_end, passed}
-use Rattle.relay_model.specs.Conserved.{Accounted, Holds, Buffers, Running, left}
-use Rattle.relay_model.specs.ConservedLaws.{GivenBegins, AllIsThere, RestAfterFree, adds, ends_well, read_adds, write_adds}
+use Rattle.relay_model.specs.FilterLaws.{IsPrefixOf, PrefixLaw, more, more_at_end}
+use Rattle.relay_model.specs.Flow.{Flow, Fits, middle, outcome, input, output, raw_output, passed}
+use Rattle.relay_model.specs.Conserved.{left}
+use Rattle.relay_model.specs.ConservedLaws.{GivenBegins, AllIsThere, RestAfterFree, adds, ends_well, write_adds}
 use Rattle.relay_model.proofs.ListLemmas.{IsPrefixOf-append, IsPrefixOf-rest, IsPrefixOf-trans}
 
 -- what a filter made and what it adds is what it makes of all

@@ -1,13 +1,12 @@
 -- The filters that are never bad obey the laws: what each adds depends on the last byte alone.
-use Rattle.std.proofs.Common.{◌≡◌, ℕ, ◌+◌, ◌<◌, Bool, true, false, cond, ◌&&◌, not, ◌==◌, ◌/◌, ◌%◌, if◌then◌else◌, List, [], ◌∷◌, ◌++◌, length, take, drop, Option, Some, None, refl, sym, ◌∙◌, ap, subst, append_assoc, arith}
+use Rattle.std.proofs.Common.{◌≡◌, ℕ, Bool, true, false, ◌&&◌, not, ◌==◌, ◌/◌, ◌%◌, if◌then◌else◌, List, [], ◌∷◌, ◌++◌, length, drop, Option, Some, None, refl, sym, ◌∙◌, ap, subst, append_assoc}
 use Rattle.std.proofs.Math.Seq.{drop-append_seam}
 use Rattle.std.proofs.lemmas.List.{append-nil}
 use Rattle.std.specs.List.{last_or}
 use Rattle.std.specs.Prelude.{unwrap_or}
-use Rattle.ev_types.specs.declared.filter.FilterKind.{FilterKind}
 use Rattle.ev_types.specs.declared.filter.FilterKind.TheVariants as kind
 use Rattle.relay_model.specs.Filter.{Filter, filter_of, CR, LF, crlf_after, to_lf, last_cr, hex_out, hex_digit}
-use Rattle.relay_model.specs.FilterLaws.{IsPrefixOf, PrefixLaw, BadLaw, CutLaw, IsFilter, LookAlike, last_of, more, more_at_end}
+use Rattle.relay_model.specs.FilterLaws.{PrefixLaw, BadLaw, CutLaw, IsFilter, LookAlike, last_of, more, more_at_end}
 use Rattle.relay_model.proofs.ListLemmas.{IsPrefixOf-append, last_or-append}
 
 -- a filter that is never bad, and whose further output is a function of the last byte alone

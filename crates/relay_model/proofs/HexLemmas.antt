@@ -1,13 +1,10 @@
 -- hex-in obeys the laws: a digit without a second one is held, and output stops before the first byte that is no digit.
-use Rattle.std.proofs.Common.{◌≡◌, ℕ, zero, suc, ◌+◌, ◌-◌, ◌*◌, ◌%◌, ◌<◌, ◌≤◌, Bool, true, false, cond, ◌&&◌, not, ◌==◌, if◌then◌else◌, List, [], ◌∷◌, ◌++◌, length, take, drop, Option, Some, None, refl, sym, ◌∙◌, ap, subst, append_assoc, arith, length-append}
+use Rattle.std.proofs.Common.{◌≡◌, ℕ, zero, suc, ◌+◌, ◌*◌, ◌%◌, ◌<◌, ◌≤◌, Bool, true, false, ◌&&◌, ◌==◌, if◌then◌else◌, List, [], ◌∷◌, ◌++◌, length, take, drop, Some, None, refl, sym, ◌∙◌, ap, arith, length-append}
 use Rattle.std.proofs.Math.Seq.{drop-append_seam}
-use Rattle.std.proofs.lemmas.List.{append-nil}
-use Rattle.std.specs.List.{last_or}
 use Rattle.ev_types.specs.declared.filter.FilterKind.TheVariants as kind
-use Rattle.relay_model.specs.Filter.{Filter, filter_of, hex_in, not_hex_from, is_hex, hex_value, or_else, odd_end}
-use Rattle.relay_model.specs.FilterLaws.{IsPrefixOf, PrefixLaw, BadLaw, CutLaw, IsFilter, LookAlike, last_of, more, more_at_end}
-use Rattle.relay_model.proofs.ListLemmas.{IsPrefixOf-append, IsPrefixOf-same}
-use Rattle.relay_model.proofs.FilterLemmas.{same_last}
+use Rattle.relay_model.specs.Filter.{filter_of, hex_in, not_hex_from, is_hex, hex_value, or_else, odd_end}
+use Rattle.relay_model.specs.FilterLaws.{IsPrefixOf, IsFilter, LookAlike, last_of, more}
+use Rattle.relay_model.proofs.ListLemmas.{IsPrefixOf-same}
 
 -- the digit that waits for a second one
 abbrev pub held_digit : List ℕ → List ℕ

@@ -4,8 +4,13 @@ pub mod ListLemmas
 pub mod FilterLemmas
 pub mod HexLemmas
 pub mod EveryFilter
+pub mod SwitchedLemmas
 pub mod ConservedLemmas
 pub mod MetLemmas
+pub mod FlowSteps
+pub mod ConservedSteps
+pub mod PassKeeps
+mod Examples
 pub mod PastLemmas
 pub mod PlainLemmas
 pub mod QuietSteps

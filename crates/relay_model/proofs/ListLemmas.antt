@@ -1,9 +1,9 @@
 -- Beginnings of lists and last bytes.
-use Rattle.std.proofs.Common.{◌≡◌, ℕ, ◌+◌, ◌≤◌, List, [], ◌∷◌, ◌++◌, length, take, drop, Option, Some, None, refl, sym, ◌∙◌, ap, subst, append_assoc, arith, length-append}
-use Rattle.std.proofs.Math.Seq.{take-append_seam, take-append-add}
-use Rattle.std.proofs.lemmas.List.{append-nil, take-append-drop, take-take}
+use Rattle.std.proofs.Common.{◌≡◌, ℕ, List, [], ◌∷◌, ◌++◌, length, take, drop, Option, Some, refl, sym, ◌∙◌, ap, append_assoc}
+use Rattle.std.proofs.Math.Seq.{take-append_seam}
+use Rattle.std.proofs.lemmas.List.{append-nil, take-append-drop}
 use Rattle.std.specs.List.{last_or}
-use Rattle.relay_model.specs.FilterLaws.{IsPrefixOf, last_of}
+use Rattle.relay_model.specs.FilterLaws.{IsPrefixOf}
 
 -- what begins with xs goes on with something
 pub IsPrefixOf-append : (xs rest ys : List ℕ) → xs ++ rest ≡ ys → IsPrefixOf xs ys

@@ -1,10 +1,10 @@
 -- What a filter meets is bad.
-use Rattle.std.proofs.Common.{◌≡◌, ◌≢◌, ℕ, ◌+◌, ◌<◌, ◌≤◌, Bool, true, false, if◌then◌else◌, List, [], ◌∷◌, ◌++◌, length, take, drop, Option, Some, None, refl, sym, ◌∙◌, ap, subst, arith}
+use Rattle.std.proofs.Common.{◌≡◌, ℕ, ◌+◌, ◌<◌, ◌≤◌, Bool, true, false, if◌then◌else◌, List, length, take, drop, Option, Some, None, refl, sym, ◌∙◌, ap, subst, arith}
 use Rattle.std.specs.Prelude.{nat_lt}
 use Rattle.std.proofs.lemmas.Bool.{ltb-true, ltb-false}
 use Rattle.std.proofs.lemmas.List.{take-append-drop, take-take, length-take}
-use Rattle.relay_model.specs.Filter.{Filter, met}
-use Rattle.relay_model.specs.FilterLaws.{BadLaw, IsFilter, IsMetPlace, MetIsBad}
+use Rattle.relay_model.specs.Filter.{Filter}
+use Rattle.relay_model.specs.FilterLaws.{BadLaw, IsMetPlace, MetIsBad}
 
 -- a bad place of a beginning is the bad place of the whole
 pub bad-of_take : (f : Filter) → BadLaw f → (n : ℕ) (xs : List ℕ) (place : ℕ) → f.bad (take n xs) ≡ Some place → f.bad xs ≡ Some place

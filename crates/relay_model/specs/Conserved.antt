@@ -45,6 +45,9 @@ pub record Buffers : Type 0 where
   pub output : List ℕ
   pub raw_output : List ℕ
 
+abbrev pub no_buffers : Buffers
+no_buffers = record { raw_input = []; input = []; output = []; raw_output = [] }
+
 -- What the counts leave: a live side has the first two buffers, a live peer the other two, and those of a freed one are gone.
 abbrev pub left : Filter → Filter → List ℕ → Bool → Bool → Flow → Buffers
 left r w read from_live to_live f = record {

@@ -1,6 +1,7 @@
 pub mod Trace
 pub mod Filter
 pub mod FilterLaws
+pub mod Switched
 pub mod Flow
 pub mod Conserved
 pub mod ConservedLaws

@@ -3,11 +3,17 @@ ghost use Rattle.ev_types.specs.declared.filter.FilterKind.{FilterKind};
 ghost use Rattle.relay_model.specs.ConservedLaws.{AllIsThere, GivenBegins, RestAfterFree};
 ghost use Rattle.relay_model.specs.Filter.{filter_of};
 ghost use Rattle.relay_model.specs.FilterLaws.{IsFilter, MetIsBad};
+ghost use Rattle.relay_model.specs.Switched.{SwitchedIsFilter};
 
 /// Each of the five filters never takes output back, stops before a bad place, and is known while it runs by how many
 /// bytes it used and the last of them.
 pub fn every_filter_is_lawful()
     ensures { (k : FilterKind) → IsFilter (filter_of k) }
+{}
+
+/// A filter that is another one from a place of its input on obeys the same laws.
+pub fn a_switched_filter_is_lawful()
+    ensures { SwitchedIsFilter }
 {}
 
 /// The place that a filter meets is bad, and the first that is.
