@@ -14,6 +14,7 @@ mod Examples
 pub mod PastLemmas
 pub mod PlainLemmas
 pub mod QuietSteps
-pub mod StillEntries
-pub mod Clock
+pub mod ClosingEntries
+pub mod Frames
+pub mod Shapes
 pub mod ReachLemmas

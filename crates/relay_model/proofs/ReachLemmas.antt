@@ -1,5 +1,5 @@
 -- What is shown of every state that a trace can lead to, step by step.
-use Rattle.std.proofs.Common.{◌≡◌, ℕ, ◌+◌, ◌<◌, ◌≤◌, Bool, true, false, if◌then◌else◌, List, [], ◌∷◌, ◌++◌, length, take, drop, fold, count_by, refl, sym, ◌∙◌, ap, subst, arith}
+use Rattle.std.proofs.Common.{◌≡◌, ℕ, ◌+◌, ◌*◌, ◌<◌, ◌≤◌, Bool, true, false, if◌then◌else◌, List, [], ◌∷◌, ◌++◌, length, take, drop, fold, count_by, refl, sym, ◌∙◌, ap, subst, arith}
 use Rattle.std.specs.Prelude.{nat_le}
 use Rattle.std.proofs.lemmas.Bool.{leb-true, leb-false}
 use Rattle.std.proofs.lemmas.List.{length-append, take-append-le, take_all}
@@ -12,9 +12,9 @@ use Rattle.relay_model.specs.Plain.{Plain, nothing_yet}
 use Rattle.relay_model.specs.Stages.{Stage, State, at, start}
 use Rattle.relay_model.specs.Turn.{Puts, Quietly, Reaches, begins, goes, puts, IsLegal}
 use Rattle.relay_model.specs.RatesKept.{is_turn, time_by, last_time}
-use Rattle.relay_model.specs.TurnLaws.{ClockIsTold, BeginningsAreLegal}
-use Rattle.relay_model.proofs.QuietSteps.{kept-quietly}
-use Rattle.relay_model.proofs.Clock.{clock-puts}
+use Rattle.relay_model.specs.TurnLaws.{is_opened, ShapeIsTold, TraceTellsShape, BeginningsAreLegal}
+use Rattle.relay_model.proofs.QuietSteps.{KeptQuietly, kept-quietly}
+use Rattle.relay_model.proofs.Shapes.{one_where, ShapeBy, shape-puts}
 
 -- What holds before the first turn, and is kept by each step, holds of every state that is reached.
 pub reaches-holds : (g : Settings) (Holds : Trace → State → Type 0) → Holds [] start →
@@ -28,16 +28,38 @@ reaches-holds g Holds first quiet put (puts {t = t} {s = s} {new = new} e bytes 
 pub last_time-push : (time : ℕ) (t : Trace) (x : Event) → last_time time (t ++ x ∷ []) ≡ time_by (last_time time t) x
 last_time-push time t x = fold-append (λ was y. time_by was y) time t (x ∷ [])
 
-pub turns-push : (t : Trace) (x : Event) → count_by is_turn (t ++ x ∷ []) ≡ count_by is_turn t + (if is_turn x then 1 else 0)
-turns-push t x = sum_by-append _ t (x ∷ []) ∙ omega arith
+pub count-push : (test : Event → Bool) (t : Trace) (x : Event) → count_by test (t ++ x ∷ []) ≡ count_by test t + one_where (test x)
+count-push test t x = sum_by-append _ t (x ∷ []) ∙ omega arith
 
-pub clock-is_told : ClockIsTold
-clock-is_told g t s r =
-    reaches-holds g (λ t s. (s.plain.time ≡ last_time 0 t) × (s.plain.turn ≡ count_by is_turn t)) (refl, refl)
-    (λ t s new h q. let k = kept-quietly g t s.stage s.plain new q in (k.time ∙ h.0, k.turn ∙ h.1))
-    (λ t s new e bytes h p. let k = clock-puts g t s.stage s.plain e bytes new p in
-        (k.time ∙ ap (λ z. time_by z (e, bytes)) h.0 ∙ sym (last_time-push 0 t (e, bytes)),
-        k.turn ∙ ap (λ z. z + (if is_turn (e, bytes) then 1 else 0)) h.1 ∙ sym (turns-push t (e, bytes))))
+pub shape-begins : ShapeIsTold [] nothing_yet
+shape-begins = record { time = refl; turn = refl; opened = refl; sides = refl; flows = refl }
+
+pub shape-goes : (t : Trace) (old new : Plain) → ShapeIsTold t old → KeptQuietly old new → ShapeIsTold t new
+shape-goes t old new h k = record {
+  time = k.time ∙ h.time;
+  turn = k.turn ∙ h.turn;
+  opened = k.opened ∙ h.opened;
+  sides = k.side_count ∙ h.sides ∙ ap (λ n. 2 * n) (sym k.opened);
+  flows = k.flow_count ∙ h.flows ∙ ap (λ n. 2 * n) (sym k.opened);
+}
+
+pub shape-put : (t : Trace) (x : Event) (old new : Plain) → ShapeIsTold t old → ShapeBy x old new → ShapeIsTold (t ++ x ∷ []) new
+shape-put t x old new h k =
+    let turns = count-push is_turn t x in
+    let opened = count-push is_opened t x in
+    record {
+      time = k.time ∙ ap (λ z. time_by z x) h.time ∙ sym (last_time-push 0 t x);
+      turn = omega (arith, k.turn, h.turn, turns);
+      opened = omega (arith, k.opened, h.opened, opened);
+      sides = omega (arith, k.sides, k.opened, h.sides);
+      flows = omega (arith, k.flows, k.opened, h.flows);
+    }
+
+pub shape-is_told : TraceTellsShape
+shape-is_told g t s r =
+    reaches-holds g (λ t s. ShapeIsTold t s.plain) shape-begins
+    (λ t s new h q. shape-goes t s.plain new.plain h (kept-quietly g t s.stage s.plain new q))
+    (λ t s new e bytes h p. shape-put t (e, bytes) s.plain new.plain h (shape-puts g t s.stage s.plain e bytes new p))
     r
 
 pub take-nil : (n : ℕ) → take n (◌++◌ {A = Event} [] []) ≡ []

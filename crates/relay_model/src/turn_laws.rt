@@ -1,9 +1,9 @@
 // The laws of legal traces, each on a function whose contract it is.
-ghost use Rattle.relay_model.specs.TurnLaws.{BeginningsAreLegal, ClockIsTold};
+ghost use Rattle.relay_model.specs.TurnLaws.{BeginningsAreLegal, TraceTellsShape};
 
-/// The time and the number of turns that the relay keeps are those of the trace.
-pub fn clock_is_told()
-    ensures { ClockIsTold }
+/// The clock, the links, and how many sides and directions the relay keeps are those of the trace.
+pub fn trace_tells_shape()
+    ensures { TraceTellsShape }
 {}
 
 /// A trace that is cut off anywhere is still legal.
