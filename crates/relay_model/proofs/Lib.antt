@@ -18,3 +18,4 @@ pub mod ClosingEntries
 pub mod Frames
 pub mod Shapes
 pub mod ReachLemmas
+pub mod RatesTold
