@@ -18,3 +18,8 @@ mod Examples
 pub mod PastLemmas
 pub mod PlainLemmas
 pub mod QuietSteps
+pub mod ClosingEntries
+pub mod Frames
+pub mod Shapes
+pub mod ReachLemmas
+pub mod RatesTold

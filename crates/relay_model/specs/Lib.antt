@@ -28,3 +28,4 @@ pub mod RatesKept
 pub mod Stands
 pub mod Totals
 pub mod Tied
+pub mod TurnLaws

@@ -4,6 +4,7 @@
 
 mod laws;
 mod played_laws;
+mod turn_laws;
 
 pub use laws::{
     a_running_filter_is_known, a_switched_filter_is_lawful, all_is_there, every_filter_is_lawful,
@@ -11,3 +12,4 @@ pub use laws::{
     what_is_met_is_bad,
 };
 pub use played_laws::{Vouches, any_stage_holds, cuts_join, nothing_stands, steps_join};
+pub use turn_laws::{beginnings_are_legal, trace_tells_shape};
