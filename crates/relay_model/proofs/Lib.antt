@@ -8,4 +8,7 @@ pub mod ConservedLemmas
 pub mod MetLemmas
 pub mod StandsLemmas
 pub mod TiedLemmas
+pub mod PlayedLemmas
+mod PlayedExamples
+mod ScriptedExamples
 mod Examples

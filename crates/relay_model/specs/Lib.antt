@@ -26,3 +26,7 @@ pub mod RatesKept
 pub mod Stands
 pub mod Totals
 pub mod Tied
+pub mod Lines
+pub mod Script
+pub mod Scripted
+pub mod Plays
