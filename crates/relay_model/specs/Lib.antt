@@ -1,6 +1,7 @@
 pub mod Trace
 pub mod Filter
 pub mod FilterLaws
+pub mod Switched
 pub mod Flow
 pub mod Conserved
 pub mod ConservedLaws
@@ -16,6 +17,7 @@ pub mod Asks
 pub mod Plans
 pub mod Moments
 pub mod Pass
+pub mod PassLaws
 pub mod Round
 pub mod Serve
 pub mod Close

@@ -94,6 +94,10 @@ put_flow e f s = record s { flows = slice_set s.flows (number e) f }
 abbrev pub change_side : SideId → (PlainSide → PlainSide) → Plain → Plain
 change_side e change s = put_side e (change (side_at s e)) s
 
+-- the state with the direction that begins at a side changed
+abbrev pub change_flow : SideId → (Flow → Flow) → Plain → Plain
+change_flow e change s = put_flow e (change (flow_at s e)) s
+
 -- the sides of n links from number k on, In before Out
 abbrev pub sides_from : ℕ → ℕ → List SideId
 sides_from k zero = []

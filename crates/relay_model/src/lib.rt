@@ -6,7 +6,8 @@ mod laws;
 mod played_laws;
 
 pub use laws::{
-    all_is_there, every_filter_is_lawful, given_begins_the_whole, rest_is_there_after_a_free,
+    a_running_filter_is_known, a_switched_filter_is_lawful, all_is_there, every_filter_is_lawful,
+    given_begins_the_whole, passing_leaves_only_what_is_held, rest_is_there_after_a_free,
     what_is_met_is_bad,
 };
 pub use played_laws::{Vouches, any_stage_holds, cuts_join, nothing_stands, steps_join};

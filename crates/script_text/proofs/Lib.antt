@@ -1,2 +1,4 @@
 pub mod PieceLemmas
 pub mod NumberLemmas
+pub mod TurnLemmas
+pub mod TallyLemmas
