@@ -14,6 +14,9 @@ pub mod PassKeeps
 pub mod PassLemmas
 pub mod StandsLemmas
 pub mod TiedLemmas
+pub mod PlayedLemmas
+mod PlayedExamples
+mod ScriptedExamples
 mod Examples
 pub mod PastLemmas
 pub mod PlainLemmas

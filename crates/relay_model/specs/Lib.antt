@@ -29,3 +29,7 @@ pub mod Stands
 pub mod Totals
 pub mod Tied
 pub mod TurnLaws
+pub mod Lines
+pub mod Script
+pub mod Scripted
+pub mod Plays
