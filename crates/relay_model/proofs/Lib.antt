@@ -26,3 +26,15 @@ pub mod Frames
 pub mod Shapes
 pub mod ReachLemmas
 pub mod RatesTold
+pub mod EndLemmas
+pub mod KeepsLemmas
+pub mod SeenLemmas
+pub mod EffectLemmas
+pub mod PlacedLemmas
+pub mod AskLemmas
+pub mod PutLemmas
+pub mod PutCases
+pub mod ServeCases
+pub mod CloseCases
+pub mod StepLemmas
+pub mod StageLemmas
