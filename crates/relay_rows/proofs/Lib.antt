@@ -1,0 +1,3 @@
+pub mod PlainRowsReplayed
+pub mod FilterRowsReplayed
+pub mod HookRowsReplayed
