@@ -1,3 +1,5 @@
+pub mod SameLemmas
 pub mod PlainRowsReplayed
 pub mod FilterRowsReplayed
 pub mod HookRowsReplayed
+pub mod RateRowsReplayed

@@ -6,3 +6,4 @@ pub mod RowWords
 pub mod PlainRows
 pub mod FilterRows
 pub mod HookRows
+pub mod RateRows
