@@ -1,4 +1,6 @@
 pub mod SameLemmas
+pub mod PutLemmas
+pub mod QuietLemmas
 pub mod PlainRowsReplayed
 pub mod FilterRowsReplayed
 pub mod HookRowsReplayed
