@@ -1,7 +1,9 @@
 pub mod SameLemmas
 pub mod PutLemmas
 pub mod QuietLemmas
+pub mod ReplayLemmas
 pub mod PlainRowsReplayed
 pub mod FilterRowsReplayed
 pub mod HookRowsReplayed
 pub mod RateRowsReplayed
+pub mod WrongRowsRefused
