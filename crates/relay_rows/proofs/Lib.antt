@@ -1,5 +1,6 @@
 pub mod SameLemmas
 pub mod PutLemmas
+pub mod PutConverse
 pub mod QuietLemmas
 pub mod ReplayLemmas
 pub mod PlainRowsReplayed
