@@ -1,14 +1,14 @@
 -- How the links of a script port keep what the script has yet to bring: the links to open, and the bytes of each end,
 -- of which a line says no more than how many come in now.
-use Rattle.std.specs.Prelude.{◌≡◌, ℕ, ◌==◌, length, map, take, drop, Bool, if◌then◌else◌, List, [], ◌∷◌, ◌++◌, slice_index_or, ◌<◌, Option, Some, None}
+use Rattle.std.specs.Prelude.{◌≡◌, ℕ, ◌==◌, length, take, drop, Bool, if◌then◌else◌, List, [], ◌∷◌, ◌++◌, slice_index_or, ◌<◌, Option, Some, None}
 use Rattle.std.specs.List.{flat_map}
 use Rattle.ev_types.specs.declared.side.SideId.{SideId}
 use Rattle.ev_types.specs.Sides.{number}
 use Rattle.script_text.specs.declared.script.TurnLine.{TurnLine}
 use Rattle.script_text.specs.declared.script.TurnLine.TheVariants as line
-use Rattle.ev_port.specs.ScriptState.{EndState, LinksState, LinksKept}
+use Rattle.ev_port.specs.ScriptState.{LinksKept}
 use Rattle.ev_port.specs.ScriptEnds.{state_after_line, left_after_line}
-use Rattle.ev_port.specs.ScriptLinks.{changed, at_end, after_line, new_ends, links_of}
+use Rattle.ev_port.specs.ScriptLinks.{changed, at_end, new_ends, links_of}
 
 -- the bytes to come at the end with this number
 abbrev pub kept_at : ℕ → List (List ℕ) → List ℕ

@@ -1,4 +1,4 @@
-use Rattle.std.proofs.Common.{◌≡◌, map, arith, length, ◌<◌, ◌≤◌, []}
+use Rattle.std.proofs.Common.{map, arith, length, ◌<◌, ◌≤◌, []}
 use Rattle.ev_types.specs.Sides.{number}
 use Rattle.ev_port.specs.ScriptEnds.{state_after_line, left_after_line}
 use Rattle.ev_port.specs.ScriptKept.{kept_at}
