@@ -8,7 +8,8 @@ use Rattle.std.proofs.lemmas.List.{get_or_default}
 use Rattle.std.proofs.lemmas.List.Edits.{map_over_more}
 use Rattle.ev_port.specs.declared.port.Want.{Want}
 use Rattle.ev_port.specs.ScriptState.{EndState, EndKept, LinksState}
-use Rattle.ev_port.specs.ScriptEnds.{after_write, write_answer, Wrote}
+use Rattle.ev_port.specs.ScriptKept.{Wrote}
+use Rattle.ev_port.specs.ScriptEnds.{after_write, write_answer}
 use Rattle.ev_port.specs.ScriptLinks.{at_end, marked, write_answer_at, WroteAt}
 use Rattle.ev_port.proofs.ListLemmas.{changed_set, same_set, part_read}
 

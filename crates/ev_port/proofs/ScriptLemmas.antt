@@ -8,9 +8,9 @@ use Rattle.ev_types.specs.declared.side.SideId.{SideId}
 use Rattle.script_text.specs.declared.script.TurnLine.{TurnLine}
 use Rattle.script_text.specs.declared.script.TurnLine.TheVariants as line
 use Rattle.ev_port.specs.ScriptState.{EndState, LinksKept}
-use Rattle.ev_port.specs.ScriptEnds.{state_after_line, end_after_line, new_end}
+use Rattle.ev_port.specs.ScriptEnds.{end_after_line, new_end}
 use Rattle.ev_port.specs.ScriptLinks.{changed, after_line, after_lines, links_of, new_ends}
-use Rattle.ev_port.specs.ScriptKept.{kept_at, links_after_line, links_after_lines, no_bytes, with_links, with_bytes, with_all_bytes, line_bytes, bytes_of, Brings}
+use Rattle.ev_port.specs.ScriptKept.{state_after_line, kept_at, links_after_line, links_after_lines, no_bytes, with_links, with_bytes, with_all_bytes, line_bytes, bytes_of, Brings}
 use Rattle.ev_port.specs.ScriptPort.{lines_of}
 use Rattle.ev_port.proofs.ListLemmas.{length-changed, get_or-changed_same, get_or-changed_other, changed_agree, changed_none, changed_beyond}
 
