@@ -19,3 +19,4 @@ pub mod Frames
 pub mod Shapes
 pub mod ReachLemmas
 pub mod RatesTold
+pub mod RatesLaw

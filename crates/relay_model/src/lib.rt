@@ -9,4 +9,4 @@ pub use laws::{
     a_switched_filter_is_lawful, all_is_there, every_filter_is_lawful, given_begins_the_whole,
     rest_is_there_after_a_free, what_is_met_is_bad,
 };
-pub use turn_laws::{beginnings_are_legal, trace_tells_shape};
+pub use turn_laws::{beginnings_are_legal, trace_tells_rates, trace_tells_shape};
