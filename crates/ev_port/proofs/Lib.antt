@@ -1,1 +1,4 @@
 pub mod EndLemmas
+pub mod ListLemmas
+pub mod LinkLemmas
+pub mod ScriptLemmas

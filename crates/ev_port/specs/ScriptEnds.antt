@@ -52,11 +52,11 @@ allowed (Some n) None = None
 allowed (Some n) (Some more) = Some (counted n more)
 
 -- what a line makes of the end that it names
-abbrev pub lined : TurnLine → EndState → EndState
-lined (line.Pending side bytes) s = record s { pending = s.pending ++ bytes }
-lined (line.Eof side) s = record s { eof = true }
-lined (line.Take side more) s = record s { may_take = allowed s.may_take more }
-lined (line.NewLink wait) s = s
+abbrev pub end_after_line : TurnLine → EndState → EndState
+end_after_line (line.Pending side bytes) s = record s { pending = s.pending ++ bytes }
+end_after_line (line.Eof side) s = record s { eof = true }
+end_after_line (line.Take side more) s = record s { may_take = allowed s.may_take more }
+end_after_line (line.NewLink wait) s = s
 
 -- Calls
 
@@ -148,19 +148,22 @@ wanted w s = record s {
 
 -- With the bytes to come
 
--- the next so many of the bytes to come have come in
-abbrev pub come_in : ℕ → EndKept → EndKept
-come_in n e = record {
-  state = record e.state { pending = e.state.pending ++ take n e.to_come };
-  to_come = drop n e.to_come;
-}
+-- what a line makes of the end that it names; the bytes that come in are the next ones to come
+abbrev pub state_after_line : TurnLine → List ℕ → EndState → EndState
+state_after_line (line.Pending side bytes) to_come s = record s { pending = s.pending ++ take (length bytes) to_come }
+state_after_line (line.Eof side) to_come s = end_after_line (line.Eof side) s
+state_after_line (line.Take side more) to_come s = end_after_line (line.Take side more) s
+state_after_line (line.NewLink wait) to_come s = s
 
--- what a line makes of an end where the bytes to come are its own
-abbrev pub lined_kept : TurnLine → EndKept → EndKept
-lined_kept (line.Pending side bytes) e = come_in (length bytes) e
-lined_kept (line.Eof side) e = record e { state = lined (line.Eof side) e.state }
-lined_kept (line.Take side more) e = record e { state = lined (line.Take side more) e.state }
-lined_kept (line.NewLink wait) e = e
+-- the bytes that are still to come
+abbrev pub left_after_line : TurnLine → List ℕ → List ℕ
+left_after_line (line.Pending side bytes) to_come = drop (length bytes) to_come
+left_after_line (line.Eof side) to_come = to_come
+left_after_line (line.Take side more) to_come = to_come
+left_after_line (line.NewLink wait) to_come = to_come
+
+abbrev pub kept_after_line : TurnLine → EndKept → EndKept
+kept_after_line x e = record { state = state_after_line x e.to_come e.state; to_come = left_after_line x e.to_come }
 
 -- what a write did: want of memory, in place of taking bytes, changed nothing
 abbrev pub Wrote : EndKept → EndKept → List ℕ → WriteAnswer → Type 0

@@ -9,7 +9,14 @@ pub mod ConservedLemmas
 pub mod MetLemmas
 pub mod FlowSteps
 pub mod ConservedSteps
+pub mod RunningLemmas
 pub mod PassKeeps
+pub mod PassLemmas
+pub mod StandsLemmas
+pub mod TiedLemmas
+pub mod PlayedLemmas
+mod PlayedExamples
+mod ScriptedExamples
 mod Examples
 pub mod PastLemmas
 pub mod PlainLemmas
@@ -20,3 +27,15 @@ pub mod Shapes
 pub mod ReachLemmas
 pub mod RatesTold
 pub mod RatesLaw
+pub mod EndLemmas
+pub mod KeepsLemmas
+pub mod SeenLemmas
+pub mod EffectLemmas
+pub mod PlacedLemmas
+pub mod AskLemmas
+pub mod PutLemmas
+pub mod PutCases
+pub mod ServeCases
+pub mod CloseCases
+pub mod StepLemmas
+pub mod StageLemmas

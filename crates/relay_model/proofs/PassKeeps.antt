@@ -1,6 +1,6 @@
 -- Each part of a round of passing keeps a direction accounted for.
-use Rattle.std.proofs.Common.{◌≡◌, ℕ, zero, suc, ◌+◌, ◌-◌, ◌≤◌, Bool, true, false, ◌==◌, ◌&&◌, ◌||◌, not, if◌then◌else◌, List, [], length, Option, Some, None, is_none, refl, subst, arith, eqb-true}
-use Rattle.std.specs.Prelude.{nat_lt}
+use Rattle.std.proofs.Common.{◌≡◌, ℕ, zero, suc, ◌+◌, ◌-◌, ◌≤◌, Bool, true, false, ◌==◌, ◌&&◌, ◌||◌, not, if◌then◌else◌, List, [], length, take, Option, Some, None, is_none, refl, subst, arith, eqb-true}
+use Rattle.std.specs.Prelude.{nat_lt, nat_le, is_some}
 use Rattle.std.proofs.lemmas.List.{length-drop}
 use Rattle.ev_types.specs.declared.side.SideId.{SideId}
 use Rattle.ev_types.specs.Trace.{Trace}
@@ -8,7 +8,7 @@ use Rattle.relay_model.specs.Trace.{moved_at_free}
 use Rattle.relay_model.specs.Filter.{Filter, holds}
 use Rattle.relay_model.specs.FilterLaws.{PrefixLaw}
 use Rattle.relay_model.specs.Flow.{Flow, middle, input, output, raw_output}
-use Rattle.relay_model.specs.Conserved.{Accounted, all_moved}
+use Rattle.relay_model.specs.Conserved.{Accounted, StandsStill, all_moved}
 use Rattle.relay_model.specs.Pass.{first_from, is_over, read_stops, with_used, with_read_done, with_moved, with_held, write_stops, with_turned, with_write_done}
 use Rattle.relay_model.proofs.ConservedSteps.{accounted-used, accounted-read_done, accounted-moved, accounted-turned, accounted-write_done, accounted-held}
 
@@ -47,6 +47,61 @@ none_there (Some x) h = absurd (cc)
 -- at an end that is over nothing is bad
 over-good : (f : Filter) (xs : List ℕ) (room : Bool) → is_over f xs room ≡ true → f.bad_at_end xs ≡ None
 over-good f xs room h = none_there (f.bad_at_end xs) (two_true (is_none (f.bad_at_end xs)) (not (holds f xs) || room) h).0
+
+none_or : (o : Option ℕ) → is_some o ≡ false → o ≡ None
+none_or None h = refl
+none_or (Some x) h = absurd (cc)
+
+right_false : (a b : Bool) → (a || b) ≡ false → b ≡ false
+right_false true b h = absurd (cc)
+right_false false b h = h
+
+-- a search that stops at a bad next byte goes over good bytes alone
+pub first_from-good : (f : Filter) (xs : List ℕ) (stop : ℕ → Bool) → ((n : ℕ) → stop n ≡ false → f.bad (take (n + 1) xs) ≡ None) →
+    (n left : ℕ) → f.bad (take n xs) ≡ None → f.bad (take (first_from stop n left) xs) ≡ None
+first_from-good f xs stop next n zero good = good
+first_from-good f xs stop next n (suc left) good = by_flag (first_from-good f xs stop next (n + 1) left) (stop n) refl
+  where
+    by_flag : (f.bad (take (n + 1) xs) ≡ None → f.bad (take (first_from stop (n + 1) left) xs) ≡ None) → (b : Bool) → stop n ≡ b →
+        f.bad (take (if b then n else first_from stop (n + 1) left) xs) ≡ None
+    by_flag rest true e = good
+    by_flag rest false e = rest (next n e)
+
+-- the read filter uses good bytes alone
+pub used-good : (r : Filter) (read : List ℕ) (mark : ℕ) (f : Flow) → r.bad (take f.used read) ≡ None → r.bad (take (with_used r read mark f).used read) ≡ None
+used-good r read mark f good =
+    first_from-good r read (read_stops r read mark f)
+    (λ n e. none_or _ (right_false (nat_le mark (length (input r read (record f { used = n })))) _ e))
+    f.used (length read - f.used) good
+
+-- so does the write filter
+pub turned-good : (r w : Filter) (read : List ℕ) (hold : ℕ) (f : Flow) → w.bad (take f.turned (middle r read f)) ≡ None →
+    w.bad (take (with_turned r w read hold f).turned (middle r read f)) ≡ None
+turned-good r w read hold f good = by_held f.held
+  where
+    stop : ℕ
+    stop = first_from (write_stops r w read hold f) f.turned (f.moved - f.turned)
+
+    goes_on : w.bad (take stop (middle r read f)) ≡ None
+    goes_on =
+        first_from-good w (middle r read f) (write_stops r w read hold f)
+        (λ n e. none_or _ (right_false (nat_le hold (length (raw_output r w read (record f { turned = n })))) _ e))
+        f.turned (f.moved - f.turned) good
+
+    by_held : (b : Bool) → w.bad (take (if b then f else record f { turned = stop }).turned (middle r read f)) ≡ None
+    by_held true = good
+    by_held false = goes_on
+
+-- once the side is freed, a round lets what was moved stand still
+pub drain-stands_still : (r w : Filter) (read : List ℕ) (hold : ℕ) (f : Flow) → StandsStill f (with_turned r w read hold (with_held r w read hold f))
+drain-stands_still r w read hold f = by_held (with_held r w read hold f).held
+  where
+    now : Flow
+    now = with_held r w read hold f
+
+    by_held : (b : Bool) → StandsStill f (if b then now else record now { turned = first_from (write_stops r w read hold now) now.turned (now.moved - now.turned) })
+    by_held true = record { moved = refl; read_done = refl; write_done = refl }
+    by_held false = record { moved = refl; read_done = refl; write_done = refl }
 
 module _ (r w : Filter) (t : Trace) (from : SideId) (read taken : List ℕ) (ended : Bool) (f : Flow) (c : Accounted r w t from read taken ended f) where
   pub used-keeps : PrefixLaw r → (mark : ℕ) → Accounted r w t from read taken ended (with_used r read mark f)

@@ -134,7 +134,7 @@ closing-rates g p a s (CloseStep.Shut e) =
 -- A free by a hook is recorded behind its ask, and the group is gone already.
 pub rates-recorded : (g : Settings) (a gone : SideId) (s : Plain) (bytes : List ℕ) → ((b : SideId) → same_end gone b ≡ true → (side_at s b).group ≡ None) →
     RatesBy g a (freed_entry s gone cause.Hook, bytes) s s
-rates-recorded g a gone s bytes fits = record { limit = λ was h. h; group = λ was h. by_name was h (same_end gone a) refl; begun = λ h. h }
+rates-recorded g a gone s bytes fits = record { limit = λ was h. h; group = λ was h. by_name was h (same_end gone a) refl; begun = λ h. h; stays = λ h. refl }
   where
     by_name : (was : Option ℕ) → (side_at s a).group ≡ was → (b : Bool) → same_end gone a ≡ b → (side_at s a).group ≡ (if same_end gone a then None else was)
     by_name was h true same = fits a same ∙ sym (ap (λ b. if b then None else was) same)
@@ -163,6 +163,7 @@ rates-puts g t Stage.Between s (entry.Turn ms) bytes new a paired fits h =
       limit = λ was h. ap (λ z. cfg_of z.0) (same.rates a) ∙ h;
       group = λ was h. ap (λ z. z.1) (same.rates a) ∙ h;
       begun = λ h. begun_later s.turn (side_at s a).limit _ (ap (λ z. z.0) (same.rates a)) h _ (omega (arith, same.shape.turn));
+      stays = λ h. ap (λ z. z.0) (same.rates a);
     })
 rates-puts g t Stage.Polling s (entry.Poll timeout) bytes new a paired fits h = rates-at g a _ s s _ new h.2 (rates-still g a (entry.Poll timeout, bytes) s (record { limit = λ was. refl; group = λ was. refl }))
 rates-puts g t (Stage.Wanting (w ∷ ws)) s (entry.Want side r w') bytes new a paired fits h = rates-at g a _ s s _ new h.2 (rates-still g a (entry.Want side r w', bytes) s (record { limit = λ was. refl; group = λ was. refl }))

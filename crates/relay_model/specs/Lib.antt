@@ -17,6 +17,7 @@ pub mod Asks
 pub mod Plans
 pub mod Moments
 pub mod Pass
+pub mod PassLaws
 pub mod Round
 pub mod Serve
 pub mod Close
@@ -24,4 +25,12 @@ pub mod Stages
 pub mod Turn
 pub mod Answers
 pub mod RatesKept
+pub mod Stands
+pub mod Totals
+pub mod Tied
 pub mod TurnLaws
+pub mod Lines
+pub mod Script
+pub mod Scripted
+pub mod Plays
+pub mod Told

@@ -3,10 +3,13 @@
 #![tactic(auto)]
 
 mod laws;
+mod played_laws;
 mod turn_laws;
 
 pub use laws::{
-    a_switched_filter_is_lawful, all_is_there, every_filter_is_lawful, given_begins_the_whole,
-    rest_is_there_after_a_free, what_is_met_is_bad,
+    a_running_filter_is_known, a_switched_filter_is_lawful, all_is_there, every_filter_is_lawful,
+    given_begins_the_whole, passing_leaves_only_what_is_held, rest_is_there_after_a_free,
+    what_is_met_is_bad,
 };
+pub use played_laws::{Vouches, any_stage_holds, cuts_join, nothing_stands, steps_join};
 pub use turn_laws::{beginnings_are_legal, trace_tells_rates, trace_tells_shape};

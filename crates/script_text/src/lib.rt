@@ -14,3 +14,6 @@ mod write;
 pub use read::read_script;
 pub use script::{ByteList, LinkLine, Script, ScriptFault, TurnLine};
 pub use write::{write_report, write_trace};
+
+#[cfg(test)]
+mod tests;

@@ -1,0 +1,2 @@
+pub mod GoesLemmas
+pub mod HeardLemmas

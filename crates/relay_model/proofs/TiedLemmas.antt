@@ -1,0 +1,66 @@
+-- What an end tells over two traces in a row.
+use Rattle.std.proofs.Common.{◌≡◌, ℕ, ◌+◌, ◌-◌, ◌^◌, ◌<◌, Bool, true, false, ◌||◌, List, ◌++◌, Option, Some, None, refl, sym, ◌∙◌, ap, subst, append_assoc, arith, cond, count_by}
+use Rattle.std.proofs.lemmas.Grind.{flat_map-append}
+use Rattle.std.proofs.lemmas.List.Folds.{list_any-append}
+use Rattle.std.proofs.lemmas.List.Sums.{sum_by-append}
+use Rattle.std.specs.List.{flat_map, list_any, sum_by}
+use Rattle.ev_types.specs.declared.side.SideId.{SideId}
+use Rattle.ev_types.specs.Trace.{Event, Trace}
+use Rattle.relay_model.specs.Trace.{read_by, given_by, ended_by, write_closed_by}
+use Rattle.relay_model.specs.Totals.{is_read_of, is_write_of, is_check_of, room_by, offered_by, wants_read_by, wants_write_by, marks_read_by, marks_write_by, made_connected_by, connected_by, closed_by}
+use Rattle.relay_model.specs.Tied.{TellsBytes, TellsFlag, TellsNumber, EndTells, EndTied, EndTiesJoin}
+
+pub TellsBytes-append : (p q r : Option (List ℕ)) (xs ys : List ℕ) → TellsBytes p q xs → TellsBytes q r ys → TellsBytes p r (xs ++ ys)
+TellsBytes-append None q r xs ys h k = tt
+TellsBytes-append (Some before) q r xs ys h k = subst (λ z. TellsBytes z r ys) h k ∙ ap (λ z. Some z) (append_assoc before xs ys)
+
+or_assoc : (a b c : Bool) → ((a || b) || c) ≡ (a || (b || c))
+or_assoc true b c = refl
+or_assoc false b c = refl
+
+pub TellsFlag-or : (p q r : Option Bool) (a b : Bool) → TellsFlag p q a → TellsFlag q r b → TellsFlag p r (a || b)
+TellsFlag-or None q r a b h k = tt
+TellsFlag-or (Some before) q r a b h k = subst (λ z. TellsFlag z r b) h k ∙ ap (λ z. Some z) (or_assoc before a b)
+
+pub TellsNumber-plus : (p q r : Option ℕ) (m n : ℕ) → TellsNumber p q m → TellsNumber q r n → TellsNumber p r (m + n)
+TellsNumber-plus None q r m n h k = tt
+TellsNumber-plus (Some before) q r m n h k = λ fits.
+    let first = h (omega (arith, fits)) in
+    let then : (before + m + n < 2 ^ 64 - 1 → r ≡ Some (before + m + n)) = subst (λ z. TellsNumber z r n) first k in
+    then (omega (arith, fits)) ∙ ap (λ z. Some z) (omega arith)
+
+module _ (e : SideId) (t u : Trace) where
+  bytes : (p q r : Option (List ℕ)) (f : Event → List ℕ) → TellsBytes p q (flat_map f t) → TellsBytes q r (flat_map f u) → TellsBytes p r (flat_map f (t ++ u))
+  bytes p q r f h k = subst (λ z. TellsBytes p r z) (sym (flat_map-append f t u)) (TellsBytes-append p q r (flat_map f t) (flat_map f u) h k)
+
+  flag : (p q r : Option Bool) (f : Event → Bool) → TellsFlag p q (list_any f t) → TellsFlag q r (list_any f u) → TellsFlag p r (list_any f (t ++ u))
+  flag p q r f h k = subst (λ z. TellsFlag p r z) (sym (list_any-append f t u)) (TellsFlag-or p q r (list_any f t) (list_any f u) h k)
+
+  number : (p q r : Option ℕ) (f : Event → ℕ) → TellsNumber p q (sum_by f t) → TellsNumber q r (sum_by f u) → TellsNumber p r (sum_by f (t ++ u))
+  number p q r f h k = subst (λ z. TellsNumber p r z) (sym (sum_by-append f t u)) (TellsNumber-plus p q r (sum_by f t) (sum_by f u) h k)
+
+  count : (p q r : Option ℕ) (f : Event → Bool) → TellsNumber p q (count_by f t) → TellsNumber q r (count_by f u) → TellsNumber p r (count_by f (t ++ u))
+  count p q r f h k = number p q r (λ x. cond (f x) 1 0) h k
+
+  pub end_ties_join : (began then now : EndTells) → EndTied began then e t → EndTied then now e u → EndTied began now e (t ++ u)
+  end_ties_join began then now h k = record {
+    handed_out = bytes began.handed_out then.handed_out now.handed_out (read_by e) h.handed_out k.handed_out;
+    taken = bytes began.taken then.taken now.taken (given_by e) h.taken k.taken;
+    made_connected = flag began.made_connected then.made_connected now.made_connected (made_connected_by e) h.made_connected k.made_connected;
+    ended = flag began.ended then.ended now.ended (ended_by e) h.ended k.ended;
+    connected = flag began.connected then.connected now.connected (connected_by e) h.connected k.connected;
+    write_ended = flag began.write_ended then.write_ended now.write_ended (write_closed_by e) h.write_ended k.write_ended;
+    closed = flag began.closed then.closed now.closed (closed_by e) h.closed k.closed;
+    reads = count began.reads then.reads now.reads (is_read_of e) h.reads k.reads;
+    writes = count began.writes then.writes now.writes (is_write_of e) h.writes k.writes;
+    checks = count began.checks then.checks now.checks (is_check_of e) h.checks k.checks;
+    rooms = number began.rooms then.rooms now.rooms (room_by e) h.rooms k.rooms;
+    offers = number began.offers then.offers now.offers (offered_by e) h.offers k.offers;
+    read_wants = count began.read_wants then.read_wants now.read_wants (wants_read_by e) h.read_wants k.read_wants;
+    write_wants = count began.write_wants then.write_wants now.write_wants (wants_write_by e) h.write_wants k.write_wants;
+    read_marks = count began.read_marks then.read_marks now.read_marks (marks_read_by e) h.read_marks k.read_marks;
+    write_marks = count began.write_marks then.write_marks now.write_marks (marks_write_by e) h.write_marks k.write_marks;
+  }
+
+pub ends_join : EndTiesJoin
+ends_join began then now e t more h k = end_ties_join e t more began then now h k
