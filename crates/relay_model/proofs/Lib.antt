@@ -27,6 +27,7 @@ pub mod Shapes
 pub mod ReachLemmas
 pub mod RatesTold
 pub mod RatesLaw
+pub mod ListEnds
 pub mod EndLemmas
 pub mod KeepsLemmas
 pub mod SeenLemmas
