@@ -26,6 +26,8 @@ pub mod Frames
 pub mod Shapes
 pub mod ReachLemmas
 pub mod RatesTold
+pub mod RatesLaw
+pub mod ListEnds
 pub mod EndLemmas
 pub mod KeepsLemmas
 pub mod SeenLemmas

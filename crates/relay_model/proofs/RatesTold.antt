@@ -25,7 +25,7 @@ use Rattle.relay_model.specs.Plain.{Plain, PlainSide, Standing, first_limit, no_
 use Rattle.relay_model.specs.Groups.{group_by, group_after}
 use Rattle.relay_model.specs.Past.{Past, past}
 use Rattle.relay_model.specs.Asks.{Answered, refusal, names_no_live, limit_set, enabled, marked, done}
-use Rattle.relay_model.specs.RatesKept.{limit_by, limit_after}
+use Rattle.relay_model.specs.RatesKept.{limit_by, limit_after, is_rate_ask}
 use Rattle.relay_model.proofs.PlainLemmas.{seen-change, side_at-change, side_at-same, side_at-other, side_at-new, side_at-old, is_connected, live-within, same_end-number}
 use Rattle.relay_model.proofs.Frames.{SameFrame, rates_of, frame-same, frame-change, frame-waiting, frame-raise_read, frame-raise_write}
 
@@ -43,11 +43,17 @@ abbrev pub IsBegun : ℕ → Option Standing → Type 0
 IsBegun turn None = ⊤
 IsBegun turn (Some x) = x.turn ≤ turn
 
+-- an event by which a limit is set: the side's link opens, or a hook asks for another limit
+abbrev pub sets_limit : SideId → Event → Bool
+sets_limit e (entry.Opened link connected, bytes) = nat_eq link e.link
+sets_limit e x = is_rate_ask e x
+
 -- what an event makes of the limit and the group of a side, by what they were
 pub record RatesBy (g : Settings) (e : SideId) (x : Event) (old new : Plain) : Type 0 where
   pub limit : (was : Option LimitCfg) → cfg_of (side_at old e).limit ≡ was → cfg_of (side_at new e).limit ≡ limit_by g e was x
   pub group : (was : Option ℕ) → (side_at old e).group ≡ was → (side_at new e).group ≡ group_by g e was x
   pub begun : IsBegun old.turn (side_at old e).limit → IsBegun new.turn (side_at new e).limit
+  pub stays : sets_limit e x ≡ false → (side_at new e).limit ≡ (side_at old e).limit
 
 -- an event by which no limit and no group of a side is changed
 pub record IsNeutral (g : Settings) (e : SideId) (x : Event) : Type 0 where
@@ -59,6 +65,7 @@ rates-neutral g e x old new neutral same = record {
   limit = λ was h. ap (λ z. cfg_of z.0) (same.rates e) ∙ h ∙ sym (neutral.limit was);
   group = λ was h. ap (λ z. z.1) (same.rates e) ∙ h ∙ sym (neutral.group was);
   begun = λ h. subst (λ z. IsBegun new.turn z) (sym (ap (λ z. z.0) (same.rates e))) (subst (λ n. IsBegun n (side_at old e).limit) (sym same.shape.turn) h);
+  stays = λ h. ap (λ z. z.0) (same.rates e);
 }
 
 -- A free takes the side out of its group and leaves all limits.
@@ -93,6 +100,7 @@ rates-freed g e a x s limit group = record {
   limit = λ was h. ap cfg_of (freed-limit e a s) ∙ h ∙ sym (limit was);
   group = λ was h. freed-group e a s ∙ ap (λ z. if same_end e a then None else z) h ∙ sym (group was);
   begun = λ h. subst (λ z. IsBegun s.turn z) (sym (freed-limit e a s)) h;
+  stays = λ h. freed-limit e a s;
 }
 
 -- A link opens: its two sides have what the settings give.
@@ -119,6 +127,7 @@ rates-opened g a link connected bytes s paired next = elim (eqb_tells link a.lin
           limit = λ was h. ap (λ z. cfg_of z.limit) seen ∙ set_cfg s.time s.turn (rate_set g a.side) ∙ sym (ap (λ b. if b then rate_set g a.side else was) named);
           group = λ was h. ap (λ z. z.group) seen ∙ sym (ap (λ b. if b then group_set g a.side else was) named);
           begun = λ h. subst (λ z. IsBegun s.turn z) (sym (ap (λ z. z.limit) seen)) (set_begun s.time s.turn (rate_set g a.side));
+          stays = λ h. absurd (let bad : true ≡ false = sym named ∙ h in cc);
         }
 
     old_one : nat_eq link a.link ≡ false → s.opened ≢ a.link → RatesBy g a x s (with_link g connected s)
@@ -128,6 +137,7 @@ rates-opened g a link connected bytes s paired next = elim (eqb_tells link a.lin
           limit = λ was h. ap (λ z. cfg_of z.limit) seen ∙ h ∙ sym (ap (λ b. if b then rate_set g a.side else was) named);
           group = λ was h. ap (λ z. z.group) seen ∙ h ∙ sym (ap (λ b. if b then group_set g a.side else was) named);
           begun = λ h. subst (λ z. IsBegun s.turn z) (sym (ap (λ z. z.limit) seen)) h;
+          stays = λ h. ap (λ z. z.limit) seen;
         }
 
 -- Asks
@@ -194,6 +204,7 @@ module _ (g : Settings) (p : Past) (s : Plain) (me a : SideId) (bytes : List ℕ
             limit = λ was h. ap (λ z. cfg_of z.limit) seen ∙ set_limit-cfg p s e (side_at s a).limit cfg ∙ sym (ap (λ b. if b then cfg else was) same);
             group = λ was h. ap (λ z. z.group) seen ∙ h;
             begun = λ h. subst (λ z. IsBegun s.turn z) (sym (ap (λ z. z.limit) seen)) (set_limit-begun p s e (side_at s a).limit cfg);
+            stays = λ h. absurd (let bad : true ≡ false = sym same ∙ h in cc);
           }
       by_name false other =
           let seen = side_at-other e a set s other in
@@ -201,6 +212,7 @@ module _ (g : Settings) (p : Past) (s : Plain) (me a : SideId) (bytes : List ℕ
             limit = λ was h. ap (λ z. cfg_of z.limit) seen ∙ h ∙ sym (ap (λ b. if b then cfg else was) other);
             group = λ was h. ap (λ z. z.group) seen ∙ h;
             begun = λ h. subst (λ z. IsBegun s.turn z) (sym (ap (λ z. z.limit) seen)) h;
+            stays = λ h. ap (λ z. z.limit) seen;
           }
 
   -- the side is put into a group, or out of one
@@ -218,6 +230,7 @@ module _ (g : Settings) (p : Past) (s : Plain) (me a : SideId) (bytes : List ℕ
             limit = λ was h. ap (λ z. cfg_of z.limit) seen ∙ h ∙ sym (limit was);
             group = λ was h. ap (λ z. z.group) seen ∙ sym (ap (λ b. if b then n else was) same) ∙ sym (group was);
             begun = λ h. subst (λ z. IsBegun s.turn z) (sym (ap (λ z. z.limit) seen)) h;
+            stays = λ h. ap (λ z. z.limit) seen;
           }
       by_name false other =
           let seen = side_at-other e a set s other in
@@ -225,6 +238,7 @@ module _ (g : Settings) (p : Past) (s : Plain) (me a : SideId) (bytes : List ℕ
             limit = λ was h. ap (λ z. cfg_of z.limit) seen ∙ h ∙ sym (limit was);
             group = λ was h. ap (λ z. z.group) seen ∙ h ∙ sym (ap (λ b. if b then n else was) other) ∙ sym (group was);
             begun = λ h. subst (λ z. IsBegun s.turn z) (sym (ap (λ z. z.limit) seen)) h;
+            stays = λ h. ap (λ z. z.limit) seen;
           }
 
   pub rates-done : (ask' : Act) → names_no_live s ask' ≡ false → RatesBy g a (entry.Asked me ask' ask.Ok, bytes) s (done g p s ask')

@@ -17,7 +17,7 @@ use Rattle.relay_model.specs.Reasons.{raise, happened, timeout_flag}
 use Rattle.relay_model.specs.Asks.{done, enabled}
 use Rattle.relay_model.specs.Moments.{timeout_of, last_activity, active_at, both_ways, by_deadline, timers_taken, timed, side_timed, time_passed}
 use Rattle.relay_model.specs.Pass.{with_held, with_read_done, with_moved, with_write_done}
-use Rattle.relay_model.specs.Round.{Part, meets, goes, read_run, write_run, do_part}
+use Rattle.relay_model.specs.Round.{Part, meets, read_run, write_run, do_part}
 use Rattle.relay_model.specs.Serve.{after_got}
 use Rattle.relay_model.proofs.KeepsLemmas.{Keeps, Keeps-refl, Keeps-trans, Keeps-timers, Keeps-raise, Keeps-raise_read, Keeps-raise_write, Keeps-put, Keeps-flow, Keeps-fold}
 

@@ -1,5 +1,5 @@
 // The laws of legal traces, each on a function whose contract it is.
-ghost use Rattle.relay_model.specs.TurnLaws.{BeginningsAreLegal, TraceTellsShape};
+ghost use Rattle.relay_model.specs.TurnLaws.{BeginningsAreLegal, TraceTellsRates, TraceTellsShape};
 
 /// The clock, the links, and how many sides and directions the relay keeps are those of the trace.
 pub fn trace_tells_shape()
@@ -9,4 +9,9 @@ pub fn trace_tells_shape()
 /// A trace that is cut off anywhere is still legal.
 pub fn beginnings_are_legal()
     ensures { BeginningsAreLegal }
+{}
+
+/// The limit and the group of a side are those of the settings, or of what a hook last asked.
+pub fn trace_tells_rates()
+    ensures { TraceTellsRates }
 {}

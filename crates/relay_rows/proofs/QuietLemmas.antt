@@ -11,11 +11,11 @@ use Rattle.ev_types.specs.Trace.{Trace}
 use Rattle.relay_model.specs.Filter.{or_else}
 use Rattle.relay_model.specs.Flow.{Flow, no_flow}
 use Rattle.relay_model.specs.Settings.{Settings}
-use Rattle.relay_model.specs.Plain.{Plain, PlainSide, no_side, side_at, flow_at, put_side, put_flow}
+use Rattle.relay_model.specs.Plain.{Plain, PlainSide, no_side, side_at, flow_at, put_side, put_flow, change_flow}
 use Rattle.relay_model.specs.Past.{Past, past}
 use Rattle.relay_model.specs.Rooms.{Want, read_mark}
 use Rattle.relay_model.specs.Pass.{with_held, with_used, read_place, with_read_done, with_moved, with_turned, write_place, with_write_done}
-use Rattle.relay_model.specs.Round.{Part, meets, goes, filter_in, filter_out, hold_of, read_run, write_run, do_part, round_parts, round}
+use Rattle.relay_model.specs.Round.{Part, meets, filter_in, filter_out, hold_of, read_run, write_run, do_part, round_parts, round}
 use Rattle.relay_model.specs.Serve.{call_for, marks_left}
 use Rattle.relay_model.specs.Close.{CloseStep, closing_entry}
 use Rattle.relay_model.specs.Stages.{Stage, Between, Polling, Wanting, Marking, Accepting, Serving, Filtering, Dispatching, Firing, Freeing, Passing, Closing, Over, State, at}
@@ -41,7 +41,7 @@ meets-same e place s h =
     let kept = same_number-is (or_else (side_at s e).bad place) (side_at s e).bad h in
     put_side-same e (record (side_at s e) { bad = or_else (side_at s e).bad place }) s (λ i. record (side_at s e) { bad = kept i })
 
-goes-same : (e : SideId) (change : Flow → Flow) (s : Plain) → same_flow (change (flow_at s e)) (flow_at s e) ≡ true → goes e change s ≡ s
+goes-same : (e : SideId) (change : Flow → Flow) (s : Plain) → same_flow (change (flow_at s e)) (flow_at s e) ≡ true → change_flow e change s ≡ s
 goes-same e change s h = put_flow-same e (change (flow_at s e)) s (same_flow-is (change (flow_at s e)) (flow_at s e) h)
 
 module _ (g : Settings) (p : Past) (e : SideId) (s : Plain) where
@@ -73,7 +73,7 @@ module _ (g : Settings) (p : Past) (e : SideId) (s : Plain) where
       let over = same_flow (with_read_done (filter_in g p e s) (p.read e) (read_mark s e) ended f) f in
       let a = and_parts (used && place) over h in
       let b = and_parts used place a.0 in
-      ap (λ ran. goes e (with_read_done (filter_in g p e s) (p.read e) (read_mark s e) ended) ran) (read_run-same ended b.0 b.1)
+      ap (λ ran. change_flow e (with_read_done (filter_in g p e s) (p.read e) (read_mark s e) ended) ran) (read_run-same ended b.0 b.1)
       ∙ goes-same e (with_read_done (filter_in g p e s) (p.read e) (read_mark s e) ended) s a.1
   do_part-same Part.Move h = goes-same e (with_moved (filter_in g p e s) (p.read e)) s h
   do_part-same Part.Write h =
@@ -83,7 +83,7 @@ module _ (g : Settings) (p : Past) (e : SideId) (s : Plain) where
       let over = same_flow (with_write_done (filter_in g p e s) (filter_out g p e s) (p.read e) (hold_of g p e s) f) f in
       let a = and_parts (turned && place) over h in
       let b = and_parts turned place a.0 in
-      ap (λ ran. goes e (with_write_done (filter_in g p e s) (filter_out g p e s) (p.read e) (hold_of g p e s)) ran) (write_run-same true b.0 b.1)
+      ap (λ ran. change_flow e (with_write_done (filter_in g p e s) (filter_out g p e s) (p.read e) (hold_of g p e s)) ran) (write_run-same true b.0 b.1)
       ∙ goes-same e (with_write_done (filter_in g p e s) (filter_out g p e s) (p.read e) (hold_of g p e s)) s a.1
   do_part-same Part.Drain h =
       let f = flow_at s e in
