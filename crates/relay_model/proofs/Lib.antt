@@ -15,6 +15,7 @@ pub mod PassLemmas
 pub mod StandsLemmas
 pub mod TiedLemmas
 pub mod PlayedLemmas
+pub mod PlayedReads
 mod PlayedExamples
 mod ScriptedExamples
 mod Examples

@@ -1,5 +1,7 @@
 -- What an end tells over two traces in a row.
-use Rattle.std.proofs.Common.{◌≡◌, ℕ, ◌+◌, ◌-◌, ◌^◌, ◌<◌, Bool, true, false, ◌||◌, List, ◌++◌, Option, Some, None, refl, sym, ◌∙◌, ap, subst, append_assoc, arith, cond, count_by}
+use Rattle.std.proofs.Common.{◌≡◌, ℕ, ◌+◌, ◌-◌, ◌^◌, ◌<◌, Bool, true, false, ◌||◌, List, [], ◌∷◌, ◌++◌, length, Option, Some, None, refl, sym, ◌∙◌, ap, subst, append_assoc, arith, length-append, cond, count_by}
+use Rattle.std.specs.Prelude.{⊤, MatchOption}
+use Rattle.std.proofs.lemmas.List.{append-nil}
 use Rattle.std.proofs.lemmas.Grind.{flat_map-append}
 use Rattle.std.proofs.lemmas.List.Folds.{list_any-append}
 use Rattle.std.proofs.lemmas.List.Sums.{sum_by-append}
@@ -7,8 +9,8 @@ use Rattle.std.specs.List.{flat_map, list_any, sum_by}
 use Rattle.ev_types.specs.declared.side.SideId.{SideId}
 use Rattle.ev_types.specs.Trace.{Event, Trace}
 use Rattle.relay_model.specs.Trace.{read_by, given_by, ended_by, write_closed_by}
-use Rattle.relay_model.specs.Totals.{is_read_of, is_write_of, is_check_of, room_by, offered_by, wants_read_by, wants_write_by, marks_read_by, marks_write_by, made_connected_by, connected_by, closed_by}
-use Rattle.relay_model.specs.Tied.{TellsBytes, TellsFlag, TellsNumber, EndTells, EndTied, EndTiesJoin}
+use Rattle.relay_model.specs.Totals.{is_read_of, is_write_of, is_check_of, room_by, offered_by, wants_read_by, wants_write_by, marks_read_by, marks_write_by, made_connected_by, connected_by, closed_by, last_timeout}
+use Rattle.relay_model.specs.Tied.{TellsBytes, TellsFlag, TellsNumber, TellsReading, EndTells, EndTied, EndTiesJoin, NothingIsTied}
 
 pub TellsBytes-append : (p q r : Option (List ℕ)) (xs ys : List ℕ) → TellsBytes p q xs → TellsBytes q r ys → TellsBytes p r (xs ++ ys)
 TellsBytes-append None q r xs ys h k = tt
@@ -64,3 +66,62 @@ module _ (e : SideId) (t u : Trace) where
 
 pub ends_join : EndTiesJoin
 ends_join began then now e t more h k = end_ties_join e t more began then now h k
+
+-- with nothing more
+
+tells_bytes-none : (p : Option (List ℕ)) → TellsBytes p p []
+tells_bytes-none None = tt
+tells_bytes-none (Some before) = ap (λ z. Some z) (sym (append-nil before))
+
+or-false : (b : Bool) → b ≡ (b || false)
+or-false true = refl
+or-false false = refl
+
+tells_flag-none : (p : Option Bool) → TellsFlag p p false
+tells_flag-none None = tt
+tells_flag-none (Some before) = ap (λ z. Some z) (or-false before)
+
+tells_number-none : (p : Option ℕ) → TellsNumber p p 0
+tells_number-none None = tt
+tells_number-none (Some before) = λ fits. ap (λ z. Some z) (omega arith)
+
+tells_reading-none : (p : Option ℕ) → TellsReading p p []
+tells_reading-none None = tt
+tells_reading-none (Some before) = (λ none. refl, λ earlier time is. absurd (not_empty earlier time is))
+  where
+    not_empty : (earlier : List ℕ) (time : ℕ) → [] ≡ earlier ++ time ∷ [] → ⊥
+    not_empty earlier time is = let n = ap length is in omega (arith, n, length-append earlier (time ∷ []))
+
+tells_timeout-none : (p : Option (Option ℕ)) → MatchOption p ⊤ (λ before. p ≡ Some (last_timeout before []))
+tells_timeout-none None = tt
+tells_timeout-none (Some before) = refl
+
+pub nothing_is_tied : NothingIsTied
+nothing_is_tied g port ends = record {
+  port = record {
+    accept_polls = tells_number-none port.accept_polls;
+    timeout = tells_timeout-none port.timeout;
+    links = tells_number-none port.links;
+    accepting = λ told. told;
+    readings = tells_number-none port.readings;
+    reading = tells_reading-none port.reading;
+  };
+  ends = λ e. record {
+    handed_out = tells_bytes-none (ends e).handed_out;
+    taken = tells_bytes-none (ends e).taken;
+    made_connected = tells_flag-none (ends e).made_connected;
+    ended = tells_flag-none (ends e).ended;
+    connected = tells_flag-none (ends e).connected;
+    write_ended = tells_flag-none (ends e).write_ended;
+    closed = tells_flag-none (ends e).closed;
+    reads = tells_number-none (ends e).reads;
+    writes = tells_number-none (ends e).writes;
+    checks = tells_number-none (ends e).checks;
+    rooms = tells_number-none (ends e).rooms;
+    offers = tells_number-none (ends e).offers;
+    read_wants = tells_number-none (ends e).read_wants;
+    write_wants = tells_number-none (ends e).write_wants;
+    read_marks = tells_number-none (ends e).read_marks;
+    write_marks = tells_number-none (ends e).write_marks;
+  };
+}

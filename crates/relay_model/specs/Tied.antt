@@ -105,3 +105,7 @@ ClosedAfterTurn g now t = MatchOption now.accepting ⊤ (λ stands_open. stands_
 -- What an end tells over two traces in a row, it tells over both as one.
 abbrev pub EndTiesJoin : Type 0
 EndTiesJoin = (began then now : EndTells) (e : SideId) (t more : Trace) → EndTied began then e t → EndTied then now e more → EndTied began now e (t ++ more)
+
+-- Before anything happened a port is tied to the trace of no entries, whatever it tells.
+abbrev pub NothingIsTied : Type 0
+NothingIsTied = (g : Settings) (port : PortTells) (ends : SideId → EndTells) → IsTied g port port ends ends []
