@@ -18,6 +18,7 @@ pub mod PlayedLemmas
 pub mod PlayedReads
 mod PlayedExamples
 mod ScriptedExamples
+mod TiedExamples
 mod Examples
 pub mod PastLemmas
 pub mod PlainLemmas

@@ -32,3 +32,4 @@ pub mod Lines
 pub mod Script
 pub mod Scripted
 pub mod Plays
+pub mod Hooked
