@@ -15,8 +15,10 @@ pub mod PassLemmas
 pub mod StandsLemmas
 pub mod TiedLemmas
 pub mod PlayedLemmas
+pub mod PlayedReads
 mod PlayedExamples
 mod ScriptedExamples
+mod TiedExamples
 mod Examples
 pub mod PastLemmas
 pub mod PlainLemmas

@@ -5,13 +5,19 @@ use Rattle.ev_types.specs.declared.side.SideId.{SideId}
 use Rattle.ev_types.specs.declared.answer.ConnAnswer.TheVariants as conn
 use Rattle.ev_types.specs.declared.answer.ReadAnswer.TheVariants as read
 use Rattle.ev_types.specs.declared.answer.WriteAnswer.TheVariants as write
+use Rattle.ev_types.specs.declared.answer.AskAnswer.TheVariants as ask
+use Rattle.ev_types.specs.declared.act.Act.TheVariants as act
+use Rattle.ev_types.specs.declared.why.Why.TheVariants as why
+use Rattle.ev_types.specs.declared.why.WhyKind.TheVariants as why_kind
 use Rattle.ev_types.specs.declared.entry.Entry.{Entry}
 use Rattle.ev_types.specs.declared.entry.Entry.TheVariants as entry
 use Rattle.ev_types.specs.Trace.{Event, Trace}
 use Rattle.relay_model.specs.Settings.{usual}
 use Rattle.relay_model.specs.Rooms.{Want}
 use Rattle.relay_model.specs.Lines.{Line}
-use Rattle.relay_model.specs.Script.{ScriptTurn, closing_step}
+use Rattle.relay_model.specs.Plans.{Planned, IsPlanned}
+use Rattle.relay_model.specs.Script.{Script, ScriptTurn, closing_step, run_settings, plan_of}
+use Rattle.relay_model.specs.Hooked.{heard_in, asked_in}
 use Rattle.relay_model.specs.Plays.{Step, trace_of}
 
 abbrev i : SideId
@@ -120,3 +126,26 @@ poll-all_in_its_turn = refl
 
 poll-fails : polled (Line.NewLink false ∷ Line.Pending i (1 ∷ []) ∷ Line.FailPoll ∷ []) ≡ poll_then (plain entry.PollFailed ∷ [])
 poll-fails = refl
+
+-- The sides with a hook are those for which something is planned and a hook was handed in; each has its own lines.
+abbrev planned : ℕ → Planned
+planned n = record { kind = why_kind.Read; nth = n; act = Some act.Stop }
+
+abbrev planned_script : Script
+planned_script = record { settings = usual; plans = (o, planned 1) ∷ (record { link = 7; side = In }, planned 1) ∷ (o, planned 2) ∷ []; turns = [] }
+
+hooks-handed_in : (run_settings planned_script 2).hooks ≡ o ∷ o ∷ []
+hooks-handed_in = refl
+
+hooks-plan : plan_of planned_script o ≡ planned 1 ∷ planned 2 ∷ []
+hooks-plan = refl
+
+-- The second read of Out is answered by its second line.
+abbrev fired_twice : Trace
+fired_twice = plain (entry.Fired o why.Read) ∷ plain (entry.Asked o act.Stop ask.Ok) ∷ plain (entry.Fired i why.Read) ∷ plain (entry.Fired o why.Read) ∷ plain (entry.Asked o act.Stop ask.Ok) ∷ []
+
+asks-planned : IsPlanned (plan_of planned_script o) (heard_in o fired_twice) (asked_in o fired_twice)
+asks-planned = refl
+
+asks-of_another : IsPlanned (plan_of planned_script i) (heard_in i fired_twice) (asked_in i fired_twice)
+asks-of_another = refl

@@ -13,8 +13,7 @@ Longer-append u v w xs ys h k t p = subst w (append_assoc t xs ys) (k (t ++ xs) 
 pub Grew-append : (p q r : Option Trace) (xs ys : Trace) → Grew p q xs → Grew q r ys → Grew p r (xs ++ ys)
 Grew-append None q r xs ys h k = tt
 Grew-append (Some before) q r xs ys h k =
-    let then = subst (λ z. Grew z r ys) h k in
-    then ∙ ap (λ z. Some z) (append_assoc before xs ys)
+    subst (λ z. Grew z r ys) h k ∙ ap (λ z. Some z) (append_assoc before xs ys)
 
 pub steps_join : (u v w : Trace → Type 0) → StepsJoin u v w
 steps_join u v w g x y z old mid new log mid_log new_log first second =
