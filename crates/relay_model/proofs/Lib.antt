@@ -42,3 +42,4 @@ pub mod ServeCases
 pub mod CloseCases
 pub mod StepLemmas
 pub mod StageLemmas
+pub mod ToldLemmas
