@@ -3,6 +3,7 @@ pub mod PutLemmas
 pub mod PutConverse
 pub mod QuietLemmas
 pub mod ReplayLemmas
+pub mod OrderLemmas
 pub mod PlainRowsReplayed
 pub mod FilterRowsReplayed
 pub mod HookRowsReplayed
