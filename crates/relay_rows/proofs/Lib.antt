@@ -4,6 +4,7 @@ pub mod PutConverse
 pub mod QuietLemmas
 pub mod ReplayLemmas
 pub mod OrderLemmas
+pub mod OnceLemmas
 pub mod PlainRowsReplayed
 pub mod FilterRowsReplayed
 pub mod HookRowsReplayed

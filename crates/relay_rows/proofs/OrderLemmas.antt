@@ -80,10 +80,10 @@ ahead-rank g t (suc k) a s h =
 
 -- Where some entries can be put
 
-no_closing : (g : Settings) (t : Trace) (p : Plain) (c : CloseStep) (e : Entry) → is_closing e ≡ false → closing_entry g (past g t) p c ≡ Some e → ⊥
+pub no_closing : (g : Settings) (t : Trace) (p : Plain) (c : CloseStep) (e : Entry) → is_closing e ≡ false → closing_entry g (past g t) p c ≡ Some e → ⊥
 no_closing g t p c e other h = let yes = closing_entry-is g (past g t) p c e h in absurd (cc)
 
-no_freeing : (p : Plain) (gone : SideId) (e : Entry) → is_closing e ≡ false → e ≡ freed_entry p gone cause.Hook → ⊥
+pub no_freeing : (p : Plain) (gone : SideId) (e : Entry) → is_closing e ≡ false → e ≡ freed_entry p gone cause.Hook → ⊥
 no_freeing p gone e other h = let yes : is_closing e ≡ true = ap is_closing h in absurd (cc)
 
 pub poll_failed-rank : (g : Settings) (t : Trace) (x : Stage) (p : Plain) (bytes : List ℕ) (new : State) → Puts g t x p entry.PollFailed bytes new → rank x ≡ 0
@@ -139,7 +139,7 @@ abbrev pub Rise : ℕ → List Want → Type 0
 Rise n [] = Unit {0}
 Rise n (w ∷ ws) = (n ≤ number w.side) × Rise (number w.side + 1) ws
 
-rise-weaken : (n m : ℕ) (ws : List Want) → n ≤ m → Rise m ws → Rise n ws
+pub rise-weaken : (n m : ℕ) (ws : List Want) → n ≤ m → Rise m ws → Rise n ws
 rise-weaken n m [] le h = tt
 rise-weaken n m (w ∷ ws) le h = let here = h.0 in (omega arith, h.1)
 
@@ -158,5 +158,5 @@ rise-sides g p s zero k = tt
 rise-sides g p s (suc n) k =
     (omega arith, (omega arith, rise-weaken (2 * k + 1 + 1) (2 * (k + 1)) (map (want_of g p s) (sides_from (k + 1) n)) (omega arith) (rise-sides g p s n (k + 1))))
 
-wanted-rise : (g : Settings) (p : Past) (s : Plain) → Rise 0 (wanted g p s)
+pub wanted-rise : (g : Settings) (p : Past) (s : Plain) → Rise 0 (wanted g p s)
 wanted-rise g p s = rise-filter (λ w. w.read || w.write) 0 (map (want_of g p s) (all_sides s)) (rise-sides g p s s.opened 0)
