@@ -5,6 +5,7 @@ pub mod QuietLemmas
 pub mod ReplayLemmas
 pub mod OrderLemmas
 pub mod OnceLemmas
+pub mod RefusalLemmas
 pub mod PlainRowsReplayed
 pub mod FilterRowsReplayed
 pub mod HookRowsReplayed
