@@ -6,6 +6,7 @@ pub mod ReplayLemmas
 pub mod OrderLemmas
 pub mod OnceLemmas
 pub mod RefusalLemmas
+pub mod IllegalLemmas
 pub mod PlainRowsReplayed
 pub mod FilterRowsReplayed
 pub mod HookRowsReplayed
