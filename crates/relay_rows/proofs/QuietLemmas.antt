@@ -63,7 +63,7 @@ module _ (g : Settings) (p : Past) (e : SideId) (s : Plain) where
       (goes-same e (with_turned (filter_in g p e s) (filter_out g p e s) (p.read e) (hold_of g p e s)) s turned)
       ∙ meets-same (peer e) (write_place (filter_in g p e s) (filter_out g p e s) (p.read e) (hold_of g p e s) may_end (flow_at s e)) s place
 
-  do_part-same : (x : Part) → leaves g p e s x ≡ true → do_part g p e x s ≡ s
+  pub do_part-same : (x : Part) → leaves g p e s x ≡ true → do_part g p e x s ≡ s
   do_part-same Part.Hold h = goes-same e (with_held (filter_in g p e s) (filter_out g p e s) (p.read e) (hold_of g p e s)) s h
   do_part-same Part.Read h =
       let f = flow_at s e in
