@@ -11,9 +11,10 @@ use Rattle.relay_model.specs.Plays.{Step, events, trace_of, TookAll, is_behind_a
 
 -- what the script answers to one step more
 pub answers_go_on : AnswersGoOn
-answers_go_on turns step t (steps, e) x =
-    (steps ++ x ∷ [],
-    ap (λ z. z ++ events turns step z x) e ∙ sym (fold-append (λ z y. z ++ events turns step z y) [] steps (x ∷ [])))
+answers_go_on turns step t (steps, e) x = (
+  steps ++ x ∷ [],
+  ap (λ z. z ++ events turns step z x) e ∙ sym (fold-append (λ z y. z ++ events turns step z y) [] steps (x ∷ [])),
+)
 
 abbrev pub is_empty : List Bool → Bool
 is_empty [] = true

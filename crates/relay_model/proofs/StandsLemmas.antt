@@ -16,18 +16,20 @@ Grew-append (Some before) q r xs ys h k =
     subst (λ z. Grew z r ys) h k ∙ ap (λ z. Some z) (append_assoc before xs ys)
 
 pub steps_join : (u v w : Trace → Type 0) → StepsJoin u v w
-steps_join u v w g x y z old mid new log mid_log new_log first second =
-    (first.0 ++ second.0,
-    Grew-append log mid_log new_log first.0 second.0 first.1 second.1,
-    Longer-append (λ t. Stands g t x old) (λ t. Stands g t y mid) (λ t. Stands g t z new) first.0 second.0 first.2 second.2,
-    Longer-append u v w first.0 second.0 first.3 second.3)
+steps_join u v w g x y z old mid new log mid_log new_log first second = (
+  first.0 ++ second.0,
+  Grew-append log mid_log new_log first.0 second.0 first.1 second.1,
+  Longer-append (λ t. Stands g t x old) (λ t. Stands g t y mid) (λ t. Stands g t z new) first.0 second.0 first.2 second.2,
+  Longer-append u v w first.0 second.0 first.3 second.3,
+)
 
 pub cuts_join : (u v w : Trace → Type 0) → CutsJoin u v w
-cuts_join u v w g x y old mid new log mid_log new_log first second =
-    (first.0 ++ second.0,
-    Grew-append log mid_log new_log first.0 second.0 first.1 second.1,
-    Longer-append (λ t. Stands g t x old) (λ t. Stands g t y mid) (λ t. Holds g t new) first.0 second.0 first.2 second.2,
-    Longer-append u v w first.0 second.0 first.3 second.3)
+cuts_join u v w g x y old mid new log mid_log new_log first second = (
+  first.0 ++ second.0,
+  Grew-append log mid_log new_log first.0 second.0 first.1 second.1,
+  Longer-append (λ t. Stands g t x old) (λ t. Stands g t y mid) (λ t. Holds g t new) first.0 second.0 first.2 second.2,
+  Longer-append u v w first.0 second.0 first.3 second.3,
+)
 
 pub any_stage_holds : AnyStageHolds
 any_stage_holds g t x v s = record { legal = (_, s.reached); conserved = s.conserved }
