@@ -1,15 +1,24 @@
 -- A filter as functions of its whole input, and the five filters. What a filter must obey stands in FilterLaws.
-use Rattle.std.specs.Prelude.{◌≡◌, ℕ, ◌+◌, ◌-◌, ◌*◌, ◌/◌, ◌%◌, Bool, true, false, ◌==◌, ◌&&◌, ◌||◌, nat_lt, nat_le, if◌then◌else◌, List, [], ◌∷◌, ◌++◌, length, Option, Some, None}
+use Rattle.std.specs.Prelude.{ℕ, ◌+◌, ◌-◌, ◌*◌, ◌/◌, ◌%◌, Bool, not, ◌==◌, ◌&&◌, ◌||◌, nat_lt, nat_le, if◌then◌else◌, List, [], ◌∷◌, ◌++◌, length, take, Option, Some, None, is_some, is_none, bytes_eq}
 use Rattle.ev_types.specs.declared.filter.FilterKind.{FilterKind}
 use Rattle.ev_types.specs.declared.filter.FilterKind.TheVariants as kind
 
--- what a filter makes of its whole input
+-- What a filter makes of its whole input. Places count from 0 over the whole input, also where the filter began later.
 pub record Filter : Type 0 where
   pub before : List ℕ → List ℕ  -- its output before the end
   pub at_end : List ℕ → List ℕ  -- its output at the end
   pub bad : List ℕ → Option ℕ  -- the first bad place, or none
   pub bad_at_end : List ℕ → Option ℕ  -- the same at the end
   pub since : ℕ  -- the place of the input at which it began
+
+-- A filter holds a byte where its end would change the output, or where the input is bad at the end and not before.
+abbrev pub holds : Filter → List ℕ → Bool
+holds f xs = not (bytes_eq (f.at_end xs) (f.before xs)) || (is_some (f.bad_at_end xs) && is_none (f.bad xs))
+
+-- The bad place that a filter meets after it used the first so many bytes of xs. With no room for output it meets none.
+-- It meets the next byte's place where that byte is bad; where no byte is left and none will come, the place of a bad end.
+abbrev pub met : Filter → List ℕ → ℕ → Bool → Bool → Option ℕ
+met f xs used over room = if room then (if nat_lt used (length xs) then f.bad (take (used + 1) xs) else (if over then f.bad_at_end xs else None)) else None
 
 abbrev pub never : List ℕ → Option ℕ
 never xs = None
@@ -20,10 +29,11 @@ CR = 13
 abbrev pub LF : ℕ
 LF = 10
 
--- CR LF for an LF unless the byte before it is CR; every other byte as it is
+-- CR LF for an LF unless the byte before it is CR; every other byte as it is. `last` is the byte before the list, 0 for
+-- none.
 abbrev pub crlf_after : ℕ → List ℕ → List ℕ
 crlf_after last [] = []
-crlf_after last (x ∷ xs) = (if x == LF && (if last == CR then false else true) then CR ∷ LF ∷ [] else x ∷ []) ++ crlf_after x xs
+crlf_after last (x ∷ xs) = (if x == LF && not (last == CR) then CR ∷ LF ∷ [] else x ∷ []) ++ crlf_after x xs
 
 -- nothing for a CR that is the last byte or that LF follows; every other byte as it is
 abbrev pub to_lf : List ℕ → List ℕ
@@ -37,11 +47,11 @@ last_cr [] = []
 last_cr (x ∷ []) = if x == CR then x ∷ [] else []
 last_cr (x ∷ y ∷ ys) = last_cr (y ∷ ys)
 
--- the lower-case digit of a number below 16
+-- the lower-case hex digit of a number below 16
 abbrev pub hex_digit : ℕ → ℕ
 hex_digit d = if nat_lt d 10 then 48 + d else 87 + d
 
--- the two digits of each byte
+-- the two hex digits of each byte
 abbrev pub hex_out : List ℕ → List ℕ
 hex_out [] = []
 hex_out (x ∷ xs) = hex_digit (x / 16) ∷ hex_digit (x % 16) ∷ hex_out xs
@@ -57,7 +67,8 @@ is_hex x = is_within 48 57 x || is_within 65 70 x || is_within 97 102 x
 abbrev pub hex_value : ℕ → ℕ
 hex_value x = if nat_le x 57 then x - 48 else (if nat_le x 70 then x - 55 else x - 87)
 
--- the byte of each two digits, up to the first byte that is no digit
+-- The byte that each two hex digits spell, up to the first byte that is no digit. A last digit without a second one gives
+-- nothing.
 abbrev pub hex_in : List ℕ → List ℕ
 hex_in [] = []
 hex_in (x ∷ []) = []
@@ -76,6 +87,7 @@ or_else None other = other
 abbrev pub odd_end : List ℕ → Option ℕ
 odd_end xs = if length xs % 2 == 1 then Some (length xs) else None
 
+-- the filter of each name
 abbrev pub filter_of : FilterKind → Filter
 filter_of kind.None = record { before = λ xs. xs; at_end = λ xs. xs; bad = never; bad_at_end = never; since = 0 }
 filter_of kind.ToCrlf = record { before = crlf_after 0; at_end = crlf_after 0; bad = never; bad_at_end = never; since = 0 }

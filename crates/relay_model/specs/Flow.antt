@@ -1,5 +1,5 @@
--- How far a direction has come: one list, what was read, and four places in it. What the four buffers are follows.
-use Rattle.std.specs.Prelude.{◌≡◌, ℕ, ◌≤◌, Bool, true, false, if◌then◌else◌, List, length, take, drop, Option, None, is_none}
+-- How far a direction has come: one list, what was read, and four places in it. What the four buffers hold follows.
+use Rattle.std.specs.Prelude.{◌≡◌, ℕ, ◌≤◌, Bool, true, false, if◌then◌else◌, List, length, take, drop, None, is_none}
 use Rattle.relay_model.specs.Filter.{Filter}
 
 -- The counts of a direction and its flags. A filter that is finished makes no more; a held direction gives nothing to
@@ -16,11 +16,11 @@ pub record Flow : Type 0 where
 abbrev pub no_flow : Flow
 no_flow = record { used = 0; moved = 0; turned = 0; given = 0; read_done = false; write_done = false; held = false }
 
--- what the read filter has made
+-- what the read filter has made of the bytes that it used, its end where it is finished
 abbrev pub middle : Filter → List ℕ → Flow → List ℕ
 middle r read f = if f.read_done then r.at_end (take f.used read) else r.before (take f.used read)
 
--- what the write filter has made of that
+-- what the write filter has made of the bytes that it used, its end where it is finished
 abbrev pub outcome : Filter → Filter → List ℕ → Flow → List ℕ
 outcome r w read f = if f.write_done then w.at_end (take f.turned (middle r read f)) else w.before (take f.turned (middle r read f))
 
@@ -40,7 +40,8 @@ output r read f = drop f.turned (take f.moved (middle r read f))
 abbrev pub raw_output : Filter → Filter → List ℕ → Flow → List ℕ
 raw_output r w read f = drop f.given (outcome r w read f)
 
--- the counts lie in order, and a filter is finished only at a good end of all that it will ever get
+-- No count passes what is there for it. The read filter is finished only where the side has ended, all was used and its
+-- end is good; the write filter only where the read filter is, all was moved and used, and its end is good.
 pub record Fits (r w : Filter) (read : List ℕ) (ended : Bool) (f : Flow) : Type 0 where
   pub used : f.used ≤ length read
   pub moved : f.moved ≤ length (middle r read f)
@@ -54,6 +55,10 @@ pub record Fits (r w : Filter) (read : List ℕ) (ended : Bool) (f : Flow) : Typ
 abbrev pub passed_on : Filter → Filter → List ℕ → List ℕ
 passed_on r w xs = w.before (r.before xs)
 
--- and at the end, where the read filter's end is good
+-- and at the end: both ends are added, unless the read filter's end is bad
 abbrev pub passed_at_end : Filter → Filter → List ℕ → List ℕ
 passed_at_end r w xs = if is_none (r.bad_at_end xs) then w.at_end (r.at_end xs) else passed_on r w xs
+
+-- the one before the side has ended, the other from then on
+abbrev pub passed : Filter → Filter → Bool → List ℕ → List ℕ
+passed r w ended xs = if ended then passed_at_end r w xs else passed_on r w xs

@@ -2,6 +2,10 @@
 use Rattle.std.specs.Prelude.{ℕ, List}
 use Rattle.script_text.specs.declared.script.TurnLine.{TurnLine}
 
--- the turns, each a moment with its lines
+-- a moment in milliseconds with the lines of its turn
+abbrev pub TurnValue : Type 0
+TurnValue = ℕ × List TurnLine
+
+-- the turns in their order
 pub record ScriptValue : Type 0 where
-  pub turns : List (ℕ × List TurnLine)
+  pub turns : List TurnValue

@@ -1,6 +1,6 @@
 -- Streams over no call and over several calls.
-use Rattle.std.proofs.Common.{◌≡◌, ℕ, List, [], ◌++◌, Option, Some, None, refl, sym, ap, ◌∙◌, append_assoc, append-nil, IfSome}
-use Rattle.stream_words.specs.Streams.{Gave, TookOn, GaveAll}
+use Rattle.std.proofs.Common.{◌≡◌, ◌≤◌, ℕ, List, [], ◌++◌, length, Option, Some, None, refl, sym, ap, ◌∙◌, arith, append_assoc, append-nil, length-append, IfSome}
+use Rattle.stream_words.specs.Streams.{Gave, TookOn, GaveAll, GaveCount, GaveAtMost}
 
 -- with no call nothing was given
 pub Gave-none : (a : Option (List ℕ)) → Gave a a []
@@ -30,3 +30,18 @@ TookOn-join None b c xs ys p q = tt
 TookOn-join (Some u) None c xs ys p q = absurd p
 TookOn-join (Some u) (Some v) None xs ys p q = absurd q
 TookOn-join (Some u) (Some v) (Some w) xs ys p q = q ∙ ap (λ t. t ++ ys) p ∙ append_assoc u xs ys
+
+-- bytes that were given, counted
+pub Gave-count : (a b : Option (List ℕ)) (xs : List ℕ) (n : ℕ) → Gave a b xs → length xs ≡ n → GaveCount a b n
+Gave-count None b xs n p k = tt
+Gave-count (Some u) None xs n p k = absurd p
+Gave-count (Some u) (Some v) xs n p k = rw p (omega (arith, length-append xs v))
+
+pub Gave-at_most : (a b : Option (List ℕ)) (xs : List ℕ) (n : ℕ) → Gave a b xs → length xs ≤ n → GaveAtMost a b n
+Gave-at_most None b xs n p k = tt
+Gave-at_most (Some u) None xs n p k = absurd p
+Gave-at_most (Some u) (Some v) xs n p k = rw p (omega (arith, length-append xs v))
+
+pub Gave-all_at_most : (a b : Option (List ℕ)) (xs : List ℕ) (n : ℕ) → GaveAll a b xs → length xs ≤ n → GaveAtMost a b n
+Gave-all_at_most None b xs n p k = tt
+Gave-all_at_most (Some u) b xs n p k = rw (p.1, p.0) (omega arith)

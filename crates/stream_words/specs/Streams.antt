@@ -1,6 +1,6 @@
 -- What a stream of bytes gave or took between two moments, where it tells. A stream that tells holds a list: the bytes
 -- that are left to give, or the bytes that were taken. One that tells goes on telling.
-use Rattle.std.specs.Prelude.{◌≡◌, ℕ, ⊤, List, [], ◌++◌, Option, Some, MatchOption, IsSomeAnd}
+use Rattle.std.specs.Prelude.{◌≡◌, ◌≤◌, ℕ, ◌+◌, ⊤, List, [], ◌++◌, length, Option, Some, MatchOption, IsSomeAnd}
 
 -- a source that tells gave these bytes, the next ones
 abbrev pub Gave : Option (List ℕ) → Option (List ℕ) → List ℕ → Type 0
@@ -13,6 +13,14 @@ TookOn old new bytes = MatchOption old ⊤ (λ before. IsSomeAnd new (λ after. 
 -- a source that tells has given all, and these bytes were the last
 abbrev pub GaveAll : Option (List ℕ) → Option (List ℕ) → List ℕ → Type 0
 GaveAll old new bytes = MatchOption old ⊤ (λ before. (before ≡ bytes) × (new ≡ Some []))
+
+-- a source that tells gave exactly so many bytes
+abbrev pub GaveCount : Option (List ℕ) → Option (List ℕ) → ℕ → Type 0
+GaveCount old new n = MatchOption old ⊤ (λ before. IsSomeAnd new (λ after. length before ≡ n + length after))
+
+-- a source that tells gave at most so many bytes
+abbrev pub GaveAtMost : Option (List ℕ) → Option (List ℕ) → ℕ → Type 0
+GaveAtMost old new n = MatchOption old ⊤ (λ before. IsSomeAnd new (λ after. length before ≤ n + length after))
 
 -- what a source gave in two calls in a row
 abbrev pub GivenJoins : Type 0

@@ -1,0 +1,11 @@
+pub mod Waiting
+pub mod BufferView
+pub mod State
+pub mod SideView
+pub mod RelayView
+pub mod Passing
+pub mod Opening
+pub mod Rooms
+pub mod Serving
+pub mod Closing
+pub mod Counting

@@ -1,0 +1,194 @@
+// Closing a link: the steps in their order, whether one is called for, and what it changes.
+ghost use Rattle.std.specs.Prelude.{◌≡◌, ◌<◌};
+ghost use Rattle.relay_core.specs.Closing.{closing_of, link_of, is_called_for, gone, peer_gone, freed, after_closing};
+ghost use Rattle.relay_core.specs.State.{side_at, with_side};
+
+use crate::buffer::Buffer;
+use crate::relay::Relay;
+use crate::side::SideState;
+use ev_types::{Side, SideId};
+use std::alloc::Global;
+
+/// A step of closing a link.
+///
+/// Own.
+#[derive(Clone, Copy, Debug, PartialEq, Eq)]
+pub enum Closing {
+    /// A failed side is freed.
+    Faulty(SideId),
+    /// Writing is ended at a side to which all was given.
+    EndWriting(SideId),
+    /// Both sides of a link are freed, where writing was ended at both.
+    BothDone(u32),
+    /// A side is freed whose peer is freed and for which nothing waits.
+    PeerGone(SideId),
+    /// The end of a freed side is closed.
+    Shut(SideId),
+}
+
+impl Closing {
+    /// The steps of a link, in their order.
+    pub fn of(link: u32) -> [Closing; 9]
+        ensures { result ≡ closing_of link }
+    {
+        let near = SideId {
+            link,
+            side: Side::In,
+        };
+        let far = near.peer();
+        [
+            Closing::Faulty(near),
+            Closing::Faulty(far),
+            Closing::EndWriting(far),
+            Closing::EndWriting(near),
+            Closing::BothDone(link),
+            Closing::PeerGone(near),
+            Closing::PeerGone(far),
+            Closing::Shut(near),
+            Closing::Shut(far),
+        ]
+    }
+}
+
+impl SideState {
+    ghost use Rattle.relay_core.specs.SideView.{side_of};
+
+    /// The side is freed: what was read from it and not moved is dropped.
+    fn drop_input(&mut self, alloc: Global)
+        ensures { side_of self.new ≡ gone (side_of self.old) }
+    {
+        self.flags.live = false;
+        self.raw_input = Buffer::new(alloc);
+        self.input = Buffer::new(alloc);
+    }
+
+    /// The peer is freed: what waits to be given to it is dropped.
+    fn drop_output(&mut self, alloc: Global)
+        ensures { side_of self.new ≡ peer_gone (side_of self.old) }
+    {
+        self.output = Buffer::new(alloc);
+        self.raw_output = Buffer::new(alloc);
+    }
+}
+
+impl Relay {
+    ghost use Rattle.ev_types.specs.Sides.{peer};
+    ghost use Rattle.relay_core.specs.Closing.{is_all_given, is_nothing_waiting};
+
+    /// Whether the direction to the side has ended and all of it was given.
+    fn is_all_given(&self, side: SideId) -> bool
+        requires { side.link < self.now.state.opened }
+        ensures { result ≡ is_all_given self.now.state side }
+    {
+        let from = &self.sides[side.peer().number()];
+        from.flags.ended
+            && from.flow.write_done
+            && from.raw_input.len() == 0
+            && from.input.len() == 0
+            && from.output.len() == 0
+            && from.raw_output.len() == 0
+    }
+
+    fn is_nothing_waiting(&self, side: SideId) -> bool
+        requires { side.link < self.now.state.opened }
+        ensures { result ≡ is_nothing_waiting self.now.state side }
+    {
+        let from = &self.sides[side.peer().number()];
+        from.output.len() == 0 && from.raw_output.len() == 0
+    }
+
+    /// Whether there is anything to do at a step of closing.
+    pub fn calls_for(&self, step: Closing) -> bool
+        requires { link_of step < self.now.state.opened }
+        ensures { result ≡ is_called_for self.now.state step }
+    {
+        match step {
+            Closing::Faulty(side) => {
+                let flags = self.flags(side);
+                flags.live && flags.failed
+            }
+            Closing::EndWriting(side) => {
+                let flags = self.flags(side);
+                let peer_live = self.flags(side.peer()).live;
+                flags.live
+                    && peer_live
+                    && self.is_all_given(side)
+                    && !flags.connecting
+                    && !flags.write_ended
+            }
+            Closing::BothDone(link) => {
+                let near = SideId {
+                    link,
+                    side: Side::In,
+                };
+                let flags = self.flags(near);
+                let far_flags = self.flags(near.peer());
+                flags.live && far_flags.live && flags.write_ended && far_flags.write_ended
+            }
+            Closing::PeerGone(side) => {
+                let flags = self.flags(side);
+                let peer_live = self.flags(side.peer()).live;
+                flags.live && !peer_live && self.is_nothing_waiting(side)
+            }
+            Closing::Shut(side) => {
+                let flags = self.flags(side);
+                !flags.live && !flags.closed
+            }
+        }
+    }
+
+    fn drop_input(&mut self, side: SideId)
+        requires { side.link < self.old.state.opened }
+        ensures { self.new.state ≡ with_side self.old.state side (gone (side_at self.old.state side)) }
+    {
+        let alloc = self.alloc;
+        let own = &mut self.sides[side.number()];
+        own.drop_input(alloc);
+    }
+
+    fn drop_output(&mut self, from: SideId)
+        requires { from.link < self.old.state.opened }
+        ensures { self.new.state ≡ with_side self.old.state from (peer_gone (side_at self.old.state from)) }
+    {
+        let alloc = self.alloc;
+        let own = &mut self.sides[from.number()];
+        own.drop_output(alloc);
+    }
+
+    /// The side is freed: what was read from it and not moved, and what waits to be given to it, is dropped.
+    fn free(&mut self, side: SideId)
+        requires { side.link < self.old.state.opened }
+        ensures { self.new.state ≡ freed self.old.state side }
+    {
+        self.drop_input(side);
+        self.drop_output(side.peer());
+    }
+
+    /// Makes the change of a step of closing. Takes no memory.
+    pub fn close(&mut self, step: Closing)
+        requires { link_of step < self.old.state.opened }
+        ensures { self.new.state ≡ after_closing self.old.state step }
+    {
+        match step {
+            Closing::Faulty(side) | Closing::PeerGone(side) => self.free(side),
+            Closing::EndWriting(side) => {
+                let mut flags = self.flags(side);
+                flags.write_ended = true;
+                self.set_flags(side, flags);
+            }
+            Closing::BothDone(link) => {
+                let near = SideId {
+                    link,
+                    side: Side::In,
+                };
+                self.free(near);
+                self.free(near.peer());
+            }
+            Closing::Shut(side) => {
+                let mut flags = self.flags(side);
+                flags.closed = true;
+                self.set_flags(side, flags);
+            }
+        }
+    }
+}

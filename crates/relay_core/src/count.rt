@@ -1,0 +1,169 @@
+// What the relay counts.
+ghost use Rattle.std.specs.Prelude.{◌≡◌, ◌-◌, ◌^◌, ◌<◌, ◌≤◌, min, IsTrue, Some, None, if◌then◌else◌, nat_lt};
+ghost use Rattle.relay_core.specs.declared.count.Counts.{Counts as CountsValue};
+ghost use Rattle.relay_core.specs.Counting.{counts_of, link_state, link_count, is_open, open_below, buffered_at, buffered_below, is_spent};
+
+use crate::relay::Relay;
+use crate::side::SideState;
+use ev_types::{LinkState, Side, SideId};
+
+/// A count of the relay that has come so far lets a run end.
+pub(crate) const SPENT: u64 = 1 << 62;
+
+/// What was counted of a side, in bytes: what was read from its end, what was moved from its input to its peer's
+/// output, and what its own end took.
+///
+/// Own.
+#[derive(Clone, Copy, Debug, PartialEq, Eq)]
+pub struct Counts {
+    pub read: u64,
+    pub moved: u64,
+    pub given: u64,
+}
+
+/// What a link came to, and how many bytes each of its ends was read and took.
+///
+/// Own.
+#[derive(Clone, Copy, Debug, PartialEq, Eq)]
+pub struct LinkCount {
+    pub state: LinkState,
+    pub in_read: u64,
+    pub in_given: u64,
+    pub out_read: u64,
+    pub out_given: u64,
+}
+
+impl SideState {
+    ghost use Rattle.std.specs.List.{list_any};
+    ghost use Rattle.relay_core.specs.Counting.{has_come_far};
+    ghost use Rattle.relay_core.specs.SideView.{side_of};
+
+    fn is_spent(&self) -> bool
+        ensures { result ≡ has_come_far (side_of self.now) }
+    {
+        self.read >= SPENT
+            || self.flow.used >= SPENT
+            || self.flow.moved >= SPENT
+            || self.flow.turned >= SPENT
+            || self.flow.given >= SPENT
+    }
+
+    /// Whether a count of some side has come far.
+    fn any_is_spent(sides: &[SideState]) -> bool
+        ensures { result ≡ list_any (λ s. has_come_far (side_of s)) sides.now }
+    {
+        sides.iter().any(|side| side.is_spent())
+    }
+}
+
+impl Relay {
+    /// What was counted of a side, freed or not.
+    pub fn counts(&self, side: SideId) -> Counts
+        requires { side.link < self.now.state.opened }
+        ensures { result ≡ counts_of self.now.state side }
+    {
+        let own = &self.sides[side.number()];
+        let from = &self.sides[side.peer().number()];
+        Counts {
+            read: own.read,
+            moved: own.flow.moved,
+            given: from.flow.given,
+        }
+    }
+
+    /// What a link came to. None exactly from the number of opened links on.
+    pub fn link(&self, link: u32) -> Option<LinkCount>
+        ensures { result ≡ (if nat_lt link self.now.state.opened then Some (link_count self.now.state link) else None) }
+    {
+        if link >= self.opened {
+            return None;
+        }
+        let near = SideId {
+            link,
+            side: Side::In,
+        };
+        let near_counts = self.counts(near);
+        let far_counts = self.counts(near.peer());
+        Some(LinkCount {
+            state: self.link_state(near),
+            in_read: near_counts.read,
+            in_given: near_counts.given,
+            out_read: far_counts.read,
+            out_given: far_counts.given,
+        })
+    }
+
+    fn link_state(&self, near: SideId) -> LinkState
+        requires { near.link < self.now.state.opened }
+        ensures { result ≡ link_state self.now.state near }
+    {
+        let flags = self.flags(near);
+        let far_flags = self.flags(near.peer());
+        if flags.live || far_flags.live {
+            LinkState::Live
+        } else if flags.write_ended && far_flags.write_ended {
+            LinkState::Done
+        } else {
+            LinkState::Gone
+        }
+    }
+
+    /// How many links have a live side.
+    pub fn open_links(&self) -> u32
+        ensures { result ≡ open_below self.now.state self.now.state.opened }
+    {
+        let mut count = 0;
+        for link in 0..self.opened {
+            if self.is_open(link) {
+                count += 1;
+            }
+        }
+        count
+    }
+
+    fn is_open(&self, link: u32) -> bool
+        requires { link < self.now.state.opened }
+        ensures { result ≡ is_open self.now.state link }
+    {
+        let near = SideId {
+            link,
+            side: Side::In,
+        };
+        self.flags(near).live || self.flags(near.peer()).live
+    }
+
+    /// The number of bytes in all buffers of live sides, or 2^64 - 1 where that is more.
+    pub fn buffered(&self) -> u64
+        ensures { result ≡ min (buffered_below self.now.state self.now.state.opened) (2 ^ 64 - 1) }
+    {
+        let mut total: u64 = 0;
+        for link in 0..self.opened {
+            let near = SideId {
+                link,
+                side: Side::In,
+            };
+            total = total.saturating_add(self.buffered_at(near));
+            total = total.saturating_add(self.buffered_at(near.peer()));
+        }
+        total
+    }
+
+    fn buffered_at(&self, side: SideId) -> u64
+        requires { side.link < self.now.state.opened }
+        ensures { result ≡ min (buffered_at self.now.state side) (2 ^ 64 - 1) }
+    {
+        let own = &self.sides[side.number()];
+        if !own.flags.live {
+            return 0;
+        }
+        let from = &self.sides[side.peer().number()];
+        (own.input_len() as u64).saturating_add(from.output_len() as u64)
+    }
+
+    /// Whether a count has come to 2^62: bytes read from an end, used, moved, turned or given.
+    pub fn is_spent(&self) -> bool
+        ensures { result ≡ is_spent self.now.state }
+    {
+        SideState::any_is_spent(&self.sides)
+    }
+}

@@ -1,0 +1,26 @@
+//! The relay's own state, and the calls that make its changes: links with their sides, the bytes on their way, passing
+//! and closing. It reaches no port, keeps no trace and decides no order: the drive above does that.
+//!
+//! What stands for the whole state is listed in `specs/State.antt`. Each call's contract says the state after it.
+#![tactic(auto)]
+
+mod buffer;
+mod close;
+mod count;
+mod flags;
+mod open;
+mod pass;
+mod relay;
+mod room;
+mod serve;
+mod settings;
+mod side;
+
+pub use close::Closing;
+pub use count::{Counts, LinkCount};
+pub use flags::SideFlags;
+pub use relay::Relay;
+pub use settings::Settings;
+
+#[cfg(test)]
+mod tests;

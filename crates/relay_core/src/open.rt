@@ -1,0 +1,44 @@
+// Opening links.
+ghost use Rattle.std.specs.Prelude.{◌≡◌, ◌<◌, ◌≤◌, nat_lt, OnOk};
+ghost use Rattle.relay_core.specs.Opening.{after_opened};
+
+use crate::relay::Relay;
+use crate::side::SideState;
+use ev_types::NoMemory;
+
+impl Relay {
+    /// How many links were opened.
+    pub fn opened(&self) -> u32
+        ensures { result ≡ self.now.state.opened }
+    {
+        self.opened
+    }
+
+    /// Whether fewer links were opened than the settings allow.
+    pub fn can_open(&self) -> bool
+        ensures { result ≡ nat_lt self.now.state.opened self.now.state.settings.links }
+    {
+        self.opened < self.settings.links
+    }
+
+    /// Makes room for one link more.
+    pub fn reserve_link(&mut self) -> Result<(), NoMemory>
+        ensures state { self.new.state ≡ self.old.state }
+        ensures room { OnOk result (0 < self.new.spare_links) }
+    {
+        self.sides.reserve(2)?;
+        Ok(())
+    }
+
+    /// Opens the next link, in room that was made before. Its In end is connected; whether its Out end is, is told.
+    pub fn open(&mut self, connected: bool)
+        requires allowed { self.old.state.opened < self.old.state.settings.links }
+        requires room { 0 < self.old.spare_links }
+        ensures { self.new.state ≡ after_opened self.old.state connected }
+    {
+        let alloc = self.alloc;
+        self.sides.push(SideState::new(alloc, true)).unwrap();
+        self.sides.push(SideState::new(alloc, connected)).unwrap();
+        self.opened += 1;
+    }
+}

@@ -1,0 +1,158 @@
+// Passing a direction: rounds until one changes nothing. A round has its room before it begins, so that want of memory
+// leaves whole rounds.
+ghost use Rattle.std.specs.Prelude.{◌≡◌, ◌+◌, ◌<◌, ◌≤◌, ◌⊎◌, [], length, OnOk, MatchResult, IsTrue, ◌↔◌};
+ghost use Rattle.relay_core.specs.Passing.{used_now, held, read_filtered, moved, write_filtered, round, rounds, Passed, SomeRounds};
+ghost use Rattle.relay_core.specs.SideView.{side_of, lane_of, buffers_of};
+
+use crate::relay::Relay;
+use crate::side::{Progress, READ_MARK, SideState};
+use ev_types::{NoMemory, SideId};
+use std::mem::swap;
+
+/// Whether nothing was counted in between.
+fn same_progress(a: Progress, b: Progress) -> bool
+    ensures { IsTrue result ↔ (a ≡ b) }
+{
+    a == b
+}
+
+impl SideState {
+    /// Makes room for what a round may move.
+    fn reserve_round(&mut self, hold: u64) -> Result<(), NoMemory>
+        ensures same { side_of self.new ≡ side_of self.old }
+        ensures input { OnOk result ((used_now (buffers_of self.new) ≤ self.new.input.spare) ⊎ ((length self.new.input.bytes ≡ 0) × (length self.new.raw_input.bytes ≤ 16384))) }
+        ensures raw_output { OnOk result ((length self.new.raw_input.bytes + length self.new.input.bytes + length self.new.output.bytes ≤ self.new.raw_output.spare)
+            ⊎ ((length self.new.raw_output.bytes ≡ 0) × (length self.new.raw_input.bytes + length self.new.input.bytes + length self.new.output.bytes ≤ hold))) }
+    {
+        let raw = self.raw_input.len();
+        let input = self.input.len();
+        if input > 0 || raw > READ_MARK {
+            self.input
+                .reserve(raw.min(READ_MARK.saturating_sub(input)))?;
+        }
+        let most = raw + input + self.output.len();
+        if self.raw_output.len() > 0 || most as u64 > hold {
+            self.raw_output.reserve(most)?;
+        }
+        Ok(())
+    }
+
+    /// The direction becomes held at the hold mark, and is no more held at half of it.
+    fn hold_back(&mut self, hold: u64)
+        ensures side { side_of self.new ≡ record (side_of self.old) { lane = held hold (lane_of self.old) } }
+        ensures spares { (self.new.input.spare ≡ self.old.input.spare) × (self.new.raw_output.spare ≡ self.old.raw_output.spare) }
+    {
+        let waiting = self.raw_output.len() as u64;
+        if waiting >= hold {
+            self.flow.held = true;
+        } else if waiting <= hold / 2 {
+            self.flow.held = false;
+        }
+    }
+
+    /// The read filter runs until the raw input is used up or the input reaches the read mark.
+    pub(crate) fn run_read_filter(&mut self, ended: bool)
+        requires { (used_now (buffers_of self.old) ≤ self.old.input.spare) ⊎ ((length self.old.input.bytes ≡ 0) × (length self.old.raw_input.bytes ≤ 16384)) }
+        ensures side { side_of self.new ≡ record (side_of self.old) { lane = read_filtered ended (lane_of self.old) } }
+        ensures spare { self.new.raw_output.spare ≡ self.old.raw_output.spare }
+    {
+        let count = self
+            .raw_input
+            .len()
+            .min(READ_MARK.saturating_sub(self.input.len()));
+        let done = ended && count == self.raw_input.len();
+        self.raw_input.give(&mut self.input, count);
+        self.flow.used += count as u64;
+        self.flow.read_done = self.flow.read_done || done;
+    }
+
+    /// The input goes whole to an empty output, unless the direction is held.
+    fn move_input(&mut self)
+        ensures side { side_of self.new ≡ record (side_of self.old) { lane = moved (lane_of self.old) } }
+        ensures spare { self.new.raw_output.spare ≡ self.old.raw_output.spare }
+    {
+        if !self.flow.held && self.output.len() == 0 {
+            self.flow.moved += self.input.len() as u64;
+            swap(&mut self.input, &mut self.output);
+        }
+    }
+
+    /// The write filter runs until the output is used up or the raw output reaches the hold mark.
+    fn run_write_filter(&mut self, hold: u64, finish: bool)
+        requires { (length self.old.output.bytes ≤ self.old.raw_output.spare) ⊎ ((length self.old.raw_output.bytes ≡ 0) × (length self.old.output.bytes ≤ hold)) }
+        ensures { side_of self.new ≡ record (side_of self.old) { lane = write_filtered hold finish (lane_of self.old) } }
+    {
+        if self.flow.held {
+            return;
+        }
+        let room = hold.saturating_sub(self.raw_output.len() as u64);
+        let count = self.output.len().min(room as usize);
+        let done = finish
+            && self.flow.read_done
+            && count == self.output.len()
+            && self.input.len() == 0;
+        self.output.give(&mut self.raw_output, count);
+        self.flow.turned += count as u64;
+        self.flow.write_done = self.flow.write_done || done;
+    }
+
+    /// One round, in room that was made before.
+    fn make_round(&mut self, hold: u64, ended: bool, from_live: bool, to_live: bool)
+        requires input { (used_now (buffers_of self.old) ≤ self.old.input.spare) ⊎ ((length self.old.input.bytes ≡ 0) × (length self.old.raw_input.bytes ≤ 16384)) }
+        requires raw_output { (length self.old.raw_input.bytes + length self.old.input.bytes + length self.old.output.bytes ≤ self.old.raw_output.spare)
+            ⊎ ((length self.old.raw_output.bytes ≡ 0) × (length self.old.raw_input.bytes + length self.old.input.bytes + length self.old.output.bytes ≤ hold)) }
+        ensures { side_of self.new ≡ record (side_of self.old) { lane = round hold ended from_live to_live (lane_of self.old) } }
+    {
+        if !to_live {
+            return;
+        }
+        self.hold_back(hold);
+        if from_live {
+            self.run_read_filter(ended);
+            self.move_input();
+            self.run_write_filter(hold, true);
+        } else {
+            self.run_write_filter(hold, false);
+        }
+    }
+
+    /// Rounds until one changes nothing.
+    pub(crate) fn pass(
+        &mut self,
+        hold: u64,
+        ended: bool,
+        from_live: bool,
+        to_live: bool,
+    ) -> Result<(), NoMemory>
+        ensures flags { (self.new.flags ≡ self.old.flags) × (self.new.read ≡ self.old.read) }
+        ensures lane { MatchResult result
+            (λ _. Passed (round hold ended from_live to_live) (lane_of self.old) (lane_of self.new))
+            (λ _. SomeRounds (round hold ended from_live to_live) (lane_of self.old) (lane_of self.new)) }
+    {
+        loop {
+            self.reserve_round(hold)?;
+            let before = self.flow;
+            self.make_round(hold, ended, from_live, to_live);
+            if same_progress(self.flow, before) {
+                return Ok(());
+            }
+        }
+    }
+}
+
+impl Relay {
+    ghost use Rattle.relay_core.specs.Passing.{PassedFrom, PartlyPassed};
+
+    /// Passes the direction that begins at the side: rounds until one changes nothing. Want of memory comes between two
+    /// rounds.
+    pub fn pass(&mut self, from: SideId) -> Result<(), NoMemory>
+        requires { from.link < self.old.state.opened }
+        ensures { MatchResult result (λ _. PassedFrom self.old.state from self.new.state) (λ _. PartlyPassed self.old.state from self.new.state) }
+    {
+        let hold = self.settings.hold;
+        let to_live = self.flags(from.peer()).live;
+        let own = &mut self.sides[from.number()];
+        let flags = own.flags;
+        own.pass(hold, flags.ended, flags.live, to_live)
+    }
+}

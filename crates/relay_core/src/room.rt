@@ -1,0 +1,96 @@
+// How many bytes may be read from a side's end and given to it now, and what a side wants.
+ghost use Rattle.std.specs.Prelude.{◌≡◌, ◌<◌};
+ghost use Rattle.relay_core.specs.State.{flags_at, with_flags};
+ghost use Rattle.relay_core.specs.Rooms.{may_read, may_write, read_room, write_room, offer as offer_of, wants_read, wants_write};
+
+use crate::flags::SideFlags;
+use crate::relay::Relay;
+use crate::side::READ_MARK;
+use ev_types::SideId;
+
+impl Relay {
+    /// What is so of the side.
+    pub fn flags(&self, side: SideId) -> SideFlags
+        requires { side.link < self.now.state.opened }
+        ensures { result ≡ flags_at self.now.state side }
+    {
+        self.sides[side.number()].flags
+    }
+
+    pub(crate) fn set_flags(&mut self, side: SideId, flags: SideFlags)
+        requires { side.link < self.old.state.opened }
+        ensures { self.new.state ≡ with_flags self.old.state side flags }
+    {
+        let own = &mut self.sides[side.number()];
+        own.flags = flags;
+    }
+
+    fn may_read(&self, side: SideId) -> bool
+        requires { side.link < self.now.state.opened }
+        ensures { result ≡ may_read self.now.state side }
+    {
+        let flags = self.flags(side);
+        let peer_live = self.flags(side.peer()).live;
+        flags.live && !flags.connecting && flags.reads && !flags.ended && !flags.failed && peer_live
+    }
+
+    fn may_write(&self, side: SideId) -> bool
+        requires { side.link < self.now.state.opened }
+        ensures { result ≡ may_write self.now.state side }
+    {
+        let flags = self.flags(side);
+        flags.live && !flags.connecting && flags.writes && !flags.failed && !flags.write_ended
+    }
+
+    /// How many bytes may be read from the side's end now, at most 16,384.
+    pub fn read_room(&self, side: SideId) -> usize
+        requires { side.link < self.now.state.opened }
+        ensures { result ≡ read_room self.now.state side }
+    {
+        if !self.may_read(side) {
+            return 0;
+        }
+        let own = &self.sides[side.number()];
+        READ_MARK.saturating_sub(own.input_len())
+    }
+
+    /// How many bytes may be given to the side's end now, at most 16,384.
+    pub fn write_room(&self, side: SideId) -> usize
+        requires { side.link < self.now.state.opened }
+        ensures { result ≡ write_room self.now.state side }
+    {
+        if !self.may_write(side) {
+            return 0;
+        }
+        let from = &self.sides[side.peer().number()];
+        from.raw_output.len().min(READ_MARK)
+    }
+
+    /// The bytes that are given to the side's end now: as many as there is room for.
+    pub fn offer(&self, side: SideId) -> &[u8]
+        requires { side.link < self.now.state.opened }
+        ensures { result.now ≡ offer_of self.now.state side }
+    {
+        let room = self.write_room(side);
+        let from = &self.sides[side.peer().number()];
+        let (offer, _) = from.raw_output.as_slice().split_at(room);
+        offer
+    }
+
+    /// Whether the side wants to be read.
+    pub fn wants_read(&self, side: SideId) -> bool
+        requires { side.link < self.now.state.opened }
+        ensures { result ≡ wants_read self.now.state side }
+    {
+        self.read_room(side) > 0
+    }
+
+    /// Whether the side wants to be written, or to be told that it is connected.
+    pub fn wants_write(&self, side: SideId) -> bool
+        requires { side.link < self.now.state.opened }
+        ensures { result ≡ wants_write self.now.state side }
+    {
+        let flags = self.flags(side);
+        self.write_room(side) > 0 || (flags.live && flags.connecting && !flags.failed)
+    }
+}

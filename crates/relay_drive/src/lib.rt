@@ -1,0 +1,24 @@
+//! The order of a turn: the port's calls, the changes of the relay that they lead to, and the entries of the trace. No
+//! rule on bytes stands here.
+//!
+//! A turn has seven phases: clock, time, poll, serve, dispatch, pass and close. Time and dispatch have nothing to do
+//! yet: nothing is timed, and there is no hook.
+#![tactic(auto)]
+
+mod accept;
+mod ask;
+mod close;
+mod drive;
+mod fault;
+mod pass;
+mod poll;
+mod run;
+mod serve;
+mod turn;
+
+pub use drive::Drive;
+pub use fault::{DriveFault, TurnEnd};
+pub use relay_core::{LinkCount, Settings};
+
+#[cfg(test)]
+mod tests;

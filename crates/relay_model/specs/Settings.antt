@@ -1,0 +1,87 @@
+-- What a run was started with. What it does with that stands in the modules behind.
+use Rattle.std.specs.Prelude.{ℕ, List, [], Option, Some, None}
+use Rattle.ev_types.specs.declared.side.Side.{Side}
+use Rattle.ev_types.specs.declared.side.Side.TheVariants.{In, Out}
+use Rattle.ev_types.specs.declared.side.SideId.{SideId}
+use Rattle.ev_types.specs.declared.filter.FilterKind.{FilterKind}
+use Rattle.ev_types.specs.declared.filter.FilterKind.TheVariants as kind
+use Rattle.token_bucket.specs.declared.limit.LimitCfg.{LimitCfg}
+
+-- Marks of a side, in bytes. A high mark of 0 is none.
+pub record Marks : Type 0 where
+  pub read_low : ℕ
+  pub read_high : ℕ
+  pub write_low : ℕ
+  pub write_high : ℕ
+
+-- Timeouts of a side, in milliseconds. 0 is none.
+pub record Timeouts : Type 0 where
+  pub read_ms : ℕ
+  pub write_ms : ℕ
+
+-- a group: the limit that its members share, and the least share of one of them
+pub record GroupSet : Type 0 where
+  pub cfg : LimitCfg
+  pub share : ℕ
+
+pub record Settings : Type 0 where
+  pub hold : ℕ  -- the hold mark, in bytes
+  pub in_read : FilterKind
+  pub in_write : FilterKind
+  pub out_read : FilterKind
+  pub out_write : FilterKind
+  pub in_rate : Option LimitCfg
+  pub out_rate : Option LimitCfg
+  pub groups : List GroupSet
+  pub in_group : Option ℕ
+  pub out_group : Option ℕ
+  pub in_marks : Marks
+  pub out_marks : Marks
+  pub in_timeouts : Timeouts
+  pub out_timeouts : Timeouts
+  pub links : ℕ  -- the greatest number of links
+  pub hooks : List SideId  -- the sides with a hook
+
+abbrev pub no_marks : Marks
+no_marks = record { read_low = 0; read_high = 0; write_low = 0; write_high = 0 }
+
+abbrev pub no_timeouts : Timeouts
+no_timeouts = record { read_ms = 0; write_ms = 0 }
+
+-- no filters, limits, groups, marks, timeouts and hooks; 524,288 bytes are held, and 256 links may come
+abbrev pub usual : Settings
+usual = record {
+  hold = 524288;
+  in_read = kind.None;
+  in_write = kind.None;
+  out_read = kind.None;
+  out_write = kind.None;
+  in_rate = None;
+  out_rate = None;
+  groups = [];
+  in_group = None;
+  out_group = None;
+  in_marks = no_marks;
+  out_marks = no_marks;
+  in_timeouts = no_timeouts;
+  out_timeouts = no_timeouts;
+  links = 256;
+  hooks = [];
+}
+
+-- What a side gets of them as its link opens: its limit, its group, its marks and its timeouts.
+abbrev pub rate_set : Settings → Side → Option LimitCfg
+rate_set g In = g.in_rate
+rate_set g Out = g.out_rate
+
+abbrev pub group_set : Settings → Side → Option ℕ
+group_set g In = g.in_group
+group_set g Out = g.out_group
+
+abbrev pub marks_set : Settings → Side → Marks
+marks_set g In = g.in_marks
+marks_set g Out = g.out_marks
+
+abbrev pub timeouts_set : Settings → Side → Timeouts
+timeouts_set g In = g.in_timeouts
+timeouts_set g Out = g.out_timeouts

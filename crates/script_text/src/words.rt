@@ -1,0 +1,92 @@
+// The pieces of a text, the words of a line, and the numbers and bytes that words spell. What a line says with
+// them is left to the grammar.
+ghost use Rattle.std.specs.Prelude.{◌≡◌, ◌<◌, ◌≤◌, ◌^◌, ◌∷◌, length, map, IfOk, option_map, position, ◌==◌, IfSome};
+ghost use Rattle.script_text.specs.Pieces.{pieces, words};
+ghost use Rattle.script_text.specs.Numbers.{bytes_of, number_within};
+
+use ev_types::NoMemory;
+use hex::FromHexError;
+use std::alloc::Global;
+
+/// The greatest number of a script.
+pub const MAX_NUMBER: u64 = 1 << 62;
+
+/// The fewest hex digits of a word that spells bytes.
+const MIN_HEX_DIGITS: usize = 2;
+
+/// The most hex digits of a word that spells bytes.
+const MAX_HEX_DIGITS: usize = 65_536;
+
+/// The place of the first `stop`.
+fn place_of(text: &[u8], stop: u8) -> Option<usize>
+    ensures { result ≡ position (λ b. b == stop) text.now }
+{
+    text.iter().position(|b| *b == stop)
+}
+
+/// The bytes before the first `stop`, and what is behind it.
+pub fn first_piece(text: &[u8], stop: u8) -> (&[u8], &[u8])
+    ensures pieces { 0 < length text.now → pieces stop text.now ≡ result.0.now ∷ pieces stop result.1.now }
+    ensures shorter { 0 < length text.now → length result.1.now < length text.now }
+{
+    match place_of(text, stop) {
+        Some(at) => {
+            let (piece, rest) = text.split_at(at);
+            (piece, rest.split_at(1).1)
+        }
+        None => (text, &[]),
+    }
+}
+
+/// The words of a line. Takes memory for their list.
+pub fn words_of<'a>(alloc: Global, line: &'a [u8]) -> Result<Vec<&'a [u8]>, NoMemory>
+    ensures { IfOk result (λ all. map (λ w. w.now) all.items ≡ words line.now) }
+{
+    let mut all = Vec::new(alloc);
+    let mut rest = line;
+    while !rest.is_empty() {
+        let (word, after) = first_piece(rest, b' ');
+        if !word.is_empty() {
+            all.push(word)?;
+        }
+        rest = after;
+    }
+    Ok(all)
+}
+
+/// The number that a word of decimal digits spells, without a sign and without a leading zero. `None` also for a
+/// number above `max`.
+pub fn number(word: &[u8], max: u64) -> Option<u64>
+    requires { max ≤ MAX_NUMBER }
+    ensures value { result ≡ number_within max word.now }
+    ensures within { IfSome result (λ n. n ≤ max) }
+{
+    if word.is_empty() || (word.len() > 1 && word[0] == b'0') {
+        return None;
+    }
+    let mut value: u64 = 0;
+    for digit in word {
+        if !digit.is_ascii_digit() {
+            return None;
+        }
+        if value > max / 10 {
+            return None;
+        }
+        value = value * 10 + u64::from(*digit - b'0');
+    }
+    (value <= max).then_some(value)
+}
+
+/// The bytes that a word of hex digits spells. Takes memory for them.
+pub fn hex_bytes(alloc: Global, word: &[u8]) -> Result<Option<Vec<u8>>, NoMemory>
+    ensures { IfOk result (λ bytes. option_map (λ v. v.items) bytes ≡ bytes_of word.now) }
+{
+    if word.len() < MIN_HEX_DIGITS || word.len() > MAX_HEX_DIGITS {
+        return Ok(None);
+    }
+    match hex::decode(alloc, word) {
+        Ok(bytes) => Ok(Some(bytes)),
+        Err(FromHexError::OutOfMemory) => Err(NoMemory),
+        Err(_) => Ok(None),
+    }
+}
