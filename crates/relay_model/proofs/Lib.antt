@@ -28,6 +28,7 @@ pub mod ReachLemmas
 pub mod RatesTold
 pub mod RatesLaw
 pub mod ListEnds
+pub mod SpellLemmas
 pub mod EndLemmas
 pub mod KeepsLemmas
 pub mod SeenLemmas
