@@ -29,6 +29,7 @@ pub mod RatesTold
 pub mod RatesLaw
 pub mod ListEnds
 pub mod SpellLemmas
+pub mod RateSteps
 pub mod EndLemmas
 pub mod KeepsLemmas
 pub mod SeenLemmas
