@@ -30,6 +30,9 @@ pub mod ReachLemmas
 pub mod RatesTold
 pub mod RatesLaw
 pub mod ListEnds
+pub mod SpellLemmas
+pub mod RateSteps
+pub mod RateBound
 pub mod EndLemmas
 pub mod KeepsLemmas
 pub mod SeenLemmas
