@@ -1,10 +1,10 @@
 -- What is read in a played run is what the script brought in.
-use Rattle.std.proofs.Common.{◌≡◌, ℕ, zero, suc, ◌+◌, ◌≤◌, Bool, true, false, ◌&&◌, ◌==◌, if◌then◌else◌, List, [], ◌∷◌, ◌++◌, length, take, drop, map, min, fold, count_by, nat_le, append_assoc, refl, sym, ◌∙◌, ap, subst, arith, eqb-true}
+use Rattle.std.proofs.Common.{◌≡◌, ℕ, zero, suc, ◌+◌, Bool, true, false, ◌==◌, if◌then◌else◌, List, [], ◌∷◌, ◌++◌, length, take, drop, min, fold, count_by, nat_le, append_assoc, refl, sym, ◌∙◌, ap, subst, arith, eqb-true}
 use Rattle.std.specs.List.{flat_map}
 use Rattle.std.proofs.lemmas.Bool.{and_parts}
 use Rattle.std.proofs.lemmas.Grind.{flat_map-append}
 use Rattle.std.proofs.lemmas.List.{append-nil, take-append-drop, take-take}
-use Rattle.std.proofs.lemmas.List.Sums.{sum_by-append, sum_by-cons}
+use Rattle.std.proofs.lemmas.List.Sums.{sum_by-append}
 use Rattle.ev_types.specs.declared.side.Side.{Side}
 use Rattle.ev_types.specs.declared.side.Side.TheVariants.{In, Out}
 use Rattle.ev_types.specs.declared.side.SideId.{SideId}
@@ -14,15 +14,15 @@ use Rattle.ev_types.specs.declared.entry.Entry.{Entry}
 use Rattle.ev_types.specs.declared.entry.Entry.TheVariants as entry
 use Rattle.ev_types.specs.Sides.{same_side, same_end}
 use Rattle.ev_types.specs.Trace.{Event, Trace}
-use Rattle.relay_model.specs.Trace.{bytes_read, read_by}
+use Rattle.relay_model.specs.Trace.{bytes_read}
 use Rattle.relay_model.specs.FilterLaws.{IsPrefixOf}
 use Rattle.relay_model.specs.Rooms.{Want}
 use Rattle.relay_model.specs.RatesKept.{is_turn}
 use Rattle.relay_model.specs.Lines.{brings}
 use Rattle.relay_model.specs.Script.{ScriptTurn}
 use Rattle.relay_model.specs.Totals.{opened}
-use Rattle.relay_model.specs.Scripted.{lines, pending, waiting, poll_fails, marks, reads_fail, is_ended, read_answer}
-use Rattle.relay_model.specs.Plays.{Step, want_events, ready_events, accepted, own_events, events, trace_of, IsAnswered, ReadsWhatComes}
+use Rattle.relay_model.specs.Scripted.{pending, waiting, poll_fails, marks, reads_fail, is_ended}
+use Rattle.relay_model.specs.Plays.{Step, want_events, ready_events, accepted, own_events, events, IsAnswered, ReadsWhatComes}
 use Rattle.relay_model.proofs.ListLemmas.{IsPrefixOf-append, IsPrefixOf-rest, IsPrefixOf-trans}
 use Rattle.relay_model.proofs.TraceLemmas.{bytes_read-append}
 
@@ -139,6 +139,7 @@ module _ (e : SideId) where
       where
         whole : bytes_read e (events turns closing_by t (Step.Read s room)) ≡ (if same_end s e then take room (pending turns t s) else [])
         whole = read_of s room (pending turns t s) (nat_le 1 (length (pending turns t s))) (reads_fail turns t s) (is_ended turns t s) refl
+
         go : (c : Bool) → same_end s e ≡ c → Fits (t ++ events turns closing_by t (Step.Read s room))
         go false h = fits-silent t (events turns closing_by t (Step.Read s room)) (record { reads = whole ∙ ap (λ c. if c then take room (pending turns t s) else []) h; turns = refl }) fits
         go true h =
@@ -148,12 +149,12 @@ module _ (e : SideId) where
             let rest = drop (length gone) all in
             let own : pending turns t s ≡ rest = ap (λ z. pending turns t z) (same_end-eq s e h) in
             let now : bytes_read e (t ++ u) ≡ gone ++ take room rest =
-                bytes_read-append e t u ∙ ap (λ z. gone ++ z) (whole ∙ ap (λ c. if c then take room (pending turns t s) else []) h ∙ ap (take room) own) in
+            bytes_read-append e t u ∙ ap (λ z. gone ++ z) (whole ∙ ap (λ c. if c then take room (pending turns t s) else []) h ∙ ap (take room) own) in
             let parts = sum_by-append (λ x. if is_turn x then 1 else 0) t u in
             let count : count_by is_turn (t ++ u) ≡ count_by is_turn t = omega (arith, parts) in
             let fit : IsPrefixOf (gone ++ take room rest) all =
-                IsPrefixOf-append (gone ++ take room rest) (drop room rest) all
-                (append_assoc gone (take room rest) (drop room rest) ∙ ap (λ z. gone ++ z) (take-append-drop room rest) ∙ IsPrefixOf-rest gone all fits) in
+            IsPrefixOf-append (gone ++ take room rest) (drop room rest) all
+            (append_assoc gone (take room rest) (drop room rest) ∙ ap (λ z. gone ++ z) (take-append-drop room rest) ∙ IsPrefixOf-rest gone all fits) in
             subst (λ z. IsPrefixOf z (came (count_by is_turn (t ++ u)))) (sym now) (subst (λ n. IsPrefixOf (gone ++ take room rest) (came n)) (sym count) fit)
 
     fits-step : (t : Trace) (x : Step) → Fits t → Fits (t ++ events turns closing_by t x)
