@@ -2,7 +2,7 @@
 
 use crate::accept::accept;
 use crate::fault::DriveFault;
-use crate::run::Run;
+use crate::run::{Run, put};
 use ev_port::{Polled, Port, Scribe, Want};
 use ev_types::{Entry, Side, SideId};
 use relay_core::Relay;
@@ -49,7 +49,7 @@ fn put_wants<S: Scribe>(run: &mut Run, scribe: &mut S, wants: &[Want]) {
             read: want.read,
             write: want.write,
         };
-        run.put(scribe, entry, &[]);
+        put(&mut run.entries, scribe, entry, &[]);
     }
 }
 
@@ -62,7 +62,7 @@ fn put_marks<S: Scribe>(run: &mut Run, scribe: &mut S, wants: &[Want]) {
                 read: want.can_read,
                 write: want.can_write,
             };
-            run.put(scribe, entry, &[]);
+            put(&mut run.entries, scribe, entry, &[]);
         }
     }
 }
@@ -76,7 +76,7 @@ fn ask_poll<P: Port, S: Scribe>(
 ) -> Result<bool, DriveFault> {
     let entries = wants.len().saturating_mul(2).saturating_add(2);
     scribe.reserve(entries, 0)?;
-    run.put(scribe, Entry::Poll { timeout: None }, &[]);
+    put(&mut run.entries, scribe, Entry::Poll { timeout: None }, &[]);
     put_wants(run, scribe, wants);
     match port.poll(wants, run.relay.can_open(), None) {
         Polled::Ready { accept } => {
@@ -84,7 +84,7 @@ fn ask_poll<P: Port, S: Scribe>(
             Ok(accept)
         }
         Polled::Failed => {
-            run.put(scribe, Entry::PollFailed, &[]);
+            put(&mut run.entries, scribe, Entry::PollFailed, &[]);
             Err(DriveFault::PollFault)
         }
     }

@@ -5,7 +5,7 @@ use crate::close::close;
 use crate::fault::DriveFault;
 use crate::pass::pass;
 use crate::poll::poll;
-use crate::run::Run;
+use crate::run::{Run, put};
 use crate::serve::serve;
 use ev_port::{Port, Scribe};
 use ev_types::Entry;
@@ -19,7 +19,7 @@ fn clock<P: Port, S: Scribe>(
 ) -> Result<(), DriveFault> {
     scribe.reserve(1, 0)?;
     let ms = run.relay.begin(port.now());
-    run.put(scribe, Entry::Turn { ms }, &[]);
+    put(&mut run.entries, scribe, Entry::Turn { ms }, &[]);
     Ok(())
 }
 
@@ -34,6 +34,6 @@ pub(crate) fn turn<P: Port, S: Scribe>(
     clock(run, port, scribe)?;
     let wants = poll(run, alloc, port, scribe)?;
     serve(run, &wants, inbox, port, scribe)?;
-    pass(run)?;
+    pass(&mut run.relay)?;
     close(run, port, scribe)
 }

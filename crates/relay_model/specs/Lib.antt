@@ -28,8 +28,10 @@ pub mod RatesKept
 pub mod Stands
 pub mod Totals
 pub mod Tied
+pub mod TurnLaws
 pub mod Lines
 pub mod Script
 pub mod Scripted
 pub mod Plays
+pub mod Told
 pub mod Hooked

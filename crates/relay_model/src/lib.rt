@@ -4,6 +4,7 @@
 
 mod laws;
 mod played_laws;
+mod turn_laws;
 
 pub use laws::{
     a_running_filter_is_known, a_switched_filter_is_lawful, all_is_there, every_filter_is_lawful,
@@ -14,3 +15,4 @@ pub use played_laws::{
     Vouches, answers_go_on, any_stage_holds, cuts_join, end_ties_join, nothing_is_tied,
     nothing_stands, steps_join, what_comes_is_read,
 };
+pub use turn_laws::{beginnings_are_legal, trace_tells_rates, trace_tells_shape};

@@ -1,0 +1,14 @@
+pub mod SameLemmas
+pub mod PutLemmas
+pub mod PutConverse
+pub mod QuietLemmas
+pub mod ReplayLemmas
+pub mod OrderLemmas
+pub mod OnceLemmas
+pub mod RefusalLemmas
+pub mod IllegalLemmas
+pub mod PlainRowsReplayed
+pub mod FilterRowsReplayed
+pub mod HookRowsReplayed
+pub mod RateRowsReplayed
+pub mod WrongRowsRefused
