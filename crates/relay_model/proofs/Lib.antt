@@ -46,3 +46,8 @@ pub mod CloseCases
 pub mod StepLemmas
 pub mod StageLemmas
 pub mod ToldLemmas
+pub mod SplitLemmas
+pub mod KindLemmas
+pub mod FireLemmas
+pub mod HeldLemmas
+pub mod QuietLemmas
