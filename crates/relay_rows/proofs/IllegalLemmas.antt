@@ -8,9 +8,9 @@ use Rattle.relay_model.specs.Settings.{Settings}
 use Rattle.relay_model.specs.Stages.{State, start}
 use Rattle.relay_model.specs.Turn.{Reaches, Puts, Quietly}
 use Rattle.relay_rows.specs.Replay.{most_silent, step, replay_from, replay, rest_within, rest, refuses}
-use Rattle.relay_rows.specs.Laws.{RefusedIsIllegal}
+use Rattle.relay_rows.specs.Laws.{Ahead, AllLiesAhead, RefusedIsIllegal}
 use Rattle.relay_rows.proofs.ReplayLemmas.{replay-is}
-use Rattle.relay_rows.proofs.OrderLemmas.{Ahead, Rise}
+use Rattle.relay_rows.proofs.OrderLemmas.{Rise}
 use Rattle.relay_rows.proofs.OnceLemmas.{unmarked, quietly-rise, puts-rise}
 use Rattle.relay_rows.proofs.RefusalLemmas.{agrees}
 
@@ -91,15 +91,15 @@ replay_from-more (c ∷ es) g t x mid a e h q = found (step g t x c) refl (λ ne
         ∙ more new h (subst (λ u. step g u mid e ≡ Some a) (sym (append_assoc t (c ∷ []) es)) q)
 
 -- Whatever a replayed trace leads to lies ahead of the state of the replay.
-pub replayed-leads : (g : Settings) (t : Trace) (s : State) → Reaches g t s → (a : State) → replay g t ≡ Some a → (k : ℕ) × Ahead g t k a s
-replayed-leads g _ _ Reaches.begins a h = let same : a ≡ start = cc in (zero, same)
-replayed-leads g t new (Reaches.goes {s = old} r q) a h =
-    let w = replayed-leads g t old r a h in
+pub replayed-leads : AllLiesAhead
+replayed-leads g _ _ a Reaches.begins h = let same : a ≡ start = cc in (zero, same)
+replayed-leads g t new a (Reaches.goes {s = old} r q) h =
+    let w = replayed-leads g t old a r h in
     (suc w.0, ahead-goes g t w.0 a old new w.1 q)
-replayed-leads g _ new (Reaches.puts {t = u} {s = old} x bytes r q) a h =
+replayed-leads g _ new a (Reaches.puts {t = u} {s = old} x bytes r q) h =
     let before = replay_from-last u g [] start a (x, bytes) h in
     let mid = before.0 in
-    let w = replayed-leads g u old r mid before.1 in
+    let w = replayed-leads g u old mid r before.1 in
     let put = agrees g u (x, bytes) old new q w.0 w.0 most_silent mid.stage mid.plain (omega arith)
           (reaches-rise g u mid (replay-is g u mid before.1)) w.1 (inr (a, before.2)) in
     let same : a ≡ new = cc (before.2, put) in
@@ -127,7 +127,7 @@ refuses-is g t e h =
     ((x, reached),
      λ legal.
        let last = last_put g (t ++ e ∷ []) legal.0 legal.1 t e refl in
-       let way = replayed-leads g t last.0 last.2 x here.1 in
+       let way = replayed-leads g t last.0 x last.2 here.1 in
        let put = agrees g t e last.0 last.1 last.3 way.0 way.0 most_silent x.stage x.plain (omega arith)
              (reaches-rise g t x reached) way.1 (inl here.2) in
        none_of (replay g (t ++ e ∷ [])) last.1 w.1 (replay_from-more t g [] start x last.1 e here.1 put))

@@ -7,6 +7,7 @@ pub mod OrderLemmas
 pub mod OnceLemmas
 pub mod RefusalLemmas
 pub mod IllegalLemmas
+pub mod AcceptLemmas
 pub mod PlainRowsReplayed
 pub mod FilterRowsReplayed
 pub mod HookRowsReplayed

@@ -21,7 +21,8 @@ use Rattle.relay_model.specs.Serve.{Call, call_for}
 use Rattle.relay_model.specs.Close.{closing_entry}
 use Rattle.relay_model.specs.Stages.{Fire, Halt, Stage, Between, Polling, Wanting, Marking, Accepting, Serving, Filtering, Dispatching, Firing, Freeing, Passing, Closing, Over, State, at, after_ask}
 use Rattle.relay_model.specs.Turn.{Puts, Quietly, after_fire, after_reading}
-use Rattle.relay_rows.proofs.OrderLemmas.{rank, Ahead, ahead-rank, fired-rank, no_closing, no_freeing, poll_failed-rank, opened-rank, asked-rank, Rise, rise-weaken, wanted-rise}
+use Rattle.relay_rows.specs.Laws.{Ahead}
+use Rattle.relay_rows.proofs.OrderLemmas.{rank, ahead-rank, fired-rank, no_closing, no_freeing, poll_failed-rank, opened-rank, asked-rank, Rise, rise-weaken, wanted-rise}
 
 -- the sides of which marks may still be set
 abbrev pub unmarked : Stage → List Want

@@ -19,11 +19,12 @@ use Rattle.relay_model.specs.Turn.{Reaches, Puts, Quietly}
 use Rattle.relay_rows.specs.Put.{put, provided, asks_nothing}
 use Rattle.relay_rows.specs.Quiet.{leaves, is_passed, quiet}
 use Rattle.relay_rows.specs.Replay.{most_silent, step_within, step, replay_from, replay, rest_within}
+use Rattle.relay_rows.specs.Laws.{Ahead}
 use Rattle.relay_rows.proofs.PutLemmas.{put-is}
 use Rattle.relay_rows.proofs.PutConverse.{provided-from, put-from}
 use Rattle.relay_rows.proofs.QuietLemmas.{do_part-same}
 use Rattle.relay_rows.proofs.ReplayLemmas.{replay-is}
-use Rattle.relay_rows.proofs.OrderLemmas.{rank, Ahead, Rise}
+use Rattle.relay_rows.proofs.OrderLemmas.{rank, Rise}
 use Rattle.relay_rows.proofs.OnceLemmas.{unmarked, quietly-rise, puts-rise, put_once}
 
 -- Where the relation may go another way than the replay: a direction that is passed has one round more, or one is passed
