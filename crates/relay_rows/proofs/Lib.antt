@@ -12,4 +12,6 @@ pub mod PlainRowsReplayed
 pub mod FilterRowsReplayed
 pub mod HookRowsReplayed
 pub mod RateRowsReplayed
+pub mod EdgeRowsReplayed
+pub mod AskRowsReplayed
 pub mod WrongRowsRefused
