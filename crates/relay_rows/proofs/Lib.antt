@@ -15,3 +15,4 @@ pub mod RateRowsReplayed
 pub mod EdgeRowsReplayed
 pub mod AskRowsReplayed
 pub mod WrongRowsRefused
+pub mod WrongEdgesRefused

@@ -11,3 +11,4 @@ pub mod RateRows
 pub mod EdgeRows
 pub mod AskRows
 pub mod WrongRows
+pub mod WrongEdges

@@ -20,7 +20,7 @@ pub record Wrong : Type 0 where
 abbrev pub IsWrong : Wrong → Type 0
 IsWrong x = IsRefused x.settings x.before x.event
 
-abbrev wrong : Settings → Trace → Event → Wrong
+abbrev pub wrong : Settings → Trace → Event → Wrong
 wrong g t e = record { settings = g; before = t; event = e }
 
 -- One link is open, and another turn polls. Both sides want to read, and In is marked. In gives two bytes.
