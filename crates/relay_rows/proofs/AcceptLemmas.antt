@@ -3,15 +3,13 @@ use Rattle.std.specs.Prelude.{IsSome}
 use Rattle.std.proofs.Common.{◌≡◌, ℕ, Option, Some, None, option_map, refl}
 use Rattle.ev_types.specs.Trace.{Trace}
 use Rattle.relay_model.specs.Settings.{Settings}
-use Rattle.relay_model.specs.Stages.{Halt, Stage, State, at}
-use Rattle.relay_model.specs.Turn.{Reaches}
-use Rattle.relay_model.specs.Answers.{TurnAnswer, LeftAt}
+use Rattle.relay_model.specs.Stages.{Halt, Stage, State}
 use Rattle.relay_rows.specs.Replay.{most_silent, replay, rest_within, stage_after}
-use Rattle.relay_rows.specs.Laws.{Accepts, Goes, IsStoppedBy, FailsToPoll}
+use Rattle.relay_rows.specs.Laws.{Goes, IsStoppedBy, FailsToPoll}
 use Rattle.relay_rows.proofs.ReplayLemmas.{stage_after-is}
 
 is_replayed : (g : Settings) (t : Trace) (o : Option State) (x : Stage) →
-    option_map (λ s. s.stage) (elim o [ | Some y ↦ rest_within most_silent g t y | None ↦ None ]) ≡ Some x → IsSome o
+    option_map (λ s. s.stage) (elim o [ Some y ↦ rest_within most_silent g t y | None ↦ None ]) ≡ Some x → IsSome o
 is_replayed g t None x h = absurd (cc)
 is_replayed g t (Some y) x h = refl
 

@@ -1,8 +1,8 @@
 -- Each run with hooks or timeouts is accepted.
 use Rattle.std.specs.Prelude.{refl}
-use Rattle.relay_rows.specs.Laws.{Goes, IsStoppedBy, FailsToPoll}
+use Rattle.relay_rows.specs.Laws.{Goes, IsStoppedBy}
 use Rattle.relay_rows.specs.HookRows.{held_byte_dropped, frees_another_link, frees_the_peer_twice, read_timeout, timer_fires, hook_stops, hook_and_lf_in, hook_in, three_hooks, timeout_in}
-use Rattle.relay_rows.proofs.AcceptLemmas.{rests-went, rests-stopped, rests-failed}
+use Rattle.relay_rows.proofs.AcceptLemmas.{rests-went, rests-stopped}
 
 pub held_byte_dropped-goes : Goes hook_and_lf_in held_byte_dropped
 held_byte_dropped-goes = rests-went hook_and_lf_in held_byte_dropped refl

@@ -1,8 +1,8 @@
 -- Each run with limits is accepted.
 use Rattle.std.specs.Prelude.{refl}
-use Rattle.relay_rows.specs.Laws.{Goes, IsStoppedBy, FailsToPoll}
+use Rattle.relay_rows.specs.Laws.{Goes}
 use Rattle.relay_rows.specs.RateRows.{read_in_ticks, shared_by_three, limited_in, one_group}
-use Rattle.relay_rows.proofs.AcceptLemmas.{rests-went, rests-stopped, rests-failed}
+use Rattle.relay_rows.proofs.AcceptLemmas.{rests-went}
 
 pub read_in_ticks-goes : Goes limited_in read_in_ticks
 read_in_ticks-goes = rests-went limited_in read_in_ticks refl

@@ -1,5 +1,5 @@
 -- Runs in which hooks hear each kind of reason and ask most of what they can. Each line was worked out by hand from the rules.
-use Rattle.std.specs.Prelude.{ℕ, ◌+◌, ◌^◌, [], ◌∷◌, Some}
+use Rattle.std.specs.Prelude.{◌+◌, ◌^◌, [], ◌∷◌, Some}
 use Rattle.token_bucket.specs.declared.limit.Dir.TheVariants as dir
 use Rattle.ev_types.specs.declared.act.Act.TheVariants as act
 use Rattle.ev_types.specs.declared.answer.AskAnswer.TheVariants as ask

@@ -1,11 +1,11 @@
 -- More traces that can stand, each with one event behind it that can't: at the edges of filters, marks, limits and timeouts.
-use Rattle.std.specs.Prelude.{ℕ, [], ◌∷◌, ◌++◌}
+use Rattle.std.specs.Prelude.{[], ◌∷◌, ◌++◌}
 use Rattle.ev_types.specs.declared.why.Cause.TheVariants as cause
 use Rattle.ev_types.specs.declared.why.Why.TheVariants as why
 use Rattle.ev_types.specs.declared.act.Act.TheVariants as act
 use Rattle.ev_types.specs.declared.answer.AskAnswer.TheVariants as ask
 use Rattle.token_bucket.specs.declared.limit.Dir.TheVariants as dir
-use Rattle.ev_types.specs.Trace.{Event, Trace}
+use Rattle.ev_types.specs.Trace.{Trace}
 use Rattle.relay_model.specs.Settings.{usual}
 use Rattle.relay_model.specs.Due.{event}
 use Rattle.relay_rows.specs.RowWords.{in_of, out_of, turn, poll, poll_for, wants_read, wants_write, wants_both, can_read, can_write, opens, opens_waiting, connects, gets, ends, takes, fires, asks, frees, ends_writing}

@@ -1,10 +1,9 @@
 -- Traces that can stand, each with one event behind it that can't. They are small changes of worked runs.
-use Rattle.std.specs.Prelude.{ℕ, [], ◌∷◌, ◌++◌, replicate}
+use Rattle.std.specs.Prelude.{[], ◌∷◌, ◌++◌, replicate}
 use Rattle.ev_types.specs.declared.act.Act.TheVariants as act
 use Rattle.ev_types.specs.declared.answer.AskAnswer.TheVariants as ask
 use Rattle.ev_types.specs.declared.why.Cause.TheVariants as cause
 use Rattle.ev_types.specs.declared.why.Why.TheVariants as why
-use Rattle.token_bucket.specs.declared.limit.Dir.TheVariants as dir
 use Rattle.ev_types.specs.Trace.{Event, Trace}
 use Rattle.relay_model.specs.Settings.{Settings, usual}
 use Rattle.relay_rows.specs.Laws.{IsRefused}
