@@ -1,2 +1,4 @@
 pub mod Pieces
 pub mod StraightLemmas
+pub mod EndLemmas
+pub mod AgreeLemmas
