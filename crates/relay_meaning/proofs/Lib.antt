@@ -2,3 +2,4 @@ pub mod Pieces
 pub mod StraightLemmas
 pub mod EndLemmas
 pub mod AgreeLemmas
+pub mod RoomLemmas
