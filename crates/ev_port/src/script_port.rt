@@ -1,7 +1,7 @@
 // A port that answers by a script. Each reading of the clock begins the script's next turn and applies its lines; every
 // other call is answered from what the lines so far left. It waits for nothing, meets no fault, and keeps all that it is
 // told and all that it took.
-ghost use Rattle.std.specs.Prelude.{◌≡◌, ◌<◌, ⊤, [], true, length, take, drop, map, IfOk};
+ghost use Rattle.std.specs.Prelude.{◌≡◌, ◌<◌, ⊤, [], true, false, length, take, drop, map, IfOk};
 ghost use Rattle.ev_types.specs.Growth.{Longer};
 ghost use Rattle.ev_port.specs.Told.{EndsWent, AllWent, PortStays, no_step};
 ghost use Rattle.ev_port.specs.Faults.{FaultsStay, EndFaults, PollFaults, ListenerFaults};
@@ -145,6 +145,7 @@ impl Port for ScriptPort {
     fn start(&mut self, listen: Addr, to: Addr) -> Started
         ensures answer { result ≡ Started.Started }
         ensures after { self.new ≡ after_start self.old listen to }
+        ensures never_fails { is_failed_start result ≡ false }
 
         // What every port says.
         ensures cause { ListenerFaults no_faults no_faults (is_failed_start result) }
@@ -176,6 +177,7 @@ impl Port for ScriptPort {
         ensures answer { result ≡ Polled.Ready (poll_accepts self.old accept) }
         ensures marks { wants.new ≡ map (λ w. marked self.old.links w) wants.old }
         ensures after { self.new ≡ after_poll self.old wants.new accept timeout }
+        ensures never_fails { is_failed_poll result ≡ false }
 
         // What every port says.
         ensures marked { AllMarked wants.old wants.new }
@@ -197,6 +199,7 @@ impl Port for ScriptPort {
     fn accept(&mut self, link: u32) -> Accepted
         ensures answer { result ≡ accept_answer self.old.links.waiting }
         ensures after { self.new ≡ after_accept self.old link }
+        ensures never_fails { is_failed_accept result ≡ false }
 
         // What every port says.
         ensures cause { ListenerFaults no_faults no_faults (is_failed_accept result) }
@@ -212,6 +215,7 @@ impl Port for ScriptPort {
     fn connect_state(&mut self, end: SideId) -> ConnAnswer
         ensures answer { result ≡ conn_answer_at self.old.links end }
         ensures after { self.new ≡ record self.old { links = at_end end after_check self.old.links } }
+        ensures never_fails { is_failed_conn result ≡ false }
 
         // What every port says.
         ensures cause { EndFaults no_faults no_faults end (is_failed_conn result) }
@@ -228,6 +232,7 @@ impl Port for ScriptPort {
         ensures bytes { got_bytes result into.new ≡ take (length into.old) (pending_at self.old.links end) }
         ensures rest { drop (length (got_bytes result into.new)) into.new ≡ drop (length (got_bytes result into.new)) into.old }
         ensures after { self.new ≡ record self.old { links = at_end end (λ s. after_read s (length into.old)) self.old.links } }
+        ensures never_fails { is_failed_read result ≡ false }
 
         // What every port says.
         ensures within { ReadWithin result (length into.new) }
@@ -243,6 +248,7 @@ impl Port for ScriptPort {
         requires { 0 < length from.now }
         ensures wrote { WroteAt self.old.links self.new.links end from.now result }
         ensures after { self.new ≡ record self.old { links = self.new.links } }
+        ensures never_fails { is_failed_write result ≡ false }
 
         // What every port says.
         ensures within { WriteWithin result (length from.now) }
