@@ -31,6 +31,7 @@ pub mod ListEnds
 pub mod SpellLemmas
 pub mod RateSteps
 pub mod RateBound
+pub mod GroupSteps
 pub mod EndLemmas
 pub mod KeepsLemmas
 pub mod SeenLemmas
