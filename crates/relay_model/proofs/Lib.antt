@@ -32,6 +32,7 @@ pub mod SpellLemmas
 pub mod RateSteps
 pub mod RateBound
 pub mod GroupSteps
+pub mod GroupBound
 pub mod EndLemmas
 pub mod KeepsLemmas
 pub mod SeenLemmas

@@ -12,4 +12,6 @@ pub use laws::{
     what_is_met_is_bad,
 };
 pub use played_laws::{Vouches, any_stage_holds, cuts_join, nothing_stands, steps_join};
-pub use turn_laws::{beginnings_are_legal, trace_tells_rates, trace_tells_shape};
+pub use turn_laws::{
+    beginnings_are_legal, limits_are_kept, trace_tells_rates, trace_tells_shape,
+};
