@@ -2,3 +2,5 @@ pub mod EndLemmas
 pub mod ListLemmas
 pub mod LinkLemmas
 pub mod ScriptLemmas
+pub mod ToldLemmas
+pub mod CallLemmas

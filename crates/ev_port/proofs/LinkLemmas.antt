@@ -1,5 +1,5 @@
 -- What a call on one end makes of all links.
-use Rattle.std.proofs.Common.{◌≡◌, ◌≢◌, ℕ, ◌+◌, ◌<◌, Bool, List, ◌++◌, length, get_or, set, map, take, drop, refl, sym, ap, ◌∙◌}
+use Rattle.std.proofs.Common.{◌≡◌, ℕ, ◌+◌, ◌<◌, Bool, List, ◌++◌, length, get_or, set, map, take, drop, sym, ap, ◌∙◌}
 use Rattle.ev_types.specs.declared.side.SideId.{SideId}
 use Rattle.ev_types.specs.declared.answer.WriteAnswer.{WriteAnswer}
 use Rattle.ev_types.specs.declared.answer.WriteAnswer.TheVariants as write
@@ -8,8 +8,9 @@ use Rattle.std.proofs.lemmas.List.{get_or_default}
 use Rattle.std.proofs.lemmas.List.Edits.{map_over_more}
 use Rattle.ev_port.specs.declared.port.Want.{Want}
 use Rattle.ev_port.specs.ScriptState.{EndState, EndKept, LinksState}
-use Rattle.ev_port.specs.ScriptEnds.{after_write, write_answer, Wrote}
-use Rattle.ev_port.specs.ScriptLinks.{changed, at_end, marked, write_answer_at, WroteAt}
+use Rattle.ev_port.specs.ScriptKept.{Wrote}
+use Rattle.ev_port.specs.ScriptEnds.{after_write, write_answer}
+use Rattle.ev_port.specs.ScriptLinks.{at_end, marked, write_answer_at, WroteAt}
 use Rattle.ev_port.proofs.ListLemmas.{changed_set, same_set, part_read}
 
 abbrev states : List EndKept → List EndState

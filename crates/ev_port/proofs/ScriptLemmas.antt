@@ -7,10 +7,10 @@ use Rattle.ev_types.specs.Sides.{number}
 use Rattle.ev_types.specs.declared.side.SideId.{SideId}
 use Rattle.script_text.specs.declared.script.TurnLine.{TurnLine}
 use Rattle.script_text.specs.declared.script.TurnLine.TheVariants as line
-use Rattle.ev_port.specs.ScriptState.{EndState, LinksState, LinksKept}
-use Rattle.ev_port.specs.ScriptEnds.{state_after_line, left_after_line, end_after_line, new_end}
-use Rattle.ev_port.specs.ScriptLinks.{changed, at_end, after_line, after_lines, links_of, new_ends}
-use Rattle.ev_port.specs.ScriptKept.{kept_at, links_after_line, links_after_lines, no_bytes, with_links, with_bytes, with_all_bytes, line_bytes, bytes_of, Brings}
+use Rattle.ev_port.specs.ScriptState.{EndState, LinksKept}
+use Rattle.ev_port.specs.ScriptEnds.{end_after_line, new_end}
+use Rattle.ev_port.specs.ScriptLinks.{changed, after_line, after_lines, links_of, new_ends}
+use Rattle.ev_port.specs.ScriptKept.{state_after_line, kept_at, links_after_line, links_after_lines, no_bytes, with_links, with_bytes, with_all_bytes, line_bytes, bytes_of, Brings}
 use Rattle.ev_port.specs.ScriptPort.{lines_of}
 use Rattle.ev_port.proofs.ListLemmas.{length-changed, get_or-changed_same, get_or-changed_other, changed_agree, changed_none, changed_beyond}
 
@@ -31,12 +31,12 @@ bytes_come : (side : SideId) (bytes : List ℕ) (rest : List TurnLine) (l : Link
     changed k (state_after_line (line.Pending side bytes) (kept_at k l.to_come)) l.state.ends ≡ changed k (end_after_line (line.Pending side bytes)) l.state.ends
 bytes_come side bytes rest l k e b =
     elim (cases_lt k (length l.to_come)) [
-      inl h ↦
-      let first : take (length bytes) (kept_at k l.to_come) ≡ bytes = ap (take (length bytes)) (next_bytes side bytes rest l k e h b) ∙ take_at bytes (bytes_of k rest) (length bytes) refl in
-      changed_agree (state_after_line (line.Pending side bytes) (kept_at k l.to_come)) (end_after_line (line.Pending side bytes)) l.state.ends k (λ (s : EndState). rw first)
+      | inl h ↦
+          let first : take (length bytes) (kept_at k l.to_come) ≡ bytes = ap (take (length bytes)) (next_bytes side bytes rest l k e h b) ∙ take_at bytes (bytes_of k rest) (length bytes) refl in
+          changed_agree (state_after_line (line.Pending side bytes) (kept_at k l.to_come)) (end_after_line (line.Pending side bytes)) l.state.ends k (λ (s : EndState). rw first)
       | inr h ↦
-      let beyond : length l.state.ends ≤ k = omega (arith, b.ends) in
-      changed_beyond (state_after_line (line.Pending side bytes) (kept_at k l.to_come)) l.state.ends k beyond ∙ sym (changed_beyond (end_after_line (line.Pending side bytes)) l.state.ends k beyond)
+          let beyond : length l.state.ends ≤ k = omega (arith, b.ends) in
+          changed_beyond (state_after_line (line.Pending side bytes) (kept_at k l.to_come)) l.state.ends k beyond ∙ sym (changed_beyond (end_after_line (line.Pending side bytes)) l.state.ends k beyond)
     ]
 
 -- and the bytes behind them are left
@@ -44,10 +44,10 @@ bytes_left : (side : SideId) (bytes : List ℕ) (rest : List TurnLine) (l : Link
     kept_at k (changed k0 (drop (length bytes)) l.to_come) ≡ bytes_of k rest
 bytes_left side bytes rest l k0 k n b h =
     elim (cases_eq k k0) [
-      inl e ↦
-      rw (sym e) (get_or-changed_same (drop (length bytes)) l.to_come k [] h ∙ ap (drop (length bytes)) (next_bytes side bytes rest l k (e ∙ n) h b) ∙ drop_at bytes (bytes_of k rest) (length bytes) refl)
+      | inl e ↦
+          rw (sym e) (get_or-changed_same (drop (length bytes)) l.to_come k [] h ∙ ap (drop (length bytes)) (next_bytes side bytes rest l k (e ∙ n) h b) ∙ drop_at bytes (bytes_of k rest) (length bytes) refl)
       | inr e ↦
-      get_or-changed_other (drop (length bytes)) l.to_come k0 k [] e ∙ b.bytes k h ∙ ap (λ t. t ++ bytes_of k rest) (bytes_elsewhere side bytes k (λ q. e (q ∙ sym n)))
+          get_or-changed_other (drop (length bytes)) l.to_come k0 k [] e ∙ b.bytes k h ∙ ap (λ t. t ++ bytes_of k rest) (bytes_elsewhere side bytes k (λ q. e (q ∙ sym n)))
     ]
 
 -- one line
@@ -65,8 +65,7 @@ one_line (line.Pending side bytes) rest l b =
     let k = number side in
     let come = bytes_come side bytes rest l k refl b in
     let shorter = length-changed (drop (length bytes)) l.to_come k in
-    let long = length-changed (state_after_line (line.Pending side bytes) (kept_at k l.to_come)) l.state.ends k in
-    (
+    let long = length-changed (state_after_line (line.Pending side bytes) (kept_at k l.to_come)) l.state.ends k in (
       rw come,
       record {
         links = b.links;
@@ -146,10 +145,10 @@ kept-with_bytes (line.Eof side) to_come k h = sym (append-nil (kept_at k to_come
 kept-with_bytes (line.Take side more) to_come k h = sym (append-nil (kept_at k to_come))
 kept-with_bytes (line.Pending side bytes) to_come k h =
     elim (cases_eq k (number side)) [
-      inl e ↦
-      ap (λ n. kept_at k (changed n (λ before. before ++ bytes) to_come)) (sym e) ∙ get_or-changed_same (λ before. before ++ bytes) to_come k [] h ∙ ap (λ t. kept_at k to_come ++ t) (sym (bytes_here side bytes k e))
+      | inl e ↦
+          ap (λ n. kept_at k (changed n (λ before. before ++ bytes) to_come)) (sym e) ∙ get_or-changed_same (λ before. before ++ bytes) to_come k [] h ∙ ap (λ t. kept_at k to_come ++ t) (sym (bytes_here side bytes k e))
       | inr e ↦
-      get_or-changed_other (λ before. before ++ bytes) to_come (number side) k [] e ∙ sym (append-nil (kept_at k to_come)) ∙ ap (λ t. kept_at k to_come ++ t) (sym (bytes_elsewhere side bytes k e))
+          get_or-changed_other (λ before. before ++ bytes) to_come (number side) k [] e ∙ sym (append-nil (kept_at k to_come)) ∙ ap (λ t. kept_at k to_come ++ t) (sym (bytes_elsewhere side bytes k e))
     ]
 
 kept-with_all_bytes : (xs : List TurnLine) (to_come : List (List ℕ)) (k : ℕ) → k < length to_come → kept_at k (with_all_bytes xs to_come) ≡ kept_at k to_come ++ bytes_of k xs
@@ -173,9 +172,9 @@ pub all_to_come : (xs : List TurnLine) (l : LinksKept) → l.to_open ≡ links_o
 all_to_come xs l links ends come = record {
   links = links;
   bytes = λ k h.
-    let known = length-with_all_bytes xs (no_bytes (links_of xs)) in
-    let within : k < length (no_bytes (links_of xs)) = omega (arith, known, ap length come) in
-    ap (kept_at k) come ∙ kept-with_all_bytes xs (no_bytes (links_of xs)) k within ∙ ap (λ t. t ++ bytes_of k xs) (no_bytes_at (links_of xs) k);
+      let known = length-with_all_bytes xs (no_bytes (links_of xs)) in
+      let within : k < length (no_bytes (links_of xs)) = omega (arith, known, ap length come) in
+      ap (kept_at k) come ∙ kept-with_all_bytes xs (no_bytes (links_of xs)) k within ∙ ap (λ t. t ++ bytes_of k xs) (no_bytes_at (links_of xs) k);
   ends = ap length ends ∙ as_many_ends (links_of xs) ∙ sym (length-with_all_bytes xs (no_bytes (links_of xs))) ∙ ap length (sym come);
 }
 

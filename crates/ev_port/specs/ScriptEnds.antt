@@ -1,5 +1,5 @@
 -- What the lines of a script and the calls of a port make of one end.
-use Rattle.std.specs.Prelude.{◌≡◌, ◌≢◌, ℕ, ◌-◌, ◌==◌, min, length, take, drop, Bool, true, false, ◌&&◌, ◌||◌, not, if◌then◌else◌, List, [], ◌∷◌, ◌++◌, Option, Some, None}
+use Rattle.std.specs.Prelude.{ℕ, ◌-◌, ◌==◌, min, length, take, drop, Bool, true, false, ◌&&◌, ◌||◌, not, if◌then◌else◌, List, [], ◌++◌, Option, Some, None}
 use Rattle.ev_types.specs.declared.answer.ConnAnswer.{ConnAnswer}
 use Rattle.ev_types.specs.declared.answer.ConnAnswer.TheVariants as conn
 use Rattle.ev_types.specs.declared.answer.ReadAnswer.{ReadAnswer}
@@ -11,7 +11,7 @@ use Rattle.script_text.specs.declared.script.TurnLine.TheVariants as line
 use Rattle.ev_port.specs.declared.port.Want.{Want}
 use Rattle.ev_port.specs.declared.script_end.EndTally.{EndTally}
 use Rattle.ev_port.specs.Counting.{counted}
-use Rattle.ev_port.specs.ScriptState.{EndState, EndKept}
+use Rattle.ev_port.specs.ScriptState.{EndState}
 
 abbrev pub no_calls : EndTally
 no_calls = record {
@@ -145,27 +145,3 @@ wanted w s = record s {
     write_marks = counted s.tally.write_marks (once w.can_write);
   };
 }
-
--- With the bytes to come
-
--- what a line makes of the end that it names; the bytes that come in are the next ones to come
-abbrev pub state_after_line : TurnLine → List ℕ → EndState → EndState
-state_after_line (line.Pending side bytes) to_come s = record s { pending = s.pending ++ take (length bytes) to_come }
-state_after_line (line.Eof side) to_come s = end_after_line (line.Eof side) s
-state_after_line (line.Take side more) to_come s = end_after_line (line.Take side more) s
-state_after_line (line.NewLink wait) to_come s = s
-
--- the bytes that are still to come
-abbrev pub left_after_line : TurnLine → List ℕ → List ℕ
-left_after_line (line.Pending side bytes) to_come = drop (length bytes) to_come
-left_after_line (line.Eof side) to_come = to_come
-left_after_line (line.Take side more) to_come = to_come
-left_after_line (line.NewLink wait) to_come = to_come
-
-abbrev pub kept_after_line : TurnLine → EndKept → EndKept
-kept_after_line x e = record { state = state_after_line x e.to_come e.state; to_come = left_after_line x e.to_come }
-
--- what a write did: want of memory, in place of taking bytes, changed nothing
-abbrev pub Wrote : EndKept → EndKept → List ℕ → WriteAnswer → Type 0
-Wrote old new from write.NoMemory = (new ≡ old) × (write_answer old.state (length from) ≢ write.NotYet)
-Wrote old new from answer = (new ≡ record old { state = after_write old.state from }) × (answer ≡ write_answer old.state (length from))

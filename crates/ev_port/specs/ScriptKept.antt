@@ -1,14 +1,42 @@
 -- How the links of a script port keep what the script has yet to bring: the links to open, and the bytes of each end,
 -- of which a line says no more than how many come in now.
-use Rattle.std.specs.Prelude.{◌≡◌, ℕ, ◌==◌, length, map, take, drop, Bool, if◌then◌else◌, List, [], ◌∷◌, ◌++◌, slice_index_or, ◌<◌, Option, Some, None}
+use Rattle.std.specs.Prelude.{◌≡◌, ◌≢◌, ℕ, ◌==◌, length, take, drop, Bool, if◌then◌else◌, List, [], ◌∷◌, ◌++◌, slice_index_or, ◌<◌, Option, Some, None}
 use Rattle.std.specs.List.{flat_map}
 use Rattle.ev_types.specs.declared.side.SideId.{SideId}
 use Rattle.ev_types.specs.Sides.{number}
+use Rattle.ev_types.specs.declared.answer.WriteAnswer.{WriteAnswer}
+use Rattle.ev_types.specs.declared.answer.WriteAnswer.TheVariants as write
 use Rattle.script_text.specs.declared.script.TurnLine.{TurnLine}
 use Rattle.script_text.specs.declared.script.TurnLine.TheVariants as line
-use Rattle.ev_port.specs.ScriptState.{EndState, LinksState, LinksKept}
-use Rattle.ev_port.specs.ScriptEnds.{state_after_line, left_after_line}
-use Rattle.ev_port.specs.ScriptLinks.{changed, at_end, after_line, new_ends, links_of}
+use Rattle.ev_port.specs.ScriptState.{EndState, EndKept, LinksKept}
+use Rattle.ev_port.specs.ScriptEnds.{end_after_line, write_answer, after_write}
+use Rattle.ev_port.specs.ScriptLinks.{changed, at_end, new_ends, links_of}
+
+-- One end
+
+-- what a line makes of the end that it names; the bytes that come in are the next ones to come
+abbrev pub state_after_line : TurnLine → List ℕ → EndState → EndState
+state_after_line (line.Pending side bytes) to_come s = record s { pending = s.pending ++ take (length bytes) to_come }
+state_after_line (line.Eof side) to_come s = end_after_line (line.Eof side) s
+state_after_line (line.Take side more) to_come s = end_after_line (line.Take side more) s
+state_after_line (line.NewLink wait) to_come s = s
+
+-- the bytes that are still to come
+abbrev pub left_after_line : TurnLine → List ℕ → List ℕ
+left_after_line (line.Pending side bytes) to_come = drop (length bytes) to_come
+left_after_line (line.Eof side) to_come = to_come
+left_after_line (line.Take side more) to_come = to_come
+left_after_line (line.NewLink wait) to_come = to_come
+
+abbrev pub kept_after_line : TurnLine → EndKept → EndKept
+kept_after_line x e = record { state = state_after_line x e.to_come e.state; to_come = left_after_line x e.to_come }
+
+-- what a write did: want of memory, in place of taking bytes, changed nothing
+abbrev pub Wrote : EndKept → EndKept → List ℕ → WriteAnswer → Type 0
+Wrote old new from write.NoMemory = (new ≡ old) × (write_answer old.state (length from) ≢ write.NotYet)
+Wrote old new from answer = (new ≡ record old { state = after_write old.state from }) × (answer ≡ write_answer old.state (length from))
+
+-- All links
 
 -- the bytes to come at the end with this number
 abbrev pub kept_at : ℕ → List (List ℕ) → List ℕ

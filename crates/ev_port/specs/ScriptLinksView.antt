@@ -1,7 +1,7 @@
 -- How a script port keeps its links: all of the script, and how many were opened and accepted.
 use Rattle.std.specs.Prelude.{◌≤◌, take, drop, map, vec_len}
 use Rattle.ev_port.specs.declared.script_links.ScriptLinks.TheInside.{Inside}
-use Rattle.ev_port.specs.ScriptState.{LinksState, LinksKept}
+use Rattle.ev_port.specs.ScriptState.{LinksKept}
 
 abbrev pub links_kept : Inside → LinksKept
 links_kept l = record {

@@ -1,16 +1,17 @@
 -- What the calls of a script port answer, and what they make of it.
-use Rattle.std.specs.Prelude.{ℕ, ◌+◌, ◌==◌, length, Bool, false, ◌&&◌, not, List, [], ◌∷◌, Option, Some, None, slice_get}
+use Rattle.std.specs.Prelude.{ℕ, ◌+◌, ◌==◌, length, Bool, false, ◌&&◌, not, List, Option, Some, None, slice_get}
 use Rattle.std.specs.Option.{option_map_or}
 use Rattle.std.specs.List.{flat_map}
 use Rattle.script_text.specs.declared.script.TurnLine.{TurnLine}
-use Rattle.ev_types.specs.declared.side.SideId.{SideId}
+use Rattle.ev_port.specs.declared.port.Accepted.{Accepted}
+use Rattle.ev_port.specs.declared.port.Accepted.TheVariants as answer
 use Rattle.ev_port.specs.declared.port.Addr.{Addr}
 use Rattle.ev_port.specs.declared.port.Want.{Want}
 use Rattle.ev_port.specs.declared.script_port.PortTally.{PortTally}
 use Rattle.ev_port.specs.Counting.{counted}
-use Rattle.ev_port.specs.ScriptState.{EndState, LinksState, PortState}
+use Rattle.ev_port.specs.ScriptState.{PortState}
 use Rattle.ev_port.specs.ScriptEnds.{once}
-use Rattle.ev_port.specs.ScriptLinks.{at_end, links_of, new_links, after_lines, after_wants, accept_first}
+use Rattle.ev_port.specs.ScriptLinks.{links_of, new_links, after_lines, after_wants, accept_answer, accept_first}
 
 abbrev pub no_port_calls : PortTally
 no_port_calls = record {
@@ -67,20 +68,28 @@ after_start p listen to = record p { tally = record p.tally { started = Some (li
 abbrev pub poll_accepts : PortState → Bool → Bool
 poll_accepts p accept = accept && not (length p.links.waiting == 0)
 
+abbrev pub poll_tally : Bool → Option ℕ → Bool → PortTally → PortTally
+poll_tally accept timeout opens t = record t {
+  accept_polls = counted t.accept_polls (once accept);
+  timeout = timeout;
+  accepting = opens;
+}
+
 abbrev pub after_poll : PortState → List Want → Bool → Option ℕ → PortState
 after_poll p wants accept timeout = record p {
   links = after_wants wants p.links;
-  tally = record p.tally {
-    accept_polls = counted p.tally.accept_polls (once accept);
-    timeout = timeout;
-    accepting = poll_accepts p accept;
-  };
+  tally = poll_tally accept timeout (poll_accepts p accept) p.tally;
 }
 
 -- an accept that found no link closes accepting, and every other makes a link
-abbrev pub accept_tally : List Bool → PortTally → PortTally
-accept_tally [] t = record t { accepting = false }
-accept_tally (wait ∷ waiting) t = record t { links = counted t.links 1 }
+abbrev pub accept_tally : Accepted → PortTally → PortTally
+accept_tally (answer.Link connected) t = record t { links = counted t.links 1 }
+accept_tally answer.NotYet t = record t { accepting = false }
+accept_tally answer.Failed t = record t { accepting = false }
+accept_tally answer.NoMemory t = record t { accepting = false }
 
 abbrev pub after_accept : PortState → ℕ → PortState
-after_accept p link = record p { links = accept_first link p.links.waiting p.links; tally = accept_tally p.links.waiting p.tally }
+after_accept p link = record p {
+  links = accept_first link p.links.waiting p.links;
+  tally = accept_tally (accept_answer p.links.waiting) p.tally;
+}

@@ -1,6 +1,6 @@
 -- What a script port tells: of each end of a link of the script everything, and of other ends nothing; of itself
 -- everything. It meets no fault.
-use Rattle.std.specs.Prelude.{Option, Some, None}
+use Rattle.std.specs.Prelude.{Some, None}
 use Rattle.std.specs.Option.{option_map_or}
 use Rattle.ev_types.specs.declared.side.SideId.{SideId}
 use Rattle.ev_port.specs.Told.{EndTold, PortTold, Faults}

@@ -3,7 +3,8 @@
 ghost use Rattle.std.specs.Prelude.{◌≡◌, ◌<◌, ◌++◌, [], length, take, drop, IfOk, OnErr, OnOk, IsOk};
 ghost use Rattle.ev_port.specs.Counting.{counted};
 ghost use Rattle.ev_port.specs.Ends.{got_bytes};
-ghost use Rattle.ev_port.specs.ScriptEnds.{no_calls, new_end, kept_after_line, allowed, can_read, can_write, read_answer, after_read, Wrote, conn_answer, after_check, accepted, after_close_write, after_close, wanted};
+ghost use Rattle.ev_port.specs.ScriptEnds.{no_calls, new_end, allowed, can_read, can_write, read_answer, after_read, conn_answer, after_check, accepted, after_close_write, after_close, wanted};
+ghost use Rattle.ev_port.specs.ScriptKept.{kept_after_line, Wrote};
 
 use crate::Want;
 use ev_types::{ConnAnswer, NoMemory, ReadAnswer, WriteAnswer};

@@ -1,2 +1,3 @@
 pub mod GoesLemmas
 pub mod HeardLemmas
+pub mod EachLemmas

@@ -3,7 +3,7 @@ ghost use Rattle.std.specs.Prelude.{◌≡◌, ℕ, ◌<◌, false, length, slic
 ghost use Rattle.ev_port.specs.declared.port.Want.{Want as WantValue};
 ghost use Rattle.relay_drive.specs.declared.fault.DriveFault.TheVariants.{Memory};
 ghost use Rattle.relay_drive.specs.Steps.{Nothing, Each, CutAt};
-ghost use Rattle.relay_drive.specs.Phases.{ReadsSide, WritesSide, ConnectsSide, ServesSide, CutServing, AllOpened};
+ghost use Rattle.relay_drive.specs.Phases.{ReadsSide, WritesSide, ConnectsSide, ServesSide, CutServing, AllOpened, is_connecting};
 ghost use Rattle.relay_drive.specs.Goes.{Goes};
 
 use crate::ask::{ask_connect, ask_read, ask_write};
@@ -11,6 +11,7 @@ use crate::fault::DriveFault;
 use crate::run::Run;
 use ev_port::{Port, Scribe, Want};
 use ev_types::SideId;
+use relay_core::Relay;
 
 /// Reads a side once, where it is marked for that and has room.
 fn read_side<P: Port, S: Scribe>(
@@ -29,7 +30,10 @@ fn read_side<P: Port, S: Scribe>(
     ensures kept { run.new.relay.state.opened ≡ run.old.relay.state.opened }
     ensures cause { MatchResult result (λ _. Unit {0}) (λ fault. fault ≡ Memory) }
 {
-    if !marked || !run.relay.wants_read(side) {
+    if !marked {
+        return Ok(());
+    }
+    if !run.relay.wants_read(side) {
         return Ok(());
     }
     let room = run.relay.read_room(side);
@@ -53,7 +57,10 @@ fn write_side<P: Port, S: Scribe>(
     ensures kept { run.new.relay.state.opened ≡ run.old.relay.state.opened }
     ensures cause { MatchResult result (λ _. Unit {0}) (λ fault. fault ≡ Memory) }
 {
-    if !marked || run.relay.write_room(side) == 0 {
+    if !marked {
+        return Ok(());
+    }
+    if run.relay.write_room(side) == 0 {
         return Ok(());
     }
     ask_write(run, side, port, scribe)?;
@@ -82,6 +89,15 @@ fn connect_side<P: Port, S: Scribe>(
     Ok(())
 }
 
+/// Whether a live side is not known to be connected.
+fn is_connecting(relay: &Relay, side: SideId) -> bool
+    requires { side.link < relay.now.state.opened }
+    ensures { result ≡ is_connecting relay.now.state side }
+{
+    let flags = relay.flags(side);
+    flags.live && flags.connecting
+}
+
 /// Serves one side, as it is marked.
 fn serve_side<P: Port, S: Scribe>(
     run: &mut Run,
@@ -98,8 +114,7 @@ fn serve_side<P: Port, S: Scribe>(
     ensures kept { run.new.relay.state.opened ≡ run.old.relay.state.opened }
     ensures cause { MatchResult result (λ _. Unit {0}) (λ fault. fault ≡ Memory) }
 {
-    let flags = run.relay.flags(want.side);
-    if flags.live && flags.connecting {
+    if is_connecting(&run.relay, want.side) {
         return connect_side(run, want.side, want.can_write, port, scribe);
     }
     read_side(run, want.side, want.can_read, inbox, port, scribe)?;

@@ -207,6 +207,7 @@ pub freeing-effect : (g : Settings) (s : Plain) (x : Fire) (rs : List Reason) (g
 freeing-effect g s x rs gone why moved given bytes lt dead = record {
   time = refl;
   rises = omega arith;
+  until = λ h. h;
   turn = omega arith;
   opened = omega arith;
   links = λ h. h;

@@ -10,6 +10,7 @@ use Rattle.relay_model.specs.Plain.{Plain, PlainSide, side_at, change_side, is_l
 use Rattle.relay_model.specs.Rooms.{Want}
 use Rattle.relay_model.specs.Close.{CloseStep}
 use Rattle.relay_model.specs.Stages.{Stage, Between, Polling, Wanting, Marking, Accepting, Serving, Filtering, Dispatching, Firing, Freeing, Passing, Closing, Over}
+use Rattle.relay_model.specs.Turn.{latest}
 use Rattle.relay_model.specs.Told.{begins_turn, opens_link, time_after, names, freed_by, end_closed_by, failed_by, is_freeing}
 use Rattle.relay_model.proofs.EndLemmas.{same_end-eq, same_end-refl}
 use Rattle.relay_model.proofs.KeepsLemmas.{Keeps, Keeps-side, change_side-same, change_side-other}
@@ -33,6 +34,7 @@ fresh = record { live = true; ended = false; failed = false; expired = false; ba
 pub record Effect (g : Settings) (x : Stage) (s : Plain) (y : Event) (after : Stage) (new : Plain) : Type 0 where
   pub time : new.time ≡ time_after s.time y
   pub rises : s.time ≤ new.time
+  pub until : s.time ≤ latest → new.time ≤ latest
   pub turn : new.turn ≡ (s.turn + (if begins_turn y then 1 else 0))
   pub opened : new.opened ≡ (s.opened + (if opens_link y then 1 else 0))
   pub links : s.opened ≤ g.links → new.opened ≤ g.links

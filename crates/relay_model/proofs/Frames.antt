@@ -112,14 +112,14 @@ frame-timed g p e s d =
     frame-if (not (is_timed (side_at s e) d)) s s _ (frame-same s)
     (frame-if (not (wants g p s e d)) s (change_side e (active_at s.time d) s) _ (frame-change e (active_at s.time d) s (active-rates s.time d))
     (frame-if (has_run_out (side_at s e) d s.time) s _ s
-        (frame-then s (change_side e (expire d) s) _ (frame-change e (expire d) s (expire-rates d)) (frame-raise g e (happened d timeout_flag) (change_side e (expire d) s)))
-        (frame-same s)))
+    (frame-then s (change_side e (expire d) s) _ (frame-change e (expire d) s (expire-rates d)) (frame-raise g e (happened d timeout_flag) (change_side e (expire d) s)))
+    (frame-same s)))
 
 pub frame-time_passed : (g : Settings) (p : Past) (s : Plain) → SameFrame s (time_passed g p s)
 frame-time_passed g p s =
     frame-then s (timers_taken g s) _
     (frame-then s (record s { timers = left }) _ (frame-waiting s left s.due)
-        (frame-fold {A = Timer} (λ state x. raise g x.side why.Timer state) (record s { timers = left }) (by_deadline taken) (λ z x. frame-raise g x.side why.Timer z)))
+    (frame-fold {A = Timer} (λ state x. raise g x.side why.Timer state) (record s { timers = left }) (by_deadline taken) (λ z x. frame-raise g x.side why.Timer z)))
     (frame-fold (side_timed g p) (timers_taken g s) (all_sides s) (λ z e. frame-fold (timed g p e) z both_ways (frame-timed g p e)))
   where
     left : List Timer
@@ -176,7 +176,7 @@ pub frame-write : (g : Settings) (p : Past) (e : SideId) (answer : WriteAnswer) 
 frame-write g p e (write.Took n) s =
     frame-then s (change_side e (active_at s.time dir.Write) (change_flow (peer e) (λ f. record f { given = f.given + n }) s)) _
     (frame-then s (change_flow (peer e) (λ f. record f { given = f.given + n }) s) _ (frame-flow (peer e) (λ f. record f { given = f.given + n }) s)
-        (frame-change e (active_at s.time dir.Write) (change_flow (peer e) (λ f. record f { given = f.given + n }) s) (λ x. refl)))
+    (frame-change e (active_at s.time dir.Write) (change_flow (peer e) (λ f. record f { given = f.given + n }) s) (λ x. refl)))
     (frame-raise_write g p e _)
 frame-write g p e write.NotYet s = frame-same s
 frame-write g p e write.Failed s = frame-then s (change_side e (λ x. record x { failed = true; writes = false }) s) _ (frame-change e (λ x. record x { failed = true; writes = false }) s (λ x. refl)) (frame-raise g e (happened dir.Write error_flag) _)

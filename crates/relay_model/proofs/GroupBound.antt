@@ -48,7 +48,7 @@ module _ (g : Settings) (n : ℕ) (x : GroupSet) (is : slice_get g.groups n ≡ 
   pub within-share : (e : SideId) (d : Dir) (k : ℕ) → (side_at s e).group ≡ Some n → within_rates g (past g t) s e d k ≤ part d
   within-share e d k in_it =
       let a : share g (past g t) s e d ≡ Some (part d) =
-          ap (λ z. share_in g (past g t) s d z) in_it ∙ ap (λ z. option_map (λ y. share_among y d (group_spells g n d t) s.time (members s n)) z) is in
+      ap (λ z. share_in g (past g t) s d z) in_it ∙ ap (λ z. option_map (λ y. share_among y d (group_spells g n d t) s.time (members s n)) z) is in
       let b : within_rates g (past g t) s e d k ≡ min (part d) (at_most (allowance (past g t) s e d) k) = ap (λ z. at_most z (at_most (allowance (past g t) s e d) k)) a in
       omega (arith, b)
 
@@ -68,7 +68,7 @@ module _ (g : Settings) (n : ℕ) (x : GroupSet) (is : slice_get g.groups n ≡ 
   read-among told side dir.Read room answer bytes asked carries =
       beat-where (same_group (group_after g side t) n) _ _
       (λ named. got-within side side room (part dir.Read) answer bytes carries
-          (λ same. let k = read_room-shared side (told side ∙ group-named (group_after g side t) n named) in omega (arith, asked, k)))
+      (λ same. let k = read_room-shared side (told side ∙ group-named (group_after g side t) n named) in omega (arith, asked, k)))
   read-among told side dir.Write room answer bytes asked carries = beat-where (same_group (group_after g side t) n) 0 _ (λ named. omega arith)
 
   pub write-among : (told : (e : SideId) → (side_at s e).group ≡ group_after g e t) (side : SideId) (d : Dir) (offered : ℕ) (answer : WriteAnswer) (bytes : List ℕ) →
@@ -77,7 +77,7 @@ module _ (g : Settings) (n : ℕ) (x : GroupSet) (is : slice_get g.groups n ≡ 
   write-among told side dir.Write offered answer bytes asked carries =
       beat-where (same_group (group_after g side t) n) _ _
       (λ named. took-within side side offered (part dir.Write) answer bytes carries
-          (λ same. let k = write_room-shared side (told side ∙ group-named (group_after g side t) n named) in omega (arith, asked, k)))
+      (λ same. let k = write_room-shared side (told side ∙ group-named (group_after g side t) n named) in omega (arith, asked, k)))
 
   pub still-among : (d : Dir) (y : Event) → is_still y ≡ true → bytes_of (beat_among g n d t y) ≤ part d
   still-among d y h = let k = ap bytes_of (beat_among-still g n d t y h) in omega (arith, k)

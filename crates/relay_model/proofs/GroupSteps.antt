@@ -92,10 +92,12 @@ share-parts x d all time count = by_flag (is_suspended x d all) refl
         ⊎ ((is_suspended x d all ≡ false) × ((if is_suspended x d all then 0 else max (group_level x d all time / count) (least_share x)) ≤ max (group_level x d all time) (least_share x)))
     by_flag true is = inl (ap (λ b. if b then 0 else max (group_level x d all time / count) (least_share x)) is)
     by_flag false is =
-        inr (is,
-        let k : (if is_suspended x d all then 0 else max (group_level x d all time / count) (least_share x)) ≡ max (group_level x d all time / count) (least_share x) =
-            ap (λ b. if b then 0 else max (group_level x d all time / count) (least_share x)) is in
-        let q = div-le_self (group_level x d all time) count in omega (arith, k, q))
+        inr (
+          is,
+          let k : (if is_suspended x d all then 0 else max (group_level x d all time / count) (least_share x)) ≡ max (group_level x d all time / count) (least_share x) =
+              ap (λ b. if b then 0 else max (group_level x d all time / count) (least_share x)) is in
+              let q = div-le_self (group_level x d all time) count in omega (arith, k, q),
+        )
 
 -- Cut before a turn
 
@@ -127,6 +129,7 @@ group-most x g n d before rest ms time =
 pub group_spells-some : (g : Settings) (n : ℕ) (d : Dir) (before rest : Trace) (ms : ℕ) →
     (k : ℕ) × (length (group_spells g n d (before ++ (entry.Turn ms, []) ∷ rest)) ≡ k + 1)
 group_spells-some g n d before rest ms =
-    let cs : List Beat = beats_among g n d (before ++ (entry.Turn ms, []) ∷ []) rest in
-    (length (group_spells g n d before) + length (spells cs),
-    ap (λ z. length z) (group_spells-cut g n d before rest ms) ∙ length-append (group_spells g n d before) (rest_spells cs ms) ∙ omega arith)
+    let cs : List Beat = beats_among g n d (before ++ (entry.Turn ms, []) ∷ []) rest in (
+      length (group_spells g n d before) + length (spells cs),
+      ap (λ z. length z) (group_spells-cut g n d before rest ms) ∙ length-append (group_spells g n d before) (rest_spells cs ms) ∙ omega arith,
+    )

@@ -15,8 +15,10 @@ pub mod PassLemmas
 pub mod StandsLemmas
 pub mod TiedLemmas
 pub mod PlayedLemmas
+pub mod PlayedReads
 mod PlayedExamples
 mod ScriptedExamples
+mod TiedExamples
 mod Examples
 pub mod PastLemmas
 pub mod PlainLemmas
@@ -45,3 +47,9 @@ pub mod ServeCases
 pub mod CloseCases
 pub mod StepLemmas
 pub mod StageLemmas
+pub mod ToldLemmas
+pub mod SplitLemmas
+pub mod KindLemmas
+pub mod FireLemmas
+pub mod HeldLemmas
+pub mod QuietLemmas

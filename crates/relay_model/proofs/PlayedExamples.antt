@@ -1,5 +1,5 @@
 -- Runs over small scripts: what is played, and what is not.
-use Rattle.std.proofs.Common.{◌≡◌, ◌≢◌, ℕ, ◌<◌, Bool, true, false, List, [], ◌∷◌, ◌++◌, Option, Some, None, refl, sym, ap, arith}
+use Rattle.std.proofs.Common.{ℕ, Bool, true, false, List, [], ◌∷◌, ◌++◌, None, refl, sym, ap, arith}
 use Rattle.std.proofs.lemmas.Bool.{true≢false}
 use mathlib.Core.Logic.{inl, inr}
 use Rattle.ev_types.specs.declared.side.Side.TheVariants.{In, Out}
@@ -19,10 +19,10 @@ use Rattle.relay_model.specs.Script.{Script, ScriptTurn}
 use Rattle.relay_model.specs.Plays.{Step, TookAll, Plays}
 use Rattle.relay_model.proofs.PlayedLemmas.{always_took, is_empty}
 
-abbrev i : SideId
+abbrev pub i : SideId
 i = record { link = 0; side = In }
 
-abbrev o : SideId
+abbrev pub o : SideId
 o = record { link = 0; side = Out }
 
 abbrev script : List ScriptTurn → Script
@@ -72,7 +72,7 @@ both_script = script (
     ∷ (1, Line.Pending i get ∷ Line.Eof i ∷ Line.Take i None ∷ Line.Take o None ∷ [])
     ∷ (2, Line.Pending o ok ∷ Line.Eof o ∷ []) ∷ (3, []) ∷ [])
 
-abbrev both_trace : Trace
+abbrev pub both_trace : Trace
 both_trace =
     plain (entry.Turn 0) ∷ plain (entry.Poll None) ∷ plain (entry.Opened 0 true)
     ∷ plain (entry.Turn 1) ∷ plain (entry.Poll None) ∷ plain (entry.Want i true false) ∷ plain (entry.Want o true false) ∷ plain (entry.Ready i true false)
@@ -98,7 +98,7 @@ both-is_played = record { answered = (both_steps, refl); took_all = always_took 
 abbrev failed_script : Script
 failed_script = script ((0, Line.NewLink true ∷ []) ∷ (1, Line.Pending i (97 ∷ []) ∷ Line.Decide 0 false ∷ []) ∷ [])
 
-abbrev failed_trace : Trace
+abbrev pub failed_trace : Trace
 failed_trace =
     plain (entry.Turn 0) ∷ plain (entry.Poll None) ∷ plain (entry.Opened 0 false)
     ∷ plain (entry.Turn 1) ∷ plain (entry.Poll None) ∷ plain (entry.Want i true false) ∷ plain (entry.Want o false true) ∷ plain (entry.Ready i true false) ∷ plain (entry.Ready o false true)

@@ -36,7 +36,7 @@ use Rattle.relay_model.specs.Moments.{time_passed}
 use Rattle.relay_model.specs.Serve.{Call, call_for, after_conn, after_read, after_write, CarriesTook}
 use Rattle.relay_model.specs.Close.{CloseStep, fault, freed_entry, entry_where, closing_entry, closed_by, steps_left, is_complete}
 use Rattle.relay_model.specs.Stages.{Stage, Fire, State, at, Between, Polling, Wanting, Marking, Accepting, Serving, Filtering, Dispatching, Firing, Freeing, Passing, Closing, Over, Halt, begun, after_ask}
-use Rattle.relay_model.specs.Turn.{turned_to, after_reading, Puts}
+use Rattle.relay_model.specs.Turn.{turned_to, after_reading, Puts, latest}
 use Rattle.relay_model.specs.Told.{begins_turn, opens_link, time_after, names, freed_by, is_freeing}
 use Rattle.relay_model.proofs.EndLemmas.{same_end-eq, same_end-refl, same_end-flip, number-lt}
 use Rattle.relay_model.proofs.KeepsLemmas.{Keeps, Keeps-refl, Keeps-eq, Keeps-trans, Keeps-side, Keeps-length, Keeps-raise, Keeps-raise_write, Keeps-flow, Keeps-put}
@@ -47,10 +47,11 @@ use Rattle.relay_model.proofs.AskLemmas.{Frees, GoesOn, ask-outcome}
 use Rattle.relay_model.proofs.PutLemmas.{IsPlainEvent, effect-keeps, effect-at}
 
 -- a turn begins
-pub turn-effect : (g : Settings) (s : Plain) (ms : ℕ) (bytes : List ℕ) (p : Past) → s.time ≤ ms → Effect g Between s (entry.Turn ms, bytes) Polling (time_passed g p (turned_to ms s))
-turn-effect g s ms bytes p le = record {
+pub turn-effect : (g : Settings) (s : Plain) (ms : ℕ) (bytes : List ℕ) (p : Past) → s.time ≤ ms → ms ≤ latest → Effect g Between s (entry.Turn ms, bytes) Polling (time_passed g p (turned_to ms s))
+turn-effect g s ms bytes p le late = record {
   time = k.time;
   rises = let h = k.time in omega arith;
+  until = λ h. subst (λ n. n ≤ latest) (sym k.time) late;
   turn = k.turn;
   opened = let h = k.opened in omega arith;
   links = λ h. let o = k.opened in omega arith;
@@ -95,6 +96,7 @@ pub opened-effect : (g : Settings) (s : Plain) (n : ℕ) (marks : List Want) (li
 opened-effect g s n marks link connected bytes size few = record {
   time = refl;
   rises = omega arith;
+  until = λ h. h;
   turn = omega arith;
   opened = refl;
   links = λ h. omega arith;

@@ -25,6 +25,7 @@ use Rattle.relay_model.specs.Settings.{Settings}
 use Rattle.relay_model.specs.Plain.{Plain, PlainSide, side_at, put_side, change_side, is_live, freed}
 use Rattle.relay_model.specs.Past.{Past, past}
 use Rattle.relay_model.specs.Stages.{Stage, Fire, Serving, Firing, Freeing, Closing}
+use Rattle.relay_model.specs.Turn.{latest}
 use Rattle.relay_model.specs.Told.{begins_turn, opens_link, time_after, names, freed_by, is_freeing}
 use Rattle.relay_model.proofs.EndLemmas.{same_end-eq, same_end-refl, same_end-flip}
 use Rattle.relay_model.proofs.KeepsLemmas.{Keeps, Keeps-refl, Keeps-eq, Keeps-trans, Keeps-side, Keeps-length, change_side-same, change_side-other}
@@ -47,6 +48,7 @@ pub effect-keeps : (g : Settings) (x : Stage) (s : Plain) (y : Event) (after : S
 effect-keeps g x s y after new k p idle still before named = record {
   time = k.time ∙ sym (p.time s.time);
   rises = let h = k.time in omega arith;
+  until = λ h. subst (λ n. n ≤ latest) (sym k.time) h;
   turn = k.turn ∙ add-none s.turn (begins_turn y) p.turn;
   opened = k.opened ∙ add-none s.opened (opens_link y) p.opens;
   links = λ h. let o = k.opened in omega arith;
@@ -66,6 +68,7 @@ pub effect-at : (g : Settings) (x : Stage) (s : Plain) (y : Event) (after : Stag
 effect-at g x s y after new z changed k p size lt here others before named = record {
   time = k.time ∙ sym (p.time s.time);
   rises = let h = k.time in omega arith;
+  until = λ h. subst (λ n. n ≤ latest) (sym k.time) h;
   turn = k.turn ∙ add-none s.turn (begins_turn y) p.turn;
   opened = k.opened ∙ add-none s.opened (opens_link y) p.opens;
   links = λ h. let o = k.opened in omega arith;

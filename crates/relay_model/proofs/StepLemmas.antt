@@ -122,7 +122,7 @@ write-called g p s m offered h = go (is_connecting s m.side) m.write m.read (nat
 pub put-effect : (g : Settings) (t : Trace) (x : Stage) (s : Plain) (e : Entry) (bytes : List ℕ) (new : State) → length s.sides ≡ 2 * s.opened → Placed x s → Puts g t x s e bytes new →
     Effect g x s (e, bytes) new.stage new.plain
 put-effect g t Between s (entry.Turn ms) bytes new size placed h =
-    subst (λ z. Effect g Between s (entry.Turn ms, bytes) z.stage z.plain) (sym h.3) (turn-effect g s ms bytes (past g (t ++ (entry.Turn ms, []) ∷ [])) h.0)
+    subst (λ z. Effect g Between s (entry.Turn ms, bytes) z.stage z.plain) (sym h.3) (turn-effect g s ms bytes (past g (t ++ (entry.Turn ms, []) ∷ [])) h.0 h.1)
 put-effect g t Polling s (entry.Poll timeout) bytes new size placed h =
     subst (λ z. Effect g Polling s (entry.Poll timeout, bytes) z.stage z.plain) (sym h.2)
     (same-effect g Polling s (entry.Poll timeout, bytes) _ (record { turn = refl; opens = refl; time = λ n. refl }) (λ e. record { freed = refl; ended = refl; failed = refl; write_ended = refl; closed = refl }) (λ e. refl) (λ e. refl) (λ e k. absurd (cc)))

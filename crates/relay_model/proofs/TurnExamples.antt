@@ -251,7 +251,7 @@ timers-in_order = refl
 -- What is planned: the second line is for the second read, and nothing is no ask.
 abbrev plan : List Planned
 plan = record { kind = kind.Read; nth = 1; act = Some (act.Free (in_of 0)) } ∷ record { kind = kind.Read; nth = 2; act = Some act.Stop }
-  ∷ record { kind = kind.Read; nth = 1; act = None } ∷ record { kind = kind.Event; nth = 1; act = Some (act.Cancel (in_of 1)) } ∷ []
+    ∷ record { kind = kind.Read; nth = 1; act = None } ∷ record { kind = kind.Event; nth = 1; act = Some (act.Cancel (in_of 1)) } ∷ []
 
 planned-in_order : acts_behind plan [] (why.Read ∷ event 17 ∷ why.Read ∷ event 33 ∷ []) ≡ act.Free (in_of 0) ∷ act.Cancel (in_of 1) ∷ act.Stop ∷ []
 planned-in_order = refl

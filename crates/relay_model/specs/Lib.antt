@@ -34,3 +34,5 @@ pub mod Script
 pub mod Scripted
 pub mod Plays
 pub mod Told
+pub mod Hooked
+pub mod Quiet

@@ -1,16 +1,19 @@
 -- Which traces a run over a script has. A run is a list of steps: calls on a port, and what the relay does by itself. What
 -- the script answers to the steps is a trace; that the relay calls for these steps is said by Turn.
 use Rattle.std.specs.Prelude.{◌≡◌, ◌⊎◌, ℕ, ◌+◌, ◌<◌, ◌≤◌, min, max, ⊤, Bool, true, false, not, if◌then◌else◌, List, [], ◌∷◌, ◌++◌, length, map, fold, Option, MatchBool}
+use Rattle.std.specs.List.{flat_map}
 use Rattle.ev_types.specs.declared.side.SideId.{SideId}
 use Rattle.ev_types.specs.declared.entry.Entry.{Entry}
 use Rattle.ev_types.specs.declared.entry.Entry.TheVariants as entry
 use Rattle.ev_types.specs.Trace.{Event, Trace}
+use Rattle.relay_model.specs.Trace.{bytes_read}
 use Rattle.relay_model.specs.Rooms.{Want}
 use Rattle.relay_model.specs.Turn.{most_opened, latest}
 use Rattle.relay_model.specs.Answers.{TurnAnswer}
 use Rattle.relay_model.specs.Totals.{opened, opened_in_turn}
+use Rattle.relay_model.specs.Lines.{brings}
 use Rattle.relay_model.specs.Script.{Script, ScriptTurn, closing_step}
-use Rattle.relay_model.specs.Scripted.{reading, begun, waiting, poll_fails, marks, conn_answer, read_answer, write_answer}
+use Rattle.relay_model.specs.Scripted.{reading, begun, lines, waiting, pending, poll_fails, marks, conn_answer, read_answer, write_answer}
 
 pub data Step : Type 0 where
   Now : Step  -- the clock is read
@@ -107,3 +110,13 @@ pub record Plays (script : Script) (closing : ℕ) (answer : TurnAnswer) (t : Tr
   pub answered : IsAnswered script.turns (closing_step script.settings) t
   pub took_all : AlwaysTookAll script.turns script.settings.links [] t
   pub turns : EndsPlayed script.turns script.settings.links (length script.turns + closing) answer t
+
+-- What a script answers to one step more, it answers.
+abbrev pub AnswersGoOn : Type 0
+AnswersGoOn = (turns : List ScriptTurn) (closing_by : ℕ) (t : Trace) → IsAnswered turns closing_by t →
+    (x : Step) → IsAnswered turns closing_by (t ++ events turns closing_by t x)
+
+-- Wherever every answer is a script's, what was read from an end and what is pending there is what the script brought in.
+abbrev pub ReadsWhatComes : Type 0
+ReadsWhatComes = (turns : List ScriptTurn) (closing_by : ℕ) (t : Trace) (e : SideId) → IsAnswered turns closing_by t →
+    bytes_read e t ++ pending turns t e ≡ flat_map (brings e) (lines turns t)

@@ -1,5 +1,7 @@
 // Laws on what a relay stands for, and on what a played trace is.
+ghost use Rattle.relay_model.specs.Plays.{AnswersGoOn, ReadsWhatComes};
 ghost use Rattle.relay_model.specs.Stands.{AnyStageHolds, CutsJoin, NothingStands, StepsJoin};
+ghost use Rattle.relay_model.specs.Tied.{EndTiesJoin, NothingIsTied};
 
 /// What can say of whole traces that they are its own.
 ///
@@ -29,4 +31,24 @@ pub fn cuts_join<V: Vouches>(before: &V, between: &V, behind: &V)
 /// A turn may be cut off wherever it stands, with no entry.
 pub fn any_stage_holds()
     ensures { AnyStageHolds }
+{}
+
+/// Before anything happened a port is tied to the trace of no entries, whatever it tells.
+pub fn nothing_is_tied()
+    ensures { NothingIsTied }
+{}
+
+/// What an end tells over two traces in a row, it tells over both as one.
+pub fn end_ties_join()
+    ensures { EndTiesJoin }
+{}
+
+/// What a script answers to one step more is answered by the script.
+pub fn answers_go_on()
+    ensures { AnswersGoOn }
+{}
+
+/// In a run over a script, what was read from an end and what is pending there is what the script brought in.
+pub fn what_comes_is_read()
+    ensures { ReadsWhatComes }
 {}

@@ -1,7 +1,6 @@
-use Rattle.std.proofs.Common.{◌≡◌, map, arith, length, ◌<◌, ◌≤◌, []}
+use Rattle.std.proofs.Common.{map, arith, length, ◌<◌, ◌≤◌, []}
 use Rattle.ev_types.specs.Sides.{number}
-use Rattle.ev_port.specs.ScriptEnds.{state_after_line, left_after_line}
-use Rattle.ev_port.specs.ScriptKept.{kept_at}
+use Rattle.ev_port.specs.ScriptKept.{state_after_line, left_after_line, kept_at}
 use Rattle.ev_port.proofs.ListLemmas.{changed_set, changed_past, part_at}
 use Rattle.ev_port.proofs.script_links.ScriptLinks.apply_at.Goals as goal
 

@@ -1,7 +1,7 @@
-use Rattle.std.proofs.Common.{◌≡◌, map, arith, length, ◌<◌, ◌≤◌, []}
+use Rattle.std.proofs.Common.{arith, length, ◌<◌}
 use Rattle.ev_types.specs.Sides.{number}
 use Rattle.ev_port.specs.ScriptEnds.{after_close_write}
-use Rattle.ev_port.proofs.ListLemmas.{changed_set, same_set, changed_past, part_read, part_past}
+use Rattle.ev_port.proofs.ListLemmas.{changed_set, same_set, changed_past}
 use Rattle.ev_port.proofs.script_links.ScriptLinks.close_write.Goals as goal
 
 pub returns-then-number-len : goal.returns-then-number-len

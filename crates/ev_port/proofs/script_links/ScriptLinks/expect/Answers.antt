@@ -1,4 +1,4 @@
-use Rattle.std.proofs.Common.{◌≡◌, ◌++◌, map, arith, List, ℕ, length, ◌<◌, ◌≤◌}
+use Rattle.std.proofs.Common.{◌++◌, arith, List, ℕ, length, ◌<◌}
 use Rattle.ev_types.specs.Sides.{number}
 use Rattle.ev_port.proofs.ListLemmas.{changed_set, same_set, changed_past}
 use Rattle.ev_port.proofs.script_links.ScriptLinks.expect.Goals as goal

@@ -1,4 +1,4 @@
-use Rattle.std.proofs.Common.{◌≡◌, ◌<◌, length, arith}
+use Rattle.std.proofs.Common.{◌<◌, length, arith}
 use Rattle.ev_port.proofs.LinkLemmas.{marks_more}
 use Rattle.ev_port.proofs.script_links.ScriptLinks.mark.Goals as goal
 

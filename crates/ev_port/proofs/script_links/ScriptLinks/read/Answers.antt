@@ -1,8 +1,8 @@
-use Rattle.std.proofs.Common.{◌≡◌, map, arith, length, ◌<◌, ◌≤◌, []}
+use Rattle.std.proofs.Common.{arith, length, ◌<◌}
 use Rattle.std.proofs.Math.Seq.{take-nil}
 use Rattle.ev_types.specs.Sides.{number}
 use Rattle.ev_port.specs.ScriptEnds.{after_read}
-use Rattle.ev_port.proofs.ListLemmas.{changed_set, same_set, changed_past, part_read, part_past}
+use Rattle.ev_port.proofs.ListLemmas.{changed_set, same_set, changed_past, part_past}
 use Rattle.ev_port.proofs.script_links.ScriptLinks.read.Goals as goal
 
 pub returns-then-number-len-clause-after : goal.returns-then-number-len-clause-after

@@ -1,4 +1,4 @@
-use Rattle.std.proofs.Common.{◌≡◌, map, arith, length, ◌<◌, ◌≤◌, refl}
+use Rattle.std.proofs.Common.{arith, refl}
 use Rattle.ev_types.specs.Sides.{number}
 use Rattle.ev_port.specs.ScriptEnds.{after_write}
 use Rattle.ev_port.proofs.ListLemmas.{changed_past, part_past}

@@ -1,4 +1,4 @@
-use Rattle.std.proofs.Common.{◌≡◌, ℕ, ◌+◌, ◌<◌, ◌≤◌, List, length, drop, map, arith}
+use Rattle.std.proofs.Common.{◌≡◌, ◌+◌, ◌<◌, length, drop, map, arith}
 use Rattle.std.proofs.lemmas.List.{length-map}
 use Rattle.ev_port.specs.ScriptKept.{Brings, links_after_lines}
 use Rattle.ev_port.specs.ScriptLinks.{after_lines}

@@ -15,5 +15,5 @@ abbrev pub invariant-loop-lines-2 : goal.invariant-loop-lines-2
 invariant-loop-lines-2 l = record {
   state : l.links.state ≡ l.initial.links.state;
   to_open : l.links.to_open ≡ l.initial.links.to_open;
-  to_come : with_all_bytes (lines_of (drop l.lines-index (map shown_turn l.lines-items))) l.links.to_come ≡ with_all_bytes (lines_of (map shown_turn l.lines-items)) l.initial.links.to_come
+  to_come : with_all_bytes (lines_of (drop l.lines-index (map shown_turn l.lines-items))) l.links.to_come ≡ with_all_bytes (lines_of (map shown_turn l.lines-items)) l.initial.links.to_come;
 }
