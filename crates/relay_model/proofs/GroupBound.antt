@@ -1,37 +1,34 @@
 -- Groups keep to their limits in every legal trace, and with them all limits are kept.
-use Rattle.std.proofs.Common.{◌≡◌, ◌≢◌, ◌⊎◌, inl, inr, ℕ, ◌+◌, ◌-◌, ◌*◌, ◌<◌, ◌≤◌, min, max, Bool, true, false, if◌then◌else◌, List, [], ◌∷◌, ◌++◌, length, Option, Some, None, option_map, sum_by, refl, sym, ◌∙◌, ap, subst, arith}
-use Rattle.std.specs.Prelude.{nat_eq, slice_get, slice_index_or}
+use Rattle.std.proofs.Common.{◌≡◌, ◌⊎◌, inl, inr, ℕ, ◌+◌, ◌-◌, ◌≤◌, min, max, Bool, true, false, if◌then◌else◌, List, [], ◌∷◌, ◌++◌, length, Option, Some, None, option_map, sum_by, refl, sym, ◌∙◌, ap, subst, arith}
+use Rattle.std.specs.Prelude.{slice_get}
 use Rattle.std.proofs.lemmas.Bool.{eqb-true}
 use Rattle.std.proofs.lemmas.List.{append_assoc}
 use Rattle.std.proofs.lemmas.List.Sums.{sum_by-append}
 use Rattle.token_bucket.specs.declared.limit.Dir.{Dir}
 use Rattle.token_bucket.specs.declared.limit.Dir.TheVariants as dir
-use Rattle.token_bucket.specs.declared.limit.LimitCfg.{LimitCfg}
 use Rattle.ev_types.specs.declared.side.SideId.{SideId}
 use Rattle.ev_types.specs.declared.answer.ReadAnswer.{ReadAnswer}
 use Rattle.ev_types.specs.declared.answer.WriteAnswer.{WriteAnswer}
 use Rattle.ev_types.specs.declared.entry.Entry.{Entry}
 use Rattle.ev_types.specs.declared.entry.Entry.TheVariants as entry
-use Rattle.ev_types.specs.Sides.{same_end}
 use Rattle.ev_types.specs.Trace.{Event, Trace}
 use Rattle.relay_model.specs.Settings.{Settings, GroupSet}
 use Rattle.relay_model.specs.Plain.{Plain, side_at}
-use Rattle.relay_model.specs.Rates.{Limit, limit_of, moved_by, Beat, Moves}
+use Rattle.relay_model.specs.Rates.{limit_of, Moves}
 use Rattle.relay_model.specs.Groups.{same_group, group_after, beat_among, beats_among, group_spells, least_share, group_level, members, is_suspended, share_among}
-use Rattle.relay_model.specs.Past.{Past, past}
+use Rattle.relay_model.specs.Past.{past}
 use Rattle.relay_model.specs.Rooms.{share_in, share, allowance, at_most, within_rates, read_room, write_room, may_read, may_write}
 use Rattle.relay_model.specs.Serve.{CarriesGot, CarriesTook}
-use Rattle.relay_model.specs.Stages.{Stage, State, start}
-use Rattle.relay_model.specs.Turn.{Puts, Quietly, Reaches, begins, IsLegal}
+use Rattle.relay_model.specs.Stages.{Stage, State}
+use Rattle.relay_model.specs.Turn.{Puts, Reaches, begins, IsLegal}
 use Rattle.relay_model.specs.RatesKept.{time_by, last_time, bytes_of, moved_among, most_moved, KeepsRate, GroupKeepsRate, RatesKept}
 use Rattle.relay_model.proofs.PastLemmas.{is_still, beats_among-push, beat_among-still}
 use Rattle.relay_model.proofs.ListEnds.{split-at_one, append-empty}
-use Rattle.relay_model.proofs.EndLemmas.{same_end-refl}
 use Rattle.relay_model.proofs.ClosingEntries.{closing-closes, closes-still}
 use Rattle.relay_model.proofs.StepLemmas.{read-called, write-called}
 use Rattle.relay_model.proofs.ReachLemmas.{reaches-holds, last_time-push, beginnings-are_legal}
 use Rattle.relay_model.proofs.RatesLaw.{Rated, rated-goes, rated-puts, rated}
-use Rattle.relay_model.proofs.RateSteps.{at_most-le, room-where, got-within, took-within, puts-later}
+use Rattle.relay_model.proofs.RateSteps.{room-where, got-within, took-within, puts-later}
 use Rattle.relay_model.proofs.RateBound.{turn_at, last_time-cut, most-later, kept}
 use Rattle.relay_model.proofs.GroupSteps.{group_spells-last, not_suspended-left, share-parts, group-most, group_spells-some}
 

@@ -1,24 +1,16 @@
 -- What members of a group move is at most their share, and what the share leaves of the group's bucket.
-use Rattle.std.proofs.Common.{◌≡◌, ◌≢◌, ◌⊎◌, inl, inr, ℕ, zero, suc, ◌+◌, ◌-◌, ◌*◌, ◌/◌, ◌<◌, ◌≤◌, min, max, Bool, true, false, if◌then◌else◌, List, [], ◌∷◌, ◌++◌, length, take, map, Option, Some, None, option_map, fold, sum_by, refl, sym, ◌∙◌, ap, subst, arith}
-use Rattle.std.specs.Prelude.{nat_eq, nat_lt, ◌||◌, ◌&&◌, slice_get, slice_index_or}
-use Rattle.std.proofs.lemmas.Bool.{eqb-true}
+use Rattle.std.proofs.Common.{◌≡◌, ◌⊎◌, inl, inr, ℕ, suc, ◌+◌, ◌-◌, ◌*◌, ◌/◌, ◌≤◌, max, Bool, true, false, if◌then◌else◌, List, [], ◌∷◌, ◌++◌, length, fold, refl, sym, ◌∙◌, ap, subst, arith}
+use Rattle.std.specs.Prelude.{nat_eq, ◌||◌, slice_index_or}
 use Rattle.std.proofs.lemmas.Bool.Decides.{eqb_tells}
 use Rattle.std.proofs.lemmas.List.{append-nil, append_assoc, take_all, length-append}
-use Rattle.std.proofs.lemmas.List.Sums.{sum_by-append, sum_by-cons, fold-append}
 use Rattle.std.proofs.Math.Nat.{div-le_self}
 use Rattle.token_bucket.specs.declared.limit.Dir.{Dir}
-use Rattle.token_bucket.specs.declared.limit.Dir.TheVariants as dir
-use Rattle.ev_types.specs.declared.side.SideId.{SideId}
-use Rattle.ev_types.specs.declared.answer.ReadAnswer.TheVariants as read
-use Rattle.ev_types.specs.declared.answer.WriteAnswer.TheVariants as write
-use Rattle.ev_types.specs.declared.entry.Entry.{Entry}
 use Rattle.ev_types.specs.declared.entry.Entry.TheVariants as entry
 use Rattle.ev_types.specs.Trace.{Event, Trace}
 use Rattle.relay_model.specs.Settings.{Settings, GroupSet}
-use Rattle.relay_model.specs.Rates.{Limit, limit_of, ticks, Spell, moved_in, since_each, least_with, level, Beat, Begins, Moves, moved_first, spells, moved_by}
-use Rattle.relay_model.specs.Groups.{same_group, group_after, beat_among, beats_among, group_spells, least_share, group_level, no_spell, level_at_end, level_at_start, suspended_in, is_suspended, share_among}
-use Rattle.relay_model.specs.RatesKept.{time_by, last_time, bytes_of, moved_among, most_moved}
-use Rattle.relay_model.proofs.PastLemmas.{beats_among-push}
+use Rattle.relay_model.specs.Rates.{Limit, limit_of, ticks, Spell, moved_in, Beat, Begins, Moves, moved_first, spells}
+use Rattle.relay_model.specs.Groups.{beat_among, beats_among, group_spells, least_share, group_level, no_spell, level_at_end, suspended_in, is_suspended, share_among}
+use Rattle.relay_model.specs.RatesKept.{time_by, last_time, moved_among, most_moved}
 use Rattle.relay_model.proofs.SpellLemmas.{spells-apart, rest_spells, moved_in-rest, least-term}
 
 -- The time of the last spell

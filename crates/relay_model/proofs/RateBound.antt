@@ -1,5 +1,5 @@
 -- Sides keep to their limits in every legal trace.
-use Rattle.std.proofs.Common.{◌≡◌, ◌≢◌, ◌⊎◌, inl, inr, ℕ, suc, ◌+◌, ◌-◌, ◌*◌, ◌/◌, ◌<◌, ◌≤◌, Bool, true, false, cond, if◌then◌else◌, List, [], ◌∷◌, ◌++◌, length, Option, Some, None, option_map, fold, sum_by, count_by, refl, sym, ◌∙◌, ap, subst, arith}
+use Rattle.std.proofs.Common.{◌≡◌, ◌≢◌, inl, inr, ℕ, ◌+◌, ◌-◌, ◌*◌, ◌/◌, ◌<◌, ◌≤◌, Bool, true, false, cond, List, [], ◌∷◌, ◌++◌, Option, Some, None, count_by, refl, sym, ◌∙◌, ap, subst, arith}
 use Rattle.std.proofs.Math.Nat.{div-mul-le_self, mul-le-mul_left}
 use Rattle.std.proofs.lemmas.Nat.{le-div}
 use Rattle.std.proofs.lemmas.Bool.Decides.{eqb_tells}
@@ -14,11 +14,10 @@ use Rattle.ev_types.specs.declared.entry.Entry.TheVariants as entry
 use Rattle.ev_types.specs.Trace.{Event, Trace}
 use Rattle.relay_model.specs.Settings.{Settings}
 use Rattle.relay_model.specs.Plain.{Plain, Standing, side_at}
-use Rattle.relay_model.specs.Rates.{Limit, limit_of, ticks, moved_by, standing_level, side_spells}
-use Rattle.relay_model.specs.Past.{Past, past}
+use Rattle.relay_model.specs.Rates.{limit_of, moved_by, standing_level, side_spells}
 use Rattle.relay_model.specs.Stages.{State, start}
 use Rattle.relay_model.specs.Turn.{Puts, Quietly, Reaches, begins}
-use Rattle.relay_model.specs.RatesKept.{is_turn, time_by, last_time, is_rate_ask, limit_after, moved_over, most_moved, KeepsRate}
+use Rattle.relay_model.specs.RatesKept.{is_turn, time_by, last_time, is_rate_ask, limit_after, moved_over, most_moved}
 use Rattle.relay_model.proofs.ListEnds.{split-end, split-at_one, append-empty}
 use Rattle.relay_model.proofs.SpellLemmas.{standing-most}
 use Rattle.relay_model.proofs.QuietSteps.{kept-quietly}

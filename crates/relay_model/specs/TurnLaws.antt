@@ -1,5 +1,5 @@
 -- What holds of every legal trace, whatever ports, clocks and hooks do.
-use Rattle.std.specs.Prelude.{◌≡◌, ℕ, ◌*◌, Bool, true, false, ◌++◌, length, count_by, option_map}
+use Rattle.std.specs.Prelude.{◌≡◌, ◌*◌, Bool, true, false, ◌++◌, length, count_by, option_map}
 use Rattle.ev_types.specs.declared.side.SideId.{SideId}
 use Rattle.ev_types.specs.declared.entry.Entry.TheVariants as entry
 use Rattle.ev_types.specs.Trace.{Event, Trace}
