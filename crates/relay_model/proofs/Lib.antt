@@ -33,6 +33,8 @@ pub mod ListEnds
 pub mod SpellLemmas
 pub mod RateSteps
 pub mod RateBound
+pub mod GroupSteps
+pub mod GroupBound
 pub mod EndLemmas
 pub mod KeepsLemmas
 pub mod SeenLemmas

@@ -1,5 +1,5 @@
 -- Sides keep to their limits in every legal trace.
-use Rattle.std.proofs.Common.{◌≡◌, ◌≢◌, ◌⊎◌, inl, inr, ℕ, suc, ◌+◌, ◌-◌, ◌*◌, ◌/◌, ◌<◌, ◌≤◌, Bool, true, false, cond, if◌then◌else◌, List, [], ◌∷◌, ◌++◌, length, Option, Some, None, option_map, fold, sum_by, count_by, refl, sym, ◌∙◌, ap, subst, arith}
+use Rattle.std.proofs.Common.{◌≡◌, ◌≢◌, inl, inr, ℕ, ◌+◌, ◌-◌, ◌*◌, ◌/◌, ◌<◌, ◌≤◌, Bool, true, false, cond, List, [], ◌∷◌, ◌++◌, Option, Some, None, count_by, refl, sym, ◌∙◌, ap, subst, arith}
 use Rattle.std.proofs.Math.Nat.{div-mul-le_self, mul-le-mul_left}
 use Rattle.std.proofs.lemmas.Nat.{le-div}
 use Rattle.std.proofs.lemmas.Bool.Decides.{eqb_tells}
@@ -14,11 +14,10 @@ use Rattle.ev_types.specs.declared.entry.Entry.TheVariants as entry
 use Rattle.ev_types.specs.Trace.{Event, Trace}
 use Rattle.relay_model.specs.Settings.{Settings}
 use Rattle.relay_model.specs.Plain.{Plain, Standing, side_at}
-use Rattle.relay_model.specs.Rates.{Limit, limit_of, ticks, moved_by, standing_level, side_spells}
-use Rattle.relay_model.specs.Past.{Past, past}
+use Rattle.relay_model.specs.Rates.{limit_of, moved_by, standing_level, side_spells}
 use Rattle.relay_model.specs.Stages.{State, start}
 use Rattle.relay_model.specs.Turn.{Puts, Quietly, Reaches, begins}
-use Rattle.relay_model.specs.RatesKept.{is_turn, time_by, last_time, is_rate_ask, limit_after, moved_over, most_moved, KeepsRate}
+use Rattle.relay_model.specs.RatesKept.{is_turn, time_by, last_time, is_rate_ask, limit_after, moved_over, most_moved}
 use Rattle.relay_model.proofs.ListEnds.{split-end, split-at_one, append-empty}
 use Rattle.relay_model.proofs.SpellLemmas.{standing-most}
 use Rattle.relay_model.proofs.QuietSteps.{kept-quietly}
@@ -172,8 +171,8 @@ step-bounded g e d t s new e' bytes rated stays p cfg before rest ms split limit
     let stood : Stood s.plain e cfg (count_by is_turn before) = stays before rest ms cfg split limit none in
     let a : moved_by e d (e', bytes) ≤ standing_level stood.standing d (side_spells e d t) s.plain.time = puts-within g t s.stage s.plain e' bytes new e d stood.standing p stood.stands in
     let b : standing_level stood.standing d (side_spells e d t) s.plain.time ≤ most_moved (limit_of stood.standing.cfg d) ms s.plain.time - moved_over e d rest =
-        subst (λ z. standing_level stood.standing d (side_spells e d z) s.plain.time ≤ most_moved (limit_of stood.standing.cfg d) ms s.plain.time - moved_over e d rest) (sym split)
-        (standing-most stood.standing e d before rest ms s.plain.time stood.begun) in
+    subst (λ z. standing_level stood.standing d (side_spells e d z) s.plain.time ≤ most_moved (limit_of stood.standing.cfg d) ms s.plain.time - moved_over e d rest) (sym split)
+    (standing-most stood.standing e d before rest ms s.plain.time stood.begun) in
     let c : most_moved (limit_of stood.standing.cfg d) ms s.plain.time ≡ most = ap (λ z. most_moved (limit_of z d) ms s.plain.time) stood.cfg_is ∙ sym most_is in
     omega (arith, a, b, c, was)
 
@@ -183,9 +182,9 @@ bounded-puts g e d t s new e' bytes rated stays late bounded p cfg before run la
     elim (split-at_one t before (run ++ last) x (turn_at ms) split) [
       | inl at_end ↦ subst (λ z. moved_over e d z ≤ most_moved (limit_of cfg d) ms (last_time ms run)) (sym at_end.0) (omega arith)
       | inr earlier ↦ elim (split-end run last earlier.0 x earlier.1) [
-          | inl none_last ↦ in_run earlier.0 earlier.2 none_last.0 none_last.1
-          | inr some_last ↦ in_last some_last.0 some_last.1 (earlier.2 ∙ ap (λ z. before ++ turn_at ms ∷ z) some_last.2)
-        ]
+        | inl none_last ↦ in_run earlier.0 earlier.2 none_last.0 none_last.1
+        | inr some_last ↦ in_last some_last.0 some_last.1 (earlier.2 ∙ ap (λ z. before ++ turn_at ms ∷ z) some_last.2)
+      ]
     ]
   where
     x : Event
@@ -201,17 +200,17 @@ bounded-puts g e d t s new e' bytes rated stays late bounded p cfg before run la
         let none' = count-none (is_rate_ask e) rest x (ap (λ z. count_by (is_rate_ask e) z) (sym is) ∙ none) in
         let time = time-is rest cut in
         let was : moved_over e d (rest ++ []) ≤ most_moved (limit_of cfg d) ms (last_time ms rest) =
-            bounded cfg before rest [] ms (cut ∙ ap (λ z. before ++ turn_at ms ∷ z) (sym (append-nil rest))) limit none'.0 refl in
+        bounded cfg before rest [] ms (cut ∙ ap (λ z. before ++ turn_at ms ∷ z) (sym (append-nil rest))) limit none'.0 refl in
         let was' : moved_over e d rest ≤ most_moved (limit_of cfg d) ms (last_time ms rest) = subst (λ z. moved_over e d z ≤ most_moved (limit_of cfg d) ms (last_time ms rest)) (append-nil rest) was in
         let step = step-bounded g e d t s new e' bytes rated stays p cfg before rest ms cut limit none'.0 (most_moved (limit_of cfg d) ms (last_time ms rest)) (ap (λ z. most_moved (limit_of cfg d) ms z) (sym time)) was' in
         let later : last_time ms rest ≤ last_time ms run =
-            let k = puts-later g t s.stage s.plain e' bytes new p in
-            let q : last_time ms run ≡ time_by (last_time ms rest) x = ap (λ z. last_time ms z) is ∙ last_time-push ms rest x in
-            let r : time_by s.plain.time x ≡ time_by (last_time ms rest) x = ap (λ z. time_by z x) time in
-            omega (arith, k, q, r, time) in
+        let k = puts-later g t s.stage s.plain e' bytes new p in
+        let q : last_time ms run ≡ time_by (last_time ms rest) x = ap (λ z. last_time ms z) is ∙ last_time-push ms rest x in
+        let r : time_by s.plain.time x ≡ time_by (last_time ms rest) x = ap (λ z. time_by z x) time in
+        omega (arith, k, q, r, time) in
         let grows = most-later cfg d ms (last_time ms rest) (last_time ms run) later in
         let all : moved_over e d (run ++ last) ≡ moved_over e d rest + moved_by e d x =
-            ap (λ z. moved_over e d (run ++ z)) no_last ∙ ap (λ z. moved_over e d z) (append-nil run ∙ is) ∙ moved-push e d rest x in
+        ap (λ z. moved_over e d (run ++ z)) no_last ∙ ap (λ z. moved_over e d z) (append-nil run ∙ is) ∙ moved-push e d rest x in
         omega (arith, step, grows, all)
 
     -- the step stands in the last turn
@@ -238,8 +237,8 @@ bounded-puts g e d t s new e' bytes rated stays late bounded p cfg before run la
         asked : count_by (is_rate_ask e) last' ≢ 0 → moved_over e d (run ++ last') + moved_by e d x ≤ most_moved (limit_of cfg d) ms (last_time ms run)
         asked some =
             let seen : was_asked false t ≡ true =
-                ap (λ z. was_asked false z) cut ∙ fold-append (λ b y. asked_by b y) false before (turn_at ms ∷ (run ++ last'))
-                ∙ fold-append (λ b y. asked_by b y) false run last' ∙ was_asked-rate e last' (was_asked false run) none'.0 some in
+            ap (λ z. was_asked false z) cut ∙ fold-append (λ b y. asked_by b y) false before (turn_at ms ∷ (run ++ last'))
+            ∙ fold-append (λ b y. asked_by b y) false run last' ∙ was_asked-rate e last' (was_asked false run) none'.0 some in
             let still = late-moves_none g t s.stage s.plain e' bytes new e d (late seen) p in
             omega (arith, was, still)
 

@@ -1,7 +1,6 @@
 -- What a step of a turn moves is at most what the bucket of the side holds, and nothing is moved once hooks were asked.
-use Rattle.std.proofs.Common.{◌≡◌, ◌≢◌, ◌⊎◌, inl, inr, ℕ, ◌+◌, ◌-◌, ◌*◌, ◌<◌, ◌≤◌, min, Bool, true, false, if◌then◌else◌, List, [], ◌∷◌, ◌++◌, length, Option, Some, None, option_map, fold, count_by, refl, sym, ◌∙◌, ap, subst, arith}
-use Rattle.std.specs.Prelude.{nat_eq, ⊤}
-use Rattle.std.proofs.lemmas.Bool.{eqb-true}
+use Rattle.std.proofs.Common.{◌≡◌, inl, inr, ℕ, ◌*◌, ◌≤◌, min, Bool, true, false, if◌then◌else◌, List, [], ◌∷◌, length, Option, Some, None, option_map, fold, refl, sym, ◌∙◌, ap, subst, arith}
+use Rattle.std.specs.Prelude.{nat_eq}
 use Rattle.std.proofs.lemmas.Bool.Decides.{eqb_tells}
 use Rattle.std.proofs.lemmas.List.{get_or_past}
 use Rattle.token_bucket.specs.declared.limit.Dir.{Dir}
@@ -15,7 +14,6 @@ use Rattle.ev_types.specs.declared.answer.ReadAnswer.{ReadAnswer}
 use Rattle.ev_types.specs.declared.answer.ReadAnswer.TheVariants as read
 use Rattle.ev_types.specs.declared.answer.WriteAnswer.{WriteAnswer}
 use Rattle.ev_types.specs.declared.answer.WriteAnswer.TheVariants as write
-use Rattle.ev_types.specs.declared.why.Cause.TheVariants as cause
 use Rattle.ev_types.specs.declared.entry.Entry.{Entry}
 use Rattle.ev_types.specs.declared.entry.Entry.TheVariants as entry
 use Rattle.ev_types.specs.Sides.{number, same_end}
@@ -26,15 +24,14 @@ use Rattle.relay_model.specs.Plain.{Plain, Standing, no_side, side_at}
 use Rattle.relay_model.specs.Rates.{standing_level, moved_by}
 use Rattle.relay_model.specs.Past.{Past, past}
 use Rattle.relay_model.specs.Rooms.{allowance, share, at_most, within_rates, read_room, write_room, may_read, may_write}
-use Rattle.relay_model.specs.Serve.{CarriesGot, CarriesTook, Call, call_for}
-use Rattle.relay_model.specs.Close.{freed_entry}
+use Rattle.relay_model.specs.Serve.{CarriesGot, CarriesTook}
 use Rattle.relay_model.specs.Stages.{Fire, Halt, Stage, State, after_ask}
-use Rattle.relay_model.specs.Turn.{Puts, Quietly, after_reading, after_fire}
-use Rattle.relay_model.specs.RatesKept.{is_turn, time_by, is_rate_ask}
-use Rattle.relay_model.proofs.EndLemmas.{same_end-eq, number-lt}
+use Rattle.relay_model.specs.Turn.{Puts, Quietly, after_fire}
+use Rattle.relay_model.specs.RatesKept.{time_by, is_rate_ask}
+use Rattle.relay_model.proofs.EndLemmas.{same_end-eq}
 use Rattle.relay_model.proofs.PastLemmas.{is_still}
 use Rattle.relay_model.proofs.ClosingEntries.{closes, closing-closes, closes-still, still-no_time}
-use Rattle.relay_model.proofs.StepLemmas.{CalledRead, read-called, CalledWrite, write-called}
+use Rattle.relay_model.proofs.StepLemmas.{read-called, write-called}
 use Rattle.relay_model.proofs.SpellLemmas.{turn_moves-none}
 use Rattle.relay_model.proofs.RatesTold.{sets_limit}
 

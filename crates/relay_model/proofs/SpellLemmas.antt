@@ -1,6 +1,6 @@
 -- Spells of a trace that is cut before a turn, and the terms of a bucket's level.
-use Rattle.std.proofs.Common.{◌≡◌, ℕ, suc, ◌+◌, ◌-◌, ◌*◌, ◌<◌, ◌≤◌, min, Bool, true, false, List, [], ◌∷◌, ◌++◌, length, map, drop, sum_by, count_by, refl, sym, ◌∙◌, ap, subst, cond, arith}
-use Rattle.std.proofs.lemmas.List.{map-append, drop-append-le, length-append}
+use Rattle.std.proofs.Common.{◌≡◌, ℕ, ◌+◌, ◌-◌, ◌*◌, ◌≤◌, min, List, [], ◌∷◌, ◌++◌, length, map, drop, sum_by, count_by, refl, sym, ◌∙◌, ap, subst, cond, arith}
+use Rattle.std.proofs.lemmas.List.{map-append, drop-append-le}
 use Rattle.std.proofs.lemmas.List.Sums.{sum_by-cons}
 use Rattle.token_bucket.specs.declared.limit.Dir.{Dir}
 use Rattle.token_bucket.specs.declared.limit.Dir.TheVariants as dir
@@ -100,9 +100,9 @@ standing-most y e d before rest ms time begun =
     let cs : List Beat = map (beat_of e d) rest in
     let within : y.turn ≤ length (side_spells e d before) = omega (arith, begun, spells-count e d before) in
     let later : drop y.turn (side_spells e d (before ++ (entry.Turn ms, []) ∷ rest)) ≡ drop y.turn (side_spells e d before) ++ rest_spells cs ms =
-        ap (λ z. drop y.turn z) (side_spells-apart e d before rest ms) ∙ drop-append-le y.turn (side_spells e d before) (rest_spells cs ms) within in
+    ap (λ z. drop y.turn z) (side_spells-apart e d before rest ms) ∙ drop-append-le y.turn (side_spells e d before) (rest_spells cs ms) within in
     let term = least-term l time (held_as_set y d + l.rate * ticks l.tick y.time time - moved_in (drop y.turn (side_spells e d before) ++ rest_spells cs ms))
-        (drop y.turn (side_spells e d before)) (spells cs) (record { time = ms; moved = moved_first cs }) in
+    (drop y.turn (side_spells e d before)) (spells cs) (record { time = ms; moved = moved_first cs }) in
     let total : moved_in (rest_spells cs ms) ≡ moved_over e d rest = moved_in-rest cs ms ∙ beats-total e d rest in
     subst (λ z. level l y.time (held_as_set y d) z time ≤ most_moved l ms time - moved_over e d rest) (sym later)
     (subst (λ z. level l y.time (held_as_set y d) (drop y.turn (side_spells e d before) ++ rest_spells cs ms) time ≤ most_moved l ms time - z) total term)
