@@ -16,6 +16,7 @@ pub mod StandsLemmas
 pub mod TiedLemmas
 pub mod PlayedLemmas
 pub mod PlayedReads
+pub mod PlayedTurns
 mod PlayedExamples
 mod ScriptedExamples
 mod TiedExamples

@@ -13,6 +13,6 @@ pub use laws::{
 };
 pub use played_laws::{
     Vouches, answers_go_on, any_stage_holds, cuts_join, end_ties_join, nothing_is_tied,
-    nothing_stands, steps_join, what_comes_is_read,
+    nothing_stands, steps_join, turns_take_all, what_comes_is_read,
 };
 pub use turn_laws::{beginnings_are_legal, trace_tells_rates, trace_tells_shape};

@@ -1,5 +1,5 @@
 // Laws on what a relay stands for, and on what a played trace is.
-ghost use Rattle.relay_model.specs.Plays.{AnswersGoOn, ReadsWhatComes};
+ghost use Rattle.relay_model.specs.Plays.{AnswersGoOn, ReadsWhatComes, TurnTakesAll};
 ghost use Rattle.relay_model.specs.Stands.{AnyStageHolds, CutsJoin, NothingStands, StepsJoin};
 ghost use Rattle.relay_model.specs.Tied.{EndTiesJoin, NothingIsTied};
 
@@ -51,4 +51,9 @@ pub fn answers_go_on()
 /// In a run over a script, what was read from an end and what is pending there is what the script brought in.
 pub fn what_comes_is_read()
     ensures { ReadsWhatComes }
+{}
+
+/// A turn that took all links that waited, or as many as it may, keeps what a run over a script asks of all its turns.
+pub fn turns_take_all()
+    ensures { TurnTakesAll }
 {}
