@@ -1,7 +1,7 @@
 -- A run over a script goes on by a turn that took all links.
-use Rattle.std.proofs.Common.{◌≡◌, ◌⊎◌, inl, inr, ℕ, ◌+◌, ◌≤◌, Bool, true, false, ◌&&◌, ◌||◌, not, if◌then◌else◌, List, [], ◌∷◌, ◌++◌, drop, take, count_by, refl, sym, ◌∙◌, ap, subst, arith, append_assoc}
+use Rattle.std.proofs.Common.{◌≡◌, ◌⊎◌, inl, inr, ℕ, ◌≤◌, Bool, true, false, ◌||◌, if◌then◌else◌, List, [], ◌∷◌, ◌++◌, drop, take, count_by, refl, sym, ◌∙◌, ap, subst, arith, append_assoc}
 use Rattle.std.specs.Bool.{⊤, MatchBool}
-use Rattle.std.specs.List.{flat_map, list_any, list_all, fold}
+use Rattle.std.specs.List.{flat_map, list_any, list_all}
 use Rattle.std.proofs.lemmas.List.{append-nil}
 use Rattle.std.proofs.lemmas.Bool.{and_parts}
 use Rattle.std.proofs.lemmas.List.Sums.{sum_by-append, fold-append}
@@ -40,9 +40,9 @@ counts-served : (t : Trace) (x : Event) → is_served x ≡ true → counts (t +
 counts-served t x h =
     let q = served-quiet x h in
     let a : count_by is_turn (t ++ x ∷ []) ≡ count_by is_turn t =
-        (let parts = sum_by-append (λ y. if is_turn y then 1 else 0) t (x ∷ []) in let none = ap once q.turn in omega (arith, parts, none)) in
+    (let parts = sum_by-append (λ y. if is_turn y then 1 else 0) t (x ∷ []) in let none = ap once q.turn in omega (arith, parts, none)) in
     let b : opened (t ++ x ∷ []) ≡ opened t =
-        (let parts = sum_by-append (λ y. if is_opened y then 1 else 0) t (x ∷ []) in let none = ap once q.opens in omega (arith, parts, none)) in
+    (let parts = sum_by-append (λ y. if is_opened y then 1 else 0) t (x ∷ []) in let none = ap once q.opens in omega (arith, parts, none)) in
     let c : opened_in_turn (t ++ x ∷ []) ≡ opened_in_turn t = fold-append opened_by 0 t (x ∷ []) ∙ q.in_turn (opened_in_turn t) in
     λ i. record { turns = a i; opened = b i; in_turn = c i }
 
@@ -70,9 +70,10 @@ module _ (turns : List ScriptTurn) (links : ℕ) where
     where
       by_test : (list_any is_behind_accepting t ≡ false → AlwaysTookAll turns links (before ++ x ∷ []) t) → (b : Bool) → is_behind_accepting x ≡ b → AlwaysTookAll turns links before (x ∷ t)
       by_test rest true e = absurd (let k = ap (λ b. b || list_any is_behind_accepting t) e in cc)
-      by_test rest false e =
-          (subst (λ b. MatchBool b (TookAll turns links before) ⊤) (sym e) tt,
-          rest (sym (ap (λ b. b || list_any is_behind_accepting t) e) ∙ h))
+      by_test rest false e = (
+        subst (λ b. MatchBool b (TookAll turns links before) ⊤) (sym e) tt,
+        rest (sym (ap (λ b. b || list_any is_behind_accepting t) e) ∙ h),
+      )
 
   anyway : (b : Bool) (P : Type 0) → P → MatchBool b P ⊤
   anyway true P p = p
@@ -81,9 +82,10 @@ module _ (turns : List ScriptTurn) (links : ℕ) where
   always-served : (before t : Trace) → list_all is_served t ≡ true → TookAll turns links before → AlwaysTookAll turns links before t
   always-served before [] h took = tt
   always-served before (x ∷ t) h took =
-      let parts = and_parts (is_served x) (list_all is_served t) h in
-      (anyway (is_behind_accepting x) (TookAll turns links before) took,
-      always-served (before ++ x ∷ []) t parts.1 (took_as before (before ++ x ∷ []) (sym (counts-served before x parts.0)) took))
+      let parts = and_parts (is_served x) (list_all is_served t) h in (
+        anyway (is_behind_accepting x) (TookAll turns links before) took,
+        always-served (before ++ x ∷ []) t parts.1 (took_as before (before ++ x ∷ []) (sym (counts-served before x parts.0)) took),
+      )
 
 pub turn_takes_all : TurnTakesAll
 turn_takes_all turns links t ms accepting behind so_far began quiet served ends =
@@ -96,5 +98,5 @@ turn_takes_all turns links t ms accepting behind so_far began quiet served ends 
     at_end u s (inr took) =
         let front = (t ++ (entry.Turn ms, []) ∷ []) ++ accepting in
         let whole : front ++ u ≡ t ++ (entry.Turn ms, []) ∷ (accepting ++ u) =
-            append_assoc (t ++ (entry.Turn ms, []) ∷ []) accepting u ∙ append_assoc t ((entry.Turn ms, []) ∷ []) (accepting ++ u) in
+        append_assoc (t ++ (entry.Turn ms, []) ∷ []) accepting u ∙ append_assoc t ((entry.Turn ms, []) ∷ []) (accepting ++ u) in
         always-served turns links front u s (took_as turns links (t ++ (entry.Turn ms, []) ∷ (accepting ++ u)) front (ap counts (sym whole) ∙ counts-all_served front u s) took)
