@@ -13,6 +13,7 @@ pub mod RunningLemmas
 pub mod PassKeeps
 pub mod PassLemmas
 pub mod StandsLemmas
+pub mod StandsLawLemmas
 pub mod TiedLemmas
 pub mod PlayedLemmas
 pub mod PlayedReads

@@ -12,7 +12,8 @@ pub use laws::{
     what_is_met_is_bad,
 };
 pub use played_laws::{
-    Vouches, answers_go_on, any_stage_holds, cuts_join, end_ties_join, nothing_is_tied,
+    Vouches, answers_go_on, any_stage_holds, buffers_hold_the_rest, bytes_given_begin,
+    closed_is_whole, cuts_join, end_ties_join, free_accounts_for_the_rest, nothing_is_tied,
     nothing_stands, steps_join, turns_take_all, what_comes_is_read,
 };
 pub use turn_laws::{beginnings_are_legal, trace_tells_rates, trace_tells_shape};

@@ -1,6 +1,7 @@
-// Laws on what a relay stands for, and on what a played trace is.
+// Laws on what a relay stands for, on what ties a port to a trace, and on runs over scripts.
 ghost use Rattle.relay_model.specs.Plays.{AnswersGoOn, ReadsWhatComes, TurnTakesAll};
 ghost use Rattle.relay_model.specs.Stands.{AnyStageHolds, CutsJoin, NothingStands, StepsJoin};
+ghost use Rattle.relay_model.specs.StandsLaws.{BuffersHoldTheRest, BytesGivenBegin, ClosedIsWhole, FreeAccountsForTheRest};
 ghost use Rattle.relay_model.specs.Tied.{EndTiesJoin, NothingIsTied};
 
 /// What can say of whole traces that they are its own.
@@ -31,6 +32,26 @@ pub fn cuts_join<V: Vouches>(before: &V, between: &V, behind: &V)
 /// A turn may be cut off wherever it stands, with no entry.
 pub fn any_stage_holds()
     ensures { AnyStageHolds }
+{}
+
+/// Whatever happens, the bytes given to each side of each link begin what the filters make of the bytes read from its peer.
+pub fn bytes_given_begin()
+    ensures { BytesGivenBegin }
+{}
+
+/// Where writing was ended at a side, it was given all that the filters make of the bytes read from its peer.
+pub fn closed_is_whole()
+    ensures { ClosedIsWhole }
+{}
+
+/// While both sides of a link live, its buffers hold exactly the rest.
+pub fn buffers_hold_the_rest()
+    ensures { BuffersHoldTheRest }
+{}
+
+/// Once a side was freed, what was given to its peer and what waits there are what the free told as moved.
+pub fn free_accounts_for_the_rest()
+    ensures { FreeAccountsForTheRest }
 {}
 
 /// Before anything happened a port is tied to the trace of no entries, whatever it tells.
