@@ -1,19 +1,15 @@
 -- The laws on each direction, of a whole relay.
-use Rattle.std.proofs.Common.{◌≡◌, ◌⊎◌, inl, inr, ℕ, ◌<◌, ◌≤◌, Bool, true, false, [], refl, sym, ap, subst}
+use Rattle.std.proofs.Common.{◌≡◌, ◌⊎◌, inl, inr, ℕ, ◌<◌, ◌≤◌, Bool, true, false, refl, sym, subst}
 use Rattle.std.specs.Prelude.{nat_lt}
 use Rattle.std.proofs.lemmas.Bool.{ltb-true, ltb-false}
-use Rattle.ev_types.specs.declared.side.SideId.{SideId}
 use Rattle.ev_types.specs.Sides.{peer}
-use Rattle.ev_types.specs.Trace.{Trace}
-use Rattle.relay_model.specs.Trace.{bytes_read, bytes_given, has_ended, is_write_closed}
-use Rattle.relay_model.specs.Filter.{filter_of}
-use Rattle.relay_model.specs.FilterLaws.{IsPrefixOf, IsFilter}
+use Rattle.relay_model.specs.Trace.{bytes_read, bytes_given, has_ended}
+use Rattle.relay_model.specs.FilterLaws.{IsPrefixOf}
 use Rattle.relay_model.specs.Flow.{passed}
 use Rattle.relay_model.specs.Conserved as direction
-use Rattle.relay_model.specs.Settings.{Settings}
-use Rattle.relay_model.specs.Plain.{Plain, flow_at, is_live}
+use Rattle.relay_model.specs.Plain.{flow_at, is_live}
 use Rattle.relay_model.specs.Rooms.{read_kind, write_kind, read_filter, write_filter}
-use Rattle.relay_model.specs.Stands.{Kept, AllAccounted, KeptConserved, buffers_at, runnings_at}
+use Rattle.relay_model.specs.Stands.{buffers_at, runnings_at}
 use Rattle.relay_model.specs.StandsLaws.{BytesGivenBegin, ClosedIsWhole, BuffersHoldTheRest, FreeAccountsForTheRest}
 use Rattle.relay_model.proofs.EveryFilter.{every_filter}
 use Rattle.relay_model.proofs.ConservedLemmas.{given_begins, all_is_there, rest_after_free}
