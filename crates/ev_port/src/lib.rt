@@ -21,3 +21,6 @@ pub use scribe::Scribe;
 pub use script_port::ScriptPort;
 pub use standard::{StdSink, StdSource};
 pub use stream::{Given, Sink, Source, Taken};
+
+#[cfg(test)]
+mod tests;

@@ -32,6 +32,9 @@ pub mod ReachLemmas
 pub mod RatesTold
 pub mod RatesLaw
 pub mod ListEnds
+pub mod SpellLemmas
+pub mod RateSteps
+pub mod RateBound
 pub mod EndLemmas
 pub mod KeepsLemmas
 pub mod SeenLemmas
@@ -45,3 +48,8 @@ pub mod CloseCases
 pub mod StepLemmas
 pub mod StageLemmas
 pub mod ToldLemmas
+pub mod SplitLemmas
+pub mod KindLemmas
+pub mod FireLemmas
+pub mod HeldLemmas
+pub mod QuietLemmas

@@ -36,3 +36,4 @@ pub mod Scripted
 pub mod Plays
 pub mod Told
 pub mod Hooked
+pub mod Quiet

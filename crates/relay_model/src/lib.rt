@@ -3,6 +3,7 @@
 #![tactic(auto)]
 
 mod laws;
+mod legal_laws;
 mod played_laws;
 mod turn_laws;
 
@@ -11,6 +12,7 @@ pub use laws::{
     given_begins_the_whole, passing_leaves_only_what_is_held, rest_is_there_after_a_free,
     what_is_met_is_bad,
 };
+pub use legal_laws::{legal_is_quiet, links_in_order, state_is_told, time_rises};
 pub use played_laws::{
     Vouches, answers_go_on, any_stage_holds, buffers_hold_the_rest, bytes_given_begin,
     closed_is_whole, cuts_join, end_ties_join, free_accounts_for_the_rest, nothing_is_tied,

@@ -1,5 +1,5 @@
 -- Worked runs with filters, marks and limits. Each line was worked out by hand from the rules.
-use Rattle.std.specs.Prelude.{ℕ, [], ◌∷◌, Some}
+use Rattle.std.specs.Prelude.{[], ◌∷◌}
 use Rattle.ev_types.specs.declared.filter.FilterKind.TheVariants as kind
 use Rattle.ev_types.specs.declared.why.Cause.TheVariants as cause
 use Rattle.ev_types.specs.Trace.{Trace}

@@ -1,5 +1,5 @@
 -- Worked runs with hooks and timeouts. Each line was worked out by hand from the rules.
-use Rattle.std.specs.Prelude.{ℕ, [], ◌∷◌}
+use Rattle.std.specs.Prelude.{[], ◌∷◌}
 use Rattle.ev_types.specs.declared.filter.FilterKind.TheVariants as kind
 use Rattle.ev_types.specs.declared.act.Act.TheVariants as act
 use Rattle.ev_types.specs.declared.answer.AskAnswer.TheVariants as ask

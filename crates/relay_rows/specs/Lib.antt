@@ -8,4 +8,7 @@ pub mod PlainRows
 pub mod FilterRows
 pub mod HookRows
 pub mod RateRows
+pub mod EdgeRows
+pub mod AskRows
 pub mod WrongRows
+pub mod WrongEdges

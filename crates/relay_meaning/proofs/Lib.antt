@@ -1,0 +1,5 @@
+pub mod Pieces
+pub mod StraightLemmas
+pub mod EndLemmas
+pub mod AgreeLemmas
+pub mod RoomLemmas

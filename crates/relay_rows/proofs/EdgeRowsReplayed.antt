@@ -1,0 +1,18 @@
+-- Each run at an edge of the rules is accepted.
+use Rattle.std.specs.Prelude.{refl}
+use Rattle.relay_model.specs.Settings.{usual}
+use Rattle.relay_rows.specs.Laws.{Goes}
+use Rattle.relay_rows.specs.EdgeRows.{rest_given_after_a_free, nothing_was_ready, bad_byte_behind_the_mark, connects_too_late, hex_out_held_at_one, write_timeout_out}
+use Rattle.relay_rows.proofs.AcceptLemmas.{rests-went}
+
+pub rest_given_after_a_free-goes : Goes usual rest_given_after_a_free
+rest_given_after_a_free-goes = rests-went usual rest_given_after_a_free refl
+
+pub nothing_was_ready-goes : Goes usual nothing_was_ready
+nothing_was_ready-goes = rests-went usual nothing_was_ready refl
+
+pub bad_byte_behind_the_mark-goes : Goes hex_out_held_at_one bad_byte_behind_the_mark
+bad_byte_behind_the_mark-goes = rests-went hex_out_held_at_one bad_byte_behind_the_mark refl
+
+pub connects_too_late-goes : Goes write_timeout_out connects_too_late
+connects_too_late-goes = rests-went write_timeout_out connects_too_late refl
