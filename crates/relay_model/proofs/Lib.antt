@@ -13,9 +13,11 @@ pub mod RunningLemmas
 pub mod PassKeeps
 pub mod PassLemmas
 pub mod StandsLemmas
+pub mod StandsLawLemmas
 pub mod TiedLemmas
 pub mod PlayedLemmas
 pub mod PlayedReads
+pub mod PlayedTurns
 mod PlayedExamples
 mod ScriptedExamples
 mod TiedExamples

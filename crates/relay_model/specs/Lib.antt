@@ -26,6 +26,7 @@ pub mod Turn
 pub mod Answers
 pub mod RatesKept
 pub mod Stands
+pub mod StandsLaws
 pub mod Totals
 pub mod Tied
 pub mod TurnLaws
