@@ -55,3 +55,6 @@ pub mod KindLemmas
 pub mod FireLemmas
 pub mod HeldLemmas
 pub mod QuietLemmas
+pub mod FaultLemmas
+pub mod TimeLemmas
+pub mod FaultSteps

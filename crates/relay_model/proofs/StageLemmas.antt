@@ -143,7 +143,7 @@ steps-placed (CloseStep.OutDone k) cs n lt h = h
 steps-placed (CloseStep.PeerGone e) cs n lt h = h
 steps-placed (CloseStep.Shut e) cs n lt h = h
 
-closed-opened : (c : CloseStep) (s : Plain) → (closed_by c s).opened ≡ s.opened
+pub closed-opened : (c : CloseStep) (s : Plain) → (closed_by c s).opened ≡ s.opened
 closed-opened (CloseStep.Faulty e) s = refl
 closed-opened (CloseStep.EndWriting e) s = refl
 closed-opened (CloseStep.BothDone k) s = refl

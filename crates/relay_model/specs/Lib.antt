@@ -37,3 +37,4 @@ pub mod Plays
 pub mod Told
 pub mod Hooked
 pub mod Quiet
+pub mod Causes
