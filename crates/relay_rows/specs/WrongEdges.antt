@@ -14,7 +14,7 @@ use Rattle.relay_rows.specs.HookRows.{hook_in}
 use Rattle.relay_rows.specs.RateRows.{letters, limited_in, one_group}
 use Rattle.relay_rows.specs.EdgeRows.{hex_out_held_at_one}
 use Rattle.relay_rows.specs.AskRows.{hook_and_timeouts_out, hook_and_low_mark_in}
-use Rattle.relay_rows.specs.WrongRows.{Wrong, wrong}
+use Rattle.relay_rows.specs.Wrong.{Wrong, wrong}
 
 abbrev opened : Trace
 opened = turn 0 ∷ poll ∷ opens 0 ∷ []
