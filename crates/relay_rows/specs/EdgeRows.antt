@@ -4,7 +4,7 @@ use Rattle.ev_types.specs.declared.filter.FilterKind.TheVariants as kind
 use Rattle.ev_types.specs.declared.why.Cause.TheVariants as cause
 use Rattle.ev_types.specs.Trace.{Trace}
 use Rattle.relay_model.specs.Settings.{Settings, usual}
-use Rattle.relay_rows.specs.RowWords.{in_of, out_of, turn, poll, poll_for, wants_read, wants_write, wants_both, can_read, can_write, opens, opens_waiting, gets, ends, ends_writing, write_fails, read_waits, read_fails, takes, write_waits, frees, closes}
+use Rattle.relay_rows.specs.RowWords.{in_of, out_of, turn, poll, poll_for, wants_read, wants_write, wants_both, can_read, can_write, opens, opens_waiting, connects, connect_waits, gets, ends, ends_writing, write_fails, read_waits, read_fails, takes, write_waits, frees, closes}
 
 -- In fails in the turn behind its bytes. They are given still, and only then is Out freed.
 abbrev pub rest_given_after_a_free : Trace
@@ -23,6 +23,14 @@ both_end_at_once =
     turn 0 ∷ poll ∷ opens 0
     ∷ turn 1 ∷ poll ∷ wants_read (in_of 0) ∷ wants_read (out_of 0) ∷ can_read (in_of 0) ∷ can_read (out_of 0) ∷ ends (in_of 0) 16384 ∷ ends (out_of 0) 16384
     ∷ ends_writing (out_of 0) ∷ ends_writing (in_of 0) ∷ frees (in_of 0) cause.Done 0 0 ∷ frees (out_of 0) cause.Done 0 0 ∷ closes (in_of 0) ∷ closes (out_of 0)
+    ∷ []
+
+-- In ends while Out is connecting. Writing is ended at Out once it is connected.
+abbrev pub ended_before_it_connects : Trace
+ended_before_it_connects =
+    turn 0 ∷ poll ∷ opens_waiting 0
+    ∷ turn 1 ∷ poll ∷ wants_read (in_of 0) ∷ wants_write (out_of 0) ∷ can_read (in_of 0) ∷ can_write (out_of 0) ∷ ends (in_of 0) 16384 ∷ connect_waits (out_of 0)
+    ∷ turn 2 ∷ poll ∷ wants_write (out_of 0) ∷ can_write (out_of 0) ∷ connects (out_of 0) ∷ ends_writing (out_of 0)
     ∷ []
 
 -- Ends that were marked have nothing after all. Nothing changes, and they are wanted again.
