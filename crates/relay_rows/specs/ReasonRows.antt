@@ -37,6 +37,15 @@ first_due_first_fired =
     ∷ gets (in_of 0) 16384 (98 ∷ []) ∷ gets (in_of 1) 16384 (99 ∷ []) ∷ fires (in_of 1) why.Read ∷ fires (in_of 1) why.Timer ∷ fires (in_of 0) why.Read
     ∷ []
 
+-- The hook of the second link stops the run. What it asks in the same fire is done still, and a link whose side it frees isn't closed.
+abbrev pub asks_behind_a_stop : Trace
+asks_behind_a_stop =
+    turn 0 ∷ poll ∷ opens 0 ∷ opens 1
+    ∷ turn 1 ∷ poll ∷ wants_read (in_of 0) ∷ wants_read (out_of 0) ∷ wants_read (in_of 1) ∷ wants_read (out_of 1) ∷ can_read (in_of 0) ∷ can_read (in_of 1)
+    ∷ gets (in_of 0) 16384 (97 ∷ []) ∷ gets (in_of 1) 16384 (98 ∷ []) ∷ fires (in_of 0) why.Read ∷ fires (in_of 1) why.Read
+    ∷ asks (in_of 1) act.Stop ask.Ok ∷ asks (in_of 1) (act.Free (in_of 1)) ask.Ok ∷ frees (in_of 1) cause.Hook 0 0 ∷ asks (in_of 1) act.Stop ask.Ok
+    ∷ []
+
 -- What is due for a side, and its timer, go with the side.
 abbrev pub forgotten_with_the_side : Trace
 forgotten_with_the_side =

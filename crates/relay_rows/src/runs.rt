@@ -5,7 +5,7 @@ ghost use Rattle.relay_rows.specs.PlainRows.{bytes_then_end, nothing_may_be_writ
 ghost use Rattle.relay_rows.specs.FilterRows.{line_end_in_two_reads, held_to_the_end, line_ends_added, line_end_kept, odd_digit, no_digit, held_back, read_mark_reached, crlf_out, five_at_once, held_at_four, hex_in, lf_in};
 ghost use Rattle.relay_rows.specs.HookRows.{held_byte_dropped, frees_another_link, frees_the_peer_twice, read_timeout, timer_fires, hook_stops, hook_and_lf_in, hook_in, three_hooks, timeout_in};
 ghost use Rattle.relay_rows.specs.EdgeRows.{rest_given_after_a_free, both_end_at_once, ended_before_it_connects, nothing_was_ready, bad_byte_behind_the_mark, connects_too_late, failed_and_expired, hex_out_held_at_one, read_timeout_out, write_timeout_out};
-ghost use Rattle.relay_rows.specs.ReasonRows.{reasons_in_order, first_due_first_fired, forgotten_with_the_side, timer_replaced_and_cancelled, timeout_asked_for, group_joined_and_left, limit_changed, hook_and_group, hook_and_limit, hook_out, two_links};
+ghost use Rattle.relay_rows.specs.ReasonRows.{reasons_in_order, first_due_first_fired, asks_behind_a_stop, forgotten_with_the_side, timer_replaced_and_cancelled, timeout_asked_for, group_joined_and_left, limit_changed, hook_and_group, hook_and_limit, hook_out, two_links};
 ghost use Rattle.relay_rows.specs.AskRows.{end_and_fault_told, connected_and_written, two_timeouts_joined, low_mark_reached, writing_disabled_for_a_turn, asks_refused, triggered, limit_asked_for, hook_and_low_mark_in, hook_and_timeouts_out, two_hooks};
 ghost use Rattle.relay_rows.specs.RateRows.{read_in_ticks, shared_by_three, limited_in, one_group};
 
@@ -91,6 +91,7 @@ pub fn runs_of_asks_are_legal()
 pub fn runs_of_reasons_are_legal()
     ensures reasons_in_order { Goes hook_out reasons_in_order }
     ensures first_due_first_fired { Goes two_links first_due_first_fired }
+    ensures asks_behind_a_stop { IsStoppedBy 1 two_links asks_behind_a_stop }
     ensures forgotten_with_the_side { Goes hook_in forgotten_with_the_side }
     ensures timer_replaced_and_cancelled { Goes hook_in timer_replaced_and_cancelled }
     ensures timeout_asked_for { Goes hook_in timeout_asked_for }
