@@ -14,5 +14,6 @@ pub mod HookRowsReplayed
 pub mod RateRowsReplayed
 pub mod EdgeRowsReplayed
 pub mod AskRowsReplayed
+pub mod ReasonRowsReplayed
 pub mod WrongRowsRefused
 pub mod WrongEdgesRefused

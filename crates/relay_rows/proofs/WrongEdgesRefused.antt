@@ -1,7 +1,7 @@
 -- Each wrong event at an edge is refused.
 use Rattle.std.specs.Prelude.{refl}
-use Rattle.relay_rows.specs.WrongRows.{IsWrong}
-use Rattle.relay_rows.specs.WrongEdges.{ended_side_wanted, written_as_it_connects, held_byte_forgotten, held_byte_given, bad_byte_met_without_room, filled_above_half, wanted_at_the_read_mark, wanted_with_an_empty_bucket, read_while_suspended, fired_below_the_low_mark, timeouts_told_apart, fired_in_the_turn_of_its_ask}
+use Rattle.relay_rows.specs.Wrong.{IsWrong}
+use Rattle.relay_rows.specs.WrongEdges.{ended_side_wanted, written_as_it_connects, writing_ended_while_connecting, held_byte_forgotten, held_byte_given, bad_byte_met_without_room, filled_above_half, wanted_at_the_read_mark, wanted_with_an_empty_bucket, read_while_suspended, fired_below_the_low_mark, timeouts_told_apart, fired_in_the_turn_of_its_ask}
 use Rattle.relay_rows.proofs.IllegalLemmas.{refuses-is}
 
 pub ended_side_wanted-is_wrong : IsWrong ended_side_wanted
@@ -9,6 +9,9 @@ ended_side_wanted-is_wrong = refuses-is ended_side_wanted.settings ended_side_wa
 
 pub written_as_it_connects-is_wrong : IsWrong written_as_it_connects
 written_as_it_connects-is_wrong = refuses-is written_as_it_connects.settings written_as_it_connects.before written_as_it_connects.event refl
+
+pub writing_ended_while_connecting-is_wrong : IsWrong writing_ended_while_connecting
+writing_ended_while_connecting-is_wrong = refuses-is writing_ended_while_connecting.settings writing_ended_while_connecting.before writing_ended_while_connecting.event refl
 
 pub held_byte_forgotten-is_wrong : IsWrong held_byte_forgotten
 held_byte_forgotten-is_wrong = refuses-is held_byte_forgotten.settings held_byte_forgotten.before held_byte_forgotten.event refl

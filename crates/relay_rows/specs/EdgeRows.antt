@@ -4,7 +4,7 @@ use Rattle.ev_types.specs.declared.filter.FilterKind.TheVariants as kind
 use Rattle.ev_types.specs.declared.why.Cause.TheVariants as cause
 use Rattle.ev_types.specs.Trace.{Trace}
 use Rattle.relay_model.specs.Settings.{Settings, usual}
-use Rattle.relay_rows.specs.RowWords.{in_of, out_of, turn, poll, poll_for, wants_read, wants_write, wants_both, can_read, can_write, opens, opens_waiting, gets, read_waits, read_fails, takes, write_waits, frees, closes}
+use Rattle.relay_rows.specs.RowWords.{in_of, out_of, turn, poll, poll_for, wants_read, wants_write, wants_both, can_read, can_write, opens, opens_waiting, connects, connect_waits, gets, ends, ends_writing, write_fails, read_waits, read_fails, takes, write_waits, frees, closes}
 
 -- In fails in the turn behind its bytes. They are given still, and only then is Out freed.
 abbrev pub rest_given_after_a_free : Trace
@@ -15,6 +15,22 @@ rest_given_after_a_free =
     ∷ frees (in_of 0) cause.Failed 2 0 ∷ closes (in_of 0)
     ∷ turn 3 ∷ poll ∷ wants_write (out_of 0) ∷ can_write (out_of 0) ∷ takes (out_of 0) 2 (104 ∷ 105 ∷ [])
     ∷ frees (out_of 0) cause.PeerGone 0 2 ∷ closes (out_of 0)
+    ∷ []
+
+-- Both ends end at once. Writing is ended at Out and then at In, and the link is done.
+abbrev pub both_end_at_once : Trace
+both_end_at_once =
+    turn 0 ∷ poll ∷ opens 0
+    ∷ turn 1 ∷ poll ∷ wants_read (in_of 0) ∷ wants_read (out_of 0) ∷ can_read (in_of 0) ∷ can_read (out_of 0) ∷ ends (in_of 0) 16384 ∷ ends (out_of 0) 16384
+    ∷ ends_writing (out_of 0) ∷ ends_writing (in_of 0) ∷ frees (in_of 0) cause.Done 0 0 ∷ frees (out_of 0) cause.Done 0 0 ∷ closes (in_of 0) ∷ closes (out_of 0)
+    ∷ []
+
+-- In ends while Out is connecting. Writing is ended at Out once it is connected.
+abbrev pub ended_before_it_connects : Trace
+ended_before_it_connects =
+    turn 0 ∷ poll ∷ opens_waiting 0
+    ∷ turn 1 ∷ poll ∷ wants_read (in_of 0) ∷ wants_write (out_of 0) ∷ can_read (in_of 0) ∷ can_write (out_of 0) ∷ ends (in_of 0) 16384 ∷ connect_waits (out_of 0)
+    ∷ turn 2 ∷ poll ∷ wants_write (out_of 0) ∷ can_write (out_of 0) ∷ connects (out_of 0) ∷ ends_writing (out_of 0)
     ∷ []
 
 -- Ends that were marked have nothing after all. Nothing changes, and they are wanted again.
@@ -49,4 +65,16 @@ connects_too_late =
     ∷ turn 400 ∷ poll_for 600 ∷ wants_read (in_of 0) ∷ wants_write (out_of 0)
     ∷ turn 1000 ∷ poll_for 0 ∷ wants_read (in_of 0) ∷ wants_write (out_of 0)
     ∷ frees (out_of 0) cause.Timeout 0 0 ∷ frees (in_of 0) cause.PeerGone 0 0 ∷ closes (in_of 0) ∷ closes (out_of 0)
+    ∷ []
+
+abbrev pub read_timeout_out : Settings
+read_timeout_out = record usual { out_timeouts = record { read_ms = 1000; write_ms = 0 } }
+
+-- The read timeout of Out passes in the turn in which its write fails. That it failed comes first.
+abbrev pub failed_and_expired : Trace
+failed_and_expired =
+    turn 0 ∷ poll ∷ opens 0
+    ∷ turn 1 ∷ poll_for 999 ∷ wants_read (in_of 0) ∷ wants_read (out_of 0) ∷ can_read (in_of 0) ∷ gets (in_of 0) 16384 (97 ∷ [])
+    ∷ turn 1000 ∷ poll_for 0 ∷ wants_read (in_of 0) ∷ wants_write (out_of 0) ∷ can_write (out_of 0) ∷ write_fails (out_of 0) 1
+    ∷ frees (out_of 0) cause.Failed 0 0 ∷ frees (in_of 0) cause.PeerGone 1 0 ∷ closes (in_of 0) ∷ closes (out_of 0)
     ∷ []

@@ -10,5 +10,7 @@ pub mod HookRows
 pub mod RateRows
 pub mod EdgeRows
 pub mod AskRows
+pub mod ReasonRows
+pub mod Wrong
 pub mod WrongRows
 pub mod WrongEdges

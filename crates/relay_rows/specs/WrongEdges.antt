@@ -14,7 +14,7 @@ use Rattle.relay_rows.specs.HookRows.{hook_in}
 use Rattle.relay_rows.specs.RateRows.{letters, limited_in, one_group}
 use Rattle.relay_rows.specs.EdgeRows.{hex_out_held_at_one}
 use Rattle.relay_rows.specs.AskRows.{hook_and_timeouts_out, hook_and_low_mark_in}
-use Rattle.relay_rows.specs.WrongRows.{Wrong, wrong}
+use Rattle.relay_rows.specs.Wrong.{Wrong, wrong}
 
 abbrev opened : Trace
 opened = turn 0 ∷ poll ∷ opens 0 ∷ []
@@ -33,6 +33,13 @@ written_as_it_connects =
     (turn 0 ∷ poll ∷ opens_waiting 0 ∷ turn 1 ∷ poll ∷ wants_read (in_of 0) ∷ wants_write (out_of 0) ∷ can_read (in_of 0) ∷ gets (in_of 0) 16384 (97 ∷ [])
     ∷ turn 2 ∷ poll ∷ wants_read (in_of 0) ∷ wants_write (out_of 0) ∷ can_write (out_of 0) ∷ connects (out_of 0) ∷ [])
     (takes (out_of 0) 1 (97 ∷ []))
+
+-- nothing is held for Out, but it isn't connected yet
+abbrev pub writing_ended_while_connecting : Wrong
+writing_ended_while_connecting =
+    wrong usual
+    (turn 0 ∷ poll ∷ opens_waiting 0 ∷ turn 1 ∷ poll ∷ wants_read (in_of 0) ∷ wants_write (out_of 0) ∷ can_read (in_of 0) ∷ ends (in_of 0) 16384 ∷ [])
+    (ends_writing (out_of 0))
 
 -- the CR that was held waits for Out to take it
 abbrev pub held_byte_forgotten : Wrong

@@ -6,21 +6,9 @@ use Rattle.ev_types.specs.declared.why.Cause.TheVariants as cause
 use Rattle.ev_types.specs.declared.why.Why.TheVariants as why
 use Rattle.ev_types.specs.Trace.{Event, Trace}
 use Rattle.relay_model.specs.Settings.{Settings, usual}
-use Rattle.relay_rows.specs.Laws.{IsRefused}
 use Rattle.relay_rows.specs.RowWords.{in_of, out_of, turn, poll, poll_for, poll_failed, wants_read, wants_both, can_read, can_write, opens, gets, ends, takes, write_fails, fires, asks, frees, ends_writing, closes}
+use Rattle.relay_rows.specs.Wrong.{Wrong, wrong}
 use Rattle.relay_rows.specs.HookRows.{hook_in, three_hooks, timeout_in}
-
-pub record Wrong : Type 0 where
-  pub settings : Settings
-  pub before : Trace  -- what can stand
-  pub event : Event  -- what can't stand behind it
-
--- the event can't stand there, and all before it can
-abbrev pub IsWrong : Wrong → Type 0
-IsWrong x = IsRefused x.settings x.before x.event
-
-abbrev pub wrong : Settings → Trace → Event → Wrong
-wrong g t e = record { settings = g; before = t; event = e }
 
 -- One link is open, and another turn polls. Both sides want to read, and In is marked. In gives two bytes.
 abbrev opened : Trace

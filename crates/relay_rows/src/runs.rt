@@ -4,7 +4,8 @@ ghost use Rattle.relay_rows.specs.Laws.{Goes, IsStoppedBy, FailsToPoll};
 ghost use Rattle.relay_rows.specs.PlainRows.{bytes_then_end, nothing_may_be_written, byte_by_byte, write_that_fails, request_and_answer, connect_that_fails, drained_at_the_end, time_stands_still, poll_that_fails};
 ghost use Rattle.relay_rows.specs.FilterRows.{line_end_in_two_reads, held_to_the_end, line_ends_added, line_end_kept, odd_digit, no_digit, held_back, read_mark_reached, crlf_out, five_at_once, held_at_four, hex_in, lf_in};
 ghost use Rattle.relay_rows.specs.HookRows.{held_byte_dropped, frees_another_link, frees_the_peer_twice, read_timeout, timer_fires, hook_stops, hook_and_lf_in, hook_in, three_hooks, timeout_in};
-ghost use Rattle.relay_rows.specs.EdgeRows.{rest_given_after_a_free, nothing_was_ready, bad_byte_behind_the_mark, connects_too_late, hex_out_held_at_one, write_timeout_out};
+ghost use Rattle.relay_rows.specs.EdgeRows.{rest_given_after_a_free, both_end_at_once, ended_before_it_connects, nothing_was_ready, bad_byte_behind_the_mark, connects_too_late, failed_and_expired, hex_out_held_at_one, read_timeout_out, write_timeout_out};
+ghost use Rattle.relay_rows.specs.ReasonRows.{reasons_in_order, first_due_first_fired, asks_behind_a_stop, forgotten_with_the_side, timer_replaced_and_cancelled, timeout_asked_for, group_joined_and_left, limit_changed, hook_and_group, hook_and_limit, hook_out, two_links};
 ghost use Rattle.relay_rows.specs.AskRows.{end_and_fault_told, connected_and_written, two_timeouts_joined, low_mark_reached, writing_disabled_for_a_turn, asks_refused, triggered, limit_asked_for, hook_and_low_mark_in, hook_and_timeouts_out, two_hooks};
 ghost use Rattle.relay_rows.specs.RateRows.{read_in_ticks, shared_by_three, limited_in, one_group};
 
@@ -62,9 +63,12 @@ pub fn runs_with_limits_are_legal()
 /// Own.
 pub fn runs_at_edges_are_legal()
     ensures rest_given_after_a_free { Goes usual rest_given_after_a_free }
+    ensures both_end_at_once { Goes usual both_end_at_once }
+    ensures ended_before_it_connects { Goes usual ended_before_it_connects }
     ensures nothing_was_ready { Goes usual nothing_was_ready }
     ensures bad_byte_behind_the_mark { Goes hex_out_held_at_one bad_byte_behind_the_mark }
     ensures connects_too_late { Goes write_timeout_out connects_too_late }
+    ensures failed_and_expired { Goes read_timeout_out failed_and_expired }
 {}
 
 /// Runs in which hooks hear each kind of reason and ask.
@@ -79,4 +83,18 @@ pub fn runs_of_asks_are_legal()
     ensures asks_refused { Goes hook_in asks_refused }
     ensures triggered { Goes hook_in triggered }
     ensures limit_asked_for { Goes hook_in limit_asked_for }
+{}
+
+/// Runs of reasons in order, and of timers, timeouts, limits and groups that hooks set.
+///
+/// Own.
+pub fn runs_of_reasons_are_legal()
+    ensures reasons_in_order { Goes hook_out reasons_in_order }
+    ensures first_due_first_fired { Goes two_links first_due_first_fired }
+    ensures asks_behind_a_stop { IsStoppedBy 1 two_links asks_behind_a_stop }
+    ensures forgotten_with_the_side { Goes hook_in forgotten_with_the_side }
+    ensures timer_replaced_and_cancelled { Goes hook_in timer_replaced_and_cancelled }
+    ensures timeout_asked_for { Goes hook_in timeout_asked_for }
+    ensures group_joined_and_left { Goes hook_and_group group_joined_and_left }
+    ensures limit_changed { Goes hook_and_limit limit_changed }
 {}

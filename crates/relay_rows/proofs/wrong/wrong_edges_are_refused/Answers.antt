@@ -1,4 +1,4 @@
-use Rattle.relay_rows.proofs.WrongEdgesRefused.{ended_side_wanted-is_wrong, written_as_it_connects-is_wrong, held_byte_forgotten-is_wrong, held_byte_given-is_wrong, bad_byte_met_without_room-is_wrong, filled_above_half-is_wrong, wanted_at_the_read_mark-is_wrong, wanted_with_an_empty_bucket-is_wrong, read_while_suspended-is_wrong, fired_below_the_low_mark-is_wrong, timeouts_told_apart-is_wrong, fired_in_the_turn_of_its_ask-is_wrong}
+use Rattle.relay_rows.proofs.WrongEdgesRefused.{ended_side_wanted-is_wrong, written_as_it_connects-is_wrong, writing_ended_while_connecting-is_wrong, held_byte_forgotten-is_wrong, held_byte_given-is_wrong, bad_byte_met_without_room-is_wrong, filled_above_half-is_wrong, wanted_at_the_read_mark-is_wrong, wanted_with_an_empty_bucket-is_wrong, read_while_suspended-is_wrong, fired_below_the_low_mark-is_wrong, timeouts_told_apart-is_wrong, fired_in_the_turn_of_its_ask-is_wrong}
 use Rattle.relay_rows.proofs.wrong.wrong_edges_are_refused.Goals as goal
 
 pub returns-clause-ended_side_wanted : goal.returns-clause-ended_side_wanted
@@ -6,6 +6,9 @@ returns-clause-ended_side_wanted c = ended_side_wanted-is_wrong
 
 pub returns-clause-written_as_it_connects : goal.returns-clause-written_as_it_connects
 returns-clause-written_as_it_connects c = written_as_it_connects-is_wrong
+
+pub returns-clause-writing_ended_while_connecting : goal.returns-clause-writing_ended_while_connecting
+returns-clause-writing_ended_while_connecting c = writing_ended_while_connecting-is_wrong
 
 pub returns-clause-held_byte_forgotten : goal.returns-clause-held_byte_forgotten
 returns-clause-held_byte_forgotten c = held_byte_forgotten-is_wrong
