@@ -3,3 +3,5 @@ pub mod StraightLemmas
 pub mod EndLemmas
 pub mod AgreeLemmas
 pub mod RoomLemmas
+pub mod FlowParts
+pub mod TouchLemmas
