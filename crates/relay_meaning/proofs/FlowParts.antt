@@ -108,7 +108,7 @@ module _ (d : Direction) (s : IsStraight d) where
     abbrev m : ℕ
     m = turned_now hold d.lane.buffers
 
-    abbrev turned_if : Bool → Flow
+    abbrev pub turned_if : Bool → Flow
     turned_if q = if q then d.lane.flow else record (d.lane.flow) { turned = d.lane.flow.turned + m }
 
     pub part-turned : with_turned plainly plainly d.read hold d.lane.flow ≡ turned_if d.lane.flow.held

@@ -5,3 +5,4 @@ pub mod AgreeLemmas
 pub mod RoomLemmas
 pub mod FlowParts
 pub mod TouchLemmas
+pub mod PassSteps
