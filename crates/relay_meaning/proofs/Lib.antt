@@ -6,3 +6,4 @@ pub mod RoomLemmas
 pub mod FlowParts
 pub mod TouchLemmas
 pub mod PassSteps
+pub mod SideSteps
