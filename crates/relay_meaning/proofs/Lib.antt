@@ -7,3 +7,4 @@ pub mod FlowParts
 pub mod TouchLemmas
 pub mod PassSteps
 pub mod SideSteps
+pub mod ServeSteps
