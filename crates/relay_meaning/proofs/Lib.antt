@@ -3,3 +3,8 @@ pub mod StraightLemmas
 pub mod EndLemmas
 pub mod AgreeLemmas
 pub mod RoomLemmas
+pub mod FlowParts
+pub mod TouchLemmas
+pub mod PassSteps
+pub mod SideSteps
+pub mod ServeSteps

@@ -116,7 +116,7 @@ module _ (t : Trace) (s : State) (p : Plain) (h : Agrees t s p) where
         then at_most (share_in g (past g t) p dir.Read x.group) (at_most (option_map (λ z. standing_level z dir.Read ((past g t).turns e dir.Read) p.time) x.limit) (min 16384 (mark_or x.marks.read_high 16384 - n)))
         else 0
 
-    may_read-live : core.may_read s e ≡ true → (flags_at s e).live ≡ true
+    pub may_read-live : core.may_read s e ≡ true → (flags_at s e).live ≡ true
     may_read-live b =
         let f = flags_at s e in
         and_left f.live (not f.connecting) (and_left (f.live && not f.connecting) f.reads (and_left (f.live && not f.connecting && f.reads) (not f.ended)
