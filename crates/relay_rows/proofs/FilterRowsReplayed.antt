@@ -1,7 +1,7 @@
 -- Each run with filters or marks is accepted.
 use Rattle.std.specs.Prelude.{refl}
 use Rattle.relay_rows.specs.Laws.{Goes}
-use Rattle.relay_rows.specs.FilterRows.{line_end_in_two_reads, held_to_the_end, line_ends_added, line_end_kept, odd_digit, no_digit, held_back, read_mark_reached, crlf_out, five_at_once, held_at_four, hex_in, lf_in}
+use Rattle.relay_rows.specs.FilterRows.{held_and_drained, line_end_in_two_reads, held_to_the_end, line_ends_added, line_end_kept, odd_digit, no_digit, held_back, read_mark_reached, crlf_out, five_at_once, held_at_four, hex_in, lf_in}
 use Rattle.relay_rows.proofs.AcceptLemmas.{rests-went}
 
 pub line_end_in_two_reads-goes : Goes lf_in line_end_in_two_reads
@@ -24,6 +24,9 @@ no_digit-goes = rests-went hex_in no_digit refl
 
 pub held_back-goes : Goes held_at_four held_back
 held_back-goes = rests-went held_at_four held_back refl
+
+pub held_and_drained-goes : Goes held_at_four held_and_drained
+held_and_drained-goes = rests-went held_at_four held_and_drained refl
 
 pub read_mark_reached-goes : Goes five_at_once read_mark_reached
 read_mark_reached-goes = rests-went five_at_once read_mark_reached refl

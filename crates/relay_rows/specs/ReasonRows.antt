@@ -98,13 +98,14 @@ group_joined_and_left =
 abbrev pub hook_and_limit : Settings
 hook_and_limit = record usual { in_rate = Some hundred_a_second; hooks = in_of 0 ∷ [] }
 
--- 97 bytes are left where a limit with a burst of 25 takes the place of another, and 25 of them stay. The limit is removed,
--- and one that is then set begins with its rate.
+-- 97 bytes are left where a limit with a burst of 25 takes the place of another, and 25 of them stay, also as the first limit
+-- comes back at once. Then the limit is removed, and one that is set behind that begins with its rate.
 abbrev pub limit_changed : Trace
 limit_changed =
     turn 0 ∷ poll ∷ opens 0
     ∷ turn 1 ∷ poll ∷ wants_read (in_of 0) ∷ wants_read (out_of 0) ∷ can_read (in_of 0) ∷ gets (in_of 0) 100 (letters 3)
     ∷ fires (in_of 0) why.Read ∷ asks (in_of 0) (act.Rate (in_of 0) (Some ten_a_second)) ask.Ok
+    ∷ asks (in_of 0) (act.Rate (in_of 0) (Some hundred_a_second)) ask.Ok
     ∷ turn 2 ∷ poll ∷ wants_read (in_of 0) ∷ wants_both (out_of 0) ∷ can_read (in_of 0) ∷ gets (in_of 0) 25 (letters 5)
     ∷ fires (in_of 0) why.Read ∷ asks (in_of 0) (act.Rate (in_of 0) None) ask.Ok
     ∷ turn 3 ∷ poll ∷ wants_read (in_of 0) ∷ wants_both (out_of 0) ∷ can_read (in_of 0) ∷ gets (in_of 0) 16384 (letters 1)

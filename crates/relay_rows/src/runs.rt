@@ -2,12 +2,12 @@
 ghost use Rattle.relay_model.specs.Settings.{usual};
 ghost use Rattle.relay_rows.specs.Laws.{Goes, IsStoppedBy, FailsToPoll};
 ghost use Rattle.relay_rows.specs.PlainRows.{bytes_then_end, nothing_may_be_written, byte_by_byte, write_that_fails, request_and_answer, connect_that_fails, drained_at_the_end, time_stands_still, poll_that_fails};
-ghost use Rattle.relay_rows.specs.FilterRows.{line_end_in_two_reads, held_to_the_end, line_ends_added, line_end_kept, odd_digit, no_digit, held_back, read_mark_reached, crlf_out, five_at_once, held_at_four, hex_in, lf_in};
+ghost use Rattle.relay_rows.specs.FilterRows.{held_and_drained, line_end_in_two_reads, held_to_the_end, line_ends_added, line_end_kept, odd_digit, no_digit, held_back, read_mark_reached, crlf_out, five_at_once, held_at_four, hex_in, lf_in};
 ghost use Rattle.relay_rows.specs.HookRows.{held_byte_dropped, frees_another_link, frees_the_peer_twice, read_timeout, timer_fires, hook_stops, hook_and_lf_in, hook_in, three_hooks, timeout_in};
 ghost use Rattle.relay_rows.specs.EdgeRows.{rest_given_after_a_free, both_end_at_once, ended_before_it_connects, nothing_was_ready, bad_byte_behind_the_mark, connects_too_late, failed_and_expired, hex_out_held_at_one, read_timeout_out, write_timeout_out};
 ghost use Rattle.relay_rows.specs.ReasonRows.{reasons_in_order, first_due_first_fired, asks_behind_a_stop, forgotten_with_the_side, timer_replaced_and_cancelled, timeout_asked_for, group_joined_and_left, limit_changed, hook_and_group, hook_and_limit, hook_out, two_links};
 ghost use Rattle.relay_rows.specs.AskRows.{end_and_fault_told, connected_and_written, two_timeouts_joined, low_mark_reached, writing_disabled_for_a_turn, asks_refused, triggered, limit_asked_for, hook_and_low_mark_in, hook_and_timeouts_out, two_hooks};
-ghost use Rattle.relay_rows.specs.RateRows.{read_in_ticks, shared_by_three, limited_in, one_group};
+ghost use Rattle.relay_rows.specs.RateRows.{suspended_for_two_ticks, small_group, read_in_ticks, shared_by_three, limited_in, one_group};
 
 /// Runs without filters, marks, limits and hooks.
 ///
@@ -35,6 +35,7 @@ pub fn runs_with_filters_are_legal()
     ensures odd_digit { Goes hex_in odd_digit }
     ensures no_digit { Goes hex_in no_digit }
     ensures held_back { Goes held_at_four held_back }
+    ensures held_and_drained { Goes held_at_four held_and_drained }
     ensures read_mark_reached { Goes five_at_once read_mark_reached }
 {}
 
@@ -56,6 +57,7 @@ pub fn runs_with_hooks_are_legal()
 pub fn runs_with_limits_are_legal()
     ensures read_in_ticks { Goes limited_in read_in_ticks }
     ensures shared_by_three { Goes one_group shared_by_three }
+    ensures suspended_for_two_ticks { Goes small_group suspended_for_two_ticks }
 {}
 
 /// Runs at the edges of the rules, without hooks.
