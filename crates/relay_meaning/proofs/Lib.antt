@@ -8,3 +8,4 @@ pub mod TouchLemmas
 pub mod PassSteps
 pub mod SideSteps
 pub mod ServeSteps
+pub mod WriteSteps

@@ -48,7 +48,7 @@ use Rattle.relay_meaning.proofs.RoomLemmas.{read_room-is, write_room-is, one_or_
 use Rattle.relay_meaning.proofs.PassSteps.{read_run-is}
 use Rattle.relay_meaning.proofs.SideSteps.{if_true, if_false, or_true, silent-got, silent-ended, silent-took, told_as-same, meant-put, agrees-flags, agrees-flags_silent}
 
-silent-conn : (e a : SideId) (answer : ConnAnswer) → IsSilent (entry.Conn e answer, []) a
+pub silent-conn : (e a : SideId) (answer : ConnAnswer) → IsSilent (entry.Conn e answer, []) a
 silent-conn e a answer = record { read = refl; given = refl; ended = refl; moved = refl; given_free = refl; closed = refl }
 
 silent-not_read : (e a : SideId) (room : ℕ) → IsSilent (entry.Read e room read.NotYet, []) a
@@ -57,18 +57,18 @@ silent-not_read e a room = record { read = refl; given = refl; ended = refl; mov
 silent-read_failed : (e a : SideId) (room : ℕ) → IsSilent (entry.Read e room read.Failed, []) a
 silent-read_failed e a room = record { read = refl; given = refl; ended = refl; moved = refl; given_free = refl; closed = refl }
 
-silent-not_written : (e a : SideId) (offered : ℕ) → IsSilent (entry.Write e offered write.NotYet, []) a
+pub silent-not_written : (e a : SideId) (offered : ℕ) → IsSilent (entry.Write e offered write.NotYet, []) a
 silent-not_written e a offered = record { read = refl; given = refl; ended = refl; moved = refl; given_free = refl; closed = refl }
 
-silent-write_failed : (e a : SideId) (offered : ℕ) → IsSilent (entry.Write e offered write.Failed, []) a
+pub silent-write_failed : (e a : SideId) (offered : ℕ) → IsSilent (entry.Write e offered write.Failed, []) a
 silent-write_failed e a offered = record { read = refl; given = refl; ended = refl; moved = refl; given_free = refl; closed = refl }
 
 -- a room that is some is had by a side that may be read, or written
-some-may : (b : Bool) (n : ℕ) → nat_lt 0 (if b then n else 0) ≡ true → b ≡ true
+pub some-may : (b : Bool) (n : ℕ) → nat_lt 0 (if b then n else 0) ≡ true → b ≡ true
 some-may true n h = refl
 some-may false n h = absurd (cc)
 
-not_true : (b : Bool) → not b ≡ true → b ≡ false
+pub not_true : (b : Bool) → not b ≡ true → b ≡ false
 not_true true h = absurd (cc)
 not_true false h = refl
 
@@ -92,25 +92,25 @@ module _ (t : Trace) (s : State) (e : SideId) (r w : Bool) (ms : List Want) (k :
   abbrev h : Agrees t s k.plain
   h = k.agrees
 
-  abbrev to_read : Call
+  abbrev pub to_read : Call
   to_read = if nat_le 1 (rooms.read_room g P p e) then Call.AskRead (rooms.read_room g P p e) else Call.Nothing
 
-  abbrev to_write : Call
+  abbrev pub to_write : Call
   to_write = if w && nat_le 1 (rooms.write_room g P p e) then Call.AskWrite (rooms.write_room g P p e) else Call.Nothing
 
-  abbrev called : Bool → Bool → Call
+  abbrev pub called : Bool → Bool → Call
   called waiting reads = if waiting then (if w then Call.AskConnect else Call.Nothing) else (if reads then to_read else to_write)
 
-  abbrev marks_by : Bool → Bool → List Want
+  abbrev pub marks_by : Bool → Bool → List Want
   marks_by waiting reads = if not waiting && reads then mark e false w ∷ ms else ms
 
   waiting-is : (b : Bool) → is_waiting s e ≡ b → rooms.is_connecting p e ≡ b
   waiting-is b q = connecting-is t s p h e lt ∙ q
 
-  call-is : (b c : Bool) → is_waiting s e ≡ b → r ≡ c → call_for g P p (mark e r w) ≡ called b c
+  pub call-is : (b c : Bool) → is_waiting s e ≡ b → r ≡ c → call_for g P p (mark e r w) ≡ called b c
   call-is b c q l = let a = waiting-is b q in λ i. called (a i) (l i)
 
-  marks-are : (b c : Bool) → is_waiting s e ≡ b → r ≡ c → marks_left p (mark e r w) ms ≡ marks_by b c
+  pub marks-are : (b c : Bool) → is_waiting s e ≡ b → r ≡ c → marks_left p (mark e r w) ms ≡ marks_by b c
   marks-are b c q l = let a = waiting-is b q in λ i. marks_by (a i) (l i)
 
   -- Marks that call for nothing
