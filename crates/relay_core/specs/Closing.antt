@@ -63,7 +63,9 @@ peer_gone x =
     record x { lane = record l { buffers = record b { output = []; raw_output = [] } } }
 
 abbrev pub freed : State → SideId → State
-freed s e = with_side (with_side s e (gone (side_at s e))) (peer e) (peer_gone (side_at s (peer e)))
+freed s e =
+    let own : State = with_side s e (gone (side_at s e)) in
+    with_side own (peer e) (peer_gone (side_at own (peer e)))
 
 abbrev pub after_closing : State → Closing → State
 after_closing s (closing.Faulty e) = freed s e

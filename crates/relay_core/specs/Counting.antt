@@ -3,7 +3,7 @@ use Rattle.std.specs.Prelude.{ℕ, zero, suc, ◌+◌, ◌^◌, Bool, ◌&&◌, 
 use Rattle.std.specs.List.{list_any}
 use Rattle.ev_types.specs.declared.side.SideId.{SideId}
 use Rattle.ev_types.specs.declared.status.LinkState.{LinkState}
-use Rattle.ev_types.specs.declared.status.LinkState.TheVariants as link_state
+use Rattle.ev_types.specs.declared.status.LinkState.TheVariants as state
 use Rattle.ev_types.specs.Sides.{peer}
 use Rattle.relay_model.specs.Flow.{Flow}
 use Rattle.relay_core.specs.declared.count.Counts.{Counts}
@@ -20,7 +20,7 @@ abbrev pub link_state : State → SideId → LinkState
 link_state s e =
     let own = flags_at s e in
     let other = flags_at s (peer e) in
-    if own.live || other.live then link_state.Live else (if own.write_ended && other.write_ended then link_state.Done else link_state.Gone)
+    if own.live || other.live then state.Live else (if own.write_ended && other.write_ended then state.Done else state.Gone)
 
 abbrev pub link_count : State → ℕ → LinkCount
 link_count s k =

@@ -1,5 +1,5 @@
 -- How the relay keeps its state.
-use Rattle.std.specs.Prelude.{◌≡◌, ℕ, ◌-◌, ◌*◌, ◌/◌, map, vec_len, vec_capacity}
+use Rattle.std.specs.Prelude.{◌≡◌, ℕ, ◌-◌, ◌*◌, ◌/◌, length, map, vec_len, vec_capacity}
 use Rattle.relay_core.specs.State.{State, RelayValue}
 use Rattle.relay_core.specs.SideView.{side_of, spare_of}
 use Rattle.relay_core.specs.declared.relay.Relay.TheInside.{Inside}
@@ -13,4 +13,4 @@ relay_of r = record {
 
 -- there are two sides for each link
 abbrev pub IsPaired : Inside → Type 0
-IsPaired r = vec_len r.sides ≡ 2 * r.opened
+IsPaired r = length r.sides.items ≡ 2 * r.opened

@@ -1,10 +1,13 @@
 // Closing a link: the steps in their order, whether one is called for, and what it changes.
 ghost use Rattle.std.specs.Prelude.{◌≡◌, ◌<◌};
-ghost use Rattle.relay_core.specs.Closing.{closing_of, link_of, is_called_for, freed, after_closing};
+ghost use Rattle.relay_core.specs.Closing.{closing_of, link_of, is_called_for, gone, peer_gone, freed, after_closing};
+ghost use Rattle.relay_core.specs.State.{side_at, with_side};
 
 use crate::buffer::Buffer;
 use crate::relay::Relay;
+use crate::side::SideState;
 use ev_types::{Side, SideId};
+use std::alloc::Global;
 
 /// A step of closing a link.
 ///
@@ -44,6 +47,27 @@ impl Closing {
             Closing::Shut(near),
             Closing::Shut(far),
         ]
+    }
+}
+
+impl SideState {
+    ghost use Rattle.relay_core.specs.SideView.{side_of};
+
+    /// The side is freed: what was read from it and not moved is dropped.
+    fn drop_input(&mut self, alloc: Global)
+        ensures { side_of self.new ≡ gone (side_of self.old) }
+    {
+        self.flags.live = false;
+        self.raw_input = Buffer::new(alloc);
+        self.input = Buffer::new(alloc);
+    }
+
+    /// The peer is freed: what waits to be given to it is dropped.
+    fn drop_output(&mut self, alloc: Global)
+        ensures { side_of self.new ≡ peer_gone (side_of self.old) }
+    {
+        self.output = Buffer::new(alloc);
+        self.raw_output = Buffer::new(alloc);
     }
 }
 
@@ -113,19 +137,31 @@ impl Relay {
         }
     }
 
+    fn drop_input(&mut self, side: SideId)
+        requires { side.link < self.old.state.opened }
+        ensures { self.new.state ≡ with_side self.old.state side (gone (side_at self.old.state side)) }
+    {
+        let alloc = self.alloc;
+        let own = &mut self.sides[side.number()];
+        own.drop_input(alloc);
+    }
+
+    fn drop_output(&mut self, from: SideId)
+        requires { from.link < self.old.state.opened }
+        ensures { self.new.state ≡ with_side self.old.state from (peer_gone (side_at self.old.state from)) }
+    {
+        let alloc = self.alloc;
+        let own = &mut self.sides[from.number()];
+        own.drop_output(alloc);
+    }
+
     /// The side is freed: what was read from it and not moved, and what waits to be given to it, is dropped.
     fn free(&mut self, side: SideId)
         requires { side.link < self.old.state.opened }
         ensures { self.new.state ≡ freed self.old.state side }
     {
-        let alloc = self.alloc;
-        let own = &mut self.sides[side.number()];
-        own.flags.live = false;
-        own.raw_input = Buffer::new(alloc);
-        own.input = Buffer::new(alloc);
-        let from = &mut self.sides[side.peer().number()];
-        from.output = Buffer::new(alloc);
-        from.raw_output = Buffer::new(alloc);
+        self.drop_input(side);
+        self.drop_output(side.peer());
     }
 
     /// Makes the change of a step of closing. Takes no memory.
@@ -136,8 +172,9 @@ impl Relay {
         match step {
             Closing::Faulty(side) | Closing::PeerGone(side) => self.free(side),
             Closing::EndWriting(side) => {
-                let own = &mut self.sides[side.number()];
-                own.flags.write_ended = true;
+                let mut flags = self.flags(side);
+                flags.write_ended = true;
+                self.set_flags(side, flags);
             }
             Closing::BothDone(link) => {
                 let near = SideId {
@@ -148,8 +185,9 @@ impl Relay {
                 self.free(near.peer());
             }
             Closing::Shut(side) => {
-                let own = &mut self.sides[side.number()];
-                own.flags.closed = true;
+                let mut flags = self.flags(side);
+                flags.closed = true;
+                self.set_flags(side, flags);
             }
         }
     }

@@ -4,6 +4,7 @@ ghost use Rattle.relay_core.specs.declared.count.Counts.{Counts as CountsValue};
 ghost use Rattle.relay_core.specs.Counting.{counts_of, link_state, link_count, is_open, open_below, buffered_at, buffered_below, is_spent};
 
 use crate::relay::Relay;
+use crate::side::SideState;
 use ev_types::{LinkState, Side, SideId};
 
 /// A count of the relay that has come so far lets a run end.
@@ -30,6 +31,29 @@ pub struct LinkCount {
     pub in_given: u64,
     pub out_read: u64,
     pub out_given: u64,
+}
+
+impl SideState {
+    ghost use Rattle.std.specs.List.{list_any};
+    ghost use Rattle.relay_core.specs.Counting.{has_come_far};
+    ghost use Rattle.relay_core.specs.SideView.{side_of};
+
+    fn is_spent(&self) -> bool
+        ensures { result ≡ has_come_far (side_of self.now) }
+    {
+        self.read >= SPENT
+            || self.flow.used >= SPENT
+            || self.flow.moved >= SPENT
+            || self.flow.turned >= SPENT
+            || self.flow.given >= SPENT
+    }
+
+    /// Whether a count of some side has come far.
+    fn any_is_spent(sides: &[SideState]) -> bool
+        ensures { result ≡ list_any (λ s. has_come_far (side_of s)) sides.now }
+    {
+        sides.iter().any(|side| side.is_spent())
+    }
 }
 
 impl Relay {
@@ -133,21 +157,13 @@ impl Relay {
             return 0;
         }
         let from = &self.sides[side.peer().number()];
-        let input = own.raw_input.len() + own.input.len();
-        let output = from.output.len() + from.raw_output.len();
-        (input as u64).saturating_add(output as u64)
+        (own.input_len() as u64).saturating_add(from.output_len() as u64)
     }
 
     /// Whether a count has come to 2^62: bytes read from an end, used, moved, turned or given.
     pub fn is_spent(&self) -> bool
         ensures { result ≡ is_spent self.now.state }
     {
-        self.sides.iter().any(|side| {
-            side.read >= SPENT
-                || side.flow.used >= SPENT
-                || side.flow.moved >= SPENT
-                || side.flow.turned >= SPENT
-                || side.flow.given >= SPENT
-        })
+        SideState::any_is_spent(&self.sides)
     }
 }

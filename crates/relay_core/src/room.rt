@@ -1,6 +1,6 @@
 // How many bytes may be read from a side's end and given to it now, and what a side wants.
 ghost use Rattle.std.specs.Prelude.{◌≡◌, ◌<◌};
-ghost use Rattle.relay_core.specs.State.{flags_at};
+ghost use Rattle.relay_core.specs.State.{flags_at, with_flags};
 ghost use Rattle.relay_core.specs.Rooms.{may_read, may_write, read_room, write_room, offer as offer_of, wants_read, wants_write};
 
 use crate::flags::SideFlags;
@@ -15,6 +15,14 @@ impl Relay {
         ensures { result ≡ flags_at self.now.state side }
     {
         self.sides[side.number()].flags
+    }
+
+    pub(crate) fn set_flags(&mut self, side: SideId, flags: SideFlags)
+        requires { side.link < self.old.state.opened }
+        ensures { self.new.state ≡ with_flags self.old.state side flags }
+    {
+        let own = &mut self.sides[side.number()];
+        own.flags = flags;
     }
 
     fn may_read(&self, side: SideId) -> bool
@@ -43,8 +51,7 @@ impl Relay {
             return 0;
         }
         let own = &self.sides[side.number()];
-        let kept = own.raw_input.len() + own.input.len();
-        READ_MARK.saturating_sub(kept)
+        READ_MARK.saturating_sub(own.input_len())
     }
 
     /// How many bytes may be given to the side's end now, at most 16,384.

@@ -30,7 +30,8 @@ impl SideState {
 
     /// Bytes that were read, in room that was made before.
     fn got(&mut self, bytes: &[u8])
-        requires { length bytes.now ≤ spare_of self.old }
+        requires some { 0 < length bytes.now }
+        requires room { length bytes.now ≤ spare_of self.old }
         ensures { side_of self.new ≡ got_side (side_of self.old) bytes.now }
     {
         self.read += bytes.len() as u64;
@@ -62,6 +63,7 @@ impl Relay {
     /// Bytes that were read from the side's end, in room that was made before.
     pub fn got(&mut self, side: SideId, bytes: &[u8])
         requires opened { side.link < self.old.state.opened }
+        requires some { 0 < length bytes.now }
         requires room { length bytes.now ≤ spare_read self.old side }
         ensures { self.new.state ≡ after_got self.old.state side bytes.now }
     {
@@ -74,9 +76,10 @@ impl Relay {
         requires { side.link < self.old.state.opened }
         ensures { self.new.state ≡ after_ended self.old.state side }
     {
-        let own = &mut self.sides[side.number()];
-        own.flags.ended = true;
-        own.flags.reads = false;
+        let mut flags = self.flags(side);
+        flags.ended = true;
+        flags.reads = false;
+        self.set_flags(side, flags);
     }
 
     /// A read failed.
@@ -84,9 +87,10 @@ impl Relay {
         requires { side.link < self.old.state.opened }
         ensures { self.new.state ≡ after_read_failed self.old.state side }
     {
-        let own = &mut self.sides[side.number()];
-        own.flags.failed = true;
-        own.flags.reads = false;
+        let mut flags = self.flags(side);
+        flags.failed = true;
+        flags.reads = false;
+        self.set_flags(side, flags);
     }
 
     /// The side's end took the first bytes that wait for it.
@@ -104,9 +108,10 @@ impl Relay {
         requires { side.link < self.old.state.opened }
         ensures { self.new.state ≡ after_write_failed self.old.state side }
     {
-        let own = &mut self.sides[side.number()];
-        own.flags.failed = true;
-        own.flags.writes = false;
+        let mut flags = self.flags(side);
+        flags.failed = true;
+        flags.writes = false;
+        self.set_flags(side, flags);
     }
 
     /// The side's end is connected.
@@ -114,7 +119,8 @@ impl Relay {
         requires { side.link < self.old.state.opened }
         ensures { self.new.state ≡ after_connected self.old.state side }
     {
-        let own = &mut self.sides[side.number()];
-        own.flags.connecting = false;
+        let mut flags = self.flags(side);
+        flags.connecting = false;
+        self.set_flags(side, flags);
     }
 }

@@ -1,4 +1,5 @@
 // What is settled before a run.
+ghost use Rattle.std.specs.Prelude.{◌≡◌};
 
 /// What is settled before a run: the run's hold mark in bytes, and how many links are opened at most.
 ///

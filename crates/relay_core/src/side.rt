@@ -75,4 +75,18 @@ impl SideState {
             raw_output: Buffer::new(alloc),
         }
     }
+
+    /// How many bytes were read and not moved yet.
+    pub(crate) fn input_len(&self) -> usize
+        ensures { result ≡ length self.now.raw_input.bytes + length self.now.input.bytes }
+    {
+        self.raw_input.len() + self.input.len()
+    }
+
+    /// How many bytes were moved and not given yet.
+    pub(crate) fn output_len(&self) -> usize
+        ensures { result ≡ length self.now.output.bytes + length self.now.raw_output.bytes }
+    {
+        self.output.len() + self.raw_output.len()
+    }
 }

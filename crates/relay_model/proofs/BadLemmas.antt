@@ -18,7 +18,7 @@ use Rattle.relay_model.specs.Trace.{ended_by, read_by, bytes_read, has_ended}
 use Rattle.relay_model.specs.Reasons.{happened, end_flag, error_flag}
 use Rattle.token_bucket.specs.declared.limit.Dir.TheVariants as dir
 use Rattle.relay_model.specs.Flow.{Flow, no_flow}
-use Rattle.relay_model.specs.Plain.{Plain, side_at, flow_at, change_side}
+use Rattle.relay_model.specs.Plain.{Plain, side_at, flow_at, change_side, change_flow}
 use Rattle.relay_model.specs.Past.{Past, past}
 use Rattle.relay_model.specs.Rooms.{read_filter, may_read}
 use Rattle.relay_model.specs.Serve.{after_conn, after_read, after_write}
@@ -33,7 +33,7 @@ use Rattle.relay_model.proofs.TraceLemmas.{bytes_read-push, has_ended-push}
 use Rattle.relay_model.proofs.GrownLemmas.{FlowOk, Grown, stations, grown-read}
 use Rattle.std.proofs.Math.Seq.{map-set_same}
 use Rattle.std.proofs.Math.ListN.{get_or-map}
-use Rattle.relay_model.specs.Round.{goes}
+
 use Rattle.relay_model.specs.Moments.{active_at}
 use Rattle.relay_model.proofs.KindLemmas.{ClosedKind, closed-kind, PutKind}
 
@@ -82,7 +82,7 @@ read-flows g e read.Failed s = ap (λ z. z.flows) (raised g e (happened dir.Read
 write-stations : (g : Settings) (p : Past) (side : SideId) (answer : WriteAnswer) (s : Plain) (e : SideId) → stations (flow_at (after_write g p side answer s) e) ≡ stations (flow_at s e)
 write-stations g p side (write.Took n) s e =
     let x : Flow = record (flow_at s (peer side)) { given = (flow_at s (peer side)).given + n } in
-    let before : Plain = change_side side (active_at s.time dir.Write) (goes (peer side) (λ f. record f { given = f.given + n }) s) in
+    let before : Plain = change_side side (active_at s.time dir.Write) (change_flow (peer side) (λ f. record f { given = f.given + n }) s) in
     ap (λ z. stations (slice_index_or z (number e) no_flow)) (ap (λ z. z.flows) (raised_write g p side before).1)
     ∙ set-seen stations s.flows (number (peer side)) x no_flow refl (number e)
 write-stations g p side write.NotYet s e = refl

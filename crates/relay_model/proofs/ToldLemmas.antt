@@ -149,7 +149,7 @@ put-kept g t x s e bytes new h put =
     let more = grows s.opened new.plain.opened (opens_link (e, bytes)) k.opened in
     let placed : Placed new.stage new.plain = put-placed g t x s e bytes new c.sides h.placed put in
     let told : (z : SideId) → z.link < new.plain.opened → (z.link < s.opened) ⊎ (s.opened ≤ z.link) → SideTold (t ++ (e, bytes) ∷ []) new.stage new.plain z =
-        λ z lt o. put-side g t x s (e, bytes) new.stage new.plain k placed z lt (c.named z) (h.each z) o in
+    λ z lt o. put-side g t x s (e, bytes) new.stage new.plain k placed z lt (c.named z) (h.each z) o in
     let named : (z : SideId) → new.plain.opened ≤ z.link → list_any (names z) (t ++ (e, bytes) ∷ []) ≡ false = λ z. named-push t (e, bytes) s.opened new.plain.opened z more (k.named z) (c.named z) in
     record {
       counts = record {
