@@ -131,14 +131,14 @@ fitting-read g t s e ended told h =
     (λ p m. inl (over-more r xs ended (has_ended e t) p told (bad-met r (every_filter (read_kind g e.side)).badness xs (flow_at ran e).used ended (nat_lt (length (input r xs (flow_at ran e))) mark) p m)))
     (fitting-flow g t s e f (grown-used r (every_filter (read_kind g e.side)) xs mark (has_ended e t) (flow_at s e) (h.fit e)) h)
 
-turned-stations : (r w : Filter) (xs : List ℕ) (hold : ℕ) (f : Flow) → stations (with_turned r w xs hold f) ≡ stations f
+pub turned-stations : (r w : Filter) (xs : List ℕ) (hold : ℕ) (f : Flow) → stations (with_turned r w xs hold f) ≡ stations f
 turned-stations r w xs hold f = go f.held
   where
     go : (b : Bool) → stations (if b then f else record f { turned = first_from (write_stops r w xs hold f) f.turned (f.moved - f.turned) }) ≡ stations f
     go true = refl
     go false = refl
 
-done-stations : (r w : Filter) (xs : List ℕ) (hold : ℕ) (f : Flow) → stations (with_write_done r w xs hold f) ≡ stations f
+pub done-stations : (r w : Filter) (xs : List ℕ) (hold : ℕ) (f : Flow) → stations (with_write_done r w xs hold f) ≡ stations f
 done-stations r w xs hold f = go f.held
   where
     go : (b : Bool) → stations (if b then f else record f {

@@ -1,16 +1,16 @@
 -- What the plain state that a trace leads to and the trace tell of each other.
-use Rattle.std.specs.Prelude.{◌≡◌, ℕ, ◌*◌, ◌<◌, ◌≤◌, Bool, true, false, ◌||◌, not, List, ◌∷◌, ◌++◌, length, fold, count_by}
+use Rattle.std.specs.Prelude.{◌≡◌, ℕ, ◌*◌, ◌<◌, ◌≤◌, Bool, true, false, ◌||◌, not, List, ◌∷◌, ◌++◌, length, fold, count_by, All}
 use Rattle.std.specs.List.{list_any}
 use Rattle.ev_types.specs.declared.side.SideId.{SideId}
 use Rattle.ev_types.specs.declared.answer.ConnAnswer.TheVariants as conn
 use Rattle.ev_types.specs.declared.answer.ReadAnswer.TheVariants as read
 use Rattle.ev_types.specs.declared.answer.WriteAnswer.TheVariants as write
 use Rattle.ev_types.specs.declared.entry.Entry.TheVariants as entry
-use Rattle.ev_types.specs.Sides.{same_end}
+use Rattle.ev_types.specs.Sides.{peer, same_end}
 use Rattle.ev_types.specs.Trace.{Event, Trace}
-use Rattle.relay_model.specs.Trace.{has_ended, is_write_closed}
+use Rattle.relay_model.specs.Trace.{has_ended, moved_at_free, given_at_free, is_write_closed}
 use Rattle.relay_model.specs.Settings.{Settings}
-use Rattle.relay_model.specs.Plain.{Plain, side_at, is_live}
+use Rattle.relay_model.specs.Plain.{Plain, side_at, flow_at, is_live}
 use Rattle.relay_model.specs.Stages.{Stage, Freeing}
 use Rattle.relay_model.specs.Turn.{Reaches, latest}
 use Rattle.relay_model.specs.RatesKept.{last_time}
@@ -90,3 +90,11 @@ TimeRises = (g : Settings) (t before after : Trace) (s : Plain) (x : Stage) (ms 
 abbrev pub LinksInOrder : Type 0
 LinksInOrder = (g : Settings) (t before after : Trace) (s : Plain) (x : Stage) (link : ℕ) (connected : Bool) (bytes : List ℕ) →
     Reaches g t (record { stage = x; plain = s }) → t ≡ before ++ (entry.Opened link connected, bytes) ∷ after → link ≡ count_by is_opened before
+
+-- Each free of a side told how many bytes were moved from it, and how many its end was given; neither number changes later.
+pub record FreesTell (t : Trace) (s : Plain) (e : SideId) : Type 0 where
+  pub moved : All (λ told. told ≡ (flow_at s e).moved) (moved_at_free e t)
+  pub given : All (λ told. told ≡ (flow_at s (peer e)).given) (given_at_free e t)
+
+abbrev pub FreesTellTotals : Type 0
+FreesTellTotals = (g : Settings) (t : Trace) (x : Stage) (s : Plain) (e : SideId) → Reaches g t (record { stage = x; plain = s }) → FreesTell t s e
