@@ -33,7 +33,6 @@ use Rattle.relay_model.proofs.TraceLemmas.{bytes_read-push, has_ended-push}
 use Rattle.relay_model.proofs.GrownLemmas.{FlowOk, Grown, stations, grown-read}
 use Rattle.std.proofs.Math.Seq.{map-set_same}
 use Rattle.std.proofs.Math.ListN.{get_or-map}
-
 use Rattle.relay_model.specs.Moments.{active_at}
 use Rattle.relay_model.proofs.KindLemmas.{ClosedKind, closed-kind, PutKind}
 

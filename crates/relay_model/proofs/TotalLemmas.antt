@@ -1,81 +1,51 @@
 -- What the free of a side tells stays so, by induction over the steps.
-use Rattle.std.proofs.Common.{◌≡◌, ℕ, zero, suc, ◌+◌, Bool, true, false, ◌||◌, if◌then◌else◌, List, [], ◌∷◌, ◌++◌, refl, sym, ◌∙◌, ap, subst, slice_index_or, slice_set, ◌<◌, ◌≤◌, ◌&&◌, ◌==◌, length, Option, Some, None, ◌⊎◌, inl, inr, arith, take, ◌-◌, ◌*◌, not, length-append, length-set, append_assoc}
-use Rattle.std.proofs.lemmas.Bool.{or_left, not-true, and_parts, cases_lt, and_from, and_right, or_parts, or_from, or_right, eqb-true, cases_order, or_cases}
+use Rattle.std.proofs.Common.{◌≡◌, ℕ, zero, suc, ◌+◌, Bool, true, false, ◌||◌, if◌then◌else◌, List, [], ◌∷◌, ◌++◌, refl, sym, ◌∙◌, ap, subst, slice_index_or, ◌&&◌, ◌==◌, length, ◌⊎◌, inl, inr, arith, ◌-◌, not}
+use Rattle.std.proofs.lemmas.Bool.{or_parts, or_from}
 use Rattle.ev_types.specs.declared.side.SideId.{SideId}
-use Rattle.ev_types.specs.declared.answer.ConnAnswer.{ConnAnswer}
 use Rattle.ev_types.specs.declared.answer.ReadAnswer.{ReadAnswer}
 use Rattle.ev_types.specs.declared.answer.WriteAnswer.{WriteAnswer}
 use Rattle.ev_types.specs.declared.entry.Entry.{Entry}
-use Rattle.ev_types.specs.Sides.{same_end, peer, number, half}
+use Rattle.ev_types.specs.Sides.{same_end, peer, number}
 use Rattle.ev_types.specs.Trace.{Event, Trace}
 use Rattle.relay_model.specs.Settings.{Settings}
-use Rattle.relay_model.specs.Trace.{ended_by, read_by, bytes_read, has_ended, write_closed_by, moved_at_free, given_at_free, told_moved_by, told_given_by}
-use Rattle.relay_model.specs.Reasons.{happened, end_flag, error_flag}
-use Rattle.relay_model.specs.Flow.{output, Flow, no_flow, middle, input, raw_output}
-use Rattle.relay_model.specs.Plain.{Plain, side_at, flow_at, change_side, change_flow, PlainSide, no_side, put_flow, put_side, is_live, new_side, with_link, all_sides, freed, without_timer}
+use Rattle.relay_model.specs.Trace.{moved_at_free, given_at_free, told_moved_by, told_given_by}
+use Rattle.relay_model.specs.Reasons.{happened, error_flag}
+use Rattle.relay_model.specs.Flow.{output, Flow, no_flow, middle, raw_output}
+use Rattle.relay_model.specs.Plain.{Plain, side_at, flow_at, change_side, change_flow, is_live, all_sides}
 use Rattle.relay_model.specs.Past.{Past, past}
-use Rattle.relay_model.specs.Rooms.{read_filter, may_read, read_kind, write_kind, write_filter, read_mark, hold_mark, Want, wanted, is_connecting, may_write, read_room, write_room, output_length}
-use Rattle.relay_model.specs.Serve.{after_conn, after_read, after_write, Call, call_for, marks_left, after_got, CarriesTook, CarriesGot}
-use Rattle.relay_model.specs.Close.{CloseStep, closed_by, closing_of, closing_from, fault, freed_entry, entry_where, closing_entry, steps_left, is_complete}
-use Rattle.relay_model.specs.Stages.{Stage, State, at, Fire, Between, Polling, Wanting, Marking, Accepting, Serving, Filtering, Dispatching, Firing, Freeing, Passing, Closing, Over, Halt, begun, after_ask}
-use Rattle.relay_model.specs.Turn.{Quietly, turned_to, Reaches, after_reading, after_fire, Puts, latest}
-use Rattle.relay_model.proofs.EndLemmas.{same_end-eq, number-ge, number-apart, peer-peer, same_end-refl, same_end-flip, number-lt}
-use Rattle.relay_model.proofs.KeepsLemmas.{Keeps-side, raised, raised_write, raised_read, Keeps, Keeps-refl, Keeps-eq, Keeps-trans, Keeps-length, Keeps-raise, Keeps-raise_write, Keeps-flow, Keeps-put, change_side-same, change_side-other}
-use Rattle.relay_model.proofs.PlacedLemmas.{may_read-parts, live-there, Placed, room-read, room-write, may_write-live, connecting-live, AllLive, AllOpened, link_of}
-use Rattle.relay_model.proofs.TimeLemmas.{time-flows, put-cases, IsLate, time-expired}
-use Rattle.relay_model.proofs.TraceLemmas.{bytes_read-push, has_ended-push}
-use Rattle.relay_model.proofs.GrownLemmas.{FlowOk, Grown, stations, grown-read, moved_list, IsBadIn, bad-grew, bad-met, grown-same, grown-counts, grown-used, grown-done, grown-moved, GrewList, Stations, grown-trans}
-use Rattle.std.proofs.Math.Seq.{map-set_same}
-use Rattle.std.proofs.Math.ListN.{get_or-map}
-use Rattle.relay_model.specs.Moments.{active_at, time_passed}
+use Rattle.relay_model.specs.Rooms.{read_filter, write_filter, read_mark, hold_mark, Want}
+use Rattle.relay_model.specs.Serve.{after_write, after_got}
+use Rattle.relay_model.specs.Close.{CloseStep}
+use Rattle.relay_model.specs.Stages.{Stage, State, Wanting, Marking, Accepting, Serving, Filtering, Dispatching, Firing, Passing, Closing, Over, Halt}
+use Rattle.relay_model.specs.Turn.{Quietly, turned_to, Reaches, after_reading}
+use Rattle.relay_model.proofs.EndLemmas.{same_end-eq, number-apart, peer-peer, same_end-refl}
+use Rattle.relay_model.proofs.KeepsLemmas.{Keeps-side, raised, raised_write, raised_read}
+use Rattle.relay_model.proofs.PlacedLemmas.{may_write-live}
+use Rattle.relay_model.proofs.TimeLemmas.{time-flows}
+use Rattle.relay_model.specs.Moments.{active_at}
 use Rattle.relay_model.proofs.KindLemmas.{ClosedKind, closed-kind, PutKind, put-kind}
-use Rattle.relay_model.specs.Due.{Due, Reason, without_due}
-use Rattle.relay_model.specs.Told.{names, freed_by, is_freed, failed_by, end_closed_by, is_freeing, FreesTell, FreesTellTotals}
-use Rattle.relay_model.proofs.EffectLemmas.{Effect, SideEffect, IsIdle, idle-still, fresh, or_no, or_yes, and_no, and_yes}
-use Rattle.relay_model.specs.Round.{Part, do_part, meets, read_run, write_run, round_parts, parts_of}
-use Rattle.relay_model.proofs.FireLemmas.{QuietKind, quiet-kind, is_open_stage, InRun, Runs, put-runs, quiet-runs, reading-open}
-use Rattle.relay_model.proofs.ToldLemmas.{Kept, kept, none_of, ended-names, list_any-push}
-use Rattle.relay_model.specs.Causes.{IsFirstBad, moved_to, IsBadPlace, InThisTurn, AskedFree, IsOverdue, TimedOut}
-use Rattle.std.specs.Prelude.{nat_lt, nat_eq, nat_le, option_map, ⊤, is_some, All}
+use Rattle.relay_model.specs.Due.{Reason}
+use Rattle.relay_model.specs.Told.{freed_by, is_freed, FreesTell, FreesTellTotals}
+use Rattle.relay_model.specs.Round.{Part, do_part, read_run, write_run, parts_of}
+use Rattle.relay_model.proofs.FireLemmas.{QuietKind, quiet-kind}
+use Rattle.relay_model.proofs.ToldLemmas.{kept, list_any-push}
+use Rattle.std.specs.Prelude.{nat_lt, ⊤, All}
 use Rattle.relay_model.proofs.BadSteps.{turned-stations, done-stations}
 use Rattle.relay_model.proofs.HeldLemmas.{live-unfreed}
 use Rattle.std.proofs.lemmas.List.Elements.{All-append}
 use Rattle.relay_model.proofs.TraceLemmas.{moved_at_free-push, given_at_free-push}
-use Rattle.relay_model.proofs.BadLemmas.{default-same, conn-flows, read-flows, closed-flows, set-seen, put-stations, Goes, AllFit, put-goes}
-use Rattle.std.proofs.lemmas.List.{get_or_past, set_past, get_or-set_same, get_or-set_other, get_or_append_left, get_or-append-add}
-use Rattle.relay_model.specs.FilterLaws.{BadLaw, IsFilter}
-use Rattle.relay_model.proofs.EveryFilter.{every_filter}
-use Rattle.relay_model.specs.Pass.{first_from, write_stops, is_over, with_used, read_place, with_read_done, with_turned, write_place, with_write_done, with_held, with_moved}
+use Rattle.relay_model.proofs.BadLemmas.{default-same, conn-flows, read-flows, closed-flows, set-seen, put-stations}
+use Rattle.std.proofs.lemmas.List.{get_or-set_other}
+use Rattle.relay_model.specs.Pass.{first_from, write_stops, is_over, with_used, with_read_done, with_turned, with_write_done, with_held, with_moved}
 use Rattle.relay_model.specs.Conserved.{all_moved}
-use Rattle.relay_model.specs.Filter.{Filter, met, or_else}
-use Rattle.relay_model.proofs.StepLemmas.{put-effect, conn-live, CalledRead, read-called, CalledWrite, write-called}
-use Rattle.std.specs.List.{AllByRecursion, list_any, list_all}
-use Rattle.ev_types.specs.declared.side.Side.{Side}
+use Rattle.relay_model.specs.Filter.{Filter}
+use Rattle.std.specs.List.{AllByRecursion}
 use Rattle.ev_types.specs.declared.side.Side.TheVariants.{In, Out}
-use Rattle.ev_types.specs.declared.act.Act.{Act}
-use Rattle.ev_types.specs.declared.answer.AskAnswer.{AskAnswer}
-use Rattle.ev_types.specs.declared.why.Cause.{Cause}
-use Rattle.ev_types.specs.declared.why.Why.{Why}
-use Rattle.relay_model.specs.Asks.{Ask}
-use Rattle.relay_model.proofs.SeenLemmas.{Seen, seen, but_bad, but_expired, time_passed-keeps, do_part-keeps}
-use Rattle.relay_model.proofs.AskLemmas.{Frees, GoesOn, ask-outcome}
-use Rattle.relay_model.specs.Quiet.{is_within_fire}
-use Rattle.std.proofs.lemmas.List.Folds.{list_all-append, list_any-append}
-use Rattle.relay_model.proofs.SplitLemmas.{IsLast, IsEarlier, pushed_split}
-use Rattle.relay_model.proofs.StageLemmas.{Silent, quiet-silent, closed-opened}
-use Rattle.relay_model.proofs.HeldLemmas.{Held, held}
-use Rattle.relay_model.proofs.FaultLemmas.{is_faulty, not-faulty, looks_at, FaultsAwait, Awaits, open-awaits, looked-for, closed-fails, rest, steps-looked, old-faulty, was-live}
-use Rattle.relay_model.proofs.CloseCases.{where_parts, faulty_parts}
-use Rattle.relay_model.proofs.PutLemmas.{IsPlainEvent, effect-keeps, effect-at}
-use Rattle.ev_types.specs.declared.answer.ConnAnswer.TheVariants as conn
+use Rattle.relay_model.proofs.SeenLemmas.{but_bad, do_part-keeps}
 use Rattle.ev_types.specs.declared.answer.ReadAnswer.TheVariants as read
 use Rattle.ev_types.specs.declared.answer.WriteAnswer.TheVariants as write
-use Rattle.ev_types.specs.declared.why.Why.TheVariants as why
 use Rattle.ev_types.specs.declared.entry.Entry.TheVariants as entry
 use Rattle.token_bucket.specs.declared.limit.Dir.TheVariants as dir
-use Rattle.ev_types.specs.declared.act.Act.TheVariants as act
-use Rattle.ev_types.specs.declared.answer.AskAnswer.TheVariants as ask
-use Rattle.ev_types.specs.declared.why.Cause.TheVariants as cause
 
 -- While parts of a round are left that move bytes, the side that the direction begins at lives
 
