@@ -6,7 +6,7 @@ ghost use Rattle.relay_rows.specs.FilterRows.{held_and_drained, line_end_in_two_
 ghost use Rattle.relay_rows.specs.HookRows.{held_byte_dropped, frees_another_link, frees_the_peer_twice, read_timeout, timer_fires, hook_stops, hook_and_lf_in, hook_in, three_hooks, timeout_in};
 ghost use Rattle.relay_rows.specs.EdgeRows.{rest_given_after_a_free, both_end_at_once, ended_before_it_connects, nothing_was_ready, bad_byte_behind_the_mark, connects_too_late, failed_and_expired, hex_out_held_at_one, read_timeout_out, write_timeout_out};
 ghost use Rattle.relay_rows.specs.ReasonRows.{reasons_in_order, first_due_first_fired, asks_behind_a_stop, forgotten_with_the_side, timer_replaced_and_cancelled, timeout_asked_for, group_joined_and_left, limit_changed, hook_and_group, hook_and_limit, hook_out, two_links};
-ghost use Rattle.relay_rows.specs.AskRows.{end_and_fault_told, connected_and_written, two_timeouts_joined, low_mark_reached, writing_disabled_for_a_turn, asks_refused, triggered, limit_asked_for, hook_and_low_mark_in, hook_and_timeouts_out, two_hooks};
+ghost use Rattle.relay_rows.specs.AskRows.{no_end_behind_a_free, hook_in_and_hex_out, end_and_fault_told, connected_and_written, two_timeouts_joined, low_mark_reached, writing_disabled_for_a_turn, asks_refused, triggered, limit_asked_for, hook_and_low_mark_in, hook_and_timeouts_out, two_hooks};
 ghost use Rattle.relay_rows.specs.RateRows.{suspended_for_two_ticks, small_group, read_in_ticks, shared_by_three, limited_in, one_group};
 
 /// Runs without filters, marks, limits and hooks.
@@ -85,6 +85,7 @@ pub fn runs_of_asks_are_legal()
     ensures asks_refused { Goes hook_in asks_refused }
     ensures triggered { Goes hook_in triggered }
     ensures limit_asked_for { Goes hook_in limit_asked_for }
+    ensures no_end_behind_a_free { Goes hook_in_and_hex_out no_end_behind_a_free }
 {}
 
 /// Runs of reasons in order, and of timers, timeouts, limits and groups that hooks set.
