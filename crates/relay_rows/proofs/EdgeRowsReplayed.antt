@@ -2,7 +2,7 @@
 use Rattle.std.specs.Prelude.{refl}
 use Rattle.relay_model.specs.Settings.{usual}
 use Rattle.relay_rows.specs.Laws.{Goes}
-use Rattle.relay_rows.specs.EdgeRows.{rest_given_after_a_free, both_end_at_once, ended_before_it_connects, nothing_was_ready, bad_byte_behind_the_mark, connects_too_late, failed_and_expired, hex_out_held_at_one, read_timeout_out, write_timeout_out}
+use Rattle.relay_rows.specs.EdgeRows.{writing_is_activity, rest_given_after_a_free, both_end_at_once, ended_before_it_connects, nothing_was_ready, bad_byte_behind_the_mark, connects_too_late, failed_and_expired, hex_out_held_at_one, read_timeout_out, write_timeout_out}
 use Rattle.relay_rows.proofs.AcceptLemmas.{rests-went}
 
 pub rest_given_after_a_free-goes : Goes usual rest_given_after_a_free
@@ -22,6 +22,9 @@ bad_byte_behind_the_mark-goes = rests-went hex_out_held_at_one bad_byte_behind_t
 
 pub connects_too_late-goes : Goes write_timeout_out connects_too_late
 connects_too_late-goes = rests-went write_timeout_out connects_too_late refl
+
+pub writing_is_activity-goes : Goes write_timeout_out writing_is_activity
+writing_is_activity-goes = rests-went write_timeout_out writing_is_activity refl
 
 pub failed_and_expired-goes : Goes read_timeout_out failed_and_expired
 failed_and_expired-goes = rests-went read_timeout_out failed_and_expired refl

@@ -78,3 +78,12 @@ failed_and_expired =
     ∷ turn 1000 ∷ poll_for 0 ∷ wants_read (in_of 0) ∷ wants_write (out_of 0) ∷ can_write (out_of 0) ∷ write_fails (out_of 0) 1
     ∷ frees (out_of 0) cause.Failed 0 0 ∷ frees (in_of 0) cause.PeerGone 1 0 ∷ closes (in_of 0) ∷ closes (out_of 0)
     ∷ []
+
+-- So long as Out has nothing to write its timeout doesn't run. A byte that it takes is activity.
+abbrev pub writing_is_activity : Trace
+writing_is_activity =
+    turn 0 ∷ poll ∷ opens 0
+    ∷ turn 500 ∷ poll ∷ wants_read (in_of 0) ∷ wants_read (out_of 0) ∷ can_read (in_of 0) ∷ gets (in_of 0) 16384 (104 ∷ 105 ∷ [])
+    ∷ turn 600 ∷ poll_for 900 ∷ wants_read (in_of 0) ∷ wants_both (out_of 0) ∷ can_write (out_of 0) ∷ takes (out_of 0) 2 (104 ∷ [])
+    ∷ turn 700 ∷ poll_for 900 ∷ wants_read (in_of 0) ∷ wants_both (out_of 0)
+    ∷ []

@@ -3,8 +3,8 @@ ghost use Rattle.relay_model.specs.Settings.{usual};
 ghost use Rattle.relay_rows.specs.Laws.{Goes, IsStoppedBy, FailsToPoll};
 ghost use Rattle.relay_rows.specs.PlainRows.{bytes_then_end, nothing_may_be_written, byte_by_byte, write_that_fails, request_and_answer, connect_that_fails, drained_at_the_end, time_stands_still, poll_that_fails};
 ghost use Rattle.relay_rows.specs.FilterRows.{held_and_drained, line_end_in_two_reads, held_to_the_end, line_ends_added, line_end_kept, odd_digit, no_digit, held_back, read_mark_reached, crlf_out, five_at_once, held_at_four, hex_in, lf_in};
-ghost use Rattle.relay_rows.specs.HookRows.{held_byte_dropped, frees_another_link, frees_the_peer_twice, read_timeout, timer_fires, hook_stops, hook_and_lf_in, hook_in, three_hooks, timeout_in};
-ghost use Rattle.relay_rows.specs.EdgeRows.{rest_given_after_a_free, both_end_at_once, ended_before_it_connects, nothing_was_ready, bad_byte_behind_the_mark, connects_too_late, failed_and_expired, hex_out_held_at_one, read_timeout_out, write_timeout_out};
+ghost use Rattle.relay_rows.specs.HookRows.{reading_is_activity, held_byte_dropped, frees_another_link, frees_the_peer_twice, read_timeout, timer_fires, hook_stops, hook_and_lf_in, hook_in, three_hooks, timeout_in};
+ghost use Rattle.relay_rows.specs.EdgeRows.{writing_is_activity, rest_given_after_a_free, both_end_at_once, ended_before_it_connects, nothing_was_ready, bad_byte_behind_the_mark, connects_too_late, failed_and_expired, hex_out_held_at_one, read_timeout_out, write_timeout_out};
 ghost use Rattle.relay_rows.specs.ReasonRows.{reasons_in_order, first_due_first_fired, asks_behind_a_stop, forgotten_with_the_side, timer_replaced_and_cancelled, timeout_asked_for, group_joined_and_left, limit_changed, hook_and_group, hook_and_limit, hook_out, two_links};
 ghost use Rattle.relay_rows.specs.AskRows.{no_end_behind_a_free, hook_in_and_hex_out, end_and_fault_told, connected_and_written, two_timeouts_joined, low_mark_reached, writing_disabled_for_a_turn, asks_refused, triggered, limit_asked_for, hook_and_low_mark_in, hook_and_timeouts_out, two_hooks};
 ghost use Rattle.relay_rows.specs.RateRows.{suspended_for_two_ticks, small_group, read_in_ticks, shared_by_three, limited_in, one_group};
@@ -47,6 +47,7 @@ pub fn runs_with_hooks_are_legal()
     ensures frees_another_link { Goes three_hooks frees_another_link }
     ensures frees_the_peer_twice { Goes hook_in frees_the_peer_twice }
     ensures read_timeout { Goes timeout_in read_timeout }
+    ensures reading_is_activity { Goes timeout_in reading_is_activity }
     ensures timer_fires { Goes hook_in timer_fires }
     ensures hook_stops { IsStoppedBy 0 hook_in hook_stops }
 {}
@@ -70,6 +71,7 @@ pub fn runs_at_edges_are_legal()
     ensures nothing_was_ready { Goes usual nothing_was_ready }
     ensures bad_byte_behind_the_mark { Goes hex_out_held_at_one bad_byte_behind_the_mark }
     ensures connects_too_late { Goes write_timeout_out connects_too_late }
+    ensures writing_is_activity { Goes write_timeout_out writing_is_activity }
     ensures failed_and_expired { Goes read_timeout_out failed_and_expired }
 {}
 
