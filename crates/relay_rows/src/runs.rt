@@ -7,7 +7,8 @@ ghost use Rattle.relay_rows.specs.HookRows.{reading_is_activity, held_byte_dropp
 ghost use Rattle.relay_rows.specs.EdgeRows.{writing_is_activity, rest_given_after_a_free, both_end_at_once, ended_before_it_connects, nothing_was_ready, bad_byte_behind_the_mark, connects_too_late, failed_and_expired, hex_out_held_at_one, read_timeout_out, write_timeout_out};
 ghost use Rattle.relay_rows.specs.ReasonRows.{reasons_in_order, first_due_first_fired, asks_behind_a_stop, forgotten_with_the_side, timer_replaced_and_cancelled, timeout_asked_for, group_joined_and_left, limit_changed, hook_and_group, hook_and_limit, hook_out, two_links};
 ghost use Rattle.relay_rows.specs.AskRows.{no_end_behind_a_free, hook_in_and_hex_out, end_and_fault_told, connected_and_written, two_timeouts_joined, low_mark_reached, writing_disabled_for_a_turn, asks_refused, triggered, limit_asked_for, hook_and_low_mark_in, hook_and_timeouts_out, two_hooks};
-ghost use Rattle.relay_rows.specs.RateRows.{suspended_for_two_ticks, small_group, read_in_ticks, shared_by_three, limited_in, one_group};
+ghost use Rattle.relay_rows.specs.MarkRows.{marks_asked_for, write_low_mark_reached, timers_in_order, enabled_behind_the_end, reading_disabled, hook_and_low_mark_out, hook_at_in, hooks_of_two_links};
+ghost use Rattle.relay_rows.specs.RateRows.{written_in_ticks, limited_out, suspended_for_two_ticks, small_group, read_in_ticks, shared_by_three, limited_in, one_group};
 
 /// Runs without filters, marks, limits and hooks.
 ///
@@ -57,6 +58,7 @@ pub fn runs_with_hooks_are_legal()
 /// Own.
 pub fn runs_with_limits_are_legal()
     ensures read_in_ticks { Goes limited_in read_in_ticks }
+    ensures written_in_ticks { Goes limited_out written_in_ticks }
     ensures shared_by_three { Goes one_group shared_by_three }
     ensures suspended_for_two_ticks { Goes small_group suspended_for_two_ticks }
 {}
@@ -102,4 +104,15 @@ pub fn runs_of_reasons_are_legal()
     ensures timeout_asked_for { Goes hook_in timeout_asked_for }
     ensures group_joined_and_left { Goes hook_and_group group_joined_and_left }
     ensures limit_changed { Goes hook_and_limit limit_changed }
+{}
+
+/// Runs of marks, of timers that pass together, and of what hooks enable and disable.
+///
+/// Own.
+pub fn runs_of_marks_are_legal()
+    ensures marks_asked_for { Goes hook_at_in marks_asked_for }
+    ensures write_low_mark_reached { Goes hook_and_low_mark_out write_low_mark_reached }
+    ensures timers_in_order { Goes hooks_of_two_links timers_in_order }
+    ensures enabled_behind_the_end { Goes hook_at_in enabled_behind_the_end }
+    ensures reading_disabled { Goes hook_at_in reading_disabled }
 {}
