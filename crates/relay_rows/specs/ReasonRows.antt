@@ -95,6 +95,18 @@ group_joined_and_left =
     ∷ turn 4 ∷ poll ∷ wants_read (in_of 0) ∷ wants_both (out_of 0) ∷ can_read (in_of 0) ∷ gets (in_of 0) 16384 (letters 1) ∷ fires (in_of 0) why.Read
     ∷ []
 
+abbrev pub hook_of_a_member : Settings
+hook_of_a_member = record usual { groups = record { cfg = hundred_a_second; share = 64 } ∷ []; in_group = Some 0; hooks = in_of 0 ∷ [] }
+
+-- The only member uses up the bucket and leaves. No poll waits for a group without members.
+abbrev pub suspended_without_members : Trace
+suspended_without_members =
+    turn 0 ∷ poll ∷ opens 0
+    ∷ turn 1 ∷ poll ∷ wants_read (in_of 0) ∷ wants_read (out_of 0) ∷ can_read (in_of 0) ∷ gets (in_of 0) 100 (letters 100)
+    ∷ fires (in_of 0) why.Read ∷ asks (in_of 0) (act.Leave (in_of 0)) ask.Ok
+    ∷ turn 2 ∷ poll ∷ wants_read (in_of 0) ∷ wants_both (out_of 0)
+    ∷ []
+
 abbrev pub hook_and_limit : Settings
 hook_and_limit = record usual { in_rate = Some hundred_a_second; hooks = in_of 0 ∷ [] }
 
