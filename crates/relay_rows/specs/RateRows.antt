@@ -107,3 +107,16 @@ suspended_for_two_ticks =
     ∷ turn 2000 ∷ poll ∷ wants_read (in_of 0) ∷ wants_both (out_of 0) ∷ wants_read (in_of 1) ∷ wants_both (out_of 1)
     ∷ can_read (in_of 0) ∷ gets (in_of 0) 64 (letters 3)
     ∷ []
+
+abbrev pub group_of_ten : Settings
+group_of_ten = record usual { groups = record { cfg = ten_a_second; share = 64 } ∷ []; in_group = Some 0 }
+
+-- The least share of 64 is lowered to the rate of 10. One of two members uses up the bucket, and the other reads a tick later.
+abbrev pub share_lowered_to_the_rate : Trace
+share_lowered_to_the_rate =
+    turn 0 ∷ poll ∷ opens 0 ∷ opens 1
+    ∷ turn 0 ∷ poll ∷ wants_read (in_of 0) ∷ wants_read (out_of 0) ∷ wants_read (in_of 1) ∷ wants_read (out_of 1)
+    ∷ can_read (in_of 0) ∷ can_read (in_of 1) ∷ gets (in_of 0) 10 (letters 10)
+    ∷ turn 1000 ∷ poll ∷ wants_read (in_of 0) ∷ wants_both (out_of 0) ∷ wants_read (in_of 1) ∷ wants_read (out_of 1)
+    ∷ can_read (in_of 1) ∷ gets (in_of 1) 10 (letters 10)
+    ∷ []
