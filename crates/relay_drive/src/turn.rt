@@ -47,5 +47,6 @@ pub(crate) fn turn<P: Port, S: Scribe>(
     let wants = poll(run, alloc, port, scribe)?;
     serve(run, &wants, inbox, port, scribe)?;
     pass(&mut run.relay)?;
-    close(run, port, scribe)
+    close(run, port, scribe)?;
+    Ok(())
 }
