@@ -1,5 +1,6 @@
 -- The definitions at worked values. Bytes: 10 is LF, 13 is CR, 48 to 57 are digits, 97 is a.
-use Rattle.std.proofs.Common.{◌≡◌, ℕ, true, false, List, [], ◌∷◌, Some, None, refl}
+use Rattle.std.proofs.Common.{◌≡◌, ℕ, zero, suc, true, false, List, [], ◌∷◌, Some, None, refl, arith}
+use Rattle.std.specs.Prelude.{All}
 use Rattle.ev_types.specs.declared.side.SideId.{SideId}
 use Rattle.ev_types.specs.declared.side.Side.TheVariants.{In, Out}
 use Rattle.ev_types.specs.declared.why.Cause.TheVariants as cause
@@ -12,9 +13,7 @@ use Rattle.relay_model.specs.Trace.{bytes_read, bytes_given, has_ended, moved_at
 use Rattle.relay_model.specs.Filter.{Filter, filter_of, holds, met}
 use Rattle.relay_model.specs.FilterLaws.{more, more_at_end}
 use Rattle.relay_model.specs.Flow.{Flow, no_flow, middle, output, passed_at_end, passed}
-use Rattle.relay_model.specs.Conserved.{left}
-
--- to-crlf
+use Rattle.relay_model.specs.Conserved.{Accounted, Holds, Running, no_buffers, left}
 
 abbrev crlf : Filter
 crlf = filter_of kind.ToCrlf
@@ -27,6 +26,8 @@ hex = filter_of kind.HexOut
 
 abbrev unhex : Filter
 unhex = filter_of kind.HexIn
+
+-- to-crlf
 
 a_first_lf_gets_its_cr : crlf.before (10 ∷ []) ≡ 13 ∷ 10 ∷ []
 a_first_lf_gets_its_cr = refl
@@ -218,3 +219,45 @@ a_bad_end_adds_no_end = refl
 
 a_good_end_adds_both : passed_at_end unhex lf (48 ∷ 100 ∷ []) ≡ 13 ∷ []
 a_good_end_adds_both = refl
+
+-- the run above is accounted for: In's filter is to-lf and Out's none, all bytes of In were used and moved before its free
+
+abbrev plainly : Filter
+plainly = filter_of kind.None
+
+abbrev after_run : Flow
+after_run = record no_flow { used = 4; moved = 3; turned = 3; given = 2 }
+
+one_number : (n : ℕ) → All (λ told. told ≡ n) (n ∷ [])
+one_number n zero d lt = refl
+one_number n (suc k) d lt = absurd (omega arith)
+
+the_run_is_accounted_for : Accounted lf plainly run side_in (97 ∷ 13 ∷ 10 ∷ 98 ∷ []) (97 ∷ 10 ∷ []) true after_run
+the_run_is_accounted_for = record {
+  fits = record {
+    used = omega arith;
+    moved = omega arith;
+    turned = omega arith;
+    given = omega arith;
+    read_done = λ done. absurd (cc);
+    write_done = λ done. absurd (cc);
+  };
+  given = refl;
+  side_freed = one_number 3;
+  peer_freed = λ k d lt. absurd (omega arith);
+  closed = λ closed. absurd (cc);
+}
+
+abbrev writer : Running
+writer = record { kind = kind.None; since = 0; used = 3; last = Some 98; finished = false; stopped = None }
+
+abbrev reader : Running
+reader = record { kind = kind.ToLf; since = 0; used = 4; last = Some 98; finished = false; stopped = None }
+
+what_is_left_is_held : Holds kind.ToLf kind.None lf plainly (97 ∷ 13 ∷ 10 ∷ 98 ∷ []) true false true after_run
+    (record no_buffers { raw_output = 98 ∷ [] }) reader writer
+what_is_left_is_held = record {
+  buffers = refl;
+  reads = λ live. absurd (cc);
+  writes = λ live. (record { kind = refl; since = refl; begun = omega arith; used = refl; good = refl; last = refl; finished = refl; stopped = tt });
+}

@@ -1,7 +1,7 @@
 -- What it is that no byte of a direction is lost, made or changed. The first record speaks of the trace and the counts, the
 -- second of the buffers and the running filters, which hold exactly what the counts leave. A direction goes from a side to
 -- its peer. What follows from these records stands in ConservedLaws.
-use Rattle.std.specs.Prelude.{◌≡◌, ℕ, Bool, true, if◌then◌else◌, ⊤, List, [], take, drop, Option, Some, None, MatchOption, All, length, nat_eq, ◌&&◌}
+use Rattle.std.specs.Prelude.{◌≡◌, ℕ, ◌≤◌, Bool, true, if◌then◌else◌, ⊤, List, [], take, drop, Option, Some, None, MatchOption, All, length, nat_eq, ◌&&◌}
 use Rattle.ev_types.specs.declared.filter.FilterKind.{FilterKind}
 use Rattle.ev_types.specs.declared.side.SideId.{SideId}
 use Rattle.ev_types.specs.Sides.{peer}
@@ -45,6 +45,9 @@ pub record Buffers : Type 0 where
   pub output : List ℕ
   pub raw_output : List ℕ
 
+abbrev pub no_buffers : Buffers
+no_buffers = record { raw_input = []; input = []; output = []; raw_output = [] }
+
 -- What the counts leave: a live side has the first two buffers, a live peer the other two, and those of a freed one are gone.
 abbrev pub left : Filter → Filter → List ℕ → Bool → Bool → Flow → Buffers
 left r w read from_live to_live f = record {
@@ -64,10 +67,11 @@ pub record Running : Type 0 where
   pub stopped : Option ℕ  -- the bad place at which it stopped
 
 -- A filter of that name runs and used the first so many bytes of xs, none of them bad; `over` tells whether no more will
--- come. Where it has stopped, it did so at the place that is met there.
+-- come, `done` whether it is finished. Where it has stopped, it did so at the place that is met there.
 pub record StandsAt (name : FilterKind) (f : Filter) (xs : List ℕ) (count : ℕ) (over done : Bool) (x : Running) : Type 0 where
   pub kind : x.kind ≡ name
   pub since : x.since ≡ f.since
+  pub begun : f.since ≤ count
   pub used : x.used ≡ count
   pub good : f.bad (take count xs) ≡ None
   pub last : x.last ≡ last_of (drop f.since (take count xs))

@@ -1,6 +1,7 @@
 pub mod Trace
 pub mod Filter
 pub mod FilterLaws
+pub mod Switched
 pub mod Flow
 pub mod Conserved
 pub mod ConservedLaws
@@ -16,6 +17,7 @@ pub mod Asks
 pub mod Plans
 pub mod Moments
 pub mod Pass
+pub mod PassLaws
 pub mod Round
 pub mod Serve
 pub mod Close
@@ -23,3 +25,16 @@ pub mod Stages
 pub mod Turn
 pub mod Answers
 pub mod RatesKept
+pub mod Stands
+pub mod StandsLaws
+pub mod Totals
+pub mod Tied
+pub mod TurnLaws
+pub mod Lines
+pub mod Script
+pub mod Scripted
+pub mod Plays
+pub mod Told
+pub mod Hooked
+pub mod Quiet
+pub mod Causes

@@ -1,6 +1,6 @@
 -- The relay without its bytes: what it keeps of each side, each direction and each timer. The bytes are what the trace
 -- says; how the plain state goes on stands in Turn.
-use Rattle.std.specs.Prelude.{ℕ, zero, suc, ◌+◌, ◌*◌, Bool, true, false, ◌==◌, not, List, [], ◌∷◌, ◌++◌, filter, count_by, slice_index_or, slice_set, Option, Some, None, option_map}
+use Rattle.std.specs.Prelude.{ℕ, zero, suc, ◌+◌, Bool, true, false, not, List, [], ◌∷◌, ◌++◌, filter, slice_index_or, slice_set, Option, None, option_map}
 use Rattle.ev_types.specs.declared.side.Side.{Side}
 use Rattle.ev_types.specs.declared.side.Side.TheVariants.{In, Out}
 use Rattle.ev_types.specs.declared.side.SideId.{SideId}
@@ -93,6 +93,10 @@ put_flow e f s = record s { flows = slice_set s.flows (number e) f }
 -- the state with one side changed
 abbrev pub change_side : SideId → (PlainSide → PlainSide) → Plain → Plain
 change_side e change s = put_side e (change (side_at s e)) s
+
+-- the state with the direction that begins at a side changed
+abbrev pub change_flow : SideId → (Flow → Flow) → Plain → Plain
+change_flow e change s = put_flow e (change (flow_at s e)) s
 
 -- the sides of n links from number k on, In before Out
 abbrev pub sides_from : ℕ → ℕ → List SideId

@@ -5,9 +5,8 @@ use Rattle.std.specs.Prelude.{ℕ, Bool, true, false, List, [], ◌∷◌, fold,
 use Rattle.ev_types.specs.declared.side.SideId.{SideId}
 use Rattle.ev_types.specs.Sides.{peer}
 use Rattle.relay_model.specs.Filter.{Filter, or_else}
-use Rattle.relay_model.specs.Flow.{Flow}
 use Rattle.relay_model.specs.Settings.{Settings}
-use Rattle.relay_model.specs.Plain.{Plain, side_at, flow_at, put_flow, change_side, is_live}
+use Rattle.relay_model.specs.Plain.{Plain, side_at, flow_at, change_side, change_flow, is_live}
 use Rattle.relay_model.specs.Past.{Past}
 use Rattle.relay_model.specs.Rooms.{read_filter, write_filter, read_mark, hold_mark}
 use Rattle.relay_model.specs.Pass.{with_held, with_used, read_place, with_read_done, with_moved, with_turned, write_place, with_write_done}
@@ -29,10 +28,6 @@ parts_of live false = []
 abbrev pub meets : SideId → Option ℕ → Plain → Plain
 meets e place s = change_side e (λ x. record x { bad = or_else x.bad place }) s
 
--- the counts of the direction that begins at a side go on
-abbrev pub goes : SideId → (Flow → Flow) → Plain → Plain
-goes e change s = put_flow e (change (flow_at s e)) s
-
 module _ (g : Settings) (p : Past) (e : SideId) where
   abbrev pub filter_in : Plain → Filter
   filter_in s = read_filter g s e
@@ -46,20 +41,20 @@ module _ (g : Settings) (p : Past) (e : SideId) where
   -- The read filter of the side runs, up to the end or not. A bad byte or a bad end marks the side.
   abbrev pub read_run : Bool → Plain → Plain
   read_run ended s =
-      let ran = goes e (with_used (filter_in s) (p.read e) (read_mark s e)) s in
+      let ran = change_flow e (with_used (filter_in s) (p.read e) (read_mark s e)) s in
       meets e (read_place (filter_in s) (p.read e) (read_mark s e) ended (flow_at ran e)) ran
 
   -- The write filter of the peer runs, up to the end or not. A bad byte or a bad end marks the peer.
   abbrev pub write_run : Bool → Plain → Plain
   write_run may_end s =
-      let ran = goes e (with_turned (filter_in s) (filter_out s) (p.read e) (hold_of s)) s in
+      let ran = change_flow e (with_turned (filter_in s) (filter_out s) (p.read e) (hold_of s)) s in
       meets (peer e) (write_place (filter_in s) (filter_out s) (p.read e) (hold_of s) may_end (flow_at ran e)) ran
 
   abbrev pub do_part : Part → Plain → Plain
-  do_part Part.Hold s = goes e (with_held (filter_in s) (filter_out s) (p.read e) (hold_of s)) s
-  do_part Part.Read s = goes e (with_read_done (filter_in s) (p.read e) (read_mark s e) (side_at s e).ended) (read_run (side_at s e).ended s)
-  do_part Part.Move s = goes e (with_moved (filter_in s) (p.read e)) s
-  do_part Part.Write s = goes e (with_write_done (filter_in s) (filter_out s) (p.read e) (hold_of s)) (write_run true s)
+  do_part Part.Hold s = change_flow e (with_held (filter_in s) (filter_out s) (p.read e) (hold_of s)) s
+  do_part Part.Read s = change_flow e (with_read_done (filter_in s) (p.read e) (read_mark s e) (side_at s e).ended) (read_run (side_at s e).ended s)
+  do_part Part.Move s = change_flow e (with_moved (filter_in s) (p.read e)) s
+  do_part Part.Write s = change_flow e (with_write_done (filter_in s) (filter_out s) (p.read e) (hold_of s)) (write_run true s)
   do_part Part.Drain s = write_run false s
 
   -- the parts of the next round

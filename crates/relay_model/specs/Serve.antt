@@ -1,5 +1,5 @@
 -- Serving a marked side: what it is asked, what its answer may carry, and what the answer changes.
-use Rattle.std.specs.Prelude.{◌≡◌, ℕ, ◌+◌, ◌≤◌, Bool, true, false, ◌&&◌, not, nat_le, if◌then◌else◌, List, [], ◌∷◌, length}
+use Rattle.std.specs.Prelude.{◌≡◌, ℕ, ◌+◌, ◌≤◌, true, false, ◌&&◌, not, nat_le, if◌then◌else◌, List, [], ◌∷◌, length}
 use Rattle.token_bucket.specs.declared.limit.Dir.TheVariants as dir
 use Rattle.ev_types.specs.declared.side.SideId.{SideId}
 use Rattle.ev_types.specs.declared.answer.ConnAnswer.{ConnAnswer}
@@ -10,14 +10,13 @@ use Rattle.ev_types.specs.declared.answer.WriteAnswer.{WriteAnswer}
 use Rattle.ev_types.specs.declared.answer.WriteAnswer.TheVariants as write
 use Rattle.ev_types.specs.declared.why.Why.TheVariants as why
 use Rattle.ev_types.specs.Sides.{peer}
-use Rattle.relay_model.specs.Flow.{Flow}
 use Rattle.relay_model.specs.Settings.{Settings}
-use Rattle.relay_model.specs.Plain.{Plain, change_side}
+use Rattle.relay_model.specs.Plain.{Plain, change_side, change_flow}
 use Rattle.relay_model.specs.Past.{Past}
 use Rattle.relay_model.specs.Rooms.{Want, is_connecting, read_room, write_room}
 use Rattle.relay_model.specs.Reasons.{raise, raise_read, raise_write, happened, end_flag, error_flag}
 use Rattle.relay_model.specs.Moments.{active_at}
-use Rattle.relay_model.specs.Round.{read_run, goes}
+use Rattle.relay_model.specs.Round.{read_run}
 
 -- what a marked side is asked
 pub data Call : Type 0 where
@@ -73,7 +72,7 @@ after_got g p e s = raise_read g p e (read_run g p e false s)
 
 abbrev pub after_write : Settings → Past → SideId → WriteAnswer → Plain → Plain
 after_write g p e (write.Took n) s =
-    raise_write g p e (change_side e (active_at s.time dir.Write) (goes (peer e) (λ f. record f { given = f.given + n }) s))
+    raise_write g p e (change_side e (active_at s.time dir.Write) (change_flow (peer e) (λ f. record f { given = f.given + n }) s))
 after_write g p e write.NotYet s = s
 after_write g p e write.Failed s = raise g e (happened dir.Write error_flag) (change_side e (λ x. record x { failed = true; writes = false }) s)
 after_write g p e write.NoMemory s = s

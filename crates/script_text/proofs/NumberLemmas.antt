@@ -1,8 +1,7 @@
 -- A number as its digits are read, one after another.
-use Rattle.std.proofs.Common.{◌≡◌, ◌≢◌, ◌<◌, ◌≤◌, ◌+◌, ◌-◌, ◌*◌, ℕ, Bool, true, false, ◌&&◌, List, [], ◌∷◌, drop, length, get_or, refl, ap, sym, ◌∙◌, arith, eqb, inl, inr, cond, leb, Option, Some, None, rules, tests}
+use Rattle.std.proofs.Common.{◌≡◌, ◌≢◌, ◌<◌, ◌≤◌, ◌+◌, ◌-◌, ◌*◌, ℕ, true, false, ◌&&◌, List, [], ◌∷◌, drop, length, get_or, refl, arith, inl, inr, cond, leb, Some, None, rules, tests}
 use Rattle.std.specs.List.{fold}
 use Rattle.std.specs.Str.{all_ascii_digits}
-use Rattle.std.specs.Char.{is_ascii_digit}
 use Rattle.std.proofs.lemmas.Bool.Decides.{eqb_tells}
 use Rattle.std.proofs.lemmas.List.{drop_more}
 use Rattle.script_text.specs.Numbers.{value_of, is_numeral, number_within}
@@ -35,6 +34,6 @@ value_of-above max w i n lt same past =
 
 pub number_within-above : (max : ℕ) (w : List ℕ) → max < value_of w → None ≡ number_within max w
 number_within-above max w above = elim (is_numeral w) as (λ v. None ≡ cond (v && leb (value_of w) max) (Some (value_of w)) None) [
-    true ↦ let no : leb (value_of w) max ≡ false = search (rules, tests) in rw no refl
+  | true ↦ let no : leb (value_of w) max ≡ false = search (rules, tests) in rw no refl
   | false ↦ refl
-  ]
+]

@@ -3,3 +3,12 @@ pub mod ScriptView
 pub mod Pieces
 pub mod Numbers
 pub mod Grammar
+pub mod Order
+pub mod Spelled
+pub mod Tally
+pub mod ReadingView
+pub mod Lines
+pub mod ActLine
+pub mod TraceText
+pub mod ReportText
+pub mod Laws

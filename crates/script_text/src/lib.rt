@@ -1,8 +1,21 @@
 //! The script of a run as text and as values, and the trace and the report of a run as text. It runs nothing.
 #![tactic(auto)]
 
+mod act_text;
+mod entry_text;
+mod laws;
 mod line;
+mod read;
 mod script;
+mod tally;
+mod value_text;
 mod words;
+mod write;
 
+pub use laws::{lines_are_parted, numbers_are_decimal, phrase_has_its_words, refused_at_first_bad};
+pub use read::read_script;
 pub use script::{ByteList, LinkLine, Script, ScriptFault, TurnLine};
+pub use write::{write_report, write_trace};
+
+#[cfg(test)]
+mod tests;

@@ -4,8 +4,8 @@ ghost use Rattle.std.specs.Str.{bytes_eq};
 ghost use Rattle.script_text.specs.Grammar.{keyword_of, side_of, end_of, said, said_by};
 
 use crate::words::{hex_bytes, number};
-use crate::{ByteList, ScriptFault, TurnLine};
-use ev_types::{Side, SideId};
+use crate::{ByteList, TurnLine};
+use ev_types::{NoMemory, Side, SideId};
 use std::alloc::Global;
 
 /// The last moment of a script, in milliseconds.
@@ -82,7 +82,7 @@ fn read_end(link: &[u8], side_word: &[u8]) -> Option<SideId>
 }
 
 /// What a line with these words says. Takes memory for the bytes of an `r` line alone.
-pub fn line_of(alloc: Global, words: &[&[u8]]) -> Result<Option<Line>, ScriptFault>
+pub fn line_of(alloc: Global, words: &[&[u8]]) -> Result<Option<Line>, NoMemory>
     ensures { IfOk result (λ line. line ≡ said (map (λ w. w.now) words.now)) }
 {
     let Some((first, more)) = words.split_first() else {
@@ -95,7 +95,7 @@ pub fn line_of(alloc: Global, words: &[&[u8]]) -> Result<Option<Line>, ScriptFau
 }
 
 /// What a line of this kind says with these further words.
-fn line_by(alloc: Global, keyword: Keyword, more: &[&[u8]]) -> Result<Option<Line>, ScriptFault>
+fn line_by(alloc: Global, keyword: Keyword, more: &[&[u8]]) -> Result<Option<Line>, NoMemory>
     ensures { IfOk result (λ line. line ≡ said_by keyword (map (λ w. w.now) more.now)) }
 {
     match (keyword, more) {
@@ -113,7 +113,7 @@ fn pending_line(
     link: &[u8],
     side: &[u8],
     digits: &[u8],
-) -> Result<Option<Line>, ScriptFault>
+) -> Result<Option<Line>, NoMemory>
     ensures { IfOk result (λ line. line ≡ said_by Keyword.Pending (link.now ∷ side.now ∷ digits.now ∷ [])) }
 {
     let Some(end) = read_end(link, side) else {

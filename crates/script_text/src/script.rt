@@ -1,5 +1,8 @@
 // A script as values.
 
+ghost use Rattle.std.specs.Prelude.{◌≡◌};
+ghost use Rattle.script_text.specs.declared.script.ScriptFault.TheVariants.{Memory};
+
 use ev_types::{LinkState, NoMemory, SideId};
 use std::alloc::{AllocError, AllocFailed};
 use std::marker::Model;
@@ -65,18 +68,24 @@ pub enum ScriptFault {
 }
 
 impl From<AllocError> for ScriptFault {
+    ghost from_gives = { λ _ e. e ≡ Memory };
+
     fn from(_: AllocError) -> ScriptFault {
         ScriptFault::Memory
     }
 }
 
 impl<T: Drop> From<AllocFailed<T>> for ScriptFault {
+    ghost from_gives = { λ _ e. e ≡ Memory };
+
     fn from(_: AllocFailed<T>) -> ScriptFault {
         ScriptFault::Memory
     }
 }
 
 impl From<NoMemory> for ScriptFault {
+    ghost from_gives = { λ _ e. e ≡ Memory };
+
     fn from(_: NoMemory) -> ScriptFault {
         ScriptFault::Memory
     }

@@ -4,9 +4,9 @@ ghost use Rattle.std.specs.Prelude.{◌≡◌, ◌<◌, ◌≤◌, ◌^◌, ◌�
 ghost use Rattle.script_text.specs.Pieces.{pieces, words};
 ghost use Rattle.script_text.specs.Numbers.{bytes_of, number_within};
 
-use crate::ScriptFault;
+use ev_types::NoMemory;
 use hex::FromHexError;
-use std::alloc::{AllocError, Global};
+use std::alloc::Global;
 
 /// The greatest number of a script.
 pub const MAX_NUMBER: u64 = 1 << 62;
@@ -39,7 +39,7 @@ pub fn first_piece(text: &[u8], stop: u8) -> (&[u8], &[u8])
 }
 
 /// The words of a line. Takes memory for their list.
-pub fn words_of<'a>(alloc: Global, line: &'a [u8]) -> Result<Vec<&'a [u8]>, AllocError>
+pub fn words_of<'a>(alloc: Global, line: &'a [u8]) -> Result<Vec<&'a [u8]>, NoMemory>
     ensures { IfOk result (λ all. map (λ w. w.now) all.items ≡ words line.now) }
 {
     let mut all = Vec::new(alloc);
@@ -78,7 +78,7 @@ pub fn number(word: &[u8], max: u64) -> Option<u64>
 }
 
 /// The bytes that a word of hex digits spells. Takes memory for them.
-pub fn hex_bytes(alloc: Global, word: &[u8]) -> Result<Option<Vec<u8>>, ScriptFault>
+pub fn hex_bytes(alloc: Global, word: &[u8]) -> Result<Option<Vec<u8>>, NoMemory>
     ensures { IfOk result (λ bytes. option_map (λ v. v.items) bytes ≡ bytes_of word.now) }
 {
     if word.len() < MIN_HEX_DIGITS || word.len() > MAX_HEX_DIGITS {
@@ -86,7 +86,7 @@ pub fn hex_bytes(alloc: Global, word: &[u8]) -> Result<Option<Vec<u8>>, ScriptFa
     }
     match hex::decode(alloc, word) {
         Ok(bytes) => Ok(Some(bytes)),
-        Err(FromHexError::OutOfMemory) => Err(ScriptFault::Memory),
+        Err(FromHexError::OutOfMemory) => Err(NoMemory),
         Err(_) => Ok(None),
     }
 }

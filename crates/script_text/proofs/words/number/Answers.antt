@@ -1,5 +1,4 @@
-use Rattle.std.proofs.Common.{◌≡◌, ◌<◌, ◌≤◌, ◌*◌, length, arith}
-use Rattle.script_text.specs.Numbers.{value_of}
+use Rattle.std.proofs.Common.{◌<◌, ◌*◌, arith}
 use Rattle.script_text.proofs.NumberLemmas.{value_of-above, number_within-above}
 use Rattle.script_text.proofs.words.number.Goals as goal
 

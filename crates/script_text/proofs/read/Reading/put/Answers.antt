@@ -1,0 +1,50 @@
+use Rattle.std.proofs.Common.{◌≡◌, ◌<◌, ◌+◌, ◌-◌, true, List, [], ◌∷◌, ◌++◌, length, ap, sym, subst, refl, ◌∙◌, arith}
+use Rattle.std.proofs.lemmas.List.{length-map}
+use Rattle.script_text.specs.declared.script.TurnLine.{TurnLine}
+use Rattle.script_text.specs.Script.{ScriptValue, TurnValue}
+use Rattle.script_text.specs.ScriptView.{turn_values}
+use Rattle.script_text.specs.Order.{turn_lines, with_line, may_follow}
+use Rattle.script_text.specs.Tally.{IsTally}
+use Rattle.script_text.proofs.TurnLemmas.{turn_value, turn_values-put, turn_values-same, turn_lines-with_line}
+use Rattle.script_text.proofs.TallyLemmas.{IsTally-counted}
+use Rattle.script_text.proofs.read.Reading.put.Goals as goal
+
+-- more room changes nothing
+pub invariant_of-self-in_err-reserve-2 : goal.invariant_of-self-in_err-reserve-2
+invariant_of-self-in_err-reserve-2 c =
+    let same = turn_values-same c.self.inside.turns.items (c.len-last.result - 1) c.index_mut.result.now c.reserve-2.new.self
+    c.index_mut.ensures.value c.in_err-reserve-2.ensures.items in
+    let kept : IsTally c.reserve.new.self.items (turn_lines (turn_values c.self.inside.turns.items)) = rw c.in_ok-reserve.ensures.items c.self.invariant in
+    subst (λ (lines : List TurnLine). IsTally c.reserve.new.self.items lines) (sym (ap turn_lines same)) kept
+
+-- what is kept goes on with the line
+pub invariant_of-self-2 : goal.invariant_of-self-2
+invariant_of-self-2 c =
+    let ts = turn_values c.self.inside.turns.items in
+    let turns_are = ap (λ (s : ScriptValue). s.turns) c.self.view_is in
+    let some : 0 < length ts = rw turns_are c.requires.begun in
+    let last_is : c.len-last.result - 1 + 1 ≡ length c.self.inside.turns.items =
+    omega (arith, length-map c.self.inside.turns.items turn_value, c.self.inside.turns.ok.0) in
+    let grown : c.push.new.self.items ≡ c.index_mut.result.now.1.items ++ c.args.line ∷ [] =
+    rw (c.push.ensures.items, c.unwrap.ensures, c.in_ok-reserve-2.ensures.items) refl in
+    let put = turn_values-put c.self.inside.turns.items (c.len-last.result - 1) c.index_mut.result.now c.push.new.self c.args.line last_is
+    c.index_mut.ensures.value grown in
+    let lines = ap turn_lines put ∙ turn_lines-with_line ts c.args.line some in
+    let kept : IsTally c.reserve.new.self.items (turn_lines ts) = rw c.in_ok-reserve.ensures.items c.self.invariant in
+    let follows : may_follow (turn_lines ts) c.args.line ≡ true = rw turns_are c.requires.follows in
+    let more : IsTally c.count_line.new.ends.items (turn_lines ts ++ c.args.line ∷ []) =
+    rw c.count_line.ensures (IsTally-counted c.reserve.new.self.items (turn_lines ts) c.args.line kept follows) in
+    subst (λ (ls : List TurnLine). IsTally c.count_line.new.ends.items ls) (sym lines) more
+
+pub returns : goal.returns
+returns c =
+    let ts = turn_values c.self.inside.turns.items in
+    let turns_are = ap (λ (s : ScriptValue). s.turns) c.self.view_is in
+    let some : 0 < length ts = rw turns_are c.requires.begun in
+    let last_is : c.len-last.result - 1 + 1 ≡ length c.self.inside.turns.items =
+    omega (arith, length-map c.self.inside.turns.items turn_value, c.self.inside.turns.ok.0) in
+    let grown : c.push.new.self.items ≡ c.index_mut.result.now.1.items ++ c.args.line ∷ [] =
+    rw (c.push.ensures.items, c.unwrap.ensures, c.in_ok-reserve-2.ensures.items) refl in
+    turn_values-put c.self.inside.turns.items (c.len-last.result - 1) c.index_mut.result.now c.push.new.self c.args.line last_is
+    c.index_mut.ensures.value grown
+    ∙ ap (λ (all : List TurnValue). with_line all c.args.line) turns_are

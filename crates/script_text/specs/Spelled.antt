@@ -1,0 +1,45 @@
+-- The script that a text spells, or the first line that is not in the grammar.
+use Rattle.std.specs.Prelude.{◌≡◌, ℕ, ◌+◌, ◌-◌, ◌^◌, ⊤, min, List, [], ◌∷◌, ◌&&◌, Bool, if◌then◌else◌, nat_le, Option, Some, None, option_and_then, Result, Ok, Err}
+use Rattle.std.specs.List.{list_all}
+use Rattle.script_text.specs.Script.{ScriptValue}
+use Rattle.script_text.specs.Pieces.{lines, words}
+use Rattle.script_text.specs.Grammar.{said}
+use Rattle.script_text.specs.Order.{extended}
+use Rattle.script_text.specs.declared.script.ScriptFault.{ScriptFault}
+use Rattle.script_text.specs.declared.script.ScriptFault.TheVariants.{Memory, BadLine}
+
+-- the bytes that a line may have: the printing characters of ASCII and the space
+abbrev pub is_plain : ℕ → Bool
+is_plain byte = nat_le 32 byte && nat_le byte 126
+
+-- the script with the line of this text more, where the line is in the grammar there
+abbrev pub line_read : ScriptValue → List ℕ → Option ScriptValue
+line_read script line =
+    if list_all is_plain line then option_and_then (λ what. extended script what) (said (words line)) else None
+
+-- what a script goes on to, or this line where there is none
+abbrev pub going_on : Option ScriptValue → ℕ → (ScriptValue → Result ScriptValue ℕ) → Result ScriptValue ℕ
+going_on None line on = Err line
+going_on (Some script) line on = on script
+
+-- The script after some lines more, or the number of the first of them that is not in the grammar. So many lines stand
+-- before them.
+abbrev pub lines_read : ScriptValue → ℕ → List (List ℕ) → Result ScriptValue ℕ
+lines_read script before [] = Ok script
+lines_read script before (line ∷ more) =
+    going_on (line_read script line) (before + 1) (λ longer. lines_read longer (before + 1) more)
+
+-- the script of no line
+abbrev pub no_line : ScriptValue
+no_line = record { turns = [] }
+
+-- the script that a text spells, or the number of its first bad line, counted from 1
+abbrev pub script_of : List ℕ → Result ScriptValue ℕ
+script_of text = lines_read no_line 0 (lines text)
+
+-- A text that was refused for a line has this one as its first bad line. A number above 2^32 - 1 is told as that
+-- number. Memory may run out whatever the text is.
+abbrev pub IsTold : ScriptFault → Result ScriptValue ℕ → Type 0
+IsTold Memory spelled = ⊤
+IsTold (BadLine told) (Ok script) = ⊥
+IsTold (BadLine told) (Err line) = told ≡ min line (2 ^ 32 - 1)

@@ -1,0 +1,201 @@
+// Reads a script line by line. What a line says is told elsewhere; here stands where it may stand.
+ghost use Rattle.std.specs.Prelude.{◌≡◌, ◌≤◌, ◌<◌, ◌+◌, ◌-◌, ◌^◌, [], ◌&&◌, not, true, nat_lt, nat_le, length, min, IfOk, IfErr, OnOk, if◌then◌else◌};
+ghost use Rattle.std.specs.List.{list_all};
+ghost use Rattle.ev_types.specs.Sides.{number};
+ghost use Rattle.script_text.specs.Order.{extended, with_line, may_follow, turn_lines, opened, bytes_for, is_ended};
+ghost use Rattle.script_text.specs.Spelled.{is_plain, line_read, script_of, IsTold};
+
+use crate::line::{Line, line_of};
+use crate::tally::{EndSoFar, count_line, kept};
+use crate::words::{first_piece, words_of};
+use crate::{Script, ScriptFault, TurnLine};
+use ev_types::{NoMemory, Side, SideId};
+use std::alloc::Global;
+use std::marker::Model;
+
+/// The most turns of a script.
+const MAX_TURNS: usize = 20_000;
+
+/// The most links of a script.
+const MAX_LINKS: usize = 1;
+
+/// The most bytes that a script brings to one end.
+const MAX_PENDING: usize = 1 << 18;
+
+/// A script of which some lines were read. Contracts see the script so far.
+///
+/// Own.
+#[derive(Drop)]
+pub struct Reading {
+    turns: Vec<(u64, Vec<TurnLine>)>,
+    ends: Vec<EndSoFar>,
+}
+
+impl Model for Reading {
+    ghost use Rattle.script_text.specs.Script.{ScriptValue};
+
+    ghost Value = { ScriptValue };
+
+    ghost use Rattle.script_text.specs.ReadingView.{script_so_far, IsReading};
+
+    ghost view = { script_so_far };
+
+    ghost invariant = { IsReading };
+}
+
+impl Reading {
+    /// No line was read. Takes no memory.
+    pub fn new(alloc: Global) -> Reading
+        ensures { result.turns ≡ [] }
+    {
+        Reading {
+            turns: Vec::new(alloc),
+            ends: Vec::new(alloc),
+        }
+    }
+
+    /// Takes the text of one line in, and tells whether the line is in the grammar there.
+    pub fn read_line(&mut self, alloc: Global, text: &[u8]) -> Result<bool, NoMemory>
+        ensures { IfOk result (λ fits. (if fits then Some self.new else None) ≡ line_read self.old text.now) }
+    {
+        if !is_plain_text(text) {
+            return Ok(false);
+        }
+        let words = words_of(alloc, text)?;
+        match line_of(alloc, &words)? {
+            Some(line) => self.extend(alloc, line),
+            None => Ok(false),
+        }
+    }
+
+    /// Takes a line in where it may stand, and tells whether it may.
+    fn extend(&mut self, alloc: Global, line: Line) -> Result<bool, NoMemory>
+        ensures { IfOk result (λ fits. (if fits then Some self.new else None) ≡ extended self.old line) }
+    {
+        match line {
+            Line::At(ms) => self.begin_turn(alloc, ms),
+            Line::Within(line) => {
+                if self.is_empty() || !self.may_follow(&line) {
+                    return Ok(false);
+                }
+                self.put(line)?;
+                Ok(true)
+            }
+        }
+    }
+
+    /// Does no turn stand in the script yet?
+    fn is_empty(&self) -> bool
+        ensures { result ≡ not (nat_lt 0 (length self.now.turns)) }
+    {
+        self.turns.is_empty()
+    }
+
+    fn begin_turn(&mut self, alloc: Global, ms: u64) -> Result<bool, NoMemory>
+        ensures { IfOk result (λ fits. (if fits then Some self.new else None) ≡ extended self.old (Line.At ms)) }
+    {
+        if self.turns.len() >= MAX_TURNS {
+            return Ok(false);
+        }
+        self.turns.push((ms, Vec::new(alloc)))?;
+        Ok(true)
+    }
+
+    /// May the line stand behind those so far?
+    fn may_follow(&self, line: &TurnLine) -> bool
+        ensures { result ≡ may_follow (turn_lines self.now.turns) line.now }
+    {
+        match line {
+            TurnLine::NewLink { .. } => self.links() < MAX_LINKS,
+            TurnLine::Pending(side, list) => {
+                side.side == Side::In
+                    && self.is_known(*side)
+                    && self.has_room(*side, list.bytes.len())
+            }
+            TurnLine::Eof(side) => side.side == Side::In && self.is_known(*side),
+            TurnLine::Take(side, _) => side.side == Side::Out && self.is_known(*side),
+        }
+    }
+
+    /// How many links were opened.
+    fn links(&self) -> usize
+        ensures { result ≡ opened (turn_lines self.now.turns) }
+    {
+        self.ends.len() / 2
+    }
+
+    /// Was the link of the end opened?
+    fn is_known(&self, side: SideId) -> bool
+        ensures { result ≡ nat_lt side.link (opened (turn_lines self.now.turns)) }
+    {
+        (side.link as usize) < self.links()
+    }
+
+    /// May so many bytes more come in at the end?
+    fn has_room(&self, side: SideId, count: usize) -> bool
+        ensures { result
+            ≡ (not (is_ended (number side) (turn_lines self.now.turns))
+            && nat_le (bytes_for (number side) (turn_lines self.now.turns) + count) (2 ^ 18)) }
+    {
+        let end = kept(&self.ends, side.number());
+        !end.ended && end.bytes.saturating_add(count) <= MAX_PENDING
+    }
+
+    /// Puts a line that may stand there at the end of the last turn. After a refusal all is as it was.
+    fn put(&mut self, line: TurnLine) -> Result<(), NoMemory>
+        requires begun { 0 < length self.old.turns }
+        requires follows { may_follow (turn_lines self.old.turns) line ≡ true }
+        ensures { OnOk result (self.new.turns ≡ with_line self.old.turns line) }
+    {
+        let last = self.turns.len() - 1;
+        self.ends.reserve(2)?;
+        let lines = &mut self.turns[last].1;
+        lines.reserve(1)?;
+        count_line(&mut self.ends, &line);
+        lines.push(line).unwrap();
+        Ok(())
+    }
+
+    /// The script of all lines so far.
+    fn finish(self) -> Script
+        ensures { result ≡ self }
+    {
+        Script { turns: self.turns }
+    }
+}
+
+/// Has a line only bytes that a script may have?
+fn is_plain_text(line: &[u8]) -> bool
+    ensures { result ≡ list_all is_plain line.now }
+{
+    line.iter().all(|b| (b' '..=b'~').contains(b))
+}
+
+/// The number of a line as it is told.
+fn told(line: usize) -> u32
+    ensures { result ≡ min line (2 ^ 32 - 1) }
+{
+    u32::try_from(line).unwrap_or(u32::MAX)
+}
+
+/// Reads a whole script. Takes memory for it and for the words of a line. A text is refused at its first line that
+/// is not in the grammar, counted from 1; a number above 2^32 - 1 is told as that number.
+///
+/// Own.
+pub fn read_script(alloc: Global, text: &[u8]) -> Result<Script, ScriptFault>
+    ensures script { IfOk result (λ script. script_of text.now ≡ Ok script) }
+    ensures fault { IfErr result (λ fault. IsTold fault (script_of text.now)) }
+{
+    let mut reading = Reading::new(alloc);
+    let mut before: usize = 0;
+    let mut rest = text;
+    while !rest.is_empty() {
+        let (line, after) = first_piece(rest, b'\n');
+        before += 1;
+        if !reading.read_line(alloc, line)? {
+            return Err(ScriptFault::BadLine(told(before)));
+        }
+        rest = after;
+    }
+    Ok(reading.finish())
+}
