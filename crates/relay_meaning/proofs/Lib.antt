@@ -9,3 +9,5 @@ pub mod PassSteps
 pub mod SideSteps
 pub mod ServeSteps
 pub mod WriteSteps
+pub mod FreeSteps
+pub mod CloseSteps
