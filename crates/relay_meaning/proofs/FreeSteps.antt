@@ -120,6 +120,7 @@ module _ (t : Trace) (s : State) (p : Plain) (e : SideId) (h : Agrees t s p) (lt
             code_opened = refl;
             code_sides = length-set own.sides (number (peer e)) (peer_gone (side_at own (peer e))) ∙ length-set s.sides (number e) x;
             time = h.time;
+            in_time = h.in_time;
             opened = refl;
             timers = ap (without_timer e) h.timers ∙ sym h.timers;
             due = ap (without_due e) h.due ∙ sym h.due;

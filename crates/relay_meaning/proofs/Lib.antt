@@ -11,3 +11,4 @@ pub mod ServeSteps
 pub mod WriteSteps
 pub mod FreeSteps
 pub mod CloseSteps
+pub mod TurnSteps
