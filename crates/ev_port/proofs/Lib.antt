@@ -1,1 +1,6 @@
 pub mod EndLemmas
+pub mod ListLemmas
+pub mod LinkLemmas
+pub mod ScriptLemmas
+pub mod ToldLemmas
+pub mod CallLemmas

@@ -10,3 +10,9 @@ pub mod MemoryView
 pub mod ScriptState
 pub mod ScriptEnds
 pub mod ScriptEndView
+pub mod ScriptLinks
+pub mod ScriptKept
+pub mod ScriptLinksView
+pub mod ScriptPort
+pub mod ScriptTold
+pub mod ScriptPortView

@@ -1,5 +1,5 @@
 -- What a source and a sink over memory keep, and what each of their calls answers and leaves.
-use Rattle.std.specs.Prelude.{ℕ, ◌+◌, ◌-◌, ◌^◌, ◌==◌, min, length, drop, List, Bool, if◌then◌else◌}
+use Rattle.std.specs.Prelude.{ℕ, ◌==◌, min, length, drop, List, Bool, if◌then◌else◌}
 use Rattle.std.specs.List.{list_any}
 use Rattle.ev_port.specs.Counting.{counted}
 use Rattle.ev_port.specs.declared.stream.Taken.{Taken}

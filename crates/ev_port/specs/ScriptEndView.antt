@@ -1,7 +1,7 @@
 -- How an end of a script port keeps its bytes: one list of all that the script ever brings in, and how far it came.
 use Rattle.std.specs.Prelude.{◌≤◌, take, drop, vec_len}
 use Rattle.ev_port.specs.declared.script_end.ScriptEnd.TheInside.{Inside}
-use Rattle.ev_port.specs.ScriptState.{EndState, EndKept}
+use Rattle.ev_port.specs.ScriptState.{EndKept}
 
 abbrev pub end_kept : Inside → EndKept
 end_kept e = record {

@@ -1,5 +1,5 @@
 -- What the lines of a script and the calls of a port make of one end.
-use Rattle.std.specs.Prelude.{◌≡◌, ◌≢◌, ℕ, ◌-◌, ◌==◌, min, length, take, drop, Bool, true, false, ◌&&◌, ◌||◌, not, if◌then◌else◌, List, [], ◌∷◌, ◌++◌, Option, Some, None}
+use Rattle.std.specs.Prelude.{ℕ, ◌-◌, ◌==◌, min, length, take, drop, Bool, true, false, ◌&&◌, ◌||◌, not, if◌then◌else◌, List, [], ◌++◌, Option, Some, None}
 use Rattle.ev_types.specs.declared.answer.ConnAnswer.{ConnAnswer}
 use Rattle.ev_types.specs.declared.answer.ConnAnswer.TheVariants as conn
 use Rattle.ev_types.specs.declared.answer.ReadAnswer.{ReadAnswer}
@@ -11,7 +11,7 @@ use Rattle.script_text.specs.declared.script.TurnLine.TheVariants as line
 use Rattle.ev_port.specs.declared.port.Want.{Want}
 use Rattle.ev_port.specs.declared.script_end.EndTally.{EndTally}
 use Rattle.ev_port.specs.Counting.{counted}
-use Rattle.ev_port.specs.ScriptState.{EndState, EndKept}
+use Rattle.ev_port.specs.ScriptState.{EndState}
 
 abbrev pub no_calls : EndTally
 no_calls = record {
@@ -52,11 +52,11 @@ allowed (Some n) None = None
 allowed (Some n) (Some more) = Some (counted n more)
 
 -- what a line makes of the end that it names
-abbrev pub lined : TurnLine → EndState → EndState
-lined (line.Pending side bytes) s = record s { pending = s.pending ++ bytes }
-lined (line.Eof side) s = record s { eof = true }
-lined (line.Take side more) s = record s { may_take = allowed s.may_take more }
-lined (line.NewLink wait) s = s
+abbrev pub end_after_line : TurnLine → EndState → EndState
+end_after_line (line.Pending side bytes) s = record s { pending = s.pending ++ bytes }
+end_after_line (line.Eof side) s = record s { eof = true }
+end_after_line (line.Take side more) s = record s { may_take = allowed s.may_take more }
+end_after_line (line.NewLink wait) s = s
 
 -- Calls
 
@@ -145,24 +145,3 @@ wanted w s = record s {
     write_marks = counted s.tally.write_marks (once w.can_write);
   };
 }
-
--- With the bytes to come
-
--- the next so many of the bytes to come have come in
-abbrev pub come_in : ℕ → EndKept → EndKept
-come_in n e = record {
-  state = record e.state { pending = e.state.pending ++ take n e.to_come };
-  to_come = drop n e.to_come;
-}
-
--- what a line makes of an end where the bytes to come are its own
-abbrev pub lined_kept : TurnLine → EndKept → EndKept
-lined_kept (line.Pending side bytes) e = come_in (length bytes) e
-lined_kept (line.Eof side) e = record e { state = lined (line.Eof side) e.state }
-lined_kept (line.Take side more) e = record e { state = lined (line.Take side more) e.state }
-lined_kept (line.NewLink wait) e = e
-
--- what a write did: want of memory, in place of taking bytes, changed nothing
-abbrev pub Wrote : EndKept → EndKept → List ℕ → WriteAnswer → Type 0
-Wrote old new from write.NoMemory = (new ≡ old) × (write_answer old.state (length from) ≢ write.NotYet)
-Wrote old new from answer = (new ≡ record old { state = after_write old.state from }) × (answer ≡ write_answer old.state (length from))

@@ -2,6 +2,7 @@
 use Rattle.std.specs.Prelude.{ℕ, Bool, List, Option}
 use Rattle.script_text.specs.declared.script.TurnLine.{TurnLine}
 use Rattle.ev_port.specs.declared.script_end.EndTally.{EndTally}
+use Rattle.ev_port.specs.declared.script_port.PortTally.{PortTally}
 
 -- what stands at one end
 pub record EndState : Type 0 where
@@ -17,3 +18,22 @@ pub record EndState : Type 0 where
 pub record EndKept : Type 0 where
   pub state : EndState
   pub to_come : List ℕ
+
+-- the links of the script, and what stands at their ends
+pub record LinksState : Type 0 where
+  pub waiting : List Bool  -- the links that wait to be accepted, each with whether its Out end is undecided
+  pub ends : List EndState  -- the ends of all links of the script, by the number of their side
+
+-- the links, with those that the script has yet to open and the bytes that it has yet to bring in at each end
+pub record LinksKept : Type 0 where
+  pub state : LinksState
+  pub to_open : List Bool
+  pub to_come : List (List ℕ)
+
+-- the whole port
+pub record PortState : Type 0 where
+  pub turns : List (ℕ × List TurnLine)  -- the script: each turn's moment and its lines
+  pub begun : ℕ  -- how many of its turns began
+  pub clock : ℕ  -- the moment of the last of these, or 0
+  pub links : LinksState
+  pub tally : PortTally

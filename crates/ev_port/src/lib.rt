@@ -8,6 +8,8 @@ mod mute;
 mod port;
 mod scribe;
 mod script_end;
+mod script_links;
+mod script_port;
 mod standard;
 mod stream;
 
@@ -16,5 +18,9 @@ pub use memory::{MemSink, MemSource};
 pub use mute::Mute;
 pub use port::{Accepted, Addr, Polled, Port, Started, Want};
 pub use scribe::Scribe;
+pub use script_port::ScriptPort;
 pub use standard::{StdSink, StdSource};
 pub use stream::{Given, Sink, Source, Taken};
+
+#[cfg(test)]
+mod tests;

@@ -3,7 +3,8 @@
 ghost use Rattle.std.specs.Prelude.{◌≡◌, ◌<◌, ◌++◌, [], length, take, drop, IfOk, OnErr, OnOk, IsOk};
 ghost use Rattle.ev_port.specs.Counting.{counted};
 ghost use Rattle.ev_port.specs.Ends.{got_bytes};
-ghost use Rattle.ev_port.specs.ScriptEnds.{no_calls, new_end, lined_kept, come_in, allowed, can_read, can_write, taken_of, left_to_take, read_answer, after_read, Wrote, conn_answer, after_check, accepted, after_close_write, after_close, wanted};
+ghost use Rattle.ev_port.specs.ScriptEnds.{no_calls, new_end, allowed, can_read, can_write, read_answer, after_read, conn_answer, after_check, accepted, after_close_write, after_close, wanted};
+ghost use Rattle.ev_port.specs.ScriptKept.{kept_after_line, Wrote};
 
 use crate::Want;
 use ev_types::{ConnAnswer, NoMemory, ReadAnswer, WriteAnswer};
@@ -111,7 +112,7 @@ impl ScriptEnd {
 
     /// A line that names this end is applied.
     pub fn apply(&mut self, line: &TurnLine)
-        ensures { self.new ≡ lined_kept line.now self.old }
+        ensures { self.new ≡ kept_after_line line.now self.old }
     {
         match line {
             TurnLine::NewLink { .. } => {}
@@ -122,7 +123,8 @@ impl ScriptEnd {
     }
 
     fn come_in(&mut self, count: usize)
-        ensures { self.new ≡ come_in count self.old }
+        ensures state { self.new.state ≡ record self.old.state { pending = self.old.state.pending ++ take count self.old.to_come } }
+        ensures to_come { self.new.to_come ≡ drop count self.old.to_come }
     {
         self.came += count.min(self.bytes.len() - self.came);
     }

@@ -20,6 +20,9 @@ GaveScript old new = (text : List ℕ) × (script : ScriptValue) × GaveAll old 
 abbrev pub run_text : Trace → List LinkLine → List ℕ
 run_text t links = trace_text t ++ report_text links
 
+abbrev pub IsRunText : List ℕ → Type 0
+IsRunText text = (t : Trace) × (links : List LinkLine) × (text ≡ run_text t links)
+
 -- the sink took the whole text of a trace and a report
 abbrev pub TookText : Option (List ℕ) → Option (List ℕ) → Type 0
 TookText old new = (t : Trace) × (links : List LinkLine) × TookOn old new (run_text t links)

@@ -3,6 +3,15 @@ use Rattle.std.specs.Prelude.{◌≡◌, ℕ, List, [], ◌∷◌, ◌++◌, cod
 use Rattle.std.specs.Fmt.{decimal}
 use Rattle.ev_types.specs.declared.status.Status.{Status}
 use Rattle.ev_types.specs.declared.status.Status.TheVariants as status
+use Rattle.relay_drive.specs.declared.fault.DriveFault.{DriveFault}
+use Rattle.relay_drive.specs.declared.fault.DriveFault.TheVariants as fault
+
+-- the status where a turn was refused
+abbrev pub status_of : DriveFault → Status
+status_of fault.Memory = status.Memory
+status_of fault.PollFault = status.PollFault
+status_of fault.OpenFault = status.OpenFault
+status_of fault.Spent = status.Spent
 
 -- the status of the process
 abbrev pub status_number : Status → ℕ

@@ -8,6 +8,7 @@ ghost use Rattle.evplay.specs.Play.{GaveBad, GaveScript, TookText, TookPart};
 use crate::input::{ReadStop, read_text};
 use crate::output::write_text;
 use crate::run::run;
+use crate::status::fault_status;
 use crate::words::are_relay_words;
 use ev_port::{Sink, Source};
 use ev_types::Status;
@@ -68,8 +69,9 @@ pub fn play<S: Source, K: Sink>(
         Err(ScriptFault::BadLine(line)) => return Status::BadScript(line),
         Err(ScriptFault::Memory) => return Status::Memory,
     };
-    let Ok(output) = run(alloc, script) else {
-        return Status::Memory;
+    let output = match run(alloc, script) {
+        Ok(output) => output,
+        Err(fault) => return fault_status(fault),
     };
     match write_text(sink, &output) {
         Ok(()) => Status::Ok,

@@ -1,5 +1,6 @@
 // Makes the turns of a script over a port that answers by it, and gives the text of what happened.
-ghost use Rattle.std.specs.Prelude.{◌≡◌, IfOk, List};
+ghost use Rattle.std.specs.Prelude.{◌≡◌, IfOk, IfErr};
+ghost use Rattle.relay_drive.specs.declared.fault.DriveFault.TheVariants.{Memory};
 ghost use Rattle.evplay.specs.Play.{IsRunText};
 
 use ev_port::ScriptPort;
@@ -9,19 +10,28 @@ use script_text::{LinkLine, Script, write_report, write_trace};
 use std::alloc::Global;
 
 /// The text of the trace and of the report of a run, one turn for each of the script.
-pub fn run(alloc: Global, script: Script) -> Result<Vec<u8>, NoMemory>
-    ensures { IfOk result (λ text. IsRunText text.items) }
+pub fn run(alloc: Global, script: Script) -> Result<Vec<u8>, DriveFault>
+    ensures text { IfOk result (λ text. IsRunText text.items) }
+    ensures only_memory { IfErr result (λ fault. fault ≡ Memory) }
 {
     let turns = script.turns.len();
     let mut port = ScriptPort::new(alloc, script)?;
     let mut tape = Tape::new(alloc);
-    let mut drive = new_drive(alloc)?;
+    let mut drive = Drive::new(alloc, Settings::usual())?;
     for _ in 0..turns {
         drive.turn(&mut port, &mut tape)?;
     }
+    Ok(written(alloc, &tape, &drive)?)
+}
+
+/// The text of a trace, and of the report of the drive that made it.
+fn written(alloc: Global, tape: &Tape, drive: &Drive) -> Result<Vec<u8>, NoMemory>
+    ensures { IfOk result (λ text. IsRunText text.items) }
+{
+    let links = link_lines(alloc, drive)?;
     let mut text = Vec::new(alloc);
-    write_trace(alloc, &tape, &mut text)?;
-    write_report(alloc, &link_lines(alloc, &drive)?, &mut text)?;
+    write_trace(alloc, tape, &mut text)?;
+    write_report(alloc, &links, &mut text)?;
     Ok(text)
 }
 

@@ -1,8 +1,9 @@
 // What the process says of how the program ended.
 ghost use Rattle.std.specs.Prelude.{◌≡◌, IfOk, Some, option_map, string_bytes};
-ghost use Rattle.evplay.specs.Status.{status_number, status_text};
+ghost use Rattle.evplay.specs.Status.{status_number, status_text, status_of};
 
 use ev_types::Status;
+use relay_drive::DriveFault;
 use std::alloc::{AllocError, Global};
 
 /// The status of the process: 0 to 10, in the order of the statuses.
@@ -42,4 +43,16 @@ pub fn status_line(alloc: Global, status: Status) -> Result<Option<String>, Allo
         Status::Spent => String::from_str(alloc, "count spent")?,
     };
     Ok(Some(line))
+}
+
+/// How the program ends where a turn was refused.
+pub fn fault_status(fault: DriveFault) -> Status
+    ensures { result ≡ status_of fault }
+{
+    match fault {
+        DriveFault::Memory => Status::Memory,
+        DriveFault::PollFault => Status::PollFault,
+        DriveFault::OpenFault => Status::OpenFault,
+        DriveFault::Spent => Status::Spent,
+    }
 }

@@ -1,7 +1,12 @@
 // Accepting links.
+ghost use Rattle.std.specs.Prelude.{◌≡◌, ◌⊎◌, ◌<◌, ◌≤◌, false, MatchBool, MatchResult};
+ghost use Rattle.relay_drive.specs.declared.fault.DriveFault.TheVariants.{Memory, OpenFault};
+ghost use Rattle.relay_drive.specs.Steps.{Nothing};
+ghost use Rattle.relay_drive.specs.Phases.{OpensOne, Accepts, is_open_fault};
+ghost use Rattle.relay_drive.specs.Goes.{Goes};
 
 use crate::fault::DriveFault;
-use crate::run::Run;
+use crate::run::{Run, put};
 use ev_port::{Accepted, Port, Scribe};
 use ev_types::Entry;
 
@@ -13,13 +18,25 @@ fn accept_one<P: Port, S: Scribe>(
     run: &mut Run,
     port: &mut P,
     scribe: &mut S,
-) -> Result<bool, DriveFault> {
+) -> Result<bool, DriveFault>
+    requires { run.old.relay.state.opened < run.old.relay.state.settings.links }
+    ensures went { MatchResult result
+        (λ more. Goes (λ s a new. MatchBool more (OpensOne s a new) (Nothing s a new)) false run.old run.new (S.trace scribe.old) (S.trace scribe.new) (P.vouches port.old) (P.vouches port.new) (P.faults port.old) (P.faults port.new))
+        (λ fault. Goes Nothing (is_open_fault fault) run.old run.new (S.trace scribe.old) (S.trace scribe.new) (P.vouches port.old) (P.vouches port.new) (P.faults port.old) (P.faults port.new)) }
+    ensures grown { run.old.relay.state.opened ≤ run.new.relay.state.opened }
+    ensures cause { MatchResult result (λ _. Unit {0}) (λ fault. (fault ≡ Memory) ⊎ (fault ≡ OpenFault)) }
+{
     run.relay.reserve_link()?;
     scribe.reserve(1, 0)?;
     let link = run.relay.opened();
     match port.accept(link) {
         Accepted::Link { connected } => {
-            run.put(scribe, Entry::Opened { link, connected }, &[]);
+            put(
+                &mut run.entries,
+                scribe,
+                Entry::Opened { link, connected },
+                &[],
+            );
             run.relay.open(connected);
             Ok(true)
         }
@@ -34,7 +51,13 @@ pub(crate) fn accept<P: Port, S: Scribe>(
     run: &mut Run,
     port: &mut P,
     scribe: &mut S,
-) -> Result<(), DriveFault> {
+) -> Result<(), DriveFault>
+    ensures went { MatchResult result
+        (λ _. Goes Accepts false run.old run.new (S.trace scribe.old) (S.trace scribe.new) (P.vouches port.old) (P.vouches port.new) (P.faults port.old) (P.faults port.new))
+        (λ fault. Goes Accepts (is_open_fault fault) run.old run.new (S.trace scribe.old) (S.trace scribe.new) (P.vouches port.old) (P.vouches port.new) (P.faults port.old) (P.faults port.new)) }
+    ensures grown { run.old.relay.state.opened ≤ run.new.relay.state.opened }
+    ensures cause { MatchResult result (λ _. Unit {0}) (λ fault. (fault ≡ Memory) ⊎ (fault ≡ OpenFault)) }
+{
     for _ in 0..MOST_OPENED {
         if !run.relay.can_open() || !accept_one(run, port, scribe)? {
             return Ok(());

@@ -1,9 +1,18 @@
 // One call of the port for one side, with room made before for all that it may bring.
+ghost use Rattle.std.specs.Prelude.{◌≡◌, ◌<◌, ◌≤◌, false, length, MatchResult};
+ghost use Rattle.relay_core.specs.Rooms.{offer};
+ghost use Rattle.relay_drive.specs.declared.fault.DriveFault.TheVariants.{Memory};
+ghost use Rattle.relay_drive.specs.Steps.{Nothing};
+ghost use Rattle.relay_drive.specs.Calls.{Asks, Reads, Writes, HasBytes, is_memory, after_read, after_write, after_conn};
+ghost use Rattle.ev_port.specs.Ends.{ReadWithin, got_bytes, WriteWithin, took_bytes};
+ghost use Rattle.relay_core.specs.State.{spare_read};
+ghost use Rattle.relay_drive.specs.Goes.{Goes};
 
 use crate::fault::DriveFault;
-use crate::run::Run;
+use crate::run::{Run, put};
 use ev_port::{Port, Scribe};
 use ev_types::{ConnAnswer, Entry, ReadAnswer, SideId, WriteAnswer};
+use relay_core::Relay;
 
 /// Reads from the side's end as many bytes as there are in `into`.
 pub(crate) fn ask_read<P: Port, S: Scribe>(
@@ -12,7 +21,14 @@ pub(crate) fn ask_read<P: Port, S: Scribe>(
     into: &mut [u8],
     port: &mut P,
     scribe: &mut S,
-) -> Result<ReadAnswer, DriveFault> {
+) -> Result<ReadAnswer, DriveFault>
+    requires opened { side.link < run.old.relay.state.opened }
+    requires some { 0 < length into.old }
+    ensures went { MatchResult result
+        (λ answer. Goes (Reads side answer into.new) false run.old run.new (S.trace scribe.old) (S.trace scribe.new) (P.vouches port.old) (P.vouches port.new) (P.faults port.old) (P.faults port.new))
+        (λ _. Goes Nothing false run.old run.new (S.trace scribe.old) (S.trace scribe.new) (P.vouches port.old) (P.vouches port.new) (P.faults port.old) (P.faults port.new)) }
+    ensures cause { MatchResult result (λ _. Unit {0}) (λ fault. fault ≡ Memory) }
+{
     run.relay.reserve_read(side, into.len())?;
     scribe.reserve(1, into.len())?;
     let answer = port.read(side, into);
@@ -21,23 +37,38 @@ pub(crate) fn ask_read<P: Port, S: Scribe>(
         room: into.len() as u64,
         answer,
     };
-    match answer {
-        ReadAnswer::Got(count) => {
-            let (bytes, _) = into.split_at(count);
-            run.put(scribe, entry, bytes);
-            run.relay.got(side, bytes);
-        }
-        ReadAnswer::Ended => {
-            run.put(scribe, entry, &[]);
-            run.relay.ended(side);
-        }
-        ReadAnswer::NotYet => run.put(scribe, entry, &[]),
-        ReadAnswer::Failed => {
-            run.put(scribe, entry, &[]);
-            run.relay.read_failed(side);
-        }
-    }
+    let bytes = bytes_got(answer, into);
+    put(&mut run.entries, scribe, entry, bytes);
+    note_read(&mut run.relay, side, answer, bytes);
     Ok(answer)
+}
+
+/// The bytes that a read put in front of the slice.
+fn bytes_got(answer: ReadAnswer, into: &[u8]) -> &[u8]
+    requires { ReadWithin answer (length into.now) }
+    ensures { result.now ≡ got_bytes answer into.now }
+{
+    let count = match answer {
+        ReadAnswer::Got(count) => count,
+        _ => 0,
+    };
+    let (bytes, _) = into.split_at(count);
+    bytes
+}
+
+/// Makes the change of a read, with room made before for its bytes.
+fn note_read(relay: &mut Relay, side: SideId, answer: ReadAnswer, bytes: &[u8])
+    requires opened { side.link < relay.old.state.opened }
+    requires some { HasBytes answer bytes.now }
+    requires room { length bytes.now ≤ spare_read relay.old side }
+    ensures { relay.new.state ≡ after_read relay.old.state side answer bytes.now }
+{
+    match answer {
+        ReadAnswer::Got(_) => relay.got(side, bytes),
+        ReadAnswer::Ended => relay.ended(side),
+        ReadAnswer::NotYet => {}
+        ReadAnswer::Failed => relay.read_failed(side),
+    }
 }
 
 /// Gives the side's end what is offered to it now.
@@ -46,31 +77,64 @@ pub(crate) fn ask_write<P: Port, S: Scribe>(
     side: SideId,
     port: &mut P,
     scribe: &mut S,
-) -> Result<WriteAnswer, DriveFault> {
+) -> Result<WriteAnswer, DriveFault>
+    requires opened { side.link < run.old.relay.state.opened }
+    requires some { 0 < length (offer run.old.relay.state side) }
+    ensures went { MatchResult result
+        (λ answer. Goes (Writes side answer) false run.old run.new (S.trace scribe.old) (S.trace scribe.new) (P.vouches port.old) (P.vouches port.new) (P.faults port.old) (P.faults port.new))
+        (λ _. Goes Nothing false run.old run.new (S.trace scribe.old) (S.trace scribe.new) (P.vouches port.old) (P.vouches port.new) (P.faults port.old) (P.faults port.new)) }
+    ensures cause { MatchResult result (λ _. Unit {0}) (λ fault. fault ≡ Memory) }
+{
     let offer = run.relay.offer(side);
     let offered = offer.len();
     scribe.reserve(1, offered)?;
     let answer = port.write(side, offer);
+    if is_memory(answer) {
+        return Err(DriveFault::Memory);
+    }
     let entry = Entry::Write {
         side,
         offered: offered as u64,
         answer,
     };
-    match answer {
-        WriteAnswer::Took(count) => {
-            let (taken, _) = offer.split_at(count);
-            scribe.put(entry, taken);
-            run.entries = run.entries.saturating_add(1);
-            run.relay.took(side, count);
-        }
-        WriteAnswer::NotYet => run.put(scribe, entry, &[]),
-        WriteAnswer::Failed => {
-            run.put(scribe, entry, &[]);
-            run.relay.write_failed(side);
-        }
-        WriteAnswer::NoMemory => return Err(DriveFault::Memory),
-    }
+    put(&mut run.entries, scribe, entry, bytes_taken(answer, offer));
+    note_write(&mut run.relay, side, answer);
     Ok(answer)
+}
+
+fn is_memory(answer: WriteAnswer) -> bool
+    ensures { result ≡ is_memory answer }
+{
+    match answer {
+        WriteAnswer::NoMemory => true,
+        _ => false,
+    }
+}
+
+/// The bytes that a write took from the front of what was offered.
+fn bytes_taken(answer: WriteAnswer, offer: &[u8]) -> &[u8]
+    requires { WriteWithin answer (length offer.now) }
+    ensures { result.now ≡ took_bytes answer offer.now }
+{
+    let count = match answer {
+        WriteAnswer::Took(count) => count,
+        _ => 0,
+    };
+    let (bytes, _) = offer.split_at(count);
+    bytes
+}
+
+/// Makes the change of a write.
+fn note_write(relay: &mut Relay, side: SideId, answer: WriteAnswer)
+    requires opened { side.link < relay.old.state.opened }
+    requires within { WriteWithin answer (length (offer relay.old.state side)) }
+    ensures { relay.new.state ≡ after_write relay.old.state side answer }
+{
+    match answer {
+        WriteAnswer::Took(count) => relay.took(side, count),
+        WriteAnswer::Failed => relay.write_failed(side),
+        WriteAnswer::NotYet | WriteAnswer::NoMemory => {}
+    }
 }
 
 /// Asks whether the side's end is connected.
@@ -79,14 +143,28 @@ pub(crate) fn ask_connect<P: Port, S: Scribe>(
     side: SideId,
     port: &mut P,
     scribe: &mut S,
-) -> Result<ConnAnswer, DriveFault> {
+) -> Result<ConnAnswer, DriveFault>
+    requires opened { side.link < run.old.relay.state.opened }
+    ensures went { MatchResult result
+        (λ answer. Goes (Asks side answer) false run.old run.new (S.trace scribe.old) (S.trace scribe.new) (P.vouches port.old) (P.vouches port.new) (P.faults port.old) (P.faults port.new))
+        (λ _. Goes Nothing false run.old run.new (S.trace scribe.old) (S.trace scribe.new) (P.vouches port.old) (P.vouches port.new) (P.faults port.old) (P.faults port.new)) }
+    ensures cause { MatchResult result (λ _. Unit {0}) (λ fault. fault ≡ Memory) }
+{
     scribe.reserve(1, 0)?;
     let answer = port.connect_state(side);
-    run.put(scribe, Entry::Conn { side, answer }, &[]);
-    match answer {
-        ConnAnswer::Connected => run.relay.connected(side),
-        ConnAnswer::Pending => {}
-        ConnAnswer::Failed => run.relay.write_failed(side),
-    }
+    put(&mut run.entries, scribe, Entry::Conn { side, answer }, &[]);
+    note_conn(&mut run.relay, side, answer);
     Ok(answer)
+}
+
+/// Makes the change of a connect check.
+fn note_conn(relay: &mut Relay, side: SideId, answer: ConnAnswer)
+    requires { side.link < relay.old.state.opened }
+    ensures { relay.new.state ≡ after_conn relay.old.state side answer }
+{
+    match answer {
+        ConnAnswer::Connected => relay.connected(side),
+        ConnAnswer::Pending => {}
+        ConnAnswer::Failed => relay.write_failed(side),
+    }
 }

@@ -1,7 +1,18 @@
 // Closing what is to be closed of each link.
+ghost use Rattle.std.specs.Prelude.{◌≡◌, ◌+◌, ◌<◌, ◌≤◌, false, true, [], ◌∷◌, length, MatchResult};
+ghost use Rattle.ev_types.specs.Growth.{Grew, Longer};
+ghost use Rattle.ev_types.specs.declared.entry.Entry.{Entry as EntryValue};
+ghost use Rattle.ev_port.specs.Calls.{IsUnheard};
+ghost use Rattle.ev_port.specs.Counting.{counted};
+ghost use Rattle.ev_port.specs.Faults.{FaultsStay};
+ghost use Rattle.relay_core.specs.Closing.{link_of, is_called_for, closing_of};
+ghost use Rattle.relay_drive.specs.declared.fault.DriveFault.TheVariants.{Memory};
+ghost use Rattle.relay_drive.specs.Steps.{Nothing, CutAt};
+ghost use Rattle.relay_drive.specs.Phases.{freed_event, closing_events, told_events, Closes, LooksAt, ClosesLink, CutClosingLink, ForAllLinks, CutForAllLinks};
+ghost use Rattle.relay_drive.specs.Goes.{Goes};
 
 use crate::fault::DriveFault;
-use crate::run::Run;
+use crate::run::{Run, put};
 use ev_port::{Port, Scribe};
 use ev_types::{Cause, Entry, Side, SideId};
 use relay_core::Closing;
@@ -10,7 +21,14 @@ use relay_core::Closing;
 const MOST_ENTRIES: usize = 2;
 
 /// Puts that a side is freed, in room that was made before.
-fn put_freed<S: Scribe>(run: &mut Run, scribe: &mut S, side: SideId, cause: Cause) {
+fn put_freed<S: Scribe>(run: &mut Run, scribe: &mut S, side: SideId, cause: Cause)
+    requires opened { side.link < run.old.relay.state.opened }
+    requires room { 0 < S.spare_entries scribe.old }
+    ensures relay { run.new.relay ≡ run.old.relay }
+    ensures counted { run.new.entries ≡ counted run.old.entries 1 }
+    ensures list { Grew (S.trace scribe.old) (S.trace scribe.new) (freed_event run.old.relay.state side cause ∷ []) }
+    ensures room { S.spare_entries scribe.old ≤ S.spare_entries scribe.new + 1 }
+{
     let counts = run.relay.counts(side);
     let entry = Entry::Freed {
         side,
@@ -18,16 +36,34 @@ fn put_freed<S: Scribe>(run: &mut Run, scribe: &mut S, side: SideId, cause: Caus
         moved: counts.moved,
         given: counts.given,
     };
-    run.put(scribe, entry, &[]);
+    put(&mut run.entries, scribe, entry, &[]);
 }
 
-/// Makes a step of closing that is called for, in room that was made before.
-fn perform<P: Port, S: Scribe>(run: &mut Run, step: Closing, port: &mut P, scribe: &mut S) {
+/// Tells the port of a step of closing.
+fn tell<P: Port>(step: Closing, port: &mut P)
+    ensures vouched { Longer (P.vouches port.old) (P.vouches port.new) (told_events step) }
+    ensures unheard { (e : EntryValue) → IsUnheard e → Longer (P.vouches port.new) (P.vouches port.new) ((e, []) ∷ []) }
+    ensures cause { FaultsStay (P.faults port.old) (P.faults port.new) }
+{
+    match step {
+        Closing::EndWriting(side) => port.close_write(side),
+        Closing::Shut(side) => port.close(side),
+        Closing::Faulty(_) | Closing::BothDone(_) | Closing::PeerGone(_) => {}
+    }
+}
+
+/// Puts the entries of a step of closing, in room that was made before.
+fn put_closing<S: Scribe>(run: &mut Run, step: Closing, scribe: &mut S)
+    requires opened { link_of step < run.old.relay.state.opened }
+    requires room { 2 ≤ S.spare_entries scribe.old }
+    ensures relay { run.new.relay ≡ run.old.relay }
+    ensures counted { counted run.new.entries 0 ≡ counted run.old.entries (length (closing_events run.old.relay.state step)) }
+    ensures list { Grew (S.trace scribe.old) (S.trace scribe.new) (closing_events run.old.relay.state step) }
+{
     match step {
         Closing::Faulty(side) => put_freed(run, scribe, side, Cause::Failed),
         Closing::EndWriting(side) => {
-            port.close_write(side);
-            run.put(scribe, Entry::CloseWrite { side }, &[]);
+            put(&mut run.entries, scribe, Entry::CloseWrite { side }, &[])
         }
         Closing::BothDone(link) => {
             let near = SideId {
@@ -38,12 +74,8 @@ fn perform<P: Port, S: Scribe>(run: &mut Run, step: Closing, port: &mut P, scrib
             put_freed(run, scribe, near.peer(), Cause::Done);
         }
         Closing::PeerGone(side) => put_freed(run, scribe, side, Cause::PeerGone),
-        Closing::Shut(side) => {
-            port.close(side);
-            run.put(scribe, Entry::Close { side }, &[]);
-        }
+        Closing::Shut(side) => put(&mut run.entries, scribe, Entry::Close { side }, &[]),
     }
-    run.relay.close(step);
 }
 
 /// Makes a step of closing, where it is called for.
@@ -52,12 +84,21 @@ fn close_step<P: Port, S: Scribe>(
     step: Closing,
     port: &mut P,
     scribe: &mut S,
-) -> Result<(), DriveFault> {
+) -> Result<(), DriveFault>
+    requires { link_of step < run.old.relay.state.opened }
+    ensures went { MatchResult result
+        (λ _. Goes (LooksAt step) false run.old run.new (S.trace scribe.old) (S.trace scribe.new) (P.vouches port.old) (P.vouches port.new) (P.faults port.old) (P.faults port.new))
+        (λ _. Goes Nothing false run.old run.new (S.trace scribe.old) (S.trace scribe.new) (P.vouches port.old) (P.vouches port.new) (P.faults port.old) (P.faults port.new)) }
+    ensures kept { run.new.relay.state.opened ≡ run.old.relay.state.opened }
+    ensures cause { MatchResult result (λ _. Unit {0}) (λ fault. fault ≡ Memory) }
+{
     if !run.relay.calls_for(step) {
         return Ok(());
     }
     scribe.reserve(MOST_ENTRIES, 0)?;
-    perform(run, step, port, scribe);
+    tell(step, port);
+    put_closing(run, step, scribe);
+    run.relay.close(step);
     Ok(())
 }
 
@@ -67,7 +108,14 @@ fn close_link<P: Port, S: Scribe>(
     link: u32,
     port: &mut P,
     scribe: &mut S,
-) -> Result<(), DriveFault> {
+) -> Result<(), DriveFault>
+    requires { link < run.old.relay.state.opened }
+    ensures went { MatchResult result
+        (λ _. Goes (ClosesLink link) false run.old run.new (S.trace scribe.old) (S.trace scribe.new) (P.vouches port.old) (P.vouches port.new) (P.faults port.old) (P.faults port.new))
+        (λ _. Goes (CutClosingLink link) false run.old run.new (S.trace scribe.old) (S.trace scribe.new) (P.vouches port.old) (P.vouches port.new) (P.faults port.old) (P.faults port.new)) }
+    ensures kept { run.new.relay.state.opened ≡ run.old.relay.state.opened }
+    ensures cause { MatchResult result (λ _. Unit {0}) (λ fault. fault ≡ Memory) }
+{
     let steps = Closing::of(link);
     for step in steps.iter() {
         close_step(run, *step, port, scribe)?;
@@ -80,7 +128,12 @@ pub(crate) fn close<P: Port, S: Scribe>(
     run: &mut Run,
     port: &mut P,
     scribe: &mut S,
-) -> Result<(), DriveFault> {
+) -> Result<(), DriveFault>
+    ensures went { MatchResult result
+        (λ _. Goes (ForAllLinks ClosesLink) false run.old run.new (S.trace scribe.old) (S.trace scribe.new) (P.vouches port.old) (P.vouches port.new) (P.faults port.old) (P.faults port.new))
+        (λ _. Goes (CutForAllLinks ClosesLink CutClosingLink) false run.old run.new (S.trace scribe.old) (S.trace scribe.new) (P.vouches port.old) (P.vouches port.new) (P.faults port.old) (P.faults port.new)) }
+    ensures cause { MatchResult result (λ _. Unit {0}) (λ fault. fault ≡ Memory) }
+{
     for link in 0..run.relay.opened() {
         close_link(run, link, port, scribe)?;
     }

@@ -1,4 +1,5 @@
 // How a turn ends, and why one is refused.
+ghost use Rattle.std.specs.Prelude.{◌≡◌};
 
 use ev_types::NoMemory;
 use thiserror::Error;
@@ -30,6 +31,11 @@ pub enum DriveFault {
 }
 
 impl From<NoMemory> for DriveFault {
+    ghost use Rattle.std.specs.Prelude.{◌≡◌};
+    ghost use Rattle.relay_drive.specs.declared.fault.DriveFault.TheVariants.{Memory};
+
+    ghost from_gives = { λ _ fault. fault ≡ Memory };
+
     fn from(_: NoMemory) -> DriveFault {
         DriveFault::Memory
     }

@@ -1,18 +1,40 @@
 // Passing both directions of each link.
+ghost use Rattle.std.specs.Prelude.{◌≡◌, ◌<◌, [], MatchResult};
+ghost use Rattle.relay_drive.specs.declared.fault.DriveFault.TheVariants.{Memory};
+ghost use Rattle.relay_drive.specs.Phases.{PassesLink, CutPassingLink, ForAllLinks, CutForAllLinks};
 
 use crate::fault::DriveFault;
-use crate::run::Run;
 use ev_types::{Side, SideId};
+use relay_core::Relay;
 
-/// Passes the directions of all links, that from In first.
-pub(crate) fn pass(run: &mut Run) -> Result<(), DriveFault> {
-    for link in 0..run.relay.opened() {
-        let near = SideId {
-            link,
-            side: Side::In,
-        };
-        run.relay.pass(near)?;
-        run.relay.pass(near.peer())?;
+/// Passes the directions of a link, that from In first.
+fn pass_link(relay: &mut Relay, link: u32) -> Result<(), DriveFault>
+    requires { link < relay.old.state.opened }
+    ensures went { MatchResult result
+        (λ _. PassesLink link relay.old.state [] relay.new.state)
+        (λ _. CutPassingLink link relay.old.state [] relay.new.state) }
+    ensures kept { relay.new.state.opened ≡ relay.old.state.opened }
+    ensures cause { MatchResult result (λ _. Unit {0}) (λ fault. fault ≡ Memory) }
+{
+    let near = SideId {
+        link,
+        side: Side::In,
+    };
+    relay.pass(near)?;
+    relay.pass(near.peer())?;
+    Ok(())
+}
+
+/// Passes the directions of all links, in their order.
+pub(crate) fn pass(relay: &mut Relay) -> Result<(), DriveFault>
+    ensures went { MatchResult result
+        (λ _. ForAllLinks PassesLink relay.old.state [] relay.new.state)
+        (λ _. CutForAllLinks PassesLink CutPassingLink relay.old.state [] relay.new.state) }
+    ensures kept { relay.new.state.opened ≡ relay.old.state.opened }
+    ensures cause { MatchResult result (λ _. Unit {0}) (λ fault. fault ≡ Memory) }
+{
+    for link in 0..relay.opened() {
+        pass_link(relay, link)?;
     }
     Ok(())
 }

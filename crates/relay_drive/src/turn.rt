@@ -1,25 +1,32 @@
 // One turn: its phases in their order. Nothing is timed yet and there is no hook, so that the phases of time and of
 // dispatch have nothing to do.
+ghost use Rattle.std.specs.Prelude.{◌≡◌, ℕ, false, length, MatchResult};
+ghost use Rattle.relay_drive.specs.declared.fault.DriveFault.TheVariants.{Memory};
+ghost use Rattle.relay_drive.specs.Steps.{Nothing};
+ghost use Rattle.relay_drive.specs.Calls.{Ticks};
+ghost use Rattle.relay_drive.specs.Phases.{Turns, CutTurn, is_open_fault, TicksOnce};
+ghost use Rattle.relay_drive.specs.Goes.{Goes};
 
 use crate::close::close;
 use crate::fault::DriveFault;
 use crate::pass::pass;
 use crate::poll::poll;
-use crate::run::Run;
+use crate::run::{Run, put};
 use crate::serve::serve;
 use ev_port::{Port, Scribe};
 use ev_types::Entry;
 use std::alloc::Global;
 
 /// Reads the port's clock once.
-fn clock<P: Port, S: Scribe>(
-    run: &mut Run,
-    port: &mut P,
-    scribe: &mut S,
-) -> Result<(), DriveFault> {
+fn clock<P: Port, S: Scribe>(run: &mut Run, port: &mut P, scribe: &mut S) -> Result<(), DriveFault>
+    ensures went { MatchResult result
+        (λ _. Goes TicksOnce false run.old run.new (S.trace scribe.old) (S.trace scribe.new) (P.vouches port.old) (P.vouches port.new) (P.faults port.old) (P.faults port.new))
+        (λ _. Goes Nothing false run.old run.new (S.trace scribe.old) (S.trace scribe.new) (P.vouches port.old) (P.vouches port.new) (P.faults port.old) (P.faults port.new)) }
+    ensures cause { MatchResult result (λ _. Unit {0}) (λ fault. fault ≡ Memory) }
+{
     scribe.reserve(1, 0)?;
     let ms = run.relay.begin(port.now());
-    run.put(scribe, Entry::Turn { ms }, &[]);
+    put(&mut run.entries, scribe, Entry::Turn { ms }, &[]);
     Ok(())
 }
 
@@ -30,10 +37,15 @@ pub(crate) fn turn<P: Port, S: Scribe>(
     inbox: &mut [u8],
     port: &mut P,
     scribe: &mut S,
-) -> Result<(), DriveFault> {
+) -> Result<(), DriveFault>
+    requires { length inbox.old ≡ 16384 }
+    ensures went { MatchResult result
+        (λ _. Goes Turns false run.old run.new (S.trace scribe.old) (S.trace scribe.new) (P.vouches port.old) (P.vouches port.new) (P.faults port.old) (P.faults port.new))
+        (λ fault. Goes (CutTurn fault) (is_open_fault fault) run.old run.new (S.trace scribe.old) (S.trace scribe.new) (P.vouches port.old) (P.vouches port.new) (P.faults port.old) (P.faults port.new)) }
+{
     clock(run, port, scribe)?;
     let wants = poll(run, alloc, port, scribe)?;
     serve(run, &wants, inbox, port, scribe)?;
-    pass(run)?;
+    pass(&mut run.relay)?;
     close(run, port, scribe)
 }

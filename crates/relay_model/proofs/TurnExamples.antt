@@ -20,7 +20,6 @@ use Rattle.relay_model.specs.Due.{Due, with_reason, batch, event}
 use Rattle.relay_model.specs.Plain.{Plain, Timer, nothing_yet, with_link, flow_at, freed}
 use Rattle.relay_model.specs.Rates.{Limit, Spell, level}
 use Rattle.relay_model.specs.Groups.{share_among, group_level}
-use Rattle.relay_model.specs.RatesKept.{RatesKept}
 use Rattle.relay_model.specs.Past.{Past, past}
 use Rattle.relay_model.specs.Rooms.{read_room, write_room, wanted}
 use Rattle.relay_model.specs.Asks.{refusal, done}
@@ -30,7 +29,6 @@ use Rattle.relay_model.specs.Round.{round}
 use Rattle.relay_model.specs.Serve.{after_got, after_write}
 use Rattle.relay_model.specs.Close.{CloseStep, closing_entry}
 use Rattle.relay_model.specs.Turn.{turned_to}
-use Rattle.relay_model.specs.Answers.{EndsWith}
 
 abbrev in_of : ℕ → SideId
 in_of k = record { link = k; side = In }
@@ -251,7 +249,7 @@ timers-in_order = refl
 -- What is planned: the second line is for the second read, and nothing is no ask.
 abbrev plan : List Planned
 plan = record { kind = kind.Read; nth = 1; act = Some (act.Free (in_of 0)) } ∷ record { kind = kind.Read; nth = 2; act = Some act.Stop }
-  ∷ record { kind = kind.Read; nth = 1; act = None } ∷ record { kind = kind.Event; nth = 1; act = Some (act.Cancel (in_of 1)) } ∷ []
+    ∷ record { kind = kind.Read; nth = 1; act = None } ∷ record { kind = kind.Event; nth = 1; act = Some (act.Cancel (in_of 1)) } ∷ []
 
 planned-in_order : acts_behind plan [] (why.Read ∷ event 17 ∷ why.Read ∷ event 33 ∷ []) ≡ act.Free (in_of 0) ∷ act.Cancel (in_of 1) ∷ act.Stop ∷ []
 planned-in_order = refl

@@ -26,5 +26,15 @@ pub mod Turn
 pub mod Answers
 pub mod RatesKept
 pub mod Stands
+pub mod StandsLaws
 pub mod Totals
 pub mod Tied
+pub mod TurnLaws
+pub mod Lines
+pub mod Script
+pub mod Scripted
+pub mod Plays
+pub mod Told
+pub mod Hooked
+pub mod Quiet
+pub mod Causes

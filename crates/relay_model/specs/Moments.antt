@@ -1,5 +1,5 @@
 -- What time brings: the timeout of the poll, the timers that are taken as a turn begins, and the directions that expire.
-use Rattle.std.specs.Prelude.{ℕ, ◌+◌, ◌-◌, min, Bool, true, false, ◌==◌, ◌&&◌, ◌||◌, not, nat_lt, nat_le, if◌then◌else◌, List, [], ◌∷◌, ◌++◌, map, filter, length, fold, Option, Some, None, option_map}
+use Rattle.std.specs.Prelude.{ℕ, ◌+◌, ◌-◌, Bool, true, false, ◌==◌, ◌&&◌, ◌||◌, not, nat_lt, nat_le, if◌then◌else◌, List, [], ◌∷◌, ◌++◌, map, filter, length, fold, Option, Some, None, option_map}
 use Rattle.std.specs.List.{flat_map, list_any}
 use Rattle.token_bucket.specs.declared.limit.Dir.{Dir}
 use Rattle.token_bucket.specs.declared.limit.Dir.TheVariants as dir
@@ -22,6 +22,10 @@ abbrev pub last_activity : PlainSide → Dir → ℕ
 last_activity x dir.Read = x.last_read
 last_activity x dir.Write = x.last_write
 
+-- is there a timeout for a direction of a live side
+abbrev pub is_timed : PlainSide → Dir → Bool
+is_timed x d = x.live && nat_le 1 (timeout_of x d)
+
 -- a direction of a side was active at a time
 abbrev pub active_at : ℕ → Dir → PlainSide → PlainSide
 active_at time dir.Read x = record x { last_read = time }
@@ -39,7 +43,7 @@ moment_where holds moment = if holds then moment ∷ [] else []
 abbrev pub expiry : Settings → Past → Plain → SideId → Dir → List ℕ
 expiry g p s e d =
     let x = side_at s e in
-    moment_where (x.live && nat_le 1 (timeout_of x d) && wants g p s e d) (last_activity x d + timeout_of x d)
+    moment_where (is_timed x d && wants g p s e d) (last_activity x d + timeout_of x d)
 
 abbrev pub is_used_up : Past → Plain → SideId → Standing → Dir → Bool
 is_used_up p s e x d = standing_level x d (p.turns e d) s.time == 0
@@ -95,16 +99,21 @@ timers_taken g s =
     (record s { timers = filter (λ x. nat_lt s.time x.deadline) s.timers })
     (by_deadline (filter (λ x. nat_le x.deadline s.time) s.timers))
 
+abbrev pub has_run_out : PlainSide → Dir → ℕ → Bool
+has_run_out x d time = nat_le (timeout_of x d) (time - last_activity x d)
+
+-- the direction is disabled, and the side is to be freed for it
+abbrev pub expire : Dir → PlainSide → PlainSide
+expire d x = record (enabled d false x) { expired = true }
+
 -- A direction with a timeout counts as active while it isn't wanted. Where it is wanted and has not been active for as
--- long as its timeout, it is disabled, its side has expired, and an event becomes due.
+-- long as its timeout, it expires, and an event becomes due.
 abbrev pub timed : Settings → Past → SideId → Plain → Dir → Plain
 timed g p e s d =
-    let x = side_at s e in
-    if not (x.live && nat_le 1 (timeout_of x d)) then s
+    if not (is_timed (side_at s e) d) then s
     else (if not (wants g p s e d) then change_side e (active_at s.time d) s
-    else (if nat_le (timeout_of x d) (s.time - last_activity x d)
-        then raise g e (happened d timeout_flag) (change_side e (λ y. record (enabled d false y) { expired = true }) s)
-        else s))
+    else (if has_run_out (side_at s e) d s.time then raise g e (happened d timeout_flag) (change_side e (expire d) s)
+    else s))
 
 abbrev pub side_timed : Settings → Past → Plain → SideId → Plain
 side_timed g p s e = fold (timed g p e) s both_ways

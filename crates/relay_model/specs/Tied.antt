@@ -1,7 +1,6 @@
 -- When a port is tied to a trace: what it tells now is what it told as the run began, and what the trace adds. Each meaning
 -- is told or not by itself; what was told as the run began is told still, but for a number that came to 2^64 - 1.
-use Rattle.std.specs.Prelude.{◌≡◌, ◌⊎◌, ℕ, ◌+◌, ◌-◌, ◌^◌, ◌<◌, ◌≤◌, min, max, ⊤, Bool, true, ◌||◌, List, [], ◌∷◌, ◌++◌, length, count_by, sum_by, Option, Some, None, MatchOption, IsSome, IsSomeAnd, unwrap_or}
-use Rattle.std.specs.List.{last_or}
+use Rattle.std.specs.Prelude.{◌≡◌, ◌⊎◌, ℕ, ◌+◌, ◌-◌, ◌^◌, ◌<◌, ◌≤◌, min, max, ⊤, Bool, true, ◌||◌, List, [], ◌∷◌, ◌++◌, length, count_by, sum_by, Option, Some, MatchOption, IsSome, IsSomeAnd}
 use Rattle.ev_types.specs.declared.side.SideId.{SideId}
 use Rattle.ev_types.specs.Trace.{Trace}
 use Rattle.relay_model.specs.Trace.{bytes_read, bytes_given, has_ended, is_write_closed}
@@ -53,13 +52,17 @@ TellsFlag began now sets = MatchOption began ⊤ (λ before. now ≡ Some (befor
 abbrev pub TellsNumber : Option ℕ → Option ℕ → ℕ → Type 0
 TellsNumber began now more = MatchOption began ⊤ (λ before. before + more < 2 ^ 64 - 1 → now ≡ Some (before + more))
 
--- The last reading of the clock is told: no turn began and it is as before, or the time of the last turn is the greater of
--- the time before and the reading cut at the latest time.
+-- The last of these times of turns is the greater of the one before it and the reading, cut at the latest time. The first
+-- comes behind a time of its own.
+abbrev pub LastFollows : ℕ → List ℕ → ℕ → Type 0
+LastFollows before [] reading = ⊤
+LastFollows before (time ∷ []) reading = time ≡ max before (min reading latest)
+LastFollows before (time ∷ next ∷ later) reading = LastFollows time (next ∷ later) reading
+
+-- the last reading of the clock is told: as before where no turn began, and else one that the last turn follows
 abbrev pub TellsReading : Option ℕ → Option ℕ → List ℕ → Type 0
-TellsReading began now turns =
-    MatchOption began ⊤ (λ before. (turns ≡ [] → now ≡ Some before)
-    × ((earlier : List ℕ) (time : ℕ) → turns ≡ earlier ++ time ∷ [] →
-        IsSomeAnd now (λ reading. time ≡ max (unwrap_or (last_or None earlier) 0) (min reading latest))))
+TellsReading began now [] = MatchOption began ⊤ (λ before. now ≡ Some before)
+TellsReading began now (time ∷ later) = MatchOption began ⊤ (λ before. IsSomeAnd now (LastFollows 0 (time ∷ later)))
 
 -- A port that is tied
 
@@ -104,4 +107,8 @@ ClosedAfterTurn g now t = MatchOption now.accepting ⊤ (λ stands_open. stands_
 
 -- What an end tells over two traces in a row, it tells over both as one.
 abbrev pub EndTiesJoin : Type 0
-EndTiesJoin = (began then now : EndTells) (e : SideId) (t more : Trace) → EndTied began then e t → EndTied then now e more → EndTied began now e (t ++ more)
+EndTiesJoin = (began mid now : EndTells) (e : SideId) (t more : Trace) → EndTied began mid e t → EndTied mid now e more → EndTied began now e (t ++ more)
+
+-- Before anything happened a port is tied to the trace of no entries, whatever it tells.
+abbrev pub NothingIsTied : Type 0
+NothingIsTied = (g : Settings) (port : PortTells) (ends : SideId → EndTells) → IsTied g port port ends ends []

@@ -1,5 +1,5 @@
 -- What a trace says of the calls on a port: how often each was made, with how much, and what came of it.
-use Rattle.std.specs.Prelude.{ℕ, ◌+◌, Bool, true, false, ◌==◌, ◌&&◌, nat_lt, if◌then◌else◌, List, [], ◌∷◌, fold, sum_by, count_by, Option}
+use Rattle.std.specs.Prelude.{ℕ, ◌+◌, Bool, true, false, ◌==◌, ◌&&◌, nat_lt, if◌then◌else◌, List, [], ◌∷◌, fold, count_by, Option}
 use Rattle.std.specs.List.{flat_map, list_any}
 use Rattle.ev_types.specs.declared.side.Side.{Side}
 use Rattle.ev_types.specs.declared.side.Side.TheVariants.{In, Out}
@@ -114,10 +114,12 @@ timeout_by was _ = was
 abbrev pub last_timeout : Option ℕ → Trace → Option ℕ
 last_timeout was t = fold timeout_by was t
 
--- How many polls there are with fewer links opened before them than may be opened in all, so many being opened before the
--- trace.
+abbrev pub is_poll : Event → Bool
+is_poll (entry.Poll timeout, bytes) = true
+is_poll _ = false
+
+-- How many polls there are behind fewer links than may be opened in all, so many being opened before the trace.
 abbrev pub polls_that_accept : ℕ → ℕ → Trace → ℕ
 polls_that_accept links before [] = 0
-polls_that_accept links before ((entry.Poll timeout, bytes) ∷ t) = (if nat_lt before links then 1 else 0) + polls_that_accept links before t
-polls_that_accept links before ((entry.Opened link connected, bytes) ∷ t) = polls_that_accept links (before + 1) t
-polls_that_accept links before (x ∷ t) = polls_that_accept links before t
+polls_that_accept links before (x ∷ t) =
+    (if is_poll x && nat_lt before links then 1 else 0) + polls_that_accept links (before + (if is_opened x then 1 else 0)) t

@@ -11,3 +11,4 @@ pub mod Lines
 pub mod ActLine
 pub mod TraceText
 pub mod ReportText
+pub mod Laws

@@ -29,9 +29,13 @@ lines_read script before [] = Ok script
 lines_read script before (line ∷ more) =
     going_on (line_read script line) (before + 1) (λ longer. lines_read longer (before + 1) more)
 
+-- the script of no line
+abbrev pub no_line : ScriptValue
+no_line = record { turns = [] }
+
 -- the script that a text spells, or the number of its first bad line, counted from 1
 abbrev pub script_of : List ℕ → Result ScriptValue ℕ
-script_of text = lines_read (record { turns = [] }) 0 (lines text)
+script_of text = lines_read no_line 0 (lines text)
 
 -- A text that was refused for a line has this one as its first bad line. A number above 2^32 - 1 is told as that
 -- number. Memory may run out whatever the text is.

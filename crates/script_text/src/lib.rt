@@ -3,6 +3,7 @@
 
 mod act_text;
 mod entry_text;
+mod laws;
 mod line;
 mod read;
 mod script;
@@ -11,6 +12,10 @@ mod value_text;
 mod words;
 mod write;
 
+pub use laws::{lines_are_parted, numbers_are_decimal, phrase_has_its_words, refused_at_first_bad};
 pub use read::read_script;
 pub use script::{ByteList, LinkLine, Script, ScriptFault, TurnLine};
 pub use write::{write_report, write_trace};
+
+#[cfg(test)]
+mod tests;

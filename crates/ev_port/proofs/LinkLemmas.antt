@@ -1,0 +1,54 @@
+-- What a call on one end makes of all links.
+use Rattle.std.proofs.Common.{◌≡◌, ℕ, ◌+◌, ◌<◌, Bool, List, ◌++◌, length, get_or, set, map, take, drop, sym, ap, ◌∙◌}
+use Rattle.ev_types.specs.declared.side.SideId.{SideId}
+use Rattle.ev_types.specs.declared.answer.WriteAnswer.{WriteAnswer}
+use Rattle.ev_types.specs.declared.answer.WriteAnswer.TheVariants as write
+use Rattle.ev_types.specs.Sides.{number}
+use Rattle.std.proofs.lemmas.List.{get_or_default}
+use Rattle.std.proofs.lemmas.List.Edits.{map_over_more}
+use Rattle.ev_port.specs.declared.port.Want.{Want}
+use Rattle.ev_port.specs.ScriptState.{EndState, EndKept, LinksState}
+use Rattle.ev_port.specs.ScriptKept.{Wrote}
+use Rattle.ev_port.specs.ScriptEnds.{after_write, write_answer}
+use Rattle.ev_port.specs.ScriptLinks.{at_end, marked, write_answer_at, WroteAt}
+use Rattle.ev_port.proofs.ListLemmas.{changed_set, same_set, part_read}
+
+abbrev states : List EndKept → List EndState
+states es = map (λ e. e.state) es
+
+took : (waiting : List Bool) (es : List EndKept) (e : SideId) (k : ℕ) (x y : EndKept) (from : List ℕ) → k ≡ number e → k < length es → x ≡ get_or es k x → y ≡ record x { state = after_write x.state from } →
+    ◌≡◌ {A = LinksState} (record { waiting = waiting; ends = states (set es k y) }) (at_end e (λ s. after_write s from) (record { waiting = waiting; ends = states es }))
+took waiting es e k x y from n within read w =
+    let whole = changed_set (λ e. e.state) (λ s. after_write s from) es k x y within read (ap (λ e. e.state) w) in
+    rw (whole, n)
+
+answers : (waiting : List Bool) (es : List EndKept) (e : SideId) (k : ℕ) (x : EndKept) (offer : ℕ) → k ≡ number e → k < length es → x ≡ get_or es k x →
+    write_answer_at (record { waiting = waiting; ends = states es }) e offer ≡ write_answer x.state offer
+answers waiting es e k x offer n within read =
+    let found = part_read (λ e. e.state) es k x within read in
+    rw (← n, found)
+
+-- a write to an end that there is
+pub wrote_within : (waiting : List Bool) (es : List EndKept) (e : SideId) (k : ℕ) (x y : EndKept) (from : List ℕ) (answer : WriteAnswer) → k ≡ number e → k < length es → x ≡ get_or es k x → Wrote x y from answer →
+    WroteAt (record { waiting = waiting; ends = states es }) (record { waiting = waiting; ends = states (set es k y) }) e from answer
+wrote_within waiting es e k x y from write.NoMemory n within read w =
+    let same = same_set (λ e. e.state) es k x y read (ap (λ e. e.state) w.0) in
+    (rw same, rw (answers waiting es e k x (length from) n within read) w.1)
+wrote_within waiting es e k x y from (write.Took count) n within read w =
+    (took waiting es e k x y from n within read w.0, w.1 ∙ sym (answers waiting es e k x (length from) n within read))
+wrote_within waiting es e k x y from write.NotYet n within read w =
+    (took waiting es e k x y from n within read w.0, w.1 ∙ sym (answers waiting es e k x (length from) n within read))
+wrote_within waiting es e k x y from write.Failed n within read w =
+    (took waiting es e k x y from n within read w.0, w.1 ∙ sym (answers waiting es e k x (length from) n within read))
+
+-- a write leaves the bytes to come
+pub keeps_to_come : (es : List EndKept) (k : ℕ) (x y : EndKept) (from : List ℕ) (answer : WriteAnswer) → x ≡ get_or es k x → Wrote x y from answer → map (λ e. e.to_come) (set es k y) ≡ map (λ e. e.to_come) es
+keeps_to_come es k x y from write.NoMemory read w = same_set (λ e. e.to_come) es k x y read (ap (λ e. e.to_come) w.0)
+keeps_to_come es k x y from (write.Took count) read w = same_set (λ e. e.to_come) es k x y read (ap (λ e. e.to_come) w.0)
+keeps_to_come es k x y from write.NotYet read w = same_set (λ e. e.to_come) es k x y read (ap (λ e. e.to_come) w.0)
+keeps_to_come es k x y from write.Failed read w = same_set (λ e. e.to_come) es k x y read (ap (λ e. e.to_come) w.0)
+
+-- one more want is marked
+pub marks_more : (l : LinksState) (xs ys : List Want) (i : ℕ) (d r : Want) → i < length xs → i < length ys → ys ≡ map (λ w. marked l w) (take i xs) ++ drop i xs → r ≡ marked l (get_or ys i d) → set ys i r ≡ map (λ w. marked l w) (take (i + 1) xs) ++ drop (i + 1) xs
+marks_more l xs ys i d r within also so_far e =
+    ap (set ys i) e ∙ map_over_more (λ w. marked l w) xs ys i (get_or ys i d) within so_far (get_or_default ys i d (get_or ys i d) also)

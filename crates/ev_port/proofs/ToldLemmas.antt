@@ -1,0 +1,140 @@
+-- What a script port tells of an end, as calls change it.
+use Rattle.std.proofs.Common.{◌≡◌, ◌≢◌, ℕ, ◌+◌, ◌-◌, ◌*◌, ◌^◌, ◌<◌, Bool, true, false, ◌&&◌, ◌||◌, nat_eq, List, [], ◌++◌, Option, Some, None, refl, sym, ap, arith, append-nil, inl, inr, ◌⊎◌}
+use Rattle.std.specs.Prelude.{slice_get, option_map}
+use Rattle.std.specs.Option.{option_map_or}
+use Rattle.std.proofs.Math.Bool.{or-false}
+use Rattle.std.proofs.lemmas.Bool.{cases_eq, cases_Bool}
+use Rattle.std.proofs.lemmas.Bool.Decides.{eqb_tells}
+use Rattle.ev_types.specs.declared.side.Side.{Side}
+use Rattle.ev_types.specs.declared.side.Side.TheVariants.{In, Out}
+use Rattle.ev_types.specs.declared.side.SideId.{SideId}
+use Rattle.ev_types.specs.Sides.{number, half, same_end, same_side}
+use Rattle.ev_port.specs.Told.{EndTold, EndStep, no_step, Adds, Raises, Counts, EndWent, EndsWent}
+use Rattle.ev_port.specs.Counting.{counted}
+use Rattle.ev_port.specs.ScriptState.{EndState, LinksState}
+use Rattle.ev_port.specs.ScriptLinks.{at_end, end_of}
+use Rattle.ev_port.specs.ScriptTold.{told_of_end, nothing_told, ends_told}
+use Rattle.ev_port.proofs.ListLemmas.{slice_get-changed_same, slice_get-changed_other}
+
+-- Nothing changes
+
+pub adds_none : (xs : List ℕ) → Some xs ≡ Some (xs ++ [])
+adds_none xs = ap Some (sym (append-nil xs))
+
+pub raises_none : (b : Bool) → Some b ≡ Some (b || false)
+raises_none b = ap Some (sym (or-false b))
+
+pub counts_none : (n : ℕ) → n + 0 < 2 ^ 64 - 1 → Some n ≡ Some (n + 0)
+counts_none n h = ap Some (omega arith)
+
+pub counts_more : (n more : ℕ) → n + more < 2 ^ 64 - 1 → Some (counted n more) ≡ Some (n + more)
+counts_more n more h = ap Some (omega arith)
+
+Adds-none : (o : Option (List ℕ)) → Adds o o []
+Adds-none None = tt
+Adds-none (Some xs) = adds_none xs
+
+Raises-none : (o : Option Bool) → Raises o o false
+Raises-none None = tt
+Raises-none (Some b) = raises_none b
+
+Counts-none : (o : Option ℕ) → Counts o o 0
+Counts-none None = tt
+Counts-none (Some n) = counts_none n
+
+pub EndWent-none : (t : EndTold) → EndWent t t no_step
+EndWent-none t = record {
+  handed_out = Adds-none t.handed_out;
+  taken = Adds-none t.taken;
+  made_connected = Raises-none t.made_connected;
+  ended = Raises-none t.ended;
+  connected = Raises-none t.connected;
+  write_ended = Raises-none t.write_ended;
+  closed = Raises-none t.closed;
+  reads = Counts-none t.reads;
+  writes = Counts-none t.writes;
+  checks = Counts-none t.checks;
+  rooms = Counts-none t.rooms;
+  offers = Counts-none t.offers;
+  read_wants = Counts-none t.read_wants;
+  write_wants = Counts-none t.write_wants;
+  read_marks = Counts-none t.read_marks;
+  write_marks = Counts-none t.write_marks;
+}
+
+-- of an end of which nothing is told everything may be said
+pub EndWent-nothing : (step : EndStep) → EndWent nothing_told nothing_told step
+EndWent-nothing step = record {
+  handed_out = tt;
+  taken = tt;
+  made_connected = tt;
+  ended = tt;
+  connected = tt;
+  write_ended = tt;
+  closed = tt;
+  reads = tt;
+  writes = tt;
+  checks = tt;
+  rooms = tt;
+  offers = tt;
+  read_wants = tt;
+  write_wants = tt;
+  read_marks = tt;
+  write_marks = tt;
+}
+
+-- Ends by their numbers
+
+same_number : (l m : ℕ) (s t : Side) → 2 * l + half s ≡ 2 * m + half t → ◌≡◌ {A = SideId} (record { link = l; side = s }) (record { link = m; side = t })
+same_number l m In In e = ap (λ n. record { link = n; side = In }) (omega arith)
+same_number l m Out Out e = ap (λ n. record { link = n; side = Out }) (omega arith)
+same_number l m In Out e = absurd (omega arith)
+same_number l m Out In e = absurd (omega arith)
+
+pub other_number : (a b : SideId) → a ≢ b → number a ≢ number b
+other_number a b h e = h (same_number a.link b.link a.side b.side e)
+
+same_by_parts : (l m : ℕ) (s t : Side) → ((nat_eq l m && same_side s t ≡ true) × (2 * l + half s ≡ 2 * m + half t)) ⊎ ((nat_eq l m && same_side s t ≡ false) × (2 * l + half s ≢ 2 * m + half t))
+same_by_parts l m In In = elim (eqb_tells l m) [ inl t ↦ inl (rw t.0, omega (arith, t.1)) | inr t ↦ inr (rw t.0, λ e. t.1 (omega arith)) ]
+same_by_parts l m Out Out = elim (eqb_tells l m) [ inl t ↦ inl (rw t.0, omega (arith, t.1)) | inr t ↦ inr (rw t.0, λ e. t.1 (omega arith)) ]
+same_by_parts l m In Out = inr (elim (cases_Bool (nat_eq l m)) [ inl t ↦ rw t | inr t ↦ rw t ], λ e. absurd (omega arith))
+same_by_parts l m Out In = inr (elim (cases_Bool (nat_eq l m)) [ inl t ↦ rw t | inr t ↦ rw t ], λ e. absurd (omega arith))
+
+-- two names name one end just where their numbers are one
+pub same_end_tells : (a b : SideId) → ((same_end a b ≡ true) × (number a ≡ number b)) ⊎ ((same_end a b ≡ false) × (number a ≢ number b))
+same_end_tells a b = same_by_parts a.link b.link a.side b.side
+
+-- A change at one end
+
+pub went_if : (f : EndState → EndState) (step : EndStep) (o : Option EndState) → ((s : EndState) → o ≡ Some s → EndWent (told_of_end s) (told_of_end (f s)) step) →
+    EndWent (option_map_or told_of_end o nothing_told) (option_map_or told_of_end (option_map f o) nothing_told) step
+went_if f step None h = EndWent-nothing step
+went_if f step (Some s) h = h s refl
+
+-- one end goes a step, and no other does
+pub ends_step : (l : LinksState) (end : SideId) (f : EndState → EndState) (step : EndStep) → ((s : EndState) → end_of l end ≡ Some s → EndWent (told_of_end s) (told_of_end (f s)) step) →
+    EndsWent (ends_told l) (ends_told (at_end end f l)) end step
+ends_step l end f step h = record {
+  own =
+      let here = slice_get-changed_same f l.ends (number end) in
+      rw here (went_if f step (slice_get l.ends (number end)) h);
+  others = λ e differs.
+      let elsewhere = slice_get-changed_other f l.ends (number end) (number e) (other_number e end differs) in
+      rw elsewhere (EndWent-none (ends_told l e));
+}
+
+untold_if : (f : EndState → EndState) → ((s : EndState) → told_of_end (f s) ≡ told_of_end s) → (o : Option EndState) → option_map_or told_of_end (option_map f o) nothing_told ≡ option_map_or told_of_end o nothing_told
+untold_if f h None = refl
+untold_if f h (Some s) = h s
+
+-- a change that is not told
+pub untold : (l : LinksState) (end e : SideId) (f : EndState → EndState) → ((s : EndState) → told_of_end (f s) ≡ told_of_end s) → ends_told (at_end end f l) e ≡ ends_told l e
+untold l end e f h =
+    elim (cases_eq (number e) (number end)) [
+      | inl same ↦
+          let here = slice_get-changed_same f l.ends (number end) in
+          rw (same, here) (untold_if f h (slice_get l.ends (number end)))
+      | inr other ↦
+          let elsewhere = slice_get-changed_other f l.ends (number end) (number e) other in
+          rw elsewhere
+    ]

@@ -1,0 +1,15 @@
+use Rattle.ev_port.specs.ScriptLinks.{accept_first}
+use Rattle.ev_port.proofs.CallLemmas.{still_brings, length-accept_first, accept_ends}
+use Rattle.ev_port.proofs.script_port.ScriptPortPort.accept.Goals as goal
+
+pub invariant_of-self : goal.invariant_of-self
+invariant_of-self c =
+    let l = c.self.inside.links in
+    let link = c.args.link in
+    rw c.accept-answer.ensures.after
+    (still_brings _ l (accept_first link l.state.waiting l.state) (length-accept_first link l.state.waiting l.state) c.self.invariant)
+
+pub returns-clause-ends : goal.returns-clause-ends
+returns-clause-ends c =
+    rw (← c.self.view_is, c.accept-answer.ensures.after, c.accept-answer.ensures.answer)
+    (accept_ends c.args.link c.self.inside.links.state.waiting c.self.inside.links.state)

@@ -1,0 +1,15 @@
+use Rattle.ev_port.specs.ScriptEnds.{after_close}
+use Rattle.ev_port.specs.ScriptLinks.{at_end}
+use Rattle.ev_port.proofs.ToldLemmas.{ends_step}
+use Rattle.ev_port.proofs.CallLemmas.{still_brings, length-at_end, close_went}
+use Rattle.ev_port.proofs.script_port.ScriptPortPort.close.Goals as goal
+
+pub invariant_of-self : goal.invariant_of-self
+invariant_of-self c =
+    rw c.close.ensures
+    (still_brings _ c.self.inside.links (at_end c.args.end after_close c.self.inside.links.state) (length-at_end c.args.end after_close c.self.inside.links.state) c.self.invariant)
+
+pub returns-clause-ends : goal.returns-clause-ends
+returns-clause-ends c =
+    rw (← c.self.view_is, c.close.ensures)
+    (ends_step c.self.inside.links.state c.args.end after_close _ (λ s _. close_went s))

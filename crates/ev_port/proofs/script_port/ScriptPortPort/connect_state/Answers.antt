@@ -1,0 +1,14 @@
+use Rattle.ev_port.specs.ScriptEnds.{after_check}
+use Rattle.ev_port.specs.ScriptLinks.{at_end}
+use Rattle.ev_port.proofs.CallLemmas.{still_brings, length-at_end, check_ends}
+use Rattle.ev_port.proofs.script_port.ScriptPortPort.connect_state.Goals as goal
+
+pub invariant_of-self : goal.invariant_of-self
+invariant_of-self c =
+    rw c.connect_state.ensures.after
+    (still_brings _ c.self.inside.links (at_end c.args.end after_check c.self.inside.links.state) (length-at_end c.args.end after_check c.self.inside.links.state) c.self.invariant)
+
+pub returns-clause-ends : goal.returns-clause-ends
+returns-clause-ends c =
+    rw (← c.self.view_is, c.connect_state.ensures.after)
+    (check_ends c.self.inside.links.state c.args.end _ c.connect_state.ensures.answer)

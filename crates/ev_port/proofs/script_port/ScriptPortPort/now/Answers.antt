@@ -1,0 +1,14 @@
+use Rattle.std.proofs.Common.{ap, ◌∙◌}
+use Rattle.ev_port.specs.ScriptState.{PortState}
+use Rattle.ev_port.specs.ScriptPort.{next_turn}
+use Rattle.ev_port.specs.ScriptTold.{ends_told}
+use Rattle.ev_port.proofs.ToldLemmas.{EndWent-none}
+use Rattle.ev_port.proofs.CallLemmas.{turn_untold}
+use Rattle.ev_port.proofs.script_port.ScriptPortPort.now.Goals as goal
+
+pub returns-clause-ends : goal.returns-clause-ends
+returns-clause-ends c = λ e.
+    let p = c.args.self.now in
+    let links = ap (λ (q : PortState). q.links) (c.self.view_is ∙ c.begin_turn.ensures) in
+    let same = turn_untold (next_turn p) p e in
+    rw (links, same) (EndWent-none (ends_told p.links e))

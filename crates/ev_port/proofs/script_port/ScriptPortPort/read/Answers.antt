@@ -1,0 +1,17 @@
+use Rattle.std.proofs.Common.{length}
+use Rattle.ev_port.specs.ScriptEnds.{after_read}
+use Rattle.ev_port.specs.ScriptLinks.{at_end}
+use Rattle.ev_port.proofs.CallLemmas.{still_brings, length-at_end, read_ends}
+use Rattle.ev_port.proofs.script_port.ScriptPortPort.read.Goals as goal
+
+pub invariant_of-self : goal.invariant_of-self
+invariant_of-self c =
+    let l = c.self.inside.links in
+    let room = length c.args.into.now in
+    rw c.read.ensures.after
+    (still_brings _ l (at_end c.args.end (λ s. after_read s room) l.state) (length-at_end c.args.end (λ s. after_read s room) l.state) c.self.invariant)
+
+pub returns-clause-ends : goal.returns-clause-ends
+returns-clause-ends c =
+    rw (← c.self.view_is, c.read.ensures.after)
+    (read_ends c.self.inside.links.state c.args.end c.read.result c.read.new.into (length c.args.into.now) c.read.ensures.answer c.read.ensures.bytes c.read.auto.into)

@@ -1,0 +1,13 @@
+use Rattle.ev_port.proofs.CallLemmas.{still_brings, length-wrote, wrote_ends}
+use Rattle.ev_port.proofs.script_port.ScriptPortPort.write.Goals as goal
+
+pub invariant_of-self : goal.invariant_of-self
+invariant_of-self c =
+    let l = c.self.inside.links in
+    let long = length-wrote l.state c.write.new.self.state c.args.end c.args.from.now c.write.result c.write.ensures.wrote in
+    rw c.write.ensures.kept (still_brings _ l c.write.new.self.state long c.self.invariant)
+
+pub returns-clause-ends : goal.returns-clause-ends
+returns-clause-ends c =
+    rw (← c.self.view_is)
+    (wrote_ends c.self.inside.links.state c.write.new.self.state c.args.end c.args.from.now c.write.result c.write.ensures.wrote)

@@ -1,0 +1,95 @@
+-- What the calls of a script port answer, and what they make of it.
+use Rattle.std.specs.Prelude.{ℕ, ◌+◌, ◌==◌, length, Bool, false, ◌&&◌, not, List, Option, Some, None, slice_get}
+use Rattle.std.specs.Option.{option_map_or}
+use Rattle.std.specs.List.{flat_map}
+use Rattle.script_text.specs.declared.script.TurnLine.{TurnLine}
+use Rattle.ev_port.specs.declared.port.Accepted.{Accepted}
+use Rattle.ev_port.specs.declared.port.Accepted.TheVariants as answer
+use Rattle.ev_port.specs.declared.port.Addr.{Addr}
+use Rattle.ev_port.specs.declared.port.Want.{Want}
+use Rattle.ev_port.specs.declared.script_port.PortTally.{PortTally}
+use Rattle.ev_port.specs.Counting.{counted}
+use Rattle.ev_port.specs.ScriptState.{PortState}
+use Rattle.ev_port.specs.ScriptEnds.{once}
+use Rattle.ev_port.specs.ScriptLinks.{links_of, new_links, after_lines, after_wants, accept_answer, accept_first}
+
+abbrev pub no_port_calls : PortTally
+no_port_calls = record {
+  accept_polls = 0;
+  timeout = None;
+  links = 0;
+  accepting = false;
+  readings = 0;
+  reading = 0;
+  started = None;
+}
+
+-- the lines of these turns, one after another
+abbrev pub lines_of : List (ℕ × List TurnLine) → List TurnLine
+lines_of turns = flat_map (λ turn. turn.1) turns
+
+-- a port at the beginning of these turns: it has the ends of all links that their lines open
+abbrev pub new_port : List (ℕ × List TurnLine) → PortState
+new_port turns = record {
+  turns = turns;
+  begun = 0;
+  clock = 0;
+  links = new_links (links_of (lines_of turns));
+  tally = no_port_calls;
+}
+
+-- The clock
+
+-- the turn that begins next, if there is one
+abbrev pub next_turn : PortState → Option (ℕ × List TurnLine)
+next_turn p = slice_get p.turns p.begun
+
+-- the moment of the turn that begins, and after the last turn its moment again
+abbrev pub clock_answer : PortState → ℕ
+clock_answer p = option_map_or (λ turn. turn.0) (next_turn p) p.clock
+
+-- the lines of the turn that begins are applied
+abbrev pub begin_turn : Option (ℕ × List TurnLine) → PortState → PortState
+begin_turn None p = p
+begin_turn (Some turn) p = record p { begun = p.begun + 1; clock = turn.0; links = after_lines turn.1 p.links }
+
+abbrev pub count_reading : PortState → PortState
+count_reading p = record p { tally = record p.tally { readings = counted p.tally.readings 1; reading = p.clock } }
+
+abbrev pub after_now : PortState → PortState
+after_now p = count_reading (begin_turn (next_turn p) p)
+
+-- Other calls on the whole port
+
+abbrev pub after_start : PortState → Addr → Addr → PortState
+after_start p listen to = record p { tally = record p.tally { started = Some (listen, to) } }
+
+-- accepting is offered where it was asked and a link waits
+abbrev pub poll_accepts : PortState → Bool → Bool
+poll_accepts p accept = accept && not (length p.links.waiting == 0)
+
+abbrev pub poll_tally : Bool → Option ℕ → Bool → PortTally → PortTally
+poll_tally accept timeout opens t = record t {
+  accept_polls = counted t.accept_polls (once accept);
+  timeout = timeout;
+  accepting = opens;
+}
+
+abbrev pub after_poll : PortState → List Want → Bool → Option ℕ → PortState
+after_poll p wants accept timeout = record p {
+  links = after_wants wants p.links;
+  tally = poll_tally accept timeout (poll_accepts p accept) p.tally;
+}
+
+-- an accept that found no link closes accepting, and every other makes a link
+abbrev pub accept_tally : Accepted → PortTally → PortTally
+accept_tally (answer.Link connected) t = record t { links = counted t.links 1 }
+accept_tally answer.NotYet t = record t { accepting = false }
+accept_tally answer.Failed t = record t { accepting = false }
+accept_tally answer.NoMemory t = record t { accepting = false }
+
+abbrev pub after_accept : PortState → ℕ → PortState
+after_accept p link = record p {
+  links = accept_first link p.links.waiting p.links;
+  tally = accept_tally (accept_answer p.links.waiting) p.tally;
+}

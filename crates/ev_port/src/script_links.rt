@@ -1,0 +1,302 @@
+// The links of a script port with their ends, by the number of the side. What the script brings in is known from the
+// beginning, so that its lines take no memory.
+ghost use Rattle.std.specs.Prelude.{◌≡◌, ◌<◌, ◌==◌, ◌++◌, ◌∷◌, [], length, take, drop, map, not, OnOk, true, false};
+ghost use Rattle.ev_port.specs.Ends.{got_bytes};
+ghost use Rattle.ev_port.specs.ScriptEnds.{after_read, after_check, after_close_write, after_close, accepted, wanted};
+ghost use Rattle.ev_port.specs.ScriptLinks.{at_end, links_of, can_read_at, can_write_at, marked, after_wants, accept_answer, accept_first, read_answer_at, pending_at, WroteAt, conn_answer_at};
+ghost use Rattle.ev_port.specs.ScriptKept.{line_at, links_after_line, links_after_lines, with_links, with_bytes, with_all_bytes, TookWaiting};
+
+use crate::script_end::ScriptEnd;
+use crate::{Accepted, Want};
+use ev_types::{ConnAnswer, NoMemory, ReadAnswer, Side, SideId, WriteAnswer};
+use script_text::TurnLine;
+use std::alloc::Global;
+use std::marker::Model;
+
+/// All links of the script. Of `waits`, which tells of each whether its line says wait, `opened` links were opened so
+/// far, and `accepted` of these were accepted.
+///
+/// Own.
+#[derive(Drop)]
+pub(crate) struct ScriptLinks {
+    waits: Vec<bool>,
+    opened: usize,
+    accepted: usize,
+    ends: Vec<ScriptEnd>,
+}
+
+impl Model for ScriptLinks {
+    ghost use Rattle.ev_port.specs.ScriptState.{LinksKept};
+
+    ghost Value = { LinksKept };
+
+    ghost use Rattle.ev_port.specs.ScriptLinksView.{links_kept, IsLinks};
+
+    ghost view = { links_kept };
+
+    ghost invariant = { IsLinks };
+}
+
+impl ScriptLinks {
+    /// No links. Takes no memory.
+    pub fn new(alloc: Global) -> ScriptLinks
+        ensures { result ≡ record { state = record { waiting = []; ends = [] }; to_open = []; to_come = [] } }
+    {
+        ScriptLinks {
+            waits: Vec::new(alloc),
+            opened: 0,
+            accepted: 0,
+            ends: Vec::new(alloc),
+        }
+    }
+
+    fn add_link(&mut self, alloc: Global, wait: bool) -> Result<(), NoMemory>
+        ensures { OnOk result (self.new ≡ with_links (wait ∷ []) self.old) }
+    {
+        self.waits.push(wait)?;
+        self.ends.push(ScriptEnd::new(alloc, false))?;
+        self.ends.push(ScriptEnd::new(alloc, wait))?;
+        Ok(())
+    }
+
+    /// The links that lines open are to be opened. Those before must stay.
+    pub fn add_links(&mut self, alloc: Global, lines: &[TurnLine]) -> Result<(), NoMemory>
+        ensures { OnOk result (self.new ≡ with_links (links_of lines.now) self.old) }
+    {
+        for line in lines {
+            if let TurnLine::NewLink { wait } = line {
+                self.add_link(alloc, *wait)?;
+            }
+        }
+        Ok(())
+    }
+
+    fn expect(&mut self, line: &TurnLine) -> Result<(), NoMemory>
+        ensures { OnOk result (self.new ≡ record self.old { to_come = with_bytes line.now self.old.to_come }) }
+    {
+        if let TurnLine::Pending(end, list) = line {
+            let number = end.number();
+            if number < self.ends.len() {
+                self.ends[number].expect(&list.bytes)?;
+            }
+        }
+        Ok(())
+    }
+
+    /// The bytes that lines bring in are to come.
+    pub fn expect_all(&mut self, lines: &[TurnLine]) -> Result<(), NoMemory>
+        ensures { OnOk result (self.new ≡ record self.old { to_come = with_all_bytes lines.now self.old.to_come }) }
+    {
+        for line in lines {
+            self.expect(line)?;
+        }
+        Ok(())
+    }
+
+    /// Lines are applied in their order.
+    pub fn apply_all(&mut self, lines: &[TurnLine])
+        ensures { self.new ≡ links_after_lines lines.now self.old }
+    {
+        for line in lines {
+            self.apply(line);
+        }
+    }
+
+    fn apply(&mut self, line: &TurnLine)
+        ensures { self.new ≡ links_after_line line.now self.old }
+    {
+        match line {
+            TurnLine::NewLink { .. } => self.open_next(),
+            TurnLine::Pending(end, _) => self.apply_at(*end, line),
+            TurnLine::Eof(end) => self.apply_at(*end, line),
+            TurnLine::Take(end, _) => self.apply_at(*end, line),
+        }
+    }
+
+    fn open_next(&mut self)
+        ensures { self.new ≡ record self.old { state = record self.old.state { waiting = self.old.state.waiting ++ take 1 self.old.to_open }; to_open = drop 1 self.old.to_open } }
+    {
+        self.opened += (self.waits.len() - self.opened).min(1);
+    }
+
+    fn apply_at(&mut self, end: SideId, line: &TurnLine)
+        ensures { self.new ≡ line_at end line.now self.old }
+    {
+        let number = end.number();
+        if number < self.ends.len() {
+            self.ends[number].apply(line);
+        }
+    }
+
+    pub fn read(&mut self, end: SideId, into: &mut [u8]) -> ReadAnswer
+        requires { 0 < length into.old }
+        ensures answer { result ≡ read_answer_at self.old.state end (length into.old) }
+        ensures bytes { got_bytes result into.new ≡ take (length into.old) (pending_at self.old.state end) }
+        ensures rest { drop (length (got_bytes result into.new)) into.new ≡ drop (length (got_bytes result into.new)) into.old }
+        ensures after { self.new ≡ record self.old { state = at_end end (λ s. after_read s (length into.old)) self.old.state } }
+    {
+        let number = end.number();
+        if number < self.ends.len() {
+            self.ends[number].read(into)
+        } else {
+            ReadAnswer::NotYet
+        }
+    }
+
+    pub fn write(&mut self, end: SideId, from: &[u8]) -> WriteAnswer
+        requires { 0 < length from.now }
+        ensures wrote { WroteAt self.old.state self.new.state end from.now result }
+        ensures kept { self.new ≡ record self.old { state = self.new.state } }
+    {
+        let number = end.number();
+        if number < self.ends.len() {
+            self.ends[number].write(from)
+        } else {
+            WriteAnswer::NotYet
+        }
+    }
+
+    pub fn connect_state(&mut self, end: SideId) -> ConnAnswer
+        ensures answer { result ≡ conn_answer_at self.old.state end }
+        ensures after { self.new ≡ record self.old { state = at_end end after_check self.old.state } }
+    {
+        let number = end.number();
+        if number < self.ends.len() {
+            self.ends[number].connect_state()
+        } else {
+            ConnAnswer::Pending
+        }
+    }
+
+    pub fn close_write(&mut self, end: SideId)
+        ensures { self.new ≡ record self.old { state = at_end end after_close_write self.old.state } }
+    {
+        let number = end.number();
+        if number < self.ends.len() {
+            self.ends[number].close_write();
+        }
+    }
+
+    pub fn close(&mut self, end: SideId)
+        ensures { self.new ≡ record self.old { state = at_end end after_close self.old.state } }
+    {
+        let number = end.number();
+        if number < self.ends.len() {
+            self.ends[number].close();
+        }
+    }
+
+    fn accept_end(&mut self, end: SideId, connected: bool)
+        ensures { self.new ≡ record self.old { state = at_end end (accepted connected) self.old.state } }
+    {
+        let number = end.number();
+        if number < self.ends.len() {
+            self.ends[number].accept(connected);
+        }
+    }
+
+    fn count_want(&mut self, want: &Want)
+        ensures { self.new ≡ record self.old { state = at_end want.now.side (wanted want.now) self.old.state } }
+    {
+        let number = want.side.number();
+        if number < self.ends.len() {
+            self.ends[number].count_want(want);
+        }
+    }
+
+    /// A poll was given these wants, and left their marks.
+    pub fn count_wants(&mut self, wants: &[Want])
+        ensures { self.new ≡ record self.old { state = after_wants wants.now self.old.state } }
+    {
+        for want in wants {
+            self.count_want(want);
+        }
+    }
+
+    fn can_read(&self, end: SideId) -> bool
+        ensures { result ≡ can_read_at self.now.state end }
+    {
+        let number = end.number();
+        if number < self.ends.len() {
+            self.ends[number].can_read()
+        } else {
+            false
+        }
+    }
+
+    fn can_write(&self, end: SideId) -> bool
+        ensures { result ≡ can_write_at self.now.state end }
+    {
+        let number = end.number();
+        if number < self.ends.len() {
+            self.ends[number].can_write()
+        } else {
+            false
+        }
+    }
+
+    fn mark_want(&self, want: Want) -> Want
+        ensures { result ≡ marked self.now.state want }
+    {
+        Want {
+            can_read: want.read && self.can_read(want.side),
+            can_write: want.write && self.can_write(want.side),
+            ..want
+        }
+    }
+
+    /// Marks what is wanted and can be done.
+    pub fn mark(&self, wants: &mut [Want])
+        ensures { wants.new ≡ map (λ w. marked self.now.state w) wants.old }
+    {
+        for want in wants.iter_mut() {
+            *want = self.mark_want(*want);
+        }
+    }
+
+    /// Whether a link waits to be accepted.
+    pub fn has_waiting(&self) -> bool
+        ensures { result ≡ not (length self.now.state.waiting == 0) }
+    {
+        self.accepted < self.opened
+    }
+
+    fn take_waiting(&mut self) -> Option<bool>
+        ensures { TookWaiting self.old self.new result }
+    {
+        if self.accepted == self.opened {
+            return None;
+        }
+        let wait = self.waits[self.accepted];
+        self.accepted += 1;
+        Some(wait)
+    }
+
+    /// Accepts the first link that waits, as the link with this number.
+    pub fn accept(&mut self, link: u32) -> Accepted
+        ensures answer { result ≡ accept_answer self.old.state.waiting }
+        ensures after { self.new ≡ record self.old { state = accept_first link self.old.state.waiting self.old.state } }
+    {
+        match self.take_waiting() {
+            None => Accepted::NotYet,
+            Some(wait) => {
+                let connected = !wait;
+                self.accept_end(
+                    SideId {
+                        link,
+                        side: Side::In,
+                    },
+                    true,
+                );
+                self.accept_end(
+                    SideId {
+                        link,
+                        side: Side::Out,
+                    },
+                    connected,
+                );
+                Accepted::Link { connected }
+            }
+        }
+    }
+}

@@ -1,0 +1,288 @@
+// A port that answers by a script. Each reading of the clock begins the script's next turn and applies its lines; every
+// other call is answered from what the lines so far left. It waits for nothing, meets no fault, and keeps all that it is
+// told and all that it took.
+ghost use Rattle.std.specs.Prelude.{◌≡◌, ◌<◌, ⊤, [], true, false, length, take, drop, map, IfOk};
+ghost use Rattle.ev_types.specs.Growth.{Longer};
+ghost use Rattle.ev_port.specs.Told.{EndsWent, AllWent, PortStays, no_step};
+ghost use Rattle.ev_port.specs.Faults.{FaultsStay, EndFaults, PollFaults, ListenerFaults};
+ghost use Rattle.ev_port.specs.Calls.{Ticked, ClockRead, is_failed_start, StartedAt, is_failed_accept, accept_events, accept_step, AcceptedLink};
+ghost use Rattle.ev_port.specs.Polling.{is_failed_poll, opens_accepting, AllMarked, poll_events, poll_step, PolledWith};
+ghost use Rattle.ev_port.specs.Ends.{is_failed_conn, conn_step, conn_events, ReadWithin, is_failed_read, got_bytes, read_step, read_events, WriteWithin, is_failed_write, write_step, write_events, close_write_events, close_events, close_write_step, close_step};
+ghost use Rattle.ev_port.specs.ScriptEnds.{after_read, after_check, after_close_write, after_close};
+ghost use Rattle.ev_port.specs.ScriptLinks.{at_end, marked, accept_answer, read_answer_at, pending_at, WroteAt, conn_answer_at};
+ghost use Rattle.ev_port.specs.ScriptPort.{no_port_calls, new_port, next_turn, begin_turn, clock_answer, after_now, after_start, poll_accepts, poll_tally, after_poll, accept_tally, after_accept};
+ghost use Rattle.ev_port.specs.ScriptTold.{ends_told, port_told, no_faults};
+
+use crate::script_links::ScriptLinks;
+use crate::{Accepted, Addr, Polled, Port, Started, Want};
+use ev_types::{ConnAnswer, NoMemory, ReadAnswer, SideId, WriteAnswer};
+use script_text::{Script, TurnLine};
+use std::alloc::Global;
+use std::marker::Model;
+
+/// What calls on the whole port were made. A number that reached the end of a u64 stays there.
+///
+/// Own.
+#[derive(Clone, Copy)]
+pub(crate) struct PortTally {
+    pub accept_polls: u64,
+    pub timeout: Option<u64>,
+    pub links: u64,
+    pub accepting: bool,
+    pub readings: u64,
+    pub reading: u64,
+    pub started: Option<(Addr, Addr)>,
+}
+
+impl PortTally {
+    fn new() -> PortTally
+        ensures { result ≡ no_port_calls }
+    {
+        PortTally {
+            accept_polls: 0,
+            timeout: None,
+            links: 0,
+            accepting: false,
+            readings: 0,
+            reading: 0,
+            started: None,
+        }
+    }
+
+    fn count_poll(&mut self, accept: bool, timeout: Option<u64>, answer: Polled)
+        ensures { self.new ≡ poll_tally accept timeout (opens_accepting answer) self.old }
+    {
+        self.accept_polls = self.accept_polls.saturating_add(u64::from(accept));
+        self.timeout = timeout;
+        self.accepting = match answer {
+            Polled::Ready { accept } => accept,
+            Polled::Failed => false,
+        };
+    }
+
+    fn count_accept(&mut self, answer: Accepted)
+        ensures { self.new ≡ accept_tally answer self.old }
+    {
+        match answer {
+            Accepted::Link { .. } => self.links = self.links.saturating_add(1),
+            Accepted::NotYet | Accepted::Failed | Accepted::NoMemory => self.accepting = false,
+        }
+    }
+}
+
+/// A port that answers by a script.
+///
+/// Own.
+#[derive(Drop)]
+pub struct ScriptPort {
+    turns: Vec<(u64, Vec<TurnLine>)>,
+    begun: usize,
+    clock: u64,
+    links: ScriptLinks,
+    tally: PortTally,
+}
+
+impl Model for ScriptPort {
+    ghost use Rattle.ev_port.specs.ScriptState.{PortState};
+
+    ghost Value = { PortState };
+
+    ghost use Rattle.ev_port.specs.ScriptPortView.{port_state, IsPort};
+
+    ghost view = { port_state };
+
+    ghost invariant = { IsPort };
+}
+
+impl ScriptPort {
+    /// A port at the beginning of the script. The bytes of its lines are copied once, so that no line takes memory
+    /// when its turn begins.
+    pub fn new(alloc: Global, script: Script) -> Result<ScriptPort, NoMemory>
+        ensures { IfOk result (λ port. port ≡ new_port script.turns) }
+    {
+        let mut links = ScriptLinks::new(alloc);
+        for (_, lines) in &script.turns {
+            links.add_links(alloc, lines)?;
+        }
+        for (_, lines) in &script.turns {
+            links.expect_all(lines)?;
+        }
+        Ok(ScriptPort {
+            turns: script.turns,
+            begun: 0,
+            clock: 0,
+            links,
+            tally: PortTally::new(),
+        })
+    }
+
+    fn begin_turn(&mut self)
+        ensures { self.new ≡ begin_turn (next_turn self.old) self.old }
+    {
+        if self.begun < self.turns.len() {
+            let (moment, lines) = &self.turns[self.begun];
+            self.clock = *moment;
+            self.links.apply_all(lines);
+            self.begun += 1;
+        }
+    }
+}
+
+/// It tells everything of itself and of the ends of the script's links, and nothing of other ends.
+impl Port for ScriptPort {
+    ghost use Rattle.std.specs.Prelude.{⊤};
+
+    // Once it is said which traces a script plays: that the trace is one that this script plays, and that the port
+    // stands where it ends. Until then nothing is said of a trace.
+    ghost vouches = { λ _ _. ⊤ };
+
+    ghost faults = { λ _. no_faults };
+
+    ghost ends = { λ p. ends_told p.links };
+
+    ghost told = { port_told };
+
+    fn start(&mut self, listen: Addr, to: Addr) -> Started
+        ensures answer { result ≡ Started.Started }
+        ensures after { self.new ≡ after_start self.old listen to }
+        ensures never_fails { is_failed_start result ≡ false }
+
+        // What every port says.
+        ensures cause { ListenerFaults no_faults no_faults (is_failed_start result) }
+        ensures ends { AllWent (ends_told self.old.links) (ends_told self.new.links) (λ _. no_step) }
+        ensures told { StartedAt (port_told self.old) (port_told self.new) listen to }
+        ensures vouched { Longer (λ _. ⊤) (λ _. ⊤) [] }
+    {
+        self.tally.started = Some((listen, to));
+        Started::Started
+    }
+
+    fn now(&mut self) -> u64
+        ensures answer { result ≡ clock_answer self.old }
+        ensures after { self.new ≡ after_now self.old }
+
+        // What every port says.
+        ensures cause { FaultsStay no_faults no_faults }
+        ensures ends { AllWent (ends_told self.old.links) (ends_told self.new.links) (λ _. no_step) }
+        ensures told { ClockRead (port_told self.old) (port_told self.new) result }
+        ensures vouched { Ticked (λ _. ⊤) (λ _. ⊤) result }
+    {
+        self.begin_turn();
+        self.tally.readings = self.tally.readings.saturating_add(1);
+        self.tally.reading = self.clock;
+        self.clock
+    }
+
+    fn poll(&mut self, wants: &mut [Want], accept: bool, timeout: Option<u64>) -> Polled
+        ensures answer { result ≡ Polled.Ready (poll_accepts self.old accept) }
+        ensures marks { wants.new ≡ map (λ w. marked self.old.links w) wants.old }
+        ensures after { self.new ≡ after_poll self.old wants.new accept timeout }
+        ensures never_fails { is_failed_poll result ≡ false }
+
+        // What every port says.
+        ensures marked { AllMarked wants.old wants.new }
+        ensures asked { opens_accepting result ≡ true → accept ≡ true }
+        ensures cause { PollFaults no_faults no_faults (is_failed_poll result) }
+        ensures ends { AllWent (ends_told self.old.links) (ends_told self.new.links) (poll_step wants.new result) }
+        ensures told { PolledWith (port_told self.old) (port_told self.new) accept timeout result }
+        ensures vouched { Longer (λ _. ⊤) (λ _. ⊤) (poll_events timeout wants.new result) }
+    {
+        let answer = Polled::Ready {
+            accept: accept & self.links.has_waiting(),
+        };
+        self.links.mark(wants);
+        self.links.count_wants(wants);
+        self.tally.count_poll(accept, timeout, answer);
+        answer
+    }
+
+    fn accept(&mut self, link: u32) -> Accepted
+        ensures answer { result ≡ accept_answer self.old.links.waiting }
+        ensures after { self.new ≡ after_accept self.old link }
+        ensures never_fails { is_failed_accept result ≡ false }
+
+        // What every port says.
+        ensures cause { ListenerFaults no_faults no_faults (is_failed_accept result) }
+        ensures ends { AllWent (ends_told self.old.links) (ends_told self.new.links) (accept_step link result) }
+        ensures told { AcceptedLink (port_told self.old) (port_told self.new) result }
+        ensures vouched { Longer (λ _. ⊤) (λ _. ⊤) (accept_events link result) }
+    {
+        let answer = self.links.accept(link);
+        self.tally.count_accept(answer);
+        answer
+    }
+
+    fn connect_state(&mut self, end: SideId) -> ConnAnswer
+        ensures answer { result ≡ conn_answer_at self.old.links end }
+        ensures after { self.new ≡ record self.old { links = at_end end after_check self.old.links } }
+        ensures never_fails { is_failed_conn result ≡ false }
+
+        // What every port says.
+        ensures cause { EndFaults no_faults no_faults end (is_failed_conn result) }
+        ensures ends { EndsWent (ends_told self.old.links) (ends_told self.new.links) end (conn_step result) }
+        ensures told { PortStays (port_told self.old) (port_told self.new) }
+        ensures vouched { Longer (λ _. ⊤) (λ _. ⊤) (conn_events end result) }
+    {
+        self.links.connect_state(end)
+    }
+
+    fn read(&mut self, end: SideId, into: &mut [u8]) -> ReadAnswer
+        requires { 0 < length into.old }
+        ensures answer { result ≡ read_answer_at self.old.links end (length into.old) }
+        ensures bytes { got_bytes result into.new ≡ take (length into.old) (pending_at self.old.links end) }
+        ensures rest { drop (length (got_bytes result into.new)) into.new ≡ drop (length (got_bytes result into.new)) into.old }
+        ensures after { self.new ≡ record self.old { links = at_end end (λ s. after_read s (length into.old)) self.old.links } }
+        ensures never_fails { is_failed_read result ≡ false }
+
+        // What every port says.
+        ensures within { ReadWithin result (length into.new) }
+        ensures cause { EndFaults no_faults no_faults end (is_failed_read result) }
+        ensures ends { EndsWent (ends_told self.old.links) (ends_told self.new.links) end (read_step result into.new) }
+        ensures told { PortStays (port_told self.old) (port_told self.new) }
+        ensures vouched { Longer (λ _. ⊤) (λ _. ⊤) (read_events end into.new result) }
+    {
+        self.links.read(end, into)
+    }
+
+    fn write(&mut self, end: SideId, from: &[u8]) -> WriteAnswer
+        requires { 0 < length from.now }
+        ensures wrote { WroteAt self.old.links self.new.links end from.now result }
+        ensures after { self.new ≡ record self.old { links = self.new.links } }
+        ensures never_fails { is_failed_write result ≡ false }
+
+        // What every port says.
+        ensures within { WriteWithin result (length from.now) }
+        ensures cause { EndFaults no_faults no_faults end (is_failed_write result) }
+        ensures ends { EndsWent (ends_told self.old.links) (ends_told self.new.links) end (write_step result from.now) }
+        ensures told { PortStays (port_told self.old) (port_told self.new) }
+        ensures vouched { Longer (λ _. ⊤) (λ _. ⊤) (write_events end from.now result) }
+    {
+        self.links.write(end, from)
+    }
+
+    fn close_write(&mut self, end: SideId)
+        ensures after { self.new ≡ record self.old { links = at_end end after_close_write self.old.links } }
+
+        // What every port says.
+        ensures cause { FaultsStay no_faults no_faults }
+        ensures ends { EndsWent (ends_told self.old.links) (ends_told self.new.links) end close_write_step }
+        ensures told { PortStays (port_told self.old) (port_told self.new) }
+        ensures vouched { Longer (λ _. ⊤) (λ _. ⊤) (close_write_events end) }
+    {
+        self.links.close_write(end);
+    }
+
+    fn close(&mut self, end: SideId)
+        ensures after { self.new ≡ record self.old { links = at_end end after_close self.old.links } }
+
+        // What every port says.
+        ensures cause { FaultsStay no_faults no_faults }
+        ensures ends { EndsWent (ends_told self.old.links) (ends_told self.new.links) end close_step }
+        ensures told { PortStays (port_told self.old) (port_told self.new) }
+        ensures vouched { Longer (λ _. ⊤) (λ _. ⊤) (close_events end) }
+    {
+        self.links.close(end);
+    }
+
+    ghost unheard = { λ _ _ _ _ _. tt };
+}

@@ -1,0 +1,98 @@
+-- Calls of the drive one behind another, and what one call of the port is.
+use Rattle.std.proofs.Common.{◌≡◌, ℕ, ◌+◌, ◌-◌, ◌^◌, ◌<◌, ◌≤◌, Bool, true, false, ◌||◌, List, [], ◌∷◌, ◌++◌, length, min, max, Option, Some, None, refl, sym, ◌∙◌, ap, subst, arith, append_assoc, append-nil, length-append}
+use Rattle.std.specs.List.{list_any}
+use Rattle.std.proofs.lemmas.List.Folds.{list_any-append}
+use Rattle.stream_words.specs.Faults.{Counted, Rose}
+use Rattle.ev_types.specs.declared.side.SideId.{SideId}
+use Rattle.ev_types.specs.declared.entry.Entry.{Entry}
+use Rattle.ev_types.specs.declared.entry.Entry.TheVariants as entry
+use Rattle.ev_types.specs.Trace.{Event, Trace}
+use Rattle.ev_types.specs.Growth.{Grew, Longer}
+use Rattle.ev_port.specs.Told.{Faults}
+use Rattle.ev_port.specs.Calls.{last_time}
+use Rattle.ev_port.specs.Counting.{counted}
+use Rattle.relay_core.specs.State.{State}
+use Rattle.relay_drive.specs.declared.run.Run.{Run}
+use Rattle.relay_drive.specs.Steps.{Nothing, Then, Each, CutAt}
+use Rattle.relay_drive.specs.Goes.{Goes, Heard, has_failed, failed_by, has_poll_failed, is_poll_failed}
+
+-- Lists that are told
+
+pub Grew-none : (a : Option Trace) → Grew a a []
+Grew-none None = tt
+Grew-none (Some xs) = ap Some (sym (append-nil xs))
+
+pub Grew-join : (a b c : Option Trace) (xs ys : Trace) → Grew a b xs → Grew b c ys → Grew a c (xs ++ ys)
+Grew-join None b c xs ys p q = tt
+Grew-join (Some u) None c xs ys p q = absurd (cc)
+Grew-join (Some u) (Some v) c xs ys p q = q ∙ ap Some (ap (λ z. z ++ ys) (some p) ∙ append_assoc u xs ys)
+  where
+    some : {x y : Trace} → ◌≡◌ {A = Option Trace} (Some x) (Some y) → x ≡ y
+    some h = cc
+
+-- Counts
+
+pub Counted-none : (a : ℕ) → Counted a a false
+Counted-none a = record { later = omega arith; fault = λ h. absurd (cc); none = λ h. refl }
+
+pub Counted-same : (a b : ℕ) → b ≡ a → Counted a b false
+Counted-same a b h = record { later = omega (arith, h); fault = λ h. absurd (cc); none = λ _. h }
+
+pub Counted-join : (a b c : ℕ) (p q : Bool) → Counted a b p → Counted b c q → Counted a c (p || q)
+Counted-join a b c true true h k = let r = h.fault refl in let s = k.fault refl in record { later = omega (arith, h.later, k.later); fault = λ e. omega (arith, r, s, k.later); none = λ e. absurd (cc) }
+Counted-join a b c true false h k = let r = h.fault refl in record { later = omega (arith, h.later, k.later); fault = λ e. omega (arith, r, k.later); none = λ e. absurd (cc) }
+Counted-join a b c false true h k = let r = h.none refl in let s = k.fault refl in record { later = omega (arith, h.later, k.later); fault = λ e. omega (arith, r, s); none = λ e. absurd (cc) }
+Counted-join a b c false false h k = record { later = omega (arith, h.later, k.later); fault = λ e. absurd (cc); none = λ e. k.none refl ∙ h.none refl }
+
+pub Heard-none : (f : Faults) → Heard f f [] false
+Heard-none f = record { ends = λ e. Counted-none (f.ends e); polling = Counted-none f.polling; listener = Counted-none f.listener }
+
+pub Heard-join : (f g h : Faults) (xs ys : Trace) (p q : Bool) → Heard f g xs p → Heard g h ys q → Heard f h (xs ++ ys) (p || q)
+Heard-join f g h xs ys p q a b = record {
+  ends = λ e. subst (λ z. Counted (f.ends e) (h.ends e) z) (sym (list_any-append (failed_by e) xs ys)) (Counted-join (f.ends e) (g.ends e) (h.ends e) (has_failed e xs) (has_failed e ys) (a.ends e) (b.ends e));
+  polling = subst (λ z. Counted f.polling h.polling z) (sym (list_any-append is_poll_failed xs ys)) (Counted-join f.polling g.polling h.polling (has_poll_failed xs) (has_poll_failed ys) a.polling b.polling);
+  listener = Counted-join f.listener g.listener h.listener p q a.listener b.listener;
+}
+
+counted-join : (a b c m n k : ℕ) → counted b 0 ≡ counted a m → counted c 0 ≡ counted b n → k ≡ m + n → counted c 0 ≡ counted a k
+counted-join a b c m n k h g e = omega (arith, h, g, e)
+
+-- Goes
+
+-- the same with a weaker relation
+pub goes_as : {R S : State → Trace → State → Type 0} {p : Bool} {old new : Run} {l l' : Option Trace} {v v' : Trace → Type 0} {f f' : Faults} →
+    ((a : Trace) → R old.relay.state a new.relay.state → S old.relay.state a new.relay.state) → Goes R p old new l l' v v' f f' → Goes S p old new l l' v v' f f'
+goes_as w g = record { added = g.added; does = w g.added g.does; entries = g.entries; list = g.list; told = g.told; heard = g.heard }
+
+pub goes_then : {R S : State → Trace → State → Type 0} {p q : Bool} {old mid new : Run} {l m n : Option Trace} {v w x : Trace → Type 0} {f g h : Faults} →
+    Goes R p old mid l m v w f g → Goes S q mid new m n w x g h → Goes (Then R S) (p || q) old new l n v x f h
+goes_then {p = p} {q = q} {old = old} {mid = mid} {new = new} {l = l} {m = m} {n = n} {v = v} {w = w} {x = x} {f = f} {g = g} {h = h} a b = record {
+  added = a.added ++ b.added;
+  does = record { middle = mid.relay.state; front = a.added; back = b.added; first = a.does; second = b.does; joined = refl };
+  entries = counted-join old.entries mid.entries new.entries (length a.added) (length b.added) (length (a.added ++ b.added)) a.entries b.entries (length-append a.added b.added);
+  list = Grew-join l m n a.added b.added a.list b.list;
+  told = λ t e.
+      let first = a.told t e in
+      let second = b.told (t ++ a.added) first.0 in (
+        subst (λ z. last_time z ≡ new.relay.state.time) (append_assoc t a.added b.added) second.0,
+        λ k. subst x (append_assoc t a.added b.added) (second.1 (first.1 k)),
+      );
+  heard = Heard-join f g h a.added b.added p q a.heard b.heard;
+}
+
+-- no entry was put, and the port vouches as before
+pub goes_silent : {old new : Run} {l l' : Option Trace} {v v' : Trace → Type 0} {f f' : Faults} → new.relay.state ≡ old.relay.state → new.entries ≡ old.entries → Grew l l' [] →
+    Longer v v' [] → Heard f f' [] false → Goes Nothing false old new l l' v v' f f'
+goes_silent {old = old} {new = new} {v = v} {v' = v'} s n list told heard = record {
+  added = [];
+  does = (refl, s);
+  entries = omega (arith, n);
+  list = list;
+  told = λ t e. (ap last_time (append-nil t) ∙ e ∙ ap (λ (z : State). z.time) (sym s), told t);
+  heard = heard;
+}
+
+-- nothing was asked of the port
+pub goes_nowhere : {old new : Run} {l l' : Option Trace} {v : Trace → Type 0} {f : Faults} → new.relay.state ≡ old.relay.state → new.entries ≡ old.entries → Grew l l' [] →
+    Goes Nothing false old new l l' v v f f
+goes_nowhere {v = v} {f = f} s n list = goes_silent s n list (λ t k. subst v (sym (append-nil t)) k) (Heard-none f)

@@ -1,0 +1,191 @@
+-- What one call of the port lets the counts of faults say.
+use Rattle.std.proofs.Common.{◌≡◌, ◌≢◌, ℕ, ◌+◌, ◌<◌, ◌≤◌, Bool, true, false, ◌&&◌, ◌||◌, ◌==◌, List, [], ◌∷◌, ◌++◌, length, max, Option, refl, sym, ◌∙◌, ap, subst, arith, eqb-true, eq-eqb}
+use Rattle.stream_words.specs.Faults.{Counted}
+use Rattle.ev_types.specs.declared.side.Side.{Side}
+use Rattle.ev_types.specs.declared.side.Side.TheVariants.{In, Out}
+use Rattle.ev_types.specs.declared.side.SideId.{SideId}
+use Rattle.ev_types.specs.declared.answer.ConnAnswer.{ConnAnswer}
+use Rattle.ev_types.specs.declared.answer.ConnAnswer.TheVariants as conn
+use Rattle.ev_types.specs.declared.answer.ReadAnswer.{ReadAnswer}
+use Rattle.ev_types.specs.declared.answer.ReadAnswer.TheVariants as read
+use Rattle.ev_types.specs.declared.answer.WriteAnswer.{WriteAnswer}
+use Rattle.ev_types.specs.declared.answer.WriteAnswer.TheVariants as write
+use Rattle.ev_types.specs.declared.entry.Entry.{Entry}
+use Rattle.ev_types.specs.declared.entry.Entry.TheVariants as entry
+use Rattle.ev_types.specs.Sides.{same_side, same_end}
+use Rattle.ev_types.specs.Trace.{Event, Trace}
+use Rattle.ev_types.specs.Growth.{Grew, Longer}
+use Rattle.ev_port.specs.Told.{Faults}
+use Rattle.ev_port.specs.Faults.{EndFaults, FaultsStay, ListenerFaults}
+use Rattle.ev_port.specs.Ends.{is_failed_conn, conn_events, is_failed_read, read_events, is_failed_write, write_events, took_bytes}
+use Rattle.ev_port.specs.Calls.{last_time}
+use Rattle.ev_port.specs.Counting.{counted}
+use Rattle.relay_core.specs.State.{State}
+use Rattle.relay_drive.specs.declared.run.Run.{Run}
+use Rattle.relay_drive.specs.Calls.{is_memory, after_conn, after_read, after_write}
+use Rattle.relay_drive.specs.Goes.{Goes, Heard, has_failed, has_poll_failed}
+use Rattle.relay_drive.proofs.GoesLemmas.{Counted-same}
+
+-- Names of ends
+
+same_side-true : (a b : Side) → same_side a b ≡ true → b ≡ a
+same_side-true In In h = refl
+same_side-true Out Out h = refl
+same_side-true In Out h = absurd (cc)
+same_side-true Out In h = absurd (cc)
+
+same_side-refl : (a : Side) → same_side a a ≡ true
+same_side-refl In = refl
+same_side-refl Out = refl
+
+and_left : (a b : Bool) → a && b ≡ true → a ≡ true
+and_left true b h = refl
+and_left false b h = absurd (cc)
+
+and_right : (a b : Bool) → a && b ≡ true → b ≡ true
+and_right true b h = h
+and_right false b h = absurd (cc)
+
+pub same_end-true : (a b : SideId) → same_end a b ≡ true → b ≡ a
+same_end-true a b h =
+    let link : b.link ≡ a.link = sym (eqb-true a.link b.link (and_left (a.link == b.link) (same_side a.side b.side) h)) in
+    let side = same_side-true a.side b.side (and_right (a.link == b.link) (same_side a.side b.side) h) in
+    λ i. record { link = link i; side = side i }
+
+pub same_end-refl : (a : SideId) → same_end a a ≡ true
+same_end-refl a = ap (λ b. b && same_side a.side a.side) (eq-eqb a.link a.link refl) ∙ same_side-refl a.side
+
+pub same_end-false : (a b : SideId) → same_end a b ≡ false → b ≢ a
+same_end-false a b h = λ e. absurd (
+    let p : same_end a a ≡ false = subst (λ x. same_end a x ≡ false) e h in
+    let q = same_end-refl a in cc)
+
+-- Counts
+
+or_false : (b : Bool) → b || false ≡ b
+or_false true = refl
+or_false false = refl
+
+Heard-end : (f g : Faults) (end : SideId) (is_fault : Bool) (a : Trace) → EndFaults f g end is_fault → ((e : SideId) → has_failed e a ≡ is_fault && same_end end e) → has_poll_failed a ≡ false → Heard f g a false
+Heard-end f g end is_fault a h each none = record {
+  ends = λ e. subst (λ z. Counted (f.ends e) (g.ends e) z) (sym (each e)) (go e is_fault (same_end end e) refl h.own);
+  polling = subst (λ z. Counted f.polling g.polling z) (sym none) (Counted-same f.polling g.polling h.polling);
+  listener = Counted-same f.listener g.listener h.listener;
+}
+  where
+    go : (e : SideId) (p q : Bool) → same_end end e ≡ q → Counted (f.ends end) (g.ends end) p → Counted (f.ends e) (g.ends e) (p && q)
+    go e true true k o = subst (λ x. Counted (f.ends x) (g.ends x) true) (sym (same_end-true end e k)) o
+    go e false true k o = subst (λ x. Counted (f.ends x) (g.ends x) false) (sym (same_end-true end e k)) o
+    go e true false k o = Counted-same (f.ends e) (g.ends e) (h.others e (same_end-false end e k))
+    go e false false k o = Counted-same (f.ends e) (g.ends e) (h.others e (same_end-false end e k))
+
+pub Heard-read : (f g : Faults) (end : SideId) (into : List ℕ) (answer : ReadAnswer) → EndFaults f g end (is_failed_read answer) → Heard f g (read_events end into answer) false
+Heard-read f g end into (read.Got n) h = Heard-end f g end false (read_events end into (read.Got n)) h (λ e. refl) refl
+Heard-read f g end into read.Ended h = Heard-end f g end false (read_events end into read.Ended) h (λ e. refl) refl
+Heard-read f g end into read.NotYet h = Heard-end f g end false (read_events end into read.NotYet) h (λ e. refl) refl
+Heard-read f g end into read.Failed h = Heard-end f g end true (read_events end into read.Failed) h (λ e. or_false (same_end end e)) refl
+
+pub Heard-write : (f g : Faults) (end : SideId) (from : List ℕ) (answer : WriteAnswer) → EndFaults f g end (is_failed_write answer) → Heard f g (write_events end from answer) false
+Heard-write f g end from (write.Took n) h = Heard-end f g end false (write_events end from (write.Took n)) h (λ e. refl) refl
+Heard-write f g end from write.NotYet h = Heard-end f g end false (write_events end from write.NotYet) h (λ e. refl) refl
+Heard-write f g end from write.Failed h = Heard-end f g end true (write_events end from write.Failed) h (λ e. or_false (same_end end e)) refl
+Heard-write f g end from write.NoMemory h = Heard-end f g end false [] h (λ e. refl) refl
+
+pub Heard-conn : (f g : Faults) (end : SideId) (answer : ConnAnswer) → EndFaults f g end (is_failed_conn answer) → Heard f g (conn_events end answer) false
+Heard-conn f g end conn.Connected h = Heard-end f g end false (conn_events end conn.Connected) h (λ e. refl) refl
+Heard-conn f g end conn.Pending h = Heard-end f g end false (conn_events end conn.Pending) h (λ e. refl) refl
+Heard-conn f g end conn.Failed h = Heard-end f g end true (conn_events end conn.Failed) h (λ e. or_false (same_end end e)) refl
+
+-- an event that tells of no fault
+pub Heard-quiet : (f g : Faults) (a : Trace) → FaultsStay f g → ((e : SideId) → has_failed e a ≡ false) → has_poll_failed a ≡ false → Heard f g a false
+Heard-quiet f g a h each none = record {
+  ends = λ e. subst (λ z. Counted (f.ends e) (g.ends e) z) (sym (each e)) (Counted-same (f.ends e) (g.ends e) (h.ends e));
+  polling = subst (λ z. Counted f.polling g.polling z) (sym none) (Counted-same f.polling g.polling h.polling);
+  listener = Counted-same f.listener g.listener h.listener;
+}
+
+-- an accept
+pub Heard-open : (f g : Faults) (a : Trace) (is_fault : Bool) → ListenerFaults f g is_fault → ((e : SideId) → has_failed e a ≡ false) → has_poll_failed a ≡ false → Heard f g a is_fault
+Heard-open f g a is_fault h each none = record {
+  ends = λ e. subst (λ z. Counted (f.ends e) (g.ends e) z) (sym (each e)) (Counted-same (f.ends e) (g.ends e) (h.ends e));
+  polling = subst (λ z. Counted f.polling g.polling z) (sym none) (Counted-same f.polling g.polling h.polling);
+  listener = h.listener;
+}
+
+pub FaultsStay-same : (f : Faults) → FaultsStay f f
+FaultsStay-same f = record { ends = λ e. refl; polling = refl; listener = refl }
+
+-- The time of a trace
+
+pub last_time-append : (t a : Trace) → last_time (t ++ a) ≡ max (last_time t) (last_time a)
+last_time-append [] a = omega arith
+last_time-append ((entry.Turn ms, b) ∷ t) a = let h = last_time-append t a in omega (arith, h)
+last_time-append ((entry.Poll x, b) ∷ t) a = last_time-append t a
+last_time-append ((entry.Want x y z, b) ∷ t) a = last_time-append t a
+last_time-append ((entry.Ready x y z, b) ∷ t) a = last_time-append t a
+last_time-append ((entry.PollFailed, b) ∷ t) a = last_time-append t a
+last_time-append ((entry.Opened x y, b) ∷ t) a = last_time-append t a
+last_time-append ((entry.Conn x y, b) ∷ t) a = last_time-append t a
+last_time-append ((entry.Read x y z, b) ∷ t) a = last_time-append t a
+last_time-append ((entry.Write x y z, b) ∷ t) a = last_time-append t a
+last_time-append ((entry.Fired x y, b) ∷ t) a = last_time-append t a
+last_time-append ((entry.Asked x y z, b) ∷ t) a = last_time-append t a
+last_time-append ((entry.Freed x y z w, b) ∷ t) a = last_time-append t a
+last_time-append ((entry.CloseWrite x, b) ∷ t) a = last_time-append t a
+last_time-append ((entry.Close x, b) ∷ t) a = last_time-append t a
+
+-- entries of which none begins a turn
+pub goes_some : {R : State → Trace → State → Type 0} {p : Bool} {old new : Run} {v v' : Trace → Type 0} (l l' : Option Trace) (f f' : Faults) (a : Trace) → last_time a ≡ 0 →
+    R old.relay.state a new.relay.state → new.relay.state.time ≡ old.relay.state.time → counted new.entries 0 ≡ counted old.entries (length a) → Grew l l' a → Longer v v' a → Heard f f' a p → Goes R p old new l l' v v' f f'
+goes_some {old = old} {new = new} l l' f f' a quiet does time entries list told heard = record {
+  added = a;
+  does = does;
+  entries = entries;
+  list = list;
+  told = λ t e. (let h = last_time-append t a in omega (arith, h, quiet, e, time), told t);
+  heard = heard;
+}
+
+-- and one entry
+pub goes_once : {R : State → Trace → State → Type 0} {p : Bool} {old new : Run} {v v' : Trace → Type 0} (l l' : Option Trace) (f f' : Faults) (a : Trace) → last_time a ≡ 0 →
+    R old.relay.state a new.relay.state → new.relay.state.time ≡ old.relay.state.time → new.entries ≡ counted old.entries (length a) → Grew l l' a → Longer v v' a → Heard f f' a p → Goes R p old new l l' v v' f f'
+goes_once l l' f f' a quiet does time entries list told heard = goes_some l l' f f' a quiet does time (omega (arith, entries)) list told heard
+
+-- What calls leave as it is
+
+pub conn_time : (s : State) (e : SideId) (answer : ConnAnswer) → (after_conn s e answer).time ≡ s.time
+conn_time s e conn.Connected = refl
+conn_time s e conn.Pending = refl
+conn_time s e conn.Failed = refl
+
+pub read_time : (s : State) (e : SideId) (answer : ReadAnswer) (bytes : List ℕ) → (after_read s e answer bytes).time ≡ s.time
+read_time s e (read.Got n) bytes = refl
+read_time s e read.Ended bytes = refl
+read_time s e read.NotYet bytes = refl
+read_time s e read.Failed bytes = refl
+
+pub write_time : (s : State) (e : SideId) (answer : WriteAnswer) → (after_write s e answer).time ≡ s.time
+write_time s e (write.Took n) = refl
+write_time s e write.NotYet = refl
+write_time s e write.Failed = refl
+write_time s e write.NoMemory = refl
+
+-- a write answered with want of memory is no step
+pub no_write : (v v' : Trace → Type 0) (e : SideId) (from : List ℕ) (answer : WriteAnswer) → is_memory answer ≡ true → Longer v v' (write_events e from answer) → Longer v v' []
+no_write v v' e from write.NoMemory m h = h
+no_write v v' e from (write.Took n) m h = absurd (cc)
+no_write v v' e from write.NotYet m h = absurd (cc)
+no_write v v' e from write.Failed m h = absurd (cc)
+
+pub memory_is : (f g : Faults) (e : SideId) (from : List ℕ) (answer : WriteAnswer) → is_memory answer ≡ true → EndFaults f g e (is_failed_write answer) → Heard f g [] false
+memory_is f g e from write.NoMemory m h = Heard-write f g e from write.NoMemory h
+memory_is f g e from (write.Took n) m h = absurd (cc)
+memory_is f g e from write.NotYet m h = absurd (cc)
+memory_is f g e from write.Failed m h = absurd (cc)
+
+-- every other write is one entry
+pub some_write : (e : SideId) (from : List ℕ) (answer : WriteAnswer) → is_memory answer ≡ false → write_events e from answer ≡ (entry.Write e (length from) answer, took_bytes answer from) ∷ []
+some_write e from write.NoMemory m = absurd (cc)
+some_write e from (write.Took n) m = refl
+some_write e from write.NotYet m = refl
+some_write e from write.Failed m = refl

@@ -1,0 +1,4 @@
+pub mod GoesLemmas
+pub mod HeardLemmas
+pub mod EachLemmas
+pub mod ClosingLemmas

@@ -1,0 +1,39 @@
+use Rattle.std.proofs.Common.{◌≡◌, [], ◌∷◌, Bool, true, false, length, refl, sym, ap, ◌∙◌, subst}
+use Rattle.std.proofs.lemmas.Result.{err_from_is_err_and}
+use Rattle.ev_types.specs.Trace.{Trace}
+use Rattle.ev_types.specs.declared.entry.Entry.TheVariants as entry
+use Rattle.ev_types.specs.declared.answer.WriteAnswer.{WriteAnswer}
+use Rattle.ev_port.specs.Ends.{WriteWithin, write_events, took_bytes}
+use Rattle.relay_core.specs.Rooms.{offer}
+use Rattle.relay_core.specs.State.{State}
+use Rattle.relay_drive.specs.Goes.{Heard}
+use Rattle.relay_drive.specs.Calls.{after_write, is_memory}
+use Rattle.relay_drive.proofs.GoesLemmas.{Grew-none, Grew-join, goes_nowhere, goes_silent}
+use Rattle.relay_drive.proofs.HeardLemmas.{Heard-write, goes_once, write_time, no_write, some_write, memory_is}
+use Rattle.relay_drive.proofs.ask.ask_write.Goals as goal
+
+pub returns-in_err-reserve-clause-went : goal.returns-in_err-reserve-clause-went
+returns-in_err-reserve-clause-went g c =
+    let p = err_from_is_err_and c.from_residual.result c.from_residual.ensures.1 in rw (p.1) (goes_nowhere refl refl c.reserve.ensures.trace)
+
+pub returns-then-is_memory-clause-went : goal.returns-then-is_memory-clause-went
+returns-then-is_memory-clause-went g c =
+    let from = c.offer-offer.result.now in
+    let memory : is_memory c.write-answer.result ≡ true = sym c.is_memory.ensures ∙ c.if-is_memory.true in
+    goes_silent refl refl c.reserve.ensures.trace (no_write (g.P.Port.vouches c.args.port.now) (g.P.Port.vouches c.write-answer.new.self) c.args.side from c.write-answer.result memory c.write-answer.ensures.vouched)
+    (memory_is (g.P.Port.faults c.args.port.now) (g.P.Port.faults c.write-answer.new.self) c.args.side from c.write-answer.result memory c.write-answer.ensures.cause)
+
+pub returns-clause-went : goal.returns-clause-went
+returns-clause-went g c =
+    let l0 = g.S.Scribe.trace c.args.scribe.now in
+    let old = c.args.run.now.relay.state in
+    let answer = c.write-answer.result in
+    let from = offer old c.args.side in
+    let one : Trace = (entry.Write c.args.side (length from) answer, took_bytes answer from) ∷ [] in
+    let some : is_memory answer ≡ false = sym c.is_memory.ensures ∙ c.if-is_memory.false in
+    let is : write_events c.args.side from answer ≡ one = some_write c.args.side from answer some in
+    goes_once l0 (g.S.Scribe.trace c.put.new.scribe) (g.P.Port.faults c.args.port.now) (g.P.Port.faults c.write-answer.new.self) one refl
+    (record { done = some; within = rw (c.offer-offer.ensures) at c.write-answer.ensures.within; entries = sym is; state = c.note_write.ensures }) (ap (λ s. s.time) c.note_write.ensures ∙ write_time old c.args.side answer) c.put.ensures.counted
+    (Grew-join l0 (g.S.Scribe.trace c.reserve.new.self) (g.S.Scribe.trace c.put.new.scribe) [] one c.reserve.ensures.trace (rw (c.bytes_taken.ensures, c.offer-offer.ensures) at c.put.ensures.list))
+    (rw (c.offer-offer.ensures, is) at c.write-answer.ensures.vouched)
+    (subst (λ z. Heard (g.P.Port.faults c.args.port.now) (g.P.Port.faults c.write-answer.new.self) z false) is (Heard-write (g.P.Port.faults c.args.port.now) (g.P.Port.faults c.write-answer.new.self) c.args.side from answer c.write-answer.ensures.cause))

@@ -1,0 +1,14 @@
+use Rattle.std.proofs.Common.{◌≡◌, Bool, true, false, ◌&&◌, refl, sym, ◌∙◌, ap, subst}
+use Rattle.std.specs.Prelude.{MatchBool}
+use Rattle.relay_core.specs.Rooms.{wants_read}
+use Rattle.relay_drive.specs.Steps.{Nothing}
+use Rattle.relay_drive.specs.Phases.{ReadsWithRoom}
+use Rattle.relay_drive.proofs.GoesLemmas.{Grew-none, goes_as, goes_nowhere}
+use Rattle.relay_drive.proofs.serve.read_side.Goals as goal
+
+pub returns-then-not-wants_read-clause-went : goal.returns-then-not-wants_read-clause-went
+returns-then-not-wants_read-clause-went g c =
+    let s = c.args.run.now.relay.state in
+    let e = c.args.side in
+    let no : c.args.marked && wants_read s e ≡ false = ap (λ b. b && wants_read s e) c.if-not-marked.false ∙ sym c.wants_read.ensures ∙ c.if-not-wants_read.true in
+    goes_as (λ a p. subst (λ b. MatchBool b (ReadsWithRoom e s a s) (Nothing s a s)) (sym no) p) (goes_nowhere refl refl (Grew-none (g.S.Scribe.trace c.args.scribe.now)))

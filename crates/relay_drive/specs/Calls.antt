@@ -1,0 +1,72 @@
+-- What each call of the port, with its entry, does to the relay's state.
+use Rattle.std.specs.Prelude.{◌≡◌, ◌≢◌, ℕ, ◌^◌, ◌<◌, ⊤, Bool, true, false, List, [], ◌∷◌, length, take, min, max, MatchBool, ◌&&◌}
+use Rattle.ev_types.specs.declared.side.SideId.{SideId}
+use Rattle.ev_types.specs.declared.answer.ConnAnswer.{ConnAnswer}
+use Rattle.ev_types.specs.declared.answer.ConnAnswer.TheVariants as conn
+use Rattle.ev_types.specs.declared.answer.ReadAnswer.{ReadAnswer}
+use Rattle.ev_types.specs.declared.answer.ReadAnswer.TheVariants as read
+use Rattle.ev_types.specs.declared.answer.WriteAnswer.{WriteAnswer}
+use Rattle.ev_types.specs.declared.answer.WriteAnswer.TheVariants as write
+use Rattle.ev_types.specs.declared.entry.Entry.TheVariants as entry
+use Rattle.ev_types.specs.Trace.{Trace}
+use Rattle.ev_port.specs.Ends.{conn_events, ReadWithin, got_bytes, read_events, WriteWithin, write_events}
+use Rattle.relay_core.specs.State.{State, flags_at}
+use Rattle.relay_core.specs.Opening.{after_opened}
+use Rattle.relay_core.specs.Rooms.{read_room, offer}
+use Rattle.relay_core.specs.Serving.{after_got, after_ended, after_read_failed, after_took, after_write_failed, after_connected}
+use Rattle.relay_drive.specs.Steps.{Nothing}
+
+-- The clock is read: the reading, cut at 2^62, becomes the time unless the time is greater, and a turn begins.
+pub record Ticks (reading : ℕ) (s : State) (a : Trace) (new : State) : Type 0 where
+  pub entries : a ≡ (entry.Turn (max s.time (min reading (2 ^ 62))), []) ∷ []
+  pub state : new ≡ record s { time = max s.time (min reading (2 ^ 62)) }
+
+-- A link is opened, where fewer were than the settings allow.
+pub record Opens (connected : Bool) (s : State) (a : Trace) (new : State) : Type 0 where
+  pub allowed : s.opened < s.settings.links
+  pub entries : a ≡ (entry.Opened s.opened connected, []) ∷ []
+  pub state : new ≡ after_opened s connected
+
+abbrev pub after_conn : State → SideId → ConnAnswer → State
+after_conn s e conn.Connected = after_connected s e
+after_conn s e conn.Pending = s
+after_conn s e conn.Failed = after_write_failed s e
+
+-- A side's end was asked whether it is connected.
+pub record Asks (e : SideId) (answer : ConnAnswer) (s : State) (a : Trace) (new : State) : Type 0 where
+  pub entries : a ≡ conn_events e answer
+  pub state : new ≡ after_conn s e answer
+
+abbrev pub after_read : State → SideId → ReadAnswer → List ℕ → State
+after_read s e (read.Got n) bytes = after_got s e bytes
+after_read s e read.Ended bytes = after_ended s e
+after_read s e read.NotYet bytes = s
+after_read s e read.Failed bytes = after_read_failed s e
+
+-- bytes come with the answer that tells of them
+abbrev pub HasBytes : ReadAnswer → List ℕ → Type 0
+HasBytes (read.Got n) bytes = 0 < length bytes
+HasBytes _ bytes = ⊤
+
+-- A side's end was read, which put bytes in front of a slice.
+pub record Reads (e : SideId) (answer : ReadAnswer) (into : List ℕ) (s : State) (a : Trace) (new : State) : Type 0 where
+  pub within : ReadWithin answer (length into)
+  pub entries : a ≡ read_events e into answer
+  pub state : new ≡ after_read s e answer (got_bytes answer into)
+
+abbrev pub after_write : State → SideId → WriteAnswer → State
+after_write s e (write.Took n) = after_took s e n
+after_write s e write.NotYet = s
+after_write s e write.Failed = after_write_failed s e
+after_write s e write.NoMemory = s
+
+abbrev pub is_memory : WriteAnswer → Bool
+is_memory write.NoMemory = true
+is_memory _ = false
+
+-- A side's end was given what is offered to it, and this was no want of memory.
+pub record Writes (e : SideId) (answer : WriteAnswer) (s : State) (a : Trace) (new : State) : Type 0 where
+  pub done : is_memory answer ≡ false
+  pub within : WriteWithin answer (length (offer s e))
+  pub entries : a ≡ write_events e (offer s e) answer
+  pub state : new ≡ after_write s e answer

@@ -1,0 +1,53 @@
+-- What a call of the drive does outside of the relay too: the entries that it puts, what the port vouches for, and which
+-- faults are counted.
+use Rattle.std.specs.Prelude.{◌≡◌, ℕ, Bool, true, false, List, [], ◌++◌, length, Option}
+use Rattle.std.specs.List.{list_any}
+use Rattle.stream_words.specs.Faults.{Counted}
+use Rattle.ev_types.specs.declared.side.SideId.{SideId}
+use Rattle.ev_types.specs.declared.answer.ConnAnswer.TheVariants as conn
+use Rattle.ev_types.specs.declared.answer.ReadAnswer.TheVariants as read
+use Rattle.ev_types.specs.declared.answer.WriteAnswer.TheVariants as write
+use Rattle.ev_types.specs.declared.entry.Entry.TheVariants as entry
+use Rattle.ev_types.specs.Sides.{same_end}
+use Rattle.ev_types.specs.Trace.{Event, Trace}
+use Rattle.ev_types.specs.Growth.{Grew}
+use Rattle.ev_port.specs.Told.{Faults}
+use Rattle.ev_port.specs.Calls.{last_time}
+use Rattle.ev_port.specs.Counting.{counted}
+use Rattle.relay_core.specs.State.{State}
+use Rattle.relay_drive.specs.declared.run.Run.{Run}
+
+-- an event in which a call for an end failed
+abbrev pub failed_by : SideId → Event → Bool
+failed_by e (entry.Read side room read.Failed, bytes) = same_end side e
+failed_by e (entry.Write side offered write.Failed, bytes) = same_end side e
+failed_by e (entry.Conn side conn.Failed, bytes) = same_end side e
+failed_by e _ = false
+
+abbrev pub has_failed : SideId → Trace → Bool
+has_failed e t = list_any (failed_by e) t
+
+-- a failed poll
+abbrev pub is_poll_failed : Event → Bool
+is_poll_failed (entry.PollFailed, bytes) = true
+is_poll_failed _ = false
+
+abbrev pub has_poll_failed : Trace → Bool
+has_poll_failed t = list_any is_poll_failed t
+
+-- An end's count, and that of polling, rose exactly where an entry tells of such a fault; that of the listener where the
+-- call is answered so.
+pub record Heard (old new : Faults) (added : Trace) (open_failed : Bool) : Type 0 where
+  pub ends : (e : SideId) → Counted (old.ends e) (new.ends e) (has_failed e added)
+  pub polling : Counted old.polling new.polling (has_poll_failed added)
+  pub listener : Counted old.listener new.listener open_failed
+
+-- The relay does this; the entries of that are counted and stand behind the trace of the scribe. For every trace whose
+-- last time is the relay's, that stays so with these entries, and a port that vouched for the one vouches for the other.
+pub record Goes (R : State → Trace → State → Type 0) (open_failed : Bool) (old new : Run) (log log' : Option Trace) (vouched vouched' : Trace → Type 0) (faults faults' : Faults) : Type 0 where
+  pub added : Trace
+  pub does : R old.relay.state added new.relay.state
+  pub entries : counted new.entries 0 ≡ counted old.entries (length added)
+  pub list : Grew log log' added
+  pub told : (t : Trace) → last_time t ≡ old.relay.state.time → (last_time (t ++ added) ≡ new.relay.state.time) × (vouched t → vouched' (t ++ added))
+  pub heard : Heard faults faults' added open_failed

@@ -1,0 +1,90 @@
+-- The effect of each entry that may be put.
+use Rattle.std.proofs.Common.{◌≡◌, ℕ, zero, suc, ◌+◌, ◌*◌, ◌<◌, ◌≤◌, Bool, true, false, ◌&&◌, ◌||◌, not, ◌==◌, if◌then◌else◌, List, [], ◌∷◌, ◌++◌, length, Option, Some, None, ◌⊎◌, inl, inr, refl, sym, ◌∙◌, ap, subst, arith, slice_index_or, length-append}
+use Rattle.std.proofs.lemmas.Bool.{and_parts, or_left, eqb-true}
+use Rattle.std.proofs.lemmas.List.{length-set}
+use Rattle.ev_types.specs.declared.side.Side.{Side}
+use Rattle.ev_types.specs.declared.side.Side.TheVariants.{In, Out}
+use Rattle.ev_types.specs.declared.side.SideId.{SideId}
+use Rattle.ev_types.specs.declared.act.Act.{Act}
+use Rattle.ev_types.specs.declared.act.Act.TheVariants as act
+use Rattle.ev_types.specs.declared.answer.AskAnswer.{AskAnswer}
+use Rattle.ev_types.specs.declared.answer.AskAnswer.TheVariants as ask
+use Rattle.ev_types.specs.declared.answer.ConnAnswer.{ConnAnswer}
+use Rattle.ev_types.specs.declared.answer.ConnAnswer.TheVariants as conn
+use Rattle.ev_types.specs.declared.answer.ReadAnswer.{ReadAnswer}
+use Rattle.ev_types.specs.declared.answer.ReadAnswer.TheVariants as read
+use Rattle.ev_types.specs.declared.answer.WriteAnswer.{WriteAnswer}
+use Rattle.ev_types.specs.declared.answer.WriteAnswer.TheVariants as write
+use Rattle.ev_types.specs.declared.why.Cause.{Cause}
+use Rattle.ev_types.specs.declared.why.Why.TheVariants as why
+use Rattle.ev_types.specs.declared.entry.Entry.{Entry}
+use Rattle.ev_types.specs.declared.entry.Entry.TheVariants as entry
+use Rattle.ev_types.specs.Sides.{same_end, peer, number}
+use Rattle.ev_types.specs.Trace.{Event, Trace}
+use Rattle.relay_model.specs.Settings.{Settings}
+use Rattle.relay_model.specs.Plain.{Plain, PlainSide, side_at, put_side, change_side, is_live, freed}
+use Rattle.relay_model.specs.Past.{Past, past}
+use Rattle.relay_model.specs.Stages.{Stage, Fire, Serving, Firing, Freeing, Closing}
+use Rattle.relay_model.specs.Turn.{latest}
+use Rattle.relay_model.specs.Told.{begins_turn, opens_link, time_after, names, freed_by, is_freeing}
+use Rattle.relay_model.proofs.EndLemmas.{same_end-eq, same_end-refl, same_end-flip}
+use Rattle.relay_model.proofs.KeepsLemmas.{Keeps, Keeps-refl, Keeps-eq, Keeps-trans, Keeps-side, Keeps-length, change_side-same, change_side-other}
+use Rattle.relay_model.proofs.SeenLemmas.{Seen, seen}
+use Rattle.relay_model.proofs.EffectLemmas.{SideEffect, Effect, IsIdle, idle-still, fresh}
+
+-- an event that begins no turn and opens no link
+pub record IsPlainEvent (y : Event) : Type 0 where
+  pub turn : begins_turn y ≡ false
+  pub opens : opens_link y ≡ false
+  pub time : (n : ℕ) → time_after n y ≡ n
+
+add-none : (n : ℕ) (b : Bool) → b ≡ false → n ≡ (n + (if b then 1 else 0))
+add-none n true h = absurd (cc)
+add-none n false h = omega arith
+
+-- an entry behind which closing sees nothing new
+pub effect-keeps : (g : Settings) (x : Stage) (s : Plain) (y : Event) (after : Stage) (new : Plain) → Keeps seen s new → IsPlainEvent y → ((e : SideId) → IsIdle e y) →
+    ((e : SideId) → is_freeing after e ≡ false) → ((e : SideId) → is_freeing x e ≡ false) → ((e : SideId) → names e y ≡ true → e.link < s.opened) → Effect g x s y after new
+effect-keeps g x s y after new k p idle still before named = record {
+  time = k.time ∙ sym (p.time s.time);
+  rises = let h = k.time in omega arith;
+  until = λ h. subst (λ n. n ≤ latest) (sym k.time) h;
+  turn = k.turn ∙ add-none s.turn (begins_turn y) p.turn;
+  opened = k.opened ∙ add-none s.opened (opens_link y) p.opens;
+  links = λ h. let o = k.opened in omega arith;
+  sides = λ h. let o = k.opened in let l = Keeps-length seen s new k in omega arith;
+  flows = λ h. let o = k.opened in let l = k.flows in omega arith;
+  named = named;
+  each = λ e lt. idle-still e y after (seen (side_at s e)) (seen (side_at new e)) (idle e) (still e) (Keeps-side seen s new e k);
+  came = λ e h l. let o = k.opened in absurd (omega arith);
+  frees = λ e h. absurd (let b = before e in cc);
+}
+
+-- an entry by which one side changes
+pub effect-at : (g : Settings) (x : Stage) (s : Plain) (y : Event) (after : Stage) (new : Plain) (z : SideId) (changed : PlainSide) → Keeps seen (put_side z changed s) new → IsPlainEvent y →
+    length s.sides ≡ 2 * s.opened → z.link < s.opened → SideEffect z y after (seen (side_at s z)) (seen changed) →
+    ((e : SideId) → same_end z e ≡ false → IsIdle e y × (is_freeing after e ≡ false)) → ((e : SideId) → is_freeing x e ≡ false) →
+    ((e : SideId) → names e y ≡ true → e.link < s.opened) → Effect g x s y after new
+effect-at g x s y after new z changed k p size lt here others before named = record {
+  time = k.time ∙ sym (p.time s.time);
+  rises = let h = k.time in omega arith;
+  until = λ h. subst (λ n. n ≤ latest) (sym k.time) h;
+  turn = k.turn ∙ add-none s.turn (begins_turn y) p.turn;
+  opened = k.opened ∙ add-none s.opened (opens_link y) p.opens;
+  links = λ h. let o = k.opened in omega arith;
+  sides = λ h. let o = k.opened in let l = Keeps-length seen (put_side z changed s) new k in let m = length-set s.sides (number z) changed in omega arith;
+  flows = λ h. let o = k.opened in let l = k.flows in omega arith;
+  named = named;
+  each = λ e le. go e (same_end z e) refl;
+  came = λ e h l. let o = k.opened in absurd (omega arith);
+  frees = λ e h. absurd (let b = before e in cc);
+}
+  where
+    go : (e : SideId) (q : Bool) → same_end z e ≡ q → SideEffect e y after (seen (side_at s e)) (seen (side_at new e))
+    go e true q =
+        let there : seen (side_at new z) ≡ seen changed = Keeps-side seen (put_side z changed s) new z k ∙ ap seen (change_side-same z (λ _. changed) s size lt) in
+        subst (λ v. SideEffect v y after (seen (side_at s v)) (seen (side_at new v))) (same_end-eq z e q)
+        (subst (λ v. SideEffect z y after (seen (side_at s z)) v) (sym there) here)
+    go e false q =
+        let elsewhere : seen (side_at new e) ≡ seen (side_at s e) = Keeps-side seen (put_side z changed s) new e k ∙ ap seen (change_side-other z e (λ _. changed) s (same_end-flip z e false q)) in
+        idle-still e y after (seen (side_at s e)) (seen (side_at new e)) (others e q).0 (others e q).1 elsewhere

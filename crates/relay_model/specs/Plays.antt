@@ -1,0 +1,135 @@
+-- Which traces a run over a script has. A run is a list of steps: calls on a port, and what the relay does by itself. What
+-- the script answers to the steps is a trace; that the relay calls for these steps is said by Turn.
+use Rattle.std.specs.Prelude.{◌≡◌, ◌⊎◌, ℕ, ◌+◌, ◌<◌, ◌≤◌, min, max, ⊤, Bool, true, false, ◌&&◌, not, if◌then◌else◌, List, [], ◌∷◌, ◌++◌, length, map, fold, Option, MatchBool}
+use Rattle.std.specs.List.{flat_map, list_any, list_all}
+use Rattle.ev_types.specs.declared.side.SideId.{SideId}
+use Rattle.ev_types.specs.declared.entry.Entry.{Entry}
+use Rattle.ev_types.specs.declared.entry.Entry.TheVariants as entry
+use Rattle.ev_types.specs.Trace.{Event, Trace}
+use Rattle.relay_model.specs.Trace.{bytes_read}
+use Rattle.relay_model.specs.Rooms.{Want}
+use Rattle.relay_model.specs.Turn.{most_opened, latest}
+use Rattle.relay_model.specs.Answers.{TurnAnswer}
+use Rattle.relay_model.specs.RatesKept.{is_turn}
+use Rattle.relay_model.specs.Totals.{opened, opened_in_turn}
+use Rattle.relay_model.specs.Lines.{brings}
+use Rattle.relay_model.specs.Script.{Script, ScriptTurn, closing_step}
+use Rattle.relay_model.specs.Scripted.{reading, begun, lines, waiting, pending, poll_fails, marks, conn_answer, read_answer, write_answer}
+
+pub data Step : Type 0 where
+  Now : Step  -- the clock is read
+  Poll : Option ℕ → List Want → Step  -- with this timeout and these wants
+  Accept : Step
+  Check : SideId → Step  -- an end is asked for its state
+  Read : SideId → ℕ → Step  -- with this room
+  Write : SideId → List ℕ → Step  -- with these bytes
+  Own : Entry → Step  -- what no port answers: fires, asks and frees, and ends of writing and of ends
+
+-- the greatest time of a turn so far, or 0
+abbrev pub greatest_time : Trace → ℕ
+greatest_time [] = 0
+greatest_time ((entry.Turn ms, bytes) ∷ t) = max ms (greatest_time t)
+greatest_time (x ∷ t) = greatest_time t
+
+-- the time of a turn: the greatest reading so far, each cut at the latest time
+abbrev pub time_at : Trace → ℕ → ℕ
+time_at t reading = max (greatest_time t) (min reading latest)
+
+abbrev pub want_events : List Want → Trace
+want_events ws = map (λ w. (entry.Want w.side w.read w.write, [])) ws
+
+abbrev pub ready_events : List Want → Trace
+ready_events ws = map (λ w. (entry.Ready w.side w.read w.write, [])) ws
+
+-- The first link that waits is opened, with the next number. Where none waits nothing is told.
+abbrev pub accepted : ℕ → List Bool → Trace
+accepted link [] = []
+accepted link (undecided ∷ later) = (entry.Opened link (not undecided), []) ∷ []
+
+abbrev pub own_events : Entry → Trace
+own_events (entry.Fired side why) = (entry.Fired side why, []) ∷ []
+own_events (entry.Asked side act answer) = (entry.Asked side act answer, []) ∷ []
+own_events (entry.Freed side cause moved given) = (entry.Freed side cause moved given, []) ∷ []
+own_events (entry.CloseWrite side) = (entry.CloseWrite side, []) ∷ []
+own_events (entry.Close side) = (entry.Close side, []) ∷ []
+own_events _ = []
+
+-- what a step puts behind a trace
+abbrev pub events : List ScriptTurn → ℕ → Trace → Step → Trace
+events turns closing_by t Step.Now = (entry.Turn (time_at t (reading turns closing_by (begun turns t))), []) ∷ []
+events turns closing_by t (Step.Poll timeout wants) =
+    (entry.Poll timeout, []) ∷ want_events wants
+    ++ (if poll_fails turns t then (entry.PollFailed, []) ∷ [] else ready_events (marks turns t wants))
+events turns closing_by t Step.Accept = accepted (opened t) (waiting turns t)
+events turns closing_by t (Step.Check e) = (entry.Conn e (conn_answer turns t e), []) ∷ []
+events turns closing_by t (Step.Read e room) = (entry.Read e room (read_answer turns t e room).0, (read_answer turns t e room).1) ∷ []
+events turns closing_by t (Step.Write e offered) =
+    (entry.Write e (length offered) (write_answer turns t e offered).0, (write_answer turns t e offered).1) ∷ []
+events turns closing_by t (Step.Own x) = own_events x
+
+-- the trace of a list of steps
+abbrev pub trace_of : List ScriptTurn → ℕ → List Step → Trace
+trace_of turns closing_by steps = fold (λ t x. t ++ events turns closing_by t x) [] steps
+
+-- Every answer in a trace is the script's.
+abbrev pub IsAnswered : List ScriptTurn → ℕ → Trace → Type 0
+IsAnswered turns closing_by t = (steps : List Step) × (t ≡ trace_of turns closing_by steps)
+
+-- All links that wait are opened, or as many as a turn may open, or as many as may be opened in all.
+abbrev pub TookAll : List ScriptTurn → ℕ → Trace → Type 0
+TookAll turns links t = (waiting turns t ≡ []) ⊎ (opened_in_turn t ≡ most_opened) ⊎ (links ≤ opened t)
+
+-- does accepting end before an entry: serving and all behind it, and the next turn
+abbrev pub is_behind_accepting : Event → Bool
+is_behind_accepting (entry.Poll timeout, bytes) = false
+is_behind_accepting (entry.Want side read write, bytes) = false
+is_behind_accepting (entry.Ready side read write, bytes) = false
+is_behind_accepting (entry.PollFailed, bytes) = false
+is_behind_accepting (entry.Opened link connected, bytes) = false
+is_behind_accepting _ = true
+
+-- Wherever accepting has ended behind a trace, all was taken.
+abbrev pub AlwaysTookAll : List ScriptTurn → ℕ → Trace → Trace → Type 0
+AlwaysTookAll turns links before [] = ⊤
+AlwaysTookAll turns links before (x ∷ t) =
+    MatchBool (is_behind_accepting x) (TookAll turns links before) ⊤ × AlwaysTookAll turns links (before ++ x ∷ []) t
+
+-- What the answer of a run says of the turns that were begun, so many being planned. A run that went made all of them. A turn
+-- that went or stopped took all links; where a turn is refused as spent, the one before did, and one more was planned. A poll
+-- fails, and memory is wanting, in any turn. No accept fails.
+abbrev pub EndsPlayed : List ScriptTurn → ℕ → ℕ → TurnAnswer → Trace → Type 0
+EndsPlayed turns links planned TurnAnswer.Went t = (begun turns t ≡ planned) × TookAll turns links t
+EndsPlayed turns links planned (TurnAnswer.Stopped link) t = (begun turns t ≤ planned) × TookAll turns links t
+EndsPlayed turns links planned TurnAnswer.PollFault t = begun turns t ≤ planned
+EndsPlayed turns links planned TurnAnswer.OpenFault t = ⊥
+EndsPlayed turns links planned TurnAnswer.Spent t = (begun turns t < planned) × TookAll turns links t
+EndsPlayed turns links planned TurnAnswer.Memory t = begun turns t ≤ planned
+
+-- A trace is played from a script by a run with this answer. Its turns are those of the script, and so many closing turns
+-- behind them.
+pub record Plays (script : Script) (closing : ℕ) (answer : TurnAnswer) (t : Trace) : Type 0 where
+  pub answered : IsAnswered script.turns (closing_step script.settings) t
+  pub took_all : AlwaysTookAll script.turns script.settings.links [] t
+  pub turns : EndsPlayed script.turns script.settings.links (length script.turns + closing) answer t
+
+-- What a script answers to one step more, it answers.
+abbrev pub AnswersGoOn : Type 0
+AnswersGoOn = (turns : List ScriptTurn) (closing_by : ℕ) (t : Trace) → IsAnswered turns closing_by t →
+    (x : Step) → IsAnswered turns closing_by (t ++ events turns closing_by t x)
+
+-- Wherever every answer is a script's, what was read from an end and what is pending there is what the script brought in.
+abbrev pub ReadsWhatComes : Type 0
+ReadsWhatComes = (turns : List ScriptTurn) (closing_by : ℕ) (t : Trace) (e : SideId) → IsAnswered turns closing_by t →
+    bytes_read e t ++ pending turns t e ≡ flat_map (brings e) (lines turns t)
+
+-- is it an entry of a turn behind accepting
+abbrev pub is_served : Event → Bool
+is_served x = is_behind_accepting x && not (is_turn x)
+
+-- A turn whose entries up to accepting stand before those behind it, as in every legal trace, keeps what is asked of all turns
+-- before it where all was taken as it began and as it ends; or as it began, where it is cut off before accepting has ended.
+abbrev pub TurnTakesAll : Type 0
+TurnTakesAll = (turns : List ScriptTurn) (links : ℕ) (t : Trace) (ms : ℕ) (accepting behind : Trace) →
+    AlwaysTookAll turns links [] t → TookAll turns links t → list_any is_behind_accepting accepting ≡ false → list_all is_served behind ≡ true →
+    (behind ≡ []) ⊎ TookAll turns links (t ++ (entry.Turn ms, []) ∷ (accepting ++ behind)) →
+    AlwaysTookAll turns links [] (t ++ (entry.Turn ms, []) ∷ (accepting ++ behind))

@@ -1,0 +1,11 @@
+use Rattle.relay_rows.proofs.RateRowsReplayed.{suspended_for_two_ticks-goes, read_in_ticks-goes, shared_by_three-goes}
+use Rattle.relay_rows.proofs.runs.runs_with_limits_are_legal.Goals as goal
+
+pub returns-clause-read_in_ticks : goal.returns-clause-read_in_ticks
+returns-clause-read_in_ticks c = read_in_ticks-goes
+
+pub returns-clause-shared_by_three : goal.returns-clause-shared_by_three
+returns-clause-shared_by_three c = shared_by_three-goes
+
+pub returns-clause-suspended_for_two_ticks : goal.returns-clause-suspended_for_two_ticks
+returns-clause-suspended_for_two_ticks c = suspended_for_two_ticks-goes

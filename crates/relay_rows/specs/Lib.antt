@@ -1,0 +1,16 @@
+pub mod Same
+pub mod Put
+pub mod Quiet
+pub mod Replay
+pub mod Laws
+pub mod RowWords
+pub mod PlainRows
+pub mod FilterRows
+pub mod HookRows
+pub mod RateRows
+pub mod EdgeRows
+pub mod AskRows
+pub mod ReasonRows
+pub mod Wrong
+pub mod WrongRows
+pub mod WrongEdges

@@ -1,0 +1,38 @@
+-- The definitions at a few worked values, so that a wrong rule in them does not check.
+use Rattle.std.proofs.Common.{◌≡◌, ℕ, List, [], ◌∷◌, ◌++◌, false, refl, None, Some, Ok, Err, codes}
+use Rattle.hex.specs.Hex.{decode_pairs}
+use Rattle.ev_types.specs.declared.side.Side.TheVariants.{In, Out}
+use Rattle.ev_types.specs.declared.side.SideId.{SideId}
+use Rattle.script_text.specs.declared.script.TurnLine.TheVariants.{NewLink, Pending, Eof, Take}
+use Rattle.script_text.specs.Pieces.{lines, words}
+use Rattle.script_text.specs.Numbers.{number_within, bytes_of}
+use Rattle.script_text.specs.Spelled.{script_of}
+
+-- lines, each with its LF
+abbrev text : List (List ℕ) → List ℕ
+text [] = []
+text (line ∷ more) = line ++ 10 ∷ text more
+
+abbrev in_end : SideId
+in_end = record { link = 0; side = In }
+
+abbrev out_end : SideId
+out_end = record { link = 0; side = Out }
+
+pub known_pieces : (lines (codes "a" ++ 10 ∷ 10 ∷ codes "b") ≡ codes "a" ∷ [] ∷ codes "b" ∷ []) × (lines (10 ∷ []) ≡ [] ∷ []) × (lines [] ≡ []) × (words (codes "  at  5 ") ≡ codes "at" ∷ codes "5" ∷ [])
+known_pieces = (refl, refl, refl, refl)
+
+pub known_numbers : (number_within 9 (codes "0") ≡ Some 0) × (number_within 99 (codes "90") ≡ Some 90) × (number_within 89 (codes "90") ≡ None) × (number_within 99 (codes "09") ≡ None) × (number_within 99 (codes "+9") ≡ None) × (number_within 99 [] ≡ None)
+known_numbers = (refl, refl, refl, refl, refl, refl)
+
+pub known_script : script_of (text (codes "at 5" ∷ codes "open" ∷ codes "w 0 out all" ∷ codes "r 0 in 61fF" ∷ codes "at 3" ∷ codes "eof 0 in" ∷ []))
+    ≡ Ok (record { turns = (5, NewLink false ∷ Take out_end None ∷ Pending in_end (97 ∷ 255 ∷ []) ∷ []) ∷ (3, Eof in_end ∷ []) ∷ [] })
+unfolding decode_pairs
+known_script = refl
+
+-- a line before any turn, an empty line, a second link, bytes of an end that was ended
+pub known_bad : (script_of (text (codes "open" ∷ [])) ≡ Err 1) × (script_of (text (codes "at 5" ∷ [] ∷ codes "x" ∷ [])) ≡ Err 2)
+    × (script_of (text (codes "at 5" ∷ codes "open" ∷ codes "open" ∷ [])) ≡ Err 3)
+    × (script_of (text (codes "at 5" ∷ codes "open" ∷ codes "eof 0 in" ∷ codes "r 0 in 61" ∷ [])) ≡ Err 4)
+unfolding decode_pairs
+known_bad = (refl, refl, refl, refl)

@@ -1,0 +1,22 @@
+// The laws of lines, words and numbers, each on a function whose contract it is.
+ghost use Rattle.script_text.specs.Laws.{LinesAreParted, PhraseHasItsWords, NumbersAreDecimal, RefusedAtFirstBad};
+
+/// A text of lines, each with its LF, has these lines; the last may lack its LF.
+pub fn lines_are_parted()
+    ensures { LinesAreParted }
+{}
+
+/// Words with a single space between two are the words of that line.
+pub fn phrase_has_its_words()
+    ensures { PhraseHasItsWords }
+{}
+
+/// A word spells a number exactly where it is how that number is written.
+pub fn numbers_are_decimal()
+    ensures { NumbersAreDecimal }
+{}
+
+/// A text is refused at the first line that can't stand behind those before it.
+pub fn refused_at_first_bad()
+    ensures { RefusedAtFirstBad }
+{}

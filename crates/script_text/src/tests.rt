@@ -1,0 +1,3 @@
+// Tables of what no clause says.
+mod read;
+mod write;
