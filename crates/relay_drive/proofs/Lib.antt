@@ -2,3 +2,4 @@ pub mod GoesLemmas
 pub mod HeardLemmas
 pub mod EachLemmas
 pub mod ClosingLemmas
+pub mod PollLemmas

@@ -99,9 +99,12 @@ OpensSome (suc n) s a new = Then (OpensSome n) OpensOne s a new
 abbrev pub Accepts : State → Trace → State → Type 0
 Accepts s a new = (n : ℕ) × (n ≤ 64) × OpensSome n s a new
 
+abbrev pub AcceptsWhere : Bool → State → Trace → State → Type 0
+AcceptsWhere ready s a new = MatchBool ready (Accepts s a new) (Nothing s a new)
+
 -- the poll, and links where they are ready
 abbrev pub PollsAndAccepts : List Want → State → Trace → State → Type 0
-PollsAndAccepts marked s a new = (accept : Bool) × Then (Polls marked accept) (λ s' a' new'. MatchBool accept (Accepts s' a' new') (Nothing s' a' new')) s a new
+PollsAndAccepts marked s a new = (ready : Bool) × Then (Polls marked ready) (AcceptsWhere ready) s a new
 
 -- accepting was refused behind a poll
 abbrev pub CutAccepting : DriveFault → State → Trace → State → Type 0
