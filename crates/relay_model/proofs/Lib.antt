@@ -63,3 +63,4 @@ pub mod CauseLemmas
 pub mod GrownLemmas
 pub mod BadSteps
 pub mod TotalLemmas
+pub mod LeftLemmas

@@ -18,7 +18,7 @@ use Rattle.relay_model.specs.Plain.{Plain, side_at, flow_at, is_live}
 use Rattle.relay_model.specs.Past.{past}
 use Rattle.relay_model.specs.Rooms.{read_filter, write_filter, wants, output_length}
 use Rattle.relay_model.specs.Moments.{timeout_of, last_activity}
-use Rattle.relay_model.specs.Close.{CloseStep, fault}
+use Rattle.relay_model.specs.Close.{CloseStep, fault, is_complete}
 use Rattle.relay_model.specs.Stages.{Stage, at}
 use Rattle.relay_model.specs.Turn.{turned_to, Reaches, IsLegal}
 use Rattle.relay_model.specs.RatesKept.{is_turn}
@@ -98,3 +98,15 @@ FreesHaveCauses = (g : Settings) (t before after : Trace) (e : SideId) (why : Ca
 abbrev pub FaultsAreFreed : Type 0
 FaultsAreFreed = (g : Settings) (t : Trace) (s : Plain) (e : SideId) → Reaches g t (at Stage.Between s) →
     e.link < s.opened → is_live s e ≡ true → fault (side_at s e) ≡ None
+
+-- What is left to do at a side of an opened link, and at the link.
+pub record NothingLeft (g : Settings) (t : Trace) (s : Plain) (e : SideId) : Type 0 where
+  pub writing : is_live s e ≡ true → is_live s (peer e) ≡ true → is_complete g (past g t) s (peer e) ≡ true → (side_at s e).connecting ≡ false → (side_at s e).write_ended ≡ true
+  pub done : is_live s e ≡ true → is_live s (peer e) ≡ true → (side_at s e).write_ended ≡ true → (side_at s (peer e)).write_ended ≡ false
+  pub peer_gone : is_live s e ≡ true → is_live s (peer e) ≡ false → 1 ≤ output_length g (past g t) s e
+  pub shut : is_live s e ≡ false → (side_at s e).closed ≡ true
+
+-- Between turns nothing is left: writing was ended behind each whole direction of two live sides, a link whose writing was ended
+-- at both ends was freed, a live side whose peer is gone has bytes that it may still be given, and each freed side's end was closed.
+abbrev pub NothingIsLeft : Type 0
+NothingIsLeft = (g : Settings) (t : Trace) (s : Plain) (e : SideId) → Reaches g t (at Stage.Between s) → e.link < s.opened → NothingLeft g t s e

@@ -1,5 +1,5 @@
 // The laws that every legal trace obeys, each on a function whose contract it is.
-ghost use Rattle.relay_model.specs.Causes.{FaultsAreFreed, FreesHaveCauses};
+ghost use Rattle.relay_model.specs.Causes.{FaultsAreFreed, FreesHaveCauses, NothingIsLeft};
 ghost use Rattle.relay_model.specs.Quiet.{LegalIsQuiet};
 ghost use Rattle.relay_model.specs.Told.{FreesTellTotals, LinksInOrder, StateIsTold, TimeRises};
 
@@ -36,4 +36,10 @@ pub fn frees_have_causes()
 /// Between turns no live side has failed, timed out or met a bad place: closing freed each of them.
 pub fn faults_are_freed()
     ensures { FaultsAreFreed }
+{}
+
+/// Between turns closing has nothing left to do: whole directions were ended, done links and sides with no use were freed,
+/// and each freed side's end was closed.
+pub fn nothing_is_left()
+    ensures { NothingIsLeft }
 {}
