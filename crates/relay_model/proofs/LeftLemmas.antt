@@ -1,69 +1,41 @@
 -- What closing has still to look at, each thing for itself, and that between turns nothing is left.
 use Rattle.relay_model.proofs.TraceLemmas.{bytes_read-push}
-use Rattle.std.proofs.Common.{eq-eqb, ◌≡◌, ℕ, zero, suc, ◌+◌, ◌*◌, ◌<◌, ◌≤◌, Bool, true, false, ◌&&◌, ◌||◌, not, ◌==◌, if◌then◌else◌, List, [], ◌∷◌, ◌++◌, length, Option, Some, None, ◌⊎◌, inl, inr, refl, sym, ◌∙◌, ap, subst, arith, slice_index_or, length-append, length-set, append_assoc}
-use Rattle.std.specs.Prelude.{nat_le, option_map, ⊤, is_some}
-use Rattle.std.specs.List.{AllByRecursion, list_any, list_all}
-use Rattle.std.proofs.lemmas.Bool.{and_parts, and_from, and_right, or_parts, or_from, or_left, or_right, eqb-true, not-true, cases_order, cases_lt, or_cases}
-use Rattle.std.proofs.lemmas.List.{append-nil, get_or_append_left, get_or-append-add}
+use Rattle.std.proofs.Common.{eq-eqb, ◌≡◌, ℕ, zero, suc, ◌+◌, ◌<◌, ◌≤◌, Bool, true, false, ◌&&◌, ◌||◌, not, ◌==◌, List, [], ◌∷◌, ◌++◌, length, None, ◌⊎◌, inl, inr, refl, sym, ◌∙◌, ap, subst, arith}
+use Rattle.std.specs.Prelude.{⊤}
+use Rattle.std.specs.List.{list_any}
+use Rattle.std.proofs.lemmas.Bool.{and_from, or_parts, or_from, or_left, or_right, eqb-true, not-true, cases_order, or_cases}
+use Rattle.std.proofs.lemmas.List.{append-nil}
 use Rattle.ev_types.specs.declared.side.Side.{Side}
 use Rattle.ev_types.specs.declared.side.Side.TheVariants.{In, Out}
 use Rattle.ev_types.specs.declared.side.SideId.{SideId}
-use Rattle.ev_types.specs.declared.act.Act.{Act}
-use Rattle.ev_types.specs.declared.answer.AskAnswer.{AskAnswer}
-use Rattle.ev_types.specs.declared.answer.ConnAnswer.{ConnAnswer}
-use Rattle.ev_types.specs.declared.answer.ReadAnswer.{ReadAnswer}
-use Rattle.ev_types.specs.declared.answer.WriteAnswer.{WriteAnswer}
-use Rattle.ev_types.specs.declared.why.Cause.{Cause}
-use Rattle.ev_types.specs.declared.why.Why.{Why}
 use Rattle.ev_types.specs.declared.entry.Entry.{Entry}
-use Rattle.ev_types.specs.Sides.{same_end, peer, number, half}
+use Rattle.ev_types.specs.Sides.{same_end, peer}
 use Rattle.ev_types.specs.Trace.{Event, Trace}
 use Rattle.relay_model.specs.Settings.{Settings}
 use Rattle.relay_model.specs.Trace.{read_by, bytes_read, ended_by, write_closed_by}
-use Rattle.relay_model.specs.Reasons.{happened, end_flag, error_flag}
-use Rattle.relay_model.specs.Due.{Reason, without_due}
-use Rattle.relay_model.specs.Flow.{Flow, no_flow}
-use Rattle.relay_model.specs.Plain.{flow_at, Plain, PlainSide, no_side, new_side, with_link, all_sides, side_at, put_side, change_side, is_live, freed, without_timer}
+use Rattle.relay_model.specs.Plain.{flow_at, Plain, side_at, is_live}
 use Rattle.relay_model.specs.Past.{Past, past}
-use Rattle.relay_model.specs.Rooms.{raw_input_at, input_at, output_at, raw_output_at, Want, wanted, is_connecting, may_read, may_write, read_room, write_room, output_length}
-use Rattle.relay_model.specs.Asks.{Ask}
-use Rattle.relay_model.specs.Moments.{time_passed}
-use Rattle.relay_model.specs.Serve.{Call, call_for, marks_left, after_got, after_conn, after_read, after_write, CarriesTook, CarriesGot}
-use Rattle.relay_model.specs.Close.{CloseStep, closing_of, closing_from, fault, freed_entry, entry_where, closing_entry, closed_by, steps_left, is_complete}
-use Rattle.relay_model.specs.Stages.{Stage, Fire, State, at, Between, Polling, Wanting, Marking, Accepting, Serving, Filtering, Dispatching, Firing, Freeing, Passing, Closing, Over, Halt, begun, after_ask}
-use Rattle.relay_model.specs.Turn.{turned_to, after_reading, after_fire, Puts, Quietly, Reaches, latest}
-use Rattle.relay_model.specs.Told.{names, freed_by, is_freed, failed_by, end_closed_by, is_freeing}
-use Rattle.relay_model.proofs.EndLemmas.{peer-peer, same_end-eq, same_end-refl, same_end-flip, number-lt}
-use Rattle.relay_model.proofs.KeepsLemmas.{Keeps, Keeps-refl, Keeps-eq, Keeps-trans, Keeps-side, Keeps-length, Keeps-raise, Keeps-raise_write, Keeps-flow, Keeps-put, change_side-same, change_side-other}
-use Rattle.relay_model.proofs.SeenLemmas.{Seen, seen, but_bad, but_expired, time_passed-keeps}
-use Rattle.relay_model.proofs.EffectLemmas.{SideEffect, Effect, IsIdle, idle-still, fresh, or_no, or_yes, and_no, and_yes}
-use Rattle.relay_model.proofs.PlacedLemmas.{Placed, live-there, room-read, room-write, may_read-parts, may_write-live, connecting-live, AllLive, AllOpened, link_of}
-use Rattle.relay_model.proofs.AskLemmas.{Frees, GoesOn, ask-outcome}
-use Rattle.relay_model.specs.Round.{Part, do_part, round_parts}
-use Rattle.relay_model.specs.Quiet.{is_within_fire}
+use Rattle.relay_model.specs.Rooms.{raw_input_at, input_at, output_at, raw_output_at, output_length}
+use Rattle.relay_model.specs.Close.{CloseStep, closing_of, closing_from, freed_entry, entry_where, closing_entry, closed_by, steps_left, is_complete}
+use Rattle.relay_model.specs.Stages.{Stage, State, at, Between, Closing}
+use Rattle.relay_model.specs.Turn.{after_reading, Reaches}
+use Rattle.relay_model.specs.Told.{freed_by, end_closed_by, is_freeing}
+use Rattle.relay_model.proofs.EndLemmas.{peer-peer, same_end-eq, same_end-refl}
+use Rattle.relay_model.proofs.KeepsLemmas.{Keeps, Keeps-side, Keeps-put}
+use Rattle.relay_model.proofs.SeenLemmas.{Seen, seen}
+use Rattle.relay_model.proofs.EffectLemmas.{SideEffect, Effect, or_no}
 use Rattle.std.proofs.lemmas.Bool.{and_from}
-use Rattle.std.proofs.lemmas.List.Folds.{list_all-append, list_any-append}
-use Rattle.relay_model.proofs.SplitLemmas.{IsLast, IsEarlier, pushed_split}
-use Rattle.relay_model.proofs.FireLemmas.{is_open_stage, QuietKind, quiet-kind, InRun, Runs, put-runs, quiet-runs, reading-open}
-use Rattle.relay_model.proofs.ToldLemmas.{Kept, kept, list_any-push}
-use Rattle.relay_model.proofs.StageLemmas.{Silent, quiet-silent, closed-opened}
-use Rattle.relay_model.specs.Causes.{NothingLeft, NothingIsLeft}
-use Rattle.relay_model.proofs.HeldLemmas.{Held, held, IsDone, FirstReady, DoneReady}
-use Rattle.relay_model.proofs.StepLemmas.{put-effect, conn-live, CalledRead, read-called, CalledWrite, write-called}
-use Rattle.relay_model.proofs.FaultLemmas.{is_faulty, not-faulty, looks_at, FaultsAwait, Awaits, open-awaits, looked-for, closed-fails, rest, steps-looked, old-faulty, was-live}
+use Rattle.std.proofs.lemmas.List.Folds.{list_any-append}
+use Rattle.relay_model.proofs.FireLemmas.{is_open_stage, QuietKind, quiet-kind, reading-open}
+use Rattle.relay_model.proofs.ToldLemmas.{kept}
+use Rattle.relay_model.proofs.StageLemmas.{closed-opened}
+use Rattle.relay_model.specs.Causes.{NothingIsLeft}
+use Rattle.relay_model.proofs.HeldLemmas.{held, FirstReady, DoneReady}
+use Rattle.relay_model.proofs.StepLemmas.{put-effect}
+use Rattle.relay_model.proofs.FaultLemmas.{rest, was-live}
 use Rattle.relay_model.proofs.KindLemmas.{ClosedKind, closed-kind, PutKind, put-kind}
-use Rattle.relay_model.proofs.CloseCases.{where_parts, faulty_parts}
-use Rattle.relay_model.proofs.PutLemmas.{IsPlainEvent, effect-keeps, effect-at}
-use Rattle.relay_model.specs.RatesKept.{is_turn}
-use Rattle.ev_types.specs.declared.act.Act.TheVariants as act
-use Rattle.ev_types.specs.declared.answer.AskAnswer.TheVariants as ask
-use Rattle.ev_types.specs.declared.answer.ConnAnswer.TheVariants as conn
-use Rattle.ev_types.specs.declared.answer.ReadAnswer.TheVariants as read
-use Rattle.ev_types.specs.declared.answer.WriteAnswer.TheVariants as write
 use Rattle.ev_types.specs.declared.why.Cause.TheVariants as cause
-use Rattle.ev_types.specs.declared.why.Why.TheVariants as why
 use Rattle.ev_types.specs.declared.entry.Entry.TheVariants as entry
-use Rattle.token_bucket.specs.declared.limit.Dir.TheVariants as dir
 
 -- Which step is which
 
@@ -113,18 +85,33 @@ closing-followed k (suc left) =
     let b = eq-eqb k k refl in
     let shut_in : (rest : Bool) → (same_end (in_of k) (in_of k) || rest) ≡ true = λ rest. or_left (same_end (in_of k) (in_of k)) rest i in
     let shut_out : (first rest : Bool) → (first || (same_end (out_of k) (out_of k) || rest)) ≡ true =
-        λ first rest. or_right first (same_end (out_of k) (out_of k) || rest) (or_left (same_end (out_of k) (out_of k)) rest o) in
+    λ first rest. or_right first (same_end (out_of k) (out_of k) || rest) (or_left (same_end (out_of k) (out_of k)) rest o) in
     let out_first : (rest : Bool) → (same_end (out_of k) (out_of k) || rest) ≡ true = λ rest. or_left (same_end (out_of k) (out_of k)) rest o in
-    let join : (rest : Bool) → ((k == k) || rest) ≡ true = λ rest. or_left (k == k) rest b in
-    ((shut_in _, shut_out _ _),
-    ((shut_out _ _, shut_in _),
-    (join _,
-    (join _,
-    ((shut_in _, shut_out _ _, shut_out _ _),
-    (shut_in _,
-    (shut_out _ _,
-    (tt,
-    (tt, closing-followed (k + 1) left)))))))))
+    let join : (rest : Bool) → ((k == k) || rest) ≡ true = λ rest. or_left (k == k) rest b in (
+      (shut_in _, shut_out _ _),
+      (
+        (shut_out _ _, shut_in _),
+        (
+          join _,
+          (
+            join _,
+            (
+              (shut_in _, shut_out _ _, shut_out _ _),
+              (
+                shut_in _,
+                (
+                  shut_out _ _,
+                  (
+                    tt,
+                    (tt, closing-followed (k + 1) left),
+                  ),
+                ),
+              ),
+            ),
+          ),
+        ),
+      ),
+    )
 
 -- what closing of a link looks at stands in the whole list
 found : (p : CloseStep → Bool) (n k left : ℕ) → Has p (closing_of n) → k ≤ n → n < k + left → Has p (closing_from k left)
@@ -281,13 +268,15 @@ quiet-left g t s x new h (QuietKind.moved next a) = open-left g t next s a
 quiet-left g t s x new h (QuietKind.filtered) = tt
 quiet-left g t s x new h (QuietKind.dispatched) = tt
 quiet-left g t s x new h (QuietKind.passed) = tt
-quiet-left g t s x new h (QuietKind.closes) =
-    (closing-followed 0 s.opened, λ e lt. record {
-      shut = λ a b. found (shuts e) e.link 0 s.opened (all-shut e) (omega arith) (omega arith);
-      gone = λ a b d. found (leaves e) e.link 0 s.opened (all-leave e) (omega arith) (omega arith);
-      done = λ a b d f. found (joins e.link) e.link 0 s.opened (all-join e.link) (omega arith) (omega arith);
-      writing = λ a b d f i. found (ends e) e.link 0 s.opened (all-end e) (omega arith) (omega arith);
-    })
+quiet-left g t s x new h (QuietKind.closes) = (
+  closing-followed 0 s.opened,
+  λ e lt. record {
+    shut = λ a b. found (shuts e) e.link 0 s.opened (all-shut e) (omega arith) (omega arith);
+    gone = λ a b d. found (leaves e) e.link 0 s.opened (all-leave e) (omega arith) (omega arith);
+    done = λ a b d f. found (joins e.link) e.link 0 s.opened (all-join e.link) (omega arith) (omega arith);
+    writing = λ a b d f i. found (ends e) e.link 0 s.opened (all-end e) (omega arith) (omega arith);
+  },
+)
 quiet-left g t s x new h (QuietKind.looked {c = c} {cs = cs} a) = (h.0.1, λ e lt. looked-left g t s c cs e a (h.1 e lt))
 quiet-left g t s x new h (QuietKind.over) = h.1
 
@@ -322,7 +311,7 @@ complete-same g p q s new e reads flows ended =
     ap (λ r. is_complete g (record q { read = r }) new e) reads
     ∙ ap (λ f. is_complete g p (record new { flows = f }) e) flows
     ∙ ap (λ b. b && (flow_at s e).write_done && length (raw_input_at p s e) == 0 && length (input_at g p s e) == 0
-        && length (output_at g p s (peer e)) == 0 && length (raw_output_at g p s (peer e)) == 0) ended
+    && length (output_at g p s (peer e)) == 0 && length (raw_output_at g p s (peer e)) == 0) ended
 
 -- what each step does, as the events tell it
 record StepTells (c : CloseStep) (y : Event) (s : Plain) (cs : List CloseStep) : Type 0 where
@@ -511,10 +500,12 @@ put-left g t s x y new ready k h (PutKind.frees a same) = tt
 put-left g t s x y new ready k h (PutKind.asked same m l) = tt
 put-left g t s x y new ready k h (PutKind.recorded) = tt
 put-left g t s x y new ready k h (PutKind.closed {c = c} {cs = cs} {e = z} a) =
-    let tells = step-tells g (past g t) s c cs z h.0.0 ready.0 (closed-kind g (past g t) s c z a) in
-    (followed-left c cs h.0, λ e lt.
-        let old : e.link < s.opened = subst (λ n. e.link < n) (closed-opened c s) lt in
-        closed-left g t s c cs (z, []) e (k.each e old) (k.each (peer e) old) tells (h.1 e old))
+    let tells = step-tells g (past g t) s c cs z h.0.0 ready.0 (closed-kind g (past g t) s c z a) in (
+      followed-left c cs h.0,
+      λ e lt.
+          let old : e.link < s.opened = subst (λ n. e.link < n) (closed-opened c s) lt in
+          closed-left g t s c cs (z, []) e (k.each e old) (k.each (peer e) old) tells (h.1 e old),
+    )
 
 lefts : (g : Settings) (t : Trace) (s : State) → Reaches g t s → Lefts g t s.stage s.plain
 lefts g t s (Reaches.begins) = λ e lt. absurd (omega arith)
