@@ -1,5 +1,5 @@
 -- What is done for each of a list, step by step.
-use Rattle.std.proofs.Common.{◌≡◌, ℕ, zero, suc, ◌+◌, ◌<◌, ◌≤◌, Bool, true, false, ◌||◌, List, [], ◌∷◌, ◌++◌, length, take, drop, get_or, Option, refl, sym, ◌∙◌, ap, subst, arith, append_assoc, append-nil, drop-cons, add-one}
+use Rattle.std.proofs.Common.{◌≡◌, ℕ, zero, suc, ◌+◌, ◌-◌, ◌<◌, ◌≤◌, Bool, true, false, ◌||◌, List, [], ◌∷◌, ◌++◌, length, take, drop, get_or, Option, refl, sym, ◌∙◌, ap, subst, arith, append_assoc, append-nil, drop-cons, add-one}
 use Rattle.std.proofs.Math.Seq.{take-suc}
 use Rattle.std.proofs.lemmas.List.{take-append-drop}
 use Rattle.ev_types.specs.Trace.{Trace}
@@ -7,6 +7,7 @@ use Rattle.ev_port.specs.Told.{Faults}
 use Rattle.relay_core.specs.State.{State}
 use Rattle.relay_drive.specs.declared.run.Run.{Run}
 use Rattle.relay_drive.specs.Steps.{Nothing, Then, Each, CutAt}
+use Rattle.relay_drive.specs.Phases.{links_from}
 use Rattle.relay_drive.specs.Goes.{Goes}
 use Rattle.relay_drive.proofs.GoesLemmas.{goes_as, goes_then}
 
@@ -41,7 +42,7 @@ each_push R [] x h = record { middle = _; front = _; back = []; first = nothing_
 each_push R (y ∷ ys) x h =
     let r = then_right h in record { middle = r.middle; front = r.front; back = r.back; first = r.first; second = each_push R ys x r.second; joined = r.joined }
 
-taken_next : {X : Type 0} (xs : List X) (i : ℕ) (d : X) → i < length xs → take (i + 1) xs ≡ take i xs ++ get_or xs i d ∷ []
+pub taken_next : {X : Type 0} (xs : List X) (i : ℕ) (d : X) → i < length xs → take (i + 1) xs ≡ take i xs ++ get_or xs i d ∷ []
 taken_next xs i d h = rw add-one (take-suc xs i d h)
 
 pub goes_next : {X : Type 0} (R : X → State → Trace → State → Type 0) {old mid new : Run} {l m n : Option Trace} {v w x : Trace → Type 0} {f g h : Faults} (xs : List X) (i : ℕ) (d : X) → i < length xs →
@@ -52,3 +53,41 @@ pub goes_cut : {X : Type 0} (R Cut : X → State → Trace → State → Type 0)
     Goes (Each R (take i xs)) false old mid l m v w f g → Goes (Cut (get_or xs i d)) false mid new m n w x g h → Goes (CutAt R Cut xs) false old new l n v x f h
 goes_cut R Cut xs i d lt a b =
     goes_as (λ t p. record { front = take i xs; last = get_or xs i d; back = drop (i + 1) xs; all = sym (take-append-drop i xs) ∙ ap (λ z. take i xs ++ z) (rw add-one (drop-cons xs i d lt)); went = p }) (goes_then a b)
+
+-- Links by their numbers
+
+links_from-suc : (k n : ℕ) → links_from k (suc n) ≡ links_from k n ++ (k + n) ∷ []
+links_from-suc k zero = let e : k ≡ k + 0 = omega arith in ap (λ m. m ∷ []) e
+links_from-suc k (suc n) =
+    let e : (k + 1) + n ≡ k + suc n = omega arith in
+    ap (λ z. k ∷ z) (links_from-suc (k + 1) n ∙ ap (λ m. links_from (k + 1) n ++ m ∷ []) e)
+
+pub links_from-push : (n : ℕ) → links_from 0 (n + 1) ≡ links_from 0 n ++ n ∷ []
+links_from-push n =
+    let a : n + 1 ≡ suc n = omega arith in
+    let b : 0 + n ≡ n = omega arith in
+    ap (links_from 0) a ∙ links_from-suc 0 n ∙ ap (λ m. links_from 0 n ++ m ∷ []) b
+
+links_from-split : (k n m : ℕ) → links_from k (n + m) ≡ links_from k n ++ links_from (k + n) m
+links_from-split k zero m =
+    let a : zero + m ≡ m = omega arith in
+    let b : k ≡ k + zero = omega arith in
+    ap (links_from k) a ∙ ap (λ z. links_from z m) b
+links_from-split k (suc n) m =
+    let a : suc n + m ≡ suc (n + m) = omega arith in
+    let b : (k + 1) + n ≡ k + suc n = omega arith in
+    ap (links_from k) a ∙ ap (λ z. k ∷ z) (links_from-split (k + 1) n m ∙ ap (λ z. links_from (k + 1) n ++ links_from z m) b)
+
+pub links_next : (i n : ℕ) → i < n → links_from 0 n ≡ links_from 0 i ++ i ∷ links_from (i + 1) (n - (i + 1))
+links_next i n h =
+    let a : n ≡ i + suc (n - (i + 1)) = omega arith in
+    let b : 0 + i ≡ i = omega arith in
+    ap (links_from 0) a ∙ links_from-split 0 i (suc (n - (i + 1))) ∙ ap (λ z. links_from 0 i ++ links_from z (suc (n - (i + 1)))) b
+
+pub goes_link : (R : ℕ → State → Trace → State → Type 0) {old mid new : Run} {l m n : Option Trace} {v w x : Trace → Type 0} {f g h : Faults} (i : ℕ) →
+    Goes (Each R (links_from 0 i)) false old mid l m v w f g → Goes (R i) false mid new m n w x g h → Goes (Each R (links_from 0 (i + 1))) false old new l n v x f h
+goes_link R {old = old} {new = new} i a b = goes_as (λ t p. subst (λ z. Each R z old.relay.state t new.relay.state) (sym (links_from-push i)) (each_push R (links_from 0 i) i p)) (goes_then a b)
+
+pub goes_link_cut : (R Cut : ℕ → State → Trace → State → Type 0) {old mid new : Run} {l m n : Option Trace} {v w x : Trace → Type 0} {f g h : Faults} (i k : ℕ) → i < k →
+    Goes (Each R (links_from 0 i)) false old mid l m v w f g → Goes (Cut i) false mid new m n w x g h → Goes (CutAt R Cut (links_from 0 k)) false old new l n v x f h
+goes_link_cut R Cut i k lt a b = goes_as (λ t p. record { front = links_from 0 i; last = i; back = links_from (i + 1) (k - (i + 1)); all = links_next i k lt; went = p }) (goes_then a b)

@@ -96,3 +96,18 @@ goes_silent {old = old} {new = new} {v = v} {v' = v'} s n list told heard = reco
 pub goes_nowhere : {old new : Run} {l l' : Option Trace} {v : Trace → Type 0} {f : Faults} → new.relay.state ≡ old.relay.state → new.entries ≡ old.entries → Grew l l' [] →
     Goes Nothing false old new l l' v v f f
 goes_nowhere {v = v} {f = f} s n list = goes_silent s n list (λ t k. subst v (sym (append-nil t)) k) (Heard-none f)
+
+-- the relay alone changed
+pub goes_within : {R : State → Trace → State → Type 0} {old new : Run} (l : Option Trace) (v : Trace → Type 0) (f : Faults) → R old.relay.state [] new.relay.state → new.relay.state.time ≡ old.relay.state.time → new.entries ≡ old.entries →
+    Goes R false old new l l v v f f
+goes_within l v f does time n = record {
+  added = [];
+  does = does;
+  entries = omega (arith, n);
+  list = Grew-none l;
+  told = λ t e. (ap last_time (append-nil t) ∙ e ∙ sym time, λ k. subst v (sym (append-nil t)) k);
+  heard = Heard-none f;
+}
+
+pub goes_flag : {R : State → Trace → State → Type 0} {p q : Bool} {old new : Run} {l l' : Option Trace} {v v' : Trace → Type 0} {f f' : Faults} → p ≡ q → Goes R p old new l l' v v' f f' → Goes R q old new l l' v v' f f'
+goes_flag {R = R} {old = old} {new = new} {l = l} {l' = l'} {v = v} {v' = v'} {f = f} {f' = f'} e g = subst (λ b. Goes R b old new l l' v v' f f') e g

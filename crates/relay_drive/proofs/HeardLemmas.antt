@@ -16,7 +16,7 @@ use Rattle.ev_types.specs.Sides.{same_side, same_end}
 use Rattle.ev_types.specs.Trace.{Event, Trace}
 use Rattle.ev_types.specs.Growth.{Grew, Longer}
 use Rattle.ev_port.specs.Told.{Faults}
-use Rattle.ev_port.specs.Faults.{EndFaults, FaultsStay}
+use Rattle.ev_port.specs.Faults.{EndFaults, FaultsStay, ListenerFaults}
 use Rattle.ev_port.specs.Ends.{is_failed_conn, conn_events, is_failed_read, read_events, is_failed_write, write_events, took_bytes}
 use Rattle.ev_port.specs.Calls.{last_time}
 use Rattle.ev_port.specs.Counting.{counted}
@@ -104,6 +104,14 @@ Heard-quiet f g a h each none = record {
   listener = Counted-same f.listener g.listener h.listener;
 }
 
+-- an accept
+pub Heard-open : (f g : Faults) (a : Trace) (is_fault : Bool) → ListenerFaults f g is_fault → ((e : SideId) → has_failed e a ≡ false) → has_poll_failed a ≡ false → Heard f g a is_fault
+Heard-open f g a is_fault h each none = record {
+  ends = λ e. subst (λ z. Counted (f.ends e) (g.ends e) z) (sym (each e)) (Counted-same (f.ends e) (g.ends e) (h.ends e));
+  polling = subst (λ z. Counted f.polling g.polling z) (sym none) (Counted-same f.polling g.polling h.polling);
+  listener = h.listener;
+}
+
 pub FaultsStay-same : (f : Faults) → FaultsStay f f
 FaultsStay-same f = record { ends = λ e. refl; polling = refl; listener = refl }
 
@@ -127,16 +135,21 @@ last_time-append ((entry.CloseWrite x, b) ∷ t) a = last_time-append t a
 last_time-append ((entry.Close x, b) ∷ t) a = last_time-append t a
 
 -- entries of which none begins a turn
-pub goes_once : {R : State → Trace → State → Type 0} {p : Bool} {old new : Run} {v v' : Trace → Type 0} (l l' : Option Trace) (f f' : Faults) (a : Trace) → last_time a ≡ 0 →
-    R old.relay.state a new.relay.state → new.relay.state.time ≡ old.relay.state.time → new.entries ≡ counted old.entries (length a) → Grew l l' a → Longer v v' a → Heard f f' a p → Goes R p old new l l' v v' f f'
-goes_once {old = old} {new = new} l l' f f' a quiet does time entries list told heard = record {
+pub goes_some : {R : State → Trace → State → Type 0} {p : Bool} {old new : Run} {v v' : Trace → Type 0} (l l' : Option Trace) (f f' : Faults) (a : Trace) → last_time a ≡ 0 →
+    R old.relay.state a new.relay.state → new.relay.state.time ≡ old.relay.state.time → counted new.entries 0 ≡ counted old.entries (length a) → Grew l l' a → Longer v v' a → Heard f f' a p → Goes R p old new l l' v v' f f'
+goes_some {old = old} {new = new} l l' f f' a quiet does time entries list told heard = record {
   added = a;
   does = does;
-  entries = omega (arith, entries);
+  entries = entries;
   list = list;
   told = λ t e. (let h = last_time-append t a in omega (arith, h, quiet, e, time), told t);
   heard = heard;
 }
+
+-- and one entry
+pub goes_once : {R : State → Trace → State → Type 0} {p : Bool} {old new : Run} {v v' : Trace → Type 0} (l l' : Option Trace) (f f' : Faults) (a : Trace) → last_time a ≡ 0 →
+    R old.relay.state a new.relay.state → new.relay.state.time ≡ old.relay.state.time → new.entries ≡ counted old.entries (length a) → Grew l l' a → Longer v v' a → Heard f f' a p → Goes R p old new l l' v v' f f'
+goes_once l l' f f' a quiet does time entries list told heard = goes_some l l' f f' a quiet does time (omega (arith, entries)) list told heard
 
 -- What calls leave as it is
 

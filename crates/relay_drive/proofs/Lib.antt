@@ -1,3 +1,5 @@
 pub mod GoesLemmas
 pub mod HeardLemmas
 pub mod EachLemmas
+pub mod ClosingLemmas
+pub mod PollLemmas

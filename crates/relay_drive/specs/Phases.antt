@@ -42,8 +42,12 @@ want_of s e = record { side = e; read = wants_read s e; write = wants_write s e;
 abbrev pub wants_some : Want → Bool
 wants_some w = w.read || w.write
 
+-- a side is wanted where it wants something
+abbrev pub wants_of : State → SideId → List Want
+wants_of s e = filter wants_some (want_of s e ∷ [])
+
 abbrev pub wants_of_link : State → ℕ → List Want
-wants_of_link s k = filter wants_some (want_of s (in_side k) ∷ want_of s (out_side k) ∷ [])
+wants_of_link s k = wants_of s (in_side k) ++ wants_of s (out_side k)
 
 -- the sides of some links that want something, in their order
 abbrev pub wants_of_links : State → List ℕ → List Want
@@ -74,6 +78,13 @@ pub record PollFails (s : State) (a : Trace) (new : State) : Type 0 where
   pub entries : a ≡ poll_events None named polled.Failed
   pub state : new ≡ s
 
+-- a poll was refused: nothing was asked, or it failed
+abbrev pub CutPoll : DriveFault → State → Trace → State → Type 0
+CutPoll fault.Memory s a new = Nothing s a new
+CutPoll fault.PollFault s a new = PollFails s a new
+CutPoll fault.OpenFault s a new = ⊥
+CutPoll fault.Spent s a new = ⊥
+
 -- Accepting
 
 abbrev pub OpensOne : State → Trace → State → Type 0
@@ -88,9 +99,22 @@ OpensSome (suc n) s a new = Then (OpensSome n) OpensOne s a new
 abbrev pub Accepts : State → Trace → State → Type 0
 Accepts s a new = (n : ℕ) × (n ≤ 64) × OpensSome n s a new
 
+abbrev pub AcceptsWhere : Bool → State → Trace → State → Type 0
+AcceptsWhere ready s a new = MatchBool ready (Accepts s a new) (Nothing s a new)
+
 -- the poll, and links where they are ready
 abbrev pub PollsAndAccepts : List Want → State → Trace → State → Type 0
-PollsAndAccepts marked s a new = (accept : Bool) × Then (Polls marked accept) (λ s' a' new'. MatchBool accept (Accepts s' a' new') (Nothing s' a' new')) s a new
+PollsAndAccepts marked s a new = (ready : Bool) × Then (Polls marked ready) (AcceptsWhere ready) s a new
+
+-- accepting was refused behind a poll
+abbrev pub CutAccepting : DriveFault → State → Trace → State → Type 0
+CutAccepting fault.Memory s a new = (marked : List Want) × Then (Polls marked true) Accepts s a new
+CutAccepting fault.OpenFault s a new = (marked : List Want) × Then (Polls marked true) Accepts s a new
+CutAccepting fault.PollFault s a new = ⊥
+CutAccepting fault.Spent s a new = ⊥
+
+abbrev pub CutPolling : DriveFault → State → Trace → State → Type 0
+CutPolling f s a new = CutPoll f s a new ⊎ CutAccepting f s a new
 
 -- Serving
 
@@ -178,3 +202,22 @@ ClosesLink k s a new = Each LooksAt (closing_of k) s a new
 
 abbrev pub CutClosingLink : ℕ → State → Trace → State → Type 0
 CutClosingLink k s a new = CutAt LooksAt (λ _. Nothing) (closing_of k) s a new
+
+-- The turn
+
+abbrev pub TicksOnce : State → Trace → State → Type 0
+TicksOnce s a new = (reading : ℕ) × Ticks reading s a new
+
+-- a turn goes through its phases with some marks
+abbrev pub Turns : State → Trace → State → Type 0
+Turns s a new = (reading : ℕ) × (marked : List Want) × Then (Ticks reading) (Then (PollsAndAccepts marked) (Then (Each ServesSide marked) (Then (ForAllLinks PassesLink) (ForAllLinks ClosesLink)))) s a new
+
+-- a turn is cut off behind its phases, in the poll or behind it
+pub data CutTurn : DriveFault → State → Trace → State → Type 0 where
+  before : {s new : State} {a : Trace} → Nothing s a new → CutTurn fault.Memory s a new
+  in_poll : {f : DriveFault} {s new : State} {a : Trace} (reading : ℕ) → Then (Ticks reading) (CutPolling f) s a new → CutTurn f s a new
+  in_serving : {s new : State} {a : Trace} (reading : ℕ) (marked : List Want) → Then (Ticks reading) (Then (PollsAndAccepts marked) (CutAt ServesSide CutServing marked)) s a new → CutTurn fault.Memory s a new
+  in_passing : {s new : State} {a : Trace} (reading : ℕ) (marked : List Want) →
+      Then (Ticks reading) (Then (PollsAndAccepts marked) (Then (Each ServesSide marked) (CutForAllLinks PassesLink CutPassingLink))) s a new → CutTurn fault.Memory s a new
+  in_closing : {s new : State} {a : Trace} (reading : ℕ) (marked : List Want) →
+      Then (Ticks reading) (Then (PollsAndAccepts marked) (Then (Each ServesSide marked) (Then (ForAllLinks PassesLink) (CutForAllLinks ClosesLink CutClosingLink)))) s a new → CutTurn fault.Memory s a new

@@ -1,8 +1,8 @@
 // Accepting links.
-ghost use Rattle.std.specs.Prelude.{◌≡◌, ◌⊎◌, ◌<◌, ◌≤◌, false, MatchBool, MatchResult};
+ghost use Rattle.std.specs.Prelude.{◌≡◌, ◌⊎◌, ◌<◌, ◌≤◌, false, true, MatchBool, MatchResult};
 ghost use Rattle.relay_drive.specs.declared.fault.DriveFault.TheVariants.{Memory, OpenFault};
 ghost use Rattle.relay_drive.specs.Steps.{Nothing};
-ghost use Rattle.relay_drive.specs.Phases.{OpensOne, Accepts, is_open_fault};
+ghost use Rattle.relay_drive.specs.Phases.{OpensOne, Accepts, AcceptsWhere, is_open_fault};
 ghost use Rattle.relay_drive.specs.Goes.{Goes};
 
 use crate::fault::DriveFault;
@@ -47,11 +47,7 @@ fn accept_one<P: Port, S: Scribe>(
 }
 
 /// Accepts links until the port has none, 64 were opened or no more are allowed.
-pub(crate) fn accept<P: Port, S: Scribe>(
-    run: &mut Run,
-    port: &mut P,
-    scribe: &mut S,
-) -> Result<(), DriveFault>
+fn accept<P: Port, S: Scribe>(run: &mut Run, port: &mut P, scribe: &mut S) -> Result<(), DriveFault>
     ensures went { MatchResult result
         (λ _. Goes Accepts false run.old run.new (S.trace scribe.old) (S.trace scribe.new) (P.vouches port.old) (P.vouches port.new) (P.faults port.old) (P.faults port.new))
         (λ fault. Goes Accepts (is_open_fault fault) run.old run.new (S.trace scribe.old) (S.trace scribe.new) (P.vouches port.old) (P.vouches port.new) (P.faults port.old) (P.faults port.new)) }
@@ -64,4 +60,23 @@ pub(crate) fn accept<P: Port, S: Scribe>(
         }
     }
     Ok(())
+}
+
+/// Accepts links, where they are ready.
+pub(crate) fn accept_ready<P: Port, S: Scribe>(
+    run: &mut Run,
+    ready: bool,
+    port: &mut P,
+    scribe: &mut S,
+) -> Result<(), DriveFault>
+    ensures went { MatchResult result
+        (λ _. Goes (AcceptsWhere ready) false run.old run.new (S.trace scribe.old) (S.trace scribe.new) (P.vouches port.old) (P.vouches port.new) (P.faults port.old) (P.faults port.new))
+        (λ fault. Goes (λ s a new. (ready ≡ true) × Accepts s a new) (is_open_fault fault) run.old run.new (S.trace scribe.old) (S.trace scribe.new) (P.vouches port.old) (P.vouches port.new) (P.faults port.old) (P.faults port.new)) }
+    ensures grown { run.old.relay.state.opened ≤ run.new.relay.state.opened }
+    ensures cause { MatchResult result (λ _. Unit {0}) (λ fault. (fault ≡ Memory) ⊎ (fault ≡ OpenFault)) }
+{
+    if !ready {
+        return Ok(());
+    }
+    accept(run, port, scribe)
 }

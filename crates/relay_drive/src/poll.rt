@@ -1,6 +1,13 @@
 // Polling: what the sides want, and what the port marks of that.
+ghost use Rattle.std.specs.Prelude.{◌≡◌, ◌+◌, ◌<◌, ◌≤◌, ◌++◌, ◌∷◌, [], false, length, MatchResult, OnOk, IfOk};
+ghost use Rattle.ev_types.specs.Growth.{Grew};
+ghost use Rattle.ev_port.specs.Counting.{counted};
+ghost use Rattle.ev_port.specs.Polling.{want_events, ready_events};
+ghost use Rattle.relay_drive.specs.declared.fault.DriveFault.TheVariants.{Memory};
+ghost use Rattle.relay_drive.specs.Phases.{wants_of, wanted, Polls, CutPoll, PollsAndAccepts, CutPolling, AllOpened, is_open_fault};
+ghost use Rattle.relay_drive.specs.Goes.{Goes};
 
-use crate::accept::accept;
+use crate::accept::accept_ready;
 use crate::fault::DriveFault;
 use crate::run::{Run, put};
 use ev_port::{Polled, Port, Scribe, Want};
@@ -9,7 +16,12 @@ use relay_core::Relay;
 use std::alloc::Global;
 
 /// Puts a side behind the wanted ones, if it wants anything.
-fn push_want(relay: &Relay, wants: &mut Vec<Want>, side: SideId) -> Result<(), DriveFault> {
+fn push_want(relay: &Relay, wants: &mut Vec<Want>, side: SideId) -> Result<(), DriveFault>
+    requires { side.link < relay.now.state.opened }
+    ensures wanted { OnOk result (wants.new.items ≡ wants.old.items ++ wants_of relay.now.state side) }
+    ensures opened { OnOk result (AllOpened wants.old.items relay.now.state.opened → AllOpened wants.new.items relay.now.state.opened) }
+    ensures cause { MatchResult result (λ _. Unit {0}) (λ fault. fault ≡ Memory) }
+{
     let read = relay.wants_read(side);
     let write = relay.wants_write(side);
     if read || write {
@@ -28,7 +40,11 @@ fn push_want(relay: &Relay, wants: &mut Vec<Want>, side: SideId) -> Result<(), D
 }
 
 /// What the sides want, in their order.
-fn wanted(relay: &Relay, alloc: Global) -> Result<Vec<Want>, DriveFault> {
+fn wanted(relay: &Relay, alloc: Global) -> Result<Vec<Want>, DriveFault>
+    ensures wanted { IfOk result (λ wants. wants.items ≡ wanted relay.now.state) }
+    ensures opened { IfOk result (λ wants. AllOpened wants.items relay.now.state.opened) }
+    ensures cause { MatchResult result (λ _. Unit {0}) (λ fault. fault ≡ Memory) }
+{
     let mut wants = Vec::new(alloc);
     for link in 0..relay.opened() {
         let near = SideId {
@@ -42,28 +58,47 @@ fn wanted(relay: &Relay, alloc: Global) -> Result<Vec<Want>, DriveFault> {
 }
 
 /// Names the wants, in room that was made before.
-fn put_wants<S: Scribe>(run: &mut Run, scribe: &mut S, wants: &[Want]) {
+fn put_wants<S: Scribe>(entries: &mut u64, scribe: &mut S, wants: &[Want])
+    requires { length wants.now ≤ S.spare_entries scribe.old }
+    ensures counted { counted entries.new 0 ≡ counted entries.old (length (want_events wants.now)) }
+    ensures list { Grew (S.trace scribe.old) (S.trace scribe.new) (want_events wants.now) }
+    ensures room { S.spare_entries scribe.old ≤ S.spare_entries scribe.new + length wants.now }
+{
     for want in wants {
         let entry = Entry::Want {
             side: want.side,
             read: want.read,
             write: want.write,
         };
-        put(&mut run.entries, scribe, entry, &[]);
+        put(entries, scribe, entry, &[]);
+    }
+}
+
+/// Names what was marked of a want, in room that was made before.
+fn put_mark<S: Scribe>(entries: &mut u64, scribe: &mut S, want: Want)
+    requires { 0 < S.spare_entries scribe.old }
+    ensures counted { counted entries.new 0 ≡ counted entries.old (length (ready_events (want ∷ []))) }
+    ensures list { Grew (S.trace scribe.old) (S.trace scribe.new) (ready_events (want ∷ [])) }
+    ensures room { S.spare_entries scribe.old ≤ S.spare_entries scribe.new + 1 }
+{
+    if want.can_read || want.can_write {
+        let entry = Entry::Ready {
+            side: want.side,
+            read: want.can_read,
+            write: want.can_write,
+        };
+        put(entries, scribe, entry, &[]);
     }
 }
 
 /// Names the marks, in room that was made before.
-fn put_marks<S: Scribe>(run: &mut Run, scribe: &mut S, wants: &[Want]) {
+fn put_marks<S: Scribe>(entries: &mut u64, scribe: &mut S, wants: &[Want])
+    requires { length wants.now ≤ S.spare_entries scribe.old }
+    ensures counted { counted entries.new 0 ≡ counted entries.old (length (ready_events wants.now)) }
+    ensures list { Grew (S.trace scribe.old) (S.trace scribe.new) (ready_events wants.now) }
+{
     for want in wants {
-        if want.can_read || want.can_write {
-            let entry = Entry::Ready {
-                side: want.side,
-                read: want.can_read,
-                write: want.can_write,
-            };
-            put(&mut run.entries, scribe, entry, &[]);
-        }
+        put_mark(entries, scribe, *want);
     }
 }
 
@@ -73,14 +108,22 @@ fn ask_poll<P: Port, S: Scribe>(
     wants: &mut [Want],
     port: &mut P,
     scribe: &mut S,
-) -> Result<bool, DriveFault> {
+) -> Result<bool, DriveFault>
+    requires { wants.old ≡ wanted run.old.relay.state }
+    ensures went { MatchResult result
+        (λ accept. Goes (Polls wants.new accept) false run.old run.new (S.trace scribe.old) (S.trace scribe.new) (P.vouches port.old) (P.vouches port.new) (P.faults port.old) (P.faults port.new))
+        (λ fault. Goes (CutPoll fault) false run.old run.new (S.trace scribe.old) (S.trace scribe.new) (P.vouches port.old) (P.vouches port.new) (P.faults port.old) (P.faults port.new)) }
+    ensures kept { run.new.relay ≡ run.old.relay }
+    ensures opened { AllOpened wants.old run.old.relay.state.opened → AllOpened wants.new run.old.relay.state.opened }
+{
     let entries = wants.len().saturating_mul(2).saturating_add(2);
     scribe.reserve(entries, 0)?;
+    let can_open = run.relay.can_open();
     put(&mut run.entries, scribe, Entry::Poll { timeout: None }, &[]);
-    put_wants(run, scribe, wants);
-    match port.poll(wants, run.relay.can_open(), None) {
+    put_wants(&mut run.entries, scribe, wants);
+    match port.poll(wants, can_open, None) {
         Polled::Ready { accept } => {
-            put_marks(run, scribe, wants);
+            put_marks(&mut run.entries, scribe, wants);
             Ok(accept)
         }
         Polled::Failed => {
@@ -96,10 +139,14 @@ pub(crate) fn poll<P: Port, S: Scribe>(
     alloc: Global,
     port: &mut P,
     scribe: &mut S,
-) -> Result<Vec<Want>, DriveFault> {
+) -> Result<Vec<Want>, DriveFault>
+    ensures went { MatchResult result
+        (λ wants. Goes (PollsAndAccepts wants.items) false run.old run.new (S.trace scribe.old) (S.trace scribe.new) (P.vouches port.old) (P.vouches port.new) (P.faults port.old) (P.faults port.new))
+        (λ fault. Goes (CutPolling fault) (is_open_fault fault) run.old run.new (S.trace scribe.old) (S.trace scribe.new) (P.vouches port.old) (P.vouches port.new) (P.faults port.old) (P.faults port.new)) }
+    ensures opened { IfOk result (λ wants. AllOpened wants.items run.new.relay.state.opened) }
+{
     let mut wants = wanted(&run.relay, alloc)?;
-    if ask_poll(run, &mut wants, port, scribe)? {
-        accept(run, port, scribe)?;
-    }
+    let ready = ask_poll(run, &mut wants, port, scribe)?;
+    accept_ready(run, ready, port, scribe)?;
     Ok(wants)
 }

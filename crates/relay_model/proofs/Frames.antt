@@ -1,6 +1,6 @@
 -- What steps leave of the plain state: its shape always but where a turn begins or a link opens, and the limits and
 -- groups of sides but where a hook asks for others or a side is freed.
-use Rattle.std.proofs.Common.{◌≡◌, ◌⊎◌, inl, inr, ℕ, ◌+◌, Bool, true, false, if◌then◌else◌, List, [], ◌∷◌, length, Option, Some, None, fold, filter, refl, sym, ◌∙◌, subst}
+use Rattle.std.proofs.Common.{◌≡◌, inl, inr, ℕ, ◌+◌, Bool, true, false, if◌then◌else◌, List, [], ◌∷◌, length, Option, Some, None, fold, filter, refl, sym, ◌∙◌, subst}
 use Rattle.std.specs.Prelude.{nat_le, nat_lt, not}
 use Rattle.std.proofs.lemmas.List.{length-set}
 use Rattle.token_bucket.specs.declared.limit.Dir.{Dir}

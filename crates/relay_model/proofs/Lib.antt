@@ -13,9 +13,11 @@ pub mod RunningLemmas
 pub mod PassKeeps
 pub mod PassLemmas
 pub mod StandsLemmas
+pub mod StandsLawLemmas
 pub mod TiedLemmas
 pub mod PlayedLemmas
 pub mod PlayedReads
+pub mod PlayedTurns
 mod PlayedExamples
 mod ScriptedExamples
 mod TiedExamples
@@ -30,6 +32,11 @@ pub mod ReachLemmas
 pub mod RatesTold
 pub mod RatesLaw
 pub mod ListEnds
+pub mod SpellLemmas
+pub mod RateSteps
+pub mod RateBound
+pub mod GroupSteps
+pub mod GroupBound
 pub mod EndLemmas
 pub mod KeepsLemmas
 pub mod SeenLemmas
@@ -43,3 +50,15 @@ pub mod CloseCases
 pub mod StepLemmas
 pub mod StageLemmas
 pub mod ToldLemmas
+pub mod SplitLemmas
+pub mod KindLemmas
+pub mod FireLemmas
+pub mod HeldLemmas
+pub mod QuietLemmas
+pub mod FaultLemmas
+pub mod TimeLemmas
+pub mod FaultSteps
+pub mod BadLemmas
+pub mod CauseLemmas
+pub mod GrownLemmas
+pub mod BadSteps

@@ -1,6 +1,6 @@
 -- What an event at the end of a trace does to the past: most leave it as it was, a turn begins a spell of every bucket,
 -- and bytes that are moved count in the last spell.
-use Rattle.std.proofs.Common.{◌≡◌, ℕ, zero, suc, ◌+◌, Bool, true, false, if◌then◌else◌, List, [], ◌∷◌, ◌++◌, map, refl, sym, ◌∙◌, ap, arith}
+use Rattle.std.proofs.Common.{◌≡◌, ℕ, ◌+◌, Bool, true, false, if◌then◌else◌, List, [], ◌∷◌, ◌++◌, map, refl, sym, ◌∙◌, ap, arith}
 use Rattle.std.proofs.lemmas.List.{append-nil, append_assoc}
 use Rattle.token_bucket.specs.declared.limit.Dir.{Dir}
 use Rattle.token_bucket.specs.declared.limit.Dir.TheVariants as dir
@@ -8,13 +8,12 @@ use Rattle.ev_types.specs.declared.side.SideId.{SideId}
 use Rattle.ev_types.specs.declared.answer.ReadAnswer.TheVariants as read
 use Rattle.ev_types.specs.declared.answer.WriteAnswer.TheVariants as write
 use Rattle.ev_types.specs.declared.entry.Entry.TheVariants as entry
-use Rattle.ev_types.specs.Sides.{same_end}
 use Rattle.ev_types.specs.Trace.{Event, Trace}
 use Rattle.relay_model.specs.Settings.{Settings}
 use Rattle.relay_model.specs.Trace.{bytes_read, read_by}
-use Rattle.relay_model.specs.Rates.{Spell, Beat, Begins, Moves, moved_first, spells, moved_by, beat_of, side_spells}
+use Rattle.relay_model.specs.Rates.{Spell, Beat, Begins, Moves, moved_first, spells, beat_of, side_spells}
 use Rattle.relay_model.specs.Groups.{group_after, same_group, beat_among, beats_among, group_spells}
-use Rattle.relay_model.specs.Past.{Past, past}
+use Rattle.relay_model.specs.Past.{past}
 use Rattle.relay_model.proofs.TraceLemmas.{bytes_read-push}
 
 -- no turn begins with it, and it reads and moves nothing

@@ -1,5 +1,5 @@
 -- What is played: runs go on by any step, and whether all links were taken can be told by a test.
-use Rattle.std.proofs.Common.{◌≡◌, ◌≢◌, ℕ, Bool, true, false, ◌&&◌, if◌then◌else◌, List, [], ◌∷◌, ◌++◌, refl, sym, ◌∙◌, ap}
+use Rattle.std.proofs.Common.{◌≡◌, ℕ, Bool, true, false, ◌&&◌, if◌then◌else◌, List, [], ◌∷◌, ◌++◌, refl, sym, ◌∙◌, ap}
 use Rattle.std.specs.Bool.{⊤, MatchBool}
 use Rattle.std.proofs.lemmas.Bool.{false≢true}
 use Rattle.std.proofs.lemmas.List.Sums.{fold-append}
@@ -7,7 +7,7 @@ use mathlib.Core.Logic.{inl}
 use Rattle.ev_types.specs.Trace.{Trace}
 use Rattle.relay_model.specs.Script.{ScriptTurn}
 use Rattle.relay_model.specs.Scripted.{waiting}
-use Rattle.relay_model.specs.Plays.{Step, events, trace_of, TookAll, is_behind_accepting, AlwaysTookAll, AnswersGoOn}
+use Rattle.relay_model.specs.Plays.{events, TookAll, is_behind_accepting, AlwaysTookAll, AnswersGoOn}
 
 -- what the script answers to one step more
 pub answers_go_on : AnswersGoOn

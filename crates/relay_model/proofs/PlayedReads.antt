@@ -1,10 +1,10 @@
 -- What is read in a played run is what the script brought in.
-use Rattle.std.proofs.Common.{◌≡◌, ℕ, zero, suc, ◌+◌, ◌≤◌, Bool, true, false, ◌&&◌, ◌==◌, if◌then◌else◌, List, [], ◌∷◌, ◌++◌, length, take, drop, map, min, fold, count_by, nat_le, append_assoc, refl, sym, ◌∙◌, ap, subst, arith, eqb-true}
+use Rattle.std.proofs.Common.{◌≡◌, ℕ, zero, suc, ◌+◌, Bool, true, false, ◌==◌, if◌then◌else◌, List, [], ◌∷◌, ◌++◌, length, take, drop, min, fold, count_by, nat_le, append_assoc, refl, sym, ◌∙◌, ap, subst, arith, eqb-true}
 use Rattle.std.specs.List.{flat_map}
 use Rattle.std.proofs.lemmas.Bool.{and_parts}
 use Rattle.std.proofs.lemmas.Grind.{flat_map-append}
 use Rattle.std.proofs.lemmas.List.{append-nil, take-append-drop, take-take}
-use Rattle.std.proofs.lemmas.List.Sums.{sum_by-append, sum_by-cons}
+use Rattle.std.proofs.lemmas.List.Sums.{sum_by-append}
 use Rattle.ev_types.specs.declared.side.Side.{Side}
 use Rattle.ev_types.specs.declared.side.Side.TheVariants.{In, Out}
 use Rattle.ev_types.specs.declared.side.SideId.{SideId}
@@ -14,15 +14,15 @@ use Rattle.ev_types.specs.declared.entry.Entry.{Entry}
 use Rattle.ev_types.specs.declared.entry.Entry.TheVariants as entry
 use Rattle.ev_types.specs.Sides.{same_side, same_end}
 use Rattle.ev_types.specs.Trace.{Event, Trace}
-use Rattle.relay_model.specs.Trace.{bytes_read, read_by}
+use Rattle.relay_model.specs.Trace.{bytes_read}
 use Rattle.relay_model.specs.FilterLaws.{IsPrefixOf}
 use Rattle.relay_model.specs.Rooms.{Want}
 use Rattle.relay_model.specs.RatesKept.{is_turn}
 use Rattle.relay_model.specs.Lines.{brings}
 use Rattle.relay_model.specs.Script.{ScriptTurn}
 use Rattle.relay_model.specs.Totals.{opened}
-use Rattle.relay_model.specs.Scripted.{lines, pending, waiting, poll_fails, marks, reads_fail, is_ended, read_answer}
-use Rattle.relay_model.specs.Plays.{Step, want_events, ready_events, accepted, own_events, events, trace_of, IsAnswered, ReadsWhatComes}
+use Rattle.relay_model.specs.Scripted.{pending, waiting, poll_fails, marks, reads_fail, is_ended}
+use Rattle.relay_model.specs.Plays.{Step, want_events, ready_events, accepted, own_events, events, IsAnswered, ReadsWhatComes}
 use Rattle.relay_model.proofs.ListLemmas.{IsPrefixOf-append, IsPrefixOf-rest, IsPrefixOf-trans}
 use Rattle.relay_model.proofs.TraceLemmas.{bytes_read-append}
 

@@ -1,6 +1,5 @@
 -- What goes on with no entry leaves time, links, timers, and all of a side but the bad place that a filter met.
-use Rattle.std.proofs.Common.{◌≡◌, ◌⊎◌, inl, inr, ℕ, Bool, true, false, if◌then◌else◌, List, [], ◌∷◌, length, Option, Some, None, fold, refl, sym, ◌∙◌, ap, subst}
-use Rattle.std.specs.Prelude.{nat_le}
+use Rattle.std.proofs.Common.{◌≡◌, inl, inr, ℕ, Bool, true, false, if◌then◌else◌, List, [], ◌∷◌, length, Option, None, refl, sym, ◌∙◌, subst}
 use Rattle.std.proofs.lemmas.List.{length-set}
 use Rattle.ev_types.specs.declared.side.SideId.{SideId}
 use Rattle.ev_types.specs.declared.why.Why.{Why}
@@ -11,11 +10,11 @@ use Rattle.relay_model.specs.Filter.{or_else}
 use Rattle.relay_model.specs.Flow.{Flow}
 use Rattle.relay_model.specs.Settings.{Settings}
 use Rattle.relay_model.specs.Due.{Due}
-use Rattle.relay_model.specs.Plain.{Plain, PlainSide, Timer, side_at, flow_at, change_side, change_flow}
+use Rattle.relay_model.specs.Plain.{Plain, PlainSide, side_at, flow_at, change_flow}
 use Rattle.relay_model.specs.Past.{Past, past}
 use Rattle.relay_model.specs.Rooms.{read_mark}
 use Rattle.relay_model.specs.Pass.{with_held, with_used, with_read_done, with_moved, with_turned, with_write_done}
-use Rattle.relay_model.specs.Reasons.{raise, raise_read, has_hook}
+use Rattle.relay_model.specs.Reasons.{raise, raise_read}
 use Rattle.relay_model.specs.Round.{Part, meets, filter_in, filter_out, hold_of, read_run, write_run, do_part}
 use Rattle.relay_model.specs.Serve.{after_got}
 use Rattle.relay_model.specs.Stages.{Stage, State}

@@ -1,5 +1,5 @@
 -- The trace tells the limit and the group of each side.
-use Rattle.std.proofs.Common.{◌≡◌, ◌⊎◌, inl, inr, ℕ, ◌+◌, ◌*◌, ◌≤◌, Bool, true, false, if◌then◌else◌, List, [], ◌∷◌, ◌++◌, length, Option, Some, None, option_map, refl, sym, ◌∙◌, ap, subst, arith}
+use Rattle.std.proofs.Common.{◌≡◌, inl, inr, ℕ, ◌+◌, ◌*◌, ◌≤◌, Bool, true, false, if◌then◌else◌, List, [], ◌∷◌, ◌++◌, length, Option, Some, None, option_map, refl, sym, ◌∙◌, ap, subst, arith}
 use Rattle.std.specs.Prelude.{⊤}
 use Rattle.ev_types.specs.declared.side.Side.TheVariants.{In, Out}
 use Rattle.ev_types.specs.declared.side.SideId.{SideId}
@@ -17,18 +17,18 @@ use Rattle.ev_types.specs.Sides.{same_end}
 use Rattle.ev_types.specs.Trace.{Event, Trace}
 use Rattle.relay_model.specs.Settings.{Settings}
 use Rattle.relay_model.specs.Due.{Reason}
-use Rattle.relay_model.specs.Plain.{Plain, Standing, side_at, is_live, change_side, freed}
+use Rattle.relay_model.specs.Plain.{Plain, Standing, side_at, is_live, freed}
 use Rattle.relay_model.specs.Past.{Past, past}
 use Rattle.relay_model.specs.Rooms.{Want}
 use Rattle.relay_model.specs.Asks.{Answered, refusal, done}
 use Rattle.relay_model.specs.Close.{CloseStep, entry_where, closing_entry, closed_by, freed_entry, fault}
-use Rattle.relay_model.specs.Stages.{Fire, Halt, Stage, State, start, after_ask}
+use Rattle.relay_model.specs.Stages.{Fire, Halt, Stage, State, after_ask}
 use Rattle.relay_model.specs.Turn.{Puts, Quietly, Reaches, turned_to, after_reading, after_fire}
 use Rattle.relay_model.specs.RatesKept.{limit_after}
 use Rattle.relay_model.specs.Groups.{group_after}
 use Rattle.relay_model.specs.TurnLaws.{ShapeIsTold, RatesAreTold, TraceTellsRates}
-use Rattle.relay_model.proofs.QuietSteps.{KeptQuietly, kept-quietly}
-use Rattle.relay_model.proofs.Frames.{SameFrame, frame-same, frame-change, frame-time_passed, frame-conn, frame-read, frame-write}
+use Rattle.relay_model.proofs.QuietSteps.{kept-quietly}
+use Rattle.relay_model.proofs.Frames.{frame-same, frame-change, frame-time_passed, frame-conn, frame-read, frame-write}
 use Rattle.relay_model.proofs.Shapes.{shape-puts}
 use Rattle.relay_model.proofs.ReachLemmas.{reaches-holds, shape-begins, shape-goes, shape-put}
 use Rattle.relay_model.proofs.RatesTold.{cfg_of, refusal-not_ok, IsBegun, RatesBy, IsNeutral, rates-neutral, freed-group, rates-freed, rates-opened, rates-answered, limit_after-push, group_after-push}

@@ -1,5 +1,5 @@
 -- What is shown of every state that a trace can lead to, step by step.
-use Rattle.std.proofs.Common.{◌≡◌, ℕ, ◌+◌, ◌*◌, ◌<◌, ◌≤◌, Bool, true, false, if◌then◌else◌, List, [], ◌∷◌, ◌++◌, length, take, drop, fold, count_by, refl, sym, ◌∙◌, ap, subst, arith}
+use Rattle.std.proofs.Common.{◌≡◌, ℕ, ◌+◌, ◌*◌, Bool, true, false, List, [], ◌∷◌, ◌++◌, length, take, count_by, refl, sym, ◌∙◌, ap, subst, arith}
 use Rattle.std.specs.Prelude.{nat_le}
 use Rattle.std.proofs.lemmas.Bool.{leb-true, leb-false}
 use Rattle.std.proofs.lemmas.List.{length-append, take-append-le, take_all}
@@ -9,7 +9,7 @@ use Rattle.ev_types.specs.declared.entry.Entry.{Entry}
 use Rattle.ev_types.specs.Trace.{Event, Trace}
 use Rattle.relay_model.specs.Settings.{Settings}
 use Rattle.relay_model.specs.Plain.{Plain, nothing_yet}
-use Rattle.relay_model.specs.Stages.{Stage, State, at, start}
+use Rattle.relay_model.specs.Stages.{State, start}
 use Rattle.relay_model.specs.Turn.{Puts, Quietly, Reaches, begins, goes, puts, IsLegal}
 use Rattle.relay_model.specs.RatesKept.{is_turn, time_by, last_time}
 use Rattle.relay_model.specs.TurnLaws.{is_opened, ShapeIsTold, TraceTellsShape, BeginningsAreLegal}

@@ -1,5 +1,5 @@
 -- What closing looks at of a side, and which steps leave that as it was.
-use Rattle.std.proofs.Common.{◌≡◌, ℕ, ◌+◌, ◌-◌, ◌<◌, ◌≤◌, Bool, true, false, ◌&&◌, not, if◌then◌else◌, List, [], ◌∷◌, ◌++◌, length, Option, Some, None, ◌⊎◌, inl, inr, refl, sym, ◌∙◌, ap, fold}
+use Rattle.std.proofs.Common.{◌≡◌, ℕ, ◌-◌, Bool, true, false, ◌&&◌, not, if◌then◌else◌, List, Option, None, ◌⊎◌, inl, inr, refl, ap}
 use Rattle.std.specs.Prelude.{nat_le, nat_lt, filter}
 use Rattle.token_bucket.specs.declared.limit.Dir.{Dir}
 use Rattle.token_bucket.specs.declared.limit.Dir.TheVariants as dir
@@ -8,18 +8,16 @@ use Rattle.ev_types.specs.declared.act.Act.{Act}
 use Rattle.ev_types.specs.declared.act.Act.TheVariants as act
 use Rattle.ev_types.specs.declared.why.Why.TheVariants as why
 use Rattle.ev_types.specs.Sides.{peer}
-use Rattle.relay_model.specs.Flow.{Flow}
 use Rattle.relay_model.specs.Settings.{Settings}
-use Rattle.relay_model.specs.Plain.{Plain, PlainSide, Timer, side_at, flow_at, put_flow, change_side, all_sides}
+use Rattle.relay_model.specs.Plain.{Plain, PlainSide, Timer, side_at, change_side, all_sides}
 use Rattle.relay_model.specs.Past.{Past}
-use Rattle.relay_model.specs.Rooms.{wants, read_mark}
+use Rattle.relay_model.specs.Rooms.{wants}
 use Rattle.relay_model.specs.Reasons.{raise, happened, timeout_flag}
 use Rattle.relay_model.specs.Asks.{done, enabled}
 use Rattle.relay_model.specs.Moments.{timeout_of, last_activity, active_at, both_ways, by_deadline, timers_taken, timed, side_timed, time_passed}
-use Rattle.relay_model.specs.Pass.{with_held, with_read_done, with_moved, with_write_done}
 use Rattle.relay_model.specs.Round.{Part, meets, read_run, write_run, do_part}
 use Rattle.relay_model.specs.Serve.{after_got}
-use Rattle.relay_model.proofs.KeepsLemmas.{Keeps, Keeps-refl, Keeps-trans, Keeps-timers, Keeps-raise, Keeps-raise_read, Keeps-raise_write, Keeps-put, Keeps-flow, Keeps-fold}
+use Rattle.relay_model.proofs.KeepsLemmas.{Keeps, raised_read, raised_write, Keeps-refl, Keeps-trans, Keeps-timers, Keeps-raise, Keeps-raise_read, Keeps-raise_write, Keeps-put, Keeps-flow, Keeps-fold}
 
 pub record Seen : Type 0 where
   pub live : Bool
@@ -48,24 +46,24 @@ enabled-seen dir.Write on x = refl
 
 -- an ask frees a side, or leaves all that closing looks at
 abbrev pub FreesOrNot : Act → Type 0
-FreesOrNot a = ((e : SideId) × (a ≡ act.Free e)) ⊎ ((g : Settings) (p : Past) (s : Plain) → Keeps seen s (done g p s a))
+FreesOrNot a = ((e : SideId) × (a ≡ act.Free e)) ⊎ ((g : Settings) (p : Past) (s : Plain) → Keeps seen s (done g p s a) × ((done g p s a).flows ≡ s.flows))
 
 pub frees_or_not : (a : Act) → FreesOrNot a
 frees_or_not (act.Free e) = inl (e, refl)
-frees_or_not (act.Enable e d) = inr (λ g p s. Keeps-put seen e _ s (enabled-seen d true (side_at s e)))
-frees_or_not (act.Disable e d) = inr (λ g p s. Keeps-put seen e _ s (enabled-seen d false (side_at s e)))
-frees_or_not (act.Marks e d low high) = inr (λ g p s. Keeps-put seen e _ s refl)
-frees_or_not (act.Timeouts e read write) = inr (λ g p s. Keeps-put seen e _ s refl)
-frees_or_not (act.Rate e cfg) = inr (λ g p s. Keeps-put seen e _ s refl)
-frees_or_not (act.Join e group) = inr (λ g p s. Keeps-put seen e _ s refl)
-frees_or_not (act.Leave e) = inr (λ g p s. Keeps-put seen e _ s refl)
-frees_or_not (act.Trigger e dir.Read) = inr (λ g p s. Keeps-raise_read seen g p e s)
-frees_or_not (act.Trigger e dir.Write) = inr (λ g p s. Keeps-raise_write seen g p e s)
-frees_or_not (act.Timer e delay) = inr (λ g p s. Keeps-timers seen s _)
-frees_or_not (act.Cancel e) = inr (λ g p s. Keeps-timers seen s _)
-frees_or_not (act.Incref e) = inr (λ g p s. Keeps-put seen e _ s refl)
-frees_or_not (act.Decref e) = inr (λ g p s. Keeps-put seen e _ s refl)
-frees_or_not act.Stop = inr (λ g p s. Keeps-refl seen s)
+frees_or_not (act.Enable e d) = inr (λ g p s. (Keeps-put seen e _ s (enabled-seen d true (side_at s e)), refl))
+frees_or_not (act.Disable e d) = inr (λ g p s. (Keeps-put seen e _ s (enabled-seen d false (side_at s e)), refl))
+frees_or_not (act.Marks e d low high) = inr (λ g p s. (Keeps-put seen e _ s refl, refl))
+frees_or_not (act.Timeouts e read write) = inr (λ g p s. (Keeps-put seen e _ s refl, refl))
+frees_or_not (act.Rate e cfg) = inr (λ g p s. (Keeps-put seen e _ s refl, refl))
+frees_or_not (act.Join e group) = inr (λ g p s. (Keeps-put seen e _ s refl, refl))
+frees_or_not (act.Leave e) = inr (λ g p s. (Keeps-put seen e _ s refl, refl))
+frees_or_not (act.Trigger e dir.Read) = inr (λ g p s. (Keeps-raise_read seen g p e s, ap (λ z. z.flows) (raised_read g p e s).1))
+frees_or_not (act.Trigger e dir.Write) = inr (λ g p s. (Keeps-raise_write seen g p e s, ap (λ z. z.flows) (raised_write g p e s).1))
+frees_or_not (act.Timer e delay) = inr (λ g p s. (Keeps-timers seen s _, refl))
+frees_or_not (act.Cancel e) = inr (λ g p s. (Keeps-timers seen s _, refl))
+frees_or_not (act.Incref e) = inr (λ g p s. (Keeps-put seen e _ s refl, refl))
+frees_or_not (act.Decref e) = inr (λ g p s. (Keeps-put seen e _ s refl, refl))
+frees_or_not act.Stop = inr (λ g p s. (Keeps-refl seen s, refl))
 
 -- Passing
 

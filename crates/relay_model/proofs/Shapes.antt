@@ -1,22 +1,21 @@
 -- What each entry does to the shape of the plain state, and the shape that a trace tells.
-use Rattle.std.proofs.Common.{◌≡◌, ℕ, ◌+◌, ◌*◌, Bool, true, false, if◌then◌else◌, List, [], ◌∷◌, ◌++◌, length, Option, Some, None, count_by, refl, sym, ◌∙◌, ap, subst, arith}
+use Rattle.std.proofs.Common.{◌≡◌, ℕ, ◌+◌, ◌*◌, Bool, true, false, if◌then◌else◌, List, [], ◌∷◌, ◌++◌, length, refl, sym, ◌∙◌, subst, arith}
 use Rattle.std.proofs.lemmas.List.{length-append}
-use Rattle.ev_types.specs.declared.side.SideId.{SideId}
 use Rattle.ev_types.specs.declared.why.Cause.TheVariants as cause
 use Rattle.ev_types.specs.declared.entry.Entry.{Entry}
 use Rattle.ev_types.specs.declared.entry.Entry.TheVariants as entry
 use Rattle.ev_types.specs.Trace.{Event, Trace}
 use Rattle.relay_model.specs.Settings.{Settings}
 use Rattle.relay_model.specs.Plain.{Plain, with_link}
-use Rattle.relay_model.specs.Past.{Past, past}
+use Rattle.relay_model.specs.Past.{past}
 use Rattle.relay_model.specs.Asks.{refusal}
-use Rattle.relay_model.specs.Close.{CloseStep, closing_entry, freed_entry}
+use Rattle.relay_model.specs.Close.{freed_entry}
 use Rattle.relay_model.specs.Stages.{Stage, State}
-use Rattle.relay_model.specs.Turn.{Puts, Quietly, turned_to}
+use Rattle.relay_model.specs.Turn.{Puts, turned_to}
 use Rattle.relay_model.specs.RatesKept.{is_turn, time_by}
 use Rattle.relay_model.specs.TurnLaws.{is_opened}
 use Rattle.relay_model.proofs.ClosingEntries.{closing-closes, closes-still, closes-opens_none, still-no_turn, still-no_time}
-use Rattle.relay_model.proofs.Frames.{SameShape, SameFrame, shape-same, shape-answered, shape-closed, frame-time_passed, frame-conn, frame-read, frame-write}
+use Rattle.relay_model.proofs.Frames.{SameShape, shape-same, shape-answered, shape-closed, frame-time_passed, frame-conn, frame-read, frame-write}
 
 -- one more where the test holds
 abbrev pub one_where : Bool → ℕ

@@ -1,11 +1,9 @@
 -- How steps join: what was added, and what stands and is vouched for.
-use Rattle.std.proofs.Common.{◌≡◌, ℕ, ◌<◌, [], ◌++◌, Option, Some, None, refl, ◌∙◌, ap, subst, append_assoc, arith}
+use Rattle.std.proofs.Common.{◌++◌, Option, Some, None, refl, ◌∙◌, ap, subst, append_assoc, arith}
 use Rattle.ev_types.specs.Trace.{Trace}
 use Rattle.ev_types.specs.Growth.{Grew, Longer}
-use Rattle.relay_model.specs.Stages.{Stage}
 use Rattle.relay_model.specs.Turn.{Reaches}
-use Rattle.relay_model.specs.Settings.{Settings}
-use Rattle.relay_model.specs.Stands.{Kept, Stands, Holds, GoesWith, CutOff, StepsJoin, CutsJoin, AnyStageHolds, NothingStands}
+use Rattle.relay_model.specs.Stands.{Stands, Holds, StepsJoin, CutsJoin, AnyStageHolds, NothingStands}
 
 pub Longer-append : (u v w : Trace → Type 0) (xs ys : Trace) → Longer u v xs → Longer v w ys → Longer u w (xs ++ ys)
 Longer-append u v w xs ys h k t p = subst w (append_assoc t xs ys) (k (t ++ xs) (h t p))

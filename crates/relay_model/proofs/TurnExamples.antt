@@ -20,7 +20,6 @@ use Rattle.relay_model.specs.Due.{Due, with_reason, batch, event}
 use Rattle.relay_model.specs.Plain.{Plain, Timer, nothing_yet, with_link, flow_at, freed}
 use Rattle.relay_model.specs.Rates.{Limit, Spell, level}
 use Rattle.relay_model.specs.Groups.{share_among, group_level}
-use Rattle.relay_model.specs.RatesKept.{RatesKept}
 use Rattle.relay_model.specs.Past.{Past, past}
 use Rattle.relay_model.specs.Rooms.{read_room, write_room, wanted}
 use Rattle.relay_model.specs.Asks.{refusal, done}
@@ -30,7 +29,6 @@ use Rattle.relay_model.specs.Round.{round}
 use Rattle.relay_model.specs.Serve.{after_got, after_write}
 use Rattle.relay_model.specs.Close.{CloseStep, closing_entry}
 use Rattle.relay_model.specs.Turn.{turned_to}
-use Rattle.relay_model.specs.Answers.{EndsWith}
 
 abbrev in_of : ℕ → SideId
 in_of k = record { link = k; side = In }

@@ -1,10 +1,10 @@
 -- What the answer of a turn says of the trace: which stage it reached.
-use Rattle.std.specs.Prelude.{◌≡◌, ℕ, ◌<◌, List, ◌∷◌, ⊤}
+use Rattle.std.specs.Prelude.{◌≡◌, ℕ, ◌<◌, ◌∷◌, ⊤}
 use Rattle.ev_types.specs.Trace.{Trace}
 use Rattle.relay_model.specs.Settings.{Settings}
 use Rattle.relay_model.specs.Plain.{Plain}
 use Rattle.relay_model.specs.Close.{CloseStep}
-use Rattle.relay_model.specs.Stages.{Halt, Stage, State, at}
+use Rattle.relay_model.specs.Stages.{Halt, Stage, at}
 use Rattle.relay_model.specs.Turn.{Reaches, most_opened}
 
 pub data TurnAnswer : Type 0 where

@@ -3,7 +3,6 @@
 use Rattle.std.specs.Prelude.{ℕ, Bool, true, false, if◌then◌else◌, not, List, [], ◌∷◌, ◌++◌, filter, Option, Some, None, bit_or}
 use Rattle.std.specs.List.{flat_map}
 use Rattle.ev_types.specs.declared.side.SideId.{SideId}
-use Rattle.ev_types.specs.declared.why.Flags.{Flags}
 use Rattle.ev_types.specs.declared.why.Why.{Why}
 use Rattle.ev_types.specs.declared.why.Why.TheVariants as why
 use Rattle.ev_types.specs.Sides.{same_end}

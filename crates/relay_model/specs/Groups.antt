@@ -1,8 +1,7 @@
 -- Groups: members share one bucket a direction. Who was a member at which place is told from the trace, and so is
 -- what members moved, when the group was suspended, and what is left.
-use Rattle.std.specs.Prelude.{◌≡◌, ℕ, zero, suc, ◌+◌, ◌-◌, ◌*◌, ◌/◌, min, max, Bool, true, false, ◌==◌, ◌&&◌, ◌||◌, nat_lt, if◌then◌else◌, List, [], ◌∷◌, ◌++◌, length, take, count_by, fold, Option, Some, None, slice_index_or}
+use Rattle.std.specs.Prelude.{ℕ, zero, suc, ◌+◌, ◌-◌, ◌/◌, min, max, Bool, false, ◌==◌, ◌&&◌, ◌||◌, nat_lt, if◌then◌else◌, List, [], ◌∷◌, ◌++◌, length, take, count_by, fold, Option, Some, None, slice_index_or}
 use Rattle.token_bucket.specs.declared.limit.Dir.{Dir}
-use Rattle.token_bucket.specs.declared.limit.LimitCfg.{LimitCfg}
 use Rattle.ev_types.specs.declared.side.SideId.{SideId}
 use Rattle.ev_types.specs.declared.act.Act.TheVariants as act
 use Rattle.ev_types.specs.declared.answer.AskAnswer.TheVariants as ask
@@ -10,8 +9,8 @@ use Rattle.ev_types.specs.declared.entry.Entry.TheVariants as entry
 use Rattle.ev_types.specs.Sides.{same_end}
 use Rattle.ev_types.specs.Trace.{Event, Trace}
 use Rattle.relay_model.specs.Settings.{Settings, GroupSet, group_set}
-use Rattle.relay_model.specs.Plain.{Plain, PlainSide}
-use Rattle.relay_model.specs.Rates.{Limit, limit_of, Spell, level, Beat, Begins, Moves, spells, moved_by}
+use Rattle.relay_model.specs.Plain.{Plain}
+use Rattle.relay_model.specs.Rates.{limit_of, Spell, level, Beat, Begins, Moves, spells, moved_by}
 
 -- Members
 

@@ -26,6 +26,7 @@ pub mod Turn
 pub mod Answers
 pub mod RatesKept
 pub mod Stands
+pub mod StandsLaws
 pub mod Totals
 pub mod Tied
 pub mod TurnLaws
@@ -35,3 +36,5 @@ pub mod Scripted
 pub mod Plays
 pub mod Told
 pub mod Hooked
+pub mod Quiet
+pub mod Causes

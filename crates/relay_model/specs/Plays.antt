@@ -1,7 +1,7 @@
 -- Which traces a run over a script has. A run is a list of steps: calls on a port, and what the relay does by itself. What
 -- the script answers to the steps is a trace; that the relay calls for these steps is said by Turn.
-use Rattle.std.specs.Prelude.{◌≡◌, ◌⊎◌, ℕ, ◌+◌, ◌<◌, ◌≤◌, min, max, ⊤, Bool, true, false, not, if◌then◌else◌, List, [], ◌∷◌, ◌++◌, length, map, fold, Option, MatchBool}
-use Rattle.std.specs.List.{flat_map}
+use Rattle.std.specs.Prelude.{◌≡◌, ◌⊎◌, ℕ, ◌+◌, ◌<◌, ◌≤◌, min, max, ⊤, Bool, true, false, ◌&&◌, not, if◌then◌else◌, List, [], ◌∷◌, ◌++◌, length, map, fold, Option, MatchBool}
+use Rattle.std.specs.List.{flat_map, list_any, list_all}
 use Rattle.ev_types.specs.declared.side.SideId.{SideId}
 use Rattle.ev_types.specs.declared.entry.Entry.{Entry}
 use Rattle.ev_types.specs.declared.entry.Entry.TheVariants as entry
@@ -10,6 +10,7 @@ use Rattle.relay_model.specs.Trace.{bytes_read}
 use Rattle.relay_model.specs.Rooms.{Want}
 use Rattle.relay_model.specs.Turn.{most_opened, latest}
 use Rattle.relay_model.specs.Answers.{TurnAnswer}
+use Rattle.relay_model.specs.RatesKept.{is_turn}
 use Rattle.relay_model.specs.Totals.{opened, opened_in_turn}
 use Rattle.relay_model.specs.Lines.{brings}
 use Rattle.relay_model.specs.Script.{Script, ScriptTurn, closing_step}
@@ -120,3 +121,15 @@ AnswersGoOn = (turns : List ScriptTurn) (closing_by : ℕ) (t : Trace) → IsAns
 abbrev pub ReadsWhatComes : Type 0
 ReadsWhatComes = (turns : List ScriptTurn) (closing_by : ℕ) (t : Trace) (e : SideId) → IsAnswered turns closing_by t →
     bytes_read e t ++ pending turns t e ≡ flat_map (brings e) (lines turns t)
+
+-- is it an entry of a turn behind accepting
+abbrev pub is_served : Event → Bool
+is_served x = is_behind_accepting x && not (is_turn x)
+
+-- A turn whose entries up to accepting stand before those behind it, as in every legal trace, keeps what is asked of all turns
+-- before it where all was taken as it began and as it ends; or as it began, where it is cut off before accepting has ended.
+abbrev pub TurnTakesAll : Type 0
+TurnTakesAll = (turns : List ScriptTurn) (links : ℕ) (t : Trace) (ms : ℕ) (accepting behind : Trace) →
+    AlwaysTookAll turns links [] t → TookAll turns links t → list_any is_behind_accepting accepting ≡ false → list_all is_served behind ≡ true →
+    (behind ≡ []) ⊎ TookAll turns links (t ++ (entry.Turn ms, []) ∷ (accepting ++ behind)) →
+    AlwaysTookAll turns links [] (t ++ (entry.Turn ms, []) ∷ (accepting ++ behind))

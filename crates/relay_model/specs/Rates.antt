@@ -1,7 +1,6 @@
 -- Buckets. What one holds is the least of some numbers, one for each turn since its limit was set. A bucket of a side
 -- is told here from the trace, and what its limit promises; those of groups stand in Groups.
-use Rattle.std.specs.Prelude.{◌≡◌, ℕ, ◌+◌, ◌-◌, ◌*◌, ◌/◌, ◌≤◌, min, Bool, true, false, ◌==◌, ◌&&◌, if◌then◌else◌, List, [], ◌∷◌, ◌++◌, map, drop, sum_by, count_by, Option, Some, None, option_map}
-use Rattle.std.specs.List.{flat_map}
+use Rattle.std.specs.Prelude.{ℕ, ◌+◌, ◌-◌, ◌*◌, ◌/◌, min, if◌then◌else◌, List, [], ◌∷◌, map, drop, sum_by}
 use Rattle.token_bucket.specs.declared.limit.Dir.{Dir}
 use Rattle.token_bucket.specs.declared.limit.Dir.TheVariants as dir
 use Rattle.token_bucket.specs.declared.limit.LimitCfg.{LimitCfg}

@@ -1,9 +1,8 @@
 -- A script as plain values: its settings, its plans and its turns. How it is spelled stands elsewhere; what a port answers
 -- by it stands in Scripted, and which runs it has in Plays.
-use Rattle.std.specs.Prelude.{ℕ, max, Bool, ◌==◌, nat_lt, if◌then◌else◌, List, [], ◌++◌, map, filter, fold, Option, option_map, option_to_list}
+use Rattle.std.specs.Prelude.{ℕ, max, ◌==◌, nat_lt, if◌then◌else◌, List, ◌++◌, map, filter, fold, option_map, option_to_list}
 use Rattle.ev_types.specs.declared.side.SideId.{SideId}
 use Rattle.ev_types.specs.Sides.{number, same_end}
-use Rattle.token_bucket.specs.declared.limit.LimitCfg.{LimitCfg}
 use Rattle.relay_model.specs.Settings.{Settings}
 use Rattle.relay_model.specs.Plans.{Planned}
 use Rattle.relay_model.specs.Lines.{Line}

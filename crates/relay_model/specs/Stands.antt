@@ -1,6 +1,6 @@
 -- What a relay stands for: the traces that led to the stage at which it is, and of which no byte was lost, made or changed.
 -- And how a step goes on: entries are added, and what stood for a trace stands for that trace with these entries.
-use Rattle.std.specs.Prelude.{◌≡◌, ℕ, ◌*◌, ◌<◌, ◌≤◌, Bool, false, List, [], length, Option, None, slice_index_or}
+use Rattle.std.specs.Prelude.{◌≡◌, ◌*◌, ◌<◌, ◌≤◌, false, List, [], length, Option, None, slice_index_or}
 use Rattle.ev_types.specs.declared.filter.FilterKind.TheVariants as kind
 use Rattle.ev_types.specs.declared.side.SideId.{SideId}
 use Rattle.ev_types.specs.Sides.{number, peer}

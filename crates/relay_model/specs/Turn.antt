@@ -1,6 +1,6 @@
 -- Which traces a run can have: each entry is the one that the turn calls for next. From a state an entry is put, or the
 -- relay goes on with no entry; what a trace can lead to is what such steps reach.
-use Rattle.std.specs.Prelude.{◌≡◌, ◌⊎◌, ℕ, ◌+◌, ◌^◌, ◌<◌, ◌≤◌, Bool, true, false, ◌||◌, if◌then◌else◌, List, [], ◌∷◌, ◌++◌, Option, Some, None, IsTrue}
+use Rattle.std.specs.Prelude.{◌≡◌, ◌⊎◌, ℕ, ◌+◌, ◌^◌, ◌<◌, ◌≤◌, Bool, true, ◌||◌, if◌then◌else◌, List, [], ◌∷◌, ◌++◌, Some, None, IsTrue}
 use Rattle.ev_types.specs.declared.side.SideId.{SideId}
 use Rattle.ev_types.specs.declared.answer.ReadAnswer.{ReadAnswer}
 use Rattle.ev_types.specs.declared.answer.ReadAnswer.TheVariants as read
@@ -11,13 +11,13 @@ use Rattle.ev_types.specs.Trace.{Trace}
 use Rattle.relay_model.specs.Settings.{Settings}
 use Rattle.relay_model.specs.Due.{batch, Reason}
 use Rattle.relay_model.specs.Plain.{Plain, with_link, is_live, all_sides}
-use Rattle.relay_model.specs.Past.{Past, past}
+use Rattle.relay_model.specs.Past.{past}
 use Rattle.relay_model.specs.Rooms.{Want, wanted}
 use Rattle.relay_model.specs.Asks.{Ask, most_asks}
 use Rattle.relay_model.specs.Moments.{poll_timeout, time_passed}
-use Rattle.relay_model.specs.Round.{Part, round_parts, do_part, round}
+use Rattle.relay_model.specs.Round.{round_parts, do_part, round}
 use Rattle.relay_model.specs.Serve.{Call, call_for, marks_left, CarriesGot, CarriesTook, after_conn, after_read, after_got, after_write}
-use Rattle.relay_model.specs.Close.{CloseStep, closing_from, freed_entry, closing_entry, closed_by, steps_left}
+use Rattle.relay_model.specs.Close.{closing_from, freed_entry, closing_entry, closed_by, steps_left}
 use Rattle.relay_model.specs.Stages.{Fire, Halt, Stage, Between, Polling, Wanting, Marking, Accepting, Serving, Filtering, Dispatching, Firing, Freeing, Passing, Closing, Over, State, at, start, begun, after_ask}
 
 -- the most links that are opened in one turn, and the latest time of a turn

@@ -1,5 +1,5 @@
 -- What holds of every legal trace, whatever ports, clocks and hooks do.
-use Rattle.std.specs.Prelude.{◌≡◌, ℕ, ◌*◌, Bool, true, false, ◌++◌, length, count_by, option_map}
+use Rattle.std.specs.Prelude.{◌≡◌, ◌*◌, Bool, true, false, ◌++◌, length, count_by, option_map}
 use Rattle.ev_types.specs.declared.side.SideId.{SideId}
 use Rattle.ev_types.specs.declared.entry.Entry.TheVariants as entry
 use Rattle.ev_types.specs.Trace.{Event, Trace}
@@ -8,7 +8,7 @@ use Rattle.relay_model.specs.Plain.{Plain, side_at}
 use Rattle.relay_model.specs.Groups.{group_after}
 use Rattle.relay_model.specs.Stages.{State}
 use Rattle.relay_model.specs.Turn.{Reaches, IsLegal}
-use Rattle.relay_model.specs.RatesKept.{is_turn, last_time, limit_after}
+use Rattle.relay_model.specs.RatesKept.{is_turn, last_time, limit_after, RatesKept}
 
 -- a link is opened
 abbrev pub is_opened : Event → Bool
@@ -38,3 +38,7 @@ pub record RatesAreTold (g : Settings) (t : Trace) (s : Plain) (e : SideId) : Ty
 
 abbrev pub TraceTellsRates : Type 0
 TraceTellsRates = (g : Settings) (t : Trace) (s : State) → Reaches g t s → (e : SideId) → RatesAreTold g t s.plain e
+
+-- All sides and all groups keep to their limits in every legal trace.
+abbrev pub LimitsAreKept : Type 0
+LimitsAreKept = (g : Settings) (t : Trace) → IsLegal g t → RatesKept g t

@@ -1,6 +1,7 @@
-// Laws on what a relay stands for, and on what a played trace is.
-ghost use Rattle.relay_model.specs.Plays.{AnswersGoOn, ReadsWhatComes};
+// Laws on what a relay stands for, on what ties a port to a trace, and on runs over scripts.
+ghost use Rattle.relay_model.specs.Plays.{AnswersGoOn, ReadsWhatComes, TurnTakesAll};
 ghost use Rattle.relay_model.specs.Stands.{AnyStageHolds, CutsJoin, NothingStands, StepsJoin};
+ghost use Rattle.relay_model.specs.StandsLaws.{BuffersHoldTheRest, BytesGivenBegin, ClosedIsWhole, FreeAccountsForTheRest};
 ghost use Rattle.relay_model.specs.Tied.{EndTiesJoin, NothingIsTied};
 
 /// What can say of whole traces that they are its own.
@@ -33,6 +34,26 @@ pub fn any_stage_holds()
     ensures { AnyStageHolds }
 {}
 
+/// Whatever happens, the bytes given to each side of each link begin what the filters make of the bytes read from its peer.
+pub fn bytes_given_begin()
+    ensures { BytesGivenBegin }
+{}
+
+/// Where writing was ended at a side, it was given all that the filters make of the bytes read from its peer.
+pub fn closed_is_whole()
+    ensures { ClosedIsWhole }
+{}
+
+/// While both sides of a link live, its buffers hold exactly the rest.
+pub fn buffers_hold_the_rest()
+    ensures { BuffersHoldTheRest }
+{}
+
+/// Once a side was freed, what was given to its peer and what waits there are what the free told as moved.
+pub fn free_accounts_for_the_rest()
+    ensures { FreeAccountsForTheRest }
+{}
+
 /// Before anything happened a port is tied to the trace of no entries, whatever it tells.
 pub fn nothing_is_tied()
     ensures { NothingIsTied }
@@ -51,4 +72,9 @@ pub fn answers_go_on()
 /// In a run over a script, what was read from an end and what is pending there is what the script brought in.
 pub fn what_comes_is_read()
     ensures { ReadsWhatComes }
+{}
+
+/// A turn that took all links that waited, or as many as it may, keeps what a run over a script asks of all its turns.
+pub fn turns_take_all()
+    ensures { TurnTakesAll }
 {}

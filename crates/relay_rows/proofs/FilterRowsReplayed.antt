@@ -1,29 +1,32 @@
--- Each run with filters or marks is replayed, and comes to rest where it should.
-use Rattle.std.specs.Prelude.{◌≡◌, Some, refl}
-use Rattle.relay_model.specs.Stages.{Stage}
-use Rattle.relay_rows.specs.Replay.{stage_after}
-use Rattle.relay_rows.specs.FilterRows.{lf_in, line_end_in_two_reads, held_to_the_end, crlf_out, line_ends_added, line_end_kept, hex_in, odd_digit, no_digit, held_at_four, held_back, five_at_once, read_mark_reached}
+-- Each run with filters or marks is accepted.
+use Rattle.std.specs.Prelude.{refl}
+use Rattle.relay_rows.specs.Laws.{Goes}
+use Rattle.relay_rows.specs.FilterRows.{held_and_drained, line_end_in_two_reads, held_to_the_end, line_ends_added, line_end_kept, odd_digit, no_digit, held_back, read_mark_reached, crlf_out, five_at_once, held_at_four, hex_in, lf_in}
+use Rattle.relay_rows.proofs.AcceptLemmas.{rests-went}
 
-pub line_end_in_two_reads-went : stage_after lf_in line_end_in_two_reads ≡ Some Stage.Between
-line_end_in_two_reads-went = refl
+pub line_end_in_two_reads-goes : Goes lf_in line_end_in_two_reads
+line_end_in_two_reads-goes = rests-went lf_in line_end_in_two_reads refl
 
-pub held_to_the_end-went : stage_after lf_in held_to_the_end ≡ Some Stage.Between
-held_to_the_end-went = refl
+pub held_to_the_end-goes : Goes lf_in held_to_the_end
+held_to_the_end-goes = rests-went lf_in held_to_the_end refl
 
-pub line_ends_added-went : stage_after crlf_out line_ends_added ≡ Some Stage.Between
-line_ends_added-went = refl
+pub line_ends_added-goes : Goes crlf_out line_ends_added
+line_ends_added-goes = rests-went crlf_out line_ends_added refl
 
-pub line_end_kept-went : stage_after crlf_out line_end_kept ≡ Some Stage.Between
-line_end_kept-went = refl
+pub line_end_kept-goes : Goes crlf_out line_end_kept
+line_end_kept-goes = rests-went crlf_out line_end_kept refl
 
-pub odd_digit-went : stage_after hex_in odd_digit ≡ Some Stage.Between
-odd_digit-went = refl
+pub odd_digit-goes : Goes hex_in odd_digit
+odd_digit-goes = rests-went hex_in odd_digit refl
 
-pub no_digit-went : stage_after hex_in no_digit ≡ Some Stage.Between
-no_digit-went = refl
+pub no_digit-goes : Goes hex_in no_digit
+no_digit-goes = rests-went hex_in no_digit refl
 
-pub held_back-went : stage_after held_at_four held_back ≡ Some Stage.Between
-held_back-went = refl
+pub held_back-goes : Goes held_at_four held_back
+held_back-goes = rests-went held_at_four held_back refl
 
-pub read_mark_reached-went : stage_after five_at_once read_mark_reached ≡ Some Stage.Between
-read_mark_reached-went = refl
+pub held_and_drained-goes : Goes held_at_four held_and_drained
+held_and_drained-goes = rests-went held_at_four held_and_drained refl
+
+pub read_mark_reached-goes : Goes five_at_once read_mark_reached
+read_mark_reached-goes = rests-went five_at_once read_mark_reached refl

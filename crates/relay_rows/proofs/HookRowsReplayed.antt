@@ -1,23 +1,26 @@
--- Each run with hooks or timeouts is replayed, and comes to rest where it should.
-use Rattle.std.specs.Prelude.{◌≡◌, Some, refl}
-use Rattle.relay_model.specs.Stages.{Halt, Stage}
-use Rattle.relay_rows.specs.Replay.{stage_after}
-use Rattle.relay_rows.specs.HookRows.{hook_in, hook_and_lf_in, held_byte_dropped, three_hooks, frees_another_link, frees_the_peer_twice, timeout_in, read_timeout, timer_fires, hook_stops}
+-- Each run with hooks or timeouts is accepted.
+use Rattle.std.specs.Prelude.{refl}
+use Rattle.relay_rows.specs.Laws.{Goes, IsStoppedBy}
+use Rattle.relay_rows.specs.HookRows.{reading_is_activity, held_byte_dropped, frees_another_link, frees_the_peer_twice, read_timeout, timer_fires, hook_stops, hook_and_lf_in, hook_in, three_hooks, timeout_in}
+use Rattle.relay_rows.proofs.AcceptLemmas.{rests-went, rests-stopped}
 
-pub held_byte_dropped-went : stage_after hook_and_lf_in held_byte_dropped ≡ Some Stage.Between
-held_byte_dropped-went = refl
+pub held_byte_dropped-goes : Goes hook_and_lf_in held_byte_dropped
+held_byte_dropped-goes = rests-went hook_and_lf_in held_byte_dropped refl
 
-pub frees_another_link-went : stage_after three_hooks frees_another_link ≡ Some Stage.Between
-frees_another_link-went = refl
+pub frees_another_link-goes : Goes three_hooks frees_another_link
+frees_another_link-goes = rests-went three_hooks frees_another_link refl
 
-pub frees_the_peer_twice-went : stage_after hook_in frees_the_peer_twice ≡ Some Stage.Between
-frees_the_peer_twice-went = refl
+pub frees_the_peer_twice-goes : Goes hook_in frees_the_peer_twice
+frees_the_peer_twice-goes = rests-went hook_in frees_the_peer_twice refl
 
-pub read_timeout-went : stage_after timeout_in read_timeout ≡ Some Stage.Between
-read_timeout-went = refl
+pub read_timeout-goes : Goes timeout_in read_timeout
+read_timeout-goes = rests-went timeout_in read_timeout refl
 
-pub timer_fires-went : stage_after hook_in timer_fires ≡ Some Stage.Between
-timer_fires-went = refl
+pub reading_is_activity-goes : Goes timeout_in reading_is_activity
+reading_is_activity-goes = rests-went timeout_in reading_is_activity refl
 
-pub hook_stops-over : stage_after hook_in hook_stops ≡ Some (Stage.Over (Halt.StoppedBy 0))
-hook_stops-over = refl
+pub timer_fires-goes : Goes hook_in timer_fires
+timer_fires-goes = rests-went hook_in timer_fires refl
+
+pub hook_stops-is_stopped : IsStoppedBy 0 hook_in hook_stops
+hook_stops-is_stopped = rests-stopped 0 hook_in hook_stops refl

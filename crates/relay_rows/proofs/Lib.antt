@@ -7,8 +7,14 @@ pub mod OrderLemmas
 pub mod OnceLemmas
 pub mod RefusalLemmas
 pub mod IllegalLemmas
+pub mod AcceptLemmas
 pub mod PlainRowsReplayed
 pub mod FilterRowsReplayed
 pub mod HookRowsReplayed
 pub mod RateRowsReplayed
+pub mod EdgeRowsReplayed
+pub mod AskRowsReplayed
+pub mod ReasonRowsReplayed
+pub mod MarkRowsReplayed
 pub mod WrongRowsRefused
+pub mod WrongEdgesRefused

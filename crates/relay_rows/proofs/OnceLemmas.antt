@@ -1,5 +1,5 @@
 -- An entry can be put at one place only of those that the relay goes through between two entries.
-use Rattle.std.proofs.Common.{◌≡◌, ◌⊎◌, inl, inr, ℕ, zero, suc, ◌+◌, ◌≤◌, Bool, true, false, if◌then◌else◌, List, [], ◌∷◌, Option, Some, None, refl, sym, ap, ◌∙◌, subst, arith, lit≤}
+use Rattle.std.proofs.Common.{◌≡◌, inl, inr, ℕ, zero, suc, ◌+◌, ◌≤◌, Bool, true, false, if◌then◌else◌, List, [], ◌∷◌, Some, None, refl, sym, ap, subst, arith, lit≤}
 use Rattle.ev_types.specs.declared.side.SideId.{SideId}
 use Rattle.ev_types.specs.declared.answer.ReadAnswer.{ReadAnswer}
 use Rattle.ev_types.specs.declared.answer.ReadAnswer.TheVariants as read
@@ -8,20 +8,20 @@ use Rattle.ev_types.specs.declared.answer.AskAnswer.TheVariants as ask
 use Rattle.ev_types.specs.declared.act.Act.{Act}
 use Rattle.ev_types.specs.declared.act.Act.TheVariants as act
 use Rattle.ev_types.specs.declared.why.Why.{Why}
-use Rattle.ev_types.specs.declared.why.Cause.TheVariants as cause
 use Rattle.ev_types.specs.declared.entry.Entry.{Entry}
 use Rattle.ev_types.specs.declared.entry.Entry.TheVariants as entry
 use Rattle.ev_types.specs.Sides.{number}
 use Rattle.ev_types.specs.Trace.{Trace}
 use Rattle.relay_model.specs.Settings.{Settings}
 use Rattle.relay_model.specs.Plain.{Plain}
-use Rattle.relay_model.specs.Past.{Past, past}
-use Rattle.relay_model.specs.Rooms.{Want, wanted}
+use Rattle.relay_model.specs.Past.{past}
+use Rattle.relay_model.specs.Rooms.{Want}
 use Rattle.relay_model.specs.Serve.{Call, call_for}
 use Rattle.relay_model.specs.Close.{closing_entry}
 use Rattle.relay_model.specs.Stages.{Fire, Halt, Stage, Between, Polling, Wanting, Marking, Accepting, Serving, Filtering, Dispatching, Firing, Freeing, Passing, Closing, Over, State, at, after_ask}
-use Rattle.relay_model.specs.Turn.{Puts, Quietly, after_fire, after_reading}
-use Rattle.relay_rows.proofs.OrderLemmas.{rank, Ahead, ahead-rank, fired-rank, no_closing, no_freeing, poll_failed-rank, opened-rank, asked-rank, Rise, rise-weaken, wanted-rise}
+use Rattle.relay_model.specs.Turn.{Puts, Quietly, after_reading}
+use Rattle.relay_rows.specs.Laws.{Ahead}
+use Rattle.relay_rows.proofs.OrderLemmas.{rank, ahead-rank, fired-rank, no_closing, no_freeing, poll_failed-rank, opened-rank, asked-rank, Rise, rise-weaken, wanted-rise}
 
 -- the sides of which marks may still be set
 abbrev pub unmarked : Stage → List Want

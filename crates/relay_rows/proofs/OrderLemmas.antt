@@ -1,8 +1,7 @@
 -- The order of stages between two entries. The relay goes through them in one direction, and an entry can be put at one
 -- place of them only.
 use Rattle.std.specs.Prelude.{filter, map}
-use Rattle.std.proofs.Common.{◌≡◌, ◌⊎◌, inl, inr, ℕ, zero, suc, ◌+◌, ◌*◌, ◌<◌, ◌≤◌, Bool, true, false, ◌||◌, if◌then◌else◌, List, [], ◌∷◌, Option, Some, None, refl, sym, ap, ◌∙◌, subst, arith, lit≤}
-use Rattle.ev_types.specs.declared.side.Side.TheVariants.{In, Out}
+use Rattle.std.proofs.Common.{◌≡◌, inl, inr, ℕ, zero, suc, ◌+◌, ◌*◌, ◌≤◌, Bool, true, false, ◌||◌, if◌then◌else◌, List, [], ◌∷◌, Some, refl, sym, ap, subst, arith, lit≤}
 use Rattle.ev_types.specs.declared.side.SideId.{SideId}
 use Rattle.ev_types.specs.declared.act.Act.{Act}
 use Rattle.ev_types.specs.declared.answer.AskAnswer.{AskAnswer}
@@ -19,6 +18,7 @@ use Rattle.relay_model.specs.Rooms.{Want, want_of, wanted}
 use Rattle.relay_model.specs.Close.{CloseStep, freed_entry, closing_entry}
 use Rattle.relay_model.specs.Stages.{Fire, Halt, Stage, Between, Polling, Wanting, Marking, Accepting, Serving, Filtering, Dispatching, Firing, Freeing, Passing, Closing, Over, State, at}
 use Rattle.relay_model.specs.Turn.{Puts, Quietly, after_fire}
+use Rattle.relay_rows.specs.Laws.{Ahead}
 use Rattle.relay_rows.proofs.PutConverse.{is_closing, closing_entry-is}
 
 -- how far a stage is on the way from one entry to the next
@@ -36,11 +36,6 @@ rank (Dispatching rs) = 5
 rank (Passing xs es) = 6
 rank (Closing cs) = 7
 rank (Over why) = 8
-
--- some silent steps of the relation from one state to another
-abbrev pub Ahead : Settings → Trace → ℕ → State → State → Type 0
-Ahead g t zero a s = a ≡ s
-Ahead g t (suc k) a s = (b : State) × Quietly g t a.stage a.plain b × Ahead g t k b s
 
 goes_to : (n : ℕ) (y : Stage) (p : Plain) (new : State) → new ≡ at y p → n ≤ rank y → n ≤ rank new.stage
 goes_to n y p new e h = subst (λ z. n ≤ rank z) (ap (λ x. x.stage) (sym e)) h

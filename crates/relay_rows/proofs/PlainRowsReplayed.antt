@@ -1,33 +1,33 @@
--- Each plain run is replayed, and comes to rest where it should.
-use Rattle.std.specs.Prelude.{◌≡◌, Some, refl}
+-- Each plain run is accepted.
+use Rattle.std.specs.Prelude.{refl}
 use Rattle.relay_model.specs.Settings.{usual}
-use Rattle.relay_model.specs.Stages.{Halt, Stage}
-use Rattle.relay_rows.specs.Replay.{stage_after}
+use Rattle.relay_rows.specs.Laws.{Goes, FailsToPoll}
 use Rattle.relay_rows.specs.PlainRows.{bytes_then_end, nothing_may_be_written, byte_by_byte, write_that_fails, request_and_answer, connect_that_fails, drained_at_the_end, time_stands_still, poll_that_fails}
+use Rattle.relay_rows.proofs.AcceptLemmas.{rests-went, rests-failed}
 
-pub bytes_then_end-went : stage_after usual bytes_then_end ≡ Some Stage.Between
-bytes_then_end-went = refl
+pub bytes_then_end-goes : Goes usual bytes_then_end
+bytes_then_end-goes = rests-went usual bytes_then_end refl
 
-pub nothing_may_be_written-went : stage_after usual nothing_may_be_written ≡ Some Stage.Between
-nothing_may_be_written-went = refl
+pub nothing_may_be_written-goes : Goes usual nothing_may_be_written
+nothing_may_be_written-goes = rests-went usual nothing_may_be_written refl
 
-pub byte_by_byte-went : stage_after usual byte_by_byte ≡ Some Stage.Between
-byte_by_byte-went = refl
+pub byte_by_byte-goes : Goes usual byte_by_byte
+byte_by_byte-goes = rests-went usual byte_by_byte refl
 
-pub write_that_fails-went : stage_after usual write_that_fails ≡ Some Stage.Between
-write_that_fails-went = refl
+pub write_that_fails-goes : Goes usual write_that_fails
+write_that_fails-goes = rests-went usual write_that_fails refl
 
-pub request_and_answer-went : stage_after usual request_and_answer ≡ Some Stage.Between
-request_and_answer-went = refl
+pub request_and_answer-goes : Goes usual request_and_answer
+request_and_answer-goes = rests-went usual request_and_answer refl
 
-pub connect_that_fails-went : stage_after usual connect_that_fails ≡ Some Stage.Between
-connect_that_fails-went = refl
+pub connect_that_fails-goes : Goes usual connect_that_fails
+connect_that_fails-goes = rests-went usual connect_that_fails refl
 
-pub drained_at_the_end-went : stage_after usual drained_at_the_end ≡ Some Stage.Between
-drained_at_the_end-went = refl
+pub drained_at_the_end-goes : Goes usual drained_at_the_end
+drained_at_the_end-goes = rests-went usual drained_at_the_end refl
 
-pub time_stands_still-went : stage_after usual time_stands_still ≡ Some Stage.Between
-time_stands_still-went = refl
+pub time_stands_still-goes : Goes usual time_stands_still
+time_stands_still-goes = rests-went usual time_stands_still refl
 
-pub poll_that_fails-over : stage_after usual poll_that_fails ≡ Some (Stage.Over Halt.PollFailed)
-poll_that_fails-over = refl
+pub poll_that_fails-fails : FailsToPoll usual poll_that_fails
+poll_that_fails-fails = rests-failed usual poll_that_fails refl

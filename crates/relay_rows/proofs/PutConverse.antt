@@ -1,5 +1,5 @@
 -- What the relation lets be put, the replay puts.
-use Rattle.std.proofs.Common.{◌≡◌, ◌⊎◌, inl, inr, ℕ, ◌+◌, ◌≤◌, Bool, true, false, ◌==◌, ◌&&◌, ◌||◌, not, nat_lt, nat_le, if◌then◌else◌, List, [], ◌∷◌, ◌++◌, length, Option, Some, None, option_map, refl, sym, ap, ◌∙◌, subst, eq-eqb, le-leb, lt-ltb}
+use Rattle.std.proofs.Common.{◌≡◌, inl, inr, ℕ, ◌+◌, ◌≤◌, Bool, true, false, ◌==◌, ◌&&◌, ◌||◌, not, nat_le, if◌then◌else◌, List, [], ◌∷◌, length, Option, Some, None, option_map, refl, sym, ap, ◌∙◌, eq-eqb, le-leb, lt-ltb}
 use Rattle.std.proofs.lemmas.Bool.{and_from}
 use Rattle.ev_types.specs.declared.side.Side.{Side}
 use Rattle.ev_types.specs.declared.side.Side.TheVariants.{In, Out}
@@ -20,15 +20,15 @@ use Rattle.ev_types.specs.declared.entry.Entry.TheVariants as entry
 use Rattle.ev_types.specs.Sides.{same_side, same_end}
 use Rattle.ev_types.specs.Trace.{Trace}
 use Rattle.relay_model.specs.Settings.{Settings}
-use Rattle.relay_model.specs.Plain.{Plain, is_live, with_link}
+use Rattle.relay_model.specs.Plain.{Plain}
 use Rattle.relay_model.specs.Past.{Past, past}
-use Rattle.relay_model.specs.Rooms.{Want, wanted}
-use Rattle.relay_model.specs.Asks.{most_asks, refusal, done, may_lack, Answered}
-use Rattle.relay_model.specs.Moments.{poll_timeout, time_passed}
-use Rattle.relay_model.specs.Serve.{Call, call_for, marks_left, CarriesGot, CarriesTook, after_conn, after_read, after_write}
+use Rattle.relay_model.specs.Rooms.{Want}
+use Rattle.relay_model.specs.Asks.{most_asks, refusal, may_lack, Answered}
+use Rattle.relay_model.specs.Moments.{poll_timeout}
+use Rattle.relay_model.specs.Serve.{Call, call_for, CarriesGot, CarriesTook}
 use Rattle.relay_model.specs.Close.{CloseStep, freed_entry, closing_entry, closed_by, steps_left}
-use Rattle.relay_model.specs.Stages.{Fire, Halt, Stage, Between, Polling, Wanting, Marking, Accepting, Serving, Filtering, Dispatching, Firing, Freeing, Passing, Closing, Over, State, at, begun, after_ask}
-use Rattle.relay_model.specs.Turn.{most_opened, latest, turned_to, after_reading, IsPartOf, Puts}
+use Rattle.relay_model.specs.Stages.{Fire, Stage, Between, Polling, Wanting, Marking, Accepting, Serving, Dispatching, Firing, Freeing, Closing, State, at, after_ask}
+use Rattle.relay_model.specs.Turn.{most_opened, latest, IsPartOf, Puts}
 use Rattle.relay_rows.specs.Same.{is_empty, same_flag, same_number, same_cause, same_why, same_answer, same_end_of}
 use Rattle.relay_rows.specs.Put.{provided, asks_connect, asks_read, asks_write, is_count_of, carries_got, carries_took, is_part_of, answered, put}
 
@@ -179,7 +179,7 @@ module _ (g : Settings) (t : Trace) (s : Plain) (bytes : List ℕ) (new : State)
   closing_from : (c : CloseStep) (cs : List CloseStep) (e : Entry) → closing_entry g (past g t) s c ≡ Some e → bytes ≡ [] →
       new ≡ at (Closing (steps_left c cs)) (closed_by c s) → put g t (Closing (c ∷ cs)) s e bytes ≡ Some new
   closing_from c cs e h none q =
-      ap (λ due. elim due [ | Some x ↦ provided (same_end_of x e && is_empty bytes) (at (Closing (steps_left c cs)) (closed_by c s)) | None ↦ None ]) h
+      ap (λ due. elim due [ Some x ↦ provided (same_end_of x e && is_empty bytes) (at (Closing (steps_left c cs)) (closed_by c s)) | None ↦ None ]) h
       ∙ provided-from (same_end_of e e && is_empty bytes) (at (Closing (steps_left c cs)) (closed_by c s)) new
       (and_from (same_end_of e e) (is_empty bytes) (closing-refl e (closing_entry-is g (past g t) s c e h)) (from_empty bytes none)) q
 
@@ -191,8 +191,8 @@ put-from g t Polling s (entry.Poll timeout) bytes new h =
 put-from g t (Wanting (w ∷ ws)) s (entry.Want side read write) bytes new h =
     provided-from _ _ new
     (and_from _ _
-      (and_from _ _ (and_from _ _ (from_end w.side side (ap (λ x. x.side) h.0)) (from_flag w.read read (ap (λ x. x.read) h.0))) (from_flag w.write write (ap (λ x. x.write) h.0)))
-      (from_empty bytes h.1))
+    (and_from _ _ (and_from _ _ (from_end w.side side (ap (λ x. x.side) h.0)) (from_flag w.read read (ap (λ x. x.read) h.0))) (from_flag w.write write (ap (λ x. x.write) h.0)))
+    (from_empty bytes h.1))
     h.2
 put-from g t (Wanting []) s entry.PollFailed bytes new h = provided-from _ _ new (from_empty bytes h.0) h.1
 put-from g t (Marking (w ∷ ws) marks) s (entry.Ready side read write) bytes new h =

@@ -1,5 +1,5 @@
 -- What the replay puts, the relation lets be put.
-use Rattle.std.proofs.Common.{◌≡◌, ◌⊎◌, inl, inr, ℕ, ◌+◌, ◌≤◌, Bool, true, false, ◌==◌, ◌&&◌, ◌||◌, not, nat_lt, nat_le, if◌then◌else◌, List, [], ◌∷◌, ◌++◌, length, Option, Some, None, option_map, IsTrue, refl, sym, ap, ◌∙◌, eqb-true, leb-true, ltb-true}
+use Rattle.std.proofs.Common.{◌≡◌, inl, inr, ℕ, ◌+◌, ◌≤◌, Bool, true, false, ◌==◌, ◌&&◌, ◌||◌, not, nat_lt, nat_le, if◌then◌else◌, List, [], ◌∷◌, ◌++◌, length, Option, Some, None, option_map, IsTrue, refl, ap, eqb-true, leb-true, ltb-true}
 use Rattle.std.proofs.lemmas.Bool.{and_parts}
 use Rattle.ev_types.specs.declared.side.SideId.{SideId}
 use Rattle.ev_types.specs.declared.answer.ConnAnswer.{ConnAnswer}
@@ -21,11 +21,11 @@ use Rattle.relay_model.specs.Due.{Reason}
 use Rattle.relay_model.specs.Plain.{Plain, with_link, is_live}
 use Rattle.relay_model.specs.Past.{Past, past}
 use Rattle.relay_model.specs.Rooms.{Want, wanted}
-use Rattle.relay_model.specs.Asks.{most_asks, refusal, done, may_lack, Answered, Ask}
+use Rattle.relay_model.specs.Asks.{most_asks, refusal, may_lack, Answered, Ask}
 use Rattle.relay_model.specs.Moments.{poll_timeout, time_passed}
 use Rattle.relay_model.specs.Serve.{Call, call_for, marks_left, CarriesGot, CarriesTook, after_conn, after_read, after_write}
 use Rattle.relay_model.specs.Close.{CloseStep, freed_entry, closing_entry, closed_by, steps_left}
-use Rattle.relay_model.specs.Stages.{Fire, Halt, Stage, Between, Polling, Wanting, Marking, Accepting, Serving, Filtering, Dispatching, Firing, Freeing, Passing, Closing, Over, State, at, begun, after_ask}
+use Rattle.relay_model.specs.Stages.{Fire, Halt, Stage, Between, Polling, Wanting, Marking, Accepting, Serving, Dispatching, Firing, Freeing, Closing, Over, State, at, begun, after_ask}
 use Rattle.relay_model.specs.Turn.{most_opened, latest, turned_to, after_reading, IsPartOf, Puts}
 use Rattle.relay_rows.specs.Same.{is_empty, same_flag, same_number, same_why, same_answer, same_end_of}
 use Rattle.relay_rows.specs.Put.{provided, asks_connect, asks_read, asks_write, asks_nothing, is_count_of, carries_got, carries_took, is_part_of, answered, put}
@@ -202,7 +202,7 @@ module _ (g : Settings) (t : Trace) (s : Plain) where
       (same_end_of-is e (freed_entry s gone cause.Hook) p.0, is_empty-is bytes p.1, w.1)
 
   closing_at : (due : Option Entry) (c : CloseStep) (cs : List CloseStep) (e : Entry) (bytes : List ℕ) (new : State) →
-      elim due [ | Some x ↦ provided (same_end_of x e && is_empty bytes) (at (Closing (steps_left c cs)) (closed_by c s)) | None ↦ None ] ≡ Some new →
+      elim due [ Some x ↦ provided (same_end_of x e && is_empty bytes) (at (Closing (steps_left c cs)) (closed_by c s)) | None ↦ None ] ≡ Some new →
       (due ≡ Some e) × (bytes ≡ []) × (new ≡ at (Closing (steps_left c cs)) (closed_by c s))
   closing_at None c cs e bytes new h = absurd (cc)
   closing_at (Some x) c cs e bytes new h =

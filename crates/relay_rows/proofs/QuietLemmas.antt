@@ -13,15 +13,15 @@ use Rattle.relay_model.specs.Flow.{Flow, no_flow}
 use Rattle.relay_model.specs.Settings.{Settings}
 use Rattle.relay_model.specs.Plain.{Plain, PlainSide, no_side, side_at, flow_at, put_side, put_flow, change_flow}
 use Rattle.relay_model.specs.Past.{Past, past}
-use Rattle.relay_model.specs.Rooms.{Want, read_mark}
+use Rattle.relay_model.specs.Rooms.{read_mark}
 use Rattle.relay_model.specs.Pass.{with_held, with_used, read_place, with_read_done, with_moved, with_turned, write_place, with_write_done}
 use Rattle.relay_model.specs.Round.{Part, meets, filter_in, filter_out, hold_of, read_run, write_run, do_part, round_parts, round}
 use Rattle.relay_model.specs.Serve.{call_for, marks_left}
-use Rattle.relay_model.specs.Close.{CloseStep, closing_entry}
-use Rattle.relay_model.specs.Stages.{Stage, Between, Polling, Wanting, Marking, Accepting, Serving, Filtering, Dispatching, Firing, Freeing, Passing, Closing, Over, State, at}
+use Rattle.relay_model.specs.Close.{closing_entry}
+use Rattle.relay_model.specs.Stages.{Stage, Wanting, Marking, Accepting, Serving, Filtering, Dispatching, Firing, Passing, Closing, State, at}
 use Rattle.relay_model.specs.Turn.{Quietly}
-use Rattle.relay_rows.specs.Same.{same_number, same_flow}
-use Rattle.relay_rows.specs.Put.{provided, asks_nothing}
+use Rattle.relay_rows.specs.Same.{same_flow}
+use Rattle.relay_rows.specs.Put.{asks_nothing}
 use Rattle.relay_rows.specs.Quiet.{keeps_place, leaves, is_passed, quiet}
 use Rattle.relay_rows.proofs.SameLemmas.{same_number-is, same_flow-is}
 use Rattle.relay_rows.proofs.PutLemmas.{provided-is, asks_nothing-is}

@@ -2,29 +2,28 @@
 -- steps, and puts an event where the replay puts it.
 use Rattle.std.specs.Prelude.{fold}
 use Rattle.std.specs.List.{list_all}
-use Rattle.std.proofs.Common.{◌≡◌, ◌⊎◌, inl, inr, ℕ, zero, suc, ◌≤◌, Bool, true, false, ◌&&◌, if◌then◌else◌, is_some, is_none, List, [], ◌∷◌, ◌++◌, Option, Some, None, refl, sym, ap, ◌∙◌, subst, append_assoc, arith}
+use Rattle.std.proofs.Common.{◌≡◌, ◌⊎◌, inl, inr, ℕ, zero, suc, ◌≤◌, Bool, true, false, if◌then◌else◌, is_none, List, [], ◌∷◌, Option, Some, None, refl, sym, ap, ◌∙◌, subst, arith}
 use Rattle.std.proofs.lemmas.Bool.{and_parts}
-use Rattle.std.proofs.lemmas.List.{append-nil}
 use Rattle.ev_types.specs.declared.side.SideId.{SideId}
 use Rattle.ev_types.specs.declared.entry.Entry.{Entry}
 use Rattle.ev_types.specs.Trace.{Event, Trace}
 use Rattle.relay_model.specs.Settings.{Settings}
 use Rattle.relay_model.specs.Plain.{Plain}
-use Rattle.relay_model.specs.Past.{Past, past}
+use Rattle.relay_model.specs.Past.{past}
 use Rattle.relay_model.specs.Round.{Part, do_part, round_parts, round}
 use Rattle.relay_model.specs.Serve.{Call, call_for, marks_left}
 use Rattle.relay_model.specs.Close.{closing_entry}
-use Rattle.relay_model.specs.Stages.{Stage, Between, Polling, Wanting, Marking, Accepting, Serving, Filtering, Dispatching, Firing, Freeing, Passing, Closing, Over, State, at, start}
-use Rattle.relay_model.specs.Turn.{Reaches, Puts, Quietly}
-use Rattle.relay_rows.specs.Put.{put, provided, asks_nothing}
+use Rattle.relay_model.specs.Stages.{Stage, Wanting, Marking, Accepting, Serving, Filtering, Dispatching, Firing, Passing, Closing, State, at}
+use Rattle.relay_model.specs.Turn.{Puts, Quietly}
+use Rattle.relay_rows.specs.Put.{put, asks_nothing}
 use Rattle.relay_rows.specs.Quiet.{leaves, is_passed, quiet}
-use Rattle.relay_rows.specs.Replay.{most_silent, step_within, step, replay_from, replay, rest_within}
+use Rattle.relay_rows.specs.Replay.{step_within, rest_within}
+use Rattle.relay_rows.specs.Laws.{Ahead}
 use Rattle.relay_rows.proofs.PutLemmas.{put-is}
 use Rattle.relay_rows.proofs.PutConverse.{provided-from, put-from}
 use Rattle.relay_rows.proofs.QuietLemmas.{do_part-same}
-use Rattle.relay_rows.proofs.ReplayLemmas.{replay-is}
-use Rattle.relay_rows.proofs.OrderLemmas.{rank, Ahead, Rise}
-use Rattle.relay_rows.proofs.OnceLemmas.{unmarked, quietly-rise, puts-rise, put_once}
+use Rattle.relay_rows.proofs.OrderLemmas.{rank, Rise}
+use Rattle.relay_rows.proofs.OnceLemmas.{unmarked, quietly-rise, put_once}
 
 -- Where the relation may go another way than the replay: a direction that is passed has one round more, or one is passed
 -- of which a part changes something and the round doesn't.
@@ -71,17 +70,17 @@ puts-rank g t _ p e bytes new h r = omega arith
 
 module _ (g : Settings) (t : Trace) where
   rest-next : (n : ℕ) (a b : State) → quiet g t a.stage a.plain ≡ Some b → rest_within (suc n) g t a ≡ rest_within n g t b
-  rest-next n a b q = ap (λ o. elim o [ | Some new ↦ rest_within n g t new | None ↦ Some a ]) q
+  rest-next n a b q = ap (λ o. elim o [ Some new ↦ rest_within n g t new | None ↦ Some a ]) q
 
   module _ (e : Event) where
     step-next : (n : ℕ) (a b : State) → put g t a.stage a.plain e.0 e.1 ≡ None → quiet g t a.stage a.plain ≡ Some b → step_within (suc n) g t a e ≡ step_within n g t b e
     step-next n a b q h =
-        ap (λ o. elim o [ | Some new ↦ Some new | None ↦ elim (quiet g t a.stage a.plain) [ | Some new ↦ step_within n g t new e | None ↦ None ] ]) q
-        ∙ ap (λ o. elim o [ | Some new ↦ step_within n g t new e | None ↦ None ]) h
+        ap (λ o. elim o [ Some new ↦ Some new | None ↦ elim (quiet g t a.stage a.plain) [ Some new ↦ step_within n g t new e | None ↦ None ] ]) q
+        ∙ ap (λ o. elim o [ Some new ↦ step_within n g t new e | None ↦ None ]) h
 
     step-here : (n : ℕ) (a new : State) → put g t a.stage a.plain e.0 e.1 ≡ Some new → step_within (suc n) g t a e ≡ Some new
     step-here n a new q =
-        ap (λ o. elim o [ | Some new ↦ Some new | None ↦ elim (quiet g t a.stage a.plain) [ | Some new ↦ step_within n g t new e | None ↦ None ] ]) q
+        ap (λ o. elim o [ Some new ↦ Some new | None ↦ elim (quiet g t a.stage a.plain) [ Some new ↦ step_within n g t new e | None ↦ None ] ]) q
 
     -- Within so many silent steps the relay comes to rest, or the event is put.
     abbrev pub Settles : ℕ → State → Type 0
@@ -113,7 +112,7 @@ module _ (g : Settings) (t : Trace) where
       settles-loop (suc most) (suc n) p le no_pass same h =
           let turn = ap (λ b. if b then Some (at (Passing [] cs) p) else Some (at (Passing (round_parts g (past g t) c p) (c ∷ cs)) p)) no_pass in
           let w = settles-parts (round_parts g (past g t) c p) n p
-                (settles-next n (at (Passing [] (c ∷ cs)) p) (at (Passing (round_parts g (past g t) c p) (c ∷ cs)) p) refl turn h) in
+          (settles-next n (at (Passing [] (c ∷ cs)) p) (at (Passing (round_parts g (past g t) c p) (c ∷ cs)) p) refl turn h) in
           let less = w.1 in
           settles-loop most w.0 p (omega arith) no_pass same (subst (λ y. Settles w.0 (at (Passing [] (c ∷ cs)) y)) same w.2)
 

@@ -1,14 +1,14 @@
 -- What is replayed is reached.
-use Rattle.std.proofs.Common.{◌≡◌, ℕ, zero, suc, List, [], ◌∷◌, ◌++◌, Option, Some, None, option_map, refl, sym, ap, subst, append_assoc}
+use Rattle.std.proofs.Common.{◌≡◌, ℕ, zero, suc, List, [], ◌∷◌, ◌++◌, Option, Some, None, option_map, refl, sym, subst, append_assoc}
 use Rattle.std.proofs.lemmas.List.{append-nil}
 use Rattle.ev_types.specs.Trace.{Event, Trace}
 use Rattle.relay_model.specs.Settings.{Settings}
 use Rattle.relay_model.specs.Plain.{Plain}
-use Rattle.relay_model.specs.Stages.{Stage, State, at, start}
+use Rattle.relay_model.specs.Stages.{State, at, start}
 use Rattle.relay_model.specs.Turn.{Reaches}
 use Rattle.relay_rows.specs.Put.{put}
 use Rattle.relay_rows.specs.Quiet.{quiet}
-use Rattle.relay_rows.specs.Replay.{most_silent, step_within, step, replay_from, replay, rest_within, rest, stage_after}
+use Rattle.relay_rows.specs.Replay.{most_silent, step_within, step, replay_from, replay, rest_within, rest}
 use Rattle.relay_rows.specs.Laws.{ReplayedIsReached, RestIsReached}
 use Rattle.relay_rows.proofs.PutLemmas.{put-is}
 use Rattle.relay_rows.proofs.QuietLemmas.{quiet-is}
@@ -20,11 +20,13 @@ step_within-is (suc n) g t x e new r h =
   where
     More : Type 0
     More = (mid : State) → Reaches g t mid → step_within n g t mid e ≡ Some new → Reaches g (t ++ e ∷ []) new
-    quiet_at : (q : Option State) → quiet g t x.stage x.plain ≡ q → More → elim q [ | Some mid ↦ step_within n g t mid e | None ↦ None ] ≡ Some new → Reaches g (t ++ e ∷ []) new
+
+    quiet_at : (q : Option State) → quiet g t x.stage x.plain ≡ q → More → elim q [ Some mid ↦ step_within n g t mid e | None ↦ None ] ≡ Some new → Reaches g (t ++ e ∷ []) new
     quiet_at None q more h = absurd (cc)
     quiet_at (Some mid) q more h = more mid (Reaches.goes r (quiet-is g t x.stage x.plain mid q)) h
+
     put_at : (p : Option State) → put g t x.stage x.plain e.0 e.1 ≡ p → More →
-        elim p [ | Some mid ↦ Some mid | None ↦ elim (quiet g t x.stage x.plain) [ | Some mid ↦ step_within n g t mid e | None ↦ None ] ] ≡ Some new → Reaches g (t ++ e ∷ []) new
+        elim p [ Some mid ↦ Some mid | None ↦ elim (quiet g t x.stage x.plain) [ Some mid ↦ step_within n g t mid e | None ↦ None ] ] ≡ Some new → Reaches g (t ++ e ∷ []) new
     put_at (Some mid) p more h =
         let same : mid ≡ new = cc in
         subst (λ s. Reaches g (t ++ e ∷ []) s) same (Reaches.puts e.0 e.1 r (put-is g t x.stage x.plain e.0 e.1 mid p))
@@ -39,7 +41,8 @@ replay_from-is (e ∷ es) g t x new r h =
   where
     More : Type 0
     More = (mid : State) → Reaches g (t ++ e ∷ []) mid → replay_from g (t ++ e ∷ []) mid es ≡ Some new → Reaches g ((t ++ e ∷ []) ++ es) new
-    step_at : (m : Option State) → step g t x e ≡ m → More → elim m [ | Some mid ↦ replay_from g (t ++ e ∷ []) mid es | None ↦ None ] ≡ Some new → Reaches g (t ++ e ∷ es) new
+
+    step_at : (m : Option State) → step g t x e ≡ m → More → elim m [ Some mid ↦ replay_from g (t ++ e ∷ []) mid es | None ↦ None ] ≡ Some new → Reaches g (t ++ e ∷ es) new
     step_at None m more h = absurd (cc)
     step_at (Some mid) m more h =
         subst (λ u. Reaches g u new) (append_assoc t (e ∷ []) es) (more mid (step_within-is most_silent g t x e mid r m) h)
@@ -54,14 +57,15 @@ rest_within-is (suc n) g t x new r h =
   where
     More : Type 0
     More = (mid : State) → Reaches g t mid → rest_within n g t mid ≡ Some new → Reaches g t new
-    quiet_at : (q : Option State) → quiet g t x.stage x.plain ≡ q → More → elim q [ | Some mid ↦ rest_within n g t mid | None ↦ Some x ] ≡ Some new → Reaches g t new
+
+    quiet_at : (q : Option State) → quiet g t x.stage x.plain ≡ q → More → elim q [ Some mid ↦ rest_within n g t mid | None ↦ Some x ] ≡ Some new → Reaches g t new
     quiet_at None q more h = let same : x ≡ new = cc in subst (λ s. Reaches g t s) same r
     quiet_at (Some mid) q more h = more mid (Reaches.goes r (quiet-is g t x.stage x.plain mid q)) h
 
 rest-is : (g : Settings) (t : Trace) (new : State) → rest g t ≡ Some new → Reaches g t new
 rest-is g t new h = replay_at (replay g t) refl h
   where
-    replay_at : (m : Option State) → replay g t ≡ m → elim m [ | Some x ↦ rest_within most_silent g t x | None ↦ None ] ≡ Some new → Reaches g t new
+    replay_at : (m : Option State) → replay g t ≡ m → elim m [ Some x ↦ rest_within most_silent g t x | None ↦ None ] ≡ Some new → Reaches g t new
     replay_at None m h = absurd (cc)
     replay_at (Some x) m h = rest_within-is most_silent g t x new (replay-is g t x m) h
 

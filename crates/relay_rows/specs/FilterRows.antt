@@ -1,10 +1,10 @@
 -- Worked runs with filters, marks and limits. Each line was worked out by hand from the rules.
-use Rattle.std.specs.Prelude.{ℕ, [], ◌∷◌, Some}
+use Rattle.std.specs.Prelude.{[], ◌∷◌}
 use Rattle.ev_types.specs.declared.filter.FilterKind.TheVariants as kind
 use Rattle.ev_types.specs.declared.why.Cause.TheVariants as cause
 use Rattle.ev_types.specs.Trace.{Trace}
 use Rattle.relay_model.specs.Settings.{Settings, usual}
-use Rattle.relay_rows.specs.RowWords.{in_of, out_of, turn, poll, wants_read, wants_both, can_read, can_write, opens, gets, ends, takes, frees, ends_writing, closes}
+use Rattle.relay_rows.specs.RowWords.{in_of, out_of, turn, poll, wants_read, wants_write, wants_both, can_read, can_write, opens, gets, ends, read_fails, takes, frees, ends_writing, closes}
 
 abbrev pub lf_in : Settings
 lf_in = record usual { in_read = kind.ToLf }
@@ -85,6 +85,20 @@ held_back =
     ∷ turn 3 ∷ poll ∷ wants_read (in_of 0) ∷ wants_both (out_of 0) ∷ can_write (out_of 0) ∷ takes (out_of 0) 3 (49 ∷ [])
     ∷ turn 4 ∷ poll ∷ wants_read (in_of 0) ∷ wants_both (out_of 0) ∷ can_write (out_of 0) ∷ takes (out_of 0) 4 (50 ∷ 51 ∷ 52 ∷ 53 ∷ [])
     ∷ turn 5 ∷ poll ∷ wants_read (in_of 0) ∷ wants_both (out_of 0) ∷ can_write (out_of 0) ∷ takes (out_of 0) 4 (54 ∷ 55 ∷ 56 ∷ 57 ∷ [])
+    ∷ []
+
+-- In fails while its direction is held. The rest of what was moved passes Out's write filter as there is room.
+abbrev pub held_and_drained : Trace
+held_and_drained =
+    turn 0 ∷ poll ∷ opens 0
+    ∷ turn 1 ∷ poll ∷ wants_read (in_of 0) ∷ wants_read (out_of 0) ∷ can_read (in_of 0)
+    ∷ gets (in_of 0) 16384 (48 ∷ 49 ∷ 50 ∷ 51 ∷ 52 ∷ 53 ∷ 54 ∷ 55 ∷ 56 ∷ 57 ∷ [])
+    ∷ turn 2 ∷ poll ∷ wants_read (in_of 0) ∷ wants_both (out_of 0) ∷ can_read (in_of 0) ∷ read_fails (in_of 0) 16384
+    ∷ frees (in_of 0) cause.Failed 10 0 ∷ closes (in_of 0)
+    ∷ turn 3 ∷ poll ∷ wants_write (out_of 0) ∷ can_write (out_of 0) ∷ takes (out_of 0) 4 (48 ∷ 49 ∷ 50 ∷ 51 ∷ [])
+    ∷ turn 4 ∷ poll ∷ wants_write (out_of 0) ∷ can_write (out_of 0) ∷ takes (out_of 0) 4 (52 ∷ 53 ∷ 54 ∷ 55 ∷ [])
+    ∷ turn 5 ∷ poll ∷ wants_write (out_of 0) ∷ can_write (out_of 0) ∷ takes (out_of 0) 2 (56 ∷ 57 ∷ [])
+    ∷ frees (out_of 0) cause.PeerGone 0 10 ∷ closes (out_of 0)
     ∷ []
 
 abbrev pub five_at_once : Settings

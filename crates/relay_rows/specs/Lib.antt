@@ -8,4 +8,10 @@ pub mod PlainRows
 pub mod FilterRows
 pub mod HookRows
 pub mod RateRows
+pub mod EdgeRows
+pub mod AskRows
+pub mod ReasonRows
+pub mod MarkRows
+pub mod Wrong
 pub mod WrongRows
+pub mod WrongEdges

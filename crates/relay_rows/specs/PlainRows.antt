@@ -1,5 +1,5 @@
 -- Worked runs without filters, marks, limits, timeouts and hooks. Each line was worked out by hand from the rules.
-use Rattle.std.specs.Prelude.{ℕ, [], ◌∷◌}
+use Rattle.std.specs.Prelude.{[], ◌∷◌}
 use Rattle.ev_types.specs.declared.why.Cause.TheVariants as cause
 use Rattle.ev_types.specs.Trace.{Trace}
 use Rattle.relay_rows.specs.RowWords.{in_of, out_of, turn, poll, poll_failed, wants_read, wants_write, wants_both, can_read, can_write, can_both, opens, opens_waiting, connect_fails, gets, ends, takes, write_fails, frees, ends_writing, closes}

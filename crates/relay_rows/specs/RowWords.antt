@@ -1,5 +1,5 @@
 -- Short words for the events of written-out traces. Each is one entry with the bytes beside it.
-use Rattle.std.specs.Prelude.{ℕ, Bool, true, false, List, [], ◌∷◌, length, Option, Some, None}
+use Rattle.std.specs.Prelude.{ℕ, true, false, List, [], length, Some, None}
 use Rattle.ev_types.specs.declared.side.Side.TheVariants.{In, Out}
 use Rattle.ev_types.specs.declared.side.SideId.{SideId}
 use Rattle.ev_types.specs.declared.answer.ConnAnswer.TheVariants as conn
@@ -60,20 +60,35 @@ opens k = (entry.Opened k true, [])
 abbrev pub opens_waiting : ℕ → Event
 opens_waiting k = (entry.Opened k false, [])
 
--- the check of a connecting end failed
+-- a connecting end was asked: it is connected, not yet, or can't be
+abbrev pub connects : SideId → Event
+connects e = (entry.Conn e conn.Connected, [])
+
+abbrev pub connect_waits : SideId → Event
+connect_waits e = (entry.Conn e conn.Pending, [])
+
 abbrev pub connect_fails : SideId → Event
 connect_fails e = (entry.Conn e conn.Failed, [])
 
--- an end was read with this room and gave these bytes, or was at its end
+-- an end was read with this room: it gave these bytes, was at its end, had nothing yet, or failed
 abbrev pub gets : SideId → ℕ → List ℕ → Event
 gets e room bytes = (entry.Read e room (read.Got (length bytes)), bytes)
 
 abbrev pub ends : SideId → ℕ → Event
 ends e room = (entry.Read e room read.Ended, [])
 
--- an end was offered so many bytes and took these, or failed
+abbrev pub read_waits : SideId → ℕ → Event
+read_waits e room = (entry.Read e room read.NotYet, [])
+
+abbrev pub read_fails : SideId → ℕ → Event
+read_fails e room = (entry.Read e room read.Failed, [])
+
+-- an end was offered so many bytes: it took these, none yet, or failed
 abbrev pub takes : SideId → ℕ → List ℕ → Event
 takes e offered bytes = (entry.Write e offered (write.Took (length bytes)), bytes)
+
+abbrev pub write_waits : SideId → ℕ → Event
+write_waits e offered = (entry.Write e offered write.NotYet, [])
 
 abbrev pub write_fails : SideId → ℕ → Event
 write_fails e offered = (entry.Write e offered write.Failed, [])

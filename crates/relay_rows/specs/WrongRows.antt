@@ -1,22 +1,14 @@
 -- Traces that can stand, each with one event behind it that can't. They are small changes of worked runs.
-use Rattle.std.specs.Prelude.{ℕ, [], ◌∷◌, ◌++◌, replicate}
+use Rattle.std.specs.Prelude.{[], ◌∷◌, ◌++◌, replicate}
 use Rattle.ev_types.specs.declared.act.Act.TheVariants as act
 use Rattle.ev_types.specs.declared.answer.AskAnswer.TheVariants as ask
 use Rattle.ev_types.specs.declared.why.Cause.TheVariants as cause
 use Rattle.ev_types.specs.declared.why.Why.TheVariants as why
-use Rattle.token_bucket.specs.declared.limit.Dir.TheVariants as dir
 use Rattle.ev_types.specs.Trace.{Event, Trace}
 use Rattle.relay_model.specs.Settings.{Settings, usual}
 use Rattle.relay_rows.specs.RowWords.{in_of, out_of, turn, poll, poll_for, poll_failed, wants_read, wants_both, can_read, can_write, opens, gets, ends, takes, write_fails, fires, asks, frees, ends_writing, closes}
+use Rattle.relay_rows.specs.Wrong.{Wrong, wrong}
 use Rattle.relay_rows.specs.HookRows.{hook_in, three_hooks, timeout_in}
-
-pub record Wrong : Type 0 where
-  pub settings : Settings
-  pub before : Trace  -- what can stand
-  pub event : Event  -- what can't stand behind it
-
-abbrev wrong : Settings → Trace → Event → Wrong
-wrong g t e = record { settings = g; before = t; event = e }
 
 -- One link is open, and another turn polls. Both sides want to read, and In is marked. In gives two bytes.
 abbrev opened : Trace

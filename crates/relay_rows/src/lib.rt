@@ -1,8 +1,18 @@
-//! Worked runs, replayed against the definitions of the relay.
+//! Worked runs of the relay, replayed against the definitions of `relay_model`. The replay stands in `specs/`; what it says of
+//! these definitions, and the runs, stand on the functions here, which do nothing.
 #![tactic(auto)]
 
-ghost use Rattle.std.specs.Prelude.{◌≡◌, true};
+mod laws;
+mod runs;
+mod wrong;
 
-pub fn nothing_yet()
-    ensures { true ≡ true }
-{}
+pub use laws::{one_state_is_reached, what_is_refused_is_illegal, what_is_replayed_is_legal};
+pub use runs::{
+    plain_runs_are_legal, runs_at_edges_are_legal, runs_of_asks_are_legal, runs_of_marks_are_legal,
+    runs_of_reasons_are_legal, runs_with_filters_are_legal, runs_with_hooks_are_legal,
+    runs_with_limits_are_legal,
+};
+pub use wrong::{
+    wrong_closing_is_refused, wrong_edges_are_refused, wrong_hook_steps_are_refused,
+    wrong_rooms_are_refused, wrong_turns_are_refused,
+};

@@ -1,0 +1,28 @@
+use Rattle.std.proofs.Common.{◌≡◌, [], Bool, true, false, refl, sym, ◌∙◌, ap, subst}
+use Rattle.std.specs.Prelude.{MatchBool}
+use Rattle.relay_core.specs.State.{State, RelayValue}
+use Rattle.relay_core.specs.Closing.{is_called_for, after_closing}
+use Rattle.relay_drive.specs.Steps.{Nothing}
+use Rattle.relay_drive.specs.Phases.{closing_events, Closes}
+use Rattle.relay_drive.proofs.GoesLemmas.{Grew-join}
+use Rattle.relay_drive.proofs.HeardLemmas.{goes_some, Heard-quiet}
+use Rattle.relay_drive.proofs.ClosingLemmas.{closing_quiet, closing_time, closing_vouched, closing_unfailed, closing_polls}
+use Rattle.relay_drive.proofs.close.close_step.Goals as goal
+
+pub returns-clause-went : goal.returns-clause-went
+returns-clause-went g c =
+    let l0 = g.S.Scribe.trace c.args.scribe.now in
+    let s = c.args.run.now.relay.state in
+    let new = c.close.new.self.state in
+    let step = c.args.step in
+    let events = closing_events s step in
+    let f = g.P.Port.faults c.args.port.now in
+    let h = g.P.Port.faults c.tell.new.port in
+    let yes : is_called_for s step ≡ true = sym c.calls_for.ensures ∙ c.if-not-calls_for.false in
+    let state : new ≡ after_closing s step = c.close.ensures ∙ ap (λ (r : RelayValue). after_closing r.state step) c.put_closing.ensures.relay in
+    goes_some l0 (g.S.Scribe.trace c.put_closing.new.scribe) f h events (closing_quiet s step)
+    (subst (λ b. MatchBool b (Closes step s events new) (Nothing s events new)) (sym yes) (record { entries = refl; state = state }))
+    (ap (λ (z : State). z.time) state ∙ closing_time s step) c.put_closing.ensures.counted
+    (Grew-join l0 (g.S.Scribe.trace c.reserve.new.self) (g.S.Scribe.trace c.put_closing.new.scribe) [] events c.reserve.ensures.trace c.put_closing.ensures.list)
+    (closing_vouched (g.P.Port.vouches c.args.port.now) (g.P.Port.vouches c.tell.new.port) s step c.tell.ensures.vouched c.tell.ensures.unheard)
+    (Heard-quiet f h events c.tell.ensures.cause (λ e. closing_unfailed s step e) (closing_polls s step))

@@ -1,0 +1,11 @@
+use Rattle.std.proofs.Common.{◌≡◌, []}
+use Rattle.relay_drive.specs.Steps.{Each}
+use Rattle.relay_drive.specs.Phases.{PassesLink, links_from}
+use Rattle.relay_drive.proofs.pass.pass.Given as goal
+
+abbrev pub invariant-loop-link : goal.invariant-loop-link
+invariant-loop-link l = record {
+  went : Each PassesLink (links_from 0 l.link) l.fn.relay.state [] l.relay.state;
+  time : l.relay.state.time ≡ l.fn.relay.state.time;
+  kept : l.relay.state.opened ≡ l.fn.relay.state.opened;
+}

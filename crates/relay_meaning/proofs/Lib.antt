@@ -1,0 +1,14 @@
+pub mod Pieces
+pub mod StraightLemmas
+pub mod EndLemmas
+pub mod AgreeLemmas
+pub mod RoomLemmas
+pub mod FlowParts
+pub mod TouchLemmas
+pub mod PassSteps
+pub mod SideSteps
+pub mod ServeSteps
+pub mod WriteSteps
+pub mod FreeSteps
+pub mod CloseSteps
+pub mod TurnSteps

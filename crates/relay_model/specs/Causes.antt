@@ -1,0 +1,99 @@
+-- Why a side is freed, told from what stands before its free and from the state in which it is freed.
+use Rattle.std.specs.Prelude.{◌≡◌, ◌⊎◌, ℕ, ◌-◌, ◌<◌, ◌≤◌, Bool, true, false, List, [], ◌∷◌, ◌++◌, take, Some, None}
+use Rattle.std.specs.List.{list_any}
+use Rattle.token_bucket.specs.declared.limit.Dir.{Dir}
+use Rattle.ev_types.specs.declared.side.SideId.{SideId}
+use Rattle.ev_types.specs.declared.act.Act.TheVariants as act
+use Rattle.ev_types.specs.declared.answer.AskAnswer.TheVariants as ask
+use Rattle.ev_types.specs.declared.why.Cause.{Cause}
+use Rattle.ev_types.specs.declared.why.Cause.TheVariants as cause
+use Rattle.ev_types.specs.declared.entry.Entry.TheVariants as entry
+use Rattle.ev_types.specs.Sides.{peer}
+use Rattle.ev_types.specs.Trace.{Event, Trace}
+use Rattle.relay_model.specs.Trace.{bytes_read, has_ended, is_write_closed}
+use Rattle.relay_model.specs.Filter.{Filter}
+use Rattle.relay_model.specs.Flow.{middle}
+use Rattle.relay_model.specs.Settings.{Settings}
+use Rattle.relay_model.specs.Plain.{Plain, side_at, flow_at, is_live}
+use Rattle.relay_model.specs.Past.{past}
+use Rattle.relay_model.specs.Rooms.{read_filter, write_filter, wants, output_length}
+use Rattle.relay_model.specs.Moments.{timeout_of, last_activity}
+use Rattle.relay_model.specs.Close.{CloseStep, fault}
+use Rattle.relay_model.specs.Stages.{Stage, at}
+use Rattle.relay_model.specs.Turn.{turned_to, Reaches, IsLegal}
+use Rattle.relay_model.specs.Told.{begins_turn, is_freed, has_failed, failed_by}
+
+-- an event of the running turn passes the test
+pub record InThisTurn (test : Event → Bool) (t : Trace) : Type 0 where
+  pub early : Trace
+  pub event : Event
+  pub since : Trace
+  pub is : t ≡ early ++ event ∷ since
+  pub passes : test event ≡ true
+  pub same_turn : list_any begins_turn since ≡ false
+
+-- the last event is an ask that freed the side, answered Ok
+pub record AskedFree (t : Trace) (e : SideId) : Type 0 where
+  pub early : Trace
+  pub me : SideId
+  pub is : t ≡ early ++ (entry.Asked me (act.Free e) ask.Ok, []) ∷ []
+
+-- In a state in which a turn begins at a time, a direction is wanted, has a timeout, and was not active for as long as that.
+pub record IsOverdue (g : Settings) (t : Trace) (ms : ℕ) (s : Plain) (e : SideId) (d : Dir) : Type 0 where
+  pub has_timeout : 1 ≤ timeout_of (side_at s e) d
+  pub wanted : wants g (past g (t ++ (entry.Turn ms, []) ∷ [])) (turned_to ms s) e d ≡ true
+  pub idle : timeout_of (side_at s e) d ≤ ms - last_activity (side_at s e) d
+
+-- so it was for the side as the running turn began
+pub record TimedOut (g : Settings) (t : Trace) (e : SideId) : Type 0 where
+  pub early : Trace
+  pub ms : ℕ
+  pub since : Trace
+  pub is : t ≡ early ++ (entry.Turn ms, []) ∷ since
+  pub same_turn : list_any begins_turn since ≡ false
+  pub before : Plain
+  pub reached : Reaches g early (at Stage.Between before)
+  pub dir : Dir
+  pub overdue : IsOverdue g early ms before e dir
+
+-- the trace leads to the place of closing where the side is looked at for faults
+pub record LookedAt (g : Settings) (t : Trace) (s : Plain) (e : SideId) : Type 0 where
+  pub left : List CloseStep
+  pub reached : Reaches g t (at (Stage.Closing (CloseStep.Faulty e ∷ left)) s)
+
+-- The first bad place of a list, or of its end where no more will come.
+pub record IsFirstBad (f : Filter) (xs : List ℕ) (over : Bool) (place : ℕ) : Type 0 where
+  pub at_end : f.bad_at_end xs ≡ Some place
+  pub before : over ≡ false → f.bad xs ≡ Some place
+
+-- what was moved to a side
+abbrev pub moved_to : Settings → Trace → Plain → SideId → List ℕ
+moved_to g t s e = let f = flow_at s (peer e) in take f.moved (middle (read_filter g s (peer e)) (bytes_read (peer e) t) f)
+
+-- A place is bad for the side's read filter in what was read from it, or for its write filter in what was moved to it.
+abbrev pub IsBadPlace : Settings → Trace → Plain → SideId → ℕ → Type 0
+IsBadPlace g t s e place =
+    IsFirstBad (read_filter g s e) (bytes_read e t) (has_ended e t) place ⊎ IsFirstBad (write_filter g s e) (moved_to g t s e) (has_ended (peer e) t) place
+
+-- What stands behind a cause with which a side is freed. A hook asked for it just now. Or closing found it faulty: its end
+-- failed in this turn; else it timed out as the turn began; else a filter of it met a bad place. Or writing was ended
+-- at both ends of the link. Or its peer was freed, and nothing is left that it might be given.
+abbrev pub HasCause : Settings → Trace → SideId → Cause → Type 0
+HasCause g t e cause.Hook = AskedFree t e
+HasCause g t e cause.Failed = (s : Plain) × LookedAt g t s e × InThisTurn (failed_by e) t
+HasCause g t e cause.Timeout = (s : Plain) × LookedAt g t s e × (has_failed e t ≡ false) × TimedOut g t e
+HasCause g t e (cause.Filter place) =
+    (s : Plain) × LookedAt g t s e × (has_failed e t ≡ false) × ((side_at s e).expired ≡ false) × IsBadPlace g t s e place
+HasCause g t e cause.Done = (is_write_closed e t ≡ true) × (is_write_closed (peer e) t ≡ true)
+HasCause g t e cause.PeerGone =
+    (is_freed (peer e) t ≡ true) × ((x : Stage) × (s : Plain) × Reaches g t (at x s) × (output_length g (past g t) s e ≡ 0))
+
+-- each free of a legal trace has its cause
+abbrev pub FreesHaveCauses : Type 0
+FreesHaveCauses = (g : Settings) (t before after : Trace) (e : SideId) (why : Cause) (moved given : ℕ) (bytes : List ℕ) → IsLegal g t →
+    t ≡ before ++ (entry.Freed e why moved given, bytes) ∷ after → HasCause g before e why
+
+-- Between turns no live side of an opened link is faulty: each that failed, timed out or met a bad place was freed.
+abbrev pub FaultsAreFreed : Type 0
+FaultsAreFreed = (g : Settings) (t : Trace) (s : Plain) (e : SideId) → Reaches g t (at Stage.Between s) →
+    e.link < s.opened → is_live s e ≡ true → fault (side_at s e) ≡ None

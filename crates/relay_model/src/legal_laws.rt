@@ -1,0 +1,34 @@
+// The laws that every legal trace obeys, each on a function whose contract it is.
+ghost use Rattle.relay_model.specs.Causes.{FaultsAreFreed, FreesHaveCauses};
+ghost use Rattle.relay_model.specs.Quiet.{LegalIsQuiet};
+ghost use Rattle.relay_model.specs.Told.{LinksInOrder, StateIsTold, TimeRises};
+
+/// The counts of the plain state, and what it says of each side, are what the trace says that leads to it.
+pub fn state_is_told()
+    ensures { StateIsTold }
+{}
+
+/// The time of a turn is not below that of the turn before, and never above the latest.
+pub fn time_rises()
+    ensures { TimeRises }
+{}
+
+/// Links are opened in the order of their numbers, none left out.
+pub fn links_in_order()
+    ensures { LinksInOrder }
+{}
+
+/// Behind the free of a side stands nothing of it but its one close, and what its hook asks in the rest of that fire.
+pub fn legal_is_quiet()
+    ensures { LegalIsQuiet }
+{}
+
+/// Each free has the cause that it tells.
+pub fn frees_have_causes()
+    ensures { FreesHaveCauses }
+{}
+
+/// Between turns no live side has failed, timed out or met a bad place: closing freed each of them.
+pub fn faults_are_freed()
+    ensures { FaultsAreFreed }
+{}
