@@ -166,7 +166,7 @@ pub record Held (g : Settings) (t : Trace) (x : Stage) (s : Plain) : Type 0 wher
 -- a side that lives was not freed
 pub live-unfreed : (g : Settings) (t : Trace) (x : Stage) (s : Plain) → Kept g t x s → (e : SideId) → is_live s e ≡ true → is_freed e t ≡ false
 live-unfreed g t x s k e live =
-    let told = k.each e (live-there s e k.counts.sides live) in
+    let told = k.each e (live-there s e k.counts.shape.sides live) in
     (or_parts (is_freed e t) (is_freeing x e) (not-true _ (sym told.live ∙ live))).0
 
 pub held : (g : Settings) (t : Trace) (s : State) → Reaches g t s → Held g t s.stage s.plain
@@ -187,5 +187,5 @@ held g t new (Reaches.puts {t = u} {s = old} e bytes r h) =
     record {
       runs = put-runs g u old.plain old.stage (e, bytes) new unfreed before.runs k;
       hook = put-hook g u old.plain old.stage (e, bytes) new unfreed k;
-      ready = put-ready g u old.plain old.stage (e, bytes) new c.counts.sides c.placed before.ready k;
+      ready = put-ready g u old.plain old.stage (e, bytes) new c.counts.shape.sides c.placed before.ready k;
     }

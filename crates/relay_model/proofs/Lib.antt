@@ -62,3 +62,4 @@ pub mod BadLemmas
 pub mod CauseLemmas
 pub mod GrownLemmas
 pub mod BadSteps
+pub mod TotalLemmas

@@ -21,7 +21,8 @@ use Rattle.relay_model.specs.Moments.{timeout_of, last_activity}
 use Rattle.relay_model.specs.Close.{CloseStep, fault}
 use Rattle.relay_model.specs.Stages.{Stage, at}
 use Rattle.relay_model.specs.Turn.{turned_to, Reaches, IsLegal}
-use Rattle.relay_model.specs.Told.{begins_turn, is_freed, has_failed, failed_by}
+use Rattle.relay_model.specs.RatesKept.{is_turn}
+use Rattle.relay_model.specs.Told.{is_freed, has_failed, failed_by}
 
 -- an event of the running turn passes the test
 pub record InThisTurn (test : Event → Bool) (t : Trace) : Type 0 where
@@ -30,7 +31,7 @@ pub record InThisTurn (test : Event → Bool) (t : Trace) : Type 0 where
   pub since : Trace
   pub is : t ≡ early ++ event ∷ since
   pub passes : test event ≡ true
-  pub same_turn : list_any begins_turn since ≡ false
+  pub same_turn : list_any is_turn since ≡ false
 
 -- the last event is an ask that freed the side, answered Ok
 pub record AskedFree (t : Trace) (e : SideId) : Type 0 where
@@ -50,7 +51,7 @@ pub record TimedOut (g : Settings) (t : Trace) (e : SideId) : Type 0 where
   pub ms : ℕ
   pub since : Trace
   pub is : t ≡ early ++ (entry.Turn ms, []) ∷ since
-  pub same_turn : list_any begins_turn since ≡ false
+  pub same_turn : list_any is_turn since ≡ false
   pub before : Plain
   pub reached : Reaches g early (at Stage.Between before)
   pub dir : Dir

@@ -1,7 +1,7 @@
 // The laws that every legal trace obeys, each on a function whose contract it is.
 ghost use Rattle.relay_model.specs.Causes.{FaultsAreFreed, FreesHaveCauses};
 ghost use Rattle.relay_model.specs.Quiet.{LegalIsQuiet};
-ghost use Rattle.relay_model.specs.Told.{LinksInOrder, StateIsTold, TimeRises};
+ghost use Rattle.relay_model.specs.Told.{FreesTellTotals, LinksInOrder, StateIsTold, TimeRises};
 
 /// The counts of the plain state, and what it says of each side, are what the trace says that leads to it.
 pub fn state_is_told()
@@ -16,6 +16,11 @@ pub fn time_rises()
 /// Links are opened in the order of their numbers, none left out.
 pub fn links_in_order()
     ensures { LinksInOrder }
+{}
+
+/// The two numbers of a free are how many bytes were moved from the side and given to its end, also later.
+pub fn frees_tell_totals()
+    ensures { FreesTellTotals }
 {}
 
 /// Behind the free of a side stands nothing of it but its one close, and what its hook asks in the rest of that fire.
