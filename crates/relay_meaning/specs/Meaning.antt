@@ -9,7 +9,7 @@ use Rattle.relay_model.specs.Flow.{Flow}
 use Rattle.relay_model.specs.Settings as model
 use Rattle.relay_model.specs.Plain as plain
 use Rattle.relay_model.specs.Stages.{Stage, at}
-use Rattle.relay_model.specs.Turn.{Reaches, IsLegal}
+use Rattle.relay_model.specs.Turn.{latest, Reaches, IsLegal}
 use Rattle.relay_model.specs.Stands.{IsUntold}
 use Rattle.relay_core.specs.declared.flags.SideFlags.{SideFlags}
 use Rattle.relay_core.specs.declared.settings.Settings.{Settings}
@@ -104,10 +104,11 @@ pub record AgreesAt (t : Trace) (s : State) (p : plain.Plain) (e : SideId) : Typ
   pub ended : (flags_at s e).ended ≡ has_ended e t
   pub read : (side_at s e).read ≡ length (bytes_read e t)
 
--- What the relay keeps is what the model keeps after a trace, at each side of the opened links. No timer runs, nothing is due,
--- and nothing is told of a link that was not opened.
+-- What the relay keeps is what the model keeps after a trace, at each side of the opened links. The time is not beyond the
+-- latest, no timer runs, nothing is due, and nothing is told of a link that was not opened.
 pub record Agrees (t : Trace) (s : State) (p : plain.Plain) : Type 0 where
   pub time : p.time ≡ s.time
+  pub in_time : s.time ≤ latest
   pub opened : p.opened ≡ s.opened
   pub timers : p.timers ≡ []
   pub due : p.due ≡ []
