@@ -3,3 +3,4 @@ pub mod HeardLemmas
 pub mod EachLemmas
 pub mod ClosingLemmas
 pub mod PollLemmas
+pub mod MeantFolds
