@@ -4,3 +4,4 @@ pub mod EachLemmas
 pub mod ClosingLemmas
 pub mod PollLemmas
 pub mod AcceptLemmas
+pub mod MeantFolds
