@@ -3,3 +3,5 @@ pub mod HeardLemmas
 pub mod EachLemmas
 pub mod ClosingLemmas
 pub mod PollLemmas
+pub mod AcceptLemmas
+pub mod MeantFolds

@@ -27,7 +27,7 @@ use Rattle.relay_model.specs.Turn.{Reaches, turned_to, latest, most_opened}
 use Rattle.relay_core.specs.State.{State, SideValue, no_side, new_side, fresh, no_lane, side_at, flags_at}
 use Rattle.relay_core.specs.Opening.{after_opened}
 use Rattle.relay_core.specs.Rooms as core
-use Rattle.relay_meaning.specs.Meaning.{model_settings, meant, direction_of, AgreesAt, Agrees, StandsFor, HoldsFor}
+use Rattle.relay_meaning.specs.Meaning.{model_settings, meant, direction_of, AgreesAt, Agrees, StandsFor}
 use Rattle.relay_meaning.proofs.StraightLemmas.{straight-first}
 use Rattle.relay_meaning.proofs.EndLemmas.{SameTold, IsSilent, told-same, untold-same, number-below}
 use Rattle.relay_meaning.proofs.AgreeLemmas.{SameAt, agrees-untouched, agrees-silent, agrees_at-same}
@@ -51,10 +51,6 @@ silent-ready e r w a = record { read = refl; given = refl; ended = refl; moved =
 
 silent-opened : (link : ℕ) (connected : Bool) (a : SideId) → IsSilent (entry.Opened link connected, []) a
 silent-opened link connected a = record { read = refl; given = refl; ended = refl; moved = refl; given_free = refl; closed = refl }
-
--- what stands may be cut off
-pub stands-holds : (t : Trace) (x : Stage) (s : State) → StandsFor t x s → HoldsFor t s
-stands-holds t x s k = record { legal = (_, k.reached); plain = k.plain; agrees = k.agrees }
 
 -- The clock
 
