@@ -64,3 +64,5 @@ pub mod GrownLemmas
 pub mod BadSteps
 pub mod TotalLemmas
 pub mod LeftLemmas
+pub mod LeftSteps
+pub mod NextLemmas

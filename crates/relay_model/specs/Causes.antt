@@ -94,6 +94,11 @@ abbrev pub FreesHaveCauses : Type 0
 FreesHaveCauses = (g : Settings) (t before after : Trace) (e : SideId) (why : Cause) (moved given : ℕ) (bytes : List ℕ) → IsLegal g t →
     t ≡ before ++ (entry.Freed e why moved given, bytes) ∷ after → HasCause g before e why
 
+-- What a hook frees is recorded next: behind an ask that frees a side, answered Ok, stands its free or nothing.
+abbrev pub AskedFreesAreNext : Type 0
+AskedFreesAreNext = (g : Settings) (t before after : Trace) (me e : SideId) (bytes : List ℕ) (next : Event) → IsLegal g t →
+    t ≡ before ++ (entry.Asked me (act.Free e) ask.Ok, bytes) ∷ next ∷ after → (moved : ℕ) × (given : ℕ) × (next ≡ (entry.Freed e cause.Hook moved given, []))
+
 -- Between turns no live side of an opened link is faulty: each that failed, timed out or met a bad place was freed.
 abbrev pub FaultsAreFreed : Type 0
 FaultsAreFreed = (g : Settings) (t : Trace) (s : Plain) (e : SideId) → Reaches g t (at Stage.Between s) →

@@ -1,5 +1,5 @@
 // The laws that every legal trace obeys, each on a function whose contract it is.
-ghost use Rattle.relay_model.specs.Causes.{FaultsAreFreed, FreesHaveCauses, NothingIsLeft};
+ghost use Rattle.relay_model.specs.Causes.{AskedFreesAreNext, FaultsAreFreed, FreesHaveCauses, NothingIsLeft};
 ghost use Rattle.relay_model.specs.Quiet.{LegalIsQuiet};
 ghost use Rattle.relay_model.specs.Told.{FreesTellTotals, LinksInOrder, StateIsTold, TimeRises};
 
@@ -31,6 +31,11 @@ pub fn legal_is_quiet()
 /// Each free has the cause that it tells.
 pub fn frees_have_causes()
     ensures { FreesHaveCauses }
+{}
+
+/// Behind an ask that freed a side stands the record of that free.
+pub fn asked_frees_are_next()
+    ensures { AskedFreesAreNext }
 {}
 
 /// Between turns no live side has failed, timed out or met a bad place: closing freed each of them.

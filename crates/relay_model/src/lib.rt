@@ -13,7 +13,7 @@ pub use laws::{
     what_is_met_is_bad,
 };
 pub use legal_laws::{
-    faults_are_freed, frees_have_causes, frees_tell_totals, legal_is_quiet, links_in_order,
+    asked_frees_are_next, faults_are_freed, frees_have_causes, frees_tell_totals, legal_is_quiet, links_in_order,
     nothing_is_left, state_is_told, time_rises,
 };
 pub use played_laws::{
