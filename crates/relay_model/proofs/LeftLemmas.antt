@@ -1,39 +1,25 @@
 -- What closing has still to look at, each thing for itself, and that between turns nothing is left.
-use Rattle.relay_model.proofs.TraceLemmas.{bytes_read-push}
-use Rattle.std.proofs.Common.{eq-eqb, ◌≡◌, ℕ, zero, suc, ◌+◌, ◌<◌, ◌≤◌, Bool, true, false, ◌&&◌, ◌||◌, not, ◌==◌, List, [], ◌∷◌, ◌++◌, length, None, ◌⊎◌, inl, inr, refl, sym, ◌∙◌, ap, subst, arith}
+use Rattle.std.proofs.Common.{eq-eqb, ◌≡◌, ℕ, zero, suc, ◌+◌, ◌<◌, ◌≤◌, Bool, true, false, ◌&&◌, ◌||◌, not, ◌==◌, List, [], ◌∷◌, None, ◌⊎◌, inl, inr, refl, sym, ◌∙◌, ap, arith}
 use Rattle.std.specs.Prelude.{⊤}
 use Rattle.std.specs.List.{list_any}
-use Rattle.std.proofs.lemmas.Bool.{and_from, or_parts, or_from, or_left, or_right, eqb-true, not-true, cases_order, or_cases}
-use Rattle.std.proofs.lemmas.List.{append-nil}
+use Rattle.std.proofs.lemmas.Bool.{and_from, or_left, or_right, eqb-true, cases_order}
 use Rattle.ev_types.specs.declared.side.Side.{Side}
 use Rattle.ev_types.specs.declared.side.Side.TheVariants.{In, Out}
 use Rattle.ev_types.specs.declared.side.SideId.{SideId}
 use Rattle.ev_types.specs.declared.entry.Entry.{Entry}
 use Rattle.ev_types.specs.Sides.{same_end, peer}
-use Rattle.ev_types.specs.Trace.{Event, Trace}
+use Rattle.ev_types.specs.Trace.{Trace}
 use Rattle.relay_model.specs.Settings.{Settings}
-use Rattle.relay_model.specs.Trace.{read_by, bytes_read, ended_by, write_closed_by}
-use Rattle.relay_model.specs.Plain.{flow_at, Plain, side_at, is_live}
+use Rattle.relay_model.specs.Plain.{Plain, side_at, is_live}
 use Rattle.relay_model.specs.Past.{Past, past}
-use Rattle.relay_model.specs.Rooms.{raw_input_at, input_at, output_at, raw_output_at, output_length}
-use Rattle.relay_model.specs.Close.{CloseStep, closing_of, closing_from, freed_entry, entry_where, closing_entry, closed_by, steps_left, is_complete}
-use Rattle.relay_model.specs.Stages.{Stage, State, at, Between, Closing}
-use Rattle.relay_model.specs.Turn.{after_reading, Reaches}
-use Rattle.relay_model.specs.Told.{freed_by, end_closed_by, is_freeing}
+use Rattle.relay_model.specs.Rooms.{output_length}
+use Rattle.relay_model.specs.Close.{CloseStep, closing_of, closing_from, freed_entry, entry_where, closing_entry, is_complete}
+use Rattle.relay_model.specs.Stages.{Stage, State, Between, Closing}
 use Rattle.relay_model.proofs.EndLemmas.{peer-peer, same_end-eq, same_end-refl}
-use Rattle.relay_model.proofs.KeepsLemmas.{Keeps, Keeps-side, Keeps-put}
-use Rattle.relay_model.proofs.SeenLemmas.{Seen, seen}
-use Rattle.relay_model.proofs.EffectLemmas.{SideEffect, Effect, or_no}
 use Rattle.std.proofs.lemmas.Bool.{and_from}
 use Rattle.std.proofs.lemmas.List.Folds.{list_any-append}
-use Rattle.relay_model.proofs.FireLemmas.{is_open_stage, QuietKind, quiet-kind, reading-open}
-use Rattle.relay_model.proofs.ToldLemmas.{kept}
-use Rattle.relay_model.proofs.StageLemmas.{closed-opened}
-use Rattle.relay_model.specs.Causes.{NothingIsLeft}
-use Rattle.relay_model.proofs.HeldLemmas.{held, FirstReady, DoneReady}
-use Rattle.relay_model.proofs.StepLemmas.{put-effect}
-use Rattle.relay_model.proofs.FaultLemmas.{rest, was-live}
-use Rattle.relay_model.proofs.KindLemmas.{ClosedKind, closed-kind, PutKind, put-kind}
+use Rattle.relay_model.proofs.FireLemmas.{is_open_stage, QuietKind}
+use Rattle.relay_model.proofs.FaultLemmas.{rest}
 use Rattle.ev_types.specs.declared.why.Cause.TheVariants as cause
 use Rattle.ev_types.specs.declared.entry.Entry.TheVariants as entry
 

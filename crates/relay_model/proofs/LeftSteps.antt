@@ -1,12 +1,9 @@
 -- What a step of closing leaves of what is still to be looked at, by induction over the steps.
 use Rattle.relay_model.proofs.TraceLemmas.{bytes_read-push}
-use Rattle.std.proofs.Common.{eq-eqb, ◌≡◌, ℕ, zero, suc, ◌+◌, ◌<◌, ◌≤◌, Bool, true, false, ◌&&◌, ◌||◌, not, ◌==◌, List, [], ◌∷◌, ◌++◌, length, None, ◌⊎◌, inl, inr, refl, sym, ◌∙◌, ap, subst, arith}
-use Rattle.std.specs.Prelude.{⊤}
+use Rattle.std.proofs.Common.{◌≡◌, ℕ, zero, suc, ◌<◌, ◌≤◌, Bool, true, false, ◌&&◌, ◌||◌, not, ◌==◌, List, [], ◌∷◌, ◌++◌, length, None, ◌⊎◌, inl, inr, refl, sym, ◌∙◌, ap, subst, arith}
 use Rattle.std.specs.List.{list_any}
-use Rattle.std.proofs.lemmas.Bool.{and_from, or_parts, or_from, or_left, or_right, eqb-true, not-true, cases_order, or_cases}
+use Rattle.std.proofs.lemmas.Bool.{and_from, or_parts, or_from, or_right, eqb-true, not-true, or_cases}
 use Rattle.std.proofs.lemmas.List.{append-nil}
-use Rattle.ev_types.specs.declared.side.Side.{Side}
-use Rattle.ev_types.specs.declared.side.Side.TheVariants.{In, Out}
 use Rattle.ev_types.specs.declared.side.SideId.{SideId}
 use Rattle.ev_types.specs.declared.entry.Entry.{Entry}
 use Rattle.ev_types.specs.Sides.{same_end, peer}
@@ -16,7 +13,7 @@ use Rattle.relay_model.specs.Trace.{read_by, bytes_read, ended_by, write_closed_
 use Rattle.relay_model.specs.Plain.{flow_at, Plain, side_at, is_live}
 use Rattle.relay_model.specs.Past.{Past, past}
 use Rattle.relay_model.specs.Rooms.{raw_input_at, input_at, output_at, raw_output_at, output_length}
-use Rattle.relay_model.specs.Close.{CloseStep, closing_of, closing_from, freed_entry, entry_where, closing_entry, closed_by, steps_left, is_complete}
+use Rattle.relay_model.specs.Close.{CloseStep, closed_by, steps_left, is_complete}
 use Rattle.relay_model.specs.Stages.{Stage, State, at, Between, Closing}
 use Rattle.relay_model.specs.Turn.{after_reading, Reaches}
 use Rattle.relay_model.specs.Told.{freed_by, end_closed_by, is_freeing}
@@ -25,8 +22,7 @@ use Rattle.relay_model.proofs.KeepsLemmas.{Keeps, Keeps-side, Keeps-put}
 use Rattle.relay_model.proofs.SeenLemmas.{Seen, seen}
 use Rattle.relay_model.proofs.EffectLemmas.{SideEffect, Effect, or_no}
 use Rattle.std.proofs.lemmas.Bool.{and_from}
-use Rattle.std.proofs.lemmas.List.Folds.{list_any-append}
-use Rattle.relay_model.proofs.FireLemmas.{is_open_stage, QuietKind, quiet-kind, reading-open}
+use Rattle.relay_model.proofs.FireLemmas.{quiet-kind, reading-open}
 use Rattle.relay_model.proofs.ToldLemmas.{kept}
 use Rattle.relay_model.proofs.StageLemmas.{closed-opened}
 use Rattle.relay_model.specs.Causes.{NothingIsLeft}
@@ -34,10 +30,8 @@ use Rattle.relay_model.proofs.HeldLemmas.{held, FirstReady, DoneReady}
 use Rattle.relay_model.proofs.StepLemmas.{put-effect}
 use Rattle.relay_model.proofs.FaultLemmas.{rest, was-live}
 use Rattle.relay_model.proofs.KindLemmas.{ClosedKind, closed-kind, PutKind, put-kind}
-use Rattle.ev_types.specs.declared.why.Cause.TheVariants as cause
-use Rattle.ev_types.specs.declared.entry.Entry.TheVariants as entry
 use Rattle.relay_model.proofs.BadLemmas.{closed-flows}
-use Rattle.relay_model.proofs.LeftLemmas.{Needs, Followed, Left, AllLeft, Lefts, open-left, quiet-left, in-or-out, in_of, out_of, shuts, leaves, ends, joins, Has}
+use Rattle.relay_model.proofs.LeftLemmas.{Needs, Followed, Left, Lefts, open-left, quiet-left, in-or-out, in_of, out_of, shuts, leaves, ends, joins, Has}
 
 -- What a step of closing leaves
 

@@ -1,12 +1,9 @@
 -- What a hook frees is recorded next.
 use Rattle.ev_types.specs.declared.why.Cause.TheVariants as cause
 use Rattle.relay_model.specs.Stages.{Wanting, Marking, Serving, Dispatching, Firing, Freeing, Closing}
-use Rattle.ev_types.specs.Sides.{peer, same_end}
+use Rattle.ev_types.specs.Sides.{peer}
 use Rattle.relay_model.proofs.StageLemmas.{quiet-silent}
-use Rattle.std.proofs.Common.{◌≡◌, ℕ, ◌+◌, ◌<◌, ◌≤◌, Bool, true, false, ◌||◌, if◌then◌else◌, List, [], ◌∷◌, ◌++◌, ◌⊎◌, inl, inr, refl, sym, ◌∙◌, ap, subst, arith, append_assoc, count_by}
-use Rattle.std.specs.List.{list_any, list_all}
-use Rattle.std.proofs.lemmas.Bool.{and_parts, or_parts, or_from, not-true}
-use Rattle.ev_types.specs.declared.side.Side.TheVariants.{In, Out}
+use Rattle.std.proofs.Common.{◌≡◌, ℕ, true, List, [], ◌∷◌, ◌++◌, ◌⊎◌, inl, inr, refl, sym, ◌∙◌, ap, subst, append_assoc}
 use Rattle.ev_types.specs.declared.side.SideId.{SideId}
 use Rattle.ev_types.specs.declared.act.Act.TheVariants as act
 use Rattle.ev_types.specs.declared.answer.AskAnswer.TheVariants as ask
@@ -14,24 +11,17 @@ use Rattle.ev_types.specs.declared.entry.Entry.{Entry}
 use Rattle.ev_types.specs.declared.entry.Entry.TheVariants as entry
 use Rattle.ev_types.specs.Trace.{Event, Trace}
 use Rattle.relay_model.specs.Settings.{Settings}
-use Rattle.relay_model.specs.Plain.{flow_at, Plain, side_at, is_live, freed}
+use Rattle.relay_model.specs.Plain.{flow_at, Plain}
 use Rattle.relay_model.specs.Past.{Past, past}
 use Rattle.relay_model.specs.Close.{CloseStep}
 use Rattle.relay_model.specs.Stages.{Stage, State}
-use Rattle.relay_model.specs.Turn.{Puts, Reaches, latest}
-use Rattle.relay_model.specs.Told.{freed_by, is_freed, end_closed_by, is_freeing}
+use Rattle.relay_model.specs.Turn.{Puts, Reaches}
+use Rattle.relay_model.specs.Told.{is_freeing}
 use Rattle.relay_model.proofs.EndLemmas.{same_end-eq, same_end-refl}
-use Rattle.relay_model.proofs.PlacedLemmas.{Placed, may_read-parts, may_write-live, link_of}
-use Rattle.relay_model.specs.Quiet.{starts_at, asked_by, is_within_fire, behind_fire, LegalIsQuiet}
-use Rattle.relay_model.specs.Told.{StateIsTold, TimeRises, LinksInOrder}
-use Rattle.std.proofs.lemmas.List.Sums.{sum_by-append}
-use Rattle.std.proofs.lemmas.List.Folds.{list_any-append}
-use Rattle.relay_model.proofs.SplitLemmas.{IsLast, IsEarlier, pushed_split, reaches_split, none_from_splits}
-use Rattle.relay_model.proofs.HeldLemmas.{Held, held, DoneReady, FirstReady, live-unfreed}
-use Rattle.relay_model.proofs.FireLemmas.{InRun, Runs, any-split}
-use Rattle.relay_model.proofs.ToldLemmas.{Kept, kept, list_any-push}
-use Rattle.relay_model.proofs.KindLemmas.{ClosedKind, closed-kind, PutKind, put-kind}
-use Rattle.relay_model.proofs.QuietLemmas.{There, there}
+use Rattle.relay_model.specs.Quiet.{asked_by}
+use Rattle.relay_model.proofs.SplitLemmas.{IsLast, IsEarlier, pushed_split}
+use Rattle.relay_model.proofs.KindLemmas.{ClosedKind, closed-kind, PutKind}
+use Rattle.relay_model.proofs.QuietLemmas.{there}
 use Rattle.relay_model.specs.Causes.{AskedFreesAreNext}
 
 -- closing asks nothing
