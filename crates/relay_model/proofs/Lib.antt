@@ -66,3 +66,4 @@ pub mod TotalLemmas
 pub mod LeftLemmas
 pub mod LeftSteps
 pub mod NextLemmas
+mod QuietExamples
