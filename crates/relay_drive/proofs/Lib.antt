@@ -5,3 +5,4 @@ pub mod ClosingLemmas
 pub mod PollLemmas
 pub mod AcceptLemmas
 pub mod MeantFolds
+pub mod BoundLemmas
