@@ -75,7 +75,7 @@ ordered-written n hold finish x k = go x.flow.held
         let s = shifted (turned_now hold x.buffers) x.buffers.output x.buffers.raw_output most in
         record { used = k.used; moved = k.moved; turned = omega (arith, s.0, k.turned); given = omega (arith, s.1, k.given) }
 
-ordered-round : (n hold : ℕ) (ended from_live to_live : Bool) (x : Lane) → IsOrdered n x → IsOrdered n (round hold ended from_live to_live x)
+pub ordered-round : (n hold : ℕ) (ended from_live to_live : Bool) (x : Lane) → IsOrdered n x → IsOrdered n (round hold ended from_live to_live x)
 ordered-round n hold ended from_live false x k = k
 ordered-round n hold ended false true x k = ordered-written n hold false (held hold x) (ordered-held n hold x k)
 ordered-round n hold ended true true x k =
@@ -83,11 +83,11 @@ ordered-round n hold ended true true x k =
     let b : Lane = read_filtered ended a in
     ordered-written n hold true (moved b) (ordered-moved n b (ordered-read n ended a (ordered-held n hold x k)))
 
-ordered-rounds : (n m : ℕ) (f : Lane → Lane) (x : Lane) → ((y : Lane) → IsOrdered n y → IsOrdered n (f y)) → IsOrdered n x → IsOrdered n (rounds m f x)
+pub ordered-rounds : (n m : ℕ) (f : Lane → Lane) (x : Lane) → ((y : Lane) → IsOrdered n y → IsOrdered n (f y)) → IsOrdered n x → IsOrdered n (rounds m f x)
 ordered-rounds n zero f x each k = k
 ordered-rounds n (suc m) f x each k = ordered-rounds n m f (f x) each (each x k)
 
-side-got : (n : ℕ) (x : SideValue) (bytes : List ℕ) → length bytes ≤ 16384 → SideIsWithin n x → SideIsWithin (n + 16384) (got_side x bytes)
+pub side-got : (n : ℕ) (x : SideValue) (bytes : List ℕ) → length bytes ≤ 16384 → SideIsWithin n x → SideIsWithin (n + 16384) (got_side x bytes)
 side-got n x bytes h k =
     let a = length-append x.lane.buffers.raw_input bytes in
     let l = k.lane in
@@ -97,7 +97,7 @@ side-got n x bytes h k =
           (record { used = omega (arith, a, l.used); moved = l.moved; turned = l.turned; given = l.given });
     }
 
-ordered-took : (n m : ℕ) (x : Lane) → m ≤ length x.buffers.raw_output → IsOrdered n x → IsOrdered n (took_lane x m)
+pub ordered-took : (n m : ℕ) (x : Lane) → m ≤ length x.buffers.raw_output → IsOrdered n x → IsOrdered n (took_lane x m)
 ordered-took n m x h k = let s = shifted m x.buffers.raw_output [] h in record { used = k.used; moved = k.moved; turned = k.turned; given = omega (arith, s.0, k.given) }
 
 side-gone : (n : ℕ) (x : SideValue) → SideIsWithin n x → SideIsWithin n (gone x)
@@ -134,23 +134,23 @@ module _ (links : ℕ) where
   pub within-more : (n m : ℕ) (s : State) → n ≤ m → StateIsWithin n links s → StateIsWithin m links s
   within-more n m s h k = record { allowed = k.allowed; opened = k.opened; sides = λ i. side-more n m (get_or s.sides i no_side) h (k.sides i) }
 
-  within-side : (n : ℕ) (s : State) (e : SideId) (x : SideValue) → SideIsWithin n x → StateIsWithin n links s → StateIsWithin n links (with_side s e x)
+  pub within-side : (n : ℕ) (s : State) (e : SideId) (x : SideValue) → SideIsWithin n x → StateIsWithin n links s → StateIsWithin n links (with_side s e x)
   within-side n s e x h k = record { allowed = k.allowed; opened = k.opened; sides = λ i. set-all (SideIsWithin n) s.sides (number e) i x no_side h (k.sides i) }
 
-  within-flags : (n : ℕ) (s : State) (e : SideId) (f : SideFlags) → StateIsWithin n links s → StateIsWithin n links (with_flags s e f)
+  pub within-flags : (n : ℕ) (s : State) (e : SideId) (f : SideFlags) → StateIsWithin n links s → StateIsWithin n links (with_flags s e f)
   within-flags n s e f k = let x = k.sides (number e) in within-side n s e (record (side_at s e) { flags = f }) (record { read = x.read; lane = x.lane }) k
 
-  within-lane : (n : ℕ) (s : State) (e : SideId) (y : Lane) → IsOrdered (side_at s e).read y → StateIsWithin n links s → StateIsWithin n links (with_lane s e y)
+  pub within-lane : (n : ℕ) (s : State) (e : SideId) (y : Lane) → IsOrdered (side_at s e).read y → StateIsWithin n links s → StateIsWithin n links (with_lane s e y)
   within-lane n s e y h k = let x = k.sides (number e) in within-side n s e (record (side_at s e) { lane = y }) (record { read = x.read; lane = h }) k
 
-  within-freed : (n : ℕ) (s : State) (e : SideId) → StateIsWithin n links s → StateIsWithin n links (freed s e)
+  pub within-freed : (n : ℕ) (s : State) (e : SideId) → StateIsWithin n links s → StateIsWithin n links (freed s e)
   within-freed n s e k =
       let x : SideValue = gone (side_at s e) in
       let own : State = with_side s e x in
       let h = within-side n s e x (side-gone n (side_at s e) (k.sides (number e))) k in
       within-side n own (peer e) (peer_gone (side_at own (peer e))) (side-peer_gone n (side_at own (peer e)) (h.sides (number (peer e)))) h
 
-  within-opened : (n : ℕ) (s : State) (connected : Bool) → s.opened < s.settings.links → StateIsWithin n links s → StateIsWithin n links (after_opened s connected)
+  pub within-opened : (n : ℕ) (s : State) (connected : Bool) → s.opened < s.settings.links → StateIsWithin n links s → StateIsWithin n links (after_opened s connected)
   within-opened n s connected h k = record {
     allowed = k.allowed;
     opened = omega (arith, h, k.allowed);

@@ -6,3 +6,5 @@ pub mod PollLemmas
 pub mod AcceptLemmas
 pub mod MeantFolds
 pub mod BoundLemmas
+pub mod BoundSteps
+pub mod BoundLaws
