@@ -4,3 +4,5 @@ pub mod EachLemmas
 pub mod ClosingLemmas
 pub mod PollLemmas
 pub mod MeantFolds
+pub mod MeantServing
+pub mod MeantTurn
