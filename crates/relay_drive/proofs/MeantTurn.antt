@@ -21,8 +21,8 @@ use Rattle.relay_drive.specs.declared.fault.DriveFault.{DriveFault}
 use Rattle.relay_drive.specs.declared.fault.DriveFault.TheVariants as fault
 use Rattle.relay_drive.specs.Steps.{Nothing, Then, Each, CutAt}
 use Rattle.relay_drive.specs.Calls.{Ticks}
-use Rattle.relay_drive.specs.Phases as phases
-use Rattle.relay_drive.specs.Phases.{links_from, want_of, wants_some, wants_of, wants_of_links, wanted, can_open, Polls, PollFails, CutPoll, OpensOne, OpensSome, Accepts, AcceptsWhere, PollsAndAccepts, CutAccepting, CutPolling, ServesSide, CutServing, PassesLink, CutPassingLink, ForAllLinks, CutForAllLinks, ClosesLink, CutClosingLink, Turns, CutTurn}
+use Rattle.relay_drive.specs.Phases.CutTurn.{before, in_poll, in_serving, in_passing, in_closing}
+use Rattle.relay_drive.specs.Phases.{links_from, want_of, wants_some, wants_of, wants_of_links, wanted, can_open, Polls, PollFails, CutPoll, OpensOne, OpensSome, AcceptsMore, AcceptsWhere, PollsAndAccepts, CutAccepting, CutPolling, ServesSide, CutServing, PassesLink, CutPassingLink, ForAllLinks, CutForAllLinks, ClosesLink, CutClosingLink, Turns, CutTurn}
 use Rattle.relay_meaning.specs.Meaning.{StandsFor, LeftFor}
 use Rattle.relay_meaning.proofs.TurnSteps.{named, marks_of, want_at, wanted_by, MarkedWithin, turn-stands, poll-stands, poll_failed-stands, opened-stands, accepted-stands, served-stands, passed_all-stands, closed_all-stands}
 use Rattle.relay_drive.proofs.MeantFolds.{StandsWith, Each_is, stands-nothing, all-keeps, cut-leaves}
@@ -177,12 +177,18 @@ poll_fails-leaves t s new a k h =
     (subst (LeftFor TurnAnswer.PollFault (t ++ poll_events None h.named polled.Failed)) (sym h.state)
     (record { stage = Stage.Over Halt.PollFailed; stands = poll_failed-stands t s h.named (marks.0 ∙ wanted-named s) k; left = refl }))
 
-accepting-leaves : (t : Trace) (s new : State) (a : Trace) → StandsFor t Stage.Polling s → (marked : List Want) → Then (Polls marked true) Accepts s a new → LeftFor TurnAnswer.Memory (t ++ a) new
-accepting-leaves t s new a k marked h =
+-- accepting is refused where one link more was allowed
+accepting-leaves : (t : Trace) (s new : State) (a : Trace) (marked : List Want) → StandsFor t Stage.Polling s → Then (Polls marked true) AcceptsMore s a new →
+    LeftFor TurnAnswer.Memory (t ++ a) new × LeftFor TurnAnswer.OpenFault (t ++ a) new
+accepting-leaves t s new a marked k h =
     let poll = polls-stand t s h.middle h.front marked true k h.first in
-    let opens = opens-stand h.second.0 (marks_of marked) (t ++ h.front) h.middle new h.back h.second.1 poll.0 h.second.2 in
-    subst (λ z. LeftFor TurnAnswer.Memory z new) (append_assoc t h.front h.back ∙ ap (λ z. t ++ z) (sym h.joined))
-    (record { stage = Stage.Accepting h.second.0 (marks_of marked); stands = opens.0; left = tt })
+    let n = h.second.0 in
+    let few = h.second.1 in
+    let opens = opens-stand n (marks_of marked) (t ++ h.front) h.middle new h.back (omega (arith, few)) poll.0 h.second.3 in
+    let stage : Stage = Stage.Accepting n (marks_of marked) in
+    let stands : StandsFor (t ++ a) stage new = subst (λ z. StandsFor z stage new) (append_assoc t h.front h.back ∙ ap (λ z. t ++ z) (sym h.joined)) opens.0 in
+    let more : stands.plain.opened < new.settings.links = (let b = stands.agrees.opened in let c = h.second.2 in omega (arith, b, c)) in
+    (record { stage = stage; stands = stands; left = tt }, record { stage = stage; stands = stands; left = (few, more) })
 
 -- From phase to phase
 
@@ -239,3 +245,70 @@ turn-keeps t s new a k turn =
     (joined-stands Stage.Between new.opened ((t ++ h.front) ++ p.front) v.front v.back p.back new v.joined
     (joined-stands Stage.Between new.opened (((t ++ h.front) ++ p.front) ++ v.front) q.front q.back v.back new q.joined
     (record { stands = closed; opened = refl }))))).stands
+
+-- Turns that are cut off
+
+-- polling is refused
+polling-leaves : (f : DriveFault) (t : Trace) (s new : State) (a : Trace) → StandsWith s.opened t Stage.Polling s → CutPolling f s a new → LeftFor (answer_of f) (t ++ a) new
+polling-leaves fault.Memory t s new a k (inl h) = left-stands s.opened (t ++ a) Stage.Polling new tt (stands-nothing s.opened t Stage.Polling s new a k h)
+polling-leaves fault.PollFault t s new a k (inl h) = poll_fails-leaves t s new a k.stands h
+polling-leaves fault.OpenFault t s new a k (inl h) = absurd h
+polling-leaves fault.Spent t s new a k (inl h) = absurd h
+polling-leaves fault.Memory t s new a k (inr h) = (accepting-leaves t s new a h.0 k.stands h.1).0
+polling-leaves fault.PollFault t s new a k (inr h) = absurd h
+polling-leaves fault.OpenFault t s new a k (inr h) = (accepting-leaves t s new a h.0 k.stands h.1).1
+polling-leaves fault.Spent t s new a k (inr h) = absurd h
+
+serving-leaves : (marked : List Want) (t : Trace) (s new : State) (a : Trace) → StandsWith s.opened t (serving marked) s → Each_is (IsBelow s.opened) marked → CutAt ServesSide CutServing marked s a new →
+    LeftFor TurnAnswer.Memory (t ++ a) new
+serving-leaves marked t s new a k below h =
+    cut-leaves s.opened (IsBelow s.opened) serving ServesSide (serving-keeps s.opened) CutServing (LeftFor TurnAnswer.Memory) (serving-cut s.opened) marked t s new a below k h
+
+passing-leaves : (n : ℕ) (t : Trace) (s new : State) (a : Trace) → StandsWith n t (Stage.Serving []) s → CutForAllLinks PassesLink CutPassingLink s a new → LeftFor TurnAnswer.Memory (t ++ a) new
+passing-leaves n t s new a k h =
+    cut-leaves s.opened (link_below s.opened) passing_links PassesLink (passing_links-keep s.opened) CutPassingLink (LeftFor TurnAnswer.Memory) (passing_links-cut s.opened)
+    (links_from 0 s.opened) t s new a (all-below s.opened) (served-pass n t s k) h
+
+closing-leaves : (n : ℕ) (t : Trace) (s new : State) (a : Trace) → StandsWith n t (Stage.Passing [] []) s → CutForAllLinks ClosesLink CutClosingLink s a new → LeftFor TurnAnswer.Memory (t ++ a) new
+closing-leaves n t s new a k h =
+    cut-leaves s.opened (link_below s.opened) closing_links ClosesLink (closing_links-keep s.opened) CutClosingLink (LeftFor TurnAnswer.Memory) (closing_links-cut s.opened)
+    (links_from 0 s.opened) t s new a (all-below s.opened) (passed-close n t s k) h
+
+-- A turn that is cut off leaves the relay standing for the longer trace, at a stage at which a turn may answer so.
+pub cut-turn-leaves : (f : DriveFault) (t : Trace) (s new : State) (a : Trace) → StandsFor t Stage.Between s → CutTurn f s a new → LeftFor (answer_of f) (t ++ a) new
+cut-turn-leaves f t s new a k (before h) =
+    left-stands s.opened (t ++ a) Stage.Between new tt (stands-nothing s.opened t Stage.Between s new a (record { stands = k; opened = refl }) h)
+cut-turn-leaves f t s new a k (in_poll reading h) =
+    let tick = tick-stands t s h.middle h.front reading k h.first in
+    joined-leaves (answer_of f) t h.front h.back a new h.joined
+    (polling-leaves f (t ++ h.front) h.middle new h.back (record { stands = tick.stands; opened = refl }) h.second)
+cut-turn-leaves f t s new a k (in_serving reading marked h) =
+    let tick = tick-stands t s h.middle h.front reading k h.first in
+    let p = h.second in
+    let poll = accepts-stand marked (t ++ h.front) h.middle p.middle p.front tick.stands p.first in
+    joined-leaves TurnAnswer.Memory t h.front h.back a new h.joined
+    (joined-leaves TurnAnswer.Memory (t ++ h.front) p.front p.back h.back new p.joined
+    (serving-leaves marked ((t ++ h.front) ++ p.front) p.middle new p.back poll.0 poll.1 p.second))
+cut-turn-leaves f t s new a k (in_passing reading marked h) =
+    let tick = tick-stands t s h.middle h.front reading k h.first in
+    let p = h.second in
+    let poll = accepts-stand marked (t ++ h.front) h.middle p.middle p.front tick.stands p.first in
+    let v = p.second in
+    let served = serves-all marked ((t ++ h.front) ++ p.front) p.middle v.middle v.front poll.0 poll.1 v.first in
+    joined-leaves TurnAnswer.Memory t h.front h.back a new h.joined
+    (joined-leaves TurnAnswer.Memory (t ++ h.front) p.front p.back h.back new p.joined
+    (joined-leaves TurnAnswer.Memory ((t ++ h.front) ++ p.front) v.front v.back p.back new v.joined
+    (passing-leaves p.middle.opened (((t ++ h.front) ++ p.front) ++ v.front) v.middle new v.back served v.second)))
+cut-turn-leaves f t s new a k (in_closing reading marked h) =
+    let tick = tick-stands t s h.middle h.front reading k h.first in
+    let p = h.second in
+    let poll = accepts-stand marked (t ++ h.front) h.middle p.middle p.front tick.stands p.first in
+    let v = p.second in
+    let served = serves-all marked ((t ++ h.front) ++ p.front) p.middle v.middle v.front poll.0 poll.1 v.first in
+    let q = v.second in
+    let passed = passes-all p.middle.opened (((t ++ h.front) ++ p.front) ++ v.front) v.middle q.middle q.front served q.first in
+    joined-leaves TurnAnswer.Memory t h.front h.back a new h.joined
+    (joined-leaves TurnAnswer.Memory (t ++ h.front) p.front p.back h.back new p.joined
+    (joined-leaves TurnAnswer.Memory ((t ++ h.front) ++ p.front) v.front v.back p.back new v.joined
+    (joined-leaves TurnAnswer.Memory (((t ++ h.front) ++ p.front) ++ v.front) q.front q.back v.back new q.joined
+    (closing-leaves v.middle.opened ((((t ++ h.front) ++ p.front) ++ v.front) ++ q.front) q.middle new q.back passed q.second))))

@@ -99,6 +99,10 @@ OpensSome (suc n) s a new = Then (OpensSome n) OpensOne s a new
 abbrev pub Accepts : State → Trace → State → Type 0
 Accepts s a new = (n : ℕ) × (n ≤ 64) × OpensSome n s a new
 
+-- links were opened, and one more was allowed
+abbrev pub AcceptsMore : State → Trace → State → Type 0
+AcceptsMore s a new = (n : ℕ) × (n < 64) × (new.opened < new.settings.links) × OpensSome n s a new
+
 abbrev pub AcceptsWhere : Bool → State → Trace → State → Type 0
 AcceptsWhere ready s a new = MatchBool ready (Accepts s a new) (Nothing s a new)
 
@@ -108,8 +112,8 @@ PollsAndAccepts marked s a new = (ready : Bool) × Then (Polls marked ready) (Ac
 
 -- accepting was refused behind a poll
 abbrev pub CutAccepting : DriveFault → State → Trace → State → Type 0
-CutAccepting fault.Memory s a new = (marked : List Want) × Then (Polls marked true) Accepts s a new
-CutAccepting fault.OpenFault s a new = (marked : List Want) × Then (Polls marked true) Accepts s a new
+CutAccepting fault.Memory s a new = (marked : List Want) × Then (Polls marked true) AcceptsMore s a new
+CutAccepting fault.OpenFault s a new = (marked : List Want) × Then (Polls marked true) AcceptsMore s a new
 CutAccepting fault.PollFault s a new = ⊥
 CutAccepting fault.Spent s a new = ⊥
 
