@@ -4,3 +4,4 @@ pub mod LinkLemmas
 pub mod ScriptLemmas
 pub mod ToldLemmas
 pub mod CallLemmas
+pub mod LawLemmas

@@ -16,3 +16,4 @@ pub mod ScriptLinksView
 pub mod ScriptPort
 pub mod ScriptTold
 pub mod ScriptPortView
+pub mod ScriptLaws

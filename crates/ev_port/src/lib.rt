@@ -3,6 +3,7 @@
 //! script and over the toolchain's streams. There is no socket here.
 #![tactic(auto)]
 
+mod laws;
 mod memory;
 mod mute;
 mod port;
@@ -14,6 +15,7 @@ mod standard;
 mod stream;
 
 pub use ev_types::{ConnAnswer, ReadAnswer, WriteAnswer};
+pub use laws::{lines_bring_bytes, reads_lose_nothing};
 pub use memory::{MemSink, MemSource};
 pub use mute::Mute;
 pub use port::{Accepted, Addr, Polled, Port, Started, Want};

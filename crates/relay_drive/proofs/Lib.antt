@@ -3,6 +3,7 @@ pub mod HeardLemmas
 pub mod EachLemmas
 pub mod ClosingLemmas
 pub mod PollLemmas
+pub mod AcceptLemmas
 pub mod MeantFolds
 pub mod MeantServing
 pub mod MeantTurn

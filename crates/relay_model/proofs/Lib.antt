@@ -58,3 +58,7 @@ pub mod QuietLemmas
 pub mod FaultLemmas
 pub mod TimeLemmas
 pub mod FaultSteps
+pub mod BadLemmas
+pub mod CauseLemmas
+pub mod GrownLemmas
+pub mod BadSteps

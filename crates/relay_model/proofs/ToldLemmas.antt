@@ -1,5 +1,5 @@
 -- What the plain state that a trace leads to and the trace tell of each other, by induction over the steps.
-use Rattle.std.proofs.Common.{◌≡◌, ℕ, ◌+◌, ◌*◌, ◌<◌, ◌≤◌, Bool, true, false, ◌&&◌, ◌||◌, not, if◌then◌else◌, List, [], ◌∷◌, ◌++◌, length, Option, Some, None, ◌⊎◌, inl, inr, refl, sym, ◌∙◌, ap, subst, arith, fold, count_by}
+use Rattle.std.proofs.Common.{◌≡◌, ℕ, ◌+◌, ◌*◌, ◌<◌, ◌≤◌, Bool, true, false, ◌&&◌, ◌||◌, not, if◌then◌else◌, List, [], ◌∷◌, ◌++◌, length, ◌⊎◌, inl, inr, refl, sym, ◌∙◌, ap, subst, arith, count_by}
 use Rattle.std.specs.List.{list_any}
 use Rattle.std.proofs.lemmas.Bool.{or_parts, or_from, cases_lt}
 use Rattle.std.proofs.lemmas.List.Folds.{list_any-append}
@@ -10,18 +10,17 @@ use Rattle.ev_types.specs.declared.answer.ReadAnswer.TheVariants as read
 use Rattle.ev_types.specs.declared.answer.WriteAnswer.TheVariants as write
 use Rattle.ev_types.specs.declared.entry.Entry.{Entry}
 use Rattle.ev_types.specs.declared.entry.Entry.TheVariants as entry
-use Rattle.ev_types.specs.Sides.{same_end}
 use Rattle.ev_types.specs.Trace.{Event, Trace}
-use Rattle.relay_model.specs.Trace.{ended_by, write_closed_by, has_ended, is_write_closed}
+use Rattle.relay_model.specs.Trace.{ended_by, write_closed_by}
 use Rattle.relay_model.specs.Settings.{Settings}
 use Rattle.relay_model.specs.Plain.{Plain, side_at, is_live}
-use Rattle.relay_model.specs.Stages.{Stage, State, Between, Freeing, start}
+use Rattle.relay_model.specs.Stages.{Stage, State, Freeing}
 use Rattle.relay_model.specs.Turn.{Puts, Quietly, Reaches, latest}
-use Rattle.relay_model.specs.Told.{begins_turn, opens_link, time_after, last_time, names, freed_by, is_freed, end_closed_by, is_end_closed, failed_by, has_failed, is_freeing, CountsTold, SideTold}
+use Rattle.relay_model.specs.Told.{begins_turn, opens_link, time_after, names, freed_by, is_freed, end_closed_by, failed_by, is_freeing, CountsTold, SideTold}
 use Rattle.relay_model.proofs.EndLemmas.{same_end-eq}
-use Rattle.relay_model.proofs.KeepsLemmas.{Keeps, Keeps-side, Keeps-length}
-use Rattle.relay_model.proofs.SeenLemmas.{Seen, seen, but_bad}
-use Rattle.relay_model.proofs.EffectLemmas.{SideEffect, Effect, fresh}
+use Rattle.relay_model.proofs.KeepsLemmas.{Keeps-side, Keeps-length}
+use Rattle.relay_model.proofs.SeenLemmas.{seen, but_bad}
+use Rattle.relay_model.proofs.EffectLemmas.{Effect, fresh}
 use Rattle.relay_model.proofs.PlacedLemmas.{Placed}
 use Rattle.relay_model.proofs.StepLemmas.{put-effect}
 use Rattle.relay_model.proofs.StageLemmas.{Silent, quiet-silent, quiet-placed, put-placed}
@@ -44,7 +43,7 @@ freed-names : (e : SideId) (y : Event) → names e y ≡ false → freed_by e y 
 freed-names e (entry.Freed side why moved given, bytes) h = h
 freed-names e _ h = refl
 
-ended-names : (e : SideId) (y : Event) → names e y ≡ false → ended_by e y ≡ false
+pub ended-names : (e : SideId) (y : Event) → names e y ≡ false → ended_by e y ≡ false
 ended-names e (entry.Read side room read.Ended, bytes) h = h
 ended-names e _ h = refl
 

@@ -1,17 +1,17 @@
 -- What the plain state that a trace leads to and the trace tell of each other.
-use Rattle.std.specs.Prelude.{◌≡◌, ℕ, ◌*◌, ◌<◌, ◌≤◌, Bool, true, false, ◌||◌, not, List, ◌∷◌, ◌++◌, length, fold, count_by, All}
+use Rattle.std.specs.Prelude.{◌≡◌, ℕ, ◌*◌, ◌<◌, ◌≤◌, Bool, true, false, ◌||◌, not, List, ◌∷◌, ◌++◌, length, fold, count_by}
 use Rattle.std.specs.List.{list_any}
 use Rattle.ev_types.specs.declared.side.SideId.{SideId}
 use Rattle.ev_types.specs.declared.answer.ConnAnswer.TheVariants as conn
 use Rattle.ev_types.specs.declared.answer.ReadAnswer.TheVariants as read
 use Rattle.ev_types.specs.declared.answer.WriteAnswer.TheVariants as write
 use Rattle.ev_types.specs.declared.entry.Entry.TheVariants as entry
-use Rattle.ev_types.specs.Sides.{peer, same_end}
+use Rattle.ev_types.specs.Sides.{same_end}
 use Rattle.ev_types.specs.Trace.{Event, Trace}
-use Rattle.relay_model.specs.Trace.{has_ended, moved_at_free, given_at_free, is_write_closed}
+use Rattle.relay_model.specs.Trace.{has_ended, is_write_closed}
 use Rattle.relay_model.specs.Settings.{Settings}
-use Rattle.relay_model.specs.Plain.{Plain, side_at, flow_at, is_live}
-use Rattle.relay_model.specs.Stages.{Stage, Between, Freeing}
+use Rattle.relay_model.specs.Plain.{Plain, side_at, is_live}
+use Rattle.relay_model.specs.Stages.{Stage, Freeing}
 use Rattle.relay_model.specs.Turn.{Reaches, latest}
 
 -- an event that begins a turn

@@ -1,4 +1,5 @@
 // The laws that every legal trace obeys, each on a function whose contract it is.
+ghost use Rattle.relay_model.specs.Causes.{FaultsAreFreed, FreesHaveCauses};
 ghost use Rattle.relay_model.specs.Quiet.{LegalIsQuiet};
 ghost use Rattle.relay_model.specs.Told.{LinksInOrder, StateIsTold, TimeRises};
 
@@ -20,4 +21,14 @@ pub fn links_in_order()
 /// Behind the free of a side stands nothing of it but its one close, and what its hook asks in the rest of that fire.
 pub fn legal_is_quiet()
     ensures { LegalIsQuiet }
+{}
+
+/// Each free has the cause that it tells.
+pub fn frees_have_causes()
+    ensures { FreesHaveCauses }
+{}
+
+/// Between turns no live side has failed, timed out or met a bad place: closing freed each of them.
+pub fn faults_are_freed()
+    ensures { FaultsAreFreed }
 {}
