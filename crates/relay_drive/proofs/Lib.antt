@@ -7,3 +7,4 @@ pub mod AcceptLemmas
 pub mod MeantFolds
 pub mod MeantServing
 pub mod MeantTurn
+pub mod WentLemmas

@@ -21,6 +21,7 @@ use Rattle.relay_drive.specs.declared.fault.DriveFault.{DriveFault}
 use Rattle.relay_drive.specs.declared.fault.DriveFault.TheVariants as fault
 use Rattle.relay_drive.specs.Steps.{Nothing, Then, Each, CutAt}
 use Rattle.relay_drive.specs.Calls.{Ticks}
+use Rattle.relay_drive.specs.Stands.{answer_of, StandsBetween}
 use Rattle.relay_drive.specs.Phases.CutTurn.{before, in_poll, in_serving, in_passing, in_closing}
 use Rattle.relay_drive.specs.Phases.{links_from, want_of, wants_some, wants_of, wants_of_links, wanted, can_open, Polls, PollFails, CutPoll, OpensOne, OpensSome, AcceptsMore, AcceptsWhere, PollsAndAccepts, CutAccepting, CutPolling, ServesSide, CutServing, PassesLink, CutPassingLink, ForAllLinks, CutForAllLinks, ClosesLink, CutClosingLink, Turns, CutTurn}
 use Rattle.relay_meaning.specs.Meaning.{StandsFor, LeftFor}
@@ -163,13 +164,6 @@ accepts-stand marked t s new a k h =
         let none = opens-stand 0 (marks_of marked) u m new b (omega arith) k h in
         (accepted-stands (u ++ b) new 0 (marks_of marked) none.0, none.1)
 
--- what a turn answers, as the model names it
-abbrev pub answer_of : DriveFault → TurnAnswer
-answer_of fault.Memory = TurnAnswer.Memory
-answer_of fault.PollFault = TurnAnswer.PollFault
-answer_of fault.OpenFault = TurnAnswer.OpenFault
-answer_of fault.Spent = TurnAnswer.Spent
-
 pub poll_fails-leaves : (t : Trace) (s new : State) (a : Trace) → StandsFor t Stage.Polling s → PollFails s a new → LeftFor TurnAnswer.PollFault (t ++ a) new
 poll_fails-leaves t s new a k h =
     let marks = marks-named (wanted s) h.named h.marks h.many in
@@ -228,8 +222,8 @@ serves-all : (marked : List Want) (t : Trace) (s new : State) (a : Trace) → St
 serves-all marked t s new a k below h = all-keeps s.opened (IsBelow s.opened) serving ServesSide (serving-keeps s.opened) marked t s new a below k h
 
 -- a whole turn: whatever trace the relay stood for before it, it stands for that trace with the turn's entries
-pub turn-keeps : (t : Trace) (s new : State) (a : Trace) → StandsFor t Stage.Between s → Turns s a new → StandsFor (t ++ a) Stage.Between new
-turn-keeps t s new a k turn =
+pub turn_keeps : (t : Trace) (s new : State) (a : Trace) → StandsFor t Stage.Between s → Turns s a new → StandsFor (t ++ a) Stage.Between new
+turn_keeps t s new a k turn =
     let marked = turn.1 in
     let h = turn.2 in
     let tick = tick-stands t s h.middle h.front turn.0 k h.first in
@@ -275,21 +269,21 @@ closing-leaves n t s new a k h =
     (links_from 0 s.opened) t s new a (all-below s.opened) (passed-close n t s k) h
 
 -- A turn that is cut off leaves the relay standing for the longer trace, at a stage at which a turn may answer so.
-pub cut-turn-leaves : (f : DriveFault) (t : Trace) (s new : State) (a : Trace) → StandsFor t Stage.Between s → CutTurn f s a new → LeftFor (answer_of f) (t ++ a) new
-cut-turn-leaves f t s new a k (before h) =
+pub cut_turn_leaves : (f : DriveFault) (t : Trace) (s new : State) (a : Trace) → StandsFor t Stage.Between s → CutTurn f s a new → LeftFor (answer_of f) (t ++ a) new
+cut_turn_leaves f t s new a k (before h) =
     left-stands s.opened (t ++ a) Stage.Between new tt (stands-nothing s.opened t Stage.Between s new a (record { stands = k; opened = refl }) h)
-cut-turn-leaves f t s new a k (in_poll reading h) =
+cut_turn_leaves f t s new a k (in_poll reading h) =
     let tick = tick-stands t s h.middle h.front reading k h.first in
     joined-leaves (answer_of f) t h.front h.back a new h.joined
     (polling-leaves f (t ++ h.front) h.middle new h.back (record { stands = tick.stands; opened = refl }) h.second)
-cut-turn-leaves f t s new a k (in_serving reading marked h) =
+cut_turn_leaves f t s new a k (in_serving reading marked h) =
     let tick = tick-stands t s h.middle h.front reading k h.first in
     let p = h.second in
     let poll = accepts-stand marked (t ++ h.front) h.middle p.middle p.front tick.stands p.first in
     joined-leaves TurnAnswer.Memory t h.front h.back a new h.joined
     (joined-leaves TurnAnswer.Memory (t ++ h.front) p.front p.back h.back new p.joined
     (serving-leaves marked ((t ++ h.front) ++ p.front) p.middle new p.back poll.0 poll.1 p.second))
-cut-turn-leaves f t s new a k (in_passing reading marked h) =
+cut_turn_leaves f t s new a k (in_passing reading marked h) =
     let tick = tick-stands t s h.middle h.front reading k h.first in
     let p = h.second in
     let poll = accepts-stand marked (t ++ h.front) h.middle p.middle p.front tick.stands p.first in
@@ -299,7 +293,7 @@ cut-turn-leaves f t s new a k (in_passing reading marked h) =
     (joined-leaves TurnAnswer.Memory (t ++ h.front) p.front p.back h.back new p.joined
     (joined-leaves TurnAnswer.Memory ((t ++ h.front) ++ p.front) v.front v.back p.back new v.joined
     (passing-leaves p.middle.opened (((t ++ h.front) ++ p.front) ++ v.front) v.middle new v.back served v.second)))
-cut-turn-leaves f t s new a k (in_closing reading marked h) =
+cut_turn_leaves f t s new a k (in_closing reading marked h) =
     let tick = tick-stands t s h.middle h.front reading k h.first in
     let p = h.second in
     let poll = accepts-stand marked (t ++ h.front) h.middle p.middle p.front tick.stands p.first in
