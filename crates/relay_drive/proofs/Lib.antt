@@ -8,3 +8,6 @@ pub mod MeantFolds
 pub mod BoundLemmas
 pub mod BoundSteps
 pub mod BoundLaws
+pub mod MeantServing
+pub mod MeantTurn
+pub mod WentLemmas

@@ -98,6 +98,10 @@ OpensSome (suc n) s a new = Then (OpensSome n) OpensOne s a new
 abbrev pub Accepts : State → Trace → State → Type 0
 Accepts s a new = (n : ℕ) × (n ≤ 64) × OpensSome n s a new
 
+-- links were opened, and one more was allowed
+abbrev pub AcceptsMore : State → Trace → State → Type 0
+AcceptsMore s a new = (n : ℕ) × (n < 64) × (new.opened < new.settings.links) × OpensSome n s a new
+
 -- Accepting ends where 64 links were opened, no more are allowed, or the port has none: where it tells whether accepting
 -- stands open, it stands open in the first two cases alone.
 abbrev pub StopsAccepting : State → State → Option Bool → Option Bool → Type 0
@@ -112,8 +116,8 @@ PollsAndAccepts marked s a new = (ready : Bool) × Then (Polls marked ready) (Ac
 
 -- accepting was refused behind a poll
 abbrev pub CutAccepting : DriveFault → State → Trace → State → Type 0
-CutAccepting fault.Memory s a new = (marked : List Want) × Then (Polls marked true) Accepts s a new
-CutAccepting fault.OpenFault s a new = (marked : List Want) × Then (Polls marked true) Accepts s a new
+CutAccepting fault.Memory s a new = (marked : List Want) × Then (Polls marked true) AcceptsMore s a new
+CutAccepting fault.OpenFault s a new = (marked : List Want) × Then (Polls marked true) AcceptsMore s a new
 CutAccepting fault.PollFault s a new = ⊥
 CutAccepting fault.Spent s a new = ⊥
 

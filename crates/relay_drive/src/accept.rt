@@ -3,7 +3,7 @@ ghost use Rattle.std.specs.Prelude.{◌≡◌, ◌⊎◌, ◌+◌, ◌<◌, ◌�
 ghost use Rattle.ev_port.specs.Told.{Stays, Becomes};
 ghost use Rattle.relay_drive.specs.declared.fault.DriveFault.TheVariants.{Memory, OpenFault};
 ghost use Rattle.relay_drive.specs.Steps.{Nothing};
-ghost use Rattle.relay_drive.specs.Phases.{OpensOne, Accepts, AcceptsWhere, StopsAccepting, is_open_fault};
+ghost use Rattle.relay_drive.specs.Phases.{OpensOne, Accepts, AcceptsMore, AcceptsWhere, StopsAccepting, is_open_fault};
 ghost use Rattle.relay_drive.specs.Goes.{Goes};
 
 use crate::fault::DriveFault;
@@ -52,7 +52,7 @@ fn accept_one<P: Port, S: Scribe>(
 fn accept<P: Port, S: Scribe>(run: &mut Run, port: &mut P, scribe: &mut S) -> Result<(), DriveFault>
     ensures went { MatchResult result
         (λ _. Goes Accepts false run.old run.new (S.trace scribe.old) (S.trace scribe.new) (P.vouches port.old) (P.vouches port.new) (P.faults port.old) (P.faults port.new))
-        (λ fault. Goes Accepts (is_open_fault fault) run.old run.new (S.trace scribe.old) (S.trace scribe.new) (P.vouches port.old) (P.vouches port.new) (P.faults port.old) (P.faults port.new)) }
+        (λ fault. Goes AcceptsMore (is_open_fault fault) run.old run.new (S.trace scribe.old) (S.trace scribe.new) (P.vouches port.old) (P.vouches port.new) (P.faults port.old) (P.faults port.new)) }
     ensures grown { run.old.relay.state.opened ≤ run.new.relay.state.opened }
     ensures stops { OnOk result (StopsAccepting run.old.relay.state run.new.relay.state (P.told port.old).accepting (P.told port.new).accepting) }
     ensures cause { MatchResult result (λ _. Unit {0}) (λ fault. (fault ≡ Memory) ⊎ (fault ≡ OpenFault)) }
@@ -74,7 +74,7 @@ pub(crate) fn accept_ready<P: Port, S: Scribe>(
 ) -> Result<(), DriveFault>
     ensures went { MatchResult result
         (λ _. Goes (AcceptsWhere ready) false run.old run.new (S.trace scribe.old) (S.trace scribe.new) (P.vouches port.old) (P.vouches port.new) (P.faults port.old) (P.faults port.new))
-        (λ fault. Goes (λ s a new. (ready ≡ true) × Accepts s a new) (is_open_fault fault) run.old run.new (S.trace scribe.old) (S.trace scribe.new) (P.vouches port.old) (P.vouches port.new) (P.faults port.old) (P.faults port.new)) }
+        (λ fault. Goes (λ s a new. (ready ≡ true) × AcceptsMore s a new) (is_open_fault fault) run.old run.new (S.trace scribe.old) (S.trace scribe.new) (P.vouches port.old) (P.vouches port.new) (P.faults port.old) (P.faults port.new)) }
     ensures grown { run.old.relay.state.opened ≤ run.new.relay.state.opened }
     ensures stops { ready ≡ true → OnOk result (StopsAccepting run.old.relay.state run.new.relay.state (P.told port.old).accepting (P.told port.new).accepting) }
     ensures cause { MatchResult result (λ _. Unit {0}) (λ fault. (fault ≡ Memory) ⊎ (fault ≡ OpenFault)) }

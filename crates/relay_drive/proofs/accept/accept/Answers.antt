@@ -1,18 +1,23 @@
-use Rattle.std.proofs.Common.{◌≡◌, ◌+◌, true, false, if◌then◌else◌, refl, sym, ◌∙◌, ap, subst, arith, add-one}
+use Rattle.std.proofs.Common.{◌≡◌, ℕ, suc, ◌<◌, ◌≤◌, ◌+◌, ◌-◌, Bool, true, false, if◌then◌else◌, refl, sym, ◌∙◌, ap, subst, arith, add-one}
 use Rattle.std.specs.Prelude.{MatchBool}
 use Rattle.std.proofs.lemmas.Result.{err_from_is_err_and}
+use Rattle.std.proofs.lemmas.Bool.{ltb-true}
 use Rattle.ev_port.specs.Told.{Stays, Becomes}
+use Rattle.relay_core.specs.State.{State}
 use Rattle.relay_drive.specs.Steps.{Nothing}
 use Rattle.relay_drive.specs.Phases.{OpensOne, OpensSome}
 use Rattle.relay_drive.proofs.GoesLemmas.{Grew-none, goes_as, goes_then, goes_nowhere}
 use Rattle.relay_drive.proofs.EachLemmas.{then_as, then_nothing}
-use Rattle.relay_drive.proofs.AcceptLemmas.{told_some, tells_on}
+use Rattle.relay_drive.proofs.AcceptLemmas.{told_some, tells_on, stops_for, stops_then}
 use Rattle.relay_drive.proofs.accept.accept.Goals as goal
 
 pub returns-in_err-accept_one-clause-went : goal.returns-in_err-accept_one-clause-went
 returns-in_err-accept_one-clause-went g c =
     let p = err_from_is_err_and c.from_residual.result c.from_residual.ensures.1 in
-    rw (p.1, p.2) (goes_as (λ a q. (c.loop.counter, c.loop.invariant.few, then_nothing q)) (goes_then c.loop.invariant.went c.in_err-accept_one.ensures.went))
+    let s = c.loop.run.relay.state in
+    let allowed : s.opened < s.settings.links = ltb-true s.opened s.settings.links (sym c.can_open.ensures ∙ c.if-not-can_open.false) in
+    let here = subst (λ (z : State). z.opened < z.settings.links) (sym c.in_err-accept_one.ensures.went.does.1) allowed in
+    rw (p.1, p.2) (goes_as (λ a q. (c.loop.counter, omega arith, here, then_nothing q)) (goes_then c.loop.invariant.went c.in_err-accept_one.ensures.went))
 
 pub loop-init : goal.loop-init
 loop-init g c = record {
