@@ -135,12 +135,12 @@ module _ (links : ℕ) where
   polls marked accept n s new a w h = record {
     within = within-more links n (n + (1 + 4 * links)) new (omega arith) (subst (StateIsWithin n links) (sym h.state) w);
     entries =
-      let e = ap length h.entries in
-      let p = length-append (want_events marked) (ready_events marked) in
-      let q = want_events-length marked in
-      let r = ready_events-most marked in
-      let m = marked-most n s marked w h.many in
-      omega (arith, e, p, q, r, m);
+        let e = ap length h.entries in
+        let p = length-append (want_events marked) (ready_events marked) in
+        let q = want_events-length marked in
+        let r = ready_events-most marked in
+        let m = marked-most n s marked w h.many in
+        omega (arith, e, p, q, r, m);
     settings = ap (λ (z : State). z.settings) h.state;
   }
 
