@@ -4,3 +4,6 @@ pub mod LinkLemmas
 pub mod ScriptLemmas
 pub mod ToldLemmas
 pub mod CallLemmas
+pub mod ScriptPlayedLemmas
+pub mod ScriptStandLemmas
+pub mod ScriptTraceLemmas
