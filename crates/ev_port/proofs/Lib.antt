@@ -7,3 +7,5 @@ pub mod CallLemmas
 pub mod ScriptPlayedLemmas
 pub mod ScriptStandLemmas
 pub mod ScriptTraceLemmas
+pub mod ScriptEntryLemmas
+pub mod ScriptAnswerLemmas

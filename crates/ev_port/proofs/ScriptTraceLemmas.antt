@@ -79,7 +79,7 @@ pub record Like (l new : LinksState) : Type 0 where
   pub ends : (e : SideId) (s : EndState) → end_of new e ≡ Some s → (old : EndState) × (end_of l e ≡ Some old) × AsBefore old s
   pub none : (e : SideId) → end_of new e ≡ None → end_of l e ≡ None
 
-as_before : (s : EndState) → AsBefore s s
+pub as_before : (s : EndState) → AsBefore s s
 as_before s = record { pending = refl; eof = refl; taken = refl; may_take = refl; wait = refl; made_connected = refl; connected = refl }
 
 pub like : (l : LinksState) → Like l l
@@ -90,7 +90,7 @@ like-at_end side f l h = record {
   waiting = refl;
   ends = λ e s found.
       elim (end_changed side e f l s found) [
-        | inl own ↦ (own.1, own.2, subst (AsBefore own.1) (sym own.3) (h own.1))
+        | inl own ↦ (own.1.0, own.1.1, subst (AsBefore own.1.0) (sym own.1.2) (h own.1.0))
         | inr same ↦ (s, same.1, as_before s)
       ];
   none = λ e found. none_changed side e f l found;
@@ -125,7 +125,7 @@ like-wants (w ∷ ws) l =
     (like-at_end w.side (wanted w) l (λ s. record { pending = refl; eof = refl; taken = refl; may_take = refl; wait = refl; made_connected = refl; connected = refl }))
     (like-wants ws one)
 
-or_false : (a : Bool) → (a || false) ≡ a
+pub or_false : (a : Bool) → (a || false) ≡ a
 or_false true = refl
 or_false false = refl
 
@@ -172,7 +172,7 @@ module _ (waits : List Bool) (ls : List Line) where
       }
 
   -- a call on one end
-  at_end_stands : (t u : Trace) (side : SideId) (f : EndState → EndState) (l : LinksState) → opened u ≡ 0 → ((e : SideId) → same_end side e ≡ false → Silent e u) →
+  pub at_end_stands : (t u : Trace) (side : SideId) (f : EndState → EndState) (l : LinksState) → opened u ≡ 0 → ((e : SideId) → same_end side e ≡ false → Silent e u) →
       ((s : EndState) → end_of l side ≡ Some s → EndStands waits ls t side s → EndStands waits ls (t ++ u) side (f s)) → LinksStand waits ls t l → LinksStand waits ls (t ++ u) (at_end side f l)
   at_end_stands t u side f l none others here h =
       let lists = no_link t u l (at_end side f l) none refl h in record {
@@ -182,9 +182,9 @@ module _ (waits : List Bool) (ls : List Line) where
             elim (end_changed side e f l s found) [
               | inl own ↦
                   let same : side ≡ e = same_end-eq side e own.0 in
-                  let old = own.1 in
-                  let there : end_of l side ≡ Some old = subst (λ z. end_of l z ≡ Some old) (sym same) own.2 in
-                  subst (λ z. EndStands waits ls (t ++ u) e z) (sym own.3) (subst (λ z. EndStands waits ls (t ++ u) z (f old)) same (here old there (h.ends side old there)))
+                  let old = own.1.0 in
+                  let there : end_of l side ≡ Some old = subst (λ z. end_of l z ≡ Some old) (sym same) own.1.1 in
+                  subst (λ z. EndStands waits ls (t ++ u) e z) (sym own.1.2) (subst (λ z. EndStands waits ls (t ++ u) z (f old)) same (here old there (h.ends side old there)))
               | inr same ↦ end_silent t u e s s (others e same.0) (as_before s) (h.ends e s same.1)
             ];
         beyond = λ e found. h.beyond e (none_changed side e f l found);
