@@ -9,3 +9,5 @@ pub mod ScriptStandLemmas
 pub mod ScriptTraceLemmas
 pub mod ScriptEntryLemmas
 pub mod ScriptAnswerLemmas
+pub mod ScriptSeenLemmas
+pub mod ScriptQuietLemmas

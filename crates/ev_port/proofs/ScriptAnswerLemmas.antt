@@ -47,7 +47,7 @@ one_le n =
 
 -- Reads
 
-abbrev reads : List ℕ → Bool → Bool → ℕ → ReadAnswer × List ℕ
+abbrev pub reads : List ℕ → Bool → Bool → ℕ → ReadAnswer × List ℕ
 reads xs fail end room =
     if nat_le 1 (length xs) then (read.Got (min room (length xs)), take room xs) else (if fail then (read.Failed, []) else (if end then (read.Ended, []) else (read.NotYet, [])))
 
@@ -55,7 +55,7 @@ empty : (xs : List ℕ) → length xs ≡ 0 → xs ≡ []
 empty [] h = refl
 empty (x ∷ xs) h = absurd (omega (arith, h))
 
-reads_same : (s : EndState) (room : ℕ) → reads s.pending false s.eof room ≡ (read_answer s room, take room s.pending)
+pub reads_same : (s : EndState) (room : ℕ) → reads s.pending false s.eof room ≡ (read_answer s room, take room s.pending)
 reads_same s room =
     elim (eqb_tells (length s.pending) 0) [
       | inl none ↦
@@ -70,12 +70,12 @@ reads_same s room =
 
 -- Writes
 
-abbrev writes : Option ℕ → Bool → List ℕ → WriteAnswer × List ℕ
+abbrev pub writes : Option ℕ → Bool → List ℕ → WriteAnswer × List ℕ
 writes most fail offered =
     let n = at_most most (length offered) in
     if nat_le 1 n then (write.Took n, take n offered) else (if fail then (write.Failed, []) else (write.NotYet, []))
 
-writes_same : (most : Option ℕ) (s : EndState) (from : List ℕ) → at_most most (length from) ≡ taken_of s.may_take (length from) → writes most false from ≡ (write_answer s (length from), took_bytes (write_answer s (length from)) from)
+pub writes_same : (most : Option ℕ) (s : EndState) (from : List ℕ) → at_most most (length from) ≡ taken_of s.may_take (length from) → writes most false from ≡ (write_answer s (length from), took_bytes (write_answer s (length from)) from)
 writes_same most s from same =
     elim (eqb_tells (taken_of s.may_take (length from)) 0) [
       | inl none ↦
@@ -87,14 +87,14 @@ writes_same most s from same =
     ]
 
 -- what the script lets an end take, by what is allowed and what was given
-abbrev lets : Bool → ℕ → ℕ → Option ℕ
+abbrev pub lets : Bool → ℕ → ℕ → Option ℕ
 lets any allowed given = if any then None else Some (allowed - given)
 
-takes_same : (o : Option ℕ) (any : Bool) (allowed taken offer : ℕ) → MayTake o any allowed taken → taken + taken_of o offer < 2 ^ 64 - 1 → at_most (lets any allowed taken) offer ≡ taken_of o offer
+pub takes_same : (o : Option ℕ) (any : Bool) (allowed taken offer : ℕ) → MayTake o any allowed taken → taken + taken_of o offer < 2 ^ 64 - 1 → at_most (lets any allowed taken) offer ≡ taken_of o offer
 takes_same None any allowed taken offer h fits = rw h refl
 takes_same (Some k) any allowed taken offer h fits = let least = h.1.least in let most = h.1.most in rw h.0 (omega (arith, least, most, fits))
 
-takes_any : (o : Option ℕ) (any : Bool) (allowed taken : ℕ) → MayTake o any allowed taken → nat_le 1 (at_most (lets any allowed taken) 1) ≡ not (taken_of o 1 == 0)
+pub takes_any : (o : Option ℕ) (any : Bool) (allowed taken : ℕ) → MayTake o any allowed taken → nat_le 1 (at_most (lets any allowed taken) 1) ≡ not (taken_of o 1 == 0)
 takes_any None any allowed taken h = rw h refl
 takes_any (Some k) any allowed taken h =
     let least = h.1.least in
