@@ -11,3 +11,4 @@ pub mod ScriptEntryLemmas
 pub mod ScriptAnswerLemmas
 pub mod ScriptSeenLemmas
 pub mod ScriptQuietLemmas
+pub mod ScriptVouchLemmas

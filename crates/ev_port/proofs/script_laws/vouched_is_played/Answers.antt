@@ -8,6 +8,7 @@ use Rattle.ev_port.proofs.ScriptEntryLemmas.{read_stands}
 use Rattle.ev_port.proofs.ScriptAnswerLemmas.{one_le}
 use Rattle.ev_port.proofs.ScriptSeenLemmas.{lines_are}
 use Rattle.ev_port.proofs.ScriptQuietLemmas.{times_same}
+use Rattle.ev_port.proofs.ScriptVouchLemmas.{start_vouched}
 use Rattle.relay_model.specs.Script.{closing_step}
 use Rattle.relay_model.specs.Plays.{IsAnswered}
 use Rattle.ev_port.proofs.script_laws.vouched_is_played.Goals as goal
