@@ -1,5 +1,5 @@
 -- A straight direction is accounted for in the model, and holds what its counts leave.
-use Rattle.std.proofs.Common.{◌≡◌, ℕ, zero, suc, ◌+◌, ◌-◌, ◌*◌, ◌<◌, ◌≤◌, Bool, true, false, if◌then◌else◌, List, [], ◌∷◌, ◌++◌, length, take, drop, map, None, refl, sym, ◌∙◌, ap, subst, arith, length-take-le, take-take}
+use Rattle.std.proofs.Common.{◌≡◌, ℕ, zero, suc, ◌+◌, ◌*◌, ◌<◌, ◌≤◌, true, if◌then◌else◌, List, [], ◌∷◌, length, take, drop, map, None, refl, sym, ◌∙◌, ap, subst, arith, length-take-le, take-take}
 use Rattle.std.specs.Prelude.{slice_index_or}
 use Rattle.std.proofs.lemmas.List.{get_or-map, length-map}
 use Rattle.std.proofs.Math.ListN.{drop_of_length-le}
@@ -7,28 +7,25 @@ use Rattle.std.proofs.Math.Seq.{take-length}
 use Rattle.ev_types.specs.declared.side.Side.{Side}
 use Rattle.ev_types.specs.declared.side.Side.TheVariants.{In, Out}
 use Rattle.ev_types.specs.declared.side.SideId.{SideId}
-use Rattle.ev_types.specs.declared.filter.FilterKind.{FilterKind}
 use Rattle.ev_types.specs.declared.filter.FilterKind.TheVariants as kind
 use Rattle.ev_types.specs.Sides.{half, number, peer}
 use Rattle.ev_types.specs.Trace.{Trace}
-use Rattle.relay_model.specs.Trace.{bytes_read, bytes_given, has_ended}
+use Rattle.relay_model.specs.Trace.{bytes_read}
 use Rattle.relay_model.specs.Filter.{filter_of}
 use Rattle.relay_model.specs.FilterLaws.{last_of}
 use Rattle.relay_model.specs.Flow.{Flow, middle, outcome}
 use Rattle.relay_model.specs.Conserved as model
 use Rattle.relay_model.specs.Plain as plain
 use Rattle.relay_model.specs.Plain.{Plain, PlainSide, sides_from}
-use Rattle.relay_model.specs.Rooms.{read_kind, write_kind}
 use Rattle.relay_model.specs.Stages.{Stage}
-use Rattle.relay_model.specs.Turn.{Reaches, begins}
+use Rattle.relay_model.specs.Turn.{begins}
 use Rattle.relay_model.specs.Stands as stands
 use Rattle.relay_model.specs.Stands.{Runnings, Kept, Stands, DirectionAccounted, DirectionHolds}
-use Rattle.relay_core.specs.declared.settings.Settings.{Settings}
-use Rattle.relay_core.specs.State.{State, SideValue, no_side, side_at, flags_at, lane_at}
+use Rattle.relay_core.specs.State.{State, SideValue, no_side, lane_at}
 use Rattle.relay_meaning.specs.Meaning.{model_settings, Direction, direction_of, IsStraight, Agrees, StandsFor}
-use Rattle.relay_meaning.specs.Laws.{model_buffers, NewRelayStands, MeansConserved, LeftIsLegal}
-use Rattle.relay_meaning.proofs.EndLemmas.{number-below}
+use Rattle.relay_meaning.specs.Laws.{model_buffers, NewRelayStands, MeansConserved, LeftIsLegal, CountsAreTold}
 use Rattle.relay_meaning.proofs.AgreeLemmas.{in_code}
+use Rattle.relay_meaning.proofs.TouchLemmas.{to-straight}
 use Rattle.relay_meaning.proofs.RoomLemmas.{plainly, read_kind-none, write_kind-none, middle-none, outcome-none, output-none, live-is}
 
 module _ (d : Direction) (s : IsStraight d) where
@@ -224,3 +221,11 @@ new_relay_stands g = record {
 
 pub left_is_legal : LeftIsLegal
 left_is_legal answer t s k = (k.stage, k.stands.plain, k.stands.reached, k.left)
+
+pub counts_are_told : CountsAreTold
+counts_are_told t x s k e lt =
+    let st = to-straight t s k.plain e k.agrees lt in
+    let a = st.used in let b = st.moved in let c = st.turned in let g = st.given in (
+      (k.agrees.each e lt).read,
+      sym (ap length st.taken ∙ length-take-le (lane_at s (peer e)).flow.given (bytes_read (peer e) t) (omega (arith, a, b, c, g))),
+    )

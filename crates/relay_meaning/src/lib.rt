@@ -2,7 +2,7 @@
 //! what that is worth; and the lemmas in `proofs/` keep it by each thing that a turn does.
 #![tactic(auto)]
 
-ghost use Rattle.relay_meaning.specs.Laws.{LeftIsLegal, MeansConserved, NewRelayStands};
+ghost use Rattle.relay_meaning.specs.Laws.{CountsAreTold, LeftIsLegal, MeansConserved, NewRelayStands};
 
 /// Before the first turn a relay stands for the trace of no entries.
 pub fn a_new_relay_stands()
@@ -18,4 +18,9 @@ pub fn what_stands_is_conserved()
 /// A trace for which a relay was left by a turn's answer can end with that answer.
 pub fn what_is_left_is_legal()
     ensures { LeftIsLegal }
+{}
+
+/// Of each side a relay counts exactly the bytes that were read from its end and given to it.
+pub fn what_is_counted_is_told()
+    ensures { CountsAreTold }
 {}
