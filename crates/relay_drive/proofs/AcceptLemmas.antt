@@ -1,5 +1,5 @@
 -- What a port tells of accepting.
-use Rattle.std.proofs.Common.{◌≡◌, ◌+◌, ◌≤◌, Bool, true, false, Option, Some, None, refl, sym, ap, subst, inl, inr}
+use Rattle.std.proofs.Common.{◌≡◌, ◌+◌, ◌≤◌, Bool, true, false, Option, Some, None, refl, sym, ap, subst}
 use Rattle.std.specs.Prelude.{⊤, MatchOption, IsSome, IsSomeAnd, is_some}
 use mathlib.Core.Logic.{◌⊎◌}
 use Rattle.ev_port.specs.Told.{Stays, Becomes}

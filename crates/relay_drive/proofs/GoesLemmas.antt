@@ -1,19 +1,15 @@
 -- Calls of the drive one behind another, and what one call of the port is.
-use Rattle.std.proofs.Common.{◌≡◌, ℕ, ◌+◌, ◌-◌, ◌^◌, ◌<◌, ◌≤◌, Bool, true, false, ◌||◌, List, [], ◌∷◌, ◌++◌, length, min, max, Option, Some, None, refl, sym, ◌∙◌, ap, subst, arith, append_assoc, append-nil, length-append}
-use Rattle.std.specs.List.{list_any}
+use Rattle.std.proofs.Common.{◌≡◌, ℕ, ◌+◌, Bool, true, false, ◌||◌, [], ◌++◌, length, Option, Some, None, refl, sym, ◌∙◌, ap, subst, arith, append_assoc, append-nil, length-append}
 use Rattle.std.proofs.lemmas.List.Folds.{list_any-append}
-use Rattle.stream_words.specs.Faults.{Counted, Rose}
-use Rattle.ev_types.specs.declared.side.SideId.{SideId}
-use Rattle.ev_types.specs.declared.entry.Entry.{Entry}
-use Rattle.ev_types.specs.declared.entry.Entry.TheVariants as entry
-use Rattle.ev_types.specs.Trace.{Event, Trace}
+use Rattle.stream_words.specs.Faults.{Counted}
+use Rattle.ev_types.specs.Trace.{Trace}
 use Rattle.ev_types.specs.Growth.{Grew, Longer}
 use Rattle.ev_port.specs.Told.{Faults}
 use Rattle.ev_port.specs.Calls.{last_time}
 use Rattle.ev_port.specs.Counting.{counted}
 use Rattle.relay_core.specs.State.{State}
 use Rattle.relay_drive.specs.declared.run.Run.{Run}
-use Rattle.relay_drive.specs.Steps.{Nothing, Then, Each, CutAt}
+use Rattle.relay_drive.specs.Steps.{Nothing, Then}
 use Rattle.relay_drive.specs.Goes.{Goes, Heard, has_failed, failed_by, has_poll_failed, is_poll_failed}
 
 -- Lists that are told

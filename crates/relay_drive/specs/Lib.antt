@@ -5,3 +5,4 @@ pub mod Goes
 pub mod DriveValue
 pub mod DriveView
 pub mod Stands
+pub mod Bounds

@@ -1,7 +1,6 @@
 -- Which traces a drive stands for, and what a turn does to them.
-use Rattle.std.specs.Prelude.{◌≡◌, ℕ, Bool, List, ◌++◌, length, count_by, Option, ◌-◌, ◌^◌, min, true, false}
-use Rattle.ev_types.specs.declared.entry.Entry.TheVariants as entry
-use Rattle.ev_types.specs.Trace.{Event, Trace}
+use Rattle.std.specs.Prelude.{◌≡◌, Bool, ◌++◌, length, Option}
+use Rattle.ev_types.specs.Trace.{Trace}
 use Rattle.ev_types.specs.Growth.{Grew}
 use Rattle.ev_port.specs.Told.{Faults}
 use Rattle.ev_port.specs.Calls.{last_time}

@@ -33,7 +33,6 @@ use Rattle.relay_model.proofs.TraceLemmas.{bytes_read-push, has_ended-push}
 use Rattle.relay_model.proofs.GrownLemmas.{FlowOk, Grown, stations, grown-read}
 use Rattle.std.proofs.Math.Seq.{map-set_same}
 use Rattle.std.proofs.Math.ListN.{get_or-map}
-
 use Rattle.relay_model.specs.Moments.{active_at}
 use Rattle.relay_model.proofs.KindLemmas.{ClosedKind, closed-kind, PutKind}
 
@@ -47,10 +46,10 @@ abbrev pub AllFit : Settings → Trace → Plain → Type 0
 AllFit g t s = (e : SideId) → FlowOk (read_filter g s e) (bytes_read e t) (has_ended e t) (flow_at s e)
 
 -- an element that f does not tell from the one before
-set-seen : {A B : Type 0} (f : A → B) (l : List A) (i : ℕ) (y d : A) → f y ≡ f (slice_index_or l i d) → (j : ℕ) → f (slice_index_or (slice_set l i y) j d) ≡ f (slice_index_or l j d)
+pub set-seen : {A B : Type 0} (f : A → B) (l : List A) (i : ℕ) (y d : A) → f y ≡ f (slice_index_or l i d) → (j : ℕ) → f (slice_index_or (slice_set l i y) j d) ≡ f (slice_index_or l j d)
 set-seen f l i y d h j = sym (get_or-map f (slice_set l i y) j d) ∙ ap (λ z. slice_index_or z j (f d)) (map-set_same f l i y d h) ∙ get_or-map f l j d
 
-default-same : (xs : List Flow) (n : ℕ) → slice_index_or (xs ++ no_flow ∷ no_flow ∷ []) n no_flow ≡ slice_index_or xs n no_flow
+pub default-same : (xs : List Flow) (n : ℕ) → slice_index_or (xs ++ no_flow ∷ no_flow ∷ []) n no_flow ≡ slice_index_or xs n no_flow
 default-same [] zero = refl
 default-same [] (suc zero) = refl
 default-same [] (suc (suc n)) = refl
@@ -60,7 +59,7 @@ default-same (x ∷ xs) (suc n) = default-same xs n
 flows-same : {xs ys : List Flow} → ys ≡ xs → (e : SideId) → stations (slice_index_or ys (number e) no_flow) ≡ stations (slice_index_or xs (number e) no_flow)
 flows-same h e = ap (λ z. stations (slice_index_or z (number e) no_flow)) h
 
-closed-flows : (c : CloseStep) (s : Plain) → (closed_by c s).flows ≡ s.flows
+pub closed-flows : (c : CloseStep) (s : Plain) → (closed_by c s).flows ≡ s.flows
 closed-flows (CloseStep.Faulty e) s = refl
 closed-flows (CloseStep.EndWriting e) s = refl
 closed-flows (CloseStep.BothDone k) s = refl
@@ -68,12 +67,12 @@ closed-flows (CloseStep.OutDone k) s = refl
 closed-flows (CloseStep.PeerGone e) s = refl
 closed-flows (CloseStep.Shut e) s = refl
 
-conn-flows : (g : Settings) (e : SideId) (answer : ConnAnswer) (s : Plain) → (after_conn g e answer s).flows ≡ s.flows
+pub conn-flows : (g : Settings) (e : SideId) (answer : ConnAnswer) (s : Plain) → (after_conn g e answer s).flows ≡ s.flows
 conn-flows g e conn.Connected s = ap (λ z. z.flows) (raised g e why.Connected (change_side e (λ x. record x { connecting = false }) s)).1
 conn-flows g e conn.Pending s = refl
 conn-flows g e conn.Failed s = ap (λ z. z.flows) (raised g e (happened dir.Write error_flag) (change_side e (λ x. record x { failed = true; writes = false }) s)).1
 
-read-flows : (g : Settings) (e : SideId) (answer : ReadAnswer) (s : Plain) → (after_read g e answer s).flows ≡ s.flows
+pub read-flows : (g : Settings) (e : SideId) (answer : ReadAnswer) (s : Plain) → (after_read g e answer s).flows ≡ s.flows
 read-flows g e (read.Got n) s = refl
 read-flows g e read.Ended s = ap (λ z. z.flows) (raised g e (happened dir.Read end_flag) (change_side e (λ x. record x { ended = true; reads = false }) s)).1
 read-flows g e read.NotYet s = refl
@@ -90,7 +89,7 @@ write-stations g p side write.Failed s e =
     ap (λ z. stations (slice_index_or z (number e) no_flow)) (ap (λ z. z.flows) (raised g side (happened dir.Write error_flag) (change_side side (λ x. record x { failed = true; writes = false }) s)).1)
 write-stations g p side write.NoMemory s e = refl
 
-put-stations : (g : Settings) (t : Trace) (s : Plain) (x : Stage) (y : Event) (new : State) → PutKind g t s x y new → (e : SideId) → stations (flow_at new.plain e) ≡ stations (flow_at s e)
+pub put-stations : (g : Settings) (t : Trace) (s : Plain) (x : Stage) (y : Event) (new : State) → PutKind g t s x y new → (e : SideId) → stations (flow_at new.plain e) ≡ stations (flow_at s e)
 put-stations g t s x y new (PutKind.turned {ms = ms} a b) e = flows-same (time-flows g (past g (t ++ (entry.Turn ms, []) ∷ [])) (turned_to ms s)) e
 put-stations g t s x y new (PutKind.polled) e = refl
 put-stations g t s x y new (PutKind.wanted a) e = refl

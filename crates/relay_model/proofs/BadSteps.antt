@@ -46,7 +46,7 @@ ended-is g t x s k e = go (cases_lt e.link s.opened)
     go : (e.link < s.opened) ⊎ (s.opened ≤ e.link) → (side_at s e).ended ≡ has_ended e t
     go (inl lt) = (k.each e lt).ended
     go (inr ge) =
-        ap (λ z. z.ended) (get_or_past s.sides (number e) no_side (let size = k.counts.sides in omega (arith, number-ge e s.opened ge)))
+        ap (λ z. z.ended) (get_or_past s.sides (number e) no_side (let size = k.counts.shape.sides in omega (arith, number-ge e s.opened ge)))
         ∙ sym (none_of (names e) (ended_by e) (ended-names e) t (k.counts.named e ge))
 
 -- The place of a side, which is bad for its read filter in the direction that begins at it, or for its write filter in the
@@ -131,14 +131,14 @@ fitting-read g t s e ended told h =
     (λ p m. inl (over-more r xs ended (has_ended e t) p told (bad-met r (every_filter (read_kind g e.side)).badness xs (flow_at ran e).used ended (nat_lt (length (input r xs (flow_at ran e))) mark) p m)))
     (fitting-flow g t s e f (grown-used r (every_filter (read_kind g e.side)) xs mark (has_ended e t) (flow_at s e) (h.fit e)) h)
 
-turned-stations : (r w : Filter) (xs : List ℕ) (hold : ℕ) (f : Flow) → stations (with_turned r w xs hold f) ≡ stations f
+pub turned-stations : (r w : Filter) (xs : List ℕ) (hold : ℕ) (f : Flow) → stations (with_turned r w xs hold f) ≡ stations f
 turned-stations r w xs hold f = go f.held
   where
     go : (b : Bool) → stations (if b then f else record f { turned = first_from (write_stops r w xs hold f) f.turned (f.moved - f.turned) }) ≡ stations f
     go true = refl
     go false = refl
 
-done-stations : (r w : Filter) (xs : List ℕ) (hold : ℕ) (f : Flow) → stations (with_write_done r w xs hold f) ≡ stations f
+pub done-stations : (r w : Filter) (xs : List ℕ) (hold : ℕ) (f : Flow) → stations (with_write_done r w xs hold f) ≡ stations f
 done-stations r w xs hold f = go f.held
   where
     go : (b : Bool) → stations (if b then f else record f {
@@ -224,7 +224,7 @@ fitting g t new (Reaches.goes {t = u} {s = old} r h) =
     quiet-fitting g u old.plain old.stage new (ended-is g u old.stage old.plain (kept g u old r)) (fitting g u old r) (quiet-kind g u old.stage old.plain new h)
 fitting g t new (Reaches.puts {t = u} {s = old} e bytes r h) =
     let c = kept g u old r in
-    put-fitting g u old.plain old.stage (e, bytes) new (ended-is g u old.stage old.plain c) (put-effect g u old.stage old.plain e bytes new c.counts.sides c.placed h) (fitting g u old r)
+    put-fitting g u old.plain old.stage (e, bytes) new (ended-is g u old.stage old.plain c) (put-effect g u old.stage old.plain e bytes new c.counts.shape.sides c.placed h) (fitting g u old r)
     (put-kind g u old.stage old.plain e bytes new c.placed h)
 
 -- a bad place is the first one of its list, or of its end
@@ -233,7 +233,7 @@ first-bad f law xs a b p more (inl h) = record { at_end = law.bad_at_end xs p h;
 first-bad f law xs a b p more (inr h) = record { at_end = h.1; before = λ q. absurd (let k = more h.0 in cc) }
 
 pub bad_place : (g : Settings) (t : Trace) (x : Stage) (s : Plain) → Reaches g t (at x s) → (e : SideId) (place : ℕ) → is_live s e ≡ true → (side_at s e).bad ≡ Some place → IsBadPlace g t s e place
-bad_place g t x s r e place live b = go (h.bad e (live-there s e (kept g t (at x s) r).counts.sides live) place b)
+bad_place g t x s r e place live b = go (h.bad e (live-there s e (kept g t (at x s) r).counts.shape.sides live) place b)
   where
     h : Fitting g t s
     h = fitting g t (at x s) r

@@ -48,14 +48,14 @@ fault-case x why h = go x.failed refl x.expired refl x.bad refl h
 faulty-cause : (g : Settings) (t : Trace) (s : Plain) (z : SideId) (cs : List CloseStep) (why : Cause) → Reaches g t (at (Closing (CloseStep.Faulty z ∷ cs)) s) → is_live s z ≡ true → FaultCase (side_at s z) why → HasCause g t z why
 faulty-cause g t s z cs why r live (FaultCase.by_failure a) =
     let k = kept g t (at (Closing (CloseStep.Faulty z ∷ cs)) s) r in
-    (s, record { left = cs; reached = r }, (faults g t (at (Closing (CloseStep.Faulty z ∷ cs)) s) r).failed z (live-there s z k.counts.sides live) live a)
+    (s, record { left = cs; reached = r }, (faults g t (at (Closing (CloseStep.Faulty z ∷ cs)) s) r).failed z (live-there s z k.counts.shape.sides live) live a)
 faulty-cause g t s z cs why r live (FaultCase.by_timeout a b) =
     let k = kept g t (at (Closing (CloseStep.Faulty z ∷ cs)) s) r in
-    let lt = live-there s z k.counts.sides live in
+    let lt = live-there s z k.counts.shape.sides live in
     (s, record { left = cs; reached = r }, sym (k.each z lt).failed ∙ a, (faults g t (at (Closing (CloseStep.Faulty z ∷ cs)) s) r).expired z lt live b)
 faulty-cause g t s z cs why r live (FaultCase.by_filter {place = place} a b d) =
     let k = kept g t (at (Closing (CloseStep.Faulty z ∷ cs)) s) r in
-    let lt = live-there s z k.counts.sides live in
+    let lt = live-there s z k.counts.shape.sides live in
     (s, record { left = cs; reached = r }, sym (k.each z lt).failed ∙ a, b, bad_place g t (Closing (CloseStep.Faulty z ∷ cs)) s r z place live d)
 
 closed-cause : (g : Settings) (t : Trace) (s : Plain) (c : CloseStep) (cs : List CloseStep) (y : Entry) → Reaches g t (at (Closing (c ∷ cs)) s) → ClosedKind g (past g t) s c y →
@@ -71,7 +71,7 @@ closed-cause g t s c cs y r (ClosedKind.in_done {k = n} a b d f) e why moved giv
     let one : i ≡ e = cc in
     let two : cause.Done ≡ why = cc in
     let k = kept g t (at (Closing (CloseStep.BothDone n ∷ cs)) s) r in
-    let lt = live-there s i k.counts.sides a in
+    let lt = live-there s i k.counts.shape.sides a in
     subst (λ v. HasCause g t v why) one (subst (λ v. HasCause g t i v) two (sym (k.each i lt).write_ended ∙ d, sym (k.each o lt).write_ended ∙ f))
 closed-cause g t s c cs y r (ClosedKind.out_done {k = n}) e why moved given h =
     let i : SideId = record { link = n; side = In } in
@@ -85,7 +85,7 @@ closed-cause g t s c cs y r (ClosedKind.peer_gone {z = z} a b d) e why moved giv
     let one : z ≡ e = cc in
     let two : cause.PeerGone ≡ why = cc in
     let k = kept g t (at (Closing (CloseStep.PeerGone z ∷ cs)) s) r in
-    let lt = live-there s z k.counts.sides a in
+    let lt = live-there s z k.counts.shape.sides a in
     let told = (k.each (peer z) lt).live in
     subst (λ v. HasCause g t v why) one (subst (λ v. HasCause g t z v) two (gone (is_freed (peer z) t) (sym told ∙ not-true (is_live s (peer z)) b), (Closing (CloseStep.PeerGone z ∷ cs), s, r, d)))
   where

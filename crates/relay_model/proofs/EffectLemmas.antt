@@ -7,7 +7,9 @@ use Rattle.relay_model.specs.Settings.{Settings}
 use Rattle.relay_model.specs.Plain.{Plain, side_at}
 use Rattle.relay_model.specs.Stages.{Stage}
 use Rattle.relay_model.specs.Turn.{latest}
-use Rattle.relay_model.specs.Told.{begins_turn, opens_link, time_after, names, freed_by, end_closed_by, failed_by, is_freeing}
+use Rattle.relay_model.specs.RatesKept.{is_turn, time_by}
+use Rattle.relay_model.specs.TurnLaws.{is_opened}
+use Rattle.relay_model.specs.Told.{names, freed_by, end_closed_by, failed_by, is_freeing}
 use Rattle.relay_model.proofs.SeenLemmas.{Seen, seen}
 
 -- of one side, by the event that is put and the stage behind it
@@ -18,7 +20,7 @@ pub record SideEffect (e : SideId) (y : Event) (after : Stage) (old new : Seen) 
   pub write_ended : new.write_ended ≡ (old.write_ended || write_closed_by e y)
   pub closed : new.closed ≡ (old.closed || end_closed_by e y)
   pub bad : new.bad ≡ old.bad
-  pub expired : begins_turn y ≡ false → new.expired ≡ old.expired
+  pub expired : is_turn y ≡ false → new.expired ≡ old.expired
 
 -- a side of a link that was opened just now
 abbrev pub fresh : Seen
@@ -26,11 +28,11 @@ fresh = record { live = true; ended = false; failed = false; expired = false; ba
 
 -- of the whole state
 pub record Effect (g : Settings) (x : Stage) (s : Plain) (y : Event) (after : Stage) (new : Plain) : Type 0 where
-  pub time : new.time ≡ time_after s.time y
+  pub time : new.time ≡ time_by s.time y
   pub rises : s.time ≤ new.time
   pub until : s.time ≤ latest → new.time ≤ latest
-  pub turn : new.turn ≡ (s.turn + (if begins_turn y then 1 else 0))
-  pub opened : new.opened ≡ (s.opened + (if opens_link y then 1 else 0))
+  pub turn : new.turn ≡ (s.turn + (if is_turn y then 1 else 0))
+  pub opened : new.opened ≡ (s.opened + (if is_opened y then 1 else 0))
   pub links : s.opened ≤ g.links → new.opened ≤ g.links
   pub sides : length s.sides ≡ 2 * s.opened → length new.sides ≡ 2 * new.opened
   pub flows : length s.flows ≡ 2 * s.opened → length new.flows ≡ 2 * new.opened

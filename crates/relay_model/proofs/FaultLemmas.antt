@@ -16,7 +16,8 @@ use Rattle.relay_model.specs.Plain.{Plain, PlainSide, side_at, is_live}
 use Rattle.relay_model.specs.Past.{Past}
 use Rattle.relay_model.specs.Close.{CloseStep, closing_of, closing_from, fault, steps_left}
 use Rattle.relay_model.specs.Stages.{Stage, Between, Firing, Freeing, Closing}
-use Rattle.relay_model.specs.Told.{begins_turn, freed_by, failed_by, is_freeing}
+use Rattle.relay_model.specs.RatesKept.{is_turn}
+use Rattle.relay_model.specs.Told.{freed_by, failed_by, is_freeing}
 use Rattle.relay_model.proofs.EndLemmas.{same_end-refl}
 use Rattle.relay_model.proofs.SeenLemmas.{Seen, seen}
 use Rattle.relay_model.proofs.EffectLemmas.{SideEffect, or_no}
@@ -96,7 +97,7 @@ looked-for k (suc left) e h l = go (cases_order k e.link) (λ lt. looked-for (k 
     go (inr (inr gt)) later = absurd (omega arith)
 
 -- a step of closing leaves faults, and none of its entries tells of a failure or a turn
-pub closed-fails : (g : Settings) (p : Past) (s : Plain) (c : CloseStep) (e : Entry) → ClosedKind g p s c e → (z : SideId) → (failed_by z (e, []) ≡ false) × (begins_turn (e, []) ≡ false) × (looks_at z c ≡ true → freed_by z (e, []) ≡ true)
+pub closed-fails : (g : Settings) (p : Past) (s : Plain) (c : CloseStep) (e : Entry) → ClosedKind g p s c e → (z : SideId) → (failed_by z (e, []) ≡ false) × (is_turn (e, []) ≡ false) × (looks_at z c ≡ true → freed_by z (e, []) ≡ true)
 closed-fails g p s c e (ClosedKind.faulty a b) z = (refl, refl, λ h. h)
 closed-fails g p s c e (ClosedKind.write_ended a b) z = (refl, refl, λ h. absurd (cc))
 closed-fails g p s c e (ClosedKind.in_done a b d f) z = (refl, refl, λ h. absurd (cc))
@@ -117,7 +118,7 @@ steps-looked (CloseStep.PeerGone e) cs z n h = h
 steps-looked (CloseStep.Shut e) cs z n h = h
 
 -- what an entry that is no beginning of a turn does to a faulty side
-pub old-faulty : (e : SideId) (y : Event) (after : Stage) (old new : Seen) → SideEffect e y after old new → begins_turn y ≡ false → failed_by e y ≡ false → is_faulty new ≡ true → is_faulty old ≡ true
+pub old-faulty : (e : SideId) (y : Event) (after : Stage) (old new : Seen) → SideEffect e y after old new → is_turn y ≡ false → failed_by e y ≡ false → is_faulty new ≡ true → is_faulty old ≡ true
 old-faulty e y after old new k turn fails h =
     let a : new.failed ≡ old.failed = k.failed ∙ sym (or_no old.failed (failed_by e y) fails) in
     let b : new.expired ≡ old.expired = k.expired turn in

@@ -16,7 +16,8 @@ use Rattle.relay_model.specs.Moments.{time_passed}
 use Rattle.relay_model.specs.Close.{CloseStep, fault, freed_entry, closing_entry, closed_by, steps_left}
 use Rattle.relay_model.specs.Stages.{Stage, State, at, Between, Polling, Closing}
 use Rattle.relay_model.specs.Turn.{turned_to, after_reading, Reaches}
-use Rattle.relay_model.specs.Told.{begins_turn, freed_by, failed_by}
+use Rattle.relay_model.specs.RatesKept.{is_turn}
+use Rattle.relay_model.specs.Told.{freed_by, failed_by}
 use Rattle.relay_model.proofs.EndLemmas.{same_end-eq}
 use Rattle.relay_model.proofs.KeepsLemmas.{Keeps, Keeps-side}
 use Rattle.relay_model.proofs.SeenLemmas.{Seen, seen, but_bad, but_expired, time_passed-keeps}
@@ -93,26 +94,26 @@ quiet-await g t s x new await (QuietKind.over) e lt live faulty = absurd (let w 
 
 -- Since when a side is faulty
 
-pub turn-push : (test : Event → Bool) (t : Trace) (y : Event) → begins_turn y ≡ false → InThisTurn test t → InThisTurn test (t ++ y ∷ [])
+pub turn-push : (test : Event → Bool) (t : Trace) (y : Event) → is_turn y ≡ false → InThisTurn test t → InThisTurn test (t ++ y ∷ [])
 turn-push test t y no_turn h = record {
   early = h.early;
   event = h.event;
   since = h.since ++ y ∷ [];
   is = ap (λ z. z ++ y ∷ []) h.is ∙ append_assoc h.early (h.event ∷ h.since) (y ∷ []);
   passes = h.passes;
-  same_turn = list_any-push begins_turn h.since y ∙ or_from (list_any begins_turn h.since) (begins_turn y) h.same_turn no_turn;
+  same_turn = list_any-push is_turn h.since y ∙ or_from (list_any is_turn h.since) (is_turn y) h.same_turn no_turn;
 }
 
 pub turn-last : (test : Event → Bool) (t : Trace) (y : Event) → test y ≡ true → InThisTurn test (t ++ y ∷ [])
 turn-last test t y h = record { early = t; event = y; since = []; is = refl; passes = h; same_turn = refl }
 
-timed-push : (g : Settings) (t : Trace) (e : SideId) (y : Event) → begins_turn y ≡ false → TimedOut g t e → TimedOut g (t ++ y ∷ []) e
+timed-push : (g : Settings) (t : Trace) (e : SideId) (y : Event) → is_turn y ≡ false → TimedOut g t e → TimedOut g (t ++ y ∷ []) e
 timed-push g t e y no_turn h = record {
   early = h.early;
   ms = h.ms;
   since = h.since ++ y ∷ [];
   is = ap (λ z. z ++ y ∷ []) h.is ∙ append_assoc h.early ((entry.Turn h.ms, []) ∷ h.since) (y ∷ []);
-  same_turn = list_any-push begins_turn h.since y ∙ or_from (list_any begins_turn h.since) (begins_turn y) h.same_turn no_turn;
+  same_turn = list_any-push is_turn h.since y ∙ or_from (list_any is_turn h.since) (is_turn y) h.same_turn no_turn;
   before = h.before;
   reached = h.reached;
   dir = h.dir;
@@ -127,7 +128,7 @@ pub record Faults (g : Settings) (t : Trace) (x : Stage) (s : Plain) : Type 0 wh
 -- an entry begins a turn, or none does
 pub data TurnOrNot (g : Settings) (t : Trace) (s : Plain) : Stage → Event → State → Type 0 where
   turns : {ms : ℕ} → TurnOrNot g t s Between (entry.Turn ms, []) (at Polling (time_passed g (past g (t ++ (entry.Turn ms, []) ∷ [])) (turned_to ms s)))
-  stays : {x : Stage} {y : Event} {new : State} → begins_turn y ≡ false → TurnOrNot g t s x y new
+  stays : {x : Stage} {y : Event} {new : State} → is_turn y ≡ false → TurnOrNot g t s x y new
 
 pub turn_or_not : (g : Settings) (t : Trace) (s : Plain) (x : Stage) (y : Event) (new : State) → PutKind g t s x y new → TurnOrNot g t s x y new
 turn_or_not g t s x y new (PutKind.turned a b) = TurnOrNot.turns
@@ -229,5 +230,5 @@ faults g t new (Reaches.goes {t = u} {s = old} r h) =
 faults g t new (Reaches.puts {t = u} {s = old} e bytes r h) =
     let c = kept g u old r in
     let kind = put-kind g u old.stage old.plain e bytes new c.placed h in
-    put-faults g u old.plain old.stage (e, bytes) new r (put-effect g u old.stage old.plain e bytes new c.counts.sides c.placed h) (faults g u old r) kind
+    put-faults g u old.plain old.stage (e, bytes) new r (put-effect g u old.stage old.plain e bytes new c.counts.shape.sides c.placed h) (faults g u old r) kind
     (turn_or_not g u old.plain old.stage (e, bytes) new kind)

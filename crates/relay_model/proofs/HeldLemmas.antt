@@ -75,6 +75,7 @@ AllLooks cs = AllByRecursion IsLook cs
 -- the other side of a link whose In side was freed as done just now
 pub record IsDone (s : Plain) (k : ℕ) : Type 0 where
   pub live : is_live s (record { link = k; side = Out }) ≡ true
+  pub gone : is_live s (record { link = k; side = In }) ≡ false
   pub in_ended : (side_at s (record { link = k; side = In })).write_ended ≡ true
   pub out_ended : (side_at s (record { link = k; side = Out })).write_ended ≡ true
 
@@ -126,7 +127,7 @@ closed-ready g p s c cs e size lt h (ClosedKind.in_done {k = k} a b d f) =
     let o : SideId = record { link = k; side = Out } in
     let apart : same_end o i ≡ false = and_right (k == k) false refl in
     let out : side_at (freed i s) o ≡ side_at s o = freed-other s i o apart in
-    (record { live = ap (λ z. z.live) out ∙ b; in_ended = ap (λ z. z.write_ended) (freed-same s i size lt) ∙ d; out_ended = ap (λ z. z.write_ended) out ∙ f }, h)
+    (record { live = ap (λ z. z.live) out ∙ b; gone = ap (λ z. z.live) (freed-same s i size lt); in_ended = ap (λ z. z.write_ended) (freed-same s i size lt) ∙ d; out_ended = ap (λ z. z.write_ended) out ∙ f }, h)
 closed-ready g p s c cs e size lt h (ClosedKind.out_done {k = k}) = looks-ready cs (closed_by (CloseStep.OutDone k) s) h
 closed-ready g p s c cs e size lt h (ClosedKind.peer_gone {z = z} a b d) = looks-ready cs (closed_by (CloseStep.PeerGone z) s) h
 closed-ready g p s c cs e size lt h (ClosedKind.shut {z = z} a b) = looks-ready cs (closed_by (CloseStep.Shut z) s) h
@@ -166,7 +167,7 @@ pub record Held (g : Settings) (t : Trace) (x : Stage) (s : Plain) : Type 0 wher
 -- a side that lives was not freed
 pub live-unfreed : (g : Settings) (t : Trace) (x : Stage) (s : Plain) → Kept g t x s → (e : SideId) → is_live s e ≡ true → is_freed e t ≡ false
 live-unfreed g t x s k e live =
-    let told = k.each e (live-there s e k.counts.sides live) in
+    let told = k.each e (live-there s e k.counts.shape.sides live) in
     (or_parts (is_freed e t) (is_freeing x e) (not-true _ (sym told.live ∙ live))).0
 
 pub held : (g : Settings) (t : Trace) (s : State) → Reaches g t s → Held g t s.stage s.plain
@@ -187,5 +188,5 @@ held g t new (Reaches.puts {t = u} {s = old} e bytes r h) =
     record {
       runs = put-runs g u old.plain old.stage (e, bytes) new unfreed before.runs k;
       hook = put-hook g u old.plain old.stage (e, bytes) new unfreed k;
-      ready = put-ready g u old.plain old.stage (e, bytes) new c.counts.sides c.placed before.ready k;
+      ready = put-ready g u old.plain old.stage (e, bytes) new c.counts.shape.sides c.placed before.ready k;
     }

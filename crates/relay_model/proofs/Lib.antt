@@ -62,3 +62,8 @@ pub mod BadLemmas
 pub mod CauseLemmas
 pub mod GrownLemmas
 pub mod BadSteps
+pub mod TotalLemmas
+pub mod LeftLemmas
+pub mod LeftSteps
+pub mod NextLemmas
+mod QuietExamples

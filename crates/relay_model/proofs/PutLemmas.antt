@@ -8,7 +8,9 @@ use Rattle.relay_model.specs.Settings.{Settings}
 use Rattle.relay_model.specs.Plain.{Plain, PlainSide, side_at, put_side}
 use Rattle.relay_model.specs.Stages.{Stage}
 use Rattle.relay_model.specs.Turn.{latest}
-use Rattle.relay_model.specs.Told.{begins_turn, opens_link, time_after, names, is_freeing}
+use Rattle.relay_model.specs.RatesKept.{is_turn, time_by}
+use Rattle.relay_model.specs.TurnLaws.{is_opened}
+use Rattle.relay_model.specs.Told.{names, is_freeing}
 use Rattle.relay_model.proofs.EndLemmas.{same_end-eq, same_end-flip}
 use Rattle.relay_model.proofs.KeepsLemmas.{Keeps, Keeps-side, Keeps-length, change_side-same, change_side-other}
 use Rattle.relay_model.proofs.SeenLemmas.{seen}
@@ -16,9 +18,9 @@ use Rattle.relay_model.proofs.EffectLemmas.{SideEffect, Effect, IsIdle, idle-sti
 
 -- an event that begins no turn and opens no link
 pub record IsPlainEvent (y : Event) : Type 0 where
-  pub turn : begins_turn y ≡ false
-  pub opens : opens_link y ≡ false
-  pub time : (n : ℕ) → time_after n y ≡ n
+  pub turn : is_turn y ≡ false
+  pub opens : is_opened y ≡ false
+  pub time : (n : ℕ) → time_by n y ≡ n
 
 add-none : (n : ℕ) (b : Bool) → b ≡ false → n ≡ (n + (if b then 1 else 0))
 add-none n true h = absurd (cc)
@@ -31,8 +33,8 @@ effect-keeps g x s y after new k p idle still before named = record {
   time = k.time ∙ sym (p.time s.time);
   rises = let h = k.time in omega arith;
   until = λ h. subst (λ n. n ≤ latest) (sym k.time) h;
-  turn = k.turn ∙ add-none s.turn (begins_turn y) p.turn;
-  opened = k.opened ∙ add-none s.opened (opens_link y) p.opens;
+  turn = k.turn ∙ add-none s.turn (is_turn y) p.turn;
+  opened = k.opened ∙ add-none s.opened (is_opened y) p.opens;
   links = λ h. let o = k.opened in omega arith;
   sides = λ h. let o = k.opened in let l = Keeps-length seen s new k in omega arith;
   flows = λ h. let o = k.opened in let l = k.flows in omega arith;
@@ -51,8 +53,8 @@ effect-at g x s y after new z changed k p size lt here others before named = rec
   time = k.time ∙ sym (p.time s.time);
   rises = let h = k.time in omega arith;
   until = λ h. subst (λ n. n ≤ latest) (sym k.time) h;
-  turn = k.turn ∙ add-none s.turn (begins_turn y) p.turn;
-  opened = k.opened ∙ add-none s.opened (opens_link y) p.opens;
+  turn = k.turn ∙ add-none s.turn (is_turn y) p.turn;
+  opened = k.opened ∙ add-none s.opened (is_opened y) p.opens;
   links = λ h. let o = k.opened in omega arith;
   sides = λ h. let o = k.opened in let l = Keeps-length seen (put_side z changed s) new k in let m = length-set s.sides (number z) changed in omega arith;
   flows = λ h. let o = k.opened in let l = k.flows in omega arith;

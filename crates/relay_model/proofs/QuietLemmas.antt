@@ -76,7 +76,7 @@ pub time_rises : TimeRises
 time_rises g t before after s x ms bytes r h =
     let k = there g t (record { stage = x; plain = s }) r before (entry.Turn ms, bytes) after h in
     let p = turn-put g before k.old.plain k.old.stage _ k.new ms k.kind refl in
-    (subst (λ n. n ≤ ms) k.kept.counts.time p.0, p.1)
+    (subst (λ n. n ≤ ms) k.kept.counts.shape.time p.0, p.1)
 
 link-put : (g : Settings) (t : Trace) (s : Plain) (x : Stage) (y : Event) (new : State) (link : ℕ) (connected : Bool) → PutKind g t s x y new → y.0 ≡ entry.Opened link connected → link ≡ s.opened
 link-put g t s x y new link connected (PutKind.turned a b) h = absurd (cc)
@@ -105,7 +105,7 @@ link-put g t s x y new link connected (PutKind.closed {c = c} {e = e} a) h = abs
 pub links_in_order : LinksInOrder
 links_in_order g t before after s x link connected bytes r h =
     let k = there g t (record { stage = x; plain = s }) r before (entry.Opened link connected, bytes) after h in
-    link-put g before k.old.plain k.old.stage _ k.new link connected k.kind refl ∙ k.kept.counts.opened
+    link-put g before k.old.plain k.old.stage _ k.new link connected k.kind refl ∙ k.kept.counts.shape.opened
 
 -- Quiet
 

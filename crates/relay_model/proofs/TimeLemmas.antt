@@ -65,8 +65,8 @@ within-same g p s new e d n m k same =
     let c = Keeps-side core s new e k in
     let share : share_in g p new d (side_at new e).group ≡ share_in g p s d (side_at s e).group = ap (share_in g p new d) (ap (λ z. z.group) c) ∙ by_group (side_at s e).group in
     let own : allowance p new e d ≡ allowance p s e d =
-        ap (λ o. option_map (λ x. standing_level x d (p.turns e d) new.time) o) (ap (λ z. z.limit) c)
-        ∙ ap (λ time. option_map (λ x. standing_level x d (p.turns e d) time) (side_at s e).limit) k.time in
+    ap (λ o. option_map (λ x. standing_level x d (p.turns e d) new.time) o) (ap (λ z. z.limit) c)
+    ∙ ap (λ time. option_map (λ x. standing_level x d (p.turns e d) time) (side_at s e).limit) k.time in
     λ i. at_most (share i) (at_most (own i) (same i))
   where
     by_group : (o : Option ℕ) → share_in g p new d o ≡ share_in g p s d o

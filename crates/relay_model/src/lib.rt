@@ -13,7 +13,8 @@ pub use laws::{
     what_is_met_is_bad,
 };
 pub use legal_laws::{
-    faults_are_freed, frees_have_causes, legal_is_quiet, links_in_order, state_is_told, time_rises,
+    asked_frees_are_next, faults_are_freed, frees_have_causes, frees_tell_totals, legal_is_quiet,
+    links_in_order, nothing_is_left, state_is_told, time_rises,
 };
 pub use played_laws::{
     Vouches, answers_go_on, any_stage_holds, cuts_join, end_ties_join, nothing_is_tied,

@@ -1,10 +1,9 @@
-use Rattle.std.proofs.Common.{◌≡◌, ◌+◌, List, [], ◌∷◌, ◌++◌, length, None, refl, sym, ◌∙◌, ap, subst, arith, length-append}
+use Rattle.std.proofs.Common.{◌≡◌, ◌+◌, [], ◌∷◌, ◌++◌, length, None, refl, sym, ◌∙◌, ap, arith, length-append}
 use Rattle.ev_types.specs.declared.entry.Entry.TheVariants as entry
 use Rattle.ev_types.specs.Trace.{Trace}
 use Rattle.ev_port.specs.declared.port.Polled.TheVariants as polled
-use Rattle.ev_port.specs.declared.port.Want.{Want}
 use Rattle.ev_port.specs.Counting.{counted}
-use Rattle.ev_port.specs.Polling.{AllMarked, want_events, ready_events, poll_events}
+use Rattle.ev_port.specs.Polling.{want_events, ready_events, poll_events}
 use Rattle.relay_drive.proofs.GoesLemmas.{Grew-join}
 use Rattle.relay_drive.proofs.HeardLemmas.{goes_some}
 use Rattle.relay_drive.proofs.PollLemmas.{want_events-marked, poll_time, failed_poll_time, Heard-poll, Heard-failed_poll, counted_three}

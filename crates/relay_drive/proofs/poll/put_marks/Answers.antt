@@ -1,4 +1,4 @@
-use Rattle.std.proofs.Common.{◌≡◌, ◌+◌, ◌≤◌, [], ◌∷◌, ◌++◌, length, take, get_or, refl, sym, ◌∙◌, ap, arith, length-append}
+use Rattle.std.proofs.Common.{◌≡◌, ◌+◌, [], ◌∷◌, ◌++◌, length, take, get_or, ◌∙◌, ap, arith, length-append}
 use Rattle.ev_types.specs.Trace.{Trace}
 use Rattle.ev_port.specs.Polling.{ready_events}
 use Rattle.relay_drive.proofs.GoesLemmas.{Grew-join}

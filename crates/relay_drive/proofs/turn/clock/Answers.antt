@@ -1,7 +1,6 @@
-use Rattle.std.proofs.Common.{◌≡◌, ℕ, ◌+◌, ◌^◌, ◌≤◌, [], ◌∷◌, ◌++◌, length, max, min, refl, sym, ◌∙◌, ap, subst, arith}
+use Rattle.std.proofs.Common.{◌≡◌, ℕ, ◌^◌, [], ◌∷◌, ◌++◌, max, min, refl, ◌∙◌, ap, subst, arith}
 use Rattle.ev_types.specs.declared.entry.Entry.TheVariants as entry
 use Rattle.ev_types.specs.Trace.{Trace}
-use Rattle.ev_port.specs.Calls.{last_time, turn_time}
 use Rattle.relay_core.specs.State.{State}
 use Rattle.relay_drive.proofs.GoesLemmas.{Grew-join}
 use Rattle.relay_drive.proofs.HeardLemmas.{Heard-quiet, last_time-append}
