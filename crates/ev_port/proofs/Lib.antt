@@ -12,3 +12,4 @@ pub mod ScriptAnswerLemmas
 pub mod ScriptSeenLemmas
 pub mod ScriptQuietLemmas
 pub mod ScriptVouchLemmas
+pub mod LawLemmas

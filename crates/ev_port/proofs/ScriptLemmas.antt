@@ -14,11 +14,11 @@ use Rattle.ev_port.specs.ScriptKept.{state_after_line, kept_at, links_after_line
 use Rattle.ev_port.specs.ScriptPort.{lines_of}
 use Rattle.ev_port.proofs.ListLemmas.{length-changed, get_or-changed_same, get_or-changed_other, changed_agree, changed_none, changed_beyond}
 
-bytes_here : (side : SideId) (bytes : List ℕ) (k : ℕ) → k ≡ number side → line_bytes k (line.Pending side bytes) ≡ bytes
+pub bytes_here : (side : SideId) (bytes : List ℕ) (k : ℕ) → k ≡ number side → line_bytes k (line.Pending side bytes) ≡ bytes
 bytes_here side bytes k e = let t = eq-eqb (number side) k (sym e) in rw t
 
 -- a line that names another end brings nothing in here
-bytes_elsewhere : (side : SideId) (bytes : List ℕ) (k : ℕ) → k ≢ number side → line_bytes k (line.Pending side bytes) ≡ []
+pub bytes_elsewhere : (side : SideId) (bytes : List ℕ) (k : ℕ) → k ≢ number side → line_bytes k (line.Pending side bytes) ≡ []
 bytes_elsewhere side bytes k h =
     elim (eqb_tells (number side) k) [ inl t ↦ absurd (h (sym t.1)) | inr t ↦ rw t.0 ]
 

@@ -3,23 +3,23 @@
 //! script and over the toolchain's streams. There is no socket here.
 #![tactic(auto)]
 
+mod laws;
 mod memory;
 mod mute;
 mod port;
 mod scribe;
 mod script_end;
-mod script_laws;
 mod script_links;
 mod script_port;
 mod standard;
 mod stream;
 
 pub use ev_types::{ConnAnswer, ReadAnswer, WriteAnswer};
+pub use laws::{lines_bring_bytes, reads_lose_nothing, vouched_is_played};
 pub use memory::{MemSink, MemSource};
 pub use mute::Mute;
 pub use port::{Accepted, Addr, Polled, Port, Started, Want};
 pub use scribe::Scribe;
-pub use script_laws::vouched_is_played;
 pub use script_port::ScriptPort;
 pub use standard::{StdSink, StdSource};
 pub use stream::{Given, Sink, Source, Taken};

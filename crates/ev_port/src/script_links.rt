@@ -59,7 +59,7 @@ impl ScriptLinks {
         Ok(())
     }
 
-    /// The links that lines open are to be opened. Those before must stay.
+    /// The links that these lines open are still to be opened, behind those from before.
     pub fn add_links(&mut self, alloc: Global, lines: &[TurnLine]) -> Result<(), NoMemory>
         ensures { OnOk result (self.new ≡ with_links (links_of lines.now) self.old) }
     {
@@ -83,7 +83,7 @@ impl ScriptLinks {
         Ok(())
     }
 
-    /// The bytes that lines bring in are to come.
+    /// The bytes that these lines bring in are still to come, behind those from before.
     pub fn expect_all(&mut self, lines: &[TurnLine]) -> Result<(), NoMemory>
         ensures { OnOk result (self.new ≡ record self.old { to_come = with_all_bytes lines.now self.old.to_come }) }
     {

@@ -1,5 +1,5 @@
 -- One side of the relay, seen and replaced.
-use Rattle.std.proofs.Common.{◌≡◌, ℕ, Bool, Result, Ok, Err, MatchResult, ◌+◌, ◌*◌, ◌<◌, ◌≤◌, List, length, map, get_or, slice_index_or, slice_set, sym, ◌∙◌, ap, subst, arith}
+use Rattle.std.proofs.Common.{◌≡◌, ℕ, Bool, Result, Ok, Err, MatchResult, ◌*◌, ◌<◌, ◌≤◌, length, map, get_or, slice_index_or, slice_set, sym, ◌∙◌, ap, subst, arith}
 use Rattle.std.proofs.lemmas.List.{get_or-map, map-set, set-get_or, get_or-set_same, length-map}
 use Rattle.ev_types.specs.declared.side.Side.{Side}
 use Rattle.ev_types.specs.declared.side.Side.TheVariants.{In, Out}

@@ -1,11 +1,11 @@
 -- Rounds of passing: a round changes nothing, or it changes a count and brings a weight down. So passing comes to an
 -- end.
-use Rattle.std.proofs.Common.{◌≡◌, ◌≢◌, inl, inr, ℕ, zero, suc, ◌+◌, ◌-◌, ◌*◌, ◌/◌, ◌<◌, ◌≤◌, Bool, true, false, not, ◌&&◌, ◌||◌, ◌==◌, nat_le, min, if◌then◌else◌, List, [], ◌∷◌, ◌++◌, length, take, drop, refl, sym, ◌∙◌, ap, subst, arith, append-nil, length-drop, length-append, length-take-le, leb-true, leb-false, eqb-true}
+use Rattle.std.proofs.Common.{◌≡◌, ◌≢◌, inl, inr, ℕ, zero, suc, ◌+◌, ◌-◌, ◌*◌, ◌/◌, ◌<◌, ◌≤◌, Bool, true, false, not, ◌&&◌, ◌||◌, ◌==◌, nat_le, if◌then◌else◌, List, [], ◌++◌, length, take, drop, refl, sym, ◌∙◌, ap, subst, arith, append-nil, length-drop, length-append, length-take-le, eqb-true}
 use Rattle.std.proofs.lemmas.List.{nil_from_length}
 use mathlib.Core.Logic.{◌⊎◌}
 use Rattle.relay_model.specs.Flow.{Flow}
-use Rattle.relay_core.specs.State.{Buffers, Lane}
-use Rattle.relay_core.specs.Passing.{held, holds, used_now, read_filtered, is_moving, moved, turned_now, write_filtered, round, rounds, Passed, SomeRounds}
+use Rattle.relay_core.specs.State.{Lane}
+use Rattle.relay_core.specs.Passing.{held, used_now, read_filtered, is_moving, moved, turned_now, write_filtered, round, rounds}
 
 -- The weight of a direction. A byte weighs by the places before it; a filter that is not finished weighs 1, and so does
 -- a direction that is not held. A held one weighs 2 where it is about to be let go.

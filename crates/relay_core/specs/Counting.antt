@@ -5,7 +5,6 @@ use Rattle.ev_types.specs.declared.side.SideId.{SideId}
 use Rattle.ev_types.specs.declared.status.LinkState.{LinkState}
 use Rattle.ev_types.specs.declared.status.LinkState.TheVariants as state
 use Rattle.ev_types.specs.Sides.{peer}
-use Rattle.relay_model.specs.Flow.{Flow}
 use Rattle.relay_core.specs.declared.count.Counts.{Counts}
 use Rattle.relay_core.specs.declared.count.LinkCount.{LinkCount}
 use Rattle.relay_core.specs.State.{State, SideValue, side_at, flags_at, lane_at}

@@ -1,5 +1,5 @@
 -- Opening a link.
-use Rattle.std.specs.Prelude.{ℕ, ◌+◌, Bool, true, [], ◌∷◌, ◌++◌}
+use Rattle.std.specs.Prelude.{◌+◌, Bool, true, [], ◌∷◌, ◌++◌}
 use Rattle.relay_core.specs.State.{State, new_side}
 
 -- the next link has its In side, which is connected, and its Out side

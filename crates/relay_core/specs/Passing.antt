@@ -1,9 +1,8 @@
 -- Passing: what one round does to a direction, and what passing is: rounds until one changes no count. The parts of
 -- a round stand in their order. Each filter hands its bytes on as they are.
-use Rattle.std.specs.Prelude.{◌≡◌, ℕ, zero, suc, ◌+◌, ◌-◌, ◌/◌, Bool, true, false, ◌==◌, ◌&&◌, ◌||◌, not, nat_le, if◌then◌else◌, List, [], ◌++◌, length, take, drop, min}
+use Rattle.std.specs.Prelude.{◌≡◌, ℕ, zero, suc, ◌+◌, ◌-◌, ◌/◌, Bool, true, false, ◌==◌, ◌&&◌, ◌||◌, not, nat_le, if◌then◌else◌, [], ◌++◌, length, take, drop, min}
 use Rattle.ev_types.specs.declared.side.SideId.{SideId}
 use Rattle.ev_types.specs.Sides.{peer}
-use Rattle.relay_model.specs.Flow.{Flow}
 use Rattle.relay_core.specs.State.{Buffers, Lane, State, flags_at, lane_at, with_lane}
 
 -- the input length at which the read filter stops, and the most bytes of one read and one write

@@ -1,6 +1,6 @@
 -- How the relay keeps its state.
-use Rattle.std.specs.Prelude.{◌≡◌, ℕ, ◌-◌, ◌*◌, ◌/◌, length, map, vec_len, vec_capacity}
-use Rattle.relay_core.specs.State.{State, RelayValue}
+use Rattle.std.specs.Prelude.{◌≡◌, ◌-◌, ◌*◌, ◌/◌, length, map, vec_len, vec_capacity}
+use Rattle.relay_core.specs.State.{RelayValue}
 use Rattle.relay_core.specs.SideView.{side_of, spare_of}
 use Rattle.relay_core.specs.declared.relay.Relay.TheInside.{Inside}
 

@@ -1,5 +1,5 @@
 -- What the result of a read, a write or a connect check changes.
-use Rattle.std.specs.Prelude.{ℕ, ◌+◌, Bool, true, false, List, ◌++◌, length, drop}
+use Rattle.std.specs.Prelude.{ℕ, ◌+◌, true, false, List, ◌++◌, length, drop}
 use Rattle.ev_types.specs.declared.side.SideId.{SideId}
 use Rattle.ev_types.specs.Sides.{peer}
 use Rattle.relay_core.specs.State.{State, Lane, SideValue, side_at, flags_at, lane_at, with_side, with_flags, with_lane}

@@ -1,7 +1,6 @@
 -- What contracts see of a side as the code keeps it.
-use Rattle.std.specs.Prelude.{◌≡◌, ℕ, ◌-◌, ◌^◌, ◌==◌, nat_le, min, if◌then◌else◌, length}
+use Rattle.std.specs.Prelude.{ℕ, ◌-◌, ◌^◌, ◌==◌, nat_le, min, if◌then◌else◌, length}
 use Rattle.relay_model.specs.Flow.{Flow}
-use Rattle.relay_core.specs.Waiting.{Waiting}
 use Rattle.relay_core.specs.State.{Buffers, Lane, SideValue}
 use Rattle.relay_core.specs.declared.side.Progress.{Progress}
 use Rattle.relay_core.specs.declared.side.SideState.{SideState}

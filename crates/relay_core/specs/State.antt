@@ -1,8 +1,8 @@
 -- The state of the relay: the settings, the time, and the sides of the opened links by their numbers, each with the
 -- direction that begins at it. Passing, closing and the other changes stand in files of their own.
-use Rattle.std.specs.Prelude.{◌≡◌, ℕ, ◌+◌, Bool, true, false, not, List, [], ◌∷◌, ◌++◌, slice_index_or, slice_set}
+use Rattle.std.specs.Prelude.{ℕ, Bool, true, false, not, List, [], slice_index_or, slice_set}
 use Rattle.ev_types.specs.declared.side.SideId.{SideId}
-use Rattle.ev_types.specs.Sides.{number, peer}
+use Rattle.ev_types.specs.Sides.{number}
 use Rattle.relay_model.specs.Flow.{Flow, no_flow}
 use Rattle.relay_core.specs.declared.flags.SideFlags.{SideFlags}
 use Rattle.relay_core.specs.declared.settings.Settings.{Settings}

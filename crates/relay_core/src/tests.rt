@@ -1,5 +1,8 @@
+// Whole links, with the answers of the ends played by hand.
+ghost use Rattle.std.specs.Prelude.{◌≡◌, ◌<◌, length};
+
 use super::*;
-use ev_types::{LinkState, Side, SideId};
+use ev_types::{LinkState, NoMemory, Side, SideId};
 use std::test::Fail;
 
 const IN: SideId = SideId {
@@ -12,36 +15,79 @@ const OUT: SideId = SideId {
     side: Side::Out,
 };
 
-fn close_all(relay: &mut Relay, link: u32) {
-    for step in Closing::of(link).iter() {
-        if link < relay.opened() && relay.calls_for(*step) {
-            relay.close(*step);
-        }
+/// Opens a link, where one is allowed.
+fn open(relay: &mut Relay, connected: bool) -> Result<(), NoMemory> {
+    relay.reserve_link()?;
+    if relay.can_open() {
+        relay.open(connected);
+    }
+    Ok(())
+}
+
+/// Some bytes are read from an end, or its end where there are none, and the direction is passed.
+fn read(relay: &mut Relay, side: SideId, bytes: &[u8]) -> Result<(), NoMemory> {
+    if side.link >= relay.opened() {
+        return Ok(());
+    }
+    relay.reserve_read(side, bytes.len())?;
+    if bytes.is_empty() {
+        relay.ended(side);
+    } else {
+        relay.got(side, bytes);
+    }
+    pass(relay, side)
+}
+
+fn pass(relay: &mut Relay, side: SideId) -> Result<(), NoMemory> {
+    if side.link >= relay.opened() {
+        return Ok(());
+    }
+    relay.pass(side)
+}
+
+/// How many bytes are offered to an end, of which it takes at most so many.
+fn give(relay: &mut Relay, side: SideId, most: usize) -> usize {
+    if side.link >= relay.opened() {
+        return 0;
+    }
+    let offered = relay.offer(side).len();
+    relay.took(side, most.min(offered));
+    offered
+}
+
+fn close(relay: &mut Relay, link: u32) {
+    for step in Closing::of(link) {
+        close_step(relay, step, link);
+    }
+}
+
+fn close_step(relay: &mut Relay, step: Closing, link: u32) {
+    let own = match step {
+        Closing::Faulty(side)
+        | Closing::EndWriting(side)
+        | Closing::PeerGone(side)
+        | Closing::Shut(side) => side.link,
+        Closing::BothDone(link) => link,
+    };
+    if own < relay.opened() && relay.calls_for(step) {
+        relay.close(step);
     }
 }
 
 #[test]
 fn a_link_passes_bytes_and_ends(rt: HostRuntime) -> Result<(), Fail> {
     let mut relay = Relay::new(rt.alloc(), Settings::usual());
-    relay.reserve_link()?;
-    assert!(rt; relay.can_open());
-    relay.open(true);
-    assert_eq!(rt; relay.read_room(IN), 16_384);
-    relay.reserve_read(IN, 16_384)?;
-    relay.got(IN, b"hello");
-    relay.pass(IN)?;
-    assert_eq!(rt; relay.offer(OUT), b"hello".as_slice());
-    relay.took(OUT, 2);
-    assert_eq!(rt; relay.buffered(), 3);
-    assert_eq!(rt; relay.offer(OUT), b"llo".as_slice());
-    relay.took(OUT, 3);
-    relay.ended(IN);
-    relay.pass(IN)?;
-    close_all(&mut relay, 0);
-    assert!(rt; relay.flags(OUT).write_ended);
-    relay.ended(OUT);
-    relay.pass(OUT)?;
-    close_all(&mut relay, 0);
+    assert_eq!(rt; relay.begin(7), 7);
+    assert_eq!(rt; relay.time(), 7);
+    open(&mut relay, true)?;
+    read(&mut relay, IN, b"hello")?;
+    assert_eq!(rt; relay.buffered(), 5);
+    assert_eq!(rt; give(&mut relay, OUT, 2), 5);
+    assert_eq!(rt; give(&mut relay, OUT, 9), 3);
+    read(&mut relay, IN, b"")?;
+    close(&mut relay, 0);
+    read(&mut relay, OUT, b"")?;
+    close(&mut relay, 0);
     let done = LinkCount {
         state: LinkState::Done,
         in_read: 5,
@@ -50,7 +96,20 @@ fn a_link_passes_bytes_and_ends(rt: HostRuntime) -> Result<(), Fail> {
         out_given: 5,
     };
     assert_eq!(rt; relay.link(0), Some(done));
-    assert_eq!(rt; relay.open_links(), 0);
-    assert!(rt; relay.flags(IN).closed && relay.flags(OUT).closed);
+    assert_eq!(rt; relay.link(1), None);
+    assert_eq!(rt; (relay.opened(), relay.open_links()), (1, 0));
+    assert!(rt; !relay.is_spent());
+    Ok(())
+}
+
+#[test]
+fn a_held_direction_goes_on_at_half_of_the_hold_mark(rt: HostRuntime) -> Result<(), Fail> {
+    let mut relay = Relay::new(rt.alloc(), Settings { hold: 4, links: 1 });
+    open(&mut relay, true)?;
+    read(&mut relay, IN, b"0123456789")?;
+    for (most, offered) in [(1, 4), (1, 3), (4, 4), (4, 4)] {
+        assert_eq!(rt; give(&mut relay, OUT, most), offered);
+        pass(&mut relay, IN)?;
+    }
     Ok(())
 }

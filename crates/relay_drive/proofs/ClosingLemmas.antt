@@ -1,8 +1,7 @@
 -- What a step of closing puts and leaves as it is.
-use Rattle.std.proofs.Common.{◌≡◌, ℕ, zero, suc, ◌+◌, ◌<◌, ◌≤◌, Bool, true, false, List, [], ◌∷◌, ◌++◌, length, get_or, refl, sym, ◌∙◌, ap, subst, arith, append_assoc, append-nil}
+use Rattle.std.proofs.Common.{◌≡◌, ℕ, zero, suc, ◌<◌, false, [], ◌∷◌, ◌++◌, length, get_or, refl, ap, subst, arith, append_assoc, append-nil}
 use Rattle.ev_types.specs.declared.side.SideId.{SideId}
 use Rattle.ev_types.specs.declared.entry.Entry.{Entry}
-use Rattle.ev_types.specs.declared.entry.Entry.TheVariants as entry
 use Rattle.ev_types.specs.declared.why.Cause.TheVariants as cause
 use Rattle.ev_types.specs.Trace.{Trace}
 use Rattle.ev_types.specs.Growth.{Longer}

@@ -1,5 +1,5 @@
 -- What is done for each of a list, step by step.
-use Rattle.std.proofs.Common.{◌≡◌, ℕ, zero, suc, ◌+◌, ◌-◌, ◌<◌, ◌≤◌, Bool, true, false, ◌||◌, List, [], ◌∷◌, ◌++◌, length, take, drop, get_or, Option, refl, sym, ◌∙◌, ap, subst, arith, append_assoc, append-nil, drop-cons, add-one}
+use Rattle.std.proofs.Common.{◌≡◌, ℕ, zero, suc, ◌+◌, ◌-◌, ◌<◌, false, List, [], ◌∷◌, ◌++◌, length, take, drop, get_or, Option, refl, sym, ◌∙◌, ap, subst, arith, append_assoc, append-nil, drop-cons, add-one}
 use Rattle.std.proofs.Math.Seq.{take-suc}
 use Rattle.std.proofs.lemmas.List.{take-append-drop}
 use Rattle.ev_types.specs.Trace.{Trace}
@@ -42,7 +42,7 @@ each_push R [] x h = record { middle = _; front = _; back = []; first = nothing_
 each_push R (y ∷ ys) x h =
     let r = then_right h in record { middle = r.middle; front = r.front; back = r.back; first = r.first; second = each_push R ys x r.second; joined = r.joined }
 
-taken_next : {X : Type 0} (xs : List X) (i : ℕ) (d : X) → i < length xs → take (i + 1) xs ≡ take i xs ++ get_or xs i d ∷ []
+pub taken_next : {X : Type 0} (xs : List X) (i : ℕ) (d : X) → i < length xs → take (i + 1) xs ≡ take i xs ++ get_or xs i d ∷ []
 taken_next xs i d h = rw add-one (take-suc xs i d h)
 
 pub goes_next : {X : Type 0} (R : X → State → Trace → State → Type 0) {old mid new : Run} {l m n : Option Trace} {v w x : Trace → Type 0} {f g h : Faults} (xs : List X) (i : ℕ) (d : X) → i < length xs →

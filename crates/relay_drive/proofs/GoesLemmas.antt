@@ -1,19 +1,15 @@
 -- Calls of the drive one behind another, and what one call of the port is.
-use Rattle.std.proofs.Common.{◌≡◌, ℕ, ◌+◌, ◌-◌, ◌^◌, ◌<◌, ◌≤◌, Bool, true, false, ◌||◌, List, [], ◌∷◌, ◌++◌, length, min, max, Option, Some, None, refl, sym, ◌∙◌, ap, subst, arith, append_assoc, append-nil, length-append}
-use Rattle.std.specs.List.{list_any}
+use Rattle.std.proofs.Common.{◌≡◌, ℕ, ◌+◌, Bool, true, false, ◌||◌, [], ◌++◌, length, Option, Some, None, refl, sym, ◌∙◌, ap, subst, arith, append_assoc, append-nil, length-append}
 use Rattle.std.proofs.lemmas.List.Folds.{list_any-append}
-use Rattle.stream_words.specs.Faults.{Counted, Rose}
-use Rattle.ev_types.specs.declared.side.SideId.{SideId}
-use Rattle.ev_types.specs.declared.entry.Entry.{Entry}
-use Rattle.ev_types.specs.declared.entry.Entry.TheVariants as entry
-use Rattle.ev_types.specs.Trace.{Event, Trace}
+use Rattle.stream_words.specs.Faults.{Counted}
+use Rattle.ev_types.specs.Trace.{Trace}
 use Rattle.ev_types.specs.Growth.{Grew, Longer}
 use Rattle.ev_port.specs.Told.{Faults}
 use Rattle.ev_port.specs.Calls.{last_time}
 use Rattle.ev_port.specs.Counting.{counted}
 use Rattle.relay_core.specs.State.{State}
 use Rattle.relay_drive.specs.declared.run.Run.{Run}
-use Rattle.relay_drive.specs.Steps.{Nothing, Then, Each, CutAt}
+use Rattle.relay_drive.specs.Steps.{Nothing, Then}
 use Rattle.relay_drive.specs.Goes.{Goes, Heard, has_failed, failed_by, has_poll_failed, is_poll_failed}
 
 -- Lists that are told
@@ -96,3 +92,18 @@ goes_silent {old = old} {new = new} {v = v} {v' = v'} s n list told heard = reco
 pub goes_nowhere : {old new : Run} {l l' : Option Trace} {v : Trace → Type 0} {f : Faults} → new.relay.state ≡ old.relay.state → new.entries ≡ old.entries → Grew l l' [] →
     Goes Nothing false old new l l' v v f f
 goes_nowhere {v = v} {f = f} s n list = goes_silent s n list (λ t k. subst v (sym (append-nil t)) k) (Heard-none f)
+
+-- the relay alone changed
+pub goes_within : {R : State → Trace → State → Type 0} {old new : Run} (l : Option Trace) (v : Trace → Type 0) (f : Faults) → R old.relay.state [] new.relay.state → new.relay.state.time ≡ old.relay.state.time → new.entries ≡ old.entries →
+    Goes R false old new l l v v f f
+goes_within l v f does time n = record {
+  added = [];
+  does = does;
+  entries = omega (arith, n);
+  list = Grew-none l;
+  told = λ t e. (ap last_time (append-nil t) ∙ e ∙ sym time, λ k. subst v (sym (append-nil t)) k);
+  heard = Heard-none f;
+}
+
+pub goes_flag : {R : State → Trace → State → Type 0} {p q : Bool} {old new : Run} {l l' : Option Trace} {v v' : Trace → Type 0} {f f' : Faults} → p ≡ q → Goes R p old new l l' v v' f f' → Goes R q old new l l' v v' f f'
+goes_flag {R = R} {old = old} {new = new} {l = l} {l' = l'} {v = v} {v' = v'} {f = f} {f' = f'} e g = subst (λ b. Goes R b old new l l' v v' f f') e g

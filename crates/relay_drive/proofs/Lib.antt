@@ -2,3 +2,12 @@ pub mod GoesLemmas
 pub mod HeardLemmas
 pub mod EachLemmas
 pub mod ClosingLemmas
+pub mod PollLemmas
+pub mod AcceptLemmas
+pub mod MeantFolds
+pub mod BoundLemmas
+pub mod BoundSteps
+pub mod BoundLaws
+pub mod MeantServing
+pub mod MeantTurn
+pub mod WentLemmas

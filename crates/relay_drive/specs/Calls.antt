@@ -1,5 +1,5 @@
 -- What each call of the port, with its entry, does to the relay's state.
-use Rattle.std.specs.Prelude.{◌≡◌, ◌≢◌, ℕ, ◌^◌, ◌<◌, ⊤, Bool, true, false, List, [], ◌∷◌, length, take, min, max, MatchBool, ◌&&◌}
+use Rattle.std.specs.Prelude.{◌≡◌, ℕ, ◌^◌, ◌<◌, ⊤, Bool, true, false, List, [], ◌∷◌, length, min, max}
 use Rattle.ev_types.specs.declared.side.SideId.{SideId}
 use Rattle.ev_types.specs.declared.answer.ConnAnswer.{ConnAnswer}
 use Rattle.ev_types.specs.declared.answer.ConnAnswer.TheVariants as conn
@@ -10,11 +10,10 @@ use Rattle.ev_types.specs.declared.answer.WriteAnswer.TheVariants as write
 use Rattle.ev_types.specs.declared.entry.Entry.TheVariants as entry
 use Rattle.ev_types.specs.Trace.{Trace}
 use Rattle.ev_port.specs.Ends.{conn_events, ReadWithin, got_bytes, read_events, WriteWithin, write_events}
-use Rattle.relay_core.specs.State.{State, flags_at}
+use Rattle.relay_core.specs.State.{State}
 use Rattle.relay_core.specs.Opening.{after_opened}
-use Rattle.relay_core.specs.Rooms.{read_room, offer}
+use Rattle.relay_core.specs.Rooms.{offer}
 use Rattle.relay_core.specs.Serving.{after_got, after_ended, after_read_failed, after_took, after_write_failed, after_connected}
-use Rattle.relay_drive.specs.Steps.{Nothing}
 
 -- The clock is read: the reading, cut at 2^62, becomes the time unless the time is greater, and a turn begins.
 pub record Ticks (reading : ℕ) (s : State) (a : Trace) (new : State) : Type 0 where

@@ -1,10 +1,9 @@
 -- The phases of a turn as relations of the relay's state, and where a turn can be cut off.
-use Rattle.std.specs.Prelude.{◌≡◌, ◌⊎◌, ℕ, zero, suc, ◌+◌, ◌<◌, ◌≤◌, Bool, true, false, ◌&&◌, ◌||◌, nat_lt, List, [], ◌∷◌, ◌++◌, length, map, filter, slice_index_or, MatchBool, None}
+use Rattle.std.specs.Prelude.{◌≡◌, ◌⊎◌, ℕ, zero, suc, ◌+◌, ◌<◌, ◌≤◌, Bool, true, false, ◌&&◌, ◌||◌, nat_lt, List, [], ◌∷◌, ◌++◌, length, filter, slice_index_or, MatchBool, Option, None, MatchOption, IsSomeAnd, ⊤}
 use Rattle.ev_types.specs.declared.side.SideId.{SideId}
 use Rattle.ev_types.specs.declared.answer.ConnAnswer.{ConnAnswer}
 use Rattle.ev_types.specs.declared.answer.ReadAnswer.{ReadAnswer}
 use Rattle.ev_types.specs.declared.answer.WriteAnswer.{WriteAnswer}
-use Rattle.ev_types.specs.declared.entry.Entry.{Entry}
 use Rattle.ev_types.specs.declared.entry.Entry.TheVariants as entry
 use Rattle.ev_types.specs.declared.why.Cause.{Cause}
 use Rattle.ev_types.specs.declared.why.Cause.TheVariants as cause
@@ -99,14 +98,26 @@ OpensSome (suc n) s a new = Then (OpensSome n) OpensOne s a new
 abbrev pub Accepts : State → Trace → State → Type 0
 Accepts s a new = (n : ℕ) × (n ≤ 64) × OpensSome n s a new
 
+-- links were opened, and one more was allowed
+abbrev pub AcceptsMore : State → Trace → State → Type 0
+AcceptsMore s a new = (n : ℕ) × (n < 64) × (new.opened < new.settings.links) × OpensSome n s a new
+
+-- Accepting ends where 64 links were opened, no more are allowed, or the port has none: where it tells whether accepting
+-- stands open, it stands open in the first two cases alone.
+abbrev pub StopsAccepting : State → State → Option Bool → Option Bool → Type 0
+StopsAccepting s new before now = MatchOption before ⊤ (λ _. IsSomeAnd now (λ stands_open. stands_open ≡ true → (s.opened + 64 ≤ new.opened) ⊎ (can_open new ≡ false)))
+
+abbrev pub AcceptsWhere : Bool → State → Trace → State → Type 0
+AcceptsWhere ready s a new = MatchBool ready (Accepts s a new) (Nothing s a new)
+
 -- the poll, and links where they are ready
 abbrev pub PollsAndAccepts : List Want → State → Trace → State → Type 0
-PollsAndAccepts marked s a new = (accept : Bool) × Then (Polls marked accept) (λ s' a' new'. MatchBool accept (Accepts s' a' new') (Nothing s' a' new')) s a new
+PollsAndAccepts marked s a new = (ready : Bool) × Then (Polls marked ready) (AcceptsWhere ready) s a new
 
 -- accepting was refused behind a poll
 abbrev pub CutAccepting : DriveFault → State → Trace → State → Type 0
-CutAccepting fault.Memory s a new = (marked : List Want) × Then (Polls marked true) Accepts s a new
-CutAccepting fault.OpenFault s a new = (marked : List Want) × Then (Polls marked true) Accepts s a new
+CutAccepting fault.Memory s a new = (marked : List Want) × Then (Polls marked true) AcceptsMore s a new
+CutAccepting fault.OpenFault s a new = (marked : List Want) × Then (Polls marked true) AcceptsMore s a new
 CutAccepting fault.PollFault s a new = ⊥
 CutAccepting fault.Spent s a new = ⊥
 

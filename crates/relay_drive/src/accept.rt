@@ -1,8 +1,9 @@
 // Accepting links.
-ghost use Rattle.std.specs.Prelude.{◌≡◌, ◌⊎◌, ◌<◌, ◌≤◌, false, MatchBool, MatchResult};
+ghost use Rattle.std.specs.Prelude.{◌≡◌, ◌⊎◌, ◌+◌, ◌<◌, ◌≤◌, false, true, if◌then◌else◌, MatchBool, MatchResult, IfOk, OnOk};
+ghost use Rattle.ev_port.specs.Told.{Stays, Becomes};
 ghost use Rattle.relay_drive.specs.declared.fault.DriveFault.TheVariants.{Memory, OpenFault};
 ghost use Rattle.relay_drive.specs.Steps.{Nothing};
-ghost use Rattle.relay_drive.specs.Phases.{OpensOne, Accepts, is_open_fault};
+ghost use Rattle.relay_drive.specs.Phases.{OpensOne, Accepts, AcceptsMore, AcceptsWhere, StopsAccepting, is_open_fault};
 ghost use Rattle.relay_drive.specs.Goes.{Goes};
 
 use crate::fault::DriveFault;
@@ -23,7 +24,8 @@ fn accept_one<P: Port, S: Scribe>(
     ensures went { MatchResult result
         (λ more. Goes (λ s a new. MatchBool more (OpensOne s a new) (Nothing s a new)) false run.old run.new (S.trace scribe.old) (S.trace scribe.new) (P.vouches port.old) (P.vouches port.new) (P.faults port.old) (P.faults port.new))
         (λ fault. Goes Nothing (is_open_fault fault) run.old run.new (S.trace scribe.old) (S.trace scribe.new) (P.vouches port.old) (P.vouches port.new) (P.faults port.old) (P.faults port.new)) }
-    ensures grown { run.old.relay.state.opened ≤ run.new.relay.state.opened }
+    ensures grown { MatchResult result (λ more. run.new.relay.state.opened ≡ run.old.relay.state.opened + (if more then 1 else 0)) (λ _. run.new.relay.state.opened ≡ run.old.relay.state.opened) }
+    ensures accepting { IfOk result (λ more. MatchBool more (Stays (P.told port.old).accepting (P.told port.new).accepting) (Becomes (P.told port.old).accepting (P.told port.new).accepting false)) }
     ensures cause { MatchResult result (λ _. Unit {0}) (λ fault. (fault ≡ Memory) ⊎ (fault ≡ OpenFault)) }
 {
     run.relay.reserve_link()?;
@@ -47,15 +49,12 @@ fn accept_one<P: Port, S: Scribe>(
 }
 
 /// Accepts links until the port has none, 64 were opened or no more are allowed.
-pub(crate) fn accept<P: Port, S: Scribe>(
-    run: &mut Run,
-    port: &mut P,
-    scribe: &mut S,
-) -> Result<(), DriveFault>
+fn accept<P: Port, S: Scribe>(run: &mut Run, port: &mut P, scribe: &mut S) -> Result<(), DriveFault>
     ensures went { MatchResult result
         (λ _. Goes Accepts false run.old run.new (S.trace scribe.old) (S.trace scribe.new) (P.vouches port.old) (P.vouches port.new) (P.faults port.old) (P.faults port.new))
-        (λ fault. Goes Accepts (is_open_fault fault) run.old run.new (S.trace scribe.old) (S.trace scribe.new) (P.vouches port.old) (P.vouches port.new) (P.faults port.old) (P.faults port.new)) }
+        (λ fault. Goes AcceptsMore (is_open_fault fault) run.old run.new (S.trace scribe.old) (S.trace scribe.new) (P.vouches port.old) (P.vouches port.new) (P.faults port.old) (P.faults port.new)) }
     ensures grown { run.old.relay.state.opened ≤ run.new.relay.state.opened }
+    ensures stops { OnOk result (StopsAccepting run.old.relay.state run.new.relay.state (P.told port.old).accepting (P.told port.new).accepting) }
     ensures cause { MatchResult result (λ _. Unit {0}) (λ fault. (fault ≡ Memory) ⊎ (fault ≡ OpenFault)) }
 {
     for _ in 0..MOST_OPENED {
@@ -64,4 +63,24 @@ pub(crate) fn accept<P: Port, S: Scribe>(
         }
     }
     Ok(())
+}
+
+/// Accepts links, where they are ready.
+pub(crate) fn accept_ready<P: Port, S: Scribe>(
+    run: &mut Run,
+    ready: bool,
+    port: &mut P,
+    scribe: &mut S,
+) -> Result<(), DriveFault>
+    ensures went { MatchResult result
+        (λ _. Goes (AcceptsWhere ready) false run.old run.new (S.trace scribe.old) (S.trace scribe.new) (P.vouches port.old) (P.vouches port.new) (P.faults port.old) (P.faults port.new))
+        (λ fault. Goes (λ s a new. (ready ≡ true) × AcceptsMore s a new) (is_open_fault fault) run.old run.new (S.trace scribe.old) (S.trace scribe.new) (P.vouches port.old) (P.vouches port.new) (P.faults port.old) (P.faults port.new)) }
+    ensures grown { run.old.relay.state.opened ≤ run.new.relay.state.opened }
+    ensures stops { ready ≡ true → OnOk result (StopsAccepting run.old.relay.state run.new.relay.state (P.told port.old).accepting (P.told port.new).accepting) }
+    ensures cause { MatchResult result (λ _. Unit {0}) (λ fault. (fault ≡ Memory) ⊎ (fault ≡ OpenFault)) }
+{
+    if !ready {
+        return Ok(());
+    }
+    accept(run, port, scribe)
 }

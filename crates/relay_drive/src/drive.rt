@@ -1,17 +1,22 @@
 // The drive: turns in a row, with a refusal kept.
+ghost use Rattle.std.specs.Prelude.{◌≡◌, ◌-◌, ◌^◌, true, false, min, nat_lt, if◌then◌else◌, Some, None, Err, IfSome, MatchResult};
+ghost use Rattle.relay_core.specs.Counting.{link_count, open_below, buffered_below};
+ghost use Rattle.relay_drive.specs.declared.fault.DriveFault.TheVariants.{Memory, Spent};
+ghost use Rattle.relay_drive.specs.DriveValue.{new_drive, is_worn, refusal_of};
+ghost use Rattle.relay_drive.specs.Phases.{Turns, CutTurn, is_open_fault};
+ghost use Rattle.relay_drive.specs.Stands.{answer_of, StandsBetween, Went};
+ghost use Rattle.relay_meaning.specs.Meaning.{LeftFor};
 
 use crate::fault::{DriveFault, TurnEnd};
 use crate::run::Run;
-use crate::turn::turn;
+use crate::turn::next_turn;
 use ev_port::{Port, Scribe};
 use relay_core::{LinkCount, Relay, Settings};
 use std::alloc::Global;
+use std::marker::Model;
 
 /// The most bytes of one read.
 const MOST_READ: usize = 16_384;
-
-/// The number of entries at which a trace is too long for another turn.
-const SPENT: u64 = 1 << 62;
 
 /// A relay that is driven over a port, turn by turn.
 ///
@@ -24,9 +29,23 @@ pub struct Drive {
     refusal: Option<DriveFault>,
 }
 
+impl Model for Drive {
+    ghost use Rattle.relay_drive.specs.DriveValue.{DriveValue};
+
+    ghost Value = { DriveValue };
+
+    ghost use Rattle.relay_drive.specs.DriveView.{drive_of, HasInbox};
+
+    ghost view = { drive_of };
+
+    ghost invariant = { HasInbox };
+}
+
 impl Drive {
     /// A drive with no link. It is refused only for want of memory.
-    pub fn new(alloc: Global, settings: Settings) -> Result<Drive, DriveFault> {
+    pub fn new(alloc: Global, settings: Settings) -> Result<Drive, DriveFault>
+        ensures { MatchResult result (λ drive. drive ≡ new_drive settings) (λ fault. fault ≡ Memory) }
+    {
         let Ok(inbox) = vec![in alloc; 0u8; MOST_READ] else {
             return Err(DriveFault::Memory);
         };
@@ -41,16 +60,31 @@ impl Drive {
         })
     }
 
-    /// Makes one turn. After a refusal every later turn is refused so, with no call of the port and no entry.
+    /// Makes one turn. After a refusal every later turn is refused so, with no call of the port and no entry. A turn is
+    /// refused as spent where a count, or the number of entries, has come to 2^62 as it begins.
     pub fn turn<P: Port, S: Scribe>(
         &mut self,
         port: &mut P,
         scribe: &mut S,
-    ) -> Result<TurnEnd, DriveFault> {
+    ) -> Result<TurnEnd, DriveFault>
+        // A kept refusal is answered again, and nothing is done.
+        ensures kept { IfSome self.old.refusal (λ fault. (result ≡ Err fault) × (self.new ≡ self.old) × (port.new ≡ port.old) × (scribe.new ≡ scribe.old)) }
+
+        // A drive that came too far does nothing.
+        ensures spent { self.old.refusal ≡ None → is_worn self.old ≡ true → (result ≡ Err Spent) × (self.new.state ≡ self.old.state) × (port.new ≡ port.old) × (scribe.new ≡ scribe.old) }
+
+        // Every other turn goes through its phases, or is cut off as its answer says. Whatever trace the relay stood for,
+        // it stands for that trace with the turn's entries: between two turns, or where such an answer may come.
+        ensures went { self.old.refusal ≡ None → is_worn self.old ≡ false → MatchResult result
+            (λ _. Went Turns StandsBetween false self.old self.new (S.trace scribe.old) (S.trace scribe.new) (P.vouches port.old) (P.vouches port.new) (P.faults port.old) (P.faults port.new))
+            (λ fault. Went (CutTurn fault) (LeftFor (answer_of fault)) (is_open_fault fault) self.old self.new (S.trace scribe.old) (S.trace scribe.new) (P.vouches port.old) (P.vouches port.new) (P.faults port.old) (P.faults port.new)) }
+
+        ensures refusal { self.new.refusal ≡ refusal_of result }
+    {
         if let Some(fault) = self.refusal {
             return Err(fault);
         }
-        match self.next_turn(port, scribe) {
+        match next_turn(&mut self.run, self.alloc, &mut self.inbox, port, scribe) {
             Ok(()) => Ok(TurnEnd::Went),
             Err(fault) => {
                 self.refusal = Some(fault);
@@ -59,34 +93,31 @@ impl Drive {
         }
     }
 
-    fn next_turn<P: Port, S: Scribe>(
-        &mut self,
-        port: &mut P,
-        scribe: &mut S,
-    ) -> Result<(), DriveFault> {
-        if self.run.entries >= SPENT || self.run.relay.is_spent() {
-            return Err(DriveFault::Spent);
-        }
-        turn(&mut self.run, self.alloc, &mut self.inbox, port, scribe)
-    }
-
     /// How many links were opened.
-    pub fn opened(&self) -> u32 {
+    pub fn opened(&self) -> u32
+        ensures { result ≡ self.now.state.opened }
+    {
         self.run.relay.opened()
     }
 
     /// How many links have a live side.
-    pub fn open_links(&self) -> u32 {
+    pub fn open_links(&self) -> u32
+        ensures { result ≡ open_below self.now.state self.now.state.opened }
+    {
         self.run.relay.open_links()
     }
 
     /// What a link came to. None exactly from the number of opened links on.
-    pub fn link(&self, link: u32) -> Option<LinkCount> {
+    pub fn link(&self, link: u32) -> Option<LinkCount>
+        ensures { result ≡ (if nat_lt link self.now.state.opened then Some (link_count self.now.state link) else None) }
+    {
         self.run.relay.link(link)
     }
 
     /// The number of bytes in all buffers of live sides, or 2^64 - 1 where that is more.
-    pub fn buffered(&self) -> u64 {
+    pub fn buffered(&self) -> u64
+        ensures { result ≡ min (buffered_below self.now.state self.now.state.opened) (2 ^ 64 - 1) }
+    {
         self.run.relay.buffered()
     }
 }

@@ -7,6 +7,7 @@
 
 mod accept;
 mod ask;
+mod bounds;
 mod close;
 mod drive;
 mod fault;
@@ -16,6 +17,7 @@ mod run;
 mod serve;
 mod turn;
 
+pub use bounds::{new_drive_is_within, turns_are_bounded, within_is_not_worn};
 pub use drive::Drive;
 pub use fault::{DriveFault, TurnEnd};
 pub use relay_core::{LinkCount, Settings};

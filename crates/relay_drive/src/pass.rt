@@ -14,6 +14,7 @@ fn pass_link(relay: &mut Relay, link: u32) -> Result<(), DriveFault>
         (λ _. PassesLink link relay.old.state [] relay.new.state)
         (λ _. CutPassingLink link relay.old.state [] relay.new.state) }
     ensures kept { relay.new.state.opened ≡ relay.old.state.opened }
+    ensures time { relay.new.state.time ≡ relay.old.state.time }
     ensures cause { MatchResult result (λ _. Unit {0}) (λ fault. fault ≡ Memory) }
 {
     let near = SideId {
@@ -31,6 +32,7 @@ pub(crate) fn pass(relay: &mut Relay) -> Result<(), DriveFault>
         (λ _. ForAllLinks PassesLink relay.old.state [] relay.new.state)
         (λ _. CutForAllLinks PassesLink CutPassingLink relay.old.state [] relay.new.state) }
     ensures kept { relay.new.state.opened ≡ relay.old.state.opened }
+    ensures time { relay.new.state.time ≡ relay.old.state.time }
     ensures cause { MatchResult result (λ _. Unit {0}) (λ fault. fault ≡ Memory) }
 {
     for link in 0..relay.opened() {

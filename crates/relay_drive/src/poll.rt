@@ -7,7 +7,7 @@ ghost use Rattle.relay_drive.specs.declared.fault.DriveFault.TheVariants.{Memory
 ghost use Rattle.relay_drive.specs.Phases.{wants_of, wanted, Polls, CutPoll, PollsAndAccepts, CutPolling, AllOpened, is_open_fault};
 ghost use Rattle.relay_drive.specs.Goes.{Goes};
 
-use crate::accept::accept;
+use crate::accept::accept_ready;
 use crate::fault::DriveFault;
 use crate::run::{Run, put};
 use ev_port::{Polled, Port, Scribe, Want};
@@ -146,8 +146,7 @@ pub(crate) fn poll<P: Port, S: Scribe>(
     ensures opened { IfOk result (λ wants. AllOpened wants.items run.new.relay.state.opened) }
 {
     let mut wants = wanted(&run.relay, alloc)?;
-    if ask_poll(run, &mut wants, port, scribe)? {
-        accept(run, port, scribe)?;
-    }
+    let ready = ask_poll(run, &mut wants, port, scribe)?;
+    accept_ready(run, ready, port, scribe)?;
     Ok(wants)
 }

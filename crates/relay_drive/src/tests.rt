@@ -1,131 +1,57 @@
-// A port that plays one link, and a tape.
-ghost use Rattle.std.specs.Prelude.{None, ℕ};
-ghost use Rattle.ev_types.specs.Trace.{Trace};
+// Whole runs over a port that answers by a script.
 
 use super::*;
-use ev_port::{Accepted, Addr, ConnAnswer, Polled, Port, ReadAnswer, Started, Want, WriteAnswer};
+use ev_port::ScriptPort;
 use ev_types::{LinkState, Side, SideId, Tape};
+use script_text::{ByteList, Script, TurnLine};
+use std::alloc::Global;
 use std::test::Fail;
 
-/// A port with one link: In gives two bytes and ends, Out ends at once, and all is taken.
-#[derive(Drop)]
-struct Fake {
-    waiting: bool,
-    read: bool,
-    polls: u64,
-}
+const IN: SideId = SideId {
+    link: 0,
+    side: Side::In,
+};
 
-impl Port for Fake {
-    ghost use Rattle.ev_port.specs.Told.{EndTold, PortTold, Faults};
+const OUT: SideId = SideId {
+    link: 0,
+    side: Side::Out,
+};
 
-    ghost vouches = { λ _ _. Unit {0} };
-
-    ghost faults = { λ p. record { ends = λ _. 2 ^ 64; polling = 2 ^ 64; listener = 2 ^ 64 } };
-
-    ghost ends = { λ _ _. record {
-      handed_out = None;
-      taken = None;
-      made_connected = None;
-      ended = None;
-      connected = None;
-      write_ended = None;
-      closed = None;
-      reads = None;
-      writes = None;
-      checks = None;
-      rooms = None;
-      offers = None;
-      read_wants = None;
-      write_wants = None;
-      read_marks = None;
-      write_marks = None;
-    } };
-
-    ghost told = { λ _. record {
-      accept_polls = None;
-      timeout = None;
-      links = None;
-      accepting = None;
-      readings = None;
-      reading = None;
-      started = None;
-    } };
-
-    fn start(&mut self, listen: Addr, to: Addr) -> Started {
-        Started::Started
-    }
-
-    fn now(&mut self) -> u64 {
-        self.polls
-    }
-
-    fn poll(&mut self, wants: &mut [Want], accept: bool, timeout: Option<u64>) -> Polled {
-        self.polls = self.polls.saturating_add(1);
-        for want in wants.iter_mut() {
-            want.can_read = want.read;
-            want.can_write = want.write;
-        }
-        Polled::Ready { accept }
-    }
-
-    fn accept(&mut self, link: u32) -> Accepted {
-        if self.waiting {
-            self.waiting = false;
-            Accepted::Link { connected: false }
-        } else {
-            Accepted::NotYet
-        }
-    }
-
-    fn connect_state(&mut self, end: SideId) -> ConnAnswer {
-        ConnAnswer::Connected
-    }
-
-    fn read(&mut self, end: SideId, into: &mut [u8]) -> ReadAnswer {
-        match end.side {
-            Side::In => {
-                if !self.read && into.len() > 1 {
-                    self.read = true;
-                    into[0] = b'h';
-                    into[1] = b'i';
-                    ReadAnswer::Got(2)
-                } else {
-                    ReadAnswer::Ended
-                }
-            }
-            Side::Out => ReadAnswer::Ended,
-        }
-    }
-
-    fn write(&mut self, end: SideId, from: &[u8]) -> WriteAnswer {
-        WriteAnswer::Took(from.len())
-    }
-
-    fn close_write(&mut self, end: SideId) {}
-
-    fn close(&mut self, end: SideId) {}
-
-    ghost unheard = { λ p e h t v. tt };
+/// A request goes one way and its answer the other, and both ends end.
+fn exchange(alloc: Global) -> Result<Script, Fail> {
+    let request = ByteList {
+        bytes: b"GET".to_vec(alloc)?,
+    };
+    let answer = ByteList {
+        bytes: b"200".to_vec(alloc)?,
+    };
+    let open = vec![in alloc; TurnLine::NewLink { wait: false }]?;
+    let ask = vec![in alloc;
+        TurnLine::Pending(IN, request),
+        TurnLine::Eof(IN),
+        TurnLine::Take(IN, None),
+        TurnLine::Take(OUT, None),
+    ]?;
+    let reply = vec![in alloc; TurnLine::Pending(OUT, answer), TurnLine::Eof(OUT)]?;
+    let turns = vec![in alloc; (0, open), (1, ask), (2, reply), (3, Vec::new(alloc))]?;
+    Ok(Script { turns })
 }
 
 #[test]
 fn one_link_comes_to_its_end(rt: HostRuntime) -> Result<(), Fail> {
-    let mut drive = Drive::new(rt.alloc(), Settings::usual())?;
-    let mut port = Fake {
-        waiting: true,
-        read: false,
-        polls: 0,
-    };
-    let mut tape = Tape::new(rt.alloc());
-    for _ in 0..8u32 {
+    let alloc = rt.alloc();
+    let mut port = ScriptPort::new(alloc, exchange(alloc)?)?;
+    let mut drive = Drive::new(alloc, Settings::usual())?;
+    let mut tape = Tape::new(alloc);
+    for _ in 0..4u32 {
         assert_eq!(rt; drive.turn(&mut port, &mut tape), Ok(TurnEnd::Went));
     }
     let done = LinkCount {
         state: LinkState::Done,
-        in_read: 2,
-        in_given: 0,
-        out_read: 0,
-        out_given: 2,
+        in_read: 3,
+        in_given: 3,
+        out_read: 3,
+        out_given: 3,
     };
     assert_eq!(rt; drive.link(0), Some(done));
     assert_eq!(rt;

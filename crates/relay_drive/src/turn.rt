@@ -1,7 +1,8 @@
 // One turn: its phases in their order. Nothing is timed yet and there is no hook, so that the phases of time and of
 // dispatch have nothing to do.
-ghost use Rattle.std.specs.Prelude.{◌≡◌, ℕ, false, length, MatchResult};
-ghost use Rattle.relay_drive.specs.declared.fault.DriveFault.TheVariants.{Memory};
+ghost use Rattle.std.specs.Prelude.{◌≡◌, ◌^◌, ◌||◌, ℕ, true, false, nat_le, length, Err, MatchResult};
+ghost use Rattle.relay_core.specs.Counting.{is_spent};
+ghost use Rattle.relay_drive.specs.declared.fault.DriveFault.TheVariants.{Memory, Spent};
 ghost use Rattle.relay_drive.specs.Steps.{Nothing};
 ghost use Rattle.relay_drive.specs.Calls.{Ticks};
 ghost use Rattle.relay_drive.specs.Phases.{Turns, CutTurn, is_open_fault, TicksOnce};
@@ -17,6 +18,9 @@ use ev_port::{Port, Scribe};
 use ev_types::Entry;
 use std::alloc::Global;
 
+/// The number of entries at which a trace is too long for another turn.
+const SPENT: u64 = 1 << 62;
+
 /// Reads the port's clock once.
 fn clock<P: Port, S: Scribe>(run: &mut Run, port: &mut P, scribe: &mut S) -> Result<(), DriveFault>
     ensures went { MatchResult result
@@ -31,7 +35,7 @@ fn clock<P: Port, S: Scribe>(run: &mut Run, port: &mut P, scribe: &mut S) -> Res
 }
 
 /// Goes through all phases once.
-pub(crate) fn turn<P: Port, S: Scribe>(
+fn turn<P: Port, S: Scribe>(
     run: &mut Run,
     alloc: Global,
     inbox: &mut [u8],
@@ -47,5 +51,26 @@ pub(crate) fn turn<P: Port, S: Scribe>(
     let wants = poll(run, alloc, port, scribe)?;
     serve(run, &wants, inbox, port, scribe)?;
     pass(&mut run.relay)?;
-    close(run, port, scribe)
+    close(run, port, scribe)?;
+    Ok(())
+}
+
+/// Goes through all phases once, unless a count or the number of entries has come too far as the turn begins.
+pub(crate) fn next_turn<P: Port, S: Scribe>(
+    run: &mut Run,
+    alloc: Global,
+    inbox: &mut [u8],
+    port: &mut P,
+    scribe: &mut S,
+) -> Result<(), DriveFault>
+    requires { length inbox.old ≡ 16384 }
+    ensures spent { nat_le (2 ^ 62) run.old.entries || is_spent run.old.relay.state ≡ true → (result ≡ Err Spent) × (run.new ≡ run.old) × (port.new ≡ port.old) × (scribe.new ≡ scribe.old) }
+    ensures went { nat_le (2 ^ 62) run.old.entries || is_spent run.old.relay.state ≡ false → MatchResult result
+        (λ _. Goes Turns false run.old run.new (S.trace scribe.old) (S.trace scribe.new) (P.vouches port.old) (P.vouches port.new) (P.faults port.old) (P.faults port.new))
+        (λ fault. Goes (CutTurn fault) (is_open_fault fault) run.old run.new (S.trace scribe.old) (S.trace scribe.new) (P.vouches port.old) (P.vouches port.new) (P.faults port.old) (P.faults port.new)) }
+{
+    if run.entries >= SPENT || run.relay.is_spent() {
+        return Err(DriveFault::Spent);
+    }
+    turn(run, alloc, inbox, port, scribe)
 }

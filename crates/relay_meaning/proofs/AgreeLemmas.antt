@@ -7,6 +7,7 @@ use Rattle.ev_types.specs.Trace.{Event, Trace}
 use Rattle.relay_model.specs.Flow.{Flow, no_flow}
 use Rattle.relay_model.specs.Plain as plain
 use Rattle.relay_model.specs.Plain.{Plain, PlainSide, put_side, put_flow}
+use Rattle.relay_model.specs.Turn.{latest}
 use Rattle.relay_core.specs.State.{State, Lane, SideValue, no_side, side_at, flags_at, lane_at, with_side, with_lane}
 use Rattle.relay_meaning.specs.Meaning.{meant, Direction, direction_of, IsStraight, AgreesAt, Agrees}
 use Rattle.relay_meaning.proofs.EndLemmas.{SameTold, IsSilent, told-same, untold-same, number-below, number-apart, peer-moves, peer-peer, link-apart, by_side}
@@ -92,6 +93,7 @@ pub record SameFrame (s s' : State) (p p' : Plain) : Type 0 where
   pub code_opened : s'.opened ≡ s.opened
   pub code_sides : length s'.sides ≡ length s.sides
   pub time : p'.time ≡ s'.time
+  pub in_time : s'.time ≤ latest
   pub opened : p'.opened ≡ p.opened
   pub timers : p'.timers ≡ p.timers
   pub due : p'.due ≡ p.due
@@ -103,6 +105,7 @@ pub agrees-touched : (t u : Trace) (s s' : State) (p p' : Plain) (e : SideId) �
     ((a : SideId) → a ≢ e → a ≢ peer e → SameAt t u s s' p p' a) → AgreesAt u s' p' e → AgreesAt u s' p' (peer e) → Agrees t s p → Agrees u s' p'
 agrees-touched t u s s' p p' e lt frame rest own far h = record {
   time = frame.time;
+  in_time = frame.in_time;
   opened = frame.opened ∙ h.opened ∙ sym frame.code_opened;
   timers = frame.timers ∙ h.timers;
   due = frame.due ∙ h.due;
@@ -124,6 +127,7 @@ agrees-touched t u s s' p p' e lt frame rest own far h = record {
 pub agrees-untouched : (t u : Trace) (s s' : State) (p p' : Plain) → SameFrame s s' p p' → ((a : SideId) → SameAt t u s s' p p' a) → Agrees t s p → Agrees u s' p'
 agrees-untouched t u s s' p p' frame same h = record {
   time = frame.time;
+  in_time = frame.in_time;
   opened = frame.opened ∙ h.opened ∙ sym frame.code_opened;
   timers = frame.timers ∙ h.timers;
   due = frame.due ∙ h.due;
@@ -138,5 +142,5 @@ agrees-untouched t u s s' p p' frame same h = record {
 pub agrees-silent : (t : Trace) (x : Event) (s : State) (p : Plain) → ((a : SideId) → IsSilent x a) → Agrees t s p → Agrees (t ++ x ∷ []) s p
 agrees-silent t x s p silent h =
     agrees-untouched t (t ++ x ∷ []) s s p p
-    (record { code_opened = refl; code_sides = refl; time = h.time; opened = refl; timers = refl; due = refl; sides = refl; flows = refl })
+    (record { code_opened = refl; code_sides = refl; time = h.time; in_time = h.in_time; opened = refl; timers = refl; due = refl; sides = refl; flows = refl })
     (λ a. record { code = refl; side = refl; flow = refl; told = told-same t x a (silent a) }) h

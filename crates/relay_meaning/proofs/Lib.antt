@@ -9,3 +9,6 @@ pub mod PassSteps
 pub mod SideSteps
 pub mod ServeSteps
 pub mod WriteSteps
+pub mod FreeSteps
+pub mod CloseSteps
+pub mod TurnSteps

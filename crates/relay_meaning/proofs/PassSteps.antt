@@ -23,7 +23,7 @@ use Rattle.relay_core.specs.State.{Lane, side_at, flags_at, lane_at, with_side, 
 use Rattle.relay_core.specs.Passing.{held, used_now, read_filtered, moved, write_filtered, round, rounds, round_from, Passed, SomeRounds, PassedFrom, PartlyPassed}
 use Rattle.relay_core.proofs.RelayLemmas.{with_side-same}
 use Rattle.relay_core.proofs.RoundLemmas.{rounds-suc}
-use Rattle.relay_meaning.specs.Meaning.{model_settings, meant, Direction, direction_of, IsStraight, AgreesAt, Agrees, StandsFor, HoldsFor}
+use Rattle.relay_meaning.specs.Meaning.{model_settings, meant, Direction, direction_of, IsStraight, AgreesAt, Agrees, StandsFor}
 use Rattle.relay_meaning.proofs.StraightLemmas.{straight-held, straight-read, straight-moved, straight-written}
 use Rattle.relay_meaning.proofs.AgreeLemmas.{side-set, side-set_other, with_side-twice, flow-put, put_flow-twice, put_flow-same, put_side-same, in_code, in_flows}
 use Rattle.relay_meaning.proofs.EndLemmas.{peer-apart}
@@ -263,10 +263,8 @@ module _ (t : Trace) (e : SideId) (es : List SideId) where
       subst Here same (rounds-stand n z lt (once s lt h))
 
   -- some rounds were made
-  pub partly_passed-holds : (s new : core.State) → e.link < s.opened → Here s → PartlyPassed s e new → HoldsFor t new
-  partly_passed-holds s new lt h (x, some, is) =
-      let k = rounds-stand some.0 s lt h in
-      subst (HoldsFor t) (ap (with_lane s e) (sym some.1) ∙ sym is) (record { legal = (_, k.reached); plain = k.plain; agrees = k.agrees })
+  pub partly_passed-stands : (s new : core.State) → e.link < s.opened → Here s → PartlyPassed s e new → Here new
+  partly_passed-stands s new lt h (x, some, is) = subst Here (ap (with_lane s e) (sym some.1) ∙ sym is) (rounds-stand some.0 s lt h)
 
   -- rounds were made until one changes nothing
   pub passed-stands : (s new : core.State) → e.link < s.opened → Here s → PassedFrom s e new → StandsFor t (Stage.Passing [] es) new

@@ -292,6 +292,7 @@ module _ (t : Trace) (s : State) (e : SideId) (r w : Bool) (ms : List Want) (k :
               code_opened = refl;
               code_sides = length-set s.sides (number e) x;
               time = h.time;
+              in_time = h.in_time;
               opened = refl;
               timers = refl;
               due = refl;

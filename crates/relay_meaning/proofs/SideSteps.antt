@@ -114,6 +114,7 @@ module _ (t u : Trace) (s : State) (p : Plain) (e : SideId) (h : Agrees t s p) (
           code_opened = refl;
           code_sides = length-set s.sides (number e) x;
           time = h.time;
+          in_time = h.in_time;
           opened = refl;
           timers = refl;
           due = refl;

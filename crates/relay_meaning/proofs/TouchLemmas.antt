@@ -97,6 +97,7 @@ agrees-lane t s p e y h lt d =
         code_opened = refl;
         code_sides = length-set s.sides (number e) x;
         time = h.time;
+        in_time = h.in_time;
         opened = refl;
         timers = refl;
         due = refl;

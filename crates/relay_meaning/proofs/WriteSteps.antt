@@ -167,6 +167,7 @@ module _ (t : Trace) (s : State) (e : SideId) (w : Bool) (ms : List Want) (k : S
             code_opened = refl;
             code_sides = length-set s.sides (number (peer e)) far_side;
             time = h.time;
+            in_time = h.in_time;
             opened = refl;
             timers = refl;
             due = refl;

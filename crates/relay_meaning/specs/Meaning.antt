@@ -9,7 +9,8 @@ use Rattle.relay_model.specs.Flow.{Flow}
 use Rattle.relay_model.specs.Settings as model
 use Rattle.relay_model.specs.Plain as plain
 use Rattle.relay_model.specs.Stages.{Stage, at}
-use Rattle.relay_model.specs.Turn.{Reaches, IsLegal}
+use Rattle.relay_model.specs.Turn.{latest, Reaches}
+use Rattle.relay_model.specs.Answers.{TurnAnswer, LeftAt}
 use Rattle.relay_model.specs.Stands.{IsUntold}
 use Rattle.relay_core.specs.declared.flags.SideFlags.{SideFlags}
 use Rattle.relay_core.specs.declared.settings.Settings.{Settings}
@@ -104,10 +105,11 @@ pub record AgreesAt (t : Trace) (s : State) (p : plain.Plain) (e : SideId) : Typ
   pub ended : (flags_at s e).ended ≡ has_ended e t
   pub read : (side_at s e).read ≡ length (bytes_read e t)
 
--- What the relay keeps is what the model keeps after a trace, at each side of the opened links. No timer runs, nothing is due,
--- and nothing is told of a link that was not opened.
+-- What the relay keeps is what the model keeps after a trace, at each side of the opened links. The time is not beyond the
+-- latest, no timer runs, nothing is due, and nothing is told of a link that was not opened.
 pub record Agrees (t : Trace) (s : State) (p : plain.Plain) : Type 0 where
   pub time : p.time ≡ s.time
+  pub in_time : s.time ≤ latest
   pub opened : p.opened ≡ s.opened
   pub timers : p.timers ≡ []
   pub due : p.due ≡ []
@@ -124,9 +126,8 @@ pub record StandsFor (t : Trace) (x : Stage) (s : State) : Type 0 where
   pub reached : Reaches (model_settings s.settings) t (at x plain)
   pub agrees : Agrees t s plain
 
--- A relay whose turn was cut off holds what a trace leaves. At which stage it was cut off is not told, and its counts may be
--- ahead of the model's within a direction that was being passed.
-pub record HoldsFor (t : Trace) (s : State) : Type 0 where
-  pub legal : IsLegal (model_settings s.settings) t
-  pub plain : plain.Plain
-  pub agrees : Agrees t s plain
+-- It stands so at a stage at which a turn may answer so.
+pub record LeftFor (answer : TurnAnswer) (t : Trace) (s : State) : Type 0 where
+  pub stage : Stage
+  pub stands : StandsFor t stage s
+  pub left : LeftAt (model_settings s.settings) answer stage stands.plain

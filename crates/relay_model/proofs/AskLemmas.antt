@@ -1,6 +1,5 @@
 -- An ask of a hook frees a live side, or leaves all that closing looks at.
-use Rattle.std.proofs.Common.{◌≡◌, ℕ, ◌<◌, ◌≤◌, Bool, true, false, ◌&&◌, not, if◌then◌else◌, List, [], ◌∷◌, Option, Some, None, ◌⊎◌, inl, inr, refl, sym, ◌∙◌, ap, subst}
-use Rattle.std.proofs.lemmas.Bool.{not-false}
+use Rattle.std.proofs.Common.{◌≡◌, Bool, true, false, not, if◌then◌else◌, List, Option, Some, None, ◌⊎◌, inl, inr, refl, sym, ◌∙◌, ap, subst}
 use Rattle.ev_types.specs.declared.side.SideId.{SideId}
 use Rattle.ev_types.specs.declared.act.Act.{Act}
 use Rattle.ev_types.specs.declared.act.Act.TheVariants as act
@@ -10,8 +9,8 @@ use Rattle.relay_model.specs.Settings.{Settings}
 use Rattle.relay_model.specs.Due.{Reason, without_reasons}
 use Rattle.relay_model.specs.Plain.{Plain, is_live, freed}
 use Rattle.relay_model.specs.Past.{Past}
-use Rattle.relay_model.specs.Asks.{names_no_live, has_bad_value, names_no_group, has_too_many, refusal, may_lack, done, Answered, Ask}
-use Rattle.relay_model.specs.Stages.{Stage, Fire, Firing, Freeing, after_ask}
+use Rattle.relay_model.specs.Asks.{names_no_live, has_bad_value, names_no_group, has_too_many, refusal, done, Answered, Ask}
+use Rattle.relay_model.specs.Stages.{Fire, Firing, Freeing, after_ask}
 use Rattle.relay_model.proofs.KeepsLemmas.{Keeps, Keeps-eq, Keeps-trans}
 use Rattle.relay_model.proofs.SeenLemmas.{seen, FreesOrNot, frees_or_not}
 

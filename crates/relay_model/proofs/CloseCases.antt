@@ -1,51 +1,32 @@
 -- The effect of closing and of what a hook frees.
-use Rattle.std.proofs.Common.{◌≡◌, ℕ, zero, suc, ◌+◌, ◌*◌, ◌<◌, ◌≤◌, Bool, true, false, ◌&&◌, ◌||◌, not, ◌==◌, if◌then◌else◌, List, [], ◌∷◌, ◌++◌, length, Option, Some, None, ◌⊎◌, inl, inr, refl, sym, ◌∙◌, ap, subst, arith, slice_index_or, length-append, length-set}
-use Rattle.std.specs.Prelude.{nat_le, option_map}
-use Rattle.std.specs.List.{AllByRecursion}
-use Rattle.std.proofs.lemmas.Bool.{and_parts, or_left, eqb-true, not-true}
-use Rattle.std.proofs.lemmas.List.{get_or_append_left, get_or-append-add}
-use Rattle.ev_types.specs.declared.side.Side.{Side}
+use Rattle.std.proofs.Common.{◌≡◌, ℕ, ◌*◌, ◌<◌, Bool, true, false, ◌&&◌, ◌||◌, not, if◌then◌else◌, List, length, Option, Some, None, ◌⊎◌, inl, inr, refl, sym, ◌∙◌, ap, subst, arith}
+use Rattle.std.specs.Prelude.{option_map}
+use Rattle.std.proofs.lemmas.Bool.{or_left}
 use Rattle.ev_types.specs.declared.side.Side.TheVariants.{In, Out}
 use Rattle.ev_types.specs.declared.side.SideId.{SideId}
 use Rattle.ev_types.specs.declared.act.Act.{Act}
 use Rattle.ev_types.specs.declared.act.Act.TheVariants as act
 use Rattle.ev_types.specs.declared.answer.AskAnswer.{AskAnswer}
 use Rattle.ev_types.specs.declared.answer.AskAnswer.TheVariants as ask
-use Rattle.ev_types.specs.declared.answer.ConnAnswer.{ConnAnswer}
-use Rattle.ev_types.specs.declared.answer.ConnAnswer.TheVariants as conn
-use Rattle.ev_types.specs.declared.answer.ReadAnswer.{ReadAnswer}
-use Rattle.ev_types.specs.declared.answer.ReadAnswer.TheVariants as read
-use Rattle.ev_types.specs.declared.answer.WriteAnswer.{WriteAnswer}
-use Rattle.ev_types.specs.declared.answer.WriteAnswer.TheVariants as write
 use Rattle.ev_types.specs.declared.why.Cause.{Cause}
-use Rattle.ev_types.specs.declared.why.Why.{Why}
 use Rattle.ev_types.specs.declared.why.Cause.TheVariants as cause
-use Rattle.ev_types.specs.declared.why.Why.TheVariants as why
 use Rattle.ev_types.specs.declared.entry.Entry.{Entry}
 use Rattle.ev_types.specs.declared.entry.Entry.TheVariants as entry
-use Rattle.ev_types.specs.Sides.{same_end, peer, number, half}
-use Rattle.ev_types.specs.Trace.{Event, Trace}
+use Rattle.ev_types.specs.Sides.{same_end}
+use Rattle.ev_types.specs.Trace.{Event}
 use Rattle.relay_model.specs.Settings.{Settings}
-use Rattle.relay_model.specs.Trace.{ended_by, write_closed_by}
-use Rattle.relay_model.specs.Reasons.{happened, end_flag, error_flag}
-use Rattle.token_bucket.specs.declared.limit.Dir.TheVariants as dir
 use Rattle.relay_model.specs.Due.{Reason}
-use Rattle.relay_model.specs.Flow.{Flow, no_flow}
-use Rattle.relay_model.specs.Plain.{Plain, PlainSide, no_side, new_side, with_link, side_at, put_side, change_side, is_live, freed}
-use Rattle.relay_model.specs.Past.{Past, past}
-use Rattle.relay_model.specs.Rooms.{Want, is_connecting, read_room, write_room, output_length}
+use Rattle.relay_model.specs.Plain.{Plain, PlainSide, side_at, put_side, change_side, is_live, freed}
+use Rattle.relay_model.specs.Past.{Past}
 use Rattle.relay_model.specs.Asks.{Ask}
-use Rattle.relay_model.specs.Moments.{time_passed}
-use Rattle.relay_model.specs.Serve.{Call, call_for, after_conn, after_read, after_write, CarriesTook}
-use Rattle.relay_model.specs.Close.{CloseStep, fault, freed_entry, entry_where, closing_entry, closed_by, steps_left, is_complete}
-use Rattle.relay_model.specs.Stages.{Stage, Fire, State, at, Between, Polling, Wanting, Marking, Accepting, Serving, Filtering, Dispatching, Firing, Freeing, Passing, Closing, Over, Halt, begun, after_ask}
-use Rattle.relay_model.specs.Turn.{turned_to, after_reading, Puts}
-use Rattle.relay_model.specs.Told.{begins_turn, opens_link, time_after, names, freed_by, failed_by, end_closed_by, is_freeing}
-use Rattle.relay_model.proofs.EndLemmas.{same_end-eq, same_end-refl, same_end-flip, number-lt}
-use Rattle.relay_model.proofs.KeepsLemmas.{Keeps, Keeps-refl, Keeps-eq, Keeps-trans, Keeps-side, Keeps-length, Keeps-raise, Keeps-raise_write, Keeps-flow, Keeps-put}
-use Rattle.relay_model.proofs.SeenLemmas.{Seen, seen, but_expired, time_passed-keeps}
-use Rattle.relay_model.proofs.EffectLemmas.{SideEffect, Effect, IsIdle, idle-still, fresh, or_no, or_yes, and_no, and_yes}
-use Rattle.relay_model.proofs.PlacedLemmas.{Placed, live-there, room-read, room-write, may_read-parts, may_write-live, connecting-live, AllLive, AllOpened, link_of}
+use Rattle.relay_model.specs.Close.{CloseStep, fault, freed_entry, entry_where, closing_entry, closed_by}
+use Rattle.relay_model.specs.Stages.{Stage, Fire, Firing, Freeing, after_ask}
+use Rattle.relay_model.specs.Told.{is_freeing}
+use Rattle.relay_model.proofs.EndLemmas.{same_end-eq, same_end-refl}
+use Rattle.relay_model.proofs.KeepsLemmas.{Keeps-refl}
+use Rattle.relay_model.proofs.SeenLemmas.{seen}
+use Rattle.relay_model.proofs.EffectLemmas.{SideEffect, Effect, IsIdle, or_no, or_yes, and_no, and_yes}
+use Rattle.relay_model.proofs.PlacedLemmas.{live-there, link_of}
 use Rattle.relay_model.proofs.AskLemmas.{Frees, GoesOn, ask-outcome}
 use Rattle.relay_model.proofs.ServeCases.{named-one}
 use Rattle.relay_model.proofs.PutLemmas.{IsPlainEvent, effect-keeps, effect-at}

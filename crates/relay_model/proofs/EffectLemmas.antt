@@ -1,20 +1,16 @@
 -- What an entry that is put changes of the plain state, as far as closing looks at it.
-use Rattle.std.proofs.Common.{◌≡◌, ℕ, ◌+◌, ◌*◌, ◌<◌, ◌≤◌, Bool, true, false, ◌&&◌, ◌||◌, not, if◌then◌else◌, List, [], ◌∷◌, ◌++◌, length, Option, Some, None, ◌⊎◌, inl, inr, refl, sym, ◌∙◌, ap, subst, arith}
-use Rattle.std.specs.List.{AllByRecursion}
+use Rattle.std.proofs.Common.{◌≡◌, ◌+◌, ◌*◌, ◌<◌, ◌≤◌, Bool, true, false, ◌&&◌, ◌||◌, not, if◌then◌else◌, length, None, refl, sym, ◌∙◌, ap}
 use Rattle.ev_types.specs.declared.side.SideId.{SideId}
-use Rattle.ev_types.specs.Sides.{same_end}
-use Rattle.ev_types.specs.Trace.{Event, Trace}
+use Rattle.ev_types.specs.Trace.{Event}
 use Rattle.relay_model.specs.Trace.{ended_by, write_closed_by}
 use Rattle.relay_model.specs.Settings.{Settings}
-use Rattle.relay_model.specs.Plain.{Plain, PlainSide, side_at, change_side, is_live}
-use Rattle.relay_model.specs.Rooms.{Want}
-use Rattle.relay_model.specs.Close.{CloseStep}
-use Rattle.relay_model.specs.Stages.{Stage, Between, Polling, Wanting, Marking, Accepting, Serving, Filtering, Dispatching, Firing, Freeing, Passing, Closing, Over}
+use Rattle.relay_model.specs.Plain.{Plain, side_at}
+use Rattle.relay_model.specs.Stages.{Stage}
 use Rattle.relay_model.specs.Turn.{latest}
-use Rattle.relay_model.specs.Told.{begins_turn, opens_link, time_after, names, freed_by, end_closed_by, failed_by, is_freeing}
-use Rattle.relay_model.proofs.EndLemmas.{same_end-eq, same_end-refl}
-use Rattle.relay_model.proofs.KeepsLemmas.{Keeps, Keeps-side, change_side-same, change_side-other}
-use Rattle.relay_model.proofs.SeenLemmas.{Seen, seen, but_bad, but_expired}
+use Rattle.relay_model.specs.RatesKept.{is_turn, time_by}
+use Rattle.relay_model.specs.TurnLaws.{is_opened}
+use Rattle.relay_model.specs.Told.{names, freed_by, end_closed_by, failed_by, is_freeing}
+use Rattle.relay_model.proofs.SeenLemmas.{Seen, seen}
 
 -- of one side, by the event that is put and the stage behind it
 pub record SideEffect (e : SideId) (y : Event) (after : Stage) (old new : Seen) : Type 0 where
@@ -24,7 +20,7 @@ pub record SideEffect (e : SideId) (y : Event) (after : Stage) (old new : Seen) 
   pub write_ended : new.write_ended ≡ (old.write_ended || write_closed_by e y)
   pub closed : new.closed ≡ (old.closed || end_closed_by e y)
   pub bad : new.bad ≡ old.bad
-  pub expired : begins_turn y ≡ false → new.expired ≡ old.expired
+  pub expired : is_turn y ≡ false → new.expired ≡ old.expired
 
 -- a side of a link that was opened just now
 abbrev pub fresh : Seen
@@ -32,11 +28,11 @@ fresh = record { live = true; ended = false; failed = false; expired = false; ba
 
 -- of the whole state
 pub record Effect (g : Settings) (x : Stage) (s : Plain) (y : Event) (after : Stage) (new : Plain) : Type 0 where
-  pub time : new.time ≡ time_after s.time y
+  pub time : new.time ≡ time_by s.time y
   pub rises : s.time ≤ new.time
   pub until : s.time ≤ latest → new.time ≤ latest
-  pub turn : new.turn ≡ (s.turn + (if begins_turn y then 1 else 0))
-  pub opened : new.opened ≡ (s.opened + (if opens_link y then 1 else 0))
+  pub turn : new.turn ≡ (s.turn + (if is_turn y then 1 else 0))
+  pub opened : new.opened ≡ (s.opened + (if is_opened y then 1 else 0))
   pub links : s.opened ≤ g.links → new.opened ≤ g.links
   pub sides : length s.sides ≡ 2 * s.opened → length new.sides ≡ 2 * new.opened
   pub flows : length s.flows ≡ 2 * s.opened → length new.flows ≡ 2 * new.opened

@@ -1,68 +1,31 @@
 -- Faults of sides, and that closing looks for each of them.
-use Rattle.std.proofs.Common.{◌≡◌, ℕ, zero, suc, ◌+◌, ◌*◌, ◌<◌, ◌≤◌, Bool, true, false, ◌&&◌, ◌||◌, not, ◌==◌, if◌then◌else◌, List, [], ◌∷◌, ◌++◌, length, Option, Some, None, ◌⊎◌, inl, inr, refl, sym, ◌∙◌, ap, subst, arith, slice_index_or, length-append, length-set}
-use Rattle.std.specs.Prelude.{nat_le, option_map}
+use Rattle.std.proofs.Common.{◌≡◌, ℕ, zero, suc, ◌+◌, ◌<◌, ◌≤◌, Bool, true, false, ◌||◌, not, if◌then◌else◌, List, [], ◌∷◌, Option, Some, None, ◌⊎◌, inl, inr, refl, sym, ◌∙◌, ap, arith}
+use Rattle.std.specs.Prelude.{option_map}
 use Rattle.std.specs.Prelude.{⊤}
-use Rattle.std.specs.List.{AllByRecursion, list_any, list_all}
-use Rattle.std.proofs.lemmas.Bool.{and_parts, and_from, and_right, or_parts, or_left, or_right, eqb-true, not-true}
-use Rattle.std.proofs.lemmas.List.{get_or_append_left, get_or-append-add}
+use Rattle.std.specs.List.{list_any}
+use Rattle.std.proofs.lemmas.Bool.{and_parts, or_parts, or_left, or_right, not-true}
 use Rattle.ev_types.specs.declared.side.Side.{Side}
 use Rattle.ev_types.specs.declared.side.Side.TheVariants.{In, Out}
 use Rattle.ev_types.specs.declared.side.SideId.{SideId}
-use Rattle.ev_types.specs.declared.act.Act.{Act}
-use Rattle.ev_types.specs.declared.act.Act.TheVariants as act
-use Rattle.ev_types.specs.declared.answer.AskAnswer.{AskAnswer}
-use Rattle.ev_types.specs.declared.answer.AskAnswer.TheVariants as ask
-use Rattle.ev_types.specs.declared.answer.ConnAnswer.{ConnAnswer}
-use Rattle.ev_types.specs.declared.answer.ConnAnswer.TheVariants as conn
-use Rattle.ev_types.specs.declared.answer.ReadAnswer.{ReadAnswer}
-use Rattle.ev_types.specs.declared.answer.ReadAnswer.TheVariants as read
-use Rattle.ev_types.specs.declared.answer.WriteAnswer.{WriteAnswer}
-use Rattle.ev_types.specs.declared.answer.WriteAnswer.TheVariants as write
-use Rattle.ev_types.specs.declared.why.Cause.{Cause}
-use Rattle.ev_types.specs.declared.why.Why.{Why}
 use Rattle.ev_types.specs.declared.why.Cause.TheVariants as cause
-use Rattle.ev_types.specs.declared.why.Why.TheVariants as why
 use Rattle.ev_types.specs.declared.entry.Entry.{Entry}
-use Rattle.ev_types.specs.declared.entry.Entry.TheVariants as entry
-use Rattle.ev_types.specs.Sides.{same_end, peer, number, half}
-use Rattle.ev_types.specs.Trace.{Event, Trace}
+use Rattle.ev_types.specs.Sides.{same_end}
+use Rattle.ev_types.specs.Trace.{Event}
 use Rattle.relay_model.specs.Settings.{Settings}
-use Rattle.relay_model.specs.Trace.{ended_by, write_closed_by}
-use Rattle.relay_model.specs.Reasons.{happened, end_flag, error_flag}
-use Rattle.token_bucket.specs.declared.limit.Dir.TheVariants as dir
-use Rattle.relay_model.specs.Due.{Reason, without_due}
-use Rattle.relay_model.specs.Flow.{Flow, no_flow}
-use Rattle.relay_model.specs.Plain.{Plain, PlainSide, no_side, new_side, with_link, all_sides, side_at, put_side, change_side, is_live, freed, without_timer}
-use Rattle.relay_model.specs.Past.{Past, past}
-use Rattle.relay_model.specs.Rooms.{Want, wanted, is_connecting, may_read, may_write, read_room, write_room, output_length}
-use Rattle.relay_model.specs.Asks.{Ask}
-use Rattle.relay_model.specs.Moments.{time_passed}
-use Rattle.relay_model.specs.Serve.{Call, call_for, marks_left, after_got, after_conn, after_read, after_write, CarriesTook, CarriesGot}
-use Rattle.relay_model.specs.Close.{CloseStep, closing_of, closing_from, fault, freed_entry, entry_where, closing_entry, closed_by, steps_left, is_complete}
-use Rattle.relay_model.specs.Stages.{Stage, Fire, State, at, Between, Polling, Wanting, Marking, Accepting, Serving, Filtering, Dispatching, Firing, Freeing, Passing, Closing, Over, Halt, begun, after_ask}
-use Rattle.relay_model.specs.Turn.{turned_to, after_reading, after_fire, Puts, Quietly, Reaches, latest}
-use Rattle.relay_model.specs.Told.{begins_turn, opens_link, time_after, names, freed_by, is_freed, failed_by, end_closed_by, is_freeing}
-use Rattle.relay_model.proofs.EndLemmas.{same_end-eq, same_end-refl, same_end-flip, number-lt}
-use Rattle.relay_model.proofs.KeepsLemmas.{Keeps, Keeps-refl, Keeps-eq, Keeps-trans, Keeps-side, Keeps-length, Keeps-raise, Keeps-raise_write, Keeps-flow, Keeps-put, change_side-same, change_side-other}
-use Rattle.relay_model.proofs.SeenLemmas.{Seen, seen, but_expired, time_passed-keeps}
-use Rattle.relay_model.proofs.EffectLemmas.{SideEffect, Effect, IsIdle, idle-still, fresh, or_no, or_yes, and_no, and_yes}
-use Rattle.relay_model.proofs.PlacedLemmas.{Placed, live-there, room-read, room-write, may_read-parts, may_write-live, connecting-live, AllLive, AllOpened, link_of}
-use Rattle.relay_model.proofs.AskLemmas.{Frees, GoesOn, ask-outcome}
-use Rattle.relay_model.specs.Round.{Part, do_part, round_parts}
-use Rattle.relay_model.specs.Quiet.{is_within_fire}
-use Rattle.std.proofs.lemmas.List.Folds.{list_all-append, list_any-append}
-use Rattle.relay_model.proofs.SplitLemmas.{IsLast, IsEarlier, pushed_split}
-use Rattle.relay_model.proofs.FireLemmas.{is_open_stage, QuietKind, quiet-kind, InRun, Runs, put-runs, quiet-runs, reading-open}
-use Rattle.relay_model.proofs.ToldLemmas.{Kept, kept}
-use Rattle.relay_model.proofs.StageLemmas.{quiet-silent}
-use Rattle.relay_model.specs.Causes.{InThisTurn, AskedFree}
+use Rattle.relay_model.specs.Plain.{Plain, PlainSide, side_at, is_live}
+use Rattle.relay_model.specs.Past.{Past}
+use Rattle.relay_model.specs.Close.{CloseStep, closing_of, closing_from, fault, steps_left}
+use Rattle.relay_model.specs.Stages.{Stage, Between, Firing, Freeing, Closing}
+use Rattle.relay_model.specs.RatesKept.{is_turn}
+use Rattle.relay_model.specs.Told.{freed_by, failed_by, is_freeing}
+use Rattle.relay_model.proofs.EndLemmas.{same_end-refl}
+use Rattle.relay_model.proofs.SeenLemmas.{Seen, seen}
+use Rattle.relay_model.proofs.EffectLemmas.{SideEffect, or_no}
+use Rattle.std.proofs.lemmas.List.Folds.{list_any-append}
+use Rattle.relay_model.proofs.FireLemmas.{is_open_stage}
 use Rattle.std.proofs.lemmas.Bool.{cases_order}
 use Rattle.std.specs.Prelude.{is_some}
-use Rattle.relay_model.proofs.HeldLemmas.{Held, held}
-use Rattle.relay_model.proofs.KindLemmas.{ClosedKind, closed-kind, PutKind, put-kind}
-use Rattle.relay_model.proofs.StepLemmas.{conn-live, CalledRead, read-called, CalledWrite, write-called}
-use Rattle.relay_model.proofs.CloseCases.{where_parts, faulty_parts}
-use Rattle.relay_model.proofs.PutLemmas.{IsPlainEvent, effect-keeps, effect-at}
+use Rattle.relay_model.proofs.KindLemmas.{ClosedKind}
 
 -- Faults
 
@@ -134,7 +97,7 @@ looked-for k (suc left) e h l = go (cases_order k e.link) (λ lt. looked-for (k 
     go (inr (inr gt)) later = absurd (omega arith)
 
 -- a step of closing leaves faults, and none of its entries tells of a failure or a turn
-pub closed-fails : (g : Settings) (p : Past) (s : Plain) (c : CloseStep) (e : Entry) → ClosedKind g p s c e → (z : SideId) → (failed_by z (e, []) ≡ false) × (begins_turn (e, []) ≡ false) × (looks_at z c ≡ true → freed_by z (e, []) ≡ true)
+pub closed-fails : (g : Settings) (p : Past) (s : Plain) (c : CloseStep) (e : Entry) → ClosedKind g p s c e → (z : SideId) → (failed_by z (e, []) ≡ false) × (is_turn (e, []) ≡ false) × (looks_at z c ≡ true → freed_by z (e, []) ≡ true)
 closed-fails g p s c e (ClosedKind.faulty a b) z = (refl, refl, λ h. h)
 closed-fails g p s c e (ClosedKind.write_ended a b) z = (refl, refl, λ h. absurd (cc))
 closed-fails g p s c e (ClosedKind.in_done a b d f) z = (refl, refl, λ h. absurd (cc))
@@ -155,7 +118,7 @@ steps-looked (CloseStep.PeerGone e) cs z n h = h
 steps-looked (CloseStep.Shut e) cs z n h = h
 
 -- what an entry that is no beginning of a turn does to a faulty side
-pub old-faulty : (e : SideId) (y : Event) (after : Stage) (old new : Seen) → SideEffect e y after old new → begins_turn y ≡ false → failed_by e y ≡ false → is_faulty new ≡ true → is_faulty old ≡ true
+pub old-faulty : (e : SideId) (y : Event) (after : Stage) (old new : Seen) → SideEffect e y after old new → is_turn y ≡ false → failed_by e y ≡ false → is_faulty new ≡ true → is_faulty old ≡ true
 old-faulty e y after old new k turn fails h =
     let a : new.failed ≡ old.failed = k.failed ∙ sym (or_no old.failed (failed_by e y) fails) in
     let b : new.expired ≡ old.expired = k.expired turn in

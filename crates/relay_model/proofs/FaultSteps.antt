@@ -1,71 +1,37 @@
 -- Which side is faulty at a place of a trace, and why, by induction over the steps.
-use Rattle.std.proofs.Common.{◌≡◌, ℕ, zero, suc, ◌+◌, ◌*◌, ◌<◌, ◌≤◌, Bool, true, false, ◌&&◌, ◌||◌, not, ◌==◌, if◌then◌else◌, List, [], ◌∷◌, ◌++◌, length, Option, Some, None, ◌⊎◌, inl, inr, refl, sym, ◌∙◌, ap, subst, arith, slice_index_or, length-append, length-set, append_assoc}
-use Rattle.std.specs.Prelude.{nat_le, option_map}
-use Rattle.std.specs.Prelude.{⊤}
-use Rattle.std.specs.List.{AllByRecursion, list_any, list_all}
-use Rattle.std.proofs.lemmas.Bool.{and_parts, and_from, and_right, or_parts, or_from, or_left, or_right, eqb-true, not-true}
-use Rattle.std.proofs.lemmas.List.{get_or_append_left, get_or-append-add}
-use Rattle.ev_types.specs.declared.side.Side.{Side}
-use Rattle.ev_types.specs.declared.side.Side.TheVariants.{In, Out}
+use Rattle.std.proofs.Common.{◌≡◌, ℕ, ◌<◌, ◌≤◌, Bool, true, false, ◌||◌, if◌then◌else◌, [], ◌∷◌, ◌++◌, Option, Some, None, ◌⊎◌, inl, inr, refl, sym, ◌∙◌, ap, subst, arith, append_assoc}
+use Rattle.std.specs.Prelude.{option_map}
+use Rattle.std.specs.List.{list_any}
+use Rattle.std.proofs.lemmas.Bool.{or_from, or_left, or_right}
+use Rattle.ev_types.specs.declared.side.Side.TheVariants.{In}
 use Rattle.ev_types.specs.declared.side.SideId.{SideId}
-use Rattle.ev_types.specs.declared.act.Act.{Act}
-use Rattle.ev_types.specs.declared.act.Act.TheVariants as act
-use Rattle.ev_types.specs.declared.answer.AskAnswer.{AskAnswer}
-use Rattle.ev_types.specs.declared.answer.AskAnswer.TheVariants as ask
-use Rattle.ev_types.specs.declared.answer.ConnAnswer.{ConnAnswer}
-use Rattle.ev_types.specs.declared.answer.ConnAnswer.TheVariants as conn
-use Rattle.ev_types.specs.declared.answer.ReadAnswer.{ReadAnswer}
-use Rattle.ev_types.specs.declared.answer.ReadAnswer.TheVariants as read
-use Rattle.ev_types.specs.declared.answer.WriteAnswer.{WriteAnswer}
-use Rattle.ev_types.specs.declared.answer.WriteAnswer.TheVariants as write
 use Rattle.ev_types.specs.declared.why.Cause.{Cause}
-use Rattle.ev_types.specs.declared.why.Why.{Why}
-use Rattle.ev_types.specs.declared.why.Cause.TheVariants as cause
-use Rattle.ev_types.specs.declared.why.Why.TheVariants as why
-use Rattle.ev_types.specs.declared.entry.Entry.{Entry}
 use Rattle.ev_types.specs.declared.entry.Entry.TheVariants as entry
-use Rattle.ev_types.specs.Sides.{same_end, peer, number, half}
+use Rattle.ev_types.specs.Sides.{same_end}
 use Rattle.ev_types.specs.Trace.{Event, Trace}
 use Rattle.relay_model.specs.Settings.{Settings}
-use Rattle.relay_model.specs.Trace.{ended_by, write_closed_by}
-use Rattle.relay_model.specs.Reasons.{happened, end_flag, error_flag}
-use Rattle.token_bucket.specs.declared.limit.Dir.TheVariants as dir
-use Rattle.relay_model.specs.Due.{Reason, without_due}
-use Rattle.relay_model.specs.Flow.{Flow, no_flow}
-use Rattle.relay_model.specs.Plain.{Plain, PlainSide, no_side, new_side, with_link, all_sides, side_at, put_side, change_side, is_live, freed, without_timer}
+use Rattle.relay_model.specs.Plain.{Plain, PlainSide, side_at, is_live}
 use Rattle.relay_model.specs.Past.{Past, past}
-use Rattle.relay_model.specs.Rooms.{Want, wanted, is_connecting, may_read, may_write, read_room, write_room, output_length}
-use Rattle.relay_model.specs.Asks.{Ask}
 use Rattle.relay_model.specs.Moments.{time_passed}
-use Rattle.relay_model.specs.Serve.{Call, call_for, marks_left, after_got, after_conn, after_read, after_write, CarriesTook, CarriesGot}
-use Rattle.relay_model.specs.Close.{CloseStep, closing_of, closing_from, fault, freed_entry, entry_where, closing_entry, closed_by, steps_left, is_complete}
-use Rattle.relay_model.specs.Stages.{Stage, Fire, State, at, Between, Polling, Wanting, Marking, Accepting, Serving, Filtering, Dispatching, Firing, Freeing, Passing, Closing, Over, Halt, begun, after_ask}
-use Rattle.relay_model.specs.Turn.{turned_to, after_reading, after_fire, Puts, Quietly, Reaches, latest}
-use Rattle.relay_model.specs.Told.{begins_turn, opens_link, time_after, names, freed_by, is_freed, failed_by, end_closed_by, is_freeing}
-use Rattle.relay_model.proofs.EndLemmas.{same_end-eq, same_end-refl, same_end-flip, number-lt}
-use Rattle.relay_model.proofs.KeepsLemmas.{Keeps, Keeps-refl, Keeps-eq, Keeps-trans, Keeps-side, Keeps-length, Keeps-raise, Keeps-raise_write, Keeps-flow, Keeps-put, change_side-same, change_side-other}
+use Rattle.relay_model.specs.Close.{CloseStep, fault, freed_entry, closing_entry, closed_by, steps_left}
+use Rattle.relay_model.specs.Stages.{Stage, State, at, Between, Polling, Closing}
+use Rattle.relay_model.specs.Turn.{turned_to, after_reading, Reaches}
+use Rattle.relay_model.specs.RatesKept.{is_turn}
+use Rattle.relay_model.specs.Told.{freed_by, failed_by}
+use Rattle.relay_model.proofs.EndLemmas.{same_end-eq}
+use Rattle.relay_model.proofs.KeepsLemmas.{Keeps, Keeps-side}
 use Rattle.relay_model.proofs.SeenLemmas.{Seen, seen, but_bad, but_expired, time_passed-keeps}
-use Rattle.relay_model.proofs.EffectLemmas.{SideEffect, Effect, IsIdle, idle-still, fresh, or_no, or_yes, and_no, and_yes}
-use Rattle.relay_model.proofs.PlacedLemmas.{Placed, live-there, room-read, room-write, may_read-parts, may_write-live, connecting-live, AllLive, AllOpened, link_of}
-use Rattle.relay_model.proofs.AskLemmas.{Frees, GoesOn, ask-outcome}
-use Rattle.relay_model.specs.Round.{Part, do_part, round_parts}
-use Rattle.relay_model.specs.Quiet.{is_within_fire}
-use Rattle.std.proofs.lemmas.List.Folds.{list_all-append, list_any-append}
-use Rattle.relay_model.proofs.SplitLemmas.{IsLast, IsEarlier, pushed_split}
-use Rattle.relay_model.proofs.FireLemmas.{is_open_stage, QuietKind, quiet-kind, InRun, Runs, put-runs, quiet-runs, reading-open}
-use Rattle.relay_model.proofs.ToldLemmas.{Kept, kept, list_any-push}
+use Rattle.relay_model.proofs.EffectLemmas.{SideEffect, Effect, fresh}
+use Rattle.relay_model.proofs.FireLemmas.{QuietKind, quiet-kind, reading-open}
+use Rattle.relay_model.proofs.ToldLemmas.{kept, list_any-push}
 use Rattle.relay_model.proofs.StageLemmas.{Silent, quiet-silent, closed-opened}
-use Rattle.relay_model.specs.Causes.{InThisTurn, AskedFree, IsOverdue, TimedOut}
-use Rattle.std.proofs.lemmas.Bool.{cases_order, cases_lt, or_cases}
+use Rattle.relay_model.specs.Causes.{InThisTurn, TimedOut}
+use Rattle.std.proofs.lemmas.Bool.{cases_lt, or_cases}
 use Rattle.std.specs.Prelude.{is_some}
-use Rattle.relay_model.proofs.HeldLemmas.{Held, held}
 use Rattle.relay_model.proofs.TimeLemmas.{IsLate, time-expired}
 use Rattle.relay_model.proofs.StepLemmas.{put-effect}
-use Rattle.relay_model.proofs.FaultLemmas.{is_faulty, not-faulty, looks_at, FaultsAwait, Awaits, open-awaits, looked-for, closed-fails, rest, steps-looked, old-faulty, was-live}
-use Rattle.relay_model.proofs.KindLemmas.{ClosedKind, closed-kind, PutKind, put-kind}
-use Rattle.relay_model.proofs.StepLemmas.{conn-live, CalledRead, read-called, CalledWrite, write-called}
-use Rattle.relay_model.proofs.CloseCases.{where_parts, faulty_parts}
-use Rattle.relay_model.proofs.PutLemmas.{IsPlainEvent, effect-keeps, effect-at}
+use Rattle.relay_model.proofs.FaultLemmas.{is_faulty, not-faulty, looks_at, FaultsAwait, open-awaits, looked-for, closed-fails, rest, steps-looked, old-faulty, was-live}
+use Rattle.relay_model.proofs.KindLemmas.{closed-kind, PutKind, put-kind}
 
 -- Closing looks for each faulty side
 
@@ -128,26 +94,26 @@ quiet-await g t s x new await (QuietKind.over) e lt live faulty = absurd (let w 
 
 -- Since when a side is faulty
 
-pub turn-push : (test : Event → Bool) (t : Trace) (y : Event) → begins_turn y ≡ false → InThisTurn test t → InThisTurn test (t ++ y ∷ [])
+pub turn-push : (test : Event → Bool) (t : Trace) (y : Event) → is_turn y ≡ false → InThisTurn test t → InThisTurn test (t ++ y ∷ [])
 turn-push test t y no_turn h = record {
   early = h.early;
   event = h.event;
   since = h.since ++ y ∷ [];
   is = ap (λ z. z ++ y ∷ []) h.is ∙ append_assoc h.early (h.event ∷ h.since) (y ∷ []);
   passes = h.passes;
-  same_turn = list_any-push begins_turn h.since y ∙ or_from (list_any begins_turn h.since) (begins_turn y) h.same_turn no_turn;
+  same_turn = list_any-push is_turn h.since y ∙ or_from (list_any is_turn h.since) (is_turn y) h.same_turn no_turn;
 }
 
 pub turn-last : (test : Event → Bool) (t : Trace) (y : Event) → test y ≡ true → InThisTurn test (t ++ y ∷ [])
 turn-last test t y h = record { early = t; event = y; since = []; is = refl; passes = h; same_turn = refl }
 
-timed-push : (g : Settings) (t : Trace) (e : SideId) (y : Event) → begins_turn y ≡ false → TimedOut g t e → TimedOut g (t ++ y ∷ []) e
+timed-push : (g : Settings) (t : Trace) (e : SideId) (y : Event) → is_turn y ≡ false → TimedOut g t e → TimedOut g (t ++ y ∷ []) e
 timed-push g t e y no_turn h = record {
   early = h.early;
   ms = h.ms;
   since = h.since ++ y ∷ [];
   is = ap (λ z. z ++ y ∷ []) h.is ∙ append_assoc h.early ((entry.Turn h.ms, []) ∷ h.since) (y ∷ []);
-  same_turn = list_any-push begins_turn h.since y ∙ or_from (list_any begins_turn h.since) (begins_turn y) h.same_turn no_turn;
+  same_turn = list_any-push is_turn h.since y ∙ or_from (list_any is_turn h.since) (is_turn y) h.same_turn no_turn;
   before = h.before;
   reached = h.reached;
   dir = h.dir;
@@ -162,7 +128,7 @@ pub record Faults (g : Settings) (t : Trace) (x : Stage) (s : Plain) : Type 0 wh
 -- an entry begins a turn, or none does
 pub data TurnOrNot (g : Settings) (t : Trace) (s : Plain) : Stage → Event → State → Type 0 where
   turns : {ms : ℕ} → TurnOrNot g t s Between (entry.Turn ms, []) (at Polling (time_passed g (past g (t ++ (entry.Turn ms, []) ∷ [])) (turned_to ms s)))
-  stays : {x : Stage} {y : Event} {new : State} → begins_turn y ≡ false → TurnOrNot g t s x y new
+  stays : {x : Stage} {y : Event} {new : State} → is_turn y ≡ false → TurnOrNot g t s x y new
 
 pub turn_or_not : (g : Settings) (t : Trace) (s : Plain) (x : Stage) (y : Event) (new : State) → PutKind g t s x y new → TurnOrNot g t s x y new
 turn_or_not g t s x y new (PutKind.turned a b) = TurnOrNot.turns
@@ -264,5 +230,5 @@ faults g t new (Reaches.goes {t = u} {s = old} r h) =
 faults g t new (Reaches.puts {t = u} {s = old} e bytes r h) =
     let c = kept g u old r in
     let kind = put-kind g u old.stage old.plain e bytes new c.placed h in
-    put-faults g u old.plain old.stage (e, bytes) new r (put-effect g u old.stage old.plain e bytes new c.counts.sides c.placed h) (faults g u old r) kind
+    put-faults g u old.plain old.stage (e, bytes) new r (put-effect g u old.stage old.plain e bytes new c.counts.shape.sides c.placed h) (faults g u old r) kind
     (turn_or_not g u old.plain old.stage (e, bytes) new kind)

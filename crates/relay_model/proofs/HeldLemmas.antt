@@ -1,64 +1,31 @@
 -- What a hook frees just now, and what is freed as done, by induction over the steps.
-use Rattle.std.proofs.Common.{◌≡◌, ℕ, zero, suc, ◌+◌, ◌*◌, ◌<◌, ◌≤◌, Bool, true, false, ◌&&◌, ◌||◌, not, ◌==◌, if◌then◌else◌, List, [], ◌∷◌, ◌++◌, length, Option, Some, None, ◌⊎◌, inl, inr, refl, sym, ◌∙◌, ap, subst, arith, slice_index_or, length-append, length-set}
-use Rattle.std.specs.Prelude.{nat_le, option_map}
+use Rattle.std.proofs.Common.{◌≡◌, ℕ, zero, suc, ◌+◌, ◌*◌, ◌<◌, true, false, ◌==◌, List, [], ◌∷◌, ◌++◌, length, None, refl, sym, ◌∙◌, ap, subst}
 use Rattle.std.specs.Prelude.{⊤}
-use Rattle.std.specs.List.{AllByRecursion, list_any, list_all}
-use Rattle.std.proofs.lemmas.Bool.{and_parts, and_from, and_right, or_parts, or_left, or_right, eqb-true, not-true}
-use Rattle.std.proofs.lemmas.List.{get_or_append_left, get_or-append-add}
-use Rattle.ev_types.specs.declared.side.Side.{Side}
+use Rattle.std.specs.List.{AllByRecursion}
+use Rattle.std.proofs.lemmas.Bool.{and_right, or_parts, not-true}
 use Rattle.ev_types.specs.declared.side.Side.TheVariants.{In, Out}
 use Rattle.ev_types.specs.declared.side.SideId.{SideId}
-use Rattle.ev_types.specs.declared.act.Act.{Act}
 use Rattle.ev_types.specs.declared.act.Act.TheVariants as act
-use Rattle.ev_types.specs.declared.answer.AskAnswer.{AskAnswer}
 use Rattle.ev_types.specs.declared.answer.AskAnswer.TheVariants as ask
-use Rattle.ev_types.specs.declared.answer.ConnAnswer.{ConnAnswer}
-use Rattle.ev_types.specs.declared.answer.ConnAnswer.TheVariants as conn
-use Rattle.ev_types.specs.declared.answer.ReadAnswer.{ReadAnswer}
-use Rattle.ev_types.specs.declared.answer.ReadAnswer.TheVariants as read
-use Rattle.ev_types.specs.declared.answer.WriteAnswer.{WriteAnswer}
-use Rattle.ev_types.specs.declared.answer.WriteAnswer.TheVariants as write
-use Rattle.ev_types.specs.declared.why.Cause.{Cause}
-use Rattle.ev_types.specs.declared.why.Why.{Why}
-use Rattle.ev_types.specs.declared.why.Cause.TheVariants as cause
-use Rattle.ev_types.specs.declared.why.Why.TheVariants as why
 use Rattle.ev_types.specs.declared.entry.Entry.{Entry}
 use Rattle.ev_types.specs.declared.entry.Entry.TheVariants as entry
-use Rattle.ev_types.specs.Sides.{same_end, peer, number, half}
+use Rattle.ev_types.specs.Sides.{same_end}
 use Rattle.ev_types.specs.Trace.{Event, Trace}
 use Rattle.relay_model.specs.Settings.{Settings}
-use Rattle.relay_model.specs.Trace.{ended_by, write_closed_by}
-use Rattle.relay_model.specs.Reasons.{happened, end_flag, error_flag}
-use Rattle.token_bucket.specs.declared.limit.Dir.TheVariants as dir
-use Rattle.relay_model.specs.Due.{Reason, without_due}
-use Rattle.relay_model.specs.Flow.{Flow, no_flow}
-use Rattle.relay_model.specs.Plain.{Plain, PlainSide, no_side, new_side, with_link, all_sides, side_at, put_side, change_side, is_live, freed, without_timer}
+use Rattle.relay_model.specs.Due.{without_due}
+use Rattle.relay_model.specs.Plain.{Plain, side_at, is_live, freed, without_timer}
 use Rattle.relay_model.specs.Past.{Past, past}
-use Rattle.relay_model.specs.Rooms.{Want, wanted, is_connecting, may_read, may_write, read_room, write_room, output_length}
-use Rattle.relay_model.specs.Asks.{Ask}
-use Rattle.relay_model.specs.Moments.{time_passed}
-use Rattle.relay_model.specs.Serve.{Call, call_for, marks_left, after_got, after_conn, after_read, after_write, CarriesTook, CarriesGot}
-use Rattle.relay_model.specs.Close.{CloseStep, closing_from, fault, freed_entry, entry_where, closing_entry, closed_by, steps_left, is_complete}
-use Rattle.relay_model.specs.Stages.{Stage, Fire, State, at, Between, Polling, Wanting, Marking, Accepting, Serving, Filtering, Dispatching, Firing, Freeing, Passing, Closing, Over, Halt, begun, after_ask}
-use Rattle.relay_model.specs.Turn.{turned_to, after_reading, after_fire, Puts, Quietly, Reaches, latest}
-use Rattle.relay_model.specs.Told.{begins_turn, opens_link, time_after, names, freed_by, is_freed, failed_by, end_closed_by, is_freeing}
-use Rattle.relay_model.proofs.EndLemmas.{same_end-eq, same_end-refl, same_end-flip, number-lt}
-use Rattle.relay_model.proofs.KeepsLemmas.{Keeps, Keeps-refl, Keeps-eq, Keeps-trans, Keeps-side, Keeps-length, Keeps-raise, Keeps-raise_write, Keeps-flow, Keeps-put, change_side-same, change_side-other}
-use Rattle.relay_model.proofs.SeenLemmas.{Seen, seen, but_expired, time_passed-keeps}
-use Rattle.relay_model.proofs.EffectLemmas.{SideEffect, Effect, IsIdle, idle-still, fresh, or_no, or_yes, and_no, and_yes}
-use Rattle.relay_model.proofs.PlacedLemmas.{Placed, live-there, room-read, room-write, may_read-parts, may_write-live, connecting-live, AllLive, AllOpened, link_of}
-use Rattle.relay_model.proofs.AskLemmas.{Frees, GoesOn, ask-outcome}
-use Rattle.relay_model.specs.Round.{Part, do_part, round_parts}
-use Rattle.relay_model.specs.Quiet.{is_within_fire}
-use Rattle.std.proofs.lemmas.List.Folds.{list_all-append, list_any-append}
-use Rattle.relay_model.proofs.SplitLemmas.{IsLast, IsEarlier, pushed_split}
-use Rattle.relay_model.proofs.FireLemmas.{is_open_stage, QuietKind, quiet-kind, InRun, Runs, put-runs, quiet-runs, reading-open}
+use Rattle.relay_model.specs.Close.{CloseStep, closing_from, closed_by, steps_left}
+use Rattle.relay_model.specs.Stages.{Stage, State, Between, Firing, Freeing, Closing}
+use Rattle.relay_model.specs.Turn.{after_reading, Reaches}
+use Rattle.relay_model.specs.Told.{is_freed, is_freeing}
+use Rattle.relay_model.proofs.EndLemmas.{same_end-eq}
+use Rattle.relay_model.proofs.KeepsLemmas.{change_side-same, change_side-other}
+use Rattle.relay_model.proofs.PlacedLemmas.{Placed, live-there, link_of}
+use Rattle.relay_model.proofs.FireLemmas.{is_open_stage, QuietKind, quiet-kind, Runs, put-runs, quiet-runs, reading-open}
 use Rattle.relay_model.proofs.ToldLemmas.{Kept, kept}
 use Rattle.relay_model.proofs.StageLemmas.{quiet-silent}
 use Rattle.relay_model.proofs.KindLemmas.{ClosedKind, closed-kind, PutKind, put-kind}
-use Rattle.relay_model.proofs.StepLemmas.{conn-live, CalledRead, read-called, CalledWrite, write-called}
-use Rattle.relay_model.proofs.CloseCases.{where_parts, faulty_parts}
-use Rattle.relay_model.proofs.PutLemmas.{IsPlainEvent, effect-keeps, effect-at}
 
 -- What a hook freed
 
@@ -108,6 +75,7 @@ AllLooks cs = AllByRecursion IsLook cs
 -- the other side of a link whose In side was freed as done just now
 pub record IsDone (s : Plain) (k : ℕ) : Type 0 where
   pub live : is_live s (record { link = k; side = Out }) ≡ true
+  pub gone : is_live s (record { link = k; side = In }) ≡ false
   pub in_ended : (side_at s (record { link = k; side = In })).write_ended ≡ true
   pub out_ended : (side_at s (record { link = k; side = Out })).write_ended ≡ true
 
@@ -159,7 +127,7 @@ closed-ready g p s c cs e size lt h (ClosedKind.in_done {k = k} a b d f) =
     let o : SideId = record { link = k; side = Out } in
     let apart : same_end o i ≡ false = and_right (k == k) false refl in
     let out : side_at (freed i s) o ≡ side_at s o = freed-other s i o apart in
-    (record { live = ap (λ z. z.live) out ∙ b; in_ended = ap (λ z. z.write_ended) (freed-same s i size lt) ∙ d; out_ended = ap (λ z. z.write_ended) out ∙ f }, h)
+    (record { live = ap (λ z. z.live) out ∙ b; gone = ap (λ z. z.live) (freed-same s i size lt); in_ended = ap (λ z. z.write_ended) (freed-same s i size lt) ∙ d; out_ended = ap (λ z. z.write_ended) out ∙ f }, h)
 closed-ready g p s c cs e size lt h (ClosedKind.out_done {k = k}) = looks-ready cs (closed_by (CloseStep.OutDone k) s) h
 closed-ready g p s c cs e size lt h (ClosedKind.peer_gone {z = z} a b d) = looks-ready cs (closed_by (CloseStep.PeerGone z) s) h
 closed-ready g p s c cs e size lt h (ClosedKind.shut {z = z} a b) = looks-ready cs (closed_by (CloseStep.Shut z) s) h
@@ -199,7 +167,7 @@ pub record Held (g : Settings) (t : Trace) (x : Stage) (s : Plain) : Type 0 wher
 -- a side that lives was not freed
 pub live-unfreed : (g : Settings) (t : Trace) (x : Stage) (s : Plain) → Kept g t x s → (e : SideId) → is_live s e ≡ true → is_freed e t ≡ false
 live-unfreed g t x s k e live =
-    let told = k.each e (live-there s e k.counts.sides live) in
+    let told = k.each e (live-there s e k.counts.shape.sides live) in
     (or_parts (is_freed e t) (is_freeing x e) (not-true _ (sym told.live ∙ live))).0
 
 pub held : (g : Settings) (t : Trace) (s : State) → Reaches g t s → Held g t s.stage s.plain
@@ -220,5 +188,5 @@ held g t new (Reaches.puts {t = u} {s = old} e bytes r h) =
     record {
       runs = put-runs g u old.plain old.stage (e, bytes) new unfreed before.runs k;
       hook = put-hook g u old.plain old.stage (e, bytes) new unfreed k;
-      ready = put-ready g u old.plain old.stage (e, bytes) new c.counts.sides c.placed before.ready k;
+      ready = put-ready g u old.plain old.stage (e, bytes) new c.counts.shape.sides c.placed before.ready k;
     }

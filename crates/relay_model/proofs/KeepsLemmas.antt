@@ -1,7 +1,6 @@
 -- What a step of the plain state leaves as it was: the counts, and of each side whatever a function tells of it.
-use Rattle.std.proofs.Common.{◌≡◌, ◌≢◌, ℕ, ◌+◌, ◌*◌, ◌<◌, ◌≤◌, Bool, true, false, ◌&&◌, if◌then◌else◌, List, [], ◌∷◌, ◌++◌, length, Option, Some, None, refl, sym, ◌∙◌, ap, subst, arith, slice_index_or, slice_set, map, fold}
+use Rattle.std.proofs.Common.{◌≡◌, ◌*◌, ◌<◌, Bool, true, false, ◌&&◌, if◌then◌else◌, List, [], ◌∷◌, length, refl, sym, ◌∙◌, ap, subst, arith, slice_index_or, map, fold}
 use Rattle.std.specs.Prelude.{nat_le}
-use Rattle.std.proofs.lemmas.Bool.{cases_Bool}
 use Rattle.std.proofs.lemmas.List.{get_or-set_same, get_or-set_other, length-set, length-map}
 use Rattle.std.proofs.Math.Seq.{map-set_same}
 use Rattle.std.proofs.Math.ListN.{get_or-map}
@@ -12,7 +11,7 @@ use Rattle.ev_types.specs.Sides.{number, same_end}
 use Rattle.relay_model.specs.Flow.{Flow}
 use Rattle.relay_model.specs.Settings.{Settings}
 use Rattle.relay_model.specs.Due.{Due, with_reason}
-use Rattle.relay_model.specs.Plain.{Plain, PlainSide, Timer, no_side, side_at, flow_at, put_side, put_flow, change_side, is_live}
+use Rattle.relay_model.specs.Plain.{Plain, PlainSide, Timer, no_side, side_at, put_side, put_flow, change_side, is_live}
 use Rattle.relay_model.specs.Past.{Past}
 use Rattle.relay_model.specs.Rooms.{input_length, output_length}
 use Rattle.relay_model.specs.Reasons.{has_hook, raise, raise_read, raise_write}

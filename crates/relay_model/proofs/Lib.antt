@@ -58,3 +58,12 @@ pub mod QuietLemmas
 pub mod FaultLemmas
 pub mod TimeLemmas
 pub mod FaultSteps
+pub mod BadLemmas
+pub mod CauseLemmas
+pub mod GrownLemmas
+pub mod BadSteps
+pub mod TotalLemmas
+pub mod LeftLemmas
+pub mod LeftSteps
+pub mod NextLemmas
+mod QuietExamples

@@ -1,20 +1,19 @@
 -- What the stage of a turn names is there: links that were opened, and live sides where they must be.
-use Rattle.std.proofs.Common.{◌≡◌, ℕ, zero, suc, ◌+◌, ◌-◌, ◌*◌, ◌<◌, ◌≤◌, min, Bool, true, false, ◌&&◌, ◌||◌, not, if◌then◌else◌, List, [], ◌∷◌, ◌++◌, length, Option, Some, None, ◌⊎◌, inl, inr, refl, sym, ◌∙◌, ap, subst, arith, slice_index_or, map}
+use Rattle.std.proofs.Common.{◌≡◌, ℕ, zero, suc, ◌+◌, ◌-◌, ◌*◌, ◌<◌, ◌≤◌, min, Bool, true, false, ◌&&◌, ◌||◌, not, if◌then◌else◌, List, [], ◌∷◌, length, ◌⊎◌, inl, inr, refl, ap, arith, map}
 use Rattle.std.specs.Prelude.{⊤, nat_le, filter}
 use Rattle.std.specs.List.{AllByRecursion}
 use Rattle.std.proofs.lemmas.Bool.{and_parts, or_cases, cases_lt}
 use Rattle.std.proofs.lemmas.List.{get_or_past}
 use Rattle.token_bucket.specs.declared.limit.Dir.{Dir}
 use Rattle.token_bucket.specs.declared.limit.Dir.TheVariants as dir
-use Rattle.ev_types.specs.declared.side.Side.TheVariants.{In, Out}
 use Rattle.ev_types.specs.declared.side.SideId.{SideId}
 use Rattle.ev_types.specs.Sides.{number, peer}
 use Rattle.relay_model.specs.Settings.{Settings}
-use Rattle.relay_model.specs.Plain.{Plain, PlainSide, no_side, side_at, is_live, all_sides}
+use Rattle.relay_model.specs.Plain.{Plain, no_side, side_at, is_live, all_sides}
 use Rattle.relay_model.specs.Past.{Past}
 use Rattle.relay_model.specs.Rooms.{Want, want_of, wanted, wants, may_read, may_write, read_room, write_room, is_connecting, within_rates, read_mark, input_length, raw_output_at, most_at_once}
-use Rattle.relay_model.specs.Close.{CloseStep, closing_of, closing_from}
-use Rattle.relay_model.specs.Stages.{Stage, Fire, Between, Polling, Wanting, Marking, Accepting, Serving, Filtering, Dispatching, Firing, Freeing, Passing, Closing, Over}
+use Rattle.relay_model.specs.Close.{CloseStep, closing_from}
+use Rattle.relay_model.specs.Stages.{Stage, Wanting, Marking, Firing, Freeing, Closing}
 use Rattle.relay_model.proofs.EndLemmas.{number-ge}
 
 -- a side that lives is one of an opened link

@@ -1,42 +1,26 @@
 -- The effect of each entry that may be put.
-use Rattle.std.proofs.Common.{◌≡◌, ℕ, zero, suc, ◌+◌, ◌*◌, ◌<◌, ◌≤◌, Bool, true, false, ◌&&◌, ◌||◌, not, ◌==◌, if◌then◌else◌, List, [], ◌∷◌, ◌++◌, length, Option, Some, None, ◌⊎◌, inl, inr, refl, sym, ◌∙◌, ap, subst, arith, slice_index_or, length-append}
-use Rattle.std.proofs.lemmas.Bool.{and_parts, or_left, eqb-true}
+use Rattle.std.proofs.Common.{◌≡◌, ℕ, ◌+◌, ◌*◌, ◌<◌, ◌≤◌, Bool, true, false, if◌then◌else◌, length, refl, sym, ◌∙◌, ap, subst, arith}
 use Rattle.std.proofs.lemmas.List.{length-set}
-use Rattle.ev_types.specs.declared.side.Side.{Side}
-use Rattle.ev_types.specs.declared.side.Side.TheVariants.{In, Out}
 use Rattle.ev_types.specs.declared.side.SideId.{SideId}
-use Rattle.ev_types.specs.declared.act.Act.{Act}
-use Rattle.ev_types.specs.declared.act.Act.TheVariants as act
-use Rattle.ev_types.specs.declared.answer.AskAnswer.{AskAnswer}
-use Rattle.ev_types.specs.declared.answer.AskAnswer.TheVariants as ask
-use Rattle.ev_types.specs.declared.answer.ConnAnswer.{ConnAnswer}
-use Rattle.ev_types.specs.declared.answer.ConnAnswer.TheVariants as conn
-use Rattle.ev_types.specs.declared.answer.ReadAnswer.{ReadAnswer}
-use Rattle.ev_types.specs.declared.answer.ReadAnswer.TheVariants as read
-use Rattle.ev_types.specs.declared.answer.WriteAnswer.{WriteAnswer}
-use Rattle.ev_types.specs.declared.answer.WriteAnswer.TheVariants as write
-use Rattle.ev_types.specs.declared.why.Cause.{Cause}
-use Rattle.ev_types.specs.declared.why.Why.TheVariants as why
-use Rattle.ev_types.specs.declared.entry.Entry.{Entry}
-use Rattle.ev_types.specs.declared.entry.Entry.TheVariants as entry
-use Rattle.ev_types.specs.Sides.{same_end, peer, number}
-use Rattle.ev_types.specs.Trace.{Event, Trace}
+use Rattle.ev_types.specs.Sides.{same_end, number}
+use Rattle.ev_types.specs.Trace.{Event}
 use Rattle.relay_model.specs.Settings.{Settings}
-use Rattle.relay_model.specs.Plain.{Plain, PlainSide, side_at, put_side, change_side, is_live, freed}
-use Rattle.relay_model.specs.Past.{Past, past}
-use Rattle.relay_model.specs.Stages.{Stage, Fire, Serving, Firing, Freeing, Closing}
+use Rattle.relay_model.specs.Plain.{Plain, PlainSide, side_at, put_side}
+use Rattle.relay_model.specs.Stages.{Stage}
 use Rattle.relay_model.specs.Turn.{latest}
-use Rattle.relay_model.specs.Told.{begins_turn, opens_link, time_after, names, freed_by, is_freeing}
-use Rattle.relay_model.proofs.EndLemmas.{same_end-eq, same_end-refl, same_end-flip}
-use Rattle.relay_model.proofs.KeepsLemmas.{Keeps, Keeps-refl, Keeps-eq, Keeps-trans, Keeps-side, Keeps-length, change_side-same, change_side-other}
-use Rattle.relay_model.proofs.SeenLemmas.{Seen, seen}
-use Rattle.relay_model.proofs.EffectLemmas.{SideEffect, Effect, IsIdle, idle-still, fresh}
+use Rattle.relay_model.specs.RatesKept.{is_turn, time_by}
+use Rattle.relay_model.specs.TurnLaws.{is_opened}
+use Rattle.relay_model.specs.Told.{names, is_freeing}
+use Rattle.relay_model.proofs.EndLemmas.{same_end-eq, same_end-flip}
+use Rattle.relay_model.proofs.KeepsLemmas.{Keeps, Keeps-side, Keeps-length, change_side-same, change_side-other}
+use Rattle.relay_model.proofs.SeenLemmas.{seen}
+use Rattle.relay_model.proofs.EffectLemmas.{SideEffect, Effect, IsIdle, idle-still}
 
 -- an event that begins no turn and opens no link
 pub record IsPlainEvent (y : Event) : Type 0 where
-  pub turn : begins_turn y ≡ false
-  pub opens : opens_link y ≡ false
-  pub time : (n : ℕ) → time_after n y ≡ n
+  pub turn : is_turn y ≡ false
+  pub opens : is_opened y ≡ false
+  pub time : (n : ℕ) → time_by n y ≡ n
 
 add-none : (n : ℕ) (b : Bool) → b ≡ false → n ≡ (n + (if b then 1 else 0))
 add-none n true h = absurd (cc)
@@ -49,8 +33,8 @@ effect-keeps g x s y after new k p idle still before named = record {
   time = k.time ∙ sym (p.time s.time);
   rises = let h = k.time in omega arith;
   until = λ h. subst (λ n. n ≤ latest) (sym k.time) h;
-  turn = k.turn ∙ add-none s.turn (begins_turn y) p.turn;
-  opened = k.opened ∙ add-none s.opened (opens_link y) p.opens;
+  turn = k.turn ∙ add-none s.turn (is_turn y) p.turn;
+  opened = k.opened ∙ add-none s.opened (is_opened y) p.opens;
   links = λ h. let o = k.opened in omega arith;
   sides = λ h. let o = k.opened in let l = Keeps-length seen s new k in omega arith;
   flows = λ h. let o = k.opened in let l = k.flows in omega arith;
@@ -69,8 +53,8 @@ effect-at g x s y after new z changed k p size lt here others before named = rec
   time = k.time ∙ sym (p.time s.time);
   rises = let h = k.time in omega arith;
   until = λ h. subst (λ n. n ≤ latest) (sym k.time) h;
-  turn = k.turn ∙ add-none s.turn (begins_turn y) p.turn;
-  opened = k.opened ∙ add-none s.opened (opens_link y) p.opens;
+  turn = k.turn ∙ add-none s.turn (is_turn y) p.turn;
+  opened = k.opened ∙ add-none s.opened (is_opened y) p.opens;
   links = λ h. let o = k.opened in omega arith;
   sides = λ h. let o = k.opened in let l = Keeps-length seen (put_side z changed s) new k in let m = length-set s.sides (number z) changed in omega arith;
   flows = λ h. let o = k.opened in let l = k.flows in omega arith;

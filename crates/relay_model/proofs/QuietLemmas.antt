@@ -1,67 +1,32 @@
 -- The laws on what the state and the trace tell of each other, and on quiet behind a free.
-use Rattle.std.proofs.Common.{◌≡◌, ℕ, zero, suc, ◌+◌, ◌*◌, ◌<◌, ◌≤◌, Bool, true, false, ◌&&◌, ◌||◌, not, ◌==◌, if◌then◌else◌, List, [], ◌∷◌, ◌++◌, length, Option, Some, None, ◌⊎◌, inl, inr, refl, sym, ◌∙◌, ap, subst, arith, slice_index_or, length-append, length-set, append_assoc, count_by}
-use Rattle.std.specs.Prelude.{nat_le, option_map}
-use Rattle.std.specs.Prelude.{⊤}
-use Rattle.std.specs.List.{AllByRecursion, list_any, list_all}
-use Rattle.std.proofs.lemmas.Bool.{and_parts, and_from, and_right, or_parts, or_from, or_left, or_right, eqb-true, not-true}
-use Rattle.std.proofs.lemmas.List.{get_or_append_left, get_or-append-add}
-use Rattle.ev_types.specs.declared.side.Side.{Side}
+use Rattle.std.proofs.Common.{◌≡◌, ℕ, ◌+◌, ◌<◌, ◌≤◌, Bool, true, false, ◌||◌, if◌then◌else◌, List, [], ◌∷◌, ◌++◌, ◌⊎◌, inl, inr, refl, sym, ◌∙◌, ap, subst, arith, append_assoc, count_by}
+use Rattle.std.specs.List.{list_any, list_all}
+use Rattle.std.proofs.lemmas.Bool.{and_parts, or_parts, or_from, not-true}
 use Rattle.ev_types.specs.declared.side.Side.TheVariants.{In, Out}
 use Rattle.ev_types.specs.declared.side.SideId.{SideId}
-use Rattle.ev_types.specs.declared.act.Act.{Act}
 use Rattle.ev_types.specs.declared.act.Act.TheVariants as act
-use Rattle.ev_types.specs.declared.answer.AskAnswer.{AskAnswer}
 use Rattle.ev_types.specs.declared.answer.AskAnswer.TheVariants as ask
-use Rattle.ev_types.specs.declared.answer.ConnAnswer.{ConnAnswer}
-use Rattle.ev_types.specs.declared.answer.ConnAnswer.TheVariants as conn
-use Rattle.ev_types.specs.declared.answer.ReadAnswer.{ReadAnswer}
-use Rattle.ev_types.specs.declared.answer.ReadAnswer.TheVariants as read
-use Rattle.ev_types.specs.declared.answer.WriteAnswer.{WriteAnswer}
-use Rattle.ev_types.specs.declared.answer.WriteAnswer.TheVariants as write
-use Rattle.ev_types.specs.declared.why.Cause.{Cause}
-use Rattle.ev_types.specs.declared.why.Why.{Why}
-use Rattle.ev_types.specs.declared.why.Cause.TheVariants as cause
-use Rattle.ev_types.specs.declared.why.Why.TheVariants as why
 use Rattle.ev_types.specs.declared.entry.Entry.{Entry}
 use Rattle.ev_types.specs.declared.entry.Entry.TheVariants as entry
-use Rattle.ev_types.specs.Sides.{same_end, peer, number, half}
 use Rattle.ev_types.specs.Trace.{Event, Trace}
 use Rattle.relay_model.specs.Settings.{Settings}
-use Rattle.relay_model.specs.Trace.{ended_by, write_closed_by}
-use Rattle.relay_model.specs.Reasons.{happened, end_flag, error_flag}
-use Rattle.token_bucket.specs.declared.limit.Dir.TheVariants as dir
-use Rattle.relay_model.specs.Due.{Reason, without_due}
-use Rattle.relay_model.specs.Flow.{Flow, no_flow}
-use Rattle.relay_model.specs.Plain.{Plain, PlainSide, no_side, new_side, with_link, all_sides, side_at, put_side, change_side, is_live, freed, without_timer}
+use Rattle.relay_model.specs.Plain.{Plain, side_at, is_live, freed}
 use Rattle.relay_model.specs.Past.{Past, past}
-use Rattle.relay_model.specs.Rooms.{Want, wanted, is_connecting, may_read, may_write, read_room, write_room, output_length}
-use Rattle.relay_model.specs.Asks.{Ask}
-use Rattle.relay_model.specs.Moments.{time_passed}
-use Rattle.relay_model.specs.Serve.{Call, call_for, marks_left, after_got, after_conn, after_read, after_write, CarriesTook, CarriesGot}
-use Rattle.relay_model.specs.Close.{CloseStep, closing_from, fault, freed_entry, entry_where, closing_entry, closed_by, steps_left, is_complete}
-use Rattle.relay_model.specs.Stages.{Stage, Fire, State, at, Between, Polling, Wanting, Marking, Accepting, Serving, Filtering, Dispatching, Firing, Freeing, Passing, Closing, Over, Halt, begun, after_ask}
-use Rattle.relay_model.specs.Turn.{turned_to, after_reading, after_fire, Puts, Quietly, Reaches, latest}
-use Rattle.relay_model.specs.Told.{begins_turn, opens_link, time_after, names, freed_by, is_freed, failed_by, end_closed_by, is_freeing}
-use Rattle.relay_model.proofs.EndLemmas.{same_end-eq, same_end-refl, same_end-flip, number-lt}
-use Rattle.relay_model.proofs.KeepsLemmas.{Keeps, Keeps-refl, Keeps-eq, Keeps-trans, Keeps-side, Keeps-length, Keeps-raise, Keeps-raise_write, Keeps-flow, Keeps-put, change_side-same, change_side-other}
-use Rattle.relay_model.proofs.SeenLemmas.{Seen, seen, but_expired, time_passed-keeps}
-use Rattle.relay_model.proofs.EffectLemmas.{SideEffect, Effect, IsIdle, idle-still, fresh, or_no, or_yes, and_no, and_yes}
-use Rattle.relay_model.proofs.PlacedLemmas.{Placed, live-there, room-read, room-write, may_read-parts, may_write-live, connecting-live, AllLive, AllOpened, link_of}
-use Rattle.relay_model.proofs.AskLemmas.{Frees, GoesOn, ask-outcome}
-use Rattle.relay_model.specs.Round.{Part, do_part, round_parts}
-use Rattle.relay_model.specs.Quiet.{starts_at, asked_by, is_within_fire, behind_fire, IsQuietBehind, LegalIsQuiet}
+use Rattle.relay_model.specs.Close.{CloseStep}
+use Rattle.relay_model.specs.Stages.{Stage, State}
+use Rattle.relay_model.specs.Turn.{Reaches, latest}
+use Rattle.relay_model.specs.Told.{freed_by, is_freed, end_closed_by, is_freeing}
+use Rattle.relay_model.proofs.EndLemmas.{same_end-eq, same_end-refl}
+use Rattle.relay_model.proofs.PlacedLemmas.{Placed, may_read-parts, may_write-live, link_of}
+use Rattle.relay_model.specs.Quiet.{starts_at, asked_by, is_within_fire, behind_fire, LegalIsQuiet}
 use Rattle.relay_model.specs.Told.{StateIsTold, TimeRises, LinksInOrder}
 use Rattle.std.proofs.lemmas.List.Sums.{sum_by-append}
-use Rattle.std.proofs.lemmas.List.Folds.{list_all-append, list_any-append}
-use Rattle.relay_model.proofs.SplitLemmas.{IsLast, IsEarlier, pushed_split, reaches_split, none_from_splits}
-use Rattle.relay_model.proofs.HeldLemmas.{Held, held, FreedByHook, DoneReady, FirstReady, live-unfreed}
-use Rattle.relay_model.proofs.FireLemmas.{is_open_stage, QuietKind, quiet-kind, InRun, Runs, put-runs, quiet-runs, reading-open, any-split}
+use Rattle.std.proofs.lemmas.List.Folds.{list_any-append}
+use Rattle.relay_model.proofs.SplitLemmas.{reaches_split, none_from_splits}
+use Rattle.relay_model.proofs.HeldLemmas.{Held, held, DoneReady, FirstReady, live-unfreed}
+use Rattle.relay_model.proofs.FireLemmas.{InRun, Runs, any-split}
 use Rattle.relay_model.proofs.ToldLemmas.{Kept, kept, list_any-push}
-use Rattle.relay_model.proofs.StageLemmas.{quiet-silent}
 use Rattle.relay_model.proofs.KindLemmas.{ClosedKind, closed-kind, PutKind, put-kind}
-use Rattle.relay_model.proofs.StepLemmas.{conn-live, CalledRead, read-called, CalledWrite, write-called}
-use Rattle.relay_model.proofs.CloseCases.{where_parts, faulty_parts}
-use Rattle.relay_model.proofs.PutLemmas.{IsPlainEvent, effect-keeps, effect-at}
 
 pub state_is_told : StateIsTold
 state_is_told g t x s r = let k = kept g t (record { stage = x; plain = s }) r in (k.counts, k.each)
@@ -111,7 +76,7 @@ pub time_rises : TimeRises
 time_rises g t before after s x ms bytes r h =
     let k = there g t (record { stage = x; plain = s }) r before (entry.Turn ms, bytes) after h in
     let p = turn-put g before k.old.plain k.old.stage _ k.new ms k.kind refl in
-    (subst (λ n. n ≤ ms) k.kept.counts.time p.0, p.1)
+    (subst (λ n. n ≤ ms) k.kept.counts.shape.time p.0, p.1)
 
 link-put : (g : Settings) (t : Trace) (s : Plain) (x : Stage) (y : Event) (new : State) (link : ℕ) (connected : Bool) → PutKind g t s x y new → y.0 ≡ entry.Opened link connected → link ≡ s.opened
 link-put g t s x y new link connected (PutKind.turned a b) h = absurd (cc)
@@ -140,7 +105,7 @@ link-put g t s x y new link connected (PutKind.closed {c = c} {e = e} a) h = abs
 pub links_in_order : LinksInOrder
 links_in_order g t before after s x link connected bytes r h =
     let k = there g t (record { stage = x; plain = s }) r before (entry.Opened link connected, bytes) after h in
-    link-put g before k.old.plain k.old.stage _ k.new link connected k.kind refl ∙ k.kept.counts.opened
+    link-put g before k.old.plain k.old.stage _ k.new link connected k.kind refl ∙ k.kept.counts.shape.opened
 
 -- Quiet
 

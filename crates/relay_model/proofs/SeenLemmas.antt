@@ -1,5 +1,5 @@
 -- What closing looks at of a side, and which steps leave that as it was.
-use Rattle.std.proofs.Common.{◌≡◌, ℕ, ◌+◌, ◌-◌, ◌<◌, ◌≤◌, Bool, true, false, ◌&&◌, not, if◌then◌else◌, List, [], ◌∷◌, ◌++◌, length, Option, Some, None, ◌⊎◌, inl, inr, refl, sym, ◌∙◌, ap, fold}
+use Rattle.std.proofs.Common.{◌≡◌, ℕ, ◌-◌, Bool, true, false, ◌&&◌, not, if◌then◌else◌, List, Option, None, ◌⊎◌, inl, inr, refl, ap}
 use Rattle.std.specs.Prelude.{nat_le, nat_lt, filter}
 use Rattle.token_bucket.specs.declared.limit.Dir.{Dir}
 use Rattle.token_bucket.specs.declared.limit.Dir.TheVariants as dir
@@ -8,15 +8,13 @@ use Rattle.ev_types.specs.declared.act.Act.{Act}
 use Rattle.ev_types.specs.declared.act.Act.TheVariants as act
 use Rattle.ev_types.specs.declared.why.Why.TheVariants as why
 use Rattle.ev_types.specs.Sides.{peer}
-use Rattle.relay_model.specs.Flow.{Flow}
 use Rattle.relay_model.specs.Settings.{Settings}
-use Rattle.relay_model.specs.Plain.{Plain, PlainSide, Timer, side_at, flow_at, put_flow, change_side, all_sides}
+use Rattle.relay_model.specs.Plain.{Plain, PlainSide, Timer, side_at, change_side, all_sides}
 use Rattle.relay_model.specs.Past.{Past}
-use Rattle.relay_model.specs.Rooms.{wants, read_mark}
+use Rattle.relay_model.specs.Rooms.{wants}
 use Rattle.relay_model.specs.Reasons.{raise, happened, timeout_flag}
 use Rattle.relay_model.specs.Asks.{done, enabled}
 use Rattle.relay_model.specs.Moments.{timeout_of, last_activity, active_at, both_ways, by_deadline, timers_taken, timed, side_timed, time_passed}
-use Rattle.relay_model.specs.Pass.{with_held, with_read_done, with_moved, with_write_done}
 use Rattle.relay_model.specs.Round.{Part, meets, read_run, write_run, do_part}
 use Rattle.relay_model.specs.Serve.{after_got}
 use Rattle.relay_model.proofs.KeepsLemmas.{Keeps, raised_read, raised_write, Keeps-refl, Keeps-trans, Keeps-timers, Keeps-raise, Keeps-raise_read, Keeps-raise_write, Keeps-put, Keeps-flow, Keeps-fold}

@@ -1,7 +1,7 @@
 -- Which sides expire as a turn begins: those that are wanted and were not active for as long as their timeout then.
-use Rattle.std.proofs.Common.{◌≡◌, ℕ, ◌+◌, ◌-◌, ◌*◌, ◌<◌, ◌≤◌, min, Bool, true, false, ◌&&◌, ◌||◌, not, if◌then◌else◌, List, [], ◌∷◌, Option, Some, None, ◌⊎◌, inl, inr, refl, sym, ◌∙◌, ap, subst, arith, length, map, fold, count_by}
+use Rattle.std.proofs.Common.{◌≡◌, ℕ, ◌+◌, ◌-◌, ◌<◌, ◌≤◌, min, Bool, true, false, ◌&&◌, ◌||◌, not, if◌then◌else◌, List, [], ◌∷◌, Option, Some, None, ◌⊎◌, inl, inr, refl, sym, ◌∙◌, ap, subst, arith, length, map, fold, count_by}
 use Rattle.std.specs.Prelude.{nat_le, nat_lt, filter, slice_index_or, option_map, slice_get}
-use Rattle.std.proofs.lemmas.Bool.{and_parts, and_from, or_right, leb-true, not-true, not-false, cases_lt}
+use Rattle.std.proofs.lemmas.Bool.{and_parts, or_right, leb-true, not-false, cases_lt}
 use Rattle.std.proofs.lemmas.List.{get_or-set_same, set_past}
 use Rattle.std.proofs.lemmas.List.Folds.{fold-map}
 use Rattle.token_bucket.specs.declared.limit.Dir.{Dir}
@@ -11,19 +11,17 @@ use Rattle.ev_types.specs.declared.why.Why.{Why}
 use Rattle.ev_types.specs.declared.why.Why.TheVariants as why
 use Rattle.relay_model.specs.Due.{Due}
 use Rattle.ev_types.specs.Sides.{peer, same_end, number}
-use Rattle.relay_model.specs.Flow.{Flow}
 use Rattle.relay_model.specs.Settings.{Settings, Marks, Timeouts}
-use Rattle.relay_model.specs.Plain.{Plain, PlainSide, no_side, Standing, Timer, side_at, flow_at, put_side, change_side, is_live, all_sides}
+use Rattle.relay_model.specs.Plain.{Plain, PlainSide, no_side, Standing, Timer, side_at, put_side, change_side, is_live, all_sides}
 use Rattle.relay_model.specs.Rates.{standing_level}
 use Rattle.relay_model.specs.Groups.{same_group, members, share_among}
 use Rattle.relay_model.specs.Past.{Past}
-use Rattle.relay_model.specs.Rooms.{most_at_once, mark_or, read_mark, input_length, raw_output_at, allowance, share_in, at_most, within_rates, may_read, may_write, read_room, write_room, is_connecting, wants}
+use Rattle.relay_model.specs.Rooms.{most_at_once, mark_or, read_mark, input_length, raw_output_at, allowance, share_in, at_most, within_rates, may_read, may_write, is_connecting, wants}
 use Rattle.relay_model.specs.Reasons.{raise, happened, timeout_flag}
 use Rattle.relay_model.specs.Asks.{enabled}
 use Rattle.relay_model.specs.Moments.{timeout_of, last_activity, active_at, both_ways, by_deadline, timers_taken, timed, side_timed, time_passed}
-use Rattle.relay_model.proofs.EndLemmas.{same_end-eq, same_end-flip}
+use Rattle.relay_model.proofs.EndLemmas.{same_end-eq}
 use Rattle.relay_model.proofs.KeepsLemmas.{Keeps, Keeps-refl, Keeps-trans, Keeps-side, Keeps-put, Keeps-timers, raised, change_side-other}
-use Rattle.relay_model.proofs.SeenLemmas.{timers_taken-keeps}
 
 -- a direction of a side is wanted and was not active for as long as its timeout
 pub record IsLate (g : Settings) (p : Past) (s : Plain) (e : SideId) : Type 0 where
@@ -67,8 +65,8 @@ within-same g p s new e d n m k same =
     let c = Keeps-side core s new e k in
     let share : share_in g p new d (side_at new e).group ≡ share_in g p s d (side_at s e).group = ap (share_in g p new d) (ap (λ z. z.group) c) ∙ by_group (side_at s e).group in
     let own : allowance p new e d ≡ allowance p s e d =
-        ap (λ o. option_map (λ x. standing_level x d (p.turns e d) new.time) o) (ap (λ z. z.limit) c)
-        ∙ ap (λ time. option_map (λ x. standing_level x d (p.turns e d) time) (side_at s e).limit) k.time in
+    ap (λ o. option_map (λ x. standing_level x d (p.turns e d) new.time) o) (ap (λ z. z.limit) c)
+    ∙ ap (λ time. option_map (λ x. standing_level x d (p.turns e d) time) (side_at s e).limit) k.time in
     λ i. at_most (share i) (at_most (own i) (same i))
   where
     by_group : (o : Option ℕ) → share_in g p new d o ≡ share_in g p s d o
@@ -336,8 +334,12 @@ Eased-timers g p s =
     } in
     Eased-fold g p s (λ (state : Plain) (x : Timer). raise g x.side why.Timer state) (λ new x k. Eased-raise g p s new x.side why.Timer k) (record s { timers = later }) come begin
 
+time-eased : (g : Settings) (p : Past) (s : Plain) → Eased g p s (time_passed g p s)
+time-eased g p s =
+    Eased-fold g p s (side_timed g p) (λ new z m. Eased-fold g p s (timed g p z) (λ now d n. Eased-timed g p s now z d n) new both_ways m) (timers_taken g s) (all_sides s) (Eased-timers g p s)
+
 pub time-expired : (g : Settings) (p : Past) (s : Plain) (e : SideId) → (side_at (time_passed g p s) e).expired ≡ true → ((side_at s e).expired ≡ true) ⊎ IsLate g p s e
-time-expired g p s e h =
-    let k : Eased g p s (time_passed g p s) =
-        Eased-fold g p s (side_timed g p) (λ new z m. Eased-fold g p s (timed g p z) (λ now d n. Eased-timed g p s now z d n) new both_ways m) (timers_taken g s) (all_sides s) (Eased-timers g p s) in
-    k.expired e h
+time-expired g p s e h = (time-eased g p s).expired e h
+
+pub time-flows : (g : Settings) (p : Past) (s : Plain) → (time_passed g p s).flows ≡ s.flows
+time-flows g p s = (time-eased g p s).flows

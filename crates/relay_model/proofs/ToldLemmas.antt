@@ -1,5 +1,5 @@
 -- What the plain state that a trace leads to and the trace tell of each other, by induction over the steps.
-use Rattle.std.proofs.Common.{◌≡◌, ℕ, ◌+◌, ◌*◌, ◌<◌, ◌≤◌, Bool, true, false, ◌&&◌, ◌||◌, not, if◌then◌else◌, List, [], ◌∷◌, ◌++◌, length, Option, Some, None, ◌⊎◌, inl, inr, refl, sym, ◌∙◌, ap, subst, arith, fold, count_by}
+use Rattle.std.proofs.Common.{◌≡◌, ℕ, ◌+◌, ◌*◌, ◌<◌, ◌≤◌, Bool, true, false, ◌&&◌, ◌||◌, not, if◌then◌else◌, List, [], ◌∷◌, ◌++◌, length, ◌⊎◌, inl, inr, refl, sym, ◌∙◌, ap, subst, arith, count_by}
 use Rattle.std.specs.List.{list_any}
 use Rattle.std.proofs.lemmas.Bool.{or_parts, or_from, cases_lt}
 use Rattle.std.proofs.lemmas.List.Folds.{list_any-append}
@@ -10,18 +10,19 @@ use Rattle.ev_types.specs.declared.answer.ReadAnswer.TheVariants as read
 use Rattle.ev_types.specs.declared.answer.WriteAnswer.TheVariants as write
 use Rattle.ev_types.specs.declared.entry.Entry.{Entry}
 use Rattle.ev_types.specs.declared.entry.Entry.TheVariants as entry
-use Rattle.ev_types.specs.Sides.{same_end}
 use Rattle.ev_types.specs.Trace.{Event, Trace}
-use Rattle.relay_model.specs.Trace.{ended_by, write_closed_by, has_ended, is_write_closed}
+use Rattle.relay_model.specs.Trace.{ended_by, write_closed_by}
 use Rattle.relay_model.specs.Settings.{Settings}
 use Rattle.relay_model.specs.Plain.{Plain, side_at, is_live}
-use Rattle.relay_model.specs.Stages.{Stage, State, Between, Freeing, start}
+use Rattle.relay_model.specs.Stages.{Stage, State, Freeing}
 use Rattle.relay_model.specs.Turn.{Puts, Quietly, Reaches, latest}
-use Rattle.relay_model.specs.Told.{begins_turn, opens_link, time_after, last_time, names, freed_by, is_freed, end_closed_by, is_end_closed, failed_by, has_failed, is_freeing, CountsTold, SideTold}
+use Rattle.relay_model.specs.RatesKept.{is_turn, time_by}
+use Rattle.relay_model.specs.TurnLaws.{is_opened}
+use Rattle.relay_model.specs.Told.{names, freed_by, is_freed, end_closed_by, failed_by, is_freeing, CountsTold, SideTold}
 use Rattle.relay_model.proofs.EndLemmas.{same_end-eq}
-use Rattle.relay_model.proofs.KeepsLemmas.{Keeps, Keeps-side, Keeps-length}
-use Rattle.relay_model.proofs.SeenLemmas.{Seen, seen, but_bad}
-use Rattle.relay_model.proofs.EffectLemmas.{SideEffect, Effect, fresh}
+use Rattle.relay_model.proofs.KeepsLemmas.{Keeps-side, Keeps-length}
+use Rattle.relay_model.proofs.SeenLemmas.{seen, but_bad}
+use Rattle.relay_model.proofs.EffectLemmas.{Effect, fresh}
 use Rattle.relay_model.proofs.PlacedLemmas.{Placed}
 use Rattle.relay_model.proofs.StepLemmas.{put-effect}
 use Rattle.relay_model.proofs.StageLemmas.{Silent, quiet-silent, quiet-placed, put-placed}
@@ -44,7 +45,7 @@ freed-names : (e : SideId) (y : Event) → names e y ≡ false → freed_by e y 
 freed-names e (entry.Freed side why moved given, bytes) h = h
 freed-names e _ h = refl
 
-ended-names : (e : SideId) (y : Event) → names e y ≡ false → ended_by e y ≡ false
+pub ended-names : (e : SideId) (y : Event) → names e y ≡ false → ended_by e y ≡ false
 ended-names e (entry.Read side room read.Ended, bytes) h = h
 ended-names e _ h = refl
 
@@ -146,21 +147,23 @@ put-side g t x s y after new k placed z lt none told (inr ge) =
 put-kept : (g : Settings) (t : Trace) (x : Stage) (s : Plain) (e : Entry) (bytes : List ℕ) (new : State) → Kept g t x s → Puts g t x s e bytes new → Kept g (t ++ (e, bytes) ∷ []) new.stage new.plain
 put-kept g t x s e bytes new h put =
     let c = h.counts in
-    let k : Effect g x s (e, bytes) new.stage new.plain = put-effect g t x s e bytes new c.sides h.placed put in
-    let more = grows s.opened new.plain.opened (opens_link (e, bytes)) k.opened in
-    let placed : Placed new.stage new.plain = put-placed g t x s e bytes new c.sides h.placed put in
+    let k : Effect g x s (e, bytes) new.stage new.plain = put-effect g t x s e bytes new c.shape.sides h.placed put in
+    let more = grows s.opened new.plain.opened (is_opened (e, bytes)) k.opened in
+    let placed : Placed new.stage new.plain = put-placed g t x s e bytes new c.shape.sides h.placed put in
     let told : (z : SideId) → z.link < new.plain.opened → (z.link < s.opened) ⊎ (s.opened ≤ z.link) → SideTold (t ++ (e, bytes) ∷ []) new.stage new.plain z =
     λ z lt o. put-side g t x s (e, bytes) new.stage new.plain k placed z lt (c.named z) (h.each z) o in
     let named : (z : SideId) → new.plain.opened ≤ z.link → list_any (names z) (t ++ (e, bytes) ∷ []) ≡ false = λ z. named-push t (e, bytes) s.opened new.plain.opened z more (k.named z) (c.named z) in
     record {
       counts = record {
-        time = k.time ∙ ap (λ n. time_after n (e, bytes)) c.time ∙ sym (fold_push time_after 0 t (e, bytes));
+        shape = record {
+          time = k.time ∙ ap (λ n. time_by n (e, bytes)) c.shape.time ∙ sym (fold_push time_by 0 t (e, bytes));
+          turn = k.turn ∙ ap (λ n. n + (if is_turn (e, bytes) then 1 else 0)) c.shape.turn ∙ sym (count_by-push is_turn t (e, bytes));
+          opened = k.opened ∙ ap (λ n. n + (if is_opened (e, bytes) then 1 else 0)) c.shape.opened ∙ sym (count_by-push is_opened t (e, bytes));
+          sides = k.sides c.shape.sides;
+          flows = k.flows c.shape.flows;
+        };
         latest = k.until c.latest;
-        turn = k.turn ∙ ap (λ n. n + (if begins_turn (e, bytes) then 1 else 0)) c.turn ∙ sym (count_by-push begins_turn t (e, bytes));
-        opened = k.opened ∙ ap (λ n. n + (if opens_link (e, bytes) then 1 else 0)) c.opened ∙ sym (count_by-push opens_link t (e, bytes));
         links = k.links c.links;
-        sides = k.sides c.sides;
-        flows = k.flows c.flows;
         named = named;
       };
       each = λ z lt. told z lt (cases_lt z.link s.opened);
@@ -185,17 +188,19 @@ quiet-kept g t x s new h quiet =
     let o : new.plain.opened ≡ s.opened = k.keeps.opened in
     let size : length new.plain.sides ≡ length s.sides = Keeps-length but_bad s new.plain k.keeps in
     let flows : length new.plain.flows ≡ length s.flows = k.keeps.flows in
-    let sizes : length s.sides ≡ 2 * s.opened = c.sides in
-    let flow_sizes : length s.flows ≡ 2 * s.opened = c.flows in
+    let sizes : length s.sides ≡ 2 * s.opened = c.shape.sides in
+    let flow_sizes : length s.flows ≡ 2 * s.opened = c.shape.flows in
     record {
       counts = record {
-        time = k.keeps.time ∙ c.time;
+        shape = record {
+          time = k.keeps.time ∙ c.shape.time;
+          turn = k.keeps.turn ∙ c.shape.turn;
+          opened = o ∙ c.shape.opened;
+          sides = omega arith;
+          flows = omega arith;
+        };
         latest = subst (λ n. n ≤ latest) (sym k.keeps.time) c.latest;
-        turn = k.keeps.turn ∙ c.turn;
-        opened = o ∙ c.opened;
         links = subst (λ n. n ≤ g.links) (sym o) c.links;
-        sides = omega arith;
-        flows = omega arith;
         named = λ z le. c.named z (subst (λ n. n ≤ z.link) o le);
       };
       each = λ z lt. quiet-side t x s new.stage new.plain z k (h.each z (subst (λ n. z.link < n) o lt));
@@ -204,7 +209,7 @@ quiet-kept g t x s new h quiet =
 
 pub kept : (g : Settings) (t : Trace) (s : State) → Reaches g t s → Kept g t s.stage s.plain
 kept g t s (Reaches.begins) = record {
-  counts = record { time = refl; latest = omega arith; turn = refl; opened = refl; links = omega arith; sides = refl; flows = refl; named = λ z le. refl };
+  counts = record { shape = record { time = refl; turn = refl; opened = refl; sides = refl; flows = refl }; latest = omega arith; links = omega arith; named = λ z le. refl };
   each = λ z lt. absurd (omega arith);
   placed = tt;
 }

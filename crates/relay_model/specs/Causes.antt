@@ -1,5 +1,5 @@
 -- Why a side is freed, told from what stands before its free and from the state in which it is freed.
-use Rattle.std.specs.Prelude.{◌≡◌, ◌⊎◌, ℕ, ◌-◌, ◌<◌, ◌≤◌, Bool, true, false, List, [], ◌∷◌, ◌++◌, take, Option, Some, None}
+use Rattle.std.specs.Prelude.{◌≡◌, ◌⊎◌, ℕ, ◌-◌, ◌<◌, ◌≤◌, Bool, true, false, List, [], ◌∷◌, ◌++◌, take, Some, None}
 use Rattle.std.specs.List.{list_any}
 use Rattle.token_bucket.specs.declared.limit.Dir.{Dir}
 use Rattle.ev_types.specs.declared.side.SideId.{SideId}
@@ -18,10 +18,11 @@ use Rattle.relay_model.specs.Plain.{Plain, side_at, flow_at, is_live}
 use Rattle.relay_model.specs.Past.{past}
 use Rattle.relay_model.specs.Rooms.{read_filter, write_filter, wants, output_length}
 use Rattle.relay_model.specs.Moments.{timeout_of, last_activity}
-use Rattle.relay_model.specs.Close.{CloseStep, fault}
+use Rattle.relay_model.specs.Close.{CloseStep, fault, is_complete}
 use Rattle.relay_model.specs.Stages.{Stage, at}
 use Rattle.relay_model.specs.Turn.{turned_to, Reaches, IsLegal}
-use Rattle.relay_model.specs.Told.{begins_turn, is_freed, has_failed, failed_by}
+use Rattle.relay_model.specs.RatesKept.{is_turn}
+use Rattle.relay_model.specs.Told.{is_freed, has_failed, failed_by}
 
 -- an event of the running turn passes the test
 pub record InThisTurn (test : Event → Bool) (t : Trace) : Type 0 where
@@ -30,7 +31,7 @@ pub record InThisTurn (test : Event → Bool) (t : Trace) : Type 0 where
   pub since : Trace
   pub is : t ≡ early ++ event ∷ since
   pub passes : test event ≡ true
-  pub same_turn : list_any begins_turn since ≡ false
+  pub same_turn : list_any is_turn since ≡ false
 
 -- the last event is an ask that freed the side, answered Ok
 pub record AskedFree (t : Trace) (e : SideId) : Type 0 where
@@ -50,7 +51,7 @@ pub record TimedOut (g : Settings) (t : Trace) (e : SideId) : Type 0 where
   pub ms : ℕ
   pub since : Trace
   pub is : t ≡ early ++ (entry.Turn ms, []) ∷ since
-  pub same_turn : list_any begins_turn since ≡ false
+  pub same_turn : list_any is_turn since ≡ false
   pub before : Plain
   pub reached : Reaches g early (at Stage.Between before)
   pub dir : Dir
@@ -93,7 +94,24 @@ abbrev pub FreesHaveCauses : Type 0
 FreesHaveCauses = (g : Settings) (t before after : Trace) (e : SideId) (why : Cause) (moved given : ℕ) (bytes : List ℕ) → IsLegal g t →
     t ≡ before ++ (entry.Freed e why moved given, bytes) ∷ after → HasCause g before e why
 
+-- What a hook frees is recorded next: behind an ask that frees a side, answered Ok, stands its free or nothing.
+abbrev pub AskedFreesAreNext : Type 0
+AskedFreesAreNext = (g : Settings) (t before after : Trace) (me e : SideId) (bytes : List ℕ) (next : Event) → IsLegal g t →
+    t ≡ before ++ (entry.Asked me (act.Free e) ask.Ok, bytes) ∷ next ∷ after → (moved : ℕ) × (given : ℕ) × (next ≡ (entry.Freed e cause.Hook moved given, []))
+
 -- Between turns no live side of an opened link is faulty: each that failed, timed out or met a bad place was freed.
 abbrev pub FaultsAreFreed : Type 0
 FaultsAreFreed = (g : Settings) (t : Trace) (s : Plain) (e : SideId) → Reaches g t (at Stage.Between s) →
     e.link < s.opened → is_live s e ≡ true → fault (side_at s e) ≡ None
+
+-- What is left to do at a side of an opened link, and at the link.
+pub record NothingLeft (g : Settings) (t : Trace) (s : Plain) (e : SideId) : Type 0 where
+  pub writing : is_live s e ≡ true → is_live s (peer e) ≡ true → is_complete g (past g t) s (peer e) ≡ true → (side_at s e).connecting ≡ false → (side_at s e).write_ended ≡ true
+  pub done : is_live s e ≡ true → is_live s (peer e) ≡ true → (side_at s e).write_ended ≡ true → (side_at s (peer e)).write_ended ≡ false
+  pub peer_gone : is_live s e ≡ true → is_live s (peer e) ≡ false → 1 ≤ output_length g (past g t) s e
+  pub shut : is_live s e ≡ false → (side_at s e).closed ≡ true
+
+-- Between turns nothing is left: writing was ended behind each whole direction of two live sides, a link whose writing was ended
+-- at both ends was freed, a live side whose peer is gone has bytes that it may still be given, and each freed side's end was closed.
+abbrev pub NothingIsLeft : Type 0
+NothingIsLeft = (g : Settings) (t : Trace) (s : Plain) (e : SideId) → Reaches g t (at Stage.Between s) → e.link < s.opened → NothingLeft g t s e

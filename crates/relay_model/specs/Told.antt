@@ -1,5 +1,5 @@
 -- What the plain state that a trace leads to and the trace tell of each other.
-use Rattle.std.specs.Prelude.{◌≡◌, ℕ, ◌*◌, ◌<◌, ◌≤◌, Bool, true, false, ◌||◌, not, List, ◌∷◌, ◌++◌, length, fold, count_by, All}
+use Rattle.std.specs.Prelude.{◌≡◌, ℕ, ◌<◌, ◌≤◌, Bool, false, ◌||◌, not, List, ◌∷◌, ◌++◌, count_by, All}
 use Rattle.std.specs.List.{list_any}
 use Rattle.ev_types.specs.declared.side.SideId.{SideId}
 use Rattle.ev_types.specs.declared.answer.ConnAnswer.TheVariants as conn
@@ -11,27 +11,10 @@ use Rattle.ev_types.specs.Trace.{Event, Trace}
 use Rattle.relay_model.specs.Trace.{has_ended, moved_at_free, given_at_free, is_write_closed}
 use Rattle.relay_model.specs.Settings.{Settings}
 use Rattle.relay_model.specs.Plain.{Plain, side_at, flow_at, is_live}
-use Rattle.relay_model.specs.Stages.{Stage, Between, Freeing}
+use Rattle.relay_model.specs.Stages.{Stage, Freeing}
 use Rattle.relay_model.specs.Turn.{Reaches, latest}
-
--- an event that begins a turn
-abbrev pub begins_turn : Event → Bool
-begins_turn (entry.Turn ms, bytes) = true
-begins_turn _ = false
-
--- an event that opens a link
-abbrev pub opens_link : Event → Bool
-opens_link (entry.Opened link connected, bytes) = true
-opens_link _ = false
-
--- the time after an event, by that before it
-abbrev pub time_after : ℕ → Event → ℕ
-time_after time (entry.Turn ms, bytes) = ms
-time_after time _ = time
-
--- the time of the last turn, 0 before the first
-abbrev pub last_time : Trace → ℕ
-last_time t = fold time_after 0 t
+use Rattle.relay_model.specs.RatesKept.{last_time}
+use Rattle.relay_model.specs.TurnLaws.{is_opened, ShapeIsTold}
 
 -- an event of a side: asked of its end or by its hook, or done to it
 abbrev pub names : SideId → Event → Bool
@@ -78,15 +61,11 @@ abbrev pub is_freeing : Stage → SideId → Bool
 is_freeing (Freeing gone x rs) e = same_end gone e
 is_freeing _ e = false
 
--- The counts of a state are those of the trace.
+-- The counts of a state are those of the trace and within their bounds; no event names a link that was not opened.
 pub record CountsTold (g : Settings) (t : Trace) (s : Plain) : Type 0 where
-  pub time : s.time ≡ last_time t
+  pub shape : ShapeIsTold t s
   pub latest : s.time ≤ latest
-  pub turn : s.turn ≡ count_by begins_turn t
-  pub opened : s.opened ≡ count_by opens_link t
   pub links : s.opened ≤ g.links
-  pub sides : length s.sides ≡ 2 * s.opened
-  pub flows : length s.flows ≡ 2 * s.opened
   pub named : (e : SideId) → s.opened ≤ e.link → list_any (names e) t ≡ false
 
 -- So is what it says of a side of an opened link. The side lives until it is freed.
@@ -105,9 +84,17 @@ StateIsTold = (g : Settings) (t : Trace) (x : Stage) (s : Plain) → Reaches g t
 -- Time doesn't fall, and no turn is later than the latest time.
 abbrev pub TimeRises : Type 0
 TimeRises = (g : Settings) (t before after : Trace) (s : Plain) (x : Stage) (ms : ℕ) (bytes : List ℕ) → Reaches g t (record { stage = x; plain = s }) →
-    t ≡ before ++ (entry.Turn ms, bytes) ∷ after → (last_time before ≤ ms) × (ms ≤ latest)
+    t ≡ before ++ (entry.Turn ms, bytes) ∷ after → (last_time 0 before ≤ ms) × (ms ≤ latest)
 
 -- Links are opened in the order of their numbers.
 abbrev pub LinksInOrder : Type 0
 LinksInOrder = (g : Settings) (t before after : Trace) (s : Plain) (x : Stage) (link : ℕ) (connected : Bool) (bytes : List ℕ) →
-    Reaches g t (record { stage = x; plain = s }) → t ≡ before ++ (entry.Opened link connected, bytes) ∷ after → link ≡ count_by opens_link before
+    Reaches g t (record { stage = x; plain = s }) → t ≡ before ++ (entry.Opened link connected, bytes) ∷ after → link ≡ count_by is_opened before
+
+-- Each free of a side told how many bytes were moved from it, and how many its end was given; neither number changes later.
+pub record FreesTell (t : Trace) (s : Plain) (e : SideId) : Type 0 where
+  pub moved : All (λ told. told ≡ (flow_at s e).moved) (moved_at_free e t)
+  pub given : All (λ told. told ≡ (flow_at s (peer e)).given) (given_at_free e t)
+
+abbrev pub FreesTellTotals : Type 0
+FreesTellTotals = (g : Settings) (t : Trace) (x : Stage) (s : Plain) (e : SideId) → Reaches g t (record { stage = x; plain = s }) → FreesTell t s e

@@ -1,6 +1,7 @@
 // The laws that every legal trace obeys, each on a function whose contract it is.
+ghost use Rattle.relay_model.specs.Causes.{AskedFreesAreNext, FaultsAreFreed, FreesHaveCauses, NothingIsLeft};
 ghost use Rattle.relay_model.specs.Quiet.{LegalIsQuiet};
-ghost use Rattle.relay_model.specs.Told.{LinksInOrder, StateIsTold, TimeRises};
+ghost use Rattle.relay_model.specs.Told.{FreesTellTotals, LinksInOrder, StateIsTold, TimeRises};
 
 /// The counts of the plain state, and what it says of each side, are what the trace says that leads to it.
 pub fn state_is_told()
@@ -17,7 +18,33 @@ pub fn links_in_order()
     ensures { LinksInOrder }
 {}
 
+/// The two numbers of a free are how many bytes were moved from the side and given to its end, also later.
+pub fn frees_tell_totals()
+    ensures { FreesTellTotals }
+{}
+
 /// Behind the free of a side stands nothing of it but its one close, and what its hook asks in the rest of that fire.
 pub fn legal_is_quiet()
     ensures { LegalIsQuiet }
+{}
+
+/// Each free has the cause that it tells.
+pub fn frees_have_causes()
+    ensures { FreesHaveCauses }
+{}
+
+/// Behind an ask that freed a side stands the record of that free.
+pub fn asked_frees_are_next()
+    ensures { AskedFreesAreNext }
+{}
+
+/// Between turns no live side has failed, timed out or met a bad place: closing freed each of them.
+pub fn faults_are_freed()
+    ensures { FaultsAreFreed }
+{}
+
+/// Between turns closing has nothing left to do: whole directions were ended, done links and sides with no use were freed,
+/// and each freed side's end was closed.
+pub fn nothing_is_left()
+    ensures { NothingIsLeft }
 {}

@@ -2,7 +2,7 @@
 use Rattle.std.specs.Prelude.{refl}
 use Rattle.relay_rows.specs.HookRows.{hook_in}
 use Rattle.relay_rows.specs.Laws.{Goes}
-use Rattle.relay_rows.specs.AskRows.{end_and_fault_told, connected_and_written, two_timeouts_joined, low_mark_reached, writing_disabled_for_a_turn, asks_refused, triggered, limit_asked_for, hook_and_low_mark_in, hook_and_timeouts_out, two_hooks}
+use Rattle.relay_rows.specs.AskRows.{no_end_behind_a_free, hook_in_and_hex_out, end_and_fault_told, connected_and_written, two_timeouts_joined, low_mark_reached, writing_disabled_for_a_turn, asks_refused, triggered, limit_asked_for, hook_and_low_mark_in, hook_and_timeouts_out, two_hooks}
 use Rattle.relay_rows.proofs.AcceptLemmas.{rests-went}
 
 pub end_and_fault_told-goes : Goes two_hooks end_and_fault_told
@@ -28,3 +28,6 @@ triggered-goes = rests-went hook_in triggered refl
 
 pub limit_asked_for-goes : Goes hook_in limit_asked_for
 limit_asked_for-goes = rests-went hook_in limit_asked_for refl
+
+pub no_end_behind_a_free-goes : Goes hook_in_and_hex_out no_end_behind_a_free
+no_end_behind_a_free-goes = rests-went hook_in_and_hex_out no_end_behind_a_free refl

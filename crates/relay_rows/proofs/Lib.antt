@@ -15,5 +15,6 @@ pub mod RateRowsReplayed
 pub mod EdgeRowsReplayed
 pub mod AskRowsReplayed
 pub mod ReasonRowsReplayed
+pub mod MarkRowsReplayed
 pub mod WrongRowsRefused
 pub mod WrongEdgesRefused

@@ -1,7 +1,7 @@
 -- Each wrong event at an edge is refused.
 use Rattle.std.specs.Prelude.{refl}
 use Rattle.relay_rows.specs.Wrong.{IsWrong}
-use Rattle.relay_rows.specs.WrongEdges.{ended_side_wanted, written_as_it_connects, writing_ended_while_connecting, held_byte_forgotten, held_byte_given, bad_byte_met_without_room, filled_above_half, wanted_at_the_read_mark, wanted_with_an_empty_bucket, read_while_suspended, fired_below_the_low_mark, timeouts_told_apart, fired_in_the_turn_of_its_ask}
+use Rattle.relay_rows.specs.WrongEdges.{link_past_the_64th, link_past_the_last, time_past_the_last, nothing_got, more_than_the_room, ended_side_wanted, written_as_it_connects, writing_ended_while_connecting, held_byte_forgotten, held_byte_given, bad_byte_met_without_room, filled_above_half, wanted_at_the_read_mark, wanted_with_an_empty_bucket, read_while_suspended, fired_below_the_low_mark, timeouts_told_apart, fired_in_the_turn_of_its_ask}
 use Rattle.relay_rows.proofs.IllegalLemmas.{refuses-is}
 
 pub ended_side_wanted-is_wrong : IsWrong ended_side_wanted
@@ -42,3 +42,18 @@ timeouts_told_apart-is_wrong = refuses-is timeouts_told_apart.settings timeouts_
 
 pub fired_in_the_turn_of_its_ask-is_wrong : IsWrong fired_in_the_turn_of_its_ask
 fired_in_the_turn_of_its_ask-is_wrong = refuses-is fired_in_the_turn_of_its_ask.settings fired_in_the_turn_of_its_ask.before fired_in_the_turn_of_its_ask.event refl
+
+pub link_past_the_64th-is_wrong : IsWrong link_past_the_64th
+link_past_the_64th-is_wrong = refuses-is link_past_the_64th.settings link_past_the_64th.before link_past_the_64th.event refl
+
+pub link_past_the_last-is_wrong : IsWrong link_past_the_last
+link_past_the_last-is_wrong = refuses-is link_past_the_last.settings link_past_the_last.before link_past_the_last.event refl
+
+pub time_past_the_last-is_wrong : IsWrong time_past_the_last
+time_past_the_last-is_wrong = refuses-is time_past_the_last.settings time_past_the_last.before time_past_the_last.event refl
+
+pub nothing_got-is_wrong : IsWrong nothing_got
+nothing_got-is_wrong = refuses-is nothing_got.settings nothing_got.before nothing_got.event refl
+
+pub more_than_the_room-is_wrong : IsWrong more_than_the_room
+more_than_the_room-is_wrong = refuses-is more_than_the_room.settings more_than_the_room.before more_than_the_room.event refl

@@ -3,6 +3,7 @@ use Rattle.std.specs.Prelude.{◌+◌, ◌^◌, [], ◌∷◌, Some}
 use Rattle.token_bucket.specs.declared.limit.Dir.TheVariants as dir
 use Rattle.ev_types.specs.declared.act.Act.TheVariants as act
 use Rattle.ev_types.specs.declared.answer.AskAnswer.TheVariants as ask
+use Rattle.ev_types.specs.declared.filter.FilterKind.TheVariants as kind
 use Rattle.ev_types.specs.declared.why.Cause.TheVariants as cause
 use Rattle.ev_types.specs.declared.why.Why.TheVariants as why
 use Rattle.ev_types.specs.Trace.{Trace}
@@ -110,4 +111,19 @@ limit_asked_for =
     ∷ turn 2 ∷ poll ∷ wants_read (in_of 0) ∷ wants_both (out_of 0) ∷ can_read (in_of 0) ∷ gets (in_of 0) 10 (letters 10) ∷ fires (in_of 0) why.Read
     ∷ turn 3 ∷ poll_for 997 ∷ wants_both (out_of 0)
     ∷ turn 1000 ∷ poll ∷ wants_read (in_of 0) ∷ wants_both (out_of 0) ∷ can_read (in_of 0) ∷ gets (in_of 0) 10 (letters 10) ∷ fires (in_of 0) why.Read
+    ∷ []
+
+abbrev pub hook_in_and_hex_out : Settings
+hook_in_and_hex_out = record usual { out_write = kind.HexIn; hold = 1; hooks = in_of 0 ∷ [] }
+
+-- An odd digit waits behind the hold mark as its side is freed. No filter finishes then, so that its end isn't bad.
+abbrev pub no_end_behind_a_free : Trace
+no_end_behind_a_free =
+    turn 0 ∷ poll ∷ opens 0
+    ∷ turn 1 ∷ poll ∷ wants_read (in_of 0) ∷ wants_read (out_of 0) ∷ can_read (in_of 0) ∷ gets (in_of 0) 16384 (51 ∷ 52 ∷ 52 ∷ []) ∷ fires (in_of 0) why.Read
+    ∷ turn 2 ∷ poll ∷ wants_read (in_of 0) ∷ wants_both (out_of 0) ∷ can_read (in_of 0) ∷ ends (in_of 0) 16384
+    ∷ fires (in_of 0) (event 17) ∷ asks (in_of 0) (act.Timer (in_of 0) 1) ask.Ok
+    ∷ turn 3 ∷ poll_for 0 ∷ wants_both (out_of 0) ∷ can_write (out_of 0) ∷ takes (out_of 0) 1 (52 ∷ [])
+    ∷ fires (in_of 0) why.Timer ∷ asks (in_of 0) (act.Free (in_of 0)) ask.Ok ∷ frees (in_of 0) cause.Hook 3 0
+    ∷ frees (out_of 0) cause.PeerGone 0 1 ∷ closes (in_of 0) ∷ closes (out_of 0)
     ∷ []

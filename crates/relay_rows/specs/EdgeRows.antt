@@ -55,6 +55,32 @@ bad_byte_behind_the_mark =
     ∷ frees (out_of 0) (cause.Filter 2) 0 1 ∷ frees (in_of 0) cause.PeerGone 4 0 ∷ closes (in_of 0) ∷ closes (out_of 0)
     ∷ []
 
+abbrev pub hex_out_held_at_four : Settings
+hex_out_held_at_four = record usual { out_write = kind.HexIn; hold = 4 }
+
+-- A held direction doesn't look at the next byte, though there is room for one.
+abbrev pub bad_byte_while_held : Trace
+bad_byte_while_held =
+    turn 0 ∷ poll ∷ opens 0
+    ∷ turn 1 ∷ poll ∷ wants_read (in_of 0) ∷ wants_read (out_of 0) ∷ can_read (in_of 0)
+    ∷ gets (in_of 0) 16384 (51 ∷ 48 ∷ 51 ∷ 49 ∷ 51 ∷ 50 ∷ 51 ∷ 51 ∷ 122 ∷ 122 ∷ [])
+    ∷ turn 2 ∷ poll ∷ wants_read (in_of 0) ∷ wants_both (out_of 0) ∷ can_write (out_of 0) ∷ takes (out_of 0) 4 (48 ∷ [])
+    ∷ turn 3 ∷ poll ∷ wants_read (in_of 0) ∷ wants_both (out_of 0) ∷ can_write (out_of 0) ∷ takes (out_of 0) 3 (49 ∷ [])
+    ∷ frees (out_of 0) (cause.Filter 8) 0 2 ∷ frees (in_of 0) cause.PeerGone 10 0 ∷ closes (in_of 0) ∷ closes (out_of 0)
+    ∷ []
+
+abbrev pub hex_in_marked_at_six : Settings
+hex_in_marked_at_six = record usual { in_read = kind.HexOut; in_marks = record { read_low = 0; read_high = 6; write_low = 0; write_high = 0 }; hold = 1 }
+
+-- A read filter stops as soon as there are six bytes, and goes on once they are moved. Six more wait then, and In isn't wanted.
+abbrev pub read_filter_stops_at_the_mark : Trace
+read_filter_stops_at_the_mark =
+    turn 0 ∷ poll ∷ opens 0
+    ∷ turn 1 ∷ poll ∷ wants_read (in_of 0) ∷ wants_read (out_of 0) ∷ can_read (in_of 0) ∷ gets (in_of 0) 6 (1 ∷ 2 ∷ 3 ∷ 4 ∷ 5 ∷ 6 ∷ [])
+    ∷ turn 2 ∷ poll ∷ wants_both (out_of 0) ∷ can_write (out_of 0) ∷ takes (out_of 0) 1 (48 ∷ [])
+    ∷ turn 3 ∷ poll ∷ wants_both (out_of 0)
+    ∷ []
+
 abbrev pub write_timeout_out : Settings
 write_timeout_out = record usual { out_timeouts = record { read_ms = 0; write_ms = 1000 } }
 
@@ -77,4 +103,13 @@ failed_and_expired =
     ∷ turn 1 ∷ poll_for 999 ∷ wants_read (in_of 0) ∷ wants_read (out_of 0) ∷ can_read (in_of 0) ∷ gets (in_of 0) 16384 (97 ∷ [])
     ∷ turn 1000 ∷ poll_for 0 ∷ wants_read (in_of 0) ∷ wants_write (out_of 0) ∷ can_write (out_of 0) ∷ write_fails (out_of 0) 1
     ∷ frees (out_of 0) cause.Failed 0 0 ∷ frees (in_of 0) cause.PeerGone 1 0 ∷ closes (in_of 0) ∷ closes (out_of 0)
+    ∷ []
+
+-- So long as Out has nothing to write its timeout doesn't run. A byte that it takes is activity.
+abbrev pub writing_is_activity : Trace
+writing_is_activity =
+    turn 0 ∷ poll ∷ opens 0
+    ∷ turn 500 ∷ poll ∷ wants_read (in_of 0) ∷ wants_read (out_of 0) ∷ can_read (in_of 0) ∷ gets (in_of 0) 16384 (104 ∷ 105 ∷ [])
+    ∷ turn 600 ∷ poll_for 900 ∷ wants_read (in_of 0) ∷ wants_both (out_of 0) ∷ can_write (out_of 0) ∷ takes (out_of 0) 2 (104 ∷ [])
+    ∷ turn 700 ∷ poll_for 900 ∷ wants_read (in_of 0) ∷ wants_both (out_of 0)
     ∷ []

@@ -83,3 +83,11 @@ hook_stops =
     ∷ turn 1 ∷ poll ∷ wants_read (in_of 0) ∷ wants_read (out_of 0) ∷ can_read (in_of 0) ∷ gets (in_of 0) 16384 (97 ∷ [])
     ∷ fires (in_of 0) why.Read ∷ asks (in_of 0) act.Stop ask.Ok
     ∷ []
+
+-- A byte that comes is activity: the timeout runs from then on.
+abbrev pub reading_is_activity : Trace
+reading_is_activity =
+    turn 0 ∷ poll ∷ opens 0
+    ∷ turn 500 ∷ poll_for 500 ∷ wants_read (in_of 0) ∷ wants_read (out_of 0) ∷ can_read (in_of 0) ∷ gets (in_of 0) 16384 (97 ∷ [])
+    ∷ turn 600 ∷ poll_for 900 ∷ wants_read (in_of 0) ∷ wants_both (out_of 0)
+    ∷ []

@@ -11,6 +11,7 @@ pub mod RateRows
 pub mod EdgeRows
 pub mod AskRows
 pub mod ReasonRows
+pub mod MarkRows
 pub mod Wrong
 pub mod WrongRows
 pub mod WrongEdges

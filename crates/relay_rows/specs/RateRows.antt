@@ -4,7 +4,7 @@ use Rattle.std.proofs.Common.{lit<, lit≤}
 use Rattle.token_bucket.specs.declared.limit.LimitCfg.{LimitCfg}
 use Rattle.ev_types.specs.Trace.{Trace}
 use Rattle.relay_model.specs.Settings.{Settings, usual}
-use Rattle.relay_rows.specs.RowWords.{in_of, out_of, turn, poll, poll_for, wants_read, wants_both, can_read, opens, gets}
+use Rattle.relay_rows.specs.RowWords.{in_of, out_of, turn, poll, poll_for, wants_read, wants_both, can_read, can_write, opens, gets, takes}
 
 -- so many bytes `a`
 abbrev pub letters : ℕ → List ℕ
@@ -39,6 +39,20 @@ read_in_ticks =
     ∷ turn 500 ∷ poll_for 500 ∷ wants_both (out_of 0)
     ∷ turn 1000 ∷ poll ∷ wants_read (in_of 0) ∷ wants_both (out_of 0) ∷ can_read (in_of 0) ∷ gets (in_of 0) 10 (letters 10)
     ∷ turn 5000 ∷ poll ∷ wants_read (in_of 0) ∷ wants_both (out_of 0) ∷ can_read (in_of 0) ∷ gets (in_of 0) 25 (letters 25)
+    ∷ []
+
+abbrev pub limited_out : Settings
+limited_out = record usual { out_rate = Some ten_a_second }
+
+-- Out is written within its limit too. Its reading has a bucket of its own.
+abbrev pub written_in_ticks : Trace
+written_in_ticks =
+    turn 0 ∷ poll ∷ opens 0
+    ∷ turn 0 ∷ poll ∷ wants_read (in_of 0) ∷ wants_read (out_of 0) ∷ can_read (in_of 0) ∷ gets (in_of 0) 16384 (letters 25)
+    ∷ turn 1 ∷ poll ∷ wants_read (in_of 0) ∷ wants_both (out_of 0) ∷ can_write (out_of 0) ∷ takes (out_of 0) 10 (letters 10)
+    ∷ turn 2 ∷ poll_for 998 ∷ wants_read (in_of 0) ∷ wants_read (out_of 0)
+    ∷ turn 1000 ∷ poll ∷ wants_read (in_of 0) ∷ wants_both (out_of 0) ∷ can_write (out_of 0) ∷ takes (out_of 0) 10 (letters 10)
+    ∷ turn 5000 ∷ poll ∷ wants_read (in_of 0) ∷ wants_both (out_of 0) ∷ can_write (out_of 0) ∷ takes (out_of 0) 5 (letters 5)
     ∷ []
 
 -- 100 bytes a tick and at once, and ticks of a second
@@ -92,4 +106,17 @@ suspended_for_two_ticks =
     ∷ turn 1000 ∷ poll_for 1000 ∷ wants_both (out_of 0) ∷ wants_both (out_of 1)
     ∷ turn 2000 ∷ poll ∷ wants_read (in_of 0) ∷ wants_both (out_of 0) ∷ wants_read (in_of 1) ∷ wants_both (out_of 1)
     ∷ can_read (in_of 0) ∷ gets (in_of 0) 64 (letters 3)
+    ∷ []
+
+abbrev pub group_of_ten : Settings
+group_of_ten = record usual { groups = record { cfg = ten_a_second; share = 64 } ∷ []; in_group = Some 0 }
+
+-- The least share of 64 is lowered to the rate of 10. One of two members uses up the bucket, and the other reads a tick later.
+abbrev pub share_lowered_to_the_rate : Trace
+share_lowered_to_the_rate =
+    turn 0 ∷ poll ∷ opens 0 ∷ opens 1
+    ∷ turn 0 ∷ poll ∷ wants_read (in_of 0) ∷ wants_read (out_of 0) ∷ wants_read (in_of 1) ∷ wants_read (out_of 1)
+    ∷ can_read (in_of 0) ∷ can_read (in_of 1) ∷ gets (in_of 0) 10 (letters 10)
+    ∷ turn 1000 ∷ poll ∷ wants_read (in_of 0) ∷ wants_both (out_of 0) ∷ wants_read (in_of 1) ∷ wants_read (out_of 1)
+    ∷ can_read (in_of 1) ∷ gets (in_of 1) 10 (letters 10)
     ∷ []

@@ -69,12 +69,12 @@ timer_replaced_and_cancelled =
     ∷ turn 60 ∷ poll ∷ wants_read (in_of 0) ∷ wants_both (out_of 0)
     ∷ []
 
--- A timeout that a hook sets runs from then on.
+-- Timeouts that a hook sets run from then on: a write timeout of the peer that ends at 1110, and a read timeout that does.
 abbrev pub timeout_asked_for : Trace
 timeout_asked_for =
     turn 0 ∷ poll ∷ opens 0
     ∷ turn 10 ∷ poll ∷ wants_read (in_of 0) ∷ wants_read (out_of 0) ∷ can_read (in_of 0) ∷ gets (in_of 0) 16384 (97 ∷ [])
-    ∷ fires (in_of 0) why.Read ∷ asks (in_of 0) (act.Timer (in_of 0) 100) ask.Ok
+    ∷ fires (in_of 0) why.Read ∷ asks (in_of 0) (act.Timer (in_of 0) 100) ask.Ok ∷ asks (in_of 0) (act.Timeouts (out_of 0) 0 1100) ask.Ok
     ∷ turn 110 ∷ poll_for 0 ∷ wants_read (in_of 0) ∷ wants_both (out_of 0) ∷ fires (in_of 0) why.Timer ∷ asks (in_of 0) (act.Timeouts (in_of 0) 1000 0) ask.Ok
     ∷ turn 200 ∷ poll_for 910 ∷ wants_read (in_of 0) ∷ wants_both (out_of 0)
     ∷ []
@@ -93,6 +93,18 @@ group_joined_and_left =
     ∷ turn 3 ∷ poll ∷ wants_read (in_of 0) ∷ wants_both (out_of 0) ∷ can_read (in_of 0) ∷ gets (in_of 0) 70 (letters 2)
     ∷ fires (in_of 0) why.Read ∷ asks (in_of 0) (act.Leave (in_of 0)) ask.Ok
     ∷ turn 4 ∷ poll ∷ wants_read (in_of 0) ∷ wants_both (out_of 0) ∷ can_read (in_of 0) ∷ gets (in_of 0) 16384 (letters 1) ∷ fires (in_of 0) why.Read
+    ∷ []
+
+abbrev pub hook_of_a_member : Settings
+hook_of_a_member = record usual { groups = record { cfg = hundred_a_second; share = 64 } ∷ []; in_group = Some 0; hooks = in_of 0 ∷ [] }
+
+-- The only member uses up the bucket and leaves. No poll waits for a group without members.
+abbrev pub suspended_without_members : Trace
+suspended_without_members =
+    turn 0 ∷ poll ∷ opens 0
+    ∷ turn 1 ∷ poll ∷ wants_read (in_of 0) ∷ wants_read (out_of 0) ∷ can_read (in_of 0) ∷ gets (in_of 0) 100 (letters 100)
+    ∷ fires (in_of 0) why.Read ∷ asks (in_of 0) (act.Leave (in_of 0)) ask.Ok
+    ∷ turn 2 ∷ poll ∷ wants_read (in_of 0) ∷ wants_both (out_of 0)
     ∷ []
 
 abbrev pub hook_and_limit : Settings

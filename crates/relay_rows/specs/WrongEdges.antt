@@ -1,5 +1,5 @@
 -- More traces that can stand, each with one event behind it that can't: at the edges of filters, marks, limits and timeouts.
-use Rattle.std.specs.Prelude.{[], ◌∷◌, ◌++◌}
+use Rattle.std.specs.Prelude.{ℕ, zero, suc, ◌+◌, ◌^◌, [], ◌∷◌, ◌++◌}
 use Rattle.ev_types.specs.declared.why.Cause.TheVariants as cause
 use Rattle.ev_types.specs.declared.why.Why.TheVariants as why
 use Rattle.ev_types.specs.declared.act.Act.TheVariants as act
@@ -102,3 +102,23 @@ abbrev pub fired_in_the_turn_of_its_ask : Wrong
 fired_in_the_turn_of_its_ask =
     wrong hook_in (marked ++ gets (in_of 0) 16384 (97 ∷ []) ∷ fires (in_of 0) why.Read ∷ asks (in_of 0) (act.Trigger (in_of 0) dir.Read) ask.Ok ∷ [])
     (fires (in_of 0) why.Read)
+
+-- the links from number k on, in one turn
+abbrev opens_from : ℕ → ℕ → Trace
+opens_from k zero = []
+opens_from k (suc n) = opens k ∷ opens_from (k + 1) n
+
+abbrev pub link_past_the_64th : Wrong
+link_past_the_64th = wrong usual (turn 0 ∷ poll ∷ opens_from 0 64) (opens 64)
+
+abbrev pub link_past_the_last : Wrong
+link_past_the_last = wrong (record usual { links = 1 }) opened (opens 1)
+
+abbrev pub time_past_the_last : Wrong
+time_past_the_last = wrong usual (turn (2 ^ 62) ∷ poll ∷ []) (turn (2 ^ 62 + 1))
+
+abbrev pub nothing_got : Wrong
+nothing_got = wrong usual marked (gets (in_of 0) 16384 [])
+
+abbrev pub more_than_the_room : Wrong
+more_than_the_room = wrong limited_in marked (gets (in_of 0) 10 (letters 11))

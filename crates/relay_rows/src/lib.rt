@@ -8,7 +8,7 @@ mod wrong;
 
 pub use laws::{one_state_is_reached, what_is_refused_is_illegal, what_is_replayed_is_legal};
 pub use runs::{
-    plain_runs_are_legal, runs_at_edges_are_legal, runs_of_asks_are_legal,
+    plain_runs_are_legal, runs_at_edges_are_legal, runs_of_asks_are_legal, runs_of_marks_are_legal,
     runs_of_reasons_are_legal, runs_with_filters_are_legal, runs_with_hooks_are_legal,
     runs_with_limits_are_legal,
 };

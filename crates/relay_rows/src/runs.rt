@@ -3,11 +3,12 @@ ghost use Rattle.relay_model.specs.Settings.{usual};
 ghost use Rattle.relay_rows.specs.Laws.{Goes, IsStoppedBy, FailsToPoll};
 ghost use Rattle.relay_rows.specs.PlainRows.{bytes_then_end, nothing_may_be_written, byte_by_byte, write_that_fails, request_and_answer, connect_that_fails, drained_at_the_end, time_stands_still, poll_that_fails};
 ghost use Rattle.relay_rows.specs.FilterRows.{held_and_drained, line_end_in_two_reads, held_to_the_end, line_ends_added, line_end_kept, odd_digit, no_digit, held_back, read_mark_reached, crlf_out, five_at_once, held_at_four, hex_in, lf_in};
-ghost use Rattle.relay_rows.specs.HookRows.{held_byte_dropped, frees_another_link, frees_the_peer_twice, read_timeout, timer_fires, hook_stops, hook_and_lf_in, hook_in, three_hooks, timeout_in};
-ghost use Rattle.relay_rows.specs.EdgeRows.{rest_given_after_a_free, both_end_at_once, ended_before_it_connects, nothing_was_ready, bad_byte_behind_the_mark, connects_too_late, failed_and_expired, hex_out_held_at_one, read_timeout_out, write_timeout_out};
-ghost use Rattle.relay_rows.specs.ReasonRows.{reasons_in_order, first_due_first_fired, asks_behind_a_stop, forgotten_with_the_side, timer_replaced_and_cancelled, timeout_asked_for, group_joined_and_left, limit_changed, hook_and_group, hook_and_limit, hook_out, two_links};
-ghost use Rattle.relay_rows.specs.AskRows.{end_and_fault_told, connected_and_written, two_timeouts_joined, low_mark_reached, writing_disabled_for_a_turn, asks_refused, triggered, limit_asked_for, hook_and_low_mark_in, hook_and_timeouts_out, two_hooks};
-ghost use Rattle.relay_rows.specs.RateRows.{suspended_for_two_ticks, small_group, read_in_ticks, shared_by_three, limited_in, one_group};
+ghost use Rattle.relay_rows.specs.HookRows.{reading_is_activity, held_byte_dropped, frees_another_link, frees_the_peer_twice, read_timeout, timer_fires, hook_stops, hook_and_lf_in, hook_in, three_hooks, timeout_in};
+ghost use Rattle.relay_rows.specs.EdgeRows.{read_filter_stops_at_the_mark, hex_in_marked_at_six, bad_byte_while_held, hex_out_held_at_four, writing_is_activity, rest_given_after_a_free, both_end_at_once, ended_before_it_connects, nothing_was_ready, bad_byte_behind_the_mark, connects_too_late, failed_and_expired, hex_out_held_at_one, read_timeout_out, write_timeout_out};
+ghost use Rattle.relay_rows.specs.ReasonRows.{suspended_without_members, hook_of_a_member, reasons_in_order, first_due_first_fired, asks_behind_a_stop, forgotten_with_the_side, timer_replaced_and_cancelled, timeout_asked_for, group_joined_and_left, limit_changed, hook_and_group, hook_and_limit, hook_out, two_links};
+ghost use Rattle.relay_rows.specs.AskRows.{no_end_behind_a_free, hook_in_and_hex_out, end_and_fault_told, connected_and_written, two_timeouts_joined, low_mark_reached, writing_disabled_for_a_turn, asks_refused, triggered, limit_asked_for, hook_and_low_mark_in, hook_and_timeouts_out, two_hooks};
+ghost use Rattle.relay_rows.specs.MarkRows.{marks_asked_for, write_low_mark_reached, timers_in_order, enabled_behind_the_end, reading_disabled, hook_and_low_mark_out, hook_at_in, hooks_of_two_links};
+ghost use Rattle.relay_rows.specs.RateRows.{share_lowered_to_the_rate, group_of_ten, written_in_ticks, limited_out, suspended_for_two_ticks, small_group, read_in_ticks, shared_by_three, limited_in, one_group};
 
 /// Runs without filters, marks, limits and hooks.
 ///
@@ -47,6 +48,7 @@ pub fn runs_with_hooks_are_legal()
     ensures frees_another_link { Goes three_hooks frees_another_link }
     ensures frees_the_peer_twice { Goes hook_in frees_the_peer_twice }
     ensures read_timeout { Goes timeout_in read_timeout }
+    ensures reading_is_activity { Goes timeout_in reading_is_activity }
     ensures timer_fires { Goes hook_in timer_fires }
     ensures hook_stops { IsStoppedBy 0 hook_in hook_stops }
 {}
@@ -56,8 +58,10 @@ pub fn runs_with_hooks_are_legal()
 /// Own.
 pub fn runs_with_limits_are_legal()
     ensures read_in_ticks { Goes limited_in read_in_ticks }
+    ensures written_in_ticks { Goes limited_out written_in_ticks }
     ensures shared_by_three { Goes one_group shared_by_three }
     ensures suspended_for_two_ticks { Goes small_group suspended_for_two_ticks }
+    ensures share_lowered_to_the_rate { Goes group_of_ten share_lowered_to_the_rate }
 {}
 
 /// Runs at the edges of the rules, without hooks.
@@ -69,7 +73,10 @@ pub fn runs_at_edges_are_legal()
     ensures ended_before_it_connects { Goes usual ended_before_it_connects }
     ensures nothing_was_ready { Goes usual nothing_was_ready }
     ensures bad_byte_behind_the_mark { Goes hex_out_held_at_one bad_byte_behind_the_mark }
+    ensures bad_byte_while_held { Goes hex_out_held_at_four bad_byte_while_held }
+    ensures read_filter_stops_at_the_mark { Goes hex_in_marked_at_six read_filter_stops_at_the_mark }
     ensures connects_too_late { Goes write_timeout_out connects_too_late }
+    ensures writing_is_activity { Goes write_timeout_out writing_is_activity }
     ensures failed_and_expired { Goes read_timeout_out failed_and_expired }
 {}
 
@@ -85,6 +92,7 @@ pub fn runs_of_asks_are_legal()
     ensures asks_refused { Goes hook_in asks_refused }
     ensures triggered { Goes hook_in triggered }
     ensures limit_asked_for { Goes hook_in limit_asked_for }
+    ensures no_end_behind_a_free { Goes hook_in_and_hex_out no_end_behind_a_free }
 {}
 
 /// Runs of reasons in order, and of timers, timeouts, limits and groups that hooks set.
@@ -98,5 +106,17 @@ pub fn runs_of_reasons_are_legal()
     ensures timer_replaced_and_cancelled { Goes hook_in timer_replaced_and_cancelled }
     ensures timeout_asked_for { Goes hook_in timeout_asked_for }
     ensures group_joined_and_left { Goes hook_and_group group_joined_and_left }
+    ensures suspended_without_members { Goes hook_of_a_member suspended_without_members }
     ensures limit_changed { Goes hook_and_limit limit_changed }
+{}
+
+/// Runs of marks, of timers that pass together, and of what hooks enable and disable.
+///
+/// Own.
+pub fn runs_of_marks_are_legal()
+    ensures marks_asked_for { Goes hook_at_in marks_asked_for }
+    ensures write_low_mark_reached { Goes hook_and_low_mark_out write_low_mark_reached }
+    ensures timers_in_order { Goes hooks_of_two_links timers_in_order }
+    ensures enabled_behind_the_end { Goes hook_at_in enabled_behind_the_end }
+    ensures reading_disabled { Goes hook_at_in reading_disabled }
 {}

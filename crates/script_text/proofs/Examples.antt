@@ -5,7 +5,7 @@ use Rattle.ev_types.specs.declared.side.Side.TheVariants.{In, Out}
 use Rattle.ev_types.specs.declared.side.SideId.{SideId}
 use Rattle.script_text.specs.declared.script.TurnLine.TheVariants.{NewLink, Pending, Eof, Take}
 use Rattle.script_text.specs.Pieces.{lines, words}
-use Rattle.script_text.specs.Numbers.{number_within, bytes_of}
+use Rattle.script_text.specs.Numbers.{number_within}
 use Rattle.script_text.specs.Spelled.{script_of}
 
 -- lines, each with its LF

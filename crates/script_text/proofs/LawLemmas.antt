@@ -1,18 +1,18 @@
 -- Lines, words, numbers and bad lines, as the laws say them.
-use Rattle.std.proofs.Common.{◌≡◌, ◌≢◌, ◌<◌, ◌≤◌, ◌+◌, ◌-◌, ◌*◌, ◌^◌, ◌↔◌, ℕ, zero, suc, Bool, true, false, cond, ◌&&◌, eqb, leb, List, [], ◌∷◌, ◌++◌, length, take, get_or, refl, ap, sym, ◌∙◌, subst, arith, inl, inr, Option, Some, None, Result, Ok, Err, rules, tests, leb-true, le-leb, add-one, append_assoc, append-nil}
+use Rattle.std.proofs.Common.{◌≡◌, ◌<◌, ◌≤◌, ◌+◌, ◌-◌, ◌^◌, ℕ, zero, suc, true, false, cond, ◌&&◌, leb, List, [], ◌∷◌, ◌++◌, length, take, get_or, refl, ap, sym, ◌∙◌, arith, inl, inr, Option, Some, None, Ok, Err, rules, leb-true, le-leb, append_assoc}
 use Rattle.std.specs.Fmt.{decimal}
 use Rattle.std.specs.Str.{all_ascii_digits}
 use Rattle.std.proofs.lemmas.Bool.{and_parts, false≢true}
 use Rattle.std.proofs.lemmas.Bool.Decides.{eqb_tells}
 use Rattle.std.proofs.lemmas.Str.Parse.{IsNumeralModel, numerals_by_fold, tells_all_ascii_digits}
 use Rattle.std.proofs.lemmas.Fmt.{digits_decimal, digits_value-decimal, decimal-digits_value, decimal_digit, decimal_nonempty, first_decimal}
-use Rattle.script_text.specs.Pieces.{pieces, begun, is_filled, lines, words}
+use Rattle.script_text.specs.Pieces.{pieces, begun, lines, words}
 use Rattle.script_text.specs.Numbers.{value_of, is_numeral, number_within}
 use Rattle.script_text.specs.Lines.{phrase}
 use Rattle.script_text.specs.Script.{ScriptValue}
 use Rattle.script_text.specs.Spelled.{line_read, lines_read, going_on, script_of, no_line}
 use Rattle.script_text.specs.Laws.{Lacks, AllLack, AreWords, with_ends, IsFirstBad}
-use Rattle.script_text.proofs.NumberLemmas.{value_from, is_numeral-plain, is_numeral-zero}
+use Rattle.script_text.proofs.NumberLemmas.{value_from, is_numeral-plain}
 
 -- bytes up to a stop are the first piece
 pub pieces-stopped : (stop : ℕ) (xs rest : List ℕ) → Lacks stop xs → pieces stop (xs ++ stop ∷ rest) ≡ xs ∷ pieces stop rest

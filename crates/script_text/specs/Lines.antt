@@ -36,10 +36,6 @@ abbrev pub dir_word : Dir → List ℕ
 dir_word dir.Read = codes "read"
 dir_word dir.Write = codes "write"
 
--- the two words that name an end
-abbrev pub end_words : SideId → List (List ℕ)
-end_words end = decimal end.link ∷ side_word end.side ∷ []
-
 -- which directions are marked; no entry of a run has neither
 abbrev pub marks_word : Bool → Bool → List ℕ
 marks_word true true = codes "rw"

@@ -45,7 +45,8 @@ pub fn act_text(alloc: Global, act: Act) -> Result<String, AllocError>
 }
 
 fn plain(alloc: Global, word: &str, end: SideId) -> Result<String, AllocError>
-    ensures { IfOk result (λ t. string_bytes t ≡ phrase (word.now ∷ decimal end.link ∷ side_word end.side ∷ [])) }
+    ensures { IfOk result (λ t. string_bytes t
+        ≡ phrase (word.now ∷ decimal end.link ∷ side_word end.side ∷ [])) }
 {
     let link = end.link;
     let side = side_text(end.side);
@@ -53,7 +54,8 @@ fn plain(alloc: Global, word: &str, end: SideId) -> Result<String, AllocError>
 }
 
 fn directed(alloc: Global, word: &str, end: SideId, dir: Dir) -> Result<String, AllocError>
-    ensures { IfOk result (λ t. string_bytes t ≡ phrase (word.now ∷ decimal end.link ∷ side_word end.side ∷ dir_word dir ∷ [])) }
+    ensures { IfOk result (λ t. string_bytes t
+        ≡ phrase (word.now ∷ decimal end.link ∷ side_word end.side ∷ dir_word dir ∷ [])) }
 {
     let link = end.link;
     let side = side_text(end.side);
@@ -62,7 +64,8 @@ fn directed(alloc: Global, word: &str, end: SideId, dir: Dir) -> Result<String, 
 }
 
 fn numbered(alloc: Global, word: &str, end: SideId, number: u64) -> Result<String, AllocError>
-    ensures { IfOk result (λ t. string_bytes t ≡ phrase (word.now ∷ decimal end.link ∷ side_word end.side ∷ decimal number ∷ [])) }
+    ensures { IfOk result (λ t. string_bytes t
+        ≡ phrase (word.now ∷ decimal end.link ∷ side_word end.side ∷ decimal number ∷ [])) }
 {
     let link = end.link;
     let side = side_text(end.side);

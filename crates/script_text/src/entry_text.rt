@@ -50,7 +50,8 @@ pub fn entry_text(alloc: Global, entry: Entry, beside: &[u8]) -> Result<String, 
 }
 
 fn bare(alloc: Global, word: &str, side: SideId) -> Result<String, AllocError>
-    ensures { IfOk result (λ t. string_bytes t ≡ line_of (word.now ∷ decimal side.link ∷ side_word side.side ∷ [])) }
+    ensures { IfOk result (λ t. string_bytes t
+        ≡ line_of (word.now ∷ decimal side.link ∷ side_word side.side ∷ [])) }
 {
     let link = side.link;
     let end = side_text(side.side);
@@ -58,7 +59,8 @@ fn bare(alloc: Global, word: &str, side: SideId) -> Result<String, AllocError>
 }
 
 fn named(alloc: Global, word: &str, side: SideId, name: &str) -> Result<String, AllocError>
-    ensures { IfOk result (λ t. string_bytes t ≡ line_of (word.now ∷ decimal side.link ∷ side_word side.side ∷ name.now ∷ [])) }
+    ensures { IfOk result (λ t. string_bytes t
+        ≡ line_of (word.now ∷ decimal side.link ∷ side_word side.side ∷ name.now ∷ [])) }
 {
     let link = side.link;
     let end = side_text(side.side);
@@ -72,7 +74,9 @@ fn answered(
     number: u64,
     answer: &str,
 ) -> Result<String, AllocError>
-    ensures { IfOk result (λ t. string_bytes t ≡ line_of (word.now ∷ decimal side.link ∷ side_word side.side ∷ decimal number ∷ answer.now ∷ [])) }
+    ensures { IfOk result (λ t. string_bytes t
+        ≡ line_of (word.now ∷ decimal side.link ∷ side_word side.side ∷ decimal number
+        ∷ answer.now ∷ [])) }
 {
     let link = side.link;
     let end = side_text(side.side);
@@ -87,7 +91,9 @@ fn moved_line(
     answer: &str,
     bytes: &[u8],
 ) -> Result<String, AllocError>
-    ensures { IfOk result (λ t. string_bytes t ≡ line_of (word.now ∷ decimal side.link ∷ side_word side.side ∷ decimal number ∷ answer.now ∷ encode_lower bytes.now ∷ [])) }
+    ensures { IfOk result (λ t. string_bytes t
+        ≡ line_of (word.now ∷ decimal side.link ∷ side_word side.side ∷ decimal number
+        ∷ answer.now ∷ encode_lower bytes.now ∷ [])) }
 {
     let link = side.link;
     let end = side_text(side.side);
@@ -102,7 +108,8 @@ fn read_line(
     answer: ReadAnswer,
     beside: &[u8],
 ) -> Result<String, AllocError>
-    ensures { IfOk result (λ t. string_bytes t ≡ line_of (entry_words (Entry.Read side room answer) beside.now)) }
+    ensures { IfOk result (λ t. string_bytes t
+        ≡ line_of (entry_words (Entry.Read side room answer) beside.now)) }
 {
     match answer {
         ReadAnswer::Got(_) => moved_line(alloc, "read", side, room, "got", beside),
@@ -119,7 +126,8 @@ fn write_line(
     answer: WriteAnswer,
     beside: &[u8],
 ) -> Result<String, AllocError>
-    ensures { IfOk result (λ t. string_bytes t ≡ line_of (entry_words (Entry.Write side offered answer) beside.now)) }
+    ensures { IfOk result (λ t. string_bytes t
+        ≡ line_of (entry_words (Entry.Write side offered answer) beside.now)) }
 {
     match answer {
         WriteAnswer::Took(_) => moved_line(alloc, "write", side, offered, "took", beside),
@@ -142,7 +150,8 @@ fn asked_line(
     act: Act,
     answer: AskAnswer,
 ) -> Result<String, AllocError>
-    ensures { IfOk result (λ t. string_bytes t ≡ line_of (entry_words (Entry.Asked side act answer) [])) }
+    ensures { IfOk result (λ t. string_bytes t
+        ≡ line_of (entry_words (Entry.Asked side act answer) [])) }
 {
     let link = side.link;
     let end = side_text(side.side);
@@ -158,7 +167,8 @@ fn freed_line(
     moved: u64,
     given: u64,
 ) -> Result<String, AllocError>
-    ensures { IfOk result (λ t. string_bytes t ≡ line_of (entry_words (Entry.Freed side cause moved given) [])) }
+    ensures { IfOk result (λ t. string_bytes t
+        ≡ line_of (entry_words (Entry.Freed side cause moved given) [])) }
 {
     let link = side.link;
     let end = side_text(side.side);

@@ -114,7 +114,8 @@ fn pending_line(
     side: &[u8],
     digits: &[u8],
 ) -> Result<Option<Line>, NoMemory>
-    ensures { IfOk result (λ line. line ≡ said_by Keyword.Pending (link.now ∷ side.now ∷ digits.now ∷ [])) }
+    ensures { IfOk result (λ line. line
+        ≡ said_by Keyword.Pending (link.now ∷ side.now ∷ digits.now ∷ [])) }
 {
     let Some(end) = read_end(link, side) else {
         return Ok(None);

@@ -56,7 +56,8 @@ impl Reading {
 
     /// Takes the text of one line in, and tells whether the line is in the grammar there.
     pub fn read_line(&mut self, alloc: Global, text: &[u8]) -> Result<bool, NoMemory>
-        ensures { IfOk result (λ fits. (if fits then Some self.new else None) ≡ line_read self.old text.now) }
+        ensures { IfOk result (λ fits. (if fits then Some self.new else None)
+            ≡ line_read self.old text.now) }
     {
         if !is_plain_text(text) {
             return Ok(false);
@@ -70,7 +71,8 @@ impl Reading {
 
     /// Takes a line in where it may stand, and tells whether it may.
     fn extend(&mut self, alloc: Global, line: Line) -> Result<bool, NoMemory>
-        ensures { IfOk result (λ fits. (if fits then Some self.new else None) ≡ extended self.old line) }
+        ensures { IfOk result (λ fits. (if fits then Some self.new else None)
+            ≡ extended self.old line) }
     {
         match line {
             Line::At(ms) => self.begin_turn(alloc, ms),
@@ -92,7 +94,8 @@ impl Reading {
     }
 
     fn begin_turn(&mut self, alloc: Global, ms: u64) -> Result<bool, NoMemory>
-        ensures { IfOk result (λ fits. (if fits then Some self.new else None) ≡ extended self.old (Line.At ms)) }
+        ensures { IfOk result (λ fits. (if fits then Some self.new else None)
+            ≡ extended self.old (Line.At ms)) }
     {
         if self.turns.len() >= MAX_TURNS {
             return Ok(false);
@@ -141,7 +144,7 @@ impl Reading {
         !end.ended && end.bytes.saturating_add(count) <= MAX_PENDING
     }
 
-    /// Puts a line that may stand there at the end of the last turn. After a refusal all is as it was.
+    /// Puts a line that may stand there at the end of the last turn.
     fn put(&mut self, line: TurnLine) -> Result<(), NoMemory>
         requires begun { 0 < length self.old.turns }
         requires follows { may_follow (turn_lines self.old.turns) line ≡ true }

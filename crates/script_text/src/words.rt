@@ -26,7 +26,8 @@ fn place_of(text: &[u8], stop: u8) -> Option<usize>
 
 /// The bytes before the first `stop`, and what is behind it.
 pub fn first_piece(text: &[u8], stop: u8) -> (&[u8], &[u8])
-    ensures pieces { 0 < length text.now → pieces stop text.now ≡ result.0.now ∷ pieces stop result.1.now }
+    ensures pieces { 0 < length text.now
+        → pieces stop text.now ≡ result.0.now ∷ pieces stop result.1.now }
     ensures shorter { 0 < length text.now → length result.1.now < length text.now }
 {
     match place_of(text, stop) {

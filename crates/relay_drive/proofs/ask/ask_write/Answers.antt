@@ -1,14 +1,12 @@
-use Rattle.std.proofs.Common.{◌≡◌, [], ◌∷◌, Bool, true, false, length, refl, sym, ap, ◌∙◌, subst}
+use Rattle.std.proofs.Common.{◌≡◌, [], ◌∷◌, true, false, length, refl, sym, ap, ◌∙◌, subst}
 use Rattle.std.proofs.lemmas.Result.{err_from_is_err_and}
 use Rattle.ev_types.specs.Trace.{Trace}
 use Rattle.ev_types.specs.declared.entry.Entry.TheVariants as entry
-use Rattle.ev_types.specs.declared.answer.WriteAnswer.{WriteAnswer}
-use Rattle.ev_port.specs.Ends.{WriteWithin, write_events, took_bytes}
+use Rattle.ev_port.specs.Ends.{write_events, took_bytes}
 use Rattle.relay_core.specs.Rooms.{offer}
-use Rattle.relay_core.specs.State.{State}
 use Rattle.relay_drive.specs.Goes.{Heard}
-use Rattle.relay_drive.specs.Calls.{after_write, is_memory}
-use Rattle.relay_drive.proofs.GoesLemmas.{Grew-none, Grew-join, goes_nowhere, goes_silent}
+use Rattle.relay_drive.specs.Calls.{is_memory}
+use Rattle.relay_drive.proofs.GoesLemmas.{Grew-join, goes_nowhere, goes_silent}
 use Rattle.relay_drive.proofs.HeardLemmas.{Heard-write, goes_once, write_time, no_write, some_write, memory_is}
 use Rattle.relay_drive.proofs.ask.ask_write.Goals as goal
 

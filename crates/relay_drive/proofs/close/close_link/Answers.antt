@@ -1,11 +1,10 @@
-use Rattle.std.proofs.Common.{◌≡◌, ℕ, ◌<◌, List, length, get_or, sym, ◌∙◌, ap, subst}
+use Rattle.std.proofs.Common.{◌<◌, List, length, get_or, sym, ◌∙◌, ap, subst}
 use Rattle.std.proofs.lemmas.Result.{err_from_is_err_and}
 use Rattle.relay_core.specs.declared.close.Closing.{Closing}
 use Rattle.relay_core.specs.declared.close.Closing.TheVariants.{BothDone}
 use Rattle.relay_core.specs.Closing.{link_of, closing_of}
 use Rattle.relay_drive.specs.Steps.{Nothing}
 use Rattle.relay_drive.specs.Phases.{LooksAt}
-use Rattle.relay_drive.specs.Goes.{Goes}
 use Rattle.relay_drive.proofs.ClosingLemmas.{closing_link}
 use Rattle.relay_drive.proofs.EachLemmas.{goes_next, goes_cut}
 use Rattle.relay_drive.proofs.close.close_link.Goals as goal

@@ -1,4 +1,4 @@
-use Rattle.std.proofs.Common.{[], ◌∷◌, ◌+◌, ◌-◌, ◌<◌, refl, sym, ◌∙◌, subst}
+use Rattle.std.proofs.Common.{[], ◌+◌, ◌-◌, ◌<◌, refl, sym, ◌∙◌, subst}
 use Rattle.std.proofs.lemmas.Result.{err_from_is_err_and}
 use Rattle.relay_drive.specs.Steps.{Each}
 use Rattle.relay_drive.specs.Phases.{PassesLink, links_from}
@@ -25,5 +25,6 @@ loop-link-preserved c =
     record {
       went = subst (λ z. Each PassesLink z c.args.relay.now.state [] c.pass_link.new.relay.state) (sym (links_from-push k))
           (each_push PassesLink (links_from 0 k) k (record { middle = c.loop-link.relay.state; front = []; back = []; first = c.loop-link.invariant.went; second = c.in_ok-pass_link.ensures.went; joined = refl }));
+      time = c.in_ok-pass_link.ensures.time ∙ c.loop-link.invariant.time;
       kept = c.in_ok-pass_link.ensures.kept ∙ c.loop-link.invariant.kept;
     }

@@ -6,5 +6,6 @@ use Rattle.relay_drive.proofs.pass.pass.Given as goal
 abbrev pub invariant-loop-link : goal.invariant-loop-link
 invariant-loop-link l = record {
   went : Each PassesLink (links_from 0 l.link) l.fn.relay.state [] l.relay.state;
+  time : l.relay.state.time ≡ l.fn.relay.state.time;
   kept : l.relay.state.opened ≡ l.fn.relay.state.opened;
 }

@@ -1,4 +1,4 @@
-use Rattle.std.proofs.Common.{◌≡◌, ◌∙◌, refl}
+use Rattle.std.proofs.Common.{◌∙◌}
 use Rattle.std.proofs.lemmas.Result.{err_from_is_err_and}
 use Rattle.relay_drive.specs.Phases.{ServesSide, CutServing}
 use Rattle.relay_drive.proofs.EachLemmas.{goes_next, goes_cut}

@@ -1,6 +1,6 @@
-use Rattle.std.proofs.Common.{◌≡◌, Bool, true, false, refl, sym, ◌∙◌, ap, subst, inl, inr}
+use Rattle.std.proofs.Common.{◌≡◌, false, sym, ◌∙◌, subst, inr}
 use Rattle.std.specs.Prelude.{MatchBool}
-use Rattle.std.proofs.lemmas.Result.{err_from_is_err_and, MatchResult-weaker}
+use Rattle.std.proofs.lemmas.Result.{MatchResult-weaker}
 use Rattle.relay_drive.specs.Steps.{Then}
 use Rattle.relay_drive.specs.Phases.{ReadsSide, WritesSide, ConnectsSide, is_connecting}
 use Rattle.relay_drive.proofs.GoesLemmas.{goes_as, goes_then}

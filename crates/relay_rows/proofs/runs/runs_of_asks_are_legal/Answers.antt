@@ -1,4 +1,4 @@
-use Rattle.relay_rows.proofs.AskRowsReplayed.{end_and_fault_told-goes, connected_and_written-goes, two_timeouts_joined-goes, low_mark_reached-goes, writing_disabled_for_a_turn-goes, asks_refused-goes, triggered-goes, limit_asked_for-goes}
+use Rattle.relay_rows.proofs.AskRowsReplayed.{no_end_behind_a_free-goes, end_and_fault_told-goes, connected_and_written-goes, two_timeouts_joined-goes, low_mark_reached-goes, writing_disabled_for_a_turn-goes, asks_refused-goes, triggered-goes, limit_asked_for-goes}
 use Rattle.relay_rows.proofs.runs.runs_of_asks_are_legal.Goals as goal
 
 pub returns-clause-end_and_fault_told : goal.returns-clause-end_and_fault_told
@@ -24,3 +24,6 @@ returns-clause-triggered c = triggered-goes
 
 pub returns-clause-limit_asked_for : goal.returns-clause-limit_asked_for
 returns-clause-limit_asked_for c = limit_asked_for-goes
+
+pub returns-clause-no_end_behind_a_free : goal.returns-clause-no_end_behind_a_free
+returns-clause-no_end_behind_a_free c = no_end_behind_a_free-goes

@@ -1,4 +1,4 @@
-use Rattle.relay_rows.proofs.ReasonRowsReplayed.{reasons_in_order-goes, first_due_first_fired-goes, asks_behind_a_stop-is_stopped, forgotten_with_the_side-goes, timer_replaced_and_cancelled-goes, timeout_asked_for-goes, group_joined_and_left-goes, limit_changed-goes}
+use Rattle.relay_rows.proofs.ReasonRowsReplayed.{suspended_without_members-goes, reasons_in_order-goes, first_due_first_fired-goes, asks_behind_a_stop-is_stopped, forgotten_with_the_side-goes, timer_replaced_and_cancelled-goes, timeout_asked_for-goes, group_joined_and_left-goes, limit_changed-goes}
 use Rattle.relay_rows.proofs.runs.runs_of_reasons_are_legal.Goals as goal
 
 pub returns-clause-reasons_in_order : goal.returns-clause-reasons_in_order
@@ -24,3 +24,6 @@ returns-clause-group_joined_and_left c = group_joined_and_left-goes
 
 pub returns-clause-limit_changed : goal.returns-clause-limit_changed
 returns-clause-limit_changed c = limit_changed-goes
+
+pub returns-clause-suspended_without_members : goal.returns-clause-suspended_without_members
+returns-clause-suspended_without_members c = suspended_without_members-goes

@@ -1,4 +1,4 @@
-use Rattle.relay_rows.proofs.HookRowsReplayed.{held_byte_dropped-goes, frees_another_link-goes, frees_the_peer_twice-goes, read_timeout-goes, timer_fires-goes, hook_stops-is_stopped}
+use Rattle.relay_rows.proofs.HookRowsReplayed.{reading_is_activity-goes, held_byte_dropped-goes, frees_another_link-goes, frees_the_peer_twice-goes, read_timeout-goes, timer_fires-goes, hook_stops-is_stopped}
 use Rattle.relay_rows.proofs.runs.runs_with_hooks_are_legal.Goals as goal
 
 pub returns-clause-held_byte_dropped : goal.returns-clause-held_byte_dropped
@@ -18,3 +18,6 @@ returns-clause-timer_fires c = timer_fires-goes
 
 pub returns-clause-hook_stops : goal.returns-clause-hook_stops
 returns-clause-hook_stops c = hook_stops-is_stopped
+
+pub returns-clause-reading_is_activity : goal.returns-clause-reading_is_activity
+returns-clause-reading_is_activity c = reading_is_activity-goes

@@ -1,4 +1,4 @@
-use Rattle.relay_rows.proofs.WrongEdgesRefused.{ended_side_wanted-is_wrong, written_as_it_connects-is_wrong, writing_ended_while_connecting-is_wrong, held_byte_forgotten-is_wrong, held_byte_given-is_wrong, bad_byte_met_without_room-is_wrong, filled_above_half-is_wrong, wanted_at_the_read_mark-is_wrong, wanted_with_an_empty_bucket-is_wrong, read_while_suspended-is_wrong, fired_below_the_low_mark-is_wrong, timeouts_told_apart-is_wrong, fired_in_the_turn_of_its_ask-is_wrong}
+use Rattle.relay_rows.proofs.WrongEdgesRefused.{link_past_the_64th-is_wrong, link_past_the_last-is_wrong, time_past_the_last-is_wrong, nothing_got-is_wrong, more_than_the_room-is_wrong, ended_side_wanted-is_wrong, written_as_it_connects-is_wrong, writing_ended_while_connecting-is_wrong, held_byte_forgotten-is_wrong, held_byte_given-is_wrong, bad_byte_met_without_room-is_wrong, filled_above_half-is_wrong, wanted_at_the_read_mark-is_wrong, wanted_with_an_empty_bucket-is_wrong, read_while_suspended-is_wrong, fired_below_the_low_mark-is_wrong, timeouts_told_apart-is_wrong, fired_in_the_turn_of_its_ask-is_wrong}
 use Rattle.relay_rows.proofs.wrong.wrong_edges_are_refused.Goals as goal
 
 pub returns-clause-ended_side_wanted : goal.returns-clause-ended_side_wanted
@@ -39,3 +39,18 @@ returns-clause-timeouts_told_apart c = timeouts_told_apart-is_wrong
 
 pub returns-clause-fired_in_the_turn_of_its_ask : goal.returns-clause-fired_in_the_turn_of_its_ask
 returns-clause-fired_in_the_turn_of_its_ask c = fired_in_the_turn_of_its_ask-is_wrong
+
+pub returns-clause-link_past_the_64th : goal.returns-clause-link_past_the_64th
+returns-clause-link_past_the_64th c = link_past_the_64th-is_wrong
+
+pub returns-clause-link_past_the_last : goal.returns-clause-link_past_the_last
+returns-clause-link_past_the_last c = link_past_the_last-is_wrong
+
+pub returns-clause-time_past_the_last : goal.returns-clause-time_past_the_last
+returns-clause-time_past_the_last c = time_past_the_last-is_wrong
+
+pub returns-clause-nothing_got : goal.returns-clause-nothing_got
+returns-clause-nothing_got c = nothing_got-is_wrong
+
+pub returns-clause-more_than_the_room : goal.returns-clause-more_than_the_room
+returns-clause-more_than_the_room c = more_than_the_room-is_wrong

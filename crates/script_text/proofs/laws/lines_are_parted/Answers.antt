@@ -1,4 +1,4 @@
-use Rattle.std.proofs.Common.{◌∷◌, ◌++◌, [], List, ℕ, ap, ◌∙◌, append-nil, sym}
+use Rattle.std.proofs.Common.{◌++◌, [], List, ℕ, ap, ◌∙◌, append-nil, sym}
 use Rattle.script_text.specs.Pieces.{lines}
 use Rattle.script_text.specs.Laws.{with_ends}
 use Rattle.script_text.proofs.LawLemmas.{lines-with_ends, pieces-only}

@@ -1,4 +1,4 @@
-use Rattle.std.proofs.Common.{◌≡◌, ◌≤◌, Result, Ok, Err, OnOk, subst, sym}
+use Rattle.std.proofs.Common.{◌≤◌, OnOk, subst, sym}
 use Rattle.relay_core.proofs.RelayLemmas.{unchanged, spare_put}
 use Rattle.relay_core.proofs.relay.Relay.reserve_read.Goals as goal
 

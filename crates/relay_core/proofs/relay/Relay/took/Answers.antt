@@ -1,4 +1,4 @@
-use Rattle.std.proofs.Common.{◌∙◌, ◌<◌, ◌≤◌, length, subst, sym, ap}
+use Rattle.std.proofs.Common.{◌∙◌, ◌≤◌, length, subst, ap}
 use Rattle.ev_types.specs.Sides.{number, peer}
 use Rattle.relay_core.specs.State.{SideValue}
 use Rattle.relay_core.specs.Serving.{took_lane}

@@ -1,4 +1,4 @@
-use Rattle.std.proofs.Common.{◌≡◌, ℕ, ◌+◌, ◌-◌, ◌^◌, ◌<◌, ◌≤◌, inl, inr, Bool, true, false, nat_le, ◌==◌, if◌then◌else◌, min, List, length, ◌++◌, refl, ap, ◌∙◌, subst, sym, arith, leb-true, eqb-true, length-append}
+use Rattle.std.proofs.Common.{◌≡◌, ℕ, ◌+◌, ◌-◌, ◌^◌, ◌<◌, ◌≤◌, inl, inr, Bool, true, false, nat_le, ◌==◌, if◌then◌else◌, min, length, refl, ap, ◌∙◌, subst, sym, arith, leb-true, eqb-true, length-append}
 use Rattle.relay_core.proofs.side.SideState.got.Goals as goal
 use mathlib.Core.Logic.{◌⊎◌}
 

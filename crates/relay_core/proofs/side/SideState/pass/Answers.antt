@@ -1,8 +1,7 @@
-use Rattle.std.proofs.Common.{◌≡◌, ℕ, suc, ◌<◌, Bool, true, false, inl, inr, sym, ◌∙◌, ap, subst, refl}
-use mathlib.Core.Logic.{◌⊎◌}
+use Rattle.std.proofs.Common.{◌≡◌, suc, ◌<◌, true, false, inl, inr, sym, ◌∙◌, ap, subst, refl}
 use Rattle.relay_core.specs.State.{Lane, SideValue}
 use Rattle.relay_core.specs.SideView.{side_of, lane_of, flow_of}
-use Rattle.relay_core.specs.Passing.{round, rounds, Passed}
+use Rattle.relay_core.specs.Passing.{round, rounds}
 use Rattle.relay_core.specs.declared.side.SideState.{SideState}
 use Rattle.relay_core.specs.declared.side.Progress.{Progress}
 use Rattle.relay_core.proofs.RoundLemmas.{weight, round_falls, rounds-suc}

@@ -1,0 +1,337 @@
+-- Each step of a turn, and the turn: by how much it raises the bound of the counts, and how many entries it puts.
+use Rattle.std.proofs.Common.{◌≡◌, ◌⊎◌, inl, inr, ℕ, zero, suc, ◌+◌, ◌-◌, ◌*◌, ◌<◌, ◌≤◌, Bool, true, false, ◌&&◌, nat_lt, min, if◌then◌else◌, List, [], ◌∷◌, ◌++◌, length, take, refl, sym, ◌∙◌, ap, subst, arith, length-append, length-take-le}
+use Rattle.std.specs.Prelude.{MatchBool, None}
+use Rattle.std.proofs.lemmas.List.{length-take}
+use Rattle.ev_types.specs.declared.side.SideId.{SideId}
+use Rattle.ev_types.specs.declared.answer.ConnAnswer.{ConnAnswer}
+use Rattle.ev_types.specs.declared.answer.ConnAnswer.TheVariants as conn
+use Rattle.ev_types.specs.declared.answer.ReadAnswer.{ReadAnswer}
+use Rattle.ev_types.specs.declared.answer.ReadAnswer.TheVariants as read
+use Rattle.ev_types.specs.declared.answer.WriteAnswer.{WriteAnswer}
+use Rattle.ev_types.specs.declared.answer.WriteAnswer.TheVariants as write
+use Rattle.ev_types.specs.declared.entry.Entry.TheVariants as entry
+use Rattle.ev_types.specs.Sides.{number, peer}
+use Rattle.ev_types.specs.Trace.{Event, Trace}
+use Rattle.ev_port.specs.declared.port.Polled.TheVariants as polled
+use Rattle.ev_port.specs.declared.port.Want.{Want}
+use Rattle.ev_port.specs.Ends.{ReadWithin, WriteWithin, got_bytes, read_events, write_events}
+use Rattle.ev_port.specs.Polling.{want_events, ready_events, poll_events}
+use Rattle.relay_core.specs.declared.settings.Settings.{Settings}
+use Rattle.relay_core.specs.declared.close.Closing.{Closing}
+use Rattle.relay_core.specs.declared.close.Closing.TheVariants as closing
+use Rattle.relay_core.specs.State.{State, Lane, side_at, flags_at, lane_at}
+use Rattle.relay_core.specs.Passing.{read_mark, round_from}
+use Rattle.relay_core.specs.Rooms.{read_room, may_read, input_length, wants_read, write_room, waiting_for, offer}
+use Rattle.relay_core.specs.Serving.{took_lane}
+use Rattle.relay_core.specs.Closing.{in_side, out_side, closing_of, freed, after_closing, is_called_for}
+use Rattle.relay_drive.specs.Steps.{Nothing, Then, Each}
+use Rattle.relay_drive.specs.Calls.{Ticks, Opens, Asks, Reads, Writes, after_conn, after_read, after_write}
+use Rattle.relay_drive.specs.Phases.{links_from, want_of, wants_some, wants_of, wants_of_link, wants_of_links, wanted, Polls, OpensOne, OpensSome, Accepts, AcceptsWhere, PollsAndAccepts, ReadsWithRoom, ReadsSide, WritesSide, ConnectsSide, is_connecting, ServesSide, PassesSide, PassesLink, ForAllLinks, closing_events, Closes, LooksAt, ClosesLink, Turns}
+use Rattle.relay_drive.specs.Bounds.{IsOrdered, SideIsWithin, StateIsWithin, most_of_turn}
+use Rattle.relay_drive.proofs.BoundLemmas.{within-more, within-flags, within-lane, within-freed, within-opened, within-side, side-got, ordered-took, ordered-round, ordered-rounds}
+
+-- what a step does: the bound rises by at most k, at most k entries are put, and the settings stay
+pub record Raises (links n k : ℕ) (s : State) (a : Trace) (new : State) : Type 0 where
+  pub within : StateIsWithin (n + k) links new
+  pub entries : length a ≤ k
+  pub settings : new.settings ≡ s.settings
+
+by_bool : {X Y Z : Type 0} (b : Bool) → (X → Z) → (Y → Z) → MatchBool b X Y → Z
+by_bool true f g h = f h
+by_bool false f g h = g h
+
+-- the most for all of a list, where there is a most for one
+abbrev total : {X : Type 0} → ℕ → List X → ℕ
+total k [] = 0
+total k (x ∷ xs) = k + total k xs
+
+total-is : {X : Type 0} (xs : List X) → (total 0 xs ≡ 0) × (total 16385 xs ≡ 16385 * length xs) × (total 18 xs ≡ 18 * length xs)
+total-is [] = (refl, refl, refl)
+total-is (x ∷ xs) = let h = total-is xs in (omega (arith, h.0), omega (arith, h.1), omega (arith, h.2))
+
+links_from-length : (k n : ℕ) → length (links_from k n) ≡ n
+links_from-length k zero = refl
+links_from-length k (suc n) = let h = links_from-length (k + 1) n in omega (arith, h)
+
+module _ (links : ℕ) where
+  -- Steps in a row
+
+  more : (n k l : ℕ) (s new : State) (a : Trace) → k ≤ l → Raises links n k s a new → Raises links n l s a new
+  more n k l s new a h r = record { within = within-more links (n + k) (n + l) new (omega (arith, h)) r.within; entries = omega (arith, h, r.entries); settings = r.settings }
+
+  nothing : (n : ℕ) (s new : State) (a : Trace) → StateIsWithin n links s → Nothing s a new → Raises links n 0 s a new
+  nothing n s new a k h = record {
+    within = within-more links n (n + 0) new (omega arith) (subst (StateIsWithin n links) (sym h.1) k);
+    entries = let e = ap length h.0 in omega (arith, e);
+    settings = ap (λ (z : State). z.settings) h.1;
+  }
+
+  next : (n k l : ℕ) (s m new : State) (a b c : Trace) → Raises links n k s a m → Raises links (n + k) l m b new → c ≡ a ++ b → Raises links n (k + l) s c new
+  next n k l s m new a b c f g e = record {
+    within = within-more links ((n + k) + l) (n + (k + l)) new (omega arith) g.within;
+    entries = let p = ap length e ∙ length-append a b in omega (arith, p, f.entries, g.entries);
+    settings = g.settings ∙ f.settings;
+  }
+
+  -- what raises the bound by at most k, from whatever bound
+  abbrev IsRaising : ℕ → (State → Trace → State → Type 0) → Type 0
+  IsRaising k R = (n : ℕ) (s new : State) (a : Trace) → StateIsWithin n links s → R s a new → Raises links n k s a new
+
+  both : {R S : State → Trace → State → Type 0} (k l : ℕ) → IsRaising k R → IsRaising l S → IsRaising (k + l) (Then R S)
+  both k l f g n s new a w h =
+      let first = f n s h.middle h.front w h.first in
+      next n k l s h.middle new h.front h.back a first (g (n + k) h.middle new h.back first.within h.second) h.joined
+
+  each : {X : Type 0} (R : X → State → Trace → State → Type 0) (k : ℕ) → ((x : X) → IsRaising k (R x)) → (xs : List X) → IsRaising (total k xs) (Each R xs)
+  each R k f [] = nothing
+  each R k f (x ∷ xs) = both k (total k xs) (f x) (each R k f xs)
+
+  -- Clock and poll
+
+  ticks : (reading : ℕ) → IsRaising 1 (Ticks reading)
+  ticks reading n s new a w h = record {
+    within = subst (StateIsWithin (n + 1) links) (sym h.state) (let v = within-more links n (n + 1) s (omega arith) w in record { allowed = v.allowed; opened = v.opened; sides = v.sides });
+    entries = let e = ap length h.entries in omega (arith, e);
+    settings = ap (λ (z : State). z.settings) h.state;
+  }
+
+  wants-most : (s : State) (e : SideId) → length (wants_of s e) ≤ 1
+  wants-most s e = go (wants_some (want_of s e))
+    where
+      go : (b : Bool) → length (if b then want_of s e ∷ [] else []) ≤ 1
+      go true = omega arith
+      go false = omega arith
+
+  wanted-most : (s : State) (ks : List ℕ) → length (wants_of_links s ks) ≤ 2 * length ks
+  wanted-most s [] = omega arith
+  wanted-most s (k ∷ ks) =
+      let a = length-append (wants_of_link s k) (wants_of_links s ks) in
+      let b = length-append (wants_of s (in_side k)) (wants_of s (out_side k)) in
+      let c = wants-most s (in_side k) in
+      let d = wants-most s (out_side k) in
+      let h = wanted-most s ks in
+      omega (arith, a, b, c, d, h)
+
+  marked-most : (n : ℕ) (s : State) (marked : List Want) → StateIsWithin n links s → length marked ≡ length (wanted s) → length marked ≤ 2 * links
+  marked-most n s marked w h =
+      let a = wanted-most s (links_from 0 s.opened) in
+      let b = links_from-length 0 s.opened in
+      omega (arith, w.opened, h, a, b)
+
+  want_events-length : (ws : List Want) → length (want_events ws) ≡ length ws
+  want_events-length [] = refl
+  want_events-length (w ∷ ws) = let h = want_events-length ws in omega (arith, h)
+
+  ready_events-most : (ws : List Want) → length (ready_events ws) ≤ length ws
+  ready_events-most [] = omega arith
+  ready_events-most (w ∷ ws) = go (ready_events-most ws) w.can_read w.can_write
+    where
+      go : length (ready_events ws) ≤ length ws → (p q : Bool) → length ((if p then (entry.Ready w.side true w.can_write, []) ∷ [] else (if q then (entry.Ready w.side false true, []) ∷ [] else [])) ++ ready_events ws) ≤ suc (length ws)
+      go h true q = omega (arith, h)
+      go h false true = omega (arith, h)
+      go h false false = omega (arith, h)
+
+  polls : (marked : List Want) (accept : Bool) → IsRaising (1 + 4 * links) (Polls marked accept)
+  polls marked accept n s new a w h = record {
+    within = within-more links n (n + (1 + 4 * links)) new (omega arith) (subst (StateIsWithin n links) (sym h.state) w);
+    entries =
+        let e = ap length h.entries in
+        let p = length-append (want_events marked) (ready_events marked) in
+        let q = want_events-length marked in
+        let r = ready_events-most marked in
+        let m = marked-most n s marked w h.many in
+        omega (arith, e, p, q, r, m);
+    settings = ap (λ (z : State). z.settings) h.state;
+  }
+
+  -- Accepting
+
+  opens : IsRaising 1 OpensOne
+  opens n s new a w h =
+      let o = h.1 in
+      record {
+        within = subst (StateIsWithin (n + 1) links) (sym o.state) (within-more links n (n + 1) _ (omega arith) (within-opened links n s h.0 o.allowed w));
+        entries = let e = ap length o.entries in omega (arith, e);
+        settings = ap (λ (z : State). z.settings) o.state;
+      }
+
+  opens_some : (m : ℕ) → IsRaising m (OpensSome m)
+  opens_some zero n s new a w h = nothing n s new a w h
+  opens_some (suc m) n s new a w h = more n (m + 1) (suc m) s new a (omega arith) (both m 1 (opens_some m) opens n s new a w h)
+
+  accepts : (ready : Bool) → IsRaising 64 (AcceptsWhere ready)
+  accepts true n s new a w h = more n h.0 64 s new a h.1 (opens_some h.0 n s new a w h.2)
+  accepts false n s new a w h = more n 0 64 s new a (omega arith) (nothing n s new a w h)
+
+  -- Serving
+
+  got-most : (answer : ReadAnswer) (into : List ℕ) → ReadWithin answer (length into) → length (got_bytes answer into) ≤ length into
+  got-most (read.Got m) into h = let e = length-take m into in omega (arith, e)
+  got-most read.Ended into h = omega arith
+  got-most read.NotYet into h = omega arith
+  got-most read.Failed into h = omega arith
+
+  room-most : (s : State) (e : SideId) → read_room s e ≤ 16384
+  room-most s e = go (may_read s e)
+    where
+      go : (b : Bool) → (if b then min 16384 (read_mark - input_length s e) else 0) ≤ 16384
+      go true = omega arith
+      go false = omega arith
+
+  after-read : (n : ℕ) (s : State) (e : SideId) (answer : ReadAnswer) (bytes : List ℕ) → length bytes ≤ 16384 → StateIsWithin n links s → StateIsWithin (n + 16384) links (after_read s e answer bytes) × ((after_read s e answer bytes).settings ≡ s.settings)
+  after-read n s e (read.Got m) bytes h w = (within-side links (n + 16384) s e _ (side-got n (side_at s e) bytes h (w.sides (number e))) (within-more links n (n + 16384) s (omega arith) w), refl)
+  after-read n s e read.Ended bytes h w = (within-flags links (n + 16384) s e _ (within-more links n (n + 16384) s (omega arith) w), refl)
+  after-read n s e read.NotYet bytes h w = (within-more links n (n + 16384) s (omega arith) w, refl)
+  after-read n s e read.Failed bytes h w = (within-flags links (n + 16384) s e _ (within-more links n (n + 16384) s (omega arith) w), refl)
+
+  reads : (e : SideId) (marked : Bool) → IsRaising 16384 (ReadsSide e marked)
+  reads e marked n s new a w h = by_bool (marked && wants_read s e) some none h
+    where
+      some : ReadsWithRoom e s a new → Raises links n 16384 s a new
+      some r =
+          let answer = r.0 in
+          let into = r.1 in
+          let c = r.3 in
+          let most : length (got_bytes answer into) ≤ 16384 = (let p = got-most answer into c.within in let q = room-most s e in omega (arith, p, q, r.2)) in
+          let d = after-read n s e answer (got_bytes answer into) most w in
+          record {
+            within = subst (StateIsWithin (n + 16384) links) (sym c.state) d.0;
+            entries = let p = ap length c.entries in omega (arith, p);
+            settings = ap (λ (z : State). z.settings) c.state ∙ d.1;
+          }
+
+      none : Nothing s a new → Raises links n 16384 s a new
+      none r = more n 0 16384 s new a (omega arith) (nothing n s new a w r)
+
+  after-write : (n : ℕ) (s : State) (e : SideId) (answer : WriteAnswer) → WriteWithin answer (length (offer s e)) → StateIsWithin n links s → StateIsWithin n links (after_write s e answer) × ((after_write s e answer).settings ≡ s.settings)
+  after-write n s e (write.Took m) h w =
+      let p = length-take (write_room s e) (waiting_for s e) in
+      (within-lane links n s (peer e) _ (ordered-took (side_at s (peer e)).read m (lane_at s (peer e)) (omega (arith, p, h.1)) (w.sides (number (peer e))).lane) w, refl)
+  after-write n s e write.NotYet h w = (w, refl)
+  after-write n s e write.Failed h w = (within-flags links n s e _ w, refl)
+  after-write n s e write.NoMemory h w = (w, refl)
+
+  write_events-most : (e : SideId) (from : List ℕ) (answer : WriteAnswer) → length (write_events e from answer) ≤ 1
+  write_events-most e from (write.Took m) = omega arith
+  write_events-most e from write.NotYet = omega arith
+  write_events-most e from write.Failed = omega arith
+  write_events-most e from write.NoMemory = omega arith
+
+  writes : (e : SideId) (marked : Bool) → IsRaising 1 (WritesSide e marked)
+  writes e marked n s new a w h = by_bool (marked && nat_lt 0 (write_room s e)) some none h
+    where
+      some : (answer : WriteAnswer) × Writes e answer s a new → Raises links n 1 s a new
+      some r =
+          let c = r.1 in
+          let d = after-write n s e r.0 c.within w in
+          record {
+            within = within-more links n (n + 1) new (omega arith) (subst (StateIsWithin n links) (sym c.state) d.0);
+            entries = let p = ap length c.entries in let q = write_events-most e (offer s e) r.0 in omega (arith, p, q);
+            settings = ap (λ (z : State). z.settings) c.state ∙ d.1;
+          }
+
+      none : Nothing s a new → Raises links n 1 s a new
+      none r = more n 0 1 s new a (omega arith) (nothing n s new a w r)
+
+  after-conn : (n : ℕ) (s : State) (e : SideId) (answer : ConnAnswer) → StateIsWithin n links s → StateIsWithin n links (after_conn s e answer) × ((after_conn s e answer).settings ≡ s.settings)
+  after-conn n s e conn.Connected w = (within-flags links n s e _ w, refl)
+  after-conn n s e conn.Pending w = (w, refl)
+  after-conn n s e conn.Failed w = (within-flags links n s e _ w, refl)
+
+  connects : (e : SideId) (marked : Bool) → IsRaising 1 (ConnectsSide e marked)
+  connects e marked n s new a w h = by_bool marked some none h
+    where
+      some : (answer : ConnAnswer) × Asks e answer s a new → Raises links n 1 s a new
+      some r =
+          let c = r.1 in
+          let d = after-conn n s e r.0 w in
+          record {
+            within = within-more links n (n + 1) new (omega arith) (subst (StateIsWithin n links) (sym c.state) d.0);
+            entries = let p = ap length c.entries in omega (arith, p);
+            settings = ap (λ (z : State). z.settings) c.state ∙ d.1;
+          }
+
+      none : Nothing s a new → Raises links n 1 s a new
+      none r = more n 0 1 s new a (omega arith) (nothing n s new a w r)
+
+  serves : (x : Want) → IsRaising 16385 (ServesSide x)
+  serves x n s new a w h =
+      by_bool (is_connecting s x.side)
+      (λ r. more n 1 16385 s new a (omega arith) (connects x.side x.can_write n s new a w r))
+      (λ r. both 16384 1 (reads x.side x.can_read) (writes x.side x.can_write) n s new a w r)
+      h
+
+  -- Passing and closing
+
+  passes : (e : SideId) → IsRaising 0 (PassesSide e)
+  passes e n s new a w h =
+      let p = h.1 in
+      let r : ℕ = (side_at s e).read in
+      let many = p.1 in
+      let f = round_from s e in
+      let lane = ordered-rounds r many.0 f (lane_at s e) (λ y k. ordered-round r s.settings.hold (flags_at s e).ended (flags_at s e).live (flags_at s (peer e)).live y k) (w.sides (number e)).lane in
+      record {
+        within = subst (StateIsWithin (n + 0) links) (sym p.2) (within-more links n (n + 0) _ (omega arith) (within-lane links n s e p.0 (subst (IsOrdered r) (sym many.1) lane) w));
+        entries = let e = ap length h.0 in omega (arith, e);
+        settings = ap (λ (z : State). z.settings) p.2;
+      }
+
+  passes_link : (k : ℕ) → IsRaising 0 (PassesLink k)
+  passes_link k = each PassesSide 0 passes (in_side k ∷ out_side k ∷ [])
+
+  passes_all : IsRaising 0 (ForAllLinks PassesLink)
+  passes_all n s new a w h =
+      let t = (total-is (links_from 0 s.opened)).0 in
+      more n (total 0 (links_from 0 s.opened)) 0 s new a (omega (arith, t)) (each PassesLink 0 passes_link (links_from 0 s.opened) n s new a w h)
+
+  after-closing : (n : ℕ) (s : State) (step : Closing) → StateIsWithin n links s → StateIsWithin n links (after_closing s step) × ((after_closing s step).settings ≡ s.settings) × (length (closing_events s step) ≤ 2)
+  after-closing n s (closing.Faulty e) w = (within-freed links n s e w, refl, omega arith)
+  after-closing n s (closing.EndWriting e) w = (within-flags links n s e _ w, refl, omega arith)
+  after-closing n s (closing.BothDone k) w = (within-freed links n (freed s (in_side k)) (out_side k) (within-freed links n s (in_side k) w), refl, omega arith)
+  after-closing n s (closing.PeerGone e) w = (within-freed links n s e w, refl, omega arith)
+  after-closing n s (closing.Shut e) w = (within-flags links n s e _ w, refl, omega arith)
+
+  looks : (step : Closing) → IsRaising 2 (LooksAt step)
+  looks step n s new a w h = by_bool (is_called_for s step) some none h
+    where
+      some : Closes step s a new → Raises links n 2 s a new
+      some c =
+          let d = after-closing n s step w in
+          record {
+            within = within-more links n (n + 2) new (omega arith) (subst (StateIsWithin n links) (sym c.state) d.0);
+            entries = let p = ap length c.entries in omega (arith, p, d.2);
+            settings = ap (λ (z : State). z.settings) c.state ∙ d.1;
+          }
+
+      none : Nothing s a new → Raises links n 2 s a new
+      none r = more n 0 2 s new a (omega arith) (nothing n s new a w r)
+
+  closes_link : (k : ℕ) → IsRaising 18 (ClosesLink k)
+  closes_link k = each LooksAt 2 looks (closing_of k)
+
+  closes_all : IsRaising (18 * links) (ForAllLinks ClosesLink)
+  closes_all n s new a w h =
+      let t = (total-is (links_from 0 s.opened)).2 in
+      let l = links_from-length 0 s.opened in
+      more n (total 18 (links_from 0 s.opened)) (18 * links) s new a (omega (arith, t, l, w.opened)) (each ClosesLink 18 closes_link (links_from 0 s.opened) n s new a w h)
+
+  -- The turn
+
+  polls_and_accepts : (marked : List Want) → IsRaising ((1 + 4 * links) + 64) (PollsAndAccepts marked)
+  polls_and_accepts marked n s new a w h = both (1 + 4 * links) 64 (polls marked h.0) (accepts h.0) n s new a w h.1
+
+  pub turn_raises : IsRaising (most_of_turn links) Turns
+  turn_raises n s new a w h =
+      let marked = h.1 in
+      let t = h.2 in
+      let clock = ticks h.0 n s t.middle t.front w t.first in
+      let rest = t.second in
+      let many : length marked ≤ 2 * links = marked-most (n + 1) t.middle marked clock.within rest.first.1.first.many in
+      let size = (total-is marked).1 in
+      let k : ℕ = 1 + (((1 + 4 * links) + 64) + (total 16385 marked + (0 + 18 * links))) in
+      more n k (most_of_turn links) s new a (omega (arith, size, many))
+      (both 1 (((1 + 4 * links) + 64) + (total 16385 marked + (0 + 18 * links))) (ticks h.0)
+      (both ((1 + 4 * links) + 64) (total 16385 marked + (0 + 18 * links)) (polls_and_accepts marked)
+      (both (total 16385 marked) (0 + 18 * links) (each ServesSide 16385 serves marked)
+      (both 0 (18 * links) passes_all closes_all)))
+      n s new a w t)

@@ -1,0 +1,51 @@
+use Rattle.std.proofs.Common.{◌≡◌, ◌+◌, [], ◌∷◌, ◌++◌, length, None, refl, sym, ◌∙◌, ap, arith, length-append}
+use Rattle.ev_types.specs.declared.entry.Entry.TheVariants as entry
+use Rattle.ev_types.specs.Trace.{Trace}
+use Rattle.ev_port.specs.declared.port.Polled.TheVariants as polled
+use Rattle.ev_port.specs.Counting.{counted}
+use Rattle.ev_port.specs.Polling.{want_events, ready_events, poll_events}
+use Rattle.relay_drive.proofs.GoesLemmas.{Grew-join}
+use Rattle.relay_drive.proofs.HeardLemmas.{goes_some}
+use Rattle.relay_drive.proofs.PollLemmas.{want_events-marked, poll_time, failed_poll_time, Heard-poll, Heard-failed_poll, counted_three}
+use Rattle.relay_drive.proofs.poll.ask_poll.Goals as goal
+
+pub returns-in-Ready-clause-went : goal.returns-in-Ready-clause-went
+returns-in-Ready-clause-went g c =
+    let l0 = g.S.Scribe.trace c.args.scribe.now in
+    let ws = c.args.wants.now in
+    let ms = c.poll.new.wants in
+    let marks = c.in-Ready.ensures.marked in
+    let many : length ms ≡ length ws = c.poll.auto.wants in
+    let names : want_events ms ≡ want_events ws = want_events-marked ws ms many marks in
+    let events = poll_events None ms (polled.Ready c.in-Ready.accept) in
+    let one : Trace = (entry.Poll None, []) ∷ [] in
+    let first = Grew-join l0 (g.S.Scribe.trace c.reserve.new.self) (g.S.Scribe.trace c.put.new.scribe) [] one c.reserve.ensures.trace c.put.ensures.list in
+    let second = Grew-join l0 (g.S.Scribe.trace c.put.new.scribe) (g.S.Scribe.trace c.put_wants.new.scribe) one (want_events ws) first c.put_wants.ensures.list in
+    let third = Grew-join l0 (g.S.Scribe.trace c.put_wants.new.scribe) (g.S.Scribe.trace c.put_marks.new.scribe) (one ++ want_events ws) (ready_events ms) second c.put_marks.ensures.list in
+    let size : length events ≡ 1 + (length (want_events ws) + length (ready_events ms)) = let h1 = length-append (want_events ms) (ready_events ms) in let h2 = ap length names in omega (arith, h1, h2) in
+    goes_some l0 (g.S.Scribe.trace c.put_marks.new.scribe) (g.P.Port.faults c.args.port.now) (g.P.Port.faults c.poll.new.self) events (poll_time ms c.in-Ready.accept)
+    (record { marks = rw (c.requires) at marks; many = many ∙ ap length c.requires; asked = λ h. sym c.can_open-can_open.ensures ∙ c.in-Ready.ensures.asked h; entries = refl; state = refl }) refl
+    (counted_three c.args.run.now.entries c.put.new.entries c.put_wants.new.entries c.put_marks.new.entries 1 (length (want_events ws)) (length (ready_events ms)) c.put.ensures.counted c.put_wants.ensures.counted c.put_marks.ensures.counted ∙ ap (λ n. counted c.args.run.now.entries n) (sym size))
+    (rw (names) third) c.in-Ready.ensures.vouched
+    (Heard-poll (g.P.Port.faults c.args.port.now) (g.P.Port.faults c.poll.new.self) ms c.in-Ready.accept c.in-Ready.ensures.cause)
+
+pub returns-in-Failed-clause-went : goal.returns-in-Failed-clause-went
+returns-in-Failed-clause-went g c =
+    let l0 = g.S.Scribe.trace c.args.scribe.now in
+    let ws = c.args.wants.now in
+    let ms = c.poll.new.wants in
+    let marks = c.in-Failed.ensures.marked in
+    let many : length ms ≡ length ws = c.poll.auto.wants in
+    let names : want_events ms ≡ want_events ws = want_events-marked ws ms many marks in
+    let events = poll_events None ms polled.Failed in
+    let one : Trace = (entry.Poll None, []) ∷ [] in
+    let last : Trace = (entry.PollFailed, []) ∷ [] in
+    let first = Grew-join l0 (g.S.Scribe.trace c.reserve.new.self) (g.S.Scribe.trace c.put.new.scribe) [] one c.reserve.ensures.trace c.put.ensures.list in
+    let second = Grew-join l0 (g.S.Scribe.trace c.put.new.scribe) (g.S.Scribe.trace c.put_wants.new.scribe) one (want_events ws) first c.put_wants.ensures.list in
+    let third = Grew-join l0 (g.S.Scribe.trace c.put_wants.new.scribe) (g.S.Scribe.trace c.put-in-Failed.new.scribe) (one ++ want_events ws) last second c.put-in-Failed.ensures.list in
+    let size : length events ≡ 1 + (length (want_events ws) + 1) = let h1 = length-append (want_events ms) last in let h2 = ap length names in omega (arith, h1, h2) in
+    goes_some l0 (g.S.Scribe.trace c.put-in-Failed.new.scribe) (g.P.Port.faults c.args.port.now) (g.P.Port.faults c.poll.new.self) events (failed_poll_time ms)
+    (record { named = ms; marks = rw (c.requires) at marks; many = many ∙ ap length c.requires; entries = refl; state = refl }) refl
+    (counted_three c.args.run.now.entries c.put.new.entries c.put_wants.new.entries c.put-in-Failed.new.entries 1 (length (want_events ws)) 1 c.put.ensures.counted c.put_wants.ensures.counted (omega (arith, c.put-in-Failed.ensures.counted)) ∙ ap (λ n. counted c.args.run.now.entries n) (sym size))
+    (rw (names) third) c.in-Failed.ensures.vouched
+    (Heard-failed_poll (g.P.Port.faults c.args.port.now) (g.P.Port.faults c.poll.new.self) ms c.in-Failed.ensures.cause)

@@ -1,0 +1,64 @@
+use Rattle.std.proofs.Common.{ℕ, refl}
+use Rattle.std.proofs.lemmas.Result.{err_from_is_err_and}
+use Rattle.ev_types.specs.Trace.{Trace}
+use Rattle.relay_core.specs.State.{State}
+use Rattle.relay_drive.specs.Steps.{Then}
+use Rattle.relay_drive.specs.Calls.{Ticks}
+use Rattle.relay_drive.specs.Phases.{TicksOnce, ForAllLinks, CutForAllLinks, PassesLink, CutPassingLink, CutTurn}
+use Rattle.relay_drive.proofs.GoesLemmas.{goes_as, goes_then, goes_within}
+use Rattle.relay_drive.proofs.turn.turn.Goals as goal
+
+ticked : {Q : State → Trace → State → Type 0} {s new : State} {a : Trace} → Then TicksOnce Q s a new → (reading : ℕ) × Then (Ticks reading) Q s a new
+ticked h = (h.first.0, record { middle = h.middle; front = h.front; back = h.back; first = h.first.1; second = h.second; joined = h.joined })
+
+pub returns-in_err-clock : goal.returns-in_err-clock
+returns-in_err-clock g c =
+    let p = err_from_is_err_and c.from_residual.result c.from_residual.ensures.1 in
+    rw (p.1, p.2, c.in_err-clock.ensures.cause) (record { went = goes_as (λ a q. CutTurn.before q) c.in_err-clock.ensures.went })
+
+pub returns-in_err-wants : goal.returns-in_err-wants
+returns-in_err-wants g c =
+    let p = err_from_is_err_and c.from_residual-in_err-wants.result c.from_residual-in_err-wants.ensures.1 in
+    rw (p.1, p.2) (record { went = goes_as (λ a q. let t = ticked q in CutTurn.in_poll t.0 t.1) (goes_then c.in_ok-clock.ensures.went c.in_err-wants.ensures.went) })
+
+pub returns-in_err-serve : goal.returns-in_err-serve
+returns-in_err-serve g c =
+    let p = err_from_is_err_and c.from_residual-in_err-serve.result c.from_residual-in_err-serve.ensures.1 in
+    let marked = c.in_ok-wants.wants.items in
+    rw (p.1, p.2, c.in_err-serve.ensures.cause) (record {
+      went = goes_as (λ a q. let t = ticked q in CutTurn.in_serving t.0 marked t.1) (goes_then c.in_ok-clock.ensures.went (goes_then c.in_ok-wants.ensures.went (rw (c.deref.ensures.value) at c.in_err-serve.ensures.went)));
+    })
+
+pub returns-in_err-pass : goal.returns-in_err-pass
+returns-in_err-pass g c =
+    let p = err_from_is_err_and c.from_residual-in_err-pass.result c.from_residual-in_err-pass.ensures.1 in
+    let marked = c.in_ok-wants.wants.items in
+    let e = c.in_err-pass.ensures in
+    rw (p.1, p.2, e.cause) (record {
+      went = goes_as (λ a q. let t = ticked q in CutTurn.in_passing t.0 marked t.1)
+          (goes_then c.in_ok-clock.ensures.went (goes_then c.in_ok-wants.ensures.went (goes_then (rw (c.deref.ensures.value) at c.in_ok-serve.ensures.went)
+          (goes_within {R = CutForAllLinks PassesLink CutPassingLink} (g.S.Scribe.trace c.serve.new.scribe) (g.P.Port.vouches c.serve.new.port) (g.P.Port.faults c.serve.new.port) e.went e.time refl))));
+    })
+
+pub returns-in_err-close : goal.returns-in_err-close
+returns-in_err-close g c =
+    let p = err_from_is_err_and c.from_residual-in_err-close.result c.from_residual-in_err-close.ensures.1 in
+    let marked = c.in_ok-wants.wants.items in
+    let e = c.in_ok-pass.ensures in
+    rw (p.1, p.2, c.in_err-close.ensures.cause) (record {
+      went = goes_as (λ a q. let t = ticked q in CutTurn.in_closing t.0 marked t.1)
+          (goes_then c.in_ok-clock.ensures.went (goes_then c.in_ok-wants.ensures.went (goes_then (rw (c.deref.ensures.value) at c.in_ok-serve.ensures.went)
+          (goes_then (goes_within {R = ForAllLinks PassesLink} (g.S.Scribe.trace c.serve.new.scribe) (g.P.Port.vouches c.serve.new.port) (g.P.Port.faults c.serve.new.port) e.went e.time refl)
+          c.in_err-close.ensures.went))));
+    })
+
+pub returns : goal.returns
+returns g c =
+    let marked = c.in_ok-wants.wants.items in
+    let e = c.in_ok-pass.ensures in
+    record {
+      went = goes_as (λ a q. let t = ticked q in (t.0, marked, t.1))
+          (goes_then c.in_ok-clock.ensures.went (goes_then c.in_ok-wants.ensures.went (goes_then (rw (c.deref.ensures.value) at c.in_ok-serve.ensures.went)
+          (goes_then (goes_within {R = ForAllLinks PassesLink} (g.S.Scribe.trace c.serve.new.scribe) (g.P.Port.vouches c.serve.new.port) (g.P.Port.faults c.serve.new.port) e.went e.time refl)
+          c.in_ok-close.ensures.went))));
+    }

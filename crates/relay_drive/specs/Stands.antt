@@ -1,0 +1,44 @@
+-- Which traces a drive stands for, and what a turn does to them.
+use Rattle.std.specs.Prelude.{◌≡◌, Bool, ◌++◌, length, Option}
+use Rattle.ev_types.specs.Trace.{Trace}
+use Rattle.ev_types.specs.Growth.{Grew}
+use Rattle.ev_port.specs.Told.{Faults}
+use Rattle.ev_port.specs.Calls.{last_time}
+use Rattle.ev_port.specs.Counting.{counted}
+use Rattle.relay_model.specs.Stages.{Stage}
+use Rattle.relay_model.specs.Answers.{TurnAnswer}
+use Rattle.relay_core.specs.State.{State}
+use Rattle.relay_meaning.specs.Meaning.{StandsFor}
+use Rattle.relay_drive.specs.declared.fault.DriveFault.{DriveFault}
+use Rattle.relay_drive.specs.declared.fault.DriveFault.TheVariants as fault
+use Rattle.relay_drive.specs.DriveValue.{DriveValue}
+use Rattle.relay_drive.specs.Goes.{Heard}
+
+-- A drive stands for a trace: the time is that of the trace's last turn, and the entries are counted up to the end of a
+-- u64.
+pub record Stands (t : Trace) (d : DriveValue) : Type 0 where
+  pub time : last_time t ≡ d.state.time
+  pub entries : counted d.entries 0 ≡ counted 0 (length t)
+
+-- what a turn answers, as the model names it
+abbrev pub answer_of : DriveFault → TurnAnswer
+answer_of fault.Memory = TurnAnswer.Memory
+answer_of fault.PollFault = TurnAnswer.PollFault
+answer_of fault.OpenFault = TurnAnswer.OpenFault
+answer_of fault.Spent = TurnAnswer.Spent
+
+-- the relay stands for a trace between two turns
+abbrev pub StandsBetween : Trace → State → Type 0
+StandsBetween t s = StandsFor t Stage.Between s
+
+-- A turn does this with the relay, by entries that stand behind the trace of the scribe. For every trace for which the
+-- drive stood, it stands for that trace with these entries, and a port that vouched for the one vouches for the other.
+-- For every trace for which the relay stood in the model, `After` holds of that trace with these entries.
+pub record Went (R : State → Trace → State → Type 0) (After : Trace → State → Type 0) (open_failed : Bool) (old new : DriveValue) (log log' : Option Trace) (vouched vouched' : Trace → Type 0) (faults faults' : Faults) : Type 0 where
+  pub added : Trace
+  pub does : R old.state added new.state
+  pub means : (t : Trace) → StandsBetween t old.state → After (t ++ added) new.state
+  pub list : Grew log log' added
+  pub stands : (t : Trace) → Stands t old → Stands (t ++ added) new
+  pub told : (t : Trace) → Stands t old → vouched t → vouched' (t ++ added)
+  pub heard : Heard faults faults' added open_failed
