@@ -5,3 +5,11 @@ pub mod ScriptLemmas
 pub mod ToldLemmas
 pub mod CallLemmas
 pub mod LawLemmas
+pub mod ScriptPlayedLemmas
+pub mod ScriptStandLemmas
+pub mod ScriptTraceLemmas
+pub mod ScriptEntryLemmas
+pub mod ScriptAnswerLemmas
+pub mod ScriptSeenLemmas
+pub mod ScriptQuietLemmas
+pub mod ScriptVouchLemmas

@@ -1,5 +1,7 @@
 -- What a call on one end makes of all links.
-use Rattle.std.proofs.Common.{◌≡◌, ℕ, ◌+◌, ◌<◌, Bool, List, ◌++◌, length, get_or, set, map, take, drop, sym, ap, ◌∙◌}
+use Rattle.std.proofs.Common.{◌≡◌, ℕ, ◌+◌, ◌-◌, ◌^◌, ◌<◌, Bool, List, [], ◌++◌, length, get_or, set, map, take, drop, Option, Some, refl, sym, ap, subst, ◌∙◌}
+use Rattle.std.specs.Prelude.{slice_get, option_map}
+use Rattle.std.specs.Option.{option_map_or}
 use Rattle.ev_types.specs.declared.side.SideId.{SideId}
 use Rattle.ev_types.specs.declared.answer.WriteAnswer.{WriteAnswer}
 use Rattle.ev_types.specs.declared.answer.WriteAnswer.TheVariants as write
@@ -10,8 +12,8 @@ use Rattle.ev_port.specs.declared.port.Want.{Want}
 use Rattle.ev_port.specs.ScriptState.{EndState, EndKept, LinksState}
 use Rattle.ev_port.specs.ScriptKept.{Wrote}
 use Rattle.ev_port.specs.ScriptEnds.{after_write, write_answer}
-use Rattle.ev_port.specs.ScriptLinks.{at_end, marked, write_answer_at, WroteAt}
-use Rattle.ev_port.proofs.ListLemmas.{changed_set, same_set, part_read}
+use Rattle.ev_port.specs.ScriptLinks.{at_end, marked, taken_at, write_answer_at, WroteAt}
+use Rattle.ev_port.proofs.ListLemmas.{changed_set, same_set, part_read, slice_get-changed_same}
 
 abbrev states : List EndKept → List EndState
 states es = map (λ e. e.state) es
@@ -28,6 +30,15 @@ answers waiting es e k x offer n within read =
     let found = part_read (λ e. e.state) es k x within read in
     rw (← n, found)
 
+keeps : (waiting : List Bool) (es : List EndKept) (e : SideId) (k : ℕ) (x y : EndKept) → k ≡ number e → k < length es → x ≡ get_or es k x → length y.state.taken < 2 ^ 64 - 1 →
+    length (taken_at (record { waiting = waiting; ends = states (set es k y) }) e) < 2 ^ 64 - 1
+keeps waiting es e k x y n within read h =
+    let whole = changed_set (λ e. e.state) (λ _. y.state) es k x y within read refl in
+    let found = part_read (λ e. e.state) es k x within read in
+    let here : slice_get (states (set es k y)) (number e) ≡ Some y.state =
+    ap (slice_get (states (set es k y))) (sym n) ∙ ap (λ z. slice_get z k) whole ∙ slice_get-changed_same (λ _. y.state) (states es) k ∙ ap (option_map (λ _. y.state)) found in
+    subst (λ (o : Option EndState). length (option_map_or (λ (s : EndState). s.taken) o []) < 2 ^ 64 - 1) (sym here) h
+
 -- a write to an end that there is
 pub wrote_within : (waiting : List Bool) (es : List EndKept) (e : SideId) (k : ℕ) (x y : EndKept) (from : List ℕ) (answer : WriteAnswer) → k ≡ number e → k < length es → x ≡ get_or es k x → Wrote x y from answer →
     WroteAt (record { waiting = waiting; ends = states es }) (record { waiting = waiting; ends = states (set es k y) }) e from answer
@@ -35,11 +46,11 @@ wrote_within waiting es e k x y from write.NoMemory n within read w =
     let same = same_set (λ e. e.state) es k x y read (ap (λ e. e.state) w.0) in
     (rw same, rw (answers waiting es e k x (length from) n within read) w.1)
 wrote_within waiting es e k x y from (write.Took count) n within read w =
-    (took waiting es e k x y from n within read w.0, w.1 ∙ sym (answers waiting es e k x (length from) n within read))
+    (took waiting es e k x y from n within read w.0, w.1 ∙ sym (answers waiting es e k x (length from) n within read), keeps waiting es e k x y n within read w.2)
 wrote_within waiting es e k x y from write.NotYet n within read w =
-    (took waiting es e k x y from n within read w.0, w.1 ∙ sym (answers waiting es e k x (length from) n within read))
+    (took waiting es e k x y from n within read w.0, w.1 ∙ sym (answers waiting es e k x (length from) n within read), keeps waiting es e k x y n within read w.2)
 wrote_within waiting es e k x y from write.Failed n within read w =
-    (took waiting es e k x y from n within read w.0, w.1 ∙ sym (answers waiting es e k x (length from) n within read))
+    (took waiting es e k x y from n within read w.0, w.1 ∙ sym (answers waiting es e k x (length from) n within read), keeps waiting es e k x y n within read w.2)
 
 -- a write leaves the bytes to come
 pub keeps_to_come : (es : List EndKept) (k : ℕ) (x y : EndKept) (from : List ℕ) (answer : WriteAnswer) → x ≡ get_or es k x → Wrote x y from answer → map (λ e. e.to_come) (set es k y) ≡ map (λ e. e.to_come) es

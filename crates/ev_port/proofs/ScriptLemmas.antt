@@ -89,7 +89,7 @@ turn_begins turns i turn h e =
 
 -- At the beginning
 
-links_of-append : (xs ys : List TurnLine) → links_of (xs ++ ys) ≡ links_of xs ++ links_of ys
+pub links_of-append : (xs ys : List TurnLine) → links_of (xs ++ ys) ≡ links_of xs ++ links_of ys
 links_of-append [] ys = refl
 links_of-append (line.NewLink wait ∷ xs) ys = ap (λ t. wait ∷ t) (links_of-append xs ys)
 links_of-append (line.Pending side bytes ∷ xs) ys = links_of-append xs ys

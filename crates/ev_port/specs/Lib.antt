@@ -16,4 +16,6 @@ pub mod ScriptLinksView
 pub mod ScriptPort
 pub mod ScriptTold
 pub mod ScriptPortView
+pub mod ScriptPlayed
+pub mod ScriptVouched
 pub mod ScriptLaws

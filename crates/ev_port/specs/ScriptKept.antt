@@ -1,6 +1,6 @@
 -- How the links of a script port keep what the script has yet to bring: the links to open, and the bytes of each end,
 -- of which a line says no more than how many come in now.
-use Rattle.std.specs.Prelude.{◌≡◌, ◌≢◌, ℕ, ◌==◌, length, take, drop, Bool, if◌then◌else◌, List, [], ◌∷◌, ◌++◌, slice_index_or, ◌<◌, Option, Some, None}
+use Rattle.std.specs.Prelude.{◌≡◌, ◌≢◌, ℕ, ◌-◌, ◌^◌, ◌==◌, length, take, drop, Bool, if◌then◌else◌, List, [], ◌∷◌, ◌++◌, slice_index_or, ◌<◌, Option, Some, None}
 use Rattle.std.specs.List.{flat_map}
 use Rattle.ev_types.specs.declared.side.SideId.{SideId}
 use Rattle.ev_types.specs.Sides.{number}
@@ -31,10 +31,11 @@ left_after_line (line.NewLink wait) to_come = to_come
 abbrev pub kept_after_line : TurnLine → EndKept → EndKept
 kept_after_line x e = record { state = state_after_line x e.to_come e.state; to_come = left_after_line x e.to_come }
 
--- what a write did: want of memory, in place of taking bytes, changed nothing
+-- what a write did: want of memory, in place of taking bytes, changed nothing; memory holds what the end took
 abbrev pub Wrote : EndKept → EndKept → List ℕ → WriteAnswer → Type 0
 Wrote old new from write.NoMemory = (new ≡ old) × (write_answer old.state (length from) ≢ write.NotYet)
-Wrote old new from answer = (new ≡ record old { state = after_write old.state from }) × (answer ≡ write_answer old.state (length from))
+Wrote old new from answer =
+    (new ≡ record old { state = after_write old.state from }) × (answer ≡ write_answer old.state (length from)) × (length new.state.taken < 2 ^ 64 - 1)
 
 -- All links
 

@@ -1,6 +1,6 @@
 -- What the lines of a script and the calls of a port make of the links of the script. A line or a call that names an
 -- end of no such link changes nothing.
-use Rattle.std.specs.Prelude.{◌≡◌, ◌≢◌, ℕ, length, zero, suc, Bool, true, false, ◌&&◌, not, List, [], ◌∷◌, ◌++◌, Option, slice_get}
+use Rattle.std.specs.Prelude.{◌≡◌, ◌≢◌, ℕ, ◌-◌, ◌^◌, ◌<◌, length, zero, suc, Bool, true, false, ◌&&◌, not, List, [], ◌∷◌, ◌++◌, Option, slice_get}
 use Rattle.std.specs.Option.{option_map_or}
 use Rattle.ev_types.specs.declared.side.SideId.{SideId}
 use Rattle.ev_types.specs.declared.side.Side.TheVariants.{In, Out}
@@ -97,10 +97,15 @@ pending_at l e = option_map_or (λ s. s.pending) (end_of l e) []
 abbrev pub write_answer_at : LinksState → SideId → ℕ → WriteAnswer
 write_answer_at l e offer = option_map_or (λ s. write_answer s offer) (end_of l e) write.NotYet
 
--- what a write did: want of memory, in place of taking bytes, changed nothing
+-- the bytes that the end took
+abbrev pub taken_at : LinksState → SideId → List ℕ
+taken_at l e = option_map_or (λ s. s.taken) (end_of l e) []
+
+-- what a write did: want of memory, in place of taking bytes, changed nothing; memory holds what the end took
 abbrev pub WroteAt : LinksState → LinksState → SideId → List ℕ → WriteAnswer → Type 0
 WroteAt old new e from write.NoMemory = (new ≡ old) × (write_answer_at old e (length from) ≢ write.NotYet)
-WroteAt old new e from answer = (new ≡ at_end e (λ s. after_write s from) old) × (answer ≡ write_answer_at old e (length from))
+WroteAt old new e from answer =
+    (new ≡ at_end e (λ s. after_write s from) old) × (answer ≡ write_answer_at old e (length from)) × (length (taken_at new e) < 2 ^ 64 - 1)
 
 abbrev pub conn_answer_at : LinksState → SideId → ConnAnswer
 conn_answer_at l e = option_map_or conn_answer (end_of l e) conn.Pending

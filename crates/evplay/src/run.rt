@@ -1,5 +1,5 @@
 // Makes the turns of a script over a port that answers by it, and gives the text of what happened.
-ghost use Rattle.std.specs.Prelude.{◌≡◌, IfOk, IfErr};
+ghost use Rattle.std.specs.Prelude.{◌≡◌, ◌≤◌, length, IfOk, IfErr};
 ghost use Rattle.relay_drive.specs.declared.fault.DriveFault.TheVariants.{Memory};
 ghost use Rattle.evplay.specs.Play.{IsRunText};
 
@@ -11,6 +11,7 @@ use std::alloc::Global;
 
 /// The text of the trace and of the report of a run, one turn for each of the script.
 pub fn run(alloc: Global, script: Script) -> Result<Vec<u8>, DriveFault>
+    requires { length script.turns ≤ 20000 }
     ensures text { IfOk result (λ text. IsRunText text.items) }
     ensures only_memory { IfErr result (λ fault. fault ≡ Memory) }
 {

@@ -21,4 +21,4 @@ returns-else-number-len-clause-wrote c =
     let none = part_past (λ e. e.state) c.self.inside.ends.items (number c.args.end) (omega arith) in
     let states = changed_past (λ e. e.state) (λ s. after_write s c.args.from.now) c.self.inside.ends.items (number c.args.end) (omega arith) in
     rw (← c.self.view_is, states, none)
-    (refl, refl)
+    (refl, refl, omega arith)

@@ -1,0 +1,280 @@
+-- With each call a script port vouches for the longer trace.
+use Rattle.std.proofs.Common.{◌≡◌, ◌≢◌, ℕ, zero, suc, ◌+◌, ◌-◌, ◌*◌, ◌^◌, ◌<◌, ◌≤◌, min, max, Bool, true, false, not, if◌then◌else◌, List, [], ◌∷◌, ◌++◌, length, get_or, take, drop, map, Option, Some, None, refl, sym, ap, subst, ◌∙◌, arith, append_assoc, append-nil, length-append, length-take-le}
+use Rattle.std.specs.Prelude.{count_by, slice_get, option_map}
+use Rattle.std.specs.Option.{option_map_or}
+use Rattle.std.specs.List.{flat_map}
+use Rattle.std.proofs.lemmas.List.Sums.{sum_by-append}
+use Rattle.std.proofs.lemmas.Option.{slice_get-get_or}
+use Rattle.std.proofs.lemmas.List.{map-append}
+use Rattle.ev_types.specs.declared.side.Side.{Side}
+use Rattle.ev_types.specs.declared.side.Side.TheVariants.{In, Out}
+use Rattle.ev_types.specs.declared.side.SideId.{SideId}
+use Rattle.ev_types.specs.declared.entry.Entry.{Entry}
+use Rattle.ev_types.specs.declared.entry.Entry.TheVariants as entry
+use Rattle.ev_types.specs.declared.answer.ConnAnswer.{ConnAnswer}
+use Rattle.ev_types.specs.declared.answer.ReadAnswer.{ReadAnswer}
+use Rattle.ev_types.specs.declared.answer.WriteAnswer.{WriteAnswer}
+use Rattle.ev_types.specs.declared.answer.WriteAnswer.TheVariants as write
+use Rattle.ev_types.specs.Growth.{Longer}
+use Rattle.ev_types.specs.Sides.{half, number}
+use Rattle.ev_types.specs.Trace.{Event, Trace}
+use Rattle.script_text.specs.Script.{TurnValue}
+use Rattle.relay_model.specs.RatesKept.{is_turn}
+use Rattle.relay_model.specs.Totals.{opened}
+use Rattle.relay_model.specs.Script.{ScriptTurn}
+use Rattle.relay_model.specs.Scripted as model
+use Rattle.relay_model.specs.Plays as plays
+use Rattle.relay_model.proofs.PlayedLemmas.{answers_go_on}
+use Rattle.ev_port.specs.declared.port.Addr.{Addr}
+use Rattle.ev_port.specs.declared.port.Want.{Want}
+use Rattle.ev_port.specs.declared.port.Polled.TheVariants as polled
+use Rattle.ev_port.specs.Calls.{turn_time, Ticked, accept_events, IsUnheard}
+use Rattle.ev_port.specs.Polling.{poll_events}
+use Rattle.ev_port.specs.Ends.{conn_events, write_events, close_write_events, close_events, took_bytes}
+use Rattle.ev_port.specs.ScriptState.{EndState, LinksState, PortState}
+use Rattle.ev_port.specs.ScriptEnds.{new_end, after_read, taken_of, after_write, after_check, after_close_write, after_close}
+use Rattle.ev_port.specs.ScriptLinks.{end_of, at_end, new_ends, new_links, links_of, taken_at, marked, after_wants, accept_answer, accept_first, read_answer_at, pending_at, write_answer_at, WroteAt, conn_answer_at, after_lines}
+use Rattle.ev_port.specs.ScriptPort.{lines_of, new_port, next_turn, clock_answer, begin_turn, count_reading, after_now, after_start, after_poll, accept_tally, after_accept}
+use Rattle.ev_port.specs.ScriptPlayed.{played_line, played_turns}
+use Rattle.ev_port.specs.ScriptVouched.{IsCalledFor, EndStands, LinksStand, PortStands, ScriptVouches}
+use Rattle.ev_port.proofs.ListLemmas.{slice_get-changed_same}
+use Rattle.ev_port.proofs.ScriptPlayedLemmas.{lines_so_far, lines_more, moment_next}
+use Rattle.ev_port.proofs.ScriptStandLemmas.{from_some, lines_stand}
+use Rattle.ev_port.proofs.ScriptTraceLemmas.{Like, like, like-at_end, like-wants, links_silent, AsBefore}
+use Rattle.ev_port.proofs.ScriptEntryLemmas.{read_stands, check_stands, write_stands, accept_stands}
+use Rattle.ev_port.proofs.ScriptSeenLemmas.{links_whole, read_is, write_is, conn_is}
+use Rattle.ev_port.proofs.ScriptQuietLemmas.{Quiet, quiet-close_write, quiet-close, quiet-unheard, unheard_is, quiet-poll, wish, poll_is, silent-turn, times_same}
+
+-- what was called for with entries at its end was called for before
+called_before : (turns : List TurnValue) (t u : Trace) → IsCalledFor turns (t ++ u) → IsCalledFor turns t
+called_before turns t u asked = record {
+  lines = asked.lines;
+  turns_left = let parts = sum_by-append (λ x. if is_turn x then 1 else 0) t u in let few = asked.turns_left in omega (arith, parts, few);
+  in_order = λ before after link connected bytes is.
+      asked.in_order before (after ++ u) link connected bytes (ap (λ z. z ++ u) is ∙ append_assoc before ((entry.Opened link connected, bytes) ∷ after) u);
+}
+
+module _ (p q : PortState) (turns : q.turns ≡ p.turns) (begun : q.begun ≡ p.begun) (t u : Trace) (none : count_by is_turn u ≡ 0) where
+  abbrev T : List ScriptTurn
+  T = played_turns p.turns
+
+  count_same : count_by is_turn (t ++ u) ≡ count_by is_turn t
+  count_same = let parts = sum_by-append (λ x. if is_turn x then 1 else 0) t u in omega (arith, parts, none)
+
+  -- the port goes on by a step of the script
+  go_on : (x : plays.Step) → ((closing_by : ℕ) → u ≡ plays.events T closing_by t x) → LinksStand (links_of (lines_of p.turns)) (model.lines T t) (t ++ u) q.links → PortStands p t → PortStands q (t ++ u)
+  go_on x is links stands = record {
+    answered = λ closing_by.
+        subst (λ z. plays.IsAnswered (played_turns z) closing_by (t ++ u)) (sym turns)
+        (subst (λ z. plays.IsAnswered T closing_by (t ++ z)) (sym (is closing_by)) (answers_go_on T closing_by t (stands.answered closing_by) x));
+    begun = begun ∙ stands.begun ∙ sym count_same;
+    links = subst (λ z. LinksStand (links_of (lines_of z)) (model.lines (played_turns z) (t ++ u)) (t ++ u) q.links) (sym turns)
+        (subst (λ n. LinksStand (links_of (lines_of p.turns)) (flat_map (λ turn. turn.1) (take n T)) (t ++ u) q.links) (sym count_same) links);
+  }
+
+-- a port of which nothing changed that a trace tells
+stays : (p q : PortState) (t : Trace) → q.turns ≡ p.turns → q.begun ≡ p.begun → q.links ≡ p.links → PortStands p t → PortStands q t
+stays p q t turns begun links stands = record {
+  answered = subst (λ z. (closing_by : ℕ) → plays.IsAnswered (played_turns z) closing_by t) (sym turns) stands.answered;
+  begun = begun ∙ stands.begun;
+  links = subst (λ z. LinksStand (links_of (lines_of z)) (model.lines (played_turns z) t) t q.links) (sym turns) (subst (λ z. LinksStand (links_of (lines_of p.turns)) (model.lines (played_turns p.turns) t) t z) (sym links) stands.links);
+}
+
+pub no_entry : (p q : PortState) → q.turns ≡ p.turns → q.begun ≡ p.begun → q.links ≡ p.links → Longer (ScriptVouches p) (ScriptVouches q) []
+no_entry p q turns begun links = λ t vouched.
+    subst (ScriptVouches q) (sym (append-nil t)) (λ asked. stays p q t turns begun links (vouched (subst (λ z. IsCalledFor z t) turns asked)))
+
+-- a call whose entries say nothing of ends and links
+quiet_call : (p q : PortState) (u : Trace) → q.turns ≡ p.turns → q.begun ≡ p.begun → Like p.links q.links → Quiet u →
+    ((t : Trace) → IsCalledFor p.turns t → PortStands p t → (x : plays.Step) × ((closing_by : ℕ) → u ≡ plays.events (played_turns p.turns) closing_by t x)) → Longer (ScriptVouches p) (ScriptVouches q) u
+quiet_call p q u turns begun alike quiet step = λ t vouched asked.
+    let before = called_before p.turns t u (subst (λ z. IsCalledFor z (t ++ u)) turns asked) in
+    let stands = vouched before in
+    let x = step t before stands in
+    go_on p q turns begun t u quiet.turns x.0 x.1 (links_silent (links_of (lines_of p.turns)) (model.lines (played_turns p.turns) t) t u p.links q.links quiet.silent alike stands.links) stands
+
+pub start_vouched : (p : PortState) (listen to : Addr) → Longer (ScriptVouches p) (ScriptVouches (after_start p listen to)) []
+start_vouched p listen to = no_entry p (after_start p listen to) refl refl refl
+
+pub close_write_vouched : (p : PortState) (e : SideId) → Longer (ScriptVouches p) (ScriptVouches (record p { links = at_end e after_close_write p.links })) (close_write_events e)
+close_write_vouched p e =
+    quiet_call p (record p { links = at_end e after_close_write p.links }) (close_write_events e) refl refl
+    (like-at_end e after_close_write p.links (λ s. record { pending = refl; eof = refl; taken = refl; may_take = refl; wait = refl; made_connected = refl; connected = refl }))
+    (quiet-close_write e) (λ t asked stands. (plays.Step.Own (entry.CloseWrite e), λ closing_by. refl))
+
+pub close_vouched : (p : PortState) (e : SideId) → Longer (ScriptVouches p) (ScriptVouches (record p { links = at_end e after_close p.links })) (close_events e)
+close_vouched p e =
+    quiet_call p (record p { links = at_end e after_close p.links }) (close_events e) refl refl
+    (like-at_end e after_close p.links (λ s. record { pending = refl; eof = refl; taken = refl; may_take = refl; wait = refl; made_connected = refl; connected = refl }))
+    (quiet-close e) (λ t asked stands. (plays.Step.Own (entry.Close e), λ closing_by. refl))
+
+pub unheard_vouched : (p : PortState) (x : Entry) → IsUnheard x → Longer (ScriptVouches p) (ScriptVouches p) ((x, []) ∷ [])
+unheard_vouched p x h = quiet_call p p ((x, []) ∷ []) refl refl (like p.links) (quiet-unheard x h) (λ t asked stands. (plays.Step.Own x, λ closing_by. unheard_is x h))
+
+pub poll_vouched : (p : PortState) (ws : List Want) (accept : Bool) (timeout : Option ℕ) (answer : Bool) →
+    Longer (ScriptVouches p) (ScriptVouches (after_poll p (map (λ w. marked p.links w) ws) accept timeout)) (poll_events timeout (map (λ w. marked p.links w) ws) (polled.Ready answer))
+poll_vouched p ws accept timeout answer =
+    let marks = map (λ w. marked p.links w) ws in
+    quiet_call p (after_poll p marks accept timeout) (poll_events timeout marks (polled.Ready answer)) refl refl (like-wants marks p.links) (quiet-poll timeout marks answer)
+    (λ t asked stands. (plays.Step.Poll timeout (map wish ws), λ closing_by. poll_is p.turns t asked p.links stands.links timeout ws answer closing_by))
+
+-- Calls on one end
+
+pub check_vouched : (p : PortState) (e : SideId) → Longer (ScriptVouches p) (ScriptVouches (record p { links = at_end e after_check p.links })) (conn_events e (conn_answer_at p.links e))
+check_vouched p e = λ t vouched asked.
+    let u = conn_events e (conn_answer_at p.links e) in
+    let before = called_before p.turns t u asked in
+    let stands = vouched before in
+    go_on p (record p { links = at_end e after_check p.links }) refl refl t u refl (plays.Step.Check e)
+    (λ closing_by. ap (λ (z : ConnAnswer). (entry.Conn e z, []) ∷ []) (sym (conn_is p.turns t before p.links stands.links e)))
+    (check_stands (links_of (lines_of p.turns)) (model.lines (played_turns p.turns) t) t e p.links stands.links) stands
+
+pub read_vouched : (p : PortState) (e : SideId) (room : ℕ) →
+    Longer (ScriptVouches p) (ScriptVouches (record p { links = at_end e (λ s. after_read s room) p.links })) ((entry.Read e room (read_answer_at p.links e room), take room (pending_at p.links e)) ∷ [])
+read_vouched p e room = λ t vouched asked.
+    let u : Trace = (entry.Read e room (read_answer_at p.links e room), take room (pending_at p.links e)) ∷ [] in
+    let before = called_before p.turns t u asked in
+    let stands = vouched before in
+    go_on p (record p { links = at_end e (λ s. after_read s room) p.links }) refl refl t u refl (plays.Step.Read e room)
+    (λ closing_by. ap (λ (z : ReadAnswer × List ℕ). (entry.Read e room z.0, z.1) ∷ []) (sym (read_is p.turns t before p.links stands.links e room)))
+    (read_stands (links_of (lines_of p.turns)) (model.lines (played_turns p.turns) t) t e room p.links stands.links) stands
+
+takes_within : (o : Option ℕ) (offer : ℕ) → taken_of o offer ≤ offer
+takes_within None offer = omega arith
+takes_within (Some k) offer = omega arith
+
+-- what an end took and takes fits
+takes_fits : (p : PortState) (e : SideId) (from : List ℕ) → length (taken_at (at_end e (λ s. after_write s from) p.links) e) < 2 ^ 64 - 1 → (s : EndState) → end_of p.links e ≡ Some s → length s.taken + taken_of s.may_take (length from) < 2 ^ 64 - 1
+takes_fits p e from within s found =
+    let here : end_of (at_end e (λ s. after_write s from) p.links) e ≡ Some (after_write s from) =
+    slice_get-changed_same (λ s. after_write s from) p.links.ends (number e) ∙ ap (option_map (λ s. after_write s from)) found in
+    let fits : length (after_write s from).taken < 2 ^ 64 - 1 = subst (λ (o : Option EndState). length (option_map_or (λ (x : EndState). x.taken) o []) < 2 ^ 64 - 1) here within in
+    let both = length-append s.taken (take (taken_of s.may_take (length from)) from) in
+    let part = length-take-le (taken_of s.may_take (length from)) from (takes_within s.may_take (length from)) in
+    omega (arith, fits, both, part)
+
+took_vouched : (p : PortState) (e : SideId) (from : List ℕ) → length (taken_at (at_end e (λ s. after_write s from) p.links) e) < 2 ^ 64 - 1 →
+    Longer (ScriptVouches p) (ScriptVouches (record p { links = at_end e (λ s. after_write s from) p.links }))
+    ((entry.Write e (length from) (write_answer_at p.links e (length from)), took_bytes (write_answer_at p.links e (length from)) from) ∷ [])
+took_vouched p e from within = λ t vouched asked.
+    let u : Trace = (entry.Write e (length from) (write_answer_at p.links e (length from)), took_bytes (write_answer_at p.links e (length from)) from) ∷ [] in
+    let before = called_before p.turns t u asked in
+    let stands = vouched before in
+    go_on p (record p { links = at_end e (λ s. after_write s from) p.links }) refl refl t u refl (plays.Step.Write e from)
+    (λ closing_by. ap (λ (z : WriteAnswer × List ℕ). (entry.Write e (length from) z.0, z.1) ∷ []) (sym (write_is p.turns t before p.links stands.links e from (takes_fits p e from within))))
+    (write_stands (links_of (lines_of p.turns)) (model.lines (played_turns p.turns) t) t e from p.links within stands.links) stands
+
+-- a write that was answered
+took_as : (p : PortState) (new : LinksState) (e : SideId) (from : List ℕ) (answer : WriteAnswer) → new ≡ at_end e (λ s. after_write s from) p.links → answer ≡ write_answer_at p.links e (length from) → length (taken_at new e) < 2 ^ 64 - 1 →
+    Longer (ScriptVouches p) (ScriptVouches (record p { links = new })) ((entry.Write e (length from) answer, took_bytes answer from) ∷ [])
+took_as p new e from answer is a within =
+    subst (λ (z : WriteAnswer). Longer (ScriptVouches p) (ScriptVouches (record p { links = new })) ((entry.Write e (length from) z, took_bytes z from) ∷ [])) (sym a)
+    (subst (λ (l : LinksState). Longer (ScriptVouches p) (ScriptVouches (record p { links = l })) ((entry.Write e (length from) (write_answer_at p.links e (length from)), took_bytes (write_answer_at p.links e (length from)) from) ∷ []))
+    (sym is) (took_vouched p e from (subst (λ (l : LinksState). length (taken_at l e) < 2 ^ 64 - 1) is within)))
+
+pub write_vouched : (p : PortState) (new : LinksState) (e : SideId) (from : List ℕ) (answer : WriteAnswer) → WroteAt p.links new e from answer → Longer (ScriptVouches p) (ScriptVouches (record p { links = new })) (write_events e from answer)
+write_vouched p new e from write.NoMemory w = no_entry p (record p { links = new }) refl refl w.0
+write_vouched p new e from (write.Took n) w = took_as p new e from (write.Took n) w.0 w.1 w.2
+write_vouched p new e from write.NotYet w = took_as p new e from write.NotYet w.0 w.1 w.2
+write_vouched p new e from write.Failed w = took_as p new e from write.Failed w.0 w.1 w.2
+
+-- Accepts
+
+accept_by : (p : PortState) (link : ℕ) (ws : List Bool) → p.links.waiting ≡ ws →
+    Longer (ScriptVouches p) (ScriptVouches (record p { links = accept_first link ws p.links; tally = accept_tally (accept_answer ws) p.tally })) (accept_events link (accept_answer ws))
+accept_by p link [] is = no_entry p (record p { links = accept_first link [] p.links; tally = accept_tally (accept_answer []) p.tally }) refl refl refl
+accept_by p link (wait ∷ later) is = λ t vouched asked.
+    let u = accept_events link (accept_answer (wait ∷ later)) in
+    let before = called_before p.turns t u asked in
+    let stands = vouched before in
+    let number_is : link ≡ opened t = asked.in_order t [] link (not wait) [] refl in
+    let waiting : model.waiting (played_turns p.turns) t ≡ wait ∷ later = sym stands.links.waiting ∙ is in
+    go_on p (record p { links = accept_first link (wait ∷ later) p.links; tally = accept_tally (accept_answer (wait ∷ later)) p.tally }) refl refl t u refl plays.Step.Accept
+    (λ closing_by. ap (λ n. plays.accepted n (wait ∷ later)) number_is ∙ ap (plays.accepted (opened t)) (sym waiting))
+    (accept_stands (links_of (lines_of p.turns)) (model.lines (played_turns p.turns) t) t p.links wait later link stands.links is number_is (links_of (lines_of (drop (model.begun (played_turns p.turns) t) p.turns))) (links_whole p.turns t before))
+    stands
+
+pub accept_vouched : (p : PortState) (link : ℕ) → Longer (ScriptVouches p) (ScriptVouches (after_accept p link)) (accept_events link (accept_answer p.links.waiting))
+accept_vouched p link = accept_by p link p.links.waiting refl
+
+-- The clock
+
+turn_begins : (p : PortState) (turn : TurnValue) (ms : ℕ) (t : Trace) → next_turn p ≡ Some turn → ms ≡ turn_time t turn.0 → PortStands p t → PortStands (count_reading (begin_turn (Some turn) p)) (t ++ (entry.Turn ms, []) ∷ [])
+turn_begins p turn ms t next is stands =
+    let T = played_turns p.turns in
+    let u : Trace = (entry.Turn ms, []) ∷ [] in
+    let parts = sum_by-append (λ x. if is_turn x then 1 else 0) t u in
+    let count : model.begun T (t ++ u) ≡ model.begun T t + 1 = omega (arith, parts) in
+    let here : slice_get p.turns (model.begun T t) ≡ Some turn = ap (slice_get p.turns) (sym stands.begun) ∙ next in
+    let lines : model.lines T (t ++ u) ≡ model.lines T t ++ map played_line turn.1 =
+    ap (λ n. flat_map (λ turn. turn.1) (take n T)) count ∙ lines_so_far (model.begun T t + 1) p.turns ∙ ap (map played_line) (lines_more (model.begun T t) p.turns turn here)
+    ∙ map-append played_line (lines_of (take (model.begun T t) p.turns)) turn.1 ∙ ap (λ z. z ++ map played_line turn.1) (sym (lines_so_far (model.begun T t) p.turns)) in
+    let waits = links_of (lines_of p.turns) in
+    record {
+      answered = λ closing_by.
+          subst (λ z. plays.IsAnswered T closing_by (t ++ (entry.Turn z, []) ∷ []))
+          (ap (plays.time_at t) (moment_next (model.begun T t) p.turns turn _ here) ∙ ap (λ z. max z (min turn.0 (2 ^ 62))) (sym (times_same t)) ∙ sym is)
+          (answers_go_on T closing_by t (stands.answered closing_by) plays.Step.Now);
+      begun = ap (λ n. n + 1) stands.begun ∙ sym count;
+      links = subst (λ z. LinksStand waits z (t ++ u) (after_lines turn.1 p.links)) (sym lines)
+          (lines_stand waits (model.lines T t) (t ++ u) turn.1 p.links (links_silent waits (model.lines T t) t u p.links p.links (silent-turn ms) (like p.links) stands.links));
+    }
+
+now_by : (p : PortState) (turn : Option TurnValue) → next_turn p ≡ turn → Ticked (ScriptVouches p) (ScriptVouches (count_reading (begin_turn turn p))) (option_map_or (λ (x : TurnValue). x.0) turn p.clock)
+now_by p None next = λ t vouched asked.
+    let u : Trace = (entry.Turn (turn_time t p.clock), []) ∷ [] in
+    let stands = vouched (called_before p.turns t u asked) in
+    let parts = sum_by-append (λ x. if is_turn x then 1 else 0) t u in
+    let few = asked.turns_left in
+    let begun = stands.begun in
+    let within : p.begun < length p.turns = omega (arith, parts, few, begun) in
+    absurd (let some = slice_get-get_or p.turns p.begun (0, []) within in cc)
+now_by p (Some turn) next = λ t vouched asked. turn_begins p turn (turn_time t turn.0) t next refl (vouched (called_before p.turns t ((entry.Turn (turn_time t turn.0), []) ∷ []) asked))
+
+pub now_vouched : (p : PortState) → Ticked (ScriptVouches p) (ScriptVouches (after_now p)) (clock_answer p)
+now_vouched p = now_by p (next_turn p) refl
+
+-- The beginning
+
+new_at : (waits : List Bool) (link : ℕ) (side : Side) (s : EndState) → slice_get (new_ends waits) (2 * link + half side) ≡ Some s → s ≡ new_end (model.undecided_at side (get_or waits link false))
+new_at [] link side s h = absurd (cc)
+new_at (wait ∷ waits) zero In s h = sym (from_some (new_end false) s h)
+new_at (wait ∷ waits) zero Out s h = sym (from_some (new_end wait) s h)
+new_at (wait ∷ waits) (suc link) side s h =
+    let two : 2 * suc link + half side ≡ suc (suc (2 * link + half side)) = omega arith in
+    new_at waits link side s (subst (λ n. slice_get (new_ends (wait ∷ waits)) n ≡ Some s) two h)
+
+new_past : (waits : List Bool) (link : ℕ) (side : Side) → slice_get (new_ends waits) (2 * link + half side) ≡ None → length waits ≤ link
+new_past [] link side h = omega arith
+new_past (wait ∷ waits) zero In h = absurd (cc)
+new_past (wait ∷ waits) zero Out h = absurd (cc)
+new_past (wait ∷ waits) (suc link) side h =
+    let two : 2 * suc link + half side ≡ suc (suc (2 * link + half side)) = omega arith in
+    let rest = new_past waits link side (subst (λ n. slice_get (new_ends (wait ∷ waits)) n ≡ None) two h) in
+    omega (arith, rest)
+
+new_stands : (waits : List Bool) (e : SideId) (undecided : Bool) → undecided ≡ model.undecided_at e.side (get_or waits e.link false) → EndStands waits [] [] e (new_end undecided)
+new_stands waits e undecided is = record {
+  came = refl;
+  eof = refl;
+  taken = refl;
+  may_take = (refl, record { least = omega arith; most = omega arith; within = omega arith });
+  wait = is;
+  made_connected = refl;
+  connected = refl;
+  undecided = λ _. refl;
+}
+
+pub new_vouched : (turns : List TurnValue) → ScriptVouches (new_port turns) []
+new_vouched turns = λ asked. record {
+  answered = λ closing_by. ([], refl);
+  begun = refl;
+  links = record {
+    in_order = omega arith;
+    waiting = refl;
+    ends = λ e s found.
+        let waits = links_of (lines_of turns) in
+        subst (EndStands waits [] [] e) (sym (new_at waits e.link e.side s found)) (new_stands waits e (model.undecided_at e.side (get_or waits e.link false)) refl);
+    beyond = λ e found. new_past (links_of (lines_of turns)) e.link e.side found;
+  };
+}

@@ -1,0 +1,82 @@
+-- The traces for which a script port vouches: every answer in them is the script's, and the port stands where they end.
+use Rattle.std.specs.Prelude.{◌≡◌, ℕ, ◌+◌, ◌-◌, ◌^◌, ◌<◌, ◌≤◌, min, ⊤, Bool, true, false, List, [], ◌∷◌, ◌++◌, length, drop, map, sum_by, Option, Some, None, slice_index_or}
+use Rattle.std.specs.List.{flat_map, list_any}
+use Rattle.ev_types.specs.declared.side.SideId.{SideId}
+use Rattle.ev_types.specs.declared.entry.Entry.TheVariants as entry
+use Rattle.ev_types.specs.Trace.{Trace}
+use Rattle.script_text.specs.declared.script.TurnLine.{TurnLine}
+use Rattle.script_text.specs.declared.script.TurnLine.TheVariants as line
+use Rattle.script_text.specs.Script.{TurnValue}
+use Rattle.relay_model.specs.Trace.{bytes_read, bytes_given}
+use Rattle.relay_model.specs.Totals.{opened, is_made_connected, is_connected}
+use Rattle.relay_model.specs.Lines.{Line, links_by, brings, ends, allows, allows_all}
+use Rattle.relay_model.specs.Scripted.{undecided_at, begun, lines}
+use Rattle.relay_model.specs.Plays.{IsAnswered}
+use Rattle.ev_port.specs.ScriptState.{EndState, LinksState, PortState}
+use Rattle.ev_port.specs.ScriptLinks.{end_of, links_of}
+use Rattle.ev_port.specs.ScriptPort.{lines_of}
+use Rattle.ev_port.specs.ScriptPlayed.{played_line, played_turns}
+
+-- What is asked of the script and of the callers
+
+-- each line names a link that was opened before it, so many being opened before all of them
+abbrev pub NamesOpened : ℕ → List TurnLine → Type 0
+NamesOpened opened [] = ⊤
+NamesOpened opened (line.NewLink wait ∷ lines) = NamesOpened (opened + 1) lines
+NamesOpened opened (line.Pending side bytes ∷ lines) = (side.link < opened) × NamesOpened opened lines
+NamesOpened opened (line.Eof side ∷ lines) = (side.link < opened) × NamesOpened opened lines
+NamesOpened opened (line.Take side more ∷ lines) = (side.link < opened) × NamesOpened opened lines
+
+-- links get their numbers in order, from 0
+abbrev pub OpensInOrder : Trace → Type 0
+OpensInOrder t = (before after : Trace) (link : ℕ) (connected : Bool) (bytes : List ℕ) →
+    t ≡ before ++ (entry.Opened link connected, bytes) ∷ after → link ≡ opened before
+
+-- A trace is called for by these turns: their lines name opened links, it has no more turns than there are, and its links
+-- are numbered in order.
+pub record IsCalledFor (turns : List TurnValue) (t : Trace) : Type 0 where
+  pub lines : NamesOpened 0 (lines_of turns)
+  pub turns_left : begun (played_turns turns) t ≤ length turns
+  pub in_order : OpensInOrder t
+
+-- Where the port stands
+
+-- What an end may take is what the lines allow less what it took. The port's sum stops at the end of a u64, which no end
+-- comes to.
+pub record TakesOn (more allowed taken : ℕ) : Type 0 where
+  pub least : min allowed (2 ^ 64 - 1) ≤ taken + more
+  pub most : taken + more ≤ allowed
+  pub within : taken < 2 ^ 64 - 1
+
+-- the same, where the lines may allow any number
+abbrev pub MayTake : Option ℕ → Bool → ℕ → ℕ → Type 0
+MayTake None any allowed taken = any ≡ true
+MayTake (Some more) any allowed taken = (any ≡ false) × TakesOn more allowed taken
+
+-- An end stands where these lines and this trace leave it; the whole script has these links, each undecided or not.
+pub record EndStands (waits : List Bool) (lines : List Line) (t : Trace) (e : SideId) (s : EndState) : Type 0 where
+  pub came : bytes_read e t ++ s.pending ≡ flat_map (brings e) lines
+  pub eof : s.eof ≡ list_any (ends e) lines
+  pub taken : s.taken ≡ bytes_given e t
+  pub may_take : MayTake s.may_take (list_any (allows_all e) lines) (sum_by (allows e) lines) (length s.taken)
+  pub wait : s.wait ≡ undecided_at e.side (slice_index_or waits e.link false)
+  pub made_connected : s.tally.made_connected ≡ is_made_connected e t
+  pub connected : s.tally.connected ≡ is_connected e t
+  pub undecided : s.wait ≡ true → s.tally.made_connected ≡ false
+
+-- All links do: those that wait are the ones that the lines opened, but for those that the trace opened.
+pub record LinksStand (waits : List Bool) (lines : List Line) (t : Trace) (l : LinksState) : Type 0 where
+  pub in_order : opened t ≤ length (flat_map links_by lines)
+  pub waiting : l.waiting ≡ drop (opened t) (flat_map links_by lines)
+  pub ends : (e : SideId) (s : EndState) → end_of l e ≡ Some s → EndStands waits lines t e s
+  pub beyond : (e : SideId) → end_of l e ≡ None → length waits ≤ e.link
+
+-- The port does: every answer in the trace is the script's, and as many turns began as the trace has.
+pub record PortStands (p : PortState) (t : Trace) : Type 0 where
+  pub answered : (closing_by : ℕ) → IsAnswered (played_turns p.turns) closing_by t
+  pub begun : p.begun ≡ begun (played_turns p.turns) t
+  pub links : LinksStand (links_of (lines_of p.turns)) (lines (played_turns p.turns) t) t p.links
+
+-- a script port vouches for the traces behind which it stands, where they are called for
+abbrev pub ScriptVouches : PortState → Trace → Type 0
+ScriptVouches p t = IsCalledFor p.turns t → PortStands p t
