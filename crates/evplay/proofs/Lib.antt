@@ -2,3 +2,4 @@ pub mod Lists
 pub mod ScriptLemmas
 pub mod FaultLemmas
 pub mod HeadlineLemmas
+pub mod NamesLemmas
