@@ -1,3 +1,5 @@
 pub mod Lists
 pub mod ScriptLemmas
 pub mod FaultLemmas
+pub mod TurnCountLemmas
+pub mod OrderLemmas
