@@ -3,3 +3,5 @@ pub mod ScriptLemmas
 pub mod FaultLemmas
 pub mod HeadlineLemmas
 pub mod NamesLemmas
+pub mod TurnCountLemmas
+pub mod OrderLemmas
