@@ -4,6 +4,7 @@ pub mod LinkLemmas
 pub mod ScriptLemmas
 pub mod ToldLemmas
 pub mod CallLemmas
+pub mod LawLemmas
 pub mod ScriptPlayedLemmas
 pub mod ScriptStandLemmas
 pub mod ScriptTraceLemmas
@@ -12,4 +13,3 @@ pub mod ScriptAnswerLemmas
 pub mod ScriptSeenLemmas
 pub mod ScriptQuietLemmas
 pub mod ScriptVouchLemmas
-pub mod LawLemmas

@@ -7,6 +7,7 @@ use Rattle.script_text.specs.Script.{ScriptValue}
 use Rattle.script_text.specs.Spelled.{script_of}
 use Rattle.script_text.specs.TraceText.{trace_text}
 use Rattle.script_text.specs.ReportText.{report_text}
+use Rattle.evplay.specs.Headline.{IsRun}
 
 -- the source gave a whole text, whose first bad line is this one; a number above 2^32 - 1 is told as that number
 abbrev pub GaveBad : Option (List ℕ) → Option (List ℕ) → ℕ → Type 0
@@ -20,13 +21,15 @@ GaveScript old new = (text : List ℕ) × (script : ScriptValue) × GaveAll old 
 abbrev pub run_text : Trace → List LinkLine → List ℕ
 run_text t links = trace_text t ++ report_text links
 
+-- it is the text of a run and its report
 abbrev pub IsRunText : List ℕ → Type 0
-IsRunText text = (t : Trace) × (links : List LinkLine) × (text ≡ run_text t links)
+IsRunText text = (t : Trace) × (links : List LinkLine) × IsRun t links × (text ≡ run_text t links)
 
--- the sink took the whole text of a trace and a report
+-- the sink took the whole text of a run and its report
 abbrev pub TookText : Option (List ℕ) → Option (List ℕ) → Type 0
-TookText old new = (t : Trace) × (links : List LinkLine) × TookOn old new (run_text t links)
+TookText old new = (t : Trace) × (links : List LinkLine) × IsRun t links × TookOn old new (run_text t links)
 
 -- the sink took the first n bytes of such a text, and not all
 abbrev pub TookPart : Option (List ℕ) → Option (List ℕ) → Type 0
-TookPart old new = (t : Trace) × (links : List LinkLine) × (n : ℕ) × (n < length (run_text t links)) × TookOn old new (take n (run_text t links))
+TookPart old new =
+    (t : Trace) × (links : List LinkLine) × (n : ℕ) × IsRun t links × (n < length (run_text t links)) × TookOn old new (take n (run_text t links))

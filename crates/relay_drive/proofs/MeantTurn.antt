@@ -118,18 +118,20 @@ pub polls-stand : (t : Trace) (s new : State) (a : Trace) (marked : List Want) (
     StandsFor (t ++ a) (Stage.Accepting 0 (marks_of marked)) new × (map named marked ≡ wanted_by s) × (new ≡ s)
 polls-stand t s new a marked ready k h =
     let marks = marks-named (wanted s) marked h.marks h.many in
-    let names = marks.0 ∙ wanted-named s in
-    (subst (λ z. StandsFor (t ++ z) (Stage.Accepting 0 (marks_of marked)) new) (sym h.entries)
-    (subst (StandsFor (t ++ poll_events None marked (polled.Ready ready)) (Stage.Accepting 0 (marks_of marked))) (sym h.state) (poll-stands t s marked ready names marks.1 k)),
-    names,
-    h.state)
+    let names = marks.0 ∙ wanted-named s in (
+      subst (λ z. StandsFor (t ++ z) (Stage.Accepting 0 (marks_of marked)) new) (sym h.entries)
+          (subst (StandsFor (t ++ poll_events None marked (polled.Ready ready)) (Stage.Accepting 0 (marks_of marked))) (sym h.state) (poll-stands t s marked ready names marks.1 k)),
+      names,
+      h.state,
+    )
 
 pub opens-stand : (m : ℕ) (marks : List rooms.Want) (t : Trace) (s new : State) (a : Trace) → m ≤ 64 → StandsFor t (Stage.Accepting 0 marks) s → OpensSome m s a new →
     StandsFor (t ++ a) (Stage.Accepting m marks) new × (s.opened ≤ new.opened)
 opens-stand zero marks t s new a few k h =
-    let same = sym h.1 in
-    (subst (λ z. StandsFor z (Stage.Accepting 0 marks) new) (sym (ap (λ b. t ++ b) h.0 ∙ append-nil t)) (subst (StandsFor t (Stage.Accepting 0 marks)) same k),
-    (let b = ap (λ (z : State). z.opened) h.1 in omega (arith, b)))
+    let same = sym h.1 in (
+      subst (λ z. StandsFor z (Stage.Accepting 0 marks) new) (sym (ap (λ b. t ++ b) h.0 ∙ append-nil t)) (subst (StandsFor t (Stage.Accepting 0 marks)) same k),
+      (let b = ap (λ (z : State). z.opened) h.1 in omega (arith, b)),
+    )
 opens-stand (suc m) marks t s new a few k h =
     let first = opens-stand m marks t s h.middle h.front (omega (arith, few)) k h.first in
     let one = h.second.1 in
@@ -137,12 +139,13 @@ opens-stand (suc m) marks t s new a few k h =
     let stands = opened-stands (t ++ h.front) h.middle m marks connected first.0 (omega (arith, few)) one.allowed in
     let next : m + 1 ≡ suc m = omega arith in
     let more : h.middle.opened + 1 ≡ new.opened = sym (ap (λ (z : State). z.opened) one.state) in
-    let le = first.1 in
-    (subst (λ z. StandsFor z (Stage.Accepting (suc m) marks) new) (append_assoc t h.front h.back ∙ ap (λ z. t ++ z) (sym h.joined))
-    (subst (λ z. StandsFor ((t ++ h.front) ++ z) (Stage.Accepting (suc m) marks) new) (sym one.entries)
-    (subst (StandsFor ((t ++ h.front) ++ (entry.Opened h.middle.opened connected, []) ∷ []) (Stage.Accepting (suc m) marks)) (sym one.state)
-    (subst (λ z. StandsFor ((t ++ h.front) ++ (entry.Opened h.middle.opened connected, []) ∷ []) (Stage.Accepting z marks) (after_opened h.middle connected)) next stands))),
-    omega (arith, le, more))
+    let le = first.1 in (
+      subst (λ z. StandsFor z (Stage.Accepting (suc m) marks) new) (append_assoc t h.front h.back ∙ ap (λ z. t ++ z) (sym h.joined))
+          (subst (λ z. StandsFor ((t ++ h.front) ++ z) (Stage.Accepting (suc m) marks) new) (sym one.entries)
+          (subst (StandsFor ((t ++ h.front) ++ (entry.Opened h.middle.opened connected, []) ∷ []) (Stage.Accepting (suc m) marks)) (sym one.state)
+          (subst (λ z. StandsFor ((t ++ h.front) ++ (entry.Opened h.middle.opened connected, []) ∷ []) (Stage.Accepting z marks) (after_opened h.middle connected)) next stands))),
+      omega (arith, le, more),
+    )
 
 pub accepts-stand : (marked : List Want) (t : Trace) (s new : State) (a : Trace) → StandsFor t Stage.Polling s → PollsAndAccepts marked s a new →
     StandsWith new.opened (t ++ a) (serving marked) new × Each_is (IsBelow new.opened) marked
@@ -151,9 +154,10 @@ accepts-stand marked t s new a k h =
     let poll = polls-stand t s w.middle w.front marked h.0 k w.first in
     let after = by_ready h.0 (t ++ w.front) w.middle w.back poll.0 w.second in
     let same = ap (λ (z : State). z.opened) poll.2 in
-    let le = after.1 in
-    (subst (λ z. StandsWith new.opened z (serving marked) new) (append_assoc t w.front w.back ∙ ap (λ z. t ++ z) (sym w.joined)) (record { stands = after.0; opened = refl }),
-    wants-below new.opened s marked (omega (arith, same, le)) poll.1)
+    let le = after.1 in (
+      subst (λ z. StandsWith new.opened z (serving marked) new) (append_assoc t w.front w.back ∙ ap (λ z. t ++ z) (sym w.joined)) (record { stands = after.0; opened = refl }),
+      wants-below new.opened s marked (omega (arith, same, le)) poll.1,
+    )
   where
     by_ready : (ready : Bool) (u : Trace) (m : State) (b : Trace) → StandsFor u (Stage.Accepting 0 (marks_of marked)) m → AcceptsWhere ready m b new →
         StandsFor (u ++ b) (serving marked) new × (m.opened ≤ new.opened)

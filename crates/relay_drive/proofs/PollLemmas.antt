@@ -1,5 +1,5 @@
 -- The entries of a poll, and what sides want.
-use Rattle.std.proofs.Common.{◌≡◌, inl, inr, ℕ, zero, suc, ◌+◌, ◌-◌, ◌^◌, ◌<◌, ◌≤◌, Bool, true, false, ◌||◌, List, [], ◌∷◌, ◌++◌, length, max, min, take, get_or, slice_index_or, if◌then◌else◌, None, refl, sym, ◌∙◌, ap, subst, arith, append_assoc, append-nil, length-append}
+use Rattle.std.proofs.Common.{◌≡◌, inl, inr, ℕ, zero, suc, ◌+◌, Bool, true, false, ◌||◌, List, [], ◌∷◌, ◌++◌, length, take, if◌then◌else◌, None, refl, sym, ◌∙◌, ap, subst, arith, append_assoc, append-nil}
 use Rattle.std.proofs.lemmas.List.Folds.{list_any-append}
 use Rattle.stream_words.specs.Faults.{Counted}
 use mathlib.Core.Logic.{◌⊎◌}
@@ -12,7 +12,7 @@ use Rattle.ev_port.specs.Told.{Faults}
 use Rattle.ev_port.specs.Faults.{PollFaults}
 use Rattle.ev_port.specs.Calls.{last_time}
 use Rattle.ev_port.specs.Counting.{counted}
-use Rattle.ev_port.specs.Polling.{IsMarked, AllMarked, want_events, ready_events, poll_events, is_failed_poll}
+use Rattle.ev_port.specs.Polling.{IsMarked, AllMarked, want_events, ready_events, poll_events}
 use Rattle.relay_core.specs.State.{State}
 use Rattle.relay_drive.specs.declared.fault.DriveFault.{DriveFault}
 use Rattle.relay_drive.specs.declared.fault.DriveFault.TheVariants as fault

@@ -1,6 +1,6 @@
 -- What a step that touches one side and its peer leaves of all others, and what one that touches none leaves of all.
-use Rattle.std.proofs.Common.{◌≡◌, ◌≢◌, ℕ, ◌+◌, ◌*◌, ◌<◌, ◌≤◌, Bool, List, [], ◌∷◌, ◌++◌, length, slice_index_or, slice_set, refl, sym, ◌∙◌, ap, subst, arith}
-use Rattle.std.proofs.lemmas.List.{get_or-set_same, get_or-set_other, length-set, set-set, set-get_or}
+use Rattle.std.proofs.Common.{◌≡◌, ◌≢◌, ◌*◌, ◌<◌, ◌≤◌, [], ◌∷◌, ◌++◌, length, refl, sym, ◌∙◌, ap, subst, arith}
+use Rattle.std.proofs.lemmas.List.{get_or-set_same, get_or-set_other, set-set, set-get_or}
 use Rattle.ev_types.specs.declared.side.SideId.{SideId}
 use Rattle.ev_types.specs.Sides.{number, peer}
 use Rattle.ev_types.specs.Trace.{Event, Trace}
@@ -8,8 +8,8 @@ use Rattle.relay_model.specs.Flow.{Flow, no_flow}
 use Rattle.relay_model.specs.Plain as plain
 use Rattle.relay_model.specs.Plain.{Plain, PlainSide, put_side, put_flow}
 use Rattle.relay_model.specs.Turn.{latest}
-use Rattle.relay_core.specs.State.{State, Lane, SideValue, no_side, side_at, flags_at, lane_at, with_side, with_lane}
-use Rattle.relay_meaning.specs.Meaning.{meant, Direction, direction_of, IsStraight, AgreesAt, Agrees}
+use Rattle.relay_core.specs.State.{State, SideValue, no_side, side_at, with_side}
+use Rattle.relay_meaning.specs.Meaning.{meant, direction_of, IsStraight, AgreesAt, Agrees}
 use Rattle.relay_meaning.proofs.EndLemmas.{SameTold, IsSilent, told-same, untold-same, number-below, number-apart, peer-moves, peer-peer, link-apart, by_side}
 
 -- Getting and setting

@@ -1,5 +1,5 @@
 -- The steps of closing: each is called for where the model's is, and puts and changes what the model's does.
-use Rattle.std.proofs.Common.{◌≡◌, ◌≢◌, ℕ, zero, suc, ◌+◌, ◌<◌, Bool, true, false, not, ◌&&◌, ◌==◌, if◌then◌else◌, List, [], ◌∷◌, ◌++◌, length, Option, Some, None, refl, sym, ◌∙◌, ap, subst, arith, append_assoc, eqb-true, ne_eqb, ◌||◌}
+use Rattle.std.proofs.Common.{◌≡◌, ◌≢◌, ℕ, zero, suc, ◌+◌, ◌<◌, Bool, true, false, not, ◌&&◌, ◌==◌, if◌then◌else◌, List, [], ◌∷◌, ◌++◌, length, Some, None, refl, sym, ◌∙◌, ap, subst, arith, append_assoc, eqb-true, ne_eqb, ◌||◌}
 use Rattle.std.specs.Prelude.{option_map}
 use Rattle.ev_types.specs.declared.side.SideId.{SideId}
 use Rattle.ev_types.specs.declared.why.Cause.TheVariants as cause
@@ -21,8 +21,7 @@ use Rattle.relay_core.specs.declared.close.Closing.{Closing}
 use Rattle.relay_core.specs.declared.close.Closing.TheVariants as closing
 use Rattle.relay_core.specs.State.{State, SideValue, side_at, flags_at, lane_at}
 use Rattle.relay_core.specs.Closing.{in_side, out_side, link_of, are_empty, is_all_given, is_nothing_waiting, is_called_for, freed, after_closing}
-use Rattle.relay_core.specs.Counting.{counts_of}
-use Rattle.relay_meaning.specs.Meaning.{model_settings, meant, IsStraight, Agrees, StandsFor}
+use Rattle.relay_meaning.specs.Meaning.{model_settings, IsStraight, Agrees, StandsFor}
 use Rattle.relay_meaning.specs.Results.{freed_event, closing_events, close_step}
 use Rattle.relay_meaning.proofs.Pieces.{and_left, and_right}
 use Rattle.relay_meaning.proofs.StraightLemmas.{straight-closed}
@@ -30,7 +29,6 @@ use Rattle.relay_meaning.proofs.EndLemmas.{SameTold, IsSilent, told-same, same_e
 use Rattle.relay_meaning.proofs.TouchLemmas.{told_as, from-straight, to-straight}
 use Rattle.relay_meaning.proofs.RoomLemmas.{live-is, raw_input_at-is, input_at-is, output_at-is, raw_output_at-is}
 use Rattle.relay_meaning.proofs.SideSteps.{or_true, silent-close_write, agrees-flags, agrees-flags_silent}
-use Rattle.relay_meaning.proofs.ServeSteps.{not_true}
 use Rattle.relay_meaning.proofs.FreeSteps.{freed_entry-is, freed-agrees, freed-own, freed-far}
 
 silent-close : (e a : SideId) → IsSilent (entry.Close e, []) a

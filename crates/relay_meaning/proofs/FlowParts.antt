@@ -1,11 +1,11 @@
 -- Where no filter changes anything, the parts of a round that the model does to the counts of a direction are those that the
 -- relay does.
-use Rattle.std.proofs.Common.{◌≡◌, ℕ, ◌+◌, ◌-◌, ◌/◌, ◌≤◌, Bool, true, false, not, ◌&&◌, ◌||◌, ◌==◌, nat_le, min, if◌then◌else◌, List, [], ◌++◌, length, take, drop, Option, None, refl, sym, ◌∙◌, ap, arith, length-drop, length-take-le}
-use Rattle.std.specs.Prelude.{nat_lt, is_none, is_some}
+use Rattle.std.proofs.Common.{◌≡◌, ℕ, ◌+◌, ◌-◌, ◌/◌, ◌≤◌, Bool, true, false, not, ◌&&◌, ◌||◌, ◌==◌, nat_le, if◌then◌else◌, List, [], ◌++◌, length, take, drop, Option, None, refl, sym, ◌∙◌, ap, arith, length-drop, length-take-le}
+use Rattle.std.specs.Prelude.{nat_lt}
 use Rattle.relay_model.specs.Filter.{met}
-use Rattle.relay_model.specs.Flow.{Flow, middle, input, output, raw_output}
+use Rattle.relay_model.specs.Flow.{Flow, middle, input, raw_output}
 use Rattle.relay_model.specs.Conserved.{all_moved}
-use Rattle.relay_model.specs.Pass.{first_from, is_over, read_stops, with_used, read_place, with_read_done, with_moved, with_held, write_stops, with_turned, write_place, with_write_done}
+use Rattle.relay_model.specs.Pass.{is_over, read_stops, with_used, with_read_done, with_moved, with_held, write_stops, with_turned, write_place, with_write_done}
 use Rattle.relay_model.proofs.RunningLemmas.{holds-none}
 use Rattle.relay_core.specs.State.{Lane}
 use Rattle.relay_core.specs.Passing.{held, used_now, read_filtered, is_moving, moved, turned_now, write_filtered}

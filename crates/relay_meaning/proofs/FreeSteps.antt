@@ -1,5 +1,5 @@
 -- A side is freed: its two directions stay straight, and the model frees it too.
-use Rattle.std.proofs.Common.{◌≡◌, ◌≢◌, ℕ, ◌<◌, Bool, true, false, List, [], ◌∷◌, ◌++◌, if◌then◌else◌, length, None, refl, sym, ◌∙◌, ap, subst}
+use Rattle.std.proofs.Common.{◌≡◌, ◌≢◌, ℕ, ◌<◌, true, false, [], ◌∷◌, ◌++◌, if◌then◌else◌, length, None, refl, sym, ◌∙◌, ap, subst}
 use Rattle.std.proofs.lemmas.List.{length-set}
 use Rattle.ev_types.specs.declared.side.SideId.{SideId}
 use Rattle.ev_types.specs.declared.why.Cause.{Cause}
@@ -18,7 +18,7 @@ use Rattle.relay_meaning.specs.Meaning.{meant, IsStraight, Agrees}
 use Rattle.relay_meaning.specs.Results.{freed_event}
 use Rattle.relay_meaning.proofs.StraightLemmas.{straight-gone, straight-peer_gone}
 use Rattle.relay_meaning.proofs.EndLemmas.{SameTold, told-same, same_end-self, peer-apart, read-silent, given-silent, ended-silent, closed-silent}
-use Rattle.relay_meaning.proofs.AgreeLemmas.{side-set, side-set_other, plain_side-put, plain_side-put_other, in_code, in_sides}
+use Rattle.relay_meaning.proofs.AgreeLemmas.{side-set, side-set_other, plain_side-put_other, in_code, in_sides}
 use Rattle.relay_meaning.proofs.TouchLemmas.{told_as, from-straight, to-straight, agrees-touches}
 use Rattle.relay_meaning.proofs.SideSteps.{silent-freed, meant-put}
 

@@ -12,3 +12,4 @@ pub mod WriteSteps
 pub mod FreeSteps
 pub mod CloseSteps
 pub mod TurnSteps
+pub mod LawLemmas

@@ -1,5 +1,5 @@
 -- A direction is passed: each round that the relay makes is one of the model's.
-use Rattle.std.proofs.Common.{◌≡◌, ◌⊎◌, inl, inr, ℕ, zero, suc, ◌+◌, ◌<◌, Bool, true, false, List, [], ◌∷◌, length, Option, Some, None, fold, refl, sym, ◌∙◌, ap, subst}
+use Rattle.std.proofs.Common.{◌≡◌, inl, inr, ℕ, zero, suc, ◌+◌, ◌<◌, Bool, true, false, List, [], ◌∷◌, length, Option, Some, None, fold, refl, sym, ◌∙◌, ap, subst}
 use Rattle.std.proofs.lemmas.List.{length-set}
 use Rattle.ev_types.specs.declared.side.SideId.{SideId}
 use Rattle.ev_types.specs.Sides.{number, peer}
@@ -11,19 +11,18 @@ use Rattle.relay_model.specs.Settings as model
 use Rattle.relay_model.specs.Plain as plain
 use Rattle.relay_model.specs.Plain.{Plain, PlainSide, put_side, put_flow}
 use Rattle.relay_model.specs.Past.{Past, past}
-use Rattle.relay_model.specs.Rooms.{read_kind, write_kind, read_filter, write_filter, read_mark, hold_mark, mark_or}
+use Rattle.relay_model.specs.Rooms.{read_filter, write_filter, read_mark, hold_mark, mark_or}
 use Rattle.relay_model.specs.Pass.{with_used, read_place, with_read_done, with_moved, with_held, with_turned, write_place, with_write_done}
 use Rattle.relay_model.specs.Round as model_round
 use Rattle.relay_model.specs.Round.{Part, parts_of, meets, read_run, write_run, do_part}
-use Rattle.relay_model.specs.Stages.{Stage, State, at}
+use Rattle.relay_model.specs.Stages.{Stage, at}
 use Rattle.relay_model.specs.Turn.{Reaches}
 use Rattle.relay_core.specs.declared.settings.Settings.{Settings}
 use Rattle.relay_core.specs.State as core
 use Rattle.relay_core.specs.State.{Lane, side_at, flags_at, lane_at, with_side, with_lane}
-use Rattle.relay_core.specs.Passing.{held, used_now, read_filtered, moved, write_filtered, round, rounds, round_from, Passed, SomeRounds, PassedFrom, PartlyPassed}
+use Rattle.relay_core.specs.Passing.{held, used_now, read_filtered, moved, write_filtered, round, rounds, round_from, PassedFrom, PartlyPassed}
 use Rattle.relay_core.proofs.RelayLemmas.{with_side-same}
-use Rattle.relay_core.proofs.RoundLemmas.{rounds-suc}
-use Rattle.relay_meaning.specs.Meaning.{model_settings, meant, Direction, direction_of, IsStraight, AgreesAt, Agrees, StandsFor}
+use Rattle.relay_meaning.specs.Meaning.{model_settings, Direction, direction_of, IsStraight, Agrees, StandsFor}
 use Rattle.relay_meaning.proofs.StraightLemmas.{straight-held, straight-read, straight-moved, straight-written}
 use Rattle.relay_meaning.proofs.AgreeLemmas.{side-set, side-set_other, with_side-twice, flow-put, put_flow-twice, put_flow-same, put_side-same, in_code, in_flows}
 use Rattle.relay_meaning.proofs.EndLemmas.{peer-apart}
@@ -179,11 +178,12 @@ module _ (t : Trace) (s : core.State) (p : Plain) (h : Agrees t s p) (e : SideId
       let d1 : Direction = record dir { lane = y1 } in
       let s1 = straight-held dir s0 hold in
       let k1 = seen-after s.settings t p e dir y1 seen-first in
-      let p1 : Plain = put_flow e y1.flow p in
-      (ap (do_part gs Ps e Part.Drain) (hold-part s.settings t p e dir seen-first s0 b)
-      ∙ drain-part s.settings t p1 e d1 k1 s1 b
-      ∙ put_flow-twice e y1.flow _ p,
-      straight-written d1 s1 b hold false (λ z. absurd (cc)))
+      let p1 : Plain = put_flow e y1.flow p in (
+        ap (do_part gs Ps e Part.Drain) (hold-part s.settings t p e dir seen-first s0 b)
+            ∙ drain-part s.settings t p1 e d1 k1 s1 b
+            ∙ put_flow-twice e y1.flow _ p,
+        straight-written d1 s1 b hold false (λ z. absurd (cc)),
+      )
   by_lives true true a b =
       let y1 : Lane = held hold (lane_at s e) in
       let s0 = (h.each e lt).direction in
@@ -201,13 +201,14 @@ module _ (t : Trace) (s : core.State) (p : Plain) (h : Agrees t s p) (e : SideId
       let s3 = straight-moved d2 s2 a b in
       let k3 = seen-after s.settings t p2 e d2 y3 k2 in
       let p3 : Plain = put_flow e y3.flow p2 in
-      let y4 : Lane = write_filtered hold true y3 in
-      (ap (λ z. do_part gs Ps e Part.Write (do_part gs Ps e Part.Move (do_part gs Ps e Part.Read z))) (hold-part s.settings t p e dir seen-first s0 b)
-      ∙ ap (λ z. do_part gs Ps e Part.Write (do_part gs Ps e Part.Move z)) (read-part s.settings t p1 e d1 k1 s1 a ended ended-is)
-      ∙ ap (do_part gs Ps e Part.Write) (move-part s.settings t p2 e d2 k2 s2 a b)
-      ∙ write-part s.settings t p3 e d3 k3 s3 b a
-      ∙ put_flow-twice e y3.flow y4.flow p2 ∙ put_flow-twice e y2.flow y4.flow p1 ∙ put_flow-twice e y1.flow y4.flow p,
-      straight-written d3 s3 b hold true (λ z. a))
+      let y4 : Lane = write_filtered hold true y3 in (
+        ap (λ z. do_part gs Ps e Part.Write (do_part gs Ps e Part.Move (do_part gs Ps e Part.Read z))) (hold-part s.settings t p e dir seen-first s0 b)
+            ∙ ap (λ z. do_part gs Ps e Part.Write (do_part gs Ps e Part.Move z)) (read-part s.settings t p1 e d1 k1 s1 a ended ended-is)
+            ∙ ap (do_part gs Ps e Part.Write) (move-part s.settings t p2 e d2 k2 s2 a b)
+            ∙ write-part s.settings t p3 e d3 k3 s3 b a
+            ∙ put_flow-twice e y3.flow y4.flow p2 ∙ put_flow-twice e y2.flow y4.flow p1 ∙ put_flow-twice e y1.flow y4.flow p,
+        straight-written d3 s3 b hold true (λ z. a),
+      )
 
   whole : Rounded (flags_at s e).live (flags_at s (peer e)).live
   whole = by_lives (flags_at s e).live (flags_at s (peer e)).live refl refl

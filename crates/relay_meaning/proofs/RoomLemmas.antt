@@ -1,6 +1,6 @@
 -- Where no filter changes anything, the model's buffers are the relay's, and so are rooms and wants. The poll has no timeout,
 -- and time alone changes nothing.
-use Rattle.std.proofs.Common.{◌≡◌, ℕ, zero, suc, ◌+◌, ◌-◌, ◌<◌, ◌≤◌, Bool, true, false, not, ◌&&◌, ◌||◌, ◌==◌, nat_le, min, if◌then◌else◌, List, [], ◌∷◌, ◌++◌, length, take, drop, map, filter, fold, Option, Some, None, refl, sym, ◌∙◌, ap, subst, arith, take-take, le-leb}
+use Rattle.std.proofs.Common.{◌≡◌, ℕ, zero, suc, ◌+◌, ◌-◌, ◌<◌, ◌≤◌, Bool, true, false, not, ◌&&◌, ◌||◌, nat_le, min, if◌then◌else◌, List, [], ◌∷◌, ◌++◌, length, take, drop, map, filter, fold, Some, None, refl, sym, ◌∙◌, ap, arith, take-take, le-leb}
 use Rattle.std.specs.Prelude.{nat_lt, option_map}
 use Rattle.std.specs.List.{flat_map, list_any}
 use Rattle.std.proofs.lemmas.Bool.{lt-ltb}
@@ -9,7 +9,6 @@ use Rattle.token_bucket.specs.declared.limit.Dir.TheVariants as dir
 use Rattle.ev_types.specs.declared.side.Side.{Side}
 use Rattle.ev_types.specs.declared.side.Side.TheVariants.{In, Out}
 use Rattle.ev_types.specs.declared.side.SideId.{SideId}
-use Rattle.ev_types.specs.declared.filter.FilterKind.{FilterKind}
 use Rattle.ev_types.specs.declared.filter.FilterKind.TheVariants as kind
 use Rattle.ev_types.specs.Sides.{peer}
 use Rattle.ev_types.specs.Trace.{Trace}
@@ -25,10 +24,10 @@ use Rattle.relay_model.specs.Rooms as rooms
 use Rattle.relay_model.specs.Rooms.{read_kind, write_kind, read_filter, write_filter, mark_or, share_in, at_most}
 use Rattle.relay_model.specs.Moments.{both_ways, poll_timeout, time_passed, timers_taken, timed, side_timed, expiry, limit_gain}
 use Rattle.relay_core.specs.declared.settings.Settings.{Settings}
-use Rattle.relay_core.specs.State.{State, side_at, flags_at, lane_at}
+use Rattle.relay_core.specs.State.{State, flags_at, lane_at}
 use Rattle.relay_core.specs.Rooms as core
-use Rattle.relay_meaning.specs.Meaning.{model_settings, meant, Direction, direction_of, IsStraight, AgreesAt, Agrees}
-use Rattle.relay_meaning.proofs.Pieces.{if_same, and_left, and_right}
+use Rattle.relay_meaning.specs.Meaning.{model_settings, meant, Direction, direction_of, IsStraight, Agrees}
+use Rattle.relay_meaning.proofs.Pieces.{if_same, and_left}
 use Rattle.relay_meaning.proofs.StraightLemmas.{raw_input-is, input-is, output-is, raw_output-is}
 use Rattle.relay_meaning.proofs.EndLemmas.{peer-peer}
 
@@ -107,7 +106,7 @@ module _ (t : Trace) (s : State) (p : Plain) (h : Agrees t s p) where
         ∙ ap (drop lane_flow.given) (outcome-none (bytes_read (peer e) t) lane_flow turned_le)
         ∙ sym (raw_output-is toward straight to_live)
 
--- Rooms and wants
+  -- Rooms and wants
 
   module _ (e : SideId) (lt : e.link < s.opened) where
     abbrev read_room_by : PlainSide → PlainSide → ℕ → ℕ

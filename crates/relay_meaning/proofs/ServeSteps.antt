@@ -1,20 +1,18 @@
 -- A marked side is served: each call of the port is the one that the model calls for, and what it changes is what the model
 -- changes. A mark that calls for nothing is passed over.
-use Rattle.std.proofs.Common.{◌≡◌, ◌≢◌, ℕ, ◌+◌, ◌-◌, ◌<◌, ◌≤◌, Bool, true, false, not, ◌&&◌, ◌||◌, nat_le, min, if◌then◌else◌, List, [], ◌∷◌, ◌++◌, length, take, drop, refl, sym, ◌∙◌, ap, subst, arith, append-nil, length-append, length-take-le, take-take}
+use Rattle.std.proofs.Common.{◌≡◌, ◌≢◌, ℕ, ◌+◌, ◌-◌, ◌<◌, Bool, true, false, not, ◌&&◌, ◌||◌, nat_le, min, if◌then◌else◌, List, [], ◌∷◌, ◌++◌, length, refl, sym, ◌∙◌, ap, subst, append-nil, length-append}
 use Rattle.std.specs.Prelude.{nat_lt}
-use Rattle.std.proofs.lemmas.Bool.{ltb-true}
 use Rattle.std.proofs.lemmas.List.{length-set}
 use Rattle.ev_types.specs.declared.side.SideId.{SideId}
 use Rattle.ev_types.specs.declared.answer.ConnAnswer.{ConnAnswer}
 use Rattle.ev_types.specs.declared.answer.ConnAnswer.TheVariants as conn
 use Rattle.ev_types.specs.declared.answer.ReadAnswer.{ReadAnswer}
 use Rattle.ev_types.specs.declared.answer.ReadAnswer.TheVariants as read
-use Rattle.ev_types.specs.declared.answer.WriteAnswer.{WriteAnswer}
 use Rattle.ev_types.specs.declared.answer.WriteAnswer.TheVariants as write
 use Rattle.ev_types.specs.declared.entry.Entry.TheVariants as entry
-use Rattle.ev_types.specs.Sides.{number, peer, same_end}
+use Rattle.ev_types.specs.Sides.{number, peer}
 use Rattle.ev_types.specs.Trace.{Event, Trace}
-use Rattle.ev_port.specs.Ends.{conn_events, ReadWithin, got_bytes, read_events, WriteWithin, took_bytes, write_events}
+use Rattle.ev_port.specs.Ends.{conn_events}
 use Rattle.relay_model.specs.Trace.{bytes_read, bytes_given, has_ended}
 use Rattle.relay_model.specs.Flow.{Flow}
 use Rattle.relay_model.specs.Settings as model
@@ -22,31 +20,29 @@ use Rattle.relay_model.specs.Plain as plain
 use Rattle.relay_model.specs.Plain.{Plain, PlainSide, put_side, put_flow, change_side, change_flow}
 use Rattle.relay_model.specs.Past.{Past, past}
 use Rattle.relay_model.specs.Moments.{active_at}
-use Rattle.relay_model.specs.Reasons.{raise_read, raise_write}
 use Rattle.relay_model.specs.Rooms as rooms
 use Rattle.relay_model.specs.Rooms.{Want, mark_or}
 use Rattle.relay_model.specs.Round.{read_run}
 use Rattle.relay_model.specs.Serve as serve
 use Rattle.relay_model.specs.Serve.{Call, call_for, marks_left, CarriesGot, CarriesTook}
-use Rattle.relay_model.specs.Stages as stages
 use Rattle.relay_model.specs.Stages.{Stage, at}
 use Rattle.relay_model.specs.Turn.{Reaches}
 use Rattle.relay_model.proofs.TraceLemmas.{bytes_read-push, bytes_given-push, has_ended-push}
 use Rattle.token_bucket.specs.declared.limit.Dir.TheVariants as dir
-use Rattle.relay_core.specs.State.{State, Lane, SideValue, side_at, flags_at, lane_at, with_side, with_lane}
+use Rattle.relay_core.specs.State.{State, Lane, SideValue, side_at, flags_at, lane_at}
 use Rattle.relay_core.specs.Rooms as core
-use Rattle.relay_core.specs.Passing.{used_now, read_filtered}
+use Rattle.relay_core.specs.Passing.{used_now}
 use Rattle.relay_core.specs.Serving.{got_lane, got_side, took_lane, after_got, after_took}
-use Rattle.relay_meaning.specs.Meaning.{model_settings, meant, Direction, IsStraight, Agrees, StandsFor}
-use Rattle.relay_meaning.specs.Results.{after_conn, after_read, after_write}
+use Rattle.relay_meaning.specs.Meaning.{model_settings, IsStraight, Agrees, StandsFor}
+use Rattle.relay_meaning.specs.Results.{after_conn, after_read}
 use Rattle.relay_meaning.proofs.Pieces.{if_same, or_false, and_left, and_right}
-use Rattle.relay_meaning.proofs.StraightLemmas.{straight-got, straight-read, straight-ended, straight-took}
+use Rattle.relay_meaning.proofs.StraightLemmas.{straight-got, straight-read, straight-ended}
 use Rattle.relay_meaning.proofs.EndLemmas.{SameTold, IsSilent, told-same, same_end-self, peer-apart}
 use Rattle.relay_meaning.proofs.AgreeLemmas.{side-set, side-set_other, plain_side-put, plain_side-put_other, flow-put, flow-put_other, in_code, in_sides, in_flows, SameAt, agrees-silent}
 use Rattle.relay_meaning.proofs.TouchLemmas.{told_as, from-straight, to-straight, is_at-same, agrees-touches}
-use Rattle.relay_meaning.proofs.RoomLemmas.{read_room-is, write_room-is, one_or_more, connecting-is, may_read-live, may_write-live}
+use Rattle.relay_meaning.proofs.RoomLemmas.{read_room-is, write_room-is, one_or_more, connecting-is, may_read-live}
 use Rattle.relay_meaning.proofs.PassSteps.{read_run-is}
-use Rattle.relay_meaning.proofs.SideSteps.{if_true, if_false, or_true, silent-got, silent-ended, silent-took, told_as-same, meant-put, agrees-flags, agrees-flags_silent}
+use Rattle.relay_meaning.proofs.SideSteps.{if_true, if_false, or_true, silent-got, silent-ended, meant-put, agrees-flags, agrees-flags_silent}
 
 pub silent-conn : (e a : SideId) (answer : ConnAnswer) → IsSilent (entry.Conn e answer, []) a
 silent-conn e a answer = record { read = refl; given = refl; ended = refl; moved = refl; given_free = refl; closed = refl }
@@ -144,9 +140,12 @@ module _ (t : Trace) (s : State) (e : SideId) (r w : Bool) (ms : List Want) (k :
 
   conn-reached : (answer : ConnAnswer) → is_waiting s e ≡ true → w ≡ true → Reaches g (t ++ conn_events e answer) (at (Stage.Serving ms) (serve.after_conn g e answer p))
   conn-reached answer q l =
-      Reaches.puts (entry.Conn e answer) [] k.reached
-      (refl, call-is true r q refl ∙ ap (λ b. if b then Call.AskConnect else Call.Nothing) l, refl,
-      ap (λ z. at (Stage.Serving z) (serve.after_conn g e answer p)) (sym (marks-are true r q refl)))
+      Reaches.puts (entry.Conn e answer) [] k.reached (
+        refl,
+        call-is true r q refl ∙ ap (λ b. if b then Call.AskConnect else Call.Nothing) l,
+        refl,
+        ap (λ z. at (Stage.Serving z) (serve.after_conn g e answer p)) (sym (marks-are true r q refl)),
+      )
 
   conn-told : (answer : ConnAnswer) (z : SideId) → SameTold t (t ++ conn_events e answer) z
   conn-told answer z = told-same t (entry.Conn e answer, []) z (silent-conn e z answer)

@@ -1,5 +1,5 @@
 -- Steps that change what is so of one side and no count, and what each event tells of an end that it does not name.
-use Rattle.std.proofs.Common.{◌≡◌, ◌≢◌, ℕ, ◌<◌, Bool, true, false, ◌||◌, ◌∷◌, [], ◌++◌, if◌then◌else◌, List, length, refl, sym, ◌∙◌, ap, subst}
+use Rattle.std.proofs.Common.{◌≡◌, ◌≢◌, ℕ, ◌<◌, Bool, true, false, ◌||◌, ◌∷◌, [], if◌then◌else◌, List, length, refl, sym, ◌∙◌, ap, subst}
 use Rattle.std.proofs.lemmas.List.{length-set}
 use Rattle.ev_types.specs.declared.side.SideId.{SideId}
 use Rattle.ev_types.specs.declared.answer.ReadAnswer.TheVariants as read
@@ -7,7 +7,7 @@ use Rattle.ev_types.specs.declared.answer.WriteAnswer.TheVariants as write
 use Rattle.ev_types.specs.declared.why.Cause.{Cause}
 use Rattle.ev_types.specs.declared.entry.Entry.TheVariants as entry
 use Rattle.ev_types.specs.Sides.{number, peer}
-use Rattle.ev_types.specs.Trace.{Event, Trace}
+use Rattle.ev_types.specs.Trace.{Trace}
 use Rattle.relay_model.specs.Trace.{bytes_read, has_ended}
 use Rattle.relay_model.specs.Plain as plain
 use Rattle.relay_model.specs.Plain.{Plain, PlainSide, put_side, change_side}
@@ -16,7 +16,7 @@ use Rattle.relay_core.specs.State.{State, SideValue, side_at, flags_at, with_fla
 use Rattle.relay_meaning.specs.Meaning.{meant, IsStraight, Agrees}
 use Rattle.relay_meaning.proofs.EndLemmas.{SameTold, IsSilent, same_end-apart, peer-apart}
 use Rattle.relay_meaning.proofs.AgreeLemmas.{side-set, side-set_other, plain_side-put, plain_side-put_other, in_code, in_sides, SameAt}
-use Rattle.relay_meaning.proofs.TouchLemmas.{told_as, from-straight, to-straight, IsAt, is_at-same, Touches, agrees-touches}
+use Rattle.relay_meaning.proofs.TouchLemmas.{told_as, from-straight, to-straight, is_at-same, agrees-touches}
 
 pub if_true : {A : Type 0} (b : Bool) (x y : A) → b ≡ true → (if b then x else y) ≡ x
 if_true true x y h = refl

@@ -1,15 +1,13 @@
 -- What a straight direction holds, and that each change of a direction keeps it straight.
-use Rattle.std.proofs.Common.{◌≡◌, ◌⊎◌, inl, inr, ℕ, ◌+◌, ◌-◌, ◌<◌, ◌≤◌, Bool, true, false, not, ◌&&◌, ◌||◌, ◌==◌, min, if◌then◌else◌, List, [], ◌∷◌, ◌++◌, length, take, drop, refl, sym, ◌∙◌, ap, subst, arith, eqb-true, length-drop, length-append, length-take-le, take-take, drop-drop, append-nil}
+use Rattle.std.proofs.Common.{◌≡◌, inl, inr, ℕ, ◌+◌, ◌-◌, ◌≤◌, Bool, true, false, not, ◌&&◌, ◌||◌, ◌==◌, if◌then◌else◌, List, [], ◌∷◌, ◌++◌, length, take, drop, refl, sym, ◌∙◌, ap, subst, arith, eqb-true, length-drop, length-append, length-take-le, take-take, drop-drop}
 use Rattle.std.specs.Prelude.{All}
 use Rattle.std.proofs.lemmas.List.{drop-append-le, take-append-le, drop_all}
-use Rattle.std.proofs.lemmas.List.Elements.{All-append}
 use Rattle.std.proofs.Math.Seq.{take-add}
-use Rattle.relay_model.specs.Flow.{Flow}
-use Rattle.relay_core.specs.State.{Buffers, Lane, no_lane}
+use Rattle.relay_core.specs.State.{Lane, no_lane}
 use Rattle.relay_core.specs.Passing.{held, used_now, read_filtered, is_moving, moved, turned_now, write_filtered}
 use Rattle.relay_core.specs.Serving.{took_lane}
-use Rattle.relay_meaning.specs.Meaning.{Direction, pieces, IsStraight}
-use Rattle.relay_meaning.proofs.Pieces.{or_cases, or_left, and_left, and_right, all-none, nil_of, seg_more, drop_seg}
+use Rattle.relay_meaning.specs.Meaning.{Direction, IsStraight}
+use Rattle.relay_meaning.proofs.Pieces.{or_cases, or_left, and_left, and_right, all-none, seg_more, drop_seg}
 
 module _ (d : Direction) (s : IsStraight d) (from_live : d.from_live ≡ true) where
   pub raw_input-is : d.lane.buffers.raw_input ≡ drop d.lane.flow.used d.read
@@ -85,9 +83,10 @@ module _ (d : Direction) (s : IsStraight d) (from_live : d.from_live ≡ true) (
       let done : (d.lane.flow.read_done || (ended && n == length d.lane.buffers.raw_input)) ≡ true → (d.ended ≡ true) × (d.lane.flow.used + n ≡ length d.read) =
       λ e. elim (or_cases d.lane.flow.read_done (ended && n == length d.lane.buffers.raw_input) e) [
         | inl y ↦ ((s.read_done y).0, (let z = full ((s.read_done y).1) in omega (arith, z, (s.read_done y).1)))
-        | inr y ↦
-            (has (and_left ended (n == length d.lane.buffers.raw_input) y),
-            (let z = eqb-true n (length d.lane.buffers.raw_input) (and_right ended (n == length d.lane.buffers.raw_input) y) in omega (arith, z, lr, us)))
+        | inr y ↦ (
+          has (and_left ended (n == length d.lane.buffers.raw_input) y),
+          (let z = eqb-true n (length d.lane.buffers.raw_input) (and_right ended (n == length d.lane.buffers.raw_input) y) in omega (arith, z, lr, us)),
+        )
       ] in
       record {
         used = omega (arith, within, us);

@@ -1,14 +1,13 @@
 -- A step that touches one side and its peer: what is left to show of the two.
-use Rattle.std.proofs.Common.{◌≡◌, ◌≢◌, ℕ, ◌+◌, ◌<◌, ◌≤◌, Bool, List, [], ◌∷◌, ◌++◌, length, slice_set, refl, sym, ◌∙◌, ap, subst, arith}
+use Rattle.std.proofs.Common.{◌≡◌, ◌≢◌, ◌<◌, length, refl, sym, ◌∙◌, ap, subst}
 use Rattle.std.proofs.lemmas.List.{length-set}
 use Rattle.ev_types.specs.declared.side.SideId.{SideId}
 use Rattle.ev_types.specs.Sides.{number, peer}
-use Rattle.ev_types.specs.Trace.{Event, Trace}
+use Rattle.ev_types.specs.Trace.{Trace}
 use Rattle.relay_model.specs.Trace.{bytes_read, bytes_given, has_ended, moved_at_free, given_at_free, is_write_closed}
-use Rattle.relay_model.specs.Flow.{Flow}
 use Rattle.relay_model.specs.Plain as plain
 use Rattle.relay_model.specs.Plain.{Plain, PlainSide, put_side, put_flow}
-use Rattle.relay_core.specs.State.{State, Lane, SideValue, side_at, flags_at, lane_at, with_side, with_lane}
+use Rattle.relay_core.specs.State.{State, Lane, SideValue, side_at, flags_at, with_lane}
 use Rattle.relay_meaning.specs.Meaning.{meant, Direction, direction_of, IsStraight, AgreesAt, Agrees}
 use Rattle.relay_meaning.proofs.EndLemmas.{SameTold, peer-peer, peer-apart}
 use Rattle.relay_meaning.proofs.AgreeLemmas.{side-set, side-set_other, flow-put, flow-put_other, in_code, in_flows, SameAt, SameFrame, agrees-touched}

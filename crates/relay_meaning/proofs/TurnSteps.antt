@@ -1,6 +1,6 @@
 -- How a turn begins and goes from one phase to the next, and what a poll and an opened link do.
-use Rattle.std.proofs.Common.{◌≡◌, ◌≢◌, ◌⊎◌, inl, inr, ℕ, zero, suc, ◌+◌, ◌*◌, ◌<◌, ◌≤◌, Bool, true, false, not, ◌&&◌, ◌||◌, if◌then◌else◌, List, [], ◌∷◌, ◌++◌, length, map, filter, Option, None, refl, sym, ◌∙◌, ap, subst, arith, append_assoc, append-nil, length-append}
-use Rattle.std.specs.Prelude.{IsTrue, slice_index_or, ⊤, nat_lt}
+use Rattle.std.proofs.Common.{◌≡◌, ℕ, zero, suc, ◌+◌, ◌*◌, ◌<◌, ◌≤◌, Bool, true, false, ◌||◌, if◌then◌else◌, List, [], ◌∷◌, ◌++◌, length, map, filter, Option, None, refl, sym, ◌∙◌, ap, subst, arith, append_assoc, append-nil, length-append}
+use Rattle.std.specs.Prelude.{slice_index_or, ⊤, nat_lt}
 use Rattle.std.proofs.lemmas.List.{get_or_append_left, get_or-append-add}
 use Rattle.std.proofs.lemmas.Bool.{ltb-true, ltb-false}
 use Rattle.ev_types.specs.declared.side.Side.{Side}
@@ -12,26 +12,24 @@ use Rattle.ev_types.specs.Trace.{Event, Trace}
 use Rattle.ev_port.specs.declared.port.Want as port
 use Rattle.ev_port.specs.declared.port.Polled.TheVariants as polled
 use Rattle.ev_port.specs.Polling.{want_events, ready_events, poll_events}
-use Rattle.relay_model.specs.Flow.{Flow, no_flow}
+use Rattle.relay_model.specs.Flow.{no_flow}
 use Rattle.relay_model.specs.Settings as model
 use Rattle.relay_model.specs.Due.{batch}
 use Rattle.relay_model.specs.Plain as plain
 use Rattle.relay_model.specs.Plain.{Plain, PlainSide, sides_from, with_link}
-use Rattle.relay_model.specs.Past.{Past, past}
+use Rattle.relay_model.specs.Past.{past}
 use Rattle.relay_model.specs.Rooms as rooms
 use Rattle.relay_model.specs.Rooms.{Want}
-use Rattle.relay_model.specs.Moments.{time_passed}
 use Rattle.relay_model.specs.Close.{closing_from}
 use Rattle.relay_model.specs.Stages.{Halt, Stage, at}
 use Rattle.relay_model.specs.Turn.{Reaches, turned_to, latest, most_opened}
-use Rattle.relay_core.specs.State.{State, SideValue, no_side, new_side, fresh, no_lane, side_at, flags_at}
+use Rattle.relay_core.specs.State.{State, SideValue, no_side, new_side, fresh, side_at}
 use Rattle.relay_core.specs.Opening.{after_opened}
 use Rattle.relay_core.specs.Rooms as core
 use Rattle.relay_meaning.specs.Meaning.{model_settings, meant, direction_of, AgreesAt, Agrees, StandsFor}
 use Rattle.relay_meaning.proofs.StraightLemmas.{straight-first}
 use Rattle.relay_meaning.proofs.EndLemmas.{SameTold, IsSilent, told-same, untold-same, number-below}
 use Rattle.relay_meaning.proofs.AgreeLemmas.{SameAt, agrees-untouched, agrees-silent, agrees_at-same}
-use Rattle.relay_meaning.proofs.TouchLemmas.{same-told}
 use Rattle.relay_meaning.proofs.RoomLemmas.{wants_read-is, wants_write-is, poll_timeout-none, time-still}
 
 silent-turn : (ms : ℕ) (a : SideId) → IsSilent (entry.Turn ms, []) a
@@ -70,8 +68,8 @@ turn-stands t s ms k from until =
         until,
         refl,
         ap (at Stage.Polling) (sym (time-still g (past g u) p h.timers (λ e l.
-        let there = (h.each e (omega (arith, l, h.opened))).side in
-        (ap (λ (x : PlainSide). x.timeouts.read_ms) there, ap (λ (x : PlainSide). x.timeouts.write_ms) there)))),
+            let there = (h.each e (omega (arith, l, h.opened))).side in
+            (ap (λ (x : PlainSide). x.timeouts.read_ms) there, ap (λ (x : PlainSide). x.timeouts.write_ms) there)))),
       );
       agrees = agrees-untouched t u s s' k.plain p
           (record { code_opened = refl; code_sides = refl; time = refl; in_time = until; opened = refl; timers = refl; due = refl; sides = refl; flows = refl })

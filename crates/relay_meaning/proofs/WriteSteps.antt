@@ -1,5 +1,5 @@
 -- A marked side is given what waits for it: the write is the one that the model calls for.
-use Rattle.std.proofs.Common.{◌≡◌, ◌≢◌, ℕ, ◌+◌, ◌-◌, ◌<◌, ◌≤◌, Bool, true, false, not, ◌&&◌, ◌||◌, nat_le, min, if◌then◌else◌, List, [], ◌∷◌, ◌++◌, length, take, drop, refl, sym, ◌∙◌, ap, subst, arith, length-take-le, take-take}
+use Rattle.std.proofs.Common.{◌≡◌, ◌≢◌, ℕ, ◌+◌, ◌<◌, ◌≤◌, Bool, true, false, ◌&&◌, nat_le, min, if◌then◌else◌, List, [], ◌∷◌, ◌++◌, length, take, refl, sym, ◌∙◌, ap, subst, arith, length-take-le, take-take}
 use Rattle.std.specs.Prelude.{nat_lt}
 use Rattle.std.proofs.lemmas.List.{length-set}
 use Rattle.ev_types.specs.declared.side.SideId.{SideId}
@@ -8,7 +8,7 @@ use Rattle.ev_types.specs.declared.answer.WriteAnswer.TheVariants as write
 use Rattle.ev_types.specs.declared.entry.Entry.TheVariants as entry
 use Rattle.ev_types.specs.Sides.{number, peer}
 use Rattle.ev_types.specs.Trace.{Event, Trace}
-use Rattle.ev_port.specs.Ends.{WriteWithin, took_bytes, write_events}
+use Rattle.ev_port.specs.Ends.{WriteWithin, took_bytes}
 use Rattle.relay_model.specs.Trace.{bytes_given}
 use Rattle.relay_model.specs.Flow.{Flow}
 use Rattle.relay_model.specs.Settings as model
@@ -16,7 +16,6 @@ use Rattle.relay_model.specs.Plain as plain
 use Rattle.relay_model.specs.Plain.{Plain, PlainSide, put_side, put_flow, change_side, change_flow}
 use Rattle.relay_model.specs.Past.{Past, past}
 use Rattle.relay_model.specs.Moments.{active_at}
-use Rattle.relay_model.specs.Rooms as rooms
 use Rattle.relay_model.specs.Rooms.{Want}
 use Rattle.relay_model.specs.Serve as serve
 use Rattle.relay_model.specs.Serve.{Call, call_for, CarriesTook}
@@ -24,15 +23,15 @@ use Rattle.relay_model.specs.Stages.{Stage, at}
 use Rattle.relay_model.specs.Turn.{Reaches}
 use Rattle.relay_model.proofs.TraceLemmas.{bytes_given-push}
 use Rattle.token_bucket.specs.declared.limit.Dir.TheVariants as dir
-use Rattle.relay_core.specs.State.{State, Lane, SideValue, side_at, flags_at, lane_at, with_side, with_lane}
+use Rattle.relay_core.specs.State.{State, Lane, SideValue, side_at, flags_at, lane_at}
 use Rattle.relay_core.specs.Rooms as core
-use Rattle.relay_core.specs.Serving.{took_lane, after_took, after_write_failed}
+use Rattle.relay_core.specs.Serving.{took_lane, after_took}
 use Rattle.relay_meaning.specs.Meaning.{model_settings, meant, IsStraight, Agrees, StandsFor}
 use Rattle.relay_meaning.specs.Results.{after_write}
 use Rattle.relay_meaning.proofs.Pieces.{if_same}
 use Rattle.relay_meaning.proofs.StraightLemmas.{straight-took}
 use Rattle.relay_meaning.proofs.EndLemmas.{SameTold, told-same, same_end-self, peer-apart, read-silent, ended-silent, moved-silent, given_free-silent, closed-silent}
-use Rattle.relay_meaning.proofs.AgreeLemmas.{side-set, side-set_other, plain_side-put, plain_side-put_other, flow-put, flow-put_other, in_code, in_sides, in_flows, agrees-silent}
+use Rattle.relay_meaning.proofs.AgreeLemmas.{side-set, side-set_other, plain_side-put_other, flow-put, flow-put_other, in_code, in_sides, in_flows, agrees-silent}
 use Rattle.relay_meaning.proofs.TouchLemmas.{told_as, from-straight, to-straight, agrees-touches}
 use Rattle.relay_meaning.proofs.RoomLemmas.{write_room-is, one_or_more, may_write-live}
 use Rattle.relay_meaning.proofs.SideSteps.{if_true, silent-took, meant-put, agrees-flags_silent}

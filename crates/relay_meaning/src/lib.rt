@@ -1,2 +1,26 @@
-//! What the relay's state means in the model: definitions in `specs/`, and in `proofs/` that each step of a turn keeps it.
+//! What the relay's state means in the model. `specs/Meaning.antt` says for which traces a relay stands; the functions here say
+//! what that is worth; and the lemmas in `proofs/` keep it by each thing that a turn does.
 #![tactic(auto)]
+
+ghost use Rattle.relay_meaning.specs.Laws.{CountsAreTold, LeftIsLegal, MeansConserved, NewRelayStands};
+
+/// Before the first turn a relay stands for the trace of no entries.
+pub fn a_new_relay_stands()
+    ensures { NewRelayStands }
+{}
+
+/// A trace for which a relay stands is legal, and no byte of it was lost, made or changed: the relay's buffers hold exactly
+/// what the counts leave.
+pub fn what_stands_is_conserved()
+    ensures { MeansConserved }
+{}
+
+/// A trace for which a relay was left by a turn's answer can end with that answer.
+pub fn what_is_left_is_legal()
+    ensures { LeftIsLegal }
+{}
+
+/// Of each side a relay counts exactly the bytes that were read from its end and given to it.
+pub fn what_is_counted_is_told()
+    ensures { CountsAreTold }
+{}

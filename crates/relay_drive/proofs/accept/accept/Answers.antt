@@ -8,7 +8,7 @@ use Rattle.relay_drive.specs.Steps.{Nothing}
 use Rattle.relay_drive.specs.Phases.{OpensOne, OpensSome}
 use Rattle.relay_drive.proofs.GoesLemmas.{Grew-none, goes_as, goes_then, goes_nowhere}
 use Rattle.relay_drive.proofs.EachLemmas.{then_as, then_nothing}
-use Rattle.relay_drive.proofs.AcceptLemmas.{told_some, tells_on, stops_for, stops_then}
+use Rattle.relay_drive.proofs.AcceptLemmas.{told_some, tells_on}
 use Rattle.relay_drive.proofs.accept.accept.Goals as goal
 
 pub returns-in_err-accept_one-clause-went : goal.returns-in_err-accept_one-clause-went
