@@ -28,6 +28,7 @@ use Rattle.relay_model.proofs.PlayedLemmas.{answers_go_on}
 use Rattle.ev_port.specs.declared.port.Addr.{Addr}
 use Rattle.ev_port.specs.declared.port.Want.{Want}
 use Rattle.ev_port.specs.declared.port.Polled.TheVariants as polled
+use Rattle.ev_port.specs.declared.script_port.PortTally.{PortTally}
 use Rattle.ev_port.specs.Calls.{turn_time, Ticked, accept_events, IsUnheard}
 use Rattle.ev_port.specs.Polling.{poll_events}
 use Rattle.ev_port.specs.Ends.{conn_events, write_events, close_write_events, close_events, took_bytes}
@@ -115,12 +116,17 @@ close_stood p e =
 unheard_stood : (p : PortState) (x : Entry) → IsUnheard x → Longer (StandsIf p) (StandsIf p) ((x, []) ∷ [])
 unheard_stood p x h = quiet_call p p ((x, []) ∷ []) refl refl (like p.links) (quiet-unheard x h) (λ t asked stands. (plays.Step.Own x, λ closing_by. unheard_is x h))
 
-pub poll_stood : (p : PortState) (ws : List Want) (accept : Bool) (timeout : Option ℕ) (answer : Bool) →
-    Longer (StandsIf p) (StandsIf (after_poll p (map (λ w. marked p.links w) ws) accept timeout)) (poll_events timeout (map (λ w. marked p.links w) ws) (polled.Ready answer))
-poll_stood p ws accept timeout answer =
+marks_stood : (p : PortState) (ws : List Want) (tally : PortTally) (timeout : Option ℕ) (answer : Bool) →
+    Longer (StandsIf p) (StandsIf (record p { links = after_wants (map (λ w. marked p.links w) ws) p.links; tally = tally })) (poll_events timeout (map (λ w. marked p.links w) ws) (polled.Ready answer))
+marks_stood p ws tally timeout answer =
     let marks = map (λ w. marked p.links w) ws in
-    quiet_call p (after_poll p marks accept timeout) (poll_events timeout marks (polled.Ready answer)) refl refl (like-wants marks p.links) (quiet-poll timeout marks answer)
+    quiet_call p (record p { links = after_wants marks p.links; tally = tally }) (poll_events timeout marks (polled.Ready answer)) refl refl (like-wants marks p.links) (quiet-poll timeout marks answer)
     (λ t asked stands. (plays.Step.Poll timeout (map wish ws), λ closing_by. poll_is p.turns t asked p.links stands.links timeout ws answer closing_by))
+
+pub poll_stood : (p : PortState) (ws marks : List Want) (tally : PortTally) (timeout : Option ℕ) (answer : Bool) → marks ≡ map (λ w. marked p.links w) ws →
+    Longer (StandsIf p) (StandsIf (record p { links = after_wants marks p.links; tally = tally })) (poll_events timeout marks (polled.Ready answer))
+poll_stood p ws marks tally timeout answer is =
+    subst (λ z. Longer (StandsIf p) (StandsIf (record p { links = after_wants z p.links; tally = tally })) (poll_events timeout z (polled.Ready answer))) (sym is) (marks_stood p ws tally timeout answer)
 
 -- Calls on one end
 
@@ -295,11 +301,29 @@ stood_on p ((x, bytes) ∷ own) t h stood =
 pub stands_if : (p : PortState) (t : Trace) → ScriptVouches p t → StandsIf p t
 stands_if p t vouched = subst (StandsIf p) (append-nil t) (vouched [] tt)
 
-pub vouched_on : (p q : PortState) (u : Trace) → Longer (StandsIf p) (StandsIf q) u → Longer (ScriptVouches p) (ScriptVouches q) u
+vouched_on : (p q : PortState) (u : Trace) → Longer (StandsIf p) (StandsIf q) u → Longer (ScriptVouches p) (ScriptVouches q) u
 vouched_on p q u h = λ t vouched own unheard. stood_on q own (t ++ u) unheard (h t (stands_if p t vouched))
 
-pub ticked_on : (p q : PortState) (at : ℕ) → Ticked (StandsIf p) (StandsIf q) at → Ticked (ScriptVouches p) (ScriptVouches q) at
+-- a call that left this port and had these entries
+pub call_vouched : (p q r : PortState) (u v : Trace) → q ≡ r → v ≡ u → Longer (StandsIf p) (StandsIf r) u → Longer (ScriptVouches p) (ScriptVouches q) v
+call_vouched p q r u v port entries h =
+    subst (λ z. Longer (ScriptVouches p) (ScriptVouches z) v) (sym port) (subst (λ z. Longer (ScriptVouches p) (ScriptVouches r) z) (sym entries) (vouched_on p r u h))
+
+ticked_on : (p q : PortState) (at : ℕ) → Ticked (StandsIf p) (StandsIf q) at → Ticked (ScriptVouches p) (ScriptVouches q) at
 ticked_on p q at h = λ t vouched own unheard. stood_on q own (t ++ (entry.Turn (turn_time t at), []) ∷ []) unheard (h t (stands_if p t vouched))
 
-pub new_vouched : (turns : List TurnValue) → ScriptVouches (new_port turns) []
+clock_begun : (turn : Option TurnValue) (p : PortState) → (begin_turn turn p).clock ≡ option_map_or (λ (x : TurnValue). x.0) turn p.clock
+clock_begun None p = refl
+clock_begun (Some turn) p = refl
+
+-- a reading that left this port
+pub reading_vouched : (p begun : PortState) → begun ≡ begin_turn (next_turn p) p → Ticked (ScriptVouches p) (ScriptVouches (count_reading begun)) begun.clock
+reading_vouched p begun is =
+    subst (λ z. Ticked (ScriptVouches p) (ScriptVouches (count_reading z)) z.clock) (sym is)
+    (subst (λ n. Ticked (ScriptVouches p) (ScriptVouches (after_now p)) n) (sym (clock_begun (next_turn p) p)) (ticked_on p (after_now p) (clock_answer p) (now_stood p)))
+
+new_vouched : (turns : List TurnValue) → ScriptVouches (new_port turns) []
 new_vouched turns = λ own unheard. stood_on (new_port turns) own [] unheard (new_stood turns)
+
+pub new_from : (turns : List TurnValue) (p : PortState) → p ≡ new_port turns → ScriptVouches p []
+new_from turns p is = subst (λ z. ScriptVouches z []) (sym is) (new_vouched turns)
