@@ -7,7 +7,9 @@ use Rattle.ev_types.specs.declared.filter.FilterKind.{FilterKind}
 use Rattle.ev_types.specs.declared.filter.FilterKind.TheVariants as kind
 use Rattle.ev_types.specs.Sides.{peer, other}
 use Rattle.ev_types.specs.Trace.{Trace}
+use Rattle.std.specs.Prelude.{count_by}
 use Rattle.script_text.specs.declared.script.LinkLine.{LinkLine}
+use Rattle.script_text.specs.Script.{ScriptValue}
 use Rattle.relay_model.specs.Trace.{bytes_read, bytes_given, has_ended, is_write_closed}
 use Rattle.relay_model.specs.Filter.{filter_of}
 use Rattle.relay_model.specs.FilterLaws.{IsPrefixOf}
@@ -18,6 +20,7 @@ use Rattle.relay_model.specs.Rooms.{read_kind, write_kind, read_filter, write_fi
 use Rattle.relay_model.specs.Stages.{Stage}
 use Rattle.relay_model.specs.Answers.{TurnAnswer, EndsWith}
 use Rattle.relay_model.specs.Stands.{AllAccounted}
+use Rattle.relay_model.specs.RatesKept.{is_turn}
 use Rattle.relay_model.proofs.StandsLawLemmas.{bytes_given_begin, closed_is_whole}
 use Rattle.relay_core.specs.declared.settings.Settings.{Settings}
 use Rattle.relay_core.specs.State.{State}
@@ -82,13 +85,15 @@ tells-below t x s k (suc n) h =
 usual-is : (g : Settings) → g.hold ≡ 524288 → g.links ≡ 256 → model_settings g ≡ usual
 usual-is g h l = rw (h, l) refl
 
-pub run-of : (t : Trace) (s : State) → s.settings.hold ≡ 524288 → s.settings.links ≡ 256 → StandsFor t Stage.Between s → IsRun t (lines_below s s.opened)
-run-of t s h l k =
+pub run-of : (script : ScriptValue) (t : Trace) (s : State) → s.settings.hold ≡ 524288 → s.settings.links ≡ 256 → StandsFor t Stage.Between s →
+    count_by is_turn t ≡ length script.turns → IsRun script t (lines_below s s.opened)
+run-of script t s h l k n =
     let same = usual-is s.settings h l in
     let v = means_conserved t Stage.Between s k in
     let accounted : AllAccounted usual t v.0.plain = subst (λ g. AllAccounted g t v.0.plain) same v.3.conserved.accounted in
     let legal : EndsWith usual TurnAnswer.Went t = subst (λ g. EndsWith g TurnAnswer.Went t) same (Stage.Between, k.plain, k.reached, refl) in
     record {
+      turns = n;
       legal = legal;
       accounted = (v.0.plain, accounted);
       begins = begins-of t v.0.plain accounted;

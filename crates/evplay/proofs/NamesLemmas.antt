@@ -101,6 +101,7 @@ names-read s new line all h = plain_case (list_all is_plain line) h
     said_case : (o : Option Line) → option_and_then (λ what. extended s what) o ≡ Some new → Names new
     said_case None e = none-some new e
     said_case (Some x) e = names-extended s new x all e
+
     plain_case : (b : Bool) → (if b then option_and_then (λ what. extended s what) (said (words line)) else None) ≡ Some new → Names new
     plain_case true e = said_case (said (words line)) e
     plain_case false e = none-some new e

@@ -30,7 +30,7 @@ by_bool : {X Y Z : Type 0} (b : Bool) → (X → Z) → (Y → Z) → MatchBool 
 by_bool true f g h = f h
 by_bool false f g h = g h
 
-count-append : (a b : Trace) → count_by is_turn (a ++ b) ≡ count_by is_turn a + count_by is_turn b
+pub count-append : (a b : Trace) → count_by is_turn (a ++ b) ≡ count_by is_turn a + count_by is_turn b
 count-append a b = sum_by-append (λ x. if is_turn x then 1 else 0) a b
 
 -- Steps in a row

@@ -1,5 +1,5 @@
 -- What a call of `play` read and wrote.
-use Rattle.std.specs.Prelude.{◌≡◌, ◌≤◌, ◌<◌, ℕ, ◌^◌, ◌-◌, min, List, ◌++◌, length, take, Option, Result, Ok, Err}
+use Rattle.std.specs.Prelude.{◌≡◌, ◌<◌, ℕ, ◌^◌, ◌-◌, min, List, ◌++◌, length, take, Option, Ok, Err}
 use Rattle.ev_types.specs.Trace.{Trace}
 use Rattle.stream_words.specs.Streams.{GaveAll, TookOn}
 use Rattle.script_text.specs.declared.script.LinkLine.{LinkLine}
@@ -13,23 +13,24 @@ use Rattle.evplay.specs.Headline.{IsRun}
 abbrev pub GaveBad : Option (List ℕ) → Option (List ℕ) → ℕ → Type 0
 GaveBad old new line = (text : List ℕ) × (bad : ℕ) × GaveAll old new text × (script_of text ≡ Err bad) × (line ≡ min bad (2 ^ 32 - 1))
 
--- the source gave a whole text that spells a script
-abbrev pub GaveScript : Option (List ℕ) → Option (List ℕ) → Type 0
-GaveScript old new = (text : List ℕ) × (script : ScriptValue) × GaveAll old new text × (script_of text ≡ Ok script)
+-- the source gave a whole text that spells this script
+abbrev pub Gave : ScriptValue → Option (List ℕ) → Option (List ℕ) → Type 0
+Gave script old new = (text : List ℕ) × GaveAll old new text × (script_of text ≡ Ok script)
 
 -- the text of a trace, and the report behind it
 abbrev pub run_text : Trace → List LinkLine → List ℕ
 run_text t links = trace_text t ++ report_text links
 
--- it is the text of a run and its report
-abbrev pub IsRunText : List ℕ → Type 0
-IsRunText text = (t : Trace) × (links : List LinkLine) × IsRun t links × (text ≡ run_text t links)
+-- it is the text of a run of the script and its report
+abbrev pub IsRunText : ScriptValue → List ℕ → Type 0
+IsRunText script text = (t : Trace) × (links : List LinkLine) × IsRun script t links × (text ≡ run_text t links)
 
--- the sink took the whole text of a run and its report
-abbrev pub TookText : Option (List ℕ) → Option (List ℕ) → Type 0
-TookText old new = (t : Trace) × (links : List LinkLine) × IsRun t links × TookOn old new (run_text t links)
+-- The source gave the whole text of a script, and the sink took the whole text of a run of it.
+abbrev pub PlayedAll : Option (List ℕ) → Option (List ℕ) → Option (List ℕ) → Option (List ℕ) → Type 0
+PlayedAll left now_left taken now_taken =
+    (script : ScriptValue) × (text : List ℕ) × Gave script left now_left × IsRunText script text × TookOn taken now_taken text
 
--- the sink took the first n bytes of such a text, and not all
-abbrev pub TookPart : Option (List ℕ) → Option (List ℕ) → Type 0
-TookPart old new =
-    (t : Trace) × (links : List LinkLine) × (n : ℕ) × IsRun t links × (n < length (run_text t links)) × TookOn old new (take n (run_text t links))
+-- the same, but the sink took the first n bytes of the text, and not all
+abbrev pub PlayedPart : Option (List ℕ) → Option (List ℕ) → Option (List ℕ) → Option (List ℕ) → Type 0
+PlayedPart left now_left taken now_taken =
+    (script : ScriptValue) × (text : List ℕ) × (n : ℕ) × Gave script left now_left × IsRunText script text × (n < length text) × TookOn taken now_taken (take n text)

@@ -3,7 +3,7 @@ ghost use Rattle.std.specs.Prelude.{◌≡◌, ◌≢◌, ◌↔◌, ◌+◌, �
 ghost use Rattle.stream_words.specs.Faults.{Rose};
 ghost use Rattle.stream_words.specs.Streams.{GaveCount, GaveAtMost};
 ghost use Rattle.evplay.specs.Words.{AreRelayWords};
-ghost use Rattle.evplay.specs.Play.{GaveBad, GaveScript, TookText, TookPart};
+ghost use Rattle.evplay.specs.Play.{GaveBad, PlayedAll, PlayedPart};
 
 use crate::input::{ReadStop, read_text};
 use crate::output::write_text;
@@ -39,15 +39,13 @@ pub fn play<S: Source, K: Sink>(
     ensures too_long { result ≡ Status.TooLong → GaveCount (S.left source.old) (S.left source.new) (2 ^ 24 + 1) }
     ensures not_too_long { result ≢ Status.TooLong → GaveAtMost (S.left source.old) (S.left source.new) (2 ^ 24) }
 
-    // A bad script is a text, read to its end, whose first bad line is told; whatever ran was a script, read to its end.
+    // A bad script is a text, read to its end, whose first bad line is told.
     ensures bad_script { (line : ℕ) → result ≡ Status.BadScript line → GaveBad (S.left source.old) (S.left source.new) line }
-    ensures script { result ≡ Status.Ok → GaveScript (S.left source.old) (S.left source.new) }
-    ensures script_before_fault { result ≡ Status.WriteFault → GaveScript (S.left source.old) (S.left source.new) }
 
-    // What was written is the text of a trace and of a report: all of it, or the part before the sink failed. With every
-    // other answer nothing was. Which trace it is, is not said yet.
-    ensures text { result ≡ Status.Ok → TookText (K.taken sink.old) (K.taken sink.new) }
-    ensures part { result ≡ Status.WriteFault → TookPart (K.taken sink.old) (K.taken sink.new) }
+    // What was written is the text of a run of the script that was read, and of its report: all of it, or the part before
+    // the sink failed. With every other answer nothing was. That each answer of the port in it is the script's is not said yet.
+    ensures all { result ≡ Status.Ok → PlayedAll (S.left source.old) (S.left source.new) (K.taken sink.old) (K.taken sink.new) }
+    ensures part { result ≡ Status.WriteFault → PlayedPart (S.left source.old) (S.left source.new) (K.taken sink.old) (K.taken sink.new) }
     ensures unwritten { result ≢ Status.Ok → result ≢ Status.WriteFault → sink.new ≡ sink.old }
 
     ensures no_poll_fault { result ≢ Status.PollFault }

@@ -1,10 +1,8 @@
 // Makes the turns of a script over a port that answers by it, and gives the text of what happened.
 ghost use Rattle.std.specs.Prelude.{◌≡◌, ◌≤◌, length, IfOk, IfErr};
-ghost use Rattle.relay_model.specs.Stages.{Stage};
-ghost use Rattle.relay_meaning.specs.Meaning.{StandsFor};
 ghost use Rattle.relay_drive.specs.declared.fault.DriveFault.TheVariants.{Memory};
 ghost use Rattle.evplay.specs.Report.{lines_below};
-ghost use Rattle.evplay.specs.Play.{IsRunText};
+ghost use Rattle.evplay.specs.Play.{IsRunText, run_text};
 
 use ev_port::ScriptPort;
 use ev_types::{NoMemory, Tape};
@@ -15,7 +13,7 @@ use std::alloc::Global;
 /// The text of the trace and of the report of a run, one turn for each of the script.
 pub fn run(alloc: Global, script: Script) -> Result<Vec<u8>, DriveFault>
     requires { length script.turns ≤ 20000 }
-    ensures text { IfOk result (λ text. IsRunText text.items) }
+    ensures text { IfOk result (λ text. IsRunText script text.items) }
     ensures only_memory { IfErr result (λ fault. fault ≡ Memory) }
 {
     let turns = script.turns.len();
@@ -30,10 +28,7 @@ pub fn run(alloc: Global, script: Script) -> Result<Vec<u8>, DriveFault>
 
 /// The text of a trace, and of the report of the drive that made it.
 fn written(alloc: Global, tape: &Tape, drive: &Drive) -> Result<Vec<u8>, NoMemory>
-    requires hold { drive.now.state.settings.hold ≡ 524288 }
-    requires links { drive.now.state.settings.links ≡ 256 }
-    requires stands { StandsFor tape.now.trace Stage.Between drive.now.state }
-    ensures { IfOk result (λ text. IsRunText text.items) }
+    ensures { IfOk result (λ text. text.items ≡ run_text tape.now.trace (lines_below drive.now.state drive.now.state.opened)) }
 {
     let links = link_lines(alloc, drive)?;
     let mut text = Vec::new(alloc);

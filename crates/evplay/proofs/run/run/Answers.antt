@@ -10,6 +10,11 @@ use Rattle.relay_drive.specs.DriveValue.{DriveValue, new_drive, is_worn}
 use Rattle.relay_drive.specs.Bounds.{IsWithin, most_of_turn}
 use Rattle.relay_drive.proofs.BoundLaws.{new_drive_is_within, within_is_not_worn, went_is_bounded}
 use Rattle.evplay.proofs.FaultLemmas.{only-memory}
+use Rattle.evplay.proofs.HeadlineLemmas.{run-of}
+use Rattle.evplay.proofs.TurnCountLemmas.{turn-once, count-append}
+use Rattle.evplay.specs.Report.{lines_below}
+use Rattle.relay_model.specs.RatesKept.{is_turn}
+use Rattle.std.specs.Prelude.{count_by}
 use Rattle.evplay.proofs.run.run.Goals as goal
 
 same-trace : (t u : Trace) → Some t ≡ Some u → t ≡ u
@@ -31,6 +36,7 @@ loop-init c =
       hold = c.usual.ensures.hold;
       links = c.usual.ensures.links;
       stands = record { time = refl; entries = refl };
+      turns = refl;
       means = new_relay_stands u;
       within = subst (λ n. IsWithin 0 n (new_drive u)) c.usual.ensures.links (new_drive_is_within u);
     })
@@ -52,11 +58,24 @@ loop-preserved c =
     let longer : c.turn.new.scribe.trace ≡ t ++ w.added = same-trace c.turn.new.scribe.trace (t ++ w.added) w.list in
     let bounded = went_is_bounded (c.loop.counter * most_of_turn 256) 256 t inv.within inv.stands w in
     let more : c.loop.counter * most_of_turn 256 + most_of_turn 256 ≡ (c.loop.counter + 1) * most_of_turn 256 = omega arith in
+    let once : count_by is_turn w.added ≡ 1 = turn-once w.does in
+    let counted : count_by is_turn (t ++ w.added) ≡ c.loop.counter + 1 = omega (arith, count-append t w.added, once, inv.turns) in
     record {
       calm = c.in_ok-turn.ensures.refusal;
+      turns = rw longer counted;
       hold = rw bounded.1 inv.hold;
       links = rw bounded.1 inv.links;
       stands = rw longer (w.stands t inv.stands);
       means = rw longer (w.means t inv.means);
       within = subst (λ n. IsWithin n 256 c.turn.new.self) more bounded.0;
     }
+
+-- After the loop as many turns were made as the script has.
+pub returns-clause-text : goal.returns-clause-text
+returns-clause-text c =
+    let inv = c.loop.invariant in
+    let t = c.loop.tape.trace in
+    let s = c.loop.drive.state in
+    let all : c.loop.counter ≡ length c.args.script.turns =
+    omega (arith, c.loop-test.false, c.loop.auto.counter-end, c.len-turns.ensures, c.script.inside.turns.ok.0, turns-seen c.script.inside c.args.script c.script.view_is) in
+    (t, lines_below s s.opened, run-of c.args.script t s inv.hold inv.links inv.means (inv.turns ∙ all), c.in_ok-written.ensures)

@@ -1,5 +1,7 @@
 use Rattle.std.proofs.Common.{◌≡◌, ◌*◌, None}
+use Rattle.std.specs.Prelude.{count_by}
 use Rattle.relay_model.specs.Stages.{Stage}
+use Rattle.relay_model.specs.RatesKept.{is_turn}
 use Rattle.relay_meaning.specs.Meaning.{StandsFor}
 use Rattle.relay_drive.specs.Stands.{Stands}
 use Rattle.relay_drive.specs.Bounds.{IsWithin, most_of_turn}
@@ -12,6 +14,7 @@ invariant-loop l = record {
   hold : l.drive.state.settings.hold ≡ 524288;
   links : l.drive.state.settings.links ≡ 256;
   stands : Stands l.tape.trace l.drive;
+  turns : count_by is_turn l.tape.trace ≡ l.counter;
   means : StandsFor l.tape.trace Stage.Between l.drive.state;
   within : IsWithin (l.counter * most_of_turn 256) 256 l.drive;
 }
