@@ -1,7 +1,5 @@
 -- Polling, accepting and the whole turn keep what the relay stands for.
-use Rattle.std.proofs.Common.{◌≡◌, ◌⊎◌, inl, inr, ℕ, zero, suc, ◌+◌, ◌*◌, ◌^◌, ◌<◌, ◌≤◌, Bool, true, false, ◌&&◌, ◌||◌, if◌then◌else◌, List, [], ◌∷◌, ◌++◌, length, map, filter, min, max, None, refl, sym, ◌∙◌, ap, subst, arith, append_assoc, append-nil}
-use Rattle.std.specs.Prelude.{nat_lt, MatchBool, ⊤, slice_index_or}
-use Rattle.std.proofs.lemmas.Bool.{ltb-true}
+use Rattle.std.proofs.Common.{◌≡◌, inl, inr, ℕ, zero, suc, ◌+◌, ◌^◌, ◌<◌, ◌≤◌, Bool, true, false, ◌||◌, if◌then◌else◌, List, [], ◌∷◌, ◌++◌, length, map, filter, min, max, None, refl, sym, ◌∙◌, ap, subst, arith, append_assoc, append-nil}
 use Rattle.ev_types.specs.declared.side.SideId.{SideId}
 use Rattle.ev_types.specs.declared.entry.Entry.TheVariants as entry
 use Rattle.ev_types.specs.Trace.{Trace}
@@ -10,24 +8,22 @@ use Rattle.ev_port.specs.declared.port.Polled.TheVariants as polled
 use Rattle.ev_port.specs.Polling.{IsMarked, AllMarked, poll_events}
 use Rattle.relay_model.specs.Rooms as rooms
 use Rattle.relay_model.specs.Plain.{sides_from}
-use Rattle.relay_model.specs.Close.{closing_from}
 use Rattle.relay_model.specs.Stages.{Halt, Stage}
-use Rattle.relay_model.specs.Turn.{latest, most_opened}
 use Rattle.relay_model.specs.Answers.{TurnAnswer}
 use Rattle.relay_core.specs.State.{State}
 use Rattle.relay_core.specs.Closing.{in_side, out_side}
 use Rattle.relay_core.specs.Opening.{after_opened}
 use Rattle.relay_drive.specs.declared.fault.DriveFault.{DriveFault}
 use Rattle.relay_drive.specs.declared.fault.DriveFault.TheVariants as fault
-use Rattle.relay_drive.specs.Steps.{Nothing, Then, Each, CutAt}
+use Rattle.relay_drive.specs.Steps.{Then, Each, CutAt}
 use Rattle.relay_drive.specs.Calls.{Ticks}
-use Rattle.relay_drive.specs.Stands.{answer_of, StandsBetween}
+use Rattle.relay_drive.specs.Stands.{answer_of}
 use Rattle.relay_drive.specs.Phases.CutTurn.{before, in_poll, in_serving, in_passing, in_closing}
-use Rattle.relay_drive.specs.Phases.{links_from, want_of, wants_some, wants_of, wants_of_links, wanted, can_open, Polls, PollFails, CutPoll, OpensOne, OpensSome, AcceptsMore, AcceptsWhere, PollsAndAccepts, CutAccepting, CutPolling, ServesSide, CutServing, PassesLink, CutPassingLink, ForAllLinks, CutForAllLinks, ClosesLink, CutClosingLink, Turns, CutTurn}
+use Rattle.relay_drive.specs.Phases.{links_from, want_of, wants_of, wants_of_links, wanted, Polls, PollFails, OpensSome, AcceptsMore, AcceptsWhere, PollsAndAccepts, CutPolling, ServesSide, CutServing, PassesLink, CutPassingLink, ForAllLinks, CutForAllLinks, ClosesLink, CutClosingLink, Turns, CutTurn}
 use Rattle.relay_meaning.specs.Meaning.{StandsFor, LeftFor}
 use Rattle.relay_meaning.proofs.TurnSteps.{named, marks_of, want_at, wanted_by, MarkedWithin, turn-stands, poll-stands, poll_failed-stands, opened-stands, accepted-stands, served-stands, passed_all-stands, closed_all-stands}
 use Rattle.relay_drive.proofs.MeantFolds.{StandsWith, Each_is, stands-nothing, all-keeps, cut-leaves}
-use Rattle.relay_drive.proofs.MeantServing.{left-stands, IsBelow, serving, serving-keeps, serving-cut, sides_of, sides_of-links, link_below, links-below, passing_links, passing_links-keep, passing_links-cut, steps_of, steps_of-links, closing_links, closing_links-keep, closing_links-cut}
+use Rattle.relay_drive.proofs.MeantServing.{left-stands, IsBelow, serving, serving-keeps, serving-cut, sides_of-links, link_below, links-below, passing_links, passing_links-keep, passing_links-cut, steps_of-links, closing_links, closing_links-keep, closing_links-cut}
 
 -- The clock
 
@@ -118,18 +114,20 @@ pub polls-stand : (t : Trace) (s new : State) (a : Trace) (marked : List Want) (
     StandsFor (t ++ a) (Stage.Accepting 0 (marks_of marked)) new × (map named marked ≡ wanted_by s) × (new ≡ s)
 polls-stand t s new a marked ready k h =
     let marks = marks-named (wanted s) marked h.marks h.many in
-    let names = marks.0 ∙ wanted-named s in
-    (subst (λ z. StandsFor (t ++ z) (Stage.Accepting 0 (marks_of marked)) new) (sym h.entries)
-    (subst (StandsFor (t ++ poll_events None marked (polled.Ready ready)) (Stage.Accepting 0 (marks_of marked))) (sym h.state) (poll-stands t s marked ready names marks.1 k)),
-    names,
-    h.state)
+    let names = marks.0 ∙ wanted-named s in (
+      subst (λ z. StandsFor (t ++ z) (Stage.Accepting 0 (marks_of marked)) new) (sym h.entries)
+          (subst (StandsFor (t ++ poll_events None marked (polled.Ready ready)) (Stage.Accepting 0 (marks_of marked))) (sym h.state) (poll-stands t s marked ready names marks.1 k)),
+      names,
+      h.state,
+    )
 
 pub opens-stand : (m : ℕ) (marks : List rooms.Want) (t : Trace) (s new : State) (a : Trace) → m ≤ 64 → StandsFor t (Stage.Accepting 0 marks) s → OpensSome m s a new →
     StandsFor (t ++ a) (Stage.Accepting m marks) new × (s.opened ≤ new.opened)
 opens-stand zero marks t s new a few k h =
-    let same = sym h.1 in
-    (subst (λ z. StandsFor z (Stage.Accepting 0 marks) new) (sym (ap (λ b. t ++ b) h.0 ∙ append-nil t)) (subst (StandsFor t (Stage.Accepting 0 marks)) same k),
-    (let b = ap (λ (z : State). z.opened) h.1 in omega (arith, b)))
+    let same = sym h.1 in (
+      subst (λ z. StandsFor z (Stage.Accepting 0 marks) new) (sym (ap (λ b. t ++ b) h.0 ∙ append-nil t)) (subst (StandsFor t (Stage.Accepting 0 marks)) same k),
+      (let b = ap (λ (z : State). z.opened) h.1 in omega (arith, b)),
+    )
 opens-stand (suc m) marks t s new a few k h =
     let first = opens-stand m marks t s h.middle h.front (omega (arith, few)) k h.first in
     let one = h.second.1 in
@@ -137,12 +135,13 @@ opens-stand (suc m) marks t s new a few k h =
     let stands = opened-stands (t ++ h.front) h.middle m marks connected first.0 (omega (arith, few)) one.allowed in
     let next : m + 1 ≡ suc m = omega arith in
     let more : h.middle.opened + 1 ≡ new.opened = sym (ap (λ (z : State). z.opened) one.state) in
-    let le = first.1 in
-    (subst (λ z. StandsFor z (Stage.Accepting (suc m) marks) new) (append_assoc t h.front h.back ∙ ap (λ z. t ++ z) (sym h.joined))
-    (subst (λ z. StandsFor ((t ++ h.front) ++ z) (Stage.Accepting (suc m) marks) new) (sym one.entries)
-    (subst (StandsFor ((t ++ h.front) ++ (entry.Opened h.middle.opened connected, []) ∷ []) (Stage.Accepting (suc m) marks)) (sym one.state)
-    (subst (λ z. StandsFor ((t ++ h.front) ++ (entry.Opened h.middle.opened connected, []) ∷ []) (Stage.Accepting z marks) (after_opened h.middle connected)) next stands))),
-    omega (arith, le, more))
+    let le = first.1 in (
+      subst (λ z. StandsFor z (Stage.Accepting (suc m) marks) new) (append_assoc t h.front h.back ∙ ap (λ z. t ++ z) (sym h.joined))
+          (subst (λ z. StandsFor ((t ++ h.front) ++ z) (Stage.Accepting (suc m) marks) new) (sym one.entries)
+          (subst (StandsFor ((t ++ h.front) ++ (entry.Opened h.middle.opened connected, []) ∷ []) (Stage.Accepting (suc m) marks)) (sym one.state)
+          (subst (λ z. StandsFor ((t ++ h.front) ++ (entry.Opened h.middle.opened connected, []) ∷ []) (Stage.Accepting z marks) (after_opened h.middle connected)) next stands))),
+      omega (arith, le, more),
+    )
 
 pub accepts-stand : (marked : List Want) (t : Trace) (s new : State) (a : Trace) → StandsFor t Stage.Polling s → PollsAndAccepts marked s a new →
     StandsWith new.opened (t ++ a) (serving marked) new × Each_is (IsBelow new.opened) marked
@@ -151,9 +150,10 @@ accepts-stand marked t s new a k h =
     let poll = polls-stand t s w.middle w.front marked h.0 k w.first in
     let after = by_ready h.0 (t ++ w.front) w.middle w.back poll.0 w.second in
     let same = ap (λ (z : State). z.opened) poll.2 in
-    let le = after.1 in
-    (subst (λ z. StandsWith new.opened z (serving marked) new) (append_assoc t w.front w.back ∙ ap (λ z. t ++ z) (sym w.joined)) (record { stands = after.0; opened = refl }),
-    wants-below new.opened s marked (omega (arith, same, le)) poll.1)
+    let le = after.1 in (
+      subst (λ z. StandsWith new.opened z (serving marked) new) (append_assoc t w.front w.back ∙ ap (λ z. t ++ z) (sym w.joined)) (record { stands = after.0; opened = refl }),
+      wants-below new.opened s marked (omega (arith, same, le)) poll.1,
+    )
   where
     by_ready : (ready : Bool) (u : Trace) (m : State) (b : Trace) → StandsFor u (Stage.Accepting 0 (marks_of marked)) m → AcceptsWhere ready m b new →
         StandsFor (u ++ b) (serving marked) new × (m.opened ≤ new.opened)
