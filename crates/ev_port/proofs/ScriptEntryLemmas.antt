@@ -67,12 +67,12 @@ read_stands waits ls t side room l h =
     let u : Trace = (entry.Read side room (read_answer_at l side room), take room (pending_at l side)) ∷ [] in
     at_end_stands waits ls t u side (λ s. after_read s room) l refl (λ e other. read_silent side e room (read_answer_at l side room) (take room (pending_at l side)) other)
     (λ s found k.
-        let is : u ≡ (entry.Read side room (read_answer s room), take room s.pending) ∷ [] =
-        ap (λ (o : Option EndState). (entry.Read side room (option_map_or (λ (x : EndState). read_answer x room) o read.NotYet), take room (option_map_or (λ (x : EndState). x.pending) o [])) ∷ []) found in
-        let got : bytes_read side u ≡ take room s.pending = ap (bytes_read side) is ∙ read_bytes side room s in
-        end_event waits ls t u side s (after_read s room) k
-        (sym (ap (λ z. z ++ drop room s.pending) got ∙ take-append-drop room s.pending))
-        (sym (append-nil s.taken)) refl refl k.may_take (sym (or_false s.tally.made_connected)) (sym (or_false s.tally.connected)) k.undecided)
+    let is : u ≡ (entry.Read side room (read_answer s room), take room s.pending) ∷ [] =
+    ap (λ (o : Option EndState). (entry.Read side room (option_map_or (λ (x : EndState). read_answer x room) o read.NotYet), take room (option_map_or (λ (x : EndState). x.pending) o [])) ∷ []) found in
+    let got : bytes_read side u ≡ take room s.pending = ap (bytes_read side) is ∙ read_bytes side room s in
+    end_event waits ls t u side s (after_read s room) k
+    (sym (ap (λ z. z ++ drop room s.pending) got ∙ take-append-drop room s.pending))
+    (sym (append-nil s.taken)) refl refl k.may_take (sym (or_false s.tally.made_connected)) (sym (or_false s.tally.connected)) k.undecided)
     h
 
 -- Connect checks
@@ -91,10 +91,10 @@ check_stands waits ls t side l h =
     let u : Trace = (entry.Conn side (conn_answer_at l side), []) ∷ [] in
     at_end_stands waits ls t u side after_check l refl (λ e other. check_silent side e (conn_answer_at l side) other)
     (λ s found k.
-        let is : u ≡ (entry.Conn side (conn_answer s), []) ∷ [] = ap (λ (o : Option EndState). (entry.Conn side (option_map_or conn_answer o conn.Pending), []) ∷ []) found in
-        let tells : is_connected side u ≡ s.tally.made_connected = ap (is_connected side) is ∙ check_tells side s in
-        end_event waits ls t u side s (after_check s) k refl (sym (append-nil s.taken)) refl refl k.may_take (sym (or_false s.tally.made_connected))
-        (ap (λ z. s.tally.connected || z) (sym tells)) k.undecided)
+    let is : u ≡ (entry.Conn side (conn_answer s), []) ∷ [] = ap (λ (o : Option EndState). (entry.Conn side (option_map_or conn_answer o conn.Pending), []) ∷ []) found in
+    let tells : is_connected side u ≡ s.tally.made_connected = ap (is_connected side) is ∙ check_tells side s in
+    end_event waits ls t u side s (after_check s) k refl (sym (append-nil s.taken)) refl refl k.may_take (sym (or_false s.tally.made_connected))
+    (ap (λ z. s.tally.connected || z) (sym tells)) k.undecided)
     h
 
 -- Writes
@@ -131,15 +131,15 @@ write_stands waits ls t side from l within h =
     let u : Trace = (entry.Write side (length from) answer, took_bytes answer from) ∷ [] in
     at_end_stands waits ls t u side (λ s. after_write s from) l refl (λ e other. write_silent side e (length from) answer (took_bytes answer from) other)
     (λ s found k.
-        let is : u ≡ (entry.Write side (length from) (write_answer s (length from)), took_bytes (write_answer s (length from)) from) ∷ [] =
-        ap (λ (o : Option EndState). (entry.Write side (length from) (option_map_or (λ (x : EndState). write_answer x (length from)) o write.NotYet), took_bytes (option_map_or (λ (x : EndState). write_answer x (length from)) o write.NotYet) from) ∷ []) found in
-        let gave : bytes_given side u ≡ take (taken_of s.may_take (length from)) from = ap (bytes_given side) is ∙ write_bytes side from s in
-        let here : end_of (at_end side (λ s. after_write s from) l) side ≡ Some (after_write s from) =
-        slice_get-changed_same (λ s. after_write s from) l.ends (number side) ∙ ap (option_map (λ s. after_write s from)) found in
-        let fits : length (after_write s from).taken < 2 ^ 64 - 1 = subst (λ (o : Option EndState). length (option_map_or (λ (x : EndState). x.taken) o []) < 2 ^ 64 - 1) here within in
-        end_event waits ls t u side s (after_write s from) k refl (ap (λ z. s.taken ++ z) (sym gave)) refl refl
-        (write_leaves s.may_take (list_any (allows_all side) ls) (sum_by (allows side) ls) s.taken from fits k.may_take)
-        (sym (or_false s.tally.made_connected)) (sym (or_false s.tally.connected)) k.undecided)
+    let is : u ≡ (entry.Write side (length from) (write_answer s (length from)), took_bytes (write_answer s (length from)) from) ∷ [] =
+    ap (λ (o : Option EndState). (entry.Write side (length from) (option_map_or (λ (x : EndState). write_answer x (length from)) o write.NotYet), took_bytes (option_map_or (λ (x : EndState). write_answer x (length from)) o write.NotYet) from) ∷ []) found in
+    let gave : bytes_given side u ≡ take (taken_of s.may_take (length from)) from = ap (bytes_given side) is ∙ write_bytes side from s in
+    let here : end_of (at_end side (λ s. after_write s from) l) side ≡ Some (after_write s from) =
+    slice_get-changed_same (λ s. after_write s from) l.ends (number side) ∙ ap (option_map (λ s. after_write s from)) found in
+    let fits : length (after_write s from).taken < 2 ^ 64 - 1 = subst (λ (o : Option EndState). length (option_map_or (λ (x : EndState). x.taken) o []) < 2 ^ 64 - 1) here within in
+    end_event waits ls t u side s (after_write s from) k refl (ap (λ z. s.taken ++ z) (sym gave)) refl refl
+    (write_leaves s.may_take (list_any (allows_all side) ls) (sum_by (allows side) ls) s.taken from fits k.may_take)
+    (sym (or_false s.tally.made_connected)) (sym (or_false s.tally.connected)) k.undecided)
     h
 
 -- Accepts

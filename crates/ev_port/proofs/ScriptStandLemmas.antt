@@ -150,7 +150,7 @@ module _ (waits : List Bool) where
             end_line ls t e (Line.Pending side bytes) s (end_after_line (line.Pending side bytes) s) h
             (let q = or_false s.eof in rw (same, q)) (may_same s.may_take any sum (length s.taken) 0 refl h.may_take),
         end_line ls t e (Line.Eof side) s (end_after_line (line.Eof side) s) h
-        (let p = append-nil s.pending in let q = or_true s.eof in rw (same, p, q)) (may_same s.may_take any sum (length s.taken) 0 refl h.may_take),
+            (let p = append-nil s.pending in let q = or_true s.eof in rw (same, p, q)) (may_same s.may_take any sum (length s.taken) 0 refl h.may_take),
         λ more.
             end_line ls t e (Line.Take side more) s (end_after_line (line.Take side more) s) h
             (let p = append-nil s.pending in let q = or_false s.eof in rw (p, q)) (taking more),
@@ -166,10 +166,10 @@ module _ (waits : List Bool) where
       × EndStands waits (ls ++ Line.Eof side ∷ []) t e s
       × ((more : Option ℕ) → EndStands waits (ls ++ Line.Take side more ∷ []) t e s)
   end_other ls t e side s other h = (
-      λ bytes. end_unsaid ls t e (Line.Pending side bytes) s h (rw other) refl refl refl,
-      end_unsaid ls t e (Line.Eof side) s h refl other refl refl,
-      taking,
-    )
+    λ bytes. end_unsaid ls t e (Line.Pending side bytes) s h (rw other) refl refl refl,
+    end_unsaid ls t e (Line.Eof side) s h refl other refl refl,
+    taking,
+  )
     where
       taking : (more : Option ℕ) → EndStands waits (ls ++ Line.Take side more ∷ []) t e s
       taking None = end_unsaid ls t e (Line.Take side None) s h refl refl other refl

@@ -28,6 +28,7 @@ use Rattle.relay_model.proofs.PlayedLemmas.{answers_go_on}
 use Rattle.ev_port.specs.declared.port.Addr.{Addr}
 use Rattle.ev_port.specs.declared.port.Want.{Want}
 use Rattle.ev_port.specs.declared.port.Polled.TheVariants as polled
+use Rattle.ev_port.specs.declared.script_port.PortTally.{PortTally}
 use Rattle.ev_port.specs.Calls.{turn_time, Ticked, accept_events, IsUnheard}
 use Rattle.ev_port.specs.Polling.{poll_events}
 use Rattle.ev_port.specs.Ends.{conn_events, write_events, close_write_events, close_events, took_bytes}
@@ -36,7 +37,7 @@ use Rattle.ev_port.specs.ScriptEnds.{new_end, after_read, taken_of, after_write,
 use Rattle.ev_port.specs.ScriptLinks.{end_of, at_end, new_ends, new_links, links_of, taken_at, marked, after_wants, accept_answer, accept_first, read_answer_at, pending_at, write_answer_at, WroteAt, conn_answer_at, after_lines}
 use Rattle.ev_port.specs.ScriptPort.{lines_of, new_port, next_turn, clock_answer, begin_turn, count_reading, after_now, after_start, after_poll, accept_tally, after_accept}
 use Rattle.ev_port.specs.ScriptPlayed.{played_line, played_turns}
-use Rattle.ev_port.specs.ScriptVouched.{IsCalledFor, EndStands, LinksStand, PortStands, ScriptVouches}
+use Rattle.ev_port.specs.ScriptVouched.{IsCalledFor, EndStands, LinksStand, PortStands, AreUnheard, ScriptVouches}
 use Rattle.ev_port.proofs.ListLemmas.{slice_get-changed_same}
 use Rattle.ev_port.proofs.ScriptPlayedLemmas.{lines_so_far, lines_more, moment_next}
 use Rattle.ev_port.proofs.ScriptStandLemmas.{from_some, lines_stand}
@@ -44,6 +45,10 @@ use Rattle.ev_port.proofs.ScriptTraceLemmas.{Like, like, like-at_end, like-wants
 use Rattle.ev_port.proofs.ScriptEntryLemmas.{read_stands, check_stands, write_stands, accept_stands}
 use Rattle.ev_port.proofs.ScriptSeenLemmas.{links_whole, read_is, write_is, conn_is}
 use Rattle.ev_port.proofs.ScriptQuietLemmas.{Quiet, quiet-close_write, quiet-close, quiet-unheard, unheard_is, quiet-poll, wish, poll_is, silent-turn, times_same}
+
+-- behind a trace that is called for, the port stands
+abbrev pub StandsIf : PortState → Trace → Type 0
+StandsIf p t = IsCalledFor p.turns t → PortStands p t
 
 -- what was called for with entries at its end was called for before
 called_before : (turns : List TurnValue) (t u : Trace) → IsCalledFor turns (t ++ u) → IsCalledFor turns t
@@ -80,48 +85,53 @@ stays p q t turns begun links stands = record {
   links = subst (λ z. LinksStand (links_of (lines_of z)) (model.lines (played_turns z) t) t q.links) (sym turns) (subst (λ z. LinksStand (links_of (lines_of p.turns)) (model.lines (played_turns p.turns) t) t z) (sym links) stands.links);
 }
 
-pub no_entry : (p q : PortState) → q.turns ≡ p.turns → q.begun ≡ p.begun → q.links ≡ p.links → Longer (ScriptVouches p) (ScriptVouches q) []
+no_entry : (p q : PortState) → q.turns ≡ p.turns → q.begun ≡ p.begun → q.links ≡ p.links → Longer (StandsIf p) (StandsIf q) []
 no_entry p q turns begun links = λ t vouched.
-    subst (ScriptVouches q) (sym (append-nil t)) (λ asked. stays p q t turns begun links (vouched (subst (λ z. IsCalledFor z t) turns asked)))
+    subst (StandsIf q) (sym (append-nil t)) (λ asked. stays p q t turns begun links (vouched (subst (λ z. IsCalledFor z t) turns asked)))
 
 -- a call whose entries say nothing of ends and links
 quiet_call : (p q : PortState) (u : Trace) → q.turns ≡ p.turns → q.begun ≡ p.begun → Like p.links q.links → Quiet u →
-    ((t : Trace) → IsCalledFor p.turns t → PortStands p t → (x : plays.Step) × ((closing_by : ℕ) → u ≡ plays.events (played_turns p.turns) closing_by t x)) → Longer (ScriptVouches p) (ScriptVouches q) u
+    ((t : Trace) → IsCalledFor p.turns t → PortStands p t → (x : plays.Step) × ((closing_by : ℕ) → u ≡ plays.events (played_turns p.turns) closing_by t x)) → Longer (StandsIf p) (StandsIf q) u
 quiet_call p q u turns begun alike quiet step = λ t vouched asked.
     let before = called_before p.turns t u (subst (λ z. IsCalledFor z (t ++ u)) turns asked) in
     let stands = vouched before in
     let x = step t before stands in
     go_on p q turns begun t u quiet.turns x.0 x.1 (links_silent (links_of (lines_of p.turns)) (model.lines (played_turns p.turns) t) t u p.links q.links quiet.silent alike stands.links) stands
 
-pub start_vouched : (p : PortState) (listen to : Addr) → Longer (ScriptVouches p) (ScriptVouches (after_start p listen to)) []
-start_vouched p listen to = no_entry p (after_start p listen to) refl refl refl
+pub start_stood : (p : PortState) (listen to : Addr) → Longer (StandsIf p) (StandsIf (after_start p listen to)) []
+start_stood p listen to = no_entry p (after_start p listen to) refl refl refl
 
-pub close_write_vouched : (p : PortState) (e : SideId) → Longer (ScriptVouches p) (ScriptVouches (record p { links = at_end e after_close_write p.links })) (close_write_events e)
-close_write_vouched p e =
+pub close_write_stood : (p : PortState) (e : SideId) → Longer (StandsIf p) (StandsIf (record p { links = at_end e after_close_write p.links })) (close_write_events e)
+close_write_stood p e =
     quiet_call p (record p { links = at_end e after_close_write p.links }) (close_write_events e) refl refl
     (like-at_end e after_close_write p.links (λ s. record { pending = refl; eof = refl; taken = refl; may_take = refl; wait = refl; made_connected = refl; connected = refl }))
     (quiet-close_write e) (λ t asked stands. (plays.Step.Own (entry.CloseWrite e), λ closing_by. refl))
 
-pub close_vouched : (p : PortState) (e : SideId) → Longer (ScriptVouches p) (ScriptVouches (record p { links = at_end e after_close p.links })) (close_events e)
-close_vouched p e =
+pub close_stood : (p : PortState) (e : SideId) → Longer (StandsIf p) (StandsIf (record p { links = at_end e after_close p.links })) (close_events e)
+close_stood p e =
     quiet_call p (record p { links = at_end e after_close p.links }) (close_events e) refl refl
     (like-at_end e after_close p.links (λ s. record { pending = refl; eof = refl; taken = refl; may_take = refl; wait = refl; made_connected = refl; connected = refl }))
     (quiet-close e) (λ t asked stands. (plays.Step.Own (entry.Close e), λ closing_by. refl))
 
-pub unheard_vouched : (p : PortState) (x : Entry) → IsUnheard x → Longer (ScriptVouches p) (ScriptVouches p) ((x, []) ∷ [])
-unheard_vouched p x h = quiet_call p p ((x, []) ∷ []) refl refl (like p.links) (quiet-unheard x h) (λ t asked stands. (plays.Step.Own x, λ closing_by. unheard_is x h))
+unheard_stood : (p : PortState) (x : Entry) → IsUnheard x → Longer (StandsIf p) (StandsIf p) ((x, []) ∷ [])
+unheard_stood p x h = quiet_call p p ((x, []) ∷ []) refl refl (like p.links) (quiet-unheard x h) (λ t asked stands. (plays.Step.Own x, λ closing_by. unheard_is x h))
 
-pub poll_vouched : (p : PortState) (ws : List Want) (accept : Bool) (timeout : Option ℕ) (answer : Bool) →
-    Longer (ScriptVouches p) (ScriptVouches (after_poll p (map (λ w. marked p.links w) ws) accept timeout)) (poll_events timeout (map (λ w. marked p.links w) ws) (polled.Ready answer))
-poll_vouched p ws accept timeout answer =
+marks_stood : (p : PortState) (ws : List Want) (tally : PortTally) (timeout : Option ℕ) (answer : Bool) →
+    Longer (StandsIf p) (StandsIf (record p { links = after_wants (map (λ w. marked p.links w) ws) p.links; tally = tally })) (poll_events timeout (map (λ w. marked p.links w) ws) (polled.Ready answer))
+marks_stood p ws tally timeout answer =
     let marks = map (λ w. marked p.links w) ws in
-    quiet_call p (after_poll p marks accept timeout) (poll_events timeout marks (polled.Ready answer)) refl refl (like-wants marks p.links) (quiet-poll timeout marks answer)
+    quiet_call p (record p { links = after_wants marks p.links; tally = tally }) (poll_events timeout marks (polled.Ready answer)) refl refl (like-wants marks p.links) (quiet-poll timeout marks answer)
     (λ t asked stands. (plays.Step.Poll timeout (map wish ws), λ closing_by. poll_is p.turns t asked p.links stands.links timeout ws answer closing_by))
+
+pub poll_stood : (p : PortState) (ws marks : List Want) (tally : PortTally) (timeout : Option ℕ) (answer : Bool) → marks ≡ map (λ w. marked p.links w) ws →
+    Longer (StandsIf p) (StandsIf (record p { links = after_wants marks p.links; tally = tally })) (poll_events timeout marks (polled.Ready answer))
+poll_stood p ws marks tally timeout answer is =
+    subst (λ z. Longer (StandsIf p) (StandsIf (record p { links = after_wants z p.links; tally = tally })) (poll_events timeout z (polled.Ready answer))) (sym is) (marks_stood p ws tally timeout answer)
 
 -- Calls on one end
 
-pub check_vouched : (p : PortState) (e : SideId) → Longer (ScriptVouches p) (ScriptVouches (record p { links = at_end e after_check p.links })) (conn_events e (conn_answer_at p.links e))
-check_vouched p e = λ t vouched asked.
+pub check_stood : (p : PortState) (e : SideId) → Longer (StandsIf p) (StandsIf (record p { links = at_end e after_check p.links })) (conn_events e (conn_answer_at p.links e))
+check_stood p e = λ t vouched asked.
     let u = conn_events e (conn_answer_at p.links e) in
     let before = called_before p.turns t u asked in
     let stands = vouched before in
@@ -129,9 +139,9 @@ check_vouched p e = λ t vouched asked.
     (λ closing_by. ap (λ (z : ConnAnswer). (entry.Conn e z, []) ∷ []) (sym (conn_is p.turns t before p.links stands.links e)))
     (check_stands (links_of (lines_of p.turns)) (model.lines (played_turns p.turns) t) t e p.links stands.links) stands
 
-pub read_vouched : (p : PortState) (e : SideId) (room : ℕ) →
-    Longer (ScriptVouches p) (ScriptVouches (record p { links = at_end e (λ s. after_read s room) p.links })) ((entry.Read e room (read_answer_at p.links e room), take room (pending_at p.links e)) ∷ [])
-read_vouched p e room = λ t vouched asked.
+pub read_stood : (p : PortState) (e : SideId) (room : ℕ) →
+    Longer (StandsIf p) (StandsIf (record p { links = at_end e (λ s. after_read s room) p.links })) ((entry.Read e room (read_answer_at p.links e room), take room (pending_at p.links e)) ∷ [])
+read_stood p e room = λ t vouched asked.
     let u : Trace = (entry.Read e room (read_answer_at p.links e room), take room (pending_at p.links e)) ∷ [] in
     let before = called_before p.turns t u asked in
     let stands = vouched before in
@@ -153,10 +163,10 @@ takes_fits p e from within s found =
     let part = length-take-le (taken_of s.may_take (length from)) from (takes_within s.may_take (length from)) in
     omega (arith, fits, both, part)
 
-took_vouched : (p : PortState) (e : SideId) (from : List ℕ) → length (taken_at (at_end e (λ s. after_write s from) p.links) e) < 2 ^ 64 - 1 →
-    Longer (ScriptVouches p) (ScriptVouches (record p { links = at_end e (λ s. after_write s from) p.links }))
+took_stood : (p : PortState) (e : SideId) (from : List ℕ) → length (taken_at (at_end e (λ s. after_write s from) p.links) e) < 2 ^ 64 - 1 →
+    Longer (StandsIf p) (StandsIf (record p { links = at_end e (λ s. after_write s from) p.links }))
     ((entry.Write e (length from) (write_answer_at p.links e (length from)), took_bytes (write_answer_at p.links e (length from)) from) ∷ [])
-took_vouched p e from within = λ t vouched asked.
+took_stood p e from within = λ t vouched asked.
     let u : Trace = (entry.Write e (length from) (write_answer_at p.links e (length from)), took_bytes (write_answer_at p.links e (length from)) from) ∷ [] in
     let before = called_before p.turns t u asked in
     let stands = vouched before in
@@ -166,22 +176,22 @@ took_vouched p e from within = λ t vouched asked.
 
 -- a write that was answered
 took_as : (p : PortState) (new : LinksState) (e : SideId) (from : List ℕ) (answer : WriteAnswer) → new ≡ at_end e (λ s. after_write s from) p.links → answer ≡ write_answer_at p.links e (length from) → length (taken_at new e) < 2 ^ 64 - 1 →
-    Longer (ScriptVouches p) (ScriptVouches (record p { links = new })) ((entry.Write e (length from) answer, took_bytes answer from) ∷ [])
+    Longer (StandsIf p) (StandsIf (record p { links = new })) ((entry.Write e (length from) answer, took_bytes answer from) ∷ [])
 took_as p new e from answer is a within =
-    subst (λ (z : WriteAnswer). Longer (ScriptVouches p) (ScriptVouches (record p { links = new })) ((entry.Write e (length from) z, took_bytes z from) ∷ [])) (sym a)
-    (subst (λ (l : LinksState). Longer (ScriptVouches p) (ScriptVouches (record p { links = l })) ((entry.Write e (length from) (write_answer_at p.links e (length from)), took_bytes (write_answer_at p.links e (length from)) from) ∷ []))
-    (sym is) (took_vouched p e from (subst (λ (l : LinksState). length (taken_at l e) < 2 ^ 64 - 1) is within)))
+    subst (λ (z : WriteAnswer). Longer (StandsIf p) (StandsIf (record p { links = new })) ((entry.Write e (length from) z, took_bytes z from) ∷ [])) (sym a)
+    (subst (λ (l : LinksState). Longer (StandsIf p) (StandsIf (record p { links = l })) ((entry.Write e (length from) (write_answer_at p.links e (length from)), took_bytes (write_answer_at p.links e (length from)) from) ∷ []))
+    (sym is) (took_stood p e from (subst (λ (l : LinksState). length (taken_at l e) < 2 ^ 64 - 1) is within)))
 
-pub write_vouched : (p : PortState) (new : LinksState) (e : SideId) (from : List ℕ) (answer : WriteAnswer) → WroteAt p.links new e from answer → Longer (ScriptVouches p) (ScriptVouches (record p { links = new })) (write_events e from answer)
-write_vouched p new e from write.NoMemory w = no_entry p (record p { links = new }) refl refl w.0
-write_vouched p new e from (write.Took n) w = took_as p new e from (write.Took n) w.0 w.1 w.2
-write_vouched p new e from write.NotYet w = took_as p new e from write.NotYet w.0 w.1 w.2
-write_vouched p new e from write.Failed w = took_as p new e from write.Failed w.0 w.1 w.2
+pub write_stood : (p : PortState) (new : LinksState) (e : SideId) (from : List ℕ) (answer : WriteAnswer) → WroteAt p.links new e from answer → Longer (StandsIf p) (StandsIf (record p { links = new })) (write_events e from answer)
+write_stood p new e from write.NoMemory w = no_entry p (record p { links = new }) refl refl w.0
+write_stood p new e from (write.Took n) w = took_as p new e from (write.Took n) w.0 w.1 w.2
+write_stood p new e from write.NotYet w = took_as p new e from write.NotYet w.0 w.1 w.2
+write_stood p new e from write.Failed w = took_as p new e from write.Failed w.0 w.1 w.2
 
 -- Accepts
 
 accept_by : (p : PortState) (link : ℕ) (ws : List Bool) → p.links.waiting ≡ ws →
-    Longer (ScriptVouches p) (ScriptVouches (record p { links = accept_first link ws p.links; tally = accept_tally (accept_answer ws) p.tally })) (accept_events link (accept_answer ws))
+    Longer (StandsIf p) (StandsIf (record p { links = accept_first link ws p.links; tally = accept_tally (accept_answer ws) p.tally })) (accept_events link (accept_answer ws))
 accept_by p link [] is = no_entry p (record p { links = accept_first link [] p.links; tally = accept_tally (accept_answer []) p.tally }) refl refl refl
 accept_by p link (wait ∷ later) is = λ t vouched asked.
     let u = accept_events link (accept_answer (wait ∷ later)) in
@@ -194,8 +204,8 @@ accept_by p link (wait ∷ later) is = λ t vouched asked.
     (accept_stands (links_of (lines_of p.turns)) (model.lines (played_turns p.turns) t) t p.links wait later link stands.links is number_is (links_of (lines_of (drop (model.begun (played_turns p.turns) t) p.turns))) (links_whole p.turns t before))
     stands
 
-pub accept_vouched : (p : PortState) (link : ℕ) → Longer (ScriptVouches p) (ScriptVouches (after_accept p link)) (accept_events link (accept_answer p.links.waiting))
-accept_vouched p link = accept_by p link p.links.waiting refl
+pub accept_stood : (p : PortState) (link : ℕ) → Longer (StandsIf p) (StandsIf (after_accept p link)) (accept_events link (accept_answer p.links.waiting))
+accept_stood p link = accept_by p link p.links.waiting refl
 
 -- The clock
 
@@ -220,7 +230,7 @@ turn_begins p turn ms t next is stands =
           (lines_stand waits (model.lines T t) (t ++ u) turn.1 p.links (links_silent waits (model.lines T t) t u p.links p.links (silent-turn ms) (like p.links) stands.links));
     }
 
-now_by : (p : PortState) (turn : Option TurnValue) → next_turn p ≡ turn → Ticked (ScriptVouches p) (ScriptVouches (count_reading (begin_turn turn p))) (option_map_or (λ (x : TurnValue). x.0) turn p.clock)
+now_by : (p : PortState) (turn : Option TurnValue) → next_turn p ≡ turn → Ticked (StandsIf p) (StandsIf (count_reading (begin_turn turn p))) (option_map_or (λ (x : TurnValue). x.0) turn p.clock)
 now_by p None next = λ t vouched asked.
     let u : Trace = (entry.Turn (turn_time t p.clock), []) ∷ [] in
     let stands = vouched (called_before p.turns t u asked) in
@@ -231,8 +241,8 @@ now_by p None next = λ t vouched asked.
     absurd (let some = slice_get-get_or p.turns p.begun (0, []) within in cc)
 now_by p (Some turn) next = λ t vouched asked. turn_begins p turn (turn_time t turn.0) t next refl (vouched (called_before p.turns t ((entry.Turn (turn_time t turn.0), []) ∷ []) asked))
 
-pub now_vouched : (p : PortState) → Ticked (ScriptVouches p) (ScriptVouches (after_now p)) (clock_answer p)
-now_vouched p = now_by p (next_turn p) refl
+pub now_stood : (p : PortState) → Ticked (StandsIf p) (StandsIf (after_now p)) (clock_answer p)
+now_stood p = now_by p (next_turn p) refl
 
 -- The beginning
 
@@ -265,8 +275,8 @@ new_stands waits e undecided is = record {
   undecided = λ _. refl;
 }
 
-pub new_vouched : (turns : List TurnValue) → ScriptVouches (new_port turns) []
-new_vouched turns = λ asked. record {
+pub new_stood : (turns : List TurnValue) → StandsIf (new_port turns) []
+new_stood turns = λ asked. record {
   answered = λ closing_by. ([], refl);
   begun = refl;
   links = record {
@@ -278,3 +288,42 @@ new_vouched turns = λ asked. record {
     beyond = λ e found. new_past (links_of (lines_of turns)) e.link e.side found;
   };
 }
+
+-- What is vouched for
+
+-- behind entries that no port answers it stands too
+stood_on : (p : PortState) (own t : Trace) → AreUnheard own → StandsIf p t → StandsIf p (t ++ own)
+stood_on p [] t h stood = subst (StandsIf p) (sym (append-nil t)) stood
+stood_on p ((x, bytes) ∷ own) t h stood =
+    subst (StandsIf p) (append_assoc t ((x, bytes) ∷ []) own)
+    (stood_on p own (t ++ (x, bytes) ∷ []) h.2 (subst (λ z. StandsIf p (t ++ (x, z) ∷ [])) (sym h.1) (unheard_stood p x h.0 t stood)))
+
+pub stands_if : (p : PortState) (t : Trace) → ScriptVouches p t → StandsIf p t
+stands_if p t vouched = subst (StandsIf p) (append-nil t) (vouched [] tt)
+
+vouched_on : (p q : PortState) (u : Trace) → Longer (StandsIf p) (StandsIf q) u → Longer (ScriptVouches p) (ScriptVouches q) u
+vouched_on p q u h = λ t vouched own unheard. stood_on q own (t ++ u) unheard (h t (stands_if p t vouched))
+
+-- a call that left this port and had these entries
+pub call_vouched : (p q r : PortState) (u v : Trace) → q ≡ r → v ≡ u → Longer (StandsIf p) (StandsIf r) u → Longer (ScriptVouches p) (ScriptVouches q) v
+call_vouched p q r u v port entries h =
+    subst (λ z. Longer (ScriptVouches p) (ScriptVouches z) v) (sym port) (subst (λ z. Longer (ScriptVouches p) (ScriptVouches r) z) (sym entries) (vouched_on p r u h))
+
+ticked_on : (p q : PortState) (at : ℕ) → Ticked (StandsIf p) (StandsIf q) at → Ticked (ScriptVouches p) (ScriptVouches q) at
+ticked_on p q at h = λ t vouched own unheard. stood_on q own (t ++ (entry.Turn (turn_time t at), []) ∷ []) unheard (h t (stands_if p t vouched))
+
+clock_begun : (turn : Option TurnValue) (p : PortState) → (begin_turn turn p).clock ≡ option_map_or (λ (x : TurnValue). x.0) turn p.clock
+clock_begun None p = refl
+clock_begun (Some turn) p = refl
+
+-- a reading that left this port
+pub reading_vouched : (p begun : PortState) → begun ≡ begin_turn (next_turn p) p → Ticked (ScriptVouches p) (ScriptVouches (count_reading begun)) begun.clock
+reading_vouched p begun is =
+    subst (λ z. Ticked (ScriptVouches p) (ScriptVouches (count_reading z)) z.clock) (sym is)
+    (subst (λ n. Ticked (ScriptVouches p) (ScriptVouches (after_now p)) n) (sym (clock_begun (next_turn p) p)) (ticked_on p (after_now p) (clock_answer p) (now_stood p)))
+
+new_vouched : (turns : List TurnValue) → ScriptVouches (new_port turns) []
+new_vouched turns = λ own unheard. stood_on (new_port turns) own [] unheard (new_stood turns)
+
+pub new_from : (turns : List TurnValue) (p : PortState) → p ≡ new_port turns → ScriptVouches p []
+new_from turns p is = subst (λ z. ScriptVouches z []) (sym is) (new_vouched turns)

@@ -19,3 +19,5 @@ pub mod ScriptPortView
 pub mod ScriptPlayed
 pub mod ScriptVouched
 pub mod ScriptLaws
+pub mod ScriptPlays
+pub mod ScriptUnheard

@@ -12,6 +12,7 @@ use Rattle.relay_model.specs.Totals.{opened, is_made_connected, is_connected}
 use Rattle.relay_model.specs.Lines.{Line, links_by, brings, ends, allows, allows_all}
 use Rattle.relay_model.specs.Scripted.{undecided_at, begun, lines}
 use Rattle.relay_model.specs.Plays.{IsAnswered}
+use Rattle.ev_port.specs.Calls.{IsUnheard}
 use Rattle.ev_port.specs.ScriptState.{EndState, LinksState, PortState}
 use Rattle.ev_port.specs.ScriptLinks.{end_of, links_of}
 use Rattle.ev_port.specs.ScriptPort.{lines_of}
@@ -77,6 +78,12 @@ pub record PortStands (p : PortState) (t : Trace) : Type 0 where
   pub begun : p.begun ≡ begun (played_turns p.turns) t
   pub links : LinksStand (links_of (lines_of p.turns)) (lines (played_turns p.turns) t) t p.links
 
--- a script port vouches for the traces behind which it stands, where they are called for
+-- entries that no port answers, with no bytes beside them
+abbrev pub AreUnheard : Trace → Type 0
+AreUnheard [] = ⊤
+AreUnheard ((x, bytes) ∷ own) = IsUnheard x × (bytes ≡ []) × AreUnheard own
+
+-- A script port vouches for a trace where it stands behind it, with whatever entries at its end that no port answers, if that
+-- is called for.
 abbrev pub ScriptVouches : PortState → Trace → Type 0
-ScriptVouches p t = IsCalledFor p.turns t → PortStands p t
+ScriptVouches p t = (own : Trace) → AreUnheard own → IsCalledFor p.turns (t ++ own) → PortStands p (t ++ own)

@@ -1,5 +1,6 @@
-// The laws of a script port's state, each on a function whose contract it is.
+// The laws of a script port, each on a function whose contract it is.
 ghost use Rattle.ev_port.specs.ScriptLaws.{LinesBringBytes, ReadsLoseNothing};
+ghost use Rattle.ev_port.specs.ScriptPlays.{VouchedIsPlayed};
 
 /// The lines of a script bring in exactly their bytes, in their order.
 pub fn lines_bring_bytes()
@@ -9,4 +10,9 @@ pub fn lines_bring_bytes()
 /// What was given and what is pending is, over a read, one list that stays.
 pub fn reads_lose_nothing()
     ensures { ReadsLoseNothing }
+{}
+
+/// What a script port vouches for is played from its script, by the run that took all links and told its turns.
+pub fn vouched_is_played()
+    ensures { VouchedIsPlayed }
 {}

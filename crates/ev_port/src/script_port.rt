@@ -1,7 +1,7 @@
 // A port that answers by a script. Each reading of the clock begins the script's next turn and applies its lines; every
 // other call is answered from what the lines so far left. It waits for nothing, meets no fault, and keeps all that it is
 // told and all that it took.
-ghost use Rattle.std.specs.Prelude.{◌≡◌, ◌<◌, ⊤, [], true, false, length, take, drop, map, IfOk};
+ghost use Rattle.std.specs.Prelude.{◌≡◌, ◌<◌, [], true, false, length, take, drop, map, IfOk};
 ghost use Rattle.ev_types.specs.Growth.{Longer};
 ghost use Rattle.ev_port.specs.Told.{EndsWent, AllWent, PortStays, no_step};
 ghost use Rattle.ev_port.specs.Faults.{FaultsStay, EndFaults, PollFaults, ListenerFaults};
@@ -12,6 +12,7 @@ ghost use Rattle.ev_port.specs.ScriptEnds.{after_read, after_check, after_close_
 ghost use Rattle.ev_port.specs.ScriptLinks.{at_end, marked, accept_answer, read_answer_at, pending_at, WroteAt, conn_answer_at};
 ghost use Rattle.ev_port.specs.ScriptPort.{no_port_calls, new_port, next_turn, begin_turn, clock_answer, after_now, after_start, poll_accepts, poll_tally, after_poll, accept_tally, after_accept};
 ghost use Rattle.ev_port.specs.ScriptTold.{ends_told, port_told, no_faults};
+ghost use Rattle.ev_port.specs.ScriptVouched.{ScriptVouches};
 
 use crate::script_links::ScriptLinks;
 use crate::{Accepted, Addr, Polled, Port, Started, Want};
@@ -98,7 +99,8 @@ impl ScriptPort {
     /// A port at the beginning of the script. The bytes of its lines are copied once, so that no line takes memory
     /// when its turn begins.
     pub fn new(alloc: Global, script: Script) -> Result<ScriptPort, NoMemory>
-        ensures { IfOk result (λ port. port ≡ new_port script.turns) }
+        ensures at_first { IfOk result (λ port. port ≡ new_port script.turns) }
+        ensures vouched { IfOk result (λ port. ScriptVouches port []) }
     {
         let mut links = ScriptLinks::new(alloc);
         for (_, lines) in &script.turns {
@@ -130,11 +132,9 @@ impl ScriptPort {
 
 /// It tells everything of itself and of the ends of the script's links, and nothing of other ends.
 impl Port for ScriptPort {
-    ghost use Rattle.std.specs.Prelude.{⊤};
+    ghost use Rattle.ev_port.specs.ScriptUnheard.{unheard_vouched};
 
-    // Once it is said which traces a script plays: that the trace is one that this script plays, and that the port
-    // stands where it ends. Until then nothing is said of a trace.
-    ghost vouches = { λ _ _. ⊤ };
+    ghost vouches = { ScriptVouches };
 
     ghost faults = { λ _. no_faults };
 
@@ -151,7 +151,7 @@ impl Port for ScriptPort {
         ensures cause { ListenerFaults no_faults no_faults (is_failed_start result) }
         ensures ends { AllWent (ends_told self.old.links) (ends_told self.new.links) (λ _. no_step) }
         ensures told { StartedAt (port_told self.old) (port_told self.new) listen to }
-        ensures vouched { Longer (λ _. ⊤) (λ _. ⊤) [] }
+        ensures vouched { Longer (ScriptVouches self.old) (ScriptVouches self.new) [] }
     {
         self.tally.started = Some((listen, to));
         Started::Started
@@ -165,7 +165,7 @@ impl Port for ScriptPort {
         ensures cause { FaultsStay no_faults no_faults }
         ensures ends { AllWent (ends_told self.old.links) (ends_told self.new.links) (λ _. no_step) }
         ensures told { ClockRead (port_told self.old) (port_told self.new) result }
-        ensures vouched { Ticked (λ _. ⊤) (λ _. ⊤) result }
+        ensures vouched { Ticked (ScriptVouches self.old) (ScriptVouches self.new) result }
     {
         self.begin_turn();
         self.tally.readings = self.tally.readings.saturating_add(1);
@@ -185,7 +185,7 @@ impl Port for ScriptPort {
         ensures cause { PollFaults no_faults no_faults (is_failed_poll result) }
         ensures ends { AllWent (ends_told self.old.links) (ends_told self.new.links) (poll_step wants.new result) }
         ensures told { PolledWith (port_told self.old) (port_told self.new) accept timeout result }
-        ensures vouched { Longer (λ _. ⊤) (λ _. ⊤) (poll_events timeout wants.new result) }
+        ensures vouched { Longer (ScriptVouches self.old) (ScriptVouches self.new) (poll_events timeout wants.new result) }
     {
         let answer = Polled::Ready {
             accept: accept & self.links.has_waiting(),
@@ -205,7 +205,7 @@ impl Port for ScriptPort {
         ensures cause { ListenerFaults no_faults no_faults (is_failed_accept result) }
         ensures ends { AllWent (ends_told self.old.links) (ends_told self.new.links) (accept_step link result) }
         ensures told { AcceptedLink (port_told self.old) (port_told self.new) result }
-        ensures vouched { Longer (λ _. ⊤) (λ _. ⊤) (accept_events link result) }
+        ensures vouched { Longer (ScriptVouches self.old) (ScriptVouches self.new) (accept_events link result) }
     {
         let answer = self.links.accept(link);
         self.tally.count_accept(answer);
@@ -221,7 +221,7 @@ impl Port for ScriptPort {
         ensures cause { EndFaults no_faults no_faults end (is_failed_conn result) }
         ensures ends { EndsWent (ends_told self.old.links) (ends_told self.new.links) end (conn_step result) }
         ensures told { PortStays (port_told self.old) (port_told self.new) }
-        ensures vouched { Longer (λ _. ⊤) (λ _. ⊤) (conn_events end result) }
+        ensures vouched { Longer (ScriptVouches self.old) (ScriptVouches self.new) (conn_events end result) }
     {
         self.links.connect_state(end)
     }
@@ -239,7 +239,7 @@ impl Port for ScriptPort {
         ensures cause { EndFaults no_faults no_faults end (is_failed_read result) }
         ensures ends { EndsWent (ends_told self.old.links) (ends_told self.new.links) end (read_step result into.new) }
         ensures told { PortStays (port_told self.old) (port_told self.new) }
-        ensures vouched { Longer (λ _. ⊤) (λ _. ⊤) (read_events end into.new result) }
+        ensures vouched { Longer (ScriptVouches self.old) (ScriptVouches self.new) (read_events end into.new result) }
     {
         self.links.read(end, into)
     }
@@ -255,7 +255,7 @@ impl Port for ScriptPort {
         ensures cause { EndFaults no_faults no_faults end (is_failed_write result) }
         ensures ends { EndsWent (ends_told self.old.links) (ends_told self.new.links) end (write_step result from.now) }
         ensures told { PortStays (port_told self.old) (port_told self.new) }
-        ensures vouched { Longer (λ _. ⊤) (λ _. ⊤) (write_events end from.now result) }
+        ensures vouched { Longer (ScriptVouches self.old) (ScriptVouches self.new) (write_events end from.now result) }
     {
         self.links.write(end, from)
     }
@@ -267,7 +267,7 @@ impl Port for ScriptPort {
         ensures cause { FaultsStay no_faults no_faults }
         ensures ends { EndsWent (ends_told self.old.links) (ends_told self.new.links) end close_write_step }
         ensures told { PortStays (port_told self.old) (port_told self.new) }
-        ensures vouched { Longer (λ _. ⊤) (λ _. ⊤) (close_write_events end) }
+        ensures vouched { Longer (ScriptVouches self.old) (ScriptVouches self.new) (close_write_events end) }
     {
         self.links.close_write(end);
     }
@@ -279,10 +279,10 @@ impl Port for ScriptPort {
         ensures cause { FaultsStay no_faults no_faults }
         ensures ends { EndsWent (ends_told self.old.links) (ends_told self.new.links) end close_step }
         ensures told { PortStays (port_told self.old) (port_told self.new) }
-        ensures vouched { Longer (λ _. ⊤) (λ _. ⊤) (close_events end) }
+        ensures vouched { Longer (ScriptVouches self.old) (ScriptVouches self.new) (close_events end) }
     {
         self.links.close(end);
     }
 
-    ghost unheard = { λ _ _ _ _ _. tt };
+    ghost unheard = { unheard_vouched };
 }

@@ -44,6 +44,7 @@ few-read s new line few h = plain_case (list_all is_plain line) h
     said_case : (o : Option Line) → option_and_then (λ what. extended s what) o ≡ Some new → length new.turns ≤ 20000
     said_case None e = none-some new e
     said_case (Some x) e = few-extended s new x few e
+
     plain_case : (b : Bool) → (if b then option_and_then (λ what. extended s what) (said (words line)) else None) ≡ Some new → length new.turns ≤ 20000
     plain_case true e = said_case (said (words line)) e
     plain_case false e = none-some new e

@@ -1,6 +1,9 @@
 // Makes the turns of a script over a port that answers by it, and gives the text of what happened.
 ghost use Rattle.std.specs.Prelude.{◌≡◌, ◌≤◌, length, IfOk, IfErr};
+ghost use Rattle.relay_model.specs.Stages.{Stage};
+ghost use Rattle.relay_meaning.specs.Meaning.{StandsFor};
 ghost use Rattle.relay_drive.specs.declared.fault.DriveFault.TheVariants.{Memory};
+ghost use Rattle.evplay.specs.Report.{lines_below};
 ghost use Rattle.evplay.specs.Play.{IsRunText};
 
 use ev_port::ScriptPort;
@@ -27,6 +30,9 @@ pub fn run(alloc: Global, script: Script) -> Result<Vec<u8>, DriveFault>
 
 /// The text of a trace, and of the report of the drive that made it.
 fn written(alloc: Global, tape: &Tape, drive: &Drive) -> Result<Vec<u8>, NoMemory>
+    requires hold { drive.now.state.settings.hold ≡ 524288 }
+    requires links { drive.now.state.settings.links ≡ 256 }
+    requires stands { StandsFor tape.now.trace Stage.Between drive.now.state }
     ensures { IfOk result (λ text. IsRunText text.items) }
 {
     let links = link_lines(alloc, drive)?;
@@ -37,7 +43,9 @@ fn written(alloc: Global, tape: &Tape, drive: &Drive) -> Result<Vec<u8>, NoMemor
 }
 
 /// The links of a drive as the report says them, in order.
-fn link_lines(alloc: Global, drive: &Drive) -> Result<Vec<LinkLine>, NoMemory> {
+fn link_lines(alloc: Global, drive: &Drive) -> Result<Vec<LinkLine>, NoMemory>
+    ensures { IfOk result (λ lines. lines.items ≡ lines_below drive.now.state drive.now.state.opened) }
+{
     let mut lines = Vec::new(alloc);
     for link in 0..drive.opened() {
         if let Some(count) = drive.link(link) {

@@ -7,6 +7,7 @@ use Rattle.ev_port.specs.ScriptPort.{lines_of}
 use Rattle.ev_port.specs.ScriptPortView.{shown_turn}
 use Rattle.ev_port.proofs.ListLemmas.{part_at}
 use Rattle.ev_port.proofs.ScriptLemmas.{links_step, links_done, bytes_step, bytes_done, all_to_come}
+use Rattle.ev_port.proofs.ScriptVouchLemmas.{new_from}
 use Rattle.ev_port.proofs.script_port.ScriptPort.new.Goals as goal
 
 pub loop-lines-preserved : goal.loop-lines-preserved
@@ -44,3 +45,12 @@ invariant_of-result c =
     (c.loop-lines-2.invariant.to_open ∙ ap (λ (l : LinksKept). l.to_open) all_links)
     (ap (λ s. s.ends) c.loop-lines-2.invariant.state ∙ ap (λ (l : LinksKept). l.state.ends) all_links)
     (all_bytes ∙ ap (λ (l : LinksKept). with_all_bytes xs l.to_come) all_links)
+
+pub returns-clause-vouched : goal.returns-clause-vouched
+returns-clause-vouched c =
+    let turns = map shown_turn c.script.inside.turns.items in
+    let xs = lines_of turns in
+    let first = rw c.deref-lines-items.ensures.value at c.loop-lines.invariant in
+    let all_links = links_done turns c.loop-lines.lines-index c.loop-lines.links _ (omega (arith, length-map c.script.inside.turns.items shown_turn, ap length c.deref-lines-items.ensures.value)) first ∙ ap (with_links (links_of xs)) c.new-links.ensures in
+    let links = c.loop-lines-2.invariant.state ∙ ap (λ (l : LinksKept). l.state) all_links in
+    new_from turns _ (rw (links, c.new.ensures))

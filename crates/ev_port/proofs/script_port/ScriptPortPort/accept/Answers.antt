@@ -1,5 +1,8 @@
 use Rattle.ev_port.specs.ScriptLinks.{accept_first}
 use Rattle.ev_port.proofs.CallLemmas.{still_brings, length-accept_first, accept_ends}
+use Rattle.ev_port.specs.ScriptPortView.{port_state}
+use Rattle.ev_port.proofs.ScriptVouchLemmas.{call_vouched, accept_stood}
+use Rattle.ev_port.specs.ScriptPort.{after_accept}
 use Rattle.ev_port.proofs.script_port.ScriptPortPort.accept.Goals as goal
 
 pub invariant_of-self : goal.invariant_of-self
@@ -13,3 +16,9 @@ pub returns-clause-ends : goal.returns-clause-ends
 returns-clause-ends c =
     rw (← c.self.view_is, c.accept-answer.ensures.after, c.accept-answer.ensures.answer)
     (accept_ends c.args.link c.self.inside.links.state.waiting c.self.inside.links.state)
+
+pub returns-clause-vouched : goal.returns-clause-vouched
+returns-clause-vouched c =
+    let p = port_state c.self.inside in
+    rw (← c.self.view_is)
+    (call_vouched p _ (after_accept p c.args.link) _ _ (rw (c.accept-answer.ensures.after, c.count_accept.ensures, c.accept-answer.ensures.answer)) (rw c.accept-answer.ensures.answer) (accept_stood p c.args.link))

@@ -2,6 +2,9 @@ use Rattle.ev_port.specs.ScriptEnds.{after_close_write}
 use Rattle.ev_port.specs.ScriptLinks.{at_end}
 use Rattle.ev_port.proofs.ToldLemmas.{ends_step}
 use Rattle.ev_port.proofs.CallLemmas.{still_brings, length-at_end, close_write_went}
+use Rattle.ev_port.specs.ScriptPortView.{port_state}
+use Rattle.ev_port.proofs.ScriptVouchLemmas.{call_vouched, close_write_stood}
+use Rattle.std.proofs.Common.{refl}
 use Rattle.ev_port.proofs.script_port.ScriptPortPort.close_write.Goals as goal
 
 pub invariant_of-self : goal.invariant_of-self
@@ -13,3 +16,8 @@ pub returns-clause-ends : goal.returns-clause-ends
 returns-clause-ends c =
     rw (← c.self.view_is, c.close_write.ensures)
     (ends_step c.self.inside.links.state c.args.end after_close_write _ (λ s _. close_write_went s))
+
+pub returns-clause-vouched : goal.returns-clause-vouched
+returns-clause-vouched c =
+    let p = port_state c.self.inside in
+    rw (← c.self.view_is) (call_vouched p _ (record p { links = at_end c.args.end after_close_write p.links }) _ _ (rw c.close_write.ensures) refl (close_write_stood p c.args.end))

@@ -1,6 +1,8 @@
 use Rattle.ev_port.specs.ScriptEnds.{after_check}
 use Rattle.ev_port.specs.ScriptLinks.{at_end}
 use Rattle.ev_port.proofs.CallLemmas.{still_brings, length-at_end, check_ends}
+use Rattle.ev_port.specs.ScriptPortView.{port_state}
+use Rattle.ev_port.proofs.ScriptVouchLemmas.{call_vouched, check_stood}
 use Rattle.ev_port.proofs.script_port.ScriptPortPort.connect_state.Goals as goal
 
 pub invariant_of-self : goal.invariant_of-self
@@ -12,3 +14,9 @@ pub returns-clause-ends : goal.returns-clause-ends
 returns-clause-ends c =
     rw (← c.self.view_is, c.connect_state.ensures.after)
     (check_ends c.self.inside.links.state c.args.end _ c.connect_state.ensures.answer)
+
+pub returns-clause-vouched : goal.returns-clause-vouched
+returns-clause-vouched c =
+    let p = port_state c.self.inside in
+    rw (← c.self.view_is)
+    (call_vouched p _ (record p { links = at_end c.args.end after_check p.links }) _ _ (rw c.connect_state.ensures.after) (rw c.connect_state.ensures.answer) (check_stood p c.args.end))

@@ -4,6 +4,8 @@ use Rattle.ev_port.specs.ScriptPort.{next_turn}
 use Rattle.ev_port.specs.ScriptTold.{ends_told}
 use Rattle.ev_port.proofs.ToldLemmas.{EndWent-none}
 use Rattle.ev_port.proofs.CallLemmas.{turn_untold}
+use Rattle.ev_port.specs.ScriptPortView.{port_state}
+use Rattle.ev_port.proofs.ScriptVouchLemmas.{reading_vouched}
 use Rattle.ev_port.proofs.script_port.ScriptPortPort.now.Goals as goal
 
 pub returns-clause-ends : goal.returns-clause-ends
@@ -12,3 +14,7 @@ returns-clause-ends c = λ e.
     let links = ap (λ (q : PortState). q.links) (c.self.view_is ∙ c.begin_turn.ensures) in
     let same = turn_untold (next_turn p) p e in
     rw (links, same) (EndWent-none (ends_told p.links e))
+
+pub returns-clause-vouched : goal.returns-clause-vouched
+returns-clause-vouched c =
+    rw c.saturating_add-self-inside.ensures (reading_vouched c.args.self.now (port_state c.self.inside) (c.self.view_is ∙ c.begin_turn.ensures))

@@ -2,6 +2,10 @@ use Rattle.std.proofs.Common.{length}
 use Rattle.ev_port.specs.ScriptEnds.{after_read}
 use Rattle.ev_port.specs.ScriptLinks.{at_end}
 use Rattle.ev_port.proofs.CallLemmas.{still_brings, length-at_end, read_ends}
+use Rattle.ev_port.specs.ScriptPortView.{port_state}
+use Rattle.ev_port.proofs.ScriptVouchLemmas.{call_vouched, read_stood}
+use Rattle.std.proofs.Common.{[], ◌∷◌}
+use Rattle.ev_types.specs.declared.entry.Entry.TheVariants as entry
 use Rattle.ev_port.proofs.script_port.ScriptPortPort.read.Goals as goal
 
 pub invariant_of-self : goal.invariant_of-self
@@ -15,3 +19,11 @@ pub returns-clause-ends : goal.returns-clause-ends
 returns-clause-ends c =
     rw (← c.self.view_is, c.read.ensures.after)
     (read_ends c.self.inside.links.state c.args.end c.read.result c.read.new.into (length c.args.into.now) c.read.ensures.answer c.read.ensures.bytes c.read.auto.into)
+
+pub returns-clause-vouched : goal.returns-clause-vouched
+returns-clause-vouched c =
+    let p = port_state c.self.inside in
+    let room = length c.args.into.now in
+    rw (← c.self.view_is)
+    (call_vouched p _ (record p { links = at_end c.args.end (λ s. after_read s room) p.links }) _ _ (rw c.read.ensures.after)
+    (λ i. (entry.Read c.args.end (c.read.auto.into i) (c.read.ensures.answer i), c.read.ensures.bytes i) ∷ []) (read_stood p c.args.end room))
