@@ -1,4 +1,4 @@
--- What each step of a turn adds to the bound of the counts, and how many entries it puts.
+-- Directions, sides and states stay within a bound through each change that a step makes of them.
 use Rattle.std.proofs.Common.{◌≡◌, ℕ, zero, suc, ◌+◌, ◌<◌, ◌≤◌, Bool, true, false, ◌&&◌, ◌||◌, ◌==◌, if◌then◌else◌, List, [], ◌∷◌, ◌++◌, length, take, drop, get_or, set, ◌∙◌, ap, arith, length-append, length-drop, length-take-le}
 use Rattle.ev_types.specs.declared.side.SideId.{SideId}
 use Rattle.ev_types.specs.Sides.{number, peer}
@@ -44,12 +44,6 @@ ordered-moved n x k = go (is_moving x)
 ordered-written : (n hold : ℕ) (finish : Bool) (x : Lane) → IsOrdered n x → IsOrdered n (write_filtered hold finish x)
 ordered-written n hold finish x k = go x.flow.held
   where
-    m : ℕ
-    m = turned_now hold x.buffers
-
-    done : Bool
-    done = finish && x.flow.read_done && m == length x.buffers.output && length x.buffers.input == 0
-
     go : (b : Bool) → IsOrdered n (if b then x else record { flow = record (x.flow) { turned = x.flow.turned + turned_now hold x.buffers; write_done = x.flow.write_done || (finish && x.flow.read_done && turned_now hold x.buffers == length x.buffers.output && length x.buffers.input == 0) }; buffers = record (x.buffers) { output = drop (turned_now hold x.buffers) x.buffers.output; raw_output = x.buffers.raw_output ++ take (turned_now hold x.buffers) x.buffers.output } })
     go true = k
     go false =
