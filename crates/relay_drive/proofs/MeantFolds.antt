@@ -1,10 +1,10 @@
 -- What is done for each of a list keeps what the relay stands for, where each step does.
-use Rattle.std.proofs.Common.{◌≡◌, ℕ, ◌<◌, List, [], ◌∷◌, ◌++◌, refl, sym, ◌∙◌, ap, subst, append_assoc, append-nil}
+use Rattle.std.proofs.Common.{◌≡◌, ℕ, List, [], ◌∷◌, ◌++◌, sym, ◌∙◌, ap, subst, append_assoc, append-nil}
 use Rattle.std.specs.Prelude.{⊤}
 use Rattle.ev_types.specs.Trace.{Trace}
 use Rattle.relay_model.specs.Stages.{Stage}
 use Rattle.relay_core.specs.State.{State}
-use Rattle.relay_drive.specs.Steps.{Nothing, Then, Each, CutAt}
+use Rattle.relay_drive.specs.Steps.{Nothing, Each, CutAt}
 use Rattle.relay_meaning.specs.Meaning.{StandsFor}
 
 -- the relay stands for a trace, with so many links

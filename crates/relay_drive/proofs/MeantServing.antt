@@ -1,8 +1,7 @@
 -- Serving a side, passing a direction and looking at a step of closing keep what the relay stands for.
-use Rattle.std.proofs.Common.{◌≡◌, ◌≢◌, ◌⊎◌, inl, inr, ℕ, zero, suc, ◌+◌, ◌<◌, ◌≤◌, Bool, true, false, ◌&&◌, ◌||◌, if◌then◌else◌, List, [], ◌∷◌, ◌++◌, length, map, take, refl, sym, ◌∙◌, ap, subst, arith, append_assoc, append-nil, length-take-le}
-use Rattle.std.specs.Prelude.{nat_lt, MatchBool, ⊤}
+use Rattle.std.proofs.Common.{◌≡◌, ◌≢◌, inl, inr, ℕ, zero, suc, ◌+◌, ◌<◌, ◌≤◌, Bool, true, false, ◌&&◌, ◌||◌, if◌then◌else◌, List, [], ◌∷◌, ◌++◌, length, map, refl, sym, ◌∙◌, ap, subst, arith, append_assoc, append-nil, length-take-le}
+use Rattle.std.specs.Prelude.{nat_lt, MatchBool}
 use Rattle.ev_types.specs.declared.side.SideId.{SideId}
-use Rattle.ev_types.specs.declared.side.Side.TheVariants.{In, Out}
 use Rattle.ev_types.specs.declared.answer.ConnAnswer.{ConnAnswer}
 use Rattle.ev_types.specs.declared.answer.ConnAnswer.TheVariants as conn
 use Rattle.ev_types.specs.declared.answer.ReadAnswer.{ReadAnswer}
@@ -10,10 +9,9 @@ use Rattle.ev_types.specs.declared.answer.ReadAnswer.TheVariants as read
 use Rattle.ev_types.specs.declared.answer.WriteAnswer.{WriteAnswer}
 use Rattle.ev_types.specs.declared.answer.WriteAnswer.TheVariants as write
 use Rattle.ev_types.specs.declared.entry.Entry.TheVariants as entry
-use Rattle.ev_types.specs.Sides.{peer}
 use Rattle.ev_types.specs.Trace.{Trace}
 use Rattle.ev_port.specs.declared.port.Want.{Want}
-use Rattle.ev_port.specs.Ends.{conn_events, ReadWithin, got_bytes, read_events, WriteWithin, took_bytes, write_events}
+use Rattle.ev_port.specs.Ends.{conn_events, ReadWithin, got_bytes, WriteWithin, took_bytes, write_events}
 use Rattle.relay_model.specs.Rooms as rooms
 use Rattle.relay_model.specs.Serve.{CarriesGot}
 use Rattle.relay_model.specs.Plain.{sides_from}
@@ -25,13 +23,11 @@ use Rattle.relay_core.specs.declared.close.Closing.{Closing}
 use Rattle.relay_core.specs.declared.close.Closing.TheVariants as closing
 use Rattle.relay_core.specs.State.{State, SideValue, side_at, flags_at}
 use Rattle.relay_core.specs.Rooms.{read_room, write_room, offer, wants_read}
-use Rattle.relay_core.specs.Serving as core
 use Rattle.relay_core.specs.Closing.{in_side, out_side, link_of, closing_of, is_called_for, after_closing}
-use Rattle.relay_drive.specs.Steps.{Nothing, Then, Each, CutAt}
+use Rattle.relay_drive.specs.Steps.{Nothing, Then}
 use Rattle.relay_drive.specs.Calls.{Asks, Reads, Writes, after_conn, after_read, after_write, is_memory}
 use Rattle.relay_drive.specs.Phases.{links_from, ReadsSide, WritesSide, ConnectsSide, ReadsWithRoom, is_connecting, ServesSide, CutServing, PassesSide, CutPassing, PassesLink, CutPassingLink, closing_events, Closes, LooksAt, ClosesLink, CutClosingLink}
 use Rattle.relay_meaning.specs.Meaning.{StandsFor, LeftFor}
-use Rattle.relay_meaning.specs.Results as meant
 use Rattle.relay_meaning.specs.Results.{close_step}
 use Rattle.relay_meaning.proofs.AgreeLemmas.{side-set, in_code}
 use Rattle.relay_meaning.proofs.ServeSteps.{mark, conn-stands, read-stands, waiting-skipped, read-skipped, write-skipped}
@@ -56,23 +52,6 @@ serving ws = Stage.Serving (marks_of ws)
 -- the marks that are left of a side, before others
 abbrev marks_with : SideId → Bool → Bool → List rooms.Want → List rooms.Want
 marks_with e r c ms = if r || c then mark e r c ∷ ms else ms
-
-conn-same : (s : State) (e : SideId) (answer : ConnAnswer) → meant.after_conn s e answer ≡ after_conn s e answer
-conn-same s e conn.Connected = refl
-conn-same s e conn.Pending = refl
-conn-same s e conn.Failed = refl
-
-read-same : (s : State) (e : SideId) (answer : ReadAnswer) (bytes : List ℕ) → meant.after_read s e answer bytes ≡ after_read s e answer bytes
-read-same s e (read.Got n) bytes = refl
-read-same s e read.Ended bytes = refl
-read-same s e read.NotYet bytes = refl
-read-same s e read.Failed bytes = refl
-
-write-same : (s : State) (e : SideId) (answer : WriteAnswer) → meant.after_write s e answer ≡ after_write s e answer
-write-same s e (write.Took n) = refl
-write-same s e write.NotYet = refl
-write-same s e write.Failed = refl
-write-same s e write.NoMemory = refl
 
 -- no call opens a link
 conn-opened : (s : State) (e : SideId) (answer : ConnAnswer) → (after_conn s e answer).opened ≡ s.opened
@@ -125,7 +104,7 @@ module _ (n : ℕ) (e : SideId) (ms : List rooms.Want) where
       let stands = conn-stands t s e r true ms k.stands (here t (Stage.Serving (mark e r true ∷ ms)) s lt k) answer q refl in
       subst (λ z. StandsWith n (t ++ z) (Stage.Serving ms) new) (sym h.entries)
       (subst (StandsWith n (t ++ conn_events e answer) (Stage.Serving ms)) (sym h.state)
-      (record { stands = subst (StandsFor (t ++ conn_events e answer) (Stage.Serving ms)) (conn-same s e answer) stands; opened = conn-opened s e answer ∙ k.opened }))
+      (record { stands = stands; opened = conn-opened s e answer ∙ k.opened }))
 
   -- a connecting side
   connects : (r c : Bool) (t : Trace) (s new : State) (a : Trace) → e.link < n → is_connecting s e ≡ true → StandsWith n t (Stage.Serving (marks_with e r c ms)) s →
@@ -161,7 +140,7 @@ module _ (n : ℕ) (e : SideId) (ms : List rooms.Want) where
       subst (λ z. StandsWith n z (Stage.Serving (mark e false c ∷ ms)) new) same
       (subst (StandsWith n (t ++ (entry.Read e (read_room s e) answer, bytes) ∷ []) (Stage.Serving (mark e false c ∷ ms))) (sym r.state)
       (record {
-        stands = subst (StandsFor (t ++ (entry.Read e (read_room s e) answer, bytes) ∷ []) (Stage.Serving (mark e false c ∷ ms))) (read-same s e answer bytes) stands;
+        stands = stands;
         opened = read-opened s e answer bytes ∙ k.opened;
       })) in
       drop-mark c (t ++ a) new lt
@@ -189,7 +168,7 @@ module _ (n : ℕ) (e : SideId) (ms : List rooms.Want) where
       subst (λ z. StandsWith n z (Stage.Serving ms) new) same
       (subst (StandsWith n (t ++ (entry.Write e (write_room s e) answer, took_bytes answer (offer s e)) ∷ []) (Stage.Serving ms)) (sym w.state)
       (record {
-        stands = subst (StandsFor (t ++ (entry.Write e (write_room s e) answer, took_bytes answer (offer s e)) ∷ []) (Stage.Serving ms)) (write-same s e answer) stands;
+        stands = stands;
         opened = write-opened s e answer ∙ k.opened;
       }))
     where
@@ -277,13 +256,6 @@ passing_links-cut n k ks t s new a lt w h =
 
 -- Closing
 
-events-same : (s : State) (c : Closing) → meant.closing_events s c ≡ closing_events s c
-events-same s (closing.Faulty e) = refl
-events-same s (closing.EndWriting e) = refl
-events-same s (closing.BothDone k) = refl
-events-same s (closing.PeerGone e) = refl
-events-same s (closing.Shut e) = refl
-
 closing-opened : (s : State) (c : Closing) → (after_closing s c).opened ≡ s.opened
 closing-opened s (closing.Faulty e) = refl
 closing-opened s (closing.EndWriting e) = refl
@@ -307,8 +279,8 @@ closing-keeps n rest c cs t s new a lt k h = by_call (is_called_for s c) refl h
     by_call : (b : Bool) → is_called_for s c ≡ b → MatchBool b (Closes c s a new) (Nothing s a new) → StandsWith n (t ++ a) (closing_then rest cs) new
     by_call true called w =
         let stands = called-stands t s (map close_step cs ++ rest) c inside k.stands called in
-        subst (λ z. StandsWith n (t ++ z) (closing_then rest cs) new) (events-same s c ∙ sym w.entries)
-        (subst (StandsWith n (t ++ meant.closing_events s c) (closing_then rest cs)) (sym w.state) (record { stands = stands; opened = closing-opened s c ∙ k.opened }))
+        subst (λ z. StandsWith n (t ++ z) (closing_then rest cs) new) (sym w.entries)
+        (subst (StandsWith n (t ++ closing_events s c) (closing_then rest cs)) (sym w.state) (record { stands = stands; opened = closing-opened s c ∙ k.opened }))
     by_call false off w =
         stands-nothing n t (closing_then rest cs) s new a (record { stands = not_called-stands t s (map close_step cs ++ rest) c inside k.stands off; opened = k.opened }) w
 

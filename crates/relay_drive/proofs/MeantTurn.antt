@@ -1,7 +1,5 @@
 -- Polling, accepting and the whole turn keep what the relay stands for.
-use Rattle.std.proofs.Common.{◌≡◌, ◌⊎◌, inl, inr, ℕ, zero, suc, ◌+◌, ◌*◌, ◌^◌, ◌<◌, ◌≤◌, Bool, true, false, ◌&&◌, ◌||◌, if◌then◌else◌, List, [], ◌∷◌, ◌++◌, length, map, filter, min, max, None, refl, sym, ◌∙◌, ap, subst, arith, append_assoc, append-nil}
-use Rattle.std.specs.Prelude.{nat_lt, MatchBool, ⊤, slice_index_or}
-use Rattle.std.proofs.lemmas.Bool.{ltb-true}
+use Rattle.std.proofs.Common.{◌≡◌, inl, inr, ℕ, zero, suc, ◌+◌, ◌^◌, ◌<◌, ◌≤◌, Bool, true, false, ◌||◌, if◌then◌else◌, List, [], ◌∷◌, ◌++◌, length, map, filter, min, max, None, refl, sym, ◌∙◌, ap, subst, arith, append_assoc, append-nil}
 use Rattle.ev_types.specs.declared.side.SideId.{SideId}
 use Rattle.ev_types.specs.declared.entry.Entry.TheVariants as entry
 use Rattle.ev_types.specs.Trace.{Trace}
@@ -10,24 +8,22 @@ use Rattle.ev_port.specs.declared.port.Polled.TheVariants as polled
 use Rattle.ev_port.specs.Polling.{IsMarked, AllMarked, poll_events}
 use Rattle.relay_model.specs.Rooms as rooms
 use Rattle.relay_model.specs.Plain.{sides_from}
-use Rattle.relay_model.specs.Close.{closing_from}
 use Rattle.relay_model.specs.Stages.{Halt, Stage}
-use Rattle.relay_model.specs.Turn.{latest, most_opened}
 use Rattle.relay_model.specs.Answers.{TurnAnswer}
 use Rattle.relay_core.specs.State.{State}
 use Rattle.relay_core.specs.Closing.{in_side, out_side}
 use Rattle.relay_core.specs.Opening.{after_opened}
 use Rattle.relay_drive.specs.declared.fault.DriveFault.{DriveFault}
 use Rattle.relay_drive.specs.declared.fault.DriveFault.TheVariants as fault
-use Rattle.relay_drive.specs.Steps.{Nothing, Then, Each, CutAt}
+use Rattle.relay_drive.specs.Steps.{Then, Each, CutAt}
 use Rattle.relay_drive.specs.Calls.{Ticks}
-use Rattle.relay_drive.specs.Stands.{answer_of, StandsBetween}
+use Rattle.relay_drive.specs.Stands.{answer_of}
 use Rattle.relay_drive.specs.Phases.CutTurn.{before, in_poll, in_serving, in_passing, in_closing}
-use Rattle.relay_drive.specs.Phases.{links_from, want_of, wants_some, wants_of, wants_of_links, wanted, can_open, Polls, PollFails, CutPoll, OpensOne, OpensSome, AcceptsMore, AcceptsWhere, PollsAndAccepts, CutAccepting, CutPolling, ServesSide, CutServing, PassesLink, CutPassingLink, ForAllLinks, CutForAllLinks, ClosesLink, CutClosingLink, Turns, CutTurn}
+use Rattle.relay_drive.specs.Phases.{links_from, want_of, wants_of, wants_of_links, wanted, Polls, PollFails, OpensSome, AcceptsMore, AcceptsWhere, PollsAndAccepts, CutPolling, ServesSide, CutServing, PassesLink, CutPassingLink, ForAllLinks, CutForAllLinks, ClosesLink, CutClosingLink, Turns, CutTurn}
 use Rattle.relay_meaning.specs.Meaning.{StandsFor, LeftFor}
 use Rattle.relay_meaning.proofs.TurnSteps.{named, marks_of, want_at, wanted_by, MarkedWithin, turn-stands, poll-stands, poll_failed-stands, opened-stands, accepted-stands, served-stands, passed_all-stands, closed_all-stands}
 use Rattle.relay_drive.proofs.MeantFolds.{StandsWith, Each_is, stands-nothing, all-keeps, cut-leaves}
-use Rattle.relay_drive.proofs.MeantServing.{left-stands, IsBelow, serving, serving-keeps, serving-cut, sides_of, sides_of-links, link_below, links-below, passing_links, passing_links-keep, passing_links-cut, steps_of, steps_of-links, closing_links, closing_links-keep, closing_links-cut}
+use Rattle.relay_drive.proofs.MeantServing.{left-stands, IsBelow, serving, serving-keeps, serving-cut, sides_of-links, link_below, links-below, passing_links, passing_links-keep, passing_links-cut, steps_of-links, closing_links, closing_links-keep, closing_links-cut}
 
 -- The clock
 

@@ -17,7 +17,7 @@ use Rattle.relay_core.specs.State.{State}
 use Rattle.relay_drive.specs.declared.fault.DriveFault.{DriveFault}
 use Rattle.relay_drive.specs.declared.fault.DriveFault.TheVariants as fault
 use Rattle.relay_drive.specs.Steps.{Then}
-use Rattle.relay_drive.specs.Phases.{wants_of_link, wants_of_links, links_from, Polls, AcceptsMore, CutAccepting}
+use Rattle.relay_drive.specs.Phases.{wants_of_link, wants_of_links, Polls, AcceptsMore, CutAccepting}
 use Rattle.relay_drive.specs.Goes.{Heard, has_failed, failed_by, has_poll_failed, is_poll_failed}
 use Rattle.relay_drive.proofs.GoesLemmas.{Counted-same}
 use Rattle.relay_drive.proofs.HeardLemmas.{last_time-append}

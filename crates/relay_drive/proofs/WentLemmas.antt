@@ -1,5 +1,5 @@
 -- What a run does is what its drive does.
-use Rattle.std.proofs.Common.{◌≡◌, ℕ, ◌+◌, Bool, ◌++◌, length, Option, refl, sym, ◌∙◌, subst, arith, length-append}
+use Rattle.std.proofs.Common.{◌≡◌, Bool, ◌++◌, Option, sym, subst, arith, length-append}
 use Rattle.ev_types.specs.Trace.{Trace}
 use Rattle.ev_port.specs.Told.{Faults}
 use Rattle.relay_core.specs.State.{State}
@@ -7,7 +7,7 @@ use Rattle.relay_drive.specs.declared.fault.DriveFault.{DriveFault}
 use Rattle.relay_drive.specs.declared.run.Run.{Run}
 use Rattle.relay_drive.specs.DriveValue.{DriveValue}
 use Rattle.relay_drive.specs.Goes.{Goes}
-use Rattle.relay_drive.specs.Stands.{Stands, StandsBetween, Went}
+use Rattle.relay_drive.specs.Stands.{StandsBetween, Went}
 
 -- a run with a kept refusal
 abbrev pub drive_value : Run → Option DriveFault → DriveValue

@@ -2,7 +2,6 @@
 use Rattle.std.specs.Prelude.{◌≡◌, ℕ, ◌^◌, ◌<◌, ⊤, Bool, true, false, List, [], ◌∷◌, length, min, max}
 use Rattle.ev_types.specs.declared.side.SideId.{SideId}
 use Rattle.ev_types.specs.declared.answer.ConnAnswer.{ConnAnswer}
-use Rattle.ev_types.specs.declared.answer.ConnAnswer.TheVariants as conn
 use Rattle.ev_types.specs.declared.answer.ReadAnswer.{ReadAnswer}
 use Rattle.ev_types.specs.declared.answer.ReadAnswer.TheVariants as read
 use Rattle.ev_types.specs.declared.answer.WriteAnswer.{WriteAnswer}
@@ -13,7 +12,7 @@ use Rattle.ev_port.specs.Ends.{conn_events, ReadWithin, got_bytes, read_events, 
 use Rattle.relay_core.specs.State.{State}
 use Rattle.relay_core.specs.Opening.{after_opened}
 use Rattle.relay_core.specs.Rooms.{offer}
-use Rattle.relay_core.specs.Serving.{after_got, after_ended, after_read_failed, after_took, after_write_failed, after_connected}
+pub use Rattle.relay_meaning.specs.Results.{after_conn, after_read, after_write}
 
 -- The clock is read: the reading, cut at 2^62, becomes the time unless the time is greater, and a turn begins.
 pub record Ticks (reading : ℕ) (s : State) (a : Trace) (new : State) : Type 0 where
@@ -26,21 +25,10 @@ pub record Opens (connected : Bool) (s : State) (a : Trace) (new : State) : Type
   pub entries : a ≡ (entry.Opened s.opened connected, []) ∷ []
   pub state : new ≡ after_opened s connected
 
-abbrev pub after_conn : State → SideId → ConnAnswer → State
-after_conn s e conn.Connected = after_connected s e
-after_conn s e conn.Pending = s
-after_conn s e conn.Failed = after_write_failed s e
-
 -- A side's end was asked whether it is connected.
 pub record Asks (e : SideId) (answer : ConnAnswer) (s : State) (a : Trace) (new : State) : Type 0 where
   pub entries : a ≡ conn_events e answer
   pub state : new ≡ after_conn s e answer
-
-abbrev pub after_read : State → SideId → ReadAnswer → List ℕ → State
-after_read s e (read.Got n) bytes = after_got s e bytes
-after_read s e read.Ended bytes = after_ended s e
-after_read s e read.NotYet bytes = s
-after_read s e read.Failed bytes = after_read_failed s e
 
 -- bytes come with the answer that tells of them
 abbrev pub HasBytes : ReadAnswer → List ℕ → Type 0
@@ -52,12 +40,6 @@ pub record Reads (e : SideId) (answer : ReadAnswer) (into : List ℕ) (s : State
   pub within : ReadWithin answer (length into)
   pub entries : a ≡ read_events e into answer
   pub state : new ≡ after_read s e answer (got_bytes answer into)
-
-abbrev pub after_write : State → SideId → WriteAnswer → State
-after_write s e (write.Took n) = after_took s e n
-after_write s e write.NotYet = s
-after_write s e write.Failed = after_write_failed s e
-after_write s e write.NoMemory = s
 
 abbrev pub is_memory : WriteAnswer → Bool
 is_memory write.NoMemory = true

@@ -5,9 +5,7 @@ use Rattle.ev_types.specs.declared.answer.ConnAnswer.{ConnAnswer}
 use Rattle.ev_types.specs.declared.answer.ReadAnswer.{ReadAnswer}
 use Rattle.ev_types.specs.declared.answer.WriteAnswer.{WriteAnswer}
 use Rattle.ev_types.specs.declared.entry.Entry.TheVariants as entry
-use Rattle.ev_types.specs.declared.why.Cause.{Cause}
-use Rattle.ev_types.specs.declared.why.Cause.TheVariants as cause
-use Rattle.ev_types.specs.Trace.{Trace, Event}
+use Rattle.ev_types.specs.Trace.{Trace}
 use Rattle.ev_port.specs.declared.port.Polled.TheVariants as polled
 use Rattle.ev_port.specs.declared.port.Want.{Want}
 use Rattle.ev_port.specs.Polling.{AllMarked, poll_events}
@@ -17,7 +15,7 @@ use Rattle.relay_core.specs.State.{State, flags_at}
 use Rattle.relay_core.specs.Rooms.{read_room, wants_read, write_room, wants_write}
 use Rattle.relay_core.specs.Passing.{PassedFrom, PartlyPassed}
 use Rattle.relay_core.specs.Closing.{in_side, out_side, closing_of, is_called_for, after_closing}
-use Rattle.relay_core.specs.Counting.{counts_of}
+pub use Rattle.relay_meaning.specs.Results.{freed_event, closing_events}
 use Rattle.relay_drive.specs.declared.fault.DriveFault.{DriveFault}
 use Rattle.relay_drive.specs.declared.fault.DriveFault.TheVariants as fault
 use Rattle.relay_drive.specs.Steps.{Nothing, Then, Each, CutAt}
@@ -179,17 +177,6 @@ abbrev pub CutForAllLinks : (ℕ → State → Trace → State → Type 0) → (
 CutForAllLinks R Cut s a new = CutAt R Cut (links_from 0 s.opened) s a new
 
 -- Closing
-
-abbrev pub freed_event : State → SideId → Cause → Event
-freed_event s e why = (entry.Freed e why (counts_of s e).moved (counts_of s e).given, [])
-
--- what a step of closing puts
-abbrev pub closing_events : State → Closing → Trace
-closing_events s (closing.Faulty e) = freed_event s e cause.Failed ∷ []
-closing_events s (closing.EndWriting e) = (entry.CloseWrite e, []) ∷ []
-closing_events s (closing.BothDone k) = freed_event s (in_side k) cause.Done ∷ freed_event s (out_side k) cause.Done ∷ []
-closing_events s (closing.PeerGone e) = freed_event s e cause.PeerGone ∷ []
-closing_events s (closing.Shut e) = (entry.Close e, []) ∷ []
 
 -- what the port hears of it
 abbrev pub told_events : Closing → Trace

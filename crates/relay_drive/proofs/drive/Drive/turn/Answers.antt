@@ -1,4 +1,4 @@
-use Rattle.std.proofs.Common.{◌≡◌, Some, None, false, refl, sym, ◌∙◌, ap, subst}
+use Rattle.std.proofs.Common.{Some, refl, sym, ◌∙◌, ap}
 use Rattle.relay_drive.specs.DriveValue.{is_worn}
 use Rattle.relay_drive.proofs.MeantTurn.{turn_keeps, cut_turn_leaves}
 use Rattle.relay_drive.proofs.WentLemmas.{went_of}
