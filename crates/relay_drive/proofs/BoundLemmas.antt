@@ -1,32 +1,14 @@
--- What each step of a turn adds to the bound of the counts, and how many entries it puts.
-use Rattle.std.proofs.Common.{◌≡◌, ◌⊎◌, inl, inr, ℕ, zero, suc, ◌+◌, ◌-◌, ◌*◌, ◌^◌, ◌<◌, ◌≤◌, Bool, true, false, not, ◌&&◌, ◌||◌, ◌==◌, nat_le, min, max, if◌then◌else◌, List, [], ◌∷◌, ◌++◌, length, take, drop, get_or, set, Option, None, refl, sym, ◌∙◌, ap, subst, arith, length-append, length-drop, length-take-le}
-use Rattle.std.specs.Prelude.{MatchBool, filter}
+-- Directions, sides and states stay within a bound through each change that a step makes of them.
+use Rattle.std.proofs.Common.{◌≡◌, ℕ, zero, suc, ◌+◌, ◌<◌, ◌≤◌, Bool, true, false, ◌&&◌, ◌||◌, ◌==◌, if◌then◌else◌, List, [], ◌∷◌, ◌++◌, length, take, drop, get_or, set, ◌∙◌, ap, arith, length-append, length-drop, length-take-le}
 use Rattle.ev_types.specs.declared.side.SideId.{SideId}
-use Rattle.ev_types.specs.declared.answer.ConnAnswer.{ConnAnswer}
-use Rattle.ev_types.specs.declared.answer.ConnAnswer.TheVariants as conn
-use Rattle.ev_types.specs.declared.answer.ReadAnswer.{ReadAnswer}
-use Rattle.ev_types.specs.declared.answer.ReadAnswer.TheVariants as read
-use Rattle.ev_types.specs.declared.answer.WriteAnswer.{WriteAnswer}
-use Rattle.ev_types.specs.declared.answer.WriteAnswer.TheVariants as write
 use Rattle.ev_types.specs.Sides.{number, peer}
-use Rattle.ev_types.specs.Trace.{Trace}
-use Rattle.ev_port.specs.declared.port.Polled.TheVariants as polled
-use Rattle.ev_port.specs.declared.port.Want.{Want}
-use Rattle.ev_port.specs.Ends.{ReadWithin, WriteWithin, got_bytes}
-use Rattle.ev_port.specs.Polling.{want_events, ready_events, poll_events}
 use Rattle.relay_core.specs.declared.flags.SideFlags.{SideFlags}
-use Rattle.relay_core.specs.declared.close.Closing.{Closing}
-use Rattle.relay_core.specs.declared.close.Closing.TheVariants as closing
-use Rattle.relay_core.specs.State.{State, Lane, SideValue, no_side, new_side, side_at, flags_at, lane_at, with_side, with_flags, with_lane}
-use Rattle.relay_core.specs.Passing.{held, used_now, read_filtered, is_moving, moved, turned_now, write_filtered, round, rounds, round_from, PassedFrom}
+use Rattle.relay_core.specs.State.{State, Lane, SideValue, no_side, new_side, side_at, with_side, with_flags, with_lane}
+use Rattle.relay_core.specs.Passing.{held, used_now, read_filtered, is_moving, moved, turned_now, write_filtered, round, rounds}
 use Rattle.relay_core.specs.Opening.{after_opened}
-use Rattle.relay_core.specs.Rooms.{read_room, may_read, input_length, write_room, waiting_for, offer}
-use Rattle.relay_core.specs.Serving.{after_got, after_took, got_side, took_lane}
-use Rattle.relay_core.specs.Closing.{in_side, out_side, closing_of, gone, peer_gone, freed, after_closing, is_called_for}
-use Rattle.relay_drive.specs.Steps.{Nothing, Then, Each}
-use Rattle.relay_drive.specs.Calls.{Ticks, Opens, Asks, Reads, Writes, is_memory}
-use Rattle.relay_drive.specs.Phases.{links_from, want_of, wants_some, wants_of, wants_of_link, wants_of_links, wanted, Polls, OpensOne, OpensSome, Accepts, AcceptsWhere, PollsAndAccepts, ReadsWithRoom, ReadsSide, WritesSide, ConnectsSide, is_connecting, ServesSide, PassesSide, PassesLink, closing_events, Closes, LooksAt, ClosesLink, TicksOnce, Turns}
-use Rattle.relay_drive.specs.Bounds.{IsOrdered, SideIsWithin, StateIsWithin, most_of_turn}
+use Rattle.relay_core.specs.Serving.{got_side, took_lane}
+use Rattle.relay_core.specs.Closing.{gone, peer_gone, freed}
+use Rattle.relay_drive.specs.Bounds.{IsOrdered, SideIsWithin, StateIsWithin}
 
 -- Directions and sides
 
@@ -62,12 +44,6 @@ ordered-moved n x k = go (is_moving x)
 ordered-written : (n hold : ℕ) (finish : Bool) (x : Lane) → IsOrdered n x → IsOrdered n (write_filtered hold finish x)
 ordered-written n hold finish x k = go x.flow.held
   where
-    m : ℕ
-    m = turned_now hold x.buffers
-
-    done : Bool
-    done = finish && x.flow.read_done && m == length x.buffers.output && length x.buffers.input == 0
-
     go : (b : Bool) → IsOrdered n (if b then x else record { flow = record (x.flow) { turned = x.flow.turned + turned_now hold x.buffers; write_done = x.flow.write_done || (finish && x.flow.read_done && turned_now hold x.buffers == length x.buffers.output && length x.buffers.input == 0) }; buffers = record (x.buffers) { output = drop (turned_now hold x.buffers) x.buffers.output; raw_output = x.buffers.raw_output ++ take (turned_now hold x.buffers) x.buffers.output } })
     go true = k
     go false =

@@ -1,6 +1,6 @@
 -- Each step of a turn, and the turn: by how much it raises the bound of the counts, and how many entries it puts.
-use Rattle.std.proofs.Common.{◌≡◌, ◌⊎◌, inl, inr, ℕ, zero, suc, ◌+◌, ◌-◌, ◌*◌, ◌<◌, ◌≤◌, Bool, true, false, ◌&&◌, nat_lt, min, if◌then◌else◌, List, [], ◌∷◌, ◌++◌, length, take, refl, sym, ◌∙◌, ap, subst, arith, length-append, length-take-le}
-use Rattle.std.specs.Prelude.{MatchBool, None}
+use Rattle.std.proofs.Common.{◌≡◌, ℕ, zero, suc, ◌+◌, ◌-◌, ◌*◌, ◌≤◌, Bool, true, false, ◌&&◌, nat_lt, min, if◌then◌else◌, List, [], ◌∷◌, ◌++◌, length, refl, sym, ◌∙◌, ap, subst, arith, length-append}
+use Rattle.std.specs.Prelude.{MatchBool}
 use Rattle.std.proofs.lemmas.List.{length-take}
 use Rattle.ev_types.specs.declared.side.SideId.{SideId}
 use Rattle.ev_types.specs.declared.answer.ConnAnswer.{ConnAnswer}
@@ -11,23 +11,20 @@ use Rattle.ev_types.specs.declared.answer.WriteAnswer.{WriteAnswer}
 use Rattle.ev_types.specs.declared.answer.WriteAnswer.TheVariants as write
 use Rattle.ev_types.specs.declared.entry.Entry.TheVariants as entry
 use Rattle.ev_types.specs.Sides.{number, peer}
-use Rattle.ev_types.specs.Trace.{Event, Trace}
-use Rattle.ev_port.specs.declared.port.Polled.TheVariants as polled
+use Rattle.ev_types.specs.Trace.{Trace}
 use Rattle.ev_port.specs.declared.port.Want.{Want}
-use Rattle.ev_port.specs.Ends.{ReadWithin, WriteWithin, got_bytes, read_events, write_events}
-use Rattle.ev_port.specs.Polling.{want_events, ready_events, poll_events}
-use Rattle.relay_core.specs.declared.settings.Settings.{Settings}
+use Rattle.ev_port.specs.Ends.{ReadWithin, WriteWithin, got_bytes, write_events}
+use Rattle.ev_port.specs.Polling.{want_events, ready_events}
 use Rattle.relay_core.specs.declared.close.Closing.{Closing}
 use Rattle.relay_core.specs.declared.close.Closing.TheVariants as closing
-use Rattle.relay_core.specs.State.{State, Lane, side_at, flags_at, lane_at}
+use Rattle.relay_core.specs.State.{State, side_at, flags_at, lane_at}
 use Rattle.relay_core.specs.Passing.{read_mark, round_from}
 use Rattle.relay_core.specs.Rooms.{read_room, may_read, input_length, wants_read, write_room, waiting_for, offer}
-use Rattle.relay_core.specs.Serving.{took_lane}
 use Rattle.relay_core.specs.Closing.{in_side, out_side, closing_of, freed, after_closing, is_called_for}
 use Rattle.relay_drive.specs.Steps.{Nothing, Then, Each}
-use Rattle.relay_drive.specs.Calls.{Ticks, Opens, Asks, Reads, Writes, after_conn, after_read, after_write}
-use Rattle.relay_drive.specs.Phases.{links_from, want_of, wants_some, wants_of, wants_of_link, wants_of_links, wanted, Polls, OpensOne, OpensSome, Accepts, AcceptsWhere, PollsAndAccepts, ReadsWithRoom, ReadsSide, WritesSide, ConnectsSide, is_connecting, ServesSide, PassesSide, PassesLink, ForAllLinks, closing_events, Closes, LooksAt, ClosesLink, Turns}
-use Rattle.relay_drive.specs.Bounds.{IsOrdered, SideIsWithin, StateIsWithin, most_of_turn}
+use Rattle.relay_drive.specs.Calls.{Ticks, Asks, Writes, after_conn, after_read, after_write}
+use Rattle.relay_drive.specs.Phases.{links_from, want_of, wants_some, wants_of, wants_of_link, wants_of_links, wanted, Polls, OpensOne, OpensSome, AcceptsWhere, PollsAndAccepts, ReadsWithRoom, ReadsSide, WritesSide, ConnectsSide, is_connecting, ServesSide, PassesSide, PassesLink, ForAllLinks, closing_events, Closes, LooksAt, ClosesLink, Turns}
+use Rattle.relay_drive.specs.Bounds.{IsOrdered, StateIsWithin, most_of_turn}
 use Rattle.relay_drive.proofs.BoundLemmas.{within-more, within-flags, within-lane, within-freed, within-opened, within-side, side-got, ordered-took, ordered-round, ordered-rounds}
 
 -- what a step does: the bound rises by at most k, at most k entries are put, and the settings stay

@@ -1,0 +1,149 @@
+-- A turn of the relay puts one entry that begins a turn: its clock puts it, and no other step does.
+use Rattle.std.proofs.Common.{◌≡◌, ℕ, zero, suc, ◌+◌, Bool, true, false, ◌&&◌, nat_lt, if◌then◌else◌, List, [], ◌∷◌, ◌++◌, refl, ◌∙◌, ap, arith, count_by}
+use Rattle.std.specs.Prelude.{MatchBool}
+use Rattle.std.proofs.lemmas.List.Sums.{sum_by-append}
+use Rattle.ev_types.specs.declared.side.SideId.{SideId}
+use Rattle.ev_types.specs.declared.answer.WriteAnswer.{WriteAnswer}
+use Rattle.ev_types.specs.declared.answer.WriteAnswer.TheVariants as write
+use Rattle.ev_types.specs.declared.entry.Entry.TheVariants as entry
+use Rattle.ev_types.specs.Trace.{Trace}
+use Rattle.ev_port.specs.declared.port.Want.{Want}
+use Rattle.ev_port.specs.Ends.{write_events}
+use Rattle.ev_port.specs.Polling.{want_events, ready_events}
+use Rattle.relay_core.specs.declared.close.Closing.{Closing}
+use Rattle.relay_core.specs.declared.close.Closing.TheVariants as closing
+use Rattle.relay_core.specs.State.{State}
+use Rattle.relay_core.specs.Rooms.{wants_read, write_room, offer}
+use Rattle.relay_core.specs.Closing.{in_side, out_side, closing_of, is_called_for}
+use Rattle.relay_model.specs.RatesKept.{is_turn}
+use Rattle.relay_model.specs.Script.{ScriptTurn}
+use Rattle.relay_model.specs.Scripted.{begun}
+use Rattle.relay_drive.specs.Steps.{Nothing, Then, Each}
+use Rattle.relay_drive.specs.Calls.{Ticks}
+use Rattle.relay_drive.specs.Phases.{links_from, Polls, OpensOne, OpensSome, AcceptsWhere, PollsAndAccepts, ReadsSide, WritesSide, ConnectsSide, is_connecting, ServesSide, PassesSide, PassesLink, ForAllLinks, closing_events, LooksAt, ClosesLink, Turns}
+
+-- among the entries that a step puts, so many begin a turn
+abbrev IsPutting : ℕ → (State → Trace → State → Type 0) → Type 0
+IsPutting n R = (s new : State) (a : Trace) → R s a new → count_by is_turn a ≡ n
+
+by_bool : {X Y Z : Type 0} (b : Bool) → (X → Z) → (Y → Z) → MatchBool b X Y → Z
+by_bool true f g h = f h
+by_bool false f g h = g h
+
+count-append : (a b : Trace) → count_by is_turn (a ++ b) ≡ count_by is_turn a + count_by is_turn b
+count-append a b = sum_by-append (λ x. if is_turn x then 1 else 0) a b
+
+-- Steps in a row
+
+nothing : IsPutting 0 Nothing
+nothing s new a h = ap (count_by is_turn) h.0
+
+both : {R S : State → Trace → State → Type 0} (m n : ℕ) → IsPutting m R → IsPutting n S → IsPutting (m + n) (Then R S)
+both m n f g s new a h =
+    let p = f s h.middle h.front h.first in
+    let q = g h.middle new h.back h.second in
+    ap (count_by is_turn) h.joined ∙ count-append h.front h.back ∙ omega (arith, p, q)
+
+each : {X : Type 0} (R : X → State → Trace → State → Type 0) → ((x : X) → IsPutting 0 (R x)) → (xs : List X) → IsPutting 0 (Each R xs)
+each R f [] = nothing
+each R f (x ∷ xs) = both 0 0 (f x) (each R f xs)
+
+all_links : (R : ℕ → State → Trace → State → Type 0) → ((k : ℕ) → IsPutting 0 (R k)) → IsPutting 0 (ForAllLinks R)
+all_links R f s new a h = each R f (links_from 0 s.opened) s new a h
+
+-- Clock and poll
+
+ticks : (reading : ℕ) → IsPutting 1 (Ticks reading)
+ticks reading s new a h = ap (count_by is_turn) h.entries
+
+want_events-none : (ws : List Want) → count_by is_turn (want_events ws) ≡ 0
+want_events-none [] = refl
+want_events-none (w ∷ ws) = want_events-none ws
+
+ready_events-none : (ws : List Want) → count_by is_turn (ready_events ws) ≡ 0
+ready_events-none [] = refl
+ready_events-none (w ∷ ws) = go (ready_events-none ws) w.can_read w.can_write
+  where
+    go : count_by is_turn (ready_events ws) ≡ 0 → (p q : Bool) → count_by is_turn ((if p then (entry.Ready w.side true w.can_write, []) ∷ [] else (if q then (entry.Ready w.side false true, []) ∷ [] else [])) ++ ready_events ws) ≡ 0
+    go h true q = h
+    go h false true = h
+    go h false false = h
+
+polls : (marked : List Want) (accept : Bool) → IsPutting 0 (Polls marked accept)
+polls marked accept s new a h =
+    let p = want_events-none marked in
+    let q = ready_events-none marked in
+    ap (count_by is_turn) h.entries ∙ count-append (want_events marked) (ready_events marked) ∙ omega (arith, p, q)
+
+-- Accepting
+
+opens : IsPutting 0 OpensOne
+opens s new a h = ap (count_by is_turn) h.1.entries
+
+opens_some : (n : ℕ) → IsPutting 0 (OpensSome n)
+opens_some zero = nothing
+opens_some (suc n) = both 0 0 (opens_some n) opens
+
+accepts : (ready : Bool) → IsPutting 0 (AcceptsWhere ready)
+accepts true s new a h = opens_some h.0 s new a h.2
+accepts false s new a h = nothing s new a h
+
+polls_and_accepts : (marked : List Want) → IsPutting 0 (PollsAndAccepts marked)
+polls_and_accepts marked s new a h = both 0 0 (polls marked h.0) (accepts h.0) s new a h.1
+
+-- Serving
+
+reads : (e : SideId) (marked : Bool) → IsPutting 0 (ReadsSide e marked)
+reads e marked s new a h = by_bool (marked && wants_read s e) (λ r. ap (count_by is_turn) r.3.entries) (nothing s new a) h
+
+write_events-none : (e : SideId) (from : List ℕ) (answer : WriteAnswer) → count_by is_turn (write_events e from answer) ≡ 0
+write_events-none e from (write.Took n) = refl
+write_events-none e from write.NotYet = refl
+write_events-none e from write.Failed = refl
+write_events-none e from write.NoMemory = refl
+
+writes : (e : SideId) (marked : Bool) → IsPutting 0 (WritesSide e marked)
+writes e marked s new a h =
+    by_bool (marked && nat_lt 0 (write_room s e)) (λ r. ap (count_by is_turn) r.1.entries ∙ write_events-none e (offer s e) r.0) (nothing s new a) h
+
+connects : (e : SideId) (marked : Bool) → IsPutting 0 (ConnectsSide e marked)
+connects e marked s new a h = by_bool marked (λ r. ap (count_by is_turn) r.1.entries) (nothing s new a) h
+
+serves : (w : Want) → IsPutting 0 (ServesSide w)
+serves w s new a h =
+    by_bool (is_connecting s w.side) (connects w.side w.can_write s new a) (both 0 0 (reads w.side w.can_read) (writes w.side w.can_write) s new a) h
+
+-- Passing and closing
+
+passes : (e : SideId) → IsPutting 0 (PassesSide e)
+passes e s new a h = ap (count_by is_turn) h.0
+
+passes_link : (k : ℕ) → IsPutting 0 (PassesLink k)
+passes_link k = each PassesSide passes (in_side k ∷ out_side k ∷ [])
+
+closing_events-none : (s : State) (step : Closing) → count_by is_turn (closing_events s step) ≡ 0
+closing_events-none s (closing.Faulty e) = refl
+closing_events-none s (closing.EndWriting e) = refl
+closing_events-none s (closing.BothDone k) = refl
+closing_events-none s (closing.PeerGone e) = refl
+closing_events-none s (closing.Shut e) = refl
+
+looks : (step : Closing) → IsPutting 0 (LooksAt step)
+looks step s new a h = by_bool (is_called_for s step) (λ c. ap (count_by is_turn) c.entries ∙ closing_events-none s step) (nothing s new a) h
+
+closes_link : (k : ℕ) → IsPutting 0 (ClosesLink k)
+closes_link k = each LooksAt looks (closing_of k)
+
+-- The turn
+
+pub turn-once : {s new : State} {a : Trace} → Turns s a new → count_by is_turn a ≡ 1
+turn-once {s = s} {new = new} {a = a} h =
+    both 1 0 (ticks h.0)
+    (both 0 0 (polls_and_accepts h.1)
+    (both 0 0 (each ServesSide serves h.1)
+    (both 0 0 (all_links PassesLink passes_link) (all_links ClosesLink closes_link))))
+    s new a h.2
+
+-- as many turns of a script were begun as the trace has
+pub begun-is : (turns : List ScriptTurn) (t : Trace) → begun turns t ≡ count_by is_turn t
+begun-is turns t = refl
