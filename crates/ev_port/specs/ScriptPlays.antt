@@ -13,8 +13,8 @@ use Rattle.ev_port.specs.ScriptVouched.{NamesOpened, IsCalledFor, ScriptVouches}
 -- A trace that a port over a script vouches for is played from that script, where it is called for: by the run that took all
 -- links, and whose answer says so much of its turns.
 abbrev pub VouchedIsPlayed : Type 0
-VouchedIsPlayed = (script : ScriptValue) (p : PortState) (t : Trace) (closing : ℕ) (answer : TurnAnswer) → p.turns ≡ script.turns →
-    ScriptVouches p t → IsCalledFor script.turns t → AlwaysTookAll (script_played script).turns (script_played script).settings.links [] t →
+VouchedIsPlayed = (script : ScriptValue) (p : PortState) (t : Trace) (closing : ℕ) (answer : TurnAnswer) →
+    ScriptVouches p script.turns t → IsCalledFor script.turns t → AlwaysTookAll (script_played script).turns (script_played script).settings.links [] t →
     EndsPlayed (script_played script).turns (script_played script).settings.links (length (script_played script).turns + closing) answer t →
     Plays (script_played script) closing answer t
 

@@ -83,7 +83,7 @@ abbrev pub AreUnheard : Trace → Type 0
 AreUnheard [] = ⊤
 AreUnheard ((x, bytes) ∷ own) = IsUnheard x × (bytes ≡ []) × AreUnheard own
 
--- A script port vouches for a trace where it stands behind it, with whatever entries at its end that no port answers, if that
--- is called for.
-abbrev pub ScriptVouches : PortState → Trace → Type 0
-ScriptVouches p t = (own : Trace) → AreUnheard own → IsCalledFor p.turns (t ++ own) → PortStands p (t ++ own)
+-- A script port vouches for a trace by its own turns, where it stands behind it, with whatever entries at its end that no port
+-- answers, if that is called for.
+abbrev pub ScriptVouches : PortState → List TurnValue → Trace → Type 0
+ScriptVouches p turns t = (p.turns ≡ turns) × ((own : Trace) → AreUnheard own → IsCalledFor turns (t ++ own) → PortStands p (t ++ own))
