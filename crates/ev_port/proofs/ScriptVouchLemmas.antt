@@ -1,5 +1,5 @@
 -- With each call a script port vouches for the longer trace.
-use Rattle.std.proofs.Common.{◌≡◌, ◌≢◌, ℕ, zero, suc, ◌+◌, ◌-◌, ◌*◌, ◌^◌, ◌<◌, ◌≤◌, min, max, Bool, true, false, not, if◌then◌else◌, List, [], ◌∷◌, ◌++◌, length, get_or, take, drop, map, Option, Some, None, refl, sym, ap, subst, ◌∙◌, arith, append_assoc, append-nil, length-append, length-take-le}
+use Rattle.std.proofs.Common.{◌≡◌, ℕ, zero, suc, ◌+◌, ◌-◌, ◌*◌, ◌^◌, ◌<◌, ◌≤◌, min, max, Bool, false, not, if◌then◌else◌, List, [], ◌∷◌, ◌++◌, length, get_or, take, drop, map, Option, Some, None, refl, sym, ap, subst, ◌∙◌, arith, append_assoc, append-nil, length-append, length-take-le}
 use Rattle.std.specs.Prelude.{count_by, slice_get, option_map}
 use Rattle.std.specs.Option.{option_map_or}
 use Rattle.std.specs.List.{flat_map}
@@ -17,7 +17,7 @@ use Rattle.ev_types.specs.declared.answer.WriteAnswer.{WriteAnswer}
 use Rattle.ev_types.specs.declared.answer.WriteAnswer.TheVariants as write
 use Rattle.ev_types.specs.Growth.{Longer}
 use Rattle.ev_types.specs.Sides.{half, number}
-use Rattle.ev_types.specs.Trace.{Event, Trace}
+use Rattle.ev_types.specs.Trace.{Trace}
 use Rattle.script_text.specs.Script.{TurnValue}
 use Rattle.relay_model.specs.RatesKept.{is_turn}
 use Rattle.relay_model.specs.Totals.{opened}
@@ -35,14 +35,14 @@ use Rattle.ev_port.specs.Ends.{conn_events, write_events, close_write_events, cl
 use Rattle.ev_port.specs.Vouching.{LongerBy}
 use Rattle.ev_port.specs.ScriptState.{EndState, LinksState, PortState}
 use Rattle.ev_port.specs.ScriptEnds.{new_end, after_read, taken_of, after_write, after_check, after_close_write, after_close}
-use Rattle.ev_port.specs.ScriptLinks.{end_of, at_end, new_ends, new_links, links_of, taken_at, marked, after_wants, accept_answer, accept_first, read_answer_at, pending_at, write_answer_at, WroteAt, conn_answer_at, after_lines}
-use Rattle.ev_port.specs.ScriptPort.{lines_of, new_port, next_turn, clock_answer, begin_turn, count_reading, after_now, after_start, after_poll, accept_tally, after_accept}
+use Rattle.ev_port.specs.ScriptLinks.{end_of, at_end, new_ends, links_of, taken_at, marked, after_wants, accept_answer, accept_first, read_answer_at, pending_at, write_answer_at, WroteAt, conn_answer_at, after_lines}
+use Rattle.ev_port.specs.ScriptPort.{lines_of, new_port, next_turn, clock_answer, begin_turn, count_reading, after_now, after_start, accept_tally, after_accept}
 use Rattle.ev_port.specs.ScriptPlayed.{played_line, played_turns}
 use Rattle.ev_port.specs.ScriptVouched.{IsCalledFor, EndStands, LinksStand, PortStands, AreUnheard, ScriptVouches}
 use Rattle.ev_port.proofs.ListLemmas.{slice_get-changed_same}
 use Rattle.ev_port.proofs.ScriptPlayedLemmas.{lines_so_far, lines_more, moment_next}
 use Rattle.ev_port.proofs.ScriptStandLemmas.{from_some, lines_stand}
-use Rattle.ev_port.proofs.ScriptTraceLemmas.{Like, like, like-at_end, like-wants, links_silent, AsBefore}
+use Rattle.ev_port.proofs.ScriptTraceLemmas.{Like, like, like-at_end, like-wants, links_silent}
 use Rattle.ev_port.proofs.ScriptEntryLemmas.{read_stands, check_stands, write_stands, accept_stands}
 use Rattle.ev_port.proofs.ScriptSeenLemmas.{links_whole, read_is, write_is, conn_is}
 use Rattle.ev_port.proofs.ScriptQuietLemmas.{Quiet, quiet-close_write, quiet-close, quiet-unheard, unheard_is, quiet-poll, wish, poll_is, silent-turn, times_same}

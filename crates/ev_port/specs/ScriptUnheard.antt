@@ -1,5 +1,5 @@
 -- What no port answers changes nothing of what a script port vouches for. This is a law of every port, so its proof stands here.
-use Rattle.std.specs.Prelude.{◌≡◌, [], ◌∷◌, refl}
+use Rattle.std.specs.Prelude.{[], ◌∷◌, refl}
 use Rattle.std.proofs.Common.{subst, sym, append_assoc}
 use Rattle.ev_types.specs.declared.entry.Entry.{Entry}
 use Rattle.ev_port.specs.Vouching.{LongerBy}

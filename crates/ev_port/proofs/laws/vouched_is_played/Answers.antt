@@ -1,4 +1,4 @@
-use Rattle.std.proofs.Common.{◌≡◌, subst, sym}
+use Rattle.std.proofs.Common.{subst, sym}
 use Rattle.ev_port.specs.ScriptPlayed.{played_turns, script_played}
 use Rattle.ev_port.specs.ScriptVouched.{IsCalledFor}
 use Rattle.relay_model.specs.Script.{closing_step}
