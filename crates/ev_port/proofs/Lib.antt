@@ -13,3 +13,4 @@ pub mod ScriptAnswerLemmas
 pub mod ScriptSeenLemmas
 pub mod ScriptQuietLemmas
 pub mod ScriptVouchLemmas
+pub mod ScriptSpelledLemmas

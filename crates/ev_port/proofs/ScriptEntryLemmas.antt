@@ -1,6 +1,6 @@
 -- Where reads, writes, connect checks and accepts leave the ends of a script port.
-use Rattle.std.proofs.Common.{◌≡◌, ◌≢◌, ◌⊎◌, ℕ, zero, suc, ◌+◌, ◌-◌, ◌^◌, ◌<◌, ◌≤◌, min, Bool, true, false, ◌==◌, ◌&&◌, ◌||◌, not, if◌then◌else◌, List, [], ◌∷◌, ◌++◌, length, get_or, take, drop, map, Option, Some, None, refl, sym, ap, subst, ◌∙◌, arith, append_assoc, append-nil, length-append, length-drop, length-take, inl, inr}
-use Rattle.std.specs.Prelude.{sum_by, count_by, option_map}
+use Rattle.std.proofs.Common.{◌≡◌, ◌⊎◌, ℕ, ◌+◌, ◌-◌, ◌^◌, ◌<◌, ◌≤◌, min, Bool, true, false, ◌==◌, ◌&&◌, ◌||◌, not, if◌then◌else◌, List, [], ◌∷◌, ◌++◌, length, get_or, take, drop, Option, Some, None, refl, sym, ap, subst, ◌∙◌, arith, append-nil, length-append, length-drop, length-take, inl, inr}
+use Rattle.std.specs.Prelude.{sum_by, option_map}
 use Rattle.std.specs.Option.{option_map_or}
 use Rattle.std.specs.List.{flat_map, list_any}
 use Rattle.std.proofs.lemmas.Bool.{cases_Bool}
@@ -20,11 +20,10 @@ use Rattle.ev_types.specs.declared.answer.ReadAnswer.TheVariants as read
 use Rattle.ev_types.specs.declared.answer.WriteAnswer.{WriteAnswer}
 use Rattle.ev_types.specs.declared.answer.WriteAnswer.TheVariants as write
 use Rattle.ev_types.specs.Sides.{number, same_side, same_end}
-use Rattle.ev_types.specs.Trace.{Event, Trace}
+use Rattle.ev_types.specs.Trace.{Trace}
 use Rattle.relay_model.specs.Trace.{bytes_read, bytes_given}
 use Rattle.relay_model.specs.Totals.{is_opened, opened, is_made_connected, is_connected}
-use Rattle.relay_model.specs.Lines.{Line, links_by, brings, allows, allows_all}
-use Rattle.relay_model.specs.Scripted.{undecided_at}
+use Rattle.relay_model.specs.Lines.{Line, links_by, allows, allows_all}
 use Rattle.ev_port.specs.Ends.{took_bytes}
 use Rattle.ev_port.specs.ScriptState.{EndState, LinksState}
 use Rattle.ev_port.specs.ScriptEnds.{read_answer, after_read, taken_of, left_to_take, write_answer, after_write, conn_answer, after_check, accepted}
@@ -34,7 +33,7 @@ use Rattle.relay_model.proofs.EndLemmas.{same_end-eq}
 use Rattle.ev_port.proofs.ListLemmas.{slice_get-changed_same, slice_get-changed_other}
 use Rattle.ev_port.proofs.ToldLemmas.{same_end_tells}
 use Rattle.ev_port.proofs.ScriptStandLemmas.{end_changed, none_changed, takes-write}
-use Rattle.ev_port.proofs.ScriptTraceLemmas.{same_self, Silent, AsBefore, as_before, or_false, end_event, end_silent, at_end_stands}
+use Rattle.ev_port.proofs.ScriptTraceLemmas.{same_self, Silent, as_before, or_false, end_event, end_silent, at_end_stands}
 
 empty : (xs : List ℕ) → length xs ≡ 0 → xs ≡ []
 empty [] h = refl

@@ -1,12 +1,11 @@
 -- The script that is played says what the port's lines say.
-use Rattle.std.proofs.Common.{◌≡◌, ℕ, zero, suc, ◌+◌, ◌<◌, ◌≤◌, Bool, true, false, ◌==◌, ◌&&◌, ◌||◌, List, [], ◌∷◌, ◌++◌, length, get_or, take, drop, map, Option, Some, None, refl, sym, ap, ◌∙◌, arith, append_assoc, append-nil, inl, inr}
+use Rattle.std.proofs.Common.{◌≡◌, ℕ, zero, suc, ◌+◌, ◌<◌, ◌≤◌, false, ◌||◌, List, [], ◌∷◌, ◌++◌, length, get_or, take, drop, map, Option, Some, None, refl, sym, ap, ◌∙◌, arith, append-nil, inl, inr}
 use Rattle.std.specs.Prelude.{slice_get, sum_by}
 use Rattle.std.specs.List.{flat_map, list_any}
 use Rattle.std.specs.Option.{option_map_or}
 use Rattle.std.proofs.lemmas.List.Sums.{sum_by-cons}
 use Rattle.std.proofs.lemmas.Option.{slice_get_within, get_or_from_slice_get}
 use Rattle.std.proofs.lemmas.List.{take-map, drop-map, map-append, take-append-drop, take_more}
-use Rattle.std.proofs.lemmas.Bool.{eqb-false}
 use Rattle.std.proofs.lemmas.Bool.Decides.{eqb_tells}
 use Rattle.std.proofs.lemmas.Grind.{flat_map-append}
 use Rattle.ev_types.specs.declared.side.SideId.{SideId}
@@ -20,7 +19,6 @@ use Rattle.ev_port.specs.ScriptLinks.{links_of}
 use Rattle.ev_port.specs.ScriptPort.{lines_of}
 use Rattle.ev_port.specs.ScriptPlayed.{played_line, played_turns}
 use Rattle.ev_port.specs.ScriptVouched.{NamesOpened}
-use Rattle.ev_port.proofs.ToldLemmas.{same_end_tells}
 
 -- the lines of turns of the model
 abbrev pub model_lines : List ScriptTurn → List Line

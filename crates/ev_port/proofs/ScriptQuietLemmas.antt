@@ -1,5 +1,5 @@
 -- Which entries of calls say nothing of ends and links, and that a poll of a script port is the script's.
-use Rattle.std.proofs.Common.{◌≡◌, ℕ, ◌+◌, min, max, Bool, true, false, ◌&&◌, ◌||◌, if◌then◌else◌, List, [], ◌∷◌, ◌++◌, map, Option, refl, sym, ap, ◌∙◌, arith}
+use Rattle.std.proofs.Common.{◌≡◌, ℕ, max, Bool, true, false, ◌&&◌, ◌||◌, if◌then◌else◌, List, [], ◌∷◌, ◌++◌, map, Option, refl, sym, ap, ◌∙◌, arith}
 use Rattle.std.specs.Prelude.{count_by, filter}
 use Rattle.std.specs.List.{list_any}
 use Rattle.std.proofs.lemmas.List.Sums.{sum_by-append}
@@ -7,7 +7,7 @@ use Rattle.ev_types.specs.declared.side.Side.TheVariants.{In}
 use Rattle.ev_types.specs.declared.side.SideId.{SideId}
 use Rattle.ev_types.specs.declared.entry.Entry.{Entry}
 use Rattle.ev_types.specs.declared.entry.Entry.TheVariants as entry
-use Rattle.ev_types.specs.Trace.{Event, Trace}
+use Rattle.ev_types.specs.Trace.{Trace}
 use Rattle.script_text.specs.Script.{TurnValue}
 use Rattle.relay_model.specs.RatesKept.{is_turn}
 use Rattle.relay_model.specs.Lines.{marks_all}

@@ -1,6 +1,6 @@
 -- Behind a trace that is called for, what the script says of each end and of the links is what the script port has there.
-use Rattle.std.proofs.Common.{◌≡◌, ◌≢◌, ◌⊎◌, ℕ, zero, suc, ◌+◌, ◌-◌, ◌^◌, ◌<◌, ◌≤◌, min, Bool, true, false, ◌==◌, ◌&&◌, ◌||◌, not, nat_le, nat_lt, if◌then◌else◌, List, [], ◌∷◌, ◌++◌, length, get_or, take, drop, map, Option, Some, None, refl, sym, ap, subst, ◌∙◌, arith, append_assoc, append-nil, length-append, inl, inr}
-use Rattle.std.specs.Prelude.{sum_by, count_by}
+use Rattle.std.proofs.Common.{◌≡◌, ℕ, zero, suc, ◌+◌, ◌-◌, ◌^◌, ◌<◌, ◌≤◌, Bool, true, false, ◌==◌, ◌&&◌, ◌||◌, not, nat_le, if◌then◌else◌, List, [], ◌∷◌, ◌++◌, length, get_or, take, drop, map, Option, Some, None, refl, sym, ap, subst, ◌∙◌, arith, append_assoc, length-append, inl, inr}
+use Rattle.std.specs.Prelude.{sum_by}
 use Rattle.std.specs.Option.{option_map_or}
 use Rattle.std.specs.List.{flat_map, list_any}
 use Rattle.std.specs.Prelude.{is_some}
@@ -13,7 +13,6 @@ use Rattle.ev_types.specs.declared.side.Side.{Side}
 use Rattle.ev_types.specs.declared.side.Side.TheVariants.{In, Out}
 use Rattle.ev_types.specs.declared.side.SideId.{SideId}
 use Rattle.ev_types.specs.declared.entry.Entry.TheVariants as entry
-use Rattle.ev_types.specs.declared.answer.ConnAnswer.{ConnAnswer}
 use Rattle.ev_types.specs.declared.answer.ConnAnswer.TheVariants as conn
 use Rattle.ev_types.specs.declared.answer.ReadAnswer.TheVariants as read
 use Rattle.ev_types.specs.declared.answer.WriteAnswer.TheVariants as write
@@ -23,16 +22,16 @@ use Rattle.script_text.specs.Script.{TurnValue}
 use Rattle.relay_model.specs.Trace.{bytes_read, bytes_given}
 use Rattle.relay_model.specs.Rooms.{at_most}
 use Rattle.relay_model.specs.Totals.{is_opened, opened, made_connected_by, is_made_connected, is_connected}
-use Rattle.relay_model.specs.Lines.{Line, links_by, brings, ends, allows, allows_all, decides, fails_reads, fails_writes}
+use Rattle.relay_model.specs.Lines.{links_by, allows, allows_all}
 use Rattle.relay_model.specs.Script.{ScriptTurn}
 use Rattle.relay_model.specs.Scripted as model
 use Rattle.ev_port.specs.Ends.{took_bytes}
 use Rattle.ev_port.specs.ScriptState.{EndState, LinksState}
-use Rattle.ev_port.specs.ScriptEnds.{read_answer, can_read, can_write, taken_of, write_answer, after_write, conn_answer}
-use Rattle.ev_port.specs.ScriptLinks.{end_of, at_end, links_of, read_answer_at, pending_at, can_read_at, can_write_at, write_answer_at, conn_answer_at}
+use Rattle.ev_port.specs.ScriptEnds.{read_answer, can_read, can_write, taken_of, write_answer, conn_answer}
+use Rattle.ev_port.specs.ScriptLinks.{end_of, links_of, read_answer_at, pending_at, can_read_at, can_write_at, write_answer_at, conn_answer_at}
 use Rattle.ev_port.specs.ScriptPort.{lines_of}
 use Rattle.ev_port.specs.ScriptPlayed.{played_line, played_turns}
-use Rattle.ev_port.specs.ScriptVouched.{NamesOpened, OpensInOrder, IsCalledFor, MayTake, EndStands, LinksStand}
+use Rattle.ev_port.specs.ScriptVouched.{NamesOpened, OpensInOrder, IsCalledFor, EndStands, LinksStand}
 use Rattle.ev_port.proofs.ScriptLemmas.{links_of-append}
 use Rattle.ev_port.proofs.ScriptPlayedLemmas.{lines_so_far, lines_now, links_played, SaysNoMore, says_no_more, Untouched, untouched, named_before, all_lines}
 use Rattle.ev_port.proofs.ScriptAnswerLemmas.{one_le, reads, reads_same, writes, writes_same, lets, takes_same, takes_any}

@@ -1,5 +1,5 @@
 -- What a line of the script, and what entries of a trace, leave of where the ends of a script port stand.
-use Rattle.std.proofs.Common.{◌≡◌, ◌⊎◌, ℕ, ◌+◌, ◌-◌, ◌^◌, ◌<◌, ◌≤◌, min, Bool, true, false, ◌||◌, not, List, [], ◌∷◌, ◌++◌, length, get_or, drop, map, Option, Some, None, refl, sym, ap, subst, ◌∙◌, arith, append_assoc, append-nil, length-append, inl, inr}
+use Rattle.std.proofs.Common.{◌≡◌, ◌⊎◌, ℕ, ◌+◌, ◌-◌, ◌^◌, ◌<◌, ◌≤◌, min, Bool, true, false, ◌||◌, List, [], ◌∷◌, ◌++◌, length, drop, map, Option, Some, None, refl, sym, ap, subst, ◌∙◌, arith, append_assoc, append-nil, length-append, inl, inr}
 use Rattle.std.specs.Prelude.{slice_get, sum_by, option_map, unwrap_or}
 use Rattle.std.specs.List.{flat_map, list_any}
 use Rattle.std.proofs.lemmas.List.{drop-append-le}
@@ -8,13 +8,12 @@ use Rattle.std.proofs.lemmas.List.Sums.{sum_by-append}
 use Rattle.std.proofs.lemmas.Grind.{flat_map-append}
 use Rattle.ev_types.specs.declared.side.SideId.{SideId}
 use Rattle.ev_types.specs.Sides.{number, same_end}
-use Rattle.ev_types.specs.Trace.{Event, Trace}
+use Rattle.ev_types.specs.Trace.{Trace}
 use Rattle.script_text.specs.declared.script.TurnLine.{TurnLine}
 use Rattle.script_text.specs.declared.script.TurnLine.TheVariants as line
-use Rattle.relay_model.specs.Trace.{bytes_read, bytes_given}
-use Rattle.relay_model.specs.Totals.{made_connected_by, connected_by, is_opened, opened, is_made_connected, is_connected}
+use Rattle.relay_model.specs.Trace.{bytes_read}
+use Rattle.relay_model.specs.Totals.{opened}
 use Rattle.relay_model.specs.Lines.{Line, links_by, brings, ends, allows, allows_all}
-use Rattle.relay_model.proofs.TraceLemmas.{bytes_read-append, bytes_given-append}
 use Rattle.ev_port.specs.Counting.{counted}
 use Rattle.ev_port.specs.ScriptState.{EndState, LinksState}
 use Rattle.ev_port.specs.ScriptEnds.{allowed, end_after_line}

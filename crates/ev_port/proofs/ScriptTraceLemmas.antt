@@ -1,36 +1,24 @@
 -- What entries of a trace leave of where the ends of a script port stand.
-use Rattle.std.proofs.Common.{◌≡◌, ◌≢◌, ◌⊎◌, ℕ, zero, suc, ◌+◌, ◌-◌, ◌^◌, ◌<◌, ◌≤◌, min, Bool, true, false, ◌==◌, ◌&&◌, ◌||◌, not, if◌then◌else◌, List, [], ◌∷◌, ◌++◌, length, take, drop, map, Option, Some, None, refl, sym, ap, subst, ◌∙◌, arith, append_assoc, append-nil, length-append, inl, inr}
-use Rattle.std.specs.Prelude.{sum_by, count_by}
+use Rattle.std.proofs.Common.{◌≡◌, ◌≤◌, Bool, true, false, ◌||◌, if◌then◌else◌, List, [], ◌∷◌, ◌++◌, length, drop, Some, None, refl, sym, ap, subst, ◌∙◌, arith, append_assoc, append-nil, inl, inr}
+use Rattle.std.specs.Prelude.{sum_by}
 use Rattle.std.specs.List.{flat_map, list_any}
-use Rattle.std.proofs.lemmas.Bool.{cases_Bool}
-use Rattle.std.proofs.lemmas.Bool.Decides.{eqb_tells}
 use Rattle.std.proofs.lemmas.List.Folds.{list_any-append}
 use Rattle.std.proofs.lemmas.List.Sums.{sum_by-append}
 use Rattle.ev_types.specs.declared.side.SideId.{SideId}
-use Rattle.ev_types.specs.declared.entry.Entry.{Entry}
-use Rattle.ev_types.specs.declared.entry.Entry.TheVariants as entry
-use Rattle.ev_types.specs.declared.answer.ConnAnswer.{ConnAnswer}
-use Rattle.ev_types.specs.declared.answer.ConnAnswer.TheVariants as conn
-use Rattle.ev_types.specs.declared.answer.ReadAnswer.{ReadAnswer}
-use Rattle.ev_types.specs.declared.answer.ReadAnswer.TheVariants as read
-use Rattle.ev_types.specs.declared.answer.WriteAnswer.{WriteAnswer}
-use Rattle.ev_types.specs.declared.answer.WriteAnswer.TheVariants as write
-use Rattle.ev_types.specs.Sides.{number, same_end}
-use Rattle.ev_types.specs.Trace.{Event, Trace}
+use Rattle.ev_types.specs.Sides.{same_end}
+use Rattle.ev_types.specs.Trace.{Trace}
 use Rattle.relay_model.specs.Trace.{bytes_read, bytes_given}
-use Rattle.relay_model.specs.RatesKept.{is_turn}
 use Rattle.relay_model.specs.Totals.{made_connected_by, connected_by, is_opened, opened, is_made_connected, is_connected}
-use Rattle.relay_model.specs.Lines.{Line, links_by, brings, ends, allows, allows_all}
+use Rattle.relay_model.specs.Lines.{Line, links_by, allows, allows_all}
 use Rattle.relay_model.proofs.TraceLemmas.{bytes_read-append, bytes_given-append}
 use Rattle.relay_model.proofs.EndLemmas.{same_end-eq}
 use Rattle.ev_port.specs.declared.port.Want.{Want}
-use Rattle.ev_port.specs.Ends.{took_bytes}
 use Rattle.ev_port.specs.ScriptState.{EndState, LinksState}
-use Rattle.ev_port.specs.ScriptEnds.{read_answer, after_read, taken_of, left_to_take, write_answer, after_write, conn_answer, after_check, wanted}
+use Rattle.ev_port.specs.ScriptEnds.{wanted}
 use Rattle.ev_port.specs.ScriptLinks.{end_of, at_end, after_wants}
-use Rattle.ev_port.specs.ScriptVouched.{TakesOn, MayTake, EndStands, LinksStand}
+use Rattle.ev_port.specs.ScriptVouched.{MayTake, EndStands, LinksStand}
 use Rattle.ev_port.proofs.ToldLemmas.{same_end_tells}
-use Rattle.ev_port.proofs.ScriptStandLemmas.{end_changed, none_changed, takes-write}
+use Rattle.ev_port.proofs.ScriptStandLemmas.{end_changed, none_changed}
 
 pub same_self : (e : SideId) → same_end e e ≡ true
 same_self e = elim (same_end_tells e e) [ inl t ↦ t.0 | inr t ↦ absurd (t.1 refl) ]

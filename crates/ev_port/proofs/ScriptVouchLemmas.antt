@@ -1,5 +1,5 @@
 -- With each call a script port vouches for the longer trace.
-use Rattle.std.proofs.Common.{◌≡◌, ◌≢◌, ℕ, zero, suc, ◌+◌, ◌-◌, ◌*◌, ◌^◌, ◌<◌, ◌≤◌, min, max, Bool, true, false, not, if◌then◌else◌, List, [], ◌∷◌, ◌++◌, length, get_or, take, drop, map, Option, Some, None, refl, sym, ap, subst, ◌∙◌, arith, append_assoc, append-nil, length-append, length-take-le}
+use Rattle.std.proofs.Common.{◌≡◌, ℕ, zero, suc, ◌+◌, ◌-◌, ◌*◌, ◌^◌, ◌<◌, ◌≤◌, min, max, Bool, false, not, if◌then◌else◌, List, [], ◌∷◌, ◌++◌, length, get_or, take, drop, map, Option, Some, None, refl, sym, ap, subst, ◌∙◌, arith, append_assoc, append-nil, length-append, length-take-le}
 use Rattle.std.specs.Prelude.{count_by, slice_get, option_map}
 use Rattle.std.specs.Option.{option_map_or}
 use Rattle.std.specs.List.{flat_map}
@@ -17,7 +17,7 @@ use Rattle.ev_types.specs.declared.answer.WriteAnswer.{WriteAnswer}
 use Rattle.ev_types.specs.declared.answer.WriteAnswer.TheVariants as write
 use Rattle.ev_types.specs.Growth.{Longer}
 use Rattle.ev_types.specs.Sides.{half, number}
-use Rattle.ev_types.specs.Trace.{Event, Trace}
+use Rattle.ev_types.specs.Trace.{Trace}
 use Rattle.script_text.specs.Script.{TurnValue}
 use Rattle.relay_model.specs.RatesKept.{is_turn}
 use Rattle.relay_model.specs.Totals.{opened}
@@ -32,16 +32,17 @@ use Rattle.ev_port.specs.declared.script_port.PortTally.{PortTally}
 use Rattle.ev_port.specs.Calls.{turn_time, Ticked, accept_events, IsUnheard}
 use Rattle.ev_port.specs.Polling.{poll_events}
 use Rattle.ev_port.specs.Ends.{conn_events, write_events, close_write_events, close_events, took_bytes}
+use Rattle.ev_port.specs.Vouching.{LongerBy}
 use Rattle.ev_port.specs.ScriptState.{EndState, LinksState, PortState}
 use Rattle.ev_port.specs.ScriptEnds.{new_end, after_read, taken_of, after_write, after_check, after_close_write, after_close}
-use Rattle.ev_port.specs.ScriptLinks.{end_of, at_end, new_ends, new_links, links_of, taken_at, marked, after_wants, accept_answer, accept_first, read_answer_at, pending_at, write_answer_at, WroteAt, conn_answer_at, after_lines}
-use Rattle.ev_port.specs.ScriptPort.{lines_of, new_port, next_turn, clock_answer, begin_turn, count_reading, after_now, after_start, after_poll, accept_tally, after_accept}
+use Rattle.ev_port.specs.ScriptLinks.{end_of, at_end, new_ends, links_of, taken_at, marked, after_wants, accept_answer, accept_first, read_answer_at, pending_at, write_answer_at, WroteAt, conn_answer_at, after_lines}
+use Rattle.ev_port.specs.ScriptPort.{lines_of, new_port, next_turn, clock_answer, begin_turn, count_reading, after_now, after_start, accept_tally, after_accept}
 use Rattle.ev_port.specs.ScriptPlayed.{played_line, played_turns}
 use Rattle.ev_port.specs.ScriptVouched.{IsCalledFor, EndStands, LinksStand, PortStands, AreUnheard, ScriptVouches}
 use Rattle.ev_port.proofs.ListLemmas.{slice_get-changed_same}
 use Rattle.ev_port.proofs.ScriptPlayedLemmas.{lines_so_far, lines_more, moment_next}
 use Rattle.ev_port.proofs.ScriptStandLemmas.{from_some, lines_stand}
-use Rattle.ev_port.proofs.ScriptTraceLemmas.{Like, like, like-at_end, like-wants, links_silent, AsBefore}
+use Rattle.ev_port.proofs.ScriptTraceLemmas.{Like, like, like-at_end, like-wants, links_silent}
 use Rattle.ev_port.proofs.ScriptEntryLemmas.{read_stands, check_stands, write_stands, accept_stands}
 use Rattle.ev_port.proofs.ScriptSeenLemmas.{links_whole, read_is, write_is, conn_is}
 use Rattle.ev_port.proofs.ScriptQuietLemmas.{Quiet, quiet-close_write, quiet-close, quiet-unheard, unheard_is, quiet-poll, wish, poll_is, silent-turn, times_same}
@@ -209,6 +210,9 @@ accept_stood p link = accept_by p link p.links.waiting refl
 
 -- The clock
 
+abbrev TickedOn : (Trace → Type 0) → (Trace → Type 0) → ℕ → Type 0
+TickedOn old new reading = (t : Trace) → old t → new (t ++ (entry.Turn (turn_time t reading), []) ∷ [])
+
 turn_begins : (p : PortState) (turn : TurnValue) (ms : ℕ) (t : Trace) → next_turn p ≡ Some turn → ms ≡ turn_time t turn.0 → PortStands p t → PortStands (count_reading (begin_turn (Some turn) p)) (t ++ (entry.Turn ms, []) ∷ [])
 turn_begins p turn ms t next is stands =
     let T = played_turns p.turns in
@@ -230,7 +234,7 @@ turn_begins p turn ms t next is stands =
           (lines_stand waits (model.lines T t) (t ++ u) turn.1 p.links (links_silent waits (model.lines T t) t u p.links p.links (silent-turn ms) (like p.links) stands.links));
     }
 
-now_by : (p : PortState) (turn : Option TurnValue) → next_turn p ≡ turn → Ticked (StandsIf p) (StandsIf (count_reading (begin_turn turn p))) (option_map_or (λ (x : TurnValue). x.0) turn p.clock)
+now_by : (p : PortState) (turn : Option TurnValue) → next_turn p ≡ turn → TickedOn (StandsIf p) (StandsIf (count_reading (begin_turn turn p))) (option_map_or (λ (x : TurnValue). x.0) turn p.clock)
 now_by p None next = λ t vouched asked.
     let u : Trace = (entry.Turn (turn_time t p.clock), []) ∷ [] in
     let stands = vouched (called_before p.turns t u asked) in
@@ -241,7 +245,7 @@ now_by p None next = λ t vouched asked.
     absurd (let some = slice_get-get_or p.turns p.begun (0, []) within in cc)
 now_by p (Some turn) next = λ t vouched asked. turn_begins p turn (turn_time t turn.0) t next refl (vouched (called_before p.turns t ((entry.Turn (turn_time t turn.0), []) ∷ []) asked))
 
-pub now_stood : (p : PortState) → Ticked (StandsIf p) (StandsIf (after_now p)) (clock_answer p)
+pub now_stood : (p : PortState) → TickedOn (StandsIf p) (StandsIf (after_now p)) (clock_answer p)
 now_stood p = now_by p (next_turn p) refl
 
 -- The beginning
@@ -298,32 +302,35 @@ stood_on p ((x, bytes) ∷ own) t h stood =
     subst (StandsIf p) (append_assoc t ((x, bytes) ∷ []) own)
     (stood_on p own (t ++ (x, bytes) ∷ []) h.2 (subst (λ z. StandsIf p (t ++ (x, z) ∷ [])) (sym h.1) (unheard_stood p x h.0 t stood)))
 
-pub stands_if : (p : PortState) (t : Trace) → ScriptVouches p t → StandsIf p t
-stands_if p t vouched = subst (StandsIf p) (append-nil t) (vouched [] tt)
+pub stands_if : (p : PortState) (turns : List TurnValue) (t : Trace) → ScriptVouches p turns t → StandsIf p t
+stands_if p turns t vouched = subst (StandsIf p) (append-nil t) (subst (λ z. IsCalledFor z (t ++ []) → PortStands p (t ++ [])) (sym vouched.0) (vouched.1 [] tt))
 
-vouched_on : (p q : PortState) (u : Trace) → Longer (StandsIf p) (StandsIf q) u → Longer (ScriptVouches p) (ScriptVouches q) u
-vouched_on p q u h = λ t vouched own unheard. stood_on q own (t ++ u) unheard (h t (stands_if p t vouched))
+-- a port with these turns that stands behind a trace vouches for it
+vouches_by : (p : PortState) (turns : List TurnValue) (t : Trace) → p.turns ≡ turns → StandsIf p t → ScriptVouches p turns t
+vouches_by p turns t same stood = (same, λ own unheard. subst (λ z. IsCalledFor z (t ++ own) → PortStands p (t ++ own)) same (stood_on p own t unheard stood))
+
+vouched_on : (p q : PortState) (u : Trace) → q.turns ≡ p.turns → Longer (StandsIf p) (StandsIf q) u → LongerBy (ScriptVouches p) (ScriptVouches q) u
+vouched_on p q u same h = λ turns t vouched. vouches_by q turns (t ++ u) (same ∙ vouched.0) (h t (stands_if p turns t vouched))
 
 -- a call that left this port and had these entries
-pub call_vouched : (p q r : PortState) (u v : Trace) → q ≡ r → v ≡ u → Longer (StandsIf p) (StandsIf r) u → Longer (ScriptVouches p) (ScriptVouches q) v
-call_vouched p q r u v port entries h =
-    subst (λ z. Longer (ScriptVouches p) (ScriptVouches z) v) (sym port) (subst (λ z. Longer (ScriptVouches p) (ScriptVouches r) z) (sym entries) (vouched_on p r u h))
-
-ticked_on : (p q : PortState) (at : ℕ) → Ticked (StandsIf p) (StandsIf q) at → Ticked (ScriptVouches p) (ScriptVouches q) at
-ticked_on p q at h = λ t vouched own unheard. stood_on q own (t ++ (entry.Turn (turn_time t at), []) ∷ []) unheard (h t (stands_if p t vouched))
+pub call_vouched : (p q r : PortState) (u v : Trace) → q ≡ r → v ≡ u → r.turns ≡ p.turns → Longer (StandsIf p) (StandsIf r) u → LongerBy (ScriptVouches p) (ScriptVouches q) v
+call_vouched p q r u v port entries same h =
+    subst (λ z. LongerBy (ScriptVouches p) (ScriptVouches z) v) (sym port) (subst (λ z. LongerBy (ScriptVouches p) (ScriptVouches r) z) (sym entries) (vouched_on p r u same h))
 
 clock_begun : (turn : Option TurnValue) (p : PortState) → (begin_turn turn p).clock ≡ option_map_or (λ (x : TurnValue). x.0) turn p.clock
 clock_begun None p = refl
 clock_begun (Some turn) p = refl
 
+turns_begun : (turn : Option TurnValue) (p : PortState) → (begin_turn turn p).turns ≡ p.turns
+turns_begun None p = refl
+turns_begun (Some turn) p = refl
+
 -- a reading that left this port
 pub reading_vouched : (p begun : PortState) → begun ≡ begin_turn (next_turn p) p → Ticked (ScriptVouches p) (ScriptVouches (count_reading begun)) begun.clock
 reading_vouched p begun is =
     subst (λ z. Ticked (ScriptVouches p) (ScriptVouches (count_reading z)) z.clock) (sym is)
-    (subst (λ n. Ticked (ScriptVouches p) (ScriptVouches (after_now p)) n) (sym (clock_begun (next_turn p) p)) (ticked_on p (after_now p) (clock_answer p) (now_stood p)))
+    (subst (λ n. Ticked (ScriptVouches p) (ScriptVouches (after_now p)) n) (sym (clock_begun (next_turn p) p))
+    (λ turns t vouched. vouches_by (after_now p) turns (t ++ (entry.Turn (turn_time t (clock_answer p)), []) ∷ []) (turns_begun (next_turn p) p ∙ vouched.0) (now_stood p t (stands_if p turns t vouched))))
 
-new_vouched : (turns : List TurnValue) → ScriptVouches (new_port turns) []
-new_vouched turns = λ own unheard. stood_on (new_port turns) own [] unheard (new_stood turns)
-
-pub new_from : (turns : List TurnValue) (p : PortState) → p ≡ new_port turns → ScriptVouches p []
-new_from turns p is = subst (λ z. ScriptVouches z []) (sym is) (new_vouched turns)
+pub new_from : (turns : List TurnValue) (p : PortState) → p ≡ new_port turns → ScriptVouches p turns []
+new_from turns p is = subst (λ z. ScriptVouches z turns []) (sym is) (vouches_by (new_port turns) turns [] refl (new_stood turns))

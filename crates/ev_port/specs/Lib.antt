@@ -4,6 +4,7 @@ pub mod Faults
 pub mod Calls
 pub mod Polling
 pub mod Ends
+pub mod Vouching
 pub mod Counting
 pub mod Memory
 pub mod MemoryView

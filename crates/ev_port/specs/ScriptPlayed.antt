@@ -1,5 +1,5 @@
 -- A script's values as the script of the model of runs. No line says anything of settings, plans, decisions or failures.
-use Rattle.std.specs.Prelude.{ℕ, List, [], map}
+use Rattle.std.specs.Prelude.{List, [], map}
 use Rattle.script_text.specs.declared.script.TurnLine.{TurnLine}
 use Rattle.script_text.specs.declared.script.TurnLine.TheVariants as line
 use Rattle.script_text.specs.Script.{ScriptValue, TurnValue}

@@ -1,5 +1,5 @@
 -- The traces for which a script port vouches: every answer in them is the script's, and the port stands where they end.
-use Rattle.std.specs.Prelude.{◌≡◌, ℕ, ◌+◌, ◌-◌, ◌^◌, ◌<◌, ◌≤◌, min, ⊤, Bool, true, false, List, [], ◌∷◌, ◌++◌, length, drop, map, sum_by, Option, Some, None, slice_index_or}
+use Rattle.std.specs.Prelude.{◌≡◌, ℕ, ◌+◌, ◌-◌, ◌^◌, ◌<◌, ◌≤◌, min, ⊤, Bool, true, false, List, [], ◌∷◌, ◌++◌, length, drop, sum_by, Option, Some, None, slice_index_or}
 use Rattle.std.specs.List.{flat_map, list_any}
 use Rattle.ev_types.specs.declared.side.SideId.{SideId}
 use Rattle.ev_types.specs.declared.entry.Entry.TheVariants as entry
@@ -16,7 +16,7 @@ use Rattle.ev_port.specs.Calls.{IsUnheard}
 use Rattle.ev_port.specs.ScriptState.{EndState, LinksState, PortState}
 use Rattle.ev_port.specs.ScriptLinks.{end_of, links_of}
 use Rattle.ev_port.specs.ScriptPort.{lines_of}
-use Rattle.ev_port.specs.ScriptPlayed.{played_line, played_turns}
+use Rattle.ev_port.specs.ScriptPlayed.{played_turns}
 
 -- What is asked of the script and of the callers
 
@@ -83,7 +83,7 @@ abbrev pub AreUnheard : Trace → Type 0
 AreUnheard [] = ⊤
 AreUnheard ((x, bytes) ∷ own) = IsUnheard x × (bytes ≡ []) × AreUnheard own
 
--- A script port vouches for a trace where it stands behind it, with whatever entries at its end that no port answers, if that
--- is called for.
-abbrev pub ScriptVouches : PortState → Trace → Type 0
-ScriptVouches p t = (own : Trace) → AreUnheard own → IsCalledFor p.turns (t ++ own) → PortStands p (t ++ own)
+-- A script port vouches for a trace by its own turns, where it stands behind it, with whatever entries at its end that no port
+-- answers, if that is called for.
+abbrev pub ScriptVouches : PortState → List TurnValue → Trace → Type 0
+ScriptVouches p turns t = (p.turns ≡ turns) × ((own : Trace) → AreUnheard own → IsCalledFor turns (t ++ own) → PortStands p (t ++ own))

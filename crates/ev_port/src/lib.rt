@@ -15,7 +15,9 @@ mod standard;
 mod stream;
 
 pub use ev_types::{ConnAnswer, ReadAnswer, WriteAnswer};
-pub use laws::{lines_bring_bytes, reads_lose_nothing, vouched_is_played};
+pub use laws::{
+    lines_bring_bytes, reads_lose_nothing, spelled_scripts_name_opened_links, vouched_is_played,
+};
 pub use memory::{MemSink, MemSource};
 pub use mute::Mute;
 pub use port::{Accepted, Addr, Polled, Port, Started, Want};

@@ -1,7 +1,7 @@
 // The port: it reaches the connections. An end is the outside connection of a side.
 ghost use Rattle.std.specs.Prelude.{◌≡◌, ◌<◌, length, [], ◌∷◌, true};
 ghost use Rattle.ev_types.specs.Trace.{Trace};
-ghost use Rattle.ev_types.specs.Growth.{Longer};
+ghost use Rattle.ev_port.specs.Vouching.{LongerBy};
 ghost use Rattle.ev_types.specs.declared.side.SideId.{SideId};
 ghost use Rattle.ev_port.specs.Told.{EndTold, PortTold, Faults, EndsWent, AllWent, PortStays, no_step};
 ghost use Rattle.ev_port.specs.Faults.{FaultsStay, EndFaults, PollFaults, ListenerFaults};
@@ -66,10 +66,13 @@ pub struct Want {
 ///
 /// Own.
 pub trait Port {
+    ghost use Rattle.std.specs.Prelude.{List};
     ghost use Rattle.ev_types.specs.declared.entry.Entry.{Entry};
+    ghost use Rattle.script_text.specs.Script.{TurnValue};
 
-    /// The traces of which this port can say: each answer in it is mine, and I stand where it ends.
-    ghost vouches: { Self → Trace → Type 0 };
+    /// The traces of which this port can say: I answer by these turns of a script, each answer in it is mine, and I
+    /// stand where it ends. A port that answers by no script says the same of all turns.
+    ghost vouches: { Self → List TurnValue → Trace → Type 0 };
 
     /// How often each kind of fault was met, up to the end of a u64.
     ghost faults: { Self → Faults };
@@ -85,7 +88,7 @@ pub trait Port {
         ensures cause { ListenerFaults (faults self.old) (faults self.new) (is_failed_start result) }
         ensures ends { AllWent (ends self.old) (ends self.new) (λ _. no_step) }
         ensures told { StartedAt (told self.old) (told self.new) listen to }
-        ensures vouched { Longer (vouches self.old) (vouches self.new) [] };
+        ensures vouched { LongerBy (vouches self.old) (vouches self.new) [] };
 
     /// A reading of the clock, in milliseconds. Any number may come.
     fn now(&mut self) -> u64
@@ -101,21 +104,21 @@ pub trait Port {
         ensures cause { PollFaults (faults self.old) (faults self.new) (is_failed_poll result) }
         ensures ends { AllWent (ends self.old) (ends self.new) (poll_step wants.new result) }
         ensures told { PolledWith (told self.old) (told self.new) accept timeout result }
-        ensures vouched { Longer (vouches self.old) (vouches self.new) (poll_events timeout wants.new result) };
+        ensures vouched { LongerBy (vouches self.old) (vouches self.new) (poll_events timeout wants.new result) };
 
     /// Takes a waiting connection as the In end of this link, and makes its Out end.
     fn accept(&mut self, link: u32) -> Accepted
         ensures cause { ListenerFaults (faults self.old) (faults self.new) (is_failed_accept result) }
         ensures ends { AllWent (ends self.old) (ends self.new) (accept_step link result) }
         ensures told { AcceptedLink (told self.old) (told self.new) result }
-        ensures vouched { Longer (vouches self.old) (vouches self.new) (accept_events link result) };
+        ensures vouched { LongerBy (vouches self.old) (vouches self.new) (accept_events link result) };
 
     /// Whether an end that was not connected is connected by now.
     fn connect_state(&mut self, end: SideId) -> ConnAnswer
         ensures cause { EndFaults (faults self.old) (faults self.new) end (is_failed_conn result) }
         ensures ends { EndsWent (ends self.old) (ends self.new) end (conn_step result) }
         ensures told { PortStays (told self.old) (told self.new) }
-        ensures vouched { Longer (vouches self.old) (vouches self.new) (conn_events end result) };
+        ensures vouched { LongerBy (vouches self.old) (vouches self.new) (conn_events end result) };
 
     /// Puts the next bytes of the end in front of `into`, at most as many as it has room for.
     fn read(&mut self, end: SideId, into: &mut [u8]) -> ReadAnswer
@@ -124,7 +127,7 @@ pub trait Port {
         ensures cause { EndFaults (faults self.old) (faults self.new) end (is_failed_read result) }
         ensures ends { EndsWent (ends self.old) (ends self.new) end (read_step result into.new) }
         ensures told { PortStays (told self.old) (told self.new) }
-        ensures vouched { Longer (vouches self.old) (vouches self.new) (read_events end into.new result) };
+        ensures vouched { LongerBy (vouches self.old) (vouches self.new) (read_events end into.new result) };
 
     /// Takes the first bytes of `from` for the end, at most all of them.
     fn write(&mut self, end: SideId, from: &[u8]) -> WriteAnswer
@@ -133,22 +136,22 @@ pub trait Port {
         ensures cause { EndFaults (faults self.old) (faults self.new) end (is_failed_write result) }
         ensures ends { EndsWent (ends self.old) (ends self.new) end (write_step result from.now) }
         ensures told { PortStays (told self.old) (told self.new) }
-        ensures vouched { Longer (vouches self.old) (vouches self.new) (write_events end from.now result) };
+        ensures vouched { LongerBy (vouches self.old) (vouches self.new) (write_events end from.now result) };
 
     /// Ends writing at the end.
     fn close_write(&mut self, end: SideId)
         ensures cause { FaultsStay (faults self.old) (faults self.new) }
         ensures ends { EndsWent (ends self.old) (ends self.new) end close_write_step }
         ensures told { PortStays (told self.old) (told self.new) }
-        ensures vouched { Longer (vouches self.old) (vouches self.new) (close_write_events end) };
+        ensures vouched { LongerBy (vouches self.old) (vouches self.new) (close_write_events end) };
 
     /// Closes the end.
     fn close(&mut self, end: SideId)
         ensures cause { FaultsStay (faults self.old) (faults self.new) }
         ensures ends { EndsWent (ends self.old) (ends self.new) end close_step }
         ensures told { PortStays (told self.old) (told self.new) }
-        ensures vouched { Longer (vouches self.old) (vouches self.new) (close_events end) };
+        ensures vouched { LongerBy (vouches self.old) (vouches self.new) (close_events end) };
 
     /// What no port answers changes nothing of what a port vouches for.
-    ghost unheard: { (p : Self) (e : Entry) → IsUnheard e → Longer (vouches p) (vouches p) ((e, []) ∷ []) };
+    ghost unheard: { (p : Self) (e : Entry) → IsUnheard e → LongerBy (vouches p) (vouches p) ((e, []) ∷ []) };
 }

@@ -2,7 +2,7 @@
 // other call is answered from what the lines so far left. It waits for nothing, meets no fault, and keeps all that it is
 // told and all that it took.
 ghost use Rattle.std.specs.Prelude.{◌≡◌, ◌<◌, [], true, false, length, take, drop, map, IfOk};
-ghost use Rattle.ev_types.specs.Growth.{Longer};
+ghost use Rattle.ev_port.specs.Vouching.{LongerBy};
 ghost use Rattle.ev_port.specs.Told.{EndsWent, AllWent, PortStays, no_step};
 ghost use Rattle.ev_port.specs.Faults.{FaultsStay, EndFaults, PollFaults, ListenerFaults};
 ghost use Rattle.ev_port.specs.Calls.{Ticked, ClockRead, is_failed_start, StartedAt, is_failed_accept, accept_events, accept_step, AcceptedLink};
@@ -100,7 +100,7 @@ impl ScriptPort {
     /// when its turn begins.
     pub fn new(alloc: Global, script: Script) -> Result<ScriptPort, NoMemory>
         ensures at_first { IfOk result (λ port. port ≡ new_port script.turns) }
-        ensures vouched { IfOk result (λ port. ScriptVouches port []) }
+        ensures vouched { IfOk result (λ port. ScriptVouches port script.turns []) }
     {
         let mut links = ScriptLinks::new(alloc);
         for (_, lines) in &script.turns {
@@ -151,7 +151,7 @@ impl Port for ScriptPort {
         ensures cause { ListenerFaults no_faults no_faults (is_failed_start result) }
         ensures ends { AllWent (ends_told self.old.links) (ends_told self.new.links) (λ _. no_step) }
         ensures told { StartedAt (port_told self.old) (port_told self.new) listen to }
-        ensures vouched { Longer (ScriptVouches self.old) (ScriptVouches self.new) [] }
+        ensures vouched { LongerBy (ScriptVouches self.old) (ScriptVouches self.new) [] }
     {
         self.tally.started = Some((listen, to));
         Started::Started
@@ -185,7 +185,7 @@ impl Port for ScriptPort {
         ensures cause { PollFaults no_faults no_faults (is_failed_poll result) }
         ensures ends { AllWent (ends_told self.old.links) (ends_told self.new.links) (poll_step wants.new result) }
         ensures told { PolledWith (port_told self.old) (port_told self.new) accept timeout result }
-        ensures vouched { Longer (ScriptVouches self.old) (ScriptVouches self.new) (poll_events timeout wants.new result) }
+        ensures vouched { LongerBy (ScriptVouches self.old) (ScriptVouches self.new) (poll_events timeout wants.new result) }
     {
         let answer = Polled::Ready {
             accept: accept & self.links.has_waiting(),
@@ -205,7 +205,7 @@ impl Port for ScriptPort {
         ensures cause { ListenerFaults no_faults no_faults (is_failed_accept result) }
         ensures ends { AllWent (ends_told self.old.links) (ends_told self.new.links) (accept_step link result) }
         ensures told { AcceptedLink (port_told self.old) (port_told self.new) result }
-        ensures vouched { Longer (ScriptVouches self.old) (ScriptVouches self.new) (accept_events link result) }
+        ensures vouched { LongerBy (ScriptVouches self.old) (ScriptVouches self.new) (accept_events link result) }
     {
         let answer = self.links.accept(link);
         self.tally.count_accept(answer);
@@ -221,7 +221,7 @@ impl Port for ScriptPort {
         ensures cause { EndFaults no_faults no_faults end (is_failed_conn result) }
         ensures ends { EndsWent (ends_told self.old.links) (ends_told self.new.links) end (conn_step result) }
         ensures told { PortStays (port_told self.old) (port_told self.new) }
-        ensures vouched { Longer (ScriptVouches self.old) (ScriptVouches self.new) (conn_events end result) }
+        ensures vouched { LongerBy (ScriptVouches self.old) (ScriptVouches self.new) (conn_events end result) }
     {
         self.links.connect_state(end)
     }
@@ -239,7 +239,7 @@ impl Port for ScriptPort {
         ensures cause { EndFaults no_faults no_faults end (is_failed_read result) }
         ensures ends { EndsWent (ends_told self.old.links) (ends_told self.new.links) end (read_step result into.new) }
         ensures told { PortStays (port_told self.old) (port_told self.new) }
-        ensures vouched { Longer (ScriptVouches self.old) (ScriptVouches self.new) (read_events end into.new result) }
+        ensures vouched { LongerBy (ScriptVouches self.old) (ScriptVouches self.new) (read_events end into.new result) }
     {
         self.links.read(end, into)
     }
@@ -255,7 +255,7 @@ impl Port for ScriptPort {
         ensures cause { EndFaults no_faults no_faults end (is_failed_write result) }
         ensures ends { EndsWent (ends_told self.old.links) (ends_told self.new.links) end (write_step result from.now) }
         ensures told { PortStays (port_told self.old) (port_told self.new) }
-        ensures vouched { Longer (ScriptVouches self.old) (ScriptVouches self.new) (write_events end from.now result) }
+        ensures vouched { LongerBy (ScriptVouches self.old) (ScriptVouches self.new) (write_events end from.now result) }
     {
         self.links.write(end, from)
     }
@@ -267,7 +267,7 @@ impl Port for ScriptPort {
         ensures cause { FaultsStay no_faults no_faults }
         ensures ends { EndsWent (ends_told self.old.links) (ends_told self.new.links) end close_write_step }
         ensures told { PortStays (port_told self.old) (port_told self.new) }
-        ensures vouched { Longer (ScriptVouches self.old) (ScriptVouches self.new) (close_write_events end) }
+        ensures vouched { LongerBy (ScriptVouches self.old) (ScriptVouches self.new) (close_write_events end) }
     {
         self.links.close_write(end);
     }
@@ -279,7 +279,7 @@ impl Port for ScriptPort {
         ensures cause { FaultsStay no_faults no_faults }
         ensures ends { EndsWent (ends_told self.old.links) (ends_told self.new.links) end close_step }
         ensures told { PortStays (port_told self.old) (port_told self.new) }
-        ensures vouched { Longer (ScriptVouches self.old) (ScriptVouches self.new) (close_events end) }
+        ensures vouched { LongerBy (ScriptVouches self.old) (ScriptVouches self.new) (close_events end) }
     {
         self.links.close(end);
     }

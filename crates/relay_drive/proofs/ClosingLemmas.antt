@@ -1,10 +1,11 @@
 -- What a step of closing puts and leaves as it is.
-use Rattle.std.proofs.Common.{◌≡◌, ℕ, zero, suc, ◌<◌, false, [], ◌∷◌, ◌++◌, length, get_or, refl, ap, subst, arith, append_assoc, append-nil}
+use Rattle.std.proofs.Common.{◌≡◌, ℕ, zero, suc, ◌<◌, false, List, [], ◌∷◌, ◌++◌, length, get_or, refl, ap, subst, arith, append_assoc, append-nil}
 use Rattle.ev_types.specs.declared.side.SideId.{SideId}
 use Rattle.ev_types.specs.declared.entry.Entry.{Entry}
 use Rattle.ev_types.specs.declared.why.Cause.TheVariants as cause
 use Rattle.ev_types.specs.Trace.{Trace}
-use Rattle.ev_types.specs.Growth.{Longer}
+use Rattle.script_text.specs.Script.{TurnValue}
+use Rattle.ev_port.specs.Vouching.{LongerBy}
 use Rattle.ev_port.specs.Calls.{last_time, IsUnheard}
 use Rattle.relay_core.specs.declared.close.Closing.{Closing}
 use Rattle.relay_core.specs.declared.close.Closing.TheVariants as closing
@@ -42,14 +43,14 @@ closing_polls s (closing.PeerGone e) = refl
 closing_polls s (closing.Shut e) = refl
 
 -- a port vouches for what it heard, and for frees
-pub closing_vouched : (v w : Trace → Type 0) (s : State) (step : Closing) → Longer v w (told_events step) → ((e : Entry) → IsUnheard e → Longer w w ((e, []) ∷ [])) → Longer v w (closing_events s step)
-closing_vouched v w s (closing.Faulty e) h law = λ t k. subst w (ap (λ z. z ++ freed_event s e cause.Failed ∷ []) (append-nil t)) (law _ tt (t ++ []) (h t k))
+pub closing_vouched : (v w : List TurnValue → Trace → Type 0) (s : State) (step : Closing) → LongerBy v w (told_events step) → ((e : Entry) → IsUnheard e → LongerBy w w ((e, []) ∷ [])) → LongerBy v w (closing_events s step)
+closing_vouched v w s (closing.Faulty e) h law = λ turns t k. subst (w turns) (ap (λ z. z ++ freed_event s e cause.Failed ∷ []) (append-nil t)) (law _ tt turns (t ++ []) (h turns t k))
 closing_vouched v w s (closing.EndWriting e) h law = h
-closing_vouched v w s (closing.BothDone k) h law = λ t p.
+closing_vouched v w s (closing.BothDone k) h law = λ turns t p.
     let one = freed_event s (in_side k) cause.Done in
-    let first = subst w (ap (λ z. z ++ one ∷ []) (append-nil t)) (law _ tt (t ++ []) (h t p)) in
-    subst w (append_assoc t (one ∷ []) (freed_event s (out_side k) cause.Done ∷ [])) (law _ tt (t ++ one ∷ []) first)
-closing_vouched v w s (closing.PeerGone e) h law = λ t k. subst w (ap (λ z. z ++ freed_event s e cause.PeerGone ∷ []) (append-nil t)) (law _ tt (t ++ []) (h t k))
+    let first = subst (w turns) (ap (λ z. z ++ one ∷ []) (append-nil t)) (law _ tt turns (t ++ []) (h turns t p)) in
+    subst (w turns) (append_assoc t (one ∷ []) (freed_event s (out_side k) cause.Done ∷ [])) (law _ tt turns (t ++ one ∷ []) first)
+closing_vouched v w s (closing.PeerGone e) h law = λ turns t k. subst (w turns) (ap (λ z. z ++ freed_event s e cause.PeerGone ∷ []) (append-nil t)) (law _ tt turns (t ++ []) (h turns t k))
 closing_vouched v w s (closing.Shut e) h law = h
 
 -- each step of closing a link is of that link

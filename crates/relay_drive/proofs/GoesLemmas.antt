@@ -1,10 +1,12 @@
 -- Calls of the drive one behind another, and what one call of the port is.
-use Rattle.std.proofs.Common.{◌≡◌, ℕ, ◌+◌, Bool, true, false, ◌||◌, [], ◌++◌, length, Option, Some, None, refl, sym, ◌∙◌, ap, subst, arith, append_assoc, append-nil, length-append}
+use Rattle.std.proofs.Common.{◌≡◌, ℕ, ◌+◌, Bool, true, false, ◌||◌, List, [], ◌++◌, length, Option, Some, None, refl, sym, ◌∙◌, ap, subst, arith, append_assoc, append-nil, length-append}
 use Rattle.std.proofs.lemmas.List.Folds.{list_any-append}
 use Rattle.stream_words.specs.Faults.{Counted}
 use Rattle.ev_types.specs.Trace.{Trace}
-use Rattle.ev_types.specs.Growth.{Grew, Longer}
+use Rattle.ev_types.specs.Growth.{Grew}
+use Rattle.script_text.specs.Script.{TurnValue}
 use Rattle.ev_port.specs.Told.{Faults}
+use Rattle.ev_port.specs.Vouching.{LongerBy}
 use Rattle.ev_port.specs.Calls.{last_time}
 use Rattle.ev_port.specs.Counting.{counted}
 use Rattle.relay_core.specs.State.{State}
@@ -56,11 +58,11 @@ counted-join a b c m n k h g e = omega (arith, h, g, e)
 -- Goes
 
 -- the same with a weaker relation
-pub goes_as : {R S : State → Trace → State → Type 0} {p : Bool} {old new : Run} {l l' : Option Trace} {v v' : Trace → Type 0} {f f' : Faults} →
+pub goes_as : {R S : State → Trace → State → Type 0} {p : Bool} {old new : Run} {l l' : Option Trace} {v v' : List TurnValue → Trace → Type 0} {f f' : Faults} →
     ((a : Trace) → R old.relay.state a new.relay.state → S old.relay.state a new.relay.state) → Goes R p old new l l' v v' f f' → Goes S p old new l l' v v' f f'
 goes_as w g = record { added = g.added; does = w g.added g.does; entries = g.entries; list = g.list; told = g.told; heard = g.heard }
 
-pub goes_then : {R S : State → Trace → State → Type 0} {p q : Bool} {old mid new : Run} {l m n : Option Trace} {v w x : Trace → Type 0} {f g h : Faults} →
+pub goes_then : {R S : State → Trace → State → Type 0} {p q : Bool} {old mid new : Run} {l m n : Option Trace} {v w x : List TurnValue → Trace → Type 0} {f g h : Faults} →
     Goes R p old mid l m v w f g → Goes S q mid new m n w x g h → Goes (Then R S) (p || q) old new l n v x f h
 goes_then {p = p} {q = q} {old = old} {mid = mid} {new = new} {l = l} {m = m} {n = n} {v = v} {w = w} {x = x} {f = f} {g = g} {h = h} a b = record {
   added = a.added ++ b.added;
@@ -71,39 +73,39 @@ goes_then {p = p} {q = q} {old = old} {mid = mid} {new = new} {l = l} {m = m} {n
       let first = a.told t e in
       let second = b.told (t ++ a.added) first.0 in (
         subst (λ z. last_time z ≡ new.relay.state.time) (append_assoc t a.added b.added) second.0,
-        λ k. subst x (append_assoc t a.added b.added) (second.1 (first.1 k)),
+        λ turns k. subst (x turns) (append_assoc t a.added b.added) (second.1 turns (first.1 turns k)),
       );
   heard = Heard-join f g h a.added b.added p q a.heard b.heard;
 }
 
 -- no entry was put, and the port vouches as before
-pub goes_silent : {old new : Run} {l l' : Option Trace} {v v' : Trace → Type 0} {f f' : Faults} → new.relay.state ≡ old.relay.state → new.entries ≡ old.entries → Grew l l' [] →
-    Longer v v' [] → Heard f f' [] false → Goes Nothing false old new l l' v v' f f'
+pub goes_silent : {old new : Run} {l l' : Option Trace} {v v' : List TurnValue → Trace → Type 0} {f f' : Faults} → new.relay.state ≡ old.relay.state → new.entries ≡ old.entries → Grew l l' [] →
+    LongerBy v v' [] → Heard f f' [] false → Goes Nothing false old new l l' v v' f f'
 goes_silent {old = old} {new = new} {v = v} {v' = v'} s n list told heard = record {
   added = [];
   does = (refl, s);
   entries = omega (arith, n);
   list = list;
-  told = λ t e. (ap last_time (append-nil t) ∙ e ∙ ap (λ (z : State). z.time) (sym s), told t);
+  told = λ t e. (ap last_time (append-nil t) ∙ e ∙ ap (λ (z : State). z.time) (sym s), λ turns. told turns t);
   heard = heard;
 }
 
 -- nothing was asked of the port
-pub goes_nowhere : {old new : Run} {l l' : Option Trace} {v : Trace → Type 0} {f : Faults} → new.relay.state ≡ old.relay.state → new.entries ≡ old.entries → Grew l l' [] →
+pub goes_nowhere : {old new : Run} {l l' : Option Trace} {v : List TurnValue → Trace → Type 0} {f : Faults} → new.relay.state ≡ old.relay.state → new.entries ≡ old.entries → Grew l l' [] →
     Goes Nothing false old new l l' v v f f
-goes_nowhere {v = v} {f = f} s n list = goes_silent s n list (λ t k. subst v (sym (append-nil t)) k) (Heard-none f)
+goes_nowhere {v = v} {f = f} s n list = goes_silent s n list (λ turns t k. subst (v turns) (sym (append-nil t)) k) (Heard-none f)
 
 -- the relay alone changed
-pub goes_within : {R : State → Trace → State → Type 0} {old new : Run} (l : Option Trace) (v : Trace → Type 0) (f : Faults) → R old.relay.state [] new.relay.state → new.relay.state.time ≡ old.relay.state.time → new.entries ≡ old.entries →
+pub goes_within : {R : State → Trace → State → Type 0} {old new : Run} (l : Option Trace) (v : List TurnValue → Trace → Type 0) (f : Faults) → R old.relay.state [] new.relay.state → new.relay.state.time ≡ old.relay.state.time → new.entries ≡ old.entries →
     Goes R false old new l l v v f f
 goes_within l v f does time n = record {
   added = [];
   does = does;
   entries = omega (arith, n);
   list = Grew-none l;
-  told = λ t e. (ap last_time (append-nil t) ∙ e ∙ sym time, λ k. subst v (sym (append-nil t)) k);
+  told = λ t e. (ap last_time (append-nil t) ∙ e ∙ sym time, λ turns k. subst (v turns) (sym (append-nil t)) k);
   heard = Heard-none f;
 }
 
-pub goes_flag : {R : State → Trace → State → Type 0} {p q : Bool} {old new : Run} {l l' : Option Trace} {v v' : Trace → Type 0} {f f' : Faults} → p ≡ q → Goes R p old new l l' v v' f f' → Goes R q old new l l' v v' f f'
+pub goes_flag : {R : State → Trace → State → Type 0} {p q : Bool} {old new : Run} {l l' : Option Trace} {v v' : List TurnValue → Trace → Type 0} {f f' : Faults} → p ≡ q → Goes R p old new l l' v v' f f' → Goes R q old new l l' v v' f f'
 goes_flag {R = R} {old = old} {new = new} {l = l} {l' = l'} {v = v} {v' = v'} {f = f} {f' = f'} e g = subst (λ b. Goes R b old new l l' v v' f f') e g

@@ -13,7 +13,9 @@ use Rattle.ev_types.specs.declared.answer.WriteAnswer.TheVariants as write
 use Rattle.ev_types.specs.declared.entry.Entry.TheVariants as entry
 use Rattle.ev_types.specs.Sides.{same_side, same_end}
 use Rattle.ev_types.specs.Trace.{Trace}
-use Rattle.ev_types.specs.Growth.{Grew, Longer}
+use Rattle.ev_types.specs.Growth.{Grew}
+use Rattle.script_text.specs.Script.{TurnValue}
+use Rattle.ev_port.specs.Vouching.{LongerBy}
 use Rattle.ev_port.specs.Told.{Faults}
 use Rattle.ev_port.specs.Faults.{EndFaults, FaultsStay, ListenerFaults}
 use Rattle.ev_port.specs.Ends.{is_failed_conn, conn_events, is_failed_read, read_events, is_failed_write, write_events, took_bytes}
@@ -134,20 +136,20 @@ last_time-append ((entry.CloseWrite x, b) ∷ t) a = last_time-append t a
 last_time-append ((entry.Close x, b) ∷ t) a = last_time-append t a
 
 -- entries of which none begins a turn
-pub goes_some : {R : State → Trace → State → Type 0} {p : Bool} {old new : Run} {v v' : Trace → Type 0} (l l' : Option Trace) (f f' : Faults) (a : Trace) → last_time a ≡ 0 →
-    R old.relay.state a new.relay.state → new.relay.state.time ≡ old.relay.state.time → counted new.entries 0 ≡ counted old.entries (length a) → Grew l l' a → Longer v v' a → Heard f f' a p → Goes R p old new l l' v v' f f'
+pub goes_some : {R : State → Trace → State → Type 0} {p : Bool} {old new : Run} {v v' : List TurnValue → Trace → Type 0} (l l' : Option Trace) (f f' : Faults) (a : Trace) → last_time a ≡ 0 →
+    R old.relay.state a new.relay.state → new.relay.state.time ≡ old.relay.state.time → counted new.entries 0 ≡ counted old.entries (length a) → Grew l l' a → LongerBy v v' a → Heard f f' a p → Goes R p old new l l' v v' f f'
 goes_some {old = old} {new = new} l l' f f' a quiet does time entries list told heard = record {
   added = a;
   does = does;
   entries = entries;
   list = list;
-  told = λ t e. (let h = last_time-append t a in omega (arith, h, quiet, e, time), told t);
+  told = λ t e. (let h = last_time-append t a in omega (arith, h, quiet, e, time), λ turns. told turns t);
   heard = heard;
 }
 
 -- and one entry
-pub goes_once : {R : State → Trace → State → Type 0} {p : Bool} {old new : Run} {v v' : Trace → Type 0} (l l' : Option Trace) (f f' : Faults) (a : Trace) → last_time a ≡ 0 →
-    R old.relay.state a new.relay.state → new.relay.state.time ≡ old.relay.state.time → new.entries ≡ counted old.entries (length a) → Grew l l' a → Longer v v' a → Heard f f' a p → Goes R p old new l l' v v' f f'
+pub goes_once : {R : State → Trace → State → Type 0} {p : Bool} {old new : Run} {v v' : List TurnValue → Trace → Type 0} (l l' : Option Trace) (f f' : Faults) (a : Trace) → last_time a ≡ 0 →
+    R old.relay.state a new.relay.state → new.relay.state.time ≡ old.relay.state.time → new.entries ≡ counted old.entries (length a) → Grew l l' a → LongerBy v v' a → Heard f f' a p → Goes R p old new l l' v v' f f'
 goes_once l l' f f' a quiet does time entries list told heard = goes_some l l' f f' a quiet does time (omega (arith, entries)) list told heard
 
 -- What calls leave as it is
@@ -170,7 +172,7 @@ write_time s e write.Failed = refl
 write_time s e write.NoMemory = refl
 
 -- a write answered with want of memory is no step
-pub no_write : (v v' : Trace → Type 0) (e : SideId) (from : List ℕ) (answer : WriteAnswer) → is_memory answer ≡ true → Longer v v' (write_events e from answer) → Longer v v' []
+pub no_write : (v v' : List TurnValue → Trace → Type 0) (e : SideId) (from : List ℕ) (answer : WriteAnswer) → is_memory answer ≡ true → LongerBy v v' (write_events e from answer) → LongerBy v v' []
 no_write v v' e from write.NoMemory m h = h
 no_write v v' e from (write.Took n) m h = absurd (cc)
 no_write v v' e from write.NotYet m h = absurd (cc)

@@ -1,6 +1,7 @@
 -- What a run does is what its drive does.
-use Rattle.std.proofs.Common.{◌≡◌, Bool, ◌++◌, Option, sym, subst, arith, length-append}
+use Rattle.std.proofs.Common.{◌≡◌, ℕ, ◌+◌, Bool, List, ◌++◌, length, Option, refl, sym, ◌∙◌, subst, arith, length-append}
 use Rattle.ev_types.specs.Trace.{Trace}
+use Rattle.script_text.specs.Script.{TurnValue}
 use Rattle.ev_port.specs.Told.{Faults}
 use Rattle.relay_core.specs.State.{State}
 use Rattle.relay_drive.specs.declared.fault.DriveFault.{DriveFault}
@@ -14,7 +15,7 @@ abbrev pub drive_value : Run → Option DriveFault → DriveValue
 drive_value run r = record { state = run.relay.state; entries = run.entries; refusal = r }
 
 pub went_of : {R : State → Trace → State → Type 0} {After : Trace → State → Type 0} → ((t : Trace) (s new : State) (a : Trace) → StandsBetween t s → R s a new → After (t ++ a) new) →
-    {failed : Bool} {old new : DriveValue} {run run' : Run} {log log' : Option Trace} {v v' : Trace → Type 0} {f f' : Faults} (r r' : Option DriveFault) →
+    {failed : Bool} {old new : DriveValue} {run run' : Run} {log log' : Option Trace} {v v' : List TurnValue → Trace → Type 0} {f f' : Faults} (r r' : Option DriveFault) →
     old ≡ drive_value run r → new ≡ drive_value run' r' → Goes R failed run run' log log' v v' f f' → Went R After failed old new log log' v v' f f'
 went_of {R = R} {After = After} law {failed = failed} {new = new} {run = run} {run' = run'} {log = log} {log' = log'} {v = v} {v' = v'} {f = f} {f' = f'} r r' p q g =
     subst (λ z. Went R After failed z new log log' v v' f f') (sym p)
@@ -27,6 +28,6 @@ went_of {R = R} {After = After} law {failed = failed} {new = new} {run = run} {r
         time = (g.told t k.time).0;
         entries = (let a = k.entries in let b = g.entries in omega (arith, a, b, length-append t g.added));
       };
-      told = λ t k. (g.told t k.time).1;
+      told = λ turns t k. (g.told t k.time).1 turns;
       heard = g.heard;
     }))

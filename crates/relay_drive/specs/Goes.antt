@@ -1,6 +1,6 @@
 -- What a call of the drive does outside of the relay too: the entries that it puts, what the port vouches for, and which
 -- faults are counted.
-use Rattle.std.specs.Prelude.{◌≡◌, Bool, true, false, ◌++◌, length, Option}
+use Rattle.std.specs.Prelude.{◌≡◌, Bool, true, false, List, ◌++◌, length, Option}
 use Rattle.std.specs.List.{list_any}
 use Rattle.stream_words.specs.Faults.{Counted}
 use Rattle.ev_types.specs.declared.side.SideId.{SideId}
@@ -11,6 +11,7 @@ use Rattle.ev_types.specs.declared.entry.Entry.TheVariants as entry
 use Rattle.ev_types.specs.Sides.{same_end}
 use Rattle.ev_types.specs.Trace.{Event, Trace}
 use Rattle.ev_types.specs.Growth.{Grew}
+use Rattle.script_text.specs.Script.{TurnValue}
 use Rattle.ev_port.specs.Told.{Faults}
 use Rattle.ev_port.specs.Calls.{last_time}
 use Rattle.ev_port.specs.Counting.{counted}
@@ -44,10 +45,10 @@ pub record Heard (old new : Faults) (added : Trace) (open_failed : Bool) : Type 
 
 -- The relay does this; the entries of that are counted and stand behind the trace of the scribe. For every trace whose
 -- last time is the relay's, that stays so with these entries, and a port that vouched for the one vouches for the other.
-pub record Goes (R : State → Trace → State → Type 0) (open_failed : Bool) (old new : Run) (log log' : Option Trace) (vouched vouched' : Trace → Type 0) (faults faults' : Faults) : Type 0 where
+pub record Goes (R : State → Trace → State → Type 0) (open_failed : Bool) (old new : Run) (log log' : Option Trace) (vouched vouched' : List TurnValue → Trace → Type 0) (faults faults' : Faults) : Type 0 where
   pub added : Trace
   pub does : R old.relay.state added new.relay.state
   pub entries : counted new.entries 0 ≡ counted old.entries (length added)
   pub list : Grew log log' added
-  pub told : (t : Trace) → last_time t ≡ old.relay.state.time → (last_time (t ++ added) ≡ new.relay.state.time) × (vouched t → vouched' (t ++ added))
+  pub told : (t : Trace) → last_time t ≡ old.relay.state.time → (last_time (t ++ added) ≡ new.relay.state.time) × ((turns : List TurnValue) → vouched turns t → vouched' turns (t ++ added))
   pub heard : Heard faults faults' added open_failed

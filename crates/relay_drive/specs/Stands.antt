@@ -1,6 +1,7 @@
 -- Which traces a drive stands for, and what a turn does to them.
-use Rattle.std.specs.Prelude.{◌≡◌, Bool, ◌++◌, length, Option}
+use Rattle.std.specs.Prelude.{◌≡◌, Bool, List, ◌++◌, length, Option}
 use Rattle.ev_types.specs.Trace.{Trace}
+use Rattle.script_text.specs.Script.{TurnValue}
 use Rattle.ev_types.specs.Growth.{Grew}
 use Rattle.ev_port.specs.Told.{Faults}
 use Rattle.ev_port.specs.Calls.{last_time}
@@ -34,11 +35,11 @@ StandsBetween t s = StandsFor t Stage.Between s
 -- A turn does this with the relay, by entries that stand behind the trace of the scribe. For every trace for which the
 -- drive stood, it stands for that trace with these entries, and a port that vouched for the one vouches for the other.
 -- For every trace for which the relay stood in the model, `After` holds of that trace with these entries.
-pub record Went (R : State → Trace → State → Type 0) (After : Trace → State → Type 0) (open_failed : Bool) (old new : DriveValue) (log log' : Option Trace) (vouched vouched' : Trace → Type 0) (faults faults' : Faults) : Type 0 where
+pub record Went (R : State → Trace → State → Type 0) (After : Trace → State → Type 0) (open_failed : Bool) (old new : DriveValue) (log log' : Option Trace) (vouched vouched' : List TurnValue → Trace → Type 0) (faults faults' : Faults) : Type 0 where
   pub added : Trace
   pub does : R old.state added new.state
   pub means : (t : Trace) → StandsBetween t old.state → After (t ++ added) new.state
   pub list : Grew log log' added
   pub stands : (t : Trace) → Stands t old → Stands (t ++ added) new
-  pub told : (t : Trace) → Stands t old → vouched t → vouched' (t ++ added)
+  pub told : (turns : List TurnValue) (t : Trace) → Stands t old → vouched turns t → vouched' turns (t ++ added)
   pub heard : Heard faults faults' added open_failed

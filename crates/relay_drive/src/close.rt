@@ -1,6 +1,7 @@
 // Closing what is to be closed of each link.
 ghost use Rattle.std.specs.Prelude.{◌≡◌, ◌+◌, ◌<◌, ◌≤◌, false, true, [], ◌∷◌, length, MatchResult};
-ghost use Rattle.ev_types.specs.Growth.{Grew, Longer};
+ghost use Rattle.ev_types.specs.Growth.{Grew};
+ghost use Rattle.ev_port.specs.Vouching.{LongerBy};
 ghost use Rattle.ev_types.specs.declared.entry.Entry.{Entry as EntryValue};
 ghost use Rattle.ev_port.specs.Calls.{IsUnheard};
 ghost use Rattle.ev_port.specs.Counting.{counted};
@@ -41,8 +42,8 @@ fn put_freed<S: Scribe>(run: &mut Run, scribe: &mut S, side: SideId, cause: Caus
 
 /// Tells the port of a step of closing.
 fn tell<P: Port>(step: Closing, port: &mut P)
-    ensures vouched { Longer (P.vouches port.old) (P.vouches port.new) (told_events step) }
-    ensures unheard { (e : EntryValue) → IsUnheard e → Longer (P.vouches port.new) (P.vouches port.new) ((e, []) ∷ []) }
+    ensures vouched { LongerBy (P.vouches port.old) (P.vouches port.new) (told_events step) }
+    ensures unheard { (e : EntryValue) → IsUnheard e → LongerBy (P.vouches port.new) (P.vouches port.new) ((e, []) ∷ []) }
     ensures cause { FaultsStay (P.faults port.old) (P.faults port.new) }
 {
     match step {

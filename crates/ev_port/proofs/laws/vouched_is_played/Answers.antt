@@ -1,4 +1,4 @@
-use Rattle.std.proofs.Common.{◌≡◌, subst, sym}
+use Rattle.std.proofs.Common.{subst, sym}
 use Rattle.ev_port.specs.ScriptPlayed.{played_turns, script_played}
 use Rattle.ev_port.specs.ScriptVouched.{IsCalledFor}
 use Rattle.relay_model.specs.Script.{closing_step}
@@ -7,8 +7,9 @@ use Rattle.ev_port.proofs.ScriptVouchLemmas.{stands_if}
 use Rattle.ev_port.proofs.laws.vouched_is_played.Goals as goal
 
 pub returns : goal.returns
-returns c = λ script p t closing answer same vouches asked took ends.
-    let stands = stands_if p t vouches (subst (λ turns. IsCalledFor turns t) (sym same) asked) in record {
+returns c = λ script p t closing answer vouches asked took ends.
+    let same = vouches.0 in
+    let stands = stands_if p script.turns t vouches (subst (λ turns. IsCalledFor turns t) (sym same) asked) in record {
       answered = subst (λ turns. IsAnswered (played_turns turns) (closing_step (script_played script).settings) t) same (stands.answered (closing_step (script_played script).settings));
       took_all = took;
       turns = ends;

@@ -22,7 +22,7 @@ returns-clause-went g c =
       list = Grew-join l0 (g.S.Scribe.trace c.reserve.new.self) (g.S.Scribe.trace c.put.new.scribe) [] events c.reserve.ensures.trace (rw (time) at c.put.ensures.list);
       told = λ t e. (
         (let h = last_time-append t events in let k = ap (λ (z : State). z.time) state in omega (arith, h, e, k)),
-        λ v. subst (λ n. g.P.Port.vouches c.now.new.self (t ++ (entry.Turn n, []) ∷ [])) (ap (λ n. max n (min reading (2 ^ 62))) e) (c.now.ensures.vouched t v),
+        λ turns v. subst (λ n. g.P.Port.vouches c.now.new.self turns (t ++ (entry.Turn n, []) ∷ [])) (ap (λ n. max n (min reading (2 ^ 62))) e) (c.now.ensures.vouched turns t v),
       );
       heard = Heard-quiet (g.P.Port.faults c.args.port.now) (g.P.Port.faults c.now.new.self) events c.now.ensures.cause (λ x. refl) refl;
     }

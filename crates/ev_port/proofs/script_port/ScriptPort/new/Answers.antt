@@ -53,4 +53,4 @@ returns-clause-vouched c =
     let first = rw c.deref-lines-items.ensures.value at c.loop-lines.invariant in
     let all_links = links_done turns c.loop-lines.lines-index c.loop-lines.links _ (omega (arith, length-map c.script.inside.turns.items shown_turn, ap length c.deref-lines-items.ensures.value)) first ∙ ap (with_links (links_of xs)) c.new-links.ensures in
     let links = c.loop-lines-2.invariant.state ∙ ap (λ (l : LinksKept). l.state) all_links in
-    new_from turns _ (rw (links, c.new.ensures))
+    rw (← c.script.view_is) (new_from turns _ (rw (links, c.new.ensures)))

@@ -3,6 +3,7 @@ use Rattle.ev_port.proofs.CallLemmas.{still_brings, length-accept_first, accept_
 use Rattle.ev_port.specs.ScriptPortView.{port_state}
 use Rattle.ev_port.proofs.ScriptVouchLemmas.{call_vouched, accept_stood}
 use Rattle.ev_port.specs.ScriptPort.{after_accept}
+use Rattle.std.proofs.Common.{refl}
 use Rattle.ev_port.proofs.script_port.ScriptPortPort.accept.Goals as goal
 
 pub invariant_of-self : goal.invariant_of-self
@@ -21,4 +22,4 @@ pub returns-clause-vouched : goal.returns-clause-vouched
 returns-clause-vouched c =
     let p = port_state c.self.inside in
     rw (← c.self.view_is)
-    (call_vouched p _ (after_accept p c.args.link) _ _ (rw (c.accept-answer.ensures.after, c.count_accept.ensures, c.accept-answer.ensures.answer)) (rw c.accept-answer.ensures.answer) (accept_stood p c.args.link))
+    (call_vouched p _ (after_accept p c.args.link) _ _ (rw (c.accept-answer.ensures.after, c.count_accept.ensures, c.accept-answer.ensures.answer)) (rw c.accept-answer.ensures.answer) refl (accept_stood p c.args.link))

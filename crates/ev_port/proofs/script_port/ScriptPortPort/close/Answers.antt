@@ -20,4 +20,4 @@ returns-clause-ends c =
 pub returns-clause-vouched : goal.returns-clause-vouched
 returns-clause-vouched c =
     let p = port_state c.self.inside in
-    rw (← c.self.view_is) (call_vouched p _ (record p { links = at_end c.args.end after_close p.links }) _ _ (rw c.close.ensures) refl (close_stood p c.args.end))
+    rw (← c.self.view_is) (call_vouched p _ (record p { links = at_end c.args.end after_close p.links }) _ _ (rw c.close.ensures) refl refl (close_stood p c.args.end))

@@ -20,4 +20,4 @@ returns-clause-ends c =
 pub returns-clause-vouched : goal.returns-clause-vouched
 returns-clause-vouched c =
     let p = port_state c.self.inside in
-    rw (← c.self.view_is) (call_vouched p _ (record p { links = at_end c.args.end after_close_write p.links }) _ _ (rw c.close_write.ensures) refl (close_write_stood p c.args.end))
+    rw (← c.self.view_is) (call_vouched p _ (record p { links = at_end c.args.end after_close_write p.links }) _ _ (rw c.close_write.ensures) refl refl (close_write_stood p c.args.end))

@@ -3,6 +3,7 @@ use Rattle.ev_port.specs.ScriptLinks.{at_end}
 use Rattle.ev_port.proofs.CallLemmas.{still_brings, length-at_end, check_ends}
 use Rattle.ev_port.specs.ScriptPortView.{port_state}
 use Rattle.ev_port.proofs.ScriptVouchLemmas.{call_vouched, check_stood}
+use Rattle.std.proofs.Common.{refl}
 use Rattle.ev_port.proofs.script_port.ScriptPortPort.connect_state.Goals as goal
 
 pub invariant_of-self : goal.invariant_of-self
@@ -19,4 +20,4 @@ pub returns-clause-vouched : goal.returns-clause-vouched
 returns-clause-vouched c =
     let p = port_state c.self.inside in
     rw (← c.self.view_is)
-    (call_vouched p _ (record p { links = at_end c.args.end after_check p.links }) _ _ (rw c.connect_state.ensures.after) (rw c.connect_state.ensures.answer) (check_stood p c.args.end))
+    (call_vouched p _ (record p { links = at_end c.args.end after_check p.links }) _ _ (rw c.connect_state.ensures.after) (rw c.connect_state.ensures.answer) refl (check_stood p c.args.end))

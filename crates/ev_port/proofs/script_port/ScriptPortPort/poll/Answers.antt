@@ -20,4 +20,4 @@ returns-clause-vouched c =
     let wants = c.mark.new.wants in
     let tally = c.count_poll.new.self in
     rw (← c.self.view_is)
-    (call_vouched p _ (record p { links = after_wants wants p.links; tally = tally }) _ _ (rw c.count_wants.ensures) refl (poll_stood p c.args.wants.now wants tally c.args.timeout (c.args.accept && c.has_waiting.result) c.mark.ensures))
+    (call_vouched p _ (record p { links = after_wants wants p.links; tally = tally }) _ _ (rw c.count_wants.ensures) refl refl (poll_stood p c.args.wants.now wants tally c.args.timeout (c.args.accept && c.has_waiting.result) c.mark.ensures))

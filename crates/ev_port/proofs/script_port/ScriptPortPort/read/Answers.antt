@@ -6,6 +6,7 @@ use Rattle.ev_port.specs.ScriptPortView.{port_state}
 use Rattle.ev_port.proofs.ScriptVouchLemmas.{call_vouched, read_stood}
 use Rattle.std.proofs.Common.{[], ◌∷◌}
 use Rattle.ev_types.specs.declared.entry.Entry.TheVariants as entry
+use Rattle.std.proofs.Common.{refl}
 use Rattle.ev_port.proofs.script_port.ScriptPortPort.read.Goals as goal
 
 pub invariant_of-self : goal.invariant_of-self
@@ -26,4 +27,4 @@ returns-clause-vouched c =
     let room = length c.args.into.now in
     rw (← c.self.view_is)
     (call_vouched p _ (record p { links = at_end c.args.end (λ s. after_read s room) p.links }) _ _ (rw c.read.ensures.after)
-    (λ i. (entry.Read c.args.end (c.read.auto.into i) (c.read.ensures.answer i), c.read.ensures.bytes i) ∷ []) (read_stood p c.args.end room))
+    (λ i. (entry.Read c.args.end (c.read.auto.into i) (c.read.ensures.answer i), c.read.ensures.bytes i) ∷ []) refl (read_stood p c.args.end room))

@@ -7,4 +7,4 @@ use Rattle.ev_port.proofs.script_port.ScriptPortPort.start.Goals as goal
 pub returns-clause-vouched : goal.returns-clause-vouched
 returns-clause-vouched c =
     let p = port_state c.self.inside in
-    rw (← c.self.view_is) (call_vouched p _ (after_start p c.args.listen c.args.to) [] [] refl refl (start_stood p c.args.listen c.args.to))
+    rw (← c.self.view_is) (call_vouched p _ (after_start p c.args.listen c.args.to) [] [] refl refl refl (start_stood p c.args.listen c.args.to))

@@ -1,0 +1,109 @@
+-- The lines of a script that a text spells name links that were opened before.
+use Rattle.std.proofs.Common.{◌≡◌, ℕ, suc, ◌+◌, ◌^◌, ◌<◌, Bool, true, false, ◌&&◌, not, nat_lt, nat_le, if◌then◌else◌, List, [], ◌∷◌, ◌++◌, length, Option, Some, None, Result, Ok, Err, refl, sym, ap, subst, ◌∙◌, arith, append_assoc, append-nil, inl, inr}
+use Rattle.std.specs.Prelude.{option_and_then}
+use Rattle.std.specs.List.{list_all}
+use Rattle.std.proofs.lemmas.Bool.{and_parts}
+use Rattle.std.proofs.lemmas.Bool.Decides.{leb_tells}
+use Rattle.std.proofs.lemmas.Grind.{flat_map-append}
+use Rattle.std.proofs.lemmas.List.Sums.{sum_by-cons}
+use Rattle.ev_types.specs.Sides.{number}
+use Rattle.script_text.specs.declared.script.TurnLine.{TurnLine}
+use Rattle.script_text.specs.declared.script.TurnLine.TheVariants as line
+use Rattle.script_text.specs.declared.line.Line.{Line}
+use Rattle.script_text.specs.declared.line.Line.TheVariants as text_line
+use Rattle.script_text.specs.Script.{ScriptValue, TurnValue}
+use Rattle.script_text.specs.Pieces.{lines, words}
+use Rattle.script_text.specs.Grammar.{said}
+use Rattle.script_text.specs.Order.{turn_lines, is_opening, opened, bytes_for, is_ended, is_in, may_follow, with_line, extended}
+use Rattle.script_text.specs.Spelled.{is_plain, line_read, going_on, lines_read, no_line}
+use Rattle.ev_port.specs.ScriptLinks.{links_of}
+use Rattle.ev_port.specs.ScriptPort.{lines_of}
+use Rattle.ev_port.specs.ScriptVouched.{NamesOpened}
+use Rattle.ev_port.specs.ScriptPlays.{SpelledNamesOpened}
+use Rattle.ev_port.proofs.ScriptStandLemmas.{from_some}
+
+from_ok : (x y : ScriptValue) → ◌≡◌ {A = Result ScriptValue ℕ} (Ok x) (Ok y) → x ≡ y
+from_ok x y h = ap (λ (r : Result ScriptValue ℕ). ok_or r) h
+  where
+    ok_or : Result ScriptValue ℕ → ScriptValue
+    ok_or (Ok z) = z
+    ok_or (Err n) = x
+
+-- what a test lets through
+if_some : (b : Bool) (x y : ScriptValue) → ◌≡◌ {A = Option ScriptValue} (if b then Some x else None) (Some y) → (b ≡ true) × (x ≡ y)
+if_some true x y h = (refl, from_some x y h)
+if_some false x y h = absurd (cc)
+
+lines_same : (turns : List TurnValue) → turn_lines turns ≡ lines_of turns
+lines_same [] = refl
+lines_same (turn ∷ turns) = ap (λ z. turn.1 ++ z) (lines_same turns)
+
+opened_is : (xs : List TurnLine) → opened xs ≡ length (links_of xs)
+opened_is [] = refl
+opened_is (line.NewLink wait ∷ xs) = let rest = opened_is xs in let parts = sum_by-cons (λ x. if is_opening x then 1 else 0) (line.NewLink wait) xs in omega (arith, rest, parts)
+opened_is (line.Pending side bytes ∷ xs) = let rest = opened_is xs in let parts = sum_by-cons (λ x. if is_opening x then 1 else 0) (line.Pending side bytes) xs in omega (arith, rest, parts)
+opened_is (line.Eof side ∷ xs) = let rest = opened_is xs in let parts = sum_by-cons (λ x. if is_opening x then 1 else 0) (line.Eof side) xs in omega (arith, rest, parts)
+opened_is (line.Take side more ∷ xs) = let rest = opened_is xs in let parts = sum_by-cons (λ x. if is_opening x then 1 else 0) (line.Take side more) xs in omega (arith, rest, parts)
+
+-- one line more
+named_push : (n : ℕ) (xs : List TurnLine) (x : TurnLine) → NamesOpened n xs → NamesOpened (n + length (links_of xs)) (x ∷ []) → NamesOpened n (xs ++ x ∷ [])
+named_push n [] x h k = subst (λ m. NamesOpened m (x ∷ [])) (omega arith) k
+named_push n (line.NewLink wait ∷ xs) x h k = named_push (n + 1) xs x h (subst (λ m. NamesOpened m (x ∷ [])) (omega arith) k)
+named_push n (line.Pending side bytes ∷ xs) x h k = (h.0, named_push n xs x h.1 k)
+named_push n (line.Eof side ∷ xs) x h k = (h.0, named_push n xs x h.1 k)
+named_push n (line.Take side more ∷ xs) x h k = (h.0, named_push n xs x h.1 k)
+
+tested : (a b : ℕ) → nat_lt a b ≡ true → a < b
+tested a b h = elim (leb_tells (suc a) b) [ inl t ↦ let lt = t.1 in omega (arith, lt) | inr t ↦ absurd (let no = t.0 in cc) ]
+
+-- a line that may follow names an opened link
+follows : (xs : List TurnLine) (x : TurnLine) → may_follow xs x ≡ true → NamesOpened (opened xs) (x ∷ [])
+follows xs (line.NewLink wait) h = tt
+follows xs (line.Pending side bytes) h =
+    let some = and_parts (is_in side.side && nat_lt side.link (opened xs) && not (is_ended (number side) xs)) (nat_le (bytes_for (number side) xs + length bytes) (2 ^ 18)) h in
+    let more = and_parts (is_in side.side && nat_lt side.link (opened xs)) (not (is_ended (number side) xs)) some.0 in
+    let last = and_parts (is_in side.side) (nat_lt side.link (opened xs)) more.0 in
+    (tested side.link (opened xs) last.1, tt)
+follows xs (line.Eof side) h = (tested side.link (opened xs) (and_parts (is_in side.side) (nat_lt side.link (opened xs)) h).1, tt)
+follows xs (line.Take side more) h = (tested side.link (opened xs) (and_parts (not (is_in side.side)) (nat_lt side.link (opened xs)) h).1, tt)
+
+lines_with : (turns : List TurnValue) (x : TurnLine) → 0 < length turns → lines_of (with_line turns x) ≡ lines_of turns ++ x ∷ []
+lines_with [] x h = absurd (omega (arith, h))
+lines_with (turn ∷ []) x h = append-nil (turn.1 ++ x ∷ []) ∙ ap (λ z. z ++ x ∷ []) (sym (append-nil turn.1))
+lines_with (turn ∷ next ∷ turns) x h = ap (λ z. turn.1 ++ z) (lines_with (next ∷ turns) x (omega arith)) ∙ sym (append_assoc turn.1 (lines_of (next ∷ turns)) (x ∷ []))
+
+abbrev IsNamed : ScriptValue → Type 0
+IsNamed script = NamesOpened 0 (lines_of script.turns)
+
+extended_named : (script new : ScriptValue) (what : Line) → extended script what ≡ Some new → IsNamed script → IsNamed new
+extended_named script new (text_line.At ms) h named =
+    let more : ScriptValue = record { turns = script.turns ++ (ms, []) ∷ [] } in
+    let is : more ≡ new = (if_some (nat_lt (length script.turns) 20000) more new h).1 in
+    let same : lines_of (script.turns ++ (ms, []) ∷ []) ≡ lines_of script.turns = flat_map-append (λ (turn : TurnValue). turn.1) script.turns ((ms, []) ∷ []) ∙ append-nil (lines_of script.turns) in
+    subst IsNamed is (subst (NamesOpened 0) (sym same) named)
+extended_named script new (text_line.Within x) h named =
+    let more : ScriptValue = record { turns = with_line script.turns x } in
+    let parts = if_some (nat_lt 0 (length script.turns) && may_follow (turn_lines script.turns) x) more new h in
+    let tests = and_parts (nat_lt 0 (length script.turns)) (may_follow (turn_lines script.turns) x) parts.0 in
+    let some : 0 < length script.turns = tested 0 (length script.turns) tests.0 in
+    let follow : NamesOpened (opened (lines_of script.turns)) (x ∷ []) = follows (lines_of script.turns) x (subst (λ z. may_follow z x ≡ true) (lines_same script.turns) tests.1) in
+    let count = opened_is (lines_of script.turns) in
+    let here : NamesOpened (0 + length (links_of (lines_of script.turns))) (x ∷ []) = subst (λ m. NamesOpened m (x ∷ [])) (omega (arith, count)) follow in
+    subst IsNamed parts.1 (subst (NamesOpened 0) (sym (lines_with script.turns x some)) (named_push 0 (lines_of script.turns) x named here))
+
+line_named : (script new : ScriptValue) (plain : Bool) (what : Option Line) → ◌≡◌ {A = Option ScriptValue} (if plain then option_and_then (λ x. extended script x) what else None) (Some new) → IsNamed script → IsNamed new
+line_named script new true None h named = absurd (cc)
+line_named script new true (Some what) h named = extended_named script new what h named
+line_named script new false what h named = absurd (cc)
+
+lines_named : (ls : List (List ℕ)) (script new : ScriptValue) (before : ℕ) → lines_read script before ls ≡ Ok new → IsNamed script → IsNamed new
+lines_named [] script new before h named = subst IsNamed (from_ok script new h) named
+lines_named (l ∷ ls) script new before h named = by_line (λ longer k. lines_named ls longer new (before + 1) k) (line_read script l) refl h
+  where
+    by_line : ((longer : ScriptValue) → lines_read longer (before + 1) ls ≡ Ok new → IsNamed longer → IsNamed new) → (o : Option ScriptValue) → line_read script l ≡ o →
+        going_on o (before + 1) (λ longer. lines_read longer (before + 1) ls) ≡ Ok new → IsNamed new
+    by_line rest None is k = absurd (cc)
+    by_line rest (Some longer) is k = rest longer k (line_named script longer (list_all is_plain l) (said (words l)) is named)
+
+pub spelled_names_opened : SpelledNamesOpened
+spelled_names_opened text script h = lines_named (lines text) no_line script 0 h tt
