@@ -2,6 +2,6 @@ pub mod Lists
 pub mod ScriptLemmas
 pub mod FaultLemmas
 pub mod HeadlineLemmas
-pub mod NamesLemmas
 pub mod TurnCountLemmas
 pub mod OrderLemmas
+pub mod AnsweredLemmas

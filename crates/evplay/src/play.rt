@@ -43,7 +43,7 @@ pub fn play<S: Source, K: Sink>(
     ensures bad_script { (line : ℕ) → result ≡ Status.BadScript line → GaveBad (S.left source.old) (S.left source.new) line }
 
     // What was written is the text of a run of the script that was read, and of its report: all of it, or the part before
-    // the sink failed. With every other answer nothing was. That each answer of the port in it is the script's is not said yet.
+    // the sink failed. With every other answer nothing was.
     ensures all { result ≡ Status.Ok → PlayedAll (S.left source.old) (S.left source.new) (K.taken sink.old) (K.taken sink.new) }
     ensures part { result ≡ Status.WriteFault → PlayedPart (S.left source.old) (S.left source.new) (K.taken sink.old) (K.taken sink.new) }
     ensures unwritten { result ≢ Status.Ok → result ≢ Status.WriteFault → sink.new ≡ sink.old }

@@ -1,6 +1,8 @@
 // Makes the turns of a script over a port that answers by it, and gives the text of what happened.
 ghost use Rattle.std.specs.Prelude.{◌≡◌, ◌≤◌, length, IfOk, IfErr};
 ghost use Rattle.relay_drive.specs.declared.fault.DriveFault.TheVariants.{Memory};
+ghost use Rattle.ev_port.specs.ScriptPort.{lines_of};
+ghost use Rattle.ev_port.specs.ScriptVouched.{NamesOpened};
 ghost use Rattle.evplay.specs.Report.{lines_below};
 ghost use Rattle.evplay.specs.Play.{IsRunText, run_text};
 
@@ -12,7 +14,8 @@ use std::alloc::Global;
 
 /// The text of the trace and of the report of a run, one turn for each of the script.
 pub fn run(alloc: Global, script: Script) -> Result<Vec<u8>, DriveFault>
-    requires { length script.turns ≤ 20000 }
+    requires few { length script.turns ≤ 20000 }
+    requires names { NamesOpened 0 (lines_of script.turns) }
     ensures text { IfOk result (λ text. IsRunText script text.items) }
     ensures only_memory { IfErr result (λ fault. fault ≡ Memory) }
 {

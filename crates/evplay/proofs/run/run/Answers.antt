@@ -9,9 +9,15 @@ use Rattle.relay_meaning.proofs.LawLemmas.{new_relay_stands}
 use Rattle.relay_drive.specs.DriveValue.{DriveValue, new_drive, is_worn}
 use Rattle.relay_drive.specs.Bounds.{IsWithin, most_of_turn}
 use Rattle.relay_drive.proofs.BoundLaws.{new_drive_is_within, within_is_not_worn, went_is_bounded}
+use Rattle.relay_model.specs.Stages.{Stage, at}
+use Rattle.relay_meaning.specs.Meaning.{model_settings}
+use Rattle.ev_port.specs.ScriptPlayed.{played_turns}
+use Rattle.ev_port.specs.ScriptVouched.{IsCalledFor}
+use Rattle.evplay.proofs.AnsweredLemmas.{answered-of}
+use Rattle.evplay.proofs.OrderLemmas.{opens-in-order}
 use Rattle.evplay.proofs.FaultLemmas.{only-memory}
 use Rattle.evplay.proofs.HeadlineLemmas.{run-of}
-use Rattle.evplay.proofs.TurnCountLemmas.{turn-once, count-append}
+use Rattle.evplay.proofs.TurnCountLemmas.{turn-once, count-append, begun-is}
 use Rattle.evplay.specs.Report.{lines_below}
 use Rattle.relay_model.specs.RatesKept.{is_turn}
 use Rattle.std.specs.Prelude.{count_by}
@@ -37,6 +43,7 @@ loop-init c =
       links = c.usual.ensures.links;
       stands = record { time = refl; entries = refl };
       turns = refl;
+      vouched = c.in_ok-port.ensures.vouched;
       means = new_relay_stands u;
       within = subst (λ n. IsWithin 0 n (new_drive u)) c.usual.ensures.links (new_drive_is_within u);
     })
@@ -45,7 +52,7 @@ pub returns-in_err-turn-clause-only_memory : goal.returns-in_err-turn-clause-onl
 returns-in_err-turn-clause-only_memory c =
     let p = err_from_is_err_and c.from_residual-in_err-turn.result c.from_residual-in_err-turn.ensures.1 in
     let inv = c.loop.invariant in
-    let few : c.loop.counter < 20000 = omega (arith, c.loop-test.true, c.len-turns.ensures, c.script.inside.turns.ok.0, turns-seen c.script.inside c.args.script c.script.view_is, c.requires) in
+    let few : c.loop.counter < 20000 = omega (arith, c.loop-test.true, c.len-turns.ensures, c.script.inside.turns.ok.0, turns-seen c.script.inside c.args.script c.script.view_is, c.requires.few) in
     let w = c.in_err-turn.ensures.went inv.calm (fresh c.loop.counter c.loop.drive few inv.within) in
     rw (p.1, p.2) (only-memory _ _ _ w.added w.does w.heard)
 
@@ -53,7 +60,7 @@ pub loop-preserved : goal.loop-preserved
 loop-preserved c =
     let inv = c.loop.invariant in
     let t = c.loop.tape.trace in
-    let few : c.loop.counter < 20000 = omega (arith, c.loop-test.true, c.len-turns.ensures, c.script.inside.turns.ok.0, turns-seen c.script.inside c.args.script c.script.view_is, c.requires) in
+    let few : c.loop.counter < 20000 = omega (arith, c.loop-test.true, c.len-turns.ensures, c.script.inside.turns.ok.0, turns-seen c.script.inside c.args.script c.script.view_is, c.requires.few) in
     let w = c.in_ok-turn.ensures.went inv.calm (fresh c.loop.counter c.loop.drive few inv.within) in
     let longer : c.turn.new.scribe.trace ≡ t ++ w.added = same-trace c.turn.new.scribe.trace (t ++ w.added) w.list in
     let bounded = went_is_bounded (c.loop.counter * most_of_turn 256) 256 t inv.within inv.stands w in
@@ -63,6 +70,7 @@ loop-preserved c =
     record {
       calm = c.in_ok-turn.ensures.refusal;
       turns = rw longer counted;
+      vouched = rw longer (w.told c.args.script.turns t inv.stands inv.vouched);
       hold = rw bounded.1 inv.hold;
       links = rw bounded.1 inv.links;
       stands = rw longer (w.stands t inv.stands);
@@ -78,4 +86,10 @@ returns-clause-text c =
     let s = c.loop.drive.state in
     let all : c.loop.counter ≡ length c.args.script.turns =
     omega (arith, c.loop-test.false, c.loop.auto.counter-end, c.len-turns.ensures, c.script.inside.turns.ok.0, turns-seen c.script.inside c.args.script c.script.view_is) in
-    (t, lines_below s s.opened, run-of c.args.script t s inv.hold inv.links inv.means (inv.turns ∙ all), c.in_ok-written.ensures)
+    let called : IsCalledFor c.args.script.turns t = record {
+      lines = c.requires.names;
+      turns_left = omega (arith, begun-is (played_turns c.args.script.turns) t, inv.turns, all);
+      in_order = opens-in-order (model_settings s.settings) t (at Stage.Between inv.means.plain, inv.means.reached);
+    } in
+    let answered = answered-of c.loop.port c.args.script.turns t inv.vouched called in
+    (t, lines_below s s.opened, run-of c.args.script t s inv.hold inv.links inv.means (inv.turns ∙ all) answered, c.in_ok-written.ensures)
