@@ -16,7 +16,7 @@ turns() {
 
 # long N: a script of about N bytes whose lines are mostly spaces, so that reading it is the whole work
 long() {
-    awk -v n="$1" 'BEGIN { line = sprintf("%-1022s", "at 0"); for (i = 0; i < n / 1023; i++) print line }' | head -c "$1"
+    awk -v n="$1" 'BEGIN { line = sprintf("%-1022s", "at 0"); for (i = 1; i <= int(n / 1023); i++) print line }'
 }
 
 measure() {
