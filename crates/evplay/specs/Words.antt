@@ -1,6 +1,16 @@
 -- The words of a command line, those after the program's name.
-use Rattle.std.specs.Prelude.{◌≡◌, ℕ, List, [], ◌∷◌, codes}
+use Rattle.std.specs.Prelude.{ℕ, List, [], ◌∷◌, codes, if◌then◌else◌, Option, Some, None}
+use Rattle.std.specs.Str.{bytes_eq}
+use Rattle.evplay.specs.declared.words.Mode.{Mode}
+use Rattle.evplay.specs.declared.words.Mode.TheVariants.{Relay, Base, Buffers}
 
--- the one command that is built: to play a script of the relay
-abbrev pub AreRelayWords : List (List ℕ) → Type 0
-AreRelayWords words = words ≡ codes "relay" ∷ []
+-- the mode of a word
+abbrev pub mode_named : List ℕ → Option Mode
+mode_named word =
+    if bytes_eq word (codes "relay") then Some Relay
+    else (if bytes_eq word (codes "base") then Some Base else (if bytes_eq word (codes "buffers") then Some Buffers else None))
+
+-- the mode that words ask for: they are one mode word
+abbrev pub mode_of : List (List ℕ) → Option Mode
+mode_of (word ∷ []) = mode_named word
+mode_of _ = None
