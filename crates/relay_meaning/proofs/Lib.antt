@@ -13,3 +13,5 @@ pub mod FreeSteps
 pub mod CloseSteps
 pub mod TurnSteps
 pub mod LawLemmas
+pub mod PollLemmas
+pub mod DoneLemmas

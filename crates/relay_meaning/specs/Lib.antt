@@ -1,3 +1,5 @@
 pub mod Meaning
 pub mod Results
 pub mod Laws
+pub mod Polls
+pub mod Links

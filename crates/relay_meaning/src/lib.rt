@@ -2,6 +2,10 @@
 //! what that is worth; and the lemmas in `proofs/` keep it by each thing that a turn does.
 #![tactic(auto)]
 
+mod trace_laws;
+
+pub use trace_laws::polls_fail_as_scripted;
+
 ghost use Rattle.relay_meaning.specs.Laws.{CountsAreTold, LeftIsLegal, MeansConserved, NewRelayStands};
 
 /// Before the first turn a relay stands for the trace of no entries.
