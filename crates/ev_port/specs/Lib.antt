@@ -9,7 +9,9 @@ pub mod Counting
 pub mod Memory
 pub mod MemoryView
 pub mod ScriptState
+pub mod EndTallies
 pub mod ScriptEnds
+pub mod FailedCalls
 pub mod ScriptEndView
 pub mod ScriptLinks
 pub mod ScriptKept
@@ -18,6 +20,7 @@ pub mod ScriptPort
 pub mod ScriptTold
 pub mod ScriptPortView
 pub mod ScriptPlayed
+pub mod ScriptNow
 pub mod ScriptVouched
 pub mod ScriptLaws
 pub mod ScriptPlays

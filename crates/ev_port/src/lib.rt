@@ -3,10 +3,12 @@
 //! script and over the toolchain's streams. There is no socket here.
 #![tactic(auto)]
 
+mod end_tally;
 mod laws;
 mod memory;
 mod mute;
 mod port;
+mod port_tally;
 mod scribe;
 mod script_end;
 mod script_links;

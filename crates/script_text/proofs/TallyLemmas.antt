@@ -117,3 +117,4 @@ IsTally-counted ends before (Eof side) t ok =
     IsTally-ended ends before side t
     (number-within side ends (opened before) t.count (ltb-true side.link (opened before) (and_parts _ _ ok).1))
 IsTally-counted ends before (Take side count) t ok = IsTally-taken ends before side count t
+IsTally-counted ends before _ t ok = cc

@@ -55,6 +55,7 @@ may_follow before (Pending side bytes) =
     && nat_le (bytes_for (number side) before + length bytes) (2 ^ 18)
 may_follow before (Eof side) = is_in side.side && nat_lt side.link (opened before)
 may_follow before (Take side count) = not (is_in side.side) && nat_lt side.link (opened before)
+may_follow before _ = false
 
 -- a line more in the last turn
 abbrev pub with_line : List TurnValue → TurnLine → List TurnValue

@@ -2,7 +2,7 @@
 use Rattle.std.specs.Prelude.{◌≡◌, ℕ, ◌+◌, ◌-◌, ◌*◌, ◌^◌, min, List, [], ◌∷◌, ◌++◌, length, true, false, slice_index_or, slice_set}
 use Rattle.ev_types.specs.Sides.{number}
 use Rattle.script_text.specs.declared.script.TurnLine.{TurnLine}
-use Rattle.script_text.specs.declared.script.TurnLine.TheVariants.{NewLink, Pending, Eof, Take}
+use Rattle.script_text.specs.declared.script.TurnLine.TheVariants.{NewLink, Pending, Eof}
 use Rattle.script_text.specs.declared.tally.EndSoFar.{EndSoFar}
 use Rattle.script_text.specs.Order.{opened, bytes_for, is_ended}
 
@@ -30,4 +30,4 @@ counted ends (Pending side bytes) =
     slice_set ends (number side) (record { bytes = min (end.bytes + length bytes) (2 ^ 64 - 1); ended = end.ended })
 counted ends (Eof side) =
     let end = kept_of ends (number side) in slice_set ends (number side) (record { bytes = end.bytes; ended = true })
-counted ends (Take side count) = ends
+counted ends _ = ends

@@ -117,6 +117,7 @@ impl Reading {
             }
             TurnLine::Eof(side) => side.side == Side::In && self.is_known(*side),
             TurnLine::Take(side, _) => side.side == Side::Out && self.is_known(*side),
+            _ => false,
         }
     }
 

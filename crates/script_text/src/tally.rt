@@ -46,6 +46,6 @@ pub fn count_line(ends: &mut Vec<EndSoFar>, line: &TurnLine)
                 end.ended = true;
             }
         }
-        TurnLine::Take(..) => {}
+        _ => {}
     }
 }
