@@ -1,5 +1,7 @@
--- What a call of `play` read and wrote.
-use Rattle.std.specs.Prelude.{◌≡◌, ◌<◌, ℕ, ◌^◌, ◌-◌, min, List, ◌++◌, length, take, Option, Ok, Err}
+-- What a call of `play` read and wrote, by its status.
+use Rattle.std.specs.Prelude.{◌≡◌, ◌<◌, ℕ, ◌^◌, ◌-◌, min, ⊤, List, ◌++◌, length, take, Option, Some, None, Result, Ok, Err}
+use Rattle.ev_types.specs.declared.status.Status.{Status}
+use Rattle.ev_types.specs.declared.status.Status.TheVariants as status
 use Rattle.ev_types.specs.Trace.{Trace}
 use Rattle.stream_words.specs.Streams.{GaveAll, TookOn}
 use Rattle.script_text.specs.declared.script.LinkLine.{LinkLine}
@@ -7,30 +9,76 @@ use Rattle.script_text.specs.Script.{ScriptValue}
 use Rattle.script_text.specs.Spelled.{script_of}
 use Rattle.script_text.specs.TraceText.{trace_text}
 use Rattle.script_text.specs.ReportText.{report_text}
+use Rattle.relay_model.specs.Answers.{TurnAnswer}
+use Rattle.evplay.specs.declared.words.Mode.{Mode}
+use Rattle.evplay.specs.declared.words.Mode.TheVariants as mode
 use Rattle.evplay.specs.Headline.{IsRun}
-
--- the source gave a whole text, whose first bad line is this one; a number above 2^32 - 1 is told as that number
-abbrev pub GaveBad : Option (List ℕ) → Option (List ℕ) → ℕ → Type 0
-GaveBad old new line = (text : List ℕ) × (bad : ℕ) × GaveAll old new text × (script_of text ≡ Err bad) × (line ≡ min bad (2 ^ 32 - 1))
-
--- the source gave a whole text that spells this script
-abbrev pub Gave : ScriptValue → Option (List ℕ) → Option (List ℕ) → Type 0
-Gave script old new = (text : List ℕ) × GaveAll old new text × (script_of text ≡ Ok script)
 
 -- the text of a trace, and the report behind it
 abbrev pub run_text : Trace → List LinkLine → List ℕ
 run_text t links = trace_text t ++ report_text links
 
--- it is the text of a run of the script and its report
-abbrev pub IsRunText : ScriptValue → List ℕ → Type 0
-IsRunText script text = (t : Trace) × (links : List LinkLine) × IsRun script t links × (text ≡ run_text t links)
+-- it is the text of a run of the script that ended with this answer, and of its report
+abbrev pub IsRunText : ScriptValue → TurnAnswer → List ℕ → Type 0
+IsRunText script answer text = (t : Trace) × (links : List LinkLine) × IsRun script answer t links × (text ≡ run_text t links)
 
--- The source gave the whole text of a script, and the sink took the whole text of a run of it.
-abbrev pub PlayedAll : Option (List ℕ) → Option (List ℕ) → Option (List ℕ) → Option (List ℕ) → Type 0
-PlayedAll left now_left taken now_taken =
-    (script : ScriptValue) × (text : List ℕ) × Gave script left now_left × IsRunText script text × TookOn taken now_taken text
+-- a source text spells a script of which this is the text of a run
+abbrev pub Runs : List ℕ → TurnAnswer → List ℕ → Type 0
+Runs source answer text = (script : ScriptValue) × (script_of source ≡ Ok script) × IsRunText script answer text
+
+-- What a script of this kind comes to: this text, and this status once it is written. Only a run of the relay can end in
+-- another way than well, with a failed poll.
+abbrev pub ComesTo : Mode → List ℕ → Status → List ℕ → Type 0
+ComesTo mode.Relay source status.Ok text = Runs source TurnAnswer.Went text
+ComesTo mode.Relay source status.PollFault text = Runs source TurnAnswer.PollFault text
+ComesTo _ source _ text = ⊥
+
+-- the first line of a source text that is not in the grammar of the mode has this number
+abbrev pub IsFirstBad : Mode → List ℕ → ℕ → Type 0
+IsFirstBad mode.Relay source line = script_of source ≡ Err line
+IsFirstBad mode.Base source line = ⊥
+IsFirstBad mode.Buffers source line = ⊥
+
+-- The line is told of a text that has this one as its first bad line. A number above 2^32 - 1 is told as that number.
+abbrev pub TellsBad : Mode → List ℕ → ℕ → Type 0
+TellsBad m source told = (line : ℕ) × IsFirstBad m source line × (told ≡ min line (2 ^ 32 - 1))
+
+-- Why a text comes to nothing: it is no script, or memory ran out.
+abbrev pub Refuses : Mode → List ℕ → Status → Type 0
+Refuses m source (status.BadScript told) = TellsBad m source told
+Refuses m source status.Memory = ⊤
+Refuses m source _ = ⊥
+
+-- The source gave a whole text, and the sink took the whole text that it comes to.
+abbrev pub PlayedAll : Mode → Status → Option (List ℕ) → Option (List ℕ) → Option (List ℕ) → Option (List ℕ) → Type 0
+PlayedAll m ended left now_left taken now_taken =
+    (source : List ℕ) × (text : List ℕ) × GaveAll left now_left source × ComesTo m source ended text × TookOn taken now_taken text
 
 -- the same, but the sink took the first n bytes of the text, and not all
-abbrev pub PlayedPart : Option (List ℕ) → Option (List ℕ) → Option (List ℕ) → Option (List ℕ) → Type 0
-PlayedPart left now_left taken now_taken =
-    (script : ScriptValue) × (text : List ℕ) × (n : ℕ) × Gave script left now_left × IsRunText script text × (n < length text) × TookOn taken now_taken (take n text)
+abbrev pub PlayedPart : Mode → Option (List ℕ) → Option (List ℕ) → Option (List ℕ) → Option (List ℕ) → Type 0
+PlayedPart m left now_left taken now_taken =
+    (source : List ℕ) × (text : List ℕ) × (ended : Status) × (n : ℕ) × GaveAll left now_left source × ComesTo m source ended text
+    × (n < length text) × TookOn taken now_taken (take n text)
+
+-- the source gave a whole text whose first bad line is told
+abbrev pub GaveBad : Mode → Option (List ℕ) → Option (List ℕ) → ℕ → Type 0
+GaveBad m left now_left told = (source : List ℕ) × GaveAll left now_left source × TellsBad m source told
+
+-- What a call did, by the mode that its words ask for and by its status. Four statuses never come.
+abbrev pub Did : Mode → Status → Option (List ℕ) → Option (List ℕ) → Option (List ℕ) → Option (List ℕ) → Type 0
+Did m status.Ok left now_left taken now_taken = PlayedAll m status.Ok left now_left taken now_taken
+Did m status.PollFault left now_left taken now_taken = PlayedAll m status.PollFault left now_left taken now_taken
+Did m status.WriteFault left now_left taken now_taken = PlayedPart m left now_left taken now_taken
+Did m (status.BadScript told) left now_left taken now_taken = GaveBad m left now_left told
+Did m status.ReadFault left now_left taken now_taken = ⊤
+Did m status.TooLong left now_left taken now_taken = ⊤
+Did m status.Memory left now_left taken now_taken = ⊤
+Did m status.Usage left now_left taken now_taken = ⊥
+Did m (status.Stopped link turn) left now_left taken now_taken = ⊥
+Did m status.OpenFault left now_left taken now_taken = ⊥
+Did m status.Spent left now_left taken now_taken = ⊥
+
+-- words that ask for no mode are refused, and what a call did with the others
+abbrev pub DidWith : Option Mode → Status → Option (List ℕ) → Option (List ℕ) → Option (List ℕ) → Option (List ℕ) → Type 0
+DidWith None ended left now_left taken now_taken = ended ≡ status.Usage
+DidWith (Some m) ended left now_left taken now_taken = Did m ended left now_left taken now_taken

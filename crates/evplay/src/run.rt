@@ -5,6 +5,7 @@ ghost use Rattle.ev_port.specs.ScriptPort.{lines_of};
 ghost use Rattle.ev_port.specs.ScriptVouched.{NamesOpened};
 ghost use Rattle.evplay.specs.Report.{lines_below};
 ghost use Rattle.evplay.specs.Play.{IsRunText, run_text};
+ghost use Rattle.evplay.specs.Run.{answer_of};
 
 use ev_port::ScriptPort;
 use ev_types::{NoMemory, Tape};
@@ -12,21 +13,40 @@ use relay_drive::{Drive, DriveFault, Settings};
 use script_text::{LinkLine, Script, write_report, write_trace};
 use std::alloc::Global;
 
-/// The text of the trace and of the report of a run, one turn for each of the script.
-pub fn run(alloc: Global, script: Script) -> Result<Vec<u8>, DriveFault>
+/// How the turns of a script ended.
+///
+/// Own.
+#[derive(Clone, Copy, Debug, PartialEq, Eq)]
+pub enum RunEnd {
+    /// All of them were made.
+    Went,
+    /// A poll failed.
+    PollFailed,
+}
+
+/// The text of the trace and of the report of a run, one turn for each of the script or up to a failed poll.
+pub fn run(alloc: Global, script: Script) -> Result<(Vec<u8>, RunEnd), DriveFault>
     requires few { length script.turns ≤ 20000 }
     requires names { NamesOpened 0 (lines_of script.turns) }
-    ensures text { IfOk result (λ text. IsRunText script text.items) }
+    ensures text { IfOk result (λ ran. IsRunText script (answer_of ran.1) ran.0.items) }
     ensures only_memory { IfErr result (λ fault. fault ≡ Memory) }
 {
     let turns = script.turns.len();
     let mut port = ScriptPort::new(alloc, script)?;
     let mut tape = Tape::new(alloc);
     let mut drive = Drive::new(alloc, Settings::usual())?;
+    let mut end = RunEnd::Went;
     for _ in 0..turns {
-        drive.turn(&mut port, &mut tape)?;
+        match drive.turn(&mut port, &mut tape) {
+            Ok(_) => {}
+            Err(DriveFault::PollFault) => {
+                end = RunEnd::PollFailed;
+                break;
+            }
+            Err(fault) => return Err(fault),
+        }
     }
-    Ok(written(alloc, &tape, &drive)?)
+    Ok((written(alloc, &tape, &drive)?, end))
 }
 
 /// The text of a trace, and of the report of the drive that made it.

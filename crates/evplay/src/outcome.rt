@@ -1,0 +1,31 @@
+// What a script comes to, by its mode: the text that is to be written, and how the program ends once it is.
+ghost use Rattle.std.specs.Prelude.{◌≡◌, IfOk, IfErr};
+ghost use Rattle.evplay.specs.Play.{ComesTo, Refuses};
+
+use crate::run::{RunEnd, run};
+use crate::status::fault_status;
+use crate::words::Mode;
+use ev_types::Status;
+use script_text::{ScriptFault, read_script};
+use std::alloc::Global;
+
+/// A text, and the status with which the program ends once it is written.
+///
+/// Own.
+#[derive(Drop)]
+pub struct Outcome {
+    pub text: Vec<u8>,
+    pub status: Status,
+}
+
+/// What the script of a text comes to. A text that is no script of the mode is refused with its first bad line.
+pub fn outcome(alloc: Global, mode: Mode, text: &[u8]) -> Result<Outcome, Status>
+    ensures comes_to { IfOk result (λ outcome. ComesTo mode text.now outcome.status outcome.text.items) }
+    ensures refused { IfErr result (λ status. Refuses mode text.now status) }
+{
+    match mode {
+        Mode::Relay => relay(alloc, text),
+        Mode::Base => base(alloc, text),
+        Mode::Buffers => buffers(alloc, text),
+    }
+}
