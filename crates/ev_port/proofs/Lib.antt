@@ -4,13 +4,16 @@ pub mod LinkLemmas
 pub mod ScriptLemmas
 pub mod ToldLemmas
 pub mod CallLemmas
+pub mod FaultLemmas
 pub mod LawLemmas
 pub mod ScriptPlayedLemmas
+pub mod ScriptSaidLemmas
 pub mod ScriptStandLemmas
 pub mod ScriptTraceLemmas
 pub mod ScriptEntryLemmas
 pub mod ScriptAnswerLemmas
 pub mod ScriptSeenLemmas
 pub mod ScriptQuietLemmas
+pub mod ScriptNowLemmas
 pub mod ScriptVouchLemmas
 pub mod ScriptSpelledLemmas
