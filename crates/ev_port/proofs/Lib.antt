@@ -13,4 +13,5 @@ pub mod ScriptAnswerLemmas
 pub mod ScriptSeenLemmas
 pub mod ScriptQuietLemmas
 pub mod ScriptVouchLemmas
+pub mod ScriptWaitingLemmas
 pub mod ScriptSpelledLemmas

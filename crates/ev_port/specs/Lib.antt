@@ -19,6 +19,7 @@ pub mod ScriptTold
 pub mod ScriptPortView
 pub mod ScriptPlayed
 pub mod ScriptVouched
+pub mod Waiting
 pub mod ScriptLaws
 pub mod ScriptPlays
 pub mod ScriptUnheard
