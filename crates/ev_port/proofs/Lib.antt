@@ -16,4 +16,5 @@ pub mod ScriptSeenLemmas
 pub mod ScriptQuietLemmas
 pub mod ScriptNowLemmas
 pub mod ScriptVouchLemmas
+pub mod ScriptWaitingLemmas
 pub mod ScriptSpelledLemmas

@@ -55,7 +55,7 @@ abbrev pub StandsIf : PortState → Trace → Type 0
 StandsIf p t = IsCalledFor p.turns t → PortStands p t
 
 -- what was called for with entries at its end was called for before
-called_before : (turns : List TurnValue) (t u : Trace) → IsCalledFor turns (t ++ u) → IsCalledFor turns t
+pub called_before : (turns : List TurnValue) (t u : Trace) → IsCalledFor turns (t ++ u) → IsCalledFor turns t
 called_before turns t u asked = record {
   lines = asked.lines;
   turns_left = let parts = sum_by-append (λ x. if is_turn x then 1 else 0) t u in let few = asked.turns_left in omega (arith, parts, few);

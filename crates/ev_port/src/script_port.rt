@@ -3,6 +3,7 @@
 // all that it is told and all that it took.
 ghost use Rattle.std.specs.Prelude.{◌≡◌, ◌<◌, [], true, false, length, take, drop, map, IfOk};
 ghost use Rattle.ev_port.specs.Vouching.{LongerBy};
+ghost use Rattle.ev_port.specs.Waiting.{NothingWaits};
 ghost use Rattle.ev_port.specs.Told.{EndsWent, AllWent, PortStays, no_step};
 ghost use Rattle.ev_port.specs.Faults.{FaultsStay, EndFaults, PollFaults, ListenerFaults};
 ghost use Rattle.ev_port.specs.Calls.{Ticked, ClockRead, is_failed_start, StartedAt, is_failed_accept, accept_events, accept_step, AcceptedLink};
@@ -178,6 +179,7 @@ impl Port for ScriptPort {
         ensures ends { AllWent (ends_told self.old.links) (ends_told self.new.links) (poll_step wants.new result) }
         ensures told { PolledWith (port_told self.old) (port_told self.new) accept timeout result }
         ensures vouched { LongerBy (ScriptVouches self.old) (ScriptVouches self.new) (poll_events timeout wants.new result) }
+        ensures waiting { accept ≡ true → result ≡ Polled.Ready false → NothingWaits (ScriptVouches self.new) }
     {
         if self.links.poll_fails() {
             self.fail_poll(wants, accept, timeout);
@@ -203,6 +205,7 @@ impl Port for ScriptPort {
         ensures ends { AllWent (ends_told self.old.links) (ends_told self.new.links) (accept_step link result) }
         ensures told { AcceptedLink (port_told self.old) (port_told self.new) result }
         ensures vouched { LongerBy (ScriptVouches self.old) (ScriptVouches self.new) (accept_events link result) }
+        ensures waiting { result ≡ Accepted.NotYet → NothingWaits (ScriptVouches self.new) }
     {
         let answer = self.links.accept(link);
         self.tally.count_accept(answer);
