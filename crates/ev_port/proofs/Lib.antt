@@ -4,6 +4,7 @@ pub mod LinkLemmas
 pub mod ScriptLemmas
 pub mod ToldLemmas
 pub mod CallLemmas
+pub mod PollLemmas
 pub mod FaultLemmas
 pub mod LawLemmas
 pub mod ScriptPlayedLemmas

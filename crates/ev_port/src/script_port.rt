@@ -85,6 +85,23 @@ impl ScriptPort {
         }
     }
 
+    fn answer_poll(&mut self, wants: &mut [Want], accept: bool, timeout: Option<u64>) -> Polled
+        ensures answer { result ≡ poll_answer self.old accept }
+        ensures marks { wants.new ≡ poll_marks self.old.links wants.old }
+        ensures after { self.new ≡ after_poll self.old wants.new accept timeout (poll_answer self.old accept) }
+    {
+        if self.links.poll_fails() {
+            self.fail_poll(wants, accept, timeout);
+            self.tally.count_poll_fault();
+            return Polled::Failed;
+        }
+        let ready = accept & self.links.has_waiting();
+        self.links.mark(wants);
+        self.links.count_wants(wants);
+        self.tally.count_poll(accept, timeout, ready);
+        Polled::Ready { accept: ready }
+    }
+
     /// A poll was answered with a fault that this port doesn't count. It marks nothing.
     pub(crate) fn fail_poll(&mut self, wants: &mut [Want], accept: bool, timeout: Option<u64>)
         ensures marks { wants.new ≡ map unmarked wants.old }
@@ -181,18 +198,7 @@ impl Port for ScriptPort {
         ensures vouched { LongerBy (ScriptVouches self.old) (ScriptVouches self.new) (poll_events timeout wants.new result) }
         ensures waiting { accept ≡ true → result ≡ Polled.Ready false → NothingWaits (ScriptVouches self.new) }
     {
-        if self.links.poll_fails() {
-            self.fail_poll(wants, accept, timeout);
-            self.tally.count_poll_fault();
-            return Polled::Failed;
-        }
-        let accept_ready = accept & self.links.has_waiting();
-        self.links.mark(wants);
-        self.links.count_wants(wants);
-        self.tally.count_poll(accept, timeout, accept_ready);
-        Polled::Ready {
-            accept: accept_ready,
-        }
+        self.answer_poll(wants, accept, timeout)
     }
 
     fn accept(&mut self, link: u32) -> Accepted
