@@ -41,17 +41,20 @@ lines_same (turn ∷ turns) = ap (λ z. turn.1 ++ z) (lines_same turns)
 opened_is : (xs : List TurnLine) → opened xs ≡ length (links_of xs)
 opened_is [] = refl
 opened_is (line.NewLink wait ∷ xs) = let rest = opened_is xs in let parts = sum_by-cons (λ x. if is_opening x then 1 else 0) (line.NewLink wait) xs in omega (arith, rest, parts)
-opened_is (line.Pending side bytes ∷ xs) = let rest = opened_is xs in let parts = sum_by-cons (λ x. if is_opening x then 1 else 0) (line.Pending side bytes) xs in omega (arith, rest, parts)
-opened_is (line.Eof side ∷ xs) = let rest = opened_is xs in let parts = sum_by-cons (λ x. if is_opening x then 1 else 0) (line.Eof side) xs in omega (arith, rest, parts)
-opened_is (line.Take side more ∷ xs) = let rest = opened_is xs in let parts = sum_by-cons (λ x. if is_opening x then 1 else 0) (line.Take side more) xs in omega (arith, rest, parts)
+opened_is (x ∷ xs) = let rest = opened_is xs in let parts = sum_by-cons (λ y. if is_opening y then 1 else 0) x xs in omega (arith, rest, parts)
 
 -- one line more
 named_push : (n : ℕ) (xs : List TurnLine) (x : TurnLine) → NamesOpened n xs → NamesOpened (n + length (links_of xs)) (x ∷ []) → NamesOpened n (xs ++ x ∷ [])
 named_push n [] x h k = subst (λ m. NamesOpened m (x ∷ [])) (omega arith) k
 named_push n (line.NewLink wait ∷ xs) x h k = named_push (n + 1) xs x h (subst (λ m. NamesOpened m (x ∷ [])) (omega arith) k)
 named_push n (line.Pending side bytes ∷ xs) x h k = (h.0, named_push n xs x h.1 k)
+named_push n (line.Conn link connected ∷ xs) x h k = (h.0, named_push n xs x h.1 k)
 named_push n (line.Eof side ∷ xs) x h k = (h.0, named_push n xs x h.1 k)
+named_push n (line.ReadFail side ∷ xs) x h k = (h.0, named_push n xs x h.1 k)
 named_push n (line.Take side more ∷ xs) x h k = (h.0, named_push n xs x h.1 k)
+named_push n (line.WriteFail side ∷ xs) x h k = (h.0, named_push n xs x h.1 k)
+named_push n (line.Spur side ∷ xs) x h k = (h.0, named_push n xs x h.1 k)
+named_push n (line.PollFail ∷ xs) x h k = named_push n xs x h k
 
 tested : (a b : ℕ) → nat_lt a b ≡ true → a < b
 tested a b h = elim (leb_tells (suc a) b) [ inl t ↦ let lt = t.1 in omega (arith, lt) | inr t ↦ absurd (let no = t.0 in cc) ]
@@ -66,6 +69,7 @@ follows xs (line.Pending side bytes) h =
     (tested side.link (opened xs) last.1, tt)
 follows xs (line.Eof side) h = (tested side.link (opened xs) (and_parts (is_in side.side) (nat_lt side.link (opened xs)) h).1, tt)
 follows xs (line.Take side more) h = (tested side.link (opened xs) (and_parts (not (is_in side.side)) (nat_lt side.link (opened xs)) h).1, tt)
+follows xs _ h = absurd (cc)
 
 lines_with : (turns : List TurnValue) (x : TurnLine) → 0 < length turns → lines_of (with_line turns x) ≡ lines_of turns ++ x ∷ []
 lines_with [] x h = absurd (omega (arith, h))

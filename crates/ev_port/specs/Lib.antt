@@ -22,6 +22,7 @@ pub mod ScriptPortView
 pub mod ScriptPlayed
 pub mod ScriptNow
 pub mod ScriptVouched
+pub mod Waiting
 pub mod ScriptLaws
 pub mod ScriptPlays
 pub mod ScriptUnheard

@@ -1,7 +1,8 @@
 // The port: it reaches the connections. An end is the outside connection of a side.
-ghost use Rattle.std.specs.Prelude.{◌≡◌, ◌<◌, length, [], ◌∷◌, true};
+ghost use Rattle.std.specs.Prelude.{◌≡◌, ◌<◌, length, [], ◌∷◌, true, false};
 ghost use Rattle.ev_types.specs.Trace.{Trace};
 ghost use Rattle.ev_port.specs.Vouching.{LongerBy};
+ghost use Rattle.ev_port.specs.Waiting.{NothingWaits};
 ghost use Rattle.ev_types.specs.declared.side.SideId.{SideId};
 ghost use Rattle.ev_port.specs.Told.{EndTold, PortTold, Faults, EndsWent, AllWent, PortStays, no_step};
 ghost use Rattle.ev_port.specs.Faults.{FaultsStay, EndFaults, PollFaults, ListenerFaults};
@@ -104,14 +105,20 @@ pub trait Port {
         ensures cause { PollFaults (faults self.old) (faults self.new) (is_failed_poll result) }
         ensures ends { AllWent (ends self.old) (ends self.new) (poll_step wants.new result) }
         ensures told { PolledWith (told self.old) (told self.new) accept timeout result }
-        ensures vouched { LongerBy (vouches self.old) (vouches self.new) (poll_events timeout wants.new result) };
+        ensures vouched { LongerBy (vouches self.old) (vouches self.new) (poll_events timeout wants.new result) }
+
+        // Where it was asked for links and is ready for none, no link waits.
+        ensures waiting { accept ≡ true → result ≡ Polled.Ready false → NothingWaits (vouches self.new) };
 
     /// Takes a waiting connection as the In end of this link, and makes its Out end.
     fn accept(&mut self, link: u32) -> Accepted
         ensures cause { ListenerFaults (faults self.old) (faults self.new) (is_failed_accept result) }
         ensures ends { AllWent (ends self.old) (ends self.new) (accept_step link result) }
         ensures told { AcceptedLink (told self.old) (told self.new) result }
-        ensures vouched { LongerBy (vouches self.old) (vouches self.new) (accept_events link result) };
+        ensures vouched { LongerBy (vouches self.old) (vouches self.new) (accept_events link result) }
+
+        // Where it found none, no link waits.
+        ensures waiting { result ≡ Accepted.NotYet → NothingWaits (vouches self.new) };
 
     /// Whether an end that was not connected is connected by now.
     fn connect_state(&mut self, end: SideId) -> ConnAnswer

@@ -378,7 +378,16 @@ pub(crate) fn unmark(wants: &mut [Want])
     ensures { wants.new ≡ map unmarked wants.old }
 {
     for want in wants.iter_mut() {
-        want.can_read = false;
-        want.can_write = false;
+        *want = unmarked(*want);
+    }
+}
+
+fn unmarked(want: Want) -> Want
+    ensures { result ≡ unmarked want }
+{
+    Want {
+        can_read: false,
+        can_write: false,
+        ..want
     }
 }

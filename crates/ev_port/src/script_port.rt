@@ -3,6 +3,7 @@
 // all that it is told and all that it took.
 ghost use Rattle.std.specs.Prelude.{◌≡◌, ◌<◌, [], true, false, length, take, drop, map, IfOk};
 ghost use Rattle.ev_port.specs.Vouching.{LongerBy};
+ghost use Rattle.ev_port.specs.Waiting.{NothingWaits};
 ghost use Rattle.ev_port.specs.Told.{EndsWent, AllWent, PortStays, no_step};
 ghost use Rattle.ev_port.specs.Faults.{FaultsStay, EndFaults, PollFaults, ListenerFaults};
 ghost use Rattle.ev_port.specs.Calls.{Ticked, ClockRead, is_failed_start, StartedAt, is_failed_accept, accept_events, accept_step, AcceptedLink};
@@ -82,6 +83,23 @@ impl ScriptPort {
         } else {
             self.links.enter(None);
         }
+    }
+
+    fn answer_poll(&mut self, wants: &mut [Want], accept: bool, timeout: Option<u64>) -> Polled
+        ensures answer { result ≡ poll_answer self.old accept }
+        ensures marks { wants.new ≡ poll_marks self.old.links wants.old }
+        ensures after { self.new ≡ after_poll self.old wants.new accept timeout (poll_answer self.old accept) }
+    {
+        if self.links.poll_fails() {
+            self.fail_poll(wants, accept, timeout);
+            self.tally.count_poll_fault();
+            return Polled::Failed;
+        }
+        let ready = accept & self.links.has_waiting();
+        self.links.mark(wants);
+        self.links.count_wants(wants);
+        self.tally.count_poll(accept, timeout, ready);
+        Polled::Ready { accept: ready }
     }
 
     /// A poll was answered with a fault that this port doesn't count. It marks nothing.
@@ -178,19 +196,9 @@ impl Port for ScriptPort {
         ensures ends { AllWent (ends_told self.old.links) (ends_told self.new.links) (poll_step wants.new result) }
         ensures told { PolledWith (port_told self.old) (port_told self.new) accept timeout result }
         ensures vouched { LongerBy (ScriptVouches self.old) (ScriptVouches self.new) (poll_events timeout wants.new result) }
+        ensures waiting { accept ≡ true → result ≡ Polled.Ready false → NothingWaits (ScriptVouches self.new) }
     {
-        if self.links.poll_fails() {
-            self.fail_poll(wants, accept, timeout);
-            self.tally.count_poll_fault();
-            return Polled::Failed;
-        }
-        let accept_ready = accept & self.links.has_waiting();
-        self.links.mark(wants);
-        self.links.count_wants(wants);
-        self.tally.count_poll(accept, timeout, accept_ready);
-        Polled::Ready {
-            accept: accept_ready,
-        }
+        self.answer_poll(wants, accept, timeout)
     }
 
     fn accept(&mut self, link: u32) -> Accepted
@@ -203,6 +211,7 @@ impl Port for ScriptPort {
         ensures ends { AllWent (ends_told self.old.links) (ends_told self.new.links) (accept_step link result) }
         ensures told { AcceptedLink (port_told self.old) (port_told self.new) result }
         ensures vouched { LongerBy (ScriptVouches self.old) (ScriptVouches self.new) (accept_events link result) }
+        ensures waiting { result ≡ Accepted.NotYet → NothingWaits (ScriptVouches self.new) }
     {
         let answer = self.links.accept(link);
         self.tally.count_accept(answer);
