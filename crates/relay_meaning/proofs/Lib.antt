@@ -15,3 +15,4 @@ pub mod TurnSteps
 pub mod LawLemmas
 pub mod PollLemmas
 pub mod DoneLemmas
+pub mod LinkLemmas
