@@ -53,17 +53,17 @@ in-or-out e = go e.side refl
 -- The order of closing
 
 -- both sides of a link are to be looked at for being done, at once or behind the end of writing at one of them
-abbrev JoinsNext : ℕ → List CloseStep → Type 0
+abbrev pub JoinsNext : ℕ → List CloseStep → Type 0
 JoinsNext k (CloseStep.BothDone n ∷ cs) = n ≡ k
 JoinsNext k (CloseStep.EndWriting e ∷ CloseStep.BothDone n ∷ cs) = (e.link ≡ k) × (n ≡ k)
 JoinsNext k _ = ⊥
 
-abbrev Ordered : List CloseStep → Type 0
+abbrev pub Ordered : List CloseStep → Type 0
 Ordered [] = ⊤
 Ordered (CloseStep.EndWriting e ∷ cs) = JoinsNext e.link cs × Ordered cs
 Ordered (c ∷ cs) = Ordered cs
 
-abbrev OrderedAt : Stage → Type 0
+abbrev pub OrderedAt : Stage → Type 0
 OrderedAt (Closing cs) = Ordered cs
 OrderedAt _ = ⊤
 
@@ -93,12 +93,12 @@ open-ordered _ h = tt
 
 -- At the stage of a turn
 
-abbrev IsJoining : ℕ → Stage → Type 0
+abbrev pub IsJoining : ℕ → Stage → Type 0
 IsJoining k (Closing cs) = JoinsNext k cs
 IsJoining k _ = ⊥
 
 -- the Out side of a link is to be freed as done next
-abbrev IsOutNext : ℕ → Stage → Type 0
+abbrev pub IsOutNext : ℕ → Stage → Type 0
 IsOutNext k (Closing (CloseStep.OutDone n ∷ cs)) = n ≡ k
 IsOutNext k _ = ⊥
 

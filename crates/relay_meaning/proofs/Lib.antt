@@ -15,4 +15,5 @@ pub mod TurnSteps
 pub mod LawLemmas
 pub mod PollLemmas
 pub mod DoneLemmas
+pub mod CalmLemmas
 pub mod LinkLemmas
