@@ -17,3 +17,5 @@ pub mod PollLemmas
 pub mod DoneLemmas
 pub mod CalmLemmas
 pub mod LinkLemmas
+pub mod UntimedLemmas
+pub mod FreeLemmas

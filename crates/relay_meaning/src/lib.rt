@@ -4,7 +4,7 @@
 
 mod trace_laws;
 
-pub use trace_laws::{links_are_told, polls_fail_as_scripted};
+pub use trace_laws::{frees_are_for, links_are_told, polls_fail_as_scripted};
 
 ghost use Rattle.relay_meaning.specs.Laws.{CountsAreTold, LeftIsLegal, MeansConserved, NewRelayStands};
 

@@ -1,4 +1,5 @@
 // What the traces tell that a relay and a script have in common.
+ghost use Rattle.relay_meaning.specs.Frees.{FreesAreFor};
 ghost use Rattle.relay_meaning.specs.Links.{LinksAreTold};
 ghost use Rattle.relay_meaning.specs.Polls.{PollsFailAsScripted};
 
@@ -12,4 +13,10 @@ pub fn polls_fail_as_scripted()
 /// freed as done, and else it is gone.
 pub fn links_are_told()
     ensures { LinksAreTold }
+{}
+
+/// With no hooks, timeouts and filters a side is freed for one of three causes: writing was ended at both sides of its link, its
+/// end failed in this turn, or its peer was freed and all that was moved from there was given to it.
+pub fn frees_are_for()
+    ensures { FreesAreFor }
 {}
