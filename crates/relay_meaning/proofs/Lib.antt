@@ -18,4 +18,5 @@ pub mod DoneLemmas
 pub mod CalmLemmas
 pub mod LinkLemmas
 pub mod UntimedLemmas
+pub mod FlowOrder
 pub mod FreeLemmas
