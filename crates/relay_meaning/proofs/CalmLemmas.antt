@@ -15,8 +15,8 @@ use Rattle.ev_types.specs.declared.why.Why.TheVariants as why
 use Rattle.ev_types.specs.declared.entry.Entry.TheVariants as entry
 use Rattle.ev_types.specs.Trace.{Event, Trace}
 use Rattle.relay_model.specs.Settings as model
-use Rattle.relay_model.specs.Due.{batch, without_due}
-use Rattle.relay_model.specs.Plain.{Plain, Timer, side_at, change_side, all_sides}
+use Rattle.relay_model.specs.Due.{Due, batch, without_due}
+use Rattle.relay_model.specs.Plain.{Plain, Timer, side_at, change_side, freed, without_timer, all_sides}
 use Rattle.relay_model.specs.Past.{Past, past}
 use Rattle.relay_model.specs.Rooms.{Want, wants, input_length, output_length}
 use Rattle.relay_model.specs.Reasons.{raise, raise_read, raise_write, happened, timeout_flag}
@@ -40,81 +40,88 @@ IsCalm (Freeing gone x rs) = ⊥
 IsCalm (Over (Halt.StoppedBy link)) = ⊥
 IsCalm _ = ⊤
 
+-- what waits for its time or its turn
+abbrev pub waiting : Plain → List Timer × List Due
+waiting s = (s.timers, s.due)
+
 pub record Calm (s : State) : Type 0 where
   pub stage : IsCalm s.stage
-  pub due : s.plain.due ≡ []
+  pub waiting : waiting s.plain ≡ ([], [])
 
--- What stays due
+-- What waits stays
 
 module _ (set : Settings) where
   abbrev g : model.Settings
   g = model_settings set
 
-  due-fold : {X : Type 0} (step : Plain → X → Plain) → ((s : Plain) (x : X) → (step s x).due ≡ s.due) → (s : Plain) (xs : List X) → (fold step s xs).due ≡ s.due
-  due-fold step h s [] = refl
-  due-fold step h s (x ∷ xs) = due-fold step h (step s x) xs ∙ h s x
+  waits-fold : {X : Type 0} (step : Plain → X → Plain) → ((s : Plain) (x : X) → waiting (step s x) ≡ waiting s) → (s : Plain) (xs : List X) → waiting (fold step s xs) ≡ waiting s
+  waits-fold step h s [] = refl
+  waits-fold step h s (x ∷ xs) = waits-fold step h (step s x) xs ∙ h s x
 
-  due-timed : (p : Past) (e : SideId) (s : Plain) (d : Dir) → (timed g p e s d).due ≡ s.due
-  due-timed p e s d = go (not ((side_at s e).live && nat_le 1 (timeout_of (side_at s e) d))) (not (wants g p s e d)) (nat_le (timeout_of (side_at s e) d) (s.time - last_activity (side_at s e) d))
+  waits-timed : (p : Past) (e : SideId) (s : Plain) (d : Dir) → waiting (timed g p e s d) ≡ waiting s
+  waits-timed p e s d = go (not ((side_at s e).live && nat_le 1 (timeout_of (side_at s e) d))) (not (wants g p s e d)) (nat_le (timeout_of (side_at s e) d) (s.time - last_activity (side_at s e) d))
     where
-      go : (a b c : Bool) → (if a then s
+      go : (a b c : Bool) → waiting (if a then s
           else (if b then change_side e (active_at s.time d) s
-          else (if c then raise g e (happened d timeout_flag) (change_side e (expire d) s) else s))).due ≡ s.due
+          else (if c then raise g e (happened d timeout_flag) (change_side e (expire d) s) else s))) ≡ waiting s
       go true b c = refl
       go false true c = refl
       go false false true = refl
       go false false false = refl
 
-  due-passed : (p : Past) (s : Plain) → (time_passed g p s).due ≡ s.due
-  due-passed p s =
-      due-fold (side_timed g p) (λ z e. due-fold (timed g p e) (λ y d. due-timed p e y d) z both_ways) (timers_taken g s) (all_sides s)
-      ∙ due-fold (λ (state : Plain) (x : Timer). raise g x.side why.Timer state) (λ z x. refl) (record s { timers = filter (λ x. nat_lt s.time x.deadline) s.timers }) (by_deadline (filter (λ x. nat_le x.deadline s.time) s.timers))
+  waits-passed : (p : Past) (s : Plain) → waiting (time_passed g p s) ≡ (filter (λ x. nat_lt s.time x.deadline) s.timers, s.due)
+  waits-passed p s =
+      waits-fold (side_timed g p) (λ z e. waits-fold (timed g p e) (λ y d. waits-timed p e y d) z both_ways) (timers_taken g s) (all_sides s)
+      ∙ waits-fold (λ (state : Plain) (x : Timer). raise g x.side why.Timer state) (λ z x. refl) (record s { timers = filter (λ x. nat_lt s.time x.deadline) s.timers }) (by_deadline (filter (λ x. nat_le x.deadline s.time) s.timers))
 
-  due-raise_read : (p : Past) (e : SideId) (s : Plain) → (raise_read g p e s).due ≡ s.due
-  due-raise_read p e s = go (nat_le (side_at s e).marks.read_low (input_length g p s e))
+  waits-raise_read : (p : Past) (e : SideId) (s : Plain) → waiting (raise_read g p e s) ≡ waiting s
+  waits-raise_read p e s = go (nat_le (side_at s e).marks.read_low (input_length g p s e))
     where
-      go : (b : Bool) → (if b then raise g e why.Read s else s).due ≡ s.due
+      go : (b : Bool) → waiting (if b then raise g e why.Read s else s) ≡ waiting s
       go true = refl
       go false = refl
 
-  due-raise_write : (p : Past) (e : SideId) (s : Plain) → (raise_write g p e s).due ≡ s.due
-  due-raise_write p e s = go (nat_le (output_length g p s e) (side_at s e).marks.write_low)
+  waits-raise_write : (p : Past) (e : SideId) (s : Plain) → waiting (raise_write g p e s) ≡ waiting s
+  waits-raise_write p e s = go (nat_le (output_length g p s e) (side_at s e).marks.write_low)
     where
-      go : (b : Bool) → (if b then raise g e why.Write s else s).due ≡ s.due
+      go : (b : Bool) → waiting (if b then raise g e why.Write s else s) ≡ waiting s
       go true = refl
       go false = refl
 
-  due-conn : (e : SideId) (answer : ConnAnswer) (s : Plain) → (after_conn g e answer s).due ≡ s.due
-  due-conn e conn.Connected s = refl
-  due-conn e conn.Pending s = refl
-  due-conn e conn.Failed s = refl
+  waits-conn : (e : SideId) (answer : ConnAnswer) (s : Plain) → waiting (after_conn g e answer s) ≡ waiting s
+  waits-conn e conn.Connected s = refl
+  waits-conn e conn.Pending s = refl
+  waits-conn e conn.Failed s = refl
 
-  due-read : (e : SideId) (answer : ReadAnswer) (s : Plain) → (after_read g e answer s).due ≡ s.due
-  due-read e (read.Got n) s = refl
-  due-read e read.Ended s = refl
-  due-read e read.NotYet s = refl
-  due-read e read.Failed s = refl
+  waits-read : (e : SideId) (answer : ReadAnswer) (s : Plain) → waiting (after_read g e answer s) ≡ waiting s
+  waits-read e (read.Got n) s = refl
+  waits-read e read.Ended s = refl
+  waits-read e read.NotYet s = refl
+  waits-read e read.Failed s = refl
 
-  due-write : (p : Past) (e : SideId) (answer : WriteAnswer) (s : Plain) → (after_write g p e answer s).due ≡ s.due
-  due-write p e (write.Took n) s = due-raise_write p e _
-  due-write p e write.NotYet s = refl
-  due-write p e write.Failed s = refl
-  due-write p e write.NoMemory s = refl
+  waits-write : (p : Past) (e : SideId) (answer : WriteAnswer) (s : Plain) → waiting (after_write g p e answer s) ≡ waiting s
+  waits-write p e (write.Took n) s = waits-raise_write p e _
+  waits-write p e write.NotYet s = refl
+  waits-write p e write.Failed s = refl
+  waits-write p e write.NoMemory s = refl
 
-  due-part : (p : Past) (e : SideId) (x : Part) (s : Plain) → (do_part g p e x s).due ≡ s.due
-  due-part p e Part.Hold s = refl
-  due-part p e Part.Read s = refl
-  due-part p e Part.Move s = refl
-  due-part p e Part.Write s = refl
-  due-part p e Part.Drain s = refl
+  waits-part : (p : Past) (e : SideId) (x : Part) (s : Plain) → waiting (do_part g p e x s) ≡ waiting s
+  waits-part p e Part.Hold s = refl
+  waits-part p e Part.Read s = refl
+  waits-part p e Part.Move s = refl
+  waits-part p e Part.Write s = refl
+  waits-part p e Part.Drain s = refl
 
-  due-closed : (c : CloseStep) (s : Plain) → s.due ≡ [] → (closed_by c s).due ≡ []
-  due-closed (CloseStep.Faulty e) s h = ap (without_due e) h
-  due-closed (CloseStep.EndWriting e) s h = h
-  due-closed (CloseStep.BothDone k) s h = ap (without_due (record { link = k; side = In })) h
-  due-closed (CloseStep.OutDone k) s h = ap (without_due (record { link = k; side = Out })) h
-  due-closed (CloseStep.PeerGone e) s h = ap (without_due e) h
-  due-closed (CloseStep.Shut e) s h = h
+  waits-freed : (e : SideId) (s : Plain) → waiting s ≡ ([], []) → waiting (freed e s) ≡ ([], [])
+  waits-freed e s h = ap (λ z. (without_timer e z.0, without_due e z.1)) h
+
+  waits-closed : (c : CloseStep) (s : Plain) → waiting s ≡ ([], []) → waiting (closed_by c s) ≡ ([], [])
+  waits-closed (CloseStep.Faulty e) s h = waits-freed e s h
+  waits-closed (CloseStep.EndWriting e) s h = h
+  waits-closed (CloseStep.BothDone k) s h = waits-freed (record { link = k; side = In }) s h
+  waits-closed (CloseStep.OutDone k) s h = waits-freed (record { link = k; side = Out }) s h
+  waits-closed (CloseStep.PeerGone e) s h = waits-freed e s h
+  waits-closed (CloseStep.Shut e) s h = h
 
   -- Steps
 
@@ -125,41 +132,41 @@ module _ (set : Settings) where
   calm-reading side read.Failed left = tt
 
   put-calm : (t : Trace) (s : Plain) (x : Stage) (y : Event) (new : State) → PutKind g t s x y new → Puts g t x s y.0 y.1 new → Calm (at x s) → Calm new
-  put-calm t s x y new (PutKind.turned {ms = ms} a b) put h = record { stage = tt; due = due-passed (past g (t ++ (entry.Turn ms, []) ∷ [])) (turned_to ms s) ∙ h.due }
-  put-calm t s x y new PutKind.polled put h = record { stage = tt; due = h.due }
-  put-calm t s x y new (PutKind.wanted a) put h = record { stage = tt; due = h.due }
-  put-calm t s x y new PutKind.poll_failed put h = record { stage = tt; due = h.due }
-  put-calm t s x y new (PutKind.readied a) put h = record { stage = tt; due = h.due }
-  put-calm t s x y new PutKind.opened put h = record { stage = tt; due = h.due }
-  put-calm t s x y new (PutKind.checked {side = side} {answer = answer} a) put h = record { stage = tt; due = due-conn side answer s ∙ h.due }
-  put-calm t s x y new (PutKind.was_read {side = side} {answer = answer} left a b) put h = record { stage = calm-reading side answer left; due = due-read side answer s ∙ h.due }
-  put-calm t s x y new (PutKind.written {side = side} {answer = answer} a b c) put h = record { stage = tt; due = due-write (past g t) side answer s ∙ h.due }
+  put-calm t s x y new (PutKind.turned {ms = ms} a b) put h = record { stage = tt; waiting = waits-passed (past g (t ++ (entry.Turn ms, []) ∷ [])) (turned_to ms s) ∙ ap (λ z. (filter (λ x. nat_lt ms x.deadline) z.0, z.1)) h.waiting }
+  put-calm t s x y new PutKind.polled put h = record { stage = tt; waiting = h.waiting }
+  put-calm t s x y new (PutKind.wanted a) put h = record { stage = tt; waiting = h.waiting }
+  put-calm t s x y new PutKind.poll_failed put h = record { stage = tt; waiting = h.waiting }
+  put-calm t s x y new (PutKind.readied a) put h = record { stage = tt; waiting = h.waiting }
+  put-calm t s x y new PutKind.opened put h = record { stage = tt; waiting = h.waiting }
+  put-calm t s x y new (PutKind.checked {side = side} {answer = answer} a) put h = record { stage = tt; waiting = waits-conn side answer s ∙ h.waiting }
+  put-calm t s x y new (PutKind.was_read {side = side} {answer = answer} left a b) put h = record { stage = calm-reading side answer left; waiting = waits-read side answer s ∙ h.waiting }
+  put-calm t s x y new (PutKind.written {side = side} {answer = answer} a b c) put h = record { stage = tt; waiting = waits-write (past g t) side answer s ∙ h.waiting }
   put-calm t s x y new (PutKind.fired a) put h = absurd (subst (λ z. Puts g t (Dispatching z) s y.0 y.1 new) h.stage put)
   put-calm t s x y new (PutKind.frees a same) put h = absurd h.stage
   put-calm t s x y new (PutKind.asked same k l) put h = absurd h.stage
   put-calm t s x y new PutKind.recorded put h = absurd h.stage
-  put-calm t s x y new (PutKind.closed {c = c} a) put h = record { stage = tt; due = due-closed c s h.due }
+  put-calm t s x y new (PutKind.closed {c = c} a) put h = record { stage = tt; waiting = waits-closed c s h.waiting }
 
   quiet-calm : (t : Trace) (x : Stage) (s : Plain) (new : State) → Quietly g t x s new → Calm (at x s) → Calm new
-  quiet-calm t (Wanting []) s new h k = subst Calm (sym h) (record { stage = tt; due = k.due })
-  quiet-calm t (Marking (w ∷ ws) marks) s new h k = subst Calm (sym h) (record { stage = tt; due = k.due })
-  quiet-calm t (Marking [] marks) s new h k = subst Calm (sym h) (record { stage = tt; due = k.due })
-  quiet-calm t (Accepting n marks) s new h k = subst Calm (sym h) (record { stage = tt; due = k.due })
-  quiet-calm t (Serving (m ∷ ms)) s new h k = subst Calm (sym h.1) (record { stage = tt; due = k.due })
-  quiet-calm t (Filtering e ms) s new h k = subst Calm (sym h) (record { stage = tt; due = due-raise_read (past g t) e _ ∙ k.due })
-  quiet-calm t (Serving []) s new h k = subst Calm (sym h) (record { stage = ap batch k.due; due = refl })
-  quiet-calm t (Dispatching []) s new h k = subst Calm (sym h) (record { stage = tt; due = k.due })
-  quiet-calm t (Passing [] (e ∷ es)) s new (inl h) k = subst Calm (sym h.1) (record { stage = tt; due = k.due })
-  quiet-calm t (Passing [] (e ∷ es)) s new (inr h) k = subst Calm (sym h) (record { stage = tt; due = k.due })
-  quiet-calm t (Passing (x ∷ xs) (e ∷ es)) s new h k = subst Calm (sym h) (record { stage = tt; due = due-part (past g t) e x s ∙ k.due })
-  quiet-calm t (Passing [] []) s new h k = subst Calm (sym h) (record { stage = tt; due = k.due })
-  quiet-calm t (Closing (c ∷ cs)) s new h k = subst Calm (sym h.1) (record { stage = tt; due = k.due })
-  quiet-calm t (Closing []) s new h k = subst Calm (sym h) (record { stage = tt; due = k.due })
+  quiet-calm t (Wanting []) s new h k = subst Calm (sym h) (record { stage = tt; waiting = k.waiting })
+  quiet-calm t (Marking (w ∷ ws) marks) s new h k = subst Calm (sym h) (record { stage = tt; waiting = k.waiting })
+  quiet-calm t (Marking [] marks) s new h k = subst Calm (sym h) (record { stage = tt; waiting = k.waiting })
+  quiet-calm t (Accepting n marks) s new h k = subst Calm (sym h) (record { stage = tt; waiting = k.waiting })
+  quiet-calm t (Serving (m ∷ ms)) s new h k = subst Calm (sym h.1) (record { stage = tt; waiting = k.waiting })
+  quiet-calm t (Filtering e ms) s new h k = subst Calm (sym h) (record { stage = tt; waiting = waits-raise_read (past g t) e _ ∙ k.waiting })
+  quiet-calm t (Serving []) s new h k = subst Calm (sym h) (record { stage = ap (λ z. batch z.1) k.waiting; waiting = ap (λ z. (z.0, [])) k.waiting })
+  quiet-calm t (Dispatching []) s new h k = subst Calm (sym h) (record { stage = tt; waiting = k.waiting })
+  quiet-calm t (Passing [] (e ∷ es)) s new (inl h) k = subst Calm (sym h.1) (record { stage = tt; waiting = k.waiting })
+  quiet-calm t (Passing [] (e ∷ es)) s new (inr h) k = subst Calm (sym h) (record { stage = tt; waiting = k.waiting })
+  quiet-calm t (Passing (x ∷ xs) (e ∷ es)) s new h k = subst Calm (sym h) (record { stage = tt; waiting = waits-part (past g t) e x s ∙ k.waiting })
+  quiet-calm t (Passing [] []) s new h k = subst Calm (sym h) (record { stage = tt; waiting = k.waiting })
+  quiet-calm t (Closing (c ∷ cs)) s new h k = subst Calm (sym h.1) (record { stage = tt; waiting = k.waiting })
+  quiet-calm t (Closing []) s new h k = subst Calm (sym h) (record { stage = tt; waiting = k.waiting })
   quiet-calm t (Firing x rs) s new h k = absurd k.stage
   quiet-calm t _ s new h k = absurd h
 
   pub calm : (t : Trace) (s : State) → Reaches g t s → Calm s
-  calm t s Reaches.begins = record { stage = tt; due = refl }
+  calm t s Reaches.begins = record { stage = tt; waiting = refl }
   calm t new (Reaches.goes {t = u} {s = old} r h) = quiet-calm u old.stage old.plain new h (calm u old r)
   calm t new (Reaches.puts {t = u} {s = old} e bytes r h) =
       put-calm u old.plain old.stage (e, bytes) new (put-kind g u old.stage old.plain e bytes new (kept g u old r).placed h) h (calm u old r)

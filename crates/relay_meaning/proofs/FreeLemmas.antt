@@ -71,14 +71,14 @@ put-unasked g t s x y new (PutKind.asked same k l) h = absurd h
 put-unasked g t s x y new PutKind.recorded h = refl
 put-unasked g t s x y new (PutKind.closed {c = c} {e = e} a) h = closed-unasked g (past g t) s c e (closed-kind g (past g t) s c e a)
 
-unasked : (set : Settings) (t : Trace) → IsLegal (model_settings set) t → (before after : Trace) (y : Event) → t ≡ before ++ y ∷ after → is_ask y ≡ false
+pub unasked : (set : Settings) (t : Trace) → IsLegal (model_settings set) t → (before after : Trace) (y : Event) → t ≡ before ++ y ∷ after → is_ask y ≡ false
 unasked set t legal before after y is =
     let k = there (model_settings set) t legal.0 legal.1 before y after is in
     put-unasked (model_settings set) before k.old.plain k.old.stage y k.new k.kind (calm set before k.old k.reached).stage
 
 -- No side times out, and no place is bad
 
-untimely : (x : PlainSide) (d : Dir) → x.timeouts ≡ no_timeouts → 1 ≤ timeout_of x d → ⊥
+pub untimely : (x : PlainSide) (d : Dir) → x.timeouts ≡ no_timeouts → 1 ≤ timeout_of x d → ⊥
 untimely x dir.Read h le = let none = ap (λ z. z.read_ms) h in absurd (omega (arith, none, le))
 untimely x dir.Write h le = let none = ap (λ z. z.write_ms) h in absurd (omega (arith, none, le))
 
@@ -167,5 +167,5 @@ frees_are_for set t before after e why moved given bytes legal is = go why is (f
         let k = there (model_settings set) t legal.0 legal.1 before (entry.Freed e cause.PeerGone moved given, bytes) after is in
         (h.0, gone-given set before k.old.plain k.old.stage _ k.new k.reached k.kind e moved given refl)
     go cause.Hook is h = no_ask h.early h.me (act.Free e) ask.Ok (entry.Freed e cause.Hook moved given, bytes) h.is is
-    go cause.Timeout is h = let o = h.3 in untimely (side_at o.before e) o.dir (untimed set o.early (at Between o.before) o.reached e) o.overdue.has_timeout
+    go cause.Timeout is h = let o = h.3 in untimely (side_at o.before e) o.dir (ap (λ z. z.0) (untimed set o.early (at Between o.before) o.reached e)) o.overdue.has_timeout
     go (cause.Filter place) is h = no_bad_place set before h.0 e place h.4

@@ -1,5 +1,5 @@
--- Where no timeouts are set, no side ever has one: by induction over the steps.
-use Rattle.std.proofs.Common.{◌≡◌, ℕ, zero, suc, ◌+◌, ◌-◌, ◌<◌, ◌≤◌, Bool, true, false, ◌&&◌, not, nat_le, if◌then◌else◌, List, [], ◌∷◌, ◌++◌, length, None, ◌⊎◌, inl, inr, refl, sym, ◌∙◌, ap, subst, arith, slice_index_or}
+-- Where no timeouts and limits are set, no side ever has one: by induction over the steps.
+use Rattle.std.proofs.Common.{◌≡◌, ℕ, zero, suc, ◌+◌, ◌-◌, ◌<◌, ◌≤◌, Bool, true, false, ◌&&◌, not, nat_le, if◌then◌else◌, List, [], ◌∷◌, ◌++◌, length, Option, None, ◌⊎◌, inl, inr, refl, sym, ◌∙◌, ap, subst, arith, slice_index_or}
 use Rattle.std.proofs.lemmas.Bool.{cases_lt}
 use Rattle.std.proofs.lemmas.List.{get_or_append_left, get_or-append-add}
 use Rattle.token_bucket.specs.declared.limit.Dir.{Dir}
@@ -17,7 +17,7 @@ use Rattle.ev_types.specs.Sides.{number, peer}
 use Rattle.ev_types.specs.Trace.{Event, Trace}
 use Rattle.relay_model.specs.Settings as model
 use Rattle.relay_model.specs.Settings.{Timeouts, no_timeouts}
-use Rattle.relay_model.specs.Plain.{Plain, PlainSide, no_side, new_side, with_link, side_at, change_side, freed, all_sides}
+use Rattle.relay_model.specs.Plain.{Plain, PlainSide, Standing, no_side, new_side, with_link, side_at, change_side, freed, all_sides}
 use Rattle.relay_model.specs.Past.{Past, past}
 use Rattle.relay_model.specs.Rooms.{wants}
 use Rattle.relay_model.specs.Reasons.{raise, happened, timeout_flag}
@@ -36,11 +36,15 @@ use Rattle.relay_core.specs.declared.settings.Settings.{Settings}
 use Rattle.relay_meaning.specs.Meaning.{model_settings}
 use Rattle.relay_meaning.proofs.CalmLemmas.{IsCalm, calm}
 
-abbrev set_of : PlainSide → Timeouts
-set_of x = x.timeouts
+-- what is set for a side that nothing may change but an ask
+abbrev pub set_of : PlainSide → Timeouts × Option Standing
+set_of x = (x.timeouts, x.limit)
+
+abbrev pub nothing_set : Timeouts × Option Standing
+nothing_set = (no_timeouts, None)
 
 abbrev pub Untimed : Plain → Type 0
-Untimed s = (e : SideId) → (side_at s e).timeouts ≡ no_timeouts
+Untimed s = (e : SideId) → set_of (side_at s e) ≡ nothing_set
 
 abbrev Stays : Plain → Plain → Type 0
 Stays s new = Keeps set_of s new
@@ -126,12 +130,12 @@ module _ (set : Settings) where
       two : List PlainSide
       two = new_side g s.time s.turn In true ∷ new_side g s.time s.turn Out connected ∷ []
 
-      late : (m : ℕ) → set_of (slice_index_or two m no_side) ≡ no_timeouts
+      late : (m : ℕ) → set_of (slice_index_or two m no_side) ≡ nothing_set
       late zero = refl
       late (suc zero) = refl
       late (suc (suc m)) = refl
 
-      go : (number e < length s.sides) ⊎ (length s.sides ≤ number e) → set_of (slice_index_or (s.sides ++ two) (number e) no_side) ≡ no_timeouts
+      go : (number e < length s.sides) ⊎ (length s.sides ≤ number e) → set_of (slice_index_or (s.sides ++ two) (number e) no_side) ≡ nothing_set
       go (inl lt) = ap set_of (get_or_append_left s.sides two no_side (number e) lt) ∙ h e
       go (inr ge) =
           let m : ℕ = number e - length s.sides in
