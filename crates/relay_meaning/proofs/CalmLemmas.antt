@@ -1,6 +1,6 @@
 -- Where no side has a hook, nothing is ever due: no hook runs, nothing is asked and no side is freed by a hook. By induction over
 -- the steps.
-use Rattle.std.proofs.Common.{◌≡◌, ℕ, ◌+◌, ◌-◌, Bool, true, false, ◌&&◌, not, nat_le, nat_lt, if◌then◌else◌, List, [], ◌∷◌, ◌++◌, fold, ◌⊎◌, inl, inr, refl, sym, ◌∙◌, ap, subst}
+use Rattle.std.proofs.Common.{◌≡◌, ◌-◌, Bool, true, false, ◌&&◌, not, nat_le, nat_lt, if◌then◌else◌, List, [], ◌∷◌, ◌++◌, fold, inl, inr, refl, sym, ◌∙◌, ap, subst}
 use Rattle.std.specs.Prelude.{⊤, filter}
 use Rattle.token_bucket.specs.declared.limit.Dir.{Dir}
 use Rattle.ev_types.specs.declared.side.Side.TheVariants.{In, Out}
@@ -22,9 +22,9 @@ use Rattle.relay_model.specs.Rooms.{Want, wants, input_length, output_length}
 use Rattle.relay_model.specs.Reasons.{raise, raise_read, raise_write, happened, timeout_flag}
 use Rattle.relay_model.specs.Moments.{timeout_of, last_activity, active_at, expire, by_deadline, both_ways, timers_taken, timed, side_timed, time_passed}
 use Rattle.relay_model.specs.Round.{Part, do_part}
-use Rattle.relay_model.specs.Serve.{after_conn, after_read, after_got, after_write}
+use Rattle.relay_model.specs.Serve.{after_conn, after_read, after_write}
 use Rattle.relay_model.specs.Close.{CloseStep, closed_by}
-use Rattle.relay_model.specs.Stages.{Stage, Halt, State, at, Between, Polling, Wanting, Marking, Accepting, Serving, Filtering, Dispatching, Firing, Freeing, Passing, Closing, Over}
+use Rattle.relay_model.specs.Stages.{Stage, Halt, State, at, Wanting, Marking, Accepting, Serving, Filtering, Dispatching, Firing, Freeing, Passing, Closing, Over}
 use Rattle.relay_model.specs.Turn.{turned_to, after_reading, Puts, Quietly, Reaches}
 use Rattle.relay_model.specs.Told.{is_freeing}
 use Rattle.relay_model.proofs.KindLemmas.{PutKind, put-kind}

@@ -1,40 +1,34 @@
 -- Where writing was ended at both sides of a link, closing frees both as done, and nothing comes between: by induction over the
 -- steps.
-use Rattle.std.proofs.Common.{◌≡◌, ℕ, zero, suc, ◌+◌, ◌*◌, ◌<◌, ◌≤◌, Bool, true, false, ◌&&◌, ◌||◌, not, if◌then◌else◌, List, [], ◌∷◌, ◌++◌, length, Option, Some, None, ◌⊎◌, inl, inr, refl, sym, ◌∙◌, ap, subst, arith}
+use Rattle.std.proofs.Common.{◌≡◌, ℕ, zero, suc, ◌+◌, ◌<◌, ◌≤◌, Bool, true, false, ◌&&◌, ◌||◌, not, if◌then◌else◌, List, [], ◌∷◌, ◌++◌, Some, None, ◌⊎◌, inl, inr, refl, sym, ◌∙◌, ap, subst, arith}
 use Rattle.std.specs.Prelude.{⊤}
-use Rattle.std.specs.List.{list_any}
-use Rattle.std.proofs.lemmas.Bool.{and_from, and_parts, or_cases, or_parts, or_from, or_left, or_right, not-true, cases_lt}
+use Rattle.std.proofs.lemmas.Bool.{and_from, and_parts, or_cases, or_from, or_left, or_right, cases_lt}
 use Rattle.ev_types.specs.declared.side.Side.{Side}
 use Rattle.ev_types.specs.declared.side.Side.TheVariants.{In, Out}
 use Rattle.ev_types.specs.declared.side.SideId.{SideId}
 use Rattle.ev_types.specs.declared.why.Cause.TheVariants as cause
-use Rattle.ev_types.specs.declared.answer.ReadAnswer.{ReadAnswer}
-use Rattle.ev_types.specs.declared.answer.ReadAnswer.TheVariants as read
 use Rattle.ev_types.specs.declared.entry.Entry.{Entry}
 use Rattle.ev_types.specs.declared.entry.Entry.TheVariants as entry
 use Rattle.ev_types.specs.Sides.{peer, same_end}
 use Rattle.ev_types.specs.Trace.{Event, Trace}
-use Rattle.relay_model.specs.Trace.{write_closed_by, is_write_closed}
+use Rattle.relay_model.specs.Trace.{write_closed_by}
 use Rattle.relay_model.specs.Settings.{Settings}
 use Rattle.relay_model.specs.Plain.{Plain, side_at, is_live}
 use Rattle.relay_model.specs.Past.{Past, past}
-use Rattle.relay_model.specs.Close.{CloseStep, closing_from, closing_entry, entry_where, freed_entry, is_complete, steps_left, closed_by}
-use Rattle.relay_model.specs.Stages.{Stage, Halt, State, at, Between, Polling, Wanting, Marking, Accepting, Serving, Filtering, Dispatching, Firing, Freeing, Passing, Closing, Over}
-use Rattle.relay_model.specs.Turn.{after_reading, after_fire, Quietly, Reaches, IsLegal}
-use Rattle.relay_model.specs.Told.{freed_by, is_freed, is_freeing}
-use Rattle.relay_model.specs.Causes.{HasCause}
-use Rattle.relay_model.proofs.EndLemmas.{same_end-eq, same_end-refl, peer-peer}
+use Rattle.relay_model.specs.Close.{CloseStep, closing_from, closing_entry, entry_where, freed_entry, is_complete, steps_left}
+use Rattle.relay_model.specs.Stages.{Stage, Halt, State, Wanting, Marking, Accepting, Serving, Filtering, Dispatching, Firing, Passing, Closing, Over}
+use Rattle.relay_model.specs.Turn.{after_reading, Quietly, Reaches}
+use Rattle.relay_model.specs.Told.{freed_by, is_freeing}
+use Rattle.relay_model.proofs.EndLemmas.{same_end-eq, same_end-refl}
 use Rattle.relay_model.proofs.KeepsLemmas.{Keeps-side}
-use Rattle.relay_model.proofs.SeenLemmas.{Seen, seen, but_bad}
+use Rattle.relay_model.proofs.SeenLemmas.{seen, but_bad}
 use Rattle.relay_model.proofs.EffectLemmas.{SideEffect, Effect}
 use Rattle.relay_model.proofs.StepLemmas.{put-effect}
-use Rattle.relay_model.proofs.StageLemmas.{Silent, quiet-silent}
+use Rattle.relay_model.proofs.StageLemmas.{quiet-silent}
 use Rattle.relay_model.proofs.KindLemmas.{ClosedKind, closed-kind, PutKind, put-kind}
 use Rattle.relay_model.proofs.CloseCases.{where_parts}
-use Rattle.relay_model.proofs.FireLemmas.{is_open_stage, reading-open, any-split}
+use Rattle.relay_model.proofs.FireLemmas.{is_open_stage, reading-open}
 use Rattle.relay_model.proofs.ToldLemmas.{kept, list_any-push}
-use Rattle.relay_model.proofs.HeldLemmas.{held}
-use Rattle.relay_model.proofs.CauseLemmas.{frees_have_causes}
 use Rattle.relay_meaning.specs.Links.{done_by, is_done}
 
 abbrev pub in_of : ℕ → SideId

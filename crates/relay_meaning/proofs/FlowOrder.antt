@@ -1,6 +1,6 @@
 -- Where no filter changes anything, the four counts of a direction stay in order over what was read: by induction over the steps of
 -- a legal trace.
-use Rattle.std.proofs.Common.{◌≡◌, ℕ, zero, suc, ◌+◌, ◌-◌, ◌/◌, ◌<◌, ◌≤◌, min, Bool, true, false, ◌&&◌, ◌||◌, ◌==◌, not, nat_le, if◌then◌else◌, List, [], ◌∷◌, ◌++◌, length, take, drop, Option, None, Some, refl, sym, ◌∙◌, ap, subst, arith, slice_index_or, length-append, length-drop, length-take-le}
+use Rattle.std.proofs.Common.{◌≡◌, ℕ, zero, suc, ◌+◌, ◌-◌, ◌≤◌, min, Bool, true, false, ◌&&◌, ◌||◌, ◌==◌, not, nat_le, if◌then◌else◌, List, [], ◌∷◌, ◌++◌, length, take, drop, Option, None, Some, refl, sym, ◌∙◌, ap, subst, arith, slice_index_or, length-append, length-drop, length-take-le}
 use Rattle.std.specs.Prelude.{slice_set, nat_lt, filter, fold}
 use Rattle.std.proofs.lemmas.List.{get_or-set_other}
 use Rattle.ev_types.specs.declared.side.SideId.{SideId}
@@ -16,18 +16,18 @@ use Rattle.ev_types.specs.Sides.{number, peer, same_end}
 use Rattle.ev_types.specs.Trace.{Event, Trace}
 use Rattle.relay_model.specs.Trace.{read_by, bytes_read}
 use Rattle.relay_model.specs.Filter.{Filter, filter_of}
-use Rattle.relay_model.specs.Flow.{Flow, no_flow, middle, outcome, output, raw_output}
+use Rattle.relay_model.specs.Flow.{Flow, no_flow, middle, output, raw_output}
 use Rattle.relay_model.specs.Conserved.{all_moved}
 use Rattle.relay_model.specs.Settings as model
 use Rattle.relay_model.specs.Plain.{Plain, side_at, flow_at, put_flow, change_side, change_flow, with_link, Timer, all_sides}
 use Rattle.relay_model.specs.Past.{Past, past}
-use Rattle.relay_model.specs.Rooms.{read_kind, write_kind, read_filter, write_filter, may_write, write_room, within_rates, wants, at_most, share, allowance, most_at_once, raw_output_at}
+use Rattle.relay_model.specs.Rooms.{read_kind, read_filter, write_filter, may_write, write_room, within_rates, wants, at_most, share, allowance, most_at_once, raw_output_at}
 use Rattle.relay_model.specs.Reasons.{raise, happened, timeout_flag}
 use Rattle.relay_model.specs.Moments.{timeout_of, last_activity, active_at, expire, by_deadline, both_ways, timers_taken, timed, side_timed, time_passed}
-use Rattle.relay_model.specs.Pass.{first_from, is_over, read_stops, with_used, with_moved, with_held, write_stops, with_turned, with_write_done}
+use Rattle.relay_model.specs.Pass.{first_from, is_over, read_stops, with_used, with_moved, write_stops, with_turned, with_write_done}
 use Rattle.relay_model.specs.Round.{Part, read_run, write_run, do_part}
 use Rattle.relay_model.specs.Serve.{CarriesTook, after_got, after_write}
-use Rattle.relay_model.specs.Stages.{Stage, State, at}
+use Rattle.relay_model.specs.Stages.{Stage, State}
 use Rattle.relay_model.specs.Turn.{turned_to, Reaches}
 use Rattle.relay_model.proofs.EndLemmas.{same_end-eq, number-apart}
 use Rattle.relay_model.proofs.TraceLemmas.{bytes_read-push}

@@ -1,5 +1,5 @@
 -- Why sides are freed where there are no hooks, no timeouts and no filters.
-use Rattle.std.proofs.Common.{◌≡◌, ℕ, ◌+◌, ◌-◌, ◌<◌, ◌≤◌, Bool, true, false, ◌||◌, List, [], ◌∷◌, ◌++◌, length, take, drop, Some, None, ◌⊎◌, inl, inr, refl, sym, ◌∙◌, ap, subst, arith, length-drop, length-take-le, append_assoc, if◌then◌else◌, Option}
+use Rattle.std.proofs.Common.{◌≡◌, ℕ, ◌-◌, ◌≤◌, Bool, true, false, List, [], ◌∷◌, ◌++◌, length, take, Some, None, inl, inr, refl, sym, ◌∙◌, ap, subst, arith, length-drop, length-take-le, append_assoc, if◌then◌else◌, Option}
 use Rattle.std.specs.Prelude.{All, option_map}
 use Rattle.token_bucket.specs.declared.limit.Dir.{Dir}
 use Rattle.token_bucket.specs.declared.limit.Dir.TheVariants as dir
@@ -17,18 +17,18 @@ use Rattle.ev_types.specs.declared.entry.Entry.TheVariants as entry
 use Rattle.ev_types.specs.Sides.{peer}
 use Rattle.ev_types.specs.Trace.{Event, Trace}
 use Rattle.relay_model.specs.Trace.{bytes_read, moved_at_free}
-use Rattle.relay_model.specs.Filter.{Filter, filter_of}
+use Rattle.relay_model.specs.Filter.{filter_of}
 use Rattle.relay_model.specs.Flow.{Flow, output}
 use Rattle.relay_model.specs.Settings as model
 use Rattle.relay_model.specs.Settings.{no_timeouts}
 use Rattle.relay_model.specs.Plain.{Plain, PlainSide, side_at, flow_at}
 use Rattle.relay_model.specs.Past.{Past, past}
-use Rattle.relay_model.specs.Rooms.{read_kind, write_kind, read_filter, write_filter, output_at, raw_output_at, output_length}
+use Rattle.relay_model.specs.Rooms.{read_kind, write_kind, output_at, output_length}
 use Rattle.relay_model.specs.Moments.{timeout_of}
-use Rattle.relay_model.specs.Close.{CloseStep, fault, closing_entry}
+use Rattle.relay_model.specs.Close.{CloseStep, fault}
 use Rattle.relay_model.specs.Stages.{Stage, State, at, Between}
 use Rattle.relay_model.specs.Turn.{Reaches, IsLegal}
-use Rattle.relay_model.specs.Causes.{TimedOut, IsFirstBad, IsBadPlace, HasCause}
+use Rattle.relay_model.specs.Causes.{IsFirstBad, IsBadPlace, HasCause}
 use Rattle.relay_model.proofs.TotalLemmas.{frees_tell_totals}
 use Rattle.relay_model.proofs.CauseLemmas.{frees_have_causes}
 use Rattle.relay_model.proofs.QuietLemmas.{there}
@@ -36,7 +36,7 @@ use Rattle.relay_model.proofs.KindLemmas.{ClosedKind, closed-kind, PutKind}
 use Rattle.relay_core.specs.declared.settings.Settings.{Settings}
 use Rattle.relay_meaning.specs.Meaning.{model_settings}
 use Rattle.relay_meaning.specs.Frees.{IsFreedFor, FreesAreFor}
-use Rattle.relay_meaning.proofs.RoomLemmas.{plainly, read_kind-none, write_kind-none, output-none}
+use Rattle.relay_meaning.proofs.RoomLemmas.{read_kind-none, write_kind-none, output-none}
 use Rattle.relay_meaning.proofs.CalmLemmas.{IsCalm, calm}
 use Rattle.relay_meaning.proofs.UntimedLemmas.{untimed}
 use Rattle.relay_meaning.proofs.FlowOrder.{AllInOrder, raw_output-length, in_order}

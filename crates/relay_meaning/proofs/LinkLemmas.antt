@@ -1,11 +1,10 @@
 -- What a link came to is what the frees of a trace tell.
-use Rattle.std.proofs.Common.{◌≡◌, ℕ, zero, suc, ◌+◌, ◌<◌, ◌≤◌, Bool, true, false, ◌&&◌, ◌||◌, not, if◌then◌else◌, [], ◌∷◌, ◌++◌, count_by, refl, sym, ◌∙◌, ap, subst, arith}
+use Rattle.std.proofs.Common.{◌≡◌, ℕ, zero, suc, ◌+◌, ◌<◌, ◌≤◌, Bool, true, false, ◌&&◌, ◌||◌, not, if◌then◌else◌, [], ◌∷◌, ◌++◌, count_by, refl, sym, ◌∙◌, ap, arith}
 use Rattle.std.specs.List.{list_any}
 use Rattle.std.proofs.lemmas.Bool.{and_from, and_parts, or_left}
 use Rattle.std.proofs.lemmas.List.Folds.{list_any-append}
 use Rattle.std.proofs.Math.Bool.{or-false}
 use Rattle.ev_types.specs.declared.side.SideId.{SideId}
-use Rattle.ev_types.specs.declared.status.LinkState.{LinkState}
 use Rattle.ev_types.specs.declared.status.LinkState.TheVariants as state
 use Rattle.ev_types.specs.declared.why.Cause.TheVariants as cause
 use Rattle.ev_types.specs.declared.entry.Entry.TheVariants as entry
@@ -17,19 +16,17 @@ use Rattle.relay_model.specs.Plain as plain
 use Rattle.relay_model.specs.Plain.{Plain, is_live}
 use Rattle.relay_model.specs.Close.{CloseStep}
 use Rattle.relay_model.specs.Stages.{Stage, State as ModelState, at, Closing}
-use Rattle.relay_model.specs.Turn.{Reaches, IsLegal}
-use Rattle.relay_model.specs.Told.{is_freed, is_freeing, SideTold}
+use Rattle.relay_model.specs.Turn.{Reaches}
+use Rattle.relay_model.specs.Told.{is_freed, is_freeing}
 use Rattle.relay_model.specs.Totals.{is_opened, opened}
 use Rattle.relay_model.specs.TurnLaws as law
-use Rattle.relay_model.specs.Causes.{HasCause}
 use Rattle.relay_model.proofs.EndLemmas.{same_end-eq}
 use Rattle.relay_model.proofs.ToldLemmas.{Kept, kept}
-use Rattle.relay_model.proofs.FireLemmas.{any-split}
 use Rattle.relay_model.proofs.HeldLemmas.{DoneReady, held}
 use Rattle.relay_model.proofs.CauseLemmas.{frees_have_causes}
 use Rattle.relay_core.specs.State.{State, flags_at}
 use Rattle.relay_core.specs.Closing.{in_side, out_side}
-use Rattle.relay_core.specs.Counting.{link_state, link_count, is_open, open_below}
+use Rattle.relay_core.specs.Counting.{link_count, is_open, open_below}
 use Rattle.relay_meaning.specs.Meaning.{model_settings, StandsFor}
 use Rattle.relay_meaning.specs.Links.{done_by, is_done, lives_in, link_state_in, living_below, LinksAre, LinksAreTold}
 use Rattle.relay_meaning.proofs.DoneLemmas.{IsOutNext, Ended, joined}
