@@ -1,3 +1,4 @@
+mod Examples
 pub mod Pieces
 pub mod StraightLemmas
 pub mod EndLemmas
@@ -15,3 +16,10 @@ pub mod TurnSteps
 pub mod LawLemmas
 pub mod PollLemmas
 pub mod DoneLemmas
+pub mod CalmLemmas
+pub mod LinkLemmas
+pub mod SideInvariants
+pub mod UntimedLemmas
+pub mod FlowOrder
+pub mod FreeLemmas
+pub mod EventLemmas

@@ -3,3 +3,4 @@ pub mod Results
 pub mod Laws
 pub mod Polls
 pub mod Links
+pub mod Frees

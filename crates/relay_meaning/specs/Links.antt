@@ -40,7 +40,7 @@ living_below t (suc n) = living_below t n + (if lives_in t n then 1 else 0)
 
 -- A relay has as many links as a trace opens. Each came to what the trace says, and as many live.
 pub record LinksAre (t : Trace) (s : State) : Type 0 where
-  pub opened : s.opened ≡ opened t
+  pub links : s.opened ≡ opened t
   pub each : (link : ℕ) → link < opened t → (link_count s link).state ≡ link_state_in t link
   pub living : open_below s s.opened ≡ living_below t (opened t)
 

@@ -4,9 +4,9 @@
 
 mod trace_laws;
 
-pub use trace_laws::polls_fail_as_scripted;
-
 ghost use Rattle.relay_meaning.specs.Laws.{CountsAreTold, LeftIsLegal, MeansConserved, NewRelayStands};
+
+pub use trace_laws::{frees_are_for, links_are_told, polls_fail_as_scripted};
 
 /// Before the first turn a relay stands for the trace of no entries.
 pub fn a_new_relay_stands()

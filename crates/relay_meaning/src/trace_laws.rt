@@ -1,8 +1,22 @@
 // What the traces tell that a relay and a script have in common.
+ghost use Rattle.relay_meaning.specs.Frees.{FreesAreFor};
+ghost use Rattle.relay_meaning.specs.Links.{LinksAreTold};
 ghost use Rattle.relay_meaning.specs.Polls.{PollsFailAsScripted};
 
 /// A turn's poll fails exactly where a line of the script says so, and nothing follows it. So a run ends with a failed poll
 /// exactly where a turn that was begun has such a line, but for want of memory before that poll.
 pub fn polls_fail_as_scripted()
     ensures { PollsFailAsScripted }
+{}
+
+/// A relay has the links that a trace opens. A link lives until both of its sides were freed; then it is done where both were
+/// freed as done, and else it is gone.
+pub fn links_are_told()
+    ensures { LinksAreTold }
+{}
+
+/// With no hooks, timeouts and filters a side is freed for one of three causes: writing was ended at both sides of its link, its
+/// end failed in this turn, or its peer was freed and all that was moved from there was given to it.
+pub fn frees_are_for()
+    ensures { FreesAreFor }
 {}
