@@ -7,7 +7,6 @@ use Rattle.ev_types.specs.declared.filter.FilterKind.{FilterKind}
 use Rattle.ev_types.specs.declared.filter.FilterKind.TheVariants as kind
 use Rattle.ev_types.specs.Sides.{peer, other}
 use Rattle.ev_types.specs.Trace.{Trace}
-use Rattle.std.specs.Prelude.{count_by}
 use Rattle.script_text.specs.declared.script.LinkLine.{LinkLine}
 use Rattle.script_text.specs.Script.{ScriptValue}
 use Rattle.relay_model.specs.Trace.{bytes_read, bytes_given, has_ended, is_write_closed}
@@ -18,11 +17,12 @@ use Rattle.relay_model.specs.Settings.{usual}
 use Rattle.relay_model.specs.Plain.{Plain}
 use Rattle.relay_model.specs.Rooms.{read_kind, write_kind, read_filter, write_filter}
 use Rattle.relay_model.specs.Stages.{Stage}
-use Rattle.relay_model.specs.Answers.{TurnAnswer, EndsWith}
+use Rattle.relay_model.specs.Answers.{TurnAnswer, LeftAt, EndsWith}
 use Rattle.relay_model.specs.Stands.{AllAccounted}
-use Rattle.relay_model.specs.RatesKept.{is_turn}
-use Rattle.relay_model.specs.Plays.{IsAnswered}
-use Rattle.ev_port.specs.ScriptPlayed.{played_turns}
+use Rattle.relay_model.specs.Totals.{opened}
+use Rattle.relay_model.specs.Plays.{Plays}
+use Rattle.relay_model.specs.Script.{closing_step}
+use Rattle.ev_port.specs.ScriptPlayed.{script_played, played_turns}
 use Rattle.relay_model.proofs.StandsLawLemmas.{bytes_given_begin, closed_is_whole}
 use Rattle.relay_core.specs.declared.settings.Settings.{Settings}
 use Rattle.relay_core.specs.State.{State}
@@ -30,6 +30,8 @@ use Rattle.relay_core.specs.Closing.{in_side, out_side}
 use Rattle.relay_core.specs.Counting.{link_count}
 use Rattle.relay_meaning.specs.Meaning.{StandsFor, model_settings}
 use Rattle.relay_meaning.proofs.LawLemmas.{means_conserved, counts_are_told}
+use Rattle.relay_meaning.proofs.LinkLemmas.{links_are_told}
+use Rattle.relay_meaning.proofs.PollLemmas.{polls_fail_as_scripted}
 use Rattle.evplay.specs.Headline.{IsRun, TellsLink, TellsLinks}
 use Rattle.evplay.specs.Report.{link_line, lines_below}
 
@@ -79,7 +81,9 @@ tells-below t x s k (suc n) h =
     let near = counts_are_told t x s k (in_side n) (omega (arith, h)) in
     let far = counts_are_told t x s k (out_side n) (omega (arith, h)) in
     let at : 0 + length (lines_below s n) ≡ n = omega (arith, length-lines_below s n) in
-    let told : TellsLink t n (link_line (link_count s n)) = record { in_read = near.0; in_given = near.1; out_read = far.0; out_given = far.1 } in
+    let links = links_are_told t x s k in
+    let below : n < opened t = omega (arith, h, links.links) in
+    let told : TellsLink t n (link_line (link_count s n)) = record { state = links.each n below; in_read = near.0; in_given = near.1; out_read = far.0; out_given = far.1 } in
     tells-push t 0 (lines_below s n) (link_line (link_count s n)) (tells-below t x s k n (omega (arith, h)))
     (subst (λ m. TellsLink t m (link_line (link_count s n))) (sym at) told)
 
@@ -87,19 +91,21 @@ tells-below t x s k (suc n) h =
 usual-is : (g : Settings) → g.hold ≡ 524288 → g.links ≡ 256 → model_settings g ≡ usual
 usual-is g h l = rw (h, l) refl
 
-pub run-of : (script : ScriptValue) (t : Trace) (s : State) → s.settings.hold ≡ 524288 → s.settings.links ≡ 256 → StandsFor t Stage.Between s →
-    count_by is_turn t ≡ length script.turns → ((closing_by : ℕ) → IsAnswered (played_turns script.turns) closing_by t) → IsRun script t (lines_below s s.opened)
-run-of script t s h l k n answered =
+-- What is played, at a stage at which a turn may answer so, is a run that ended with this answer.
+pub run-of : (script : ScriptValue) (answer : TurnAnswer) (t : Trace) (x : Stage) (s : State) → s.settings.hold ≡ 524288 → s.settings.links ≡ 256 →
+    (k : StandsFor t x s) → LeftAt (model_settings s.settings) answer x k.plain → Plays (script_played script) 0 answer t → IsRun script answer t (lines_below s s.opened)
+run-of script answer t x s h l k left played =
     let same = usual-is s.settings h l in
-    let v = means_conserved t Stage.Between s k in
+    let v = means_conserved t x s k in
     let accounted : AllAccounted usual t v.0.plain = subst (λ g. AllAccounted g t v.0.plain) same v.3.conserved.accounted in
-    let legal : EndsWith usual TurnAnswer.Went t = subst (λ g. EndsWith g TurnAnswer.Went t) same (Stage.Between, k.plain, k.reached, refl) in
+    let legal : EndsWith usual answer t = subst (λ g. EndsWith g answer t) same (x, k.plain, k.reached, left) in
     record {
-      turns = n;
-      answered = answered;
+      played = played;
+      polls = polls_fail_as_scripted usual answer (played_turns script.turns) (closing_step usual) t played.answered legal;
       legal = legal;
       accounted = (v.0.plain, accounted);
       begins = begins-of t v.0.plain accounted;
       whole = whole-of t v.0.plain accounted;
-      report = tells-below t Stage.Between s k s.opened (omega arith);
+      opened = length-lines_below s s.opened ∙ (links_are_told t x s k).links;
+      report = tells-below t x s k s.opened (omega arith);
     }

@@ -1,5 +1,5 @@
 -- A turn of the relay puts one entry that begins a turn: its clock puts it, and no other step does.
-use Rattle.std.proofs.Common.{◌≡◌, ℕ, zero, suc, ◌+◌, Bool, true, false, ◌&&◌, nat_lt, if◌then◌else◌, List, [], ◌∷◌, ◌++◌, refl, ◌∙◌, ap, arith, count_by}
+use Rattle.std.proofs.Common.{◌≡◌, ℕ, zero, suc, ◌+◌, Bool, true, false, ◌&&◌, nat_lt, if◌then◌else◌, List, [], ◌∷◌, ◌++◌, refl, ◌∙◌, ap, arith, count_by, inl, inr, ◌⊎◌}
 use Rattle.std.specs.Prelude.{MatchBool}
 use Rattle.std.proofs.lemmas.List.Sums.{sum_by-append}
 use Rattle.ev_types.specs.declared.side.SideId.{SideId}
@@ -20,7 +20,8 @@ use Rattle.relay_model.specs.Script.{ScriptTurn}
 use Rattle.relay_model.specs.Scripted.{begun}
 use Rattle.relay_drive.specs.Steps.{Nothing, Then, Each}
 use Rattle.relay_drive.specs.Calls.{Ticks}
-use Rattle.relay_drive.specs.Phases.{links_from, Polls, OpensOne, OpensSome, AcceptsWhere, PollsAndAccepts, ReadsSide, WritesSide, ConnectsSide, is_connecting, ServesSide, PassesSide, PassesLink, ForAllLinks, closing_events, LooksAt, ClosesLink, Turns}
+use Rattle.relay_drive.specs.Phases.{links_from, Polls, OpensOne, OpensSome, AcceptsWhere, PollsAndAccepts, ReadsSide, WritesSide, ConnectsSide, is_connecting, ServesSide, PassesSide, PassesLink, ForAllLinks, closing_events, LooksAt, ClosesLink, Turns, CutTurn, in_poll, CutPolling}
+use Rattle.relay_drive.specs.declared.fault.DriveFault.TheVariants as fault
 
 -- among the entries that a step puts, so many begin a turn
 abbrev IsPutting : ℕ → (State → Trace → State → Type 0) → Type 0
@@ -143,6 +144,17 @@ turn-once {s = s} {new = new} {a = a} h =
     (both 0 0 (each ServesSide serves h.1)
     (both 0 0 (all_links PassesLink passes_link) (all_links ClosesLink closes_link))))
     s new a h.2
+
+-- A turn that is cut off in its poll has one too.
+
+failed-poll-none : (s new : State) (a : Trace) → CutPolling fault.PollFault s a new → count_by is_turn a ≡ 0
+failed-poll-none s new a (inl h) =
+    let p = want_events-none h.named in
+    ap (count_by is_turn) h.entries ∙ count-append (want_events h.named) ((entry.PollFailed, []) ∷ []) ∙ omega (arith, p)
+failed-poll-none s new a (inr h) = absurd h
+
+pub cut-poll-once : {s new : State} {a : Trace} → CutTurn fault.PollFault s a new → count_by is_turn a ≡ 1
+cut-poll-once {s = s} {new = new} {a = a} (in_poll reading h) = both 1 0 (ticks reading) failed-poll-none s new a h
 
 -- as many turns of a script were begun as the trace has
 pub begun-is : (turns : List ScriptTurn) (t : Trace) → begun turns t ≡ count_by is_turn t

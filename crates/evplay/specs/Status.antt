@@ -3,6 +3,8 @@ use Rattle.std.specs.Prelude.{◌≡◌, ℕ, List, [], ◌∷◌, ◌++◌, cod
 use Rattle.std.specs.Fmt.{decimal}
 use Rattle.ev_types.specs.declared.status.Status.{Status}
 use Rattle.ev_types.specs.declared.status.Status.TheVariants as status
+use Rattle.script_text.specs.declared.script.ScriptFault.{ScriptFault}
+use Rattle.script_text.specs.declared.script.ScriptFault.TheVariants as script
 use Rattle.relay_drive.specs.declared.fault.DriveFault.{DriveFault}
 use Rattle.relay_drive.specs.declared.fault.DriveFault.TheVariants as fault
 
@@ -12,6 +14,11 @@ status_of fault.Memory = status.Memory
 status_of fault.PollFault = status.PollFault
 status_of fault.OpenFault = status.OpenFault
 status_of fault.Spent = status.Spent
+
+-- the status where a text is no script
+abbrev pub bad_status : ScriptFault → Status
+bad_status script.Memory = status.Memory
+bad_status (script.BadLine line) = status.BadScript line
 
 -- the status of the process
 abbrev pub status_number : Status → ℕ

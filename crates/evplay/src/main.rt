@@ -4,6 +4,7 @@
 #![tactic(auto)]
 
 mod input;
+mod outcome;
 mod output;
 mod play;
 mod run;

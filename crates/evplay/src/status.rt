@@ -1,9 +1,10 @@
 // What the process says of how the program ended.
 ghost use Rattle.std.specs.Prelude.{◌≡◌, IfOk, Some, option_map, string_bytes};
-ghost use Rattle.evplay.specs.Status.{status_number, status_text, status_of};
+ghost use Rattle.evplay.specs.Status.{status_number, status_text, status_of, bad_status};
 
 use ev_types::Status;
 use relay_drive::DriveFault;
+use script_text::ScriptFault;
 use std::alloc::{AllocError, Global};
 
 /// The status of the process: 0 to 10, in the order of the statuses.
@@ -54,5 +55,15 @@ pub fn fault_status(fault: DriveFault) -> Status
         DriveFault::PollFault => Status::PollFault,
         DriveFault::OpenFault => Status::OpenFault,
         DriveFault::Spent => Status::Spent,
+    }
+}
+
+/// How the program ends where its source is no script.
+pub fn script_status(fault: ScriptFault) -> Status
+    ensures { result ≡ bad_status fault }
+{
+    match fault {
+        ScriptFault::Memory => Status::Memory,
+        ScriptFault::BadLine(line) => Status::BadScript(line),
     }
 }

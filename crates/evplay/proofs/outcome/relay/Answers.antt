@@ -1,6 +1,6 @@
 use Rattle.ev_port.proofs.ScriptSpelledLemmas.{spelled_names_opened}
 use Rattle.evplay.proofs.ScriptLemmas.{few-turns}
-use Rattle.evplay.proofs.play.play.Goals as goal
+use Rattle.evplay.proofs.outcome.relay.Goals as goal
 
 pub run-requires-clause-few : goal.run-requires-clause-few
 run-requires-clause-few g c = few-turns c.deref.result.now c.in-Ok-read_script.script c.in-Ok-read_script.ensures.script
