@@ -25,41 +25,8 @@ use Rattle.relay_core.specs.State.{State}
 use Rattle.relay_drive.specs.declared.run.Run.{Run}
 use Rattle.relay_drive.specs.Calls.{is_memory, after_conn, after_read, after_write}
 use Rattle.relay_drive.specs.Goes.{Goes, Heard, has_failed, has_poll_failed}
+use Rattle.relay_drive.proofs.EndNames.{same_end-true, same_end-false}
 use Rattle.relay_drive.proofs.GoesLemmas.{Counted-same}
-
--- Names of ends
-
-same_side-true : (a b : Side) → same_side a b ≡ true → b ≡ a
-same_side-true In In h = refl
-same_side-true Out Out h = refl
-same_side-true In Out h = absurd (cc)
-same_side-true Out In h = absurd (cc)
-
-same_side-refl : (a : Side) → same_side a a ≡ true
-same_side-refl In = refl
-same_side-refl Out = refl
-
-and_left : (a b : Bool) → a && b ≡ true → a ≡ true
-and_left true b h = refl
-and_left false b h = absurd (cc)
-
-and_right : (a b : Bool) → a && b ≡ true → b ≡ true
-and_right true b h = h
-and_right false b h = absurd (cc)
-
-pub same_end-true : (a b : SideId) → same_end a b ≡ true → b ≡ a
-same_end-true a b h =
-    let link : b.link ≡ a.link = sym (eqb-true a.link b.link (and_left (a.link == b.link) (same_side a.side b.side) h)) in
-    let side = same_side-true a.side b.side (and_right (a.link == b.link) (same_side a.side b.side) h) in
-    λ i. record { link = link i; side = side i }
-
-pub same_end-refl : (a : SideId) → same_end a a ≡ true
-same_end-refl a = ap (λ b. b && same_side a.side a.side) (eq-eqb a.link a.link refl) ∙ same_side-refl a.side
-
-pub same_end-false : (a b : SideId) → same_end a b ≡ false → b ≢ a
-same_end-false a b h = λ e. absurd (
-    let p : same_end a a ≡ false = subst (λ x. same_end a x ≡ false) e h in
-    let q = same_end-refl a in cc)
 
 -- Counts
 
@@ -115,25 +82,6 @@ Heard-open f g a is_fault h each none = record {
 
 pub FaultsStay-same : (f : Faults) → FaultsStay f f
 FaultsStay-same f = record { ends = λ e. refl; polling = refl; listener = refl }
-
--- The time of a trace
-
-pub last_time-append : (t a : Trace) → last_time (t ++ a) ≡ max (last_time t) (last_time a)
-last_time-append [] a = omega arith
-last_time-append ((entry.Turn ms, b) ∷ t) a = let h = last_time-append t a in omega (arith, h)
-last_time-append ((entry.Poll x, b) ∷ t) a = last_time-append t a
-last_time-append ((entry.Want x y z, b) ∷ t) a = last_time-append t a
-last_time-append ((entry.Ready x y z, b) ∷ t) a = last_time-append t a
-last_time-append ((entry.PollFailed, b) ∷ t) a = last_time-append t a
-last_time-append ((entry.Opened x y, b) ∷ t) a = last_time-append t a
-last_time-append ((entry.Conn x y, b) ∷ t) a = last_time-append t a
-last_time-append ((entry.Read x y z, b) ∷ t) a = last_time-append t a
-last_time-append ((entry.Write x y z, b) ∷ t) a = last_time-append t a
-last_time-append ((entry.Fired x y, b) ∷ t) a = last_time-append t a
-last_time-append ((entry.Asked x y z, b) ∷ t) a = last_time-append t a
-last_time-append ((entry.Freed x y z w, b) ∷ t) a = last_time-append t a
-last_time-append ((entry.CloseWrite x, b) ∷ t) a = last_time-append t a
-last_time-append ((entry.Close x, b) ∷ t) a = last_time-append t a
 
 -- entries of which none begins a turn
 pub goes_some : {R : State → Trace → State → Type 0} {p : Bool} {old new : Run} {v v' : List TurnValue → Trace → Type 0} (l l' : Option Trace) (f f' : Faults) (a : Trace) → last_time a ≡ 0 →

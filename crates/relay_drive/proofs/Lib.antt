@@ -1,5 +1,8 @@
 pub mod GoesLemmas
 pub mod HeardLemmas
+pub mod EndNames
+pub mod CalmLemmas
+pub mod TiedLemmas
 pub mod EachLemmas
 pub mod ClosingLemmas
 pub mod PollLemmas
