@@ -105,8 +105,20 @@ pub record Same (s new : State) : Type 0 where
 pub same : (s new : State) → new ≡ s → Same s new
 same s new e = record { time = ap (λ z. z.time) e; opened = ap (λ z. z.opened) e; settings = ap (λ z. z.settings) e }
 
-pub fits_calm : (t u : Trace) (s new : State) → Calm u → Same s new → Fits t s → Fits (t ++ u) new
-fits_calm t u s new c k f = record {
+-- entries that begin no turn and open no link
+pub record Still (u : Trace) : Type 0 where
+  pub opens : opened u ≡ 0
+  pub times : times u ≡ []
+  pub time : last_time u ≡ 0
+
+pub still : (u : Trace) → Calm u → Still u
+still u c = record { opens = c.opens; times = c.times; time = c.time }
+
+pub still_none : Still []
+still_none = record { opens = refl; times = refl; time = refl }
+
+pub fits_still : (t u : Trace) (s new : State) → Still u → Same s new → Fits t s → Fits (t ++ u) new
+fits_still t u s new c k f = record {
   time = (let h = last_time-append t u in omega (arith, h, c.time, f.time, k.time));
   last = ap (λ ts. unwrap_or (last_or (Some 0) ts) 0) (times-append t u ∙ ap (λ z. times t ++ z) c.times ∙ append-nil (times t)) ∙ f.last ∙ sym k.time;
   opened = (let h = opened-append t u in omega (arith, h, c.opens, f.opened, k.opened));

@@ -1,7 +1,11 @@
 -- Closing as a relation of the relay's state, and where it can be cut off.
-use Rattle.std.specs.Prelude.{◌≡◌, ℕ, [], ◌∷◌, MatchBool}
+use Rattle.std.specs.Prelude.{◌≡◌, ℕ, [], ◌∷◌, if◌then◌else◌, MatchBool}
+use Rattle.ev_types.specs.declared.side.SideId.{SideId}
 use Rattle.ev_types.specs.declared.entry.Entry.TheVariants as entry
+use Rattle.ev_types.specs.Sides.{same_end}
 use Rattle.ev_types.specs.Trace.{Trace}
+use Rattle.ev_port.specs.Told.{EndStep, no_step}
+use Rattle.ev_port.specs.Ends.{close_write_step, close_step}
 use Rattle.relay_core.specs.declared.close.Closing.{Closing}
 use Rattle.relay_core.specs.declared.close.Closing.TheVariants as closing
 use Rattle.relay_core.specs.State.{State}
@@ -14,6 +18,12 @@ abbrev pub told_events : Closing → Trace
 told_events (closing.EndWriting e) = (entry.CloseWrite e, []) ∷ []
 told_events (closing.Shut e) = (entry.Close e, []) ∷ []
 told_events _ = []
+
+-- and what each end hears of it
+abbrev pub told_step : Closing → SideId → EndStep
+told_step (closing.EndWriting end) e = if same_end end e then close_write_step else no_step
+told_step (closing.Shut end) e = if same_end end e then close_step else no_step
+told_step _ e = no_step
 
 pub record Closes (step : Closing) (s : State) (a : Trace) (new : State) : Type 0 where
   pub entries : a ≡ closing_events s step

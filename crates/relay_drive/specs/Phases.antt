@@ -8,10 +8,10 @@ use Rattle.relay_drive.specs.declared.fault.DriveFault.TheVariants as fault
 use Rattle.relay_drive.specs.Steps.{Nothing, Then, Each, CutAt}
 use Rattle.relay_drive.specs.Calls.{Ticks}
 pub use Rattle.relay_drive.specs.Steps.{links_from}
-pub use Rattle.relay_drive.specs.PollPhase.{want_of, wants_some, wants_of, wants_of_link, wants_of_links, wanted, can_open, Polls, PollFails, CutPoll, OpensOne, OpensSome, Accepts, AcceptsMore, StopsAccepting, AcceptsWhere, PollsAndAccepts, CutAccepting, CutPolling}
+pub use Rattle.relay_drive.specs.PollPhase.{want_of, wants_some, wants_of, wants_of_link, wants_of_links, wanted, can_open, Polls, PollFails, CutPoll, OpensOne, OpensSome, Accepts, AcceptsMore, AcceptsWhere, PollsAndAccepts, CutAccepting, CutPolling}
 pub use Rattle.relay_drive.specs.ServePhase.{ReadsWithRoom, ReadsSide, WritesSide, ConnectsSide, is_connecting, ServesSide, CutServing, AllOpened}
 pub use Rattle.relay_drive.specs.PassPhase.{PassesSide, CutPassing, PassesLink, CutPassingLink, ForAllLinks, CutForAllLinks}
-pub use Rattle.relay_drive.specs.ClosePhase.{told_events, Closes, LooksAt, ClosesLink, CutClosingLink}
+pub use Rattle.relay_drive.specs.ClosePhase.{told_events, told_step, Closes, LooksAt, ClosesLink, CutClosingLink}
 pub use Rattle.relay_meaning.specs.Results.{freed_event, closing_events}
 
 abbrev pub is_open_fault : DriveFault → Bool

@@ -84,11 +84,6 @@ Accepts s a new = (n : ℕ) × (n ≤ 64) × OpensSome n s a new
 abbrev pub AcceptsMore : State → Trace → State → Type 0
 AcceptsMore s a new = (n : ℕ) × (n < 64) × (new.opened < new.settings.links) × OpensSome n s a new
 
--- Accepting ends where 64 links were opened, no more are allowed, or the port has none: where it tells whether accepting
--- stands open, it stands open in the first two cases alone.
-abbrev pub StopsAccepting : State → State → Option Bool → Option Bool → Type 0
-StopsAccepting s new before now = MatchOption before ⊤ (λ _. IsSomeAnd now (λ stands_open. stands_open ≡ true → (s.opened + 64 ≤ new.opened) ⊎ (can_open new ≡ false)))
-
 abbrev pub AcceptsWhere : Bool → State → Trace → State → Type 0
 AcceptsWhere ready s a new = MatchBool ready (Accepts s a new) (Nothing s a new)
 
