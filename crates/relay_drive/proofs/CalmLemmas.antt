@@ -1,5 +1,5 @@
 -- Entries that begin no turn, poll nothing and open no link say nothing of the whole port.
-use Rattle.std.proofs.Common.{◌≡◌, ℕ, ◌+◌, Bool, true, false, List, [], ◌∷◌, ◌++◌, max, Option, Some, refl, sym, ◌∙◌, ap, subst, arith, append-nil, count_by, if◌then◌else◌}
+use Rattle.std.proofs.Common.{◌≡◌, ℕ, ◌+◌, Bool, true, false, List, [], ◌∷◌, ◌++◌, max, min, ◌^◌, Option, Some, refl, sym, ◌∙◌, ap, subst, arith, append-nil, count_by, if◌then◌else◌}
 use Rattle.std.specs.Prelude.{fold, unwrap_or}
 use Rattle.std.specs.List.{list_all, last_or}
 use Rattle.std.proofs.lemmas.Bool.{and_parts}
@@ -12,6 +12,7 @@ use Rattle.relay_model.specs.Totals.{is_opened, opened, opened_by, opened_in_tur
 use Rattle.relay_model.specs.Plays.{is_served}
 use Rattle.ev_port.specs.Calls.{last_time}
 use Rattle.relay_core.specs.State.{State}
+use Rattle.relay_core.specs.Opening.{after_opened}
 use Rattle.relay_drive.specs.Known.{Fits}
 
 -- The time of a trace
@@ -123,3 +124,29 @@ fits_still t u s new c k f = record {
   last = ap (λ ts. unwrap_or (last_or (Some 0) ts) 0) (times-append t u ∙ ap (λ z. times t ++ z) c.times ∙ append-nil (times t)) ∙ f.last ∙ sym k.time;
   opened = (let h = opened-append t u in omega (arith, h, c.opens, f.opened, k.opened));
 }
+
+last_or-push : (d : Option ℕ) (ts : List ℕ) (x : ℕ) → last_or d (ts ++ x ∷ []) ≡ Some x
+last_or-push d [] x = refl
+last_or-push d (y ∷ ts) x = last_or-push (Some y) ts x
+
+-- a turn begins at that time
+pub fits_turned : (t : Trace) (s new : State) (ms reading : ℕ) → ms ≡ max s.time (min reading (2 ^ 62)) → new ≡ record s { time = ms } → Fits t s → Fits (t ++ (entry.Turn ms, []) ∷ []) new
+fits_turned t s new ms reading is e f = subst (Fits (t ++ u)) (sym e) (record {
+  time = (let h = last_time-append t u in let k = f.time in omega (arith, h, k, is));
+  last = ap (λ ts. unwrap_or (last_or (Some 0) ts) 0) (times-append t u) ∙ ap (λ o. unwrap_or o 0) (last_or-push (Some 0) (times t) ms);
+  opened = (let h = opened-append t u in let k = f.opened in omega (arith, h, k));
+})
+  where
+    u : Trace
+    u = (entry.Turn ms, []) ∷ []
+
+-- a link is opened
+pub fits_opened : (t : Trace) (s new : State) (link : ℕ) (connected : Bool) → new ≡ after_opened s connected → Fits t s → Fits (t ++ (entry.Opened link connected, []) ∷ []) new
+fits_opened t s new link connected e f = subst (Fits (t ++ u)) (sym e) (record {
+  time = (let h = last_time-append t u in let k = f.time in omega (arith, h, k));
+  last = ap (λ ts. unwrap_or (last_or (Some 0) ts) 0) (times-append t u ∙ append-nil (times t)) ∙ f.last;
+  opened = (let h = opened-append t u in let k = f.opened in omega (arith, h, k));
+})
+  where
+    u : Trace
+    u = (entry.Opened link connected, []) ∷ []

@@ -117,8 +117,8 @@ goes_some {old = old} {new = new} l l' f f' a calm does same entries list known 
     goes_by l l' f f' a does same.settings entries list (λ t. fits_still t a old.relay.state new.relay.state calm same) known heard
 
 -- no entry was put
-pub goes_silent : {old new : Run} {l l' : Option Trace} {v v' : Known} {f f' : Faults} → new.relay.state ≡ old.relay.state → new.entries ≡ old.entries → Grew l l' [] →
-    ((t : Trace) (x : Question) → v old.relay.state.settings x t → v' old.relay.state.settings x (t ++ [])) → Heard f f' [] false → Goes Nothing false old new l l' v v' f f'
+pub goes_silent : {p : Bool} {old new : Run} {l l' : Option Trace} {v v' : Known} {f f' : Faults} → new.relay.state ≡ old.relay.state → new.entries ≡ old.entries → Grew l l' [] →
+    ((t : Trace) (x : Question) → v old.relay.state.settings x t → v' old.relay.state.settings x (t ++ [])) → Heard f f' [] p → Goes Nothing p old new l l' v v' f f'
 goes_silent {old = old} {new = new} {l = l} {l' = l'} {f = f} {f' = f'} s n list known heard =
     goes_some l l' f f' [] still_none (refl, s) (same old.relay.state new.relay.state s) (omega (arith, n)) list (λ t fits. known t) heard
 

@@ -56,7 +56,10 @@ fn accept<P: Port, S: Scribe>(run: &mut Run, port: &mut P, scribe: &mut S) -> Re
     ensures cause { MatchResult result (λ _. Unit {0}) (λ fault. (fault ≡ Memory) ⊎ (fault ≡ OpenFault)) }
 {
     for _ in 0..MOST_OPENED {
-        if !run.relay.can_open() || !accept_one(run, port, scribe)? {
+        if !run.relay.can_open() {
+            return Ok(());
+        }
+        if !accept_one(run, port, scribe)? {
             return Ok(());
         }
     }

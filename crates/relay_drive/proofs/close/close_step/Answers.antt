@@ -1,10 +1,10 @@
-use Rattle.std.proofs.Common.{◌≡◌, [], true, refl, sym, ◌∙◌, ap, subst}
+use Rattle.std.proofs.Common.{◌≡◌, [], true, false, refl, sym, ◌∙◌, ap, subst}
 use Rattle.std.specs.Prelude.{MatchBool}
 use Rattle.relay_core.specs.State.{RelayValue}
 use Rattle.relay_core.specs.Closing.{is_called_for, after_closing}
 use Rattle.relay_drive.specs.Steps.{Nothing}
 use Rattle.relay_drive.specs.Phases.{closing_events, told_step, Closes}
-use Rattle.relay_drive.proofs.GoesLemmas.{Grew-join}
+use Rattle.relay_drive.proofs.GoesLemmas.{Grew-none, Grew-join, goes_as, goes_nowhere}
 use Rattle.relay_drive.proofs.HeardLemmas.{goes_served, same_as, Heard-quiet}
 use Rattle.relay_drive.proofs.TiedLemmas.{all_ends}
 use Rattle.relay_drive.proofs.ClosingLemmas.{closing_served, closing_same, closing_says, closing_vouched, closing_unfailed, closing_polls}
@@ -28,3 +28,10 @@ returns-clause-went g c =
     (closing_vouched (g.P.Port.vouches c.args.port.now) (g.P.Port.vouches c.tell.new.port) s step c.tell.ensures.vouched c.tell.ensures.unheard)
     (all_ends (g.P.Port.ends c.args.port.now) (g.P.Port.ends c.tell.new.port) (told_step step) events (λ e. closing_says s step e) c.tell.ensures.ends) c.tell.ensures.told
     (Heard-quiet f h events c.tell.ensures.cause (λ e. closing_unfailed s step e) (closing_polls s step))
+
+pub returns-then-not-calls_for-clause-went : goal.returns-then-not-calls_for-clause-went
+returns-then-not-calls_for-clause-went g c =
+    let s = c.args.run.now.relay.state in
+    let step = c.args.step in
+    let no : is_called_for s step ≡ false = sym c.calls_for.ensures ∙ c.if-not-calls_for.true in
+    goes_as (λ a p. subst (λ b. MatchBool b (Closes step s a s) (Nothing s a s)) (sym no) p) (goes_nowhere refl refl (Grew-none (g.S.Scribe.trace c.args.scribe.now)) (λ s t x k. k))
