@@ -96,21 +96,28 @@ module _ (g : Settings) (v v' : List TurnValue → Trace → Type 0) (told new :
       (x : Question) → known Progress.Accepted v told ends g x t → known Progress.Accepted v' new ends' g x (t ++ u)
   known_served u served longer went stays (Question.Vouched turns) k = (longer turns t k.0, (tt, tt))
   known_served u served longer went stays (Question.Took turns) k =
-      let T = played_turns turns in
-      ((longer turns t k.0.0,
-        λ called.
-            let before = called_before turns t u called in
-            always-append T g.links [] t u (k.0.1 before) (always-served T g.links t u served (k.1.0 before))),
-        (λ called. took_as T g.links t (t ++ u) (sym (counts-all_served t u served)) (k.1.0 (called_before turns t u called)), tt))
+      let T = played_turns turns in (
+        (
+          longer turns t k.0.0,
+          λ called.
+              let before = called_before turns t u called in
+              always-append T g.links [] t u (k.0.1 before) (always-served T g.links t u served (k.1.0 before)),
+        ),
+        (λ called. took_as T g.links t (t ++ u) (sym (counts-all_served t u served)) (k.1.0 (called_before turns t u called)), tt),
+      )
   known_served u served longer went stays (Question.Tied began ends_began) k =
       let same = counts-all_served t u served in
       let in_turn : opened_in_turn (t ++ u) ≡ opened_in_turn t = ap (λ c. c.in_turn) same in
       let opens : opened (t ++ u) ≡ opened t = ap (λ c. c.opened) same in
-      let calm = calm_list u (served_list u served) in
-      (ends_on u began ends_began went k.0 (port_calm (model_settings g) (port_tells began) told new t k.0.port u calm stays),
-        (tt, λ some. reason_stays told.accepting new.accepting _ _ (k.0.port.accepting some) stays.accepting
-          (λ (why : (opened_in_turn t ≡ 64) ⊎ (g.links ≤ opened t)). elim why as (λ z. (opened_in_turn (t ++ u) ≡ 64) ⊎ (g.links ≤ opened (t ++ u))) [ inl p ↦ inl (in_turn ∙ p) | inr p ↦ inr (subst (λ n. g.links ≤ n) (sym opens) p) ])
-          (k.1.1 some)))
+      let calm = calm_list u (served_list u served) in (
+        ends_on u began ends_began went k.0 (port_calm (model_settings g) (port_tells began) told new t k.0.port u calm stays),
+        (
+          tt,
+          λ some. reason_stays told.accepting new.accepting _ _ (k.0.port.accepting some) stays.accepting
+              (λ (why : (opened_in_turn t ≡ 64) ⊎ (g.links ≤ opened t)). elim why as (λ z. (opened_in_turn (t ++ u) ≡ 64) ⊎ (g.links ≤ opened (t ++ u))) [ inl p ↦ inl (in_turn ∙ p) | inr p ↦ inr (subst (λ n. g.links ≤ n) (sym opens) p) ])
+              (k.1.1 some),
+        ),
+      )
 
   -- the clock was read, and a turn begins
   pub known_begun : (reading ms : ℕ) → ms ≡ turn_time t reading → ms ≡ max (unwrap_or (last_or (Some 0) (times t)) 0) (min reading (2 ^ 62)) → Ticked v v' reading → AllWent ends ends' (λ e. step_of e ((entry.Turn ms, []) ∷ [])) → ClockRead told new reading →
@@ -125,9 +132,12 @@ module _ (g : Settings) (v v' : List TurnValue → Trace → Type 0) (told new :
 
       go : (x : Question) → known Progress.Between v told ends g x t → Holds v' new ends' g x (t ++ u)
       go (Question.Vouched turns) k = longer turns k.0
-      go (Question.Took turns) k = (longer turns k.0.0, λ called.
-          let before = called_before turns t u called in
-          always-append (played_turns turns) g.links [] t u (k.0.1 before) (k.1 before, tt))
+      go (Question.Took turns) k = (
+        longer turns k.0.0,
+        λ called.
+            let before = called_before turns t u called in
+            always-append (played_turns turns) g.links [] t u (k.0.1 before) (k.1 before, tt),
+      )
       go (Question.Tied began ends_began) k =
           ends_on u began ends_began went k.0 (port_clocked (model_settings g) (port_tells began) told new t k.0.port reading ms clock last)
 
@@ -139,8 +149,11 @@ module _ (g : Settings) (v v' : List TurnValue → Trace → Type 0) (told new :
     polled_on : PolledWith told new asks timeout answer → asks ≡ nat_lt (opened t) g.links → LongerBy v v' P → AllWent ends ends' (λ e. step_of e P) →
         (x : Question) → Holds v told ends g x t → Holds v' new ends' g x (t ++ P)
     polled_on s is longer went (Question.Vouched turns) k = longer turns t k
-    polled_on s is longer went (Question.Took turns) k = (longer turns t k.0, λ called.
-        always-append (played_turns turns) g.links [] t P (k.1 (called_before turns t P called)) (always-accepting (played_turns turns) g.links t P (poll_ends_nothing timeout ws answer)))
+    polled_on s is longer went (Question.Took turns) k = (
+      longer turns t k.0,
+      λ called.
+          always-append (played_turns turns) g.links [] t P (k.1 (called_before turns t P called)) (always-accepting (played_turns turns) g.links t P (poll_ends_nothing timeout ws answer)),
+    )
     polled_on s is longer went (Question.Tied began ends_began) k =
         ends_on P began ends_began went k (port_polled (model_settings g) (port_tells began) told new t k.port ws answer asks timeout s is)
 

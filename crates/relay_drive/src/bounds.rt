@@ -22,7 +22,3 @@ pub fn turns_are_bounded()
 pub fn within_is_not_worn()
     ensures { WithinIsNotWorn }
 {}
-
-pub fn scratch()
-    ensures { Unit {0} }
-{}
