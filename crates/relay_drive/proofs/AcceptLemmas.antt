@@ -1,28 +1,43 @@
--- What a port tells of accepting.
-use Rattle.std.proofs.Common.{◌≡◌, ◌+◌, ◌≤◌, Bool, true, false, Option, Some, None, refl, sym, ap, subst}
-use Rattle.std.specs.Prelude.{⊤, MatchOption, IsSome, IsSomeAnd, is_some}
-use mathlib.Core.Logic.{◌⊎◌}
-use Rattle.ev_port.specs.Told.{Stays, Becomes}
+-- Where accepting ends.
+use Rattle.std.proofs.Common.{◌≡◌, inl, inr, ℕ, zero, suc, ◌+◌, ◌≤◌, Bool, false, List, [], ◌∷◌, ◌++◌, Option, refl, sym, ◌∙◌, ap, subst, arith, append_assoc, append-nil}
+use Rattle.std.specs.Prelude.{fold}
+use Rattle.std.proofs.lemmas.Bool.{ltb-false}
+use Rattle.ev_types.specs.declared.side.SideId.{SideId}
+use Rattle.ev_types.specs.Trace.{Trace}
+use Rattle.script_text.specs.Script.{TurnValue}
+use Rattle.relay_model.specs.Totals.{opened_by, opened_in_turn}
+use Rattle.ev_port.specs.Told.{EndTold, PortTold, Faults}
 use Rattle.relay_core.specs.State.{State}
-use Rattle.relay_drive.specs.Phases.{can_open, StopsAccepting}
+use Rattle.relay_drive.specs.declared.run.Run.{Run}
+use Rattle.relay_drive.specs.Phases.{can_open, OpensSome}
+use Rattle.relay_drive.specs.Known.{Progress, known}
+use Rattle.relay_drive.specs.Goes.{Goes}
+use Rattle.relay_drive.proofs.CalmLemmas.{in_turn-append}
+use Rattle.relay_drive.proofs.KnownLemmas.{known_enough}
+use Rattle.relay_drive.proofs.GoesLemmas.{Known, goes_knowing}
 
-pub told_some : (a : Option Bool) → MatchOption a ⊤ (λ _. IsSome a)
-told_some None = tt
-told_some (Some x) = refl
+-- so many more were opened in this turn
+pub opens_in_turn : (n : ℕ) (s new : State) (a t : Trace) → OpensSome n s a new → opened_in_turn (t ++ a) ≡ opened_in_turn t + n
+opens_in_turn zero s new a t h =
+    let none : opened_in_turn (t ++ a) ≡ opened_in_turn t = ap (λ z. opened_in_turn (t ++ z)) h.0 ∙ ap opened_in_turn (append-nil t) in
+    omega (arith, none)
+opens_in_turn (suc n) s new a t h =
+    let before = opens_in_turn n s h.middle h.front t h.first in
+    let all : opened_in_turn (t ++ a) ≡ fold opened_by (opened_in_turn (t ++ h.front)) h.back =
+    ap (λ z. opened_in_turn (t ++ z)) h.joined ∙ ap opened_in_turn (sym (append_assoc t h.front h.back)) ∙ in_turn-append (t ++ h.front) h.back in
+    let one : fold opened_by (opened_in_turn (t ++ h.front)) h.back ≡ opened_in_turn (t ++ h.front) + 1 = ap (fold opened_by (opened_in_turn (t ++ h.front))) h.second.1.entries in
+    omega (arith, before, all, one)
 
-pub tells_on : (a b c : Option Bool) → MatchOption a ⊤ (λ _. IsSome b) → Stays b c → MatchOption a ⊤ (λ _. IsSome c)
-tells_on None b c h k = tt
-tells_on (Some x) None c h k = absurd (cc)
-tells_on (Some x) (Some y) c h k = ap is_some k
+module _ {R : State → Trace → State → Type 0} {p : Bool} {old new : Run} {l l' : Option Trace} {k : Known} {f f' : Faults} (v : List TurnValue → Trace → Type 0) (told : PortTold) (ends : SideId → EndTold) where
+  -- no more links may be opened in all
+  pub accepted_all : can_open new.relay.state ≡ false → Goes R p old new l l' k (known Progress.Accepting v told ends) f f' → Goes R p old new l l' k (known Progress.Accepted v told ends) f f'
+  accepted_all full g = goes_knowing g (λ t x fits before now.
+      let s = new.relay.state in
+      known_enough s.settings v told ends (t ++ g.added) (inr (subst (λ n. s.settings.links ≤ n) (sym fits.opened) (ltb-false s.opened s.settings.links full))) x now)
 
--- where a reason is there, whatever the port tells
-pub stops_for : (s new : State) (a b : Option Bool) → MatchOption a ⊤ (λ _. IsSome b) → (s.opened + 64 ≤ new.opened) ⊎ (can_open new ≡ false) → StopsAccepting s new a b
-stops_for s new None b h why = tt
-stops_for s new (Some x) None h why = absurd (cc)
-stops_for s new (Some x) (Some y) h why = λ e. why
-
--- where the port has none
-pub stops_then : (s new : State) (a b c : Option Bool) → MatchOption a ⊤ (λ _. IsSome b) → Becomes b c false → StopsAccepting s new a c
-stops_then s new None b c h k = tt
-stops_then s new (Some x) None c h k = absurd (cc)
-stops_then s new (Some x) (Some y) c h k = subst (λ (z : Option Bool). IsSomeAnd z (λ o. o ≡ true → (s.opened + 64 ≤ new.opened) ⊎ (can_open new ≡ false))) (sym k) (λ e. absurd (cc))
+-- as many were opened as a turn may open
+pub accepted_most : {p : Bool} {old new : Run} {l l' : Option Trace} {f f' : Faults} (u : List TurnValue → Trace → Type 0) (was : PortTold) (these : SideId → EndTold) (v : List TurnValue → Trace → Type 0) (told : PortTold) (ends : SideId → EndTold) →
+    Goes (OpensSome 64) p old new l l' (known Progress.Begun u was these) (known Progress.Accepting v told ends) f f' → Goes (OpensSome 64) p old new l l' (known Progress.Begun u was these) (known Progress.Accepted v told ends) f f'
+accepted_most {old = old} {new = new} u was these v told ends g = goes_knowing g (λ t x fits before now.
+    let s = new.relay.state in
+    known_enough s.settings v told ends (t ++ g.added) (inl (opens_in_turn 64 old.relay.state s g.added t g.does ∙ ap (λ n. n + 64) before.1)) x now)

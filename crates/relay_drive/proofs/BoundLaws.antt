@@ -3,12 +3,13 @@ use Rattle.std.proofs.Common.{◌≡◌, ℕ, suc, ◌+◌, ◌^◌, ◌<◌, �
 use Rattle.std.specs.List.{list_any}
 use Rattle.std.proofs.lemmas.Bool.{lt-leb}
 use Rattle.ev_types.specs.Trace.{Trace}
-use Rattle.script_text.specs.Script.{TurnValue}
 use Rattle.ev_port.specs.Told.{Faults}
+use Rattle.relay_core.specs.declared.settings.Settings.{Settings}
 use Rattle.relay_core.specs.State.{State, SideValue, no_side}
 use Rattle.relay_core.specs.Counting.{has_come_far}
 use Rattle.relay_drive.specs.DriveValue.{DriveValue}
 use Rattle.relay_drive.specs.Phases.{Turns}
+use Rattle.relay_drive.specs.Known.{Question}
 use Rattle.relay_drive.specs.Stands.{Stands, Went}
 use Rattle.relay_drive.specs.Bounds.{SideIsWithin, IsWithin, most_of_turn, NewDriveIsWithin, TurnIsBounded, WithinIsNotWorn}
 use Rattle.relay_drive.proofs.BoundLemmas.{within-more, side-none}
@@ -30,7 +31,7 @@ turn_is_bounded n links old new t a w h before after =
     (record { state = r.within; entries = omega (arith, x, y, z, r.entries, l) }, r.settings)
 
 -- the same of what a turn's contract says
-pub went_is_bounded : {After : Trace → State → Type 0} {old new : DriveValue} {log log' : Option Trace} {v v' : List TurnValue → Trace → Type 0} {f f' : Faults} (n links : ℕ) (t : Trace) →
+pub went_is_bounded : {After : Trace → State → Type 0} {old new : DriveValue} {log log' : Option Trace} {v v' : Settings → Question → Trace → Type 0} {f f' : Faults} (n links : ℕ) (t : Trace) →
     IsWithin n links old → Stands t old → Went Turns After false old new log log' v v' f f' → IsWithin (n + most_of_turn links) links new × (new.state.settings ≡ old.state.settings)
 went_is_bounded {old = old} {new = new} n links t w k h = turn_is_bounded n links old new t h.added w h.does k (h.stands t k)
 

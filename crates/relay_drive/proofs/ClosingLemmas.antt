@@ -1,32 +1,75 @@
 -- What a step of closing puts and leaves as it is.
-use Rattle.std.proofs.Common.{◌≡◌, ℕ, zero, suc, ◌<◌, false, List, [], ◌∷◌, ◌++◌, length, get_or, refl, ap, subst, arith, append_assoc, append-nil}
+use Rattle.std.proofs.Common.{◌≡◌, ℕ, zero, suc, ◌<◌, Bool, true, false, if◌then◌else◌, Option, Some, None, sym, List, [], ◌∷◌, ◌++◌, length, get_or, refl, ap, subst, arith, append_assoc, append-nil}
 use Rattle.ev_types.specs.declared.side.SideId.{SideId}
 use Rattle.ev_types.specs.declared.entry.Entry.{Entry}
 use Rattle.ev_types.specs.declared.why.Cause.TheVariants as cause
 use Rattle.ev_types.specs.Trace.{Trace}
 use Rattle.script_text.specs.Script.{TurnValue}
 use Rattle.ev_port.specs.Vouching.{LongerBy}
-use Rattle.ev_port.specs.Calls.{last_time, IsUnheard}
+use Rattle.std.specs.List.{list_all}
+use Rattle.ev_types.specs.Sides.{same_end}
+use Rattle.relay_model.specs.Plays.{is_served}
+use Rattle.ev_port.specs.Told.{EndTold, EndStep, no_step, EndWent, EndsWent, AllWent, PortTold, PortStays, Stays}
+use Rattle.ev_port.specs.Calls.{IsUnheard}
+use Rattle.ev_port.proofs.ToldLemmas.{EndWent-none}
+use Rattle.relay_drive.proofs.EndNames.{same_end-true, same_end-false}
+use Rattle.relay_drive.proofs.CalmLemmas.{Same}
+use Rattle.relay_drive.proofs.TiedLemmas.{step_of, close_write_says, close_says}
 use Rattle.relay_core.specs.declared.close.Closing.{Closing}
 use Rattle.relay_core.specs.declared.close.Closing.TheVariants as closing
 use Rattle.relay_core.specs.State.{State}
 use Rattle.relay_core.specs.Closing.{in_side, out_side, link_of, closing_of, after_closing}
-use Rattle.relay_drive.specs.Phases.{freed_event, closing_events, told_events}
+use Rattle.relay_drive.specs.Phases.{freed_event, closing_events, told_events, told_step}
 use Rattle.relay_drive.specs.Goes.{has_failed, has_poll_failed}
 
-pub closing_quiet : (s : State) (step : Closing) → last_time (closing_events s step) ≡ 0
-closing_quiet s (closing.Faulty e) = refl
-closing_quiet s (closing.EndWriting e) = refl
-closing_quiet s (closing.BothDone k) = refl
-closing_quiet s (closing.PeerGone e) = refl
-closing_quiet s (closing.Shut e) = refl
+pub closing_served : (s : State) (step : Closing) → list_all is_served (closing_events s step) ≡ true
+closing_served s (closing.Faulty e) = refl
+closing_served s (closing.EndWriting e) = refl
+closing_served s (closing.BothDone k) = refl
+closing_served s (closing.PeerGone e) = refl
+closing_served s (closing.Shut e) = refl
 
-pub closing_time : (s : State) (step : Closing) → (after_closing s step).time ≡ s.time
-closing_time s (closing.Faulty e) = refl
-closing_time s (closing.EndWriting e) = refl
-closing_time s (closing.BothDone k) = refl
-closing_time s (closing.PeerGone e) = refl
-closing_time s (closing.Shut e) = refl
+pub closing_same : (s : State) (step : Closing) → Same s (after_closing s step)
+closing_same s (closing.Faulty e) = record { time = refl; opened = refl; settings = refl }
+closing_same s (closing.EndWriting e) = record { time = refl; opened = refl; settings = refl }
+closing_same s (closing.BothDone k) = record { time = refl; opened = refl; settings = refl }
+closing_same s (closing.PeerGone e) = record { time = refl; opened = refl; settings = refl }
+closing_same s (closing.Shut e) = record { time = refl; opened = refl; settings = refl }
+
+-- what the entries of a step say of each end is what the end heard of it
+pub closing_says : (s : State) (step : Closing) (e : SideId) → step_of e (closing_events s step) ≡ told_step step e
+closing_says s (closing.Faulty end) e = refl
+closing_says s (closing.EndWriting end) e = close_write_says end e
+closing_says s (closing.BothDone k) e = refl
+closing_says s (closing.PeerGone end) e = refl
+closing_says s (closing.Shut end) e = close_says end e
+
+-- a step of which no end hears
+pub tells_none : (ends : SideId → EndTold) → AllWent ends ends (λ e. no_step)
+tells_none ends = λ e. EndWent-none (ends e)
+
+-- and one that one end hears
+pub tells_one : (ends ends' : SideId → EndTold) (end : SideId) (step : EndStep) → EndsWent ends ends' end step → AllWent ends ends' (λ e. if same_end end e then step else no_step)
+tells_one ends ends' end step h = λ e. go e (same_end end e) refl
+  where
+    go : (e : SideId) (b : Bool) → same_end end e ≡ b → EndWent (ends e) (ends' e) (if b then step else no_step)
+    go e true k = subst (λ z. EndWent (ends z) (ends' z) step) (sym (same_end-true end e k)) h.own
+    go e false k = h.others e (same_end-false end e k)
+
+stays-same : {T : Type 0} (a : Option T) → Stays a a
+stays-same None = tt
+stays-same (Some x) = refl
+
+pub port_stays : (told : PortTold) → PortStays told told
+port_stays told = record {
+  accept_polls = stays-same told.accept_polls;
+  timeout = stays-same told.timeout;
+  links = stays-same told.links;
+  accepting = stays-same told.accepting;
+  readings = stays-same told.readings;
+  reading = stays-same told.reading;
+  started = stays-same told.started;
+}
 
 pub closing_unfailed : (s : State) (step : Closing) (e : SideId) → has_failed e (closing_events s step) ≡ false
 closing_unfailed s (closing.Faulty x) e = refl

@@ -3,14 +3,12 @@ use Rattle.std.proofs.Common.{◌≡◌, ℕ, zero, suc, ◌+◌, ◌-◌, ◌<�
 use Rattle.std.proofs.Math.Seq.{take-suc}
 use Rattle.std.proofs.lemmas.List.{take-append-drop}
 use Rattle.ev_types.specs.Trace.{Trace}
-use Rattle.script_text.specs.Script.{TurnValue}
 use Rattle.ev_port.specs.Told.{Faults}
 use Rattle.relay_core.specs.State.{State}
 use Rattle.relay_drive.specs.declared.run.Run.{Run}
-use Rattle.relay_drive.specs.Steps.{Nothing, Then, Each, CutAt}
-use Rattle.relay_drive.specs.Phases.{links_from}
+use Rattle.relay_drive.specs.Steps.{Nothing, Then, Each, CutAt, links_from}
 use Rattle.relay_drive.specs.Goes.{Goes}
-use Rattle.relay_drive.proofs.GoesLemmas.{goes_as, goes_then}
+use Rattle.relay_drive.proofs.GoesLemmas.{Known, goes_as, goes_then}
 
 pub then_nothing : {R : State → Trace → State → Type 0} {s new : State} {a : Trace} → Then R Nothing s a new → R s a new
 then_nothing {R = R} {s = s} h =
@@ -46,11 +44,11 @@ each_push R (y ∷ ys) x h =
 pub taken_next : {X : Type 0} (xs : List X) (i : ℕ) (d : X) → i < length xs → take (i + 1) xs ≡ take i xs ++ get_or xs i d ∷ []
 taken_next xs i d h = rw add-one (take-suc xs i d h)
 
-pub goes_next : {X : Type 0} (R : X → State → Trace → State → Type 0) {old mid new : Run} {l m n : Option Trace} {v w x : List TurnValue → Trace → Type 0} {f g h : Faults} (xs : List X) (i : ℕ) (d : X) → i < length xs →
+pub goes_next : {X : Type 0} (R : X → State → Trace → State → Type 0) {old mid new : Run} {l m n : Option Trace} {v w x : Known} {f g h : Faults} (xs : List X) (i : ℕ) (d : X) → i < length xs →
     Goes (Each R (take i xs)) false old mid l m v w f g → Goes (R (get_or xs i d)) false mid new m n w x g h → Goes (Each R (take (i + 1) xs)) false old new l n v x f h
 goes_next R {old = old} {new = new} xs i d lt a b = goes_as (λ t p. subst (λ z. Each R z old.relay.state t new.relay.state) (sym (taken_next xs i d lt)) (each_push R (take i xs) (get_or xs i d) p)) (goes_then a b)
 
-pub goes_cut : {X : Type 0} (R Cut : X → State → Trace → State → Type 0) {old mid new : Run} {l m n : Option Trace} {v w x : List TurnValue → Trace → Type 0} {f g h : Faults} (xs : List X) (i : ℕ) (d : X) → i < length xs →
+pub goes_cut : {X : Type 0} (R Cut : X → State → Trace → State → Type 0) {old mid new : Run} {l m n : Option Trace} {v w x : Known} {f g h : Faults} (xs : List X) (i : ℕ) (d : X) → i < length xs →
     Goes (Each R (take i xs)) false old mid l m v w f g → Goes (Cut (get_or xs i d)) false mid new m n w x g h → Goes (CutAt R Cut xs) false old new l n v x f h
 goes_cut R Cut xs i d lt a b =
     goes_as (λ t p. record { front = take i xs; last = get_or xs i d; back = drop (i + 1) xs; all = sym (take-append-drop i xs) ∙ ap (λ z. take i xs ++ z) (rw add-one (drop-cons xs i d lt)); went = p }) (goes_then a b)
@@ -85,10 +83,10 @@ links_next i n h =
     let b : 0 + i ≡ i = omega arith in
     ap (links_from 0) a ∙ links_from-split 0 i (suc (n - (i + 1))) ∙ ap (λ z. links_from 0 i ++ links_from z (suc (n - (i + 1)))) b
 
-pub goes_link : (R : ℕ → State → Trace → State → Type 0) {old mid new : Run} {l m n : Option Trace} {v w x : List TurnValue → Trace → Type 0} {f g h : Faults} (i : ℕ) →
+pub goes_link : (R : ℕ → State → Trace → State → Type 0) {old mid new : Run} {l m n : Option Trace} {v w x : Known} {f g h : Faults} (i : ℕ) →
     Goes (Each R (links_from 0 i)) false old mid l m v w f g → Goes (R i) false mid new m n w x g h → Goes (Each R (links_from 0 (i + 1))) false old new l n v x f h
 goes_link R {old = old} {new = new} i a b = goes_as (λ t p. subst (λ z. Each R z old.relay.state t new.relay.state) (sym (links_from-push i)) (each_push R (links_from 0 i) i p)) (goes_then a b)
 
-pub goes_link_cut : (R Cut : ℕ → State → Trace → State → Type 0) {old mid new : Run} {l m n : Option Trace} {v w x : List TurnValue → Trace → Type 0} {f g h : Faults} (i k : ℕ) → i < k →
+pub goes_link_cut : (R Cut : ℕ → State → Trace → State → Type 0) {old mid new : Run} {l m n : Option Trace} {v w x : Known} {f g h : Faults} (i k : ℕ) → i < k →
     Goes (Each R (links_from 0 i)) false old mid l m v w f g → Goes (Cut i) false mid new m n w x g h → Goes (CutAt R Cut (links_from 0 k)) false old new l n v x f h
 goes_link_cut R Cut i k lt a b = goes_as (λ t p. record { front = links_from 0 i; last = i; back = links_from (i + 1) (k - (i + 1)); all = links_next i k lt; went = p }) (goes_then a b)

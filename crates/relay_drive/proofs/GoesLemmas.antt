@@ -4,14 +4,14 @@ use Rattle.std.proofs.lemmas.List.Folds.{list_any-append}
 use Rattle.stream_words.specs.Faults.{Counted}
 use Rattle.ev_types.specs.Trace.{Trace}
 use Rattle.ev_types.specs.Growth.{Grew}
-use Rattle.script_text.specs.Script.{TurnValue}
 use Rattle.ev_port.specs.Told.{Faults}
-use Rattle.ev_port.specs.Vouching.{LongerBy}
-use Rattle.ev_port.specs.Calls.{last_time}
 use Rattle.ev_port.specs.Counting.{counted}
+use Rattle.relay_core.specs.declared.settings.Settings.{Settings}
 use Rattle.relay_core.specs.State.{State}
 use Rattle.relay_drive.specs.declared.run.Run.{Run}
 use Rattle.relay_drive.specs.Steps.{Nothing, Then}
+use Rattle.relay_drive.specs.Known.{Fits, Question}
+use Rattle.relay_drive.proofs.CalmLemmas.{Still, still_none, Same, same, fits_still}
 use Rattle.relay_drive.specs.Goes.{Goes, Heard, has_failed, failed_by, has_poll_failed, is_poll_failed}
 
 -- Lists that are told
@@ -57,55 +57,82 @@ counted-join a b c m n k h g e = omega (arith, h, g, e)
 
 -- Goes
 
--- the same with a weaker relation
-pub goes_as : {R S : State → Trace → State → Type 0} {p : Bool} {old new : Run} {l l' : Option Trace} {v v' : List TurnValue → Trace → Type 0} {f f' : Faults} →
-    ((a : Trace) → R old.relay.state a new.relay.state → S old.relay.state a new.relay.state) → Goes R p old new l l' v v' f f' → Goes S p old new l l' v v' f f'
-goes_as w g = record { added = g.added; does = w g.added g.does; entries = g.entries; list = g.list; told = g.told; heard = g.heard }
+-- what may be known of a port and a trace, with these settings
+abbrev pub Known : Type 1
+Known = Settings → Question → Trace → Type 0
 
-pub goes_then : {R S : State → Trace → State → Type 0} {p q : Bool} {old mid new : Run} {l m n : Option Trace} {v w x : List TurnValue → Trace → Type 0} {f g h : Faults} →
+-- the same with a weaker relation
+pub goes_as : {R S : State → Trace → State → Type 0} {p : Bool} {old new : Run} {l l' : Option Trace} {v v' : Known} {f f' : Faults} →
+    ((a : Trace) → R old.relay.state a new.relay.state → S old.relay.state a new.relay.state) → Goes R p old new l l' v v' f f' → Goes S p old new l l' v v' f f'
+goes_as w g = record { added = g.added; does = w g.added g.does; entries = g.entries; list = g.list; settings = g.settings; told = g.told; heard = g.heard }
+
+-- where more is known of the trace by what the relay did
+pub goes_knowing : {R : State → Trace → State → Type 0} {p : Bool} {old new : Run} {l l' : Option Trace} {v w w' : Known} {f f' : Faults} → (g : Goes R p old new l l' v w f f') →
+    ((t : Trace) (x : Question) → Fits (t ++ g.added) new.relay.state → v old.relay.state.settings x t → w new.relay.state.settings x (t ++ g.added) → w' new.relay.state.settings x (t ++ g.added)) → Goes R p old new l l' v w' f f'
+goes_knowing g h = record {
+  added = g.added;
+  does = g.does;
+  entries = g.entries;
+  list = g.list;
+  settings = g.settings;
+  told = λ t fits. let now = g.told t fits in (now.0, λ x k. h t x now.0 k (now.1 x k));
+  heard = g.heard;
+}
+
+pub goes_then : {R S : State → Trace → State → Type 0} {p q : Bool} {old mid new : Run} {l m n : Option Trace} {v w x : Known} {f g h : Faults} →
     Goes R p old mid l m v w f g → Goes S q mid new m n w x g h → Goes (Then R S) (p || q) old new l n v x f h
 goes_then {p = p} {q = q} {old = old} {mid = mid} {new = new} {l = l} {m = m} {n = n} {v = v} {w = w} {x = x} {f = f} {g = g} {h = h} a b = record {
   added = a.added ++ b.added;
   does = record { middle = mid.relay.state; front = a.added; back = b.added; first = a.does; second = b.does; joined = refl };
   entries = counted-join old.entries mid.entries new.entries (length a.added) (length b.added) (length (a.added ++ b.added)) a.entries b.entries (length-append a.added b.added);
   list = Grew-join l m n a.added b.added a.list b.list;
-  told = λ t e.
-      let first = a.told t e in
+  settings = b.settings ∙ a.settings;
+  told = λ t fits.
+      let first = a.told t fits in
       let second = b.told (t ++ a.added) first.0 in (
-        subst (λ z. last_time z ≡ new.relay.state.time) (append_assoc t a.added b.added) second.0,
-        λ turns k. subst (x turns) (append_assoc t a.added b.added) (second.1 turns (first.1 turns k)),
+        subst (λ z. Fits z new.relay.state) (append_assoc t a.added b.added) second.0,
+        λ y k. subst (x new.relay.state.settings y) (append_assoc t a.added b.added) (second.1 y (first.1 y k)),
       );
   heard = Heard-join f g h a.added b.added p q a.heard b.heard;
 }
 
--- no entry was put, and the port vouches as before
-pub goes_silent : {old new : Run} {l l' : Option Trace} {v v' : List TurnValue → Trace → Type 0} {f f' : Faults} → new.relay.state ≡ old.relay.state → new.entries ≡ old.entries → Grew l l' [] →
-    LongerBy v v' [] → Heard f f' [] false → Goes Nothing false old new l l' v v' f f'
-goes_silent {old = old} {new = new} {v = v} {v' = v'} s n list told heard = record {
-  added = [];
-  does = (refl, s);
-  entries = omega (arith, n);
+-- these entries were put, and this changed
+pub goes_by : {R : State → Trace → State → Type 0} {p : Bool} {old new : Run} {v v' : Known} (l l' : Option Trace) (f f' : Faults) (a : Trace) → R old.relay.state a new.relay.state → new.relay.state.settings ≡ old.relay.state.settings →
+    counted new.entries 0 ≡ counted old.entries (length a) → Grew l l' a → ((t : Trace) → Fits t old.relay.state → Fits (t ++ a) new.relay.state) →
+    ((t : Trace) → Fits t old.relay.state → (x : Question) → v old.relay.state.settings x t → v' old.relay.state.settings x (t ++ a)) → Heard f f' a p → Goes R p old new l l' v v' f f'
+goes_by {old = old} {new = new} {v' = v'} l l' f f' a does settings entries list fits known heard = record {
+  added = a;
+  does = does;
+  entries = entries;
   list = list;
-  told = λ t e. (ap last_time (append-nil t) ∙ e ∙ ap (λ (z : State). z.time) (sym s), λ turns. told turns t);
+  settings = settings;
+  told = λ t h. (fits t h, λ x k. subst (λ z. v' z x (t ++ a)) (sym settings) (known t h x k));
   heard = heard;
 }
 
+-- entries that begin no turn and open no link
+pub goes_some : {R : State → Trace → State → Type 0} {p : Bool} {old new : Run} {v v' : Known} (l l' : Option Trace) (f f' : Faults) (a : Trace) → Still a → R old.relay.state a new.relay.state → Same old.relay.state new.relay.state →
+    counted new.entries 0 ≡ counted old.entries (length a) → Grew l l' a → ((t : Trace) → Fits t old.relay.state → (x : Question) → v old.relay.state.settings x t → v' old.relay.state.settings x (t ++ a)) → Heard f f' a p → Goes R p old new l l' v v' f f'
+goes_some {old = old} {new = new} l l' f f' a calm does same entries list known heard =
+    goes_by l l' f f' a does same.settings entries list (λ t. fits_still t a old.relay.state new.relay.state calm same) known heard
+
+-- no entry was put
+pub goes_silent : {p : Bool} {old new : Run} {l l' : Option Trace} {v v' : Known} {f f' : Faults} → new.relay.state ≡ old.relay.state → new.entries ≡ old.entries → Grew l l' [] →
+    ((t : Trace) (x : Question) → v old.relay.state.settings x t → v' old.relay.state.settings x (t ++ [])) → Heard f f' [] p → Goes Nothing p old new l l' v v' f f'
+goes_silent {old = old} {new = new} {l = l} {l' = l'} {f = f} {f' = f'} s n list known heard =
+    goes_some l l' f f' [] still_none (refl, s) (same old.relay.state new.relay.state s) (omega (arith, n)) list (λ t fits. known t) heard
+
 -- nothing was asked of the port
-pub goes_nowhere : {old new : Run} {l l' : Option Trace} {v : List TurnValue → Trace → Type 0} {f : Faults} → new.relay.state ≡ old.relay.state → new.entries ≡ old.entries → Grew l l' [] →
-    Goes Nothing false old new l l' v v f f
-goes_nowhere {v = v} {f = f} s n list = goes_silent s n list (λ turns t k. subst (v turns) (sym (append-nil t)) k) (Heard-none f)
+pub goes_nowhere : {old new : Run} {l l' : Option Trace} {v v' : Known} {f : Faults} → new.relay.state ≡ old.relay.state → new.entries ≡ old.entries → Grew l l' [] →
+    ((g : Settings) (t : Trace) (x : Question) → v g x t → v' g x t) → Goes Nothing false old new l l' v v' f f
+goes_nowhere {old = old} {v' = v'} {f = f} s n list known =
+    goes_silent s n list (λ t x k. subst (v' old.relay.state.settings x) (sym (append-nil t)) (known old.relay.state.settings t x k)) (Heard-none f)
 
 -- the relay alone changed
-pub goes_within : {R : State → Trace → State → Type 0} {old new : Run} (l : Option Trace) (v : List TurnValue → Trace → Type 0) (f : Faults) → R old.relay.state [] new.relay.state → new.relay.state.time ≡ old.relay.state.time → new.entries ≡ old.entries →
+pub goes_within : {R : State → Trace → State → Type 0} {old new : Run} (l : Option Trace) (v : Known) (f : Faults) → R old.relay.state [] new.relay.state → Same old.relay.state new.relay.state → new.entries ≡ old.entries →
     Goes R false old new l l v v f f
-goes_within l v f does time n = record {
-  added = [];
-  does = does;
-  entries = omega (arith, n);
-  list = Grew-none l;
-  told = λ t e. (ap last_time (append-nil t) ∙ e ∙ sym time, λ turns k. subst (v turns) (sym (append-nil t)) k);
-  heard = Heard-none f;
-}
+goes_within {old = old} l v f does same n =
+    goes_some l l f f [] still_none does same (omega (arith, n)) (Grew-none l) (λ t fits x k. subst (v old.relay.state.settings x) (sym (append-nil t)) k) (Heard-none f)
 
-pub goes_flag : {R : State → Trace → State → Type 0} {p q : Bool} {old new : Run} {l l' : Option Trace} {v v' : List TurnValue → Trace → Type 0} {f f' : Faults} → p ≡ q → Goes R p old new l l' v v' f f' → Goes R q old new l l' v v' f f'
+pub goes_flag : {R : State → Trace → State → Type 0} {p q : Bool} {old new : Run} {l l' : Option Trace} {v v' : Known} {f f' : Faults} → p ≡ q → Goes R p old new l l' v v' f f' → Goes R q old new l l' v v' f f'
 goes_flag {R = R} {old = old} {new = new} {l = l} {l' = l'} {v = v} {v' = v'} {f = f} {f' = f'} e g = subst (λ b. Goes R b old new l l' v v' f f') e g

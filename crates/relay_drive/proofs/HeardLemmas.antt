@@ -1,4 +1,6 @@
 -- What one call of the port lets the counts of faults say.
+use Rattle.std.specs.List.{list_all}
+use Rattle.relay_model.specs.Plays.{is_served}
 use Rattle.std.proofs.Common.{◌≡◌, ◌≢◌, ℕ, Bool, true, false, ◌&&◌, ◌||◌, ◌==◌, List, [], ◌∷◌, ◌++◌, length, max, Option, refl, sym, ◌∙◌, ap, subst, arith, eqb-true, eq-eqb}
 use Rattle.stream_words.specs.Faults.{Counted}
 use Rattle.ev_types.specs.declared.side.Side.{Side}
@@ -16,50 +18,20 @@ use Rattle.ev_types.specs.Trace.{Trace}
 use Rattle.ev_types.specs.Growth.{Grew}
 use Rattle.script_text.specs.Script.{TurnValue}
 use Rattle.ev_port.specs.Vouching.{LongerBy}
-use Rattle.ev_port.specs.Told.{Faults}
+use Rattle.ev_port.specs.Told.{Faults, EndTold, PortTold, EndsWent, AllWent, PortStays}
 use Rattle.ev_port.specs.Faults.{EndFaults, FaultsStay, ListenerFaults}
-use Rattle.ev_port.specs.Ends.{is_failed_conn, conn_events, is_failed_read, read_events, is_failed_write, write_events, took_bytes}
-use Rattle.ev_port.specs.Calls.{last_time}
+use Rattle.ev_port.specs.Ends.{is_failed_conn, conn_events, is_failed_read, read_events, is_failed_write, write_step, write_events, took_bytes}
 use Rattle.ev_port.specs.Counting.{counted}
 use Rattle.relay_core.specs.State.{State}
 use Rattle.relay_drive.specs.declared.run.Run.{Run}
 use Rattle.relay_drive.specs.Calls.{is_memory, after_conn, after_read, after_write}
 use Rattle.relay_drive.specs.Goes.{Goes, Heard, has_failed, has_poll_failed}
-use Rattle.relay_drive.proofs.GoesLemmas.{Counted-same}
-
--- Names of ends
-
-same_side-true : (a b : Side) → same_side a b ≡ true → b ≡ a
-same_side-true In In h = refl
-same_side-true Out Out h = refl
-same_side-true In Out h = absurd (cc)
-same_side-true Out In h = absurd (cc)
-
-same_side-refl : (a : Side) → same_side a a ≡ true
-same_side-refl In = refl
-same_side-refl Out = refl
-
-and_left : (a b : Bool) → a && b ≡ true → a ≡ true
-and_left true b h = refl
-and_left false b h = absurd (cc)
-
-and_right : (a b : Bool) → a && b ≡ true → b ≡ true
-and_right true b h = h
-and_right false b h = absurd (cc)
-
-pub same_end-true : (a b : SideId) → same_end a b ≡ true → b ≡ a
-same_end-true a b h =
-    let link : b.link ≡ a.link = sym (eqb-true a.link b.link (and_left (a.link == b.link) (same_side a.side b.side) h)) in
-    let side = same_side-true a.side b.side (and_right (a.link == b.link) (same_side a.side b.side) h) in
-    λ i. record { link = link i; side = side i }
-
-pub same_end-refl : (a : SideId) → same_end a a ≡ true
-same_end-refl a = ap (λ b. b && same_side a.side a.side) (eq-eqb a.link a.link refl) ∙ same_side-refl a.side
-
-pub same_end-false : (a b : SideId) → same_end a b ≡ false → b ≢ a
-same_end-false a b h = λ e. absurd (
-    let p : same_end a a ≡ false = subst (λ x. same_end a x ≡ false) e h in
-    let q = same_end-refl a in cc)
+use Rattle.relay_drive.proofs.EndNames.{same_end-true, same_end-false}
+use Rattle.relay_drive.specs.Known.{Progress, known}
+use Rattle.relay_drive.proofs.CalmLemmas.{calm_list, served_list, still, Same}
+use Rattle.relay_drive.proofs.TiedLemmas.{step_of, one_end, write_says}
+use Rattle.relay_drive.proofs.KnownLemmas.{known_served}
+use Rattle.relay_drive.proofs.GoesLemmas.{Counted-same, goes_some}
 
 -- Counts
 
@@ -116,60 +88,40 @@ Heard-open f g a is_fault h each none = record {
 pub FaultsStay-same : (f : Faults) → FaultsStay f f
 FaultsStay-same f = record { ends = λ e. refl; polling = refl; listener = refl }
 
--- The time of a trace
-
-pub last_time-append : (t a : Trace) → last_time (t ++ a) ≡ max (last_time t) (last_time a)
-last_time-append [] a = omega arith
-last_time-append ((entry.Turn ms, b) ∷ t) a = let h = last_time-append t a in omega (arith, h)
-last_time-append ((entry.Poll x, b) ∷ t) a = last_time-append t a
-last_time-append ((entry.Want x y z, b) ∷ t) a = last_time-append t a
-last_time-append ((entry.Ready x y z, b) ∷ t) a = last_time-append t a
-last_time-append ((entry.PollFailed, b) ∷ t) a = last_time-append t a
-last_time-append ((entry.Opened x y, b) ∷ t) a = last_time-append t a
-last_time-append ((entry.Conn x y, b) ∷ t) a = last_time-append t a
-last_time-append ((entry.Read x y z, b) ∷ t) a = last_time-append t a
-last_time-append ((entry.Write x y z, b) ∷ t) a = last_time-append t a
-last_time-append ((entry.Fired x y, b) ∷ t) a = last_time-append t a
-last_time-append ((entry.Asked x y z, b) ∷ t) a = last_time-append t a
-last_time-append ((entry.Freed x y z w, b) ∷ t) a = last_time-append t a
-last_time-append ((entry.CloseWrite x, b) ∷ t) a = last_time-append t a
-last_time-append ((entry.Close x, b) ∷ t) a = last_time-append t a
-
--- entries of which none begins a turn
-pub goes_some : {R : State → Trace → State → Type 0} {p : Bool} {old new : Run} {v v' : List TurnValue → Trace → Type 0} (l l' : Option Trace) (f f' : Faults) (a : Trace) → last_time a ≡ 0 →
-    R old.relay.state a new.relay.state → new.relay.state.time ≡ old.relay.state.time → counted new.entries 0 ≡ counted old.entries (length a) → Grew l l' a → LongerBy v v' a → Heard f f' a p → Goes R p old new l l' v v' f f'
-goes_some {old = old} {new = new} l l' f f' a quiet does time entries list told heard = record {
-  added = a;
-  does = does;
-  entries = entries;
-  list = list;
-  told = λ t e. (let h = last_time-append t a in omega (arith, h, quiet, e, time), λ turns. told turns t);
-  heard = heard;
-}
+-- entries behind accepting
+pub goes_served : {R : State → Trace → State → Type 0} {p : Bool} {old new : Run} {v v' : List TurnValue → Trace → Type 0} {told told' : PortTold} {ends ends' : SideId → EndTold} (l l' : Option Trace) (f f' : Faults) (a : Trace) → list_all is_served a ≡ true →
+    R old.relay.state a new.relay.state → Same old.relay.state new.relay.state → counted new.entries 0 ≡ counted old.entries (length a) → Grew l l' a → LongerBy v v' a → AllWent ends ends' (λ e. step_of e a) → PortStays told told' → Heard f f' a p →
+    Goes R p old new l l' (known Progress.Accepted v told ends) (known Progress.Accepted v' told' ends') f f'
+goes_served {old = old} {v = v} {v' = v'} {told = told} {told' = told'} {ends = ends} {ends' = ends'} l l' f f' a served does same entries list longer went stays heard =
+    goes_some l l' f f' a (still a (calm_list a (served_list a served))) does same entries list (λ t fits. known_served old.relay.state.settings v v' told told' ends ends' t a served longer went stays) heard
 
 -- and one entry
-pub goes_once : {R : State → Trace → State → Type 0} {p : Bool} {old new : Run} {v v' : List TurnValue → Trace → Type 0} (l l' : Option Trace) (f f' : Faults) (a : Trace) → last_time a ≡ 0 →
-    R old.relay.state a new.relay.state → new.relay.state.time ≡ old.relay.state.time → new.entries ≡ counted old.entries (length a) → Grew l l' a → LongerBy v v' a → Heard f f' a p → Goes R p old new l l' v v' f f'
-goes_once l l' f f' a quiet does time entries list told heard = goes_some l l' f f' a quiet does time (omega (arith, entries)) list told heard
+pub goes_once : {R : State → Trace → State → Type 0} {p : Bool} {old new : Run} {v v' : List TurnValue → Trace → Type 0} {told told' : PortTold} {ends ends' : SideId → EndTold} (l l' : Option Trace) (f f' : Faults) (a : Trace) → list_all is_served a ≡ true →
+    R old.relay.state a new.relay.state → Same old.relay.state new.relay.state → new.entries ≡ counted old.entries (length a) → Grew l l' a → LongerBy v v' a → AllWent ends ends' (λ e. step_of e a) → PortStays told told' → Heard f f' a p →
+    Goes R p old new l l' (known Progress.Accepted v told ends) (known Progress.Accepted v' told' ends') f f'
+goes_once l l' f f' a served does same entries list longer went stays heard = goes_served l l' f f' a served does same (omega (arith, entries)) list longer went stays heard
 
 -- What calls leave as it is
 
-pub conn_time : (s : State) (e : SideId) (answer : ConnAnswer) → (after_conn s e answer).time ≡ s.time
-conn_time s e conn.Connected = refl
-conn_time s e conn.Pending = refl
-conn_time s e conn.Failed = refl
+pub conn_same : (s : State) (e : SideId) (answer : ConnAnswer) → Same s (after_conn s e answer)
+conn_same s e conn.Connected = record { time = refl; opened = refl; settings = refl }
+conn_same s e conn.Pending = record { time = refl; opened = refl; settings = refl }
+conn_same s e conn.Failed = record { time = refl; opened = refl; settings = refl }
 
-pub read_time : (s : State) (e : SideId) (answer : ReadAnswer) (bytes : List ℕ) → (after_read s e answer bytes).time ≡ s.time
-read_time s e (read.Got n) bytes = refl
-read_time s e read.Ended bytes = refl
-read_time s e read.NotYet bytes = refl
-read_time s e read.Failed bytes = refl
+pub read_same : (s : State) (e : SideId) (answer : ReadAnswer) (bytes : List ℕ) → Same s (after_read s e answer bytes)
+read_same s e (read.Got n) bytes = record { time = refl; opened = refl; settings = refl }
+read_same s e read.Ended bytes = record { time = refl; opened = refl; settings = refl }
+read_same s e read.NotYet bytes = record { time = refl; opened = refl; settings = refl }
+read_same s e read.Failed bytes = record { time = refl; opened = refl; settings = refl }
 
-pub write_time : (s : State) (e : SideId) (answer : WriteAnswer) → (after_write s e answer).time ≡ s.time
-write_time s e (write.Took n) = refl
-write_time s e write.NotYet = refl
-write_time s e write.Failed = refl
-write_time s e write.NoMemory = refl
+pub write_same : (s : State) (e : SideId) (answer : WriteAnswer) → Same s (after_write s e answer)
+write_same s e (write.Took n) = record { time = refl; opened = refl; settings = refl }
+write_same s e write.NotYet = record { time = refl; opened = refl; settings = refl }
+write_same s e write.Failed = record { time = refl; opened = refl; settings = refl }
+write_same s e write.NoMemory = record { time = refl; opened = refl; settings = refl }
+
+pub same_as : (s new is : State) → new ≡ is → Same s is → Same s new
+same_as s new is e h = subst (Same s) (sym e) h
 
 -- a write answered with want of memory is no step
 pub no_write : (v v' : List TurnValue → Trace → Type 0) (e : SideId) (from : List ℕ) (answer : WriteAnswer) → is_memory answer ≡ true → LongerBy v v' (write_events e from answer) → LongerBy v v' []
@@ -177,6 +129,12 @@ no_write v v' e from write.NoMemory m h = h
 no_write v v' e from (write.Took n) m h = absurd (cc)
 no_write v v' e from write.NotYet m h = absurd (cc)
 no_write v v' e from write.Failed m h = absurd (cc)
+
+pub no_write_ends : (ends ends' : SideId → EndTold) (end : SideId) (from : List ℕ) (answer : WriteAnswer) → is_memory answer ≡ true → EndsWent ends ends' end (write_step answer from) → AllWent ends ends' (λ e. step_of e [])
+no_write_ends ends ends' end from write.NoMemory m h = one_end ends ends' end (write_step write.NoMemory from) [] (λ e. write_says end e from write.NoMemory) h
+no_write_ends ends ends' end from (write.Took n) m h = absurd (cc)
+no_write_ends ends ends' end from write.NotYet m h = absurd (cc)
+no_write_ends ends ends' end from write.Failed m h = absurd (cc)
 
 pub memory_is : (f g : Faults) (e : SideId) (from : List ℕ) (answer : WriteAnswer) → is_memory answer ≡ true → EndFaults f g e (is_failed_write answer) → Heard f g [] false
 memory_is f g e from write.NoMemory m h = Heard-write f g e from write.NoMemory h

@@ -1,5 +1,10 @@
 pub mod GoesLemmas
 pub mod HeardLemmas
+pub mod EndNames
+pub mod CalmLemmas
+pub mod TiedLemmas
+pub mod PortLemmas
+pub mod KnownLemmas
 pub mod EachLemmas
 pub mod ClosingLemmas
 pub mod PollLemmas

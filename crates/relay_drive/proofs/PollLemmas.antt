@@ -20,7 +20,6 @@ use Rattle.relay_drive.specs.Steps.{Then}
 use Rattle.relay_drive.specs.Phases.{wants_of_link, wants_of_links, Polls, AcceptsMore, CutAccepting}
 use Rattle.relay_drive.specs.Goes.{Heard, has_failed, failed_by, has_poll_failed, is_poll_failed}
 use Rattle.relay_drive.proofs.GoesLemmas.{Counted-same}
-use Rattle.relay_drive.proofs.HeardLemmas.{last_time-append}
 
 pub want_events-push : (ws : List Want) (w : Want) → want_events (ws ++ w ∷ []) ≡ want_events ws ++ (entry.Want w.side w.read w.write, []) ∷ []
 want_events-push [] w = refl
@@ -46,20 +45,7 @@ want_events-marked (x ∷ ws) (y ∷ ms) h m =
     let rest = want_events-marked ws ms (omega (arith, h)) (λ k d lt. m (suc k) d (omega (arith, lt))) in
     λ i. (entry.Want (side i) (read i) (write i), []) ∷ rest i
 
--- no entry of a poll begins a turn or tells of a fault of an end
-
-pub want_time : (ws : List Want) → last_time (want_events ws) ≡ 0
-want_time [] = refl
-want_time (w ∷ ws) = want_time ws
-
-mark_time : (r w : Bool) (e : SideId) → last_time (if r then (entry.Ready e true w, []) ∷ [] else (if w then (entry.Ready e false true, []) ∷ [] else [])) ≡ 0
-mark_time true w e = refl
-mark_time false true e = refl
-mark_time false false e = refl
-
-pub ready_time : (ws : List Want) → last_time (ready_events ws) ≡ 0
-ready_time [] = refl
-ready_time (w ∷ ws) = let a = last_time-append (marks w) (ready_events ws) in let b = mark_time w.can_read w.can_write w.side in let c = ready_time ws in omega (arith, a, b, c)
+-- no entry of a poll tells of a fault of an end
 
 want_failed : (ws : List Want) (e : SideId) → has_failed e (want_events ws) ≡ false
 want_failed [] e = refl
@@ -91,12 +77,6 @@ ready_polls : (ws : List Want) → has_poll_failed (ready_events ws) ≡ false
 ready_polls [] = refl
 ready_polls (w ∷ ws) =
     list_any-append is_poll_failed (marks w) (ready_events ws) ∙ both_false (has_poll_failed (marks w)) (has_poll_failed (ready_events ws)) (mark_polls w.can_read w.can_write w.side) (ready_polls ws)
-
-pub poll_time : (ws : List Want) (accept : Bool) → last_time (poll_events None ws (polled.Ready accept)) ≡ 0
-poll_time ws accept = let a = last_time-append (want_events ws) (ready_events ws) in let b = want_time ws in let c = ready_time ws in omega (arith, a, b, c)
-
-pub failed_poll_time : (ws : List Want) → last_time (poll_events None ws polled.Failed) ≡ 0
-failed_poll_time ws = let a = last_time-append (want_events ws) ((entry.PollFailed, []) ∷ []) in let b = want_time ws in omega (arith, a, b)
 
 pub Heard-poll : (f g : Faults) (ws : List Want) (accept : Bool) → PollFaults f g false → Heard f g (poll_events None ws (polled.Ready accept)) false
 Heard-poll f g ws accept h = record {

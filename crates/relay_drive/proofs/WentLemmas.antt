@@ -1,7 +1,6 @@
 -- What a run does is what its drive does.
 use Rattle.std.proofs.Common.{◌≡◌, ℕ, ◌+◌, Bool, List, ◌++◌, length, Option, refl, sym, ◌∙◌, subst, arith, length-append}
 use Rattle.ev_types.specs.Trace.{Trace}
-use Rattle.script_text.specs.Script.{TurnValue}
 use Rattle.ev_port.specs.Told.{Faults}
 use Rattle.relay_core.specs.State.{State}
 use Rattle.relay_drive.specs.declared.fault.DriveFault.{DriveFault}
@@ -9,13 +8,14 @@ use Rattle.relay_drive.specs.declared.run.Run.{Run}
 use Rattle.relay_drive.specs.DriveValue.{DriveValue}
 use Rattle.relay_drive.specs.Goes.{Goes}
 use Rattle.relay_drive.specs.Stands.{StandsBetween, Went}
+use Rattle.relay_drive.proofs.GoesLemmas.{Known}
 
 -- a run with a kept refusal
 abbrev pub drive_value : Run → Option DriveFault → DriveValue
 drive_value run r = record { state = run.relay.state; entries = run.entries; refusal = r }
 
 pub went_of : {R : State → Trace → State → Type 0} {After : Trace → State → Type 0} → ((t : Trace) (s new : State) (a : Trace) → StandsBetween t s → R s a new → After (t ++ a) new) →
-    {failed : Bool} {old new : DriveValue} {run run' : Run} {log log' : Option Trace} {v v' : List TurnValue → Trace → Type 0} {f f' : Faults} (r r' : Option DriveFault) →
+    {failed : Bool} {old new : DriveValue} {run run' : Run} {log log' : Option Trace} {v v' : Known} {f f' : Faults} (r r' : Option DriveFault) →
     old ≡ drive_value run r → new ≡ drive_value run' r' → Goes R failed run run' log log' v v' f f' → Went R After failed old new log log' v v' f f'
 went_of {R = R} {After = After} law {failed = failed} {new = new} {run = run} {run' = run'} {log = log} {log' = log'} {v = v} {v' = v'} {f = f} {f' = f'} r r' p q g =
     subst (λ z. Went R After failed z new log log' v v' f f') (sym p)
@@ -24,10 +24,11 @@ went_of {R = R} {After = After} law {failed = failed} {new = new} {run = run} {r
       does = g.does;
       means = λ t k. law t run.relay.state run'.relay.state g.added k g.does;
       list = g.list;
+      settings = g.settings;
       stands = λ t k. record {
-        time = (g.told t k.time).0;
+        fits = (g.told t k.fits).0;
         entries = (let a = k.entries in let b = g.entries in omega (arith, a, b, length-append t g.added));
       };
-      told = λ turns t k. (g.told t k.time).1 turns;
+      told = λ x t k. (g.told t k.fits).1 x;
       heard = g.heard;
     }))

@@ -1,4 +1,4 @@
--- What a call of the drive does outside of the relay too: the entries that it puts, what the port vouches for, and which
+-- What a call of the drive does outside of the relay too: the entries that it puts, what is known of the port, and which
 -- faults are counted.
 use Rattle.std.specs.Prelude.{◌≡◌, Bool, true, false, List, ◌++◌, length, Option}
 use Rattle.std.specs.List.{list_any}
@@ -11,12 +11,12 @@ use Rattle.ev_types.specs.declared.entry.Entry.TheVariants as entry
 use Rattle.ev_types.specs.Sides.{same_end}
 use Rattle.ev_types.specs.Trace.{Event, Trace}
 use Rattle.ev_types.specs.Growth.{Grew}
-use Rattle.script_text.specs.Script.{TurnValue}
 use Rattle.ev_port.specs.Told.{Faults}
-use Rattle.ev_port.specs.Calls.{last_time}
 use Rattle.ev_port.specs.Counting.{counted}
+use Rattle.relay_core.specs.declared.settings.Settings.{Settings}
 use Rattle.relay_core.specs.State.{State}
 use Rattle.relay_drive.specs.declared.run.Run.{Run}
+use Rattle.relay_drive.specs.Known.{Fits, Question}
 
 -- an event in which a call for an end failed
 abbrev pub failed_by : SideId → Event → Bool
@@ -43,12 +43,13 @@ pub record Heard (old new : Faults) (added : Trace) (open_failed : Bool) : Type 
   pub polling : Counted old.polling new.polling (has_poll_failed added)
   pub listener : Counted old.listener new.listener open_failed
 
--- The relay does this; the entries of that are counted and stand behind the trace of the scribe. For every trace whose
--- last time is the relay's, that stays so with these entries, and a port that vouched for the one vouches for the other.
-pub record Goes (R : State → Trace → State → Type 0) (open_failed : Bool) (old new : Run) (log log' : Option Trace) (vouched vouched' : List TurnValue → Trace → Type 0) (faults faults' : Faults) : Type 0 where
+-- The relay does this; the entries of that are counted and stand behind the trace of the scribe, and the settings stay. For
+-- every trace that fits the relay, the trace with these entries does; what was known of the one is known of the other.
+pub record Goes (R : State → Trace → State → Type 0) (open_failed : Bool) (old new : Run) (log log' : Option Trace) (known known' : Settings → Question → Trace → Type 0) (faults faults' : Faults) : Type 0 where
   pub added : Trace
   pub does : R old.relay.state added new.relay.state
   pub entries : counted new.entries 0 ≡ counted old.entries (length added)
   pub list : Grew log log' added
-  pub told : (t : Trace) → last_time t ≡ old.relay.state.time → (last_time (t ++ added) ≡ new.relay.state.time) × ((turns : List TurnValue) → vouched turns t → vouched' turns (t ++ added))
+  pub settings : new.relay.state.settings ≡ old.relay.state.settings
+  pub told : (t : Trace) → Fits t old.relay.state → Fits (t ++ added) new.relay.state × ((x : Question) → known old.relay.state.settings x t → known' new.relay.state.settings x (t ++ added))
   pub heard : Heard faults faults' added open_failed

@@ -1,6 +1,11 @@
 pub mod Steps
 pub mod Calls
+pub mod PollPhase
+pub mod ServePhase
+pub mod PassPhase
+pub mod ClosePhase
 pub mod Phases
+pub mod Known
 pub mod Goes
 pub mod DriveValue
 pub mod DriveView

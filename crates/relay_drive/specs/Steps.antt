@@ -1,6 +1,6 @@
 -- What is done to the relay's state, with the entries that are put for it, as a relation of the state before, the
 -- entries and the state after. Such relations stand one behind another.
-use Rattle.std.specs.Prelude.{◌≡◌, List, [], ◌∷◌, ◌++◌}
+use Rattle.std.specs.Prelude.{◌≡◌, ℕ, zero, suc, ◌+◌, List, [], ◌∷◌, ◌++◌}
 use Rattle.ev_types.specs.Trace.{Trace}
 use Rattle.relay_core.specs.State.{State}
 
@@ -29,3 +29,8 @@ pub record CutAt {X : Type 0} (R Cut : X → State → Trace → State → Type 
   pub back : List X
   pub all : xs ≡ front ++ last ∷ back
   pub went : Then (Each R front) (Cut last) s a new
+
+-- the numbers of n links from k on
+abbrev pub links_from : ℕ → ℕ → List ℕ
+links_from k zero = []
+links_from k (suc n) = k ∷ links_from (k + 1) n

@@ -6,10 +6,12 @@ ghost use Rattle.ev_types.specs.declared.entry.Entry.{Entry as EntryValue};
 ghost use Rattle.ev_port.specs.Calls.{IsUnheard};
 ghost use Rattle.ev_port.specs.Counting.{counted};
 ghost use Rattle.ev_port.specs.Faults.{FaultsStay};
+ghost use Rattle.ev_port.specs.Told.{AllWent, PortStays};
 ghost use Rattle.relay_core.specs.Closing.{link_of, is_called_for, closing_of};
 ghost use Rattle.relay_drive.specs.declared.fault.DriveFault.TheVariants.{Memory};
 ghost use Rattle.relay_drive.specs.Steps.{Nothing, CutAt};
-ghost use Rattle.relay_drive.specs.Phases.{freed_event, closing_events, told_events, Closes, LooksAt, ClosesLink, CutClosingLink, ForAllLinks, CutForAllLinks};
+ghost use Rattle.relay_drive.specs.Phases.{freed_event, closing_events, told_events, told_step, Closes, LooksAt, ClosesLink, CutClosingLink, ForAllLinks, CutForAllLinks};
+ghost use Rattle.relay_drive.specs.Known.{known, Progress};
 ghost use Rattle.relay_drive.specs.Goes.{Goes};
 
 use crate::fault::DriveFault;
@@ -45,6 +47,8 @@ fn tell<P: Port>(step: Closing, port: &mut P)
     ensures vouched { LongerBy (P.vouches port.old) (P.vouches port.new) (told_events step) }
     ensures unheard { (e : EntryValue) → IsUnheard e → LongerBy (P.vouches port.new) (P.vouches port.new) ((e, []) ∷ []) }
     ensures cause { FaultsStay (P.faults port.old) (P.faults port.new) }
+    ensures ends { AllWent (P.ends port.old) (P.ends port.new) (told_step step) }
+    ensures told { PortStays (P.told port.old) (P.told port.new) }
 {
     match step {
         Closing::EndWriting(side) => port.close_write(side),
@@ -88,8 +92,8 @@ fn close_step<P: Port, S: Scribe>(
 ) -> Result<(), DriveFault>
     requires { link_of step < run.old.relay.state.opened }
     ensures went { MatchResult result
-        (λ _. Goes (LooksAt step) false run.old run.new (S.trace scribe.old) (S.trace scribe.new) (P.vouches port.old) (P.vouches port.new) (P.faults port.old) (P.faults port.new))
-        (λ _. Goes Nothing false run.old run.new (S.trace scribe.old) (S.trace scribe.new) (P.vouches port.old) (P.vouches port.new) (P.faults port.old) (P.faults port.new)) }
+        (λ _. Goes (LooksAt step) false run.old run.new (S.trace scribe.old) (S.trace scribe.new) (known Progress.Accepted (P.vouches port.old) (P.told port.old) (P.ends port.old)) (known Progress.Accepted (P.vouches port.new) (P.told port.new) (P.ends port.new)) (P.faults port.old) (P.faults port.new))
+        (λ _. Goes Nothing false run.old run.new (S.trace scribe.old) (S.trace scribe.new) (known Progress.Accepted (P.vouches port.old) (P.told port.old) (P.ends port.old)) (known Progress.Accepted (P.vouches port.new) (P.told port.new) (P.ends port.new)) (P.faults port.old) (P.faults port.new)) }
     ensures kept { run.new.relay.state.opened ≡ run.old.relay.state.opened }
     ensures cause { MatchResult result (λ _. Unit {0}) (λ fault. fault ≡ Memory) }
 {
@@ -112,8 +116,8 @@ fn close_link<P: Port, S: Scribe>(
 ) -> Result<(), DriveFault>
     requires { link < run.old.relay.state.opened }
     ensures went { MatchResult result
-        (λ _. Goes (ClosesLink link) false run.old run.new (S.trace scribe.old) (S.trace scribe.new) (P.vouches port.old) (P.vouches port.new) (P.faults port.old) (P.faults port.new))
-        (λ _. Goes (CutClosingLink link) false run.old run.new (S.trace scribe.old) (S.trace scribe.new) (P.vouches port.old) (P.vouches port.new) (P.faults port.old) (P.faults port.new)) }
+        (λ _. Goes (ClosesLink link) false run.old run.new (S.trace scribe.old) (S.trace scribe.new) (known Progress.Accepted (P.vouches port.old) (P.told port.old) (P.ends port.old)) (known Progress.Accepted (P.vouches port.new) (P.told port.new) (P.ends port.new)) (P.faults port.old) (P.faults port.new))
+        (λ _. Goes (CutClosingLink link) false run.old run.new (S.trace scribe.old) (S.trace scribe.new) (known Progress.Accepted (P.vouches port.old) (P.told port.old) (P.ends port.old)) (known Progress.Accepted (P.vouches port.new) (P.told port.new) (P.ends port.new)) (P.faults port.old) (P.faults port.new)) }
     ensures kept { run.new.relay.state.opened ≡ run.old.relay.state.opened }
     ensures cause { MatchResult result (λ _. Unit {0}) (λ fault. fault ≡ Memory) }
 {
@@ -131,8 +135,8 @@ pub(crate) fn close<P: Port, S: Scribe>(
     scribe: &mut S,
 ) -> Result<(), DriveFault>
     ensures went { MatchResult result
-        (λ _. Goes (ForAllLinks ClosesLink) false run.old run.new (S.trace scribe.old) (S.trace scribe.new) (P.vouches port.old) (P.vouches port.new) (P.faults port.old) (P.faults port.new))
-        (λ _. Goes (CutForAllLinks ClosesLink CutClosingLink) false run.old run.new (S.trace scribe.old) (S.trace scribe.new) (P.vouches port.old) (P.vouches port.new) (P.faults port.old) (P.faults port.new)) }
+        (λ _. Goes (ForAllLinks ClosesLink) false run.old run.new (S.trace scribe.old) (S.trace scribe.new) (known Progress.Accepted (P.vouches port.old) (P.told port.old) (P.ends port.old)) (known Progress.Accepted (P.vouches port.new) (P.told port.new) (P.ends port.new)) (P.faults port.old) (P.faults port.new))
+        (λ _. Goes (CutForAllLinks ClosesLink CutClosingLink) false run.old run.new (S.trace scribe.old) (S.trace scribe.new) (known Progress.Accepted (P.vouches port.old) (P.told port.old) (P.ends port.old)) (known Progress.Accepted (P.vouches port.new) (P.told port.new) (P.ends port.new)) (P.faults port.old) (P.faults port.new)) }
     ensures cause { MatchResult result (λ _. Unit {0}) (λ fault. fault ≡ Memory) }
 {
     for link in 0..run.relay.opened() {

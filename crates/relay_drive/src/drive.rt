@@ -4,6 +4,7 @@ ghost use Rattle.relay_core.specs.Counting.{link_count, open_below, buffered_bel
 ghost use Rattle.relay_drive.specs.declared.fault.DriveFault.TheVariants.{Memory, Spent};
 ghost use Rattle.relay_drive.specs.DriveValue.{new_drive, is_worn, refusal_of};
 ghost use Rattle.relay_drive.specs.Phases.{Turns, CutTurn, is_open_fault};
+ghost use Rattle.relay_drive.specs.Known.{known, Progress};
 ghost use Rattle.relay_drive.specs.Stands.{answer_of, StandsBetween, Went};
 ghost use Rattle.relay_meaning.specs.Meaning.{LeftFor};
 
@@ -76,8 +77,8 @@ impl Drive {
         // Every other turn goes through its phases, or is cut off as its answer says. Whatever trace the relay stood for,
         // it stands for that trace with the turn's entries: between two turns, or where such an answer may come.
         ensures went { self.old.refusal ≡ None → is_worn self.old ≡ false → MatchResult result
-            (λ _. Went Turns StandsBetween false self.old self.new (S.trace scribe.old) (S.trace scribe.new) (P.vouches port.old) (P.vouches port.new) (P.faults port.old) (P.faults port.new))
-            (λ fault. Went (CutTurn fault) (LeftFor (answer_of fault)) (is_open_fault fault) self.old self.new (S.trace scribe.old) (S.trace scribe.new) (P.vouches port.old) (P.vouches port.new) (P.faults port.old) (P.faults port.new)) }
+            (λ _. Went Turns StandsBetween false self.old self.new (S.trace scribe.old) (S.trace scribe.new) (known Progress.Between (P.vouches port.old) (P.told port.old) (P.ends port.old)) (known Progress.Accepted (P.vouches port.new) (P.told port.new) (P.ends port.new)) (P.faults port.old) (P.faults port.new))
+            (λ fault. Went (CutTurn fault) (LeftFor (answer_of fault)) (is_open_fault fault) self.old self.new (S.trace scribe.old) (S.trace scribe.new) (known Progress.Between (P.vouches port.old) (P.told port.old) (P.ends port.old)) (known Progress.Accepting (P.vouches port.new) (P.told port.new) (P.ends port.new)) (P.faults port.old) (P.faults port.new)) }
 
         ensures refusal { self.new.refusal ≡ refusal_of result }
     {

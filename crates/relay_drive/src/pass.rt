@@ -15,6 +15,7 @@ fn pass_link(relay: &mut Relay, link: u32) -> Result<(), DriveFault>
         (λ _. CutPassingLink link relay.old.state [] relay.new.state) }
     ensures kept { relay.new.state.opened ≡ relay.old.state.opened }
     ensures time { relay.new.state.time ≡ relay.old.state.time }
+    ensures settings { relay.new.state.settings ≡ relay.old.state.settings }
     ensures cause { MatchResult result (λ _. Unit {0}) (λ fault. fault ≡ Memory) }
 {
     let near = SideId {
@@ -33,6 +34,7 @@ pub(crate) fn pass(relay: &mut Relay) -> Result<(), DriveFault>
         (λ _. CutForAllLinks PassesLink CutPassingLink relay.old.state [] relay.new.state) }
     ensures kept { relay.new.state.opened ≡ relay.old.state.opened }
     ensures time { relay.new.state.time ≡ relay.old.state.time }
+    ensures settings { relay.new.state.settings ≡ relay.old.state.settings }
     ensures cause { MatchResult result (λ _. Unit {0}) (λ fault. fault ≡ Memory) }
 {
     for link in 0..relay.opened() {

@@ -4,6 +4,7 @@ ghost use Rattle.ev_port.specs.declared.port.Want.{Want as WantValue};
 ghost use Rattle.relay_drive.specs.declared.fault.DriveFault.TheVariants.{Memory};
 ghost use Rattle.relay_drive.specs.Steps.{Nothing, Each, CutAt};
 ghost use Rattle.relay_drive.specs.Phases.{ReadsSide, WritesSide, ConnectsSide, ServesSide, CutServing, AllOpened, is_connecting};
+ghost use Rattle.relay_drive.specs.Known.{known, Progress};
 ghost use Rattle.relay_drive.specs.Goes.{Goes};
 
 use crate::ask::{ask_connect, ask_read, ask_write};
@@ -25,8 +26,8 @@ fn read_side<P: Port, S: Scribe>(
     requires opened { side.link < run.old.relay.state.opened }
     requires inbox { length inbox.old ≡ 16384 }
     ensures went { MatchResult result
-        (λ _. Goes (ReadsSide side marked) false run.old run.new (S.trace scribe.old) (S.trace scribe.new) (P.vouches port.old) (P.vouches port.new) (P.faults port.old) (P.faults port.new))
-        (λ _. Goes Nothing false run.old run.new (S.trace scribe.old) (S.trace scribe.new) (P.vouches port.old) (P.vouches port.new) (P.faults port.old) (P.faults port.new)) }
+        (λ _. Goes (ReadsSide side marked) false run.old run.new (S.trace scribe.old) (S.trace scribe.new) (known Progress.Accepted (P.vouches port.old) (P.told port.old) (P.ends port.old)) (known Progress.Accepted (P.vouches port.new) (P.told port.new) (P.ends port.new)) (P.faults port.old) (P.faults port.new))
+        (λ _. Goes Nothing false run.old run.new (S.trace scribe.old) (S.trace scribe.new) (known Progress.Accepted (P.vouches port.old) (P.told port.old) (P.ends port.old)) (known Progress.Accepted (P.vouches port.new) (P.told port.new) (P.ends port.new)) (P.faults port.old) (P.faults port.new)) }
     ensures kept { run.new.relay.state.opened ≡ run.old.relay.state.opened }
     ensures cause { MatchResult result (λ _. Unit {0}) (λ fault. fault ≡ Memory) }
 {
@@ -52,8 +53,8 @@ fn write_side<P: Port, S: Scribe>(
 ) -> Result<(), DriveFault>
     requires opened { side.link < run.old.relay.state.opened }
     ensures went { MatchResult result
-        (λ _. Goes (WritesSide side marked) false run.old run.new (S.trace scribe.old) (S.trace scribe.new) (P.vouches port.old) (P.vouches port.new) (P.faults port.old) (P.faults port.new))
-        (λ _. Goes Nothing false run.old run.new (S.trace scribe.old) (S.trace scribe.new) (P.vouches port.old) (P.vouches port.new) (P.faults port.old) (P.faults port.new)) }
+        (λ _. Goes (WritesSide side marked) false run.old run.new (S.trace scribe.old) (S.trace scribe.new) (known Progress.Accepted (P.vouches port.old) (P.told port.old) (P.ends port.old)) (known Progress.Accepted (P.vouches port.new) (P.told port.new) (P.ends port.new)) (P.faults port.old) (P.faults port.new))
+        (λ _. Goes Nothing false run.old run.new (S.trace scribe.old) (S.trace scribe.new) (known Progress.Accepted (P.vouches port.old) (P.told port.old) (P.ends port.old)) (known Progress.Accepted (P.vouches port.new) (P.told port.new) (P.ends port.new)) (P.faults port.old) (P.faults port.new)) }
     ensures kept { run.new.relay.state.opened ≡ run.old.relay.state.opened }
     ensures cause { MatchResult result (λ _. Unit {0}) (λ fault. fault ≡ Memory) }
 {
@@ -77,8 +78,8 @@ fn connect_side<P: Port, S: Scribe>(
 ) -> Result<(), DriveFault>
     requires opened { side.link < run.old.relay.state.opened }
     ensures went { MatchResult result
-        (λ _. Goes (ConnectsSide side marked) false run.old run.new (S.trace scribe.old) (S.trace scribe.new) (P.vouches port.old) (P.vouches port.new) (P.faults port.old) (P.faults port.new))
-        (λ _. Goes Nothing false run.old run.new (S.trace scribe.old) (S.trace scribe.new) (P.vouches port.old) (P.vouches port.new) (P.faults port.old) (P.faults port.new)) }
+        (λ _. Goes (ConnectsSide side marked) false run.old run.new (S.trace scribe.old) (S.trace scribe.new) (known Progress.Accepted (P.vouches port.old) (P.told port.old) (P.ends port.old)) (known Progress.Accepted (P.vouches port.new) (P.told port.new) (P.ends port.new)) (P.faults port.old) (P.faults port.new))
+        (λ _. Goes Nothing false run.old run.new (S.trace scribe.old) (S.trace scribe.new) (known Progress.Accepted (P.vouches port.old) (P.told port.old) (P.ends port.old)) (known Progress.Accepted (P.vouches port.new) (P.told port.new) (P.ends port.new)) (P.faults port.old) (P.faults port.new)) }
     ensures kept { run.new.relay.state.opened ≡ run.old.relay.state.opened }
     ensures cause { MatchResult result (λ _. Unit {0}) (λ fault. fault ≡ Memory) }
 {
@@ -109,8 +110,8 @@ fn serve_side<P: Port, S: Scribe>(
     requires opened { want.side.link < run.old.relay.state.opened }
     requires inbox { length inbox.old ≡ 16384 }
     ensures went { MatchResult result
-        (λ _. Goes (ServesSide want) false run.old run.new (S.trace scribe.old) (S.trace scribe.new) (P.vouches port.old) (P.vouches port.new) (P.faults port.old) (P.faults port.new))
-        (λ _. Goes (CutServing want) false run.old run.new (S.trace scribe.old) (S.trace scribe.new) (P.vouches port.old) (P.vouches port.new) (P.faults port.old) (P.faults port.new)) }
+        (λ _. Goes (ServesSide want) false run.old run.new (S.trace scribe.old) (S.trace scribe.new) (known Progress.Accepted (P.vouches port.old) (P.told port.old) (P.ends port.old)) (known Progress.Accepted (P.vouches port.new) (P.told port.new) (P.ends port.new)) (P.faults port.old) (P.faults port.new))
+        (λ _. Goes (CutServing want) false run.old run.new (S.trace scribe.old) (S.trace scribe.new) (known Progress.Accepted (P.vouches port.old) (P.told port.old) (P.ends port.old)) (known Progress.Accepted (P.vouches port.new) (P.told port.new) (P.ends port.new)) (P.faults port.old) (P.faults port.new)) }
     ensures kept { run.new.relay.state.opened ≡ run.old.relay.state.opened }
     ensures cause { MatchResult result (λ _. Unit {0}) (λ fault. fault ≡ Memory) }
 {
@@ -132,8 +133,8 @@ pub(crate) fn serve<P: Port, S: Scribe>(
     requires opened { AllOpened wants.now run.old.relay.state.opened }
     requires inbox { length inbox.old ≡ 16384 }
     ensures went { MatchResult result
-        (λ _. Goes (Each ServesSide wants.now) false run.old run.new (S.trace scribe.old) (S.trace scribe.new) (P.vouches port.old) (P.vouches port.new) (P.faults port.old) (P.faults port.new))
-        (λ _. Goes (CutAt ServesSide CutServing wants.now) false run.old run.new (S.trace scribe.old) (S.trace scribe.new) (P.vouches port.old) (P.vouches port.new) (P.faults port.old) (P.faults port.new)) }
+        (λ _. Goes (Each ServesSide wants.now) false run.old run.new (S.trace scribe.old) (S.trace scribe.new) (known Progress.Accepted (P.vouches port.old) (P.told port.old) (P.ends port.old)) (known Progress.Accepted (P.vouches port.new) (P.told port.new) (P.ends port.new)) (P.faults port.old) (P.faults port.new))
+        (λ _. Goes (CutAt ServesSide CutServing wants.now) false run.old run.new (S.trace scribe.old) (S.trace scribe.new) (known Progress.Accepted (P.vouches port.old) (P.told port.old) (P.ends port.old)) (known Progress.Accepted (P.vouches port.new) (P.told port.new) (P.ends port.new)) (P.faults port.old) (P.faults port.new)) }
     ensures kept { run.new.relay.state.opened ≡ run.old.relay.state.opened }
     ensures cause { MatchResult result (λ _. Unit {0}) (λ fault. fault ≡ Memory) }
 {

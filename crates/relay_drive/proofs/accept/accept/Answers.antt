@@ -1,14 +1,11 @@
 use Rattle.std.proofs.Common.{◌≡◌, ◌<◌, ◌+◌, true, false, if◌then◌else◌, refl, sym, ◌∙◌, ap, subst, arith, add-one}
-use Rattle.std.specs.Prelude.{MatchBool}
 use Rattle.std.proofs.lemmas.Result.{err_from_is_err_and}
 use Rattle.std.proofs.lemmas.Bool.{ltb-true}
-use Rattle.ev_port.specs.Told.{Stays, Becomes}
 use Rattle.relay_core.specs.State.{State}
-use Rattle.relay_drive.specs.Steps.{Nothing}
-use Rattle.relay_drive.specs.Phases.{OpensOne, OpensSome}
+use Rattle.relay_drive.specs.Phases.{can_open, OpensSome}
+use Rattle.relay_drive.proofs.AcceptLemmas.{accepted_all, accepted_most}
 use Rattle.relay_drive.proofs.GoesLemmas.{Grew-none, goes_as, goes_then, goes_nowhere}
-use Rattle.relay_drive.proofs.EachLemmas.{then_as, then_nothing}
-use Rattle.relay_drive.proofs.AcceptLemmas.{told_some, tells_on}
+use Rattle.relay_drive.proofs.EachLemmas.{then_nothing}
 use Rattle.relay_drive.proofs.accept.accept.Goals as goal
 
 pub returns-in_err-accept_one-clause-went : goal.returns-in_err-accept_one-clause-went
@@ -21,10 +18,9 @@ returns-in_err-accept_one-clause-went g c =
 
 pub loop-init : goal.loop-init
 loop-init g c = record {
-  went = goes_nowhere refl refl (Grew-none (g.S.Scribe.trace c.args.scribe.now));
+  went = goes_nowhere refl refl (Grew-none (g.S.Scribe.trace c.args.scribe.now)) (λ s t x k. (k.0, tt));
   few = omega arith;
   grown = omega arith;
-  tells = told_some (g.P.Port.told c.args.port.now).accepting;
 }
 
 pub loop-preserved : goal.loop-preserved
@@ -36,13 +32,26 @@ loop-preserved g c =
     let yes : more ≡ true = c.if-not-branch.false in
     let one = c.in_ok-accept_one.ensures in
     let grown : new.opened ≡ mid.opened + 1 = one.grown ∙ ap (λ b. mid.opened + (if b then 1 else 0)) yes in
-    let a = (g.P.Port.told c.args.port.now).accepting in
-    let b = (g.P.Port.told c.loop.port).accepting in
-    let d = (g.P.Port.told c.accept_one.new.port).accepting in
     record {
-      went = goes_as (λ x q. subst (λ n. OpensSome n s x new) (sym (add-one c.loop.counter)) (then_as (λ m y h. h) (λ m y h. subst (λ z. MatchBool z (OpensOne m y new) (Nothing m y new)) yes h) q))
-          (goes_then c.loop.invariant.went one.went);
+      went = goes_as (λ x q. subst (λ n. OpensSome n s x new) (sym (add-one c.loop.counter)) q) (goes_then c.loop.invariant.went (rw (yes) at one.went));
       few = omega arith;
       grown = omega (arith, grown, c.loop.invariant.grown);
-      tells = tells_on a b d c.loop.invariant.tells (subst (λ z. MatchBool z (Stays b d) (Becomes b d false)) yes one.accepting);
     }
+
+pub returns-then-not-can_open-clause-went : goal.returns-then-not-can_open-clause-went
+returns-then-not-can_open-clause-went g c =
+    let s = c.loop.run.relay.state in
+    let full : can_open s ≡ false = sym c.can_open.ensures ∙ c.if-not-can_open.true in
+    goes_as (λ a q. (c.loop.counter, c.loop.invariant.few, q)) (accepted_all (g.P.Port.vouches c.loop.port) (g.P.Port.told c.loop.port) (g.P.Port.ends c.loop.port) full c.loop.invariant.went)
+
+pub returns-then-not-branch-clause-went : goal.returns-then-not-branch-clause-went
+returns-then-not-branch-clause-went g c =
+    let no = c.if-not-branch.true in
+    goes_as (λ a q. (c.loop.counter, c.loop.invariant.few, then_nothing q)) (goes_then c.loop.invariant.went (rw (no) at c.in_ok-accept_one.ensures.went))
+
+pub returns-clause-went : goal.returns-clause-went
+returns-clause-went g c =
+    let port = c.args.port.now in
+    let all : c.loop.counter ≡ 64 = omega arith in
+    goes_as (λ a q. (64, omega arith, q))
+    (accepted_most (g.P.Port.vouches port) (g.P.Port.told port) (g.P.Port.ends port) (g.P.Port.vouches c.loop.port) (g.P.Port.told c.loop.port) (g.P.Port.ends c.loop.port) (rw (all) at c.loop.invariant.went))

@@ -26,5 +26,6 @@ loop-link-preserved c =
       went = subst (λ z. Each PassesLink z c.args.relay.now.state [] c.pass_link.new.relay.state) (sym (links_from-push k))
           (each_push PassesLink (links_from 0 k) k (record { middle = c.loop-link.relay.state; front = []; back = []; first = c.loop-link.invariant.went; second = c.in_ok-pass_link.ensures.went; joined = refl }));
       time = c.in_ok-pass_link.ensures.time ∙ c.loop-link.invariant.time;
+      settings = c.in_ok-pass_link.ensures.settings ∙ c.loop-link.invariant.settings;
       kept = c.in_ok-pass_link.ensures.kept ∙ c.loop-link.invariant.kept;
     }

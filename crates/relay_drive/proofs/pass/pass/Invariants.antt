@@ -7,5 +7,6 @@ abbrev pub invariant-loop-link : goal.invariant-loop-link
 invariant-loop-link l = record {
   went : Each PassesLink (links_from 0 l.link) l.fn.relay.state [] l.relay.state;
   time : l.relay.state.time ≡ l.fn.relay.state.time;
+  settings : l.relay.state.settings ≡ l.fn.relay.state.settings;
   kept : l.relay.state.opened ≡ l.fn.relay.state.opened;
 }

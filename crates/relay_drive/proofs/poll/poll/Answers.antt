@@ -9,7 +9,7 @@ use Rattle.relay_drive.proofs.poll.poll.Goals as goal
 pub returns-in_err-wants-clause-went : goal.returns-in_err-wants-clause-went
 returns-in_err-wants-clause-went g c =
     let p = err_from_is_err_and c.from_residual.result c.from_residual.ensures.1 in
-    rw (p.1, p.2, c.in_err-wants.ensures.cause) (goes_as (λ a q. inl q) (goes_nowhere refl refl (Grew-none (g.S.Scribe.trace c.args.scribe.now))))
+    rw (p.1, p.2, c.in_err-wants.ensures.cause) (goes_as (λ a q. inl q) (goes_nowhere refl refl (Grew-none (g.S.Scribe.trace c.args.scribe.now)) (λ s t x k. (k.0, tt))))
 
 pub returns-in_err-accept_ready-clause-went : goal.returns-in_err-accept_ready-clause-went
 returns-in_err-accept_ready-clause-went g c =

@@ -11,11 +11,11 @@ returns-then-not-wants_read-clause-went g c =
     let s = c.args.run.now.relay.state in
     let e = c.args.side in
     let no : c.args.marked && wants_read s e ≡ false = ap (λ b. b && wants_read s e) c.if-not-marked.false ∙ sym c.wants_read.ensures ∙ c.if-not-wants_read.true in
-    goes_as (λ a p. subst (λ b. MatchBool b (ReadsWithRoom e s a s) (Nothing s a s)) (sym no) p) (goes_nowhere refl refl (Grew-none (g.S.Scribe.trace c.args.scribe.now)))
+    goes_as (λ a p. subst (λ b. MatchBool b (ReadsWithRoom e s a s) (Nothing s a s)) (sym no) p) (goes_nowhere refl refl (Grew-none (g.S.Scribe.trace c.args.scribe.now)) (λ s t x k. k))
 
 pub returns-then-not-marked-clause-went : goal.returns-then-not-marked-clause-went
 returns-then-not-marked-clause-went g c =
     let s = c.args.run.now.relay.state in
     let e = c.args.side in
     let no : c.args.marked && wants_read s e ≡ false = ap (λ b. b && wants_read s e) c.if-not-marked.true in
-    goes_as (λ a p. subst (λ b. MatchBool b (ReadsWithRoom e s a s) (Nothing s a s)) (sym no) p) (goes_nowhere refl refl (Grew-none (g.S.Scribe.trace c.args.scribe.now)))
+    goes_as (λ a p. subst (λ b. MatchBool b (ReadsWithRoom e s a s) (Nothing s a s)) (sym no) p) (goes_nowhere refl refl (Grew-none (g.S.Scribe.trace c.args.scribe.now)) (λ s t x k. k))

@@ -13,11 +13,11 @@ returns-then-write_room-eq0-clause-went g c =
     let e = c.args.side in
     let none : write_room s e ≡ 0 = sym c.write_room.ensures ∙ c.if-write_room-eq0.true in
     let no : c.args.marked && nat_lt 0 (write_room s e) ≡ false = ap (λ b. b && nat_lt 0 (write_room s e)) c.if-not-marked.false ∙ ap (nat_lt 0) none in
-    goes_as (λ a p. subst (λ b. MatchBool b ((answer : WriteAnswer) × Writes e answer s a s) (Nothing s a s)) (sym no) p) (goes_nowhere refl refl (Grew-none (g.S.Scribe.trace c.args.scribe.now)))
+    goes_as (λ a p. subst (λ b. MatchBool b ((answer : WriteAnswer) × Writes e answer s a s) (Nothing s a s)) (sym no) p) (goes_nowhere refl refl (Grew-none (g.S.Scribe.trace c.args.scribe.now)) (λ s t x k. k))
 
 pub returns-then-not-marked-clause-went : goal.returns-then-not-marked-clause-went
 returns-then-not-marked-clause-went g c =
     let s = c.args.run.now.relay.state in
     let e = c.args.side in
     let no : c.args.marked && nat_lt 0 (write_room s e) ≡ false = ap (λ b. b && nat_lt 0 (write_room s e)) c.if-not-marked.true in
-    goes_as (λ a p. subst (λ b. MatchBool b ((answer : WriteAnswer) × Writes e answer s a s) (Nothing s a s)) (sym no) p) (goes_nowhere refl refl (Grew-none (g.S.Scribe.trace c.args.scribe.now)))
+    goes_as (λ a p. subst (λ b. MatchBool b ((answer : WriteAnswer) × Writes e answer s a s) (Nothing s a s)) (sym no) p) (goes_nowhere refl refl (Grew-none (g.S.Scribe.trace c.args.scribe.now)) (λ s t x k. k))

@@ -1,0 +1,12 @@
+use Rattle.std.proofs.Common.{◌≡◌, true, false, refl, sym, subst}
+use Rattle.std.specs.Prelude.{if◌then◌else◌}
+use Rattle.relay_drive.specs.Phases.{AcceptsWhere}
+use Rattle.relay_drive.specs.Known.{known, Progress}
+use Rattle.relay_drive.specs.Goes.{Goes}
+use Rattle.relay_drive.proofs.GoesLemmas.{Grew-none, goes_nowhere}
+use Rattle.relay_drive.proofs.accept.accept_ready.Goals as goal
+
+pub returns-then-not-ready-clause-went : goal.returns-then-not-ready-clause-went
+returns-then-not-ready-clause-went g c =
+    let no = c.if-not-ready.true in
+    rw (no) (goes_nowhere refl refl (Grew-none (g.S.Scribe.trace c.args.scribe.now)) (λ s t x k. k))
