@@ -104,7 +104,6 @@ extended_named script new (text_line.Within x) h named =
     let count = opened_is (lines_of script.turns) in
     let here : NamesOpened (0 + length (links_of (lines_of script.turns))) (x ∷ []) = subst (λ m. NamesOpened m (x ∷ [])) (omega (arith, count)) follow in
     subst IsNamed parts.1 (subst (NamesOpened 0) (sym (lines_with script.turns x some)) (named_push 0 (lines_of script.turns) x named here))
-
 extended_named script new text_line.Skipped h named = subst IsNamed (from_some script new h) named
 
 line_named : (script new : ScriptValue) (plain : Bool) (what : Option Line) → ◌≡◌ {A = Option ScriptValue} (if plain then option_and_then (λ x. extended script x) what else None) (Some new) → IsNamed script → IsNamed new
