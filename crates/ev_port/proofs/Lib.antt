@@ -17,5 +17,6 @@ pub mod ScriptSeenLemmas
 pub mod ScriptQuietLemmas
 pub mod ScriptNowLemmas
 pub mod ScriptVouchLemmas
+pub mod FailLemmas
 pub mod ScriptWaitingLemmas
 pub mod ScriptSpelledLemmas

@@ -26,3 +26,4 @@ pub mod Waiting
 pub mod ScriptLaws
 pub mod ScriptPlays
 pub mod ScriptUnheard
+pub mod FailPort

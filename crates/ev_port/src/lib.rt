@@ -4,6 +4,7 @@
 #![tactic(auto)]
 
 mod end_tally;
+mod fail_port;
 mod laws;
 mod memory;
 mod mute;
@@ -17,6 +18,7 @@ mod standard;
 mod stream;
 
 pub use ev_types::{ConnAnswer, ReadAnswer, WriteAnswer};
+pub use fail_port::{FailPort, PortCall};
 pub use laws::{
     lines_bring_bytes, reads_lose_nothing, spelled_scripts_name_opened_links, vouched_is_played,
 };

@@ -211,7 +211,8 @@ impl ScriptEnd {
             WriteAnswer::NotYet
         };
         self.tally.count_write(from.len());
-        self.tally.count_fault(matches!(answer, WriteAnswer::Failed));
+        self.tally
+            .count_fault(matches!(answer, WriteAnswer::Failed));
         answer
     }
 
