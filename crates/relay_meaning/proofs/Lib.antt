@@ -23,3 +23,4 @@ pub mod UntimedLemmas
 pub mod FlowOrder
 pub mod FreeLemmas
 pub mod EventLemmas
+pub mod ByteLemmas
