@@ -20,7 +20,7 @@ use Rattle.relay_meaning.specs.Meaning.{StandsFor}
 
 module _ (P : ℕ → Type 0) where
   -- of a part of a list
-  all-part : (xs ys zs : List ℕ) → All P (xs ++ (ys ++ zs)) → All P ys
+  pub all-part : (xs ys zs : List ℕ) → All P (xs ++ (ys ++ zs)) → All P ys
   all-part xs ys zs h k d lt =
       subst P (get_or-append-add xs (ys ++ zs) k d ∙ get_or_append_left ys zs d k lt)
       (h (length xs + k) d (omega (arith, lt, length-append xs (ys ++ zs), length-append ys zs)))

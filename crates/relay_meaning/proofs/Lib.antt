@@ -24,3 +24,4 @@ pub mod FlowOrder
 pub mod FreeLemmas
 pub mod EventLemmas
 pub mod ByteLemmas
+pub mod SpellingLemmas

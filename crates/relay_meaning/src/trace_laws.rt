@@ -2,6 +2,7 @@
 ghost use Rattle.relay_meaning.specs.Frees.{FreesAreFor};
 ghost use Rattle.relay_meaning.specs.Links.{LinksAreTold};
 ghost use Rattle.relay_meaning.specs.Polls.{PollsFailAsScripted};
+ghost use Rattle.relay_meaning.specs.Spelling.{ReadsFitAsScripted};
 
 /// A turn's poll fails exactly where a line of the script says so, and nothing follows it. So a run ends with a failed poll
 /// exactly where a turn that was begun has such a line, but for want of memory before that poll.
@@ -19,4 +20,10 @@ pub fn links_are_told()
 /// end failed in this turn, or its peer was freed and all that was moved from there was given to it.
 pub fn frees_are_for()
     ensures { FreesAreFor }
+{}
+
+/// Where every answer is a script's, no more is read than the script brings in: what was read are bytes, of which there are not
+/// too many to count.
+pub fn reads_fit_as_scripted()
+    ensures { ReadsFitAsScripted }
 {}

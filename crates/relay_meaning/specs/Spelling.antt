@@ -1,0 +1,29 @@
+-- When a trace can be spelled as text and read back: what it has of links, calls and bytes fits.
+use Rattle.std.specs.Prelude.{◌≡◌, ℕ, ◌^◌, ◌<◌, List, length, All}
+use Rattle.std.specs.List.{flat_map}
+use Rattle.ev_types.specs.declared.side.SideId.{SideId}
+use Rattle.ev_types.specs.Trace.{Trace}
+use Rattle.relay_model.specs.Trace.{bytes_read}
+use Rattle.relay_model.specs.Stages.{Stage}
+use Rattle.relay_model.specs.Lines.{brings}
+use Rattle.relay_model.specs.Script.{ScriptTurn}
+use Rattle.relay_model.specs.Plays.{IsAnswered}
+use Rattle.relay_core.specs.State.{State}
+use Rattle.relay_meaning.specs.Meaning.{StandsFor}
+
+-- these numbers are bytes, and fewer than 2^64
+pub record AreBytes (xs : List ℕ) : Type 0 where
+  pub each : All (λ b. b < 256) xs
+  pub count : length xs < 2 ^ 64
+
+-- what was read at each end
+abbrev pub ReadsFit : Trace → Type 0
+ReadsFit t = (e : SideId) → AreBytes (bytes_read e t)
+
+-- all that a script brings in at each end
+abbrev pub BringsFit : List ScriptTurn → Type 0
+BringsFit turns = (e : SideId) → AreBytes (flat_map (brings e) (flat_map (λ turn. turn.1) turns))
+
+-- Where every answer is a script's, what was read fits as far as what the script brings in does.
+abbrev pub ReadsFitAsScripted : Type 0
+ReadsFitAsScripted = (turns : List ScriptTurn) (closing_by : ℕ) (t : Trace) → BringsFit turns → IsAnswered turns closing_by t → ReadsFit t
