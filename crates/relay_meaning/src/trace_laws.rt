@@ -1,6 +1,6 @@
 // What the traces tell that a relay and a script have in common.
 ghost use Rattle.relay_meaning.specs.Frees.{FreesAreFor};
-ghost use Rattle.relay_meaning.specs.Links.{LinksAreTold};
+ghost use Rattle.relay_meaning.specs.Links.{DoneIsWhole, LinksAreTold};
 ghost use Rattle.relay_meaning.specs.Polls.{PollsFailAsScripted};
 ghost use Rattle.relay_meaning.specs.Spelling.{ReadsFitAsScripted};
 
@@ -14,6 +14,11 @@ pub fn polls_fail_as_scripted()
 /// freed as done, and else it is gone.
 pub fn links_are_told()
     ensures { LinksAreTold }
+{}
+
+/// Where a link is done, all that was read at either side was given to the other.
+pub fn done_is_whole()
+    ensures { DoneIsWhole }
 {}
 
 /// With no hooks, timeouts and filters a side is freed for one of three causes: writing was ended at both sides of its link, its
