@@ -1,10 +1,9 @@
 -- A trace for which a relay stands can be spelled.
-use Rattle.std.proofs.Common.{◌≡◌, ℕ, ◌+◌, ◌^◌, ◌<◌, ◌≤◌, Bool, true, ◌||◌, Option, None, List, [], ◌∷◌, ◌++◌, length, take, drop, refl, sym, ◌∙◌, ap, subst, arith, append_assoc, length-append}
+use Rattle.std.proofs.Common.{◌≡◌, ℕ, zero, suc, ◌+◌, ◌^◌, ◌<◌, ◌≤◌, List, [], ◌∷◌, ◌++◌, length, take, drop, refl, sym, ◌∙◌, ap, subst, arith, append_assoc, length-append}
 use Rattle.std.specs.Prelude.{All}
 use Rattle.std.specs.List.{AllByRecursion, flat_map}
 use Rattle.std.proofs.lemmas.Grind.{flat_map-append}
 use Rattle.std.proofs.lemmas.List.{take-append-drop}
-use Rattle.ev_types.specs.declared.side.Side.TheVariants.{Out}
 use Rattle.ev_types.specs.declared.side.SideId.{SideId}
 use Rattle.ev_types.specs.declared.answer.ReadAnswer.{ReadAnswer}
 use Rattle.ev_types.specs.declared.answer.ReadAnswer.TheVariants as read
@@ -20,15 +19,14 @@ use Rattle.relay_model.specs.Rooms.{most_at_once}
 use Rattle.relay_model.specs.Serve.{CarriesGot, CarriesTook}
 use Rattle.relay_model.specs.Stages.{Stage, at}
 use Rattle.relay_model.specs.Turn.{IsLegal}
-use Rattle.relay_model.specs.Lines.{Line, brings}
-use Rattle.relay_model.specs.Script.{ScriptTurn}
+use Rattle.relay_model.specs.Lines.{brings}
 use Rattle.relay_model.specs.Scripted.{begun, pending}
 use Rattle.relay_model.proofs.PlayedReads.{reads_what_comes}
 use Rattle.relay_model.proofs.TraceLemmas.{bytes_read-append}
 use Rattle.relay_core.specs.State.{State}
 use Rattle.relay_meaning.specs.Meaning.{model_settings, StandsFor}
 use Rattle.relay_meaning.specs.Frees.{IsFreedFor}
-use Rattle.relay_meaning.specs.Spelling.{AreBytes, ReadsFit, BringsFit, ReadsFitAsScripted}
+use Rattle.relay_meaning.specs.Spelling.{AreBytes, ReadsFit, ReadsFitAsScripted, FitsLine, EntriesFit}
 use Rattle.relay_meaning.proofs.FreeLemmas.{frees_are_for}
 use Rattle.relay_meaning.proofs.EventLemmas.{SaysPlainly, says_plainly}
 use Rattle.relay_meaning.proofs.ByteLemmas.{all-part, all-got, all-took, all-given}
@@ -54,28 +52,6 @@ reads_fit_as_scripted turns closing_by t fit answered e =
     bytes-front (bytes_read e t) (pending turns t e ++ rest) (subst AreBytes whole (fit e))
 
 -- Each entry
-
--- What an entry has fits a line of text: links below 2^32, other numbers below 2^64, and beside it exactly the bytes that were got or
--- taken, at least one, or none.
-abbrev pub FitsLine : Event → Type 0
-FitsLine (entry.Turn ms, bytes) = (ms < 2 ^ 64) × (bytes ≡ [])
-FitsLine (entry.Poll timeout, bytes) = (timeout ≡ None) × (bytes ≡ [])
-FitsLine (entry.Want side read write, bytes) = (side.link < 2 ^ 32) × ((read || write) ≡ true) × (bytes ≡ [])
-FitsLine (entry.Ready side read write, bytes) = (side.link < 2 ^ 32) × ((read || write) ≡ true) × (bytes ≡ [])
-FitsLine (entry.PollFailed, bytes) = bytes ≡ []
-FitsLine (entry.Opened link connected, bytes) = (link < 2 ^ 32) × (bytes ≡ [])
-FitsLine (entry.Conn side answer, bytes) = (side.link < 2 ^ 32) × (side.side ≡ Out) × (bytes ≡ [])
-FitsLine (entry.Read side room (read.Got n), bytes) = (side.link < 2 ^ 32) × (room < 2 ^ 64) × (length bytes ≡ n) × (1 ≤ n) × (n ≤ 16384) × All (λ b. b < 256) bytes
-FitsLine (entry.Read side room answer, bytes) = (side.link < 2 ^ 32) × (room < 2 ^ 64) × (bytes ≡ [])
-FitsLine (entry.Write side offered (write.Took n), bytes) = (side.link < 2 ^ 32) × (offered < 2 ^ 64) × (length bytes ≡ n) × (1 ≤ n) × (n ≤ 16384) × All (λ b. b < 256) bytes
-FitsLine (entry.Write side offered write.NoMemory, bytes) = ⊥
-FitsLine (entry.Write side offered answer, bytes) = (side.link < 2 ^ 32) × (offered < 2 ^ 64) × (bytes ≡ [])
-FitsLine (entry.Fired side why, bytes) = ⊥
-FitsLine (entry.Asked side act answer, bytes) = ⊥
-FitsLine (entry.Freed side (cause.Filter place) moved given, bytes) = ⊥
-FitsLine (entry.Freed side why moved given, bytes) = (side.link < 2 ^ 32) × (moved < 2 ^ 64) × (given < 2 ^ 64) × (bytes ≡ [])
-FitsLine (entry.CloseWrite side, bytes) = (side.link < 2 ^ 32) × (bytes ≡ [])
-FitsLine (entry.Close side, bytes) = (side.link < 2 ^ 32) × (bytes ≡ [])
 
 module _ (t : Trace) (x : Stage) (s : State) (k : StandsFor t x s) (few : s.settings.links ≤ 2 ^ 32) (fit : ReadsFit t) where
   legal : IsLegal (model_settings s.settings) t
@@ -103,9 +79,14 @@ module _ (t : Trace) (x : Stage) (s : State) (k : StandsFor t x s) (few : s.sett
   write-fits : (before after : Trace) (e : SideId) (offered : ℕ) (answer : WriteAnswer) (bytes : List ℕ) → t ≡ before ++ (entry.Write e offered answer, bytes) ∷ after →
       (e.link < s.settings.links) × (offered ≤ most_at_once) × CarriesTook answer offered bytes → FitsLine (entry.Write e offered answer, bytes)
   write-fits before after e offered (write.Took n) bytes is h =
-      let most = h.1 in let took = h.2.2 in
-      (below e.link h.0, omega (arith, most), h.2.0, h.2.1, omega (arith, most, took),
-      all-took (λ b. b < 256) t before after e offered n bytes is (all-given (λ b. b < 256) t x s k (λ z. (fit z).each) e))
+      let most = h.1 in let took = h.2.2 in (
+        below e.link h.0,
+        omega (arith, most),
+        h.2.0,
+        h.2.1,
+        omega (arith, most, took),
+        all-took (λ b. b < 256) t before after e offered n bytes is (all-given (λ b. b < 256) t x s k (λ z. (fit z).each) e),
+      )
   write-fits before after e offered write.NotYet bytes is h = let most = h.1 in (below e.link h.0, omega (arith, most), h.2)
   write-fits before after e offered write.Failed bytes is h = let most = h.1 in (below e.link h.0, omega (arith, most), h.2)
   write-fits before after e offered write.NoMemory bytes is h = absurd h.2
@@ -153,3 +134,12 @@ module _ (t : Trace) (x : Stage) (s : State) (k : StandsFor t x s) (few : s.sett
 pub each_from_splits : (P : Event → Type 0) (t : Trace) → ((before after : Trace) (y : Event) → t ≡ before ++ y ∷ after → P y) → AllByRecursion P t
 each_from_splits P [] h = tt
 each_from_splits P (y ∷ t) h = (h [] t y refl, each_from_splits P t (λ before after z k. h (y ∷ before) after z (ap (λ v. y ∷ v) k)))
+
+-- the same as All says it
+all_from_splits : (P : Event → Type 0) (t : Trace) → ((before after : Trace) (y : Event) → t ≡ before ++ y ∷ after → P y) → All P t
+all_from_splits P [] h k d lt = absurd (omega (arith, lt))
+all_from_splits P (y ∷ t) h zero d lt = h [] t y refl
+all_from_splits P (y ∷ t) h (suc k) d lt = all_from_splits P t (λ before after z q. h (y ∷ before) after z (ap (λ v. y ∷ v) q)) k d (omega (arith, lt))
+
+pub entries_fit : EntriesFit
+entries_fit t x s k few fit = all_from_splits FitsLine t (λ before after y is. each-fits t x s k few fit before after y is)

@@ -2,7 +2,7 @@
 ghost use Rattle.relay_meaning.specs.Frees.{FreesAreFor};
 ghost use Rattle.relay_meaning.specs.Links.{DoneIsWhole, LinksAreTold};
 ghost use Rattle.relay_meaning.specs.Polls.{PollsFailAsScripted};
-ghost use Rattle.relay_meaning.specs.Spelling.{ReadsFitAsScripted};
+ghost use Rattle.relay_meaning.specs.Spelling.{EntriesFit, ReadsFitAsScripted};
 
 /// A turn's poll fails exactly where a line of the script says so, and nothing follows it. So a run ends with a failed poll
 /// exactly where a turn that was begun has such a line, but for want of memory before that poll.
@@ -31,4 +31,10 @@ pub fn frees_are_for()
 /// too many to count.
 pub fn reads_fit_as_scripted()
     ensures { ReadsFitAsScripted }
+{}
+
+/// Each entry of a trace for which a relay stands fits a line of text: its numbers fit their fields, a want and a mark name a
+/// direction, and beside it stand exactly the bytes that were got or taken.
+pub fn entries_fit()
+    ensures { EntriesFit }
 {}
