@@ -23,3 +23,5 @@ pub mod UntimedLemmas
 pub mod FlowOrder
 pub mod FreeLemmas
 pub mod EventLemmas
+pub mod ByteLemmas
+pub mod SpellingLemmas

@@ -1,16 +1,17 @@
 -- What a link came to is what the frees of a trace tell.
-use Rattle.std.proofs.Common.{◌≡◌, ℕ, zero, suc, ◌+◌, ◌<◌, ◌≤◌, Bool, true, false, ◌&&◌, ◌||◌, not, if◌then◌else◌, [], ◌∷◌, ◌++◌, count_by, refl, sym, ◌∙◌, ap, arith}
+use Rattle.std.proofs.Common.{◌≡◌, ℕ, zero, suc, ◌+◌, ◌<◌, ◌≤◌, Bool, true, false, ◌&&◌, ◌||◌, not, if◌then◌else◌, [], ◌∷◌, ◌++◌, count_by, length, take, ◌⊎◌, inl, inr, refl, sym, ◌∙◌, ap, arith}
 use Rattle.std.specs.List.{list_any}
-use Rattle.std.proofs.lemmas.Bool.{and_from, and_parts, or_left}
+use Rattle.std.proofs.lemmas.Bool.{and_from, and_parts, or_left, cases_lt}
 use Rattle.std.proofs.lemmas.List.Folds.{list_any-append}
 use Rattle.std.proofs.Math.Bool.{or-false}
+use Rattle.std.proofs.Math.Seq.{take-length}
 use Rattle.ev_types.specs.declared.side.SideId.{SideId}
 use Rattle.ev_types.specs.declared.status.LinkState.TheVariants as state
 use Rattle.ev_types.specs.declared.why.Cause.TheVariants as cause
 use Rattle.ev_types.specs.declared.entry.Entry.TheVariants as entry
 use Rattle.ev_types.specs.Sides.{peer}
 use Rattle.ev_types.specs.Trace.{Event, Trace}
-use Rattle.relay_model.specs.Trace.{write_closed_by, is_write_closed}
+use Rattle.relay_model.specs.Trace.{bytes_read, bytes_given, write_closed_by, is_write_closed}
 use Rattle.relay_model.specs.Settings as model
 use Rattle.relay_model.specs.Plain as plain
 use Rattle.relay_model.specs.Plain.{Plain, is_live}
@@ -24,11 +25,11 @@ use Rattle.relay_model.proofs.EndLemmas.{same_end-eq}
 use Rattle.relay_model.proofs.ToldLemmas.{Kept, kept}
 use Rattle.relay_model.proofs.HeldLemmas.{DoneReady, held}
 use Rattle.relay_model.proofs.CauseLemmas.{frees_have_causes}
-use Rattle.relay_core.specs.State.{State, flags_at}
+use Rattle.relay_core.specs.State.{State, flags_at, lane_at}
 use Rattle.relay_core.specs.Closing.{in_side, out_side}
 use Rattle.relay_core.specs.Counting.{link_count, is_open, open_below}
 use Rattle.relay_meaning.specs.Meaning.{model_settings, StandsFor}
-use Rattle.relay_meaning.specs.Links.{done_by, is_done, lives_in, link_state_in, living_below, LinksAre, LinksAreTold}
+use Rattle.relay_meaning.specs.Links.{done_by, is_done, lives_in, link_state_in, living_below, LinksAre, LinksAreTold, DoneIsWhole}
 use Rattle.relay_meaning.proofs.DoneLemmas.{IsOutNext, Ended, joined}
 use Rattle.relay_meaning.proofs.CalmLemmas.{calm, calm-still}
 
@@ -177,3 +178,30 @@ module _ (t : Trace) (x : Stage) (s : State) (h : StandsFor t x s) where
 
 pub links_are_told : LinksAreTold
 links_are_told t x s h = links-are t x s h
+
+-- Links that are done
+
+-- where writing was ended at a side, it was given all that was read from its peer
+closed-whole : (t : Trace) (x : Stage) (s : State) → StandsFor t x s → (e : SideId) → is_write_closed (peer e) t ≡ true → bytes_given (peer e) t ≡ bytes_read e t
+closed-whole t x s h e closed = go (cases_lt e.link s.opened)
+  where
+    go : (e.link < s.opened) ⊎ (s.opened ≤ e.link) → bytes_given (peer e) t ≡ bytes_read e t
+    go (inr ge) = absurd (let none = (h.agrees.unopened (peer e) ge).write_closed in cc)
+    go (inl lt) =
+        let d = (h.agrees.each e lt).direction in
+        let c = d.closed closed in
+        let w = d.write_done c.0 in
+        let all : (lane_at s e).flow.given ≡ length (bytes_read e t) = c.1 ∙ w.1 ∙ (d.read_done w.0).1 in
+        d.taken ∙ ap (λ n. take n (bytes_read e t)) all ∙ take-length (bytes_read e t)
+
+done-of : (live : Bool) (near far : Bool) → (if live then state.Live else (if near && far then state.Done else state.Gone)) ≡ state.Done → (near && far) ≡ true
+done-of true near far h = absurd (cc)
+done-of false true true h = refl
+done-of false true false h = absurd (cc)
+done-of false false far h = absurd (cc)
+
+pub done_is_whole : DoneIsWhole
+done_is_whole t x s h link is =
+    let both = and_parts (is_done (in_side link) t) (is_done (out_side link) t) (done-of (lives_in t link) (is_done (in_side link) t) (is_done (out_side link) t) is) in
+    let closed = done-closed (model_settings s.settings) t (at x h.plain) h.reached (in_side link) both.0 in
+    (closed-whole t x s h (in_side link) closed.1, closed-whole t x s h (out_side link) closed.0)

@@ -4,3 +4,4 @@ pub mod Laws
 pub mod Polls
 pub mod Links
 pub mod Frees
+pub mod Spelling

@@ -8,6 +8,7 @@ use Rattle.ev_types.specs.declared.why.Cause.TheVariants as cause
 use Rattle.ev_types.specs.declared.entry.Entry.TheVariants as entry
 use Rattle.ev_types.specs.Sides.{same_end}
 use Rattle.ev_types.specs.Trace.{Event, Trace}
+use Rattle.relay_model.specs.Trace.{bytes_read, bytes_given}
 use Rattle.relay_model.specs.Stages.{Stage}
 use Rattle.relay_model.specs.Told.{is_freed}
 use Rattle.relay_model.specs.Totals.{opened}
@@ -47,3 +48,8 @@ pub record LinksAre (t : Trace) (s : State) : Type 0 where
 -- So it is of every trace for which the relay stands.
 abbrev pub LinksAreTold : Type 0
 LinksAreTold = (t : Trace) (x : Stage) (s : State) → StandsFor t x s → LinksAre t s
+
+-- Where a link is done, all that was read at either side was given to the other.
+abbrev pub DoneIsWhole : Type 0
+DoneIsWhole = (t : Trace) (x : Stage) (s : State) → StandsFor t x s → (link : ℕ) → link_state_in t link ≡ state.Done →
+    (bytes_given (out_side link) t ≡ bytes_read (in_side link) t) × (bytes_given (in_side link) t ≡ bytes_read (out_side link) t)

@@ -6,7 +6,10 @@ mod trace_laws;
 
 ghost use Rattle.relay_meaning.specs.Laws.{CountsAreTold, LeftIsLegal, MeansConserved, NewRelayStands};
 
-pub use trace_laws::{frees_are_for, links_are_told, polls_fail_as_scripted};
+pub use trace_laws::{
+    done_is_whole, entries_fit, frees_are_for, links_are_told, polls_fail_as_scripted,
+    reads_fit_as_scripted,
+};
 
 /// Before the first turn a relay stands for the trace of no entries.
 pub fn a_new_relay_stands()

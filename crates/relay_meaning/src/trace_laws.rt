@@ -1,7 +1,8 @@
 // What the traces tell that a relay and a script have in common.
 ghost use Rattle.relay_meaning.specs.Frees.{FreesAreFor};
-ghost use Rattle.relay_meaning.specs.Links.{LinksAreTold};
+ghost use Rattle.relay_meaning.specs.Links.{DoneIsWhole, LinksAreTold};
 ghost use Rattle.relay_meaning.specs.Polls.{PollsFailAsScripted};
+ghost use Rattle.relay_meaning.specs.Spelling.{EntriesFit, ReadsFitAsScripted};
 
 /// A turn's poll fails exactly where a line of the script says so, and nothing follows it. So a run ends with a failed poll
 /// exactly where a turn that was begun has such a line, but for want of memory before that poll.
@@ -15,8 +16,25 @@ pub fn links_are_told()
     ensures { LinksAreTold }
 {}
 
+/// Where a link is done, all that was read at either side was given to the other.
+pub fn done_is_whole()
+    ensures { DoneIsWhole }
+{}
+
 /// With no hooks, timeouts and filters a side is freed for one of three causes: writing was ended at both sides of its link, its
 /// end failed in this turn, or its peer was freed and all that was moved from there was given to it.
 pub fn frees_are_for()
     ensures { FreesAreFor }
+{}
+
+/// Where every answer is a script's, no more is read than the script brings in: what was read are bytes, of which there are not
+/// too many to count.
+pub fn reads_fit_as_scripted()
+    ensures { ReadsFitAsScripted }
+{}
+
+/// Each entry of a trace for which a relay stands fits a line of text: its numbers fit their fields, a want and a mark name a
+/// direction, and beside it stand exactly the bytes that were got or taken.
+pub fn entries_fit()
+    ensures { EntriesFit }
 {}
