@@ -5,3 +5,4 @@ pub mod HeadlineLemmas
 pub mod TurnCountLemmas
 pub mod OrderLemmas
 pub mod PlayedLemmas
+pub mod RunLemmas

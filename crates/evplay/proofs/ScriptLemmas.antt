@@ -6,7 +6,7 @@ use Rattle.std.proofs.lemmas.Bool.{ltb-true}
 use Rattle.script_text.specs.Script.{ScriptValue, TurnValue}
 use Rattle.script_text.specs.declared.script.TurnLine.{TurnLine}
 use Rattle.script_text.specs.declared.line.Line.{Line}
-use Rattle.script_text.specs.declared.line.Line.TheVariants.{At, Within}
+use Rattle.script_text.specs.declared.line.Line.TheVariants.{At, Within, Skipped}
 use Rattle.script_text.specs.Pieces.{lines, words}
 use Rattle.script_text.specs.Grammar.{said}
 use Rattle.script_text.specs.Order.{with_line, extended, may_follow, turn_lines}
@@ -32,6 +32,7 @@ few-extended s new (At ms) few h = at_case (nat_lt (length s.turns) 20000) refl 
         (if b then Some (record { turns = s.turns ++ (ms, []) ∷ [] }) else None) ≡ Some new → length new.turns ≤ 20000
     at_case true below e = rw (← some-is _ new e) (omega (arith, ltb-true (length s.turns) 20000 below, length-append s.turns ((ms, []) ∷ [])))
     at_case false below e = none-some new e
+few-extended s new Skipped few h = rw (← some-is s new h) few
 few-extended s new (Within x) few h = within_case (nat_lt 0 (length s.turns) && may_follow (turn_lines s.turns) x) h
   where
     within_case : (b : Bool) → (if b then Some (record { turns = with_line s.turns x }) else None) ≡ Some new → length new.turns ≤ 20000

@@ -3,7 +3,7 @@ use Rattle.evplay.proofs.ScriptLemmas.{few-turns}
 use Rattle.evplay.proofs.outcome.relay.Goals as goal
 
 pub run-requires-clause-few : goal.run-requires-clause-few
-run-requires-clause-few g c = few-turns c.deref.result.now c.in-Ok-read_script.script c.in-Ok-read_script.ensures.script
+run-requires-clause-few c = few-turns c.args.text.now c.in-Ok.script c.in-Ok.ensures.script
 
 pub run-requires-clause-names : goal.run-requires-clause-names
-run-requires-clause-names g c = spelled_names_opened c.deref.result.now c.in-Ok-read_script.script c.in-Ok-read_script.ensures.script
+run-requires-clause-names c = spelled_names_opened c.args.text.now c.in-Ok.script c.in-Ok.ensures.script
