@@ -21,8 +21,8 @@ use Rattle.relay_model.specs.Stages.{Stage}
 use Rattle.relay_model.specs.Answers.{TurnAnswer, EndsWith}
 use Rattle.relay_model.specs.Stands.{AllAccounted}
 use Rattle.relay_model.specs.RatesKept.{is_turn}
-use Rattle.relay_model.specs.Plays.{IsAnswered}
-use Rattle.ev_port.specs.ScriptPlayed.{played_turns}
+use Rattle.relay_model.specs.Plays.{Plays}
+use Rattle.ev_port.specs.ScriptPlayed.{script_played}
 use Rattle.relay_model.proofs.StandsLawLemmas.{bytes_given_begin, closed_is_whole}
 use Rattle.relay_core.specs.declared.settings.Settings.{Settings}
 use Rattle.relay_core.specs.State.{State}
@@ -88,15 +88,15 @@ usual-is : (g : Settings) → g.hold ≡ 524288 → g.links ≡ 256 → model_se
 usual-is g h l = rw (h, l) refl
 
 pub run-of : (script : ScriptValue) (t : Trace) (s : State) → s.settings.hold ≡ 524288 → s.settings.links ≡ 256 → StandsFor t Stage.Between s →
-    count_by is_turn t ≡ length script.turns → ((closing_by : ℕ) → IsAnswered (played_turns script.turns) closing_by t) → IsRun script t (lines_below s s.opened)
-run-of script t s h l k n answered =
+    count_by is_turn t ≡ length script.turns → Plays (script_played script) 0 TurnAnswer.Went t → IsRun script t (lines_below s s.opened)
+run-of script t s h l k n played =
     let same = usual-is s.settings h l in
     let v = means_conserved t Stage.Between s k in
     let accounted : AllAccounted usual t v.0.plain = subst (λ g. AllAccounted g t v.0.plain) same v.3.conserved.accounted in
     let legal : EndsWith usual TurnAnswer.Went t = subst (λ g. EndsWith g TurnAnswer.Went t) same (Stage.Between, k.plain, k.reached, refl) in
     record {
       turns = n;
-      answered = answered;
+      played = played;
       legal = legal;
       accounted = (v.0.plain, accounted);
       begins = begins-of t v.0.plain accounted;

@@ -4,4 +4,4 @@ pub mod FaultLemmas
 pub mod HeadlineLemmas
 pub mod TurnCountLemmas
 pub mod OrderLemmas
-pub mod AnsweredLemmas
+pub mod PlayedLemmas

@@ -12,8 +12,8 @@ use Rattle.relay_model.specs.Plain.{Plain}
 use Rattle.relay_model.specs.Answers.{TurnAnswer, EndsWith}
 use Rattle.relay_model.specs.Stands.{AllAccounted}
 use Rattle.relay_model.specs.RatesKept.{is_turn}
-use Rattle.relay_model.specs.Plays.{IsAnswered}
-use Rattle.ev_port.specs.ScriptPlayed.{played_turns}
+use Rattle.relay_model.specs.Plays.{Plays}
+use Rattle.ev_port.specs.ScriptPlayed.{script_played}
 use Rattle.relay_core.specs.Closing.{in_side, out_side}
 
 -- a line of a report tells how many bytes a trace has of the ends of a link
@@ -28,12 +28,13 @@ abbrev pub TellsLinks : Trace → ℕ → List LinkLine → Type 0
 TellsLinks t link [] = Unit {0}
 TellsLinks t link (told ∷ more) = TellsLink t link told × TellsLinks t (suc link) more
 
--- A trace that was written has a turn for each of the script, and every answer in it is the script's. It is legal, and no byte in it was lost, made or changed. Whatever
--- happened, the bytes given to a side are a prefix of those read from its peer; where writing was ended at a side, they are all
--- of them. The report tells of its links.
+-- A trace that was written has a turn for each of the script, and it is played from the script: every answer in it is the
+-- script's, and each turn accepted all links that waited, or as many as it might. It is legal, and no byte in it was lost, made or
+-- changed. Whatever happened, the bytes given to a side are a prefix of those read from its peer; where writing was ended at a
+-- side, they are all of them. The report tells of its links.
 pub record IsRun (script : ScriptValue) (t : Trace) (links : List LinkLine) : Type 0 where
   pub turns : count_by is_turn t ≡ length script.turns
-  pub answered : (closing_by : ℕ) → IsAnswered (played_turns script.turns) closing_by t
+  pub played : Plays (script_played script) 0 TurnAnswer.Went t
   pub legal : EndsWith usual TurnAnswer.Went t
   pub accounted : (s : Plain) × AllAccounted usual t s
   pub begins : (e : SideId) → IsPrefixOf (bytes_given (peer e) t) (bytes_read e t)

@@ -1,4 +1,7 @@
-use Rattle.std.proofs.Common.{◌≡◌, ◌≤◌, ◌<◌, ◌+◌, ◌*◌, ◌^◌, ◌++◌, ℕ, List, length, Some, Bool, true, false, refl, sym, ap, ◌∙◌, subst, arith}
+use Rattle.std.proofs.Common.{◌≡◌, [], ◌≤◌, ◌<◌, ◌+◌, ◌*◌, ◌^◌, ◌++◌, ℕ, List, length, Some, Bool, true, false, refl, sym, ap, ◌∙◌, subst, arith, inl}
+use Rattle.relay_model.specs.Answers.{TurnAnswer}
+use Rattle.relay_model.specs.Plays.{TookAll, AlwaysTookAll}
+use Rattle.relay_drive.specs.Known.{Question}
 use Rattle.std.proofs.lemmas.List.{length-map}
 use Rattle.std.proofs.lemmas.Result.{err_from_is_err_and}
 use Rattle.ev_types.specs.Trace.{Trace}
@@ -11,9 +14,9 @@ use Rattle.relay_drive.specs.Bounds.{IsWithin, most_of_turn}
 use Rattle.relay_drive.proofs.BoundLaws.{new_drive_is_within, within_is_not_worn, went_is_bounded}
 use Rattle.relay_model.specs.Stages.{Stage, at}
 use Rattle.relay_meaning.specs.Meaning.{model_settings}
-use Rattle.ev_port.specs.ScriptPlayed.{played_turns}
+use Rattle.ev_port.specs.ScriptPlayed.{played_turn, played_turns}
 use Rattle.ev_port.specs.ScriptVouched.{IsCalledFor}
-use Rattle.evplay.proofs.AnsweredLemmas.{answered-of}
+use Rattle.evplay.proofs.PlayedLemmas.{vouched_played}
 use Rattle.evplay.proofs.OrderLemmas.{opens-in-order}
 use Rattle.evplay.proofs.FaultLemmas.{only-memory}
 use Rattle.evplay.proofs.HeadlineLemmas.{run-of}
@@ -41,9 +44,9 @@ loop-init c =
       calm = refl;
       hold = c.usual.ensures.hold;
       links = c.usual.ensures.links;
-      stands = record { time = refl; entries = refl };
+      stands = record { fits = record { time = refl; last = refl; opened = refl }; entries = refl };
       turns = refl;
-      vouched = c.in_ok-port.ensures.vouched;
+      known = ((c.in_ok-port.ensures.vouched, λ called. tt), λ called. inl refl);
       means = new_relay_stands u;
       within = subst (λ n. IsWithin 0 n (new_drive u)) c.usual.ensures.links (new_drive_is_within u);
     })
@@ -70,9 +73,9 @@ loop-preserved c =
     record {
       calm = c.in_ok-turn.ensures.refusal;
       turns = rw longer counted;
-      vouched = rw longer (w.told c.args.script.turns t inv.stands inv.vouched);
-      hold = rw bounded.1 inv.hold;
-      links = rw bounded.1 inv.links;
+      known = rw longer (let now = w.told (Question.Took c.args.script.turns) t inv.stands inv.known in (now.0, now.1.0));
+      hold = rw w.settings inv.hold;
+      links = rw w.settings inv.links;
       stands = rw longer (w.stands t inv.stands);
       means = rw longer (w.means t inv.means);
       within = subst (λ n. IsWithin n 256 c.turn.new.self) more bounded.0;
@@ -91,5 +94,10 @@ returns-clause-text c =
       turns_left = omega (arith, begun-is (played_turns c.args.script.turns) t, inv.turns, all);
       in_order = opens-in-order (model_settings s.settings) t (at Stage.Between inv.means.plain, inv.means.reached);
     } in
-    let answered = answered-of c.loop.port c.args.script.turns t inv.vouched called in
-    (t, lines_below s s.opened, run-of c.args.script t s inv.hold inv.links inv.means (inv.turns ∙ all) answered, c.in_ok-written.ensures)
+    let taken = inv.known.0.1 called in
+    let now = inv.known.1 called in
+    let took : AlwaysTookAll (played_turns c.args.script.turns) 256 [] t = subst (λ n. AlwaysTookAll (played_turns c.args.script.turns) n [] t) inv.links taken in
+    let waits : TookAll (played_turns c.args.script.turns) 256 t = subst (λ n. TookAll (played_turns c.args.script.turns) n t) inv.links now in
+    let planned : count_by is_turn t ≡ length (played_turns c.args.script.turns) + 0 = omega (arith, inv.turns, all, length-map c.args.script.turns played_turn) in
+    let played = vouched_played c.args.script c.loop.port t 0 TurnAnswer.Went inv.known.0.0 called took (planned, waits) in
+    (t, lines_below s s.opened, run-of c.args.script t s inv.hold inv.links inv.means (inv.turns ∙ all) played, c.in_ok-written.ensures)
