@@ -8,7 +8,7 @@ use Rattle.script_text.specs.declared.script.TurnLine.{TurnLine}
 use Rattle.script_text.specs.declared.script.TurnLine.TheVariants as line
 use Rattle.ev_port.specs.ScriptState.{EndState, LinksState}
 use Rattle.ev_port.specs.ScriptEnds.{end_after_line}
-use Rattle.ev_port.specs.ScriptLinks.{at_end, end_of, after_line, after_lines}
+use Rattle.ev_port.specs.ScriptLinks.{at_end, out_end, end_of, after_line, after_lines}
 use Rattle.ev_port.specs.ScriptKept.{line_bytes, bytes_of}
 use Rattle.ev_port.proofs.ListLemmas.{slice_get-changed_same, slice_get-changed_other}
 use Rattle.ev_port.proofs.ScriptLemmas.{bytes_here, bytes_elsewhere}
@@ -41,14 +41,21 @@ changed_there side e f l s here bytes found same other came =
       | inr off ↦ (s, slice_get-changed_other f l.ends (number side) (number e) off ∙ found, rw (other off) (Came-none s))
     ]
 
+-- a change that brings in no bytes
+quiet_line : (side e : SideId) (f : EndState → EndState) (l : LinksState) (s : EndState) → end_of l e ≡ Some s → ((t : EndState) → Came t (f t) []) → (t : EndState) × (end_of (at_end side f l) e ≡ Some t) × Came s t []
+quiet_line side e f l s found came = changed_there side e f l s [] [] found (λ _. refl) (λ _. refl) (came s)
+
 one_line : (x : TurnLine) (l : LinksState) (e : SideId) (s : EndState) → end_of l e ≡ Some s → (t : EndState) × (end_of (after_line x l) e ≡ Some t) × Came s t (line_bytes (number e) x)
 one_line (line.NewLink wait) l e s found = (s, found, Came-none s)
+one_line line.PollFail l e s found = (s, found, Came-none s)
+one_line (line.Conn link connected) l e s found = quiet_line (out_end link) e (end_after_line l.turn (line.Conn link connected)) l s found (λ t. record { pending = sym (append-nil t.pending); given = refl; taken = refl })
 one_line (line.Pending side bytes) l e s found =
-    changed_there side e (end_after_line (line.Pending side bytes)) l s bytes (line_bytes (number e) (line.Pending side bytes)) found (bytes_here side bytes (number e)) (bytes_elsewhere side bytes (number e)) (record { pending = refl; given = refl; taken = refl })
-one_line (line.Eof side) l e s found =
-    changed_there side e (end_after_line (line.Eof side)) l s [] [] found (λ _. refl) (λ _. refl) (record { pending = sym (append-nil s.pending); given = refl; taken = refl })
-one_line (line.Take side more) l e s found =
-    changed_there side e (end_after_line (line.Take side more)) l s [] [] found (λ _. refl) (λ _. refl) (record { pending = sym (append-nil s.pending); given = refl; taken = refl })
+    changed_there side e (end_after_line l.turn (line.Pending side bytes)) l s bytes (line_bytes (number e) (line.Pending side bytes)) found (bytes_here side bytes (number e)) (bytes_elsewhere side bytes (number e)) (record { pending = refl; given = refl; taken = refl })
+one_line (line.Eof side) l e s found = quiet_line side e (end_after_line l.turn (line.Eof side)) l s found (λ t. record { pending = sym (append-nil t.pending); given = refl; taken = refl })
+one_line (line.ReadFail side) l e s found = quiet_line side e (end_after_line l.turn (line.ReadFail side)) l s found (λ t. record { pending = sym (append-nil t.pending); given = refl; taken = refl })
+one_line (line.Take side more) l e s found = quiet_line side e (end_after_line l.turn (line.Take side more)) l s found (λ t. record { pending = sym (append-nil t.pending); given = refl; taken = refl })
+one_line (line.WriteFail side) l e s found = quiet_line side e (end_after_line l.turn (line.WriteFail side)) l s found (λ t. record { pending = sym (append-nil t.pending); given = refl; taken = refl })
+one_line (line.Spur side) l e s found = quiet_line side e (end_after_line l.turn (line.Spur side)) l s found (λ t. record { pending = sym (append-nil t.pending); given = refl; taken = refl })
 
 all_lines : (xs : List TurnLine) (l : LinksState) (e : SideId) (s : EndState) → end_of l e ≡ Some s → (t : EndState) × (end_of (after_lines xs l) e ≡ Some t) × Came s t (bytes_of (number e) xs)
 all_lines [] l e s found = (s, found, Came-none s)

@@ -31,13 +31,16 @@ empty : (xs : List ℕ) → length xs ≡ 0 → xs ≡ []
 empty [] h = refl
 empty (x ∷ xs) h = absurd (omega (arith, h))
 
-pub reads_same : (s : EndState) (room : ℕ) → reads s.pending false s.eof room ≡ (read_answer s room, take room s.pending)
+pub reads_same : (s : EndState) (room : ℕ) → reads s.pending s.read_fails s.eof room ≡ (read_answer s room, take room s.pending)
 reads_same s room =
     elim (eqb_tells (length s.pending) 0) [
       | inl none ↦
           let nothing : take room s.pending ≡ [] = ap (take room) (empty s.pending none.1) ∙ take-nil room in
           let test : nat_le 1 (length s.pending) ≡ false = one_le (length s.pending) ∙ ap not none.0 in
-          elim (cases_Bool s.eof) [ inl eof ↦ rw (test, none.0, eof, nothing) refl | inr eof ↦ rw (test, none.0, eof, nothing) refl ]
+          elim (cases_Bool s.read_fails) [
+            | inl fails ↦ rw (test, none.0, fails, nothing) refl
+            | inr fails ↦ elim (cases_Bool s.eof) [ inl eof ↦ rw (test, none.0, fails, eof, nothing) refl | inr eof ↦ rw (test, none.0, fails, eof, nothing) refl ]
+          ]
       | inr some ↦
           let test : nat_le 1 (length s.pending) ≡ true = one_le (length s.pending) ∙ ap not some.0 in
           let least = min_comm room (length s.pending) in
@@ -51,12 +54,12 @@ writes most fail offered =
     let n = at_most most (length offered) in
     if nat_le 1 n then (write.Took n, take n offered) else (if fail then (write.Failed, []) else (write.NotYet, []))
 
-pub writes_same : (most : Option ℕ) (s : EndState) (from : List ℕ) → at_most most (length from) ≡ taken_of s.may_take (length from) → writes most false from ≡ (write_answer s (length from), took_bytes (write_answer s (length from)) from)
+pub writes_same : (most : Option ℕ) (s : EndState) (from : List ℕ) → at_most most (length from) ≡ taken_of s.may_take (length from) → writes most s.write_fails from ≡ (write_answer s (length from), took_bytes (write_answer s (length from)) from)
 writes_same most s from same =
     elim (eqb_tells (taken_of s.may_take (length from)) 0) [
       | inl none ↦
           let test : nat_le 1 (at_most most (length from)) ≡ false = one_le (at_most most (length from)) ∙ ap (λ n. not (n == 0)) same ∙ ap not none.0 in
-          rw (test, none.0) refl
+          elim (cases_Bool s.write_fails) [ inl fails ↦ rw (test, none.0, fails) refl | inr fails ↦ rw (test, none.0, fails) refl ]
       | inr some ↦
           let test : nat_le 1 (at_most most (length from)) ≡ true = one_le (at_most most (length from)) ∙ ap (λ n. not (n == 0)) same ∙ ap not some.0 in
           rw (test, some.0, same) refl

@@ -1,12 +1,11 @@
 -- Where reads, writes, connect checks and accepts leave the ends of a script port.
-use Rattle.std.proofs.Common.{◌≡◌, ◌⊎◌, ℕ, ◌+◌, ◌-◌, ◌^◌, ◌<◌, ◌≤◌, min, Bool, true, false, ◌==◌, ◌&&◌, ◌||◌, not, if◌then◌else◌, List, [], ◌∷◌, ◌++◌, length, get_or, take, drop, Option, Some, None, refl, sym, ap, subst, ◌∙◌, arith, append-nil, length-append, length-drop, length-take, inl, inr}
+use Rattle.std.proofs.Common.{◌≡◌, ◌⊎◌, ℕ, ◌+◌, ◌-◌, ◌^◌, ◌<◌, ◌≤◌, min, Bool, true, false, ◌==◌, ◌&&◌, ◌||◌, not, if◌then◌else◌, List, [], ◌∷◌, ◌++◌, length, take, drop, Option, Some, None, refl, sym, ap, subst, ◌∙◌, arith, append-nil, length-append, length-drop, length-take, inl, inr}
 use Rattle.std.specs.Prelude.{sum_by, option_map}
 use Rattle.std.specs.Option.{option_map_or}
 use Rattle.std.specs.List.{flat_map, list_any}
 use Rattle.std.proofs.lemmas.Bool.{cases_Bool}
 use Rattle.std.proofs.lemmas.Bool.Decides.{eqb_tells}
-use Rattle.std.proofs.Math.ListN.{get_or-append}
-use Rattle.std.proofs.lemmas.List.{take-append-drop, drop-drop, drop_more}
+use Rattle.std.proofs.lemmas.List.{take-append-drop, drop-drop}
 use Rattle.std.proofs.lemmas.List.Sums.{sum_by-append}
 use Rattle.std.proofs.Math.Seq.{take-nil}
 use Rattle.ev_types.specs.declared.side.Side.{Side}
@@ -24,6 +23,7 @@ use Rattle.ev_types.specs.Trace.{Trace}
 use Rattle.relay_model.specs.Trace.{bytes_read, bytes_given}
 use Rattle.relay_model.specs.Totals.{is_opened, opened, is_made_connected, is_connected}
 use Rattle.relay_model.specs.Lines.{Line, links_by, allows, allows_all}
+use Rattle.ev_port.specs.Ends as ends
 use Rattle.ev_port.specs.Ends.{took_bytes}
 use Rattle.ev_port.specs.ScriptState.{EndState, LinksState}
 use Rattle.ev_port.specs.ScriptEnds.{read_answer, after_read, taken_of, left_to_take, write_answer, after_write, conn_answer, after_check, accepted}
@@ -33,7 +33,7 @@ use Rattle.relay_model.proofs.EndLemmas.{same_end-eq}
 use Rattle.ev_port.proofs.ListLemmas.{slice_get-changed_same, slice_get-changed_other}
 use Rattle.ev_port.proofs.ToldLemmas.{same_end_tells}
 use Rattle.ev_port.proofs.ScriptStandLemmas.{end_changed, none_changed, takes-write}
-use Rattle.ev_port.proofs.ScriptTraceLemmas.{same_self, Silent, as_before, or_false, end_event, end_silent, at_end_stands}
+use Rattle.ev_port.proofs.ScriptTraceLemmas.{same_self, Silent, same_said, as_before, or_false, end_event, end_silent, at_end_stands}
 
 empty : (xs : List ℕ) → length xs ≡ 0 → xs ≡ []
 empty [] h = refl
@@ -56,7 +56,10 @@ read_bytes side room s =
     elim (eqb_tells (length s.pending) 0) [
       | inl none ↦
           let nothing : take room s.pending ≡ [] = ap (take room) (empty s.pending none.1) ∙ take-nil room in
-          elim (cases_Bool s.eof) [ inl eof ↦ rw (none.0, eof, nothing) refl | inr eof ↦ rw (none.0, eof, nothing) refl ]
+          elim (cases_Bool s.read_fails) [
+            | inl fails ↦ rw (none.0, fails, nothing) refl
+            | inr fails ↦ elim (cases_Bool s.eof) [ inl eof ↦ rw (none.0, fails, eof, nothing) refl | inr eof ↦ rw (none.0, fails, eof, nothing) refl ]
+          ]
       | inr some ↦ let same = same_self side in rw (some.0, same) (append-nil (take room s.pending))
     ]
 
@@ -71,7 +74,7 @@ read_stands waits ls t side room l h =
     let got : bytes_read side u ≡ take room s.pending = ap (bytes_read side) is ∙ read_bytes side room s in
     end_event waits ls t u side s (after_read s room) k
     (sym (ap (λ z. z ++ drop room s.pending) got ∙ take-append-drop room s.pending))
-    (sym (append-nil s.taken)) refl refl k.may_take (sym (or_false s.tally.made_connected)) (sym (or_false s.tally.connected)) k.undecided)
+    (sym (append-nil s.taken)) (same_said s _ _ _ _ _) k.may_take (sym (or_false s.tally.made_connected)) (sym (or_false s.tally.connected)))
     h
 
 -- Connect checks
@@ -81,8 +84,10 @@ check_silent side e conn.Connected h = record { read = refl; given = refl; made 
 check_silent side e conn.Pending h = record { read = refl; given = refl; made = refl; connected = refl }
 check_silent side e conn.Failed h = record { read = refl; given = refl; made = refl; connected = refl }
 
-check_tells : (side : SideId) (s : EndState) → is_connected side ((entry.Conn side (conn_answer s), []) ∷ []) ≡ s.tally.made_connected
-check_tells side s = elim (cases_Bool s.tally.made_connected) [ inl made ↦ let same = same_self side in rw (made, same) refl | inr made ↦ rw made refl ]
+check_tells : (side : SideId) (answer : ConnAnswer) → is_connected side ((entry.Conn side answer, []) ∷ []) ≡ ends.is_connected answer
+check_tells side conn.Connected = let same = same_self side in rw same refl
+check_tells side conn.Pending = refl
+check_tells side conn.Failed = refl
 
 pub check_stands : (waits : List Bool) (ls : List Line) (t : Trace) (side : SideId) (l : LinksState) → LinksStand waits ls t l →
     LinksStand waits ls (t ++ (entry.Conn side (conn_answer_at l side), []) ∷ []) (at_end side after_check l)
@@ -91,9 +96,9 @@ check_stands waits ls t side l h =
     at_end_stands waits ls t u side after_check l refl (λ e other. check_silent side e (conn_answer_at l side) other)
     (λ s found k.
     let is : u ≡ (entry.Conn side (conn_answer s), []) ∷ [] = ap (λ (o : Option EndState). (entry.Conn side (option_map_or conn_answer o conn.Pending), []) ∷ []) found in
-    let tells : is_connected side u ≡ s.tally.made_connected = ap (is_connected side) is ∙ check_tells side s in
-    end_event waits ls t u side s (after_check s) k refl (sym (append-nil s.taken)) refl refl k.may_take (sym (or_false s.tally.made_connected))
-    (ap (λ z. s.tally.connected || z) (sym tells)) k.undecided)
+    let tells : is_connected side u ≡ ends.is_connected (conn_answer s) = ap (is_connected side) is ∙ check_tells side (conn_answer s) in
+    end_event waits ls t u side s (after_check s) k refl (sym (append-nil s.taken)) (same_said s _ _ _ _ _) k.may_take (sym (or_false s.tally.made_connected))
+    (ap (λ z. s.tally.connected || z) (sym tells)))
     h
 
 -- Writes
@@ -109,7 +114,7 @@ write_bytes : (side : SideId) (from : List ℕ) (s : EndState) →
     bytes_given side ((entry.Write side (length from) (write_answer s (length from)), took_bytes (write_answer s (length from)) from) ∷ []) ≡ take (taken_of s.may_take (length from)) from
 write_bytes side from s =
     elim (eqb_tells (taken_of s.may_take (length from)) 0) [
-      | inl none ↦ rw (none.0, none.1) refl
+      | inl none ↦ elim (cases_Bool s.write_fails) [ inl fails ↦ rw (none.0, none.1, fails) refl | inr fails ↦ rw (none.0, none.1, fails) refl ]
       | inr some ↦ let same = same_self side in rw (some.0, same) (append-nil (take (taken_of s.may_take (length from)) from))
     ]
 
@@ -136,9 +141,9 @@ write_stands waits ls t side from l within h =
     let here : end_of (at_end side (λ s. after_write s from) l) side ≡ Some (after_write s from) =
     slice_get-changed_same (λ s. after_write s from) l.ends (number side) ∙ ap (option_map (λ s. after_write s from)) found in
     let fits : length (after_write s from).taken < 2 ^ 64 - 1 = subst (λ (o : Option EndState). length (option_map_or (λ (x : EndState). x.taken) o []) < 2 ^ 64 - 1) here within in
-    end_event waits ls t u side s (after_write s from) k refl (ap (λ z. s.taken ++ z) (sym gave)) refl refl
+    end_event waits ls t u side s (after_write s from) k refl (ap (λ z. s.taken ++ z) (sym gave)) (same_said s _ _ _ _ _)
     (write_leaves s.may_take (list_any (allows_all side) ls) (sum_by (allows side) ls) s.taken from fits k.may_take)
-    (sym (or_false s.tally.made_connected)) (sym (or_false s.tally.connected)) k.undecided)
+    (sym (or_false s.tally.made_connected)) (sym (or_false s.tally.connected)))
     h
 
 -- Accepts
@@ -151,7 +156,7 @@ ends_apart link e h k = elim (eqb_tells link e.link) [ inl t ↦ by_side e.side 
     by_side In p q = absurd (cc)
     by_side Out p q = absurd (cc)
 
-module _ (waits : List Bool) (ls : List Line) (t : Trace) (l : LinksState) (wait : Bool) (later : List Bool) (link : ℕ) (h : LinksStand waits ls t l) (waiting : l.waiting ≡ wait ∷ later) (number_is : link ≡ opened t) where
+module _ (waits : List Bool) (ls : List Line) (t : Trace) (l : LinksState) (wait : Bool) (later : List Bool) (link : ℕ) (h : LinksStand waits ls t l) (waiting : l.waiting ≡ wait ∷ later) where
   abbrev opens : Trace
   opens = (entry.Opened link (not wait), []) ∷ []
 
@@ -179,58 +184,48 @@ module _ (waits : List Bool) (ls : List Line) (t : Trace) (l : LinksState) (wait
   in_stands : (s : EndState) → EndStands waits ls t in_end s → EndStands waits ls (t ++ opens) in_end (accepted true s)
   in_stands s k =
       let same = same_link in
-      end_event waits ls t opens in_end s (accepted true s) k refl (sym (append-nil s.taken)) refl refl k.may_take (rw same refl) (sym (or_false s.tally.connected)) (λ q. absurd (let w = k.wait in cc))
+      end_event waits ls t opens in_end s (accepted true s) k refl (sym (append-nil s.taken)) (same_said s _ _ _ _ _) k.may_take (rw same refl) (sym (or_false s.tally.connected))
 
-  module _ (rest : List Bool) (whole : flat_map links_by ls ++ rest ≡ waits) where
-    waits_here : get_or waits link false ≡ wait
-    waits_here =
-        let all = flat_map links_by ls in
-        let long = lasts in
-        let within : opened t < length all = omega (arith, long) in
-        let head : wait ≡ get_or all (opened t) false = ap (λ z. get_or z 0 false) (sym waiting ∙ h.waiting ∙ drop_more all (opened t) false within) in
-        ap (λ z. get_or z link false) (sym whole) ∙ ap (λ n. get_or (all ++ rest) n false) number_is ∙ get_or-append all rest false (opened t) within ∙ sym head
+  out_stands : (s : EndState) → EndStands waits ls t out_end s → EndStands waits ls (t ++ opens) out_end (accepted (not wait) s)
+  out_stands s k =
+      let same = same_link in
+      let plain = or_false (not wait) in
+      end_event waits ls t opens out_end s (accepted (not wait) s) k refl (sym (append-nil s.taken)) (same_said s _ _ _ _ _) k.may_take (rw (same, plain) refl) (sym (or_false s.tally.connected))
 
-    out_stands : (s : EndState) → EndStands waits ls t out_end s → EndStands waits ls (t ++ opens) out_end (accepted (not wait) s)
-    out_stands s k =
-        let same = same_link in
-        let plain = or_false (not wait) in
-        end_event waits ls t opens out_end s (accepted (not wait) s) k refl (sym (append-nil s.taken)) refl refl k.may_take (rw (same, plain) refl) (sym (or_false s.tally.connected))
-        (λ q. let w : wait ≡ true = sym (k.wait ∙ waits_here) ∙ q in let none = k.undecided q in rw (none, w) refl)
+  opens_silent : (e : SideId) → same_end in_end e ≡ false → same_end out_end e ≡ false → Silent e opens
+  opens_silent e p q = let other = ends_apart link e p q in record { read = refl; given = refl; made = rw other refl; connected = refl }
 
-    opens_silent : (e : SideId) → same_end in_end e ≡ false → same_end out_end e ≡ false → Silent e opens
-    opens_silent e p q = let other = ends_apart link e p q in record { read = refl; given = refl; made = rw other refl; connected = refl }
+  pub accept_stands : LinksStand waits ls (t ++ opens) (accept_first link (wait ∷ later) l)
+  accept_stands = record {
+    in_order = new_in_order;
+    waiting = new_waiting;
+    ends = λ e s found. at_out e s (end_changed out_end e (accepted (not wait)) (at_end in_end (accepted true) (record l { waiting = later })) s found);
+    beyond = λ e found.
+        h.beyond e (none_changed in_end e (accepted true) (record l { waiting = later }) (none_changed out_end e (accepted (not wait)) (at_end in_end (accepted true) (record l { waiting = later })) found));
+  }
+    where
+      at_in : (e : SideId) (s : EndState) → same_end out_end e ≡ false →
+          ((same_end in_end e ≡ true) × ((old : EndState) × (end_of l e ≡ Some old) × (s ≡ accepted true old))) ⊎ ((same_end in_end e ≡ false) × (end_of l e ≡ Some s)) → EndStands waits ls (t ++ opens) e s
+      at_in e s other (inl own) =
+          let is : in_end ≡ e = same_end-eq in_end e own.0 in
+          subst (λ z. EndStands waits ls (t ++ opens) e z) (sym own.1.2)
+          (subst (λ z. EndStands waits ls (t ++ opens) z (accepted true own.1.0)) is (in_stands own.1.0 (subst (λ z. EndStands waits ls t z own.1.0) (sym is) (h.ends e own.1.0 own.1.1))))
+      at_in e s other (inr same) = end_silent waits ls t opens e s s (opens_silent e same.0 other) (as_before s) (h.ends e s same.1)
 
-    pub accept_stands : LinksStand waits ls (t ++ opens) (accept_first link (wait ∷ later) l)
-    accept_stands = record {
-      in_order = new_in_order;
-      waiting = new_waiting;
-      ends = λ e s found. at_out e s (end_changed out_end e (accepted (not wait)) (at_end in_end (accepted true) (record l { waiting = later })) s found);
-      beyond = λ e found.
-          h.beyond e (none_changed in_end e (accepted true) (record l { waiting = later }) (none_changed out_end e (accepted (not wait)) (at_end in_end (accepted true) (record l { waiting = later })) found));
-    }
-      where
-        at_in : (e : SideId) (s : EndState) → same_end out_end e ≡ false →
-            ((same_end in_end e ≡ true) × ((old : EndState) × (end_of l e ≡ Some old) × (s ≡ accepted true old))) ⊎ ((same_end in_end e ≡ false) × (end_of l e ≡ Some s)) → EndStands waits ls (t ++ opens) e s
-        at_in e s other (inl own) =
-            let is : in_end ≡ e = same_end-eq in_end e own.0 in
-            subst (λ z. EndStands waits ls (t ++ opens) e z) (sym own.1.2)
-            (subst (λ z. EndStands waits ls (t ++ opens) z (accepted true own.1.0)) is (in_stands own.1.0 (subst (λ z. EndStands waits ls t z own.1.0) (sym is) (h.ends e own.1.0 own.1.1))))
-        at_in e s other (inr same) = end_silent waits ls t opens e s s (opens_silent e same.0 other) (as_before s) (h.ends e s same.1)
+      not_both : (e : SideId) → same_end out_end e ≡ true → same_end in_end e ≡ false
+      not_both e o =
+          elim (same_end_tells in_end e) [
+            | inl i ↦ elim (same_end_tells out_end e) [ inl p ↦ absurd (let a = i.1 in let b = p.1 in omega (arith, a, b)) | inr p ↦ absurd (let b = p.0 in cc) ]
+            | inr i ↦ i.0
+          ]
 
-        not_both : (e : SideId) → same_end out_end e ≡ true → same_end in_end e ≡ false
-        not_both e o =
-            elim (same_end_tells in_end e) [
-              | inl i ↦ elim (same_end_tells out_end e) [ inl p ↦ absurd (let a = i.1 in let b = p.1 in omega (arith, a, b)) | inr p ↦ absurd (let b = p.0 in cc) ]
-              | inr i ↦ i.0
-            ]
-
-        at_out : (e : SideId) (s : EndState) →
-            ((same_end out_end e ≡ true) × ((old : EndState) × (end_of (at_end in_end (accepted true) (record l { waiting = later })) e ≡ Some old) × (s ≡ accepted (not wait) old)))
-            ⊎ ((same_end out_end e ≡ false) × (end_of (at_end in_end (accepted true) (record l { waiting = later })) e ≡ Some s)) → EndStands waits ls (t ++ opens) e s
-        at_out e s (inl own) =
-            let is : out_end ≡ e = same_end-eq out_end e own.0 in
-            let found : end_of l e ≡ Some own.1.0 =
-            sym (slice_get-changed_other (accepted true) l.ends (number in_end) (number e) (λ q. elim (same_end_tells in_end e) [ inl i ↦ absurd (let a = i.0 in let b = not_both e own.0 in cc) | inr i ↦ i.1 (sym q) ])) ∙ own.1.1 in
-            subst (λ z. EndStands waits ls (t ++ opens) e z) (sym own.1.2)
-            (subst (λ z. EndStands waits ls (t ++ opens) z (accepted (not wait) own.1.0)) is (out_stands own.1.0 (subst (λ z. EndStands waits ls t z own.1.0) (sym is) (h.ends e own.1.0 found))))
-        at_out e s (inr same) = at_in e s same.0 (end_changed in_end e (accepted true) (record l { waiting = later }) s same.1)
+      at_out : (e : SideId) (s : EndState) →
+          ((same_end out_end e ≡ true) × ((old : EndState) × (end_of (at_end in_end (accepted true) (record l { waiting = later })) e ≡ Some old) × (s ≡ accepted (not wait) old)))
+          ⊎ ((same_end out_end e ≡ false) × (end_of (at_end in_end (accepted true) (record l { waiting = later })) e ≡ Some s)) → EndStands waits ls (t ++ opens) e s
+      at_out e s (inl own) =
+          let is : out_end ≡ e = same_end-eq out_end e own.0 in
+          let found : end_of l e ≡ Some own.1.0 =
+          sym (slice_get-changed_other (accepted true) l.ends (number in_end) (number e) (λ q. elim (same_end_tells in_end e) [ inl i ↦ absurd (let a = i.0 in let b = not_both e own.0 in cc) | inr i ↦ i.1 (sym q) ])) ∙ own.1.1 in
+          subst (λ z. EndStands waits ls (t ++ opens) e z) (sym own.1.2)
+          (subst (λ z. EndStands waits ls (t ++ opens) z (accepted (not wait) own.1.0)) is (out_stands own.1.0 (subst (λ z. EndStands waits ls t z own.1.0) (sym is) (h.ends e own.1.0 found))))
+      at_out e s (inr same) = at_in e s same.0 (end_changed in_end e (accepted true) (record l { waiting = later }) s same.1)

@@ -1,5 +1,5 @@
 -- What is to open and to come is just what the lines that are left bring.
-use Rattle.std.proofs.Common.{◌≡◌, ◌≢◌, ℕ, zero, suc, ◌+◌, ◌<◌, ◌≤◌, Bool, false, List, [], ◌∷◌, ◌++◌, length, get_or, take, drop, refl, sym, ap, ◌∙◌, arith, append_assoc, append-nil, inl, inr}
+use Rattle.std.proofs.Common.{◌≡◌, ◌≢◌, ℕ, zero, suc, ◌+◌, ◌<◌, ◌≤◌, Bool, false, List, [], ◌∷◌, ◌++◌, length, get_or, take, drop, Option, refl, sym, ap, ◌∙◌, arith, append_assoc, append-nil, inl, inr}
 use Rattle.std.proofs.lemmas.Bool.{cases_eq, cases_lt, eq-eqb}
 use Rattle.std.proofs.lemmas.Bool.Decides.{eqb_tells}
 use Rattle.std.proofs.lemmas.List.{take_at, drop_at, drop_more, drop_all}
@@ -9,7 +9,7 @@ use Rattle.script_text.specs.declared.script.TurnLine.{TurnLine}
 use Rattle.script_text.specs.declared.script.TurnLine.TheVariants as line
 use Rattle.ev_port.specs.ScriptState.{EndState, LinksKept}
 use Rattle.ev_port.specs.ScriptEnds.{end_after_line, new_end}
-use Rattle.ev_port.specs.ScriptLinks.{changed, after_line, after_lines, links_of, new_ends}
+use Rattle.ev_port.specs.ScriptLinks.{changed, at_end, out_end, after_line, after_lines, links_of, new_ends}
 use Rattle.ev_port.specs.ScriptKept.{state_after_line, kept_at, links_after_line, links_after_lines, no_bytes, with_links, with_bytes, with_all_bytes, line_bytes, bytes_of, Brings}
 use Rattle.ev_port.specs.ScriptPort.{lines_of}
 use Rattle.ev_port.proofs.ListLemmas.{length-changed, get_or-changed_same, get_or-changed_other, changed_agree, changed_none, changed_beyond}
@@ -27,16 +27,16 @@ next_bytes : (side : SideId) (bytes : List ℕ) (rest : List TurnLine) (l : Link
 next_bytes side bytes rest l k e h b = b.bytes k h ∙ ap (λ t. t ++ bytes_of k rest) (bytes_here side bytes k e)
 
 -- so they come in
-bytes_come : (side : SideId) (bytes : List ℕ) (rest : List TurnLine) (l : LinksKept) (k : ℕ) → k ≡ number side → Brings (line.Pending side bytes ∷ rest) l →
-    changed k (state_after_line (line.Pending side bytes) (kept_at k l.to_come)) l.state.ends ≡ changed k (end_after_line (line.Pending side bytes)) l.state.ends
-bytes_come side bytes rest l k e b =
+bytes_come : (turn : Option ℕ) (side : SideId) (bytes : List ℕ) (rest : List TurnLine) (l : LinksKept) (k : ℕ) → k ≡ number side → Brings (line.Pending side bytes ∷ rest) l →
+    changed k (state_after_line turn (line.Pending side bytes) (kept_at k l.to_come)) l.state.ends ≡ changed k (end_after_line turn (line.Pending side bytes)) l.state.ends
+bytes_come turn side bytes rest l k e b =
     elim (cases_lt k (length l.to_come)) [
       | inl h ↦
           let first : take (length bytes) (kept_at k l.to_come) ≡ bytes = ap (take (length bytes)) (next_bytes side bytes rest l k e h b) ∙ take_at bytes (bytes_of k rest) (length bytes) refl in
-          changed_agree (state_after_line (line.Pending side bytes) (kept_at k l.to_come)) (end_after_line (line.Pending side bytes)) l.state.ends k (λ (s : EndState). rw first)
+          changed_agree (state_after_line turn (line.Pending side bytes) (kept_at k l.to_come)) (end_after_line turn (line.Pending side bytes)) l.state.ends k (λ (s : EndState). rw first)
       | inr h ↦
           let beyond : length l.state.ends ≤ k = omega (arith, b.ends) in
-          changed_beyond (state_after_line (line.Pending side bytes) (kept_at k l.to_come)) l.state.ends k beyond ∙ sym (changed_beyond (end_after_line (line.Pending side bytes)) l.state.ends k beyond)
+          changed_beyond (state_after_line turn (line.Pending side bytes) (kept_at k l.to_come)) l.state.ends k beyond ∙ sym (changed_beyond (end_after_line turn (line.Pending side bytes)) l.state.ends k beyond)
     ]
 
 -- and the bytes behind them are left
@@ -50,22 +50,35 @@ bytes_left side bytes rest l k0 k n b h =
           get_or-changed_other (drop (length bytes)) l.to_come k0 k [] e ∙ b.bytes k h ∙ ap (λ t. t ++ bytes_of k rest) (bytes_elsewhere side bytes k (λ q. e (q ∙ sym n)))
     ]
 
+-- a line that changes an end and brings no bytes
+quiet_line : (e : SideId) (f : EndState → EndState) (rest : List TurnLine) (l : LinksKept) → Brings rest l →
+    Brings rest (record l { state = at_end e f l.state; to_come = changed (number e) (λ bytes. bytes) l.to_come })
+quiet_line e f rest l b =
+    let none = changed_none l.to_come (number e) in
+    let long = length-changed f l.state.ends (number e) in
+    record { links = b.links; bytes = rw none b.bytes; ends = rw (none, long) b.ends }
+
 -- one line
 one_line : (x : TurnLine) (rest : List TurnLine) (l : LinksKept) → Brings (x ∷ rest) l → ((links_after_line x l).state ≡ after_line x l.state) × Brings rest (links_after_line x l)
 one_line (line.NewLink wait) rest l b = (rw b.links, record { links = rw b.links; bytes = b.bytes; ends = b.ends })
+one_line line.PollFail rest l b = (refl, record { links = b.links; bytes = b.bytes; ends = b.ends })
+one_line (line.Conn link connected) rest l b =
+    (refl, quiet_line (out_end link) (end_after_line l.state.turn (line.Conn link connected)) rest l (record { links = b.links; bytes = b.bytes; ends = b.ends }))
 one_line (line.Eof side) rest l b =
-    let none = changed_none l.to_come (number side) in
-    let long = length-changed (end_after_line (line.Eof side)) l.state.ends (number side) in
-    (refl, record { links = b.links; bytes = rw none b.bytes; ends = rw (none, long) b.ends })
+    (refl, quiet_line side (end_after_line l.state.turn (line.Eof side)) rest l (record { links = b.links; bytes = b.bytes; ends = b.ends }))
+one_line (line.ReadFail side) rest l b =
+    (refl, quiet_line side (end_after_line l.state.turn (line.ReadFail side)) rest l (record { links = b.links; bytes = b.bytes; ends = b.ends }))
 one_line (line.Take side more) rest l b =
-    let none = changed_none l.to_come (number side) in
-    let long = length-changed (end_after_line (line.Take side more)) l.state.ends (number side) in
-    (refl, record { links = b.links; bytes = rw none b.bytes; ends = rw (none, long) b.ends })
+    (refl, quiet_line side (end_after_line l.state.turn (line.Take side more)) rest l (record { links = b.links; bytes = b.bytes; ends = b.ends }))
+one_line (line.WriteFail side) rest l b =
+    (refl, quiet_line side (end_after_line l.state.turn (line.WriteFail side)) rest l (record { links = b.links; bytes = b.bytes; ends = b.ends }))
+one_line (line.Spur side) rest l b =
+    (refl, quiet_line side (end_after_line l.state.turn (line.Spur side)) rest l (record { links = b.links; bytes = b.bytes; ends = b.ends }))
 one_line (line.Pending side bytes) rest l b =
     let k = number side in
-    let come = bytes_come side bytes rest l k refl b in
+    let come = bytes_come l.state.turn side bytes rest l k refl b in
     let shorter = length-changed (drop (length bytes)) l.to_come k in
-    let long = length-changed (state_after_line (line.Pending side bytes) (kept_at k l.to_come)) l.state.ends k in (
+    let long = length-changed (state_after_line l.state.turn (line.Pending side bytes) (kept_at k l.to_come)) l.state.ends k in (
       rw come,
       record {
         links = b.links;
@@ -92,9 +105,7 @@ turn_begins turns i turn h e =
 pub links_of-append : (xs ys : List TurnLine) → links_of (xs ++ ys) ≡ links_of xs ++ links_of ys
 links_of-append [] ys = refl
 links_of-append (line.NewLink wait ∷ xs) ys = ap (λ t. wait ∷ t) (links_of-append xs ys)
-links_of-append (line.Pending side bytes ∷ xs) ys = links_of-append xs ys
-links_of-append (line.Eof side ∷ xs) ys = links_of-append xs ys
-links_of-append (line.Take side more ∷ xs) ys = links_of-append xs ys
+links_of-append (_ ∷ xs) ys = links_of-append xs ys
 
 new_ends-append : (v w : List Bool) → new_ends (v ++ w) ≡ new_ends v ++ new_ends w
 new_ends-append [] w = refl
@@ -130,19 +141,14 @@ bytes_step turns i turn l m n h e now so_far =
     ap (with_all_bytes later) now ∙ sym (with_all_bytes-append turn.1 later l) ∙ ap (λ t. with_all_bytes t l) (sym (turn_begins turns i turn h e)) ∙ so_far
 
 length-with_bytes : (x : TurnLine) (to_come : List (List ℕ)) → length (with_bytes x to_come) ≡ length to_come
-length-with_bytes (line.NewLink wait) to_come = refl
-length-with_bytes (line.Eof side) to_come = refl
-length-with_bytes (line.Take side more) to_come = refl
 length-with_bytes (line.Pending side bytes) to_come = length-changed (λ before. before ++ bytes) to_come (number side)
+length-with_bytes _ to_come = refl
 
 length-with_all_bytes : (xs : List TurnLine) (to_come : List (List ℕ)) → length (with_all_bytes xs to_come) ≡ length to_come
 length-with_all_bytes [] to_come = refl
 length-with_all_bytes (x ∷ xs) to_come = length-with_all_bytes xs (with_bytes x to_come) ∙ length-with_bytes x to_come
 
 kept-with_bytes : (x : TurnLine) (to_come : List (List ℕ)) (k : ℕ) → k < length to_come → kept_at k (with_bytes x to_come) ≡ kept_at k to_come ++ line_bytes k x
-kept-with_bytes (line.NewLink wait) to_come k h = sym (append-nil (kept_at k to_come))
-kept-with_bytes (line.Eof side) to_come k h = sym (append-nil (kept_at k to_come))
-kept-with_bytes (line.Take side more) to_come k h = sym (append-nil (kept_at k to_come))
 kept-with_bytes (line.Pending side bytes) to_come k h =
     elim (cases_eq k (number side)) [
       | inl e ↦
@@ -150,6 +156,7 @@ kept-with_bytes (line.Pending side bytes) to_come k h =
       | inr e ↦
           get_or-changed_other (λ before. before ++ bytes) to_come (number side) k [] e ∙ sym (append-nil (kept_at k to_come)) ∙ ap (λ t. kept_at k to_come ++ t) (sym (bytes_elsewhere side bytes k e))
     ]
+kept-with_bytes _ to_come k h = sym (append-nil (kept_at k to_come))
 
 kept-with_all_bytes : (xs : List TurnLine) (to_come : List (List ℕ)) (k : ℕ) → k < length to_come → kept_at k (with_all_bytes xs to_come) ≡ kept_at k to_come ++ bytes_of k xs
 kept-with_all_bytes [] to_come k h = sym (append-nil (kept_at k to_come))

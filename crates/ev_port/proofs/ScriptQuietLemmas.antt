@@ -1,31 +1,30 @@
 -- Which entries of calls say nothing of ends and links, and that a poll of a script port is the script's.
 use Rattle.std.proofs.Common.{◌≡◌, ℕ, max, Bool, true, false, ◌&&◌, ◌||◌, if◌then◌else◌, List, [], ◌∷◌, ◌++◌, map, Option, refl, sym, ap, ◌∙◌, arith}
 use Rattle.std.specs.Prelude.{count_by, filter}
-use Rattle.std.specs.List.{list_any}
 use Rattle.std.proofs.lemmas.List.Sums.{sum_by-append}
-use Rattle.ev_types.specs.declared.side.Side.TheVariants.{In}
 use Rattle.ev_types.specs.declared.side.SideId.{SideId}
 use Rattle.ev_types.specs.declared.entry.Entry.{Entry}
 use Rattle.ev_types.specs.declared.entry.Entry.TheVariants as entry
 use Rattle.ev_types.specs.Trace.{Trace}
 use Rattle.script_text.specs.Script.{TurnValue}
 use Rattle.relay_model.specs.RatesKept.{is_turn}
-use Rattle.relay_model.specs.Lines.{marks_all}
 use Rattle.relay_model.specs.Script.{ScriptTurn}
 use Rattle.relay_model.specs.Rooms as rooms
 use Rattle.relay_model.specs.Scripted as model
 use Rattle.relay_model.specs.Plays as plays
 use Rattle.ev_port.specs.declared.port.Want.{Want}
+use Rattle.ev_port.specs.declared.port.Polled.{Polled}
 use Rattle.ev_port.specs.declared.port.Polled.TheVariants as polled
 use Rattle.ev_port.specs.Calls.{last_time, IsUnheard}
 use Rattle.ev_port.specs.Polling.{want_events, ready_events, poll_events}
 use Rattle.ev_port.specs.ScriptState.{LinksState}
-use Rattle.ev_port.specs.ScriptLinks.{links_of, marked, can_read_at, can_write_at}
-use Rattle.ev_port.specs.ScriptPort.{lines_of}
+use Rattle.ev_port.specs.ScriptLinks.{links_of, marked, unmarked, can_read_at, can_write_at, is_spurred_at}
+use Rattle.ev_port.specs.ScriptPort.{lines_of, poll_marks}
+use Rattle.ev_port.specs.ScriptNow.{RunsTurn}
 use Rattle.ev_port.specs.ScriptPlayed.{played_turns}
 use Rattle.ev_port.specs.ScriptVouched.{IsCalledFor, LinksStand}
-use Rattle.ev_port.proofs.ScriptTraceLemmas.{AllSilent, silent-append, silent-none, or_false}
-use Rattle.ev_port.proofs.ScriptSeenLemmas.{now_no_more, can_read_is, can_write_is}
+use Rattle.ev_port.proofs.ScriptTraceLemmas.{AllSilent, silent-append, silent-none}
+use Rattle.ev_port.proofs.ScriptSeenLemmas.{can_read_is, can_write_is, spurs_are}
 
 -- entries that say nothing, and begin no turn
 pub record Quiet (u : Trace) : Type 0 where
@@ -89,9 +88,14 @@ quiet-readies (w ∷ ws) =
     quiet-append (if w.can_read then (entry.Ready w.side true w.can_write, []) ∷ [] else (if w.can_write then (entry.Ready w.side false true, []) ∷ [] else [])) (ready_events ws)
     (quiet-mark w.side w.can_read w.can_write) (quiet-readies ws)
 
-pub quiet-poll : (timeout : Option ℕ) (ws : List Want) (accept : Bool) → Quiet (poll_events timeout ws (polled.Ready accept))
-quiet-poll timeout ws accept =
+quiet-failed : Quiet ((entry.PollFailed, []) ∷ [])
+quiet-failed = record { silent = record { ends = λ e. record { read = refl; given = refl; made = refl; connected = refl }; opens = refl }; turns = refl }
+
+pub quiet-poll : (timeout : Option ℕ) (ws : List Want) (answer : Polled) → Quiet (poll_events timeout ws answer)
+quiet-poll timeout ws (polled.Ready accept) =
     quiet-append ((entry.Poll timeout, []) ∷ []) (want_events ws ++ ready_events ws) (quiet-begun timeout) (quiet-append (want_events ws) (ready_events ws) (quiet-wants ws) (quiet-readies ws))
+quiet-poll timeout ws polled.Failed =
+    quiet-append ((entry.Poll timeout, []) ∷ []) (want_events ws ++ (entry.PollFailed, []) ∷ []) (quiet-begun timeout) (quiet-append (want_events ws) ((entry.PollFailed, []) ∷ []) (quiet-wants ws) quiet-failed)
 
 -- a want as the model has it
 abbrev pub wish : Want → rooms.Want
@@ -110,34 +114,42 @@ one_mark side true b ws rest h = ap (λ z. (entry.Ready side true b, []) ∷ z) 
 one_mark side false true ws rest h = ap (λ z. (entry.Ready side false true, []) ∷ z) h
 one_mark side false false ws rest h = h
 
-module _ (turns : List TurnValue) (t : Trace) (asked : IsCalledFor turns t) (l : LinksState) (h : LinksStand (links_of (lines_of turns)) (model.lines (played_turns turns) t) t l) where
+-- a poll leaves what is wanted
+wishes_kept : (f : Want → Want) → ((w : Want) → wish (f w) ≡ wish w) → (ws : List Want) → map wish (map f ws) ≡ map wish ws
+wishes_kept f same [] = refl
+wishes_kept f same (w ∷ ws) = λ i. same w i ∷ wishes_kept f same ws i
+
+module _ (turns : List TurnValue) (t : Trace) (asked : IsCalledFor turns t) (l : LinksState) (n : ℕ) (h : LinksStand (links_of (lines_of turns)) (model.lines (played_turns turns) t) t l) (now : RunsTurn (model.lines_now (played_turns turns) t) n l) where
   abbrev T : List ScriptTurn
   T = played_turns turns
 
-  mark_is : (w : Want) → model.marked T t (wish w) ≡ record { side = w.side; read = w.read && can_read_at l w.side; write = w.write && can_write_at l w.side }
+  mark_is : (w : Want) → model.marked T t (wish w) ≡ record { side = w.side; read = w.read && (can_read_at l w.side || is_spurred_at l w.side); write = w.write && (can_write_at l w.side || is_spurred_at l w.side) }
   mark_is w =
-      let none : list_any (marks_all w.side) (model.lines_now T t) ≡ false = (now_no_more turns t asked w.side).all in
-      let r : (model.can_read T t w.side || list_any (marks_all w.side) (model.lines_now T t)) ≡ can_read_at l w.side = ap (λ b. model.can_read T t w.side || b) none ∙ or_false (model.can_read T t w.side) ∙ can_read_is turns t asked l h w.side in
-      let v : (model.can_write T t w.side || list_any (marks_all w.side) (model.lines_now T t)) ≡ can_write_at l w.side = ap (λ b. model.can_write T t w.side || b) none ∙ or_false (model.can_write T t w.side) ∙ can_write_is turns t asked l h w.side in
-      λ i. record { side = w.side; read = w.read && r i; write = w.write && v i }
+      let all = spurs_are turns t asked l h n now w.side in
+      let r = can_read_is turns t asked l h w.side in
+      let v = can_write_is turns t asked l h w.side in
+      λ i. record { side = w.side; read = w.read && (r i || all i); write = w.write && (v i || all i) }
 
   readies_same : (ws : List Want) → ready_events (map (λ w. marked l w) ws) ≡ plays.ready_events (model.marks T t (map wish ws))
   readies_same [] = refl
   readies_same (w ∷ ws) =
-      one_mark w.side (w.read && can_read_at l w.side) (w.write && can_write_at l w.side) (map (model.marked T t) (map wish ws)) (ready_events (map (λ w. marked l w) ws)) (readies_same ws)
+      one_mark w.side (w.read && (can_read_at l w.side || is_spurred_at l w.side)) (w.write && (can_write_at l w.side || is_spurred_at l w.side)) (map (model.marked T t) (map wish ws)) (ready_events (map (λ w. marked l w) ws)) (readies_same ws)
       ∙ ap (λ z. plays.ready_events (shown (z ∷ map (model.marked T t) (map wish ws)))) (sym (mark_is w))
 
-  wishes_same : (ws : List Want) → map wish (map (λ w. marked l w) ws) ≡ map wish ws
-  wishes_same [] = refl
-  wishes_same (w ∷ ws) = ap (λ z. wish w ∷ z) (wishes_same ws)
-
   pub poll_is : (timeout : Option ℕ) (ws : List Want) (accept : Bool) (closing_by : ℕ) →
-      poll_events timeout (map (λ w. marked l w) ws) (polled.Ready accept) ≡ plays.events T closing_by t (plays.Step.Poll timeout (map wish ws))
-  poll_is timeout ws accept closing_by =
-      let none : model.poll_fails T t ≡ false = (now_no_more turns t asked (record { link = 0; side = In })).poll in
-      let wants = wants_same (map (λ w. marked l w) ws) ∙ ap plays.want_events (wishes_same ws) in
-      (λ i. (entry.Poll timeout, []) ∷ (wants i ++ readies_same ws i))
-      ∙ ap (λ b. (entry.Poll timeout, []) ∷ (plays.want_events (map wish ws) ++ (if b then (entry.PollFailed, []) ∷ [] else plays.ready_events (model.marks T t (map wish ws))))) (sym none)
+      poll_events timeout (poll_marks l ws) (if l.poll_fails then polled.Failed else polled.Ready accept) ≡ plays.events T closing_by t (plays.Step.Poll timeout (map wish ws))
+  poll_is timeout ws accept closing_by = by_line l.poll_fails refl
+    where
+      by_line : (b : Bool) → l.poll_fails ≡ b →
+          poll_events timeout (if b then map unmarked ws else map (λ w. marked l w) ws) (if b then polled.Failed else polled.Ready accept) ≡ plays.events T closing_by t (plays.Step.Poll timeout (map wish ws))
+      by_line true fails =
+          let wants = wants_same (map unmarked ws) ∙ ap plays.want_events (wishes_kept unmarked (λ w. refl) ws) in
+          (λ i. (entry.Poll timeout, []) ∷ (wants i ++ (entry.PollFailed, []) ∷ []))
+          ∙ ap (λ b. (entry.Poll timeout, []) ∷ (plays.want_events (map wish ws) ++ (if b then (entry.PollFailed, []) ∷ [] else plays.ready_events (model.marks T t (map wish ws))))) (sym (sym now.poll ∙ fails))
+      by_line false goes =
+          let wants = wants_same (map (λ w. marked l w) ws) ∙ ap plays.want_events (wishes_kept (λ w. marked l w) (λ w. refl) ws) in
+          (λ i. (entry.Poll timeout, []) ∷ (wants i ++ readies_same ws i))
+          ∙ ap (λ b. (entry.Poll timeout, []) ∷ (plays.want_events (map wish ws) ++ (if b then (entry.PollFailed, []) ∷ [] else plays.ready_events (model.marks T t (map wish ws))))) (sym (sym now.poll ∙ goes))
 
 -- Times
 

@@ -4,15 +4,18 @@ use Rattle.std.specs.Prelude.{sum_by}
 use Rattle.std.specs.Option.{option_map_or}
 use Rattle.std.specs.List.{flat_map, list_any}
 use Rattle.std.specs.Prelude.{is_some}
-use Rattle.std.proofs.lemmas.Bool.{cases_lt}
+use Rattle.std.proofs.lemmas.Bool.{cases_lt, cases_Bool}
+use Rattle.std.proofs.lemmas.List.Folds.{list_any-append}
+use Rattle.std.proofs.lemmas.Grind.{flat_map-append}
 use Rattle.std.proofs.lemmas.Bool.Decides.{eqb_tells, leb_tells}
-use Rattle.std.proofs.lemmas.List.{length-map}
+use Rattle.std.proofs.lemmas.List.{length-map, take-append-drop}
 use Rattle.std.proofs.lemmas.List.Sums.{sum_by-append, sum_by-cons}
 use Rattle.std.proofs.Math.Seq.{take-nil, drop-nil, drop-append_seam}
 use Rattle.ev_types.specs.declared.side.Side.{Side}
 use Rattle.ev_types.specs.declared.side.Side.TheVariants.{In, Out}
 use Rattle.ev_types.specs.declared.side.SideId.{SideId}
 use Rattle.ev_types.specs.declared.entry.Entry.TheVariants as entry
+use Rattle.ev_types.specs.declared.answer.ConnAnswer.{ConnAnswer}
 use Rattle.ev_types.specs.declared.answer.ConnAnswer.TheVariants as conn
 use Rattle.ev_types.specs.declared.answer.ReadAnswer.TheVariants as read
 use Rattle.ev_types.specs.declared.answer.WriteAnswer.TheVariants as write
@@ -22,20 +25,20 @@ use Rattle.script_text.specs.Script.{TurnValue}
 use Rattle.relay_model.specs.Trace.{bytes_read, bytes_given}
 use Rattle.relay_model.specs.Rooms.{at_most}
 use Rattle.relay_model.specs.Totals.{is_opened, opened, made_connected_by, is_made_connected, is_connected}
-use Rattle.relay_model.specs.Lines.{links_by, allows, allows_all}
+use Rattle.relay_model.specs.Lines.{links_by, decides, allows, allows_all, marks_all}
 use Rattle.relay_model.specs.Script.{ScriptTurn}
 use Rattle.relay_model.specs.Scripted as model
 use Rattle.ev_port.specs.Ends.{took_bytes}
 use Rattle.ev_port.specs.ScriptState.{EndState, LinksState}
-use Rattle.ev_port.specs.ScriptEnds.{read_answer, can_read, can_write, taken_of, write_answer, conn_answer}
-use Rattle.ev_port.specs.ScriptLinks.{end_of, links_of, read_answer_at, pending_at, can_read_at, can_write_at, write_answer_at, conn_answer_at}
+use Rattle.ev_port.specs.ScriptEnds.{read_answer, can_read, can_write, is_spurred, taken_of, write_answer, conn_answer}
+use Rattle.ev_port.specs.ScriptLinks.{end_of, links_of, read_answer_at, pending_at, can_read_at, can_write_at, is_spurred_at, write_answer_at, conn_answer_at}
 use Rattle.ev_port.specs.ScriptPort.{lines_of}
 use Rattle.ev_port.specs.ScriptPlayed.{played_line, played_turns}
-use Rattle.ev_port.specs.ScriptVouched.{NamesOpened, OpensInOrder, IsCalledFor, EndStands, LinksStand}
+use Rattle.ev_port.specs.ScriptVouched.{NamesOpened, OpensInOrder, IsCalledFor, decided_at, EndStands, LinksStand}
+use Rattle.ev_port.specs.ScriptNow.{RunsTurn}
 use Rattle.ev_port.proofs.ScriptLemmas.{links_of-append}
-use Rattle.ev_port.proofs.ScriptPlayedLemmas.{lines_so_far, lines_now, links_played, SaysNoMore, says_no_more, Untouched, untouched, named_before, all_lines}
+use Rattle.ev_port.proofs.ScriptPlayedLemmas.{model_lines, lines_so_far, links_played, Untouched, untouched, named_before, all_lines}
 use Rattle.ev_port.proofs.ScriptAnswerLemmas.{one_le, reads, reads_same, writes, writes_same, lets, takes_same, takes_any}
-use Rattle.ev_port.proofs.ScriptTraceLemmas.{or_false}
 
 -- Links that no entry opened
 
@@ -53,43 +56,47 @@ none_made e t front (x ∷ rest) is order h = ap (λ b. b || is_made_connected e
         elim (eqb_tells link e.link) [ inl same ↦ absurd (let s = same.1 in omega (arith, here, whole, parts, first, h, s)) | inr other ↦ rw other.0 refl ]
     one _ eq = refl
 
--- a true element stays as a list goes on
-true_stays : (xs ys : List Bool) (k : ℕ) → get_or xs k false ≡ true → get_or (xs ++ ys) k false ≡ true
-true_stays [] ys k h = absurd (cc)
-true_stays (x ∷ xs) ys zero h = h
-true_stays (x ∷ xs) ys (suc k) h = true_stays xs ys k h
-
-undecided_stays : (side : Side) (xs ys : List Bool) (k : ℕ) → model.undecided_at side (get_or xs k false) ≡ true → model.undecided_at side (get_or (xs ++ ys) k false) ≡ true
-undecided_stays In xs ys k h = h
-undecided_stays Out xs ys k h = true_stays xs ys k h
-
 -- what stands past a list
-past : (xs ys : List Bool) (k : ℕ) → length xs ≤ k → get_or xs k false ≡ false
-past [] ys k h = refl
-past (x ∷ xs) ys zero h = absurd (omega (arith, h))
-past (x ∷ xs) ys (suc k) h = past xs ys k (omega (arith, h))
+past : (xs : List Bool) (k : ℕ) → length xs ≤ k → get_or xs k false ≡ false
+past [] k h = refl
+past (x ∷ xs) zero h = absurd (omega (arith, h))
+past (x ∷ xs) (suc k) h = past xs k (omega (arith, h))
 
 within_stays : (xs ys : List Bool) (k : ℕ) → k < length xs → get_or (xs ++ ys) k false ≡ get_or xs k false
 within_stays [] ys k h = absurd (omega (arith, h))
 within_stays (x ∷ xs) ys zero h = refl
 within_stays (x ∷ xs) ys (suc k) h = within_stays xs ys k (omega (arith, h))
 
--- a mark for writing, by whether an end is undecided, was connected and takes a byte
-write_mark : (undecided connected takes : Bool) → (if undecided && not connected then false else takes || false) ≡ (takes && (not undecided || connected))
-write_mark true true true = refl
-write_mark true true false = refl
-write_mark true false true = refl
-write_mark true false false = refl
-write_mark false true true = refl
-write_mark false true false = refl
-write_mark false false true = refl
-write_mark false false false = refl
+-- What is told of an end, by whether it is undecided, what is decided of it and whether it was made connected; and whether
+-- writing is marked, by that, and by whether it takes a byte and writes fail.
+abbrev conn_of : Bool → Option Bool → Bool → ConnAnswer
+conn_of undecided decision made = if undecided then model.decided_answer decision else (if made then conn.Connected else conn.Pending)
 
--- an undecided end was not made connected
-conn_same : (undecided made : Bool) → (undecided ≡ true → made ≡ false) → (if undecided then conn.Pending else (if made then conn.Connected else conn.Pending)) ≡ (if made then conn.Connected else conn.Pending)
-conn_same true true h = absurd (let k = h refl in cc)
-conn_same true false h = refl
-conn_same false made h = refl
+abbrev write_of : Bool → Bool → Option Bool → Bool → Bool → Bool
+write_of undecided connected decision takes fails = if undecided && not connected then is_some decision else takes || fails
+
+-- of an end of which nothing is decided, and that was not made connected, nothing is told yet
+conn_none : (wait : Bool) → conn_of wait None false ≡ conn.Pending
+conn_none true = refl
+conn_none false = refl
+
+write_none : (wait connected : Bool) → write_of wait connected None false false ≡ false
+write_none true true = refl
+write_none true false = refl
+write_none false connected = refl
+
+decided_none : (side : Side) → decided_at side [] ≡ None
+decided_none In = refl
+decided_none Out = refl
+
+-- only Out ends are undecided
+decided_out : (side : Side) (u : Bool) (ds : List Bool) → model.undecided_at side u ≡ true → decided_at side ds ≡ model.first_or None ds
+decided_out In u ds h = absurd (cc)
+decided_out Out u ds h = refl
+
+undecided_none : (side : Side) → model.undecided_at side false ≡ false
+undecided_none In = refl
+undecided_none Out = refl
 
 module _ (turns : List TurnValue) (t : Trace) (asked : IsCalledFor turns t) where
   abbrev pub T : List ScriptTurn
@@ -104,12 +111,6 @@ module _ (turns : List TurnValue) (t : Trace) (asked : IsCalledFor turns t) wher
 
   pub lines_are : model.lines T t ≡ map played_line so_far
   lines_are = lines_so_far (model.begun T t) turns
-
-  no_more : (e : SideId) → SaysNoMore e (model.lines T t)
-  no_more e = subst (SaysNoMore e) (sym lines_are) (says_no_more e so_far)
-
-  pub now_no_more : (e : SideId) → SaysNoMore e (model.lines_now T t)
-  now_no_more e = subst (SaysNoMore e) (sym (lines_now (model.begun T t - 1) (model.begun T t) turns)) (says_no_more e (lines_of (drop (model.begun T t - 1) (take (model.begun T t) turns))))
 
   not_closing : model.is_closing T t ≡ false
   not_closing =
@@ -131,6 +132,22 @@ module _ (turns : List TurnValue) (t : Trace) (asked : IsCalledFor turns t) wher
       let long = ap length links_are in
       subst (Untouched e) (sym lines_are) (untouched e 0 so_far named (omega (arith, long, h)))
 
+  -- what is said in the running turn is said so far
+  lines_parts : model.lines T t ≡ model_lines (take (model.begun T t - 1) (take (model.begun T t) T)) ++ model.lines_now T t
+  lines_parts =
+      ap model_lines (sym (take-append-drop (model.begun T t - 1) (take (model.begun T t) T)))
+      ∙ flat_map-append (λ (turn : ScriptTurn). turn.1) (take (model.begun T t - 1) (take (model.begun T t) T)) (drop (model.begun T t - 1) (take (model.begun T t) T))
+
+  pub unmarked_now : (e : SideId) → length (model.links T t) ≤ e.link → list_any (marks_all e) (model.lines_now T t) ≡ false
+  unmarked_now e far =
+      let before = model_lines (take (model.begun T t - 1) (take (model.begun T t) T)) in
+      or_right (list_any (marks_all e) before) (list_any (marks_all e) (model.lines_now T t))
+      (sym (list_any-append (marks_all e) before (model.lines_now T t)) ∙ ap (list_any (marks_all e)) (sym lines_parts) ∙ (unsaid e far).marks)
+    where
+      or_right : (a b : Bool) → (a || b) ≡ false → b ≡ false
+      or_right true b k = absurd (cc)
+      or_right false b k = k
+
   module _ (l : LinksState) (h : LinksStand (links_of (lines_of turns)) (model.lines T t) t l) where
     -- an end beyond all links of the script
     beyond : (e : SideId) → end_of l e ≡ None → length (model.links T t) ≤ e.link
@@ -144,28 +161,33 @@ module _ (turns : List TurnValue) (t : Trace) (asked : IsCalledFor turns t) wher
     ended_is e None found = (unsaid e (beyond e found)).ends
     ended_is e (Some s) found = sym (h.ends e s found).eof
 
+    reads_are : (e : SideId) (o : Option EndState) → end_of l e ≡ o → model.reads_fail T t e ≡ option_map_or (λ (s : EndState). s.read_fails) o false
+    reads_are e None found = (unsaid e (beyond e found)).reads
+    reads_are e (Some s) found = sym (h.ends e s found).read_fails
+
     pub read_is : (e : SideId) (room : ℕ) → model.read_answer T t e room ≡ (read_answer_at l e room, take room (pending_at l e))
     read_is e room = by_end (end_of l e) refl
       where
         by_end : (o : Option EndState) → end_of l e ≡ o → model.read_answer T t e room ≡ (option_map_or (λ (s : EndState). read_answer s room) o read.NotYet, take room (option_map_or (λ (s : EndState). s.pending) o []))
         by_end None found =
-            (λ i. reads (pending_is e None found i) ((no_more e).reads i) (ended_is e None found i) room) ∙ ap (λ z. (read.NotYet, z)) (sym (take-nil room))
-        by_end (Some s) found = (λ i. reads (pending_is e (Some s) found i) ((no_more e).reads i) (ended_is e (Some s) found i) room) ∙ reads_same s room
+            (λ i. reads (pending_is e None found i) (reads_are e None found i) (ended_is e None found i) room) ∙ ap (λ z. (read.NotYet, z)) (sym (take-nil room))
+        by_end (Some s) found = (λ i. reads (pending_is e (Some s) found i) (reads_are e (Some s) found i) (ended_is e (Some s) found i) room) ∙ reads_same s room
 
     pub can_read_is : (e : SideId) → model.can_read T t e ≡ can_read_at l e
     can_read_is e = by_end (end_of l e) refl
       where
         by_end : (o : Option EndState) → end_of l e ≡ o → model.can_read T t e ≡ option_map_or can_read o false
-        by_end None found = (λ i. nat_le 1 (length (pending_is e None found i)) || (no_more e).reads i || ended_is e None found i)
+        by_end None found = (λ i. nat_le 1 (length (pending_is e None found i)) || reads_are e None found i || ended_is e None found i)
         by_end (Some s) found =
-            (λ i. nat_le 1 (length (pending_is e (Some s) found i)) || (no_more e).reads i || ended_is e (Some s) found i) ∙ ap (λ b. (b || false) || s.eof) (one_le (length s.pending)) ∙ ap (λ b. b || s.eof) (or_false (not (length s.pending == 0)))
+            (λ i. nat_le 1 (length (pending_is e (Some s) found i)) || reads_are e (Some s) found i || ended_is e (Some s) found i) ∙ ap (λ b. b || s.read_fails || s.eof) (one_le (length s.pending))
 
     -- what the script lets an end take
     lets_is : (e : SideId) → model.may_take T t e ≡ lets (list_any (allows_all e) (model.lines T t)) (sum_by (allows e) (model.lines T t)) (length (bytes_given e t))
     lets_is e = ap (λ b. if b || list_any (allows_all e) (model.lines T t) then None else Some (sum_by (allows e) (model.lines T t) - length (bytes_given e t))) not_closing
 
-    writes_go : (e : SideId) → model.writes_fail T t e ≡ false
-    writes_go e = (λ i. not (not_closing i) && (no_more e).writes i)
+    writes_are : (e : SideId) (o : Option EndState) → end_of l e ≡ o → model.writes_fail T t e ≡ option_map_or (λ (s : EndState). s.write_fails) o false
+    writes_are e None found = (λ i. not (not_closing i) && (unsaid e (beyond e found)).writes i)
+    writes_are e (Some s) found = (λ i. not (not_closing i) && sym (h.ends e s found).write_fails i)
 
     -- of an end of which nothing is said nothing is taken
     takes_none : (e : SideId) (offer : ℕ) → length (model.links T t) ≤ e.link → at_most (model.may_take T t e) offer ≡ 0
@@ -182,38 +204,60 @@ module _ (turns : List TurnValue) (t : Trace) (asked : IsCalledFor turns t) wher
         by_end None found =
             let none = takes_none e (length from) (beyond e found) in
             let test : nat_le 1 (at_most (model.may_take T t e) (length from)) ≡ false = ap (nat_le 1) none ∙ one_le 0 in
-            (λ i. writes (model.may_take T t e) (writes_go e i) from) ∙ rw test refl
+            (λ i. writes (model.may_take T t e) (writes_are e None found i) from) ∙ rw test refl
         by_end (Some s) found =
             let k = h.ends e s found in
             let given : length (bytes_given e t) ≡ length s.taken = ap length (sym k.taken) in
             let lets_so : model.may_take T t e ≡ lets (list_any (allows_all e) (model.lines T t)) (sum_by (allows e) (model.lines T t)) (length s.taken) =
             lets_is e ∙ ap (lets (list_any (allows_all e) (model.lines T t)) (sum_by (allows e) (model.lines T t))) given in
-            (λ i. writes (model.may_take T t e) (writes_go e i) from)
+            (λ i. writes (model.may_take T t e) (writes_are e (Some s) found i) from)
             ∙ writes_same (model.may_take T t e) s from (ap (λ o. at_most o (length from)) lets_so ∙ takes_same s.may_take _ _ (length s.taken) (length from) k.may_take (fits s found))
 
-    decision_is : (e : SideId) → model.decision T t e ≡ None
-    decision_is e = λ i. model.first_or (if not_closing i then Some true else None) ((no_more e).decides e.link i)
+    decision_is : (e : SideId) → model.decision T t e ≡ model.first_or None (flat_map (decides e.link) (model.lines T t))
+    decision_is e = λ i. model.first_or (if not_closing i then Some true else None) (flat_map (decides e.link) (model.lines T t))
 
-    -- an undecided end is one for the port too
-    undecided_is : (e : SideId) (s : EndState) → EndStands (links_of (lines_of turns)) (model.lines T t) t e s → model.is_undecided T t e ≡ true → s.wait ≡ true
-    undecided_is e s k u =
-        k.wait ∙ ap (λ z. model.undecided_at e.side (get_or z e.link false)) (sym links_whole) ∙ undecided_stays e.side (model.links T t) (links_of to_come) e.link u
+    -- an end of a link that was opened is undecided just where the port has it so
+    undecided_is : (e : SideId) (s : EndState) → EndStands (links_of (lines_of turns)) (model.lines T t) t e s → e.link < length (model.links T t) → model.is_undecided T t e ≡ s.wait
+    undecided_is e s k near =
+        sym (k.wait ∙ ap (λ z. model.undecided_at e.side (get_or z e.link false)) (sym links_whole) ∙ ap (model.undecided_at e.side) (within_stays (model.links T t) (links_of to_come) e.link near))
+
+    not_undecided : (e : SideId) → length (model.links T t) ≤ e.link → model.is_undecided T t e ≡ false
+    not_undecided e far = ap (model.undecided_at e.side) (past (model.links T t) e.link far) ∙ undecided_none e.side
+
+    -- an undecided end is decided just as the port has it
+    decided_is : (e : SideId) (s : EndState) → EndStands (links_of (lines_of turns)) (model.lines T t) t e s → s.wait ≡ true → model.decision T t e ≡ s.decision
+    decided_is e s k w =
+        let ds = flat_map (decides e.link) (model.lines T t) in
+        decision_is e ∙ sym (decided_out e.side (get_or (links_of (lines_of turns)) e.link false) ds (sym k.wait ∙ w)) ∙ sym k.decision
+
+    undecided_yet : (e : SideId) (s : EndState) → EndStands (links_of (lines_of turns)) (model.lines T t) t e s → length (model.links T t) ≤ e.link → s.decision ≡ None
+    undecided_yet e s k far = k.decision ∙ ap (decided_at e.side) (unsaid e far).decides ∙ decided_none e.side
+
+    not_made : (e : SideId) → length (model.links T t) ≤ e.link → is_made_connected e t ≡ false
+    not_made e far = let few = h.in_order in none_made e t [] t refl asked.in_order (omega (arith, far, few))
 
     pub conn_is : (e : SideId) → model.conn_answer T t e ≡ conn_answer_at l e
     conn_is e = by_end (end_of l e) refl
       where
-        decided : model.conn_answer T t e ≡ (if model.is_undecided T t e then conn.Pending else (if is_made_connected e t then conn.Connected else conn.Pending))
-        decided = ap (λ o. if model.is_undecided T t e then model.decided_answer o else (if is_made_connected e t then conn.Connected else conn.Pending)) (decision_is e)
+        far_is : length (model.links T t) ≤ e.link → model.conn_answer T t e ≡ conn.Pending
+        far_is far = λ i. conn_of (not_undecided e far i) (model.decision T t e) (not_made e far i)
 
         by_end : (o : Option EndState) → end_of l e ≡ o → model.conn_answer T t e ≡ option_map_or conn_answer o conn.Pending
-        by_end None found =
-            let far = beyond e found in
-            let few = h.in_order in
-            let none : is_made_connected e t ≡ false = none_made e t [] t refl asked.in_order (omega (arith, far, few)) in
-            decided ∙ conn_same (model.is_undecided T t e) (is_made_connected e t) (λ _. none) ∙ ap (λ b. if b then conn.Connected else conn.Pending) none
+        by_end None found = far_is (beyond e found)
         by_end (Some s) found =
             let k = h.ends e s found in
-            decided ∙ conn_same (model.is_undecided T t e) (is_made_connected e t) (λ u. sym k.made_connected ∙ k.undecided (undecided_is e s k u)) ∙ ap (λ b. if b then conn.Connected else conn.Pending) (sym k.made_connected)
+            elim (cases_lt e.link (length (model.links T t))) [
+              | inl near ↦
+                  elim (cases_Bool s.wait) [
+                    | inl w ↦
+                        (λ i. conn_of ((undecided_is e s k near ∙ w) i) (decided_is e s k w i) (is_made_connected e t)) ∙ ap (λ b. conn_of b s.decision s.tally.made_connected) (sym w)
+                    | inr w ↦
+                        (λ i. conn_of ((undecided_is e s k near ∙ w) i) (model.decision T t e) (sym k.made_connected i)) ∙ ap (λ b. conn_of b s.decision s.tally.made_connected) (sym w)
+                  ]
+              | inr far ↦
+                  far_is far ∙ sym (conn_none s.wait)
+                  ∙ (λ i. conn_of s.wait (sym (undecided_yet e s k far) i) (sym (k.made_connected ∙ not_made e far) i))
+            ]
 
     -- whether the script lets an end take a byte is whether the port does
     any_is : (e : SideId) (s : EndState) → EndStands (links_of (lines_of turns)) (model.lines T t) t e s → nat_le 1 (at_most (model.may_take T t e) 1) ≡ not (taken_of s.may_take 1 == 0)
@@ -224,25 +268,33 @@ module _ (turns : List TurnValue) (t : Trace) (asked : IsCalledFor turns t) wher
     pub can_write_is : (e : SideId) → model.can_write T t e ≡ can_write_at l e
     can_write_is e = by_end (end_of l e) refl
       where
-        decided : model.can_write T t e ≡ (if model.is_undecided T t e && not (is_connected e t) then false else nat_le 1 (at_most (model.may_take T t e) 1) || false)
-        decided = λ i. if model.is_undecided T t e && not (is_connected e t) then is_some (decision_is e i) else nat_le 1 (at_most (model.may_take T t e) 1) || writes_go e i
-
-        far : length (model.links T t) ≤ e.link → model.can_write T t e ≡ false
-        far past_links =
-            decided ∙ write_mark (model.is_undecided T t e) (is_connected e t) (nat_le 1 (at_most (model.may_take T t e) 1))
-            ∙ ap (λ n. nat_le 1 n && (not (model.is_undecided T t e) || is_connected e t)) (takes_none e 1 past_links)
+        far_is : length (model.links T t) ≤ e.link → model.can_write T t e ≡ false
+        far_is far = λ i. write_of (not_undecided e far i) (is_connected e t) (model.decision T t e) (nat_le 1 (takes_none e 1 far i)) (not (not_closing i) && (unsaid e far).writes i)
 
         by_end : (o : Option EndState) → end_of l e ≡ o → model.can_write T t e ≡ option_map_or can_write o false
-        by_end None found = far (beyond e found)
+        by_end None found = far_is (beyond e found)
         by_end (Some s) found =
             let k = h.ends e s found in
             elim (cases_lt e.link (length (model.links T t))) [
               | inl near ↦
-                  let same : model.is_undecided T t e ≡ s.wait =
-                  sym (k.wait ∙ ap (λ z. model.undecided_at e.side (get_or z e.link false)) (sym links_whole) ∙ ap (model.undecided_at e.side) (within_stays (model.links T t) (links_of to_come) e.link near)) in
-                  decided ∙ write_mark (model.is_undecided T t e) (is_connected e t) (nat_le 1 (at_most (model.may_take T t e) 1))
-                  ∙ (λ i. any_is e s k i && (not (same i) || sym k.connected i))
-              | inr past_links ↦
-                  let none : not (taken_of s.may_take 1 == 0) ≡ false = sym (any_is e s k) ∙ ap (nat_le 1) (takes_none e 1 past_links) in
-                  far past_links ∙ sym (ap (λ b. b && (not s.wait || s.tally.connected)) none)
+                  elim (cases_Bool s.wait) [
+                    | inl w ↦
+                        (λ i. write_of ((undecided_is e s k near ∙ w) i) (sym k.connected i) (decided_is e s k w i) (any_is e s k i) (writes_are e (Some s) found i))
+                        ∙ ap (λ b. write_of b s.tally.connected s.decision (not (taken_of s.may_take 1 == 0)) s.write_fails) (sym w)
+                    | inr w ↦
+                        (λ i. write_of ((undecided_is e s k near ∙ w) i) (sym k.connected i) (model.decision T t e) (any_is e s k i) (writes_are e (Some s) found i))
+                        ∙ ap (λ b. write_of b s.tally.connected s.decision (not (taken_of s.may_take 1 == 0)) s.write_fails) (sym w)
+                  ]
+              | inr far ↦
+                  let none : not (taken_of s.may_take 1 == 0) ≡ false = sym (any_is e s k) ∙ ap (nat_le 1) (takes_none e 1 far) in
+                  far_is far ∙ sym (write_none s.wait s.tally.connected)
+                  ∙ (λ i. write_of s.wait s.tally.connected (sym (undecided_yet e s k far) i) (sym none i) (sym (k.write_fails ∙ (unsaid e far).writes) i))
             ]
+
+    -- what is marked in the running turn alone
+    pub spurs_are : (n : ℕ) → RunsTurn (model.lines_now T t) n l → (e : SideId) → list_any (marks_all e) (model.lines_now T t) ≡ is_spurred_at l e
+    spurs_are n now e = by_end (end_of l e) refl
+      where
+        by_end : (o : Option EndState) → end_of l e ≡ o → list_any (marks_all e) (model.lines_now T t) ≡ option_map_or (is_spurred l.turn) o false
+        by_end None found = unmarked_now e (beyond e found)
+        by_end (Some s) found = sym (now.spurs e s found)

@@ -1,11 +1,10 @@
 -- The lines of a script that a text spells name links that were opened before.
-use Rattle.std.proofs.Common.{◌≡◌, ℕ, suc, ◌+◌, ◌^◌, ◌<◌, Bool, true, false, ◌&&◌, not, nat_lt, nat_le, if◌then◌else◌, List, [], ◌∷◌, ◌++◌, length, Option, Some, None, Result, Ok, Err, refl, sym, ap, subst, ◌∙◌, arith, append_assoc, append-nil, inl, inr}
+use Rattle.std.proofs.Common.{◌≡◌, ℕ, zero, suc, ◌+◌, ◌^◌, ◌<◌, Bool, true, false, ◌&&◌, not, nat_lt, nat_le, if◌then◌else◌, List, [], ◌∷◌, ◌++◌, length, get_or, Option, Some, None, Result, Ok, Err, refl, sym, ap, subst, ◌∙◌, arith, append_assoc, append-nil, inl, inr}
 use Rattle.std.specs.Prelude.{option_and_then}
 use Rattle.std.specs.List.{list_all}
 use Rattle.std.proofs.lemmas.Bool.{and_parts}
 use Rattle.std.proofs.lemmas.Bool.Decides.{leb_tells}
 use Rattle.std.proofs.lemmas.Grind.{flat_map-append}
-use Rattle.std.proofs.lemmas.List.Sums.{sum_by-cons}
 use Rattle.ev_types.specs.Sides.{number}
 use Rattle.script_text.specs.declared.script.TurnLine.{TurnLine}
 use Rattle.script_text.specs.declared.script.TurnLine.TheVariants as line
@@ -14,7 +13,7 @@ use Rattle.script_text.specs.declared.line.Line.TheVariants as text_line
 use Rattle.script_text.specs.Script.{ScriptValue, TurnValue}
 use Rattle.script_text.specs.Pieces.{lines, words}
 use Rattle.script_text.specs.Grammar.{said}
-use Rattle.script_text.specs.Order.{turn_lines, is_opening, opened, bytes_for, is_ended, is_in, may_follow, with_line, extended}
+use Rattle.script_text.specs.Order.{turn_lines, opened_links, opened, bytes_for, is_ended, is_known, may_follow, with_line, extended}
 use Rattle.script_text.specs.Spelled.{is_plain, line_read, going_on, lines_read, no_line}
 use Rattle.ev_port.specs.ScriptLinks.{links_of}
 use Rattle.ev_port.specs.ScriptPort.{lines_of}
@@ -38,34 +37,49 @@ lines_same : (turns : List TurnValue) → turn_lines turns ≡ lines_of turns
 lines_same [] = refl
 lines_same (turn ∷ turns) = ap (λ z. turn.1 ++ z) (lines_same turns)
 
+links_same : (xs : List TurnLine) → opened_links xs ≡ links_of xs
+links_same [] = refl
+links_same (line.NewLink wait ∷ xs) = ap (λ z. wait ∷ z) (links_same xs)
+links_same (_ ∷ xs) = links_same xs
+
 opened_is : (xs : List TurnLine) → opened xs ≡ length (links_of xs)
-opened_is [] = refl
-opened_is (line.NewLink wait ∷ xs) = let rest = opened_is xs in let parts = sum_by-cons (λ x. if is_opening x then 1 else 0) (line.NewLink wait) xs in omega (arith, rest, parts)
-opened_is (line.Pending side bytes ∷ xs) = let rest = opened_is xs in let parts = sum_by-cons (λ x. if is_opening x then 1 else 0) (line.Pending side bytes) xs in omega (arith, rest, parts)
-opened_is (line.Eof side ∷ xs) = let rest = opened_is xs in let parts = sum_by-cons (λ x. if is_opening x then 1 else 0) (line.Eof side) xs in omega (arith, rest, parts)
-opened_is (line.Take side more ∷ xs) = let rest = opened_is xs in let parts = sum_by-cons (λ x. if is_opening x then 1 else 0) (line.Take side more) xs in omega (arith, rest, parts)
+opened_is xs = ap length (links_same xs)
 
 -- one line more
 named_push : (n : ℕ) (xs : List TurnLine) (x : TurnLine) → NamesOpened n xs → NamesOpened (n + length (links_of xs)) (x ∷ []) → NamesOpened n (xs ++ x ∷ [])
 named_push n [] x h k = subst (λ m. NamesOpened m (x ∷ [])) (omega arith) k
 named_push n (line.NewLink wait ∷ xs) x h k = named_push (n + 1) xs x h (subst (λ m. NamesOpened m (x ∷ [])) (omega arith) k)
 named_push n (line.Pending side bytes ∷ xs) x h k = (h.0, named_push n xs x h.1 k)
+named_push n (line.Conn link connected ∷ xs) x h k = (h.0, named_push n xs x h.1 k)
 named_push n (line.Eof side ∷ xs) x h k = (h.0, named_push n xs x h.1 k)
+named_push n (line.ReadFail side ∷ xs) x h k = (h.0, named_push n xs x h.1 k)
 named_push n (line.Take side more ∷ xs) x h k = (h.0, named_push n xs x h.1 k)
+named_push n (line.WriteFail side ∷ xs) x h k = (h.0, named_push n xs x h.1 k)
+named_push n (line.Spur side ∷ xs) x h k = (h.0, named_push n xs x h.1 k)
+named_push n (line.PollFail ∷ xs) x h k = named_push n xs x h k
 
 tested : (a b : ℕ) → nat_lt a b ≡ true → a < b
 tested a b h = elim (leb_tells (suc a) b) [ inl t ↦ let lt = t.1 in omega (arith, lt) | inr t ↦ absurd (let no = t.0 in cc) ]
 
+-- what stands at a place stands within the list
+true_within : (xs : List Bool) (k : ℕ) → get_or xs k false ≡ true → k < length xs
+true_within [] k h = absurd (cc)
+true_within (x ∷ xs) zero h = omega arith
+true_within (x ∷ xs) (suc k) h = let rest = true_within xs k h in omega (arith, rest)
+
 -- a line that may follow names an opened link
 follows : (xs : List TurnLine) (x : TurnLine) → may_follow xs x ≡ true → NamesOpened (opened xs) (x ∷ [])
 follows xs (line.NewLink wait) h = tt
+follows xs (line.Conn link connected) h = (true_within (opened_links xs) link h, tt)
 follows xs (line.Pending side bytes) h =
-    let some = and_parts (is_in side.side && nat_lt side.link (opened xs) && not (is_ended (number side) xs)) (nat_le (bytes_for (number side) xs + length bytes) (2 ^ 18)) h in
-    let more = and_parts (is_in side.side && nat_lt side.link (opened xs)) (not (is_ended (number side) xs)) some.0 in
-    let last = and_parts (is_in side.side) (nat_lt side.link (opened xs)) more.0 in
-    (tested side.link (opened xs) last.1, tt)
-follows xs (line.Eof side) h = (tested side.link (opened xs) (and_parts (is_in side.side) (nat_lt side.link (opened xs)) h).1, tt)
-follows xs (line.Take side more) h = (tested side.link (opened xs) (and_parts (not (is_in side.side)) (nat_lt side.link (opened xs)) h).1, tt)
+    let some = and_parts (is_known side xs && not (is_ended (number side) xs)) (nat_le (bytes_for (number side) xs + length bytes) (2 ^ 18)) h in
+    (tested side.link (opened xs) (and_parts (is_known side xs) (not (is_ended (number side) xs)) some.0).0, tt)
+follows xs (line.Eof side) h = (tested side.link (opened xs) h, tt)
+follows xs (line.ReadFail side) h = (tested side.link (opened xs) h, tt)
+follows xs (line.Take side more) h = (tested side.link (opened xs) h, tt)
+follows xs (line.WriteFail side) h = (tested side.link (opened xs) h, tt)
+follows xs (line.Spur side) h = (tested side.link (opened xs) h, tt)
+follows xs line.PollFail h = tt
 
 lines_with : (turns : List TurnValue) (x : TurnLine) → 0 < length turns → lines_of (with_line turns x) ≡ lines_of turns ++ x ∷ []
 lines_with [] x h = absurd (omega (arith, h))
@@ -90,6 +104,7 @@ extended_named script new (text_line.Within x) h named =
     let count = opened_is (lines_of script.turns) in
     let here : NamesOpened (0 + length (links_of (lines_of script.turns))) (x ∷ []) = subst (λ m. NamesOpened m (x ∷ [])) (omega (arith, count)) follow in
     subst IsNamed parts.1 (subst (NamesOpened 0) (sym (lines_with script.turns x some)) (named_push 0 (lines_of script.turns) x named here))
+extended_named script new text_line.Skipped h named = subst IsNamed (from_some script new h) named
 
 line_named : (script new : ScriptValue) (plain : Bool) (what : Option Line) → ◌≡◌ {A = Option ScriptValue} (if plain then option_and_then (λ x. extended script x) what else None) (Some new) → IsNamed script → IsNamed new
 line_named script new true None h named = absurd (cc)

@@ -1,5 +1,5 @@
 -- With each call a script port vouches for the longer trace.
-use Rattle.std.proofs.Common.{◌≡◌, ℕ, zero, suc, ◌+◌, ◌-◌, ◌*◌, ◌^◌, ◌<◌, ◌≤◌, min, max, Bool, false, not, if◌then◌else◌, List, [], ◌∷◌, ◌++◌, length, get_or, take, drop, map, Option, Some, None, refl, sym, ap, subst, ◌∙◌, arith, append_assoc, append-nil, length-append, length-take-le}
+use Rattle.std.proofs.Common.{◌≡◌, ℕ, zero, suc, ◌+◌, ◌-◌, ◌*◌, ◌^◌, ◌<◌, ◌≤◌, min, max, Bool, true, false, not, if◌then◌else◌, List, [], ◌∷◌, ◌++◌, length, get_or, take, drop, map, Option, Some, None, refl, sym, ap, subst, ◌∙◌, arith, append_assoc, append-nil, length-append, length-take-le}
 use Rattle.std.specs.Prelude.{count_by, slice_get, option_map}
 use Rattle.std.specs.Option.{option_map_or}
 use Rattle.std.specs.List.{flat_map}
@@ -21,30 +21,33 @@ use Rattle.ev_types.specs.Trace.{Trace}
 use Rattle.script_text.specs.Script.{TurnValue}
 use Rattle.relay_model.specs.RatesKept.{is_turn}
 use Rattle.relay_model.specs.Totals.{opened}
+use Rattle.relay_model.specs.Lines.{Line}
 use Rattle.relay_model.specs.Script.{ScriptTurn}
 use Rattle.relay_model.specs.Scripted as model
 use Rattle.relay_model.specs.Plays as plays
 use Rattle.relay_model.proofs.PlayedLemmas.{answers_go_on}
 use Rattle.ev_port.specs.declared.port.Addr.{Addr}
 use Rattle.ev_port.specs.declared.port.Want.{Want}
-use Rattle.ev_port.specs.declared.port.Polled.TheVariants as polled
-use Rattle.ev_port.specs.declared.script_port.PortTally.{PortTally}
+use Rattle.ev_port.specs.declared.port.Polled.{Polled}
+use Rattle.ev_port.specs.declared.port_tally.PortTally.{PortTally}
 use Rattle.ev_port.specs.Calls.{turn_time, Ticked, accept_events, IsUnheard}
 use Rattle.ev_port.specs.Polling.{poll_events}
 use Rattle.ev_port.specs.Ends.{conn_events, write_events, close_write_events, close_events, took_bytes}
 use Rattle.ev_port.specs.Vouching.{LongerBy}
 use Rattle.ev_port.specs.ScriptState.{EndState, LinksState, PortState}
 use Rattle.ev_port.specs.ScriptEnds.{new_end, after_read, taken_of, after_write, after_check, after_close_write, after_close}
-use Rattle.ev_port.specs.ScriptLinks.{end_of, at_end, new_ends, links_of, taken_at, marked, after_wants, accept_answer, accept_first, read_answer_at, pending_at, write_answer_at, WroteAt, conn_answer_at, after_lines}
-use Rattle.ev_port.specs.ScriptPort.{lines_of, new_port, next_turn, clock_answer, begin_turn, count_reading, after_now, after_start, accept_tally, after_accept}
+use Rattle.ev_port.specs.ScriptLinks.{end_of, at_end, new_ends, links_of, taken_at, entered, after_wants, accept_answer, accept_first, read_answer_at, pending_at, write_answer_at, WroteAt, conn_answer_at, after_lines}
+use Rattle.ev_port.specs.ScriptPort.{lines_of, new_port, next_turn, clock_answer, begin_turn, count_reading, after_now, after_start, poll_accepts, poll_answer, poll_marks, accept_tally, after_accept}
 use Rattle.ev_port.specs.ScriptPlayed.{played_line, played_turns}
-use Rattle.ev_port.specs.ScriptVouched.{IsCalledFor, EndStands, LinksStand, PortStands, AreUnheard, ScriptVouches}
+use Rattle.ev_port.specs.ScriptNow.{RunsTurn}
+use Rattle.ev_port.specs.ScriptVouched.{IsCalledFor, decided_at, EndStands, LinksStand, PortStands, AreUnheard, ScriptVouches}
 use Rattle.ev_port.proofs.ListLemmas.{slice_get-changed_same}
-use Rattle.ev_port.proofs.ScriptPlayedLemmas.{lines_so_far, lines_more, moment_next}
+use Rattle.ev_port.proofs.ScriptPlayedLemmas.{lines_so_far, lines_more, lines_of_turn, moment_next}
 use Rattle.ev_port.proofs.ScriptStandLemmas.{from_some, lines_stand}
-use Rattle.ev_port.proofs.ScriptTraceLemmas.{Like, like, like-at_end, like-wants, links_silent}
+use Rattle.ev_port.proofs.ScriptTraceLemmas.{Like, like, counts_alone, like-at_end, like-wants, links_silent}
 use Rattle.ev_port.proofs.ScriptEntryLemmas.{read_stands, check_stands, write_stands, accept_stands}
-use Rattle.ev_port.proofs.ScriptSeenLemmas.{links_whole, read_is, write_is, conn_is}
+use Rattle.ev_port.proofs.ScriptSeenLemmas.{read_is, write_is, conn_is}
+use Rattle.ev_port.proofs.ScriptNowLemmas.{runs-like, runs-at_end, runs-accept, runs-entered, runs-lines}
 use Rattle.ev_port.proofs.ScriptQuietLemmas.{Quiet, quiet-close_write, quiet-close, quiet-unheard, unheard_is, quiet-poll, wish, poll_is, silent-turn, times_same}
 
 -- behind a trace that is called for, the port stands
@@ -68,14 +71,16 @@ module _ (p q : PortState) (turns : q.turns ≡ p.turns) (begun : q.begun ≡ p.
   count_same = let parts = sum_by-append (λ x. if is_turn x then 1 else 0) t u in omega (arith, parts, none)
 
   -- the port goes on by a step of the script
-  go_on : (x : plays.Step) → ((closing_by : ℕ) → u ≡ plays.events T closing_by t x) → LinksStand (links_of (lines_of p.turns)) (model.lines T t) (t ++ u) q.links → PortStands p t → PortStands q (t ++ u)
-  go_on x is links stands = record {
+  go_on : (x : plays.Step) → ((closing_by : ℕ) → u ≡ plays.events T closing_by t x) → LinksStand (links_of (lines_of p.turns)) (model.lines T t) (t ++ u) q.links → RunsTurn (model.lines_now T t) p.begun q.links → PortStands p t → PortStands q (t ++ u)
+  go_on x is links runs stands = record {
     answered = λ closing_by.
         subst (λ z. plays.IsAnswered (played_turns z) closing_by (t ++ u)) (sym turns)
         (subst (λ z. plays.IsAnswered T closing_by (t ++ z)) (sym (is closing_by)) (answers_go_on T closing_by t (stands.answered closing_by) x));
     begun = begun ∙ stands.begun ∙ sym count_same;
     links = subst (λ z. LinksStand (links_of (lines_of z)) (model.lines (played_turns z) (t ++ u)) (t ++ u) q.links) (sym turns)
         (subst (λ n. LinksStand (links_of (lines_of p.turns)) (flat_map (λ turn. turn.1) (take n T)) (t ++ u) q.links) (sym count_same) links);
+    now = subst (λ z. RunsTurn (model.lines_now (played_turns z) (t ++ u)) q.begun q.links) (sym turns)
+        (subst (λ n. RunsTurn (flat_map (λ turn. turn.1) (drop (n - 1) (take n T))) q.begun q.links) (sym count_same) (subst (λ n. RunsTurn (model.lines_now T t) n q.links) (sym begun) runs));
   }
 
 -- a port of which nothing changed that a trace tells
@@ -84,6 +89,8 @@ stays p q t turns begun links stands = record {
   answered = subst (λ z. (closing_by : ℕ) → plays.IsAnswered (played_turns z) closing_by t) (sym turns) stands.answered;
   begun = begun ∙ stands.begun;
   links = subst (λ z. LinksStand (links_of (lines_of z)) (model.lines (played_turns z) t) t q.links) (sym turns) (subst (λ z. LinksStand (links_of (lines_of p.turns)) (model.lines (played_turns p.turns) t) t z) (sym links) stands.links);
+  now = subst (λ z. RunsTurn (model.lines_now (played_turns z) t) q.begun q.links) (sym turns)
+      (subst (λ n. RunsTurn (model.lines_now (played_turns p.turns) t) n q.links) (sym begun) (subst (λ z. RunsTurn (model.lines_now (played_turns p.turns) t) p.begun z) (sym links) stands.now));
 }
 
 no_entry : (p q : PortState) → q.turns ≡ p.turns → q.begun ≡ p.begun → q.links ≡ p.links → Longer (StandsIf p) (StandsIf q) []
@@ -97,7 +104,8 @@ quiet_call p q u turns begun alike quiet step = λ t vouched asked.
     let before = called_before p.turns t u (subst (λ z. IsCalledFor z (t ++ u)) turns asked) in
     let stands = vouched before in
     let x = step t before stands in
-    go_on p q turns begun t u quiet.turns x.0 x.1 (links_silent (links_of (lines_of p.turns)) (model.lines (played_turns p.turns) t) t u p.links q.links quiet.silent alike stands.links) stands
+    go_on p q turns begun t u quiet.turns x.0 x.1 (links_silent (links_of (lines_of p.turns)) (model.lines (played_turns p.turns) t) t u p.links q.links quiet.silent alike stands.links)
+    (runs-like (model.lines_now (played_turns p.turns) t) p.begun p.links q.links alike stands.now) stands
 
 pub start_stood : (p : PortState) (listen to : Addr) → Longer (StandsIf p) (StandsIf (after_start p listen to)) []
 start_stood p listen to = no_entry p (after_start p listen to) refl refl refl
@@ -105,29 +113,31 @@ start_stood p listen to = no_entry p (after_start p listen to) refl refl refl
 pub close_write_stood : (p : PortState) (e : SideId) → Longer (StandsIf p) (StandsIf (record p { links = at_end e after_close_write p.links })) (close_write_events e)
 close_write_stood p e =
     quiet_call p (record p { links = at_end e after_close_write p.links }) (close_write_events e) refl refl
-    (like-at_end e after_close_write p.links (λ s. record { pending = refl; eof = refl; taken = refl; may_take = refl; wait = refl; made_connected = refl; connected = refl }))
+    (like-at_end e after_close_write p.links (λ s. counts_alone s (record s.tally { write_ended = true }) refl refl))
     (quiet-close_write e) (λ t asked stands. (plays.Step.Own (entry.CloseWrite e), λ closing_by. refl))
 
 pub close_stood : (p : PortState) (e : SideId) → Longer (StandsIf p) (StandsIf (record p { links = at_end e after_close p.links })) (close_events e)
 close_stood p e =
     quiet_call p (record p { links = at_end e after_close p.links }) (close_events e) refl refl
-    (like-at_end e after_close p.links (λ s. record { pending = refl; eof = refl; taken = refl; may_take = refl; wait = refl; made_connected = refl; connected = refl }))
+    (like-at_end e after_close p.links (λ s. counts_alone s (record s.tally { closed = true }) refl refl))
     (quiet-close e) (λ t asked stands. (plays.Step.Own (entry.Close e), λ closing_by. refl))
 
 unheard_stood : (p : PortState) (x : Entry) → IsUnheard x → Longer (StandsIf p) (StandsIf p) ((x, []) ∷ [])
 unheard_stood p x h = quiet_call p p ((x, []) ∷ []) refl refl (like p.links) (quiet-unheard x h) (λ t asked stands. (plays.Step.Own x, λ closing_by. unheard_is x h))
 
-marks_stood : (p : PortState) (ws : List Want) (tally : PortTally) (timeout : Option ℕ) (answer : Bool) →
-    Longer (StandsIf p) (StandsIf (record p { links = after_wants (map (λ w. marked p.links w) ws) p.links; tally = tally })) (poll_events timeout (map (λ w. marked p.links w) ws) (polled.Ready answer))
-marks_stood p ws tally timeout answer =
-    let marks = map (λ w. marked p.links w) ws in
-    quiet_call p (record p { links = after_wants marks p.links; tally = tally }) (poll_events timeout marks (polled.Ready answer)) refl refl (like-wants marks p.links) (quiet-poll timeout marks answer)
-    (λ t asked stands. (plays.Step.Poll timeout (map wish ws), λ closing_by. poll_is p.turns t asked p.links stands.links timeout ws answer closing_by))
+-- a poll that was answered as the port answers
+answered_poll : (p : PortState) (ws : List Want) (tally : PortTally) (accept : Bool) (timeout : Option ℕ) →
+    Longer (StandsIf p) (StandsIf (record p { links = after_wants (poll_marks p.links ws) p.links; tally = tally })) (poll_events timeout (poll_marks p.links ws) (poll_answer p accept))
+answered_poll p ws tally accept timeout =
+    let marks = poll_marks p.links ws in
+    quiet_call p (record p { links = after_wants marks p.links; tally = tally }) (poll_events timeout marks (poll_answer p accept)) refl refl (like-wants marks p.links) (quiet-poll timeout marks (poll_answer p accept))
+    (λ t asked stands. (plays.Step.Poll timeout (map wish ws), λ closing_by. poll_is p.turns t asked p.links p.begun stands.links stands.now timeout ws (poll_accepts p accept) closing_by))
 
-pub poll_stood : (p : PortState) (ws marks : List Want) (tally : PortTally) (timeout : Option ℕ) (answer : Bool) → marks ≡ map (λ w. marked p.links w) ws →
-    Longer (StandsIf p) (StandsIf (record p { links = after_wants marks p.links; tally = tally })) (poll_events timeout marks (polled.Ready answer))
-poll_stood p ws marks tally timeout answer is =
-    subst (λ z. Longer (StandsIf p) (StandsIf (record p { links = after_wants z p.links; tally = tally })) (poll_events timeout z (polled.Ready answer))) (sym is) (marks_stood p ws tally timeout answer)
+pub poll_stood : (p : PortState) (ws marks : List Want) (tally : PortTally) (accept : Bool) (timeout : Option ℕ) (answer : Polled) → marks ≡ poll_marks p.links ws → answer ≡ poll_answer p accept →
+    Longer (StandsIf p) (StandsIf (record p { links = after_wants marks p.links; tally = tally })) (poll_events timeout marks answer)
+poll_stood p ws marks tally accept timeout answer is a =
+    subst (λ z. Longer (StandsIf p) (StandsIf (record p { links = after_wants z p.links; tally = tally })) (poll_events timeout z answer)) (sym is)
+    (subst (λ z. Longer (StandsIf p) (StandsIf (record p { links = after_wants (poll_marks p.links ws) p.links; tally = tally })) (poll_events timeout (poll_marks p.links ws) z)) (sym a) (answered_poll p ws tally accept timeout))
 
 -- Calls on one end
 
@@ -138,7 +148,8 @@ check_stood p e = λ t vouched asked.
     let stands = vouched before in
     go_on p (record p { links = at_end e after_check p.links }) refl refl t u refl (plays.Step.Check e)
     (λ closing_by. ap (λ (z : ConnAnswer). (entry.Conn e z, []) ∷ []) (sym (conn_is p.turns t before p.links stands.links e)))
-    (check_stands (links_of (lines_of p.turns)) (model.lines (played_turns p.turns) t) t e p.links stands.links) stands
+    (check_stands (links_of (lines_of p.turns)) (model.lines (played_turns p.turns) t) t e p.links stands.links)
+    (runs-at_end (model.lines_now (played_turns p.turns) t) p.begun e after_check p.links (λ s. refl) stands.now) stands
 
 pub read_stood : (p : PortState) (e : SideId) (room : ℕ) →
     Longer (StandsIf p) (StandsIf (record p { links = at_end e (λ s. after_read s room) p.links })) ((entry.Read e room (read_answer_at p.links e room), take room (pending_at p.links e)) ∷ [])
@@ -148,7 +159,8 @@ read_stood p e room = λ t vouched asked.
     let stands = vouched before in
     go_on p (record p { links = at_end e (λ s. after_read s room) p.links }) refl refl t u refl (plays.Step.Read e room)
     (λ closing_by. ap (λ (z : ReadAnswer × List ℕ). (entry.Read e room z.0, z.1) ∷ []) (sym (read_is p.turns t before p.links stands.links e room)))
-    (read_stands (links_of (lines_of p.turns)) (model.lines (played_turns p.turns) t) t e room p.links stands.links) stands
+    (read_stands (links_of (lines_of p.turns)) (model.lines (played_turns p.turns) t) t e room p.links stands.links)
+    (runs-at_end (model.lines_now (played_turns p.turns) t) p.begun e (λ s. after_read s room) p.links (λ s. refl) stands.now) stands
 
 takes_within : (o : Option ℕ) (offer : ℕ) → taken_of o offer ≤ offer
 takes_within None offer = omega arith
@@ -173,7 +185,8 @@ took_stood p e from within = λ t vouched asked.
     let stands = vouched before in
     go_on p (record p { links = at_end e (λ s. after_write s from) p.links }) refl refl t u refl (plays.Step.Write e from)
     (λ closing_by. ap (λ (z : WriteAnswer × List ℕ). (entry.Write e (length from) z.0, z.1) ∷ []) (sym (write_is p.turns t before p.links stands.links e from (takes_fits p e from within))))
-    (write_stands (links_of (lines_of p.turns)) (model.lines (played_turns p.turns) t) t e from p.links within stands.links) stands
+    (write_stands (links_of (lines_of p.turns)) (model.lines (played_turns p.turns) t) t e from p.links within stands.links)
+    (runs-at_end (model.lines_now (played_turns p.turns) t) p.begun e (λ s. after_write s from) p.links (λ s. refl) stands.now) stands
 
 -- a write that was answered
 took_as : (p : PortState) (new : LinksState) (e : SideId) (from : List ℕ) (answer : WriteAnswer) → new ≡ at_end e (λ s. after_write s from) p.links → answer ≡ write_answer_at p.links e (length from) → length (taken_at new e) < 2 ^ 64 - 1 →
@@ -202,8 +215,8 @@ accept_by p link (wait ∷ later) is = λ t vouched asked.
     let waiting : model.waiting (played_turns p.turns) t ≡ wait ∷ later = sym stands.links.waiting ∙ is in
     go_on p (record p { links = accept_first link (wait ∷ later) p.links; tally = accept_tally (accept_answer (wait ∷ later)) p.tally }) refl refl t u refl plays.Step.Accept
     (λ closing_by. ap (λ n. plays.accepted n (wait ∷ later)) number_is ∙ ap (plays.accepted (opened t)) (sym waiting))
-    (accept_stands (links_of (lines_of p.turns)) (model.lines (played_turns p.turns) t) t p.links wait later link stands.links is number_is (links_of (lines_of (drop (model.begun (played_turns p.turns) t) p.turns))) (links_whole p.turns t before))
-    stands
+    (accept_stands (links_of (lines_of p.turns)) (model.lines (played_turns p.turns) t) t p.links wait later link stands.links is)
+    (runs-accept (model.lines_now (played_turns p.turns) t) p.begun link (wait ∷ later) p.links stands.now) stands
 
 pub accept_stood : (p : PortState) (link : ℕ) → Longer (StandsIf p) (StandsIf (after_accept p link)) (accept_events link (accept_answer p.links.waiting))
 accept_stood p link = accept_by p link p.links.waiting refl
@@ -212,6 +225,10 @@ accept_stood p link = accept_by p link p.links.waiting refl
 
 abbrev TickedOn : (Trace → Type 0) → (Trace → Type 0) → ℕ → Type 0
 TickedOn old new reading = (t : Trace) → old t → new (t ++ (entry.Turn (turn_time t reading), []) ∷ [])
+
+-- which turn runs says nothing of what lasts
+entered_stands : (waits : List Bool) (ls : List Line) (t : Trace) (turn : Option ℕ) (l : LinksState) → LinksStand waits ls t l → LinksStand waits ls t (entered turn l)
+entered_stands waits ls t turn l h = record { in_order = h.in_order; waiting = h.waiting; ends = h.ends; beyond = h.beyond }
 
 turn_begins : (p : PortState) (turn : TurnValue) (ms : ℕ) (t : Trace) → next_turn p ≡ Some turn → ms ≡ turn_time t turn.0 → PortStands p t → PortStands (count_reading (begin_turn (Some turn) p)) (t ++ (entry.Turn ms, []) ∷ [])
 turn_begins p turn ms t next is stands =
@@ -224,14 +241,17 @@ turn_begins p turn ms t next is stands =
     ap (λ n. flat_map (λ turn. turn.1) (take n T)) count ∙ lines_so_far (model.begun T t + 1) p.turns ∙ ap (map played_line) (lines_more (model.begun T t) p.turns turn here)
     ∙ map-append played_line (lines_of (take (model.begun T t) p.turns)) turn.1 ∙ ap (λ z. z ++ map played_line turn.1) (sym (lines_so_far (model.begun T t) p.turns)) in
     let waits = links_of (lines_of p.turns) in
+    let running = entered (Some p.begun) p.links in
     record {
       answered = λ closing_by.
           subst (λ z. plays.IsAnswered T closing_by (t ++ (entry.Turn z, []) ∷ []))
           (ap (plays.time_at t) (moment_next (model.begun T t) p.turns turn _ here) ∙ ap (λ z. max z (min turn.0 (2 ^ 62))) (sym (times_same t)) ∙ sym is)
           (answers_go_on T closing_by t (stands.answered closing_by) plays.Step.Now);
       begun = ap (λ n. n + 1) stands.begun ∙ sym count;
-      links = subst (λ z. LinksStand waits z (t ++ u) (after_lines turn.1 p.links)) (sym lines)
-          (lines_stand waits (model.lines T t) (t ++ u) turn.1 p.links (links_silent waits (model.lines T t) t u p.links p.links (silent-turn ms) (like p.links) stands.links));
+      links = subst (λ z. LinksStand waits z (t ++ u) (after_lines turn.1 running)) (sym lines)
+          (lines_stand waits (model.lines T t) (t ++ u) turn.1 running (entered_stands waits (model.lines T t) (t ++ u) (Some p.begun) p.links (links_silent waits (model.lines T t) t u p.links p.links (silent-turn ms) (like p.links) stands.links)));
+      now = subst (λ z. RunsTurn z (p.begun + 1) (after_lines turn.1 running)) (sym (ap (λ n. flat_map (λ turn. turn.1) (drop (n - 1) (take n T))) count ∙ lines_of_turn (model.begun T t) p.turns turn here))
+          (runs-lines [] p.begun turn.1 running refl (runs-entered (model.lines_now T t) p.begun p.links stands.now));
     }
 
 now_by : (p : PortState) (turn : Option TurnValue) → next_turn p ≡ turn → TickedOn (StandsIf p) (StandsIf (count_reading (begin_turn turn p))) (option_map_or (λ (x : TurnValue). x.0) turn p.clock)
@@ -267,16 +287,22 @@ new_past (wait ∷ waits) (suc link) side h =
     let rest = new_past waits link side (subst (λ n. slice_get (new_ends (wait ∷ waits)) n ≡ None) two h) in
     omega (arith, rest)
 
+undecided_yet : (side : Side) → None ≡ decided_at side []
+undecided_yet In = refl
+undecided_yet Out = refl
+
 new_stands : (waits : List Bool) (e : SideId) (undecided : Bool) → undecided ≡ model.undecided_at e.side (get_or waits e.link false) → EndStands waits [] [] e (new_end undecided)
 new_stands waits e undecided is = record {
   came = refl;
   eof = refl;
+  read_fails = refl;
   taken = refl;
   may_take = (refl, record { least = omega arith; most = omega arith; within = omega arith });
+  write_fails = refl;
   wait = is;
+  decision = undecided_yet e.side;
   made_connected = refl;
   connected = refl;
-  undecided = λ _. refl;
 }
 
 pub new_stood : (turns : List TurnValue) → StandsIf (new_port turns) []
@@ -290,6 +316,11 @@ new_stood turns = λ asked. record {
         let waits = links_of (lines_of turns) in
         subst (EndStands waits [] [] e) (sym (new_at waits e.link e.side s found)) (new_stands waits e (model.undecided_at e.side (get_or waits e.link false)) refl);
     beyond = λ e found. new_past (links_of (lines_of turns)) e.link e.side found;
+  };
+  now = record {
+    poll = refl;
+    spurs = λ e s found. refl;
+    earlier = λ e s found turn is. absurd (let none = ap (λ (z : EndState). z.spurred) (new_at (links_of (lines_of turns)) e.link e.side s found) in cc);
   };
 }
 

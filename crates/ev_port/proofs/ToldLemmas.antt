@@ -123,17 +123,18 @@ ends_step l end f step h = record {
       rw elsewhere (EndWent-none (ends_told l e));
 }
 
-untold_if : (f : EndState → EndState) → ((s : EndState) → told_of_end (f s) ≡ told_of_end s) → (o : Option EndState) → option_map_or told_of_end (option_map f o) nothing_told ≡ option_map_or told_of_end o nothing_told
-untold_if f h None = refl
-untold_if f h (Some s) = h s
+kept_if : {X : Type 0} (g : EndState → X) (d : X) (f : EndState → EndState) → ((s : EndState) → g (f s) ≡ g s) → (o : Option EndState) → option_map_or g (option_map f o) d ≡ option_map_or g o d
+kept_if g d f h None = refl
+kept_if g d f h (Some s) = h s
 
--- a change that is not told
-pub untold : (l : LinksState) (end e : SideId) (f : EndState → EndState) → ((s : EndState) → told_of_end (f s) ≡ told_of_end s) → ends_told (at_end end f l) e ≡ ends_told l e
-untold l end e f h =
+-- a change that leaves what is seen of an end
+pub kept_at_end : {X : Type 0} (g : EndState → X) (d : X) (l : LinksState) (end e : SideId) (f : EndState → EndState) → ((s : EndState) → g (f s) ≡ g s) →
+    option_map_or g (end_of (at_end end f l) e) d ≡ option_map_or g (end_of l e) d
+kept_at_end g d l end e f h =
     elim (cases_eq (number e) (number end)) [
       | inl same ↦
           let here = slice_get-changed_same f l.ends (number end) in
-          rw (same, here) (untold_if f h (slice_get l.ends (number end)))
+          rw (same, here) (kept_if g d f h (slice_get l.ends (number end)))
       | inr other ↦
           let elsewhere = slice_get-changed_other f l.ends (number end) (number e) other in
           rw elsewhere

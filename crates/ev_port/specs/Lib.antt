@@ -9,7 +9,9 @@ pub mod Counting
 pub mod Memory
 pub mod MemoryView
 pub mod ScriptState
+pub mod EndTallies
 pub mod ScriptEnds
+pub mod FailedCalls
 pub mod ScriptEndView
 pub mod ScriptLinks
 pub mod ScriptKept
@@ -18,8 +20,10 @@ pub mod ScriptPort
 pub mod ScriptTold
 pub mod ScriptPortView
 pub mod ScriptPlayed
+pub mod ScriptNow
 pub mod ScriptVouched
 pub mod Waiting
 pub mod ScriptLaws
 pub mod ScriptPlays
 pub mod ScriptUnheard
+pub mod FailPort

@@ -9,8 +9,12 @@ end_kept e = record {
     given = take e.given e.bytes.items;
     pending = drop e.given (take e.came e.bytes.items);
     eof = e.eof;
+    read_fails = e.read_fails;
     may_take = e.may_take;
+    write_fails = e.write_fails;
     wait = e.wait;
+    decision = e.decision;
+    spurred = e.spurred;
     taken = e.taken.items;
     tally = e.tally;
   };

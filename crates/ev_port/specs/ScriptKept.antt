@@ -1,6 +1,6 @@
 -- How the links of a script port keep what the script has yet to bring: the links to open, and the bytes of each end,
 -- of which a line says no more than how many come in now.
-use Rattle.std.specs.Prelude.{◌≡◌, ◌≢◌, ℕ, ◌-◌, ◌^◌, ◌==◌, length, take, drop, Bool, if◌then◌else◌, List, [], ◌∷◌, ◌++◌, slice_index_or, ◌<◌, Option, Some, None}
+use Rattle.std.specs.Prelude.{◌≡◌, ◌≢◌, ℕ, ◌-◌, ◌^◌, ◌==◌, length, take, drop, Bool, true, if◌then◌else◌, List, [], ◌∷◌, ◌++◌, slice_index_or, ◌<◌, Option, Some, None}
 use Rattle.std.specs.List.{flat_map}
 use Rattle.ev_types.specs.declared.side.SideId.{SideId}
 use Rattle.ev_types.specs.Sides.{number}
@@ -10,30 +10,27 @@ use Rattle.script_text.specs.declared.script.TurnLine.{TurnLine}
 use Rattle.script_text.specs.declared.script.TurnLine.TheVariants as line
 use Rattle.ev_port.specs.ScriptState.{EndState, EndKept, LinksKept}
 use Rattle.ev_port.specs.ScriptEnds.{end_after_line, write_answer, after_write}
-use Rattle.ev_port.specs.ScriptLinks.{changed, at_end, new_ends, links_of}
+use Rattle.ev_port.specs.ScriptLinks.{changed, at_end, out_end, new_ends, links_of}
 
 -- One end
 
 -- what a line makes of the end that it names; the bytes that come in are the next ones to come
-abbrev pub state_after_line : TurnLine → List ℕ → EndState → EndState
-state_after_line (line.Pending side bytes) to_come s = record s { pending = s.pending ++ take (length bytes) to_come }
-state_after_line (line.Eof side) to_come s = end_after_line (line.Eof side) s
-state_after_line (line.Take side more) to_come s = end_after_line (line.Take side more) s
-state_after_line (line.NewLink wait) to_come s = s
+abbrev pub state_after_line : Option ℕ → TurnLine → List ℕ → EndState → EndState
+state_after_line turn (line.Pending side bytes) to_come s = record s { pending = s.pending ++ take (length bytes) to_come }
+state_after_line turn x to_come s = end_after_line turn x s
 
 -- the bytes that are still to come
 abbrev pub left_after_line : TurnLine → List ℕ → List ℕ
 left_after_line (line.Pending side bytes) to_come = drop (length bytes) to_come
-left_after_line (line.Eof side) to_come = to_come
-left_after_line (line.Take side more) to_come = to_come
-left_after_line (line.NewLink wait) to_come = to_come
+left_after_line x to_come = to_come
 
-abbrev pub kept_after_line : TurnLine → EndKept → EndKept
-kept_after_line x e = record { state = state_after_line x e.to_come e.state; to_come = left_after_line x e.to_come }
+abbrev pub kept_after_line : Option ℕ → TurnLine → EndKept → EndKept
+kept_after_line turn x e = record { state = state_after_line turn x e.to_come e.state; to_come = left_after_line x e.to_come }
 
 -- what a write did: want of memory, in place of taking bytes, changed nothing; memory holds what the end took
 abbrev pub Wrote : EndKept → EndKept → List ℕ → WriteAnswer → Type 0
-Wrote old new from write.NoMemory = (new ≡ old) × (write_answer old.state (length from) ≢ write.NotYet)
+Wrote old new from write.NoMemory =
+    (new ≡ old) × (write_answer old.state (length from) ≢ write.NotYet) × (write_answer old.state (length from) ≢ write.Failed)
 Wrote old new from answer =
     (new ≡ record old { state = after_write old.state from }) × (answer ≡ write_answer old.state (length from)) × (length new.state.taken < 2 ^ 64 - 1)
 
@@ -46,19 +43,24 @@ kept_at k to_come = slice_index_or to_come k []
 -- what a line makes of the end that it names
 abbrev pub line_at : SideId → TurnLine → LinksKept → LinksKept
 line_at e x l = record l {
-  state = at_end e (state_after_line x (kept_at (number e) l.to_come)) l.state;
+  state = at_end e (state_after_line l.state.turn x (kept_at (number e) l.to_come)) l.state;
   to_come = changed (number e) (left_after_line x) l.to_come;
 }
 
--- what a line makes of the links: it opens the next one, or brings in the next bytes
+-- what a line makes of the links: it opens the next one, lets the poll fail, or changes the end that it names
 abbrev pub links_after_line : TurnLine → LinksKept → LinksKept
 links_after_line (line.NewLink wait) l = record l {
   state = record l.state { waiting = l.state.waiting ++ take 1 l.to_open };
   to_open = drop 1 l.to_open;
 }
+links_after_line line.PollFail l = record l { state = record l.state { poll_fails = true } }
+links_after_line (line.Conn link connected) l = line_at (out_end link) (line.Conn link connected) l
 links_after_line (line.Pending side bytes) l = line_at side (line.Pending side bytes) l
 links_after_line (line.Eof side) l = line_at side (line.Eof side) l
+links_after_line (line.ReadFail side) l = line_at side (line.ReadFail side) l
 links_after_line (line.Take side more) l = line_at side (line.Take side more) l
+links_after_line (line.WriteFail side) l = line_at side (line.WriteFail side) l
+links_after_line (line.Spur side) l = line_at side (line.Spur side) l
 
 abbrev pub links_after_lines : List TurnLine → LinksKept → LinksKept
 links_after_lines [] l = l
@@ -80,9 +82,7 @@ with_links waits l = record {
 -- the bytes of a line are to come behind those from before, at the end that it names
 abbrev pub with_bytes : TurnLine → List (List ℕ) → List (List ℕ)
 with_bytes (line.Pending side bytes) to_come = changed (number side) (λ before. before ++ bytes) to_come
-with_bytes (line.NewLink wait) to_come = to_come
-with_bytes (line.Eof side) to_come = to_come
-with_bytes (line.Take side more) to_come = to_come
+with_bytes x to_come = to_come
 
 abbrev pub with_all_bytes : List TurnLine → List (List ℕ) → List (List ℕ)
 with_all_bytes [] to_come = to_come
@@ -91,9 +91,7 @@ with_all_bytes (x ∷ lines) to_come = with_all_bytes lines (with_bytes x to_com
 -- the bytes that lines bring in at the end with this number
 abbrev pub line_bytes : ℕ → TurnLine → List ℕ
 line_bytes k (line.Pending side bytes) = if number side == k then bytes else []
-line_bytes k (line.NewLink wait) = []
-line_bytes k (line.Eof side) = []
-line_bytes k (line.Take side more) = []
+line_bytes k x = []
 
 abbrev pub bytes_of : ℕ → List TurnLine → List ℕ
 bytes_of k lines = flat_map (line_bytes k) lines

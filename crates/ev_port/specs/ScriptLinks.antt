@@ -1,6 +1,6 @@
 -- What the lines of a script and the calls of a port make of the links of the script. A line or a call that names an
 -- end of no such link changes nothing.
-use Rattle.std.specs.Prelude.{◌≡◌, ◌≢◌, ℕ, ◌-◌, ◌^◌, ◌<◌, length, zero, suc, Bool, true, false, ◌&&◌, not, List, [], ◌∷◌, ◌++◌, Option, slice_get}
+use Rattle.std.specs.Prelude.{◌≡◌, ◌≢◌, ℕ, ◌-◌, ◌^◌, ◌<◌, length, zero, suc, Bool, true, false, ◌&&◌, ◌||◌, not, List, [], ◌∷◌, ◌++◌, Option, None, slice_get}
 use Rattle.std.specs.Option.{option_map_or}
 use Rattle.ev_types.specs.declared.side.SideId.{SideId}
 use Rattle.ev_types.specs.declared.side.Side.TheVariants.{In, Out}
@@ -17,7 +17,7 @@ use Rattle.ev_port.specs.declared.port.Accepted.{Accepted}
 use Rattle.ev_port.specs.declared.port.Accepted.TheVariants as answer
 use Rattle.ev_port.specs.declared.port.Want.{Want}
 use Rattle.ev_port.specs.ScriptState.{EndState, LinksState}
-use Rattle.ev_port.specs.ScriptEnds.{new_end, end_after_line, can_read, can_write, read_answer, write_answer, after_write, conn_answer, accepted, wanted}
+use Rattle.ev_port.specs.ScriptEnds.{new_end, end_after_line, can_read, can_write, is_spurred, read_answer, write_answer, after_write, conn_answer, accepted, wanted}
 
 -- the list with the k-th of its elements changed, where it has one
 abbrev pub changed : {S : Type 0} → ℕ → (S → S) → List S → List S
@@ -38,7 +38,7 @@ new_ends (wait ∷ waits) = new_end false ∷ new_end wait ∷ new_ends waits
 
 -- links of which none waits yet
 abbrev pub new_links : List Bool → LinksState
-new_links waits = record { waiting = []; ends = new_ends waits }
+new_links waits = record { waiting = []; ends = new_ends waits; turn = None; poll_fails = false }
 
 -- Lines
 
@@ -48,12 +48,25 @@ links_of [] = []
 links_of (line.NewLink wait ∷ lines) = wait ∷ links_of lines
 links_of (x ∷ lines) = links_of lines
 
+-- the Out end of a link
+abbrev pub out_end : ℕ → SideId
+out_end link = record { link = link; side = Out }
+
 -- a link that is opened waits to be accepted
 abbrev pub after_line : TurnLine → LinksState → LinksState
 after_line (line.NewLink wait) l = record l { waiting = l.waiting ++ wait ∷ [] }
-after_line (line.Pending side bytes) l = at_end side (end_after_line (line.Pending side bytes)) l
-after_line (line.Eof side) l = at_end side (end_after_line (line.Eof side)) l
-after_line (line.Take side more) l = at_end side (end_after_line (line.Take side more)) l
+after_line line.PollFail l = record l { poll_fails = true }
+after_line (line.Conn link connected) l = at_end (out_end link) (end_after_line l.turn (line.Conn link connected)) l
+after_line (line.Pending side bytes) l = at_end side (end_after_line l.turn (line.Pending side bytes)) l
+after_line (line.Eof side) l = at_end side (end_after_line l.turn (line.Eof side)) l
+after_line (line.ReadFail side) l = at_end side (end_after_line l.turn (line.ReadFail side)) l
+after_line (line.Take side more) l = at_end side (end_after_line l.turn (line.Take side more)) l
+after_line (line.WriteFail side) l = at_end side (end_after_line l.turn (line.WriteFail side)) l
+after_line (line.Spur side) l = at_end side (end_after_line l.turn (line.Spur side)) l
+
+-- another turn runs, or none; what a line says of one turn alone is over
+abbrev pub entered : Option ℕ → LinksState → LinksState
+entered turn l = record l { turn = turn; poll_fails = false }
 
 -- lines in their order
 abbrev pub after_lines : List TurnLine → LinksState → LinksState
@@ -68,9 +81,19 @@ can_read_at l e = option_map_or can_read (end_of l e) false
 abbrev pub can_write_at : LinksState → SideId → Bool
 can_write_at l e = option_map_or can_write (end_of l e) false
 
--- a direction that is wanted is marked where it can be done
+abbrev pub is_spurred_at : LinksState → SideId → Bool
+is_spurred_at l e = option_map_or (is_spurred l.turn) (end_of l e) false
+
+-- a direction that is wanted is marked where it can be done, or where all is marked in this turn
 abbrev pub marked : LinksState → Want → Want
-marked l w = record w { can_read = w.read && can_read_at l w.side; can_write = w.write && can_write_at l w.side }
+marked l w = record w {
+  can_read = w.read && (can_read_at l w.side || is_spurred_at l w.side);
+  can_write = w.write && (can_write_at l w.side || is_spurred_at l w.side);
+}
+
+-- a poll that fails marks nothing
+abbrev pub unmarked : Want → Want
+unmarked w = record w { can_read = false; can_write = false }
 
 -- a poll was given these wants, with their marks
 abbrev pub after_wants : List Want → LinksState → LinksState
@@ -103,7 +126,8 @@ taken_at l e = option_map_or (λ s. s.taken) (end_of l e) []
 
 -- what a write did: want of memory, in place of taking bytes, changed nothing; memory holds what the end took
 abbrev pub WroteAt : LinksState → LinksState → SideId → List ℕ → WriteAnswer → Type 0
-WroteAt old new e from write.NoMemory = (new ≡ old) × (write_answer_at old e (length from) ≢ write.NotYet)
+WroteAt old new e from write.NoMemory =
+    (new ≡ old) × (write_answer_at old e (length from) ≢ write.NotYet) × (write_answer_at old e (length from) ≢ write.Failed)
 WroteAt old new e from answer =
     (new ≡ at_end e (λ s. after_write s from) old) × (answer ≡ write_answer_at old e (length from)) × (length (taken_at new e) < 2 ^ 64 - 1)
 

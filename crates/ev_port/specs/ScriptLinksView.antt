@@ -8,6 +8,8 @@ links_kept l = record {
   state = record {
     waiting = drop l.accepted (take l.opened l.waits.items);
     ends = map (λ e. e.state) l.ends.items;
+    turn = l.turn;
+    poll_fails = l.poll_fails;
   };
   to_open = drop l.opened l.waits.items;
   to_come = map (λ e. e.to_come) l.ends.items;

@@ -1,17 +1,20 @@
 -- What the calls of a script port answer, and what they make of it.
-use Rattle.std.specs.Prelude.{ℕ, ◌+◌, ◌==◌, length, Bool, false, ◌&&◌, not, List, Option, Some, None, slice_get}
+use Rattle.std.specs.Prelude.{ℕ, ◌+◌, ◌==◌, length, Bool, false, ◌&&◌, not, if◌then◌else◌, List, map, Option, Some, None, slice_get}
 use Rattle.std.specs.Option.{option_map_or}
 use Rattle.std.specs.List.{flat_map}
 use Rattle.script_text.specs.declared.script.TurnLine.{TurnLine}
 use Rattle.ev_port.specs.declared.port.Accepted.{Accepted}
 use Rattle.ev_port.specs.declared.port.Accepted.TheVariants as answer
 use Rattle.ev_port.specs.declared.port.Addr.{Addr}
+use Rattle.ev_port.specs.declared.port.Polled.{Polled}
+use Rattle.ev_port.specs.declared.port.Polled.TheVariants as polled
 use Rattle.ev_port.specs.declared.port.Want.{Want}
-use Rattle.ev_port.specs.declared.script_port.PortTally.{PortTally}
-use Rattle.ev_port.specs.Counting.{counted}
-use Rattle.ev_port.specs.ScriptState.{PortState}
-use Rattle.ev_port.specs.ScriptEnds.{once}
-use Rattle.ev_port.specs.ScriptLinks.{links_of, new_links, after_lines, after_wants, accept_answer, accept_first}
+use Rattle.ev_port.specs.declared.port_tally.PortTally.{PortTally}
+use Rattle.ev_port.specs.Counting.{counted, risen_if}
+use Rattle.ev_port.specs.Polling.{is_failed_poll, opens_accepting}
+use Rattle.ev_port.specs.EndTallies.{once}
+use Rattle.ev_port.specs.ScriptState.{LinksState, PortState}
+use Rattle.ev_port.specs.ScriptLinks.{links_of, new_links, after_lines, entered, marked, unmarked, after_wants, accept_answer, accept_first}
 
 abbrev pub no_port_calls : PortTally
 no_port_calls = record {
@@ -22,6 +25,7 @@ no_port_calls = record {
   readings = 0;
   reading = 0;
   started = None;
+  poll_faults = 0;
 }
 
 -- the lines of these turns, one after another
@@ -48,10 +52,14 @@ next_turn p = slice_get p.turns p.begun
 abbrev pub clock_answer : PortState → ℕ
 clock_answer p = option_map_or (λ turn. turn.0) (next_turn p) p.clock
 
--- the lines of the turn that begins are applied
+-- the lines of the turn that begins are applied; after the last turn no turn runs
 abbrev pub begin_turn : Option (ℕ × List TurnLine) → PortState → PortState
-begin_turn None p = p
-begin_turn (Some turn) p = record p { begun = p.begun + 1; clock = turn.0; links = after_lines turn.1 p.links }
+begin_turn None p = record p { links = entered None p.links }
+begin_turn (Some turn) p = record p {
+  begun = p.begun + 1;
+  clock = turn.0;
+  links = after_lines turn.1 (entered (Some p.begun) p.links);
+}
 
 abbrev pub count_reading : PortState → PortState
 count_reading p = record p { tally = record p.tally { readings = counted p.tally.readings 1; reading = p.clock } }
@@ -68,6 +76,14 @@ after_start p listen to = record p { tally = record p.tally { started = Some (li
 abbrev pub poll_accepts : PortState → Bool → Bool
 poll_accepts p accept = accept && not (length p.links.waiting == 0)
 
+-- the poll fails where a line of the running turn says so
+abbrev pub poll_answer : PortState → Bool → Polled
+poll_answer p accept = if p.links.poll_fails then polled.Failed else polled.Ready (poll_accepts p accept)
+
+-- the wants as the poll leaves them
+abbrev pub poll_marks : LinksState → List Want → List Want
+poll_marks l wants = if l.poll_fails then map unmarked wants else map (λ w. marked l w) wants
+
 abbrev pub poll_tally : Bool → Option ℕ → Bool → PortTally → PortTally
 poll_tally accept timeout opens t = record t {
   accept_polls = counted t.accept_polls (once accept);
@@ -75,13 +91,24 @@ poll_tally accept timeout opens t = record t {
   accepting = opens;
 }
 
-abbrev pub after_poll : PortState → List Want → Bool → Option ℕ → PortState
-after_poll p wants accept timeout = record p {
+abbrev pub poll_fault : Bool → PortTally → PortTally
+poll_fault is_fault t = record t { poll_faults = risen_if is_fault t.poll_faults }
+
+-- a poll left these wants and was answered so
+abbrev pub after_poll : PortState → List Want → Bool → Option ℕ → Polled → PortState
+after_poll p wants accept timeout answer = record p {
   links = after_wants wants p.links;
-  tally = poll_tally accept timeout (poll_accepts p accept) p.tally;
+  tally = poll_fault (is_failed_poll answer) (poll_tally accept timeout (opens_accepting answer) p.tally);
 }
 
--- an accept that found no link closes accepting, and every other makes a link
+-- a poll was answered Failed with nothing asked of the script, and that fault is counted elsewhere
+abbrev pub failed_poll : PortState → List Want → Bool → Option ℕ → PortState
+failed_poll p wants accept timeout = record p {
+  links = after_wants wants p.links;
+  tally = poll_tally accept timeout false p.tally;
+}
+
+-- an accept that made no link closes accepting
 abbrev pub accept_tally : Accepted → PortTally → PortTally
 accept_tally (answer.Link connected) t = record t { links = counted t.links 1 }
 accept_tally answer.NotYet t = record t { accepting = false }

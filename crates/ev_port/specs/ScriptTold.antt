@@ -1,5 +1,5 @@
 -- What a script port tells: of each end of a link of the script everything, and of other ends nothing; of itself
--- everything. It meets no fault.
+-- everything. And how often it met each kind of fault: an end of no link of the script meets none, and no accept does.
 use Rattle.std.specs.Prelude.{Some, None}
 use Rattle.std.specs.Option.{option_map_or}
 use Rattle.ev_types.specs.declared.side.SideId.{SideId}
@@ -61,5 +61,9 @@ port_told p = record {
   started = Some p.tally.started;
 }
 
-abbrev pub no_faults : Faults
-no_faults = record { ends = λ _. 0; polling = 0; listener = 0 }
+abbrev pub script_faults : PortState → Faults
+script_faults p = record {
+  ends = λ e. option_map_or (λ (s : EndState). s.tally.faults) (end_of p.links e) 0;
+  polling = p.tally.poll_faults;
+  listener = 0;
+}

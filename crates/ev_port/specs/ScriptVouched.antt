@@ -1,6 +1,8 @@
 -- The traces for which a script port vouches: every answer in them is the script's, and the port stands where they end.
 use Rattle.std.specs.Prelude.{◌≡◌, ℕ, ◌+◌, ◌-◌, ◌^◌, ◌<◌, ◌≤◌, min, ⊤, Bool, true, false, List, [], ◌∷◌, ◌++◌, length, drop, sum_by, Option, Some, None, slice_index_or}
 use Rattle.std.specs.List.{flat_map, list_any}
+use Rattle.ev_types.specs.declared.side.Side.{Side}
+use Rattle.ev_types.specs.declared.side.Side.TheVariants.{In, Out}
 use Rattle.ev_types.specs.declared.side.SideId.{SideId}
 use Rattle.ev_types.specs.declared.entry.Entry.TheVariants as entry
 use Rattle.ev_types.specs.Trace.{Trace}
@@ -9,24 +11,30 @@ use Rattle.script_text.specs.declared.script.TurnLine.TheVariants as line
 use Rattle.script_text.specs.Script.{TurnValue}
 use Rattle.relay_model.specs.Trace.{bytes_read, bytes_given}
 use Rattle.relay_model.specs.Totals.{opened, is_made_connected, is_connected}
-use Rattle.relay_model.specs.Lines.{Line, links_by, brings, ends, allows, allows_all}
-use Rattle.relay_model.specs.Scripted.{undecided_at, begun, lines}
+use Rattle.relay_model.specs.Lines.{Line, links_by, decides, brings, ends, fails_reads, allows, allows_all, fails_writes}
+use Rattle.relay_model.specs.Scripted.{undecided_at, first_or, begun, lines, lines_now}
 use Rattle.relay_model.specs.Plays.{IsAnswered}
 use Rattle.ev_port.specs.Calls.{IsUnheard}
 use Rattle.ev_port.specs.ScriptState.{EndState, LinksState, PortState}
 use Rattle.ev_port.specs.ScriptLinks.{end_of, links_of}
 use Rattle.ev_port.specs.ScriptPort.{lines_of}
 use Rattle.ev_port.specs.ScriptPlayed.{played_turns}
+use Rattle.ev_port.specs.ScriptNow.{RunsTurn}
 
 -- What is asked of the script and of the callers
 
--- each line names a link that was opened before it, so many being opened before all of them
+-- each line that names a link or an end names a link that was opened before it, so many being opened before all of them
 abbrev pub NamesOpened : ℕ → List TurnLine → Type 0
 NamesOpened opened [] = ⊤
 NamesOpened opened (line.NewLink wait ∷ lines) = NamesOpened (opened + 1) lines
+NamesOpened opened (line.Conn link connected ∷ lines) = (link < opened) × NamesOpened opened lines
 NamesOpened opened (line.Pending side bytes ∷ lines) = (side.link < opened) × NamesOpened opened lines
 NamesOpened opened (line.Eof side ∷ lines) = (side.link < opened) × NamesOpened opened lines
+NamesOpened opened (line.ReadFail side ∷ lines) = (side.link < opened) × NamesOpened opened lines
 NamesOpened opened (line.Take side more ∷ lines) = (side.link < opened) × NamesOpened opened lines
+NamesOpened opened (line.WriteFail side ∷ lines) = (side.link < opened) × NamesOpened opened lines
+NamesOpened opened (line.Spur side ∷ lines) = (side.link < opened) × NamesOpened opened lines
+NamesOpened opened (line.PollFail ∷ lines) = NamesOpened opened lines
 
 -- links get their numbers in order, from 0
 abbrev pub OpensInOrder : Trace → Type 0
@@ -54,16 +62,23 @@ abbrev pub MayTake : Option ℕ → Bool → ℕ → ℕ → Type 0
 MayTake None any allowed taken = any ≡ true
 MayTake (Some more) any allowed taken = (any ≡ false) × TakesOn more allowed taken
 
+-- what is decided of an end: the first line that decides counts, and In is never decided
+abbrev pub decided_at : Side → List Bool → Option Bool
+decided_at In decisions = None
+decided_at Out decisions = first_or None decisions
+
 -- An end stands where these lines and this trace leave it; the whole script has these links, each undecided or not.
 pub record EndStands (waits : List Bool) (lines : List Line) (t : Trace) (e : SideId) (s : EndState) : Type 0 where
   pub came : bytes_read e t ++ s.pending ≡ flat_map (brings e) lines
   pub eof : s.eof ≡ list_any (ends e) lines
+  pub read_fails : s.read_fails ≡ list_any (fails_reads e) lines
   pub taken : s.taken ≡ bytes_given e t
   pub may_take : MayTake s.may_take (list_any (allows_all e) lines) (sum_by (allows e) lines) (length s.taken)
+  pub write_fails : s.write_fails ≡ list_any (fails_writes e) lines
   pub wait : s.wait ≡ undecided_at e.side (slice_index_or waits e.link false)
+  pub decision : s.decision ≡ decided_at e.side (flat_map (decides e.link) lines)
   pub made_connected : s.tally.made_connected ≡ is_made_connected e t
   pub connected : s.tally.connected ≡ is_connected e t
-  pub undecided : s.wait ≡ true → s.tally.made_connected ≡ false
 
 -- All links do: those that wait are the ones that the lines opened, but for those that the trace opened.
 pub record LinksStand (waits : List Bool) (lines : List Line) (t : Trace) (l : LinksState) : Type 0 where
@@ -77,6 +92,7 @@ pub record PortStands (p : PortState) (t : Trace) : Type 0 where
   pub answered : (closing_by : ℕ) → IsAnswered (played_turns p.turns) closing_by t
   pub begun : p.begun ≡ begun (played_turns p.turns) t
   pub links : LinksStand (links_of (lines_of p.turns)) (lines (played_turns p.turns) t) t p.links
+  pub now : RunsTurn (lines_now (played_turns p.turns) t) p.begun p.links
 
 -- entries that no port answers, with no bytes beside them
 abbrev pub AreUnheard : Trace → Type 0

@@ -1,12 +1,15 @@
 //! The outside of the relay: where text comes from and goes to, who keeps the trace, and the port that reaches
 //! the connections. Each is a trait with its meanings; beside each stand its implementations over memory, over a
-//! script and over the toolchain's streams. There is no socket here.
+//! script, with one call that fails, and over the toolchain's streams. There is no socket here.
 #![tactic(auto)]
 
+mod end_tally;
+mod fail_port;
 mod laws;
 mod memory;
 mod mute;
 mod port;
+mod port_tally;
 mod scribe;
 mod script_end;
 mod script_links;
@@ -15,6 +18,7 @@ mod standard;
 mod stream;
 
 pub use ev_types::{ConnAnswer, ReadAnswer, WriteAnswer};
+pub use fail_port::{FailPort, PortCall};
 pub use laws::{
     lines_bring_bytes, reads_lose_nothing, spelled_scripts_name_opened_links, vouched_is_played,
 };

@@ -1,63 +1,21 @@
-// One end of a script port: the bytes that the script brings in at it, the bytes that it takes, and what calls on it
-// were made. Which line and which call comes to it is not its own.
-ghost use Rattle.std.specs.Prelude.{◌≡◌, ◌<◌, ◌++◌, [], length, take, drop, IfOk, OnErr, OnOk, IsOk};
-ghost use Rattle.ev_port.specs.Counting.{counted};
+// One end of a script port: the bytes that the script brings in at it, the bytes that it takes, what the script decides
+// and lets fail, and what calls on it were made. Which line and which call comes to it is not its own.
+ghost use Rattle.std.specs.Prelude.{◌≡◌, ◌<◌, ◌++◌, [], length, take, drop, if◌then◌else◌, IfOk, OnErr, OnOk, IsOk};
 ghost use Rattle.ev_port.specs.Ends.{got_bytes};
-ghost use Rattle.ev_port.specs.ScriptEnds.{no_calls, new_end, allowed, can_read, can_write, read_answer, after_read, conn_answer, after_check, accepted, after_close_write, after_close, wanted};
+ghost use Rattle.ev_port.specs.ScriptEnds.{new_end, allowed, decided, can_read, can_write, same_turn, is_spurred, read_answer, after_read, conn_answer, after_check, accepted, after_close_write, after_close, wanted};
+ghost use Rattle.ev_port.specs.FailedCalls.{failed_read, failed_write, failed_check};
 ghost use Rattle.ev_port.specs.ScriptKept.{kept_after_line, Wrote};
+ghost use Rattle.relay_model.specs.Scripted.{decided_answer};
 
 use crate::Want;
+use crate::end_tally::EndTally;
 use ev_types::{ConnAnswer, NoMemory, ReadAnswer, WriteAnswer};
 use script_text::TurnLine;
 use std::alloc::Global;
 use std::marker::Model;
 
-/// What calls on an end were made, and what they were answered. A number that reached the end of a u64 stays there.
-///
-/// Own.
-#[derive(Clone, Copy)]
-pub(crate) struct EndTally {
-    pub made_connected: bool,
-    pub ended: bool,
-    pub connected: bool,
-    pub write_ended: bool,
-    pub closed: bool,
-    pub reads: u64,
-    pub writes: u64,
-    pub checks: u64,
-    pub rooms: u64,
-    pub offers: u64,
-    pub read_wants: u64,
-    pub write_wants: u64,
-    pub read_marks: u64,
-    pub write_marks: u64,
-}
-
-impl EndTally {
-    fn new() -> EndTally
-        ensures { result ≡ no_calls }
-    {
-        EndTally {
-            made_connected: false,
-            ended: false,
-            connected: false,
-            write_ended: false,
-            closed: false,
-            reads: 0,
-            writes: 0,
-            checks: 0,
-            rooms: 0,
-            offers: 0,
-            read_wants: 0,
-            write_wants: 0,
-            read_marks: 0,
-            write_marks: 0,
-        }
-    }
-}
-
 /// One end. `bytes` are all that the script ever brings in, so that no line takes memory; `came` of them came in,
-/// and reads gave `given` of these.
+/// and reads gave `given` of these. `spurred` is the last turn in which all that is wanted of it is marked.
 ///
 /// Own.
 #[derive(Drop)]
@@ -66,8 +24,12 @@ pub(crate) struct ScriptEnd {
     came: usize,
     given: usize,
     eof: bool,
+    read_fails: bool,
     may_take: Option<u64>,
+    write_fails: bool,
     wait: bool,
+    decision: Option<bool>,
+    spurred: Option<usize>,
     taken: Vec<u8>,
     tally: EndTally,
 }
@@ -95,8 +57,12 @@ impl ScriptEnd {
             came: 0,
             given: 0,
             eof: false,
+            read_fails: false,
             may_take: Some(0),
+            write_fails: false,
             wait,
+            decision: None,
+            spurred: None,
             taken: Vec::new(alloc),
             tally: EndTally::new(),
         }
@@ -110,15 +76,19 @@ impl ScriptEnd {
         Ok(())
     }
 
-    /// A line that names this end is applied.
-    pub fn apply(&mut self, line: &TurnLine)
-        ensures { self.new ≡ kept_after_line line.now self.old }
+    /// A line of this turn that names this end is applied.
+    pub fn apply(&mut self, turn: Option<usize>, line: &TurnLine)
+        ensures { self.new ≡ kept_after_line turn line.now self.old }
     {
         match line {
-            TurnLine::NewLink { .. } => {}
+            TurnLine::NewLink { .. } | TurnLine::PollFail => {}
+            TurnLine::Conn(_, connected) => self.decision = decide(self.decision, *connected),
             TurnLine::Pending(_, list) => self.come_in(list.bytes.len()),
             TurnLine::Eof(_) => self.eof = true,
+            TurnLine::ReadFail(_) => self.read_fails = true,
             TurnLine::Take(_, more) => self.may_take = allow(self.may_take, *more),
+            TurnLine::WriteFail(_) => self.write_fails = true,
+            TurnLine::Spur(_) => self.spurred = turn,
         }
     }
 
@@ -132,24 +102,31 @@ impl ScriptEnd {
     pub fn can_read(&self) -> bool
         ensures { result ≡ can_read self.now.state }
     {
-        self.given < self.came || self.eof
+        self.given < self.came || self.read_fails || self.eof
     }
 
     pub fn can_write(&self) -> bool
         ensures { result ≡ can_write self.now.state }
     {
-        self.may_take != Some(0) && (!self.wait || self.tally.connected)
+        if self.wait && !self.tally.connected {
+            self.decision.is_some()
+        } else {
+            self.may_take != Some(0) || self.write_fails
+        }
+    }
+
+    /// Whether in this turn all that is wanted of it is marked.
+    pub fn is_spurred(&self, turn: Option<usize>) -> bool
+        ensures { result ≡ is_spurred turn self.now.state }
+    {
+        is_same_turn(turn, self.spurred)
     }
 
     /// A poll was given this want, and left its marks.
     pub fn count_want(&mut self, want: &Want)
         ensures { self.new ≡ record self.old { state = wanted want.now self.old.state } }
     {
-        let tally = &mut self.tally;
-        tally.read_wants = tally.read_wants.saturating_add(u64::from(want.read));
-        tally.write_wants = tally.write_wants.saturating_add(u64::from(want.write));
-        tally.read_marks = tally.read_marks.saturating_add(u64::from(want.can_read));
-        tally.write_marks = tally.write_marks.saturating_add(u64::from(want.can_write));
+        self.tally.count_want(want);
     }
 
     pub fn accept(&mut self, connected: bool)
@@ -162,9 +139,18 @@ impl ScriptEnd {
         ensures answer { result ≡ conn_answer self.old.state }
         ensures after { self.new ≡ record self.old { state = after_check self.old.state } }
     {
-        self.tally.checks = self.tally.checks.saturating_add(1);
-        if self.tally.made_connected {
-            self.tally.connected = true;
+        let answer = self.conn_answer();
+        self.tally.count_check(answer);
+        self.tally.count_fault(matches!(answer, ConnAnswer::Failed));
+        answer
+    }
+
+    fn conn_answer(&self) -> ConnAnswer
+        ensures { result ≡ conn_answer self.now.state }
+    {
+        if self.wait {
+            decided_answer(self.decision)
+        } else if self.tally.made_connected {
             ConnAnswer::Connected
         } else {
             ConnAnswer::Pending
@@ -178,17 +164,24 @@ impl ScriptEnd {
         ensures rest { drop (length (got_bytes result into.new)) into.new ≡ drop (length (got_bytes result into.new)) into.old }
         ensures after { self.new ≡ record self.old { state = after_read self.old.state (length into.old) } }
     {
-        self.tally.reads = self.tally.reads.saturating_add(1);
-        self.tally.rooms = self.tally.rooms.saturating_add(into.len() as u64);
+        let answer = self.give(into);
+        self.tally.count_read(into.len(), answer);
+        self.tally.count_fault(matches!(answer, ReadAnswer::Failed));
+        answer
+    }
+
+    fn give(&mut self, into: &mut [u8]) -> ReadAnswer
+        requires { 0 < length into.old }
+        ensures answer { result ≡ read_answer self.old.state (length into.old) }
+        ensures bytes { got_bytes result into.new ≡ take (length into.old) self.old.state.pending }
+        ensures rest { drop (length (got_bytes result into.new)) into.new ≡ drop (length (got_bytes result into.new)) into.old }
+        ensures after { self.new ≡ record self.old { state = record self.old.state { given = self.old.state.given ++ take (length into.old) self.old.state.pending; pending = drop (length into.old) self.old.state.pending } } }
+    {
         let (came, _) = self.bytes.split_at(self.came);
         let (_, pending) = came.split_at(self.given);
         let count = pending.len().min(into.len());
         if count == 0 {
-            if self.eof {
-                self.tally.ended = true;
-                return ReadAnswer::Ended;
-            }
-            return ReadAnswer::NotYet;
+            return answer_of_none(self.read_fails, self.eof);
         }
         let (next, _) = pending.split_at(count);
         let (front, _) = into.split_at_mut(count);
@@ -210,13 +203,38 @@ impl ScriptEnd {
             return WriteAnswer::NoMemory;
         }
         self.may_take = self.may_take.map(|most| most - count as u64);
-        self.tally.writes = self.tally.writes.saturating_add(1);
-        self.tally.offers = self.tally.offers.saturating_add(from.len() as u64);
-        if count == 0 {
-            WriteAnswer::NotYet
-        } else {
+        let answer = if count > 0 {
             WriteAnswer::Took(count)
-        }
+        } else if self.write_fails {
+            WriteAnswer::Failed
+        } else {
+            WriteAnswer::NotYet
+        };
+        self.tally.count_write(from.len());
+        self.tally
+            .count_fault(matches!(answer, WriteAnswer::Failed));
+        answer
+    }
+
+    /// A read with this room was answered with a fault that is none of this end.
+    pub fn fail_read(&mut self, room: usize)
+        ensures { self.new ≡ record self.old { state = failed_read room self.old.state } }
+    {
+        self.tally.count_read(room, ReadAnswer::Failed);
+    }
+
+    /// A write that was offered so many bytes was answered with a fault that is none of this end.
+    pub fn fail_write(&mut self, offer: usize)
+        ensures { self.new ≡ record self.old { state = failed_write offer self.old.state } }
+    {
+        self.tally.count_write(offer);
+    }
+
+    /// A connect check was answered with a fault that is none of this end.
+    pub fn fail_check(&mut self)
+        ensures { self.new ≡ record self.old { state = failed_check self.old.state } }
+    {
+        self.tally.count_check(ConnAnswer::Failed);
     }
 
     pub fn close_write(&mut self)
@@ -238,5 +256,44 @@ fn allow(may_take: Option<u64>, more: Option<u64>) -> Option<u64>
     match (may_take, more) {
         (Some(count), Some(more)) => Some(count.saturating_add(more)),
         _ => None,
+    }
+}
+
+// The first decision stands.
+fn decide(decision: Option<bool>, connected: bool) -> Option<bool>
+    ensures { result ≡ decided decision connected }
+{
+    decision.or(Some(connected))
+}
+
+fn decided_answer(decision: Option<bool>) -> ConnAnswer
+    ensures { result ≡ decided_answer decision }
+{
+    match decision {
+        None => ConnAnswer::Pending,
+        Some(true) => ConnAnswer::Connected,
+        Some(false) => ConnAnswer::Failed,
+    }
+}
+
+fn is_same_turn(a: Option<usize>, b: Option<usize>) -> bool
+    ensures { result ≡ same_turn a b }
+{
+    match (a, b) {
+        (Some(a), Some(b)) => a == b,
+        _ => false,
+    }
+}
+
+// What a read is answered where no bytes are pending.
+fn answer_of_none(fails: bool, eof: bool) -> ReadAnswer
+    ensures { result ≡ (if fails then ReadAnswer.Failed else (if eof then ReadAnswer.Ended else ReadAnswer.NotYet)) }
+{
+    if fails {
+        ReadAnswer::Failed
+    } else if eof {
+        ReadAnswer::Ended
+    } else {
+        ReadAnswer::NotYet
     }
 }

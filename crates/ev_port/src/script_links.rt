@@ -1,9 +1,10 @@
 // The links of a script port with their ends, by the number of the side. What the script brings in is known from the
 // beginning, so that its lines take no memory.
-ghost use Rattle.std.specs.Prelude.{◌≡◌, ◌<◌, ◌==◌, ◌++◌, ◌∷◌, [], length, take, drop, map, not, OnOk, true, false};
+ghost use Rattle.std.specs.Prelude.{◌≡◌, ◌<◌, ◌==◌, ◌++◌, ◌∷◌, [], length, take, drop, map, not, OnOk, Option, None, true, false};
 ghost use Rattle.ev_port.specs.Ends.{got_bytes};
 ghost use Rattle.ev_port.specs.ScriptEnds.{after_read, after_check, after_close_write, after_close, accepted, wanted};
-ghost use Rattle.ev_port.specs.ScriptLinks.{at_end, links_of, can_read_at, can_write_at, marked, after_wants, accept_answer, accept_first, read_answer_at, pending_at, WroteAt, conn_answer_at};
+ghost use Rattle.ev_port.specs.ScriptLinks.{at_end, out_end, links_of, entered, can_read_at, can_write_at, is_spurred_at, marked, unmarked, after_wants, accept_answer, accept_first, read_answer_at, pending_at, WroteAt, conn_answer_at};
+ghost use Rattle.ev_port.specs.FailedCalls.{failed_read, failed_write, failed_check};
 ghost use Rattle.ev_port.specs.ScriptKept.{line_at, links_after_line, links_after_lines, with_links, with_bytes, with_all_bytes, TookWaiting};
 
 use crate::script_end::ScriptEnd;
@@ -14,7 +15,7 @@ use std::alloc::Global;
 use std::marker::Model;
 
 /// All links of the script. Of `waits`, which tells of each whether its line says wait, `opened` links were opened so
-/// far, and `accepted` of these were accepted.
+/// far, and `accepted` of these were accepted. `turn` is the place of the running turn, and `poll_fails` of it alone.
 ///
 /// Own.
 #[derive(Drop)]
@@ -23,6 +24,8 @@ pub(crate) struct ScriptLinks {
     opened: usize,
     accepted: usize,
     ends: Vec<ScriptEnd>,
+    turn: Option<usize>,
+    poll_fails: bool,
 }
 
 impl Model for ScriptLinks {
@@ -40,13 +43,15 @@ impl Model for ScriptLinks {
 impl ScriptLinks {
     /// No links. Takes no memory.
     pub fn new(alloc: Global) -> ScriptLinks
-        ensures { result ≡ record { state = record { waiting = []; ends = [] }; to_open = []; to_come = [] } }
+        ensures { result ≡ record { state = record { waiting = []; ends = []; turn = None; poll_fails = false }; to_open = []; to_come = [] } }
     {
         ScriptLinks {
             waits: Vec::new(alloc),
             opened: 0,
             accepted: 0,
             ends: Vec::new(alloc),
+            turn: None,
+            poll_fails: false,
         }
     }
 
@@ -93,7 +98,15 @@ impl ScriptLinks {
         Ok(())
     }
 
-    /// Lines are applied in their order.
+    /// Another turn runs, or none.
+    pub fn enter(&mut self, turn: Option<usize>)
+        ensures { self.new ≡ record self.old { state = entered turn self.old.state } }
+    {
+        self.turn = turn;
+        self.poll_fails = false;
+    }
+
+    /// Lines of the running turn are applied in their order.
     pub fn apply_all(&mut self, lines: &[TurnLine])
         ensures { self.new ≡ links_after_lines lines.now self.old }
     {
@@ -107,9 +120,14 @@ impl ScriptLinks {
     {
         match line {
             TurnLine::NewLink { .. } => self.open_next(),
+            TurnLine::PollFail => self.poll_fails = true,
+            TurnLine::Conn(link, _) => self.apply_at(out_end(*link), line),
             TurnLine::Pending(end, _) => self.apply_at(*end, line),
             TurnLine::Eof(end) => self.apply_at(*end, line),
+            TurnLine::ReadFail(end) => self.apply_at(*end, line),
             TurnLine::Take(end, _) => self.apply_at(*end, line),
+            TurnLine::WriteFail(end) => self.apply_at(*end, line),
+            TurnLine::Spur(end) => self.apply_at(*end, line),
         }
     }
 
@@ -124,7 +142,8 @@ impl ScriptLinks {
     {
         let number = end.number();
         if number < self.ends.len() {
-            self.ends[number].apply(line);
+            let turn = self.turn;
+            self.ends[number].apply(turn, line);
         }
     }
 
@@ -186,6 +205,36 @@ impl ScriptLinks {
         }
     }
 
+    /// A read of the end with this room was answered with a fault that is none of this port.
+    pub fn fail_read(&mut self, end: SideId, room: usize)
+        ensures { self.new ≡ record self.old { state = at_end end (failed_read room) self.old.state } }
+    {
+        let number = end.number();
+        if number < self.ends.len() {
+            self.ends[number].fail_read(room);
+        }
+    }
+
+    /// A write to the end that was offered so many bytes was answered with a fault that is none of this port.
+    pub fn fail_write(&mut self, end: SideId, offer: usize)
+        ensures { self.new ≡ record self.old { state = at_end end (failed_write offer) self.old.state } }
+    {
+        let number = end.number();
+        if number < self.ends.len() {
+            self.ends[number].fail_write(offer);
+        }
+    }
+
+    /// A connect check of the end was answered with a fault that is none of this port.
+    pub fn fail_check(&mut self, end: SideId)
+        ensures { self.new ≡ record self.old { state = at_end end failed_check self.old.state } }
+    {
+        let number = end.number();
+        if number < self.ends.len() {
+            self.ends[number].fail_check();
+        }
+    }
+
     fn accept_end(&mut self, end: SideId, connected: bool)
         ensures { self.new ≡ record self.old { state = at_end end (accepted connected) self.old.state } }
     {
@@ -235,17 +284,36 @@ impl ScriptLinks {
         }
     }
 
+    fn is_spurred(&self, end: SideId) -> bool
+        ensures { result ≡ is_spurred_at self.now.state end }
+    {
+        let number = end.number();
+        if number < self.ends.len() {
+            self.ends[number].is_spurred(self.turn)
+        } else {
+            false
+        }
+    }
+
     fn mark_want(&self, want: Want) -> Want
         ensures { result ≡ marked self.now.state want }
     {
+        let all = self.is_spurred(want.side);
         Want {
-            can_read: want.read && self.can_read(want.side),
-            can_write: want.write && self.can_write(want.side),
+            can_read: want.read && (self.can_read(want.side) || all),
+            can_write: want.write && (self.can_write(want.side) || all),
             ..want
         }
     }
 
-    /// Marks what is wanted and can be done.
+    /// Whether the poll fails in the running turn.
+    pub fn poll_fails(&self) -> bool
+        ensures { result ≡ self.now.state.poll_fails }
+    {
+        self.poll_fails
+    }
+
+    /// Marks what is wanted and can be done, or is to be marked in this turn.
     pub fn mark(&self, wants: &mut [Want])
         ensures { wants.new ≡ map (λ w. marked self.now.state w) wants.old }
     {
@@ -288,15 +356,38 @@ impl ScriptLinks {
                     },
                     true,
                 );
-                self.accept_end(
-                    SideId {
-                        link,
-                        side: Side::Out,
-                    },
-                    connected,
-                );
+                self.accept_end(out_end(link), connected);
                 Accepted::Link { connected }
             }
         }
+    }
+}
+
+/// The Out end of a link.
+fn out_end(link: u32) -> SideId
+    ensures { result ≡ out_end link }
+{
+    SideId {
+        link,
+        side: Side::Out,
+    }
+}
+
+/// Clears all marks.
+pub(crate) fn unmark(wants: &mut [Want])
+    ensures { wants.new ≡ map unmarked wants.old }
+{
+    for want in wants.iter_mut() {
+        *want = unmarked(*want);
+    }
+}
+
+fn unmarked(want: Want) -> Want
+    ensures { result ≡ unmarked want }
+{
+    Want {
+        can_read: false,
+        can_write: false,
+        ..want
     }
 }

@@ -1,6 +1,6 @@
 // A port that answers by a script. Each reading of the clock begins the script's next turn and applies its lines; every
-// other call is answered from what the lines so far left. It waits for nothing, meets no fault, and keeps all that it is
-// told and all that it took.
+// other call is answered from what the lines so far left. It waits for nothing, fails where the script says so, and keeps
+// all that it is told and all that it took.
 ghost use Rattle.std.specs.Prelude.{◌≡◌, ◌<◌, [], true, false, length, take, drop, map, IfOk};
 ghost use Rattle.ev_port.specs.Vouching.{LongerBy};
 ghost use Rattle.ev_port.specs.Waiting.{NothingWaits};
@@ -10,67 +10,19 @@ ghost use Rattle.ev_port.specs.Calls.{Ticked, ClockRead, is_failed_start, Starte
 ghost use Rattle.ev_port.specs.Polling.{is_failed_poll, opens_accepting, AllMarked, poll_events, poll_step, PolledWith};
 ghost use Rattle.ev_port.specs.Ends.{is_failed_conn, conn_step, conn_events, ReadWithin, is_failed_read, got_bytes, read_step, read_events, WriteWithin, is_failed_write, write_step, write_events, close_write_events, close_events, close_write_step, close_step};
 ghost use Rattle.ev_port.specs.ScriptEnds.{after_read, after_check, after_close_write, after_close};
-ghost use Rattle.ev_port.specs.ScriptLinks.{at_end, marked, accept_answer, read_answer_at, pending_at, WroteAt, conn_answer_at};
-ghost use Rattle.ev_port.specs.ScriptPort.{no_port_calls, new_port, next_turn, begin_turn, clock_answer, after_now, after_start, poll_accepts, poll_tally, after_poll, accept_tally, after_accept};
-ghost use Rattle.ev_port.specs.ScriptTold.{ends_told, port_told, no_faults};
+ghost use Rattle.ev_port.specs.FailedCalls.{failed_read, failed_write, failed_check};
+ghost use Rattle.ev_port.specs.ScriptLinks.{at_end, unmarked, accept_answer, read_answer_at, pending_at, WroteAt, conn_answer_at};
+ghost use Rattle.ev_port.specs.ScriptPort.{new_port, next_turn, begin_turn, clock_answer, after_now, after_start, poll_answer, poll_marks, after_poll, failed_poll, accept_tally, after_accept};
+ghost use Rattle.ev_port.specs.ScriptTold.{ends_told, port_told, script_faults};
 ghost use Rattle.ev_port.specs.ScriptVouched.{ScriptVouches};
 
-use crate::script_links::ScriptLinks;
+use crate::port_tally::PortTally;
+use crate::script_links::{ScriptLinks, unmark};
 use crate::{Accepted, Addr, Polled, Port, Started, Want};
 use ev_types::{ConnAnswer, NoMemory, ReadAnswer, SideId, WriteAnswer};
 use script_text::{Script, TurnLine};
 use std::alloc::Global;
 use std::marker::Model;
-
-/// What calls on the whole port were made. A number that reached the end of a u64 stays there.
-///
-/// Own.
-#[derive(Clone, Copy)]
-pub(crate) struct PortTally {
-    pub accept_polls: u64,
-    pub timeout: Option<u64>,
-    pub links: u64,
-    pub accepting: bool,
-    pub readings: u64,
-    pub reading: u64,
-    pub started: Option<(Addr, Addr)>,
-}
-
-impl PortTally {
-    fn new() -> PortTally
-        ensures { result ≡ no_port_calls }
-    {
-        PortTally {
-            accept_polls: 0,
-            timeout: None,
-            links: 0,
-            accepting: false,
-            readings: 0,
-            reading: 0,
-            started: None,
-        }
-    }
-
-    fn count_poll(&mut self, accept: bool, timeout: Option<u64>, answer: Polled)
-        ensures { self.new ≡ poll_tally accept timeout (opens_accepting answer) self.old }
-    {
-        self.accept_polls = self.accept_polls.saturating_add(u64::from(accept));
-        self.timeout = timeout;
-        self.accepting = match answer {
-            Polled::Ready { accept } => accept,
-            Polled::Failed => false,
-        };
-    }
-
-    fn count_accept(&mut self, answer: Accepted)
-        ensures { self.new ≡ accept_tally answer self.old }
-    {
-        match answer {
-            Accepted::Link { .. } => self.links = self.links.saturating_add(1),
-            Accepted::NotYet | Accepted::Failed | Accepted::NoMemory => self.accepting = false,
-        }
-    }
-}
 
 /// A port that answers by a script.
 ///
@@ -125,9 +77,67 @@ impl ScriptPort {
         if self.begun < self.turns.len() {
             let (moment, lines) = &self.turns[self.begun];
             self.clock = *moment;
+            self.links.enter(Some(self.begun));
             self.links.apply_all(lines);
             self.begun += 1;
+        } else {
+            self.links.enter(None);
         }
+    }
+
+    fn answer_poll(&mut self, wants: &mut [Want], accept: bool, timeout: Option<u64>) -> Polled
+        ensures answer { result ≡ poll_answer self.old accept }
+        ensures marks { wants.new ≡ poll_marks self.old.links wants.old }
+        ensures after { self.new ≡ after_poll self.old wants.new accept timeout (poll_answer self.old accept) }
+    {
+        if self.links.poll_fails() {
+            self.fail_poll(wants, accept, timeout);
+            self.tally.count_poll_fault();
+            return Polled::Failed;
+        }
+        let ready = accept & self.links.has_waiting();
+        self.links.mark(wants);
+        self.links.count_wants(wants);
+        self.tally.count_poll(accept, timeout, ready);
+        Polled::Ready { accept: ready }
+    }
+
+    /// A poll was answered with a fault that this port doesn't count. It marks nothing.
+    pub(crate) fn fail_poll(&mut self, wants: &mut [Want], accept: bool, timeout: Option<u64>)
+        ensures marks { wants.new ≡ map unmarked wants.old }
+        ensures after { self.new ≡ failed_poll self.old wants.new accept timeout }
+    {
+        unmark(wants);
+        self.links.count_wants(wants);
+        self.tally.count_poll(accept, timeout, false);
+    }
+
+    /// An accept was answered with a fault that is none of this port.
+    pub(crate) fn fail_accept(&mut self)
+        ensures { self.new ≡ record self.old { tally = accept_tally Accepted.Failed self.old.tally } }
+    {
+        self.tally.count_accept(Accepted::Failed);
+    }
+
+    /// A connect check of the end was answered with a fault that is none of this port.
+    pub(crate) fn fail_check(&mut self, end: SideId)
+        ensures { self.new ≡ record self.old { links = at_end end failed_check self.old.links } }
+    {
+        self.links.fail_check(end);
+    }
+
+    /// A read of the end with this room was answered with a fault that is none of this port.
+    pub(crate) fn fail_read(&mut self, end: SideId, room: usize)
+        ensures { self.new ≡ record self.old { links = at_end end (failed_read room) self.old.links } }
+    {
+        self.links.fail_read(end, room);
+    }
+
+    /// A write to the end that was offered so many bytes was answered with a fault that is none of this port.
+    pub(crate) fn fail_write(&mut self, end: SideId, offer: usize)
+        ensures { self.new ≡ record self.old { links = at_end end (failed_write offer) self.old.links } }
+    {
+        self.links.fail_write(end, offer);
     }
 }
 
@@ -137,7 +147,7 @@ impl Port for ScriptPort {
 
     ghost vouches = { ScriptVouches };
 
-    ghost faults = { λ _. no_faults };
+    ghost faults = { script_faults };
 
     ghost ends = { λ p. ends_told p.links };
 
@@ -149,7 +159,7 @@ impl Port for ScriptPort {
         ensures never_fails { is_failed_start result ≡ false }
 
         // What every port says.
-        ensures cause { ListenerFaults no_faults no_faults (is_failed_start result) }
+        ensures cause { ListenerFaults (script_faults self.old) (script_faults self.new) (is_failed_start result) }
         ensures ends { AllWent (ends_told self.old.links) (ends_told self.new.links) (λ _. no_step) }
         ensures told { StartedAt (port_told self.old) (port_told self.new) listen to }
         ensures vouched { LongerBy (ScriptVouches self.old) (ScriptVouches self.new) [] }
@@ -163,7 +173,7 @@ impl Port for ScriptPort {
         ensures after { self.new ≡ after_now self.old }
 
         // What every port says.
-        ensures cause { FaultsStay no_faults no_faults }
+        ensures cause { FaultsStay (script_faults self.old) (script_faults self.new) }
         ensures ends { AllWent (ends_told self.old.links) (ends_told self.new.links) (λ _. no_step) }
         ensures told { ClockRead (port_told self.old) (port_told self.new) result }
         ensures vouched { Ticked (ScriptVouches self.old) (ScriptVouches self.new) result }
@@ -175,27 +185,20 @@ impl Port for ScriptPort {
     }
 
     fn poll(&mut self, wants: &mut [Want], accept: bool, timeout: Option<u64>) -> Polled
-        ensures answer { result ≡ Polled.Ready (poll_accepts self.old accept) }
-        ensures marks { wants.new ≡ map (λ w. marked self.old.links w) wants.old }
-        ensures after { self.new ≡ after_poll self.old wants.new accept timeout }
-        ensures never_fails { is_failed_poll result ≡ false }
+        ensures answer { result ≡ poll_answer self.old accept }
+        ensures marks { wants.new ≡ poll_marks self.old.links wants.old }
+        ensures after { self.new ≡ after_poll self.old wants.new accept timeout (poll_answer self.old accept) }
 
         // What every port says.
         ensures marked { AllMarked wants.old wants.new }
         ensures asked { opens_accepting result ≡ true → accept ≡ true }
-        ensures cause { PollFaults no_faults no_faults (is_failed_poll result) }
+        ensures cause { PollFaults (script_faults self.old) (script_faults self.new) (is_failed_poll result) }
         ensures ends { AllWent (ends_told self.old.links) (ends_told self.new.links) (poll_step wants.new result) }
         ensures told { PolledWith (port_told self.old) (port_told self.new) accept timeout result }
         ensures vouched { LongerBy (ScriptVouches self.old) (ScriptVouches self.new) (poll_events timeout wants.new result) }
         ensures waiting { accept ≡ true → result ≡ Polled.Ready false → NothingWaits (ScriptVouches self.new) }
     {
-        let answer = Polled::Ready {
-            accept: accept & self.links.has_waiting(),
-        };
-        self.links.mark(wants);
-        self.links.count_wants(wants);
-        self.tally.count_poll(accept, timeout, answer);
-        answer
+        self.answer_poll(wants, accept, timeout)
     }
 
     fn accept(&mut self, link: u32) -> Accepted
@@ -204,7 +207,7 @@ impl Port for ScriptPort {
         ensures never_fails { is_failed_accept result ≡ false }
 
         // What every port says.
-        ensures cause { ListenerFaults no_faults no_faults (is_failed_accept result) }
+        ensures cause { ListenerFaults (script_faults self.old) (script_faults self.new) (is_failed_accept result) }
         ensures ends { AllWent (ends_told self.old.links) (ends_told self.new.links) (accept_step link result) }
         ensures told { AcceptedLink (port_told self.old) (port_told self.new) result }
         ensures vouched { LongerBy (ScriptVouches self.old) (ScriptVouches self.new) (accept_events link result) }
@@ -218,10 +221,9 @@ impl Port for ScriptPort {
     fn connect_state(&mut self, end: SideId) -> ConnAnswer
         ensures answer { result ≡ conn_answer_at self.old.links end }
         ensures after { self.new ≡ record self.old { links = at_end end after_check self.old.links } }
-        ensures never_fails { is_failed_conn result ≡ false }
 
         // What every port says.
-        ensures cause { EndFaults no_faults no_faults end (is_failed_conn result) }
+        ensures cause { EndFaults (script_faults self.old) (script_faults self.new) end (is_failed_conn result) }
         ensures ends { EndsWent (ends_told self.old.links) (ends_told self.new.links) end (conn_step result) }
         ensures told { PortStays (port_told self.old) (port_told self.new) }
         ensures vouched { LongerBy (ScriptVouches self.old) (ScriptVouches self.new) (conn_events end result) }
@@ -235,11 +237,10 @@ impl Port for ScriptPort {
         ensures bytes { got_bytes result into.new ≡ take (length into.old) (pending_at self.old.links end) }
         ensures rest { drop (length (got_bytes result into.new)) into.new ≡ drop (length (got_bytes result into.new)) into.old }
         ensures after { self.new ≡ record self.old { links = at_end end (λ s. after_read s (length into.old)) self.old.links } }
-        ensures never_fails { is_failed_read result ≡ false }
 
         // What every port says.
         ensures within { ReadWithin result (length into.new) }
-        ensures cause { EndFaults no_faults no_faults end (is_failed_read result) }
+        ensures cause { EndFaults (script_faults self.old) (script_faults self.new) end (is_failed_read result) }
         ensures ends { EndsWent (ends_told self.old.links) (ends_told self.new.links) end (read_step result into.new) }
         ensures told { PortStays (port_told self.old) (port_told self.new) }
         ensures vouched { LongerBy (ScriptVouches self.old) (ScriptVouches self.new) (read_events end into.new result) }
@@ -251,11 +252,10 @@ impl Port for ScriptPort {
         requires { 0 < length from.now }
         ensures wrote { WroteAt self.old.links self.new.links end from.now result }
         ensures after { self.new ≡ record self.old { links = self.new.links } }
-        ensures never_fails { is_failed_write result ≡ false }
 
         // What every port says.
         ensures within { WriteWithin result (length from.now) }
-        ensures cause { EndFaults no_faults no_faults end (is_failed_write result) }
+        ensures cause { EndFaults (script_faults self.old) (script_faults self.new) end (is_failed_write result) }
         ensures ends { EndsWent (ends_told self.old.links) (ends_told self.new.links) end (write_step result from.now) }
         ensures told { PortStays (port_told self.old) (port_told self.new) }
         ensures vouched { LongerBy (ScriptVouches self.old) (ScriptVouches self.new) (write_events end from.now result) }
@@ -267,7 +267,7 @@ impl Port for ScriptPort {
         ensures after { self.new ≡ record self.old { links = at_end end after_close_write self.old.links } }
 
         // What every port says.
-        ensures cause { FaultsStay no_faults no_faults }
+        ensures cause { FaultsStay (script_faults self.old) (script_faults self.new) }
         ensures ends { EndsWent (ends_told self.old.links) (ends_told self.new.links) end close_write_step }
         ensures told { PortStays (port_told self.old) (port_told self.new) }
         ensures vouched { LongerBy (ScriptVouches self.old) (ScriptVouches self.new) (close_write_events end) }
@@ -279,7 +279,7 @@ impl Port for ScriptPort {
         ensures after { self.new ≡ record self.old { links = at_end end after_close self.old.links } }
 
         // What every port says.
-        ensures cause { FaultsStay no_faults no_faults }
+        ensures cause { FaultsStay (script_faults self.old) (script_faults self.new) }
         ensures ends { EndsWent (ends_told self.old.links) (ends_told self.new.links) end close_step }
         ensures told { PortStays (port_told self.old) (port_told self.new) }
         ensures vouched { LongerBy (ScriptVouches self.old) (ScriptVouches self.new) (close_events end) }

@@ -1,4 +1,5 @@
 use Rattle.std.proofs.Common.{◌<◌, length, arith}
+use Rattle.ev_port.specs.ScriptLinks.{marked}
 use Rattle.ev_port.proofs.LinkLemmas.{marks_more}
 use Rattle.ev_port.proofs.script_links.ScriptLinks.mark.Goals as goal
 
@@ -6,4 +7,4 @@ pub loop-want-preserved : goal.loop-want-preserved
 loop-want-preserved c =
     let within : c.loop-want.want-index < length c.args.wants.now = omega arith in
     let also : c.loop-want.want-index < length c.loop-want.wants = omega arith in
-    marks_more c.args.self.now.state c.args.wants.now c.loop-want.wants c.loop-want.want-index _ c.mark_want.result within also c.loop-want.invariant c.mark_want.ensures
+    marks_more (λ w. marked c.args.self.now.state w) c.args.wants.now c.loop-want.wants c.loop-want.want-index _ c.mark_want.result within also c.loop-want.invariant c.mark_want.ensures

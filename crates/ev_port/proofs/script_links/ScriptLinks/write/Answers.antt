@@ -9,7 +9,7 @@ pub returns-then-number-len-clause-wrote : goal.returns-then-number-len-clause-w
 returns-then-number-len-clause-wrote c =
     let es = c.self.inside.ends.items in
     rw (← c.self.view_is)
-    (wrote_within _ es c.args.end c.number-number.result c.index_mut.result.now c.write.new.self c.args.from.now c.write.result c.number-number.ensures (omega arith) c.index_mut.ensures.value c.write.ensures)
+    (wrote_within _ _ _ es c.args.end c.number-number.result c.index_mut.result.now c.write.new.self c.args.from.now c.write.result c.number-number.ensures (omega arith) c.index_mut.ensures.value c.write.ensures)
 
 pub returns-then-number-len-clause-kept : goal.returns-then-number-len-clause-kept
 returns-then-number-len-clause-kept c =

@@ -6,6 +6,7 @@ use Rattle.ev_port.specs.ScriptPort.{after_accept}
 use Rattle.std.proofs.Common.{◌∙◌, ap, refl, sym}
 use Rattle.ev_port.specs.ScriptState.{LinksKept}
 use Rattle.ev_port.proofs.ScriptWaitingLemmas.{nothing_waits, none_to_accept}
+use Rattle.ev_port.proofs.FaultLemmas.{never_failed}
 use Rattle.ev_port.proofs.script_port.ScriptPortPort.accept.Goals as goal
 
 pub invariant_of-self : goal.invariant_of-self
@@ -31,3 +32,9 @@ returns-clause-waiting c = λ none.
     let l = c.self.inside.links.state in
     let empty = none_to_accept l.waiting (sym c.accept-answer.ensures.answer ∙ none) in
     nothing_waits _ (ap (λ (k : LinksKept). k.state.waiting) c.accept-answer.ensures.after ∙ ap (λ ws. (accept_first c.args.link ws l).waiting) empty ∙ empty)
+
+pub returns-clause-cause : goal.returns-clause-cause
+returns-clause-cause c =
+    let p = port_state c.self.inside in
+    let links = ap (λ (k : LinksKept). k.state) c.accept-answer.ensures.after in
+    rw (← c.self.view_is, links, c.count_accept.ensures, c.accept-answer.ensures.answer) (never_failed p.links.waiting p.links (accept_first c.args.link p.links.waiting p.links) p.tally c.args.link refl)

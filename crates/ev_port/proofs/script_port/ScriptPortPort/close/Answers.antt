@@ -5,6 +5,7 @@ use Rattle.ev_port.proofs.CallLemmas.{still_brings, length-at_end, close_went}
 use Rattle.ev_port.specs.ScriptPortView.{port_state}
 use Rattle.ev_port.proofs.ScriptVouchLemmas.{call_vouched, close_stood}
 use Rattle.std.proofs.Common.{refl}
+use Rattle.ev_port.proofs.FaultLemmas.{faults_stay, faults-at_end}
 use Rattle.ev_port.proofs.script_port.ScriptPortPort.close.Goals as goal
 
 pub invariant_of-self : goal.invariant_of-self
@@ -21,3 +22,8 @@ pub returns-clause-vouched : goal.returns-clause-vouched
 returns-clause-vouched c =
     let p = port_state c.self.inside in
     rw (← c.self.view_is) (call_vouched p _ (record p { links = at_end c.args.end after_close p.links }) _ _ (rw c.close.ensures) refl refl (close_stood p c.args.end))
+
+pub returns-clause-cause : goal.returns-clause-cause
+returns-clause-cause c =
+    let p = port_state c.self.inside in
+    rw (← c.self.view_is, c.close.ensures) (faults_stay p.links (at_end c.args.end after_close p.links) p.tally.poll_faults (faults-at_end p.links c.args.end after_close (λ s. refl)))

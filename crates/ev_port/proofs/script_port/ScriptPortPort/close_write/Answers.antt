@@ -5,6 +5,7 @@ use Rattle.ev_port.proofs.CallLemmas.{still_brings, length-at_end, close_write_w
 use Rattle.ev_port.specs.ScriptPortView.{port_state}
 use Rattle.ev_port.proofs.ScriptVouchLemmas.{call_vouched, close_write_stood}
 use Rattle.std.proofs.Common.{refl}
+use Rattle.ev_port.proofs.FaultLemmas.{faults_stay, faults-at_end}
 use Rattle.ev_port.proofs.script_port.ScriptPortPort.close_write.Goals as goal
 
 pub invariant_of-self : goal.invariant_of-self
@@ -21,3 +22,8 @@ pub returns-clause-vouched : goal.returns-clause-vouched
 returns-clause-vouched c =
     let p = port_state c.self.inside in
     rw (← c.self.view_is) (call_vouched p _ (record p { links = at_end c.args.end after_close_write p.links }) _ _ (rw c.close_write.ensures) refl refl (close_write_stood p c.args.end))
+
+pub returns-clause-cause : goal.returns-clause-cause
+returns-clause-cause c =
+    let p = port_state c.self.inside in
+    rw (← c.self.view_is, c.close_write.ensures) (faults_stay p.links (at_end c.args.end after_close_write p.links) p.tally.poll_faults (faults-at_end p.links c.args.end after_close_write (λ s. refl)))

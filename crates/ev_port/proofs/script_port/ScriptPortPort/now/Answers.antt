@@ -1,11 +1,12 @@
 use Rattle.std.proofs.Common.{ap, ◌∙◌}
 use Rattle.ev_port.specs.ScriptState.{PortState}
-use Rattle.ev_port.specs.ScriptPort.{next_turn}
+use Rattle.ev_port.specs.ScriptPort.{next_turn, begin_turn}
 use Rattle.ev_port.specs.ScriptTold.{ends_told}
 use Rattle.ev_port.proofs.ToldLemmas.{EndWent-none}
 use Rattle.ev_port.proofs.CallLemmas.{turn_untold}
 use Rattle.ev_port.specs.ScriptPortView.{port_state}
 use Rattle.ev_port.proofs.ScriptVouchLemmas.{reading_vouched}
+use Rattle.ev_port.proofs.FaultLemmas.{faults_stay, faults-turn, polls-turn}
 use Rattle.ev_port.proofs.script_port.ScriptPortPort.now.Goals as goal
 
 pub returns-clause-ends : goal.returns-clause-ends
@@ -18,3 +19,10 @@ returns-clause-ends c = λ e.
 pub returns-clause-vouched : goal.returns-clause-vouched
 returns-clause-vouched c =
     rw c.saturating_add-self-inside.ensures (reading_vouched c.args.self.now (port_state c.self.inside) (c.self.view_is ∙ c.begin_turn.ensures))
+
+pub returns-clause-cause : goal.returns-clause-cause
+returns-clause-cause c =
+    let p = c.args.self.now in
+    let links = ap (λ (q : PortState). q.links) (c.self.view_is ∙ c.begin_turn.ensures) in
+    let polls = ap (λ (q : PortState). q.tally.poll_faults) (c.self.view_is ∙ c.begin_turn.ensures) ∙ polls-turn (next_turn p) p in
+    rw (links, polls) (faults_stay p.links (begin_turn (next_turn p) p).links p.tally.poll_faults (faults-turn (next_turn p) p))

@@ -1,31 +1,31 @@
+use Rattle.std.proofs.Common.{ap, ◌∙◌, sym, refl}
+use Rattle.ev_port.specs.ScriptState.{PortState}
 use Rattle.ev_port.specs.ScriptLinks.{after_wants}
-use Rattle.ev_port.proofs.CallLemmas.{still_brings, length-after_wants, poll_ends}
-use Rattle.ev_port.specs.ScriptPortView.{port_state}
+use Rattle.ev_port.proofs.PollLemmas.{poll_went}
+use Rattle.ev_port.proofs.FaultLemmas.{poll_counted}
 use Rattle.ev_port.proofs.ScriptVouchLemmas.{call_vouched, poll_stood}
-use Rattle.std.proofs.Common.{◌&&◌, ◌∙◌, ap, refl}
-use Rattle.ev_port.specs.ScriptState.{LinksKept}
-use Rattle.ev_port.proofs.ScriptWaitingLemmas.{nothing_waits, none_to_open, waiting-wants}
+use Rattle.ev_port.proofs.ScriptWaitingLemmas.{nothing_waits, none_at_poll, waiting-wants}
 use Rattle.ev_port.proofs.script_port.ScriptPortPort.poll.Goals as goal
 
-pub invariant_of-self : goal.invariant_of-self
-invariant_of-self c =
-    let l = c.self.inside.links in
-    rw c.count_wants.ensures (still_brings _ l (after_wants c.mark.new.wants l.state) (length-after_wants c.mark.new.wants l.state) c.self.invariant)
+pub returns-clause-cause : goal.returns-clause-cause
+returns-clause-cause c =
+    poll_counted c.args.self.now _ c.answer_poll.new.wants c.args.accept c.args.timeout _ c.answer_poll.ensures.after c.answer_poll.ensures.answer
 
 pub returns-clause-ends : goal.returns-clause-ends
 returns-clause-ends c =
-    rw (← c.self.view_is, c.count_wants.ensures) (poll_ends c.mark.new.wants c.args.accept c.self.inside.links.state)
+    rw c.answer_poll.ensures.after
+    (poll_went c.args.self.now c.args.wants.now c.answer_poll.new.wants c.args.accept _ c.answer_poll.ensures.marks c.answer_poll.ensures.answer)
 
 pub returns-clause-vouched : goal.returns-clause-vouched
 returns-clause-vouched c =
-    let p = port_state c.self.inside in
-    let wants = c.mark.new.wants in
-    let tally = c.count_poll.new.self in
-    rw (← c.self.view_is)
-    (call_vouched p _ (record p { links = after_wants wants p.links; tally = tally }) _ _ (rw c.count_wants.ensures) refl refl (poll_stood p c.args.wants.now wants tally c.args.timeout (c.args.accept && c.has_waiting.result) c.mark.ensures))
+    let p = c.args.self.now in
+    let wants = c.answer_poll.new.wants in
+    call_vouched p _ (record p { links = after_wants wants p.links; tally = c.answer_poll.new.self.tally }) _ _
+    (c.answer_poll.ensures.after ∙ ap (λ t. record p { links = after_wants wants p.links; tally = t }) (sym (ap (λ (q : PortState). q.tally) c.answer_poll.ensures.after))) refl refl
+    (poll_stood p c.args.wants.now wants c.answer_poll.new.self.tally c.args.accept c.args.timeout _ c.answer_poll.ensures.marks c.answer_poll.ensures.answer)
 
 pub returns-clause-waiting : goal.returns-clause-waiting
 returns-clause-waiting c = λ asked none.
-    let l = c.self.inside.links.state in
-    let empty = none_to_open c.args.accept l.waiting asked (rw c.has_waiting.ensures at none) in
-    nothing_waits _ (ap (λ (k : LinksKept). k.state.waiting) c.count_wants.ensures ∙ waiting-wants c.mark.new.wants l ∙ empty)
+    let p = c.args.self.now in
+    let empty = none_at_poll p c.args.accept asked (sym c.answer_poll.ensures.answer ∙ none) in
+    nothing_waits _ (ap (λ (q : PortState). q.links.waiting) c.answer_poll.ensures.after ∙ waiting-wants c.answer_poll.new.wants p.links ∙ empty)

@@ -7,6 +7,7 @@ use Rattle.ev_port.proofs.ScriptVouchLemmas.{call_vouched, read_stood}
 use Rattle.std.proofs.Common.{[], ◌∷◌}
 use Rattle.ev_types.specs.declared.entry.Entry.TheVariants as entry
 use Rattle.std.proofs.Common.{refl}
+use Rattle.ev_port.proofs.FaultLemmas.{read_faults}
 use Rattle.ev_port.proofs.script_port.ScriptPortPort.read.Goals as goal
 
 pub invariant_of-self : goal.invariant_of-self
@@ -28,3 +29,8 @@ returns-clause-vouched c =
     rw (← c.self.view_is)
     (call_vouched p _ (record p { links = at_end c.args.end (λ s. after_read s room) p.links }) _ _ (rw c.read.ensures.after)
     (λ i. (entry.Read c.args.end (c.read.auto.into i) (c.read.ensures.answer i), c.read.ensures.bytes i) ∷ []) refl (read_stood p c.args.end room))
+
+pub returns-clause-cause : goal.returns-clause-cause
+returns-clause-cause c =
+    let p = port_state c.self.inside in
+    rw (← c.self.view_is, c.read.ensures.after) (read_faults p.links (at_end c.args.end (λ s. after_read s (length c.args.into.now)) p.links) p.tally.poll_faults c.args.end (length c.args.into.now) _ refl c.read.ensures.answer)

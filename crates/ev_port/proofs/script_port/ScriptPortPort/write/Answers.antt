@@ -2,6 +2,7 @@ use Rattle.ev_port.proofs.CallLemmas.{still_brings, length-wrote, wrote_ends}
 use Rattle.ev_port.specs.ScriptPortView.{port_state}
 use Rattle.ev_port.proofs.ScriptVouchLemmas.{call_vouched, write_stood}
 use Rattle.std.proofs.Common.{refl}
+use Rattle.ev_port.proofs.FaultLemmas.{write_faults}
 use Rattle.ev_port.proofs.script_port.ScriptPortPort.write.Goals as goal
 
 pub invariant_of-self : goal.invariant_of-self
@@ -20,3 +21,8 @@ returns-clause-vouched c =
     let p = port_state c.self.inside in
     rw (← c.self.view_is)
     (call_vouched p _ (record p { links = c.write.new.self.state }) _ _ refl refl refl (write_stood p c.write.new.self.state c.args.end c.args.from.now c.write.result c.write.ensures.wrote))
+
+pub returns-clause-cause : goal.returns-clause-cause
+returns-clause-cause c =
+    let p = port_state c.self.inside in
+    rw (← c.self.view_is) (write_faults p.links _ p.tally.poll_faults c.args.end c.args.from.now _ c.write.ensures.wrote)
