@@ -1,9 +1,8 @@
 -- What the calls of a script port tell of its ends.
-use Rattle.std.proofs.Common.{◌≡◌, ◌≢◌, ℕ, ◌+◌, ◌-◌, ◌^◌, ◌<◌, min, Bool, true, false, ◌&&◌, ◌||◌, not, nat_eq, cond, if◌then◌else◌, List, [], ◌∷◌, ◌++◌, length, take, drop, map, Option, Some, None, refl, sym, ap, subst, ◌∙◌, arith, append-nil, inl, inr}
-use Rattle.std.specs.Prelude.{slice_get, option_map, count_by}
+use Rattle.std.proofs.Common.{◌≡◌, ◌≢◌, ℕ, Bool, true, false, ◌&&◌, ◌||◌, not, List, [], ◌∷◌, ◌++◌, length, take, drop, Option, Some, None, refl, sym, ap, subst, ◌∙◌, arith, append-nil, inl, inr}
+use Rattle.std.specs.Prelude.{slice_get, option_map}
 use Rattle.std.specs.Option.{option_map_or}
 use Rattle.std.proofs.lemmas.Bool.{cases_Bool}
-use Rattle.std.proofs.lemmas.List.Sums.{sum_by-cons}
 use Rattle.std.proofs.lemmas.Bool.Decides.{eqb_tells}
 use Rattle.ev_types.specs.declared.side.Side.TheVariants.{In, Out}
 use Rattle.ev_types.specs.declared.side.SideId.{SideId}
@@ -17,19 +16,16 @@ use Rattle.ev_types.specs.declared.answer.WriteAnswer.TheVariants as write
 use Rattle.script_text.specs.declared.script.TurnLine.{TurnLine}
 use Rattle.script_text.specs.declared.script.TurnLine.TheVariants as line
 use Rattle.ev_port.specs.declared.port.Want.{Want}
-use Rattle.ev_port.specs.declared.port.Polled.TheVariants as polled
 use Rattle.ev_port.specs.Told.{EndStep, no_step, EndWent, EndsWent, AllWent}
 use Rattle.ev_port.specs.Calls.{accept_step}
-use Rattle.ev_port.specs.Polling.{poll_step}
 use Rattle.ev_port.specs.Ends.{conn_step, is_failed_conn, read_step, is_failed_read, is_ended, got_bytes, write_step, is_failed_write, took_bytes, close_write_step, close_step}
-use Rattle.ev_port.specs.Counting.{counted}
 use Rattle.ev_port.specs.ScriptState.{EndState, LinksState, LinksKept, PortState}
-use Rattle.ev_port.specs.EndTallies.{once, with_read, with_write, with_check, with_fault}
+use Rattle.ev_port.specs.EndTallies.{with_read, with_write, with_check, with_fault}
 use Rattle.ev_port.specs.ScriptEnds.{end_after_line, read_answer, after_read, taken_of, left_to_take, write_answer, after_write, conn_answer, after_check, accepted, after_close_write, after_close, wanted}
 use Rattle.ev_port.specs.FailedCalls.{failed_read, failed_write, failed_check}
-use Rattle.ev_port.specs.ScriptLinks.{changed, at_end, out_end, end_of, after_line, after_lines, entered, marked, unmarked, after_wants, accept_answer, accept_first, read_answer_at, pending_at, write_answer_at, WroteAt, conn_answer_at}
+use Rattle.ev_port.specs.ScriptLinks.{changed, at_end, out_end, end_of, after_line, after_lines, entered, after_wants, accept_answer, accept_first, read_answer_at, pending_at, write_answer_at, WroteAt, conn_answer_at}
 use Rattle.ev_port.specs.ScriptKept.{Brings}
-use Rattle.ev_port.specs.ScriptPort.{begin_turn, poll_accepts, poll_answer, poll_marks}
+use Rattle.ev_port.specs.ScriptPort.{begin_turn}
 use Rattle.ev_port.specs.ScriptTold.{told_of_end, nothing_told, ends_told}
 use Rattle.ev_port.proofs.ListLemmas.{length-changed, slice_get-changed_same, slice_get-changed_other}
 use Rattle.ev_port.proofs.ToldLemmas.{adds_none, raises_none, counts_none, counts_more, EndWent-none, same_end_tells, went_if, ends_step, kept_at_end}

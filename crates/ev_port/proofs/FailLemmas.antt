@@ -1,9 +1,9 @@
 -- Which calls of a port that fails at one call are counted as faults.
-use Rattle.std.proofs.Common.{◌≡◌, ◌≢◌, ℕ, ◌+◌, ◌-◌, ◌^◌, ◌≤◌, min, Bool, true, false, if◌then◌else◌, List, Option, refl, sym, ap, subst, ◌∙◌, arith, inl, inr}
-use Rattle.std.proofs.lemmas.Bool.{and_parts, cases_Bool}
+use Rattle.std.proofs.Common.{◌≡◌, ◌≢◌, ℕ, Bool, true, false, if◌then◌else◌, List, Option, refl, sym, ap, subst, arith, inl, inr}
+use Rattle.std.proofs.lemmas.Bool.{and_parts}
 use Rattle.stream_words.specs.Faults.{Counted}
 use Rattle.ev_types.specs.declared.side.SideId.{SideId}
-use Rattle.ev_types.specs.Sides.{number, same_end}
+use Rattle.ev_types.specs.Sides.{same_end}
 use Rattle.ev_port.specs.declared.port.Want.{Want}
 use Rattle.ev_port.specs.declared.fail_port.FailPlan.{FailPlan}
 use Rattle.ev_port.specs.declared.fail_port.FailPlan.TheVariants.{Left, AtPoll, AtAccept, AtEnd}
@@ -11,11 +11,11 @@ use Rattle.ev_port.specs.declared.fail_port.FailPort.{FailPort}
 use Rattle.ev_port.specs.declared.fail_port.PortCall.{PortCall}
 use Rattle.ev_port.specs.Faults.{EndFaults, PollFaults}
 use Rattle.ev_port.specs.Counting.{counted}
-use Rattle.ev_port.specs.ScriptState.{EndState, LinksState, PortState}
-use Rattle.ev_port.specs.ScriptLinks.{at_end, after_wants}
+use Rattle.ev_port.specs.ScriptState.{EndState, PortState}
+use Rattle.ev_port.specs.ScriptLinks.{at_end}
 use Rattle.ev_port.specs.ScriptPort.{failed_poll}
 use Rattle.ev_port.specs.ScriptTold.{script_faults}
-use Rattle.ev_port.specs.FailPort.{same_call, is_last, one_less, is_failing, after_call, end_failed, poll_failed, accept_failed, fail_faults}
+use Rattle.ev_port.specs.FailPort.{same_call, is_last, one_less, is_failing, after_call, end_failed, poll_failed, fail_faults}
 use Rattle.ev_port.proofs.ToldLemmas.{other_number, same_end_tells}
 use Rattle.ev_port.proofs.FaultLemmas.{faults_at, faults-at_end, faults-wants}
 use Rattle.ev_port.proofs.ScriptTraceLemmas.{same_self}

@@ -1,16 +1,15 @@
 -- Where lines and calls leave a script port in the running turn.
-use Rattle.std.proofs.Common.{◌≡◌, ℕ, ◌+◌, ◌<◌, Bool, true, false, ◌==◌, ◌||◌, List, [], ◌∷◌, ◌++◌, map, Option, Some, None, refl, sym, ap, subst, ◌∙◌, arith, append_assoc, append-nil, inl, inr}
+use Rattle.std.proofs.Common.{◌≡◌, ℕ, ◌+◌, ◌<◌, Bool, true, false, ◌||◌, List, [], ◌∷◌, ◌++◌, map, Option, Some, None, refl, sym, ap, subst, ◌∙◌, arith, append_assoc, append-nil, inl, inr}
 use Rattle.std.specs.List.{list_any}
 use Rattle.std.proofs.lemmas.Bool.Decides.{eqb_tells}
 use Rattle.ev_types.specs.declared.side.Side.TheVariants.{In}
 use Rattle.ev_types.specs.declared.side.SideId.{SideId}
-use Rattle.ev_types.specs.Sides.{same_end}
 use Rattle.script_text.specs.declared.script.TurnLine.{TurnLine}
 use Rattle.script_text.specs.declared.script.TurnLine.TheVariants as line
 use Rattle.relay_model.specs.Lines.{Line, marks_all, fails_poll}
 use Rattle.ev_port.specs.ScriptState.{EndState, LinksState}
 use Rattle.ev_port.specs.ScriptEnds.{end_after_line, same_turn, is_spurred, accepted}
-use Rattle.ev_port.specs.ScriptLinks.{end_of, at_end, out_end, after_line, after_lines, entered, accept_first}
+use Rattle.ev_port.specs.ScriptLinks.{at_end, out_end, after_line, after_lines, entered, accept_first}
 use Rattle.ev_port.specs.ScriptPlayed.{played_line}
 use Rattle.ev_port.specs.ScriptNow.{RunsTurn}
 use Rattle.ev_port.proofs.ScriptStandLemmas.{any-push, end_changed, from_some}

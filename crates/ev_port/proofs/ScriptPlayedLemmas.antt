@@ -14,7 +14,7 @@ use Rattle.ev_types.specs.Sides.{same_end}
 use Rattle.script_text.specs.declared.script.TurnLine.{TurnLine}
 use Rattle.script_text.specs.declared.script.TurnLine.TheVariants as line
 use Rattle.script_text.specs.Script.{TurnValue}
-use Rattle.relay_model.specs.Lines.{Line, links_by, decides, brings, ends, fails_reads, allows, allows_all, fails_writes, marks_all, fails_poll}
+use Rattle.relay_model.specs.Lines.{Line, links_by, decides, brings, ends, fails_reads, allows, allows_all, fails_writes, marks_all}
 use Rattle.relay_model.specs.Script.{ScriptTurn}
 use Rattle.ev_port.specs.ScriptLinks.{links_of}
 use Rattle.ev_port.specs.ScriptPort.{lines_of}

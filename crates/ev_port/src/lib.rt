@@ -1,6 +1,6 @@
 //! The outside of the relay: where text comes from and goes to, who keeps the trace, and the port that reaches
 //! the connections. Each is a trait with its meanings; beside each stand its implementations over memory, over a
-//! script and over the toolchain's streams. There is no socket here.
+//! script, with one call that fails, and over the toolchain's streams. There is no socket here.
 #![tactic(auto)]
 
 mod end_tally;

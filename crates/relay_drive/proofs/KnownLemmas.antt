@@ -13,7 +13,6 @@ use Rattle.relay_model.specs.Totals.{opened, opened_by, opened_in_turn, times}
 use Rattle.relay_model.specs.Tied.{PortTied, IsTied}
 use Rattle.relay_model.specs.Plays.{TookAll, AlwaysTookAll, is_behind_accepting, is_served}
 use Rattle.relay_model.proofs.TiedLemmas.{end_ties_join}
-use Rattle.relay_model.proofs.PlayedTurns.{counts, counts-all_served, took_as, always-append, always-accepting, always-served}
 use Rattle.ev_port.specs.declared.port.Accepted.TheVariants as accepted
 use Rattle.ev_port.specs.declared.port.Polled.{Polled}
 use Rattle.ev_port.specs.declared.port.Polled.TheVariants as polled
@@ -31,6 +30,7 @@ use Rattle.relay_meaning.specs.Meaning.{model_settings}
 use Rattle.relay_drive.specs.Known.{Question, Progress, port_tells, end_tells, IsTiedSince, Holds, TookNow, ClosedNow, known}
 use Rattle.relay_drive.proofs.CalmLemmas.{Calm, Still, calm_list, served_list, is_calm, opened-append, in_turn-append}
 use Rattle.relay_drive.proofs.TiedLemmas.{step_of, tied_of, rest_of, poll_all, poll_rest}
+use Rattle.relay_drive.proofs.TookLemmas.{counts_served, took_same, always-append, always-accepting, always-served}
 use Rattle.relay_drive.proofs.PortLemmas.{tells_still, tells_now, port_calm, port_polled, port_linked, port_closed, port_clocked, poll_split}
 
 -- Accepting that is closed
@@ -103,12 +103,12 @@ module _ (g : Settings) (v v' : List TurnValue → Trace → Type 0) (told new :
               let before = called_before turns t u called in
               always-append T g.links [] t u (k.0.1 before) (always-served T g.links t u served (k.1.0 before)),
         ),
-        (λ called. took_as T g.links t (t ++ u) (sym (counts-all_served t u served)) (k.1.0 (called_before turns t u called)), tt),
+        (λ called. took_same T g.links t (t ++ u) (counts_served t u served) (k.1.0 (called_before turns t u called)), tt),
       )
   known_served u served longer went stays (Question.Tied began ends_began) k =
-      let same = counts-all_served t u served in
-      let in_turn : opened_in_turn (t ++ u) ≡ opened_in_turn t = ap (λ c. c.in_turn) same in
-      let opens : opened (t ++ u) ≡ opened t = ap (λ c. c.opened) same in
+      let same = counts_served t u served in
+      let in_turn : opened_in_turn (t ++ u) ≡ opened_in_turn t = same.in_turn in
+      let opens : opened (t ++ u) ≡ opened t = same.opened in
       let calm = calm_list u (served_list u served) in (
         ends_on u began ends_began went k.0 (port_calm (model_settings g) (port_tells began) told new t k.0.port u calm stays),
         (

@@ -2,6 +2,7 @@ pub mod GoesLemmas
 pub mod HeardLemmas
 pub mod EndNames
 pub mod CalmLemmas
+pub mod TookLemmas
 pub mod TiedLemmas
 pub mod PortLemmas
 pub mod KnownLemmas

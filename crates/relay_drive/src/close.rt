@@ -92,8 +92,10 @@ fn close_step<P: Port, S: Scribe>(
 ) -> Result<(), DriveFault>
     requires { link_of step < run.old.relay.state.opened }
     ensures went { MatchResult result
-        (λ _. Goes (LooksAt step) false run.old run.new (S.trace scribe.old) (S.trace scribe.new) (known Progress.Accepted (P.vouches port.old) (P.told port.old) (P.ends port.old)) (known Progress.Accepted (P.vouches port.new) (P.told port.new) (P.ends port.new)) (P.faults port.old) (P.faults port.new))
-        (λ _. Goes Nothing false run.old run.new (S.trace scribe.old) (S.trace scribe.new) (known Progress.Accepted (P.vouches port.old) (P.told port.old) (P.ends port.old)) (known Progress.Accepted (P.vouches port.new) (P.told port.new) (P.ends port.new)) (P.faults port.old) (P.faults port.new)) }
+        (λ _. Goes (LooksAt step) false run.old run.new (S.trace scribe.old) (S.trace scribe.new)
+            (known Progress.Accepted (P.vouches port.old) (P.told port.old) (P.ends port.old)) (known Progress.Accepted (P.vouches port.new) (P.told port.new) (P.ends port.new)) (P.faults port.old) (P.faults port.new))
+        (λ _. Goes Nothing false run.old run.new (S.trace scribe.old) (S.trace scribe.new)
+            (known Progress.Accepted (P.vouches port.old) (P.told port.old) (P.ends port.old)) (known Progress.Accepted (P.vouches port.new) (P.told port.new) (P.ends port.new)) (P.faults port.old) (P.faults port.new)) }
     ensures kept { run.new.relay.state.opened ≡ run.old.relay.state.opened }
     ensures cause { MatchResult result (λ _. Unit {0}) (λ fault. fault ≡ Memory) }
 {
@@ -116,8 +118,10 @@ fn close_link<P: Port, S: Scribe>(
 ) -> Result<(), DriveFault>
     requires { link < run.old.relay.state.opened }
     ensures went { MatchResult result
-        (λ _. Goes (ClosesLink link) false run.old run.new (S.trace scribe.old) (S.trace scribe.new) (known Progress.Accepted (P.vouches port.old) (P.told port.old) (P.ends port.old)) (known Progress.Accepted (P.vouches port.new) (P.told port.new) (P.ends port.new)) (P.faults port.old) (P.faults port.new))
-        (λ _. Goes (CutClosingLink link) false run.old run.new (S.trace scribe.old) (S.trace scribe.new) (known Progress.Accepted (P.vouches port.old) (P.told port.old) (P.ends port.old)) (known Progress.Accepted (P.vouches port.new) (P.told port.new) (P.ends port.new)) (P.faults port.old) (P.faults port.new)) }
+        (λ _. Goes (ClosesLink link) false run.old run.new (S.trace scribe.old) (S.trace scribe.new)
+            (known Progress.Accepted (P.vouches port.old) (P.told port.old) (P.ends port.old)) (known Progress.Accepted (P.vouches port.new) (P.told port.new) (P.ends port.new)) (P.faults port.old) (P.faults port.new))
+        (λ _. Goes (CutClosingLink link) false run.old run.new (S.trace scribe.old) (S.trace scribe.new)
+            (known Progress.Accepted (P.vouches port.old) (P.told port.old) (P.ends port.old)) (known Progress.Accepted (P.vouches port.new) (P.told port.new) (P.ends port.new)) (P.faults port.old) (P.faults port.new)) }
     ensures kept { run.new.relay.state.opened ≡ run.old.relay.state.opened }
     ensures cause { MatchResult result (λ _. Unit {0}) (λ fault. fault ≡ Memory) }
 {
@@ -135,8 +139,10 @@ pub(crate) fn close<P: Port, S: Scribe>(
     scribe: &mut S,
 ) -> Result<(), DriveFault>
     ensures went { MatchResult result
-        (λ _. Goes (ForAllLinks ClosesLink) false run.old run.new (S.trace scribe.old) (S.trace scribe.new) (known Progress.Accepted (P.vouches port.old) (P.told port.old) (P.ends port.old)) (known Progress.Accepted (P.vouches port.new) (P.told port.new) (P.ends port.new)) (P.faults port.old) (P.faults port.new))
-        (λ _. Goes (CutForAllLinks ClosesLink CutClosingLink) false run.old run.new (S.trace scribe.old) (S.trace scribe.new) (known Progress.Accepted (P.vouches port.old) (P.told port.old) (P.ends port.old)) (known Progress.Accepted (P.vouches port.new) (P.told port.new) (P.ends port.new)) (P.faults port.old) (P.faults port.new)) }
+        (λ _. Goes (ForAllLinks ClosesLink) false run.old run.new (S.trace scribe.old) (S.trace scribe.new)
+            (known Progress.Accepted (P.vouches port.old) (P.told port.old) (P.ends port.old)) (known Progress.Accepted (P.vouches port.new) (P.told port.new) (P.ends port.new)) (P.faults port.old) (P.faults port.new))
+        (λ _. Goes (CutForAllLinks ClosesLink CutClosingLink) false run.old run.new (S.trace scribe.old) (S.trace scribe.new)
+            (known Progress.Accepted (P.vouches port.old) (P.told port.old) (P.ends port.old)) (known Progress.Accepted (P.vouches port.new) (P.told port.new) (P.ends port.new)) (P.faults port.old) (P.faults port.new)) }
     ensures cause { MatchResult result (λ _. Unit {0}) (λ fault. fault ≡ Memory) }
 {
     for link in 0..run.relay.opened() {

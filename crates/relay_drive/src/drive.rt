@@ -75,10 +75,13 @@ impl Drive {
         ensures spent { self.old.refusal ≡ None → is_worn self.old ≡ true → (result ≡ Err Spent) × (self.new.state ≡ self.old.state) × (port.new ≡ port.old) × (scribe.new ≡ scribe.old) }
 
         // Every other turn goes through its phases, or is cut off as its answer says. Whatever trace the relay stood for,
-        // it stands for that trace with the turn's entries: between two turns, or where such an answer may come.
+        // it stands for that trace with the turn's entries: between two turns, or where such an answer may come. So the
+        // port vouches for it, is tied to it, and every link that waited was accepted, as it was before.
         ensures went { self.old.refusal ≡ None → is_worn self.old ≡ false → MatchResult result
-            (λ _. Went Turns StandsBetween false self.old self.new (S.trace scribe.old) (S.trace scribe.new) (known Progress.Between (P.vouches port.old) (P.told port.old) (P.ends port.old)) (known Progress.Accepted (P.vouches port.new) (P.told port.new) (P.ends port.new)) (P.faults port.old) (P.faults port.new))
-            (λ fault. Went (CutTurn fault) (LeftFor (answer_of fault)) (is_open_fault fault) self.old self.new (S.trace scribe.old) (S.trace scribe.new) (known Progress.Between (P.vouches port.old) (P.told port.old) (P.ends port.old)) (known Progress.Accepting (P.vouches port.new) (P.told port.new) (P.ends port.new)) (P.faults port.old) (P.faults port.new)) }
+            (λ _. Went Turns StandsBetween false self.old self.new (S.trace scribe.old) (S.trace scribe.new)
+                (known Progress.Between (P.vouches port.old) (P.told port.old) (P.ends port.old)) (known Progress.Accepted (P.vouches port.new) (P.told port.new) (P.ends port.new)) (P.faults port.old) (P.faults port.new))
+            (λ fault. Went (CutTurn fault) (LeftFor (answer_of fault)) (is_open_fault fault) self.old self.new (S.trace scribe.old) (S.trace scribe.new)
+                (known Progress.Between (P.vouches port.old) (P.told port.old) (P.ends port.old)) (known Progress.Accepting (P.vouches port.new) (P.told port.new) (P.ends port.new)) (P.faults port.old) (P.faults port.new)) }
 
         ensures refusal { self.new.refusal ≡ refusal_of result }
     {

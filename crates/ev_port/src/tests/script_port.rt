@@ -139,8 +139,8 @@ fn port_of(alloc: Global, turns: Vec<Vec<TurnLine>>) -> Result<ScriptPort, Fail>
     Ok(ScriptPort::new(alloc, Script { turns: timed })?)
 }
 
-fn marks_of<const N: usize>(port: &mut ScriptPort, ends: [SideId; N]) -> [(bool, bool); N] {
-    let mut wants = ends.map(all_of);
+fn marks_of(port: &mut ScriptPort, first: SideId, second: SideId) -> [(bool, bool); 2] {
+    let mut wants = [all_of(first), all_of(second)];
     port.poll(&mut wants, false, None);
     wants.map(|w| (w.can_read, w.can_write))
 }
@@ -161,7 +161,7 @@ fn the_first_decision_of_a_link_stands(rt: HostRuntime) -> Result<(), Fail> {
         (ConnAnswer::Connected, ConnAnswer::Failed, [false, true]),
     ] {
         port.now();
-        let marked = marks_of(&mut port, [OUT_0, OUT_1]);
+        let marked = marks_of(&mut port, OUT_0, OUT_1);
         assert_eq!(rt; marked.map(|(_, write)| write), marks);
         assert_eq!(rt; port.connect_state(OUT_0), out_0);
         assert_eq!(rt; port.connect_state(OUT_1), out_1);
@@ -193,7 +193,7 @@ fn reads_and_writes_fail_behind_the_bytes(rt: HostRuntime) -> Result<(), Fail> {
         (ReadAnswer::Failed, WriteAnswer::Failed),
     ] {
         assert_eq!(rt;
-            marks_of(&mut port, [IN_0, OUT_0]),
+            marks_of(&mut port, IN_0, OUT_0),
             [(true, false), (false, true)]
         );
         assert_eq!(rt; port.read(IN_0, &mut [0; 8]), read);

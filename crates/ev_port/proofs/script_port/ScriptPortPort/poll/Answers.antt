@@ -1,4 +1,4 @@
-use Rattle.std.proofs.Common.{◌≡◌, [], ap, ◌∙◌, sym, refl}
+use Rattle.std.proofs.Common.{ap, ◌∙◌, sym, refl}
 use Rattle.ev_port.specs.ScriptState.{PortState}
 use Rattle.ev_port.specs.ScriptLinks.{after_wants}
 use Rattle.ev_port.proofs.PollLemmas.{poll_went}
