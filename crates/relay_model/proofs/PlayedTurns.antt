@@ -28,12 +28,12 @@ abbrev once : Bool → ℕ
 once b = if b then 1 else 0
 
 -- what is looked at of a trace, to know whether all was taken
-pub record Counts : Type 0 where
+record Counts : Type 0 where
   pub turns : ℕ
   pub opened : ℕ
   pub in_turn : ℕ
 
-abbrev pub counts : Trace → Counts
+abbrev counts : Trace → Counts
 counts t = record { turns = count_by is_turn t; opened = opened t; in_turn = opened_in_turn t }
 
 counts-served : (t : Trace) (x : Event) → is_served x ≡ true → counts (t ++ x ∷ []) ≡ counts t
@@ -46,7 +46,7 @@ counts-served t x h =
     let c : opened_in_turn (t ++ x ∷ []) ≡ opened_in_turn t = fold-append opened_by 0 t (x ∷ []) ∙ q.in_turn (opened_in_turn t) in
     λ i. record { turns = a i; opened = b i; in_turn = c i }
 
-pub counts-all_served : (t u : Trace) → list_all is_served u ≡ true → counts (t ++ u) ≡ counts t
+counts-all_served : (t u : Trace) → list_all is_served u ≡ true → counts (t ++ u) ≡ counts t
 counts-all_served t [] h = ap counts (append-nil t)
 counts-all_served t (x ∷ u) h =
     let parts = and_parts (is_served x) (list_all is_served u) h in
@@ -56,15 +56,15 @@ module _ (turns : List ScriptTurn) (links : ℕ) where
   abbrev Took : Counts → Type 0
   Took c = (drop c.opened (flat_map links_by (flat_map (λ turn. turn.1) (take c.turns turns))) ≡ []) ⊎ (c.in_turn ≡ 64) ⊎ (links ≤ c.opened)
 
-  pub took_as : (t u : Trace) → counts t ≡ counts u → TookAll turns links t → TookAll turns links u
+  took_as : (t u : Trace) → counts t ≡ counts u → TookAll turns links t → TookAll turns links u
   took_as t u same h = subst Took same h
 
-  pub always-append : (before t u : Trace) → AlwaysTookAll turns links before t → AlwaysTookAll turns links (before ++ t) u → AlwaysTookAll turns links before (t ++ u)
+  always-append : (before t u : Trace) → AlwaysTookAll turns links before t → AlwaysTookAll turns links (before ++ t) u → AlwaysTookAll turns links before (t ++ u)
   always-append before [] u h k = subst (λ z. AlwaysTookAll turns links z u) (append-nil before) k
   always-append before (x ∷ t) u h k =
       (h.0, always-append (before ++ x ∷ []) t u h.1 (subst (λ z. AlwaysTookAll turns links z u) (sym (append_assoc before (x ∷ []) t)) k))
 
-  pub always-accepting : (before t : Trace) → list_any is_behind_accepting t ≡ false → AlwaysTookAll turns links before t
+  always-accepting : (before t : Trace) → list_any is_behind_accepting t ≡ false → AlwaysTookAll turns links before t
   always-accepting before [] h = tt
   always-accepting before (x ∷ t) h = by_test (λ k. always-accepting (before ++ x ∷ []) t k) (is_behind_accepting x) refl
     where
@@ -79,7 +79,7 @@ module _ (turns : List ScriptTurn) (links : ℕ) where
   anyway true P p = p
   anyway false P p = tt
 
-  pub always-served : (before t : Trace) → list_all is_served t ≡ true → TookAll turns links before → AlwaysTookAll turns links before t
+  always-served : (before t : Trace) → list_all is_served t ≡ true → TookAll turns links before → AlwaysTookAll turns links before t
   always-served before [] h took = tt
   always-served before (x ∷ t) h took =
       let parts = and_parts (is_served x) (list_all is_served t) h in (
