@@ -6,4 +6,8 @@ pub mod LawLemmas
 pub mod LimitLemmas
 pub mod ShapeLemmas
 pub mod BesideLemmas
+pub mod SolidLemmas
+pub mod ValueReadLemmas
+pub mod ActReadLemmas
+pub mod EntryReadLemmas
 mod Examples

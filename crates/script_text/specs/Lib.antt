@@ -17,3 +17,4 @@ pub mod ActGrammar
 pub mod EntryGrammar
 pub mod TraceSpelled
 pub mod Laws
+pub mod TraceLaws

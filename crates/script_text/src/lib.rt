@@ -16,7 +16,10 @@ mod value_words;
 mod words;
 mod write;
 
-pub use laws::{lines_are_parted, numbers_are_decimal, phrase_has_its_words, refused_at_first_bad};
+pub use laws::{
+    lines_are_parted, numbers_are_decimal, phrase_has_its_words, refused_at_first_bad,
+    written_is_read,
+};
 pub use read::read_script;
 pub use script::{ByteList, LinkLine, Script, ScriptFault, TurnLine};
 pub use trace::read_trace;
