@@ -1,9 +1,9 @@
 -- The definitions at a few worked values, so that a wrong rule in them does not check.
-use Rattle.std.proofs.Common.{◌≡◌, ℕ, List, [], ◌∷◌, ◌++◌, false, refl, None, Some, Ok, Err, codes}
+use Rattle.std.proofs.Common.{◌≡◌, ℕ, List, [], ◌∷◌, ◌++◌, true, false, refl, None, Some, Ok, Err, codes}
 use Rattle.hex.specs.Hex.{decode_pairs}
 use Rattle.ev_types.specs.declared.side.Side.TheVariants.{In, Out}
 use Rattle.ev_types.specs.declared.side.SideId.{SideId}
-use Rattle.script_text.specs.declared.script.TurnLine.TheVariants.{NewLink, Pending, Eof, Take}
+use Rattle.script_text.specs.declared.script.TurnLine.TheVariants.{NewLink, Conn, Pending, Eof, ReadFail, Take, WriteFail, Spur, PollFail}
 use Rattle.script_text.specs.Pieces.{lines, words}
 use Rattle.script_text.specs.Numbers.{number_within}
 use Rattle.script_text.specs.Spelled.{script_of}
@@ -25,14 +25,21 @@ known_pieces = (refl, refl, refl, refl)
 pub known_numbers : (number_within 9 (codes "0") ≡ Some 0) × (number_within 99 (codes "90") ≡ Some 90) × (number_within 89 (codes "90") ≡ None) × (number_within 99 (codes "09") ≡ None) × (number_within 99 (codes "+9") ≡ None) × (number_within 99 [] ≡ None)
 known_numbers = (refl, refl, refl, refl, refl, refl)
 
-pub known_script : script_of (text (codes "at 5" ∷ codes "open" ∷ codes "w 0 out all" ∷ codes "r 0 in 61fF" ∷ codes "at 3" ∷ codes "eof 0 in" ∷ []))
+pub known_script : script_of (text (codes "# two turns" ∷ codes "at 5" ∷ codes "open" ∷ codes "w 0 out all" ∷ [] ∷ codes "r 0 in 61fF" ∷ codes "at 3" ∷ codes "eof 0 in" ∷ []))
     ≡ Ok (record { turns = (5, NewLink false ∷ Take out_end None ∷ Pending in_end (97 ∷ 255 ∷ []) ∷ []) ∷ (3, Eof in_end ∷ []) ∷ [] })
 unfolding decode_pairs
 known_script = refl
 
--- a line before any turn, an empty line, a second link, bytes of an end that was ended
-pub known_bad : (script_of (text (codes "open" ∷ [])) ≡ Err 1) × (script_of (text (codes "at 5" ∷ [] ∷ codes "x" ∷ [])) ≡ Err 2)
-    × (script_of (text (codes "at 5" ∷ codes "open" ∷ codes "open" ∷ [])) ≡ Err 3)
+pub known_faults : script_of (text (codes "at 0" ∷ codes "open wait" ∷ codes "conn 0 fail" ∷ codes "conn 0 ok" ∷ codes "rfail 0 out" ∷ codes "w 0 in 7" ∷ codes "wfail 0 in" ∷ codes "spur 0 out" ∷ codes "pollfail" ∷ []))
+    ≡ Ok (record { turns = (0, NewLink true ∷ Conn 0 false ∷ Conn 0 true ∷ ReadFail out_end ∷ Take in_end (Some 7) ∷ WriteFail in_end ∷ Spur out_end ∷ PollFail ∷ []) ∷ [] })
+known_faults = refl
+
+-- a line before any turn; a word that is none, behind a skipped line; a link that was not opened; a decision of a link
+-- that is none to decide; bytes of an end that was ended, and of one whose reads fail
+pub known_bad : (script_of (text (codes "open" ∷ [])) ≡ Err 1) × (script_of (text (codes "at 5" ∷ [] ∷ codes "x" ∷ [])) ≡ Err 3)
+    × (script_of (text (codes "at 5" ∷ codes "open" ∷ codes "spur 1 in" ∷ [])) ≡ Err 3)
+    × (script_of (text (codes "at 5" ∷ codes "open wait" ∷ codes "open" ∷ codes "conn 1 ok" ∷ [])) ≡ Err 4)
     × (script_of (text (codes "at 5" ∷ codes "open" ∷ codes "eof 0 in" ∷ codes "r 0 in 61" ∷ [])) ≡ Err 4)
+    × (script_of (text (codes "at 5" ∷ codes "open" ∷ codes "rfail 0 out" ∷ codes "r 0 in 61" ∷ codes "r 0 out 61" ∷ [])) ≡ Err 5)
 unfolding decode_pairs
-known_bad = (refl, refl, refl, refl)
+known_bad = (refl, refl, refl, refl, refl, refl)

@@ -1,13 +1,14 @@
 -- What a line says, by cases on its words. Which lines may stand behind which stands elsewhere.
-use Rattle.std.specs.Prelude.{ℕ, ◌^◌, ◌-◌, List, [], ◌∷◌, codes, false, if◌then◌else◌, Option, Some, None, option_map, option_and_then}
+use Rattle.std.specs.Prelude.{ℕ, ◌^◌, ◌-◌, List, [], ◌∷◌, ◌==◌, codes, Bool, true, false, if◌then◌else◌, Option, Some, None, option_map, option_and_then}
 use Rattle.std.specs.Str.{bytes_eq}
 use Rattle.ev_types.specs.declared.side.Side.{Side}
 use Rattle.ev_types.specs.declared.side.Side.TheVariants.{In, Out}
 use Rattle.ev_types.specs.declared.side.SideId.{SideId}
 use Rattle.script_text.specs.Numbers.{number_within, bytes_of}
+use Rattle.script_text.specs.declared.script.TurnLine.{TurnLine}
 use Rattle.script_text.specs.declared.script.TurnLine.TheVariants as turn
 use Rattle.script_text.specs.declared.line.Keyword.{Keyword}
-use Rattle.script_text.specs.declared.line.Keyword.TheVariants.{At, Open, Pending, Eof, Take}
+use Rattle.script_text.specs.declared.line.Keyword.TheVariants.{At, Open, Conn, Pending, Eof, ReadFail, Take, WriteFail, Spur, PollFail}
 use Rattle.script_text.specs.declared.line.Line.{Line}
 use Rattle.script_text.specs.declared.line.Line.TheVariants as line
 
@@ -16,30 +17,62 @@ abbrev pub keyword_of : List ℕ → Option Keyword
 keyword_of word =
     if bytes_eq word (codes "at") then Some At
     else (if bytes_eq word (codes "open") then Some Open
+    else (if bytes_eq word (codes "conn") then Some Conn
     else (if bytes_eq word (codes "r") then Some Pending
     else (if bytes_eq word (codes "eof") then Some Eof
+    else (if bytes_eq word (codes "rfail") then Some ReadFail
     else (if bytes_eq word (codes "w") then Some Take
-    else None))))
+    else (if bytes_eq word (codes "wfail") then Some WriteFail
+    else (if bytes_eq word (codes "spur") then Some Spur
+    else (if bytes_eq word (codes "pollfail") then Some PollFail
+    else None)))))))))
 
 abbrev pub side_of : List ℕ → Option Side
 side_of word = if bytes_eq word (codes "in") then Some In else (if bytes_eq word (codes "out") then Some Out else None)
 
+abbrev pub link_of : List ℕ → Option ℕ
+link_of word = number_within (2 ^ 32 - 1) word
+
 -- the end that a link number and a side name
 abbrev pub end_of : List ℕ → List ℕ → Option SideId
-end_of link side = option_and_then (λ s. option_map (λ l. record { link = l; side = s }) (number_within (2 ^ 32 - 1) link)) (side_of side)
+end_of link side = option_and_then (λ s. option_map (λ l. record { link = l; side = s }) (link_of link)) (side_of side)
+
+-- whether a connection is made
+abbrev pub made_of : List ℕ → Option Bool
+made_of word = if bytes_eq word (codes "ok") then Some true else (if bytes_eq word (codes "fail") then Some false else None)
+
+-- how many bytes more may be taken: any number, or so many, at most 2^40
+abbrev pub more_of : List ℕ → Option (Option ℕ)
+more_of word = if bytes_eq word (codes "all") then Some None else option_map (λ n. Some n) (number_within (2 ^ 40) word)
+
+-- what a line says of the end that two words name
+abbrev pub of_end : (SideId → TurnLine) → List ℕ → List ℕ → Option Line
+of_end what link side = option_map (λ e. line.Within (what e)) (end_of link side)
 
 -- What a line of a kind says by its further words. A moment is at most 2^40 ms.
 abbrev pub said_by : Keyword → List (List ℕ) → Option Line
 said_by At (ms ∷ []) = option_map (λ n. line.At n) (number_within (2 ^ 40) ms)
 said_by Open [] = Some (line.Within (turn.NewLink false))
+said_by Open (word ∷ []) = if bytes_eq word (codes "wait") then Some (line.Within (turn.NewLink true)) else None
+said_by Conn (link ∷ word ∷ []) =
+    option_and_then (λ made. option_map (λ l. line.Within (turn.Conn l made)) (link_of link)) (made_of word)
 said_by Pending (link ∷ side ∷ digits ∷ []) =
     option_and_then (λ e. option_map (λ bytes. line.Within (turn.Pending e bytes)) (bytes_of digits)) (end_of link side)
-said_by Eof (link ∷ side ∷ []) = option_map (λ e. line.Within (turn.Eof e)) (end_of link side)
-said_by Take (link ∷ side ∷ count ∷ []) =
-    if bytes_eq count (codes "all") then option_map (λ e. line.Within (turn.Take e None)) (end_of link side) else None
+said_by Eof (link ∷ side ∷ []) = of_end (λ e. turn.Eof e) link side
+said_by ReadFail (link ∷ side ∷ []) = of_end (λ e. turn.ReadFail e) link side
+said_by Take (link ∷ side ∷ count ∷ []) = option_and_then (λ more. of_end (λ e. turn.Take e more) link side) (more_of count)
+said_by WriteFail (link ∷ side ∷ []) = of_end (λ e. turn.WriteFail e) link side
+said_by Spur (link ∷ side ∷ []) = of_end (λ e. turn.Spur e) link side
+said_by PollFail [] = Some (line.Within turn.PollFail)
 said_by _ _ = None
 
--- what a line says, by all its words
+-- a word that begins a comment
+abbrev pub is_comment : List ℕ → Bool
+is_comment [] = false
+is_comment (b ∷ bs) = b == 35
+
+-- What a line says, by all its words. A line without words and a comment are skipped.
 abbrev pub said : List (List ℕ) → Option Line
-said [] = None
-said (first ∷ more) = option_and_then (λ keyword. said_by keyword more) (keyword_of first)
+said [] = Some line.Skipped
+said (first ∷ more) =
+    if is_comment first then Some line.Skipped else option_and_then (λ keyword. said_by keyword more) (keyword_of first)

@@ -2,7 +2,7 @@
 use Rattle.std.specs.Prelude.{◌≡◌, ℕ, ◌+◌, ◌-◌, ◌*◌, ◌^◌, min, List, [], ◌∷◌, ◌++◌, length, true, false, slice_index_or, slice_set}
 use Rattle.ev_types.specs.Sides.{number}
 use Rattle.script_text.specs.declared.script.TurnLine.{TurnLine}
-use Rattle.script_text.specs.declared.script.TurnLine.TheVariants.{NewLink, Pending, Eof, Take}
+use Rattle.script_text.specs.declared.script.TurnLine.TheVariants.{NewLink, Pending, Eof, ReadFail}
 use Rattle.script_text.specs.declared.tally.EndSoFar.{EndSoFar}
 use Rattle.script_text.specs.Order.{opened, bytes_for, is_ended}
 
@@ -21,13 +21,17 @@ pub record IsTally (ends : List EndSoFar) (before : List TurnLine) : Type 0 wher
   pub bytes : (end : ℕ) → (kept_of ends end).bytes ≡ bytes_for end before
   pub ended : (end : ℕ) → (kept_of ends end).ended ≡ is_ended end before
 
--- What is kept with a line more: both ends of a new link, the bytes that came, that an end ended. A count of bytes
--- stays at 2^64 - 1.
+-- what is kept once the bytes of the end with this number are ended or failed
+abbrev pub closed : List EndSoFar → ℕ → List EndSoFar
+closed ends end = slice_set ends end (record { bytes = (kept_of ends end).bytes; ended = true })
+
+-- What is kept with a line more: both ends of a new link, the bytes that came, that an end's bytes were ended or
+-- failed. A count of bytes stays at 2^64 - 1.
 abbrev pub counted : List EndSoFar → TurnLine → List EndSoFar
 counted ends (NewLink wait) = ends ++ untouched ∷ untouched ∷ []
 counted ends (Pending side bytes) =
     let end = kept_of ends (number side) in
     slice_set ends (number side) (record { bytes = min (end.bytes + length bytes) (2 ^ 64 - 1); ended = end.ended })
-counted ends (Eof side) =
-    let end = kept_of ends (number side) in slice_set ends (number side) (record { bytes = end.bytes; ended = true })
-counted ends (Take side count) = ends
+counted ends (Eof side) = closed ends (number side)
+counted ends (ReadFail side) = closed ends (number side)
+counted ends _ = ends

@@ -1,18 +1,18 @@
 // What one line says, whatever stands before it. Whether it may stand there is left to the reader of a script.
 ghost use Rattle.std.specs.Prelude.{◌≡◌, ◌∷◌, [], IfOk, map};
-ghost use Rattle.std.specs.Str.{bytes_eq};
-ghost use Rattle.script_text.specs.Grammar.{keyword_of, side_of, end_of, said, said_by};
+ghost use Rattle.script_text.specs.Grammar.{keyword_of, made_of, more_of, is_comment, said, said_by};
 
+use crate::value_words::{is_word, read_end, read_link};
 use crate::words::{hex_bytes, number};
 use crate::{ByteList, TurnLine};
-use ev_types::{NoMemory, Side, SideId};
+use ev_types::NoMemory;
 use std::alloc::Global;
 
 /// The last moment of a script, in milliseconds.
 const MAX_MS: u64 = 1 << 40;
 
-/// The greatest number that a link can have.
-const MAX_LINK: u64 = u32::MAX as u64;
+/// The most bytes that one line lets an end take, where it gives a number.
+const MAX_TAKE: u64 = 1 << 40;
 
 /// The kind of a line, which its first word tells.
 ///
@@ -21,9 +21,14 @@ const MAX_LINK: u64 = u32::MAX as u64;
 pub enum Keyword {
     At,
     Open,
+    Conn,
     Pending,
     Eof,
+    ReadFail,
     Take,
+    WriteFail,
+    Spur,
+    PollFail,
 }
 
 /// What a line says.
@@ -35,12 +40,8 @@ pub enum Line {
     At(u64),
     /// A line of the turn that began last.
     Within(TurnLine),
-}
-
-fn is_word(word: &[u8], text: &str) -> bool
-    ensures { result ≡ bytes_eq word.now text.now }
-{
-    word == text.as_bytes()
+    /// A line that says nothing: it is empty or a comment.
+    Skipped,
 }
 
 fn read_keyword(word: &[u8]) -> Option<Keyword>
@@ -50,35 +51,53 @@ fn read_keyword(word: &[u8]) -> Option<Keyword>
         Some(Keyword::At)
     } else if is_word(word, "open") {
         Some(Keyword::Open)
+    } else if is_word(word, "conn") {
+        Some(Keyword::Conn)
     } else if is_word(word, "r") {
         Some(Keyword::Pending)
     } else if is_word(word, "eof") {
         Some(Keyword::Eof)
+    } else if is_word(word, "rfail") {
+        Some(Keyword::ReadFail)
     } else if is_word(word, "w") {
         Some(Keyword::Take)
+    } else if is_word(word, "wfail") {
+        Some(Keyword::WriteFail)
+    } else if is_word(word, "spur") {
+        Some(Keyword::Spur)
+    } else if is_word(word, "pollfail") {
+        Some(Keyword::PollFail)
     } else {
         None
     }
 }
 
-fn read_side(word: &[u8]) -> Option<Side>
-    ensures { result ≡ side_of word.now }
+fn read_made(word: &[u8]) -> Option<bool>
+    ensures { result ≡ made_of word.now }
 {
-    if is_word(word, "in") {
-        Some(Side::In)
-    } else if is_word(word, "out") {
-        Some(Side::Out)
+    if is_word(word, "ok") {
+        Some(true)
+    } else if is_word(word, "fail") {
+        Some(false)
     } else {
         None
     }
 }
 
-fn read_end(link: &[u8], side_word: &[u8]) -> Option<SideId>
-    ensures { result ≡ end_of link.now side_word.now }
+fn read_more(word: &[u8]) -> Option<Option<u64>>
+    ensures { result ≡ more_of word.now }
 {
-    let side = read_side(side_word)?;
-    let link = number(link, MAX_LINK)? as u32;
-    Some(SideId { link, side })
+    if is_word(word, "all") {
+        Some(None)
+    } else {
+        Some(Some(number(word, MAX_TAKE)?))
+    }
+}
+
+fn is_comment_word(word: &[u8]) -> bool
+    ensures { result ≡ is_comment word.now }
+{
+    matches!(word, [b'#', ..])
 }
 
 /// What a line with these words says. Takes memory for the bytes of an `r` line alone.
@@ -86,8 +105,11 @@ pub fn line_of(alloc: Global, words: &[&[u8]]) -> Result<Option<Line>, NoMemory>
     ensures { IfOk result (λ line. line ≡ said (map (λ w. w.now) words.now)) }
 {
     let Some((first, more)) = words.split_first() else {
-        return Ok(None);
+        return Ok(Some(Line::Skipped));
     };
+    if is_comment_word(first) {
+        return Ok(Some(Line::Skipped));
+    }
     match read_keyword(first) {
         Some(keyword) => line_by(alloc, keyword, more),
         None => Ok(None),
@@ -98,25 +120,55 @@ pub fn line_of(alloc: Global, words: &[&[u8]]) -> Result<Option<Line>, NoMemory>
 fn line_by(alloc: Global, keyword: Keyword, more: &[&[u8]]) -> Result<Option<Line>, NoMemory>
     ensures { IfOk result (λ line. line ≡ said_by keyword (map (λ w. w.now) more.now)) }
 {
-    match (keyword, more) {
-        (Keyword::At, [ms]) => Ok(number(ms, MAX_MS).map(Line::At)),
-        (Keyword::Open, []) => Ok(Some(Line::Within(TurnLine::NewLink { wait: false }))),
-        (Keyword::Pending, [link, side, digits]) => pending_line(alloc, link, side, digits),
-        (Keyword::Eof, [link, side]) => Ok(eof_line(link, side)),
-        (Keyword::Take, [link, side, count]) => Ok(take_line(link, side, count)),
-        _ => Ok(None),
+    match keyword {
+        Keyword::At => Ok(at_line(more)),
+        Keyword::Open => Ok(open_line(more)),
+        Keyword::Conn => Ok(conn_line(more)),
+        Keyword::Pending => pending_line(alloc, more),
+        Keyword::Eof => Ok(eof_line(more)),
+        Keyword::ReadFail => Ok(read_fail_line(more)),
+        Keyword::Take => Ok(take_line(more)),
+        Keyword::WriteFail => Ok(write_fail_line(more)),
+        Keyword::Spur => Ok(spur_line(more)),
+        Keyword::PollFail => Ok(poll_fail_line(more)),
     }
 }
 
-fn pending_line(
-    alloc: Global,
-    link: &[u8],
-    side: &[u8],
-    digits: &[u8],
-) -> Result<Option<Line>, NoMemory>
-    ensures { IfOk result (λ line. line
-        ≡ said_by Keyword.Pending (link.now ∷ side.now ∷ digits.now ∷ [])) }
+fn at_line(more: &[&[u8]]) -> Option<Line>
+    ensures { result ≡ said_by Keyword.At (map (λ w. w.now) more.now) }
 {
+    match more {
+        [ms] => number(ms, MAX_MS).map(Line::At),
+        _ => None,
+    }
+}
+
+fn open_line(more: &[&[u8]]) -> Option<Line>
+    ensures { result ≡ said_by Keyword.Open (map (λ w. w.now) more.now) }
+{
+    match more {
+        [] => Some(Line::Within(TurnLine::NewLink { wait: false })),
+        [word] if is_word(word, "wait") => Some(Line::Within(TurnLine::NewLink { wait: true })),
+        _ => None,
+    }
+}
+
+fn conn_line(more: &[&[u8]]) -> Option<Line>
+    ensures { result ≡ said_by Keyword.Conn (map (λ w. w.now) more.now) }
+{
+    let [link, word] = more else {
+        return None;
+    };
+    let made = read_made(word)?;
+    Some(Line::Within(TurnLine::Conn(read_link(link)?, made)))
+}
+
+fn pending_line(alloc: Global, more: &[&[u8]]) -> Result<Option<Line>, NoMemory>
+    ensures { IfOk result (λ line. line ≡ said_by Keyword.Pending (map (λ w. w.now) more.now)) }
+{
+    let [link, side, digits] = more else {
+        return Ok(None);
+    };
     let Some(end) = read_end(link, side) else {
         return Ok(None);
     };
@@ -126,17 +178,54 @@ fn pending_line(
     Ok(Some(Line::Within(TurnLine::Pending(end, ByteList { bytes }))))
 }
 
-fn eof_line(link: &[u8], side: &[u8]) -> Option<Line>
-    ensures { result ≡ said_by Keyword.Eof (link.now ∷ side.now ∷ []) }
+fn eof_line(more: &[&[u8]]) -> Option<Line>
+    ensures { result ≡ said_by Keyword.Eof (map (λ w. w.now) more.now) }
 {
+    let [link, side] = more else {
+        return None;
+    };
     Some(Line::Within(TurnLine::Eof(read_end(link, side)?)))
 }
 
-fn take_line(link: &[u8], side: &[u8], count: &[u8]) -> Option<Line>
-    ensures { result ≡ said_by Keyword.Take (link.now ∷ side.now ∷ count.now ∷ []) }
+fn read_fail_line(more: &[&[u8]]) -> Option<Line>
+    ensures { result ≡ said_by Keyword.ReadFail (map (λ w. w.now) more.now) }
 {
-    if !is_word(count, "all") {
+    let [link, side] = more else {
         return None;
-    }
-    Some(Line::Within(TurnLine::Take(read_end(link, side)?, None)))
+    };
+    Some(Line::Within(TurnLine::ReadFail(read_end(link, side)?)))
+}
+
+fn take_line(more: &[&[u8]]) -> Option<Line>
+    ensures { result ≡ said_by Keyword.Take (map (λ w. w.now) more.now) }
+{
+    let [link, side, count] = more else {
+        return None;
+    };
+    let count = read_more(count)?;
+    Some(Line::Within(TurnLine::Take(read_end(link, side)?, count)))
+}
+
+fn write_fail_line(more: &[&[u8]]) -> Option<Line>
+    ensures { result ≡ said_by Keyword.WriteFail (map (λ w. w.now) more.now) }
+{
+    let [link, side] = more else {
+        return None;
+    };
+    Some(Line::Within(TurnLine::WriteFail(read_end(link, side)?)))
+}
+
+fn spur_line(more: &[&[u8]]) -> Option<Line>
+    ensures { result ≡ said_by Keyword.Spur (map (λ w. w.now) more.now) }
+{
+    let [link, side] = more else {
+        return None;
+    };
+    Some(Line::Within(TurnLine::Spur(read_end(link, side)?)))
+}
+
+fn poll_fail_line(more: &[&[u8]]) -> Option<Line>
+    ensures { result ≡ said_by Keyword.PollFail (map (λ w. w.now) more.now) }
+{
+    more.is_empty().then_some(Line::Within(TurnLine::PollFail))
 }

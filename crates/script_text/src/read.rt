@@ -1,15 +1,15 @@
 // Reads a script line by line. What a line says is told elsewhere; here stands where it may stand.
-ghost use Rattle.std.specs.Prelude.{◌≡◌, ◌≤◌, ◌<◌, ◌+◌, ◌-◌, ◌^◌, [], ◌&&◌, not, true, nat_lt, nat_le, length, min, IfOk, IfErr, OnOk, if◌then◌else◌};
+ghost use Rattle.std.specs.Prelude.{◌≡◌, ◌≤◌, ◌<◌, ◌+◌, ◌^◌, [], ◌&&◌, not, true, nat_lt, nat_le, length, IfOk, IfErr, OnOk, if◌then◌else◌};
 ghost use Rattle.std.specs.List.{list_all};
 ghost use Rattle.ev_types.specs.Sides.{number};
-ghost use Rattle.script_text.specs.Order.{extended, with_line, may_follow, turn_lines, opened, bytes_for, is_ended};
+ghost use Rattle.script_text.specs.Order.{extended, with_line, may_follow, turn_lines, is_known, is_undecided, bytes_for, is_ended};
 ghost use Rattle.script_text.specs.Spelled.{is_plain, line_read, script_of, IsTold};
 
 use crate::line::{Line, line_of};
-use crate::tally::{EndSoFar, count_line, kept};
-use crate::words::{first_piece, words_of};
+use crate::tally::{EndSoFar, count_line, count_link, kept};
+use crate::words::{first_piece, told, words_of};
 use crate::{Script, ScriptFault, TurnLine};
-use ev_types::{NoMemory, Side, SideId};
+use ev_types::{NoMemory, SideId};
 use std::alloc::Global;
 use std::marker::Model;
 
@@ -17,7 +17,7 @@ use std::marker::Model;
 const MAX_TURNS: usize = 20_000;
 
 /// The most links of a script.
-const MAX_LINKS: usize = 1;
+const MAX_LINKS: usize = 256;
 
 /// The most bytes that a script brings to one end.
 const MAX_PENDING: usize = 1 << 18;
@@ -28,6 +28,8 @@ const MAX_PENDING: usize = 1 << 18;
 #[derive(Drop)]
 pub struct Reading {
     turns: Vec<(u64, Vec<TurnLine>)>,
+    /// Whether the line that opened a link said wait.
+    links: Vec<bool>,
     ends: Vec<EndSoFar>,
 }
 
@@ -50,6 +52,7 @@ impl Reading {
     {
         Reading {
             turns: Vec::new(alloc),
+            links: Vec::new(alloc),
             ends: Vec::new(alloc),
         }
     }
@@ -83,6 +86,7 @@ impl Reading {
                 self.put(line)?;
                 Ok(true)
             }
+            Line::Skipped => Ok(true),
         }
     }
 
@@ -109,29 +113,32 @@ impl Reading {
         ensures { result ≡ may_follow (turn_lines self.now.turns) line.now }
     {
         match line {
-            TurnLine::NewLink { .. } => self.links() < MAX_LINKS,
+            TurnLine::NewLink { .. } => self.links.len() < MAX_LINKS,
+            TurnLine::Conn(link, _) => self.is_undecided(*link),
             TurnLine::Pending(side, list) => {
-                side.side == Side::In
-                    && self.is_known(*side)
-                    && self.has_room(*side, list.bytes.len())
+                self.is_known(*side) && self.has_room(*side, list.bytes.len())
             }
-            TurnLine::Eof(side) => side.side == Side::In && self.is_known(*side),
-            TurnLine::Take(side, _) => side.side == Side::Out && self.is_known(*side),
+            TurnLine::Eof(side) => self.is_known(*side),
+            TurnLine::ReadFail(side) => self.is_known(*side),
+            TurnLine::Take(side, _) => self.is_known(*side),
+            TurnLine::WriteFail(side) => self.is_known(*side),
+            TurnLine::Spur(side) => self.is_known(*side),
+            TurnLine::PollFail => true,
         }
-    }
-
-    /// How many links were opened.
-    fn links(&self) -> usize
-        ensures { result ≡ opened (turn_lines self.now.turns) }
-    {
-        self.ends.len() / 2
     }
 
     /// Was the link of the end opened?
     fn is_known(&self, side: SideId) -> bool
-        ensures { result ≡ nat_lt side.link (opened (turn_lines self.now.turns)) }
+        ensures { result ≡ is_known side (turn_lines self.now.turns) }
     {
-        (side.link as usize) < self.links()
+        (side.link as usize) < self.links.len()
+    }
+
+    /// Was this link opened with wait?
+    fn is_undecided(&self, link: u32) -> bool
+        ensures { result ≡ is_undecided link (turn_lines self.now.turns) }
+    {
+        self.links.get(link as usize).copied().unwrap_or(false)
     }
 
     /// May so many bytes more come in at the end?
@@ -151,9 +158,11 @@ impl Reading {
         ensures { OnOk result (self.new.turns ≡ with_line self.old.turns line) }
     {
         let last = self.turns.len() - 1;
+        self.links.reserve(1)?;
         self.ends.reserve(2)?;
         let lines = &mut self.turns[last].1;
         lines.reserve(1)?;
+        count_link(&mut self.links, &line);
         count_line(&mut self.ends, &line);
         lines.push(line).unwrap();
         Ok(())
@@ -174,15 +183,9 @@ fn is_plain_text(line: &[u8]) -> bool
     line.iter().all(|b| (b' '..=b'~').contains(b))
 }
 
-/// The number of a line as it is told.
-fn told(line: usize) -> u32
-    ensures { result ≡ min line (2 ^ 32 - 1) }
-{
-    u32::try_from(line).unwrap_or(u32::MAX)
-}
-
-/// Reads a whole script. Takes memory for it and for the words of a line. A text is refused at its first line that
-/// is not in the grammar, counted from 1; a number above 2^32 - 1 is told as that number.
+/// Reads a whole script. Empty lines, and lines whose first word begins with `#`, are skipped and counted. An empty
+/// text is a script with no turn. Takes memory for the script and for the words of a line. A text is refused at its
+/// first line that is not in the grammar, counted from 1; a number above 2^32 - 1 is told as that number.
 ///
 /// Own.
 pub fn read_script(alloc: Global, text: &[u8]) -> Result<Script, ScriptFault>

@@ -31,12 +31,22 @@ impl Model for ByteList {
 pub enum TurnLine {
     /// One more link waits to be accepted; `wait` tells that its Out end is undecided.
     NewLink { wait: bool },
+    /// The Out end of this link is connected, or it can't be. The first such line of a link stands.
+    Conn(u32, bool),
     /// These bytes come in at the end, behind those before.
     Pending(SideId, ByteList),
     /// The end is ended after its pending bytes.
     Eof(SideId),
+    /// Reads of the end fail after its pending bytes.
+    ReadFail(SideId),
     /// The end takes so many bytes more, or any number.
     Take(SideId, Option<u64>),
+    /// Writes to the end fail once it takes no more bytes.
+    WriteFail(SideId),
+    /// In this turn the poll marks all that is wanted of the end.
+    Spur(SideId),
+    /// The poll of this turn fails.
+    PollFail,
 }
 
 /// A script: its turns, each with its moment in milliseconds and its lines.

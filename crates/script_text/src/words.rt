@@ -1,6 +1,6 @@
 // The pieces of a text, the words of a line, and the numbers and bytes that words spell. What a line says with
 // them is left to the grammar.
-ghost use Rattle.std.specs.Prelude.{◌≡◌, ◌<◌, ◌≤◌, ◌^◌, ◌∷◌, length, map, IfOk, option_map, position, ◌==◌, IfSome};
+ghost use Rattle.std.specs.Prelude.{◌≡◌, ◌<◌, ◌≤◌, ◌-◌, ◌^◌, ◌∷◌, length, map, min, IfOk, option_map, position, ◌==◌, IfSome};
 ghost use Rattle.script_text.specs.Pieces.{pieces, words};
 ghost use Rattle.script_text.specs.Numbers.{bytes_of, number_within};
 
@@ -8,7 +8,9 @@ use ev_types::NoMemory;
 use hex::FromHexError;
 use std::alloc::Global;
 
-/// The greatest number of a script.
+/// The greatest number that a script's word spells, whatever the word is for.
+///
+/// Own.
 pub const MAX_NUMBER: u64 = 1 << 62;
 
 /// The fewest hex digits of a word that spells bytes.
@@ -24,7 +26,10 @@ fn place_of(text: &[u8], stop: u8) -> Option<usize>
     text.iter().position(|b| *b == stop)
 }
 
-/// The bytes before the first `stop`, and what is behind it.
+/// The bytes before the first `stop`, and what is behind it. Without a `stop` these are the whole text and nothing;
+/// so of an empty text both are empty. Takes no memory.
+///
+/// Own.
 pub fn first_piece(text: &[u8], stop: u8) -> (&[u8], &[u8])
     ensures pieces { 0 < length text.now
         → pieces stop text.now ≡ result.0.now ∷ pieces stop result.1.now }
@@ -39,7 +44,10 @@ pub fn first_piece(text: &[u8], stop: u8) -> (&[u8], &[u8])
     }
 }
 
-/// The words of a line. Takes memory for their list.
+/// The words of a line: what stands between its spaces. Spaces at the ends of the line, and several between two
+/// words, make no word; a line of spaces alone has none. Takes memory for the list of the words.
+///
+/// Own.
 pub fn words_of<'a>(alloc: Global, line: &'a [u8]) -> Result<Vec<&'a [u8]>, NoMemory>
     ensures { IfOk result (λ all. map (λ w. w.now) all.items ≡ words line.now) }
 {
@@ -55,10 +63,11 @@ pub fn words_of<'a>(alloc: Global, line: &'a [u8]) -> Result<Vec<&'a [u8]>, NoMe
     Ok(all)
 }
 
-/// The number that a word of decimal digits spells, without a sign and without a leading zero. `None` also for a
-/// number above `max`.
+/// The number that a word of decimal digits spells, without a sign and without a leading zero. `None` for every other
+/// word, and for a number above `max`. Takes no memory.
+///
+/// Own.
 pub fn number(word: &[u8], max: u64) -> Option<u64>
-    requires { max ≤ MAX_NUMBER }
     ensures value { result ≡ number_within max word.now }
     ensures within { IfSome result (λ n. n ≤ max) }
 {
@@ -73,12 +82,20 @@ pub fn number(word: &[u8], max: u64) -> Option<u64>
         if value > max / 10 {
             return None;
         }
-        value = value * 10 + u64::from(*digit - b'0');
+        let tens = value * 10;
+        let ones = u64::from(*digit - b'0');
+        if ones > max - tens {
+            return None;
+        }
+        value = tens + ones;
     }
-    (value <= max).then_some(value)
+    Some(value)
 }
 
-/// The bytes that a word of hex digits spells. Takes memory for them.
+/// The bytes that a word of hex digits of either case spells: an even number of digits, 2 to 65,536. `None` for every
+/// other word. Takes memory for the bytes.
+///
+/// Own.
 pub fn hex_bytes(alloc: Global, word: &[u8]) -> Result<Option<Vec<u8>>, NoMemory>
     ensures { IfOk result (λ bytes. option_map (λ v. v.items) bytes ≡ bytes_of word.now) }
 {
@@ -90,4 +107,11 @@ pub fn hex_bytes(alloc: Global, word: &[u8]) -> Result<Option<Vec<u8>>, NoMemory
         Err(FromHexError::OutOfMemory) => Err(NoMemory),
         Err(_) => Ok(None),
     }
+}
+
+/// The number of a line as it is told.
+pub fn told(line: usize) -> u32
+    ensures { result ≡ min line (2 ^ 32 - 1) }
+{
+    u32::try_from(line).unwrap_or(u32::MAX)
 }
