@@ -112,9 +112,13 @@ AreSolid-act_words (act.Rate end (Some limit)) is = (
   computed (codes "rate") (lit< tt) refl,
   AreSolid-end end (limit_words (Some limit)) is (
     Solid-decimal limit.read_rate (wide_read_rate limit),
-    (Solid-decimal limit.read_burst (wide_read_burst limit),
-    (Solid-decimal limit.write_rate (wide_write_rate limit),
-    (Solid-decimal limit.write_burst (wide_write_burst limit), (Solid-decimal limit.tick_ms (wide_tick limit), tt)))),
+    (
+      Solid-decimal limit.read_burst (wide_read_burst limit),
+      (
+        Solid-decimal limit.write_rate (wide_write_rate limit),
+        (Solid-decimal limit.write_burst (wide_write_burst limit), (Solid-decimal limit.tick_ms (wide_tick limit), tt)),
+      ),
+    ),
   ),
 )
 AreSolid-act_words (act.Join end group) is = (

@@ -10,4 +10,5 @@ pub mod SolidLemmas
 pub mod ValueReadLemmas
 pub mod ActReadLemmas
 pub mod EntryReadLemmas
+pub mod TraceReadLemmas
 mod Examples

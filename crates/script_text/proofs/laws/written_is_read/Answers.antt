@@ -1,5 +1,5 @@
-use Rattle.script_text.proofs.EntryReadLemmas.{event_said-words}
+use Rattle.script_text.proofs.TraceReadLemmas.{trace_of-trace_text}
 use Rattle.script_text.proofs.laws.written_is_read.Goals as goal
 
 pub returns : goal.returns
-returns c = ?
+returns c = trace_of-trace_text
