@@ -3,8 +3,7 @@
 use Rattle.std.proofs.Common.{◌≡◌, ℕ, zero, suc, ◌+◌, ◌<◌, ◌≤◌, Bool, true, false, ◌&&◌, ◌||◌, not, if◌then◌else◌, List, [], ◌∷◌, ◌++◌, Some, None, ◌⊎◌, inl, inr, refl, sym, ◌∙◌, ap, subst, arith}
 use Rattle.std.specs.Prelude.{⊤}
 use Rattle.std.proofs.lemmas.Bool.{and_from, and_parts, or_cases, or_from, or_left, or_right, cases_lt}
-use Rattle.ev_types.specs.declared.side.Side.{Side}
-use Rattle.ev_types.specs.declared.side.Side.TheVariants.{In, Out}
+use Rattle.ev_types.specs.declared.side.Side.TheVariants.{Out}
 use Rattle.ev_types.specs.declared.side.SideId.{SideId}
 use Rattle.ev_types.specs.declared.why.Cause.TheVariants as cause
 use Rattle.ev_types.specs.declared.entry.Entry.{Entry}
@@ -27,22 +26,10 @@ use Rattle.relay_model.proofs.StepLemmas.{put-effect}
 use Rattle.relay_model.proofs.StageLemmas.{quiet-silent}
 use Rattle.relay_model.proofs.KindLemmas.{ClosedKind, closed-kind, PutKind, put-kind}
 use Rattle.relay_model.proofs.CloseCases.{where_parts}
+use Rattle.relay_model.proofs.LeftLemmas.{in_of, out_of, in-or-out}
 use Rattle.relay_model.proofs.FireLemmas.{is_open_stage, reading-open}
 use Rattle.relay_model.proofs.ToldLemmas.{kept, list_any-push}
 use Rattle.relay_meaning.specs.Links.{done_by, is_done}
-
-abbrev pub in_of : ℕ → SideId
-in_of k = record { link = k; side = In }
-
-abbrev pub out_of : ℕ → SideId
-out_of k = record { link = k; side = Out }
-
-in-or-out : (e : SideId) → (e ≡ in_of e.link) ⊎ (e ≡ out_of e.link)
-in-or-out e = go e.side refl
-  where
-    go : (z : Side) → e.side ≡ z → (e ≡ in_of e.link) ⊎ (e ≡ out_of e.link)
-    go In z = inl (λ i. record { link = e.link; side = z i })
-    go Out z = inr (λ i. record { link = e.link; side = z i })
 
 -- The order of closing
 

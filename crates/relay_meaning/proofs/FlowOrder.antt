@@ -65,9 +65,6 @@ order-used r read mark f h =
 order-turned : (r w : Filter) (read : List ℕ) (hold : ℕ) (f : Flow) → InOrder read f → InOrder read (with_turned r w read hold f)
 order-turned r w read hold f h = go f.held
   where
-    stop : ℕ
-    stop = first_from (write_stops r w read hold f) f.turned (f.moved - f.turned)
-
     go : (b : Bool) → InOrder read (if b then f else record f { turned = first_from (write_stops r w read hold f) f.turned (f.moved - f.turned) })
     go true = h
     go false =

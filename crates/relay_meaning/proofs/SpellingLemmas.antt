@@ -1,9 +1,12 @@
 -- A trace for which a relay stands can be spelled.
-use Rattle.std.proofs.Common.{◌≡◌, ℕ, zero, suc, ◌+◌, ◌^◌, ◌<◌, ◌≤◌, List, [], ◌∷◌, ◌++◌, length, take, drop, refl, sym, ◌∙◌, ap, subst, arith, append_assoc, length-append}
+use Rattle.std.proofs.Common.{◌≡◌, ℕ, ◌+◌, ◌^◌, ◌<◌, ◌≤◌, List, [], ◌∷◌, ◌++◌, length, take, drop, refl, sym, ◌∙◌, ap, subst, arith, append_assoc, length-append, None, true, ◌||◌, get_or, ◌⊎◌, inl, inr}
 use Rattle.std.specs.Prelude.{All}
-use Rattle.std.specs.List.{AllByRecursion, flat_map}
+use Rattle.std.specs.List.{flat_map}
+use Rattle.std.proofs.lemmas.Bool.{cases_lt}
 use Rattle.std.proofs.lemmas.Grind.{flat_map-append}
-use Rattle.std.proofs.lemmas.List.{take-append-drop}
+use Rattle.std.proofs.lemmas.List.{take-append-drop, get_or_past}
+use Rattle.ev_types.specs.declared.side.Side.{Side}
+use Rattle.ev_types.specs.declared.side.Side.TheVariants.{Out}
 use Rattle.ev_types.specs.declared.side.SideId.{SideId}
 use Rattle.ev_types.specs.declared.answer.ReadAnswer.{ReadAnswer}
 use Rattle.ev_types.specs.declared.answer.ReadAnswer.TheVariants as read
@@ -14,6 +17,7 @@ use Rattle.ev_types.specs.declared.why.Cause.TheVariants as cause
 use Rattle.ev_types.specs.declared.entry.Entry.TheVariants as entry
 use Rattle.ev_types.specs.Sides.{peer}
 use Rattle.ev_types.specs.Trace.{Event, Trace}
+use Rattle.script_text.specs.TraceLaws.{IsOut, IsEntry, StandBeside, IsSpellable}
 use Rattle.relay_model.specs.Trace.{bytes_read}
 use Rattle.relay_model.specs.Rooms.{most_at_once}
 use Rattle.relay_model.specs.Serve.{CarriesGot, CarriesTook}
@@ -26,13 +30,13 @@ use Rattle.relay_model.proofs.TraceLemmas.{bytes_read-append}
 use Rattle.relay_core.specs.State.{State}
 use Rattle.relay_meaning.specs.Meaning.{model_settings, StandsFor}
 use Rattle.relay_meaning.specs.Frees.{IsFreedFor}
-use Rattle.relay_meaning.specs.Spelling.{AreBytes, ReadsFit, ReadsFitAsScripted, FitsLine, EntriesFit}
+use Rattle.relay_meaning.specs.Spelling.{FewBytes, ReadsFit, ReadsFitAsScripted, StoodIsSpellable}
 use Rattle.relay_meaning.proofs.FreeLemmas.{frees_are_for}
 use Rattle.relay_meaning.proofs.EventLemmas.{SaysPlainly, says_plainly}
 use Rattle.relay_meaning.proofs.ByteLemmas.{all-part, all-got, all-took, all-given}
 
 -- a beginning of bytes is bytes
-bytes-front : (xs ys : List ℕ) → AreBytes (xs ++ ys) → AreBytes xs
+bytes-front : (xs ys : List ℕ) → FewBytes (xs ++ ys) → FewBytes xs
 bytes-front xs ys h = record {
   each = all-part (λ b. b < 256) [] xs ys h.each;
   count = let all = h.count in omega (arith, all, length-append xs ys);
@@ -49,9 +53,31 @@ reads_fit_as_scripted turns closing_by t fit answered e =
     ∙ flat_map-append (brings e) (flat_map (λ turn. turn.1) (take n turns)) (flat_map (λ turn. turn.1) (drop n turns))
     ∙ ap (λ z. z ++ rest) (sym (reads_what_comes turns closing_by t e answered))
     ∙ append_assoc (bytes_read e t) (pending turns t e) rest in
-    bytes-front (bytes_read e t) (pending turns t e ++ rest) (subst AreBytes whole (fit e))
+    bytes-front (bytes_read e t) (pending turns t e ++ rest) (subst FewBytes whole (fit e))
 
 -- Each entry
+
+-- What an entry has fits a line of text: links below 2^32, other numbers below 2^64, and beside it exactly the bytes that were got or
+-- taken, at least one, or none.
+abbrev pub FitsLine : Event → Type 0
+FitsLine (entry.Turn ms, bytes) = (ms < 2 ^ 64) × (bytes ≡ [])
+FitsLine (entry.Poll timeout, bytes) = (timeout ≡ None) × (bytes ≡ [])
+FitsLine (entry.Want side read write, bytes) = (side.link < 2 ^ 32) × ((read || write) ≡ true) × (bytes ≡ [])
+FitsLine (entry.Ready side read write, bytes) = (side.link < 2 ^ 32) × ((read || write) ≡ true) × (bytes ≡ [])
+FitsLine (entry.PollFailed, bytes) = bytes ≡ []
+FitsLine (entry.Opened link connected, bytes) = (link < 2 ^ 32) × (bytes ≡ [])
+FitsLine (entry.Conn side answer, bytes) = (side.link < 2 ^ 32) × (side.side ≡ Out) × (bytes ≡ [])
+FitsLine (entry.Read side room (read.Got n), bytes) = (side.link < 2 ^ 32) × (room < 2 ^ 64) × (length bytes ≡ n) × (1 ≤ n) × (n ≤ most_at_once) × All (λ b. b < 256) bytes
+FitsLine (entry.Read side room answer, bytes) = (side.link < 2 ^ 32) × (room < 2 ^ 64) × (bytes ≡ [])
+FitsLine (entry.Write side offered (write.Took n), bytes) = (side.link < 2 ^ 32) × (offered < 2 ^ 64) × (length bytes ≡ n) × (1 ≤ n) × (n ≤ most_at_once) × All (λ b. b < 256) bytes
+FitsLine (entry.Write side offered write.NoMemory, bytes) = ⊥
+FitsLine (entry.Write side offered answer, bytes) = (side.link < 2 ^ 32) × (offered < 2 ^ 64) × (bytes ≡ [])
+FitsLine (entry.Fired side why, bytes) = ⊥
+FitsLine (entry.Asked side act answer, bytes) = ⊥
+FitsLine (entry.Freed side (cause.Filter place) moved given, bytes) = ⊥
+FitsLine (entry.Freed side why moved given, bytes) = (side.link < 2 ^ 32) × (moved < 2 ^ 64) × (given < 2 ^ 64) × (bytes ≡ [])
+FitsLine (entry.CloseWrite side, bytes) = (side.link < 2 ^ 32) × (bytes ≡ [])
+FitsLine (entry.Close side, bytes) = (side.link < 2 ^ 32) × (bytes ≡ [])
 
 module _ (t : Trace) (x : Stage) (s : State) (k : StandsFor t x s) (few : s.settings.links ≤ 2 ^ 32) (fit : ReadsFit t) where
   legal : IsLegal (model_settings s.settings) t
@@ -130,16 +156,64 @@ module _ (t : Trace) (x : Stage) (s : State) (k : StandsFor t x s) (few : s.sett
   pub each-fits : (before after : Trace) (y : Event) → t ≡ before ++ y ∷ after → FitsLine y
   each-fits before after y is = line-fits before after y is (says_plainly s.settings t legal before after y is)
 
--- what holds of an event wherever it stands holds of each
-pub each_from_splits : (P : Event → Type 0) (t : Trace) → ((before after : Trace) (y : Event) → t ≡ before ++ y ∷ after → P y) → AllByRecursion P t
-each_from_splits P [] h = tt
-each_from_splits P (y ∷ t) h = (h [] t y refl, each_from_splits P t (λ before after z k. h (y ∷ before) after z (ap (λ v. y ∷ v) k)))
+-- What fits a line is spelled
 
--- the same as All says it
-all_from_splits : (P : Event → Type 0) (t : Trace) → ((before after : Trace) (y : Event) → t ≡ before ++ y ∷ after → P y) → All P t
-all_from_splits P [] h k d lt = absurd (omega (arith, lt))
-all_from_splits P (y ∷ t) h zero d lt = h [] t y refl
-all_from_splits P (y ∷ t) h (suc k) d lt = all_from_splits P t (λ before after z q. h (y ∷ before) after z (ap (λ v. y ∷ v) q)) k d (omega (arith, lt))
+are-bytes : (xs : List ℕ) → All (λ b. b < 256) xs → (i : ℕ) → get_or xs i 0 < 256
+are-bytes xs h i = go (cases_lt i (length xs))
+  where
+    go : (i < length xs) ⊎ (length xs ≤ i) → get_or xs i 0 < 256
+    go (inl lt) = h i 0 lt
+    go (inr ge) = let none = get_or_past xs i 0 ge in omega (arith, none)
 
-pub entries_fit : EntriesFit
-entries_fit t x s k few fit = all_from_splits FitsLine t (λ before after y is. each-fits t x s k few fit before after y is)
+out-is_out : (side : Side) → side ≡ Out → IsOut side
+out-is_out side h = subst IsOut (sym h) tt
+
+entry-spelled : (y : Event) → FitsLine y → IsEntry y.0
+entry-spelled (entry.Turn ms, bytes) h = h.0
+entry-spelled (entry.Poll timeout, bytes) h = subst (λ o. IsEntry (entry.Poll o)) (sym h.0) tt
+entry-spelled (entry.Want side r w, bytes) h = (h.0, h.1)
+entry-spelled (entry.Ready side r w, bytes) h = (h.0, h.1)
+entry-spelled (entry.PollFailed, bytes) h = tt
+entry-spelled (entry.Opened link connected, bytes) h = h.0
+entry-spelled (entry.Conn side answer, bytes) h = (h.0, out-is_out side.side h.1)
+entry-spelled (entry.Read side room (read.Got n), bytes) h = (h.0, h.1)
+entry-spelled (entry.Read side room answer, bytes) h = (h.0, h.1)
+entry-spelled (entry.Write side offered (write.Took n), bytes) h = (h.0, h.1)
+entry-spelled (entry.Write side offered write.NoMemory, bytes) h = absurd h
+entry-spelled (entry.Write side offered answer, bytes) h = (h.0, h.1)
+entry-spelled (entry.Fired side why, bytes) h = absurd h
+entry-spelled (entry.Asked side act answer, bytes) h = absurd h
+entry-spelled (entry.Freed side (cause.Filter place) moved given, bytes) h = absurd h
+entry-spelled (entry.Freed side why moved given, bytes) h = (h.0, tt, h.1, h.2)
+entry-spelled (entry.CloseWrite side, bytes) h = h.0
+entry-spelled (entry.Close side, bytes) h = h.0
+
+beside-spelled : (y : Event) → FitsLine y → StandBeside y.1 y.0
+beside-spelled (entry.Turn ms, bytes) h = h.1
+beside-spelled (entry.Poll timeout, bytes) h = h.1
+beside-spelled (entry.Want side r w, bytes) h = h.2
+beside-spelled (entry.Ready side r w, bytes) h = h.2
+beside-spelled (entry.PollFailed, bytes) h = h
+beside-spelled (entry.Opened link connected, bytes) h = h.1
+beside-spelled (entry.Conn side answer, bytes) h = h.2
+beside-spelled (entry.Read side room (read.Got n), bytes) h = (h.3, h.2, are-bytes bytes h.5)
+beside-spelled (entry.Read side room answer, bytes) h = h.2
+beside-spelled (entry.Write side offered (write.Took n), bytes) h = (h.3, h.2, are-bytes bytes h.5)
+beside-spelled (entry.Write side offered write.NoMemory, bytes) h = absurd h
+beside-spelled (entry.Write side offered answer, bytes) h = h.2
+beside-spelled (entry.Fired side why, bytes) h = absurd h
+beside-spelled (entry.Asked side act answer, bytes) h = absurd h
+beside-spelled (entry.Freed side (cause.Filter place) moved given, bytes) h = absurd h
+beside-spelled (entry.Freed side why moved given, bytes) h = h.3
+beside-spelled (entry.CloseWrite side, bytes) h = h.1
+beside-spelled (entry.Close side, bytes) h = h.1
+
+-- where each entry fits a line, wherever it stands, the whole trace is spelled
+all-spelled : (t : Trace) → ((before after : Trace) (y : Event) → t ≡ before ++ y ∷ after → FitsLine y) → IsSpellable t
+all-spelled [] h = tt
+all-spelled (y ∷ t) h =
+    let first = h [] t y refl in
+    (entry-spelled y first, beside-spelled y first, all-spelled t (λ before after z k. h (y ∷ before) after z (ap (λ v. y ∷ v) k)))
+
+pub stood_is_spellable : StoodIsSpellable
+stood_is_spellable t x s k few fit = all-spelled t (λ before after y is. each-fits t x s k few fit before after y is)

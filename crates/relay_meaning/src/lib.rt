@@ -7,8 +7,8 @@ mod trace_laws;
 ghost use Rattle.relay_meaning.specs.Laws.{CountsAreTold, LeftIsLegal, MeansConserved, NewRelayStands};
 
 pub use trace_laws::{
-    done_is_whole, entries_fit, frees_are_for, links_are_told, polls_fail_as_scripted,
-    reads_fit_as_scripted,
+    done_is_whole, frees_are_for, links_are_told, polls_fail_as_scripted, reads_fit_as_scripted,
+    stood_is_spellable,
 };
 
 /// Before the first turn a relay stands for the trace of no entries.

@@ -2,7 +2,7 @@
 ghost use Rattle.relay_meaning.specs.Frees.{FreesAreFor};
 ghost use Rattle.relay_meaning.specs.Links.{DoneIsWhole, LinksAreTold};
 ghost use Rattle.relay_meaning.specs.Polls.{PollsFailAsScripted};
-ghost use Rattle.relay_meaning.specs.Spelling.{EntriesFit, ReadsFitAsScripted};
+ghost use Rattle.relay_meaning.specs.Spelling.{ReadsFitAsScripted, StoodIsSpellable};
 
 /// A turn's poll fails exactly where a line of the script says so, and nothing follows it. So a run ends with a failed poll
 /// exactly where a turn that was begun has such a line, but for want of memory before that poll.
@@ -33,8 +33,8 @@ pub fn reads_fit_as_scripted()
     ensures { ReadsFitAsScripted }
 {}
 
-/// Each entry of a trace for which a relay stands fits a line of text: its numbers fit their fields, a want and a mark name a
-/// direction, and beside it stand exactly the bytes that were got or taken.
-pub fn entries_fit()
-    ensures { EntriesFit }
+/// A trace for which a relay stands can be spelled as text and read back: its numbers fit their fields, a want and a mark name a
+/// direction, and beside each entry stand exactly the bytes that were got or taken.
+pub fn stood_is_spellable()
+    ensures { StoodIsSpellable }
 {}
