@@ -9,6 +9,7 @@ use Rattle.ev_types.specs.Sides.{peer, other}
 use Rattle.ev_types.specs.Trace.{Trace}
 use Rattle.script_text.specs.declared.script.LinkLine.{LinkLine}
 use Rattle.script_text.specs.Script.{ScriptValue}
+use Rattle.script_text.proofs.TraceReadLemmas.{trace_of-trace_text}
 use Rattle.relay_model.specs.Trace.{bytes_read, bytes_given, has_ended, is_write_closed}
 use Rattle.relay_model.specs.Filter.{filter_of}
 use Rattle.relay_model.specs.FilterLaws.{IsPrefixOf}
@@ -29,9 +30,11 @@ use Rattle.relay_core.specs.State.{State}
 use Rattle.relay_core.specs.Closing.{in_side, out_side}
 use Rattle.relay_core.specs.Counting.{link_count}
 use Rattle.relay_meaning.specs.Meaning.{StandsFor, model_settings}
+use Rattle.relay_meaning.specs.Spelling.{BringsFit}
 use Rattle.relay_meaning.proofs.LawLemmas.{means_conserved, counts_are_told}
 use Rattle.relay_meaning.proofs.LinkLemmas.{links_are_told}
 use Rattle.relay_meaning.proofs.PollLemmas.{polls_fail_as_scripted}
+use Rattle.relay_meaning.proofs.SpellingLemmas.{reads_fit_as_scripted, stood_is_spellable}
 use Rattle.evplay.specs.Headline.{IsRun, TellsLink, TellsLinks}
 use Rattle.evplay.specs.Report.{link_line, lines_below}
 
@@ -91,13 +94,16 @@ tells-below t x s k (suc n) h =
 usual-is : (g : Settings) → g.hold ≡ 524288 → g.links ≡ 256 → model_settings g ≡ usual
 usual-is g h l = rw (h, l) refl
 
--- What is played, at a stage at which a turn may answer so, is a run that ended with this answer.
+-- What is played, at a stage at which a turn may answer so, is a run that ended with this answer, where what the script brings in
+-- fits.
 pub run-of : (script : ScriptValue) (answer : TurnAnswer) (t : Trace) (x : Stage) (s : State) → s.settings.hold ≡ 524288 → s.settings.links ≡ 256 →
-    (k : StandsFor t x s) → LeftAt (model_settings s.settings) answer x k.plain → Plays (script_played script) 0 answer t → IsRun script answer t (lines_below s s.opened)
-run-of script answer t x s h l k left played =
+    (k : StandsFor t x s) → LeftAt (model_settings s.settings) answer x k.plain → BringsFit (played_turns script.turns) → Plays (script_played script) 0 answer t →
+    IsRun script answer t (lines_below s s.opened)
+run-of script answer t x s h l k left fit played =
     let same = usual-is s.settings h l in
     let v = means_conserved t x s k in
     let accounted : AllAccounted usual t v.0.plain = subst (λ g. AllAccounted g t v.0.plain) same v.3.conserved.accounted in
+    let reads = reads_fit_as_scripted (played_turns script.turns) (closing_step usual) t fit played.answered in
     let legal : EndsWith usual answer t = subst (λ g. EndsWith g answer t) same (x, k.plain, k.reached, left) in
     record {
       played = played;
@@ -106,6 +112,7 @@ run-of script answer t x s h l k left played =
       accounted = (v.0.plain, accounted);
       begins = begins-of t v.0.plain accounted;
       whole = whole-of t v.0.plain accounted;
+      read_back = trace_of-trace_text t (stood_is_spellable t x s k (omega (arith, l)) reads);
       opened = length-lines_below s s.opened ∙ (links_are_told t x s k).links;
       report = tells-below t x s k s.opened (omega arith);
     }

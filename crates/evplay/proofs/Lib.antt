@@ -1,5 +1,6 @@
 pub mod Lists
 pub mod ScriptLemmas
+pub mod BroughtLemmas
 pub mod FaultLemmas
 pub mod HeadlineLemmas
 pub mod TurnCountLemmas

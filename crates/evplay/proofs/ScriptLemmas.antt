@@ -1,4 +1,4 @@
--- A script has at most 20,000 turns.
+-- What each line that is said leaves holds of a whole script, as that it has at most 20,000 turns.
 use Rattle.std.proofs.Common.{◌≡◌, ◌≤◌, ◌<◌, ◌+◌, ℕ, Bool, true, false, List, [], ◌∷◌, ◌++◌, length, Option, Some, None, Result, Ok, Err, refl, sym, ap, ◌∙◌, arith, subst, length-append, if◌then◌else◌, ◌&&◌}
 use Rattle.std.specs.Prelude.{nat_lt, option_and_then}
 use Rattle.std.specs.List.{list_all}
@@ -10,7 +10,7 @@ use Rattle.script_text.specs.declared.line.Line.TheVariants.{At, Within, Skipped
 use Rattle.script_text.specs.Pieces.{lines, words}
 use Rattle.script_text.specs.Grammar.{said}
 use Rattle.script_text.specs.Order.{with_line, extended, may_follow, turn_lines}
-use Rattle.script_text.specs.Spelled.{is_plain, line_read, lines_read, going_on, script_of}
+use Rattle.script_text.specs.Spelled.{is_plain, line_read, lines_read, going_on, no_line, script_of}
 
 -- a line more leaves as many turns
 length-with_line : (turns : List TurnValue) (x : TurnLine) → length (with_line turns x) ≡ length turns
@@ -18,10 +18,10 @@ length-with_line [] x = refl
 length-with_line (t ∷ []) x = refl
 length-with_line (t ∷ u ∷ more) x = grind (arith, length-with_line (u ∷ more) x)
 
-some-is : {A : Type 0} (a b : A) → Some a ≡ Some b → a ≡ b
+pub some-is : {A : Type 0} (a b : A) → Some a ≡ Some b → a ≡ b
 some-is a b h = cc h
 
-none-some : {A B : Type 0} (a : A) → None ≡ Some a → B
+pub none-some : {A B : Type 0} (a : A) → None ≡ Some a → B
 none-some a h = absurd (cc h)
 
 -- where a line stands, there are few turns still
@@ -39,29 +39,33 @@ few-extended s new (Within x) few h = within_case (nat_lt 0 (length s.turns) && 
     within_case true e = rw (← some-is _ new e) (omega (arith, length-with_line s.turns x))
     within_case false e = none-some new e
 
-few-read : (s new : ScriptValue) (line : List ℕ) → length s.turns ≤ 20000 → line_read s line ≡ Some new → length new.turns ≤ 20000
-few-read s new line few h = plain_case (list_all is_plain line) h
+-- A line leaves what each line that is said leaves.
+keeps-read : (P : ScriptValue → Type 0) → ((s new : ScriptValue) (ws : List (List ℕ)) (x : Line) → said ws ≡ Some x → P s → extended s x ≡ Some new → P new) →
+    (s new : ScriptValue) (line : List ℕ) → P s → line_read s line ≡ Some new → P new
+keeps-read P step s new line p h = plain_case (list_all is_plain line) h
   where
-    said_case : (o : Option Line) → option_and_then (λ what. extended s what) o ≡ Some new → length new.turns ≤ 20000
-    said_case None e = none-some new e
-    said_case (Some x) e = few-extended s new x few e
+    said_case : (o : Option Line) → said (words line) ≡ o → option_and_then (λ what. extended s what) o ≡ Some new → P new
+    said_case None is e = none-some new e
+    said_case (Some x) is e = step s new (words line) x is p e
 
-    plain_case : (b : Bool) → (if b then option_and_then (λ what. extended s what) (said (words line)) else None) ≡ Some new → length new.turns ≤ 20000
-    plain_case true e = said_case (said (words line)) e
+    plain_case : (b : Bool) → (if b then option_and_then (λ what. extended s what) (said (words line)) else None) ≡ Some new → P new
+    plain_case true e = said_case (said (words line)) refl e
     plain_case false e = none-some new e
 
-few-lines : (s new : ScriptValue) (before : ℕ) (all : List (List ℕ)) → length s.turns ≤ 20000 → lines_read s before all ≡ Ok new → length new.turns ≤ 20000
-few-lines s new before [] few h =
-    let same : s ≡ new = cc h in rw (← same) few
-few-lines s new before (line ∷ more) few h =
-    next_case (line_read s line) refl (λ longer short e. few-lines longer new (before + 1) more short e) h
+-- so do all lines
+pub keeps-lines : (P : ScriptValue → Type 0) → ((s new : ScriptValue) (ws : List (List ℕ)) (x : Line) → said ws ≡ Some x → P s → extended s x ≡ Some new → P new) →
+    (s new : ScriptValue) (before : ℕ) (all : List (List ℕ)) → P s → lines_read s before all ≡ Ok new → P new
+keeps-lines P step s new before [] p h = let same : s ≡ new = cc h in subst P same p
+keeps-lines P step s new before (line ∷ more) p h =
+    next_case (line_read s line) refl (λ longer q e. keeps-lines P step longer new (before + 1) more q e) h
   where
     next_case : (o : Option ScriptValue) → line_read s line ≡ o →
-        ((longer : ScriptValue) → length longer.turns ≤ 20000 → lines_read longer (before + 1) more ≡ Ok new → length new.turns ≤ 20000) →
-        going_on o (before + 1) (λ longer. lines_read longer (before + 1) more) ≡ Ok new → length new.turns ≤ 20000
+        ((longer : ScriptValue) → P longer → lines_read longer (before + 1) more ≡ Ok new → P new) →
+        going_on o (before + 1) (λ longer. lines_read longer (before + 1) more) ≡ Ok new → P new
     next_case None is later e = absurd (cc e)
-    next_case (Some longer) is later e = later longer (few-read s longer line few is) e
+    next_case (Some longer) is later e = later longer (keeps-read P step s longer line p is) e
 
 -- what a text spells has at most 20,000 turns
 pub few-turns : (text : List ℕ) (script : ScriptValue) → script_of text ≡ Ok script → length script.turns ≤ 20000
-few-turns text script h = few-lines (record { turns = [] }) script 0 (lines text) (omega arith) h
+few-turns text script h =
+    keeps-lines (λ s. length s.turns ≤ 20000) (λ s new ws x is few e. few-extended s new x few e) no_line script 0 (lines text) (omega arith) h

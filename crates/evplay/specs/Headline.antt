@@ -1,10 +1,12 @@
 -- What `play` says of the trace that it writes. Some facts are in the model's words, the others in plain ones.
-use Rattle.std.specs.Prelude.{◌≡◌, ℕ, zero, suc, true, List, [], ◌∷◌, length}
+use Rattle.std.specs.Prelude.{◌≡◌, ℕ, zero, suc, true, List, [], ◌∷◌, length, Ok}
 use Rattle.ev_types.specs.declared.side.SideId.{SideId}
 use Rattle.ev_types.specs.Sides.{peer}
 use Rattle.ev_types.specs.Trace.{Trace}
 use Rattle.script_text.specs.declared.script.LinkLine.{LinkLine}
 use Rattle.script_text.specs.Script.{ScriptValue}
+use Rattle.script_text.specs.TraceText.{trace_text}
+use Rattle.script_text.specs.TraceSpelled.{trace_of}
 use Rattle.relay_model.specs.Trace.{bytes_read, bytes_given, is_write_closed}
 use Rattle.relay_model.specs.Totals.{opened}
 use Rattle.relay_model.specs.FilterLaws.{IsPrefixOf}
@@ -34,7 +36,8 @@ TellsLinks t link (told ∷ more) = TellsLink t link told × TellsLinks t (suc l
 -- A trace that was written, of a run that ended with this answer, is played from the script: its turns are the script's, every
 -- answer in it is the script's, and every link that waits is accepted. It is legal, and no byte in it was lost, made or
 -- changed. Whatever happened, the bytes given to a side are a prefix of those read from its peer; where writing was ended at
--- a side, they are all of them. The report has a line for each opened link and tells of it.
+-- a side, they are all of them. Its text, read as a trace, is the same trace. The report has a line for each opened link and
+-- tells of it.
 pub record IsRun (script : ScriptValue) (answer : TurnAnswer) (t : Trace) (links : List LinkLine) : Type 0 where
   pub played : Plays (script_played script) 0 answer t
   pub polls : PollsFailed answer (played_turns script.turns) t
@@ -42,5 +45,6 @@ pub record IsRun (script : ScriptValue) (answer : TurnAnswer) (t : Trace) (links
   pub accounted : (s : Plain) × AllAccounted usual t s
   pub begins : (e : SideId) → IsPrefixOf (bytes_given (peer e) t) (bytes_read e t)
   pub whole : (e : SideId) → is_write_closed (peer e) t ≡ true → bytes_given (peer e) t ≡ bytes_read e t
+  pub read_back : trace_of (trace_text t) ≡ Ok t
   pub opened : length links ≡ opened t
   pub report : TellsLinks t 0 links

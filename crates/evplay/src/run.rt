@@ -1,6 +1,8 @@
 // Makes the turns of a script over a port that answers by it, and gives the text of what happened.
 ghost use Rattle.std.specs.Prelude.{◌≡◌, ◌≢◌, ◌≤◌, ◌⊎◌, length, IfOk, IfErr};
 ghost use Rattle.relay_drive.specs.declared.fault.DriveFault.TheVariants.{Memory, PollFault};
+ghost use Rattle.relay_meaning.specs.Spelling.{BringsFit};
+ghost use Rattle.ev_port.specs.ScriptPlayed.{played_turns};
 ghost use Rattle.ev_port.specs.ScriptPort.{lines_of};
 ghost use Rattle.ev_port.specs.ScriptVouched.{NamesOpened};
 ghost use Rattle.evplay.specs.Report.{lines_below};
@@ -40,6 +42,7 @@ impl RunEnd {
 pub fn run(alloc: Global, script: Script) -> Result<(Vec<u8>, RunEnd), DriveFault>
     requires few { length script.turns ≤ 20000 }
     requires names { NamesOpened 0 (lines_of script.turns) }
+    requires brings { BringsFit (played_turns script.turns) }
     ensures text { IfOk result (λ ran. IsRunText script (answer_of ran.1) ran.0.items) }
     ensures only_memory { IfErr result (λ fault. fault ≡ Memory) }
 {

@@ -1,4 +1,5 @@
 use Rattle.ev_port.proofs.ScriptSpelledLemmas.{spelled_names_opened}
+use Rattle.evplay.proofs.BroughtLemmas.{brings-fit}
 use Rattle.evplay.proofs.ScriptLemmas.{few-turns}
 use Rattle.evplay.proofs.outcome.relay.Goals as goal
 
@@ -7,3 +8,6 @@ run-requires-clause-few c = few-turns c.args.text.now c.in-Ok.script c.in-Ok.ens
 
 pub run-requires-clause-names : goal.run-requires-clause-names
 run-requires-clause-names c = spelled_names_opened c.args.text.now c.in-Ok.script c.in-Ok.ensures.script
+
+pub run-requires-clause-brings : goal.run-requires-clause-brings
+run-requires-clause-brings c = brings-fit c.args.text.now c.in-Ok.script c.in-Ok.ensures.script

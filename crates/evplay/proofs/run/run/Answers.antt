@@ -89,7 +89,7 @@ returns-clause-text c =
     let s = c.loop.drive.state in
     let all : c.loop.counter ≡ length c.args.script.turns =
     omega (arith, c.loop-test.false, c.loop.auto.counter-end, c.len-turns.ensures, c.script.inside.turns.ok.0, turns-seen c.script.inside c.args.script c.script.view_is) in
-    (t, lines_below s s.opened, went-run c.args.script c.loop.port t s inv.hold inv.links inv.means c.requires.names (inv.turns ∙ all) inv.seen, c.in_ok-written.ensures)
+    (t, lines_below s s.opened, went-run c.args.script c.loop.port t s inv.hold inv.links inv.means c.requires.names c.requires.brings (inv.turns ∙ all) inv.seen, c.in_ok-written.ensures)
 
 -- A turn that was refused ends the run with a failed poll, or for want of memory.
 pub returns-in-Err-clause-text : goal.returns-in-Err-clause-text
@@ -108,7 +108,7 @@ returns-in-Err-clause-text c =
     let once : count_by is_turn w.added ≡ 1 = cut-poll-once cut in
     let counted : count_by is_turn u ≤ length c.args.script.turns = omega (arith, count-append t w.added, once, inv.turns, below) in
     let seen = w.told (Question.Took c.args.script.turns) t inv.stands inv.seen in
-    let run = failed-run c.args.script c.turn.new.port u s (rw w.settings inv.hold) (rw w.settings inv.links) left c.requires.names counted seen in
+    let run = failed-run c.args.script c.turn.new.port u s (rw w.settings inv.hold) (rw w.settings inv.links) left c.requires.names c.requires.brings counted seen in
     rw ended.1 (u, lines_below s s.opened, run, rw (text, longer) refl))
 
 pub returns-in-Err-clause-only_memory : goal.returns-in-Err-clause-only_memory
