@@ -93,11 +93,6 @@ const IN: SideId = SideId {
     side: Side::In,
 };
 
-const OUT: SideId = SideId {
-    link: 1,
-    side: Side::Out,
-};
-
 #[test]
 fn each_line_of_a_script_is_read(rt: HostRuntime) -> Result<(), Fail> {
     let text =
@@ -125,29 +120,44 @@ fn each_line_of_a_script_is_read(rt: HostRuntime) -> Result<(), Fail> {
     Ok(())
 }
 
+/// What the last line of a script says, behind one that opens a link with wait.
+fn last_line(rt: &HostRuntime, line: &str) -> Result<Option<TurnLine>, Fail> {
+    let text = format!(in rt.alloc(); "at 0\nopen wait\n{line}\n")?;
+    let mut script = read_script(rt.alloc(), text.as_bytes())?;
+    let Some((_, mut lines)) = script.turns.pop() else {
+        return Ok(None);
+    };
+    Ok(lines.pop())
+}
+
 #[test]
-fn each_fault_of_a_script_is_read(rt: HostRuntime) -> Result<(), Fail> {
-    let text =
-        b"at 0\nopen\nopen wait\nconn 1 fail\nconn 1 ok\nrfail 1 out\nw 1 out 7\nwfail 1 out\nspur 0 in\npollfail";
-    let script = read_script(rt.alloc(), text)?;
-    assert_eq!(rt; script.turns.len(), 1);
-    let (_, lines) = &script.turns[0];
-    assert!(rt;
-        matches!(
-            lines.as_slice(),
-            [
-                TurnLine::NewLink { wait: false },
-                TurnLine::NewLink { wait: true },
-                TurnLine::Conn(1, false),
-                TurnLine::Conn(1, true),
-                TurnLine::ReadFail(OUT),
-                TurnLine::Take(OUT, Some(7)),
-                TurnLine::WriteFail(OUT),
-                TurnLine::Spur(IN),
-                TurnLine::PollFail,
-            ]
-        )
-    );
+fn a_link_may_be_undecided(rt: HostRuntime) -> Result<(), Fail> {
+    let open = last_line(&rt, "# none")?;
+    assert!(rt; matches!(open, Some(TurnLine::NewLink { wait: true })));
+    let made = last_line(&rt, "conn 0 ok")?;
+    assert!(rt; matches!(made, Some(TurnLine::Conn(0, true))));
+    let failed = last_line(&rt, "conn 0 fail")?;
+    assert!(rt; matches!(failed, Some(TurnLine::Conn(0, false))));
+    Ok(())
+}
+
+#[test]
+fn an_end_may_fail(rt: HostRuntime) -> Result<(), Fail> {
+    let read = last_line(&rt, "rfail 0 in")?;
+    assert!(rt; matches!(read, Some(TurnLine::ReadFail(IN))));
+    let write = last_line(&rt, "wfail 0 in")?;
+    assert!(rt; matches!(write, Some(TurnLine::WriteFail(IN))));
+    let poll = last_line(&rt, "pollfail")?;
+    assert!(rt; matches!(poll, Some(TurnLine::PollFail)));
+    Ok(())
+}
+
+#[test]
+fn an_end_may_take_some_and_be_marked(rt: HostRuntime) -> Result<(), Fail> {
+    let take = last_line(&rt, "w 0 in 7")?;
+    assert!(rt; matches!(take, Some(TurnLine::Take(IN, Some(7)))));
+    let spur = last_line(&rt, "spur 0 in")?;
+    assert!(rt; matches!(spur, Some(TurnLine::Spur(IN))));
     Ok(())
 }
 
