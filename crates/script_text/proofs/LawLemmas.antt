@@ -63,12 +63,12 @@ is_numeral-parts (d ∷ e ∷ ds) is = elim (eqb_tells d 48) [
   | inr h ↦ (omega arith, (and_parts _ _ is).1, λ zero_first. absurd (h.1 zero_first))
 ]
 
-pub number_within-decimal : (max n : ℕ) → max ≤ 2 ^ 62 → n ≤ max → number_within max (decimal n) ≡ Some n
+pub number_within-decimal : (max n : ℕ) → max < 2 ^ 64 → n ≤ max → number_within max (decimal n) ≡ Some n
 number_within-decimal max n small le =
     let fits : n < 2 ^ 64 = omega arith in
     rw (is_numeral-decimal n fits, digits_value-decimal numerals n fits, le-leb n max le) refl
 
-pub decimal-number_within : (max n : ℕ) (word : List ℕ) → max ≤ 2 ^ 62 → number_within max word ≡ Some n → (word ≡ decimal n) × (n ≤ max)
+pub decimal-number_within : (max n : ℕ) (word : List ℕ) → max < 2 ^ 64 → number_within max word ≡ Some n → (word ≡ decimal n) × (n ≤ max)
 decimal-number_within max n word small spelled =
     elim (is_numeral word && leb (value_of word) max) as (λ v. (is_numeral word && leb (value_of word) max) ≡ v → cond v (Some (value_of word)) None ≡ Some n → (word ≡ decimal n) × (n ≤ max)) [
       | true ↦ λ both is.

@@ -3,4 +3,12 @@ pub mod NumberLemmas
 pub mod TurnLemmas
 pub mod TallyLemmas
 pub mod LawLemmas
+pub mod LimitLemmas
+pub mod ShapeLemmas
+pub mod BesideLemmas
+pub mod SolidLemmas
+pub mod ValueReadLemmas
+pub mod ActReadLemmas
+pub mod EntryReadLemmas
+pub mod TraceReadLemmas
 mod Examples

@@ -39,7 +39,7 @@ PhraseHasItsWords = (ws : List (List ℕ)) → AreWords ws → words (phrase ws)
 
 -- a word spells a number exactly where it is how that number is written
 abbrev pub NumbersAreDecimal : Type 0
-NumbersAreDecimal = (max n : ℕ) (word : List ℕ) → max ≤ 2 ^ 62 → (number_within max word ≡ Some n) ↔ ((word ≡ decimal n) × (n ≤ max))
+NumbersAreDecimal = (max n : ℕ) (word : List ℕ) → max < 2 ^ 64 → (number_within max word ≡ Some n) ↔ ((word ≡ decimal n) × (n ≤ max))
 
 -- The line with this number, counted from 1, is the first of a text that is not in the grammar: the lines before it
 -- make a script, and it can't stand behind them.

@@ -11,4 +11,10 @@ pub mod Lines
 pub mod ActLine
 pub mod TraceText
 pub mod ReportText
+pub mod ValueGrammar
+pub mod Limits
+pub mod ActGrammar
+pub mod EntryGrammar
+pub mod TraceSpelled
 pub mod Laws
+pub mod TraceLaws

@@ -1,5 +1,5 @@
 -- The numbers and the bytes that a word spells.
-use Rattle.std.specs.Prelude.{ℕ, ◌+◌, ◌-◌, ◌*◌, List, [], ◌∷◌, ◌==◌, ◌&&◌, not, Bool, false, if◌then◌else◌, nat_le, length, fold, Option, Some, None}
+use Rattle.std.specs.Prelude.{ℕ, ◌+◌, ◌-◌, ◌*◌, ◌^◌, List, [], ◌∷◌, ◌==◌, ◌&&◌, not, Bool, false, if◌then◌else◌, nat_le, length, fold, Option, Some, None}
 use Rattle.std.specs.Result.{result_ok}
 use Rattle.std.specs.Str.{all_ascii_digits}
 use Rattle.hex.specs.Hex.{decode_of}
@@ -17,6 +17,10 @@ is_numeral (d ∷ e ∷ ds) = not (d == 48) && all_ascii_digits (d ∷ e ∷ ds)
 -- the number that a word spells, if it spells one of at most `max`
 abbrev pub number_within : ℕ → List ℕ → Option ℕ
 number_within max word = if is_numeral word && nat_le (value_of word) max then Some (value_of word) else None
+
+-- the number that a word spells, if a u64 holds it
+abbrev pub any_number : List ℕ → Option ℕ
+any_number word = number_within (2 ^ 64 - 1) word
 
 -- the bytes that a word of hex digits spells, of either case: 2 to 65,536 digits, an even number of them
 abbrev pub bytes_of : List ℕ → Option (List ℕ)

@@ -17,10 +17,10 @@ abbrev pub line_read : ScriptValue → List ℕ → Option ScriptValue
 line_read script line =
     if list_all is_plain line then option_and_then (λ what. extended script what) (said (words line)) else None
 
--- what a script goes on to, or this line where there is none
-abbrev pub going_on : Option ScriptValue → ℕ → (ScriptValue → Result ScriptValue ℕ) → Result ScriptValue ℕ
+-- what a script or a trace goes on to, or this line where there is none
+abbrev pub going_on : {A : Type 0} → Option A → ℕ → (A → Result A ℕ) → Result A ℕ
 going_on None line on = Err line
-going_on (Some script) line on = on script
+going_on (Some longer) line on = on longer
 
 -- The script after some lines more, or the number of the first of them that is not in the grammar. So many lines stand
 -- before them.
@@ -39,7 +39,7 @@ script_of text = lines_read no_line 0 (lines text)
 
 -- A text that was refused for a line has this one as its first bad line. A number above 2^32 - 1 is told as that
 -- number. Memory may run out whatever the text is.
-abbrev pub IsTold : ScriptFault → Result ScriptValue ℕ → Type 0
+abbrev pub IsTold : {A : Type 0} → ScriptFault → Result A ℕ → Type 0
 IsTold Memory spelled = ⊤
-IsTold (BadLine told) (Ok script) = ⊥
+IsTold (BadLine told) (Ok value) = ⊥
 IsTold (BadLine told) (Err line) = told ≡ min line (2 ^ 32 - 1)

@@ -2,19 +2,27 @@
 #![tactic(auto)]
 
 mod act_text;
+mod act_words;
 mod entry_text;
+mod entry_words;
 mod laws;
 mod line;
 mod read;
 mod script;
 mod tally;
+mod trace;
 mod value_text;
+mod value_words;
 mod words;
 mod write;
 
-pub use laws::{lines_are_parted, numbers_are_decimal, phrase_has_its_words, refused_at_first_bad};
+pub use laws::{
+    lines_are_parted, numbers_are_decimal, phrase_has_its_words, refused_at_first_bad,
+    trace_refused_at_first_bad, written_is_read,
+};
 pub use read::read_script;
 pub use script::{ByteList, LinkLine, Script, ScriptFault, TurnLine};
+pub use trace::read_trace;
 pub use words::{MAX_NUMBER, first_piece, hex_bytes, number, words_of};
 pub use write::{write_report, write_trace};
 

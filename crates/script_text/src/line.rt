@@ -1,11 +1,11 @@
 // What one line says, whatever stands before it. Whether it may stand there is left to the reader of a script.
 ghost use Rattle.std.specs.Prelude.{◌≡◌, ◌∷◌, [], IfOk, map};
-ghost use Rattle.std.specs.Str.{bytes_eq};
-ghost use Rattle.script_text.specs.Grammar.{keyword_of, side_of, link_of, end_of, made_of, more_of, is_comment, said, said_by};
+ghost use Rattle.script_text.specs.Grammar.{keyword_of, made_of, more_of, is_comment, said, said_by};
 
+use crate::value_words::{is_word, read_end, read_link};
 use crate::words::{hex_bytes, number};
 use crate::{ByteList, TurnLine};
-use ev_types::{NoMemory, Side, SideId};
+use ev_types::NoMemory;
 use std::alloc::Global;
 
 /// The last moment of a script, in milliseconds.
@@ -13,9 +13,6 @@ const MAX_MS: u64 = 1 << 40;
 
 /// The most bytes that one line lets an end take, where it gives a number.
 const MAX_TAKE: u64 = 1 << 40;
-
-/// The greatest number that a link can have.
-const MAX_LINK: u64 = u32::MAX as u64;
 
 /// The kind of a line, which its first word tells.
 ///
@@ -47,12 +44,6 @@ pub enum Line {
     Skipped,
 }
 
-pub fn is_word(word: &[u8], text: &str) -> bool
-    ensures { result ≡ bytes_eq word.now text.now }
-{
-    word == text.as_bytes()
-}
-
 fn read_keyword(word: &[u8]) -> Option<Keyword>
     ensures { result ≡ keyword_of word.now }
 {
@@ -79,33 +70,6 @@ fn read_keyword(word: &[u8]) -> Option<Keyword>
     } else {
         None
     }
-}
-
-fn read_side(word: &[u8]) -> Option<Side>
-    ensures { result ≡ side_of word.now }
-{
-    if is_word(word, "in") {
-        Some(Side::In)
-    } else if is_word(word, "out") {
-        Some(Side::Out)
-    } else {
-        None
-    }
-}
-
-pub fn read_link(word: &[u8]) -> Option<u32>
-    ensures { result ≡ link_of word.now }
-{
-    Some(number(word, MAX_LINK)? as u32)
-}
-
-/// The end that these words name.
-pub fn read_end(link: &[u8], side: &[u8]) -> Option<SideId>
-    ensures { result ≡ end_of link.now side.now }
-{
-    let side = read_side(side)?;
-    let link = read_link(link)?;
-    Some(SideId { link, side })
 }
 
 fn read_made(word: &[u8]) -> Option<bool>

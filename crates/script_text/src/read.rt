@@ -1,5 +1,5 @@
 // Reads a script line by line. What a line says is told elsewhere; here stands where it may stand.
-ghost use Rattle.std.specs.Prelude.{◌≡◌, ◌≤◌, ◌<◌, ◌+◌, ◌-◌, ◌^◌, [], ◌&&◌, not, true, nat_lt, nat_le, length, min, IfOk, IfErr, OnOk, if◌then◌else◌};
+ghost use Rattle.std.specs.Prelude.{◌≡◌, ◌≤◌, ◌<◌, ◌+◌, ◌^◌, [], ◌&&◌, not, true, nat_lt, nat_le, length, IfOk, IfErr, OnOk, if◌then◌else◌};
 ghost use Rattle.std.specs.List.{list_all};
 ghost use Rattle.ev_types.specs.Sides.{number};
 ghost use Rattle.script_text.specs.Order.{extended, with_line, may_follow, turn_lines, is_known, is_undecided, bytes_for, is_ended};
@@ -7,7 +7,7 @@ ghost use Rattle.script_text.specs.Spelled.{is_plain, line_read, script_of, IsTo
 
 use crate::line::{Line, line_of};
 use crate::tally::{EndSoFar, count_line, count_link, kept};
-use crate::words::{first_piece, words_of};
+use crate::words::{first_piece, told, words_of};
 use crate::{Script, ScriptFault, TurnLine};
 use ev_types::{NoMemory, SideId};
 use std::alloc::Global;
@@ -183,15 +183,9 @@ fn is_plain_text(line: &[u8]) -> bool
     line.iter().all(|b| (b' '..=b'~').contains(b))
 }
 
-/// The number of a line as it is told.
-fn told(line: usize) -> u32
-    ensures { result ≡ min line (2 ^ 32 - 1) }
-{
-    u32::try_from(line).unwrap_or(u32::MAX)
-}
-
-/// Reads a whole script. Takes memory for it and for the words of a line. A text is refused at its first line that
-/// is not in the grammar, counted from 1; a number above 2^32 - 1 is told as that number.
+/// Reads a whole script. Empty lines, and lines whose first word begins with `#`, are skipped and counted. An empty
+/// text is a script with no turn. Takes memory for the script and for the words of a line. A text is refused at its
+/// first line that is not in the grammar, counted from 1; a number above 2^32 - 1 is told as that number.
 ///
 /// Own.
 pub fn read_script(alloc: Global, text: &[u8]) -> Result<Script, ScriptFault>

@@ -1,6 +1,6 @@
 // The pieces of a text, the words of a line, and the numbers and bytes that words spell. What a line says with
 // them is left to the grammar.
-ghost use Rattle.std.specs.Prelude.{◌≡◌, ◌<◌, ◌≤◌, ◌^◌, ◌∷◌, length, map, IfOk, option_map, position, ◌==◌, IfSome};
+ghost use Rattle.std.specs.Prelude.{◌≡◌, ◌<◌, ◌≤◌, ◌-◌, ◌^◌, ◌∷◌, length, map, min, IfOk, option_map, position, ◌==◌, IfSome};
 ghost use Rattle.script_text.specs.Pieces.{pieces, words};
 ghost use Rattle.script_text.specs.Numbers.{bytes_of, number_within};
 
@@ -68,7 +68,6 @@ pub fn words_of<'a>(alloc: Global, line: &'a [u8]) -> Result<Vec<&'a [u8]>, NoMe
 ///
 /// Own.
 pub fn number(word: &[u8], max: u64) -> Option<u64>
-    requires { max ≤ MAX_NUMBER }
     ensures value { result ≡ number_within max word.now }
     ensures within { IfSome result (λ n. n ≤ max) }
 {
@@ -83,9 +82,14 @@ pub fn number(word: &[u8], max: u64) -> Option<u64>
         if value > max / 10 {
             return None;
         }
-        value = value * 10 + u64::from(*digit - b'0');
+        let tens = value * 10;
+        let ones = u64::from(*digit - b'0');
+        if ones > max - tens {
+            return None;
+        }
+        value = tens + ones;
     }
-    (value <= max).then_some(value)
+    Some(value)
 }
 
 /// The bytes that a word of hex digits of either case spells: an even number of digits, 2 to 65,536. `None` for every
@@ -103,4 +107,11 @@ pub fn hex_bytes(alloc: Global, word: &[u8]) -> Result<Option<Vec<u8>>, NoMemory
         Err(FromHexError::OutOfMemory) => Err(NoMemory),
         Err(_) => Ok(None),
     }
+}
+
+/// The number of a line as it is told.
+pub fn told(line: usize) -> u32
+    ensures { result ≡ min line (2 ^ 32 - 1) }
+{
+    u32::try_from(line).unwrap_or(u32::MAX)
 }
