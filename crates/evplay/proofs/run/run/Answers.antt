@@ -1,4 +1,4 @@
-use Rattle.std.proofs.Common.{◌≡◌, ◌≢◌, ◌⊎◌, inl, inr, ◌≤◌, ◌<◌, ◌+◌, ◌*◌, ◌^◌, ◌++◌, ℕ, List, length, Some, Bool, true, false, refl, sym, ap, ◌∙◌, subst, arith, Result, Ok, Err, IfOk, IfErr}
+use Rattle.std.proofs.Common.{◌≡◌, ◌≢◌, ◌⊎◌, inl, inr, ◌≤◌, ◌<◌, ◌+◌, ◌*◌, ◌++◌, ℕ, length, Some, false, refl, ◌∙◌, subst, arith, Result, Ok, Err, IfOk, IfErr}
 use Rattle.std.proofs.lemmas.List.{length-map}
 use Rattle.std.specs.Prelude.{count_by}
 use Rattle.ev_types.specs.Trace.{Trace}
@@ -8,7 +8,6 @@ use Rattle.script_text.specs.ScriptView.{script_value}
 use Rattle.ev_port.specs.ScriptTold.{script_faults}
 use Rattle.relay_model.specs.Answers.{TurnAnswer}
 use Rattle.relay_model.specs.RatesKept.{is_turn}
-use Rattle.relay_core.specs.State.{State}
 use Rattle.relay_meaning.specs.Meaning.{LeftFor}
 use Rattle.relay_meaning.proofs.LawLemmas.{new_relay_stands}
 use Rattle.relay_drive.specs.declared.fault.DriveFault.{DriveFault}
@@ -103,13 +102,13 @@ returns-in-Err-clause-text c =
     let longer : c.turn.new.scribe.trace ≡ u = same-trace c.turn.new.scribe.trace u w.list in
     let s = c.turn.new.self.state in
     ok-both c.cut_off.result c.cut_off.ensures.poll_failed c.cut_off.ensures.text (λ ran ended text.
-      let cut : CutTurn fault.PollFault c.loop.drive.state w.added s = subst (λ f. CutTurn f c.loop.drive.state w.added s) ended.0 w.does in
-      let left : LeftFor TurnAnswer.PollFault u s = subst (λ f. LeftFor (drive.answer_of f) u s) ended.0 (w.means t inv.means) in
-      let once : count_by is_turn w.added ≡ 1 = cut-poll-once cut in
-      let counted : count_by is_turn u ≤ length c.args.script.turns = omega (arith, count-append t w.added, once, inv.turns, below) in
-      let seen = w.told (Question.Took c.args.script.turns) t inv.stands inv.seen in
-      let run = failed-run c.args.script c.turn.new.port u s (rw w.settings inv.hold) (rw w.settings inv.links) left c.requires.names c.requires.brings counted seen in
-      rw ended.1 (u, lines_below s s.opened, run, rw (text, longer) refl))
+    let cut : CutTurn fault.PollFault c.loop.drive.state w.added s = subst (λ f. CutTurn f c.loop.drive.state w.added s) ended.0 w.does in
+    let left : LeftFor TurnAnswer.PollFault u s = subst (λ f. LeftFor (drive.answer_of f) u s) ended.0 (w.means t inv.means) in
+    let once : count_by is_turn w.added ≡ 1 = cut-poll-once cut in
+    let counted : count_by is_turn u ≤ length c.args.script.turns = omega (arith, count-append t w.added, once, inv.turns, below) in
+    let seen = w.told (Question.Took c.args.script.turns) t inv.stands inv.seen in
+    let run = failed-run c.args.script c.turn.new.port u s (rw w.settings inv.hold) (rw w.settings inv.links) left c.requires.names c.requires.brings counted seen in
+    rw ended.1 (u, lines_below s s.opened, run, rw (text, longer) refl))
 
 pub returns-in-Err-clause-only_memory : goal.returns-in-Err-clause-only_memory
 returns-in-Err-clause-only_memory c =
