@@ -15,7 +15,7 @@ use Rattle.ev_port.specs.ScriptState.{EndState, PortState}
 use Rattle.ev_port.specs.ScriptLinks.{at_end}
 use Rattle.ev_port.specs.ScriptPort.{failed_poll}
 use Rattle.ev_port.specs.ScriptTold.{script_faults}
-use Rattle.ev_port.specs.FailPort.{same_call, is_last, one_less, is_failing, after_call, end_failed, poll_failed, fail_faults}
+use Rattle.ev_port.specs.FailPort.{same_call, is_last, one_less, is_failing, after_call, passed, failed_at, end_failed, poll_failed, fail_faults}
 use Rattle.ev_port.proofs.ToldLemmas.{other_number, same_end_tells}
 use Rattle.ev_port.proofs.FaultLemmas.{faults_at, faults-at_end, faults-wants}
 use Rattle.ev_port.proofs.ScriptTraceLemmas.{same_self}
@@ -37,10 +37,10 @@ other_end e x differs = elim (same_end_tells e x) [ inl same ↦ absurd (other_n
 -- The call that fails
 
 pub end_failing : (p : FailPort) (call : PortCall) (e : SideId) (f : EndState → EndState) → is_failing p call ≡ true → ((s : EndState) → (f s).tally.faults ≡ s.tally.faults) →
-    EndFaults (fail_faults p) (fail_faults (record p { inner = record p.inner { links = at_end e f p.inner.links }; plan = AtEnd e })) e true
+    EndFaults (fail_faults p) (fail_faults (failed_at p e f)) e true
 end_failing p call e f fails same = by_plan p.plan (and_parts (same_call p.kind call) (is_last p.plan) fails).1
   where
-    by_plan : (plan : FailPlan) → is_last plan ≡ true → EndFaults (fail_faults (record p { plan = plan })) (fail_faults (record p { inner = record p.inner { links = at_end e f p.inner.links }; plan = AtEnd e })) e true
+    by_plan : (plan : FailPlan) → is_last plan ≡ true → EndFaults (fail_faults (record p { plan = plan })) (fail_faults (failed_at p e f)) e true
     by_plan (Left calls) h =
         let here = faults-at_end p.inner.links e f same in
         let own = same_self e in
@@ -71,9 +71,9 @@ poll_failing p call ws accept timeout fails = by_plan p.plan (and_parts (same_ca
 -- Every other call
 
 -- what failed stays
-passed : (p : FailPort) (kind : PortCall) (new : PortState) (e : SideId) (is_fault : Bool) → EndFaults (script_faults p.inner) (script_faults new) e is_fault →
-    EndFaults (fail_faults p) (fail_faults (record (after_call p kind) { inner = new })) e is_fault
-passed p kind new e is_fault h = by_plan p.plan (same_call p.kind kind)
+passed_by : (p : FailPort) (kind : PortCall) (new : PortState) (e : SideId) (is_fault : Bool) → EndFaults (script_faults p.inner) (script_faults new) e is_fault →
+    EndFaults (fail_faults p) (fail_faults (passed p kind new)) e is_fault
+passed_by p kind new e is_fault h = by_plan p.plan (same_call p.kind kind)
   where
     kept : (plan : FailPlan) → EndFaults (fail_faults (record p { plan = plan })) (fail_faults (record p { inner = new; plan = plan })) e is_fault
     kept plan = record {
@@ -94,4 +94,4 @@ passed p kind new e is_fault h = by_plan p.plan (same_call p.kind kind)
 pub end_passed : (p : FailPort) (kind : PortCall) (counts : FailPort) (new : PortState) (e : SideId) (is_fault : Bool) → counts ≡ after_call p kind → EndFaults (script_faults counts.inner) (script_faults new) e is_fault →
     EndFaults (fail_faults p) (fail_faults (record counts { inner = new })) e is_fault
 end_passed p kind counts new e is_fault is h =
-    subst (λ (m : FailPort). EndFaults (script_faults m.inner) (script_faults new) e is_fault → EndFaults (fail_faults p) (fail_faults (record m { inner = new })) e is_fault) (sym is) (passed p kind new e is_fault) h
+    subst (λ (m : FailPort). EndFaults (script_faults m.inner) (script_faults new) e is_fault → EndFaults (fail_faults p) (fail_faults (record m { inner = new })) e is_fault) (sym is) (passed_by p kind new e is_fault) h

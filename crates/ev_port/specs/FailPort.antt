@@ -15,6 +15,7 @@ use Rattle.ev_port.specs.Counting.{counted}
 use Rattle.ev_port.specs.EndTallies.{once}
 use Rattle.ev_port.specs.Told.{Faults}
 use Rattle.ev_port.specs.FailedCalls.{failed_write}
+use Rattle.ev_port.specs.ScriptState.{EndState, PortState}
 use Rattle.ev_port.specs.ScriptLinks.{at_end, WroteAt}
 use Rattle.ev_port.specs.ScriptTold.{script_faults}
 
@@ -45,12 +46,20 @@ is_failing p kind = same_call p.kind kind && is_last p.plan
 abbrev pub after_call : FailPort → PortCall → FailPort
 after_call p kind = record p { plan = if same_call p.kind kind then one_less p.plan else p.plan }
 
+-- such a call was made, and this came of the inner port
+abbrev pub passed : FailPort → PortCall → PortState → FailPort
+passed p kind inner = record (after_call p kind) { inner = inner }
+
+-- a call on this end failed: it is counted there, and nothing else changed
+abbrev pub failed_at : FailPort → SideId → (EndState → EndState) → FailPort
+failed_at p e counts = record p { inner = record p.inner { links = at_end e counts p.inner.links }; plan = AtEnd e }
+
 -- a write failed, or else did what the inner port's does
 abbrev pub WroteOrFailed : Bool → FailPort → FailPort → SideId → List ℕ → WriteAnswer → Type 0
-WroteOrFailed true old new e from answer =
-    (answer ≡ write.Failed) × (new ≡ record old { inner = record old.inner { links = at_end e (failed_write (length from)) old.inner.links }; plan = AtEnd e })
+WroteOrFailed true old new e from answer = (answer ≡ write.Failed) × (new ≡ failed_at old e (failed_write (length from)))
 WroteOrFailed false old new e from answer =
-    WroteAt old.inner.links new.inner.links e from answer × (new ≡ record (after_call old call.Write) { inner = record old.inner { links = new.inner.links } })
+    WroteAt old.inner.links new.inner.links e from answer
+    × (new ≡ passed old call.Write (record old.inner { links = new.inner.links }))
 
 -- Faults
 

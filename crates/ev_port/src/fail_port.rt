@@ -13,7 +13,7 @@ ghost use Rattle.ev_port.specs.FailedCalls.{failed_read, failed_check};
 ghost use Rattle.ev_port.specs.ScriptLinks.{at_end, unmarked, accept_answer, read_answer_at, pending_at, conn_answer_at};
 ghost use Rattle.ev_port.specs.ScriptPort.{clock_answer, after_now, after_start, poll_answer, poll_marks, after_poll, failed_poll, accept_tally, after_accept};
 ghost use Rattle.ev_port.specs.ScriptTold.{ends_told, port_told};
-ghost use Rattle.ev_port.specs.FailPort.{same_call, is_failing, after_call, WroteOrFailed, fail_faults, vouches_nothing};
+ghost use Rattle.ev_port.specs.FailPort.{same_call, is_failing, after_call, passed, failed_at, WroteOrFailed, fail_faults, vouches_nothing};
 
 use crate::{Accepted, Addr, Polled, Port, ScriptPort, Started, Want};
 use ev_types::{ConnAnswer, ReadAnswer, SideId, WriteAnswer};
@@ -68,8 +68,8 @@ pub struct FailPort {
 }
 
 impl FailPort {
-    /// The k-th call of this kind fails, counted from 1 and from here on; where k is 0 none does. The inner port isn't
-    /// asked then, and of what it answers nothing is lost.
+    /// The k-th call of this kind, counted from 1 and from here on, is answered `Failed` without asking the inner port,
+    /// so that nothing of what that would answer is lost. Where k is 0 no call fails. Takes no memory.
     pub fn new(inner: ScriptPort, kind: PortCall, k: u64) -> FailPort
         ensures { result ≡ record { inner = inner; kind = kind; plan = FailPlan.Left k } }
     {
@@ -137,7 +137,7 @@ impl Port for FailPort {
     fn poll(&mut self, wants: &mut [Want], accept: bool, timeout: Option<u64>) -> Polled
         ensures answer { result ≡ (if is_failing self.old PortCall.Poll then Polled.Failed else poll_answer self.old.inner accept) }
         ensures marks { wants.new ≡ (if is_failing self.old PortCall.Poll then map unmarked wants.old else poll_marks self.old.inner.links wants.old) }
-        ensures after { self.new ≡ (if is_failing self.old PortCall.Poll then record self.old { inner = failed_poll self.old.inner wants.new accept timeout; plan = FailPlan.AtPoll } else record (after_call self.old PortCall.Poll) { inner = after_poll self.old.inner wants.new accept timeout (poll_answer self.old.inner accept) }) }
+        ensures after { self.new ≡ (if is_failing self.old PortCall.Poll then record self.old { inner = failed_poll self.old.inner wants.new accept timeout; plan = FailPlan.AtPoll } else passed self.old PortCall.Poll (after_poll self.old.inner wants.new accept timeout (poll_answer self.old.inner accept))) }
 
         // What every port says.
         ensures marked { AllMarked wants.old wants.new }
@@ -159,7 +159,7 @@ impl Port for FailPort {
 
     fn accept(&mut self, link: u32) -> Accepted
         ensures answer { result ≡ (if is_failing self.old PortCall.Accept then Accepted.Failed else accept_answer self.old.inner.links.waiting) }
-        ensures after { self.new ≡ (if is_failing self.old PortCall.Accept then record self.old { inner = record self.old.inner { tally = accept_tally Accepted.Failed self.old.inner.tally }; plan = FailPlan.AtAccept } else record (after_call self.old PortCall.Accept) { inner = after_accept self.old.inner link }) }
+        ensures after { self.new ≡ (if is_failing self.old PortCall.Accept then record self.old { inner = record self.old.inner { tally = accept_tally Accepted.Failed self.old.inner.tally }; plan = FailPlan.AtAccept } else passed self.old PortCall.Accept (after_accept self.old.inner link)) }
 
         // What every port says.
         ensures cause { ListenerFaults (fail_faults self.old) (fail_faults self.new) (is_failed_accept result) }
@@ -179,7 +179,7 @@ impl Port for FailPort {
 
     fn connect_state(&mut self, end: SideId) -> ConnAnswer
         ensures answer { result ≡ (if is_failing self.old PortCall.ConnectState then ConnAnswer.Failed else conn_answer_at self.old.inner.links end) }
-        ensures after { self.new ≡ (if is_failing self.old PortCall.ConnectState then record self.old { inner = record self.old.inner { links = at_end end failed_check self.old.inner.links }; plan = FailPlan.AtEnd end } else record (after_call self.old PortCall.ConnectState) { inner = record self.old.inner { links = at_end end after_check self.old.inner.links } }) }
+        ensures after { self.new ≡ (if is_failing self.old PortCall.ConnectState then failed_at self.old end failed_check else passed self.old PortCall.ConnectState (record self.old.inner { links = at_end end after_check self.old.inner.links })) }
 
         // What every port says.
         ensures cause { EndFaults (fail_faults self.old) (fail_faults self.new) end (is_failed_conn result) }
@@ -201,7 +201,7 @@ impl Port for FailPort {
         ensures answer { result ≡ (if is_failing self.old PortCall.Read then ReadAnswer.Failed else read_answer_at self.old.inner.links end (length into.old)) }
         ensures bytes { got_bytes result into.new ≡ (if is_failing self.old PortCall.Read then [] else take (length into.old) (pending_at self.old.inner.links end)) }
         ensures rest { drop (length (got_bytes result into.new)) into.new ≡ drop (length (got_bytes result into.new)) into.old }
-        ensures after { self.new ≡ (if is_failing self.old PortCall.Read then record self.old { inner = record self.old.inner { links = at_end end (failed_read (length into.old)) self.old.inner.links }; plan = FailPlan.AtEnd end } else record (after_call self.old PortCall.Read) { inner = record self.old.inner { links = at_end end (λ s. after_read s (length into.old)) self.old.inner.links } }) }
+        ensures after { self.new ≡ (if is_failing self.old PortCall.Read then failed_at self.old end (failed_read (length into.old)) else passed self.old PortCall.Read (record self.old.inner { links = at_end end (λ s. after_read s (length into.old)) self.old.inner.links })) }
 
         // What every port says.
         ensures within { ReadWithin result (length into.new) }

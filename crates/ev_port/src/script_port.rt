@@ -24,7 +24,9 @@ use script_text::{Script, TurnLine};
 use std::alloc::Global;
 use std::marker::Model;
 
-/// A port that answers by a script.
+/// A port that answers by a script. Each reading of the clock begins its next turn, in milliseconds as the script has
+/// them, and after the last turn gives that turn's again. Calls fail where its lines say so, and an accept never does. A
+/// call on an end of no link of the script changes nothing. Only `write` takes memory.
 ///
 /// Own.
 #[derive(Drop)]

@@ -36,8 +36,6 @@ ComesTo _ source _ text = ⊥
 -- the first line of a source text that is not in the grammar of the mode has this number
 abbrev pub IsFirstBad : Mode → List ℕ → ℕ → Type 0
 IsFirstBad mode.Relay source line = script_of source ≡ Err line
-IsFirstBad mode.Base source line = ⊥
-IsFirstBad mode.Buffers source line = ⊥
 
 -- The line is told of a text that has this one as its first bad line. A number above 2^32 - 1 is told as that number.
 abbrev pub TellsBad : Mode → List ℕ → ℕ → Type 0

@@ -26,8 +26,6 @@ pub fn outcome_of(alloc: Global, mode: Mode, text: &[u8]) -> Result<Outcome, Sta
 {
     match mode {
         Mode::Relay => relay(alloc, text),
-        Mode::Base => Err(Status::Memory),
-        Mode::Buffers => Err(Status::Memory),
     }
 }
 

@@ -9,10 +9,6 @@ ghost use Rattle.evplay.specs.Words.{mode_named, mode_of};
 pub enum Mode {
     /// A script of links over a port.
     Relay,
-    /// A script of events, timers and signals.
-    Base,
-    /// A script of sixteen buffers.
-    Buffers,
 }
 
 /// The mode that the words ask for. `None` exactly where they are not one mode word.
@@ -30,10 +26,6 @@ fn mode_named(word: &str) -> Option<Mode>
 {
     if word == "relay" {
         Some(Mode::Relay)
-    } else if word == "base" {
-        Some(Mode::Base)
-    } else if word == "buffers" {
-        Some(Mode::Buffers)
     } else {
         None
     }

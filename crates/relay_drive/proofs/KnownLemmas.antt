@@ -1,5 +1,5 @@
 -- How what is known of a port goes on with each call.
-use Rattle.std.proofs.Common.{◌≡◌, ◌⊎◌, inl, inr, ℕ, ◌+◌, ◌≤◌, Bool, true, false, ◌||◌, not, List, [], ◌∷◌, ◌++◌, max, min, ◌^◌, if◌then◌else◌, Option, Some, None, refl, sym, ◌∙◌, ap, subst, arith, append-nil, nat_lt}
+use Rattle.std.proofs.Common.{◌≡◌, ◌⊎◌, inl, inr, ℕ, ◌≤◌, Bool, true, false, ◌||◌, not, List, [], ◌∷◌, ◌++◌, max, min, ◌^◌, if◌then◌else◌, Option, Some, None, refl, sym, ◌∙◌, ap, subst, arith, append-nil, nat_lt}
 use Rattle.std.specs.Prelude.{⊤, MatchOption, IsSome, fold, unwrap_or}
 use Rattle.std.specs.List.{list_any, list_all, last_or}
 use Rattle.std.proofs.lemmas.Bool.{and_parts, ltb-false}
@@ -7,10 +7,8 @@ use Rattle.ev_types.specs.declared.side.SideId.{SideId}
 use Rattle.ev_types.specs.declared.entry.Entry.TheVariants as entry
 use Rattle.ev_types.specs.Trace.{Event, Trace}
 use Rattle.script_text.specs.Script.{TurnValue}
-use Rattle.relay_model.specs.Script.{ScriptTurn}
-use Rattle.relay_model.specs.Scripted.{waiting}
 use Rattle.relay_model.specs.Totals.{opened, opened_by, opened_in_turn, times}
-use Rattle.relay_model.specs.Tied.{PortTied, IsTied}
+use Rattle.relay_model.specs.Tied.{PortTied}
 use Rattle.relay_model.specs.Plays.{TookAll, AlwaysTookAll, is_behind_accepting, is_served}
 use Rattle.relay_model.proofs.TiedLemmas.{end_ties_join}
 use Rattle.ev_port.specs.declared.port.Accepted.TheVariants as accepted
@@ -19,7 +17,7 @@ use Rattle.ev_port.specs.declared.port.Polled.TheVariants as polled
 use Rattle.ev_port.specs.declared.port.Want.{Want}
 use Rattle.ev_port.specs.Told.{EndTold, PortTold, AllWent, PortStays, Stays, Becomes}
 use Rattle.ev_port.specs.Calls.{last_time, turn_time, Ticked, ClockRead, AcceptedLink}
-use Rattle.ev_port.specs.Polling.{poll_events, opens_accepting, PolledWith}
+use Rattle.ev_port.specs.Polling.{poll_events, PolledWith}
 use Rattle.ev_port.specs.Vouching.{LongerBy}
 use Rattle.ev_port.specs.Waiting.{NothingWaits}
 use Rattle.ev_port.specs.ScriptPlayed.{played_turns}
@@ -31,7 +29,7 @@ use Rattle.relay_drive.specs.Known.{Question, Progress, port_tells, end_tells, I
 use Rattle.relay_drive.proofs.CalmLemmas.{Calm, Still, calm_list, served_list, is_calm, opened-append, in_turn-append}
 use Rattle.relay_drive.proofs.TiedLemmas.{step_of, tied_of, rest_of, poll_all, poll_rest}
 use Rattle.relay_drive.proofs.TookLemmas.{counts_served, took_same, always-append, always-accepting, always-served}
-use Rattle.relay_drive.proofs.PortLemmas.{tells_still, tells_now, port_calm, port_polled, port_linked, port_closed, port_clocked, poll_split}
+use Rattle.relay_drive.proofs.PortLemmas.{tells_now, port_calm, port_polled, port_linked, port_closed, port_clocked, poll_split}
 
 -- Accepting that is closed
 

@@ -10,7 +10,6 @@ use Rattle.ev_port.specs.declared.port.Polled.TheVariants as polled
 use Rattle.ev_port.specs.declared.port.Want.{Want}
 use Rattle.ev_port.specs.Told.{Faults}
 use Rattle.ev_port.specs.Faults.{PollFaults}
-use Rattle.ev_port.specs.Calls.{last_time}
 use Rattle.ev_port.specs.Counting.{counted}
 use Rattle.ev_port.specs.Polling.{IsMarked, AllMarked, want_events, ready_events, poll_events}
 use Rattle.relay_core.specs.State.{State}

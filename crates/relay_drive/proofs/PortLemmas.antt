@@ -1,5 +1,5 @@
 -- What each call of a port tells of the whole port is what its entries say.
-use Rattle.std.proofs.Common.{◌≡◌, ℕ, ◌+◌, ◌-◌, ◌^◌, ◌<◌, Bool, true, false, List, [], ◌∷◌, ◌++◌, max, min, if◌then◌else◌, Option, Some, None, refl, sym, ◌∙◌, ap, subst, arith, append-nil, nat_lt, length, zero-add, length-append}
+use Rattle.std.proofs.Common.{◌≡◌, ℕ, ◌+◌, Bool, false, List, [], ◌∷◌, ◌++◌, max, min, if◌then◌else◌, Option, Some, None, refl, sym, ◌∙◌, ap, subst, arith, append-nil, nat_lt, length, zero-add, length-append}
 use Rattle.std.specs.Prelude.{⊤, MatchOption, IsSome, IsSomeAnd, is_some, unwrap_or}
 use Rattle.std.specs.List.{last_or}
 use Rattle.ev_types.specs.declared.entry.Entry.TheVariants as entry
@@ -9,13 +9,12 @@ use Rattle.relay_model.specs.Turn.{latest}
 use Rattle.relay_model.specs.Totals.{opened, times, last_timeout, polls_that_accept}
 use Rattle.relay_model.specs.Tied.{TellsNumber, TellsReading, LastFollows, PortTells, PortTied}
 use Rattle.relay_model.proofs.TiedLemmas.{TellsNumber-plus, LastFollows-push, polls_that_accept-append}
-use Rattle.ev_port.specs.declared.port.Accepted.{Accepted}
 use Rattle.ev_port.specs.declared.port.Accepted.TheVariants as accepted
 use Rattle.ev_port.specs.declared.port.Polled.{Polled}
 use Rattle.ev_port.specs.declared.port.Polled.TheVariants as polled
 use Rattle.ev_port.specs.declared.port.Want.{Want}
 use Rattle.ev_port.specs.Told.{PortTold, Counts, Becomes, Stays, PortStays}
-use Rattle.ev_port.specs.Calls.{ClockRead, AcceptedLink, accept_events}
+use Rattle.ev_port.specs.Calls.{ClockRead, AcceptedLink}
 use Rattle.ev_port.specs.Polling.{poll_events, opens_accepting, PolledWith}
 use Rattle.relay_drive.specs.Known.{port_tells}
 use Rattle.relay_drive.proofs.CalmLemmas.{Calm, calm_list, is_calm, opened-append, times-append, timeout-append}

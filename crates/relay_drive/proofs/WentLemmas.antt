@@ -1,5 +1,5 @@
 -- What a run does is what its drive does.
-use Rattle.std.proofs.Common.{◌≡◌, ℕ, ◌+◌, Bool, List, ◌++◌, length, Option, refl, sym, ◌∙◌, subst, arith, length-append}
+use Rattle.std.proofs.Common.{◌≡◌, Bool, ◌++◌, Option, sym, subst, arith, length-append}
 use Rattle.ev_types.specs.Trace.{Trace}
 use Rattle.ev_port.specs.Told.{Faults}
 use Rattle.relay_core.specs.State.{State}

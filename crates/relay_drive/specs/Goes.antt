@@ -1,6 +1,6 @@
 -- What a call of the drive does outside of the relay too: the entries that it puts, what is known of the port, and which
 -- faults are counted.
-use Rattle.std.specs.Prelude.{◌≡◌, Bool, true, false, List, ◌++◌, length, Option}
+use Rattle.std.specs.Prelude.{◌≡◌, Bool, true, false, ◌++◌, length, Option}
 use Rattle.std.specs.List.{list_any}
 use Rattle.stream_words.specs.Faults.{Counted}
 use Rattle.ev_types.specs.declared.side.SideId.{SideId}

@@ -1,5 +1,5 @@
 -- What is known of a port and of the trace that a drive stands for, as a turn goes on.
-use Rattle.std.specs.Prelude.{◌≡◌, ℕ, ⊤, List, [], Option, Some, IsSome, unwrap_or}
+use Rattle.std.specs.Prelude.{◌≡◌, ⊤, List, [], Some, IsSome, unwrap_or}
 use Rattle.std.specs.List.{last_or}
 use Rattle.ev_types.specs.declared.side.SideId.{SideId}
 use Rattle.ev_types.specs.Trace.{Trace}

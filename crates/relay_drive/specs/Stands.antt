@@ -1,5 +1,5 @@
 -- Which traces a drive stands for, and what a turn does to them.
-use Rattle.std.specs.Prelude.{◌≡◌, Bool, List, ◌++◌, length, Option}
+use Rattle.std.specs.Prelude.{◌≡◌, Bool, ◌++◌, length, Option}
 use Rattle.ev_types.specs.Trace.{Trace}
 use Rattle.ev_types.specs.Growth.{Grew}
 use Rattle.ev_port.specs.Told.{Faults}

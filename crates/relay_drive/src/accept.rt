@@ -23,9 +23,9 @@ fn accept_one<P: Port, S: Scribe>(
     requires { run.old.relay.state.opened < run.old.relay.state.settings.links }
     ensures went { MatchResult result
         (λ more. Goes (λ s a new. MatchBool more (OpensOne s a new) (Nothing s a new)) false run.old run.new (S.trace scribe.old) (S.trace scribe.new)
-            (known Progress.Accepting (P.vouches port.old) (P.told port.old) (P.ends port.old)) (known (if more then Progress.Accepting else Progress.Accepted) (P.vouches port.new) (P.told port.new) (P.ends port.new)) (P.faults port.old) (P.faults port.new))
+        (known Progress.Accepting (P.vouches port.old) (P.told port.old) (P.ends port.old)) (known (if more then Progress.Accepting else Progress.Accepted) (P.vouches port.new) (P.told port.new) (P.ends port.new)) (P.faults port.old) (P.faults port.new))
         (λ fault. Goes Nothing (is_open_fault fault) run.old run.new (S.trace scribe.old) (S.trace scribe.new)
-            (known Progress.Accepting (P.vouches port.old) (P.told port.old) (P.ends port.old)) (known Progress.Accepting (P.vouches port.new) (P.told port.new) (P.ends port.new)) (P.faults port.old) (P.faults port.new)) }
+        (known Progress.Accepting (P.vouches port.old) (P.told port.old) (P.ends port.old)) (known Progress.Accepting (P.vouches port.new) (P.told port.new) (P.ends port.new)) (P.faults port.old) (P.faults port.new)) }
     ensures grown { MatchResult result (λ more. run.new.relay.state.opened ≡ run.old.relay.state.opened + (if more then 1 else 0)) (λ _. run.new.relay.state.opened ≡ run.old.relay.state.opened) }
     ensures cause { MatchResult result (λ _. Unit {0}) (λ fault. (fault ≡ Memory) ⊎ (fault ≡ OpenFault)) }
 {
@@ -53,9 +53,9 @@ fn accept_one<P: Port, S: Scribe>(
 fn accept<P: Port, S: Scribe>(run: &mut Run, port: &mut P, scribe: &mut S) -> Result<(), DriveFault>
     ensures went { MatchResult result
         (λ _. Goes Accepts false run.old run.new (S.trace scribe.old) (S.trace scribe.new)
-            (known Progress.Begun (P.vouches port.old) (P.told port.old) (P.ends port.old)) (known Progress.Accepted (P.vouches port.new) (P.told port.new) (P.ends port.new)) (P.faults port.old) (P.faults port.new))
+        (known Progress.Begun (P.vouches port.old) (P.told port.old) (P.ends port.old)) (known Progress.Accepted (P.vouches port.new) (P.told port.new) (P.ends port.new)) (P.faults port.old) (P.faults port.new))
         (λ fault. Goes AcceptsMore (is_open_fault fault) run.old run.new (S.trace scribe.old) (S.trace scribe.new)
-            (known Progress.Begun (P.vouches port.old) (P.told port.old) (P.ends port.old)) (known Progress.Accepting (P.vouches port.new) (P.told port.new) (P.ends port.new)) (P.faults port.old) (P.faults port.new)) }
+        (known Progress.Begun (P.vouches port.old) (P.told port.old) (P.ends port.old)) (known Progress.Accepting (P.vouches port.new) (P.told port.new) (P.ends port.new)) (P.faults port.old) (P.faults port.new)) }
     ensures grown { run.old.relay.state.opened ≤ run.new.relay.state.opened }
     ensures cause { MatchResult result (λ _. Unit {0}) (λ fault. (fault ≡ Memory) ⊎ (fault ≡ OpenFault)) }
 {
@@ -79,9 +79,9 @@ pub(crate) fn accept_ready<P: Port, S: Scribe>(
 ) -> Result<(), DriveFault>
     ensures went { MatchResult result
         (λ _. Goes (AcceptsWhere ready) false run.old run.new (S.trace scribe.old) (S.trace scribe.new)
-            (known (if ready then Progress.Begun else Progress.Accepted) (P.vouches port.old) (P.told port.old) (P.ends port.old)) (known Progress.Accepted (P.vouches port.new) (P.told port.new) (P.ends port.new)) (P.faults port.old) (P.faults port.new))
+        (known (if ready then Progress.Begun else Progress.Accepted) (P.vouches port.old) (P.told port.old) (P.ends port.old)) (known Progress.Accepted (P.vouches port.new) (P.told port.new) (P.ends port.new)) (P.faults port.old) (P.faults port.new))
         (λ fault. Goes (λ s a new. (ready ≡ true) × AcceptsMore s a new) (is_open_fault fault) run.old run.new (S.trace scribe.old) (S.trace scribe.new)
-            (known (if ready then Progress.Begun else Progress.Accepted) (P.vouches port.old) (P.told port.old) (P.ends port.old)) (known Progress.Accepting (P.vouches port.new) (P.told port.new) (P.ends port.new)) (P.faults port.old) (P.faults port.new)) }
+        (known (if ready then Progress.Begun else Progress.Accepted) (P.vouches port.old) (P.told port.old) (P.ends port.old)) (known Progress.Accepting (P.vouches port.new) (P.told port.new) (P.ends port.new)) (P.faults port.old) (P.faults port.new)) }
     ensures grown { run.old.relay.state.opened ≤ run.new.relay.state.opened }
     ensures cause { MatchResult result (λ _. Unit {0}) (λ fault. (fault ≡ Memory) ⊎ (fault ≡ OpenFault)) }
 {

@@ -27,9 +27,9 @@ pub(crate) fn ask_read<P: Port, S: Scribe>(
     requires some { 0 < length into.old }
     ensures went { MatchResult result
         (λ answer. Goes (Reads side answer into.new) false run.old run.new (S.trace scribe.old) (S.trace scribe.new)
-            (known Progress.Accepted (P.vouches port.old) (P.told port.old) (P.ends port.old)) (known Progress.Accepted (P.vouches port.new) (P.told port.new) (P.ends port.new)) (P.faults port.old) (P.faults port.new))
+        (known Progress.Accepted (P.vouches port.old) (P.told port.old) (P.ends port.old)) (known Progress.Accepted (P.vouches port.new) (P.told port.new) (P.ends port.new)) (P.faults port.old) (P.faults port.new))
         (λ _. Goes Nothing false run.old run.new (S.trace scribe.old) (S.trace scribe.new)
-            (known Progress.Accepted (P.vouches port.old) (P.told port.old) (P.ends port.old)) (known Progress.Accepted (P.vouches port.new) (P.told port.new) (P.ends port.new)) (P.faults port.old) (P.faults port.new)) }
+        (known Progress.Accepted (P.vouches port.old) (P.told port.old) (P.ends port.old)) (known Progress.Accepted (P.vouches port.new) (P.told port.new) (P.ends port.new)) (P.faults port.old) (P.faults port.new)) }
     ensures cause { MatchResult result (λ _. Unit {0}) (λ fault. fault ≡ Memory) }
 {
     run.relay.reserve_read(side, into.len())?;
@@ -85,9 +85,9 @@ pub(crate) fn ask_write<P: Port, S: Scribe>(
     requires some { 0 < length (offer run.old.relay.state side) }
     ensures went { MatchResult result
         (λ answer. Goes (Writes side answer) false run.old run.new (S.trace scribe.old) (S.trace scribe.new)
-            (known Progress.Accepted (P.vouches port.old) (P.told port.old) (P.ends port.old)) (known Progress.Accepted (P.vouches port.new) (P.told port.new) (P.ends port.new)) (P.faults port.old) (P.faults port.new))
+        (known Progress.Accepted (P.vouches port.old) (P.told port.old) (P.ends port.old)) (known Progress.Accepted (P.vouches port.new) (P.told port.new) (P.ends port.new)) (P.faults port.old) (P.faults port.new))
         (λ _. Goes Nothing false run.old run.new (S.trace scribe.old) (S.trace scribe.new)
-            (known Progress.Accepted (P.vouches port.old) (P.told port.old) (P.ends port.old)) (known Progress.Accepted (P.vouches port.new) (P.told port.new) (P.ends port.new)) (P.faults port.old) (P.faults port.new)) }
+        (known Progress.Accepted (P.vouches port.old) (P.told port.old) (P.ends port.old)) (known Progress.Accepted (P.vouches port.new) (P.told port.new) (P.ends port.new)) (P.faults port.old) (P.faults port.new)) }
     ensures cause { MatchResult result (λ _. Unit {0}) (λ fault. fault ≡ Memory) }
 {
     let offer = run.relay.offer(side);
@@ -152,9 +152,9 @@ pub(crate) fn ask_connect<P: Port, S: Scribe>(
     requires opened { side.link < run.old.relay.state.opened }
     ensures went { MatchResult result
         (λ answer. Goes (Asks side answer) false run.old run.new (S.trace scribe.old) (S.trace scribe.new)
-            (known Progress.Accepted (P.vouches port.old) (P.told port.old) (P.ends port.old)) (known Progress.Accepted (P.vouches port.new) (P.told port.new) (P.ends port.new)) (P.faults port.old) (P.faults port.new))
+        (known Progress.Accepted (P.vouches port.old) (P.told port.old) (P.ends port.old)) (known Progress.Accepted (P.vouches port.new) (P.told port.new) (P.ends port.new)) (P.faults port.old) (P.faults port.new))
         (λ _. Goes Nothing false run.old run.new (S.trace scribe.old) (S.trace scribe.new)
-            (known Progress.Accepted (P.vouches port.old) (P.told port.old) (P.ends port.old)) (known Progress.Accepted (P.vouches port.new) (P.told port.new) (P.ends port.new)) (P.faults port.old) (P.faults port.new)) }
+        (known Progress.Accepted (P.vouches port.old) (P.told port.old) (P.ends port.old)) (known Progress.Accepted (P.vouches port.new) (P.told port.new) (P.ends port.new)) (P.faults port.old) (P.faults port.new)) }
     ensures cause { MatchResult result (λ _. Unit {0}) (λ fault. fault ≡ Memory) }
 {
     scribe.reserve(1, 0)?;

@@ -93,9 +93,9 @@ fn close_step<P: Port, S: Scribe>(
     requires { link_of step < run.old.relay.state.opened }
     ensures went { MatchResult result
         (λ _. Goes (LooksAt step) false run.old run.new (S.trace scribe.old) (S.trace scribe.new)
-            (known Progress.Accepted (P.vouches port.old) (P.told port.old) (P.ends port.old)) (known Progress.Accepted (P.vouches port.new) (P.told port.new) (P.ends port.new)) (P.faults port.old) (P.faults port.new))
+        (known Progress.Accepted (P.vouches port.old) (P.told port.old) (P.ends port.old)) (known Progress.Accepted (P.vouches port.new) (P.told port.new) (P.ends port.new)) (P.faults port.old) (P.faults port.new))
         (λ _. Goes Nothing false run.old run.new (S.trace scribe.old) (S.trace scribe.new)
-            (known Progress.Accepted (P.vouches port.old) (P.told port.old) (P.ends port.old)) (known Progress.Accepted (P.vouches port.new) (P.told port.new) (P.ends port.new)) (P.faults port.old) (P.faults port.new)) }
+        (known Progress.Accepted (P.vouches port.old) (P.told port.old) (P.ends port.old)) (known Progress.Accepted (P.vouches port.new) (P.told port.new) (P.ends port.new)) (P.faults port.old) (P.faults port.new)) }
     ensures kept { run.new.relay.state.opened ≡ run.old.relay.state.opened }
     ensures cause { MatchResult result (λ _. Unit {0}) (λ fault. fault ≡ Memory) }
 {
@@ -119,9 +119,9 @@ fn close_link<P: Port, S: Scribe>(
     requires { link < run.old.relay.state.opened }
     ensures went { MatchResult result
         (λ _. Goes (ClosesLink link) false run.old run.new (S.trace scribe.old) (S.trace scribe.new)
-            (known Progress.Accepted (P.vouches port.old) (P.told port.old) (P.ends port.old)) (known Progress.Accepted (P.vouches port.new) (P.told port.new) (P.ends port.new)) (P.faults port.old) (P.faults port.new))
+        (known Progress.Accepted (P.vouches port.old) (P.told port.old) (P.ends port.old)) (known Progress.Accepted (P.vouches port.new) (P.told port.new) (P.ends port.new)) (P.faults port.old) (P.faults port.new))
         (λ _. Goes (CutClosingLink link) false run.old run.new (S.trace scribe.old) (S.trace scribe.new)
-            (known Progress.Accepted (P.vouches port.old) (P.told port.old) (P.ends port.old)) (known Progress.Accepted (P.vouches port.new) (P.told port.new) (P.ends port.new)) (P.faults port.old) (P.faults port.new)) }
+        (known Progress.Accepted (P.vouches port.old) (P.told port.old) (P.ends port.old)) (known Progress.Accepted (P.vouches port.new) (P.told port.new) (P.ends port.new)) (P.faults port.old) (P.faults port.new)) }
     ensures kept { run.new.relay.state.opened ≡ run.old.relay.state.opened }
     ensures cause { MatchResult result (λ _. Unit {0}) (λ fault. fault ≡ Memory) }
 {
@@ -140,9 +140,9 @@ pub(crate) fn close<P: Port, S: Scribe>(
 ) -> Result<(), DriveFault>
     ensures went { MatchResult result
         (λ _. Goes (ForAllLinks ClosesLink) false run.old run.new (S.trace scribe.old) (S.trace scribe.new)
-            (known Progress.Accepted (P.vouches port.old) (P.told port.old) (P.ends port.old)) (known Progress.Accepted (P.vouches port.new) (P.told port.new) (P.ends port.new)) (P.faults port.old) (P.faults port.new))
+        (known Progress.Accepted (P.vouches port.old) (P.told port.old) (P.ends port.old)) (known Progress.Accepted (P.vouches port.new) (P.told port.new) (P.ends port.new)) (P.faults port.old) (P.faults port.new))
         (λ _. Goes (CutForAllLinks ClosesLink CutClosingLink) false run.old run.new (S.trace scribe.old) (S.trace scribe.new)
-            (known Progress.Accepted (P.vouches port.old) (P.told port.old) (P.ends port.old)) (known Progress.Accepted (P.vouches port.new) (P.told port.new) (P.ends port.new)) (P.faults port.old) (P.faults port.new)) }
+        (known Progress.Accepted (P.vouches port.old) (P.told port.old) (P.ends port.old)) (known Progress.Accepted (P.vouches port.new) (P.told port.new) (P.ends port.new)) (P.faults port.old) (P.faults port.new)) }
     ensures cause { MatchResult result (λ _. Unit {0}) (λ fault. fault ≡ Memory) }
 {
     for link in 0..run.relay.opened() {

@@ -79,9 +79,9 @@ impl Drive {
         // port vouches for it, is tied to it, and every link that waited was accepted, as it was before.
         ensures went { self.old.refusal ≡ None → is_worn self.old ≡ false → MatchResult result
             (λ _. Went Turns StandsBetween false self.old self.new (S.trace scribe.old) (S.trace scribe.new)
-                (known Progress.Between (P.vouches port.old) (P.told port.old) (P.ends port.old)) (known Progress.Accepted (P.vouches port.new) (P.told port.new) (P.ends port.new)) (P.faults port.old) (P.faults port.new))
+            (known Progress.Between (P.vouches port.old) (P.told port.old) (P.ends port.old)) (known Progress.Accepted (P.vouches port.new) (P.told port.new) (P.ends port.new)) (P.faults port.old) (P.faults port.new))
             (λ fault. Went (CutTurn fault) (LeftFor (answer_of fault)) (is_open_fault fault) self.old self.new (S.trace scribe.old) (S.trace scribe.new)
-                (known Progress.Between (P.vouches port.old) (P.told port.old) (P.ends port.old)) (known Progress.Accepting (P.vouches port.new) (P.told port.new) (P.ends port.new)) (P.faults port.old) (P.faults port.new)) }
+            (known Progress.Between (P.vouches port.old) (P.told port.old) (P.ends port.old)) (known Progress.Accepting (P.vouches port.new) (P.told port.new) (P.ends port.new)) (P.faults port.old) (P.faults port.new)) }
 
         ensures refusal { self.new.refusal ≡ refusal_of result }
     {

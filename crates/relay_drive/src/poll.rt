@@ -113,9 +113,9 @@ fn ask_poll<P: Port, S: Scribe>(
     requires { wants.old ≡ wanted run.old.relay.state }
     ensures went { MatchResult result
         (λ accept. Goes (Polls wants.new accept) false run.old run.new (S.trace scribe.old) (S.trace scribe.new)
-            (known Progress.Begun (P.vouches port.old) (P.told port.old) (P.ends port.old)) (known (if accept then Progress.Begun else Progress.Accepted) (P.vouches port.new) (P.told port.new) (P.ends port.new)) (P.faults port.old) (P.faults port.new))
+        (known Progress.Begun (P.vouches port.old) (P.told port.old) (P.ends port.old)) (known (if accept then Progress.Begun else Progress.Accepted) (P.vouches port.new) (P.told port.new) (P.ends port.new)) (P.faults port.old) (P.faults port.new))
         (λ fault. Goes (CutPoll fault) false run.old run.new (S.trace scribe.old) (S.trace scribe.new)
-            (known Progress.Begun (P.vouches port.old) (P.told port.old) (P.ends port.old)) (known Progress.Accepting (P.vouches port.new) (P.told port.new) (P.ends port.new)) (P.faults port.old) (P.faults port.new)) }
+        (known Progress.Begun (P.vouches port.old) (P.told port.old) (P.ends port.old)) (known Progress.Accepting (P.vouches port.new) (P.told port.new) (P.ends port.new)) (P.faults port.old) (P.faults port.new)) }
     ensures kept { run.new.relay ≡ run.old.relay }
     ensures opened { AllOpened wants.old run.old.relay.state.opened → AllOpened wants.new run.old.relay.state.opened }
 {
@@ -145,9 +145,9 @@ pub(crate) fn poll<P: Port, S: Scribe>(
 ) -> Result<Vec<Want>, DriveFault>
     ensures went { MatchResult result
         (λ wants. Goes (PollsAndAccepts wants.items) false run.old run.new (S.trace scribe.old) (S.trace scribe.new)
-            (known Progress.Begun (P.vouches port.old) (P.told port.old) (P.ends port.old)) (known Progress.Accepted (P.vouches port.new) (P.told port.new) (P.ends port.new)) (P.faults port.old) (P.faults port.new))
+        (known Progress.Begun (P.vouches port.old) (P.told port.old) (P.ends port.old)) (known Progress.Accepted (P.vouches port.new) (P.told port.new) (P.ends port.new)) (P.faults port.old) (P.faults port.new))
         (λ fault. Goes (CutPolling fault) (is_open_fault fault) run.old run.new (S.trace scribe.old) (S.trace scribe.new)
-            (known Progress.Begun (P.vouches port.old) (P.told port.old) (P.ends port.old)) (known Progress.Accepting (P.vouches port.new) (P.told port.new) (P.ends port.new)) (P.faults port.old) (P.faults port.new)) }
+        (known Progress.Begun (P.vouches port.old) (P.told port.old) (P.ends port.old)) (known Progress.Accepting (P.vouches port.new) (P.told port.new) (P.ends port.new)) (P.faults port.old) (P.faults port.new)) }
     ensures opened { IfOk result (λ wants. AllOpened wants.items run.new.relay.state.opened) }
 {
     let mut wants = wanted(&run.relay, alloc)?;

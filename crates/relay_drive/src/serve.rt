@@ -27,9 +27,9 @@ fn read_side<P: Port, S: Scribe>(
     requires inbox { length inbox.old ≡ 16384 }
     ensures went { MatchResult result
         (λ _. Goes (ReadsSide side marked) false run.old run.new (S.trace scribe.old) (S.trace scribe.new)
-            (known Progress.Accepted (P.vouches port.old) (P.told port.old) (P.ends port.old)) (known Progress.Accepted (P.vouches port.new) (P.told port.new) (P.ends port.new)) (P.faults port.old) (P.faults port.new))
+        (known Progress.Accepted (P.vouches port.old) (P.told port.old) (P.ends port.old)) (known Progress.Accepted (P.vouches port.new) (P.told port.new) (P.ends port.new)) (P.faults port.old) (P.faults port.new))
         (λ _. Goes Nothing false run.old run.new (S.trace scribe.old) (S.trace scribe.new)
-            (known Progress.Accepted (P.vouches port.old) (P.told port.old) (P.ends port.old)) (known Progress.Accepted (P.vouches port.new) (P.told port.new) (P.ends port.new)) (P.faults port.old) (P.faults port.new)) }
+        (known Progress.Accepted (P.vouches port.old) (P.told port.old) (P.ends port.old)) (known Progress.Accepted (P.vouches port.new) (P.told port.new) (P.ends port.new)) (P.faults port.old) (P.faults port.new)) }
     ensures kept { run.new.relay.state.opened ≡ run.old.relay.state.opened }
     ensures cause { MatchResult result (λ _. Unit {0}) (λ fault. fault ≡ Memory) }
 {
@@ -56,9 +56,9 @@ fn write_side<P: Port, S: Scribe>(
     requires opened { side.link < run.old.relay.state.opened }
     ensures went { MatchResult result
         (λ _. Goes (WritesSide side marked) false run.old run.new (S.trace scribe.old) (S.trace scribe.new)
-            (known Progress.Accepted (P.vouches port.old) (P.told port.old) (P.ends port.old)) (known Progress.Accepted (P.vouches port.new) (P.told port.new) (P.ends port.new)) (P.faults port.old) (P.faults port.new))
+        (known Progress.Accepted (P.vouches port.old) (P.told port.old) (P.ends port.old)) (known Progress.Accepted (P.vouches port.new) (P.told port.new) (P.ends port.new)) (P.faults port.old) (P.faults port.new))
         (λ _. Goes Nothing false run.old run.new (S.trace scribe.old) (S.trace scribe.new)
-            (known Progress.Accepted (P.vouches port.old) (P.told port.old) (P.ends port.old)) (known Progress.Accepted (P.vouches port.new) (P.told port.new) (P.ends port.new)) (P.faults port.old) (P.faults port.new)) }
+        (known Progress.Accepted (P.vouches port.old) (P.told port.old) (P.ends port.old)) (known Progress.Accepted (P.vouches port.new) (P.told port.new) (P.ends port.new)) (P.faults port.old) (P.faults port.new)) }
     ensures kept { run.new.relay.state.opened ≡ run.old.relay.state.opened }
     ensures cause { MatchResult result (λ _. Unit {0}) (λ fault. fault ≡ Memory) }
 {
@@ -83,9 +83,9 @@ fn connect_side<P: Port, S: Scribe>(
     requires opened { side.link < run.old.relay.state.opened }
     ensures went { MatchResult result
         (λ _. Goes (ConnectsSide side marked) false run.old run.new (S.trace scribe.old) (S.trace scribe.new)
-            (known Progress.Accepted (P.vouches port.old) (P.told port.old) (P.ends port.old)) (known Progress.Accepted (P.vouches port.new) (P.told port.new) (P.ends port.new)) (P.faults port.old) (P.faults port.new))
+        (known Progress.Accepted (P.vouches port.old) (P.told port.old) (P.ends port.old)) (known Progress.Accepted (P.vouches port.new) (P.told port.new) (P.ends port.new)) (P.faults port.old) (P.faults port.new))
         (λ _. Goes Nothing false run.old run.new (S.trace scribe.old) (S.trace scribe.new)
-            (known Progress.Accepted (P.vouches port.old) (P.told port.old) (P.ends port.old)) (known Progress.Accepted (P.vouches port.new) (P.told port.new) (P.ends port.new)) (P.faults port.old) (P.faults port.new)) }
+        (known Progress.Accepted (P.vouches port.old) (P.told port.old) (P.ends port.old)) (known Progress.Accepted (P.vouches port.new) (P.told port.new) (P.ends port.new)) (P.faults port.old) (P.faults port.new)) }
     ensures kept { run.new.relay.state.opened ≡ run.old.relay.state.opened }
     ensures cause { MatchResult result (λ _. Unit {0}) (λ fault. fault ≡ Memory) }
 {
@@ -117,9 +117,9 @@ fn serve_side<P: Port, S: Scribe>(
     requires inbox { length inbox.old ≡ 16384 }
     ensures went { MatchResult result
         (λ _. Goes (ServesSide want) false run.old run.new (S.trace scribe.old) (S.trace scribe.new)
-            (known Progress.Accepted (P.vouches port.old) (P.told port.old) (P.ends port.old)) (known Progress.Accepted (P.vouches port.new) (P.told port.new) (P.ends port.new)) (P.faults port.old) (P.faults port.new))
+        (known Progress.Accepted (P.vouches port.old) (P.told port.old) (P.ends port.old)) (known Progress.Accepted (P.vouches port.new) (P.told port.new) (P.ends port.new)) (P.faults port.old) (P.faults port.new))
         (λ _. Goes (CutServing want) false run.old run.new (S.trace scribe.old) (S.trace scribe.new)
-            (known Progress.Accepted (P.vouches port.old) (P.told port.old) (P.ends port.old)) (known Progress.Accepted (P.vouches port.new) (P.told port.new) (P.ends port.new)) (P.faults port.old) (P.faults port.new)) }
+        (known Progress.Accepted (P.vouches port.old) (P.told port.old) (P.ends port.old)) (known Progress.Accepted (P.vouches port.new) (P.told port.new) (P.ends port.new)) (P.faults port.old) (P.faults port.new)) }
     ensures kept { run.new.relay.state.opened ≡ run.old.relay.state.opened }
     ensures cause { MatchResult result (λ _. Unit {0}) (λ fault. fault ≡ Memory) }
 {
@@ -142,9 +142,9 @@ pub(crate) fn serve<P: Port, S: Scribe>(
     requires inbox { length inbox.old ≡ 16384 }
     ensures went { MatchResult result
         (λ _. Goes (Each ServesSide wants.now) false run.old run.new (S.trace scribe.old) (S.trace scribe.new)
-            (known Progress.Accepted (P.vouches port.old) (P.told port.old) (P.ends port.old)) (known Progress.Accepted (P.vouches port.new) (P.told port.new) (P.ends port.new)) (P.faults port.old) (P.faults port.new))
+        (known Progress.Accepted (P.vouches port.old) (P.told port.old) (P.ends port.old)) (known Progress.Accepted (P.vouches port.new) (P.told port.new) (P.ends port.new)) (P.faults port.old) (P.faults port.new))
         (λ _. Goes (CutAt ServesSide CutServing wants.now) false run.old run.new (S.trace scribe.old) (S.trace scribe.new)
-            (known Progress.Accepted (P.vouches port.old) (P.told port.old) (P.ends port.old)) (known Progress.Accepted (P.vouches port.new) (P.told port.new) (P.ends port.new)) (P.faults port.old) (P.faults port.new)) }
+        (known Progress.Accepted (P.vouches port.old) (P.told port.old) (P.ends port.old)) (known Progress.Accepted (P.vouches port.new) (P.told port.new) (P.ends port.new)) (P.faults port.old) (P.faults port.new)) }
     ensures kept { run.new.relay.state.opened ≡ run.old.relay.state.opened }
     ensures cause { MatchResult result (λ _. Unit {0}) (λ fault. fault ≡ Memory) }
 {

@@ -60,3 +60,33 @@ fn one_link_comes_to_its_end(rt: HostRuntime) -> Result<(), Fail> {
     );
     Ok(())
 }
+
+/// Links that wait, opened in the first turn; a poll that fails in the second.
+fn crowd(alloc: Global) -> Result<Script, Fail> {
+    let open = vec![in alloc;
+        TurnLine::NewLink { wait: false },
+        TurnLine::NewLink { wait: true },
+        TurnLine::NewLink { wait: false },
+    ]?;
+    let fail = vec![in alloc; TurnLine::PollFail]?;
+    let turns = vec![in alloc; (0, open), (1, fail)]?;
+    Ok(Script { turns })
+}
+
+#[test]
+fn all_links_that_wait_are_opened_and_a_failed_poll_is_kept(rt: HostRuntime) -> Result<(), Fail> {
+    let alloc = rt.alloc();
+    let mut port = ScriptPort::new(alloc, crowd(alloc)?)?;
+    let mut drive = Drive::new(alloc, Settings::usual())?;
+    let mut tape = Tape::new(alloc);
+    assert_eq!(rt; drive.turn(&mut port, &mut tape), Ok(TurnEnd::Went));
+    assert_eq!(rt; drive.opened(), 3);
+    for _ in 0..2u32 {
+        assert_eq!(rt;
+            drive.turn(&mut port, &mut tape),
+            Err(DriveFault::PollFault)
+        );
+    }
+    assert_eq!(rt; (drive.opened(), drive.open_links()), (3, 3));
+    Ok(())
+}

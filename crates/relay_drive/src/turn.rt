@@ -26,9 +26,9 @@ const SPENT: u64 = 1 << 62;
 fn clock<P: Port, S: Scribe>(run: &mut Run, port: &mut P, scribe: &mut S) -> Result<(), DriveFault>
     ensures went { MatchResult result
         (λ _. Goes TicksOnce false run.old run.new (S.trace scribe.old) (S.trace scribe.new)
-            (known Progress.Between (P.vouches port.old) (P.told port.old) (P.ends port.old)) (known Progress.Begun (P.vouches port.new) (P.told port.new) (P.ends port.new)) (P.faults port.old) (P.faults port.new))
+        (known Progress.Between (P.vouches port.old) (P.told port.old) (P.ends port.old)) (known Progress.Begun (P.vouches port.new) (P.told port.new) (P.ends port.new)) (P.faults port.old) (P.faults port.new))
         (λ _. Goes Nothing false run.old run.new (S.trace scribe.old) (S.trace scribe.new)
-            (known Progress.Between (P.vouches port.old) (P.told port.old) (P.ends port.old)) (known Progress.Between (P.vouches port.new) (P.told port.new) (P.ends port.new)) (P.faults port.old) (P.faults port.new)) }
+        (known Progress.Between (P.vouches port.old) (P.told port.old) (P.ends port.old)) (known Progress.Between (P.vouches port.new) (P.told port.new) (P.ends port.new)) (P.faults port.old) (P.faults port.new)) }
     ensures cause { MatchResult result (λ _. Unit {0}) (λ fault. fault ≡ Memory) }
 {
     scribe.reserve(1, 0)?;
@@ -48,9 +48,9 @@ fn turn<P: Port, S: Scribe>(
     requires { length inbox.old ≡ 16384 }
     ensures went { MatchResult result
         (λ _. Goes Turns false run.old run.new (S.trace scribe.old) (S.trace scribe.new)
-            (known Progress.Between (P.vouches port.old) (P.told port.old) (P.ends port.old)) (known Progress.Accepted (P.vouches port.new) (P.told port.new) (P.ends port.new)) (P.faults port.old) (P.faults port.new))
+        (known Progress.Between (P.vouches port.old) (P.told port.old) (P.ends port.old)) (known Progress.Accepted (P.vouches port.new) (P.told port.new) (P.ends port.new)) (P.faults port.old) (P.faults port.new))
         (λ fault. Goes (CutTurn fault) (is_open_fault fault) run.old run.new (S.trace scribe.old) (S.trace scribe.new)
-            (known Progress.Between (P.vouches port.old) (P.told port.old) (P.ends port.old)) (known Progress.Accepting (P.vouches port.new) (P.told port.new) (P.ends port.new)) (P.faults port.old) (P.faults port.new)) }
+        (known Progress.Between (P.vouches port.old) (P.told port.old) (P.ends port.old)) (known Progress.Accepting (P.vouches port.new) (P.told port.new) (P.ends port.new)) (P.faults port.old) (P.faults port.new)) }
 {
     clock(run, port, scribe)?;
     let wants = poll(run, alloc, port, scribe)?;
@@ -72,9 +72,9 @@ pub(crate) fn next_turn<P: Port, S: Scribe>(
     ensures spent { nat_le (2 ^ 62) run.old.entries || is_spent run.old.relay.state ≡ true → (result ≡ Err Spent) × (run.new ≡ run.old) × (port.new ≡ port.old) × (scribe.new ≡ scribe.old) }
     ensures went { nat_le (2 ^ 62) run.old.entries || is_spent run.old.relay.state ≡ false → MatchResult result
         (λ _. Goes Turns false run.old run.new (S.trace scribe.old) (S.trace scribe.new)
-            (known Progress.Between (P.vouches port.old) (P.told port.old) (P.ends port.old)) (known Progress.Accepted (P.vouches port.new) (P.told port.new) (P.ends port.new)) (P.faults port.old) (P.faults port.new))
+        (known Progress.Between (P.vouches port.old) (P.told port.old) (P.ends port.old)) (known Progress.Accepted (P.vouches port.new) (P.told port.new) (P.ends port.new)) (P.faults port.old) (P.faults port.new))
         (λ fault. Goes (CutTurn fault) (is_open_fault fault) run.old run.new (S.trace scribe.old) (S.trace scribe.new)
-            (known Progress.Between (P.vouches port.old) (P.told port.old) (P.ends port.old)) (known Progress.Accepting (P.vouches port.new) (P.told port.new) (P.ends port.new)) (P.faults port.old) (P.faults port.new)) }
+        (known Progress.Between (P.vouches port.old) (P.told port.old) (P.ends port.old)) (known Progress.Accepting (P.vouches port.new) (P.told port.new) (P.ends port.new)) (P.faults port.old) (P.faults port.new)) }
 {
     if run.entries >= SPENT || run.relay.is_spent() {
         return Err(DriveFault::Spent);

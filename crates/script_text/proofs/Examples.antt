@@ -7,6 +7,11 @@ use Rattle.script_text.specs.declared.script.TurnLine.TheVariants.{NewLink, Conn
 use Rattle.script_text.specs.Pieces.{lines, words}
 use Rattle.script_text.specs.Numbers.{number_within}
 use Rattle.script_text.specs.Spelled.{script_of}
+use Rattle.script_text.specs.TraceSpelled.{trace_of}
+use Rattle.ev_types.specs.declared.act.Act.TheVariants.{Rate}
+use Rattle.ev_types.specs.declared.answer.ReadAnswer.TheVariants.{Got}
+use Rattle.ev_types.specs.declared.answer.AskAnswer.TheVariants as answer
+use Rattle.ev_types.specs.declared.entry.Entry.TheVariants as entry
 
 -- lines, each with its LF
 abbrev text : List (List ℕ) → List ℕ
@@ -43,3 +48,15 @@ pub known_bad : (script_of (text (codes "open" ∷ [])) ≡ Err 1) × (script_of
     × (script_of (text (codes "at 5" ∷ codes "open" ∷ codes "rfail 0 out" ∷ codes "r 0 in 61" ∷ codes "r 0 out 61" ∷ [])) ≡ Err 5)
 unfolding decode_pairs
 known_bad = (refl, refl, refl, refl, refl, refl)
+
+pub known_trace : trace_of (text (codes "turn 5" ∷ codes "read  0 in 9 got 61ff" ∷ codes "asked 0 in rate 0 out none ok" ∷ []))
+    ≡ Ok ((entry.Turn 5, []) ∷ (entry.Read in_end 9 (Got 2), 97 ∷ 255 ∷ []) ∷ (entry.Asked in_end (Rate out_end None) answer.Ok, []) ∷ [])
+unfolding decode_pairs
+known_trace = refl
+
+-- an empty line; a capital digit; an In end that is connected; a limit with a rate of 0; the answer alone
+pub known_bad_trace : (trace_of (text (codes "turn 5" ∷ [] ∷ codes "turn" ∷ [])) ≡ Err 2) × (trace_of (text (codes "write 0 in 9 took 6A" ∷ [])) ≡ Err 1)
+    × (trace_of (text (codes "conn 0 in ok" ∷ [])) ≡ Err 1) × (trace_of (text (codes "asked 0 in rate 0 out 0 2 3 4 5 ok" ∷ [])) ≡ Err 1)
+    × (trace_of (text (codes "asked 0 in ok" ∷ [])) ≡ Err 1)
+unfolding decode_pairs
+known_bad_trace = (refl, refl, refl, refl, refl)

@@ -1,6 +1,6 @@
 -- A trace is what its text says.
-use Rattle.std.proofs.Common.{◌≡◌, ◌<◌, ◌+◌, ◌^◌, ℕ, true, false, Bool, lit<, List, [], ◌∷◌, ◌++◌, length, map, refl, ap, sym, ◌∙◌, arith, codes, Option, Some, None, Result, Ok, append_assoc, append-nil, length-append}
-use Rattle.std.specs.Prelude.{option_map}
+use Rattle.std.proofs.Common.{◌≡◌, ◌<◌, ◌+◌, ◌^◌, ℕ, true, false, Bool, lit<, List, [], ◌∷◌, ◌++◌, length, map, refl, ap, sym, ◌∙◌, arith, codes, Option, Some, None, Result, Ok, Err, zero, suc, get_or, ◌-◌, append_assoc, append-nil, length-append}
+use Rattle.std.specs.Prelude.{option_map, IsSome}
 use Rattle.std.specs.Fmt.{decimal}
 use Rattle.hex.specs.Hex.{encode_lower}
 use Rattle.ev_types.specs.declared.side.SideId.{SideId}
@@ -20,7 +20,7 @@ use Rattle.script_text.specs.EntryGrammar.{event_said}
 use Rattle.script_text.specs.Spelled.{going_on}
 use Rattle.script_text.specs.TraceSpelled.{trace_line_read, trace_lines_read, trace_of}
 use Rattle.script_text.specs.Laws.{AllLack, with_ends}
-use Rattle.script_text.specs.TraceLaws.{IsWide, IsEnd, IsAct, IsEntry, StandBeside, AreBytes, IsSpellable}
+use Rattle.script_text.specs.TraceLaws.{IsWide, IsEnd, IsAct, IsEntry, StandBeside, AreBytes, IsSpellable, IsFirstBadLine}
 use Rattle.script_text.proofs.LawLemmas.{lines-with_ends, words-phrase}
 use Rattle.script_text.proofs.SolidLemmas.{Solid, AreSolid, AreSolid-append, AreWords-solid, Lacks-phrase, line_of-phrase, Solid-decimal, Solid-encode_lower}
 use Rattle.script_text.proofs.ValueReadLemmas.{computed, Solid-marks_word, Solid-conn_word, Solid-ask_word, Solid-why_word, Solid-cause_word}
@@ -154,3 +154,48 @@ trace_lines_read-phrases before n (event ∷ more) is =
 
 pub trace_of-trace_text : (t : Trace) → IsSpellable t → trace_of (trace_text t) ≡ Ok t
 trace_of-trace_text t is = ap (λ (ls : List (List ℕ)). trace_lines_read [] 0 ls) (lines-trace_text t is) ∙ trace_lines_read-phrases [] 0 t is
+
+-- ---- where a text is refused
+
+-- where the lines from here on are first bad
+record IsBadAt (before : ℕ) (ls : List (List ℕ)) (n : ℕ) : Type 0 where
+  place : ℕ
+  number : n ≡ before + place + 1
+  within : place < length ls
+  good : (k : ℕ) → k < place → IsSome (event_said (words (get_or ls k [])))
+  bad : event_said (words (get_or ls place [])) ≡ None
+
+one_more_good : (l : List ℕ) (ls : List (List ℕ)) (place : ℕ) → IsSome (event_said (words l)) → ((k : ℕ) → k < place → IsSome (event_said (words (get_or ls k [])))) →
+    (k : ℕ) → k < suc place → IsSome (event_said (words (get_or (l ∷ ls) k [])))
+one_more_good l ls place first rest zero lt = first
+one_more_good l ls place first rest (suc k) lt = rest k (omega arith)
+
+trace_lines_read-bad : (t : Trace) (before : ℕ) (ls : List (List ℕ)) (n : ℕ) → trace_lines_read t before ls ≡ Err n → IsBadAt before ls n
+trace_lines_read-bad t before [] n refused = absurd cc
+trace_lines_read-bad t before (l ∷ ls) n refused =
+    elim (event_said (words l)) as (λ o. event_said (words l) ≡ o → going_on (option_map (λ (e : Event). t ++ e ∷ []) o) (before + 1) (λ longer. trace_lines_read longer (before + 1) ls) ≡ Err n → IsBadAt before (l ∷ ls) n) [
+      | None ↦ λ here no.
+          let same : before + 1 ≡ n = cc in
+          record { place = 0; number = omega arith; within = omega arith; good = λ k lt. absurd (omega arith); bad = here }
+      | Some e ↦ λ here on.
+          let later = trace_lines_read-bad (t ++ e ∷ []) (before + 1) ls n on in
+          let some : IsSome (event_said (words l)) = rw here refl in
+          record {
+            place = suc later.place;
+            number = omega (arith, later.number);
+            within = omega (arith, later.within);
+            good = one_more_good l ls later.place some later.good;
+            bad = later.bad;
+          }
+    ] refl refused
+
+pub trace_of-bad : (text : List ℕ) (n : ℕ) → trace_of text ≡ Err n → IsFirstBadLine text n
+trace_of-bad text n refused =
+    let at = trace_lines_read-bad [] 0 (lines text) n refused in
+    let place : at.place ≡ n - 1 = omega (arith, at.number) in
+    record {
+      above = omega (arith, at.number);
+      within = omega (arith, at.number, at.within);
+      before = λ k lt. at.good k (omega (arith, place));
+      bad = rw (← place) at.bad;
+    }

@@ -1,5 +1,5 @@
 -- Which traces can be written as text and read again.
-use Rattle.std.specs.Prelude.{◌≡◌, ℕ, ◌^◌, ◌<◌, ⊤, ◌||◌, true, List, [], ◌∷◌, length, Some, None, Ok}
+use Rattle.std.specs.Prelude.{◌≡◌, ℕ, ◌+◌, ◌-◌, ◌^◌, ◌<◌, ◌≤◌, ⊤, ◌||◌, true, List, [], ◌∷◌, length, slice_index_or, Some, None, IsSome, Ok, Err}
 use Rattle.hex.specs.Hex.{IsBytes}
 use Rattle.ev_types.specs.declared.side.Side.{Side}
 use Rattle.ev_types.specs.declared.side.Side.TheVariants as side
@@ -15,6 +15,8 @@ use Rattle.ev_types.specs.declared.act.Act.TheVariants as act
 use Rattle.ev_types.specs.declared.entry.Entry.{Entry}
 use Rattle.ev_types.specs.declared.entry.Entry.TheVariants.{Turn, Poll, Want, Ready, PollFailed, Opened, Conn, Read, Write, Fired, Asked, Freed, CloseWrite, Close}
 use Rattle.ev_types.specs.Trace.{Trace}
+use Rattle.script_text.specs.Pieces.{lines, words}
+use Rattle.script_text.specs.EntryGrammar.{event_said}
 use Rattle.script_text.specs.TraceText.{trace_text}
 use Rattle.script_text.specs.TraceSpelled.{trace_of}
 
@@ -94,3 +96,14 @@ IsSpellable (event ∷ more) = IsEntry event.0 × StandBeside event.1 event.0 ×
 -- Reading what was written gives the trace that was written.
 abbrev pub WrittenIsRead : Type 0
 WrittenIsRead = (t : Trace) → IsSpellable t → trace_of (trace_text t) ≡ Ok t
+
+-- The line with this number, counted from 1, is the first of a text that is no line of a trace.
+pub record IsFirstBadLine (text : List ℕ) (n : ℕ) : Type 0 where
+  pub above : 0 < n
+  pub within : n ≤ length (lines text)
+  pub before : (k : ℕ) → k + 1 < n → IsSome (event_said (words (slice_index_or (lines text) k [])))
+  pub bad : event_said (words (slice_index_or (lines text) (n - 1) [])) ≡ None
+
+-- the number that a refused text has is that of its first bad line
+abbrev pub TraceRefusedAtFirstBad : Type 0
+TraceRefusedAtFirstBad = (text : List ℕ) (n : ℕ) → trace_of text ≡ Err n → IsFirstBadLine text n

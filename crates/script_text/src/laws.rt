@@ -1,6 +1,6 @@
 // The laws of lines, words and numbers, each on a function whose contract it is.
 ghost use Rattle.script_text.specs.Laws.{LinesAreParted, PhraseHasItsWords, NumbersAreDecimal, RefusedAtFirstBad};
-ghost use Rattle.script_text.specs.TraceLaws.{WrittenIsRead};
+ghost use Rattle.script_text.specs.TraceLaws.{WrittenIsRead, TraceRefusedAtFirstBad};
 
 /// A text of lines, each with its LF, has these lines; the last may lack its LF.
 pub fn lines_are_parted()
@@ -25,4 +25,9 @@ pub fn refused_at_first_bad()
 /// Reading the text of a trace, of which each entry can be spelled, gives that trace.
 pub fn written_is_read()
     ensures { WrittenIsRead }
+{}
+
+/// A text of a trace is refused at its first line that is none.
+pub fn trace_refused_at_first_bad()
+    ensures { TraceRefusedAtFirstBad }
 {}

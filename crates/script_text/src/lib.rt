@@ -18,7 +18,7 @@ mod write;
 
 pub use laws::{
     lines_are_parted, numbers_are_decimal, phrase_has_its_words, refused_at_first_bad,
-    written_is_read,
+    trace_refused_at_first_bad, written_is_read,
 };
 pub use read::read_script;
 pub use script::{ByteList, LinkLine, Script, ScriptFault, TurnLine};

@@ -1,3 +1,4 @@
 // Tables of what no clause says.
 mod read;
+mod trace;
 mod write;

@@ -34,6 +34,7 @@ pub fn first_piece(text: &[u8], stop: u8) -> (&[u8], &[u8])
     ensures pieces { 0 < length text.now
         → pieces stop text.now ≡ result.0.now ∷ pieces stop result.1.now }
     ensures shorter { 0 < length text.now → length result.1.now < length text.now }
+    ensures empty { length text.now ≡ 0 → (length result.0.now ≡ 0) × (length result.1.now ≡ 0) }
 {
     match place_of(text, stop) {
         Some(at) => {

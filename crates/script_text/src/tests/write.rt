@@ -329,6 +329,8 @@ fn each_entry_has_its_line(rt: HostRuntime) -> Result<(), Fail> {
             line(&rt, entry, bytes.as_bytes())?.as_slice(),
             text.as_bytes()
         );
+        let tape = read_trace(rt.alloc(), text.as_bytes())?;
+        assert_eq!(rt; tape.parts(), ([entry].as_slice(), bytes.as_bytes()));
     }
     Ok(())
 }

@@ -1,8 +1,4 @@
-use Rattle.std.proofs.Common.{◌≡◌, true, false, refl, sym, subst}
-use Rattle.std.specs.Prelude.{if◌then◌else◌}
-use Rattle.relay_drive.specs.Phases.{AcceptsWhere}
-use Rattle.relay_drive.specs.Known.{known, Progress}
-use Rattle.relay_drive.specs.Goes.{Goes}
+use Rattle.std.proofs.Common.{refl}
 use Rattle.relay_drive.proofs.GoesLemmas.{Grew-none, goes_nowhere}
 use Rattle.relay_drive.proofs.accept.accept_ready.Goals as goal
 

@@ -1,4 +1,4 @@
-use Rattle.std.proofs.Common.{[], refl, ap, ◌∙◌}
+use Rattle.std.proofs.Common.{[], refl}
 use Rattle.std.proofs.lemmas.Result.{err_from_is_err_and}
 use Rattle.ev_port.specs.Ends.{conn_step, conn_events}
 use Rattle.relay_drive.proofs.GoesLemmas.{Grew-join, goes_nowhere}
