@@ -1,5 +1,5 @@
 -- A trace for which a relay stands between two turns is a run, with the report of what the relay counts.
-use Rattle.std.proofs.Common.{◌≡◌, ◌≤◌, ◌<◌, ◌+◌, ℕ, zero, suc, Bool, true, false, List, [], ◌∷◌, ◌++◌, length, refl, sym, ◌∙◌, subst, arith, length-append}
+use Rattle.std.proofs.Common.{◌≡◌, ◌≤◌, ◌<◌, ◌+◌, ℕ, zero, suc, Bool, true, false, List, [], ◌∷◌, ◌++◌, length, refl, sym, ap, ◌∙◌, subst, arith, length-append}
 use Rattle.ev_types.specs.declared.side.Side.{Side}
 use Rattle.ev_types.specs.declared.side.Side.TheVariants.{In, Out}
 use Rattle.ev_types.specs.declared.side.SideId.{SideId}
@@ -16,14 +16,15 @@ use Rattle.relay_model.specs.FilterLaws.{IsPrefixOf}
 use Rattle.relay_model.specs.Flow.{passed, passed_at_end}
 use Rattle.relay_model.specs.Settings.{usual}
 use Rattle.relay_model.specs.Plain.{Plain}
-use Rattle.relay_model.specs.Rooms.{read_kind, write_kind}
-use Rattle.relay_model.specs.Stages.{Stage}
+use Rattle.relay_model.specs.Rooms.{read_kind, write_kind, read_filter, write_filter}
+use Rattle.relay_model.specs.Stages.{Stage, at}
 use Rattle.relay_model.specs.Answers.{TurnAnswer, LeftAt, EndsWith}
 use Rattle.relay_model.specs.Stands.{AllAccounted}
 use Rattle.relay_model.specs.Totals.{opened}
 use Rattle.relay_model.specs.Plays.{Plays}
 use Rattle.relay_model.specs.Script.{closing_step}
 use Rattle.ev_port.specs.ScriptPlayed.{script_played, played_turns}
+use Rattle.relay_model.proofs.QuietLemmas.{legal_is_quiet}
 use Rattle.relay_model.proofs.StandsLawLemmas.{bytes_given_begin, closed_is_whole}
 use Rattle.relay_core.specs.declared.settings.Settings.{Settings}
 use Rattle.relay_core.specs.State.{State}
@@ -32,6 +33,7 @@ use Rattle.relay_core.specs.Counting.{link_count}
 use Rattle.relay_meaning.specs.Meaning.{StandsFor, model_settings}
 use Rattle.relay_meaning.specs.Spelling.{BringsFit}
 use Rattle.relay_meaning.proofs.LawLemmas.{means_conserved, counts_are_told}
+use Rattle.relay_meaning.proofs.FreeLemmas.{frees_are_for}
 use Rattle.relay_meaning.proofs.LinkLemmas.{links_are_told}
 use Rattle.relay_meaning.proofs.PollLemmas.{polls_fail_as_scripted}
 use Rattle.relay_meaning.proofs.SpellingLemmas.{reads_fit_as_scripted, stood_is_spellable}
@@ -112,6 +114,9 @@ run-of script answer t x s h l k left fit played =
       accounted = (v.0.plain, accounted);
       begins = begins-of t v.0.plain accounted;
       whole = whole-of t v.0.plain accounted;
+      quiet = legal_is_quiet (model_settings s.settings) t (at x k.plain, k.reached);
+      freed = λ before after e why moved given bytes split.
+          frees_are_for s.settings t before after e why moved given bytes (at x k.plain, k.reached) split;
       read_back = trace_of-trace_text t (stood_is_spellable t x s k (omega (arith, l)) reads);
       opened = length-lines_below s s.opened ∙ (links_are_told t x s k).links;
       report = tells-below t x s k s.opened (omega arith);
