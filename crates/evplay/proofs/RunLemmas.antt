@@ -1,5 +1,5 @@
 -- What a drive and a script port keep over the turns of a script is a run of that script.
-use Rattle.std.proofs.Common.{◌≡◌, ◌≤◌, ◌<◌, ◌+◌, ℕ, List, [], length, refl, sym, subst, arith, ◌∙◌, count_by}
+use Rattle.std.proofs.Common.{◌≡◌, ◌≤◌, ◌+◌, List, [], length, refl, subst, arith, count_by}
 use Rattle.std.proofs.lemmas.List.{length-map}
 use Rattle.ev_types.specs.Trace.{Trace}
 use Rattle.script_text.specs.Script.{ScriptValue, TurnValue}
@@ -8,7 +8,7 @@ use Rattle.relay_model.specs.Answers.{TurnAnswer}
 use Rattle.relay_model.specs.RatesKept.{is_turn}
 use Rattle.relay_model.specs.Plays.{TookAll, AlwaysTookAll}
 use Rattle.ev_port.specs.ScriptState.{PortState}
-use Rattle.ev_port.specs.ScriptPlayed.{played_turn, played_turns, script_played}
+use Rattle.ev_port.specs.ScriptPlayed.{played_turn, played_turns}
 use Rattle.ev_port.specs.ScriptPort.{lines_of}
 use Rattle.ev_port.specs.ScriptTold.{port_told, ends_told}
 use Rattle.ev_port.specs.ScriptVouched.{NamesOpened, IsCalledFor, ScriptVouches}

@@ -1,4 +1,4 @@
-use Rattle.std.proofs.Common.{◌≡◌, ◌≢◌, ◌⊎◌, inl, inr, ◌≤◌, ◌<◌, ◌+◌, ◌*◌, ◌^◌, ◌++◌, ℕ, List, length, Some, Bool, true, false, refl, sym, ap, ◌∙◌, subst, arith, Result, Ok, Err, IfOk, IfErr}
+use Rattle.std.proofs.Common.{◌≡◌, ◌≢◌, ◌⊎◌, inl, inr, ◌≤◌, ◌<◌, ◌+◌, ◌*◌, ◌++◌, ℕ, length, Some, false, refl, ◌∙◌, subst, arith, Result, Ok, Err, IfOk, IfErr}
 use Rattle.std.proofs.lemmas.List.{length-map}
 use Rattle.std.specs.Prelude.{count_by}
 use Rattle.ev_types.specs.Trace.{Trace}
@@ -8,7 +8,6 @@ use Rattle.script_text.specs.ScriptView.{script_value}
 use Rattle.ev_port.specs.ScriptTold.{script_faults}
 use Rattle.relay_model.specs.Answers.{TurnAnswer}
 use Rattle.relay_model.specs.RatesKept.{is_turn}
-use Rattle.relay_core.specs.State.{State}
 use Rattle.relay_meaning.specs.Meaning.{LeftFor}
 use Rattle.relay_meaning.proofs.LawLemmas.{new_relay_stands}
 use Rattle.relay_drive.specs.declared.fault.DriveFault.{DriveFault}
