@@ -7,13 +7,13 @@ use Rattle.evbuf_chain.specs.declared.run.Run.{Run}
 use Rattle.evbuf_chain.specs.declared.byte_queue.ByteQueue.TheInside as queue
 use Rattle.evbuf_chain.specs.declared.mark_list.MarkList.TheInside as list
 
--- the bytes from the start on, and the room before and behind them
+-- the bytes from the start on, the room before them, and the room behind them that was asked for
 abbrev pub queued : queue.Inside → Queued
-queued q = record { items = drop q.start q.kept.items; front = q.start; spare = vec_capacity q.kept - vec_len q.kept }
+queued q = record { items = drop q.start q.kept.items; front = q.start; spare = q.spare }
 
--- the bytes begin within what is kept
+-- the bytes begin within what is kept, and what is spare fits behind it
 abbrev pub IsQueue : queue.Inside → Type 0
-IsQueue q = q.start ≤ vec_len q.kept
+IsQueue q = (q.start ≤ vec_len q.kept) × (vec_len q.kept + q.spare ≤ vec_capacity q.kept)
 
 -- the marks of references, each behind its gap of unmarked bytes, before the marks of what follows them
 abbrev pub run_marks : List Run → Marks → Marks

@@ -15,6 +15,7 @@ const SPARSE: usize = 3;
 pub(crate) struct ByteQueue {
     kept: Vec<u8>,
     start: usize,
+    spare: usize,
 }
 
 impl Model for ByteQueue {
@@ -36,6 +37,7 @@ impl ByteQueue {
         ByteQueue {
             kept: Vec::new(alloc),
             start: 0,
+            spare: 0,
         }
     }
 
@@ -64,23 +66,28 @@ impl ByteQueue {
         ensures kept { self.old.spare ≤ self.new.spare }
         ensures err { OnErr result (self.new ≡ self.old) }
     {
-        self.kept.reserve(n)
+        if self.spare < n {
+            self.kept.reserve(n)?;
+            self.spare = n;
+        }
+        Ok(())
     }
 
     /// Appends in room that was made before.
     pub(crate) fn push(&mut self, bytes: &[u8])
         requires { length bytes.now ≤ self.old.spare }
         ensures items { self.new.items ≡ self.old.items ++ bytes.now }
-        ensures spare { self.old.spare ≤ self.new.spare + length bytes.now }
+        ensures spare { self.new.spare + length bytes.now ≡ self.old.spare }
     {
         self.kept.extend_from_slice(bytes).unwrap();
+        self.spare -= bytes.len();
     }
 
     /// Takes off the first n. Takes no memory.
     pub(crate) fn drop_front(&mut self, n: usize)
         requires { n ≤ length self.old.items }
         ensures items { self.new.items ≡ drop n self.old.items }
-        ensures spare { self.old.spare ≤ self.new.spare }
+        ensures spare { self.new.spare ≡ self.old.spare }
     {
         self.start += n;
         if self.kept.len() - self.start <= self.start / SPARSE {
@@ -93,7 +100,7 @@ impl ByteQueue {
     /// Puts bytes in front. After a refusal nothing has changed.
     pub(crate) fn prepend(&mut self, bytes: &[u8]) -> Result<(), AllocError>
         ensures items { OnOk result (self.new.items ≡ bytes.now ++ self.old.items) }
-        ensures spare { self.old.spare ≤ self.new.spare }
+        ensures spare { self.new.spare ≡ self.old.spare }
         ensures err { OnErr result (self.new ≡ self.old) }
     {
         if self.start < bytes.len() {
@@ -110,7 +117,7 @@ impl ByteQueue {
     fn make_front(&mut self, n: usize) -> Result<(), AllocError>
         ensures items { self.new.items ≡ self.old.items }
         ensures front { OnOk result (n ≤ self.new.front) }
-        ensures spare { self.old.spare ≤ self.new.spare }
+        ensures spare { self.new.spare ≡ self.old.spare }
         ensures err { OnErr result (self.new ≡ self.old) }
     {
         let front = n.checked_add(self.len() / 2).ok_or(AllocError)?;

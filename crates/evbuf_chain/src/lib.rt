@@ -2,8 +2,10 @@
 #![tactic(auto)]
 
 mod byte_queue;
+mod chain;
 mod fault;
 mod mark_list;
 mod run;
 
+pub use chain::Chain;
 pub use fault::ChainFault;
