@@ -1,5 +1,5 @@
 -- Marks of the first bytes of a list, and of those behind them.
-use Rattle.std.proofs.Common.{◌≡◌, ◌≢◌, ℕ, zero, suc, ◌+◌, ◌-◌, ◌<◌, ◌≤◌, ◌==◌, List, [], ◌∷◌, ◌++◌, length, take, drop, refl, ap, sym, ◌∙◌, append_assoc, arith, nat_le, nat_eq, Option, Some, None, length-append, length-take}
+use Rattle.std.proofs.Common.{◌≡◌, ℕ, zero, suc, ◌+◌, ◌-◌, ◌<◌, ◌≤◌, [], ◌∷◌, ◌++◌, length, take, drop, refl, ap, sym, ◌∙◌, append_assoc, arith, Some, None, length-append, length-take}
 use Rattle.std.proofs.lemmas.List.{take-append-le, drop-append-le, length-replicate}
 use Rattle.std.proofs.lemmas.Grind.{common_steps}
 use Rattle.std.proofs.Math.Seq.{take-append-add, drop-append-add}
@@ -179,3 +179,32 @@ drop-cut (suc n) (suc gap) ticket len more cut =
     drop-cut n gap ticket len more (omega arith)
     ∙ ap (λ k. unmarked k ++ (reference_marks ticket (len - (n - gap)) ++ more)) g
     ∙ ap (λ k. unmarked (suc gap - suc n) ++ (reference_marks ticket k ++ more)) l
+
+-- a mark is the last of at most one reference
+length-last_ticket : (mark : Mark) → length (last_ticket mark) ≤ 1
+length-last_ticket mark = grind (arith, common_steps)
+
+-- no more references end among the first bytes than among all
+pub length-ended_tickets-take : (n : ℕ) (xs : Marks)
+    → length (ended_tickets (take n xs)) ≤ length (ended_tickets xs)
+length-ended_tickets-take zero xs = omega arith
+length-ended_tickets-take (suc n) [] = omega arith
+length-ended_tickets-take (suc n) (None ∷ xs) = length-ended_tickets-take n xs
+length-ended_tickets-take (suc n) (Some mark ∷ xs) =
+    omega (arith, length-ended_tickets-take n xs, length-append (last_ticket mark) (ended_tickets (take n xs)),
+    length-append (last_ticket mark) (ended_tickets xs))
+
+-- nor more than there are bytes
+pub length-ended_tickets-le : (n : ℕ) (xs : Marks) → length (ended_tickets (take n xs)) ≤ n
+length-ended_tickets-le zero xs = omega arith
+length-ended_tickets-le (suc n) [] = omega arith
+length-ended_tickets-le (suc n) (None ∷ xs) = omega (arith, length-ended_tickets-le n xs)
+length-ended_tickets-le (suc n) (Some mark ∷ xs) =
+    omega (arith, length-ended_tickets-le n xs, length-append (last_ticket mark) (ended_tickets (take n xs)),
+    length-last_ticket mark)
+
+-- each byte keeps its place
+pub length-uncut_marks : (xs : Marks) → length (uncut_marks xs) ≡ length xs
+length-uncut_marks [] = refl
+length-uncut_marks (None ∷ xs) = omega (arith, length-uncut_marks xs)
+length-uncut_marks (Some mark ∷ xs) = omega (arith, length-uncut_marks xs)

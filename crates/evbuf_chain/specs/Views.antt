@@ -1,5 +1,5 @@
 -- How the parts of a chain keep what they show.
-use Rattle.std.specs.Prelude.{◌≡◌, ℕ, ◌-◌, ◌+◌, ◌≤◌, min, List, [], ◌∷◌, ◌++◌, drop, length, vec_len, vec_capacity}
+use Rattle.std.specs.Prelude.{◌-◌, ◌+◌, ◌≤◌, min, List, [], ◌∷◌, ◌++◌, drop, vec_len, vec_capacity}
 use Rattle.std.specs.VecDeque.{deque_len, deque_capacity}
 use Rattle.evbuf_chain.specs.Mark.{Marks, unmarked, reference_marks}
 use Rattle.evbuf_chain.specs.Inner.{Queued, Listed}

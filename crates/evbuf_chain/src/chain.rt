@@ -42,6 +42,13 @@ impl Model for Chain {
 }
 
 impl Chain {
+    ghost use Rattle.std.specs.Borrow.{sem};
+    ghost use Rattle.std.specs.Prelude.{⊤};
+    ghost use mathlib.Core.Option.{none};
+    ghost use denote.Follow.{follows_so};
+    ghost use Rattle.evbuf_chain.specs.contracts.chain.Chain.{the_row};
+    ghost use Rattle.evbuf_chain.specs.Buffered.{AfterPullup, PullupAnswer};
+
     /// A chain with no byte. Takes no memory.
     pub fn new(alloc: Global) -> Chain
         ensures bytes { result.bytes ≡ [] }
@@ -177,6 +184,25 @@ impl Chain {
         Ok(slices)
     }
 
+    /// Makes the first n bytes contiguous, in the chain's own memory, and shows them; none where n is above the length.
+    /// Every referenced byte among them is copied, so that the references that end there are released.
+    ///
+    /// Libevent: event2/buffer.h, `evbuffer_pullup`; "Evbuffers", "Rearranging the internal layout of an evbuffer".
+    /// Differs: referenced bytes are copied also where they are contiguous already.
+    pub fn pullup(&mut self, n: usize) -> Result<Option<&[u8]>, ChainFault>
+        ensures answer { AnswersOr Memory result None }
+        ensures front { PullupAnswer self.old n result }
+        ensures* after { sem 𝓛 (follows_so the_row the_row self.entry.ghost_name none (λ _ _. ⊤) (λ new. AfterPullup self.old n result new)) }
+    {
+        if n > self.bytes.len() {
+            return Ok(None);
+        }
+        self.marks.drop_front(n);
+        self.marks.prepend_unmarked(n);
+        let (front, _) = self.bytes.as_slice().split_at(n);
+        Ok(Some(front))
+    }
+
     /// The ticket that was released first and not taken yet, or none. Takes no memory.
     pub fn take_released(&mut self) -> Option<u64>
         ensures bytes { self.new.bytes ≡ self.old.bytes }
@@ -190,7 +216,7 @@ impl Chain {
 
     /// Moves the first n bytes, or all where there are fewer, to the end of another chain, and answers how many. Where a
     /// reference is cut, its front part is copied and the reference stays with the rest. Where the other chain's length
-    /// would not fit a usize it is refused as Spent, before want of memory. What is spare in the other is left open.
+    /// would not fit a usize it is refused as Spent, before want of memory. What is spare in either is left open.
     ///
     /// Libevent: event2/buffer.h, `evbuffer_remove_buffer`; "Evbuffers".
     pub fn split_front(&mut self, n: usize, to: &mut Chain) -> Result<usize, ChainFault>
@@ -203,7 +229,6 @@ impl Chain {
 
         ensures released { self.new.released ≡ self.old.released }
         ensures to_released { to.new.released ≡ to.old.released }
-        ensures spare { self.old.spare ≤ self.new.spare }
         ensures err { OnErr result (self.new ≡ self.old) }
         ensures to_err { OnErr result (to.new ≡ to.old) }
     {
@@ -218,7 +243,8 @@ impl Chain {
         Ok(n)
     }
 
-    /// Moves all bytes of another chain, with their marks, to the end. Refused as `split_front`.
+    /// Moves all bytes of another chain, with their marks, to the end. Refused as `split_front`. What is spare in either is
+    /// left open.
     ///
     /// Libevent: event2/buffer.h, `evbuffer_add_buffer`; "Evbuffers".
     pub fn append_all(&mut self, from: &mut Chain) -> Result<(), ChainFault>

@@ -1,6 +1,6 @@
-use Rattle.std.proofs.Common.{◌≡◌, ℕ, ◌+◌, ◌-◌, ◌^◌, ◌<◌, ◌≤◌, List, [], ◌∷◌, ◌++◌, length, take, drop, ap, sym, ◌∙◌, subst, arith}
+use Rattle.std.proofs.Common.{[], ◌++◌, ap, ◌∙◌}
 use Rattle.evbuf_chain.specs.Inner.{Listed}
-use Rattle.evbuf_chain.specs.Mark.{unmarked, reference_marks, ended_tickets, uncut_marks}
+use Rattle.evbuf_chain.specs.Mark.{reference_marks}
 use Rattle.evbuf_chain.specs.Views.{run_marks}
 use Rattle.evbuf_chain.proofs.RunLemmas.{reference-behind}
 use Rattle.evbuf_chain.proofs.mark_list.MarkList.add_reference.Goals as goal

@@ -1,6 +1,6 @@
-use Rattle.std.proofs.Common.{◌≡◌, ℕ, ◌+◌, ◌-◌, ◌^◌, ◌<◌, ◌≤◌, List, [], ◌∷◌, ◌++◌, length, take, drop, ap, sym, ◌∙◌, subst, arith}
+use Rattle.std.proofs.Common.{◌≡◌, ◌+◌, ◌-◌, ◌<◌, length, take, drop, ap, sym, ◌∙◌, arith}
 use Rattle.evbuf_chain.specs.Inner.{Listed}
-use Rattle.evbuf_chain.specs.Mark.{unmarked, reference_marks, ended_tickets, uncut_marks}
+use Rattle.evbuf_chain.specs.Mark.{unmarked, ended_tickets}
 use Rattle.evbuf_chain.specs.Views.{run_marks}
 use Rattle.evbuf_chain.proofs.RunLemmas.{ends-behind, drop-run, drop-unmarked}
 use Rattle.evbuf_chain.proofs.mark_list.MarkList.cut_front.Goals as goal

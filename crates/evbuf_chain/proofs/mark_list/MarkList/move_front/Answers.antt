@@ -1,6 +1,5 @@
-use Rattle.std.proofs.Common.{◌≡◌, ℕ, ◌+◌, ◌-◌, ◌<◌, ◌≤◌, ◌++◌, ◌∷◌, [], length, take, drop, ap, sym, ◌∙◌, append-nil, arith, length-append}
-use Rattle.std.proofs.lemmas.List.{length-replicate}
-use Rattle.evbuf_chain.specs.Mark.{ended_tickets, unmarked, reference_marks, uncut_marks}
+use Rattle.std.proofs.Common.{◌≡◌, ℕ, ◌+◌, ◌-◌, ◌++◌, length, take, ap, sym, ◌∙◌, append-nil, arith, length-append}
+use Rattle.evbuf_chain.specs.Mark.{unmarked, reference_marks, uncut_marks}
 use Rattle.evbuf_chain.proofs.MarkLemmas.{length-reference_marks}
 use Rattle.evbuf_chain.proofs.RunLemmas.{FirstEnds, FirstEnds-split, keeps-moved, no-ticket, length-unmarked}
 use Rattle.evbuf_chain.proofs.mark_list.MarkList.move_front.Goals as goal

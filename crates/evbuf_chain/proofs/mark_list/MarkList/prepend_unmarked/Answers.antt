@@ -1,6 +1,6 @@
-use Rattle.std.proofs.Common.{◌≡◌, ℕ, ◌+◌, ◌-◌, ◌^◌, ◌<◌, ◌≤◌, List, [], ◌∷◌, ◌++◌, length, take, drop, ap, sym, ◌∙◌, subst, refl, arith}
+use Rattle.std.proofs.Common.{◌≡◌, ◌+◌, ◌++◌, length, ap, sym, ◌∙◌, refl, arith}
 use Rattle.evbuf_chain.specs.Inner.{Listed}
-use Rattle.evbuf_chain.specs.Mark.{unmarked, reference_marks, ended_tickets, uncut_marks}
+use Rattle.evbuf_chain.specs.Mark.{unmarked}
 use Rattle.evbuf_chain.specs.Views.{run_marks}
 use Rattle.evbuf_chain.proofs.RunLemmas.{unmarked-before, unmarked-alone}
 use Rattle.evbuf_chain.proofs.mark_list.MarkList.prepend_unmarked.Goals as goal

@@ -1,7 +1,6 @@
-use Rattle.std.proofs.Common.{◌≡◌, ℕ, ◌+◌, ◌-◌, ◌^◌, ◌<◌, ◌≤◌, List, [], ◌∷◌, ◌++◌, length, take, drop, ap, sym, ◌∙◌, subst, arith}
+use Rattle.std.proofs.Common.{length, ap, sym, ◌∙◌, subst}
 use Rattle.evbuf_chain.specs.Inner.{Listed}
-use Rattle.evbuf_chain.specs.Mark.{unmarked, reference_marks, ended_tickets, uncut_marks}
-use Rattle.evbuf_chain.specs.Views.{run_marks}
+use Rattle.evbuf_chain.specs.Mark.{ended_tickets}
 use Rattle.evbuf_chain.specs.Mark.{AreWhole}
 use Rattle.evbuf_chain.proofs.RunLemmas.{length-ended_tickets-list, AreWhole-list}
 use Rattle.evbuf_chain.proofs.mark_list.MarkList.references.Goals as goal

@@ -1,4 +1,4 @@
-use Rattle.std.proofs.Common.{◌≡◌, ℕ, ◌+◌, ◌<◌, ◌≤◌, length, subst, refl, arith}
+use Rattle.std.proofs.Common.{◌≡◌, ◌+◌, ◌<◌, ◌≤◌, length, subst, refl, arith}
 use Rattle.evbuf_chain.specs.Inner.{Listed}
 use Rattle.evbuf_chain.specs.Mark.{unmarked}
 use Rattle.evbuf_chain.proofs.RunLemmas.{NoneEnds, NoneEnds-unmarked, NoneEnds-behind, none-there, apart}
