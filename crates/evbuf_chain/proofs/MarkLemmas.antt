@@ -41,7 +41,7 @@ ended_tickets-unmarked zero xs = refl
 ended_tickets-unmarked (suc n) xs = ended_tickets-unmarked n xs
 
 -- a mark with bytes behind it is not the last
-last_ticket-more : (mark : Mark) → 0 < mark.behind → last_ticket mark ≡ []
+pub last_ticket-more : (mark : Mark) → 0 < mark.behind → last_ticket mark ≡ []
 last_ticket-more mark more = grind (arith, common_steps)
 
 -- a reference ends once
@@ -71,11 +71,11 @@ uncut_marks-unmarked zero xs = refl
 uncut_marks-unmarked (suc n) xs = ap (λ ms. None ∷ ms) (uncut_marks-unmarked n xs)
 
 -- a mark with the rest of its reference behind it is kept
-uncut_mark-there : (n : ℕ) (mark : Mark) → mark.behind ≤ n → uncut_mark n mark ≡ Some mark
+pub uncut_mark-there : (n : ℕ) (mark : Mark) → mark.behind ≤ n → uncut_mark n mark ≡ Some mark
 uncut_mark-there n mark within = grind (arith, common_steps)
 
 -- a mark whose reference goes on is not
-uncut_mark-cut : (n : ℕ) (mark : Mark) → n < mark.behind → uncut_mark n mark ≡ None
+pub uncut_mark-cut : (n : ℕ) (mark : Mark) → n < mark.behind → uncut_mark n mark ≡ None
 uncut_mark-cut n mark beyond = grind (arith, common_steps)
 
 -- a whole reference keeps its marks
