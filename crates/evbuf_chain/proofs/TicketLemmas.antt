@@ -56,14 +56,20 @@ one-end ticket n some =
     ap ended_tickets (sym (append-nil (reference_marks ticket n))) ∙ ended_tickets-reference ticket n [] some
 
 pub one_each : OneTicketEach
-one_each marks released ticket zero =
-    (released, ended_tickets marks, refl,
-    ap (λ ms. (released ++ ticket ∷ []) ++ ended_tickets ms) (append-nil marks)
-    ∙ append_assoc released (ticket ∷ []) (ended_tickets marks))
-one_each marks released ticket (suc n) =
-    (outstanding marks released, [], sym (append-nil (outstanding marks released)),
-    ap (λ ts. (released ++ ts) ++ ended_tickets (marks ++ reference_marks ticket (suc n))) (no-ticket (suc n) ticket (omega arith))
-    ∙ ap (λ ts. ts ++ ended_tickets (marks ++ reference_marks ticket (suc n))) (append-nil released)
-    ∙ ap (λ ts. released ++ ts) (ended_tickets-append marks (reference_marks ticket (suc n)))
-    ∙ ap (λ ts. released ++ (ended_tickets marks ++ ts)) (one-end ticket (suc n) (omega arith))
-    ∙ sym (append_assoc released (ended_tickets marks) (ticket ∷ [])))
+one_each marks released ticket zero = (
+  released,
+  ended_tickets marks,
+  refl,
+  ap (λ ms. (released ++ ticket ∷ []) ++ ended_tickets ms) (append-nil marks)
+      ∙ append_assoc released (ticket ∷ []) (ended_tickets marks),
+)
+one_each marks released ticket (suc n) = (
+  outstanding marks released,
+  [],
+  sym (append-nil (outstanding marks released)),
+  ap (λ ts. (released ++ ts) ++ ended_tickets (marks ++ reference_marks ticket (suc n))) (no-ticket (suc n) ticket (omega arith))
+      ∙ ap (λ ts. ts ++ ended_tickets (marks ++ reference_marks ticket (suc n))) (append-nil released)
+      ∙ ap (λ ts. released ++ ts) (ended_tickets-append marks (reference_marks ticket (suc n)))
+      ∙ ap (λ ts. released ++ (ended_tickets marks ++ ts)) (one-end ticket (suc n) (omega arith))
+      ∙ sym (append_assoc released (ended_tickets marks) (ticket ∷ [])),
+)

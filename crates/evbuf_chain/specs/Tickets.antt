@@ -16,7 +16,7 @@ abbrev pub OneTicketEach : Type 0
 OneTicketEach =
     (marks : Marks) (released : List ℕ) (ticket n : ℕ)
     → WithTicket ticket (outstanding marks released)
-        (outstanding (marks ++ reference_marks ticket n) (released ++ (if n == 0 then ticket ∷ [] else [])))
+    (outstanding (marks ++ reference_marks ticket n) (released ++ (if n == 0 then ticket ∷ [] else [])))
 
 -- a drain of bytes loses no ticket and makes none
 abbrev pub DrainKeepsTickets : Type 0
@@ -35,4 +35,4 @@ abbrev pub MoveKeepsTickets : Type 0
 MoveKeepsTickets =
     (to from : Marks) (n : ℕ)
     → ended_tickets (to ++ uncut_marks (take n from)) ++ ended_tickets (drop n from)
-      ≡ ended_tickets to ++ ended_tickets from
+    ≡ ended_tickets to ++ ended_tickets from

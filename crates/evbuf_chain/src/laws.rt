@@ -9,5 +9,4 @@ pub fn tickets_are_handed_out_once()
     ensures drain { DrainKeepsTickets }
     ensures pullup { PullupKeepsTickets }
     ensures moves { MoveKeepsTickets }
-{
-}
+{}

@@ -11,3 +11,6 @@ mod run;
 pub use chain::Chain;
 pub use fault::ChainFault;
 pub use laws::tickets_are_handed_out_once;
+
+#[cfg(test)]
+mod tests;
