@@ -1,8 +1,8 @@
 -- Tickets of references over lists of marks that are cut and joined.
-use Rattle.std.proofs.Common.{◌≡◌, ℕ, zero, suc, ◌+◌, ◌<◌, ◌≤◌, ◌==◌, if◌then◌else◌, List, [], ◌∷◌, ◌++◌, length, take, drop, refl, ap, sym, ◌∙◌, append_assoc, append-nil, arith, Option, Some, None, nat_le, true, false, Bool}
+use Rattle.std.proofs.Common.{◌≡◌, ℕ, zero, suc, ◌<◌, if◌then◌else◌, [], ◌∷◌, ◌++◌, length, take, drop, refl, ap, sym, ◌∙◌, append_assoc, append-nil, arith, Some, None, nat_le, true, false, Bool}
 use Rattle.std.proofs.lemmas.List.{take-append-drop}
 use Rattle.std.proofs.lemmas.Grind.{common_steps}
-use Rattle.evbuf_chain.specs.Mark.{Marks, Mark, unmarked, reference_marks, ended_tickets, last_ticket, uncut_mark, uncut_marks}
+use Rattle.evbuf_chain.specs.Mark.{Marks, Mark, reference_marks, ended_tickets, last_ticket, uncut_mark, uncut_marks}
 use Rattle.evbuf_chain.specs.Tickets.{outstanding, OneTicketEach, DrainKeepsTickets, PullupKeepsTickets, MoveKeepsTickets}
 use Rattle.evbuf_chain.proofs.MarkLemmas.{ended_tickets-append, ended_tickets-unmarked, ended_tickets-reference, last_ticket-more}
 use Rattle.evbuf_chain.proofs.RunLemmas.{no-ticket}

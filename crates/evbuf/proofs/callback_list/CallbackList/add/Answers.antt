@@ -1,7 +1,7 @@
-use Rattle.std.proofs.Common.{◌≡◌, ◌<◌, ◌≤◌, ◌+◌, ◌^◌, ◌++◌, ◌∷◌, [], length, drop, None, false, ap, ◌∙◌, refl, arith}
+use Rattle.std.proofs.Common.{◌≡◌, ◌≤◌, ◌∷◌, [], length, drop, false, ap, ◌∙◌, arith}
 use Rattle.std.proofs.lemmas.List.{drop-append-le}
 use Rattle.evbuf.specs.Evbuffered.{Called}
-use Rattle.evbuf.specs.Callbacks.{newest_waiting, waits, new_callback}
+use Rattle.evbuf.specs.Callbacks.{newest_waiting, waits}
 use Rattle.evbuf.proofs.CallbackLemmas.{newest_waiting-push}
 use Rattle.evbuf.proofs.callback_list.CallbackList.add.Goals as goal
 

@@ -1,4 +1,4 @@
-use Rattle.std.proofs.Common.{◌≡◌, ℕ, suc, ◌<◌, ◌≤◌, ◌+◌, length, drop, set, get_or, Some, None, option_map, true, ap, sym, ◌∙◌, subst, arith, add-one}
+use Rattle.std.proofs.Common.{◌≡◌, ℕ, suc, ◌<◌, ◌+◌, length, drop, set, get_or, Some, None, option_map, true, ap, sym, ◌∙◌, subst, add-one}
 use Rattle.evbuf.specs.Evbuffered.{Called}
 use Rattle.evbuf.specs.declared.callback.SizeCallback.{SizeCallback}
 use Rattle.evbuf.specs.Callbacks.{Callbacks, newest_waiting, after_report, report_of, reported, waits}
