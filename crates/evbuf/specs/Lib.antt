@@ -1,0 +1,10 @@
+pub mod CallbackViews
+pub mod Callbacks
+pub mod EvbufferView
+pub mod Evbuffered
+pub mod Faults
+pub mod LendsBuffer
+pub mod Moves
+pub mod Pullup
+pub mod Refusals
+pub mod Steps
