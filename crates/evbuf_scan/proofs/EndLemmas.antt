@@ -1,0 +1,105 @@
+-- What of some bytes decides whether a line end stands at their front, and how long it is.
+use Rattle.std.proofs.Common.{◌≡◌, ◌<◌, ◌≤◌, ◌+◌, ℕ, zero, suc, Bool, true, false, cond, eqb, ltb, ◌||◌, ◌&&◌, List, [], ◌∷◌, ◌++◌, length, refl, sym, ap, ◌∙◌, arith, rules, tests}
+use Rattle.evbuf_scan.specs.declared.eol.Eol.{Eol}
+use Rattle.evbuf_scan.specs.declared.eol.Eol.TheVariants.{Any, Crlf, CrlfStrict, Lf, Nul}
+use Rattle.evbuf_scan.specs.Ends.{is_cr_or_lf, run_length, end_length, is_end}
+use Rattle.evbuf_scan.proofs.PlaceLemmas.{Reads}
+
+above_zero : (n : ℕ) → ltb 0 (n + 1) ≡ true
+above_zero n = search (rules, tests)
+
+-- a run begins with its first byte
+is_end-any : (a : ℕ) (w : List ℕ) → is_end Any (a ∷ w) ≡ is_cr_or_lf a
+is_end-any a w = elim (is_cr_or_lf a) as (λ v. ltb 0 (cond v (run_length w + 1) 0) ≡ v) [ true ↦ above_zero (run_length w) | false ↦ refl ]
+
+is_end-settled : (style : Eol) (w zs : List ℕ) → 2 ≤ length w → is_end style (w ++ zs) ≡ is_end style w
+is_end-settled style [] zs two = absurd (omega arith)
+is_end-settled style (a ∷ []) zs two = absurd (omega arith)
+is_end-settled Any (a ∷ b ∷ w) zs two = is_end-any a (b ∷ w ++ zs) ∙ sym (is_end-any a (b ∷ w))
+is_end-settled Crlf (a ∷ b ∷ w) zs two = refl
+is_end-settled CrlfStrict (a ∷ b ∷ w) zs two = refl
+is_end-settled Lf (a ∷ b ∷ w) zs two = refl
+is_end-settled Nul (a ∷ b ∷ w) zs two = refl
+
+-- where LF ends a line, an LF that comes behind a CR makes no difference to that
+lf_stays : (cr lf more : Bool) → ltb 0 (cond (cr && false) 2 (cond lf 1 0)) ≡ true → ltb 0 (cond (cr && more) 2 (cond lf 1 0)) ≡ true
+lf_stays true true true h = refl
+lf_stays true true false h = refl
+lf_stays true false true h = refl
+lf_stays true false false h = h
+lf_stays false lf more h = h
+
+never_strict : (cr : Bool) → ltb 0 (cond (cr && false) 2 0) ≡ false
+never_strict true = refl
+never_strict false = refl
+
+is_end-grows : (style : Eol) (w zs : List ℕ) → is_end style w ≡ true → is_end style (w ++ zs) ≡ true
+is_end-grows Any [] zs h = cc
+is_end-grows Crlf [] zs h = cc
+is_end-grows CrlfStrict [] zs h = cc
+is_end-grows Lf [] zs h = cc
+is_end-grows Nul [] zs h = cc
+is_end-grows Any (a ∷ w) zs h = is_end-any a (w ++ zs) ∙ sym (is_end-any a w) ∙ h
+is_end-grows Crlf (a ∷ []) [] h = h
+is_end-grows Crlf (a ∷ []) (z ∷ zs) h = lf_stays (eqb a 13) (eqb a 10 && true) (eqb z 10 && true) h
+is_end-grows CrlfStrict (a ∷ []) zs h = let no = never_strict (eqb a 13) in cc
+is_end-grows Lf (a ∷ []) zs h = h
+is_end-grows Nul (a ∷ []) zs h = h
+is_end-grows style (a ∷ b ∷ w) zs h = is_end-settled style (a ∷ b ∷ w) zs (omega arith) ∙ h
+
+is_end-needs : (style : Eol) (w : List ℕ) → is_end style w ≡ true → 2 ≤ length w + 1
+is_end-needs Any [] h = cc
+is_end-needs Crlf [] h = cc
+is_end-needs CrlfStrict [] h = cc
+is_end-needs Lf [] h = cc
+is_end-needs Nul [] h = cc
+is_end-needs style (a ∷ w) h = omega arith
+
+-- two bytes decide
+pub Reads-is_end : (style : Eol) → Reads (is_end style) 2
+Reads-is_end style = record {
+  settled = is_end-settled style;
+  grows = is_end-grows style;
+  needs = is_end-needs style;
+}
+
+-- Is it a style whose ends have a length of their own?
+abbrev pub is_bounded : Eol → Bool
+is_bounded Any = false
+is_bounded Crlf = true
+is_bounded CrlfStrict = true
+is_bounded Lf = true
+is_bounded Nul = true
+
+-- the same of the length of an end that is no run
+pub end_length-settled : (style : Eol) (w zs : List ℕ) → is_bounded style ≡ true → 2 ≤ length w → end_length style (w ++ zs) ≡ end_length style w
+end_length-settled style [] zs bounded two = absurd (omega arith)
+end_length-settled style (a ∷ []) zs bounded two = absurd (omega arith)
+end_length-settled Any (a ∷ b ∷ w) zs bounded two = cc
+end_length-settled Crlf (a ∷ b ∷ w) zs bounded two = refl
+end_length-settled CrlfStrict (a ∷ b ∷ w) zs bounded two = refl
+end_length-settled Lf (a ∷ b ∷ w) zs bounded two = refl
+end_length-settled Nul (a ∷ b ∷ w) zs bounded two = refl
+
+pub run_length-within : (w : List ℕ) → run_length w ≤ length w
+run_length-within [] = omega arith
+run_length-within (b ∷ w) =
+    elim (is_cr_or_lf b) as (λ v. cond v (run_length w + 1) 0 ≤ length (b ∷ w)) [ true ↦ omega (arith, run_length-within w) | false ↦ omega arith ]
+
+-- a run that ends in a window
+pub run_length-ended : (w zs : List ℕ) → run_length w < length w → run_length (w ++ zs) ≡ run_length w
+run_length-ended [] zs lt = absurd (omega arith)
+run_length-ended (b ∷ w) zs =
+    elim (is_cr_or_lf b) as (λ v. cond v (run_length w + 1) 0 < length (b ∷ w) → cond v (run_length (w ++ zs) + 1) 0 ≡ cond v (run_length w + 1) 0) [
+      | true ↦ λ lt. ap (λ n. n + 1) (run_length-ended w zs (omega arith))
+      | false ↦ λ lt. refl
+    ]
+
+-- a run that fills a window
+pub run_length-filled : (w zs : List ℕ) → length w ≤ run_length w → run_length (w ++ zs) ≡ length w + run_length zs
+run_length-filled [] zs full = omega arith
+run_length-filled (b ∷ w) zs =
+    elim (is_cr_or_lf b) as (λ v. length (b ∷ w) ≤ cond v (run_length w + 1) 0 → cond v (run_length (w ++ zs) + 1) 0 ≡ length (b ∷ w) + run_length zs) [
+      | true ↦ λ full. omega (arith, run_length-filled w zs (omega arith))
+      | false ↦ λ full. absurd (omega arith)
+    ]

@@ -1,0 +1,8 @@
+//! Searching of an evbuffer: for bytes, and for the ends of lines. Only `readln` changes a buffer.
+#![tactic(auto)]
+
+mod eol;
+mod laws;
+
+pub use eol::Eol;
+pub use laws::places_are_first;
