@@ -1,0 +1,4 @@
+pub mod Callbacks
+pub mod Evbuffered
+pub mod Faults
+pub mod Refusals
