@@ -89,17 +89,17 @@ run_length-within (b ∷ w) =
 -- a run that ends in a window
 pub run_length-ended : (w zs : List ℕ) → run_length w < length w → run_length (w ++ zs) ≡ run_length w
 run_length-ended [] zs lt = absurd (omega arith)
-run_length-ended (b ∷ w) zs =
+run_length-ended (b ∷ w) zs lt =
     elim (is_cr_or_lf b) as (λ v. cond v (run_length w + 1) 0 < length (b ∷ w) → cond v (run_length (w ++ zs) + 1) 0 ≡ cond v (run_length w + 1) 0) [
-      | true ↦ λ lt. ap (λ n. n + 1) (run_length-ended w zs (omega arith))
-      | false ↦ λ lt. refl
-    ]
+      | true ↦ λ below. ap (λ n. n + 1) (run_length-ended w zs (omega arith))
+      | false ↦ λ below. refl
+    ] lt
 
 -- a run that fills a window
 pub run_length-filled : (w zs : List ℕ) → length w ≤ run_length w → run_length (w ++ zs) ≡ length w + run_length zs
 run_length-filled [] zs full = omega arith
-run_length-filled (b ∷ w) zs =
+run_length-filled (b ∷ w) zs full =
     elim (is_cr_or_lf b) as (λ v. length (b ∷ w) ≤ cond v (run_length w + 1) 0 → cond v (run_length (w ++ zs) + 1) 0 ≡ length (b ∷ w) + run_length zs) [
-      | true ↦ λ full. omega (arith, run_length-filled w zs (omega arith))
-      | false ↦ λ full. absurd (omega arith)
-    ]
+      | true ↦ λ filled. omega (arith, run_length-filled w zs (omega arith))
+      | false ↦ λ filled. absurd (omega arith)
+    ] full

@@ -15,11 +15,11 @@ begins_with-settled (n ∷ ns) (b ∷ w) zs fits = ap (λ v. eqb b n && v) (begi
 begins_with-fits : (needle w : List ℕ) → begins_with needle w ≡ true → length needle ≤ length w
 begins_with-fits [] w h = omega arith
 begins_with-fits (n ∷ ns) [] h = cc
-begins_with-fits (n ∷ ns) (b ∷ w) =
+begins_with-fits (n ∷ ns) (b ∷ w) h =
     elim (eqb b n) as (λ v. (v && begins_with ns w) ≡ true → length (n ∷ ns) ≤ length (b ∷ w)) [
-      | true ↦ λ h. omega (arith, begins_with-fits ns w h)
-      | false ↦ λ h. cc
-    ]
+      | true ↦ λ both. omega (arith, begins_with-fits ns w both)
+      | false ↦ λ no. cc
+    ] h
 
 -- a needle is told by as many bytes as it has
 pub Reads-begins_with : (needle : List ℕ) → Reads (begins_with needle) (length needle)

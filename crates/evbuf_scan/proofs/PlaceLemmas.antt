@@ -1,5 +1,6 @@
 -- The first place of some bytes that passes a test, and how it is found in a window of them.
-use Rattle.std.proofs.Common.{◌≡◌, ◌<◌, ◌≤◌, ◌+◌, ◌-◌, ℕ, zero, suc, Bool, true, false, cond, Option, Some, None, List, [], ◌∷◌, ◌++◌, length, drop, refl, sym, ap, subst, ◌∙◌, arith, add-zero, length-drop, drop-drop}
+use Rattle.std.proofs.Common.{◌≡◌, ◌<◌, ◌≤◌, ◌+◌, ◌-◌, ℕ, zero, suc, Bool, true, false, cond, Option, Some, None, List, [], ◌∷◌, ◌++◌, length, drop, refl, sym, ap, subst, ◌∙◌, arith, add-zero, length-drop, drop-drop, get_or}
+use Rattle.std.proofs.lemmas.List.{drop_more}
 use Rattle.std.specs.Prelude.{option_map}
 use Rattle.evbuf_scan.specs.Place.{first_place, place_from, PassesAt, IsFirstPlace}
 
@@ -40,11 +41,11 @@ first_place-found test n (b ∷ bs) p is =
 pub first_place-none : (test : List ℕ → Bool) (n : ℕ) (xs : List ℕ) → first_place test n xs ≡ None →
     (k : ℕ) → k < length xs → test (drop k xs) ≡ false
 first_place-none test n [] is k lt = absurd (omega arith)
-first_place-none test n (b ∷ bs) is =
+first_place-none test n (b ∷ bs) is k lt =
     elim (test (b ∷ bs)) as (λ v. test (b ∷ bs) ≡ v → cond v (Some n) (first_place test (n + 1) bs) ≡ None →
-    (k : ℕ) → k < length (b ∷ bs) → test (drop k (b ∷ bs)) ≡ false) [
+    test (drop k (b ∷ bs)) ≡ false) [
       | true ↦ λ here no. cc
-      | false ↦ λ here later. none_more test b bs here (first_place-none test (n + 1) bs later)
+      | false ↦ λ here later. none_more test b bs here (first_place-none test (n + 1) bs later) k lt
     ] refl is
 
 -- places that are counted from another number
@@ -126,3 +127,18 @@ place_from-first test bytes from =
               let yes = behind.3 in cc,
           )
     ] refl
+
+-- a place that passes is the first one there
+pub first_place-here : (test : List ℕ → Bool) (xs : List ℕ) (i : ℕ) → i < length xs → test (drop i xs) ≡ true → first_place test i (drop i xs) ≡ Some i
+first_place-here test xs i lt passes =
+    let e = drop_more xs i 0 lt in
+    let passes' : test (get_or xs i 0 ∷ drop (i + 1) xs) ≡ true = rw e at passes in
+    rw (e, passes') refl
+
+-- and where one doesn't the search goes on behind it
+pub first_place-next : (test : List ℕ → Bool) (xs : List ℕ) (i : ℕ) → i < length xs → test (drop i xs) ≡ false →
+    first_place test i (drop i xs) ≡ first_place test (i + 1) (drop (i + 1) xs)
+first_place-next test xs i lt fails =
+    let e = drop_more xs i 0 lt in
+    let fails' : test (get_or xs i 0 ∷ drop (i + 1) xs) ≡ false = rw e at fails in
+    rw (e, fails') refl

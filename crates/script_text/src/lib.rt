@@ -15,6 +15,7 @@ mod write;
 pub use laws::{lines_are_parted, numbers_are_decimal, phrase_has_its_words, refused_at_first_bad};
 pub use read::read_script;
 pub use script::{ByteList, LinkLine, Script, ScriptFault, TurnLine};
+pub use words::{MAX_NUMBER, first_piece, hex_bytes, number, words_of};
 pub use write::{write_report, write_trace};
 
 #[cfg(test)]
