@@ -1,8 +1,8 @@
 -- What of some bytes decides whether a line end stands at their front, and how long it is.
-use Rattle.std.proofs.Common.{◌≡◌, ◌<◌, ◌≤◌, ◌+◌, ℕ, zero, suc, Bool, true, false, cond, eqb, ltb, ◌||◌, ◌&&◌, List, [], ◌∷◌, ◌++◌, length, refl, sym, ap, ◌∙◌, arith, rules, tests}
+use Rattle.std.proofs.Common.{◌≡◌, ◌<◌, ◌≤◌, ◌+◌, ℕ, zero, suc, Bool, true, false, cond, eqb, ltb, ◌||◌, ◌&&◌, List, [], ◌∷◌, ◌++◌, length, take, drop, refl, sym, ap, ◌∙◌, arith, rules, tests}
 use Rattle.evbuf_scan.specs.declared.eol.Eol.{Eol}
 use Rattle.evbuf_scan.specs.declared.eol.Eol.TheVariants.{Any, Crlf, CrlfStrict, Lf, Nul}
-use Rattle.evbuf_scan.specs.Ends.{is_cr_or_lf, run_length, end_length, is_end}
+use Rattle.evbuf_scan.specs.Ends.{is_cr_or_lf, run_length, end_length, is_bounded, is_end}
 use Rattle.evbuf_scan.proofs.PlaceLemmas.{Reads}
 
 above_zero : (n : ℕ) → ltb 0 (n + 1) ≡ true
@@ -63,43 +63,37 @@ Reads-is_end style = record {
   needs = is_end-needs style;
 }
 
--- Is it a style whose ends have a length of their own?
-abbrev pub is_bounded : Eol → Bool
-is_bounded Any = false
-is_bounded Crlf = true
-is_bounded CrlfStrict = true
-is_bounded Lf = true
-is_bounded Nul = true
-
--- the same of the length of an end that is no run
-pub end_length-settled : (style : Eol) (w zs : List ℕ) → is_bounded style ≡ true → 2 ≤ length w → end_length style (w ++ zs) ≡ end_length style w
-end_length-settled style [] zs bounded two = absurd (omega arith)
-end_length-settled style (a ∷ []) zs bounded two = absurd (omega arith)
-end_length-settled Any (a ∷ b ∷ w) zs bounded two = cc
-end_length-settled Crlf (a ∷ b ∷ w) zs bounded two = refl
-end_length-settled CrlfStrict (a ∷ b ∷ w) zs bounded two = refl
-end_length-settled Lf (a ∷ b ∷ w) zs bounded two = refl
-end_length-settled Nul (a ∷ b ∷ w) zs bounded two = refl
-
 pub run_length-within : (w : List ℕ) → run_length w ≤ length w
 run_length-within [] = omega arith
 run_length-within (b ∷ w) =
     elim (is_cr_or_lf b) as (λ v. cond v (run_length w + 1) 0 ≤ length (b ∷ w)) [ true ↦ omega (arith, run_length-within w) | false ↦ omega arith ]
 
--- a run that ends in a window
-pub run_length-ended : (w zs : List ℕ) → run_length w < length w → run_length (w ++ zs) ≡ run_length w
-run_length-ended [] zs lt = absurd (omega arith)
-run_length-ended (b ∷ w) zs lt =
-    elim (is_cr_or_lf b) as (λ v. cond v (run_length w + 1) 0 < length (b ∷ w) → cond v (run_length (w ++ zs) + 1) 0 ≡ cond v (run_length w + 1) 0) [
-      | true ↦ λ below. ap (λ n. n + 1) (run_length-ended w zs (omega arith))
+-- a run that ends before so many bytes
+pub run_length-take : (n : ℕ) (xs : List ℕ) → run_length (take n xs) < n → run_length xs ≡ run_length (take n xs)
+run_length-take zero xs lt = absurd (omega arith)
+run_length-take (suc n) [] lt = refl
+run_length-take (suc n) (b ∷ xs) lt =
+    elim (is_cr_or_lf b) as (λ v. cond v (run_length (take n xs) + 1) 0 < suc n → cond v (run_length xs + 1) 0 ≡ cond v (run_length (take n xs) + 1) 0) [
+      | true ↦ λ below. ap (λ k. k + 1) (run_length-take n xs (omega arith))
       | false ↦ λ below. refl
     ] lt
 
--- a run that fills a window
-pub run_length-filled : (w zs : List ℕ) → length w ≤ run_length w → run_length (w ++ zs) ≡ length w + run_length zs
-run_length-filled [] zs full = omega arith
-run_length-filled (b ∷ w) zs full =
-    elim (is_cr_or_lf b) as (λ v. length (b ∷ w) ≤ cond v (run_length w + 1) 0 → cond v (run_length (w ++ zs) + 1) 0 ≡ length (b ∷ w) + run_length zs) [
-      | true ↦ λ filled. omega (arith, run_length-filled w zs (omega arith))
+-- a run that so many bytes don't end
+pub run_length-drop : (n : ℕ) (xs : List ℕ) → n ≤ run_length (take n xs) → run_length xs ≡ n + run_length (drop n xs)
+run_length-drop zero xs full = omega arith
+run_length-drop (suc n) [] full = absurd (omega arith)
+run_length-drop (suc n) (b ∷ xs) full =
+    elim (is_cr_or_lf b) as (λ v. suc n ≤ cond v (run_length (take n xs) + 1) 0 → cond v (run_length xs + 1) 0 ≡ suc n + run_length (drop n xs)) [
+      | true ↦ λ filled. omega (arith, run_length-drop n xs (omega arith))
       | false ↦ λ filled. absurd (omega arith)
     ] full
+
+-- two bytes tell how long an end is that is no run
+pub end_length-take : (style : Eol) (xs : List ℕ) → is_bounded style ≡ true → end_length style (take 2 xs) ≡ end_length style xs
+end_length-take Any xs bounded = cc
+end_length-take style [] bounded = refl
+end_length-take style (a ∷ []) bounded = refl
+end_length-take Crlf (a ∷ b ∷ xs) bounded = refl
+end_length-take CrlfStrict (a ∷ b ∷ xs) bounded = refl
+end_length-take Lf (a ∷ b ∷ xs) bounded = refl
+end_length-take Nul (a ∷ b ∷ xs) bounded = refl

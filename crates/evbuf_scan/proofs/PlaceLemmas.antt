@@ -1,6 +1,6 @@
 -- The first place of some bytes that passes a test, and how it is found in a window of them.
-use Rattle.std.proofs.Common.{◌≡◌, ◌<◌, ◌≤◌, ◌+◌, ◌-◌, ℕ, zero, suc, Bool, true, false, cond, Option, Some, None, List, [], ◌∷◌, ◌++◌, length, drop, refl, sym, ap, subst, ◌∙◌, arith, add-zero, length-drop, drop-drop, get_or}
-use Rattle.std.proofs.lemmas.List.{drop_more}
+use Rattle.std.proofs.Common.{◌≡◌, ◌<◌, ◌≤◌, ◌+◌, ◌-◌, ℕ, zero, suc, Bool, true, false, cond, Option, Some, None, List, [], ◌∷◌, ◌++◌, length, drop, refl, sym, ap, subst, ◌∙◌, arith, add-zero, length-drop, drop-drop, get_or, take, length-take, take-append-drop}
+use Rattle.std.proofs.lemmas.List.{drop_more, take_all}
 use Rattle.std.specs.Prelude.{option_map}
 use Rattle.evbuf_scan.specs.Place.{first_place, place_from, PassesAt, IsFirstPlace}
 
@@ -142,3 +142,32 @@ first_place-next test xs i lt fails =
     let e = drop_more xs i 0 lt in
     let fails' : test (get_or xs i 0 ∷ drop (i + 1) xs) ≡ false = rw e at fails in
     rw (e, fails') refl
+
+-- what a window at a place finds is the first place from there on
+pub first_place-at : (test : List ℕ → Bool) (m : ℕ) → Reads test m → (at n : ℕ) (xs : List ℕ) (p : ℕ) → first_place test 0 (take n xs) ≡ Some p →
+    first_place test at xs ≡ Some (at + p)
+first_place-at test m reads at n xs p is =
+    let here : first_place test (at + 0) (take n xs) ≡ Some (at + p) = first_place-shift test at 0 (take n xs) ∙ ap (option_map (λ k. at + k)) is in
+    let here' : first_place test at (take n xs) ≡ Some (at + p) = rw add-zero at here in
+    ap (first_place test at) (sym (take-append-drop n xs)) ∙ first_place-window test m reads at (take n xs) (drop n xs) (at + p) here'
+
+window_none : (test : List ℕ → Bool) (at n : ℕ) (xs : List ℕ) → first_place test 0 (take n xs) ≡ None → first_place test at (take n xs) ≡ None
+window_none test at n xs is =
+    let here : first_place test (at + 0) (take n xs) ≡ None = first_place-shift test at 0 (take n xs) ∙ ap (option_map (λ k. at + k)) is in
+    rw add-zero at here
+
+-- a window that has nothing and is not full is the rest
+pub first_place-short : (test : List ℕ → Bool) (at n : ℕ) (xs : List ℕ) → length (take n xs) < n → first_place test 0 (take n xs) ≡ None →
+    first_place test at xs ≡ None
+first_place-short test at n xs short is =
+    let whole : take n xs ≡ xs = take_all n xs (omega (arith, length-take n xs)) in
+    ap (first_place test at) (sym whole) ∙ window_none test at n xs is
+
+-- a full window that has nothing
+pub first_place-full : (test : List ℕ → Bool) (m : ℕ) → Reads test m → 0 < m → (at n skip : ℕ) (xs : List ℕ) → length (take n xs) ≡ n → skip + m ≤ n + 1 →
+    first_place test 0 (take n xs) ≡ None → first_place test at xs ≡ first_place test (at + skip) (drop skip xs)
+first_place-full test m reads some at n skip xs full fits is =
+    let whole = take-append-drop n xs in
+    ap (first_place test at) (sym whole)
+    ∙ first_place-past test m reads some skip at (take n xs) (drop n xs) (omega arith) (window_none test at n xs is)
+    ∙ ap (λ ys. first_place test (at + skip) (drop skip ys)) whole

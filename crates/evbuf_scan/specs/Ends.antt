@@ -1,5 +1,5 @@
 -- Where lines end, by style.
-use Rattle.std.specs.Prelude.{ℕ, ◌+◌, List, [], ◌∷◌, ◌==◌, ◌||◌, Bool, if◌then◌else◌, nat_lt, drop, Option, option_map}
+use Rattle.std.specs.Prelude.{ℕ, ◌+◌, List, [], ◌∷◌, ◌==◌, ◌||◌, Bool, true, false, if◌then◌else◌, nat_lt, drop, Option, option_map}
 use Rattle.evbuf_scan.specs.declared.eol.Eol.{Eol}
 use Rattle.evbuf_scan.specs.declared.eol.Eol.TheVariants.{Any, Crlf, CrlfStrict, Lf, Nul}
 use Rattle.evbuf_scan.specs.Place.{place_from}
@@ -21,6 +21,14 @@ end_length Crlf bytes = if begins_with (13 ∷ 10 ∷ []) bytes then 2 else (if 
 end_length CrlfStrict bytes = if begins_with (13 ∷ 10 ∷ []) bytes then 2 else 0
 end_length Lf bytes = if begins_with (10 ∷ []) bytes then 1 else 0
 end_length Nul bytes = if begins_with (0 ∷ []) bytes then 1 else 0
+
+-- has each end of this style a length that is known beforehand, being no run
+abbrev pub is_bounded : Eol → Bool
+is_bounded Any = false
+is_bounded Crlf = true
+is_bounded CrlfStrict = true
+is_bounded Lf = true
+is_bounded Nul = true
 
 -- does a line end stand at the front of the bytes
 abbrev pub is_end : Eol → List ℕ → Bool

@@ -3,6 +3,8 @@
 
 mod eol;
 mod laws;
+mod look;
 
 pub use eol::Eol;
 pub use laws::places_are_first;
+pub use look::{search, search_eol};
