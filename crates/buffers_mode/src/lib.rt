@@ -1,5 +1,10 @@
 //! The mode that plays a script on sixteen evbuffers and writes what each line answers.
 #![tactic(auto)]
 
+mod answer;
+mod fault;
 mod keyword;
 mod line;
+mod read;
+
+pub use fault::ModeFault;

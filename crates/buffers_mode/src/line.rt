@@ -1,7 +1,7 @@
 // What one line of a script asks, whatever stands before it. Running it is left to others.
 ghost use Rattle.std.specs.Prelude.{◌≡◌, ◌∷◌, [], IfOk, map};
 ghost use Rattle.script_text.specs.Numbers.{bytes_of};
-ghost use Rattle.buffers_mode.specs.Grammar.{buffer_of, count_of, callback_of, from_of, place_of, style_of, switch_of, plain_op, one_op, two_op, op_by, said};
+ghost use Rattle.buffers_mode.specs.Grammar.{buffer_of, count_of, callback_of, from_of, place_of, style_of, switch_of, plain_op, one_op, two_op, op_by, ask_by, said};
 
 use crate::keyword::{Keyword, is_word, read_keyword};
 use ev_types::NoMemory;
@@ -19,7 +19,7 @@ const MAX_COUNT: u64 = 1 << 24;
 /// The greatest ticket, and the greatest number of a callback.
 const MAX_CALLBACK: u64 = u32::MAX as u64;
 
-/// What a line asks of its buffer.
+/// What a line asks of one buffer alone.
 ///
 /// Own.
 #[derive(Drop)]
@@ -30,10 +30,6 @@ pub(crate) enum Op {
     AddReference(ByteList, u64),
     Drain(usize),
     Remove(usize),
-    /// The buffer whose bytes are moved to the end of this one.
-    AddBuffer(usize),
-    /// The buffer to whose end the first bytes of this one are moved, and how many.
-    RemoveBuffer(usize, usize),
     Pullup(usize),
     PullupAll,
     /// What is looked for, and from which place on.
@@ -47,6 +43,19 @@ pub(crate) enum Op {
     AddCb,
     RemoveCb(u32),
     SetCbEnabled(u32, bool),
+}
+
+/// What a line asks.
+///
+/// Own.
+#[derive(Drop)]
+pub(crate) enum Ask {
+    Own(Op),
+    /// The buffer whose bytes are moved to the end of this one.
+    AddBuffer(usize),
+    /// The buffer to whose end the first bytes of this one are moved, and how many.
+    RemoveBuffer(usize, usize),
+    /// Whether the reports of the buffer wait until they are asked for.
     Defer(bool),
     Reports,
 }
@@ -57,7 +66,7 @@ pub(crate) enum Op {
 #[derive(Drop)]
 pub(crate) struct Line {
     pub(crate) buffer: usize,
-    pub(crate) op: Op,
+    pub(crate) ask: Ask,
 }
 
 fn read_buffer(word: &[u8]) -> Option<usize>
@@ -139,13 +148,32 @@ pub(crate) fn line_of(alloc: Global, words: &[&[u8]]) -> Result<Option<Line>, No
     let Some(buffer) = read_buffer(buffer) else {
         return Ok(None);
     };
-    match op_of(alloc, keyword, more)? {
-        Some(op) => Ok(Some(Line { buffer, op })),
+    match ask_of(alloc, keyword, more)? {
+        Some(ask) => Ok(Some(Line { buffer, ask })),
         None => Ok(None),
     }
 }
 
 /// What a line of a kind asks by the words behind its buffer.
+fn ask_of(alloc: Global, keyword: Keyword, words: &[&[u8]]) -> Result<Option<Ask>, NoMemory>
+    ensures { IfOk result (λ ask. ask ≡ ask_by keyword (map (λ w. w.now) words.now)) }
+{
+    match (keyword, words) {
+        (Keyword::AddBuffer, [from]) => Ok(read_buffer(from).map(Ask::AddBuffer)),
+        (Keyword::RemoveBuffer, [to, count]) => Ok(remove_buffer_ask(to, count)),
+        (Keyword::Defer, [switch]) => Ok(read_switch(switch).map(Ask::Defer)),
+        (Keyword::Reports, []) => Ok(Some(Ask::Reports)),
+        _ => Ok(op_of(alloc, keyword, words)?.map(Ask::Own)),
+    }
+}
+
+fn remove_buffer_ask(to: &[u8], count: &[u8]) -> Option<Ask>
+    ensures { result ≡ ask_by Keyword.RemoveBuffer (to.now ∷ count.now ∷ []) }
+{
+    Some(Ask::RemoveBuffer(read_buffer(to)?, read_count(count)?))
+}
+
+/// The same of what is asked of one buffer alone.
 fn op_of(alloc: Global, keyword: Keyword, words: &[&[u8]]) -> Result<Option<Op>, NoMemory>
     ensures { IfOk result (λ op. op ≡ op_by keyword (map (λ w. w.now) words.now)) }
 {
@@ -163,7 +191,6 @@ fn plain_op(keyword: Keyword) -> Option<Op>
     match keyword {
         Keyword::PullupAll => Some(Op::PullupAll),
         Keyword::AddCb => Some(Op::AddCb),
-        Keyword::Reports => Some(Op::Reports),
         Keyword::Len => Some(Op::Len),
         _ => None,
     }
@@ -177,7 +204,6 @@ fn one_word_op(alloc: Global, keyword: Keyword, word: &[u8]) -> Result<Option<Op
         Keyword::Prepend => Ok(read_bytes(alloc, word)?.map(Op::Prepend)),
         Keyword::Drain => Ok(read_count(word).map(Op::Drain)),
         Keyword::Remove => Ok(read_count(word).map(Op::Remove)),
-        Keyword::AddBuffer => Ok(read_buffer(word).map(Op::AddBuffer)),
         Keyword::Pullup => Ok(read_count(word).map(Op::Pullup)),
         Keyword::Peek => Ok(read_count(word).map(Op::Peek)),
         Keyword::Readln => Ok(read_style(word).map(Op::Readln)),
@@ -186,7 +212,6 @@ fn one_word_op(alloc: Global, keyword: Keyword, word: &[u8]) -> Result<Option<Op
         Keyword::RemoveCb => Ok(read_callback(word).map(Op::RemoveCb)),
         Keyword::EnableCb => Ok(read_callback(word).map(|cb| Op::SetCbEnabled(cb, true))),
         Keyword::DisableCb => Ok(read_callback(word).map(|cb| Op::SetCbEnabled(cb, false))),
-        Keyword::Defer => Ok(read_switch(word).map(Op::Defer)),
         _ => Ok(None),
     }
 }
@@ -201,7 +226,6 @@ fn two_word_op(
 {
     match keyword {
         Keyword::AddReference => reference_op(alloc, first, second),
-        Keyword::RemoveBuffer => Ok(remove_buffer_op(first, second)),
         Keyword::Search => search_op(alloc, first, second),
         Keyword::SearchEol => Ok(search_eol_op(first, second)),
         _ => Ok(None),
@@ -222,12 +246,6 @@ fn reference_op(alloc: Global, digits: &[u8], ticket: &[u8]) -> Result<Option<Op
         return Ok(None);
     };
     Ok(read_callback(ticket).map(|ticket| Op::AddReference(list, u64::from(ticket))))
-}
-
-fn remove_buffer_op(to: &[u8], count: &[u8]) -> Option<Op>
-    ensures { result ≡ two_op Keyword.RemoveBuffer to.now count.now }
-{
-    Some(Op::RemoveBuffer(read_buffer(to)?, read_count(count)?))
 }
 
 fn search_op(alloc: Global, digits: &[u8], from: &[u8]) -> Result<Option<Op>, NoMemory>
