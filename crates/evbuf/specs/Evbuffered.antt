@@ -14,3 +14,8 @@ pub record Evbuffered : Type 0 where
   pub end_frozen : Bool
   pub callbacks : Callbacks
   pub next : ℕ
+
+-- the size callbacks alone, and the number that the next one gets
+pub record Called : Type 0 where
+  pub callbacks : Callbacks
+  pub next : ℕ

@@ -1,4 +1,7 @@
+pub mod CallbackViews
 pub mod Callbacks
 pub mod Evbuffered
 pub mod Faults
+pub mod Pullup
 pub mod Refusals
+pub mod Steps

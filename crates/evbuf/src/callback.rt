@@ -1,6 +1,7 @@
-// The size callbacks of a buffer. When a buffer changes is left to the buffer.
+// One size callback of a buffer. Which of them reports next is left to the list.
+ghost use Rattle.std.specs.Prelude.{◌≡◌, ◌↔◌, ◌+◌, ◌-◌, ◌<◌, IsTrue, nat_lt, min};
 
-/// One size callback: what it has summed since its last report. Contracts see its fields.
+/// One size callback: what it has summed since its last report.
 ///
 /// Own.
 #[derive(Clone, Copy, Debug, PartialEq, Eq)]
@@ -23,4 +24,67 @@ pub struct Report {
     pub old: u64,
     pub added: u64,
     pub deleted: u64,
+}
+
+impl SizeCallback {
+    ghost use Rattle.evbuf.specs.Callbacks.{waits, after_change, new_callback, report_of, reported, enabled_at};
+
+    pub(crate) fn new(number: u32) -> SizeCallback
+        ensures { result ≡ new_callback number }
+    {
+        SizeCallback {
+            number,
+            enabled: true,
+            before: 0,
+            added: 0,
+            deleted: 0,
+        }
+    }
+
+    // Whether it has a report to make.
+    pub(crate) fn waits(&self) -> bool
+        ensures { result ≡ waits self.now }
+    {
+        self.added > 0 || self.deleted > 0
+    }
+
+    // Sums a change from a length, while enabled.
+    pub(crate) fn change(&mut self, before: u64, came: u64, went: u64)
+        ensures { self.new ≡ after_change before came went self.old }
+    {
+        if !self.enabled || (came == 0 && went == 0) {
+            return;
+        }
+        if !self.waits() {
+            self.before = before;
+        }
+        self.added = self.added.saturating_add(came);
+        self.deleted = self.deleted.saturating_add(went);
+    }
+
+    // Makes its report, after which nothing is summed.
+    pub(crate) fn report(&mut self) -> Report
+        ensures report { result ≡ report_of self.old }
+        ensures after { self.new ≡ reported self.old }
+    {
+        let report = Report {
+            cb: self.number,
+            old: self.before,
+            added: self.added,
+            deleted: self.deleted,
+        };
+        self.before = 0;
+        self.added = 0;
+        self.deleted = 0;
+        report
+    }
+
+    // Enables or disables it, where it has the number.
+    pub(crate) fn enable_at(&mut self, cb: u32, on: bool)
+        ensures { self.new ≡ enabled_at cb on self.old }
+    {
+        if self.number == cb {
+            self.enabled = on;
+        }
+    }
 }

@@ -2,6 +2,7 @@
 #![tactic(auto)]
 
 mod callback;
+mod callback_list;
 mod fault;
 
 pub use callback::{Report, SizeCallback};

@@ -1,3 +1,5 @@
 pub mod Answers
 pub mod Buffered
+pub mod Inner
 pub mod Mark
+pub mod Views

@@ -1,6 +1,11 @@
 //! Bytes of a buffer in order, with the marks of the references that were added to it. No freezing, callbacks or lines.
 #![tactic(auto)]
 
+mod byte_queue;
+mod chain;
 mod fault;
+mod mark_list;
+mod run;
 
+pub use chain::Chain;
 pub use fault::ChainFault;

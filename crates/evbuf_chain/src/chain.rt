@@ -1,0 +1,275 @@
+// Bytes in order with the marks of the references that were added to them.
+//
+// What a chain keeps:
+// 1. Each byte has a mark or none. A reference's marks stand in a row and run down to its last byte.
+// 2. Bytes come in behind or in front, and leave at the front alone.
+// 3. A ticket is released when the last mark of its reference goes, or as it comes in where the reference has no bytes.
+ghost use Rattle.std.specs.Prelude.{◌≡◌, ◌≤◌, ◌<◌, ◌+◌, ◌-◌, ◌^◌, ◌++◌, ◌∷◌, ◌==◌, ◌↔◌, [], length, drop, take, min, nat_lt, OnOk, OnErr, IfOk, IfSome, IfNone, None, if◌then◌else◌};
+ghost use Rattle.evbuf_chain.specs.Answers.{AnswersOr, fault_of};
+ghost use Rattle.evbuf_chain.specs.Mark.{unmarked, reference_marks, ended_tickets, uncut_marks, AreWhole};
+ghost use Rattle.evbuf_chain.specs.Buffered.{length_refusal, joined};
+ghost use Rattle.evbuf_chain.specs.declared.fault.ChainFault.TheVariants.{Memory};
+ghost use Rattle.std.specs.Rc.{rc_slice_items};
+
+use crate::byte_queue::ByteQueue;
+use crate::fault::ChainFault;
+use crate::mark_list::MarkList;
+use smallvec::SmallVec;
+use std::alloc::Global;
+use std::marker::Model;
+use std::rc::RcSlice;
+
+/// Bytes in order. Contracts see the list of bytes, the mark that each has, a number spare, which says how many more
+/// bytes fit without taking memory, and the tickets that wait to be taken.
+///
+/// Libevent: event2/buffer.h, `evbuffer`; "Evbuffers".
+/// Differs: a reference tells of its end by a ticket number, and no function of the caller is called.
+#[derive(Drop)]
+pub struct Chain {
+    bytes: ByteQueue,
+    marks: MarkList,
+}
+
+impl Model for Chain {
+    ghost use Rattle.std.specs.Prelude.{◌≡◌, length};
+    ghost use Rattle.evbuf_chain.specs.Buffered.{Buffered};
+
+    ghost Value = { Buffered };
+
+    ghost view = { λ chain. record { bytes = chain.bytes.items; marks = chain.marks.marks; spare = chain.bytes.spare; released = chain.marks.released } };
+
+    ghost invariant = { λ chain. length chain.marks.marks ≡ length chain.bytes.items };
+}
+
+impl Chain {
+    ghost use Rattle.std.specs.Borrow.{sem};
+    ghost use Rattle.std.specs.Prelude.{⊤};
+    ghost use mathlib.Core.Option.{none};
+    ghost use denote.Follow.{follows_so};
+    ghost use Rattle.evbuf_chain.specs.contracts.chain.Chain.{the_row};
+    ghost use Rattle.evbuf_chain.specs.Buffered.{AfterPullup, PullupAnswer};
+
+    /// A chain with no byte. Takes no memory.
+    pub fn new(alloc: Global) -> Chain
+        ensures bytes { result.bytes ≡ [] }
+        ensures marks { result.marks ≡ [] }
+        ensures released { result.released ≡ [] }
+    {
+        Chain {
+            bytes: ByteQueue::new(alloc),
+            marks: MarkList::new(alloc),
+        }
+    }
+
+    /// How many bytes there are. Takes no memory.
+    pub fn len(&self) -> usize
+        ensures len { result ≡ length self.now.bytes }
+        ensures fits { length self.now.bytes + self.now.spare < 2 ^ 64 }
+        ensures marked { length self.now.marks ≡ length self.now.bytes }
+        ensures whole { AreWhole self.now.marks }
+    {
+        let _references = self.marks.references();
+        self.bytes.len()
+    }
+
+    /// Makes room for at least n more bytes at the end.
+    pub fn reserve(&mut self, n: usize) -> Result<(), ChainFault>
+        ensures answer { AnswersOr Memory result None }
+        ensures bytes { self.new.bytes ≡ self.old.bytes }
+        ensures marks { self.new.marks ≡ self.old.marks }
+        ensures released { self.new.released ≡ self.old.released }
+        ensures room { OnOk result (n ≤ self.new.spare) }
+        ensures kept { self.old.spare ≤ self.new.spare }
+        ensures err { OnErr result (self.new ≡ self.old) }
+    {
+        self.bytes.reserve(n)?;
+        Ok(())
+    }
+
+    /// Copies bytes in at the end, in room that was made before. Takes no memory.
+    pub fn push_reserved(&mut self, bytes: &[u8])
+        requires { length bytes.now ≤ self.old.spare }
+        ensures bytes { self.new.bytes ≡ self.old.bytes ++ bytes.now }
+        ensures marks { self.new.marks ≡ self.old.marks ++ unmarked (length bytes.now) }
+        ensures released { self.new.released ≡ self.old.released }
+        ensures spare { self.new.spare + length bytes.now ≡ self.old.spare }
+    {
+        let _len = self.bytes.len();
+        self.bytes.push(bytes);
+        self.marks.add_unmarked(bytes.len());
+    }
+
+    /// Copies bytes in at the end. Where the length would not fit a usize it is refused as Spent, before want of memory.
+    /// What is spare afterwards is left open.
+    pub fn push_copy(&mut self, bytes: &[u8]) -> Result<(), ChainFault>
+        ensures answer { AnswersOr Memory result (length_refusal (length self.old.bytes + length bytes.now)) }
+        ensures bytes { OnOk result (self.new.bytes ≡ self.old.bytes ++ bytes.now) }
+        ensures marks { OnOk result (self.new.marks ≡ self.old.marks ++ unmarked (length bytes.now)) }
+        ensures released { self.new.released ≡ self.old.released }
+        ensures err { OnErr result (self.new ≡ self.old) }
+    {
+        self.fits(bytes.len())?;
+        self.reserve(bytes.len())?;
+        self.push_reserved(bytes);
+        Ok(())
+    }
+
+    /// Adds a reference to bytes at the end, with the ticket by which its end is told. One of no bytes is released at
+    /// once. Refused as `push_copy`. What is spare afterwards is left open, and so is whether the bytes are shared.
+    ///
+    /// Libevent: event2/buffer.h, `evbuffer_add_reference`; "Evbuffers".
+    /// Differs: a reference of no bytes does not wait for the next change.
+    pub fn push_ref(&mut self, bytes: RcSlice<u8>, ticket: u64) -> Result<(), ChainFault>
+        ensures answer { AnswersOr Memory result (length_refusal (length self.old.bytes + length (rc_slice_items bytes))) }
+        ensures bytes { OnOk result (self.new.bytes ≡ self.old.bytes ++ rc_slice_items bytes) }
+        ensures marks { OnOk result (self.new.marks ≡ self.old.marks ++ reference_marks ticket (length (rc_slice_items bytes))) }
+        ensures released { OnOk result (self.new.released ≡ self.old.released ++ (if length (rc_slice_items bytes) == 0 then ticket ∷ [] else [])) }
+        ensures err { OnErr result (self.new ≡ self.old) }
+    {
+        self.fits(bytes.len())?;
+        self.marks.reserve(1)?;
+        self.bytes.reserve(bytes.len())?;
+        self.bytes.push(bytes.as_slice());
+        self.marks.add_reference(bytes.len(), ticket);
+        Ok(())
+    }
+
+    /// Copies bytes in at the front. Refused as `push_copy`.
+    pub fn prepend(&mut self, bytes: &[u8]) -> Result<(), ChainFault>
+        ensures answer { AnswersOr Memory result (length_refusal (length self.old.bytes + length bytes.now)) }
+        ensures bytes { OnOk result (self.new.bytes ≡ bytes.now ++ self.old.bytes) }
+        ensures marks { OnOk result (self.new.marks ≡ unmarked (length bytes.now) ++ self.old.marks) }
+        ensures released { self.new.released ≡ self.old.released }
+        ensures err { OnErr result (self.new ≡ self.old) }
+    {
+        self.fits(bytes.len())?;
+        self.bytes.prepend(bytes)?;
+        self.marks.prepend_unmarked(bytes.len());
+        Ok(())
+    }
+
+    /// Takes off the first n bytes, or all where there are fewer. Takes no memory.
+    pub fn drain(&mut self, n: usize)
+        ensures bytes { self.new.bytes ≡ drop n self.old.bytes }
+        ensures marks { self.new.marks ≡ drop n self.old.marks }
+        ensures released { self.new.released ≡ self.old.released ++ ended_tickets (take n self.old.marks) }
+        ensures spare { self.old.spare ≤ self.new.spare }
+    {
+        let n = n.min(self.bytes.len());
+        self.bytes.drop_front(n);
+        self.marks.drop_front(n);
+    }
+
+    /// Copies the bytes from a place on, as many as are there and fit, and answers how many. Takes no memory.
+    pub fn copy_out(&self, from: usize, into: &mut [u8]) -> usize
+        ensures count { result ≡ min (length into.old) (length self.now.bytes - from) }
+        ensures copied { into.new ≡ take result (drop from self.now.bytes) ++ drop result into.old }
+    {
+        let (_, rest) = self.bytes.as_slice().split_at(from.min(self.bytes.len()));
+        let count = rest.len().min(into.len());
+        let (bytes, _) = rest.split_at(count);
+        let (place, _) = into.split_at_mut(count);
+        place.copy_from_slice(bytes);
+        count
+    }
+
+    /// The first n bytes, or all where there are fewer, as slices that joined are these bytes.
+    pub fn extents(&self, n: usize) -> Result<SmallVec<&[u8], 8>, ChainFault>
+        ensures answer { AnswersOr Memory result None }
+        ensures bytes { IfOk result (λ slices. joined slices.items ≡ take n self.now.bytes) }
+    {
+        let (bytes, _) = self.bytes.as_slice().split_at(n.min(self.bytes.len()));
+        let mut slices = SmallVec::new(self.bytes.allocator());
+        slices.push(bytes)?;
+        Ok(slices)
+    }
+
+    /// Makes the first n bytes contiguous, in the chain's own memory, and shows them; none where n is above the length.
+    /// Every referenced byte among them is copied, so that the references that end there are released.
+    ///
+    /// Libevent: event2/buffer.h, `evbuffer_pullup`; "Evbuffers", "Rearranging the internal layout of an evbuffer".
+    /// Differs: referenced bytes are copied also where they are contiguous already.
+    pub fn pullup(&mut self, n: usize) -> Result<Option<&[u8]>, ChainFault>
+        ensures answer { AnswersOr Memory result None }
+        ensures front { PullupAnswer self.old n result }
+        ensures* after { sem 𝓛 (follows_so the_row the_row self.entry.ghost_name none (λ _ _. ⊤) (λ new. AfterPullup self.old n result new)) }
+    {
+        if n > self.bytes.len() {
+            return Ok(None);
+        }
+        self.marks.drop_front(n);
+        self.marks.prepend_unmarked(n);
+        let (front, _) = self.bytes.as_slice().split_at(n);
+        Ok(Some(front))
+    }
+
+    /// The ticket that was released first and not taken yet, or none. Takes no memory.
+    pub fn take_released(&mut self) -> Option<u64>
+        ensures bytes { self.new.bytes ≡ self.old.bytes }
+        ensures marks { self.new.marks ≡ self.old.marks }
+        ensures spare { self.new.spare ≡ self.old.spare }
+        ensures none { IfNone result ((self.old.released ≡ []) × (self.new.released ≡ [])) }
+        ensures some { IfSome result (λ ticket. self.old.released ≡ ticket ∷ self.new.released) }
+    {
+        self.marks.take_released()
+    }
+
+    /// Moves the first n bytes, or all where there are fewer, to the end of another chain, and answers how many. Where a
+    /// reference is cut, its front part is copied and the reference stays with the rest. Where the other chain's length
+    /// would not fit a usize it is refused as Spent, before want of memory. What is spare in either is left open.
+    ///
+    /// Libevent: event2/buffer.h, `evbuffer_remove_buffer`; "Evbuffers".
+    pub fn split_front(&mut self, n: usize, to: &mut Chain) -> Result<usize, ChainFault>
+        ensures answer { AnswersOr Memory result (length_refusal (length to.old.bytes + min n (length self.old.bytes))) }
+        ensures count { IfOk result (λ moved. moved ≡ min n (length self.old.bytes)) }
+        ensures bytes { OnOk result (self.new.bytes ≡ drop n self.old.bytes) }
+        ensures marks { OnOk result (self.new.marks ≡ drop n self.old.marks) }
+        ensures to_bytes { OnOk result (to.new.bytes ≡ to.old.bytes ++ take n self.old.bytes) }
+        ensures to_marks { OnOk result (to.new.marks ≡ to.old.marks ++ uncut_marks (take n self.old.marks)) }
+
+        ensures released { self.new.released ≡ self.old.released }
+        ensures to_released { to.new.released ≡ to.old.released }
+        ensures err { OnErr result (self.new ≡ self.old) }
+        ensures to_err { OnErr result (to.new ≡ to.old) }
+    {
+        let n = n.min(self.bytes.len());
+        to.fits(n)?;
+        to.marks.reserve(n.min(self.marks.references()))?;
+        to.bytes.reserve(n)?;
+        let (bytes, _) = self.bytes.as_slice().split_at(n);
+        to.bytes.push(bytes);
+        self.bytes.drop_front(n);
+        self.marks.move_front(n, &mut to.marks);
+        Ok(n)
+    }
+
+    /// Moves all bytes of another chain, with their marks, to the end. Refused as `split_front`. What is spare in either is
+    /// left open.
+    ///
+    /// Libevent: event2/buffer.h, `evbuffer_add_buffer`; "Evbuffers".
+    pub fn append_all(&mut self, from: &mut Chain) -> Result<(), ChainFault>
+        ensures answer { AnswersOr Memory result (length_refusal (length self.old.bytes + length from.old.bytes)) }
+        ensures bytes { OnOk result (self.new.bytes ≡ self.old.bytes ++ from.old.bytes) }
+        ensures marks { OnOk result (self.new.marks ≡ self.old.marks ++ from.old.marks) }
+        ensures from_bytes { OnOk result (from.new.bytes ≡ []) }
+        ensures from_marks { OnOk result (from.new.marks ≡ []) }
+
+        ensures released { self.new.released ≡ self.old.released }
+        ensures from_released { from.new.released ≡ from.old.released }
+        ensures err { OnErr result (self.new ≡ self.old) }
+        ensures from_err { OnErr result (from.new ≡ from.old) }
+    {
+        from.split_front(from.len(), self)?;
+        Ok(())
+    }
+
+    // Whether so many more bytes leave a length that fits a usize.
+    fn fits(&self, n: usize) -> Result<(), ChainFault>
+        ensures { fault_of result ≡ length_refusal (length self.now.bytes + n) }
+    {
+        if n > usize::MAX - self.bytes.len() {
+            return Err(ChainFault::Spent);
+        }
+        Ok(())
+    }
+}
