@@ -13,7 +13,8 @@ use Rattle.buffers_mode.specs.declared.fault.ModeFault.{ModeFault}
 use Rattle.buffers_mode.specs.declared.fault.ModeFault.TheVariants.{Memory, BadLine, Spent}
 use Rattle.buffers_mode.specs.Answers.{answer_words, report_words, released_words}
 use Rattle.buffers_mode.specs.Spelled.{script_of}
-use Rattle.buffers_mode.specs.Steps.{appended, changed, joined_by, shortened, with_callbacks}
+use Rattle.evbuf.specs.Steps.{after_taking, after_taking_all, after_giving, after_giving_all}
+use Rattle.buffers_mode.specs.Steps.{with_callbacks}
 use Rattle.buffers_mode.specs.Played.{Step, unless, own_step}
 
 -- the buffers, which of them have reports that wait until they are asked for, and the text that was written
@@ -53,7 +54,7 @@ add_buffer_step run to from =
     let source = buffer_at run from in
     if to == from then unless (same_refusal target) run Done run
     else unless (move_refusal target source (length source.bytes)) run Done
-    (with_buffer (with_buffer run to (appended target source.bytes source.marks)) from (changed source [] [] 0 (length source.bytes)))
+    (with_buffer (with_buffer run to (after_taking_all target source 0)) from (after_giving_all source 0))
 
 -- the first n bytes of a buffer, or all where there are fewer, move to the end of another
 abbrev pub remove_buffer_step : Run → ℕ → ℕ → ℕ → Step Run
@@ -63,7 +64,7 @@ remove_buffer_step run from to n =
     let moved = min n (length source.bytes) in
     if from == to then unless (same_refusal target) run (Count 0) run
     else unless (move_refusal target source moved) run (Count moved)
-    (with_buffer (with_buffer run to (joined_by target source n)) from (shortened source n))
+    (with_buffer (with_buffer run to (after_taking target source n 0)) from (after_giving source n 0))
 
 -- what a line is answered, and what it leaves, before anything is reported or released
 abbrev pub ask_step : Run → ℕ → Ask → Step Run

@@ -6,5 +6,6 @@ mod fault;
 mod keyword;
 mod line;
 mod read;
+mod step;
 
 pub use fault::ModeFault;

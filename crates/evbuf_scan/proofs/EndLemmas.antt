@@ -97,3 +97,27 @@ end_length-take Crlf (a ∷ b ∷ xs) bounded = refl
 end_length-take CrlfStrict (a ∷ b ∷ xs) bounded = refl
 end_length-take Lf (a ∷ b ∷ xs) bounded = refl
 end_length-take Nul (a ∷ b ∷ xs) bounded = refl
+
+one_at_most : (cr lf : Bool) → cond (cr && false) 2 (cond lf 1 0) ≤ 1
+one_at_most true true = omega arith
+one_at_most true false = omega arith
+one_at_most false true = omega arith
+one_at_most false false = omega arith
+
+two_at_most : (cr lf : Bool) → cond cr 2 (cond lf 1 0) ≤ 2
+two_at_most true lf = omega arith
+two_at_most false true = omega arith
+two_at_most false false = omega arith
+
+-- an end stands within the bytes
+pub end_length-within : (style : Eol) (xs : List ℕ) → end_length style xs ≤ length xs
+end_length-within Any xs = run_length-within xs
+end_length-within style [] = omega arith
+end_length-within Crlf (a ∷ []) = one_at_most (eqb a 13) (eqb a 10 && true)
+end_length-within CrlfStrict (a ∷ []) = one_at_most (eqb a 13) false
+end_length-within Lf (a ∷ []) = one_at_most false (eqb a 10 && true)
+end_length-within Nul (a ∷ []) = one_at_most false (eqb a 0 && true)
+end_length-within Crlf (a ∷ b ∷ xs) = let few = two_at_most (eqb a 13 && (eqb b 10 && true)) (eqb a 10 && true) in omega arith
+end_length-within CrlfStrict (a ∷ b ∷ xs) = let few = two_at_most (eqb a 13 && (eqb b 10 && true)) false in omega arith
+end_length-within Lf (a ∷ b ∷ xs) = let few = two_at_most false (eqb a 10 && true) in omega arith
+end_length-within Nul (a ∷ b ∷ xs) = let few = two_at_most false (eqb a 0 && true) in omega arith

@@ -1,10 +1,12 @@
 -- Where a needle stands, as the search of a slice says it.
-use Rattle.std.proofs.Common.{◌≡◌, ◌<◌, ◌≤◌, ◌+◌, ℕ, zero, suc, Bool, true, false, cond, eqb, ◌&&◌, Option, Some, None, List, [], ◌∷◌, ◌++◌, length, take, drop, refl, sym, ap, ◌∙◌, arith, inl, inr, length-drop, length-take-le}
-use Rattle.std.proofs.lemmas.Bool.Decides.{eqb_tells}
+use Rattle.std.proofs.Common.{◌≡◌, ◌<◌, ◌≤◌, ◌+◌, ◌⊎◌, ℕ, zero, suc, Bool, true, false, cond, eqb, ltb, ◌&&◌, Option, Some, None, List, [], ◌∷◌, ◌++◌, length, take, drop, refl, sym, ap, ◌∙◌, arith, inl, inr, length-drop, length-take-le}
+use Rattle.std.proofs.lemmas.Bool.Decides.{eqb_tells, leb_tells}
+use Rattle.std.specs.Bool.{then_some}
+use Rattle.std.proofs.lemmas.List.{drop_more, drop_all}
 use Rattle.memchr.specs.Find.{OccursAt, FindsNeedle, Nowhere, NoneBefore, IsFirst}
 use Rattle.memchr.proofs.lemmas.MatchLemmas.{OccursAt-part, OccursAt-from_part}
 use Rattle.evbuf_scan.specs.Place.{first_place}
-use Rattle.evbuf_scan.specs.Needle.{begins_with}
+use Rattle.evbuf_scan.specs.Needle.{begins_with, place_of}
 use Rattle.evbuf_scan.proofs.PlaceLemmas.{Reads, Found, first_place-found, first_place-none}
 
 begins_with-settled : (needle w zs : List ℕ) → length needle ≤ length w → begins_with needle (w ++ zs) ≡ begins_with needle w
@@ -79,3 +81,14 @@ FindsNeedle-first_place needle w (Some k) some first =
     ] refl where
   same_first : (j p : ℕ) → p ≡ j → (j < k → ⊥) → (k < j → ⊥) → Some k ≡ Some p
   same_first j p e below above = let same : k ≡ p = omega arith in ap Some same
+
+ltb_tells : (a b : ℕ) → ((ltb a b ≡ true) × (a < b)) ⊎ ((ltb a b ≡ false) × (b ≤ a))
+ltb_tells a b = elim (leb_tells (suc a) b) [ inl h ↦ inl (h.0, omega (arith, h.1)) | inr h ↦ inr (h.0, omega (arith, h.1)) ]
+
+-- an empty needle stands where a byte does
+pub place_of-empty : (needle bytes : List ℕ) (from : ℕ) → length needle ≡ 0 → place_of needle bytes from ≡ then_some (ltb from (length bytes)) from
+place_of-empty (n ∷ ns) bytes from none = absurd (omega arith)
+place_of-empty [] bytes from none = elim (ltb_tells from (length bytes)) [
+  | inl below ↦ let e = drop_more bytes from 0 below.1 in rw (below.0, e) refl
+  | inr past ↦ let e = drop_all from bytes past.1 in rw (past.0, e) refl
+]

@@ -4,7 +4,9 @@
 mod eol;
 mod laws;
 mod look;
+mod take;
 
 pub use eol::Eol;
 pub use laws::places_are_first;
 pub use look::{search, search_eol};
+pub use take::{peek, readln};

@@ -32,7 +32,8 @@ fn window_at<'a>(buf: &Evbuffer, from: usize, window: &'a mut [u8]) -> &'a [u8]
 ///
 /// Libevent: event2/buffer.h, `evbuffer_search_eol`; Evbuffers, "Searching within an evbuffer".
 pub fn search_eol(buf: &Evbuffer, style: Eol, from: usize) -> Option<(usize, usize)>
-    ensures { result ≡ end_from style buf.now.bytes from }
+    ensures value { result ≡ end_from style buf.now.bytes from }
+    ensures within { IfSome result (λ found. found.0 + found.1 ≤ length buf.now.bytes) }
 {
     let place = place_of_end(buf, style, from)?;
     let length = match style {
@@ -43,7 +44,8 @@ pub fn search_eol(buf: &Evbuffer, style: Eol, from: usize) -> Option<(usize, usi
 }
 
 fn place_of_end(buf: &Evbuffer, style: Eol, from: usize) -> Option<usize>
-    ensures { result ≡ place_from (is_end style) buf.now.bytes from }
+    ensures value { result ≡ place_from (is_end style) buf.now.bytes from }
+    ensures within { IfSome result (λ place. place < length buf.now.bytes) }
 {
     let mut room = [0; WINDOW];
     let mut at = from;
@@ -63,7 +65,8 @@ fn place_of_end(buf: &Evbuffer, style: Eol, from: usize) -> Option<usize>
 /// How many CR and LF stand at the place, one after another.
 fn length_of_run(buf: &Evbuffer, place: usize) -> usize
     requires { place ≤ length buf.now.bytes }
-    ensures { result ≡ run_length (drop place buf.now.bytes) }
+    ensures value { result ≡ run_length (drop place buf.now.bytes) }
+    ensures within { place + result ≤ length buf.now.bytes }
 {
     let mut room = [0; WINDOW];
     let mut at = place;
@@ -79,14 +82,17 @@ fn length_of_run(buf: &Evbuffer, place: usize) -> usize
 
 /// How long the line end at the place is, for a style that has no runs.
 fn length_of_end(buf: &Evbuffer, style: Eol, place: usize) -> usize
-    requires { is_bounded style ≡ true }
-    ensures { result ≡ end_length style (drop place buf.now.bytes) }
+    requires bounded { is_bounded style ≡ true }
+    requires there { place ≤ length buf.now.bytes }
+    ensures value { result ≡ end_length style (drop place buf.now.bytes) }
+    ensures within { place + result ≤ length buf.now.bytes }
 {
     let mut room = [0; LOOK_AHEAD];
     end_at_front(style, window_at(buf, place, &mut room))
 }
 
-/// The first place at or after `from` where the needle stands, which isn't empty. None exactly where there is none.
+/// The first place at or after `from` where the needle stands. None exactly where there is none. An empty needle stands
+/// at each place that has a byte.
 /// Takes memory for a window of 4,096 bytes, or of twice the needle's length where that is more.
 ///
 /// Libevent: event2/buffer.h, `evbuffer_search`; Evbuffers, "Searching within an evbuffer".
@@ -96,9 +102,11 @@ pub fn search(
     needle: &[u8],
     from: usize,
 ) -> Result<Option<usize>, NoMemory>
-    requires { 0 < length needle.now }
     ensures { IfOk result (λ place. place ≡ place_of needle.now buf.now.bytes from) }
 {
+    if needle.is_empty() {
+        return Ok((from < buf.len()).then_some(from));
+    }
     let size = needle.len().saturating_mul(2).max(SEARCH_WINDOW);
     let mut room = vec![in alloc; 0; size]?;
     Ok(search_by(buf, needle, from, &mut room))

@@ -11,8 +11,8 @@ overflow_add-result c =
     let below = c.len.ensures in
     omega (arith, run_is, run_length-within (take 256 rest), length-take 256 rest, length-drop c.loop-at.at c.args.buf.now.bytes)
 
-pub returns-then-run-lt-WINDOW : goal.returns-then-run-lt-WINDOW
-returns-then-run-lt-WINDOW c =
+pub returns-then-run-lt-WINDOW-clause-value : goal.returns-then-run-lt-WINDOW-clause-value
+returns-then-run-lt-WINDOW-clause-value c =
     let rest = drop c.loop-at.at c.args.buf.now.bytes in
     let run_is : c.run_of_ends-run.result ≡ run_length (take 256 rest) =
     c.run_of_ends-run.ensures ∙ ap run_length (c.window_at.ensures ∙ ap (λ n. take n rest) c.loop-at-test.array_long) in
@@ -39,3 +39,10 @@ loop-at-preserved c =
       within = omega (arith, run_length-within (take 256 rest), length-take 256 rest, length-drop c.loop-at.at c.args.buf.now.bytes);
       counted = omega (arith, run_length-drop 256 rest full, further, c.loop-at.invariant.counted);
     }
+
+pub returns-then-run-lt-WINDOW-clause-within : goal.returns-then-run-lt-WINDOW-clause-within
+returns-then-run-lt-WINDOW-clause-within c =
+    let rest = drop c.loop-at.at c.args.buf.now.bytes in
+    let run_is : c.run_of_ends-run.result ≡ run_length (take 256 rest) =
+    c.run_of_ends-run.ensures ∙ ap run_length (c.window_at.ensures ∙ ap (λ n. take n rest) c.loop-at-test.array_long) in
+    omega (arith, run_is, run_length-within (take 256 rest), length-take 256 rest, length-drop c.loop-at.at c.args.buf.now.bytes)
