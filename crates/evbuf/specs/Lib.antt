@@ -1,5 +1,6 @@
 pub mod CallbackViews
 pub mod Callbacks
+pub mod EvbufferView
 pub mod Evbuffered
 pub mod Faults
 pub mod Pullup

@@ -1,8 +1,28 @@
 -- What each call leaves of a buffer. The last argument is what is spare afterwards.
-use Rattle.std.specs.Prelude.{ℕ, ◌+◌, ◌==◌, min, if◌then◌else◌, Option, Some, None, List, [], ◌∷◌, ◌++◌, length, take, drop}
+use Rattle.std.specs.Prelude.{ℕ, ◌+◌, ◌==◌, min, if◌then◌else◌, Option, Some, None, Bool, false, List, [], ◌∷◌, ◌++◌, length, take, drop}
 use Rattle.evbuf_chain.specs.Mark.{Marks, unmarked, reference_marks, ended_tickets, uncut_marks}
 use Rattle.evbuf.specs.Evbuffered.{Evbuffered}
 use Rattle.evbuf.specs.Callbacks.{all_after_change}
+use Rattle.evbuf.specs.declared.place.Place.{Place}
+use Rattle.evbuf.specs.declared.place.Place.TheVariants.{Front, End}
+
+-- a new buffer is empty, is frozen at no end and has no callback
+abbrev pub new_buffer : Evbuffered
+new_buffer = record {
+  bytes = [];
+  marks = [];
+  spare = 0;
+  released = [];
+  front_frozen = false;
+  end_frozen = false;
+  callbacks = [];
+  next = 0;
+}
+
+-- a buffer of which an end is frozen or not, as said
+abbrev pub with_frozen : Evbuffered → Place → Bool → Evbuffered
+with_frozen buf Front frozen = record buf { front_frozen = frozen }
+with_frozen buf End frozen = record buf { end_frozen = frozen }
 
 -- bytes of the buffer's own come in behind
 abbrev pub after_add : Evbuffered → List ℕ → ℕ → Evbuffered

@@ -3,7 +3,11 @@
 
 mod callback;
 mod callback_list;
+mod evbuffer;
 mod fault;
+mod place;
 
 pub use callback::{Report, SizeCallback};
+pub use evbuffer::Evbuffer;
 pub use fault::BufFault;
+pub use place::Place;

@@ -35,8 +35,8 @@ AfterPullup old n (Ok (Some front)) new = IsPulledUp old n new
 AfterPullup old n (Ok None) new = new ≡ old
 AfterPullup old n (Err fault) new = new ≡ old
 
--- What a pullup of n bytes answers: none exactly where n is above the length, and else the first n bytes.
-abbrev pub PullupAnswer : {E : Type 0} → Buffered → ℕ → Result (Option (Bor (List ℕ))) E → Type 0
-PullupAnswer old n (Ok (Some front)) = (n ≤ length old.bytes) × (front.now ≡ take n old.bytes)
-PullupAnswer old n (Ok None) = length old.bytes < n
-PullupAnswer old n (Err fault) = Unit {0}
+-- What a pullup of n bytes of these answers: none exactly where n is above the length, and else the first n bytes.
+abbrev pub PullupAnswer : {E : Type 0} → List ℕ → ℕ → Result (Option (Bor (List ℕ))) E → Type 0
+PullupAnswer bytes n (Ok (Some front)) = (n ≤ length bytes) × (front.now ≡ take n bytes)
+PullupAnswer bytes n (Ok None) = length bytes < n
+PullupAnswer bytes n (Err fault) = Unit {0}

@@ -32,7 +32,8 @@ impl Model for ByteQueue {
 
 impl ByteQueue {
     pub(crate) fn new(alloc: Global) -> ByteQueue
-        ensures { result.items ≡ [] }
+        ensures items { result.items ≡ [] }
+        ensures spare { result.spare ≡ 0 }
     {
         ByteQueue {
             kept: Vec::new(alloc),

@@ -53,6 +53,7 @@ impl Chain {
     pub fn new(alloc: Global) -> Chain
         ensures bytes { result.bytes ≡ [] }
         ensures marks { result.marks ≡ [] }
+        ensures spare { result.spare ≡ 0 }
         ensures released { result.released ≡ [] }
     {
         Chain {
@@ -191,7 +192,7 @@ impl Chain {
     /// Differs: referenced bytes are copied also where they are contiguous already.
     pub fn pullup(&mut self, n: usize) -> Result<Option<&[u8]>, ChainFault>
         ensures answer { AnswersOr Memory result None }
-        ensures front { PullupAnswer self.old n result }
+        ensures front { PullupAnswer self.old.bytes n result }
         ensures* after { sem 𝓛 (follows_so the_row the_row self.entry.ghost_name none (λ _ _. ⊤) (λ new. AfterPullup self.old n result new)) }
     {
         if n > self.bytes.len() {
