@@ -7,4 +7,4 @@ pub returns-then-is_empty : goal.returns-then-is_empty
 returns-then-is_empty c =
     let none : length c.args.needle.now ≡ 0 = search (rules, tests) in
     let e = place_of-empty c.args.needle.now c.args.buf.now.bytes c.args.from none in
-    c.then_some.ensures ∙ rw c.len.ensures (sym e)
+    c.then_some.ensures ∙ rw c.len.ensures.len (sym e)
