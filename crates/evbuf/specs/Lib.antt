@@ -3,6 +3,8 @@ pub mod Callbacks
 pub mod EvbufferView
 pub mod Evbuffered
 pub mod Faults
+pub mod LendsBuffer
+pub mod Moves
 pub mod Pullup
 pub mod Refusals
 pub mod Steps

@@ -10,7 +10,7 @@ ghost use Rattle.evbuf_chain.specs.Buffered.{joined, PullupAnswer};
 ghost use Rattle.evbuf_chain.specs.Mark.{AreWhole};
 ghost use Rattle.evbuf.specs.Callbacks.{new_callback, without, with_enabled, report_of, newest_waiting, after_report};
 ghost use Rattle.evbuf.specs.Steps.{new_buffer, after_add, after_prepend, after_reference, after_drain, after_giving, after_taking, after_giving_all, after_taking_all, with_frozen, is_frozen};
-ghost use Rattle.evbuf.specs.Refusals.{end_refusal, front_refusal, add_refusal, prepend_refusal, move_refusal, callback_refusal, number_refusal};
+ghost use Rattle.evbuf.specs.Refusals.{end_refusal, front_refusal, add_refusal, prepend_refusal, move_refusal, same_refusal, callback_refusal, number_refusal};
 ghost use Rattle.evbuf.specs.declared.fault.BufFault.TheVariants.{Memory};
 ghost use Rattle.std.specs.Rc.{rc_slice_items};
 
@@ -377,6 +377,19 @@ impl Evbuffer {
         ensures some { IfSome result (λ ticket. self.old.released ≡ ticket ∷ self.new.released) }
     {
         self.chain.take_released()
+    }
+
+    // Why it is not moved into itself.
+    pub(crate) fn into_itself(&self) -> BufFault
+        ensures { Some result ≡ same_refusal self.now }
+    {
+        if self.end_frozen {
+            BufFault::FrozenEnd
+        } else if self.front_frozen {
+            BufFault::FrozenFront
+        } else {
+            BufFault::SameBuffer
+        }
     }
 
     fn set_frozen(&mut self, at: Place, frozen: bool)
