@@ -1,5 +1,5 @@
 -- What a line asks, by cases on its words.
-use Rattle.std.specs.Prelude.{ℕ, ◌^◌, ◌-◌, List, [], ◌∷◌, codes, Bool, true, false, if◌then◌else◌, Option, Some, None, option_map, option_and_then}
+use Rattle.std.specs.Prelude.{ℕ, ◌^◌, ◌-◌, ◌<◌, List, [], ◌∷◌, codes, Bool, true, false, if◌then◌else◌, Option, Some, None, option_map, option_and_then}
 use Rattle.std.specs.Str.{bytes_eq}
 use Rattle.evbuf.specs.declared.place.Place.{Place}
 use Rattle.evbuf.specs.declared.place.Place.TheVariants.{Front, End}
@@ -99,3 +99,15 @@ said [] = None
 said (first ∷ []) = None
 said (first ∷ number ∷ more) =
     option_and_then (λ kind. option_and_then (λ b. option_map (λ asked. record { buffer = b; ask = asked }) (ask_by kind more)) (buffer_of number)) (keyword_of first)
+
+-- the further buffers that a line names are there
+abbrev pub AskNames : Ask → Type 0
+AskNames (ask.Own asked) = Unit {0}
+AskNames (ask.AddBuffer from) = from < 16
+AskNames (ask.RemoveBuffer to n) = to < 16
+AskNames (ask.Defer on) = Unit {0}
+AskNames ask.Reports = Unit {0}
+
+-- all buffers that a line names are there
+abbrev pub NamesBuffers : Line → Type 0
+NamesBuffers line = (line.buffer < 16) × AskNames line.ask

@@ -5,3 +5,5 @@ pub mod Answers
 pub mod Steps
 pub mod Played
 pub mod Run
+pub mod PlayerView
+pub mod Text

@@ -14,8 +14,8 @@ use Rattle.buffers_mode.specs.declared.line.Op.{Op}
 use Rattle.buffers_mode.specs.declared.line.Op.TheVariants as op
 use Rattle.buffers_mode.specs.declared.fault.ModeFault.{ModeFault}
 use Rattle.buffers_mode.specs.declared.fault.ModeFault.TheVariants.{Memory, BadLine, Spent}
-use Rattle.evbuf.specs.Steps.{after_add, after_prepend, after_reference, after_drain, pulled_up}
-use Rattle.buffers_mode.specs.Steps.{with_frozen, with_callbacks}
+use Rattle.evbuf.specs.Steps.{with_frozen, after_add, after_prepend, after_reference, after_drain, pulled_up}
+use Rattle.buffers_mode.specs.Steps.{with_callbacks}
 
 -- An answer, with what stands afterwards. There is none where a count would not fit: the script can't be played further.
 abbrev pub Step : Type 0 → Type 0
@@ -56,7 +56,8 @@ own_step (op.Prepend bytes) buf = unless (prepend_refusal buf (length bytes)) bu
 own_step (op.AddReference bytes ticket) buf =
     unless (add_refusal buf (length bytes)) buf Done (after_reference buf bytes ticket 0)
 own_step (op.Drain n) buf = unless (front_refusal buf) buf Done (after_drain buf n 0)
-own_step (op.Remove n) buf = unless (front_refusal buf) buf (Bytes (take n buf.bytes)) (after_drain buf n 0)
+own_step (op.Remove n) buf =
+    let taken = min n (length buf.bytes) in unless (front_refusal buf) buf (Bytes (take taken buf.bytes)) (after_drain buf taken 0)
 own_step (op.Pullup n) buf = if nat_lt (length buf.bytes) n then Some (Nothing, buf) else Some (Bytes (take n buf.bytes), pulled_up buf n 0)
 own_step op.PullupAll buf = Some (Bytes buf.bytes, pulled_up buf (length buf.bytes) 0)
 own_step (op.Search needle from) buf = Some (found_answer (place_of needle buf.bytes from), buf)
@@ -64,8 +65,8 @@ own_step (op.SearchEol style from) buf = Some (end_answer (end_from style buf.by
 own_step (op.Readln style) buf = line_step buf (end_from style buf.bytes 0)
 own_step (op.Peek n) buf = Some (Bytes (take n buf.bytes), buf)
 own_step op.Len buf = Some (Count (length buf.bytes), buf)
-own_step (op.Freeze place) buf = Some (Done, with_frozen place true buf)
-own_step (op.Unfreeze place) buf = Some (Done, with_frozen place false buf)
+own_step (op.Freeze place) buf = Some (Done, with_frozen buf place true)
+own_step (op.Unfreeze place) buf = Some (Done, with_frozen buf place false)
 own_step op.AddCb buf =
     unless (number_refusal buf) buf (Count buf.next) (record buf { callbacks = buf.callbacks ++ new_callback buf.next ∷ []; next = buf.next + 1 })
 own_step (op.RemoveCb cb) buf = unless (callback_refusal buf cb) buf Done (with_callbacks buf (without cb buf.callbacks))
@@ -84,3 +85,10 @@ Took (Ok answer) after step = step ≡ Some (answer, after)
 Took (Err Memory) after step = ⊤
 Took (Err (BadLine line)) after step = ⊥
 Took (Err Spent) after step = step ≡ None
+
+-- The same of a call that answers nothing.
+abbrev pub Went : {Answered State : Type 0} → Result Answered ModeFault → State → Option State → Type 0
+Went (Ok done) after step = step ≡ Some after
+Went (Err Memory) after step = ⊤
+Went (Err (BadLine line)) after step = ⊥
+Went (Err Spent) after step = step ≡ None

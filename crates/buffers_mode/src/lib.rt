@@ -5,7 +5,15 @@ mod answer;
 mod fault;
 mod keyword;
 mod line;
+mod moves;
+mod play;
+mod player;
 mod read;
 mod step;
+mod tell;
 
 pub use fault::ModeFault;
+pub use play::play_buffers;
+
+#[cfg(test)]
+mod tests;

@@ -1,7 +1,7 @@
 // What one line of a script asks, whatever stands before it. Running it is left to others.
-ghost use Rattle.std.specs.Prelude.{◌≡◌, ◌∷◌, [], IfOk, map};
+ghost use Rattle.std.specs.Prelude.{◌≡◌, ◌<◌, ◌∷◌, [], IfOk, IfSome, map};
 ghost use Rattle.script_text.specs.Numbers.{bytes_of};
-ghost use Rattle.buffers_mode.specs.Grammar.{buffer_of, count_of, callback_of, from_of, place_of, style_of, switch_of, plain_op, one_op, two_op, op_by, ask_by, said};
+ghost use Rattle.buffers_mode.specs.Grammar.{buffer_of, count_of, callback_of, from_of, place_of, style_of, switch_of, plain_op, one_op, two_op, op_by, ask_by, said, AskNames, NamesBuffers};
 
 use crate::keyword::{Keyword, is_word, read_keyword};
 use ev_types::NoMemory;
@@ -70,7 +70,8 @@ pub(crate) struct Line {
 }
 
 fn read_buffer(word: &[u8]) -> Option<usize>
-    ensures { result ≡ buffer_of word.now }
+    ensures value { result ≡ buffer_of word.now }
+    ensures within { IfSome result (λ buffer. buffer < 16) }
 {
     Some(number(word, MAX_BUFFER)? as usize)
 }
@@ -137,7 +138,8 @@ fn read_switch(word: &[u8]) -> Option<bool>
 
 /// What a line with these words asks. Takes memory for the bytes that it names.
 pub(crate) fn line_of(alloc: Global, words: &[&[u8]]) -> Result<Option<Line>, NoMemory>
-    ensures { IfOk result (λ line. line ≡ said (map (λ w. w.now) words.now)) }
+    ensures value { IfOk result (λ line. line ≡ said (map (λ w. w.now) words.now)) }
+    ensures within { IfOk result (λ line. IfSome line NamesBuffers) }
 {
     let [first, buffer, more @ ..] = words else {
         return Ok(None);
@@ -156,7 +158,8 @@ pub(crate) fn line_of(alloc: Global, words: &[&[u8]]) -> Result<Option<Line>, No
 
 /// What a line of a kind asks by the words behind its buffer.
 fn ask_of(alloc: Global, keyword: Keyword, words: &[&[u8]]) -> Result<Option<Ask>, NoMemory>
-    ensures { IfOk result (λ ask. ask ≡ ask_by keyword (map (λ w. w.now) words.now)) }
+    ensures value { IfOk result (λ ask. ask ≡ ask_by keyword (map (λ w. w.now) words.now)) }
+    ensures within { IfOk result (λ ask. IfSome ask AskNames) }
 {
     match (keyword, words) {
         (Keyword::AddBuffer, [from]) => Ok(read_buffer(from).map(Ask::AddBuffer)),
@@ -168,7 +171,8 @@ fn ask_of(alloc: Global, keyword: Keyword, words: &[&[u8]]) -> Result<Option<Ask
 }
 
 fn remove_buffer_ask(to: &[u8], count: &[u8]) -> Option<Ask>
-    ensures { result ≡ ask_by Keyword.RemoveBuffer (to.now ∷ count.now ∷ []) }
+    ensures value { result ≡ ask_by Keyword.RemoveBuffer (to.now ∷ count.now ∷ []) }
+    ensures within { IfSome result AskNames }
 {
     Some(Ask::RemoveBuffer(read_buffer(to)?, read_count(count)?))
 }

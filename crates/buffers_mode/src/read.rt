@@ -1,7 +1,8 @@
 // Reads a script line by line.
-ghost use Rattle.std.specs.Prelude.{◌≡◌, ◌-◌, ◌^◌, [], true, false, length, min, map, vec_len, IfOk, IfErr, Some, None, if◌then◌else◌, Ok};
+ghost use Rattle.std.specs.Prelude.{◌≡◌, All, ◌-◌, ◌^◌, [], true, false, length, min, map, vec_len, IfOk, IfErr, Some, None, if◌then◌else◌, Ok};
 ghost use Rattle.std.specs.List.{list_all};
 ghost use Rattle.script_text.specs.Spelled.{is_plain};
+ghost use Rattle.buffers_mode.specs.Grammar.{NamesBuffers};
 ghost use Rattle.buffers_mode.specs.Spelled.{is_skipped, with_line, script_of, IsTold};
 
 use crate::ModeFault;
@@ -30,8 +31,9 @@ fn is_skipped(words: &[&[u8]]) -> bool
 /// What the text of one line says: nothing where it is skipped. `Err` is for want of memory, and `Ok(None)` for a line
 /// that is not in the grammar.
 fn read_line(alloc: Global, text: &[u8], into: &mut Vec<Line>) -> Result<bool, NoMemory>
-    ensures { IfOk result (λ fits. (if fits then Some into.new.items else None)
+    ensures value { IfOk result (λ fits. (if fits then Some into.new.items else None)
         ≡ with_line into.old.items text.now) }
+    ensures within { All NamesBuffers into.old.items → All NamesBuffers into.new.items }
 {
     if !is_plain_text(text) {
         return Ok(false);
@@ -60,6 +62,7 @@ fn told(line: usize) -> u32
 /// not in the grammar, counted from 1; a number above 2^32 - 1 is told as that number.
 pub(crate) fn read_script(alloc: Global, text: &[u8]) -> Result<Vec<Line>, ModeFault>
     ensures script { IfOk result (λ lines. script_of text.now ≡ Ok lines.items) }
+    ensures within { IfOk result (λ lines. All NamesBuffers lines.items) }
     ensures fault { IfErr result (λ fault. IsTold fault (script_of text.now)) }
 {
     let mut lines = Vec::new(alloc);

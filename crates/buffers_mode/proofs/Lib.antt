@@ -1,0 +1,4 @@
+pub mod ReportLemmas
+pub mod RunLemmas
+pub mod TellLemmas
+pub mod PlayLemmas
