@@ -10,9 +10,12 @@ use Rattle.buffers_mode.specs.Spelled.{script_of, IsTold}
 use Rattle.buffers_mode.specs.Run.{Run, fresh_run, lines_played}
 use Rattle.buffers_mode.specs.Text.{answers_to, answered, answers_of, EndsFor}
 
+abbrev pub ended : ModeFault → Result (Unit {0}) ModeFault
+ended fault = Err fault
+
 -- a run that ends with a step ends with its line
 pub Went-ended : (fault : ModeFault) (after last : Run) (step : Step Run) (f : Answer × Run → Run) → Took (Err fault) after step →
-    Went (Err {T = Unit {0}} fault) last (option_map f step)
+    Went (ended fault) last (option_map f step)
 Went-ended Memory after last step f took = took
 Went-ended (BadLine line) after last step f took = took
 Went-ended Spent after last step f took = ap (option_map f) took
@@ -34,7 +37,7 @@ EndsFor-told fault text told = elim (script_of text) as (λ s. IsTold fault s �
 
 -- a run that ended within its lines has none either
 pub EndsFor-went : (fault : ModeFault) (text : List ℕ) (lines : List Line) (last : Run) → script_of text ≡ Ok lines →
-    Went (Err {T = Unit {0}} fault) last (lines_played fresh_run lines) → EndsFor fault (answers_of text)
+    Went (ended fault) last (lines_played fresh_run lines) → EndsFor fault (answers_of text)
 EndsFor-went Memory text lines last spelled went = went
 EndsFor-went (BadLine line) text lines last spelled went = absurd went
 EndsFor-went Spent text lines last spelled went = rw (spelled, went) (went_tt) where

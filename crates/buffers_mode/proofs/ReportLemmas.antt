@@ -5,6 +5,8 @@ use Rattle.std.specs.Option.{option_or}
 use Rattle.std.proofs.lemmas.List.{reverse-append}
 use Rattle.script_text.specs.Lines.{line_of}
 use Rattle.evbuf.specs.Callbacks.{Callbacks, waits, report_of, reported, newest_waiting, after_report}
+use Rattle.evbuf.specs.Evbuffered.{Evbuffered}
+use Rattle.buffers_mode.specs.Steps.{with_callbacks}
 use Rattle.evbuf.specs.declared.callback.SizeCallback.{SizeCallback}
 use Rattle.evbuf.specs.declared.callback.Report.{Report}
 use Rattle.buffers_mode.specs.Answers.{report_words}
@@ -102,3 +104,11 @@ pub none_made : (b : ℕ) (cbs : Callbacks) → None ≡ option_map report_of (n
 none_made b cbs is =
     let none = none_waits cbs (no_reporter cbs is) in
     (ap (λ (all : Callbacks). flat_map (line_for b) (reverse all)) none.0, none.1, none.2)
+
+-- a buffer that differs from one by its callbacks alone still does when others come
+pub with_callbacks-again : (old buf new : Evbuffered) (cbs : Callbacks) → new ≡ with_callbacks buf cbs → buf ≡ with_callbacks old buf.callbacks →
+    new ≡ with_callbacks old new.callbacks
+with_callbacks-again old buf new cbs is rest =
+    let here : new ≡ with_callbacks old cbs = is ∙ ap (λ (b : Evbuffered). with_callbacks b cbs) rest in
+    let same : new.callbacks ≡ cbs = ap (λ (b : Evbuffered). b.callbacks) here in
+    here ∙ ap (with_callbacks old) (sym same)

@@ -29,7 +29,7 @@ left_reports reports run b = record run {
 
 pub left_reports-told : (reports : ℕ → Bool) (run : Run) (b : ℕ) → b < length run.buffers → reports b ≡ true →
     left_reports reports (reported_by b run) (b + 1) ≡ left_reports reports run b
-left_reports-told reports run b lt yes =
+left_reports-told reports run b lt tells =
     let buf = buffer_at run.buffers b in
     let told = with_callbacks buf (all_reported buf.callbacks) in
     let rest = drop (b + 1) run.buffers in
@@ -37,22 +37,22 @@ left_reports-told reports run b lt yes =
     run_same run _ _ _ _
     (ap (λ (more : List Evbuffered). take (b + 1) (set run.buffers b told) ++ after_reports reports (b + 1) more) (drop-exchanged run.buffers b told)
     ∙ take-exchanged run.buffers b told (after_reports reports (b + 1) rest) lt
-    ∙ rw (here, yes) refl)
+    ∙ rw (here, tells) refl)
     (ap (λ (more : List Evbuffered). run.text ++ report_lines b buf.callbacks ++ reports_text reports (b + 1) more) (drop-exchanged run.buffers b told)
     ∙ append_assoc run.text (report_lines b buf.callbacks) (reports_text reports (b + 1) rest)
-    ∙ rw (here, yes) refl)
+    ∙ rw (here, tells) refl)
 
 pub left_reports-silent : (reports : ℕ → Bool) (run : Run) (b : ℕ) → b < length run.buffers → reports b ≡ false →
     left_reports reports run (b + 1) ≡ left_reports reports run b
-left_reports-silent reports run b lt no =
+left_reports-silent reports run b lt silent =
     let buf = buffer_at run.buffers b in
     let rest = drop (b + 1) run.buffers in
     let here : drop b run.buffers ≡ buf ∷ rest = drop_more run.buffers b new_buffer lt in
     run_same run _ _ _ _
     (ap (λ (front : List Evbuffered). front ++ after_reports reports (b + 1) rest) (take_more run.buffers b new_buffer lt)
     ∙ append_assoc (take b run.buffers) (buf ∷ []) (after_reports reports (b + 1) rest)
-    ∙ rw (here, no) refl)
-    (rw (here, no) refl)
+    ∙ rw (here, silent) refl)
+    (rw (here, silent) refl)
 
 pub left_reports-none : (reports : ℕ → Bool) (run : Run) (b : ℕ) → length run.buffers ≤ b → left_reports reports run b ≡ run
 left_reports-none reports run b all =

@@ -2,7 +2,7 @@
 //
 // After each line the buffers report in rising number, but for those that are deferred; then the tickets that were
 // handed out are told.
-ghost use Rattle.std.specs.Prelude.{◌≡◌, ◌≤◌, ◌<◌, ◌++◌, ◌∷◌, OnOk, IfOk};
+ghost use Rattle.std.specs.Prelude.{◌≡◌, ◌≤◌, ◌<◌, ◌++◌, ◌∷◌, length, OnOk, IfOk};
 ghost use Rattle.buffers_mode.specs.Answers.{answer_words};
 ghost use Rattle.buffers_mode.specs.Grammar.{AskNames, NamesBuffers};
 ghost use Rattle.buffers_mode.specs.Played.{Took, Went};
@@ -100,11 +100,20 @@ impl Player {
         Ok(())
     }
 
+    /// How many buffers there are.
+    fn count(&self) -> usize
+        ensures all { result ≡ BUFFERS }
+        ensures there { length self.now.buffers ≡ BUFFERS }
+    {
+        let _written = self.text.len();
+        BUFFERS
+    }
+
     /// Writes the reports that are made after a line.
     fn report(&mut self, line: &Line) -> Result<(), AllocError>
         ensures { OnOk result (self.new ≡ after_reports_run line.now self.old) }
     {
-        for b in 0..BUFFERS {
+        for b in 0..self.count() {
             if self.reports_after(line, b) {
                 self.report_buffer(b)?;
             }
@@ -138,7 +147,7 @@ impl Player {
     fn release(&mut self) -> Result<(), AllocError>
         ensures { OnOk result (self.new ≡ after_released_run self.old) }
     {
-        for b in 0..BUFFERS {
+        for b in 0..self.count() {
             self.release_buffer(b)?;
         }
         Ok(())

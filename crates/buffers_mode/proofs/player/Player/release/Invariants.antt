@@ -7,4 +7,5 @@ abbrev pub invariant-loop-b : goal.invariant-loop-b
 invariant-loop-b l = record {
   left : left_released l.self l.b ≡ after_released_run l.fn.self;
   count : length l.self.buffers ≡ 16;
+  ends : l.b-end ≡ 16;
 }

@@ -9,4 +9,5 @@ invariant-loop-b l = record {
   left : left_reports (reports_after l.self.deferred l.line) l.self l.b ≡ after_reports_run l.line l.fn.self;
   deferred : l.self.deferred ≡ l.fn.self.deferred;
   count : length l.self.buffers ≡ 16;
+  ends : l.b-end ≡ 16;
 }
