@@ -137,4 +137,3 @@ line_played run line = option_map (λ step. after_answer line step.0 step.1) (as
 abbrev pub lines_played : Run → List Line → Option Run
 lines_played run [] = Some run
 lines_played run (line ∷ more) = option_and_then (λ after. lines_played after more) (line_played run line)
-

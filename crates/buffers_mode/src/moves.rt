@@ -26,11 +26,7 @@ pub(crate) fn own_step(
 }
 
 /// All bytes of a buffer go to the end of another.
-pub(crate) fn add_buffer(
-    buffers: &mut Buffers,
-    to: usize,
-    from: usize,
-) -> Result<Answer, ModeFault>
+pub(crate) fn add_buffer(buffers: &mut Buffers, to: usize, from: usize) -> Result<Answer, ModeFault>
     requires to_there { to < length buffers.old }
     requires from_there { from < length buffers.old }
     ensures took { Took result (map shown buffers.new)

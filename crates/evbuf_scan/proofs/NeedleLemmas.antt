@@ -79,8 +79,8 @@ FindsNeedle-first_place needle w (Some k) some first =
           same_first found.0 p place (λ lt. first.0.before found.0 (omega arith) lt (begins_with-OccursAt needle w found.0 (omega arith) found.2.passes))
           (λ lt. let no = found.2.before k lt in let yes = here in cc)
     ] refl where
-  same_first : (j p : ℕ) → p ≡ j → (j < k → ⊥) → (k < j → ⊥) → Some k ≡ Some p
-  same_first j p e below above = let same : k ≡ p = omega arith in ap Some same
+      same_first : (j p : ℕ) → p ≡ j → (j < k → ⊥) → (k < j → ⊥) → Some k ≡ Some p
+      same_first j p e below above = let same : k ≡ p = omega arith in ap Some same
 
 ltb_tells : (a b : ℕ) → ((ltb a b ≡ true) × (a < b)) ⊎ ((ltb a b ≡ false) × (b ≤ a))
 ltb_tells a b = elim (leb_tells (suc a) b) [ inl h ↦ inl (h.0, omega (arith, h.1)) | inr h ↦ inr (h.0, omega (arith, h.1)) ]

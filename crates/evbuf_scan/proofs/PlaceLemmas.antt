@@ -29,12 +29,15 @@ first_place-found test n (b ∷ bs) p is =
     (j : ℕ) × (p ≡ n + j) × Found test (b ∷ bs) j) [
       | true ↦ λ here same. let at : n ≡ p = cc in
           (0, omega arith, record { within = omega arith; passes = here; before = λ k lt. absurd (omega arith) })
-      | false ↦ λ here later. let further = first_place-found test (n + 1) bs p later in
-          (suc further.0, omega arith, record {
-            within = omega (arith, further.2.within);
-            passes = further.2.passes;
-            before = before_more test b bs further.0 here further.2.before;
-          })
+      | false ↦ λ here later. let further = first_place-found test (n + 1) bs p later in (
+        suc further.0,
+        omega arith,
+        record {
+          within = omega (arith, further.2.within);
+          passes = further.2.passes;
+          before = before_more test b bs further.0 here further.2.before;
+        },
+      )
     ] refl is
 
 -- where nothing is found nothing passes
@@ -117,14 +120,13 @@ place_from-first test bytes from =
           let yes = behind.3 in cc
       | Some p ↦ λ is.
           let found = first_place-found test from (drop from bytes) p is in
-          let here : test (drop p bytes) ≡ true = rw (found.1, ← drop-drop found.0 from bytes) found.2.passes in
-          (
+          let here : test (drop p bytes) ≡ true = rw (found.1, ← drop-drop found.0 from bytes) found.2.passes in (
             omega (arith, found.1),
             (omega (arith, found.1, found.2.within, length-drop from bytes), here),
             λ k past lt passes.
-              let behind = passes_behind test bytes from k past passes in
-              let no = found.2.before behind.0 (omega (arith, behind.1, found.1)) in
-              let yes = behind.3 in cc,
+                let behind = passes_behind test bytes from k past passes in
+                let no = found.2.before behind.0 (omega (arith, behind.1, found.1)) in
+                let yes = behind.3 in cc,
           )
     ] refl
 

@@ -6,5 +6,4 @@ ghost use Rattle.evbuf_scan.specs.Place.{PlacesAreFirst};
 /// Own.
 pub fn places_are_first()
     ensures { PlacesAreFirst }
-{
-}
+{}

@@ -93,7 +93,11 @@ const ENDS: [(Eol, &str, usize, Option<(usize, usize)>); 19] = [
 fn each_style_has_its_line_ends(rt: HostRuntime) -> Result<(), Fail> {
     for (style, bytes, from, end) in ENDS {
         let buf = buffer(&rt, bytes.as_bytes())?;
-        assert_eq!(rt; search_eol(&buf, style, from), end, "{style:?} {bytes:?} {from}");
+        assert_eq!(rt;
+            search_eol(&buf, style, from),
+            end,
+            "{style:?} {bytes:?} {from}"
+        );
     }
     Ok(())
 }

@@ -24,8 +24,8 @@ loop-report-preserved c =
     c.in_ok-extend_from_slice.ensures.items ∙ ap (λ (more : List ℕ). c.loop-report.into.items ++ more) (c.as_bytes.ensures.value ∙ c.in_ok-line.ensures) in
     record {
       text = rw (written, left) (append_assoc c.loop-report.into.items line (report_lines c.args.b (after_report cbs))
-        ∙ ap (λ (more : List ℕ). c.loop-report.into.items ++ more) (sym (report_lines-made c.args.b cbs c.in-Some.report c.in-Some.ensures.report))
-        ∙ c.loop-report.invariant.text);
+          ∙ ap (λ (more : List ℕ). c.loop-report.into.items ++ more) (sym (report_lines-made c.args.b cbs c.in-Some.report c.in-Some.ensures.report))
+          ∙ c.loop-report.invariant.text);
       reported = ap all_reported left ∙ all_reported-made cbs c.in-Some.report c.in-Some.ensures.report ∙ c.loop-report.invariant.reported;
       rest = with_callbacks-again c.args.buf.now c.loop-report.buf c.take_report.new.self (after_report cbs) c.take_report.ensures.after c.loop-report.invariant.rest;
     }

@@ -15,7 +15,7 @@ loop-b-preserved c =
           let tells : reports_after run.deferred c.args.line.now b ≡ true = sym c.reports_after.ensures ∙ w.if-reports_after.true in
           record {
             left = ap (λ (r : Run). left_reports (reports_after r.deferred c.args.line.now) r (b + 1)) told
-              ∙ left_reports-told (reports_after run.deferred c.args.line.now) run b there tells ∙ c.loop-b.invariant.left;
+                ∙ left_reports-told (reports_after run.deferred c.args.line.now) run b there tells ∙ c.loop-b.invariant.left;
             deferred = ap (λ (r : Run). r.deferred) told ∙ c.loop-b.invariant.deferred;
             count = ap (λ (r : Run). length r.buffers) told ∙ length-set run.buffers b _ ∙ c.loop-b.invariant.count;
             ends = c.loop-b.invariant.ends;
@@ -24,7 +24,7 @@ loop-b-preserved c =
           let silent : reports_after run.deferred c.args.line.now b ≡ false = sym c.reports_after.ensures ∙ w.if-reports_after.false in
           record {
             left = ap (λ (r : Run). left_reports (reports_after r.deferred c.args.line.now) r (b + 1)) w.self-is
-              ∙ left_reports-silent (reports_after run.deferred c.args.line.now) run b there silent ∙ c.loop-b.invariant.left;
+                ∙ left_reports-silent (reports_after run.deferred c.args.line.now) run b there silent ∙ c.loop-b.invariant.left;
             deferred = ap (λ (r : Run). r.deferred) w.self-is ∙ c.loop-b.invariant.deferred;
             count = ap (λ (r : Run). length r.buffers) w.self-is ∙ c.loop-b.invariant.count;
             ends = c.loop-b.invariant.ends;
