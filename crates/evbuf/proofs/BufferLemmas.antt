@@ -1,5 +1,5 @@
 -- One of several buffers taken out, another changed, and the first put back.
-use Rattle.std.proofs.Common.{◌≡◌, ◌≢◌, ℕ, zero, suc, ◌<◌, List, [], ◌∷◌, length, set, get_or, refl, ap, sym, ◌∙◌, subst, arith, Result, Ok, Err, OnOk, OnErr}
+use Rattle.std.proofs.Common.{◌≡◌, ℕ, zero, suc, ◌<◌, List, [], ◌∷◌, length, set, get_or, refl, ap, sym, ◌∙◌, arith, Result, Ok, Err, OnOk, OnErr}
 use Rattle.std.proofs.lemmas.List.{set-get_or, get_or-set_same, get_or-set_other, length-set}
 use Rattle.evbuf.specs.Evbuffered.{Evbuffered}
 use Rattle.evbuf.specs.Moves.{MovesAll, MovesSome, buffer_at}
@@ -48,17 +48,17 @@ pub Placed-around : (xs : List Evbuffered) (from to : ℕ) (p t f a b : Evbuffer
     → Placed xs (set (set (set xs from p) to a) from b) from to t f a b
 Placed-around xs from to p t f a b apart to_there from_there t_is f_is =
     let others_are : set (set (set xs from p) to a) from b ≡ set (set xs to a) from b =
-        set-around xs from to p a b (λ (e : from ≡ to). apart (sym e)) in
+    set-around xs from to p a b (λ (e : from ≡ to). apart (sym e)) in
     record {
       was_to = get_or-default xs to new_buffer t to_there ∙ sym (t_is ∙ get_or-set_other xs from to p t apart);
       was_from = get_or-default xs from new_buffer f from_there ∙ sym f_is;
       is_to =
-        ap (λ ys. get_or ys to new_buffer) others_are
-        ∙ get_or-set_other (set xs to a) from to b new_buffer apart
-        ∙ get_or-set_same xs to a new_buffer to_there;
+          ap (λ ys. get_or ys to new_buffer) others_are
+          ∙ get_or-set_other (set xs to a) from to b new_buffer apart
+          ∙ get_or-set_same xs to a new_buffer to_there;
       is_from =
-        ap (λ ys. get_or ys from new_buffer) others_are
-        ∙ get_or-set_same (set xs to a) from b new_buffer (omega (arith, length-set xs to a));
+          ap (λ ys. get_or ys from new_buffer) others_are
+          ∙ get_or-set_same (set xs to a) from b new_buffer (omega (arith, length-set xs to a));
       others = others_are;
     }
 
@@ -68,7 +68,7 @@ pub all-back : (xs : List Evbuffered) (from to : ℕ) (p t f a b : Evbuffered) �
     → set (set (set xs from p) to a) from b ≡ xs
 all-back xs from to p t f a b apart to_there from_there t_is f_is a_is b_is =
     let placed : Placed xs (set (set (set xs from p) to a) from b) from to t f a b =
-        Placed-around xs from to p t f a b apart to_there from_there t_is f_is in
+    Placed-around xs from to p t f a b apart to_there from_there t_is f_is in
     placed.others
     ∙ ap (λ v. set (set xs to v) from b) (a_is ∙ sym placed.was_to)
     ∙ ap (λ ys. set ys from b) (set-get_or xs to new_buffer)
@@ -82,21 +82,21 @@ pub MovesAll-around : (xs : List Evbuffered) (from to : ℕ) (p t f a b : Evbuff
 MovesAll-around xs from to p t f a b apart to_there from_there t_is f_is a_is b_is =
     let new : List Evbuffered = set (set (set xs from p) to a) from b in
     let placed : Placed xs new from to t f a b =
-        Placed-around xs from to p t f a b apart to_there from_there t_is f_is in
+    Placed-around xs from to p t f a b apart to_there from_there t_is f_is in
     record {
       taken =
-        placed.is_to ∙ a_is
-        ∙ ap (λ v. after_taking_all v f a.spare) (sym placed.was_to)
-        ∙ ap (λ v. after_taking_all (buffer_at xs to) v a.spare) (sym placed.was_from)
-        ∙ ap (λ (v : Evbuffered). after_taking_all (buffer_at xs to) (buffer_at xs from) v.spare) (sym placed.is_to);
+          placed.is_to ∙ a_is
+          ∙ ap (λ v. after_taking_all v f a.spare) (sym placed.was_to)
+          ∙ ap (λ v. after_taking_all (buffer_at xs to) v a.spare) (sym placed.was_from)
+          ∙ ap (λ (v : Evbuffered). after_taking_all (buffer_at xs to) (buffer_at xs from) v.spare) (sym placed.is_to);
       given =
-        placed.is_from ∙ b_is
-        ∙ ap (λ v. after_giving_all v b.spare) (sym placed.was_from)
-        ∙ ap (λ (v : Evbuffered). after_giving_all (buffer_at xs from) v.spare) (sym placed.is_from);
+          placed.is_from ∙ b_is
+          ∙ ap (λ v. after_giving_all v b.spare) (sym placed.was_from)
+          ∙ ap (λ (v : Evbuffered). after_giving_all (buffer_at xs from) v.spare) (sym placed.is_from);
       others =
-        placed.others
-        ∙ ap (λ v. set (set xs to v) from b) (sym placed.is_to)
-        ∙ ap (λ v. set (set xs to (buffer_at new to)) from v) (sym placed.is_from);
+          placed.others
+          ∙ ap (λ v. set (set xs to v) from b) (sym placed.is_to)
+          ∙ ap (λ v. set (set xs to (buffer_at new to)) from v) (sym placed.is_from);
     }
 
 pub MovesSome-around : (xs : List Evbuffered) (from to n : ℕ) (p t f a b : Evbuffered) → (to ≡ from → ⊥)
@@ -106,19 +106,19 @@ pub MovesSome-around : (xs : List Evbuffered) (from to n : ℕ) (p t f a b : Evb
 MovesSome-around xs from to n p t f a b apart to_there from_there t_is f_is a_is b_is =
     let new : List Evbuffered = set (set (set xs from p) to a) from b in
     let placed : Placed xs new from to t f a b =
-        Placed-around xs from to p t f a b apart to_there from_there t_is f_is in
+    Placed-around xs from to p t f a b apart to_there from_there t_is f_is in
     record {
       taken =
-        placed.is_to ∙ a_is
-        ∙ ap (λ v. after_taking v f n a.spare) (sym placed.was_to)
-        ∙ ap (λ v. after_taking (buffer_at xs to) v n a.spare) (sym placed.was_from)
-        ∙ ap (λ (v : Evbuffered). after_taking (buffer_at xs to) (buffer_at xs from) n v.spare) (sym placed.is_to);
+          placed.is_to ∙ a_is
+          ∙ ap (λ v. after_taking v f n a.spare) (sym placed.was_to)
+          ∙ ap (λ v. after_taking (buffer_at xs to) v n a.spare) (sym placed.was_from)
+          ∙ ap (λ (v : Evbuffered). after_taking (buffer_at xs to) (buffer_at xs from) n v.spare) (sym placed.is_to);
       given =
-        placed.is_from ∙ b_is
-        ∙ ap (λ v. after_giving v n b.spare) (sym placed.was_from)
-        ∙ ap (λ (v : Evbuffered). after_giving (buffer_at xs from) n v.spare) (sym placed.is_from);
+          placed.is_from ∙ b_is
+          ∙ ap (λ v. after_giving v n b.spare) (sym placed.was_from)
+          ∙ ap (λ (v : Evbuffered). after_giving (buffer_at xs from) n v.spare) (sym placed.is_from);
       others =
-        placed.others
-        ∙ ap (λ v. set (set xs to v) from b) (sym placed.is_to)
-        ∙ ap (λ v. set (set xs to (buffer_at new to)) from v) (sym placed.is_from);
+          placed.others
+          ∙ ap (λ v. set (set xs to v) from b) (sym placed.is_to)
+          ∙ ap (λ v. set (set xs to (buffer_at new to)) from v) (sym placed.is_from);
     }

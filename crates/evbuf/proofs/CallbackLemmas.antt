@@ -1,5 +1,5 @@
 -- The newest callback that has a report to make, and callbacks that are changed one after another.
-use Rattle.std.proofs.Common.{◌≡◌, ℕ, zero, suc, ◌+◌, ◌<◌, ◌≤◌, List, [], ◌∷◌, ◌++◌, length, take, drop, set, get_or, map, refl, ap, sym, ◌∙◌, arith, Option, Some, None, is_some, Bool, true, false, if◌then◌else◌, add-one, length-append, length-drop}
+use Rattle.std.proofs.Common.{◌≡◌, ℕ, zero, suc, ◌+◌, ◌<◌, List, [], ◌∷◌, ◌++◌, length, take, drop, set, get_or, map, refl, ap, sym, ◌∙◌, arith, Option, Some, None, is_some, Bool, true, false, if◌then◌else◌, add-one, length-append, length-drop}
 use Rattle.std.proofs.lemmas.List.{length-map, length-take}
 use Rattle.std.specs.Option.{option_or}
 use Rattle.evbuf.specs.declared.callback.SizeCallback.{SizeCallback}
@@ -8,7 +8,7 @@ use Rattle.evbuf.specs.Callbacks.{Callbacks, waits, reported, newest_waiting, af
 -- one more element of a list is changed
 pub map-more : {X : Type 0} (f : X → X) (i : ℕ) (xs : List X) (d : X) → i < length xs
     → set (map f (take i xs) ++ drop i xs) i (f (get_or (map f (take i xs) ++ drop i xs) i d))
-      ≡ map f (take (suc i) xs) ++ drop (suc i) xs
+    ≡ map f (take (suc i) xs) ++ drop (suc i) xs
 map-more f i [] d within = absurd (omega arith)
 map-more f zero (x ∷ xs) d within = refl
 map-more f (suc i) (x ∷ xs) d within = ap (λ ys. f x ∷ ys) (map-more f i xs d (omega arith))
@@ -19,8 +19,14 @@ pub map-step : {X : Type 0} (f : X → X) (i : ℕ) (items all : List X) (d y : 
     → set items i y ≡ map f (take (i + 1) all) ++ drop (i + 1) all
 map-step f i items all d y items_are within y_is =
     let inside : i < length all =
-        omega (arith, ap length items_are, length-append (map f (take i all)) (drop i all), length-map (take i all) f,
-        length-take i all, length-drop i all) in
+    omega (
+      arith,
+      ap length items_are,
+      length-append (map f (take i all)) (drop i all),
+      length-map (take i all) f,
+      length-take i all,
+      length-drop i all,
+    ) in
     ap (λ v. set items i v) y_is
     ∙ ap (λ xs. set xs i (f (get_or xs i d))) items_are
     ∙ map-more f i all d inside
@@ -54,7 +60,7 @@ after_report-at zero (c ∷ cs) d within here behind =
     ∙ ap (λ b. (if b then reported c else c) ∷ cs) here
 after_report-at (suc i) (c ∷ cs) d within here behind =
     ap (λ o. if is_some o then c ∷ after_report cs else ((if waits c then reported c else c) ∷ cs))
-      (newest_waiting-at i cs d (omega arith) here behind)
+    (newest_waiting-at i cs d (omega arith) here behind)
     ∙ ap (λ ys. c ∷ ys) (after_report-at i cs d (omega arith) here behind)
 
 some-apart : (c : SizeCallback) → Some c ≡ None → ⊥
@@ -73,7 +79,7 @@ pub newest_waiting-none : (c : SizeCallback) (cs : Callbacks) → newest_waiting
     → (newest_waiting cs ≡ None) × (waits c ≡ false)
 newest_waiting-none c cs none =
     let parts : (newest_waiting cs ≡ None) × ((if waits c then Some c else None) ≡ None) =
-        option_or-none (newest_waiting cs) (if waits c then Some c else None) none in
+    option_or-none (newest_waiting cs) (if waits c then Some c else None) none in
     (parts.0, if-none (waits c) c parts.1)
 
 pub after_report-none : (cs : Callbacks) → newest_waiting cs ≡ None → after_report cs ≡ cs

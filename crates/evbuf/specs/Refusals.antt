@@ -1,5 +1,5 @@
 -- Which refusal of a call on evbuffers holds, the first first.
-use Rattle.std.specs.Prelude.{ℕ, ◌+◌, ◌^◌, nat_lt, if◌then◌else◌, Bool, Option, Some, None, length}
+use Rattle.std.specs.Prelude.{ℕ, ◌+◌, ◌^◌, nat_lt, if◌then◌else◌, Option, Some, None, length}
 use Rattle.std.specs.Option.{option_or}
 use Rattle.evbuf.specs.Evbuffered.{Evbuffered}
 use Rattle.evbuf.specs.Callbacks.{has_callback}

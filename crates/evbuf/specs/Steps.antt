@@ -1,6 +1,6 @@
 -- What each call leaves of a buffer. The last argument is what is spare afterwards.
-use Rattle.std.specs.Prelude.{ℕ, ◌+◌, ◌==◌, min, if◌then◌else◌, Option, Some, None, Bool, false, List, [], ◌∷◌, ◌++◌, length, take, drop}
-use Rattle.evbuf_chain.specs.Mark.{Marks, unmarked, reference_marks, ended_tickets, uncut_marks}
+use Rattle.std.specs.Prelude.{ℕ, ◌==◌, min, if◌then◌else◌, Bool, false, List, [], ◌∷◌, ◌++◌, length, take, drop}
+use Rattle.evbuf_chain.specs.Mark.{unmarked, reference_marks, ended_tickets, uncut_marks}
 use Rattle.evbuf.specs.Evbuffered.{Evbuffered}
 use Rattle.evbuf.specs.Callbacks.{all_after_change}
 use Rattle.evbuf.specs.declared.place.Place.{Place}

@@ -1,5 +1,5 @@
 // Buffers by number, between which bytes are moved.
-ghost use Rattle.std.specs.Prelude.{◌≡◌, ◌≢◌, ◌<◌, length, replicate, OnOk, OnErr, IfOk, None, min, slice_set, slice_index_or};
+ghost use Rattle.std.specs.Prelude.{◌≡◌, ◌≢◌, ◌<◌, length, replicate, OnOk, OnErr, IfOk, None, min, slice_set, slice_index_or, IsTrue, ◌↔◌};
 ghost use Rattle.evbuf_chain.specs.Answers.{AnswersOr};
 ghost use Rattle.evbuf.specs.Steps.{new_buffer, after_giving, after_taking, after_giving_all, after_taking_all};
 ghost use Rattle.evbuf.specs.Moves.{buffer_at, move_all_refusal, move_some_refusal, MovesAll, MovesSome};
@@ -42,6 +42,20 @@ impl Buffers {
             items.push(Evbuffer::new(alloc))?;
         }
         Ok(Buffers { items })
+    }
+
+    /// How many buffers there are. Takes no memory.
+    pub fn len(&self) -> usize
+        ensures { result ≡ length self.now }
+    {
+        self.items.len()
+    }
+
+    /// Whether there is no buffer. Takes no memory.
+    pub fn is_empty(&self) -> bool
+        ensures { IsTrue result ↔ (length self.now ≡ 0) }
+    {
+        self.items.is_empty()
     }
 
     /// The buffer of a number. Takes no memory.

@@ -41,7 +41,7 @@ ended_tickets-unmarked zero xs = refl
 ended_tickets-unmarked (suc n) xs = ended_tickets-unmarked n xs
 
 -- a mark with bytes behind it is not the last
-last_ticket-more : (mark : Mark) → 0 < mark.behind → last_ticket mark ≡ []
+pub last_ticket-more : (mark : Mark) → 0 < mark.behind → last_ticket mark ≡ []
 last_ticket-more mark more = grind (arith, common_steps)
 
 -- a reference ends once
@@ -71,11 +71,11 @@ uncut_marks-unmarked zero xs = refl
 uncut_marks-unmarked (suc n) xs = ap (λ ms. None ∷ ms) (uncut_marks-unmarked n xs)
 
 -- a mark with the rest of its reference behind it is kept
-uncut_mark-there : (n : ℕ) (mark : Mark) → mark.behind ≤ n → uncut_mark n mark ≡ Some mark
+pub uncut_mark-there : (n : ℕ) (mark : Mark) → mark.behind ≤ n → uncut_mark n mark ≡ Some mark
 uncut_mark-there n mark within = grind (arith, common_steps)
 
 -- a mark whose reference goes on is not
-uncut_mark-cut : (n : ℕ) (mark : Mark) → n < mark.behind → uncut_mark n mark ≡ None
+pub uncut_mark-cut : (n : ℕ) (mark : Mark) → n < mark.behind → uncut_mark n mark ≡ None
 uncut_mark-cut n mark beyond = grind (arith, common_steps)
 
 -- a whole reference keeps its marks
@@ -86,7 +86,7 @@ uncut_marks-reference of_ticket (suc n) xs =
     let mark : Mark = record { ticket = of_ticket; behind = n } in
     let rest : Marks = reference_marks of_ticket n ++ xs in
     let there : mark.behind ≤ length rest =
-        omega (arith, length-append (reference_marks of_ticket n) xs, length-reference_marks of_ticket n) in
+    omega (arith, length-append (reference_marks of_ticket n) xs, length-reference_marks of_ticket n) in
     ap (λ m. m ∷ uncut_marks rest) (uncut_mark-there (length rest) mark there)
     ∙ ap (λ ms. Some mark ∷ ms) (uncut_marks-reference of_ticket n xs)
 
@@ -98,7 +98,7 @@ uncut_marks-part of_ticket (suc k) (suc n) within =
     let mark : Mark = record { ticket = of_ticket; behind = n } in
     let rest : Marks = take k (reference_marks of_ticket n) in
     let beyond : length rest < mark.behind =
-        omega (arith, length-take k (reference_marks of_ticket n), length-reference_marks of_ticket n) in
+    omega (arith, length-take k (reference_marks of_ticket n), length-reference_marks of_ticket n) in
     ap (λ m. m ∷ uncut_marks rest) (uncut_mark-cut (length rest) mark beyond)
     ∙ ap (λ ms. None ∷ ms) (uncut_marks-part of_ticket k n (omega arith))
 
@@ -108,15 +108,19 @@ uncut_marks-whole [] whole = refl
 uncut_marks-whole (None ∷ xs) whole = ap (λ ms. None ∷ ms) (uncut_marks-whole xs whole)
 uncut_marks-whole (Some mark ∷ xs) whole =
     let there : mark.behind ≤ length xs =
-        omega (arith, ap length whole.0.1, length-append (reference_marks mark.ticket mark.behind) whole.0.0,
-        length-reference_marks mark.ticket mark.behind) in
+    omega (
+      arith,
+      ap length whole.0.1,
+      length-append (reference_marks mark.ticket mark.behind) whole.0.0,
+      length-reference_marks mark.ticket mark.behind,
+    ) in
     ap (λ m. m ∷ uncut_marks xs) (uncut_mark-there (length xs) mark there)
     ∙ ap (λ ms. Some mark ∷ ms) (uncut_marks-whole xs whole.1)
 
 -- A list that begins with unmarked bytes and a reference: where the reference ends among the first n bytes.
 pub take-front : (n gap ticket len : ℕ) (more : Marks) → gap + len ≤ n
     → take n (unmarked gap ++ (reference_marks ticket len ++ more))
-      ≡ unmarked gap ++ (reference_marks ticket len ++ take (n - (gap + len)) more)
+    ≡ unmarked gap ++ (reference_marks ticket len ++ take (n - (gap + len)) more)
 take-front n gap ticket len more within =
     let reference : Marks = reference_marks ticket len in
     let gap_len : length (unmarked gap) ≡ gap = length-replicate gap None in
@@ -159,7 +163,7 @@ uncut_marks-cut (suc n) (suc gap) ticket len more cut =
 
 pub drop-cut : (n gap ticket len : ℕ) (more : Marks) → n < gap + len
     → drop n (unmarked gap ++ (reference_marks ticket len ++ more))
-      ≡ unmarked (gap - n) ++ (reference_marks ticket (len - (n - gap)) ++ more)
+    ≡ unmarked (gap - n) ++ (reference_marks ticket (len - (n - gap)) ++ more)
 drop-cut zero gap ticket len more cut =
     let g : gap ≡ gap - 0 = omega arith in
     let l : len ≡ len - (0 - gap) = omega arith in
@@ -191,8 +195,12 @@ length-ended_tickets-take zero xs = omega arith
 length-ended_tickets-take (suc n) [] = omega arith
 length-ended_tickets-take (suc n) (None ∷ xs) = length-ended_tickets-take n xs
 length-ended_tickets-take (suc n) (Some mark ∷ xs) =
-    omega (arith, length-ended_tickets-take n xs, length-append (last_ticket mark) (ended_tickets (take n xs)),
-    length-append (last_ticket mark) (ended_tickets xs))
+    omega (
+      arith,
+      length-ended_tickets-take n xs,
+      length-append (last_ticket mark) (ended_tickets (take n xs)),
+      length-append (last_ticket mark) (ended_tickets xs),
+    )
 
 -- nor more than there are bytes
 pub length-ended_tickets-le : (n : ℕ) (xs : Marks) → length (ended_tickets (take n xs)) ≤ n
@@ -200,8 +208,12 @@ length-ended_tickets-le zero xs = omega arith
 length-ended_tickets-le (suc n) [] = omega arith
 length-ended_tickets-le (suc n) (None ∷ xs) = omega (arith, length-ended_tickets-le n xs)
 length-ended_tickets-le (suc n) (Some mark ∷ xs) =
-    omega (arith, length-ended_tickets-le n xs, length-append (last_ticket mark) (ended_tickets (take n xs)),
-    length-last_ticket mark)
+    omega (
+      arith,
+      length-ended_tickets-le n xs,
+      length-append (last_ticket mark) (ended_tickets (take n xs)),
+      length-last_ticket mark,
+    )
 
 -- each byte keeps its place
 pub length-uncut_marks : (xs : Marks) → length (uncut_marks xs) ≡ length xs

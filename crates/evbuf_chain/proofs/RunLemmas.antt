@@ -81,9 +81,13 @@ length-unmarked n = length-replicate n None
 -- nor are those before the first reference
 pub gap-le : (run : Run) (runs : List Run) (behind : Marks) → run.gap + run.len ≤ length (run_marks (run ∷ runs) behind)
 gap-le run runs behind =
-    omega (arith, length-append (unmarked run.gap) (reference_marks run.ticket run.len ++ run_marks runs behind),
-    length-append (reference_marks run.ticket run.len) (run_marks runs behind),
-    length-replicate {A = Option Mark} run.gap None, length-reference_marks run.ticket run.len)
+    omega (
+      arith,
+      length-append (unmarked run.gap) (reference_marks run.ticket run.len ++ run_marks runs behind),
+      length-append (reference_marks run.ticket run.len) (run_marks runs behind),
+      length-replicate {A = Option Mark} run.gap None,
+      length-reference_marks run.ticket run.len,
+    )
 
 -- unmarked bytes come in behind
 pub unmarked-behind : (runs : List Run) (tail n : ℕ)
@@ -129,12 +133,12 @@ pub ends-behind : (run : Run) (runs : List Run) (behind : Marks) (n : ℕ)
 ends-behind run runs behind n no_end =
     let rest : Marks = run_marks runs behind in
     let whole : (run.gap + run.len ≤ n) → ⊥ = λ (within : run.gap + run.len ≤ n).
-        let k : ℕ = n - (run.gap + run.len) in
-        let first : ended_tickets (take n (run_marks (run ∷ runs) behind)) ≡ run.ticket ∷ ended_tickets (take k rest) =
-            ap ended_tickets (take-front n run.gap run.ticket run.len rest within)
-            ∙ ended_tickets-unmarked run.gap (reference_marks run.ticket run.len ++ take k rest)
-            ∙ ended_tickets-reference run.ticket run.len (take k rest) run.some in
-        cc (first, no_end) in
+    let k : ℕ = n - (run.gap + run.len) in
+    let first : ended_tickets (take n (run_marks (run ∷ runs) behind)) ≡ run.ticket ∷ ended_tickets (take k rest) =
+    ap ended_tickets (take-front n run.gap run.ticket run.len rest within)
+    ∙ ended_tickets-unmarked run.gap (reference_marks run.ticket run.len ++ take k rest)
+    ∙ ended_tickets-reference run.ticket run.len (take k rest) run.some in
+    cc (first, no_end) in
     omega (arith, whole)
 
 -- a deque that shows no front is empty
@@ -193,7 +197,7 @@ pub record FirstEnds (marks : Marks) (run : Run) (more : Marks) (n : ℕ) : Type
   pub behind : drop n marks ≡ drop (n - (run.gap + run.len)) more
   pub ends : ended_tickets (take n marks) ≡ run.ticket ∷ ended_tickets (take (n - (run.gap + run.len)) more)
   pub moves : uncut_marks (take n marks)
-    ≡ unmarked run.gap ++ (reference_marks run.ticket run.len ++ uncut_marks (take (n - (run.gap + run.len)) more))
+      ≡ unmarked run.gap ++ (reference_marks run.ticket run.len ++ uncut_marks (take (n - (run.gap + run.len)) more))
   pub size : length marks ≡ run.gap + run.len + length more
 
 pub FirstEnds-split : (marks : Marks) (run : Run) (more : Marks) (n : ℕ)
@@ -203,22 +207,27 @@ FirstEnds-split marks run more n split within there =
     let front : Marks = unmarked run.gap ++ (reference_marks run.ticket run.len ++ more) in
     let rest : ℕ = n - (run.gap + run.len) in
     let size_is : length marks ≡ run.gap + run.len + length more =
-        omega (arith, ap length split, length-append (unmarked run.gap) (reference_marks run.ticket run.len ++ more),
-        length-append (reference_marks run.ticket run.len) more, length-replicate {A = Option Mark} run.gap None,
-        length-reference_marks run.ticket run.len) in
+    omega (
+      arith,
+      ap length split,
+      length-append (unmarked run.gap) (reference_marks run.ticket run.len ++ more),
+      length-append (reference_marks run.ticket run.len) more,
+      length-replicate {A = Option Mark} run.gap None,
+      length-reference_marks run.ticket run.len,
+    ) in
     record {
       there = omega arith;
       behind = ap (λ ms. drop n ms) split ∙ drop-front n run.gap run.ticket run.len more within;
       ends =
-        ap (λ ms. ended_tickets (take n ms)) split
-        ∙ ap ended_tickets (take-front n run.gap run.ticket run.len more within)
-        ∙ ended_tickets-unmarked run.gap (reference_marks run.ticket run.len ++ take rest more)
-        ∙ ended_tickets-reference run.ticket run.len (take rest more) run.some;
+          ap (λ ms. ended_tickets (take n ms)) split
+          ∙ ap ended_tickets (take-front n run.gap run.ticket run.len more within)
+          ∙ ended_tickets-unmarked run.gap (reference_marks run.ticket run.len ++ take rest more)
+          ∙ ended_tickets-reference run.ticket run.len (take rest more) run.some;
       moves =
-        ap (λ ms. uncut_marks (take n ms)) split
-        ∙ ap uncut_marks (take-front n run.gap run.ticket run.len more within)
-        ∙ uncut_marks-unmarked run.gap (reference_marks run.ticket run.len ++ take rest more)
-        ∙ ap (λ ms. unmarked run.gap ++ ms) (uncut_marks-reference run.ticket run.len (take rest more));
+          ap (λ ms. uncut_marks (take n ms)) split
+          ∙ ap uncut_marks (take-front n run.gap run.ticket run.len more within)
+          ∙ uncut_marks-unmarked run.gap (reference_marks run.ticket run.len ++ take rest more)
+          ∙ ap (λ ms. unmarked run.gap ++ ms) (uncut_marks-reference run.ticket run.len (take rest more));
       size = size_is;
     }
 

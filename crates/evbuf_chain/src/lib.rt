@@ -4,8 +4,13 @@
 mod byte_queue;
 mod chain;
 mod fault;
+mod laws;
 mod mark_list;
 mod run;
 
 pub use chain::Chain;
 pub use fault::ChainFault;
+pub use laws::tickets_are_handed_out_once;
+
+#[cfg(test)]
+mod tests;

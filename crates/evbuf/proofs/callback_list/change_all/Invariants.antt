@@ -6,4 +6,4 @@ abbrev pub invariant-loop-callback : goal.invariant-loop-callback
 invariant-loop-callback l =
     l.callback-items
     ≡ map (after_change l.fn.before l.fn.came l.fn.went) (take l.callback-index l.fn.items.items)
-      ++ drop l.callback-index l.fn.items.items
+    ++ drop l.callback-index l.fn.items.items

@@ -11,17 +11,17 @@ returns-clause-ok c =
     let Q : List Evbuffered → Type 0 = λ ys. c.args.from < length ys in
     let source : Evbuffered = c.replace-source.result in
     let source_is : source ≡ get_or xs c.args.from source =
-        c.replace-source.ensures.value ∙ c.index_mut.ensures.value
-        ∙ ap (λ d. get_or xs c.args.from d) (sym c.replace-source.ensures.value) in
+    c.replace-source.ensures.value ∙ c.index_mut.ensures.value
+    ∙ ap (λ d. get_or xs c.args.from d) (sym c.replace-source.ensures.value) in
     let new = set (set (set xs c.args.from c.replace-source.new.dest) c.args.to c.remove_buffer-answer.new.to) c.args.from c.remove_buffer-answer.new.self in
     let R : List Evbuffered → Type 0 = λ ys. OnOk c.remove_buffer-answer.result (MovesSome ys c.args.from c.args.to c.args.n new) in
     subst R c.self.view_is
     (OnOk-both c.remove_buffer-answer.result
-      (λ a_is b_is. MovesSome-around xs c.args.from c.args.to c.args.n c.replace-source.new.dest c.index_mut-2.result.now source
-        c.remove_buffer-answer.new.to c.remove_buffer-answer.new.self c.if-to-from.false
-        (subst P (sym c.self.view_is) c.requires.to_there) (subst Q (sym c.self.view_is) c.requires.from_there)
-        c.index_mut-2.ensures.value source_is a_is b_is)
-      c.remove_buffer-answer.ensures.to_ok c.remove_buffer-answer.ensures.ok)
+    (λ a_is b_is. MovesSome-around xs c.args.from c.args.to c.args.n c.replace-source.new.dest c.index_mut-2.result.now source
+    c.remove_buffer-answer.new.to c.remove_buffer-answer.new.self c.if-to-from.false
+    (subst P (sym c.self.view_is) c.requires.to_there) (subst Q (sym c.self.view_is) c.requires.from_there)
+    c.index_mut-2.ensures.value source_is a_is b_is)
+    c.remove_buffer-answer.ensures.to_ok c.remove_buffer-answer.ensures.ok)
 
 pub returns-clause-err : goal.returns-clause-err
 returns-clause-err c =
@@ -30,14 +30,14 @@ returns-clause-err c =
     let Q : List Evbuffered → Type 0 = λ ys. c.args.from < length ys in
     let source : Evbuffered = c.replace-source.result in
     let source_is : source ≡ get_or xs c.args.from source =
-        c.replace-source.ensures.value ∙ c.index_mut.ensures.value
-        ∙ ap (λ d. get_or xs c.args.from d) (sym c.replace-source.ensures.value) in
+    c.replace-source.ensures.value ∙ c.index_mut.ensures.value
+    ∙ ap (λ d. get_or xs c.args.from d) (sym c.replace-source.ensures.value) in
     let new = set (set (set xs c.args.from c.replace-source.new.dest) c.args.to c.remove_buffer-answer.new.to) c.args.from c.remove_buffer-answer.new.self in
     let R : List Evbuffered → Type 0 = λ ys. OnErr c.remove_buffer-answer.result (new ≡ ys) in
     subst R c.self.view_is
     (OnErr-both c.remove_buffer-answer.result
-      (λ a_is b_is. all-back xs c.args.from c.args.to c.replace-source.new.dest c.index_mut-2.result.now source
-        c.remove_buffer-answer.new.to c.remove_buffer-answer.new.self c.if-to-from.false
-        (subst P (sym c.self.view_is) c.requires.to_there) (subst Q (sym c.self.view_is) c.requires.from_there)
-        c.index_mut-2.ensures.value source_is a_is b_is)
-      c.remove_buffer-answer.ensures.to_err c.remove_buffer-answer.ensures.err)
+    (λ a_is b_is. all-back xs c.args.from c.args.to c.replace-source.new.dest c.index_mut-2.result.now source
+    c.remove_buffer-answer.new.to c.remove_buffer-answer.new.self c.if-to-from.false
+    (subst P (sym c.self.view_is) c.requires.to_there) (subst Q (sym c.self.view_is) c.requires.from_there)
+    c.index_mut-2.ensures.value source_is a_is b_is)
+    c.remove_buffer-answer.ensures.to_err c.remove_buffer-answer.ensures.err)

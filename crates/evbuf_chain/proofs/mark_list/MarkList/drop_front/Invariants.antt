@@ -7,7 +7,7 @@ invariant-loop-run l = record {
   there : l.rest ≤ length l.self.marks;
   marks : drop l.rest l.self.marks ≡ drop l.fn.n l.fn.self.marks;
   released : l.self.released ++ ended_tickets (take l.rest l.self.marks)
-    ≡ l.fn.self.released ++ ended_tickets (take l.fn.n l.fn.self.marks);
+      ≡ l.fn.self.released ++ ended_tickets (take l.fn.n l.fn.self.marks);
 }
 
 abbrev pub decreases-loop-run : goal.decreases-loop-run

@@ -9,7 +9,7 @@ invariant-loop-run l = record {
   room : length (ended_tickets (take l.rest l.self.marks)) ≤ l.to.room;
   marks : drop l.rest l.self.marks ≡ drop l.fn.n l.fn.self.marks;
   moved : l.to.marks ++ uncut_marks (take l.rest l.self.marks)
-    ≡ l.fn.to.marks ++ uncut_marks (take l.fn.n l.fn.self.marks);
+      ≡ l.fn.to.marks ++ uncut_marks (take l.fn.n l.fn.self.marks);
   released : l.self.released ≡ l.fn.self.released;
   to_released : l.to.released ≡ l.fn.to.released;
 }

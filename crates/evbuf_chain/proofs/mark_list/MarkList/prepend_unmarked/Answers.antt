@@ -15,7 +15,7 @@ returns-in-Some-clause-marks c =
 pub returns-in-None-clause-marks : goal.returns-in-None-clause-marks
 returns-in-None-clause-marks c =
     let none : length c.self.inside.runs.items ≡ 0 =
-        omega (arith, c.in-None.ensures.cases.0, c.self.inside.runs.ok.0) in
+    omega (arith, c.in-None.ensures.cases.0, c.self.inside.runs.ok.0) in
     ap (λ runs. run_marks runs (unmarked (c.self.inside.tail + c.args.n))) (sym c.in-None.ensures.items)
     ∙ unmarked-alone c.self.inside.runs.items c.self.inside.tail c.args.n none
     ∙ ap (λ (v : Listed). unmarked c.args.n ++ v.marks) c.self.view_is
