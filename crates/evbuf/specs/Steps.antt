@@ -24,6 +24,11 @@ abbrev pub with_frozen : Evbuffered → Place → Bool → Evbuffered
 with_frozen buf Front frozen = record buf { front_frozen = frozen }
 with_frozen buf End frozen = record buf { end_frozen = frozen }
 
+-- Is this end of the buffer frozen?
+abbrev pub is_frozen : Evbuffered → Place → Bool
+is_frozen buf Front = buf.front_frozen
+is_frozen buf End = buf.end_frozen
+
 -- bytes of the buffer's own come in behind
 abbrev pub after_add : Evbuffered → List ℕ → ℕ → Evbuffered
 after_add buf bytes left = record buf {

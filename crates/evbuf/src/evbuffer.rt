@@ -9,7 +9,7 @@ ghost use Rattle.evbuf_chain.specs.Answers.{AnswersOr, fault_of};
 ghost use Rattle.evbuf_chain.specs.Buffered.{joined, PullupAnswer};
 ghost use Rattle.evbuf_chain.specs.Mark.{AreWhole};
 ghost use Rattle.evbuf.specs.Callbacks.{new_callback, without, with_enabled, report_of, newest_waiting, after_report};
-ghost use Rattle.evbuf.specs.Steps.{new_buffer, after_add, after_prepend, after_reference, after_drain, after_giving, after_taking, after_giving_all, after_taking_all, with_frozen};
+ghost use Rattle.evbuf.specs.Steps.{new_buffer, after_add, after_prepend, after_reference, after_drain, after_giving, after_taking, after_giving_all, after_taking_all, with_frozen, is_frozen};
 ghost use Rattle.evbuf.specs.Refusals.{end_refusal, front_refusal, add_refusal, prepend_refusal, move_refusal, same_refusal, callback_refusal, number_refusal};
 ghost use Rattle.evbuf.specs.declared.fault.BufFault.TheVariants.{Memory};
 ghost use Rattle.std.specs.Rc.{rc_slice_items};
@@ -284,6 +284,18 @@ impl Evbuffer {
         let n = self.len();
         let front = self.pullup(n)?;
         Ok(front.unwrap())
+    }
+
+    /// Whether an end is frozen. Takes no memory.
+    ///
+    /// Own.
+    pub fn is_frozen(&self, at: Place) -> bool
+        ensures { result ≡ is_frozen self.now at }
+    {
+        match at {
+            Place::Front => self.front_frozen,
+            Place::End => self.end_frozen,
+        }
     }
 
     /// Freezes an end: at the end no byte comes in, at the front none comes in or leaves. Takes no memory.

@@ -1,0 +1,9 @@
+pub mod Keywords
+pub mod Grammar
+pub mod Spelled
+pub mod Answers
+pub mod Steps
+pub mod Played
+pub mod Run
+pub mod PlayerView
+pub mod Text

@@ -1,0 +1,19 @@
+//! The mode that plays a script on sixteen evbuffers and writes what each line answers.
+#![tactic(auto)]
+
+mod answer;
+mod fault;
+mod keyword;
+mod line;
+mod moves;
+mod play;
+mod player;
+mod read;
+mod step;
+mod tell;
+
+pub use fault::ModeFault;
+pub use play::play_buffers;
+
+#[cfg(test)]
+mod tests;

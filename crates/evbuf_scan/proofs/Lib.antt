@@ -1,0 +1,3 @@
+pub mod PlaceLemmas
+pub mod EndLemmas
+pub mod NeedleLemmas

@@ -1,0 +1,4 @@
+pub mod Place
+pub mod Needle
+pub mod Ends
+pub mod Lines
