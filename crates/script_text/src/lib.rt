@@ -22,10 +22,7 @@ pub use laws::{
 };
 pub use read::read_script;
 pub use script::{ByteList, LinkLine, Script, ScriptFault, TurnLine};
-<<<<<<< HEAD
 pub use trace::read_trace;
-=======
->>>>>>> c79030acee097a7fd0e918c26e4eee68947c6632
 pub use words::{MAX_NUMBER, first_piece, hex_bytes, number, words_of};
 pub use write::{write_report, write_trace};
 
