@@ -10,6 +10,7 @@ use Rattle.script_text.specs.Spelled.{script_of}
 use Rattle.script_text.specs.TraceText.{trace_text}
 use Rattle.script_text.specs.ReportText.{report_text}
 use Rattle.relay_model.specs.Answers.{TurnAnswer}
+use Rattle.buffers_mode.specs.Text.{answers_of}
 use Rattle.evplay.specs.declared.words.Mode.{Mode}
 use Rattle.evplay.specs.declared.words.Mode.TheVariants as mode
 use Rattle.evplay.specs.Headline.{IsRun}
@@ -27,24 +28,32 @@ abbrev pub Runs : List ℕ → TurnAnswer → List ℕ → Type 0
 Runs source answer text = (script : ScriptValue) × (script_of source ≡ Ok script) × IsRunText script answer text
 
 -- What a script of this kind comes to: this text, and this status once it is written. Only a run of the relay can end in
--- another way than well, with a failed poll.
+-- another way than well, with a failed poll. A script of buffers comes to the answers of its lines.
 abbrev pub ComesTo : Mode → List ℕ → Status → List ℕ → Type 0
 ComesTo mode.Relay source status.Ok text = Runs source TurnAnswer.Went text
 ComesTo mode.Relay source status.PollFault text = Runs source TurnAnswer.PollFault text
+ComesTo mode.Buffers source status.Ok text = answers_of source ≡ Ok (Some text)
 ComesTo _ source _ text = ⊥
 
 -- the first line of a source text that is not in the grammar of the mode has this number
 abbrev pub IsFirstBad : Mode → List ℕ → ℕ → Type 0
 IsFirstBad mode.Relay source line = script_of source ≡ Err line
+IsFirstBad mode.Buffers source line = answers_of source ≡ Err line
 
 -- The line is told of a text that has this one as its first bad line. A number above 2^32 - 1 is told as that number.
 abbrev pub TellsBad : Mode → List ℕ → ℕ → Type 0
 TellsBad m source told = (line : ℕ) × IsFirstBad m source line × (told ≡ min line (2 ^ 32 - 1))
 
--- Why a text comes to nothing: it is no script, or memory ran out.
+-- a count of the script of a text would not fit: the length of a buffer, or the number of a callback
+abbrev pub IsSpent : Mode → List ℕ → Type 0
+IsSpent mode.Relay source = ⊥
+IsSpent mode.Buffers source = answers_of source ≡ Ok None
+
+-- Why a text comes to nothing: it is no script, a count would not fit, or memory ran out.
 abbrev pub Refuses : Mode → List ℕ → Status → Type 0
 Refuses m source (status.BadScript told) = TellsBad m source told
 Refuses m source status.Memory = ⊤
+Refuses m source status.Spent = IsSpent m source
 Refuses m source _ = ⊥
 
 -- The source gave a whole text, and the sink took the whole text that it comes to.
@@ -62,7 +71,11 @@ PlayedPart m left now_left taken now_taken =
 abbrev pub GaveBad : Mode → Option (List ℕ) → Option (List ℕ) → ℕ → Type 0
 GaveBad m left now_left told = (source : List ℕ) × GaveAll left now_left source × TellsBad m source told
 
--- What a call did, by the mode that its words ask for and by its status. Four statuses never come.
+-- the source gave a whole text of whose script a count would not fit
+abbrev pub GaveSpent : Mode → Option (List ℕ) → Option (List ℕ) → Type 0
+GaveSpent m left now_left = (source : List ℕ) × GaveAll left now_left source × IsSpent m source
+
+-- What a call did, by the mode that its words ask for and by its status. Three statuses never come.
 abbrev pub Did : Mode → Status → Option (List ℕ) → Option (List ℕ) → Option (List ℕ) → Option (List ℕ) → Type 0
 Did m status.Ok left now_left taken now_taken = PlayedAll m status.Ok left now_left taken now_taken
 Did m status.PollFault left now_left taken now_taken = PlayedAll m status.PollFault left now_left taken now_taken
@@ -74,7 +87,7 @@ Did m status.Memory left now_left taken now_taken = ⊤
 Did m status.Usage left now_left taken now_taken = ⊥
 Did m (status.Stopped link turn) left now_left taken now_taken = ⊥
 Did m status.OpenFault left now_left taken now_taken = ⊥
-Did m status.Spent left now_left taken now_taken = ⊥
+Did m status.Spent left now_left taken now_taken = GaveSpent m left now_left
 
 -- words that ask for no mode are refused, and what a call did with the others
 abbrev pub DidWith : Option Mode → Status → Option (List ℕ) → Option (List ℕ) → Option (List ℕ) → Option (List ℕ) → Type 0

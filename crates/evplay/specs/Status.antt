@@ -5,6 +5,8 @@ use Rattle.ev_types.specs.declared.status.Status.{Status}
 use Rattle.ev_types.specs.declared.status.Status.TheVariants as status
 use Rattle.script_text.specs.declared.script.ScriptFault.{ScriptFault}
 use Rattle.script_text.specs.declared.script.ScriptFault.TheVariants as script
+use Rattle.buffers_mode.specs.declared.fault.ModeFault.{ModeFault}
+use Rattle.buffers_mode.specs.declared.fault.ModeFault.TheVariants as buffers
 use Rattle.relay_drive.specs.declared.fault.DriveFault.{DriveFault}
 use Rattle.relay_drive.specs.declared.fault.DriveFault.TheVariants as fault
 
@@ -19,6 +21,12 @@ status_of fault.Spent = status.Spent
 abbrev pub bad_status : ScriptFault → Status
 bad_status script.Memory = status.Memory
 bad_status (script.BadLine line) = status.BadScript line
+
+-- the status where a script of buffers is not played to its end
+abbrev pub buffers_status : ModeFault → Status
+buffers_status buffers.Memory = status.Memory
+buffers_status (buffers.BadLine line) = status.BadScript line
+buffers_status buffers.Spent = status.Spent
 
 -- the status of the process
 abbrev pub status_number : Status → ℕ

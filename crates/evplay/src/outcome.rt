@@ -1,11 +1,12 @@
 // What a script comes to, by its mode: the text that is to be written, and how the program ends once it is.
 ghost use Rattle.std.specs.Prelude.{IfOk, IfErr};
-ghost use Rattle.evplay.specs.declared.words.Mode.TheVariants.{Relay};
+ghost use Rattle.evplay.specs.declared.words.Mode.TheVariants.{Relay, Buffers};
 ghost use Rattle.evplay.specs.Play.{ComesTo, Refuses};
 
 use crate::run::run;
-use crate::status::{fault_status, script_status};
+use crate::status::{buffers_status, fault_status, script_status};
 use crate::words::Mode;
+use buffers_mode::play_buffers;
 use ev_types::Status;
 use script_text::read_script;
 use std::alloc::Global;
@@ -26,6 +27,7 @@ pub fn outcome_of(alloc: Global, mode: Mode, text: &[u8]) -> Result<Outcome, Sta
 {
     match mode {
         Mode::Relay => relay(alloc, text),
+        Mode::Buffers => buffers(alloc, text),
     }
 }
 
@@ -44,5 +46,19 @@ fn relay(alloc: Global, text: &[u8]) -> Result<Outcome, Status>
             status: end.status(),
         }),
         Err(fault) => Err(fault_status(fault)),
+    }
+}
+
+/// What the script of buffers that the text spells comes to.
+fn buffers(alloc: Global, text: &[u8]) -> Result<Outcome, Status>
+    ensures comes_to { IfOk result (λ outcome. ComesTo Buffers text.now outcome.status outcome.text.items) }
+    ensures refused { IfErr result (λ status. Refuses Buffers text.now status) }
+{
+    match play_buffers(alloc, text) {
+        Ok(text) => Ok(Outcome {
+            text,
+            status: Status::Ok,
+        }),
+        Err(fault) => Err(buffers_status(fault)),
     }
 }

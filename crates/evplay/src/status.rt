@@ -1,7 +1,8 @@
 // What the process says of how the program ended.
 ghost use Rattle.std.specs.Prelude.{◌≡◌, IfOk, Some, option_map, string_bytes};
-ghost use Rattle.evplay.specs.Status.{status_number, status_text, status_of, bad_status};
+ghost use Rattle.evplay.specs.Status.{status_number, status_text, status_of, bad_status, buffers_status};
 
+use buffers_mode::ModeFault;
 use ev_types::Status;
 use relay_drive::DriveFault;
 use script_text::ScriptFault;
@@ -65,5 +66,16 @@ pub fn script_status(fault: ScriptFault) -> Status
     match fault {
         ScriptFault::Memory => Status::Memory,
         ScriptFault::BadLine(line) => Status::BadScript(line),
+    }
+}
+
+/// How the program ends where a script of buffers is not played to its end.
+pub fn buffers_status(fault: ModeFault) -> Status
+    ensures { result ≡ buffers_status fault }
+{
+    match fault {
+        ModeFault::Memory => Status::Memory,
+        ModeFault::BadLine(line) => Status::BadScript(line),
+        ModeFault::Spent => Status::Spent,
     }
 }

@@ -9,6 +9,8 @@ ghost use Rattle.evplay.specs.Words.{mode_named, mode_of};
 pub enum Mode {
     /// A script of links over a port.
     Relay,
+    /// A script of sixteen buffers.
+    Buffers,
 }
 
 /// The mode that the words ask for. `None` exactly where they are not one mode word.
@@ -26,6 +28,8 @@ fn mode_named(word: &str) -> Option<Mode>
 {
     if word == "relay" {
         Some(Mode::Relay)
+    } else if word == "buffers" {
+        Some(Mode::Buffers)
     } else {
         None
     }
