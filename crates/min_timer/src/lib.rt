@@ -1,0 +1,13 @@
+//! Deadlines in order: timers that wait, and the first that is due. What an expiry means stands elsewhere.
+#![tactic(auto)]
+
+mod fault;
+mod key;
+mod timers;
+
+pub use fault::TimerFault;
+pub use key::TimerKey;
+pub use timers::Timers;
+
+#[cfg(test)]
+mod tests;
