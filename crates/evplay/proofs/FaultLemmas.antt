@@ -1,5 +1,5 @@
 -- Over a port whose listener never fails, a turn is refused for want of memory or for a failed poll alone.
-use Rattle.std.proofs.Common.{◌≡◌, ◌≤◌, ◌+◌, ℕ, true, refl, arith, inl, inr, ◌⊎◌, subst}
+use Rattle.std.proofs.Common.{◌≡◌, ℕ, refl, arith, inl, inr, ◌⊎◌}
 use Rattle.ev_types.specs.Trace.{Trace}
 use Rattle.stream_words.specs.Faults.{Rose}
 use Rattle.ev_port.specs.Told.{Faults}

@@ -1,5 +1,5 @@
 -- A trace for which a relay stands between two turns is a run, with the report of what the relay counts.
-use Rattle.std.proofs.Common.{◌≡◌, ◌≤◌, ◌<◌, ◌+◌, ℕ, zero, suc, Bool, true, false, List, [], ◌∷◌, ◌++◌, length, refl, sym, ap, ◌∙◌, subst, arith, length-append}
+use Rattle.std.proofs.Common.{◌≡◌, ◌≤◌, ◌<◌, ◌+◌, ℕ, zero, suc, Bool, true, false, List, [], ◌∷◌, ◌++◌, length, refl, sym, ◌∙◌, subst, arith, length-append}
 use Rattle.ev_types.specs.declared.side.Side.{Side}
 use Rattle.ev_types.specs.declared.side.Side.TheVariants.{In, Out}
 use Rattle.ev_types.specs.declared.side.SideId.{SideId}
@@ -16,7 +16,7 @@ use Rattle.relay_model.specs.FilterLaws.{IsPrefixOf}
 use Rattle.relay_model.specs.Flow.{passed, passed_at_end}
 use Rattle.relay_model.specs.Settings.{usual}
 use Rattle.relay_model.specs.Plain.{Plain}
-use Rattle.relay_model.specs.Rooms.{read_kind, write_kind, read_filter, write_filter}
+use Rattle.relay_model.specs.Rooms.{read_kind, write_kind}
 use Rattle.relay_model.specs.Stages.{Stage, at}
 use Rattle.relay_model.specs.Answers.{TurnAnswer, LeftAt, EndsWith}
 use Rattle.relay_model.specs.Stands.{AllAccounted}

@@ -1,5 +1,5 @@
 -- What a script port vouches for is played from its script.
-use Rattle.std.proofs.Common.{◌≡◌, sym, subst}
+use Rattle.std.proofs.Common.{sym, subst}
 use Rattle.ev_port.specs.ScriptPlayed.{played_turns, script_played}
 use Rattle.ev_port.specs.ScriptVouched.{IsCalledFor}
 use Rattle.ev_port.specs.ScriptPlays.{VouchedIsPlayed}
