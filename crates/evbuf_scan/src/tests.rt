@@ -109,7 +109,10 @@ fn a_line_end_is_found_across_windows(rt: HostRuntime) -> Result<(), Fail> {
         assert_eq!(rt; search_eol(&buf, Eol::Any, 0), Some((count, 4)));
         assert_eq!(rt; search_eol(&buf, Eol::Crlf, 0), Some((count, 2)));
         assert_eq!(rt; search_eol(&buf, Eol::CrlfStrict, 0), Some((count, 2)));
-        assert_eq!(rt; search_eol(&buf, Eol::Lf, 0), Some((count + 1, 1)));
+        assert_eq!(rt;
+            search_eol(&buf, Eol::Lf, 0),
+            Some((count.saturating_add(1), 1))
+        );
         assert_eq!(rt; search_eol(&buf, Eol::Nul, 0), None);
     }
     Ok(())
