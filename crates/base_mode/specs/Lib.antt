@@ -2,3 +2,8 @@ pub mod Script
 pub mod Grammar
 pub mod Order
 pub mod Spelled
+pub mod Run
+pub mod Plans
+pub mod Taught
+pub mod Stops
+pub mod RunView
