@@ -22,18 +22,19 @@ use Rattle.buffers_mode.specs.declared.line.Ask.{Ask}
 use Rattle.buffers_mode.specs.declared.line.Ask.TheVariants as ask
 use Rattle.buffers_mode.specs.declared.line.Line.{Line}
 
--- few bytes come into a buffer
+-- at most 32,768 bytes come in
 abbrev pub BringsFew : Op → Type 0
 BringsFew (op.Add bytes) = length bytes ≤ 32768
 BringsFew (op.Prepend bytes) = length bytes ≤ 32768
 BringsFew (op.AddReference bytes ticket) = length bytes ≤ 32768
 BringsFew _ = Unit {0}
 
+-- the same of whatever a line asks
 abbrev pub AsksFew : Ask → Type 0
 AsksFew (ask.Own asked) = BringsFew asked
 AsksFew _ = Unit {0}
 
--- few bytes come in by each line
+-- at most 32,768 bytes come in by each line
 abbrev pub AllFew : List Line → Type 0
 AllFew [] = Unit {0}
 AllFew (line ∷ more) = AsksFew line.ask × AllFew more
@@ -56,7 +57,7 @@ length-pieces stop (x ∷ xs) =
       | false ↦ omega (arith, length-begun x (pieces stop xs))
     ]
 
--- what holds of a value's image
+-- what holds of a value's image, where there is one
 IfSome-map : {X Y : Type 0} (f : X → Y) (o : Option X) (P : X → Type 0) (Q : Y → Type 0) → IfSome o P → ((x : X) → P x → Q (f x)) → IfSome (option_map f o) Q
 IfSome-map f None P Q holds gives = tt
 IfSome-map f (Some x) P Q holds gives = gives x holds
@@ -92,6 +93,7 @@ bytes_of-few word =
       | false ↦ λ neither. tt
     ] refl
 
+-- what a line of each kind asks brings few bytes
 plain_op-few : (kind : Keyword) → IfSome (plain_op kind) BringsFew
 plain_op-few keyword.PullupAll = tt
 plain_op-few keyword.AddCb = tt
@@ -172,6 +174,7 @@ pub record AreFew (most : ℕ) (script : List Line) : Type 0 where
   pub few : AllFew script
   pub count : length script ≤ most
 
+-- texts are read as no more lines than they are
 pub lines_read-few : (so_far : List Line) (before : ℕ) (texts : List (List ℕ)) (script : List Line) → AllFew so_far → lines_read so_far before texts ≡ Ok script →
     AreFew (length so_far + length texts) script
 lines_read-few so_far before [] script few read = let same : so_far ≡ script = cc in rw (← same) (record { few = few; count = omega arith })

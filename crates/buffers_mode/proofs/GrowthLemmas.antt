@@ -33,6 +33,7 @@ use Rattle.buffers_mode.proofs.FewLemmas.{BringsFew, AsksFew, AllFew}
 abbrev pub weight : Evbuffered → ℕ
 weight buf = length buf.bytes + 32768 * buf.next
 
+-- what some buffers hold together
 abbrev pub total : List Evbuffered → ℕ
 total [] = 0
 total (buf ∷ more) = weight buf + total more
@@ -51,6 +52,7 @@ GoesOn (Some fault.SameBuffer) = Unit {0}
 GoesOn (Some fault.NoSuchCallback) = Unit {0}
 GoesOn (Some fault.Spent) = ⊥
 
+-- a line that is refused with a name, or else does its step, steps
 pub unless-steps : {State : Type 0} (size : State → ℕ) (most : ℕ) (refusal : Option BufFault) (before : State) (answer : Answer) (after : State) →
     GoesOn refusal → size before ≤ most → (refusal ≡ None → size after ≤ most) → StepsTo size most (unless refusal before answer after)
 unless-steps size most None before answer after goes old new = new refl
@@ -61,6 +63,7 @@ unless-steps size most (Some fault.SameBuffer) before answer after goes old new 
 unless-steps size most (Some fault.NoSuchCallback) before answer after goes old new = old
 unless-steps size most (Some fault.Spent) before answer after goes old new = absurd goes
 
+-- each refusal leaves the run going, one of length or number where the count fits
 goes_on-or : (a b : Option BufFault) → GoesOn a → GoesOn b → GoesOn (option_or a b)
 goes_on-or None b one other = other
 goes_on-or (Some refusal) b one other = one
@@ -97,7 +100,7 @@ goes_on-moves bufs to from n fits =
           (goes_on-or (front_refusal source) (length_refusal target n) (goes_on-front source) (goes_on-length target n fits))
     ]
 
--- what refuses nothing goes between two buffers
+-- a move that nothing refuses is between two buffers
 pub moves-apart : (bufs : List Evbuffered) (to from n : ℕ) → moves_refusal bufs to from n ≡ None → (to ≡ from → ⊥)
 moves-apart bufs to from n opens same =
     let target = buffer_at bufs to in
@@ -114,7 +117,7 @@ moves-apart bufs to from n opens same =
       | inr h ↦ h.1 same
     ]
 
--- a buffer with fewer bytes and the same numbers
+-- a buffer that was drained holds no more
 drain-weight : (buf : Evbuffered) (n : ℕ) → weight (after_drain buf n 0) ≤ weight buf
 drain-weight buf n = omega (arith, length-drop n buf.bytes)
 
@@ -122,6 +125,7 @@ drain-steps : (buf : Evbuffered) (n : ℕ) (answer : Answer) → StepsTo weight 
 drain-steps buf n answer =
     unless-steps weight (weight buf + 32768) (front_refusal buf) buf answer (after_drain buf n 0) (goes_on-front buf) (omega arith) (λ opens. omega (arith, drain-weight buf n))
 
+-- a line that is read brings nothing
 line_step-steps : (buf : Evbuffered) (found : Option (ℕ × ℕ)) → StepsTo weight (weight buf + 32768) (line_step buf found)
 line_step-steps buf None = unless-steps weight (weight buf + 32768) (front_refusal buf) buf Nothing buf (goes_on-front buf) (omega arith) (λ opens. omega arith)
 line_step-steps buf (Some found) = drain-steps buf (found.0 + found.1) (Bytes (take found.0 buf.bytes))
@@ -130,7 +134,7 @@ frozen-weight : (buf : Evbuffered) (place : Place) (frozen : Bool) → weight (w
 frozen-weight buf Front frozen = omega arith
 frozen-weight buf End frozen = omega arith
 
--- a step of a callback that is there or not
+-- what is done to a callback, which may not be there, brings nothing
 callback-steps : (buf : Evbuffered) (cb : ℕ) (callbacks : Callbacks) → StepsTo weight (weight buf + 32768) (unless (callback_refusal buf cb) buf Done (with_callbacks buf callbacks))
 callback-steps buf cb callbacks =
     unless-steps weight (weight buf + 32768) (callback_refusal buf cb) buf Done (with_callbacks buf callbacks) (goes_on-callback buf cb) (omega arith) (λ opens. omega arith)
