@@ -1,12 +1,11 @@
 -- How many lines a text has, and how many bytes a line brings.
-use Rattle.std.proofs.Common.{◌≡◌, ◌<◌, ◌≤◌, ◌+◌, ◌*◌, ℕ, zero, suc, Bool, true, false, ◌&&◌, cond, leb, leb-true, eqb, Option, Some, None, Ok, Err, List, [], ◌∷◌, ◌++◌, length, refl, sym, ap, ◌∙◌, arith, inl, inr}
-use Rattle.std.specs.Prelude.{IfSome, option_map, option_and_then, Result}
+use Rattle.std.proofs.Common.{◌≡◌, ◌≤◌, ◌+◌, ℕ, true, false, ◌&&◌, cond, leb, leb-true, eqb, Option, Some, None, Ok, Err, List, [], ◌∷◌, ◌++◌, length, refl, arith}
+use Rattle.std.specs.Prelude.{IfSome, option_map, option_and_then}
 use Rattle.std.specs.List.{list_all}
 use Rattle.std.specs.Result.{result_ok}
 use Rattle.std.proofs.lemmas.Bool.{and_parts}
 use Rattle.std.proofs.lemmas.List.{length_push}
 use Rattle.hex.specs.Hex.{decode_of}
-use Rattle.hex.specs.declared.error.FromHexError.{FromHexError}
 use Rattle.hex.proofs.HexLemmas.{decode_of-ok}
 use Rattle.script_text.specs.Pieces.{begun, pieces, words}
 use Rattle.script_text.specs.Numbers.{bytes_of}
@@ -83,7 +82,7 @@ IfSome-at (Some y) P x holds is = let same : y ≡ x = cc in rw (← same) holds
 pub bytes_of-few : (word : List ℕ) → IfSome (bytes_of word) (λ bytes. length bytes ≤ 32768)
 bytes_of-few word =
     elim (leb 2 (length word) && leb (length word) 65536) as (λ v. (leb 2 (length word) && leb (length word) 65536) ≡ v →
-      IfSome (cond v (result_ok (decode_of word)) None) (λ bytes. length bytes ≤ 32768)) [
+    IfSome (cond v (result_ok (decode_of word)) None) (λ bytes. length bytes ≤ 32768)) [
       | true ↦ λ both.
           let short : length word ≤ 65536 = leb-true (length word) 65536 (and_parts (leb 2 (length word)) (leb (length word) 65536) both).1 in
           elim (decode_of word) as (λ r. decode_of word ≡ r → IfSome (result_ok r) (λ bytes. length bytes ≤ 32768)) [

@@ -1,33 +1,27 @@
 -- How much the buffers of a script hold after a line.
-use Rattle.std.proofs.Common.{◌≡◌, ◌<◌, ◌≤◌, ◌+◌, ◌-◌, ◌*◌, ◌^◌, ℕ, zero, suc, Bool, true, false, cond, ltb, eqb, Option, Some, None, Ok, Err, List, [], ◌∷◌, ◌++◌, length, take, drop, set, get_or, map, refl, sym, ap, ◌∙◌, arith, inl, inr, length-append, length-drop}
-use Rattle.std.specs.Prelude.{option_map, option_and_then, IsSomeAnd, min}
+use Rattle.std.proofs.Common.{◌≡◌, ◌<◌, ◌≤◌, ◌+◌, ◌*◌, ◌^◌, ℕ, Bool, true, false, cond, ltb, eqb, Option, Some, None, List, [], ◌∷◌, ◌++◌, length, take, refl, arith, inl, inr, length-append, length-drop}
+use Rattle.std.specs.Prelude.{IsSomeAnd, min}
 use Rattle.std.specs.Option.{option_or}
 use Rattle.std.proofs.lemmas.Bool.{lt-ltb}
 use Rattle.std.proofs.lemmas.Bool.Decides.{eqb_tells}
-use Rattle.std.proofs.lemmas.List.{get_or-set_other, length-take}
 use Rattle.evbuf.specs.Evbuffered.{Evbuffered}
 use Rattle.evbuf.specs.Callbacks.{Callbacks, new_callback, without, with_enabled}
-use Rattle.evbuf.specs.Moves.{buffer_at, moves_refusal, move_all_refusal, move_some_refusal}
+use Rattle.evbuf.specs.Moves.{buffer_at, moves_refusal}
 use Rattle.evbuf.specs.Refusals.{end_refusal, front_refusal, length_refusal, add_refusal, prepend_refusal, move_refusal, same_refusal, callback_refusal, number_refusal}
-use Rattle.evbuf.specs.Steps.{new_buffer, with_frozen, after_add, after_prepend, after_reference, after_drain, after_giving, after_taking, after_taking_all, after_giving_all, pulled_up}
+use Rattle.evbuf.specs.Steps.{with_frozen, after_add, after_prepend, after_reference, after_drain, pulled_up}
 use Rattle.evbuf.specs.Callbacks.{has_callback}
 use Rattle.evbuf.specs.declared.fault.BufFault.{BufFault}
 use Rattle.evbuf.specs.declared.fault.BufFault.TheVariants as fault
 use Rattle.evbuf.specs.declared.place.Place.{Place}
 use Rattle.evbuf.specs.declared.place.Place.TheVariants.{Front, End}
-use Rattle.evbuf_scan.specs.Needle.{place_of}
 use Rattle.evbuf_scan.specs.Ends.{end_from}
 use Rattle.buffers_mode.specs.declared.answer.Answer.{Answer}
 use Rattle.buffers_mode.specs.declared.answer.Answer.TheVariants.{Done, Bytes, Count, Nothing}
 use Rattle.buffers_mode.specs.declared.line.Op.{Op}
 use Rattle.buffers_mode.specs.declared.line.Op.TheVariants as op
-use Rattle.buffers_mode.specs.declared.line.Ask.{Ask}
-use Rattle.buffers_mode.specs.declared.line.Ask.TheVariants as ask
-use Rattle.buffers_mode.specs.declared.line.Line.{Line}
 use Rattle.buffers_mode.specs.Steps.{with_callbacks}
 use Rattle.buffers_mode.specs.Played.{Step, unless, line_step, own_step}
-use Rattle.buffers_mode.specs.Run.{Run, own_at, add_buffer_step, remove_buffer_step, on_buffers, ask_step, after_reports, after_released, without_released, all_reported, reports_after, after_answer, line_played, lines_played}
-use Rattle.buffers_mode.proofs.FewLemmas.{BringsFew, AsksFew, AllFew}
+use Rattle.buffers_mode.proofs.FewLemmas.{BringsFew}
 
 -- what a buffer holds, with as much for each number that a callback got as a line brings of bytes
 abbrev pub weight : Evbuffered → ℕ
@@ -110,9 +104,9 @@ moves-apart bufs to from n opens same =
           elim target.end_frozen as (λ v. option_or (cond v (Some fault.FrozenEnd) None) (option_or (front_refusal target) (Some fault.SameBuffer)) ≡ None → ⊥) [
             | true ↦ λ no. cc
             | false ↦ λ no. (elim target.front_frozen as (λ v. option_or (cond v (Some fault.FrozenFront) None) (Some fault.SameBuffer) ≡ None → ⊥) [
-                | true ↦ λ none. cc
-                | false ↦ λ none. cc
-              ]) no
+              | true ↦ λ none. cc
+              | false ↦ λ none. cc
+            ]) no
           ] refused
       | inr h ↦ h.1 same
     ]

@@ -1,5 +1,5 @@
 -- How much all buffers of a script hold after its lines.
-use Rattle.std.proofs.Common.{◌≡◌, ◌≢◌, ◌<◌, ◌≤◌, ◌+◌, ◌-◌, ◌*◌, ◌^◌, ℕ, zero, suc, Bool, true, false, cond, Option, Some, None, Ok, Err, List, [], ◌∷◌, ◌++◌, length, take, drop, set, get_or, map, replicate, refl, sym, ap, ◌∙◌, arith, length-append, length-drop}
+use Rattle.std.proofs.Common.{◌≡◌, ◌≢◌, ◌≤◌, ◌+◌, ◌*◌, ◌^◌, ℕ, zero, suc, Bool, true, false, cond, Option, Some, None, Ok, Err, List, [], ◌∷◌, length, take, set, refl, sym, ap, ◌∙◌, arith, length-append, length-drop}
 use Rattle.std.specs.Prelude.{option_map, option_and_then, IsSomeAnd, IfErr, min, Result}
 use Rattle.std.proofs.lemmas.List.{get_or-set_other, length-take}
 use Rattle.script_text.specs.Pieces.{lines}
@@ -15,9 +15,9 @@ use Rattle.buffers_mode.specs.declared.line.Line.{Line}
 use Rattle.buffers_mode.specs.declared.fault.ModeFault.{ModeFault}
 use Rattle.buffers_mode.specs.declared.fault.ModeFault.TheVariants.{Memory, BadLine, Spent}
 use Rattle.buffers_mode.specs.Steps.{with_callbacks}
-use Rattle.buffers_mode.specs.Played.{Step, unless, own_step}
-use Rattle.buffers_mode.specs.Spelled.{lines_read, script_of}
-use Rattle.buffers_mode.specs.Run.{Run, fresh_run, own_at, add_buffer_step, remove_buffer_step, on_buffers, ask_step, after_reports, after_released, without_released, all_reported, reports_after, after_reports_run, after_released_run, after_answer, line_played, lines_played}
+use Rattle.buffers_mode.specs.Played.{Step, own_step}
+use Rattle.buffers_mode.specs.Spelled.{script_of}
+use Rattle.buffers_mode.specs.Run.{Run, fresh_run, own_at, add_buffer_step, remove_buffer_step, on_buffers, ask_step, after_reports, after_released, all_reported, reports_after, after_answer, line_played, lines_played}
 use Rattle.buffers_mode.specs.Text.{answers_to, answered, answers_of, EndsFor}
 use Rattle.buffers_mode.proofs.FewLemmas.{BringsFew, AsksFew, AllFew, AreFew, lines_read-few, length-pieces}
 use Rattle.buffers_mode.proofs.GrowthLemmas.{weight, total, StepsTo, goes_on-moves, moves-apart, unless-steps, own_step-steps}
@@ -68,8 +68,11 @@ add_buffer_step-steps bufs to from room =
     let source = buffer_at bufs from in
     unless-steps total (total bufs + 32768) (move_all_refusal bufs to from) bufs Done (set (set bufs to (after_taking_all target source 0)) from (after_giving_all source 0))
     (goes_on-moves bufs to from (length source.bytes) (omega (arith, weight-at bufs to, weight-at bufs from))) (omega arith)
-    (λ opens. omega (arith, total-set_two bufs to from (after_taking_all target source 0) (after_giving_all source 0)
-      (moves-apart bufs to from (length source.bytes) opens) (taking_all-kept target source)))
+    (λ opens. omega (
+      arith,
+      total-set_two bufs to from (after_taking_all target source 0) (after_giving_all source 0)
+          (moves-apart bufs to from (length source.bytes) opens) (taking_all-kept target source),
+    ))
 
 remove_buffer_step-steps : (bufs : List Evbuffered) (from to n : ℕ) → total bufs + 32768 ≤ 2 ^ 39 → StepsTo total (total bufs + 32768) (remove_buffer_step bufs from to n)
 remove_buffer_step-steps bufs from to n room =
@@ -78,8 +81,11 @@ remove_buffer_step-steps bufs from to n room =
     let moved = min n (length source.bytes) in
     unless-steps total (total bufs + 32768) (move_some_refusal bufs from to n) bufs (Count moved) (set (set bufs to (after_taking target source n 0)) from (after_giving source n 0))
     (goes_on-moves bufs to from moved (omega (arith, weight-at bufs to, weight-at bufs from))) (omega arith)
-    (λ opens. omega (arith, total-set_two bufs to from (after_taking target source n 0) (after_giving source n 0)
-      (moves-apart bufs to from moved opens) (taking-kept target source n)))
+    (λ opens. omega (
+      arith,
+      total-set_two bufs to from (after_taking target source n 0) (after_giving source n 0)
+          (moves-apart bufs to from moved opens) (taking-kept target source n),
+    ))
 
 -- what all buffers of a run hold
 abbrev pub run_total : Run → ℕ
