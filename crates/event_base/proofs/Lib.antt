@@ -1,0 +1,10 @@
+mod RisingLemmas
+mod ReadyLemmas
+mod DeadlineLemmas
+mod TiedLemmas
+mod RousingLemmas
+mod SignalLemmas
+mod TurnLemmas
+mod FireLemmas
+mod CallLemmas
+mod Examples

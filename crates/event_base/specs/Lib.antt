@@ -1,0 +1,14 @@
+pub mod Rising
+pub mod Deadlines
+pub mod DeadlinesView
+pub mod Ready
+pub mod ReadyView
+pub mod Base
+pub mod Events
+pub mod Turns
+pub mod Fires
+pub mod Faults
+pub mod Calls
+pub mod Tied
+pub mod Rousing
+pub mod BaseView

@@ -1,0 +1,122 @@
+// The deadlines of events: a timer for each event that has one. What a deadline means stands elsewhere.
+ghost use Rattle.std.specs.Prelude.{◌≡◌, ◌≤◌, ◌<◌, ◌+◌, ◌^◌, ℕ, [], Ok, Err, Some, None, length, slice_set, IfOk, IfErr, OnOk, OnErr, if◌then◌else◌, nat_lt};
+ghost use Rattle.event_base.specs.Rising.{at};
+ghost use Rattle.event_base.specs.Ready.{IsLeast};
+ghost use Rattle.event_base.specs.Deadlines.{IsDueOrder, deadlines};
+
+use min_timer::{TimerFault, TimerKey, Timers};
+use std::alloc::{AllocError, Global};
+use std::marker::Model;
+
+/// The timer of an event: its deadline and its handle.
+#[derive(Clone, Copy)]
+pub struct Waiting {
+    pub deadline: u64,
+    pub timer: TimerKey,
+}
+
+/// The deadlines of events, by the number of the event.
+///
+/// Libevent: event-internal.h, `timeheap`.
+#[derive(Drop)]
+pub struct Deadlines {
+    timers: Timers,
+    waiting: Vec<Option<Waiting>>,
+}
+
+impl Model for Deadlines {
+    ghost use Rattle.event_base.specs.Deadlines.{DeadlinesValue};
+
+    ghost Value = { DeadlinesValue };
+
+    ghost use Rattle.event_base.specs.DeadlinesView.{deadlines_of, AreDeadlines};
+
+    ghost view = { deadlines_of };
+
+    ghost invariant = { AreDeadlines };
+}
+
+impl Deadlines {
+    /// No event has a deadline. Takes no memory.
+    pub fn new(alloc: Global) -> Deadlines
+        ensures { result ≡ record { moments = []; last = 0 } }
+    {
+        Deadlines {
+            timers: Timers::new(alloc),
+            waiting: Vec::new(alloc),
+        }
+    }
+
+    /// The last order number of adding, or 0.
+    pub fn last(&self) -> u64
+        ensures { result ≡ self.now.last }
+    {
+        self.timers.last()
+    }
+
+    /// Makes room for so many events, none of the new ones with a deadline. Takes memory.
+    pub fn grow(&mut self, count: usize) -> Result<(), AllocError>
+        ensures moments { (k : ℕ) → at self.new.moments k ≡ at self.old.moments k }
+        ensures room { OnOk result (count ≤ length self.new.moments) }
+        ensures stays { length self.old.moments ≤ length self.new.moments }
+        ensures last { self.new.last ≡ self.old.last }
+    {
+        while self.waiting.len() < count {
+            self.waiting.push(None)?;
+        }
+        Ok(())
+    }
+
+    /// Gives an event a deadline, in place of any other. Spent comes where no order number is left. Takes memory.
+    pub fn set(&mut self, event: u32, deadline: u64) -> Result<(), TimerFault>
+        requires { event < length self.old.moments }
+        ensures ok { OnOk result (self.new ≡ record {
+            moments = slice_set self.old.moments event (Some (record { deadline = deadline; order = self.old.last + 1 }));
+            last = self.old.last + 1 }) }
+        ensures refused { IfErr result (λ fault. fault
+            ≡ (if nat_lt (self.old.last + 1) (2 ^ 64) then TimerFault.Memory else TimerFault.Spent)) }
+        ensures fits { OnOk result (self.old.last + 1 < 2 ^ 64) }
+        ensures stays { OnErr result (self.new ≡ self.old) }
+    {
+        let timer = self.timers.add(deadline, u64::from(event))?;
+        let old = waiting_of(&self.waiting, event);
+        self.waiting[event as usize] = Some(Waiting { deadline, timer });
+        if let Some(old) = old {
+            let _ = self.timers.cancel(old.timer);
+        }
+        Ok(())
+    }
+
+    /// Takes the deadline of an event away, if it has one. Takes no memory.
+    pub fn clear(&mut self, event: u32)
+        ensures { self.new ≡ record self.old { moments = slice_set self.old.moments event None } }
+    {
+        let Some(old) = waiting_of(&self.waiting, event) else {
+            return;
+        };
+        self.waiting[event as usize] = None;
+        let _ = self.timers.cancel(old.timer);
+    }
+
+    /// The least deadline.
+    pub fn first(&self) -> Option<u64>
+        ensures { IsLeast (deadlines self.now.moments) result }
+    {
+        self.timers.next_deadline()
+    }
+
+    /// The events whose deadline is at most this time, by deadline and then by the order of adding. Takes memory.
+    pub fn due(&self, alloc: Global, time: u64) -> Result<Vec<u64>, TimerFault>
+        ensures events { IfOk result (λ events. IsDueOrder time self.now.moments events.items) }
+        ensures refused { IfErr result (λ fault. fault ≡ TimerFault.Memory) }
+    {
+        self.timers.due(alloc, time)
+    }
+}
+
+/// What is kept of the timer of an event.
+fn waiting_of(waiting: &[Option<Waiting>], event: u32) -> Option<Waiting>
+    ensures { result ≡ at waiting.now event }
+{
+    waiting.get(event as usize).copied().flatten()
+}

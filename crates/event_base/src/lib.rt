@@ -1,0 +1,14 @@
+//! Which events a turn fires, in which order and with which flags. It moves no bytes and reads no clock.
+#![tactic(auto)]
+
+mod base;
+mod deadlines;
+mod event;
+mod fault;
+mod ready;
+mod rousing;
+
+pub use base::Base;
+pub use event::{READ, SIGNAL, TIMEOUT, WRITE};
+pub use fault::BaseFault;
+pub use prio_queue::MAX_PRIORITIES;
