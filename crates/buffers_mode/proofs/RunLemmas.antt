@@ -1,10 +1,10 @@
 -- Buffers by number, as answers show them.
-use Rattle.std.proofs.Common.{◌≡◌, ◌<◌, ◌≤◌, ◌+◌, ℕ, zero, suc, Bool, true, false, cond, Option, Some, None, Ok, Err, List, [], ◌∷◌, ◌++◌, length, take, drop, set, get_or, map, refl, sym, ap, ◌∙◌, arith, append_assoc, length-set}
-use Rattle.std.specs.Prelude.{option_map, Result, min, flat_map, OnOk}
-use Rattle.std.proofs.lemmas.List.{map-set, drop_more, take_more_set, drop-set-lt, take_all, drop_all, append-nil, get_or_default, map-append}
+use Rattle.std.proofs.Common.{◌≡◌, ℕ, zero, suc, Bool, Option, Some, None, Ok, Err, List, [], ◌∷◌, ◌++◌, length, set, map, refl, sym, ap, ◌∙◌}
+use Rattle.std.specs.Prelude.{option_map, Result, min, OnOk}
+use Rattle.std.proofs.lemmas.List.{map-set}
 use Rattle.evbuf.specs.Evbuffered.{Evbuffered}
 use Rattle.evbuf.specs.Moves.{buffer_at, move_all_refusal, move_some_refusal, MovesAll, MovesSome}
-use Rattle.evbuf.specs.Steps.{new_buffer, after_taking, after_taking_all, after_giving, after_giving_all}
+use Rattle.evbuf.specs.Steps.{after_taking, after_taking_all, after_giving, after_giving_all}
 use Rattle.buffers_mode.specs.declared.answer.Answer.{Answer}
 use Rattle.buffers_mode.specs.declared.answer.Answer.TheVariants.{Done, Count}
 use Rattle.evbuf.specs.declared.fault.BufFault.{BufFault}
@@ -13,7 +13,7 @@ use Rattle.buffers_mode.specs.declared.fault.ModeFault.{ModeFault}
 use Rattle.buffers_mode.specs.declared.fault.ModeFault.TheVariants.{Memory, BadLine, Spent}
 use Rattle.buffers_mode.specs.Steps.{shown, with_callbacks}
 use Rattle.buffers_mode.specs.Played.{Step, Took, own_step, unless}
-use Rattle.buffers_mode.specs.Run.{Run, own_at, add_buffer_step, remove_buffer_step, reported_by, released_by, report_lines, all_reported, reports_text, after_reports, released_lines, released_text, without_released, after_released}
+use Rattle.buffers_mode.specs.Run.{Run, own_at, add_buffer_step, remove_buffer_step, reported_by, released_by, report_lines, all_reported, released_lines, without_released}
 
 -- the parts of a run
 abbrev pub run_of : List Evbuffered → List Bool → List ℕ → Run

@@ -7,3 +7,4 @@ pub mod Played
 pub mod Run
 pub mod PlayerView
 pub mod Text
+pub mod Laws

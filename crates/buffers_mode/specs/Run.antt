@@ -1,10 +1,9 @@
 -- A script as it is played on sixteen buffers.
-use Rattle.std.specs.Prelude.{◌≡◌, ⊤, ℕ, ◌+◌, ◌==◌, ◌&&◌, ◌||◌, min, if◌then◌else◌, Bool, true, false, not, Option, Some, None, option_map, option_and_then, List, [], ◌∷◌, ◌++◌, length, replicate, map, filter, reverse, flat_map, slice_index_or, slice_set, Result, Ok, Err}
+use Rattle.std.specs.Prelude.{ℕ, ◌+◌, ◌==◌, ◌&&◌, ◌||◌, min, if◌then◌else◌, Bool, true, false, not, Option, Some, option_map, option_and_then, List, [], ◌∷◌, ◌++◌, length, replicate, map, filter, reverse, flat_map, slice_index_or, slice_set}
 use Rattle.script_text.specs.Lines.{line_of}
 use Rattle.evbuf.specs.Evbuffered.{Evbuffered}
 use Rattle.evbuf.specs.Callbacks.{Callbacks, waits, report_of, reported}
 use Rattle.evbuf.specs.Moves.{buffer_at, move_all_refusal, move_some_refusal}
-use Rattle.evbuf.specs.declared.callback.SizeCallback.{SizeCallback}
 use Rattle.buffers_mode.specs.declared.answer.Answer.{Answer}
 use Rattle.buffers_mode.specs.declared.answer.Answer.TheVariants.{Done, Count}
 use Rattle.buffers_mode.specs.declared.line.Op.{Op}

@@ -4,7 +4,7 @@ use Rattle.buffers_mode.specs.declared.line.Line.{Line}
 use Rattle.buffers_mode.specs.declared.fault.ModeFault.{ModeFault}
 use Rattle.buffers_mode.specs.declared.fault.ModeFault.TheVariants.{Memory, BadLine, Spent}
 use Rattle.buffers_mode.specs.Spelled.{script_of}
-use Rattle.buffers_mode.specs.Run.{Run, fresh_run, lines_played}
+use Rattle.buffers_mode.specs.Run.{fresh_run, lines_played}
 
 -- what the lines of a script are answered; there is nothing where a count would not fit
 abbrev pub answers_to : List Line → Option (List ℕ)

@@ -16,7 +16,8 @@ pub enum ModeFault {
     /// The first line that is not in the grammar, counted from 1. No line was run.
     #[error("line {0} is not in the grammar")]
     BadLine(u32),
-    /// The length of a buffer would not fit a usize, or the number of a callback a u32.
+    /// The length of a buffer would not fit a usize, or the number of a callback a u32. A text of at most 2^24 bytes
+    /// never comes to it.
     #[error("a count does not fit")]
     Spent,
 }

@@ -4,6 +4,7 @@
 mod answer;
 mod fault;
 mod keyword;
+mod laws;
 mod line;
 mod moves;
 mod play;
@@ -13,6 +14,7 @@ mod step;
 mod tell;
 
 pub use fault::ModeFault;
+pub use laws::scripts_are_never_spent;
 pub use play::play_buffers;
 
 #[cfg(test)]

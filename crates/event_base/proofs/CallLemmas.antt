@@ -76,7 +76,7 @@ signal-done b new number count k numbers are same some low fits is =
     let woken = count_by (is_woken_by number) b.events in
     let good : Step = Ok (with_parts b (signalled number count next b.events) (next + woken)) in
     let events : risen 8 k k b.events next numbers ≡ signalled number count next b.events =
-        ap (λ n. risen 8 n n b.events next numbers) same ∙ ap (risen 8 count count b.events next) are ∙ signalled-risen number count b.events [] next in
+    ap (λ n. risen 8 n n b.events next numbers) same ∙ ap (risen 8 count count b.events next) are ∙ signalled-risen number count b.events [] next in
     let total : length (wakers b.events numbers) ≡ woken = ap (λ ks. length (wakers b.events ks)) are ∙ hearing-wakers number b.events [] in
     ap (λ t. cond t (Ok b) (cond (fit next woken && not (list_any (overflows number count) b.events)) good (Err Spent))) (ne_eqb count 0 some)
     ∙ ap (λ t. cond (t && not (list_any (overflows number count) b.events)) good (Err Spent)) (fit-true next woken low)
@@ -86,8 +86,11 @@ signal-done b new number count k numbers are same some low fits is =
 -- a base whose turn has begun
 abbrev pub turned : BaseValue → ℕ → ℕ → List Event → ℕ → Bool → BaseValue
 turned b now time events next over = record b {
-  time = time; events = events; next_activation = next;
-  batch_priority = unwrap_or (least active_priority events) 0; batch_end = cond over 0 next
+  time = time;
+  events = events;
+  next_activation = next;
+  batch_priority = unwrap_or (least active_priority events) 0;
+  batch_end = cond over 0 next;
 }
 
 -- a turn whose order numbers fit
@@ -106,11 +109,11 @@ pub begin_turn-done : (b mid new : BaseValue) (now time : ℕ) (numbers : List �
 begin_turn-done b mid new now time numbers over at_time is_over events total low half whole =
     let next = b.next_activation in
     let made : new ≡ turned b now time (map (timed_out time next b.events) b.events) (next + count_by (wakes time) b.events) (ended b) =
-        whole
-        ∙ ap (λ (m : BaseValue). record m { time = time; batch_priority = unwrap_or (least active_priority m.events) 0; batch_end = cond over 0 m.next_activation }) half
-        ∙ ap (λ es. turned b now time es (next + length (wakers b.events numbers)) over) events
-        ∙ ap (λ n. turned b now time (map (timed_out time next b.events) b.events) (next + n) over) total
-        ∙ ap (turned b now time (map (timed_out time next b.events) b.events) (next + count_by (wakes time) b.events)) is_over in
+    whole
+    ∙ ap (λ (m : BaseValue). record m { time = time; batch_priority = unwrap_or (least active_priority m.events) 0; batch_end = cond over 0 m.next_activation }) half
+    ∙ ap (λ es. turned b now time es (next + length (wakers b.events numbers)) over) events
+    ∙ ap (λ n. turned b now time (map (timed_out time next b.events) b.events) (next + n) over) total
+    ∙ ap (turned b now time (map (timed_out time next b.events) b.events) (next + count_by (wakes time) b.events)) is_over in
     let low_then : next + count_by (wakes (time_at b.time now)) b.events < 2 ^ 64 = subst (λ t. next + count_by (wakes t) b.events < 2 ^ 64) at_time low in
     begin_turn-ok b now low_then
     ∙ ap (λ t. Ok (turned b now t (map (timed_out t next b.events) b.events) (next + count_by (wakes t) b.events) (ended b))) (sym at_time)
@@ -119,7 +122,7 @@ begin_turn-done b mid new now time numbers over at_time is_over events total low
 -- the base behind the start of a callback
 abbrev pub called_base : BaseValue → ℕ → Event → Activation → BaseValue
 called_base b k e a = record (with_event b k (called b.time (b.last_adding + 1) a e)) {
-  last_adding = b.last_adding + (cond (is_set_again e) 1 0)
+  last_adding = b.last_adding + (cond (is_set_again e) 1 0);
 }
 
 pub call-ok : (b : BaseValue) (k : ℕ) (e : Event) (a : Activation) → is_past_numbers b.time (b.last_adding + 1) a.flags e ≡ false → call b k e a ≡ Ok (called_base b k e a)
@@ -129,15 +132,18 @@ call-ok b k e a fits = ap (λ t. cond t (Err Spent) (Ok (called_base b k e a))) 
 pub called-kept : (events : List Event) (before after : DeadlinesValue) (ready : ReadyValue) (k : ℕ) (e : Event) (a : Activation) (timeout : Option Timeout) → AreKept events before ready → slice_get events k ≡ Some e → e.active ≡ Some a → after.moments ≡ set before.moments k (option_map moment_at timeout)
     → AreKept (set events k (record e { pending = e.persist && e.pending; timeout = timeout; active = one_less a })) after (record ready { places = cond (is_some (one_less a)) ready.places (set ready.places k None) })
 called-kept events before after ready k e a timeout kept is active moments = AreKept-as _ (record before { moments = set before.moments k (option_map moment_at timeout) }) after _ moments (split (nat_le a.count 1) refl)
-    where
-        low : e.priority < ready.priorities
-        low = priority-within events before ready k e kept is
-        place : Activation → Place
-        place x = record { priority = e.priority; order = x.order }
-        left : Option Activation → Event
-        left o = record e { pending = e.persist && e.pending; timeout = timeout; active = o }
-        split : (b : Bool) → nat_le a.count 1 ≡ b → AreKept (set events k (left (cond b None (Some (record a { count = a.count - 1 }))))) (record before { moments = set before.moments k (option_map moment_at timeout) })
-            (record ready { places = cond (is_some (cond b None (Some (record a { count = a.count - 1 })))) ready.places (set ready.places k None) })
-        split true h = AreKept-set events before ready k e (left None) (option_map moment_at timeout) None kept is refl refl low
-        split false h = AreKept-moment events before ready k e (left (Some (record a { count = a.count - 1 }))) (option_map moment_at timeout) kept is refl
-            (ap (option_map (λ (x : Activation). record { priority = e.priority; order = x.order })) (sym active)) low
+  where
+    low : e.priority < ready.priorities
+    low = priority-within events before ready k e kept is
+
+    place : Activation → Place
+    place x = record { priority = e.priority; order = x.order }
+
+    left : Option Activation → Event
+    left o = record e { pending = e.persist && e.pending; timeout = timeout; active = o }
+
+    split : (b : Bool) → nat_le a.count 1 ≡ b → AreKept (set events k (left (cond b None (Some (record a { count = a.count - 1 }))))) (record before { moments = set before.moments k (option_map moment_at timeout) })
+        (record ready { places = cond (is_some (cond b None (Some (record a { count = a.count - 1 })))) ready.places (set ready.places k None) })
+    split true h = AreKept-set events before ready k e (left None) (option_map moment_at timeout) None kept is refl refl low
+    split false h = AreKept-moment events before ready k e (left (Some (record a { count = a.count - 1 }))) (option_map moment_at timeout) kept is refl
+        (ap (option_map (λ (x : Activation). record { priority = e.priority; order = x.order })) (sym active)) low

@@ -1,6 +1,5 @@
 -- The definitions at worked runs, so that a wrong rule in them does not check.
 use Rattle.std.proofs.Common.{◌≡◌, ℕ, Bool, true, false, List, [], ◌∷◌, refl, Option, None, Some, Result, Ok, Err}
-use Rattle.event_base.specs.declared.fault.BaseFault.TheVariants.{Memory, BadPriority, NoEvent, IsActive, Spent}
 use Rattle.event_base.specs.Base.{BaseValue}
 use Rattle.event_base.specs.Calls.{Step, new_base, new_event, set_priority, add_event, del_event, activate, signal, begin_turn, next_active, next_fire, poll_timeout, loop_break, loop_exit, ended}
 
@@ -48,10 +47,7 @@ pub known_signals : (sees (run (new_base 2) signalling) ≡ Some (Some (0, 8), S
     × (sees (elim (run (new_base 2) signalling) [ Ok b ↦ run b (dels 0 ∷ []) | Err f ↦ Err f ]) ≡ Some (None, None))
 known_signals = (refl, refl, refl)
 
--- Equal deadlines fire in the order of adding, less urgent events in a later turn, and what becomes active meanwhile too.
-abbrev crowd : List (BaseValue → Step)
-crowd = once ∷ once ∷ once ∷ (λ b. set_priority b 2 1) ∷ adds 2 5 ∷ adds 1 5 ∷ adds 0 5 ∷ turn 7 ∷ []
-
+-- Equal deadlines fire in the order of adding, and less urgent events in a later turn.
 pub known_crowd : (sees (run (new_base 2) ((λ b. new_event b false None) ∷ (λ b. set_priority b 0 2) ∷ [])) ≡ None)
     × (sees (run (new_base 3) (once ∷ once ∷ once ∷ (λ b. set_priority b 2 0) ∷ adds 2 5 ∷ adds 1 5 ∷ adds 0 5 ∷ turn 7 ∷ [])) ≡ Some (Some (2, 1), Some 0))
     × (sees (run (new_base 3) (once ∷ once ∷ once ∷ (λ b. set_priority b 2 0) ∷ adds 2 5 ∷ adds 1 5 ∷ adds 0 5 ∷ turn 7 ∷ next_active ∷ [])) ≡ Some (None, Some 0))

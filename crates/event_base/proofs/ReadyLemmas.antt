@@ -17,19 +17,19 @@ use Rattle.event_base.proofs.RisingLemmas.{but-same, but-other, but-some, Rises-
 pub at-set_none : {V : Type 0} (xs : List (Option V)) (k j : ℕ) → at (set xs k None) j ≡ but k (at xs) j
 at-set_none xs k j = ⊎_elim
     (λ e. ⊎_elim
-        (λ lt. (let there = get_or-set_same xs k None None lt in grind (arith, common_steps)))
-        (λ ge. (let past = get_or_past (set xs k None) k None in grind (arith, common_steps)))
-        (cases_lt k (length xs)))
+    (λ lt. (let there = get_or-set_same xs k None None lt in grind (arith, common_steps)))
+    (λ ge. (let past = get_or_past (set xs k None) k None in grind (arith, common_steps)))
+    (cases_lt k (length xs)))
     (λ n. (let there = get_or-set_other xs k j None None n in grind (arith, common_steps)))
     (cases_eq j k)
 
 -- the same, by order numbers of one priority
 pub orders-set_none : (priority : ℕ) (places : List (Option Place)) (k j : ℕ) → orders priority (set places k None) j ≡ but k (orders priority places) j
 orders-set_none priority places k j = ap (order_in priority) (at-set_none places k j) ∙ split (nat_eq j k)
-    where
-        split : (b : Bool) → order_in priority (cond b None (at places j)) ≡ cond b None (orders priority places j)
-        split true = refl
-        split false = refl
+  where
+    split : (b : Bool) → order_in priority (cond b None (at places j)) ≡ cond b None (orders priority places j)
+    split true = refl
+    split false = refl
 
 -- the first of a queue is the front of its priority
 pub IsFront-first : (priority : ℕ) (places : List (Option Place)) (queue : List ℕ) → Rises ◌<◌ queue (orders priority places) → IsFront priority places (first_key queue)
@@ -41,7 +41,7 @@ pub Rises-rest : (queues : List (List ℕ)) (places : List (Option Place)) (k pr
 Rises-rest queues places k priority r =
     rw (get_or-map (filter (λ other. not (other == k))) queues priority [])
     (Rises-same ◌<◌ _ (but k (orders priority places)) (orders priority (set places k None)) (orders-set_none priority places k)
-        (Rises-without ◌<◌ (queue_of queues priority) (orders priority places) k r))
+    (Rises-without ◌<◌ (queue_of queues priority) (orders priority places) k r))
 
 -- does a queue have an event
 abbrev is_filled : List ℕ → Bool
@@ -62,7 +62,7 @@ of_priority None m v e = cc e
 of_priority (Some place) m v e = ⊎_elim
     (λ same. ap Some same)
     (λ other. (let test : nat_eq place.priority m ≡ false = ne_eqb place.priority m other in
-        let none : order_in m (Some place) ≡ None = rw test refl in cc (none, e)))
+    let none : order_in m (Some place) ≡ None = rw test refl in cc (none, e)))
     (cases_eq place.priority m)
 
 no_value : (o : Option ℕ) → ((m : ℕ) → o ≡ Some m → ⊥) → o ≡ None
@@ -82,15 +82,16 @@ pub IsLeast-first_filled : (queues : List (List ℕ)) (places : List (Option Pla
 IsLeast-first_filled queues places rises =
     let n = position_or_len is_filled queues in
     let none_below : (j m : ℕ) → m < n → priorities places j ≡ Some m → ⊥ =
-        λ j m lt e. in_orders (at places j) m e (none_in m places _ (rises m) (fails_before_first is_filled queues m [] lt) j) in
+    λ j m lt e. in_orders (at places j) m e (none_in m places _ (rises m) (fails_before_first is_filled queues m [] lt) j) in
     ⊎_elim
     (λ lt. rw (lt-ltb n (length queues) lt) (
-        head_of n places _ (rises n) (passes_at_first is_filled queues [] lt),
-        λ j m e. ⊎_elim (λ below. absurd (none_below j m below e)) (λ h. h) (cases_lt m n)))
+      head_of n places _ (rises n) (passes_at_first is_filled queues [] lt),
+      λ j m e. ⊎_elim (λ below. absurd (none_below j m below e)) (λ h. h) (cases_lt m n),
+    ))
     (λ ge. rw (le-ltb n (length queues) ge) (λ k. no_value (priorities places k) (λ m e. ⊎_elim
-        (λ below. none_below k m below e)
-        (λ past. in_orders (at places k) m e (none_in m places _ (rises m) (rw (get_or_past queues m [] (omega arith)) refl) k))
-        (cases_lt m n))))
+    (λ below. none_below k m below e)
+    (λ past. in_orders (at places k) m e (none_in m places _ (rises m) (rw (get_or_past queues m [] (omega arith)) refl) k))
+    (cases_lt m n))))
     (cases_lt n (length queues))
 
 -- the queues and the places as one event becomes inactive
@@ -123,19 +124,19 @@ but-absent k j f h = ⊎_elim (λ e. ap f e ∙ h ∙ sym (subst (λ i. but k f 
 pub IsPlaced-rest_front : (queues : List (List ℕ)) (places : List (Option Place)) (next priority k : ℕ) → IsPlaced queues places next → IsFront priority places (Some k) → IsPlaced (popped queues priority) (set places k None) next
 IsPlaced-rest_front queues places next priority k placed front =
     let there : priority < length queues = ⊎_elim (λ lt. lt)
-        (λ past. (let none = subst (λ q. Rises ◌<◌ q (orders priority places)) (get_or_past queues priority [] past) (placed.rises priority) k in cc (none, front.has)))
-        (cases_lt priority (length queues)) in record {
-    rises = λ q. ⊎_elim
-        (λ e. subst (λ p. Rises ◌<◌ (queue_of (popped queues priority) p) (orders p (set places k None))) e
-            (rw (get_or-set_same queues priority (drop 1 (queue_of queues priority)) [] there)
-            (Rises-same ◌<◌ _ (but k (orders priority places)) _ (orders-set_none priority places k)
-            (Rises-behind _ (orders priority places) k (placed.rises priority) front))))
-        (λ n. rw (get_or-set_other queues priority q (drop 1 (queue_of queues priority)) [] (λ e. n (sym e)))
-            (Rises-same ◌<◌ _ (orders q places) _
-            (λ j. orders-set_none q places k j ∙ sym (but-absent k j (orders q places) (in_one (at places k) priority q front.value n front.has)))
-            (placed.rises q)))
-        (cases_eq priority q);
-    below = λ j place h. placed.below j place (but-some k j place (at places) (sym (at-set_none places k j) ∙ h));
+    (λ past. (let none = subst (λ q. Rises ◌<◌ q (orders priority places)) (get_or_past queues priority [] past) (placed.rises priority) k in cc (none, front.has)))
+    (cases_lt priority (length queues)) in record {
+      rises = λ q. ⊎_elim
+          (λ e. subst (λ p. Rises ◌<◌ (queue_of (popped queues priority) p) (orders p (set places k None))) e
+          (rw (get_or-set_same queues priority (drop 1 (queue_of queues priority)) [] there)
+          (Rises-same ◌<◌ _ (but k (orders priority places)) _ (orders-set_none priority places k)
+          (Rises-behind _ (orders priority places) k (placed.rises priority) front))))
+          (λ n. rw (get_or-set_other queues priority q (drop 1 (queue_of queues priority)) [] (λ e. n (sym e)))
+          (Rises-same ◌<◌ _ (orders q places) _
+          (λ j. orders-set_none q places k j ∙ sym (but-absent k j (orders q places) (in_one (at places k) priority q front.value n front.has)))
+          (placed.rises q)))
+          (cases_eq priority q);
+      below = λ j place h. placed.below j place (but-some k j place (at places) (sym (at-set_none places k j) ∙ h));
     }
 
 -- a place that was given in a list is there, and the others are as they were
@@ -148,54 +149,56 @@ at-set_some xs k j v lt = ⊎_elim
 -- order numbers of the priority of an event that became active
 orders-set_same : (places : List (Option Place)) (k j : ℕ) (place : Place) → k < length places → orders place.priority (set places k (Some place)) j ≡ with k place.order (orders place.priority places) j
 orders-set_same places k j place lt = ap (order_in place.priority) (at-set_some places k j place lt) ∙ split (nat_eq j k)
-    where
-        test : nat_eq place.priority place.priority ≡ true
-        test = eq-eqb place.priority place.priority refl
-        split : (b : Bool) → order_in place.priority (cond b (Some place) (at places j)) ≡ cond b (Some place.order) (orders place.priority places j)
-        split true = rw test refl
-        split false = refl
+  where
+    test : nat_eq place.priority place.priority ≡ true
+    test = eq-eqb place.priority place.priority refl
+
+    split : (b : Bool) → order_in place.priority (cond b (Some place) (at places j)) ≡ cond b (Some place.order) (orders place.priority places j)
+    split true = rw test refl
+    split false = refl
 
 -- order numbers of another priority
 orders-set_other : (places : List (Option Place)) (k j priority : ℕ) (place : Place) → k < length places → at places k ≡ None → (place.priority ≡ priority → ⊥) → orders priority (set places k (Some place)) j ≡ orders priority places j
 orders-set_other places k j priority place lt was n = ⊎_elim
     (λ e. (let there : orders priority (set places k (Some place)) j ≡ None = ap (λ i. orders priority (set places k (Some place)) i) e ∙ ap (order_in priority) (get_or-set_same places k (Some place) None lt) ∙ other in
-        let before : orders priority places j ≡ None = ap (orders priority places) e ∙ ap (order_in priority) was in cc (there, before)))
+    let before : orders priority places j ≡ None = ap (orders priority places) e ∙ ap (order_in priority) was in cc (there, before)))
     (λ m. ap (order_in priority) (get_or-set_other places k j (Some place) None m))
     (cases_eq j k)
-    where
-        test : nat_eq place.priority priority ≡ false
-        test = ne_eqb place.priority priority n
-        other : order_in priority (Some place) ≡ None
-        other = rw test refl
+  where
+    test : nat_eq place.priority priority ≡ false
+    test = ne_eqb place.priority priority n
+
+    other : order_in priority (Some place) ≡ None
+    other = rw test refl
 
 below_in : (o : Option Place) (priority v next : ℕ) → ((place : Place) → o ≡ Some place → place.order < next) → order_in priority o ≡ Some v → v < next
 below_in None priority v next below e = cc e
 below_in (Some place) priority v next below e = ⊎_elim
     (λ same. (let test : nat_eq place.priority priority ≡ true = eq-eqb place.priority priority same in
-        let some : order_in priority (Some place) ≡ Some place.order = rw test refl in
-        let is : place.order ≡ v = cc (some, e) in subst (λ n. n < next) is (below place refl)))
+    let some : order_in priority (Some place) ≡ Some place.order = rw test refl in
+    let is : place.order ≡ v = cc (some, e) in subst (λ n. n < next) is (below place refl)))
     (λ other. (let test : nat_eq place.priority priority ≡ false = ne_eqb place.priority priority other in
-        let none : order_in priority (Some place) ≡ None = rw test refl in cc (none, e)))
+    let none : order_in priority (Some place) ≡ None = rw test refl in cc (none, e)))
     (cases_eq place.priority priority)
 
 -- the queues and the places as one event becomes active
 pub IsPlaced-wake : (queues : List (List ℕ)) (places : List (Option Place)) (next k : ℕ) (priority : ℕ) → IsPlaced queues places next → k < length places → at places k ≡ None → priority < length queues → IsPlaced (appended queues priority k) (set places k (Some (record { priority = priority; order = next }))) (next + 1)
 IsPlaced-wake queues places next k priority placed lt was there =
     let place : Place = record { priority = priority; order = next } in record {
-    rises = λ q. ⊎_elim
-        (λ e. subst (λ p. Rises ◌<◌ (queue_of (appended queues priority k) p) (orders p (set places k (Some place)))) e
-            (rw (get_or-set_same queues priority (queue_of queues priority ++ k ∷ []) [] there)
-            (Rises-same ◌<◌ _ (with k next (orders priority places)) _ (λ j. orders-set_same places k j place lt)
-            (Rises-push ◌<◌ _ (orders priority places) k next (placed.rises priority) (ap (order_in priority) was)
-                (λ j v h. below_in (at places j) priority v next (placed.below j) h)))))
-        (λ n. rw (get_or-set_other queues priority q (queue_of queues priority ++ k ∷ []) [] (λ e. n (sym e)))
-            (Rises-same ◌<◌ _ (orders q places) _ (λ j. orders-set_other places k j q place lt was n) (placed.rises q)))
-        (cases_eq priority q);
-    below = λ j other h. ⊎_elim
-        (λ e. (let is : at (set places k (Some place)) j ≡ Some place = ap (at (set places k (Some place))) e ∙ get_or-set_same places k (Some place) None lt in
-            let same : place ≡ other = cc (is, h) in subst (λ (p : Place). p.order < next + 1) same (omega arith)))
-        (λ n. (let low = placed.below j other (sym (get_or-set_other places k j (Some place) None n) ∙ h) in omega arith))
-        (cases_eq j k);
+      rises = λ q. ⊎_elim
+          (λ e. subst (λ p. Rises ◌<◌ (queue_of (appended queues priority k) p) (orders p (set places k (Some place)))) e
+          (rw (get_or-set_same queues priority (queue_of queues priority ++ k ∷ []) [] there)
+          (Rises-same ◌<◌ _ (with k next (orders priority places)) _ (λ j. orders-set_same places k j place lt)
+          (Rises-push ◌<◌ _ (orders priority places) k next (placed.rises priority) (ap (order_in priority) was)
+          (λ j v h. below_in (at places j) priority v next (placed.below j) h)))))
+          (λ n. rw (get_or-set_other queues priority q (queue_of queues priority ++ k ∷ []) [] (λ e. n (sym e)))
+          (Rises-same ◌<◌ _ (orders q places) _ (λ j. orders-set_other places k j q place lt was n) (placed.rises q)))
+          (cases_eq priority q);
+      below = λ j other h. ⊎_elim
+          (λ e. (let is : at (set places k (Some place)) j ≡ Some place = ap (at (set places k (Some place))) e ∙ get_or-set_same places k (Some place) None lt in
+          let same : place ≡ other = cc (is, h) in subst (λ (p : Place). p.order < next + 1) same (omega arith)))
+          (λ n. (let low = placed.below j other (sym (get_or-set_other places k j (Some place) None n) ∙ h) in omega arith))
+          (cases_eq j k);
     }
 
 all_false : (f : List ℕ → Bool) (queues : List (List ℕ)) → ((p : ℕ) → f (queue_of queues p) ≡ false) → list_any f queues ≡ false
@@ -207,11 +210,12 @@ pub CanAppend-from : (n : ℕ) (queues : List (List ℕ)) (places : List (Option
 CanAppend-from n queues places next [] placed e can = tt
 CanAppend-from n queues places next (w ∷ ws) placed e can =
     let there : w.priority < length queues = omega (arith, can.2) in (
-    all_false _ queues (λ p. Rises-absent ◌<◌ _ (orders p places) w.event (placed.rises p) (ap (order_in p) can.1)),
-    there,
-    CanAppend-from n (appended queues w.priority w.event) _ (next + 1) ws
-        (IsPlaced-wake queues places next w.event w.priority placed can.0 can.1 there)
-        (length-set queues w.priority _ ∙ e) can.3)
+      all_false _ queues (λ p. Rises-absent ◌<◌ _ (orders p places) w.event (placed.rises p) (ap (order_in p) can.1)),
+      there,
+      CanAppend-from n (appended queues w.priority w.event) _ (next + 1) ws
+          (IsPlaced-wake queues places next w.event w.priority placed can.0 can.1 there)
+          (length-set queues w.priority _ ∙ e) can.3,
+    )
 
 -- the queues and the places as some events became active
 pub IsPlaced-woken : (n : ℕ) (queues : List (List ℕ)) (places : List (Option Place)) (next : ℕ) (ws : List Waking) → IsPlaced queues places next → length queues ≡ n → CanWake n places next ws → IsPlaced (appended_all queues ws) (woken places next ws) (next + length ws)
@@ -220,8 +224,8 @@ IsPlaced-woken n queues places next (w ∷ ws) placed e can =
     let there : w.priority < length queues = omega (arith, can.2) in
     let count : next + length (w ∷ ws) ≡ (next + 1) + length ws = omega arith in
     rw count (IsPlaced-woken n (appended queues w.priority w.event) _ (next + 1) ws
-        (IsPlaced-wake queues places next w.event w.priority placed can.0 can.1 there)
-        (length-set queues w.priority _ ∙ e) can.3)
+    (IsPlaced-wake queues places next w.event w.priority placed can.0 can.1 there)
+    (length-set queues w.priority _ ∙ e) can.3)
 
 -- there are as many queues as before
 pub length-appended_all : (queues : List (List ℕ)) (ws : List Waking) → length (appended_all queues ws) ≡ length queues
@@ -276,10 +280,10 @@ front-there priority k places front none = (let bad = sym (ap (order_in priority
 -- the order number of the front is that of its place
 pub front-order : (priority k : ℕ) (places : List (Option Place)) (place : Place) (v : ℕ) → at places k ≡ Some place → orders priority places k ≡ Some v → place.order ≡ v
 front-order priority k places place v is h = split (nat_eq place.priority priority) (sym (ap (order_in priority) is) ∙ h)
-    where
-        split : (b : Bool) → cond b (Some place.order) None ≡ Some v → place.order ≡ v
-        split true q = cc q
-        split false q = cc q
+  where
+    split : (b : Bool) → cond b (Some place.order) None ≡ Some v → place.order ≡ v
+    split true q = cc q
+    split false q = cc q
 
 pub next-first : (priority end k : ℕ) (places : List (Option Place)) (place : Place) → IsFront priority places (Some k) → at places k ≡ Some place → place.order < end → IsNext priority end places (Some k)
 next-first priority end k places place front is low = (front, λ v h. (let same = front-order priority k places place v is h in omega arith))

@@ -41,8 +41,9 @@ but_with-same k j v f h = grind (arith, common_steps)
 pub Rises-same : {V : Type 0} (before : V → V → Type 0) (ks : List ℕ) (f g : ℕ → Option V) → ((j : ℕ) → g j ≡ f j) → Rises before ks f → Rises before ks g
 Rises-same before [] f g e r = λ k. e k ∙ r k
 Rises-same before (k ∷ ks) f g e r = (
-    record { value = r.0.value; has = e k ∙ r.0.has; leads = λ j w n h. r.0.leads j w n (sym (e j) ∙ h) },
-    Rises-same before ks (but k f) (but k g) (λ j. ap (λ o. cond (nat_eq j k) None o) (e j)) r.1)
+  record { value = r.0.value; has = e k ∙ r.0.has; leads = λ j w n h. r.0.leads j w n (sym (e j) ∙ h) },
+  Rises-same before ks (but k f) (but k g) (λ j. ap (λ o. cond (nat_eq j k) None o) (e j)) r.1,
+)
 
 -- a number without a value is not in the row
 pub Rises-absent : {V : Type 0} (before : V → V → Type 0) (ks : List ℕ) (f : ℕ → Option V) (k : ℕ) → Rises before ks f → f k ≡ None → list_any (λ o. o == k) ks ≡ false
@@ -59,25 +60,32 @@ Rises-without before (j ∷ ks) f k r =
     let rest = Rises-without before ks (but j f) k r.1 in
     ⊎_elim
     (λ e. (let test : nat_eq j k ≡ true = eq-eqb j k e in
-        rw test (Rises-same before _ (but k (but j f)) (but k f)
-        (λ i. sym (subst (λ m. but k (but m f) i ≡ but k f i) (sym e) (but_but-same k i f))) rest)))
+    rw test (Rises-same before _ (but k (but j f)) (but k f)
+    (λ i. sym (subst (λ m. but k (but m f) i ≡ but k f i) (sym e) (but_but-same k i f))) rest)))
     (λ n. (let test : nat_eq j k ≡ false = ne_eqb j k n in
-        rw test (
-        record { value = r.0.value; has = but-other k j f n ∙ r.0.has; leads = λ i w m h. r.0.leads i w m (but-some k i w f h) },
-        Rises-same before _ (but k (but j f)) (but j (but k f)) (λ i. but-but j k i f) rest)))
+    rw test (
+      record { value = r.0.value; has = but-other k j f n ∙ r.0.has; leads = λ i w m h. r.0.leads i w m (but-some k i w f h) },
+      Rises-same before _ (but k (but j f)) (but j (but k f)) (λ i. but-but j k i f) rest,
+    )))
     (cases_eq j k)
 
 -- a number that had no value is the last of the row, where its value comes after all others
 pub Rises-push : {V : Type 0} (before : V → V → Type 0) (ks : List ℕ) (f : ℕ → Option V) (k : ℕ) (v : V) → Rises before ks f → f k ≡ None → ((j : ℕ) (w : V) → f j ≡ Some w → before w v) → Rises before (ks ++ k ∷ []) (with k v f)
 Rises-push before [] f k v r h last = (
-    record { value = v; has = with-same k v f; leads = λ j w n e. (let none = with-other k j v f n in cc (none, e, r j)) },
-    λ j. but_with-same k j v f h ∙ r j)
+  record { value = v; has = with-same k v f; leads = λ j w n e. (let none = with-other k j v f n in cc (none, e, r j)) },
+  λ j. but_with-same k j v f h ∙ r j,
+)
 Rises-push before (j ∷ ks) f k v r h last =
     let apart : j ≢ k = λ e. (let none : f j ≡ None = ap f e ∙ h in cc (r.0.has, none)) in
     let rest = Rises-push before ks (but j f) k v r.1 (but-none j k f h) (λ i w e. last i w (but-some j i w f e)) in (
-    record { value = r.0.value; has = with-other k j v f apart ∙ r.0.has; leads = λ i w n e. ⊎_elim
-        (λ q. (let p : with k v f i ≡ Some v = subst (λ m. with k v f m ≡ Some v) (sym q) (with-same k v f) in
+      record {
+        value = r.0.value;
+        has = with-other k j v f apart ∙ r.0.has;
+        leads = λ i w n e. ⊎_elim
+            (λ q. (let p : with k v f i ≡ Some v = subst (λ m. with k v f m ≡ Some v) (sym q) (with-same k v f) in
             let same : v ≡ w = cc (p, e) in subst (λ x. before r.0.value x) same (last j r.0.value r.0.has)))
-        (λ m. r.0.leads i w n (sym (with-other k i v f m) ∙ e))
-        (cases_eq i k) },
-    Rises-same before (ks ++ k ∷ []) (with k v (but j f)) (but j (with k v f)) (λ i. but-with k j i v f apart) rest)
+            (λ m. r.0.leads i w n (sym (with-other k i v f m) ∙ e))
+            (cases_eq i k);
+      },
+      Rises-same before (ks ++ k ∷ []) (with k v (but j f)) (but j (with k v f)) (λ i. but-with k j i v f apart) rest,
+    )

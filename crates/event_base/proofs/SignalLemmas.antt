@@ -27,10 +27,10 @@ one_if b = cond b 1 0
 -- a hearing event takes an order number where the signal wakes it
 woken_needed : (number : ℕ) (e : Event) → hears number e ≡ true → one_if (is_woken_by number e) ≡ needed e
 woken_needed number e h = ap (λ b. one_if (b && not (is_active e))) h ∙ split (is_active e)
-    where
-        split : (b : Bool) → one_if (not b) ≡ cond b 0 1
-        split true = refl
-        split false = refl
+  where
+    split : (b : Bool) → one_if (not b) ≡ cond b 0 1
+    split true = refl
+    split false = refl
 
 deaf_needed : (number : ℕ) (e : Event) → hears number e ≡ false → one_if (is_woken_by number e) ≡ 0
 deaf_needed number e h = ap (λ b. one_if (b && not (is_active e))) h
@@ -49,22 +49,22 @@ signalled-risen number count (e ∷ es) done next =
     let later = signalled number count (next + one_if (is_woken_by number e)) es in
     ⊎_elim
     (λ heard. (let more : next + needed e ≡ next + one_if (is_woken_by number e) = ap (λ n. next + n) (sym (woken_needed number e heard)) in
-        ap (λ b. risen 8 count count (done ++ e ∷ es) next (cond b (k ∷ hs) hs)) heard
-        ∙ ap (λ x. risen 8 count count (set (done ++ e ∷ es) k (activated 8 next count count x)) (next + needed x) hs) (seam done e es)
-        ∙ ap (λ xs. risen 8 count count xs (next + needed e) hs) (set-append_seam done e es new ∙ shifted done new es)
-        ∙ ap (λ n. risen 8 count count ((done ++ new ∷ []) ++ es) (next + needed e) (hearing number n es)) (sym (length_push done new))
-        ∙ signalled-risen number count es (done ++ new ∷ []) (next + needed e)
-        ∙ sym (shifted done new (signalled number count (next + needed e) es))
-        ∙ ap (λ m. done ++ new ∷ signalled number count m es) more
-        ∙ ap (λ b. done ++ cond b new e ∷ later) (sym heard)))
+    ap (λ b. risen 8 count count (done ++ e ∷ es) next (cond b (k ∷ hs) hs)) heard
+    ∙ ap (λ x. risen 8 count count (set (done ++ e ∷ es) k (activated 8 next count count x)) (next + needed x) hs) (seam done e es)
+    ∙ ap (λ xs. risen 8 count count xs (next + needed e) hs) (set-append_seam done e es new ∙ shifted done new es)
+    ∙ ap (λ n. risen 8 count count ((done ++ new ∷ []) ++ es) (next + needed e) (hearing number n es)) (sym (length_push done new))
+    ∙ signalled-risen number count es (done ++ new ∷ []) (next + needed e)
+    ∙ sym (shifted done new (signalled number count (next + needed e) es))
+    ∙ ap (λ m. done ++ new ∷ signalled number count m es) more
+    ∙ ap (λ b. done ++ cond b new e ∷ later) (sym heard)))
     (λ deaf. (let same : next ≡ next + one_if (is_woken_by number e) = sym (ap (λ n. next + n) (deaf_needed number e deaf) ∙ add-zero next) in
-        ap (λ b. risen 8 count count (done ++ e ∷ es) next (cond b (k ∷ hs) hs)) deaf
-        ∙ ap (λ xs. risen 8 count count xs next hs) (shifted done e es)
-        ∙ ap (λ n. risen 8 count count ((done ++ e ∷ []) ++ es) next (hearing number n es)) (sym (length_push done e))
-        ∙ signalled-risen number count es (done ++ e ∷ []) next
-        ∙ sym (shifted done e (signalled number count next es))
-        ∙ ap (λ m. done ++ e ∷ signalled number count m es) same
-        ∙ ap (λ b. done ++ cond b new e ∷ later) (sym deaf)))
+    ap (λ b. risen 8 count count (done ++ e ∷ es) next (cond b (k ∷ hs) hs)) deaf
+    ∙ ap (λ xs. risen 8 count count xs next hs) (shifted done e es)
+    ∙ ap (λ n. risen 8 count count ((done ++ e ∷ []) ++ es) next (hearing number n es)) (sym (length_push done e))
+    ∙ signalled-risen number count es (done ++ e ∷ []) next
+    ∙ sym (shifted done e (signalled number count next es))
+    ∙ ap (λ m. done ++ e ∷ signalled number count m es) same
+    ∙ ap (λ b. done ++ cond b new e ∷ later) (sym deaf)))
     (cases_Bool (hears number e))
 
 -- numbers before the first are not among those that hear
@@ -102,25 +102,25 @@ hearing-wakers number (e ∷ es) done =
     let behind : Bool → ℕ = λ b. length (cond b ws (record { event = k; priority = (event_of (done ++ e ∷ es) k).priority } ∷ ws)) in
     ⊎_elim
     (λ heard. (let one : one_if (is_woken_by number e) ≡ needed e = woken_needed number e heard in
-        let start : length (wakers (done ++ e ∷ es) (hearing number k (e ∷ es))) ≡ behind (is_active e) = ap (λ b. length (wakers (done ++ e ∷ es) (cond b (k ∷ hs) hs))) heard ∙ ap (λ (x : Event). behind (is_active x)) (seam done e es) in
-        start ∙ ⊎_elim
-        (λ active. (let none : needed e ≡ 0 = ap (λ b. cond b 0 1) active in
-            ap behind active ∙ here ∙ omega (arith, count, one, none)))
-        (λ fresh. (let some : needed e ≡ 1 = ap (λ b. cond b 0 1) fresh in
-            let total : length ws + 1 ≡ count_by (is_woken_by number) (e ∷ es) = omega (arith, count, one, some, here) in
-            ap behind fresh ∙ sym (add-one (length ws)) ∙ total))
-        (cases_Bool (is_active e))))
+    let start : length (wakers (done ++ e ∷ es) (hearing number k (e ∷ es))) ≡ behind (is_active e) = ap (λ b. length (wakers (done ++ e ∷ es) (cond b (k ∷ hs) hs))) heard ∙ ap (λ (x : Event). behind (is_active x)) (seam done e es) in
+    start ∙ ⊎_elim
+    (λ active. (let none : needed e ≡ 0 = ap (λ b. cond b 0 1) active in
+    ap behind active ∙ here ∙ omega (arith, count, one, none)))
+    (λ fresh. (let some : needed e ≡ 1 = ap (λ b. cond b 0 1) fresh in
+    let total : length ws + 1 ≡ count_by (is_woken_by number) (e ∷ es) = omega (arith, count, one, some, here) in
+    ap behind fresh ∙ sym (add-one (length ws)) ∙ total))
+    (cases_Bool (is_active e))))
     (λ deaf. (let none : one_if (is_woken_by number e) ≡ 0 = deaf_needed number e deaf in
-        ap (λ b. length (wakers (done ++ e ∷ es) (cond b (k ∷ hs) hs))) deaf ∙ here ∙ omega (arith, count, none)))
+    ap (λ b. length (wakers (done ++ e ∷ es) (cond b (k ∷ hs) hs))) deaf ∙ here ∙ omega (arith, count, none)))
     (cases_Bool (hears number e))
 
 -- the counts of a hearing event fit
 counts_fit : (number count : ℕ) (e : Event) → hears number e ≡ true → overflows number count e ≡ false → ForSome e.active (λ (a : Activation). a.count + count < 2 ^ 64)
 counts_fit number count e heard h = split e.active (rw heard at h)
-    where
-        split : (o : Option Activation) → (true && option_map_or (λ (a : Activation). not (nat_lt (a.count + count) (2 ^ 64))) o false) ≡ false → ForSome o (λ (a : Activation). a.count + count < 2 ^ 64)
-        split None q = search rules
-        split (Some a) q = (let fits = ltb-true (a.count + count) (2 ^ 64) (not-false (nat_lt (a.count + count) (2 ^ 64)) q) in search rules)
+  where
+    split : (o : Option Activation) → (true && option_map_or (λ (a : Activation). not (nat_lt (a.count + count) (2 ^ 64))) o false) ≡ false → ForSome o (λ (a : Activation). a.count + count < 2 ^ 64)
+    split None q = search rules
+    split (Some a) q = (let fits = ltb-true (a.count + count) (2 ^ 64) (not-false (nat_lt (a.count + count) (2 ^ 64)) q) in search rules)
 
 -- the counts and the order numbers fit, one after another
 pub hearing-can : (number count : ℕ) (rest done : List Event) (next : ℕ) → next + count_by (is_woken_by number) rest < 2 ^ 64 → list_any (overflows number count) rest ≡ false → CanRise 8 count count (done ++ rest) next (hearing number (length done) rest)
@@ -133,19 +133,19 @@ hearing-can number count (e ∷ es) done next low fits =
     let parts = not_first (overflows number count e) (list_any (overflows number count) es) fits in
     ⊎_elim
     (λ heard. (let one : one_if (is_woken_by number e) ≡ needed e = woken_needed number e heard in
-        let rest = hearing-can number count es (done ++ new ∷ []) (next + needed e) (omega (arith, one, more, low)) parts.1 in
-        let there : CanRise 8 count count (set (done ++ e ∷ es) k new) (next + needed e) hs =
-            subst (λ xs. CanRise 8 count count xs (next + needed e) hs) (sym (set-append_seam done e es new ∙ shifted done new es))
-            (subst (λ n. CanRise 8 count count ((done ++ new ∷ []) ++ es) (next + needed e) (hearing number n es)) (length_push done new) rest) in
-        let size : k < length (done ++ e ∷ es) = (let l = length-append done (e ∷ es) in omega arith) in
-        let now : (λ (x : Event). (k < length (done ++ e ∷ es)) × (0 < count → ForSome x.active (λ (a : Activation). a.count + count < 2 ^ 64)) × (next + needed x < 2 ^ 64) × CanRise 8 count count (set (done ++ e ∷ es) k (activated 8 next count count x)) (next + needed x) hs) e = (size, λ some. counts_fit number count e heard parts.0, omega (arith, one, more, low), there) in
-        let all : CanRise 8 count count (done ++ e ∷ es) next (k ∷ hs) =
-            subst (λ (x : Event). (k < length (done ++ e ∷ es)) × (0 < count → ForSome x.active (λ (a : Activation). a.count + count < 2 ^ 64)) × (next + needed x < 2 ^ 64) × CanRise 8 count count (set (done ++ e ∷ es) k (activated 8 next count count x)) (next + needed x) hs) (sym (seam done e es)) now in
-        subst (λ b. CanRise 8 count count (done ++ e ∷ es) next (cond b (k ∷ hs) hs)) (sym heard) all))
+    let rest = hearing-can number count es (done ++ new ∷ []) (next + needed e) (omega (arith, one, more, low)) parts.1 in
+    let there : CanRise 8 count count (set (done ++ e ∷ es) k new) (next + needed e) hs =
+    subst (λ xs. CanRise 8 count count xs (next + needed e) hs) (sym (set-append_seam done e es new ∙ shifted done new es))
+    (subst (λ n. CanRise 8 count count ((done ++ new ∷ []) ++ es) (next + needed e) (hearing number n es)) (length_push done new) rest) in
+    let size : k < length (done ++ e ∷ es) = (let l = length-append done (e ∷ es) in omega arith) in
+    let now : (λ (x : Event). (k < length (done ++ e ∷ es)) × (0 < count → ForSome x.active (λ (a : Activation). a.count + count < 2 ^ 64)) × (next + needed x < 2 ^ 64) × CanRise 8 count count (set (done ++ e ∷ es) k (activated 8 next count count x)) (next + needed x) hs) e = (size, λ some. counts_fit number count e heard parts.0, omega (arith, one, more, low), there) in
+    let all : CanRise 8 count count (done ++ e ∷ es) next (k ∷ hs) =
+    subst (λ (x : Event). (k < length (done ++ e ∷ es)) × (0 < count → ForSome x.active (λ (a : Activation). a.count + count < 2 ^ 64)) × (next + needed x < 2 ^ 64) × CanRise 8 count count (set (done ++ e ∷ es) k (activated 8 next count count x)) (next + needed x) hs) (sym (seam done e es)) now in
+    subst (λ b. CanRise 8 count count (done ++ e ∷ es) next (cond b (k ∷ hs) hs)) (sym heard) all))
     (λ deaf. (let none : one_if (is_woken_by number e) ≡ 0 = deaf_needed number e deaf in
-        let rest = hearing-can number count es (done ++ e ∷ []) next (omega (arith, none, more, low)) parts.1 in
-        let there : CanRise 8 count count (done ++ e ∷ es) next hs =
-            subst (λ xs. CanRise 8 count count xs next hs) (sym (shifted done e es))
-            (subst (λ n. CanRise 8 count count ((done ++ e ∷ []) ++ es) next (hearing number n es)) (length_push done e) rest) in
-        subst (λ b. CanRise 8 count count (done ++ e ∷ es) next (cond b (k ∷ hs) hs)) (sym deaf) there))
+    let rest = hearing-can number count es (done ++ e ∷ []) next (omega (arith, none, more, low)) parts.1 in
+    let there : CanRise 8 count count (done ++ e ∷ es) next hs =
+    subst (λ xs. CanRise 8 count count xs next hs) (sym (shifted done e es))
+    (subst (λ n. CanRise 8 count count ((done ++ e ∷ []) ++ es) next (hearing number n es)) (length_push done e) rest) in
+    subst (λ b. CanRise 8 count count (done ++ e ∷ es) next (cond b (k ∷ hs) hs)) (sym deaf) there))
     (cases_Bool (hears number e))

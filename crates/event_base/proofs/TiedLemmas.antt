@@ -54,7 +54,7 @@ slice_get-pushed (x ∷ xs) y = slice_get-pushed xs y
 pub IsTied-set : {V : Type 0} (value : Event → Option V) (values : List (Option V)) (events : List Event) (k : ℕ) (e new : Event) (v : Option V) → IsTied value values events → length events ≤ length values → slice_get events k ≡ Some e → value new ≡ v → IsTied value (set values k v) (set events k new)
 IsTied-set value values events k e new v tied room is same j = ⊎_elim
     (λ q. ap (at (set values k v)) q ∙ get_or-set_same values k v None (let lt = slice_get-within events k e is in omega arith) ∙ sym same
-        ∙ sym (ap (option_and_then value) (ap (slice_get (set events k new)) q ∙ slice_get-set_same events k e new is)))
+    ∙ sym (ap (option_and_then value) (ap (slice_get (set events k new)) q ∙ slice_get-set_same events k e new is)))
     (λ n. get_or-set_other values k j v None n ∙ tied j ∙ ap (option_and_then value) (sym (slice_get-set_other events k j new n)))
     (cases_eq j k)
 
@@ -157,7 +157,13 @@ AreKept-place events deadlines ready k e new p kept is moment place low = record
 -- what holds beside the events does not depend on the last order number of adding
 pub AreKept-last : (events : List Event) (moments : List (Option Moment)) (before last : ℕ) (ready : ReadyValue) → AreKept events (record { moments = moments; last = before }) ready → AreKept events (record { moments = moments; last = last }) ready
 AreKept-last events moments before last ready kept = record {
-  placed = kept.placed; timed = kept.timed; places = kept.places; moments = kept.moments; few = kept.few; some = kept.some; within = kept.within;
+  placed = kept.placed;
+  timed = kept.timed;
+  places = kept.places;
+  moments = kept.moments;
+  few = kept.few;
+  some = kept.some;
+  within = kept.within;
 }
 
 -- what holds beside the events goes by the moments alone
@@ -167,5 +173,7 @@ AreKept-as events deadlines others ready same kept = record {
   timed = subst (λ ms. IsTied moment_of ms events) (sym same) kept.timed;
   places = kept.places;
   moments = subst (λ (ms : List (Option Moment)). length events ≤ length ms) (sym same) kept.moments;
-  few = kept.few; some = kept.some; within = kept.within;
+  few = kept.few;
+  some = kept.some;
+  within = kept.within;
 }

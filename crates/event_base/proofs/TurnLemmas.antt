@@ -61,26 +61,27 @@ if_true false x y z h = refl
 -- a settled event stays as it is
 settled_stays : (time next : ℕ) (events : List Event) (e : Event) → IsSettled time e → timed_out time next events e ≡ e
 settled_stays time next events e settled = go e.timeout settled
-    where
-        same : (n : ℕ) → HasFlag e.active → activated 1 n 1 0 e ≡ e
-        same n h = ap (λ (a : Option Activation). record e { active = a }) (same_active e.active n h)
-        go : (o : Option Timeout) → (option_map_or (λ (t : Timeout). nat_le t.deadline time) o false ≡ false) ⊎ HasFlag e.active
-            → option_map_or (λ (t : Timeout). cond (nat_le t.deadline time) (activated 1 (next + count_by (wakes_before time t) events) 1 0 e) e) o e ≡ e
-        go None h = refl
-        go (Some t) h = ⊎_elim
-            (λ late. ap (λ b. cond b (activated 1 (next + count_by (wakes_before time t) events) 1 0 e) e) late)
-            (λ flag. ap (λ x. cond (nat_le t.deadline time) x e) (same (next + count_by (wakes_before time t) events) flag) ∙ either_same (nat_le t.deadline time) e)
-            h
+  where
+    same : (n : ℕ) → HasFlag e.active → activated 1 n 1 0 e ≡ e
+    same n h = ap (λ (a : Option Activation). record e { active = a }) (same_active e.active n h)
+
+    go : (o : Option Timeout) → (option_map_or (λ (t : Timeout). nat_le t.deadline time) o false ≡ false) ⊎ HasFlag e.active
+        → option_map_or (λ (t : Timeout). cond (nat_le t.deadline time) (activated 1 (next + count_by (wakes_before time t) events) 1 0 e) e) o e ≡ e
+    go None h = refl
+    go (Some t) h = ⊎_elim
+        (λ late. ap (λ b. cond b (activated 1 (next + count_by (wakes_before time t) events) 1 0 e) e) late)
+        (λ flag. ap (λ x. cond (nat_le t.deadline time) x e) (same (next + count_by (wakes_before time t) events) flag) ∙ either_same (nat_le t.deadline time) e)
+        h
 
 settled_sleeps : (time : ℕ) (e : Event) → IsSettled time e → wakes time e ≡ false
 settled_sleeps time e settled = ⊎_elim
     (λ late. and_left (is_due time e) (not (is_active e)) late)
     (λ flag. and_right (is_due time e) (not (is_active e)) (ap not (active_of e.active flag)))
     settled
-    where
-        active_of : (o : Option Activation) → HasFlag o → is_some o ≡ true
-        active_of None h = elim h [ ]
-        active_of (Some a) h = refl
+  where
+    active_of : (o : Option Activation) → HasFlag o → is_some o ≡ true
+    active_of None h = elim h [ ]
+    active_of (Some a) h = refl
 
 -- The events that are still to get the flag of a timeout have a moment that is due; a turn changes no other.
 pub record IsOpen (time : ℕ) (events : List Event) (g : ℕ → Option Moment) : Type 0 where
@@ -92,16 +93,16 @@ IsOpen-after : (time : ℕ) (events : List Event) (g : ℕ → Option Moment) (k
 IsOpen-after time events g k next is lt =
     let new = activated 1 next 1 0 (event_of events k) in
     let size = length-set events k new in record {
-    open_ones = λ j m h. (let apart : j ≡ k → ⊥ = λ q. (let none : but k g j ≡ None = ap (but k g) q ∙ but-same k g in let bad = sym h ∙ none in cc bad) in
-        let was = is.open_ones j m (but-some k j m g h) in
-        let same : event_of (set events k new) j ≡ event_of events j = get_or-set_other events k j new (made false None 0) apart in
-        (rw size was.0, ap moment_of same ∙ was.1, was.2));
-    shut = λ j within h. ⊎_elim
-        (λ q. subst (λ i. IsSettled time (event_of (set events k new) i)) (sym q)
-            (subst (IsSettled time) (sym (get_or-set_same events k new (made false None 0) lt)) (inr (flagged (event_of events k).active next))))
-        (λ n. subst (IsSettled time) (sym (get_or-set_other events k j new (made false None 0) n))
-            (is.shut j (let s = size in omega arith) (sym (but-other k j g n) ∙ h)))
-        (cases_eq j k);
+      open_ones = λ j m h. (let apart : j ≡ k → ⊥ = λ q. (let none : but k g j ≡ None = ap (but k g) q ∙ but-same k g in let bad = sym h ∙ none in cc bad) in
+          let was = is.open_ones j m (but-some k j m g h) in
+          let same : event_of (set events k new) j ≡ event_of events j = get_or-set_other events k j new (made false None 0) apart in
+          (rw size was.0, ap moment_of same ∙ was.1, was.2));
+      shut = λ j within h. ⊎_elim
+          (λ q. subst (λ i. IsSettled time (event_of (set events k new) i)) (sym q)
+          (subst (IsSettled time) (sym (get_or-set_same events k new (made false None 0) lt)) (inr (flagged (event_of events k).active next))))
+          (λ n. subst (IsSettled time) (sym (get_or-set_other events k j new (made false None 0) n))
+          (is.shut j (let s = size in omega arith) (sym (but-other k j g n) ∙ h)))
+          (cases_eq j k);
     }
 
 moment_parts : (o : Option Timeout) (m : Moment) (P : Timeout → Type 0) → option_map (λ (t : Timeout). record { deadline = t.deadline; order = t.order }) o ≡ Some m → ((t : Timeout) → o ≡ Some t → t.deadline ≡ m.deadline → t.order ≡ m.order → P t) → (t : Timeout) × (o ≡ Some t) × P t
@@ -120,8 +121,8 @@ is_before : (t u : Timeout) → t.deadline ≤ u.deadline → (t.deadline ≡ u.
 is_before t u first order = ⊎_elim
     (λ less. ap (λ b. b || (nat_eq t.deadline u.deadline && nat_lt t.order u.order)) (lt-ltb t.deadline u.deadline less))
     (λ past. (let same : t.deadline ≡ u.deadline = omega arith in
-        ap (λ b. b || (nat_eq t.deadline u.deadline && nat_lt t.order u.order)) (le-ltb t.deadline u.deadline past)
-        ∙ ap (λ b. b && nat_lt t.order u.order) (eq-eqb t.deadline u.deadline same) ∙ lt-ltb t.order u.order (order same)))
+    ap (λ b. b || (nat_eq t.deadline u.deadline && nat_lt t.order u.order)) (le-ltb t.deadline u.deadline past)
+    ∙ ap (λ b. b && nat_lt t.order u.order) (eq-eqb t.deadline u.deadline same) ∙ lt-ltb t.order u.order (order same)))
     (cases_lt t.deadline u.deadline)
 
 due_of : (o : Option Timeout) (m : Moment) (time : ℕ) → option_map (λ (t : Timeout). record { deadline = t.deadline; order = t.order }) o ≡ Some m → m.deadline ≤ time → option_map_or (λ (t : Timeout). nat_le t.deadline time) o false ≡ true
@@ -132,10 +133,10 @@ due_of (Some t) m time e h = (let is : m ≡ (record { deadline = t.deadline; or
 -- an event that wakes is one that is still to get the flag
 awake : (time : ℕ) (events : List Event) (g : ℕ → Option Moment) (i : ℕ) → IsOpen time events g → i < length events → wakes time (event_of events i) ≡ true → (m : Moment) × (g i ≡ Some m)
 awake time events g i is lt wakes_up = go (g i) refl
-    where
-        go : (o : Option Moment) → g i ≡ o → (m : Moment) × (g i ≡ Some m)
-        go None q = absurd (true≢false (sym wakes_up ∙ settled_sleeps time (event_of events i) (is.shut i lt q)))
-        go (Some m) q = (m, q)
+  where
+    go : (o : Option Moment) → g i ≡ o → (m : Moment) × (g i ≡ Some m)
+    go None q = absurd (true≢false (sym wakes_up ∙ settled_sleeps time (event_of events i) (is.shut i lt q)))
+    go (Some m) q = (m, q)
 
 -- no event wakes where all that count are settled
 count_none : (p : Event → Bool) (events : List Event) → ((i : ℕ) → i < length events → p (event_of events i) ≡ false) → count_by p events ≡ 0
@@ -150,18 +151,18 @@ one_if b = cond b 1 0
 
 needed_if : (time : ℕ) (e : Event) → is_due time e ≡ true → one_if (wakes time e) ≡ needed e
 needed_if time e h = ap (λ b. one_if (b && not (is_active e))) h ∙ split (is_active e)
-    where
-        split : (b : Bool) → one_if (not b) ≡ cond b 0 1
-        split true = refl
-        split false = refl
+  where
+    split : (b : Bool) → one_if (not b) ≡ cond b 0 1
+    split true = refl
+    split false = refl
 
 -- the timeout of an event that is still to get the flag
 timeout_of : (time : ℕ) (events : List Event) (g : ℕ → Option Moment) (j : ℕ) (m : Moment) → IsOpen time events g → g j ≡ Some m → (t : Timeout) × ((event_of events j).timeout ≡ Some t) × (mom t ≡ m)
 timeout_of time events g j m is h = go (event_of events j).timeout refl
-    where
-        go : (o : Option Timeout) → (event_of events j).timeout ≡ o → (t : Timeout) × ((event_of events j).timeout ≡ Some t) × (mom t ≡ m)
-        go None q = (let bad : None ≡ Some m = sym (ap (option_map mom) q) ∙ (is.open_ones j m h).1 in cc bad)
-        go (Some t) q = (let same : Some (mom t) ≡ Some m = sym (ap (option_map mom) q) ∙ (is.open_ones j m h).1 in (t, q, (let r : mom t ≡ m = cc same in r)))
+  where
+    go : (o : Option Timeout) → (event_of events j).timeout ≡ o → (t : Timeout) × ((event_of events j).timeout ≡ Some t) × (mom t ≡ m)
+    go None q = (let bad : None ≡ Some m = sym (ap (option_map mom) q) ∙ (is.open_ones j m h).1 in cc bad)
+    go (Some t) q = (let same : Some (mom t) ≡ Some m = sym (ap (option_map mom) q) ∙ (is.open_ones j m h).1 in (t, q, (let r : mom t ≡ m = cc same in r)))
 
 -- an event that wakes comes behind the next one, or is that one
 behind : (time : ℕ) (events : List Event) (g : ℕ → Option Moment) (k i : ℕ) (t u : Timeout) → IsOpen time events g → IsLeading IsSooner k g → (event_of events k).timeout ≡ Some t → (event_of events i).timeout ≡ Some u → i < length events → wakes time (event_of events i) ≡ true → (i ≡ k → ⊥) → IsSooner (mom t) (mom u)
@@ -181,35 +182,37 @@ none_before time events g k t is first hk = count_none (wakes_before time t) eve
     (λ wakes_up. and_right (wakes time (event_of events i)) (option_map_or (λ (u : Timeout). comes_before u t) (event_of events i).timeout false) (go i lt wakes_up (event_of events i).timeout refl))
     (λ sleeps. and_left (wakes time (event_of events i)) (option_map_or (λ (u : Timeout). comes_before u t) (event_of events i).timeout false) sleeps)
     (cases_Bool (wakes time (event_of events i))))
-    where
-        go : (i : ℕ) → i < length events → wakes time (event_of events i) ≡ true → (o : Option Timeout) → (event_of events i).timeout ≡ o → option_map_or (λ (u : Timeout). comes_before u t) o false ≡ false
-        go i lt wakes_up None q = refl
-        go i lt wakes_up (Some u) q = ⊎_elim
-            (λ same. (let us : t ≡ u = (let r = sym hk ∙ sym (ap (λ j. (event_of events j).timeout) same) ∙ q in cc r) in
-                subst (λ (x : Timeout). comes_before x t ≡ false) us (not_before t t (omega arith) (λ h. omega arith))))
-            (λ n. (let sooner = behind time events g k i t u is first hk q lt wakes_up n in
-                not_before t u sooner.0 (λ h. (let less = sooner.1 h in omega arith))))
-            (cases_eq i k)
+  where
+    go : (i : ℕ) → i < length events → wakes time (event_of events i) ≡ true → (o : Option Timeout) → (event_of events i).timeout ≡ o → option_map_or (λ (u : Timeout). comes_before u t) o false ≡ false
+    go i lt wakes_up None q = refl
+    go i lt wakes_up (Some u) q = ⊎_elim
+        (λ same. (let us : t ≡ u = (let r = sym hk ∙ sym (ap (λ j. (event_of events j).timeout) same) ∙ q in cc r) in
+        subst (λ (x : Timeout). comes_before x t ≡ false) us (not_before t t (omega arith) (λ h. omega arith))))
+        (λ n. (let sooner = behind time events g k i t u is first hk q lt wakes_up n in
+        not_before t u sooner.0 (λ h. (let less = sooner.1 h in omega arith))))
+        (cases_eq i k)
 
 -- the event that is next gets the flag with the next order number
 next_rises : (time next : ℕ) (events : List Event) (g : ℕ → Option Moment) (k : ℕ) → IsOpen time events g → IsLeading IsSooner k g → timed_out time next events (event_of events k) ≡ activated 1 next 1 0 (event_of events k)
 next_rises time next events g k is first = go (event_of events k).timeout refl
-    where
-        e : Event
-        e = event_of events k
-        own : (t : Timeout) → e.timeout ≡ Some t → activated 1 (next + count_by (wakes_before time t) events) 1 0 e ≡ activated 1 next 1 0 e
-        own t h = ⊎_elim
-            (λ active. ap (λ (a : Activation). record e { active = Some a }) (order_free e.active (next + count_by (wakes_before time t) events) next active))
-            (λ fresh. ap (λ n. activated 1 n 1 0 e) (ap (λ c. next + c) (none_before time events g k t is first h) ∙ add-zero next))
-            (cases_Bool (is_active e))
-        go : (o : Option Timeout) → e.timeout ≡ o → option_map_or (λ (t : Timeout). cond (nat_le t.deadline time) (activated 1 (next + count_by (wakes_before time t) events) 1 0 e) e) o e ≡ activated 1 next 1 0 e
-        go None q = (let bad : None ≡ Some first.value = sym (ap (option_map mom) q) ∙ (is.open_ones k first.value first.has).1 in cc bad)
-        go (Some t) q =
-            let same : Some (mom t) ≡ Some first.value = sym (ap (option_map mom) q) ∙ (is.open_ones k first.value first.has).1 in
-            let value : mom t ≡ first.value = cc same in
-            let equal = ap (λ (x : Moment). x.deadline) value in
-            let low = (is.open_ones k first.value first.has).2 in
-            ap (λ b. cond b (activated 1 (next + count_by (wakes_before time t) events) 1 0 e) e) (le-leb t.deadline time (omega arith)) ∙ own t q
+  where
+    e : Event
+    e = event_of events k
+
+    own : (t : Timeout) → e.timeout ≡ Some t → activated 1 (next + count_by (wakes_before time t) events) 1 0 e ≡ activated 1 next 1 0 e
+    own t h = ⊎_elim
+        (λ active. ap (λ (a : Activation). record e { active = Some a }) (order_free e.active (next + count_by (wakes_before time t) events) next active))
+        (λ fresh. ap (λ n. activated 1 n 1 0 e) (ap (λ c. next + c) (none_before time events g k t is first h) ∙ add-zero next))
+        (cases_Bool (is_active e))
+
+    go : (o : Option Timeout) → e.timeout ≡ o → option_map_or (λ (t : Timeout). cond (nat_le t.deadline time) (activated 1 (next + count_by (wakes_before time t) events) 1 0 e) e) o e ≡ activated 1 next 1 0 e
+    go None q = (let bad : None ≡ Some first.value = sym (ap (option_map mom) q) ∙ (is.open_ones k first.value first.has).1 in cc bad)
+    go (Some t) q =
+        let same : Some (mom t) ≡ Some first.value = sym (ap (option_map mom) q) ∙ (is.open_ones k first.value first.has).1 in
+        let value : mom t ≡ first.value = cc same in
+        let equal = ap (λ (x : Moment). x.deadline) value in
+        let low = (is.open_ones k first.value first.has).2 in
+        ap (λ b. cond b (activated 1 (next + count_by (wakes_before time t) events) 1 0 e) e) (le-leb t.deadline time (omega arith)) ∙ own t q
 
 -- the next event is due
 next_due : (time : ℕ) (events : List Event) (g : ℕ → Option Moment) (k : ℕ) → IsOpen time events g → IsLeading IsSooner k g → is_due time (event_of events k) ≡ true
@@ -236,37 +239,41 @@ order_after time next events g k i u is first n lt hi wakes_up =
     let gone : one_if (wakes_before time u new) ≡ 0 = ap one_if (and_left (wakes time new) (option_map_or (λ (t : Timeout). comes_before t u) new.timeout false) (and_right (is_due time new) false refl)) in
     let own = timeout_of time events g k first.value is first.has in
     let ahead : option_map_or (λ (t : Timeout). comes_before t u) e.timeout false ≡ true = ap (λ (o : Option Timeout). option_map_or (λ (t : Timeout). comes_before t u) o false) own.1
-        ∙ (let sooner = behind time events g k i own.0 u is first own.1 hi lt wakes_up n in is_before own.0 u sooner.0 sooner.1) in
+    ∙ (let sooner = behind time events g k i own.0 u is first own.1 hi lt wakes_up n in is_before own.0 u sooner.0 sooner.1) in
     let was : one_if (wakes_before time u e) ≡ needed e = ap (λ b. one_if (wakes time e && b)) ahead ∙ both (wakes time e) ∙ needed_if time e (next_due time events g k is first) in
     omega (arith, sum, gone, was)
-    where
-        both : (b : Bool) → one_if (b && true) ≡ one_if b
-        both true = refl
-        both false = refl
+  where
+    both : (b : Bool) → one_if (b && true) ≡ one_if b
+    both true = refl
+    both false = refl
 
 -- the events behind the next one become what they would have become
 others_rise : (time next : ℕ) (events : List Event) (g : ℕ → Option Moment) (k i : ℕ) → IsOpen time events g → IsLeading IsSooner k g → (i ≡ k → ⊥) → i < length events
     → timed_out time (next + needed (event_of events k)) (set events k (activated 1 next 1 0 (event_of events k))) (event_of events i) ≡ timed_out time next events (event_of events i)
 others_rise time next events g k i is first n lt = go (event_of events i).timeout refl
-    where
-        after : List Event
-        after = set events k (activated 1 next 1 0 (event_of events k))
-        later : ℕ
-        later = next + needed (event_of events k)
-        x : Event
-        x = event_of events i
-        own : (u : Timeout) → x.timeout ≡ Some u → nat_le u.deadline time ≡ true → activated 1 (later + count_by (wakes_before time u) after) 1 0 x ≡ activated 1 (next + count_by (wakes_before time u) events) 1 0 x
-        own u h due = ⊎_elim
-            (λ active. ap (λ (a : Activation). record x { active = Some a }) (order_free x.active _ _ active))
-            (λ fresh. (let is_now : is_due time x ≡ true = ap (λ (o : Option Timeout). option_map_or (λ (t : Timeout). nat_le t.deadline time) o false) h ∙ due in
-                let wakes_up : wakes time x ≡ true = ap (λ b. b && not (is_active x)) is_now ∙ ap not fresh in
-                ap (λ m. activated 1 m 1 0 x) (order_after time next events g k i u is first n lt h wakes_up)))
-            (cases_Bool (is_active x))
-        go : (o : Option Timeout) → x.timeout ≡ o
-            → option_map_or (λ (t : Timeout). cond (nat_le t.deadline time) (activated 1 (later + count_by (wakes_before time t) after) 1 0 x) x) o x
-            ≡ option_map_or (λ (t : Timeout). cond (nat_le t.deadline time) (activated 1 (next + count_by (wakes_before time t) events) 1 0 x) x) o x
-        go None q = refl
-        go (Some u) q = if_true (nat_le u.deadline time) _ _ x (own u q)
+  where
+    after : List Event
+    after = set events k (activated 1 next 1 0 (event_of events k))
+
+    later : ℕ
+    later = next + needed (event_of events k)
+
+    x : Event
+    x = event_of events i
+
+    own : (u : Timeout) → x.timeout ≡ Some u → nat_le u.deadline time ≡ true → activated 1 (later + count_by (wakes_before time u) after) 1 0 x ≡ activated 1 (next + count_by (wakes_before time u) events) 1 0 x
+    own u h due = ⊎_elim
+        (λ active. ap (λ (a : Activation). record x { active = Some a }) (order_free x.active _ _ active))
+        (λ fresh. (let is_now : is_due time x ≡ true = ap (λ (o : Option Timeout). option_map_or (λ (t : Timeout). nat_le t.deadline time) o false) h ∙ due in
+        let wakes_up : wakes time x ≡ true = ap (λ b. b && not (is_active x)) is_now ∙ ap not fresh in
+        ap (λ m. activated 1 m 1 0 x) (order_after time next events g k i u is first n lt h wakes_up)))
+        (cases_Bool (is_active x))
+
+    go : (o : Option Timeout) → x.timeout ≡ o
+        → option_map_or (λ (t : Timeout). cond (nat_le t.deadline time) (activated 1 (later + count_by (wakes_before time t) after) 1 0 x) x) o x
+        ≡ option_map_or (λ (t : Timeout). cond (nat_le t.deadline time) (activated 1 (next + count_by (wakes_before time t) events) 1 0 x) x) o x
+    go None q = refl
+    go (Some u) q = if_true (nat_le u.deadline time) _ _ x (own u q)
 
 -- one event gets the flag, and the rest becomes what all would have become
 step : (time next : ℕ) (events : List Event) (g : ℕ → Option Moment) (k : ℕ) → IsOpen time events g → IsLeading IsSooner k g
@@ -281,14 +288,14 @@ step time next events g k is first =
     ext_get_or nobody (map (timed_out time later after) after) (map (timed_out time next events) events)
     (length-map after (timed_out time later after) ∙ size ∙ sym (length-map events (timed_out time next events)))
     (λ i lt. (let low : i < length after = (let l = length-map after (timed_out time later after) in omega arith) in
-        let low_before : i < length events = (let s = size in omega arith) in
-        get_or-map (timed_out time later after) after i nobody nobody low ∙ ⊎_elim
-        (λ q. ap (λ j. timed_out time later after (event_of after j)) q ∙ ap (timed_out time later after) (get_or-set_same events k new nobody within)
-            ∙ settled_stays time later after new (inr (flagged (event_of events k).active next))
-            ∙ sym (next_rises time next events g k is first) ∙ sym (ap (λ j. timed_out time next events (event_of events j)) q))
-        (λ n. ap (timed_out time later after) (get_or-set_other events k i new nobody n) ∙ others_rise time next events g k i is first n low_before)
-        (cases_eq i k)
-        ∙ sym (get_or-map (timed_out time next events) events i nobody nobody low_before)))
+    let low_before : i < length events = (let s = size in omega arith) in
+    get_or-map (timed_out time later after) after i nobody nobody low ∙ ⊎_elim
+    (λ q. ap (λ j. timed_out time later after (event_of after j)) q ∙ ap (timed_out time later after) (get_or-set_same events k new nobody within)
+    ∙ settled_stays time later after new (inr (flagged (event_of events k).active next))
+    ∙ sym (next_rises time next events g k is first) ∙ sym (ap (λ j. timed_out time next events (event_of events j)) q))
+    (λ n. ap (timed_out time later after) (get_or-set_other events k i new nobody n) ∙ others_rise time next events g k i is first n low_before)
+    (cases_eq i k)
+    ∙ sym (get_or-map (timed_out time next events) events i nobody nobody low_before)))
 
 -- The due events, one after another, become what the definition of a turn gives.
 pub risen-due : (time : ℕ) (ks : List ℕ) (next : ℕ) (events : List Event) (g : ℕ → Option Moment) → IsOpen time events g → Rises IsSooner ks g → risen 1 1 0 events next ks ≡ map (timed_out time next events) events
@@ -306,9 +313,12 @@ pub can-due : (time : ℕ) (ks : List ℕ) (next : ℕ) (events : List Event) (g
 can-due time [] next events g is r fits = tt
 can-due time (k ∷ ks) next events g is r fits =
     let lt = (is.open_ones k r.0.value r.0.has).0 in
-    let count = count_after time next events g k is r.0 in
-    (lt, λ none. absurd (omega (arith, none)), omega (arith, count, fits),
-    can-due time ks (next + needed (event_of events k)) (set events k (activated 1 next 1 0 (event_of events k))) (but k g) (IsOpen-after time events g k next is lt) r.1 (omega (arith, count, fits)))
+    let count = count_after time next events g k is r.0 in (
+      lt,
+      λ none. absurd (omega (arith, none)),
+      omega (arith, count, fits),
+      can-due time ks (next + needed (event_of events k)) (set events k (activated 1 next 1 0 (event_of events k))) (but k g) (IsOpen-after time events g k next is lt) r.1 (omega (arith, count, fits)),
+    )
 
 pub apart-due : (ks : List ℕ) (g : ℕ → Option Moment) → Rises IsSooner ks g → AreApart ks
 apart-due [] g r = tt
@@ -328,27 +338,27 @@ wakers-due time (k ∷ ks) events g is r =
     let same : length (wakers (set events k new) ks) ≡ length ws = ap length (wakers-set events k new ks (Rises-absent IsSooner ks (but k g) k r.1 (but-same k g))) in
     ⊎_elim
     (λ active. (let none : needed e ≡ 0 = ap (λ b. cond b 0 1) active in
-        ap (λ b. length (cond b ws (w ∷ ws))) active ∙ omega (arith, count, none, rest, same)))
+    ap (λ b. length (cond b ws (w ∷ ws))) active ∙ omega (arith, count, none, rest, same)))
     (λ fresh. (let some : needed e ≡ 1 = ap (λ b. cond b 0 1) fresh in
-        let total : length ws + 1 ≡ count_by (wakes time) events = omega (arith, count, some, rest, same) in
-        ap (λ b. length (cond b ws (w ∷ ws))) fresh ∙ sym (add-one (length ws)) ∙ total))
+    let total : length ws + 1 ≡ count_by (wakes time) events = omega (arith, count, some, rest, same) in
+    ap (λ b. length (cond b ws (w ∷ ws))) fresh ∙ sym (add-one (length ws)) ∙ total))
     (cases_Bool (is_active e))
 
 due_late : (time : ℕ) (o : Option Moment) (m : Moment) → if_due time o ≡ Some m → (o ≡ Some m) × (m.deadline ≤ time)
 due_late time None m e = cc e
 due_late time (Some n) m e = split (nat_le n.deadline time) refl e
-    where
-        split : (b : Bool) → nat_le n.deadline time ≡ b → cond b (Some n) None ≡ Some m → (Some n ≡ Some m) × (m.deadline ≤ time)
-        split true h q = (q, (let same : n ≡ m = cc q in subst (λ (x : Moment). x.deadline ≤ time) same (leb-true n.deadline time h)))
-        split false h q = cc q
+  where
+    split : (b : Bool) → nat_le n.deadline time ≡ b → cond b (Some n) None ≡ Some m → (Some n ≡ Some m) × (m.deadline ≤ time)
+    split true h q = (q, (let same : n ≡ m = cc q in subst (λ (x : Moment). x.deadline ≤ time) same (leb-true n.deadline time h)))
+    split false h q = cc q
 
 not_due : (time : ℕ) (o : Option Timeout) → if_due time (option_map mom o) ≡ None → option_map_or (λ (t : Timeout). nat_le t.deadline time) o false ≡ false
 not_due time None e = refl
 not_due time (Some t) e = split (nat_le t.deadline time) e
-    where
-        split : (b : Bool) → cond b (Some (mom t)) None ≡ None → b ≡ false
-        split true q = cc q
-        split false q = refl
+  where
+    split : (b : Bool) → cond b (Some (mom t)) None ≡ None → b ≡ false
+    split true q = cc q
+    split false q = refl
 
 -- as a turn begins, the due moments are those of the events that are still to get the flag
 pub IsOpen-start : (time : ℕ) (moments : List (Option Moment)) (events : List Event) → IsTied moment_of moments events → IsOpen time events (due_at time moments)
@@ -362,7 +372,7 @@ IsOpen-start time moments events tied = record {
   shut = λ j lt h. inl (not_due time (event_of events j).timeout
       (ap (if_due time) (sym (tied j ∙ ap (option_and_then moment_of) (slice_get-event_of events j lt))) ∙ h));
 }
-    where
-        held_by : (o : Option Event) (m : Moment) → option_and_then moment_of o ≡ Some m → (x : Event) × (o ≡ Some x) × (moment_of x ≡ Some m)
-        held_by None m q = cc q
-        held_by (Some x) m q = (x, refl, q)
+  where
+    held_by : (o : Option Event) (m : Moment) → option_and_then moment_of o ≡ Some m → (x : Event) × (o ≡ Some x) × (moment_of x ≡ Some m)
+    held_by None m q = cc q
+    held_by (Some x) m q = (x, refl, q)

@@ -6,9 +6,15 @@ use Rattle.event_base.specs.Tied.{AreKept}
 
 abbrev pub base_of : Inside → BaseValue
 base_of b = record {
-  priorities = b.ready.priorities; time = b.time; events = b.events.items; last_adding = b.deadlines.last;
-  next_activation = b.ready.next; batch_priority = b.batch_priority; batch_end = b.batch_end;
-  broken = b.broken; exiting = b.exiting
+  priorities = b.ready.priorities;
+  time = b.time;
+  events = b.events.items;
+  last_adding = b.deadlines.last;
+  next_activation = b.ready.next;
+  batch_priority = b.batch_priority;
+  batch_end = b.batch_end;
+  broken = b.broken;
+  exiting = b.exiting;
 }
 
 -- What holds of every base: what is kept beside the events is theirs, and the time is one that a clock can tell.

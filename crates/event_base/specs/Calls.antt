@@ -27,8 +27,15 @@ is_count priorities = nat_le 1 priorities && nat_le priorities 256
 -- a new base has no events, and its time is 0
 abbrev pub new_base : ℕ → BaseValue
 new_base priorities = record {
-  priorities = priorities; time = 0; events = []; last_adding = 0; next_activation = 0;
-  batch_priority = 0; batch_end = 0; broken = false; exiting = false
+  priorities = priorities;
+  time = 0;
+  events = [];
+  last_adding = 0;
+  next_activation = 0;
+  batch_priority = 0;
+  batch_end = 0;
+  broken = false;
+  exiting = false;
 }
 
 -- may so many numbers more be handed out, when so many were
@@ -61,7 +68,10 @@ add_event b number None = at_event b number (λ e. Ok (with_event b number (adde
 add_event b number (Some delay) = at_event b number (λ e.
     if fit b.last_adding 1
     then Ok (record (with_event b number (added (Some (record {
-        deadline = b.time + delay; delay = delay; order = b.last_adding + 1 })) e)) { last_adding = b.last_adding + 1 })
+      deadline = b.time + delay;
+      delay = delay;
+      order = b.last_adding + 1;
+    })) e)) { last_adding = b.last_adding + 1 })
     else Err Spent)
 
 abbrev pub del_event : BaseValue → ℕ → Step
@@ -80,9 +90,9 @@ abbrev pub signal : BaseValue → ℕ → ℕ → Step
 signal b number count =
     if count == 0 then Ok b
     else (let woken = count_by (is_woken_by number) b.events in
-        if fit b.next_activation woken && not (list_any (overflows number count) b.events)
-        then Ok (record b { events = signalled number count b.next_activation b.events; next_activation = b.next_activation + woken })
-        else Err Spent)
+    if fit b.next_activation woken && not (list_any (overflows number count) b.events)
+    then Ok (record b { events = signalled number count b.next_activation b.events; next_activation = b.next_activation + woken })
+    else Err Spent)
 
 -- the loop is over: it broke, or it was told to exit and the batch has no call left
 abbrev pub ended : BaseValue → Bool
@@ -97,9 +107,11 @@ begin_turn b now =
     let events = map (timed_out time b.next_activation b.events) b.events in
     if fit b.next_activation woken
     then Ok (record b {
-      time = time; events = events; next_activation = b.next_activation + woken;
+      time = time;
+      events = events;
+      next_activation = b.next_activation + woken;
       batch_priority = unwrap_or (least active_priority events) 0;
-      batch_end = if ended b then 0 else b.next_activation + woken
+      batch_end = if ended b then 0 else b.next_activation + woken;
     })
     else Err Spent
 
@@ -108,7 +120,7 @@ abbrev pub call : BaseValue → ℕ → Event → Activation → Step
 call b number e a =
     if is_past_numbers b.time (b.last_adding + 1) a.flags e then Err Spent
     else Ok (record (with_event b number (called b.time (b.last_adding + 1) a e)) {
-      last_adding = b.last_adding + (if is_set_again e then 1 else 0)
+      last_adding = b.last_adding + (if is_set_again e then 1 else 0);
     })
 
 -- the event whose callback is next, unless the loop broke

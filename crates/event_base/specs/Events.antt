@@ -8,7 +8,12 @@ use Rattle.event_base.specs.declared.event.Activation.{Activation}
 -- a new event is not pending and not active
 abbrev pub made : Bool → Option ℕ → ℕ → Event
 made persist signal priority = record {
-  pending = false; timeout = None; priority = priority; persist = persist; signal = signal; active = None
+  pending = false;
+  timeout = None;
+  priority = priority;
+  persist = persist;
+  signal = signal;
+  active = None;
 }
 
 abbrev pub is_active : Event → Bool
@@ -67,5 +72,5 @@ abbrev pub called : ℕ → ℕ → Activation → Event → Event
 called time order a e = record e {
   pending = e.persist && e.pending;
   timeout = option_map (set_again time order a.flags) (again e);
-  active = one_less a
+  active = one_less a;
 }

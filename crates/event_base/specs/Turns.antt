@@ -32,7 +32,7 @@ wakes_before time other e = wakes time e && option_map_or (λ t. comes_before t 
 abbrev pub timed_out : ℕ → ℕ → List Event → Event → Event
 timed_out time next events e =
     option_map_or (λ t. if nat_le t.deadline time
-        then activated 1 (next + count_by (wakes_before time t) events) 1 0 e else e) e.timeout e
+    then activated 1 (next + count_by (wakes_before time t) events) 1 0 e else e) e.timeout e
 
 -- the least number that events have, where any has one
 abbrev pub least : (Event → Option ℕ) → List Event → Option ℕ

@@ -255,8 +255,10 @@ impl Base {
     fn fix_batch(&mut self, time: u64, over: bool)
         requires { time ≤ 2 ^ 62 }
         ensures { self.new ≡ record self.old {
-            time = time; batch_priority = unwrap_or (least active_priority self.old.events) 0;
-            batch_end = if over then 0 else self.old.next_activation } }
+          time = time;
+          batch_priority = unwrap_or (least active_priority self.old.events) 0;
+          batch_end = if over then 0 else self.old.next_activation;
+        } }
     {
         let priority = self.ready.first_priority().unwrap_or(0);
         let end = batch_end(over, self.ready.next());
@@ -293,7 +295,8 @@ impl Base {
         };
         let timeout = set_again(&mut self.deadlines, event, &kept, self.time, active.flags)?;
         let called = kept.called(active, timeout);
-        self.ready.rest_front_unless(self.batch_priority, event, called.is_active());
+        self.ready
+            .rest_front_unless(self.batch_priority, event, called.is_active());
         self.events[event as usize] = called;
         Ok(Some((event, active.flags)))
     }
@@ -338,8 +341,9 @@ impl Base {
         requires apart { AreApart numbers.now }
         requires fits { self.old.next_activation + length (wakers self.old.events numbers.now) < 2 ^ 64 }
         ensures ok { OnOk result (self.new ≡ record self.old {
-            events = risen flag first more self.old.events self.old.next_activation numbers.now;
-            next_activation = self.old.next_activation + length (wakers self.old.events numbers.now) }) }
+          events = risen flag first more self.old.events self.old.next_activation numbers.now;
+          next_activation = self.old.next_activation + length (wakers self.old.events numbers.now);
+        }) }
         ensures refused { IfErr result (λ fault. fault ≡ BaseFault.Memory) }
         ensures stays { OnErr result (self.new ≡ self.old) }
     {

@@ -71,8 +71,9 @@ impl Deadlines {
     pub fn set(&mut self, event: u32, deadline: u64) -> Result<(), TimerFault>
         requires { event < length self.old.moments }
         ensures ok { OnOk result (self.new ≡ record {
-            moments = slice_set self.old.moments event (Some (record { deadline = deadline; order = self.old.last + 1 }));
-            last = self.old.last + 1 }) }
+          moments = slice_set self.old.moments event (Some (record { deadline = deadline; order = self.old.last + 1 }));
+          last = self.old.last + 1;
+        }) }
         ensures refused { IfErr result (λ fault. fault
             ≡ (if nat_lt (self.old.last + 1) (2 ^ 64) then TimerFault.Memory else TimerFault.Spent)) }
         ensures fits { OnOk result (self.old.last + 1 < 2 ^ 64) }

@@ -125,7 +125,8 @@ impl Ready {
     /// Makes an event inactive unless it stays active. Takes no memory.
     pub fn rest_unless(&mut self, event: u32, stays: bool)
         ensures { self.new ≡ record self.old {
-            places = if stays then self.old.places else slice_set self.old.places event None } }
+          places = if stays then self.old.places else slice_set self.old.places event None;
+        } }
     {
         if !stays {
             self.rest(event);
@@ -145,7 +146,8 @@ impl Ready {
     pub fn rest_front_unless(&mut self, priority: u32, event: u32, stays: bool)
         requires { IsFront priority self.old.places (Some event) }
         ensures { self.new ≡ record self.old {
-            places = if stays then self.old.places else slice_set self.old.places event None } }
+          places = if stays then self.old.places else slice_set self.old.places event None;
+        } }
     {
         if !stays {
             self.rest_front(priority, event);
@@ -157,7 +159,9 @@ impl Ready {
         requires can { CanWake self.old.priorities self.old.places self.old.next waking.now }
         requires fits { self.old.next + length waking.now < 2 ^ 64 }
         ensures ok { OnOk result (self.new ≡ record self.old {
-            places = woken self.old.places self.old.next waking.now; next = self.old.next + length waking.now }) }
+          places = woken self.old.places self.old.next waking.now;
+          next = self.old.next + length waking.now;
+        }) }
         ensures refused { IfErr result (λ fault. (fault ≡ PrioFault.Memory) × (self.new ≡ self.old)) }
     {
         append_all(&mut self.active, waking)?;

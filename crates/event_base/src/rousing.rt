@@ -33,7 +33,14 @@ pub fn wakers(alloc: Global, events: &[Event], numbers: &[u64]) -> Result<Vec<Wa
 }
 
 /// Gives the events with these numbers a flag, those that become active from this order number on. Takes no memory.
-pub fn raise_all(events: &mut Vec<Event>, numbers: &[u64], flag: u8, next: u64, first: u64, more: u64)
+pub fn raise_all(
+    events: &mut Vec<Event>,
+    numbers: &[u64],
+    flag: u8,
+    next: u64,
+    first: u64,
+    more: u64,
+)
     requires { CanRise flag first more events.old.items next numbers.now }
     ensures { events.new.items ≡ risen flag first more events.old.items next numbers.now }
 {

@@ -44,16 +44,10 @@ IsFirstBad mode.Buffers source line = answers_of source ≡ Err line
 abbrev pub TellsBad : Mode → List ℕ → ℕ → Type 0
 TellsBad m source told = (line : ℕ) × IsFirstBad m source line × (told ≡ min line (2 ^ 32 - 1))
 
--- a count of the script of a text would not fit: the length of a buffer, or the number of a callback
-abbrev pub IsSpent : Mode → List ℕ → Type 0
-IsSpent mode.Relay source = ⊥
-IsSpent mode.Buffers source = answers_of source ≡ Ok None
-
--- Why a text comes to nothing: it is no script, a count would not fit, or memory ran out.
+-- Why a text comes to nothing: it is no script, or memory ran out.
 abbrev pub Refuses : Mode → List ℕ → Status → Type 0
 Refuses m source (status.BadScript told) = TellsBad m source told
 Refuses m source status.Memory = ⊤
-Refuses m source status.Spent = IsSpent m source
 Refuses m source _ = ⊥
 
 -- The source gave a whole text, and the sink took the whole text that it comes to.
@@ -71,11 +65,7 @@ PlayedPart m left now_left taken now_taken =
 abbrev pub GaveBad : Mode → Option (List ℕ) → Option (List ℕ) → ℕ → Type 0
 GaveBad m left now_left told = (source : List ℕ) × GaveAll left now_left source × TellsBad m source told
 
--- the source gave a whole text of whose script a count would not fit
-abbrev pub GaveSpent : Mode → Option (List ℕ) → Option (List ℕ) → Type 0
-GaveSpent m left now_left = (source : List ℕ) × GaveAll left now_left source × IsSpent m source
-
--- What a call did, by the mode that its words ask for and by its status. Three statuses never come.
+-- What a call did, by the mode that its words ask for and by its status. Four statuses never come.
 abbrev pub Did : Mode → Status → Option (List ℕ) → Option (List ℕ) → Option (List ℕ) → Option (List ℕ) → Type 0
 Did m status.Ok left now_left taken now_taken = PlayedAll m status.Ok left now_left taken now_taken
 Did m status.PollFault left now_left taken now_taken = PlayedAll m status.PollFault left now_left taken now_taken
@@ -87,7 +77,7 @@ Did m status.Memory left now_left taken now_taken = ⊤
 Did m status.Usage left now_left taken now_taken = ⊥
 Did m (status.Stopped link turn) left now_left taken now_taken = ⊥
 Did m status.OpenFault left now_left taken now_taken = ⊥
-Did m status.Spent left now_left taken now_taken = GaveSpent m left now_left
+Did m status.Spent left now_left taken now_taken = ⊥
 
 -- words that ask for no mode are refused, and what a call did with the others
 abbrev pub DidWith : Option Mode → Status → Option (List ℕ) → Option (List ℕ) → Option (List ℕ) → Option (List ℕ) → Type 0

@@ -1,5 +1,5 @@
 // What a script comes to, by its mode: the text that is to be written, and how the program ends once it is.
-ghost use Rattle.std.specs.Prelude.{IfOk, IfErr};
+ghost use Rattle.std.specs.Prelude.{◌≤◌, ◌^◌, length, IfOk, IfErr};
 ghost use Rattle.evplay.specs.declared.words.Mode.TheVariants.{Relay, Buffers};
 ghost use Rattle.evplay.specs.Play.{ComesTo, Refuses};
 
@@ -20,8 +20,10 @@ pub struct Outcome {
     pub status: Status,
 }
 
-/// What the script of a text comes to. A text that is no script of the mode is refused with its first bad line.
+/// What the script of a text of at most 2^24 bytes comes to. A text that is no script of the mode is refused with its
+/// first bad line.
 pub fn outcome_of(alloc: Global, mode: Mode, text: &[u8]) -> Result<Outcome, Status>
+    requires { length text.now ≤ 2 ^ 24 }
     ensures comes_to { IfOk result (λ outcome. ComesTo mode text.now outcome.status outcome.text.items) }
     ensures refused { IfErr result (λ status. Refuses mode text.now status) }
 {
@@ -51,6 +53,7 @@ fn relay(alloc: Global, text: &[u8]) -> Result<Outcome, Status>
 
 /// What the script of buffers that the text spells comes to.
 fn buffers(alloc: Global, text: &[u8]) -> Result<Outcome, Status>
+    requires { length text.now ≤ 2 ^ 24 }
     ensures comes_to { IfOk result (λ outcome. ComesTo Buffers text.now outcome.status outcome.text.items) }
     ensures refused { IfErr result (λ status. Refuses Buffers text.now status) }
 {

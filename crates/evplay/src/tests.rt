@@ -14,16 +14,17 @@ fn words(alloc: Global, all: &[&str]) -> Result<Vec<String>, Fail> {
     Ok(words)
 }
 
-/// The status of a run with these calls of its source and its sink failing, and what the sink took.
+/// The status of a call with these calls of its source and its sink failing, and what the sink took.
 fn played(
     alloc: Global,
+    mode: &str,
     script: &str,
     failing_reads: Vec<u64>,
     failing_writes: Vec<u64>,
 ) -> Result<(Status, Vec<u8>), Fail> {
     let mut source = MemSource::new(script.as_bytes().to_vec(alloc)?, failing_reads);
     let mut sink = MemSink::new(alloc, 5, failing_writes);
-    let words = words(alloc, &["relay"])?;
+    let words = words(alloc, &[mode])?;
     let status = play(alloc, &words, &mut source, &mut sink);
     Ok((status, sink.bytes().to_vec(alloc)?))
 }
@@ -31,7 +32,7 @@ fn played(
 #[test]
 fn the_empty_script_is_a_report_of_no_link(rt: HostRuntime) -> Result<(), Fail> {
     let alloc = rt.alloc();
-    let (status, text) = played(alloc, "", Vec::new(alloc), Vec::new(alloc))?;
+    let (status, text) = played(alloc, "relay", "", Vec::new(alloc), Vec::new(alloc))?;
     assert_eq!(rt; status, Status::Ok);
     assert_eq!(rt; text.as_slice(), b"done 0 open 0 gone 0\n".as_slice());
     Ok(())
@@ -40,7 +41,13 @@ fn the_empty_script_is_a_report_of_no_link(rt: HostRuntime) -> Result<(), Fail> 
 #[test]
 fn a_fault_of_the_source_prints_nothing(rt: HostRuntime) -> Result<(), Fail> {
     let alloc = rt.alloc();
-    let (status, text) = played(alloc, TWO_BYTES, vec![in alloc; 2]?, Vec::new(alloc))?;
+    let (status, text) = played(
+        alloc,
+        "relay",
+        TWO_BYTES,
+        vec![in alloc; 2]?,
+        Vec::new(alloc),
+    )?;
     assert_eq!(rt; status, Status::ReadFault);
     assert_eq!(rt; text.len(), 0);
     Ok(())
@@ -49,7 +56,7 @@ fn a_fault_of_the_source_prints_nothing(rt: HostRuntime) -> Result<(), Fail> {
 #[test]
 fn a_fault_of_the_sink_leaves_the_first_part(rt: HostRuntime) -> Result<(), Fail> {
     let alloc = rt.alloc();
-    let (status, text) = played(alloc, "", Vec::new(alloc), vec![in alloc; 2]?)?;
+    let (status, text) = played(alloc, "relay", "", Vec::new(alloc), vec![in alloc; 2]?)?;
     assert_eq!(rt; status, Status::WriteFault);
     assert_eq!(rt; text.as_slice(), b"done ".as_slice());
     Ok(())
@@ -75,7 +82,7 @@ fn the_first_bad_line_is_told(rt: HostRuntime) -> Result<(), Fail> {
         ("set hold 4\n", 1),
     ];
     for (script, line) in bad {
-        let (status, text) = played(alloc, script, Vec::new(alloc), Vec::new(alloc))?;
+        let (status, text) = played(alloc, "relay", script, Vec::new(alloc), Vec::new(alloc))?;
         assert_eq!(rt; status, Status::BadScript(line), "{script:?}");
         assert_eq!(rt; text.len(), 0);
     }
@@ -83,8 +90,14 @@ fn the_first_bad_line_is_told(rt: HostRuntime) -> Result<(), Fail> {
 }
 
 /// Whether a script comes to this, as it was worked out by hand.
-fn comes_to(alloc: Global, script: &str, status: Status, text: &str) -> Result<bool, Fail> {
-    let (ended, taken) = played(alloc, script, Vec::new(alloc), Vec::new(alloc))?;
+fn comes_to(
+    alloc: Global,
+    mode: &str,
+    script: &str,
+    status: Status,
+    text: &str,
+) -> Result<bool, Fail> {
+    let (ended, taken) = played(alloc, mode, script, Vec::new(alloc), Vec::new(alloc))?;
     Ok(ended == status && taken.as_slice() == text.as_bytes())
 }
 
@@ -92,6 +105,7 @@ fn comes_to(alloc: Global, script: &str, status: Status, text: &str) -> Result<b
 fn both_ways_end_by_themselves_and_then_the_link_is_done(rt: HostRuntime) -> Result<(), Fail> {
     let as_owed = comes_to(
         rt.alloc(),
+        "relay",
         "at 0\nopen\nat 1\nr 0 in 474554\neof 0 in\nw 0 in all\nw 0 out all\nat 2\nr 0 out 323030\neof 0 out\nat 3\n",
         Status::Ok,
         "turn 0\npoll none\nopen 0\nturn 1\npoll none\nwant 0 in r\nwant 0 out r\nready 0 in r\n\
@@ -109,6 +123,7 @@ fn both_ways_end_by_themselves_and_then_the_link_is_done(rt: HostRuntime) -> Res
 fn a_failed_connection_frees_both_sides(rt: HostRuntime) -> Result<(), Fail> {
     let as_owed = comes_to(
         rt.alloc(),
+        "relay",
         "at 0\nopen wait\nat 1\nr 0 in 61\nconn 0 fail\n",
         Status::Ok,
         "turn 0\npoll none\nopen 0 wait\nturn 1\npoll none\nwant 0 in r\nwant 0 out w\nready 0 in r\nready 0 out w\n\
@@ -123,6 +138,7 @@ fn a_failed_connection_frees_both_sides(rt: HostRuntime) -> Result<(), Fail> {
 fn a_failed_poll_ends_the_run_with_what_it_has(rt: HostRuntime) -> Result<(), Fail> {
     let as_owed = comes_to(
         rt.alloc(),
+        "relay",
         "at 0\npollfail\nat 1\n",
         Status::PollFault,
         "turn 0\npoll none\npollfail\ndone 0 open 0 gone 0\n",
@@ -135,10 +151,24 @@ fn a_failed_poll_ends_the_run_with_what_it_has(rt: HostRuntime) -> Result<(), Fa
 fn a_spurious_mark_frees_nothing(rt: HostRuntime) -> Result<(), Fail> {
     let as_owed = comes_to(
         rt.alloc(),
+        "relay",
         "at 0\nopen\nat 1\nspur 0 in\n",
         Status::Ok,
         "turn 0\npoll none\nopen 0\nturn 1\npoll none\nwant 0 in r\nwant 0 out r\nready 0 in r\n\
          read 0 in 16384 notyet\nlink 0 open in 0 0 out 0 0\ndone 0 open 1 gone 0\n",
+    )?;
+    assert!(rt; as_owed);
+    Ok(())
+}
+
+#[test]
+fn buffers_answer_line_by_line(rt: HostRuntime) -> Result<(), Fail> {
+    let as_owed = comes_to(
+        rt.alloc(),
+        "buffers",
+        "cb 0\nadd 0 610d0a620a\nreadln 0 crlf\nreadln 0 crlf\nreadln 0 crlf\n",
+        Status::Ok,
+        "n 0\nok\ncb 0 0 0 5 0\nbytes 61\ncb 0 0 5 0 3\nbytes 62\ncb 0 0 2 0 2\nnone\n",
     )?;
     assert!(rt; as_owed);
     Ok(())

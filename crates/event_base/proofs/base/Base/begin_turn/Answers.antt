@@ -27,7 +27,7 @@ returns-in_err-due-clause-refused c =
     let p = err_from_is_err_and c.from_residual.result c.from_residual.ensures.1 in
     subst (λ (v : BaseValue). IfErr c.from_residual.result (λ fault. IsAnswer fault (begin_turn v c.args.now))) c.self.view_is
     (if_err c.from_residual.result p.0 (λ fault. IsAnswer fault (begin_turn (base_of c.self.inside) c.args.now)) p.1
-        (answer-memory (begin_turn (base_of c.self.inside) c.args.now) _ p.0 good (p.2 ∙ ap from_timers c.in_err-due.ensures.refused)))
+    (answer-memory (begin_turn (base_of c.self.inside) c.args.now) _ p.0 good (p.2 ∙ ap from_timers c.in_err-due.ensures.refused)))
 
 pub rouse-requires-clause-can : goal.rouse-requires-clause-can
 rouse-requires-clause-can c =
@@ -75,7 +75,7 @@ returns-in_err-rouse-clause-refused c =
     let p = err_from_is_err_and c.from_residual-in_err-rouse.result c.from_residual-in_err-rouse.ensures.1 in
     subst (λ (v : BaseValue). IfErr c.from_residual-in_err-rouse.result (λ fault. IsAnswer fault (begin_turn v c.args.now))) c.self.view_is
     (if_err c.from_residual-in_err-rouse.result p.0 (λ fault. IsAnswer fault (begin_turn (base_of c.self.inside) c.args.now)) p.1
-        (answer-memory (begin_turn (base_of c.self.inside) c.args.now) _ p.0 good (p.2 ∙ c.in_err-rouse.ensures.refused)))
+    (answer-memory (begin_turn (base_of c.self.inside) c.args.now) _ p.0 good (p.2 ∙ c.in_err-rouse.ensures.refused)))
 
 pub returns-clause-ok : goal.returns-clause-ok
 returns-clause-ok c =
@@ -94,6 +94,6 @@ returns-clause-ok c =
     let events : risen 1 1 0 items next numbers ≡ map (timed_out time next items) items = ap (risen 1 1 0 items next) is_due ∙ risen-due time due next items (due_at time moments) start rises in
     let total : length (wakers items numbers) ≡ count_by (wakes time) items = ap (λ ks. length (wakers items ks)) is_due ∙ wakers-due time due items (due_at time moments) start rises in
     let mid : c.rouse.new.self ≡ with_parts (base_of c.self.inside) (risen 1 1 0 items next numbers) (next + length (wakers items numbers)) =
-        subst (λ (v : BaseValue). c.rouse.new.self ≡ with_parts v (risen 1 1 0 v.events v.next_activation numbers) (v.next_activation + length (wakers v.events numbers))) (sym c.self.view_is) c.in_ok-rouse.ensures.ok in
+    subst (λ (v : BaseValue). c.rouse.new.self ≡ with_parts v (risen 1 1 0 v.events v.next_activation numbers) (v.next_activation + length (wakers v.events numbers))) (sym c.self.view_is) c.in_ok-rouse.ensures.ok in
     subst (λ (v : BaseValue). begin_turn v c.args.now ≡ Ok c.fix_batch.new.self) c.self.view_is
     (begin_turn-done (base_of c.self.inside) c.rouse.new.self c.fix_batch.new.self c.args.now time numbers c.ended-over.result at_time (c.ended-over.ensures ∙ ap ended (sym c.self.view_is)) events total low mid c.fix_batch.ensures)

@@ -8,7 +8,7 @@ invariant_of-self c =
     let is : slice_get c.self.inside.events.items c.args.event ≡ Some c.in-Some.kept = sym (c.in-Some.ensures ∙ ap (λ xs. slice_get xs c.args.event) c.deref.ensures.value) in
     record {
       kept = rw (c.clear.ensures, c.rest.ensures, c.deleted.ensures)
-        (AreKept-set c.self.inside.events.items c.self.inside.deadlines c.self.inside.ready c.args.event c.in-Some.kept _ _ _ c.self.invariant.kept is refl refl (priority-within _ _ _ c.args.event _ c.self.invariant.kept is));
+          (AreKept-set c.self.inside.events.items c.self.inside.deadlines c.self.inside.ready c.args.event c.in-Some.kept _ _ _ c.self.invariant.kept is refl refl (priority-within _ _ _ c.args.event _ c.self.invariant.kept is));
       early = c.self.invariant.early;
     }
 

@@ -62,7 +62,7 @@ returns-in_err-timeout-clause-refused c =
     let step = next_active-call b number c.in-Some-event_at.kept c.in-Some-active.active c.if-self.false next is c.in-Some-active.is in
     subst (λ (v : BaseValue). IfErr c.from_residual.result (λ fault. IsAnswer fault (next_active v))) c.self.view_is
     (if_err c.from_residual.result p.0 (λ fault. IsAnswer fault (next_active b)) p.1
-        (answer-spent past (next_active b) (called_base b number c.in-Some-event_at.kept c.in-Some-active.active) p.0 step (p.2 ∙ c.in_err-timeout.ensures.refused)))
+    (answer-spent past (next_active b) (called_base b number c.in-Some-event_at.kept c.in-Some-active.active) p.0 step (p.2 ∙ c.in_err-timeout.ensures.refused)))
 
 pub index_mut-requires : goal.index_mut-requires
 index_mut-requires c =
@@ -88,7 +88,7 @@ invariant_of-self-2 c =
     let is : slice_get items number ≡ Some c.in-Some-event_at.kept = sym (c.in-Some-event_at.ensures ∙ ap (λ xs. slice_get xs number) c.deref.ensures.value) in
     record {
       kept = rw (c.rest_front_unless.ensures, c.is_active.ensures, c.called-called.ensures)
-        (called-kept items c.self.inside.deadlines c.set_again.new.deadlines c.self.inside.ready number c.in-Some-event_at.kept c.in-Some-active.active c.in_ok-timeout.timeout kept is c.in-Some-active.is c.in_ok-timeout.ensures.moments);
+          (called-kept items c.self.inside.deadlines c.set_again.new.deadlines c.self.inside.ready number c.in-Some-event_at.kept c.in-Some-active.active c.in_ok-timeout.timeout kept is c.in-Some-active.is c.in_ok-timeout.ensures.moments);
       early = c.self.invariant.early;
     }
 
@@ -117,5 +117,5 @@ returns-clause-ok c =
     let next : next_event b ≡ Some number = next_event-is b places (made false None 0) (Some number) kept.placed c.in-Some.ensures in
     let is : slice_get items number ≡ Some c.in-Some-event_at.kept = sym (c.in-Some-event_at.ensures ∙ ap (λ xs. slice_get xs number) c.deref.ensures.value) in
     let step = next_active-call b number c.in-Some-event_at.kept c.in-Some-active.active c.if-self.false next is c.in-Some-active.is
-        ∙ call-ok b number c.in-Some-event_at.kept c.in-Some-active.active c.in_ok-timeout.ensures.fits in
+    ∙ call-ok b number c.in-Some-event_at.kept c.in-Some-active.active c.in_ok-timeout.ensures.fits in
     rw (← c.self.view_is, c.called-called.ensures, c.in_ok-timeout.ensures.timeout, c.in_ok-timeout.ensures.last, c.rest_front_unless.ensures) step

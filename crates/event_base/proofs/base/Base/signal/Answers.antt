@@ -52,6 +52,6 @@ returns-clause-ok c =
     let fits : list_any (overflows c.args.number c.args.count) items ≡ false = sym (c.any_overflows.ensures ∙ ap (list_any (overflows c.args.number c.args.count)) c.deref-2.ensures.value) ∙ c.if-any_overflows.false in
     let k = c.from-count.result in
     on_ok c.rouse.result _ _ c.rouse.ensures.ok (λ is.
-        subst (λ (v : BaseValue). signal v c.args.number c.args.count ≡ Ok c.rouse.new.self) c.self.view_is
-        (signal-done (base_of c.self.inside) c.rouse.new.self c.args.number c.args.count k c.deref-4.result.now numbers c.from-count.ensures c.if-count-eq0.false low fits
-        (subst (λ (v : BaseValue). c.rouse.new.self ≡ with_parts v (risen 8 k k v.events v.next_activation c.deref-4.result.now) (v.next_activation + length (wakers v.events c.deref-4.result.now))) (sym c.self.view_is) is)))
+    subst (λ (v : BaseValue). signal v c.args.number c.args.count ≡ Ok c.rouse.new.self) c.self.view_is
+    (signal-done (base_of c.self.inside) c.rouse.new.self c.args.number c.args.count k c.deref-4.result.now numbers c.from-count.ensures c.if-count-eq0.false low fits
+    (subst (λ (v : BaseValue). c.rouse.new.self ≡ with_parts v (risen 8 k k v.events v.next_activation c.deref-4.result.now) (v.next_activation + length (wakers v.events c.deref-4.result.now))) (sym c.self.view_is) is)))

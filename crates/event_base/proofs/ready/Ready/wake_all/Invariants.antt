@@ -8,5 +8,5 @@ invariant-loop-w l = record {
   places : woken l.self-inside.places.items l.self-inside.next (drop l.w-index l.waking) ≡ woken l.initial.self-inside.places.items l.initial.self-inside.next l.waking;
   can : CanWake (length l.self-inside.active) l.self-inside.places.items l.self-inside.next (drop l.w-index l.waking);
   next : l.self-inside.next ≡ l.initial.self-inside.next + l.w-index;
-  active : l.self-inside.active ≡ l.initial.self-inside.active
+  active : l.self-inside.active ≡ l.initial.self-inside.active;
 }
