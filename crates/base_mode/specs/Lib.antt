@@ -3,7 +3,7 @@ pub mod Grammar
 pub mod Order
 pub mod Spelled
 pub mod Run
+pub mod Turned
 pub mod Plans
-pub mod Taught
 pub mod Stops
 pub mod RunView

@@ -1,6 +1,7 @@
 // The text of single answers.
 ghost use Rattle.std.specs.Prelude.{◌≡◌, IfOk, string_bytes};
-ghost use Rattle.base_mode.specs.Run.{name_of, refused_text, fired_text, turn_text, next_text};
+ghost use Rattle.base_mode.specs.Run.{name_of, refused_text, fired_text};
+ghost use Rattle.base_mode.specs.Turned.{turn_text, next_text};
 
 use event_base::BaseFault;
 use std::alloc::{AllocError, Global};

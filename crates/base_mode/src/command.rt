@@ -87,3 +87,22 @@ pub enum Command {
     /// A turn at this moment, in milliseconds.
     Turn(u64),
 }
+
+impl Command {
+    /// The same line once more. Takes no memory.
+    pub fn again(&self) -> Command
+        ensures { result ≡ self.now }
+    {
+        match self {
+            Command::New(event, persist, signal) => Command::New(*event, *persist, *signal),
+            Command::Priority(event, priority) => Command::Priority(*event, *priority),
+            Command::Add(event, Some(delay)) => Command::Add(*event, Some(Delay::new(delay.ms()))),
+            Command::Add(event, None) => Command::Add(*event, None),
+            Command::Delete(event) => Command::Delete(*event),
+            Command::Activate(event) => Command::Activate(*event),
+            Command::Signal(number, count) => Command::Signal(*number, *count),
+            Command::On(event, nth, act) => Command::On(*event, *nth, act.again()),
+            Command::Turn(ms) => Command::Turn(*ms),
+        }
+    }
+}

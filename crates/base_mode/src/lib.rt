@@ -1,16 +1,20 @@
-//! Scripts of an event base: what their lines ask of the base, and where a text is no script.
+//! The mode that plays a script on an event base and writes what each line answers.
 #![tactic(auto)]
 
+mod acts;
 mod answer;
-mod callback;
 mod command;
 mod fault;
 mod line;
+mod plans;
+mod play;
 mod read;
 mod run;
+mod stop;
 
 pub use command::{Act, Command, Delay};
 pub use fault::ModeFault;
+pub use play::{Played, play_base};
 pub use read::{BaseScript, read_base_script};
 
 #[cfg(test)]

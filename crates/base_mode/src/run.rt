@@ -1,22 +1,29 @@
 // Runs the lines of a script on a base, and gathers the answers.
-ghost use Rattle.std.specs.Prelude.{◌≡◌, ◌++◌, ◌<◌, ◌^◌, ◌==◌, ◌≤◌, true, length, position, OnOk, OnErr, IfOk, IfErr, Some, Ok, option_map};
+ghost use Rattle.std.specs.Prelude.{◌≡◌, ◌++◌, ◌+◌, ◌∷◌, [], ◌<◌, ◌≤◌, ◌^◌, length, OnOk, OnErr, IfOk, IfErr, Ok};
 ghost use Rattle.std.specs.Option.{ForSome};
 ghost use Rattle.event_base.specs.Calls as call;
 ghost use Rattle.base_mode.specs.Order.{made};
-ghost use Rattle.base_mode.specs.Plans.{names_of};
-ghost use Rattle.base_mode.specs.Run.{number_of, start, answered, obeyed, recorded, run, act_step, kept, after_acts};
-ghost use Rattle.base_mode.specs.Stops.{IsStop, answer_text, passed_on};
+ghost use Rattle.base_mode.specs.Run.{number_of, answered, called_back, next_fired};
+ghost use Rattle.base_mode.specs.Turned.{MOST_FIRES, all_fired, begun, turn_ended, turned, obeyed, new_fires, recorded, run, all_run, start};
+ghost use Rattle.base_mode.specs.Stops.{Went, HasFired, HasRun, IsAnswered};
 
+use crate::acts::{number_in, perform_all};
 use crate::answer;
-use crate::callback::{Callback, note};
-use crate::command::{Act, Command};
+use crate::command::Command;
 use crate::fault::ModeFault;
-use event_base::{Base, BaseFault};
+use crate::plans::{Plan, acts, note};
+use crate::stop::Stop;
+use ev_types::NoMemory;
+use event_base::{Base, BaseFault, READ};
 use std::alloc::Global;
+use std::collections::BTreeMap;
 use std::marker::Model;
 
-/// The flag of an event that is made active by a call.
-const READ: u8 = 0x02;
+/// The most events of a run. A script names 256 at most.
+const MAX_EVENTS: usize = (1 << 32) - 1;
+
+/// The latest moment that a clock can tell, in milliseconds.
+const MAX_TIME: u64 = 1 << 62;
 
 /// A run of some lines of a script.
 ///
@@ -24,8 +31,11 @@ const READ: u8 = 0x02;
 #[derive(Drop)]
 pub struct Run {
     base: Base,
+    time: u64,
     before: Vec<Command>,
-    callbacks: Vec<Callback>,
+    names: Vec<u32>,
+    fires: Vec<u64>,
+    plans: BTreeMap<u32, Plan>,
     text: Vec<u8>,
 }
 
@@ -42,10 +52,8 @@ impl Model for Run {
 }
 
 impl Run {
-    /// A run of no line, on a base with so many priorities, 1 to 256. Its text says that the base was made. Takes
-    /// memory.
+    /// A run of no line, on a base with so many priorities. Its text says that the base was made. Takes memory.
     pub fn new(alloc: Global, priorities: u32) -> Result<Run, ModeFault>
-        requires { call.is_count priorities ≡ true }
         ensures ok { IfOk result (λ run. run ≡ start priorities) }
         ensures refused { IfErr result (λ fault. fault ≡ ModeFault.Memory) }
     {
@@ -56,27 +64,36 @@ impl Run {
         text.extend_from_slice(b"ok\n")?;
         Ok(Run {
             base,
+            time: 0,
             before: Vec::new(alloc),
-            callbacks: Vec::new(alloc),
+            names: Vec::new(alloc),
+            fires: Vec::new(alloc),
+            plans: BTreeMap::new(alloc),
             text,
         })
     }
 
     /// Runs a line. Takes memory.
-    pub fn run(mut self, alloc: Global, line: Command) -> Result<Run, ModeFault>
-        requires few { length self.fires < 2 ^ 32 }
-        ensures ok { IfOk result (λ next. run self line ≡ Some next) }
-        ensures err { IfErr result (λ fault. IsStop fault (run self line)) }
+    pub fn run(mut self, alloc: Global, line: &Command) -> Result<Run, Stop>
+        ensures { HasRun result (run self line.now) }
     {
-        self.obey(alloc, &line)?;
-        self.record(alloc, line)
+        match self.obey(alloc, line) {
+            Ok(()) => self.record(alloc, line),
+            Err(ModeFault::Spent) => Err(Stop::Spent(self.text)),
+            Err(_) => Err(Stop::Memory),
+        }
     }
 
-    /// Runs what a line asks for, but for a turn and for what the line says of an event. Takes memory.
+    /// The text of all answers.
+    pub fn finish(self) -> Vec<u8>
+        ensures { result.items ≡ self.text }
+    {
+        self.text
+    }
+
+    /// Runs what a line asks for, but for what it says of an event.
     fn obey(&mut self, alloc: Global, line: &Command) -> Result<(), ModeFault>
-        requires few { length self.old.fires < 2 ^ 32 }
-        ensures ok { OnOk result (obeyed self.old line.now ≡ Some self.new) }
-        ensures err { IfErr result (λ fault. IsStop fault (obeyed self.old line.now)) }
+        ensures { Went result self.new (obeyed self.old line.now) }
     {
         match line {
             Command::New(_, persist, signal) => self.make(alloc, *persist, *signal),
@@ -87,87 +104,199 @@ impl Run {
             Command::Activate(event) => self.activate(alloc, *event),
             Command::Signal(number, count) => self.signal(alloc, *number, *count),
             Command::On(_, _, _) => Ok(()),
-            Command::Turn(_) => Err(ModeFault::Memory),
+            Command::Turn(ms) => self.turn(alloc, *ms),
         }
     }
 
+    /// The number that the base gave to the event of a name, or that of none.
+    fn number(&self, event: u32) -> u32
+        ensures { result ≡ number_of event (made self.now.before) }
+    {
+        number_in(&self.names, event)
+    }
+
     fn make(&mut self, alloc: Global, persist: bool, signal: Option<u32>) -> Result<(), ModeFault>
-        ensures ok { OnOk result (answered self.old (call.new_event self.old.base persist signal) ≡ Some self.new) }
-        ensures err { IfErr result (λ fault. IsStop fault (answered self.old (call.new_event self.old.base persist signal))) }
+        ensures { Went result self.new (answered self.old (call.new_event self.old.base persist signal)) }
     {
         let outcome = new_event(&mut self.base, persist, signal);
         put_answer(alloc, &mut self.text, outcome)
     }
 
     fn prioritize(&mut self, alloc: Global, event: u32, priority: u32) -> Result<(), ModeFault>
-        requires few { length self.old.fires < 2 ^ 32 }
-        ensures ok { OnOk result (answered self.old (call.set_priority self.old.base (number_of event (made self.old.before)) priority) ≡ Some self.new) }
-        ensures err { IfErr result (λ fault. IsStop fault (answered self.old (call.set_priority self.old.base (number_of event (made self.old.before)) priority))) }
+        ensures { Went result self.new (answered self.old (call.set_priority self.old.base (number_of event (made self.old.before)) priority)) }
     {
-        let number = number_in(&self.callbacks, event);
+        let number = self.number(event);
         let outcome = self.base.set_priority(number, priority);
         put_answer(alloc, &mut self.text, outcome)
     }
 
     fn add(&mut self, alloc: Global, event: u32, delay: Option<u64>) -> Result<(), ModeFault>
-        requires few { length self.old.fires < 2 ^ 32 }
         requires within { ForSome delay (λ ms. ms ≤ 2 ^ 62) }
-        ensures ok { OnOk result (answered self.old (call.add_event self.old.base (number_of event (made self.old.before)) delay) ≡ Some self.new) }
-        ensures err { IfErr result (λ fault. IsStop fault (answered self.old (call.add_event self.old.base (number_of event (made self.old.before)) delay))) }
+        ensures { Went result self.new (answered self.old (call.add_event self.old.base (number_of event (made self.old.before)) delay)) }
     {
-        let number = number_in(&self.callbacks, event);
+        let number = self.number(event);
         let outcome = self.base.add_event(number, delay);
         put_answer(alloc, &mut self.text, outcome)
     }
 
     fn delete(&mut self, alloc: Global, event: u32) -> Result<(), ModeFault>
-        requires few { length self.old.fires < 2 ^ 32 }
-        ensures ok { OnOk result (answered self.old (call.del_event self.old.base (number_of event (made self.old.before))) ≡ Some self.new) }
-        ensures err { IfErr result (λ fault. IsStop fault (answered self.old (call.del_event self.old.base (number_of event (made self.old.before))))) }
+        ensures { Went result self.new (answered self.old (call.del_event self.old.base (number_of event (made self.old.before)))) }
     {
-        let number = number_in(&self.callbacks, event);
+        let number = self.number(event);
         let outcome = self.base.del_event(number);
         put_answer(alloc, &mut self.text, outcome)
     }
 
     fn activate(&mut self, alloc: Global, event: u32) -> Result<(), ModeFault>
-        requires few { length self.old.fires < 2 ^ 32 }
-        ensures ok { OnOk result (answered self.old (call.activate self.old.base (number_of event (made self.old.before)) 2) ≡ Some self.new) }
-        ensures err { IfErr result (λ fault. IsStop fault (answered self.old (call.activate self.old.base (number_of event (made self.old.before)) 2))) }
+        ensures { Went result self.new (answered self.old (call.activate self.old.base (number_of event (made self.old.before)) 2)) }
     {
-        let number = number_in(&self.callbacks, event);
+        let number = self.number(event);
         let outcome = self.base.activate(number, READ);
         put_answer(alloc, &mut self.text, outcome)
     }
 
     fn signal(&mut self, alloc: Global, number: u32, count: u32) -> Result<(), ModeFault>
-        ensures ok { OnOk result (answered self.old (call.signal self.old.base number count) ≡ Some self.new) }
-        ensures err { IfErr result (λ fault. IsStop fault (answered self.old (call.signal self.old.base number count))) }
+        ensures { Went result self.new (answered self.old (call.signal self.old.base number count)) }
     {
         let outcome = self.base.signal(number, count);
         put_answer(alloc, &mut self.text, outcome)
     }
 
-    /// Puts a line behind those that were run. Takes memory.
-    fn record(self, alloc: Global, line: Command) -> Result<Run, ModeFault>
-        ensures ok { IfOk result (λ next. next ≡ recorded self line) }
-        ensures err { IfErr result (λ fault. fault ≡ ModeFault.Memory) }
+    /// Makes a turn of this moment, in milliseconds.
+    fn turn(&mut self, alloc: Global, ms: u64) -> Result<(), ModeFault>
+        ensures { Went result self.new (turned self.old ms) }
     {
+        let over = self.base.ended();
+        self.begin_turn(alloc, ms)?;
+        self.fire_all(alloc)?;
+        self.end_turn(alloc, over)
+    }
+
+    fn begin_turn(&mut self, alloc: Global, ms: u64) -> Result<(), ModeFault>
+        ensures { Went result self.new (begun self.old ms (call.begin_turn self.old.base ms)) }
+    {
+        match self.base.begin_turn(ms) {
+            Ok(()) => {}
+            Err(BaseFault::Spent) => return Err(ModeFault::Spent),
+            Err(_) => return Err(ModeFault::Memory),
+        }
+        self.time = self.time.max(ms.min(MAX_TIME));
+        let line = answer::turn(alloc, self.time)?;
+        self.text.extend_from_slice(line.as_bytes())?;
+        Ok(())
+    }
+
+    /// Calls all callbacks of the batch.
+    fn fire_all(&mut self, alloc: Global) -> Result<(), ModeFault>
+        ensures { Went result self.new (all_fired MOST_FIRES self.old) }
+    {
+        for fires in 0..u64::MAX {
+            if !self.fire_next(alloc)? {
+                return Ok(());
+            }
+        }
+        Ok(())
+    }
+
+    /// Calls the next callback of the batch, and tells whether there was one.
+    fn fire_next(&mut self, alloc: Global) -> Result<bool, ModeFault>
+        ensures { HasFired result self.new (next_fired self.old) }
+    {
+        match self.base.next_active() {
+            Ok(Some((number, flags))) => {
+                self.call_back(alloc, number, flags)?;
+                Ok(true)
+            }
+            Ok(None) => Ok(false),
+            Err(BaseFault::Spent) => Err(ModeFault::Spent),
+            Err(_) => Err(ModeFault::Memory),
+        }
+    }
+
+    /// Writes that an event fires, and calls its callback.
+    fn call_back(&mut self, alloc: Global, number: u32, flags: u8) -> Result<(), ModeFault>
+        ensures { Went result self.new (called_back self.old number flags) }
+    {
+        let place = number as usize;
+        if place >= self.fires.len() {
+            return Ok(());
+        }
+        let event = self.names[place];
+        let line = answer::fire(alloc, event, flags)?;
+        self.text.extend_from_slice(line.as_bytes())?;
+        let Some(nth) = self.fires[place].checked_add(1) else {
+            return Err(ModeFault::Spent);
+        };
+        perform_all(
+            &mut self.base,
+            &self.names,
+            acts(&self.plans, event, nth),
+        )?;
+        self.fires[place] = nth;
+        Ok(())
+    }
+
+    /// Writes how long to wait for the next turn, unless the loop was over before this one.
+    fn end_turn(&mut self, alloc: Global, over: bool) -> Result<(), ModeFault>
+        ensures { Went result self.new (Ok (turn_ended over self.old)) }
+    {
+        let wait = if over {
+            None
+        } else {
+            self.base.poll_timeout()
+        };
+        let line = answer::next(alloc, wait)?;
+        self.text.extend_from_slice(line.as_bytes())?;
+        Ok(())
+    }
+
+    /// Puts a line behind those that were run.
+    fn record(self, alloc: Global, line: &Command) -> Result<Run, Stop>
+        ensures { HasRun result (Ok (recorded self line.now)) }
+    {
+        if self.names.len() >= MAX_EVENTS {
+            return Err(Stop::Memory);
+        }
         let Run {
             base,
+            time,
             mut before,
-            mut callbacks,
+            mut names,
+            mut fires,
+            mut plans,
             text,
         } = self;
-        note(alloc, &mut callbacks, &line)?;
-        before.push(line)?;
+        note(alloc, &mut plans, line)?;
+        keep_event(&mut names, &mut fires, line)?;
+        before.push(line.again())?;
         Ok(Run {
             base,
+            time,
             before,
-            callbacks,
+            names,
+            fires,
+            plans,
             text,
         })
     }
+}
+
+/// Keeps the name of the event that a line makes, which has not fired yet.
+fn keep_event(
+    names: &mut Vec<u32>,
+    fires: &mut Vec<u64>,
+    line: &Command,
+) -> Result<(), NoMemory>
+    ensures names { OnOk result (names.new.items ≡ names.old.items ++ made (line.now ∷ [])) }
+    ensures fires { OnOk result (fires.new.items ≡ fires.old.items ++ new_fires line.now) }
+    ensures each { OnOk result (length fires.old.items ≡ length names.old.items → length fires.new.items ≡ length names.new.items) }
+    ensures few { OnOk result (length names.new.items ≤ length names.old.items + 1) }
+{
+    if let Command::New(event, _, _) = line {
+        names.push(*event)?;
+        fires.push(0)?;
+    }
+    Ok(())
 }
 
 /// Makes an event. The base numbers events in the order of making.
@@ -182,34 +311,13 @@ fn new_event(base: &mut Base, persist: bool, signal: Option<u32>) -> Result<(), 
     }
 }
 
-/// The number that the base gave to the event of a name, or that of none.
-fn number_in(callbacks: &[Callback], event: u32) -> u32
-    requires { length callbacks.now < 2 ^ 32 }
-    ensures { result ≡ number_of event (names_of callbacks.now) }
-{
-    match place_of(callbacks, event) {
-        Some(number) => number as u32,
-        None => callbacks.len() as u32,
-    }
-}
-
-/// The place of the event of a name.
-fn place_of(callbacks: &[Callback], event: u32) -> Option<usize>
-    ensures { result ≡ position (λ callback. callback.event == event) callbacks.now }
-{
-    callbacks
-        .iter()
-        .position(|callback| callback.event == event)
-}
-
-/// Appends the answer to a call. Where there is none, nothing is appended.
+/// Appends the answer to a call. Where a number is spent or memory ran out, nothing is appended.
 fn put_answer(
     alloc: Global,
     text: &mut Vec<u8>,
     outcome: Result<(), BaseFault>,
 ) -> Result<(), ModeFault>
-    ensures ok { OnOk result (Some text.new.items ≡ option_map (λ answer. text.old.items ++ answer) (answer_text outcome)) }
-    ensures err { IfErr result (λ fault. IsStop fault (answer_text outcome)) }
+    ensures { IsAnswered outcome result text.old.items text.new.items }
 {
     match outcome {
         Ok(()) => text.extend_from_slice(b"ok\n")?,
@@ -223,48 +331,13 @@ fn put_answer(
     Ok(())
 }
 
-/// Makes the call of an act. Its answer is dropped, unless a number is spent or memory ran out.
-fn perform(base: &mut Base, callbacks: &[Callback], act: &Act) -> Result<(), ModeFault>
-    requires { length callbacks.now < 2 ^ 32 }
-    ensures ok { OnOk result (kept base.old (act_step base.old (names_of callbacks.now) act.now) ≡ Some base.new) }
-    ensures err { IfErr result (λ fault. IsStop fault (kept base.old (act_step base.old (names_of callbacks.now) act.now))) }
+/// Runs some lines, one behind another. Takes memory.
+pub fn run_all(alloc: Global, run: Run, lines: &[Command]) -> Result<Run, Stop>
+    ensures { HasRun result (all_run run lines.now) }
 {
-    match act {
-        Act::Delete(event) => passed(base.del_event(number_in(callbacks, *event))),
-        Act::Add(event, delay) => {
-            passed(base.add_event(number_in(callbacks, *event), Some(delay.ms())))
-        }
-        Act::Activate(event) => passed(base.activate(number_in(callbacks, *event), READ)),
-        Act::Break => {
-            base.loop_break();
-            Ok(())
-        }
-        Act::Exit => {
-            base.loop_exit();
-            Ok(())
-        }
+    let mut run = run;
+    for line in lines {
+        run = run.run(alloc, line)?;
     }
-}
-
-/// What a refusal of a call means where its answer isn't written: nothing, unless a number is spent or memory ran out.
-fn passed(outcome: Result<(), BaseFault>) -> Result<(), ModeFault>
-    ensures { result ≡ passed_on outcome }
-{
-    match outcome {
-        Err(BaseFault::Memory) => Err(ModeFault::Memory),
-        Err(BaseFault::Spent) => Err(ModeFault::Spent),
-        _ => Ok(()),
-    }
-}
-
-/// Makes the calls of some acts, in their order.
-fn perform_all(base: &mut Base, callbacks: &[Callback], acts: &[Act]) -> Result<(), ModeFault>
-    requires { length callbacks.now < 2 ^ 32 }
-    ensures ok { OnOk result (after_acts base.old (names_of callbacks.now) acts.now ≡ Some base.new) }
-    ensures err { IfErr result (λ fault. IsStop fault (after_acts base.old (names_of callbacks.now) acts.now)) }
-{
-    for act in acts {
-        perform(base, callbacks, act)?;
-    }
-    Ok(())
+    Ok(run)
 }
