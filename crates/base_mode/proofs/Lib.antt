@@ -1,1 +1,3 @@
 pub mod RunLemmas
+pub mod PlanLemmas
+pub mod FireLemmas

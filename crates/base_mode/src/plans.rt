@@ -1,7 +1,7 @@
 // What a script tells the callbacks of its events to do, by the names of the events and the numbers of their fires.
-ghost use Rattle.std.specs.Prelude.{◌≡◌, ◌++◌, ◌∷◌, [], ◌==◌, ◌&&◌, ℕ, List, OnOk, if◌then◌else◌};
-ghost use Rattle.base_mode.specs.Plans.{listed, acts_of, AreTold};
-ghost use Rattle.base_mode.specs.declared.command.Command.{Command};
+ghost use Rattle.std.specs.Prelude.{◌≡◌, ◌++◌, ◌∷◌, [], ◌==◌, ◌&&◌, ℕ, OnOk, if◌then◌else◌};
+ghost use Rattle.base_mode.specs.Plans.{listed, acts_of};
+ghost use Rattle.base_mode.specs.Run.{acts_at};
 
 use crate::command::{Act, Command};
 use ev_types::NoMemory;
@@ -56,7 +56,7 @@ pub fn note(
     plans: &mut BTreeMap<u32, Plan>,
     line: &Command,
 ) -> Result<(), NoMemory>
-    ensures { OnOk result ((before : List Command) → AreTold plans.old before → AreTold plans.new (before ++ line.now ∷ [])) }
+    ensures { OnOk result ((e k : ℕ) → acts_of plans.new e k ≡ acts_of plans.old e k ++ acts_at e k (line.now ∷ [])) }
 {
     match line {
         Command::On(event, nth, act) => tell(alloc, plans, *event, *nth, act.again()),

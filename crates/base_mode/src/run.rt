@@ -9,7 +9,7 @@ ghost use Rattle.base_mode.specs.Stops.{Went, HasFired, HasRun, IsAnswered};
 
 use crate::acts::{number_in, perform_all};
 use crate::answer;
-use crate::command::Command;
+use crate::command::{Command, Delay};
 use crate::fault::ModeFault;
 use crate::plans::{Plan, acts, note};
 use crate::stop::Stop;
@@ -98,8 +98,7 @@ impl Run {
         match line {
             Command::New(_, persist, signal) => self.make(alloc, *persist, *signal),
             Command::Priority(event, priority) => self.prioritize(alloc, *event, *priority),
-            Command::Add(event, Some(delay)) => self.add(alloc, *event, Some(delay.ms())),
-            Command::Add(event, None) => self.add(alloc, *event, None),
+            Command::Add(event, delay) => self.add(alloc, *event, ms_of(delay)),
             Command::Delete(event) => self.delete(alloc, *event),
             Command::Activate(event) => self.activate(alloc, *event),
             Command::Signal(number, count) => self.signal(alloc, *number, *count),
@@ -203,8 +202,8 @@ impl Run {
         ensures { HasFired result self.new (next_fired self.old) }
     {
         match self.base.next_active() {
-            Ok(Some((number, flags))) => {
-                self.call_back(alloc, number, flags)?;
+            Ok(Some(fire)) => {
+                self.call_back(alloc, fire.0, fire.1)?;
                 Ok(true)
             }
             Ok(None) => Ok(false),
@@ -278,6 +277,17 @@ impl Run {
             plans,
             text,
         })
+    }
+}
+
+/// How many milliseconds a delay has, where there is one.
+fn ms_of(delay: &Option<Delay>) -> Option<u64>
+    ensures same { result ≡ delay.now }
+    ensures within { ForSome result (λ ms. ms ≤ 2 ^ 62) }
+{
+    match delay {
+        Some(delay) => Some(delay.ms()),
+        None => None,
     }
 }
 
