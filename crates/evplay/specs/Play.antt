@@ -1,5 +1,5 @@
 -- What a call of `play` read and wrote, by its status.
-use Rattle.std.specs.Prelude.{◌≡◌, ◌<◌, ℕ, ◌^◌, ◌-◌, min, ⊤, List, ◌++◌, length, take, Option, Some, None, Ok, Err}
+use Rattle.std.specs.Prelude.{◌≡◌, ◌<◌, ℕ, ◌^◌, ◌-◌, min, ⊤, true, false, List, ◌++◌, length, take, Option, Some, None, Ok, Err}
 use Rattle.ev_types.specs.declared.status.Status.{Status}
 use Rattle.ev_types.specs.declared.status.Status.TheVariants as status
 use Rattle.ev_types.specs.Trace.{Trace}
@@ -11,6 +11,8 @@ use Rattle.script_text.specs.TraceText.{trace_text}
 use Rattle.script_text.specs.ReportText.{report_text}
 use Rattle.relay_model.specs.Answers.{TurnAnswer}
 use Rattle.buffers_mode.specs.Text.{answers_of}
+use Rattle.base_mode.specs.Turned as base
+use Rattle.base_mode.specs.Spelled as base_script
 use Rattle.evplay.specs.declared.words.Mode.{Mode}
 use Rattle.evplay.specs.declared.words.Mode.TheVariants as mode
 use Rattle.evplay.specs.Headline.{IsRun}
@@ -27,18 +29,22 @@ IsRunText script answer text = (t : Trace) × (links : List LinkLine) × IsRun s
 abbrev pub Runs : List ℕ → TurnAnswer → List ℕ → Type 0
 Runs source answer text = (script : ScriptValue) × (script_of source ≡ Ok script) × IsRunText script answer text
 
--- What a script of this kind comes to: this text, and this status once it is written. Only a run of the relay can end in
--- another way than well, with a failed poll. A script of buffers comes to the answers of its lines.
+-- What a script of this kind comes to: this text, and this status once it is written. A run of the relay ends well or with a
+-- failed poll. A script of buffers or of a base comes to the answers of its lines; where a number of the base is spent, to those
+-- before.
 abbrev pub ComesTo : Mode → List ℕ → Status → List ℕ → Type 0
 ComesTo mode.Relay source status.Ok text = Runs source TurnAnswer.Went text
 ComesTo mode.Relay source status.PollFault text = Runs source TurnAnswer.PollFault text
 ComesTo mode.Buffers source status.Ok text = answers_of source ≡ Ok (Some text)
+ComesTo mode.Base source status.Ok text = base.answers_of source ≡ Ok (text, false)
+ComesTo mode.Base source status.Spent text = base.answers_of source ≡ Ok (text, true)
 ComesTo _ source _ text = ⊥
 
 -- the first line of a source text that is not in the grammar of the mode has this number
 abbrev pub IsFirstBad : Mode → List ℕ → ℕ → Type 0
 IsFirstBad mode.Relay source line = script_of source ≡ Err line
 IsFirstBad mode.Buffers source line = answers_of source ≡ Err line
+IsFirstBad mode.Base source line = base_script.script_of source ≡ Err line
 
 -- The line is told of a text that has this one as its first bad line. A number above 2^32 - 1 is told as that number.
 abbrev pub TellsBad : Mode → List ℕ → ℕ → Type 0
@@ -65,7 +71,7 @@ PlayedPart m left now_left taken now_taken =
 abbrev pub GaveBad : Mode → Option (List ℕ) → Option (List ℕ) → ℕ → Type 0
 GaveBad m left now_left told = (source : List ℕ) × GaveAll left now_left source × TellsBad m source told
 
--- What a call did, by the mode that its words ask for and by its status. Four statuses never come.
+-- What a call did, by the mode that its words ask for and by its status. Three statuses never come, and Spent of a base alone.
 abbrev pub Did : Mode → Status → Option (List ℕ) → Option (List ℕ) → Option (List ℕ) → Option (List ℕ) → Type 0
 Did m status.Ok left now_left taken now_taken = PlayedAll m status.Ok left now_left taken now_taken
 Did m status.PollFault left now_left taken now_taken = PlayedAll m status.PollFault left now_left taken now_taken
@@ -77,7 +83,7 @@ Did m status.Memory left now_left taken now_taken = ⊤
 Did m status.Usage left now_left taken now_taken = ⊥
 Did m (status.Stopped link turn) left now_left taken now_taken = ⊥
 Did m status.OpenFault left now_left taken now_taken = ⊥
-Did m status.Spent left now_left taken now_taken = ⊥
+Did m status.Spent left now_left taken now_taken = PlayedAll m status.Spent left now_left taken now_taken
 
 -- words that ask for no mode are refused, and what a call did with the others
 abbrev pub DidWith : Option Mode → Status → Option (List ℕ) → Option (List ℕ) → Option (List ℕ) → Option (List ℕ) → Type 0

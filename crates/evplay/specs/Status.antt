@@ -7,6 +7,8 @@ use Rattle.script_text.specs.declared.script.ScriptFault.{ScriptFault}
 use Rattle.script_text.specs.declared.script.ScriptFault.TheVariants as script
 use Rattle.buffers_mode.specs.declared.fault.ModeFault.{ModeFault}
 use Rattle.buffers_mode.specs.declared.fault.ModeFault.TheVariants as buffers
+use Rattle.base_mode.specs.declared.fault.ModeFault.{ModeFault as BaseFault}
+use Rattle.base_mode.specs.declared.fault.ModeFault.TheVariants as base
 use Rattle.relay_drive.specs.declared.fault.DriveFault.{DriveFault}
 use Rattle.relay_drive.specs.declared.fault.DriveFault.TheVariants as fault
 
@@ -27,6 +29,12 @@ abbrev pub buffers_status : ModeFault → Status
 buffers_status buffers.Memory = status.Memory
 buffers_status (buffers.BadLine line) = status.BadScript line
 buffers_status buffers.Spent = status.Spent
+
+-- the status where a script of a base is not played
+abbrev pub base_status : BaseFault → Status
+base_status base.Memory = status.Memory
+base_status (base.BadLine line) = status.BadScript line
+base_status base.Spent = status.Spent
 
 -- the status of the process
 abbrev pub status_number : Status → ℕ

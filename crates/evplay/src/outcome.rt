@@ -1,11 +1,12 @@
 // What a script comes to, by its mode: the text that is to be written, and how the program ends once it is.
 ghost use Rattle.std.specs.Prelude.{◌≤◌, ◌^◌, length, IfOk, IfErr};
-ghost use Rattle.evplay.specs.declared.words.Mode.TheVariants.{Relay, Buffers};
+ghost use Rattle.evplay.specs.declared.words.Mode.TheVariants.{Relay, Buffers, Base};
 ghost use Rattle.evplay.specs.Play.{ComesTo, Refuses};
 
 use crate::run::run;
-use crate::status::{buffers_status, fault_status, script_status};
+use crate::status::{base_status, buffers_status, fault_status, script_status};
 use crate::words::Mode;
+use base_mode::play_base;
 use buffers_mode::play_buffers;
 use ev_types::Status;
 use script_text::read_script;
@@ -30,6 +31,7 @@ pub fn outcome_of(alloc: Global, mode: Mode, text: &[u8]) -> Result<Outcome, Sta
     match mode {
         Mode::Relay => relay(alloc, text),
         Mode::Buffers => buffers(alloc, text),
+        Mode::Base => base(alloc, text),
     }
 }
 
@@ -63,5 +65,23 @@ fn buffers(alloc: Global, text: &[u8]) -> Result<Outcome, Status>
             status: Status::Ok,
         }),
         Err(fault) => Err(buffers_status(fault)),
+    }
+}
+
+/// What the script of a base that the text spells comes to. Where a number of the base is spent, its text so far.
+fn base(alloc: Global, text: &[u8]) -> Result<Outcome, Status>
+    ensures comes_to { IfOk result (λ outcome. ComesTo Base text.now outcome.status outcome.text.items) }
+    ensures refused { IfErr result (λ status. Refuses Base text.now status) }
+{
+    match play_base(alloc, text) {
+        Ok(played) => Ok(Outcome {
+            text: played.text,
+            status: if played.spent {
+                Status::Spent
+            } else {
+                Status::Ok
+            },
+        }),
+        Err(fault) => Err(base_status(fault)),
     }
 }

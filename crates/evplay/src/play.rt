@@ -29,7 +29,7 @@ pub fn play<S: Source, K: Sink>(
 
     // The words are looked at before all else. What is not written wholly or in part is not written at all.
     ensures unread { result ≡ Status.Usage → source.new ≡ source.old }
-    ensures unwritten { result ≢ Status.Ok → result ≢ Status.PollFault → result ≢ Status.WriteFault → sink.new ≡ sink.old }
+    ensures unwritten { result ≢ Status.Ok → result ≢ Status.PollFault → result ≢ Status.Spent → result ≢ Status.WriteFault → sink.new ≡ sink.old }
 
     // A fault is answered only where its count rose in this call. With every other answer the counts are as they were.
     ensures read_fault { result ≡ Status.ReadFault → Rose (S.faults source.old) (S.faults source.new) }

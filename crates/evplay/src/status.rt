@@ -1,7 +1,8 @@
 // What the process says of how the program ended.
 ghost use Rattle.std.specs.Prelude.{◌≡◌, IfOk, Some, option_map, string_bytes};
-ghost use Rattle.evplay.specs.Status.{status_number, status_text, status_of, bad_status, buffers_status};
+ghost use Rattle.evplay.specs.Status.{status_number, status_text, status_of, bad_status, base_status, buffers_status};
 
+use base_mode::ModeFault as BaseModeFault;
 use buffers_mode::ModeFault;
 use ev_types::Status;
 use relay_drive::DriveFault;
@@ -77,5 +78,16 @@ pub fn buffers_status(fault: ModeFault) -> Status
         ModeFault::Memory => Status::Memory,
         ModeFault::BadLine(line) => Status::BadScript(line),
         ModeFault::Spent => Status::Spent,
+    }
+}
+
+/// How the program ends where a script of a base is not played.
+pub fn base_status(fault: BaseModeFault) -> Status
+    ensures { result ≡ base_status fault }
+{
+    match fault {
+        BaseModeFault::Memory => Status::Memory,
+        BaseModeFault::BadLine(line) => Status::BadScript(line),
+        BaseModeFault::Spent => Status::Spent,
     }
 }

@@ -11,6 +11,8 @@ pub enum Mode {
     Relay,
     /// A script of sixteen buffers.
     Buffers,
+    /// A script of events, timers and signals.
+    Base,
 }
 
 /// The mode that the words ask for. `None` exactly where they are not one mode word.
@@ -30,6 +32,8 @@ fn mode_named(word: &str) -> Option<Mode>
         Some(Mode::Relay)
     } else if word == "buffers" {
         Some(Mode::Buffers)
+    } else if word == "base" {
+        Some(Mode::Base)
     } else {
         None
     }
