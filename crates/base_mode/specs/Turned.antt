@@ -17,12 +17,14 @@ abbrev pub after_fired : Fired → (RunValue → Outcome) → Outcome
 after_fired (Fired.Over r) on = Ok r
 after_fired (Fired.Called outcome) on = going_on outcome on
 
--- the run after all callbacks of the batch, of which so many are called at most
+-- The run after all callbacks of the batch, of which so many are called at most.
 unfoldable pub all_fired : ℕ → RunValue → Outcome
 all_fired zero r = Ok r
 all_fired (suc more) r = after_fired (next_fired r) (all_fired more)
 
--- the most callbacks that a turn calls
+-- The most callbacks that a turn calls. It is more than any batch owes: a line adds at most 1,000 calls to each of 256
+-- events, so a batch that owes more would need more than 2^46 lines, and no callback adds to what its own batch owes, since
+-- what becomes active meanwhile waits for a later turn.
 abbrev pub MOST_FIRES : ℕ
 MOST_FIRES = 2 ^ 64 - 1
 

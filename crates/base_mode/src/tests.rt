@@ -1,5 +1,66 @@
+// Scripts with what they are answered, and texts that are refused.
 use super::*;
 use std::test::Fail;
+
+/// Scripts, each with what it is answered.
+const SCRIPTS: [(&str, &str); 10] = [
+    ("base 1", "ok\n"),
+    (
+        "base 2\nnew 0 persist signal 5\nprio 0 0\nadd 0\nsignal 5 3\nturn 0\n",
+        "ok\nok\nok\nok\nok\nturn 0\nfired 0 08\nfired 0 08\nfired 0 08\nnext none\n",
+    ),
+    (
+        "base 2\nnew 0 persist signal 5\nprio 0 0\nadd 0\nsignal 5 3\non 0 2 del 0\nturn 0\n",
+        "ok\nok\nok\nok\nok\nturn 0\nfired 0 08\nfired 0 08\nnext none\n",
+    ),
+    (
+        "base 1\nnew 7 persist\nadd 7 10\nturn 0\nturn 10\nturn 25\nturn 5\n",
+        "ok\nok\nok\nturn 0\nnext 10\nturn 10\nfired 7 01\nnext 10\nturn 25\nfired 7 01\nnext 5\nturn 25\nnext 5\n",
+    ),
+    (
+        "base 2\nnew 3 once\nprio 3 2\nactive 3\nprio 3 0\ndel 3\nprio 3 0\nturn 1\n",
+        "ok\nok\nrefused BadPriority\nok\nrefused IsActive\nok\nok\nturn 1\nnext none\n",
+    ),
+    (
+        "base 1\nnew 0 once\nnew 1 once\nactive 0\nactive 1\non 0 1 break\nturn 2\nturn 3\n",
+        "ok\nok\nok\nok\nok\nturn 2\nfired 0 02\nnext 0\nturn 3\nnext none\n",
+    ),
+    (
+        "base 1\nnew 0 once\nnew 1 once\nactive 0\nactive 1\non 0 1 exit\nturn 2\nturn 3\n",
+        "ok\nok\nok\nok\nok\nturn 2\nfired 0 02\nfired 1 02\nnext none\nturn 3\nnext none\n",
+    ),
+    (
+        "base 1\nnew 0 persist\non 0 1 active 1\non 0 2 active 1\nactive 0\nturn 0\nnew 1 once\nactive 0\nturn 0\nturn 0\n",
+        "ok\nok\nok\nturn 0\nfired 0 02\nnext none\nok\nok\nturn 0\nfired 0 02\nnext 0\nturn 0\nfired 1 02\nnext none\n",
+    ),
+    (
+        "base 1\nnew 0 once\non 0 1 active 0\non 0 1 add 0 4\nactive 0\nturn 0\nturn 0\n",
+        "ok\nok\nok\nturn 0\nfired 0 02\nnext 0\nturn 0\nfired 0 02\nnext none\n",
+    ),
+    (
+        "base 2\nnew 0 once\nnew 1 once\nprio 0 1\nprio 1 0\nactive 0\nactive 1\nturn 0\nturn 0\n",
+        "ok\nok\nok\nok\nok\nok\nok\nturn 0\nfired 1 02\nnext 0\nturn 0\nfired 0 02\nnext none\n",
+    ),
+];
+
+#[test]
+fn scripts_are_answered_line_by_line(rt: HostRuntime) -> Result<(), Fail> {
+    for (script, answers) in SCRIPTS {
+        let played = play_base(rt.alloc(), script.as_bytes())?;
+        assert_eq!(rt; played.text.as_slice(), answers.as_bytes());
+        assert!(rt; !played.spent);
+    }
+    Ok(())
+}
+
+#[test]
+fn nothing_is_played_of_a_bad_text(rt: HostRuntime) -> Result<(), Fail> {
+    match play_base(rt.alloc(), b"base 1\nturn 0\nturn x\n") {
+        Err(ModeFault::BadLine(line)) => assert_eq!(rt; line, 3),
+        _ => assert!(rt; false),
+    }
+    Ok(())
+}
 
 /// The number of the first bad line of a text, or 0 for a script.
 fn bad_line(rt: &impl AllocGlobal, text: &str) -> Result<u32, Fail> {
