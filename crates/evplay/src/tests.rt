@@ -175,6 +175,20 @@ fn buffers_answer_line_by_line(rt: HostRuntime) -> Result<(), Fail> {
 }
 
 #[test]
+fn a_persistent_timer_counts_from_its_schedule(rt: HostRuntime) -> Result<(), Fail> {
+    let as_owed = comes_to(
+        rt.alloc(),
+        "base",
+        "base 1\nnew 0 persist\nadd 0 100\nturn 100\nturn 150\nturn 230\nturn 430\n",
+        Status::Ok,
+        "ok\nok\nok\nturn 100\nfired 0 01\nnext 100\nturn 150\nnext 50\n\
+         turn 230\nfired 0 01\nnext 70\nturn 430\nfired 0 01\nnext 100\n",
+    )?;
+    assert!(rt; as_owed);
+    Ok(())
+}
+
+#[test]
 fn a_text_of_one_byte_too_many_is_too_long(rt: HostRuntime) -> Result<(), Fail> {
     let alloc = rt.alloc();
     let text = vec![in alloc; b'#'; (1 << 24) + 1]?;
