@@ -111,8 +111,8 @@ abbrev pub called_back : RunValue → ℕ → ℕ → Outcome
 called_back r number flags =
     if nat_lt number (length r.fires)
     then (let event = slice_index (made r.before) number in
-        let nth = slice_index r.fires number + 1 in
-        after_call (with_text r (fired_text event flags)) number nth (after_fire r event nth))
+    let nth = slice_index r.fires number + 1 in
+    after_call (with_text r (fired_text event flags)) number nth (after_fire r event nth))
     else Ok r
 
 -- what comes of the batch of a turn: it is over, or a callback was called
