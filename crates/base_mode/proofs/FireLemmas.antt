@@ -1,5 +1,5 @@
 -- One fire of a batch, and all of them.
-use Rattle.std.proofs.Common.{◌≡◌, ◌∙◌, sym, ap, refl, ℕ, zero, suc, ◌+◌, ◌<◌, ◌≤◌, add-one, arith, Bool, true, false, cond, Option, Some, None, Result, Ok, Err}
+use Rattle.std.proofs.Common.{◌≡◌, ◌∙◌, sym, ap, refl, ℕ, zero, suc, ◌+◌, ◌<◌, ◌≤◌, add-one, arith, Bool, true, false, cond, Some, Ok, Err}
 use Rattle.event_base.specs.Base.{BaseValue}
 use Rattle.event_base.specs.Calls as call
 use Rattle.base_mode.specs.declared.fault.ModeFault.{ModeFault}

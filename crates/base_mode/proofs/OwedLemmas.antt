@@ -1,9 +1,7 @@
 -- No callback adds to what the batch of a turn owes, and each fire takes one from it.
-use Rattle.std.proofs.Common.{◌≡◌, ◌∙◌, sym, ap, refl, subst, ℕ, ◌+◌, ◌-◌, ◌<◌, ◌≤◌, ◌&&◌, ◌==◌, not, Bool, true, false, cond, max, nat_lt, nat_le, ltb-false, List, [], ◌∷◌, length, get_or, set, sum_by, arith, Option, Some, None, option_and_then, slice_get, Result, Ok, Err}
+use Rattle.std.proofs.Common.{◌≡◌, ap, refl, ℕ, ◌+◌, ◌-◌, ◌<◌, ◌≤◌, ◌&&◌, ◌==◌, Bool, true, false, cond, max, nat_lt, nat_le, List, [], ◌∷◌, length, get_or, set, sum_by, arith, Option, Some, None, option_and_then, slice_get, Ok, Err}
 use Rattle.std.specs.Option.{option_map_or}
-use Rattle.std.specs.List.{list_any}
 use Rattle.std.proofs.lemmas.List.Sums.{sum_by-set}
-use Rattle.std.proofs.lemmas.List.Quantifiers.{position-Some}
 use Rattle.std.proofs.lemmas.Option.{get_or_from_slice_get, slice_get_within}
 use Rattle.std.proofs.lemmas.Bool.Decides.{nat_tests}
 use Rattle.event_base.specs.declared.event.Event.{Event}
@@ -11,11 +9,9 @@ use Rattle.event_base.specs.declared.event.Activation.{Activation}
 use Rattle.event_base.specs.declared.fault.BaseFault.{BaseFault}
 use Rattle.event_base.specs.declared.fault.BaseFault.TheVariants as base
 use Rattle.event_base.specs.Base.{BaseValue}
-use Rattle.event_base.specs.Turns.{in_batch, made_earlier, is_first, next_event}
-use Rattle.event_base.specs.Events.{one_less, called, added, deleted, activated, joined, not_by_timeout, has_timed_out, is_active}
+use Rattle.event_base.specs.Events.{one_less, added, deleted, activated, joined, not_by_timeout, has_timed_out, is_active}
 use Rattle.event_base.specs.declared.event.Timeout.{Timeout}
 use Rattle.event_base.specs.Calls as call
-use Rattle.event_base.specs.Fires.{is_past_numbers, is_set_again}
 use Rattle.base_mode.specs.declared.command.Act.{Act}
 use Rattle.base_mode.specs.declared.command.Act.TheVariants as act
 use Rattle.base_mode.specs.Run.{number_of, act_step, kept, after_acts}

@@ -1,5 +1,5 @@
 -- One step of the batch more, and why the run stops.
-use Rattle.std.proofs.Common.{◌≡◌, ◌∙◌, sym, refl, ◌+◌}
+use Rattle.std.proofs.Common.{◌≡◌, ◌∙◌, refl, ◌+◌}
 use Rattle.std.proofs.lemmas.Result.{err_from_is_err_and}
 use Rattle.base_mode.specs.Turned.{owed, whole_batch}
 use Rattle.base_mode.proofs.FireLemmas.{all_fired-stopped, fires-smaller, fires-left, fires-closed}
