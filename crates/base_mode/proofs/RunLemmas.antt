@@ -1,5 +1,5 @@
 -- Steps of a run, put together.
-use Rattle.std.proofs.Common.{◌≡◌, ◌∙◌, sym, ap, refl, ℕ, ◌+◌, ◌<◌, ◌≤◌, ◌==◌, ◌++◌, not, Bool, true, false, cond, nat_lt, ltb-true, ltb-false, List, [], ◌∷◌, length, arith, Option, Some, None, MatchOption, Result, Ok, Err, OnOk, OnErr, IfErr}
+use Rattle.std.proofs.Common.{◌≡◌, sym, ap, refl, ℕ, ◌+◌, ◌≤◌, ◌==◌, ◌++◌, not, Bool, true, false, cond, nat_lt, ltb-false, List, [], ◌∷◌, length, arith, Some, None, MatchOption, Result, Ok, Err, OnOk, OnErr, IfErr}
 use Rattle.std.specs.List.{prefix_len, position_or_len, position}
 use Rattle.event_base.specs.declared.fault.BaseFault.{BaseFault}
 use Rattle.event_base.specs.declared.fault.BaseFault.TheVariants as base
@@ -7,7 +7,7 @@ use Rattle.event_base.specs.Base.{BaseValue}
 use Rattle.event_base.specs.Calls.{Step, IsAnswer}
 use Rattle.base_mode.specs.declared.fault.ModeFault.{ModeFault}
 use Rattle.base_mode.specs.declared.fault.ModeFault.TheVariants as mode
-use Rattle.base_mode.specs.Run.{RunValue, Outcome, number_of, answered, going_on, with_text, ok_text, refused_text}
+use Rattle.base_mode.specs.Run.{RunValue, number_of, answered, with_text, ok_text, refused_text}
 use Rattle.base_mode.specs.Stops.{Went, IsWritten, IsAnswered}
 
 -- no more pass than there are

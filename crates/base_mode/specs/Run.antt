@@ -1,19 +1,17 @@
 -- What a base answers to a script: each line as a step, with the text that it adds.
-use Rattle.std.specs.Prelude.{ℕ, zero, suc, ◌+◌, ◌-◌, ◌^◌, ◌==◌, ◌&&◌, Bool, if◌then◌else◌, List, [], ◌∷◌, ◌++◌, codes, nat_lt, slice_set, slice_index, Option, Some, None, option_and_then, length, Result, Ok, Err}
+use Rattle.std.specs.Prelude.{ℕ, ◌+◌, ◌^◌, ◌==◌, ◌&&◌, if◌then◌else◌, List, [], ◌∷◌, ◌++◌, codes, nat_lt, slice_set, slice_index, Option, Some, None, option_and_then, length, Result, Ok, Err}
 use Rattle.std.specs.List.{filter_map, position_or_len}
-use Rattle.std.specs.Option.{option_map_or}
 use Rattle.std.specs.Fmt.{decimal}
 use Rattle.hex.specs.Hex.{encode_lower}
 use Rattle.script_text.specs.Lines.{line_of}
 use Rattle.event_base.specs.declared.fault.BaseFault.{BaseFault}
 use Rattle.event_base.specs.declared.fault.BaseFault.TheVariants as fault
 use Rattle.event_base.specs.Base.{BaseValue}
-use Rattle.event_base.specs.Turns.{time_at}
 use Rattle.event_base.specs.Calls as call
 use Rattle.base_mode.specs.declared.command.Act.{Act}
 use Rattle.base_mode.specs.declared.command.Act.TheVariants as act
 use Rattle.base_mode.specs.declared.command.Command.{Command}
-use Rattle.base_mode.specs.declared.command.Command.TheVariants.{New, Priority, Add, Delete, Activate, Signal, On, Turn}
+use Rattle.base_mode.specs.declared.command.Command.TheVariants.{On}
 use Rattle.base_mode.specs.Order.{made}
 
 -- A run of some lines: the base, the time of its last turn, the lines that were run, how often each event fired, by its
@@ -111,8 +109,8 @@ abbrev pub called_back : RunValue → ℕ → ℕ → Outcome
 called_back r number flags =
     if nat_lt number (length r.fires)
     then (let event = slice_index (made r.before) number in
-        let nth = slice_index r.fires number + 1 in
-        after_call (with_text r (fired_text event flags)) number nth (after_fire r event nth))
+    let nth = slice_index r.fires number + 1 in
+    after_call (with_text r (fired_text event flags)) number nth (after_fire r event nth))
     else Ok r
 
 -- what comes of the batch of a turn: it is over, or a callback was called

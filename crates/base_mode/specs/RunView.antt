@@ -1,5 +1,5 @@
 -- How a run keeps what contracts see of it.
-use Rattle.std.specs.Prelude.{◌≡◌, ℕ, ◌<◌, ◌^◌, length}
+use Rattle.std.specs.Prelude.{◌≡◌, ◌<◌, ◌^◌, length}
 use Rattle.base_mode.specs.declared.run.Run.TheInside.{Inside}
 use Rattle.base_mode.specs.Order.{made}
 use Rattle.base_mode.specs.Run.{RunValue}

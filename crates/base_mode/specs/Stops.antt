@@ -1,5 +1,5 @@
 -- Why a run stops, and what is written of a call.
-use Rattle.std.specs.Prelude.{◌≡◌, ⊤, ℕ, ◌++◌, Bool, true, false, List, Option, Some, None, Result, Ok, Err}
+use Rattle.std.specs.Prelude.{◌≡◌, ⊤, ℕ, ◌++◌, Bool, true, false, List, Option, None, Result, Ok, Err}
 use Rattle.event_base.specs.declared.fault.BaseFault.{BaseFault}
 use Rattle.event_base.specs.declared.fault.BaseFault.TheVariants as base
 use Rattle.base_mode.specs.declared.fault.ModeFault.{ModeFault}

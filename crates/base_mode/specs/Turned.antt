@@ -1,9 +1,11 @@
 -- What a base answers to a turn, to a line and to a whole script.
-use Rattle.std.specs.Prelude.{ℕ, zero, suc, ◌-◌, ◌^◌, Bool, true, false, if◌then◌else◌, List, [], ◌∷◌, ◌++◌, codes, Option, Some, None, Result, Ok, Err}
+use Rattle.std.specs.Prelude.{ℕ, zero, suc, ◌+◌, ◌≤◌, max, sum_by, Bool, true, false, if◌then◌else◌, List, [], ◌∷◌, ◌++◌, codes, Option, Some, None, Result, Ok, Err}
+use Rattle.std.specs.Option.{option_map_or}
 use Rattle.std.specs.Fmt.{decimal}
 use Rattle.script_text.specs.Lines.{line_of}
 use Rattle.event_base.specs.Base.{BaseValue}
-use Rattle.event_base.specs.Turns.{time_at}
+use Rattle.event_base.specs.declared.event.Event.{Event}
+use Rattle.event_base.specs.Turns.{time_at, in_batch}
 use Rattle.event_base.specs.Calls as call
 use Rattle.base_mode.specs.declared.command.Command.{Command}
 use Rattle.base_mode.specs.declared.command.Command.TheVariants.{New, Priority, Add, Delete, Activate, Signal, On, Turn}
@@ -17,16 +19,27 @@ abbrev pub after_fired : Fired → (RunValue → Outcome) → Outcome
 after_fired (Fired.Over r) on = Ok r
 after_fired (Fired.Called outcome) on = going_on outcome on
 
--- The run after all callbacks of the batch, of which so many are called at most.
+-- how many callbacks the batch owes for an event
+abbrev pub owed_by : BaseValue → Event → ℕ
+owed_by b e = if in_batch b e then option_map_or (λ a. max a.count 1) e.active 0 else 0
+
+-- how many callbacks the batch of the turn owes
+abbrev pub owed : BaseValue → ℕ
+owed b = sum_by (owed_by b) b.events
+
+-- what becomes active from now on is not in the batch
+abbrev pub IsClosed : BaseValue → Type 0
+IsClosed b = b.batch_end ≤ b.next_activation
+
+-- the run after so many steps of the batch: each calls a callback, or finds that the batch is over
 unfoldable pub all_fired : ℕ → RunValue → Outcome
 all_fired zero r = Ok r
 all_fired (suc more) r = after_fired (next_fired r) (all_fired more)
 
--- The most callbacks that a turn calls. It is more than any batch owes: a line adds at most 1,000 calls to each of 256
--- events, so a batch that owes more would need more than 2^46 lines, and no callback adds to what its own batch owes, since
--- what becomes active meanwhile waits for a later turn.
-abbrev pub MOST_FIRES : ℕ
-MOST_FIRES = 2 ^ 64 - 1
+-- The run after the whole batch: a step for each callback that it owes, and one that finds it over. No more are wanted, since
+-- each callback takes one from what the batch owes, and nothing that a callback does adds to it.
+abbrev pub whole_batch : RunValue → Outcome
+whole_batch r = all_fired (owed r.base + 1) r
 
 -- the text of a turn at this time
 abbrev pub turn_text : ℕ → List ℕ
@@ -54,7 +67,7 @@ turn_ended over r = with_text r (next_text (wait_after over r.base))
 abbrev pub turned : RunValue → ℕ → Outcome
 turned r ms =
     going_on (begun r ms (call.begin_turn r.base ms))
-    (λ started. going_on (all_fired MOST_FIRES started) (λ done. Ok (turn_ended (call.ended r.base) done)))
+    (λ started. going_on (whole_batch started) (λ done. Ok (turn_ended (call.ended r.base) done)))
 
 -- the run after what a line asks for
 abbrev pub obeyed : RunValue → Command → Outcome

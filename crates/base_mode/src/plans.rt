@@ -51,11 +51,7 @@ fn tell(
 }
 
 /// Takes in what a line tells a callback. Takes memory.
-pub fn note(
-    alloc: Global,
-    plans: &mut BTreeMap<u32, Plan>,
-    line: &Command,
-) -> Result<(), NoMemory>
+pub fn note(alloc: Global, plans: &mut BTreeMap<u32, Plan>, line: &Command) -> Result<(), NoMemory>
     ensures { OnOk result ((e k : ℕ) → acts_of plans.new e k ≡ acts_of plans.old e k ++ acts_at e k (line.now ∷ [])) }
 {
     match line {

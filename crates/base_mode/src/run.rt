@@ -4,7 +4,7 @@ ghost use Rattle.std.specs.Option.{ForSome};
 ghost use Rattle.event_base.specs.Calls as call;
 ghost use Rattle.base_mode.specs.Order.{made};
 ghost use Rattle.base_mode.specs.Run.{number_of, answered, called_back, next_fired};
-ghost use Rattle.base_mode.specs.Turned.{MOST_FIRES, all_fired, begun, turn_ended, turned, obeyed, new_fires, recorded, run, all_run, start};
+ghost use Rattle.base_mode.specs.Turned.{IsClosed, whole_batch, begun, turn_ended, turned, obeyed, new_fires, recorded, run, all_run, start};
 ghost use Rattle.base_mode.specs.Stops.{Went, HasFired, HasRun, IsAnswered};
 
 use crate::acts::{number_in, perform_all};
@@ -172,7 +172,8 @@ impl Run {
     }
 
     fn begin_turn(&mut self, alloc: Global, ms: u64) -> Result<(), ModeFault>
-        ensures { Went result self.new (begun self.old ms (call.begin_turn self.old.base ms)) }
+        ensures begun { Went result self.new (begun self.old ms (call.begin_turn self.old.base ms)) }
+        ensures closed { OnOk result (IsClosed self.new.base) }
     {
         match self.base.begin_turn(ms) {
             Ok(()) => {}
@@ -187,12 +188,12 @@ impl Run {
 
     /// Calls all callbacks of the batch.
     fn fire_all(&mut self, alloc: Global) -> Result<(), ModeFault>
-        ensures { Went result self.new (all_fired MOST_FIRES self.old) }
+        requires closed { IsClosed self.old.base }
+        ensures { Went result self.new (whole_batch self.old) }
     {
-        for fires in 0..u64::MAX {
-            if !self.fire_next(alloc)? {
-                return Ok(());
-            }
+        let mut fires = true;
+        while fires {
+            fires = self.fire_next(alloc)?;
         }
         Ok(())
     }
@@ -226,11 +227,7 @@ impl Run {
         let Some(nth) = self.fires[place].checked_add(1) else {
             return Err(ModeFault::Spent);
         };
-        perform_all(
-            &mut self.base,
-            &self.names,
-            acts(&self.plans, event, nth),
-        )?;
+        perform_all(&mut self.base, &self.names, acts(&self.plans, event, nth))?;
         self.fires[place] = nth;
         Ok(())
     }
@@ -239,11 +236,7 @@ impl Run {
     fn end_turn(&mut self, alloc: Global, over: bool) -> Result<(), ModeFault>
         ensures { Went result self.new (Ok (turn_ended over self.old)) }
     {
-        let wait = if over {
-            None
-        } else {
-            self.base.poll_timeout()
-        };
+        let wait = if over { None } else { self.base.poll_timeout() };
         let line = answer::next(alloc, wait)?;
         self.text.extend_from_slice(line.as_bytes())?;
         Ok(())
@@ -292,11 +285,7 @@ fn ms_of(delay: &Option<Delay>) -> Option<u64>
 }
 
 /// Keeps the name of the event that a line makes, which has not fired yet.
-fn keep_event(
-    names: &mut Vec<u32>,
-    fires: &mut Vec<u64>,
-    line: &Command,
-) -> Result<(), NoMemory>
+fn keep_event(names: &mut Vec<u32>, fires: &mut Vec<u64>, line: &Command) -> Result<(), NoMemory>
     ensures names { OnOk result (names.new.items ≡ names.old.items ++ made (line.now ∷ [])) }
     ensures fires { OnOk result (fires.new.items ≡ fires.old.items ++ new_fires line.now) }
     ensures each { OnOk result (length fires.old.items ≡ length names.old.items → length fires.new.items ≡ length names.new.items) }

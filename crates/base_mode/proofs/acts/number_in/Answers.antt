@@ -1,5 +1,4 @@
 -- The number is the place, or how many there are.
-use Rattle.std.proofs.Common.{◌≡◌}
 use Rattle.base_mode.proofs.RunLemmas.{number_of-position}
 use Rattle.base_mode.proofs.acts.number_in.Goals as goal
 

@@ -1,5 +1,5 @@
 -- What the line tells is what it says.
-use Rattle.std.proofs.Common.{◌≡◌, ◌∙◌, ap, ℕ, ◌++◌, List}
+use Rattle.std.proofs.Common.{◌∙◌, ap, ◌++◌, List}
 use Rattle.std.proofs.lemmas.Result.{on_ok_weaker}
 use Rattle.base_mode.specs.declared.command.Act.{Act}
 use Rattle.base_mode.specs.Plans.{acts_of}

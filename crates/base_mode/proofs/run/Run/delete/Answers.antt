@@ -1,5 +1,4 @@
 -- The answer of the call was written.
-use Rattle.std.proofs.Common.{◌≡◌, sym}
 use Rattle.event_base.specs.Calls as call
 use Rattle.base_mode.specs.RunView.{run_of}
 use Rattle.base_mode.proofs.RunLemmas.{Went-answered, exactly}

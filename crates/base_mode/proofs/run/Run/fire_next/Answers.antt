@@ -1,5 +1,5 @@
 -- The next callback was called.
-use Rattle.std.proofs.Common.{◌≡◌, sym, Some}
+use Rattle.std.proofs.Common.{◌≡◌, Some}
 use Rattle.event_base.specs.Calls as call
 use Rattle.base_mode.specs.RunView.{run_of}
 use Rattle.base_mode.proofs.FireLemmas.{next_fired-called}
