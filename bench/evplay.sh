@@ -72,7 +72,7 @@ for l in 1 16 256; do
         measure relay "$l links, $n turns"
     done
 done
-for l in 1 16 128; do
+for l in 1 16 64; do
     moved "$l" 32768 > "$work/script"
     measure relay "$l links, 32 KiB each way"
 done
