@@ -12,10 +12,13 @@ use Rattle.base_mode.specs.Plans.{Plan, acts_of, AreTold}
 -- what a line that tells a callback something tells the others
 pub acts_at-on : (e k event nth : ℕ) (what : Act) → cond (event == e && nth == k) (what ∷ []) [] ≡ acts_at e k (On event nth what ∷ [])
 acts_at-on e k event nth what =
-    elim (event == e && nth == k) as (λ b. cond b (what ∷ []) [] ≡ filter_map (λ (line : Command). cond b (Some what) None) (On event nth what ∷ [])) [ true ↦ refl | false ↦ refl ]
+    elim (event == e && nth == k) as
+    (λ b. cond b (what ∷ []) [] ≡ filter_map (λ (line : Command). cond b (Some what) None) (On event nth what ∷ []))
+    [ true ↦ refl | false ↦ refl ]
 
 -- what the lines tell with one more
 pub AreTold-more : (old new : BTreeMap ℕ Plan) (line : Command) → ((e k : ℕ) → acts_of new e k ≡ acts_of old e k ++ acts_at e k (line ∷ []))
     → (before : List Command) → AreTold old before → AreTold new (before ++ line ∷ [])
 AreTold-more old new line more before told e k =
-    more e k ∙ ap (λ (acts : List Act). acts ++ acts_at e k (line ∷ [])) (told e k) ∙ sym (filter_map-append (act_for e k) before (line ∷ []))
+    more e k ∙ ap (λ (acts : List Act). acts ++ acts_at e k (line ∷ [])) (told e k)
+    ∙ sym (filter_map-append (act_for e k) before (line ∷ []))

@@ -3,8 +3,8 @@ use Rattle.std.specs.Prelude.{◌≡◌, ℕ, ◌+◌, ◌-◌, ◌^◌, ⊤, mi
 use Rattle.std.specs.List.{list_all}
 use Rattle.script_text.specs.Pieces.{lines, words}
 use Rattle.script_text.specs.Spelled.{is_plain}
-use Rattle.base_mode.specs.declared.fault.ModeFault.{ModeFault}
-use Rattle.base_mode.specs.declared.fault.ModeFault.TheVariants.{Memory, BadLine, Spent}
+use Rattle.script_text.specs.declared.script.ScriptFault.{ScriptFault}
+use Rattle.script_text.specs.declared.script.ScriptFault.TheVariants.{Memory, BadLine}
 use Rattle.base_mode.specs.Script.{ScriptSoFar, ScriptValue}
 use Rattle.base_mode.specs.Grammar.{said}
 use Rattle.base_mode.specs.Order.{extended}
@@ -45,9 +45,8 @@ abbrev pub script_of : List ℕ → Result ScriptValue ℕ
 script_of text = whole (length (lines text)) (lines_read no_line 0 (lines text))
 
 -- A text that was refused for a line has this one as its first bad line. A number above 2^32 - 1 is told as that
--- number. Memory may run out whatever the text is, and no text is refused for a number of the base.
-abbrev pub IsTold : ModeFault → Result ScriptValue ℕ → Type 0
+-- number. Memory may run out whatever the text is.
+abbrev pub IsTold : ScriptFault → Result ScriptValue ℕ → Type 0
 IsTold Memory spelled = ⊤
-IsTold Spent spelled = ⊥
 IsTold (BadLine told) (Ok script) = ⊥
 IsTold (BadLine told) (Err line) = told ≡ min line (2 ^ 32 - 1)

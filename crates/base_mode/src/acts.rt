@@ -4,7 +4,7 @@ ghost use Rattle.base_mode.specs.Run.{number_of, act_step, kept, after_acts};
 ghost use Rattle.base_mode.specs.Stops.{IsStop, passed_on};
 
 use crate::command::Act;
-use crate::fault::ModeFault;
+use crate::halt::Halt;
 use event_base::{Base, BaseFault, READ};
 
 /// The number that the base gave to the event of a name, or that of none.
@@ -26,7 +26,7 @@ fn place_of(names: &[u32], event: u32) -> Option<usize>
 }
 
 /// Makes the call of an act. Its answer is dropped, unless a number is spent or memory ran out.
-fn perform(base: &mut Base, names: &[u32], act: &Act) -> Result<(), ModeFault>
+fn perform(base: &mut Base, names: &[u32], act: &Act) -> Result<(), Halt>
     requires { length names.now < 2 ^ 32 }
     ensures ok { OnOk result (kept base.old (act_step base.old names.now act.now) ≡ Some base.new) }
     ensures err { IfErr result (λ fault. IsStop fault (kept base.old (act_step base.old names.now act.now))) }
@@ -49,18 +49,18 @@ fn perform(base: &mut Base, names: &[u32], act: &Act) -> Result<(), ModeFault>
 }
 
 /// What a refusal of a call means where its answer isn't written: nothing, unless a number is spent or memory ran out.
-fn passed(outcome: Result<(), BaseFault>) -> Result<(), ModeFault>
+fn passed(outcome: Result<(), BaseFault>) -> Result<(), Halt>
     ensures { result ≡ passed_on outcome }
 {
     match outcome {
-        Err(BaseFault::Memory) => Err(ModeFault::Memory),
-        Err(BaseFault::Spent) => Err(ModeFault::Spent),
+        Err(BaseFault::Memory) => Err(Halt::Memory),
+        Err(BaseFault::Spent) => Err(Halt::Spent),
         _ => Ok(()),
     }
 }
 
 /// Makes the calls of some acts, in their order. Takes memory.
-pub fn perform_all(base: &mut Base, names: &[u32], acts: &[Act]) -> Result<(), ModeFault>
+pub fn perform_all(base: &mut Base, names: &[u32], acts: &[Act]) -> Result<(), Halt>
     requires { length names.now < 2 ^ 32 }
     ensures ok { OnOk result (after_acts base.old names.now acts.now ≡ Some base.new) }
     ensures err { IfErr result (λ fault. IsStop fault (after_acts base.old names.now acts.now)) }

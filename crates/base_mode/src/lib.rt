@@ -4,7 +4,7 @@
 mod acts;
 mod answer;
 mod command;
-mod fault;
+mod halt;
 mod line;
 mod plans;
 mod play;
@@ -13,7 +13,6 @@ mod run;
 mod stop;
 
 pub use command::{Act, Command, Delay};
-pub use fault::ModeFault;
 pub use play::{Played, play_base};
 pub use read::{BaseScript, read_base_script};
 

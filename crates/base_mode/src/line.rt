@@ -1,10 +1,9 @@
 // What one line says, whatever stands before it. Whether it may stand there is left to the reader of a script.
 ghost use Rattle.std.specs.Prelude.{◌≡◌, ◌∷◌, ◌<◌, ◌^◌, [], map};
-ghost use Rattle.std.specs.Str.{bytes_eq};
 ghost use Rattle.base_mode.specs.Grammar.{keyword_of, event_of, delay_of, ranged, persists, act_of, is_comment, said, said_by};
 
 use crate::command::{Act, Command, Delay};
-use script_text::{MAX_NUMBER, number};
+use script_text::{MAX_NUMBER, is_word, number};
 
 /// The greatest name of an event.
 const MAX_EVENT: u32 = 255;
@@ -50,12 +49,6 @@ pub enum Line {
     /// A base of so many priorities.
     Base(u32),
     Put(Command),
-}
-
-fn is_word(word: &[u8], text: &str) -> bool
-    ensures { result ≡ bytes_eq word.now text.now }
-{
-    word == text.as_bytes()
 }
 
 fn is_comment_word(word: &[u8]) -> bool

@@ -3,10 +3,10 @@ ghost use Rattle.std.specs.Prelude.{◌≡◌, IfOk, IfErr, Ok};
 ghost use Rattle.base_mode.specs.Spelled.{script_of, IsTold};
 ghost use Rattle.base_mode.specs.Turned.{answers_of};
 
-use crate::fault::ModeFault;
 use crate::read::read_base_script;
 use crate::run::{Run, run_all};
 use crate::stop::Stop;
+use script_text::ScriptFault;
 use std::alloc::Global;
 
 /// What a script was answered: the text of all answers, or of those before the call for which a number of the base was
@@ -25,7 +25,7 @@ pub struct Played {
 /// and for the text of the answers.
 ///
 /// Own.
-pub fn play_base(alloc: Global, text: &[u8]) -> Result<Played, ModeFault>
+pub fn play_base(alloc: Global, text: &[u8]) -> Result<Played, ScriptFault>
     ensures played { IfOk result (λ played. answers_of text.now ≡ Ok (played.text.items, played.spent)) }
     ensures fault { IfErr result (λ fault. IsTold fault (script_of text.now)) }
 {
@@ -37,6 +37,6 @@ pub fn play_base(alloc: Global, text: &[u8]) -> Result<Played, ModeFault>
             spent: false,
         }),
         Err(Stop::Spent(text)) => Ok(Played { text, spent: true }),
-        Err(Stop::Memory) => Err(ModeFault::Memory),
+        Err(Stop::Memory) => Err(ScriptFault::Memory),
     }
 }

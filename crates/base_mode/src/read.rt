@@ -1,15 +1,12 @@
 // Reads a base script line by line. What a line says is told elsewhere; here stands where it may stand.
-ghost use Rattle.std.specs.Prelude.{◌≡◌, ◌-◌, ◌^◌, ◌<◌, [], ◌∷◌, ◌++◌, min, vec_len, vec_capacity, is_some, IfOk, IfErr, OnOk, if◌then◌else◌};
-ghost use Rattle.std.specs.List.{list_all};
-ghost use Rattle.script_text.specs.Spelled.{is_plain};
+ghost use Rattle.std.specs.Prelude.{◌≡◌, ◌<◌, [], ◌∷◌, ◌++◌, vec_len, vec_capacity, is_some, IfOk, IfErr, OnOk, if◌then◌else◌};
 ghost use Rattle.base_mode.specs.Order.{extended, may_follow, is_made, made};
 ghost use Rattle.base_mode.specs.Spelled.{line_read, ended, script_of, IsTold};
 
 use crate::command::Command;
-use crate::fault::ModeFault;
 use crate::line::{Line, line_of};
 use ev_types::NoMemory;
-use script_text::{first_piece, words_of};
+use script_text::{ScriptFault, first_piece, is_plain_text, told, words_of};
 use std::alloc::Global;
 use std::marker::Model;
 
@@ -163,7 +160,7 @@ impl Reading {
 
     /// The script of all lines, so many; where no line said the number of priorities, that of the line that is
     /// missing.
-    fn finish(self, count: usize) -> Result<BaseScript, ModeFault>
+    fn finish(self, count: usize) -> Result<BaseScript, ScriptFault>
         ensures script { IfOk result (λ script. ended count self.priorities self ≡ Ok script) }
         ensures fault { IfErr result (λ fault. IsTold fault (ended count self.priorities self)) }
     {
@@ -172,7 +169,7 @@ impl Reading {
                 priorities,
                 commands: self.commands,
             }),
-            None => Err(ModeFault::BadLine(told(count.saturating_add(1)))),
+            None => Err(ScriptFault::BadLine(told(count.saturating_add(1)))),
         }
     }
 }
@@ -187,26 +184,12 @@ fn keep_name(events: &mut Vec<u32>, command: &Command)
     }
 }
 
-/// Has a line only bytes that a script may have?
-fn is_plain_text(line: &[u8]) -> bool
-    ensures { result ≡ list_all is_plain line.now }
-{
-    line.iter().all(|b| (b' '..=b'~').contains(b))
-}
-
-/// The number of a line as it is told.
-fn told(line: usize) -> u32
-    ensures { result ≡ min line (2 ^ 32 - 1) }
-{
-    u32::try_from(line).unwrap_or(u32::MAX)
-}
-
 /// Reads a whole script. Takes memory for it and for the words of a line. A text is refused at its first line that is
 /// not in the grammar, counted from 1; a text that says no number of priorities, at the line behind its last one. A
 /// number above 2^32 - 1 is told as that number.
 ///
 /// Own.
-pub fn read_base_script(alloc: Global, text: &[u8]) -> Result<BaseScript, ModeFault>
+pub fn read_base_script(alloc: Global, text: &[u8]) -> Result<BaseScript, ScriptFault>
     ensures script { IfOk result (λ script. script_of text.now ≡ Ok script) }
     ensures fault { IfErr result (λ fault. IsTold fault (script_of text.now)) }
 {
@@ -217,7 +200,7 @@ pub fn read_base_script(alloc: Global, text: &[u8]) -> Result<BaseScript, ModeFa
         let (line, after) = first_piece(rest, b'\n');
         before += 1;
         if !reading.read_line(alloc, line)? {
-            return Err(ModeFault::BadLine(told(before)));
+            return Err(ScriptFault::BadLine(told(before)));
         }
         rest = after;
     }

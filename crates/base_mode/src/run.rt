@@ -10,7 +10,7 @@ ghost use Rattle.base_mode.specs.Stops.{Went, HasFired, HasRun, IsAnswered};
 use crate::acts::{number_in, perform_all};
 use crate::answer;
 use crate::command::{Command, Delay};
-use crate::fault::ModeFault;
+use crate::halt::Halt;
 use crate::plans::{Plan, acts, note};
 use crate::stop::Stop;
 use ev_types::NoMemory;
@@ -53,12 +53,11 @@ impl Model for Run {
 
 impl Run {
     /// A run of no line, on a base with so many priorities. Its text says that the base was made. Takes memory.
-    pub fn new(alloc: Global, priorities: u32) -> Result<Run, ModeFault>
-        ensures ok { IfOk result (λ run. run ≡ start priorities) }
-        ensures refused { IfErr result (λ fault. fault ≡ ModeFault.Memory) }
+    pub fn new(alloc: Global, priorities: u32) -> Result<Run, NoMemory>
+        ensures { IfOk result (λ run. run ≡ start priorities) }
     {
         let Ok(base) = Base::new(alloc, priorities) else {
-            return Err(ModeFault::Memory);
+            return Err(NoMemory);
         };
         let mut text = Vec::new(alloc);
         text.extend_from_slice(b"ok\n")?;
@@ -79,8 +78,8 @@ impl Run {
     {
         match self.obey(alloc, line) {
             Ok(()) => self.record(alloc, line),
-            Err(ModeFault::Spent) => Err(Stop::Spent(self.text)),
-            Err(_) => Err(Stop::Memory),
+            Err(Halt::Spent) => Err(Stop::Spent(self.text)),
+            Err(Halt::Memory) => Err(Stop::Memory),
         }
     }
 
@@ -92,7 +91,7 @@ impl Run {
     }
 
     /// Runs what a line asks for, but for what it says of an event.
-    fn obey(&mut self, alloc: Global, line: &Command) -> Result<(), ModeFault>
+    fn obey(&mut self, alloc: Global, line: &Command) -> Result<(), Halt>
         ensures { Went result self.new (obeyed self.old line.now) }
     {
         match line {
@@ -114,14 +113,14 @@ impl Run {
         number_in(&self.names, event)
     }
 
-    fn make(&mut self, alloc: Global, persist: bool, signal: Option<u32>) -> Result<(), ModeFault>
+    fn make(&mut self, alloc: Global, persist: bool, signal: Option<u32>) -> Result<(), Halt>
         ensures { Went result self.new (answered self.old (call.new_event self.old.base persist signal)) }
     {
         let outcome = new_event(&mut self.base, persist, signal);
         put_answer(alloc, &mut self.text, outcome)
     }
 
-    fn prioritize(&mut self, alloc: Global, event: u32, priority: u32) -> Result<(), ModeFault>
+    fn prioritize(&mut self, alloc: Global, event: u32, priority: u32) -> Result<(), Halt>
         ensures { Went result self.new (answered self.old (call.set_priority self.old.base (number_of event (made self.old.before)) priority)) }
     {
         let number = self.number(event);
@@ -129,7 +128,7 @@ impl Run {
         put_answer(alloc, &mut self.text, outcome)
     }
 
-    fn add(&mut self, alloc: Global, event: u32, delay: Option<u64>) -> Result<(), ModeFault>
+    fn add(&mut self, alloc: Global, event: u32, delay: Option<u64>) -> Result<(), Halt>
         requires within { ForSome delay (λ ms. ms ≤ 2 ^ 62) }
         ensures { Went result self.new (answered self.old (call.add_event self.old.base (number_of event (made self.old.before)) delay)) }
     {
@@ -138,7 +137,7 @@ impl Run {
         put_answer(alloc, &mut self.text, outcome)
     }
 
-    fn delete(&mut self, alloc: Global, event: u32) -> Result<(), ModeFault>
+    fn delete(&mut self, alloc: Global, event: u32) -> Result<(), Halt>
         ensures { Went result self.new (answered self.old (call.del_event self.old.base (number_of event (made self.old.before)))) }
     {
         let number = self.number(event);
@@ -146,7 +145,7 @@ impl Run {
         put_answer(alloc, &mut self.text, outcome)
     }
 
-    fn activate(&mut self, alloc: Global, event: u32) -> Result<(), ModeFault>
+    fn activate(&mut self, alloc: Global, event: u32) -> Result<(), Halt>
         ensures { Went result self.new (answered self.old (call.activate self.old.base (number_of event (made self.old.before)) 2)) }
     {
         let number = self.number(event);
@@ -154,7 +153,7 @@ impl Run {
         put_answer(alloc, &mut self.text, outcome)
     }
 
-    fn signal(&mut self, alloc: Global, number: u32, count: u32) -> Result<(), ModeFault>
+    fn signal(&mut self, alloc: Global, number: u32, count: u32) -> Result<(), Halt>
         ensures { Went result self.new (answered self.old (call.signal self.old.base number count)) }
     {
         let outcome = self.base.signal(number, count);
@@ -162,7 +161,7 @@ impl Run {
     }
 
     /// Makes a turn of this moment, in milliseconds.
-    fn turn(&mut self, alloc: Global, ms: u64) -> Result<(), ModeFault>
+    fn turn(&mut self, alloc: Global, ms: u64) -> Result<(), Halt>
         ensures { Went result self.new (turned self.old ms) }
     {
         let over = self.base.ended();
@@ -171,14 +170,14 @@ impl Run {
         self.end_turn(alloc, over)
     }
 
-    fn begin_turn(&mut self, alloc: Global, ms: u64) -> Result<(), ModeFault>
+    fn begin_turn(&mut self, alloc: Global, ms: u64) -> Result<(), Halt>
         ensures begun { Went result self.new (begun self.old ms (call.begin_turn self.old.base ms)) }
         ensures closed { OnOk result (IsClosed self.new.base) }
     {
         match self.base.begin_turn(ms) {
             Ok(()) => {}
-            Err(BaseFault::Spent) => return Err(ModeFault::Spent),
-            Err(_) => return Err(ModeFault::Memory),
+            Err(BaseFault::Spent) => return Err(Halt::Spent),
+            Err(_) => return Err(Halt::Memory),
         }
         self.time = self.time.max(ms.min(MAX_TIME));
         let line = answer::turn(alloc, self.time)?;
@@ -187,7 +186,7 @@ impl Run {
     }
 
     /// Calls all callbacks of the batch.
-    fn fire_all(&mut self, alloc: Global) -> Result<(), ModeFault>
+    fn fire_all(&mut self, alloc: Global) -> Result<(), Halt>
         requires closed { IsClosed self.old.base }
         ensures { Went result self.new (whole_batch self.old) }
     {
@@ -199,7 +198,7 @@ impl Run {
     }
 
     /// Calls the next callback of the batch, and tells whether there was one.
-    fn fire_next(&mut self, alloc: Global) -> Result<bool, ModeFault>
+    fn fire_next(&mut self, alloc: Global) -> Result<bool, Halt>
         ensures { HasFired result self.new (next_fired self.old) }
     {
         match self.base.next_active() {
@@ -208,13 +207,13 @@ impl Run {
                 Ok(true)
             }
             Ok(None) => Ok(false),
-            Err(BaseFault::Spent) => Err(ModeFault::Spent),
-            Err(_) => Err(ModeFault::Memory),
+            Err(BaseFault::Spent) => Err(Halt::Spent),
+            Err(_) => Err(Halt::Memory),
         }
     }
 
     /// Writes that an event fires, and calls its callback.
-    fn call_back(&mut self, alloc: Global, number: u32, flags: u8) -> Result<(), ModeFault>
+    fn call_back(&mut self, alloc: Global, number: u32, flags: u8) -> Result<(), Halt>
         ensures { Went result self.new (called_back self.old number flags) }
     {
         let place = number as usize;
@@ -225,7 +224,7 @@ impl Run {
         let line = answer::fire(alloc, event, flags)?;
         self.text.extend_from_slice(line.as_bytes())?;
         let Some(nth) = self.fires[place].checked_add(1) else {
-            return Err(ModeFault::Spent);
+            return Err(Halt::Spent);
         };
         perform_all(&mut self.base, &self.names, acts(&self.plans, event, nth))?;
         self.fires[place] = nth;
@@ -233,7 +232,7 @@ impl Run {
     }
 
     /// Writes how long to wait for the next turn, unless the loop was over before this one.
-    fn end_turn(&mut self, alloc: Global, over: bool) -> Result<(), ModeFault>
+    fn end_turn(&mut self, alloc: Global, over: bool) -> Result<(), Halt>
         ensures { Went result self.new (Ok (turn_ended over self.old)) }
     {
         let wait = if over { None } else { self.base.poll_timeout() };
@@ -311,17 +310,13 @@ fn new_event(base: &mut Base, persist: bool, signal: Option<u32>) -> Result<(), 
 }
 
 /// Appends the answer to a call. Where a number is spent or memory ran out, nothing is appended.
-fn put_answer(
-    alloc: Global,
-    text: &mut Vec<u8>,
-    outcome: Result<(), BaseFault>,
-) -> Result<(), ModeFault>
+fn put_answer(alloc: Global, text: &mut Vec<u8>, outcome: Result<(), BaseFault>) -> Result<(), Halt>
     ensures { IsAnswered outcome result text.old.items text.new.items }
 {
     match outcome {
         Ok(()) => text.extend_from_slice(b"ok\n")?,
-        Err(BaseFault::Memory) => return Err(ModeFault::Memory),
-        Err(BaseFault::Spent) => return Err(ModeFault::Spent),
+        Err(BaseFault::Memory) => return Err(Halt::Memory),
+        Err(BaseFault::Spent) => return Err(Halt::Spent),
         Err(fault) => {
             let refusal = answer::refusal(alloc, fault)?;
             text.extend_from_slice(refusal.as_bytes())?;

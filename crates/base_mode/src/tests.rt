@@ -1,5 +1,6 @@
 // Scripts with what they are answered, and texts that are refused.
 use super::*;
+use script_text::ScriptFault;
 use std::test::Fail;
 
 /// Scripts, each with what it is answered.
@@ -56,7 +57,7 @@ fn scripts_are_answered_line_by_line(rt: HostRuntime) -> Result<(), Fail> {
 #[test]
 fn nothing_is_played_of_a_bad_text(rt: HostRuntime) -> Result<(), Fail> {
     match play_base(rt.alloc(), b"base 1\nturn 0\nturn x\n") {
-        Err(ModeFault::BadLine(line)) => assert_eq!(rt; line, 3),
+        Err(ScriptFault::BadLine(line)) => assert_eq!(rt; line, 3),
         _ => assert!(rt; false),
     }
     Ok(())
@@ -66,7 +67,7 @@ fn nothing_is_played_of_a_bad_text(rt: HostRuntime) -> Result<(), Fail> {
 fn bad_line(rt: &impl AllocGlobal, text: &str) -> Result<u32, Fail> {
     match read_base_script(rt.alloc(), text.as_bytes()) {
         Ok(_) => Ok(0),
-        Err(ModeFault::BadLine(line)) => Ok(line),
+        Err(ScriptFault::BadLine(line)) => Ok(line),
         Err(fault) => Err(Fail::from(fault)),
     }
 }

@@ -1,5 +1,6 @@
 -- How many lines a text has, and how many bytes a line brings.
-use Rattle.std.proofs.Common.{◌≡◌, ◌≤◌, ◌+◌, ℕ, true, false, ◌&&◌, cond, leb, leb-true, eqb, Option, Some, None, Ok, Err, List, [], ◌∷◌, ◌++◌, length, refl, arith}
+use Rattle.std.proofs.Common.{◌≡◌, ◌≤◌, ◌+◌, ℕ, true, false, ◌&&◌, cond, leb, leb-true, eqb, Option, Some, None, Ok, Err, List, [], ◌∷◌}
+use Rattle.std.proofs.Common.{◌++◌, length, refl, arith}
 use Rattle.std.specs.Prelude.{IfSome, option_map, option_and_then}
 use Rattle.std.specs.List.{list_all}
 use Rattle.std.specs.Result.{result_ok}
@@ -11,7 +12,8 @@ use Rattle.script_text.specs.Pieces.{begun, pieces, words}
 use Rattle.script_text.specs.Numbers.{bytes_of}
 use Rattle.script_text.specs.Spelled.{is_plain}
 use Rattle.buffers_mode.specs.Keywords.{keyword_of}
-use Rattle.buffers_mode.specs.Grammar.{buffer_of, count_of, callback_of, from_of, place_of, style_of, switch_of, plain_op, one_op, two_op, op_by, ask_by, said}
+use Rattle.buffers_mode.specs.Grammar.{buffer_of, count_of, callback_of, from_of, place_of, style_of, switch_of, plain_op, one_op, two_op}
+use Rattle.buffers_mode.specs.Grammar.{op_by, ask_by, said}
 use Rattle.buffers_mode.specs.Spelled.{is_skipped, with_line, going_on, lines_read}
 use Rattle.buffers_mode.specs.declared.keyword.Keyword.{Keyword}
 use Rattle.buffers_mode.specs.declared.keyword.Keyword.TheVariants as keyword
@@ -57,7 +59,8 @@ length-pieces stop (x ∷ xs) =
     ]
 
 -- what holds of a value's image, where there is one
-IfSome-map : {X Y : Type 0} (f : X → Y) (o : Option X) (P : X → Type 0) (Q : Y → Type 0) → IfSome o P → ((x : X) → P x → Q (f x)) → IfSome (option_map f o) Q
+IfSome-map : {X Y : Type 0} (f : X → Y) (o : Option X) (P : X → Type 0) (Q : Y → Type 0) → IfSome o P → ((x : X) → P x → Q (f x)) →
+    IfSome (option_map f o) Q
 IfSome-map f None P Q holds gives = tt
 IfSome-map f (Some x) P Q holds gives = gives x holds
 
@@ -66,11 +69,13 @@ IfSome-map-all : {X Y : Type 0} (f : X → Y) (o : Option X) (Q : Y → Type 0) 
 IfSome-map-all f None Q gives = tt
 IfSome-map-all f (Some x) Q gives = gives x
 
-IfSome-and_then : {X Y : Type 0} (f : X → Option Y) (o : Option X) (P : X → Type 0) (Q : Y → Type 0) → IfSome o P → ((x : X) → P x → IfSome (f x) Q) → IfSome (option_and_then f o) Q
+IfSome-and_then : {X Y : Type 0} (f : X → Option Y) (o : Option X) (P : X → Type 0) (Q : Y → Type 0) → IfSome o P →
+    ((x : X) → P x → IfSome (f x) Q) → IfSome (option_and_then f o) Q
 IfSome-and_then f None P Q holds gives = tt
 IfSome-and_then f (Some x) P Q holds gives = gives x holds
 
-IfSome-and_then-all : {X Y : Type 0} (f : X → Option Y) (o : Option X) (Q : Y → Type 0) → ((x : X) → IfSome (f x) Q) → IfSome (option_and_then f o) Q
+IfSome-and_then-all : {X Y : Type 0} (f : X → Option Y) (o : Option X) (Q : Y → Type 0) → ((x : X) → IfSome (f x) Q) →
+    IfSome (option_and_then f o) Q
 IfSome-and_then-all f None Q gives = tt
 IfSome-and_then-all f (Some x) Q gives = gives x
 
@@ -84,7 +89,8 @@ bytes_of-few word =
     elim (leb 2 (length word) && leb (length word) 65536) as (λ v. (leb 2 (length word) && leb (length word) 65536) ≡ v →
     IfSome (cond v (result_ok (decode_of word)) None) (λ bytes. length bytes ≤ 32768)) [
       | true ↦ λ both.
-          let short : length word ≤ 65536 = leb-true (length word) 65536 (and_parts (leb 2 (length word)) (leb (length word) 65536) both).1 in
+          let short : length word ≤ 65536 =
+          leb-true (length word) 65536 (and_parts (leb 2 (length word)) (leb (length word) 65536) both).1 in
           elim (decode_of word) as (λ r. decode_of word ≡ r → IfSome (result_ok r) (λ bytes. length bytes ≤ 32768)) [
             | Ok bytes ↦ λ decoded. omega (arith, (decode_of-ok word bytes decoded).2, short)
             | Err fault ↦ λ refused. tt
@@ -116,7 +122,8 @@ one_op-few _ word = tt
 
 two_op-few : (kind : Keyword) (first second : List ℕ) → IfSome (two_op kind first second) BringsFew
 two_op-few keyword.AddReference digits ticket =
-    IfSome-and_then (λ bytes. option_map (λ t. op.AddReference bytes t) (callback_of ticket)) (bytes_of digits) _ BringsFew (bytes_of-few digits)
+    IfSome-and_then (λ bytes. option_map (λ t. op.AddReference bytes t) (callback_of ticket)) (bytes_of digits) _ BringsFew
+    (bytes_of-few digits)
     (λ bytes few. IfSome-map-all (λ t. op.AddReference bytes t) (callback_of ticket) BringsFew (λ t. few))
 two_op-few keyword.Search digits from =
     IfSome-and_then-all (λ bytes. option_map (λ place. op.Search bytes place) (from_of from)) (bytes_of digits) BringsFew
@@ -148,9 +155,14 @@ said-few : (ws : List (List ℕ)) → IfSome (said ws) (λ line. AsksFew line.as
 said-few [] = tt
 said-few (first ∷ []) = tt
 said-few (first ∷ number ∷ more) =
-    IfSome-and_then-all (λ kind. option_and_then (λ b. option_map (λ asked. let line : Line = record { buffer = b; ask = asked } in line) (ask_by kind more)) (buffer_of number)) (keyword_of first) (λ (line : Line). AsksFew line.ask)
-    (λ kind. IfSome-and_then-all (λ b. option_map (λ asked. let line : Line = record { buffer = b; ask = asked } in line) (ask_by kind more)) (buffer_of number) (λ (line : Line). AsksFew line.ask)
-    (λ b. IfSome-map (λ asked. let line : Line = record { buffer = b; ask = asked } in line) (ask_by kind more) AsksFew (λ (line : Line). AsksFew line.ask) (ask_by-few kind more) (λ asked few. few)))
+    IfSome-and_then-all (λ kind. option_and_then
+    (λ b. option_map (λ asked. let line : Line = record { buffer = b; ask = asked } in line) (ask_by kind more)) (buffer_of number))
+    (keyword_of first) (λ (line : Line). AsksFew line.ask)
+    (λ kind. IfSome-and_then-all
+    (λ b. option_map (λ asked. let line : Line = record { buffer = b; ask = asked } in line) (ask_by kind more)) (buffer_of number)
+    (λ (line : Line). AsksFew line.ask)
+    (λ b. IfSome-map (λ asked. let line : Line = record { buffer = b; ask = asked } in line) (ask_by kind more) AsksFew
+    (λ (line : Line). AsksFew line.ask) (ask_by-few kind more) (λ asked few. few)))
 
 -- a text of one line adds at most one line, which brings few bytes
 pub record AddsOne (before after : List Line) : Type 0 where
@@ -159,12 +171,17 @@ pub record AddsOne (before after : List Line) : Type 0 where
 
 with_line-adds : (before : List Line) (text : List ℕ) → AllFew before → IfSome (with_line before text) (AddsOne before)
 with_line-adds before text few =
-    elim (list_all is_plain text) as (λ v. IfSome (cond v (cond (is_skipped (words text)) (Some before) (option_map (λ line. before ++ line ∷ []) (said (words text)))) None) (AddsOne before)) [
-      | true ↦ elim (is_skipped (words text)) as (λ v. IfSome (cond v (Some before) (option_map (λ line. before ++ line ∷ []) (said (words text)))) (AddsOne before)) [
-        | true ↦ record { few = few; count = omega arith }
-        | false ↦ IfSome-map (λ line. before ++ line ∷ []) (said (words text)) (λ line. AsksFew line.ask) (AddsOne before) (said-few (words text))
-            (λ line last. record { few = AllFew-push before line few last; count = omega (arith, length_push before line) })
-      ]
+    elim (list_all is_plain text) as
+    (λ v. IfSome (cond v
+    (cond (is_skipped (words text)) (Some before) (option_map (λ line. before ++ line ∷ []) (said (words text)))) None)
+    (AddsOne before)) [
+      | true ↦ elim (is_skipped (words text)) as
+          (λ v. IfSome (cond v (Some before) (option_map (λ line. before ++ line ∷ []) (said (words text)))) (AddsOne before)) [
+            | true ↦ record { few = few; count = omega arith }
+            | false ↦ IfSome-map (λ line. before ++ line ∷ []) (said (words text)) (λ line. AsksFew line.ask) (AddsOne before)
+                (said-few (words text))
+                (λ line last. record { few = AllFew-push before line few last; count = omega (arith, length_push before line) })
+          ]
       | false ↦ tt
     ]
 
@@ -174,11 +191,14 @@ pub record AreFew (most : ℕ) (script : List Line) : Type 0 where
   pub count : length script ≤ most
 
 -- texts are read as no more lines than they are
-pub lines_read-few : (so_far : List Line) (before : ℕ) (texts : List (List ℕ)) (script : List Line) → AllFew so_far → lines_read so_far before texts ≡ Ok script →
+pub lines_read-few : (so_far : List Line) (before : ℕ) (texts : List (List ℕ)) (script : List Line) → AllFew so_far →
+    lines_read so_far before texts ≡ Ok script →
     AreFew (length so_far + length texts) script
 lines_read-few so_far before [] script few read = let same : so_far ≡ script = cc in rw (← same) (record { few = few; count = omega arith })
 lines_read-few so_far before (text ∷ more) script few read =
-    elim (with_line so_far text) as (λ o. with_line so_far text ≡ o → going_on o (before + 1) (λ longer. lines_read longer (before + 1) more) ≡ Ok script → AreFew (length so_far + length (text ∷ more)) script) [
+    elim (with_line so_far text) as
+    (λ o. with_line so_far text ≡ o → going_on o (before + 1) (λ longer. lines_read longer (before + 1) more) ≡ Ok script →
+    AreFew (length so_far + length (text ∷ more)) script) [
       | None ↦ λ here no. cc
       | Some longer ↦ λ here on.
           let adds = IfSome-at (with_line so_far text) (AddsOne so_far) longer (with_line-adds so_far text few) here in

@@ -1,5 +1,6 @@
 -- How much the buffers of a script hold after a line.
-use Rattle.std.proofs.Common.{◌≡◌, ◌<◌, ◌≤◌, ◌+◌, ◌*◌, ◌^◌, ℕ, Bool, true, false, cond, ltb, eqb, Option, Some, None, List, [], ◌∷◌, ◌++◌, length, take, refl, arith, inl, inr, length-append, length-drop}
+use Rattle.std.proofs.Common.{◌≡◌, ◌<◌, ◌≤◌, ◌+◌, ◌*◌, ◌^◌, ℕ, Bool, true, false, cond, ltb, eqb, Option, Some, None, List, [], ◌∷◌, ◌++◌}
+use Rattle.std.proofs.Common.{length, take, refl, arith, inl, inr, length-append, length-drop}
 use Rattle.std.specs.Prelude.{IsSomeAnd, min}
 use Rattle.std.specs.Option.{option_or}
 use Rattle.std.proofs.lemmas.Bool.{lt-ltb}
@@ -7,7 +8,8 @@ use Rattle.std.proofs.lemmas.Bool.Decides.{eqb_tells}
 use Rattle.evbuf.specs.Evbuffered.{Evbuffered}
 use Rattle.evbuf.specs.Callbacks.{Callbacks, new_callback, without, with_enabled}
 use Rattle.evbuf.specs.Moves.{buffer_at, moves_refusal}
-use Rattle.evbuf.specs.Refusals.{end_refusal, front_refusal, length_refusal, add_refusal, prepend_refusal, move_refusal, same_refusal, callback_refusal, number_refusal}
+use Rattle.evbuf.specs.Refusals.{end_refusal, front_refusal, length_refusal, add_refusal, prepend_refusal, move_refusal, same_refusal}
+use Rattle.evbuf.specs.Refusals.{callback_refusal, number_refusal}
 use Rattle.evbuf.specs.Steps.{with_frozen, after_add, after_prepend, after_reference, after_drain, pulled_up}
 use Rattle.evbuf.specs.Callbacks.{has_callback}
 use Rattle.evbuf.specs.declared.fault.BufFault.{BufFault}
@@ -47,7 +49,8 @@ GoesOn (Some fault.NoSuchCallback) = Unit {0}
 GoesOn (Some fault.Spent) = ⊥
 
 -- a line that is refused with a name, or else does its step, steps
-pub unless-steps : {State : Type 0} (size : State → ℕ) (most : ℕ) (refusal : Option BufFault) (before : State) (answer : Answer) (after : State) →
+pub unless-steps : {State : Type 0} (size : State → ℕ) (most : ℕ) (refusal : Option BufFault) (before : State) (answer : Answer)
+    (after : State) →
     GoesOn refusal → size before ≤ most → (refusal ≡ None → size after ≤ most) → StepsTo size most (unless refusal before answer after)
 unless-steps size most None before answer after goes old new = new refl
 unless-steps size most (Some fault.Memory) before answer after goes old new = absurd goes
@@ -72,7 +75,8 @@ goes_on-length : (buf : Evbuffered) (n : ℕ) → length buf.bytes + n < 2 ^ 64 
 goes_on-length buf n fits = rw (lt-ltb (length buf.bytes + n) (2 ^ 64) fits) tt
 
 goes_on-callback : (buf : Evbuffered) (cb : ℕ) → GoesOn (callback_refusal buf cb)
-goes_on-callback buf cb = elim (has_callback cb buf.callbacks) as (λ v. GoesOn (cond v None (Some fault.NoSuchCallback))) [ true ↦ tt | false ↦ tt ]
+goes_on-callback buf cb =
+    elim (has_callback cb buf.callbacks) as (λ v. GoesOn (cond v None (Some fault.NoSuchCallback))) [ true ↦ tt | false ↦ tt ]
 
 goes_on-number : (buf : Evbuffered) → buf.next < 2 ^ 32 → GoesOn (number_refusal buf)
 goes_on-number buf fits = rw (lt-ltb buf.next (2 ^ 32) fits) tt
@@ -83,7 +87,8 @@ goes_on-add buf n fits = goes_on-or (end_refusal buf) (length_refusal buf n) (go
 goes_on-prepend : (buf : Evbuffered) (n : ℕ) → length buf.bytes + n < 2 ^ 64 → GoesOn (prepend_refusal buf n)
 goes_on-prepend buf n fits = goes_on-or (front_refusal buf) (length_refusal buf n) (goes_on-front buf) (goes_on-length buf n fits)
 
-pub goes_on-moves : (bufs : List Evbuffered) (to from n : ℕ) → length (buffer_at bufs to).bytes + n < 2 ^ 64 → GoesOn (moves_refusal bufs to from n)
+pub goes_on-moves : (bufs : List Evbuffered) (to from n : ℕ) → length (buffer_at bufs to).bytes + n < 2 ^ 64 →
+    GoesOn (moves_refusal bufs to from n)
 goes_on-moves bufs to from n fits =
     let target = buffer_at bufs to in
     let source = buffer_at bufs from in
@@ -101,12 +106,14 @@ moves-apart bufs to from n opens same =
     elim (eqb_tells to from) [
       | inl h ↦
           let refused : same_refusal target ≡ None = rw h.0 at opens in
-          elim target.end_frozen as (λ v. option_or (cond v (Some fault.FrozenEnd) None) (option_or (front_refusal target) (Some fault.SameBuffer)) ≡ None → ⊥) [
+          elim target.end_frozen as
+          (λ v. option_or (cond v (Some fault.FrozenEnd) None) (option_or (front_refusal target) (Some fault.SameBuffer)) ≡ None → ⊥) [
             | true ↦ λ no. cc
-            | false ↦ λ no. (elim target.front_frozen as (λ v. option_or (cond v (Some fault.FrozenFront) None) (Some fault.SameBuffer) ≡ None → ⊥) [
-              | true ↦ λ none. cc
-              | false ↦ λ none. cc
-            ]) no
+            | false ↦ λ no. (elim target.front_frozen as
+                (λ v. option_or (cond v (Some fault.FrozenFront) None) (Some fault.SameBuffer) ≡ None → ⊥) [
+                  | true ↦ λ none. cc
+                  | false ↦ λ none. cc
+                ]) no
           ] refused
       | inr h ↦ h.1 same
     ]
@@ -115,13 +122,16 @@ moves-apart bufs to from n opens same =
 drain-weight : (buf : Evbuffered) (n : ℕ) → weight (after_drain buf n 0) ≤ weight buf
 drain-weight buf n = omega (arith, length-drop n buf.bytes)
 
-drain-steps : (buf : Evbuffered) (n : ℕ) (answer : Answer) → StepsTo weight (weight buf + 32768) (unless (front_refusal buf) buf answer (after_drain buf n 0))
+drain-steps : (buf : Evbuffered) (n : ℕ) (answer : Answer) →
+    StepsTo weight (weight buf + 32768) (unless (front_refusal buf) buf answer (after_drain buf n 0))
 drain-steps buf n answer =
-    unless-steps weight (weight buf + 32768) (front_refusal buf) buf answer (after_drain buf n 0) (goes_on-front buf) (omega arith) (λ opens. omega (arith, drain-weight buf n))
+    unless-steps weight (weight buf + 32768) (front_refusal buf) buf answer (after_drain buf n 0) (goes_on-front buf) (omega arith)
+    (λ opens. omega (arith, drain-weight buf n))
 
 -- a line that is read brings nothing
 line_step-steps : (buf : Evbuffered) (found : Option (ℕ × ℕ)) → StepsTo weight (weight buf + 32768) (line_step buf found)
-line_step-steps buf None = unless-steps weight (weight buf + 32768) (front_refusal buf) buf Nothing buf (goes_on-front buf) (omega arith) (λ opens. omega arith)
+line_step-steps buf None =
+    unless-steps weight (weight buf + 32768) (front_refusal buf) buf Nothing buf (goes_on-front buf) (omega arith) (λ opens. omega arith)
 line_step-steps buf (Some found) = drain-steps buf (found.0 + found.1) (Bytes (take found.0 buf.bytes))
 
 frozen-weight : (buf : Evbuffered) (place : Place) (frozen : Bool) → weight (with_frozen buf place frozen) ≤ weight buf + 32768
@@ -129,26 +139,33 @@ frozen-weight buf Front frozen = omega arith
 frozen-weight buf End frozen = omega arith
 
 -- what is done to a callback, which may not be there, brings nothing
-callback-steps : (buf : Evbuffered) (cb : ℕ) (callbacks : Callbacks) → StepsTo weight (weight buf + 32768) (unless (callback_refusal buf cb) buf Done (with_callbacks buf callbacks))
+callback-steps : (buf : Evbuffered) (cb : ℕ) (callbacks : Callbacks) →
+    StepsTo weight (weight buf + 32768) (unless (callback_refusal buf cb) buf Done (with_callbacks buf callbacks))
 callback-steps buf cb callbacks =
-    unless-steps weight (weight buf + 32768) (callback_refusal buf cb) buf Done (with_callbacks buf callbacks) (goes_on-callback buf cb) (omega arith) (λ opens. omega arith)
+    unless-steps weight (weight buf + 32768) (callback_refusal buf cb) buf Done (with_callbacks buf callbacks) (goes_on-callback buf cb)
+    (omega arith) (λ opens. omega arith)
 
 -- A line takes a buffer on by at most one line's worth.
-pub own_step-steps : (asked : Op) (buf : Evbuffered) → BringsFew asked → weight buf + 32768 ≤ 2 ^ 39 → StepsTo weight (weight buf + 32768) (own_step asked buf)
+pub own_step-steps : (asked : Op) (buf : Evbuffered) → BringsFew asked → weight buf + 32768 ≤ 2 ^ 39 →
+    StepsTo weight (weight buf + 32768) (own_step asked buf)
 own_step-steps (op.Add bytes) buf few room =
-    unless-steps weight (weight buf + 32768) (add_refusal buf (length bytes)) buf Done (after_add buf bytes 0) (goes_on-add buf (length bytes) (omega arith)) (omega arith)
+    unless-steps weight (weight buf + 32768) (add_refusal buf (length bytes)) buf Done (after_add buf bytes 0)
+    (goes_on-add buf (length bytes) (omega arith)) (omega arith)
     (λ opens. omega (arith, length-append buf.bytes bytes))
 own_step-steps (op.Prepend bytes) buf few room =
-    unless-steps weight (weight buf + 32768) (prepend_refusal buf (length bytes)) buf Done (after_prepend buf bytes 0) (goes_on-prepend buf (length bytes) (omega arith)) (omega arith)
+    unless-steps weight (weight buf + 32768) (prepend_refusal buf (length bytes)) buf Done (after_prepend buf bytes 0)
+    (goes_on-prepend buf (length bytes) (omega arith)) (omega arith)
     (λ opens. omega (arith, length-append bytes buf.bytes))
 own_step-steps (op.AddReference bytes ticket) buf few room =
-    unless-steps weight (weight buf + 32768) (add_refusal buf (length bytes)) buf Done (after_reference buf bytes ticket 0) (goes_on-add buf (length bytes) (omega arith)) (omega arith)
+    unless-steps weight (weight buf + 32768) (add_refusal buf (length bytes)) buf Done (after_reference buf bytes ticket 0)
+    (goes_on-add buf (length bytes) (omega arith)) (omega arith)
     (λ opens. omega (arith, length-append buf.bytes bytes))
 own_step-steps (op.Drain n) buf few room = drain-steps buf n Done
 own_step-steps (op.Remove n) buf few room =
     let taken = min n (length buf.bytes) in drain-steps buf taken (Bytes (take taken buf.bytes))
 own_step-steps (op.Pullup n) buf few room =
-    elim (ltb (length buf.bytes) n) as (λ v. StepsTo weight (weight buf + 32768) (cond v (Some (Nothing, buf)) (Some (Bytes (take n buf.bytes), pulled_up buf n 0)))) [
+    elim (ltb (length buf.bytes) n) as
+    (λ v. StepsTo weight (weight buf + 32768) (cond v (Some (Nothing, buf)) (Some (Bytes (take n buf.bytes), pulled_up buf n 0)))) [
       | true ↦ omega arith
       | false ↦ omega arith
     ]
@@ -161,7 +178,8 @@ own_step-steps op.Len buf few room = omega arith
 own_step-steps (op.Freeze place) buf few room = frozen-weight buf place true
 own_step-steps (op.Unfreeze place) buf few room = frozen-weight buf place false
 own_step-steps op.AddCb buf few room =
-    unless-steps weight (weight buf + 32768) (number_refusal buf) buf (Count buf.next) (record buf { callbacks = buf.callbacks ++ new_callback buf.next ∷ []; next = buf.next + 1 })
+    unless-steps weight (weight buf + 32768) (number_refusal buf) buf (Count buf.next)
+    (record buf { callbacks = buf.callbacks ++ new_callback buf.next ∷ []; next = buf.next + 1 })
     (goes_on-number buf (omega arith)) (omega arith) (λ opens. omega arith)
 own_step-steps (op.RemoveCb cb) buf few room = callback-steps buf cb (without cb buf.callbacks)
 own_step-steps (op.SetCbEnabled cb on) buf few room = callback-steps buf cb (with_enabled cb on buf.callbacks)

@@ -1,5 +1,6 @@
 -- How the reports that wait in a buffer are made one after another.
-use Rattle.std.proofs.Common.{◌≡◌, ◌<◌, ℕ, true, false, cond, Some, None, List, [], ◌∷◌, ◌++◌, length, refl, sym, ap, ◌∙◌, arith, length-append}
+use Rattle.std.proofs.Common.{◌≡◌, ◌<◌, ℕ, true, false, cond, Some, None, List, [], ◌∷◌, ◌++◌, length, refl, sym, ap, ◌∙◌, arith}
+use Rattle.std.proofs.Common.{length-append}
 use Rattle.std.specs.Prelude.{option_map, filter, reverse, flat_map, is_some}
 use Rattle.std.specs.Option.{option_or}
 use Rattle.std.proofs.lemmas.List.{reverse-append}
@@ -13,16 +14,19 @@ use Rattle.buffers_mode.specs.Answers.{report_words}
 use Rattle.buffers_mode.specs.Run.{report_lines, all_reported}
 
 -- where none has a report to make, none waits, and nothing changes
-pub none_waits : (cbs : Callbacks) → newest_waiting cbs ≡ None → (filter waits cbs ≡ []) × (after_report cbs ≡ cbs) × (all_reported cbs ≡ cbs)
+pub none_waits : (cbs : Callbacks) → newest_waiting cbs ≡ None →
+    (filter waits cbs ≡ []) × (after_report cbs ≡ cbs) × (all_reported cbs ≡ cbs)
 none_waits [] is = (refl, refl, refl)
 none_waits (c ∷ cbs) is =
     elim (newest_waiting cbs) as (λ v. newest_waiting cbs ≡ v → option_or v (cond (waits c) (Some c) None) ≡ None →
-    (filter waits (c ∷ cbs) ≡ []) × (cond (is_some v) (c ∷ after_report cbs) (cond (waits c) (reported c) c ∷ cbs) ≡ c ∷ cbs) × (all_reported (c ∷ cbs) ≡ c ∷ cbs)) [
+    (filter waits (c ∷ cbs) ≡ []) × (cond (is_some v) (c ∷ after_report cbs) (cond (waits c) (reported c) c ∷ cbs) ≡ c ∷ cbs)
+    × (all_reported (c ∷ cbs) ≡ c ∷ cbs)) [
       | Some d ↦ λ further no. cc
       | None ↦ λ further here.
           let rest = none_waits cbs further in
           elim (waits c) as (λ w. waits c ≡ w → cond w (Some c) None ≡ None →
-          (cond w (c ∷ filter waits cbs) (filter waits cbs) ≡ []) × (cond w (reported c) c ∷ cbs ≡ c ∷ cbs) × (cond w (reported c) c ∷ all_reported cbs ≡ c ∷ cbs)) [
+          (cond w (c ∷ filter waits cbs) (filter waits cbs) ≡ []) × (cond w (reported c) c ∷ cbs ≡ c ∷ cbs)
+          × (cond w (reported c) c ∷ all_reported cbs ≡ c ∷ cbs)) [
             | true ↦ λ waits_is no. cc
             | false ↦ λ waits_is no. (rest.0, refl, ap (λ (more : Callbacks). c ∷ more) rest.2)
           ] refl here
@@ -39,7 +43,9 @@ newest_waits (c ∷ cbs) d is =
       | Some e ↦ λ further same.
           let newer : newest_waiting cbs ≡ Some d = cc in
           let rest = newest_waits cbs d newer in
-          elim (waits c) as (λ w. (cond w (c ∷ filter waits cbs) (filter waits cbs) ≡ cond w (c ∷ filter waits (after_report cbs)) (filter waits (after_report cbs)) ++ d ∷ [])
+          elim (waits c) as (λ w.
+          (cond w (c ∷ filter waits cbs) (filter waits cbs) ≡ cond w (c ∷ filter waits (after_report cbs))
+          (filter waits (after_report cbs)) ++ d ∷ [])
           × (cond w (reported c) c ∷ all_reported (after_report cbs) ≡ cond w (reported c) c ∷ all_reported cbs)) [
             | true ↦ (ap (λ (more : Callbacks). c ∷ more) rest.0, ap (λ (more : Callbacks). reported c ∷ more) rest.1)
             | false ↦ (rest.0, ap (λ (more : Callbacks). c ∷ more) rest.1)
@@ -106,7 +112,8 @@ none_made b cbs is =
     (ap (λ (all : Callbacks). flat_map (line_for b) (reverse all)) none.0, none.1, none.2)
 
 -- a buffer that differs from one by its callbacks alone still does when others come
-pub with_callbacks-again : (old buf new : Evbuffered) (cbs : Callbacks) → new ≡ with_callbacks buf cbs → buf ≡ with_callbacks old buf.callbacks →
+pub with_callbacks-again : (old buf new : Evbuffered) (cbs : Callbacks) → new ≡ with_callbacks buf cbs →
+    buf ≡ with_callbacks old buf.callbacks →
     new ≡ with_callbacks old new.callbacks
 with_callbacks-again old buf new cbs is rest =
     let here : new ≡ with_callbacks old cbs = is ∙ ap (λ (b : Evbuffered). with_callbacks b cbs) rest in

@@ -1,5 +1,6 @@
 -- Buffers by number, as answers show them.
-use Rattle.std.proofs.Common.{◌≡◌, ℕ, zero, suc, Bool, Option, Some, None, Ok, Err, List, [], ◌∷◌, ◌++◌, length, set, map, refl, sym, ap, ◌∙◌}
+use Rattle.std.proofs.Common.{◌≡◌, ℕ, zero, suc, Bool, Option, Some, None, Ok, Err, List, [], ◌∷◌, ◌++◌, length, set, map, refl, sym, ap}
+use Rattle.std.proofs.Common.{◌∙◌}
 use Rattle.std.specs.Prelude.{option_map, Result, min, OnOk}
 use Rattle.std.proofs.lemmas.List.{map-set}
 use Rattle.evbuf.specs.Evbuffered.{Evbuffered}
@@ -13,7 +14,8 @@ use Rattle.buffers_mode.specs.declared.fault.ModeFault.{ModeFault}
 use Rattle.buffers_mode.specs.declared.fault.ModeFault.TheVariants.{Memory, BadLine, Spent}
 use Rattle.buffers_mode.specs.Steps.{shown, with_callbacks}
 use Rattle.buffers_mode.specs.Played.{Step, Took, own_step, unless}
-use Rattle.buffers_mode.specs.Run.{Run, own_at, add_buffer_step, remove_buffer_step, reported_by, released_by, report_lines, all_reported, released_lines, without_released}
+use Rattle.buffers_mode.specs.Run.{Run, own_at, add_buffer_step, remove_buffer_step, reported_by, released_by, report_lines, all_reported}
+use Rattle.buffers_mode.specs.Run.{released_lines, without_released}
 
 -- the parts of a run
 abbrev pub run_of : List Evbuffered → List Bool → List ℕ → Run
@@ -36,14 +38,17 @@ pub Took-own : (r : Result Answer ModeFault) (bufs : List Evbuffered) (b : ℕ) 
     Took r (shown buf) (own_step op (shown (buffer_at bufs b))) → Took r (map shown (set bufs b buf)) (own_at (map shown bufs) b op)
 Took-own (Ok answer) bufs b op buf took =
     rw (buffer_at-shown bufs b, map-shown-set bufs b buf)
-    (ap (option_map (λ (step : Answer × Evbuffered). let taken : Answer × List Evbuffered = (step.0, set (map shown bufs) b step.1) in taken)) took)
+    (ap (option_map (λ (step : Answer × Evbuffered). let taken : Answer × List Evbuffered =
+    (step.0, set (map shown bufs) b step.1) in taken)) took)
 Took-own (Err Memory) bufs b op buf took = took
 Took-own (Err (BadLine line)) bufs b op buf took = took
 Took-own (Err Spent) bufs b op buf took =
     rw (buffer_at-shown bufs b)
-    (ap (option_map (λ (step : Answer × Evbuffered). let taken : Answer × List Evbuffered = (step.0, set (map shown bufs) b step.1) in taken)) took)
+    (ap (option_map (λ (step : Answer × Evbuffered). let taken : Answer × List Evbuffered =
+    (step.0, set (map shown bufs) b step.1) in taken)) took)
 
-pub move_all_refusal-shown : (bufs : List Evbuffered) (to from : ℕ) → move_all_refusal (map shown bufs) to from ≡ move_all_refusal bufs to from
+pub move_all_refusal-shown : (bufs : List Evbuffered) (to from : ℕ) →
+    move_all_refusal (map shown bufs) to from ≡ move_all_refusal bufs to from
 move_all_refusal-shown bufs to from = rw (buffer_at-shown bufs to, buffer_at-shown bufs from) refl
 
 pub move_some_refusal-shown : (bufs : List Evbuffered) (from to n : ℕ) →
@@ -73,7 +78,8 @@ MovesSome-shown old from to n new moves =
     ∙ ap (λ (bufs : List Evbuffered). set bufs from (shown (buffer_at new from))) (map-shown-set old to (buffer_at new to))
     ∙ rw (taken, given, buffer_at-shown old to, buffer_at-shown old from) refl
 
-pub add_buffer_step-moved : (old : List Evbuffered) (to from : ℕ) (new : List Evbuffered) → move_all_refusal old to from ≡ None → MovesAll old to from new →
+pub add_buffer_step-moved : (old : List Evbuffered) (to from : ℕ) (new : List Evbuffered) → move_all_refusal old to from ≡ None →
+    MovesAll old to from new →
     add_buffer_step (map shown old) to from ≡ Some (Done, map shown new)
 add_buffer_step-moved old to from new opens moves =
     let after = set (set (map shown old) to (after_taking_all (buffer_at (map shown old) to) (buffer_at (map shown old) from) 0)) from
@@ -81,7 +87,8 @@ add_buffer_step-moved old to from new opens moves =
     ap (λ (refusal : Option BufFault). unless refusal (map shown old) Done after) (move_all_refusal-shown old to from ∙ opens)
     ∙ ap (λ (bufs : List Evbuffered). step_to Done bufs) (sym (MovesAll-shown old to from new moves))
 
-pub remove_buffer_step-moved : (old : List Evbuffered) (from to n moved : ℕ) (new : List Evbuffered) → move_some_refusal old from to n ≡ None →
+pub remove_buffer_step-moved : (old : List Evbuffered) (from to n moved : ℕ) (new : List Evbuffered) →
+    move_some_refusal old from to n ≡ None →
     moved ≡ min n (length (buffer_at old from).bytes) → MovesSome old from to n new →
     remove_buffer_step (map shown old) from to n ≡ Some (Count moved, map shown new)
 remove_buffer_step-moved old from to n moved new opens count moves =
@@ -106,7 +113,8 @@ released_by-shown bufs later text text' b buf text_is buf_is =
     rw (map-shown-set bufs b buf, text_is, buf_is, buffer_at-shown bufs b) refl
 
 pub reported_by-shown : (bufs : List Evbuffered) (later : List Bool) (text text' : List ℕ) (b : ℕ) (buf : Evbuffered) →
-    text' ≡ text ++ report_lines b (buffer_at bufs b).callbacks → buf ≡ with_callbacks (buffer_at bufs b) (all_reported (buffer_at bufs b).callbacks) →
+    text' ≡ text ++ report_lines b (buffer_at bufs b).callbacks →
+    buf ≡ with_callbacks (buffer_at bufs b) (all_reported (buffer_at bufs b).callbacks) →
     run_of (map shown (set bufs b buf)) later text' ≡ reported_by b (run_of (map shown bufs) later text)
 reported_by-shown bufs later text text' b buf text_is buf_is =
     rw (map-shown-set bufs b buf, text_is, buf_is, buffer_at-shown bufs b) refl

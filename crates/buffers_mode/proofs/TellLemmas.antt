@@ -1,20 +1,24 @@
 -- How buffers tell what waits in them, one after another.
-use Rattle.std.proofs.Common.{◌≡◌, ◌<◌, ◌≤◌, ◌+◌, ℕ, Bool, true, false, List, [], ◌∷◌, ◌++◌, length, take, drop, set, refl, ap, ◌∙◌, arith, append_assoc}
+use Rattle.std.proofs.Common.{◌≡◌, ◌<◌, ◌≤◌, ◌+◌, ℕ, Bool, true, false, List, [], ◌∷◌, ◌++◌, length, take, drop, set, refl, ap, ◌∙◌}
+use Rattle.std.proofs.Common.{arith, append_assoc}
 use Rattle.std.proofs.lemmas.List.{drop_more, take_more, take_more_set, drop-set-lt, take_all, drop_all, append-nil}
 use Rattle.evbuf.specs.Evbuffered.{Evbuffered}
 use Rattle.evbuf.specs.Moves.{buffer_at}
 use Rattle.evbuf.specs.Steps.{new_buffer}
 use Rattle.buffers_mode.specs.Steps.{with_callbacks}
-use Rattle.buffers_mode.specs.Run.{Run, report_lines, all_reported, reported_by, reports_text, after_reports, released_lines, released_text, without_released, after_released, released_by}
+use Rattle.buffers_mode.specs.Run.{Run, report_lines, all_reported, reported_by, reports_text, after_reports, released_lines}
+use Rattle.buffers_mode.specs.Run.{released_text, without_released, after_released, released_by}
 
 run_same : (run : Run) (bufs bufs' : List Evbuffered) (text text' : List ℕ) → bufs ≡ bufs' → text ≡ text' →
-    let one : Run = record run { buffers = bufs; text = text } in let other : Run = record run { buffers = bufs'; text = text' } in one ≡ other
+    let one : Run = record run { buffers = bufs; text = text } in let other : Run =
+    record run { buffers = bufs'; text = text' } in one ≡ other
 run_same run bufs bufs' text text' same_bufs same_text = cc
 
 -- a buffer that was exchanged stands between those before it and those behind it
 take-exchanged : (bufs : List Evbuffered) (b : ℕ) (x : Evbuffered) (more : List Evbuffered) → b < length bufs →
     take (b + 1) (set bufs b x) ++ more ≡ take b bufs ++ x ∷ more
-take-exchanged bufs b x more lt = ap (λ (front : List Evbuffered). front ++ more) (take_more_set bufs b x lt) ∙ append_assoc (take b bufs) (x ∷ []) more
+take-exchanged bufs b x more lt =
+    ap (λ (front : List Evbuffered). front ++ more) (take_more_set bufs b x lt) ∙ append_assoc (take b bufs) (x ∷ []) more
 
 drop-exchanged : (bufs : List Evbuffered) (b : ℕ) (x : Evbuffered) → drop (b + 1) (set bufs b x) ≡ drop (b + 1) bufs
 drop-exchanged bufs b x = drop-set-lt (b + 1) bufs b x (omega arith)
@@ -34,10 +38,12 @@ left_reports-told reports run b lt tells =
     let rest = drop (b + 1) run.buffers in
     let here : drop b run.buffers ≡ buf ∷ rest = drop_more run.buffers b new_buffer lt in
     run_same run _ _ _ _
-    (ap (λ (more : List Evbuffered). take (b + 1) (set run.buffers b told) ++ after_reports reports (b + 1) more) (drop-exchanged run.buffers b told)
+    (ap (λ (more : List Evbuffered). take (b + 1) (set run.buffers b told) ++ after_reports reports (b + 1) more)
+    (drop-exchanged run.buffers b told)
     ∙ take-exchanged run.buffers b told (after_reports reports (b + 1) rest) lt
     ∙ rw (here, tells) refl)
-    (ap (λ (more : List Evbuffered). run.text ++ report_lines b buf.callbacks ++ reports_text reports (b + 1) more) (drop-exchanged run.buffers b told)
+    (ap (λ (more : List Evbuffered). run.text ++ report_lines b buf.callbacks ++ reports_text reports (b + 1) more)
+    (drop-exchanged run.buffers b told)
     ∙ append_assoc run.text (report_lines b buf.callbacks) (reports_text reports (b + 1) rest)
     ∙ rw (here, tells) refl)
 

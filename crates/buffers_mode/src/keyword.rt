@@ -1,8 +1,9 @@
 // The kinds of lines, which their first words tell.
 ghost use Rattle.std.specs.Prelude.{◌≡◌};
 ghost use Rattle.std.specs.Option.{option_or};
-ghost use Rattle.std.specs.Str.{bytes_eq};
 ghost use Rattle.buffers_mode.specs.Keywords.{change_keyword, look_keyword, callback_keyword, keyword_of};
+
+use script_text::is_word;
 
 /// The kind of a line.
 ///
@@ -31,13 +32,6 @@ pub(crate) enum Keyword {
     DisableCb,
     Defer,
     Reports,
-}
-
-/// Is the word this text?
-pub(crate) fn is_word(word: &[u8], text: &str) -> bool
-    ensures { result ≡ bytes_eq word.now text.now }
-{
-    word == text.as_bytes()
 }
 
 /// The kind of a line, by its first word.

@@ -3,11 +3,11 @@ ghost use Rattle.std.specs.Prelude.{◌≡◌, ◌<◌, ◌∷◌, [], IfOk, IfS
 ghost use Rattle.script_text.specs.Numbers.{bytes_of};
 ghost use Rattle.buffers_mode.specs.Grammar.{buffer_of, count_of, callback_of, from_of, place_of, style_of, switch_of, plain_op, one_op, two_op, op_by, ask_by, said, AskNames, NamesBuffers};
 
-use crate::keyword::{Keyword, is_word, read_keyword};
+use crate::keyword::{Keyword, read_keyword};
 use ev_types::NoMemory;
 use evbuf::Place;
 use evbuf_scan::Eol;
-use script_text::{ByteList, MAX_NUMBER, hex_bytes, number};
+use script_text::{ByteList, MAX_NUMBER, hex_bytes, is_word, number};
 use std::alloc::Global;
 
 /// The greatest number of a buffer.

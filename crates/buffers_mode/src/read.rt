@@ -1,22 +1,13 @@
 // Reads a script line by line.
-ghost use Rattle.std.specs.Prelude.{◌≡◌, All, ◌-◌, ◌^◌, [], true, false, length, min, map, vec_len, IfOk, IfErr, Some, None, if◌then◌else◌, Ok};
-ghost use Rattle.std.specs.List.{list_all};
-ghost use Rattle.script_text.specs.Spelled.{is_plain};
+ghost use Rattle.std.specs.Prelude.{◌≡◌, All, [], true, false, length, map, vec_len, IfOk, IfErr, Some, None, if◌then◌else◌, Ok};
 ghost use Rattle.buffers_mode.specs.Grammar.{NamesBuffers};
 ghost use Rattle.buffers_mode.specs.Spelled.{is_skipped, with_line, script_of, IsTold};
 
 use crate::ModeFault;
 use crate::line::{Line, line_of};
 use ev_types::NoMemory;
-use script_text::{first_piece, words_of};
+use script_text::{first_piece, is_plain_text, told, words_of};
 use std::alloc::Global;
-
-/// Has a line only bytes that a script may have?
-fn is_plain_text(line: &[u8]) -> bool
-    ensures { result ≡ list_all is_plain line.now }
-{
-    line.iter().all(|b| (b' '..=b'~').contains(b))
-}
 
 /// Is it a line of no words, or a comment?
 fn is_skipped(words: &[&[u8]]) -> bool
@@ -49,13 +40,6 @@ fn read_line(alloc: Global, text: &[u8], into: &mut Vec<Line>) -> Result<bool, N
         }
         None => Ok(false),
     }
-}
-
-/// The number of a line as it is told.
-fn told(line: usize) -> u32
-    ensures { result ≡ min line (2 ^ 32 - 1) }
-{
-    u32::try_from(line).unwrap_or(u32::MAX)
 }
 
 /// Reads a whole script. Takes memory for it and for the words of a line. A text is refused at its first line that is

@@ -1,35 +1,26 @@
 -- What the calls on the whole port say, but for the poll: the clock, the start and the accept. And which entries of a
 -- trace no port answers.
-use Rattle.std.specs.Prelude.{ℕ, ◌^◌, ⊤, min, max, Bool, true, false, ◌&&◌, ◌||◌, List, [], ◌∷◌, ◌++◌, Some, None}
+use Rattle.std.specs.Prelude.{ℕ, ⊤, Bool, true, false, ◌&&◌, ◌||◌, [], ◌∷◌, ◌++◌, Some, None}
 use Rattle.ev_types.specs.declared.side.Side.TheVariants.{In, Out}
 use Rattle.ev_types.specs.declared.side.SideId.{SideId}
 use Rattle.ev_types.specs.declared.entry.Entry.{Entry}
 use Rattle.ev_types.specs.declared.entry.Entry.TheVariants as entry
 use Rattle.ev_types.specs.Sides.{same_end}
+use Rattle.ev_types.specs.Times.{turn_time}
 use Rattle.ev_types.specs.Trace.{Trace}
-use Rattle.script_text.specs.Script.{TurnValue}
 use Rattle.ev_port.specs.declared.port.Accepted.{Accepted}
 use Rattle.ev_port.specs.declared.port.Accepted.TheVariants as accepted
-use Rattle.ev_port.specs.declared.port.Addr.{Addr}
+use Rattle.ev_types.specs.declared.addr.Addr.{Addr}
 use Rattle.ev_port.specs.declared.port.Started.{Started}
 use Rattle.ev_port.specs.declared.port.Started.TheVariants as started
-use Rattle.ev_port.specs.Told.{EndStep, no_step, PortTold, Counts, Becomes, Stays, PortStays}
+use Rattle.ev_port.specs.EndSteps.{EndStep, no_step, PortStays}
+use Rattle.ev_types.specs.Told.{PortTold, Counts, Becomes, Stays}
 
 -- The clock
 
--- the time of the last turn of a trace, or 0
-abbrev pub last_time : Trace → ℕ
-last_time [] = 0
-last_time ((entry.Turn ms, bytes) ∷ t) = max ms (last_time t)
-last_time (x ∷ t) = last_time t
-
--- the time of a turn: the reading, cut at 2^62, unless the last turn's is greater
-abbrev pub turn_time : Trace → ℕ → ℕ
-turn_time t reading = max (last_time t) (min reading (2 ^ 62))
-
 -- a reading of the clock begins a turn at that time
-abbrev pub Ticked : (List TurnValue → Trace → Type 0) → (List TurnValue → Trace → Type 0) → ℕ → Type 0
-Ticked old new reading = (turns : List TurnValue) (t : Trace) → old turns t → new turns (t ++ (entry.Turn (turn_time t reading), []) ∷ [])
+abbrev pub Ticked : {Plan : Type 0} → (Plan → Trace → Type 0) → (Plan → Trace → Type 0) → ℕ → Type 0
+Ticked {Plan} old new reading = (plan : Plan) (t : Trace) → old plan t → new plan (t ++ (entry.Turn (turn_time t reading), []) ∷ [])
 
 pub record ClockRead (old new : PortTold) (at : ℕ) : Type 0 where
   pub accept_polls : Stays old.accept_polls new.accept_polls

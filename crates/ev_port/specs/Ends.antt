@@ -10,7 +10,7 @@ use Rattle.ev_types.specs.declared.answer.WriteAnswer.{WriteAnswer}
 use Rattle.ev_types.specs.declared.answer.WriteAnswer.TheVariants as write
 use Rattle.ev_types.specs.declared.entry.Entry.TheVariants as entry
 use Rattle.ev_types.specs.Trace.{Trace}
-use Rattle.ev_port.specs.Told.{EndStep, no_step}
+use Rattle.ev_port.specs.EndSteps.{EndStep, no_step}
 
 abbrev pub is_failed_conn : ConnAnswer → Bool
 is_failed_conn conn.Failed = true

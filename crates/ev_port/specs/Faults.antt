@@ -1,8 +1,13 @@
 -- Which call of a port is counted as which kind of fault, and that no other call is.
-use Rattle.std.specs.Prelude.{◌≡◌, ◌≢◌, Bool}
+use Rattle.std.specs.Prelude.{◌≡◌, ◌≢◌, ℕ, Bool}
 use Rattle.stream_words.specs.Faults.{Counted}
 use Rattle.ev_types.specs.declared.side.SideId.{SideId}
-use Rattle.ev_port.specs.Told.{Faults}
+
+-- how often each kind of fault was met
+pub record Faults : Type 0 where
+  pub ends : SideId → ℕ
+  pub polling : ℕ
+  pub listener : ℕ
 
 -- no call but the one that is answered Failed counts, and none counts elsewhere
 pub record FaultsStay (old new : Faults) : Type 0 where

@@ -7,7 +7,8 @@ use Rattle.ev_types.specs.Trace.{Trace}
 use Rattle.ev_port.specs.declared.port.Polled.{Polled}
 use Rattle.ev_port.specs.declared.port.Polled.TheVariants as polled
 use Rattle.ev_port.specs.declared.port.Want.{Want}
-use Rattle.ev_port.specs.Told.{EndStep, no_step, PortTold, Counts, Becomes, Stays}
+use Rattle.ev_port.specs.EndSteps.{EndStep, no_step}
+use Rattle.ev_types.specs.Told.{PortTold, Counts, Becomes, Stays}
 
 abbrev pub is_failed_poll : Polled → Bool
 is_failed_poll (polled.Ready accept) = false

@@ -1,25 +1,16 @@
 // The port: it reaches the connections. An end is the outside connection of a side.
-ghost use Rattle.std.specs.Prelude.{◌≡◌, ◌<◌, length, [], ◌∷◌, true, false};
+ghost use Rattle.std.specs.Prelude.{◌≡◌, ◌<◌, ◌++◌, length, [], ◌∷◌, true, false};
 ghost use Rattle.ev_types.specs.Trace.{Trace};
-ghost use Rattle.ev_port.specs.Vouching.{LongerBy};
-ghost use Rattle.ev_port.specs.Waiting.{NothingWaits};
+ghost use Rattle.ev_port.specs.Vouching.{LongerBy, NothingWaits, TellsNoLinks};
 ghost use Rattle.ev_types.specs.declared.side.SideId.{SideId};
-ghost use Rattle.ev_port.specs.Told.{EndTold, PortTold, Faults, EndsWent, AllWent, PortStays, no_step};
-ghost use Rattle.ev_port.specs.Faults.{FaultsStay, EndFaults, PollFaults, ListenerFaults};
+ghost use Rattle.ev_types.specs.Told.{EndTold, PortTold};
+ghost use Rattle.ev_port.specs.Faults.{Faults, FaultsStay, EndFaults, PollFaults, ListenerFaults};
+ghost use Rattle.ev_port.specs.EndSteps.{EndsWent, AllWent, PortStays, no_step};
 ghost use Rattle.ev_port.specs.Calls.{Ticked, ClockRead, is_failed_start, StartedAt, is_failed_accept, accept_events, accept_step, AcceptedLink, IsUnheard};
 ghost use Rattle.ev_port.specs.Polling.{is_failed_poll, opens_accepting, AllMarked, poll_events, poll_step, PolledWith};
 ghost use Rattle.ev_port.specs.Ends.{is_failed_conn, conn_step, conn_events, ReadWithin, is_failed_read, read_step, read_events, WriteWithin, is_failed_write, write_step, write_events, close_write_events, close_events, close_write_step, close_step};
 
-use ev_types::{ConnAnswer, ReadAnswer, SideId, WriteAnswer};
-
-/// A numeric IPv4 address with a port.
-///
-/// Own.
-#[derive(Clone, Copy, Debug, PartialEq, Eq)]
-pub struct Addr {
-    pub ip: [u8; 4],
-    pub port: u16,
-}
+use ev_types::{Addr, ConnAnswer, ReadAnswer, SideId, WriteAnswer};
 
 /// What came of starting a port.
 ///
@@ -67,13 +58,18 @@ pub struct Want {
 ///
 /// Own.
 pub trait Port {
-    ghost use Rattle.std.specs.Prelude.{List};
     ghost use Rattle.ev_types.specs.declared.entry.Entry.{Entry};
-    ghost use Rattle.script_text.specs.Script.{TurnValue};
 
-    /// The traces of which this port can say: I answer by these turns of a script, each answer in it is mine, and I
-    /// stand where it ends. A port that answers by no script says the same of all turns.
-    ghost vouches: { Self → List TurnValue → Trace → Type 0 };
+    /// By what it answers, as the turns of a script. Of a plan a caller knows nothing but what is said below. A port that
+    /// answers by none says the same of all.
+    ghost Plan: { Type 0 };
+
+    /// The traces of which this port can say: I answer by this plan, each answer in it is mine, and I stand where it
+    /// ends.
+    ghost vouches: { Self → Self.Plan → Trace → Type 0 };
+
+    /// By this plan no link waits to be accepted behind this trace.
+    ghost none_waits: { Self.Plan → Trace → Type 0 };
 
     /// How often each kind of fault was met, up to the end of a u64.
     ghost faults: { Self → Faults };
@@ -108,7 +104,7 @@ pub trait Port {
         ensures vouched { LongerBy (vouches self.old) (vouches self.new) (poll_events timeout wants.new result) }
 
         // Where it was asked for links and is ready for none, no link waits.
-        ensures waiting { accept ≡ true → result ≡ Polled.Ready false → NothingWaits (vouches self.new) };
+        ensures waiting { accept ≡ true → result ≡ Polled.Ready false → NothingWaits (vouches self.new) none_waits };
 
     /// Takes a waiting connection as the In end of this link, and makes its Out end.
     fn accept(&mut self, link: u32) -> Accepted
@@ -118,7 +114,7 @@ pub trait Port {
         ensures vouched { LongerBy (vouches self.old) (vouches self.new) (accept_events link result) }
 
         // Where it found none, no link waits.
-        ensures waiting { result ≡ Accepted.NotYet → NothingWaits (vouches self.new) };
+        ensures waiting { result ≡ Accepted.NotYet → NothingWaits (vouches self.new) none_waits };
 
     /// Whether an end that was not connected is connected by now.
     fn connect_state(&mut self, end: SideId) -> ConnAnswer
@@ -158,6 +154,9 @@ pub trait Port {
         ensures ends { EndsWent (ends self.old) (ends self.new) end close_step }
         ensures told { PortStays (told self.old) (told self.new) }
         ensures vouched { LongerBy (vouches self.old) (vouches self.new) (close_events end) };
+
+    /// Where no link waits, none does until a turn begins or a link is opened.
+    ghost waits_no_more: { (plan : Self.Plan) (t u : Trace) → TellsNoLinks u → none_waits plan t → none_waits plan (t ++ u) };
 
     /// What no port answers changes nothing of what a port vouches for.
     ghost unheard: { (p : Self) (e : Entry) → IsUnheard e → LongerBy (vouches p) (vouches p) ((e, []) ∷ []) };

@@ -1,6 +1,4 @@
 // What no clause says: that calls succeed, and that the rules are the ones that are meant.
-mod fail_port;
-mod script_port;
 mod standard;
 
 use crate::{Given, MemSink, MemSource, Mute, Scribe, Sink, Source, Taken};

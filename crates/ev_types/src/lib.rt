@@ -1,9 +1,10 @@
-//! The names, flags and answers of the relay, the entries of its trace, and the tape that keeps a trace.
+//! The names, flags and answers of the relay, the lines of a script, the entries of a trace, and the tape that keeps it.
 //!
 //! These are values alone. What they mean for a run is said by the crates above.
 #![tactic(auto)]
 
 mod act;
+mod addr;
 mod answer;
 mod entry;
 mod filter;
@@ -11,17 +12,20 @@ mod memory;
 mod side;
 mod status;
 mod tape;
+mod turn_line;
 mod why;
 
 pub use act::Act;
+pub use addr::Addr;
 pub use answer::{AskAnswer, ConnAnswer, ReadAnswer, WriteAnswer};
 pub use entry::Entry;
 pub use filter::{FilterKind, Mode};
 pub use memory::NoMemory;
 pub use side::{BevId, Side, SideId};
-pub use status::{LinkState, Status};
+pub use status::{LinkCount, LinkState, Status};
 pub use tape::Tape;
 pub use token_bucket::{Dir, LimitCfg};
+pub use turn_line::{ByteList, TurnLine};
 pub use why::{Cause, Flags, Why, WhyKind};
 
 #[cfg(test)]

@@ -29,3 +29,15 @@ pub enum LinkState {
     Live,
     Gone,
 }
+
+/// What a link came to, and how many bytes each of its ends gave and took.
+///
+/// Own.
+#[derive(Clone, Copy, Debug, PartialEq, Eq)]
+pub struct LinkCount {
+    pub state: LinkState,
+    pub in_read: u64,
+    pub in_given: u64,
+    pub out_read: u64,
+    pub out_given: u64,
+}

@@ -29,6 +29,10 @@ abbrev pub is_frozen : Evbuffered → Place → Bool
 is_frozen buf Front = buf.front_frozen
 is_frozen buf End = buf.end_frozen
 
+-- the room of a buffer that has no byte was freed
+abbrev pub given_up : Evbuffered → Evbuffered
+given_up buf = if length buf.bytes == 0 then record buf { spare = 0 } else buf
+
 -- bytes of the buffer's own come in behind
 abbrev pub after_add : Evbuffered → List ℕ → ℕ → Evbuffered
 after_add buf bytes left = record buf {

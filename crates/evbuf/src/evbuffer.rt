@@ -9,15 +9,15 @@ ghost use Rattle.evbuf_chain.specs.Answers.{AnswersOr, fault_of};
 ghost use Rattle.evbuf_chain.specs.Buffered.{joined, PullupAnswer};
 ghost use Rattle.evbuf_chain.specs.Mark.{AreWhole};
 ghost use Rattle.evbuf.specs.Callbacks.{new_callback, without, with_enabled, report_of, newest_waiting, after_report};
-ghost use Rattle.evbuf.specs.Steps.{new_buffer, after_add, after_prepend, after_reference, after_drain, after_giving, after_taking, after_giving_all, after_taking_all, with_frozen, is_frozen};
+ghost use Rattle.evbuf.specs.Steps.{new_buffer, after_add, after_prepend, after_reference, after_drain, after_giving, after_taking, after_giving_all, after_taking_all, with_frozen, is_frozen, given_up};
 ghost use Rattle.evbuf.specs.Refusals.{end_refusal, front_refusal, add_refusal, prepend_refusal, move_refusal, same_refusal, callback_refusal, number_refusal};
 ghost use Rattle.evbuf.specs.declared.fault.BufFault.TheVariants.{Memory};
 ghost use Rattle.std.specs.Rc.{rc_slice_items};
 
 use crate::callback::Report;
-use crate::callback_list::CallbackList;
 use crate::fault::BufFault;
 use crate::place::Place;
+use crate::size_callbacks::SizeCallbacks;
 use evbuf_chain::Chain;
 use smallvec::SmallVec;
 use std::alloc::Global;
@@ -35,7 +35,7 @@ use std::rc::RcSlice;
 #[derive(Drop)]
 pub struct Evbuffer {
     chain: Chain,
-    callbacks: CallbackList,
+    callbacks: SizeCallbacks,
     front_frozen: bool,
     end_frozen: bool,
 }
@@ -64,10 +64,17 @@ impl Evbuffer {
     {
         Evbuffer {
             chain: Chain::new(alloc),
-            callbacks: CallbackList::new(alloc),
+            callbacks: SizeCallbacks::new(),
             front_frozen: false,
             end_frozen: false,
         }
+    }
+
+    /// The allocator that the buffer was made with. Takes no memory.
+    ///
+    /// Own.
+    pub fn allocator(&self) -> Global {
+        self.chain.allocator()
     }
 
     /// How many bytes there are. Takes no memory.
@@ -78,6 +85,26 @@ impl Evbuffer {
         ensures whole { AreWhole self.now.marks }
     {
         self.chain.len()
+    }
+
+    /// The first n bytes, or all where there are fewer, in one piece. Takes no memory, and costs the same for any n. No
+    /// frozen end refuses it.
+    ///
+    /// Own.
+    pub fn front(&self, n: usize) -> &[u8]
+        ensures { result.now ≡ take n self.now.bytes }
+    {
+        self.chain.front(n)
+    }
+
+    /// Frees the room of a buffer without a byte, and does nothing where there is one. Takes no memory, and no frozen end
+    /// refuses it.
+    ///
+    /// Own.
+    pub fn give_up(&mut self)
+        ensures { self.new ≡ given_up self.old }
+    {
+        self.chain.give_up();
     }
 
     /// Makes room for at least n more bytes at the end. No frozen end refuses it.
@@ -327,7 +354,7 @@ impl Evbuffer {
         ensures err { OnErr result (self.new ≡ self.old) }
     {
         let number = self.callbacks.next_number().ok_or(BufFault::Spent)?;
-        self.callbacks.add(number)?;
+        self.callbacks.add(number, self.chain.allocator())?;
         Ok(number)
     }
 

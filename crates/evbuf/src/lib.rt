@@ -7,6 +7,7 @@ mod callback_list;
 mod evbuffer;
 mod fault;
 mod place;
+mod size_callbacks;
 
 pub use buffers::Buffers;
 pub use callback::{Report, SizeCallback};

@@ -1,3 +1,4 @@
 pub mod MarkLemmas
 pub mod RunLemmas
 pub mod TicketLemmas
+pub mod UnmarkedLemmas

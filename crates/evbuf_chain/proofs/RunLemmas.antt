@@ -45,15 +45,15 @@ AreWhole-run_marks [] behind whole = whole
 AreWhole-run_marks (run ∷ runs) behind whole =
     AreWhole-unmarked run.gap _ (AreWhole-reference run.ticket run.len _ (AreWhole-run_marks runs behind whole))
 
-AreWhole-unmarked-all : (n : ℕ) → AreWhole (unmarked n)
+pub AreWhole-unmarked-all : (n : ℕ) → AreWhole (unmarked n)
 AreWhole-unmarked-all zero = tt
 AreWhole-unmarked-all (suc n) = AreWhole-unmarked-all n
 
-ended_tickets-unmarked-all : (n : ℕ) → ended_tickets (unmarked n) ≡ []
+pub ended_tickets-unmarked-all : (n : ℕ) → ended_tickets (unmarked n) ≡ []
 ended_tickets-unmarked-all zero = refl
 ended_tickets-unmarked-all (suc n) = ended_tickets-unmarked-all n
 
-uncut_marks-unmarked-all : (n : ℕ) → uncut_marks (unmarked n) ≡ unmarked n
+pub uncut_marks-unmarked-all : (n : ℕ) → uncut_marks (unmarked n) ≡ unmarked n
 uncut_marks-unmarked-all zero = refl
 uncut_marks-unmarked-all (suc n) = ap (λ ms. None ∷ ms) (uncut_marks-unmarked-all n)
 

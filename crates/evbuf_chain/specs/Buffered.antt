@@ -1,5 +1,5 @@
 -- What contracts see of a chain.
-use Rattle.std.specs.Prelude.{◌≡◌, ℕ, ◌^◌, ◌≤◌, ◌<◌, nat_lt, if◌then◌else◌, Option, Some, None, Result, Ok, Err, List, ◌++◌, length, take, drop, flat_map}
+use Rattle.std.specs.Prelude.{◌≡◌, ℕ, ◌^◌, ◌≤◌, ◌<◌, ◌==◌, nat_lt, if◌then◌else◌, Option, Some, None, Result, Ok, Err, List, ◌++◌, length, take, drop, flat_map}
 use Rattle.std.specs.Borrow.{Bor}
 use Rattle.evbuf_chain.specs.Mark.{Marks, unmarked, ended_tickets}
 use Rattle.evbuf_chain.specs.declared.fault.ChainFault.{ChainFault}
@@ -16,6 +16,10 @@ pub record Buffered : Type 0 where
 -- Why a length can be no length, or none: it is above the greatest number of a usize.
 abbrev pub length_refusal : ℕ → Option ChainFault
 length_refusal n = if nat_lt n (2 ^ 64) then None else Some Spent
+
+-- the room of a chain that has no byte was freed
+abbrev pub given_up : Buffered → Buffered
+given_up chain = if length chain.bytes == 0 then record chain { spare = 0 } else chain
 
 -- the bytes of slices, one after another
 abbrev pub joined : List (Bor (List ℕ)) → List ℕ

@@ -1,18 +1,21 @@
 // Bytes in order, in one vector. The front is taken off by moving the start on; the bytes are moved down only where
 // at least three quarters of the vector lie before the start, so that draining in pieces stays linear.
-ghost use Rattle.std.specs.Prelude.{◌≡◌, ◌≤◌, ◌<◌, ◌+◌, ◌-◌, ◌^◌, ◌++◌, [], length, drop, take, OnOk, OnErr, vec_len, vec_capacity};
+ghost use Rattle.std.specs.Prelude.{◌≡◌, ◌≤◌, ◌<◌, ◌+◌, ◌-◌, ◌^◌, ◌++◌, ◌⊎◌, [], length, drop, take, OnOk, OnErr, vec_len, vec_capacity};
 
 use std::alloc::{AllocError, Global};
 use std::marker::Model;
+use std::mem::swap;
 
 /// The least part of the vector, as a divisor, that the bytes fill behind a start.
 const SPARSE: usize = 3;
 
-/// Bytes in order, and how many more fit without taking memory.
+/// Bytes in order, in one piece, and how many more fit behind them without taking memory. They are appended at the end and
+/// taken from the front; taking some costs their number, over many calls.
 ///
-/// Own.
+/// Libevent: event2/buffer.h; "Evbuffers".
+/// Differs: the bytes lie in one piece.
 #[derive(Drop)]
-pub(crate) struct ByteQueue {
+pub struct ByteQueue {
     kept: Vec<u8>,
     start: usize,
     spare: usize,
@@ -31,7 +34,10 @@ impl Model for ByteQueue {
 }
 
 impl ByteQueue {
-    pub(crate) fn new(alloc: Global) -> ByteQueue
+    ghost use Rattle.evbuf_chain.specs.Inner.{given_up_room};
+
+    /// An empty queue. Takes no memory; constant.
+    pub fn new(alloc: Global) -> ByteQueue
         ensures items { result.items ≡ [] }
         ensures spare { result.spare ≡ 0 }
     {
@@ -42,7 +48,8 @@ impl ByteQueue {
         }
     }
 
-    pub(crate) fn len(&self) -> usize
+    /// How many bytes there are. Constant.
+    pub fn len(&self) -> usize
         ensures len { result ≡ length self.now.items }
         ensures fits { length self.now.items + self.now.spare < 2 ^ 64 }
     {
@@ -53,15 +60,17 @@ impl ByteQueue {
         *self.kept.allocator()
     }
 
-    pub(crate) fn as_slice(&self) -> &[u8]
+    /// All bytes, from the front. Constant.
+    pub fn as_slice(&self) -> &[u8]
         ensures { result.now ≡ self.now.items }
     {
         let (_, bytes) = self.kept.as_slice().split_at(self.start);
         bytes
     }
 
-    /// Makes room for so many more. After a refusal nothing has changed.
-    pub(crate) fn reserve(&mut self, n: usize) -> Result<(), AllocError>
+    /// Makes room behind the bytes for so many more. It takes memory where there is less; after a refusal nothing has changed.
+    /// Constant where there is room, else linear in the length.
+    pub fn reserve(&mut self, n: usize) -> Result<(), AllocError>
         ensures items { self.new.items ≡ self.old.items }
         ensures room { OnOk result (n ≤ self.new.spare) }
         ensures kept { self.old.spare ≤ self.new.spare }
@@ -74,8 +83,8 @@ impl ByteQueue {
         Ok(())
     }
 
-    /// Appends in room that was made before.
-    pub(crate) fn push(&mut self, bytes: &[u8])
+    /// Appends in room that was made before. Takes no memory; linear in the number of bytes that are appended.
+    pub fn push(&mut self, bytes: &[u8])
         requires { length bytes.now ≤ self.old.spare }
         ensures items { self.new.items ≡ self.old.items ++ bytes.now }
         ensures spare { self.new.spare + length bytes.now ≡ self.old.spare }
@@ -84,8 +93,8 @@ impl ByteQueue {
         self.spare -= bytes.len();
     }
 
-    /// Takes off the first n. Takes no memory.
-    pub(crate) fn drop_front(&mut self, n: usize)
+    /// Takes off the first n. Takes no memory; linear in n, over many calls.
+    pub fn drop_front(&mut self, n: usize)
         requires { n ≤ length self.old.items }
         ensures items { self.new.items ≡ drop n self.old.items }
         ensures spare { self.new.spare ≡ self.old.spare }
@@ -95,6 +104,35 @@ impl ByteQueue {
             self.kept.rotate_left(self.start);
             self.kept.truncate(self.kept.len() - self.start);
             self.start = 0;
+        }
+    }
+
+    /// Moves the first n behind the bytes of another queue. All of them go to an empty queue whole, without being copied; else
+    /// in room that was made before. Takes no memory; constant where they go whole, else linear in n, over many calls.
+    pub fn give(&mut self, into: &mut ByteQueue, n: usize)
+        requires within { n ≤ length self.old.items }
+        requires room { (n ≤ into.old.spare) ⊎ ((into.old.items ≡ []) × (n ≡ length self.old.items)) }
+        ensures left { self.new.items ≡ drop n self.old.items }
+        ensures given { into.new.items ≡ into.old.items ++ take n self.old.items }
+    {
+        if into.len() == 0 && n == self.len() {
+            swap(self, into);
+            return;
+        }
+        let (front, _) = self.as_slice().split_at(n);
+        into.push(front);
+        self.drop_front(n);
+    }
+
+    /// Frees the room where there is no byte. Takes no memory.
+    pub(crate) fn give_up(&mut self)
+        ensures { self.new ≡ given_up_room self.old }
+    {
+        if self.kept.len() == self.start {
+            let alloc = self.allocator();
+            self.kept = Vec::new(alloc);
+            self.start = 0;
+            self.spare = 0;
         }
     }
 

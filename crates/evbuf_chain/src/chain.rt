@@ -7,13 +7,13 @@
 ghost use Rattle.std.specs.Prelude.{◌≡◌, ◌≤◌, ◌<◌, ◌+◌, ◌-◌, ◌^◌, ◌++◌, ◌∷◌, ◌==◌, ◌↔◌, [], length, drop, take, min, nat_lt, OnOk, OnErr, IfOk, IfSome, IfNone, None, if◌then◌else◌};
 ghost use Rattle.evbuf_chain.specs.Answers.{AnswersOr, fault_of};
 ghost use Rattle.evbuf_chain.specs.Mark.{unmarked, reference_marks, ended_tickets, uncut_marks, AreWhole};
-ghost use Rattle.evbuf_chain.specs.Buffered.{length_refusal, joined};
+ghost use Rattle.evbuf_chain.specs.Buffered.{length_refusal, joined, given_up};
 ghost use Rattle.evbuf_chain.specs.declared.fault.ChainFault.TheVariants.{Memory};
 ghost use Rattle.std.specs.Rc.{rc_slice_items};
 
 use crate::byte_queue::ByteQueue;
 use crate::fault::ChainFault;
-use crate::mark_list::MarkList;
+use crate::made_marks::{self, MadeMarks};
 use smallvec::SmallVec;
 use std::alloc::Global;
 use std::marker::Model;
@@ -27,18 +27,20 @@ use std::rc::RcSlice;
 #[derive(Drop)]
 pub struct Chain {
     bytes: ByteQueue,
-    marks: MarkList,
+    // Made with the first reference. Until then no byte has a mark.
+    marks: MadeMarks,
 }
 
 impl Model for Chain {
     ghost use Rattle.std.specs.Prelude.{◌≡◌, length};
     ghost use Rattle.evbuf_chain.specs.Buffered.{Buffered};
+    ghost use Rattle.evbuf_chain.specs.Made.{marks_of, released_of};
 
     ghost Value = { Buffered };
 
-    ghost view = { λ chain. record { bytes = chain.bytes.items; marks = chain.marks.marks; spare = chain.bytes.spare; released = chain.marks.released } };
+    ghost view = { λ chain. record { bytes = chain.bytes.items; marks = marks_of (length chain.bytes.items) chain.marks; spare = chain.bytes.spare; released = released_of chain.marks } };
 
-    ghost invariant = { λ chain. length chain.marks.marks ≡ length chain.bytes.items };
+    ghost invariant = { λ chain. length (marks_of (length chain.bytes.items) chain.marks) ≡ length chain.bytes.items };
 }
 
 impl Chain {
@@ -47,7 +49,7 @@ impl Chain {
     ghost use mathlib.Core.Option.{none};
     ghost use denote.Follow.{follows_so};
     ghost use Rattle.evbuf_chain.specs.contracts.chain.Chain.{the_row};
-    ghost use Rattle.evbuf_chain.specs.Buffered.{AfterPullup, PullupAnswer};
+    ghost use Rattle.evbuf_chain.specs.Buffered.{AfterPullup, PullupAnswer, IsPulledUp};
 
     /// A chain with no byte. Takes no memory.
     pub fn new(alloc: Global) -> Chain
@@ -58,8 +60,15 @@ impl Chain {
     {
         Chain {
             bytes: ByteQueue::new(alloc),
-            marks: MarkList::new(alloc),
+            marks: None,
         }
+    }
+
+    /// The allocator that the chain was made with. Takes no memory.
+    ///
+    /// Own.
+    pub fn allocator(&self) -> Global {
+        self.bytes.allocator()
     }
 
     /// How many bytes there are. Takes no memory.
@@ -69,8 +78,27 @@ impl Chain {
         ensures marked { length self.now.marks ≡ length self.now.bytes }
         ensures whole { AreWhole self.now.marks }
     {
-        let _references = self.marks.references();
+        let _references = made_marks::references(&self.marks);
         self.bytes.len()
+    }
+
+    /// The first n bytes, or all where there are fewer, in one piece. Takes no memory, and costs the same for any n.
+    ///
+    /// Own.
+    pub fn front(&self, n: usize) -> &[u8]
+        ensures { result.now ≡ take n self.now.bytes }
+    {
+        let (bytes, _) = self.bytes.as_slice().split_at(n.min(self.bytes.len()));
+        bytes
+    }
+
+    /// Frees the room of a chain without a byte, and does nothing where there is one. Takes no memory.
+    ///
+    /// Own.
+    pub fn give_up(&mut self)
+        ensures { self.new ≡ given_up self.old }
+    {
+        self.bytes.give_up();
     }
 
     /// Makes room for at least n more bytes at the end.
@@ -97,7 +125,7 @@ impl Chain {
     {
         let _len = self.bytes.len();
         self.bytes.push(bytes);
-        self.marks.add_unmarked(bytes.len());
+        made_marks::add_unmarked(&mut self.marks, bytes.len());
     }
 
     /// Copies bytes in at the end. Where the length would not fit a usize it is refused as Spent, before want of memory.
@@ -128,10 +156,11 @@ impl Chain {
         ensures err { OnErr result (self.new ≡ self.old) }
     {
         self.fits(bytes.len())?;
-        self.marks.reserve(1)?;
+        let alloc = self.bytes.allocator();
+        made_marks::reserve(&mut self.marks, self.bytes.len(), 1, alloc)?;
         self.bytes.reserve(bytes.len())?;
         self.bytes.push(bytes.as_slice());
-        self.marks.add_reference(bytes.len(), ticket);
+        made_marks::add_reference(&mut self.marks, bytes.len(), ticket);
         Ok(())
     }
 
@@ -145,7 +174,7 @@ impl Chain {
     {
         self.fits(bytes.len())?;
         self.bytes.prepend(bytes)?;
-        self.marks.prepend_unmarked(bytes.len());
+        made_marks::prepend_unmarked(&mut self.marks, bytes.len());
         Ok(())
     }
 
@@ -158,7 +187,7 @@ impl Chain {
     {
         let n = n.min(self.bytes.len());
         self.bytes.drop_front(n);
-        self.marks.drop_front(n);
+        made_marks::drop_front(&mut self.marks, n);
     }
 
     /// Copies the bytes from a place on, as many as are there and fit, and answers how many. Takes no memory.
@@ -179,9 +208,8 @@ impl Chain {
         ensures answer { AnswersOr Memory result None }
         ensures bytes { IfOk result (λ slices. joined slices.items ≡ take n self.now.bytes) }
     {
-        let (bytes, _) = self.bytes.as_slice().split_at(n.min(self.bytes.len()));
         let mut slices = SmallVec::new(self.bytes.allocator());
-        slices.push(bytes)?;
+        slices.push(self.front(n))?;
         Ok(slices)
     }
 
@@ -198,10 +226,18 @@ impl Chain {
         if n > self.bytes.len() {
             return Ok(None);
         }
-        self.marks.drop_front(n);
-        self.marks.prepend_unmarked(n);
-        let (front, _) = self.bytes.as_slice().split_at(n);
-        Ok(Some(front))
+        self.unmark(n);
+        Ok(Some(self.front(n)))
+    }
+
+    // Takes the marks off the first n bytes.
+    fn unmark(&mut self, n: usize)
+        requires { n ≤ length self.old.bytes }
+        ensures { IsPulledUp self.old n self.new }
+    {
+        let _len = self.bytes.len();
+        made_marks::drop_front(&mut self.marks, n);
+        made_marks::prepend_unmarked(&mut self.marks, n);
     }
 
     /// The ticket that was released first and not taken yet, or none. Takes no memory.
@@ -212,7 +248,7 @@ impl Chain {
         ensures none { IfNone result ((self.old.released ≡ []) × (self.new.released ≡ [])) }
         ensures some { IfSome result (λ ticket. self.old.released ≡ ticket ∷ self.new.released) }
     {
-        self.marks.take_released()
+        made_marks::take_released(&mut self.marks)
     }
 
     /// Moves the first n bytes, or all where there are fewer, to the end of another chain, and answers how many. Where a
@@ -235,12 +271,13 @@ impl Chain {
     {
         let n = n.min(self.bytes.len());
         to.fits(n)?;
-        to.marks.reserve(n.min(self.marks.references()))?;
+        let alloc = to.bytes.allocator();
+        made_marks::reserve_moved(&self.marks, n, &mut to.marks, to.bytes.len(), alloc)?;
         to.bytes.reserve(n)?;
         let (bytes, _) = self.bytes.as_slice().split_at(n);
         to.bytes.push(bytes);
         self.bytes.drop_front(n);
-        self.marks.move_front(n, &mut to.marks);
+        made_marks::move_front(&mut self.marks, n, &mut to.marks);
         Ok(n)
     }
 

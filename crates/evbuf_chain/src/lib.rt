@@ -5,9 +5,11 @@ mod byte_queue;
 mod chain;
 mod fault;
 mod laws;
+mod made_marks;
 mod mark_list;
 mod run;
 
+pub use byte_queue::ByteQueue;
 pub use chain::Chain;
 pub use fault::ChainFault;
 pub use laws::tickets_are_handed_out_once;

@@ -48,7 +48,7 @@ impl Model for Base {
 
 impl Base {
     /// A base with so many priorities, 1 to 256, 0 being the most urgent. BadPriority comes for any other number. Takes
-    /// memory.
+    /// memory; linear in the number of priorities.
     ///
     /// Libevent: event2/event.h, `event_base_priority_init`; "Creating an event_base".
     /// Differs: 256 priorities can be had.
@@ -71,7 +71,8 @@ impl Base {
     }
 
     /// Makes an event, not pending and not active, of the priority in the middle: half the number of priorities, rounded
-    /// down. Answers its number, by the order of making from 0 on. Spent comes where that would not fit. Takes memory.
+    /// down. Answers its number, by the order of making from 0 on. Spent comes where that would not fit. Takes memory; constant
+    /// cost.
     ///
     /// Libevent: event2/event.h, `event_new`; "Working with events".
     pub fn new_event(&mut self, persist: bool, signal: Option<u32>) -> Result<u32, BaseFault>
@@ -91,7 +92,7 @@ impl Base {
         Ok(number as u32)
     }
 
-    /// Sets the priority of an event. NoEvent comes first, then BadPriority, then IsActive. Takes no memory.
+    /// Sets the priority of an event. NoEvent comes first, then BadPriority, then IsActive. Takes no memory; constant cost.
     ///
     /// Libevent: event2/event.h, `event_priority_set`; "Working with events".
     pub fn set_priority(&mut self, event: u32, priority: u32) -> Result<(), BaseFault>
@@ -114,7 +115,8 @@ impl Base {
 
     /// Adds an event: it is pending from then on. With a timeout, in milliseconds and at most 2^62, it has the deadline so
     /// long after the base's time, in place of any other, and stops being active where an older timeout made it so. Without
-    /// one it keeps the deadline that it had. NoEvent comes first, then Spent. Takes memory.
+    /// one it keeps the deadline that it had. NoEvent comes first, then Spent. Takes memory; linear in the
+    /// number of deadlines or of active events at worst.
     ///
     /// Libevent: event2/event.h, `event_add`; "Working with events".
     pub fn add_event(&mut self, event: u32, timeout: Option<u64>) -> Result<(), BaseFault>
@@ -166,7 +168,7 @@ impl Base {
     }
 
     /// Deletes an event: it is neither pending nor active, and no callback of it starts until it is active anew. Nothing
-    /// happens to an event that is neither. Takes no memory.
+    /// happens to an event that is neither. Takes no memory; linear in the number of deadlines or of active events at worst.
     ///
     /// Libevent: event2/event.h, `event_del`; "Working with events".
     /// Differs: the rest of a signal's calls are gone, also where a callback deletes its own event.
@@ -185,7 +187,7 @@ impl Base {
     }
 
     /// Makes an event active with these flags, for one call of its callback. An event that is active already gets the flags
-    /// beside its own, and no call more. NoEvent comes first, then Spent. Takes memory.
+    /// beside its own, and no call more. NoEvent comes first, then Spent. Takes memory; constant cost.
     ///
     /// Libevent: event2/event.h, `event_active`; "Working with events".
     pub fn activate(&mut self, event: u32, what: u8) -> Result<(), BaseFault>
@@ -203,7 +205,8 @@ impl Base {
     }
 
     /// A signal came so many times: each pending event of it is called so many times more. Those that are not active yet
-    /// become so in the order of their making. A count of 0 changes nothing. Spent comes first. Takes memory.
+    /// become so in the order of their making. A count of 0 changes nothing. Spent comes first. Takes memory;
+    /// linear in the number of events.
     ///
     /// Libevent: event2/event.h, `evsignal_new`; "Working with events".
     /// Differs: a signal is handed in; counts that come while an event is active are added.
@@ -230,7 +233,7 @@ impl Base {
     /// Begins a turn. The base's time becomes this clock reading, in milliseconds and cut at 2^62, unless it is later already.
     /// Each pending event whose deadline is at most that time becomes active; equal deadlines come in the order of adding.
     /// The batch is what is then active of the most urgent priority; that of a base whose loop ended is empty. Spent comes
-    /// first. Takes memory.
+    /// first. Takes memory; linear in the number of events.
     ///
     /// Libevent: event2/event.h, `event_base_loop` with `EVLOOP_ONCE`; "Working with an event loop".
     /// Differs: one turn runs one priority, and a clock that falls is not believed.
@@ -270,7 +273,8 @@ impl Base {
     /// Starts the next callback of the batch: answers the event and the flags of its call. None comes where the batch has no
     /// call left, or the loop broke. A non-persistent event stops being pending; the timeout of a persistent one is set
     /// again, from the scheduled moment where it fired and else from now, and never before now. Spent comes where the new
-    /// deadline or its order number would not fit. Takes memory.
+    /// deadline or its order number would not fit. Takes memory; linear in the number of deadlines where a timeout is set again,
+    /// else constant.
     ///
     /// Libevent: event2/event.h, `event_base_loop`; "Working with events".
     /// Differs: what becomes active while callbacks run waits for a later turn.
@@ -302,7 +306,7 @@ impl Base {
     }
 
     /// How long to wait for the next turn, in milliseconds: 0 where an event is active, else until the least deadline. None
-    /// where nothing is active and no deadline is pending. Takes no memory.
+    /// where nothing is active and no deadline is pending. Takes no memory; linear in the number of priorities.
     ///
     /// Own.
     pub fn poll_timeout(&self) -> Option<u64>
@@ -318,7 +322,7 @@ impl Base {
     }
 
     /// Is the loop over? It is from `loop_break` on, or from the moment on at which `loop_exit` was called and the batch has
-    /// no call left.
+    /// no call left. Takes no memory; constant cost.
     ///
     /// Libevent: event2/event.h, `event_base_got_break` and `event_base_got_exit`.
     /// Differs: a base that ended stays so.
@@ -355,7 +359,7 @@ impl Base {
         Ok(())
     }
 
-    /// Tells the loop to end after the running callback. Takes no memory.
+    /// Tells the loop to end after the running callback. Takes no memory; constant cost.
     ///
     /// Libevent: event2/event.h, `event_base_loopbreak`; "Working with an event loop".
     /// Differs: a base whose loop broke stays so.
@@ -365,7 +369,7 @@ impl Base {
         self.broken = true;
     }
 
-    /// Tells the loop to end as the batch of the turn has no call left. Takes no memory.
+    /// Tells the loop to end as the batch of the turn has no call left. Takes no memory; constant cost.
     ///
     /// Libevent: event2/event.h, `event_base_loopexit`; "Working with an event loop".
     /// Differs: the batch is run to its end whatever its priority.

@@ -2,12 +2,12 @@
 use Rattle.std.proofs.Common.{◌≡◌, ℕ, refl, arith, inl, inr, ◌⊎◌}
 use Rattle.ev_types.specs.Trace.{Trace}
 use Rattle.stream_words.specs.Faults.{Rose}
-use Rattle.ev_port.specs.Told.{Faults}
+use Rattle.ev_port.specs.Faults.{Faults}
 use Rattle.relay_core.specs.State.{State}
 use Rattle.relay_drive.specs.declared.fault.DriveFault.{DriveFault}
 use Rattle.relay_drive.specs.declared.fault.DriveFault.TheVariants as fault
 use Rattle.relay_drive.specs.Phases.{CutTurn, in_poll, CutPolling, is_open_fault}
-use Rattle.relay_drive.specs.Goes.{Heard}
+use Rattle.relay_drive.specs.Advances.{Heard}
 
 -- a count that stands at 0 did not rise
 not-rose : (m n : ℕ) → m ≡ 0 → n ≡ 0 → Rose m n → ⊥

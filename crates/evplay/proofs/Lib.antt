@@ -7,3 +7,5 @@ pub mod TurnCountLemmas
 pub mod OrderLemmas
 pub mod PlayedLemmas
 pub mod RunLemmas
+pub mod ComplaintLemmas
+pub mod TurnEndLemmas

@@ -1,66 +1,69 @@
 -- What a drive and a script port keep over the turns of a script is a run of that script.
 use Rattle.std.proofs.Common.{◌≡◌, ◌≤◌, ◌+◌, List, [], length, refl, subst, arith, count_by}
-use Rattle.std.proofs.lemmas.List.{length-map}
 use Rattle.ev_types.specs.Trace.{Trace}
-use Rattle.script_text.specs.Script.{ScriptValue, TurnValue}
+use Rattle.ev_types.specs.ScriptTurn.{ScriptTurn, lines_of}
+use Rattle.script_text.specs.Script.{ScriptValue}
 use Rattle.relay_model.specs.Stages.{Stage, at}
 use Rattle.relay_model.specs.Answers.{TurnAnswer}
 use Rattle.relay_model.specs.RatesKept.{is_turn}
 use Rattle.relay_model.specs.Plays.{TookAll, AlwaysTookAll}
-use Rattle.ev_port.specs.ScriptState.{PortState}
-use Rattle.ev_port.specs.ScriptPlayed.{played_turn, played_turns}
-use Rattle.ev_port.specs.ScriptPort.{lines_of}
-use Rattle.ev_port.specs.ScriptTold.{port_told, ends_told}
-use Rattle.ev_port.specs.ScriptVouched.{NamesOpened, IsCalledFor, ScriptVouches}
+use Rattle.script_port.specs.ScriptState.{PortState}
+use Rattle.script_port.specs.ScriptTold.{port_told, ends_told}
+use Rattle.relay_model.specs.Called.{NamesOpened, IsCalledFor}
+use Rattle.script_port.specs.ScriptVouched.{NoneWaits, ScriptVouches}
+use Rattle.script_port.proofs.ScriptWaitingLemmas.{always_called, took_called}
 use Rattle.relay_core.specs.State.{State}
 use Rattle.relay_meaning.specs.Meaning.{StandsFor, LeftFor, model_settings}
 use Rattle.relay_meaning.specs.Spelling.{BringsFit}
-use Rattle.relay_drive.specs.Known.{known, Progress, Question}
+use Rattle.relay_drive.specs.Known.{known, Point, Question}
 use Rattle.evplay.proofs.HeadlineLemmas.{run-of}
 use Rattle.evplay.proofs.OrderLemmas.{opens-in-order}
 use Rattle.evplay.proofs.PlayedLemmas.{vouched_played}
 use Rattle.evplay.proofs.TurnCountLemmas.{begun-is}
-use Rattle.evplay.specs.Headline.{IsRun}
+use Rattle.evplay.specs.TurnEnds.{AtTurnEnds}
+use Rattle.evplay.specs.Headline.{IsRun, StoodBetween}
 use Rattle.evplay.specs.Report.{lines_below}
 
 -- what is known of a script port and a trace of its script
-abbrev pub PortKnown : Progress → PortState → State → List TurnValue → Trace → Type 0
-PortKnown progress p s turns t = known progress (ScriptVouches p) (port_told p) (ends_told p.links) s.settings (Question.Took turns) t
+abbrev pub PortKnown : Point → PortState → State → List ScriptTurn → Trace → Type 0
+PortKnown at p s turns t = known at (ScriptVouches p) NoneWaits (port_told p) (ends_told p.links) s.settings (Question.Took turns) t
 
 -- a trace of at most as many turns as there are is called for
-called-for : (turns : List TurnValue) (t : Trace) (x : Stage) (s : State) → StandsFor t x s → NamesOpened 0 (lines_of turns) →
+called-for : (turns : List ScriptTurn) (t : Trace) (x : Stage) (s : State) → StandsFor t x s → NamesOpened 0 (lines_of turns) →
     count_by is_turn t ≤ length turns → IsCalledFor turns t
 called-for turns t x s k names few = record {
   lines = names;
-  turns_left = omega (arith, begun-is (played_turns turns) t, few);
+  turns_left = omega (arith, begun-is turns t, few);
   in_order = opens-in-order (model_settings s.settings) t (at x k.plain, k.reached);
 }
 
-took-of : (turns : List TurnValue) (t : Trace) (s : State) → s.settings.links ≡ 256 → AlwaysTookAll (played_turns turns) s.settings.links [] t →
-    AlwaysTookAll (played_turns turns) 256 [] t
-took-of turns t s l h = subst (λ n. AlwaysTookAll (played_turns turns) n [] t) l h
+took-of : (turns : List ScriptTurn) (t : Trace) (s : State) → s.settings.links ≡ 256 → AlwaysTookAll turns s.settings.links [] t →
+    AlwaysTookAll turns 256 [] t
+took-of turns t s l h = subst (λ n. AlwaysTookAll turns n [] t) l h
 
 -- All turns were made.
 pub went-run : (script : ScriptValue) (p : PortState) (t : Trace) (s : State) → s.settings.hold ≡ 524288 → s.settings.links ≡ 256 →
-    StandsFor t Stage.Between s → NamesOpened 0 (lines_of script.turns) → BringsFit (played_turns script.turns) → count_by is_turn t ≡ length script.turns →
-    PortKnown Progress.Between p s script.turns t → IsRun script TurnAnswer.Went t (lines_below s s.opened)
-went-run script p t s h l k names fit all seen =
+    StandsFor t Stage.Between s → NamesOpened 0 (lines_of script.turns) → BringsFit script.turns →
+    count_by is_turn t ≡ length script.turns →
+    PortKnown Point.Between p s script.turns t → AtTurnEnds StoodBetween t → IsRun script TurnAnswer.Went t (lines_below s s.opened)
+went-run script p t s h l k names fit all seen ends =
     let turns = script.turns in
     let called = called-for turns t Stage.Between s k names (omega (arith, all)) in
-    let took = took-of turns t s l (seen.0.1 called) in
-    let waits : TookAll (played_turns turns) 256 t = subst (λ n. TookAll (played_turns turns) n t) l (seen.1 called) in
-    let planned : count_by is_turn t ≡ length (played_turns turns) + 0 = omega (arith, all, length-map turns played_turn) in
+    let took = took-of turns t s l (always_called turns s.settings.links [] t called seen.0.1) in
+    let waits : TookAll turns 256 t = subst (λ n. TookAll turns n t) l (took_called turns s.settings.links t called seen.1) in
+    let planned : count_by is_turn t ≡ length turns + 0 = omega (arith, all) in
     let played = vouched_played script p t 0 TurnAnswer.Went seen.0.0 called took (planned, waits) in
-    run-of script TurnAnswer.Went t Stage.Between s h l k refl fit played
+    run-of script TurnAnswer.Went t Stage.Between s h l k refl fit played ends
 
 -- The last turn was refused with a failed poll.
 pub failed-run : (script : ScriptValue) (p : PortState) (t : Trace) (s : State) → s.settings.hold ≡ 524288 → s.settings.links ≡ 256 →
-    LeftFor TurnAnswer.PollFault t s → NamesOpened 0 (lines_of script.turns) → BringsFit (played_turns script.turns) → count_by is_turn t ≤ length script.turns →
-    PortKnown Progress.Accepting p s script.turns t → IsRun script TurnAnswer.PollFault t (lines_below s s.opened)
-failed-run script p t s h l k names fit few seen =
+    LeftFor TurnAnswer.PollFault t s → NamesOpened 0 (lines_of script.turns) → BringsFit script.turns →
+    count_by is_turn t ≤ length script.turns →
+    PortKnown Point.Accepting p s script.turns t → AtTurnEnds StoodBetween t → IsRun script TurnAnswer.PollFault t (lines_below s s.opened)
+failed-run script p t s h l k names fit few seen ends =
     let turns = script.turns in
     let called = called-for turns t k.stage s k.stands names few in
-    let took = took-of turns t s l (seen.0.1 called) in
-    let planned : count_by is_turn t ≤ length (played_turns turns) + 0 = omega (arith, few, length-map turns played_turn) in
+    let took = took-of turns t s l (always_called turns s.settings.links [] t called seen.0.1) in
+    let planned : count_by is_turn t ≤ length turns + 0 = omega (arith, few) in
     let played = vouched_played script p t 0 TurnAnswer.PollFault seen.0.0 called took planned in
-    run-of script TurnAnswer.PollFault t k.stage s h l k.stands k.left fit played
+    run-of script TurnAnswer.PollFault t k.stage s h l k.stands k.left fit played ends

@@ -1,19 +1,21 @@
 -- What each line that is said leaves holds of a whole script, as that it has at most 20,000 turns.
-use Rattle.std.proofs.Common.{◌≡◌, ◌≤◌, ◌+◌, ℕ, Bool, true, false, List, [], ◌∷◌, ◌++◌, length, Option, Some, None, Ok, refl, arith, subst, length-append, if◌then◌else◌, ◌&&◌}
+use Rattle.std.proofs.Common.{◌≡◌, ◌≤◌, ◌+◌, ℕ, Bool, true, false, List, [], ◌∷◌, ◌++◌, length, Option, Some, None, Ok, refl, arith}
+use Rattle.std.proofs.Common.{subst, length-append, if◌then◌else◌, ◌&&◌}
 use Rattle.std.specs.Prelude.{nat_lt, option_and_then}
 use Rattle.std.specs.List.{list_all}
 use Rattle.std.proofs.lemmas.Bool.{ltb-true}
-use Rattle.script_text.specs.Script.{ScriptValue, TurnValue}
-use Rattle.script_text.specs.declared.script.TurnLine.{TurnLine}
+use Rattle.ev_types.specs.ScriptTurn.{ScriptTurn, lines_of}
+use Rattle.script_text.specs.Script.{ScriptValue}
+use Rattle.ev_types.specs.declared.turn_line.TurnLine.{TurnLine}
 use Rattle.script_text.specs.declared.line.Line.{Line}
 use Rattle.script_text.specs.declared.line.Line.TheVariants.{At, Within, Skipped}
 use Rattle.script_text.specs.Pieces.{lines, words}
 use Rattle.script_text.specs.Grammar.{said}
-use Rattle.script_text.specs.Order.{with_line, extended, may_follow, turn_lines}
+use Rattle.script_text.specs.Order.{with_line, extended, may_follow}
 use Rattle.script_text.specs.Spelled.{is_plain, line_read, lines_read, going_on, no_line, script_of}
 
 -- a line more leaves as many turns
-length-with_line : (turns : List TurnValue) (x : TurnLine) → length (with_line turns x) ≡ length turns
+length-with_line : (turns : List ScriptTurn) (x : TurnLine) → length (with_line turns x) ≡ length turns
 length-with_line [] x = refl
 length-with_line (t ∷ []) x = refl
 length-with_line (t ∷ u ∷ more) x = grind (arith, length-with_line (u ∷ more) x)
@@ -30,17 +32,19 @@ few-extended s new (At ms) few h = at_case (nat_lt (length s.turns) 20000) refl 
   where
     at_case : (b : Bool) → nat_lt (length s.turns) 20000 ≡ b →
         (if b then Some (record { turns = s.turns ++ (ms, []) ∷ [] }) else None) ≡ Some new → length new.turns ≤ 20000
-    at_case true below e = rw (← some-is _ new e) (omega (arith, ltb-true (length s.turns) 20000 below, length-append s.turns ((ms, []) ∷ [])))
+    at_case true below e =
+        rw (← some-is _ new e) (omega (arith, ltb-true (length s.turns) 20000 below, length-append s.turns ((ms, []) ∷ [])))
     at_case false below e = none-some new e
 few-extended s new Skipped few h = rw (← some-is s new h) few
-few-extended s new (Within x) few h = within_case (nat_lt 0 (length s.turns) && may_follow (turn_lines s.turns) x) h
+few-extended s new (Within x) few h = within_case (nat_lt 0 (length s.turns) && may_follow (lines_of s.turns) x) h
   where
     within_case : (b : Bool) → (if b then Some (record { turns = with_line s.turns x }) else None) ≡ Some new → length new.turns ≤ 20000
     within_case true e = rw (← some-is _ new e) (omega (arith, length-with_line s.turns x))
     within_case false e = none-some new e
 
 -- A line leaves what each line that is said leaves.
-keeps-read : (P : ScriptValue → Type 0) → ((s new : ScriptValue) (ws : List (List ℕ)) (x : Line) → said ws ≡ Some x → P s → extended s x ≡ Some new → P new) →
+keeps-read : (P : ScriptValue → Type 0) →
+    ((s new : ScriptValue) (ws : List (List ℕ)) (x : Line) → said ws ≡ Some x → P s → extended s x ≡ Some new → P new) →
     (s new : ScriptValue) (line : List ℕ) → P s → line_read s line ≡ Some new → P new
 keeps-read P step s new line p h = plain_case (list_all is_plain line) h
   where
@@ -53,7 +57,8 @@ keeps-read P step s new line p h = plain_case (list_all is_plain line) h
     plain_case false e = none-some new e
 
 -- so do all lines
-pub keeps-lines : (P : ScriptValue → Type 0) → ((s new : ScriptValue) (ws : List (List ℕ)) (x : Line) → said ws ≡ Some x → P s → extended s x ≡ Some new → P new) →
+pub keeps-lines : (P : ScriptValue → Type 0) →
+    ((s new : ScriptValue) (ws : List (List ℕ)) (x : Line) → said ws ≡ Some x → P s → extended s x ≡ Some new → P new) →
     (s new : ScriptValue) (before : ℕ) (all : List (List ℕ)) → P s → lines_read s before all ≡ Ok new → P new
 keeps-lines P step s new before [] p h = let same : s ≡ new = cc h in subst P same p
 keeps-lines P step s new before (line ∷ more) p h =
@@ -68,4 +73,5 @@ keeps-lines P step s new before (line ∷ more) p h =
 -- what a text spells has at most 20,000 turns
 pub few-turns : (text : List ℕ) (script : ScriptValue) → script_of text ≡ Ok script → length script.turns ≤ 20000
 few-turns text script h =
-    keeps-lines (λ s. length s.turns ≤ 20000) (λ s new ws x is few e. few-extended s new x few e) no_line script 0 (lines text) (omega arith) h
+    keeps-lines (λ s. length s.turns ≤ 20000) (λ s new ws x is few e. few-extended s new x few e) no_line script 0 (lines text)
+    (omega arith) h

@@ -1,5 +1,6 @@
 -- A turn of the relay puts one entry that begins a turn: its clock puts it, and no other step does.
-use Rattle.std.proofs.Common.{◌≡◌, ℕ, zero, suc, ◌+◌, Bool, true, false, ◌&&◌, nat_lt, if◌then◌else◌, List, [], ◌∷◌, ◌++◌, refl, ◌∙◌, ap, arith, count_by, inl, inr}
+use Rattle.std.proofs.Common.{◌≡◌, ℕ, zero, suc, ◌+◌, Bool, true, false, ◌&&◌, nat_lt, if◌then◌else◌, List, [], ◌∷◌, ◌++◌, refl, ◌∙◌, ap}
+use Rattle.std.proofs.Common.{arith, count_by, inl, inr}
 use Rattle.std.specs.Prelude.{MatchBool}
 use Rattle.std.proofs.lemmas.List.Sums.{sum_by-append}
 use Rattle.ev_types.specs.declared.side.SideId.{SideId}
@@ -16,12 +17,15 @@ use Rattle.relay_core.specs.State.{State}
 use Rattle.relay_core.specs.Rooms.{wants_read, write_room, offer}
 use Rattle.relay_core.specs.Closing.{in_side, out_side, closing_of, is_called_for}
 use Rattle.relay_model.specs.RatesKept.{is_turn}
-use Rattle.relay_model.specs.Script.{ScriptTurn}
+use Rattle.ev_types.specs.ScriptTurn.{ScriptTurn}
 use Rattle.relay_model.specs.Scripted.{begun}
 use Rattle.relay_drive.specs.Steps.{Nothing, Then, Each}
 use Rattle.relay_drive.specs.Calls.{Ticks}
-use Rattle.relay_drive.specs.Phases.{links_from, Polls, OpensOne, OpensSome, AcceptsWhere, PollsAndAccepts, ReadsSide, WritesSide, ConnectsSide, is_connecting, ServesSide, PassesSide, PassesLink, ForAllLinks, closing_events, LooksAt, ClosesLink, Turns, CutTurn, in_poll, CutPolling}
+use Rattle.relay_drive.specs.Phases.{links_from, Polls, OpensOne, OpensSome, AcceptsWhere, PollsAndAccepts, ReadsSide, WritesSide}
+use Rattle.relay_drive.specs.Phases.{ConnectsSide, is_connecting, ServesSide, PassesSide, PassesLink, ForAllLinks, closing_events}
+use Rattle.relay_drive.specs.Phases.{LooksAt, ClosesLink, Turns, CutTurn, in_poll, CutPolling}
 use Rattle.relay_drive.specs.declared.fault.DriveFault.TheVariants as fault
+use Rattle.evplay.specs.TurnEnds.{begins_turn}
 
 -- among the entries that a step puts, so many begin a turn
 abbrev IsPutting : ℕ → (State → Trace → State → Type 0) → Type 0
@@ -65,7 +69,9 @@ ready_events-none : (ws : List Want) → count_by is_turn (ready_events ws) ≡ 
 ready_events-none [] = refl
 ready_events-none (w ∷ ws) = go (ready_events-none ws) w.can_read w.can_write
   where
-    go : count_by is_turn (ready_events ws) ≡ 0 → (p q : Bool) → count_by is_turn ((if p then (entry.Ready w.side true w.can_write, []) ∷ [] else (if q then (entry.Ready w.side false true, []) ∷ [] else [])) ++ ready_events ws) ≡ 0
+    go : count_by is_turn (ready_events ws) ≡ 0 → (p q : Bool) →
+        count_by is_turn ((if p then (entry.Ready w.side true w.can_write, []) ∷ [] else
+        (if q then (entry.Ready w.side false true, []) ∷ [] else [])) ++ ready_events ws) ≡ 0
     go h true q = h
     go h false true = h
     go h false false = h
@@ -105,14 +111,16 @@ write_events-none e from write.NoMemory = refl
 
 writes : (e : SideId) (marked : Bool) → IsPutting 0 (WritesSide e marked)
 writes e marked s new a h =
-    by_bool (marked && nat_lt 0 (write_room s e)) (λ r. ap (count_by is_turn) r.1.entries ∙ write_events-none e (offer s e) r.0) (nothing s new a) h
+    by_bool (marked && nat_lt 0 (write_room s e)) (λ r. ap (count_by is_turn) r.1.entries ∙ write_events-none e (offer s e) r.0)
+    (nothing s new a) h
 
 connects : (e : SideId) (marked : Bool) → IsPutting 0 (ConnectsSide e marked)
 connects e marked s new a h = by_bool marked (λ r. ap (count_by is_turn) r.1.entries) (nothing s new a) h
 
 serves : (w : Want) → IsPutting 0 (ServesSide w)
 serves w s new a h =
-    by_bool (is_connecting s w.side) (connects w.side w.can_write s new a) (both 0 0 (reads w.side w.can_read) (writes w.side w.can_write) s new a) h
+    by_bool (is_connecting s w.side) (connects w.side w.can_write s new a)
+    (both 0 0 (reads w.side w.can_read) (writes w.side w.can_write) s new a) h
 
 -- Passing and closing
 
@@ -130,7 +138,8 @@ closing_events-none s (closing.PeerGone e) = refl
 closing_events-none s (closing.Shut e) = refl
 
 looks : (step : Closing) → IsPutting 0 (LooksAt step)
-looks step s new a h = by_bool (is_called_for s step) (λ c. ap (count_by is_turn) c.entries ∙ closing_events-none s step) (nothing s new a) h
+looks step s new a h =
+    by_bool (is_called_for s step) (λ c. ap (count_by is_turn) c.entries ∙ closing_events-none s step) (nothing s new a) h
 
 closes_link : (k : ℕ) → IsPutting 0 (ClosesLink k)
 closes_link k = each LooksAt looks (closing_of k)
@@ -145,6 +154,14 @@ turn-once {s = s} {new = new} {a = a} h =
     (both 0 0 (all_links PassesLink passes_link) (all_links ClosesLink closes_link))))
     s new a h.2
 
+-- it stands in front
+ticks-first : (reading : ℕ) (R : State → Trace → State → Type 0) (s new : State) (a : Trace) → Then (Ticks reading) R s a new →
+    begins_turn a ≡ true
+ticks-first reading R s new a h = ap begins_turn (h.joined ∙ ap (λ f. f ++ h.back) h.first.entries)
+
+pub turn-first : {s new : State} {a : Trace} → Turns s a new → begins_turn a ≡ true
+turn-first {s = s} {new = new} {a = a} h = ticks-first h.0 _ s new a h.2
+
 -- A turn that is cut off in its poll has one too.
 
 failed-poll-none : (s new : State) (a : Trace) → CutPolling fault.PollFault s a new → count_by is_turn a ≡ 0
@@ -155,6 +172,9 @@ failed-poll-none s new a (inr h) = absurd h
 
 pub cut-poll-once : {s new : State} {a : Trace} → CutTurn fault.PollFault s a new → count_by is_turn a ≡ 1
 cut-poll-once {s = s} {new = new} {a = a} (in_poll reading h) = both 1 0 (ticks reading) failed-poll-none s new a h
+
+pub cut-poll-first : {s new : State} {a : Trace} → CutTurn fault.PollFault s a new → begins_turn a ≡ true
+cut-poll-first {s = s} {new = new} {a = a} (in_poll reading h) = ticks-first reading _ s new a h
 
 -- as many turns of a script were begun as the trace has
 pub begun-is : (turns : List ScriptTurn) (t : Trace) → begun turns t ≡ count_by is_turn t

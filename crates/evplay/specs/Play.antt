@@ -4,7 +4,7 @@ use Rattle.ev_types.specs.declared.status.Status.{Status}
 use Rattle.ev_types.specs.declared.status.Status.TheVariants as status
 use Rattle.ev_types.specs.Trace.{Trace}
 use Rattle.stream_words.specs.Streams.{GaveAll, TookOn}
-use Rattle.script_text.specs.declared.script.LinkLine.{LinkLine}
+use Rattle.ev_types.specs.declared.status.LinkCount.{LinkCount}
 use Rattle.script_text.specs.Script.{ScriptValue}
 use Rattle.script_text.specs.Spelled.{script_of}
 use Rattle.script_text.specs.TraceText.{trace_text}
@@ -13,31 +13,33 @@ use Rattle.relay_model.specs.Answers.{TurnAnswer}
 use Rattle.buffers_mode.specs.Text.{answers_of}
 use Rattle.base_mode.specs.Turned as base
 use Rattle.base_mode.specs.Spelled as base_script
+use Rattle.pairs_mode.specs.Run as pairs
 use Rattle.evplay.specs.declared.words.Mode.{Mode}
 use Rattle.evplay.specs.declared.words.Mode.TheVariants as mode
 use Rattle.evplay.specs.Headline.{IsRun}
 
 -- the text of a trace, and the report behind it
-abbrev pub run_text : Trace → List LinkLine → List ℕ
+abbrev pub run_text : Trace → List LinkCount → List ℕ
 run_text t links = trace_text t ++ report_text links
 
 -- it is the text of a run of the script that ended with this answer, and of its report
 abbrev pub IsRunText : ScriptValue → TurnAnswer → List ℕ → Type 0
-IsRunText script answer text = (t : Trace) × (links : List LinkLine) × IsRun script answer t links × (text ≡ run_text t links)
+IsRunText script answer text = (t : Trace) × (links : List LinkCount) × IsRun script answer t links × (text ≡ run_text t links)
 
 -- a source text spells a script of which this is the text of a run
 abbrev pub Runs : List ℕ → TurnAnswer → List ℕ → Type 0
 Runs source answer text = (script : ScriptValue) × (script_of source ≡ Ok script) × IsRunText script answer text
 
 -- What a script of this kind comes to: this text, and this status once it is written. A run of the relay ends well or with a
--- failed poll. A script of buffers or of a base comes to the answers of its lines; where a number of the base is spent, to those
--- before.
+-- failed poll. A script of buffers, of a base or of pairs comes to the answers of its lines; where a number of the base is
+-- spent, to those before.
 abbrev pub ComesTo : Mode → List ℕ → Status → List ℕ → Type 0
 ComesTo mode.Relay source status.Ok text = Runs source TurnAnswer.Went text
 ComesTo mode.Relay source status.PollFault text = Runs source TurnAnswer.PollFault text
 ComesTo mode.Buffers source status.Ok text = answers_of source ≡ Ok (Some text)
 ComesTo mode.Base source status.Ok text = base.answers_of source ≡ Ok (text, false)
 ComesTo mode.Base source status.Spent text = base.answers_of source ≡ Ok (text, true)
+ComesTo mode.Pairs source status.Ok text = pairs.answers_of source ≡ Ok text
 ComesTo _ source _ text = ⊥
 
 -- the first line of a source text that is not in the grammar of the mode has this number
@@ -45,6 +47,7 @@ abbrev pub IsFirstBad : Mode → List ℕ → ℕ → Type 0
 IsFirstBad mode.Relay source line = script_of source ≡ Err line
 IsFirstBad mode.Buffers source line = answers_of source ≡ Err line
 IsFirstBad mode.Base source line = base_script.script_of source ≡ Err line
+IsFirstBad mode.Pairs source line = pairs.answers_of source ≡ Err line
 
 -- The line is told of a text that has this one as its first bad line. A number above 2^32 - 1 is told as that number.
 abbrev pub TellsBad : Mode → List ℕ → ℕ → Type 0

@@ -1,5 +1,5 @@
 -- What the process says of how the program ended. When each status comes stands on `play`.
-use Rattle.std.specs.Prelude.{ℕ, List, ◌++◌, codes, Option, Some, None}
+use Rattle.std.specs.Prelude.{ℕ, List, [], ◌∷◌, ◌++◌, codes, Option, Some, None}
 use Rattle.std.specs.Fmt.{decimal}
 use Rattle.ev_types.specs.declared.status.Status.{Status}
 use Rattle.ev_types.specs.declared.status.Status.TheVariants as status
@@ -7,8 +7,8 @@ use Rattle.script_text.specs.declared.script.ScriptFault.{ScriptFault}
 use Rattle.script_text.specs.declared.script.ScriptFault.TheVariants as script
 use Rattle.buffers_mode.specs.declared.fault.ModeFault.{ModeFault}
 use Rattle.buffers_mode.specs.declared.fault.ModeFault.TheVariants as buffers
-use Rattle.base_mode.specs.declared.fault.ModeFault.{ModeFault as BaseFault}
-use Rattle.base_mode.specs.declared.fault.ModeFault.TheVariants as base
+use Rattle.evplay.specs.declared.words.BadWords.{BadWords}
+use Rattle.evplay.specs.declared.words.BadWords.TheVariants as words
 use Rattle.relay_drive.specs.declared.fault.DriveFault.{DriveFault}
 use Rattle.relay_drive.specs.declared.fault.DriveFault.TheVariants as fault
 
@@ -30,11 +30,10 @@ buffers_status buffers.Memory = status.Memory
 buffers_status (buffers.BadLine line) = status.BadScript line
 buffers_status buffers.Spent = status.Spent
 
--- the status where a script of a base is not played
-abbrev pub base_status : BaseFault → Status
-base_status base.Memory = status.Memory
-base_status (base.BadLine line) = status.BadScript line
-base_status base.Spent = status.Spent
+-- the status where the words can't be read
+abbrev pub words_status : BadWords → Status
+words_status words.NotText = status.Usage
+words_status words.Memory = status.Memory
 
 -- the status of the process
 abbrev pub status_number : Status → ℕ
@@ -63,3 +62,11 @@ status_text status.TooLong = Some (codes "too long")
 status_text status.Memory = Some (codes "out of memory")
 status_text status.OpenFault = Some (codes "open fault")
 status_text status.Spent = Some (codes "count spent")
+
+abbrev pub ended_line : Option (List ℕ) → List ℕ
+ended_line None = []
+ended_line (Some text) = text ++ 10 ∷ []
+
+-- what is said on standard error: the line of the status with its end, or nothing
+abbrev pub complaint : Status → List ℕ
+complaint ended = ended_line (status_text ended)

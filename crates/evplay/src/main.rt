@@ -1,12 +1,14 @@
 //! Plays a recorded script: from standard input to standard output.
 //!
-//! `play` does all that the program does; `main` hands it the words and the streams, and says how it ended.
+//! `play_program` does all that the program does; `main` hands it the words and the streams, and hands on its status.
 #![tactic(auto)]
 
+mod complaint;
 mod input;
 mod outcome;
 mod output;
 mod play;
+mod program;
 mod run;
 mod status;
 #[cfg(test)]
@@ -14,35 +16,23 @@ mod tests;
 mod words;
 
 use ev_port::{StdSink, StdSource};
-use ev_types::Status;
-use play::play;
-use status::{process_status, status_line};
+use program::play_program;
 use std::process::ExitCode;
 use std::{env, io};
+use words::{BadWords, bad_words};
 
 fn main(rt: HostRuntime) -> ExitCode {
-    let status = match program_words(&rt) {
-        Ok(words) => {
-            let mut source = StdSource::new(rt.reader());
-            let mut sink = StdSink::new(io::writer(&rt));
-            play(rt.alloc(), &words, &mut source, &mut sink)
-        }
-        Err(_) => Status::Memory,
-    };
-    // Where standard error can't be written to, the process status still tells.
-    let _ = complain(&rt, status);
-    ExitCode::from(process_status(status))
+    let words = program_words(&rt);
+    let mut source = StdSource::new(rt.reader());
+    let mut sink = StdSink::new(io::writer(&rt));
+    let mut errors = StdSink::new(rt.stderr());
+    ExitCode::from(play_program(rt.alloc(), words, &mut source, &mut sink, &mut errors))
 }
 
 /// The words after the program's name.
-fn program_words(rt: &HostRuntime) -> io::Result<Vec<String>> {
-    Ok(env::args(rt)?.skip(1).collect(rt.alloc())?)
-}
-
-/// Says on standard error how the program ended, unless it went well.
-fn complain(rt: &HostRuntime, status: Status) -> io::Result<()> {
-    if let Some(line) = status_line(rt.alloc(), status)? {
-        eprintln!(rt; "{line}")?;
+fn program_words(rt: &HostRuntime) -> Result<Vec<String>, BadWords> {
+    match env::args(rt) {
+        Ok(args) => Ok(args.skip(1).collect(rt.alloc())?),
+        Err(error) => Err(bad_words(error.kind())),
     }
-    Ok(())
 }

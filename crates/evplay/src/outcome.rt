@@ -1,14 +1,15 @@
 // What a script comes to, by its mode: the text that is to be written, and how the program ends once it is.
 ghost use Rattle.std.specs.Prelude.{◌≤◌, ◌^◌, length, IfOk, IfErr};
-ghost use Rattle.evplay.specs.declared.words.Mode.TheVariants.{Relay, Buffers, Base};
+ghost use Rattle.evplay.specs.declared.words.Mode.TheVariants.{Relay, Buffers, Base, Pairs};
 ghost use Rattle.evplay.specs.Play.{ComesTo, Refuses};
 
 use crate::run::run;
-use crate::status::{base_status, buffers_status, fault_status, script_status};
+use crate::status::{buffers_status, fault_status, script_status};
 use crate::words::Mode;
 use base_mode::play_base;
 use buffers_mode::play_buffers;
 use ev_types::Status;
+use pairs_mode::play_pairs;
 use script_text::read_script;
 use std::alloc::Global;
 
@@ -32,6 +33,7 @@ pub fn outcome_of(alloc: Global, mode: Mode, text: &[u8]) -> Result<Outcome, Sta
         Mode::Relay => relay(alloc, text),
         Mode::Buffers => buffers(alloc, text),
         Mode::Base => base(alloc, text),
+        Mode::Pairs => pairs(alloc, text),
     }
 }
 
@@ -82,6 +84,20 @@ fn base(alloc: Global, text: &[u8]) -> Result<Outcome, Status>
                 Status::Ok
             },
         }),
-        Err(fault) => Err(base_status(fault)),
+        Err(fault) => Err(script_status(fault)),
+    }
+}
+
+/// What the script of pairs that the text spells comes to.
+fn pairs(alloc: Global, text: &[u8]) -> Result<Outcome, Status>
+    ensures comes_to { IfOk result (λ outcome. ComesTo Pairs text.now outcome.status outcome.text.items) }
+    ensures refused { IfErr result (λ status. Refuses Pairs text.now status) }
+{
+    match play_pairs(alloc, text) {
+        Ok(text) => Ok(Outcome {
+            text,
+            status: Status::Ok,
+        }),
+        Err(fault) => Err(script_status(fault)),
     }
 }

@@ -2,18 +2,18 @@
 ghost use Rattle.std.specs.Prelude.{◌≡◌, ◌≢◌, ◌≤◌, ◌⊎◌, length, IfOk, IfErr};
 ghost use Rattle.relay_drive.specs.declared.fault.DriveFault.TheVariants.{Memory, PollFault};
 ghost use Rattle.relay_meaning.specs.Spelling.{BringsFit};
-ghost use Rattle.ev_port.specs.ScriptPlayed.{played_turns};
-ghost use Rattle.ev_port.specs.ScriptPort.{lines_of};
-ghost use Rattle.ev_port.specs.ScriptVouched.{NamesOpened};
+ghost use Rattle.ev_types.specs.ScriptTurn.{lines_of};
+ghost use Rattle.relay_model.specs.Called.{NamesOpened};
 ghost use Rattle.evplay.specs.Report.{lines_below};
 ghost use Rattle.evplay.specs.Play.{IsRunText, run_text};
 ghost use Rattle.evplay.specs.Run.{answer_of, ended_as};
 
-use ev_port::ScriptPort;
-use ev_types::{NoMemory, Status, Tape};
+use ev_types::{NoMemory, Status};
 use relay_drive::{Drive, DriveFault, Settings};
-use script_text::{LinkLine, Script, write_report, write_trace};
+use script_port::ScriptPort;
+use script_text::{LinkLine, Script, write_report};
 use std::alloc::Global;
+use text_scribe::TextScribe;
 
 /// How the turns of a script ended.
 ///
@@ -42,47 +42,46 @@ impl RunEnd {
 pub fn run(alloc: Global, script: Script) -> Result<(Vec<u8>, RunEnd), DriveFault>
     requires few { length script.turns ≤ 20000 }
     requires names { NamesOpened 0 (lines_of script.turns) }
-    requires brings { BringsFit (played_turns script.turns) }
+    requires brings { BringsFit script.turns }
     ensures text { IfOk result (λ ran. IsRunText script (answer_of ran.1) ran.0.items) }
     ensures only_memory { IfErr result (λ fault. fault ≡ Memory) }
 {
     let turns = script.turns.len();
     let mut port = ScriptPort::new(alloc, script)?;
-    let mut tape = Tape::new(alloc);
+    let mut scribe = TextScribe::new(alloc);
     let mut drive = Drive::new(alloc, Settings::usual())?;
     for _ in 0..turns {
-        if let Err(fault) = drive.turn(&mut port, &mut tape) {
-            return cut_off(alloc, fault, &tape, &drive);
+        if let Err(fault) = drive.turn(&mut port, &mut scribe) {
+            return cut_off(alloc, fault, scribe, &drive);
         }
     }
-    Ok((written(alloc, &tape, &drive)?, RunEnd::Went))
+    Ok((written(alloc, scribe, &drive)?, RunEnd::Went))
 }
 
 /// What is written of a run whose last turn was refused: all so far after a failed poll, and else nothing.
 fn cut_off(
     alloc: Global,
     fault: DriveFault,
-    tape: &Tape,
+    scribe: TextScribe,
     drive: &Drive,
 ) -> Result<(Vec<u8>, RunEnd), DriveFault>
     ensures poll_failed { IfOk result (λ ran. (fault ≡ PollFault) × (ran.1 ≡ RunEnd.PollFailed)) }
-    ensures text { IfOk result (λ ran. ran.0.items ≡ run_text tape.now.trace (lines_below drive.now.state drive.now.state.opened)) }
+    ensures text { IfOk result (λ ran. ran.0.items ≡ run_text scribe.trace (lines_below drive.now.state drive.now.state.opened)) }
     ensures refused { IfErr result (λ refused. (refused ≡ Memory) ⊎ ((refused ≡ fault) × (fault ≢ PollFault))) }
 {
     match fault {
-        DriveFault::PollFault => Ok((written(alloc, tape, drive)?, RunEnd::PollFailed)),
+        DriveFault::PollFault => Ok((written(alloc, scribe, drive)?, RunEnd::PollFailed)),
         DriveFault::Memory | DriveFault::OpenFault | DriveFault::Spent => Err(fault),
     }
 }
 
 /// The text of a trace, and of the report of the drive that made it.
-fn written(alloc: Global, tape: &Tape, drive: &Drive) -> Result<Vec<u8>, NoMemory>
-    ensures { IfOk result (λ text. text.items ≡ run_text tape.now.trace (lines_below drive.now.state drive.now.state.opened)) }
+fn written(alloc: Global, scribe: TextScribe, drive: &Drive) -> Result<Vec<u8>, NoMemory>
+    ensures { IfOk result (λ text. text.items ≡ run_text scribe.trace (lines_below drive.now.state drive.now.state.opened)) }
 {
     let links = link_lines(alloc, drive)?;
-    let mut text = Vec::new(alloc);
-    write_trace(alloc, tape, &mut text)?;
-    write_report(alloc, &links, &mut text)?;
+    let mut text = scribe.into_text();
+    write_report(&links, &mut text)?;
     Ok(text)
 }
 
@@ -93,13 +92,7 @@ fn link_lines(alloc: Global, drive: &Drive) -> Result<Vec<LinkLine>, NoMemory>
     let mut lines = Vec::new(alloc);
     for link in 0..drive.opened() {
         if let Some(count) = drive.link(link) {
-            lines.push(LinkLine {
-                state: count.state,
-                in_read: count.in_read,
-                in_given: count.in_given,
-                out_read: count.out_read,
-                out_given: count.out_given,
-            })?;
+            lines.push(count)?;
         }
     }
     Ok(lines)

@@ -1,3 +1,4 @@
 pub mod KeptLemmas
 pub mod OrderLemmas
 pub mod PlaceLemmas
+pub mod HandleLemmas

@@ -3,10 +3,12 @@
 
 mod fault;
 mod key;
+mod laws;
 mod timers;
 
 pub use fault::TimerFault;
 pub use key::TimerKey;
+pub use laws::{handles_are_new, handles_stay_gone};
 pub use timers::Timers;
 
 #[cfg(test)]

@@ -76,7 +76,7 @@ impl Model for Timers {
 impl Timers {
     ghost use Rattle.min_timer.specs.Queue.{number_of, is_timer_of, timer_of, without, with_timer, first_deadline, first_due, after_due, due_keys};
 
-    /// No timers. Takes no memory.
+    /// No timers. Takes no memory; constant cost.
     pub fn new(alloc: Global) -> Timers
         ensures none { result.pending ≡ [] }
         ensures last { result.last ≡ 0 }
@@ -88,7 +88,7 @@ impl Timers {
         }
     }
 
-    /// The number of the last timer that was added, or 0. Takes no memory.
+    /// The number of the last timer that was added, or 0. Takes no memory; constant cost.
     pub fn last(&self) -> u64
         ensures { result ≡ self.now.last }
     {
@@ -97,7 +97,8 @@ impl Timers {
 
     /// Adds a timer with this deadline, in milliseconds, and hands out its handle. It comes after
     /// those with the same deadline. Its number, which is its stamp, is one above the last. Takes
-    /// memory.
+    /// memory. The place is found in the logarithm of the number of timers; up to half of them are
+    /// moved in memory, and none where the new one comes last.
     ///
     /// Refused where no number is left, then for want of memory.
     pub fn add(&mut self, deadline: u64, key: u64) -> Result<TimerKey, TimerFault>
@@ -129,7 +130,8 @@ impl Timers {
         Ok(handle)
     }
 
-    /// Takes the timer of this handle out, and answers its key. Takes no memory.
+    /// Takes the timer of this handle out, and answers its key. Takes no memory; costs what `add`
+    /// does.
     ///
     /// Refused exactly where the timer fired or was cancelled.
     pub fn cancel(&mut self, timer: TimerKey) -> Result<u64, TimerFault>
@@ -160,7 +162,7 @@ impl Timers {
         }
     }
 
-    /// The deadline of the first timer, or None where none waits. Takes no memory.
+    /// The deadline of the first timer, or None where none waits. Takes no memory; constant cost.
     pub fn next_deadline(&self) -> Option<u64>
         ensures { result ≡ first_deadline self.now.pending }
     {
@@ -169,7 +171,7 @@ impl Timers {
     }
 
     /// The keys of the timers whose deadline is at most this time, in milliseconds, in the order in which
-    /// they come due. None of them is taken out. Takes memory.
+    /// they come due. None of them is taken out. Takes memory; linear in the number of those keys.
     pub fn due(&self, alloc: Global, time: u64) -> Result<Vec<u64>, TimerFault>
         ensures keys { IfOk result (λ keys. keys.items ≡ due_keys time self.now.pending) }
         ensures refused { IfErr result (λ fault. fault ≡ TimerFault.Memory) }
@@ -186,7 +188,7 @@ impl Timers {
     }
 
     /// Takes out the first timer whose deadline is at most now, in milliseconds, and answers its key
-    /// and its deadline: None where none is due. Takes no memory.
+    /// and its deadline: None where none is due. Takes no memory; constant cost.
     pub fn take_due(&mut self, now: u64) -> Option<(u64, u64)>
         ensures first { result ≡ first_due now self.old.pending }
         ensures left { self.new.pending ≡ after_due now self.old.pending }

@@ -31,7 +31,7 @@ impl Model for Active {
 }
 
 impl Active {
-    /// So many empty queues. Takes memory.
+    /// So many empty queues. Takes memory; linear in their number.
     ///
     /// Libevent: event2/event.h, `event_base_priority_init`; "Working with events".
     /// Differs: 256 priorities can be had.
@@ -50,7 +50,7 @@ impl Active {
         Ok(Active { queues })
     }
 
-    /// The number of priorities, 1 to 256. Takes no memory.
+    /// The number of priorities, 1 to 256. Takes no memory; constant cost.
     pub fn priorities(&self) -> u32
         ensures { result ≡ length self.now }
     {
@@ -58,7 +58,7 @@ impl Active {
     }
 
     /// Puts the key at the end of the queue of this priority. A key that stands in any queue stays
-    /// where it is. Takes memory.
+    /// where it is. Takes memory; looks through all keys that wait.
     pub fn activate(&mut self, priority: u32, key: u64) -> Result<(), PrioFault>
         ensures bad { (result ≡ Err PrioFault.BadPriority) ↔ (length self.old ≤ priority) }
         ensures ok { OnOk result (self.new ≡ activated self.old priority key) }
@@ -74,7 +74,7 @@ impl Active {
     }
 
     /// Puts a key that stands in no queue at the end of the queue of this priority, without looking for
-    /// it in the others. Takes memory.
+    /// it in the others. Takes memory; constant cost.
     pub fn append(&mut self, priority: u32, key: u64) -> Result<(), PrioFault>
         requires { is_queued key self.old ≡ false }
         ensures bad { (result ≡ Err PrioFault.BadPriority) ↔ (length self.old ≤ priority) }
@@ -95,7 +95,8 @@ impl Active {
         stands_in(self.queues.as_slice(), key)
     }
 
-    /// Takes the key out of its queue, and tells whether it stood in one. Takes no memory.
+    /// Takes the key out of its queue, and tells whether it stood in one. Takes no memory; looks
+    /// through all keys that wait.
     pub fn remove(&mut self, key: u64) -> bool
         ensures told { result ≡ is_queued key self.old }
         ensures left { self.new ≡ without key self.old }
@@ -108,7 +109,7 @@ impl Active {
     }
 
     /// The priority of the most urgent queue that has a key, or None where all are empty. Takes no
-    /// memory.
+    /// memory; linear in the number of priorities.
     pub fn first_queue(&self) -> Option<u32>
         ensures { result ≡ first_filled self.now }
     {
@@ -119,7 +120,7 @@ impl Active {
     }
 
     /// Takes out the key that has stood longest in the queue of this priority: None where it is
-    /// empty, or where there is no such queue. Takes no memory.
+    /// empty, or where there is no such queue. Takes no memory; constant cost.
     pub fn pop(&mut self, priority: u32) -> Option<u64>
         ensures key { result ≡ first_key (queue_of self.old priority) }
         ensures left { self.new ≡ popped self.old priority }
@@ -128,7 +129,7 @@ impl Active {
     }
 
     /// The key that has stood longest in the queue of this priority: None where it is empty, or where
-    /// there is no such queue. Takes no memory.
+    /// there is no such queue. Takes no memory; constant cost.
     pub fn front(&self, priority: u32) -> Option<u64>
         ensures { result ≡ first_key (queue_of self.now priority) }
     {
@@ -136,7 +137,7 @@ impl Active {
     }
 
     /// Takes out the key that has stood shortest in the queue of this priority: None where it is
-    /// empty, or where there is no such queue. Takes no memory.
+    /// empty, or where there is no such queue. Takes no memory; constant cost.
     pub fn pop_last(&mut self, priority: u32) -> Option<u64>
         ensures key { result ≡ last_key (queue_of self.old priority) }
         ensures left { self.new ≡ without_last self.old priority }

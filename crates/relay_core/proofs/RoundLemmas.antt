@@ -33,7 +33,8 @@ Steps hold x y = (y ≡ x) ⊎ ((weight hold y < weight hold x) × (counted x.fl
 then_steps : (hold : ℕ) (x y z : Lane) → Steps hold x y → Steps hold y z → Steps hold x z
 then_steps hold x y z (inl p) (inl q) = inl (q ∙ p)
 then_steps hold x y z (inl p) (inr q) = inr (subst (λ (w : Lane). (weight hold z < weight hold w) × (counted w.flow < counted z.flow)) p q)
-then_steps hold x y z (inr p) (inl q) = inr (subst (λ (w : Lane). (weight hold w < weight hold x) × (counted x.flow < counted w.flow)) (sym q) p)
+then_steps hold x y z (inr p) (inl q) =
+    inr (subst (λ (w : Lane). (weight hold w < weight hold x) × (counted x.flow < counted w.flow)) (sym q) p)
 then_steps hold x y z (inr p) (inr q) = inr (omega (arith, p.0, q.0), omega (arith, p.1, q.1))
 
 open_weight-or : (a b : Bool) → ((a || b) ≡ a) ⊎ ((open_weight a ≡ 1) × (open_weight (a || b) ≡ 0))
@@ -69,15 +70,23 @@ module _ (hold : ℕ) (ended : Bool) (x : Lane) where
       left = length-drop n x.buffers.raw_input
 
       made : length (x.buffers.input ++ take n x.buffers.raw_input) ≡ length x.buffers.input + n
-      made = length-append x.buffers.input (take n x.buffers.raw_input) ∙ ap (λ m. length x.buffers.input + m) (length-take-le n x.buffers.raw_input most)
+      made = length-append x.buffers.input (take n x.buffers.raw_input)
+          ∙ ap (λ m. length x.buffers.input + m) (length-take-le n x.buffers.raw_input most)
 
-      go : (n ≡ 0) ⊎ (0 < n) → ((x.flow.read_done || more) ≡ x.flow.read_done) ⊎ ((open_weight x.flow.read_done ≡ 1) × (open_weight (x.flow.read_done || more) ≡ 0)) → Steps hold x (read_filtered ended x)
+      go : (n ≡ 0) ⊎ (0 < n) → ((x.flow.read_done || more) ≡ x.flow.read_done) ⊎
+          ((open_weight x.flow.read_done ≡ 1) × (open_weight (x.flow.read_done || more) ≡ 0)) → Steps hold x (read_filtered ended x)
       go (inl none) (inl same) =
           let p = taken_none n x.buffers.raw_input x.buffers.input none in
           let a : x.flow.used + n ≡ x.flow.used = omega (arith, none) in
           let p0 = p.0 in let p1 = p.1 in
-          inl (λ i. record { flow = record (x.flow) { used = a i; read_done = same i }; buffers = record (x.buffers) { raw_input = p0 i; input = p1 i } })
-      go (inl none) (inr q) = inr (omega (arith, left, made, none, q.0, q.1, open_weight-le x.flow.write_done), omega (arith, none, q.0, q.1, open_weight-le x.flow.write_done))
+          inl (λ i. record {
+            flow = record (x.flow) { used = a i; read_done = same i };
+            buffers = record (x.buffers) { raw_input = p0 i; input = p1 i };
+          })
+      go (inl none) (inr q) = inr (
+        omega (arith, left, made, none, q.0, q.1, open_weight-le x.flow.write_done),
+        omega (arith, none, q.0, q.1, open_weight-le x.flow.write_done),
+      )
       go (inr some) (inl same) =
           let w : open_weight (x.flow.read_done || more) ≡ open_weight x.flow.read_done = ap open_weight same in
           inr (omega (arith, left, made, most, w), omega (arith, w))
@@ -88,7 +97,10 @@ module _ (hold : ℕ) (ended : Bool) (x : Lane) where
 
 module _ (hold : ℕ) (x : Lane) where
   abbrev moved_if : Bool → Lane
-  moved_if q = if q then record { flow = record (x.flow) { moved = x.flow.moved + length x.buffers.input }; buffers = record (x.buffers) { input = []; output = x.buffers.input } } else x
+  moved_if q = if q then record {
+    flow = record (x.flow) { moved = x.flow.moved + length x.buffers.input };
+    buffers = record (x.buffers) { input = []; output = x.buffers.input };
+  } else x
 
   moved_steps : Steps hold x (moved x)
   moved_steps = go (is_moving x) refl (none_or_some (length x.buffers.input))
@@ -140,25 +152,35 @@ module _ (hold : ℕ) (finish : Bool) (x : Lane) where
       left : length (drop t x.buffers.output) ≡ length x.buffers.output - t
       left = length-drop t x.buffers.output
 
-      go : (h : Bool) → x.flow.held ≡ h → (t ≡ 0) ⊎ (0 < t) → ((x.flow.write_done || over) ≡ x.flow.write_done) ⊎ ((open_weight x.flow.write_done ≡ 1) × (open_weight (x.flow.write_done || over) ≡ 0)) → Steps hold x (written_if h)
+      go : (h : Bool) → x.flow.held ≡ h → (t ≡ 0) ⊎ (0 < t) → ((x.flow.write_done || over) ≡ x.flow.write_done) ⊎
+          ((open_weight x.flow.write_done ≡ 1) × (open_weight (x.flow.write_done || over) ≡ 0)) → Steps hold x (written_if h)
       go true e k j = inl refl
       go false e k j =
-          let a : held_weight hold x.flow.held (length x.buffers.raw_output) ≡ 1 = ap (λ b. held_weight hold b (length x.buffers.raw_output)) e in
-          let b : held_weight hold x.flow.held (length (x.buffers.raw_output ++ take t x.buffers.output)) ≡ 1 = ap (λ b. held_weight hold b (length (x.buffers.raw_output ++ take t x.buffers.output))) e in
+          let a : held_weight hold x.flow.held (length x.buffers.raw_output) ≡ 1 =
+          ap (λ b. held_weight hold b (length x.buffers.raw_output)) e in
+          let b : held_weight hold x.flow.held (length (x.buffers.raw_output ++ take t x.buffers.output)) ≡ 1 =
+          ap (λ b. held_weight hold b (length (x.buffers.raw_output ++ take t x.buffers.output))) e in
           by a b k j
         where
-          by : held_weight hold x.flow.held (length x.buffers.raw_output) ≡ 1 → held_weight hold x.flow.held (length (x.buffers.raw_output ++ take t x.buffers.output)) ≡ 1 →
-              (t ≡ 0) ⊎ (0 < t) → ((x.flow.write_done || over) ≡ x.flow.write_done) ⊎ ((open_weight x.flow.write_done ≡ 1) × (open_weight (x.flow.write_done || over) ≡ 0)) → Steps hold x (written_if false)
+          by : held_weight hold x.flow.held (length x.buffers.raw_output) ≡ 1 →
+              held_weight hold x.flow.held (length (x.buffers.raw_output ++ take t x.buffers.output)) ≡ 1 →
+              (t ≡ 0) ⊎ (0 < t) → ((x.flow.write_done || over) ≡ x.flow.write_done) ⊎
+              ((open_weight x.flow.write_done ≡ 1) × (open_weight (x.flow.write_done || over) ≡ 0)) → Steps hold x (written_if false)
           by a b (inl none) (inl same) =
               let p = taken_none t x.buffers.output x.buffers.raw_output none in
               let n : x.flow.turned + t ≡ x.flow.turned = omega (arith, none) in
               let p0 = p.0 in let p1 = p.1 in
-              inl (λ i. record { flow = record (x.flow) { turned = n i; write_done = same i }; buffers = record (x.buffers) { output = p0 i; raw_output = p1 i } })
-          by a b (inl none) (inr q) = inr (omega (arith, a, b, left, none, q.0, q.1), omega (arith, none, q.0, q.1, open_weight-le x.flow.read_done))
+              inl (λ i. record {
+                flow = record (x.flow) { turned = n i; write_done = same i };
+                buffers = record (x.buffers) { output = p0 i; raw_output = p1 i };
+              })
+          by a b (inl none) (inr q) = inr
+              (omega (arith, a, b, left, none, q.0, q.1), omega (arith, none, q.0, q.1, open_weight-le x.flow.read_done))
           by a b (inr some) (inl same) =
               let w : open_weight (x.flow.write_done || over) ≡ open_weight x.flow.write_done = ap open_weight same in
               inr (omega (arith, a, b, left, most, w), omega (arith, w))
-          by a b (inr some) (inr q) = inr (omega (arith, a, b, left, most, q.0, q.1), omega (arith, q.0, q.1, open_weight-le x.flow.read_done))
+          by a b (inr some) (inr q) = inr
+              (omega (arith, a, b, left, most, q.0, q.1), omega (arith, q.0, q.1, open_weight-le x.flow.read_done))
 
   write_keeps : (write_filtered hold finish x).flow.held ≡ x.flow.held
   write_keeps = go x.flow.held
@@ -202,10 +224,13 @@ module _ (hold : ℕ) (x : Lane) where
       a : held_weight hold x.flow.held (length x.buffers.raw_output) ≡ weight_by x.flow.held full low
       a = held_weight-is x.flow.held
 
-      b : held_weight hold (kept_back x.flow.held full low) (length x.buffers.raw_output) ≡ weight_by (kept_back x.flow.held full low) full low
+      b : held_weight hold (kept_back x.flow.held full low) (length x.buffers.raw_output) ≡ weight_by
+          (kept_back x.flow.held full low) full low
       b = held_weight-is (kept_back x.flow.held full low)
 
-      go : (kept_back x.flow.held full low ≡ x.flow.held) ⊎ ((weight_by (kept_back x.flow.held full low) full low < weight_by x.flow.held full low) × (kept_back x.flow.held full low ≢ x.flow.held)) → Turns hold x (held hold x)
+      go : (kept_back x.flow.held full low ≡ x.flow.held) ⊎
+          ((weight_by (kept_back x.flow.held full low) full low < weight_by x.flow.held full low) ×
+          (kept_back x.flow.held full low ≢ x.flow.held)) → Turns hold x (held hold x)
       go (inl same) = inl (λ i. record { flow = record (x.flow) { held = same i }; buffers = x.buffers })
       go (inr q) = inr (omega (arith, a, b, q.0), q.1)
 
@@ -218,13 +243,15 @@ held_then hold x y z (inl p) (inl q) k = inl (q ∙ p)
 held_then hold x y z (inl p) (inr q) k =
     let s = subst (λ (w : Lane). (weight hold z < weight hold w) × (counted w.flow < counted z.flow)) p q in
     inr (s.0, λ e. absurd (let c : counted z.flow ≡ counted x.flow = ap counted e in omega (arith, c, s.1)))
-held_then hold x y z (inr p) (inl q) k = inr (subst (λ (w : Lane). weight hold w < weight hold x) (sym q) p.0, λ e. p.1 (sym k ∙ ap (λ f. f.held) e))
+held_then hold x y z (inr p) (inl q) k =
+    inr (subst (λ (w : Lane). weight hold w < weight hold x) (sym q) p.0, λ e. p.1 (sym k ∙ ap (λ f. f.held) e))
 held_then hold x y z (inr p) (inr q) k = inr (omega (arith, p.0, q.0), λ e. p.1 (sym k ∙ ap (λ f. f.held) e))
 
 pub round_falls : (hold : ℕ) (ended from_live to_live : Bool) (x : Lane) → Rounds hold x (round hold ended from_live to_live x)
 round_falls hold ended from_live false x = inl refl
 round_falls hold ended false true x =
-    held_then hold x (held hold x) (write_filtered hold false (held hold x)) (held_turns hold x) (write_steps hold false (held hold x)) (write_keeps hold false (held hold x))
+    held_then hold x (held hold x) (write_filtered hold false (held hold x)) (held_turns hold x)
+    (write_steps hold false (held hold x)) (write_keeps hold false (held hold x))
 round_falls hold ended true true x =
     let a : Lane = held hold x in
     let b : Lane = read_filtered ended a in

@@ -5,7 +5,8 @@ use Rattle.ev_types.specs.declared.side.SideId.{SideId}
 use Rattle.ev_types.specs.Sides.{peer}
 use Rattle.relay_core.specs.declared.close.Closing.{Closing}
 use Rattle.relay_core.specs.declared.close.Closing.TheVariants as closing
-use Rattle.relay_core.specs.State.{State, Buffers, SideValue, side_at, flags_at, lane_at, with_side, with_flags}
+use Rattle.relay_model.specs.Conserved.{Buffers}
+use Rattle.relay_core.specs.State.{State, SideValue, side_at, flags_at, lane_at, with_side, with_flags}
 
 abbrev pub in_side : ℕ → SideId
 in_side link = record { link = link; side = In }
@@ -20,12 +21,12 @@ closing_of k =
     closing.Faulty (in_side k) ∷ closing.Faulty (out_side k) ∷ closing.EndWriting (out_side k) ∷ closing.EndWriting (in_side k) ∷ closing.BothDone k
     ∷ closing.PeerGone (in_side k) ∷ closing.PeerGone (out_side k) ∷ closing.Shut (in_side k) ∷ closing.Shut (out_side k) ∷ []
 
-abbrev pub link_of : Closing → ℕ
-link_of (closing.Faulty e) = e.link
-link_of (closing.EndWriting e) = e.link
-link_of (closing.BothDone k) = k
-link_of (closing.PeerGone e) = e.link
-link_of (closing.Shut e) = e.link
+abbrev pub link_of_step : Closing → ℕ
+link_of_step (closing.Faulty e) = e.link
+link_of_step (closing.EndWriting e) = e.link
+link_of_step (closing.BothDone k) = k
+link_of_step (closing.PeerGone e) = e.link
+link_of_step (closing.Shut e) = e.link
 
 abbrev pub are_empty : Buffers → Bool
 are_empty b = length b.raw_input == 0 && length b.input == 0 && length b.output == 0 && length b.raw_output == 0

@@ -6,7 +6,7 @@ use Rattle.ev_types.specs.declared.status.LinkState.{LinkState}
 use Rattle.ev_types.specs.declared.status.LinkState.TheVariants as state
 use Rattle.ev_types.specs.Sides.{peer}
 use Rattle.relay_core.specs.declared.count.Counts.{Counts}
-use Rattle.relay_core.specs.declared.count.LinkCount.{LinkCount}
+use Rattle.ev_types.specs.declared.status.LinkCount.{LinkCount}
 use Rattle.relay_core.specs.State.{State, SideValue, side_at, flags_at, lane_at}
 use Rattle.relay_core.specs.Closing.{in_side, out_side}
 

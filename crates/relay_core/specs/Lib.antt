@@ -1,5 +1,3 @@
-pub mod Waiting
-pub mod BufferView
 pub mod State
 pub mod SideView
 pub mod RelayView

@@ -3,7 +3,8 @@
 use Rattle.std.specs.Prelude.{◌≡◌, ℕ, zero, suc, ◌+◌, ◌-◌, ◌/◌, Bool, true, false, ◌==◌, ◌&&◌, ◌||◌, not, nat_le, if◌then◌else◌, [], ◌++◌, length, take, drop, min}
 use Rattle.ev_types.specs.declared.side.SideId.{SideId}
 use Rattle.ev_types.specs.Sides.{peer}
-use Rattle.relay_core.specs.State.{Buffers, Lane, State, flags_at, lane_at, with_lane}
+use Rattle.relay_model.specs.Conserved.{Buffers}
+use Rattle.relay_core.specs.State.{Lane, State, flags_at, lane_at, with_lane}
 
 -- the input length at which the read filter stops, and the most bytes of one read and one write
 abbrev pub read_mark : ℕ
@@ -11,13 +12,13 @@ read_mark = 16384
 
 -- The direction becomes held where the raw output is at least the hold mark, and is no more held where it is at most
 -- half of that.
-abbrev pub holds : ℕ → Lane → Bool
-holds hold x =
+abbrev pub holds_back : ℕ → Lane → Bool
+holds_back hold x =
     let waiting : ℕ = length x.buffers.raw_output in
     if nat_le hold waiting then true else (if nat_le waiting (hold / 2) then false else x.flow.held)
 
 abbrev pub held : ℕ → Lane → Lane
-held hold x = record x { flow = record (x.flow) { held = holds hold x } }
+held hold x = record x { flow = record (x.flow) { held = holds_back hold x } }
 
 -- the read filter uses the raw input until the input has reached the read mark
 abbrev pub used_now : Buffers → ℕ

@@ -4,18 +4,9 @@ use Rattle.std.specs.Prelude.{ℕ, Bool, true, false, not, List, [], slice_index
 use Rattle.ev_types.specs.declared.side.SideId.{SideId}
 use Rattle.ev_types.specs.Sides.{number}
 use Rattle.relay_model.specs.Flow.{Flow, no_flow}
+use Rattle.relay_model.specs.Conserved.{Buffers, no_buffers}
 use Rattle.relay_core.specs.declared.flags.SideFlags.{SideFlags}
 use Rattle.relay_core.specs.declared.settings.Settings.{Settings}
-
--- the bytes on their way in a direction, in the four places that they pass
-pub record Buffers : Type 0 where
-  pub raw_input : List ℕ
-  pub input : List ℕ
-  pub output : List ℕ
-  pub raw_output : List ℕ
-
-abbrev pub no_buffers : Buffers
-no_buffers = record { raw_input = []; input = []; output = []; raw_output = [] }
 
 -- a direction: how far it has come, and the bytes on their way
 pub record Lane : Type 0 where

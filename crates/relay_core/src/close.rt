@@ -1,12 +1,12 @@
 // Closing a link: the steps in their order, whether one is called for, and what it changes.
 ghost use Rattle.std.specs.Prelude.{◌≡◌, ◌<◌};
-ghost use Rattle.relay_core.specs.Closing.{closing_of, link_of, is_called_for, gone, peer_gone, freed, after_closing};
+ghost use Rattle.relay_core.specs.Closing.{closing_of, link_of_step, is_called_for, gone, peer_gone, freed, after_closing};
 ghost use Rattle.relay_core.specs.State.{side_at, with_side};
 
-use crate::buffer::Buffer;
 use crate::relay::Relay;
 use crate::side::SideState;
 use ev_types::{Side, SideId};
+use evbuf_chain::ByteQueue;
 use std::alloc::Global;
 
 /// A step of closing a link.
@@ -51,23 +51,23 @@ impl Closing {
 }
 
 impl SideState {
-    ghost use Rattle.relay_core.specs.SideView.{side_of};
+    ghost use Rattle.relay_core.specs.SideView.{side_value};
 
     /// The side is freed: what was read from it and not moved is dropped.
     fn drop_input(&mut self, alloc: Global)
-        ensures { side_of self.new ≡ gone (side_of self.old) }
+        ensures { side_value self.new ≡ gone (side_value self.old) }
     {
         self.flags.live = false;
-        self.raw_input = Buffer::new(alloc);
-        self.input = Buffer::new(alloc);
+        self.raw_input = ByteQueue::new(alloc);
+        self.input = ByteQueue::new(alloc);
     }
 
     /// The peer is freed: what waits to be given to it is dropped.
     fn drop_output(&mut self, alloc: Global)
-        ensures { side_of self.new ≡ peer_gone (side_of self.old) }
+        ensures { side_value self.new ≡ peer_gone (side_value self.old) }
     {
-        self.output = Buffer::new(alloc);
-        self.raw_output = Buffer::new(alloc);
+        self.output = ByteQueue::new(alloc);
+        self.raw_output = ByteQueue::new(alloc);
     }
 }
 
@@ -99,7 +99,7 @@ impl Relay {
 
     /// Whether there is anything to do at a step of closing.
     pub fn calls_for(&self, step: Closing) -> bool
-        requires { link_of step < self.now.state.opened }
+        requires { link_of_step step < self.now.state.opened }
         ensures { result ≡ is_called_for self.now.state step }
     {
         match step {
@@ -166,7 +166,7 @@ impl Relay {
 
     /// Makes the change of a step of closing. Takes no memory.
     pub fn close(&mut self, step: Closing)
-        requires { link_of step < self.old.state.opened }
+        requires { link_of_step step < self.old.state.opened }
         ensures { self.new.state ≡ after_closing self.old.state step }
     {
         match step {

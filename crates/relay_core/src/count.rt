@@ -5,7 +5,7 @@ ghost use Rattle.relay_core.specs.Counting.{counts_of, link_state, link_count, i
 
 use crate::relay::Relay;
 use crate::side::SideState;
-use ev_types::{LinkState, Side, SideId};
+use ev_types::{LinkCount, LinkState, Side, SideId};
 
 /// A count of the relay that has come so far lets a run end.
 pub(crate) const SPENT: u64 = 1 << 62;
@@ -21,25 +21,13 @@ pub struct Counts {
     pub given: u64,
 }
 
-/// What a link came to, and how many bytes each of its ends was read and took.
-///
-/// Own.
-#[derive(Clone, Copy, Debug, PartialEq, Eq)]
-pub struct LinkCount {
-    pub state: LinkState,
-    pub in_read: u64,
-    pub in_given: u64,
-    pub out_read: u64,
-    pub out_given: u64,
-}
-
 impl SideState {
     ghost use Rattle.std.specs.List.{list_any};
     ghost use Rattle.relay_core.specs.Counting.{has_come_far};
-    ghost use Rattle.relay_core.specs.SideView.{side_of};
+    ghost use Rattle.relay_core.specs.SideView.{side_value};
 
     fn is_spent(&self) -> bool
-        ensures { result ≡ has_come_far (side_of self.now) }
+        ensures { result ≡ has_come_far (side_value self.now) }
     {
         self.read >= SPENT
             || self.flow.used >= SPENT
@@ -50,7 +38,7 @@ impl SideState {
 
     /// Whether a count of some side has come far.
     fn any_is_spent(sides: &[SideState]) -> bool
-        ensures { result ≡ list_any (λ s. has_come_far (side_of s)) sides.now }
+        ensures { result ≡ list_any (λ s. has_come_far (side_value s)) sides.now }
     {
         sides.iter().any(|side| side.is_spent())
     }

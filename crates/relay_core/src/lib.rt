@@ -4,7 +4,6 @@
 //! What stands for the whole state is listed in `specs/State.antt`. Each call's contract says the state after it.
 #![tactic(auto)]
 
-mod buffer;
 mod close;
 mod count;
 mod flags;
@@ -17,7 +16,8 @@ mod settings;
 mod side;
 
 pub use close::Closing;
-pub use count::{Counts, LinkCount};
+pub use count::Counts;
+pub use ev_types::LinkCount;
 pub use flags::SideFlags;
 pub use relay::Relay;
 pub use settings::Settings;

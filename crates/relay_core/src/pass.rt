@@ -1,8 +1,8 @@
 // Passing a direction: rounds until one changes nothing. A round has its room before it begins, so that want of memory
 // leaves whole rounds.
-ghost use Rattle.std.specs.Prelude.{◌≡◌, ◌+◌, ◌<◌, ◌≤◌, ◌⊎◌, [], length, OnOk, MatchResult, IsTrue, ◌↔◌};
-ghost use Rattle.relay_core.specs.Passing.{used_now, held, read_filtered, moved, write_filtered, round, rounds, Passed, SomeRounds};
-ghost use Rattle.relay_core.specs.SideView.{side_of, lane_of, buffers_of};
+ghost use Rattle.std.specs.Prelude.{◌≡◌, ◌<◌, length, OnOk, MatchResult, IsTrue, ◌↔◌};
+ghost use Rattle.relay_core.specs.Passing.{held, read_filtered, moved, write_filtered, round, rounds, Passed, SomeRounds};
+ghost use Rattle.relay_core.specs.SideView.{side_value, lane_of, HasInputRoom, HasOutputRoom, not_turned};
 
 use crate::relay::Relay;
 use crate::side::{Progress, READ_MARK, SideState};
@@ -19,10 +19,9 @@ fn same_progress(a: Progress, b: Progress) -> bool
 impl SideState {
     /// Makes room for what a round may move.
     fn reserve_round(&mut self, hold: u64) -> Result<(), NoMemory>
-        ensures same { side_of self.new ≡ side_of self.old }
-        ensures input { OnOk result ((used_now (buffers_of self.new) ≤ self.new.input.spare) ⊎ ((length self.new.input.bytes ≡ 0) × (length self.new.raw_input.bytes ≤ 16384))) }
-        ensures raw_output { OnOk result ((length self.new.raw_input.bytes + length self.new.input.bytes + length self.new.output.bytes ≤ self.new.raw_output.spare)
-            ⊎ ((length self.new.raw_output.bytes ≡ 0) × (length self.new.raw_input.bytes + length self.new.input.bytes + length self.new.output.bytes ≤ hold))) }
+        ensures same { side_value self.new ≡ side_value self.old }
+        ensures input { OnOk result (HasInputRoom self.new) }
+        ensures raw_output { OnOk result (HasOutputRoom hold (not_turned self.new) self.new) }
     {
         let raw = self.raw_input.len();
         let input = self.input.len();
@@ -39,7 +38,7 @@ impl SideState {
 
     /// The direction becomes held at the hold mark, and is no more held at half of it.
     fn hold_back(&mut self, hold: u64)
-        ensures side { side_of self.new ≡ record (side_of self.old) { lane = held hold (lane_of self.old) } }
+        ensures side { side_value self.new ≡ record (side_value self.old) { lane = held hold (lane_of self.old) } }
         ensures spares { (self.new.input.spare ≡ self.old.input.spare) × (self.new.raw_output.spare ≡ self.old.raw_output.spare) }
     {
         let waiting = self.raw_output.len() as u64;
@@ -52,8 +51,8 @@ impl SideState {
 
     /// The read filter runs until the raw input is used up or the input reaches the read mark.
     pub(crate) fn run_read_filter(&mut self, ended: bool)
-        requires { (used_now (buffers_of self.old) ≤ self.old.input.spare) ⊎ ((length self.old.input.bytes ≡ 0) × (length self.old.raw_input.bytes ≤ 16384)) }
-        ensures side { side_of self.new ≡ record (side_of self.old) { lane = read_filtered ended (lane_of self.old) } }
+        requires { HasInputRoom self.old }
+        ensures side { side_value self.new ≡ record (side_value self.old) { lane = read_filtered ended (lane_of self.old) } }
         ensures spare { self.new.raw_output.spare ≡ self.old.raw_output.spare }
     {
         let count = self
@@ -68,7 +67,7 @@ impl SideState {
 
     /// The input goes whole to an empty output, unless the direction is held.
     fn move_input(&mut self)
-        ensures side { side_of self.new ≡ record (side_of self.old) { lane = moved (lane_of self.old) } }
+        ensures side { side_value self.new ≡ record (side_value self.old) { lane = moved (lane_of self.old) } }
         ensures spare { self.new.raw_output.spare ≡ self.old.raw_output.spare }
     {
         if !self.flow.held && self.output.len() == 0 {
@@ -79,8 +78,8 @@ impl SideState {
 
     /// The write filter runs until the output is used up or the raw output reaches the hold mark.
     fn run_write_filter(&mut self, hold: u64, finish: bool)
-        requires { (length self.old.output.bytes ≤ self.old.raw_output.spare) ⊎ ((length self.old.raw_output.bytes ≡ 0) × (length self.old.output.bytes ≤ hold)) }
-        ensures { side_of self.new ≡ record (side_of self.old) { lane = write_filtered hold finish (lane_of self.old) } }
+        requires { HasOutputRoom hold (length self.old.output.items) self.old }
+        ensures { side_value self.new ≡ record (side_value self.old) { lane = write_filtered hold finish (lane_of self.old) } }
     {
         if self.flow.held {
             return;
@@ -98,10 +97,9 @@ impl SideState {
 
     /// One round, in room that was made before.
     fn make_round(&mut self, hold: u64, ended: bool, from_live: bool, to_live: bool)
-        requires input { (used_now (buffers_of self.old) ≤ self.old.input.spare) ⊎ ((length self.old.input.bytes ≡ 0) × (length self.old.raw_input.bytes ≤ 16384)) }
-        requires raw_output { (length self.old.raw_input.bytes + length self.old.input.bytes + length self.old.output.bytes ≤ self.old.raw_output.spare)
-            ⊎ ((length self.old.raw_output.bytes ≡ 0) × (length self.old.raw_input.bytes + length self.old.input.bytes + length self.old.output.bytes ≤ hold)) }
-        ensures { side_of self.new ≡ record (side_of self.old) { lane = round hold ended from_live to_live (lane_of self.old) } }
+        requires input { HasInputRoom self.old }
+        requires raw_output { HasOutputRoom hold (not_turned self.old) self.old }
+        ensures { side_value self.new ≡ record (side_value self.old) { lane = round hold ended from_live to_live (lane_of self.old) } }
     {
         if !to_live {
             return;

@@ -10,11 +10,11 @@ use ev_types::{NoMemory, SideId};
 
 impl SideState {
     ghost use Rattle.relay_core.specs.Serving.{got_side, took_lane};
-    ghost use Rattle.relay_core.specs.SideView.{side_of, lane_of, spare_of};
+    ghost use Rattle.relay_core.specs.SideView.{side_value, lane_of, spare_of};
 
     /// Makes room for a read of so many bytes. It is also refused where they could not be counted.
     fn reserve_read(&mut self, room: usize) -> Result<(), NoMemory>
-        ensures same { side_of self.new ≡ side_of self.old }
+        ensures same { side_value self.new ≡ side_value self.old }
         ensures room { OnOk result (room ≤ spare_of self.new) }
     {
         if room as u64 > u64::MAX - self.read {
@@ -32,17 +32,17 @@ impl SideState {
     fn got(&mut self, bytes: &[u8])
         requires some { 0 < length bytes.now }
         requires room { length bytes.now ≤ spare_of self.old }
-        ensures { side_of self.new ≡ got_side (side_of self.old) bytes.now }
+        ensures { side_value self.new ≡ got_side (side_value self.old) bytes.now }
     {
         self.read += bytes.len() as u64;
-        self.raw_input.append(bytes);
+        self.raw_input.push(bytes);
         self.run_read_filter(false);
     }
 
     /// The peer's end took the first bytes of the raw output.
     fn took(&mut self, count: usize)
-        requires { count ≤ length self.old.raw_output.bytes }
-        ensures { side_of self.new ≡ record (side_of self.old) { lane = took_lane (lane_of self.old) count } }
+        requires { count ≤ length self.old.raw_output.items }
+        ensures { side_value self.new ≡ record (side_value self.old) { lane = took_lane (lane_of self.old) count } }
     {
         self.raw_output.drop_front(count);
         self.flow.given += count as u64;

@@ -3,8 +3,8 @@
 // first two, the peer's write filter between the last two. Each filter hands its bytes on as they are.
 ghost use Rattle.std.specs.Prelude.{◌+◌, ◌≤◌, length};
 
-use crate::buffer::Buffer;
 use crate::flags::SideFlags;
+use evbuf_chain::ByteQueue;
 use std::alloc::Global;
 
 /// The most bytes of one read and of one write, and the length of the input at which reading stops.
@@ -29,24 +29,24 @@ pub(crate) struct SideState {
     pub(crate) flags: SideFlags,
     pub(crate) read: u64,
     pub(crate) flow: Progress,
-    pub(crate) raw_input: Buffer,
-    pub(crate) input: Buffer,
-    pub(crate) output: Buffer,
-    pub(crate) raw_output: Buffer,
-    ghost used: { flow.used + length raw_input.bytes ≤ read },
-    ghost moved: { flow.moved + length input.bytes ≤ flow.used },
-    ghost turned: { flow.turned + length output.bytes ≤ flow.moved },
-    ghost given: { flow.given + length raw_output.bytes ≤ flow.turned },
+    pub(crate) raw_input: ByteQueue,
+    pub(crate) input: ByteQueue,
+    pub(crate) output: ByteQueue,
+    pub(crate) raw_output: ByteQueue,
+    ghost used: { flow.used + length raw_input.items ≤ read },
+    ghost moved: { flow.moved + length input.items ≤ flow.used },
+    ghost turned: { flow.turned + length output.items ≤ flow.moved },
+    ghost given: { flow.given + length raw_output.items ≤ flow.turned },
 }
 
 impl SideState {
     ghost use Rattle.std.specs.Prelude.{◌≡◌};
     ghost use Rattle.relay_core.specs.State.{new_side};
-    ghost use Rattle.relay_core.specs.SideView.{side_of};
+    ghost use Rattle.relay_core.specs.SideView.{side_value};
 
     /// A side of a link that was opened just now. Takes no memory.
     pub(crate) fn new(alloc: Global, connected: bool) -> SideState
-        ensures { side_of result ≡ new_side connected }
+        ensures { side_value result ≡ new_side connected }
     {
         SideState {
             flags: SideFlags {
@@ -69,23 +69,23 @@ impl SideState {
                 write_done: false,
                 held: false,
             },
-            raw_input: Buffer::new(alloc),
-            input: Buffer::new(alloc),
-            output: Buffer::new(alloc),
-            raw_output: Buffer::new(alloc),
+            raw_input: ByteQueue::new(alloc),
+            input: ByteQueue::new(alloc),
+            output: ByteQueue::new(alloc),
+            raw_output: ByteQueue::new(alloc),
         }
     }
 
     /// How many bytes were read and not moved yet.
     pub(crate) fn input_len(&self) -> usize
-        ensures { result ≡ length self.now.raw_input.bytes + length self.now.input.bytes }
+        ensures { result ≡ length self.now.raw_input.items + length self.now.input.items }
     {
         self.raw_input.len() + self.input.len()
     }
 
     /// How many bytes were moved and not given yet.
     pub(crate) fn output_len(&self) -> usize
-        ensures { result ≡ length self.now.output.bytes + length self.now.raw_output.bytes }
+        ensures { result ≡ length self.now.output.items + length self.now.raw_output.items }
     {
         self.output.len() + self.raw_output.len()
     }

@@ -3,14 +3,14 @@ use Rattle.std.proofs.Common.{◌≡◌, ℕ, suc, ◌+◌, ◌^◌, ◌<◌, �
 use Rattle.std.specs.List.{list_any}
 use Rattle.std.proofs.lemmas.Bool.{lt-leb}
 use Rattle.ev_types.specs.Trace.{Trace}
-use Rattle.ev_port.specs.Told.{Faults}
+use Rattle.ev_port.specs.Faults.{Faults}
 use Rattle.relay_core.specs.declared.settings.Settings.{Settings}
 use Rattle.relay_core.specs.State.{State, SideValue, no_side}
 use Rattle.relay_core.specs.Counting.{has_come_far}
 use Rattle.relay_drive.specs.DriveValue.{DriveValue}
 use Rattle.relay_drive.specs.Phases.{Turns}
 use Rattle.relay_drive.specs.Known.{Question}
-use Rattle.relay_drive.specs.Stands.{Stands, Went}
+use Rattle.relay_drive.specs.DriveStands.{DriveStands, DriveWent}
 use Rattle.relay_drive.specs.Bounds.{SideIsWithin, IsWithin, most_of_turn, NewDriveIsWithin, TurnIsBounded, WithinIsNotWorn}
 use Rattle.relay_drive.proofs.BoundLemmas.{within-more, side-none}
 use Rattle.relay_drive.proofs.BoundSteps.{turn_raises}
@@ -31,13 +31,16 @@ turn_is_bounded n links old new t a w h before after =
     (record { state = r.within; entries = omega (arith, x, y, z, r.entries, l) }, r.settings)
 
 -- the same of what a turn's contract says
-pub went_is_bounded : {After : Trace → State → Type 0} {old new : DriveValue} {log log' : Option Trace} {v v' : Settings → Question → Trace → Type 0} {f f' : Faults} (n links : ℕ) (t : Trace) →
-    IsWithin n links old → Stands t old → Went Turns After false old new log log' v v' f f' → IsWithin (n + most_of_turn links) links new × (new.state.settings ≡ old.state.settings)
+pub went_is_bounded : {Plan : Type 0} {After : Trace → State → Type 0} {old new : DriveValue} {log log' : Option Trace}
+    {v v' : Settings → Question Plan → Trace → Type 0} {f f' : Faults} (n links : ℕ) (t : Trace) →
+    IsWithin n links old → DriveStands t old → DriveWent Turns After false old new log log' v v' f f' →
+    IsWithin (n + most_of_turn links) links new × (new.state.settings ≡ old.state.settings)
 went_is_bounded {old = old} {new = new} n links t w k h = turn_is_bounded n links old new t h.added w h.does k (h.stands t k)
 
 -- a greater bound holds too
 pub is_within-more : (n m links : ℕ) (d : DriveValue) → n ≤ m → IsWithin n links d → IsWithin m links d
-is_within-more n m links d h w = let e = w.entries in record { state = within-more links n m d.state h w.state; entries = omega (arith, h, e) }
+is_within-more n m links d h w = let e = w.entries in
+    record { state = within-more links n m d.state h w.state; entries = omega (arith, h, e) }
 
 neither : (a b : Bool) → a ≡ false → b ≡ false → (a || b) ≡ false
 neither a b p q = cc

@@ -22,7 +22,7 @@ use Rattle.relay_core.specs.Passing.{read_mark, round_from}
 use Rattle.relay_core.specs.Rooms.{read_room, may_read, input_length, wants_read, write_room, waiting_for, offer}
 use Rattle.relay_core.specs.Closing.{in_side, out_side, closing_of, freed, after_closing, is_called_for}
 use Rattle.relay_drive.specs.Steps.{Nothing, Then, Each}
-use Rattle.relay_drive.specs.Calls.{Ticks, Asks, Writes, after_conn, after_read, after_write}
+use Rattle.relay_drive.specs.Calls.{Ticks, Checks, Writes, after_conn, after_read, after_write}
 use Rattle.relay_drive.specs.Phases.{links_from, want_of, wants_some, wants_of, wants_of_link, wants_of_links, wanted, Polls, OpensOne, OpensSome, AcceptsWhere, PollsAndAccepts, ReadsWithRoom, ReadsSide, WritesSide, ConnectsSide, is_connecting, ServesSide, PassesSide, PassesLink, ForAllLinks, closing_events, Closes, LooksAt, ClosesLink, Turns}
 use Rattle.relay_drive.specs.Bounds.{IsOrdered, StateIsWithin, most_of_turn}
 use Rattle.relay_drive.proofs.BoundLemmas.{within-more, within-flags, within-lane, within-freed, within-opened, within-side, side-got, ordered-took, ordered-round, ordered-rounds}
@@ -54,7 +54,11 @@ module _ (links : ℕ) where
   -- Steps in a row
 
   more : (n k l : ℕ) (s new : State) (a : Trace) → k ≤ l → Raises links n k s a new → Raises links n l s a new
-  more n k l s new a h r = record { within = within-more links (n + k) (n + l) new (omega (arith, h)) r.within; entries = omega (arith, h, r.entries); settings = r.settings }
+  more n k l s new a h r = record {
+    within = within-more links (n + k) (n + l) new (omega (arith, h)) r.within;
+    entries = omega (arith, h, r.entries);
+    settings = r.settings;
+  }
 
   nothing : (n : ℕ) (s new : State) (a : Trace) → StateIsWithin n links s → Nothing s a new → Raises links n 0 s a new
   nothing n s new a k h = record {
@@ -63,7 +67,8 @@ module _ (links : ℕ) where
     settings = ap (λ (z : State). z.settings) h.1;
   }
 
-  next : (n k l : ℕ) (s m new : State) (a b c : Trace) → Raises links n k s a m → Raises links (n + k) l m b new → c ≡ a ++ b → Raises links n (k + l) s c new
+  next : (n k l : ℕ) (s m new : State) (a b c : Trace) → Raises links n k s a m → Raises links (n + k) l m b new → c ≡ a ++ b →
+      Raises links n (k + l) s c new
   next n k l s m new a b c f g e = record {
     within = within-more links ((n + k) + l) (n + (k + l)) new (omega arith) g.within;
     entries = let p = ap length e ∙ length-append a b in omega (arith, p, f.entries, g.entries);
@@ -79,7 +84,8 @@ module _ (links : ℕ) where
       let first = f n s h.middle h.front w h.first in
       next n k l s h.middle new h.front h.back a first (g (n + k) h.middle new h.back first.within h.second) h.joined
 
-  each : {X : Type 0} (R : X → State → Trace → State → Type 0) (k : ℕ) → ((x : X) → IsRaising k (R x)) → (xs : List X) → IsRaising (total k xs) (Each R xs)
+  each : {X : Type 0} (R : X → State → Trace → State → Type 0) (k : ℕ) → ((x : X) → IsRaising k (R x)) → (xs : List X) →
+      IsRaising (total k xs) (Each R xs)
   each R k f [] = nothing
   each R k f (x ∷ xs) = both k (total k xs) (f x) (each R k f xs)
 
@@ -87,7 +93,8 @@ module _ (links : ℕ) where
 
   ticks : (reading : ℕ) → IsRaising 1 (Ticks reading)
   ticks reading n s new a w h = record {
-    within = subst (StateIsWithin (n + 1) links) (sym h.state) (let v = within-more links n (n + 1) s (omega arith) w in record { allowed = v.allowed; opened = v.opened; sides = v.sides });
+    within = subst (StateIsWithin (n + 1) links) (sym h.state) (let v = within-more links n (n + 1) s (omega arith) w in
+        record { allowed = v.allowed; opened = v.opened; sides = v.sides });
     entries = let e = ap length h.entries in omega (arith, e);
     settings = ap (λ (z : State). z.settings) h.state;
   }
@@ -109,7 +116,8 @@ module _ (links : ℕ) where
       let h = wanted-most s ks in
       omega (arith, a, b, c, d, h)
 
-  marked-most : (n : ℕ) (s : State) (marked : List Want) → StateIsWithin n links s → length marked ≡ length (wanted s) → length marked ≤ 2 * links
+  marked-most : (n : ℕ) (s : State) (marked : List Want) → StateIsWithin n links s → length marked ≡ length (wanted s) →
+      length marked ≤ 2 * links
   marked-most n s marked w h =
       let a = wanted-most s (links_from 0 s.opened) in
       let b = links_from-length 0 s.opened in
@@ -123,7 +131,9 @@ module _ (links : ℕ) where
   ready_events-most [] = omega arith
   ready_events-most (w ∷ ws) = go (ready_events-most ws) w.can_read w.can_write
     where
-      go : length (ready_events ws) ≤ length ws → (p q : Bool) → length ((if p then (entry.Ready w.side true w.can_write, []) ∷ [] else (if q then (entry.Ready w.side false true, []) ∷ [] else [])) ++ ready_events ws) ≤ suc (length ws)
+      go : length (ready_events ws) ≤ length ws → (p q : Bool) →
+          length ((if p then (entry.Ready w.side true w.can_write, []) ∷ []
+          else (if q then (entry.Ready w.side false true, []) ∷ [] else [])) ++ ready_events ws) ≤ suc (length ws)
       go h true q = omega (arith, h)
       go h false true = omega (arith, h)
       go h false false = omega (arith, h)
@@ -147,7 +157,8 @@ module _ (links : ℕ) where
   opens n s new a w h =
       let o = h.1 in
       record {
-        within = subst (StateIsWithin (n + 1) links) (sym o.state) (within-more links n (n + 1) _ (omega arith) (within-opened links n s h.0 o.allowed w));
+        within = subst (StateIsWithin (n + 1) links) (sym o.state)
+            (within-more links n (n + 1) _ (omega arith) (within-opened links n s h.0 o.allowed w));
         entries = let e = ap length o.entries in omega (arith, e);
         settings = ap (λ (z : State). z.settings) o.state;
       }
@@ -175,8 +186,14 @@ module _ (links : ℕ) where
       go true = omega arith
       go false = omega arith
 
-  after-read : (n : ℕ) (s : State) (e : SideId) (answer : ReadAnswer) (bytes : List ℕ) → length bytes ≤ 16384 → StateIsWithin n links s → StateIsWithin (n + 16384) links (after_read s e answer bytes) × ((after_read s e answer bytes).settings ≡ s.settings)
-  after-read n s e (read.Got m) bytes h w = (within-side links (n + 16384) s e _ (side-got n (side_at s e) bytes h (w.sides (number e))) (within-more links n (n + 16384) s (omega arith) w), refl)
+  after-read : (n : ℕ) (s : State) (e : SideId) (answer : ReadAnswer) (bytes : List ℕ) → length bytes ≤ 16384 →
+      StateIsWithin n links s → StateIsWithin (n + 16384) links (after_read s e answer bytes) ×
+      ((after_read s e answer bytes).settings ≡ s.settings)
+  after-read n s e (read.Got m) bytes h w = (
+    within-side links (n + 16384) s e _ (side-got n (side_at s e) bytes h (w.sides (number e)))
+        (within-more links n (n + 16384) s (omega arith) w),
+    refl,
+  )
   after-read n s e read.Ended bytes h w = (within-flags links (n + 16384) s e _ (within-more links n (n + 16384) s (omega arith) w), refl)
   after-read n s e read.NotYet bytes h w = (within-more links n (n + 16384) s (omega arith) w, refl)
   after-read n s e read.Failed bytes h w = (within-flags links (n + 16384) s e _ (within-more links n (n + 16384) s (omega arith) w), refl)
@@ -189,7 +206,8 @@ module _ (links : ℕ) where
           let answer = r.0 in
           let into = r.1 in
           let c = r.3 in
-          let most : length (got_bytes answer into) ≤ 16384 = (let p = got-most answer into c.within in let q = room-most s e in omega (arith, p, q, r.2)) in
+          let most : length (got_bytes answer into) ≤ 16384 = (let p = got-most answer into c.within in let q = room-most s e in
+          omega (arith, p, q, r.2)) in
           let d = after-read n s e answer (got_bytes answer into) most w in
           record {
             within = subst (StateIsWithin (n + 16384) links) (sym c.state) d.0;
@@ -200,10 +218,14 @@ module _ (links : ℕ) where
       none : Nothing s a new → Raises links n 16384 s a new
       none r = more n 0 16384 s new a (omega arith) (nothing n s new a w r)
 
-  after-write : (n : ℕ) (s : State) (e : SideId) (answer : WriteAnswer) → WriteWithin answer (length (offer s e)) → StateIsWithin n links s → StateIsWithin n links (after_write s e answer) × ((after_write s e answer).settings ≡ s.settings)
+  after-write : (n : ℕ) (s : State) (e : SideId) (answer : WriteAnswer) → WriteWithin answer (length (offer s e)) →
+      StateIsWithin n links s → StateIsWithin n links (after_write s e answer) × ((after_write s e answer).settings ≡ s.settings)
   after-write n s e (write.Took m) h w =
-      let p = length-take (write_room s e) (waiting_for s e) in
-      (within-lane links n s (peer e) _ (ordered-took (side_at s (peer e)).read m (lane_at s (peer e)) (omega (arith, p, h.1)) (w.sides (number (peer e))).lane) w, refl)
+      let p = length-take (write_room s e) (waiting_for s e) in (
+        within-lane links n s (peer e) _
+            (ordered-took (side_at s (peer e)).read m (lane_at s (peer e)) (omega (arith, p, h.1)) (w.sides (number (peer e))).lane) w,
+        refl,
+      )
   after-write n s e write.NotYet h w = (w, refl)
   after-write n s e write.Failed h w = (within-flags links n s e _ w, refl)
   after-write n s e write.NoMemory h w = (w, refl)
@@ -230,7 +252,8 @@ module _ (links : ℕ) where
       none : Nothing s a new → Raises links n 1 s a new
       none r = more n 0 1 s new a (omega arith) (nothing n s new a w r)
 
-  after-conn : (n : ℕ) (s : State) (e : SideId) (answer : ConnAnswer) → StateIsWithin n links s → StateIsWithin n links (after_conn s e answer) × ((after_conn s e answer).settings ≡ s.settings)
+  after-conn : (n : ℕ) (s : State) (e : SideId) (answer : ConnAnswer) → StateIsWithin n links s →
+      StateIsWithin n links (after_conn s e answer) × ((after_conn s e answer).settings ≡ s.settings)
   after-conn n s e conn.Connected w = (within-flags links n s e _ w, refl)
   after-conn n s e conn.Pending w = (w, refl)
   after-conn n s e conn.Failed w = (within-flags links n s e _ w, refl)
@@ -238,7 +261,7 @@ module _ (links : ℕ) where
   connects : (e : SideId) (marked : Bool) → IsRaising 1 (ConnectsSide e marked)
   connects e marked n s new a w h = by_bool marked some none h
     where
-      some : (answer : ConnAnswer) × Asks e answer s a new → Raises links n 1 s a new
+      some : (answer : ConnAnswer) × Checks e answer s a new → Raises links n 1 s a new
       some r =
           let c = r.1 in
           let d = after-conn n s e r.0 w in
@@ -266,9 +289,12 @@ module _ (links : ℕ) where
       let r : ℕ = (side_at s e).read in
       let many = p.1 in
       let f = round_from s e in
-      let lane = ordered-rounds r many.0 f (lane_at s e) (λ y k. ordered-round r s.settings.hold (flags_at s e).ended (flags_at s e).live (flags_at s (peer e)).live y k) (w.sides (number e)).lane in
+      let lane = ordered-rounds r many.0 f (lane_at s e)
+      (λ y k. ordered-round r s.settings.hold (flags_at s e).ended (flags_at s e).live (flags_at s (peer e)).live y k)
+      (w.sides (number e)).lane in
       record {
-        within = subst (StateIsWithin (n + 0) links) (sym p.2) (within-more links n (n + 0) _ (omega arith) (within-lane links n s e p.0 (subst (IsOrdered r) (sym many.1) lane) w));
+        within = subst (StateIsWithin (n + 0) links) (sym p.2)
+            (within-more links n (n + 0) _ (omega arith) (within-lane links n s e p.0 (subst (IsOrdered r) (sym many.1) lane) w));
         entries = let e = ap length h.0 in omega (arith, e);
         settings = ap (λ (z : State). z.settings) p.2;
       }
@@ -279,12 +305,15 @@ module _ (links : ℕ) where
   passes_all : IsRaising 0 (ForAllLinks PassesLink)
   passes_all n s new a w h =
       let t = (total-is (links_from 0 s.opened)).0 in
-      more n (total 0 (links_from 0 s.opened)) 0 s new a (omega (arith, t)) (each PassesLink 0 passes_link (links_from 0 s.opened) n s new a w h)
+      more n (total 0 (links_from 0 s.opened)) 0 s new a (omega (arith, t))
+      (each PassesLink 0 passes_link (links_from 0 s.opened) n s new a w h)
 
-  after-closing : (n : ℕ) (s : State) (step : Closing) → StateIsWithin n links s → StateIsWithin n links (after_closing s step) × ((after_closing s step).settings ≡ s.settings) × (length (closing_events s step) ≤ 2)
+  after-closing : (n : ℕ) (s : State) (step : Closing) → StateIsWithin n links s → StateIsWithin n links (after_closing s step) ×
+      ((after_closing s step).settings ≡ s.settings) × (length (closing_events s step) ≤ 2)
   after-closing n s (closing.Faulty e) w = (within-freed links n s e w, refl, omega arith)
   after-closing n s (closing.EndWriting e) w = (within-flags links n s e _ w, refl, omega arith)
-  after-closing n s (closing.BothDone k) w = (within-freed links n (freed s (in_side k)) (out_side k) (within-freed links n s (in_side k) w), refl, omega arith)
+  after-closing n s (closing.BothDone k) w =
+      (within-freed links n (freed s (in_side k)) (out_side k) (within-freed links n s (in_side k) w), refl, omega arith)
   after-closing n s (closing.PeerGone e) w = (within-freed links n s e w, refl, omega arith)
   after-closing n s (closing.Shut e) w = (within-flags links n s e _ w, refl, omega arith)
 
@@ -310,7 +339,8 @@ module _ (links : ℕ) where
   closes_all n s new a w h =
       let t = (total-is (links_from 0 s.opened)).2 in
       let l = links_from-length 0 s.opened in
-      more n (total 18 (links_from 0 s.opened)) (18 * links) s new a (omega (arith, t, l, w.opened)) (each ClosesLink 18 closes_link (links_from 0 s.opened) n s new a w h)
+      more n (total 18 (links_from 0 s.opened)) (18 * links) s new a (omega (arith, t, l, w.opened))
+      (each ClosesLink 18 closes_link (links_from 0 s.opened) n s new a w h)
 
   -- The turn
 

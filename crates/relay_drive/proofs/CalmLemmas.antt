@@ -10,29 +10,29 @@ use Rattle.ev_types.specs.Trace.{Event, Trace}
 use Rattle.relay_model.specs.RatesKept.{is_turn}
 use Rattle.relay_model.specs.Totals.{is_opened, opened, opened_by, opened_in_turn, times, time_of_turn, timeout_by, last_timeout, polls_that_accept}
 use Rattle.relay_model.specs.Plays.{is_served}
-use Rattle.ev_port.specs.Calls.{last_time}
+use Rattle.ev_types.specs.Times.{greatest_time}
 use Rattle.relay_core.specs.State.{State}
 use Rattle.relay_core.specs.Opening.{after_opened}
-use Rattle.relay_drive.specs.Known.{Fits}
+use Rattle.relay_drive.specs.Known.{IsInStep}
 
 -- The time of a trace
 
-pub last_time-append : (t a : Trace) → last_time (t ++ a) ≡ max (last_time t) (last_time a)
-last_time-append [] a = omega arith
-last_time-append ((entry.Turn ms, b) ∷ t) a = let h = last_time-append t a in omega (arith, h)
-last_time-append ((entry.Poll x, b) ∷ t) a = last_time-append t a
-last_time-append ((entry.Want x y z, b) ∷ t) a = last_time-append t a
-last_time-append ((entry.Ready x y z, b) ∷ t) a = last_time-append t a
-last_time-append ((entry.PollFailed, b) ∷ t) a = last_time-append t a
-last_time-append ((entry.Opened x y, b) ∷ t) a = last_time-append t a
-last_time-append ((entry.Conn x y, b) ∷ t) a = last_time-append t a
-last_time-append ((entry.Read x y z, b) ∷ t) a = last_time-append t a
-last_time-append ((entry.Write x y z, b) ∷ t) a = last_time-append t a
-last_time-append ((entry.Fired x y, b) ∷ t) a = last_time-append t a
-last_time-append ((entry.Asked x y z, b) ∷ t) a = last_time-append t a
-last_time-append ((entry.Freed x y z w, b) ∷ t) a = last_time-append t a
-last_time-append ((entry.CloseWrite x, b) ∷ t) a = last_time-append t a
-last_time-append ((entry.Close x, b) ∷ t) a = last_time-append t a
+pub greatest_time-append : (t a : Trace) → greatest_time (t ++ a) ≡ max (greatest_time t) (greatest_time a)
+greatest_time-append [] a = omega arith
+greatest_time-append ((entry.Turn ms, b) ∷ t) a = let h = greatest_time-append t a in omega (arith, h)
+greatest_time-append ((entry.Poll x, b) ∷ t) a = greatest_time-append t a
+greatest_time-append ((entry.Want x y z, b) ∷ t) a = greatest_time-append t a
+greatest_time-append ((entry.Ready x y z, b) ∷ t) a = greatest_time-append t a
+greatest_time-append ((entry.PollFailed, b) ∷ t) a = greatest_time-append t a
+greatest_time-append ((entry.Opened x y, b) ∷ t) a = greatest_time-append t a
+greatest_time-append ((entry.Conn x y, b) ∷ t) a = greatest_time-append t a
+greatest_time-append ((entry.Read x y z, b) ∷ t) a = greatest_time-append t a
+greatest_time-append ((entry.Write x y z, b) ∷ t) a = greatest_time-append t a
+greatest_time-append ((entry.Fired x y, b) ∷ t) a = greatest_time-append t a
+greatest_time-append ((entry.Asked x y z, b) ∷ t) a = greatest_time-append t a
+greatest_time-append ((entry.Freed x y z w, b) ∷ t) a = greatest_time-append t a
+greatest_time-append ((entry.CloseWrite x, b) ∷ t) a = greatest_time-append t a
+greatest_time-append ((entry.Close x, b) ∷ t) a = greatest_time-append t a
 
 -- is it an entry that begins no turn, no poll and no link
 abbrev pub is_calm : Event → Bool
@@ -46,7 +46,7 @@ pub record Calm (u : Trace) : Type 0 where
   pub opens : opened u ≡ 0
   pub turns : count_by is_turn u ≡ 0
   pub times : times u ≡ []
-  pub time : last_time u ≡ 0
+  pub time : greatest_time u ≡ 0
   pub timeout : (was : Option ℕ) → last_timeout was u ≡ was
   pub polls : (links n : ℕ) → polls_that_accept links n u ≡ 0
   pub in_turn : (n : ℕ) → fold opened_by n u ≡ n
@@ -66,7 +66,15 @@ calm_cons _ u h c = record {
 }
 
 pub calm_list : (u : Trace) → list_all is_calm u ≡ true → Calm u
-calm_list [] h = record { opens = refl; turns = refl; times = refl; time = refl; timeout = λ was. refl; polls = λ links n. refl; in_turn = λ n. refl }
+calm_list [] h = record {
+  opens = refl;
+  turns = refl;
+  times = refl;
+  time = refl;
+  timeout = λ was. refl;
+  polls = λ links n. refl;
+  in_turn = λ n. refl;
+}
 calm_list (x ∷ u) h =
     let parts = and_parts (is_calm x) (list_all is_calm u) h in
     calm_cons x u parts.0 (calm_list u parts.1)
@@ -110,7 +118,7 @@ same s new e = record { time = ap (λ z. z.time) e; opened = ap (λ z. z.opened)
 pub record Still (u : Trace) : Type 0 where
   pub opens : opened u ≡ 0
   pub times : times u ≡ []
-  pub time : last_time u ≡ 0
+  pub time : greatest_time u ≡ 0
 
 pub still : (u : Trace) → Calm u → Still u
 still u c = record { opens = c.opens; times = c.times; time = c.time }
@@ -118,10 +126,11 @@ still u c = record { opens = c.opens; times = c.times; time = c.time }
 pub still_none : Still []
 still_none = record { opens = refl; times = refl; time = refl }
 
-pub fits_still : (t u : Trace) (s new : State) → Still u → Same s new → Fits t s → Fits (t ++ u) new
+pub fits_still : (t u : Trace) (s new : State) → Still u → Same s new → IsInStep t s → IsInStep (t ++ u) new
 fits_still t u s new c k f = record {
-  time = (let h = last_time-append t u in omega (arith, h, c.time, f.time, k.time));
-  last = ap (λ ts. unwrap_or (last_or (Some 0) ts) 0) (times-append t u ∙ ap (λ z. times t ++ z) c.times ∙ append-nil (times t)) ∙ f.last ∙ sym k.time;
+  time = (let h = greatest_time-append t u in omega (arith, h, c.time, f.time, k.time));
+  last = ap (λ ts. unwrap_or (last_or (Some 0) ts) 0) (times-append t u ∙ ap (λ z. times t ++ z) c.times ∙ append-nil (times t))
+      ∙ f.last ∙ sym k.time;
   opened = (let h = opened-append t u in omega (arith, h, c.opens, f.opened, k.opened));
 }
 
@@ -130,9 +139,10 @@ last_or-push d [] x = refl
 last_or-push d (y ∷ ts) x = last_or-push (Some y) ts x
 
 -- a turn begins at that time
-pub fits_turned : (t : Trace) (s new : State) (ms reading : ℕ) → ms ≡ max s.time (min reading (2 ^ 62)) → new ≡ record s { time = ms } → Fits t s → Fits (t ++ (entry.Turn ms, []) ∷ []) new
-fits_turned t s new ms reading is e f = subst (Fits (t ++ u)) (sym e) (record {
-  time = (let h = last_time-append t u in let k = f.time in omega (arith, h, k, is));
+pub fits_turned : (t : Trace) (s new : State) (ms reading : ℕ) → ms ≡ max s.time (min reading (2 ^ 62)) →
+    new ≡ record s { time = ms } → IsInStep t s → IsInStep (t ++ (entry.Turn ms, []) ∷ []) new
+fits_turned t s new ms reading is e f = subst (IsInStep (t ++ u)) (sym e) (record {
+  time = (let h = greatest_time-append t u in let k = f.time in omega (arith, h, k, is));
   last = ap (λ ts. unwrap_or (last_or (Some 0) ts) 0) (times-append t u) ∙ ap (λ o. unwrap_or o 0) (last_or-push (Some 0) (times t) ms);
   opened = (let h = opened-append t u in let k = f.opened in omega (arith, h, k));
 })
@@ -141,9 +151,10 @@ fits_turned t s new ms reading is e f = subst (Fits (t ++ u)) (sym e) (record {
     u = (entry.Turn ms, []) ∷ []
 
 -- a link is opened
-pub fits_opened : (t : Trace) (s new : State) (link : ℕ) (connected : Bool) → new ≡ after_opened s connected → Fits t s → Fits (t ++ (entry.Opened link connected, []) ∷ []) new
-fits_opened t s new link connected e f = subst (Fits (t ++ u)) (sym e) (record {
-  time = (let h = last_time-append t u in let k = f.time in omega (arith, h, k));
+pub fits_opened : (t : Trace) (s new : State) (link : ℕ) (connected : Bool) → new ≡ after_opened s connected → IsInStep t s →
+    IsInStep (t ++ (entry.Opened link connected, []) ∷ []) new
+fits_opened t s new link connected e f = subst (IsInStep (t ++ u)) (sym e) (record {
+  time = (let h = greatest_time-append t u in let k = f.time in omega (arith, h, k));
   last = ap (λ ts. unwrap_or (last_or (Some 0) ts) 0) (times-append t u ∙ append-nil (times t)) ∙ f.last;
   opened = (let h = opened-append t u in let k = f.opened in omega (arith, h, k));
 })

@@ -1,26 +1,27 @@
 -- What a step of closing puts and leaves as it is.
-use Rattle.std.proofs.Common.{◌≡◌, ℕ, zero, suc, ◌<◌, Bool, true, false, if◌then◌else◌, Option, Some, None, sym, List, [], ◌∷◌, ◌++◌, length, get_or, refl, ap, subst, arith, append_assoc, append-nil}
+use Rattle.std.proofs.Common.{◌≡◌, ℕ, zero, suc, ◌<◌, Bool, true, false, if◌then◌else◌, Option, Some, None, sym, [], ◌∷◌, ◌++◌, length, get_or, refl, ap, subst, arith, append_assoc, append-nil}
 use Rattle.ev_types.specs.declared.side.SideId.{SideId}
 use Rattle.ev_types.specs.declared.entry.Entry.{Entry}
 use Rattle.ev_types.specs.declared.why.Cause.TheVariants as cause
 use Rattle.ev_types.specs.Trace.{Trace}
-use Rattle.script_text.specs.Script.{TurnValue}
 use Rattle.ev_port.specs.Vouching.{LongerBy}
 use Rattle.std.specs.List.{list_all}
 use Rattle.ev_types.specs.Sides.{same_end}
 use Rattle.relay_model.specs.Plays.{is_served}
-use Rattle.ev_port.specs.Told.{EndTold, EndStep, no_step, EndWent, EndsWent, AllWent, PortTold, PortStays, Stays}
+use Rattle.ev_types.specs.Told.{EndTold, PortTold, Stays}
+use Rattle.ev_port.specs.EndSteps.{EndStep, no_step, EndWent, EndsWent, AllWent, PortStays}
 use Rattle.ev_port.specs.Calls.{IsUnheard}
-use Rattle.ev_port.proofs.ToldLemmas.{EndWent-none}
+use Rattle.ev_port.proofs.StepLemmas.{EndWent-none}
 use Rattle.relay_drive.proofs.EndNames.{same_end-true, same_end-false}
 use Rattle.relay_drive.proofs.CalmLemmas.{Same}
 use Rattle.relay_drive.proofs.TiedLemmas.{step_of, close_write_says, close_says}
 use Rattle.relay_core.specs.declared.close.Closing.{Closing}
 use Rattle.relay_core.specs.declared.close.Closing.TheVariants as closing
 use Rattle.relay_core.specs.State.{State}
-use Rattle.relay_core.specs.Closing.{in_side, out_side, link_of, closing_of, after_closing}
+use Rattle.relay_core.specs.Closing.{in_side, out_side, link_of_step, closing_of, after_closing}
 use Rattle.relay_drive.specs.Phases.{freed_event, closing_events, told_events, told_step}
-use Rattle.relay_drive.specs.Goes.{has_failed, has_poll_failed}
+use Rattle.relay_model.specs.Told.{has_failed}
+use Rattle.relay_drive.specs.Advances.{has_poll_failed}
 
 pub closing_served : (s : State) (step : Closing) → list_all is_served (closing_events s step) ≡ true
 closing_served s (closing.Faulty e) = refl
@@ -49,7 +50,8 @@ pub tells_none : (ends : SideId → EndTold) → AllWent ends ends (λ e. no_ste
 tells_none ends = λ e. EndWent-none (ends e)
 
 -- and one that one end hears
-pub tells_one : (ends ends' : SideId → EndTold) (end : SideId) (step : EndStep) → EndsWent ends ends' end step → AllWent ends ends' (λ e. if same_end end e then step else no_step)
+pub tells_one : (ends ends' : SideId → EndTold) (end : SideId) (step : EndStep) → EndsWent ends ends' end step →
+    AllWent ends ends' (λ e. if same_end end e then step else no_step)
 tells_one ends ends' end step h = λ e. go e (same_end end e) refl
   where
     go : (e : SideId) (b : Bool) → same_end end e ≡ b → EndWent (ends e) (ends' e) (if b then step else no_step)
@@ -86,18 +88,21 @@ closing_polls s (closing.PeerGone e) = refl
 closing_polls s (closing.Shut e) = refl
 
 -- a port vouches for what it heard, and for frees
-pub closing_vouched : (v w : List TurnValue → Trace → Type 0) (s : State) (step : Closing) → LongerBy v w (told_events step) → ((e : Entry) → IsUnheard e → LongerBy w w ((e, []) ∷ [])) → LongerBy v w (closing_events s step)
-closing_vouched v w s (closing.Faulty e) h law = λ turns t k. subst (w turns) (ap (λ z. z ++ freed_event s e cause.Failed ∷ []) (append-nil t)) (law _ tt turns (t ++ []) (h turns t k))
+pub closing_vouched : {Plan : Type 0} (v w : Plan → Trace → Type 0) (s : State) (step : Closing) →
+    LongerBy v w (told_events step) → ((e : Entry) → IsUnheard e → LongerBy w w ((e, []) ∷ [])) → LongerBy v w (closing_events s step)
+closing_vouched v w s (closing.Faulty e) h law =
+    λ plan t k. subst (w plan) (ap (λ z. z ++ freed_event s e cause.Failed ∷ []) (append-nil t)) (law _ tt plan (t ++ []) (h plan t k))
 closing_vouched v w s (closing.EndWriting e) h law = h
-closing_vouched v w s (closing.BothDone k) h law = λ turns t p.
+closing_vouched v w s (closing.BothDone k) h law = λ plan t p.
     let one = freed_event s (in_side k) cause.Done in
-    let first = subst (w turns) (ap (λ z. z ++ one ∷ []) (append-nil t)) (law _ tt turns (t ++ []) (h turns t p)) in
-    subst (w turns) (append_assoc t (one ∷ []) (freed_event s (out_side k) cause.Done ∷ [])) (law _ tt turns (t ++ one ∷ []) first)
-closing_vouched v w s (closing.PeerGone e) h law = λ turns t k. subst (w turns) (ap (λ z. z ++ freed_event s e cause.PeerGone ∷ []) (append-nil t)) (law _ tt turns (t ++ []) (h turns t k))
+    let first = subst (w plan) (ap (λ z. z ++ one ∷ []) (append-nil t)) (law _ tt plan (t ++ []) (h plan t p)) in
+    subst (w plan) (append_assoc t (one ∷ []) (freed_event s (out_side k) cause.Done ∷ [])) (law _ tt plan (t ++ one ∷ []) first)
+closing_vouched v w s (closing.PeerGone e) h law =
+    λ plan t k. subst (w plan) (ap (λ z. z ++ freed_event s e cause.PeerGone ∷ []) (append-nil t)) (law _ tt plan (t ++ []) (h plan t k))
 closing_vouched v w s (closing.Shut e) h law = h
 
 -- each step of closing a link is of that link
-pub closing_link : (k i : ℕ) (d : Closing) → i < length (closing_of k) → link_of (get_or (closing_of k) i d) ≡ k
+pub closing_link : (k i : ℕ) (d : Closing) → i < length (closing_of k) → link_of_step (get_or (closing_of k) i d) ≡ k
 closing_link k zero d h = refl
 closing_link k (suc zero) d h = refl
 closing_link k (suc (suc zero)) d h = refl

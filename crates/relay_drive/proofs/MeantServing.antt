@@ -21,11 +21,11 @@ use Rattle.relay_model.specs.Stages.{Stage}
 use Rattle.relay_model.specs.Answers.{TurnAnswer, MayLack}
 use Rattle.relay_core.specs.declared.close.Closing.{Closing}
 use Rattle.relay_core.specs.declared.close.Closing.TheVariants as closing
-use Rattle.relay_core.specs.State.{State, SideValue, side_at, flags_at}
+use Rattle.relay_core.specs.State.{State, SideValue, side_at}
 use Rattle.relay_core.specs.Rooms.{read_room, write_room, offer, wants_read}
-use Rattle.relay_core.specs.Closing.{in_side, out_side, link_of, closing_of, is_called_for, after_closing}
+use Rattle.relay_core.specs.Closing.{in_side, out_side, link_of_step, closing_of, is_called_for, after_closing}
 use Rattle.relay_drive.specs.Steps.{Nothing, Then}
-use Rattle.relay_drive.specs.Calls.{Asks, Reads, Writes, after_conn, after_read, after_write, is_memory}
+use Rattle.relay_drive.specs.Calls.{Checks, Reads, Writes, after_conn, after_read, after_write, is_memory}
 use Rattle.relay_drive.specs.Phases.{links_from, ReadsSide, WritesSide, ConnectsSide, ReadsWithRoom, is_connecting, ServesSide, CutServing, PassesSide, CutPassing, PassesLink, CutPassingLink, closing_events, Closes, LooksAt, ClosesLink, CutClosingLink}
 use Rattle.relay_meaning.specs.Meaning.{StandsFor, LeftFor}
 use Rattle.relay_meaning.specs.Results.{close_step}
@@ -88,8 +88,10 @@ read-waits t x s e answer bytes k lt = by_answer answer
 not-memory : (answer : WriteAnswer) → is_memory answer ≡ false → answer ≢ write.NoMemory
 not-memory answer h = λ e. absurd (let k = ap is_memory e in cc)
 
-carries : (answer : ReadAnswer) (into : List ℕ) (room : ℕ) → length into ≡ room → ReadWithin answer (length into) → CarriesGot answer room (got_bytes answer into)
-carries (read.Got n) into room h within = (length-take-le n into within.1, (let a = within.0 in omega arith), (let a = within.1 in omega (arith, h)))
+carries : (answer : ReadAnswer) (into : List ℕ) (room : ℕ) → length into ≡ room → ReadWithin answer (length into) →
+    CarriesGot answer room (got_bytes answer into)
+carries (read.Got n) into room h within =
+    (length-take-le n into within.1, (let a = within.0 in omega arith), (let a = within.1 in omega (arith, h)))
 carries read.Ended into room h within = refl
 carries read.NotYet into room h within = refl
 carries read.Failed into room h within = refl
@@ -98,8 +100,9 @@ module _ (n : ℕ) (e : SideId) (ms : List rooms.Want) where
   here : (t : Trace) (x : Stage) (s : State) → e.link < n → StandsWith n t x s → e.link < s.opened
   here t x s lt k = let a = k.opened in omega (arith, a)
 
-  asked : (r : Bool) (t : Trace) (s new : State) (a : Trace) → e.link < n → is_connecting s e ≡ true → StandsWith n t (Stage.Serving (mark e r true ∷ ms)) s → (answer : ConnAnswer) →
-      Asks e answer s a new → StandsWith n (t ++ a) (Stage.Serving ms) new
+  asked : (r : Bool) (t : Trace) (s new : State) (a : Trace) → e.link < n → is_connecting s e ≡ true →
+      StandsWith n t (Stage.Serving (mark e r true ∷ ms)) s → (answer : ConnAnswer) →
+      Checks e answer s a new → StandsWith n (t ++ a) (Stage.Serving ms) new
   asked r t s new a lt q k answer h =
       let stands = conn-stands t s e r true ms k.stands (here t (Stage.Serving (mark e r true ∷ ms)) s lt k) answer q refl in
       subst (λ z. StandsWith n (t ++ z) (Stage.Serving ms) new) (sym h.entries)
@@ -107,12 +110,18 @@ module _ (n : ℕ) (e : SideId) (ms : List rooms.Want) where
       (record { stands = stands; opened = conn-opened s e answer ∙ k.opened }))
 
   -- a connecting side
-  connects : (r c : Bool) (t : Trace) (s new : State) (a : Trace) → e.link < n → is_connecting s e ≡ true → StandsWith n t (Stage.Serving (marks_with e r c ms)) s →
+  connects : (r c : Bool) (t : Trace) (s new : State) (a : Trace) → e.link < n → is_connecting s e ≡ true →
+      StandsWith n t (Stage.Serving (marks_with e r c ms)) s →
       ConnectsSide e c s a new → StandsWith n (t ++ a) (Stage.Serving ms) new
   connects true true t s new a lt q k h = asked true t s new a lt q k h.0 h.1
   connects false true t s new a lt q k h = asked false t s new a lt q k h.0 h.1
   connects true false t s new a lt q k h =
-      stands-nothing n t (Stage.Serving ms) s new a (record { stands = waiting-skipped t s e true false ms k.stands (here t (Stage.Serving (mark e true false ∷ ms)) s lt k) q refl; opened = k.opened }) h
+      stands-nothing n t (Stage.Serving ms) s new a
+      (record {
+        stands = waiting-skipped t s e true false ms k.stands (here t (Stage.Serving (mark e true false ∷ ms)) s lt k)
+            q refl;
+        opened = k.opened;
+      }) h
   connects false false t s new a lt q k h = stands-nothing n t (Stage.Serving ms) s new a k h
 
   -- what is left of a side behind its read
@@ -120,12 +129,20 @@ module _ (n : ℕ) (e : SideId) (ms : List rooms.Want) where
   ReadDone c t s = StandsWith n t (Stage.Serving (marks_with e false c ms)) s × (is_connecting s e ≡ false)
 
   -- a mark for reading alone is done with where the read is
-  drop-mark : (c : Bool) (t : Trace) (s : State) → e.link < n → is_connecting s e ≡ false → StandsWith n t (Stage.Serving (mark e false c ∷ ms)) s → ReadDone c t s
+  drop-mark : (c : Bool) (t : Trace) (s : State) → e.link < n → is_connecting s e ≡ false →
+      StandsWith n t (Stage.Serving (mark e false c ∷ ms)) s → ReadDone c t s
   drop-mark true t s lt q k = (k, q)
-  drop-mark false t s lt q k =
-      (record { stands = write-skipped t s e false false ms k.stands (here t (Stage.Serving (mark e false false ∷ ms)) s lt k) q refl refl; opened = k.opened }, q)
+  drop-mark false t s lt q k = (
+    record {
+      stands = write-skipped t s e false false ms k.stands (here t (Stage.Serving (mark e false false ∷ ms)) s lt k) q
+          refl refl;
+      opened = k.opened;
+    },
+    q,
+  )
 
-  reads-marked : (c : Bool) (t : Trace) (s new : State) (a : Trace) → e.link < n → is_connecting s e ≡ false → StandsWith n t (Stage.Serving (mark e true c ∷ ms)) s →
+  reads-marked : (c : Bool) (t : Trace) (s new : State) (a : Trace) → e.link < n → is_connecting s e ≡ false →
+      StandsWith n t (Stage.Serving (mark e true c ∷ ms)) s →
       (b : Bool) → wants_read s e ≡ b → MatchBool b (ReadsWithRoom e s a new) (Nothing s a new) → ReadDone c (t ++ a) new
   reads-marked c t s new a lt q k true some h =
       let answer = h.0 in
@@ -133,7 +150,8 @@ module _ (n : ℕ) (e : SideId) (ms : List rooms.Want) where
       let inside = here t (Stage.Serving (mark e true c ∷ ms)) s lt k in
       let r : Reads e answer into s a new = h.3 in
       let bytes : List ℕ = got_bytes answer into in
-      let stands = read-stands t s e true c ms k.stands inside q refl some answer bytes (carries answer into (read_room s e) h.2 r.within) in
+      let stands = read-stands t s e true c ms k.stands inside q refl some answer bytes
+      (carries answer into (read_room s e) h.2 r.within) in
       let same : (t ++ (entry.Read e (read_room s e) answer, bytes) ∷ []) ≡ t ++ a =
       ap (λ m. t ++ (entry.Read e m answer, bytes) ∷ []) (sym h.2) ∙ ap (λ z. t ++ z) (sym r.entries) in
       let after : StandsWith n (t ++ a) (Stage.Serving (mark e false c ∷ ms)) new =
@@ -147,47 +165,65 @@ module _ (n : ℕ) (e : SideId) (ms : List rooms.Want) where
       (ap (λ z. is_connecting z e) r.state ∙ read-waits t (Stage.Serving (mark e true c ∷ ms)) s e answer bytes k.stands inside ∙ q) after
   reads-marked c t s new a lt q k false none h =
       let after = stands-nothing n t (Stage.Serving (mark e false c ∷ ms)) s new a
-      (record { stands = read-skipped t s e true c ms k.stands (here t (Stage.Serving (mark e true c ∷ ms)) s lt k) q refl none; opened = k.opened }) h in
+      (record {
+        stands = read-skipped t s e true c ms k.stands (here t (Stage.Serving (mark e true c ∷ ms)) s lt k) q refl none;
+        opened = k.opened;
+      }) h in
       drop-mark c (t ++ a) new lt (ap (λ z. is_connecting z e) h.1 ∙ q) after
 
-  reads : (r c : Bool) (t : Trace) (s new : State) (a : Trace) → e.link < n → is_connecting s e ≡ false → StandsWith n t (Stage.Serving (marks_with e r c ms)) s →
+  reads : (r c : Bool) (t : Trace) (s new : State) (a : Trace) → e.link < n → is_connecting s e ≡ false →
+      StandsWith n t (Stage.Serving (marks_with e r c ms)) s →
       ReadsSide e r s a new → ReadDone c (t ++ a) new
   reads true c t s new a lt q k h = reads-marked c t s new a lt q k (wants_read s e) refl h
-  reads false c t s new a lt q k h = (stands-nothing n t (Stage.Serving (marks_with e false c ms)) s new a k h, ap (λ z. is_connecting z e) h.1 ∙ q)
+  reads false c t s new a lt q k h =
+      (stands-nothing n t (Stage.Serving (marks_with e false c ms)) s new a k h, ap (λ z. is_connecting z e) h.1 ∙ q)
 
-  writes-marked : (t : Trace) (s new : State) (a : Trace) → e.link < n → is_connecting s e ≡ false → StandsWith n t (Stage.Serving (mark e false true ∷ ms)) s →
-      (b : Bool) → nat_lt 0 (write_room s e) ≡ b → MatchBool b ((answer : WriteAnswer) × Writes e answer s a new) (Nothing s a new) → StandsWith n (t ++ a) (Stage.Serving ms) new
+  writes-marked : (t : Trace) (s new : State) (a : Trace) → e.link < n → is_connecting s e ≡ false →
+      StandsWith n t (Stage.Serving (mark e false true ∷ ms)) s →
+      (b : Bool) → nat_lt 0 (write_room s e) ≡ b →
+      MatchBool b ((answer : WriteAnswer) × Writes e answer s a new) (Nothing s a new) → StandsWith n (t ++ a) (Stage.Serving ms) new
   writes-marked t s new a lt q k true some h =
       let answer = h.0 in
       let w : Writes e answer s a new = h.1 in
       let inside = here t (Stage.Serving (mark e false true ∷ ms)) s lt k in
       let many = offer-length s e in
-      let stands = write-stands t s e true ms k.stands inside q refl some answer (subst (WriteWithin answer) many w.within) (not-memory answer w.done) in
+      let stands = write-stands t s e true ms k.stands inside q refl some answer (subst (WriteWithin answer) many w.within)
+      (not-memory answer w.done) in
       let same : (t ++ (entry.Write e (write_room s e) answer, took_bytes answer (offer s e)) ∷ []) ≡ t ++ a =
-      ap (λ m. t ++ (entry.Write e m answer, took_bytes answer (offer s e)) ∷ []) (sym many) ∙ ap (λ z. t ++ z) (events answer (not-memory answer w.done) ∙ sym w.entries) in
+      ap (λ m. t ++ (entry.Write e m answer, took_bytes answer (offer s e)) ∷ []) (sym many)
+      ∙ ap (λ z. t ++ z) (events answer (not-memory answer w.done) ∙ sym w.entries) in
       subst (λ z. StandsWith n z (Stage.Serving ms) new) same
-      (subst (StandsWith n (t ++ (entry.Write e (write_room s e) answer, took_bytes answer (offer s e)) ∷ []) (Stage.Serving ms)) (sym w.state)
+      (subst (StandsWith n (t ++ (entry.Write e (write_room s e) answer, took_bytes answer (offer s e)) ∷ []) (Stage.Serving ms))
+      (sym w.state)
       (record {
         stands = stands;
         opened = write-opened s e answer ∙ k.opened;
       }))
     where
-      events : (answer : WriteAnswer) → answer ≢ write.NoMemory → (entry.Write e (length (offer s e)) answer, took_bytes answer (offer s e)) ∷ [] ≡ write_events e (offer s e) answer
+      events : (answer : WriteAnswer) → answer ≢ write.NoMemory →
+          (entry.Write e (length (offer s e)) answer, took_bytes answer (offer s e)) ∷ [] ≡ write_events e (offer s e) answer
       events (write.Took m) done = refl
       events write.NotYet done = refl
       events write.Failed done = refl
       events write.NoMemory done = absurd (done refl)
   writes-marked t s new a lt q k false none h =
       stands-nothing n t (Stage.Serving ms) s new a
-      (record { stands = write-skipped t s e false true ms k.stands (here t (Stage.Serving (mark e false true ∷ ms)) s lt k) q refl none; opened = k.opened }) h
+      (record {
+        stands = write-skipped t s e false true ms k.stands (here t (Stage.Serving (mark e false true ∷ ms)) s lt k) q
+            refl none;
+        opened = k.opened;
+      }) h
 
-  writes : (c : Bool) (t : Trace) (s new : State) (a : Trace) → e.link < n → is_connecting s e ≡ false → StandsWith n t (Stage.Serving (marks_with e false c ms)) s →
+  writes : (c : Bool) (t : Trace) (s new : State) (a : Trace) → e.link < n → is_connecting s e ≡ false →
+      StandsWith n t (Stage.Serving (marks_with e false c ms)) s →
       WritesSide e c s a new → StandsWith n (t ++ a) (Stage.Serving ms) new
   writes true t s new a lt q k h = writes-marked t s new a lt q k (nat_lt 0 (write_room s e)) refl h
   writes false t s new a lt q k h = stands-nothing n t (Stage.Serving ms) s new a k h
 
   serves : (r c : Bool) (t : Trace) (s new : State) (a : Trace) → e.link < n → StandsWith n t (Stage.Serving (marks_with e r c ms)) s →
-      (b : Bool) → is_connecting s e ≡ b → MatchBool b (ConnectsSide e c s a new) (Then (ReadsSide e r) (WritesSide e c) s a new) → StandsWith n (t ++ a) (Stage.Serving ms) new
+      (b : Bool) → is_connecting s e ≡ b →
+      MatchBool b (ConnectsSide e c s a new) (Then (ReadsSide e r) (WritesSide e c) s a new) →
+      StandsWith n (t ++ a) (Stage.Serving ms) new
   serves r c t s new a lt k true q h = connects r c t s new a lt q k h
   serves r c t s new a lt k false q h =
       let read = reads r c t s h.middle h.front lt q k h.first in
@@ -197,10 +233,13 @@ module _ (n : ℕ) (e : SideId) (ms : List rooms.Want) where
 pub serving-keeps : (n : ℕ) → Keeps n (IsBelow n) serving ServesSide
 serving-keeps n w ws t s new a lt k h = serves n w.side (marks_of ws) w.can_read w.can_write t s new a lt k (is_connecting s w.side) refl h
 
-pub serving-cut : (n : ℕ) (w : Want) (ws : List Want) (t : Trace) (s new : State) (a : Trace) → IsBelow n w → StandsWith n t (serving (w ∷ ws)) s → CutServing w s a new → LeftFor TurnAnswer.Memory (t ++ a) new
-serving-cut n w ws t s new a lt k (inl h) = left-stands n (t ++ a) (serving (w ∷ ws)) new tt (stands-nothing n t (serving (w ∷ ws)) s new a k h)
+pub serving-cut : (n : ℕ) (w : Want) (ws : List Want) (t : Trace) (s new : State) (a : Trace) → IsBelow n w →
+    StandsWith n t (serving (w ∷ ws)) s → CutServing w s a new → LeftFor TurnAnswer.Memory (t ++ a) new
+serving-cut n w ws t s new a lt k (inl h) =
+    left-stands n (t ++ a) (serving (w ∷ ws)) new tt (stands-nothing n t (serving (w ∷ ws)) s new a k h)
 serving-cut n w ws t s new a lt k (inr h) =
-    left-stands n (t ++ a) (Stage.Serving (marks_with w.side false w.can_write (marks_of ws))) new tt (reads n w.side (marks_of ws) w.can_read w.can_write t s new a lt h.0 k h.1).0
+    left-stands n (t ++ a) (Stage.Serving (marks_with w.side false w.can_write (marks_of ws))) new tt
+    (reads n w.side (marks_of ws) w.can_read w.can_write t s new a lt h.0 k h.1).0
 
 -- Passing
 
@@ -216,7 +255,8 @@ passing-keeps n e es t s new a lt k h =
     subst (λ z. StandsWith n z (passing es) new) (sym (ap (λ b. t ++ b) h.0 ∙ append-nil t))
     (record { stands = stands; opened = ap (λ (z : State). z.opened) h.1.2 ∙ k.opened })
 
-pub passing-cut : (n : ℕ) (e : SideId) (es : List SideId) (t : Trace) (s new : State) (a : Trace) → is_below n e → StandsWith n t (passing (e ∷ es)) s → CutPassing e s a new → LeftFor TurnAnswer.Memory (t ++ a) new
+pub passing-cut : (n : ℕ) (e : SideId) (es : List SideId) (t : Trace) (s new : State) (a : Trace) → is_below n e →
+    StandsWith n t (passing (e ∷ es)) s → CutPassing e s a new → LeftFor TurnAnswer.Memory (t ++ a) new
 passing-cut n e es t s new a lt k h =
     let stands = partly_passed-stands t e es s new (let b = k.opened in omega (arith, b)) k.stands h.1 in
     subst (λ z. LeftFor TurnAnswer.Memory z new) (sym (ap (λ b. t ++ b) h.0 ∙ append-nil t))
@@ -245,7 +285,8 @@ pub passing_links-keep : (n : ℕ) → Keeps n (link_below n) passing_links Pass
 passing_links-keep n k ks t s new a lt w h =
     each-keeps n (is_below n) passing PassesSide (passing-keeps n) (in_side k ∷ out_side k ∷ []) (sides_of ks) t s new a (lt, (lt, tt)) w h
 
-pub passing_links-cut : (n : ℕ) (k : ℕ) (ks : List ℕ) (t : Trace) (s new : State) (a : Trace) → link_below n k → StandsWith n t (passing_links (k ∷ ks)) s → CutPassingLink k s a new →
+pub passing_links-cut : (n : ℕ) (k : ℕ) (ks : List ℕ) (t : Trace) (s new : State) (a : Trace) → link_below n k →
+    StandsWith n t (passing_links (k ∷ ks)) s → CutPassingLink k s a new →
     LeftFor TurnAnswer.Memory (t ++ a) new
 passing_links-cut n k ks t s new a lt w h =
     cut-leaves n (is_below n) (λ es. passing (es ++ sides_of ks)) PassesSide
@@ -264,7 +305,7 @@ closing-opened s (closing.PeerGone e) = refl
 closing-opened s (closing.Shut e) = refl
 
 abbrev pub step_below : ℕ → Closing → Type 0
-step_below n c = link_of c < n
+step_below n c = link_of_step c < n
 
 -- some steps of a link, before those of others
 abbrev pub closing_then : List CloseStep → List Closing → Stage
@@ -273,16 +314,19 @@ closing_then rest cs = Stage.Closing (map close_step cs ++ rest)
 pub closing-keeps : (n : ℕ) (rest : List CloseStep) → Keeps n (step_below n) (closing_then rest) LooksAt
 closing-keeps n rest c cs t s new a lt k h = by_call (is_called_for s c) refl h
   where
-    inside : link_of c < s.opened
+    inside : link_of_step c < s.opened
     inside = let b = k.opened in omega (arith, b)
 
-    by_call : (b : Bool) → is_called_for s c ≡ b → MatchBool b (Closes c s a new) (Nothing s a new) → StandsWith n (t ++ a) (closing_then rest cs) new
+    by_call : (b : Bool) → is_called_for s c ≡ b → MatchBool b (Closes c s a new) (Nothing s a new) →
+        StandsWith n (t ++ a) (closing_then rest cs) new
     by_call true called w =
         let stands = called-stands t s (map close_step cs ++ rest) c inside k.stands called in
         subst (λ z. StandsWith n (t ++ z) (closing_then rest cs) new) (sym w.entries)
-        (subst (StandsWith n (t ++ closing_events s c) (closing_then rest cs)) (sym w.state) (record { stands = stands; opened = closing-opened s c ∙ k.opened }))
+        (subst (StandsWith n (t ++ closing_events s c) (closing_then rest cs)) (sym w.state)
+        (record { stands = stands; opened = closing-opened s c ∙ k.opened }))
     by_call false off w =
-        stands-nothing n t (closing_then rest cs) s new a (record { stands = not_called-stands t s (map close_step cs ++ rest) c inside k.stands off; opened = k.opened }) w
+        stands-nothing n t (closing_then rest cs) s new a
+        (record { stands = not_called-stands t s (map close_step cs ++ rest) c inside k.stands off; opened = k.opened }) w
 
 may-lack : (c : Closing) (cs : List CloseStep) → MayLack (Stage.Closing (close_step c ∷ cs))
 may-lack (closing.Faulty e) cs = tt
@@ -291,10 +335,12 @@ may-lack (closing.BothDone k) cs = tt
 may-lack (closing.PeerGone e) cs = tt
 may-lack (closing.Shut e) cs = tt
 
-pub closing-cut : (n : ℕ) (rest : List CloseStep) (c : Closing) (cs : List Closing) (t : Trace) (s new : State) (a : Trace) → step_below n c → StandsWith n t (closing_then rest (c ∷ cs)) s →
+pub closing-cut : (n : ℕ) (rest : List CloseStep) (c : Closing) (cs : List Closing) (t : Trace) (s new : State) (a : Trace) →
+    step_below n c → StandsWith n t (closing_then rest (c ∷ cs)) s →
     Nothing s a new → LeftFor TurnAnswer.Memory (t ++ a) new
 closing-cut n rest c cs t s new a lt k h =
-    left-stands n (t ++ a) (closing_then rest (c ∷ cs)) new (may-lack c (map close_step cs ++ rest)) (stands-nothing n t (closing_then rest (c ∷ cs)) s new a k h)
+    left-stands n (t ++ a) (closing_then rest (c ∷ cs)) new (may-lack c (map close_step cs ++ rest))
+    (stands-nothing n t (closing_then rest (c ∷ cs)) s new a k h)
 
 -- the steps of some links
 abbrev pub steps_of : List ℕ → List CloseStep
@@ -313,8 +359,10 @@ closing_links-keep n k ks t s new a lt w h =
     all-keeps n (step_below n) (closing_then (steps_of ks)) LooksAt (closing-keeps n (steps_of ks)) (closing_of k) t s new a
     (lt, (lt, (lt, (lt, (lt, (lt, (lt, (lt, (lt, tt))))))))) w h
 
-pub closing_links-cut : (n : ℕ) (k : ℕ) (ks : List ℕ) (t : Trace) (s new : State) (a : Trace) → link_below n k → StandsWith n t (closing_links (k ∷ ks)) s → CutClosingLink k s a new →
+pub closing_links-cut : (n : ℕ) (k : ℕ) (ks : List ℕ) (t : Trace) (s new : State) (a : Trace) → link_below n k →
+    StandsWith n t (closing_links (k ∷ ks)) s → CutClosingLink k s a new →
     LeftFor TurnAnswer.Memory (t ++ a) new
 closing_links-cut n k ks t s new a lt w h =
-    cut-leaves n (step_below n) (closing_then (steps_of ks)) LooksAt (closing-keeps n (steps_of ks)) (λ _. Nothing) (LeftFor TurnAnswer.Memory)
+    cut-leaves n (step_below n) (closing_then (steps_of ks)) LooksAt (closing-keeps n (steps_of ks)) (λ _. Nothing)
+    (LeftFor TurnAnswer.Memory)
     (closing-cut n (steps_of ks)) (closing_of k) t s new a (lt, (lt, (lt, (lt, (lt, (lt, (lt, (lt, (lt, tt))))))))) w h

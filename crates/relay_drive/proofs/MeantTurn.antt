@@ -17,7 +17,7 @@ use Rattle.relay_drive.specs.declared.fault.DriveFault.{DriveFault}
 use Rattle.relay_drive.specs.declared.fault.DriveFault.TheVariants as fault
 use Rattle.relay_drive.specs.Steps.{Then, Each, CutAt}
 use Rattle.relay_drive.specs.Calls.{Ticks}
-use Rattle.relay_drive.specs.Stands.{answer_of}
+use Rattle.relay_drive.specs.DriveStands.{turn_answer_of}
 use Rattle.relay_drive.specs.Phases.CutTurn.{before, in_poll, in_serving, in_passing, in_closing}
 use Rattle.relay_drive.specs.Phases.{links_from, want_of, wants_of, wants_of_links, wanted, Polls, PollFails, OpensSome, AcceptsMore, AcceptsWhere, PollsAndAccepts, CutPolling, ServesSide, CutServing, PassesLink, CutPassingLink, ForAllLinks, CutForAllLinks, ClosesLink, CutClosingLink, Turns, CutTurn}
 use Rattle.relay_meaning.specs.Meaning.{StandsFor, LeftFor}
@@ -27,7 +27,8 @@ use Rattle.relay_drive.proofs.MeantServing.{left-stands, IsBelow, serving, servi
 
 -- The clock
 
-pub tick-stands : (t : Trace) (s new : State) (a : Trace) (reading : ℕ) → StandsFor t Stage.Between s → Ticks reading s a new → StandsWith s.opened (t ++ a) Stage.Polling new
+pub tick-stands : (t : Trace) (s new : State) (a : Trace) (reading : ℕ) → StandsFor t Stage.Between s → Ticks reading s a new →
+    StandsWith s.opened (t ++ a) Stage.Polling new
 tick-stands t s new a reading k h =
     let ms : ℕ = max s.time (min reading (2 ^ 62)) in
     let old : s.time ≤ 2 ^ 62 = k.agrees.in_time in
@@ -45,10 +46,12 @@ abbrev wants : rooms.Want → Bool
 wants w = w.read || w.write
 
 -- one side
-one-named : (s : State) (e : SideId) (rest : List rooms.Want) → map named (wants_of s e) ++ filter wants rest ≡ filter wants (want_at s e ∷ rest)
+one-named : (s : State) (e : SideId) (rest : List rooms.Want) →
+    map named (wants_of s e) ++ filter wants rest ≡ filter wants (want_at s e ∷ rest)
 one-named s e rest = by_test (wants (want_at s e))
   where
-    by_test : (b : Bool) → map named (if b then want_of s e ∷ [] else []) ++ filter wants rest ≡ (if b then want_at s e ∷ filter wants rest else filter wants rest)
+    by_test : (b : Bool) → map named (if b then want_of s e ∷ [] else []) ++ filter wants
+        rest ≡ (if b then want_at s e ∷ filter wants rest else filter wants rest)
     by_test true = refl
     by_test false = refl
 
@@ -84,7 +87,8 @@ marks-named (v ∷ old) (w ∷ new) h many =
 abbrev Sided : ℕ → rooms.Want → Type 0
 Sided n w = w.side.link < n
 
-sided-all : (n : ℕ) (f : SideId → rooms.Want) → ((e : SideId) → (f e).side ≡ e) → (k m : ℕ) → k + m ≤ n → Each_is (Sided n) (map f (sides_from k m))
+sided-all : (n : ℕ) (f : SideId → rooms.Want) → ((e : SideId) → (f e).side ≡ e) → (k m : ℕ) → k + m ≤ n →
+    Each_is (Sided n) (map f (sides_from k m))
 sided-all n f is k zero l = tt
 sided-all n f is k (suc m) l =
     let a = ap (λ (e : SideId). e.link) (is (in_side k)) in
@@ -110,22 +114,26 @@ wants-below n s ws le names =
 
 -- Polling and accepting
 
-pub polls-stand : (t : Trace) (s new : State) (a : Trace) (marked : List Want) (ready : Bool) → StandsFor t Stage.Polling s → Polls marked ready s a new →
+pub polls-stand : (t : Trace) (s new : State) (a : Trace) (marked : List Want) (ready : Bool) → StandsFor t Stage.Polling s →
+    Polls marked ready s a new →
     StandsFor (t ++ a) (Stage.Accepting 0 (marks_of marked)) new × (map named marked ≡ wanted_by s) × (new ≡ s)
 polls-stand t s new a marked ready k h =
     let marks = marks-named (wanted s) marked h.marks h.many in
     let names = marks.0 ∙ wanted-named s in (
       subst (λ z. StandsFor (t ++ z) (Stage.Accepting 0 (marks_of marked)) new) (sym h.entries)
-          (subst (StandsFor (t ++ poll_events None marked (polled.Ready ready)) (Stage.Accepting 0 (marks_of marked))) (sym h.state) (poll-stands t s marked ready names marks.1 k)),
+          (subst (StandsFor (t ++ poll_events None marked (polled.Ready ready)) (Stage.Accepting 0 (marks_of marked)))
+          (sym h.state) (poll-stands t s marked ready names marks.1 k)),
       names,
       h.state,
     )
 
-pub opens-stand : (m : ℕ) (marks : List rooms.Want) (t : Trace) (s new : State) (a : Trace) → m ≤ 64 → StandsFor t (Stage.Accepting 0 marks) s → OpensSome m s a new →
+pub opens-stand : (m : ℕ) (marks : List rooms.Want) (t : Trace) (s new : State) (a : Trace) → m ≤ 64 →
+    StandsFor t (Stage.Accepting 0 marks) s → OpensSome m s a new →
     StandsFor (t ++ a) (Stage.Accepting m marks) new × (s.opened ≤ new.opened)
 opens-stand zero marks t s new a few k h =
     let same = sym h.1 in (
-      subst (λ z. StandsFor z (Stage.Accepting 0 marks) new) (sym (ap (λ b. t ++ b) h.0 ∙ append-nil t)) (subst (StandsFor t (Stage.Accepting 0 marks)) same k),
+      subst (λ z. StandsFor z (Stage.Accepting 0 marks) new) (sym (ap (λ b. t ++ b) h.0 ∙ append-nil t))
+          (subst (StandsFor t (Stage.Accepting 0 marks)) same k),
       (let b = ap (λ (z : State). z.opened) h.1 in omega (arith, b)),
     )
 opens-stand (suc m) marks t s new a few k h =
@@ -138,12 +146,15 @@ opens-stand (suc m) marks t s new a few k h =
     let le = first.1 in (
       subst (λ z. StandsFor z (Stage.Accepting (suc m) marks) new) (append_assoc t h.front h.back ∙ ap (λ z. t ++ z) (sym h.joined))
           (subst (λ z. StandsFor ((t ++ h.front) ++ z) (Stage.Accepting (suc m) marks) new) (sym one.entries)
-          (subst (StandsFor ((t ++ h.front) ++ (entry.Opened h.middle.opened connected, []) ∷ []) (Stage.Accepting (suc m) marks)) (sym one.state)
-          (subst (λ z. StandsFor ((t ++ h.front) ++ (entry.Opened h.middle.opened connected, []) ∷ []) (Stage.Accepting z marks) (after_opened h.middle connected)) next stands))),
+          (subst (StandsFor ((t ++ h.front) ++ (entry.Opened h.middle.opened connected, []) ∷ []) (Stage.Accepting (suc m) marks))
+          (sym one.state)
+          (subst (λ z. StandsFor ((t ++ h.front) ++ (entry.Opened h.middle.opened connected, []) ∷ []) (Stage.Accepting z marks)
+          (after_opened h.middle connected)) next stands))),
       omega (arith, le, more),
     )
 
-pub accepts-stand : (marked : List Want) (t : Trace) (s new : State) (a : Trace) → StandsFor t Stage.Polling s → PollsAndAccepts marked s a new →
+pub accepts-stand : (marked : List Want) (t : Trace) (s new : State) (a : Trace) → StandsFor t Stage.Polling s →
+    PollsAndAccepts marked s a new →
     StandsWith new.opened (t ++ a) (serving marked) new × Each_is (IsBelow new.opened) marked
 accepts-stand marked t s new a k h =
     let w = h.1 in
@@ -151,11 +162,13 @@ accepts-stand marked t s new a k h =
     let after = by_ready h.0 (t ++ w.front) w.middle w.back poll.0 w.second in
     let same = ap (λ (z : State). z.opened) poll.2 in
     let le = after.1 in (
-      subst (λ z. StandsWith new.opened z (serving marked) new) (append_assoc t w.front w.back ∙ ap (λ z. t ++ z) (sym w.joined)) (record { stands = after.0; opened = refl }),
+      subst (λ z. StandsWith new.opened z (serving marked) new) (append_assoc t w.front w.back ∙ ap (λ z. t ++ z) (sym w.joined))
+          (record { stands = after.0; opened = refl }),
       wants-below new.opened s marked (omega (arith, same, le)) poll.1,
     )
   where
-    by_ready : (ready : Bool) (u : Trace) (m : State) (b : Trace) → StandsFor u (Stage.Accepting 0 (marks_of marked)) m → AcceptsWhere ready m b new →
+    by_ready : (ready : Bool) (u : Trace) (m : State) (b : Trace) → StandsFor u (Stage.Accepting 0 (marks_of marked)) m →
+        AcceptsWhere ready m b new →
         StandsFor (u ++ b) (serving marked) new × (m.opened ≤ new.opened)
     by_ready true u m b k h =
         let opens = opens-stand h.0 (marks_of marked) u m new b h.1 k h.2 in
@@ -164,7 +177,8 @@ accepts-stand marked t s new a k h =
         let none = opens-stand 0 (marks_of marked) u m new b (omega arith) k h in
         (accepted-stands (u ++ b) new 0 (marks_of marked) none.0, none.1)
 
-pub poll_fails-leaves : (t : Trace) (s new : State) (a : Trace) → StandsFor t Stage.Polling s → PollFails s a new → LeftFor TurnAnswer.PollFault (t ++ a) new
+pub poll_fails-leaves : (t : Trace) (s new : State) (a : Trace) → StandsFor t Stage.Polling s → PollFails s a new →
+    LeftFor TurnAnswer.PollFault (t ++ a) new
 poll_fails-leaves t s new a k h =
     let marks = marks-named (wanted s) h.named h.marks h.many in
     subst (λ z. LeftFor TurnAnswer.PollFault (t ++ z) new) (sym h.entries)
@@ -172,7 +186,8 @@ poll_fails-leaves t s new a k h =
     (record { stage = Stage.Over Halt.PollFailed; stands = poll_failed-stands t s h.named (marks.0 ∙ wanted-named s) k; left = refl }))
 
 -- accepting is refused where one link more was allowed
-accepting-leaves : (t : Trace) (s new : State) (a : Trace) (marked : List Want) → StandsFor t Stage.Polling s → Then (Polls marked true) AcceptsMore s a new →
+accepting-leaves : (t : Trace) (s new : State) (a : Trace) (marked : List Want) → StandsFor t Stage.Polling s →
+    Then (Polls marked true) AcceptsMore s a new →
     LeftFor TurnAnswer.Memory (t ++ a) new × LeftFor TurnAnswer.OpenFault (t ++ a) new
 accepting-leaves t s new a marked k h =
     let poll = polls-stand t s h.middle h.front marked true k h.first in
@@ -180,19 +195,22 @@ accepting-leaves t s new a marked k h =
     let few = h.second.1 in
     let opens = opens-stand n (marks_of marked) (t ++ h.front) h.middle new h.back (omega (arith, few)) poll.0 h.second.3 in
     let stage : Stage = Stage.Accepting n (marks_of marked) in
-    let stands : StandsFor (t ++ a) stage new = subst (λ z. StandsFor z stage new) (append_assoc t h.front h.back ∙ ap (λ z. t ++ z) (sym h.joined)) opens.0 in
+    let stands : StandsFor (t ++ a) stage new =
+    subst (λ z. StandsFor z stage new) (append_assoc t h.front h.back ∙ ap (λ z. t ++ z) (sym h.joined)) opens.0 in
     let more : stands.plain.opened < new.settings.links = (let b = stands.agrees.opened in let c = h.second.2 in omega (arith, b, c)) in
     (record { stage = stage; stands = stands; left = tt }, record { stage = stage; stands = stands; left = (few, more) })
 
 -- From phase to phase
 
-served-pass : (n : ℕ) (t : Trace) (s : State) → StandsWith n t (Stage.Serving []) s → StandsWith s.opened t (passing_links (links_from 0 s.opened)) s
+served-pass : (n : ℕ) (t : Trace) (s : State) → StandsWith n t (Stage.Serving []) s →
+    StandsWith s.opened t (passing_links (links_from 0 s.opened)) s
 served-pass n t s k = record {
   stands = subst (λ es. StandsFor t (Stage.Passing [] es) s) (sym (sides_of-links 0 s.opened)) (served-stands t s k.stands);
   opened = refl;
 }
 
-passed-close : (n : ℕ) (t : Trace) (s : State) → StandsWith n t (Stage.Passing [] []) s → StandsWith s.opened t (closing_links (links_from 0 s.opened)) s
+passed-close : (n : ℕ) (t : Trace) (s : State) → StandsWith n t (Stage.Passing [] []) s →
+    StandsWith s.opened t (closing_links (links_from 0 s.opened)) s
 passed-close n t s k = record {
   stands = subst (λ cs. StandsFor t (Stage.Closing cs) s) (sym (steps_of-links 0 s.opened)) (passed_all-stands t s k.stands);
   opened = refl;
@@ -202,27 +220,36 @@ all-below : (n : ℕ) → Each_is (link_below n) (links_from 0 n)
 all-below n = links-below 0 n n (omega arith)
 
 -- one step before others
-joined-stands : (x : Stage) (n : ℕ) (t front back a : Trace) (new : State) → a ≡ front ++ back → StandsWith n ((t ++ front) ++ back) x new → StandsWith n (t ++ a) x new
+joined-stands : (x : Stage) (n : ℕ) (t front back a : Trace) (new : State) → a ≡ front ++ back →
+    StandsWith n ((t ++ front) ++ back) x new → StandsWith n (t ++ a) x new
 joined-stands x n t front back a new j k = subst (λ z. StandsWith n z x new) (append_assoc t front back ∙ ap (λ z. t ++ z) (sym j)) k
 
-joined-leaves : (answer : TurnAnswer) (t front back a : Trace) (new : State) → a ≡ front ++ back → LeftFor answer ((t ++ front) ++ back) new → LeftFor answer (t ++ a) new
+joined-leaves : (answer : TurnAnswer) (t front back a : Trace) (new : State) → a ≡ front ++ back →
+    LeftFor answer ((t ++ front) ++ back) new → LeftFor answer (t ++ a) new
 joined-leaves answer t front back a new j k = subst (λ z. LeftFor answer z new) (append_assoc t front back ∙ ap (λ z. t ++ z) (sym j)) k
 
-closes-end : (n : ℕ) (t : Trace) (s new : State) (a : Trace) → StandsWith n t (Stage.Passing [] []) s → ForAllLinks ClosesLink s a new → StandsFor (t ++ a) Stage.Between new
+closes-end : (n : ℕ) (t : Trace) (s new : State) (a : Trace) → StandsWith n t (Stage.Passing [] []) s →
+    ForAllLinks ClosesLink s a new → StandsFor (t ++ a) Stage.Between new
 closes-end n t s new a k h =
     closed_all-stands (t ++ a) new
-    (all-keeps s.opened (link_below s.opened) closing_links ClosesLink (closing_links-keep s.opened) (links_from 0 s.opened) t s new a (all-below s.opened) (passed-close n t s k) h).stands
+    (all-keeps s.opened (link_below s.opened) closing_links ClosesLink (closing_links-keep s.opened) (links_from 0 s.opened) t s
+    new a (all-below s.opened) (passed-close n t s k) h).stands
 
-passes-all : (n : ℕ) (t : Trace) (s new : State) (a : Trace) → StandsWith n t (Stage.Serving []) s → ForAllLinks PassesLink s a new → StandsWith s.opened (t ++ a) (Stage.Passing [] []) new
+passes-all : (n : ℕ) (t : Trace) (s new : State) (a : Trace) → StandsWith n t (Stage.Serving []) s →
+    ForAllLinks PassesLink s a new → StandsWith s.opened (t ++ a) (Stage.Passing [] []) new
 passes-all n t s new a k h =
-    all-keeps s.opened (link_below s.opened) passing_links PassesLink (passing_links-keep s.opened) (links_from 0 s.opened) t s new a (all-below s.opened) (served-pass n t s k) h
+    all-keeps s.opened (link_below s.opened) passing_links PassesLink (passing_links-keep s.opened) (links_from 0 s.opened) t s
+    new a (all-below s.opened) (served-pass n t s k) h
 
-serves-all : (marked : List Want) (t : Trace) (s new : State) (a : Trace) → StandsWith s.opened t (serving marked) s → Each_is (IsBelow s.opened) marked → Each ServesSide marked s a new →
+serves-all : (marked : List Want) (t : Trace) (s new : State) (a : Trace) → StandsWith s.opened t (serving marked) s →
+    Each_is (IsBelow s.opened) marked → Each ServesSide marked s a new →
     StandsWith s.opened (t ++ a) (Stage.Serving []) new
-serves-all marked t s new a k below h = all-keeps s.opened (IsBelow s.opened) serving ServesSide (serving-keeps s.opened) marked t s new a below k h
+serves-all marked t s new a k below h = all-keeps s.opened (IsBelow s.opened) serving ServesSide (serving-keeps s.opened) marked t
+    s new a below k h
 
 -- a whole turn: whatever trace the relay stood for before it, it stands for that trace with the turn's entries
-pub turn_keeps : (t : Trace) (s new : State) (a : Trace) → StandsFor t Stage.Between s → Turns s a new → StandsFor (t ++ a) Stage.Between new
+pub turn_keeps : (t : Trace) (s new : State) (a : Trace) → StandsFor t Stage.Between s → Turns s a new →
+    StandsFor (t ++ a) Stage.Between new
 turn_keeps t s new a k turn =
     let marked = turn.1 in
     let h = turn.2 in
@@ -243,8 +270,10 @@ turn_keeps t s new a k turn =
 -- Turns that are cut off
 
 -- polling is refused
-polling-leaves : (f : DriveFault) (t : Trace) (s new : State) (a : Trace) → StandsWith s.opened t Stage.Polling s → CutPolling f s a new → LeftFor (answer_of f) (t ++ a) new
-polling-leaves fault.Memory t s new a k (inl h) = left-stands s.opened (t ++ a) Stage.Polling new tt (stands-nothing s.opened t Stage.Polling s new a k h)
+polling-leaves : (f : DriveFault) (t : Trace) (s new : State) (a : Trace) → StandsWith s.opened t Stage.Polling s →
+    CutPolling f s a new → LeftFor (turn_answer_of f) (t ++ a) new
+polling-leaves fault.Memory t s new a k (inl h) =
+    left-stands s.opened (t ++ a) Stage.Polling new tt (stands-nothing s.opened t Stage.Polling s new a k h)
 polling-leaves fault.PollFault t s new a k (inl h) = poll_fails-leaves t s new a k.stands h
 polling-leaves fault.OpenFault t s new a k (inl h) = absurd h
 polling-leaves fault.Spent t s new a k (inl h) = absurd h
@@ -253,28 +282,36 @@ polling-leaves fault.PollFault t s new a k (inr h) = absurd h
 polling-leaves fault.OpenFault t s new a k (inr h) = (accepting-leaves t s new a h.0 k.stands h.1).1
 polling-leaves fault.Spent t s new a k (inr h) = absurd h
 
-serving-leaves : (marked : List Want) (t : Trace) (s new : State) (a : Trace) → StandsWith s.opened t (serving marked) s → Each_is (IsBelow s.opened) marked → CutAt ServesSide CutServing marked s a new →
+serving-leaves : (marked : List Want) (t : Trace) (s new : State) (a : Trace) → StandsWith s.opened t (serving marked) s →
+    Each_is (IsBelow s.opened) marked → CutAt ServesSide CutServing marked s a new →
     LeftFor TurnAnswer.Memory (t ++ a) new
 serving-leaves marked t s new a k below h =
-    cut-leaves s.opened (IsBelow s.opened) serving ServesSide (serving-keeps s.opened) CutServing (LeftFor TurnAnswer.Memory) (serving-cut s.opened) marked t s new a below k h
+    cut-leaves s.opened (IsBelow s.opened) serving ServesSide (serving-keeps s.opened) CutServing (LeftFor TurnAnswer.Memory)
+    (serving-cut s.opened) marked t s new a below k h
 
-passing-leaves : (n : ℕ) (t : Trace) (s new : State) (a : Trace) → StandsWith n t (Stage.Serving []) s → CutForAllLinks PassesLink CutPassingLink s a new → LeftFor TurnAnswer.Memory (t ++ a) new
+passing-leaves : (n : ℕ) (t : Trace) (s new : State) (a : Trace) → StandsWith n t (Stage.Serving []) s →
+    CutForAllLinks PassesLink CutPassingLink s a new → LeftFor TurnAnswer.Memory (t ++ a) new
 passing-leaves n t s new a k h =
-    cut-leaves s.opened (link_below s.opened) passing_links PassesLink (passing_links-keep s.opened) CutPassingLink (LeftFor TurnAnswer.Memory) (passing_links-cut s.opened)
+    cut-leaves s.opened (link_below s.opened) passing_links PassesLink (passing_links-keep s.opened) CutPassingLink
+    (LeftFor TurnAnswer.Memory) (passing_links-cut s.opened)
     (links_from 0 s.opened) t s new a (all-below s.opened) (served-pass n t s k) h
 
-closing-leaves : (n : ℕ) (t : Trace) (s new : State) (a : Trace) → StandsWith n t (Stage.Passing [] []) s → CutForAllLinks ClosesLink CutClosingLink s a new → LeftFor TurnAnswer.Memory (t ++ a) new
+closing-leaves : (n : ℕ) (t : Trace) (s new : State) (a : Trace) → StandsWith n t (Stage.Passing [] []) s →
+    CutForAllLinks ClosesLink CutClosingLink s a new → LeftFor TurnAnswer.Memory (t ++ a) new
 closing-leaves n t s new a k h =
-    cut-leaves s.opened (link_below s.opened) closing_links ClosesLink (closing_links-keep s.opened) CutClosingLink (LeftFor TurnAnswer.Memory) (closing_links-cut s.opened)
+    cut-leaves s.opened (link_below s.opened) closing_links ClosesLink (closing_links-keep s.opened) CutClosingLink
+    (LeftFor TurnAnswer.Memory) (closing_links-cut s.opened)
     (links_from 0 s.opened) t s new a (all-below s.opened) (passed-close n t s k) h
 
 -- A turn that is cut off leaves the relay standing for the longer trace, at a stage at which a turn may answer so.
-pub cut_turn_leaves : (f : DriveFault) (t : Trace) (s new : State) (a : Trace) → StandsFor t Stage.Between s → CutTurn f s a new → LeftFor (answer_of f) (t ++ a) new
+pub cut_turn_leaves : (f : DriveFault) (t : Trace) (s new : State) (a : Trace) → StandsFor t Stage.Between s → CutTurn f s a new →
+    LeftFor (turn_answer_of f) (t ++ a) new
 cut_turn_leaves f t s new a k (before h) =
-    left-stands s.opened (t ++ a) Stage.Between new tt (stands-nothing s.opened t Stage.Between s new a (record { stands = k; opened = refl }) h)
+    left-stands s.opened (t ++ a) Stage.Between new tt
+    (stands-nothing s.opened t Stage.Between s new a (record { stands = k; opened = refl }) h)
 cut_turn_leaves f t s new a k (in_poll reading h) =
     let tick = tick-stands t s h.middle h.front reading k h.first in
-    joined-leaves (answer_of f) t h.front h.back a new h.joined
+    joined-leaves (turn_answer_of f) t h.front h.back a new h.joined
     (polling-leaves f (t ++ h.front) h.middle new h.back (record { stands = tick.stands; opened = refl }) h.second)
 cut_turn_leaves f t s new a k (in_serving reading marked h) =
     let tick = tick-stands t s h.middle h.front reading k h.first in

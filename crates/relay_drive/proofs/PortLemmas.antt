@@ -5,43 +5,45 @@ use Rattle.std.specs.List.{last_or}
 use Rattle.ev_types.specs.declared.entry.Entry.TheVariants as entry
 use Rattle.ev_types.specs.Trace.{Trace}
 use Rattle.relay_model.specs.Settings.{Settings}
-use Rattle.relay_model.specs.Turn.{latest}
+use Rattle.ev_types.specs.Times.{latest}
 use Rattle.relay_model.specs.Totals.{opened, times, last_timeout, polls_that_accept}
-use Rattle.relay_model.specs.Tied.{TellsNumber, TellsReading, LastFollows, PortTells, PortTied}
-use Rattle.relay_model.proofs.TiedLemmas.{TellsNumber-plus, LastFollows-push, polls_that_accept-append}
+use Rattle.ev_types.specs.Told.{Counts, PortTold, Becomes, Stays}
+use Rattle.relay_model.specs.Tied.{TellsReading, LastFollows, PortTied}
+use Rattle.relay_model.proofs.TiedLemmas.{Counts-plus, LastFollows-push, polls_that_accept-append}
 use Rattle.ev_port.specs.declared.port.Accepted.TheVariants as accepted
 use Rattle.ev_port.specs.declared.port.Polled.{Polled}
 use Rattle.ev_port.specs.declared.port.Polled.TheVariants as polled
 use Rattle.ev_port.specs.declared.port.Want.{Want}
-use Rattle.ev_port.specs.Told.{PortTold, Counts, Becomes, Stays, PortStays}
+use Rattle.ev_port.specs.EndSteps.{PortStays}
 use Rattle.ev_port.specs.Calls.{ClockRead, AcceptedLink}
 use Rattle.ev_port.specs.Polling.{poll_events, opens_accepting, PolledWith}
-use Rattle.relay_drive.specs.Known.{port_tells}
 use Rattle.relay_drive.proofs.CalmLemmas.{Calm, calm_list, is_calm, opened-append, times-append, timeout-append}
 use Rattle.relay_drive.proofs.TiedLemmas.{rest_of, poll_rest}
 
 -- One meaning over one call
 
-number_stays : (p q r : Option ℕ) (m k : ℕ) → TellsNumber p q m → Stays q r → k ≡ m → TellsNumber p r k
+number_stays : (p q r : Option ℕ) (m k : ℕ) → Counts p q m → Stays q r → k ≡ m → Counts p r k
 number_stays None q r m k h s e = tt
 number_stays (Some b) q r m k h s e = λ fits.
     let was = h (omega (arith, fits, e)) in
     let now : r ≡ Some (b + m) = subst (λ z. MatchOption z ⊤ (λ before. r ≡ Some before)) was s in
     now ∙ ap (λ n. Some (b + n)) (sym e)
 
-number_counts : (p q r : Option ℕ) (m n k : ℕ) → TellsNumber p q m → Counts q r n → k ≡ m + n → TellsNumber p r k
-number_counts p q r m n k h c e = subst (λ z. TellsNumber p r z) (sym e) (TellsNumber-plus p q r m n h c)
+number_counts : (p q r : Option ℕ) (m n k : ℕ) → Counts p q m → Counts q r n → k ≡ m + n → Counts p r k
+number_counts p q r m n k h c e = subst (λ z. Counts p r z) (sym e) (Counts-plus p q r m n h c)
 
 abbrev TellsTimeout : Option (Option ℕ) → Option (Option ℕ) → Trace → Type 0
 TellsTimeout began now t = MatchOption began ⊤ (λ before. now ≡ Some (last_timeout before t))
 
-timeout_stays : (p q r : Option (Option ℕ)) (t u : Trace) → TellsTimeout p q t → Stays q r → ((was : Option ℕ) → last_timeout was u ≡ was) → TellsTimeout p r (t ++ u)
+timeout_stays : (p q r : Option (Option ℕ)) (t u : Trace) → TellsTimeout p q t → Stays q r →
+    ((was : Option ℕ) → last_timeout was u ≡ was) → TellsTimeout p r (t ++ u)
 timeout_stays None q r t u h s calm = tt
 timeout_stays (Some b) q r t u h s calm =
     let now : r ≡ Some (last_timeout b t) = subst (λ z. MatchOption z ⊤ (λ before. r ≡ Some before)) h s in
     now ∙ ap Some (sym (timeout-append b t u ∙ calm (last_timeout b t)))
 
-timeout_becomes : (p q r : Option (Option ℕ)) (t u : Trace) (most : Option ℕ) → TellsTimeout p q t → Becomes q r most → ((was : Option ℕ) → last_timeout was u ≡ most) → TellsTimeout p r (t ++ u)
+timeout_becomes : (p q r : Option (Option ℕ)) (t u : Trace) (most : Option ℕ) → TellsTimeout p q t → Becomes q r most →
+    ((was : Option ℕ) → last_timeout was u ≡ most) → TellsTimeout p r (t ++ u)
 timeout_becomes None q r t u most h s is = tt
 timeout_becomes (Some b) q r t u most h s is =
     let now : r ≡ Some most = subst (λ z. MatchOption z ⊤ (λ _. r ≡ Some most)) h s in
@@ -80,7 +82,8 @@ as_list : (p r : Option ℕ) (ts : List ℕ) (time : ℕ) → Follows p r (ts ++
 as_list p r [] time h = h
 as_list p r (x ∷ ts) time h = h
 
-reading_becomes : (p q r : Option ℕ) (ts : List ℕ) (reading time : ℕ) → TellsReading p q ts → Becomes q r reading → time ≡ max (unwrap_or (last_or (Some 0) ts) 0) (min reading latest) → TellsReading p r (ts ++ time ∷ [])
+reading_becomes : (p q r : Option ℕ) (ts : List ℕ) (reading time : ℕ) → TellsReading p q ts → Becomes q r reading →
+    time ≡ max (unwrap_or (last_or (Some 0) ts) 0) (min reading latest) → TellsReading p r (ts ++ time ∷ [])
 reading_becomes None q r ts reading time h s e = as_list None r ts time tt
 reading_becomes (Some b) None r ts reading time h s e = absurd (let told = was_told b None ts h in cc)
 reading_becomes (Some b) (Some y) r ts reading time h s e =
@@ -89,14 +92,16 @@ reading_becomes (Some b) (Some y) r ts reading time h s e =
 abbrev once : Bool → ℕ
 once b = if b then 1 else 0
 
-pub poll_split : (timeout : Option ℕ) (ws : List Want) (answer : Polled) → poll_events timeout ws answer ≡ (entry.Poll timeout, []) ∷ rest_of ws answer
+pub poll_split : (timeout : Option ℕ) (ws : List Want) (answer : Polled) →
+    poll_events timeout ws answer ≡ (entry.Poll timeout, []) ∷ rest_of ws answer
 poll_split timeout ws (polled.Ready accept) = refl
 poll_split timeout ws polled.Failed = refl
 
 -- All meanings over one call
 
-module _ (g : Settings) (began : PortTells) (told new : PortTold) (t : Trace) (tied : PortTied g began (port_tells told) t) where
-  polls_on : (u : Trace) (n : ℕ) → polls_that_accept g.links (0 + opened t) u ≡ n → polls_that_accept g.links 0 (t ++ u) ≡ polls_that_accept g.links 0 t + n
+module _ (g : Settings) (began : PortTold) (told new : PortTold) (t : Trace) (tied : PortTied g began told t) where
+  polls_on : (u : Trace) (n : ℕ) → polls_that_accept g.links (0 + opened t) u ≡ n →
+      polls_that_accept g.links 0 (t ++ u) ≡ polls_that_accept g.links 0 t + n
   polls_on u n h = polls_that_accept-append g.links 0 t u ∙ ap (λ k. polls_that_accept g.links 0 t + k) h
 
   opened_on : (u : Trace) (n : ℕ) → opened u ≡ n → opened (t ++ u) ≡ opened t + n
@@ -109,9 +114,10 @@ module _ (g : Settings) (began : PortTells) (told new : PortTold) (t : Trace) (t
   none_more m n h = omega (arith, h)
 
   -- a call with such entries as say nothing of the whole port
-  pub port_calm : (u : Trace) → Calm u → PortStays told new → PortTied g began (port_tells new) (t ++ u)
+  pub port_calm : (u : Trace) → Calm u → PortStays told new → PortTied g began new (t ++ u)
   port_calm u c s = record {
-    accept_polls = number_stays began.accept_polls told.accept_polls new.accept_polls _ _ tied.accept_polls s.accept_polls (none_more _ _ (polls_on u 0 (c.polls g.links (0 + opened t))));
+    accept_polls = number_stays began.accept_polls told.accept_polls new.accept_polls _ _ tied.accept_polls s.accept_polls
+        (none_more _ _ (polls_on u 0 (c.polls g.links (0 + opened t))));
     timeout = timeout_stays began.timeout told.timeout new.timeout t u tied.timeout s.timeout c.timeout;
     links = number_stays began.links told.links new.links _ _ tied.links s.links (none_more _ _ (opened_on u 0 c.opens));
     accepting = tells_still began.accepting told.accepting new.accepting tied.accepting s.accepting;
@@ -120,9 +126,12 @@ module _ (g : Settings) (began : PortTells) (told new : PortTold) (t : Trace) (t
   }
 
   -- a poll, which asks to accept exactly where fewer links than may be opened were opened
-  pub port_polled : (ws : List Want) (answer : Polled) (accept : Bool) (timeout : Option ℕ) → PolledWith told new accept timeout answer → accept ≡ nat_lt (opened t) g.links → PortTied g began (port_tells new) (t ++ poll_events timeout ws answer)
+  pub port_polled : (ws : List Want) (answer : Polled) (accept : Bool) (timeout : Option ℕ) →
+      PolledWith told new accept timeout answer → accept ≡ nat_lt (opened t) g.links →
+      PortTied g began new (t ++ poll_events timeout ws answer)
   port_polled ws answer accept timeout s asks = record {
-    accept_polls = number_counts began.accept_polls told.accept_polls new.accept_polls _ _ _ tied.accept_polls s.accept_polls (polls_on u (if accept then 1 else 0) polls);
+    accept_polls = number_counts began.accept_polls told.accept_polls new.accept_polls _ _ _ tied.accept_polls s.accept_polls
+        (polls_on u (if accept then 1 else 0) polls);
     timeout = timeout_becomes began.timeout told.timeout new.timeout t u timeout tied.timeout s.timeout last;
     links = number_stays began.links told.links new.links _ _ tied.links s.links (none_more _ _ (opened_on u 0 opens));
     accepting = tells_anyway began.accepting told.accepting new.accepting (opens_accepting answer) tied.accepting s.accepting;
@@ -150,14 +159,17 @@ module _ (g : Settings) (began : PortTells) (told new : PortTold) (t : Trace) (t
 
       polls : polls_that_accept g.links (0 + opened t) u ≡ (if accept then 1 else 0)
       polls =
-          let one : once (nat_lt (0 + opened t) g.links) ≡ once accept = ap once (ap (λ k. nat_lt k g.links) (zero-add (opened t)) ∙ sym asks) in
+          let one : once (nat_lt (0 + opened t) g.links) ≡ once accept =
+          ap once (ap (λ k. nat_lt k g.links) (zero-add (opened t)) ∙ sym asks) in
           let more = c.polls g.links (0 + opened t + 0) in
           ap (polls_that_accept g.links (0 + opened t)) split ∙ omega (arith, one, more)
 
   -- a link was accepted
-  pub port_linked : (link : ℕ) (connected : Bool) → AcceptedLink told new (accepted.Link connected) → PortTied g began (port_tells new) (t ++ (entry.Opened link connected, []) ∷ [])
+  pub port_linked : (link : ℕ) (connected : Bool) → AcceptedLink told new (accepted.Link connected) →
+      PortTied g began new (t ++ (entry.Opened link connected, []) ∷ [])
   port_linked link connected s = record {
-    accept_polls = number_stays began.accept_polls told.accept_polls new.accept_polls _ _ tied.accept_polls s.0.accept_polls (none_more _ _ (polls_on u 0 refl));
+    accept_polls = number_stays began.accept_polls told.accept_polls new.accept_polls _ _ tied.accept_polls s.0.accept_polls
+        (none_more _ _ (polls_on u 0 refl));
     timeout = timeout_stays began.timeout told.timeout new.timeout t u tied.timeout s.0.timeout (λ was. refl);
     links = number_counts began.links told.links new.links _ _ _ tied.links s.1 (opened_on u 1 refl);
     accepting = tells_still began.accepting told.accepting new.accepting tied.accepting s.0.accepting;
@@ -169,10 +181,11 @@ module _ (g : Settings) (began : PortTells) (told new : PortTold) (t : Trace) (t
       u = (entry.Opened link connected, []) ∷ []
 
   -- or none was, which closed accepting
-  pub port_closed : PortStays (record told { accepting = None }) new → Becomes told.accepting new.accepting false → PortTied g began (port_tells new) t
+  pub port_closed : PortStays (record told { accepting = None }) new → Becomes told.accepting new.accepting false → PortTied g began new t
   port_closed s closed = record {
     accept_polls = number_stays began.accept_polls told.accept_polls new.accept_polls _ _ tied.accept_polls s.accept_polls refl;
-    timeout = subst (λ z. TellsTimeout began.timeout new.timeout z) (append-nil t) (timeout_stays began.timeout told.timeout new.timeout t [] tied.timeout s.timeout (λ was. refl));
+    timeout = subst (λ z. TellsTimeout began.timeout new.timeout z) (append-nil t)
+        (timeout_stays began.timeout told.timeout new.timeout t [] tied.timeout s.timeout (λ was. refl));
     links = number_stays began.links told.links new.links _ _ tied.links s.links refl;
     accepting = tells_anyway began.accepting told.accepting new.accepting false tied.accepting closed;
     readings = number_stays began.readings told.readings new.readings _ _ tied.readings s.readings refl;
@@ -180,14 +193,18 @@ module _ (g : Settings) (began : PortTells) (told new : PortTold) (t : Trace) (t
   }
 
   -- the clock was read
-  pub port_clocked : (reading ms : ℕ) → ClockRead told new reading → ms ≡ max (unwrap_or (last_or (Some 0) (times t)) 0) (min reading latest) → PortTied g began (port_tells new) (t ++ (entry.Turn ms, []) ∷ [])
+  pub port_clocked : (reading ms : ℕ) → ClockRead told new reading →
+      ms ≡ max (unwrap_or (last_or (Some 0) (times t)) 0) (min reading latest) → PortTied g began new (t ++ (entry.Turn ms, []) ∷ [])
   port_clocked reading ms s is = record {
-    accept_polls = number_stays began.accept_polls told.accept_polls new.accept_polls _ _ tied.accept_polls s.accept_polls (none_more _ _ (polls_on u 0 refl));
+    accept_polls = number_stays began.accept_polls told.accept_polls new.accept_polls _ _ tied.accept_polls s.accept_polls
+        (none_more _ _ (polls_on u 0 refl));
     timeout = timeout_stays began.timeout told.timeout new.timeout t u tied.timeout s.timeout (λ was. refl);
     links = number_stays began.links told.links new.links _ _ tied.links s.links (none_more _ _ (opened_on u 0 refl));
     accepting = tells_still began.accepting told.accepting new.accepting tied.accepting s.accepting;
-    readings = number_counts began.readings told.readings new.readings _ _ _ tied.readings s.readings (ap length (times-append t u) ∙ length-append (times t) (ms ∷ []));
-    reading = subst (λ z. TellsReading began.reading new.reading z) (sym (times-append t u)) (reading_becomes began.reading told.reading new.reading (times t) reading ms tied.reading s.reading is);
+    readings = number_counts began.readings told.readings new.readings _ _ _ tied.readings s.readings
+        (ap length (times-append t u) ∙ length-append (times t) (ms ∷ []));
+    reading = subst (λ z. TellsReading began.reading new.reading z) (sym (times-append t u))
+        (reading_becomes began.reading told.reading new.reading (times t) reading ms tied.reading s.reading is);
   }
     where
       u : Trace

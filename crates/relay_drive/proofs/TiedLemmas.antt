@@ -20,7 +20,8 @@ use Rattle.ev_types.specs.Trace.{Event, Trace}
 use Rattle.relay_model.specs.Trace.{bytes_read, bytes_given, has_ended, is_write_closed}
 use Rattle.relay_model.specs.Totals.{is_read_of, is_write_of, is_check_of, room_by, offered_by, wants_read_by, wants_write_by, marks_read_by, marks_write_by, comes_connected, is_made_connected, is_connected, is_closed}
 use Rattle.relay_model.specs.Tied.{EndTied}
-use Rattle.ev_port.specs.Told.{EndTold, EndStep, no_step, EndWent, EndsWent, AllWent}
+use Rattle.ev_types.specs.Told.{EndTold}
+use Rattle.ev_port.specs.EndSteps.{EndStep, no_step, EndWent, EndsWent, AllWent}
 use Rattle.ev_port.specs.declared.port.Accepted.{Accepted}
 use Rattle.ev_port.specs.declared.port.Accepted.TheVariants as accepted
 use Rattle.ev_port.specs.declared.port.Want.{Want}
@@ -29,7 +30,6 @@ use Rattle.ev_port.specs.declared.port.Polled.TheVariants as polled
 use Rattle.ev_port.specs.Polling.{want_events, ready_events, poll_events, poll_step}
 use Rattle.ev_port.specs.Calls.{accept_events, accept_step}
 use Rattle.ev_port.specs.Ends.{conn_step, conn_events, read_step, read_events, write_step, write_events, close_write_step, close_write_events, close_step, close_events}
-use Rattle.relay_drive.specs.Known.{end_tells}
 use Rattle.relay_drive.proofs.EndNames.{same_end-true, same_end-false}
 
 -- what entries say of an end, as one step
@@ -54,7 +54,7 @@ step_of e u = record {
 }
 
 -- an end that went as entries say is tied to them
-pub tied_of : (e : SideId) (old new : EndTold) (u : Trace) → EndWent old new (step_of e u) → EndTied (end_tells old) (end_tells new) e u
+pub tied_of : (e : SideId) (old new : EndTold) (u : Trace) → EndWent old new (step_of e u) → EndTied old new e u
 tied_of e old new u w = record {
   handed_out = w.handed_out;
   taken = w.taken;
@@ -75,7 +75,9 @@ tied_of e old new u w = record {
 }
 
 -- one end went so
-pub one_end : (old new : SideId → EndTold) (end : SideId) (step : EndStep) (u : Trace) → ((e : SideId) → step_of e u ≡ (if same_end end e then step else no_step)) → EndsWent old new end step → AllWent old new (λ e. step_of e u)
+pub one_end : (old new : SideId → EndTold) (end : SideId) (step : EndStep) (u : Trace) →
+    ((e : SideId) → step_of e u ≡ (if same_end end e then step else no_step)) → EndsWent old new end step →
+    AllWent old new (λ e. step_of e u)
 one_end old new end step u is h = λ e. subst (λ z. EndWent (old e) (new e) z) (sym (is e)) (go e (same_end end e) refl)
   where
     go : (e : SideId) (b : Bool) → same_end end e ≡ b → EndWent (old e) (new e) (if b then step else no_step)
@@ -83,14 +85,16 @@ one_end old new end step u is h = λ e. subst (λ z. EndWent (old e) (new e) z) 
     go e false k = h.others e (same_end-false end e k)
 
 -- each end went so
-pub all_ends : (old new : SideId → EndTold) (step : SideId → EndStep) (u : Trace) → ((e : SideId) → step_of e u ≡ step e) → AllWent old new step → AllWent old new (λ e. step_of e u)
+pub all_ends : (old new : SideId → EndTold) (step : SideId → EndStep) (u : Trace) → ((e : SideId) → step_of e u ≡ step e) →
+    AllWent old new step → AllWent old new (λ e. step_of e u)
 all_ends old new step u is h = λ e. subst (λ z. EndWent (old e) (new e) z) (sym (is e)) (h e)
 
 -- a step in which so much is said of one end alone
 abbrev chosen : Bool → EndStep → EndStep
 chosen b step = if b then step else no_step
 
-pub read_says : (end e : SideId) (into : List ℕ) (answer : ReadAnswer) → step_of e (read_events end into answer) ≡ (if same_end end e then read_step answer into else no_step)
+pub read_says : (end e : SideId) (into : List ℕ) (answer : ReadAnswer) →
+    step_of e (read_events end into answer) ≡ (if same_end end e then read_step answer into else no_step)
 read_says end e into answer = go answer (same_end end e) refl
   where
     go : (answer : ReadAnswer) (b : Bool) → same_end end e ≡ b → step_of e (read_events end into answer) ≡ chosen b (read_step answer into)
@@ -103,10 +107,12 @@ read_says end e into answer = go answer (same_end end e) refl
     go read.NotYet false h = rw h
     go read.Failed false h = rw h
 
-pub write_says : (end e : SideId) (from : List ℕ) (answer : WriteAnswer) → step_of e (write_events end from answer) ≡ (if same_end end e then write_step answer from else no_step)
+pub write_says : (end e : SideId) (from : List ℕ) (answer : WriteAnswer) →
+    step_of e (write_events end from answer) ≡ (if same_end end e then write_step answer from else no_step)
 write_says end e from answer = go answer (same_end end e) refl
   where
-    go : (answer : WriteAnswer) (b : Bool) → same_end end e ≡ b → step_of e (write_events end from answer) ≡ chosen b (write_step answer from)
+    go : (answer : WriteAnswer) (b : Bool) → same_end end e ≡ b →
+        step_of e (write_events end from answer) ≡ chosen b (write_step answer from)
     go (write.Took n) true h = rw (h, append-nil (take n from), zero-add (length from))
     go write.NotYet true h = rw (h, zero-add (length from))
     go write.Failed true h = rw (h, zero-add (length from))
@@ -116,7 +122,8 @@ write_says end e from answer = go answer (same_end end e) refl
     go write.Failed false h = rw h
     go write.NoMemory false h = refl
 
-pub conn_says : (end e : SideId) (answer : ConnAnswer) → step_of e (conn_events end answer) ≡ (if same_end end e then conn_step answer else no_step)
+pub conn_says : (end e : SideId) (answer : ConnAnswer) →
+    step_of e (conn_events end answer) ≡ (if same_end end e then conn_step answer else no_step)
 conn_says end e answer = go answer (same_end end e) refl
   where
     go : (answer : ConnAnswer) (b : Bool) → same_end end e ≡ b → step_of e (conn_events end answer) ≡ chosen b (conn_step answer)
@@ -154,7 +161,8 @@ eqb_sym m n = go (m == n) (n == m) refl refl
 
 -- the ends of a link, by its number and their sides
 made_is : (link : ℕ) (connected : Bool) (number : ℕ) (side : Side) →
-    (link == number && comes_connected side connected) ≡ ((number == link && same_side side In) || ((number == link && same_side side Out) && connected))
+    (link == number && comes_connected side connected)
+    ≡ ((number == link && same_side side In) || ((number == link && same_side side Out) && connected))
 made_is link connected number In = in_case (link == number) (number == link) (eqb_sym link number)
   where
     in_case : (a b : Bool) → a ≡ b → (a && true) ≡ ((b && true) || ((b && false) && connected))
@@ -203,7 +211,8 @@ all_append p (x ∷ t) u h k =
     let rest = all_append p t u parts.1 k in
     rw (one, rest)
 
-module _ (p : Event → Bool) (want : (side : SideId) (r w : Bool) → p (entry.Want side r w, []) ≡ true) (ready : (side : SideId) (r w : Bool) → p (entry.Ready side r w, []) ≡ true) (failed : p (entry.PollFailed, []) ≡ true) where
+module _ (p : Event → Bool) (want : (side : SideId) (r w : Bool) → p (entry.Want side r w, []) ≡ true)
+    (ready : (side : SideId) (r w : Bool) → p (entry.Ready side r w, []) ≡ true) (failed : p (entry.PollFailed, []) ≡ true) where
   all_wants : (ws : List Want) → list_all p (want_events ws) ≡ true
   all_wants [] = refl
   all_wants (w ∷ ws) =
@@ -213,7 +222,8 @@ module _ (p : Event → Bool) (want : (side : SideId) (r w : Bool) → p (entry.
 
   all_marks : (ws : List Want) → list_all p (ready_events ws) ≡ true
   all_marks [] = refl
-  all_marks (w ∷ ws) = all_append p (mark_events w.can_read w.can_write w.side) (ready_events ws) (one w.can_read w.can_write) (all_marks ws)
+  all_marks (w ∷ ws) = all_append p (mark_events w.can_read w.can_write w.side) (ready_events ws) (one w.can_read w.can_write)
+      (all_marks ws)
     where
       one : (r c : Bool) → list_all p (mark_events r c w.side) ≡ true
       one true c = ap (λ b. b && true) (ready w.side true c)
@@ -225,10 +235,14 @@ module _ (p : Event → Bool) (want : (side : SideId) (r w : Bool) → p (entry.
   poll_rest ws (polled.Ready accept) = all_append p (want_events ws) (ready_events ws) (all_wants ws) (all_marks ws)
   poll_rest ws polled.Failed = all_append p (want_events ws) ((entry.PollFailed, []) ∷ []) (all_wants ws) (ap (λ b. b && true) failed)
 
-pub poll_all : (p : Event → Bool) → ((timeout : Option ℕ) → p (entry.Poll timeout, []) ≡ true) → ((side : SideId) (r w : Bool) → p (entry.Want side r w, []) ≡ true) →
-    ((side : SideId) (r w : Bool) → p (entry.Ready side r w, []) ≡ true) → p (entry.PollFailed, []) ≡ true → (timeout : Option ℕ) (ws : List Want) (answer : Polled) → list_all p (poll_events timeout ws answer) ≡ true
-poll_all p poll want ready failed timeout ws (polled.Ready accept) = let one = poll timeout in let rest = poll_rest p want ready failed ws (polled.Ready accept) in rw (one, rest)
-poll_all p poll want ready failed timeout ws polled.Failed = let one = poll timeout in let rest = poll_rest p want ready failed ws polled.Failed in rw (one, rest)
+pub poll_all : (p : Event → Bool) → ((timeout : Option ℕ) → p (entry.Poll timeout, []) ≡ true) →
+    ((side : SideId) (r w : Bool) → p (entry.Want side r w, []) ≡ true) →
+    ((side : SideId) (r w : Bool) → p (entry.Ready side r w, []) ≡ true) → p (entry.PollFailed, []) ≡ true →
+    (timeout : Option ℕ) (ws : List Want) (answer : Polled) → list_all p (poll_events timeout ws answer) ≡ true
+poll_all p poll want ready failed timeout ws (polled.Ready accept) = let one = poll timeout in
+    let rest = poll_rest p want ready failed ws (polled.Ready accept) in rw (one, rest)
+poll_all p poll want ready failed timeout ws polled.Failed = let one = poll timeout in
+    let rest = poll_rest p want ready failed ws polled.Failed in rw (one, rest)
 
 -- what the entries of a poll say of an end, but for what is wanted and marked: nothing
 record SaysNo (e : SideId) (u : Trace) : Type 0 where
@@ -246,14 +260,79 @@ record SaysNo (e : SideId) (u : Trace) : Type 0 where
   offer : sum_by (offered_by e) u ≡ 0
 
 says_cons : (e : SideId) (x : Event) (u : Trace) → is_named x ≡ true → SaysNo e u → SaysNo e (x ∷ u)
-says_cons e (entry.Poll timeout, b) u h c = record { got = c.got; took = c.took; made_connected = c.made_connected; ended = c.ended; connected = c.connected; write_ended = c.write_ended; closed = c.closed; reads = c.reads; writes = c.writes; checks = c.checks; room = c.room; offer = c.offer }
-says_cons e (entry.Want side r w, b) u h c = record { got = c.got; took = c.took; made_connected = c.made_connected; ended = c.ended; connected = c.connected; write_ended = c.write_ended; closed = c.closed; reads = c.reads; writes = c.writes; checks = c.checks; room = c.room; offer = c.offer }
-says_cons e (entry.Ready side r w, b) u h c = record { got = c.got; took = c.took; made_connected = c.made_connected; ended = c.ended; connected = c.connected; write_ended = c.write_ended; closed = c.closed; reads = c.reads; writes = c.writes; checks = c.checks; room = c.room; offer = c.offer }
-says_cons e (entry.PollFailed, b) u h c = record { got = c.got; took = c.took; made_connected = c.made_connected; ended = c.ended; connected = c.connected; write_ended = c.write_ended; closed = c.closed; reads = c.reads; writes = c.writes; checks = c.checks; room = c.room; offer = c.offer }
+says_cons e (entry.Poll timeout, b) u h c = record {
+  got = c.got;
+  took = c.took;
+  made_connected = c.made_connected;
+  ended = c.ended;
+  connected = c.connected;
+  write_ended = c.write_ended;
+  closed = c.closed;
+  reads = c.reads;
+  writes = c.writes;
+  checks = c.checks;
+  room = c.room;
+  offer = c.offer;
+}
+says_cons e (entry.Want side r w, b) u h c = record {
+  got = c.got;
+  took = c.took;
+  made_connected = c.made_connected;
+  ended = c.ended;
+  connected = c.connected;
+  write_ended = c.write_ended;
+  closed = c.closed;
+  reads = c.reads;
+  writes = c.writes;
+  checks = c.checks;
+  room = c.room;
+  offer = c.offer;
+}
+says_cons e (entry.Ready side r w, b) u h c = record {
+  got = c.got;
+  took = c.took;
+  made_connected = c.made_connected;
+  ended = c.ended;
+  connected = c.connected;
+  write_ended = c.write_ended;
+  closed = c.closed;
+  reads = c.reads;
+  writes = c.writes;
+  checks = c.checks;
+  room = c.room;
+  offer = c.offer;
+}
+says_cons e (entry.PollFailed, b) u h c = record {
+  got = c.got;
+  took = c.took;
+  made_connected = c.made_connected;
+  ended = c.ended;
+  connected = c.connected;
+  write_ended = c.write_ended;
+  closed = c.closed;
+  reads = c.reads;
+  writes = c.writes;
+  checks = c.checks;
+  room = c.room;
+  offer = c.offer;
+}
 says_cons e _ u h c = absurd (cc)
 
 says_none : (e : SideId) (u : Trace) → list_all is_named u ≡ true → SaysNo e u
-says_none e [] h = record { got = refl; took = refl; made_connected = refl; ended = refl; connected = refl; write_ended = refl; closed = refl; reads = refl; writes = refl; checks = refl; room = refl; offer = refl }
+says_none e [] h = record {
+  got = refl;
+  took = refl;
+  made_connected = refl;
+  ended = refl;
+  connected = refl;
+  write_ended = refl;
+  closed = refl;
+  reads = refl;
+  writes = refl;
+  checks = refl;
+  room = refl;
+  offer = refl;
+}
 says_none e (x ∷ u) h =
     let parts = and_parts (is_named x) (list_all is_named u) h in
     says_cons e x u parts.0 (says_none e u parts.1)
@@ -269,14 +348,16 @@ want_more f w ws = sum_by-cons (λ y. if f y then 1 else 0) w ws
 two_parts : (f : Event → Bool) (t u : Trace) → count_by f (t ++ u) ≡ count_by f t + count_by f u
 two_parts f t u = sum_by-append (λ y. if f y then 1 else 0) t u
 
-read_wants_are : (e : SideId) (ws : List Want) → count_by (wants_read_by e) (want_events ws) ≡ count_by (λ w. same_end w.side e && w.read) ws
+read_wants_are : (e : SideId) (ws : List Want) →
+    count_by (wants_read_by e) (want_events ws) ≡ count_by (λ w. same_end w.side e && w.read) ws
 read_wants_are e [] = refl
 read_wants_are e (w ∷ ws) =
     once_more (wants_read_by e) (entry.Want w.side w.read w.write, []) (want_events ws)
     ∙ ap (λ n. (if same_end w.side e && w.read then 1 else 0) + n) (read_wants_are e ws)
     ∙ sym (want_more (λ w. same_end w.side e && w.read) w ws)
 
-write_wants_are : (e : SideId) (ws : List Want) → count_by (wants_write_by e) (want_events ws) ≡ count_by (λ w. same_end w.side e && w.write) ws
+write_wants_are : (e : SideId) (ws : List Want) →
+    count_by (wants_write_by e) (want_events ws) ≡ count_by (λ w. same_end w.side e && w.write) ws
 write_wants_are e [] = refl
 write_wants_are e (w ∷ ws) =
     once_more (wants_write_by e) (entry.Want w.side w.read w.write, []) (want_events ws)
@@ -284,17 +365,20 @@ write_wants_are e (w ∷ ws) =
     ∙ sym (want_more (λ w. same_end w.side e && w.write) w ws)
 
 -- wants mark nothing, and marks want nothing
-wants_mark : (e : SideId) (ws : List Want) → (count_by (marks_read_by e) (want_events ws) ≡ 0) × (count_by (marks_write_by e) (want_events ws) ≡ 0)
+wants_mark : (e : SideId) (ws : List Want) → (count_by (marks_read_by e) (want_events ws) ≡ 0) ×
+    (count_by (marks_write_by e) (want_events ws) ≡ 0)
 wants_mark e [] = (refl, refl)
 wants_mark e (w ∷ ws) = wants_mark e ws
 
 one_mark : (e side : SideId) (r w : Bool) →
-    (count_by (marks_read_by e) (mark_events r w side) ≡ (if same_end side e && r then 1 else 0)) × (count_by (marks_write_by e) (mark_events r w side) ≡ (if same_end side e && w then 1 else 0))
+    (count_by (marks_read_by e) (mark_events r w side) ≡ (if same_end side e && r then 1 else 0)) ×
+    (count_by (marks_write_by e) (mark_events r w side) ≡ (if same_end side e && w then 1 else 0))
     × (count_by (wants_read_by e) (mark_events r w side) ≡ 0) × (count_by (wants_write_by e) (mark_events r w side) ≡ 0)
 one_mark e side r w = go (same_end side e) refl r w
   where
     go : (b : Bool) → same_end side e ≡ b → (r w : Bool) →
-        (count_by (marks_read_by e) (mark_events r w side) ≡ (if same_end side e && r then 1 else 0)) × (count_by (marks_write_by e) (mark_events r w side) ≡ (if same_end side e && w then 1 else 0))
+        (count_by (marks_read_by e) (mark_events r w side) ≡ (if same_end side e && r then 1 else 0)) ×
+        (count_by (marks_write_by e) (mark_events r w side) ≡ (if same_end side e && w then 1 else 0))
         × (count_by (wants_read_by e) (mark_events r w side) ≡ 0) × (count_by (wants_write_by e) (mark_events r w side) ≡ 0)
     go true h true true = rw h (refl, refl, refl, refl)
     go true h true false = rw h (refl, refl, refl, refl)
@@ -318,31 +402,57 @@ marks_are e (w ∷ ws) =
     let rest = marks_are e ws in
     let first = mark_events w.can_read w.can_write w.side in
     record {
-      read = two_parts (marks_read_by e) first (ready_events ws) ∙ (λ i. one.0 i + rest.read i) ∙ sym (want_more (λ w. same_end w.side e && w.can_read) w ws);
-      write = two_parts (marks_write_by e) first (ready_events ws) ∙ (λ i. one.1 i + rest.write i) ∙ sym (want_more (λ w. same_end w.side e && w.can_write) w ws);
-      want_read = (let p = two_parts (wants_read_by e) first (ready_events ws) in let a = one.2 in let b = rest.want_read in omega (arith, p, a, b));
-      want_write = (let p = two_parts (wants_write_by e) first (ready_events ws) in let a = one.3 in let b = rest.want_write in omega (arith, p, a, b));
+      read = two_parts (marks_read_by e) first (ready_events ws) ∙ (λ i. one.0 i + rest.read i)
+          ∙ sym (want_more (λ w. same_end w.side e && w.can_read) w ws);
+      write = two_parts (marks_write_by e) first (ready_events ws) ∙ (λ i. one.1 i + rest.write i)
+          ∙ sym (want_more (λ w. same_end w.side e && w.can_write) w ws);
+      want_read = (let p = two_parts (wants_read_by e) first (ready_events ws) in let a = one.2 in let b = rest.want_read in
+          omega (arith, p, a, b));
+      want_write = (let p = two_parts (wants_write_by e) first (ready_events ws) in let a = one.3 in let b = rest.want_write in
+          omega (arith, p, a, b));
     }
 
 count_none : (ws : List Want) → count_by (λ (w : Want). false) ws ≡ 0
 count_none [] = refl
 count_none (w ∷ ws) = count_none ws
 
-pub poll_says : (e : SideId) (timeout : Option ℕ) (ws : List Want) (answer : Polled) → step_of e (poll_events timeout ws answer) ≡ poll_step ws answer e
+pub poll_says : (e : SideId) (timeout : Option ℕ) (ws : List Want) (answer : Polled) →
+    step_of e (poll_events timeout ws answer) ≡ poll_step ws answer e
 poll_says e timeout ws (polled.Ready accept) =
     let u = poll_events timeout ws (polled.Ready accept) in
     let s = says_none e u (poll_all is_named (λ t. refl) (λ a b c. refl) (λ a b c. refl) refl timeout ws (polled.Ready accept)) in
     let m = marks_are e ws in
     let none = wants_mark e ws in
     let wanted_read : count_by (wants_read_by e) u ≡ count_by (λ (w : Want). same_end w.side e && w.read) ws =
-    (let p = two_parts (wants_read_by e) (want_events ws) (ready_events ws) in let a = read_wants_are e ws in let b = m.want_read in omega (arith, p, a, b)) in
+    (let p = two_parts (wants_read_by e) (want_events ws) (ready_events ws) in let a = read_wants_are e ws in
+    let b = m.want_read in omega (arith, p, a, b)) in
     let wanted_write : count_by (wants_write_by e) u ≡ count_by (λ (w : Want). same_end w.side e && w.write) ws =
-    (let p = two_parts (wants_write_by e) (want_events ws) (ready_events ws) in let a = write_wants_are e ws in let b = m.want_write in omega (arith, p, a, b)) in
+    (let p = two_parts (wants_write_by e) (want_events ws) (ready_events ws) in let a = write_wants_are e ws in
+    let b = m.want_write in omega (arith, p, a, b)) in
     let marked_read : count_by (marks_read_by e) u ≡ count_by (λ (w : Want). same_end w.side e && w.can_read) ws =
-    (let p = two_parts (marks_read_by e) (want_events ws) (ready_events ws) in let a = none.0 in let b = m.read in omega (arith, p, a, b)) in
+    (let p = two_parts (marks_read_by e) (want_events ws) (ready_events ws) in let a = none.0 in let b = m.read in
+    omega (arith, p, a, b)) in
     let marked_write : count_by (marks_write_by e) u ≡ count_by (λ (w : Want). same_end w.side e && w.can_write) ws =
-    (let p = two_parts (marks_write_by e) (want_events ws) (ready_events ws) in let a = none.1 in let b = m.write in omega (arith, p, a, b)) in
-    λ i. record { got = s.got i; took = s.took i; made_connected = s.made_connected i; ended = s.ended i; connected = s.connected i; write_ended = s.write_ended i; closed = s.closed i; reads = s.reads i; writes = s.writes i; checks = s.checks i; room = s.room i; offer = s.offer i; read_wants = wanted_read i; write_wants = wanted_write i; read_marks = marked_read i; write_marks = marked_write i }
+    (let p = two_parts (marks_write_by e) (want_events ws) (ready_events ws) in let a = none.1 in let b = m.write in
+    omega (arith, p, a, b)) in
+    λ i. record {
+      got = s.got i;
+      took = s.took i;
+      made_connected = s.made_connected i;
+      ended = s.ended i;
+      connected = s.connected i;
+      write_ended = s.write_ended i;
+      closed = s.closed i;
+      reads = s.reads i;
+      writes = s.writes i;
+      checks = s.checks i;
+      room = s.room i;
+      offer = s.offer i;
+      read_wants = wanted_read i;
+      write_wants = wanted_write i;
+      read_marks = marked_read i;
+      write_marks = marked_write i;
+    }
 poll_says e timeout ws polled.Failed =
     let u = poll_events timeout ws polled.Failed in
     let last : Trace = (entry.PollFailed, []) ∷ [] in
@@ -357,4 +467,21 @@ poll_says e timeout ws polled.Failed =
     (let p = two_parts (marks_read_by e) (want_events ws) last in let a = none.0 in omega (arith, p, a, unmarked)) in
     let marked_write : count_by (marks_write_by e) u ≡ count_by (λ (w : Want). false) ws =
     (let p = two_parts (marks_write_by e) (want_events ws) last in let a = none.1 in omega (arith, p, a, unmarked)) in
-    λ i. record { got = s.got i; took = s.took i; made_connected = s.made_connected i; ended = s.ended i; connected = s.connected i; write_ended = s.write_ended i; closed = s.closed i; reads = s.reads i; writes = s.writes i; checks = s.checks i; room = s.room i; offer = s.offer i; read_wants = wanted_read i; write_wants = wanted_write i; read_marks = marked_read i; write_marks = marked_write i }
+    λ i. record {
+      got = s.got i;
+      took = s.took i;
+      made_connected = s.made_connected i;
+      ended = s.ended i;
+      connected = s.connected i;
+      write_ended = s.write_ended i;
+      closed = s.closed i;
+      reads = s.reads i;
+      writes = s.writes i;
+      checks = s.checks i;
+      room = s.room i;
+      offer = s.offer i;
+      read_wants = wanted_read i;
+      write_wants = wanted_write i;
+      read_marks = marked_read i;
+      write_marks = marked_write i;
+    }

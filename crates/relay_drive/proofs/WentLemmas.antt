@@ -1,25 +1,29 @@
 -- What a run does is what its drive does.
 use Rattle.std.proofs.Common.{◌≡◌, Bool, ◌++◌, Option, sym, subst, arith, length-append}
 use Rattle.ev_types.specs.Trace.{Trace}
-use Rattle.ev_port.specs.Told.{Faults}
+use Rattle.ev_port.specs.Faults.{Faults}
 use Rattle.relay_core.specs.State.{State}
 use Rattle.relay_drive.specs.declared.fault.DriveFault.{DriveFault}
 use Rattle.relay_drive.specs.declared.run.Run.{Run}
 use Rattle.relay_drive.specs.DriveValue.{DriveValue}
-use Rattle.relay_drive.specs.Goes.{Goes}
-use Rattle.relay_drive.specs.Stands.{StandsBetween, Went}
+use Rattle.relay_drive.specs.Advances.{Advances}
+use Rattle.relay_drive.specs.DriveStands.{StandsBetween, DriveWent}
 use Rattle.relay_drive.proofs.GoesLemmas.{Known}
 
 -- a run with a kept refusal
 abbrev pub drive_value : Run → Option DriveFault → DriveValue
 drive_value run r = record { state = run.relay.state; entries = run.entries; refusal = r }
 
-pub went_of : {R : State → Trace → State → Type 0} {After : Trace → State → Type 0} → ((t : Trace) (s new : State) (a : Trace) → StandsBetween t s → R s a new → After (t ++ a) new) →
-    {failed : Bool} {old new : DriveValue} {run run' : Run} {log log' : Option Trace} {v v' : Known} {f f' : Faults} (r r' : Option DriveFault) →
-    old ≡ drive_value run r → new ≡ drive_value run' r' → Goes R failed run run' log log' v v' f f' → Went R After failed old new log log' v v' f f'
-went_of {R = R} {After = After} law {failed = failed} {new = new} {run = run} {run' = run'} {log = log} {log' = log'} {v = v} {v' = v'} {f = f} {f' = f'} r r' p q g =
-    subst (λ z. Went R After failed z new log log' v v' f f') (sym p)
-    (subst (λ z. Went R After failed (drive_value run r) z log log' v v' f f') (sym q) (record {
+pub went_of : {Plan : Type 0} → {R : State → Trace → State → Type 0} {After : Trace → State → Type 0} →
+    ((t : Trace) (s new : State) (a : Trace) → StandsBetween t s → R s a new → After (t ++ a) new) →
+    {failed : Bool} {old new : DriveValue} {run run' : Run} {log log' : Option Trace} {v v' : Known Plan} {f f' : Faults}
+    (r r' : Option DriveFault) →
+    old ≡ drive_value run r → new ≡ drive_value run' r' → Advances R failed run run' log log' v v' f f' →
+    DriveWent R After failed old new log log' v v' f f'
+went_of {R = R} {After = After} law {failed = failed} {new = new} {run = run} {run' = run'} {log = log} {log' = log'} {v = v}
+    {v' = v'} {f = f} {f' = f'} r r' p q g =
+    subst (λ z. DriveWent R After failed z new log log' v v' f f') (sym p)
+    (subst (λ z. DriveWent R After failed (drive_value run r) z log log' v v' f f') (sym q) (record {
       added = g.added;
       does = g.does;
       means = λ t k. law t run.relay.state run'.relay.state g.added k g.does;

@@ -7,7 +7,7 @@ use Rattle.relay_core.specs.declared.settings.Settings.{Settings}
 use Rattle.relay_core.specs.State.{State, Lane, SideValue, no_side}
 use Rattle.relay_drive.specs.DriveValue.{DriveValue, new_drive, is_worn}
 use Rattle.relay_drive.specs.Phases.{Turns}
-use Rattle.relay_drive.specs.Stands.{Stands}
+use Rattle.relay_drive.specs.DriveStands.{DriveStands}
 
 -- Each count of a direction, with the bytes that wait in front of it, is at most the count before it, and the first of
 -- these is what was read.
@@ -44,7 +44,8 @@ NewDriveIsWithin = (settings : Settings) → IsWithin 0 settings.links (new_driv
 -- A turn that goes through its phases raises the bound by no more than that, and the settings stay.
 abbrev pub TurnIsBounded : Type 0
 TurnIsBounded =
-    (n links : ℕ) (old new : DriveValue) (t a : Trace) → IsWithin n links old → Turns old.state a new.state → Stands t old → Stands (t ++ a) new →
+    (n links : ℕ) (old new : DriveValue) (t a : Trace) → IsWithin n links old → Turns old.state a new.state → DriveStands t old →
+    DriveStands (t ++ a) new →
     IsWithin (n + most_of_turn links) links new × (new.state.settings ≡ old.state.settings)
 
 -- A drive within less than 2^62 has not come too far for a turn.

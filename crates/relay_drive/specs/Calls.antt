@@ -26,7 +26,7 @@ pub record Opens (connected : Bool) (s : State) (a : Trace) (new : State) : Type
   pub state : new ≡ after_opened s connected
 
 -- A side's end was asked whether it is connected.
-pub record Asks (e : SideId) (answer : ConnAnswer) (s : State) (a : Trace) (new : State) : Type 0 where
+pub record Checks (e : SideId) (answer : ConnAnswer) (s : State) (a : Trace) (new : State) : Type 0 where
   pub entries : a ≡ conn_events e answer
   pub state : new ≡ after_conn s e answer
 

@@ -4,7 +4,7 @@ use Rattle.ev_types.specs.declared.side.SideId.{SideId}
 use Rattle.ev_types.specs.declared.entry.Entry.TheVariants as entry
 use Rattle.ev_types.specs.Sides.{same_end}
 use Rattle.ev_types.specs.Trace.{Trace}
-use Rattle.ev_port.specs.Told.{EndStep, no_step}
+use Rattle.ev_port.specs.EndSteps.{EndStep, no_step}
 use Rattle.ev_port.specs.Ends.{close_write_step, close_step}
 use Rattle.relay_core.specs.declared.close.Closing.{Closing}
 use Rattle.relay_core.specs.declared.close.Closing.TheVariants as closing

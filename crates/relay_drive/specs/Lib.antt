@@ -6,8 +6,9 @@ pub mod PassPhase
 pub mod ClosePhase
 pub mod Phases
 pub mod Known
-pub mod Goes
+pub mod Advances
 pub mod DriveValue
 pub mod DriveView
-pub mod Stands
+pub mod DriveStands
+pub mod Moves
 pub mod Bounds

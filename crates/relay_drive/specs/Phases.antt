@@ -8,7 +8,7 @@ use Rattle.relay_drive.specs.declared.fault.DriveFault.TheVariants as fault
 use Rattle.relay_drive.specs.Steps.{Nothing, Then, Each, CutAt}
 use Rattle.relay_drive.specs.Calls.{Ticks}
 pub use Rattle.relay_drive.specs.Steps.{links_from}
-pub use Rattle.relay_drive.specs.PollPhase.{want_of, wants_some, wants_of, wants_of_link, wants_of_links, wanted, can_open, Polls, PollFails, CutPoll, OpensOne, OpensSome, Accepts, AcceptsMore, AcceptsWhere, PollsAndAccepts, CutAccepting, CutPolling}
+pub use Rattle.relay_drive.specs.PollPhase.{want_of, wants_some, wants_of, wants_of_link, wants_of_links, wanted, can_open, Polls, PollFails, CutPoll, OpensOne, OpensWhere, OpensSome, AcceptsLinks, AcceptsMore, AcceptsWhere, PollsAndAccepts, CutAccepting, CutPolling}
 pub use Rattle.relay_drive.specs.ServePhase.{ReadsWithRoom, ReadsSide, WritesSide, ConnectsSide, is_connecting, ServesSide, CutServing, AllOpened}
 pub use Rattle.relay_drive.specs.PassPhase.{PassesSide, CutPassing, PassesLink, CutPassingLink, ForAllLinks, CutForAllLinks}
 pub use Rattle.relay_drive.specs.ClosePhase.{told_events, told_step, Closes, LooksAt, ClosesLink, CutClosingLink}
@@ -23,14 +23,20 @@ TicksOnce s a new = (reading : ℕ) × Ticks reading s a new
 
 -- a turn goes through its phases with some marks
 abbrev pub Turns : State → Trace → State → Type 0
-Turns s a new = (reading : ℕ) × (marked : List Want) × Then (Ticks reading) (Then (PollsAndAccepts marked) (Then (Each ServesSide marked) (Then (ForAllLinks PassesLink) (ForAllLinks ClosesLink)))) s a new
+Turns s a new = (reading : ℕ) × (marked : List Want) ×
+    Then (Ticks reading) (Then (PollsAndAccepts marked)
+    (Then (Each ServesSide marked) (Then (ForAllLinks PassesLink) (ForAllLinks ClosesLink)))) s a new
 
 -- a turn is cut off behind its phases, in the poll or behind it
 pub data CutTurn : DriveFault → State → Trace → State → Type 0 where
   before : {s new : State} {a : Trace} → Nothing s a new → CutTurn fault.Memory s a new
   in_poll : {f : DriveFault} {s new : State} {a : Trace} (reading : ℕ) → Then (Ticks reading) (CutPolling f) s a new → CutTurn f s a new
-  in_serving : {s new : State} {a : Trace} (reading : ℕ) (marked : List Want) → Then (Ticks reading) (Then (PollsAndAccepts marked) (CutAt ServesSide CutServing marked)) s a new → CutTurn fault.Memory s a new
+  in_serving : {s new : State} {a : Trace} (reading : ℕ) (marked : List Want) →
+      Then (Ticks reading) (Then (PollsAndAccepts marked) (CutAt ServesSide CutServing marked)) s a new → CutTurn fault.Memory s a new
   in_passing : {s new : State} {a : Trace} (reading : ℕ) (marked : List Want) →
-      Then (Ticks reading) (Then (PollsAndAccepts marked) (Then (Each ServesSide marked) (CutForAllLinks PassesLink CutPassingLink))) s a new → CutTurn fault.Memory s a new
+      Then (Ticks reading) (Then (PollsAndAccepts marked)
+      (Then (Each ServesSide marked) (CutForAllLinks PassesLink CutPassingLink))) s a new → CutTurn fault.Memory s a new
   in_closing : {s new : State} {a : Trace} (reading : ℕ) (marked : List Want) →
-      Then (Ticks reading) (Then (PollsAndAccepts marked) (Then (Each ServesSide marked) (Then (ForAllLinks PassesLink) (CutForAllLinks ClosesLink CutClosingLink)))) s a new → CutTurn fault.Memory s a new
+      Then (Ticks reading) (Then (PollsAndAccepts marked)
+      (Then (Each ServesSide marked) (Then (ForAllLinks PassesLink) (CutForAllLinks ClosesLink CutClosingLink)))) s a new →
+      CutTurn fault.Memory s a new

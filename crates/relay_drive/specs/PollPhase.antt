@@ -71,21 +71,25 @@ CutPoll fault.Spent s a new = ⊥
 abbrev pub OpensOne : State → Trace → State → Type 0
 OpensOne s a new = (connected : Bool) × Opens connected s a new
 
+-- a link was opened, or there was none
+abbrev pub OpensWhere : Bool → State → Trace → State → Type 0
+OpensWhere more s a new = MatchBool more (OpensOne s a new) (Nothing s a new)
+
 -- so many links were opened
 abbrev pub OpensSome : ℕ → State → Trace → State → Type 0
 OpensSome zero s a new = Nothing s a new
 OpensSome (suc n) s a new = Then (OpensSome n) OpensOne s a new
 
 -- at most 64 links were opened
-abbrev pub Accepts : State → Trace → State → Type 0
-Accepts s a new = (n : ℕ) × (n ≤ 64) × OpensSome n s a new
+abbrev pub AcceptsLinks : State → Trace → State → Type 0
+AcceptsLinks s a new = (n : ℕ) × (n ≤ 64) × OpensSome n s a new
 
 -- links were opened, and one more was allowed
 abbrev pub AcceptsMore : State → Trace → State → Type 0
 AcceptsMore s a new = (n : ℕ) × (n < 64) × (new.opened < new.settings.links) × OpensSome n s a new
 
 abbrev pub AcceptsWhere : Bool → State → Trace → State → Type 0
-AcceptsWhere ready s a new = MatchBool ready (Accepts s a new) (Nothing s a new)
+AcceptsWhere ready s a new = MatchBool ready (AcceptsLinks s a new) (Nothing s a new)
 
 -- the poll, and links where they are ready
 abbrev pub PollsAndAccepts : List Want → State → Trace → State → Type 0

@@ -9,7 +9,7 @@ use Rattle.ev_port.specs.declared.port.Want.{Want}
 use Rattle.relay_core.specs.State.{State, flags_at}
 use Rattle.relay_core.specs.Rooms.{read_room, wants_read, write_room}
 use Rattle.relay_drive.specs.Steps.{Nothing, Then}
-use Rattle.relay_drive.specs.Calls.{Asks, Reads, Writes}
+use Rattle.relay_drive.specs.Calls.{Checks, Reads, Writes}
 
 -- a side that is marked and has read room is read once with exactly that room
 abbrev pub ReadsWithRoom : SideId → State → Trace → State → Type 0
@@ -20,18 +20,20 @@ ReadsSide e marked s a new = MatchBool (marked && wants_read s e) (ReadsWithRoom
 
 -- a side that is marked and has write room is given exactly that many bytes
 abbrev pub WritesSide : SideId → Bool → State → Trace → State → Type 0
-WritesSide e marked s a new = MatchBool (marked && nat_lt 0 (write_room s e)) ((answer : WriteAnswer) × Writes e answer s a new) (Nothing s a new)
+WritesSide e marked s a new = MatchBool (marked && nat_lt 0 (write_room s e)) ((answer : WriteAnswer) × Writes e answer s a new)
+    (Nothing s a new)
 
 -- a connecting side that is marked for writing is asked for its state
 abbrev pub ConnectsSide : SideId → Bool → State → Trace → State → Type 0
-ConnectsSide e marked s a new = MatchBool marked ((answer : ConnAnswer) × Asks e answer s a new) (Nothing s a new)
+ConnectsSide e marked s a new = MatchBool marked ((answer : ConnAnswer) × Checks e answer s a new) (Nothing s a new)
 
 abbrev pub is_connecting : State → SideId → Bool
 is_connecting s e = (flags_at s e).live && (flags_at s e).connecting
 
 abbrev pub ServesSide : Want → State → Trace → State → Type 0
 ServesSide w s a new =
-    MatchBool (is_connecting s w.side) (ConnectsSide w.side w.can_write s a new) (Then (ReadsSide w.side w.can_read) (WritesSide w.side w.can_write) s a new)
+    MatchBool (is_connecting s w.side) (ConnectsSide w.side w.can_write s a new)
+    (Then (ReadsSide w.side w.can_read) (WritesSide w.side w.can_write) s a new)
 
 -- serving a side was cut off: before its call, or between its read and its write
 abbrev pub CutServing : Want → State → Trace → State → Type 0

@@ -1,10 +1,10 @@
 // Accepting links.
-ghost use Rattle.std.specs.Prelude.{◌≡◌, ◌⊎◌, ◌+◌, ◌<◌, ◌≤◌, false, true, if◌then◌else◌, MatchBool, MatchResult};
+ghost use Rattle.std.specs.Prelude.{◌≡◌, ◌⊎◌, ◌+◌, ◌<◌, ◌≤◌, false, true, if◌then◌else◌, MatchResult};
 ghost use Rattle.relay_drive.specs.declared.fault.DriveFault.TheVariants.{Memory, OpenFault};
 ghost use Rattle.relay_drive.specs.Steps.{Nothing};
-ghost use Rattle.relay_drive.specs.Phases.{OpensOne, Accepts, AcceptsMore, AcceptsWhere, is_open_fault};
-ghost use Rattle.relay_drive.specs.Known.{known, Progress};
-ghost use Rattle.relay_drive.specs.Goes.{Goes};
+ghost use Rattle.relay_drive.specs.Phases.{OpensWhere, AcceptsLinks, AcceptsMore, is_open_fault};
+ghost use Rattle.relay_drive.specs.Known.{Point, accepting_if};
+ghost use Rattle.relay_drive.specs.Moves.{Moves, GetsTo, OnlyForMemoryOrListener};
 
 use crate::fault::DriveFault;
 use crate::run::{Run, put};
@@ -22,12 +22,14 @@ fn accept_one<P: Port, S: Scribe>(
 ) -> Result<bool, DriveFault>
     requires { run.old.relay.state.opened < run.old.relay.state.settings.links }
     ensures went { MatchResult result
-        (λ more. Goes (λ s a new. MatchBool more (OpensOne s a new) (Nothing s a new)) false run.old run.new (S.trace scribe.old) (S.trace scribe.new)
-        (known Progress.Accepting (P.vouches port.old) (P.told port.old) (P.ends port.old)) (known (if more then Progress.Accepting else Progress.Accepted) (P.vouches port.new) (P.told port.new) (P.ends port.new)) (P.faults port.old) (P.faults port.new))
-        (λ fault. Goes Nothing (is_open_fault fault) run.old run.new (S.trace scribe.old) (S.trace scribe.new)
-        (known Progress.Accepting (P.vouches port.old) (P.told port.old) (P.ends port.old)) (known Progress.Accepting (P.vouches port.new) (P.told port.new) (P.ends port.new)) (P.faults port.old) (P.faults port.new)) }
-    ensures grown { MatchResult result (λ more. run.new.relay.state.opened ≡ run.old.relay.state.opened + (if more then 1 else 0)) (λ _. run.new.relay.state.opened ≡ run.old.relay.state.opened) }
-    ensures cause { MatchResult result (λ _. Unit {0}) (λ fault. (fault ≡ Memory) ⊎ (fault ≡ OpenFault)) }
+        (λ more. Moves P.Port S.Scribe Point.Accepting (accepting_if more) false (OpensWhere more)
+        (run.old, port.old, scribe.old) (run.new, port.new, scribe.new))
+        (λ fault. Moves P.Port S.Scribe Point.Accepting Point.Accepting (is_open_fault fault) Nothing
+        (run.old, port.old, scribe.old) (run.new, port.new, scribe.new)) }
+    ensures grown { MatchResult result
+        (λ more. run.new.relay.state.opened ≡ run.old.relay.state.opened + (if more then 1 else 0))
+        (λ _. run.new.relay.state.opened ≡ run.old.relay.state.opened) }
+    ensures cause { OnlyForMemoryOrListener result }
 {
     run.relay.reserve_link()?;
     scribe.reserve(1, 0)?;
@@ -50,14 +52,15 @@ fn accept_one<P: Port, S: Scribe>(
 }
 
 /// Accepts links until the port has none, 64 were opened or no more are allowed.
-fn accept<P: Port, S: Scribe>(run: &mut Run, port: &mut P, scribe: &mut S) -> Result<(), DriveFault>
-    ensures went { MatchResult result
-        (λ _. Goes Accepts false run.old run.new (S.trace scribe.old) (S.trace scribe.new)
-        (known Progress.Begun (P.vouches port.old) (P.told port.old) (P.ends port.old)) (known Progress.Accepted (P.vouches port.new) (P.told port.new) (P.ends port.new)) (P.faults port.old) (P.faults port.new))
-        (λ fault. Goes AcceptsMore (is_open_fault fault) run.old run.new (S.trace scribe.old) (S.trace scribe.new)
-        (known Progress.Begun (P.vouches port.old) (P.told port.old) (P.ends port.old)) (known Progress.Accepting (P.vouches port.new) (P.told port.new) (P.ends port.new)) (P.faults port.old) (P.faults port.new)) }
+pub(crate) fn accept<P: Port, S: Scribe>(
+    run: &mut Run,
+    port: &mut P,
+    scribe: &mut S,
+) -> Result<(), DriveFault>
+    ensures went { GetsTo P.Port S.Scribe result Point.Begun Point.Accepted (λ _. AcceptsLinks) (λ _. AcceptsMore)
+        (run.old, port.old, scribe.old) (run.new, port.new, scribe.new) }
     ensures grown { run.old.relay.state.opened ≤ run.new.relay.state.opened }
-    ensures cause { MatchResult result (λ _. Unit {0}) (λ fault. (fault ≡ Memory) ⊎ (fault ≡ OpenFault)) }
+    ensures cause { OnlyForMemoryOrListener result }
 {
     for _ in 0..MOST_OPENED {
         if !run.relay.can_open() {
@@ -68,25 +71,4 @@ fn accept<P: Port, S: Scribe>(run: &mut Run, port: &mut P, scribe: &mut S) -> Re
         }
     }
     Ok(())
-}
-
-/// Accepts links, where they are ready.
-pub(crate) fn accept_ready<P: Port, S: Scribe>(
-    run: &mut Run,
-    ready: bool,
-    port: &mut P,
-    scribe: &mut S,
-) -> Result<(), DriveFault>
-    ensures went { MatchResult result
-        (λ _. Goes (AcceptsWhere ready) false run.old run.new (S.trace scribe.old) (S.trace scribe.new)
-        (known (if ready then Progress.Begun else Progress.Accepted) (P.vouches port.old) (P.told port.old) (P.ends port.old)) (known Progress.Accepted (P.vouches port.new) (P.told port.new) (P.ends port.new)) (P.faults port.old) (P.faults port.new))
-        (λ fault. Goes (λ s a new. (ready ≡ true) × AcceptsMore s a new) (is_open_fault fault) run.old run.new (S.trace scribe.old) (S.trace scribe.new)
-        (known (if ready then Progress.Begun else Progress.Accepted) (P.vouches port.old) (P.told port.old) (P.ends port.old)) (known Progress.Accepting (P.vouches port.new) (P.told port.new) (P.ends port.new)) (P.faults port.old) (P.faults port.new)) }
-    ensures grown { run.old.relay.state.opened ≤ run.new.relay.state.opened }
-    ensures cause { MatchResult result (λ _. Unit {0}) (λ fault. (fault ≡ Memory) ⊎ (fault ≡ OpenFault)) }
-{
-    if !ready {
-        return Ok(());
-    }
-    accept(run, port, scribe)
 }

@@ -1,13 +1,12 @@
 // One call of the port for one side, with room made before for all that it may bring.
-ghost use Rattle.std.specs.Prelude.{◌≡◌, ◌<◌, ◌≤◌, false, length, MatchResult};
+ghost use Rattle.std.specs.Prelude.{◌≡◌, ◌<◌, ◌≤◌, false, length};
 ghost use Rattle.relay_core.specs.Rooms.{offer};
 ghost use Rattle.relay_drive.specs.declared.fault.DriveFault.TheVariants.{Memory};
 ghost use Rattle.relay_drive.specs.Steps.{Nothing};
-ghost use Rattle.relay_drive.specs.Calls.{Asks, Reads, Writes, HasBytes, is_memory, after_read, after_write, after_conn};
+ghost use Rattle.relay_drive.specs.Calls.{Checks, Reads, Writes, HasBytes, is_memory, after_read, after_write, after_conn};
 ghost use Rattle.ev_port.specs.Ends.{ReadWithin, got_bytes, WriteWithin, took_bytes};
 ghost use Rattle.relay_core.specs.State.{spare_read};
-ghost use Rattle.relay_drive.specs.Known.{known, Progress};
-ghost use Rattle.relay_drive.specs.Goes.{Goes};
+ghost use Rattle.relay_drive.specs.Moves.{Does, OnlyForMemory};
 
 use crate::fault::DriveFault;
 use crate::run::{Run, put};
@@ -25,12 +24,9 @@ pub(crate) fn ask_read<P: Port, S: Scribe>(
 ) -> Result<ReadAnswer, DriveFault>
     requires opened { side.link < run.old.relay.state.opened }
     requires some { 0 < length into.old }
-    ensures went { MatchResult result
-        (λ answer. Goes (Reads side answer into.new) false run.old run.new (S.trace scribe.old) (S.trace scribe.new)
-        (known Progress.Accepted (P.vouches port.old) (P.told port.old) (P.ends port.old)) (known Progress.Accepted (P.vouches port.new) (P.told port.new) (P.ends port.new)) (P.faults port.old) (P.faults port.new))
-        (λ _. Goes Nothing false run.old run.new (S.trace scribe.old) (S.trace scribe.new)
-        (known Progress.Accepted (P.vouches port.old) (P.told port.old) (P.ends port.old)) (known Progress.Accepted (P.vouches port.new) (P.told port.new) (P.ends port.new)) (P.faults port.old) (P.faults port.new)) }
-    ensures cause { MatchResult result (λ _. Unit {0}) (λ fault. fault ≡ Memory) }
+    ensures went { Does P.Port S.Scribe result (λ answer. Reads side answer into.new) Nothing
+        (run.old, port.old, scribe.old) (run.new, port.new, scribe.new) }
+    ensures cause { OnlyForMemory result }
 {
     run.relay.reserve_read(side, into.len())?;
     scribe.reserve(1, into.len())?;
@@ -83,12 +79,9 @@ pub(crate) fn ask_write<P: Port, S: Scribe>(
 ) -> Result<WriteAnswer, DriveFault>
     requires opened { side.link < run.old.relay.state.opened }
     requires some { 0 < length (offer run.old.relay.state side) }
-    ensures went { MatchResult result
-        (λ answer. Goes (Writes side answer) false run.old run.new (S.trace scribe.old) (S.trace scribe.new)
-        (known Progress.Accepted (P.vouches port.old) (P.told port.old) (P.ends port.old)) (known Progress.Accepted (P.vouches port.new) (P.told port.new) (P.ends port.new)) (P.faults port.old) (P.faults port.new))
-        (λ _. Goes Nothing false run.old run.new (S.trace scribe.old) (S.trace scribe.new)
-        (known Progress.Accepted (P.vouches port.old) (P.told port.old) (P.ends port.old)) (known Progress.Accepted (P.vouches port.new) (P.told port.new) (P.ends port.new)) (P.faults port.old) (P.faults port.new)) }
-    ensures cause { MatchResult result (λ _. Unit {0}) (λ fault. fault ≡ Memory) }
+    ensures went { Does P.Port S.Scribe result (λ answer. Writes side answer) Nothing
+        (run.old, port.old, scribe.old) (run.new, port.new, scribe.new) }
+    ensures cause { OnlyForMemory result }
 {
     let offer = run.relay.offer(side);
     let offered = offer.len();
@@ -150,12 +143,9 @@ pub(crate) fn ask_connect<P: Port, S: Scribe>(
     scribe: &mut S,
 ) -> Result<ConnAnswer, DriveFault>
     requires opened { side.link < run.old.relay.state.opened }
-    ensures went { MatchResult result
-        (λ answer. Goes (Asks side answer) false run.old run.new (S.trace scribe.old) (S.trace scribe.new)
-        (known Progress.Accepted (P.vouches port.old) (P.told port.old) (P.ends port.old)) (known Progress.Accepted (P.vouches port.new) (P.told port.new) (P.ends port.new)) (P.faults port.old) (P.faults port.new))
-        (λ _. Goes Nothing false run.old run.new (S.trace scribe.old) (S.trace scribe.new)
-        (known Progress.Accepted (P.vouches port.old) (P.told port.old) (P.ends port.old)) (known Progress.Accepted (P.vouches port.new) (P.told port.new) (P.ends port.new)) (P.faults port.old) (P.faults port.new)) }
-    ensures cause { MatchResult result (λ _. Unit {0}) (λ fault. fault ≡ Memory) }
+    ensures went { Does P.Port S.Scribe result (λ answer. Checks side answer) Nothing
+        (run.old, port.old, scribe.old) (run.new, port.new, scribe.new) }
+    ensures cause { OnlyForMemory result }
 {
     scribe.reserve(1, 0)?;
     let answer = port.connect_state(side);

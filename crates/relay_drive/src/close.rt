@@ -1,18 +1,16 @@
 // Closing what is to be closed of each link.
-ghost use Rattle.std.specs.Prelude.{◌≡◌, ◌+◌, ◌<◌, ◌≤◌, false, true, [], ◌∷◌, length, MatchResult};
+ghost use Rattle.std.specs.Prelude.{◌≡◌, ◌+◌, ◌<◌, ◌≤◌, [], ◌∷◌, length};
 ghost use Rattle.ev_types.specs.Growth.{Grew};
 ghost use Rattle.ev_port.specs.Vouching.{LongerBy};
 ghost use Rattle.ev_types.specs.declared.entry.Entry.{Entry as EntryValue};
 ghost use Rattle.ev_port.specs.Calls.{IsUnheard};
 ghost use Rattle.ev_port.specs.Counting.{counted};
 ghost use Rattle.ev_port.specs.Faults.{FaultsStay};
-ghost use Rattle.ev_port.specs.Told.{AllWent, PortStays};
-ghost use Rattle.relay_core.specs.Closing.{link_of, is_called_for, closing_of};
-ghost use Rattle.relay_drive.specs.declared.fault.DriveFault.TheVariants.{Memory};
-ghost use Rattle.relay_drive.specs.Steps.{Nothing, CutAt};
+ghost use Rattle.ev_port.specs.EndSteps.{AllWent, PortStays};
+ghost use Rattle.relay_core.specs.Closing.{link_of_step};
+ghost use Rattle.relay_drive.specs.Steps.{Nothing};
 ghost use Rattle.relay_drive.specs.Phases.{freed_event, closing_events, told_events, told_step, Closes, LooksAt, ClosesLink, CutClosingLink, ForAllLinks, CutForAllLinks};
-ghost use Rattle.relay_drive.specs.Known.{known, Progress};
-ghost use Rattle.relay_drive.specs.Goes.{Goes};
+ghost use Rattle.relay_drive.specs.Moves.{Does, OnlyForMemory};
 
 use crate::fault::DriveFault;
 use crate::run::{Run, put};
@@ -59,7 +57,7 @@ fn tell<P: Port>(step: Closing, port: &mut P)
 
 /// Puts the entries of a step of closing, in room that was made before.
 fn put_closing<S: Scribe>(run: &mut Run, step: Closing, scribe: &mut S)
-    requires opened { link_of step < run.old.relay.state.opened }
+    requires opened { link_of_step step < run.old.relay.state.opened }
     requires room { 2 ≤ S.spare_entries scribe.old }
     ensures relay { run.new.relay ≡ run.old.relay }
     ensures counted { counted run.new.entries 0 ≡ counted run.old.entries (length (closing_events run.old.relay.state step)) }
@@ -90,14 +88,11 @@ fn close_step<P: Port, S: Scribe>(
     port: &mut P,
     scribe: &mut S,
 ) -> Result<(), DriveFault>
-    requires { link_of step < run.old.relay.state.opened }
-    ensures went { MatchResult result
-        (λ _. Goes (LooksAt step) false run.old run.new (S.trace scribe.old) (S.trace scribe.new)
-        (known Progress.Accepted (P.vouches port.old) (P.told port.old) (P.ends port.old)) (known Progress.Accepted (P.vouches port.new) (P.told port.new) (P.ends port.new)) (P.faults port.old) (P.faults port.new))
-        (λ _. Goes Nothing false run.old run.new (S.trace scribe.old) (S.trace scribe.new)
-        (known Progress.Accepted (P.vouches port.old) (P.told port.old) (P.ends port.old)) (known Progress.Accepted (P.vouches port.new) (P.told port.new) (P.ends port.new)) (P.faults port.old) (P.faults port.new)) }
+    requires { link_of_step step < run.old.relay.state.opened }
+    ensures went { Does P.Port S.Scribe result (λ _. LooksAt step) Nothing
+        (run.old, port.old, scribe.old) (run.new, port.new, scribe.new) }
     ensures kept { run.new.relay.state.opened ≡ run.old.relay.state.opened }
-    ensures cause { MatchResult result (λ _. Unit {0}) (λ fault. fault ≡ Memory) }
+    ensures cause { OnlyForMemory result }
 {
     if !run.relay.calls_for(step) {
         return Ok(());
@@ -117,13 +112,10 @@ fn close_link<P: Port, S: Scribe>(
     scribe: &mut S,
 ) -> Result<(), DriveFault>
     requires { link < run.old.relay.state.opened }
-    ensures went { MatchResult result
-        (λ _. Goes (ClosesLink link) false run.old run.new (S.trace scribe.old) (S.trace scribe.new)
-        (known Progress.Accepted (P.vouches port.old) (P.told port.old) (P.ends port.old)) (known Progress.Accepted (P.vouches port.new) (P.told port.new) (P.ends port.new)) (P.faults port.old) (P.faults port.new))
-        (λ _. Goes (CutClosingLink link) false run.old run.new (S.trace scribe.old) (S.trace scribe.new)
-        (known Progress.Accepted (P.vouches port.old) (P.told port.old) (P.ends port.old)) (known Progress.Accepted (P.vouches port.new) (P.told port.new) (P.ends port.new)) (P.faults port.old) (P.faults port.new)) }
+    ensures went { Does P.Port S.Scribe result (λ _. ClosesLink link) (CutClosingLink link)
+        (run.old, port.old, scribe.old) (run.new, port.new, scribe.new) }
     ensures kept { run.new.relay.state.opened ≡ run.old.relay.state.opened }
-    ensures cause { MatchResult result (λ _. Unit {0}) (λ fault. fault ≡ Memory) }
+    ensures cause { OnlyForMemory result }
 {
     let steps = Closing::of(link);
     for step in steps.iter() {
@@ -138,12 +130,9 @@ pub(crate) fn close<P: Port, S: Scribe>(
     port: &mut P,
     scribe: &mut S,
 ) -> Result<(), DriveFault>
-    ensures went { MatchResult result
-        (λ _. Goes (ForAllLinks ClosesLink) false run.old run.new (S.trace scribe.old) (S.trace scribe.new)
-        (known Progress.Accepted (P.vouches port.old) (P.told port.old) (P.ends port.old)) (known Progress.Accepted (P.vouches port.new) (P.told port.new) (P.ends port.new)) (P.faults port.old) (P.faults port.new))
-        (λ _. Goes (CutForAllLinks ClosesLink CutClosingLink) false run.old run.new (S.trace scribe.old) (S.trace scribe.new)
-        (known Progress.Accepted (P.vouches port.old) (P.told port.old) (P.ends port.old)) (known Progress.Accepted (P.vouches port.new) (P.told port.new) (P.ends port.new)) (P.faults port.old) (P.faults port.new)) }
-    ensures cause { MatchResult result (λ _. Unit {0}) (λ fault. fault ≡ Memory) }
+    ensures went { Does P.Port S.Scribe result (λ _. ForAllLinks ClosesLink) (CutForAllLinks ClosesLink CutClosingLink)
+        (run.old, port.old, scribe.old) (run.new, port.new, scribe.new) }
+    ensures cause { OnlyForMemory result }
 {
     for link in 0..run.relay.opened() {
         close_link(run, link, port, scribe)?;

@@ -4,8 +4,9 @@ ghost use Rattle.relay_core.specs.Counting.{link_count, open_below, buffered_bel
 ghost use Rattle.relay_drive.specs.declared.fault.DriveFault.TheVariants.{Memory, Spent};
 ghost use Rattle.relay_drive.specs.DriveValue.{new_drive, is_worn, refusal_of};
 ghost use Rattle.relay_drive.specs.Phases.{Turns, CutTurn, is_open_fault};
-ghost use Rattle.relay_drive.specs.Known.{known, Progress};
-ghost use Rattle.relay_drive.specs.Stands.{answer_of, StandsBetween, Went};
+ghost use Rattle.relay_drive.specs.Known.{Point};
+ghost use Rattle.relay_drive.specs.Moves.{TurnsTo};
+ghost use Rattle.relay_drive.specs.DriveStands.{turn_answer_of, StandsBetween};
 ghost use Rattle.relay_meaning.specs.Meaning.{LeftFor};
 
 use crate::fault::{DriveFault, TurnEnd};
@@ -69,19 +70,21 @@ impl Drive {
         scribe: &mut S,
     ) -> Result<TurnEnd, DriveFault>
         // A kept refusal is answered again, and nothing is done.
-        ensures kept { IfSome self.old.refusal (λ fault. (result ≡ Err fault) × (self.new ≡ self.old) × (port.new ≡ port.old) × (scribe.new ≡ scribe.old)) }
+        ensures kept { IfSome self.old.refusal (λ fault.
+            (result ≡ Err fault) × (self.new ≡ self.old) × (port.new ≡ port.old) × (scribe.new ≡ scribe.old)) }
 
         // A drive that came too far does nothing.
-        ensures spent { self.old.refusal ≡ None → is_worn self.old ≡ true → (result ≡ Err Spent) × (self.new.state ≡ self.old.state) × (port.new ≡ port.old) × (scribe.new ≡ scribe.old) }
+        ensures spent { self.old.refusal ≡ None → is_worn self.old ≡ true →
+            (result ≡ Err Spent) × (self.new.state ≡ self.old.state) × (port.new ≡ port.old) × (scribe.new ≡ scribe.old) }
 
         // Every other turn goes through its phases, or is cut off as its answer says. Whatever trace the relay stood for,
         // it stands for that trace with the turn's entries: between two turns, or where such an answer may come. So the
         // port vouches for it, is tied to it, and every link that waited was accepted, as it was before.
         ensures went { self.old.refusal ≡ None → is_worn self.old ≡ false → MatchResult result
-            (λ _. Went Turns StandsBetween false self.old self.new (S.trace scribe.old) (S.trace scribe.new)
-            (known Progress.Between (P.vouches port.old) (P.told port.old) (P.ends port.old)) (known Progress.Accepted (P.vouches port.new) (P.told port.new) (P.ends port.new)) (P.faults port.old) (P.faults port.new))
-            (λ fault. Went (CutTurn fault) (LeftFor (answer_of fault)) (is_open_fault fault) self.old self.new (S.trace scribe.old) (S.trace scribe.new)
-            (known Progress.Between (P.vouches port.old) (P.told port.old) (P.ends port.old)) (known Progress.Accepting (P.vouches port.new) (P.told port.new) (P.ends port.new)) (P.faults port.old) (P.faults port.new)) }
+            (λ _. TurnsTo P.Port S.Scribe Point.Accepted false Turns StandsBetween
+            (self.old, port.old, scribe.old) (self.new, port.new, scribe.new))
+            (λ fault. TurnsTo P.Port S.Scribe Point.Accepting (is_open_fault fault) (CutTurn fault) (LeftFor (turn_answer_of fault))
+            (self.old, port.old, scribe.old) (self.new, port.new, scribe.new)) }
 
         ensures refusal { self.new.refusal ≡ refusal_of result }
     {
@@ -118,7 +121,8 @@ impl Drive {
         self.run.relay.link(link)
     }
 
-    /// The number of bytes in all buffers of live sides, or 2^64 - 1 where that is more.
+    /// The number of bytes in all buffers of live sides, or 2^64 - 1 where that is more: those under way in the trace, read and
+    /// not yet given (`buffered_is_underway` of relay_meaning). Takes no memory; linear in the number of links.
     pub fn buffered(&self) -> u64
         ensures { result ≡ min (buffered_below self.now.state self.now.state.opened) (2 ^ 64 - 1) }
     {

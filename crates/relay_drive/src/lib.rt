@@ -21,6 +21,3 @@ pub use bounds::{new_drive_is_within, turns_are_bounded, within_is_not_worn};
 pub use drive::Drive;
 pub use fault::{DriveFault, TurnEnd};
 pub use relay_core::{LinkCount, Settings};
-
-#[cfg(test)]
-mod tests;

@@ -1,6 +1,6 @@
 // Passing both directions of each link.
 ghost use Rattle.std.specs.Prelude.{◌≡◌, ◌<◌, [], MatchResult};
-ghost use Rattle.relay_drive.specs.declared.fault.DriveFault.TheVariants.{Memory};
+ghost use Rattle.relay_drive.specs.Moves.{OnlyForMemory};
 ghost use Rattle.relay_drive.specs.Phases.{PassesLink, CutPassingLink, ForAllLinks, CutForAllLinks};
 
 use crate::fault::DriveFault;
@@ -16,7 +16,7 @@ fn pass_link(relay: &mut Relay, link: u32) -> Result<(), DriveFault>
     ensures kept { relay.new.state.opened ≡ relay.old.state.opened }
     ensures time { relay.new.state.time ≡ relay.old.state.time }
     ensures settings { relay.new.state.settings ≡ relay.old.state.settings }
-    ensures cause { MatchResult result (λ _. Unit {0}) (λ fault. fault ≡ Memory) }
+    ensures cause { OnlyForMemory result }
 {
     let near = SideId {
         link,
@@ -35,7 +35,7 @@ pub(crate) fn pass(relay: &mut Relay) -> Result<(), DriveFault>
     ensures kept { relay.new.state.opened ≡ relay.old.state.opened }
     ensures time { relay.new.state.time ≡ relay.old.state.time }
     ensures settings { relay.new.state.settings ≡ relay.old.state.settings }
-    ensures cause { MatchResult result (λ _. Unit {0}) (λ fault. fault ≡ Memory) }
+    ensures cause { OnlyForMemory result }
 {
     for link in 0..relay.opened() {
         pass_link(relay, link)?;

@@ -4,11 +4,11 @@ ghost use Rattle.ev_types.specs.Growth.{Grew};
 ghost use Rattle.ev_port.specs.Counting.{counted};
 ghost use Rattle.ev_port.specs.Polling.{want_events, ready_events};
 ghost use Rattle.relay_drive.specs.declared.fault.DriveFault.TheVariants.{Memory};
-ghost use Rattle.relay_drive.specs.Phases.{wants_of, wanted, Polls, CutPoll, PollsAndAccepts, CutPolling, AllOpened, is_open_fault};
-ghost use Rattle.relay_drive.specs.Known.{known, Progress};
-ghost use Rattle.relay_drive.specs.Goes.{Goes};
+ghost use Rattle.relay_drive.specs.Phases.{wants_of, wanted, Polls, CutPoll, PollsAndAccepts, CutPolling, AllOpened};
+ghost use Rattle.relay_drive.specs.Known.{Point, begun_if};
+ghost use Rattle.relay_drive.specs.Moves.{Moves, GetsTo, OnlyForMemory};
 
-use crate::accept::accept_ready;
+use crate::accept::accept;
 use crate::fault::DriveFault;
 use crate::run::{Run, put};
 use ev_port::{Polled, Port, Scribe, Want};
@@ -21,7 +21,7 @@ fn push_want(relay: &Relay, wants: &mut Vec<Want>, side: SideId) -> Result<(), D
     requires { side.link < relay.now.state.opened }
     ensures wanted { OnOk result (wants.new.items ≡ wants.old.items ++ wants_of relay.now.state side) }
     ensures opened { OnOk result (AllOpened wants.old.items relay.now.state.opened → AllOpened wants.new.items relay.now.state.opened) }
-    ensures cause { MatchResult result (λ _. Unit {0}) (λ fault. fault ≡ Memory) }
+    ensures cause { OnlyForMemory result }
 {
     let read = relay.wants_read(side);
     let write = relay.wants_write(side);
@@ -44,7 +44,7 @@ fn push_want(relay: &Relay, wants: &mut Vec<Want>, side: SideId) -> Result<(), D
 fn wanted(relay: &Relay, alloc: Global) -> Result<Vec<Want>, DriveFault>
     ensures wanted { IfOk result (λ wants. wants.items ≡ wanted relay.now.state) }
     ensures opened { IfOk result (λ wants. AllOpened wants.items relay.now.state.opened) }
-    ensures cause { MatchResult result (λ _. Unit {0}) (λ fault. fault ≡ Memory) }
+    ensures cause { OnlyForMemory result }
 {
     let mut wants = Vec::new(alloc);
     for link in 0..relay.opened() {
@@ -112,10 +112,10 @@ fn ask_poll<P: Port, S: Scribe>(
 ) -> Result<bool, DriveFault>
     requires { wants.old ≡ wanted run.old.relay.state }
     ensures went { MatchResult result
-        (λ accept. Goes (Polls wants.new accept) false run.old run.new (S.trace scribe.old) (S.trace scribe.new)
-        (known Progress.Begun (P.vouches port.old) (P.told port.old) (P.ends port.old)) (known (if accept then Progress.Begun else Progress.Accepted) (P.vouches port.new) (P.told port.new) (P.ends port.new)) (P.faults port.old) (P.faults port.new))
-        (λ fault. Goes (CutPoll fault) false run.old run.new (S.trace scribe.old) (S.trace scribe.new)
-        (known Progress.Begun (P.vouches port.old) (P.told port.old) (P.ends port.old)) (known Progress.Accepting (P.vouches port.new) (P.told port.new) (P.ends port.new)) (P.faults port.old) (P.faults port.new)) }
+        (λ accept. Moves P.Port S.Scribe Point.Begun (begun_if accept) false (Polls wants.new accept)
+        (run.old, port.old, scribe.old) (run.new, port.new, scribe.new))
+        (λ fault. Moves P.Port S.Scribe Point.Begun Point.Accepting false (CutPoll fault)
+        (run.old, port.old, scribe.old) (run.new, port.new, scribe.new)) }
     ensures kept { run.new.relay ≡ run.old.relay }
     ensures opened { AllOpened wants.old run.old.relay.state.opened → AllOpened wants.new run.old.relay.state.opened }
 {
@@ -143,15 +143,15 @@ pub(crate) fn poll<P: Port, S: Scribe>(
     port: &mut P,
     scribe: &mut S,
 ) -> Result<Vec<Want>, DriveFault>
-    ensures went { MatchResult result
-        (λ wants. Goes (PollsAndAccepts wants.items) false run.old run.new (S.trace scribe.old) (S.trace scribe.new)
-        (known Progress.Begun (P.vouches port.old) (P.told port.old) (P.ends port.old)) (known Progress.Accepted (P.vouches port.new) (P.told port.new) (P.ends port.new)) (P.faults port.old) (P.faults port.new))
-        (λ fault. Goes (CutPolling fault) (is_open_fault fault) run.old run.new (S.trace scribe.old) (S.trace scribe.new)
-        (known Progress.Begun (P.vouches port.old) (P.told port.old) (P.ends port.old)) (known Progress.Accepting (P.vouches port.new) (P.told port.new) (P.ends port.new)) (P.faults port.old) (P.faults port.new)) }
+    ensures went { GetsTo P.Port S.Scribe result Point.Begun Point.Accepted (λ wants. PollsAndAccepts wants.items) CutPolling
+        (run.old, port.old, scribe.old) (run.new, port.new, scribe.new) }
     ensures opened { IfOk result (λ wants. AllOpened wants.items run.new.relay.state.opened) }
 {
     let mut wants = wanted(&run.relay, alloc)?;
     let ready = ask_poll(run, &mut wants, port, scribe)?;
-    accept_ready(run, ready, port, scribe)?;
+    if !ready {
+        return Ok(wants);
+    }
+    accept(run, port, scribe)?;
     Ok(wants)
 }

@@ -1,11 +1,8 @@
 // Serving the marked sides, in their order.
-ghost use Rattle.std.specs.Prelude.{◌≡◌, ℕ, ◌<◌, false, length, slice_index_or, MatchResult};
-ghost use Rattle.ev_port.specs.declared.port.Want.{Want as WantValue};
-ghost use Rattle.relay_drive.specs.declared.fault.DriveFault.TheVariants.{Memory};
+ghost use Rattle.std.specs.Prelude.{◌≡◌, ◌<◌, length};
 ghost use Rattle.relay_drive.specs.Steps.{Nothing, Each, CutAt};
 ghost use Rattle.relay_drive.specs.Phases.{ReadsSide, WritesSide, ConnectsSide, ServesSide, CutServing, AllOpened, is_connecting};
-ghost use Rattle.relay_drive.specs.Known.{known, Progress};
-ghost use Rattle.relay_drive.specs.Goes.{Goes};
+ghost use Rattle.relay_drive.specs.Moves.{Does, OnlyForMemory};
 
 use crate::ask::{ask_connect, ask_read, ask_write};
 use crate::fault::DriveFault;
@@ -17,82 +14,70 @@ use relay_core::Relay;
 /// Reads a side once, where it is marked for that and has room.
 fn read_side<P: Port, S: Scribe>(
     run: &mut Run,
-    side: SideId,
-    marked: bool,
+    want: Want,
     inbox: &mut [u8],
     port: &mut P,
     scribe: &mut S,
 ) -> Result<(), DriveFault>
-    requires opened { side.link < run.old.relay.state.opened }
+    requires opened { want.side.link < run.old.relay.state.opened }
     requires inbox { length inbox.old ≡ 16384 }
-    ensures went { MatchResult result
-        (λ _. Goes (ReadsSide side marked) false run.old run.new (S.trace scribe.old) (S.trace scribe.new)
-        (known Progress.Accepted (P.vouches port.old) (P.told port.old) (P.ends port.old)) (known Progress.Accepted (P.vouches port.new) (P.told port.new) (P.ends port.new)) (P.faults port.old) (P.faults port.new))
-        (λ _. Goes Nothing false run.old run.new (S.trace scribe.old) (S.trace scribe.new)
-        (known Progress.Accepted (P.vouches port.old) (P.told port.old) (P.ends port.old)) (known Progress.Accepted (P.vouches port.new) (P.told port.new) (P.ends port.new)) (P.faults port.old) (P.faults port.new)) }
+    ensures went { Does P.Port S.Scribe result (λ _. ReadsSide want.side want.can_read) Nothing
+        (run.old, port.old, scribe.old) (run.new, port.new, scribe.new) }
     ensures kept { run.new.relay.state.opened ≡ run.old.relay.state.opened }
-    ensures cause { MatchResult result (λ _. Unit {0}) (λ fault. fault ≡ Memory) }
+    ensures cause { OnlyForMemory result }
 {
-    if !marked {
+    if !want.can_read {
         return Ok(());
     }
-    if !run.relay.wants_read(side) {
+    if !run.relay.wants_read(want.side) {
         return Ok(());
     }
-    let room = run.relay.read_room(side);
+    let room = run.relay.read_room(want.side);
     let (into, _) = inbox.split_at_mut(room);
-    ask_read(run, side, into, port, scribe)?;
+    ask_read(run, want.side, into, port, scribe)?;
     Ok(())
 }
 
 /// Gives a side what waits for it, where it is marked for that and has room.
 fn write_side<P: Port, S: Scribe>(
     run: &mut Run,
-    side: SideId,
-    marked: bool,
+    want: Want,
     port: &mut P,
     scribe: &mut S,
 ) -> Result<(), DriveFault>
-    requires opened { side.link < run.old.relay.state.opened }
-    ensures went { MatchResult result
-        (λ _. Goes (WritesSide side marked) false run.old run.new (S.trace scribe.old) (S.trace scribe.new)
-        (known Progress.Accepted (P.vouches port.old) (P.told port.old) (P.ends port.old)) (known Progress.Accepted (P.vouches port.new) (P.told port.new) (P.ends port.new)) (P.faults port.old) (P.faults port.new))
-        (λ _. Goes Nothing false run.old run.new (S.trace scribe.old) (S.trace scribe.new)
-        (known Progress.Accepted (P.vouches port.old) (P.told port.old) (P.ends port.old)) (known Progress.Accepted (P.vouches port.new) (P.told port.new) (P.ends port.new)) (P.faults port.old) (P.faults port.new)) }
+    requires opened { want.side.link < run.old.relay.state.opened }
+    ensures went { Does P.Port S.Scribe result (λ _. WritesSide want.side want.can_write) Nothing
+        (run.old, port.old, scribe.old) (run.new, port.new, scribe.new) }
     ensures kept { run.new.relay.state.opened ≡ run.old.relay.state.opened }
-    ensures cause { MatchResult result (λ _. Unit {0}) (λ fault. fault ≡ Memory) }
+    ensures cause { OnlyForMemory result }
 {
-    if !marked {
+    if !want.can_write {
         return Ok(());
     }
-    if run.relay.write_room(side) == 0 {
+    if run.relay.write_room(want.side) == 0 {
         return Ok(());
     }
-    ask_write(run, side, port, scribe)?;
+    ask_write(run, want.side, port, scribe)?;
     Ok(())
 }
 
 /// Asks for the state of a connecting side, where it is marked for writing.
 fn connect_side<P: Port, S: Scribe>(
     run: &mut Run,
-    side: SideId,
-    marked: bool,
+    want: Want,
     port: &mut P,
     scribe: &mut S,
 ) -> Result<(), DriveFault>
-    requires opened { side.link < run.old.relay.state.opened }
-    ensures went { MatchResult result
-        (λ _. Goes (ConnectsSide side marked) false run.old run.new (S.trace scribe.old) (S.trace scribe.new)
-        (known Progress.Accepted (P.vouches port.old) (P.told port.old) (P.ends port.old)) (known Progress.Accepted (P.vouches port.new) (P.told port.new) (P.ends port.new)) (P.faults port.old) (P.faults port.new))
-        (λ _. Goes Nothing false run.old run.new (S.trace scribe.old) (S.trace scribe.new)
-        (known Progress.Accepted (P.vouches port.old) (P.told port.old) (P.ends port.old)) (known Progress.Accepted (P.vouches port.new) (P.told port.new) (P.ends port.new)) (P.faults port.old) (P.faults port.new)) }
+    requires opened { want.side.link < run.old.relay.state.opened }
+    ensures went { Does P.Port S.Scribe result (λ _. ConnectsSide want.side want.can_write) Nothing
+        (run.old, port.old, scribe.old) (run.new, port.new, scribe.new) }
     ensures kept { run.new.relay.state.opened ≡ run.old.relay.state.opened }
-    ensures cause { MatchResult result (λ _. Unit {0}) (λ fault. fault ≡ Memory) }
+    ensures cause { OnlyForMemory result }
 {
-    if !marked {
+    if !want.can_write {
         return Ok(());
     }
-    ask_connect(run, side, port, scribe)?;
+    ask_connect(run, want.side, port, scribe)?;
     Ok(())
 }
 
@@ -115,19 +100,16 @@ fn serve_side<P: Port, S: Scribe>(
 ) -> Result<(), DriveFault>
     requires opened { want.side.link < run.old.relay.state.opened }
     requires inbox { length inbox.old ≡ 16384 }
-    ensures went { MatchResult result
-        (λ _. Goes (ServesSide want) false run.old run.new (S.trace scribe.old) (S.trace scribe.new)
-        (known Progress.Accepted (P.vouches port.old) (P.told port.old) (P.ends port.old)) (known Progress.Accepted (P.vouches port.new) (P.told port.new) (P.ends port.new)) (P.faults port.old) (P.faults port.new))
-        (λ _. Goes (CutServing want) false run.old run.new (S.trace scribe.old) (S.trace scribe.new)
-        (known Progress.Accepted (P.vouches port.old) (P.told port.old) (P.ends port.old)) (known Progress.Accepted (P.vouches port.new) (P.told port.new) (P.ends port.new)) (P.faults port.old) (P.faults port.new)) }
+    ensures went { Does P.Port S.Scribe result (λ _. ServesSide want) (CutServing want)
+        (run.old, port.old, scribe.old) (run.new, port.new, scribe.new) }
     ensures kept { run.new.relay.state.opened ≡ run.old.relay.state.opened }
-    ensures cause { MatchResult result (λ _. Unit {0}) (λ fault. fault ≡ Memory) }
+    ensures cause { OnlyForMemory result }
 {
     if is_connecting(&run.relay, want.side) {
-        return connect_side(run, want.side, want.can_write, port, scribe);
+        return connect_side(run, want, port, scribe);
     }
-    read_side(run, want.side, want.can_read, inbox, port, scribe)?;
-    write_side(run, want.side, want.can_write, port, scribe)
+    read_side(run, want, inbox, port, scribe)?;
+    write_side(run, want, port, scribe)
 }
 
 /// Serves the marked sides, in their order.
@@ -140,13 +122,10 @@ pub(crate) fn serve<P: Port, S: Scribe>(
 ) -> Result<(), DriveFault>
     requires opened { AllOpened wants.now run.old.relay.state.opened }
     requires inbox { length inbox.old ≡ 16384 }
-    ensures went { MatchResult result
-        (λ _. Goes (Each ServesSide wants.now) false run.old run.new (S.trace scribe.old) (S.trace scribe.new)
-        (known Progress.Accepted (P.vouches port.old) (P.told port.old) (P.ends port.old)) (known Progress.Accepted (P.vouches port.new) (P.told port.new) (P.ends port.new)) (P.faults port.old) (P.faults port.new))
-        (λ _. Goes (CutAt ServesSide CutServing wants.now) false run.old run.new (S.trace scribe.old) (S.trace scribe.new)
-        (known Progress.Accepted (P.vouches port.old) (P.told port.old) (P.ends port.old)) (known Progress.Accepted (P.vouches port.new) (P.told port.new) (P.ends port.new)) (P.faults port.old) (P.faults port.new)) }
+    ensures went { Does P.Port S.Scribe result (λ _. Each ServesSide wants.now) (CutAt ServesSide CutServing wants.now)
+        (run.old, port.old, scribe.old) (run.new, port.new, scribe.new) }
     ensures kept { run.new.relay.state.opened ≡ run.old.relay.state.opened }
-    ensures cause { MatchResult result (λ _. Unit {0}) (λ fault. fault ≡ Memory) }
+    ensures cause { OnlyForMemory result }
 {
     for want in wants {
         serve_side(run, *want, inbox, port, scribe)?;

@@ -1,13 +1,12 @@
 // One turn: its phases in their order. Nothing is timed yet and there is no hook, so that the phases of time and of
 // dispatch have nothing to do.
-ghost use Rattle.std.specs.Prelude.{◌≡◌, ◌^◌, ◌||◌, ℕ, true, false, nat_le, length, Err, MatchResult};
+ghost use Rattle.std.specs.Prelude.{◌≡◌, ◌^◌, ◌||◌, true, false, nat_le, length, Err, MatchResult};
 ghost use Rattle.relay_core.specs.Counting.{is_spent};
-ghost use Rattle.relay_drive.specs.declared.fault.DriveFault.TheVariants.{Memory, Spent};
+ghost use Rattle.relay_drive.specs.declared.fault.DriveFault.TheVariants.{Spent};
 ghost use Rattle.relay_drive.specs.Steps.{Nothing};
-ghost use Rattle.relay_drive.specs.Calls.{Ticks};
-ghost use Rattle.relay_drive.specs.Phases.{Turns, CutTurn, is_open_fault, TicksOnce};
-ghost use Rattle.relay_drive.specs.Known.{known, Progress};
-ghost use Rattle.relay_drive.specs.Goes.{Goes};
+ghost use Rattle.relay_drive.specs.Phases.{Turns, CutTurn, TicksOnce};
+ghost use Rattle.relay_drive.specs.Known.{Point};
+ghost use Rattle.relay_drive.specs.Moves.{Moves, GetsTo, OnlyForMemory};
 
 use crate::close::close;
 use crate::fault::DriveFault;
@@ -25,11 +24,11 @@ const SPENT: u64 = 1 << 62;
 /// Reads the port's clock once.
 fn clock<P: Port, S: Scribe>(run: &mut Run, port: &mut P, scribe: &mut S) -> Result<(), DriveFault>
     ensures went { MatchResult result
-        (λ _. Goes TicksOnce false run.old run.new (S.trace scribe.old) (S.trace scribe.new)
-        (known Progress.Between (P.vouches port.old) (P.told port.old) (P.ends port.old)) (known Progress.Begun (P.vouches port.new) (P.told port.new) (P.ends port.new)) (P.faults port.old) (P.faults port.new))
-        (λ _. Goes Nothing false run.old run.new (S.trace scribe.old) (S.trace scribe.new)
-        (known Progress.Between (P.vouches port.old) (P.told port.old) (P.ends port.old)) (known Progress.Between (P.vouches port.new) (P.told port.new) (P.ends port.new)) (P.faults port.old) (P.faults port.new)) }
-    ensures cause { MatchResult result (λ _. Unit {0}) (λ fault. fault ≡ Memory) }
+        (λ _. Moves P.Port S.Scribe Point.Between Point.Begun false TicksOnce
+        (run.old, port.old, scribe.old) (run.new, port.new, scribe.new))
+        (λ _. Moves P.Port S.Scribe Point.Between Point.Between false Nothing
+        (run.old, port.old, scribe.old) (run.new, port.new, scribe.new)) }
+    ensures cause { OnlyForMemory result }
 {
     scribe.reserve(1, 0)?;
     let ms = run.relay.begin(port.now());
@@ -46,11 +45,8 @@ fn turn<P: Port, S: Scribe>(
     scribe: &mut S,
 ) -> Result<(), DriveFault>
     requires { length inbox.old ≡ 16384 }
-    ensures went { MatchResult result
-        (λ _. Goes Turns false run.old run.new (S.trace scribe.old) (S.trace scribe.new)
-        (known Progress.Between (P.vouches port.old) (P.told port.old) (P.ends port.old)) (known Progress.Accepted (P.vouches port.new) (P.told port.new) (P.ends port.new)) (P.faults port.old) (P.faults port.new))
-        (λ fault. Goes (CutTurn fault) (is_open_fault fault) run.old run.new (S.trace scribe.old) (S.trace scribe.new)
-        (known Progress.Between (P.vouches port.old) (P.told port.old) (P.ends port.old)) (known Progress.Accepting (P.vouches port.new) (P.told port.new) (P.ends port.new)) (P.faults port.old) (P.faults port.new)) }
+    ensures went { GetsTo P.Port S.Scribe result Point.Between Point.Accepted (λ _. Turns) CutTurn
+        (run.old, port.old, scribe.old) (run.new, port.new, scribe.new) }
 {
     clock(run, port, scribe)?;
     let wants = poll(run, alloc, port, scribe)?;
@@ -69,12 +65,11 @@ pub(crate) fn next_turn<P: Port, S: Scribe>(
     scribe: &mut S,
 ) -> Result<(), DriveFault>
     requires { length inbox.old ≡ 16384 }
-    ensures spent { nat_le (2 ^ 62) run.old.entries || is_spent run.old.relay.state ≡ true → (result ≡ Err Spent) × (run.new ≡ run.old) × (port.new ≡ port.old) × (scribe.new ≡ scribe.old) }
-    ensures went { nat_le (2 ^ 62) run.old.entries || is_spent run.old.relay.state ≡ false → MatchResult result
-        (λ _. Goes Turns false run.old run.new (S.trace scribe.old) (S.trace scribe.new)
-        (known Progress.Between (P.vouches port.old) (P.told port.old) (P.ends port.old)) (known Progress.Accepted (P.vouches port.new) (P.told port.new) (P.ends port.new)) (P.faults port.old) (P.faults port.new))
-        (λ fault. Goes (CutTurn fault) (is_open_fault fault) run.old run.new (S.trace scribe.old) (S.trace scribe.new)
-        (known Progress.Between (P.vouches port.old) (P.told port.old) (P.ends port.old)) (known Progress.Accepting (P.vouches port.new) (P.told port.new) (P.ends port.new)) (P.faults port.old) (P.faults port.new)) }
+    ensures spent { nat_le (2 ^ 62) run.old.entries || is_spent run.old.relay.state ≡ true →
+        (result ≡ Err Spent) × (run.new ≡ run.old) × (port.new ≡ port.old) × (scribe.new ≡ scribe.old) }
+    ensures went { nat_le (2 ^ 62) run.old.entries || is_spent run.old.relay.state ≡ false →
+        GetsTo P.Port S.Scribe result Point.Between Point.Accepted (λ _. Turns) CutTurn
+        (run.old, port.old, scribe.old) (run.new, port.new, scribe.new) }
 {
     if run.entries >= SPENT || run.relay.is_spent() {
         return Err(DriveFault::Spent);

@@ -7,7 +7,7 @@ use Rattle.ev_types.specs.Trace.{Event, Trace}
 use Rattle.relay_model.specs.Flow.{Flow, no_flow}
 use Rattle.relay_model.specs.Plain as plain
 use Rattle.relay_model.specs.Plain.{Plain, PlainSide, put_side, put_flow}
-use Rattle.relay_model.specs.Turn.{latest}
+use Rattle.ev_types.specs.Times.{latest}
 use Rattle.relay_core.specs.State.{State, SideValue, no_side, side_at, with_side}
 use Rattle.relay_meaning.specs.Meaning.{meant, direction_of, IsStraight, AgreesAt, Agrees}
 use Rattle.relay_meaning.proofs.EndLemmas.{SameTold, IsSilent, told-same, untold-same, number-below, number-apart, peer-moves, peer-peer, link-apart, by_side}

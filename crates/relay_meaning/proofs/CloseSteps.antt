@@ -20,12 +20,13 @@ use Rattle.relay_model.proofs.TraceLemmas.{is_write_closed-push}
 use Rattle.relay_core.specs.declared.close.Closing.{Closing}
 use Rattle.relay_core.specs.declared.close.Closing.TheVariants as closing
 use Rattle.relay_core.specs.State.{State, SideValue, side_at, flags_at, lane_at}
-use Rattle.relay_core.specs.Closing.{in_side, out_side, link_of, are_empty, is_all_given, is_nothing_waiting, is_called_for, freed, after_closing}
+use Rattle.relay_core.specs.Closing.{in_side, out_side, link_of_step, are_empty, is_all_given, is_nothing_waiting, is_called_for, freed, after_closing}
 use Rattle.relay_meaning.specs.Meaning.{model_settings, IsStraight, Agrees, StandsFor}
 use Rattle.relay_meaning.specs.Results.{freed_event, closing_events, close_step}
 use Rattle.relay_meaning.proofs.Pieces.{and_left, and_right}
 use Rattle.relay_meaning.proofs.StraightLemmas.{straight-closed}
-use Rattle.relay_meaning.proofs.EndLemmas.{SameTold, IsSilent, told-same, same_end-self, peer-apart, peer-peer, read-silent, given-silent, ended-silent, moved-silent, given_free-silent}
+use Rattle.relay_model.proofs.EndLemmas.{same_end-refl}
+use Rattle.relay_meaning.proofs.EndLemmas.{SameTold, IsSilent, told-same, peer-apart, peer-peer, read-silent, given-silent, ended-silent, moved-silent, given_free-silent}
 use Rattle.relay_meaning.proofs.TouchLemmas.{told_as, from-straight, to-straight}
 use Rattle.relay_meaning.proofs.RoomLemmas.{live-is, raw_input_at-is, input_at-is, output_at-is, raw_output_at-is}
 use Rattle.relay_meaning.proofs.SideSteps.{or_true, silent-close_write, agrees-flags, agrees-flags_silent}
@@ -133,7 +134,7 @@ first_entry s (closing.BothDone k) = (freed_event s (in_side k) cause.Done).0
 first_entry s (closing.PeerGone e) = (freed_event s e cause.PeerGone).0
 first_entry s (closing.Shut e) = entry.Close e
 
-entry-is : (t : Trace) (s : State) (p : Plain) → Agrees t s p → (c : Closing) → link_of c < s.opened →
+entry-is : (t : Trace) (s : State) (p : Plain) → Agrees t s p → (c : Closing) → link_of_step c < s.opened →
     closing_entry (model_settings s.settings) (past (model_settings s.settings) t) p (close_step c) ≡ entry_where (is_called_for s c) (first_entry s c)
 entry-is t s p h (closing.Faulty e) lt = faulty-entry t s p h e lt
 entry-is t s p h (closing.EndWriting e) lt = end_writing-entry t s p h e lt
@@ -143,7 +144,7 @@ entry-is t s p h (closing.Shut e) lt = shut-entry t s p h e lt
 
 module _ (t : Trace) (s : State) (cs : List CloseStep) where
   -- a step that isn't called for
-  pub not_called-stands : (c : Closing) → link_of c < s.opened → StandsFor t (Stage.Closing (close_step c ∷ cs)) s → is_called_for s c ≡ false → StandsFor t (Stage.Closing cs) s
+  pub not_called-stands : (c : Closing) → link_of_step c < s.opened → StandsFor t (Stage.Closing (close_step c ∷ cs)) s → is_called_for s c ≡ false → StandsFor t (Stage.Closing cs) s
   not_called-stands c lt k off = record {
     plain = k.plain;
     reached = Reaches.goes k.reached (entry-is t s k.plain k.agrees c lt ∙ ap (λ b. entry_where b (first_entry s c)) off, refl);
@@ -151,7 +152,7 @@ module _ (t : Trace) (s : State) (cs : List CloseStep) where
   }
 
   -- the model goes on with the step's first entry
-  put-reached : (c : Closing) → link_of c < s.opened → (k : StandsFor t (Stage.Closing (close_step c ∷ cs)) s) → is_called_for s c ≡ true →
+  put-reached : (c : Closing) → link_of_step c < s.opened → (k : StandsFor t (Stage.Closing (close_step c ∷ cs)) s) → is_called_for s c ≡ true →
       Reaches (model_settings s.settings) (t ++ (first_entry s c, []) ∷ []) (at (Stage.Closing (steps_left (close_step c) cs)) (closed_by (close_step c) k.plain))
   put-reached c lt k called =
       Reaches.puts (first_entry s c) [] k.reached (entry-is t s k.plain k.agrees c lt ∙ ap (λ b. entry_where b (first_entry s c)) called, refl, refl)
@@ -177,7 +178,7 @@ module _ (t : Trace) (s : State) (cs : List CloseStep) where
       (and_right (far.ended && lane.flow.write_done) (are_empty lane.buffers) all)) in
       let told : (z : SideId) → z ≢ e → SameTold t u z = λ z away. told-same t event z (silent-close_write e z away) in
       let is_closed : is_write_closed e u ≡ true =
-      is_write_closed-push e t event ∙ ap (λ b. is_write_closed e t || b) (same_end-self e) ∙ or_true (is_write_closed e t) in
+      is_write_closed-push e t event ∙ ap (λ b. is_write_closed e t || b) (same_end-refl e) ∙ or_true (is_write_closed e t) in
       let r1 = read-silent t event e refl in
       let r2 = ended-silent t event e refl in
       let r3 = moved-silent t event e refl in
@@ -217,7 +218,7 @@ module _ (t : Trace) (s : State) (cs : List CloseStep) where
       }
 
   -- a step that is called for puts its entries and is done
-  pub called-stands : (c : Closing) → link_of c < s.opened → StandsFor t (Stage.Closing (close_step c ∷ cs)) s → is_called_for s c ≡ true →
+  pub called-stands : (c : Closing) → link_of_step c < s.opened → StandsFor t (Stage.Closing (close_step c ∷ cs)) s → is_called_for s c ≡ true →
       StandsFor (t ++ closing_events s c) (Stage.Closing cs) (after_closing s c)
   called-stands (closing.Faulty e) lt k called = record {
     plain = plain.freed e k.plain;

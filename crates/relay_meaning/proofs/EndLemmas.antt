@@ -1,13 +1,14 @@
 -- Sides and their numbers, and what one event at the end of a trace tells of an end.
-use Rattle.std.proofs.Common.{◌≡◌, ◌≢◌, inl, inr, ℕ, ◌*◌, ◌<◌, ◌≤◌, Bool, true, false, ◌&&◌, ◌||◌, ◌==◌, [], ◌∷◌, ◌++◌, refl, sym, ◌∙◌, ap, subst, arith, append-nil, eqb-true, eq-eqb}
+use Rattle.std.proofs.Common.{◌≡◌, ◌≢◌, inl, inr, ℕ, ◌*◌, ◌<◌, ◌≤◌, Bool, true, false, ◌||◌, [], ◌∷◌, ◌++◌, refl, sym, ◌∙◌, ap, subst, arith, append-nil}
 use Rattle.std.proofs.lemmas.Bool.Decides.{eqb_tells}
 use Rattle.ev_types.specs.declared.side.Side.{Side}
 use Rattle.ev_types.specs.declared.side.Side.TheVariants.{In, Out}
 use Rattle.ev_types.specs.declared.side.SideId.{SideId}
-use Rattle.ev_types.specs.Sides.{other, peer, half, number, same_side, same_end}
+use Rattle.ev_types.specs.Sides.{other, peer, half, number, same_end}
 use Rattle.ev_types.specs.Trace.{Event, Trace}
 use Rattle.relay_model.specs.Trace.{read_by, given_by, ended_by, told_moved_by, told_given_by, write_closed_by, bytes_read, bytes_given, has_ended, moved_at_free, given_at_free, is_write_closed}
 use Rattle.relay_model.specs.Stands.{IsUntold}
+use Rattle.relay_model.proofs.EndLemmas.{same_end-eq}
 use Rattle.relay_model.proofs.TraceLemmas.{bytes_read-push, bytes_given-push, moved_at_free-push, given_at_free-push, has_ended-push, is_write_closed-push}
 use Rattle.relay_meaning.proofs.Pieces.{or_false}
 
@@ -62,31 +63,11 @@ by_side e a P own far rest = elim (eqb_tells (number a) (number e)) [
 
 -- Names of ends
 
-same_side-self : (s : Side) → same_side s s ≡ true
-same_side-self In = refl
-same_side-self Out = refl
-
-pub same_end-self : (e : SideId) → same_end e e ≡ true
-same_end-self e = ap (λ b. b && same_side e.side e.side) (eq-eqb e.link e.link refl) ∙ same_side-self e.side
-
-same_side-is : (a b : Side) → same_side a b ≡ true → a ≡ b
-same_side-is In In h = refl
-same_side-is Out Out h = refl
-same_side-is In Out h = absurd (cc)
-same_side-is Out In h = absurd (cc)
-
-pub same_end-is : (a b : SideId) → same_end a b ≡ true → a ≡ b
-same_end-is a b h = go (a.link == b.link) refl h
-  where
-    go : (q : Bool) → (a.link == b.link) ≡ q → (q && same_side a.side b.side) ≡ true → a ≡ b
-    go true e k = let p = eqb-true a.link b.link e in let q = same_side-is a.side b.side k in λ i. record { link = p i; side = q i }
-    go false e k = absurd (cc)
-
 pub same_end-apart : (a b : SideId) → a ≢ b → same_end a b ≡ false
 same_end-apart a b h = go (same_end a b) refl
   where
     go : (q : Bool) → same_end a b ≡ q → same_end a b ≡ false
-    go true e = absurd (h (same_end-is a b e))
+    go true e = absurd (h (same_end-eq a b e))
     go false e = e
 
 -- What is told

@@ -27,7 +27,8 @@ use Rattle.relay_model.specs.Moments.{timeout_of, last_activity, is_timed, momen
 use Rattle.relay_model.specs.Serve.{Call, call_for, CarriesGot, CarriesTook}
 use Rattle.relay_model.specs.Close.{CloseStep, freed_entry}
 use Rattle.relay_model.specs.Stages.{Stage, State, at, Between, Polling, Wanting, Marking, Accepting, Serving, Filtering, Dispatching, Firing, Freeing, Passing, Closing}
-use Rattle.relay_model.specs.Turn.{latest, after_reading, Puts, Quietly, Reaches, IsLegal}
+use Rattle.ev_types.specs.Times.{latest}
+use Rattle.relay_model.specs.Turn.{after_reading, Puts, Quietly, Reaches, IsLegal}
 use Rattle.relay_model.specs.Told.{names}
 use Rattle.relay_model.proofs.EndLemmas.{same_end-refl}
 use Rattle.relay_model.proofs.StepLemmas.{read-called, write-called, put-effect}

@@ -17,7 +17,8 @@ use Rattle.relay_core.specs.Closing.{gone, peer_gone, freed}
 use Rattle.relay_meaning.specs.Meaning.{meant, IsStraight, Agrees}
 use Rattle.relay_meaning.specs.Results.{freed_event}
 use Rattle.relay_meaning.proofs.StraightLemmas.{straight-gone, straight-peer_gone}
-use Rattle.relay_meaning.proofs.EndLemmas.{SameTold, told-same, same_end-self, peer-apart, read-silent, given-silent, ended-silent, closed-silent}
+use Rattle.relay_model.proofs.EndLemmas.{same_end-refl}
+use Rattle.relay_meaning.proofs.EndLemmas.{SameTold, told-same, peer-apart, read-silent, given-silent, ended-silent, closed-silent}
 use Rattle.relay_meaning.proofs.AgreeLemmas.{side-set, side-set_other, plain_side-put_other, in_code, in_sides}
 use Rattle.relay_meaning.proofs.TouchLemmas.{told_as, from-straight, to-straight, agrees-touches}
 use Rattle.relay_meaning.proofs.SideSteps.{silent-freed, meant-put}
@@ -56,10 +57,10 @@ module _ (t : Trace) (s : State) (p : Plain) (e : SideId) (h : Agrees t s p) (lt
     told z away = told-same t event z (silent-freed e z why moved given away)
 
     moved-told : moved_at_free e u ≡ moved_at_free e t ++ moved ∷ []
-    moved-told = moved_at_free-push e t event ∙ ap (λ b. moved_at_free e t ++ (if b then moved ∷ [] else [])) (same_end-self e)
+    moved-told = moved_at_free-push e t event ∙ ap (λ b. moved_at_free e t ++ (if b then moved ∷ [] else [])) (same_end-refl e)
 
     given-told : given_at_free e u ≡ given_at_free e t ++ given ∷ []
-    given-told = given_at_free-push e t event ∙ ap (λ b. given_at_free e t ++ (if b then given ∷ [] else [])) (same_end-self e)
+    given-told = given_at_free-push e t event ∙ ap (λ b. given_at_free e t ++ (if b then given ∷ [] else [])) (same_end-refl e)
 
     from_straight : IsStraight (told_as u e (peer e) x y)
     from_straight =

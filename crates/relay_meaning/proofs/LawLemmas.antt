@@ -20,10 +20,10 @@ use Rattle.relay_model.specs.Plain.{Plain, PlainSide, sides_from}
 use Rattle.relay_model.specs.Stages.{Stage}
 use Rattle.relay_model.specs.Turn.{begins}
 use Rattle.relay_model.specs.Stands as stands
-use Rattle.relay_model.specs.Stands.{Runnings, Kept, Stands, DirectionAccounted, DirectionHolds}
+use Rattle.relay_model.specs.Stands.{Runnings, Stands, DirectionAccounted, DirectionHolds}
 use Rattle.relay_core.specs.State.{State, SideValue, no_side, lane_at}
 use Rattle.relay_meaning.specs.Meaning.{model_settings, Direction, direction_of, IsStraight, Agrees, StandsFor}
-use Rattle.relay_meaning.specs.Laws.{model_buffers, NewRelayStands, MeansConserved, LeftIsLegal, CountsAreTold}
+use Rattle.relay_meaning.specs.Laws.{NewRelayStands, MeansConserved, LeftIsLegal, CountsAreTold}
 use Rattle.relay_meaning.proofs.AgreeLemmas.{in_code}
 use Rattle.relay_meaning.proofs.TouchLemmas.{to-straight}
 use Rattle.relay_meaning.proofs.RoomLemmas.{plainly, read_kind-none, write_kind-none, middle-none, outcome-none, output-none, live-is}
@@ -79,12 +79,12 @@ module _ (d : Direction) (s : IsStraight d) where
     write_done = λ e. ((s.write_done e).0, (all_turned e).0, (let m = middle-length in let a = (all_turned e).1 in a ∙ sym m), refl);
   }
 
-  pub left-is : model_buffers d.lane.buffers ≡ model.left plainly plainly d.read d.from_live d.to_live d.lane.flow
+  pub left-is : d.lane.buffers ≡ model.left plainly plainly d.read d.from_live d.to_live d.lane.flow
   left-is =
       let a = sym (middle-none d.read f) in
       let o = sym (output-none d.read f moved_used) in
       let r = sym (outcome-none d.read f turned_used) in
-      ap model_buffers s.buffers ∙ (λ i. record {
+      s.buffers ∙ (λ i. record {
         raw_input = if d.from_live then drop f.used d.read else [];
         input = if d.from_live then drop f.moved (a i) else [];
         output = if d.to_live then o i else [];
@@ -132,13 +132,13 @@ module _ (t : Trace) (x : Stage) (s : State) (k : StandsFor t x s) where
   runnings = map (λ e. runnings_of (bytes_read e t) (plain.flow_at p e)) (sides_from 0 p.opened)
 
   abbrev buffers : List model.Buffers
-  buffers = map (λ (y : SideValue). model_buffers y.lane.buffers) s.sides
+  buffers = map (λ (y : SideValue). y.lane.buffers) s.sides
 
   runnings-at : (e : SideId) → e.link < p.opened → stands.runnings_at runnings e ≡ runnings_of (bytes_read e t) (plain.flow_at p e)
   runnings-at e lt = from_sides (λ z. runnings_of (bytes_read z t) (plain.flow_at p z)) stands.no_runnings 0 p.opened e.link e (omega arith) lt
 
-  buffers-at : (e : SideId) → e.link < s.opened → stands.buffers_at buffers e ≡ model_buffers (lane_at s e).buffers
-  buffers-at e lt = get_or-map (λ (y : SideValue). model_buffers y.lane.buffers) s.sides (number e) no_side stands.no_buffers (in_code t s p e h lt)
+  buffers-at : (e : SideId) → e.link < s.opened → stands.buffers_at buffers e ≡ (lane_at s e).buffers
+  buffers-at e lt = get_or-map (λ (y : SideValue). y.lane.buffers) s.sides (number e) no_side stands.no_buffers (in_code t s p e h lt)
 
   here : (e : SideId) → e.link < p.opened → e.link < s.opened
   here e lt = let a = h.opened in omega (arith, a, lt)
@@ -167,7 +167,7 @@ module _ (t : Trace) (x : Stage) (s : State) (k : StandsFor t x s) where
       let a = h.each e le in
       let st = a.direction in
       let rs : Runnings = runnings_of d.read d.lane.flow in
-      let first : model.Holds kind.None kind.None plainly plainly d.read d.ended d.from_live d.to_live d.lane.flow (model_buffers d.lane.buffers) rs.reader rs.writer = record {
+      let first : model.Holds kind.None kind.None plainly plainly d.read d.ended d.from_live d.to_live d.lane.flow d.lane.buffers rs.reader rs.writer = record {
         buffers = left-is d st;
         reads = λ live. record { kind = refl; since = refl; begun = omega arith; used = refl; good = refl; last = refl; finished = refl; stopped = tt };
         writes = λ live. record { kind = refl; since = refl; begun = omega arith; used = refl; good = refl; last = refl; finished = refl; stopped = tt };
@@ -192,7 +192,7 @@ module _ (t : Trace) (x : Stage) (s : State) (k : StandsFor t x s) where
         ended = λ e lt. ap (λ (z : PlainSide). z.ended) (h.each e (here e lt)).side ∙ (h.each e (here e lt)).ended;
         unopened = λ e le. h.unopened e (let a = h.opened in omega (arith, a, le));
       };
-      buffers_kept = length-map s.sides (λ (y : SideValue). model_buffers y.lane.buffers) ∙ h.code_sides ∙ ap (λ n. 2 * n) (sym h.opened);
+      buffers_kept = length-map s.sides (λ (y : SideValue). y.lane.buffers) ∙ h.code_sides ∙ ap (λ n. 2 * n) (sym h.opened);
       runnings_kept = sides-many (λ e. runnings_of (bytes_read e t) (plain.flow_at p e)) 0 p.opened;
       each = holds;
     };

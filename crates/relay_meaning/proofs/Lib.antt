@@ -14,10 +14,10 @@ pub mod FreeSteps
 pub mod CloseSteps
 pub mod TurnSteps
 pub mod LawLemmas
-pub mod PollLemmas
 pub mod DoneLemmas
 pub mod CalmLemmas
 pub mod LinkLemmas
+pub mod UnderwayLemmas
 pub mod SideInvariants
 pub mod UntimedLemmas
 pub mod FlowOrder

@@ -19,8 +19,7 @@ use Rattle.relay_model.specs.Close.{CloseStep}
 use Rattle.relay_model.specs.Stages.{Stage, State as ModelState, at, Closing}
 use Rattle.relay_model.specs.Turn.{Reaches}
 use Rattle.relay_model.specs.Told.{is_freed, is_freeing}
-use Rattle.relay_model.specs.Totals.{is_opened, opened}
-use Rattle.relay_model.specs.TurnLaws as law
+use Rattle.relay_model.specs.Totals.{opened}
 use Rattle.relay_model.proofs.EndLemmas.{same_end-eq}
 use Rattle.relay_model.proofs.ToldLemmas.{Kept, kept}
 use Rattle.relay_model.proofs.HeldLemmas.{DoneReady, held}
@@ -59,14 +58,6 @@ same_truth : (a b : Bool) → (a ≡ true → b ≡ true) → (b ≡ true → a 
 same_truth true b f h = sym (f refl)
 same_truth false true f h = absurd (let k = h refl in cc)
 same_truth false false f h = refl
-
-opened-alike : (x : Event) → law.is_opened x ≡ is_opened x
-opened-alike (entry.Opened link connected, bytes) = refl
-opened-alike _ = refl
-
--- the model and its laws tell alike how many links were opened
-pub opened-is : (t : Trace) → count_by law.is_opened t ≡ opened t
-opened-is t = λ i. count_by (λ x. opened-alike x i) t
 
 -- Frees as done
 
@@ -125,7 +116,7 @@ module _ (t : Trace) (x : Stage) (s : State) (h : StandsFor t x s) where
   model-live : (e : SideId) → e.link < s.opened → is_live p e ≡ not (is_freed e t)
   model-live e lt = (told.each e (here e.link lt)).live ∙ ap not (ap (λ z. is_freed e t || z) (still e) ∙ or-false (is_freed e t))
 
-  live-told : (e : SideId) → e.link < s.opened → (flags_at s e).live ≡ not (is_freed e t)
+  pub live-told : (e : SideId) → e.link < s.opened → (flags_at s e).live ≡ not (is_freed e t)
   live-told e lt = sym (ap (λ (z : plain.PlainSide). z.live) (h.agrees.each e lt).side) ∙ model-live e lt
 
   closed-told : (e : SideId) → e.link < s.opened → (flags_at s e).write_ended ≡ is_write_closed e t
@@ -166,8 +157,8 @@ module _ (t : Trace) (x : Stage) (s : State) (h : StandsFor t x s) where
       let one : is_open s n ≡ lives_in t n = open-is _ _ (is_freed (in_side n) t) (is_freed (out_side n) t) (live-told (in_side n) lt) (live-told (out_side n) lt) in
       ap (λ z. z + (if is_open s n then 1 else 0)) less ∙ ap (λ b. living_below t n + (if b then 1 else 0)) one
 
-  links-told : s.opened ≡ opened t
-  links-told = sym h.agrees.opened ∙ told.counts.shape.opened ∙ opened-is t
+  pub links-told : s.opened ≡ opened t
+  links-told = sym h.agrees.opened ∙ told.counts.shape.opened
 
   links-are : LinksAre t s
   links-are = record {

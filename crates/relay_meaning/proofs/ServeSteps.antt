@@ -37,7 +37,8 @@ use Rattle.relay_meaning.specs.Meaning.{model_settings, IsStraight, Agrees, Stan
 use Rattle.relay_meaning.specs.Results.{after_conn, after_read}
 use Rattle.relay_meaning.proofs.Pieces.{if_same, or_false, and_left, and_right}
 use Rattle.relay_meaning.proofs.StraightLemmas.{straight-got, straight-read, straight-ended}
-use Rattle.relay_meaning.proofs.EndLemmas.{SameTold, IsSilent, told-same, same_end-self, peer-apart}
+use Rattle.relay_model.proofs.EndLemmas.{same_end-refl}
+use Rattle.relay_meaning.proofs.EndLemmas.{SameTold, IsSilent, told-same, peer-apart}
 use Rattle.relay_meaning.proofs.AgreeLemmas.{side-set, side-set_other, plain_side-put, plain_side-put_other, flow-put, flow-put_other, in_code, in_sides, in_flows, SameAt, agrees-silent}
 use Rattle.relay_meaning.proofs.TouchLemmas.{told_as, from-straight, to-straight, is_at-same, agrees-touches}
 use Rattle.relay_meaning.proofs.RoomLemmas.{read_room-is, write_room-is, one_or_more, connecting-is, may_read-live}
@@ -220,7 +221,7 @@ module _ (t : Trace) (s : State) (e : SideId) (r w : Bool) (ms : List Want) (k :
       told z away = told-same t (entry.Read e room (read.Got n), bytes) z (silent-got e z room n bytes away)
 
       read-more : bytes_read e u ≡ bytes_read e t ++ bytes
-      read-more = bytes_read-push e t (entry.Read e room (read.Got n), bytes) ∙ ap (λ b. bytes_read e t ++ (if b then bytes else [])) (same_end-self e)
+      read-more = bytes_read-push e t (entry.Read e room (read.Got n), bytes) ∙ ap (λ b. bytes_read e t ++ (if b then bytes else [])) (same_end-refl e)
 
       given-as : bytes_given e u ≡ bytes_given e t
       given-as = bytes_given-push e t (entry.Read e room (read.Got n), bytes) ∙ append-nil (bytes_given e t)
@@ -344,7 +345,7 @@ module _ (t : Trace) (s : State) (e : SideId) (r w : Bool) (ms : List Want) (k :
         let x : Event = (entry.Read e room read.Ended, []) in
         let u : Trace = t ++ x ∷ [] in
         let told : (z : SideId) → z ≢ e → SameTold t u z = λ z away. told-same t x z (silent-ended e z room away) in
-        let has : has_ended e u ≡ true = has_ended-push e t x ∙ ap (λ b. has_ended e t || b) (same_end-self e) ∙ or_true (has_ended e t) in
+        let has : has_ended e u ≡ true = has_ended-push e t x ∙ ap (λ b. has_ended e t || b) (same_end-refl e) ∙ or_true (has_ended e t) in
         let far = told (peer e) (peer-apart e) in
         let r1 = Rattle.relay_meaning.proofs.EndLemmas.read-silent t x e refl in
         let r2 = Rattle.relay_meaning.proofs.EndLemmas.moved-silent t x e refl in

@@ -22,7 +22,8 @@ use Rattle.relay_model.specs.Rooms as rooms
 use Rattle.relay_model.specs.Rooms.{Want}
 use Rattle.relay_model.specs.Close.{closing_from}
 use Rattle.relay_model.specs.Stages.{Halt, Stage, at}
-use Rattle.relay_model.specs.Turn.{Reaches, turned_to, latest, most_opened}
+use Rattle.ev_types.specs.Times.{latest}
+use Rattle.relay_model.specs.Turn.{Reaches, turned_to, most_opened}
 use Rattle.relay_core.specs.State.{State, SideValue, no_side, new_side, fresh, side_at}
 use Rattle.relay_core.specs.Opening.{after_opened}
 use Rattle.relay_core.specs.Rooms as core

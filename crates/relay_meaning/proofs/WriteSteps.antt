@@ -30,7 +30,8 @@ use Rattle.relay_meaning.specs.Meaning.{model_settings, meant, IsStraight, Agree
 use Rattle.relay_meaning.specs.Results.{after_write}
 use Rattle.relay_meaning.proofs.Pieces.{if_same}
 use Rattle.relay_meaning.proofs.StraightLemmas.{straight-took}
-use Rattle.relay_meaning.proofs.EndLemmas.{SameTold, told-same, same_end-self, peer-apart, read-silent, ended-silent, moved-silent, given_free-silent, closed-silent}
+use Rattle.relay_model.proofs.EndLemmas.{same_end-refl}
+use Rattle.relay_meaning.proofs.EndLemmas.{SameTold, told-same, peer-apart, read-silent, ended-silent, moved-silent, given_free-silent, closed-silent}
 use Rattle.relay_meaning.proofs.AgreeLemmas.{side-set, side-set_other, plain_side-put_other, flow-put, flow-put_other, in_code, in_sides, in_flows, agrees-silent}
 use Rattle.relay_meaning.proofs.TouchLemmas.{told_as, from-straight, to-straight, agrees-touches}
 use Rattle.relay_meaning.proofs.RoomLemmas.{write_room-is, one_or_more, may_write-live}
@@ -105,7 +106,7 @@ module _ (t : Trace) (s : State) (e : SideId) (w : Bool) (ms : List Want) (k : S
     given-more : bytes_given e u ≡ bytes_given e t ++ take n (core.waiting_for s e)
     given-more =
         bytes_given-push e t event
-        ∙ ap (λ b. bytes_given e t ++ (if b then bytes else [])) (same_end-self e)
+        ∙ ap (λ b. bytes_given e t ++ (if b then bytes else [])) (same_end-refl e)
         ∙ ap (λ z. bytes_given e t ++ z) bytes-are
 
     took_straight : IsStraight (told_as u (peer e) e far_side (side_at s e))

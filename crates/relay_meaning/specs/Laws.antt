@@ -3,18 +3,13 @@ use Rattle.std.specs.Prelude.{◌≡◌, ◌<◌, [], map, length}
 use Rattle.ev_types.specs.declared.side.SideId.{SideId}
 use Rattle.ev_types.specs.Trace.{Trace}
 use Rattle.relay_model.specs.Trace.{bytes_read, bytes_given}
-use Rattle.relay_model.specs.Conserved as model
 use Rattle.relay_model.specs.Stages.{Stage}
 use Rattle.relay_model.specs.Answers.{TurnAnswer, EndsWith}
 use Rattle.relay_model.specs.Stands.{Kept, Stands}
 use Rattle.relay_core.specs.declared.settings.Settings.{Settings}
-use Rattle.relay_core.specs.State.{State, Buffers, SideValue, new_state}
+use Rattle.relay_core.specs.State.{State, SideValue, new_state}
 use Rattle.relay_core.specs.Counting.{counts_of}
 use Rattle.relay_meaning.specs.Meaning.{model_settings, StandsFor, LeftFor}
-
--- the buffers of a direction, as the model has them
-abbrev pub model_buffers : Buffers → model.Buffers
-model_buffers b = record { raw_input = b.raw_input; input = b.input; output = b.output; raw_output = b.raw_output }
 
 -- Before the first turn a relay stands for the trace of no entries.
 abbrev pub NewRelayStands : Type 0
@@ -24,7 +19,7 @@ NewRelayStands = (g : Settings) → StandsFor [] Stage.Between (new_state g)
 -- legal, and no byte of it was lost, made or changed.
 abbrev pub MeansConserved : Type 0
 MeansConserved = (t : Trace) (x : Stage) (s : State) → (k : StandsFor t x s) →
-    (v : Kept) × (v.plain ≡ k.plain) × (v.buffers ≡ map (λ (y : SideValue). model_buffers y.lane.buffers) s.sides) × Stands (model_settings s.settings) t x v
+    (v : Kept) × (v.plain ≡ k.plain) × (v.buffers ≡ map (λ (y : SideValue). y.lane.buffers) s.sides) × Stands (model_settings s.settings) t x v
 
 -- A relay that was left so was left by a trace that can end with that answer.
 abbrev pub LeftIsLegal : Type 0

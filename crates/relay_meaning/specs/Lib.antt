@@ -1,7 +1,7 @@
 pub mod Meaning
 pub mod Results
 pub mod Laws
-pub mod Polls
 pub mod Links
+pub mod Underway
 pub mod Frees
 pub mod Spelling

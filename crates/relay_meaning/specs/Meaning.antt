@@ -6,15 +6,17 @@ use Rattle.ev_types.specs.Sides.{peer}
 use Rattle.ev_types.specs.Trace.{Trace}
 use Rattle.relay_model.specs.Trace.{bytes_read, bytes_given, has_ended, moved_at_free, given_at_free, is_write_closed}
 use Rattle.relay_model.specs.Flow.{Flow}
+use Rattle.relay_model.specs.Conserved.{Buffers}
 use Rattle.relay_model.specs.Settings as model
 use Rattle.relay_model.specs.Plain as plain
 use Rattle.relay_model.specs.Stages.{Stage, at}
-use Rattle.relay_model.specs.Turn.{latest, Reaches}
+use Rattle.ev_types.specs.Times.{latest}
+use Rattle.relay_model.specs.Turn.{Reaches}
 use Rattle.relay_model.specs.Answers.{TurnAnswer, LeftAt}
 use Rattle.relay_model.specs.Stands.{IsUntold}
 use Rattle.relay_core.specs.declared.flags.SideFlags.{SideFlags}
 use Rattle.relay_core.specs.declared.settings.Settings.{Settings}
-use Rattle.relay_core.specs.State.{State, Buffers, Lane, side_at, flags_at, lane_at}
+use Rattle.relay_core.specs.State.{State, Lane, side_at, flags_at, lane_at}
 
 -- The hold mark and the number of links are the relay's; nothing else is set.
 abbrev pub model_settings : Settings → model.Settings

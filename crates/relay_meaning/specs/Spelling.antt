@@ -7,7 +7,7 @@ use Rattle.script_text.specs.TraceLaws.{IsSpellable}
 use Rattle.relay_model.specs.Trace.{bytes_read}
 use Rattle.relay_model.specs.Stages.{Stage}
 use Rattle.relay_model.specs.Lines.{brings}
-use Rattle.relay_model.specs.Script.{ScriptTurn}
+use Rattle.ev_types.specs.ScriptTurn.{ScriptTurn}
 use Rattle.relay_model.specs.Plays.{IsAnswered}
 use Rattle.relay_core.specs.State.{State}
 use Rattle.relay_meaning.specs.Meaning.{StandsFor}

@@ -7,7 +7,7 @@ mod trace_laws;
 ghost use Rattle.relay_meaning.specs.Laws.{CountsAreTold, LeftIsLegal, MeansConserved, NewRelayStands};
 
 pub use trace_laws::{
-    done_is_whole, frees_are_for, links_are_told, polls_fail_as_scripted, reads_fit_as_scripted,
+    buffered_is_underway, done_is_whole, frees_are_for, links_are_told, reads_fit_as_scripted,
     stood_is_spellable,
 };
 

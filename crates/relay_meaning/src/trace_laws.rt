@@ -1,14 +1,8 @@
 // What the traces tell that a relay and a script have in common.
 ghost use Rattle.relay_meaning.specs.Frees.{FreesAreFor};
 ghost use Rattle.relay_meaning.specs.Links.{DoneIsWhole, LinksAreTold};
-ghost use Rattle.relay_meaning.specs.Polls.{PollsFailAsScripted};
 ghost use Rattle.relay_meaning.specs.Spelling.{ReadsFitAsScripted, StoodIsSpellable};
-
-/// A turn's poll fails exactly where a line of the script says so, and nothing follows it. So a run ends with a failed poll
-/// exactly where a turn that was begun has such a line, but for want of memory before that poll.
-pub fn polls_fail_as_scripted()
-    ensures { PollsFailAsScripted }
-{}
+ghost use Rattle.relay_meaning.specs.Underway.{BufferedIsUnderway};
 
 /// A relay has the links that a trace opens. A link lives until both of its sides were freed; then it is done where both were
 /// freed as done, and else it is gone.
@@ -19,6 +13,12 @@ pub fn links_are_told()
 /// Where a link is done, all that was read at either side was given to the other.
 pub fn done_is_whole()
     ensures { DoneIsWhole }
+{}
+
+/// The buffers of live sides hold exactly the bytes that are under way: what was read and not moved, and what was moved and not
+/// given. Where both sides of a link live, that is what was read at either and not given to the other.
+pub fn buffered_is_underway()
+    ensures { BufferedIsUnderway }
 {}
 
 /// With no hooks, timeouts and filters a side is freed for one of three causes: writing was ended at both sides of its link, its

@@ -40,7 +40,7 @@ use Rattle.relay_model.proofs.StepLemmas.{put-effect}
 use Rattle.relay_model.proofs.KindLemmas.{PutKind, put-kind}
 
 -- what the state says of an end that has ended, for every name
-ended-is : (g : Settings) (t : Trace) (x : Stage) (s : Plain) → Kept g t x s → (e : SideId) → (side_at s e).ended ≡ has_ended e t
+pub ended-is : (g : Settings) (t : Trace) (x : Stage) (s : Plain) → Kept g t x s → (e : SideId) → (side_at s e).ended ≡ has_ended e t
 ended-is g t x s k e = go (cases_lt e.link s.opened)
   where
     go : (e.link < s.opened) ⊎ (s.opened ≤ e.link) → (side_at s e).ended ≡ has_ended e t

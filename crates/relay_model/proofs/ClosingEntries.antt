@@ -11,7 +11,7 @@ use Rattle.relay_model.specs.Plain.{Plain, side_at, is_live}
 use Rattle.relay_model.specs.Past.{Past}
 use Rattle.relay_model.specs.Close.{CloseStep, entry_where, closing_entry, freed_entry, fault}
 use Rattle.relay_model.specs.RatesKept.{is_turn, time_by}
-use Rattle.relay_model.specs.TurnLaws.{is_opened}
+use Rattle.relay_model.specs.Totals.{is_opened}
 use Rattle.relay_model.proofs.PastLemmas.{is_still}
 
 -- a free, an end of writing or a close

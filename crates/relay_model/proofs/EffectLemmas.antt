@@ -6,9 +6,9 @@ use Rattle.relay_model.specs.Trace.{ended_by, write_closed_by}
 use Rattle.relay_model.specs.Settings.{Settings}
 use Rattle.relay_model.specs.Plain.{Plain, side_at}
 use Rattle.relay_model.specs.Stages.{Stage}
-use Rattle.relay_model.specs.Turn.{latest}
+use Rattle.ev_types.specs.Times.{latest}
 use Rattle.relay_model.specs.RatesKept.{is_turn, time_by}
-use Rattle.relay_model.specs.TurnLaws.{is_opened}
+use Rattle.relay_model.specs.Totals.{is_opened}
 use Rattle.relay_model.specs.Told.{names, freed_by, end_closed_by, failed_by, is_freeing}
 use Rattle.relay_model.proofs.SeenLemmas.{Seen, seen}
 

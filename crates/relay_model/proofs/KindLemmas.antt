@@ -26,7 +26,8 @@ use Rattle.relay_model.specs.Moments.{time_passed}
 use Rattle.relay_model.specs.Serve.{marks_left, after_conn, after_read, after_write, CarriesTook, CarriesGot}
 use Rattle.relay_model.specs.Close.{CloseStep, fault, freed_entry, closing_entry, closed_by, steps_left, is_complete}
 use Rattle.relay_model.specs.Stages.{Stage, Fire, State, at, Between, Polling, Wanting, Marking, Accepting, Serving, Dispatching, Firing, Freeing, Closing, Over, Halt, begun, after_ask}
-use Rattle.relay_model.specs.Turn.{turned_to, after_reading, Puts, latest}
+use Rattle.ev_types.specs.Times.{latest}
+use Rattle.relay_model.specs.Turn.{turned_to, after_reading, Puts}
 use Rattle.relay_model.proofs.KeepsLemmas.{Keeps}
 use Rattle.relay_model.proofs.SeenLemmas.{seen}
 use Rattle.relay_model.proofs.PlacedLemmas.{Placed}

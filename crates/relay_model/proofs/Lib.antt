@@ -66,4 +66,11 @@ pub mod TotalLemmas
 pub mod LeftLemmas
 pub mod LeftSteps
 pub mod NextLemmas
+pub mod FilterRunLemmas
+pub mod FilterEndLemmas
+pub mod FilterStepLemmas
+pub mod FilterCutLemmas
+pub mod FilterFitLemmas
 mod QuietExamples
+pub mod AccountedLemmas
+pub mod PollLemmas

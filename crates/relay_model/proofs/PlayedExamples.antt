@@ -14,8 +14,9 @@ use Rattle.ev_types.specs.Trace.{Event, Trace}
 use Rattle.relay_model.specs.Settings.{usual}
 use Rattle.relay_model.specs.Rooms.{Want}
 use Rattle.relay_model.specs.Answers.{TurnAnswer}
-use Rattle.relay_model.specs.Lines.{Line}
-use Rattle.relay_model.specs.Script.{Script, ScriptTurn}
+use Rattle.ev_types.specs.declared.turn_line.TurnLine.TheVariants as line
+use Rattle.ev_types.specs.ScriptTurn.{ScriptTurn}
+use Rattle.relay_model.specs.Script.{Script}
 use Rattle.relay_model.specs.Plays.{Step, TookAll, Plays}
 use Rattle.relay_model.proofs.PlayedLemmas.{always_took, is_empty}
 
@@ -40,7 +41,7 @@ hi = 104 ∷ 105 ∷ []
 
 -- Two bytes go through, and the end behind them.
 abbrev hi_script : Script
-hi_script = script ((0, Line.NewLink false ∷ []) ∷ (1, Line.Pending i hi ∷ Line.Eof i ∷ Line.Take o None ∷ []) ∷ (2, []) ∷ [])
+hi_script = script ((0, line.NewLink false ∷ []) ∷ (1, line.Pending i hi ∷ line.Eof i ∷ line.Take o None ∷ []) ∷ (2, []) ∷ [])
 
 abbrev hi_trace : Trace
 hi_trace =
@@ -68,9 +69,9 @@ ok = 50 ∷ 48 ∷ 48 ∷ []
 
 abbrev both_script : Script
 both_script = script (
-    (0, Line.NewLink false ∷ [])
-    ∷ (1, Line.Pending i get ∷ Line.Eof i ∷ Line.Take i None ∷ Line.Take o None ∷ [])
-    ∷ (2, Line.Pending o ok ∷ Line.Eof o ∷ []) ∷ (3, []) ∷ [])
+    (0, line.NewLink false ∷ [])
+    ∷ (1, line.Pending i get ∷ line.Eof i ∷ line.Take i None ∷ line.Take o None ∷ [])
+    ∷ (2, line.Pending o ok ∷ line.Eof o ∷ []) ∷ (3, []) ∷ [])
 
 abbrev pub both_trace : Trace
 both_trace =
@@ -96,7 +97,7 @@ both-is_played = record { answered = (both_steps, refl); took_all = always_took 
 
 -- A connection fails.
 abbrev failed_script : Script
-failed_script = script ((0, Line.NewLink true ∷ []) ∷ (1, Line.Pending i (97 ∷ []) ∷ Line.Decide 0 false ∷ []) ∷ [])
+failed_script = script ((0, line.NewLink true ∷ []) ∷ (1, line.Pending i (97 ∷ []) ∷ line.Conn 0 false ∷ []) ∷ [])
 
 abbrev pub failed_trace : Trace
 failed_trace =
@@ -117,7 +118,7 @@ failed-is_played = record { answered = (failed_steps, refl); took_all = always_t
 -- A link waits and isn't opened. That may be so where memory was wanting before accepting ended; but no turn goes on so, and
 -- no run says that all is well.
 abbrev one_link : Script
-one_link = script ((0, Line.NewLink false ∷ []) ∷ [])
+one_link = script ((0, line.NewLink false ∷ []) ∷ [])
 
 abbrev idle : Trace
 idle = plain (entry.Turn 0) ∷ plain (entry.Poll None) ∷ []

@@ -5,7 +5,7 @@ use Rattle.std.proofs.lemmas.Bool.{false≢true}
 use Rattle.std.proofs.lemmas.List.Sums.{fold-append}
 use mathlib.Core.Logic.{inl}
 use Rattle.ev_types.specs.Trace.{Trace}
-use Rattle.relay_model.specs.Script.{ScriptTurn}
+use Rattle.ev_types.specs.ScriptTurn.{ScriptTurn}
 use Rattle.relay_model.specs.Scripted.{waiting}
 use Rattle.relay_model.specs.Plays.{events, TookAll, is_behind_accepting, AlwaysTookAll, AnswersGoOn}
 

@@ -1,43 +1,28 @@
 -- What is read in a played run is what the script brought in.
-use Rattle.std.proofs.Common.{◌≡◌, ℕ, zero, suc, ◌+◌, Bool, true, false, ◌==◌, if◌then◌else◌, List, [], ◌∷◌, ◌++◌, length, take, drop, min, fold, count_by, nat_le, append_assoc, refl, sym, ◌∙◌, ap, subst, arith, eqb-true}
+use Rattle.std.proofs.Common.{◌≡◌, ℕ, zero, suc, ◌+◌, Bool, true, false, if◌then◌else◌, List, [], ◌∷◌, ◌++◌, length, take, drop, min, fold, count_by, nat_le, append_assoc, refl, sym, ◌∙◌, ap, subst, arith}
 use Rattle.std.specs.List.{flat_map}
-use Rattle.std.proofs.lemmas.Bool.{and_parts}
 use Rattle.std.proofs.lemmas.Grind.{flat_map-append}
 use Rattle.std.proofs.lemmas.List.{append-nil, take-append-drop, take-take}
 use Rattle.std.proofs.lemmas.List.Sums.{sum_by-append}
-use Rattle.ev_types.specs.declared.side.Side.{Side}
-use Rattle.ev_types.specs.declared.side.Side.TheVariants.{In, Out}
 use Rattle.ev_types.specs.declared.side.SideId.{SideId}
 use Rattle.ev_types.specs.declared.answer.ReadAnswer.{ReadAnswer}
 use Rattle.ev_types.specs.declared.answer.ReadAnswer.TheVariants as read
 use Rattle.ev_types.specs.declared.entry.Entry.{Entry}
 use Rattle.ev_types.specs.declared.entry.Entry.TheVariants as entry
-use Rattle.ev_types.specs.Sides.{same_side, same_end}
+use Rattle.ev_types.specs.Sides.{same_end}
 use Rattle.ev_types.specs.Trace.{Event, Trace}
 use Rattle.relay_model.specs.Trace.{bytes_read}
 use Rattle.relay_model.specs.FilterLaws.{IsPrefixOf}
 use Rattle.relay_model.specs.Rooms.{Want}
 use Rattle.relay_model.specs.RatesKept.{is_turn}
 use Rattle.relay_model.specs.Lines.{brings}
-use Rattle.relay_model.specs.Script.{ScriptTurn}
+use Rattle.ev_types.specs.ScriptTurn.{ScriptTurn}
 use Rattle.relay_model.specs.Totals.{opened}
 use Rattle.relay_model.specs.Scripted.{pending, waiting, poll_fails, marks, reads_fail, is_ended}
 use Rattle.relay_model.specs.Plays.{Step, want_events, ready_events, accepted, own_events, events, IsAnswered, ReadsWhatComes}
 use Rattle.relay_model.proofs.ListLemmas.{IsPrefixOf-append, IsPrefixOf-rest, IsPrefixOf-trans}
 use Rattle.relay_model.proofs.TraceLemmas.{bytes_read-append}
-
-same_side-eq : (a b : Side) → same_side a b ≡ true → a ≡ b
-same_side-eq In In h = refl
-same_side-eq Out Out h = refl
-same_side-eq In Out h = absurd (cc)
-same_side-eq Out In h = absurd (cc)
-
-same_end-eq : (a b : SideId) → same_end a b ≡ true → a ≡ b
-same_end-eq a b h =
-    let p = and_parts (a.link == b.link) (same_side a.side b.side) h in
-    let l : a.link ≡ b.link = eqb-true a.link b.link p.0 in
-    let k = same_side-eq a.side b.side p.1 in
-    λ i. record { link = l i; side = k i }
+use Rattle.relay_model.proofs.EndLemmas.{same_end-eq}
 
 module _ (e : SideId) where
   -- no turn begins, and nothing is read from the end

@@ -1,5 +1,5 @@
 -- A run over a script goes on by a turn that took all links.
-use Rattle.std.proofs.Common.{◌≡◌, ◌⊎◌, inl, inr, ℕ, ◌≤◌, Bool, true, false, ◌||◌, if◌then◌else◌, List, [], ◌∷◌, ◌++◌, drop, take, count_by, refl, sym, ◌∙◌, ap, subst, arith, append_assoc}
+use Rattle.std.proofs.Common.{◌≡◌, ◌⊎◌, inl, inr, ℕ, ◌≤◌, Bool, true, false, ◌||◌, ◌&&◌, if◌then◌else◌, List, [], ◌∷◌, ◌++◌, drop, take, count_by, refl, sym, ◌∙◌, ap, subst, arith, append_assoc}
 use Rattle.std.specs.Bool.{⊤, MatchBool}
 use Rattle.std.specs.List.{flat_map, list_any, list_all}
 use Rattle.std.proofs.lemmas.List.{append-nil}
@@ -10,8 +10,9 @@ use Rattle.ev_types.specs.Trace.{Event, Trace}
 use Rattle.relay_model.specs.RatesKept.{is_turn}
 use Rattle.relay_model.specs.Totals.{is_opened, opened, opened_by, opened_in_turn}
 use Rattle.relay_model.specs.Lines.{links_by}
-use Rattle.relay_model.specs.Script.{ScriptTurn}
-use Rattle.relay_model.specs.Plays.{TookAll, is_behind_accepting, is_served, AlwaysTookAll, TurnTakesAll}
+use Rattle.ev_types.specs.ScriptTurn.{ScriptTurn}
+use Rattle.relay_model.specs.Scripted.{waiting}
+use Rattle.relay_model.specs.Plays.{AllTaken, TookAll, is_behind_accepting, is_served, AlwaysAllTaken, AlwaysTookAll, TurnTakesAll}
 
 -- a served entry begins no turn and opens no link
 record IsQuiet (x : Event) : Type 0 where
@@ -52,26 +53,25 @@ counts-all_served t (x ∷ u) h =
     let parts = and_parts (is_served x) (list_all is_served u) h in
     ap counts (sym (append_assoc t (x ∷ []) u)) ∙ counts-all_served (t ++ x ∷ []) u parts.1 ∙ counts-served t x parts.0
 
-module _ (turns : List ScriptTurn) (links : ℕ) where
-  abbrev Took : Counts → Type 0
-  Took c = (drop c.opened (flat_map links_by (flat_map (λ turn. turn.1) (take c.turns turns))) ≡ []) ⊎ (c.in_turn ≡ 64) ⊎ (links ≤ c.opened)
+-- Where no link waits, none does behind entries that are served.
+abbrev pub StaysServed : (Trace → Type 0) → Type 0
+StaysServed none_waits = (t u : Trace) → list_all is_served u ≡ true → none_waits t → none_waits (t ++ u)
 
-  took_as : (t u : Trace) → counts t ≡ counts u → TookAll turns links t → TookAll turns links u
-  took_as t u same h = subst Took same h
-
-  always-append : (before t u : Trace) → AlwaysTookAll turns links before t → AlwaysTookAll turns links (before ++ t) u → AlwaysTookAll turns links before (t ++ u)
-  always-append before [] u h k = subst (λ z. AlwaysTookAll turns links z u) (append-nil before) k
+module _ (none_waits : Trace → Type 0) (links : ℕ) where
+  pub always-append : (before t u : Trace) → AlwaysAllTaken none_waits links before t → AlwaysAllTaken none_waits links (before ++ t) u → AlwaysAllTaken none_waits links before (t ++ u)
+  always-append before [] u h k = subst (λ z. AlwaysAllTaken none_waits links z u) (append-nil before) k
   always-append before (x ∷ t) u h k =
-      (h.0, always-append (before ++ x ∷ []) t u h.1 (subst (λ z. AlwaysTookAll turns links z u) (sym (append_assoc before (x ∷ []) t)) k))
+      (h.0, always-append (before ++ x ∷ []) t u h.1 (subst (λ z. AlwaysAllTaken none_waits links z u) (sym (append_assoc before (x ∷ []) t)) k))
 
-  always-accepting : (before t : Trace) → list_any is_behind_accepting t ≡ false → AlwaysTookAll turns links before t
+  -- nothing is asked of entries before accepting has ended
+  pub always-accepting : (before t : Trace) → list_any is_behind_accepting t ≡ false → AlwaysAllTaken none_waits links before t
   always-accepting before [] h = tt
   always-accepting before (x ∷ t) h = by_test (λ k. always-accepting (before ++ x ∷ []) t k) (is_behind_accepting x) refl
     where
-      by_test : (list_any is_behind_accepting t ≡ false → AlwaysTookAll turns links (before ++ x ∷ []) t) → (b : Bool) → is_behind_accepting x ≡ b → AlwaysTookAll turns links before (x ∷ t)
+      by_test : (list_any is_behind_accepting t ≡ false → AlwaysAllTaken none_waits links (before ++ x ∷ []) t) → (b : Bool) → is_behind_accepting x ≡ b → AlwaysAllTaken none_waits links before (x ∷ t)
       by_test rest true e = absurd (let k = ap (λ b. b || list_any is_behind_accepting t) e in cc)
       by_test rest false e = (
-        subst (λ b. MatchBool b (TookAll turns links before) ⊤) (sym e) tt,
+        subst (λ b. MatchBool b (AllTaken none_waits links before) ⊤) (sym e) tt,
         rest (sym (ap (λ b. b || list_any is_behind_accepting t) e) ∙ h),
       )
 
@@ -79,18 +79,39 @@ module _ (turns : List ScriptTurn) (links : ℕ) where
   anyway true P p = p
   anyway false P p = tt
 
-  always-served : (before t : Trace) → list_all is_served t ≡ true → TookAll turns links before → AlwaysTookAll turns links before t
-  always-served before [] h took = tt
-  always-served before (x ∷ t) h took =
-      let parts = and_parts (is_served x) (list_all is_served t) h in (
-        anyway (is_behind_accepting x) (TookAll turns links before) took,
-        always-served (before ++ x ∷ []) t parts.1 (took_as before (before ++ x ∷ []) (sym (counts-served before x parts.0)) took),
+  -- so where all was taken, it stays so
+  pub took-served : StaysServed none_waits → (t u : Trace) → list_all is_served u ≡ true → AllTaken none_waits links t → AllTaken none_waits links (t ++ u)
+  took-served stays t u h (inl none) = inl (stays t u h none)
+  took-served stays t u h (inr (inl many)) = inr (inl (ap (λ c. c.in_turn) (counts-all_served t u h) ∙ many))
+  took-served stays t u h (inr (inr all)) = inr (inr (subst (λ n. links ≤ n) (sym (ap (λ c. c.opened) (counts-all_served t u h))) all))
+
+  pub always-served : StaysServed none_waits → (before t : Trace) → list_all is_served t ≡ true → AllTaken none_waits links before → AlwaysAllTaken none_waits links before t
+  always-served stays before [] h took = tt
+  always-served stays before (x ∷ t) h took =
+      let parts = and_parts (is_served x) (list_all is_served t) h in
+      let one : list_all is_served (x ∷ []) ≡ true = ap (λ b. b && true) parts.0 in (
+        anyway (is_behind_accepting x) (AllTaken none_waits links before) took,
+        always-served stays (before ++ x ∷ []) t parts.1 (took-served stays before (x ∷ []) one took),
       )
+
+module _ (turns : List ScriptTurn) (links : ℕ) where
+  abbrev TookBy : Counts → Type 0
+  TookBy c = (drop c.opened (flat_map links_by (flat_map (λ turn. turn.1) (take c.turns turns))) ≡ []) ⊎ (c.in_turn ≡ 64) ⊎ (links ≤ c.opened)
+
+  took_as : (t u : Trace) → counts t ≡ counts u → TookAll turns links t → TookAll turns links u
+  took_as t u same h = subst TookBy same h
+
+abbrev none_waiting : List ScriptTurn → Trace → Type 0
+none_waiting turns u = waiting turns u ≡ []
+
+waiting-served : (turns : List ScriptTurn) → StaysServed (none_waiting turns)
+waiting-served turns t u h none =
+    subst (λ (c : Counts). drop c.opened (flat_map links_by (flat_map (λ turn. turn.1) (take c.turns turns))) ≡ []) (sym (counts-all_served t u h)) none
 
 pub turn_takes_all : TurnTakesAll
 turn_takes_all turns links t ms accepting behind so_far began quiet served ends =
-    always-append turns links [] t ((entry.Turn ms, []) ∷ (accepting ++ behind)) so_far
-    (began, always-append turns links (t ++ (entry.Turn ms, []) ∷ []) accepting behind (always-accepting turns links _ accepting quiet) (at_end behind served ends))
+    always-append (none_waiting turns) links [] t ((entry.Turn ms, []) ∷ (accepting ++ behind)) so_far
+    (began, always-append (none_waiting turns) links (t ++ (entry.Turn ms, []) ∷ []) accepting behind (always-accepting (none_waiting turns) links _ accepting quiet) (at_end behind served ends))
   where
     at_end : (u : Trace) → list_all is_served u ≡ true → (u ≡ []) ⊎ TookAll turns links (t ++ (entry.Turn ms, []) ∷ (accepting ++ u)) →
         AlwaysTookAll turns links ((t ++ (entry.Turn ms, []) ∷ []) ++ accepting) u
@@ -99,4 +120,4 @@ turn_takes_all turns links t ms accepting behind so_far began quiet served ends 
         let front = (t ++ (entry.Turn ms, []) ∷ []) ++ accepting in
         let whole : front ++ u ≡ t ++ (entry.Turn ms, []) ∷ (accepting ++ u) =
         append_assoc (t ++ (entry.Turn ms, []) ∷ []) accepting u ∙ append_assoc t ((entry.Turn ms, []) ∷ []) (accepting ++ u) in
-        always-served turns links front u s (took_as turns links (t ++ (entry.Turn ms, []) ∷ (accepting ++ u)) front (ap counts (sym whole) ∙ counts-all_served front u s) took)
+        always-served (none_waiting turns) links (waiting-served turns) front u s (took_as turns links (t ++ (entry.Turn ms, []) ∷ (accepting ++ u)) front (ap counts (sym whole) ∙ counts-all_served front u s) took)

@@ -13,7 +13,8 @@ use Rattle.relay_model.specs.Past.{Past}
 use Rattle.relay_model.specs.Rooms.{Want}
 use Rattle.relay_model.specs.Moments.{time_passed}
 use Rattle.relay_model.specs.Stages.{Between, Polling, Accepting}
-use Rattle.relay_model.specs.Turn.{turned_to, latest}
+use Rattle.ev_types.specs.Times.{latest}
+use Rattle.relay_model.specs.Turn.{turned_to}
 use Rattle.relay_model.proofs.EndLemmas.{number-lt}
 use Rattle.relay_model.proofs.KeepsLemmas.{Keeps, Keeps-side, Keeps-length}
 use Rattle.relay_model.proofs.SeenLemmas.{seen, but_expired, time_passed-keeps}

@@ -7,9 +7,9 @@ use Rattle.ev_types.specs.Trace.{Event}
 use Rattle.relay_model.specs.Settings.{Settings}
 use Rattle.relay_model.specs.Plain.{Plain, PlainSide, side_at, put_side}
 use Rattle.relay_model.specs.Stages.{Stage}
-use Rattle.relay_model.specs.Turn.{latest}
+use Rattle.ev_types.specs.Times.{latest}
 use Rattle.relay_model.specs.RatesKept.{is_turn, time_by}
-use Rattle.relay_model.specs.TurnLaws.{is_opened}
+use Rattle.relay_model.specs.Totals.{is_opened}
 use Rattle.relay_model.specs.Told.{names, is_freeing}
 use Rattle.relay_model.proofs.EndLemmas.{same_end-eq, same_end-flip}
 use Rattle.relay_model.proofs.KeepsLemmas.{Keeps, Keeps-side, Keeps-length, change_side-same, change_side-other}

@@ -14,7 +14,8 @@ use Rattle.relay_model.specs.Plain.{Plain, side_at, is_live, freed}
 use Rattle.relay_model.specs.Past.{Past, past}
 use Rattle.relay_model.specs.Close.{CloseStep}
 use Rattle.relay_model.specs.Stages.{Stage, State}
-use Rattle.relay_model.specs.Turn.{Reaches, latest}
+use Rattle.ev_types.specs.Times.{latest}
+use Rattle.relay_model.specs.Turn.{Reaches}
 use Rattle.relay_model.specs.Told.{freed_by, is_freed, end_closed_by, is_freeing}
 use Rattle.relay_model.proofs.EndLemmas.{same_end-eq, same_end-refl}
 use Rattle.relay_model.proofs.PlacedLemmas.{Placed, may_read-parts, may_write-live, link_of}

@@ -12,7 +12,8 @@ use Rattle.relay_model.specs.Plain.{Plain, nothing_yet}
 use Rattle.relay_model.specs.Stages.{State, start}
 use Rattle.relay_model.specs.Turn.{Puts, Quietly, Reaches, begins, goes, puts, IsLegal}
 use Rattle.relay_model.specs.RatesKept.{is_turn, time_by, last_time}
-use Rattle.relay_model.specs.TurnLaws.{is_opened, ShapeIsTold, TraceTellsShape, BeginningsAreLegal}
+use Rattle.relay_model.specs.Totals.{is_opened}
+use Rattle.relay_model.specs.TurnLaws.{ShapeIsTold, TraceTellsShape, BeginningsAreLegal}
 use Rattle.relay_model.proofs.QuietSteps.{KeptQuietly, kept-quietly}
 use Rattle.relay_model.proofs.Shapes.{one_where, ShapeBy, shape-puts}
 

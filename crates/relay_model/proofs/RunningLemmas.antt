@@ -8,6 +8,7 @@ use Rattle.std.proofs.Math.Seq.{take-add}
 use Rattle.ev_types.specs.declared.filter.FilterKind.TheVariants as kind
 use Rattle.relay_model.specs.Filter.{Filter, filter_of, holds, CR, to_lf, last_cr, hex_in, not_hex_from, or_else, odd_end}
 use Rattle.relay_model.specs.FilterLaws.{last_of}
+use Rattle.relay_model.specs.FilterRun.{is_cr}
 use Rattle.relay_model.specs.ConservedLaws.{RunningIsKnown}
 use Rattle.relay_model.proofs.ListLemmas.{last_or-append}
 use Rattle.relay_model.proofs.FilterLemmas.{cr_of, last_cr-last}
@@ -38,11 +39,6 @@ pub holds-none : (f : Filter) (xs : List ℕ) → f.at_end xs ≡ f.before xs �
 holds-none f xs same good =
     ap (λ b. not b || (is_some (f.bad_at_end xs) && is_none (f.bad xs))) (same_bytes (f.at_end xs) (f.before xs) same)
     ∙ ap (λ o. is_some o && is_none (f.bad xs)) good
-
--- is a last byte CR
-abbrev pub is_cr : Option ℕ → Bool
-is_cr None = false
-is_cr (Some x) = x == CR
 
 longer_differs : (xs : List ℕ) (z : ℕ) (zs : List ℕ) → bytes_eq (xs ++ (z ∷ zs)) xs ≡ false
 longer_differs xs z zs = by_test (bytes_eq (xs ++ (z ∷ zs)) xs) refl

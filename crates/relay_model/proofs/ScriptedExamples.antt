@@ -14,10 +14,13 @@ use Rattle.ev_types.specs.declared.entry.Entry.TheVariants as entry
 use Rattle.ev_types.specs.Trace.{Event, Trace}
 use Rattle.relay_model.specs.Settings.{usual}
 use Rattle.relay_model.specs.Rooms.{Want}
-use Rattle.relay_model.specs.Lines.{Line}
+use Rattle.ev_types.specs.declared.turn_line.TurnLine.{TurnLine}
+use Rattle.ev_types.specs.declared.turn_line.TurnLine.TheVariants as line
 use Rattle.relay_model.specs.Plans.{Planned, IsPlanned}
-use Rattle.relay_model.specs.Script.{Script, ScriptTurn, closing_step, run_settings, plan_of}
+use Rattle.ev_types.specs.ScriptTurn.{ScriptTurn}
+use Rattle.relay_model.specs.Script.{Script, closing_step, run_settings, plan_of}
 use Rattle.relay_model.specs.Hooked.{heard_in, asked_in}
+use Rattle.relay_model.specs.Polls.{fails_among}
 use Rattle.relay_model.specs.Plays.{Step, trace_of}
 
 abbrev i : SideId
@@ -36,7 +39,7 @@ abbrev played : List ScriptTurn → List Step → Trace
 played turns steps = trace_of turns 1000 steps
 
 -- one turn of these lines, and closing turns behind it
-abbrev once : List Line → List Step → Trace
+abbrev once : List TurnLine → List Step → Trace
 once lines steps = played ((0, lines) ∷ []) (Step.Now ∷ steps)
 
 -- The clock may fall, and the time stays. Closing turns go on from the last reading.
@@ -52,79 +55,79 @@ clock-step : closing_step usual ≡ 1000
 clock-step = refl
 
 -- Links are taken in their order, and none where none waits.
-links-in_order : once (Line.NewLink false ∷ Line.NewLink true ∷ []) (Step.Accept ∷ Step.Accept ∷ Step.Accept ∷ [])
+links-in_order : once (line.NewLink false ∷ line.NewLink true ∷ []) (Step.Accept ∷ Step.Accept ∷ Step.Accept ∷ [])
     ≡ plain (entry.Turn 0) ∷ plain (entry.Opened 0 true) ∷ plain (entry.Opened 1 false) ∷ []
 links-in_order = refl
 
 -- A read gives what is pending, and then fails or is ended.
-reads-in_parts : once (Line.NewLink false ∷ Line.Pending i (1 ∷ 2 ∷ []) ∷ Line.Pending o (7 ∷ []) ∷ Line.Pending i (3 ∷ []) ∷ Line.Eof i ∷ []) (Step.Read i 2 ∷ Step.Read i 2 ∷ Step.Read i 2 ∷ Step.Read o 2 ∷ Step.Read o 2 ∷ [])
+reads-in_parts : once (line.NewLink false ∷ line.Pending i (1 ∷ 2 ∷ []) ∷ line.Pending o (7 ∷ []) ∷ line.Pending i (3 ∷ []) ∷ line.Eof i ∷ []) (Step.Read i 2 ∷ Step.Read i 2 ∷ Step.Read i 2 ∷ Step.Read o 2 ∷ Step.Read o 2 ∷ [])
     ≡ plain (entry.Turn 0) ∷ (entry.Read i 2 (read.Got 2), 1 ∷ 2 ∷ []) ∷ (entry.Read i 2 (read.Got 1), 3 ∷ []) ∷ plain (entry.Read i 2 read.Ended)
     ∷ (entry.Read o 2 (read.Got 1), 7 ∷ []) ∷ plain (entry.Read o 2 read.NotYet) ∷ []
 reads-in_parts = refl
 
-reads-fail_first : once (Line.Pending i (1 ∷ []) ∷ Line.Eof i ∷ Line.FailReads i ∷ []) (Step.Read i 2 ∷ Step.Read i 2 ∷ [])
+reads-fail_first : once (line.Pending i (1 ∷ []) ∷ line.Eof i ∷ line.ReadFail i ∷ []) (Step.Read i 2 ∷ Step.Read i 2 ∷ [])
     ≡ plain (entry.Turn 0) ∷ (entry.Read i 2 (read.Got 1), 1 ∷ []) ∷ plain (entry.Read i 2 read.Failed) ∷ []
 reads-fail_first = refl
 
 -- A write takes what it may, and then fails or waits. A closing turn takes everything.
-writes-in_parts : once (Line.Take o (Some 1) ∷ Line.Take o (Some 2) ∷ Line.Take i (Some 1) ∷ Line.FailWrites o ∷ [])
+writes-in_parts : once (line.Take o (Some 1) ∷ line.Take o (Some 2) ∷ line.Take i (Some 1) ∷ line.WriteFail o ∷ [])
     (Step.Write o (1 ∷ 2 ∷ []) ∷ Step.Write o (3 ∷ 4 ∷ []) ∷ Step.Write o (4 ∷ []) ∷ Step.Write i (5 ∷ []) ∷ Step.Write i (6 ∷ []) ∷ Step.Now ∷ Step.Write o (4 ∷ []) ∷ Step.Write i (6 ∷ []) ∷ [])
     ≡ plain (entry.Turn 0) ∷ (entry.Write o 2 (write.Took 2), 1 ∷ 2 ∷ []) ∷ (entry.Write o 2 (write.Took 1), 3 ∷ []) ∷ plain (entry.Write o 1 write.Failed)
     ∷ (entry.Write i 1 (write.Took 1), 5 ∷ []) ∷ plain (entry.Write i 1 write.NotYet)
     ∷ plain (entry.Turn 1000) ∷ (entry.Write o 1 (write.Took 1), 4 ∷ []) ∷ (entry.Write i 1 (write.Took 1), 6 ∷ []) ∷ []
 writes-in_parts = refl
 
-writes-any_number : once (Line.Take o None ∷ []) (Step.Write o (1 ∷ 2 ∷ []) ∷ []) ≡ plain (entry.Turn 0) ∷ (entry.Write o 2 (write.Took 2), 1 ∷ 2 ∷ []) ∷ []
+writes-any_number : once (line.Take o None ∷ []) (Step.Write o (1 ∷ 2 ∷ []) ∷ []) ≡ plain (entry.Turn 0) ∷ (entry.Write o 2 (write.Took 2), 1 ∷ 2 ∷ []) ∷ []
 writes-any_number = refl
 
 -- An undecided end waits for the first decision, which a closing turn brings.
-check-decided : once (Line.NewLink true ∷ Line.NewLink true ∷ Line.Decide 1 true ∷ Line.Decide 0 false ∷ Line.Decide 0 true ∷ []) (Step.Check o ∷ Step.Check (record { link = 1; side = Out }) ∷ [])
+check-decided : once (line.NewLink true ∷ line.NewLink true ∷ line.Conn 1 true ∷ line.Conn 0 false ∷ line.Conn 0 true ∷ []) (Step.Check o ∷ Step.Check (record { link = 1; side = Out }) ∷ [])
     ≡ plain (entry.Turn 0) ∷ plain (entry.Conn o conn.Failed) ∷ plain (entry.Conn (record { link = 1; side = Out }) conn.Connected) ∷ []
 check-decided = refl
 
-check-closing : once (Line.NewLink true ∷ []) (Step.Check o ∷ Step.Now ∷ Step.Check o ∷ []) ≡ plain (entry.Turn 0) ∷ plain (entry.Conn o conn.Pending) ∷ plain (entry.Turn 1000) ∷ plain (entry.Conn o conn.Connected) ∷ []
+check-closing : once (line.NewLink true ∷ []) (Step.Check o ∷ Step.Now ∷ Step.Check o ∷ []) ≡ plain (entry.Turn 0) ∷ plain (entry.Conn o conn.Pending) ∷ plain (entry.Turn 1000) ∷ plain (entry.Conn o conn.Connected) ∷ []
 check-closing = refl
 
 -- The poll marks what is wanted and can be done, but for the lines that mark all or fail it in their turn alone.
 abbrev wants_all : List Want
 wants_all = want i true true ∷ want o true true ∷ []
 
-abbrev polled : List Line → Trace
+abbrev polled : List TurnLine → Trace
 polled lines = once lines (Step.Poll (Some 9) wants_all ∷ [])
 
 abbrev poll_then : Trace → Trace
 poll_then marks = plain (entry.Turn 0) ∷ plain (entry.Poll (Some 9)) ∷ plain (entry.Want i true true) ∷ plain (entry.Want o true true) ∷ marks
 
-poll-nothing : polled (Line.NewLink false ∷ []) ≡ poll_then []
+poll-nothing : polled (line.NewLink false ∷ []) ≡ poll_then []
 poll-nothing = refl
 
-poll-pending : polled (Line.NewLink false ∷ Line.Pending i (1 ∷ []) ∷ Line.Take o (Some 1) ∷ []) ≡ poll_then (plain (entry.Ready i true false) ∷ plain (entry.Ready o false true) ∷ [])
+poll-pending : polled (line.NewLink false ∷ line.Pending i (1 ∷ []) ∷ line.Take o (Some 1) ∷ []) ≡ poll_then (plain (entry.Ready i true false) ∷ plain (entry.Ready o false true) ∷ [])
 poll-pending = refl
 
-poll-at_the_end : polled (Line.NewLink false ∷ Line.Eof i ∷ Line.FailReads o ∷ []) ≡ poll_then (plain (entry.Ready i true false) ∷ plain (entry.Ready o true false) ∷ [])
+poll-at_the_end : polled (line.NewLink false ∷ line.Eof i ∷ line.ReadFail o ∷ []) ≡ poll_then (plain (entry.Ready i true false) ∷ plain (entry.Ready o true false) ∷ [])
 poll-at_the_end = refl
 
-poll-failing_writes : polled (Line.NewLink false ∷ Line.FailWrites o ∷ Line.Take i None ∷ []) ≡ poll_then (plain (entry.Ready i false true) ∷ plain (entry.Ready o false true) ∷ [])
+poll-failing_writes : polled (line.NewLink false ∷ line.WriteFail o ∷ line.Take i None ∷ []) ≡ poll_then (plain (entry.Ready i false true) ∷ plain (entry.Ready o false true) ∷ [])
 poll-failing_writes = refl
 
-poll-undecided : polled (Line.NewLink true ∷ Line.Take o None ∷ []) ≡ poll_then []
+poll-undecided : polled (line.NewLink true ∷ line.Take o None ∷ []) ≡ poll_then []
 poll-undecided = refl
 
-poll-decided : polled (Line.NewLink true ∷ Line.Decide 0 false ∷ []) ≡ poll_then (plain (entry.Ready o false true) ∷ [])
+poll-decided : polled (line.NewLink true ∷ line.Conn 0 false ∷ []) ≡ poll_then (plain (entry.Ready o false true) ∷ [])
 poll-decided = refl
 
-poll-connected : once (Line.NewLink true ∷ Line.Decide 0 true ∷ []) (Step.Check o ∷ Step.Poll None (want o false true ∷ []) ∷ [])
+poll-connected : once (line.NewLink true ∷ line.Conn 0 true ∷ []) (Step.Check o ∷ Step.Poll None (want o false true ∷ []) ∷ [])
     ≡ plain (entry.Turn 0) ∷ plain (entry.Conn o conn.Connected) ∷ plain (entry.Poll None) ∷ plain (entry.Want o false true) ∷ []
 poll-connected = refl
 
-poll-all_of_an_end : polled (Line.NewLink true ∷ Line.MarkAll o ∷ []) ≡ poll_then (plain (entry.Ready o true true) ∷ [])
+poll-all_of_an_end : polled (line.NewLink true ∷ line.Spur o ∷ []) ≡ poll_then (plain (entry.Ready o true true) ∷ [])
 poll-all_of_an_end = refl
 
-poll-all_in_its_turn : once (Line.NewLink true ∷ Line.MarkAll i ∷ Line.FailPoll ∷ []) (Step.Now ∷ Step.Poll None (want i true false ∷ want o false true ∷ []) ∷ [])
+poll-all_in_its_turn : once (line.NewLink true ∷ line.Spur i ∷ line.PollFail ∷ []) (Step.Now ∷ Step.Poll None (want i true false ∷ want o false true ∷ []) ∷ [])
     ≡ plain (entry.Turn 0) ∷ plain (entry.Turn 1000) ∷ plain (entry.Poll None) ∷ plain (entry.Want i true false) ∷ plain (entry.Want o false true) ∷ plain (entry.Ready o false true) ∷ []
 poll-all_in_its_turn = refl
 
-poll-fails : polled (Line.NewLink false ∷ Line.Pending i (1 ∷ []) ∷ Line.FailPoll ∷ []) ≡ poll_then (plain entry.PollFailed ∷ [])
+poll-fails : polled (line.NewLink false ∷ line.Pending i (1 ∷ []) ∷ line.PollFail ∷ []) ≡ poll_then (plain entry.PollFailed ∷ [])
 poll-fails = refl
 
 -- The sides with a hook are those for which something is planned and a hook was handed in; each has its own lines.
@@ -149,3 +152,13 @@ asks-planned = refl
 
 asks-of_another : IsPlanned (plan_of planned_script i) (heard_in i fired_twice) (asked_in i fired_twice)
 asks-of_another = refl
+
+-- the second of three turns fails its poll
+abbrev failing_second : List ScriptTurn
+failing_second = (0, line.NewLink false ∷ []) ∷ (5, line.Eof i ∷ line.PollFail ∷ []) ∷ (9, []) ∷ []
+
+first-goes : fails_among failing_second 1 ≡ false
+first-goes = refl
+
+second-fails : fails_among failing_second 2 ≡ true
+second-fails = refl

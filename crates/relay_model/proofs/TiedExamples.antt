@@ -3,7 +3,8 @@ use Rattle.std.proofs.Common.{◌≡◌, ◌⊎◌, ℕ, ◌≤◌, ◌-◌, ◌
 use Rattle.ev_types.specs.declared.entry.Entry.TheVariants as entry
 use Rattle.relay_model.specs.Settings.{Settings, usual}
 use Rattle.relay_model.specs.Totals.{is_read_of, is_write_of, is_check_of, room_by, offered_by, wants_read_by, wants_write_by, marks_read_by, marks_write_by, is_made_connected, is_connected, is_closed, opened, opened_in_turn, times, last_timeout, polls_that_accept}
-use Rattle.relay_model.specs.Tied.{TellsNumber, TellsReading, PortTells, ClosedAfterTurn}
+use Rattle.ev_types.specs.Told.{Counts, PortTold}
+use Rattle.relay_model.specs.Tied.{TellsReading, ClosedAfterTurn}
 use Rattle.relay_model.proofs.PlayedExamples.{i, o, both_trace, failed_trace}
 
 reads-of_in : count_by (is_read_of i) both_trace ≡ 2
@@ -68,10 +69,10 @@ port-polls_that_all_accept : polls_that_accept 2 0 both_trace ≡ 4
 port-polls_that_all_accept = refl
 
 -- a number that comes to its end need not be told on
-number-told : TellsNumber (Some 3) (Some 5) 2
+number-told : Counts (Some 3) (Some 5) 2
 number-told = λ fits. refl
 
-number-at_its_end : TellsNumber (Some (2 ^ 64 - 3)) None 2
+number-at_its_end : Counts (Some (2 ^ 64 - 3)) None 2
 number-at_its_end = λ fits. absurd (omega (arith, fits))
 
 -- the clock may fall, and the time of a turn does not
@@ -91,8 +92,8 @@ reading-passes : TellsReading (Some 0) (Some 8) (7 ∷ 7 ∷ []) → ⊥
 reading-passes told = omega (arith, told)
 
 -- Accepting is not left open behind a turn that opened one link of two.
-abbrev left_open : PortTells
-left_open = record { accept_polls = None; timeout = None; links = None; accepting = Some true; readings = None; reading = None }
+abbrev left_open : PortTold
+left_open = record { accept_polls = None; timeout = None; links = None; accepting = Some true; readings = None; reading = None; started = None }
 
 abbrev links_at_most : ℕ → Settings
 links_at_most n = record usual { links = n }

@@ -10,42 +10,43 @@ use Rattle.ev_types.specs.declared.side.SideId.{SideId}
 use Rattle.ev_types.specs.Trace.{Event, Trace}
 use Rattle.relay_model.specs.Trace.{read_by, given_by, ended_by, write_closed_by}
 use Rattle.relay_model.specs.Totals.{is_read_of, is_write_of, is_check_of, room_by, offered_by, wants_read_by, wants_write_by, marks_read_by, marks_write_by, made_connected_by, connected_by, closed_by, last_timeout, polls_that_accept, opened, is_opened, is_poll}
-use Rattle.relay_model.specs.Turn.{latest}
-use Rattle.relay_model.specs.Tied.{TellsBytes, TellsFlag, TellsNumber, TellsReading, LastFollows, EndTells, EndTied, EndTiesJoin, NothingIsTied}
+use Rattle.ev_types.specs.Times.{latest}
+use Rattle.ev_types.specs.Told.{Adds, Raises, Counts, EndTold}
+use Rattle.relay_model.specs.Tied.{TellsReading, LastFollows, EndTied, EndTiesJoin, NothingIsTied}
 
-pub TellsBytes-append : (p q r : Option (List ℕ)) (xs ys : List ℕ) → TellsBytes p q xs → TellsBytes q r ys → TellsBytes p r (xs ++ ys)
-TellsBytes-append None q r xs ys h k = tt
-TellsBytes-append (Some before) q r xs ys h k = subst (λ z. TellsBytes z r ys) h k ∙ ap (λ z. Some z) (append_assoc before xs ys)
+pub Adds-append : (p q r : Option (List ℕ)) (xs ys : List ℕ) → Adds p q xs → Adds q r ys → Adds p r (xs ++ ys)
+Adds-append None q r xs ys h k = tt
+Adds-append (Some before) q r xs ys h k = subst (λ z. Adds z r ys) h k ∙ ap (λ z. Some z) (append_assoc before xs ys)
 
 or_assoc : (a b c : Bool) → ((a || b) || c) ≡ (a || (b || c))
 or_assoc true b c = refl
 or_assoc false b c = refl
 
-pub TellsFlag-or : (p q r : Option Bool) (a b : Bool) → TellsFlag p q a → TellsFlag q r b → TellsFlag p r (a || b)
-TellsFlag-or None q r a b h k = tt
-TellsFlag-or (Some before) q r a b h k = subst (λ z. TellsFlag z r b) h k ∙ ap (λ z. Some z) (or_assoc before a b)
+pub Raises-or : (p q r : Option Bool) (a b : Bool) → Raises p q a → Raises q r b → Raises p r (a || b)
+Raises-or None q r a b h k = tt
+Raises-or (Some before) q r a b h k = subst (λ z. Raises z r b) h k ∙ ap (λ z. Some z) (or_assoc before a b)
 
-pub TellsNumber-plus : (p q r : Option ℕ) (m n : ℕ) → TellsNumber p q m → TellsNumber q r n → TellsNumber p r (m + n)
-TellsNumber-plus None q r m n h k = tt
-TellsNumber-plus (Some before) q r m n h k = λ fits.
+pub Counts-plus : (p q r : Option ℕ) (m n : ℕ) → Counts p q m → Counts q r n → Counts p r (m + n)
+Counts-plus None q r m n h k = tt
+Counts-plus (Some before) q r m n h k = λ fits.
     let first = h (omega (arith, fits)) in
-    let second : (before + m + n < 2 ^ 64 - 1 → r ≡ Some (before + m + n)) = subst (λ z. TellsNumber z r n) first k in
+    let second : (before + m + n < 2 ^ 64 - 1 → r ≡ Some (before + m + n)) = subst (λ z. Counts z r n) first k in
     second (omega (arith, fits)) ∙ ap (λ z. Some z) (omega arith)
 
 module _ (e : SideId) (t u : Trace) where
-  bytes : (p q r : Option (List ℕ)) (f : Event → List ℕ) → TellsBytes p q (flat_map f t) → TellsBytes q r (flat_map f u) → TellsBytes p r (flat_map f (t ++ u))
-  bytes p q r f h k = subst (λ z. TellsBytes p r z) (sym (flat_map-append f t u)) (TellsBytes-append p q r (flat_map f t) (flat_map f u) h k)
+  bytes : (p q r : Option (List ℕ)) (f : Event → List ℕ) → Adds p q (flat_map f t) → Adds q r (flat_map f u) → Adds p r (flat_map f (t ++ u))
+  bytes p q r f h k = subst (λ z. Adds p r z) (sym (flat_map-append f t u)) (Adds-append p q r (flat_map f t) (flat_map f u) h k)
 
-  flag : (p q r : Option Bool) (f : Event → Bool) → TellsFlag p q (list_any f t) → TellsFlag q r (list_any f u) → TellsFlag p r (list_any f (t ++ u))
-  flag p q r f h k = subst (λ z. TellsFlag p r z) (sym (list_any-append f t u)) (TellsFlag-or p q r (list_any f t) (list_any f u) h k)
+  flag : (p q r : Option Bool) (f : Event → Bool) → Raises p q (list_any f t) → Raises q r (list_any f u) → Raises p r (list_any f (t ++ u))
+  flag p q r f h k = subst (λ z. Raises p r z) (sym (list_any-append f t u)) (Raises-or p q r (list_any f t) (list_any f u) h k)
 
-  number : (p q r : Option ℕ) (f : Event → ℕ) → TellsNumber p q (sum_by f t) → TellsNumber q r (sum_by f u) → TellsNumber p r (sum_by f (t ++ u))
-  number p q r f h k = subst (λ z. TellsNumber p r z) (sym (sum_by-append f t u)) (TellsNumber-plus p q r (sum_by f t) (sum_by f u) h k)
+  number : (p q r : Option ℕ) (f : Event → ℕ) → Counts p q (sum_by f t) → Counts q r (sum_by f u) → Counts p r (sum_by f (t ++ u))
+  number p q r f h k = subst (λ z. Counts p r z) (sym (sum_by-append f t u)) (Counts-plus p q r (sum_by f t) (sum_by f u) h k)
 
-  count : (p q r : Option ℕ) (f : Event → Bool) → TellsNumber p q (count_by f t) → TellsNumber q r (count_by f u) → TellsNumber p r (count_by f (t ++ u))
+  count : (p q r : Option ℕ) (f : Event → Bool) → Counts p q (count_by f t) → Counts q r (count_by f u) → Counts p r (count_by f (t ++ u))
   count p q r f h k = number p q r (λ x. cond (f x) 1 0) h k
 
-  pub end_ties_join : (began mid now : EndTells) → EndTied began mid e t → EndTied mid now e u → EndTied began now e (t ++ u)
+  pub end_ties_join : (began mid now : EndTold) → EndTied began mid e t → EndTied mid now e u → EndTied began now e (t ++ u)
   end_ties_join began mid now h k = record {
     handed_out = bytes began.handed_out mid.handed_out now.handed_out (read_by e) h.handed_out k.handed_out;
     taken = bytes began.taken mid.taken now.taken (given_by e) h.taken k.taken;
@@ -70,21 +71,21 @@ ends_join began mid now e t more h k = end_ties_join e t more began mid now h k
 
 -- with nothing more
 
-tells_bytes-none : (p : Option (List ℕ)) → TellsBytes p p []
-tells_bytes-none None = tt
-tells_bytes-none (Some before) = ap (λ z. Some z) (sym (append-nil before))
+adds-none : (p : Option (List ℕ)) → Adds p p []
+adds-none None = tt
+adds-none (Some before) = ap (λ z. Some z) (sym (append-nil before))
 
 or-false : (b : Bool) → b ≡ (b || false)
 or-false true = refl
 or-false false = refl
 
-tells_flag-none : (p : Option Bool) → TellsFlag p p false
-tells_flag-none None = tt
-tells_flag-none (Some before) = ap (λ z. Some z) (or-false before)
+raises-none : (p : Option Bool) → Raises p p false
+raises-none None = tt
+raises-none (Some before) = ap (λ z. Some z) (or-false before)
 
-tells_number-none : (p : Option ℕ) → TellsNumber p p 0
-tells_number-none None = tt
-tells_number-none (Some before) = λ fits. ap (λ z. Some z) (omega arith)
+counts-none : (p : Option ℕ) → Counts p p 0
+counts-none None = tt
+counts-none (Some before) = λ fits. ap (λ z. Some z) (omega arith)
 
 tells_reading-none : (p : Option ℕ) → TellsReading p p []
 tells_reading-none None = tt
@@ -97,30 +98,30 @@ tells_timeout-none (Some before) = refl
 pub nothing_is_tied : NothingIsTied
 nothing_is_tied g port ends = record {
   port = record {
-    accept_polls = tells_number-none port.accept_polls;
+    accept_polls = counts-none port.accept_polls;
     timeout = tells_timeout-none port.timeout;
-    links = tells_number-none port.links;
+    links = counts-none port.links;
     accepting = λ told. told;
-    readings = tells_number-none port.readings;
+    readings = counts-none port.readings;
     reading = tells_reading-none port.reading;
   };
   ends = λ e. record {
-    handed_out = tells_bytes-none (ends e).handed_out;
-    taken = tells_bytes-none (ends e).taken;
-    made_connected = tells_flag-none (ends e).made_connected;
-    ended = tells_flag-none (ends e).ended;
-    connected = tells_flag-none (ends e).connected;
-    write_ended = tells_flag-none (ends e).write_ended;
-    closed = tells_flag-none (ends e).closed;
-    reads = tells_number-none (ends e).reads;
-    writes = tells_number-none (ends e).writes;
-    checks = tells_number-none (ends e).checks;
-    rooms = tells_number-none (ends e).rooms;
-    offers = tells_number-none (ends e).offers;
-    read_wants = tells_number-none (ends e).read_wants;
-    write_wants = tells_number-none (ends e).write_wants;
-    read_marks = tells_number-none (ends e).read_marks;
-    write_marks = tells_number-none (ends e).write_marks;
+    handed_out = adds-none (ends e).handed_out;
+    taken = adds-none (ends e).taken;
+    made_connected = raises-none (ends e).made_connected;
+    ended = raises-none (ends e).ended;
+    connected = raises-none (ends e).connected;
+    write_ended = raises-none (ends e).write_ended;
+    closed = raises-none (ends e).closed;
+    reads = counts-none (ends e).reads;
+    writes = counts-none (ends e).writes;
+    checks = counts-none (ends e).checks;
+    rooms = counts-none (ends e).rooms;
+    offers = counts-none (ends e).offers;
+    read_wants = counts-none (ends e).read_wants;
+    write_wants = counts-none (ends e).write_wants;
+    read_marks = counts-none (ends e).read_marks;
+    write_marks = counts-none (ends e).write_marks;
   };
 }
 

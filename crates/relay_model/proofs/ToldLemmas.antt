@@ -15,9 +15,10 @@ use Rattle.relay_model.specs.Trace.{ended_by, write_closed_by}
 use Rattle.relay_model.specs.Settings.{Settings}
 use Rattle.relay_model.specs.Plain.{Plain, side_at, is_live}
 use Rattle.relay_model.specs.Stages.{Stage, State, Freeing}
-use Rattle.relay_model.specs.Turn.{Puts, Quietly, Reaches, latest}
+use Rattle.ev_types.specs.Times.{latest}
+use Rattle.relay_model.specs.Turn.{Puts, Quietly, Reaches}
 use Rattle.relay_model.specs.RatesKept.{is_turn, time_by}
-use Rattle.relay_model.specs.TurnLaws.{is_opened}
+use Rattle.relay_model.specs.Totals.{is_opened}
 use Rattle.relay_model.specs.Told.{names, freed_by, is_freed, end_closed_by, failed_by, is_freeing, CountsTold, SideTold}
 use Rattle.relay_model.proofs.EndLemmas.{same_end-eq}
 use Rattle.relay_model.proofs.KeepsLemmas.{Keeps-side, Keeps-length}

@@ -49,12 +49,12 @@ use Rattle.token_bucket.specs.declared.limit.Dir.TheVariants as dir
 
 -- While parts of a round are left that move bytes, the side that the direction begins at lives
 
-abbrev NeedsLive : Plain → SideId → Part → Type 0
+abbrev pub NeedsLive : Plain → SideId → Part → Type 0
 NeedsLive s e Part.Hold = ⊤
 NeedsLive s e Part.Drain = ⊤
 NeedsLive s e _ = is_live s e ≡ true
 
-abbrev PartsLive : Stage → Plain → Type 0
+abbrev pub PartsLive : Stage → Plain → Type 0
 PartsLive (Passing xs (e ∷ es)) s = AllByRecursion (NeedsLive s e) xs
 PartsLive _ s = ⊤
 
@@ -128,7 +128,7 @@ put-parts g t s x y new (PutKind.closed a) = tt
 -- Numbers that were told
 
 -- of a side that was not freed nothing was told
-moved-untold : (e : SideId) (t : Trace) → is_freed e t ≡ false → moved_at_free e t ≡ []
+pub moved-untold : (e : SideId) (t : Trace) → is_freed e t ≡ false → moved_at_free e t ≡ []
 moved-untold e [] h = refl
 moved-untold e (y ∷ t) h =
     let parts = or_parts (freed_by e y) (is_freed e t) h in
@@ -138,7 +138,7 @@ moved-untold e (y ∷ t) h =
     one e (entry.Freed side why moved given, bytes) h = ap (λ b. if b then moved ∷ [] else []) h
     one e _ h = refl
 
-given-untold : (e : SideId) (t : Trace) → is_freed e t ≡ false → given_at_free e t ≡ []
+pub given-untold : (e : SideId) (t : Trace) → is_freed e t ≡ false → given_at_free e t ≡ []
 given-untold e [] h = refl
 given-untold e (y ∷ t) h =
     let parts = or_parts (freed_by e y) (is_freed e t) h in
@@ -283,7 +283,7 @@ closed-told g p s c y e (ClosedKind.out_done {k = k}) = (one-told (record { link
 closed-told g p s c y e (ClosedKind.peer_gone {z = z} a b d) = (one-told z e (λ v. (flow_at s v).moved), one-told z e (λ v. (flow_at s (peer v)).given))
 closed-told g p s c y e (ClosedKind.shut a b) = (none-told _ [] refl, none-told _ [] refl)
 
-put-told : (g : Settings) (t : Trace) (s : Plain) (x : Stage) (y : Event) (new : State) (e : SideId) → PutKind g t s x y new →
+pub put-told : (g : Settings) (t : Trace) (s : Plain) (x : Stage) (y : Event) (new : State) (e : SideId) → PutKind g t s x y new →
     AllAre (flow_at s e).moved (told_moved_by e y) × AllAre (flow_at s (peer e)).given (told_given_by e y)
 put-told g t s x y new e (PutKind.turned a b) = (none-told _ [] refl, none-told _ [] refl)
 put-told g t s x y new e (PutKind.polled) = (none-told _ [] refl, none-told _ [] refl)
@@ -378,7 +378,7 @@ quiet-free_told g t s x new e unfreed parts k h = record {
     go (inl a) = none-told _ _ (moved-untold e t (unfreed a))
     go (inr a) = subst (λ n. AllAre n (moved_at_free e t)) (sym a) h.moved
 
-parts-live : (g : Settings) (t : Trace) (s : State) → Reaches g t s → PartsLive s.stage s.plain
+pub parts-live : (g : Settings) (t : Trace) (s : State) → Reaches g t s → PartsLive s.stage s.plain
 parts-live g t s (Reaches.begins) = tt
 parts-live g t new (Reaches.goes {t = u} {s = old} r h) = quiet-parts g u old.stage old.plain new (parts-live g u old r) h
 parts-live g t new (Reaches.puts {t = u} {s = old} e bytes r h) = put-parts g u old.plain old.stage (e, bytes) new (put-kind g u old.stage old.plain e bytes new (kept g u old r).placed h)

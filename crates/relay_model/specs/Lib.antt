@@ -18,6 +18,9 @@ pub mod Plans
 pub mod Moments
 pub mod Pass
 pub mod PassLaws
+pub mod FilterRun
+pub mod FilterStep
+pub mod FilterCuts
 pub mod Round
 pub mod Serve
 pub mod Close
@@ -34,7 +37,10 @@ pub mod Lines
 pub mod Script
 pub mod Scripted
 pub mod Plays
+pub mod Called
+pub mod Polls
 pub mod Told
 pub mod Hooked
 pub mod Quiet
 pub mod Causes
+pub mod StepLaws

@@ -1,6 +1,6 @@
 -- Which traces a run over a script has. A run is a list of steps: calls on a port, and what the relay does by itself. What
 -- the script answers to the steps is a trace; that the relay calls for these steps is said by Turn.
-use Rattle.std.specs.Prelude.{◌≡◌, ◌⊎◌, ℕ, ◌+◌, ◌<◌, ◌≤◌, min, max, ⊤, Bool, true, false, ◌&&◌, not, if◌then◌else◌, List, [], ◌∷◌, ◌++◌, length, map, fold, Option, MatchBool}
+use Rattle.std.specs.Prelude.{◌≡◌, ◌⊎◌, ℕ, ◌+◌, ◌<◌, ◌≤◌, ⊤, Bool, true, false, ◌&&◌, not, if◌then◌else◌, List, [], ◌∷◌, ◌++◌, length, map, fold, Option, MatchBool}
 use Rattle.std.specs.List.{flat_map, list_any, list_all}
 use Rattle.ev_types.specs.declared.side.SideId.{SideId}
 use Rattle.ev_types.specs.declared.entry.Entry.{Entry}
@@ -8,12 +8,14 @@ use Rattle.ev_types.specs.declared.entry.Entry.TheVariants as entry
 use Rattle.ev_types.specs.Trace.{Event, Trace}
 use Rattle.relay_model.specs.Trace.{bytes_read}
 use Rattle.relay_model.specs.Rooms.{Want}
-use Rattle.relay_model.specs.Turn.{most_opened, latest}
+use Rattle.ev_types.specs.Times.{turn_time}
+use Rattle.relay_model.specs.Turn.{most_opened}
 use Rattle.relay_model.specs.Answers.{TurnAnswer}
 use Rattle.relay_model.specs.RatesKept.{is_turn}
 use Rattle.relay_model.specs.Totals.{opened, opened_in_turn}
 use Rattle.relay_model.specs.Lines.{brings}
-use Rattle.relay_model.specs.Script.{Script, ScriptTurn, closing_step}
+use Rattle.ev_types.specs.ScriptTurn.{ScriptTurn}
+use Rattle.relay_model.specs.Script.{Script, closing_step}
 use Rattle.relay_model.specs.Scripted.{reading, begun, lines, waiting, pending, poll_fails, marks, conn_answer, read_answer, write_answer}
 
 pub data Step : Type 0 where
@@ -24,16 +26,6 @@ pub data Step : Type 0 where
   Read : SideId → ℕ → Step  -- with this room
   Write : SideId → List ℕ → Step  -- with these bytes
   Own : Entry → Step  -- what no port answers: fires, asks and frees, and ends of writing and of ends
-
--- the greatest time of a turn so far, or 0
-abbrev pub greatest_time : Trace → ℕ
-greatest_time [] = 0
-greatest_time ((entry.Turn ms, bytes) ∷ t) = max ms (greatest_time t)
-greatest_time (x ∷ t) = greatest_time t
-
--- the time of a turn: the greatest reading so far, each cut at the latest time
-abbrev pub time_at : Trace → ℕ → ℕ
-time_at t reading = max (greatest_time t) (min reading latest)
 
 abbrev pub want_events : List Want → Trace
 want_events ws = map (λ w. (entry.Want w.side w.read w.write, [])) ws
@@ -56,7 +48,7 @@ own_events _ = []
 
 -- what a step puts behind a trace
 abbrev pub events : List ScriptTurn → ℕ → Trace → Step → Trace
-events turns closing_by t Step.Now = (entry.Turn (time_at t (reading turns closing_by (begun turns t))), []) ∷ []
+events turns closing_by t Step.Now = (entry.Turn (turn_time t (reading turns closing_by (begun turns t))), []) ∷ []
 events turns closing_by t (Step.Poll timeout wants) =
     (entry.Poll timeout, []) ∷ want_events wants
     ++ (if poll_fails turns t then (entry.PollFailed, []) ∷ [] else ready_events (marks turns t wants))
@@ -75,9 +67,13 @@ trace_of turns closing_by steps = fold (λ t x. t ++ events turns closing_by t x
 abbrev pub IsAnswered : List ScriptTurn → ℕ → Trace → Type 0
 IsAnswered turns closing_by t = (steps : List Step) × (t ≡ trace_of turns closing_by steps)
 
--- All links that wait are opened, or as many as a turn may open, or as many as may be opened in all.
+-- No link waits; or as many were opened as a turn may open, or as may be opened in all.
+abbrev pub AllTaken : (Trace → Type 0) → ℕ → Trace → Type 0
+AllTaken none_waits links t = none_waits t ⊎ (opened_in_turn t ≡ most_opened) ⊎ (links ≤ opened t)
+
+-- So it is by the lines of a script: all links that wait are opened, or as many as may be.
 abbrev pub TookAll : List ScriptTurn → ℕ → Trace → Type 0
-TookAll turns links t = (waiting turns t ≡ []) ⊎ (opened_in_turn t ≡ most_opened) ⊎ (links ≤ opened t)
+TookAll turns links t = AllTaken (λ u. waiting turns u ≡ []) links t
 
 -- does accepting end before an entry: serving and all behind it, and the next turn
 abbrev pub is_behind_accepting : Event → Bool
@@ -88,11 +84,14 @@ is_behind_accepting (entry.PollFailed, bytes) = false
 is_behind_accepting (entry.Opened link connected, bytes) = false
 is_behind_accepting _ = true
 
--- Wherever accepting has ended behind a trace, all was taken.
+-- Wherever accepting has ended behind a trace, so it was.
+abbrev pub AlwaysAllTaken : (Trace → Type 0) → ℕ → Trace → Trace → Type 0
+AlwaysAllTaken none_waits links before [] = ⊤
+AlwaysAllTaken none_waits links before (x ∷ t) =
+    MatchBool (is_behind_accepting x) (AllTaken none_waits links before) ⊤ × AlwaysAllTaken none_waits links (before ++ x ∷ []) t
+
 abbrev pub AlwaysTookAll : List ScriptTurn → ℕ → Trace → Trace → Type 0
-AlwaysTookAll turns links before [] = ⊤
-AlwaysTookAll turns links before (x ∷ t) =
-    MatchBool (is_behind_accepting x) (TookAll turns links before) ⊤ × AlwaysTookAll turns links (before ++ x ∷ []) t
+AlwaysTookAll turns links before t = AlwaysAllTaken (λ u. waiting turns u ≡ []) links before t
 
 -- What the answer of a run says of the turns that were begun, so many being planned. A run that went made all of them. A turn
 -- that went or stopped took all links; where a turn is refused as spent, the one before did, and one more was planned. A poll

@@ -5,11 +5,7 @@ use Rattle.ev_types.specs.declared.side.SideId.{SideId}
 use Rattle.ev_types.specs.Sides.{number, same_end}
 use Rattle.relay_model.specs.Settings.{Settings}
 use Rattle.relay_model.specs.Plans.{Planned}
-use Rattle.relay_model.specs.Lines.{Line}
-
--- a moment in milliseconds, with the lines of its turn
-abbrev pub ScriptTurn : Type 0
-ScriptTurn = ℕ × List Line
+use Rattle.ev_types.specs.ScriptTurn.{ScriptTurn}
 
 pub record Script : Type 0 where
   pub settings : Settings

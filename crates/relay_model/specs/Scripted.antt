@@ -16,8 +16,9 @@ use Rattle.relay_model.specs.Trace.{bytes_read, bytes_given}
 use Rattle.relay_model.specs.Rooms.{Want, at_most}
 use Rattle.relay_model.specs.RatesKept.{is_turn}
 use Rattle.relay_model.specs.Totals.{opened, is_made_connected, is_connected}
-use Rattle.relay_model.specs.Lines.{Line, links_by, decides, brings, ends, fails_reads, allows, allows_all, fails_writes, marks_all, fails_poll}
-use Rattle.relay_model.specs.Script.{ScriptTurn}
+use Rattle.ev_types.specs.declared.turn_line.TurnLine.{TurnLine}
+use Rattle.relay_model.specs.Lines.{links_by, decides, brings, ends, fails_reads, allows, allows_all, fails_writes, marks_all, fails_poll}
+use Rattle.ev_types.specs.ScriptTurn.{ScriptTurn}
 
 -- In is never undecided.
 abbrev pub undecided_at : Side → Bool → Bool
@@ -49,10 +50,10 @@ module _ (turns : List ScriptTurn) (t : Trace) where
   begun = count_by is_turn t
 
   -- the lines of the turns so far, and of the running one alone
-  abbrev pub lines : List Line
+  abbrev pub lines : List TurnLine
   lines = flat_map (λ turn. turn.1) (take begun turns)
 
-  abbrev pub lines_now : List Line
+  abbrev pub lines_now : List TurnLine
   lines_now = flat_map (λ turn. turn.1) (drop (begun - 1) (take begun turns))
 
   abbrev pub is_closing : Bool

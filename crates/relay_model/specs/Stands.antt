@@ -1,11 +1,9 @@
 -- What a relay stands for: the traces that led to the stage at which it is, and of which no byte was lost, made or changed.
--- And how a step goes on: entries are added, and what stood for a trace stands for that trace with these entries.
-use Rattle.std.specs.Prelude.{◌≡◌, ◌*◌, ◌<◌, ◌≤◌, false, List, [], length, Option, None, slice_index_or}
+use Rattle.std.specs.Prelude.{◌≡◌, ◌*◌, ◌<◌, ◌≤◌, false, List, [], length, None, slice_index_or}
 use Rattle.ev_types.specs.declared.filter.FilterKind.TheVariants as kind
 use Rattle.ev_types.specs.declared.side.SideId.{SideId}
 use Rattle.ev_types.specs.Sides.{number, peer}
 use Rattle.ev_types.specs.Trace.{Trace}
-use Rattle.ev_types.specs.Growth.{Grew, Longer}
 use Rattle.relay_model.specs.Trace.{bytes_read, bytes_given, has_ended, moved_at_free, given_at_free, is_write_closed}
 use Rattle.relay_model.specs.Conserved as direction
 use Rattle.relay_model.specs.Conserved.{Buffers, Running}
@@ -13,7 +11,7 @@ use Rattle.relay_model.specs.Settings.{Settings}
 use Rattle.relay_model.specs.Plain.{Plain, nothing_yet, side_at, flow_at, is_live}
 use Rattle.relay_model.specs.Rooms.{read_kind, write_kind, read_filter, write_filter}
 use Rattle.relay_model.specs.Stages.{Stage, at}
-use Rattle.relay_model.specs.Turn.{Reaches, IsLegal}
+use Rattle.relay_model.specs.Turn.{Reaches}
 
 -- the two running filters of a direction: the read filter of the side that it begins at, and its peer's write filter
 pub record Runnings : Type 0 where
@@ -85,40 +83,6 @@ KeptConserved g t v = Conserved g t v.plain v.buffers v.runnings
 pub record Stands (g : Settings) (t : Trace) (x : Stage) (v : Kept) : Type 0 where
   pub reached : Reaches g t (at x v.plain)
   pub conserved : KeptConserved g t v
-
--- A relay whose turn was cut off holds what a trace leaves. At which stage it was cut off is not told.
-pub record Holds (g : Settings) (t : Trace) (v : Kept) : Type 0 where
-  pub legal : IsLegal g t
-  pub conserved : KeptConserved g t v
-
--- From one stage to another: some entries were added to what the scribe keeps. Whatever trace the relay stood for, it stands
--- for that trace with these entries; whatever trace was vouched for, that longer one is vouched for now.
-abbrev pub GoesWith : Settings → Stage → Kept → Option Trace → (Trace → Type 0) → Stage → Kept → Option Trace → (Trace → Type 0) → Type 0
-GoesWith g x old log vouched y new new_log now_vouched =
-    (added : Trace) × Grew log new_log added × Longer (λ t. Stands g t x old) (λ t. Stands g t y new) added × Longer vouched now_vouched added
-
--- the same where the turn is cut off
-abbrev pub CutOff : Settings → Stage → Kept → Option Trace → (Trace → Type 0) → Kept → Option Trace → (Trace → Type 0) → Type 0
-CutOff g x old log vouched new new_log now_vouched =
-    (added : Trace) × Grew log new_log added × Longer (λ t. Stands g t x old) (λ t. Holds g t new) added × Longer vouched now_vouched added
-
--- Two steps in a row are one step, whatever is vouched for as they begin, between them and at their end.
-abbrev pub StepsJoin : (Trace → Type 0) → (Trace → Type 0) → (Trace → Type 0) → Type 0
-StepsJoin vouched then_vouched now_vouched =
-    (g : Settings) (x y z : Stage) (old mid new : Kept) (log mid_log new_log : Option Trace) →
-    GoesWith g x old log vouched y mid mid_log then_vouched → GoesWith g y mid mid_log then_vouched z new new_log now_vouched →
-    GoesWith g x old log vouched z new new_log now_vouched
-
--- A step that is cut off behind another one cuts off both.
-abbrev pub CutsJoin : (Trace → Type 0) → (Trace → Type 0) → (Trace → Type 0) → Type 0
-CutsJoin vouched then_vouched now_vouched =
-    (g : Settings) (x y : Stage) (old mid new : Kept) (log mid_log new_log : Option Trace) →
-    GoesWith g x old log vouched y mid mid_log then_vouched → CutOff g y mid mid_log then_vouched new new_log now_vouched →
-    CutOff g x old log vouched new new_log now_vouched
-
--- A turn may be cut off wherever it stands, with no entry.
-abbrev pub AnyStageHolds : Type 0
-AnyStageHolds = (g : Settings) (t : Trace) (x : Stage) (v : Kept) → Stands g t x v → Holds g t v
 
 -- Before the first turn a relay without links stands for the trace of no entries.
 abbrev pub NothingStands : Type 0

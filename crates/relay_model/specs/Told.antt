@@ -12,9 +12,11 @@ use Rattle.relay_model.specs.Trace.{has_ended, moved_at_free, given_at_free, is_
 use Rattle.relay_model.specs.Settings.{Settings}
 use Rattle.relay_model.specs.Plain.{Plain, side_at, flow_at, is_live}
 use Rattle.relay_model.specs.Stages.{Stage, Freeing}
-use Rattle.relay_model.specs.Turn.{Reaches, latest}
+use Rattle.ev_types.specs.Times.{latest}
+use Rattle.relay_model.specs.Turn.{Reaches}
 use Rattle.relay_model.specs.RatesKept.{last_time}
-use Rattle.relay_model.specs.TurnLaws.{is_opened, ShapeIsTold}
+use Rattle.relay_model.specs.Totals.{is_opened}
+use Rattle.relay_model.specs.TurnLaws.{ShapeIsTold}
 
 -- an event of a side: asked of its end or by its hook, or done to it
 abbrev pub names : SideId → Event → Bool

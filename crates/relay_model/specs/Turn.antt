@@ -1,12 +1,13 @@
 -- Which traces a run can have: each entry is the one that the turn calls for next. From a state an entry is put, or the
 -- relay goes on with no entry; what a trace can lead to is what such steps reach.
-use Rattle.std.specs.Prelude.{◌≡◌, ◌⊎◌, ℕ, ◌+◌, ◌^◌, ◌<◌, ◌≤◌, Bool, true, ◌||◌, if◌then◌else◌, List, [], ◌∷◌, ◌++◌, Some, None, IsTrue}
+use Rattle.std.specs.Prelude.{◌≡◌, ◌⊎◌, ℕ, ◌+◌, ◌<◌, ◌≤◌, Bool, true, ◌||◌, if◌then◌else◌, List, [], ◌∷◌, ◌++◌, Some, None, IsTrue}
 use Rattle.ev_types.specs.declared.side.SideId.{SideId}
 use Rattle.ev_types.specs.declared.answer.ReadAnswer.{ReadAnswer}
 use Rattle.ev_types.specs.declared.answer.ReadAnswer.TheVariants as read
 use Rattle.ev_types.specs.declared.why.Cause.TheVariants as cause
 use Rattle.ev_types.specs.declared.entry.Entry.{Entry}
 use Rattle.ev_types.specs.declared.entry.Entry.TheVariants as entry
+use Rattle.ev_types.specs.Times.{latest}
 use Rattle.ev_types.specs.Trace.{Trace}
 use Rattle.relay_model.specs.Settings.{Settings}
 use Rattle.relay_model.specs.Due.{batch, Reason}
@@ -20,12 +21,9 @@ use Rattle.relay_model.specs.Serve.{Call, call_for, marks_left, CarriesGot, Carr
 use Rattle.relay_model.specs.Close.{closing_from, freed_entry, closing_entry, closed_by, steps_left}
 use Rattle.relay_model.specs.Stages.{Fire, Halt, Stage, Between, Polling, Wanting, Marking, Accepting, Serving, Filtering, Dispatching, Firing, Freeing, Passing, Closing, Over, State, at, start, begun, after_ask}
 
--- the most links that are opened in one turn, and the latest time of a turn
+-- the most links that are opened in one turn
 abbrev pub most_opened : ℕ
 most_opened = 64
-
-abbrev pub latest : ℕ
-latest = 2 ^ 62
 
 -- a part of what was wanted, and not nothing
 abbrev pub IsPartOf : Bool → Bool → Want → Type 0

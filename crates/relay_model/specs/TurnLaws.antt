@@ -1,19 +1,14 @@
 -- What holds of every legal trace, whatever ports, clocks and hooks do.
-use Rattle.std.specs.Prelude.{◌≡◌, ◌*◌, Bool, true, false, ◌++◌, length, count_by, option_map}
+use Rattle.std.specs.Prelude.{◌≡◌, ◌*◌, ◌++◌, length, count_by, option_map}
 use Rattle.ev_types.specs.declared.side.SideId.{SideId}
-use Rattle.ev_types.specs.declared.entry.Entry.TheVariants as entry
-use Rattle.ev_types.specs.Trace.{Event, Trace}
+use Rattle.ev_types.specs.Trace.{Trace}
 use Rattle.relay_model.specs.Settings.{Settings}
 use Rattle.relay_model.specs.Plain.{Plain, side_at}
 use Rattle.relay_model.specs.Groups.{group_after}
+use Rattle.relay_model.specs.Totals.{is_opened}
 use Rattle.relay_model.specs.Stages.{State}
 use Rattle.relay_model.specs.Turn.{Reaches, IsLegal}
 use Rattle.relay_model.specs.RatesKept.{is_turn, last_time, limit_after, RatesKept}
-
--- a link is opened
-abbrev pub is_opened : Event → Bool
-is_opened (entry.Opened link connected, bytes) = true
-is_opened _ = false
 
 -- The state's time is that of the last turn that began, and its number of turns is how many began. It has as many links as
 -- were opened, and two sides and two directions for each.

@@ -2,11 +2,16 @@
 //! in `specs/`, in the order in which `specs/Lib.antt` names them; the laws that they obey stand on the functions here.
 #![tactic(auto)]
 
+mod filter_laws;
 mod laws;
 mod legal_laws;
 mod played_laws;
+mod step_laws;
 mod turn_laws;
 
+pub use filter_laws::{
+    a_step_fits_its_target, a_step_is_the_function, cuts_agree, cuts_give_the_function, runs_join,
+};
 pub use laws::{
     a_running_filter_is_known, a_switched_filter_is_lawful, all_is_there, every_filter_is_lawful,
     given_begins_the_whole, passing_leaves_only_what_is_held, rest_is_there_after_a_free,
@@ -17,7 +22,8 @@ pub use legal_laws::{
     links_in_order, nothing_is_left, state_is_told, time_rises,
 };
 pub use played_laws::{
-    Vouches, answers_go_on, any_stage_holds, cuts_join, end_ties_join, nothing_is_tied,
-    nothing_stands, steps_join, what_comes_is_read,
+    answers_go_on, end_ties_join, nothing_is_tied, nothing_stands, polls_fail_as_scripted,
+    what_comes_is_read,
 };
+pub use step_laws::{entries_keep_accounts, nothing_is_accounted, silent_steps_keep_accounts};
 pub use turn_laws::{beginnings_are_legal, limits_are_kept, trace_tells_rates, trace_tells_shape};

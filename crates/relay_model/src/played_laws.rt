@@ -1,37 +1,13 @@
 // Laws on what a relay stands for, on what ties a port to a trace, and on runs over scripts.
 ghost use Rattle.relay_model.specs.Plays.{AnswersGoOn, ReadsWhatComes, TurnTakesAll};
-ghost use Rattle.relay_model.specs.Stands.{AnyStageHolds, CutsJoin, NothingStands, StepsJoin};
+ghost use Rattle.relay_model.specs.Polls.{PollsFailAsScripted};
+ghost use Rattle.relay_model.specs.Stands.{NothingStands};
 ghost use Rattle.relay_model.specs.StandsLaws.{BuffersHoldTheRest, BytesGivenBegin, ClosedIsWhole, FreeAccountsForTheRest};
 ghost use Rattle.relay_model.specs.Tied.{EndTiesJoin, NothingIsTied};
-
-/// What can say of whole traces that they are its own.
-///
-/// Own.
-pub trait Vouches {
-    ghost use Rattle.ev_types.specs.Trace.{Trace};
-
-    /// The traces of which it says so.
-    ghost vouches: { Self → Trace → Type 0 };
-}
 
 /// Before the first turn a relay stands for the trace of no entries.
 pub fn nothing_stands()
     ensures { NothingStands }
-{}
-
-/// Two steps in a row are one step.
-pub fn steps_join<V: Vouches>(before: &V, between: &V, behind: &V)
-    ensures { StepsJoin (V.vouches before.now) (V.vouches between.now) (V.vouches behind.now) }
-{}
-
-/// A step that is cut off behind another one cuts off both.
-pub fn cuts_join<V: Vouches>(before: &V, between: &V, behind: &V)
-    ensures { CutsJoin (V.vouches before.now) (V.vouches between.now) (V.vouches behind.now) }
-{}
-
-/// A turn may be cut off wherever it stands, with no entry.
-pub fn any_stage_holds()
-    ensures { AnyStageHolds }
 {}
 
 /// Whatever happens, the bytes given to each side of each link begin what the filters make of the bytes read from its peer.
@@ -77,4 +53,10 @@ pub fn what_comes_is_read()
 /// A turn that took all links that waited, or as many as it may, keeps what a run over a script asks of all its turns.
 pub fn turns_take_all()
     ensures { TurnTakesAll }
+{}
+
+/// A turn's poll fails exactly where a line of the script says so, and nothing follows it. So a run ends with a failed poll
+/// exactly where a turn that was begun has such a line, but for want of memory before that poll.
+pub fn polls_fail_as_scripted()
+    ensures { PollsFailAsScripted }
 {}

@@ -28,7 +28,8 @@ use Rattle.relay_model.specs.Moments.{poll_timeout}
 use Rattle.relay_model.specs.Serve.{Call, call_for, CarriesGot, CarriesTook}
 use Rattle.relay_model.specs.Close.{CloseStep, freed_entry, closing_entry, closed_by, steps_left}
 use Rattle.relay_model.specs.Stages.{Fire, Stage, Between, Polling, Wanting, Marking, Accepting, Serving, Dispatching, Firing, Freeing, Closing, State, at, after_ask}
-use Rattle.relay_model.specs.Turn.{most_opened, latest, IsPartOf, Puts}
+use Rattle.ev_types.specs.Times.{latest}
+use Rattle.relay_model.specs.Turn.{most_opened, IsPartOf, Puts}
 use Rattle.relay_rows.specs.Same.{is_empty, same_flag, same_number, same_cause, same_why, same_answer, same_end_of}
 use Rattle.relay_rows.specs.Put.{provided, asks_connect, asks_read, asks_write, is_count_of, carries_got, carries_took, is_part_of, answered, put}
 

@@ -26,7 +26,8 @@ use Rattle.relay_model.specs.Moments.{poll_timeout, time_passed}
 use Rattle.relay_model.specs.Serve.{Call, call_for, marks_left, CarriesGot, CarriesTook, after_conn, after_read, after_write}
 use Rattle.relay_model.specs.Close.{CloseStep, freed_entry, closing_entry, closed_by, steps_left}
 use Rattle.relay_model.specs.Stages.{Fire, Halt, Stage, Between, Polling, Wanting, Marking, Accepting, Serving, Dispatching, Firing, Freeing, Closing, Over, State, at, begun, after_ask}
-use Rattle.relay_model.specs.Turn.{most_opened, latest, turned_to, after_reading, IsPartOf, Puts}
+use Rattle.ev_types.specs.Times.{latest}
+use Rattle.relay_model.specs.Turn.{most_opened, turned_to, after_reading, IsPartOf, Puts}
 use Rattle.relay_rows.specs.Same.{is_empty, same_flag, same_number, same_why, same_answer, same_end_of}
 use Rattle.relay_rows.specs.Put.{provided, asks_connect, asks_read, asks_write, asks_nothing, is_count_of, carries_got, carries_took, is_part_of, answered, put}
 use Rattle.relay_rows.proofs.SameLemmas.{is_empty-is, same_flag-is, same_number-is, same_end-is, same_why-is, same_answer-is, same_end_of-is}

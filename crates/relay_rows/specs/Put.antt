@@ -22,7 +22,8 @@ use Rattle.relay_model.specs.Moments.{poll_timeout, time_passed}
 use Rattle.relay_model.specs.Serve.{Call, call_for, marks_left, after_conn, after_read, after_write}
 use Rattle.relay_model.specs.Close.{freed_entry, closing_entry, closed_by, steps_left}
 use Rattle.relay_model.specs.Stages.{Halt, Stage, Between, Polling, Wanting, Marking, Accepting, Serving, Dispatching, Firing, Freeing, Closing, Over, State, at, begun, after_ask}
-use Rattle.relay_model.specs.Turn.{most_opened, latest, turned_to, after_reading}
+use Rattle.ev_types.specs.Times.{latest}
+use Rattle.relay_model.specs.Turn.{most_opened, turned_to, after_reading}
 use Rattle.relay_rows.specs.Same.{is_empty, same_flag, same_number, same_why, same_answer, same_end_of}
 
 -- a value where a test holds, or none

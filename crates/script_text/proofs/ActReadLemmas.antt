@@ -70,10 +70,13 @@ numbered most n made bound within = ap (λ (o : Option ℕ). option_map made o) 
 
 pub act_of-words : (a : Act) → IsAct a → act_of (act_words a) ≡ Some a
 act_of-words (act.Free end) is = at_end verb.Free (codes "free") end [] refl is
-act_of-words (act.Enable end dir) is = at_end verb.Enable (codes "enable") end (dir_word dir ∷ []) refl is ∙ directed (λ d. act.Enable end d) dir
-act_of-words (act.Disable end dir) is = at_end verb.Disable (codes "disable") end (dir_word dir ∷ []) refl is ∙ directed (λ d. act.Disable end d) dir
+act_of-words (act.Enable end dir) is =
+    at_end verb.Enable (codes "enable") end (dir_word dir ∷ []) refl is ∙ directed (λ d. act.Enable end d) dir
+act_of-words (act.Disable end dir) is =
+    at_end verb.Disable (codes "disable") end (dir_word dir ∷ []) refl is ∙ directed (λ d. act.Disable end d) dir
 act_of-words (act.Marks end dir low high) is =
-    at_end verb.Marks (codes "marks") end (dir_word dir ∷ decimal low ∷ decimal high ∷ []) refl is.0 ∙ marks_ask-words end dir low high is.1 is.2
+    at_end verb.Marks (codes "marks") end (dir_word dir ∷ decimal low ∷ decimal high ∷ []) refl is.0
+    ∙ marks_ask-words end dir low high is.1 is.2
 act_of-words (act.Timeouts end read write) is =
     at_end verb.Timeouts (codes "timeouts") end (decimal read ∷ decimal write ∷ []) refl is.0 ∙ timeouts_ask-words end read write is.1 is.2
 act_of-words (act.Rate end None) is = at_end verb.Rate (codes "rate") end (codes "none" ∷ []) refl is
@@ -81,33 +84,41 @@ act_of-words (act.Rate end (Some limit)) is =
     at_end verb.Rate (codes "rate") end (limit_words (Some limit)) refl is
     ∙ ap (λ (o : Option LimitCfg). option_and_then (λ l. Some (act.Rate end (Some l))) o) (limit_said-words limit)
 act_of-words (act.Join end group) is =
-    at_end verb.Join (codes "join") end (decimal group ∷ []) refl is.0 ∙ numbered (2 ^ 32 - 1) group (λ g. act.Join end g) (lit< tt) (omega (arith, is.1))
+    at_end verb.Join (codes "join") end (decimal group ∷ []) refl is.0
+    ∙ numbered (2 ^ 32 - 1) group (λ g. act.Join end g) (lit< tt) (omega (arith, is.1))
 act_of-words (act.Leave end) is = at_end verb.Leave (codes "leave") end [] refl is
-act_of-words (act.Trigger end dir) is = at_end verb.Trigger (codes "trigger") end (dir_word dir ∷ []) refl is ∙ directed (λ d. act.Trigger end d) dir
+act_of-words (act.Trigger end dir) is =
+    at_end verb.Trigger (codes "trigger") end (dir_word dir ∷ []) refl is ∙ directed (λ d. act.Trigger end d) dir
 act_of-words (act.Timer end ms) is =
-    at_end verb.Timer (codes "timer") end (decimal ms ∷ []) refl is.0 ∙ numbered (2 ^ 64 - 1) ms (λ n. act.Timer end n) (lit< tt) (omega (arith, is.1))
+    at_end verb.Timer (codes "timer") end (decimal ms ∷ []) refl is.0
+    ∙ numbered (2 ^ 64 - 1) ms (λ n. act.Timer end n) (lit< tt) (omega (arith, is.1))
 act_of-words (act.Cancel end) is = at_end verb.Cancel (codes "cancel") end [] refl is
 act_of-words (act.Incref end) is = at_end verb.Incref (codes "incref") end [] refl is
 act_of-words (act.Decref end) is = at_end verb.Decref (codes "decref") end [] refl is
 act_of-words act.Stop is = refl
 
 -- the two words of an end
-pub AreSolid-end : (end : SideId) (more : List (List ℕ)) → IsEnd end → AreSolid more → AreSolid (decimal end.link ∷ side_word end.side ∷ more)
+pub AreSolid-end : (end : SideId) (more : List (List ℕ)) → IsEnd end → AreSolid more →
+    AreSolid (decimal end.link ∷ side_word end.side ∷ more)
 AreSolid-end end more small solid = (Solid-decimal end.link (omega (arith, small)), (Solid-side_word end.side, solid))
 
 pub AreSolid-act_words : (a : Act) → IsAct a → AreSolid (act_words a)
 AreSolid-act_words (act.Free end) is = (computed (codes "free") (lit< tt) refl, AreSolid-end end [] is tt)
-AreSolid-act_words (act.Enable end dir) is = (computed (codes "enable") (lit< tt) refl, AreSolid-end end (dir_word dir ∷ []) is (Solid-dir_word dir, tt))
-AreSolid-act_words (act.Disable end dir) is = (computed (codes "disable") (lit< tt) refl, AreSolid-end end (dir_word dir ∷ []) is (Solid-dir_word dir, tt))
+AreSolid-act_words (act.Enable end dir) is =
+    (computed (codes "enable") (lit< tt) refl, AreSolid-end end (dir_word dir ∷ []) is (Solid-dir_word dir, tt))
+AreSolid-act_words (act.Disable end dir) is =
+    (computed (codes "disable") (lit< tt) refl, AreSolid-end end (dir_word dir ∷ []) is (Solid-dir_word dir, tt))
 AreSolid-act_words (act.Marks end dir low high) is = (
   computed (codes "marks") (lit< tt) refl,
-  AreSolid-end end (dir_word dir ∷ decimal low ∷ decimal high ∷ []) is.0 (Solid-dir_word dir, (Solid-decimal low is.1, (Solid-decimal high is.2, tt))),
+  AreSolid-end end (dir_word dir ∷ decimal low ∷ decimal high ∷ []) is.0
+      (Solid-dir_word dir, (Solid-decimal low is.1, (Solid-decimal high is.2, tt))),
 )
 AreSolid-act_words (act.Timeouts end read write) is = (
   computed (codes "timeouts") (lit< tt) refl,
   AreSolid-end end (decimal read ∷ decimal write ∷ []) is.0 (Solid-decimal read is.1, (Solid-decimal write is.2, tt)),
 )
-AreSolid-act_words (act.Rate end None) is = (computed (codes "rate") (lit< tt) refl, AreSolid-end end (codes "none" ∷ []) is (computed (codes "none") (lit< tt) refl, tt))
+AreSolid-act_words (act.Rate end None) is =
+    (computed (codes "rate") (lit< tt) refl, AreSolid-end end (codes "none" ∷ []) is (computed (codes "none") (lit< tt) refl, tt))
 AreSolid-act_words (act.Rate end (Some limit)) is = (
   computed (codes "rate") (lit< tt) refl,
   AreSolid-end end (limit_words (Some limit)) is (
@@ -126,8 +137,10 @@ AreSolid-act_words (act.Join end group) is = (
   AreSolid-end end (decimal group ∷ []) is.0 (Solid-decimal group (omega (arith, is.1)), tt),
 )
 AreSolid-act_words (act.Leave end) is = (computed (codes "leave") (lit< tt) refl, AreSolid-end end [] is tt)
-AreSolid-act_words (act.Trigger end dir) is = (computed (codes "trigger") (lit< tt) refl, AreSolid-end end (dir_word dir ∷ []) is (Solid-dir_word dir, tt))
-AreSolid-act_words (act.Timer end ms) is = (computed (codes "timer") (lit< tt) refl, AreSolid-end end (decimal ms ∷ []) is.0 (Solid-decimal ms is.1, tt))
+AreSolid-act_words (act.Trigger end dir) is =
+    (computed (codes "trigger") (lit< tt) refl, AreSolid-end end (dir_word dir ∷ []) is (Solid-dir_word dir, tt))
+AreSolid-act_words (act.Timer end ms) is =
+    (computed (codes "timer") (lit< tt) refl, AreSolid-end end (decimal ms ∷ []) is.0 (Solid-decimal ms is.1, tt))
 AreSolid-act_words (act.Cancel end) is = (computed (codes "cancel") (lit< tt) refl, AreSolid-end end [] is tt)
 AreSolid-act_words (act.Incref end) is = (computed (codes "incref") (lit< tt) refl, AreSolid-end end [] is tt)
 AreSolid-act_words (act.Decref end) is = (computed (codes "decref") (lit< tt) refl, AreSolid-end end [] is tt)

@@ -30,7 +30,8 @@ some_map : {A B : Type 0} (P : B → Type 0) (f : A → B) → ((x : A) → P (f
 some_map P f each None = tt
 some_map P f each (Some x) = each x
 
-some_then : {A B : Type 0} (P : B → Type 0) (f : A → Option B) → ((x : A) → IfSome (f x) P) → (o : Option A) → IfSome (option_and_then f o) P
+some_then : {A B : Type 0} (P : B → Type 0) (f : A → Option B) → ((x : A) → IfSome (f x) P) → (o : Option A) →
+    IfSome (option_and_then f o) P
 some_then P f each None = tt
 some_then P f each (Some x) = each x
 
@@ -45,7 +46,8 @@ turn_said-none _ = tt
 poll_said-none : (ws : List (List ℕ)) → IfSome (said.poll_said ws) HasNone
 poll_said-none (word ∷ []) =
     let some : Option Entry = option_map (λ n. entry.Poll (Some n)) (any_number word) in
-    some_if HasNone (bytes_eq word (codes "none")) (Some (entry.Poll None)) some refl (some_map HasNone (λ n. entry.Poll (Some n)) (λ n. refl) (any_number word))
+    some_if HasNone (bytes_eq word (codes "none")) (Some (entry.Poll None)) some refl
+    (some_map HasNone (λ n. entry.Poll (Some n)) (λ n. refl) (any_number word))
 poll_said-none _ = tt
 
 want_said-none : (ws : List (List ℕ)) → IfSome (said.want_said ws) HasNone
@@ -76,7 +78,8 @@ conn_said-none (link ∷ side ∷ word ∷ []) =
     let made : ℕ → ConnAnswer → Entry = λ l a. entry.Conn (record { link = l; side = Out }) a in
     let some : Option Entry = option_and_then (λ l. option_map (λ a. made l a) (conn_of word)) (link_of link) in
     some_if HasNone (bytes_eq side (codes "out")) some None
-    (some_then HasNone (λ l. option_map (λ a. made l a) (conn_of word)) (λ l. some_map HasNone (λ a. made l a) (λ a. refl) (conn_of word)) (link_of link)) tt
+    (some_then HasNone (λ l. option_map (λ a. made l a) (conn_of word)) (λ l. some_map HasNone (λ a. made l a) (λ a. refl) (conn_of word))
+    (link_of link)) tt
 conn_said-none _ = tt
 
 fired_said-none : (ws : List (List ℕ)) → IfSome (said.fired_said ws) HasNone
@@ -87,9 +90,11 @@ fired_said-none _ = tt
 
 asked_by-none : (end : SideId) (ws : List (List ℕ)) → IfSome (said.asked_by end ws) HasNone
 asked_by-none end ws =
-    some_then HasNone (λ w. option_and_then (λ act. option_and_then (λ answer. Some (entry.Asked end act answer)) (ask_of w.0)) (act_of w.1))
+    some_then HasNone (λ w. option_and_then (λ act. option_and_then (λ answer. Some (entry.Asked end act answer)) (ask_of w.0))
+    (act_of w.1))
     (λ w. some_then HasNone (λ act. option_and_then (λ answer. Some (entry.Asked end act answer)) (ask_of w.0))
-    (λ act. some_then HasNone (λ answer. Some (entry.Asked end act answer)) (λ answer. refl) (ask_of w.0)) (act_of w.1)) (said.last_and_front ws)
+    (λ act. some_then HasNone (λ answer. Some (entry.Asked end act answer)) (λ answer. refl) (ask_of w.0)) (act_of w.1))
+    (said.last_and_front ws)
 
 asked_said-none : (ws : List (List ℕ)) → IfSome (said.asked_said ws) HasNone
 asked_said-none (link ∷ side ∷ more) = some_then HasNone (λ end. said.asked_by end more) (λ end. asked_by-none end more) (end_of link side)
@@ -97,10 +102,14 @@ asked_said-none _ = tt
 
 freed_said-none : (ws : List (List ℕ)) → IfSome (said.freed_said ws) HasNone
 freed_said-none (link ∷ side ∷ word ∷ moved ∷ given ∷ []) =
-    some_then HasNone (λ end. option_and_then (λ cause. option_and_then (λ m. option_and_then (λ g. Some (entry.Freed end cause m g)) (any_number given)) (any_number moved)) (cause_of word))
-    (λ end. some_then HasNone (λ cause. option_and_then (λ m. option_and_then (λ g. Some (entry.Freed end cause m g)) (any_number given)) (any_number moved))
+    some_then HasNone (λ end. option_and_then
+    (λ cause. option_and_then (λ m. option_and_then (λ g. Some (entry.Freed end cause m g)) (any_number given)) (any_number moved))
+    (cause_of word))
+    (λ end. some_then HasNone
+    (λ cause. option_and_then (λ m. option_and_then (λ g. Some (entry.Freed end cause m g)) (any_number given)) (any_number moved))
     (λ cause. some_then HasNone (λ m. option_and_then (λ g. Some (entry.Freed end cause m g)) (any_number given))
-    (λ m. some_then HasNone (λ g. Some (entry.Freed end cause m g)) (λ g. refl) (any_number given)) (any_number moved)) (cause_of word)) (end_of link side)
+    (λ m. some_then HasNone (λ g. Some (entry.Freed end cause m g)) (λ g. refl) (any_number given)) (any_number moved)) (cause_of word))
+    (end_of link side)
 freed_said-none _ = tt
 
 close_write_said-none : (ws : List (List ℕ)) → IfSome (said.close_write_said ws) HasNone
@@ -123,37 +132,45 @@ read_of-none end room word =
     (some_if P (bytes_eq word (codes "notyet")) (Some read.NotYet) _ refl
     (some_if P (bytes_eq word (codes "fail")) (Some read.Failed) None refl tt))
 
-write_of-none : (end : SideId) (offered : ℕ) (word : List ℕ) → IfSome (write_of word) (λ answer. 0 ≡ bytes_beside (entry.Write end offered answer))
+write_of-none : (end : SideId) (offered : ℕ) (word : List ℕ) →
+    IfSome (write_of word) (λ answer. 0 ≡ bytes_beside (entry.Write end offered answer))
 write_of-none end offered word =
     let P : WriteAnswer → Type 0 = λ answer. 0 ≡ bytes_beside (entry.Write end offered answer) in
     some_if P (bytes_eq word (codes "notyet")) (Some write.NotYet) _ refl
     (some_if P (bytes_eq word (codes "fail")) (Some write.Failed) None refl tt)
 
 -- what holds of a value holds of what is made of it
-some_made : {A B : Type 0} (P : A → Type 0) (Q : B → Type 0) (f : A → B) → ((x : A) → P x → Q (f x)) → (o : Option A) → IfSome o P → IfSome (option_and_then (λ x. Some (f x)) o) Q
+some_made : {A B : Type 0} (P : A → Type 0) (Q : B → Type 0) (f : A → B) → ((x : A) → P x → Q (f x)) → (o : Option A) → IfSome o P →
+    IfSome (option_and_then (λ x. Some (f x)) o) Q
 some_made P Q f each None p = tt
 some_made P Q f each (Some x) p = each x p
 
 read_said-beside : (ws : List (List ℕ)) → IfSome (said.read_said ws) HasItsBytes
 read_said-beside (link ∷ side ∷ room ∷ word ∷ []) =
     some_then HasItsBytes (λ asked. option_and_then (λ answer. Some (entry.Read asked.0 asked.1 answer, [])) (read_of word))
-    (λ asked. some_made (λ answer. 0 ≡ bytes_beside (entry.Read asked.0 asked.1 answer)) HasItsBytes (λ answer. (entry.Read asked.0 asked.1 answer, []))
+    (λ asked. some_made (λ answer. 0 ≡ bytes_beside (entry.Read asked.0 asked.1 answer)) HasItsBytes
+    (λ answer. (entry.Read asked.0 asked.1 answer, []))
     (λ answer none. none) (read_of word) (read_of-none asked.0 asked.1 word)) (said.end_and_number_of link side room)
 read_said-beside (link ∷ side ∷ room ∷ word ∷ digits ∷ []) =
     some_if HasItsBytes (bytes_eq word (codes "got")) (said.got_said link side room digits) None
-    (some_then HasItsBytes (λ asked. option_and_then (λ bytes. Some (entry.Read asked.0 asked.1 (read.Got (length bytes)), bytes)) (lower_bytes_of digits))
-    (λ asked. some_then HasItsBytes (λ bytes. Some (entry.Read asked.0 asked.1 (read.Got (length bytes)), bytes)) (λ bytes. refl) (lower_bytes_of digits)) (said.end_and_number_of link side room)) tt
+    (some_then HasItsBytes
+    (λ asked. option_and_then (λ bytes. Some (entry.Read asked.0 asked.1 (read.Got (length bytes)), bytes)) (lower_bytes_of digits))
+    (λ asked. some_then HasItsBytes (λ bytes. Some (entry.Read asked.0 asked.1 (read.Got (length bytes)), bytes)) (λ bytes. refl)
+    (lower_bytes_of digits)) (said.end_and_number_of link side room)) tt
 read_said-beside _ = tt
 
 write_said-beside : (ws : List (List ℕ)) → IfSome (said.write_said ws) HasItsBytes
 write_said-beside (link ∷ side ∷ offered ∷ word ∷ []) =
     some_then HasItsBytes (λ asked. option_and_then (λ answer. Some (entry.Write asked.0 asked.1 answer, [])) (write_of word))
-    (λ asked. some_made (λ answer. 0 ≡ bytes_beside (entry.Write asked.0 asked.1 answer)) HasItsBytes (λ answer. (entry.Write asked.0 asked.1 answer, []))
+    (λ asked. some_made (λ answer. 0 ≡ bytes_beside (entry.Write asked.0 asked.1 answer)) HasItsBytes
+    (λ answer. (entry.Write asked.0 asked.1 answer, []))
     (λ answer none. none) (write_of word) (write_of-none asked.0 asked.1 word)) (said.end_and_number_of link side offered)
 write_said-beside (link ∷ side ∷ offered ∷ word ∷ digits ∷ []) =
     some_if HasItsBytes (bytes_eq word (codes "took")) (said.took_said link side offered digits) None
-    (some_then HasItsBytes (λ asked. option_and_then (λ bytes. Some (entry.Write asked.0 asked.1 (write.Took (length bytes)), bytes)) (lower_bytes_of digits))
-    (λ asked. some_then HasItsBytes (λ bytes. Some (entry.Write asked.0 asked.1 (write.Took (length bytes)), bytes)) (λ bytes. refl) (lower_bytes_of digits)) (said.end_and_number_of link side offered)) tt
+    (some_then HasItsBytes
+    (λ asked. option_and_then (λ bytes. Some (entry.Write asked.0 asked.1 (write.Took (length bytes)), bytes)) (lower_bytes_of digits))
+    (λ asked. some_then HasItsBytes (λ bytes. Some (entry.Write asked.0 asked.1 (write.Took (length bytes)), bytes)) (λ bytes. refl)
+    (lower_bytes_of digits)) (said.end_and_number_of link side offered)) tt
 write_said-beside _ = tt
 
 event_by-beside : (kind : EntryKind) (ws : List (List ℕ)) → IfSome (said.event_by kind ws) HasItsBytes
@@ -174,7 +191,8 @@ event_by-beside kind.Close ws = alone-beside (said.close_said ws) (close_said-no
 
 pub event_said-beside : (ws : List (List ℕ)) → IfSome (said.event_said ws) HasItsBytes
 event_said-beside [] = tt
-event_said-beside (first ∷ more) = some_then HasItsBytes (λ kind. said.event_by kind more) (λ kind. event_by-beside kind more) (said.kind_of first)
+event_said-beside (first ∷ more) =
+    some_then HasItsBytes (λ kind. said.event_by kind more) (λ kind. event_by-beside kind more) (said.kind_of first)
 
 -- what a line says has its bytes beside it
 pub beside_of : (ws : List (List ℕ)) (e : Entry) (bytes : List ℕ) → Some (e, bytes) ≡ said.event_said ws → length bytes ≡ bytes_beside e

@@ -1,5 +1,6 @@
 -- An entry is what its line says.
-use Rattle.std.proofs.Common.{◌≡◌, ◌<◌, ◌≤◌, ◌+◌, ◌^◌, ◌||◌, ℕ, zero, suc, true, false, Bool, lit<, List, [], ◌∷◌, ◌++◌, length, take, get_or, refl, ap, sym, ◌∙◌, arith, codes, Option, Some, None, append_assoc, length-append}
+use Rattle.std.proofs.Common.{◌≡◌, ◌<◌, ◌≤◌, ◌+◌, ◌^◌, ◌||◌, ℕ, zero, suc, true, false, Bool, lit<, List, [], ◌∷◌, ◌++◌, length, take}
+use Rattle.std.proofs.Common.{get_or, refl, ap, sym, ◌∙◌, arith, codes, Option, Some, None, append_assoc, length-append}
 use Rattle.std.specs.Prelude.{option_map, option_and_then}
 use Rattle.std.specs.Fmt.{decimal}
 use Rattle.std.specs.Str.{bytes_eq, all_ascii_digits}
@@ -17,7 +18,8 @@ use Rattle.ev_types.specs.declared.act.Act.{Act}
 use Rattle.ev_types.specs.declared.answer.ReadAnswer.TheVariants as read
 use Rattle.ev_types.specs.declared.answer.WriteAnswer.TheVariants as write
 use Rattle.ev_types.specs.declared.entry.Entry.{Entry}
-use Rattle.ev_types.specs.declared.entry.Entry.TheVariants.{Turn, Poll, Want, Ready, PollFailed, Opened, Conn, Read, Write, Fired, Asked, Freed, CloseWrite, Close}
+use Rattle.ev_types.specs.declared.entry.Entry.TheVariants.{Turn, Poll, Want, Ready, PollFailed, Opened, Conn, Read, Write, Fired, Asked}
+use Rattle.ev_types.specs.declared.entry.Entry.TheVariants.{Freed, CloseWrite, Close}
 use Rattle.ev_types.specs.Trace.{Event}
 use Rattle.script_text.specs.Lines.{phrase, side_word, marks_word, why_word, cause_word}
 use Rattle.script_text.specs.ActLine.{act_words, ask_word}
@@ -31,7 +33,9 @@ use Rattle.ev_types.specs.declared.why.Cause.{Cause}
 use Rattle.script_text.specs.EntryGrammar.{event_said, asked_by, last_and_front, end_and_number_of}
 use Rattle.script_text.specs.TraceLaws.{IsWide, IsEnd, IsOut, IsWhy, IsCause, IsAct, IsEntry, StandBeside, AreBytes}
 use Rattle.script_text.proofs.SolidLemmas.{AreSolid, AreSolid-append, Solid-decimal, Solid-encode_lower}
-use Rattle.script_text.proofs.ValueReadLemmas.{any_number-decimal, link_of-decimal, end_of-words, marks_of-word, conn_of-word, ask_of-word, why_of-word, cause_of-word, lower_bytes_of-encode_lower, computed, Solid-marks_word, Solid-conn_word, Solid-ask_word, Solid-why_word, Solid-cause_word}
+use Rattle.script_text.proofs.ValueReadLemmas.{any_number-decimal, link_of-decimal, end_of-words, marks_of-word, conn_of-word}
+use Rattle.script_text.proofs.ValueReadLemmas.{ask_of-word, why_of-word, cause_of-word, lower_bytes_of-encode_lower, computed}
+use Rattle.script_text.proofs.ValueReadLemmas.{Solid-marks_word, Solid-conn_word, Solid-ask_word, Solid-why_word, Solid-cause_word}
 use Rattle.script_text.proofs.ActReadLemmas.{act_of-words, AreSolid-end, AreSolid-act_words}
 
 -- the words of an entry's line, with those of an ask one by one
@@ -106,33 +110,44 @@ conn_read link side.In a small out = absurd out
 conn_read link side.Out a small out = rw (link_of-decimal link small, conn_of-word a) refl
 
 -- the end and the number of a read or a write
-end_and_number_of-words : (end : SideId) (n : ℕ) → IsEnd end → IsWide n → end_and_number_of (decimal end.link) (side_word end.side) (decimal n) ≡ Some (end, n)
+end_and_number_of-words : (end : SideId) (n : ℕ) → IsEnd end → IsWide n →
+    end_and_number_of (decimal end.link) (side_word end.side) (decimal n) ≡ Some (end, n)
 end_and_number_of-words end n small wide = rw (end_of-words end small, any_number-decimal n wide) refl
 
 got_read : (end : SideId) (room n : ℕ) (bytes : List ℕ) → IsEnd end → IsWide room → AreBytes n bytes →
-    event_said (codes "read" ∷ decimal end.link ∷ side_word end.side ∷ decimal room ∷ codes "got" ∷ encode_lower bytes ∷ []) ≡ Some (Read end room (read.Got n), bytes)
+    event_said (codes "read" ∷ decimal end.link ∷ side_word end.side ∷ decimal room ∷ codes "got" ∷ encode_lower bytes ∷ []) ≡ Some
+    (Read end room (read.Got n), bytes)
 got_read end room n bytes small wide are =
     let some : 0 < length bytes = omega (arith, are.0, are.1) in
-    rw (end_and_number_of-words end room small wide, lower_bytes_of-encode_lower bytes some are.2) (ap (λ (k : ℕ). Some (Read end room (read.Got k), bytes)) are.1)
+    rw (end_and_number_of-words end room small wide, lower_bytes_of-encode_lower bytes some are.2)
+    (ap (λ (k : ℕ). Some (Read end room (read.Got k), bytes)) are.1)
 
 took_read : (end : SideId) (offered n : ℕ) (bytes : List ℕ) → IsEnd end → IsWide offered → AreBytes n bytes →
-    event_said (codes "write" ∷ decimal end.link ∷ side_word end.side ∷ decimal offered ∷ codes "took" ∷ encode_lower bytes ∷ []) ≡ Some (Write end offered (write.Took n), bytes)
+    event_said (codes "write" ∷ decimal end.link ∷ side_word end.side ∷ decimal offered ∷ codes "took" ∷ encode_lower bytes ∷ []) ≡ Some
+    (Write end offered (write.Took n), bytes)
 took_read end offered n bytes small wide are =
     let some : 0 < length bytes = omega (arith, are.0, are.1) in
-    rw (end_and_number_of-words end offered small wide, lower_bytes_of-encode_lower bytes some are.2) (ap (λ (k : ℕ). Some (Write end offered (write.Took k), bytes)) are.1)
+    rw (end_and_number_of-words end offered small wide, lower_bytes_of-encode_lower bytes some are.2)
+    (ap (λ (k : ℕ). Some (Write end offered (write.Took k), bytes)) are.1)
 
-fired_read : (end : SideId) (w : Why) → IsEnd end → IsWhy w → event_said (codes "fired" ∷ decimal end.link ∷ side_word end.side ∷ why_word w ∷ []) ≡ Some (Fired end w, [])
+fired_read : (end : SideId) (w : Why) → IsEnd end → IsWhy w →
+    event_said (codes "fired" ∷ decimal end.link ∷ side_word end.side ∷ why_word w ∷ []) ≡ Some (Fired end w, [])
 fired_read end w small is =
-    let then : Option SideId → Option Event = λ o. option_map (λ e. (e, [])) (option_and_then (λ s. option_and_then (λ y. Some (Fired s y)) (why_of (why_word w))) o) in
+    let then : Option SideId → Option Event =
+    λ o. option_map (λ e. (e, [])) (option_and_then (λ s. option_and_then (λ y. Some (Fired s y)) (why_of (why_word w))) o) in
     ap then (end_of-words end small)
     ∙ ap (λ (o : Option Why). option_map (λ e. (e, [])) (option_and_then (λ y. Some (Fired end y)) o)) (why_of-word w is)
 
 freed_read : (end : SideId) (c : Cause) (moved given : ℕ) → IsEnd end → IsCause c → IsWide moved → IsWide given →
-    event_said (codes "freed" ∷ decimal end.link ∷ side_word end.side ∷ cause_word c ∷ decimal moved ∷ decimal given ∷ []) ≡ Some (Freed end c moved given, [])
+    event_said (codes "freed" ∷ decimal end.link ∷ side_word end.side ∷ cause_word c ∷ decimal moved ∷ decimal given ∷ []) ≡ Some
+    (Freed end c moved given, [])
 freed_read end c moved given small is wm wg =
-    let after : SideId → Cause → Option Entry = λ s k. option_and_then (λ m. option_and_then (λ g. Some (Freed s k m g)) (any_number (decimal given))) (any_number (decimal moved)) in
+    let after : SideId → Cause → Option Entry =
+    λ s k. option_and_then (λ m. option_and_then (λ g. Some (Freed s k m g)) (any_number (decimal given)))
+    (any_number (decimal moved)) in
     let alone : Option Entry → Option Event = λ o. option_map (λ e. (e, [])) o in
-    ap (λ (o : Option SideId). alone (option_and_then (λ s. option_and_then (λ k. after s k) (cause_of (cause_word c))) o)) (end_of-words end small)
+    ap (λ (o : Option SideId). alone (option_and_then (λ s. option_and_then (λ k. after s k) (cause_of (cause_word c))) o))
+    (end_of-words end small)
     ∙ ap (λ (o : Option Cause). alone (option_and_then (λ k. after end k) o)) (cause_of-word c is)
     ∙ rw (any_number-decimal moved wm, any_number-decimal given wg) refl
 
@@ -143,7 +158,8 @@ asked_read end a answer small is =
     ap (λ (o : Option SideId). alone (option_and_then (λ s. asked_by s (act_words a ++ ask_word answer ∷ [])) o)) (end_of-words end small)
     ∙ ap alone (asked_by-words end a answer (act_words a) (act_of-words a is))
 
-close_write_read : (end : SideId) → IsEnd end → event_said (codes "closewrite" ∷ decimal end.link ∷ side_word end.side ∷ []) ≡ Some (CloseWrite end, [])
+close_write_read : (end : SideId) → IsEnd end →
+    event_said (codes "closewrite" ∷ decimal end.link ∷ side_word end.side ∷ []) ≡ Some (CloseWrite end, [])
 close_write_read end small = rw (end_of-words end small) refl
 
 close_read : (end : SideId) → IsEnd end → event_said (codes "close" ∷ decimal end.link ∷ side_word end.side ∷ []) ≡ Some (Close end, [])
@@ -152,29 +168,44 @@ close_read end small = rw (end_of-words end small) refl
 pub event_said-words : (e : Entry) (bytes : List ℕ) → IsEntry e → StandBeside bytes e → event_said (flat_words e bytes) ≡ Some (e, bytes)
 event_said-words (Turn ms) bytes is none = plain (Turn ms) bytes (event_said (flat_words (Turn ms) bytes)) (turn_read ms is) none
 event_said-words (Poll None) bytes is none = plain (Poll None) bytes (event_said (flat_words (Poll None) bytes)) refl none
-event_said-words (Poll (Some ms)) bytes is none = plain (Poll (Some ms)) bytes (event_said (flat_words (Poll (Some ms)) bytes)) (poll_read ms is) none
-event_said-words (Want end r w) bytes is none = plain (Want end r w) bytes (event_said (flat_words (Want end r w) bytes)) (want_read end r w is.0 is.1) none
-event_said-words (Ready end r w) bytes is none = plain (Ready end r w) bytes (event_said (flat_words (Ready end r w) bytes)) (ready_read end r w is.0 is.1) none
+event_said-words (Poll (Some ms)) bytes is none =
+    plain (Poll (Some ms)) bytes (event_said (flat_words (Poll (Some ms)) bytes)) (poll_read ms is) none
+event_said-words (Want end r w) bytes is none =
+    plain (Want end r w) bytes (event_said (flat_words (Want end r w) bytes)) (want_read end r w is.0 is.1) none
+event_said-words (Ready end r w) bytes is none =
+    plain (Ready end r w) bytes (event_said (flat_words (Ready end r w) bytes)) (ready_read end r w is.0 is.1) none
 event_said-words PollFailed bytes is none = plain PollFailed bytes (event_said (flat_words PollFailed bytes)) refl none
-event_said-words (Opened link true) bytes is none = plain (Opened link true) bytes (event_said (flat_words (Opened link true) bytes)) (opened_read link is) none
-event_said-words (Opened link false) bytes is none = plain (Opened link false) bytes (event_said (flat_words (Opened link false) bytes)) (waiting_read link is) none
-event_said-words (Conn end a) bytes is none = plain (Conn end a) bytes (event_said (flat_words (Conn end a) bytes)) (conn_read end.link end.side a is.0 is.1) none
+event_said-words (Opened link true) bytes is none =
+    plain (Opened link true) bytes (event_said (flat_words (Opened link true) bytes)) (opened_read link is) none
+event_said-words (Opened link false) bytes is none =
+    plain (Opened link false) bytes (event_said (flat_words (Opened link false) bytes)) (waiting_read link is) none
+event_said-words (Conn end a) bytes is none =
+    plain (Conn end a) bytes (event_said (flat_words (Conn end a) bytes)) (conn_read end.link end.side a is.0 is.1) none
 event_said-words (Read end room (read.Got n)) bytes is are = got_read end room n bytes is.0 is.1 are
 event_said-words (Read end room read.Ended) bytes is none =
-    plain (Read end room read.Ended) bytes (event_said (flat_words (Read end room read.Ended) bytes)) (rw (end_and_number_of-words end room is.0 is.1) refl) none
+    plain (Read end room read.Ended) bytes (event_said (flat_words (Read end room read.Ended) bytes))
+    (rw (end_and_number_of-words end room is.0 is.1) refl) none
 event_said-words (Read end room read.NotYet) bytes is none =
-    plain (Read end room read.NotYet) bytes (event_said (flat_words (Read end room read.NotYet) bytes)) (rw (end_and_number_of-words end room is.0 is.1) refl) none
+    plain (Read end room read.NotYet) bytes (event_said (flat_words (Read end room read.NotYet) bytes))
+    (rw (end_and_number_of-words end room is.0 is.1) refl) none
 event_said-words (Read end room read.Failed) bytes is none =
-    plain (Read end room read.Failed) bytes (event_said (flat_words (Read end room read.Failed) bytes)) (rw (end_and_number_of-words end room is.0 is.1) refl) none
+    plain (Read end room read.Failed) bytes (event_said (flat_words (Read end room read.Failed) bytes))
+    (rw (end_and_number_of-words end room is.0 is.1) refl) none
 event_said-words (Write end offered (write.Took n)) bytes is are = took_read end offered n bytes is.0 is.1 are
 event_said-words (Write end offered write.NotYet) bytes is none =
-    plain (Write end offered write.NotYet) bytes (event_said (flat_words (Write end offered write.NotYet) bytes)) (rw (end_and_number_of-words end offered is.0 is.1) refl) none
+    plain (Write end offered write.NotYet) bytes (event_said (flat_words (Write end offered write.NotYet) bytes))
+    (rw (end_and_number_of-words end offered is.0 is.1) refl) none
 event_said-words (Write end offered write.Failed) bytes is none =
-    plain (Write end offered write.Failed) bytes (event_said (flat_words (Write end offered write.Failed) bytes)) (rw (end_and_number_of-words end offered is.0 is.1) refl) none
+    plain (Write end offered write.Failed) bytes (event_said (flat_words (Write end offered write.Failed) bytes))
+    (rw (end_and_number_of-words end offered is.0 is.1) refl) none
 event_said-words (Write end offered write.NoMemory) bytes is none = absurd is
-event_said-words (Fired end w) bytes is none = plain (Fired end w) bytes (event_said (flat_words (Fired end w) bytes)) (fired_read end w is.0 is.1) none
-event_said-words (Asked end a answer) bytes is none = plain (Asked end a answer) bytes (event_said (flat_words (Asked end a answer) bytes)) (asked_read end a answer is.0 is.1) none
+event_said-words (Fired end w) bytes is none =
+    plain (Fired end w) bytes (event_said (flat_words (Fired end w) bytes)) (fired_read end w is.0 is.1) none
+event_said-words (Asked end a answer) bytes is none =
+    plain (Asked end a answer) bytes (event_said (flat_words (Asked end a answer) bytes)) (asked_read end a answer is.0 is.1) none
 event_said-words (Freed end c moved given) bytes is none =
-    plain (Freed end c moved given) bytes (event_said (flat_words (Freed end c moved given) bytes)) (freed_read end c moved given is.0 is.1 is.2 is.3) none
-event_said-words (CloseWrite end) bytes is none = plain (CloseWrite end) bytes (event_said (flat_words (CloseWrite end) bytes)) (close_write_read end is) none
+    plain (Freed end c moved given) bytes (event_said (flat_words (Freed end c moved given) bytes))
+    (freed_read end c moved given is.0 is.1 is.2 is.3) none
+event_said-words (CloseWrite end) bytes is none =
+    plain (CloseWrite end) bytes (event_said (flat_words (CloseWrite end) bytes)) (close_write_read end is) none
 event_said-words (Close end) bytes is none = plain (Close end) bytes (event_said (flat_words (Close end) bytes)) (close_read end is) none

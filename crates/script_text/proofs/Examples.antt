@@ -3,7 +3,7 @@ use Rattle.std.proofs.Common.{◌≡◌, ℕ, List, [], ◌∷◌, ◌++◌, tru
 use Rattle.hex.specs.Hex.{decode_pairs}
 use Rattle.ev_types.specs.declared.side.Side.TheVariants.{In, Out}
 use Rattle.ev_types.specs.declared.side.SideId.{SideId}
-use Rattle.script_text.specs.declared.script.TurnLine.TheVariants.{NewLink, Conn, Pending, Eof, ReadFail, Take, WriteFail, Spur, PollFail}
+use Rattle.ev_types.specs.declared.turn_line.TurnLine.TheVariants.{NewLink, Conn, Pending, Eof, ReadFail, Take, WriteFail, Spur, PollFail}
 use Rattle.script_text.specs.Pieces.{lines, words}
 use Rattle.script_text.specs.Numbers.{number_within}
 use Rattle.script_text.specs.Spelled.{script_of}
@@ -24,19 +24,32 @@ in_end = record { link = 0; side = In }
 abbrev out_end : SideId
 out_end = record { link = 0; side = Out }
 
-pub known_pieces : (lines (codes "a" ++ 10 ∷ 10 ∷ codes "b") ≡ codes "a" ∷ [] ∷ codes "b" ∷ []) × (lines (10 ∷ []) ≡ [] ∷ []) × (lines [] ≡ []) × (words (codes "  at  5 ") ≡ codes "at" ∷ codes "5" ∷ [])
+pub known_pieces : (lines (codes "a" ++ 10 ∷ 10 ∷ codes "b") ≡ codes "a" ∷ [] ∷ codes "b" ∷ []) × (lines (10 ∷ []) ≡ [] ∷ [])
+    × (lines [] ≡ []) × (words (codes "  at  5 ") ≡ codes "at" ∷ codes "5" ∷ [])
 known_pieces = (refl, refl, refl, refl)
 
-pub known_numbers : (number_within 9 (codes "0") ≡ Some 0) × (number_within 99 (codes "90") ≡ Some 90) × (number_within 89 (codes "90") ≡ None) × (number_within 99 (codes "09") ≡ None) × (number_within 99 (codes "+9") ≡ None) × (number_within 99 [] ≡ None)
+pub known_numbers : (number_within 9 (codes "0") ≡ Some 0) × (number_within 99 (codes "90") ≡ Some 90)
+    × (number_within 89 (codes "90") ≡ None) × (number_within 99 (codes "09") ≡ None) × (number_within 99 (codes "+9") ≡ None)
+    × (number_within 99 [] ≡ None)
 known_numbers = (refl, refl, refl, refl, refl, refl)
 
-pub known_script : script_of (text (codes "# two turns" ∷ codes "at 5" ∷ codes "open" ∷ codes "w 0 out all" ∷ [] ∷ codes "r 0 in 61fF" ∷ codes "at 3" ∷ codes "eof 0 in" ∷ []))
+pub known_script : script_of
+    (text (codes "# two turns" ∷ codes "at 5" ∷ codes "open" ∷ codes "w 0 out all" ∷ [] ∷ codes "r 0 in 61fF" ∷ codes "at 3" ∷ codes
+    "eof 0 in" ∷ []))
     ≡ Ok (record { turns = (5, NewLink false ∷ Take out_end None ∷ Pending in_end (97 ∷ 255 ∷ []) ∷ []) ∷ (3, Eof in_end ∷ []) ∷ [] })
 unfolding decode_pairs
 known_script = refl
 
-pub known_faults : script_of (text (codes "at 0" ∷ codes "open wait" ∷ codes "conn 0 fail" ∷ codes "conn 0 ok" ∷ codes "rfail 0 out" ∷ codes "w 0 in 7" ∷ codes "wfail 0 in" ∷ codes "spur 0 out" ∷ codes "pollfail" ∷ []))
-    ≡ Ok (record { turns = (0, NewLink true ∷ Conn 0 false ∷ Conn 0 true ∷ ReadFail out_end ∷ Take in_end (Some 7) ∷ WriteFail in_end ∷ Spur out_end ∷ PollFail ∷ []) ∷ [] })
+pub known_faults : script_of
+    (text (codes "at 0" ∷ codes "open wait" ∷ codes "conn 0 fail" ∷ codes "conn 0 ok" ∷ codes "rfail 0 out" ∷ codes "w 0 in 7" ∷ codes
+    "wfail 0 in" ∷ codes "spur 0 out" ∷ codes "pollfail" ∷ []))
+    ≡ Ok (record {
+      turns = (
+        0,
+        NewLink true ∷ Conn 0 false ∷ Conn 0 true ∷ ReadFail out_end ∷ Take in_end
+            (Some 7) ∷ WriteFail in_end ∷ Spur out_end ∷ PollFail ∷ [],
+      ) ∷ [];
+    })
 known_faults = refl
 
 -- a line before any turn; a word that is none, behind a skipped line; a link that was not opened; a decision of a link
@@ -55,7 +68,8 @@ unfolding decode_pairs
 known_trace = refl
 
 -- an empty line; a capital digit; an In end that is connected; a limit with a rate of 0; the answer alone
-pub known_bad_trace : (trace_of (text (codes "turn 5" ∷ [] ∷ codes "turn" ∷ [])) ≡ Err 2) × (trace_of (text (codes "write 0 in 9 took 6A" ∷ [])) ≡ Err 1)
+pub known_bad_trace : (trace_of (text (codes "turn 5" ∷ [] ∷ codes "turn" ∷ [])) ≡ Err 2)
+    × (trace_of (text (codes "write 0 in 9 took 6A" ∷ [])) ≡ Err 1)
     × (trace_of (text (codes "conn 0 in ok" ∷ [])) ≡ Err 1) × (trace_of (text (codes "asked 0 in rate 0 out 0 2 3 4 5 ok" ∷ [])) ≡ Err 1)
     × (trace_of (text (codes "asked 0 in ok" ∷ [])) ≡ Err 1)
 unfolding decode_pairs

@@ -1,11 +1,14 @@
 -- Lines, words, numbers and bad lines, as the laws say them.
-use Rattle.std.proofs.Common.{◌≡◌, ◌<◌, ◌≤◌, ◌+◌, ◌-◌, ◌^◌, ℕ, zero, suc, true, false, cond, ◌&&◌, leb, List, [], ◌∷◌, ◌++◌, length, take, get_or, refl, ap, sym, ◌∙◌, arith, inl, inr, Option, Some, None, Ok, Err, rules, leb-true, le-leb, append_assoc}
+use Rattle.std.proofs.Common.{◌≡◌, ◌<◌, ◌≤◌, ◌+◌, ◌-◌, ◌^◌, ℕ, zero, suc, true, false, cond, ◌&&◌, leb, List, [], ◌∷◌, ◌++◌, length, take}
+use Rattle.std.proofs.Common.{get_or, refl, ap, sym, ◌∙◌, arith, inl, inr, Option, Some, None, Ok, Err, rules, leb-true, le-leb}
+use Rattle.std.proofs.Common.{append_assoc}
 use Rattle.std.specs.Fmt.{decimal}
 use Rattle.std.specs.Str.{all_ascii_digits}
 use Rattle.std.proofs.lemmas.Bool.{and_parts, false≢true}
 use Rattle.std.proofs.lemmas.Bool.Decides.{eqb_tells}
 use Rattle.std.proofs.lemmas.Str.Parse.{IsNumeralModel, numerals_by_fold, tells_all_ascii_digits}
-use Rattle.std.proofs.lemmas.Fmt.{digits_decimal, digits_value-decimal, decimal-digits_value, decimal_digit, decimal_nonempty, first_decimal}
+use Rattle.std.proofs.lemmas.Fmt.{digits_decimal, digits_value-decimal, decimal-digits_value, decimal_digit, decimal_nonempty}
+use Rattle.std.proofs.lemmas.Fmt.{first_decimal}
 use Rattle.script_text.specs.Pieces.{pieces, begun, lines, words}
 use Rattle.script_text.specs.Numbers.{value_of, is_numeral, number_within}
 use Rattle.script_text.specs.Lines.{phrase}
@@ -52,10 +55,12 @@ numerals = numerals_by_fold _ tells_all_ascii_digits value_from (search rules)
 pub is_numeral-decimal : (n : ℕ) → n < 2 ^ 64 → is_numeral (decimal n) ≡ true
 is_numeral-decimal zero fits = rw (decimal_digit 0 (omega arith)) refl
 is_numeral-decimal (suc n) fits =
-    is_numeral-plain (decimal (suc n)) (decimal_nonempty (suc n) fits) (λ long zero_first. absurd (omega (arith, first_decimal (suc n) (omega arith) fits, zero_first)))
+    is_numeral-plain (decimal (suc n)) (decimal_nonempty (suc n) fits)
+    (λ long zero_first. absurd (omega (arith, first_decimal (suc n) (omega arith) fits, zero_first)))
     ∙ digits_decimal numerals (suc n) fits
 
-pub is_numeral-parts : (w : List ℕ) → is_numeral w ≡ true → (0 < length w) × (all_ascii_digits w ≡ true) × (get_or w 0 0 ≡ 48 → length w ≡ 1)
+pub is_numeral-parts : (w : List ℕ) → is_numeral w ≡ true →
+    (0 < length w) × (all_ascii_digits w ≡ true) × (get_or w 0 0 ≡ 48 → length w ≡ 1)
 is_numeral-parts [] is = absurd cc
 is_numeral-parts (d ∷ []) is = (omega arith, is, λ zero_first. refl)
 is_numeral-parts (d ∷ e ∷ ds) is = elim (eqb_tells d 48) [
@@ -70,7 +75,9 @@ number_within-decimal max n small le =
 
 pub decimal-number_within : (max n : ℕ) (word : List ℕ) → max < 2 ^ 64 → number_within max word ≡ Some n → (word ≡ decimal n) × (n ≤ max)
 decimal-number_within max n word small spelled =
-    elim (is_numeral word && leb (value_of word) max) as (λ v. (is_numeral word && leb (value_of word) max) ≡ v → cond v (Some (value_of word)) None ≡ Some n → (word ≡ decimal n) × (n ≤ max)) [
+    elim (is_numeral word && leb (value_of word) max) as
+    (λ v. (is_numeral word && leb (value_of word) max) ≡ v → cond v (Some (value_of word)) None ≡ Some n →
+    (word ≡ decimal n) × (n ≤ max)) [
       | true ↦ λ both is.
           let parts = is_numeral-parts word (and_parts (is_numeral word) (leb (value_of word) max) both).0 in
           let within : value_of word ≤ max = leb-true (value_of word) max (and_parts (is_numeral word) (leb (value_of word) max) both).1 in
@@ -89,10 +96,13 @@ pub record IsBadAt (from : ScriptValue) (before : ℕ) (ls : List (List ℕ)) (n
   pub spelled : lines_read from before (take place ls) ≡ Ok script
   pub bad : line_read script (get_or ls place []) ≡ None
 
-pub lines_read-bad : (from : ScriptValue) (before : ℕ) (ls : List (List ℕ)) (n : ℕ) → lines_read from before ls ≡ Err n → IsBadAt from before ls n
+pub lines_read-bad : (from : ScriptValue) (before : ℕ) (ls : List (List ℕ)) (n : ℕ) → lines_read from before ls ≡ Err n →
+    IsBadAt from before ls n
 lines_read-bad from before [] n refused = absurd cc
 lines_read-bad from before (l ∷ ls) n refused =
-    elim (line_read from l) as (λ o. line_read from l ≡ o → going_on o (before + 1) (λ longer. lines_read longer (before + 1) ls) ≡ Err n → IsBadAt from before (l ∷ ls) n) [
+    elim (line_read from l) as
+    (λ o. line_read from l ≡ o → going_on o (before + 1) (λ longer. lines_read longer (before + 1) ls) ≡ Err n →
+    IsBadAt from before (l ∷ ls) n) [
       | None ↦ λ here no.
           let same : before + 1 ≡ n = cc in
           record { place = 0; number = omega arith; within = omega arith; script = from; spelled = refl; bad = here }
@@ -103,7 +113,8 @@ lines_read-bad from before (l ∷ ls) n refused =
             number = omega (arith, later.number);
             within = omega (arith, later.within);
             script = later.script;
-            spelled = ap (λ (o : Option ScriptValue). going_on o (before + 1) (λ longer. lines_read longer (before + 1) (take later.place ls))) here ∙ later.spelled;
+            spelled = ap (λ (o : Option ScriptValue). going_on o (before + 1)
+                (λ longer. lines_read longer (before + 1) (take later.place ls))) here ∙ later.spelled;
             bad = later.bad;
           }
     ] refl refused

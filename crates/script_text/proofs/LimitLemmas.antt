@@ -1,5 +1,6 @@
 -- The limit of five numbers is what `LimitCfg::new` makes of them.
-use Rattle.std.proofs.Common.{◌≡◌, ◌<◌, ◌≤◌, ◌+◌, ◌^◌, ℕ, Bool, true, false, cond, eqb, ltb, leb, ◌&&◌, ◌||◌, Option, Some, None, Result, Ok, Err, inl, inr, arith, refl, ap, sym, ◌∙◌, le-leb}
+use Rattle.std.proofs.Common.{◌≡◌, ◌<◌, ◌≤◌, ◌+◌, ◌^◌, ℕ, Bool, true, false, cond, eqb, ltb, leb, ◌&&◌, ◌||◌, Option, Some, None, Result}
+use Rattle.std.proofs.Common.{Ok, Err, inl, inr, arith, refl, ap, sym, ◌∙◌, le-leb}
 use Rattle.std.specs.Prelude.{IfOk}
 use Rattle.std.specs.Result.{result_ok}
 use Rattle.std.proofs.lemmas.Bool.Decides.{eqb_tells, leb_tells, nat_tests}
@@ -9,7 +10,8 @@ use Rattle.token_bucket.specs.declared.limit.LimitFault.{LimitFault}
 use Rattle.token_bucket.specs.Limit.{limit_verdict, fault_of}
 use Rattle.script_text.specs.Limits.{IsLimit, is_limit, limit_facts, limit_with, when, limit_of}
 
-pub when-true : {A : Type 0} (test : Bool) (allowed : test ≡ true → A) (e : test ≡ true) → ((p q : test ≡ true) → allowed p ≡ allowed q) → when test allowed ≡ Some (allowed e)
+pub when-true : {A : Type 0} (test : Bool) (allowed : test ≡ true → A) (e : test ≡ true) → ((p q : test ≡ true) → allowed p ≡ allowed q) →
+    when test allowed ≡ Some (allowed e)
 when-true true allowed e same = ap Some (same refl e)
 when-true false allowed e same = absurd cc
 
@@ -47,7 +49,8 @@ facts_of limit = record {
 }
 
 -- a limit is that of its numbers
-pub limit_of-numbers : (limit : LimitCfg) → limit_of limit.read_rate limit.read_burst limit.write_rate limit.write_burst limit.tick_ms ≡ Some limit
+pub limit_of-numbers : (limit : LimitCfg) →
+    limit_of limit.read_rate limit.read_burst limit.write_rate limit.write_burst limit.tick_ms ≡ Some limit
 limit_of-numbers limit =
     let rr = limit.read_rate in
     let rb = limit.read_burst in
@@ -55,7 +58,8 @@ limit_of-numbers limit =
     let wb = limit.write_burst in
     let tick = limit.tick_ms in
     let test = is_limit-facts rr rb wr wb tick (facts_of limit) in
-    when-true (is_limit rr rb wr wb tick) (λ right. limit_with rr rb wr wb tick (limit_facts rr rb wr wb tick right)) test (λ p q. limit_with-same rr rb wr wb tick (limit_facts rr rb wr wb tick p) (limit_facts rr rb wr wb tick q))
+    when-true (is_limit rr rb wr wb tick) (λ right. limit_with rr rb wr wb tick (limit_facts rr rb wr wb tick right)) test
+    (λ p q. limit_with-same rr rb wr wb tick (limit_facts rr rb wr wb tick p) (limit_facts rr rb wr wb tick q))
     ∙ ap Some (limit_with-same rr rb wr wb tick (limit_facts rr rb wr wb tick test) (facts_of limit))
 
 -- nothing is wrong with numbers that make a limit
@@ -64,7 +68,8 @@ limit_verdict-facts rr rb wr wb tick facts = grind (arith, nat_tests)
 
 -- what a call of `LimitCfg::new` answered is the limit of its numbers
 pub limit_of-answer : (r : Result LimitCfg LimitFault) (rr rb wr wb tick : ℕ) → fault_of r ≡ limit_verdict rr rb wr wb tick →
-    IfOk r (λ l. l.read_rate ≡ rr) → IfOk r (λ l. l.read_burst ≡ rb) → IfOk r (λ l. l.write_rate ≡ wr) → IfOk r (λ l. l.write_burst ≡ wb) → IfOk r (λ l. l.tick_ms ≡ tick) →
+    IfOk r (λ l. l.read_rate ≡ rr) → IfOk r (λ l. l.read_burst ≡ rb) → IfOk r (λ l. l.write_rate ≡ wr) →
+    IfOk r (λ l. l.write_burst ≡ wb) → IfOk r (λ l. l.tick_ms ≡ tick) →
     limit_of rr rb wr wb tick ≡ result_ok r
 limit_of-answer (Ok limit) rr rb wr wb tick verdict a b c d e =
     ap (λ n. limit_of n rb wr wb tick) (sym a)
@@ -76,5 +81,6 @@ limit_of-answer (Ok limit) rr rb wr wb tick verdict a b c d e =
 limit_of-answer (Err fault) rr rb wr wb tick verdict a b c d e = by_test (is_limit rr rb wr wb tick) refl
   where
     by_test : (test : Bool) → is_limit rr rb wr wb tick ≡ test → limit_of rr rb wr wb tick ≡ None
-    by_test false wrong = when-false (is_limit rr rb wr wb tick) (λ right. limit_with rr rb wr wb tick (limit_facts rr rb wr wb tick right)) wrong
+    by_test false wrong =
+        when-false (is_limit rr rb wr wb tick) (λ right. limit_with rr rb wr wb tick (limit_facts rr rb wr wb tick right)) wrong
     by_test true right = let none = limit_verdict-facts rr rb wr wb tick (limit_facts rr rb wr wb tick right) in absurd cc

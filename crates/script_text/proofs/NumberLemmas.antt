@@ -1,5 +1,6 @@
 -- A number as its digits are read, one after another.
-use Rattle.std.proofs.Common.{◌≡◌, ◌≢◌, ◌<◌, ◌≤◌, ◌+◌, ◌-◌, ◌*◌, ℕ, true, false, ◌&&◌, List, [], ◌∷◌, drop, length, get_or, refl, arith, inl, inr, cond, leb, Some, None, rules, tests}
+use Rattle.std.proofs.Common.{◌≡◌, ◌≢◌, ◌<◌, ◌≤◌, ◌+◌, ◌-◌, ◌*◌, ℕ, true, false, ◌&&◌, List, [], ◌∷◌, drop, length, get_or, refl, arith}
+use Rattle.std.proofs.Common.{inl, inr, cond, leb, Some, None, rules, tests}
 use Rattle.std.specs.List.{fold}
 use Rattle.std.specs.Str.{all_ascii_digits}
 use Rattle.std.proofs.lemmas.Bool.Decides.{eqb_tells}
@@ -26,7 +27,8 @@ is_numeral-zero (d ∷ []) long zero = absurd (omega arith)
 is_numeral-zero (d ∷ e ∷ ds) long zero = rw zero refl
 
 -- a number that a digit takes past a bound is above it
-pub value_of-above : (max : ℕ) (w : List ℕ) (i n : ℕ) → i < length w → value_from n (drop i w) ≡ value_of w → max < n * 10 + (get_or w i 0 - 48) → max < value_of w
+pub value_of-above : (max : ℕ) (w : List ℕ) (i n : ℕ) → i < length w → value_from n (drop i w) ≡ value_of w →
+    max < n * 10 + (get_or w i 0 - 48) → max < value_of w
 value_of-above max w i n lt same past =
     let rest = drop (i + 1) w in
     let here : value_from (n * 10 + (get_or w i 0 - 48)) rest ≡ value_of w = rw (drop_more w i 0 lt) at same in

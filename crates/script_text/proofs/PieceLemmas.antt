@@ -1,5 +1,6 @@
 -- Where the first piece of a text ends.
-use Rattle.std.proofs.Common.{Some, None, ltb, ltb-true, ltb-false, cond, true, false, ◌≡◌, ◌<◌, ◌≤◌, ◌+◌, ℕ, List, [], ◌∷◌, take, drop, length, refl, arith, one-add, add-one, eqb, inl, inr}
+use Rattle.std.proofs.Common.{Some, None, ltb, ltb-true, ltb-false, cond, true, false, ◌≡◌, ◌<◌, ◌≤◌, ◌+◌, ℕ, List, [], ◌∷◌, take, drop}
+use Rattle.std.proofs.Common.{length, refl, arith, one-add, add-one, eqb, inl, inr}
 use Rattle.std.specs.List.{position_or_len, position}
 use Rattle.std.proofs.lemmas.Bool.Decides.{eqb_tells}
 use Rattle.script_text.specs.Pieces.{pieces}
@@ -33,7 +34,8 @@ pub pieces-found : (stop : ℕ) (xs : List ℕ) (i : ℕ) → Some i ≡ positio
     pieces stop xs ≡ take i xs ∷ pieces stop (drop (i + 1) xs)
 pieces-found stop xs i found =
     let n = stop_place stop xs in
-    elim (ltb n (length xs)) as (λ v. ltb n (length xs) ≡ v → Some i ≡ cond v (Some n) None → pieces stop xs ≡ take i xs ∷ pieces stop (drop (i + 1) xs)) [
+    elim (ltb n (length xs)) as
+    (λ v. ltb n (length xs) ≡ v → Some i ≡ cond v (Some n) None → pieces stop xs ≡ take i xs ∷ pieces stop (drop (i + 1) xs)) [
       | true ↦ λ below here. let same : i ≡ n = cc in rw same (pieces-cut stop xs (ltb-true n (length xs) below))
       | false ↦ λ above here. cc
     ] refl found

@@ -1,5 +1,6 @@
 -- Words that have no space and no LF, so that a line of them has these words.
-use Rattle.std.proofs.Common.{◌≡◌, ◌≢◌, ◌<◌, ◌≤◌, ◌+◌, ◌*◌, ◌/◌, ◌%◌, ◌^◌, ℕ, zero, suc, Bool, true, false, ◌&&◌, ltb, ltb-true, le-leb, lit≤, List, [], ◌∷◌, ◌++◌, length, get_or, refl, ap, sym, ◌∙◌, arith, rules, append_assoc, codes}
+use Rattle.std.proofs.Common.{◌≡◌, ◌≢◌, ◌<◌, ◌≤◌, ◌+◌, ◌*◌, ◌/◌, ◌%◌, ◌^◌, ℕ, zero, suc, Bool, true, false, ◌&&◌, ltb, ltb-true, le-leb}
+use Rattle.std.proofs.Common.{lit≤, List, [], ◌∷◌, ◌++◌, length, get_or, refl, ap, sym, ◌∙◌, arith, rules, append_assoc, codes}
 use Rattle.std.specs.List.{list_all}
 use Rattle.std.specs.Fmt.{decimal}
 use Rattle.std.specs.Str.{all_ascii_digits}
@@ -54,7 +55,8 @@ Lacks-phrase (w ∷ v ∷ ws) solid =
 pub line_of-phrase : (ws : List (List ℕ)) → line_of ws ≡ phrase ws ++ 10 ∷ []
 line_of-phrase [] = refl
 line_of-phrase (w ∷ []) = refl
-line_of-phrase (w ∷ v ∷ ws) = ap (λ (more : List ℕ). w ++ 32 ∷ more) (line_of-phrase (v ∷ ws)) ∙ sym (append_assoc w (32 ∷ phrase (v ∷ ws)) (10 ∷ []))
+line_of-phrase (w ∷ v ∷ ws) =
+    ap (λ (more : List ℕ). w ++ 32 ∷ more) (line_of-phrase (v ∷ ws)) ∙ sym (append_assoc w (32 ∷ phrase (v ∷ ws)) (10 ∷ []))
 
 pub AreSolid-append : (ws vs : List (List ℕ)) → AreSolid ws → AreSolid vs → AreSolid (ws ++ vs)
 AreSolid-append [] vs sw sv = sv
@@ -79,14 +81,16 @@ list_all-at p (x ∷ xs) zero all lt = (and_parts (p x) (list_all p xs) all).0
 list_all-at p (x ∷ xs) (suc i) all lt = list_all-at p xs i (and_parts (p x) (list_all p xs) all).1 (omega arith)
 
 -- what all hex digits pass, each digit of some bytes does
-pub list_all-encode_lower : (p : ℕ → Bool) → list_all p lower_digits ≡ true → (bytes : List ℕ) → IsBytes bytes → list_all p (encode_lower bytes) ≡ true
+pub list_all-encode_lower : (p : ℕ → Bool) → list_all p lower_digits ≡ true → (bytes : List ℕ) → IsBytes bytes →
+    list_all p (encode_lower bytes) ≡ true
 unfolding encode_with
 list_all-encode_lower p all [] are = refl
 list_all-encode_lower p all (b ∷ bytes) are =
     let fits : b < 256 = are 0 in
     let high : b / 16 < 16 = omega arith in
     let low : b % 16 < 16 = omega arith in
-    rw (list_all-at p lower_digits (b / 16) all high, list_all-at p lower_digits (b % 16) all low) (list_all-encode_lower p all bytes (λ i. are (suc i)))
+    rw (list_all-at p lower_digits (b / 16) all high, list_all-at p lower_digits (b % 16) all low)
+    (list_all-encode_lower p all bytes (λ i. are (suc i)))
 
 pub Solid-encode_lower : (bytes : List ℕ) → 0 < length bytes → IsBytes bytes → Solid (encode_lower bytes)
 Solid-encode_lower bytes some are = record {

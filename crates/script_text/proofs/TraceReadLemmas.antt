@@ -1,5 +1,6 @@
 -- A trace is what its text says.
-use Rattle.std.proofs.Common.{◌≡◌, ◌<◌, ◌+◌, ◌^◌, ℕ, true, false, Bool, lit<, List, [], ◌∷◌, ◌++◌, length, map, refl, ap, sym, ◌∙◌, arith, codes, Option, Some, None, Result, Ok, Err, zero, suc, get_or, ◌-◌, append_assoc, append-nil, length-append}
+use Rattle.std.proofs.Common.{◌≡◌, ◌<◌, ◌+◌, ◌^◌, ℕ, true, false, Bool, lit<, List, [], ◌∷◌, ◌++◌, length, map, refl, ap, sym, ◌∙◌, arith}
+use Rattle.std.proofs.Common.{codes, Option, Some, None, Result, Ok, Err, zero, suc, get_or, ◌-◌, append_assoc, append-nil, length-append}
 use Rattle.std.specs.Prelude.{option_map, IsSome}
 use Rattle.std.specs.Fmt.{decimal}
 use Rattle.hex.specs.Hex.{encode_lower}
@@ -10,7 +11,8 @@ use Rattle.ev_types.specs.declared.answer.AskAnswer.{AskAnswer}
 use Rattle.ev_types.specs.declared.answer.ReadAnswer.TheVariants as read
 use Rattle.ev_types.specs.declared.answer.WriteAnswer.TheVariants as write
 use Rattle.ev_types.specs.declared.entry.Entry.{Entry}
-use Rattle.ev_types.specs.declared.entry.Entry.TheVariants.{Turn, Poll, Want, Ready, PollFailed, Opened, Conn, Read, Write, Fired, Asked, Freed, CloseWrite, Close}
+use Rattle.ev_types.specs.declared.entry.Entry.TheVariants.{Turn, Poll, Want, Ready, PollFailed, Opened, Conn, Read, Write, Fired, Asked}
+use Rattle.ev_types.specs.declared.entry.Entry.TheVariants.{Freed, CloseWrite, Close}
 use Rattle.ev_types.specs.Trace.{Trace, Event}
 use Rattle.script_text.specs.Pieces.{lines, words}
 use Rattle.script_text.specs.Lines.{phrase, line_of, side_word, marks_word, why_word, cause_word}
@@ -22,8 +24,10 @@ use Rattle.script_text.specs.TraceSpelled.{trace_line_read, trace_lines_read, tr
 use Rattle.script_text.specs.Laws.{AllLack, with_ends}
 use Rattle.script_text.specs.TraceLaws.{IsWide, IsEnd, IsAct, IsEntry, StandBeside, AreBytes, IsSpellable, IsFirstBadLine}
 use Rattle.script_text.proofs.LawLemmas.{lines-with_ends, words-phrase}
-use Rattle.script_text.proofs.SolidLemmas.{Solid, AreSolid, AreSolid-append, AreWords-solid, Lacks-phrase, line_of-phrase, Solid-decimal, Solid-encode_lower}
-use Rattle.script_text.proofs.ValueReadLemmas.{computed, Solid-marks_word, Solid-conn_word, Solid-ask_word, Solid-why_word, Solid-cause_word}
+use Rattle.script_text.proofs.SolidLemmas.{Solid, AreSolid, AreSolid-append, AreWords-solid, Lacks-phrase, line_of-phrase, Solid-decimal}
+use Rattle.script_text.proofs.SolidLemmas.{Solid-encode_lower}
+use Rattle.script_text.proofs.ValueReadLemmas.{computed, Solid-marks_word, Solid-conn_word, Solid-ask_word, Solid-why_word}
+use Rattle.script_text.proofs.ValueReadLemmas.{Solid-cause_word}
 use Rattle.script_text.proofs.ActReadLemmas.{AreSolid-end, AreSolid-act_words}
 use Rattle.script_text.proofs.EntryReadLemmas.{flat_words, event_said-words}
 
@@ -59,28 +63,35 @@ AreSolid-flat_words (Read end room (read.Got n)) bytes is are =
     moved_words (codes "read") end room (codes "got" ∷ encode_lower bytes ∷ []) (computed (codes "read") (lit< tt) refl) is.0 is.1
     (computed (codes "got") (lit< tt) refl, (digits_word n bytes are, tt))
 AreSolid-flat_words (Read end room read.Ended) bytes is none =
-    moved_words (codes "read") end room (codes "end" ∷ []) (computed (codes "read") (lit< tt) refl) is.0 is.1 (computed (codes "end") (lit< tt) refl, tt)
+    moved_words (codes "read") end room (codes "end" ∷ []) (computed (codes "read") (lit< tt) refl) is.0 is.1
+    (computed (codes "end") (lit< tt) refl, tt)
 AreSolid-flat_words (Read end room read.NotYet) bytes is none =
-    moved_words (codes "read") end room (codes "notyet" ∷ []) (computed (codes "read") (lit< tt) refl) is.0 is.1 (computed (codes "notyet") (lit< tt) refl, tt)
+    moved_words (codes "read") end room (codes "notyet" ∷ []) (computed (codes "read") (lit< tt) refl) is.0 is.1
+    (computed (codes "notyet") (lit< tt) refl, tt)
 AreSolid-flat_words (Read end room read.Failed) bytes is none =
-    moved_words (codes "read") end room (codes "fail" ∷ []) (computed (codes "read") (lit< tt) refl) is.0 is.1 (computed (codes "fail") (lit< tt) refl, tt)
+    moved_words (codes "read") end room (codes "fail" ∷ []) (computed (codes "read") (lit< tt) refl) is.0 is.1
+    (computed (codes "fail") (lit< tt) refl, tt)
 AreSolid-flat_words (Write end offered (write.Took n)) bytes is are =
     moved_words (codes "write") end offered (codes "took" ∷ encode_lower bytes ∷ []) (computed (codes "write") (lit< tt) refl) is.0 is.1
     (computed (codes "took") (lit< tt) refl, (digits_word n bytes are, tt))
 AreSolid-flat_words (Write end offered write.NotYet) bytes is none =
-    moved_words (codes "write") end offered (codes "notyet" ∷ []) (computed (codes "write") (lit< tt) refl) is.0 is.1 (computed (codes "notyet") (lit< tt) refl, tt)
+    moved_words (codes "write") end offered (codes "notyet" ∷ []) (computed (codes "write") (lit< tt) refl) is.0 is.1
+    (computed (codes "notyet") (lit< tt) refl, tt)
 AreSolid-flat_words (Write end offered write.Failed) bytes is none =
-    moved_words (codes "write") end offered (codes "fail" ∷ []) (computed (codes "write") (lit< tt) refl) is.0 is.1 (computed (codes "fail") (lit< tt) refl, tt)
+    moved_words (codes "write") end offered (codes "fail" ∷ []) (computed (codes "write") (lit< tt) refl) is.0 is.1
+    (computed (codes "fail") (lit< tt) refl, tt)
 AreSolid-flat_words (Write end offered write.NoMemory) bytes is none = absurd is
 AreSolid-flat_words (Fired end w) bytes is none =
     (computed (codes "fired") (lit< tt) refl, AreSolid-end end (why_word w ∷ []) is.0 (Solid-why_word w is.1, tt))
 AreSolid-flat_words (Asked end a answer) bytes is none = (
   computed (codes "asked") (lit< tt) refl,
-  AreSolid-end end (act_words a ++ ask_word answer ∷ []) is.0 (AreSolid-append (act_words a) (ask_word answer ∷ []) (AreSolid-act_words a is.1) (Solid-ask_word answer, tt)),
+  AreSolid-end end (act_words a ++ ask_word answer ∷ []) is.0
+      (AreSolid-append (act_words a) (ask_word answer ∷ []) (AreSolid-act_words a is.1) (Solid-ask_word answer, tt)),
 )
 AreSolid-flat_words (Freed end c moved given) bytes is none = (
   computed (codes "freed") (lit< tt) refl,
-  AreSolid-end end (cause_word c ∷ decimal moved ∷ decimal given ∷ []) is.0 (Solid-cause_word c is.1, (Solid-decimal moved is.2, (Solid-decimal given is.3, tt))),
+  AreSolid-end end (cause_word c ∷ decimal moved ∷ decimal given ∷ []) is.0
+      (Solid-cause_word c is.1, (Solid-decimal moved is.2, (Solid-decimal given is.3, tt))),
 )
 AreSolid-flat_words (CloseWrite end) bytes is none = (computed (codes "closewrite") (lit< tt) refl, AreSolid-end end [] is tt)
 AreSolid-flat_words (Close end) bytes is none = (computed (codes "close") (lit< tt) refl, AreSolid-end end [] is tt)
@@ -112,7 +123,8 @@ act_words-some (act.Rate end (Some limit)) = lit< tt
 act_words-some _ = lit< tt
 
 phrase-entry_words : (e : Entry) (bytes : List ℕ) → phrase (entry_words e bytes) ≡ phrase (flat_words e bytes)
-phrase-entry_words (Asked end a answer) bytes = phrase-within (codes "asked") (decimal end.link) (side_word end.side) (ask_word answer) (act_words a) (act_words-some a)
+phrase-entry_words (Asked end a answer) bytes =
+    phrase-within (codes "asked") (decimal end.link) (side_word end.side) (ask_word answer) (act_words a) (act_words-some a)
 phrase-entry_words _ bytes = refl
 
 abbrev phrase_of : Event → List ℕ
@@ -142,18 +154,23 @@ trace_line_read-phrase : (t : Trace) (event : Event) → IsEntry event.0 → Sta
     trace_line_read t (phrase_of event) ≡ Some (t ++ event ∷ [])
 trace_line_read-phrase t event is beside =
     let put : Option Event → Option Trace = λ o. option_map (λ (e : Event). t ++ e ∷ []) o in
-    ap (λ (ws : List (List ℕ)). put (event_said ws)) (words-phrase (flat_words event.0 event.1) (AreWords-solid (flat_words event.0 event.1) (AreSolid-flat_words event.0 event.1 is beside)))
+    ap (λ (ws : List (List ℕ)). put (event_said ws))
+    (words-phrase (flat_words event.0 event.1)
+    (AreWords-solid (flat_words event.0 event.1) (AreSolid-flat_words event.0 event.1 is beside)))
     ∙ ap put (event_said-words event.0 event.1 is beside)
 
-trace_lines_read-phrases : (before : Trace) (n : ℕ) (t : Trace) → IsSpellable t → trace_lines_read before n (map phrase_of t) ≡ Ok (before ++ t)
+trace_lines_read-phrases : (before : Trace) (n : ℕ) (t : Trace) → IsSpellable t →
+    trace_lines_read before n (map phrase_of t) ≡ Ok (before ++ t)
 trace_lines_read-phrases before n [] is = ap Ok (sym (append-nil before))
 trace_lines_read-phrases before n (event ∷ more) is =
-    ap (λ (o : Option Trace). going_on o (n + 1) (λ longer. trace_lines_read longer (n + 1) (map phrase_of more))) (trace_line_read-phrase before event is.0 is.1)
+    ap (λ (o : Option Trace). going_on o (n + 1) (λ longer. trace_lines_read longer (n + 1) (map phrase_of more)))
+    (trace_line_read-phrase before event is.0 is.1)
     ∙ trace_lines_read-phrases (before ++ event ∷ []) (n + 1) more is.2
     ∙ ap Ok (append_assoc before (event ∷ []) more)
 
 pub trace_of-trace_text : (t : Trace) → IsSpellable t → trace_of (trace_text t) ≡ Ok t
-trace_of-trace_text t is = ap (λ (ls : List (List ℕ)). trace_lines_read [] 0 ls) (lines-trace_text t is) ∙ trace_lines_read-phrases [] 0 t is
+trace_of-trace_text t is =
+    ap (λ (ls : List (List ℕ)). trace_lines_read [] 0 ls) (lines-trace_text t is) ∙ trace_lines_read-phrases [] 0 t is
 
 -- ---- where a text is refused
 
@@ -165,7 +182,8 @@ record IsBadAt (before : ℕ) (ls : List (List ℕ)) (n : ℕ) : Type 0 where
   good : (k : ℕ) → k < place → IsSome (event_said (words (get_or ls k [])))
   bad : event_said (words (get_or ls place [])) ≡ None
 
-one_more_good : (l : List ℕ) (ls : List (List ℕ)) (place : ℕ) → IsSome (event_said (words l)) → ((k : ℕ) → k < place → IsSome (event_said (words (get_or ls k [])))) →
+one_more_good : (l : List ℕ) (ls : List (List ℕ)) (place : ℕ) → IsSome (event_said (words l)) →
+    ((k : ℕ) → k < place → IsSome (event_said (words (get_or ls k [])))) →
     (k : ℕ) → k < suc place → IsSome (event_said (words (get_or (l ∷ ls) k [])))
 one_more_good l ls place first rest zero lt = first
 one_more_good l ls place first rest (suc k) lt = rest k (omega arith)
@@ -173,7 +191,10 @@ one_more_good l ls place first rest (suc k) lt = rest k (omega arith)
 trace_lines_read-bad : (t : Trace) (before : ℕ) (ls : List (List ℕ)) (n : ℕ) → trace_lines_read t before ls ≡ Err n → IsBadAt before ls n
 trace_lines_read-bad t before [] n refused = absurd cc
 trace_lines_read-bad t before (l ∷ ls) n refused =
-    elim (event_said (words l)) as (λ o. event_said (words l) ≡ o → going_on (option_map (λ (e : Event). t ++ e ∷ []) o) (before + 1) (λ longer. trace_lines_read longer (before + 1) ls) ≡ Err n → IsBadAt before (l ∷ ls) n) [
+    elim (event_said (words l)) as
+    (λ o. event_said (words l) ≡ o →
+    going_on (option_map (λ (e : Event). t ++ e ∷ []) o) (before + 1) (λ longer. trace_lines_read longer (before + 1) ls) ≡ Err n →
+    IsBadAt before (l ∷ ls) n) [
       | None ↦ λ here no.
           let same : before + 1 ≡ n = cc in
           record { place = 0; number = omega arith; within = omega arith; good = λ k lt. absurd (omega arith); bad = here }

@@ -1,5 +1,6 @@
 -- Each value is what its word says, and its word is one.
-use Rattle.std.proofs.Common.{◌≡◌, ◌<◌, ◌≤◌, ◌+◌, ◌*◌, ◌-◌, ◌^◌, ℕ, zero, suc, slice_index, Bool, true, false, ◌||◌, cond, leb, le-leb, lit<, List, [], ◌∷◌, ◌++◌, length, refl, ap, sym, ◌∙◌, arith, codes, Option, Some, None}
+use Rattle.std.proofs.Common.{◌≡◌, ◌<◌, ◌≤◌, ◌+◌, ◌*◌, ◌-◌, ◌^◌, ℕ, zero, suc, slice_index, Bool, true, false, ◌||◌, cond, leb, le-leb}
+use Rattle.std.proofs.Common.{lit<, List, [], ◌∷◌, ◌++◌, length, refl, ap, sym, ◌∙◌, arith, codes, Option, Some, None}
 use Rattle.std.specs.Prelude.{option_map, option_and_then}
 use Rattle.std.specs.List.{list_all}
 use Rattle.std.specs.Fmt.{decimal}
@@ -74,7 +75,8 @@ ask_of-word answer.Memory = refl
 pub lower_bytes_of-encode_lower : (bytes : List ℕ) → 0 < length bytes → IsBytes bytes → lower_bytes_of (encode_lower bytes) ≡ Some bytes
 lower_bytes_of-encode_lower bytes some are =
     let long : 2 ≤ length (encode_lower bytes) = omega (arith, length-encode_with lower_digits bytes, some) in
-    rw (le-leb 2 (length (encode_lower bytes)) long, list_all-encode_lower is_no_capital refl bytes are) (ap result_ok (decode_of-encode_lower bytes are))
+    rw (le-leb 2 (length (encode_lower bytes)) long, list_all-encode_lower is_no_capital refl bytes are)
+    (ap result_ok (decode_of-encode_lower bytes are))
 
 byte_at : (b : ℕ) → b < 256 → (i : ℕ) → slice_index (b ∷ []) i < 256
 byte_at b fits zero = fits
@@ -138,7 +140,8 @@ Solid-why_word why.Write is = computed (codes "write") (lit< tt) refl
 Solid-why_word why.Timer is = computed (codes "timer") (lit< tt) refl
 Solid-why_word (why.Event flags) is = record {
   filled = omega arith;
-  solid = list_all-append is_solid (codes "event:") (encode_lower (flags.0 ∷ [])) refl (list_all-encode_lower is_solid refl (flags.0 ∷ []) (byte_alone flags.0 is));
+  solid = list_all-append is_solid (codes "event:") (encode_lower (flags.0 ∷ [])) refl
+      (list_all-encode_lower is_solid refl (flags.0 ∷ []) (byte_alone flags.0 is));
 }
 
 pub Solid-cause_word : (c : Cause) → IsCause c → Solid (cause_word c)

@@ -5,8 +5,8 @@ use Rattle.ev_types.specs.declared.side.Side.{Side}
 use Rattle.ev_types.specs.declared.side.Side.TheVariants.{In, Out}
 use Rattle.ev_types.specs.declared.side.SideId.{SideId}
 use Rattle.script_text.specs.Numbers.{number_within, bytes_of}
-use Rattle.script_text.specs.declared.script.TurnLine.{TurnLine}
-use Rattle.script_text.specs.declared.script.TurnLine.TheVariants as turn
+use Rattle.ev_types.specs.declared.turn_line.TurnLine.{TurnLine}
+use Rattle.ev_types.specs.declared.turn_line.TurnLine.TheVariants as turn
 use Rattle.script_text.specs.declared.line.Keyword.{Keyword}
 use Rattle.script_text.specs.declared.line.Keyword.TheVariants.{At, Open, Conn, Pending, Eof, ReadFail, Take, WriteFail, Spur, PollFail}
 use Rattle.script_text.specs.declared.line.Line.{Line}

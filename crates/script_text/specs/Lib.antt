@@ -9,6 +9,7 @@ pub mod Tally
 pub mod ReadingView
 pub mod Lines
 pub mod ActLine
+pub mod Room
 pub mod TraceText
 pub mod ReportText
 pub mod ValueGrammar

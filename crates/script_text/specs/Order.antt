@@ -3,16 +3,12 @@ use Rattle.std.specs.Prelude.{ℕ, ◌+◌, ◌^◌, List, [], ◌∷◌, ◌++�
 use Rattle.std.specs.List.{list_any, flat_map}
 use Rattle.ev_types.specs.Sides.{number}
 use Rattle.ev_types.specs.declared.side.SideId.{SideId}
-use Rattle.script_text.specs.declared.script.TurnLine.{TurnLine}
-use Rattle.script_text.specs.declared.script.TurnLine.TheVariants.{NewLink, Conn, Pending, Eof, ReadFail, Take, WriteFail, Spur, PollFail}
+use Rattle.ev_types.specs.declared.turn_line.TurnLine.{TurnLine}
+use Rattle.ev_types.specs.declared.turn_line.TurnLine.TheVariants.{NewLink, Conn, Pending, Eof, ReadFail, Take, WriteFail, Spur, PollFail}
 use Rattle.script_text.specs.declared.line.Line.{Line}
 use Rattle.script_text.specs.declared.line.Line.TheVariants.{At, Within, Skipped}
-use Rattle.script_text.specs.Script.{ScriptValue, TurnValue}
-
--- the lines of some turns, in their order
-abbrev pub turn_lines : List TurnValue → List TurnLine
-turn_lines [] = []
-turn_lines (turn ∷ more) = turn.1 ++ turn_lines more
+use Rattle.ev_types.specs.ScriptTurn.{ScriptTurn, lines_of}
+use Rattle.script_text.specs.Script.{ScriptValue}
 
 -- the link that a line opens, with whether the line says wait
 abbrev pub opened_by : TurnLine → List Bool
@@ -71,7 +67,7 @@ may_follow before (Spur side) = is_known side before
 may_follow before PollFail = true
 
 -- a line more in the last turn
-abbrev pub with_line : List TurnValue → TurnLine → List TurnValue
+abbrev pub with_line : List ScriptTurn → TurnLine → List ScriptTurn
 with_line [] line = []
 with_line (turn ∷ []) line = (turn.0, turn.1 ++ line ∷ []) ∷ []
 with_line (turn ∷ next ∷ more) line = turn ∷ with_line (next ∷ more) line
@@ -82,6 +78,6 @@ abbrev pub extended : ScriptValue → Line → Option ScriptValue
 extended script (At ms) =
     if nat_lt (length script.turns) 20000 then Some (record { turns = script.turns ++ (ms, []) ∷ [] }) else None
 extended script (Within line) =
-    if nat_lt 0 (length script.turns) && may_follow (turn_lines script.turns) line
+    if nat_lt 0 (length script.turns) && may_follow (lines_of script.turns) line
     then Some (record { turns = with_line script.turns line }) else None
 extended script Skipped = Some script

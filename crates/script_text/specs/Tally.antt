@@ -1,8 +1,8 @@
 -- How a reader keeps count of the ends while it reads a script.
 use Rattle.std.specs.Prelude.{◌≡◌, ℕ, ◌+◌, ◌-◌, ◌*◌, ◌^◌, min, List, [], ◌∷◌, ◌++◌, length, true, false, slice_index_or, slice_set}
 use Rattle.ev_types.specs.Sides.{number}
-use Rattle.script_text.specs.declared.script.TurnLine.{TurnLine}
-use Rattle.script_text.specs.declared.script.TurnLine.TheVariants.{NewLink, Pending, Eof, ReadFail}
+use Rattle.ev_types.specs.declared.turn_line.TurnLine.{TurnLine}
+use Rattle.ev_types.specs.declared.turn_line.TurnLine.TheVariants.{NewLink, Pending, Eof, ReadFail}
 use Rattle.script_text.specs.declared.tally.EndSoFar.{EndSoFar}
 use Rattle.script_text.specs.Order.{opened, bytes_for, is_ended}
 

@@ -4,8 +4,8 @@ ghost use Rattle.script_text.specs.ValueGrammar.{only_dir, only_number};
 ghost use Rattle.script_text.specs.Limits.{limit_of};
 ghost use Rattle.script_text.specs.ActGrammar.{bare as bare_ask, marks_ask, timeouts_ask, limit_said, rate_ask, verb_of, ask_by, act_of};
 
-use crate::value_words::{is_word, read_dir, read_end};
-use crate::words::number;
+use crate::value_words::{read_dir, read_end};
+use crate::words::{is_word, number};
 use ev_types::{Act, Dir, LimitCfg, SideId};
 
 /// The greatest number that a group can have.

@@ -1,177 +1,169 @@
 // Spells an entry of a trace as its line.
-ghost use Rattle.std.specs.Prelude.{◌≡◌, ◌∷◌, [], IfOk, Some, codes, string_bytes};
+ghost use Rattle.std.specs.Prelude.{◌+◌, ◌*◌, ◌∷◌, [], false, length};
 ghost use Rattle.std.specs.Fmt.{decimal};
 ghost use Rattle.hex.specs.Hex.{encode_lower};
 ghost use Rattle.script_text.specs.Lines.{line_of, side_word};
 ghost use Rattle.script_text.specs.TraceText.{entry_words, read_words, write_words};
+ghost use Rattle.script_text.specs.Room.{spaced, HasRoom, GrewBy, room_of};
 
-use crate::act_text::{act_text, ask_text};
-use crate::value_text::{cause_text, conn_text, marks_text, side_text, why_text};
+use crate::act_text::{ask_text, put_act};
+use crate::push::{put_digits, put_end, put_last, put_last_number, put_number, put_word};
+use crate::value_text::{conn_text, marks_text, put_cause, put_why, side_text};
 use ev_types::{Act, AskAnswer, Cause, Entry, ReadAnswer, SideId, Why, WriteAnswer};
-use std::alloc::{AllocError, Global};
 
-/// The line of an entry with the bytes beside it, with its LF.
-pub fn entry_text(alloc: Global, entry: Entry, beside: &[u8]) -> Result<String, AllocError>
-    ensures { IfOk result (λ t. string_bytes t ≡ line_of (entry_words entry beside.now)) }
+/// Appends the line of an entry with the bytes beside it, and its LF. Takes no memory.
+///
+/// Own.
+pub fn put_entry(text: &mut Vec<u8>, entry: Entry, beside: &[u8])
+    requires { HasRoom text.old (room_of 1 (length beside.now)) }
+    ensures { GrewBy (line_of (entry_words entry beside.now)) (room_of 1 (length beside.now)) text.old text.new }
 {
     match entry {
-        Entry::Turn { ms } => format!(in alloc; "turn {ms}\n"),
-        Entry::Poll { timeout: None } => String::from_str(alloc, "poll none\n"),
-        Entry::Poll { timeout: Some(ms) } => format!(in alloc; "poll {ms}\n"),
-        Entry::Want { side, read, write } => named(alloc, "want", side, marks_text(read, write)),
-        Entry::Ready { side, read, write } => named(alloc, "ready", side, marks_text(read, write)),
-        Entry::PollFailed => String::from_str(alloc, "pollfail\n"),
+        Entry::Turn { ms } => put_counted(text, "turn", ms),
+        Entry::Poll { timeout: None } => put_bare(text, "poll", "none"),
+        Entry::Poll { timeout: Some(ms) } => put_counted(text, "poll", ms),
+        Entry::Want { side, read, write } => put_named(text, "want", side, marks_text(read, write)),
+        Entry::Ready { side, read, write } => {
+            put_named(text, "ready", side, marks_text(read, write))
+        }
+        Entry::PollFailed => put_last(text, "pollfail"),
         Entry::Opened {
             link,
             connected: true,
-        } => format!(in alloc; "open {link}\n"),
+        } => put_counted(text, "open", u64::from(link)),
         Entry::Opened {
             link,
             connected: false,
-        } => format!(in alloc; "open {link} wait\n"),
-        Entry::Conn { side, answer } => named(alloc, "conn", side, conn_text(answer)),
-        Entry::Read { side, room, answer } => read_line(alloc, side, room, answer, beside),
+        } => put_waiting(text, link),
+        Entry::Conn { side, answer } => put_named(text, "conn", side, conn_text(answer)),
+        Entry::Read { side, room, answer } => put_read(text, side, room, answer, beside),
         Entry::Write {
             side,
             offered,
             answer,
-        } => write_line(alloc, side, offered, answer, beside),
-        Entry::Fired { side, why } => fired_line(alloc, side, why),
-        Entry::Asked { side, act, answer } => asked_line(alloc, side, act, answer),
+        } => put_write(text, side, offered, answer, beside),
+        Entry::Fired { side, why } => put_fired(text, side, why),
+        Entry::Asked { side, act, answer } => put_asked(text, side, act, answer),
         Entry::Freed {
             side,
             cause,
             moved,
             given,
-        } => freed_line(alloc, side, cause, moved, given),
-        Entry::CloseWrite { side } => bare(alloc, "closewrite", side),
-        Entry::Close { side } => bare(alloc, "close", side),
+        } => put_freed(text, side, cause, moved, given),
+        Entry::CloseWrite { side } => put_close(text, "closewrite", side),
+        Entry::Close { side } => put_close(text, "close", side),
     }
 }
 
-fn bare(alloc: Global, word: &str, side: SideId) -> Result<String, AllocError>
-    ensures { IfOk result (λ t. string_bytes t
-        ≡ line_of (word.now ∷ decimal side.link ∷ side_word side.side ∷ [])) }
+fn put_counted(text: &mut Vec<u8>, word: &str, number: u64)
+    requires { HasRoom text.old (length word.now + 22) }
+    ensures { GrewBy (line_of (word.now ∷ decimal number ∷ [])) (length word.now + 22) text.old text.new }
 {
-    let link = side.link;
-    let end = side_text(side.side);
-    format!(in alloc; "{word} {link} {end}\n")
+    put_word(text, word);
+    put_last_number(text, number);
 }
 
-fn named(alloc: Global, word: &str, side: SideId, name: &str) -> Result<String, AllocError>
-    ensures { IfOk result (λ t. string_bytes t
-        ≡ line_of (word.now ∷ decimal side.link ∷ side_word side.side ∷ name.now ∷ [])) }
+fn put_bare(text: &mut Vec<u8>, word: &str, name: &str)
+    requires { HasRoom text.old (length word.now + length name.now + 2) }
+    ensures { GrewBy (line_of (word.now ∷ name.now ∷ [])) (length word.now + length name.now + 2) text.old text.new }
 {
-    let link = side.link;
-    let end = side_text(side.side);
-    format!(in alloc; "{word} {link} {end} {name}\n")
+    put_word(text, word);
+    put_last(text, name);
 }
 
-fn answered(
-    alloc: Global,
-    word: &str,
-    side: SideId,
-    number: u64,
-    answer: &str,
-) -> Result<String, AllocError>
-    ensures { IfOk result (λ t. string_bytes t
-        ≡ line_of (word.now ∷ decimal side.link ∷ side_word side.side ∷ decimal number
-        ∷ answer.now ∷ [])) }
+fn put_waiting(text: &mut Vec<u8>, link: u32)
+    requires { HasRoom text.old 31 }
+    ensures { GrewBy (line_of (entry_words (Entry.Opened link false) [])) 31 text.old text.new }
 {
-    let link = side.link;
-    let end = side_text(side.side);
-    format!(in alloc; "{word} {link} {end} {number} {answer}\n")
+    put_word(text, "open");
+    put_number(text, u64::from(link));
+    put_last(text, "wait");
 }
 
-fn moved_line(
-    alloc: Global,
-    word: &str,
-    side: SideId,
-    number: u64,
-    answer: &str,
-    bytes: &[u8],
-) -> Result<String, AllocError>
-    ensures { IfOk result (λ t. string_bytes t
-        ≡ line_of (word.now ∷ decimal side.link ∷ side_word side.side ∷ decimal number
-        ∷ answer.now ∷ encode_lower bytes.now ∷ [])) }
+fn put_close(text: &mut Vec<u8>, word: &str, side: SideId)
+    requires { HasRoom text.old (length word.now + 26) }
+    ensures { GrewBy (line_of (word.now ∷ decimal side.link ∷ side_word side.side ∷ [])) (length word.now + 26) text.old text.new }
 {
-    let link = side.link;
-    let end = side_text(side.side);
-    let digits = hex::encode(alloc, bytes)?;
-    format!(in alloc; "{word} {link} {end} {number} {answer} {digits}\n")
+    put_word(text, word);
+    put_number(text, u64::from(side.link));
+    put_last(text, side_text(side.side));
 }
 
-fn read_line(
-    alloc: Global,
-    side: SideId,
-    room: u64,
-    answer: ReadAnswer,
-    beside: &[u8],
-) -> Result<String, AllocError>
-    ensures { IfOk result (λ t. string_bytes t
-        ≡ line_of (entry_words (Entry.Read side room answer) beside.now)) }
+fn put_named(text: &mut Vec<u8>, word: &str, side: SideId, name: &str)
+    requires { HasRoom text.old (length word.now + length name.now + 27) }
+    ensures { GrewBy (line_of (word.now ∷ decimal side.link ∷ side_word side.side ∷ name.now ∷ [])) (length word.now + length name.now + 27) text.old text.new }
 {
+    put_word(text, word);
+    put_end(text, side);
+    put_last(text, name);
+}
+
+fn put_read(text: &mut Vec<u8>, side: SideId, room: u64, answer: ReadAnswer, beside: &[u8])
+    requires { HasRoom text.old (room_of 1 (length beside.now)) }
+    ensures { GrewBy (line_of (entry_words (Entry.Read side room answer) beside.now)) (room_of 1 (length beside.now)) text.old text.new }
+{
+    put_word(text, "read");
+    put_end(text, side);
+    put_number(text, room);
     match answer {
-        ReadAnswer::Got(_) => moved_line(alloc, "read", side, room, "got", beside),
-        ReadAnswer::Ended => answered(alloc, "read", side, room, "end"),
-        ReadAnswer::NotYet => answered(alloc, "read", side, room, "notyet"),
-        ReadAnswer::Failed => answered(alloc, "read", side, room, "fail"),
+        ReadAnswer::Got(_) => put_moved(text, "got", beside),
+        ReadAnswer::Ended => put_last(text, "end"),
+        ReadAnswer::NotYet => put_last(text, "notyet"),
+        ReadAnswer::Failed => put_last(text, "fail"),
     }
 }
 
-fn write_line(
-    alloc: Global,
-    side: SideId,
-    offered: u64,
-    answer: WriteAnswer,
-    beside: &[u8],
-) -> Result<String, AllocError>
-    ensures { IfOk result (λ t. string_bytes t
-        ≡ line_of (entry_words (Entry.Write side offered answer) beside.now)) }
+fn put_write(text: &mut Vec<u8>, side: SideId, offered: u64, answer: WriteAnswer, beside: &[u8])
+    requires { HasRoom text.old (room_of 1 (length beside.now)) }
+    ensures { GrewBy (line_of (entry_words (Entry.Write side offered answer) beside.now)) (room_of 1 (length beside.now)) text.old text.new }
 {
+    put_word(text, "write");
+    put_end(text, side);
+    put_number(text, offered);
     match answer {
-        WriteAnswer::Took(_) => moved_line(alloc, "write", side, offered, "took", beside),
-        WriteAnswer::NotYet => answered(alloc, "write", side, offered, "notyet"),
-        WriteAnswer::Failed => answered(alloc, "write", side, offered, "fail"),
-        WriteAnswer::NoMemory => answered(alloc, "write", side, offered, "nomemory"),
+        WriteAnswer::Took(_) => put_moved(text, "took", beside),
+        WriteAnswer::NotYet => put_last(text, "notyet"),
+        WriteAnswer::Failed => put_last(text, "fail"),
+        WriteAnswer::NoMemory => put_last(text, "nomemory"),
     }
 }
 
-fn fired_line(alloc: Global, side: SideId, why: Why) -> Result<String, AllocError>
-    ensures { IfOk result (λ t. string_bytes t ≡ line_of (entry_words (Entry.Fired side why) [])) }
+/// The end of the line of a read that got bytes, or of a write that took some.
+fn put_moved(text: &mut Vec<u8>, word: &str, bytes: &[u8])
+    requires { HasRoom text.old (length word.now + 2 * length bytes.now + 2) }
+    ensures { GrewBy (line_of (word.now ∷ encode_lower bytes.now ∷ [])) (length word.now + 2 * length bytes.now + 2) text.old text.new }
 {
-    let why = why_text(alloc, why)?;
-    named(alloc, "fired", side, why.as_str())
+    put_word(text, word);
+    put_digits(text, bytes);
+    text.push(b'\n').unwrap();
 }
 
-fn asked_line(
-    alloc: Global,
-    side: SideId,
-    act: Act,
-    answer: AskAnswer,
-) -> Result<String, AllocError>
-    ensures { IfOk result (λ t. string_bytes t
-        ≡ line_of (entry_words (Entry.Asked side act answer) [])) }
+fn put_fired(text: &mut Vec<u8>, side: SideId, why: Why)
+    requires { HasRoom text.old 41 }
+    ensures { GrewBy (line_of (entry_words (Entry.Fired side why) [])) 41 text.old text.new }
 {
-    let link = side.link;
-    let end = side_text(side.side);
-    let act = act_text(alloc, act)?;
-    let answer = ask_text(answer);
-    format!(in alloc; "asked {link} {end} {act} {answer}\n")
+    put_word(text, "fired");
+    put_end(text, side);
+    put_why(text, why);
 }
 
-fn freed_line(
-    alloc: Global,
-    side: SideId,
-    cause: Cause,
-    moved: u64,
-    given: u64,
-) -> Result<String, AllocError>
-    ensures { IfOk result (λ t. string_bytes t
-        ≡ line_of (entry_words (Entry.Freed side cause moved given) [])) }
+fn put_asked(text: &mut Vec<u8>, side: SideId, act: Act, answer: AskAnswer)
+    requires { HasRoom text.old 183 }
+    ensures { GrewBy (line_of (entry_words (Entry.Asked side act answer) [])) 183 text.old text.new }
 {
-    let link = side.link;
-    let end = side_text(side.side);
-    let cause = cause_text(alloc, cause)?;
-    format!(in alloc; "freed {link} {end} {cause} {moved} {given}\n")
+    put_word(text, "asked");
+    put_end(text, side);
+    put_act(text, act);
+    put_last(text, ask_text(answer));
+}
+
+fn put_freed(text: &mut Vec<u8>, side: SideId, cause: Cause, moved: u64, given: u64)
+    requires { HasRoom text.old 101 }
+    ensures { GrewBy (line_of (entry_words (Entry.Freed side cause moved given) [])) 101 text.old text.new }
+{
+    put_word(text, "freed");
+    put_end(text, side);
+    put_cause(text, cause);
+    put_number(text, moved);
+    put_last_number(text, given);
 }

@@ -5,10 +5,10 @@ ghost use Rattle.script_text.specs.EntryGrammar.{kind_of, turn_said, poll_said, 
 use crate::ByteList;
 use crate::act_words::read_act;
 use crate::value_words::{
-    is_word, lower_bytes, read_ask, read_cause, read_conn, read_end, read_link, read_marks,
-    read_read, read_why, read_write,
+    lower_bytes, read_ask, read_cause, read_conn, read_end, read_link, read_marks, read_read,
+    read_why, read_write,
 };
-use crate::words::number;
+use crate::words::{is_word, number};
 use ev_types::{Entry, NoMemory, ReadAnswer, Side, SideId, WriteAnswer};
 use std::alloc::Global;
 

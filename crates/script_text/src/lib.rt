@@ -7,7 +7,9 @@ mod entry_text;
 mod entry_words;
 mod laws;
 mod line;
+mod push;
 mod read;
+mod room;
 mod script;
 mod tally;
 mod trace;
@@ -16,14 +18,19 @@ mod value_words;
 mod words;
 mod write;
 
+pub use entry_text::put_entry;
+pub use ev_types::{ByteList, LinkCount as LinkLine, TurnLine};
 pub use laws::{
     lines_are_parted, numbers_are_decimal, phrase_has_its_words, refused_at_first_bad,
     trace_refused_at_first_bad, written_is_read,
 };
 pub use read::read_script;
-pub use script::{ByteList, LinkLine, Script, ScriptFault, TurnLine};
+pub use room::{LINE_ROOM, make_room};
+pub use script::{Script, ScriptFault};
 pub use trace::read_trace;
-pub use words::{MAX_NUMBER, first_piece, hex_bytes, number, words_of};
+pub use words::{
+    MAX_NUMBER, first_piece, hex_bytes, is_plain_text, is_word, number, told, words_of,
+};
 pub use write::{write_report, write_trace};
 
 #[cfg(test)]

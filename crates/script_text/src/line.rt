@@ -2,8 +2,8 @@
 ghost use Rattle.std.specs.Prelude.{◌≡◌, ◌∷◌, [], IfOk, map};
 ghost use Rattle.script_text.specs.Grammar.{keyword_of, made_of, more_of, is_comment, said, said_by};
 
-use crate::value_words::{is_word, read_end, read_link};
-use crate::words::{hex_bytes, number};
+use crate::value_words::{read_end, read_link};
+use crate::words::{hex_bytes, is_word, number};
 use crate::{ByteList, TurnLine};
 use ev_types::NoMemory;
 use std::alloc::Global;

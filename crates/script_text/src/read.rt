@@ -1,13 +1,13 @@
 // Reads a script line by line. What a line says is told elsewhere; here stands where it may stand.
 ghost use Rattle.std.specs.Prelude.{◌≡◌, ◌≤◌, ◌<◌, ◌+◌, ◌^◌, [], ◌&&◌, not, true, nat_lt, nat_le, length, IfOk, IfErr, OnOk, if◌then◌else◌};
-ghost use Rattle.std.specs.List.{list_all};
 ghost use Rattle.ev_types.specs.Sides.{number};
-ghost use Rattle.script_text.specs.Order.{extended, with_line, may_follow, turn_lines, is_known, is_undecided, bytes_for, is_ended};
-ghost use Rattle.script_text.specs.Spelled.{is_plain, line_read, script_of, IsTold};
+ghost use Rattle.ev_types.specs.ScriptTurn.{lines_of};
+ghost use Rattle.script_text.specs.Order.{extended, with_line, may_follow, is_known, is_undecided, bytes_for, is_ended};
+ghost use Rattle.script_text.specs.Spelled.{line_read, script_of, IsTold};
 
 use crate::line::{Line, line_of};
 use crate::tally::{EndSoFar, count_line, count_link, kept};
-use crate::words::{first_piece, told, words_of};
+use crate::words::{first_piece, is_plain_text, told, words_of};
 use crate::{Script, ScriptFault, TurnLine};
 use ev_types::{NoMemory, SideId};
 use std::alloc::Global;
@@ -110,7 +110,7 @@ impl Reading {
 
     /// May the line stand behind those so far?
     fn may_follow(&self, line: &TurnLine) -> bool
-        ensures { result ≡ may_follow (turn_lines self.now.turns) line.now }
+        ensures { result ≡ may_follow (lines_of self.now.turns) line.now }
     {
         match line {
             TurnLine::NewLink { .. } => self.links.len() < MAX_LINKS,
@@ -129,14 +129,14 @@ impl Reading {
 
     /// Was the link of the end opened?
     fn is_known(&self, side: SideId) -> bool
-        ensures { result ≡ is_known side (turn_lines self.now.turns) }
+        ensures { result ≡ is_known side (lines_of self.now.turns) }
     {
         (side.link as usize) < self.links.len()
     }
 
     /// Was this link opened with wait?
     fn is_undecided(&self, link: u32) -> bool
-        ensures { result ≡ is_undecided link (turn_lines self.now.turns) }
+        ensures { result ≡ is_undecided link (lines_of self.now.turns) }
     {
         self.links.get(link as usize).copied().unwrap_or(false)
     }
@@ -144,8 +144,8 @@ impl Reading {
     /// May so many bytes more come in at the end?
     fn has_room(&self, side: SideId, count: usize) -> bool
         ensures { result
-            ≡ (not (is_ended (number side) (turn_lines self.now.turns))
-            && nat_le (bytes_for (number side) (turn_lines self.now.turns) + count) (2 ^ 18)) }
+            ≡ (not (is_ended (number side) (lines_of self.now.turns))
+            && nat_le (bytes_for (number side) (lines_of self.now.turns) + count) (2 ^ 18)) }
     {
         let end = kept(&self.ends, side.number());
         !end.ended && end.bytes.saturating_add(count) <= MAX_PENDING
@@ -154,7 +154,7 @@ impl Reading {
     /// Puts a line that may stand there at the end of the last turn.
     fn put(&mut self, line: TurnLine) -> Result<(), NoMemory>
         requires begun { 0 < length self.old.turns }
-        requires follows { may_follow (turn_lines self.old.turns) line ≡ true }
+        requires follows { may_follow (lines_of self.old.turns) line ≡ true }
         ensures { OnOk result (self.new.turns ≡ with_line self.old.turns line) }
     {
         let last = self.turns.len() - 1;
@@ -174,13 +174,6 @@ impl Reading {
     {
         Script { turns: self.turns }
     }
-}
-
-/// Has a line only bytes that a script may have?
-fn is_plain_text(line: &[u8]) -> bool
-    ensures { result ≡ list_all is_plain line.now }
-{
-    line.iter().all(|b| (b' '..=b'~').contains(b))
 }
 
 /// Reads a whole script. Empty lines, and lines whose first word begins with `#`, are skipped and counted. An empty

@@ -1,11 +1,10 @@
 // Reads single words, whatever line they stand in.
 ghost use Rattle.std.specs.Prelude.{◌≡◌, IfOk, option_map};
-ghost use Rattle.std.specs.Str.{bytes_eq};
 ghost use Rattle.script_text.specs.Grammar.{side_of, link_of, end_of};
 ghost use Rattle.script_text.specs.ValueGrammar.{dir_of, lower_bytes_of, is_no_capital, rest_behind, marks_of, conn_of, read_of, write_of, event_of, why_of, filter_of, cause_of, ask_of};
 ghost use Rattle.std.specs.List.{list_all};
 
-use crate::words::number;
+use crate::words::{is_word, number};
 use ev_types::{
     AskAnswer, Cause, ConnAnswer, Dir, Flags, NoMemory, ReadAnswer, Side, SideId, Why, WriteAnswer,
 };
@@ -14,12 +13,6 @@ use std::alloc::Global;
 
 /// The greatest number that a link can have.
 const MAX_LINK: u64 = u32::MAX as u64;
-
-pub fn is_word(word: &[u8], text: &str) -> bool
-    ensures { result ≡ bytes_eq word.now text.now }
-{
-    word == text.as_bytes()
-}
 
 pub fn read_side(word: &[u8]) -> Option<Side>
     ensures { result ≡ side_of word.now }

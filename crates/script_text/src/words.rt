@@ -1,7 +1,10 @@
 // The pieces of a text, the words of a line, and the numbers and bytes that words spell. What a line says with
 // them is left to the grammar.
 ghost use Rattle.std.specs.Prelude.{◌≡◌, ◌<◌, ◌≤◌, ◌-◌, ◌^◌, ◌∷◌, length, map, min, IfOk, option_map, position, ◌==◌, IfSome};
+ghost use Rattle.std.specs.List.{list_all};
+ghost use Rattle.std.specs.Str.{bytes_eq};
 ghost use Rattle.script_text.specs.Pieces.{pieces, words};
+ghost use Rattle.script_text.specs.Spelled.{is_plain};
 ghost use Rattle.script_text.specs.Numbers.{bytes_of, number_within};
 
 use ev_types::NoMemory;
@@ -110,7 +113,27 @@ pub fn hex_bytes(alloc: Global, word: &[u8]) -> Result<Option<Vec<u8>>, NoMemory
     }
 }
 
-/// The number of a line as it is told.
+/// Whether a line has only bytes that a script may have, those of printing ASCII. Takes no memory; linear in the line.
+///
+/// Own.
+pub fn is_plain_text(line: &[u8]) -> bool
+    ensures { result ≡ list_all is_plain line.now }
+{
+    line.iter().all(|b| (b' '..=b'~').contains(b))
+}
+
+/// Whether the word is this text.
+///
+/// Own.
+pub fn is_word(word: &[u8], text: &str) -> bool
+    ensures { result ≡ bytes_eq word.now text.now }
+{
+    word == text.as_bytes()
+}
+
+/// The number of a line as it is told: one above 2^32 - 1 as that number.
+///
+/// Own.
 pub fn told(line: usize) -> u32
     ensures { result ≡ min line (2 ^ 32 - 1) }
 {

@@ -1,19 +1,20 @@
 // Writes a trace and a report, one line for each entry and for each link.
-ghost use Rattle.std.specs.Prelude.{◌≡◌, ◌++◌, IfOk, OnOk, string_bytes};
+ghost use Rattle.std.specs.Prelude.{◌≡◌, ◌++◌, OnOk};
 ghost use Rattle.script_text.specs.Lines.{line_of, BeginsWith};
+ghost use Rattle.script_text.specs.Room.{HasRoom, GrewBy, room_of};
 ghost use Rattle.script_text.specs.TraceText.{trace_text};
 ghost use Rattle.script_text.specs.ReportText.{link_words, count_words, total_words, count_of, same_state, report_text};
 
-use crate::LinkLine;
-use crate::entry_text::entry_text;
+use crate::entry_text::put_entry;
+use crate::push::{put_last_number, put_number, put_word};
+use crate::room::make_room;
 use crate::value_text::state_text;
-use ev_types::{LinkState, NoMemory, Tape};
-use std::alloc::{AllocError, Global};
+use ev_types::{LinkCount, LinkState, NoMemory, Tape};
 
 /// Appends the text of a trace. After want of memory the text so far may stand behind what was there before.
 ///
 /// Own.
-pub fn write_trace(alloc: Global, tape: &Tape, into: &mut Vec<u8>) -> Result<(), NoMemory>
+pub fn write_trace(tape: &Tape, into: &mut Vec<u8>) -> Result<(), NoMemory>
     ensures text { OnOk result (into.new.items ≡ into.old.items ++ trace_text tape.now.trace) }
     ensures kept { BeginsWith into.old.items into.new.items }
 {
@@ -22,8 +23,8 @@ pub fn write_trace(alloc: Global, tape: &Tape, into: &mut Vec<u8>) -> Result<(),
     for entry in entries {
         let (beside, after) = rest.split_at(entry.byte_count());
         rest = after;
-        let text = entry_text(alloc, *entry, beside)?;
-        into.extend_from_slice(text.as_bytes())?;
+        make_room(into, 1, beside.len())?;
+        put_entry(into, *entry, beside);
     }
     Ok(())
 }
@@ -32,46 +33,57 @@ pub fn write_trace(alloc: Global, tape: &Tape, into: &mut Vec<u8>) -> Result<(),
 /// behind what was there before.
 ///
 /// Own.
-pub fn write_report(alloc: Global, links: &[LinkLine], into: &mut Vec<u8>) -> Result<(), NoMemory>
+pub fn write_report(links: &[LinkCount], into: &mut Vec<u8>) -> Result<(), NoMemory>
     ensures text { OnOk result (into.new.items ≡ into.old.items ++ report_text links.now) }
     ensures kept { BeginsWith into.old.items into.new.items }
 {
     for (number, link) in links.iter().enumerate() {
-        let text = link_text(alloc, number, *link)?;
-        into.extend_from_slice(text.as_bytes())?;
+        make_room(into, 1, 0)?;
+        put_link(into, number, *link);
     }
-    let text = total_text(alloc, links)?;
-    into.extend_from_slice(text.as_bytes())?;
+    make_room(into, 1, 0)?;
+    put_total(into, links);
     Ok(())
 }
 
-fn link_text(alloc: Global, number: usize, link: LinkLine) -> Result<String, AllocError>
-    ensures { IfOk result (λ t. string_bytes t ≡ line_of (link_words number link)) }
+/// The line of the link with this number.
+fn put_link(text: &mut Vec<u8>, number: usize, link: LinkCount)
+    requires { HasRoom text.old (room_of 1 0) }
+    ensures { GrewBy (line_of (link_words number link)) (room_of 1 0) text.old text.new }
 {
-    let state = state_text(link.state);
-    let counts = counts_text(alloc, link)?;
-    format!(in alloc; "link {number} {state} {counts}")
+    put_word(text, "link");
+    put_number(text, number as u64);
+    put_word(text, state_text(link.state));
+    put_counts(text, link);
 }
 
 /// The end of a link's line, from the word `in` on.
-fn counts_text(alloc: Global, link: LinkLine) -> Result<String, AllocError>
-    ensures { IfOk result (λ t. string_bytes t ≡ line_of (count_words link)) }
+fn put_counts(text: &mut Vec<u8>, link: LinkCount)
+    requires { HasRoom text.old 91 }
+    ensures { GrewBy (line_of (count_words link)) 91 text.old text.new }
 {
-    let (in_read, in_given) = (link.in_read, link.in_given);
-    let (out_read, out_given) = (link.out_read, link.out_given);
-    format!(in alloc; "in {in_read} {in_given} out {out_read} {out_given}\n")
+    put_word(text, "in");
+    put_number(text, link.in_read);
+    put_number(text, link.in_given);
+    put_word(text, "out");
+    put_number(text, link.out_read);
+    put_last_number(text, link.out_given);
 }
 
-fn total_text(alloc: Global, links: &[LinkLine]) -> Result<String, AllocError>
-    ensures { IfOk result (λ t. string_bytes t ≡ line_of (total_words links.now)) }
+/// The last line, which counts the links by what they came to.
+fn put_total(text: &mut Vec<u8>, links: &[LinkCount])
+    requires { HasRoom text.old (room_of 1 0) }
+    ensures { GrewBy (line_of (total_words links.now)) (room_of 1 0) text.old text.new }
 {
-    let done = count(links, LinkState::Done);
-    let live = count(links, LinkState::Live);
-    let gone = count(links, LinkState::Gone);
-    format!(in alloc; "done {done} open {live} gone {gone}\n")
+    put_word(text, "done");
+    put_number(text, count(links, LinkState::Done) as u64);
+    put_word(text, "open");
+    put_number(text, count(links, LinkState::Live) as u64);
+    put_word(text, "gone");
+    put_last_number(text, count(links, LinkState::Gone) as u64);
 }
 
-fn count(links: &[LinkLine], state: LinkState) -> usize
+fn count(links: &[LinkCount], state: LinkState) -> usize
     ensures { result ≡ count_of state links.now }
 {
     links

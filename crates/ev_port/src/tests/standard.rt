@@ -1,25 +1,40 @@
-// Readers and writers that are interrupted and that fail.
+// Readers and writers that are interrupted many times in a row, and that fail.
 ghost use Rattle.std.specs.Prelude.{◌≤◌, IfOk};
 
 use crate::{Given, Sink, Source, StdSink, StdSource, Taken};
 use std::io::{Error, ErrorKind, Read, Result, Write};
 
-/// Answers by its calls, counted from 1: the first is interrupted, the second moves at most two bytes, the third
+/// How many calls are interrupted before each one that is answered.
+const INTERRUPTIONS: u32 = 1_000;
+
+/// Interrupts so many calls in a row, and answers the next one. The first answer moves at most two bytes, the second
 /// fails, and every other moves none.
 #[derive(Drop)]
 struct Shaky {
-    calls: u32,
+    interrupted: u32,
+    answers: u32,
 }
 
 impl Shaky {
+    fn new() -> Shaky {
+        Shaky {
+            interrupted: 0,
+            answers: 0,
+        }
+    }
+
     fn moved(&mut self, room: usize) -> Result<usize>
         ensures { IfOk result (λ count. count ≤ room) }
     {
-        self.calls = self.calls.saturating_add(1);
-        match self.calls {
-            1 => Err(Error::from(ErrorKind::Interrupted)),
-            2 => Ok(room.min(2)),
-            3 => Err(Error::from(ErrorKind::BrokenPipe)),
+        if self.interrupted < INTERRUPTIONS {
+            self.interrupted += 1;
+            return Err(Error::from(ErrorKind::Interrupted));
+        }
+        self.interrupted = 0;
+        self.answers = self.answers.saturating_add(1);
+        match self.answers {
+            1 => Ok(room.min(2)),
+            2 => Err(Error::from(ErrorKind::BrokenPipe)),
             _ => Ok(0),
         }
     }
@@ -43,8 +58,8 @@ impl Write for Shaky {
 }
 
 #[test]
-fn an_interrupted_read_is_made_again(rt: HostRuntime) {
-    let mut source = StdSource::new(Shaky { calls: 0 });
+fn an_interrupted_read_is_made_again_and_again(rt: HostRuntime) {
+    let mut source = StdSource::new(Shaky::new());
     let mut into = [0; 3];
     for answer in [Taken::Got(2), Taken::Failed, Taken::Ended] {
         assert_eq!(rt; source.read(&mut into), answer);
@@ -53,8 +68,8 @@ fn an_interrupted_read_is_made_again(rt: HostRuntime) {
 }
 
 #[test]
-fn an_interrupted_write_is_made_again_and_one_that_takes_nothing_is_a_fault(rt: HostRuntime) {
-    let mut sink = StdSink::new(Shaky { calls: 0 });
+fn an_interrupted_write_is_made_again_and_again(rt: HostRuntime) {
+    let mut sink = StdSink::new(Shaky::new());
     for answer in [Given::Took(2), Given::Failed, Given::Failed] {
         assert_eq!(rt; sink.write(b"abc"), answer);
     }

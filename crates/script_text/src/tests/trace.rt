@@ -120,7 +120,7 @@ fn what_was_read_is_written_again(rt: HostRuntime) -> Result<(), Fail> {
     let tape = read_trace(rt.alloc(), WHOLE.as_bytes())?;
     assert_eq!(rt; tape.parts().0.len(), 48);
     let mut text = Vec::new(rt.alloc());
-    write_trace(rt.alloc(), &tape, &mut text)?;
+    write_trace(&tape, &mut text)?;
     assert_eq!(rt; text.as_slice(), WHOLE.as_bytes());
     Ok(())
 }

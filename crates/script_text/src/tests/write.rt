@@ -318,7 +318,7 @@ fn line(rt: &HostRuntime, entry: Entry, bytes: &[u8]) -> Result<Vec<u8>, Fail> {
     if entry.byte_count() == bytes.len() {
         tape.put(entry, bytes);
     }
-    write_trace(rt.alloc(), &tape, &mut text)?;
+    write_trace(&tape, &mut text)?;
     Ok(text)
 }
 
@@ -369,7 +369,7 @@ fn a_trace_and_a_report_stand_behind_what_was_there(rt: HostRuntime) -> Result<(
     tape.reserve(2, 0)?;
     tape.put(Entry::Turn { ms: 0 }, &[]);
     tape.put(Entry::PollFailed, &[]);
-    write_trace(rt.alloc(), &tape, &mut text)?;
+    write_trace(&tape, &mut text)?;
     let links = [
         LinkLine {
             state: LinkState::Done,
@@ -400,7 +400,7 @@ fn a_trace_and_a_report_stand_behind_what_was_there(rt: HostRuntime) -> Result<(
             out_given: 0,
         },
     ];
-    write_report(rt.alloc(), &links, &mut text)?;
+    write_report(&links, &mut text)?;
     let wanted = b"before\nturn 0\npollfail\n\
         link 0 done in 5 0 out 0 5\nlink 1 open in 1 2 out 3 4\nlink 2 gone in 0 0 out 0 0\n\
         link 3 gone in 0 0 out 9 0\ndone 1 open 1 gone 2\n";

@@ -11,7 +11,8 @@ use Rattle.buffers_mode.proofs.tell.tell_reports.Goals as goal
 
 pub loop-report-smaller : goal.loop-report-smaller
 loop-report-smaller c =
-    let left : c.take_report.new.self.callbacks ≡ after_report c.loop-report.buf.callbacks = ap (λ (buf : Evbuffered). buf.callbacks) c.take_report.ensures.after in
+    let left : c.take_report.new.self.callbacks ≡ after_report c.loop-report.buf.callbacks =
+    ap (λ (buf : Evbuffered). buf.callbacks) c.take_report.ensures.after in
     subst (λ (cbs : Callbacks). length (filter waits cbs) < length (filter waits c.loop-report.buf.callbacks)) (sym left)
     (waiting-made c.loop-report.buf.callbacks c.in-Some.report c.in-Some.ensures.report)
 
@@ -21,24 +22,29 @@ loop-report-preserved c =
     let left : c.take_report.new.self.callbacks ≡ after_report cbs = ap (λ (buf : Evbuffered). buf.callbacks) c.take_report.ensures.after in
     let line = line_of (report_words c.args.b c.in-Some.report) in
     let written : c.extend_from_slice.new.self.items ≡ c.loop-report.into.items ++ line =
-    c.in_ok-extend_from_slice.ensures.items ∙ ap (λ (more : List ℕ). c.loop-report.into.items ++ more) (c.as_bytes.ensures.value ∙ c.in_ok-line.ensures) in
+    c.in_ok-extend_from_slice.ensures.items
+    ∙ ap (λ (more : List ℕ). c.loop-report.into.items ++ more) (c.as_bytes.ensures.value ∙ c.in_ok-line.ensures) in
     record {
       text = rw (written, left) (append_assoc c.loop-report.into.items line (report_lines c.args.b (after_report cbs))
-          ∙ ap (λ (more : List ℕ). c.loop-report.into.items ++ more) (sym (report_lines-made c.args.b cbs c.in-Some.report c.in-Some.ensures.report))
+          ∙ ap (λ (more : List ℕ). c.loop-report.into.items ++ more)
+          (sym (report_lines-made c.args.b cbs c.in-Some.report c.in-Some.ensures.report))
           ∙ c.loop-report.invariant.text);
       reported = ap all_reported left ∙ all_reported-made cbs c.in-Some.report c.in-Some.ensures.report ∙ c.loop-report.invariant.reported;
-      rest = with_callbacks-again c.args.buf.now c.loop-report.buf c.take_report.new.self (after_report cbs) c.take_report.ensures.after c.loop-report.invariant.rest;
+      rest = with_callbacks-again c.args.buf.now c.loop-report.buf c.take_report.new.self
+          (after_report cbs) c.take_report.ensures.after c.loop-report.invariant.rest;
     }
 
 pub returns-clause-text : goal.returns-clause-text
 returns-clause-text c =
     let none = none_made c.args.b c.loop-report.buf.callbacks c.in_default.ensures.report in
-    sym (append-nil c.loop-report.into.items) ∙ ap (λ (more : List ℕ). c.loop-report.into.items ++ more) (sym none.0) ∙ c.loop-report.invariant.text
+    sym (append-nil c.loop-report.into.items) ∙ ap (λ (more : List ℕ). c.loop-report.into.items ++ more) (sym none.0)
+    ∙ c.loop-report.invariant.text
 
 pub returns-clause-after : goal.returns-clause-after
 returns-clause-after c =
     let cbs = c.loop-report.buf.callbacks in
     let none = none_made c.args.b cbs c.in_default.ensures.report in
     let left : c.take_report.new.self.callbacks ≡ after_report cbs = ap (λ (buf : Evbuffered). buf.callbacks) c.take_report.ensures.after in
-    with_callbacks-again c.args.buf.now c.loop-report.buf c.take_report.new.self (after_report cbs) c.take_report.ensures.after c.loop-report.invariant.rest
+    with_callbacks-again c.args.buf.now c.loop-report.buf c.take_report.new.self
+    (after_report cbs) c.take_report.ensures.after c.loop-report.invariant.rest
     ∙ ap (with_callbacks c.args.buf.now) (left ∙ none.1 ∙ sym none.2 ∙ c.loop-report.invariant.reported)

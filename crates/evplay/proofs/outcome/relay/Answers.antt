@@ -1,4 +1,4 @@
-use Rattle.ev_port.proofs.ScriptSpelledLemmas.{spelled_names_opened}
+use Rattle.script_port.proofs.ScriptSpelledLemmas.{spelled_names_opened}
 use Rattle.evplay.proofs.BroughtLemmas.{brings-fit}
 use Rattle.evplay.proofs.ScriptLemmas.{few-turns}
 use Rattle.evplay.proofs.outcome.relay.Goals as goal

@@ -1,11 +1,13 @@
-use Rattle.std.proofs.Common.{◌≡◌, ◌≢◌, ◌⊎◌, inl, inr, ◌≤◌, ◌<◌, ◌+◌, ◌*◌, ◌++◌, ℕ, length, Some, false, refl, ◌∙◌, subst, arith, Result, Ok, Err, IfOk, IfErr}
+use Rattle.std.proofs.Common.{◌≡◌, ◌≢◌, ◌⊎◌, inl, inr, ◌≤◌, ◌<◌, ◌+◌, ◌*◌, ◌++◌, ℕ, length, Some, false, refl, ◌∙◌, subst, arith, Result}
+use Rattle.std.proofs.Common.{Ok, Err, IfOk, IfErr}
 use Rattle.std.proofs.lemmas.List.{length-map}
 use Rattle.std.specs.Prelude.{count_by}
 use Rattle.ev_types.specs.Trace.{Trace}
 use Rattle.script_text.specs.declared.script.Script.TheInside.{Inside}
 use Rattle.script_text.specs.Script.{ScriptValue}
 use Rattle.script_text.specs.ScriptView.{script_value}
-use Rattle.ev_port.specs.ScriptTold.{script_faults}
+use Rattle.script_port.specs.ScriptTold.{script_faults}
+use Rattle.relay_model.specs.Stages.{Stage}
 use Rattle.relay_model.specs.Answers.{TurnAnswer}
 use Rattle.relay_model.specs.RatesKept.{is_turn}
 use Rattle.relay_meaning.specs.Meaning.{LeftFor}
@@ -16,11 +18,14 @@ use Rattle.relay_drive.specs.DriveValue.{DriveValue, new_drive, is_worn}
 use Rattle.relay_drive.specs.Bounds.{IsWithin, most_of_turn}
 use Rattle.relay_drive.specs.Known.{Question}
 use Rattle.relay_drive.specs.Phases.{CutTurn}
-use Rattle.relay_drive.specs.Stands as drive
+use Rattle.relay_drive.specs.DriveStands as drive
 use Rattle.relay_drive.proofs.BoundLaws.{new_drive_is_within, within_is_not_worn, went_is_bounded}
 use Rattle.evplay.proofs.FaultLemmas.{memory-or-poll}
+use Rattle.evplay.proofs.HeadlineLemmas.{stood-at}
 use Rattle.evplay.proofs.RunLemmas.{went-run, failed-run}
-use Rattle.evplay.proofs.TurnCountLemmas.{turn-once, cut-poll-once, count-append}
+use Rattle.evplay.proofs.TurnEndLemmas.{ends-none, ends-grow}
+use Rattle.evplay.proofs.TurnCountLemmas.{turn-once, turn-first, cut-poll-once, cut-poll-first, count-append}
+use Rattle.evplay.specs.Headline.{StoodBetween}
 use Rattle.evplay.specs.Report.{lines_below}
 use Rattle.evplay.proofs.run.run.Goals as goal
 
@@ -47,22 +52,31 @@ err-as (Err e) p f = f e p
 pub loop-init : goal.loop-init
 loop-init c =
     let u = c.usual.result in
-    rw (c.in_ok-drive.ensures, c.new-tape.ensures) (record {
+    rw (c.in_ok-drive.ensures, c.new-scribe.ensures) (record {
       calm = refl;
       hold = c.usual.ensures.hold;
       links = c.usual.ensures.links;
       stands = record { fits = record { time = refl; last = refl; opened = refl }; entries = refl };
       turns = refl;
-      seen = ((c.in_ok-port.ensures.vouched, λ called. tt), λ called. inl refl);
+      seen = ((c.in_ok-port.ensures.vouched, tt), inl (λ called. refl));
       means = new_relay_stands u;
+      ends = ends-none StoodBetween;
       within = subst (λ n. IsWithin 0 n (new_drive u)) c.usual.ensures.links (new_drive_is_within u);
     })
 
 pub loop-preserved : goal.loop-preserved
 loop-preserved c =
     let inv = c.loop.invariant in
-    let t = c.loop.tape.trace in
-    let few : c.loop.counter < 20000 = omega (arith, c.loop-test.true, c.len-turns.ensures, c.script.inside.turns.ok.0, turns-seen c.script.inside c.args.script c.script.view_is, c.requires.few) in
+    let t = c.loop.scribe.trace in
+    let few : c.loop.counter < 20000 =
+    omega (
+      arith,
+      c.loop-test.true,
+      c.len-turns.ensures,
+      c.script.inside.turns.ok.0,
+      turns-seen c.script.inside c.args.script c.script.view_is,
+      c.requires.few,
+    ) in
     let w = c.in_default.ensures.went inv.calm (fresh c.loop.counter c.loop.drive few inv.within) in
     let longer : c.turn.new.scribe.trace ≡ t ++ w.added = same-trace c.turn.new.scribe.trace (t ++ w.added) w.list in
     let bounded = went_is_bounded (c.loop.counter * most_of_turn 256) 256 t inv.within inv.stands w in
@@ -77,6 +91,8 @@ loop-preserved c =
       turns = rw longer counted;
       seen = rw longer (let now = w.told (Question.Took c.args.script.turns) t inv.stands inv.seen in (now.0, now.1.0));
       means = rw longer (w.means t inv.means);
+      ends = rw longer (ends-grow StoodBetween t w.added inv.ends
+          (stood-at t Stage.Between c.loop.drive.state inv.hold inv.links inv.means).0 (turn-first w.does) once);
       within = subst (λ n. IsWithin n 256 c.turn.new.self) more bounded.0;
     }
 
@@ -84,38 +100,77 @@ loop-preserved c =
 pub returns-clause-text : goal.returns-clause-text
 returns-clause-text c =
     let inv = c.loop.invariant in
-    let t = c.loop.tape.trace in
+    let t = c.loop.scribe.trace in
     let s = c.loop.drive.state in
     let all : c.loop.counter ≡ length c.args.script.turns =
-    omega (arith, c.loop-test.false, c.loop.auto.counter-end, c.len-turns.ensures, c.script.inside.turns.ok.0, turns-seen c.script.inside c.args.script c.script.view_is) in
-    (t, lines_below s s.opened, went-run c.args.script c.loop.port t s inv.hold inv.links inv.means c.requires.names c.requires.brings (inv.turns ∙ all) inv.seen, c.in_ok-written.ensures)
+    omega (
+      arith,
+      c.loop-test.false,
+      c.loop.auto.counter-end,
+      c.len-turns.ensures,
+      c.script.inside.turns.ok.0,
+      turns-seen c.script.inside c.args.script c.script.view_is,
+    ) in (
+      t,
+      lines_below s s.opened,
+      went-run c.args.script c.loop.port t s inv.hold inv.links inv.means c.requires.names c.requires.brings
+          (inv.turns ∙ all) inv.seen inv.ends,
+      c.in_ok-written.ensures,
+    )
 
 -- A turn that was refused ends the run with a failed poll, or for want of memory.
 pub returns-in-Err-clause-text : goal.returns-in-Err-clause-text
 returns-in-Err-clause-text c =
     let inv = c.loop.invariant in
-    let t = c.loop.tape.trace in
-    let few : c.loop.counter < 20000 = omega (arith, c.loop-test.true, c.len-turns.ensures, c.script.inside.turns.ok.0, turns-seen c.script.inside c.args.script c.script.view_is, c.requires.few) in
-    let below : c.loop.counter < length c.args.script.turns = omega (arith, c.loop-test.true, c.len-turns.ensures, c.script.inside.turns.ok.0, turns-seen c.script.inside c.args.script c.script.view_is) in
+    let t = c.loop.scribe.trace in
+    let few : c.loop.counter < 20000 =
+    omega (
+      arith,
+      c.loop-test.true,
+      c.len-turns.ensures,
+      c.script.inside.turns.ok.0,
+      turns-seen c.script.inside c.args.script c.script.view_is,
+      c.requires.few,
+    ) in
+    let below : c.loop.counter < length c.args.script.turns =
+    omega (
+      arith,
+      c.loop-test.true,
+      c.len-turns.ensures,
+      c.script.inside.turns.ok.0,
+      turns-seen c.script.inside c.args.script c.script.view_is,
+    ) in
     let w = c.in-Err.ensures.went inv.calm (fresh c.loop.counter c.loop.drive few inv.within) in
     let u = t ++ w.added in
     let longer : c.turn.new.scribe.trace ≡ u = same-trace c.turn.new.scribe.trace u w.list in
     let s = c.turn.new.self.state in
     ok-both c.cut_off.result c.cut_off.ensures.poll_failed c.cut_off.ensures.text (λ ran ended text.
     let cut : CutTurn fault.PollFault c.loop.drive.state w.added s = subst (λ f. CutTurn f c.loop.drive.state w.added s) ended.0 w.does in
-    let left : LeftFor TurnAnswer.PollFault u s = subst (λ f. LeftFor (drive.answer_of f) u s) ended.0 (w.means t inv.means) in
+    let left : LeftFor TurnAnswer.PollFault u s = subst (λ f. LeftFor (drive.turn_answer_of f) u s) ended.0 (w.means t inv.means) in
     let once : count_by is_turn w.added ≡ 1 = cut-poll-once cut in
     let counted : count_by is_turn u ≤ length c.args.script.turns = omega (arith, count-append t w.added, once, inv.turns, below) in
     let seen = w.told (Question.Took c.args.script.turns) t inv.stands inv.seen in
-    let run = failed-run c.args.script c.turn.new.port u s (rw w.settings inv.hold) (rw w.settings inv.links) left c.requires.names c.requires.brings counted seen in
+    let ends = ends-grow StoodBetween t w.added inv.ends (stood-at t Stage.Between c.loop.drive.state inv.hold inv.links inv.means).0
+    (cut-poll-first cut) once in
+    let run = failed-run c.args.script c.turn.new.port u s (rw w.settings inv.hold)
+    (rw w.settings inv.links) left c.requires.names c.requires.brings counted seen ends in
     rw ended.1 (u, lines_below s s.opened, run, rw (text, longer) refl))
 
 pub returns-in-Err-clause-only_memory : goal.returns-in-Err-clause-only_memory
 returns-in-Err-clause-only_memory c =
     let inv = c.loop.invariant in
-    let few : c.loop.counter < 20000 = omega (arith, c.loop-test.true, c.len-turns.ensures, c.script.inside.turns.ok.0, turns-seen c.script.inside c.args.script c.script.view_is, c.requires.few) in
+    let few : c.loop.counter < 20000 =
+    omega (
+      arith,
+      c.loop-test.true,
+      c.len-turns.ensures,
+      c.script.inside.turns.ok.0,
+      turns-seen c.script.inside c.args.script c.script.view_is,
+      c.requires.few,
+    ) in
     let w = c.in-Err.ensures.went inv.calm (fresh c.loop.counter c.loop.drive few inv.within) in
-    let cause = memory-or-poll c.in-Err.fault c.loop.drive.state c.turn.new.self.state w.added (script_faults c.loop.port) (script_faults c.turn.new.port) refl refl w.does w.heard in
+    let cause = memory-or-poll c.in-Err.fault c.loop.drive.state c.turn.new.self.state w.added (script_faults c.loop.port)
+    (script_faults c.turn.new.port) refl refl w.does w.heard in
     err-as c.cut_off.result c.cut_off.ensures.refused (λ refused h. case_of refused cause h)
   where
     case_of : (refused : DriveFault) → (c.in-Err.fault ≡ fault.Memory) ⊎ (c.in-Err.fault ≡ fault.PollFault) →

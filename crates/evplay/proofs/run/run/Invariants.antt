@@ -3,22 +3,25 @@ use Rattle.std.specs.Prelude.{count_by}
 use Rattle.relay_model.specs.Stages.{Stage}
 use Rattle.relay_model.specs.RatesKept.{is_turn}
 use Rattle.relay_meaning.specs.Meaning.{StandsFor}
-use Rattle.relay_drive.specs.Known.{Progress}
-use Rattle.relay_drive.specs.Stands.{Stands}
+use Rattle.relay_drive.specs.Known.{Point}
+use Rattle.relay_drive.specs.DriveStands.{DriveStands}
 use Rattle.relay_drive.specs.Bounds.{IsWithin, most_of_turn}
+use Rattle.evplay.specs.TurnEnds.{AtTurnEnds}
+use Rattle.evplay.specs.Headline.{StoodBetween}
 use Rattle.evplay.proofs.RunLemmas.{PortKnown}
 use Rattle.evplay.proofs.run.run.Given as goal
 
--- The drive keeps no refusal, stands for the trace on the tape, and came no farther than so many turns can go. The port vouches
--- for that trace, in which every link that waited was accepted.
+-- The drive keeps no refusal, stands for the trace of the scribe, and came no farther than so many turns can go. The port vouches
+-- for that trace, in which every link that waited was accepted. Wherever a turn ended, the run stood for the trace up to there.
 abbrev pub invariant-loop : goal.invariant-loop
 invariant-loop l = record {
   calm : l.drive.refusal ≡ None;
   hold : l.drive.state.settings.hold ≡ 524288;
   links : l.drive.state.settings.links ≡ 256;
-  stands : Stands l.tape.trace l.drive;
-  turns : count_by is_turn l.tape.trace ≡ l.counter;
-  seen : PortKnown Progress.Between l.port l.drive.state l.fn.script.turns l.tape.trace;
-  means : StandsFor l.tape.trace Stage.Between l.drive.state;
+  stands : DriveStands l.scribe.trace l.drive;
+  turns : count_by is_turn l.scribe.trace ≡ l.counter;
+  seen : PortKnown Point.Between l.port l.drive.state l.fn.script.turns l.scribe.trace;
+  means : StandsFor l.scribe.trace Stage.Between l.drive.state;
+  ends : AtTurnEnds StoodBetween l.scribe.trace;
   within : IsWithin (l.counter * most_of_turn 256) 256 l.drive;
 }

@@ -14,7 +14,8 @@ returns-in_err-accept_one-clause-went g c =
     let s = c.loop.run.relay.state in
     let allowed : s.opened < s.settings.links = ltb-true s.opened s.settings.links (sym c.can_open.ensures ∙ c.if-not-can_open.false) in
     let here = subst (λ (z : State). z.opened < z.settings.links) (sym c.in_err-accept_one.ensures.went.does.1) allowed in
-    rw (p.1, p.2) (goes_as (λ a q. (c.loop.counter, omega arith, here, then_nothing q)) (goes_then c.loop.invariant.went c.in_err-accept_one.ensures.went))
+    rw (p.1, p.2) (goes_as (λ a q. (c.loop.counter, omega arith, here, then_nothing q))
+    (goes_then c.loop.invariant.went c.in_err-accept_one.ensures.went))
 
 pub loop-init : goal.loop-init
 loop-init g c = record {
@@ -33,7 +34,8 @@ loop-preserved g c =
     let one = c.in_ok-accept_one.ensures in
     let grown : new.opened ≡ mid.opened + 1 = one.grown ∙ ap (λ b. mid.opened + (if b then 1 else 0)) yes in
     record {
-      went = goes_as (λ x q. subst (λ n. OpensSome n s x new) (sym (add-one c.loop.counter)) q) (goes_then c.loop.invariant.went (rw (yes) at one.went));
+      went = goes_as (λ x q. subst (λ n. OpensSome n s x new) (sym (add-one c.loop.counter)) q)
+          (goes_then c.loop.invariant.went (rw (yes) at one.went));
       few = omega arith;
       grown = omega (arith, grown, c.loop.invariant.grown);
     }
@@ -42,16 +44,20 @@ pub returns-then-not-can_open-clause-went : goal.returns-then-not-can_open-claus
 returns-then-not-can_open-clause-went g c =
     let s = c.loop.run.relay.state in
     let full : can_open s ≡ false = sym c.can_open.ensures ∙ c.if-not-can_open.true in
-    goes_as (λ a q. (c.loop.counter, c.loop.invariant.few, q)) (accepted_all (g.P.Port.vouches c.loop.port) (g.P.Port.told c.loop.port) (g.P.Port.ends c.loop.port) full c.loop.invariant.went)
+    goes_as (λ a q. (c.loop.counter, c.loop.invariant.few, q))
+    (accepted_all (g.P.Port.vouches c.loop.port) g.P.Port.none_waits (g.P.Port.told c.loop.port) (g.P.Port.ends c.loop.port)
+    full c.loop.invariant.went)
 
 pub returns-then-not-branch-clause-went : goal.returns-then-not-branch-clause-went
 returns-then-not-branch-clause-went g c =
     let no = c.if-not-branch.true in
-    goes_as (λ a q. (c.loop.counter, c.loop.invariant.few, then_nothing q)) (goes_then c.loop.invariant.went (rw (no) at c.in_ok-accept_one.ensures.went))
+    goes_as (λ a q. (c.loop.counter, c.loop.invariant.few, then_nothing q))
+    (goes_then c.loop.invariant.went (rw (no) at c.in_ok-accept_one.ensures.went))
 
 pub returns-clause-went : goal.returns-clause-went
 returns-clause-went g c =
     let port = c.args.port.now in
     let all : c.loop.counter ≡ 64 = omega arith in
     goes_as (λ a q. (64, omega arith, q))
-    (accepted_most (g.P.Port.vouches port) (g.P.Port.told port) (g.P.Port.ends port) (g.P.Port.vouches c.loop.port) (g.P.Port.told c.loop.port) (g.P.Port.ends c.loop.port) (rw (all) at c.loop.invariant.went))
+    (accepted_most (g.P.Port.vouches port) g.P.Port.none_waits (g.P.Port.told port) (g.P.Port.ends port)
+    (g.P.Port.vouches c.loop.port) (g.P.Port.told c.loop.port) (g.P.Port.ends c.loop.port) (rw (all) at c.loop.invariant.went))

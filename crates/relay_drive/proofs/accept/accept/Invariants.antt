@@ -1,12 +1,13 @@
 use Rattle.std.proofs.Common.{◌≡◌, ◌+◌, ◌≤◌, false}
 use Rattle.relay_drive.specs.Phases.{OpensSome}
-use Rattle.relay_drive.specs.Known.{known, Progress}
-use Rattle.relay_drive.specs.Goes.{Goes}
+use Rattle.relay_drive.specs.Known.{Point}
+use Rattle.relay_drive.specs.Moves.{Moves}
 use Rattle.relay_drive.proofs.accept.accept.Given as goal
 
 abbrev pub invariant-loop : goal.invariant-loop
 invariant-loop g l = record {
-  went : Goes (OpensSome l.counter) false l.fn.run l.run (g.S.Scribe.trace l.fn.scribe) (g.S.Scribe.trace l.scribe) (known Progress.Begun (g.P.Port.vouches l.fn.port) (g.P.Port.told l.fn.port) (g.P.Port.ends l.fn.port)) (known Progress.Accepting (g.P.Port.vouches l.port) (g.P.Port.told l.port) (g.P.Port.ends l.port)) (g.P.Port.faults l.fn.port) (g.P.Port.faults l.port);
+  went : Moves g.P.Port g.S.Scribe Point.Begun Point.Accepting false (OpensSome l.counter) (l.fn.run, l.fn.port, l.fn.scribe)
+      (l.run, l.port, l.scribe);
   few : l.counter ≤ 64;
   grown : l.run.relay.state.opened ≡ l.fn.run.relay.state.opened + l.counter;
 }

@@ -22,12 +22,17 @@ returns-in-Link-clause-went g c =
     let number = c.opened-link.ensures ∙ ap (λ (z : State). z.opened) c.reserve_link.ensures.state in
     let state = c.open.ensures ∙ ap (λ (z : State). after_opened z connected) c.reserve_link.ensures.state in
     goes_by l0 (g.S.Scribe.trace c.put.new.scribe) (g.P.Port.faults c.args.port.now) (g.P.Port.faults c.accept.new.self) events
-    (connected, record { allowed = c.requires; entries = refl; state = state }) (ap (λ (z : State). z.settings) state) (let n = c.put.ensures.counted in omega (arith, n))
-    (Grew-join l0 (g.S.Scribe.trace c.reserve.new.self) (g.S.Scribe.trace c.put.new.scribe) [] events c.reserve.ensures.trace (rw (number) at c.put.ensures.list))
+    (connected, record { allowed = c.requires; entries = refl; state = state }) (ap (λ (z : State). z.settings) state)
+    (let n = c.put.ensures.counted in omega (arith, n))
+    (Grew-join l0 (g.S.Scribe.trace c.reserve.new.self) (g.S.Scribe.trace c.put.new.scribe) [] events c.reserve.ensures.trace
+    (rw (number) at c.put.ensures.list))
     (λ t. fits_opened t s c.open.new.self.state s.opened connected state)
-    (λ t fits. known_linked s.settings (g.P.Port.vouches c.args.port.now) (g.P.Port.vouches c.accept.new.self) (g.P.Port.told c.args.port.now) (g.P.Port.told c.accept.new.self) (g.P.Port.ends c.args.port.now) (g.P.Port.ends c.accept.new.self) t s.opened connected
+    (λ t fits. known_linked s.settings (g.P.Port.vouches c.args.port.now) (g.P.Port.vouches c.accept.new.self) g.P.Port.none_waits
+    (g.P.Port.told c.args.port.now) (g.P.Port.told c.accept.new.self) (g.P.Port.ends c.args.port.now)
+    (g.P.Port.ends c.accept.new.self) t s.opened connected
     c.in-Link.ensures.told (rw (number) at c.in-Link.ensures.vouched)
-    (all_ends (g.P.Port.ends c.args.port.now) (g.P.Port.ends c.accept.new.self) (accept_step s.opened (accepted.Link connected)) events (λ e. accept_says s.opened (accepted.Link connected) e) (rw (number) at c.in-Link.ensures.ends)))
+    (all_ends (g.P.Port.ends c.args.port.now) (g.P.Port.ends c.accept.new.self) (accept_step s.opened (accepted.Link connected))
+    events (λ e. accept_says s.opened (accepted.Link connected) e) (rw (number) at c.in-Link.ensures.ends)))
     (Heard-open (g.P.Port.faults c.args.port.now) (g.P.Port.faults c.accept.new.self) events false c.in-Link.ensures.cause (λ e. refl) refl)
 
 pub returns-in_err-reserve_link-clause-went : goal.returns-in_err-reserve_link-clause-went
@@ -43,20 +48,27 @@ returns-in_err-reserve-clause-went g c =
 pub returns-in-NotYet-clause-went : goal.returns-in-NotYet-clause-went
 returns-in-NotYet-clause-went g c =
     goes_silent c.reserve_link.ensures.state refl c.reserve.ensures.trace
-    (λ t. known_none c.args.run.now.relay.state.settings (g.P.Port.vouches c.args.port.now) (g.P.Port.vouches c.accept.new.self) (g.P.Port.told c.args.port.now) (g.P.Port.told c.accept.new.self) (g.P.Port.ends c.args.port.now) (g.P.Port.ends c.accept.new.self) t
-    c.in-NotYet.ensures.told.0 c.in-NotYet.ensures.told.1 c.in-NotYet.ensures.vouched c.in-NotYet.ensures.ends (c.in-NotYet.ensures.waiting refl))
+    (λ t. known_none c.args.run.now.relay.state.settings (g.P.Port.vouches c.args.port.now) (g.P.Port.vouches c.accept.new.self)
+    g.P.Port.none_waits (g.P.Port.told c.args.port.now) (g.P.Port.told c.accept.new.self) (g.P.Port.ends c.args.port.now)
+    (g.P.Port.ends c.accept.new.self) t
+    c.in-NotYet.ensures.told.0 c.in-NotYet.ensures.told.1 c.in-NotYet.ensures.vouched c.in-NotYet.ensures.ends
+    (c.in-NotYet.ensures.waiting refl))
     (Heard-open (g.P.Port.faults c.args.port.now) (g.P.Port.faults c.accept.new.self) [] false c.in-NotYet.ensures.cause (λ e. refl) refl)
 
 pub returns-in-Failed-clause-went : goal.returns-in-Failed-clause-went
 returns-in-Failed-clause-went g c =
     goes_silent c.reserve_link.ensures.state refl c.reserve.ensures.trace
-    (λ t. known_refused c.args.run.now.relay.state.settings (g.P.Port.vouches c.args.port.now) (g.P.Port.vouches c.accept.new.self) (g.P.Port.told c.args.port.now) (g.P.Port.told c.accept.new.self) (g.P.Port.ends c.args.port.now) (g.P.Port.ends c.accept.new.self) t
+    (λ t. known_refused c.args.run.now.relay.state.settings (g.P.Port.vouches c.args.port.now)
+    (g.P.Port.vouches c.accept.new.self) g.P.Port.none_waits (g.P.Port.told c.args.port.now) (g.P.Port.told c.accept.new.self)
+    (g.P.Port.ends c.args.port.now) (g.P.Port.ends c.accept.new.self) t
     c.in-Failed.ensures.told.0 c.in-Failed.ensures.told.1 c.in-Failed.ensures.vouched c.in-Failed.ensures.ends)
     (Heard-open (g.P.Port.faults c.args.port.now) (g.P.Port.faults c.accept.new.self) [] true c.in-Failed.ensures.cause (λ e. refl) refl)
 
 pub returns-in-NoMemory-clause-went : goal.returns-in-NoMemory-clause-went
 returns-in-NoMemory-clause-went g c =
     goes_silent c.reserve_link.ensures.state refl c.reserve.ensures.trace
-    (λ t. known_refused c.args.run.now.relay.state.settings (g.P.Port.vouches c.args.port.now) (g.P.Port.vouches c.accept.new.self) (g.P.Port.told c.args.port.now) (g.P.Port.told c.accept.new.self) (g.P.Port.ends c.args.port.now) (g.P.Port.ends c.accept.new.self) t
+    (λ t. known_refused c.args.run.now.relay.state.settings (g.P.Port.vouches c.args.port.now)
+    (g.P.Port.vouches c.accept.new.self) g.P.Port.none_waits (g.P.Port.told c.args.port.now) (g.P.Port.told c.accept.new.self)
+    (g.P.Port.ends c.args.port.now) (g.P.Port.ends c.accept.new.self) t
     c.in-NoMemory.ensures.told.0 c.in-NoMemory.ensures.told.1 c.in-NoMemory.ensures.vouched c.in-NoMemory.ensures.ends)
     (Heard-open (g.P.Port.faults c.args.port.now) (g.P.Port.faults c.accept.new.self) [] false c.in-NoMemory.ensures.cause (λ e. refl) refl)

@@ -4,7 +4,7 @@ use Rattle.ev_types.specs.Trace.{Trace}
 use Rattle.ev_types.specs.declared.entry.Entry.TheVariants as entry
 use Rattle.ev_port.specs.Ends.{write_step, write_events, took_bytes}
 use Rattle.relay_core.specs.Rooms.{offer}
-use Rattle.relay_drive.specs.Goes.{Heard}
+use Rattle.relay_drive.specs.Advances.{Heard}
 use Rattle.relay_drive.specs.Calls.{is_memory}
 use Rattle.relay_drive.proofs.GoesLemmas.{Grew-join, goes_nowhere, goes_silent}
 use Rattle.relay_drive.proofs.HeardLemmas.{Heard-write, goes_once, write_same, same_as, no_write, no_write_ends, some_write, memory_is}
@@ -14,17 +14,24 @@ use Rattle.relay_drive.proofs.ask.ask_write.Goals as goal
 
 pub returns-in_err-reserve-clause-went : goal.returns-in_err-reserve-clause-went
 returns-in_err-reserve-clause-went g c =
-    let p = err_from_is_err_and c.from_residual.result c.from_residual.ensures.1 in rw (p.1) (goes_nowhere refl refl c.reserve.ensures.trace (λ s t x k. k))
+    let p = err_from_is_err_and c.from_residual.result c.from_residual.ensures.1 in
+    rw (p.1) (goes_nowhere refl refl c.reserve.ensures.trace (λ s t x k. k))
 
 pub returns-then-is_memory-clause-went : goal.returns-then-is_memory-clause-went
 returns-then-is_memory-clause-went g c =
     let from = c.offer-offer.result.now in
     let memory : is_memory c.write-answer.result ≡ true = sym c.is_memory.ensures ∙ c.if-is_memory.true in
-    let vouched = no_write (g.P.Port.vouches c.args.port.now) (g.P.Port.vouches c.write-answer.new.self) c.args.side from c.write-answer.result memory c.write-answer.ensures.vouched in
-    let ends = no_write_ends (g.P.Port.ends c.args.port.now) (g.P.Port.ends c.write-answer.new.self) c.args.side from c.write-answer.result memory c.write-answer.ensures.ends in
+    let vouched = no_write (g.P.Port.vouches c.args.port.now) (g.P.Port.vouches c.write-answer.new.self) c.args.side from
+    c.write-answer.result memory c.write-answer.ensures.vouched in
+    let ends = no_write_ends (g.P.Port.ends c.args.port.now) (g.P.Port.ends c.write-answer.new.self) c.args.side from
+    c.write-answer.result memory c.write-answer.ensures.ends in
     goes_silent refl refl c.reserve.ensures.trace
-    (λ t. known_served c.args.run.now.relay.state.settings (g.P.Port.vouches c.args.port.now) (g.P.Port.vouches c.write-answer.new.self) (g.P.Port.told c.args.port.now) (g.P.Port.told c.write-answer.new.self) (g.P.Port.ends c.args.port.now) (g.P.Port.ends c.write-answer.new.self) t [] refl vouched ends c.write-answer.ensures.told)
-    (memory_is (g.P.Port.faults c.args.port.now) (g.P.Port.faults c.write-answer.new.self) c.args.side from c.write-answer.result memory c.write-answer.ensures.cause)
+    (λ t. known_served c.args.run.now.relay.state.settings (g.P.Port.vouches c.args.port.now)
+    (g.P.Port.vouches c.write-answer.new.self) g.P.Port.none_waits (g.P.Port.told c.args.port.now)
+    (g.P.Port.told c.write-answer.new.self) (g.P.Port.ends c.args.port.now) (g.P.Port.ends c.write-answer.new.self) t
+    g.met.P.Port.waits_no_more [] refl vouched ends c.write-answer.ensures.told)
+    (memory_is (g.P.Port.faults c.args.port.now) (g.P.Port.faults c.write-answer.new.self) c.args.side from c.write-answer.result
+    memory c.write-answer.ensures.cause)
 
 pub returns-clause-went : goal.returns-clause-went
 returns-clause-went g c =
@@ -35,9 +42,21 @@ returns-clause-went g c =
     let one : Trace = (entry.Write c.args.side (length from) answer, took_bytes answer from) ∷ [] in
     let some : is_memory answer ≡ false = sym c.is_memory.ensures ∙ c.if-is_memory.false in
     let is : write_events c.args.side from answer ≡ one = some_write c.args.side from answer some in
-    goes_once l0 (g.S.Scribe.trace c.put.new.scribe) (g.P.Port.faults c.args.port.now) (g.P.Port.faults c.write-answer.new.self) one refl
-    (record { done = some; within = rw (c.offer-offer.ensures) at c.write-answer.ensures.within; entries = sym is; state = c.note_write.ensures }) (same_as old c.note_write.new.relay.state _ c.note_write.ensures (write_same old c.args.side answer)) c.put.ensures.counted
-    (Grew-join l0 (g.S.Scribe.trace c.reserve.new.self) (g.S.Scribe.trace c.put.new.scribe) [] one c.reserve.ensures.trace (rw (c.bytes_taken.ensures, c.offer-offer.ensures) at c.put.ensures.list))
+    goes_once g.met.P.Port.waits_no_more l0 (g.S.Scribe.trace c.put.new.scribe) (g.P.Port.faults c.args.port.now)
+    (g.P.Port.faults c.write-answer.new.self) one refl
+    (record {
+      done = some;
+      within = rw (c.offer-offer.ensures) at c.write-answer.ensures.within;
+      entries = sym is;
+      state = c.note_write.ensures;
+    })
+    (same_as old c.note_write.new.relay.state _ c.note_write.ensures (write_same old c.args.side answer)) c.put.ensures.counted
+    (Grew-join l0 (g.S.Scribe.trace c.reserve.new.self) (g.S.Scribe.trace c.put.new.scribe) [] one c.reserve.ensures.trace
+    (rw (c.bytes_taken.ensures, c.offer-offer.ensures) at c.put.ensures.list))
     (rw (c.offer-offer.ensures, is) at c.write-answer.ensures.vouched)
-    (one_end (g.P.Port.ends c.args.port.now) (g.P.Port.ends c.write-answer.new.self) c.args.side (write_step answer from) one (λ e. ap (step_of e) (sym is) ∙ write_says c.args.side e from answer) (rw (c.offer-offer.ensures) at c.write-answer.ensures.ends)) c.write-answer.ensures.told
-    (subst (λ z. Heard (g.P.Port.faults c.args.port.now) (g.P.Port.faults c.write-answer.new.self) z false) is (Heard-write (g.P.Port.faults c.args.port.now) (g.P.Port.faults c.write-answer.new.self) c.args.side from answer c.write-answer.ensures.cause))
+    (one_end (g.P.Port.ends c.args.port.now) (g.P.Port.ends c.write-answer.new.self) c.args.side (write_step answer from) one
+    (λ e. ap (step_of e) (sym is) ∙ write_says c.args.side e from answer)
+    (rw (c.offer-offer.ensures) at c.write-answer.ensures.ends)) c.write-answer.ensures.told
+    (subst (λ z. Heard (g.P.Port.faults c.args.port.now) (g.P.Port.faults c.write-answer.new.self) z false) is
+    (Heard-write (g.P.Port.faults c.args.port.now) (g.P.Port.faults c.write-answer.new.self) c.args.side from answer
+    c.write-answer.ensures.cause))

@@ -2,12 +2,13 @@ use Rattle.std.proofs.Common.{◌≡◌, false, take}
 use Rattle.relay_core.specs.Closing.{closing_of}
 use Rattle.relay_drive.specs.Steps.{Each}
 use Rattle.relay_drive.specs.Phases.{LooksAt}
-use Rattle.relay_drive.specs.Known.{known, Progress}
-use Rattle.relay_drive.specs.Goes.{Goes}
+use Rattle.relay_drive.specs.Known.{Point}
+use Rattle.relay_drive.specs.Moves.{Moves}
 use Rattle.relay_drive.proofs.close.close_link.Given as goal
 
 abbrev pub invariant-loop-step : goal.invariant-loop-step
 invariant-loop-step g l = record {
-  went : Goes (Each LooksAt (take l.step-index (closing_of l.link))) false l.fn.run l.run (g.S.Scribe.trace l.fn.scribe) (g.S.Scribe.trace l.scribe) (known Progress.Accepted (g.P.Port.vouches l.fn.port) (g.P.Port.told l.fn.port) (g.P.Port.ends l.fn.port)) (known Progress.Accepted (g.P.Port.vouches l.port) (g.P.Port.told l.port) (g.P.Port.ends l.port)) (g.P.Port.faults l.fn.port) (g.P.Port.faults l.port);
+  went : Moves g.P.Port g.S.Scribe Point.Accepted Point.Accepted false (Each LooksAt (take l.step-index (closing_of l.link)))
+      (l.fn.run, l.fn.port, l.fn.scribe) (l.run, l.port, l.scribe);
   kept : l.run.relay.state.opened ≡ l.fn.run.relay.state.opened;
 }

@@ -20,13 +20,17 @@ returns-clause-went g c =
     let f = g.P.Port.faults c.args.port.now in
     let h = g.P.Port.faults c.tell.new.port in
     let yes : is_called_for s step ≡ true = sym c.calls_for.ensures ∙ c.if-not-calls_for.false in
-    let state : new ≡ after_closing s step = c.close.ensures ∙ ap (λ (r : RelayValue). after_closing r.state step) c.put_closing.ensures.relay in
-    goes_served l0 (g.S.Scribe.trace c.put_closing.new.scribe) f h events (closing_served s step)
+    let state : new ≡ after_closing s step = c.close.ensures
+    ∙ ap (λ (r : RelayValue). after_closing r.state step) c.put_closing.ensures.relay in
+    goes_served g.met.P.Port.waits_no_more l0 (g.S.Scribe.trace c.put_closing.new.scribe) f h events (closing_served s step)
     (subst (λ b. MatchBool b (Closes step s events new) (Nothing s events new)) (sym yes) (record { entries = refl; state = state }))
     (same_as s new _ state (closing_same s step)) c.put_closing.ensures.counted
-    (Grew-join l0 (g.S.Scribe.trace c.reserve.new.self) (g.S.Scribe.trace c.put_closing.new.scribe) [] events c.reserve.ensures.trace c.put_closing.ensures.list)
-    (closing_vouched (g.P.Port.vouches c.args.port.now) (g.P.Port.vouches c.tell.new.port) s step c.tell.ensures.vouched c.tell.ensures.unheard)
-    (all_ends (g.P.Port.ends c.args.port.now) (g.P.Port.ends c.tell.new.port) (told_step step) events (λ e. closing_says s step e) c.tell.ensures.ends) c.tell.ensures.told
+    (Grew-join l0 (g.S.Scribe.trace c.reserve.new.self) (g.S.Scribe.trace c.put_closing.new.scribe) [] events
+    c.reserve.ensures.trace c.put_closing.ensures.list)
+    (closing_vouched (g.P.Port.vouches c.args.port.now) (g.P.Port.vouches c.tell.new.port) s step c.tell.ensures.vouched
+    c.tell.ensures.unheard)
+    (all_ends (g.P.Port.ends c.args.port.now) (g.P.Port.ends c.tell.new.port) (told_step step) events (λ e. closing_says s step e)
+    c.tell.ensures.ends) c.tell.ensures.told
     (Heard-quiet f h events c.tell.ensures.cause (λ e. closing_unfailed s step e) (closing_polls s step))
 
 pub returns-then-not-calls_for-clause-went : goal.returns-then-not-calls_for-clause-went
@@ -34,4 +38,5 @@ returns-then-not-calls_for-clause-went g c =
     let s = c.args.run.now.relay.state in
     let step = c.args.step in
     let no : is_called_for s step ≡ false = sym c.calls_for.ensures ∙ c.if-not-calls_for.true in
-    goes_as (λ a p. subst (λ b. MatchBool b (Closes step s a s) (Nothing s a s)) (sym no) p) (goes_nowhere refl refl (Grew-none (g.S.Scribe.trace c.args.scribe.now)) (λ s t x k. k))
+    goes_as (λ a p. subst (λ b. MatchBool b (Closes step s a s) (Nothing s a s)) (sym no) p)
+    (goes_nowhere refl refl (Grew-none (g.S.Scribe.trace c.args.scribe.now)) (λ s t x k. k))

@@ -16,7 +16,14 @@ returns-in_err-pass_link-clause-went c =
       last = k;
       back = links_from (k + 1) (n - (k + 1));
       all = links_next k n lt;
-      went = record { middle = c.loop-link.relay.state; front = []; back = []; first = c.loop-link.invariant.went; second = c.in_err-pass_link.ensures.went; joined = refl };
+      went = record {
+        middle = c.loop-link.relay.state;
+        front = [];
+        back = [];
+        first = c.loop-link.invariant.went;
+        second = c.in_err-pass_link.ensures.went;
+        joined = refl;
+      };
     })
 
 pub loop-link-preserved : goal.loop-link-preserved
@@ -24,7 +31,15 @@ loop-link-preserved c =
     let k = c.loop-link.link in
     record {
       went = subst (λ z. Each PassesLink z c.args.relay.now.state [] c.pass_link.new.relay.state) (sym (links_from-push k))
-          (each_push PassesLink (links_from 0 k) k (record { middle = c.loop-link.relay.state; front = []; back = []; first = c.loop-link.invariant.went; second = c.in_ok-pass_link.ensures.went; joined = refl }));
+          (each_push PassesLink (links_from 0 k) k
+          (record {
+            middle = c.loop-link.relay.state;
+            front = [];
+            back = [];
+            first = c.loop-link.invariant.went;
+            second = c.in_ok-pass_link.ensures.went;
+            joined = refl;
+          }));
       time = c.in_ok-pass_link.ensures.time ∙ c.loop-link.invariant.time;
       settings = c.in_ok-pass_link.ensures.settings ∙ c.loop-link.invariant.settings;
       kept = c.in_ok-pass_link.ensures.kept ∙ c.loop-link.invariant.kept;

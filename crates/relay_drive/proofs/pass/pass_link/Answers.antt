@@ -13,7 +13,14 @@ returns-in_err-pass-clause-went c =
       last = in_side k;
       back = out_side k ∷ [];
       all = refl;
-      went = record { middle = c.args.relay.now.state; front = []; back = []; first = (refl, refl); second = (refl, c.in_err-pass.ensures); joined = refl };
+      went = record {
+        middle = c.args.relay.now.state;
+        front = [];
+        back = [];
+        first = (refl, refl);
+        second = (refl, c.in_err-pass.ensures);
+        joined = refl;
+      };
     })
 
 pub returns-in_err-pass-2-clause-went : goal.returns-in_err-pass-2-clause-went

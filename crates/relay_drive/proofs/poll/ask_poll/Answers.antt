@@ -6,7 +6,7 @@ use Rattle.ev_port.specs.declared.port.Polled.TheVariants as polled
 use Rattle.ev_port.specs.Counting.{counted}
 use Rattle.ev_port.specs.Polling.{want_events, ready_events, poll_events, poll_step}
 use Rattle.relay_drive.proofs.GoesLemmas.{Grew-join, goes_some, goes_nowhere}
-use Rattle.relay_drive.specs.Known.{Fits}
+use Rattle.relay_drive.specs.Known.{IsInStep}
 use Rattle.relay_drive.proofs.CalmLemmas.{same}
 use Rattle.relay_drive.proofs.TiedLemmas.{all_ends, poll_says}
 use Rattle.relay_drive.proofs.KnownLemmas.{poll_still, known_ready, known_failed}
@@ -18,7 +18,7 @@ returns-in-Ready-clause-went g c =
     let l0 = g.S.Scribe.trace c.args.scribe.now in
     let s = c.args.run.now.relay.state in
     let asks = c.can_open-can_open.result in
-    let asked = λ (t : Trace) (fits : Fits t s). c.can_open-can_open.ensures ∙ ap (λ n. nat_lt n s.settings.links) (sym fits.opened) in
+    let asked = λ (t : Trace) (fits : IsInStep t s). c.can_open-can_open.ensures ∙ ap (λ n. nat_lt n s.settings.links) (sym fits.opened) in
     let ws = c.args.wants.now in
     let ms = c.poll.new.wants in
     let marks = c.in-Ready.ensures.marked in
@@ -26,16 +26,33 @@ returns-in-Ready-clause-went g c =
     let names : want_events ms ≡ want_events ws = want_events-marked ws ms many marks in
     let events = poll_events None ms (polled.Ready c.in-Ready.accept) in
     let one : Trace = (entry.Poll None, []) ∷ [] in
-    let first = Grew-join l0 (g.S.Scribe.trace c.reserve.new.self) (g.S.Scribe.trace c.put.new.scribe) [] one c.reserve.ensures.trace c.put.ensures.list in
-    let second = Grew-join l0 (g.S.Scribe.trace c.put.new.scribe) (g.S.Scribe.trace c.put_wants.new.scribe) one (want_events ws) first c.put_wants.ensures.list in
-    let third = Grew-join l0 (g.S.Scribe.trace c.put_wants.new.scribe) (g.S.Scribe.trace c.put_marks.new.scribe) (one ++ want_events ws) (ready_events ms) second c.put_marks.ensures.list in
-    let size : length events ≡ 1 + (length (want_events ws) + length (ready_events ms)) = let h1 = length-append (want_events ms) (ready_events ms) in let h2 = ap length names in omega (arith, h1, h2) in
-    goes_some l0 (g.S.Scribe.trace c.put_marks.new.scribe) (g.P.Port.faults c.args.port.now) (g.P.Port.faults c.poll.new.self) events (poll_still None ms (polled.Ready c.in-Ready.accept))
-    (record { marks = rw (c.requires) at marks; many = many ∙ ap length c.requires; asked = λ h. sym c.can_open-can_open.ensures ∙ c.in-Ready.ensures.asked h; entries = refl; state = refl }) (same s s refl)
-    (counted_three c.args.run.now.entries c.put.new.entries c.put_wants.new.entries c.put_marks.new.entries 1 (length (want_events ws)) (length (ready_events ms)) c.put.ensures.counted c.put_wants.ensures.counted c.put_marks.ensures.counted ∙ ap (λ n. counted c.args.run.now.entries n) (sym size))
+    let first = Grew-join l0 (g.S.Scribe.trace c.reserve.new.self) (g.S.Scribe.trace c.put.new.scribe) [] one
+    c.reserve.ensures.trace c.put.ensures.list in
+    let second = Grew-join l0 (g.S.Scribe.trace c.put.new.scribe) (g.S.Scribe.trace c.put_wants.new.scribe) one (want_events ws)
+    first c.put_wants.ensures.list in
+    let third = Grew-join l0 (g.S.Scribe.trace c.put_wants.new.scribe) (g.S.Scribe.trace c.put_marks.new.scribe)
+    (one ++ want_events ws) (ready_events ms) second c.put_marks.ensures.list in
+    let size : length events ≡ 1 + (length (want_events ws) + length (ready_events ms)) = let h1 =
+    length-append (want_events ms) (ready_events ms) in let h2 = ap length names in omega (arith, h1, h2) in
+    goes_some l0 (g.S.Scribe.trace c.put_marks.new.scribe) (g.P.Port.faults c.args.port.now) (g.P.Port.faults c.poll.new.self)
+    events (poll_still None ms (polled.Ready c.in-Ready.accept))
+    (record {
+      marks = rw (c.requires) at marks;
+      many = many ∙ ap length c.requires;
+      asked = λ h. sym c.can_open-can_open.ensures
+          ∙ c.in-Ready.ensures.asked h;
+      entries = refl;
+      state = refl;
+    }) (same s s refl)
+    (counted_three c.args.run.now.entries c.put.new.entries c.put_wants.new.entries c.put_marks.new.entries 1
+    (length (want_events ws)) (length (ready_events ms)) c.put.ensures.counted c.put_wants.ensures.counted
+    c.put_marks.ensures.counted ∙ ap (λ n. counted c.args.run.now.entries n) (sym size))
     (rw (names) third)
-    (λ t fits. known_ready s.settings (g.P.Port.vouches c.args.port.now) (g.P.Port.vouches c.poll.new.self) (g.P.Port.told c.args.port.now) (g.P.Port.told c.poll.new.self) (g.P.Port.ends c.args.port.now) (g.P.Port.ends c.poll.new.self) t None ms asks c.in-Ready.accept c.in-Ready.ensures.told (asked t fits) c.in-Ready.ensures.vouched
-    (all_ends (g.P.Port.ends c.args.port.now) (g.P.Port.ends c.poll.new.self) (poll_step ms (polled.Ready c.in-Ready.accept)) events (λ e. poll_says e None ms (polled.Ready c.in-Ready.accept)) c.in-Ready.ensures.ends) c.in-Ready.ensures.waiting)
+    (λ t fits. known_ready s.settings (g.P.Port.vouches c.args.port.now) (g.P.Port.vouches c.poll.new.self) g.P.Port.none_waits
+    (g.P.Port.told c.args.port.now) (g.P.Port.told c.poll.new.self) (g.P.Port.ends c.args.port.now)
+    (g.P.Port.ends c.poll.new.self) t None ms asks c.in-Ready.accept c.in-Ready.ensures.told (asked t fits) c.in-Ready.ensures.vouched
+    (all_ends (g.P.Port.ends c.args.port.now) (g.P.Port.ends c.poll.new.self) (poll_step ms (polled.Ready c.in-Ready.accept))
+    events (λ e. poll_says e None ms (polled.Ready c.in-Ready.accept)) c.in-Ready.ensures.ends) c.in-Ready.ensures.waiting)
     (Heard-poll (g.P.Port.faults c.args.port.now) (g.P.Port.faults c.poll.new.self) ms c.in-Ready.accept c.in-Ready.ensures.cause)
 
 pub returns-in-Failed-clause-went : goal.returns-in-Failed-clause-went
@@ -43,7 +60,7 @@ returns-in-Failed-clause-went g c =
     let l0 = g.S.Scribe.trace c.args.scribe.now in
     let s = c.args.run.now.relay.state in
     let asks = c.can_open-can_open.result in
-    let asked = λ (t : Trace) (fits : Fits t s). c.can_open-can_open.ensures ∙ ap (λ n. nat_lt n s.settings.links) (sym fits.opened) in
+    let asked = λ (t : Trace) (fits : IsInStep t s). c.can_open-can_open.ensures ∙ ap (λ n. nat_lt n s.settings.links) (sym fits.opened) in
     let ws = c.args.wants.now in
     let ms = c.poll.new.wants in
     let marks = c.in-Failed.ensures.marked in
@@ -52,16 +69,27 @@ returns-in-Failed-clause-went g c =
     let events = poll_events None ms polled.Failed in
     let one : Trace = (entry.Poll None, []) ∷ [] in
     let last : Trace = (entry.PollFailed, []) ∷ [] in
-    let first = Grew-join l0 (g.S.Scribe.trace c.reserve.new.self) (g.S.Scribe.trace c.put.new.scribe) [] one c.reserve.ensures.trace c.put.ensures.list in
-    let second = Grew-join l0 (g.S.Scribe.trace c.put.new.scribe) (g.S.Scribe.trace c.put_wants.new.scribe) one (want_events ws) first c.put_wants.ensures.list in
-    let third = Grew-join l0 (g.S.Scribe.trace c.put_wants.new.scribe) (g.S.Scribe.trace c.put-in-Failed.new.scribe) (one ++ want_events ws) last second c.put-in-Failed.ensures.list in
-    let size : length events ≡ 1 + (length (want_events ws) + 1) = let h1 = length-append (want_events ms) last in let h2 = ap length names in omega (arith, h1, h2) in
-    goes_some l0 (g.S.Scribe.trace c.put-in-Failed.new.scribe) (g.P.Port.faults c.args.port.now) (g.P.Port.faults c.poll.new.self) events (poll_still None ms polled.Failed)
-    (record { named = ms; marks = rw (c.requires) at marks; many = many ∙ ap length c.requires; entries = refl; state = refl }) (same s s refl)
-    (counted_three c.args.run.now.entries c.put.new.entries c.put_wants.new.entries c.put-in-Failed.new.entries 1 (length (want_events ws)) 1 c.put.ensures.counted c.put_wants.ensures.counted (omega (arith, c.put-in-Failed.ensures.counted)) ∙ ap (λ n. counted c.args.run.now.entries n) (sym size))
+    let first = Grew-join l0 (g.S.Scribe.trace c.reserve.new.self) (g.S.Scribe.trace c.put.new.scribe) [] one
+    c.reserve.ensures.trace c.put.ensures.list in
+    let second = Grew-join l0 (g.S.Scribe.trace c.put.new.scribe) (g.S.Scribe.trace c.put_wants.new.scribe) one (want_events ws)
+    first c.put_wants.ensures.list in
+    let third = Grew-join l0 (g.S.Scribe.trace c.put_wants.new.scribe) (g.S.Scribe.trace c.put-in-Failed.new.scribe)
+    (one ++ want_events ws) last second c.put-in-Failed.ensures.list in
+    let size : length events ≡ 1 + (length (want_events ws) + 1) = let h1 = length-append (want_events ms) last in
+    let h2 = ap length names in omega (arith, h1, h2) in
+    goes_some l0 (g.S.Scribe.trace c.put-in-Failed.new.scribe) (g.P.Port.faults c.args.port.now) (g.P.Port.faults c.poll.new.self)
+    events (poll_still None ms polled.Failed)
+    (record { named = ms; marks = rw (c.requires) at marks; many = many ∙ ap length c.requires; entries = refl; state = refl })
+    (same s s refl)
+    (counted_three c.args.run.now.entries c.put.new.entries c.put_wants.new.entries c.put-in-Failed.new.entries 1
+    (length (want_events ws)) 1 c.put.ensures.counted c.put_wants.ensures.counted
+    (omega (arith, c.put-in-Failed.ensures.counted)) ∙ ap (λ n. counted c.args.run.now.entries n) (sym size))
     (rw (names) third)
-    (λ t fits. known_failed s.settings (g.P.Port.vouches c.args.port.now) (g.P.Port.vouches c.poll.new.self) (g.P.Port.told c.args.port.now) (g.P.Port.told c.poll.new.self) (g.P.Port.ends c.args.port.now) (g.P.Port.ends c.poll.new.self) t None ms asks c.in-Failed.ensures.told (asked t fits) c.in-Failed.ensures.vouched
-    (all_ends (g.P.Port.ends c.args.port.now) (g.P.Port.ends c.poll.new.self) (poll_step ms polled.Failed) events (λ e. poll_says e None ms polled.Failed) c.in-Failed.ensures.ends))
+    (λ t fits. known_failed s.settings (g.P.Port.vouches c.args.port.now) (g.P.Port.vouches c.poll.new.self) g.P.Port.none_waits
+    (g.P.Port.told c.args.port.now) (g.P.Port.told c.poll.new.self) (g.P.Port.ends c.args.port.now)
+    (g.P.Port.ends c.poll.new.self) t None ms asks c.in-Failed.ensures.told (asked t fits) c.in-Failed.ensures.vouched
+    (all_ends (g.P.Port.ends c.args.port.now) (g.P.Port.ends c.poll.new.self) (poll_step ms polled.Failed) events
+    (λ e. poll_says e None ms polled.Failed) c.in-Failed.ensures.ends))
     (Heard-failed_poll (g.P.Port.faults c.args.port.now) (g.P.Port.faults c.poll.new.self) ms c.in-Failed.ensures.cause)
 
 pub returns-in_err-reserve-clause-went : goal.returns-in_err-reserve-clause-went

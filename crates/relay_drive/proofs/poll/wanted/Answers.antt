@@ -14,7 +14,9 @@ loop-link-preserved c =
     let near = wants_of s (in_side k) in
     let far = wants_of s (out_side k) in
     record {
-      wanted = c.in_ok-push_want-2.ensures.wanted ∙ ap (λ (z : List Want). z ++ wants_of s c.peer.result) (c.in_ok-push_want.ensures.wanted ∙ ap (λ (z : List Want). z ++ near) c.loop-link.invariant.wanted)
+      wanted = c.in_ok-push_want-2.ensures.wanted
+          ∙ ap (λ (z : List Want). z ++ wants_of s c.peer.result) (c.in_ok-push_want.ensures.wanted
+          ∙ ap (λ (z : List Want). z ++ near) c.loop-link.invariant.wanted)
           ∙ ap (λ e. (done ++ near) ++ wants_of s e) c.peer.ensures
           ∙ append_assoc done near far
           ∙ sym (ap (wants_of_links s) (links_from-push k) ∙ wants_of_links-push s (links_from 0 k) k);

@@ -1,5 +1,6 @@
 use Rattle.std.proofs.Common.{◌≡◌, false, ◌&&◌, refl, sym, ◌∙◌, ap, subst}
 use Rattle.std.specs.Prelude.{MatchBool}
+use Rattle.std.proofs.lemmas.Bool.{not-true, not-false}
 use Rattle.relay_core.specs.Rooms.{wants_read}
 use Rattle.relay_drive.specs.Steps.{Nothing}
 use Rattle.relay_drive.specs.Phases.{ReadsWithRoom}
@@ -9,13 +10,18 @@ use Rattle.relay_drive.proofs.serve.read_side.Goals as goal
 pub returns-then-not-wants_read-clause-went : goal.returns-then-not-wants_read-clause-went
 returns-then-not-wants_read-clause-went g c =
     let s = c.args.run.now.relay.state in
-    let e = c.args.side in
-    let no : c.args.marked && wants_read s e ≡ false = ap (λ b. b && wants_read s e) c.if-not-marked.false ∙ sym c.wants_read.ensures ∙ c.if-not-wants_read.true in
-    goes_as (λ a p. subst (λ b. MatchBool b (ReadsWithRoom e s a s) (Nothing s a s)) (sym no) p) (goes_nowhere refl refl (Grew-none (g.S.Scribe.trace c.args.scribe.now)) (λ s t x k. k))
+    let e = c.args.want.side in
+    let no : c.args.want.can_read && wants_read s e ≡ false =
+    ap (λ b. b && wants_read s e) (not-false c.args.want.can_read c.if-not-want.false) ∙ sym c.wants_read.ensures
+    ∙ c.if-not-wants_read.true in
+    goes_as (λ a p. subst (λ b. MatchBool b (ReadsWithRoom e s a s) (Nothing s a s)) (sym no) p)
+    (goes_nowhere refl refl (Grew-none (g.S.Scribe.trace c.args.scribe.now)) (λ s t x k. k))
 
-pub returns-then-not-marked-clause-went : goal.returns-then-not-marked-clause-went
-returns-then-not-marked-clause-went g c =
+pub returns-then-not-want-clause-went : goal.returns-then-not-want-clause-went
+returns-then-not-want-clause-went g c =
     let s = c.args.run.now.relay.state in
-    let e = c.args.side in
-    let no : c.args.marked && wants_read s e ≡ false = ap (λ b. b && wants_read s e) c.if-not-marked.true in
-    goes_as (λ a p. subst (λ b. MatchBool b (ReadsWithRoom e s a s) (Nothing s a s)) (sym no) p) (goes_nowhere refl refl (Grew-none (g.S.Scribe.trace c.args.scribe.now)) (λ s t x k. k))
+    let e = c.args.want.side in
+    let no : c.args.want.can_read && wants_read s e ≡ false =
+    ap (λ b. b && wants_read s e) (not-true c.args.want.can_read c.if-not-want.true) in
+    goes_as (λ a p. subst (λ b. MatchBool b (ReadsWithRoom e s a s) (Nothing s a s)) (sym no) p)
+    (goes_nowhere refl refl (Grew-none (g.S.Scribe.trace c.args.scribe.now)) (λ s t x k. k))

@@ -7,10 +7,12 @@ use Rattle.relay_drive.proofs.serve.serve.Goals as goal
 pub returns-in_err-serve_side-clause-went : goal.returns-in_err-serve_side-clause-went
 returns-in_err-serve_side-clause-went g c =
     let p = err_from_is_err_and c.from_residual.result c.from_residual.ensures.1 in
-    rw (p.1) (goes_cut ServesSide CutServing c.args.wants.now c.loop-want.want-index _ c.loop-want-test.true c.loop-want.invariant.went c.in_err-serve_side.ensures.went)
+    rw (p.1) (goes_cut ServesSide CutServing c.args.wants.now c.loop-want.want-index _ c.loop-want-test.true
+    c.loop-want.invariant.went c.in_err-serve_side.ensures.went)
 
 pub loop-want-preserved : goal.loop-want-preserved
 loop-want-preserved g c = record {
-  went = goes_next ServesSide c.args.wants.now c.loop-want.want-index _ c.loop-want-test.true c.loop-want.invariant.went c.in_ok-serve_side.ensures.went;
+  went = goes_next ServesSide c.args.wants.now c.loop-want.want-index _ c.loop-want-test.true c.loop-want.invariant.went
+      c.in_ok-serve_side.ensures.went;
   kept = c.in_ok-serve_side.ensures.kept ∙ c.loop-want.invariant.kept;
 }

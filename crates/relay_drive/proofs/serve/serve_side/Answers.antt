@@ -15,5 +15,6 @@ returns-clause-went g c =
     let up : is_connecting s w.side ≡ false = sym c.is_connecting.ensures ∙ c.if-is_connecting.false in
     let read = c.in_ok-read_side.ensures.went in
     MatchResult-weaker c.write_side.result c.write_side.ensures.went
-    (λ _ h. goes_as (λ a p. subst (λ b. MatchBool b (ConnectsSide w.side w.can_write s a new) (Then (ReadsSide w.side w.can_read) (WritesSide w.side w.can_write) s a new)) (sym up) p) (goes_then read h))
+    (λ _ h. goes_as (λ a p. subst (λ b. MatchBool b (ConnectsSide w.side w.can_write s a new)
+    (Then (ReadsSide w.side w.can_read) (WritesSide w.side w.can_write) s a new)) (sym up) p) (goes_then read h))
     (λ _ h. goes_as (λ a p. inr (up, then_nothing p)) (goes_then read h))

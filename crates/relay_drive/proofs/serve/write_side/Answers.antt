@@ -1,5 +1,6 @@
 use Rattle.std.proofs.Common.{◌≡◌, false, ◌&&◌, nat_lt, refl, sym, ◌∙◌, ap, subst}
 use Rattle.std.specs.Prelude.{MatchBool}
+use Rattle.std.proofs.lemmas.Bool.{not-true, not-false}
 use Rattle.ev_types.specs.declared.answer.WriteAnswer.{WriteAnswer}
 use Rattle.relay_core.specs.Rooms.{write_room}
 use Rattle.relay_drive.specs.Steps.{Nothing}
@@ -10,14 +11,18 @@ use Rattle.relay_drive.proofs.serve.write_side.Goals as goal
 pub returns-then-write_room-eq0-clause-went : goal.returns-then-write_room-eq0-clause-went
 returns-then-write_room-eq0-clause-went g c =
     let s = c.args.run.now.relay.state in
-    let e = c.args.side in
+    let e = c.args.want.side in
     let none : write_room s e ≡ 0 = sym c.write_room.ensures ∙ c.if-write_room-eq0.true in
-    let no : c.args.marked && nat_lt 0 (write_room s e) ≡ false = ap (λ b. b && nat_lt 0 (write_room s e)) c.if-not-marked.false ∙ ap (nat_lt 0) none in
-    goes_as (λ a p. subst (λ b. MatchBool b ((answer : WriteAnswer) × Writes e answer s a s) (Nothing s a s)) (sym no) p) (goes_nowhere refl refl (Grew-none (g.S.Scribe.trace c.args.scribe.now)) (λ s t x k. k))
+    let no : c.args.want.can_write && nat_lt 0 (write_room s e) ≡ false =
+    ap (λ b. b && nat_lt 0 (write_room s e)) (not-false c.args.want.can_write c.if-not-want.false) ∙ ap (nat_lt 0) none in
+    goes_as (λ a p. subst (λ b. MatchBool b ((answer : WriteAnswer) × Writes e answer s a s) (Nothing s a s)) (sym no) p)
+    (goes_nowhere refl refl (Grew-none (g.S.Scribe.trace c.args.scribe.now)) (λ s t x k. k))
 
-pub returns-then-not-marked-clause-went : goal.returns-then-not-marked-clause-went
-returns-then-not-marked-clause-went g c =
+pub returns-then-not-want-clause-went : goal.returns-then-not-want-clause-went
+returns-then-not-want-clause-went g c =
     let s = c.args.run.now.relay.state in
-    let e = c.args.side in
-    let no : c.args.marked && nat_lt 0 (write_room s e) ≡ false = ap (λ b. b && nat_lt 0 (write_room s e)) c.if-not-marked.true in
-    goes_as (λ a p. subst (λ b. MatchBool b ((answer : WriteAnswer) × Writes e answer s a s) (Nothing s a s)) (sym no) p) (goes_nowhere refl refl (Grew-none (g.S.Scribe.trace c.args.scribe.now)) (λ s t x k. k))
+    let e = c.args.want.side in
+    let no : c.args.want.can_write && nat_lt 0 (write_room s e) ≡ false =
+    ap (λ b. b && nat_lt 0 (write_room s e)) (not-true c.args.want.can_write c.if-not-want.true) in
+    goes_as (λ a p. subst (λ b. MatchBool b ((answer : WriteAnswer) × Writes e answer s a s) (Nothing s a s)) (sym no) p)
+    (goes_nowhere refl refl (Grew-none (g.S.Scribe.trace c.args.scribe.now)) (λ s t x k. k))

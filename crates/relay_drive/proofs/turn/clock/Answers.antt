@@ -4,7 +4,7 @@ use Rattle.ev_types.specs.Trace.{Trace}
 use Rattle.relay_core.specs.State.{State}
 use Rattle.relay_drive.proofs.GoesLemmas.{Grew-join, goes_by, goes_nowhere}
 use Rattle.relay_drive.proofs.HeardLemmas.{Heard-quiet}
-use Rattle.ev_port.specs.Told.{no_step}
+use Rattle.ev_port.specs.EndSteps.{no_step}
 use Rattle.relay_drive.proofs.CalmLemmas.{fits_turned}
 use Rattle.relay_drive.proofs.TiedLemmas.{all_ends}
 use Rattle.relay_drive.proofs.KnownLemmas.{known_begun}
@@ -18,15 +18,21 @@ returns-clause-went g c =
     let ms : ℕ = max s.time (min reading (2 ^ 62)) in
     let time : c.begin-ms.result ≡ ms = c.begin-ms.ensures.time in
     let events : Trace = (entry.Turn ms, []) ∷ [] in
-    let state : c.begin-ms.new.self.state ≡ record s { time = ms } = c.begin-ms.ensures.state ∙ ap (λ n. let z : State = record s { time = n } in z) time in
+    let state : c.begin-ms.new.self.state ≡ record s { time = ms } = c.begin-ms.ensures.state
+    ∙ ap (λ n. let z : State = record s { time = n } in z) time in
     let l0 = g.S.Scribe.trace c.args.scribe.now in
     goes_by l0 (g.S.Scribe.trace c.put.new.scribe) (g.P.Port.faults c.args.port.now) (g.P.Port.faults c.now.new.self) events
-    (reading, record { entries = refl; state = state }) (ap (λ (z : State). z.settings) state) (let n = c.put.ensures.counted in omega (arith, n))
-    (Grew-join l0 (g.S.Scribe.trace c.reserve.new.self) (g.S.Scribe.trace c.put.new.scribe) [] events c.reserve.ensures.trace (rw (time) at c.put.ensures.list))
+    (reading, record { entries = refl; state = state }) (ap (λ (z : State). z.settings) state) (let n = c.put.ensures.counted in
+    omega (arith, n))
+    (Grew-join l0 (g.S.Scribe.trace c.reserve.new.self) (g.S.Scribe.trace c.put.new.scribe) [] events c.reserve.ensures.trace
+    (rw (time) at c.put.ensures.list))
     (λ t. fits_turned t s c.begin-ms.new.self.state ms reading refl state)
-    (λ t fits. known_begun s.settings (g.P.Port.vouches c.args.port.now) (g.P.Port.vouches c.now.new.self) (g.P.Port.told c.args.port.now) (g.P.Port.told c.now.new.self) (g.P.Port.ends c.args.port.now) (g.P.Port.ends c.now.new.self) t reading ms
+    (λ t fits. known_begun s.settings (g.P.Port.vouches c.args.port.now) (g.P.Port.vouches c.now.new.self) g.P.Port.none_waits
+    (g.P.Port.told c.args.port.now) (g.P.Port.told c.now.new.self) (g.P.Port.ends c.args.port.now)
+    (g.P.Port.ends c.now.new.self) t reading ms
     (ap (λ n. max n (min reading (2 ^ 62))) (sym fits.time)) (ap (λ n. max n (min reading (2 ^ 62))) (sym fits.last)) c.now.ensures.vouched
-    (all_ends (g.P.Port.ends c.args.port.now) (g.P.Port.ends c.now.new.self) (λ e. no_step) events (λ e. refl) c.now.ensures.ends) c.now.ensures.told)
+    (all_ends (g.P.Port.ends c.args.port.now) (g.P.Port.ends c.now.new.self) (λ e. no_step) events (λ e. refl) c.now.ensures.ends)
+    c.now.ensures.told)
     (Heard-quiet (g.P.Port.faults c.args.port.now) (g.P.Port.faults c.now.new.self) events c.now.ensures.cause (λ x. refl) refl)
 
 pub returns-in_err-reserve-clause-went : goal.returns-in_err-reserve-clause-went

@@ -6,39 +6,64 @@ use Rattle.relay_drive.specs.Steps.{Then}
 use Rattle.relay_drive.specs.Calls.{Ticks}
 use Rattle.relay_drive.specs.Phases.{TicksOnce, ForAllLinks, CutForAllLinks, PassesLink, CutPassingLink, CutTurn}
 use Rattle.relay_drive.proofs.GoesLemmas.{Known, goes_as, goes_knowing, goes_then, goes_within}
-use Rattle.std.specs.Prelude.{Bool, List, Option}
+use Rattle.std.specs.Prelude.{Bool, Option}
 use Rattle.ev_types.specs.declared.side.SideId.{SideId}
-use Rattle.script_text.specs.Script.{TurnValue}
-use Rattle.ev_port.specs.Told.{EndTold, PortTold, Faults}
+use Rattle.ev_types.specs.Told.{EndTold, PortTold}
+use Rattle.ev_port.specs.Faults.{Faults}
 use Rattle.relay_drive.specs.declared.run.Run.{Run}
-use Rattle.relay_drive.specs.Known.{known, Progress}
-use Rattle.relay_drive.specs.Goes.{Goes}
+use Rattle.relay_drive.specs.Known.{known, Point}
+use Rattle.relay_drive.specs.Advances.{Advances}
 use Rattle.relay_drive.proofs.turn.turn.Goals as goal
 
-ticked : {Q : State → Trace → State → Type 0} {s new : State} {a : Trace} → Then TicksOnce Q s a new → (reading : ℕ) × Then (Ticks reading) Q s a new
-ticked h = (h.first.0, record { middle = h.middle; front = h.front; back = h.back; first = h.first.1; second = h.second; joined = h.joined })
+ticked : {Q : State → Trace → State → Type 0} {s new : State} {a : Trace} → Then TicksOnce Q s a new → (reading : ℕ) ×
+    Then (Ticks reading) Q s a new
+ticked h = (
+  h.first.0,
+  record {
+    middle = h.middle;
+    front = h.front;
+    back = h.back;
+    first = h.first.1;
+    second = h.second;
+    joined = h.joined;
+  },
+)
 
 -- whatever is known of a port besides, so much is known where a turn is cut off
-cut_short : {R : State → Trace → State → Type 0} {p : Bool} {old new : Run} {l l' : Option Trace} {k : Known} {f f' : Faults} (at : Progress) (v : List TurnValue → Trace → Type 0) (told : PortTold) (ends : SideId → EndTold) →
-    Goes R p old new l l' k (known at v told ends) f f' → Goes R p old new l l' k (known Progress.Accepting v told ends) f f'
-cut_short at v told ends g = goes_knowing g (λ t x fits before now. (now.0, tt))
+cut_short : {R : State → Trace → State → Type 0} {p : Bool} {old new : Run} {l l' : Option Trace} {Plan : Type 0} {k : Known Plan}
+    {f f' : Faults} (at : Point) (v none_waits : Plan → Trace → Type 0) (told : PortTold) (ends : SideId → EndTold) →
+    Advances R p old new l l' k (known at v none_waits told ends) f f' →
+    Advances R p old new l l' k (known Point.Accepting v none_waits told ends) f f'
+cut_short at v none_waits told ends g = goes_knowing g (λ t x fits before now. (now.0, tt))
 
 pub returns-in_err-clock : goal.returns-in_err-clock
 returns-in_err-clock g c =
     let p = err_from_is_err_and c.from_residual.result c.from_residual.ensures.1 in
-    rw (p.1, p.2, c.in_err-clock.ensures.cause) (record { went = cut_short Progress.Between (g.P.Port.vouches c.clock.new.port) (g.P.Port.told c.clock.new.port) (g.P.Port.ends c.clock.new.port) (goes_as (λ a q. CutTurn.before q) c.in_err-clock.ensures.went) })
+    rw (p.1, p.2, c.in_err-clock.ensures.cause)
+    (record {
+      went = cut_short Point.Between (g.P.Port.vouches c.clock.new.port) g.P.Port.none_waits
+          (g.P.Port.told c.clock.new.port) (g.P.Port.ends c.clock.new.port) (goes_as (λ a q. CutTurn.before q) c.in_err-clock.ensures.went);
+    })
 
 pub returns-in_err-wants : goal.returns-in_err-wants
 returns-in_err-wants g c =
     let p = err_from_is_err_and c.from_residual-in_err-wants.result c.from_residual-in_err-wants.ensures.1 in
-    rw (p.1, p.2) (record { went = goes_as (λ a q. let t = ticked q in CutTurn.in_poll t.0 t.1) (goes_then c.in_ok-clock.ensures.went c.in_err-wants.ensures.went) })
+    rw (p.1, p.2) (record {
+      went = goes_as (λ a q. let t = ticked q in
+          CutTurn.in_poll t.0 t.1) (goes_then c.in_ok-clock.ensures.went c.in_err-wants.ensures.went);
+    })
 
 pub returns-in_err-serve : goal.returns-in_err-serve
 returns-in_err-serve g c =
     let p = err_from_is_err_and c.from_residual-in_err-serve.result c.from_residual-in_err-serve.ensures.1 in
     let marked = c.in_ok-wants.wants.items in
     rw (p.1, p.2, c.in_err-serve.ensures.cause) (record {
-      went = cut_short Progress.Accepted (g.P.Port.vouches c.serve.new.port) (g.P.Port.told c.serve.new.port) (g.P.Port.ends c.serve.new.port) (goes_as (λ a q. let t = ticked q in CutTurn.in_serving t.0 marked t.1) (goes_then c.in_ok-clock.ensures.went (goes_then c.in_ok-wants.ensures.went (rw (c.deref.ensures.value) at c.in_err-serve.ensures.went))));
+      went = cut_short Point.Accepted (g.P.Port.vouches c.serve.new.port) g.P.Port.none_waits (g.P.Port.told c.serve.new.port)
+          (g.P.Port.ends c.serve.new.port)
+          (goes_as (λ a q. let t = ticked q in
+          CutTurn.in_serving t.0 marked t.1)
+          (goes_then c.in_ok-clock.ensures.went
+          (goes_then c.in_ok-wants.ensures.went (rw (c.deref.ensures.value) at c.in_err-serve.ensures.went))));
     })
 
 pub returns-in_err-pass : goal.returns-in_err-pass
@@ -47,9 +72,14 @@ returns-in_err-pass g c =
     let marked = c.in_ok-wants.wants.items in
     let e = c.in_err-pass.ensures in
     rw (p.1, p.2, e.cause) (record {
-      went = cut_short Progress.Accepted (g.P.Port.vouches c.serve.new.port) (g.P.Port.told c.serve.new.port) (g.P.Port.ends c.serve.new.port) (goes_as (λ a q. let t = ticked q in CutTurn.in_passing t.0 marked t.1)
-          (goes_then c.in_ok-clock.ensures.went (goes_then c.in_ok-wants.ensures.went (goes_then (rw (c.deref.ensures.value) at c.in_ok-serve.ensures.went)
-          (goes_within {R = CutForAllLinks PassesLink CutPassingLink} (g.S.Scribe.trace c.serve.new.scribe) (known Progress.Accepted (g.P.Port.vouches c.serve.new.port) (g.P.Port.told c.serve.new.port) (g.P.Port.ends c.serve.new.port)) (g.P.Port.faults c.serve.new.port) e.went (record { time = e.time; opened = e.kept; settings = e.settings }) refl)))));
+      went = cut_short Point.Accepted (g.P.Port.vouches c.serve.new.port) g.P.Port.none_waits (g.P.Port.told c.serve.new.port)
+          (g.P.Port.ends c.serve.new.port) (goes_as (λ a q. let t = ticked q in CutTurn.in_passing t.0 marked t.1)
+          (goes_then c.in_ok-clock.ensures.went
+          (goes_then c.in_ok-wants.ensures.went (goes_then (rw (c.deref.ensures.value) at c.in_ok-serve.ensures.went)
+          (goes_within {R = CutForAllLinks PassesLink CutPassingLink} (g.S.Scribe.trace c.serve.new.scribe)
+          (known Point.Accepted (g.P.Port.vouches c.serve.new.port) g.P.Port.none_waits (g.P.Port.told c.serve.new.port)
+          (g.P.Port.ends c.serve.new.port)) (g.P.Port.faults c.serve.new.port) e.went
+          (record { time = e.time; opened = e.kept; settings = e.settings }) refl)))));
     })
 
 pub returns-in_err-close : goal.returns-in_err-close
@@ -58,9 +88,14 @@ returns-in_err-close g c =
     let marked = c.in_ok-wants.wants.items in
     let e = c.in_ok-pass.ensures in
     rw (p.1, p.2, c.in_err-close.ensures.cause) (record {
-      went = cut_short Progress.Accepted (g.P.Port.vouches c.close.new.port) (g.P.Port.told c.close.new.port) (g.P.Port.ends c.close.new.port) (goes_as (λ a q. let t = ticked q in CutTurn.in_closing t.0 marked t.1)
-          (goes_then c.in_ok-clock.ensures.went (goes_then c.in_ok-wants.ensures.went (goes_then (rw (c.deref.ensures.value) at c.in_ok-serve.ensures.went)
-          (goes_then (goes_within {R = ForAllLinks PassesLink} (g.S.Scribe.trace c.serve.new.scribe) (known Progress.Accepted (g.P.Port.vouches c.serve.new.port) (g.P.Port.told c.serve.new.port) (g.P.Port.ends c.serve.new.port)) (g.P.Port.faults c.serve.new.port) e.went (record { time = e.time; opened = e.kept; settings = e.settings }) refl)
+      went = cut_short Point.Accepted (g.P.Port.vouches c.close.new.port) g.P.Port.none_waits (g.P.Port.told c.close.new.port)
+          (g.P.Port.ends c.close.new.port) (goes_as (λ a q. let t = ticked q in CutTurn.in_closing t.0 marked t.1)
+          (goes_then c.in_ok-clock.ensures.went
+          (goes_then c.in_ok-wants.ensures.went (goes_then (rw (c.deref.ensures.value) at c.in_ok-serve.ensures.went)
+          (goes_then (goes_within {R = ForAllLinks PassesLink} (g.S.Scribe.trace c.serve.new.scribe)
+          (known Point.Accepted (g.P.Port.vouches c.serve.new.port) g.P.Port.none_waits (g.P.Port.told c.serve.new.port)
+          (g.P.Port.ends c.serve.new.port)) (g.P.Port.faults c.serve.new.port) e.went
+          (record { time = e.time; opened = e.kept; settings = e.settings }) refl)
           c.in_err-close.ensures.went)))));
     })
 
@@ -70,7 +105,11 @@ returns g c =
     let e = c.in_ok-pass.ensures in
     record {
       went = goes_as (λ a q. let t = ticked q in (t.0, marked, t.1))
-          (goes_then c.in_ok-clock.ensures.went (goes_then c.in_ok-wants.ensures.went (goes_then (rw (c.deref.ensures.value) at c.in_ok-serve.ensures.went)
-          (goes_then (goes_within {R = ForAllLinks PassesLink} (g.S.Scribe.trace c.serve.new.scribe) (known Progress.Accepted (g.P.Port.vouches c.serve.new.port) (g.P.Port.told c.serve.new.port) (g.P.Port.ends c.serve.new.port)) (g.P.Port.faults c.serve.new.port) e.went (record { time = e.time; opened = e.kept; settings = e.settings }) refl)
+          (goes_then c.in_ok-clock.ensures.went
+          (goes_then c.in_ok-wants.ensures.went (goes_then (rw (c.deref.ensures.value) at c.in_ok-serve.ensures.went)
+          (goes_then (goes_within {R = ForAllLinks PassesLink} (g.S.Scribe.trace c.serve.new.scribe)
+          (known Point.Accepted (g.P.Port.vouches c.serve.new.port) g.P.Port.none_waits (g.P.Port.told c.serve.new.port)
+          (g.P.Port.ends c.serve.new.port)) (g.P.Port.faults c.serve.new.port) e.went
+          (record { time = e.time; opened = e.kept; settings = e.settings }) refl)
           c.in_ok-close.ensures.went))));
     }

@@ -7,5 +7,7 @@ use Rattle.base_mode.proofs.run.Run.activate.Goals as goal
 pub returns : goal.returns
 returns c =
     rw (← c.number-number.ensures, ← c.self.view_is)
-    (Went-answered c.activate-outcome.result c.put_answer.result (run_of c.self.inside) c.activate-outcome.new.self c.put_answer.new.text.items (call.activate c.self.inside.base c.number-number.result 2)
+    (Went-answered c.activate-outcome.result c.put_answer.result
+    (run_of c.self.inside) c.activate-outcome.new.self c.put_answer.new.text.items
+    (call.activate c.self.inside.base c.number-number.result 2)
     c.activate-outcome.ensures.ok c.activate-outcome.ensures.refused c.activate-outcome.ensures.stays c.put_answer.ensures)

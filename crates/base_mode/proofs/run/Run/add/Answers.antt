@@ -7,5 +7,7 @@ use Rattle.base_mode.proofs.run.Run.add.Goals as goal
 pub returns : goal.returns
 returns c =
     rw (← c.number-number.ensures, ← c.self.view_is)
-    (Went-answered c.add_event-outcome.result c.put_answer.result (run_of c.self.inside) c.add_event-outcome.new.self c.put_answer.new.text.items (call.add_event c.self.inside.base c.number-number.result c.args.delay)
+    (Went-answered c.add_event-outcome.result c.put_answer.result
+    (run_of c.self.inside) c.add_event-outcome.new.self c.put_answer.new.text.items
+    (call.add_event c.self.inside.base c.number-number.result c.args.delay)
     c.add_event-outcome.ensures.ok c.add_event-outcome.ensures.refused c.add_event-outcome.ensures.stays c.put_answer.ensures)

@@ -9,4 +9,5 @@ pub returns-in_ok-call_back-in-Ok-Some : goal.returns-in_ok-call_back-in-Ok-Some
 returns-in_ok-call_back-in-Ok-Some c =
     let fires : call.next_fire c.self.inside.base ≡ Some c.in-Ok-Some.fire = cc (c.in-Ok-Some.ensures.fire, c.in-Ok-Some.field-0-is) in
     rw (← c.self.view_is)
-    (next_fired-called (run_of c.self.inside) c.next_active.new.self c.in-Ok-Some.fire c.call_back.new.self c.in-Ok-Some.ensures.ok fires c.in_ok-call_back-in-Ok-Some.ensures)
+    (next_fired-called (run_of c.self.inside) c.next_active.new.self c.in-Ok-Some.fire c.call_back.new.self c.in-Ok-Some.ensures.ok fires
+    c.in_ok-call_back-in-Ok-Some.ensures)

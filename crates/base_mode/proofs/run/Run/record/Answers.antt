@@ -12,7 +12,8 @@ invariant_of-result c =
     let pushed : c.push.new.self.items ≡ before ++ line ∷ [] = rw (c.in_ok-push.ensures.items, c.again.ensures) refl in
     record {
       names = rw pushed
-          (c.in_ok-keep_event.ensures.names ∙ ap (λ (names : List ℕ). names ++ made (line ∷ [])) c.self.invariant.names ∙ sym (filter_map-append new_name before (line ∷ [])));
+          (c.in_ok-keep_event.ensures.names ∙ ap (λ (names : List ℕ). names ++ made (line ∷ [])) c.self.invariant.names
+          ∙ sym (filter_map-append new_name before (line ∷ [])));
       fires = c.in_ok-keep_event.ensures.each c.self.invariant.fires;
       few = omega (arith, c.in_ok-keep_event.ensures.few, c.self.invariant.few);
       plans = rw pushed (AreTold-more c.self.inside.plans c.note.new.plans line c.in_ok-note.ensures before c.self.invariant.plans);

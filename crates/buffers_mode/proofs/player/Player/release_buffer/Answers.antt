@@ -8,7 +8,8 @@ pub returns : goal.returns
 returns c =
     OnOk-both c.tell_released.result c.tell_released.ensures.text c.tell_released.ensures.after
     (λ text after.
-    released_by-shown c.self.inside.buffers c.self.inside.deferred c.self.inside.text.items c.tell_released.new.into.items c.args.b c.tell_released.new.buf
+    released_by-shown c.self.inside.buffers c.self.inside.deferred c.self.inside.text.items c.tell_released.new.into.items c.args.b
+    c.tell_released.new.buf
     (text ∙ ap (λ (buf : Evbuffered). c.self.inside.text.items ++ released_lines buf.released) c.at.ensures.buffer)
     (after ∙ ap (λ (buf : Evbuffered). without_released buf) c.at.ensures.buffer)
     ∙ ap (released_by c.args.b) c.self.view_is)

@@ -9,7 +9,8 @@ pub returns : goal.returns
 returns c =
     OnOk-both c.tell_reports.result c.tell_reports.ensures.text c.tell_reports.ensures.after
     (λ text after.
-    reported_by-shown c.self.inside.buffers c.self.inside.deferred c.self.inside.text.items c.tell_reports.new.into.items c.args.b c.tell_reports.new.buf
+    reported_by-shown c.self.inside.buffers c.self.inside.deferred c.self.inside.text.items c.tell_reports.new.into.items c.args.b
+    c.tell_reports.new.buf
     (text ∙ ap (λ (buf : Evbuffered). c.self.inside.text.items ++ report_lines c.args.b buf.callbacks) c.at.ensures.buffer)
     (after ∙ ap (λ (buf : Evbuffered). with_callbacks buf (all_reported buf.callbacks)) c.at.ensures.buffer)
     ∙ ap (reported_by c.args.b) c.self.view_is)

@@ -1,20 +1,15 @@
-use Rattle.std.proofs.Common.{length, ap, arith, length-append}
+use Rattle.std.proofs.Common.{length, sym, ◌∙◌}
 use Rattle.evbuf_chain.specs.Mark.{reference_marks}
 use Rattle.evbuf_chain.proofs.MarkLemmas.{length-reference_marks}
+use Rattle.evbuf_chain.proofs.UnmarkedLemmas.{same-length, grown-length}
 use Rattle.evbuf_chain.proofs.chain.Chain.push_ref.Goals as goal
 
 pub invariant_of-self-2 : goal.invariant_of-self-2
 invariant_of-self-2 c =
-    omega (
-      arith,
-      ap length c.add_reference.ensures.marks,
-      ap length c.push.ensures.items,
-      c.self.invariant,
-      ap length c.in_ok-reserve.ensures.marks,
-      ap length c.in_ok-reserve-2.ensures.items,
-      length-append c.reserve.new.self.marks (reference_marks c.args.ticket c.len-3.result),
-      length-reference_marks c.args.ticket c.len-3.result,
-      length-append c.reserve-2.new.self.items c.as_slice.result.now,
-      c.as_slice.ensures.len,
-      c.len-3.ensures,
-    )
+    grown-length c.reserve.new.marks c.add_reference.new.marks c.reserve-2.new.self.items c.push.new.self.items
+    c.as_slice.result.now (reference_marks c.args.ticket c.len-4.result) c.len-4.result
+    c.push.ensures.items (c.as_slice.ensures.len ∙ sym c.len-4.ensures)
+    (length-reference_marks c.args.ticket c.len-4.result)
+    (same-length c.self.inside.marks c.reserve.new.marks c.self.inside.bytes.items c.reserve-2.new.self.items c.len-2.result
+    c.len-2.ensures.len c.in_ok-reserve-2.ensures.items c.in_ok-reserve.ensures.marks c.self.invariant)
+    (c.add_reference.ensures.marks (length c.reserve-2.new.self.items))

@@ -1,0 +1,6 @@
+pub mod BevValue
+pub mod BevView
+pub mod BufferView
+pub mod Moves
+pub mod Refusals
+pub mod Steps

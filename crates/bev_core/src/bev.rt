@@ -1,0 +1,460 @@
+// A bufferevent: two buffers with flags, marks, timeouts and references. What moves bytes is left to the crates above.
+//
+// What a bufferevent keeps:
+// 1. After a free it has no byte, and each call that could change it is refused, before all else.
+// 2. A refused call has changed nothing.
+// 3. Nobody else reaches its buffers, so the input is frozen at its end and the output at its front for all others.
+ghost use Rattle.std.specs.Prelude.{◌≡◌, ◌≤◌, ◌<◌, ◌+◌, ◌-◌, ◌^◌, ◌++◌, ◌==◌, [], length, drop, take, min, true, false, None, OnOk, OnErr, IfOk, if◌then◌else◌};
+ghost use Rattle.evbuf_chain.specs.Answers.{AnswersOr, fault_of};
+ghost use Rattle.bev_core.specs.BevValue.{new_bev, state_of, reaches_low};
+ghost use Rattle.bev_core.specs.Refusals.{live_refusal, length_refusal, write_refusal, add_refusal, incref_refusal, decref_refusal};
+ghost use Rattle.bev_core.specs.Steps.{with_enabled, with_marks, with_timeouts, touched, freed, more, less, pushed, given_up, ended_at, failed_at};
+ghost use Rattle.bev_core.specs.declared.fault.BevFault.TheVariants.{Memory};
+
+mod moves;
+
+use crate::fault::BevFault;
+use crate::own_buffer::OwnBuffer;
+use crate::state::BevState;
+use std::alloc::Global;
+use std::marker::Model;
+use token_bucket::Dir;
+
+/// The greatest mark, in bytes.
+pub const MAX_MARK: u64 = 1 << 24;
+
+/// The longest timeout, in milliseconds.
+pub const MAX_TIMEOUT_MS: u64 = 1 << 40;
+
+/// A bufferevent. Contracts see its plain values beside its input and its output, each as its bytes and how many more fit
+/// without taking memory.
+///
+/// Libevent: event2/bufferevent.h, `bufferevent`; "Bufferevents: concepts and basics".
+/// Differs: a free drops the bytes at once and keeps the values until the last reference goes; its buffers are reached by
+/// calls alone.
+#[derive(Drop)]
+pub struct Bev {
+    live: bool,
+    reading: bool,
+    writing: bool,
+    ended: bool,
+    failed: bool,
+    refs: u32,
+    read_low: u64,
+    read_high: u64,
+    write_low: u64,
+    write_high: u64,
+    read_ms: u64,
+    write_ms: u64,
+    last_read: u64,
+    last_write: u64,
+    input: OwnBuffer,
+    output: OwnBuffer,
+}
+
+impl Model for Bev {
+    ghost use Rattle.bev_core.specs.BevValue.{BevValue};
+
+    ghost Value = { BevValue };
+
+    ghost use Rattle.bev_core.specs.BevView.{bev_value};
+
+    ghost view = { bev_value };
+}
+
+impl Bev {
+    /// A live bufferevent without bytes: writing is enabled and reading is not, and there are no marks, timeouts and
+    /// references. Takes memory; constant cost.
+    ///
+    /// Libevent: event2/bufferevent.h, `bufferevent_socket_new`; "Bufferevents: concepts and basics".
+    pub fn new(alloc: Global) -> Result<Bev, BevFault>
+        ensures answer { AnswersOr Memory result None }
+        ensures bev { IfOk result (λ bev. bev ≡ new_bev) }
+    {
+        Ok(Bev {
+            live: true,
+            reading: false,
+            writing: true,
+            ended: false,
+            failed: false,
+            refs: 0,
+            read_low: 0,
+            read_high: 0,
+            write_low: 0,
+            write_high: 0,
+            read_ms: 0,
+            write_ms: 0,
+            last_read: 0,
+            last_write: 0,
+            input: OwnBuffer::new(alloc),
+            output: OwnBuffer::new(alloc),
+        })
+    }
+
+    /// Its plain values. A freed one answers too. Takes no memory; constant cost.
+    ///
+    /// Own.
+    pub fn state(&self) -> BevState
+        ensures { result ≡ state_of self.now }
+    {
+        BevState {
+            live: self.live,
+            reading: self.reading,
+            writing: self.writing,
+            ended: self.ended,
+            failed: self.failed,
+            input: self.input.len() as u64,
+            output: self.output.len() as u64,
+            read_low: self.read_low,
+            read_high: self.read_high,
+            write_low: self.write_low,
+            write_high: self.write_high,
+            read_ms: self.read_ms,
+            write_ms: self.write_ms,
+            last_read: self.last_read,
+            last_write: self.last_write,
+            refs: self.refs,
+        }
+    }
+
+    /// The allocator that it was made with. Takes no memory; constant cost.
+    ///
+    /// Own.
+    pub fn allocator(&self) -> Global {
+        self.input.allocator()
+    }
+
+    /// Whether a length calls for the callback of a direction: the input is at least as long as the read low mark, or the
+    /// output at most as long as the write low mark. Takes no memory; constant cost.
+    ///
+    /// Libevent: event2/bufferevent.h, `bufferevent_trigger`; "Bufferevents: concepts and basics".
+    pub fn reaches_low(&self, dir: Dir) -> bool
+        ensures { result ≡ reaches_low self.now dir }
+    {
+        match dir {
+            Dir::Read => self.input.len() as u64 >= self.read_low,
+            Dir::Write => self.output.len() as u64 <= self.write_low,
+        }
+    }
+
+    /// Enables a direction. Takes no memory; constant cost.
+    ///
+    /// Libevent: event2/bufferevent.h, `bufferevent_enable`; "Bufferevents: concepts and basics".
+    pub fn enable(&mut self, dir: Dir) -> Result<(), BevFault>
+        ensures answer { fault_of result ≡ live_refusal self.old }
+        ensures ok { OnOk result (self.new ≡ with_enabled self.old dir true) }
+        ensures err { OnErr result (self.new ≡ self.old) }
+    {
+        self.is_live()?;
+        self.set_enabled(dir, true);
+        Ok(())
+    }
+
+    /// Disables a direction. Takes no memory; constant cost.
+    ///
+    /// Libevent: event2/bufferevent.h, `bufferevent_disable`; "Bufferevents: concepts and basics".
+    pub fn disable(&mut self, dir: Dir) -> Result<(), BevFault>
+        ensures answer { fault_of result ≡ live_refusal self.old }
+        ensures ok { OnOk result (self.new ≡ with_enabled self.old dir false) }
+        ensures err { OnErr result (self.new ≡ self.old) }
+    {
+        self.is_live()?;
+        self.set_enabled(dir, false);
+        Ok(())
+    }
+
+    /// Sets both marks of a direction, in bytes. A high mark of 0 is none. Takes no memory; constant cost.
+    ///
+    /// Libevent: event2/bufferevent.h, `bufferevent_setwatermark`; "Bufferevents: concepts and basics".
+    pub fn set_watermark(&mut self, dir: Dir, low: u64, high: u64) -> Result<(), BevFault>
+        requires low_within { low ≤ MAX_MARK }
+        requires high_within { high ≤ MAX_MARK }
+        ensures answer { fault_of result ≡ live_refusal self.old }
+        ensures ok { OnOk result (self.new ≡ with_marks self.old dir low high) }
+        ensures err { OnErr result (self.new ≡ self.old) }
+    {
+        self.is_live()?;
+        match dir {
+            Dir::Read => {
+                self.read_low = low;
+                self.read_high = high;
+            }
+            Dir::Write => {
+                self.write_low = low;
+                self.write_high = high;
+            }
+        }
+        Ok(())
+    }
+
+    /// Sets both timeouts, in milliseconds, and makes a moment the last activity of both directions. 0 is no timeout. Takes
+    /// no memory; constant cost.
+    ///
+    /// Libevent: event2/bufferevent.h, `bufferevent_set_timeouts`; "Bufferevents: concepts and basics".
+    pub fn set_timeouts(&mut self, read_ms: u64, write_ms: u64, now: u64) -> Result<(), BevFault>
+        requires read_within { read_ms ≤ MAX_TIMEOUT_MS }
+        requires write_within { write_ms ≤ MAX_TIMEOUT_MS }
+        ensures answer { fault_of result ≡ live_refusal self.old }
+        ensures ok { OnOk result (self.new ≡ with_timeouts self.old read_ms write_ms now) }
+        ensures err { OnErr result (self.new ≡ self.old) }
+    {
+        self.is_live()?;
+        self.read_ms = read_ms;
+        self.write_ms = write_ms;
+        self.last_read = now;
+        self.last_write = now;
+        Ok(())
+    }
+
+    /// Makes a moment the last activity of a direction. Takes no memory; constant cost.
+    ///
+    /// Own.
+    pub fn touch(&mut self, dir: Dir, now: u64) -> Result<(), BevFault>
+        ensures answer { fault_of result ≡ live_refusal self.old }
+        ensures ok { OnOk result (self.new ≡ touched self.old dir now) }
+        ensures err { OnErr result (self.new ≡ self.old) }
+    {
+        self.is_live()?;
+        self.moved_at(dir, now);
+        Ok(())
+    }
+
+    /// One reference more. TooManyRefs comes where there are 2^32 - 1. Takes no memory; constant cost.
+    ///
+    /// Libevent: event2/bufferevent.h, `bufferevent_incref`; "Bufferevents: advanced topics".
+    pub fn incref(&mut self) -> Result<(), BevFault>
+        ensures answer { fault_of result ≡ incref_refusal self.old }
+        ensures ok { OnOk result (self.new ≡ record self.old { refs = self.old.refs + 1 }) }
+        ensures err { OnErr result (self.new ≡ self.old) }
+    {
+        self.is_live()?;
+        self.refs = self.refs.checked_add(1).ok_or(BevFault::TooManyRefs)?;
+        Ok(())
+    }
+
+    /// One reference less, also of a freed one. NotLive comes for a freed one that has none. Takes no memory; constant cost.
+    ///
+    /// Libevent: event2/bufferevent.h, `bufferevent_decref`; "Bufferevents: advanced topics".
+    /// Differs: the last reference frees nothing.
+    pub fn decref(&mut self) -> Result<(), BevFault>
+        requires { self.old.live ≡ true → 0 < self.old.refs }
+        ensures answer { fault_of result ≡ decref_refusal self.old }
+        ensures ok { OnOk result (self.new ≡ record self.old { refs = self.old.refs - 1 }) }
+        ensures err { OnErr result (self.new ≡ self.old) }
+    {
+        self.refs = self.refs.checked_sub(1).ok_or(BevFault::NotLive)?;
+        Ok(())
+    }
+
+    /// Frees it: its bytes are dropped at once, with their room, and its other values stay. Takes no memory; constant cost.
+    ///
+    /// Libevent: event2/bufferevent.h, `bufferevent_free`; "Bufferevents: concepts and basics".
+    pub fn free(&mut self) -> Result<(), BevFault>
+        ensures answer { fault_of result ≡ live_refusal self.old }
+        ensures ok { OnOk result (self.new ≡ freed self.old) }
+        ensures err { OnErr result (self.new ≡ self.old) }
+    {
+        self.is_live()?;
+        self.live = false;
+        self.input.empty();
+        self.output.empty();
+        Ok(())
+    }
+
+    /// Copies the first bytes of the input, as many as are there and fit, and answers how many. Takes no memory; linear in
+    /// what it copies.
+    ///
+    /// Own.
+    pub fn peek(&self, into: &mut [u8]) -> usize
+        ensures count { result ≡ min (length into.old) (length self.now.input.bytes) }
+        ensures copied { into.new ≡ take result self.now.input.bytes ++ drop result into.old }
+    {
+        self.input.copy_out(into)
+    }
+
+    /// Copies the first bytes of the output, as `peek` those of the input.
+    ///
+    /// Own.
+    pub fn peek_output(&self, into: &mut [u8]) -> usize
+        ensures count { result ≡ min (length into.old) (length self.now.output.bytes) }
+        ensures copied { into.new ≡ take result self.now.output.bytes ++ drop result into.old }
+    {
+        self.output.copy_out(into)
+    }
+
+    /// The first n bytes of the input, or all where there are fewer, in one piece. Takes no memory; constant cost.
+    ///
+    /// Own.
+    pub fn front_input(&self, n: usize) -> &[u8]
+        ensures { result.now ≡ take n self.now.input.bytes }
+    {
+        self.input.front(n)
+    }
+
+    /// The first n bytes of the output, as `front_input`.
+    ///
+    /// Own.
+    pub fn front_output(&self, n: usize) -> &[u8]
+        ensures { result.now ≡ take n self.now.output.bytes }
+    {
+        self.output.front(n)
+    }
+
+    /// Copies bytes to the end of the output. Spent comes where the length would not fit a usize. Takes memory; linear in
+    /// the length.
+    ///
+    /// Libevent: event2/bufferevent.h, `bufferevent_write`; "Bufferevents: concepts and basics".
+    pub fn write(&mut self, bytes: &[u8]) -> Result<(), BevFault>
+        ensures answer { AnswersOr Memory result (write_refusal self.old (length bytes.now)) }
+        ensures ok { OnOk result (self.new ≡ record self.old { output = more self.old.output bytes.now self.new.output.spare }) }
+        ensures err { OnErr result (self.new ≡ self.old) }
+    {
+        self.is_live()?;
+        self.output.add(bytes)
+    }
+
+    /// Copies bytes to the end of the input, as `write` to that of the output.
+    ///
+    /// Own.
+    pub fn add_input(&mut self, bytes: &[u8]) -> Result<(), BevFault>
+        ensures answer { AnswersOr Memory result (add_refusal self.old (length bytes.now)) }
+        ensures ok { OnOk result (self.new ≡ record self.old { input = more self.old.input bytes.now self.new.input.spare }) }
+        ensures err { OnErr result (self.new ≡ self.old) }
+    {
+        self.is_live()?;
+        self.input.add(bytes)
+    }
+
+    /// Moves out the first bytes of the input, as many as are there and fit, and answers how many. Takes no memory; linear in
+    /// what it moves.
+    ///
+    /// Libevent: event2/bufferevent.h, `bufferevent_read`; "Bufferevents: concepts and basics".
+    pub fn take(&mut self, into: &mut [u8]) -> Result<usize, BevFault>
+        ensures answer { fault_of result ≡ live_refusal self.old }
+        ensures count { IfOk result (λ n. n ≡ min (length into.old) (length self.old.input.bytes)) }
+        ensures copied { IfOk result (λ n. into.new ≡ take n self.old.input.bytes ++ drop n into.old) }
+        ensures ok { IfOk result (λ n. self.new ≡ record self.old { input = less self.old.input n self.new.input.spare }) }
+        ensures err { OnErr result (self.new ≡ self.old) }
+        ensures into_err { OnErr result (into.new ≡ into.old) }
+    {
+        self.is_live()?;
+        let n = self.input.copy_out(into);
+        self.input.drain(n);
+        Ok(n)
+    }
+
+    /// Makes room for at least n more bytes in the input. Takes memory; linear in the length and n.
+    ///
+    /// Own.
+    pub fn reserve_input(&mut self, n: usize) -> Result<(), BevFault>
+        ensures answer { AnswersOr Memory result (live_refusal self.old) }
+        ensures stays { self.new ≡ record self.old { input = record self.old.input { spare = self.new.input.spare } } }
+        ensures room { OnOk result (n ≤ self.new.input.spare) }
+        ensures kept { self.old.input.spare ≤ self.new.input.spare }
+        ensures err { OnErr result (self.new ≡ self.old) }
+    {
+        self.is_live()?;
+        self.input.reserve(n)?;
+        Ok(())
+    }
+
+    /// Copies bytes to the end of the input, in room that was made before. Takes no memory; linear in the length.
+    ///
+    /// Own.
+    pub fn push_input(&mut self, bytes: &[u8])
+        requires { length bytes.now ≤ self.old.input.spare }
+        ensures { self.new ≡ pushed self.old bytes.now }
+    {
+        self.input.push(bytes);
+    }
+
+    /// Takes off the first n bytes of the input, or all where there are fewer. Takes no memory.
+    ///
+    /// Own.
+    pub fn drain_input(&mut self, n: usize)
+        ensures bytes { self.new ≡ record self.old { input = less self.old.input n self.new.input.spare } }
+        ensures spare { self.old.input.spare ≤ self.new.input.spare }
+    {
+        self.input.drain(n);
+    }
+
+    /// Takes off the first n bytes of the output, as `drain_input`.
+    ///
+    /// Own.
+    pub fn drain_output(&mut self, n: usize)
+        ensures bytes { self.new ≡ record self.old { output = less self.old.output n self.new.output.spare } }
+        ensures spare { self.old.output.spare ≤ self.new.output.spare }
+    {
+        self.output.drain(n);
+    }
+
+    /// Frees the room of each buffer without a byte. Takes no memory; constant cost.
+    ///
+    /// Own.
+    pub fn give_up(&mut self)
+        ensures { self.new ≡ given_up self.old }
+    {
+        self.input.give_up();
+        self.output.give_up();
+    }
+
+    /// Disables a direction in which a timeout expired, whether it is live or not. Takes no memory; constant cost.
+    ///
+    /// Own.
+    pub fn expire(&mut self, dir: Dir)
+        ensures { self.new ≡ with_enabled self.old dir false }
+    {
+        self.set_enabled(dir, false);
+    }
+
+    /// Disables a direction in which end of file was met, and sets the mark `ended`, as `expire`.
+    ///
+    /// Own.
+    pub fn end(&mut self, dir: Dir)
+        ensures { self.new ≡ ended_at self.old dir }
+    {
+        self.set_enabled(dir, false);
+        self.ended = true;
+    }
+
+    /// Disables a direction in which an error was met, and sets the mark `failed`, as `expire`.
+    ///
+    /// Own.
+    pub fn fail(&mut self, dir: Dir)
+        ensures { self.new ≡ failed_at self.old dir }
+    {
+        self.set_enabled(dir, false);
+        self.failed = true;
+    }
+
+    /// Makes the moment at which bytes were moved the last activity of a direction, as `expire`.
+    ///
+    /// Own.
+    pub fn moved_at(&mut self, dir: Dir, now: u64)
+        ensures { self.new ≡ touched self.old dir now }
+    {
+        match dir {
+            Dir::Read => self.last_read = now,
+            Dir::Write => self.last_write = now,
+        }
+    }
+
+    fn set_enabled(&mut self, dir: Dir, on: bool)
+        ensures { self.new ≡ with_enabled self.old dir on }
+    {
+        match dir {
+            Dir::Read => self.reading = on,
+            Dir::Write => self.writing = on,
+        }
+    }
+
+    // It was not freed.
+    fn is_live(&self) -> Result<(), BevFault>
+        ensures { fault_of result ≡ live_refusal self.now }
+    {
+        if !self.live {
+            return Err(BevFault::NotLive);
+        }
+        Ok(())
+    }
+}

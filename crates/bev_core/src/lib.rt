@@ -1,0 +1,17 @@
+//! Bufferevents: two buffers with flags, marks, timeouts and references. No reading, writing, filtering or pairing.
+#![tactic(auto)]
+
+mod bev;
+mod event;
+mod fault;
+mod own_buffer;
+mod state;
+
+pub use bev::{Bev, MAX_MARK, MAX_TIMEOUT_MS};
+pub use event::{EOF, ERROR, READING, TIMEOUT, WRITING};
+pub use fault::BevFault;
+pub use state::BevState;
+pub use token_bucket::Dir;
+
+#[cfg(test)]
+mod tests;

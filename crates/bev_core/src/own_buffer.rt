@@ -1,0 +1,160 @@
+// A buffer that nobody but its bufferevent reaches. It is frozen at no end, so that no call is refused for that, and it has
+// no reference and no size callback, so that all of it is its bytes.
+ghost use Rattle.std.specs.Prelude.{◌≡◌, ◌≤◌, ◌<◌, ◌+◌, ◌-◌, ◌^◌, ◌++◌, ◌==◌, [], length, drop, take, min, None, OnOk, OnErr, IfOk, if◌then◌else◌};
+ghost use Rattle.evbuf_chain.specs.Answers.{AnswersOr, fault_of};
+ghost use Rattle.bev_core.specs.BevValue.{Held, nothing};
+ghost use Rattle.bev_core.specs.Refusals.{length_refusal};
+ghost use Rattle.bev_core.specs.Steps.{more, less, without_room};
+ghost use Rattle.bev_core.specs.declared.fault.BevFault.TheVariants.{Memory};
+
+use crate::fault::BevFault;
+use ev_types::NoMemory;
+use evbuf::Evbuffer;
+use std::alloc::Global;
+use std::marker::Model;
+use std::mem;
+
+/// Bytes in order, and how many more fit without taking memory.
+///
+/// Own.
+#[derive(Drop)]
+pub(crate) struct OwnBuffer {
+    buf: Evbuffer,
+}
+
+impl Model for OwnBuffer {
+    ghost use Rattle.bev_core.specs.BevValue.{Held};
+    ghost use Rattle.bev_core.specs.BufferView.{IsOwn};
+
+    ghost Value = { Held };
+
+    ghost view = { λ own. record { bytes = own.buf.bytes; spare = own.buf.spare } };
+
+    ghost invariant = { λ own. IsOwn own.buf };
+}
+
+impl OwnBuffer {
+    pub(crate) fn new(alloc: Global) -> OwnBuffer
+        ensures { result ≡ nothing }
+    {
+        OwnBuffer {
+            buf: Evbuffer::new(alloc),
+        }
+    }
+
+    pub(crate) fn len(&self) -> usize
+        ensures len { result ≡ length self.now.bytes }
+        ensures fits { length self.now.bytes + self.now.spare < 2 ^ 64 }
+    {
+        self.buf.len()
+    }
+
+    pub(crate) fn allocator(&self) -> Global {
+        self.buf.allocator()
+    }
+
+    /// The first n bytes, or all where there are fewer, in one piece.
+    pub(crate) fn front(&self, n: usize) -> &[u8]
+        ensures { result.now ≡ take n self.now.bytes }
+    {
+        self.buf.front(n)
+    }
+
+    pub(crate) fn copy_out(&self, into: &mut [u8]) -> usize
+        ensures count { result ≡ min (length into.old) (length self.now.bytes) }
+        ensures copied { into.new ≡ take result self.now.bytes ++ drop result into.old }
+    {
+        self.buf.copy_out(0, into)
+    }
+
+    /// Makes room for at least n more.
+    pub(crate) fn reserve(&mut self, n: usize) -> Result<(), NoMemory>
+        ensures bytes { self.new.bytes ≡ self.old.bytes }
+        ensures room { OnOk result (n ≤ self.new.spare) }
+        ensures kept { self.old.spare ≤ self.new.spare }
+        ensures err { OnErr result (self.new ≡ self.old) }
+    {
+        match self.buf.reserve(n) {
+            Ok(()) => Ok(()),
+            Err(_) => Err(NoMemory),
+        }
+    }
+
+    /// Appends in room that was made before. Takes no memory.
+    pub(crate) fn push(&mut self, bytes: &[u8])
+        requires { length bytes.now ≤ self.old.spare }
+        ensures { self.new ≡ more self.old bytes.now (self.old.spare - length bytes.now) }
+    {
+        let _len = self.buf.len();
+        self.buf.push_reserved(bytes).unwrap();
+    }
+
+    /// Takes off the first n, or all where there are fewer. Takes no memory.
+    pub(crate) fn drain(&mut self, n: usize)
+        ensures bytes { self.new.bytes ≡ drop n self.old.bytes }
+        ensures spare { self.old.spare ≤ self.new.spare }
+    {
+        let _len = self.buf.len();
+        self.buf.drain(n).unwrap();
+    }
+
+    /// Frees the room where there is no byte. Takes no memory.
+    pub(crate) fn give_up(&mut self)
+        ensures { self.new ≡ without_room self.old }
+    {
+        self.buf.give_up();
+    }
+
+    /// Drops the bytes, and frees their room. Takes no memory.
+    pub(crate) fn empty(&mut self)
+        ensures { self.new ≡ nothing }
+    {
+        self.buf = Evbuffer::new(self.buf.allocator());
+    }
+
+    /// Appends, in room that it makes.
+    pub(crate) fn add(&mut self, bytes: &[u8]) -> Result<(), BevFault>
+        ensures answer { AnswersOr Memory result (length_refusal self.old (length bytes.now)) }
+        ensures ok { OnOk result (self.new ≡ more self.old bytes.now self.new.spare) }
+        ensures err { OnErr result (self.new ≡ self.old) }
+    {
+        self.fits(bytes.len())?;
+        self.reserve(bytes.len())?;
+        self.push(bytes);
+        Ok(())
+    }
+
+    /// Moves the first n bytes, or all where there are fewer, to the end of another, and answers how many. All bytes go into
+    /// an empty one by exchange, which takes no memory.
+    pub(crate) fn move_front(&mut self, n: usize, to: &mut OwnBuffer) -> Result<usize, BevFault>
+        ensures answer { AnswersOr Memory result (length_refusal to.old (min n (length self.old.bytes))) }
+        ensures count { IfOk result (λ moved. moved ≡ min n (length self.old.bytes)) }
+        ensures ok { OnOk result (self.new ≡ less self.old n self.new.spare) }
+        ensures to_ok { OnOk result (to.new ≡ more to.old (take n self.old.bytes) to.new.spare) }
+        ensures err { OnErr result (self.new ≡ self.old) }
+        ensures to_err { OnErr result (to.new ≡ to.old) }
+        ensures exchanged { length self.old.bytes ≤ n → to.old.bytes ≡ [] → fault_of result ≡ None }
+    {
+        if self.len() <= n && to.len() == 0 {
+            let moved = self.len();
+            mem::swap(&mut self.buf, &mut to.buf);
+            return Ok(moved);
+        }
+        let n = n.min(self.len());
+        to.fits(n)?;
+        to.reserve(n)?;
+        to.push(self.front(n));
+        self.drain(n);
+        Ok(n)
+    }
+
+    // Whether so many more bytes leave a length that fits a usize.
+    fn fits(&self, n: usize) -> Result<(), BevFault>
+        ensures { fault_of result ≡ length_refusal self.now n }
+    {
+        if n > usize::MAX - self.len() {
+            return Err(BevFault::Spent);
+        }
+        Ok(())
+    }
+}

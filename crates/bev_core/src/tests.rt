@@ -1,0 +1,114 @@
+// That each call answers with ample memory, and one worked life. Helpers without clauses keep what a test has to know small.
+use super::*;
+use std::alloc::Global;
+use std::test::Fail;
+
+fn with_output(alloc: Global, bytes: &[u8]) -> Result<Bev, BevFault> {
+    let mut bev = Bev::new(alloc)?;
+    bev.write(bytes)?;
+    Ok(bev)
+}
+
+fn enable_reading(bev: &mut Bev) -> Result<(), BevFault> {
+    bev.enable(Dir::Read)
+}
+
+fn disable_writing(bev: &mut Bev) -> Result<(), BevFault> {
+    bev.disable(Dir::Write)
+}
+
+fn set_marks(bev: &mut Bev) -> Result<(), BevFault> {
+    bev.set_watermark(Dir::Read, 2, 5)
+}
+
+fn set_timeouts(bev: &mut Bev) -> Result<(), BevFault> {
+    bev.set_timeouts(100, 200, 7)
+}
+
+fn touch(bev: &mut Bev) -> Result<(), BevFault> {
+    bev.touch(Dir::Write, 9)
+}
+
+fn reserve(bev: &mut Bev) -> Result<(), BevFault> {
+    bev.reserve_input(4)
+}
+
+fn give_back(bev: &mut Bev) -> Result<(), BevFault> {
+    if bev.state().refs == 0 {
+        return Err(BevFault::TooManyRefs);
+    }
+    bev.decref()
+}
+
+fn incref(bev: &mut Bev) -> Result<(), BevFault> {
+    bev.incref()
+}
+
+fn give_output(from: &mut Bev, to: &mut Bev, n: usize) -> Result<usize, BevFault> {
+    from.give_output(to, n)
+}
+
+fn give_input(from: &mut Bev, to: &mut Bev, n: usize) -> Result<usize, BevFault> {
+    from.give_input(to, n)
+}
+
+fn add_input(bev: &mut Bev) -> Result<(), BevFault> {
+    bev.add_input(b"xyz")
+}
+
+fn pass_output(from: &mut Bev, to: &mut Bev) -> Result<usize, BevFault> {
+    from.pass_output(to, 1)
+}
+
+fn pass_input(from: &mut Bev, to: &mut Bev) -> Result<usize, BevFault> {
+    from.pass_input(to, 2)
+}
+
+fn state(bev: &Bev) -> BevState {
+    bev.state()
+}
+
+fn input(bev: &Bev) -> &[u8] {
+    bev.front_input(9)
+}
+
+fn output(bev: &Bev) -> &[u8] {
+    bev.front_output(9)
+}
+
+fn take(bev: &mut Bev, into: &mut [u8]) -> Result<usize, BevFault> {
+    bev.take(into)
+}
+
+fn free(bev: &mut Bev) -> Result<(), BevFault> {
+    bev.free()
+}
+
+#[test]
+fn each_setting_is_kept(rt: HostRuntime) -> Result<(), Fail> {
+    let mut bev = with_output(rt.alloc(), b"ab")?;
+    enable_reading(&mut bev)?;
+    disable_writing(&mut bev)?;
+    set_marks(&mut bev)?;
+    set_timeouts(&mut bev)?;
+    touch(&mut bev)?;
+    reserve(&mut bev)?;
+    let state = state(&bev);
+    assert_eq!(rt; (state.reading, state.writing), (true, false));
+    assert_eq!(rt; (state.read_low, state.read_high), (2, 5));
+    assert_eq!(rt; (state.read_ms, state.write_ms), (100, 200));
+    assert_eq!(rt; (state.last_read, state.last_write), (7, 9));
+    Ok(())
+}
+
+#[test]
+fn a_free_drops_the_bytes_and_keeps_the_references(rt: HostRuntime) -> Result<(), Fail> {
+    let mut bev = with_output(rt.alloc(), b"ab")?;
+    incref(&mut bev)?;
+    free(&mut bev)?;
+    assert_eq!(rt; state(&bev).output, 0);
+    assert_eq!(rt; incref(&mut bev), Err(BevFault::NotLive));
+    give_back(&mut bev)?;
+    assert_eq!(rt; state(&bev).refs, 0);
+    Ok(())
+}

@@ -1,0 +1,57 @@
+-- Bytes that go through a filter from a buffer of one bufferevent to the buffer of the same direction of another.
+use Rattle.std.specs.Prelude.{◌≡◌, ℕ, Bool, true, false, Option, Some, Result, Ok, Err, length}
+use Rattle.token_bucket.specs.declared.limit.Dir.{Dir}
+use Rattle.token_bucket.specs.declared.limit.Dir.TheVariants.{Read, Write}
+use Rattle.ev_types.specs.declared.filter.Mode.{Mode}
+use Rattle.relay_model.specs.Conserved.{Running}
+use Rattle.relay_model.specs.FilterStep.{Stepped, stepped}
+use Rattle.stream_filters.specs.declared.stream_filter.Step.{Step}
+use Rattle.stream_filters.specs.StepAnswers.{is_last, WentOn}
+use Rattle.bev_core.specs.BevValue.{Held, BevValue}
+use Rattle.bev_core.specs.Steps.{more, less}
+use Rattle.bev_filter.specs.declared.fault.PassFault.{PassFault}
+use Rattle.bev_filter.specs.declared.fault.PassFault.TheVariants.{Memory, Filter, Spent}
+
+-- the buffer of a direction: what is read passes inputs, what is written passes outputs
+abbrev pub held : BevValue → Dir → Held
+held bev Read = bev.input
+held bev Write = bev.output
+
+-- the buffer of a direction is another, and all else as it was
+abbrev pub with_held : BevValue → Dir → Held → BevValue
+with_held bev Read buf = record bev { input = buf }
+with_held bev Write buf = record bev { output = buf }
+
+-- the bufferevent that bytes leave, the one to which they come, and the filter
+pub record Passage : Type 0 where
+  pub from : BevValue
+  pub to : BevValue
+  pub filter : Running
+
+-- the filter's step over all bytes of the source, with the target's length under the limit
+abbrev pub passing : Dir → Passage → ℕ → Mode → Stepped
+passing dir p limit mode = stepped p.filter (is_last mode) limit (length (held p.to dir).bytes) (held p.from dir).bytes
+
+-- The step was made: the bytes that it used have left the source, and what it made of them stands at the end of the target.
+-- Nothing else changed but what is spare in the two.
+pub record Passed (dir : Dir) (s : Stepped) (before after : Passage) : Type 0 where
+  pub gone : after.from ≡ with_held before.from dir (less (held before.from dir) s.used (held after.from dir).spare)
+  pub come : after.to ≡ with_held before.to dir (more (held before.to dir) s.made (held after.to dir).spare)
+  pub filter : after.filter ≡ s.after
+
+-- Ok tells how many bytes were used and whether the filter is finished, where it did not stop. Filter tells the place at which
+-- it stopped. Want of memory changed nothing, and neither did Spent.
+abbrev pub Passes : Dir → ℕ → Mode → Result Step PassFault → Passage → Passage → Type 0
+Passes dir limit mode (Ok step) before after =
+    WentOn step (passing dir before limit mode) × Passed dir (passing dir before limit mode) before after
+Passes dir limit mode (Err (Filter place)) before after =
+    ((passing dir before limit mode).after.stopped ≡ Some place) × Passed dir (passing dir before limit mode) before after
+Passes dir limit mode (Err Memory) before after = after ≡ before
+Passes dir limit mode (Err Spent) before after = after ≡ before
+
+-- the answer is Spent
+abbrev pub says_spent : Result Step PassFault → Bool
+says_spent (Ok step) = false
+says_spent (Err Memory) = false
+says_spent (Err (Filter place)) = false
+says_spent (Err Spent) = true

@@ -1,0 +1,15 @@
+//! A filter between two bufferevents: bytes go through it from a buffer of the one to the buffer of the same direction of the
+//! other. When they go, and who hears of it, is left to the program.
+#![tactic(auto)]
+
+mod buffers;
+mod fault;
+mod passing;
+
+pub use bev_core::Bev;
+pub use fault::PassFault;
+pub use passing::{process_input, process_output};
+pub use stream_filters::{AnyFilter, FilterKind, Mode, Step};
+
+#[cfg(test)]
+mod tests;

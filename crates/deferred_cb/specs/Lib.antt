@@ -1,0 +1,3 @@
+pub mod DueCalls
+pub mod DueValue
+pub mod DueView

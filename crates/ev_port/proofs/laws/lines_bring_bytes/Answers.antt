@@ -1,5 +1,0 @@
-use Rattle.ev_port.proofs.LawLemmas.{lines_bring}
-use Rattle.ev_port.proofs.laws.lines_bring_bytes.Goals as goal
-
-pub returns : goal.returns
-returns c = λ lines l e s found. lines_bring lines l e s found

@@ -1,0 +1,13 @@
+use Rattle.std.proofs.Common.{[], ◌∷◌, ◌++◌, codes, refl}
+use Rattle.std.specs.Fmt.{decimal}
+use Rattle.ev_types.specs.declared.status.Status.TheVariants.{BadScript}
+use Rattle.evplay.specs.Status.{complaint}
+use Rattle.evplay.proofs.ComplaintLemmas.{ok-join}
+use Rattle.evplay.proofs.complaint.complain_of_line.Goals as goal
+
+pub returns-clause-whole : goal.returns-clause-whole
+returns-clause-whole g c =
+    let taken = g.E.Sink.taken in
+    ok-join c.write_text.result (taken c.args.errors.now) (taken c.write_number.new.errors) (taken c.write_text.new.sink)
+    (codes "bad script: line " ++ decimal c.args.line) (10 ∷ []) (complaint (BadScript c.args.line))
+    c.in_ok-write_number.ensures.whole refl c.write_text.ensures.whole

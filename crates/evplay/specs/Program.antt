@@ -1,0 +1,10 @@
+-- What the program says of how it ended.
+use Rattle.std.specs.Prelude.{ℕ, List, ◌⊎◌, Option}
+use Rattle.ev_types.specs.declared.status.Status.{Status}
+use Rattle.stream_words.specs.Faults.{Rose}
+use Rattle.stream_words.specs.Streams.{TookOn}
+use Rattle.evplay.specs.Status.{complaint}
+
+-- the line of this status was written whole, unless the sink failed
+abbrev pub Complains : Status → Option (List ℕ) → Option (List ℕ) → ℕ → ℕ → Type 0
+Complains ended told now_told faults now_faults = TookOn told now_told (complaint ended) ⊎ Rose faults now_faults

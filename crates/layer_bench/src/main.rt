@@ -1,0 +1,53 @@
+//! A fixed amount of work on one layer, by one word, for `bench/layers.sh` to time: what it prints says how much was done.
+//! Without a word it does a little of each.
+#![tactic(auto)]
+
+mod due;
+mod idle;
+mod passing;
+
+use due::rounds_of_due;
+use idle::idle_bevs;
+use passing::{copied, passed};
+use std::alloc::Global;
+use std::env;
+use std::io::Print;
+use stream_filters::FilterKind;
+
+/// How many pieces are passed, owners are due and bufferevents are made without a word, and with one.
+const LITTLE: u32 = 16;
+
+const MUCH: u32 = 65_536;
+
+fn main(rt: HostRuntime) -> anyhow::Result<()> {
+    let alloc = rt.alloc();
+    let words = env::args(&rt)?.skip(1).collect::<Vec<String>>(alloc)?;
+    match words.first() {
+        Some(word) => one(&rt, alloc, word.as_str(), MUCH),
+        None => {
+            for word in [
+                "copy", "none", "to-crlf", "to-lf", "hex-out", "hex-in", "due", "idle",
+            ] {
+                one(&rt, alloc, word, LITTLE)?;
+            }
+            Ok(())
+        }
+    }
+}
+
+/// The work of a word.
+fn one(rt: &impl Print, alloc: Global, word: &str, amount: u32) -> anyhow::Result<()> {
+    let done = match word {
+        "copy" => copied(alloc, amount)?,
+        "none" => passed(alloc, FilterKind::None, amount)?,
+        "to-crlf" => passed(alloc, FilterKind::ToCrlf, amount)?,
+        "to-lf" => passed(alloc, FilterKind::ToLf, amount)?,
+        "hex-out" => passed(alloc, FilterKind::HexOut, amount)?,
+        "hex-in" => passed(alloc, FilterKind::HexIn, amount)?,
+        "due" => rounds_of_due(alloc, 10_000, amount / 16)?,
+        "idle" => idle_bevs(alloc, amount)?,
+        _ => 0,
+    };
+    println!(rt; "{word} {done}")?;
+    Ok(())
+}

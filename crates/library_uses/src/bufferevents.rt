@@ -1,0 +1,28 @@
+// Bufferevents: the room that a high mark leaves, what a read makes of it, and what the other half of a pair hands over.
+
+use bev_core::{Bev, Dir};
+use bev_pair::transfer;
+use bev_socket::{room_read, took_read};
+use ev_types::Mode;
+use std::alloc::Global;
+use std::io::Print;
+
+/// A server that takes at most 8 bytes before somebody reads them.
+pub fn back_pressure(rt: &impl Print, alloc: Global) -> anyhow::Result<()> {
+    let mut server = Bev::new(alloc)?;
+    server.enable(Dir::Read)?;
+    server.set_watermark(Dir::Read, 0, 8)?;
+    server.reserve_input(5)?;
+    println!(rt; "room for {} bytes", room_read(&server, None, None))?;
+    took_read(&mut server, b"hello", 1000);
+    println!(rt; "room for {} bytes", room_read(&server, None, None))?;
+
+    let mut client = Bev::new(alloc)?;
+    client.write(b" world")?;
+    let moved = transfer(&mut client, &mut server, Mode::Normal)?;
+    println!(rt;
+        "{moved} bytes moved, {} wait at the client",
+        client.state().output
+    )?;
+    Ok(())
+}

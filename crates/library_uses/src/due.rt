@@ -1,0 +1,23 @@
+// Due callbacks: the reasons of an owner are joined, and a batch is called one reason at a time.
+
+use deferred_cb::{Due, Why};
+use std::alloc::Global;
+use std::io::Print;
+
+/// One owner, due by its timer, by bytes that came, and again while it is called.
+pub fn joined_reasons(rt: &impl Print, alloc: Global) -> anyhow::Result<()> {
+    let mut due = Due::new(alloc);
+    due.reserve(1)?;
+    due.schedule(7, Why::Timer);
+    due.schedule(7, Why::Read);
+    due.begin();
+    for _ in 0..4u32 {
+        let Some((owner, why)) = due.take_turn() else {
+            break;
+        };
+        println!(rt; "call {owner}: {why:?}")?;
+    }
+    due.forget(7);
+    println!(rt; "nothing is due: {}", due.is_empty())?;
+    Ok(())
+}

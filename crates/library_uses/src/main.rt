@@ -1,0 +1,25 @@
+//! How each crate that is usable alone is used: an example a crate, as its README shows it, proved and run.
+#![tactic(auto)]
+
+mod base;
+mod bufferevents;
+mod deadlines;
+mod due;
+mod filters;
+mod lines;
+mod queues;
+
+use std::alloc::Global;
+use std::io::Print;
+
+fn main(rt: HostRuntime) -> anyhow::Result<()> {
+    let alloc = rt.alloc();
+    deadlines::due_jobs(&rt, alloc)?;
+    queues::most_urgent_first(&rt, alloc)?;
+    base::a_beat_and_a_signal(&rt, alloc)?;
+    lines::lines_that_came_in_pieces(&rt, alloc)?;
+    bufferevents::back_pressure(&rt, alloc)?;
+    filters::line_ends(&rt, alloc)?;
+    due::joined_reasons(&rt, alloc)?;
+    Ok(())
+}

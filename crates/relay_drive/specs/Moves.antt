@@ -1,0 +1,59 @@
+-- How a clause of the drive says what a call does: with the port, the scribe and the run that are called, it tells only what
+-- is done, from which point of the turn to which, and what a refusal leaves.
+use Rattle.std.specs.Prelude.{◌≡◌, ◌⊎◌, ⊤, Bool, false, Result, MatchResult}
+use Rattle.ev_types.specs.Trace.{Trace}
+use Rattle.ev_port.specs.declared.port.Port as port
+use Rattle.ev_port.specs.declared.scribe.Scribe as scribe
+use Rattle.relay_core.specs.declared.settings.Settings.{Settings}
+use Rattle.relay_core.specs.State.{State}
+use Rattle.relay_drive.specs.declared.fault.DriveFault.{DriveFault}
+use Rattle.relay_drive.specs.declared.fault.DriveFault.TheVariants as fault
+use Rattle.relay_drive.specs.declared.run.Run.{Run}
+use Rattle.relay_drive.specs.DriveValue.{DriveValue}
+use Rattle.relay_drive.specs.Phases.{is_open_fault}
+use Rattle.relay_drive.specs.Known.{known, Point, Question}
+use Rattle.relay_drive.specs.Advances.{Advances}
+use Rattle.relay_drive.specs.DriveStands.{DriveWent}
+
+-- what is done to the relay's state, with the entries that are put for it
+abbrev pub Change : Type 1
+Change = State → Trace → State → Type 0
+
+-- what is known of a port at a point of the turn
+abbrev pub knows : {P : Type 0} → (g : port.Ghosts P) → Point → P → Settings → Question g.Plan → Trace → Type 0
+knows g at p = known at (g.vouches p) g.none_waits (g.told p) (g.ends p)
+
+-- From one point of the turn to another the relay does this, and the listener failed or not.
+abbrev pub Moves : {P S : Type 0} → port.Ghosts P → scribe.Ghosts S → Point → Point → Bool → Change → Run × P × S → Run × P × S → Type 0
+Moves g h was is failed R old new =
+    Advances R failed old.0 new.0 (h.trace old.2) (h.trace new.2) (knows g was old.1) (knows g is new.1) (g.faults old.1) (g.faults new.1)
+
+-- A call from one point of the turn is answered at another, where this was done; or it is refused where that was done and more
+-- links may be opened, and the listener failed exactly where the refusal says so.
+abbrev pub GetsTo : {P S T : Type 0} → port.Ghosts P → scribe.Ghosts S → Result T DriveFault → Point → Point → (T → Change) →
+    (DriveFault → Change) → Run × P × S → Run × P × S → Type 0
+GetsTo g h result was is Done Cut old new =
+    MatchResult result (λ x. Moves g h was is false (Done x) old new)
+    (λ fault. Moves g h was Point.Accepting (is_open_fault fault) (Cut fault) old new)
+
+-- Once accepting has ended, a call is answered where this was done, and refused where that was.
+abbrev pub Does : {P S T : Type 0} → port.Ghosts P → scribe.Ghosts S → Result T DriveFault → (T → Change) → Change → Run × P × S →
+    Run × P × S → Type 0
+Does g h result Done Cut old new =
+    MatchResult result (λ x. Moves g h Point.Accepted Point.Accepted false (Done x) old new)
+    (λ _. Moves g h Point.Accepted Point.Accepted false Cut old new)
+
+-- a call is refused only for want of memory
+abbrev pub OnlyForMemory : {T : Type 0} → Result T DriveFault → Type 0
+OnlyForMemory result = MatchResult result (λ _. ⊤) (λ why. why ≡ fault.Memory)
+
+-- or, where it accepts links, because the listener failed
+abbrev pub OnlyForMemoryOrListener : {T : Type 0} → Result T DriveFault → Type 0
+OnlyForMemoryOrListener result = MatchResult result (λ _. ⊤) (λ why. (why ≡ fault.Memory) ⊎ (why ≡ fault.OpenFault))
+
+-- A turn comes to this point, and for a trace for which the relay stood before, `After` holds of the trace with its entries.
+abbrev pub TurnsTo : {P S : Type 0} → port.Ghosts P → scribe.Ghosts S → Point → Bool → Change → (Trace → State → Type 0) →
+    DriveValue × P × S → DriveValue × P × S → Type 0
+TurnsTo g h is failed R After old new =
+    DriveWent R After failed old.0 new.0 (h.trace old.2) (h.trace new.2) (knows g Point.Between old.1) (knows g is new.1)
+    (g.faults old.1) (g.faults new.1)

@@ -1,0 +1,31 @@
+use Rattle.std.proofs.Common.{arith, length, ◌<◌}
+use Rattle.std.proofs.Math.Seq.{take-nil}
+use Rattle.ev_types.specs.Sides.{number}
+use Rattle.script_port.specs.ScriptEnds.{after_read}
+use Rattle.script_port.proofs.ListLemmas.{changed_set, same_set, changed_past, part_past}
+use Rattle.script_port.proofs.script_links.ScriptLinks.read.Goals as goal
+
+pub returns-then-number-len-clause-after : goal.returns-then-number-len-clause-after
+returns-then-number-len-clause-after c =
+    let es = c.self.inside.ends.items in
+    let x = c.index_mut.result.now in
+    let k = c.number-number.result in
+    let within : k < length es = omega arith in
+    let states = changed_set (λ e. e.state) (λ s. after_read s (length c.args.into.now)) es k x c.read.new.self within c.index_mut.ensures.value (rw c.read.ensures.after) in
+    let to_come = same_set (λ e. e.to_come) es k x c.read.new.self c.index_mut.ensures.value (rw c.read.ensures.after) in
+    rw (← c.self.view_is, states, to_come, c.number-number.ensures)
+
+pub returns-else-number-len-clause-answer : goal.returns-else-number-len-clause-answer
+returns-else-number-len-clause-answer c =
+    let none = part_past (λ e. e.state) c.self.inside.ends.items (number c.args.end) (omega arith) in
+    rw (← c.self.view_is, none)
+
+pub returns-else-number-len-clause-bytes : goal.returns-else-number-len-clause-bytes
+returns-else-number-len-clause-bytes c =
+    let none = part_past (λ e. e.state) c.self.inside.ends.items (number c.args.end) (omega arith) in
+    rw (← c.self.view_is, none, take-nil)
+
+pub returns-else-number-len-clause-after : goal.returns-else-number-len-clause-after
+returns-else-number-len-clause-after c =
+    let states = changed_past (λ e. e.state) (λ s. after_read s (length c.args.into.now)) c.self.inside.ends.items (number c.args.end) (omega arith) in
+    rw (← c.self.view_is, states)

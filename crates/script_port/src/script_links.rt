@@ -1,0 +1,404 @@
+// The links of a script port with their ends, by the number of the side. What the script brings in is known from the
+// beginning, so that its lines take no memory.
+ghost use Rattle.std.specs.Prelude.{◌≡◌, ◌<◌, ◌==◌, ◌++◌, ◌∷◌, [], length, take, drop, map, not, IfOk, OnOk, Option, None, true, false};
+ghost use Rattle.ev_port.specs.Ends.{got_bytes};
+ghost use Rattle.script_port.specs.ScriptEnds.{after_read, after_check, after_close_write, after_close, accepted, wanted};
+ghost use Rattle.script_port.specs.ScriptLinks.{at_end, out_end, links_of, entered, can_read_at, can_write_at, is_spurred_at, marked, unmarked, after_wants, accept_answer, accept_first, read_answer_at, pending_at, WroteAt, conn_answer_at};
+ghost use Rattle.script_port.specs.FailedCalls.{failed_read, failed_write, failed_check};
+ghost use Rattle.script_port.specs.KeptLines.{kept_line};
+ghost use Rattle.script_port.specs.ScriptKept.{line_at, links_after_line, links_after_lines, with_links, with_bytes, with_all_bytes, TookWaiting};
+
+use crate::kept_line::{EndLine, KeptLine};
+use crate::script_end::ScriptEnd;
+use ev_port::{Accepted, Want};
+use ev_types::{ConnAnswer, NoMemory, ReadAnswer, Side, SideId, TurnLine, WriteAnswer};
+use std::alloc::Global;
+use std::marker::Model;
+
+/// All links of the script. Of `waits`, which tells of each whether its line says wait, `opened` links were opened so
+/// far, and `accepted` of these were accepted. `turn` is the place of the running turn, and `poll_fails` of it alone.
+///
+/// Own.
+#[derive(Drop)]
+pub(crate) struct ScriptLinks {
+    waits: Vec<bool>,
+    opened: usize,
+    accepted: usize,
+    ends: Vec<ScriptEnd>,
+    turn: Option<usize>,
+    poll_fails: bool,
+}
+
+impl Model for ScriptLinks {
+    ghost use Rattle.script_port.specs.ScriptState.{LinksKept};
+
+    ghost Value = { LinksKept };
+
+    ghost use Rattle.script_port.specs.ScriptLinksView.{links_kept, IsLinks};
+
+    ghost view = { links_kept };
+
+    ghost invariant = { IsLinks };
+}
+
+impl ScriptLinks {
+    /// No links. Takes no memory.
+    pub fn new(alloc: Global) -> ScriptLinks
+        ensures { result ≡ record { state = record { waiting = []; ends = []; turn = None; poll_fails = false }; to_open = []; to_come = [] } }
+    {
+        ScriptLinks {
+            waits: Vec::new(alloc),
+            opened: 0,
+            accepted: 0,
+            ends: Vec::new(alloc),
+            turn: None,
+            poll_fails: false,
+        }
+    }
+
+    fn add_link(&mut self, alloc: Global, wait: bool) -> Result<(), NoMemory>
+        ensures { OnOk result (self.new ≡ with_links (wait ∷ []) self.old) }
+    {
+        self.waits.push(wait)?;
+        self.ends.push(ScriptEnd::new(alloc, false))?;
+        self.ends.push(ScriptEnd::new(alloc, wait))?;
+        Ok(())
+    }
+
+    /// The links that these lines open are still to be opened, behind those from before.
+    pub fn add_links(&mut self, alloc: Global, lines: &[TurnLine]) -> Result<(), NoMemory>
+        ensures { OnOk result (self.new ≡ with_links (links_of lines.now) self.old) }
+    {
+        for line in lines {
+            if let TurnLine::NewLink { wait } = line {
+                self.add_link(alloc, *wait)?;
+            }
+        }
+        Ok(())
+    }
+
+    fn expect(&mut self, line: &TurnLine) -> Result<(), NoMemory>
+        ensures { OnOk result (self.new ≡ record self.old { to_come = with_bytes line.now self.old.to_come }) }
+    {
+        if let TurnLine::Pending(end, list) = line {
+            let number = end.number();
+            if number < self.ends.len() {
+                self.ends[number].expect(&list.bytes)?;
+            }
+        }
+        Ok(())
+    }
+
+    fn keep_line(&mut self, line: TurnLine) -> Result<KeptLine, NoMemory>
+        ensures kept { IfOk result (λ kept. kept ≡ kept_line line) }
+        ensures after { OnOk result (self.new ≡ record self.old { to_come = with_bytes line self.old.to_come }) }
+    {
+        self.expect(&line)?;
+        Ok(KeptLine::of(&line))
+    }
+
+    /// The bytes that these lines bring in are still to come, behind those from before. Each line goes as soon as its bytes
+    /// are copied, and this is what is kept of all.
+    pub fn keep_lines(
+        &mut self,
+        alloc: Global,
+        lines: Vec<TurnLine>,
+    ) -> Result<Vec<KeptLine>, NoMemory>
+        ensures kept { IfOk result (λ kept. kept.items ≡ map kept_line lines.items) }
+        ensures after { OnOk result (self.new ≡ record self.old { to_come = with_all_bytes lines.items self.old.to_come }) }
+    {
+        let mut kept = Vec::with_capacity(alloc, lines.len())?;
+        for line in lines {
+            let line = self.keep_line(line)?;
+            kept.push(line)?;
+        }
+        Ok(kept)
+    }
+
+    /// Another turn runs, or none.
+    pub fn enter(&mut self, turn: Option<usize>)
+        ensures { self.new ≡ record self.old { state = entered turn self.old.state } }
+    {
+        self.turn = turn;
+        self.poll_fails = false;
+    }
+
+    /// Lines of the running turn are applied in their order.
+    pub fn apply_all(&mut self, lines: &[KeptLine])
+        ensures { self.new ≡ links_after_lines lines.now self.old }
+    {
+        for line in lines {
+            self.apply(*line);
+        }
+    }
+
+    fn apply(&mut self, line: KeptLine)
+        ensures { self.new ≡ links_after_line line self.old }
+    {
+        match line {
+            KeptLine::NewLink => self.open_next(),
+            KeptLine::At(end, line) => self.apply_at(end, line),
+            KeptLine::PollFail => self.poll_fails = true,
+        }
+    }
+
+    fn open_next(&mut self)
+        ensures { self.new ≡ record self.old { state = record self.old.state { waiting = self.old.state.waiting ++ take 1 self.old.to_open }; to_open = drop 1 self.old.to_open } }
+    {
+        self.opened += (self.waits.len() - self.opened).min(1);
+    }
+
+    fn apply_at(&mut self, end: SideId, line: EndLine)
+        ensures { self.new ≡ line_at end line self.old }
+    {
+        let number = end.number();
+        if number < self.ends.len() {
+            let turn = self.turn;
+            self.ends[number].apply(turn, line);
+        }
+    }
+
+    pub fn read(&mut self, end: SideId, into: &mut [u8]) -> ReadAnswer
+        requires { 0 < length into.old }
+        ensures answer { result ≡ read_answer_at self.old.state end (length into.old) }
+        ensures bytes { got_bytes result into.new ≡ take (length into.old) (pending_at self.old.state end) }
+        ensures rest { drop (length (got_bytes result into.new)) into.new ≡ drop (length (got_bytes result into.new)) into.old }
+        ensures after { self.new ≡ record self.old { state = at_end end (λ s. after_read s (length into.old)) self.old.state } }
+    {
+        let number = end.number();
+        if number < self.ends.len() {
+            self.ends[number].read(into)
+        } else {
+            ReadAnswer::NotYet
+        }
+    }
+
+    pub fn write(&mut self, end: SideId, from: &[u8]) -> WriteAnswer
+        requires { 0 < length from.now }
+        ensures wrote { WroteAt self.old.state self.new.state end from.now result }
+        ensures kept { self.new ≡ record self.old { state = self.new.state } }
+    {
+        let number = end.number();
+        if number < self.ends.len() {
+            self.ends[number].write(from)
+        } else {
+            WriteAnswer::NotYet
+        }
+    }
+
+    pub fn connect_state(&mut self, end: SideId) -> ConnAnswer
+        ensures answer { result ≡ conn_answer_at self.old.state end }
+        ensures after { self.new ≡ record self.old { state = at_end end after_check self.old.state } }
+    {
+        let number = end.number();
+        if number < self.ends.len() {
+            self.ends[number].connect_state()
+        } else {
+            ConnAnswer::Pending
+        }
+    }
+
+    pub fn close_write(&mut self, end: SideId)
+        ensures { self.new ≡ record self.old { state = at_end end after_close_write self.old.state } }
+    {
+        let number = end.number();
+        if number < self.ends.len() {
+            self.ends[number].close_write();
+        }
+    }
+
+    pub fn close(&mut self, end: SideId)
+        ensures { self.new ≡ record self.old { state = at_end end after_close self.old.state } }
+    {
+        let number = end.number();
+        if number < self.ends.len() {
+            self.ends[number].close();
+        }
+    }
+
+    /// A read of the end with this room was answered with a fault that is none of this port.
+    pub fn fail_read(&mut self, end: SideId, room: usize)
+        ensures { self.new ≡ record self.old { state = at_end end (failed_read room) self.old.state } }
+    {
+        let number = end.number();
+        if number < self.ends.len() {
+            self.ends[number].fail_read(room);
+        }
+    }
+
+    /// A write to the end that was offered so many bytes was answered with a fault that is none of this port.
+    pub fn fail_write(&mut self, end: SideId, offer: usize)
+        ensures { self.new ≡ record self.old { state = at_end end (failed_write offer) self.old.state } }
+    {
+        let number = end.number();
+        if number < self.ends.len() {
+            self.ends[number].fail_write(offer);
+        }
+    }
+
+    /// A connect check of the end was answered with a fault that is none of this port.
+    pub fn fail_check(&mut self, end: SideId)
+        ensures { self.new ≡ record self.old { state = at_end end failed_check self.old.state } }
+    {
+        let number = end.number();
+        if number < self.ends.len() {
+            self.ends[number].fail_check();
+        }
+    }
+
+    fn accept_end(&mut self, end: SideId, connected: bool)
+        ensures { self.new ≡ record self.old { state = at_end end (accepted connected) self.old.state } }
+    {
+        let number = end.number();
+        if number < self.ends.len() {
+            self.ends[number].accept(connected);
+        }
+    }
+
+    fn count_want(&mut self, want: &Want)
+        ensures { self.new ≡ record self.old { state = at_end want.now.side (wanted want.now) self.old.state } }
+    {
+        let number = want.side.number();
+        if number < self.ends.len() {
+            self.ends[number].count_want(want);
+        }
+    }
+
+    /// A poll was given these wants, and left their marks.
+    pub fn count_wants(&mut self, wants: &[Want])
+        ensures { self.new ≡ record self.old { state = after_wants wants.now self.old.state } }
+    {
+        for want in wants {
+            self.count_want(want);
+        }
+    }
+
+    fn can_read(&self, end: SideId) -> bool
+        ensures { result ≡ can_read_at self.now.state end }
+    {
+        let number = end.number();
+        if number < self.ends.len() {
+            self.ends[number].can_read()
+        } else {
+            false
+        }
+    }
+
+    fn can_write(&self, end: SideId) -> bool
+        ensures { result ≡ can_write_at self.now.state end }
+    {
+        let number = end.number();
+        if number < self.ends.len() {
+            self.ends[number].can_write()
+        } else {
+            false
+        }
+    }
+
+    fn is_spurred(&self, end: SideId) -> bool
+        ensures { result ≡ is_spurred_at self.now.state end }
+    {
+        let number = end.number();
+        if number < self.ends.len() {
+            self.ends[number].is_spurred(self.turn)
+        } else {
+            false
+        }
+    }
+
+    fn mark_want(&self, want: Want) -> Want
+        ensures { result ≡ marked self.now.state want }
+    {
+        let all = self.is_spurred(want.side);
+        Want {
+            can_read: want.read && (self.can_read(want.side) || all),
+            can_write: want.write && (self.can_write(want.side) || all),
+            ..want
+        }
+    }
+
+    /// Whether the poll fails in the running turn.
+    pub fn poll_fails(&self) -> bool
+        ensures { result ≡ self.now.state.poll_fails }
+    {
+        self.poll_fails
+    }
+
+    /// Marks what is wanted and can be done, or is to be marked in this turn.
+    pub fn mark(&self, wants: &mut [Want])
+        ensures { wants.new ≡ map (λ w. marked self.now.state w) wants.old }
+    {
+        for want in wants.iter_mut() {
+            *want = self.mark_want(*want);
+        }
+    }
+
+    /// Whether a link waits to be accepted.
+    pub fn has_waiting(&self) -> bool
+        ensures { result ≡ not (length self.now.state.waiting == 0) }
+    {
+        self.accepted < self.opened
+    }
+
+    fn take_waiting(&mut self) -> Option<bool>
+        ensures { TookWaiting self.old self.new result }
+    {
+        if self.accepted == self.opened {
+            return None;
+        }
+        let wait = self.waits[self.accepted];
+        self.accepted += 1;
+        Some(wait)
+    }
+
+    /// Accepts the first link that waits, as the link with this number.
+    pub fn accept(&mut self, link: u32) -> Accepted
+        ensures answer { result ≡ accept_answer self.old.state.waiting }
+        ensures after { self.new ≡ record self.old { state = accept_first link self.old.state.waiting self.old.state } }
+    {
+        match self.take_waiting() {
+            None => Accepted::NotYet,
+            Some(wait) => {
+                let connected = !wait;
+                self.accept_end(
+                    SideId {
+                        link,
+                        side: Side::In,
+                    },
+                    true,
+                );
+                self.accept_end(out_end(link), connected);
+                Accepted::Link { connected }
+            }
+        }
+    }
+}
+
+/// The Out end of a link.
+fn out_end(link: u32) -> SideId
+    ensures { result ≡ out_end link }
+{
+    SideId {
+        link,
+        side: Side::Out,
+    }
+}
+
+/// Clears all marks.
+pub(crate) fn unmark(wants: &mut [Want])
+    ensures { wants.new ≡ map unmarked wants.old }
+{
+    for want in wants.iter_mut() {
+        *want = unmarked(*want);
+    }
+}
+
+fn unmarked(want: Want) -> Want
+    ensures { result ≡ unmarked want }
+{
+    Want {
+        can_read: false,
+        can_write: false,
+        ..want
+    }
+}

@@ -1,0 +1,19 @@
+use Rattle.std.proofs.Common.{◌≡◌, ◌/◌, ◌%◌, ◌∷◌, [], slice_index, ◌++◌, ◌∙◌, sym, take, arith, append_assoc}
+use Rattle.relay_model.specs.Filter.{hex_out, hex_digit}
+use Rattle.stream_filters.proofs.PartLemmas.{hex_out-more}
+use Rattle.stream_filters.proofs.parts.hex_out_part.Goals as goal
+
+pub loop-byte-preserved : goal.loop-byte-preserved
+loop-byte-preserved c =
+    let bytes = c.split_at.result.0.now in
+    let i = c.loop-byte.byte-index in
+    let more = hex_out-more bytes i c.loop-byte-test.true in
+    let one = slice_index bytes i in
+    let digits : (c.hex_digit.result ∷ c.hex_digit-in-loop-byte.result ∷ []) ≡ (hex_digit (one / 16) ∷ hex_digit (one % 16) ∷ []) =
+    λ j. c.hex_digit.ensures j ∷ c.hex_digit-in-loop-byte.ensures j ∷ [] in
+    let items =
+    c.put.ensures.items
+    ∙ (λ j. c.loop-byte.invariant.0 j ++ digits j)
+    ∙ append_assoc c.args.dst.now.items (hex_out (take i bytes)) (hex_digit (one / 16) ∷ hex_digit (one % 16) ∷ [])
+    ∙ (λ j. c.args.dst.now.items ++ sym more j) in
+    (items, omega arith, omega arith)

@@ -1,0 +1,29 @@
+-- The parts in which the code makes a run.
+use Rattle.std.specs.Prelude.{◌≡◌, ℕ, ◌+◌, ◌≤◌, List, ◌++◌, length, take, drop, Option}
+use Rattle.std.specs.List.{last_or}
+use Rattle.ev_types.specs.declared.filter.FilterKind.{FilterKind}
+use Rattle.relay_model.specs.FilterRun.{run, nothing_ran}
+use Rattle.relay_model.specs.FilterCuts.{joined}
+use Rattle.stream_filters.specs.declared.knowledge.Knowledge.{Knowledge}
+
+-- A run over src into a target that held `old` and now holds `new`: it begins with `used` bytes, of which it made what was
+-- appended, and goes on behind them. Where no byte was used it stops there.
+pub record AppendsPart (k : FilterKind) (limit count : ℕ) (last : Option ℕ) (src old new : List ℕ) (used : ℕ) : Type 0 where
+  pub made : List ℕ
+  pub filled : new ≡ old ++ made
+  pub within : used ≤ length src
+  pub goes : run k limit (length old) count last src
+      ≡ joined (record { used = used; made = made })
+      (run k limit (length new) (count + used) (last_or last (take used src)) (drop used src))
+  pub stops : used ≡ 0 → run k limit (length old) count last src ≡ nothing_ran
+
+-- a target that holds these bytes has room for what the run over src makes
+abbrev pub HasRoom : FilterKind → ℕ → ℕ → Option ℕ → List ℕ → List ℕ → ℕ → Type 0
+HasRoom k limit count last src held capacity = length held + length (run k limit (length held) count last src).made ≤ capacity
+
+-- the run over src was made: what a filter of this kind knows after it, what the target holds, and how many bytes were used
+pub record RanOver (k : FilterKind) (limit : ℕ) (before : Knowledge) (src old : List ℕ) (after : Knowledge) (new : List ℕ)
+    (used : ℕ) : Type 0 where
+  pub used_is : used ≡ (run k limit (length old) before.used before.last src).used
+  pub filled : new ≡ old ++ (run k limit (length old) before.used before.last src).made
+  pub known : after ≡ record before { used = before.used + length (take used src); last = last_or before.last (take used src) }

@@ -1,0 +1,54 @@
+-- How a step of a filter answers.
+use Rattle.std.specs.Prelude.{◌≡◌, ℕ, ◌+◌, ◌^◌, Bool, true, false, not, ◌&&◌, ◌||◌, nat_lt, List, ◌++◌, take, Some, None, is_some, Result, Ok, Err}
+use Rattle.ev_types.specs.declared.filter.Mode.{Mode}
+use Rattle.ev_types.specs.declared.filter.Mode.TheVariants as mode_of
+use Rattle.relay_model.specs.Conserved.{Running}
+use Rattle.relay_model.specs.FilterStep.{Stepped}
+use Rattle.stream_filters.specs.declared.stream_filter.Step.{Step}
+use Rattle.stream_filters.specs.declared.fault.FilterFault.{FilterFault}
+use Rattle.stream_filters.specs.declared.fault.FilterFault.TheVariants.{Memory, BadByte, Spent}
+
+-- does the stream end behind the source
+abbrev pub is_last : Mode → Bool
+is_last mode_of.Normal = false
+is_last mode_of.Flush = false
+is_last mode_of.Finished = true
+
+-- the step was made: the filter is the one after it, and what it made stands behind what the target held
+pub record WasMade (s : Stepped) (after : Running) (target filled : List ℕ) : Type 0 where
+  pub after_it : after ≡ s.after
+  pub filled_by_it : filled ≡ target ++ s.made
+
+-- a step that did not stop
+pub record WentOn (step : Step) (s : Stepped) : Type 0 where
+  pub used : step.used ≡ s.used
+  pub finished : step.finished ≡ s.after.finished
+  pub unstopped : s.after.stopped ≡ None
+
+-- Ok tells how many bytes were used and whether the filter is finished, where it did not stop. BadByte tells how many were
+-- used and the place at which it stopped. Want of memory changed nothing, and neither did Spent.
+abbrev pub Answers : Result Step FilterFault → Stepped → Running → Running → List ℕ → List ℕ → Type 0
+Answers (Ok step) s before after target filled = WentOn step s × WasMade s after target filled
+Answers (Err (BadByte used place)) s before after target filled =
+    (used ≡ s.used) × (s.after.stopped ≡ Some place) × WasMade s after target filled
+Answers (Err Memory) s before after target filled = (after ≡ before) × (filled ≡ target)
+Answers (Err Spent) s before after target filled = (after ≡ before) × (filled ≡ target)
+
+-- a step whose output is the bytes that it used, which its caller moves: it answers as a step does, and wants no memory
+abbrev pub AnswersInPlace : Result Step FilterFault → Stepped → Running → Running → List ℕ → Type 0
+AnswersInPlace (Ok step) s before after src = WentOn step s × (after ≡ s.after) × (s.made ≡ take s.used src)
+AnswersInPlace (Err (BadByte used place)) s before after src =
+    (used ≡ s.used) × (s.after.stopped ≡ Some place) × (after ≡ s.after) × (s.made ≡ take s.used src)
+AnswersInPlace (Err Memory) s before after src = ⊥
+AnswersInPlace (Err Spent) s before after src = after ≡ before
+
+-- it goes on, and the bytes that it used and those offered are more than a u64 counts
+abbrev pub is_spent : Running → ℕ → Bool
+is_spent x offered = not (x.finished || is_some x.stopped) && not (nat_lt (x.used + offered) (2 ^ 64))
+
+-- the answer is Spent
+abbrev pub says_spent : Result Step FilterFault → Bool
+says_spent (Ok step) = false
+says_spent (Err Memory) = false
+says_spent (Err (BadByte used place)) = false
+says_spent (Err Spent) = true

@@ -1,0 +1,22 @@
+//! Filters of a byte stream: each is a function of the whole stream, computed piece by piece up to a limit.
+//!
+//! The trait, its five filters and one that is chosen when it is made. Buffers are left to others.
+#![tactic(auto)]
+
+mod any;
+mod digits;
+mod fault;
+mod filters;
+mod knowledge;
+mod parts;
+mod step;
+mod stream_filter;
+
+pub use any::AnyFilter;
+pub use ev_types::{FilterKind, Mode};
+pub use fault::FilterFault;
+pub use filters::{HexIn, HexOut, NoFilter, ToCrlf, ToLf};
+pub use stream_filter::{Step, StreamFilter};
+
+#[cfg(test)]
+mod tests;

@@ -1,0 +1,187 @@
+// The parts in which a run is made: each uses a first piece of the source and appends what that makes. A target is below
+// its limit, and has the room.
+ghost use Rattle.std.specs.Prelude.{◌≡◌, ◌≢◌, ◌≤◌, ◌<◌, ◌+◌, ◌-◌, ◌*◌, ◌/◌, ◌++◌, [], ⊤, true, Some, length, take, drop, min, All, slice_index, unwrap_or, vec_len, vec_capacity};
+ghost use Rattle.std.specs.List.{last_or};
+ghost use Rattle.ev_types.specs.declared.filter.FilterKind.TheVariants as kind_of;
+ghost use Rattle.relay_model.specs.Filter.{hex_out, hex_value};
+ghost use Rattle.relay_model.specs.FilterRun.{adds};
+ghost use Rattle.stream_filters.specs.Knowledge.{IsDigitLast};
+ghost use Rattle.stream_filters.specs.Parts.{AppendsPart, HasRoom};
+
+use crate::digits::{digit_value, hex_digit};
+use crate::knowledge::Knowledge;
+use ev_types::FilterKind;
+use memchr::memchr;
+
+const CR: u8 = b'\r';
+
+const LF: u8 = b'\n';
+
+/// Appends bytes, in room that was made before.
+pub(crate) fn put(dst: &mut Vec<u8>, bytes: &[u8])
+    requires { vec_len dst.old + length bytes.now ≤ vec_capacity dst.old }
+    ensures items { dst.new.items ≡ dst.old.items ++ bytes.now }
+    ensures len { vec_len dst.new ≡ vec_len dst.old + length bytes.now }
+    ensures capacity { vec_capacity dst.old ≤ vec_capacity dst.new }
+{
+    dst.extend_from_slice(bytes).unwrap();
+}
+
+/// How many bytes stand before the first that is `stop`, or all.
+fn all_before(stop: u8, src: &[u8]) -> usize
+    ensures within { result ≤ length src.now }
+    ensures others { All (λ x. x ≢ stop) (take result src.now) }
+    ensures some { 0 < length src.now → slice_index src.now 0 ≢ stop → 0 < result }
+{
+    memchr(stop, src).unwrap_or(src.len())
+}
+
+/// How many bytes stand before the first that is `stop`, or all, and at most so many. It looks at no more of them.
+fn length_before(stop: u8, src: &[u8], most: usize) -> usize
+    ensures within { result ≤ length src.now }
+    ensures at_most { result ≤ most }
+    ensures others { All (λ x. x ≢ stop) (take result src.now) }
+    ensures some { 0 < length src.now → 0 < most → slice_index src.now 0 ≢ stop → 0 < result }
+{
+    all_before(stop, src.split_at(most.min(src.len())).0)
+}
+
+/// All bytes as they are, as far as the limit allows.
+fn none_part(src: &[u8], dst: &mut Vec<u8>, limit: usize) -> usize
+    requires below { vec_len dst.old < limit }
+    requires room { vec_len dst.old + min (length src.now) (limit - vec_len dst.old) ≤ vec_capacity dst.old }
+    ensures used { result ≡ min (length src.now) (limit - vec_len dst.old) }
+    ensures items { dst.new.items ≡ dst.old.items ++ take result src.now }
+    ensures capacity { vec_capacity dst.old ≤ vec_capacity dst.new }
+{
+    let used = src.len().min(limit - dst.len());
+    put(dst, src.split_at(used).0);
+    used
+}
+
+/// What to-crlf makes of an LF behind this byte.
+fn line_end(last: Option<u8>) -> &'static [u8]
+    ensures { result.now ≡ adds kind_of.ToCrlf 0 last LF }
+{
+    if last == Some(CR) { b"\n" } else { b"\r\n" }
+}
+
+/// An LF, or the bytes before one.
+fn to_crlf_part(known: &Knowledge, src: &[u8], dst: &mut Vec<u8>, limit: usize) -> usize
+    requires some { 0 < length src.now }
+    requires below { vec_len dst.old < limit }
+    requires room { HasRoom kind_of.ToCrlf limit known.now.used known.now.last src.now dst.old.items (vec_capacity dst.old) }
+    ensures part { AppendsPart kind_of.ToCrlf limit known.now.used known.now.last src.now dst.old.items dst.new.items result }
+    ensures capacity { vec_capacity dst.old ≤ vec_capacity dst.new }
+{
+    if src[0] == LF {
+        put(dst, line_end(known.last));
+        return 1;
+    }
+    let used = length_before(LF, src, limit - dst.len());
+    put(dst, src.split_at(used).0);
+    used
+}
+
+/// Gives the CR that is held and the byte behind it, which may be held in turn.
+fn put_behind_cr(byte: u8, dst: &mut Vec<u8>)
+    requires { vec_len dst.old + length (adds kind_of.ToLf 0 (Some CR) byte) ≤ vec_capacity dst.old }
+    ensures items { dst.new.items ≡ dst.old.items ++ adds kind_of.ToLf 0 (Some CR) byte }
+    ensures capacity { vec_capacity dst.old ≤ vec_capacity dst.new }
+{
+    match byte {
+        LF | CR => put(dst, &[byte]),
+        _ => put(dst, &[CR, byte]),
+    }
+}
+
+/// The byte behind a CR that is held, or a CR, or the bytes before one.
+fn to_lf_part(known: &Knowledge, src: &[u8], dst: &mut Vec<u8>, limit: usize) -> usize
+    requires some { 0 < length src.now }
+    requires below { vec_len dst.old < limit }
+    requires room { HasRoom kind_of.ToLf limit known.now.used known.now.last src.now dst.old.items (vec_capacity dst.old) }
+    ensures part { AppendsPart kind_of.ToLf limit known.now.used known.now.last src.now dst.old.items dst.new.items result }
+    ensures capacity { vec_capacity dst.old ≤ vec_capacity dst.new }
+{
+    if known.last == Some(CR) {
+        put_behind_cr(src[0], dst);
+        return 1;
+    }
+    if src[0] == CR {
+        return 1;
+    }
+    let used = length_before(CR, src, limit - dst.len());
+    put(dst, src.split_at(used).0);
+    used
+}
+
+/// Two digits for each byte, as far as the limit allows.
+fn hex_out_part(src: &[u8], dst: &mut Vec<u8>, limit: usize) -> usize
+    requires below { vec_len dst.old < limit }
+    requires room { vec_len dst.old + 2 * min (length src.now) ((limit - vec_len dst.old + 1) / 2) ≤ vec_capacity dst.old }
+    ensures used { result ≡ min (length src.now) ((limit - vec_len dst.old + 1) / 2) }
+    ensures items { dst.new.items ≡ dst.old.items ++ hex_out (take result src.now) }
+    ensures capacity { vec_capacity dst.old ≤ vec_capacity dst.new }
+{
+    let used = src.len().min((limit - dst.len()).div_ceil(2));
+    for byte in src.split_at(used).0 {
+        put(dst, &[hex_digit(byte / 16), hex_digit(byte % 16)]);
+    }
+    used
+}
+
+/// The number that the digit before the next stands for.
+fn held_value(last: Option<u8>) -> u8
+    requires { IsDigitLast kind_of.HexIn last }
+    ensures value { result ≡ hex_value (unwrap_or last 0) }
+    ensures small { result < 16 }
+{
+    let Some(byte) = last else {
+        return 0;
+    };
+    digit_value(byte).unwrap()
+}
+
+/// One digit, or nothing where the next byte is none.
+fn hex_in_part(known: &Knowledge, src: &[u8], dst: &mut Vec<u8>, limit: usize) -> usize
+    requires some { 0 < length src.now }
+    requires below { vec_len dst.old < limit }
+    requires digit { IsDigitLast kind_of.HexIn known.now.last }
+    requires room { HasRoom kind_of.HexIn limit known.now.used known.now.last src.now dst.old.items (vec_capacity dst.old) }
+    ensures part { AppendsPart kind_of.HexIn limit known.now.used known.now.last src.now dst.old.items dst.new.items result }
+    ensures digit { IsDigitLast kind_of.HexIn (last_or known.now.last (take result src.now)) }
+    ensures capacity { vec_capacity dst.old ≤ vec_capacity dst.new }
+{
+    let Some(low) = digit_value(src[0]) else {
+        return 0;
+    };
+    if known.used % 2 == 1 {
+        put(dst, &[16 * held_value(known.last) + low]);
+    }
+    1
+}
+
+/// The next part of a run. It uses nothing only where the next byte is bad.
+pub(crate) fn part(
+    kind: FilterKind,
+    known: &Knowledge,
+    src: &[u8],
+    dst: &mut Vec<u8>,
+    limit: usize,
+) -> usize
+    requires some { 0 < length src.now }
+    requires below { vec_len dst.old < limit }
+    requires digit { IsDigitLast kind known.now.last }
+    requires room { HasRoom kind limit known.now.used known.now.last src.now dst.old.items (vec_capacity dst.old) }
+    ensures part { AppendsPart kind limit known.now.used known.now.last src.now dst.old.items dst.new.items result }
+    ensures digit { IsDigitLast kind (last_or known.now.last (take result src.now)) }
+    ensures capacity { vec_capacity dst.old ≤ vec_capacity dst.new }
+{
+    match kind {
+        FilterKind::None => none_part(src, dst, limit),
+        FilterKind::ToCrlf => to_crlf_part(known, src, dst, limit),
+        FilterKind::ToLf => to_lf_part(known, src, dst, limit),
+        FilterKind::HexOut => hex_out_part(src, dst, limit),
+        FilterKind::HexIn => hex_in_part(known, src, dst, limit),
+    }
+}

@@ -1,0 +1,10 @@
+//! A scribe that writes the trace of a run as text, line by line, into one text.
+#![tactic(auto)]
+
+mod log;
+mod scribe;
+
+pub use scribe::TextScribe;
+
+#[cfg(test)]
+mod tests;
