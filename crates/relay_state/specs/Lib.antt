@@ -1,0 +1,9 @@
+pub mod State
+pub mod Passage
+pub mod Passing
+pub mod Opening
+pub mod Rooms
+pub mod Serving
+pub mod Closing
+pub mod Time
+pub mod Counting

@@ -1,0 +1,28 @@
+-- Opening a link.
+use Rattle.std.specs.Prelude.{Bool, [], ◌∷◌, ◌++◌}
+use Rattle.ev_types.specs.declared.side.Side.{Side}
+use Rattle.ev_types.specs.declared.side.Side.TheVariants.{In, Out}
+use Rattle.relay_model.specs.Settings.{Settings}
+use Rattle.relay_model.specs.Plain.{with_link}
+use Rattle.relay_model.specs.Rooms.{read_kind, write_kind}
+use Rattle.relay_model.specs.Conserved.{no_buffers}
+use Rattle.relay_model.specs.FilterStep.{begun}
+use Rattle.relay_state.specs.State.{State, Lane}
+
+-- a direction of a new link, from one side to the other
+abbrev pub new_lane : Settings → Side → Side → Lane
+new_lane g from to = record {
+  buffers = no_buffers;
+  reader = begun (read_kind g from);
+  writer = begun (write_kind g to);
+  read = 0;
+  read_made = 0;
+  write_made = 0;
+}
+
+-- The next link has its In side, which is connected, and its Out side.
+abbrev pub after_opened : State → Bool → State
+after_opened s connected = record s {
+  plain = with_link s.settings connected s.plain;
+  lanes = s.lanes ++ new_lane s.settings In Out ∷ new_lane s.settings Out In ∷ [];
+}

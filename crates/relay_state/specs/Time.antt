@@ -1,0 +1,43 @@
+-- What time brings: the timeout of the poll, and what the start of a turn does.
+use Rattle.std.specs.Prelude.{ℕ, ◌+◌, ◌-◌, not, ◌&&◌, if◌then◌else◌, List, ◌++◌, map, fold, Option, Some, option_map}
+use Rattle.std.specs.List.{flat_map}
+use Rattle.token_bucket.specs.declared.limit.Dir.{Dir}
+use Rattle.ev_types.specs.declared.side.SideId.{SideId}
+use Rattle.relay_model.specs.Plain.{side_at, change_side, all_sides}
+use Rattle.relay_model.specs.Reasons.{raise, happened, timeout_flag}
+use Rattle.relay_model.specs.Moments.{timeout_of, last_activity, is_timed, active_at, both_ways, moment_where, earliest, is_pressing, timers_taken, has_run_out, expire}
+use Rattle.relay_model.specs.Turn.{turned_to}
+use Rattle.relay_state.specs.State.{State, with_plain}
+use Rattle.relay_state.specs.Rooms.{wants}
+
+-- when a side that wants a direction with a timeout expires
+abbrev pub expiry : State → SideId → Dir → List ℕ
+expiry s e d =
+    let x = side_at s.plain e in
+    moment_where (is_timed x d && wants s e d) (last_activity x d + timeout_of x d)
+
+-- the moments for which a poll wakes up
+abbrev pub moments : State → List ℕ
+moments s = map (λ x. x.deadline) s.plain.timers ++ flat_map (λ e. flat_map (expiry s e) both_ways) (all_sides s.plain)
+
+-- A poll doesn't wait where something is pressing. Else it waits for the earliest moment, and for ever where there is none.
+abbrev pub poll_timeout : State → Option ℕ
+poll_timeout s = if is_pressing s.plain then Some 0 else option_map (λ moment. moment - s.plain.time) (earliest (moments s))
+
+-- A direction with a timeout counts as active while it isn't wanted. Where it is wanted and has not been active for as long as its
+-- timeout, it expires, and an event becomes due.
+abbrev pub timed : SideId → State → Dir → State
+timed e s d =
+    if not (is_timed (side_at s.plain e) d) then s
+    else (if not (wants s e d) then with_plain (change_side e (active_at s.plain.time d) s.plain) s
+    else (if has_run_out (side_at s.plain e) d s.plain.time
+    then with_plain (raise s.settings e (happened d timeout_flag) (change_side e (expire d) s.plain)) s else s))
+
+abbrev pub side_timed : State → SideId → State
+side_timed s e = fold (timed e) s both_ways
+
+-- A turn begins at a time: timers are taken, and then each side is looked at in number order, its reading first.
+abbrev pub begun : State → ℕ → State
+begun s ms =
+    let at_time : State = with_plain (timers_taken s.settings (turned_to ms s.plain)) s in
+    fold side_timed at_time (all_sides at_time.plain)
