@@ -67,6 +67,7 @@ has_flown_far f = nat_le spent f.used || nat_le spent f.moved || nat_le spent f.
 abbrev pub has_read_far : Lane → Bool
 has_read_far l = nat_le spent l.read || nat_le spent l.read_made || nat_le spent l.write_made
 
--- a count of some direction has come to 2^62
+-- A count of some direction has come to 2^62, or that of the turns. A turn has an entry, so that the second comes in no run before the
+-- number of entries has.
 abbrev pub is_spent : State → Bool
-is_spent s = list_any has_flown_far s.plain.flows || list_any has_read_far s.lanes
+is_spent s = nat_le spent s.plain.turn || list_any has_flown_far s.plain.flows || list_any has_read_far s.lanes
