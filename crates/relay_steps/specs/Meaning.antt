@@ -1,0 +1,50 @@
+-- What the relay's state means in the model: for which traces it stands. What keeps that so stands in the proofs.
+use Rattle.std.specs.Prelude.{◌≡◌, ◌*◌, ◌<◌, true, [], length, None, is_some}
+use Rattle.ev_types.specs.declared.side.SideId.{SideId}
+use Rattle.ev_types.specs.Sides.{peer}
+use Rattle.ev_types.specs.Trace.{Trace}
+use Rattle.relay_model.specs.Trace.{bytes_read}
+use Rattle.relay_model.specs.Settings.{Settings}
+use Rattle.relay_model.specs.Flow.{middle, outcome}
+use Rattle.relay_model.specs.Plain.{Plain, side_at, flow_at}
+use Rattle.relay_model.specs.Rooms.{read_filter, write_filter}
+use Rattle.relay_model.specs.Stages.{Stage, at}
+use Rattle.relay_model.specs.Turn.{Reaches}
+use Rattle.relay_model.specs.Answers.{TurnAnswer, LeftAt}
+use Rattle.relay_model.specs.Stands.{DirectionHolds}
+use Rattle.relay_model.specs.StepLaws.{AccountsFit}
+use Rattle.relay_state.specs.State.{State, Lane, lane_at}
+
+-- What the relay's code can't do yet: no side has a hook, a rate or a group.
+pub record IsBuilt (g : Settings) : Type 0 where
+  pub hooks : g.hooks ≡ []
+  pub in_rate : g.in_rate ≡ None
+  pub out_rate : g.out_rate ≡ None
+  pub in_group : g.in_group ≡ None
+  pub out_group : g.out_group ≡ None
+  pub groups : g.groups ≡ []
+
+-- A lane fits a trace and the state of the model that it leads to: it holds exactly the bytes that the counts leave, its filters stand
+-- where the counts say, its own counts are told, and a filter that stopped at a bad place has marked its side.
+pub record LaneFits (g : Settings) (t : Trace) (p : Plain) (e : SideId) (l : Lane) : Type 0 where
+  pub holds : DirectionHolds g t p e l.buffers (record { reader = l.reader; writer = l.writer })
+  pub read : l.read ≡ length (bytes_read e t)
+  pub read_made : l.read_made ≡ length (middle (read_filter g p e) (bytes_read e t) (flow_at p e))
+  pub write_made : l.write_made ≡ length (outcome (read_filter g p e) (write_filter g p (peer e)) (bytes_read e t) (flow_at p e))
+  pub reader_marks : is_some l.reader.stopped ≡ true → is_some (side_at p e).bad ≡ true
+  pub writer_marks : is_some l.writer.stopped ≡ true → is_some (side_at p (peer e)).bad ≡ true
+
+-- The relay stands for a trace at a stage of a turn: the trace leads to exactly its plain state there, every direction is accounted
+-- for, and every lane fits.
+pub record StandsFor (t : Trace) (x : Stage) (s : State) : Type 0 where
+  pub reached : Reaches s.settings t (at x s.plain)
+  pub accounts : AccountsFit s.settings t s.plain
+  pub many : length s.lanes ≡ 2 * s.plain.opened
+  pub each : (e : SideId) → e.link < s.plain.opened → LaneFits s.settings t s.plain e (lane_at s e)
+  pub built : IsBuilt s.settings
+
+-- It stands so at a stage at which a turn may answer so.
+pub record LeftFor (answer : TurnAnswer) (t : Trace) (s : State) : Type 0 where
+  pub stage : Stage
+  pub stands : StandsFor t stage s
+  pub left : LeftAt s.settings answer stage s.plain
