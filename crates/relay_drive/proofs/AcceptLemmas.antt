@@ -7,7 +7,7 @@ use Rattle.ev_types.specs.Trace.{Trace}
 use Rattle.relay_model.specs.Totals.{opened_by, opened_in_turn}
 use Rattle.ev_types.specs.Told.{EndTold, PortTold}
 use Rattle.ev_port.specs.Faults.{Faults}
-use Rattle.relay_core.specs.State.{State}
+use Rattle.relay_state.specs.State.{State}
 use Rattle.relay_drive.specs.declared.run.Run.{Run}
 use Rattle.relay_drive.specs.Phases.{can_open, OpensSome}
 use Rattle.relay_drive.specs.Known.{Point, known}

@@ -4,9 +4,9 @@ use Rattle.std.specs.List.{list_any}
 use Rattle.std.proofs.lemmas.Bool.{lt-leb}
 use Rattle.ev_types.specs.Trace.{Trace}
 use Rattle.ev_port.specs.Faults.{Faults}
-use Rattle.relay_core.specs.declared.settings.Settings.{Settings}
+use Rattle.relay_model.specs.Settings.{Settings}
 use Rattle.relay_core.specs.State.{State, SideValue, no_side}
-use Rattle.relay_core.specs.Counting.{has_come_far}
+use Rattle.relay_state.specs.Counting.{has_come_far}
 use Rattle.relay_drive.specs.DriveValue.{DriveValue}
 use Rattle.relay_drive.specs.Phases.{Turns}
 use Rattle.relay_drive.specs.Known.{Question}

@@ -4,8 +4,8 @@ use Rattle.ev_types.specs.declared.side.SideId.{SideId}
 use Rattle.ev_types.specs.Sides.{number, peer}
 use Rattle.relay_core.specs.declared.flags.SideFlags.{SideFlags}
 use Rattle.relay_core.specs.State.{State, Lane, SideValue, no_side, new_side, side_at, with_side, with_flags, with_lane}
-use Rattle.relay_core.specs.Passing.{held, used_now, read_filtered, is_moving, moved, turned_now, write_filtered, round, rounds}
-use Rattle.relay_core.specs.Opening.{after_opened}
+use Rattle.relay_state.specs.Passing.{held, used_now, read_filtered, is_moving, moved, turned_now, write_filtered, round, rounds}
+use Rattle.relay_state.specs.Opening.{after_opened}
 use Rattle.relay_core.specs.Serving.{got_side, took_lane}
 use Rattle.relay_core.specs.Closing.{gone, peer_gone, freed}
 use Rattle.relay_drive.specs.Bounds.{IsOrdered, SideIsWithin, StateIsWithin}

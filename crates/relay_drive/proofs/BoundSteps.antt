@@ -18,8 +18,8 @@ use Rattle.ev_port.specs.Polling.{want_events, ready_events}
 use Rattle.relay_core.specs.declared.close.Closing.{Closing}
 use Rattle.relay_core.specs.declared.close.Closing.TheVariants as closing
 use Rattle.relay_core.specs.State.{State, side_at, flags_at, lane_at}
-use Rattle.relay_core.specs.Passing.{read_mark, round_from}
-use Rattle.relay_core.specs.Rooms.{read_room, may_read, input_length, wants_read, write_room, waiting_for, offer}
+use Rattle.relay_state.specs.Passing.{read_mark, round_from}
+use Rattle.relay_state.specs.Rooms.{read_room, may_read, input_length, wants_read, write_room, waiting_for, offer}
 use Rattle.relay_core.specs.Closing.{in_side, out_side, closing_of, freed, after_closing, is_called_for}
 use Rattle.relay_drive.specs.Steps.{Nothing, Then, Each}
 use Rattle.relay_drive.specs.Calls.{Ticks, Checks, Writes, after_conn, after_read, after_write}

@@ -11,8 +11,8 @@ use Rattle.relay_model.specs.RatesKept.{is_turn}
 use Rattle.relay_model.specs.Totals.{is_opened, opened, opened_by, opened_in_turn, times, time_of_turn, timeout_by, last_timeout, polls_that_accept}
 use Rattle.relay_model.specs.Plays.{is_served}
 use Rattle.ev_types.specs.Times.{greatest_time}
-use Rattle.relay_core.specs.State.{State}
-use Rattle.relay_core.specs.Opening.{after_opened}
+use Rattle.relay_state.specs.State.{State}
+use Rattle.relay_state.specs.Opening.{after_opened}
 use Rattle.relay_drive.specs.Known.{IsInStep}
 
 -- The time of a trace

@@ -17,7 +17,7 @@ use Rattle.relay_drive.proofs.CalmLemmas.{Same}
 use Rattle.relay_drive.proofs.TiedLemmas.{step_of, close_write_says, close_says}
 use Rattle.relay_core.specs.declared.close.Closing.{Closing}
 use Rattle.relay_core.specs.declared.close.Closing.TheVariants as closing
-use Rattle.relay_core.specs.State.{State}
+use Rattle.relay_state.specs.State.{State}
 use Rattle.relay_core.specs.Closing.{in_side, out_side, link_of_step, closing_of, after_closing}
 use Rattle.relay_drive.specs.Phases.{freed_event, closing_events, told_events, told_step}
 use Rattle.relay_model.specs.Told.{has_failed}

@@ -4,7 +4,7 @@ use Rattle.std.proofs.Math.Seq.{take-suc}
 use Rattle.std.proofs.lemmas.List.{take-append-drop}
 use Rattle.ev_types.specs.Trace.{Trace}
 use Rattle.ev_port.specs.Faults.{Faults}
-use Rattle.relay_core.specs.State.{State}
+use Rattle.relay_state.specs.State.{State}
 use Rattle.relay_drive.specs.declared.run.Run.{Run}
 use Rattle.relay_drive.specs.Steps.{Nothing, Then, Each, CutAt, links_from}
 use Rattle.relay_drive.specs.Advances.{Advances}

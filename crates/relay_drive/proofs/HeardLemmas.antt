@@ -20,7 +20,7 @@ use Rattle.ev_types.specs.Told.{EndTold, PortTold}
 use Rattle.ev_port.specs.EndSteps.{EndsWent, AllWent, PortStays}
 use Rattle.ev_port.specs.Ends.{is_failed_conn, conn_events, is_failed_read, read_events, is_failed_write, write_step, write_events, took_bytes}
 use Rattle.ev_port.specs.Counting.{counted}
-use Rattle.relay_core.specs.State.{State}
+use Rattle.relay_state.specs.State.{State}
 use Rattle.relay_drive.specs.declared.run.Run.{Run}
 use Rattle.relay_drive.specs.Calls.{is_memory, after_conn, after_read, after_write}
 use Rattle.relay_model.specs.Told.{has_failed}

@@ -20,8 +20,7 @@ use Rattle.ev_types.specs.Times.{greatest_time, turn_time}
 use Rattle.ev_port.specs.Calls.{Ticked, ClockRead, AcceptedLink}
 use Rattle.ev_port.specs.Polling.{poll_events, PolledWith}
 use Rattle.ev_port.specs.Vouching.{LongerBy, NothingWaits}
-use Rattle.relay_core.specs.declared.settings.Settings.{Settings}
-use Rattle.relay_meaning.specs.Meaning.{model_settings}
+use Rattle.relay_model.specs.Settings.{Settings}
 use Rattle.relay_drive.specs.Known.{Question, Point, IsTiedSince, IsYes, TookNow, ClosedNow, known}
 use Rattle.relay_drive.proofs.CalmLemmas.{Calm, Still, calm_list, served_list, is_calm, opened-append, in_turn-append}
 use Rattle.relay_drive.proofs.TiedLemmas.{step_of, tied_of, rest_of, poll_all, poll_rest}
@@ -89,7 +88,7 @@ module _ {Plan : Type 0} (g : Settings) (v v' none_waits : Plan → Trace → Ty
   -- each end is tied on
   ends_on : (u : Trace) (began : PortTold) (ends_began : SideId → EndTold) → AllWent ends ends' (λ e. step_of e u) →
       IsTiedSince g began told ends_began ends t →
-      PortTied (model_settings g) began new (t ++ u) → IsTiedSince g began new ends_began ends' (t ++ u)
+      PortTied g began new (t ++ u) → IsTiedSince g began new ends_began ends' (t ++ u)
   ends_on u began ends_began went tied port = record {
     port = port;
     ends = λ e. end_ties_join e t u (ends_began e) (ends e) (ends' e) (tied.ends e) (tied_of e (ends e) (ends' e) u (went e));
@@ -114,7 +113,7 @@ module _ {Plan : Type 0} (g : Settings) (v v' none_waits : Plan → Trace → Ty
       let in_turn : opened_in_turn (t ++ u) ≡ opened_in_turn t = same.in_turn in
       let opens : opened (t ++ u) ≡ opened t = same.opened in
       let calm = calm_list u (served_list u served) in (
-        ends_on u began ends_began went k.0 (port_calm (model_settings g) began told new t k.0.port u calm stays),
+        ends_on u began ends_began went k.0 (port_calm g began told new t k.0.port u calm stays),
         (
           tt,
           λ some. reason_stays told.accepting new.accepting _ _ (k.0.port.accepting some) stays.accepting
@@ -142,7 +141,7 @@ module _ {Plan : Type 0} (g : Settings) (v v' none_waits : Plan → Trace → Ty
       go (Question.Vouched plan) k = longer plan k.0
       go (Question.Took plan) k = (longer plan k.0.0, always-append (none_waits plan) g.links [] t u k.0.1 (k.1, tt))
       go (Question.Tied began ends_began) k =
-          ends_on u began ends_began went k.0 (port_clocked (model_settings g) began told new t k.0.port reading ms clock last)
+          ends_on u began ends_began went k.0 (port_clocked g began told new t k.0.port reading ms clock last)
 
   -- a poll
   module _ (timeout : Option ℕ) (ws : List Want) (answer : Polled) (asks : Bool) where
@@ -159,7 +158,7 @@ module _ {Plan : Type 0} (g : Settings) (v v' none_waits : Plan → Trace → Ty
           (always-accepting (none_waits plan) g.links t P (poll_ends_nothing timeout ws answer)),
     )
     polled_on s is longer went (Question.Tied began ends_began) k =
-        ends_on P began ends_began went k (port_polled (model_settings g) began told new t k.port ws answer asks timeout s is)
+        ends_on P began ends_began went k (port_polled g began told new t k.port ws answer asks timeout s is)
 
   -- it failed, which ends the turn
   pub known_failed : (timeout : Option ℕ) (ws : List Want) (asks : Bool) → PolledWith told new asks timeout polled.Failed →
@@ -221,7 +220,7 @@ module _ {Plan : Type 0} (g : Settings) (v v' none_waits : Plan → Trace → Ty
       )
   known_linked link connected s longer went (Question.Tied began ends_began) k =
       let u : Trace = (entry.Opened link connected, []) ∷ [] in
-      (ends_on u began ends_began went k.0 (port_linked (model_settings g) began told new t k.0.port link connected s), tt)
+      (ends_on u began ends_began went k.0 (port_linked g began told new t k.0.port link connected s), tt)
 
   -- no link was accepted, which closed accepting
   none_on : PortStays (record told { accepting = None }) new → Becomes told.accepting new.accepting false → LongerBy v v' [] →
@@ -232,8 +231,8 @@ module _ {Plan : Type 0} (g : Settings) (v v' none_waits : Plan → Trace → Ty
       (longer plan t k.0, subst (AlwaysAllTaken (none_waits plan) g.links []) (sym (append-nil t)) k.1)
   none_on s closed longer went (Question.Tied began ends_began) k =
       ends_on [] began ends_began went k
-      (subst (λ z. PortTied (model_settings g) began new z) (sym (append-nil t))
-      (port_closed (model_settings g) began told new t k.port s closed))
+      (subst (λ z. PortTied g began new z) (sym (append-nil t))
+      (port_closed g began told new t k.port s closed))
 
   pub known_refused : PortStays (record told { accepting = None }) new → Becomes told.accepting new.accepting false →
       LongerBy v v' [] → AllWent ends ends' (λ e. step_of e []) →

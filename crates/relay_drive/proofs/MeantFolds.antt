@@ -3,7 +3,7 @@ use Rattle.std.proofs.Common.{◌≡◌, ℕ, List, [], ◌∷◌, ◌++◌, sym
 use Rattle.std.specs.Prelude.{⊤}
 use Rattle.ev_types.specs.Trace.{Trace}
 use Rattle.relay_model.specs.Stages.{Stage}
-use Rattle.relay_core.specs.State.{State}
+use Rattle.relay_state.specs.State.{State}
 use Rattle.relay_drive.specs.Steps.{Nothing, Each, CutAt}
 use Rattle.relay_meaning.specs.Meaning.{StandsFor}
 

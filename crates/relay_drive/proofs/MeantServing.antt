@@ -22,7 +22,7 @@ use Rattle.relay_model.specs.Answers.{TurnAnswer, MayLack}
 use Rattle.relay_core.specs.declared.close.Closing.{Closing}
 use Rattle.relay_core.specs.declared.close.Closing.TheVariants as closing
 use Rattle.relay_core.specs.State.{State, SideValue, side_at}
-use Rattle.relay_core.specs.Rooms.{read_room, write_room, offer, wants_read}
+use Rattle.relay_state.specs.Rooms.{read_room, write_room, offer, wants_read}
 use Rattle.relay_core.specs.Closing.{in_side, out_side, link_of_step, closing_of, is_called_for, after_closing}
 use Rattle.relay_drive.specs.Steps.{Nothing, Then}
 use Rattle.relay_drive.specs.Calls.{Checks, Reads, Writes, after_conn, after_read, after_write, is_memory}

@@ -10,9 +10,9 @@ use Rattle.relay_model.specs.Rooms as rooms
 use Rattle.relay_model.specs.Plain.{sides_from}
 use Rattle.relay_model.specs.Stages.{Halt, Stage}
 use Rattle.relay_model.specs.Answers.{TurnAnswer}
-use Rattle.relay_core.specs.State.{State}
-use Rattle.relay_core.specs.Closing.{in_side, out_side}
-use Rattle.relay_core.specs.Opening.{after_opened}
+use Rattle.relay_state.specs.State.{State}
+use Rattle.relay_state.specs.Closing.{in_side, out_side}
+use Rattle.relay_state.specs.Opening.{after_opened}
 use Rattle.relay_drive.specs.declared.fault.DriveFault.{DriveFault}
 use Rattle.relay_drive.specs.declared.fault.DriveFault.TheVariants as fault
 use Rattle.relay_drive.specs.Steps.{Then, Each, CutAt}

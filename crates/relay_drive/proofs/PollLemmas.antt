@@ -11,7 +11,7 @@ use Rattle.ev_port.specs.declared.port.Want.{Want}
 use Rattle.ev_port.specs.Faults.{Faults, PollFaults}
 use Rattle.ev_port.specs.Counting.{counted}
 use Rattle.ev_port.specs.Polling.{IsMarked, AllMarked, want_events, ready_events, poll_events}
-use Rattle.relay_core.specs.State.{State}
+use Rattle.relay_state.specs.State.{State}
 use Rattle.relay_drive.specs.declared.fault.DriveFault.{DriveFault}
 use Rattle.relay_drive.specs.declared.fault.DriveFault.TheVariants as fault
 use Rattle.relay_drive.specs.Steps.{Then}

@@ -10,8 +10,8 @@ use Rattle.ev_types.specs.Growth.{Grew}
 use Rattle.relay_model.specs.Told.{has_failed}
 use Rattle.ev_port.specs.Faults.{Faults}
 use Rattle.ev_port.specs.Counting.{counted}
-use Rattle.relay_core.specs.declared.settings.Settings.{Settings}
-use Rattle.relay_core.specs.State.{State}
+use Rattle.relay_model.specs.Settings.{Settings}
+use Rattle.relay_state.specs.State.{State}
 use Rattle.relay_drive.specs.declared.run.Run.{Run}
 use Rattle.relay_drive.specs.Known.{IsInStep, Question}
 

@@ -9,20 +9,21 @@ use Rattle.ev_types.specs.declared.answer.WriteAnswer.TheVariants as write
 use Rattle.ev_types.specs.declared.entry.Entry.TheVariants as entry
 use Rattle.ev_types.specs.Trace.{Trace}
 use Rattle.ev_port.specs.Ends.{conn_events, ReadWithin, got_bytes, read_events, WriteWithin, write_events}
-use Rattle.relay_core.specs.State.{State}
-use Rattle.relay_core.specs.Opening.{after_opened}
-use Rattle.relay_core.specs.Rooms.{offer}
-pub use Rattle.relay_meaning.specs.Results.{after_conn, after_read, after_write}
+use Rattle.relay_state.specs.State.{State}
+use Rattle.relay_state.specs.Opening.{after_opened}
+use Rattle.relay_state.specs.Rooms.{offer}
+use Rattle.relay_state.specs.Time.{begun}
+pub use Rattle.relay_state.specs.Serving.{after_conn, after_read, after_write}
 
 -- The clock is read: the reading, cut at 2^62, becomes the time unless the time is greater, and a turn begins.
 pub record Ticks (reading : ℕ) (s : State) (a : Trace) (new : State) : Type 0 where
-  pub entries : a ≡ (entry.Turn (max s.time (min reading (2 ^ 62))), []) ∷ []
-  pub state : new ≡ record s { time = max s.time (min reading (2 ^ 62)) }
+  pub entries : a ≡ (entry.Turn (max s.plain.time (min reading (2 ^ 62))), []) ∷ []
+  pub state : new ≡ begun s (max s.plain.time (min reading (2 ^ 62)))
 
 -- A link is opened, where fewer were than the settings allow.
 pub record Opens (connected : Bool) (s : State) (a : Trace) (new : State) : Type 0 where
-  pub allowed : s.opened < s.settings.links
-  pub entries : a ≡ (entry.Opened s.opened connected, []) ∷ []
+  pub allowed : s.plain.opened < s.settings.links
+  pub entries : a ≡ (entry.Opened s.plain.opened connected, []) ∷ []
   pub state : new ≡ after_opened s connected
 
 -- A side's end was asked whether it is connected.

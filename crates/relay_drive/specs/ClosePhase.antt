@@ -1,5 +1,5 @@
 -- Closing as a relation of the relay's state, and where it can be cut off.
-use Rattle.std.specs.Prelude.{◌≡◌, ℕ, [], ◌∷◌, if◌then◌else◌, MatchBool}
+use Rattle.std.specs.Prelude.{◌≡◌, ℕ, [], ◌∷◌, if◌then◌else◌, MatchBool, is_some}
 use Rattle.ev_types.specs.declared.side.SideId.{SideId}
 use Rattle.ev_types.specs.declared.entry.Entry.TheVariants as entry
 use Rattle.ev_types.specs.Sides.{same_end}
@@ -8,9 +8,10 @@ use Rattle.ev_port.specs.EndSteps.{EndStep, no_step}
 use Rattle.ev_port.specs.Ends.{close_write_step, close_step}
 use Rattle.relay_core.specs.declared.close.Closing.{Closing}
 use Rattle.relay_core.specs.declared.close.Closing.TheVariants as closing
-use Rattle.relay_core.specs.State.{State}
-use Rattle.relay_core.specs.Closing.{closing_of, is_called_for, after_closing}
-pub use Rattle.relay_meaning.specs.Results.{closing_events}
+use Rattle.relay_state.specs.State.{State}
+use Rattle.relay_state.specs.Closing.{closing_entry}
+use Rattle.relay_core.specs.Steps.{closing_of, close_step, after_closing}
+pub use Rattle.relay_core.specs.Steps.{closing_events}
 use Rattle.relay_drive.specs.Steps.{Nothing, Each, CutAt}
 
 -- what the port hears of it
@@ -31,7 +32,7 @@ pub record Closes (step : Closing) (s : State) (a : Trace) (new : State) : Type 
 
 -- a step of closing is made where it is called for
 abbrev pub LooksAt : Closing → State → Trace → State → Type 0
-LooksAt step s a new = MatchBool (is_called_for s step) (Closes step s a new) (Nothing s a new)
+LooksAt step s a new = MatchBool (is_some (closing_entry s (close_step step))) (Closes step s a new) (Nothing s a new)
 
 abbrev pub ClosesLink : ℕ → State → Trace → State → Type 0
 ClosesLink k s a new = Each LooksAt (closing_of k) s a new

@@ -6,9 +6,9 @@ use Rattle.ev_port.specs.Faults.{Faults}
 use Rattle.ev_port.specs.Counting.{counted}
 use Rattle.relay_model.specs.Stages.{Stage}
 use Rattle.relay_model.specs.Answers.{TurnAnswer}
-use Rattle.relay_core.specs.declared.settings.Settings.{Settings}
-use Rattle.relay_core.specs.State.{State}
-use Rattle.relay_meaning.specs.Meaning.{StandsFor}
+use Rattle.relay_model.specs.Settings.{Settings}
+use Rattle.relay_state.specs.State.{State}
+use Rattle.relay_steps.specs.Meaning.{StandsFor}
 use Rattle.relay_drive.specs.declared.fault.DriveFault.{DriveFault}
 use Rattle.relay_drive.specs.declared.fault.DriveFault.TheVariants as fault
 use Rattle.relay_drive.specs.DriveValue.{DriveValue}

@@ -1,8 +1,9 @@
 -- What contracts see of a drive.
 use Rattle.std.specs.Prelude.{ℕ, ◌^◌, Bool, ◌||◌, nat_le, Option, Some, None, Result, Ok, Err}
 use Rattle.relay_core.specs.declared.settings.Settings.{Settings}
-use Rattle.relay_core.specs.State.{State, new_state}
-use Rattle.relay_core.specs.Counting.{is_spent}
+use Rattle.relay_core.specs.SettingsView.{model_settings}
+use Rattle.relay_state.specs.State.{State, new_state}
+use Rattle.relay_state.specs.Counting.{is_spent}
 use Rattle.relay_drive.specs.declared.fault.DriveFault.{DriveFault}
 
 -- the relay's state, how many entries were put, and the refusal that is kept
@@ -12,7 +13,7 @@ pub record DriveValue : Type 0 where
   pub refusal : Option DriveFault
 
 abbrev pub new_drive : Settings → DriveValue
-new_drive settings = record { state = new_state settings; entries = 0; refusal = None }
+new_drive settings = record { state = new_state (model_settings settings); entries = 0; refusal = None }
 
 -- a count of the relay, or the number of entries, has come to 2^62
 abbrev pub is_worn : DriveValue → Bool

@@ -8,24 +8,23 @@ use Rattle.ev_types.specs.Told.{EndTold, PortTold}
 use Rattle.relay_model.specs.Tied.{IsTied, ClosedAfterTurn}
 use Rattle.relay_model.specs.Plays.{AllTaken, AlwaysAllTaken}
 use Rattle.ev_types.specs.Times.{greatest_time}
-use Rattle.relay_core.specs.declared.settings.Settings.{Settings}
-use Rattle.relay_core.specs.State.{State}
-use Rattle.relay_meaning.specs.Meaning.{model_settings}
+use Rattle.relay_model.specs.Settings.{Settings}
+use Rattle.relay_state.specs.State.{State}
 
 -- The relay's time is that of the trace's last turn, which is also the greatest, and as many links are opened as the trace
 -- opens.
 pub record IsInStep (t : Trace) (s : State) : Type 0 where
-  pub time : greatest_time t ≡ s.time
-  pub last : unwrap_or (last_or (Some 0) (times t)) 0 ≡ s.time
-  pub opened : opened t ≡ s.opened
+  pub time : greatest_time t ≡ s.plain.time
+  pub last : unwrap_or (last_or (Some 0) (times t)) 0 ≡ s.plain.time
+  pub opened : opened t ≡ s.plain.opened
 
 -- a port that told so of itself and of its ends as a run began, and tells so now, is tied to the trace of the run
 abbrev pub IsTiedSince : Settings → PortTold → PortTold → (SideId → EndTold) → (SideId → EndTold) → Trace → Type 0
-IsTiedSince g began told ends_began ends t = IsTied (model_settings g) began told ends_began ends t
+IsTiedSince g began told ends_began ends t = IsTied g began told ends_began ends t
 
 -- behind all that this port told of accepting as the run began, it stands open only where a turn may not open more
 abbrev pub IsClosedSince : Settings → PortTold → PortTold → Trace → Type 0
-IsClosedSince g began told t = IsSome began.accepting → ClosedAfterTurn (model_settings g) told t
+IsClosedSince g began told t = IsSome began.accepting → ClosedAfterTurn g told t
 
 -- Questions on a port that answers by plans of this kind, and on a trace, each asked by itself
 pub data Question (Plan : Type 0) : Type 0 where

@@ -4,8 +4,8 @@ use Rattle.std.specs.Prelude.{◌≡◌, ◌⊎◌, ⊤, Bool, false, Result, Ma
 use Rattle.ev_types.specs.Trace.{Trace}
 use Rattle.ev_port.specs.declared.port.Port as port
 use Rattle.ev_port.specs.declared.scribe.Scribe as scribe
-use Rattle.relay_core.specs.declared.settings.Settings.{Settings}
-use Rattle.relay_core.specs.State.{State}
+use Rattle.relay_model.specs.Settings.{Settings}
+use Rattle.relay_state.specs.State.{State}
 use Rattle.relay_drive.specs.declared.fault.DriveFault.{DriveFault}
 use Rattle.relay_drive.specs.declared.fault.DriveFault.TheVariants as fault
 use Rattle.relay_drive.specs.declared.run.Run.{Run}

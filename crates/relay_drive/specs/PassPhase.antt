@@ -2,9 +2,9 @@
 use Rattle.std.specs.Prelude.{◌≡◌, ℕ, [], ◌∷◌}
 use Rattle.ev_types.specs.declared.side.SideId.{SideId}
 use Rattle.ev_types.specs.Trace.{Trace}
-use Rattle.relay_core.specs.State.{State}
-use Rattle.relay_core.specs.Passing.{PassedFrom, PartlyPassed}
-use Rattle.relay_core.specs.Closing.{in_side, out_side}
+use Rattle.relay_state.specs.State.{State}
+use Rattle.relay_state.specs.Passing.{PassedFrom, PartlyPassed}
+use Rattle.relay_state.specs.Closing.{in_side, out_side}
 use Rattle.relay_drive.specs.Steps.{Each, CutAt, links_from}
 
 abbrev pub PassesSide : SideId → State → Trace → State → Type 0
@@ -22,7 +22,7 @@ CutPassingLink k s a new = CutAt PassesSide CutPassing (in_side k ∷ out_side k
 
 -- all links, from the first to the last that is open then
 abbrev pub ForAllLinks : (ℕ → State → Trace → State → Type 0) → State → Trace → State → Type 0
-ForAllLinks R s a new = Each R (links_from 0 s.opened) s a new
+ForAllLinks R s a new = Each R (links_from 0 s.plain.opened) s a new
 
 abbrev pub CutForAllLinks : (ℕ → State → Trace → State → Type 0) → (ℕ → State → Trace → State → Type 0) → State → Trace → State → Type 0
-CutForAllLinks R Cut s a new = CutAt R Cut (links_from 0 s.opened) s a new
+CutForAllLinks R Cut s a new = CutAt R Cut (links_from 0 s.plain.opened) s a new

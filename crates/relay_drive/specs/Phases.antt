@@ -2,17 +2,17 @@
 use Rattle.std.specs.Prelude.{ℕ, Bool, true, false, List}
 use Rattle.ev_types.specs.Trace.{Trace}
 use Rattle.ev_port.specs.declared.port.Want.{Want}
-use Rattle.relay_core.specs.State.{State}
+use Rattle.relay_state.specs.State.{State}
 use Rattle.relay_drive.specs.declared.fault.DriveFault.{DriveFault}
 use Rattle.relay_drive.specs.declared.fault.DriveFault.TheVariants as fault
 use Rattle.relay_drive.specs.Steps.{Nothing, Then, Each, CutAt}
 use Rattle.relay_drive.specs.Calls.{Ticks}
 pub use Rattle.relay_drive.specs.Steps.{links_from}
 pub use Rattle.relay_drive.specs.PollPhase.{want_of, wants_some, wants_of, wants_of_link, wants_of_links, wanted, can_open, Polls, PollFails, CutPoll, OpensOne, OpensWhere, OpensSome, AcceptsLinks, AcceptsMore, AcceptsWhere, PollsAndAccepts, CutAccepting, CutPolling}
-pub use Rattle.relay_drive.specs.ServePhase.{ReadsWithRoom, ReadsSide, WritesSide, ConnectsSide, is_connecting, ServesSide, CutServing, AllOpened}
+pub use Rattle.relay_drive.specs.ServePhase.{ReadsWithRoom, ReadsSide, WritesSide, ConnectsSide, ServesSide, CutServing, AllOpened}
 pub use Rattle.relay_drive.specs.PassPhase.{PassesSide, CutPassing, PassesLink, CutPassingLink, ForAllLinks, CutForAllLinks}
 pub use Rattle.relay_drive.specs.ClosePhase.{told_events, told_step, Closes, LooksAt, ClosesLink, CutClosingLink}
-pub use Rattle.relay_meaning.specs.Results.{freed_event, closing_events}
+pub use Rattle.relay_core.specs.Steps.{closing_events}
 
 abbrev pub is_open_fault : DriveFault → Bool
 is_open_fault fault.OpenFault = true

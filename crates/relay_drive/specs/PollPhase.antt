@@ -1,13 +1,15 @@
 -- The poll, and accepting, as relations of the relay's state; and where they can be cut off.
-use Rattle.std.specs.Prelude.{◌≡◌, ◌⊎◌, ℕ, zero, suc, ◌<◌, ◌≤◌, Bool, true, false, ◌||◌, nat_lt, List, [], ◌∷◌, ◌++◌, length, filter, MatchBool, None}
+use Rattle.std.specs.Prelude.{◌≡◌, ◌⊎◌, ℕ, zero, suc, ◌<◌, ◌≤◌, Bool, true, false, ◌||◌, nat_lt, List, [], ◌∷◌, ◌++◌, length, filter, MatchBool}
+use Rattle.token_bucket.specs.declared.limit.Dir.TheVariants as dir
 use Rattle.ev_types.specs.declared.side.SideId.{SideId}
 use Rattle.ev_types.specs.Trace.{Trace}
 use Rattle.ev_port.specs.declared.port.Polled.TheVariants as polled
 use Rattle.ev_port.specs.declared.port.Want.{Want}
 use Rattle.ev_port.specs.Polling.{AllMarked, poll_events}
-use Rattle.relay_core.specs.State.{State}
-use Rattle.relay_core.specs.Rooms.{wants_read, wants_write}
-use Rattle.relay_core.specs.Closing.{in_side, out_side}
+use Rattle.relay_state.specs.State.{State}
+use Rattle.relay_state.specs.Rooms.{wants}
+use Rattle.relay_state.specs.Time.{poll_timeout}
+use Rattle.relay_state.specs.Closing.{in_side, out_side}
 use Rattle.relay_drive.specs.declared.fault.DriveFault.{DriveFault}
 use Rattle.relay_drive.specs.declared.fault.DriveFault.TheVariants as fault
 use Rattle.relay_drive.specs.Steps.{Nothing, Then}
@@ -18,7 +20,7 @@ use Rattle.relay_drive.specs.Steps.{links_from}
 
 -- what a side wants, with no mark yet
 abbrev pub want_of : State → SideId → Want
-want_of s e = record { side = e; read = wants_read s e; write = wants_write s e; can_read = false; can_write = false }
+want_of s e = record { side = e; read = wants s e dir.Read; write = wants s e dir.Write; can_read = false; can_write = false }
 
 abbrev pub wants_some : Want → Bool
 wants_some w = w.read || w.write
@@ -37,18 +39,18 @@ wants_of_links s (k ∷ ks) = wants_of_link s k ++ wants_of_links s ks
 
 -- and those of all links
 abbrev pub wanted : State → List Want
-wanted s = wants_of_links s (links_from 0 s.opened)
+wanted s = wants_of_links s (links_from 0 s.plain.opened)
 
 abbrev pub can_open : State → Bool
-can_open s = nat_lt s.opened s.settings.links
+can_open s = nat_lt s.plain.opened s.settings.links
 
--- the wanted sides were polled with no timeout, and some of what they want was marked; links are ready only where more
--- are allowed
+-- the wanted sides were polled with the timeout that is called for, and some of what they want was marked; links are ready only
+-- where more are allowed
 pub record Polls (marked : List Want) (accept : Bool) (s : State) (a : Trace) (new : State) : Type 0 where
   pub marks : AllMarked (wanted s) marked
   pub many : length marked ≡ length (wanted s)
   pub asked : accept ≡ true → can_open s ≡ true
-  pub entries : a ≡ poll_events None marked (polled.Ready accept)
+  pub entries : a ≡ poll_events (poll_timeout s) marked (polled.Ready accept)
   pub state : new ≡ s
 
 -- the wanted sides were named, and the poll failed
@@ -56,7 +58,7 @@ pub record PollFails (s : State) (a : Trace) (new : State) : Type 0 where
   pub named : List Want
   pub marks : AllMarked (wanted s) named
   pub many : length named ≡ length (wanted s)
-  pub entries : a ≡ poll_events None named polled.Failed
+  pub entries : a ≡ poll_events (poll_timeout s) named polled.Failed
   pub state : new ≡ s
 
 -- a poll was refused: nothing was asked, or it failed
@@ -86,7 +88,7 @@ AcceptsLinks s a new = (n : ℕ) × (n ≤ 64) × OpensSome n s a new
 
 -- links were opened, and one more was allowed
 abbrev pub AcceptsMore : State → Trace → State → Type 0
-AcceptsMore s a new = (n : ℕ) × (n < 64) × (new.opened < new.settings.links) × OpensSome n s a new
+AcceptsMore s a new = (n : ℕ) × (n < 64) × (new.plain.opened < new.settings.links) × OpensSome n s a new
 
 abbrev pub AcceptsWhere : Bool → State → Trace → State → Type 0
 AcceptsWhere ready s a new = MatchBool ready (AcceptsLinks s a new) (Nothing s a new)

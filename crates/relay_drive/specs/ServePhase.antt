@@ -1,13 +1,15 @@
 -- Serving marked sides as relations of the relay's state, and where that can be cut off.
 use Rattle.std.specs.Prelude.{◌≡◌, ◌⊎◌, ℕ, ◌<◌, Bool, false, ◌&&◌, nat_lt, List, length, slice_index_or, MatchBool}
+use Rattle.token_bucket.specs.declared.limit.Dir.TheVariants as dir
 use Rattle.ev_types.specs.declared.side.SideId.{SideId}
 use Rattle.ev_types.specs.declared.answer.ConnAnswer.{ConnAnswer}
 use Rattle.ev_types.specs.declared.answer.ReadAnswer.{ReadAnswer}
 use Rattle.ev_types.specs.declared.answer.WriteAnswer.{WriteAnswer}
 use Rattle.ev_types.specs.Trace.{Trace}
 use Rattle.ev_port.specs.declared.port.Want.{Want}
-use Rattle.relay_core.specs.State.{State, flags_at}
-use Rattle.relay_core.specs.Rooms.{read_room, wants_read, write_room}
+use Rattle.relay_model.specs.Rooms.{is_connecting}
+use Rattle.relay_state.specs.State.{State}
+use Rattle.relay_state.specs.Rooms.{read_room, wants, write_room}
 use Rattle.relay_drive.specs.Steps.{Nothing, Then}
 use Rattle.relay_drive.specs.Calls.{Checks, Reads, Writes}
 
@@ -16,7 +18,7 @@ abbrev pub ReadsWithRoom : SideId → State → Trace → State → Type 0
 ReadsWithRoom e s a new = (answer : ReadAnswer) × (into : List ℕ) × (length into ≡ read_room s e) × Reads e answer into s a new
 
 abbrev pub ReadsSide : SideId → Bool → State → Trace → State → Type 0
-ReadsSide e marked s a new = MatchBool (marked && wants_read s e) (ReadsWithRoom e s a new) (Nothing s a new)
+ReadsSide e marked s a new = MatchBool (marked && wants s e dir.Read) (ReadsWithRoom e s a new) (Nothing s a new)
 
 -- a side that is marked and has write room is given exactly that many bytes
 abbrev pub WritesSide : SideId → Bool → State → Trace → State → Type 0
@@ -27,17 +29,14 @@ WritesSide e marked s a new = MatchBool (marked && nat_lt 0 (write_room s e)) ((
 abbrev pub ConnectsSide : SideId → Bool → State → Trace → State → Type 0
 ConnectsSide e marked s a new = MatchBool marked ((answer : ConnAnswer) × Checks e answer s a new) (Nothing s a new)
 
-abbrev pub is_connecting : State → SideId → Bool
-is_connecting s e = (flags_at s e).live && (flags_at s e).connecting
-
 abbrev pub ServesSide : Want → State → Trace → State → Type 0
 ServesSide w s a new =
-    MatchBool (is_connecting s w.side) (ConnectsSide w.side w.can_write s a new)
+    MatchBool (is_connecting s.plain w.side) (ConnectsSide w.side w.can_write s a new)
     (Then (ReadsSide w.side w.can_read) (WritesSide w.side w.can_write) s a new)
 
 -- serving a side was cut off: before its call, or between its read and its write
 abbrev pub CutServing : Want → State → Trace → State → Type 0
-CutServing w s a new = Nothing s a new ⊎ ((is_connecting s w.side ≡ false) × ReadsSide w.side w.can_read s a new)
+CutServing w s a new = Nothing s a new ⊎ ((is_connecting s.plain w.side ≡ false) × ReadsSide w.side w.can_read s a new)
 
 -- every want is of a side of an opened link
 abbrev pub AllOpened : List Want → ℕ → Type 0

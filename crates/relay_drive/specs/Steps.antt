@@ -2,7 +2,7 @@
 -- entries and the state after. Such relations stand one behind another.
 use Rattle.std.specs.Prelude.{◌≡◌, ℕ, zero, suc, ◌+◌, List, [], ◌∷◌, ◌++◌}
 use Rattle.ev_types.specs.Trace.{Trace}
-use Rattle.relay_core.specs.State.{State}
+use Rattle.relay_state.specs.State.{State}
 
 -- nothing is put and nothing changes
 abbrev pub Nothing : State → Trace → State → Type 0

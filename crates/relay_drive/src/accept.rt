@@ -20,15 +20,15 @@ fn accept_one<P: Port, S: Scribe>(
     port: &mut P,
     scribe: &mut S,
 ) -> Result<bool, DriveFault>
-    requires { run.old.relay.state.opened < run.old.relay.state.settings.links }
+    requires { run.old.relay.state.plain.opened < run.old.relay.state.settings.links }
     ensures went { MatchResult result
         (λ more. Moves P.Port S.Scribe Point.Accepting (accepting_if more) false (OpensWhere more)
         (run.old, port.old, scribe.old) (run.new, port.new, scribe.new))
         (λ fault. Moves P.Port S.Scribe Point.Accepting Point.Accepting (is_open_fault fault) Nothing
         (run.old, port.old, scribe.old) (run.new, port.new, scribe.new)) }
     ensures grown { MatchResult result
-        (λ more. run.new.relay.state.opened ≡ run.old.relay.state.opened + (if more then 1 else 0))
-        (λ _. run.new.relay.state.opened ≡ run.old.relay.state.opened) }
+        (λ more. run.new.relay.state.plain.opened ≡ run.old.relay.state.plain.opened + (if more then 1 else 0))
+        (λ _. run.new.relay.state.plain.opened ≡ run.old.relay.state.plain.opened) }
     ensures cause { OnlyForMemoryOrListener result }
 {
     run.relay.reserve_link()?;
@@ -59,7 +59,7 @@ pub(crate) fn accept<P: Port, S: Scribe>(
 ) -> Result<(), DriveFault>
     ensures went { GetsTo P.Port S.Scribe result Point.Begun Point.Accepted (λ _. AcceptsLinks) (λ _. AcceptsMore)
         (run.old, port.old, scribe.old) (run.new, port.new, scribe.new) }
-    ensures grown { run.old.relay.state.opened ≤ run.new.relay.state.opened }
+    ensures grown { run.old.relay.state.plain.opened ≤ run.new.relay.state.plain.opened }
     ensures cause { OnlyForMemoryOrListener result }
 {
     for _ in 0..MOST_OPENED {

@@ -1,6 +1,6 @@
 // One call of the port for one side, with room made before for all that it may bring.
 ghost use Rattle.std.specs.Prelude.{◌≡◌, ◌<◌, ◌≤◌, false, length};
-ghost use Rattle.relay_core.specs.Rooms.{offer};
+ghost use Rattle.relay_state.specs.Rooms.{offer};
 ghost use Rattle.relay_drive.specs.declared.fault.DriveFault.TheVariants.{Memory};
 ghost use Rattle.relay_drive.specs.Steps.{Nothing};
 ghost use Rattle.relay_drive.specs.Calls.{Checks, Reads, Writes, HasBytes, is_memory, after_read, after_write, after_conn};
@@ -22,7 +22,7 @@ pub(crate) fn ask_read<P: Port, S: Scribe>(
     port: &mut P,
     scribe: &mut S,
 ) -> Result<ReadAnswer, DriveFault>
-    requires opened { side.link < run.old.relay.state.opened }
+    requires opened { side.link < run.old.relay.state.plain.opened }
     requires some { 0 < length into.old }
     ensures went { Does P.Port S.Scribe result (λ answer. Reads side answer into.new) Nothing
         (run.old, port.old, scribe.old) (run.new, port.new, scribe.new) }
@@ -57,7 +57,7 @@ fn bytes_got(answer: ReadAnswer, into: &[u8]) -> &[u8]
 
 /// Makes the change of a read, with room made before for its bytes.
 fn note_read(relay: &mut Relay, side: SideId, answer: ReadAnswer, bytes: &[u8])
-    requires opened { side.link < relay.old.state.opened }
+    requires opened { side.link < relay.old.state.plain.opened }
     requires some { HasBytes answer bytes.now }
     requires room { length bytes.now ≤ spare_read relay.old side }
     ensures { relay.new.state ≡ after_read relay.old.state side answer bytes.now }
@@ -77,7 +77,7 @@ pub(crate) fn ask_write<P: Port, S: Scribe>(
     port: &mut P,
     scribe: &mut S,
 ) -> Result<WriteAnswer, DriveFault>
-    requires opened { side.link < run.old.relay.state.opened }
+    requires opened { side.link < run.old.relay.state.plain.opened }
     requires some { 0 < length (offer run.old.relay.state side) }
     ensures went { Does P.Port S.Scribe result (λ answer. Writes side answer) Nothing
         (run.old, port.old, scribe.old) (run.new, port.new, scribe.new) }
@@ -124,7 +124,7 @@ fn bytes_taken(answer: WriteAnswer, offer: &[u8]) -> &[u8]
 
 /// Makes the change of a write.
 fn note_write(relay: &mut Relay, side: SideId, answer: WriteAnswer)
-    requires opened { side.link < relay.old.state.opened }
+    requires opened { side.link < relay.old.state.plain.opened }
     requires within { WriteWithin answer (length (offer relay.old.state side)) }
     ensures { relay.new.state ≡ after_write relay.old.state side answer }
 {
@@ -142,7 +142,7 @@ pub(crate) fn ask_connect<P: Port, S: Scribe>(
     port: &mut P,
     scribe: &mut S,
 ) -> Result<ConnAnswer, DriveFault>
-    requires opened { side.link < run.old.relay.state.opened }
+    requires opened { side.link < run.old.relay.state.plain.opened }
     ensures went { Does P.Port S.Scribe result (λ answer. Checks side answer) Nothing
         (run.old, port.old, scribe.old) (run.new, port.new, scribe.new) }
     ensures cause { OnlyForMemory result }
@@ -156,7 +156,7 @@ pub(crate) fn ask_connect<P: Port, S: Scribe>(
 
 /// Makes the change of a connect check.
 fn note_conn(relay: &mut Relay, side: SideId, answer: ConnAnswer)
-    requires { side.link < relay.old.state.opened }
+    requires { side.link < relay.old.state.plain.opened }
     ensures { relay.new.state ≡ after_conn relay.old.state side answer }
 {
     match answer {

@@ -23,7 +23,7 @@ const MOST_ENTRIES: usize = 2;
 
 /// Puts that a side is freed, in room that was made before.
 fn put_freed<S: Scribe>(run: &mut Run, scribe: &mut S, side: SideId, cause: Cause)
-    requires opened { side.link < run.old.relay.state.opened }
+    requires opened { side.link < run.old.relay.state.plain.opened }
     requires room { 0 < S.spare_entries scribe.old }
     ensures relay { run.new.relay ≡ run.old.relay }
     ensures counted { run.new.entries ≡ counted run.old.entries 1 }
@@ -57,7 +57,7 @@ fn tell<P: Port>(step: Closing, port: &mut P)
 
 /// Puts the entries of a step of closing, in room that was made before.
 fn put_closing<S: Scribe>(run: &mut Run, step: Closing, scribe: &mut S)
-    requires opened { link_of_step step < run.old.relay.state.opened }
+    requires opened { link_of_step step < run.old.relay.state.plain.opened }
     requires room { 2 ≤ S.spare_entries scribe.old }
     ensures relay { run.new.relay ≡ run.old.relay }
     ensures counted { counted run.new.entries 0 ≡ counted run.old.entries (length (closing_events run.old.relay.state step)) }
@@ -88,10 +88,10 @@ fn close_step<P: Port, S: Scribe>(
     port: &mut P,
     scribe: &mut S,
 ) -> Result<(), DriveFault>
-    requires { link_of_step step < run.old.relay.state.opened }
+    requires { link_of_step step < run.old.relay.state.plain.opened }
     ensures went { Does P.Port S.Scribe result (λ _. LooksAt step) Nothing
         (run.old, port.old, scribe.old) (run.new, port.new, scribe.new) }
-    ensures kept { run.new.relay.state.opened ≡ run.old.relay.state.opened }
+    ensures kept { run.new.relay.state.plain.opened ≡ run.old.relay.state.plain.opened }
     ensures cause { OnlyForMemory result }
 {
     if !run.relay.calls_for(step) {
@@ -111,10 +111,10 @@ fn close_link<P: Port, S: Scribe>(
     port: &mut P,
     scribe: &mut S,
 ) -> Result<(), DriveFault>
-    requires { link < run.old.relay.state.opened }
+    requires { link < run.old.relay.state.plain.opened }
     ensures went { Does P.Port S.Scribe result (λ _. ClosesLink link) (CutClosingLink link)
         (run.old, port.old, scribe.old) (run.new, port.new, scribe.new) }
-    ensures kept { run.new.relay.state.opened ≡ run.old.relay.state.opened }
+    ensures kept { run.new.relay.state.plain.opened ≡ run.old.relay.state.plain.opened }
     ensures cause { OnlyForMemory result }
 {
     let steps = Closing::of(link);

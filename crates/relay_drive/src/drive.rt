@@ -1,13 +1,13 @@
 // The drive: turns in a row, with a refusal kept.
 ghost use Rattle.std.specs.Prelude.{◌≡◌, ◌-◌, ◌^◌, true, false, min, nat_lt, if◌then◌else◌, Some, None, Err, IfSome, MatchResult};
-ghost use Rattle.relay_core.specs.Counting.{link_count, open_below, buffered_below};
+ghost use Rattle.relay_state.specs.Counting.{link_count, open_below, buffered_below};
 ghost use Rattle.relay_drive.specs.declared.fault.DriveFault.TheVariants.{Memory, Spent};
 ghost use Rattle.relay_drive.specs.DriveValue.{new_drive, is_worn, refusal_of};
 ghost use Rattle.relay_drive.specs.Phases.{Turns, CutTurn, is_open_fault};
 ghost use Rattle.relay_drive.specs.Known.{Point};
 ghost use Rattle.relay_drive.specs.Moves.{TurnsTo};
 ghost use Rattle.relay_drive.specs.DriveStands.{turn_answer_of, StandsBetween};
-ghost use Rattle.relay_meaning.specs.Meaning.{LeftFor};
+ghost use Rattle.relay_steps.specs.Meaning.{LeftFor};
 
 use crate::fault::{DriveFault, TurnEnd};
 use crate::run::Run;
@@ -102,21 +102,21 @@ impl Drive {
 
     /// How many links were opened.
     pub fn opened(&self) -> u32
-        ensures { result ≡ self.now.state.opened }
+        ensures { result ≡ self.now.state.plain.opened }
     {
         self.run.relay.opened()
     }
 
     /// How many links have a live side.
     pub fn open_links(&self) -> u32
-        ensures { result ≡ open_below self.now.state self.now.state.opened }
+        ensures { result ≡ open_below self.now.state self.now.state.plain.opened }
     {
         self.run.relay.open_links()
     }
 
     /// What a link came to. None exactly from the number of opened links on.
     pub fn link(&self, link: u32) -> Option<LinkCount>
-        ensures { result ≡ (if nat_lt link self.now.state.opened then Some (link_count self.now.state link) else None) }
+        ensures { result ≡ (if nat_lt link self.now.state.plain.opened then Some (link_count self.now.state link) else None) }
     {
         self.run.relay.link(link)
     }
@@ -124,7 +124,7 @@ impl Drive {
     /// The number of bytes in all buffers of live sides, or 2^64 - 1 where that is more: those under way in the trace, read and
     /// not yet given (`buffered_is_underway` of relay_meaning). Takes no memory; linear in the number of links.
     pub fn buffered(&self) -> u64
-        ensures { result ≡ min (buffered_below self.now.state self.now.state.opened) (2 ^ 64 - 1) }
+        ensures { result ≡ min (buffered_below self.now.state self.now.state.plain.opened) (2 ^ 64 - 1) }
     {
         self.run.relay.buffered()
     }

@@ -9,12 +9,12 @@ use relay_core::Relay;
 
 /// Passes the directions of a link, that from In first.
 fn pass_link(relay: &mut Relay, link: u32) -> Result<(), DriveFault>
-    requires { link < relay.old.state.opened }
+    requires { link < relay.old.state.plain.opened }
     ensures went { MatchResult result
         (λ _. PassesLink link relay.old.state [] relay.new.state)
         (λ _. CutPassingLink link relay.old.state [] relay.new.state) }
-    ensures kept { relay.new.state.opened ≡ relay.old.state.opened }
-    ensures time { relay.new.state.time ≡ relay.old.state.time }
+    ensures kept { relay.new.state.plain.opened ≡ relay.old.state.plain.opened }
+    ensures time { relay.new.state.plain.time ≡ relay.old.state.plain.time }
     ensures settings { relay.new.state.settings ≡ relay.old.state.settings }
     ensures cause { OnlyForMemory result }
 {
@@ -32,8 +32,8 @@ pub(crate) fn pass(relay: &mut Relay) -> Result<(), DriveFault>
     ensures went { MatchResult result
         (λ _. ForAllLinks PassesLink relay.old.state [] relay.new.state)
         (λ _. CutForAllLinks PassesLink CutPassingLink relay.old.state [] relay.new.state) }
-    ensures kept { relay.new.state.opened ≡ relay.old.state.opened }
-    ensures time { relay.new.state.time ≡ relay.old.state.time }
+    ensures kept { relay.new.state.plain.opened ≡ relay.old.state.plain.opened }
+    ensures time { relay.new.state.plain.time ≡ relay.old.state.plain.time }
     ensures settings { relay.new.state.settings ≡ relay.old.state.settings }
     ensures cause { OnlyForMemory result }
 {

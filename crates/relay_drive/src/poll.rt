@@ -18,9 +18,9 @@ use std::alloc::Global;
 
 /// Puts a side behind the wanted ones, if it wants anything.
 fn push_want(relay: &Relay, wants: &mut Vec<Want>, side: SideId) -> Result<(), DriveFault>
-    requires { side.link < relay.now.state.opened }
+    requires { side.link < relay.now.state.plain.opened }
     ensures wanted { OnOk result (wants.new.items ≡ wants.old.items ++ wants_of relay.now.state side) }
-    ensures opened { OnOk result (AllOpened wants.old.items relay.now.state.opened → AllOpened wants.new.items relay.now.state.opened) }
+    ensures opened { OnOk result (AllOpened wants.old.items relay.now.state.plain.opened → AllOpened wants.new.items relay.now.state.plain.opened) }
     ensures cause { OnlyForMemory result }
 {
     let read = relay.wants_read(side);
@@ -43,7 +43,7 @@ fn push_want(relay: &Relay, wants: &mut Vec<Want>, side: SideId) -> Result<(), D
 /// What the sides want, in their order.
 fn wanted(relay: &Relay, alloc: Global) -> Result<Vec<Want>, DriveFault>
     ensures wanted { IfOk result (λ wants. wants.items ≡ wanted relay.now.state) }
-    ensures opened { IfOk result (λ wants. AllOpened wants.items relay.now.state.opened) }
+    ensures opened { IfOk result (λ wants. AllOpened wants.items relay.now.state.plain.opened) }
     ensures cause { OnlyForMemory result }
 {
     let mut wants = Vec::new(alloc);
@@ -117,7 +117,7 @@ fn ask_poll<P: Port, S: Scribe>(
         (λ fault. Moves P.Port S.Scribe Point.Begun Point.Accepting false (CutPoll fault)
         (run.old, port.old, scribe.old) (run.new, port.new, scribe.new)) }
     ensures kept { run.new.relay ≡ run.old.relay }
-    ensures opened { AllOpened wants.old run.old.relay.state.opened → AllOpened wants.new run.old.relay.state.opened }
+    ensures opened { AllOpened wants.old run.old.relay.state.plain.opened → AllOpened wants.new run.old.relay.state.plain.opened }
 {
     let entries = wants.len().saturating_mul(2).saturating_add(2);
     scribe.reserve(entries, 0)?;
@@ -145,7 +145,7 @@ pub(crate) fn poll<P: Port, S: Scribe>(
 ) -> Result<Vec<Want>, DriveFault>
     ensures went { GetsTo P.Port S.Scribe result Point.Begun Point.Accepted (λ wants. PollsAndAccepts wants.items) CutPolling
         (run.old, port.old, scribe.old) (run.new, port.new, scribe.new) }
-    ensures opened { IfOk result (λ wants. AllOpened wants.items run.new.relay.state.opened) }
+    ensures opened { IfOk result (λ wants. AllOpened wants.items run.new.relay.state.plain.opened) }
 {
     let mut wants = wanted(&run.relay, alloc)?;
     let ready = ask_poll(run, &mut wants, port, scribe)?;

@@ -19,11 +19,11 @@ fn read_side<P: Port, S: Scribe>(
     port: &mut P,
     scribe: &mut S,
 ) -> Result<(), DriveFault>
-    requires opened { want.side.link < run.old.relay.state.opened }
+    requires opened { want.side.link < run.old.relay.state.plain.opened }
     requires inbox { length inbox.old ≡ 16384 }
     ensures went { Does P.Port S.Scribe result (λ _. ReadsSide want.side want.can_read) Nothing
         (run.old, port.old, scribe.old) (run.new, port.new, scribe.new) }
-    ensures kept { run.new.relay.state.opened ≡ run.old.relay.state.opened }
+    ensures kept { run.new.relay.state.plain.opened ≡ run.old.relay.state.plain.opened }
     ensures cause { OnlyForMemory result }
 {
     if !want.can_read {
@@ -45,10 +45,10 @@ fn write_side<P: Port, S: Scribe>(
     port: &mut P,
     scribe: &mut S,
 ) -> Result<(), DriveFault>
-    requires opened { want.side.link < run.old.relay.state.opened }
+    requires opened { want.side.link < run.old.relay.state.plain.opened }
     ensures went { Does P.Port S.Scribe result (λ _. WritesSide want.side want.can_write) Nothing
         (run.old, port.old, scribe.old) (run.new, port.new, scribe.new) }
-    ensures kept { run.new.relay.state.opened ≡ run.old.relay.state.opened }
+    ensures kept { run.new.relay.state.plain.opened ≡ run.old.relay.state.plain.opened }
     ensures cause { OnlyForMemory result }
 {
     if !want.can_write {
@@ -68,10 +68,10 @@ fn connect_side<P: Port, S: Scribe>(
     port: &mut P,
     scribe: &mut S,
 ) -> Result<(), DriveFault>
-    requires opened { want.side.link < run.old.relay.state.opened }
+    requires opened { want.side.link < run.old.relay.state.plain.opened }
     ensures went { Does P.Port S.Scribe result (λ _. ConnectsSide want.side want.can_write) Nothing
         (run.old, port.old, scribe.old) (run.new, port.new, scribe.new) }
-    ensures kept { run.new.relay.state.opened ≡ run.old.relay.state.opened }
+    ensures kept { run.new.relay.state.plain.opened ≡ run.old.relay.state.plain.opened }
     ensures cause { OnlyForMemory result }
 {
     if !want.can_write {
@@ -83,7 +83,7 @@ fn connect_side<P: Port, S: Scribe>(
 
 /// Whether a live side is not known to be connected.
 fn is_connecting(relay: &Relay, side: SideId) -> bool
-    requires { side.link < relay.now.state.opened }
+    requires { side.link < relay.now.state.plain.opened }
     ensures { result ≡ is_connecting relay.now.state side }
 {
     let flags = relay.flags(side);
@@ -98,11 +98,11 @@ fn serve_side<P: Port, S: Scribe>(
     port: &mut P,
     scribe: &mut S,
 ) -> Result<(), DriveFault>
-    requires opened { want.side.link < run.old.relay.state.opened }
+    requires opened { want.side.link < run.old.relay.state.plain.opened }
     requires inbox { length inbox.old ≡ 16384 }
     ensures went { Does P.Port S.Scribe result (λ _. ServesSide want) (CutServing want)
         (run.old, port.old, scribe.old) (run.new, port.new, scribe.new) }
-    ensures kept { run.new.relay.state.opened ≡ run.old.relay.state.opened }
+    ensures kept { run.new.relay.state.plain.opened ≡ run.old.relay.state.plain.opened }
     ensures cause { OnlyForMemory result }
 {
     if is_connecting(&run.relay, want.side) {
@@ -120,11 +120,11 @@ pub(crate) fn serve<P: Port, S: Scribe>(
     port: &mut P,
     scribe: &mut S,
 ) -> Result<(), DriveFault>
-    requires opened { AllOpened wants.now run.old.relay.state.opened }
+    requires opened { AllOpened wants.now run.old.relay.state.plain.opened }
     requires inbox { length inbox.old ≡ 16384 }
     ensures went { Does P.Port S.Scribe result (λ _. Each ServesSide wants.now) (CutAt ServesSide CutServing wants.now)
         (run.old, port.old, scribe.old) (run.new, port.new, scribe.new) }
-    ensures kept { run.new.relay.state.opened ≡ run.old.relay.state.opened }
+    ensures kept { run.new.relay.state.plain.opened ≡ run.old.relay.state.plain.opened }
     ensures cause { OnlyForMemory result }
 {
     for want in wants {

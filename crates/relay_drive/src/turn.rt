@@ -1,7 +1,7 @@
 // One turn: its phases in their order. Nothing is timed yet and there is no hook, so that the phases of time and of
 // dispatch have nothing to do.
 ghost use Rattle.std.specs.Prelude.{◌≡◌, ◌^◌, ◌||◌, true, false, nat_le, length, Err, MatchResult};
-ghost use Rattle.relay_core.specs.Counting.{is_spent};
+ghost use Rattle.relay_state.specs.Counting.{is_spent};
 ghost use Rattle.relay_drive.specs.declared.fault.DriveFault.TheVariants.{Spent};
 ghost use Rattle.relay_drive.specs.Steps.{Nothing};
 ghost use Rattle.relay_drive.specs.Phases.{Turns, CutTurn, TicksOnce};

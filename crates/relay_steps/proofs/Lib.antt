@@ -1,2 +1,4 @@
 pub mod EndLemmas
 pub mod FitLemmas
+pub mod SizeLemmas
+pub mod CountLemmas

@@ -1,7 +1,7 @@
 use Rattle.std.proofs.Common.{◌≡◌, ◌<◌, ◌+◌, true, false, if◌then◌else◌, refl, sym, ◌∙◌, ap, subst, arith, add-one}
 use Rattle.std.proofs.lemmas.Result.{err_from_is_err_and}
 use Rattle.std.proofs.lemmas.Bool.{ltb-true}
-use Rattle.relay_core.specs.State.{State}
+use Rattle.relay_state.specs.State.{State}
 use Rattle.relay_drive.specs.Phases.{can_open, OpensSome}
 use Rattle.relay_drive.proofs.AcceptLemmas.{accepted_all, accepted_most}
 use Rattle.relay_drive.proofs.GoesLemmas.{Grew-none, goes_as, goes_then, goes_nowhere}

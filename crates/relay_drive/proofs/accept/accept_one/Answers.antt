@@ -1,8 +1,8 @@
 use Rattle.std.proofs.Common.{[], ◌∷◌, true, false, refl, ◌∙◌, ap, arith}
 use Rattle.ev_types.specs.declared.entry.Entry.TheVariants as entry
 use Rattle.ev_types.specs.Trace.{Trace}
-use Rattle.relay_core.specs.State.{State}
-use Rattle.relay_core.specs.Opening.{after_opened}
+use Rattle.relay_state.specs.State.{State}
+use Rattle.relay_state.specs.Opening.{after_opened}
 use Rattle.relay_drive.proofs.GoesLemmas.{Grew-none, Grew-join, goes_by, goes_silent, goes_nowhere}
 use Rattle.relay_drive.proofs.HeardLemmas.{Heard-open}
 use Rattle.relay_drive.proofs.CalmLemmas.{fits_opened}

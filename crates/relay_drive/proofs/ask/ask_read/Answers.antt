@@ -1,7 +1,7 @@
 use Rattle.std.proofs.Common.{◌≡◌, [], refl, ap, ◌∙◌}
 use Rattle.std.proofs.lemmas.Result.{err_from_is_err_and}
 use Rattle.ev_port.specs.Ends.{read_step, read_events, got_bytes}
-use Rattle.relay_core.specs.State.{State}
+use Rattle.relay_state.specs.State.{State}
 use Rattle.relay_drive.specs.Calls.{after_read}
 use Rattle.relay_drive.proofs.GoesLemmas.{Grew-none, Grew-join, goes_nowhere}
 use Rattle.relay_drive.proofs.HeardLemmas.{Heard-read, goes_once, read_same, same_as}

@@ -3,7 +3,7 @@ use Rattle.std.proofs.lemmas.Result.{err_from_is_err_and}
 use Rattle.ev_types.specs.Trace.{Trace}
 use Rattle.ev_types.specs.declared.entry.Entry.TheVariants as entry
 use Rattle.ev_port.specs.Ends.{write_step, write_events, took_bytes}
-use Rattle.relay_core.specs.Rooms.{offer}
+use Rattle.relay_state.specs.Rooms.{offer}
 use Rattle.relay_drive.specs.Advances.{Heard}
 use Rattle.relay_drive.specs.Calls.{is_memory}
 use Rattle.relay_drive.proofs.GoesLemmas.{Grew-join, goes_nowhere, goes_silent}

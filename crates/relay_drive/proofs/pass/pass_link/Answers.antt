@@ -1,7 +1,7 @@
 use Rattle.std.proofs.Common.{[], ◌∷◌, refl, subst}
 use Rattle.std.proofs.lemmas.Result.{err_from_is_err_and}
-use Rattle.relay_core.specs.Passing.{PartlyPassed}
-use Rattle.relay_core.specs.Closing.{in_side, out_side}
+use Rattle.relay_state.specs.Passing.{PartlyPassed}
+use Rattle.relay_state.specs.Closing.{in_side, out_side}
 use Rattle.relay_drive.proofs.pass.pass_link.Goals as goal
 
 pub returns-in_err-pass-clause-went : goal.returns-in_err-pass-clause-went

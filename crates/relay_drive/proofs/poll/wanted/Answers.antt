@@ -1,6 +1,6 @@
 use Rattle.std.proofs.Common.{◌++◌, List, sym, ◌∙◌, ap, append_assoc}
 use Rattle.ev_port.specs.declared.port.Want.{Want}
-use Rattle.relay_core.specs.Closing.{in_side, out_side}
+use Rattle.relay_state.specs.Closing.{in_side, out_side}
 use Rattle.relay_drive.specs.Phases.{wants_of, wants_of_links, links_from}
 use Rattle.relay_drive.proofs.EachLemmas.{links_from-push}
 use Rattle.relay_drive.proofs.PollLemmas.{wants_of_links-push}

@@ -1,7 +1,7 @@
 use Rattle.std.proofs.Common.{◌≡◌, false, ◌&&◌, refl, sym, ◌∙◌, ap, subst}
 use Rattle.std.specs.Prelude.{MatchBool}
 use Rattle.std.proofs.lemmas.Bool.{not-true, not-false}
-use Rattle.relay_core.specs.Rooms.{wants_read}
+use Rattle.relay_state.specs.Rooms.{wants_read}
 use Rattle.relay_drive.specs.Steps.{Nothing}
 use Rattle.relay_drive.specs.Phases.{ReadsWithRoom}
 use Rattle.relay_drive.proofs.GoesLemmas.{Grew-none, goes_as, goes_nowhere}

@@ -1,7 +1,7 @@
 use Rattle.std.proofs.Common.{◌≡◌, ℕ, ◌^◌, [], ◌∷◌, max, min, refl, sym, ◌∙◌, ap, arith}
 use Rattle.ev_types.specs.declared.entry.Entry.TheVariants as entry
 use Rattle.ev_types.specs.Trace.{Trace}
-use Rattle.relay_core.specs.State.{State}
+use Rattle.relay_state.specs.State.{State}
 use Rattle.relay_drive.proofs.GoesLemmas.{Grew-join, goes_by, goes_nowhere}
 use Rattle.relay_drive.proofs.HeardLemmas.{Heard-quiet}
 use Rattle.ev_port.specs.EndSteps.{no_step}
