@@ -2,3 +2,4 @@ pub mod EndLemmas
 pub mod FitLemmas
 pub mod SizeLemmas
 pub mod CountLemmas
+pub mod FrameLemmas
