@@ -5,19 +5,19 @@ use Rattle.std.proofs.lemmas.Bool.{lt-leb}
 use Rattle.ev_types.specs.Trace.{Trace}
 use Rattle.ev_port.specs.Faults.{Faults}
 use Rattle.relay_model.specs.Settings.{Settings}
-use Rattle.relay_core.specs.State.{State, SideValue, no_side}
-use Rattle.relay_state.specs.Counting.{has_come_far}
+use Rattle.relay_model.specs.Stages.{Stage}
+use Rattle.relay_state.specs.State.{State}
+use Rattle.relay_steps.proofs.CountLemmas.{not_spent}
 use Rattle.relay_drive.specs.DriveValue.{DriveValue}
 use Rattle.relay_drive.specs.Phases.{Turns}
 use Rattle.relay_drive.specs.Known.{Question}
 use Rattle.relay_drive.specs.DriveStands.{DriveStands, DriveWent}
-use Rattle.relay_drive.specs.Bounds.{SideIsWithin, IsWithin, most_of_turn, NewDriveIsWithin, TurnIsBounded, WithinIsNotWorn}
-use Rattle.relay_drive.proofs.BoundLemmas.{within-more, side-none}
-use Rattle.relay_drive.proofs.BoundSteps.{turn_raises}
+use Rattle.relay_drive.specs.Bounds.{IsWithin, most_of_turn, NewDriveIsWithin, TurnIsBounded, WithinIsNotWorn}
+use Rattle.relay_drive.proofs.BoundSteps.{within-more, turn_raises}
 
 pub new_drive_is_within : NewDriveIsWithin
 new_drive_is_within settings = record {
-  state = record { allowed = omega arith; opened = omega arith; sides = λ i. side-none 0 };
+  state = record { allowed = omega arith; opened = omega arith; turns = omega arith; reads = λ i. omega arith };
   entries = omega arith;
 }
 
@@ -45,23 +45,8 @@ is_within-more n m links d h w = let e = w.entries in
 neither : (a b : Bool) → a ≡ false → b ≡ false → (a || b) ≡ false
 neither a b p q = cc
 
-near : (n : ℕ) (x : SideValue) → SideIsWithin n x → n < 2 ^ 62 → has_come_far x ≡ false
-near n x k h =
-    let l = k.lane in
-    let f = x.lane.flow in
-    let read : nat_le (2 ^ 62) x.read ≡ false = lt-leb (2 ^ 62) x.read (omega (arith, h, k.read)) in
-    let used : nat_le (2 ^ 62) f.used ≡ false = lt-leb (2 ^ 62) f.used (omega (arith, h, k.read, l.used)) in
-    let moved : nat_le (2 ^ 62) f.moved ≡ false = lt-leb (2 ^ 62) f.moved (omega (arith, h, k.read, l.used, l.moved)) in
-    let turned : nat_le (2 ^ 62) f.turned ≡ false = lt-leb (2 ^ 62) f.turned (omega (arith, h, k.read, l.used, l.moved, l.turned)) in
-    let given : nat_le (2 ^ 62) f.given ≡ false = lt-leb (2 ^ 62) f.given (omega (arith, h, k.read, l.used, l.moved, l.turned, l.given)) in
-    neither _ _ (neither _ _ (neither _ _ (neither _ _ read used) moved) turned) given
-
-all_near : (n : ℕ) (xs : List SideValue) → ((i : ℕ) → SideIsWithin n (get_or xs i no_side)) → n < 2 ^ 62 → list_any has_come_far xs ≡ false
-all_near n [] k h = refl
-all_near n (x ∷ xs) k h = neither (has_come_far x) (list_any has_come_far xs) (near n x (k 0) h) (all_near n xs (λ i. k (suc i)) h)
-
 pub within_is_not_worn : WithinIsNotWorn
-within_is_not_worn n links d w h =
+within_is_not_worn n links d t w k h =
     let e = w.entries in
     let few : nat_le (2 ^ 62) d.entries ≡ false = lt-leb (2 ^ 62) d.entries (omega (arith, h, e)) in
-    neither _ _ few (all_near n d.state.sides w.state.sides h)
+    neither _ _ few (not_spent t Stage.Between d.state k n h w.state.reads w.state.turns)

@@ -1,31 +1,37 @@
--- Each step of a turn, and the turn: by how much it raises the bound of the counts, and how many entries it puts.
-use Rattle.std.proofs.Common.{◌≡◌, ℕ, zero, suc, ◌+◌, ◌-◌, ◌*◌, ◌≤◌, Bool, true, false, ◌&&◌, nat_lt, min, if◌then◌else◌, List, [], ◌∷◌, ◌++◌, length, refl, sym, ◌∙◌, ap, subst, arith, length-append}
-use Rattle.std.specs.Prelude.{MatchBool}
+-- Each step of a turn, and the turn: by how much it raises the bound of what is read, and how many entries it puts.
+use Rattle.std.proofs.Common.{◌≡◌, ℕ, zero, suc, ◌+◌, ◌-◌, ◌*◌, ◌≤◌, Bool, true, false, ◌&&◌, nat_lt, min, max, if◌then◌else◌, List, [], ◌∷◌, ◌++◌, length, refl, sym, ◌∙◌, ap, subst, arith, length-append}
+use Rattle.std.specs.Prelude.{MatchBool, ◌^◌, is_some, Option, Some, None, option_map}
 use Rattle.std.proofs.lemmas.List.{length-take}
+use Rattle.token_bucket.specs.declared.limit.Dir.TheVariants as dir
 use Rattle.ev_types.specs.declared.side.SideId.{SideId}
 use Rattle.ev_types.specs.declared.answer.ConnAnswer.{ConnAnswer}
-use Rattle.ev_types.specs.declared.answer.ConnAnswer.TheVariants as conn
 use Rattle.ev_types.specs.declared.answer.ReadAnswer.{ReadAnswer}
 use Rattle.ev_types.specs.declared.answer.ReadAnswer.TheVariants as read
 use Rattle.ev_types.specs.declared.answer.WriteAnswer.{WriteAnswer}
 use Rattle.ev_types.specs.declared.answer.WriteAnswer.TheVariants as write
+use Rattle.ev_types.specs.declared.entry.Entry.{Entry}
 use Rattle.ev_types.specs.declared.entry.Entry.TheVariants as entry
-use Rattle.ev_types.specs.Sides.{number, peer}
 use Rattle.ev_types.specs.Trace.{Trace}
 use Rattle.ev_port.specs.declared.port.Want.{Want}
 use Rattle.ev_port.specs.Ends.{ReadWithin, WriteWithin, got_bytes, write_events}
 use Rattle.ev_port.specs.Polling.{want_events, ready_events}
+use Rattle.relay_model.specs.Settings.{Settings}
+use Rattle.relay_model.specs.Plain.{side_at}
+use Rattle.relay_model.specs.Rooms.{is_connecting, may_read, most_at_once, read_mark}
+use Rattle.relay_model.specs.Close.{freed_entry, fault, CloseStep}
 use Rattle.relay_core.specs.declared.close.Closing.{Closing}
 use Rattle.relay_core.specs.declared.close.Closing.TheVariants as closing
-use Rattle.relay_core.specs.State.{State, side_at, flags_at, lane_at}
-use Rattle.relay_state.specs.Passing.{read_mark, round_from}
-use Rattle.relay_state.specs.Rooms.{read_room, may_read, input_length, wants_read, write_room, waiting_for, offer}
-use Rattle.relay_core.specs.Closing.{in_side, out_side, closing_of, freed, after_closing, is_called_for}
+use Rattle.relay_core.specs.Steps.{closing_of, close_step, after_closing, entry_events}
+use Rattle.relay_state.specs.State.{State}
+use Rattle.relay_state.specs.Rooms.{read_room, input_length, wants, write_room, offer}
+use Rattle.relay_state.specs.Serving.{after_conn, after_read, after_write}
+use Rattle.relay_state.specs.Closing.{in_side, out_side, closing_entry, closed}
+use Rattle.relay_state.specs.Opening.{new_lane}
+use Rattle.relay_steps.proofs.FrameLemmas.{Frame, frame-then, frame-conn, frame-read, frame-write, frame-passed, frame-closed, frame-begun, push-within}
 use Rattle.relay_drive.specs.Steps.{Nothing, Then, Each}
-use Rattle.relay_drive.specs.Calls.{Ticks, Checks, Writes, after_conn, after_read, after_write}
-use Rattle.relay_drive.specs.Phases.{links_from, want_of, wants_some, wants_of, wants_of_link, wants_of_links, wanted, Polls, OpensOne, OpensSome, AcceptsWhere, PollsAndAccepts, ReadsWithRoom, ReadsSide, WritesSide, ConnectsSide, is_connecting, ServesSide, PassesSide, PassesLink, ForAllLinks, closing_events, Closes, LooksAt, ClosesLink, Turns}
-use Rattle.relay_drive.specs.Bounds.{IsOrdered, StateIsWithin, most_of_turn}
-use Rattle.relay_drive.proofs.BoundLemmas.{within-more, within-flags, within-lane, within-freed, within-opened, within-side, side-got, ordered-took, ordered-round, ordered-rounds}
+use Rattle.relay_drive.specs.Calls.{Ticks, Checks, Writes}
+use Rattle.relay_drive.specs.Phases.{links_from, want_of, wants_some, wants_of, wants_of_link, wants_of_links, wanted, Polls, OpensOne, OpensSome, AcceptsWhere, PollsAndAccepts, ReadsWithRoom, ReadsSide, WritesSide, ConnectsSide, ServesSide, PassesSide, PassesLink, ForAllLinks, closing_events, Closes, LooksAt, ClosesLink, Turns}
+use Rattle.relay_drive.specs.Bounds.{StateIsWithin, most_of_turn}
 
 -- what a step does: the bound rises by at most k, at most k entries are put, and the settings stay
 pub record Raises (links n k : ℕ) (s : State) (a : Trace) (new : State) : Type 0 where
@@ -51,18 +57,39 @@ links_from-length k zero = refl
 links_from-length k (suc n) = let h = links_from-length (k + 1) n in omega (arith, h)
 
 module _ (links : ℕ) where
+  pub within-more : (n m : ℕ) (s : State) → n ≤ m → StateIsWithin n links s → StateIsWithin m links s
+  within-more n m s h k = record {
+    allowed = k.allowed;
+    opened = k.opened;
+    turns = omega (arith, h, k.turns);
+    reads = λ i. let a = k.reads i in omega (arith, a, h);
+  }
+
+  -- what leaves the frame stays within
+  within-frame : (n : ℕ) (s new : State) → Frame s new → StateIsWithin n links s → StateIsWithin n links new
+  within-frame n s new f k =
+      let a = ap (λ (z : Settings). z.links) f.settings in
+      let b = f.opened in
+      let c = f.turn in
+      record {
+        allowed = omega (arith, a, k.allowed);
+        opened = omega (arith, b, k.opened);
+        turns = omega (arith, c, k.turns);
+        reads = f.reads n k.reads;
+      }
+
   -- Steps in a row
 
   more : (n k l : ℕ) (s new : State) (a : Trace) → k ≤ l → Raises links n k s a new → Raises links n l s a new
   more n k l s new a h r = record {
-    within = within-more links (n + k) (n + l) new (omega (arith, h)) r.within;
+    within = within-more (n + k) (n + l) new (omega (arith, h)) r.within;
     entries = omega (arith, h, r.entries);
     settings = r.settings;
   }
 
   nothing : (n : ℕ) (s new : State) (a : Trace) → StateIsWithin n links s → Nothing s a new → Raises links n 0 s a new
   nothing n s new a k h = record {
-    within = within-more links n (n + 0) new (omega arith) (subst (StateIsWithin n links) (sym h.1) k);
+    within = within-more n (n + 0) new (omega arith) (subst (StateIsWithin n links) (sym h.1) k);
     entries = let e = ap length h.0 in omega (arith, e);
     settings = ap (λ (z : State). z.settings) h.1;
   }
@@ -70,7 +97,7 @@ module _ (links : ℕ) where
   next : (n k l : ℕ) (s m new : State) (a b c : Trace) → Raises links n k s a m → Raises links (n + k) l m b new → c ≡ a ++ b →
       Raises links n (k + l) s c new
   next n k l s m new a b c f g e = record {
-    within = within-more links ((n + k) + l) (n + (k + l)) new (omega arith) g.within;
+    within = within-more ((n + k) + l) (n + (k + l)) new (omega arith) g.within;
     entries = let p = ap length e ∙ length-append a b in omega (arith, p, f.entries, g.entries);
     settings = g.settings ∙ f.settings;
   }
@@ -92,12 +119,22 @@ module _ (links : ℕ) where
   -- Clock and poll
 
   ticks : (reading : ℕ) → IsRaising 1 (Ticks reading)
-  ticks reading n s new a w h = record {
-    within = subst (StateIsWithin (n + 1) links) (sym h.state) (let v = within-more links n (n + 1) s (omega arith) w in
-        record { allowed = v.allowed; opened = v.opened; sides = v.sides });
-    entries = let e = ap length h.entries in omega (arith, e);
-    settings = ap (λ (z : State). z.settings) h.state;
-  }
+  ticks reading n s new a w h =
+      let ms : ℕ = max s.plain.time (min reading (2 ^ 62)) in
+      let f = frame-begun s ms in
+      let links_stay = ap (λ (z : Settings). z.links) f.settings in
+      let opened = f.opened in
+      let turn = f.turn in
+      record {
+        within = subst (StateIsWithin (n + 1) links) (sym h.state) (record {
+          allowed = omega (arith, links_stay, w.allowed);
+          opened = omega (arith, opened, w.opened);
+          turns = omega (arith, turn, w.turns);
+          reads = f.reads (n + 1) (λ i. let r = w.reads i in omega (arith, r));
+        });
+        entries = let e = ap length h.entries in omega (arith, e);
+        settings = ap (λ (z : State). z.settings) h.state ∙ f.settings;
+      }
 
   wants-most : (s : State) (e : SideId) → length (wants_of s e) ≤ 1
   wants-most s e = go (wants_some (want_of s e))
@@ -119,8 +156,8 @@ module _ (links : ℕ) where
   marked-most : (n : ℕ) (s : State) (marked : List Want) → StateIsWithin n links s → length marked ≡ length (wanted s) →
       length marked ≤ 2 * links
   marked-most n s marked w h =
-      let a = wanted-most s (links_from 0 s.opened) in
-      let b = links_from-length 0 s.opened in
+      let a = wanted-most s (links_from 0 s.plain.opened) in
+      let b = links_from-length 0 s.plain.opened in
       omega (arith, w.opened, h, a, b)
 
   want_events-length : (ws : List Want) → length (want_events ws) ≡ length ws
@@ -140,7 +177,7 @@ module _ (links : ℕ) where
 
   polls : (marked : List Want) (accept : Bool) → IsRaising (1 + 4 * links) (Polls marked accept)
   polls marked accept n s new a w h = record {
-    within = within-more links n (n + (1 + 4 * links)) new (omega arith) (subst (StateIsWithin n links) (sym h.state) w);
+    within = within-more n (n + (1 + 4 * links)) new (omega arith) (subst (StateIsWithin n links) (sym h.state) w);
     entries =
         let e = ap length h.entries in
         let p = length-append (want_events marked) (ready_events marked) in
@@ -157,8 +194,12 @@ module _ (links : ℕ) where
   opens n s new a w h =
       let o = h.1 in
       record {
-        within = subst (StateIsWithin (n + 1) links) (sym o.state)
-            (within-more links n (n + 1) _ (omega arith) (within-opened links n s h.0 o.allowed w));
+        within = subst (StateIsWithin (n + 1) links) (sym o.state) (record {
+          allowed = w.allowed;
+          opened = (let p = o.allowed in omega (arith, p, w.allowed));
+          turns = omega (arith, w.turns);
+          reads = push-within (n + 1) s.lanes _ _ (omega arith) (omega arith) (λ i. let r = w.reads i in omega (arith, r));
+        });
         entries = let e = ap length o.entries in omega (arith, e);
         settings = ap (λ (z : State). z.settings) o.state;
       }
@@ -180,26 +221,14 @@ module _ (links : ℕ) where
   got-most read.Failed into h = omega arith
 
   room-most : (s : State) (e : SideId) → read_room s e ≤ 16384
-  room-most s e = go (may_read s e)
+  room-most s e = go (may_read s.plain e)
     where
-      go : (b : Bool) → (if b then min 16384 (read_mark - input_length s e) else 0) ≤ 16384
+      go : (b : Bool) → (if b then min most_at_once (read_mark s.plain e - input_length s e) else 0) ≤ 16384
       go true = omega arith
       go false = omega arith
 
-  after-read : (n : ℕ) (s : State) (e : SideId) (answer : ReadAnswer) (bytes : List ℕ) → length bytes ≤ 16384 →
-      StateIsWithin n links s → StateIsWithin (n + 16384) links (after_read s e answer bytes) ×
-      ((after_read s e answer bytes).settings ≡ s.settings)
-  after-read n s e (read.Got m) bytes h w = (
-    within-side links (n + 16384) s e _ (side-got n (side_at s e) bytes h (w.sides (number e)))
-        (within-more links n (n + 16384) s (omega arith) w),
-    refl,
-  )
-  after-read n s e read.Ended bytes h w = (within-flags links (n + 16384) s e _ (within-more links n (n + 16384) s (omega arith) w), refl)
-  after-read n s e read.NotYet bytes h w = (within-more links n (n + 16384) s (omega arith) w, refl)
-  after-read n s e read.Failed bytes h w = (within-flags links (n + 16384) s e _ (within-more links n (n + 16384) s (omega arith) w), refl)
-
   reads : (e : SideId) (marked : Bool) → IsRaising 16384 (ReadsSide e marked)
-  reads e marked n s new a w h = by_bool (marked && wants_read s e) some none h
+  reads e marked n s new a w h = by_bool (marked && wants s e dir.Read) some none h
     where
       some : ReadsWithRoom e s a new → Raises links n 16384 s a new
       some r =
@@ -208,27 +237,23 @@ module _ (links : ℕ) where
           let c = r.3 in
           let most : length (got_bytes answer into) ≤ 16384 = (let p = got-most answer into c.within in let q = room-most s e in
           omega (arith, p, q, r.2)) in
-          let d = after-read n s e answer (got_bytes answer into) most w in
+          let f = frame-read s e answer (got_bytes answer into) in
+          let links_stay = ap (λ (z : Settings). z.links) f.settings in
+          let opened = f.opened in
+          let turn = f.turn in
           record {
-            within = subst (StateIsWithin (n + 16384) links) (sym c.state) d.0;
+            within = subst (StateIsWithin (n + 16384) links) (sym c.state) (record {
+              allowed = omega (arith, links_stay, w.allowed);
+              opened = omega (arith, opened, w.opened);
+              turns = omega (arith, turn, w.turns);
+              reads = λ i. let p = f.reads n w.reads i in omega (arith, p, most);
+            });
             entries = let p = ap length c.entries in omega (arith, p);
-            settings = ap (λ (z : State). z.settings) c.state ∙ d.1;
+            settings = ap (λ (z : State). z.settings) c.state ∙ f.settings;
           }
 
       none : Nothing s a new → Raises links n 16384 s a new
       none r = more n 0 16384 s new a (omega arith) (nothing n s new a w r)
-
-  after-write : (n : ℕ) (s : State) (e : SideId) (answer : WriteAnswer) → WriteWithin answer (length (offer s e)) →
-      StateIsWithin n links s → StateIsWithin n links (after_write s e answer) × ((after_write s e answer).settings ≡ s.settings)
-  after-write n s e (write.Took m) h w =
-      let p = length-take (write_room s e) (waiting_for s e) in (
-        within-lane links n s (peer e) _
-            (ordered-took (side_at s (peer e)).read m (lane_at s (peer e)) (omega (arith, p, h.1)) (w.sides (number (peer e))).lane) w,
-        refl,
-      )
-  after-write n s e write.NotYet h w = (w, refl)
-  after-write n s e write.Failed h w = (within-flags links n s e _ w, refl)
-  after-write n s e write.NoMemory h w = (w, refl)
 
   write_events-most : (e : SideId) (from : List ℕ) (answer : WriteAnswer) → length (write_events e from answer) ≤ 1
   write_events-most e from (write.Took m) = omega arith
@@ -242,21 +267,15 @@ module _ (links : ℕ) where
       some : (answer : WriteAnswer) × Writes e answer s a new → Raises links n 1 s a new
       some r =
           let c = r.1 in
-          let d = after-write n s e r.0 c.within w in
+          let f = frame-write s e r.0 in
           record {
-            within = within-more links n (n + 1) new (omega arith) (subst (StateIsWithin n links) (sym c.state) d.0);
+            within = within-more n (n + 1) new (omega arith) (subst (StateIsWithin n links) (sym c.state) (within-frame n s _ f w));
             entries = let p = ap length c.entries in let q = write_events-most e (offer s e) r.0 in omega (arith, p, q);
-            settings = ap (λ (z : State). z.settings) c.state ∙ d.1;
+            settings = ap (λ (z : State). z.settings) c.state ∙ f.settings;
           }
 
       none : Nothing s a new → Raises links n 1 s a new
       none r = more n 0 1 s new a (omega arith) (nothing n s new a w r)
-
-  after-conn : (n : ℕ) (s : State) (e : SideId) (answer : ConnAnswer) → StateIsWithin n links s →
-      StateIsWithin n links (after_conn s e answer) × ((after_conn s e answer).settings ≡ s.settings)
-  after-conn n s e conn.Connected w = (within-flags links n s e _ w, refl)
-  after-conn n s e conn.Pending w = (w, refl)
-  after-conn n s e conn.Failed w = (within-flags links n s e _ w, refl)
 
   connects : (e : SideId) (marked : Bool) → IsRaising 1 (ConnectsSide e marked)
   connects e marked n s new a w h = by_bool marked some none h
@@ -264,11 +283,11 @@ module _ (links : ℕ) where
       some : (answer : ConnAnswer) × Checks e answer s a new → Raises links n 1 s a new
       some r =
           let c = r.1 in
-          let d = after-conn n s e r.0 w in
+          let f = frame-conn s e r.0 in
           record {
-            within = within-more links n (n + 1) new (omega arith) (subst (StateIsWithin n links) (sym c.state) d.0);
+            within = within-more n (n + 1) new (omega arith) (subst (StateIsWithin n links) (sym c.state) (within-frame n s _ f w));
             entries = let p = ap length c.entries in omega (arith, p);
-            settings = ap (λ (z : State). z.settings) c.state ∙ d.1;
+            settings = ap (λ (z : State). z.settings) c.state ∙ f.settings;
           }
 
       none : Nothing s a new → Raises links n 1 s a new
@@ -276,7 +295,7 @@ module _ (links : ℕ) where
 
   serves : (x : Want) → IsRaising 16385 (ServesSide x)
   serves x n s new a w h =
-      by_bool (is_connecting s x.side)
+      by_bool (is_connecting s.plain x.side)
       (λ r. more n 1 16385 s new a (omega arith) (connects x.side x.can_write n s new a w r))
       (λ r. both 16384 1 (reads x.side x.can_read) (writes x.side x.can_write) n s new a w r)
       h
@@ -285,18 +304,11 @@ module _ (links : ℕ) where
 
   passes : (e : SideId) → IsRaising 0 (PassesSide e)
   passes e n s new a w h =
-      let p = h.1 in
-      let r : ℕ = (side_at s e).read in
-      let many = p.1 in
-      let f = round_from s e in
-      let lane = ordered-rounds r many.0 f (lane_at s e)
-      (λ y k. ordered-round r s.settings.hold (flags_at s e).ended (flags_at s e).live (flags_at s (peer e)).live y k)
-      (w.sides (number e)).lane in
+      let f = frame-passed s e new h.1 in
       record {
-        within = subst (StateIsWithin (n + 0) links) (sym p.2)
-            (within-more links n (n + 0) _ (omega arith) (within-lane links n s e p.0 (subst (IsOrdered r) (sym many.1) lane) w));
+        within = within-more n (n + 0) new (omega arith) (within-frame n s new f w);
         entries = let e = ap length h.0 in omega (arith, e);
-        settings = ap (λ (z : State). z.settings) p.2;
+        settings = f.settings;
       }
 
   passes_link : (k : ℕ) → IsRaising 0 (PassesLink k)
@@ -304,29 +316,41 @@ module _ (links : ℕ) where
 
   passes_all : IsRaising 0 (ForAllLinks PassesLink)
   passes_all n s new a w h =
-      let t = (total-is (links_from 0 s.opened)).0 in
-      more n (total 0 (links_from 0 s.opened)) 0 s new a (omega (arith, t))
-      (each PassesLink 0 passes_link (links_from 0 s.opened) n s new a w h)
+      let t = (total-is (links_from 0 s.plain.opened)).0 in
+      more n (total 0 (links_from 0 s.plain.opened)) 0 s new a (omega (arith, t))
+      (each PassesLink 0 passes_link (links_from 0 s.plain.opened) n s new a w h)
 
-  after-closing : (n : ℕ) (s : State) (step : Closing) → StateIsWithin n links s → StateIsWithin n links (after_closing s step) ×
-      ((after_closing s step).settings ≡ s.settings) × (length (closing_events s step) ≤ 2)
-  after-closing n s (closing.Faulty e) w = (within-freed links n s e w, refl, omega arith)
-  after-closing n s (closing.EndWriting e) w = (within-flags links n s e _ w, refl, omega arith)
-  after-closing n s (closing.BothDone k) w =
-      (within-freed links n (freed s (in_side k)) (out_side k) (within-freed links n s (in_side k) w), refl, omega arith)
-  after-closing n s (closing.PeerGone e) w = (within-freed links n s e w, refl, omega arith)
-  after-closing n s (closing.Shut e) w = (within-flags links n s e _ w, refl, omega arith)
+  frame-closing : (s : State) (step : Closing) → Frame s (after_closing s step)
+  frame-closing s (closing.Faulty e) = frame-closed s (CloseStep.Faulty e)
+  frame-closing s (closing.EndWriting e) = frame-closed s (CloseStep.EndWriting e)
+  frame-closing s (closing.BothDone k) =
+      frame-then s (closed (CloseStep.BothDone k) s) _ (frame-closed s (CloseStep.BothDone k))
+      (frame-closed (closed (CloseStep.BothDone k) s) (CloseStep.OutDone k))
+  frame-closing s (closing.PeerGone e) = frame-closed s (CloseStep.PeerGone e)
+  frame-closing s (closing.Shut e) = frame-closed s (CloseStep.Shut e)
+
+  few-events : (o : Option Entry) → length (entry_events o) ≤ 1
+  few-events None = omega arith
+  few-events (Some y) = omega arith
+
+  closing-most : (s : State) (step : Closing) → length (closing_events s step) ≤ 2
+  closing-most s (closing.Faulty e) = let h = few-events (option_map (freed_entry s.plain e) (fault (side_at s.plain e))) in omega (arith, h)
+  closing-most s (closing.EndWriting e) = omega arith
+  closing-most s (closing.BothDone k) = omega arith
+  closing-most s (closing.PeerGone e) = omega arith
+  closing-most s (closing.Shut e) = omega arith
 
   looks : (step : Closing) → IsRaising 2 (LooksAt step)
-  looks step n s new a w h = by_bool (is_called_for s step) some none h
+  looks step n s new a w h = by_bool (is_some (closing_entry s (close_step step))) some none h
     where
       some : Closes step s a new → Raises links n 2 s a new
       some c =
-          let d = after-closing n s step w in
+          let f = frame-closing s step in
+          let most = closing-most s step in
           record {
-            within = within-more links n (n + 2) new (omega arith) (subst (StateIsWithin n links) (sym c.state) d.0);
-            entries = let p = ap length c.entries in omega (arith, p, d.2);
-            settings = ap (λ (z : State). z.settings) c.state ∙ d.1;
+            within = within-more n (n + 2) new (omega arith) (subst (StateIsWithin n links) (sym c.state) (within-frame n s _ f w));
+            entries = let p = ap length c.entries in omega (arith, p, most);
+            settings = ap (λ (z : State). z.settings) c.state ∙ f.settings;
           }
 
       none : Nothing s a new → Raises links n 2 s a new
@@ -337,10 +361,10 @@ module _ (links : ℕ) where
 
   closes_all : IsRaising (18 * links) (ForAllLinks ClosesLink)
   closes_all n s new a w h =
-      let t = (total-is (links_from 0 s.opened)).2 in
-      let l = links_from-length 0 s.opened in
-      more n (total 18 (links_from 0 s.opened)) (18 * links) s new a (omega (arith, t, l, w.opened))
-      (each ClosesLink 18 closes_link (links_from 0 s.opened) n s new a w h)
+      let t = (total-is (links_from 0 s.plain.opened)).2 in
+      let l = links_from-length 0 s.plain.opened in
+      more n (total 18 (links_from 0 s.plain.opened)) (18 * links) s new a (omega (arith, t, l, w.opened))
+      (each ClosesLink 18 closes_link (links_from 0 s.plain.opened) n s new a w h)
 
   -- The turn
 

@@ -11,7 +11,6 @@ pub mod ClosingLemmas
 pub mod PollLemmas
 pub mod AcceptLemmas
 pub mod MeantFolds
-pub mod BoundLemmas
 pub mod BoundSteps
 pub mod BoundLaws
 pub mod MeantServing

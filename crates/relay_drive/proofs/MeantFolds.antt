@@ -5,12 +5,12 @@ use Rattle.ev_types.specs.Trace.{Trace}
 use Rattle.relay_model.specs.Stages.{Stage}
 use Rattle.relay_state.specs.State.{State}
 use Rattle.relay_drive.specs.Steps.{Nothing, Each, CutAt}
-use Rattle.relay_meaning.specs.Meaning.{StandsFor}
+use Rattle.relay_steps.specs.Meaning.{StandsFor}
 
 -- the relay stands for a trace, with so many links
 pub record StandsWith (n : ℕ) (t : Trace) (x : Stage) (s : State) : Type 0 where
   pub stands : StandsFor t x s
-  pub opened : s.opened ≡ n
+  pub opened : s.plain.opened ≡ n
 
 -- something holds of all of a list
 abbrev pub Each_is : {X : Type 0} → (X → Type 0) → List X → Type 0

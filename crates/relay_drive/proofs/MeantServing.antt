@@ -1,6 +1,6 @@
 -- Serving a side, passing a direction and looking at a step of closing keep what the relay stands for.
 use Rattle.std.proofs.Common.{◌≡◌, ◌≢◌, inl, inr, ℕ, zero, suc, ◌+◌, ◌<◌, ◌≤◌, Bool, true, false, ◌&&◌, ◌||◌, if◌then◌else◌, List, [], ◌∷◌, ◌++◌, length, map, refl, sym, ◌∙◌, ap, subst, arith, append_assoc, append-nil, length-take-le}
-use Rattle.std.specs.Prelude.{nat_lt, MatchBool}
+use Rattle.std.specs.Prelude.{nat_lt, MatchBool, Option, Some, None, is_some, option_map}
 use Rattle.ev_types.specs.declared.side.SideId.{SideId}
 use Rattle.ev_types.specs.declared.answer.ConnAnswer.{ConnAnswer}
 use Rattle.ev_types.specs.declared.answer.ConnAnswer.TheVariants as conn
@@ -8,33 +8,38 @@ use Rattle.ev_types.specs.declared.answer.ReadAnswer.{ReadAnswer}
 use Rattle.ev_types.specs.declared.answer.ReadAnswer.TheVariants as read
 use Rattle.ev_types.specs.declared.answer.WriteAnswer.{WriteAnswer}
 use Rattle.ev_types.specs.declared.answer.WriteAnswer.TheVariants as write
+use Rattle.ev_types.specs.declared.entry.Entry.{Entry}
 use Rattle.ev_types.specs.declared.entry.Entry.TheVariants as entry
+use Rattle.ev_types.specs.declared.why.Cause.TheVariants as cause
+use Rattle.token_bucket.specs.declared.limit.Dir.TheVariants as dir
 use Rattle.ev_types.specs.Trace.{Trace}
 use Rattle.ev_port.specs.declared.port.Want.{Want}
 use Rattle.ev_port.specs.Ends.{conn_events, ReadWithin, got_bytes, WriteWithin, took_bytes, write_events}
 use Rattle.relay_model.specs.Rooms as rooms
 use Rattle.relay_model.specs.Serve.{CarriesGot}
-use Rattle.relay_model.specs.Plain.{sides_from}
+use Rattle.relay_model.specs.Plain.{side_at, is_live, sides_from}
+use Rattle.relay_model.specs.Rooms.{is_connecting}
 use Rattle.relay_model.specs.Close as model
-use Rattle.relay_model.specs.Close.{CloseStep, closing_from}
+use Rattle.relay_model.specs.Close.{CloseStep, closing_from, fault, freed_entry, entry_where}
 use Rattle.relay_model.specs.Stages.{Stage}
 use Rattle.relay_model.specs.Answers.{TurnAnswer, MayLack}
 use Rattle.relay_core.specs.declared.close.Closing.{Closing}
 use Rattle.relay_core.specs.declared.close.Closing.TheVariants as closing
-use Rattle.relay_core.specs.State.{State, SideValue, side_at}
-use Rattle.relay_state.specs.Rooms.{read_room, write_room, offer, wants_read}
-use Rattle.relay_core.specs.Closing.{in_side, out_side, link_of_step, closing_of, is_called_for, after_closing}
+use Rattle.relay_state.specs.State.{State}
+use Rattle.relay_state.specs.Rooms.{read_room, write_room, offer, wants}
+use Rattle.relay_state.specs.Closing.{in_side, out_side, closing_entry, closed}
+use Rattle.relay_core.specs.Steps.{link_of_step, closing_of, close_step, after_closing, entry_events}
 use Rattle.relay_drive.specs.Steps.{Nothing, Then}
 use Rattle.relay_drive.specs.Calls.{Checks, Reads, Writes, after_conn, after_read, after_write, is_memory}
-use Rattle.relay_drive.specs.Phases.{links_from, ReadsSide, WritesSide, ConnectsSide, ReadsWithRoom, is_connecting, ServesSide, CutServing, PassesSide, CutPassing, PassesLink, CutPassingLink, closing_events, Closes, LooksAt, ClosesLink, CutClosingLink}
-use Rattle.relay_meaning.specs.Meaning.{StandsFor, LeftFor}
-use Rattle.relay_meaning.specs.Results.{close_step}
-use Rattle.relay_meaning.proofs.AgreeLemmas.{side-set, in_code}
-use Rattle.relay_meaning.proofs.ServeSteps.{mark, conn-stands, read-stands, waiting-skipped, read-skipped, write-skipped}
-use Rattle.relay_meaning.proofs.WriteSteps.{write-stands, offer-length}
-use Rattle.relay_meaning.proofs.PassSteps.{passed-stands, partly_passed-stands}
-use Rattle.relay_meaning.proofs.CloseSteps.{called-stands, not_called-stands}
-use Rattle.relay_meaning.proofs.TurnSteps.{marks_of}
+use Rattle.relay_drive.specs.Phases.{links_from, ReadsSide, WritesSide, ConnectsSide, ReadsWithRoom, ServesSide, CutServing, PassesSide, CutPassing, PassesLink, CutPassingLink, closing_events, Closes, LooksAt, ClosesLink, CutClosingLink}
+use Rattle.relay_steps.specs.Meaning.{StandsFor, LeftFor}
+use Rattle.relay_steps.proofs.FrameLemmas.{frame-conn, frame-read, frame-write, frame-passed}
+use Rattle.relay_steps.proofs.ServeSteps.{mark, conn-stands, read-stands, waiting-skipped, read-skipped, write-skipped}
+use Rattle.relay_steps.proofs.WaitLemmas.{read-waits}
+use Rattle.relay_steps.proofs.WriteSteps.{write-stands, offer-length}
+use Rattle.relay_steps.proofs.PassSteps.{passed-stands, partly_passed-stands}
+use Rattle.relay_steps.proofs.CloseSteps.{closed-stands, not_closed-stands}
+use Rattle.relay_steps.proofs.PollSteps.{marks_of}
 use Rattle.relay_drive.proofs.MeantFolds.{StandsWith, Each_is, stands-nothing, Keeps, each-keeps, all-keeps, cut-leaves}
 
 -- a want of memory may come while a side is served, while a direction is passed, and before a step of closing
@@ -53,38 +58,6 @@ serving ws = Stage.Serving (marks_of ws)
 abbrev marks_with : SideId → Bool → Bool → List rooms.Want → List rooms.Want
 marks_with e r c ms = if r || c then mark e r c ∷ ms else ms
 
--- no call opens a link
-conn-opened : (s : State) (e : SideId) (answer : ConnAnswer) → (after_conn s e answer).opened ≡ s.opened
-conn-opened s e conn.Connected = refl
-conn-opened s e conn.Pending = refl
-conn-opened s e conn.Failed = refl
-
-read-opened : (s : State) (e : SideId) (answer : ReadAnswer) (bytes : List ℕ) → (after_read s e answer bytes).opened ≡ s.opened
-read-opened s e (read.Got n) bytes = refl
-read-opened s e read.Ended bytes = refl
-read-opened s e read.NotYet bytes = refl
-read-opened s e read.Failed bytes = refl
-
-write-opened : (s : State) (e : SideId) (answer : WriteAnswer) → (after_write s e answer).opened ≡ s.opened
-write-opened s e (write.Took n) = refl
-write-opened s e write.NotYet = refl
-write-opened s e write.Failed = refl
-write-opened s e write.NoMemory = refl
-
--- a read doesn't make a side connect
-read-waits : (t : Trace) (x : Stage) (s : State) (e : SideId) (answer : ReadAnswer) (bytes : List ℕ) → StandsFor t x s → e.link < s.opened →
-    is_connecting (after_read s e answer bytes) e ≡ is_connecting s e
-read-waits t x s e answer bytes k lt = by_answer answer
-  where
-    seen : (y : SideValue) → side_at (Rattle.relay_core.specs.State.with_side s e y) e ≡ y
-    seen y = side-set s e y (in_code t s k.plain e k.agrees lt)
-
-    by_answer : (answer : ReadAnswer) → is_connecting (after_read s e answer bytes) e ≡ is_connecting s e
-    by_answer (read.Got n) = ap (λ (y : SideValue). y.flags.live && y.flags.connecting) (seen _)
-    by_answer read.Ended = ap (λ (y : SideValue). y.flags.live && y.flags.connecting) (seen _)
-    by_answer read.NotYet = refl
-    by_answer read.Failed = ap (λ (y : SideValue). y.flags.live && y.flags.connecting) (seen _)
-
 not-memory : (answer : WriteAnswer) → is_memory answer ≡ false → answer ≢ write.NoMemory
 not-memory answer h = λ e. absurd (let k = ap is_memory e in cc)
 
@@ -97,20 +70,20 @@ carries read.NotYet into room h within = refl
 carries read.Failed into room h within = refl
 
 module _ (n : ℕ) (e : SideId) (ms : List rooms.Want) where
-  here : (t : Trace) (x : Stage) (s : State) → e.link < n → StandsWith n t x s → e.link < s.opened
+  here : (t : Trace) (x : Stage) (s : State) → e.link < n → StandsWith n t x s → e.link < s.plain.opened
   here t x s lt k = let a = k.opened in omega (arith, a)
 
-  asked : (r : Bool) (t : Trace) (s new : State) (a : Trace) → e.link < n → is_connecting s e ≡ true →
+  asked : (r : Bool) (t : Trace) (s new : State) (a : Trace) → e.link < n → is_connecting s.plain e ≡ true →
       StandsWith n t (Stage.Serving (mark e r true ∷ ms)) s → (answer : ConnAnswer) →
       Checks e answer s a new → StandsWith n (t ++ a) (Stage.Serving ms) new
   asked r t s new a lt q k answer h =
       let stands = conn-stands t s e r true ms k.stands (here t (Stage.Serving (mark e r true ∷ ms)) s lt k) answer q refl in
       subst (λ z. StandsWith n (t ++ z) (Stage.Serving ms) new) (sym h.entries)
       (subst (StandsWith n (t ++ conn_events e answer) (Stage.Serving ms)) (sym h.state)
-      (record { stands = stands; opened = conn-opened s e answer ∙ k.opened }))
+      (record { stands = stands; opened = (frame-conn s e answer).opened ∙ k.opened }))
 
   -- a connecting side
-  connects : (r c : Bool) (t : Trace) (s new : State) (a : Trace) → e.link < n → is_connecting s e ≡ true →
+  connects : (r c : Bool) (t : Trace) (s new : State) (a : Trace) → e.link < n → is_connecting s.plain e ≡ true →
       StandsWith n t (Stage.Serving (marks_with e r c ms)) s →
       ConnectsSide e c s a new → StandsWith n (t ++ a) (Stage.Serving ms) new
   connects true true t s new a lt q k h = asked true t s new a lt q k h.0 h.1
@@ -126,10 +99,10 @@ module _ (n : ℕ) (e : SideId) (ms : List rooms.Want) where
 
   -- what is left of a side behind its read
   abbrev ReadDone : Bool → Trace → State → Type 0
-  ReadDone c t s = StandsWith n t (Stage.Serving (marks_with e false c ms)) s × (is_connecting s e ≡ false)
+  ReadDone c t s = StandsWith n t (Stage.Serving (marks_with e false c ms)) s × (is_connecting s.plain e ≡ false)
 
   -- a mark for reading alone is done with where the read is
-  drop-mark : (c : Bool) (t : Trace) (s : State) → e.link < n → is_connecting s e ≡ false →
+  drop-mark : (c : Bool) (t : Trace) (s : State) → e.link < n → is_connecting s.plain e ≡ false →
       StandsWith n t (Stage.Serving (mark e false c ∷ ms)) s → ReadDone c t s
   drop-mark true t s lt q k = (k, q)
   drop-mark false t s lt q k = (
@@ -141,9 +114,9 @@ module _ (n : ℕ) (e : SideId) (ms : List rooms.Want) where
     q,
   )
 
-  reads-marked : (c : Bool) (t : Trace) (s new : State) (a : Trace) → e.link < n → is_connecting s e ≡ false →
+  reads-marked : (c : Bool) (t : Trace) (s new : State) (a : Trace) → e.link < n → is_connecting s.plain e ≡ false →
       StandsWith n t (Stage.Serving (mark e true c ∷ ms)) s →
-      (b : Bool) → wants_read s e ≡ b → MatchBool b (ReadsWithRoom e s a new) (Nothing s a new) → ReadDone c (t ++ a) new
+      (b : Bool) → wants s e dir.Read ≡ b → MatchBool b (ReadsWithRoom e s a new) (Nothing s a new) → ReadDone c (t ++ a) new
   reads-marked c t s new a lt q k true some h =
       let answer = h.0 in
       let into = h.1 in
@@ -159,26 +132,26 @@ module _ (n : ℕ) (e : SideId) (ms : List rooms.Want) where
       (subst (StandsWith n (t ++ (entry.Read e (read_room s e) answer, bytes) ∷ []) (Stage.Serving (mark e false c ∷ ms))) (sym r.state)
       (record {
         stands = stands;
-        opened = read-opened s e answer bytes ∙ k.opened;
+        opened = (frame-read s e answer bytes).opened ∙ k.opened;
       })) in
       drop-mark c (t ++ a) new lt
-      (ap (λ z. is_connecting z e) r.state ∙ read-waits t (Stage.Serving (mark e true c ∷ ms)) s e answer bytes k.stands inside ∙ q) after
+      (ap (λ z. is_connecting z.plain e) r.state ∙ read-waits s e answer bytes ∙ q) after
   reads-marked c t s new a lt q k false none h =
       let after = stands-nothing n t (Stage.Serving (mark e false c ∷ ms)) s new a
       (record {
         stands = read-skipped t s e true c ms k.stands (here t (Stage.Serving (mark e true c ∷ ms)) s lt k) q refl none;
         opened = k.opened;
       }) h in
-      drop-mark c (t ++ a) new lt (ap (λ z. is_connecting z e) h.1 ∙ q) after
+      drop-mark c (t ++ a) new lt (ap (λ z. is_connecting z.plain e) h.1 ∙ q) after
 
-  reads : (r c : Bool) (t : Trace) (s new : State) (a : Trace) → e.link < n → is_connecting s e ≡ false →
+  reads : (r c : Bool) (t : Trace) (s new : State) (a : Trace) → e.link < n → is_connecting s.plain e ≡ false →
       StandsWith n t (Stage.Serving (marks_with e r c ms)) s →
       ReadsSide e r s a new → ReadDone c (t ++ a) new
-  reads true c t s new a lt q k h = reads-marked c t s new a lt q k (wants_read s e) refl h
+  reads true c t s new a lt q k h = reads-marked c t s new a lt q k (wants s e dir.Read) refl h
   reads false c t s new a lt q k h =
-      (stands-nothing n t (Stage.Serving (marks_with e false c ms)) s new a k h, ap (λ z. is_connecting z e) h.1 ∙ q)
+      (stands-nothing n t (Stage.Serving (marks_with e false c ms)) s new a k h, ap (λ z. is_connecting z.plain e) h.1 ∙ q)
 
-  writes-marked : (t : Trace) (s new : State) (a : Trace) → e.link < n → is_connecting s e ≡ false →
+  writes-marked : (t : Trace) (s new : State) (a : Trace) → e.link < n → is_connecting s.plain e ≡ false →
       StandsWith n t (Stage.Serving (mark e false true ∷ ms)) s →
       (b : Bool) → nat_lt 0 (write_room s e) ≡ b →
       MatchBool b ((answer : WriteAnswer) × Writes e answer s a new) (Nothing s a new) → StandsWith n (t ++ a) (Stage.Serving ms) new
@@ -197,7 +170,7 @@ module _ (n : ℕ) (e : SideId) (ms : List rooms.Want) where
       (sym w.state)
       (record {
         stands = stands;
-        opened = write-opened s e answer ∙ k.opened;
+        opened = (frame-write s e answer).opened ∙ k.opened;
       }))
     where
       events : (answer : WriteAnswer) → answer ≢ write.NoMemory →
@@ -214,14 +187,14 @@ module _ (n : ℕ) (e : SideId) (ms : List rooms.Want) where
         opened = k.opened;
       }) h
 
-  writes : (c : Bool) (t : Trace) (s new : State) (a : Trace) → e.link < n → is_connecting s e ≡ false →
+  writes : (c : Bool) (t : Trace) (s new : State) (a : Trace) → e.link < n → is_connecting s.plain e ≡ false →
       StandsWith n t (Stage.Serving (marks_with e false c ms)) s →
       WritesSide e c s a new → StandsWith n (t ++ a) (Stage.Serving ms) new
   writes true t s new a lt q k h = writes-marked t s new a lt q k (nat_lt 0 (write_room s e)) refl h
   writes false t s new a lt q k h = stands-nothing n t (Stage.Serving ms) s new a k h
 
   serves : (r c : Bool) (t : Trace) (s new : State) (a : Trace) → e.link < n → StandsWith n t (Stage.Serving (marks_with e r c ms)) s →
-      (b : Bool) → is_connecting s e ≡ b →
+      (b : Bool) → is_connecting s.plain e ≡ b →
       MatchBool b (ConnectsSide e c s a new) (Then (ReadsSide e r) (WritesSide e c) s a new) →
       StandsWith n (t ++ a) (Stage.Serving ms) new
   serves r c t s new a lt k true q h = connects r c t s new a lt q k h
@@ -231,7 +204,7 @@ module _ (n : ℕ) (e : SideId) (ms : List rooms.Want) where
       (writes c (t ++ h.front) h.middle new h.back lt read.1 read.0 h.second)
 
 pub serving-keeps : (n : ℕ) → Keeps n (IsBelow n) serving ServesSide
-serving-keeps n w ws t s new a lt k h = serves n w.side (marks_of ws) w.can_read w.can_write t s new a lt k (is_connecting s w.side) refl h
+serving-keeps n w ws t s new a lt k h = serves n w.side (marks_of ws) w.can_read w.can_write t s new a lt k (is_connecting s.plain w.side) refl h
 
 pub serving-cut : (n : ℕ) (w : Want) (ws : List Want) (t : Trace) (s new : State) (a : Trace) → IsBelow n w →
     StandsWith n t (serving (w ∷ ws)) s → CutServing w s a new → LeftFor TurnAnswer.Memory (t ++ a) new
@@ -253,7 +226,7 @@ pub passing-keeps : (n : ℕ) → Keeps n (is_below n) passing PassesSide
 passing-keeps n e es t s new a lt k h =
     let stands = passed-stands t e es s new (let b = k.opened in omega (arith, b)) k.stands h.1 in
     subst (λ z. StandsWith n z (passing es) new) (sym (ap (λ b. t ++ b) h.0 ∙ append-nil t))
-    (record { stands = stands; opened = ap (λ (z : State). z.opened) h.1.2 ∙ k.opened })
+    (record { stands = stands; opened = (frame-passed s e new h.1).opened ∙ k.opened })
 
 pub passing-cut : (n : ℕ) (e : SideId) (es : List SideId) (t : Trace) (s new : State) (a : Trace) → is_below n e →
     StandsWith n t (passing (e ∷ es)) s → CutPassing e s a new → LeftFor TurnAnswer.Memory (t ++ a) new
@@ -297,12 +270,59 @@ passing_links-cut n k ks t s new a lt w h =
 
 -- Closing
 
-closing-opened : (s : State) (c : Closing) → (after_closing s c).opened ≡ s.opened
+closing-opened : (s : State) (c : Closing) → (after_closing s c).plain.opened ≡ s.plain.opened
 closing-opened s (closing.Faulty e) = refl
 closing-opened s (closing.EndWriting e) = refl
 closing-opened s (closing.BothDone k) = refl
 closing-opened s (closing.PeerGone e) = refl
 closing-opened s (closing.Shut e) = refl
+
+none_where : (o : Option Entry) → is_some o ≡ false → o ≡ None
+none_where None h = refl
+none_where (Some y) h = absurd (cc)
+
+where_some : (b : Bool) (y : Entry) → is_some (entry_where b y) ≡ true → entry_where b y ≡ Some y
+where_some true y h = refl
+where_some false y h = absurd (cc)
+
+-- what is put of a faulty side that lives
+faulty-entry : (live : Bool) (o : Option Entry) → is_some (if live then o else None) ≡ true →
+    (y : Entry) × ((if live then o else None) ≡ Some y) × (entry_events o ≡ (y, []) ∷ [])
+faulty-entry true (Some y) h = (y, refl, refl)
+faulty-entry true None h = absurd (cc)
+faulty-entry false o h = absurd (cc)
+
+-- a step that is called for
+called-stands : (t : Trace) (s : State) (cs : List CloseStep) (c : Closing) → link_of_step c < s.plain.opened →
+    StandsFor t (Stage.Closing (close_step c ∷ cs)) s → is_some (closing_entry s (close_step c)) ≡ true →
+    StandsFor (t ++ closing_events s c) (Stage.Closing cs) (after_closing s c)
+called-stands t s cs (closing.Faulty e) lt k called =
+    let f = faulty-entry (is_live s.plain e) (option_map (freed_entry s.plain e) (fault (side_at s.plain e))) called in
+    subst (λ z. StandsFor (t ++ z) (Stage.Closing cs) (closed (CloseStep.Faulty e) s)) (sym f.2)
+    (closed-stands t s (CloseStep.Faulty e) cs f.0 lt k f.1)
+called-stands t s cs (closing.EndWriting e) lt k called =
+    closed-stands t s (CloseStep.EndWriting e) cs (entry.CloseWrite e) lt k (where_some _ (entry.CloseWrite e) called)
+called-stands t s cs (closing.BothDone l) lt k called =
+    let i : SideId = in_side l in
+    let o : SideId = out_side l in
+    let first = closed-stands t s (CloseStep.BothDone l) cs (freed_entry s.plain i cause.Done) lt k (where_some _ (freed_entry s.plain i cause.Done) called) in
+    let second = closed-stands (t ++ (freed_entry s.plain i cause.Done, []) ∷ []) (closed (CloseStep.BothDone l) s) (CloseStep.OutDone l) cs
+    (freed_entry s.plain o cause.Done) lt first refl in
+    subst (λ z. StandsFor z (Stage.Closing cs) (after_closing s (closing.BothDone l)))
+    (append_assoc t ((freed_entry s.plain i cause.Done, []) ∷ []) ((freed_entry s.plain o cause.Done, []) ∷ [])) second
+called-stands t s cs (closing.PeerGone e) lt k called =
+    closed-stands t s (CloseStep.PeerGone e) cs (freed_entry s.plain e cause.PeerGone) lt k (where_some _ (freed_entry s.plain e cause.PeerGone) called)
+called-stands t s cs (closing.Shut e) lt k called =
+    closed-stands t s (CloseStep.Shut e) cs (entry.Close e) lt k (where_some _ (entry.Close e) called)
+
+-- and one that is not
+not_called-stands : (t : Trace) (s : State) (cs : List CloseStep) (c : Closing) → link_of_step c < s.plain.opened →
+    StandsFor t (Stage.Closing (close_step c ∷ cs)) s → is_some (closing_entry s (close_step c)) ≡ false → StandsFor t (Stage.Closing cs) s
+not_called-stands t s cs (closing.Faulty e) lt k off = not_closed-stands t s (CloseStep.Faulty e) cs lt k (none_where _ off)
+not_called-stands t s cs (closing.EndWriting e) lt k off = not_closed-stands t s (CloseStep.EndWriting e) cs lt k (none_where _ off)
+not_called-stands t s cs (closing.BothDone l) lt k off = not_closed-stands t s (CloseStep.BothDone l) cs lt k (none_where _ off)
+not_called-stands t s cs (closing.PeerGone e) lt k off = not_closed-stands t s (CloseStep.PeerGone e) cs lt k (none_where _ off)
+not_called-stands t s cs (closing.Shut e) lt k off = not_closed-stands t s (CloseStep.Shut e) cs lt k (none_where _ off)
 
 abbrev pub step_below : ℕ → Closing → Type 0
 step_below n c = link_of_step c < n
@@ -312,12 +332,12 @@ abbrev pub closing_then : List CloseStep → List Closing → Stage
 closing_then rest cs = Stage.Closing (map close_step cs ++ rest)
 
 pub closing-keeps : (n : ℕ) (rest : List CloseStep) → Keeps n (step_below n) (closing_then rest) LooksAt
-closing-keeps n rest c cs t s new a lt k h = by_call (is_called_for s c) refl h
+closing-keeps n rest c cs t s new a lt k h = by_call (is_some (closing_entry s (close_step c))) refl h
   where
-    inside : link_of_step c < s.opened
+    inside : link_of_step c < s.plain.opened
     inside = let b = k.opened in omega (arith, b)
 
-    by_call : (b : Bool) → is_called_for s c ≡ b → MatchBool b (Closes c s a new) (Nothing s a new) →
+    by_call : (b : Bool) → is_some (closing_entry s (close_step c)) ≡ b → MatchBool b (Closes c s a new) (Nothing s a new) →
         StandsWith n (t ++ a) (closing_then rest cs) new
     by_call true called w =
         let stands = called-stands t s (map close_step cs ++ rest) c inside k.stands called in

@@ -20,21 +20,28 @@ use Rattle.relay_drive.specs.Calls.{Ticks}
 use Rattle.relay_drive.specs.DriveStands.{turn_answer_of}
 use Rattle.relay_drive.specs.Phases.CutTurn.{before, in_poll, in_serving, in_passing, in_closing}
 use Rattle.relay_drive.specs.Phases.{links_from, want_of, wants_of, wants_of_links, wanted, Polls, PollFails, OpensSome, AcceptsMore, AcceptsWhere, PollsAndAccepts, CutPolling, ServesSide, CutServing, PassesLink, CutPassingLink, ForAllLinks, CutForAllLinks, ClosesLink, CutClosingLink, Turns, CutTurn}
-use Rattle.relay_meaning.specs.Meaning.{StandsFor, LeftFor}
-use Rattle.relay_meaning.proofs.TurnSteps.{named, marks_of, want_at, wanted_by, MarkedWithin, turn-stands, poll-stands, poll_failed-stands, opened-stands, accepted-stands, served-stands, passed_all-stands, closed_all-stands}
+use Rattle.relay_steps.specs.Meaning.{StandsFor, LeftFor}
+use Rattle.relay_state.specs.Rooms as state
+use Rattle.relay_state.specs.Time.{begun, poll_timeout}
+use Rattle.relay_model.proofs.QuietLemmas.{state_is_told}
+use Rattle.relay_steps.proofs.TimeSteps.{turn-stands}
+use Rattle.relay_steps.proofs.PollSteps.{named, marks_of, MarkedWithin, poll-stands, poll_failed-stands, accepted-stands, served-stands, passed_all-stands, closed_all-stands}
+use Rattle.relay_steps.proofs.OpenSteps.{opened-stands}
+use Rattle.relay_steps.proofs.FrameLemmas.{frame-begun}
 use Rattle.relay_drive.proofs.MeantFolds.{StandsWith, Each_is, stands-nothing, all-keeps, cut-leaves}
 use Rattle.relay_drive.proofs.MeantServing.{left-stands, IsBelow, serving, serving-keeps, serving-cut, sides_of-links, link_below, links-below, passing_links, passing_links-keep, passing_links-cut, steps_of-links, closing_links, closing_links-keep, closing_links-cut}
 
 -- The clock
 
 pub tick-stands : (t : Trace) (s new : State) (a : Trace) (reading : ℕ) → StandsFor t Stage.Between s → Ticks reading s a new →
-    StandsWith s.opened (t ++ a) Stage.Polling new
+    StandsWith s.plain.opened (t ++ a) Stage.Polling new
 tick-stands t s new a reading k h =
-    let ms : ℕ = max s.time (min reading (2 ^ 62)) in
-    let old : s.time ≤ 2 ^ 62 = k.agrees.in_time in
+    let ms : ℕ = max s.plain.time (min reading (2 ^ 62)) in
+    let old : s.plain.time ≤ 2 ^ 62 = (state_is_told s.settings t Stage.Between s.plain k.reached).0.latest in
     let stands = turn-stands t s ms k (omega arith) (omega (arith, old)) in
-    subst (λ z. StandsWith s.opened (t ++ z) Stage.Polling new) (sym h.entries)
-    (subst (StandsWith s.opened (t ++ (entry.Turn ms, []) ∷ []) Stage.Polling) (sym h.state) (record { stands = stands; opened = refl }))
+    subst (λ z. StandsWith s.plain.opened (t ++ z) Stage.Polling new) (sym h.entries)
+    (subst (StandsWith s.plain.opened (t ++ (entry.Turn ms, []) ∷ []) Stage.Polling) (sym h.state)
+    (record { stands = stands; opened = (frame-begun s ms).opened }))
 
 -- The wants
 
@@ -47,29 +54,29 @@ wants w = w.read || w.write
 
 -- one side
 one-named : (s : State) (e : SideId) (rest : List rooms.Want) →
-    map named (wants_of s e) ++ filter wants rest ≡ filter wants (want_at s e ∷ rest)
-one-named s e rest = by_test (wants (want_at s e))
+    map named (wants_of s e) ++ filter wants rest ≡ filter wants (state.want_of s e ∷ rest)
+one-named s e rest = by_test (wants (state.want_of s e))
   where
     by_test : (b : Bool) → map named (if b then want_of s e ∷ [] else []) ++ filter wants
-        rest ≡ (if b then want_at s e ∷ filter wants rest else filter wants rest)
+        rest ≡ (if b then state.want_of s e ∷ filter wants rest else filter wants rest)
     by_test true = refl
     by_test false = refl
 
-links-named : (s : State) (k n : ℕ) → map named (wants_of_links s (links_from k n)) ≡ filter wants (map (want_at s) (sides_from k n))
+links-named : (s : State) (k n : ℕ) → map named (wants_of_links s (links_from k n)) ≡ filter wants (map (state.want_of s) (sides_from k n))
 links-named s k zero = refl
 links-named s k (suc n) =
     let i : SideId = in_side k in
     let o : SideId = out_side k in
-    let rest : List rooms.Want = map (want_at s) (sides_from (k + 1) n) in
+    let rest : List rooms.Want = map (state.want_of s) (sides_from (k + 1) n) in
     named-append (wants_of s i ++ wants_of s o) (wants_of_links s (links_from (k + 1) n))
     ∙ ap (λ z. z ++ map named (wants_of_links s (links_from (k + 1) n))) (named-append (wants_of s i) (wants_of s o))
     ∙ append_assoc (map named (wants_of s i)) (map named (wants_of s o)) (map named (wants_of_links s (links_from (k + 1) n)))
     ∙ ap (λ z. map named (wants_of s i) ++ (map named (wants_of s o) ++ z)) (links-named s (k + 1) n)
     ∙ ap (λ z. map named (wants_of s i) ++ z) (one-named s o rest)
-    ∙ one-named s i (want_at s o ∷ rest)
+    ∙ one-named s i (state.want_of s o ∷ rest)
 
-pub wanted-named : (s : State) → map named (wanted s) ≡ wanted_by s
-wanted-named s = links-named s 0 s.opened
+pub wanted-named : (s : State) → map named (wanted s) ≡ state.wanted s
+wanted-named s = links-named s 0 s.plain.opened
 
 -- marks change no name, and stay within what is wanted
 marks-named : (old new : List Want) → AllMarked old new → length new ≡ length old → (map named new ≡ map named old) × MarkedWithin new
@@ -107,21 +114,21 @@ below-named : (n : ℕ) (ws : List Want) → Each_is (Sided n) (map named ws) �
 below-named n [] a = tt
 below-named n (w ∷ ws) a = (a.0, below-named n ws a.1)
 
-wants-below : (n : ℕ) (s : State) (ws : List Want) → s.opened ≤ n → map named ws ≡ wanted_by s → Each_is (IsBelow n) ws
+wants-below : (n : ℕ) (s : State) (ws : List Want) → s.plain.opened ≤ n → map named ws ≡ state.wanted s → Each_is (IsBelow n) ws
 wants-below n s ws le names =
     below-named n ws (subst (Each_is (Sided n)) (sym names)
-    (sided-some n (map (want_at s) (sides_from 0 s.opened)) (sided-all n (want_at s) (λ e. refl) 0 s.opened (omega (arith, le)))))
+    (sided-some n (map (state.want_of s) (sides_from 0 s.plain.opened)) (sided-all n (state.want_of s) (λ e. refl) 0 s.plain.opened (omega (arith, le)))))
 
 -- Polling and accepting
 
 pub polls-stand : (t : Trace) (s new : State) (a : Trace) (marked : List Want) (ready : Bool) → StandsFor t Stage.Polling s →
     Polls marked ready s a new →
-    StandsFor (t ++ a) (Stage.Accepting 0 (marks_of marked)) new × (map named marked ≡ wanted_by s) × (new ≡ s)
+    StandsFor (t ++ a) (Stage.Accepting 0 (marks_of marked)) new × (map named marked ≡ state.wanted s) × (new ≡ s)
 polls-stand t s new a marked ready k h =
     let marks = marks-named (wanted s) marked h.marks h.many in
     let names = marks.0 ∙ wanted-named s in (
       subst (λ z. StandsFor (t ++ z) (Stage.Accepting 0 (marks_of marked)) new) (sym h.entries)
-          (subst (StandsFor (t ++ poll_events None marked (polled.Ready ready)) (Stage.Accepting 0 (marks_of marked)))
+          (subst (StandsFor (t ++ poll_events (poll_timeout s) marked (polled.Ready ready)) (Stage.Accepting 0 (marks_of marked)))
           (sym h.state) (poll-stands t s marked ready names marks.1 k)),
       names,
       h.state,
@@ -129,12 +136,12 @@ polls-stand t s new a marked ready k h =
 
 pub opens-stand : (m : ℕ) (marks : List rooms.Want) (t : Trace) (s new : State) (a : Trace) → m ≤ 64 →
     StandsFor t (Stage.Accepting 0 marks) s → OpensSome m s a new →
-    StandsFor (t ++ a) (Stage.Accepting m marks) new × (s.opened ≤ new.opened)
+    StandsFor (t ++ a) (Stage.Accepting m marks) new × (s.plain.opened ≤ new.plain.opened)
 opens-stand zero marks t s new a few k h =
     let same = sym h.1 in (
       subst (λ z. StandsFor z (Stage.Accepting 0 marks) new) (sym (ap (λ b. t ++ b) h.0 ∙ append-nil t))
           (subst (StandsFor t (Stage.Accepting 0 marks)) same k),
-      (let b = ap (λ (z : State). z.opened) h.1 in omega (arith, b)),
+      (let b = ap (λ (z : State). z.plain.opened) h.1 in omega (arith, b)),
     )
 opens-stand (suc m) marks t s new a few k h =
     let first = opens-stand m marks t s h.middle h.front (omega (arith, few)) k h.first in
@@ -142,34 +149,34 @@ opens-stand (suc m) marks t s new a few k h =
     let connected = h.second.0 in
     let stands = opened-stands (t ++ h.front) h.middle m marks connected first.0 (omega (arith, few)) one.allowed in
     let next : m + 1 ≡ suc m = omega arith in
-    let more : h.middle.opened + 1 ≡ new.opened = sym (ap (λ (z : State). z.opened) one.state) in
+    let more : h.middle.plain.opened + 1 ≡ new.plain.opened = sym (ap (λ (z : State). z.plain.opened) one.state) in
     let le = first.1 in (
       subst (λ z. StandsFor z (Stage.Accepting (suc m) marks) new) (append_assoc t h.front h.back ∙ ap (λ z. t ++ z) (sym h.joined))
           (subst (λ z. StandsFor ((t ++ h.front) ++ z) (Stage.Accepting (suc m) marks) new) (sym one.entries)
-          (subst (StandsFor ((t ++ h.front) ++ (entry.Opened h.middle.opened connected, []) ∷ []) (Stage.Accepting (suc m) marks))
+          (subst (StandsFor ((t ++ h.front) ++ (entry.Opened h.middle.plain.opened connected, []) ∷ []) (Stage.Accepting (suc m) marks))
           (sym one.state)
-          (subst (λ z. StandsFor ((t ++ h.front) ++ (entry.Opened h.middle.opened connected, []) ∷ []) (Stage.Accepting z marks)
+          (subst (λ z. StandsFor ((t ++ h.front) ++ (entry.Opened h.middle.plain.opened connected, []) ∷ []) (Stage.Accepting z marks)
           (after_opened h.middle connected)) next stands))),
       omega (arith, le, more),
     )
 
 pub accepts-stand : (marked : List Want) (t : Trace) (s new : State) (a : Trace) → StandsFor t Stage.Polling s →
     PollsAndAccepts marked s a new →
-    StandsWith new.opened (t ++ a) (serving marked) new × Each_is (IsBelow new.opened) marked
+    StandsWith new.plain.opened (t ++ a) (serving marked) new × Each_is (IsBelow new.plain.opened) marked
 accepts-stand marked t s new a k h =
     let w = h.1 in
     let poll = polls-stand t s w.middle w.front marked h.0 k w.first in
     let after = by_ready h.0 (t ++ w.front) w.middle w.back poll.0 w.second in
-    let same = ap (λ (z : State). z.opened) poll.2 in
+    let same = ap (λ (z : State). z.plain.opened) poll.2 in
     let le = after.1 in (
-      subst (λ z. StandsWith new.opened z (serving marked) new) (append_assoc t w.front w.back ∙ ap (λ z. t ++ z) (sym w.joined))
+      subst (λ z. StandsWith new.plain.opened z (serving marked) new) (append_assoc t w.front w.back ∙ ap (λ z. t ++ z) (sym w.joined))
           (record { stands = after.0; opened = refl }),
-      wants-below new.opened s marked (omega (arith, same, le)) poll.1,
+      wants-below new.plain.opened s marked (omega (arith, same, le)) poll.1,
     )
   where
     by_ready : (ready : Bool) (u : Trace) (m : State) (b : Trace) → StandsFor u (Stage.Accepting 0 (marks_of marked)) m →
         AcceptsWhere ready m b new →
-        StandsFor (u ++ b) (serving marked) new × (m.opened ≤ new.opened)
+        StandsFor (u ++ b) (serving marked) new × (m.plain.opened ≤ new.plain.opened)
     by_ready true u m b k h =
         let opens = opens-stand h.0 (marks_of marked) u m new b h.1 k h.2 in
         (accepted-stands (u ++ b) new h.0 (marks_of marked) opens.0, opens.1)
@@ -182,7 +189,7 @@ pub poll_fails-leaves : (t : Trace) (s new : State) (a : Trace) → StandsFor t 
 poll_fails-leaves t s new a k h =
     let marks = marks-named (wanted s) h.named h.marks h.many in
     subst (λ z. LeftFor TurnAnswer.PollFault (t ++ z) new) (sym h.entries)
-    (subst (LeftFor TurnAnswer.PollFault (t ++ poll_events None h.named polled.Failed)) (sym h.state)
+    (subst (LeftFor TurnAnswer.PollFault (t ++ poll_events (poll_timeout s) h.named polled.Failed)) (sym h.state)
     (record { stage = Stage.Over Halt.PollFailed; stands = poll_failed-stands t s h.named (marks.0 ∙ wanted-named s) k; left = refl }))
 
 -- accepting is refused where one link more was allowed
@@ -197,22 +204,22 @@ accepting-leaves t s new a marked k h =
     let stage : Stage = Stage.Accepting n (marks_of marked) in
     let stands : StandsFor (t ++ a) stage new =
     subst (λ z. StandsFor z stage new) (append_assoc t h.front h.back ∙ ap (λ z. t ++ z) (sym h.joined)) opens.0 in
-    let more : stands.plain.opened < new.settings.links = (let b = stands.agrees.opened in let c = h.second.2 in omega (arith, b, c)) in
+    let more : new.plain.opened < new.settings.links = h.second.2 in
     (record { stage = stage; stands = stands; left = tt }, record { stage = stage; stands = stands; left = (few, more) })
 
 -- From phase to phase
 
 served-pass : (n : ℕ) (t : Trace) (s : State) → StandsWith n t (Stage.Serving []) s →
-    StandsWith s.opened t (passing_links (links_from 0 s.opened)) s
+    StandsWith s.plain.opened t (passing_links (links_from 0 s.plain.opened)) s
 served-pass n t s k = record {
-  stands = subst (λ es. StandsFor t (Stage.Passing [] es) s) (sym (sides_of-links 0 s.opened)) (served-stands t s k.stands);
+  stands = subst (λ es. StandsFor t (Stage.Passing [] es) s) (sym (sides_of-links 0 s.plain.opened)) (served-stands t s k.stands);
   opened = refl;
 }
 
 passed-close : (n : ℕ) (t : Trace) (s : State) → StandsWith n t (Stage.Passing [] []) s →
-    StandsWith s.opened t (closing_links (links_from 0 s.opened)) s
+    StandsWith s.plain.opened t (closing_links (links_from 0 s.plain.opened)) s
 passed-close n t s k = record {
-  stands = subst (λ cs. StandsFor t (Stage.Closing cs) s) (sym (steps_of-links 0 s.opened)) (passed_all-stands t s k.stands);
+  stands = subst (λ cs. StandsFor t (Stage.Closing cs) s) (sym (steps_of-links 0 s.plain.opened)) (passed_all-stands t s k.stands);
   opened = refl;
 }
 
@@ -232,19 +239,19 @@ closes-end : (n : ℕ) (t : Trace) (s new : State) (a : Trace) → StandsWith n 
     ForAllLinks ClosesLink s a new → StandsFor (t ++ a) Stage.Between new
 closes-end n t s new a k h =
     closed_all-stands (t ++ a) new
-    (all-keeps s.opened (link_below s.opened) closing_links ClosesLink (closing_links-keep s.opened) (links_from 0 s.opened) t s
-    new a (all-below s.opened) (passed-close n t s k) h).stands
+    (all-keeps s.plain.opened (link_below s.plain.opened) closing_links ClosesLink (closing_links-keep s.plain.opened) (links_from 0 s.plain.opened) t s
+    new a (all-below s.plain.opened) (passed-close n t s k) h).stands
 
 passes-all : (n : ℕ) (t : Trace) (s new : State) (a : Trace) → StandsWith n t (Stage.Serving []) s →
-    ForAllLinks PassesLink s a new → StandsWith s.opened (t ++ a) (Stage.Passing [] []) new
+    ForAllLinks PassesLink s a new → StandsWith s.plain.opened (t ++ a) (Stage.Passing [] []) new
 passes-all n t s new a k h =
-    all-keeps s.opened (link_below s.opened) passing_links PassesLink (passing_links-keep s.opened) (links_from 0 s.opened) t s
-    new a (all-below s.opened) (served-pass n t s k) h
+    all-keeps s.plain.opened (link_below s.plain.opened) passing_links PassesLink (passing_links-keep s.plain.opened) (links_from 0 s.plain.opened) t s
+    new a (all-below s.plain.opened) (served-pass n t s k) h
 
-serves-all : (marked : List Want) (t : Trace) (s new : State) (a : Trace) → StandsWith s.opened t (serving marked) s →
-    Each_is (IsBelow s.opened) marked → Each ServesSide marked s a new →
-    StandsWith s.opened (t ++ a) (Stage.Serving []) new
-serves-all marked t s new a k below h = all-keeps s.opened (IsBelow s.opened) serving ServesSide (serving-keeps s.opened) marked t
+serves-all : (marked : List Want) (t : Trace) (s new : State) (a : Trace) → StandsWith s.plain.opened t (serving marked) s →
+    Each_is (IsBelow s.plain.opened) marked → Each ServesSide marked s a new →
+    StandsWith s.plain.opened (t ++ a) (Stage.Serving []) new
+serves-all marked t s new a k below h = all-keeps s.plain.opened (IsBelow s.plain.opened) serving ServesSide (serving-keeps s.plain.opened) marked t
     s new a below k h
 
 -- a whole turn: whatever trace the relay stood for before it, it stands for that trace with the turn's entries
@@ -259,21 +266,21 @@ turn_keeps t s new a k turn =
     let v = p.second in
     let served = serves-all marked ((t ++ h.front) ++ p.front) p.middle v.middle v.front poll.0 poll.1 v.first in
     let q = v.second in
-    let passed = passes-all p.middle.opened (((t ++ h.front) ++ p.front) ++ v.front) v.middle q.middle q.front served q.first in
-    let closed = closes-end v.middle.opened ((((t ++ h.front) ++ p.front) ++ v.front) ++ q.front) q.middle new q.back passed q.second in
-    (joined-stands Stage.Between new.opened t h.front h.back a new h.joined
-    (joined-stands Stage.Between new.opened (t ++ h.front) p.front p.back h.back new p.joined
-    (joined-stands Stage.Between new.opened ((t ++ h.front) ++ p.front) v.front v.back p.back new v.joined
-    (joined-stands Stage.Between new.opened (((t ++ h.front) ++ p.front) ++ v.front) q.front q.back v.back new q.joined
+    let passed = passes-all p.middle.plain.opened (((t ++ h.front) ++ p.front) ++ v.front) v.middle q.middle q.front served q.first in
+    let closed = closes-end v.middle.plain.opened ((((t ++ h.front) ++ p.front) ++ v.front) ++ q.front) q.middle new q.back passed q.second in
+    (joined-stands Stage.Between new.plain.opened t h.front h.back a new h.joined
+    (joined-stands Stage.Between new.plain.opened (t ++ h.front) p.front p.back h.back new p.joined
+    (joined-stands Stage.Between new.plain.opened ((t ++ h.front) ++ p.front) v.front v.back p.back new v.joined
+    (joined-stands Stage.Between new.plain.opened (((t ++ h.front) ++ p.front) ++ v.front) q.front q.back v.back new q.joined
     (record { stands = closed; opened = refl }))))).stands
 
 -- Turns that are cut off
 
 -- polling is refused
-polling-leaves : (f : DriveFault) (t : Trace) (s new : State) (a : Trace) → StandsWith s.opened t Stage.Polling s →
+polling-leaves : (f : DriveFault) (t : Trace) (s new : State) (a : Trace) → StandsWith s.plain.opened t Stage.Polling s →
     CutPolling f s a new → LeftFor (turn_answer_of f) (t ++ a) new
 polling-leaves fault.Memory t s new a k (inl h) =
-    left-stands s.opened (t ++ a) Stage.Polling new tt (stands-nothing s.opened t Stage.Polling s new a k h)
+    left-stands s.plain.opened (t ++ a) Stage.Polling new tt (stands-nothing s.plain.opened t Stage.Polling s new a k h)
 polling-leaves fault.PollFault t s new a k (inl h) = poll_fails-leaves t s new a k.stands h
 polling-leaves fault.OpenFault t s new a k (inl h) = absurd h
 polling-leaves fault.Spent t s new a k (inl h) = absurd h
@@ -282,33 +289,33 @@ polling-leaves fault.PollFault t s new a k (inr h) = absurd h
 polling-leaves fault.OpenFault t s new a k (inr h) = (accepting-leaves t s new a h.0 k.stands h.1).1
 polling-leaves fault.Spent t s new a k (inr h) = absurd h
 
-serving-leaves : (marked : List Want) (t : Trace) (s new : State) (a : Trace) → StandsWith s.opened t (serving marked) s →
-    Each_is (IsBelow s.opened) marked → CutAt ServesSide CutServing marked s a new →
+serving-leaves : (marked : List Want) (t : Trace) (s new : State) (a : Trace) → StandsWith s.plain.opened t (serving marked) s →
+    Each_is (IsBelow s.plain.opened) marked → CutAt ServesSide CutServing marked s a new →
     LeftFor TurnAnswer.Memory (t ++ a) new
 serving-leaves marked t s new a k below h =
-    cut-leaves s.opened (IsBelow s.opened) serving ServesSide (serving-keeps s.opened) CutServing (LeftFor TurnAnswer.Memory)
-    (serving-cut s.opened) marked t s new a below k h
+    cut-leaves s.plain.opened (IsBelow s.plain.opened) serving ServesSide (serving-keeps s.plain.opened) CutServing (LeftFor TurnAnswer.Memory)
+    (serving-cut s.plain.opened) marked t s new a below k h
 
 passing-leaves : (n : ℕ) (t : Trace) (s new : State) (a : Trace) → StandsWith n t (Stage.Serving []) s →
     CutForAllLinks PassesLink CutPassingLink s a new → LeftFor TurnAnswer.Memory (t ++ a) new
 passing-leaves n t s new a k h =
-    cut-leaves s.opened (link_below s.opened) passing_links PassesLink (passing_links-keep s.opened) CutPassingLink
-    (LeftFor TurnAnswer.Memory) (passing_links-cut s.opened)
-    (links_from 0 s.opened) t s new a (all-below s.opened) (served-pass n t s k) h
+    cut-leaves s.plain.opened (link_below s.plain.opened) passing_links PassesLink (passing_links-keep s.plain.opened) CutPassingLink
+    (LeftFor TurnAnswer.Memory) (passing_links-cut s.plain.opened)
+    (links_from 0 s.plain.opened) t s new a (all-below s.plain.opened) (served-pass n t s k) h
 
 closing-leaves : (n : ℕ) (t : Trace) (s new : State) (a : Trace) → StandsWith n t (Stage.Passing [] []) s →
     CutForAllLinks ClosesLink CutClosingLink s a new → LeftFor TurnAnswer.Memory (t ++ a) new
 closing-leaves n t s new a k h =
-    cut-leaves s.opened (link_below s.opened) closing_links ClosesLink (closing_links-keep s.opened) CutClosingLink
-    (LeftFor TurnAnswer.Memory) (closing_links-cut s.opened)
-    (links_from 0 s.opened) t s new a (all-below s.opened) (passed-close n t s k) h
+    cut-leaves s.plain.opened (link_below s.plain.opened) closing_links ClosesLink (closing_links-keep s.plain.opened) CutClosingLink
+    (LeftFor TurnAnswer.Memory) (closing_links-cut s.plain.opened)
+    (links_from 0 s.plain.opened) t s new a (all-below s.plain.opened) (passed-close n t s k) h
 
 -- A turn that is cut off leaves the relay standing for the longer trace, at a stage at which a turn may answer so.
 pub cut_turn_leaves : (f : DriveFault) (t : Trace) (s new : State) (a : Trace) → StandsFor t Stage.Between s → CutTurn f s a new →
     LeftFor (turn_answer_of f) (t ++ a) new
 cut_turn_leaves f t s new a k (before h) =
-    left-stands s.opened (t ++ a) Stage.Between new tt
-    (stands-nothing s.opened t Stage.Between s new a (record { stands = k; opened = refl }) h)
+    left-stands s.plain.opened (t ++ a) Stage.Between new tt
+    (stands-nothing s.plain.opened t Stage.Between s new a (record { stands = k; opened = refl }) h)
 cut_turn_leaves f t s new a k (in_poll reading h) =
     let tick = tick-stands t s h.middle h.front reading k h.first in
     joined-leaves (turn_answer_of f) t h.front h.back a new h.joined
@@ -329,7 +336,7 @@ cut_turn_leaves f t s new a k (in_passing reading marked h) =
     joined-leaves TurnAnswer.Memory t h.front h.back a new h.joined
     (joined-leaves TurnAnswer.Memory (t ++ h.front) p.front p.back h.back new p.joined
     (joined-leaves TurnAnswer.Memory ((t ++ h.front) ++ p.front) v.front v.back p.back new v.joined
-    (passing-leaves p.middle.opened (((t ++ h.front) ++ p.front) ++ v.front) v.middle new v.back served v.second)))
+    (passing-leaves p.middle.plain.opened (((t ++ h.front) ++ p.front) ++ v.front) v.middle new v.back served v.second)))
 cut_turn_leaves f t s new a k (in_closing reading marked h) =
     let tick = tick-stands t s h.middle h.front reading k h.first in
     let p = h.second in
@@ -337,9 +344,9 @@ cut_turn_leaves f t s new a k (in_closing reading marked h) =
     let v = p.second in
     let served = serves-all marked ((t ++ h.front) ++ p.front) p.middle v.middle v.front poll.0 poll.1 v.first in
     let q = v.second in
-    let passed = passes-all p.middle.opened (((t ++ h.front) ++ p.front) ++ v.front) v.middle q.middle q.front served q.first in
+    let passed = passes-all p.middle.plain.opened (((t ++ h.front) ++ p.front) ++ v.front) v.middle q.middle q.front served q.first in
     joined-leaves TurnAnswer.Memory t h.front h.back a new h.joined
     (joined-leaves TurnAnswer.Memory (t ++ h.front) p.front p.back h.back new p.joined
     (joined-leaves TurnAnswer.Memory ((t ++ h.front) ++ p.front) v.front v.back p.back new v.joined
     (joined-leaves TurnAnswer.Memory (((t ++ h.front) ++ p.front) ++ v.front) q.front q.back v.back new q.joined
-    (closing-leaves v.middle.opened ((((t ++ h.front) ++ p.front) ++ v.front) ++ q.front) q.middle new q.back passed q.second))))
+    (closing-leaves v.middle.plain.opened ((((t ++ h.front) ++ p.front) ++ v.front) ++ q.front) q.middle new q.back passed q.second))))

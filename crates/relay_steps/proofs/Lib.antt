@@ -3,3 +3,4 @@ pub mod FitLemmas
 pub mod SizeLemmas
 pub mod CountLemmas
 pub mod FrameLemmas
+pub mod WaitLemmas
