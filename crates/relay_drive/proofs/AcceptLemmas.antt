@@ -39,7 +39,7 @@ module _ {R : State → Trace → State → Type 0} {p : Bool} {old new : Run} {
   accepted_all full g = goes_knowing g (λ t x fits before now.
       let s = new.relay.state in
       known_enough s.settings v none_waits told ends (t ++ g.added)
-      (inr (subst (λ n. s.settings.links ≤ n) (sym fits.opened) (ltb-false s.opened s.settings.links full))) x now)
+      (inr (subst (λ n. s.settings.links ≤ n) (sym fits.opened) (ltb-false s.plain.opened s.settings.links full))) x now)
 
 -- as many were opened as a turn may open
 pub accepted_most : {p : Bool} {old new : Run} {l l' : Option Trace} {f f' : Faults} {Plan : Type 0} (u none_waits : Plan →

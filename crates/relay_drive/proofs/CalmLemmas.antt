@@ -12,6 +12,8 @@ use Rattle.relay_model.specs.Totals.{is_opened, opened, opened_by, opened_in_tur
 use Rattle.relay_model.specs.Plays.{is_served}
 use Rattle.ev_types.specs.Times.{greatest_time}
 use Rattle.relay_state.specs.State.{State}
+use Rattle.relay_state.specs.Time.{begun}
+use Rattle.relay_steps.proofs.FrameLemmas.{frame-begun}
 use Rattle.relay_state.specs.Opening.{after_opened}
 use Rattle.relay_drive.specs.Known.{IsInStep}
 
@@ -107,12 +109,12 @@ timeout-append was t u = fold-append timeout_by was t u
 
 -- the relay changed nothing that a trace must fit
 pub record Same (s new : State) : Type 0 where
-  pub time : new.time ≡ s.time
-  pub opened : new.opened ≡ s.opened
+  pub time : new.plain.time ≡ s.plain.time
+  pub opened : new.plain.opened ≡ s.plain.opened
   pub settings : new.settings ≡ s.settings
 
 pub same : (s new : State) → new ≡ s → Same s new
-same s new e = record { time = ap (λ z. z.time) e; opened = ap (λ z. z.opened) e; settings = ap (λ z. z.settings) e }
+same s new e = record { time = ap (λ (z : State). z.plain.time) e; opened = ap (λ (z : State). z.plain.opened) e; settings = ap (λ (z : State). z.settings) e }
 
 -- entries that begin no turn and open no link
 pub record Still (u : Trace) : Type 0 where
@@ -139,12 +141,13 @@ last_or-push d [] x = refl
 last_or-push d (y ∷ ts) x = last_or-push (Some y) ts x
 
 -- a turn begins at that time
-pub fits_turned : (t : Trace) (s new : State) (ms reading : ℕ) → ms ≡ max s.time (min reading (2 ^ 62)) →
-    new ≡ record s { time = ms } → IsInStep t s → IsInStep (t ++ (entry.Turn ms, []) ∷ []) new
+pub fits_turned : (t : Trace) (s new : State) (ms reading : ℕ) → ms ≡ max s.plain.time (min reading (2 ^ 62)) →
+    new ≡ begun s ms → IsInStep t s → IsInStep (t ++ (entry.Turn ms, []) ∷ []) new
 fits_turned t s new ms reading is e f = subst (IsInStep (t ++ u)) (sym e) (record {
-  time = (let h = greatest_time-append t u in let k = f.time in omega (arith, h, k, is));
-  last = ap (λ ts. unwrap_or (last_or (Some 0) ts) 0) (times-append t u) ∙ ap (λ o. unwrap_or o 0) (last_or-push (Some 0) (times t) ms);
-  opened = (let h = opened-append t u in let k = f.opened in omega (arith, h, k));
+  time = (let h = greatest_time-append t u in let k = f.time in let b = (frame-begun s ms).time in omega (arith, h, k, is, b));
+  last = ap (λ ts. unwrap_or (last_or (Some 0) ts) 0) (times-append t u) ∙ ap (λ o. unwrap_or o 0) (last_or-push (Some 0) (times t) ms)
+      ∙ sym (frame-begun s ms).time;
+  opened = (let h = opened-append t u in let k = f.opened in let b = (frame-begun s ms).opened in omega (arith, h, k, b));
 })
   where
     u : Trace

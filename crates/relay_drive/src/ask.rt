@@ -5,7 +5,7 @@ ghost use Rattle.relay_drive.specs.declared.fault.DriveFault.TheVariants.{Memory
 ghost use Rattle.relay_drive.specs.Steps.{Nothing};
 ghost use Rattle.relay_drive.specs.Calls.{Checks, Reads, Writes, HasBytes, is_memory, after_read, after_write, after_conn};
 ghost use Rattle.ev_port.specs.Ends.{ReadWithin, got_bytes, WriteWithin, took_bytes};
-ghost use Rattle.relay_core.specs.State.{spare_read};
+ghost use Rattle.relay_core.specs.RelayValue.{spare_read};
 ghost use Rattle.relay_drive.specs.Moves.{Does, OnlyForMemory};
 
 use crate::fault::DriveFault;

@@ -7,9 +7,10 @@ ghost use Rattle.ev_port.specs.Calls.{IsUnheard};
 ghost use Rattle.ev_port.specs.Counting.{counted};
 ghost use Rattle.ev_port.specs.Faults.{FaultsStay};
 ghost use Rattle.ev_port.specs.EndSteps.{AllWent, PortStays};
-ghost use Rattle.relay_core.specs.Closing.{link_of_step};
+ghost use Rattle.relay_model.specs.Close.{freed_entry};
+ghost use Rattle.relay_core.specs.Steps.{link_of_step};
 ghost use Rattle.relay_drive.specs.Steps.{Nothing};
-ghost use Rattle.relay_drive.specs.Phases.{freed_event, closing_events, told_events, told_step, Closes, LooksAt, ClosesLink, CutClosingLink, ForAllLinks, CutForAllLinks};
+ghost use Rattle.relay_drive.specs.Phases.{closing_events, told_events, told_step, Closes, LooksAt, ClosesLink, CutClosingLink, ForAllLinks, CutForAllLinks};
 ghost use Rattle.relay_drive.specs.Moves.{Does, OnlyForMemory};
 
 use crate::fault::DriveFault;
@@ -27,7 +28,7 @@ fn put_freed<S: Scribe>(run: &mut Run, scribe: &mut S, side: SideId, cause: Caus
     requires room { 0 < S.spare_entries scribe.old }
     ensures relay { run.new.relay ≡ run.old.relay }
     ensures counted { run.new.entries ≡ counted run.old.entries 1 }
-    ensures list { Grew (S.trace scribe.old) (S.trace scribe.new) (freed_event run.old.relay.state side cause ∷ []) }
+    ensures list { Grew (S.trace scribe.old) (S.trace scribe.new) ((freed_entry run.old.relay.state.plain side cause, []) ∷ []) }
     ensures room { S.spare_entries scribe.old ≤ S.spare_entries scribe.new + 1 }
 {
     let counts = run.relay.counts(side);
@@ -64,7 +65,11 @@ fn put_closing<S: Scribe>(run: &mut Run, step: Closing, scribe: &mut S)
     ensures list { Grew (S.trace scribe.old) (S.trace scribe.new) (closing_events run.old.relay.state step) }
 {
     match step {
-        Closing::Faulty(side) => put_freed(run, scribe, side, Cause::Failed),
+        Closing::Faulty(side) => {
+            if let Some(cause) = run.relay.fault(side) {
+                put_freed(run, scribe, side, cause);
+            }
+        }
         Closing::EndWriting(side) => {
             put(&mut run.entries, scribe, Entry::CloseWrite { side }, &[])
         }

@@ -122,9 +122,10 @@ fn ask_poll<P: Port, S: Scribe>(
     let entries = wants.len().saturating_mul(2).saturating_add(2);
     scribe.reserve(entries, 0)?;
     let can_open = run.relay.can_open();
-    put(&mut run.entries, scribe, Entry::Poll { timeout: None }, &[]);
+    let timeout = run.relay.poll_timeout();
+    put(&mut run.entries, scribe, Entry::Poll { timeout }, &[]);
     put_wants(&mut run.entries, scribe, wants);
-    match port.poll(wants, can_open, None) {
+    match port.poll(wants, can_open, timeout) {
         Polled::Ready { accept } => {
             put_marks(&mut run.entries, scribe, wants);
             Ok(accept)

@@ -1,7 +1,8 @@
 // Serving the marked sides, in their order.
 ghost use Rattle.std.specs.Prelude.{◌≡◌, ◌<◌, length};
 ghost use Rattle.relay_drive.specs.Steps.{Nothing, Each, CutAt};
-ghost use Rattle.relay_drive.specs.Phases.{ReadsSide, WritesSide, ConnectsSide, ServesSide, CutServing, AllOpened, is_connecting};
+ghost use Rattle.relay_drive.specs.Phases.{ReadsSide, WritesSide, ConnectsSide, ServesSide, CutServing, AllOpened};
+ghost use Rattle.relay_model.specs.Rooms.{is_connecting};
 ghost use Rattle.relay_drive.specs.Moves.{Does, OnlyForMemory};
 
 use crate::ask::{ask_connect, ask_read, ask_write};
@@ -84,7 +85,7 @@ fn connect_side<P: Port, S: Scribe>(
 /// Whether a live side is not known to be connected.
 fn is_connecting(relay: &Relay, side: SideId) -> bool
     requires { side.link < relay.now.state.plain.opened }
-    ensures { result ≡ is_connecting relay.now.state side }
+    ensures { result ≡ is_connecting relay.now.state.plain side }
 {
     let flags = relay.flags(side);
     flags.live && flags.connecting

@@ -1,6 +1,6 @@
-// One turn: its phases in their order. Nothing is timed yet and there is no hook, so that the phases of time and of
-// dispatch have nothing to do.
-ghost use Rattle.std.specs.Prelude.{◌≡◌, ◌^◌, ◌||◌, true, false, nat_le, length, Err, MatchResult};
+// One turn: its phases in their order. What time brings is done as the relay begins the turn. There is no hook yet, so that the phase of
+// dispatch has nothing to do.
+ghost use Rattle.std.specs.Prelude.{◌≡◌, ◌<◌, ◌^◌, ◌||◌, true, false, nat_le, length, Err, MatchResult};
 ghost use Rattle.relay_state.specs.Counting.{is_spent};
 ghost use Rattle.relay_drive.specs.declared.fault.DriveFault.TheVariants.{Spent};
 ghost use Rattle.relay_drive.specs.Steps.{Nothing};
@@ -23,6 +23,7 @@ const SPENT: u64 = 1 << 62;
 
 /// Reads the port's clock once.
 fn clock<P: Port, S: Scribe>(run: &mut Run, port: &mut P, scribe: &mut S) -> Result<(), DriveFault>
+    requires turns { run.old.relay.state.plain.turn < 2 ^ 62 }
     ensures went { MatchResult result
         (λ _. Moves P.Port S.Scribe Point.Between Point.Begun false TicksOnce
         (run.old, port.old, scribe.old) (run.new, port.new, scribe.new))
@@ -44,7 +45,8 @@ fn turn<P: Port, S: Scribe>(
     port: &mut P,
     scribe: &mut S,
 ) -> Result<(), DriveFault>
-    requires { length inbox.old ≡ 16384 }
+    requires inbox { length inbox.old ≡ 16384 }
+    requires turns { run.old.relay.state.plain.turn < 2 ^ 62 }
     ensures went { GetsTo P.Port S.Scribe result Point.Between Point.Accepted (λ _. Turns) CutTurn
         (run.old, port.old, scribe.old) (run.new, port.new, scribe.new) }
 {

@@ -9,5 +9,5 @@ invariant-loop g l = record {
   went : Moves g.P.Port g.S.Scribe Point.Begun Point.Accepting false (OpensSome l.counter) (l.fn.run, l.fn.port, l.fn.scribe)
       (l.run, l.port, l.scribe);
   few : l.counter ≤ 64;
-  grown : l.run.relay.state.opened ≡ l.fn.run.relay.state.opened + l.counter;
+  grown : l.run.relay.state.plain.opened ≡ l.fn.run.relay.state.plain.opened + l.counter;
 }

@@ -18,21 +18,21 @@ returns-in-Link-clause-went g c =
     let l0 = g.S.Scribe.trace c.args.scribe.now in
     let s = c.args.run.now.relay.state in
     let connected = c.in-Link.connected in
-    let events : Trace = (entry.Opened s.opened connected, []) ∷ [] in
-    let number = c.opened-link.ensures ∙ ap (λ (z : State). z.opened) c.reserve_link.ensures.state in
+    let events : Trace = (entry.Opened s.plain.opened connected, []) ∷ [] in
+    let number = c.opened-link.ensures ∙ ap (λ (z : State). z.plain.opened) c.reserve_link.ensures.state in
     let state = c.open.ensures ∙ ap (λ (z : State). after_opened z connected) c.reserve_link.ensures.state in
     goes_by l0 (g.S.Scribe.trace c.put.new.scribe) (g.P.Port.faults c.args.port.now) (g.P.Port.faults c.accept.new.self) events
     (connected, record { allowed = c.requires; entries = refl; state = state }) (ap (λ (z : State). z.settings) state)
     (let n = c.put.ensures.counted in omega (arith, n))
     (Grew-join l0 (g.S.Scribe.trace c.reserve.new.self) (g.S.Scribe.trace c.put.new.scribe) [] events c.reserve.ensures.trace
     (rw (number) at c.put.ensures.list))
-    (λ t. fits_opened t s c.open.new.self.state s.opened connected state)
+    (λ t. fits_opened t s c.open.new.self.state s.plain.opened connected state)
     (λ t fits. known_linked s.settings (g.P.Port.vouches c.args.port.now) (g.P.Port.vouches c.accept.new.self) g.P.Port.none_waits
     (g.P.Port.told c.args.port.now) (g.P.Port.told c.accept.new.self) (g.P.Port.ends c.args.port.now)
-    (g.P.Port.ends c.accept.new.self) t s.opened connected
+    (g.P.Port.ends c.accept.new.self) t s.plain.opened connected
     c.in-Link.ensures.told (rw (number) at c.in-Link.ensures.vouched)
-    (all_ends (g.P.Port.ends c.args.port.now) (g.P.Port.ends c.accept.new.self) (accept_step s.opened (accepted.Link connected))
-    events (λ e. accept_says s.opened (accepted.Link connected) e) (rw (number) at c.in-Link.ensures.ends)))
+    (all_ends (g.P.Port.ends c.args.port.now) (g.P.Port.ends c.accept.new.self) (accept_step s.plain.opened (accepted.Link connected))
+    events (λ e. accept_says s.plain.opened (accepted.Link connected) e) (rw (number) at c.in-Link.ensures.ends)))
     (Heard-open (g.P.Port.faults c.args.port.now) (g.P.Port.faults c.accept.new.self) events false c.in-Link.ensures.cause (λ e. refl) refl)
 
 pub returns-in_err-reserve_link-clause-went : goal.returns-in_err-reserve_link-clause-went

@@ -9,8 +9,8 @@ pub returns-in_err-close_link-clause-went : goal.returns-in_err-close_link-claus
 returns-in_err-close_link-clause-went g c =
     let p = err_from_is_err_and c.from_residual.result c.from_residual.ensures.1 in
     let k = c.loop-link.link in
-    let lt : k < c.args.run.now.relay.state.opened = subst (λ m. k < m) c.opened-link-end.ensures c.loop-link-test.true in
-    rw (p.1) (goes_as (λ a q. q) (goes_link_cut ClosesLink CutClosingLink k c.args.run.now.relay.state.opened lt
+    let lt : k < c.args.run.now.relay.state.plain.opened = subst (λ m. k < m) c.opened-link-end.ensures c.loop-link-test.true in
+    rw (p.1) (goes_as (λ a q. q) (goes_link_cut ClosesLink CutClosingLink k c.args.run.now.relay.state.plain.opened lt
     c.loop-link.invariant.went c.in_err-close_link.ensures.went))
 
 pub loop-link-preserved : goal.loop-link-preserved

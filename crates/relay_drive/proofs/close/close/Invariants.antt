@@ -9,5 +9,5 @@ abbrev pub invariant-loop-link : goal.invariant-loop-link
 invariant-loop-link g l = record {
   went : Moves g.P.Port g.S.Scribe Point.Accepted Point.Accepted false (Each ClosesLink (links_from 0 l.link))
       (l.fn.run, l.fn.port, l.fn.scribe) (l.run, l.port, l.scribe);
-  kept : l.run.relay.state.opened ≡ l.fn.run.relay.state.opened;
+  kept : l.run.relay.state.plain.opened ≡ l.fn.run.relay.state.plain.opened;
 }

@@ -2,7 +2,7 @@ use Rattle.std.proofs.Common.{◌<◌, List, length, get_or, sym, ◌∙◌, ap,
 use Rattle.std.proofs.lemmas.Result.{err_from_is_err_and}
 use Rattle.relay_core.specs.declared.close.Closing.{Closing}
 use Rattle.relay_core.specs.declared.close.Closing.TheVariants.{BothDone}
-use Rattle.relay_core.specs.Closing.{link_of_step, closing_of}
+use Rattle.relay_core.specs.Steps.{link_of_step, closing_of}
 use Rattle.relay_drive.specs.Steps.{Nothing}
 use Rattle.relay_drive.specs.Phases.{LooksAt}
 use Rattle.relay_drive.proofs.ClosingLemmas.{closing_link}
@@ -16,7 +16,7 @@ close_step-requires g c =
     let is = c.of-steps.ensures in
     let lt : i < length (closing_of k) = c.loop-step-test.true in
     let link = ap (λ (z : List Closing). link_of_step (get_or z i _)) is ∙ closing_link k i _ lt in
-    subst (λ m. m < c.loop-step.run.relay.state.opened) (sym link) (subst (λ m. k < m) (sym c.loop-step.invariant.kept) c.requires)
+    subst (λ m. m < c.loop-step.run.relay.state.plain.opened) (sym link) (subst (λ m. k < m) (sym c.loop-step.invariant.kept) c.requires)
 
 pub returns-in_err-close_step-clause-went : goal.returns-in_err-close_step-clause-went
 returns-in_err-close_step-clause-went g c =

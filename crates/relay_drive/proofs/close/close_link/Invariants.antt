@@ -1,5 +1,5 @@
 use Rattle.std.proofs.Common.{◌≡◌, false, take}
-use Rattle.relay_core.specs.Closing.{closing_of}
+use Rattle.relay_core.specs.Steps.{closing_of}
 use Rattle.relay_drive.specs.Steps.{Each}
 use Rattle.relay_drive.specs.Phases.{LooksAt}
 use Rattle.relay_drive.specs.Known.{Point}
@@ -10,5 +10,5 @@ abbrev pub invariant-loop-step : goal.invariant-loop-step
 invariant-loop-step g l = record {
   went : Moves g.P.Port g.S.Scribe Point.Accepted Point.Accepted false (Each LooksAt (take l.step-index (closing_of l.link)))
       (l.fn.run, l.fn.port, l.fn.scribe) (l.run, l.port, l.scribe);
-  kept : l.run.relay.state.opened ≡ l.fn.run.relay.state.opened;
+  kept : l.run.relay.state.plain.opened ≡ l.fn.run.relay.state.plain.opened;
 }

@@ -1,7 +1,8 @@
 use Rattle.std.proofs.Common.{◌≡◌, [], true, false, refl, sym, ◌∙◌, ap, subst}
-use Rattle.std.specs.Prelude.{MatchBool}
-use Rattle.relay_core.specs.State.{RelayValue}
-use Rattle.relay_core.specs.Closing.{is_called_for, after_closing}
+use Rattle.std.specs.Prelude.{MatchBool, is_some}
+use Rattle.relay_core.specs.RelayValue.{RelayValue}
+use Rattle.relay_state.specs.Closing.{closing_entry}
+use Rattle.relay_core.specs.Steps.{close_step, after_closing}
 use Rattle.relay_drive.specs.Steps.{Nothing}
 use Rattle.relay_drive.specs.Phases.{closing_events, told_step, Closes}
 use Rattle.relay_drive.proofs.GoesLemmas.{Grew-none, Grew-join, goes_as, goes_nowhere}
@@ -19,7 +20,7 @@ returns-clause-went g c =
     let events = closing_events s step in
     let f = g.P.Port.faults c.args.port.now in
     let h = g.P.Port.faults c.tell.new.port in
-    let yes : is_called_for s step ≡ true = sym c.calls_for.ensures ∙ c.if-not-calls_for.false in
+    let yes : is_some (closing_entry s (close_step step)) ≡ true = sym c.calls_for.ensures ∙ c.if-not-calls_for.false in
     let state : new ≡ after_closing s step = c.close.ensures
     ∙ ap (λ (r : RelayValue). after_closing r.state step) c.put_closing.ensures.relay in
     goes_served g.met.P.Port.waits_no_more l0 (g.S.Scribe.trace c.put_closing.new.scribe) f h events (closing_served s step)
@@ -37,6 +38,6 @@ pub returns-then-not-calls_for-clause-went : goal.returns-then-not-calls_for-cla
 returns-then-not-calls_for-clause-went g c =
     let s = c.args.run.now.relay.state in
     let step = c.args.step in
-    let no : is_called_for s step ≡ false = sym c.calls_for.ensures ∙ c.if-not-calls_for.true in
+    let no : is_some (closing_entry s (close_step step)) ≡ false = sym c.calls_for.ensures ∙ c.if-not-calls_for.true in
     goes_as (λ a p. subst (λ b. MatchBool b (Closes step s a s) (Nothing s a s)) (sym no) p)
     (goes_nowhere refl refl (Grew-none (g.S.Scribe.trace c.args.scribe.now)) (λ s t x k. k))

@@ -9,7 +9,7 @@ pub returns-in_err-pass_link-clause-went : goal.returns-in_err-pass_link-clause-
 returns-in_err-pass_link-clause-went c =
     let p = err_from_is_err_and c.from_residual.result c.from_residual.ensures.1 in
     let k = c.loop-link.link in
-    let n = c.args.relay.now.state.opened in
+    let n = c.args.relay.now.state.plain.opened in
     let lt : k < n = subst (λ m. k < m) c.opened-link-end.ensures c.loop-link-test.true in
     rw (p.1) (record {
       front = links_from 0 k;

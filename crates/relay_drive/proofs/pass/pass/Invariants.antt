@@ -6,7 +6,7 @@ use Rattle.relay_drive.proofs.pass.pass.Given as goal
 abbrev pub invariant-loop-link : goal.invariant-loop-link
 invariant-loop-link l = record {
   went : Each PassesLink (links_from 0 l.link) l.fn.relay.state [] l.relay.state;
-  time : l.relay.state.time ≡ l.fn.relay.state.time;
+  time : l.relay.state.plain.time ≡ l.fn.relay.state.plain.time;
   settings : l.relay.state.settings ≡ l.fn.relay.state.settings;
-  kept : l.relay.state.opened ≡ l.fn.relay.state.opened;
+  kept : l.relay.state.plain.opened ≡ l.fn.relay.state.plain.opened;
 }

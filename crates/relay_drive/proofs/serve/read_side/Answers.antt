@@ -1,7 +1,8 @@
 use Rattle.std.proofs.Common.{◌≡◌, false, ◌&&◌, refl, sym, ◌∙◌, ap, subst}
 use Rattle.std.specs.Prelude.{MatchBool}
 use Rattle.std.proofs.lemmas.Bool.{not-true, not-false}
-use Rattle.relay_state.specs.Rooms.{wants_read}
+use Rattle.token_bucket.specs.declared.limit.Dir.TheVariants as dir
+use Rattle.relay_state.specs.Rooms.{wants}
 use Rattle.relay_drive.specs.Steps.{Nothing}
 use Rattle.relay_drive.specs.Phases.{ReadsWithRoom}
 use Rattle.relay_drive.proofs.GoesLemmas.{Grew-none, goes_as, goes_nowhere}
@@ -11,8 +12,8 @@ pub returns-then-not-wants_read-clause-went : goal.returns-then-not-wants_read-c
 returns-then-not-wants_read-clause-went g c =
     let s = c.args.run.now.relay.state in
     let e = c.args.want.side in
-    let no : c.args.want.can_read && wants_read s e ≡ false =
-    ap (λ b. b && wants_read s e) (not-false c.args.want.can_read c.if-not-want.false) ∙ sym c.wants_read.ensures
+    let no : c.args.want.can_read && wants s e dir.Read ≡ false =
+    ap (λ b. b && wants s e dir.Read) (not-false c.args.want.can_read c.if-not-want.false) ∙ sym c.wants_read.ensures
     ∙ c.if-not-wants_read.true in
     goes_as (λ a p. subst (λ b. MatchBool b (ReadsWithRoom e s a s) (Nothing s a s)) (sym no) p)
     (goes_nowhere refl refl (Grew-none (g.S.Scribe.trace c.args.scribe.now)) (λ s t x k. k))
@@ -21,7 +22,7 @@ pub returns-then-not-want-clause-went : goal.returns-then-not-want-clause-went
 returns-then-not-want-clause-went g c =
     let s = c.args.run.now.relay.state in
     let e = c.args.want.side in
-    let no : c.args.want.can_read && wants_read s e ≡ false =
-    ap (λ b. b && wants_read s e) (not-true c.args.want.can_read c.if-not-want.true) in
+    let no : c.args.want.can_read && wants s e dir.Read ≡ false =
+    ap (λ b. b && wants s e dir.Read) (not-true c.args.want.can_read c.if-not-want.true) in
     goes_as (λ a p. subst (λ b. MatchBool b (ReadsWithRoom e s a s) (Nothing s a s)) (sym no) p)
     (goes_nowhere refl refl (Grew-none (g.S.Scribe.trace c.args.scribe.now)) (λ s t x k. k))

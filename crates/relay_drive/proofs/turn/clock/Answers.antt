@@ -2,6 +2,8 @@ use Rattle.std.proofs.Common.{◌≡◌, ℕ, ◌^◌, [], ◌∷◌, max, min, 
 use Rattle.ev_types.specs.declared.entry.Entry.TheVariants as entry
 use Rattle.ev_types.specs.Trace.{Trace}
 use Rattle.relay_state.specs.State.{State}
+use Rattle.relay_state.specs.Time.{begun}
+use Rattle.relay_steps.proofs.FrameLemmas.{frame-begun}
 use Rattle.relay_drive.proofs.GoesLemmas.{Grew-join, goes_by, goes_nowhere}
 use Rattle.relay_drive.proofs.HeardLemmas.{Heard-quiet}
 use Rattle.ev_port.specs.EndSteps.{no_step}
@@ -15,14 +17,13 @@ pub returns-clause-went : goal.returns-clause-went
 returns-clause-went g c =
     let s = c.args.run.now.relay.state in
     let reading = c.now.result in
-    let ms : ℕ = max s.time (min reading (2 ^ 62)) in
+    let ms : ℕ = max s.plain.time (min reading (2 ^ 62)) in
     let time : c.begin-ms.result ≡ ms = c.begin-ms.ensures.time in
     let events : Trace = (entry.Turn ms, []) ∷ [] in
-    let state : c.begin-ms.new.self.state ≡ record s { time = ms } = c.begin-ms.ensures.state
-    ∙ ap (λ n. let z : State = record s { time = n } in z) time in
+    let state : c.begin-ms.new.self.state ≡ begun s ms = c.begin-ms.ensures.state ∙ ap (begun s) time in
     let l0 = g.S.Scribe.trace c.args.scribe.now in
     goes_by l0 (g.S.Scribe.trace c.put.new.scribe) (g.P.Port.faults c.args.port.now) (g.P.Port.faults c.now.new.self) events
-    (reading, record { entries = refl; state = state }) (ap (λ (z : State). z.settings) state) (let n = c.put.ensures.counted in
+    (reading, record { entries = refl; state = state }) (ap (λ (z : State). z.settings) state ∙ (frame-begun s ms).settings) (let n = c.put.ensures.counted in
     omega (arith, n))
     (Grew-join l0 (g.S.Scribe.trace c.reserve.new.self) (g.S.Scribe.trace c.put.new.scribe) [] events c.reserve.ensures.trace
     (rw (time) at c.put.ensures.list))
