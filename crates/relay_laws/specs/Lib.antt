@@ -1,0 +1,5 @@
+pub mod Laws
+pub mod Links
+pub mod Underway
+pub mod Frees
+pub mod Spelling

@@ -1,0 +1,55 @@
+-- What a link came to, and how many live, told from the frees in a trace.
+use Rattle.std.specs.Prelude.{◌≡◌, ℕ, zero, suc, ◌+◌, ◌<◌, Bool, false, ◌&&◌, not, if◌then◌else◌}
+use Rattle.std.specs.List.{list_any}
+use Rattle.ev_types.specs.declared.side.SideId.{SideId}
+use Rattle.ev_types.specs.declared.status.LinkState.{LinkState}
+use Rattle.ev_types.specs.declared.status.LinkState.TheVariants as state
+use Rattle.ev_types.specs.declared.why.Cause.TheVariants as cause
+use Rattle.ev_types.specs.declared.entry.Entry.TheVariants as entry
+use Rattle.ev_types.specs.Sides.{same_end}
+use Rattle.ev_types.specs.Trace.{Event, Trace}
+use Rattle.relay_model.specs.Trace.{bytes_read, bytes_given}
+use Rattle.relay_model.specs.Stages.{Stage}
+use Rattle.relay_model.specs.Told.{is_freed}
+use Rattle.relay_model.specs.Totals.{opened}
+use Rattle.relay_state.specs.State.{State}
+use Rattle.relay_state.specs.Closing.{in_side, out_side}
+use Rattle.relay_state.specs.Counting.{link_count, open_below}
+use Rattle.relay_steps.specs.Meaning.{StandsFor}
+
+-- an event in which a side was freed as done, and whether one was
+abbrev pub done_by : SideId → Event → Bool
+done_by e (entry.Freed side cause.Done moved given, bytes) = same_end side e
+done_by e _ = false
+
+abbrev pub is_done : SideId → Trace → Bool
+is_done e t = list_any (done_by e) t
+
+-- A link lives until both of its sides were freed.
+abbrev pub lives_in : Trace → ℕ → Bool
+lives_in t link = not (is_freed (in_side link) t && is_freed (out_side link) t)
+
+-- It lives; or it is done, where both sides were freed as done; or it is gone.
+abbrev pub link_state_in : Trace → ℕ → LinkState
+link_state_in t link =
+    if lives_in t link then state.Live else (if is_done (in_side link) t && is_done (out_side link) t then state.Done else state.Gone)
+
+-- how many of the first links live
+abbrev pub living_below : Trace → ℕ → ℕ
+living_below t zero = 0
+living_below t (suc n) = living_below t n + (if lives_in t n then 1 else 0)
+
+-- A relay has as many links as a trace opens. Each came to what the trace says, and as many live.
+pub record LinksAre (t : Trace) (s : State) : Type 0 where
+  pub links : s.plain.opened ≡ opened t
+  pub each : (link : ℕ) → link < opened t → (link_count s link).state ≡ link_state_in t link
+  pub living : open_below s s.plain.opened ≡ living_below t (opened t)
+
+-- So it is of every trace for which the relay stands.
+abbrev pub LinksAreTold : Type 0
+LinksAreTold = (t : Trace) (x : Stage) (s : State) → StandsFor t x s → LinksAre t s
+
+-- Where a link is done, all that was read at either side was given to the other.
+abbrev pub DoneIsWhole : Type 0
+DoneIsWhole = (t : Trace) (x : Stage) (s : State) → StandsFor t x s → (link : ℕ) → link_state_in t link ≡ state.Done →
+    (bytes_given (out_side link) t ≡ bytes_read (in_side link) t) × (bytes_given (in_side link) t ≡ bytes_read (out_side link) t)

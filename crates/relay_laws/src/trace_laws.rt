@@ -1,0 +1,40 @@
+// What the traces tell that a relay and a script have in common.
+ghost use Rattle.relay_laws.specs.Frees.{FreesAreFor};
+ghost use Rattle.relay_laws.specs.Links.{DoneIsWhole, LinksAreTold};
+ghost use Rattle.relay_laws.specs.Spelling.{ReadsFitAsScripted, StoodIsSpellable};
+ghost use Rattle.relay_laws.specs.Underway.{BufferedIsUnderway};
+
+/// A relay has the links that a trace opens. A link lives until both of its sides were freed; then it is done where both were
+/// freed as done, and else it is gone.
+pub fn links_are_told()
+    ensures { LinksAreTold }
+{}
+
+/// Where a link is done, all that was read at either side was given to the other.
+pub fn done_is_whole()
+    ensures { DoneIsWhole }
+{}
+
+/// The buffers of live sides hold exactly the bytes that are under way: what was read and not moved, and what was moved and not
+/// given. Where both sides of a link live, that is what was read at either and not given to the other.
+pub fn buffered_is_underway()
+    ensures { BufferedIsUnderway }
+{}
+
+/// With no hooks, timeouts and filters a side is freed for one of three causes: writing was ended at both sides of its link, its
+/// end failed in this turn, or its peer was freed and all that was moved from there was given to it.
+pub fn frees_are_for()
+    ensures { FreesAreFor }
+{}
+
+/// Where every answer is a script's, no more is read than the script brings in: what was read are bytes, of which there are not
+/// too many to count.
+pub fn reads_fit_as_scripted()
+    ensures { ReadsFitAsScripted }
+{}
+
+/// A trace for which a relay stands can be spelled as text and read back: its numbers fit their fields, a want and a mark name a
+/// direction, and beside each entry stand exactly the bytes that were got or taken.
+pub fn stood_is_spellable()
+    ensures { StoodIsSpellable }
+{}
