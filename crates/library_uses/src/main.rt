@@ -7,6 +7,7 @@ mod deadlines;
 mod due;
 mod filters;
 mod lines;
+mod own_port;
 mod queues;
 
 use std::alloc::Global;
@@ -21,5 +22,6 @@ fn main(rt: HostRuntime) -> anyhow::Result<()> {
     bufferevents::back_pressure(&rt, alloc)?;
     filters::line_ends(&rt, alloc)?;
     due::joined_reasons(&rt, alloc)?;
+    own_port::one_call(&rt, alloc)?;
     Ok(())
 }
