@@ -31,7 +31,7 @@ use Rattle.script_text.specs.Grammar.{keyword_of, link_of, end_of, made_of, more
 use Rattle.script_text.specs.Order.{brought, bytes_for, is_ended, is_known, may_follow, with_line, extended}
 use Rattle.script_text.specs.Spelled.{no_line, script_of}
 use Rattle.relay_model.specs.Lines.{brings}
-use Rattle.relay_meaning.specs.Spelling.{FewBytes, BringsFit}
+use Rattle.relay_laws.specs.Spelling.{FewBytes, BringsFit}
 use Rattle.script_port.proofs.ToldLemmas.{same_end_tells}
 use Rattle.evplay.proofs.ScriptLemmas.{some-is, none-some, keeps-lines}
 

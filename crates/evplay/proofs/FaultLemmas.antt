@@ -3,7 +3,7 @@ use Rattle.std.proofs.Common.{◌≡◌, ℕ, refl, arith, inl, inr, ◌⊎◌}
 use Rattle.ev_types.specs.Trace.{Trace}
 use Rattle.stream_words.specs.Faults.{Rose}
 use Rattle.ev_port.specs.Faults.{Faults}
-use Rattle.relay_core.specs.State.{State}
+use Rattle.relay_state.specs.State.{State}
 use Rattle.relay_drive.specs.declared.fault.DriveFault.{DriveFault}
 use Rattle.relay_drive.specs.declared.fault.DriveFault.TheVariants as fault
 use Rattle.relay_drive.specs.Phases.{CutTurn, in_poll, CutPolling, is_open_fault}

@@ -1,5 +1,5 @@
 -- A trace for which a relay stands between two turns is a run, with the report of what the relay counts.
-use Rattle.std.proofs.Common.{◌≡◌, ◌≤◌, ◌<◌, ◌+◌, ℕ, zero, suc, Bool, true, false, List, [], ◌∷◌, ◌++◌, length, refl, sym, ◌∙◌, subst}
+use Rattle.std.proofs.Common.{◌≡◌, ◌≤◌, ◌<◌, ◌+◌, ℕ, zero, suc, Bool, true, false, List, [], ◌∷◌, ◌++◌, length, refl, sym, ◌∙◌, ap, subst}
 use Rattle.std.proofs.Common.{arith, length-append}
 use Rattle.ev_types.specs.declared.side.Side.{Side}
 use Rattle.ev_types.specs.declared.side.Side.TheVariants.{In, Out}
@@ -15,6 +15,7 @@ use Rattle.relay_model.specs.Trace.{bytes_read, bytes_given, has_ended, is_write
 use Rattle.relay_model.specs.Filter.{filter_of}
 use Rattle.relay_model.specs.FilterLaws.{IsPrefixOf}
 use Rattle.relay_model.specs.Flow.{passed, passed_at_end}
+use Rattle.relay_model.specs.Settings as model
 use Rattle.relay_model.specs.Settings.{usual}
 use Rattle.relay_model.specs.Plain.{Plain}
 use Rattle.relay_model.specs.Rooms.{read_kind, write_kind}
@@ -27,52 +28,22 @@ use Rattle.relay_model.specs.Plays.{Plays}
 use Rattle.relay_model.specs.Script.{closing_step}
 use Rattle.script_port.specs.ScriptPlayed.{script_played}
 use Rattle.relay_model.proofs.QuietLemmas.{legal_is_quiet}
+use Rattle.relay_model.proofs.CauseLemmas.{frees_have_causes}
 use Rattle.relay_model.proofs.StandsLawLemmas.{bytes_given_begin, closed_is_whole}
 use Rattle.relay_core.specs.declared.settings.Settings.{Settings}
-use Rattle.relay_core.specs.State.{State}
-use Rattle.relay_core.specs.Closing.{in_side, out_side}
-use Rattle.relay_core.specs.Counting.{link_count}
-use Rattle.relay_meaning.specs.Meaning.{StandsFor, model_settings}
-use Rattle.relay_meaning.specs.Spelling.{BringsFit}
-use Rattle.relay_meaning.proofs.LawLemmas.{means_conserved, counts_are_told}
-use Rattle.relay_meaning.proofs.FreeLemmas.{frees_are_for}
-use Rattle.relay_meaning.proofs.LinkLemmas.{links_are_told}
+use Rattle.relay_core.specs.SettingsView.{model_settings}
+use Rattle.relay_state.specs.State.{State}
+use Rattle.relay_state.specs.Closing.{in_side, out_side}
+use Rattle.relay_state.specs.Counting.{link_count}
+use Rattle.relay_steps.specs.Meaning.{IsBuilt, StandsFor}
+use Rattle.relay_laws.specs.Spelling.{BringsFit}
+use Rattle.relay_laws.proofs.LawLemmas.{means_conserved, counts_are_told}
+use Rattle.relay_laws.proofs.LinkLemmas.{links_are_told}
 use Rattle.relay_model.proofs.PollLemmas.{polls_fail_as_scripted}
-use Rattle.relay_meaning.proofs.SpellingLemmas.{reads_fit_as_scripted, stood_is_spellable}
+use Rattle.relay_laws.proofs.SpellingLemmas.{reads_fit_as_scripted, stood_is_spellable}
 use Rattle.evplay.specs.TurnEnds.{AtTurnEnds}
-use Rattle.evplay.specs.Headline.{IsRun, StoodAt, StoodBetween, EndedSo, TellsLink, TellsLinks}
+use Rattle.evplay.specs.Headline.{IsRun, settings_of, StoodAt, StoodBetween, EndedSo, TellsLink, TellsLinks}
 use Rattle.evplay.specs.Report.{lines_below}
-
--- the usual settings name no filter
-none-read : (x : Side) → read_kind usual x ≡ kind.None
-none-read In = refl
-none-read Out = refl
-
-none-write : (x : Side) → write_kind usual x ≡ kind.None
-none-write In = refl
-none-write Out = refl
-
-passes-all : (k l : FilterKind) (ended : Bool) (xs : List ℕ) → k ≡ kind.None → l ≡ kind.None →
-    passed (filter_of k) (filter_of l) ended xs ≡ xs
-passes-all k l true xs p q = rw (p, q) refl
-passes-all k l false xs p q = rw (p, q) refl
-
-passes-all_at_end : (k l : FilterKind) (xs : List ℕ) → k ≡ kind.None → l ≡ kind.None → passed_at_end (filter_of k) (filter_of l) xs ≡ xs
-passes-all_at_end k l xs p q = rw (p, q) refl
-
-begins-of : (t : Trace) (s : Plain) → AllAccounted usual t s → (e : SideId) → IsPrefixOf (bytes_given (peer e) t) (bytes_read e t)
-begins-of t s a e =
-    subst (λ xs. IsPrefixOf (bytes_given (peer e) t) xs)
-    (passes-all (read_kind usual e.side) (write_kind usual (other e.side)) (has_ended e t) (bytes_read e t) (none-read e.side)
-    (none-write (other e.side)))
-    (bytes_given_begin usual t s a e)
-
-whole-of : (t : Trace) (s : Plain) → AllAccounted usual t s → (e : SideId) → is_write_closed (peer e) t ≡ true →
-    bytes_given (peer e) t ≡ bytes_read e t
-whole-of t s a e h =
-    closed_is_whole usual t s a e h
-    ∙ passes-all_at_end (read_kind usual e.side) (write_kind usual (other e.side)) (bytes_read e t) (none-read e.side)
-    (none-write (other e.side))
 
 -- one link more
 tells-push : (t : Trace) (k : ℕ) (xs : List LinkCount) (x : LinkCount) → TellsLinks t k xs → TellsLink t (k + length xs) x →
@@ -88,7 +59,7 @@ length-lines_below s zero = refl
 length-lines_below s (suc n) =
     let less = length-lines_below s n in omega (arith, less, length-append (lines_below s n) (link_count s n ∷ []))
 
-tells-below : (t : Trace) (x : Stage) (s : State) (k : StandsFor t x s) (n : ℕ) → n ≤ s.opened → TellsLinks t 0 (lines_below s n)
+tells-below : (t : Trace) (x : Stage) (s : State) (k : StandsFor t x s) (n : ℕ) → n ≤ s.plain.opened → TellsLinks t 0 (lines_below s n)
 tells-below t x s k zero h = tt
 tells-below t x s k (suc n) h =
     let near = counts_are_told t x s k (in_side n) (omega (arith, h)) in
@@ -102,48 +73,45 @@ tells-below t x s k (suc n) h =
     (subst (λ m. TellsLink t m (link_count s n)) (sym at) told)
 
 -- the settings of the model for those that the program uses
-usual-is : (g : Settings) → g.hold ≡ 524288 → g.links ≡ 256 → model_settings g ≡ usual
+pub usual-is : (g : Settings) → g.hold ≡ 524288 → g.links ≡ 256 → model_settings g ≡ usual
 usual-is g h l = rw (h, l) refl
 
+-- no hook, no rate and no group is set in them
+pub usual-built : IsBuilt usual
+usual-built = record { hooks = refl; in_rate = refl; out_rate = refl; in_group = refl; out_group = refl; groups = refl }
+
 -- a relay that stands for a trace stood so
-pub stood-at : (t : Trace) (x : Stage) (s : State) → s.settings.hold ≡ 524288 → s.settings.links ≡ 256 → (k : StandsFor t x s) →
-    (h : StoodAt t x) × (h.plain ≡ k.plain)
-stood-at t x s h l k =
-    let same = usual-is s.settings h l in
-    let v = means_conserved t x s k in
-    let here : AllAccounted usual t k.plain =
-    subst (λ p. AllAccounted usual t p) v.1 (subst (λ g. AllAccounted g t v.0.plain) same v.3.conserved.accounted) in
-    (record { plain = k.plain; reached = subst (λ g. Reaches g t (at x k.plain)) same k.reached; accounted = here }, refl)
+pub stood-at : (g : model.Settings) (t : Trace) (x : Stage) (s : State) → s.settings ≡ g → StandsFor t x s → StoodAt g t x
+stood-at g t x s is k = record {
+  plain = s.plain;
+  reached = subst (λ z. Reaches z t (at x s.plain)) is k.reached;
+  accounted = subst (λ z. AllAccounted z t s.plain) is (means_conserved t x s k).conserved.accounted;
+}
 
 -- What is played, at a stage at which a turn may answer so, is a run that ended with this answer, where what the script brings in
 -- fits.
-pub run-of : (script : ScriptValue) (answer : TurnAnswer) (t : Trace) (x : Stage) (s : State) → s.settings.hold ≡ 524288 →
-    s.settings.links ≡ 256 →
-    (k : StandsFor t x s) → LeftAt (model_settings s.settings) answer x k.plain → BringsFit script.turns →
+pub run-of : (script : ScriptValue) (answer : TurnAnswer) (t : Trace) (x : Stage) (s : State) → s.settings ≡ settings_of script →
+    (k : StandsFor t x s) → LeftAt s.settings answer x s.plain → BringsFit script.turns →
     Plays (script_played script) 0 answer t →
-    AtTurnEnds StoodBetween t → IsRun script answer t (lines_below s s.opened)
-run-of script answer t x s h l k left fit played ends =
-    let same = usual-is s.settings h l in
-    let stood = stood-at t x s h l k in
-    let accounted = stood.0.accounted in
+    AtTurnEnds (StoodBetween (settings_of script)) t → IsRun script answer t (lines_below s s.plain.opened)
+run-of script answer t x s is k left fit played ends =
+    let g : model.Settings = settings_of script in
+    let stood : StoodAt g t x = stood-at g t x s is k in
     let reads = reads_fit_as_scripted script.turns (closing_step usual) t fit played.answered in
-    let legal : EndsWith usual answer t = subst (λ g. EndsWith g answer t) same (x, k.plain, k.reached, left) in
+    let left_at : LeftAt g answer x s.plain = subst (λ z. LeftAt z answer x s.plain) is left in
+    let legal : EndsWith g answer t = (x, s.plain, stood.reached, left_at) in
+    let links : s.settings.links ≡ 256 = ap (λ (z : model.Settings). z.links) is in
     record {
       played = played;
-      polls = polls_fail_as_scripted usual answer script.turns (closing_step usual) t played.answered legal;
-      ended = record {
-        stage = x;
-        stood = stood.0;
-        left =
-            subst (λ p. LeftAt usual answer x p) (sym stood.1) (subst (λ g. LeftAt g answer x k.plain) same left);
-      };
+      polls = polls_fail_as_scripted g answer script.turns (closing_step usual) t played.answered legal;
+      ended = record { stage = x; stood = stood; left = left_at };
       turn_ends = ends;
-      begins = begins-of t stood.0.plain accounted;
-      whole = whole-of t stood.0.plain accounted;
-      quiet = legal_is_quiet (model_settings s.settings) t (at x k.plain, k.reached);
+      begins = λ e. bytes_given_begin g t s.plain stood.accounted e;
+      whole = λ e. closed_is_whole g t s.plain stood.accounted e;
+      quiet = legal_is_quiet g t (at x s.plain, stood.reached);
       freed = λ before after e why moved given bytes split.
-          frees_are_for s.settings t before after e why moved given bytes (at x k.plain, k.reached) split;
-      read_back = trace_of-trace_text t (stood_is_spellable t x s k (omega (arith, l)) reads);
-      opened = length-lines_below s s.opened ∙ (links_are_told t x s k).links;
-      report = tells-below t x s k s.opened (omega arith);
+          frees_have_causes g t before after e why moved given bytes (at x s.plain, stood.reached) split;
+      read_back = trace_of-trace_text t (stood_is_spellable t x s k (omega (arith, links)) reads);
+      opened = length-lines_below s s.plain.opened ∙ (links_are_told t x s k).links;
+      report = tells-below t x s k s.plain.opened (omega arith);
     }

@@ -1,7 +1,7 @@
 -- A turn of the relay puts one entry that begins a turn: its clock puts it, and no other step does.
 use Rattle.std.proofs.Common.{◌≡◌, ℕ, zero, suc, ◌+◌, Bool, true, false, ◌&&◌, nat_lt, if◌then◌else◌, List, [], ◌∷◌, ◌++◌, refl, ◌∙◌, ap}
 use Rattle.std.proofs.Common.{arith, count_by, inl, inr}
-use Rattle.std.specs.Prelude.{MatchBool}
+use Rattle.std.specs.Prelude.{MatchBool, Option, Some, None, is_some, option_map}
 use Rattle.std.proofs.lemmas.List.Sums.{sum_by-append}
 use Rattle.ev_types.specs.declared.side.SideId.{SideId}
 use Rattle.ev_types.specs.declared.answer.WriteAnswer.{WriteAnswer}
@@ -13,16 +13,22 @@ use Rattle.ev_port.specs.Ends.{write_events}
 use Rattle.ev_port.specs.Polling.{want_events, ready_events}
 use Rattle.relay_core.specs.declared.close.Closing.{Closing}
 use Rattle.relay_core.specs.declared.close.Closing.TheVariants as closing
-use Rattle.relay_core.specs.State.{State}
-use Rattle.relay_core.specs.Rooms.{wants_read, write_room, offer}
-use Rattle.relay_core.specs.Closing.{in_side, out_side, closing_of, is_called_for}
+use Rattle.token_bucket.specs.declared.limit.Dir.TheVariants as dir
+use Rattle.ev_types.specs.declared.why.Cause.{Cause}
+use Rattle.relay_model.specs.Plain.{side_at}
+use Rattle.relay_model.specs.Rooms.{is_connecting}
+use Rattle.relay_model.specs.Close.{fault, freed_entry}
+use Rattle.relay_core.specs.Steps.{steps_of, close_step, entry_events}
+use Rattle.relay_state.specs.State.{State}
+use Rattle.relay_state.specs.Rooms.{wants, write_room, offer}
+use Rattle.relay_state.specs.Closing.{in_side, out_side, closing_entry}
 use Rattle.relay_model.specs.RatesKept.{is_turn}
 use Rattle.ev_types.specs.ScriptTurn.{ScriptTurn}
 use Rattle.relay_model.specs.Scripted.{begun}
 use Rattle.relay_drive.specs.Steps.{Nothing, Then, Each}
 use Rattle.relay_drive.specs.Calls.{Ticks}
 use Rattle.relay_drive.specs.Phases.{links_from, Polls, OpensOne, OpensSome, AcceptsWhere, PollsAndAccepts, ReadsSide, WritesSide}
-use Rattle.relay_drive.specs.Phases.{ConnectsSide, is_connecting, ServesSide, PassesSide, PassesLink, ForAllLinks, closing_events}
+use Rattle.relay_drive.specs.Phases.{ConnectsSide, ServesSide, PassesSide, PassesLink, ForAllLinks, closing_events}
 use Rattle.relay_drive.specs.Phases.{LooksAt, ClosesLink, Turns, CutTurn, in_poll, CutPolling}
 use Rattle.relay_drive.specs.declared.fault.DriveFault.TheVariants as fault
 use Rattle.evplay.specs.TurnEnds.{begins_turn}
@@ -54,7 +60,7 @@ each R f [] = nothing
 each R f (x ∷ xs) = both 0 0 (f x) (each R f xs)
 
 all_links : (R : ℕ → State → Trace → State → Type 0) → ((k : ℕ) → IsPutting 0 (R k)) → IsPutting 0 (ForAllLinks R)
-all_links R f s new a h = each R f (links_from 0 s.opened) s new a h
+all_links R f s new a h = each R f (links_from 0 s.plain.opened) s new a h
 
 -- Clock and poll
 
@@ -101,7 +107,7 @@ polls_and_accepts marked s new a h = both 0 0 (polls marked h.0) (accepts h.0) s
 -- Serving
 
 reads : (e : SideId) (marked : Bool) → IsPutting 0 (ReadsSide e marked)
-reads e marked s new a h = by_bool (marked && wants_read s e) (λ r. ap (count_by is_turn) r.3.entries) (nothing s new a) h
+reads e marked s new a h = by_bool (marked && wants s e dir.Read) (λ r. ap (count_by is_turn) r.3.entries) (nothing s new a) h
 
 write_events-none : (e : SideId) (from : List ℕ) (answer : WriteAnswer) → count_by is_turn (write_events e from answer) ≡ 0
 write_events-none e from (write.Took n) = refl
@@ -119,7 +125,7 @@ connects e marked s new a h = by_bool marked (λ r. ap (count_by is_turn) r.1.en
 
 serves : (w : Want) → IsPutting 0 (ServesSide w)
 serves w s new a h =
-    by_bool (is_connecting s w.side) (connects w.side w.can_write s new a)
+    by_bool (is_connecting s.plain w.side) (connects w.side w.can_write s new a)
     (both 0 0 (reads w.side w.can_read) (writes w.side w.can_write) s new a) h
 
 -- Passing and closing
@@ -131,7 +137,11 @@ passes_link : (k : ℕ) → IsPutting 0 (PassesLink k)
 passes_link k = each PassesSide passes (in_side k ∷ out_side k ∷ [])
 
 closing_events-none : (s : State) (step : Closing) → count_by is_turn (closing_events s step) ≡ 0
-closing_events-none s (closing.Faulty e) = refl
+closing_events-none s (closing.Faulty e) = go (fault (side_at s.plain e))
+  where
+    go : (o : Option Cause) → count_by is_turn (entry_events (option_map (freed_entry s.plain e) o)) ≡ 0
+    go None = refl
+    go (Some why) = refl
 closing_events-none s (closing.EndWriting e) = refl
 closing_events-none s (closing.BothDone k) = refl
 closing_events-none s (closing.PeerGone e) = refl
@@ -139,10 +149,10 @@ closing_events-none s (closing.Shut e) = refl
 
 looks : (step : Closing) → IsPutting 0 (LooksAt step)
 looks step s new a h =
-    by_bool (is_called_for s step) (λ c. ap (count_by is_turn) c.entries ∙ closing_events-none s step) (nothing s new a) h
+    by_bool (is_some (closing_entry s (close_step step))) (λ c. ap (count_by is_turn) c.entries ∙ closing_events-none s step) (nothing s new a) h
 
 closes_link : (k : ℕ) → IsPutting 0 (ClosesLink k)
-closes_link k = each LooksAt looks (closing_of k)
+closes_link k = each LooksAt looks (steps_of k)
 
 -- The turn
 

@@ -9,10 +9,13 @@ use Rattle.ev_types.specs.declared.status.LinkCount.{LinkCount}
 use Rattle.script_text.specs.Script.{ScriptValue}
 use Rattle.script_text.specs.TraceText.{trace_text}
 use Rattle.script_text.specs.TraceSpelled.{trace_of}
-use Rattle.relay_model.specs.Trace.{bytes_read, bytes_given, is_write_closed}
+use Rattle.relay_model.specs.Trace.{bytes_read, bytes_given, has_ended, is_write_closed}
 use Rattle.relay_model.specs.Totals.{opened}
 use Rattle.relay_model.specs.FilterLaws.{IsPrefixOf}
-use Rattle.relay_model.specs.Settings.{usual}
+use Rattle.relay_model.specs.Filter.{filter_of}
+use Rattle.relay_model.specs.Flow.{passed, passed_at_end}
+use Rattle.relay_model.specs.Settings.{Settings, usual}
+use Rattle.relay_model.specs.Rooms.{read_kind, write_kind}
 use Rattle.relay_model.specs.Plain.{Plain}
 use Rattle.relay_model.specs.Stages.{Stage, at}
 use Rattle.relay_model.specs.Turn.{Reaches}
@@ -21,9 +24,9 @@ use Rattle.relay_model.specs.Stands.{AllAccounted}
 use Rattle.relay_model.specs.Quiet.{IsQuiet}
 use Rattle.relay_model.specs.Plays.{Plays}
 use Rattle.script_port.specs.ScriptPlayed.{script_played}
-use Rattle.relay_core.specs.Closing.{in_side, out_side}
-use Rattle.relay_meaning.specs.Frees.{IsFreedFor}
-use Rattle.relay_meaning.specs.Links.{link_state_in}
+use Rattle.relay_model.specs.Causes.{HasCause}
+use Rattle.relay_state.specs.Closing.{in_side, out_side}
+use Rattle.relay_laws.specs.Links.{link_state_in}
 use Rattle.relay_model.specs.Polls.{PollsFailed}
 use Rattle.evplay.specs.TurnEnds.{AtTurnEnds}
 
@@ -40,39 +43,52 @@ abbrev pub TellsLinks : Trace → ℕ → List LinkCount → Type 0
 TellsLinks t link [] = Unit {0}
 TellsLinks t link (told ∷ more) = TellsLink t link told × TellsLinks t (suc link) more
 
+-- The settings of a script's run: the usual ones, since no line of a script sets anything yet.
+abbrev pub settings_of : ScriptValue → Settings
+settings_of script = usual
+
+-- What the filters of a direction make of what was read where it begins: before the side has ended without their ends, from then on
+-- with them.
+abbrev pub handed_on : Settings → Trace → SideId → List ℕ
+handed_on g t e = passed (filter_of (read_kind g e.side)) (filter_of (write_kind g (peer e).side)) (has_ended e t) (bytes_read e t)
+
+-- and all that they make of it, with their ends
+abbrev pub handed_on_whole : Settings → Trace → SideId → List ℕ
+handed_on_whole g t e = passed_at_end (filter_of (read_kind g e.side)) (filter_of (write_kind g (peer e).side)) (bytes_read e t)
+
 -- A run stood so behind a trace: the trace leads to this state at this stage of a turn, and it accounts for every byte in
 -- every direction of that state: none was lost, made or changed.
-pub record StoodAt (t : Trace) (x : Stage) : Type 0 where
+pub record StoodAt (g : Settings) (t : Trace) (x : Stage) : Type 0 where
   pub plain : Plain
-  pub reached : Reaches usual t (at x plain)
-  pub accounted : AllAccounted usual t plain
+  pub reached : Reaches g t (at x plain)
+  pub accounted : AllAccounted g t plain
 
 -- so it stood between two turns
-abbrev pub StoodBetween : Trace → Type 0
-StoodBetween t = StoodAt t Stage.Between
+abbrev pub StoodBetween : Settings → Trace → Type 0
+StoodBetween g t = StoodAt g t Stage.Between
 
 -- so it stood where a turn may answer this
-pub record EndedSo (answer : TurnAnswer) (t : Trace) : Type 0 where
+pub record EndedSo (g : Settings) (answer : TurnAnswer) (t : Trace) : Type 0 where
   pub stage : Stage
-  pub stood : StoodAt t stage
-  pub left : LeftAt usual answer stage stood.plain
+  pub stood : StoodAt g t stage
+  pub left : LeftAt g answer stage stood.plain
 
 -- A trace that was written, of a run that ended with this answer, is played from the script: its turns are the script's, every
 -- answer in it is the script's, and every link that waits is accepted. It is legal, and no byte in it was lost, made or
--- changed: as it ends, and wherever a turn of it ends. Whatever happened, the bytes given to a side are a prefix of those read from its peer; where writing was ended at
--- a side, they are all of them. Behind the free of a side nothing is done with its end but that it is closed, once; and each
--- free has its cause. The text of the trace, read as a trace, is the same trace. The report has a line for each opened link and
+-- changed: as it ends, and wherever a turn of it ends. Whatever happened, the bytes given to a side are a prefix of what the filters
+-- make of those read from its peer; where writing was ended at a side, they are all of that. Behind the free of a side nothing is
+-- done with its end but that it is closed, once; and each free has its cause. The text of the trace, read as a trace, is the same trace. The report has a line for each opened link and
 -- tells of it.
 pub record IsRun (script : ScriptValue) (answer : TurnAnswer) (t : Trace) (links : List LinkCount) : Type 0 where
   pub played : Plays (script_played script) 0 answer t
   pub polls : PollsFailed answer script.turns t
-  pub ended : EndedSo answer t
-  pub turn_ends : AtTurnEnds StoodBetween t
-  pub begins : (e : SideId) → IsPrefixOf (bytes_given (peer e) t) (bytes_read e t)
-  pub whole : (e : SideId) → is_write_closed (peer e) t ≡ true → bytes_given (peer e) t ≡ bytes_read e t
+  pub ended : EndedSo (settings_of script) answer t
+  pub turn_ends : AtTurnEnds (StoodBetween (settings_of script)) t
+  pub begins : (e : SideId) → IsPrefixOf (bytes_given (peer e) t) (handed_on (settings_of script) t e)
+  pub whole : (e : SideId) → is_write_closed (peer e) t ≡ true → bytes_given (peer e) t ≡ handed_on_whole (settings_of script) t e
   pub quiet : IsQuiet t
   pub freed : (before after : Trace) (e : SideId) (why : Cause) (moved given : ℕ) (bytes : List ℕ) →
-      t ≡ before ++ (entry.Freed e why moved given, bytes) ∷ after → IsFreedFor before e why given
+      t ≡ before ++ (entry.Freed e why moved given, bytes) ∷ after → HasCause (settings_of script) before e why
   pub read_back : trace_of (trace_text t) ≡ Ok t
   pub opened : length links ≡ opened t
   pub report : TellsLinks t 0 links

@@ -1,8 +1,8 @@
 -- The lines of a report, by what a relay counts of its links.
 use Rattle.std.specs.Prelude.{ℕ, zero, suc, List, [], ◌∷◌, ◌++◌}
 use Rattle.ev_types.specs.declared.status.LinkCount.{LinkCount}
-use Rattle.relay_core.specs.State.{State}
-use Rattle.relay_core.specs.Counting.{link_count}
+use Rattle.relay_state.specs.State.{State}
+use Rattle.relay_state.specs.Counting.{link_count}
 
 -- the lines of the first links
 abbrev pub lines_below : State → ℕ → List LinkCount

@@ -1,7 +1,7 @@
 // Makes the turns of a script over a port that answers by it, and gives the text of what happened.
 ghost use Rattle.std.specs.Prelude.{◌≡◌, ◌≢◌, ◌≤◌, ◌⊎◌, length, IfOk, IfErr};
 ghost use Rattle.relay_drive.specs.declared.fault.DriveFault.TheVariants.{Memory, PollFault};
-ghost use Rattle.relay_meaning.specs.Spelling.{BringsFit};
+ghost use Rattle.relay_laws.specs.Spelling.{BringsFit};
 ghost use Rattle.ev_types.specs.ScriptTurn.{lines_of};
 ghost use Rattle.relay_model.specs.Called.{NamesOpened};
 ghost use Rattle.evplay.specs.Report.{lines_below};
@@ -66,7 +66,7 @@ fn cut_off(
     drive: &Drive,
 ) -> Result<(Vec<u8>, RunEnd), DriveFault>
     ensures poll_failed { IfOk result (λ ran. (fault ≡ PollFault) × (ran.1 ≡ RunEnd.PollFailed)) }
-    ensures text { IfOk result (λ ran. ran.0.items ≡ run_text scribe.trace (lines_below drive.now.state drive.now.state.opened)) }
+    ensures text { IfOk result (λ ran. ran.0.items ≡ run_text scribe.trace (lines_below drive.now.state drive.now.state.plain.opened)) }
     ensures refused { IfErr result (λ refused. (refused ≡ Memory) ⊎ ((refused ≡ fault) × (fault ≢ PollFault))) }
 {
     match fault {
@@ -77,7 +77,7 @@ fn cut_off(
 
 /// The text of a trace, and of the report of the drive that made it.
 fn written(alloc: Global, scribe: TextScribe, drive: &Drive) -> Result<Vec<u8>, NoMemory>
-    ensures { IfOk result (λ text. text.items ≡ run_text scribe.trace (lines_below drive.now.state drive.now.state.opened)) }
+    ensures { IfOk result (λ text. text.items ≡ run_text scribe.trace (lines_below drive.now.state drive.now.state.plain.opened)) }
 {
     let links = link_lines(alloc, drive)?;
     let mut text = scribe.into_text();
@@ -87,7 +87,7 @@ fn written(alloc: Global, scribe: TextScribe, drive: &Drive) -> Result<Vec<u8>, 
 
 /// The links of a drive as the report says them, in order.
 fn link_lines(alloc: Global, drive: &Drive) -> Result<Vec<LinkLine>, NoMemory>
-    ensures { IfOk result (λ lines. lines.items ≡ lines_below drive.now.state drive.now.state.opened) }
+    ensures { IfOk result (λ lines. lines.items ≡ lines_below drive.now.state drive.now.state.plain.opened) }
 {
     let mut lines = Vec::new(alloc);
     for link in 0..drive.opened() {

@@ -1,4 +1,4 @@
-use Rattle.std.proofs.Common.{◌≡◌, ◌≢◌, ◌⊎◌, inl, inr, ◌≤◌, ◌<◌, ◌+◌, ◌*◌, ◌++◌, ℕ, length, Some, false, refl, ◌∙◌, subst, arith, Result}
+use Rattle.std.proofs.Common.{◌≡◌, ◌≢◌, ◌⊎◌, inl, inr, ◌≤◌, ◌<◌, ◌+◌, ◌*◌, ◌++◌, ℕ, length, Some, false, refl, sym, ◌∙◌, subst, arith, Result}
 use Rattle.std.proofs.Common.{Ok, Err, IfOk, IfErr}
 use Rattle.std.proofs.lemmas.List.{length-map}
 use Rattle.std.specs.Prelude.{count_by}
@@ -10,8 +10,10 @@ use Rattle.script_port.specs.ScriptTold.{script_faults}
 use Rattle.relay_model.specs.Stages.{Stage}
 use Rattle.relay_model.specs.Answers.{TurnAnswer}
 use Rattle.relay_model.specs.RatesKept.{is_turn}
-use Rattle.relay_meaning.specs.Meaning.{LeftFor}
-use Rattle.relay_meaning.proofs.LawLemmas.{new_relay_stands}
+use Rattle.relay_steps.specs.Meaning.{StandsFor, LeftFor}
+use Rattle.relay_laws.proofs.LawLemmas.{new_relay_stands}
+use Rattle.relay_core.specs.SettingsView.{model_settings}
+use Rattle.relay_steps.specs.Meaning.{IsBuilt}
 use Rattle.relay_drive.specs.declared.fault.DriveFault.{DriveFault}
 use Rattle.relay_drive.specs.declared.fault.DriveFault.TheVariants as fault
 use Rattle.relay_drive.specs.DriveValue.{DriveValue, new_drive, is_worn}
@@ -21,11 +23,11 @@ use Rattle.relay_drive.specs.Phases.{CutTurn}
 use Rattle.relay_drive.specs.DriveStands as drive
 use Rattle.relay_drive.proofs.BoundLaws.{new_drive_is_within, within_is_not_worn, went_is_bounded}
 use Rattle.evplay.proofs.FaultLemmas.{memory-or-poll}
-use Rattle.evplay.proofs.HeadlineLemmas.{stood-at}
+use Rattle.evplay.proofs.HeadlineLemmas.{usual-is, usual-built, stood-at}
 use Rattle.evplay.proofs.RunLemmas.{went-run, failed-run}
 use Rattle.evplay.proofs.TurnEndLemmas.{ends-none, ends-grow}
 use Rattle.evplay.proofs.TurnCountLemmas.{turn-once, turn-first, cut-poll-once, cut-poll-first, count-append}
-use Rattle.evplay.specs.Headline.{StoodBetween}
+use Rattle.evplay.specs.Headline.{settings_of, StoodBetween}
 use Rattle.evplay.specs.Report.{lines_below}
 use Rattle.evplay.proofs.run.run.Goals as goal
 
@@ -37,8 +39,9 @@ turns-seen : (x : Inside) (v : ScriptValue) → script_value x ≡ v → length 
 turns-seen x v h = rw (← h) (length-map x.turns.items _)
 
 -- a drive that made at most 20,000 turns can make one more
-fresh : (n : ℕ) (d : DriveValue) → n < 20000 → IsWithin (n * most_of_turn 256) 256 d → is_worn d ≡ false
-fresh n d few w = within_is_not_worn (n * most_of_turn 256) 256 d w (omega (arith, few))
+fresh : (n : ℕ) (d : DriveValue) (t : Trace) → n < 20000 → IsWithin (n * most_of_turn 256) 256 d → StandsFor t Stage.Between d.state →
+    is_worn d ≡ false
+fresh n d t few w k = within_is_not_worn (n * most_of_turn 256) 256 d t w k (omega (arith, few))
 
 -- two facts of what was answered give a third
 ok-both : {A E : Type 0} {P Q S : A → Type 0} (r : Result A E) → IfOk r P → IfOk r Q → ((x : A) → P x → Q x → S x) → IfOk r S
@@ -54,13 +57,12 @@ loop-init c =
     let u = c.usual.result in
     rw (c.in_ok-drive.ensures, c.new-scribe.ensures) (record {
       calm = refl;
-      hold = c.usual.ensures.hold;
-      links = c.usual.ensures.links;
+      settings = usual-is u c.usual.ensures.hold c.usual.ensures.links;
       stands = record { fits = record { time = refl; last = refl; opened = refl }; entries = refl };
       turns = refl;
       seen = ((c.in_ok-port.ensures.vouched, tt), inl (λ called. refl));
-      means = new_relay_stands u;
-      ends = ends-none StoodBetween;
+      means = new_relay_stands (model_settings u) (subst IsBuilt (sym (usual-is u c.usual.ensures.hold c.usual.ensures.links)) usual-built);
+      ends = ends-none (StoodBetween (settings_of c.args.script));
       within = subst (λ n. IsWithin 0 n (new_drive u)) c.usual.ensures.links (new_drive_is_within u);
     })
 
@@ -77,7 +79,7 @@ loop-preserved c =
       turns-seen c.script.inside c.args.script c.script.view_is,
       c.requires.few,
     ) in
-    let w = c.in_default.ensures.went inv.calm (fresh c.loop.counter c.loop.drive few inv.within) in
+    let w = c.in_default.ensures.went inv.calm (fresh c.loop.counter c.loop.drive c.loop.scribe.trace few inv.within inv.means) in
     let longer : c.turn.new.scribe.trace ≡ t ++ w.added = same-trace c.turn.new.scribe.trace (t ++ w.added) w.list in
     let bounded = went_is_bounded (c.loop.counter * most_of_turn 256) 256 t inv.within inv.stands w in
     let more : c.loop.counter * most_of_turn 256 + most_of_turn 256 ≡ (c.loop.counter + 1) * most_of_turn 256 = omega arith in
@@ -85,14 +87,13 @@ loop-preserved c =
     let counted : count_by is_turn (t ++ w.added) ≡ c.loop.counter + 1 = omega (arith, count-append t w.added, once, inv.turns) in
     record {
       calm = c.in_default.ensures.refusal;
-      hold = rw w.settings inv.hold;
-      links = rw w.settings inv.links;
+      settings = rw w.settings inv.settings;
       stands = rw longer (w.stands t inv.stands);
       turns = rw longer counted;
       seen = rw longer (let now = w.told (Question.Took c.args.script.turns) t inv.stands inv.seen in (now.0, now.1.0));
       means = rw longer (w.means t inv.means);
-      ends = rw longer (ends-grow StoodBetween t w.added inv.ends
-          (stood-at t Stage.Between c.loop.drive.state inv.hold inv.links inv.means).0 (turn-first w.does) once);
+      ends = rw longer (ends-grow (StoodBetween (settings_of c.args.script)) t w.added inv.ends
+          (stood-at (settings_of c.args.script) t Stage.Between c.loop.drive.state inv.settings inv.means) (turn-first w.does) once);
       within = subst (λ n. IsWithin n 256 c.turn.new.self) more bounded.0;
     }
 
@@ -112,8 +113,8 @@ returns-clause-text c =
       turns-seen c.script.inside c.args.script c.script.view_is,
     ) in (
       t,
-      lines_below s s.opened,
-      went-run c.args.script c.loop.port t s inv.hold inv.links inv.means c.requires.names c.requires.brings
+      lines_below s s.plain.opened,
+      went-run c.args.script c.loop.port t s inv.settings inv.means c.requires.names c.requires.brings
           (inv.turns ∙ all) inv.seen inv.ends,
       c.in_ok-written.ensures,
     )
@@ -140,7 +141,7 @@ returns-in-Err-clause-text c =
       c.script.inside.turns.ok.0,
       turns-seen c.script.inside c.args.script c.script.view_is,
     ) in
-    let w = c.in-Err.ensures.went inv.calm (fresh c.loop.counter c.loop.drive few inv.within) in
+    let w = c.in-Err.ensures.went inv.calm (fresh c.loop.counter c.loop.drive c.loop.scribe.trace few inv.within inv.means) in
     let u = t ++ w.added in
     let longer : c.turn.new.scribe.trace ≡ u = same-trace c.turn.new.scribe.trace u w.list in
     let s = c.turn.new.self.state in
@@ -150,11 +151,10 @@ returns-in-Err-clause-text c =
     let once : count_by is_turn w.added ≡ 1 = cut-poll-once cut in
     let counted : count_by is_turn u ≤ length c.args.script.turns = omega (arith, count-append t w.added, once, inv.turns, below) in
     let seen = w.told (Question.Took c.args.script.turns) t inv.stands inv.seen in
-    let ends = ends-grow StoodBetween t w.added inv.ends (stood-at t Stage.Between c.loop.drive.state inv.hold inv.links inv.means).0
+    let ends = ends-grow (StoodBetween (settings_of c.args.script)) t w.added inv.ends (stood-at (settings_of c.args.script) t Stage.Between c.loop.drive.state inv.settings inv.means)
     (cut-poll-first cut) once in
-    let run = failed-run c.args.script c.turn.new.port u s (rw w.settings inv.hold)
-    (rw w.settings inv.links) left c.requires.names c.requires.brings counted seen ends in
-    rw ended.1 (u, lines_below s s.opened, run, rw (text, longer) refl))
+    let run = failed-run c.args.script c.turn.new.port u s (rw w.settings inv.settings) left c.requires.names c.requires.brings counted seen ends in
+    rw ended.1 (u, lines_below s s.plain.opened, run, rw (text, longer) refl))
 
 pub returns-in-Err-clause-only_memory : goal.returns-in-Err-clause-only_memory
 returns-in-Err-clause-only_memory c =
@@ -168,7 +168,7 @@ returns-in-Err-clause-only_memory c =
       turns-seen c.script.inside c.args.script c.script.view_is,
       c.requires.few,
     ) in
-    let w = c.in-Err.ensures.went inv.calm (fresh c.loop.counter c.loop.drive few inv.within) in
+    let w = c.in-Err.ensures.went inv.calm (fresh c.loop.counter c.loop.drive c.loop.scribe.trace few inv.within inv.means) in
     let cause = memory-or-poll c.in-Err.fault c.loop.drive.state c.turn.new.self.state w.added (script_faults c.loop.port)
     (script_faults c.turn.new.port) refl refl w.does w.heard in
     err-as c.cut_off.result c.cut_off.ensures.refused (λ refused h. case_of refused cause h)

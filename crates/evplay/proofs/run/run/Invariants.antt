@@ -2,12 +2,12 @@ use Rattle.std.proofs.Common.{◌≡◌, ◌*◌, None}
 use Rattle.std.specs.Prelude.{count_by}
 use Rattle.relay_model.specs.Stages.{Stage}
 use Rattle.relay_model.specs.RatesKept.{is_turn}
-use Rattle.relay_meaning.specs.Meaning.{StandsFor}
+use Rattle.relay_steps.specs.Meaning.{StandsFor}
 use Rattle.relay_drive.specs.Known.{Point}
 use Rattle.relay_drive.specs.DriveStands.{DriveStands}
 use Rattle.relay_drive.specs.Bounds.{IsWithin, most_of_turn}
 use Rattle.evplay.specs.TurnEnds.{AtTurnEnds}
-use Rattle.evplay.specs.Headline.{StoodBetween}
+use Rattle.evplay.specs.Headline.{settings_of, StoodBetween}
 use Rattle.evplay.proofs.RunLemmas.{PortKnown}
 use Rattle.evplay.proofs.run.run.Given as goal
 
@@ -16,12 +16,11 @@ use Rattle.evplay.proofs.run.run.Given as goal
 abbrev pub invariant-loop : goal.invariant-loop
 invariant-loop l = record {
   calm : l.drive.refusal ≡ None;
-  hold : l.drive.state.settings.hold ≡ 524288;
-  links : l.drive.state.settings.links ≡ 256;
+  settings : l.drive.state.settings ≡ settings_of l.fn.script;
   stands : DriveStands l.scribe.trace l.drive;
   turns : count_by is_turn l.scribe.trace ≡ l.counter;
   seen : PortKnown Point.Between l.port l.drive.state l.fn.script.turns l.scribe.trace;
   means : StandsFor l.scribe.trace Stage.Between l.drive.state;
-  ends : AtTurnEnds StoodBetween l.scribe.trace;
+  ends : AtTurnEnds (StoodBetween (settings_of l.fn.script)) l.scribe.trace;
   within : IsWithin (l.counter * most_of_turn 256) 256 l.drive;
 }

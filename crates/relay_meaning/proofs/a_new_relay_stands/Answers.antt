@@ -1,5 +1,0 @@
-use Rattle.relay_meaning.proofs.LawLemmas.{new_relay_stands}
-use Rattle.relay_meaning.proofs.a_new_relay_stands.Goals as goal
-
-pub returns : goal.returns
-returns c = new_relay_stands

@@ -1,5 +1,0 @@
-use Rattle.relay_meaning.proofs.UnderwayLemmas.{buffered_is_underway}
-use Rattle.relay_meaning.proofs.trace_laws.buffered_is_underway.Goals as goal
-
-pub returns : goal.returns
-returns c = buffered_is_underway

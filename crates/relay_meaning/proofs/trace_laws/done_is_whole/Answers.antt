@@ -1,5 +1,0 @@
-use Rattle.relay_meaning.proofs.LinkLemmas.{done_is_whole}
-use Rattle.relay_meaning.proofs.trace_laws.done_is_whole.Goals as goal
-
-pub returns : goal.returns
-returns c = done_is_whole

@@ -1,5 +1,0 @@
-use Rattle.relay_meaning.proofs.FreeLemmas.{frees_are_for}
-use Rattle.relay_meaning.proofs.trace_laws.frees_are_for.Goals as goal
-
-pub returns : goal.returns
-returns c = frees_are_for

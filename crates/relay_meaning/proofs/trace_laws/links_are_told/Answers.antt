@@ -1,5 +1,0 @@
-use Rattle.relay_meaning.proofs.LinkLemmas.{links_are_told}
-use Rattle.relay_meaning.proofs.trace_laws.links_are_told.Goals as goal
-
-pub returns : goal.returns
-returns c = links_are_told

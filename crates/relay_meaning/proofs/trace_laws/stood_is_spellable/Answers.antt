@@ -1,5 +1,0 @@
-use Rattle.relay_meaning.proofs.SpellingLemmas.{stood_is_spellable}
-use Rattle.relay_meaning.proofs.trace_laws.stood_is_spellable.Goals as goal
-
-pub returns : goal.returns
-returns c = stood_is_spellable

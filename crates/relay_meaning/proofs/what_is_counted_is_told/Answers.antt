@@ -1,5 +1,0 @@
-use Rattle.relay_meaning.proofs.LawLemmas.{counts_are_told}
-use Rattle.relay_meaning.proofs.what_is_counted_is_told.Goals as goal
-
-pub returns : goal.returns
-returns c = counts_are_told

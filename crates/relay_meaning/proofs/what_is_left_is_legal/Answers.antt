@@ -1,5 +1,0 @@
-use Rattle.relay_meaning.proofs.LawLemmas.{left_is_legal}
-use Rattle.relay_meaning.proofs.what_is_left_is_legal.Goals as goal
-
-pub returns : goal.returns
-returns c = left_is_legal

@@ -1,7 +1,0 @@
-pub mod Meaning
-pub mod Results
-pub mod Laws
-pub mod Links
-pub mod Underway
-pub mod Frees
-pub mod Spelling
