@@ -1,6 +1,6 @@
 -- Where no side has a hook, nothing is ever due: no hook runs, nothing is asked, no timer is set, and no side gets a limit or a group
 -- that its link did not open with. By induction over the steps.
-use Rattle.std.proofs.Common.{◌≡◌, ◌≢◌, ℕ, ◌-◌, ◌*◌, Bool, true, false, ◌&&◌, not, nat_le, nat_lt, if◌then◌else◌, List, [], ◌∷◌, ◌++◌, length, Option, None, fold, inl, inr, refl, sym, ◌∙◌, ap, subst}
+use Rattle.std.proofs.Common.{◌≡◌, ◌*◌, Bool, true, false, ◌&&◌, not, nat_le, nat_lt, if◌then◌else◌, List, [], ◌∷◌, ◌++◌, length, None, fold, inl, inr, refl, sym, ◌∙◌, ap, subst}
 use Rattle.std.specs.Prelude.{⊤, filter, option_map}
 use Rattle.std.specs.List.{list_any}
 use Rattle.std.proofs.lemmas.Bool.Decides.{eqb_tells}
@@ -22,9 +22,9 @@ use Rattle.ev_types.specs.Sides.{peer, same_end}
 use Rattle.ev_types.specs.Trace.{Event, Trace}
 use Rattle.relay_model.specs.Settings.{Settings}
 use Rattle.relay_model.specs.Due.{Due, batch, with_reason, without_due}
-use Rattle.relay_model.specs.Plain.{Plain, PlainSide, Standing, Timer, side_at, change_side, is_live, first_limit, new_side, with_link, freed, without_timer, all_sides}
+use Rattle.relay_model.specs.Plain.{Plain, PlainSide, Timer, side_at, change_side, is_live, first_limit, new_side, with_link, freed, without_timer, all_sides}
 use Rattle.relay_model.specs.Past.{Past, past}
-use Rattle.relay_model.specs.Rooms.{Want, wants, input_length, output_length}
+use Rattle.relay_model.specs.Rooms.{Want, wants}
 use Rattle.relay_model.specs.Reasons.{raise, raise_read, raise_write, happened, end_flag, error_flag, timeout_flag}
 use Rattle.relay_model.specs.Moments.{is_timed, has_run_out, active_at, expire, by_deadline, both_ways, timers_taken, timed, side_timed, time_passed}
 use Rattle.relay_model.specs.Round.{Part, read_run, write_run, do_part}

@@ -1,3 +1,4 @@
 pub mod EndLemmas
 pub mod FitLemmas
 pub mod CalmLemmas
+pub mod RoomLemmas
