@@ -64,12 +64,13 @@ pub record Calm (s : State) : Type 0 where
 module _ (g : Settings) (built : IsBuilt g) where
   -- nothing becomes due
   pub raise-still : (e : SideId) (y : Why) (s : Plain) → raise g e y s ≡ s
-  raise-still e y s = ap (λ hooks. if list_any (λ x. same_end x e) hooks && is_live s e then record s { due = with_reason e y s.due } else s) built.hooks
+  raise-still e y s =
+      ap (λ hooks. if list_any (λ x. same_end x e) hooks && is_live s e then record s { due = with_reason e y s.due } else s) built.hooks
 
   -- What waits stays
 
-  waits-fold : {X : Type 0} (step : Plain → X → Plain) → ((s : Plain) (x : X) → waiting (step s x) ≡ waiting s) → (s : Plain) (xs : List X) →
-      waiting (fold step s xs) ≡ waiting s
+  waits-fold : {X : Type 0} (step : Plain → X → Plain) → ((s : Plain) (x : X) → waiting (step s x) ≡ waiting s) →
+      (s : Plain) (xs : List X) → waiting (fold step s xs) ≡ waiting s
   waits-fold step h s [] = refl
   waits-fold step h s (x ∷ xs) = waits-fold step h (step s x) xs ∙ h s x
 
@@ -89,11 +90,13 @@ module _ (g : Settings) (built : IsBuilt g) where
   waits-taken : (s : Plain) → waiting (timers_taken g s) ≡ (filter (λ x. nat_lt s.time x.deadline) s.timers, s.due)
   waits-taken s =
       waits-fold (λ (state : Plain) (x : Timer). raise g x.side why.Timer state) (λ z x. waits-raise x.side why.Timer z)
-      (record s { timers = filter (λ x. nat_lt s.time x.deadline) s.timers }) (by_deadline (filter (λ x. nat_le x.deadline s.time) s.timers))
+      (record s { timers = filter (λ x. nat_lt s.time x.deadline) s.timers })
+      (by_deadline (filter (λ x. nat_le x.deadline s.time) s.timers))
 
   waits-passed : (p : Past) (s : Plain) → waiting (time_passed g p s) ≡ (filter (λ x. nat_lt s.time x.deadline) s.timers, s.due)
   waits-passed p s =
-      waits-fold (side_timed g p) (λ z e. waits-fold (timed g p e) (λ y d. waits-timed p e y d) z both_ways) (timers_taken g s) (all_sides s)
+      waits-fold (side_timed g p) (λ z e. waits-fold (timed g p e) (λ y d. waits-timed p e y d) z both_ways)
+      (timers_taken g s) (all_sides s)
       ∙ waits-taken s
 
   waits-raise_read : (p : Past) (e : SideId) (s : Plain) → waiting (raise_read g p e s) ≡ waiting s
@@ -105,18 +108,22 @@ module _ (g : Settings) (built : IsBuilt g) where
   waits-conn : (e : SideId) (answer : ConnAnswer) (s : Plain) → waiting (after_conn g e answer s) ≡ waiting s
   waits-conn e conn.Connected s = waits-raise e why.Connected (change_side e (λ x. record x { connecting = false }) s)
   waits-conn e conn.Pending s = refl
-  waits-conn e conn.Failed s = waits-raise e (happened dir.Write error_flag) (change_side e (λ x. record x { failed = true; writes = false }) s)
+  waits-conn e conn.Failed s =
+      waits-raise e (happened dir.Write error_flag) (change_side e (λ x. record x { failed = true; writes = false }) s)
 
   waits-read : (e : SideId) (answer : ReadAnswer) (s : Plain) → waiting (after_read g e answer s) ≡ waiting s
   waits-read e (read.Got n) s = refl
-  waits-read e read.Ended s = waits-raise e (happened dir.Read end_flag) (change_side e (λ x. record x { ended = true; reads = false }) s)
+  waits-read e read.Ended s =
+      waits-raise e (happened dir.Read end_flag) (change_side e (λ x. record x { ended = true; reads = false }) s)
   waits-read e read.NotYet s = refl
-  waits-read e read.Failed s = waits-raise e (happened dir.Read error_flag) (change_side e (λ x. record x { failed = true; reads = false }) s)
+  waits-read e read.Failed s =
+      waits-raise e (happened dir.Read error_flag) (change_side e (λ x. record x { failed = true; reads = false }) s)
 
   waits-write : (p : Past) (e : SideId) (answer : WriteAnswer) (s : Plain) → waiting (after_write g p e answer s) ≡ waiting s
   waits-write p e (write.Took n) s = waits-raise_write p e _
   waits-write p e write.NotYet s = refl
-  waits-write p e write.Failed s = waits-raise e (happened dir.Write error_flag) (change_side e (λ x. record x { failed = true; writes = false }) s)
+  waits-write p e write.Failed s =
+      waits-raise e (happened dir.Write error_flag) (change_side e (λ x. record x { failed = true; writes = false }) s)
   waits-write p e write.NoMemory s = refl
 
   waits-part : (p : Past) (e : SideId) (x : Part) (s : Plain) → waiting (do_part g p e x s) ≡ waiting s
@@ -142,13 +149,17 @@ module _ (g : Settings) (built : IsBuilt g) where
   unset-frame : (s new : Plain) → SameFrame s new → Unlimited s → Unlimited new
   unset-frame s new k h e = k.rates e ∙ h e
 
-  unset-change : (e : SideId) (f : PlainSide → PlainSide) (s : Plain) → ((x : PlainSide) → rates_of x ≡ (None, None) → rates_of (f x) ≡ (None, None)) →
-      Unlimited s → Unlimited (change_side e f s)
-  unset-change e f s k h a = elim (side_at-change e a f s) [ inl same ↦ ap rates_of same ∙ h a | inr changed ↦ ap rates_of changed.1 ∙ k (side_at s a) (h a) ]
+  unset-change : (e : SideId) (f : PlainSide → PlainSide) (s : Plain) →
+      ((x : PlainSide) → rates_of x ≡ (None, None) → rates_of (f x) ≡ (None, None)) → Unlimited s → Unlimited (change_side e f s)
+  unset-change e f s k h a = elim (side_at-change e a f s) [
+    | inl same ↦ ap rates_of same ∙ h a
+    | inr changed ↦ ap rates_of changed.1 ∙ k (side_at s a) (h a)
+  ]
 
   unset-freed : (e : SideId) (s : Plain) → Unlimited s → Unlimited (freed e s)
   unset-freed e s h =
-      unset-change e (λ x. record x { live = false; group = None }) (record s { timers = without_timer e s.timers; due = without_due e s.due })
+      unset-change e (λ x. record x { live = false; group = None })
+      (record s { timers = without_timer e s.timers; due = without_due e s.due })
       (λ x k. ap (λ z. (z.0, None)) k) h
 
   unset-closed : (c : CloseStep) (s : Plain) → Unlimited s → Unlimited (closed_by c s)
@@ -209,18 +220,32 @@ module _ (g : Settings) (built : IsBuilt g) where
   put-calm t s x y new (PutKind.wanted a) put size h = record { stage = tt; waiting = h.waiting; unlimited = h.unlimited }
   put-calm t s x y new PutKind.poll_failed put size h = record { stage = tt; waiting = h.waiting; unlimited = h.unlimited }
   put-calm t s x y new (PutKind.readied a) put size h = record { stage = tt; waiting = h.waiting; unlimited = h.unlimited }
-  put-calm t s x y new (PutKind.opened {connected = connected}) put size h = record { stage = tt; waiting = h.waiting; unlimited = unset-link connected s size h.unlimited }
+  put-calm t s x y new (PutKind.opened {connected = connected}) put size h =
+      record { stage = tt; waiting = h.waiting; unlimited = unset-link connected s size h.unlimited }
   put-calm t s x y new (PutKind.checked {side = side} {answer = answer} a) put size h =
-      record { stage = tt; waiting = waits-conn side answer s ∙ h.waiting; unlimited = unset-frame s _ (frame-conn g side answer s) h.unlimited }
+      record {
+        stage = tt;
+        waiting = waits-conn side answer s ∙ h.waiting;
+        unlimited = unset-frame s _ (frame-conn g side answer s) h.unlimited;
+      }
   put-calm t s x y new (PutKind.was_read {side = side} {answer = answer} left a b) put size h =
-      record { stage = calm-reading side answer left; waiting = waits-read side answer s ∙ h.waiting; unlimited = unset-frame s _ (frame-read g side answer s) h.unlimited }
+      record {
+        stage = calm-reading side answer left;
+        waiting = waits-read side answer s ∙ h.waiting;
+        unlimited = unset-frame s _ (frame-read g side answer s) h.unlimited;
+      }
   put-calm t s x y new (PutKind.written {side = side} {answer = answer} a b c) put size h =
-      record { stage = tt; waiting = waits-write (past g t) side answer s ∙ h.waiting; unlimited = unset-frame s _ (frame-write g (past g t) side answer s) h.unlimited }
+      record {
+        stage = tt;
+        waiting = waits-write (past g t) side answer s ∙ h.waiting;
+        unlimited = unset-frame s _ (frame-write g (past g t) side answer s) h.unlimited;
+      }
   put-calm t s x y new (PutKind.fired a) put size h = absurd (subst (λ z. Puts g t (Dispatching z) s y.0 y.1 new) h.stage put)
   put-calm t s x y new (PutKind.frees a same) put size h = absurd h.stage
   put-calm t s x y new (PutKind.asked same k l) put size h = absurd h.stage
   put-calm t s x y new PutKind.recorded put size h = absurd h.stage
-  put-calm t s x y new (PutKind.closed {c = c} a) put size h = record { stage = tt; waiting = waits-closed c s h.waiting; unlimited = unset-closed c s h.unlimited }
+  put-calm t s x y new (PutKind.closed {c = c} a) put size h =
+      record { stage = tt; waiting = waits-closed c s h.waiting; unlimited = unset-closed c s h.unlimited }
 
   -- where only the stage changes
   still-calm : (x y : Stage) (s : Plain) (new : State) → new ≡ at y s → IsCalm y → Calm (at x s) → Calm new
@@ -240,12 +265,17 @@ module _ (g : Settings) (built : IsBuilt g) where
         unlimited = unset-keeps s (after_got g (past g t) e s) (keeps-got (past g t) e s) k.unlimited;
       })
   quiet-calm t (Serving []) s new h k =
-      subst Calm (sym h) (record { stage = ap (λ z. batch z.1) k.waiting; waiting = ap (λ z. (z.0, [])) k.waiting; unlimited = k.unlimited })
+      subst Calm (sym h)
+      (record { stage = ap (λ z. batch z.1) k.waiting; waiting = ap (λ z. (z.0, [])) k.waiting; unlimited = k.unlimited })
   quiet-calm t (Dispatching []) s new h k = still-calm (Dispatching []) _ s new h tt k
   quiet-calm t (Passing [] (e ∷ es)) s new (inl h) k = still-calm (Passing [] (e ∷ es)) _ s new h.1 tt k
   quiet-calm t (Passing [] (e ∷ es)) s new (inr h) k = still-calm (Passing [] (e ∷ es)) _ s new h tt k
   quiet-calm t (Passing (x ∷ xs) (e ∷ es)) s new h k =
-      subst Calm (sym h) (record { stage = tt; waiting = waits-part (past g t) e x s ∙ k.waiting; unlimited = unset-keeps s _ (keeps-part (past g t) e x s) k.unlimited })
+      subst Calm (sym h) (record {
+        stage = tt;
+        waiting = waits-part (past g t) e x s ∙ k.waiting;
+        unlimited = unset-keeps s _ (keeps-part (past g t) e x s) k.unlimited;
+      })
   quiet-calm t (Passing [] []) s new h k = still-calm (Passing [] []) _ s new h tt k
   quiet-calm t (Closing (c ∷ cs)) s new h k = still-calm (Closing (c ∷ cs)) _ s new h.1 tt k
   quiet-calm t (Closing []) s new h k = still-calm (Closing []) _ s new h tt k
@@ -257,7 +287,8 @@ module _ (g : Settings) (built : IsBuilt g) where
   all-calm t new (Reaches.goes {t = u} {s = old} r h) = quiet-calm u old.stage old.plain new h (all-calm u old r)
   all-calm t new (Reaches.puts {t = u} {s = old} e bytes r h) =
       let c = kept g u old r in
-      put-calm u old.plain old.stage (e, bytes) new (put-kind g u old.stage old.plain e bytes new c.placed h) h c.counts.shape.sides (all-calm u old r)
+      put-calm u old.plain old.stage (e, bytes) new (put-kind g u old.stage old.plain e bytes new c.placed h) h
+      c.counts.shape.sides (all-calm u old r)
 
 -- nothing is due, and no timer is set
 pub calm : (g : Settings) (t : Trace) (x : Stage) (p : Plain) → IsBuilt g → Reaches g t (at x p) → (p.due ≡ []) × (p.timers ≡ [])

@@ -33,7 +33,8 @@ use Rattle.relay_steps.proofs.CalmLemmas.{unlimited}
 abbrev pub HoldsLeft : Trace → State → SideId → Type 0
 HoldsLeft t s e =
     (lane_at s e).buffers
-    ≡ left (read_filter s.settings s.plain e) (write_filter s.settings s.plain (peer e)) (bytes_read e t) (is_live s.plain e) (is_live s.plain (peer e)) (flow_at s.plain e)
+    ≡ left (read_filter s.settings s.plain e) (write_filter s.settings s.plain (peer e)) (bytes_read e t)
+    (is_live s.plain e) (is_live s.plain (peer e)) (flow_at s.plain e)
 
 -- So do the lanes from a side and to it, and it has neither a limit nor a group.
 pub record SideFits (t : Trace) (s : State) (e : SideId) : Type 0 where
@@ -98,7 +99,8 @@ module _ (t : Trace) (s : State) (e : SideId) (k : SideFits t s e) where
     pub waiting-fits : waiting_for s e ≡ model.raw_output_at g P p e
     waiting-fits =
         where_live (is_live p (peer (peer e))) _ [] _ to_live (ap (λ (b : Buffers). b.raw_output) k.toward)
-        ∙ ap (λ z. flow.raw_output (read_filter g p (peer e)) (write_filter g p z) (bytes_read (peer e) t) (flow_at p (peer e))) (peer-peer e)
+        ∙ ap (λ z. flow.raw_output (read_filter g p (peer e)) (write_filter g p z) (bytes_read (peer e) t) (flow_at p (peer e)))
+        (peer-peer e)
 
     pub input_length-fits : input_length s e ≡ model.input_length g P p e
     input_length-fits = let a = raw_input-fits in let b = input-fits in λ i. length (a i) + length (b i)
@@ -221,9 +223,11 @@ module _ (t : Trace) (x : Stage) (s : State) (k : StandsFor t x s) where
   pub wanted-is : wanted s ≡ model.wanted ga Pa s.plain
   wanted-is =
       ap (filter (λ (w : Want). w.read || w.write))
-      (map-sides (want_of s) (model.want_of ga Pa s.plain) 0 s.plain.opened (λ e l. want_of-fits t s e (stands-fits t x s e k (omega (arith, l)))))
+      (map-sides (want_of s) (model.want_of ga Pa s.plain) 0 s.plain.opened
+      (λ e l. want_of-fits t s e (stands-fits t x s e k (omega (arith, l)))))
 
-  both-fit : (e : SideId) → e.link < 0 + s.plain.opened → flat_map (expiry s e) both_ways ≡ flat_map (moment.expiry ga Pa s.plain e) both_ways
+  both-fit : (e : SideId) → e.link < 0 + s.plain.opened →
+      flat_map (expiry s e) both_ways ≡ flat_map (moment.expiry ga Pa s.plain e) both_ways
   both-fit e l =
       let q = stands-fits t x s e k (omega (arith, l)) in
       let a = expiry-fits t s e q dir.Read in
@@ -239,9 +243,11 @@ module _ (t : Trace) (x : Stage) (s : State) (k : StandsFor t x s) where
       let model_expiries = flat_map (λ e. flat_map (moment.expiry ga Pa s.plain e) both_ways) (all_sides s.plain) in
       let gains = flat_map (λ e. limit_gain Pa s.plain e (side_at s.plain e).limit) (all_sides s.plain) in
       ap (λ z. timers ++ z)
-      (flat-sides (λ e. flat_map (expiry s e) both_ways) (λ e. flat_map (moment.expiry ga Pa s.plain e) both_ways) 0 s.plain.opened both-fit)
+      (flat-sides (λ e. flat_map (expiry s e) both_ways)
+      (λ e. flat_map (moment.expiry ga Pa s.plain e) both_ways) 0 s.plain.opened both-fit)
       ∙ sym (append-nil (timers ++ model_expiries))
-      ∙ ap (λ z. (timers ++ model_expiries) ++ z) (sym (flat-none (λ e. limit_gain Pa s.plain e (side_at s.plain e).limit) no_gain (all_sides s.plain)))
+      ∙ ap (λ z. (timers ++ model_expiries) ++ z)
+      (sym (flat-none (λ e. limit_gain Pa s.plain e (side_at s.plain e).limit) no_gain (all_sides s.plain)))
       ∙ sym (append-nil ((timers ++ model_expiries) ++ gains))
       ∙ ap (λ z. ((timers ++ model_expiries) ++ gains) ++ group_gains Pa s.plain 0 z) (sym k.built.groups)
 
