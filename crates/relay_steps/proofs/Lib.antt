@@ -2,3 +2,4 @@ pub mod EndLemmas
 pub mod FitLemmas
 pub mod CalmLemmas
 pub mod RoomLemmas
+pub mod StandsLemmas
