@@ -3,3 +3,5 @@ pub mod FitLemmas
 pub mod CalmLemmas
 pub mod RoomLemmas
 pub mod StandsLemmas
+pub mod TimeSteps
+pub mod PollSteps
