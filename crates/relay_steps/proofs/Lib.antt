@@ -5,3 +5,4 @@ pub mod RoomLemmas
 pub mod StandsLemmas
 pub mod TimeSteps
 pub mod PollSteps
+pub mod OpenSteps
