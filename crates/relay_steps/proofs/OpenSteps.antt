@@ -1,7 +1,7 @@
 -- How a link is opened: its two lanes fit as nothing was told of its ends, whatever its filters are, and the other lanes go on fitting.
-use Rattle.std.proofs.Common.{◌≡◌, ◌≢◌, inl, inr, ℕ, ◌+◌, ◌*◌, ◌<◌, ◌≤◌, Bool, true, false, if◌then◌else◌, List, [], ◌∷◌, ◌++◌, length, take, drop, Option, Some, None, refl, sym, ◌∙◌, ap, subst, arith, slice_index_or, length-append}
+use Rattle.std.proofs.Common.{◌≡◌, inl, inr, ℕ, ◌+◌, ◌*◌, ◌<◌, Bool, true, false, if◌then◌else◌, List, [], ◌∷◌, ◌++◌, length, drop, Option, Some, None, refl, sym, ◌∙◌, ap, subst, arith, slice_index_or, length-append}
 use Rattle.std.specs.Prelude.{is_some}
-use Rattle.std.specs.List.{flat_map, list_any}
+use Rattle.std.specs.List.{list_any}
 use Rattle.std.proofs.lemmas.Bool.{or_parts}
 use Rattle.std.proofs.lemmas.Bool.Decides.{eqb_tells}
 use Rattle.std.proofs.lemmas.List.{get_or_append_left, get_or-append-add}
@@ -13,24 +13,24 @@ use Rattle.ev_types.specs.declared.entry.Entry.TheVariants as entry
 use Rattle.ev_types.specs.declared.filter.FilterKind.{FilterKind}
 use Rattle.ev_types.specs.Sides.{other, peer, half, number}
 use Rattle.ev_types.specs.Trace.{Event, Trace}
-use Rattle.relay_model.specs.Trace.{read_by, ended_by, bytes_read, has_ended}
+use Rattle.relay_model.specs.Trace.{read_by, ended_by, bytes_read}
 use Rattle.relay_model.specs.Filter.{Filter, filter_of}
 use Rattle.relay_model.specs.FilterLaws.{BadLaw, last_of}
 use Rattle.relay_model.specs.FilterStep.{begun}
-use Rattle.relay_model.specs.Flow.{no_flow, middle}
+use Rattle.relay_model.specs.Flow.{no_flow}
 use Rattle.relay_model.specs.Conserved.{StandsAt, all_moved}
 use Rattle.relay_model.specs.Settings.{Settings}
-use Rattle.relay_model.specs.Plain.{Plain, new_side, with_link, side_at, flow_at}
-use Rattle.relay_model.specs.Rooms.{Want, read_kind, write_kind, read_filter, write_filter}
+use Rattle.relay_model.specs.Plain.{Plain, with_link, side_at, flow_at}
+use Rattle.relay_model.specs.Rooms.{Want, read_kind, write_kind}
 use Rattle.relay_model.specs.Stages.{Stage, at}
 use Rattle.relay_model.specs.Told.{names}
 use Rattle.relay_model.specs.Turn.{Reaches, most_opened}
 use Rattle.relay_model.proofs.AccountedLemmas.{entries_keep_accounts}
 use Rattle.relay_model.proofs.EveryFilter.{every_filter, begins_with_input}
 use Rattle.relay_model.proofs.FlowSteps.{left-first}
-use Rattle.relay_model.proofs.PlainLemmas.{is_connected, side_at-new, side_at-old}
+use Rattle.relay_model.proofs.PlainLemmas.{side_at-new, side_at-old}
 use Rattle.relay_model.proofs.ToldLemmas.{kept, ended-names, none_of}
-use Rattle.relay_state.specs.State.{State, Lane, no_lane, lane_at}
+use Rattle.relay_state.specs.State.{State, no_lane, lane_at}
 use Rattle.relay_state.specs.Opening.{new_lane, after_opened}
 use Rattle.relay_steps.specs.Meaning.{LaneFits, StandsFor}
 use Rattle.relay_steps.proofs.EndLemmas.{IsSilent, SameTold, told-same, number-below}
@@ -142,7 +142,8 @@ module _ (t : Trace) (x : Stage) (s : State) (k : StandsFor t x s) (connected : 
   old-fits : (e : SideId) → e.link < p.opened → LaneFits g u p' e (lane_at s' e)
   old-fits e lt =
       let a : side_at p' e ≡ side_at p e = side_at-old g connected p e counts.0 (λ h. absurd (omega (arith, h, lt))) in
-      let b : side_at p' (peer e) ≡ side_at p (peer e) = side_at-old g connected p (peer e) counts.0 (λ h. absurd (omega (arith, h, lt))) in
+      let b : side_at p' (peer e) ≡ side_at p (peer e) =
+      side_at-old g connected p (peer e) counts.0 (λ h. absurd (omega (arith, h, lt))) in
       let f : flow_at p' e ≡ flow_at p e = at_front p.flows no_flow no_flow no_flow p.opened e counts.1 lt in
       let r = (told e).read in
       let d = (told e).ended in
@@ -168,16 +169,16 @@ module _ (t : Trace) (x : Stage) (s : State) (k : StandsFor t x s) (connected : 
       let r = (told e).read ∙ unnamed-read e t no_name in
       let d = (told e).ended ∙ none_of (names e) (ended_by e) (ended-names e) t no_name in
       let l : lane_at s' e ≡ new_lane g e.side (other e.side) =
-          at_end s.lanes (new_lane g In Out) (new_lane g Out In) no_lane p.opened e k.many here ∙ by_side e.side in
+      at_end s.lanes (new_lane g In Out) (new_lane g Out In) no_lane p.opened e k.many here ∙ by_side e.side in
       let seen : sight u p' e ≡ first_sight = λ i. record {
-            read = r i;
-            ended = d i;
-            from_live = (a i).live;
-            to_live = (b i).live;
-            flow = f i;
-            from_marked = is_some (a i).bad;
-            to_marked = is_some (b i).bad;
-          } in
+        read = r i;
+        ended = d i;
+        from_live = (a i).live;
+        to_live = (b i).live;
+        flow = f i;
+        from_marked = is_some (a i).bad;
+        to_marked = is_some (b i).bad;
+      } in
       subst (LaneFits g u p' e) (sym l)
       (fits-seen g u p' p' e (new_lane g e.side (other e.side))
       (subst (λ z. FitsSight g p' e z (new_lane g e.side (other e.side))) (sym seen) (new_lane-fits g p' e)))

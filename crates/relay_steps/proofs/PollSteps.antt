@@ -8,14 +8,10 @@ use Rattle.ev_port.specs.declared.port.Want as port
 use Rattle.ev_port.specs.declared.port.Polled.TheVariants as polled
 use Rattle.ev_port.specs.Polling.{want_events, ready_events, poll_events}
 use Rattle.relay_model.specs.Due.{batch}
-use Rattle.relay_model.specs.Plain.{Plain, sides_from}
-use Rattle.relay_model.specs.Rooms as rooms
+use Rattle.relay_model.specs.Plain.{sides_from}
 use Rattle.relay_model.specs.Rooms.{Want}
 use Rattle.relay_model.specs.Close.{closing_from}
-use Rattle.relay_model.specs.Past.{past}
 use Rattle.relay_model.specs.Stages.{Halt, Stage, at}
-use Rattle.relay_model.specs.Turn.{Reaches}
-use Rattle.relay_model.proofs.PastLemmas.{past-still}
 use Rattle.relay_state.specs.State.{State}
 use Rattle.relay_state.specs.Rooms.{wanted}
 use Rattle.relay_state.specs.Time.{poll_timeout}
@@ -60,13 +56,15 @@ MarkedWithin (w ∷ ws) = (w.can_read ≡ true → w.read ≡ true) × (w.can_wr
 -- The poll
 
 module _ (s : State) where
-  wants-go : (t : Trace) (ws : List port.Want) → StandsFor t (Stage.Wanting (map named ws)) s → StandsFor (t ++ want_events ws) (Stage.Wanting []) s
+  wants-go : (t : Trace) (ws : List port.Want) → StandsFor t (Stage.Wanting (map named ws)) s →
+      StandsFor (t ++ want_events ws) (Stage.Wanting []) s
   wants-go t [] k = subst (λ z. StandsFor z (Stage.Wanting []) s) (sym (append-nil t)) k
   wants-go t (w ∷ ws) k =
       let x : Event = (entry.Want w.side w.read w.write, []) in
       subst (λ z. StandsFor z (Stage.Wanting []) s) (append_assoc t (x ∷ []) (want_events ws))
       (wants-go (t ++ x ∷ []) ws
-      (stands-told t (Stage.Wanting (map named (w ∷ ws))) (Stage.Wanting (map named ws)) s x k (refl, refl, refl) tt (silent-want w.side w.read w.write)))
+      (stands-told t (Stage.Wanting (map named (w ∷ ws))) (Stage.Wanting (map named ws)) s x k
+      (refl, refl, refl) tt (silent-want w.side w.read w.write)))
 
   abbrev ready : port.Want → Bool → Bool → Trace
   ready w a b = if a then (entry.Ready w.side true b, []) ∷ [] else (if b then (entry.Ready w.side false true, []) ∷ [] else [])
@@ -92,7 +90,8 @@ module _ (s : State) where
   kept-behind w false true marks rest = append_assoc marks _ rest
   kept-behind w false false marks rest = ap (λ z. z ++ rest) (append-nil marks)
 
-  readys-go : (t : Trace) (ws : List port.Want) (marks : List Want) → MarkedWithin ws → StandsFor t (Stage.Marking (map named ws) marks) s →
+  readys-go : (t : Trace) (ws : List port.Want) (marks : List Want) → MarkedWithin ws →
+      StandsFor t (Stage.Marking (map named ws) marks) s →
       StandsFor (t ++ ready_events ws) (Stage.Marking [] (marks ++ marks_of ws)) s
   readys-go t [] marks m k =
       let a = append-nil t in
@@ -120,14 +119,15 @@ poll-joined t x a b = append_assoc (t ++ x ∷ []) a b ∙ append_assoc t (x ∷
 
 -- The wanted sides are polled, and some of what they want is marked.
 pub poll-stands : (t : Trace) (s : State) (ws : List port.Want) (accept : Bool) → map named ws ≡ wanted s → MarkedWithin ws →
-    StandsFor t Stage.Polling s → StandsFor (t ++ poll_events (poll_timeout s) ws (polled.Ready accept)) (Stage.Accepting 0 (marks_of ws)) s
+    StandsFor t Stage.Polling s →
+    StandsFor (t ++ poll_events (poll_timeout s) ws (polled.Ready accept)) (Stage.Accepting 0 (marks_of ws)) s
 poll-stands t s ws accept names within k =
     let x : Event = (entry.Poll (poll_timeout s), []) in
     let v : Trace = (t ++ x ∷ []) ++ want_events ws in
     let a = named-go t s ws names k in
     let b =
-        stands-quiet v (Stage.Wanting []) (Stage.Marking (map named ws) []) s a
-        (ap (λ z. at (Stage.Marking z []) s.plain) (names ∙ wanted-is v (Stage.Wanting []) s a)) in
+    stands-quiet v (Stage.Wanting []) (Stage.Marking (map named ws) []) s a
+    (ap (λ z. at (Stage.Marking z []) s.plain) (names ∙ wanted-is v (Stage.Wanting []) s a)) in
     let c = readys-go s v ws [] within b in
     subst (λ z. StandsFor z (Stage.Accepting 0 (marks_of ws)) s) (poll-joined t x (want_events ws) (ready_events ws))
     (stands-quiet (v ++ ready_events ws) (Stage.Marking [] (marks_of ws)) (Stage.Accepting 0 (marks_of ws)) s c refl)
@@ -144,19 +144,22 @@ poll_failed-stands t s ws names k =
 
 -- From phase to phase
 
-pub accepted-stands : (t : Trace) (s : State) (n : ℕ) (marks : List Want) → StandsFor t (Stage.Accepting n marks) s → StandsFor t (Stage.Serving marks) s
+pub accepted-stands : (t : Trace) (s : State) (n : ℕ) (marks : List Want) → StandsFor t (Stage.Accepting n marks) s →
+    StandsFor t (Stage.Serving marks) s
 accepted-stands t s n marks k = stands-quiet t (Stage.Accepting n marks) (Stage.Serving marks) s k refl
 
 -- No reason is due, so that nothing is fired.
-pub served-stands : (t : Trace) (s : State) → StandsFor t (Stage.Serving []) s → StandsFor t (Stage.Passing [] (sides_from 0 s.plain.opened)) s
+pub served-stands : (t : Trace) (s : State) → StandsFor t (Stage.Serving []) s →
+    StandsFor t (Stage.Passing [] (sides_from 0 s.plain.opened)) s
 served-stands t s k =
     let due = (calm s.settings t (Stage.Serving []) s.plain k.built k.reached).0 in
     let fired =
-        stands-quiet t (Stage.Serving []) (Stage.Dispatching []) s k
-        (λ i. at (Stage.Dispatching (batch (sym due i))) (record (s.plain) { due = due i })) in
+    stands-quiet t (Stage.Serving []) (Stage.Dispatching []) s k
+    (λ i. at (Stage.Dispatching (batch (sym due i))) (record (s.plain) { due = due i })) in
     stands-quiet t (Stage.Dispatching []) (Stage.Passing [] (sides_from 0 s.plain.opened)) s fired refl
 
-pub passed_all-stands : (t : Trace) (s : State) → StandsFor t (Stage.Passing [] []) s → StandsFor t (Stage.Closing (closing_from 0 s.plain.opened)) s
+pub passed_all-stands : (t : Trace) (s : State) → StandsFor t (Stage.Passing [] []) s →
+    StandsFor t (Stage.Closing (closing_from 0 s.plain.opened)) s
 passed_all-stands t s k = stands-quiet t (Stage.Passing [] []) (Stage.Closing (closing_from 0 s.plain.opened)) s k refl
 
 pub closed_all-stands : (t : Trace) (s : State) → StandsFor t (Stage.Closing []) s → StandsFor t Stage.Between s

@@ -1,5 +1,5 @@
 -- How a relay goes on standing where what its lanes look at stays: by a silent step, and by an entry that tells nothing of an end.
-use Rattle.std.proofs.Common.{◌≡◌, ℕ, Bool, true, false, if◌then◌else◌, List, [], ◌∷◌, ◌++◌, fold, refl, sym, ◌∙◌, ap, subst, slice_index_or}
+use Rattle.std.proofs.Common.{◌≡◌, Bool, true, false, if◌then◌else◌, List, [], ◌∷◌, ◌++◌, fold, refl, sym, ◌∙◌, ap, subst, slice_index_or}
 use Rattle.std.specs.Prelude.{is_some, ◌*◌, ◌<◌}
 use Rattle.ev_types.specs.declared.side.SideId.{SideId}
 use Rattle.ev_types.specs.declared.why.Why.{Why}
@@ -97,14 +97,17 @@ view-side t u s p q e told view k = record {
 }
   where
     holds : (a : SideId) →
-        left (read_filter s.settings p a) (write_filter s.settings p (peer a)) (bytes_read a t) (side_at p a).live (side_at p (peer a)).live (flow_at p a)
-        ≡ left (read_filter s.settings q a) (write_filter s.settings q (peer a)) (bytes_read a u) (side_at q a).live (side_at q (peer a)).live (flow_at q a)
+        left (read_filter s.settings p a) (write_filter s.settings p (peer a)) (bytes_read a t)
+        (side_at p a).live (side_at p (peer a)).live (flow_at p a)
+        ≡ left (read_filter s.settings q a) (write_filter s.settings q (peer a)) (bytes_read a u)
+        (side_at q a).live (side_at q (peer a)).live (flow_at q a)
     holds a =
         let x = sym (view.seen a) in
         let y = sym (view.seen (peer a)) in
         let f = sym view.flows in
         let r = sym (told a).read in
-        λ i. left (read_filter s.settings p a) (write_filter s.settings p (peer a)) (r i) (x i).live (y i).live (slice_index_or (f i) (number a) no_flow)
+        λ i. left (read_filter s.settings p a) (write_filter s.settings p (peer a)) (r i)
+        (x i).live (y i).live (slice_index_or (f i) (number a) no_flow)
 
 -- An entry that tells nothing of an end is put, and the plain state goes on with the same view.
 pub stands-put : (t : Trace) (x z : Stage) (s : State) (q : Plain) (y : Event) → StandsFor t x s →
@@ -114,17 +117,20 @@ stands-put t x z s q y k put took silent view = record {
   reached = Reaches.puts y.0 y.1 k.reached put;
   accounts = entries_keep_accounts s.settings t (at x s.plain) (at z q) y.0 y.1 k.reached put took k.accounts;
   many = k.many ∙ ap (λ n. 2 * n) (sym view.opened);
-  each = λ e lt. view-fits s.settings t (t ++ y ∷ []) s.plain q e (lane_at s e) (told-same t y e (silent e)) view (k.each e (subst (λ n. e.link < n) view.opened lt));
+  each = λ e lt.
+      view-fits s.settings t (t ++ y ∷ []) s.plain q e (lane_at s e) (told-same t y e (silent e)) view
+      (k.each e (subst (λ n. e.link < n) view.opened lt));
   built = k.built;
 }
 
 -- Only the stage changes.
-pub stands-told : (t : Trace) (x z : Stage) (s : State) (y : Event) → StandsFor t x s → Puts s.settings t x s.plain y.0 y.1 (at z s.plain) →
-    TookFirst s.settings t s.plain y → ((a : SideId) → IsSilent y a) → StandsFor (t ++ y ∷ []) z s
+pub stands-told : (t : Trace) (x z : Stage) (s : State) (y : Event) → StandsFor t x s →
+    Puts s.settings t x s.plain y.0 y.1 (at z s.plain) → TookFirst s.settings t s.plain y → ((a : SideId) → IsSilent y a) → StandsFor (t ++ y ∷ []) z s
 stands-told t x z s y k put took silent = stands-put t x z s s.plain y k put took silent (view-same s.plain)
 
 -- No entry is put, and only the stage changes.
-pub stands-quiet : (t : Trace) (x z : Stage) (s : State) → StandsFor t x s → Quietly s.settings t x s.plain (at z s.plain) → StandsFor t z s
+pub stands-quiet : (t : Trace) (x z : Stage) (s : State) → StandsFor t x s →
+    Quietly s.settings t x s.plain (at z s.plain) → StandsFor t z s
 stands-quiet t x z s k quiet = record {
   reached = Reaches.goes k.reached quiet;
   accounts = k.accounts;

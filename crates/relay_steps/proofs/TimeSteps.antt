@@ -9,7 +9,7 @@ use Rattle.ev_types.specs.declared.side.SideId.{SideId}
 use Rattle.ev_types.specs.declared.why.Why.TheVariants as why
 use Rattle.ev_types.specs.declared.entry.Entry.TheVariants as entry
 use Rattle.ev_types.specs.Times.{latest}
-use Rattle.ev_types.specs.Trace.{Event, Trace}
+use Rattle.ev_types.specs.Trace.{Trace}
 use Rattle.relay_model.specs.Settings.{Settings}
 use Rattle.relay_model.specs.Plain.{Plain, PlainSide, Timer, side_at, change_side, sides_from, all_sides}
 use Rattle.relay_model.specs.Past.{Past, past}
@@ -77,14 +77,15 @@ module _ (u : Trace) (s : State) where
 
   fits-on : (p q : Plain) (e : SideId) → SameView p q → Fits p e → Fits q e
   fits-on p q e view k =
-      view-side u u s p q e (λ a. record { read = refl; given = refl; ended = refl; moved = refl; given_free = refl; closed = refl }) view k
+      view-side u u s p q e (λ a. record { read = refl; given = refl; ended = refl; moved = refl; given_free = refl; closed = refl })
+      view k
 
   timed-is : (p : Plain) (e : SideId) (d : Dir) → Fits p e → timed e (with_plain p s) d ≡ with_plain (model.timed g P e p d) s
   timed-is p e d k =
       ap (λ wanted. if not (is_timed (side_at p e) d) then with_plain p s
-        else (if not wanted then with_plain (change_side e (active_at p.time d) p) s
-        else (if has_run_out (side_at p e) d p.time
-        then with_plain (raise g e (happened d timeout_flag) (change_side e (expire d) p)) s else with_plain p s)))
+      else (if not wanted then with_plain (change_side e (active_at p.time d) p) s
+      else (if has_run_out (side_at p e) d p.time
+      then with_plain (raise g e (happened d timeout_flag) (change_side e (expire d) p)) s else with_plain p s)))
       (wants-fits u (with_plain p s) e k d)
       ∙ branch (not (is_timed (side_at p e) d)) (not (rooms.wants g P p e d)) (has_run_out (side_at p e) d p.time)
       (change_side e (active_at p.time d) p) (raise g e (happened d timeout_flag) (change_side e (expire d) p))
@@ -131,8 +132,8 @@ begun-is t s ms k =
     let to_p : SameView s.plain p = record { opened = refl; flows = refl; seen = λ e. refl; rates = λ e. refl } in
     let view = view-then s.plain p q to_p (view-taken g (past g u) p) in
     sides_timed-is u s q 0 q.opened (λ e l.
-        view-side t u s s.plain q e (λ a. told-same t (entry.Turn ms, []) a (silent-turn ms a)) view
-        (stands-fits t Stage.Between s e k (omega (arith, l, view.opened))))
+    view-side t u s s.plain q e (λ a. told-same t (entry.Turn ms, []) a (silent-turn ms a)) view
+    (stands-fits t Stage.Between s e k (omega (arith, l, view.opened))))
     ∙ ap (λ n. with_plain (fold (model.side_timed g (past g u)) q (sides_from 0 n)) s) view.opened
 
 -- A turn begins, at a time that is not below the last.
