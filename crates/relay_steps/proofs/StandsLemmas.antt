@@ -125,7 +125,8 @@ stands-put t x z s q y k put took silent view = record {
 
 -- Only the stage changes.
 pub stands-told : (t : Trace) (x z : Stage) (s : State) (y : Event) → StandsFor t x s →
-    Puts s.settings t x s.plain y.0 y.1 (at z s.plain) → TookFirst s.settings t s.plain y → ((a : SideId) → IsSilent y a) → StandsFor (t ++ y ∷ []) z s
+    Puts s.settings t x s.plain y.0 y.1 (at z s.plain) → TookFirst s.settings t s.plain y →
+    ((a : SideId) → IsSilent y a) → StandsFor (t ++ y ∷ []) z s
 stands-told t x z s y k put took silent = stands-put t x z s s.plain y k put took silent (view-same s.plain)
 
 -- No entry is put, and only the stage changes.
