@@ -4,3 +4,9 @@ pub mod SizeLemmas
 pub mod CountLemmas
 pub mod FrameLemmas
 pub mod WaitLemmas
+pub mod CalmLemmas
+pub mod RoomLemmas
+pub mod StandsLemmas
+pub mod TimeSteps
+pub mod PollSteps
+pub mod OpenSteps
