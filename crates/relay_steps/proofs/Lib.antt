@@ -1,2 +1,5 @@
 pub mod EndLemmas
 pub mod FitLemmas
+pub mod StillSteps
+pub mod FreeSteps
+pub mod CloseSteps
