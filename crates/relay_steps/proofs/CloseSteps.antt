@@ -29,6 +29,7 @@ use Rattle.relay_state.specs.Rooms.{output_length}
 use Rattle.relay_state.specs.Closing.{in_side, out_side, is_complete, closing_entry, freed, closed}
 use Rattle.relay_steps.specs.Meaning.{StandsFor}
 use Rattle.relay_steps.proofs.EndLemmas.{peer-peer, read-silent, ended-silent}
+use Rattle.relay_steps.proofs.RoomLemmas.{stands-fits, raw_input-fits, input-fits, output-fits, waiting-fits, output_length-is}
 use Rattle.relay_steps.proofs.StillSteps.{put-stands, quiet-stands, still-changed}
 use Rattle.relay_steps.proofs.FreeSteps.{freed-fits, freed-many}
 
@@ -51,46 +52,19 @@ module _ (t : Trace) (x : Stage) (s : State) (k : StandsFor t x s) where
   abbrev p : Plain
   p = s.plain
 
-  -- the buffers of a live side are those of the model
-  module _ (e : SideId) (lt : e.link < s.plain.opened) where
-    -- what the counts leave of a lane
-    buffers-are : (a b : Bool) → is_live p e ≡ a → is_live p (peer e) ≡ b →
-        (lane_at s e).buffers ≡ left (read_filter g p e) (write_filter g p (peer e)) (bytes_read e t) a b (flow_at p e)
-    buffers-are a b h j =
-        (k.each e lt).holds.buffers ∙ (λ i. left (read_filter g p e) (write_filter g p (peer e)) (bytes_read e t) (h i) (j i) (flow_at p e))
-
-    raw_input-here : is_live p e ≡ true → length (rooms.raw_input_at P p e) ≡ length (lane_at s e).buffers.raw_input
-    raw_input-here h = ap (λ (b : Buffers). length b.raw_input) (sym (buffers-are true (is_live p (peer e)) h refl))
-
-    input-here : is_live p e ≡ true → length (rooms.input_at g P p e) ≡ length (lane_at s e).buffers.input
-    input-here h = ap (λ (b : Buffers). length b.input) (sym (buffers-are true (is_live p (peer e)) h refl))
-
-    output-there : is_live p (peer e) ≡ true → length (output (read_filter g p e) (bytes_read e t) (flow_at p e)) ≡ length (lane_at s e).buffers.output
-    output-there h = ap (λ (b : Buffers). length b.output) (sym (buffers-are (is_live p e) true refl h))
-
-    raw_output-there : is_live p (peer e) ≡ true →
-        length (raw_output (read_filter g p e) (write_filter g p (peer e)) (bytes_read e t) (flow_at p e)) ≡ length (lane_at s e).buffers.raw_output
-    raw_output-there h = ap (λ (b : Buffers). length b.raw_output) (sym (buffers-are (is_live p e) true refl h))
-
-  module _ (e : SideId) (lt : e.link < s.plain.opened) where
-    output-here : is_live p e ≡ true → length (rooms.output_at g P p e) ≡ length (lane_at s (peer e)).buffers.output
-    output-here h = output-there (peer e) lt (ap (is_live p) (peer-peer e) ∙ h)
-
-    raw_output-here : is_live p e ≡ true → length (rooms.raw_output_at g P p e) ≡ length (lane_at s (peer e)).buffers.raw_output
-    raw_output-here h =
-        ap (λ z. length (raw_output (read_filter g p (peer e)) (write_filter g p z) (bytes_read (peer e) t) (flow_at p (peer e)))) (sym (peer-peer e))
-        ∙ raw_output-there (peer e) lt (ap (is_live p) (peer-peer e) ∙ h)
-
-    output_length-here : is_live p e ≡ true → rooms.output_length g P p e ≡ output_length s e
-    output_length-here h = let a = output-here h in let b = raw_output-here h in λ i. a i + b i
-
-    complete-is : is_live p e ≡ true → is_live p (peer e) ≡ true → is_complete s (peer e) ≡ model.is_complete g P p (peer e)
-    complete-is live far =
-        let a = raw_input-here (peer e) lt far in
-        let b = input-here (peer e) lt far in
-        let c = ap (λ z. length (rooms.output_at g P p z)) (peer-peer e) ∙ output-here live in
-        let d = ap (λ z. length (rooms.raw_output_at g P p z)) (peer-peer e) ∙ raw_output-here live in
-        sym (λ i. (side_at p (peer e)).ended && (flow_at p (peer e)).write_done && a i == 0 && b i == 0 && c i == 0 && d i == 0)
+  -- a direction is complete where it is in the model, while both sides live
+  complete-is : (e : SideId) → e.link < s.plain.opened → is_live p e ≡ true → is_live p (peer e) ≡ true →
+      is_complete s (peer e) ≡ model.is_complete g P p (peer e)
+  complete-is e lt live far =
+      let fits = stands-fits t x s e k lt in
+      let far_fits = stands-fits t x s (peer e) k lt in
+      let a = raw_input-fits t s (peer e) far_fits far in
+      let b = input-fits t s (peer e) far_fits far in
+      let c = output-fits t s e fits live ∙ ap (rooms.output_at g P p) (sym (peer-peer e)) in
+      let d = waiting-fits t s e fits live ∙ ap (rooms.raw_output_at g P p) (sym (peer-peer e)) in
+      λ i.
+        (side_at p (peer e)).ended && (flow_at p (peer e)).write_done
+        && length (a i) == 0 && length (b i) == 0 && length (c i) == 0 && length (d i) == 0
 
   -- a step puts what the model's puts, or nothing where that puts nothing
   pub closing_entry-is : (c : CloseStep) → link_of c < s.plain.opened → closing_entry s c ≡ model.closing_entry s.settings (past s.settings t) s.plain c
@@ -105,7 +79,7 @@ module _ (t : Trace) (x : Stage) (s : State) (k : StandsFor t x s) where
   closing_entry-is (CloseStep.PeerGone e) lt =
       ap (λ z. entry_where z (freed_entry p e cause.PeerGone))
       (and_where (is_live p e && not (is_live p (peer e))) (output_length s e == 0) (rooms.output_length g P p e == 0)
-      (λ both. ap (λ n. n == 0) (sym (output_length-here e lt (and-first (is_live p e) (not (is_live p (peer e))) both)))))
+      (λ both. ap (λ n. n == 0) (output_length-is t x s e k lt (and-first (is_live p e) (not (is_live p (peer e))) both))))
   closing_entry-is (CloseStep.Shut e) lt = refl
 
 module _ (t : Trace) (s : State) where

@@ -1,5 +1,10 @@
 pub mod EndLemmas
 pub mod FitLemmas
+pub mod CalmLemmas
+pub mod RoomLemmas
 pub mod StillSteps
 pub mod FreeSteps
 pub mod CloseSteps
+pub mod LaneSteps
+pub mod ServeSteps
+pub mod ReadSteps

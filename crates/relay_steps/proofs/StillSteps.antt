@@ -1,22 +1,29 @@
 -- Steps that change nothing that a lane looks at: each lane goes on fitting.
-use Rattle.std.proofs.Common.{◌≡◌, ℕ, ◌*◌, ◌<◌, List, [], ◌∷◌, ◌++◌, length, refl, sym, ◌∙◌, ap, subst, arith}
+use Rattle.std.proofs.Common.{◌≡◌, ◌≢◌, Bool, false, ℕ, ◌*◌, ◌<◌, List, [], ◌∷◌, ◌++◌, length, slice_index_or, inl, inr, refl, sym, ◌∙◌, ap, subst, arith}
 use Rattle.std.specs.Prelude.{is_some}
+use Rattle.std.proofs.lemmas.Bool.Decides.{eqb_tells}
 use Rattle.ev_types.specs.declared.side.SideId.{SideId}
+use Rattle.ev_types.specs.declared.why.Why.{Why}
 use Rattle.ev_types.specs.declared.entry.Entry.{Entry}
 use Rattle.ev_types.specs.Sides.{number, peer}
-use Rattle.ev_types.specs.Trace.{Trace}
-use Rattle.relay_model.specs.Trace.{bytes_read, has_ended}
+use Rattle.ev_types.specs.Trace.{Event, Trace}
+use Rattle.relay_model.specs.Trace.{read_by, ended_by, bytes_read, has_ended}
+use Rattle.relay_model.specs.Settings.{Settings}
+use Rattle.relay_model.specs.Due.{Due}
+use Rattle.relay_model.specs.Flow.{Flow}
 use Rattle.relay_model.specs.Plain.{Plain, PlainSide, side_at, flow_at, is_live, change_side}
 use Rattle.relay_model.specs.Stages.{Stage, at}
 use Rattle.relay_model.specs.Turn.{Puts, Quietly, Reaches}
 use Rattle.relay_model.specs.TurnLaws.{ShapeIsTold}
 use Rattle.relay_model.specs.StepLaws.{AccountsFit, TookFirst}
+use Rattle.relay_model.specs.Reasons.{raise}
+use Rattle.relay_model.proofs.KeepsLemmas.{raised}
 use Rattle.relay_model.proofs.PlainLemmas.{seen-change}
 use Rattle.relay_model.proofs.ReachLemmas.{shape-is_told}
 use Rattle.relay_model.proofs.AccountedLemmas.{entries_keep_accounts}
-use Rattle.relay_state.specs.State.{State, lane_at, with_plain}
-use Rattle.relay_steps.specs.Meaning.{StandsFor}
-use Rattle.relay_steps.proofs.EndLemmas.{number-below}
+use Rattle.relay_state.specs.State.{State, Lane, no_lane, lane_at, with_plain}
+use Rattle.relay_steps.specs.Meaning.{LaneFits, StandsFor}
+use Rattle.relay_steps.proofs.EndLemmas.{number-below, number-same, read-silent, ended-silent}
 use Rattle.relay_steps.proofs.FitLemmas.{sight, fits-same}
 
 -- what lanes look at in the second trace and plain state is what they look at in the first
@@ -110,7 +117,7 @@ still-changed t u p e change live marked read ended = record {
 }
 
 -- pending entries are others
-pub still-due : (t u : Trace) (p q r : Plain) → IsStill t u p q → (ds : List Rattle.relay_model.specs.Due.Due) → r ≡ record q { due = ds } → IsStill t u p r
+pub still-due : (t u : Trace) (p q r : Plain) → IsStill t u p q → (ds : List Due) → r ≡ record q { due = ds } → IsStill t u p r
 still-due t u p q r k ds e = subst (IsStill t u p) (sym e) (record {
   opened = k.opened;
   read = k.read;
@@ -119,3 +126,60 @@ still-due t u p q r k ds e = subst (IsStill t u p) (sym e) (record {
   marked = k.marked;
   flow = k.flow;
 })
+
+-- an event tells of no read bytes and no end
+pub still-event : (t : Trace) (x : Event) (p q : Plain) → IsStill t t p q → ((a : SideId) → read_by a x ≡ []) → ((a : SideId) → ended_by a x ≡ false) →
+    IsStill t (t ++ x ∷ []) p q
+still-event t x p q k read ended = record {
+  opened = k.opened;
+  read = λ a. read-silent t x a (read a);
+  ended = λ a. ended-silent t x a (ended a);
+  live = k.live;
+  marked = k.marked;
+  flow = k.flow;
+}
+
+-- a side was changed so, and a reason was raised
+pub still-raised : (g : Settings) (t : Trace) (p : Plain) (e : SideId) (change : PlainSide → PlainSide) (y : Why) →
+    ((z : PlainSide) → (change z).live ≡ z.live) → ((z : PlainSide) → is_some (change z).bad ≡ is_some z.bad) →
+    IsStill t t p (raise g e y (change_side e change p))
+still-raised g t p e change y live marked =
+    let q : Plain = change_side e change p in
+    let k = raised g e y q in
+    still-due t t p q (raise g e y q) (still-changed t t p e change live marked (λ a. refl) (λ a. refl)) k.0 k.1
+
+-- Steps that change what one lane looks at
+
+-- what a lane looks at, where sides live and are marked as before
+pub sight-of : (t u : Trace) (p q : Plain) (a : SideId) (read : List ℕ) (ended : Bool) (f : Flow) →
+    bytes_read a u ≡ read → has_ended a u ≡ ended → flow_at q a ≡ f → ((z : SideId) → is_live q z ≡ is_live p z) →
+    ((z : SideId) → is_some (side_at q z).bad ≡ is_some (side_at p z).bad) →
+    sight u q a ≡ record (sight t p a) { read = read; ended = ended; flow = f }
+sight-of t u p q a read ended f is_read is_ended is_flow live marked =
+    let c = live a in
+    let d = live (peer a) in
+    let m = marked a in
+    let n = marked (peer a) in
+    λ i. record {
+      read = is_read i;
+      ended = is_ended i;
+      from_live = c i;
+      to_live = d i;
+      flow = is_flow i;
+      from_marked = m i;
+      to_marked = n i;
+    }
+
+abbrev pub lane_in : List Lane → SideId → Lane
+lane_in lanes a = slice_index_or lanes (number a) no_lane
+
+-- each lane fits where one does, and the others see what they saw
+pub one-fits : (t u : Trace) (x : Stage) (s : State) (q : Plain) (lanes : List Lane) (e : SideId) → StandsFor t x s →
+    ((a : SideId) → a ≢ e → sight u q a ≡ sight t s.plain a) → ((a : SideId) → a ≢ e → lane_in lanes a ≡ lane_at s a) →
+    LaneFits s.settings u q e (lane_in lanes e) → (a : SideId) → a.link < s.plain.opened → LaneFits s.settings u q a (lane_in lanes a)
+one-fits t u x s q lanes e k see same fits a lt = elim (eqb_tells (number a) (number e)) [
+  | inl here ↦ subst (λ z. LaneFits s.settings u q z (lane_in lanes z)) (sym (number-same a e here.1)) fits
+  | inr there ↦
+      let away : a ≢ e = λ h. there.1 (ap number h) in
+      fits-same s.settings t u s.plain q a (lane_at s a) (lane_in lanes a) (see a away) (same a away) (k.each a lt)
+]

@@ -1,0 +1,255 @@
+-- Where the lanes hold exactly what the counts leave, and no side has a limit or a group, rooms, wants and the timeout of the poll are
+-- the model's. The first lemmas look at two lanes and one side alone, so that they hold in the midst of a step too.
+use Rattle.std.proofs.Common.{◌≡◌, ℕ, zero, suc, ◌+◌, ◌-◌, ◌<◌, Bool, true, false, not, ◌&&◌, ◌||◌, nat_le, min, if◌then◌else◌, List, [], ◌∷◌, ◌++◌, length, map, filter, Option, Some, None, refl, sym, ◌∙◌, ap, arith, append-nil}
+use Rattle.std.specs.Prelude.{option_map}
+use Rattle.std.specs.List.{flat_map}
+use Rattle.token_bucket.specs.declared.limit.Dir.{Dir}
+use Rattle.token_bucket.specs.declared.limit.Dir.TheVariants as dir
+use Rattle.ev_types.specs.declared.side.Side.TheVariants.{In, Out}
+use Rattle.ev_types.specs.declared.side.SideId.{SideId}
+use Rattle.ev_types.specs.Sides.{peer}
+use Rattle.ev_types.specs.Trace.{Trace}
+use Rattle.relay_model.specs.Trace.{bytes_read}
+use Rattle.relay_model.specs.Flow as flow
+use Rattle.relay_model.specs.Conserved.{Buffers, left}
+use Rattle.relay_model.specs.Settings.{Settings}
+use Rattle.relay_model.specs.Plain.{Plain, Standing, side_at, flow_at, is_live, sides_from, all_sides}
+use Rattle.relay_model.specs.Past.{Past, past}
+use Rattle.relay_model.specs.Rates.{standing_level}
+use Rattle.relay_model.specs.Rooms as model
+use Rattle.relay_model.specs.Rooms.{Want, read_filter, write_filter, share_in, at_most, within_rates, most_at_once, read_mark, may_read, may_write, is_connecting}
+use Rattle.relay_model.specs.Moments as moment
+use Rattle.relay_model.specs.Moments.{timeout_of, last_activity, is_timed, moment_where, both_ways, earliest, is_pressing, limit_gain, group_gains}
+use Rattle.relay_model.specs.Stages.{Stage}
+use Rattle.relay_model.proofs.PlainLemmas.{and-first, and-second}
+use Rattle.relay_state.specs.State.{State, lane_at}
+use Rattle.relay_state.specs.Rooms.{input_length, waiting_for, output_length, read_room, write_room, wants, want_of, wanted}
+use Rattle.relay_state.specs.Time.{expiry, moments, poll_timeout}
+use Rattle.relay_steps.specs.Meaning.{StandsFor}
+use Rattle.relay_steps.proofs.EndLemmas.{peer-peer}
+use Rattle.relay_steps.proofs.CalmLemmas.{unlimited}
+
+-- The lane that begins at a side holds exactly what the counts leave.
+abbrev pub HoldsLeft : Trace → State → SideId → Type 0
+HoldsLeft t s e =
+    (lane_at s e).buffers
+    ≡ left (read_filter s.settings s.plain e) (write_filter s.settings s.plain (peer e)) (bytes_read e t)
+    (is_live s.plain e) (is_live s.plain (peer e)) (flow_at s.plain e)
+
+-- So do the lanes from a side and to it, and it has neither a limit nor a group.
+pub record SideFits (t : Trace) (s : State) (e : SideId) : Type 0 where
+  pub own : HoldsLeft t s e
+  pub toward : HoldsLeft t s (peer e)
+  pub limit : (side_at s.plain e).limit ≡ None
+  pub group : (side_at s.plain e).group ≡ None
+
+-- A side that may be read lives, and so does its peer; one that may be written lives.
+
+pub may_read-own : (p : Plain) (e : SideId) → may_read p e ≡ true → is_live p e ≡ true
+may_read-own p e h =
+    let x = side_at p e in
+    and-first x.live (not x.connecting)
+    (and-first (x.live && not x.connecting) x.reads
+    (and-first (x.live && not x.connecting && x.reads) (not x.ended)
+    (and-first (x.live && not x.connecting && x.reads && not x.ended) (not x.failed)
+    (and-first (x.live && not x.connecting && x.reads && not x.ended && not x.failed) (side_at p (peer e)).live h))))
+
+pub may_read-peer : (p : Plain) (e : SideId) → may_read p e ≡ true → is_live p (peer e) ≡ true
+may_read-peer p e h =
+    let x = side_at p e in
+    and-second (x.live && not x.connecting && x.reads && not x.ended && not x.failed) (side_at p (peer e)).live h
+
+pub may_write-live : (p : Plain) (e : SideId) → may_write p e ≡ true → is_live p e ≡ true
+may_write-live p e h =
+    let x = side_at p e in
+    and-first x.live (not x.connecting)
+    (and-first (x.live && not x.connecting) x.writes
+    (and-first (x.live && not x.connecting && x.writes) (not x.failed)
+    (and-first (x.live && not x.connecting && x.writes && not x.failed) (not x.write_ended) h)))
+
+-- what is there where a side lives
+where_live : {A : Type 0} (b : Bool) (x y z : A) → b ≡ true → z ≡ (if b then x else y) → z ≡ x
+where_live b x y z h k = k ∙ ap (λ c. if c then x else y) h
+
+module _ (t : Trace) (s : State) (e : SideId) (k : SideFits t s e) where
+  abbrev g : Settings
+  g = s.settings
+
+  abbrev p : Plain
+  p = s.plain
+
+  abbrev P : Past
+  P = past g t
+
+  -- The four buffers
+
+  module _ (live : is_live p e ≡ true) where
+    pub raw_input-fits : (lane_at s e).buffers.raw_input ≡ model.raw_input_at P p e
+    raw_input-fits = where_live (is_live p e) _ [] _ live (ap (λ (b : Buffers). b.raw_input) k.own)
+
+    pub input-fits : (lane_at s e).buffers.input ≡ model.input_at g P p e
+    input-fits = where_live (is_live p e) _ [] _ live (ap (λ (b : Buffers). b.input) k.own)
+
+    to_live : is_live p (peer (peer e)) ≡ true
+    to_live = ap (is_live p) (peer-peer e) ∙ live
+
+    pub output-fits : (lane_at s (peer e)).buffers.output ≡ model.output_at g P p e
+    output-fits = where_live (is_live p (peer (peer e))) _ [] _ to_live (ap (λ (b : Buffers). b.output) k.toward)
+
+    pub waiting-fits : waiting_for s e ≡ model.raw_output_at g P p e
+    waiting-fits =
+        where_live (is_live p (peer (peer e))) _ [] _ to_live (ap (λ (b : Buffers). b.raw_output) k.toward)
+        ∙ ap (λ z. flow.raw_output (read_filter g p (peer e)) (write_filter g p z) (bytes_read (peer e) t) (flow_at p (peer e)))
+        (peer-peer e)
+
+    pub input_length-fits : input_length s e ≡ model.input_length g P p e
+    input_length-fits = let a = raw_input-fits in let b = input-fits in λ i. length (a i) + length (b i)
+
+    pub output_length-fits : output_length s e ≡ model.output_length g P p e
+    output_length-fits = let a = output-fits in let b = waiting-fits in λ i. length (a i) + length (b i)
+
+  -- Rooms and wants
+
+  no_rates : (d : Dir) (n : ℕ) → within_rates g P p e d n ≡ n
+  no_rates d n =
+      ap (λ z. at_most (share_in g P p d z) (at_most (model.allowance P p e d) n)) k.group
+      ∙ ap (λ (z : Option Standing). at_most (option_map (λ x. standing_level x d (P.turns e d) p.time) z) n) k.limit
+
+  pub read_room-fits : read_room s e ≡ model.read_room g P p e
+  read_room-fits = by_test (may_read p e) refl
+    where
+      by_test : (b : Bool) → may_read p e ≡ b →
+          ◌≡◌ {A = ℕ} (if b then min most_at_once (read_mark p e - input_length s e) else 0)
+          (if b then within_rates g P p e dir.Read (min most_at_once (read_mark p e - model.input_length g P p e)) else 0)
+      by_test true b =
+          ap (λ n. min most_at_once (read_mark p e - n)) (input_length-fits (may_read-own p e b))
+          ∙ sym (no_rates dir.Read (min most_at_once (read_mark p e - model.input_length g P p e)))
+      by_test false b = refl
+
+  pub write_room-fits : write_room s e ≡ model.write_room g P p e
+  write_room-fits = by_test (may_write p e) refl
+    where
+      by_test : (b : Bool) → may_write p e ≡ b →
+          ◌≡◌ {A = ℕ} (if b then min most_at_once (length (waiting_for s e)) else 0)
+          (if b then within_rates g P p e dir.Write (min most_at_once (length (model.raw_output_at g P p e))) else 0)
+      by_test true b =
+          ap (λ z. min most_at_once (length z)) (waiting-fits (may_write-live p e b))
+          ∙ sym (no_rates dir.Write (min most_at_once (length (model.raw_output_at g P p e))))
+      by_test false b = refl
+
+  pub wants-fits : (d : Dir) → wants s e d ≡ model.wants g P p e d
+  wants-fits dir.Read = ap (nat_le 1) read_room-fits
+  wants-fits dir.Write = ap (λ n. nat_le 1 n || (is_connecting p e && not (side_at p e).failed)) write_room-fits
+
+  pub want_of-fits : want_of s e ≡ model.want_of g P p e
+  want_of-fits = let a = wants-fits dir.Read in let b = wants-fits dir.Write in λ i. record { side = e; read = a i; write = b i }
+
+  pub expiry-fits : (d : Dir) → expiry s e d ≡ moment.expiry g P p e d
+  expiry-fits d =
+      let x = side_at p e in
+      ap (λ b. moment_where (is_timed x d && b) (last_activity x d + timeout_of x d)) (wants-fits d)
+
+-- Where the relay stands for a trace
+
+pub stands-fits : (t : Trace) (x : Stage) (s : State) (e : SideId) → StandsFor t x s → e.link < s.plain.opened → SideFits t s e
+stands-fits t x s e k lt =
+    let u = unlimited s.settings t x s.plain k.built k.reached e in
+    record { own = (k.each e lt).holds.buffers; toward = (k.each (peer e) lt).holds.buffers; limit = u.0; group = u.1 }
+
+module _ (t : Trace) (x : Stage) (s : State) (e : SideId) (k : StandsFor t x s) (lt : e.link < s.plain.opened) where
+  abbrev gs : Settings
+  gs = s.settings
+
+  abbrev Ps : Past
+  Ps = past gs t
+
+  fits : SideFits t s e
+  fits = stands-fits t x s e k lt
+
+  pub input_length-is : is_live s.plain e ≡ true → input_length s e ≡ model.input_length gs Ps s.plain e
+  input_length-is live = input_length-fits t s e fits live
+
+  pub output_length-is : is_live s.plain e ≡ true → output_length s e ≡ model.output_length gs Ps s.plain e
+  output_length-is live = output_length-fits t s e fits live
+
+  pub waiting-is : is_live s.plain e ≡ true → waiting_for s e ≡ model.raw_output_at gs Ps s.plain e
+  waiting-is live = waiting-fits t s e fits live
+
+  pub read_room-is : read_room s e ≡ model.read_room gs Ps s.plain e
+  read_room-is = read_room-fits t s e fits
+
+  pub write_room-is : write_room s e ≡ model.write_room gs Ps s.plain e
+  write_room-is = write_room-fits t s e fits
+
+  pub wants-is : (d : Dir) → wants s e d ≡ model.wants gs Ps s.plain e d
+  wants-is d = wants-fits t s e fits d
+
+-- All sides
+
+module _ {A : Type 0} (f h : SideId → A) where
+  -- what is made of each side of some links
+  pub map-sides : (k n : ℕ) → ((e : SideId) → e.link < k + n → f e ≡ h e) → map f (sides_from k n) ≡ map h (sides_from k n)
+  map-sides k zero same = refl
+  map-sides k (suc n) same =
+      let i : SideId = record { link = k; side = In } in
+      let o : SideId = record { link = k; side = Out } in
+      let a = same i (omega arith) in
+      let b = same o (omega arith) in
+      let c = map-sides (k + 1) n (λ e l. same e (omega (arith, l))) in
+      λ j. a j ∷ b j ∷ c j
+
+module _ {A : Type 0} (f h : SideId → List A) where
+  pub flat-sides : (k n : ℕ) → ((e : SideId) → e.link < k + n → f e ≡ h e) → flat_map f (sides_from k n) ≡ flat_map h (sides_from k n)
+  flat-sides k zero same = refl
+  flat-sides k (suc n) same =
+      let i : SideId = record { link = k; side = In } in
+      let o : SideId = record { link = k; side = Out } in
+      let a = same i (omega arith) in
+      let b = same o (omega arith) in
+      let c = flat-sides (k + 1) n (λ e l. same e (omega (arith, l))) in
+      λ j. a j ++ (b j ++ c j)
+
+flat-none : {A : Type 0} (f : SideId → List A) → ((e : SideId) → f e ≡ []) → (es : List SideId) → flat_map f es ≡ []
+flat-none f none [] = refl
+flat-none f none (e ∷ es) = ap (λ z. z ++ flat_map f es) (none e) ∙ flat-none f none es
+
+module _ (t : Trace) (x : Stage) (s : State) (k : StandsFor t x s) where
+  abbrev ga : Settings
+  ga = s.settings
+
+  abbrev Pa : Past
+  Pa = past ga t
+
+  pub wanted-is : wanted s ≡ model.wanted ga Pa s.plain
+  wanted-is =
+      ap (filter (λ (w : Want). w.read || w.write))
+      (map-sides (want_of s) (model.want_of ga Pa s.plain) 0 s.plain.opened
+      (λ e l. want_of-fits t s e (stands-fits t x s e k (omega (arith, l)))))
+
+  both-fit : (e : SideId) → e.link < 0 + s.plain.opened →
+      flat_map (expiry s e) both_ways ≡ flat_map (moment.expiry ga Pa s.plain e) both_ways
+  both-fit e l =
+      let q = stands-fits t x s e k (omega (arith, l)) in
+      let a = expiry-fits t s e q dir.Read in
+      let b = expiry-fits t s e q dir.Write in
+      λ i. a i ++ (b i ++ [])
+
+  no_gain : (e : SideId) → limit_gain Pa s.plain e (side_at s.plain e).limit ≡ []
+  no_gain e = ap (limit_gain Pa s.plain e) (unlimited ga t x s.plain k.built k.reached e).0
+
+  pub moments-is : moments s ≡ moment.moments ga Pa s.plain
+  moments-is =
+      let timers = map (λ z. z.deadline) s.plain.timers in
+      let model_expiries = flat_map (λ e. flat_map (moment.expiry ga Pa s.plain e) both_ways) (all_sides s.plain) in
+      let gains = flat_map (λ e. limit_gain Pa s.plain e (side_at s.plain e).limit) (all_sides s.plain) in
+      ap (λ z. timers ++ z)
+      (flat-sides (λ e. flat_map (expiry s e) both_ways)
+      (λ e. flat_map (moment.expiry ga Pa s.plain e) both_ways) 0 s.plain.opened both-fit)
+      ∙ sym (append-nil (timers ++ model_expiries))
+      ∙ ap (λ z. (timers ++ model_expiries) ++ z)
+      (sym (flat-none (λ e. limit_gain Pa s.plain e (side_at s.plain e).limit) no_gain (all_sides s.plain)))
+      ∙ sym (append-nil ((timers ++ model_expiries) ++ gains))
+      ∙ ap (λ z. ((timers ++ model_expiries) ++ gains) ++ group_gains Pa s.plain 0 z) (sym k.built.groups)
+
+  pub poll_timeout-is : poll_timeout s ≡ moment.poll_timeout ga Pa s.plain
+  poll_timeout-is = ap (λ z. if is_pressing s.plain then Some 0 else option_map (λ moment. moment - s.plain.time) (earliest z)) moments-is
