@@ -8,3 +8,4 @@ pub mod CloseSteps
 pub mod LaneSteps
 pub mod ServeSteps
 pub mod ReadSteps
+pub mod WriteSteps
