@@ -1,5 +1,5 @@
 -- The steps of closing: each is called for where the model's is, and what it puts and changes is what the model puts and changes.
-use Rattle.std.proofs.Common.{◌≡◌, ℕ, ◌+◌, ◌<◌, Bool, true, false, not, ◌&&◌, ◌==◌, List, [], ◌∷◌, ◌++◌, length, Some, None, refl, sym, ◌∙◌, ap}
+use Rattle.std.proofs.Common.{◌≡◌, ℕ, ◌<◌, Bool, true, false, not, ◌&&◌, ◌==◌, List, [], ◌∷◌, ◌++◌, length, Some, None, refl, sym, ◌∙◌, ap}
 use Rattle.ev_types.specs.declared.side.SideId.{SideId}
 use Rattle.ev_types.specs.declared.why.Cause.{Cause}
 use Rattle.ev_types.specs.declared.why.Cause.TheVariants as cause
@@ -7,10 +7,7 @@ use Rattle.ev_types.specs.declared.entry.Entry.{Entry}
 use Rattle.ev_types.specs.declared.entry.Entry.TheVariants as entry
 use Rattle.ev_types.specs.Sides.{peer}
 use Rattle.ev_types.specs.Trace.{Trace}
-use Rattle.relay_model.specs.Trace.{bytes_read}
 use Rattle.relay_model.specs.Settings.{Settings}
-use Rattle.relay_model.specs.Flow.{output, raw_output}
-use Rattle.relay_model.specs.Conserved.{Buffers, left}
 use Rattle.relay_model.specs.Plain as plain
 use Rattle.relay_model.specs.Plain.{Plain, side_at, flow_at, is_live}
 use Rattle.relay_model.specs.Past.{Past, past}
@@ -24,7 +21,7 @@ use Rattle.relay_model.proofs.PlacedLemmas as placed
 use Rattle.relay_model.proofs.PlainLemmas.{and-first, and-second}
 use Rattle.relay_model.proofs.KindLemmas.{ClosedKind, closed-kind}
 use Rattle.relay_model.proofs.AccountedLemmas.{entries_keep_accounts}
-use Rattle.relay_state.specs.State.{State, lane_at}
+use Rattle.relay_state.specs.State.{State}
 use Rattle.relay_state.specs.Rooms.{output_length}
 use Rattle.relay_state.specs.Closing.{in_side, out_side, is_complete, closing_entry, freed, closed}
 use Rattle.relay_steps.specs.Meaning.{StandsFor}
@@ -63,11 +60,12 @@ module _ (t : Trace) (x : Stage) (s : State) (k : StandsFor t x s) where
       let c = output-fits t s e fits live ∙ ap (rooms.output_at g P p) (sym (peer-peer e)) in
       let d = waiting-fits t s e fits live ∙ ap (rooms.raw_output_at g P p) (sym (peer-peer e)) in
       λ i.
-        (side_at p (peer e)).ended && (flow_at p (peer e)).write_done
-        && length (a i) == 0 && length (b i) == 0 && length (c i) == 0 && length (d i) == 0
+      (side_at p (peer e)).ended && (flow_at p (peer e)).write_done
+      && length (a i) == 0 && length (b i) == 0 && length (c i) == 0 && length (d i) == 0
 
   -- a step puts what the model's puts, or nothing where that puts nothing
-  pub closing_entry-is : (c : CloseStep) → link_of c < s.plain.opened → closing_entry s c ≡ model.closing_entry s.settings (past s.settings t) s.plain c
+  pub closing_entry-is : (c : CloseStep) → link_of c < s.plain.opened →
+      closing_entry s c ≡ model.closing_entry s.settings (past s.settings t) s.plain c
   closing_entry-is (CloseStep.Faulty e) lt = refl
   closing_entry-is (CloseStep.EndWriting e) lt =
       let x = side_at p e in
@@ -84,13 +82,16 @@ module _ (t : Trace) (x : Stage) (s : State) (k : StandsFor t x s) where
 
 module _ (t : Trace) (s : State) where
   -- a side is freed at a step that puts so
-  free-stands : (c : CloseStep) (cs : List CloseStep) (e : SideId) (why : Cause) → e.link < s.plain.opened → StandsFor t (Stage.Closing (c ∷ cs)) s →
-      model.closing_entry s.settings (past s.settings t) s.plain c ≡ Some (freed_entry s.plain e why) → closed_by c s.plain ≡ plain.freed e s.plain →
+  free-stands : (c : CloseStep) (cs : List CloseStep) (e : SideId) (why : Cause) → e.link < s.plain.opened →
+      StandsFor t (Stage.Closing (c ∷ cs)) s →
+      model.closing_entry s.settings (past s.settings t) s.plain c ≡ Some (freed_entry s.plain e why) →
+      closed_by c s.plain ≡ plain.freed e s.plain →
       StandsFor (t ++ (freed_entry s.plain e why, []) ∷ []) (Stage.Closing (steps_left c cs)) (freed e s)
   free-stands c cs e why lt k called changed = record {
     reached = Reaches.puts (freed_entry s.plain e why) [] k.reached (called, refl, ap (at (Stage.Closing (steps_left c cs))) (sym changed));
     accounts =
-        entries_keep_accounts s.settings t (at (Stage.Closing (c ∷ cs)) s.plain) (at (Stage.Closing (steps_left c cs)) (plain.freed e s.plain))
+        entries_keep_accounts s.settings t (at (Stage.Closing (c ∷ cs)) s.plain)
+        (at (Stage.Closing (steps_left c cs)) (plain.freed e s.plain))
         (freed_entry s.plain e why) [] k.reached (called, refl, ap (at (Stage.Closing (steps_left c cs))) (sym changed)) tt k.accounts;
     many = freed-many t (Stage.Closing (c ∷ cs)) s e k lt;
     each = freed-fits t (Stage.Closing (c ∷ cs)) s e k lt why;
@@ -116,13 +117,16 @@ module _ (t : Trace) (s : State) where
 
 -- a step that is called for is done
 pub closed-stands : (t : Trace) (s : State) (c : CloseStep) (cs : List CloseStep) (y : Entry) → link_of c < s.plain.opened →
-    StandsFor t (Stage.Closing (c ∷ cs)) s → closing_entry s c ≡ Some y → StandsFor (t ++ (y, []) ∷ []) (Stage.Closing (steps_left c cs)) (closed c s)
+    StandsFor t (Stage.Closing (c ∷ cs)) s → closing_entry s c ≡ Some y →
+    StandsFor (t ++ (y, []) ∷ []) (Stage.Closing (steps_left c cs)) (closed c s)
 closed-stands t s c cs y lt k called =
-    let h : model.closing_entry s.settings (past s.settings t) s.plain c ≡ Some y = sym (closing_entry-is t (Stage.Closing (c ∷ cs)) s k c lt) ∙ called in
+    let h : model.closing_entry s.settings (past s.settings t) s.plain c ≡ Some y =
+    sym (closing_entry-is t (Stage.Closing (c ∷ cs)) s k c lt) ∙ called in
     kind-stands t s c cs y lt k h (closed-kind s.settings (past s.settings t) s.plain c y h)
 
 -- a step that isn't called for is passed over
 pub not_closed-stands : (t : Trace) (s : State) (c : CloseStep) (cs : List CloseStep) → link_of c < s.plain.opened →
     StandsFor t (Stage.Closing (c ∷ cs)) s → closing_entry s c ≡ None → StandsFor t (Stage.Closing cs) s
 not_closed-stands t s c cs lt k called =
-    quiet-stands t (Stage.Closing (c ∷ cs)) (Stage.Closing cs) s k (sym (closing_entry-is t (Stage.Closing (c ∷ cs)) s k c lt) ∙ called, refl)
+    quiet-stands t (Stage.Closing (c ∷ cs)) (Stage.Closing cs) s k
+    (sym (closing_entry-is t (Stage.Closing (c ∷ cs)) s k c lt) ∙ called, refl)

@@ -17,11 +17,13 @@ use Rattle.relay_state.specs.State.{State, Lane, lane_at, with_plain, with_lane,
 use Rattle.relay_state.specs.Closing.{freed}
 use Rattle.relay_steps.specs.Meaning.{LaneFits, StandsFor}
 use Rattle.relay_steps.proofs.EndLemmas.{peer-peer, peer-apart, peer-moves, by_side, read-silent, ended-silent}
-use Rattle.relay_steps.proofs.FitLemmas.{Sight, sight, FitsSight, seen-fits, fits-seen, fits-same, lane-set, lane-set_other, side-put, side-put_other}
+use Rattle.relay_steps.proofs.FitLemmas.{Sight, sight, FitsSight, seen-fits, fits-seen, fits-same}
+use Rattle.relay_steps.proofs.FitLemmas.{lane-set, lane-set_other, side-put, side-put_other}
 use Rattle.relay_steps.proofs.StillSteps.{in_sides, in_lanes}
 
 -- the side is freed that a lane begins at
-pub fits-left : (g : Settings) (p : Plain) (e : SideId) (z : Sight) (l : Lane) → FitsSight g p e z l → FitsSight g p e (record z { from_live = false }) (lane_left l)
+pub fits-left : (g : Settings) (p : Plain) (e : SideId) (z : Sight) (l : Lane) → FitsSight g p e z l →
+    FitsSight g p e (record z { from_live = false }) (lane_left l)
 fits-left g p e z l k = record {
   holds = record {
     buffers = ap (λ (b : Buffers). record b { raw_input = []; input = [] }) k.holds.buffers;
@@ -36,7 +38,8 @@ fits-left g p e z l k = record {
 }
 
 -- the side is freed that it ends at
-pub fits-lost : (g : Settings) (p : Plain) (e : SideId) (z : Sight) (l : Lane) → FitsSight g p e z l → FitsSight g p e (record z { to_live = false }) (lane_lost l)
+pub fits-lost : (g : Settings) (p : Plain) (e : SideId) (z : Sight) (l : Lane) → FitsSight g p e z l →
+    FitsSight g p e (record z { to_live = false }) (lane_lost l)
 fits-lost g p e z l k = record {
   holds = record {
     buffers = ap (λ (b : Buffers). record b { output = []; raw_output = [] }) k.holds.buffers;
@@ -149,9 +152,11 @@ module _ (t : Trace) (x : Stage) (s : State) (e : SideId) (k : StandsFor t x s) 
         }
 
     -- a lane that fits what is seen fits
-    fitted : (a : SideId) (z : Sight) (l : Lane) → sight u q a ≡ z → lane_at (freed e s) a ≡ l → FitsSight g p a z l → LaneFits g u q a (lane_at (freed e s) a)
+    fitted : (a : SideId) (z : Sight) (l : Lane) → sight u q a ≡ z → lane_at (freed e s) a ≡ l → FitsSight g p a z l →
+        LaneFits g u q a (lane_at (freed e s) a)
     fitted a z l see lane f =
-        fits-seen g u q p a (lane_at (freed e s) a) (subst (λ y. FitsSight g p a y (lane_at (freed e s) a)) (sym see) (subst (FitsSight g p a z) (sym lane) f))
+        fits-seen g u q p a (lane_at (freed e s) a)
+        (subst (λ y. FitsSight g p a y (lane_at (freed e s) a)) (sym see) (subst (FitsSight g p a z) (sym lane) f))
 
     pub freed-fits : (a : SideId) → a.link < s.plain.opened → LaneFits g u q a (lane_at (freed e s) a)
     freed-fits a there =
@@ -159,8 +164,10 @@ module _ (t : Trace) (x : Stage) (s : State) (e : SideId) (k : StandsFor t x s) 
         (λ h. fitted e (record (sight t p e) { from_live = false }) (lane_left (lane_at s e)) sight-own lane-own
         (fits-left g p e (sight t p e) (lane_at s e) (seen-fits g t p e (lane_at s e) (k.each e h))))
         (λ h. fitted (peer e) (record (sight t p (peer e)) { to_live = false }) (lane_lost (lane_at s (peer e))) sight-far lane-far
-        (fits-lost g p (peer e) (sight t p (peer e)) (lane_at s (peer e)) (seen-fits g t p (peer e) (lane_at s (peer e)) (k.each (peer e) h))))
-        (λ own far h. fits-same g t u p q a (lane_at s a) (lane_at (freed e s) a) (sight-rest a own far) (lane-rest a own far) (k.each a h)) there
+        (fits-lost g p (peer e) (sight t p (peer e)) (lane_at s (peer e))
+        (seen-fits g t p (peer e) (lane_at s (peer e)) (k.each (peer e) h))))
+        (λ own far h.
+        fits-same g t u p q a (lane_at s a) (lane_at (freed e s) a) (sight-rest a own far) (lane-rest a own far) (k.each a h)) there
 
   pub freed-many : length (freed e s).lanes ≡ 2 * s.plain.opened
   freed-many =

@@ -11,7 +11,7 @@ use Rattle.ev_types.specs.Sides.{peer}
 use Rattle.relay_model.specs.Settings.{Settings}
 use Rattle.relay_model.specs.Filter.{Filter, met}
 use Rattle.relay_model.specs.FilterLaws.{last_of}
-use Rattle.relay_model.specs.Flow.{Flow, middle, outcome, output, raw_input, input, raw_output}
+use Rattle.relay_model.specs.Flow.{middle, raw_input, raw_output}
 use Rattle.relay_model.specs.Conserved.{Buffers, Running, StandsAt, left}
 use Rattle.relay_model.specs.Plain.{Plain}
 use Rattle.relay_model.specs.Rooms.{read_kind, write_kind, read_filter, write_filter}
@@ -38,7 +38,8 @@ module _ (f : Filter) (xs : List ℕ) (used place : ℕ) where
       let there = met-there h in
       let lt : used < length xs = ltb-true used (length xs) there in
       let more : nat_lt used (length (xs ++ ys)) ≡ true = lt-ltb used (length (xs ++ ys)) (omega (arith, length-append xs ys)) in
-      let old : f.bad (take (used + 1) xs) ≡ Some place = ap (λ (b : Bool). if b then f.bad (take (used + 1) xs) else None) (sym there) ∙ h in
+      let old : f.bad (take (used + 1) xs) ≡ Some place =
+      ap (λ (b : Bool). if b then f.bad (take (used + 1) xs) else None) (sym there) ∙ h in
       ap (λ (b : Bool). if b then f.bad (take (used + 1) (xs ++ ys)) else None) more
       ∙ ap f.bad (take-append-le (used + 1) xs ys (omega arith))
       ∙ old
@@ -96,12 +97,15 @@ module _ (g : Settings) (p : Plain) (e : SideId) (z : Sight) (l : Lane) (k : Fit
   fits-got bytes live going le =
       let m : middle r (z.read ++ bytes) z.flow ≡ middle r z.read z.flow = middle-got r z.read bytes z.flow le in
       let raw : raw_input (z.read ++ bytes) z.flow ≡ raw_input z.read z.flow ++ bytes = raw_input-got z.read bytes z.flow le in
-      let outcome_by : List ℕ → List ℕ = λ xs. if z.flow.write_done then w.at_end (take z.flow.turned xs) else w.before (take z.flow.turned xs) in
+      let outcome_by : List ℕ → List ℕ =
+      λ xs. if z.flow.write_done then w.at_end (take z.flow.turned xs) else w.before (take z.flow.turned xs) in
       record {
         holds = record {
           buffers =
               ap (λ (b : Buffers). record b { raw_input = b.raw_input ++ bytes }) k.holds.buffers
-              ∙ (λ i. record (left r w z.read (live i) z.to_live z.flow) { raw_input = (if live i then raw_input z.read z.flow else []) ++ bytes })
+              ∙ (λ i. record (left r w z.read (live i) z.to_live z.flow) {
+                raw_input = (if live i then raw_input z.read z.flow else []) ++ bytes;
+              })
               ∙ (λ i. record {
                 raw_input = sym raw i;
                 input = drop z.flow.moved (sym m i);
@@ -110,13 +114,14 @@ module _ (g : Settings) (p : Plain) (e : SideId) (z : Sight) (l : Lane) (k : Fit
               })
               ∙ (λ i. left r w (z.read ++ bytes) (sym live i) z.to_live z.flow);
           reads = λ h.
-            subst (λ b. StandsAt (read_kind g e.side) r (z.read ++ bytes) z.flow.used b z.flow.read_done l.reader) (sym going)
-            (stands-more (read_kind g e.side) r z.read bytes z.flow.used z.flow.read_done l.reader le
-            (subst (λ b. StandsAt (read_kind g e.side) r z.read z.flow.used b z.flow.read_done l.reader) going (k.holds.reads h)));
+              subst (λ b. StandsAt (read_kind g e.side) r (z.read ++ bytes) z.flow.used b z.flow.read_done l.reader) (sym going)
+              (stands-more (read_kind g e.side) r z.read bytes z.flow.used z.flow.read_done l.reader le
+              (subst (λ b. StandsAt (read_kind g e.side) r z.read z.flow.used b z.flow.read_done l.reader) going (k.holds.reads h)));
           writes = λ h.
-            subst
-            (λ xs. StandsAt (write_kind g (peer e).side) w (take z.flow.moved xs) z.flow.turned (z.flow.read_done && nat_eq z.flow.moved (length xs))
-            z.flow.write_done l.writer) (sym m) (k.holds.writes h);
+              subst
+              (λ xs.
+              StandsAt (write_kind g (peer e).side) w (take z.flow.moved xs) z.flow.turned
+              (z.flow.read_done && nat_eq z.flow.moved (length xs)) z.flow.write_done l.writer) (sym m) (k.holds.writes h);
         };
         read = ap (λ n. n + length bytes) k.read ∙ sym (length-append z.read bytes);
         read_made = k.read_made ∙ ap length (sym m);
@@ -148,7 +153,9 @@ module _ (g : Settings) (p : Plain) (e : SideId) (z : Sight) (l : Lane) (k : Fit
         holds = record {
           buffers =
               ap (λ (b : Buffers). record b { raw_output = drop n b.raw_output }) k.holds.buffers
-              ∙ (λ i. record (left r w z.read z.from_live (live i) z.flow) { raw_output = drop n (if live i then raw_output r w z.read z.flow else []) })
+              ∙ (λ i. record (left r w z.read z.from_live (live i) z.flow) {
+                raw_output = drop n (if live i then raw_output r w z.read z.flow else []);
+              })
               ∙ (λ i. record (left r w z.read z.from_live true z.flow) { raw_output = sym given i })
               ∙ (λ i. left r w z.read z.from_live (sym live i) (flow_given n z.flow));
           reads = k.holds.reads;

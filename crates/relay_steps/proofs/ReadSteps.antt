@@ -1,5 +1,6 @@
 -- A marked side is read: the read is the one that the model calls for, and what its answer changes is what it changes there.
-use Rattle.std.proofs.Common.{◌≡◌, ◌≢◌, ℕ, ◌*◌, ◌-◌, ◌<◌, Bool, true, false, not, ◌||◌, nat_le, min, if◌then◌else◌, List, [], ◌∷◌, ◌++◌, length, slice_set}
+use Rattle.std.proofs.Common.{◌≡◌, ◌≢◌, ℕ, ◌*◌, ◌-◌, ◌<◌, Bool, true, false, not, ◌||◌, nat_le, min}
+use Rattle.std.proofs.Common.{if◌then◌else◌, List, [], ◌∷◌, ◌++◌, slice_set}
 use Rattle.std.proofs.Common.{refl, sym, ◌∙◌, ap, subst}
 use Rattle.std.specs.Prelude.{nat_lt, is_some}
 use Rattle.std.proofs.lemmas.List.{length-set}
@@ -20,7 +21,6 @@ use Rattle.relay_model.specs.Reasons.{happened, end_flag, error_flag}
 use Rattle.relay_model.specs.Serve as model
 use Rattle.relay_model.specs.Serve.{Call, call_for, CarriesGot}
 use Rattle.relay_model.specs.Stages.{Stage, at}
-use Rattle.relay_model.specs.StepLaws.{AccountsFit}
 use Rattle.relay_model.specs.Turn.{Puts, Reaches, after_reading}
 use Rattle.relay_model.proofs.EndLemmas.{same_end-refl}
 use Rattle.relay_model.proofs.PlacedLemmas.{MayRead, may_read-parts}
@@ -37,12 +37,13 @@ use Rattle.relay_steps.proofs.EndLemmas.{same_end-apart, read-silent, ended-sile
 use Rattle.relay_steps.proofs.FitLemmas.{sight, FitsSight, seen-fits, fits-seen, lane-set, lane-set_other}
 use Rattle.relay_steps.proofs.LaneSteps.{fits-got, fits-ended}
 use Rattle.relay_steps.proofs.StillSteps.{IsStill, put-stands, still-same, still-event, still-raised, sight-of, one-fits, lane_in, in_lanes}
-use Rattle.relay_steps.proofs.ServeSteps.{if_true, if_false, some-may, one_or_more, mark, call-is, marks-are}
+use Rattle.relay_steps.proofs.ServeSteps.{if_true, some-may, one_or_more, mark, call-is, marks-are}
 
 -- What comes of a direction over which its read filter is to run, while both sides live.
 abbrev pub FilteringStands : Type 0
 FilteringStands = (t : Trace) (e : SideId) (ms : List Want) (s : State) → e.link < s.plain.opened → (side_at s.plain e).live ≡ true →
-    (side_at s.plain (peer e)).live ≡ true → StandsFor t (Stage.Filtering e ms) s → StandsFor t (Stage.Serving ms) (raise_read e (read_run e s))
+    (side_at s.plain (peer e)).live ≡ true → StandsFor t (Stage.Filtering e ms) s →
+    StandsFor t (Stage.Serving ms) (raise_read e (read_run e s))
 
 not_true : (b : Bool) → not b ≡ true → b ≡ false
 not_true true h = absurd (cc)
@@ -81,10 +82,14 @@ module _ (t : Trace) (s : State) (e : SideId) (r w : Bool) (ms : List Want) (k :
       ∙ if_true (nat_le 1 room) (Call.AskRead room) Call.Nothing (one_or_more room ∙ some)
 
   read-puts : (answer : ReadAnswer) (bytes : List ℕ) → CarriesGot answer (read_room s e) bytes →
-      Puts g t marked p (entry.Read e (read_room s e) answer) bytes (at (after_reading e answer (mark e false w ∷ ms)) (model.after_read g e answer p))
-  read-puts answer bytes carries =
-      (refl, read-called, carries,
-      ap (λ z. at (after_reading e answer z) (model.after_read g e answer p)) (sym (marks-are t s e r w ms k lt false true q l)))
+      Puts g t marked p (entry.Read e (read_room s e) answer) bytes
+      (at (after_reading e answer (mark e false w ∷ ms)) (model.after_read g e answer p))
+  read-puts answer bytes carries = (
+    refl,
+    read-called,
+    carries,
+    ap (λ z. at (after_reading e answer z) (model.after_read g e answer p)) (sym (marks-are t s e r w ms k lt false true q l)),
+  )
 
   parts : MayRead p e
   parts = may_read-parts p e (some-may (may_read p e) (min most_at_once (read_mark p e - input_length s e)) some)
@@ -138,9 +143,12 @@ module _ (t : Trace) (s : State) (e : SideId) (r w : Bool) (ms : List Want) (k :
         fits-seen g u active p e (lane_in lanes e)
         (subst (λ z. FitsSight g p e z (lane_in lanes e)) (sym sight-own)
         (subst (FitsSight g p e (record (sight t p e) { read = bytes_read e t ++ bytes })) (sym lane-own)
-        (fits-got g p e (sight t p e) (lane_at s e) (seen-fits g t p e (lane_at s e) (k.each e lt)) bytes parts.live not_ended (k.accounts e).fits.used)))
+        (fits-got g p e (sight t p e) (lane_at s e) (seen-fits g t p e (lane_at s e) (k.each e lt)) bytes parts.live not_ended
+        (k.accounts e).fits.used)))
 
-    pub got-put-stands : StandsFor (t ++ (entry.Read e (read_room s e) (read.Got n), bytes) ∷ []) (Stage.Filtering e (mark e false w ∷ ms)) (with_got s e bytes)
+    pub got-put-stands :
+        StandsFor (t ++ (entry.Read e (read_room s e) (read.Got n), bytes) ∷ []) (Stage.Filtering e (mark e false w ∷ ms))
+        (with_got s e bytes)
     got-put-stands = record {
       reached = Reaches.puts (entry.Read e room (read.Got n)) bytes k.reached (read-puts (read.Got n) bytes carries);
       accounts =
@@ -151,11 +159,16 @@ module _ (t : Trace) (s : State) (e : SideId) (r w : Bool) (ms : List Want) (k :
       built = k.built;
     }
 
-    got-stands : FilteringStands → StandsFor (t ++ (entry.Read e (read_room s e) (read.Got n), bytes) ∷ []) (Stage.Serving (mark e false w ∷ ms)) (after_read s e (read.Got n) bytes)
-    got-stands filtered = filtered u e marks (with_got s e bytes) lt (live-same e ∙ parts.live) (live-same (peer e) ∙ parts.peer_live) got-put-stands
+    got-stands : FilteringStands →
+        StandsFor (t ++ (entry.Read e (read_room s e) (read.Got n), bytes) ∷ []) (Stage.Serving (mark e false w ∷ ms))
+        (after_read s e (read.Got n) bytes)
+    got-stands filtered =
+        filtered u e marks (with_got s e bytes) lt (live-same e ∙ parts.live) (live-same (peer e) ∙ parts.peer_live) got-put-stands
 
   -- the end has ended
-  ended-stands : StandsFor (t ++ (entry.Read e (read_room s e) read.Ended, []) ∷ []) (Stage.Serving (mark e false w ∷ ms)) (after_read s e read.Ended [])
+  ended-stands :
+      StandsFor (t ++ (entry.Read e (read_room s e) read.Ended, []) ∷ []) (Stage.Serving (mark e false w ∷ ms))
+      (after_read s e read.Ended [])
   ended-stands =
       let x : Event = (entry.Read e room read.Ended, []) in
       let u : Trace = t ++ x ∷ [] in
@@ -164,12 +177,16 @@ module _ (t : Trace) (s : State) (e : SideId) (r w : Bool) (ms : List Want) (k :
       let still : IsStill t t p new = still-raised g t p e change (happened dir.Read end_flag) (λ z. refl) (λ z. refl) in
       let own : sight u new e ≡ record (sight t p e) { ended = true } =
       sight-of t u p new e (bytes_read e t) true (flow_at p e) (read-silent t x e refl)
-      (has_ended-push e t x ∙ ap (λ b. has_ended e t || b) (same_end-refl e) ∙ or_true (has_ended e t)) (still.flow e) still.live still.marked in
+      (has_ended-push e t x ∙ ap (λ b. has_ended e t || b) (same_end-refl e) ∙ or_true (has_ended e t)) (still.flow e)
+      still.live still.marked in
       let rest : (a : SideId) → a ≢ e → sight u new a ≡ sight t p a =
-      λ a h. sight-of t u p new a (bytes_read a t) (has_ended a t) (flow_at p a) (read-silent t x a refl) (ended-silent t x a (other_end e a h)) (still.flow a) still.live still.marked in
+      λ a h.
+      sight-of t u p new a (bytes_read a t) (has_ended a t) (flow_at p a)
+      (read-silent t x a refl) (ended-silent t x a (other_end e a h)) (still.flow a) still.live still.marked in
       let here : LaneFits g u new e (lane_at s e) =
       fits-seen g u new p e (lane_at s e)
-      (subst (λ z. FitsSight g p e z (lane_at s e)) (sym own) (fits-ended g p e (sight t p e) (lane_at s e) (seen-fits g t p e (lane_at s e) (k.each e lt)))) in
+      (subst (λ z. FitsSight g p e z (lane_at s e)) (sym own)
+      (fits-ended g p e (sight t p e) (lane_at s e) (seen-fits g t p e (lane_at s e) (k.each e lt)))) in
       let each : (a : SideId) → a.link < s.plain.opened → LaneFits g u new a (lane_at s a) =
       one-fits t u marked s new s.lanes e k rest (λ a h. refl) here in
       record {
@@ -187,7 +204,8 @@ module _ (t : Trace) (s : State) (e : SideId) (r w : Bool) (ms : List Want) (k :
       StandsFor (t ++ (entry.Read e (read_room s e) answer, bytes) ∷ []) (Stage.Serving (mark e false w ∷ ms)) (after_read s e answer bytes)
   read-stands filtered (read.Got n) bytes carries = got-stands n bytes carries filtered
   read-stands filtered read.Ended bytes carries =
-      subst (λ z. StandsFor (t ++ (entry.Read e room read.Ended, z) ∷ []) (Stage.Serving marks) (after_read s e read.Ended [])) (sym carries) ended-stands
+      subst (λ z. StandsFor (t ++ (entry.Read e room read.Ended, z) ∷ []) (Stage.Serving marks) (after_read s e read.Ended []))
+      (sym carries) ended-stands
   read-stands filtered read.NotYet bytes carries =
       put-stands t marked (Stage.Serving marks) s p (entry.Read e room read.NotYet) bytes k (read-puts read.NotYet bytes carries) tt
       (still-event t (entry.Read e room read.NotYet, bytes) p p (still-same t t p (λ a. refl) (λ a. refl)) (λ a. refl) (λ a. refl))

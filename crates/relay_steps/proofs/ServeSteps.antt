@@ -1,36 +1,30 @@
 -- A marked side is served: it is asked what the model calls for. A mark that calls for nothing is passed over, and a connect check
 -- changes what it changes in the model.
-use Rattle.std.proofs.Common.{◌≡◌, ◌≢◌, ℕ, zero, suc, ◌<◌, Bool, true, false, not, ◌&&◌, nat_le, if◌then◌else◌, List, [], ◌∷◌, ◌++◌}
+use Rattle.std.proofs.Common.{◌≡◌, ℕ, zero, suc, ◌<◌, Bool, true, false, not, ◌&&◌, nat_le, if◌then◌else◌, List, [], ◌∷◌, ◌++◌}
 use Rattle.std.proofs.Common.{refl, sym, ◌∙◌, ap, arith, le-leb}
-use Rattle.std.specs.Prelude.{nat_lt, is_some}
+use Rattle.std.specs.Prelude.{nat_lt}
 use Rattle.std.proofs.lemmas.Bool.{lt-ltb}
 use Rattle.token_bucket.specs.declared.limit.Dir.TheVariants as dir
 use Rattle.ev_types.specs.declared.side.SideId.{SideId}
 use Rattle.ev_types.specs.declared.answer.ConnAnswer.{ConnAnswer}
 use Rattle.ev_types.specs.declared.answer.ConnAnswer.TheVariants as conn
-use Rattle.ev_types.specs.declared.why.Why.{Why}
 use Rattle.ev_types.specs.declared.why.Why.TheVariants as why
-use Rattle.ev_types.specs.declared.entry.Entry.{Entry}
 use Rattle.ev_types.specs.declared.entry.Entry.TheVariants as entry
-use Rattle.ev_types.specs.Sides.{peer, same_end}
-use Rattle.ev_types.specs.Trace.{Event, Trace}
+use Rattle.ev_types.specs.Trace.{Trace}
 use Rattle.ev_port.specs.Ends.{conn_events}
-use Rattle.relay_model.specs.Trace.{read_by, ended_by}
 use Rattle.relay_model.specs.Settings.{Settings}
-use Rattle.relay_model.specs.Plain.{Plain, PlainSide, change_side}
+use Rattle.relay_model.specs.Plain.{Plain}
 use Rattle.relay_model.specs.Past.{Past, past}
 use Rattle.relay_model.specs.Rooms.{Want, is_connecting}
-use Rattle.relay_model.specs.Reasons.{raise, happened, error_flag}
+use Rattle.relay_model.specs.Reasons.{happened, error_flag}
 use Rattle.relay_model.specs.Serve as model
 use Rattle.relay_model.specs.Serve.{Call, call_for, marks_left}
 use Rattle.relay_model.specs.Stages.{Stage, at}
 use Rattle.relay_model.specs.Turn.{Puts}
-use Rattle.relay_model.proofs.KeepsLemmas.{raised}
-use Rattle.relay_state.specs.State.{State, with_plain}
+use Rattle.relay_state.specs.State.{State}
 use Rattle.relay_state.specs.Rooms.{read_room, write_room}
 use Rattle.relay_state.specs.Serving.{after_conn}
 use Rattle.relay_steps.specs.Meaning.{StandsFor}
-use Rattle.relay_steps.proofs.EndLemmas.{read-silent, ended-silent}
 use Rattle.relay_steps.proofs.RoomLemmas.{read_room-is, write_room-is}
 use Rattle.relay_steps.proofs.StillSteps.{IsStill, put-stands, quiet-stands, still-same, still-event, still-raised}
 
@@ -109,7 +103,8 @@ module _ (t : Trace) (s : State) (e : SideId) (r w : Bool) (ms : List Want) (k :
       (if_false (nat_le 1 (read_room s e)) (Call.AskRead (read_room s e)) Call.Nothing (one_or_more (read_room s e) ∙ none))
 
   -- a side that isn't marked for writing, or has nothing to write
-  pub write-skipped : is_connecting s.plain e ≡ false → r ≡ false → (w && nat_lt 0 (write_room s e)) ≡ false → StandsFor t (Stage.Serving ms) s
+  pub write-skipped : is_connecting s.plain e ≡ false → r ≡ false → (w && nat_lt 0 (write_room s e)) ≡ false →
+      StandsFor t (Stage.Serving ms) s
   write-skipped q l none =
       skipped false false q l
       (if_false (w && nat_le 1 (write_room s e)) (Call.AskWrite (write_room s e)) Call.Nothing
@@ -119,9 +114,12 @@ module _ (t : Trace) (s : State) (e : SideId) (r w : Bool) (ms : List Want) (k :
 
   conn-puts : (answer : ConnAnswer) → is_connecting s.plain e ≡ true → w ≡ true →
       Puts g t (Stage.Serving (mark e r w ∷ ms)) p (entry.Conn e answer) [] (at (Stage.Serving ms) (model.after_conn g e answer p))
-  conn-puts answer q l =
-      (refl, call-is true r q refl ∙ if_true w Call.AskConnect Call.Nothing l, refl,
-      ap (λ z. at (Stage.Serving z) (model.after_conn g e answer p)) (sym (marks-are true r q refl)))
+  conn-puts answer q l = (
+    refl,
+    call-is true r q refl ∙ if_true w Call.AskConnect Call.Nothing l,
+    refl,
+    ap (λ z. at (Stage.Serving z) (model.after_conn g e answer p)) (sym (marks-are true r q refl)),
+  )
 
   conn-still : (answer : ConnAnswer) → IsStill t (t ++ conn_events e answer) p (model.after_conn g e answer p)
   conn-still conn.Connected =

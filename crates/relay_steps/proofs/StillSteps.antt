@@ -1,5 +1,6 @@
 -- Steps that change nothing that a lane looks at: each lane goes on fitting.
-use Rattle.std.proofs.Common.{◌≡◌, ◌≢◌, Bool, false, ℕ, ◌*◌, ◌<◌, List, [], ◌∷◌, ◌++◌, length, slice_index_or, inl, inr, refl, sym, ◌∙◌, ap, subst, arith}
+use Rattle.std.proofs.Common.{◌≡◌, ◌≢◌, Bool, false, ℕ, ◌*◌, ◌<◌, List, [], ◌∷◌, ◌++◌, length, slice_index_or}
+use Rattle.std.proofs.Common.{inl, inr, refl, sym, ◌∙◌, ap, subst, arith}
 use Rattle.std.specs.Prelude.{is_some}
 use Rattle.std.proofs.lemmas.Bool.Decides.{eqb_tells}
 use Rattle.ev_types.specs.declared.side.SideId.{SideId}
@@ -50,13 +51,16 @@ still-sight t u p q e k =
 pub stands-shape : (t : Trace) (x : Stage) (s : State) → StandsFor t x s → ShapeIsTold t s.plain
 stands-shape t x s k = shape-is_told s.settings t (at x s.plain) k.reached
 
-pub in_sides : (t : Trace) (x : Stage) (s : State) (e : SideId) → StandsFor t x s → e.link < s.plain.opened → number e < length s.plain.sides
+pub in_sides : (t : Trace) (x : Stage) (s : State) (e : SideId) → StandsFor t x s → e.link < s.plain.opened →
+    number e < length s.plain.sides
 in_sides t x s e k lt = let a = (stands-shape t x s k).sides in omega (arith, a, number-below e s.plain.opened lt)
 
-pub in_flows : (t : Trace) (x : Stage) (s : State) (e : SideId) → StandsFor t x s → e.link < s.plain.opened → number e < length s.plain.flows
+pub in_flows : (t : Trace) (x : Stage) (s : State) (e : SideId) → StandsFor t x s → e.link < s.plain.opened →
+    number e < length s.plain.flows
 in_flows t x s e k lt = let a = (stands-shape t x s k).flows in omega (arith, a, number-below e s.plain.opened lt)
 
-pub in_lanes : (t : Trace) (x : Stage) (s : State) (e : SideId) → StandsFor t x s → e.link < s.plain.opened → number e < length s.lanes
+pub in_lanes : (t : Trace) (x : Stage) (s : State) (e : SideId) → StandsFor t x s → e.link < s.plain.opened →
+    number e < length s.lanes
 in_lanes t x s e k lt = let a = k.many in omega (arith, a, number-below e s.plain.opened lt)
 
 -- the relay stands where the model came to, as lanes are still
@@ -92,8 +96,8 @@ quiet-stands t x y s k quiet = record {
 
 -- Which states are still
 
-pub still-same : (t u : Trace) (p : Plain) → ((a : SideId) → bytes_read a u ≡ bytes_read a t) → ((a : SideId) → has_ended a u ≡ has_ended a t) →
-    IsStill t u p p
+pub still-same : (t u : Trace) (p : Plain) → ((a : SideId) → bytes_read a u ≡ bytes_read a t) →
+    ((a : SideId) → has_ended a u ≡ has_ended a t) → IsStill t u p p
 still-same t u p read ended = record {
   opened = refl;
   read = read;
@@ -106,7 +110,8 @@ still-same t u p read ended = record {
 -- a side was changed, and it lives and is marked as before
 pub still-changed : (t u : Trace) (p : Plain) (e : SideId) (change : PlainSide → PlainSide) →
     ((x : PlainSide) → (change x).live ≡ x.live) → ((x : PlainSide) → is_some (change x).bad ≡ is_some x.bad) →
-    ((a : SideId) → bytes_read a u ≡ bytes_read a t) → ((a : SideId) → has_ended a u ≡ has_ended a t) → IsStill t u p (change_side e change p)
+    ((a : SideId) → bytes_read a u ≡ bytes_read a t) → ((a : SideId) → has_ended a u ≡ has_ended a t) →
+    IsStill t u p (change_side e change p)
 still-changed t u p e change live marked read ended = record {
   opened = refl;
   read = read;
@@ -128,8 +133,8 @@ still-due t u p q r k ds e = subst (IsStill t u p) (sym e) (record {
 })
 
 -- an event tells of no read bytes and no end
-pub still-event : (t : Trace) (x : Event) (p q : Plain) → IsStill t t p q → ((a : SideId) → read_by a x ≡ []) → ((a : SideId) → ended_by a x ≡ false) →
-    IsStill t (t ++ x ∷ []) p q
+pub still-event : (t : Trace) (x : Event) (p q : Plain) → IsStill t t p q → ((a : SideId) → read_by a x ≡ []) →
+    ((a : SideId) → ended_by a x ≡ false) → IsStill t (t ++ x ∷ []) p q
 still-event t x p q k read ended = record {
   opened = k.opened;
   read = λ a. read-silent t x a (read a);

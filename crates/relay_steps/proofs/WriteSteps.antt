@@ -1,7 +1,8 @@
 -- A marked side is given what waits for it: the write is the one that the model calls for, and what its answer changes is what it
 -- changes there.
-use Rattle.std.proofs.Common.{◌≡◌, ◌≢◌, ℕ, ◌+◌, ◌*◌, ◌<◌, ◌≤◌, Bool, true, false, ◌&&◌, nat_le, min, if◌then◌else◌, List, [], ◌∷◌, ◌++◌, length, take, slice_set}
-use Rattle.std.proofs.Common.{None, refl, sym, ◌∙◌, ap, subst, arith, length-take-le, take-take}
+use Rattle.std.proofs.Common.{◌≡◌, ◌≢◌, ℕ, ◌+◌, ◌*◌, ◌<◌, ◌≤◌, Bool, true, false, ◌&&◌, nat_le, min}
+use Rattle.std.proofs.Common.{if◌then◌else◌, List, [], ◌∷◌, ◌++◌, length, take, slice_set}
+use Rattle.std.proofs.Common.{refl, sym, ◌∙◌, ap, subst, arith, length-take-le, take-take}
 use Rattle.std.specs.Prelude.{nat_lt, is_some}
 use Rattle.std.proofs.lemmas.List.{length-set}
 use Rattle.token_bucket.specs.declared.limit.Dir.TheVariants as dir
@@ -15,7 +16,7 @@ use Rattle.ev_types.specs.Trace.{Event, Trace}
 use Rattle.ev_port.specs.Ends.{WriteWithin, took_bytes}
 use Rattle.relay_model.specs.Trace.{bytes_read, has_ended}
 use Rattle.relay_model.specs.Settings.{Settings}
-use Rattle.relay_model.specs.Flow.{Flow, output, raw_output}
+use Rattle.relay_model.specs.Flow.{output, raw_output}
 use Rattle.relay_model.specs.Plain.{Plain, side_at, flow_at, is_live, change_side, change_flow}
 use Rattle.relay_model.specs.Past.{Past, past}
 use Rattle.relay_model.specs.Moments.{active_at}
@@ -34,14 +35,16 @@ use Rattle.relay_model.proofs.PlainLemmas.{seen-change}
 use Rattle.relay_model.proofs.AccountedLemmas.{entries_keep_accounts}
 use Rattle.relay_state.specs.State.{State, Lane, lane_at, with_plain, lane_taken}
 use Rattle.relay_state.specs.Rooms.{waiting_for, output_length, write_room, offer}
-use Rattle.relay_state.specs.Serving.{flow_given, raise_write, with_taken, after_took, after_write}
+use Rattle.relay_state.specs.Serving.{flow_given, with_taken, after_took, after_write}
 use Rattle.relay_steps.specs.Meaning.{LaneFits, StandsFor}
-use Rattle.relay_steps.proofs.EndLemmas.{peer-peer, peer-apart, read-silent, ended-silent}
-use Rattle.relay_steps.proofs.FitLemmas.{sight, FitsSight, seen-fits, fits-seen, fits-same, lane-set, lane-set_other, flow-put, flow-put_other}
+use Rattle.relay_steps.proofs.EndLemmas.{peer-peer, read-silent, ended-silent}
+use Rattle.relay_steps.proofs.FitLemmas.{sight, FitsSight, seen-fits, fits-seen, fits-same}
+use Rattle.relay_steps.proofs.FitLemmas.{lane-set, lane-set_other, flow-put, flow-put_other}
 use Rattle.relay_steps.proofs.CalmLemmas.{unlimited}
 use Rattle.relay_steps.proofs.RoomLemmas.{SideFits, waiting-is, output_length-fits}
 use Rattle.relay_steps.proofs.LaneSteps.{fits-taken}
-use Rattle.relay_steps.proofs.StillSteps.{IsStill, put-stands, still-same, still-sight, still-due, still-event, still-raised, sight-of, one-fits, lane_in, in_flows, in_lanes}
+use Rattle.relay_steps.proofs.StillSteps.{IsStill, put-stands, still-same, still-sight, still-due, still-event, still-raised}
+use Rattle.relay_steps.proofs.StillSteps.{sight-of, one-fits, lane_in, in_flows, in_lanes}
 use Rattle.relay_steps.proofs.ServeSteps.{if_true, some-may, one_or_more, mark, call-is, marks-are}
 
 -- a plain state that is another one where a test holds
@@ -74,9 +77,12 @@ module _ (t : Trace) (s : State) (e : SideId) (w : Bool) (ms : List Want) (k : S
 
   write-puts : (answer : WriteAnswer) (bytes : List ℕ) → CarriesTook answer (write_room s e) bytes →
       Puts g t marked p (entry.Write e (write_room s e) answer) bytes (at (Stage.Serving ms) (model.after_write g P e answer p))
-  write-puts answer bytes carries =
-      (refl, write-called, carries,
-      ap (λ z. at (Stage.Serving z) (model.after_write g P e answer p)) (sym (marks-are t s e false w ms k lt false false q refl)))
+  write-puts answer bytes carries = (
+    refl,
+    write-called,
+    carries,
+    ap (λ z. at (Stage.Serving z) (model.after_write g P e answer p)) (sym (marks-are t s e false w ms k lt false false q refl)),
+  )
 
   may : may_write p e ≡ true
   may = some-may (may_write p e) (min most_at_once (length (waiting_for s e))) some
@@ -195,14 +201,15 @@ module _ (t : Trace) (s : State) (e : SideId) (w : Bool) (ms : List Want) (k : S
               (entry.Write e room (write.Took n)) bytes k.reached (write-puts (write.Took n) bytes carries) first k.accounts;
           many = length-set s.lanes (number (peer e)) new_lane ∙ k.many ∙ ap (λ m. 2 * m) (sym still.opened);
           each = λ a h.
-            fits-same g u u took (reasons.raise_write g P e took) a (lane_in lanes a) (lane_in lanes a)
-            (still-sight u u took (reasons.raise_write g P e took) a still) refl (took-fits a (subst (λ m. a.link < m) still.opened h));
+              fits-same g u u took (reasons.raise_write g P e took) a (lane_in lanes a) (lane_in lanes a)
+              (still-sight u u took (reasons.raise_write g P e took) a still) refl (took-fits a (subst (λ m. a.link < m) still.opened h));
           built = k.built;
         })
 
   -- a write of exactly what is offered to the side, whatever is answered but want of memory
   pub write-stands : (answer : WriteAnswer) → WriteWithin answer (write_room s e) → answer ≢ write.NoMemory →
-      StandsFor (t ++ (entry.Write e (write_room s e) answer, took_bytes answer (offer s e)) ∷ []) (Stage.Serving ms) (after_write s e answer)
+      StandsFor (t ++ (entry.Write e (write_room s e) answer, took_bytes answer (offer s e)) ∷ []) (Stage.Serving ms)
+      (after_write s e answer)
   write-stands (write.Took n) within done = took-stands n (let a = within.0 in omega arith) within.1
   write-stands write.NotYet within done =
       put-stands t marked (Stage.Serving ms) s p (entry.Write e room write.NotYet) [] k (write-puts write.NotYet [] refl) tt
