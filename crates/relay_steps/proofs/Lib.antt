@@ -1,3 +1,6 @@
 pub mod EndLemmas
 pub mod FitLemmas
 pub mod PassageRuns
+pub mod PassageMoves
+pub mod PassageReads
+pub mod PassageWrites
