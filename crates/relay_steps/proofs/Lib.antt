@@ -4,3 +4,4 @@ pub mod PassageRuns
 pub mod PassageMoves
 pub mod PassageReads
 pub mod PassageWrites
+pub mod PassageLemmas
