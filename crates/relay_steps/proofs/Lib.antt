@@ -4,4 +4,5 @@ pub mod PassageRuns
 pub mod PassageMoves
 pub mod PassageReads
 pub mod PassageWrites
+pub mod PassedLemmas
 pub mod PassageLemmas

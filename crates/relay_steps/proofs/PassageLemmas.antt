@@ -23,6 +23,7 @@ use Rattle.relay_state.specs.Passing.{with_bad, plain_passed}
 use Rattle.relay_steps.specs.Meaning.{LaneFits}
 use Rattle.relay_steps.proofs.EndLemmas.{number-below, peer-apart, peer-moves}
 use Rattle.relay_steps.proofs.FitLemmas.{Sight, sight, FitsSight, seen-fits, fits-seen, side-put, side-put_other, flow-put, put_side-same, put_flow-same}
+use Rattle.relay_steps.proofs.PassedLemmas.{put_flow-twice, passed-flow, passed-near, passed-far, passed-flow_alone, passed-from, passed-to}
 use Rattle.relay_steps.proofs.PassageMoves.{Carries, hold-flow, hold-carries, MovedAs, moves-as}
 use Rattle.relay_steps.proofs.PassageReads.{ReadAs, reads-as}
 use Rattle.relay_steps.proofs.PassageWrites.{WrittenAs, writes-as}
@@ -51,51 +52,6 @@ fits-carries g t p e x k =
       reader_marks = l.reader_marks;
       writer_marks = l.writer_marks;
     })
-
--- What a plain state has once a direction was passed
-
-pub bad-same : (e : SideId) (b : Option ℕ) (p : Plain) → (side_at p e).bad ≡ b → change_side e (with_bad b) p ≡ p
-bad-same e b p h = (let x : PlainSide = side_at p e in λ i. put_side e (record x { bad = sym h i }) p) ∙ put_side-same e p
-
-pub put_flow-twice : (e : SideId) (f h : Flow) (p : Plain) → put_flow e h (put_flow e f p) ≡ put_flow e h p
-put_flow-twice e f h p = let q = set-set p.flows (number e) f h in λ i. record p { flows = q i }
-
-module _ (e : SideId) (x : Passage) (p : Plain) where
-  -- the side where it begins
-  abbrev near : Plain
-  near = change_side e (with_bad x.from_bad) (put_flow e x.flow p)
-
-  pub passed-flow : number e < length p.flows → flow_at (plain_passed e x p) e ≡ x.flow
-  passed-flow inside = flow-put p e x.flow inside
-
-  pub passed-far : number (peer e) < length p.sides → side_at (plain_passed e x p) (peer e) ≡ with_bad x.to_bad (side_at p (peer e))
-  passed-far inside =
-      side-put near (peer e) (with_bad x.to_bad (side_at near (peer e))) (subst (λ n. number (peer e) < n) (sym (length-set p.sides (number e) _)) inside)
-      ∙ ap (with_bad x.to_bad) (side-put_other (put_flow e x.flow p) e (peer e) _ (peer-apart e))
-
-  pub passed-near : number e < length p.sides → side_at (plain_passed e x p) e ≡ with_bad x.from_bad (side_at p e)
-  passed-near inside =
-      side-put_other near (peer e) e _ (λ h. peer-apart e (sym h))
-      ∙ side-put (put_flow e x.flow p) e (with_bad x.from_bad (side_at p e)) inside
-
-  pub passed-other : (a : SideId) → a ≢ e → a ≢ peer e → side_at (plain_passed e x p) a ≡ side_at p a
-  passed-other a h k = side-put_other near (peer e) a _ k ∙ side-put_other (put_flow e x.flow p) e a _ h
-
-  -- where the marks stay
-  pub passed-flow_alone : (side_at p e).bad ≡ x.from_bad → (side_at p (peer e)).bad ≡ x.to_bad → plain_passed e x p ≡ put_flow e x.flow p
-  passed-flow_alone h k =
-      let q : Plain = put_flow e x.flow p in
-      ap (change_side (peer e) (with_bad x.to_bad)) (bad-same e x.from_bad q h) ∙ bad-same (peer e) x.to_bad q k
-
-  -- where the mark of the side stays at which it ends
-  pub passed-from : (side_at p (peer e)).bad ≡ x.to_bad → plain_passed e x p ≡ change_side e (with_bad x.from_bad) (put_flow e x.flow p)
-  passed-from k =
-      bad-same (peer e) x.to_bad near
-      (ap (λ (z : PlainSide). z.bad) (side-put_other (put_flow e x.flow p) e (peer e) (with_bad x.from_bad (side_at p e)) (peer-apart e)) ∙ k)
-
-  -- where the mark of the side stays at which it begins
-  pub passed-to : (side_at p e).bad ≡ x.from_bad → plain_passed e x p ≡ change_side (peer e) (with_bad x.to_bad) (put_flow e x.flow p)
-  passed-to h = ap (change_side (peer e) (with_bad x.to_bad)) (bad-same e x.from_bad (put_flow e x.flow p) h)
 
 -- a direction that carries what it should fits the plain state with it
 pub carries-fits : (g : Settings) (t : Trace) (p : Plain) (e : SideId) (x : Passage) →
