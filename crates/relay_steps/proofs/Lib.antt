@@ -6,3 +6,5 @@ pub mod PassageReads
 pub mod PassageWrites
 pub mod PassedLemmas
 pub mod PassageLemmas
+pub mod PassRounds
+pub mod PassSteps

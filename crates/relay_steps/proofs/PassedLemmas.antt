@@ -70,16 +70,10 @@ pub passed-twice : (e : SideId) (x y : Passage) (p : Plain) → number e < lengt
     plain_passed e y (plain_passed e x p) ≡ plain_passed e y p
 passed-twice e x y p near_in far_in =
     let a = seen_near in let b = seen_far in
-    (λ i. put_side m (with_bad y.to_bad (b i)) (put_side n (with_bad y.from_bad (a i)) (put_flow n y.flow (plain_passed e x p))))
-    ∙ (let f = set-set p.flows (number n) x.flow y.flow in let q = sides in λ i. record p { sides = q i; flows = f i })
-    ∙ (let c = own_far in λ i. put_side m (with_bad y.to_bad (sym c i)) (put_side n b2 (put_flow n y.flow p)))
+    (λ i. put_side (peer e) (with_bad y.to_bad (b i)) (put_side e (with_bad y.from_bad (a i)) (put_flow e y.flow (plain_passed e x p))))
+    ∙ (let f = set-set p.flows (number e) x.flow y.flow in let q = sides in λ i. record p { sides = q i; flows = f i })
+    ∙ (let c = own_far in λ i. put_side (peer e) (with_bad y.to_bad (sym c i)) (put_side e b2 (put_flow e y.flow p)))
   where
-    n : SideId
-    n = e
-
-    m : SideId
-    m = peer e
-
     a1 : PlainSide
     a1 = with_bad x.from_bad (side_at p e)
 
