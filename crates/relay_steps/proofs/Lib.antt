@@ -2,6 +2,14 @@ pub mod EndLemmas
 pub mod FitLemmas
 pub mod CalmLemmas
 pub mod RoomLemmas
+pub mod PassageRuns
+pub mod PassageMoves
+pub mod PassageReads
+pub mod PassageWrites
+pub mod PassedLemmas
+pub mod PassageLemmas
+pub mod PassRounds
+pub mod PassSteps
 pub mod StillSteps
 pub mod FreeSteps
 pub mod CloseSteps
