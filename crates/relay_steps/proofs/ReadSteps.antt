@@ -30,20 +30,14 @@ use Rattle.relay_model.proofs.TraceLemmas.{bytes_read-push, has_ended-push}
 use Rattle.relay_model.proofs.AccountedLemmas.{entries_keep_accounts}
 use Rattle.relay_state.specs.State.{State, Lane, lane_at, lane_got}
 use Rattle.relay_state.specs.Rooms.{input_length, read_room}
-use Rattle.relay_state.specs.Passing.{read_run}
-use Rattle.relay_state.specs.Serving.{raise_read, with_got, after_read}
+use Rattle.relay_state.specs.Serving.{with_got, after_read}
 use Rattle.relay_steps.specs.Meaning.{LaneFits, StandsFor}
 use Rattle.relay_steps.proofs.EndLemmas.{same_end-apart, read-silent, ended-silent}
 use Rattle.relay_steps.proofs.FitLemmas.{sight, FitsSight, seen-fits, fits-seen, lane-set, lane-set_other}
+use Rattle.relay_steps.proofs.PassSteps.{filtering-stands}
 use Rattle.relay_steps.proofs.LaneSteps.{fits-got, fits-ended}
 use Rattle.relay_steps.proofs.StillSteps.{IsStill, put-stands, still-same, still-event, still-raised, sight-of, one-fits, lane_in, in_lanes}
 use Rattle.relay_steps.proofs.ServeSteps.{if_true, some-may, one_or_more, mark, call-is, marks-are}
-
--- What comes of a direction over which its read filter is to run, while both sides live.
-abbrev pub FilteringStands : Type 0
-FilteringStands = (t : Trace) (e : SideId) (ms : List Want) (s : State) → e.link < s.plain.opened → (side_at s.plain e).live ≡ true →
-    (side_at s.plain (peer e)).live ≡ true → StandsFor t (Stage.Filtering e ms) s →
-    StandsFor t (Stage.Serving ms) (raise_read e (read_run e s))
 
 not_true : (b : Bool) → not b ≡ true → b ≡ false
 not_true true h = absurd (cc)
@@ -159,11 +153,11 @@ module _ (t : Trace) (s : State) (e : SideId) (r w : Bool) (ms : List Want) (k :
       built = k.built;
     }
 
-    got-stands : FilteringStands →
+    got-stands :
         StandsFor (t ++ (entry.Read e (read_room s e) (read.Got n), bytes) ∷ []) (Stage.Serving (mark e false w ∷ ms))
         (after_read s e (read.Got n) bytes)
-    got-stands filtered =
-        filtered u e marks (with_got s e bytes) lt (live-same e ∙ parts.live) (live-same (peer e) ∙ parts.peer_live) got-put-stands
+    got-stands =
+        filtering-stands u e marks (with_got s e bytes) lt (live-same e ∙ parts.live) (live-same (peer e) ∙ parts.peer_live) got-put-stands
 
   -- the end has ended
   ended-stands :
@@ -200,16 +194,16 @@ module _ (t : Trace) (s : State) (e : SideId) (r w : Bool) (ms : List Want) (k :
       }
 
   -- a read with exactly the room of the side, whatever is answered
-  pub read-stands : FilteringStands → (answer : ReadAnswer) (bytes : List ℕ) → CarriesGot answer (read_room s e) bytes →
+  pub read-stands : (answer : ReadAnswer) (bytes : List ℕ) → CarriesGot answer (read_room s e) bytes →
       StandsFor (t ++ (entry.Read e (read_room s e) answer, bytes) ∷ []) (Stage.Serving (mark e false w ∷ ms)) (after_read s e answer bytes)
-  read-stands filtered (read.Got n) bytes carries = got-stands n bytes carries filtered
-  read-stands filtered read.Ended bytes carries =
+  read-stands (read.Got n) bytes carries = got-stands n bytes carries
+  read-stands read.Ended bytes carries =
       subst (λ z. StandsFor (t ++ (entry.Read e room read.Ended, z) ∷ []) (Stage.Serving marks) (after_read s e read.Ended []))
       (sym carries) ended-stands
-  read-stands filtered read.NotYet bytes carries =
+  read-stands read.NotYet bytes carries =
       put-stands t marked (Stage.Serving marks) s p (entry.Read e room read.NotYet) bytes k (read-puts read.NotYet bytes carries) tt
       (still-event t (entry.Read e room read.NotYet, bytes) p p (still-same t t p (λ a. refl) (λ a. refl)) (λ a. refl) (λ a. refl))
-  read-stands filtered read.Failed bytes carries =
+  read-stands read.Failed bytes carries =
       put-stands t marked (Stage.Serving marks) s (model.after_read g e read.Failed p) (entry.Read e room read.Failed) bytes k
       (read-puts read.Failed bytes carries) tt
       (still-event t (entry.Read e room read.Failed, bytes) p (model.after_read g e read.Failed p)
