@@ -1,5 +1,5 @@
 -- Rounds of a direction: part by part they are the model's, so that a trace leads to the plain state behind them.
-use Rattle.std.proofs.Common.{◌≡◌, ℕ, zero, suc, ◌*◌, ◌<◌, Bool, true, false, ◌==◌, ◌&&◌, not, if◌then◌else◌, List, [], ◌∷◌, length, ◌⊎◌, inr, refl, sym, ◌∙◌, ap, subst, arith}
+use Rattle.std.proofs.Common.{◌≡◌, ℕ, zero, suc, ◌*◌, ◌<◌, Bool, true, false, ◌==◌, ◌&&◌, not, if◌then◌else◌, List, [], ◌∷◌, length, inr, refl, sym, ◌∙◌, ap, subst, arith}
 use Rattle.std.specs.Prelude.{is_some, fold}
 use Rattle.std.specs.List.{AllByRecursion}
 use Rattle.ev_types.specs.declared.side.SideId.{SideId}
@@ -16,7 +16,7 @@ use Rattle.relay_model.specs.StepLaws.{AccountsFit}
 use Rattle.relay_model.proofs.ToldLemmas.{kept}
 use Rattle.relay_model.proofs.TotalLemmas.{NeedsLive, parts-live}
 use Rattle.relay_model.proofs.AccountedLemmas.{silent_steps_keep_accounts}
-use Rattle.relay_state.specs.Passage.{Passage, hold_part, read_part, move_part, write_part, write_step, written_by, has_moved_all, pass_part, rounds}
+use Rattle.relay_state.specs.Passage.{Passage, read_part, move_part, write_part, write_step, written_by, has_moved_all, pass_part, rounds}
 use Rattle.relay_state.specs.Passing.{plain_passed}
 use Rattle.relay_steps.proofs.EndLemmas.{number-below}
 use Rattle.relay_steps.proofs.PassageRuns.{or_else-stays}

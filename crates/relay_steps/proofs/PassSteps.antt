@@ -1,5 +1,5 @@
 -- A direction is passed, or some rounds of it are made, or a read filter runs over what was got: the relay goes on standing for its trace.
-use Rattle.std.proofs.Common.{◌≡◌, ◌≢◌, ℕ, ◌+◌, ◌*◌, ◌<◌, Bool, true, false, if◌then◌else◌, List, [], ◌∷◌, length, ◌⊎◌, inl, refl, sym, ◌∙◌, ap, subst, arith}
+use Rattle.std.proofs.Common.{◌≡◌, ◌≢◌, ℕ, ◌+◌, ◌*◌, ◌<◌, Bool, true, false, if◌then◌else◌, List, [], ◌∷◌, length, inl, refl, sym, ◌∙◌, ap, subst, arith}
 use Rattle.std.specs.Prelude.{is_some, nat_le}
 use Rattle.std.proofs.lemmas.List.{length-set}
 use Rattle.ev_types.specs.declared.side.SideId.{SideId}
@@ -8,7 +8,7 @@ use Rattle.ev_types.specs.Sides.{number, peer}
 use Rattle.ev_types.specs.Trace.{Trace}
 use Rattle.relay_model.specs.Trace.{bytes_read, has_ended}
 use Rattle.relay_model.specs.Settings.{Settings}
-use Rattle.relay_model.specs.Plain.{Plain, PlainSide, side_at, flow_at, is_live}
+use Rattle.relay_model.specs.Plain.{Plain, side_at, is_live}
 use Rattle.relay_model.specs.Past.{Past, past}
 use Rattle.relay_model.specs.Due.{Due}
 use Rattle.relay_model.specs.Rooms as model_rooms
@@ -25,7 +25,6 @@ use Rattle.relay_model.proofs.AccountedLemmas.{silent_steps_keep_accounts}
 use Rattle.relay_state.specs.State.{State, Lane, lane_at, with_plain}
 use Rattle.relay_state.specs.Passage.{Passage, read_part, rounds}
 use Rattle.relay_state.specs.Passing.{passage_at, plain_passed, with_passage, PassedFrom, PartlyPassed, read_run}
-use Rattle.relay_state.specs.Rooms.{input_length}
 use Rattle.relay_state.specs.Serving.{raise_read}
 use Rattle.relay_steps.specs.Meaning.{LaneFits, StandsFor}
 use Rattle.relay_steps.proofs.EndLemmas.{number-below, by_side, peer-apart}

@@ -1,8 +1,7 @@
 -- Each part of a round, and the read filter's run over what was got: over the buffers alone they are the model's, on the plain state.
-use Rattle.std.proofs.Common.{◌≡◌, ◌≢◌, ℕ, ◌+◌, ◌*◌, ◌<◌, Bool, true, false, ◌||◌, length, List, refl, sym, ◌∙◌, ap, subst, arith}
-use Rattle.std.specs.Prelude.{Option, is_some}
+use Rattle.std.proofs.Common.{◌≡◌, ℕ, ◌*◌, ◌<◌, Bool, true, false, length, List, refl, sym, ◌∙◌, ap, subst, arith}
+use Rattle.std.specs.Prelude.{is_some}
 use Rattle.std.proofs.Math.Bool.{or-false}
-use Rattle.std.proofs.lemmas.List.{set-set, length-set}
 use Rattle.ev_types.specs.declared.side.SideId.{SideId}
 use Rattle.ev_types.specs.Sides.{number, peer}
 use Rattle.ev_types.specs.Trace.{Trace}
@@ -17,12 +16,11 @@ use Rattle.relay_model.specs.Pass.{with_held, with_used, read_place, with_read_d
 use Rattle.relay_model.specs.Round.{Part, meets, read_run, write_run, do_part}
 use Rattle.relay_model.specs.Stands.{DirectionAccounted}
 use Rattle.relay_model.proofs.TotalLemmas.{NeedsLive}
-use Rattle.relay_state.specs.State.{Lane}
 use Rattle.relay_state.specs.Passage.{Passage, hold_part, read_part, move_part, write_part, pass_part}
 use Rattle.relay_state.specs.Passing.{with_bad, plain_passed}
 use Rattle.relay_steps.specs.Meaning.{LaneFits}
-use Rattle.relay_steps.proofs.EndLemmas.{number-below, peer-apart, peer-moves}
-use Rattle.relay_steps.proofs.FitLemmas.{Sight, sight, FitsSight, seen-fits, fits-seen, side-put, side-put_other, flow-put, put_side-same, put_flow-same}
+use Rattle.relay_steps.proofs.EndLemmas.{number-below}
+use Rattle.relay_steps.proofs.FitLemmas.{Sight, sight, FitsSight, fits-seen, flow-put}
 use Rattle.relay_steps.proofs.PassedLemmas.{put_flow-twice, passed-flow, passed-near, passed-far, passed-flow_alone, passed-from, passed-to}
 use Rattle.relay_steps.proofs.PassageMoves.{Carries, hold-flow, hold-carries, MovedAs, moves-as}
 use Rattle.relay_steps.proofs.PassageReads.{ReadAs, reads-as}

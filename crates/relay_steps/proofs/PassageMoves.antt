@@ -9,7 +9,7 @@ use Rattle.ev_types.specs.declared.filter.FilterKind.{FilterKind}
 use Rattle.relay_model.specs.Filter.{Filter, filter_of, met}
 use Rattle.relay_model.specs.FilterLaws.{last_of}
 use Rattle.relay_model.specs.Flow.{Flow, Fits, middle, outcome, input, output, raw_input, raw_output}
-use Rattle.relay_model.specs.Conserved.{Running, StandsAt, Holds, left, all_moved}
+use Rattle.relay_model.specs.Conserved.{StandsAt, Holds, left, all_moved}
 use Rattle.relay_model.specs.Pass.{with_held, with_moved}
 use Rattle.relay_model.proofs.FlowSteps.{output-moved}
 use Rattle.relay_state.specs.State.{Lane}

@@ -1,12 +1,12 @@
 -- One step of the read filter over the buffers alone is what the model's counts say of it.
-use Rattle.std.proofs.Common.{◌≡◌, ℕ, ◌+◌, ◌-◌, ◌≤◌, Bool, true, false, ◌==◌, ◌&&◌, ◌||◌, if◌then◌else◌, List, [], ◌++◌, length, take, drop, Option, refl, sym, ◌∙◌, ap, subst, arith, length-append}
+use Rattle.std.proofs.Common.{◌≡◌, ℕ, ◌+◌, Bool, true, ◌&&◌, if◌then◌else◌, List, [], ◌++◌, length, take, refl, sym, ◌∙◌, ap, subst, length-append}
 use Rattle.std.specs.Prelude.{nat_eq}
 use Rattle.std.proofs.lemmas.Bool.{and_parts}
 use Rattle.std.proofs.lemmas.List.{append-nil, take-append-le}
 use Rattle.ev_types.specs.declared.filter.FilterKind.{FilterKind}
 use Rattle.relay_model.specs.Filter.{Filter, filter_of, or_else}
-use Rattle.relay_model.specs.Flow.{Flow, Fits, middle, outcome, input, output, raw_input, raw_output}
-use Rattle.relay_model.specs.Conserved.{Running, StandsAt, left, all_moved}
+use Rattle.relay_model.specs.Flow.{Flow, Fits, middle, input, raw_input}
+use Rattle.relay_model.specs.Conserved.{StandsAt, all_moved}
 use Rattle.relay_model.specs.FilterStep.{Stepped, stepped}
 use Rattle.relay_model.specs.Pass.{with_used, read_place, with_read_done}
 use Rattle.relay_model.proofs.FlowSteps.{raw_input-used, outcome-grown, input-grown, output-grown, raw_output-grown}

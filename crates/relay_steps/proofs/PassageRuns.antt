@@ -9,7 +9,7 @@ use Rattle.relay_model.specs.Conserved.{Running, StandsAt}
 use Rattle.relay_model.specs.Pass.{first_from, is_over}
 use Rattle.relay_model.specs.FilterStep.{Stepped, stepped, run_of, after_bytes, ending}
 use Rattle.relay_model.specs.FilterRun.{Ran}
-use Rattle.relay_model.specs.FilterCuts.{target_length, must_stop, IsStep}
+use Rattle.relay_model.specs.FilterCuts.{must_stop, IsStep}
 use Rattle.relay_model.proofs.FilterStepLemmas.{step_is_function}
 
 -- Places that are met, and the first of them in time

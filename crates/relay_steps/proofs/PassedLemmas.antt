@@ -1,5 +1,5 @@
 -- What a plain state has once a direction was passed: its flow and two marks are others, and all else is as before.
-use Rattle.std.proofs.Common.{◌≡◌, ◌≢◌, ℕ, ◌<◌, length, List, refl, sym, ◌∙◌, ap, subst, set}
+use Rattle.std.proofs.Common.{◌≡◌, ◌≢◌, ℕ, ◌<◌, length, sym, ◌∙◌, ap, subst, set}
 use Rattle.std.specs.Prelude.{Option, true, is_some}
 use Rattle.std.proofs.lemmas.List.{set-set, set_comm, length-set}
 use Rattle.ev_types.specs.declared.side.SideId.{SideId}
