@@ -207,6 +207,9 @@ module _ (g : Settings) (built : IsBuilt g) where
   calm-reading side read.NotYet left = tt
   calm-reading side read.Failed left = tt
 
+  goes-on : (x y : Stage) (s q : Plain) → Calm (at x s) → IsCalm y → waiting q ≡ waiting s → SameFrame s q → Calm (at y q)
+  goes-on x y s q h c w f = record { stage = c; waiting = w ∙ h.waiting; unlimited = unset-frame s q f h.unlimited }
+
   put-calm : (t : Trace) (s : Plain) (x : Stage) (y : Event) (new : State) → PutKind g t s x y new → Puts g t x s y.0 y.1 new →
       length s.sides ≡ 2 * s.opened → Calm (at x s) → Calm new
   put-calm t s x y new (PutKind.turned {ms = ms} a b) put size h =
@@ -223,23 +226,11 @@ module _ (g : Settings) (built : IsBuilt g) where
   put-calm t s x y new (PutKind.opened {connected = connected}) put size h =
       record { stage = tt; waiting = h.waiting; unlimited = unset-link connected s size h.unlimited }
   put-calm t s x y new (PutKind.checked {side = side} {answer = answer} a) put size h =
-      record {
-        stage = tt;
-        waiting = waits-conn side answer s ∙ h.waiting;
-        unlimited = unset-frame s _ (frame-conn g side answer s) h.unlimited;
-      }
+      goes-on x new.stage s new.plain h tt (waits-conn side answer s) (frame-conn g side answer s)
   put-calm t s x y new (PutKind.was_read {side = side} {answer = answer} left a b) put size h =
-      record {
-        stage = calm-reading side answer left;
-        waiting = waits-read side answer s ∙ h.waiting;
-        unlimited = unset-frame s _ (frame-read g side answer s) h.unlimited;
-      }
+      goes-on x new.stage s new.plain h (calm-reading side answer left) (waits-read side answer s) (frame-read g side answer s)
   put-calm t s x y new (PutKind.written {side = side} {answer = answer} a b c) put size h =
-      record {
-        stage = tt;
-        waiting = waits-write (past g t) side answer s ∙ h.waiting;
-        unlimited = unset-frame s _ (frame-write g (past g t) side answer s) h.unlimited;
-      }
+      goes-on x new.stage s new.plain h tt (waits-write (past g t) side answer s) (frame-write g (past g t) side answer s)
   put-calm t s x y new (PutKind.fired a) put size h = absurd (subst (λ z. Puts g t (Dispatching z) s y.0 y.1 new) h.stage put)
   put-calm t s x y new (PutKind.frees a same) put size h = absurd h.stage
   put-calm t s x y new (PutKind.asked same k l) put size h = absurd h.stage
