@@ -34,7 +34,8 @@ use Rattle.relay_drive.specs.Calls.{Checks, Reads, Writes, after_conn, after_rea
 use Rattle.relay_drive.specs.Phases.{links_from, ReadsSide, WritesSide, ConnectsSide, ReadsWithRoom, ServesSide, CutServing, PassesSide, CutPassing, PassesLink, CutPassingLink, closing_events, Closes, LooksAt, ClosesLink, CutClosingLink}
 use Rattle.relay_steps.specs.Meaning.{StandsFor, LeftFor}
 use Rattle.relay_steps.proofs.FrameLemmas.{frame-conn, frame-read, frame-write, frame-passed}
-use Rattle.relay_steps.proofs.ServeSteps.{mark, conn-stands, read-stands, waiting-skipped, read-skipped, write-skipped}
+use Rattle.relay_steps.proofs.ServeSteps.{mark, one_or_more, conn-stands, waiting-skipped, read-skipped, write-skipped}
+use Rattle.relay_steps.proofs.ReadSteps.{read-stands}
 use Rattle.relay_steps.proofs.WaitLemmas.{read-waits}
 use Rattle.relay_steps.proofs.WriteSteps.{write-stands, offer-length}
 use Rattle.relay_steps.proofs.PassSteps.{passed-stands, partly_passed-stands}
@@ -123,7 +124,7 @@ module _ (n : ℕ) (e : SideId) (ms : List rooms.Want) where
       let inside = here t (Stage.Serving (mark e true c ∷ ms)) s lt k in
       let r : Reads e answer into s a new = h.3 in
       let bytes : List ℕ = got_bytes answer into in
-      let stands = read-stands t s e true c ms k.stands inside q refl some answer bytes
+      let stands = read-stands t s e true c ms k.stands inside q refl (sym (one_or_more (read_room s e)) ∙ some) answer bytes
       (carries answer into (read_room s e) h.2 r.within) in
       let same : (t ++ (entry.Read e (read_room s e) answer, bytes) ∷ []) ≡ t ++ a =
       ap (λ m. t ++ (entry.Read e m answer, bytes) ∷ []) (sym h.2) ∙ ap (λ z. t ++ z) (sym r.entries) in
@@ -139,7 +140,8 @@ module _ (n : ℕ) (e : SideId) (ms : List rooms.Want) where
   reads-marked c t s new a lt q k false none h =
       let after = stands-nothing n t (Stage.Serving (mark e false c ∷ ms)) s new a
       (record {
-        stands = read-skipped t s e true c ms k.stands (here t (Stage.Serving (mark e true c ∷ ms)) s lt k) q refl none;
+        stands = read-skipped t s e true c ms k.stands (here t (Stage.Serving (mark e true c ∷ ms)) s lt k) q refl
+            (sym (one_or_more (read_room s e)) ∙ none);
         opened = k.opened;
       }) h in
       drop-mark c (t ++ a) new lt (ap (λ z. is_connecting z.plain e) h.1 ∙ q) after
