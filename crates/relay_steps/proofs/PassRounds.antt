@@ -62,7 +62,8 @@ part-rises mark hold ended Part.Move x = move-rises x
 part-rises mark hold ended Part.Write x = write-rises hold true x
 part-rises mark hold ended Part.Drain x = write-rises hold false x
 
-parts-rise : (mark hold : ℕ) (ended : Bool) (xs : List Part) (x : Passage) → Rises x (fold (λ y part. pass_part mark hold ended part y) x xs)
+parts-rise : (mark hold : ℕ) (ended : Bool) (xs : List Part) (x : Passage) →
+    Rises x (fold (λ y part. pass_part mark hold ended part y) x xs)
 parts-rise mark hold ended [] x = rises-refl x
 parts-rise mark hold ended (part ∷ xs) x =
     let y : Passage = pass_part mark hold ended part x in
@@ -162,7 +163,8 @@ module _ (g : Settings) (t : Trace) (e : SideId) (es : List SideId) where
       none false = refl
 
       go : (b : Bool) → is_live p (peer e) ≡ b → Gone parts p x
-      go true live = parts-gone parts p x lt live (record { reached = Reaches.goes h.reached (inr refl); accounts = h.accounts; fits = h.fits })
+      go true live = parts-gone parts p x lt live
+          (record { reached = Reaches.goes h.reached (inr refl); accounts = h.accounts; fits = h.fits })
       go false dead = subst (λ xs. Gone xs p x) (sym ((λ i. parts_of (is_live p e) (dead i)) ∙ none (is_live p e))) (none-gone p x h)
 
   -- so many rounds

@@ -36,7 +36,8 @@ use Rattle.relay_steps.proofs.PassRounds.{Rises, read-rises, rounds-rise, sides-
 -- a lane goes on fitting where all that it looks at is as before, but that a side may be marked now
 pub fits-risen : (g : Settings) (t u : Trace) (p q : Plain) (e : SideId) (l m : Lane) →
     sight u q e ≡ record (sight t p e) { from_marked = is_some (side_at q e).bad; to_marked = is_some (side_at q (peer e)).bad } →
-    (is_some (side_at p e).bad ≡ true → is_some (side_at q e).bad ≡ true) → (is_some (side_at p (peer e)).bad ≡ true → is_some (side_at q (peer e)).bad ≡ true) →
+    (is_some (side_at p e).bad ≡ true → is_some (side_at q e).bad ≡ true) →
+    (is_some (side_at p (peer e)).bad ≡ true → is_some (side_at q (peer e)).bad ≡ true) →
     m ≡ l → LaneFits g t p e l → LaneFits g u q e m
 fits-risen g t u p q e l m same from to z k =
     fits-seen g u q p e m (subst (λ y. FitsSight g p e (sight u q e) y) (sym z) (subst (λ y. FitsSight g p e y l) (sym same) risen))
@@ -44,7 +45,10 @@ fits-risen g t u p q e l m same from to z k =
     old : FitsSight g p e (sight t p e) l
     old = seen-fits g t p e l k
 
-    risen : FitsSight g p e (record (sight t p e) { from_marked = is_some (side_at q e).bad; to_marked = is_some (side_at q (peer e)).bad }) l
+    risen : FitsSight g p e (record (sight t p e) {
+      from_marked = is_some (side_at q e).bad;
+      to_marked = is_some (side_at q (peer e)).bad;
+    }) l
     risen = record {
       holds = old.holds;
       read = old.read;
@@ -73,7 +77,8 @@ module _ (t : Trace) (x : Stage) (s : State) (h : StandsFor t x s) (e : SideId) 
     abbrev q : Plain
     q = plain_passed e y s.plain
 
-    other-fits : (a : SideId) → a.link < s.plain.opened → a ≢ e → LaneFits s.settings t (plain_passed e y s.plain) a (lane_at (with_passage e y s) a)
+    other-fits : (a : SideId) → a.link < s.plain.opened → a ≢ e →
+        LaneFits s.settings t (plain_passed e y s.plain) a (lane_at (with_passage e y s) a)
     other-fits a inside apart =
         fits-risen s.settings t t s.plain (plain_passed e y s.plain) a (lane_at s a) (lane_at (with_passage e y s) a)
         (let f = passed-other_flow e y s.plain a apart in
@@ -96,11 +101,13 @@ module _ (t : Trace) (x : Stage) (s : State) (h : StandsFor t x s) (e : SideId) 
         LaneFits s.settings t (plain_passed e y s.plain) a (lane_at (with_passage e y s) a)
     all-fit k a =
         by_side e a (λ z. z.link < s.plain.opened → LaneFits s.settings t (plain_passed e y s.plain) z (lane_at (with_passage e y s) z))
-        (λ inside. subst (LaneFits s.settings t (plain_passed e y s.plain) e) (sym (lane-set (record s { plain = q }) e y.lane lane_in)) k.lane)
+        (λ inside. subst (LaneFits s.settings t (plain_passed e y s.plain) e)
+        (sym (lane-set (record s { plain = q }) e y.lane lane_in)) k.lane)
         (λ inside. other-fits (peer e) inside (peer-apart e))
         (λ apart far inside. other-fits a inside apart)
 
-    pub stands-with : (stage : Stage) → Reaches s.settings t (at stage (plain_passed e y s.plain)) → AccountsFit s.settings t (plain_passed e y s.plain) →
+    pub stands-with : (stage : Stage) → Reaches s.settings t (at stage (plain_passed e y s.plain)) →
+        AccountsFit s.settings t (plain_passed e y s.plain) →
         PassageFits s.settings t (plain_passed e y s.plain) e y → StandsFor t stage (with_passage e y s)
     stands-with stage reached accounts k = record {
       reached = reached;
@@ -112,7 +119,8 @@ module _ (t : Trace) (x : Stage) (s : State) (h : StandsFor t x s) (e : SideId) 
 
 -- Passing
 
-module _ (t : Trace) (e : SideId) (es : List SideId) (s : State) (lt : e.link < s.plain.opened) (h : StandsFor t (Stage.Passing [] (e ∷ es)) s) where
+module _ (t : Trace) (e : SideId) (es : List SideId) (s : State) (lt : e.link < s.plain.opened)
+    (h : StandsFor t (Stage.Passing [] (e ∷ es)) s) where
   begins : Here s.settings t e es [] s.plain (passage_at s e)
   begins = record { reached = h.reached; accounts = h.accounts; fits = passage-fits t (Stage.Passing [] (e ∷ es)) s h e lt }
 
@@ -122,7 +130,11 @@ module _ (t : Trace) (e : SideId) (es : List SideId) (s : State) (lt : e.link < 
 
   behind : (n : ℕ) (x : Passage) → x ≡ rounds n (round_of s.settings s.plain e) (passage_at s e) → Behind x
   behind n x some =
-      subst Behind (sym some) (rounds-rise s.settings s.plain e n (passage_at s e), rounds-go s.settings t e es n s.plain (passage_at s e) lt begins)
+      subst Behind (sym some) (
+        rounds-rise s.settings s.plain e n (passage_at s e),
+        rounds-go s.settings t e es n s.plain
+            (passage_at s e) lt begins,
+      )
 
   partly-with : (x : Passage) → Behind x → StandsFor t (Stage.Passing [] (e ∷ es)) (with_passage e x s)
   partly-with x b =
@@ -136,19 +148,22 @@ module _ (t : Trace) (e : SideId) (es : List SideId) (s : State) (lt : e.link < 
       let k : Here s.settings t e es [] (plain_passed e x s.plain) x = b.1 in
       let near_in = near-inside s.settings t stage s.plain h.reached e lt in
       let far_in = far-inside s.settings t stage s.plain h.reached e lt in
-      let same : round_of s.settings (plain_passed e x s.plain) e x ≡ x = (λ i. round-same s.settings e x s.plain near_in far_in i x) ∙ still in
+      let same : round_of s.settings (plain_passed e x s.plain) e x ≡ x = (λ i. round-same s.settings e x s.plain near_in far_in i x)
+      ∙ still in
       let stays = round-stays s.settings t e es (plain_passed e x s.plain) x lt k same in
       stands-with t stage s h e lt x b.0 (Stage.Passing [] es) (Reaches.goes k.reached (inl (stays, refl))) k.accounts k.fits
 
 -- rounds were made until one changes nothing
-pub passed-stands : (t : Trace) (e : SideId) (es : List SideId) (s new : State) → e.link < s.plain.opened → StandsFor t (Stage.Passing [] (e ∷ es)) s →
+pub passed-stands : (t : Trace) (e : SideId) (es : List SideId) (s new : State) → e.link < s.plain.opened →
+    StandsFor t (Stage.Passing [] (e ∷ es)) s →
     PassedFrom s e new → StandsFor t (Stage.Passing [] es) new
 passed-stands t e es s new lt h (x, passed, is) =
     subst (StandsFor t (Stage.Passing [] es)) (sym is)
     (passed-with t e es s lt h x (behind t e es s lt h passed.0 x passed.1) passed.2)
 
 -- some rounds were made
-pub partly_passed-stands : (t : Trace) (e : SideId) (es : List SideId) (s new : State) → e.link < s.plain.opened → StandsFor t (Stage.Passing [] (e ∷ es)) s →
+pub partly_passed-stands : (t : Trace) (e : SideId) (es : List SideId) (s new : State) → e.link < s.plain.opened →
+    StandsFor t (Stage.Passing [] (e ∷ es)) s →
     PartlyPassed s e new → StandsFor t (Stage.Passing [] (e ∷ es)) new
 partly_passed-stands t e es s new lt h (x, some, is) =
     subst (StandsFor t (Stage.Passing [] (e ∷ es))) (sym is)
@@ -183,21 +198,26 @@ module _ (t : Trace) (e : SideId) (ms : List Want) (s : State) (lt : e.link < s.
   abbrev new : Plain
   new = model.after_got s.settings (past s.settings t) e s.plain
 
-  run-is : (model_round.read_run g P e false s.plain ≡ plain_passed e y s.plain) × PassageFits g t (model_round.read_run g P e false s.plain) e y
+  run-is : (model_round.read_run g P e false s.plain ≡ plain_passed e y s.plain)
+      × PassageFits g t (model_round.read_run g P e false s.plain) e y
   run-is =
-      read_run-is g t s.plain e lt (sides-told g t stage s.plain h.reached e lt) (flows-told g t stage s.plain h.reached e lt) (h.accounts e)
+      read_run-is g t s.plain e lt (sides-told g t stage s.plain h.reached e lt) (flows-told g t stage s.plain h.reached e lt)
+      (h.accounts e)
       (ended-told g t stage s.plain h.reached e lt) to_live (passage_at s e) (passage-fits t stage s h e lt) from_live
 
   all-ran : (a : SideId) → a.link < s.plain.opened → LaneFits g t ran.plain a (lane_at ran a)
-  all-ran = all-fit t stage s h e lt y (read-rises (read_mark s.plain e) false (passage_at s e)) (subst (λ z. PassageFits g t z e y) run-is.0 run-is.1)
+  all-ran = all-fit t stage s h e lt y (read-rises (read_mark s.plain e) false (passage_at s e))
+      (subst (λ z. PassageFits g t z e y) run-is.0 run-is.1)
 
   ran_live : is_live ran.plain e ≡ true
-  ran_live = live-same g e y s.plain (near-inside g t stage s.plain h.reached e lt) (far-inside g t stage s.plain h.reached e lt) e ∙ from_live
+  ran_live = live-same g e y s.plain (near-inside g t stage s.plain h.reached e lt) (far-inside g t stage s.plain h.reached e lt) e
+      ∙ from_live
 
   -- the relay looks at the low mark as the model does
   raised-is : raise_read e (read_run e s) ≡ with_plain new (read_run e s)
   raised-is =
-      (λ i. if nat_le low (input-told g t ran.plain e (lane_at ran e) ran_live (all-ran e lt) i) then with_plain (raise g e why.Read ran.plain) ran else ran)
+      (λ i. if nat_le low (input-told g t ran.plain e (lane_at ran e) ran_live (all-ran e lt) i) then with_plain
+      (raise g e why.Read ran.plain) ran else ran)
       ∙ either (nat_le low (model_rooms.input_length g P ran.plain e)) (raise g e why.Read ran.plain)
       ∙ (λ i. with_plain (reasons.raise_read g P e (sym run-is.0 i)) ran)
     where
@@ -233,5 +253,6 @@ module _ (t : Trace) (e : SideId) (ms : List Want) (s : State) (lt : e.link < s.
 
 -- the read filter of a side ran over what was got, and the low mark was looked at
 pub filtering-stands : (t : Trace) (e : SideId) (ms : List Want) (s : State) → e.link < s.plain.opened → (side_at s.plain e).live ≡ true →
-    (side_at s.plain (peer e)).live ≡ true → StandsFor t (Stage.Filtering e ms) s → StandsFor t (Stage.Serving ms) (raise_read e (read_run e s))
+    (side_at s.plain (peer e)).live ≡ true → StandsFor t (Stage.Filtering e ms) s →
+    StandsFor t (Stage.Serving ms) (raise_read e (read_run e s))
 filtering-stands t e ms s lt from_live to_live h = filtering-there t e ms s lt from_live to_live h

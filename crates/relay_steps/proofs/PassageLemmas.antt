@@ -35,13 +35,19 @@ pub record PassageFits (g : Settings) (t : Trace) (p : Plain) (e : SideId) (x : 
 
 -- what the direction from a side carries
 abbrev pub CarriesAt : Settings → Trace → Plain → SideId → Passage → Type 0
-CarriesAt g t p e x = Carries (read_kind g e.side) (write_kind g (peer e).side) (bytes_read e t) (has_ended e t) (is_live p e) (is_live p (peer e)) x
+CarriesAt g t p e x = Carries (read_kind g e.side) (write_kind g (peer e).side) (bytes_read e t) (has_ended e t) (is_live p e)
+    (is_live p (peer e)) x
 
 pub fits-carries : (g : Settings) (t : Trace) (p : Plain) (e : SideId) (x : Passage) → PassageFits g t p e x → CarriesAt g t p e x
 fits-carries g t p e x k =
     subst (CarriesAt g t p e) (λ i. record { flow = k.flow i; lane = x.lane; from_bad = k.from_bad i; to_bad = k.to_bad i }) here
   where
-    here : CarriesAt g t p e (record { flow = flow_at p e; lane = x.lane; from_bad = (side_at p e).bad; to_bad = (side_at p (peer e)).bad })
+    here : CarriesAt g t p e (record {
+      flow = flow_at p e;
+      lane = x.lane;
+      from_bad = (side_at p e).bad;
+      to_bad = (side_at p (peer e)).bad;
+    })
     here = (let l = k.lane in record {
       holds = l.holds;
       read = l.read;
@@ -100,7 +106,8 @@ carries-fits g t p e x near_in far_in flow_in c = record {
 
 -- The parts
 
-module _ (g : Settings) (t : Trace) (p : Plain) (e : SideId) (lt : e.link < p.opened) (sides : length p.sides ≡ 2 * p.opened) (flows : length p.flows ≡ 2 * p.opened)
+module _ (g : Settings) (t : Trace) (p : Plain) (e : SideId) (lt : e.link < p.opened) (sides : length p.sides ≡ 2 * p.opened)
+    (flows : length p.flows ≡ 2 * p.opened)
     (accounted : DirectionAccounted g t p e) (told : (side_at p e).ended ≡ has_ended e t) (to_live : is_live p (peer e) ≡ true) where
   abbrev P : Past
   P = past g t
@@ -134,13 +141,16 @@ module _ (g : Settings) (t : Trace) (p : Plain) (e : SideId) (lt : e.link < p.op
     fits = subst (Fits r w bytes (has_ended e t)) k.flow accounted.fits
 
     -- what it carries, where these of the sides live
-    carries : (from : Bool) → is_live p e ≡ from → Carries (read_kind g e.side) (write_kind g (peer e).side) bytes (has_ended e t) from true x
+    carries : (from : Bool) → is_live p e ≡ from →
+        Carries (read_kind g e.side) (write_kind g (peer e).side) bytes (has_ended e t) from true x
     carries from h = subst (λ (b : Bool). Carries (read_kind g e.side) (write_kind g (peer e).side) bytes (has_ended e t) b true x) h
-        (subst (λ (b : Bool). Carries (read_kind g e.side) (write_kind g (peer e).side) bytes (has_ended e t) (is_live p e) b x) to_live (fits-carries g t p e x k))
+        (subst (λ (b : Bool). Carries (read_kind g e.side) (write_kind g (peer e).side) bytes (has_ended e t) (is_live p e) b x) to_live
+        (fits-carries g t p e x k))
 
     carried : (from : Bool) (y : Passage) → is_live p e ≡ from →
         Carries (read_kind g e.side) (write_kind g (peer e).side) bytes (has_ended e t) from true y → CarriesAt g t p e y
-    carried from y h c = subst (λ (b : Bool). Carries (read_kind g e.side) (write_kind g (peer e).side) bytes (has_ended e t) (is_live p e) b y) (sym to_live)
+    carried from y h c = subst
+        (λ (b : Bool). Carries (read_kind g e.side) (write_kind g (peer e).side) bytes (has_ended e t) (is_live p e) b y) (sym to_live)
         (subst (λ (b : Bool). Carries (read_kind g e.side) (write_kind g (peer e).side) bytes (has_ended e t) b true y) (sym h) c)
 
     -- what a step of the plain state is, and that the direction fits it
@@ -155,9 +165,11 @@ module _ (g : Settings) (t : Trace) (p : Plain) (e : SideId) (lt : e.link < p.op
         let c = carries (is_live p e) refl in
         both _ _
         ((λ i. put_flow e (with_held r w bytes hold (k.flow i)) p)
-        ∙ ap (λ f. put_flow e f p) (hold-flow (read_kind g e.side) (write_kind g (peer e).side) bytes (has_ended e t) (is_live p e) hold x c)
+        ∙ ap (λ f. put_flow e f p)
+        (hold-flow (read_kind g e.side) (write_kind g (peer e).side) bytes (has_ended e t) (is_live p e) hold x c)
         ∙ sym (passed-flow_alone e (hold_part hold x) p k.from_bad k.to_bad))
-        (carried (is_live p e) _ refl (hold-carries (read_kind g e.side) (write_kind g (peer e).side) bytes (has_ended e t) (is_live p e) hold x c))
+        (carried (is_live p e) _ refl
+        (hold-carries (read_kind g e.side) (write_kind g (peer e).side) bytes (has_ended e t) (is_live p e) hold x c))
 
     module _ (from_live : is_live p e ≡ true) where
       move-is : IsPassed (do_part g P e Part.Move p) (move_part x)
@@ -174,7 +186,8 @@ module _ (g : Settings) (t : Trace) (p : Plain) (e : SideId) (lt : e.link < p.op
         new = read_part (read_mark p e) over x
 
         as-read : ReadAs (read_kind g e.side) (write_kind g (peer e).side) bytes (has_ended e t) over over_ended true mark x new
-        as-read = reads-as (read_kind g e.side) (write_kind g (peer e).side) bytes (has_ended e t) over over_ended true mark x fits (carries true from_live)
+        as-read = reads-as (read_kind g e.side) (write_kind g (peer e).side) bytes (has_ended e t) over over_ended true mark x fits
+            (carries true from_live)
 
         abbrev used : Flow
         used = record (x.flow) { used = (read_part (read_mark p e) over x).flow.used }
@@ -183,13 +196,15 @@ module _ (g : Settings) (t : Trace) (p : Plain) (e : SideId) (lt : e.link < p.op
         run-is : read_run g P e over p ≡ change_side e (with_bad new.from_bad) (put_flow e used p)
         run-is =
             let a = as-read in
-            (λ i. (let ran = put_flow e (with_used r bytes mark (k.flow i)) p in meets e (read_place r bytes mark over (flow_at ran e)) ran))
+            (λ i. (let ran = put_flow e (with_used r bytes mark (k.flow i)) p in
+            meets e (read_place r bytes mark over (flow_at ran e)) ran))
             ∙ (λ i. (let ran = put_flow e (a.used i) p in meets e (read_place r bytes mark over (flow_at ran e)) ran))
             ∙ (let s : PlainSide = side_at p e in let f = flow-put p e used flow_in in
             λ i. put_side e (record s { bad = or_else (k.from_bad i) (read_place r bytes mark over (f i)) }) (put_flow e used p))
             ∙ (let s : PlainSide = side_at p e in λ i. put_side e (record s { bad = a.place i }) (put_flow e used p))
 
-        passed-read : (h : Flow) → h ≡ new.flow → put_flow e h (change_side e (with_bad new.from_bad) (put_flow e used p)) ≡ plain_passed e new p
+        passed-read : (h : Flow) → h ≡ new.flow → put_flow e h (change_side e (with_bad new.from_bad) (put_flow e used p))
+            ≡ plain_passed e new p
         passed-read h q =
             let s : PlainSide = with_bad new.from_bad (side_at p e) in
             ap (put_side e s) (put_flow-twice e used h p) ∙ (λ i. put_side e s (put_flow e (q i) p))
@@ -201,7 +216,8 @@ module _ (g : Settings) (t : Trace) (p : Plain) (e : SideId) (lt : e.link < p.op
             (let b = sym (or-false x.flow.read_done) in λ i. record used { read_done = b i })
             ∙ (λ i. with_read_done_by (sym o i)) ∙ as-read.done in
             both _ _
-            (run-is ∙ (let s : PlainSide = with_bad new.from_bad (side_at p e) in λ i. put_side e s (put_flow e (same i) p)) ∙ sym (passed-from e new p (k.to_bad ∙ sym as-read.to_bad)))
+            (run-is ∙ (let s : PlainSide = with_bad new.from_bad (side_at p e) in λ i. put_side e s (put_flow e (same i) p))
+            ∙ sym (passed-from e new p (k.to_bad ∙ sym as-read.to_bad)))
             (carried true _ from_live as-read.carries)
           where
             with_read_done_by : Bool → Flow
@@ -212,7 +228,8 @@ module _ (g : Settings) (t : Trace) (p : Plain) (e : SideId) (lt : e.link < p.op
             both _ _
             ((λ i. (let ran = read_run g P e (o i) p in put_flow e (with_read_done r bytes mark (o i) (flow_at ran e)) ran))
             ∙ (λ i. (let ran = run-is i in put_flow e (with_read_done r bytes mark over (flow_at ran e)) ran))
-            ∙ (let f = flow-put p e used flow_in in λ i. put_flow e (with_read_done r bytes mark over (f i)) (change_side e (with_bad new.from_bad) (put_flow e used p)))
+            ∙ (let f = flow-put p e used flow_in in
+            λ i. put_flow e (with_read_done r bytes mark over (f i)) (change_side e (with_bad new.from_bad) (put_flow e used p)))
             ∙ passed-read (with_read_done r bytes mark over used) as-read.done)
             (carried true _ from_live as-read.carries)
 
@@ -222,7 +239,8 @@ module _ (g : Settings) (t : Trace) (p : Plain) (e : SideId) (lt : e.link < p.op
 
       as-written : WrittenAs (read_kind g e.side) (write_kind g (peer e).side) bytes (has_ended e t) (is_live p e) hold may_end x wrote
       as-written =
-          writes-as (read_kind g e.side) (write_kind g (peer e).side) bytes (has_ended e t) (is_live p e) hold may_end x ends_live fits (carries (is_live p e) refl)
+          writes-as (read_kind g e.side) (write_kind g (peer e).side) bytes (has_ended e t) (is_live p e) hold may_end x ends_live fits
+          (carries (is_live p e) refl)
 
       abbrev turned : Flow
       turned = record (x.flow) { turned = (write_part (hold_mark g p (peer e)) may_end x).flow.turned }
@@ -231,10 +249,12 @@ module _ (g : Settings) (t : Trace) (p : Plain) (e : SideId) (lt : e.link < p.op
       write_run-is : write_run g P e may_end p ≡ change_side (peer e) (with_bad wrote.to_bad) (put_flow e turned p)
       write_run-is =
           let a = as-written in
-          (λ i. (let ran = put_flow e (with_turned r w bytes hold (k.flow i)) p in meets (peer e) (write_place r w bytes hold may_end (flow_at ran e)) ran))
+          (λ i. (let ran = put_flow e (with_turned r w bytes hold (k.flow i)) p in
+          meets (peer e) (write_place r w bytes hold may_end (flow_at ran e)) ran))
           ∙ (λ i. (let ran = put_flow e (a.used i) p in meets (peer e) (write_place r w bytes hold may_end (flow_at ran e)) ran))
           ∙ (let s : PlainSide = side_at p (peer e) in let f = flow-put p e turned flow_in in
-          λ i. put_side (peer e) (record s { bad = or_else (k.to_bad i) (write_place r w bytes hold may_end (f i)) }) (put_flow e turned p))
+          λ i. put_side (peer e) (record s { bad = or_else (k.to_bad i) (write_place r w bytes hold may_end (f i)) })
+          (put_flow e turned p))
           ∙ (let s : PlainSide = side_at p (peer e) in λ i. put_side (peer e) (record s { bad = a.place i }) (put_flow e turned p))
 
       passed-written : (h : Flow) → h ≡ wrote.flow → change_side (peer e) (with_bad wrote.to_bad) (put_flow e h p) ≡ plain_passed e wrote p
@@ -256,13 +276,15 @@ module _ (g : Settings) (t : Trace) (p : Plain) (e : SideId) (lt : e.link < p.op
         let s : PlainSide = with_bad (write_part hold true x).to_bad (side_at p (peer e)) in
         both _ _
         ((λ i. (let ran = write_run-is true live i in put_flow e (with_write_done r w bytes hold (flow_at ran e)) ran))
-        ∙ (let f = flow-put p e f0 flow_in in λ i. put_flow e (with_write_done r w bytes hold (f i)) (put_side (peer e) s (put_flow e f0 p)))
+        ∙ (let f = flow-put p e f0 flow_in in
+        λ i. put_flow e (with_write_done r w bytes hold (f i)) (put_side (peer e) s (put_flow e f0 p)))
         ∙ ap (put_side (peer e) s) (put_flow-twice e f0 (with_write_done r w bytes hold f0) p)
         ∙ passed-written true live (with_write_done r w bytes hold f0) a.done)
         (carried (is_live p e) _ refl a.carries)
 
     -- each part of a round
-    pub part-is : (part : Part) → NeedsLive p e part → IsPassed (do_part g (past g t) e part p) (pass_part (read_mark p e) (hold_mark g p (peer e)) (side_at p e).ended part x)
+    pub part-is : (part : Part) → NeedsLive p e part →
+        IsPassed (do_part g (past g t) e part p) (pass_part (read_mark p e) (hold_mark g p (peer e)) (side_at p e).ended part x)
     part-is Part.Hold h = hold-is
     part-is Part.Read h = read-is h (side_at p e).ended (λ o. sym told ∙ o) refl
     part-is Part.Move h = move-is h

@@ -29,14 +29,16 @@ abbrev pub in_counts : FilterKind → FilterKind → List ℕ → Bool → Bool 
 in_counts rk wk bytes from_live to_live x =
     let l = x.lane in record x { lane = record l { buffers = left (filter_of rk) (filter_of wk) bytes from_live to_live x.flow } }
 
-pub in_counts-same : (rk wk : FilterKind) (bytes : List ℕ) (ended from_live to_live : Bool) (x : Passage) → Carries rk wk bytes ended from_live to_live x →
+pub in_counts-same : (rk wk : FilterKind) (bytes : List ℕ) (ended from_live to_live : Bool) (x : Passage) →
+    Carries rk wk bytes ended from_live to_live x →
     in_counts rk wk bytes from_live to_live x ≡ x
 in_counts-same rk wk bytes ended from_live to_live x c =
     let b = sym c.holds.buffers in let l : Lane = x.lane in λ i. record x { lane = record l { buffers = b i } }
 
 -- The hold mark
 
-module _ (rk wk : FilterKind) (bytes : List ℕ) (ended from_live : Bool) (hold : ℕ) (x : Passage) (c : Carries rk wk bytes ended from_live true x) where
+module _ (rk wk : FilterKind) (bytes : List ℕ) (ended from_live : Bool) (hold : ℕ) (x : Passage)
+    (c : Carries rk wk bytes ended from_live true x) where
   abbrev r : Filter
   r = filter_of rk
 
@@ -137,10 +139,13 @@ module _ (rk wk : FilterKind) (bytes : List ℕ) (ended : Bool) where
             by_all : (b : Bool) → all_moved rf bytes f ≡ b → met wf (take f.moved mid) f.turned b true ≡ Some place → f.moved ≡ f.moved + n
             by_all true a e = eqb-true f.moved (length mid) (and_parts f.read_done (nat_eq f.moved (length mid)) a).1 ∙ sym all_now
             by_all false a e =
-                absurd (let k : None ≡ Some place = (λ i. if sym none_left i then wf.bad (take (f.turned + 1) (take f.moved mid)) else None) ∙ e in cc)
+                absurd (let k : None ≡ Some place =
+                (λ i. if sym none_left i then wf.bad (take (f.turned + 1) (take f.moved mid)) else None) ∙ e in cc)
 
         go : (o : Option ℕ) → x.lane.writer.stopped ≡ o → moved_by (f.moved + n)
-        go (Some place) e = subst moved_by (ends place (subst (λ o. MatchOption o ⊤ (λ p. met wf (take f.moved mid) f.turned (all_moved rf bytes f) true ≡ Some p)) e old.stopped)) old
+        go (Some place) e = subst moved_by
+            (ends place (subst (λ o. MatchOption o ⊤ (λ p. met wf (take f.moved mid) f.turned (all_moved rf bytes f) true
+            ≡ Some p)) e old.stopped)) old
         go None e = record {
           kind = old.kind;
           since = old.since;
@@ -149,7 +154,9 @@ module _ (rk wk : FilterKind) (bytes : List ℕ) (ended : Bool) where
           good = ap wf.bad (sym front) ∙ old.good;
           last = old.last ∙ ap (λ z. last_of (drop wf.since z)) front;
           finished = old.finished;
-          stopped = subst (λ o. MatchOption o ⊤ (λ p. met wf (take (f.moved + n) mid) f.turned (all_moved rf bytes (record f { moved = f.moved + n })) true ≡ Some p)) (sym e) tt;
+          stopped = subst (λ o. MatchOption o ⊤
+              (λ p. met wf (take (f.moved + n) mid) f.turned (all_moved rf bytes (record f { moved = f.moved + n })) true ≡ Some p))
+              (sym e) tt;
         }
 
     abbrev now : Flow
@@ -160,11 +167,16 @@ module _ (rk wk : FilterKind) (bytes : List ℕ) (ended : Bool) where
         let f = x.flow in
         let l = x.lane in
         let b = left (filter_of rk) (filter_of wk) bytes true true f in
-        record x { flow = record f { moved = f.moved + length b.input }; lane = record l { buffers = record b { input = []; output = b.input } } }
+        record x {
+          flow = record f { moved = f.moved + length b.input };
+          lane = record l { buffers = record b { input = []; output = b.input } };
+        }
 
     output-now : test ≡ true → output rf bytes now ≡ input rf bytes f
     output-now h =
-        let none : output rf bytes f ≡ [] = nil (output rf bytes f) (eqb-true (length (output rf bytes f)) 0 (and_parts (not f.held) (length (output rf bytes f) == 0) h).1) in
+        let none : output rf bytes f ≡ [] =
+        nil (output rf bytes f) (eqb-true (length (output rf bytes f)) 0
+        (and_parts (not f.held) (length (output rf bytes f) == 0) h).1) in
         output-moved rf wf bytes ended f fits n ∙ (λ i. none i ++ take n (input rf bytes f)) ∙ take_all n (input rf bytes f) (omega arith)
       where
         nil : (xs : List ℕ) → length xs ≡ 0 → xs ≡ []

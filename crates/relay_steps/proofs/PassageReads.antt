@@ -14,7 +14,8 @@ use Rattle.relay_state.specs.Passage.{Passage, read_part, read_by}
 use Rattle.relay_steps.proofs.PassageRuns.{Turned, turned, stands-later, or_else-some}
 use Rattle.relay_steps.proofs.PassageMoves.{Carries, in_counts, in_counts-same}
 
-module _ (rk wk : FilterKind) (bytes : List ℕ) (ended over : Bool) (over_ended : over ≡ true → ended ≡ true) (to_live : Bool) (mark : ℕ) where
+module _ (rk wk : FilterKind) (bytes : List ℕ) (ended over : Bool) (over_ended : over ≡ true → ended ≡ true) (to_live : Bool)
+    (mark : ℕ) where
   abbrev r : Filter
   r = filter_of rk
 
@@ -29,7 +30,8 @@ module _ (rk wk : FilterKind) (bytes : List ℕ) (ended over : Bool) (over_ended
     pub to_bad : new.to_bad ≡ x.to_bad
     pub carries : Carries rk wk bytes ended true to_live new
 
-  module _ (x : Passage) (fits : Fits (filter_of rk) (filter_of wk) bytes ended x.flow) (c : Carries rk wk bytes ended true to_live x) where
+  module _ (x : Passage) (fits : Fits (filter_of rk) (filter_of wk) bytes ended x.flow)
+      (c : Carries rk wk bytes ended true to_live x) where
     abbrev f : Flow
     f = x.flow
 
@@ -64,9 +66,11 @@ module _ (rk wk : FilterKind) (bytes : List ℕ) (ended over : Bool) (over_ended
         let same : middle r bytes now ≡ middle r bytes f = grown ∙ ap (λ z. middle r bytes f ++ z) q.0 ∙ append-nil (middle r bytes f) in
         (let a = q.1 in λ i. a i && nat_eq f.moved (length (same i))) ∙ k.1
 
-    writer_stands : to_live ≡ true → StandsAt wk w (take f.moved (middle r bytes now)) f.turned (all_moved r bytes now) f.write_done x.lane.writer
+    writer_stands : to_live ≡ true →
+        StandsAt wk w (take f.moved (middle r bytes now)) f.turned (all_moved r bytes now) f.write_done x.lane.writer
     writer_stands h =
-        stands-later wk w (take f.moved (middle r bytes now)) f.turned (all_moved r bytes f) (all_moved r bytes now) f.write_done x.lane.writer moved_still
+        stands-later wk w (take f.moved (middle r bytes now)) f.turned (all_moved r bytes f)
+        (all_moved r bytes now) f.write_done x.lane.writer moved_still
         (subst (λ z. StandsAt wk w z f.turned (all_moved r bytes f) f.write_done x.lane.writer) (sym moved_same) (c.holds.writes h))
 
     as-counts : ReadAs y (read_by s y)
@@ -82,13 +86,19 @@ module _ (rk wk : FilterKind) (bytes : List ℕ) (ended over : Bool) (over_ended
               let i1 = input-grown r w bytes bytes ended f fits (f.used + s.used) s.after.finished s.made grown in
               let o1 = output-grown r w bytes bytes ended f fits (f.used + s.used) s.after.finished s.made grown in
               let w1 = raw_output-grown r w bytes bytes ended f fits (f.used + s.used) s.after.finished s.made grown in
-              sym (λ i. record { raw_input = raw i; input = i1 i; output = if to_live then o1 i else []; raw_output = if to_live then w1 i else [] });
+              sym (λ i. record {
+                raw_input = raw i;
+                input = i1 i;
+                output = if to_live then o1 i else [];
+                raw_output = if to_live then w1 i else [];
+              });
           reads = λ _. step.stands;
           writes = writer_stands;
         };
         read = c.read;
         read_made = ap (λ n. n + length s.made) c.read_made ∙ sym (length-append (middle r bytes f) s.made) ∙ ap length (sym grown);
-        write_made = c.write_made ∙ ap length (sym (outcome-grown r w bytes bytes ended f fits (f.used + s.used) s.after.finished s.made grown));
+        write_made = c.write_made ∙ ap length
+            (sym (outcome-grown r w bytes bytes ended f fits (f.used + s.used) s.after.finished s.made grown));
         reader_marks = λ h. or_else-some x.from_bad s.after.stopped h;
         writer_marks = c.writer_marks;
       };

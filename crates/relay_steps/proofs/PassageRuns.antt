@@ -15,7 +15,8 @@ use Rattle.relay_model.proofs.FilterStepLemmas.{step_is_function}
 -- Places that are met, and the first of them in time
 
 -- a place that is met before the end is met at the end
-pub met-later : (f : Filter) (xs : List ℕ) (used : ℕ) (a b : Bool) (place : ℕ) → (a ≡ true → b ≡ true) → met f xs used a true ≡ Some place →
+pub met-later : (f : Filter) (xs : List ℕ) (used : ℕ) (a b : Bool) (place : ℕ) → (a ≡ true → b ≡ true) →
+    met f xs used a true ≡ Some place →
     met f xs used b true ≡ Some place
 met-later f xs used a b place h e = go (nat_lt used (length xs)) a b h e
   where
@@ -41,7 +42,8 @@ stands-later k f xs n a b done x h s = record {
   stopped = go x.stopped s.stopped;
 }
   where
-    go : (o : Option ℕ) → MatchOption o ⊤ (λ place. met f xs n a true ≡ Some place) → MatchOption o ⊤ (λ place. met f xs n b true ≡ Some place)
+    go : (o : Option ℕ) → MatchOption o ⊤ (λ place. met f xs n a true ≡ Some place) →
+        MatchOption o ⊤ (λ place. met f xs n b true ≡ Some place)
     go None m = tt
     go (Some place) m = met-later f xs n a b place h m
 
@@ -97,12 +99,15 @@ abbrev pub stops_at : Filter → List ℕ → ℕ → ℕ → Bool → ℕ → B
 stops_at f xs limit gone done n = nat_le limit (left_at f xs gone n done) || is_some (f.bad (take (n + 1) xs))
 
 -- What a step does to a filter that had used so many bytes, and then has used `reached`.
-pub record Turned (k : FilterKind) (xs : List ℕ) (limit gone from : ℕ) (ended over was : Bool) (x : Running) (reached : ℕ) (s : Stepped) : Type 0 where
+pub record Turned (k : FilterKind) (xs : List ℕ) (limit gone from : ℕ) (ended over was : Bool) (x : Running) (reached : ℕ)
+    (s : Stepped) : Type 0 where
   pub count : first_from (stops_at (filter_of k) xs limit gone was) from (length xs - from) ≡ reached
   pub within : reached ≤ length xs
   pub place : (marked : Option ℕ) → (is_some x.stopped ≡ true → is_some marked ≡ true) →
-      or_else marked (met (filter_of k) xs reached over (nat_lt (left_at (filter_of k) xs gone reached was) limit)) ≡ or_else marked s.after.stopped
-  pub done : (was || (over && (reached == length xs) && is_over (filter_of k) xs (nat_lt (left_at (filter_of k) xs gone reached was) limit))) ≡ s.after.finished
+      or_else marked (met (filter_of k) xs reached over (nat_lt (left_at (filter_of k) xs gone reached was) limit))
+      ≡ or_else marked s.after.stopped
+  pub done : (was || (over && (reached == length xs) && is_over (filter_of k) xs
+      (nat_lt (left_at (filter_of k) xs gone reached was) limit))) ≡ s.after.finished
   pub made : made_at (filter_of k) xs reached s.after.finished ≡ made_at (filter_of k) xs from was ++ s.made
   pub stands : StandsAt k (filter_of k) xs reached ended s.after.finished s.after
   pub rests : was ≡ true → (s.made ≡ []) × (s.after.finished ≡ true)
@@ -124,7 +129,8 @@ module _ (k : FilterKind) (xs : List ℕ) (limit gone : ℕ) (ended over : Bool)
   Done was = Turned k xs limit gone x.used ended over was x (x.used + (step was).used) (step was)
 
   -- a filter that does nothing more
-  idles : (was : Bool) → (x.finished || is_some x.stopped) ≡ true → Turned k xs limit gone x.used ended over was x x.used nothing → Done was
+  idles : (was : Bool) → (x.finished || is_some x.stopped) ≡ true → Turned k xs limit gone x.used ended over was x x.used nothing →
+      Done was
   idles was h t =
       subst (λ (z : Stepped). Turned k xs limit gone x.used ended over was x (x.used + z.used) z) (sym same)
       (subst (λ n. Turned k xs limit gone x.used ended over was x n nothing) (sym (plus_zero x.used)) t)
@@ -142,7 +148,8 @@ module _ (k : FilterKind) (xs : List ℕ) (limit gone : ℕ) (ended over : Bool)
   -- it is finished: all was used, at a good end
   finished-turned : StandsAt k f xs x.used ended true x → x.used ≡ length xs → f.bad_at_end xs ≡ None → Done true
   finished-turned stands all good = idles true (let a = stands.finished in λ i. a i || is_some x.stopped) (record {
-    count = (let q = all in let none : length xs - x.used ≡ 0 = omega (arith, q) in ap (first_from (stops_at f xs limit gone true) x.used) none);
+    count = (let q = all in let none : length xs - x.used ≡ 0 = omega (arith, q) in
+        ap (first_from (stops_at f xs limit gone true) x.used) none);
     within = let q = all in omega (arith, q);
     place = λ marked h. or_else-known marked x.stopped _ h meets_none;
     done = sym stands.finished;
@@ -162,7 +169,8 @@ module _ (k : FilterKind) (xs : List ℕ) (limit gone : ℕ) (ended over : Bool)
       meets_none : met f xs x.used over (nat_lt (left_at f xs gone x.used true) limit) ≡ None
       meets_none =
           let room : Bool = nat_lt (left_at f xs gone x.used true) limit in
-          (λ i. if room then (if none_left i then f.bad (take (x.used + 1) xs) else (if over then f.bad_at_end xs else None)) else None) ∙ by_flags room over
+          (λ i. if room then (if none_left i then f.bad (take (x.used + 1) xs) else (if over then f.bad_at_end xs else None)) else None)
+          ∙ by_flags room over
 
   -- it has stopped at a place that is met where it stands
   stopped-turned : StandsAt k f xs x.used ended false x → (place : ℕ) → x.stopped ≡ Some place → x.used ≤ length xs → Done false
@@ -182,10 +190,12 @@ module _ (k : FilterKind) (xs : List ℕ) (limit gone : ℕ) (ended over : Bool)
       next_bad : nat_lt x.used (length xs) ≡ true → f.bad (take (x.used + 1) xs) ≡ Some place
       next_bad h = (λ i. if sym h i then f.bad (take (x.used + 1) xs) else (if ended then f.bad_at_end xs else None)) ∙ is_met
 
-      by_left : (b : Bool) → nat_lt x.used (length xs) ≡ b → first_from (stops_at f xs limit gone false) x.used (length xs - x.used) ≡ x.used
+      by_left : (b : Bool) → nat_lt x.used (length xs) ≡ b → first_from (stops_at f xs limit gone false) x.used (length xs - x.used)
+          ≡ x.used
       by_left true h =
           first_from-here (stops_at f xs limit gone false) x.used (length xs - x.used)
-          ((let a = next_bad h in λ i. nat_le limit (left_at f xs gone x.used false) || is_some (a i)) ∙ or_true (nat_le limit (left_at f xs gone x.used false)))
+          ((let a = next_bad h in λ i. nat_le limit (left_at f xs gone x.used false) || is_some (a i))
+          ∙ or_true (nat_le limit (left_at f xs gone x.used false)))
         where
           or_true : (b : Bool) → (b || true) ≡ true
           or_true true = refl
@@ -210,11 +220,13 @@ module _ (k : FilterKind) (xs : List ℕ) (limit gone : ℕ) (ended over : Bool)
           λ i. o i && h i && (is_none (a i) && (not (holds f xs) || nat_lt (left_at f xs gone x.used false) limit))
 
   -- it goes on
-  going-turned : StandsAt k f xs x.used ended false x → x.stopped ≡ None → x.used ≤ length xs → gone ≤ length (f.before (take x.used xs)) → Done false
+  going-turned : StandsAt k f xs x.used ended false x → x.stopped ≡ None → x.used ≤ length xs →
+      gone ≤ length (f.before (take x.used xs)) → Done false
   going-turned stands unstopped there within = record {
     count = (λ i. first_from (stops i) x.used (length xs - x.used)) ∙ is.used;
     within = is.within;
-    place = λ marked h. ap (or_else marked) (sym (is.stopped ∙ (λ i. met f xs u over (nat_lt (plus_zero (left_at f xs gone u false) i) limit))));
+    place = λ marked h. ap (or_else marked)
+        (sym (is.stopped ∙ (λ i. met f xs u over (nat_lt (plus_zero (left_at f xs gone u false) i) limit))));
     done = sym (is.finished ∙ (λ i. over && (u == length xs) && is_over f xs (nat_lt (plus_zero (left_at f xs gone u false) i) limit)));
     made = sym (is.made ∙ ap (λ n. made_at f xs n s.after.finished) is.stands.used);
     stands =
@@ -246,7 +258,8 @@ module _ (k : FilterKind) (xs : List ℕ) (limit gone : ℕ) (ended over : Bool)
 
       is : IsStep f xs limit 0 gone over x (step false)
       is =
-          subst (λ n. IsStep f xs limit 0 gone over x (stepped x over limit n (drop x.used xs))) (plus_zero (left_at f xs gone x.used false))
+          subst (λ n. IsStep f xs limit 0 gone over x (stepped x over limit n (drop x.used xs)))
+          (plus_zero (left_at f xs gone x.used false))
           (step_is_function k xs limit 0 gone over x sooner unstopped there within)
 
   -- each of these
@@ -261,7 +274,8 @@ module _ (k : FilterKind) (xs : List ℕ) (limit gone : ℕ) (ended over : Bool)
 
   abbrev At : Bool → ℕ → Type 0
   At was n =
-      StandsAt k f xs n ended was x → n ≤ length xs → (was ≡ true → (n ≡ length xs) × (f.bad_at_end xs ≡ None)) → gone ≤ length (made_at f xs n was) →
+      StandsAt k f xs n ended was x → n ≤ length xs → (was ≡ true → (n ≡ length xs) × (f.bad_at_end xs ≡ None)) →
+      gone ≤ length (made_at f xs n was) →
       (let s = stepped x over limit (left_at f xs gone n was) (drop n xs) in Turned k xs limit gone n ended over was x (n + s.used) s)
 
   -- in the words of the count at which it stands

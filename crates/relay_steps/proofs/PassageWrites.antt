@@ -30,7 +30,8 @@ module _ (rk wk : FilterKind) (bytes : List ℕ) (ended from_live : Bool) (hold 
   -- what the step changes in the model's words, and what it keeps
   pub record WrittenAs (x new : Passage) : Type 0 where
     pub used : with_turned (filter_of rk) (filter_of wk) bytes hold x.flow ≡ record (x.flow) { turned = new.flow.turned }
-    pub place : or_else x.to_bad (write_place (filter_of rk) (filter_of wk) bytes hold may_end (record (x.flow) { turned = new.flow.turned })) ≡ new.to_bad
+    pub place : or_else x.to_bad
+        (write_place (filter_of rk) (filter_of wk) bytes hold may_end (record (x.flow) { turned = new.flow.turned })) ≡ new.to_bad
     pub done : ended_by may_end (record (x.flow) { turned = new.flow.turned }) ≡ new.flow
     pub from_bad : new.from_bad ≡ x.from_bad
     pub carries : Carries rk wk bytes ended from_live true new
@@ -80,15 +81,18 @@ module _ (rk wk : FilterKind) (bytes : List ℕ) (ended from_live : Bool) (hold 
     step : Turned wk xs hold f.given f.turned (all_moved r bytes f) over f.write_done x.lane.writer (f.turned + s.used) s
     step =
         let a = room_is in
-        subst (λ n. (let z = stepped x.lane.writer over hold n (output r bytes f) in Turned wk xs hold f.given f.turned (all_moved r bytes f) over f.write_done x.lane.writer (f.turned + z.used) z)) a
-        (turned wk xs hold f.given (all_moved r bytes f) over (λ h. (and_parts may_end (all_moved r bytes f) h).1) x.lane.writer f.write_done f.turned
+        subst (λ n. (let z = stepped x.lane.writer over hold n (output r bytes f) in
+        Turned wk xs hold f.given f.turned (all_moved r bytes f) over f.write_done x.lane.writer (f.turned + z.used) z)) a
+        (turned wk xs hold f.given (all_moved r bytes f) over
+        (λ h. (and_parts may_end (all_moved r bytes f) h).1) x.lane.writer f.write_done f.turned
         (c.holds.writes refl) (let q = long in let t = fits.turned in omega (arith, q, t)) at_end
         (subst (λ z. f.given ≤ length z) (sym (makes f.turned f.write_done fits.turned)) fits.given))
 
     abbrev u : ℕ
     u =
         let f = x.flow in
-        f.turned + (stepped x.lane.writer (may_end && all_moved (filter_of rk) bytes f) hold (length (raw_output (filter_of rk) (filter_of wk) bytes f)) (output (filter_of rk) bytes f)).used
+        f.turned + (stepped x.lane.writer (may_end && all_moved (filter_of rk) bytes f) hold
+        (length (raw_output (filter_of rk) (filter_of wk) bytes f)) (output (filter_of rk) bytes f)).used
 
     in_moved : u ≤ f.moved
     in_moved = let a = step.within in let q = long in omega (arith, a, q)
@@ -96,7 +100,8 @@ module _ (rk wk : FilterKind) (bytes : List ℕ) (ended from_live : Bool) (hold 
     abbrev now : Flow
     now =
         let f = x.flow in
-        let s = stepped x.lane.writer (may_end && all_moved (filter_of rk) bytes f) hold (length (raw_output (filter_of rk) (filter_of wk) bytes f)) (output (filter_of rk) bytes f) in
+        let s = stepped x.lane.writer (may_end && all_moved (filter_of rk) bytes f) hold
+        (length (raw_output (filter_of rk) (filter_of wk) bytes f)) (output (filter_of rk) bytes f) in
         record f { turned = f.turned + s.used; write_done = s.after.finished }
 
     grown : outcome r w bytes now ≡ outcome r w bytes f ++ s.made
@@ -130,10 +135,12 @@ module _ (rk wk : FilterKind) (bytes : List ℕ) (ended from_live : Bool) (hold 
 
       -- the flag of the model: with all moved, what was moved is all
       flag_is : may_end ≡ true →
-          (f.write_done || (all_moved r bytes f && u == f.moved && is_over w mid (nat_lt (length (raw_output r w bytes (record f { turned = u }))) hold))) ≡ s.after.finished
+          (f.write_done || (all_moved r bytes f && u ==
+          f.moved && is_over w mid (nat_lt (length (raw_output r w bytes (record f { turned = u }))) hold))) ≡ s.after.finished
       flag_is may =
           go (all_moved r bytes f) refl
-          ∙ (let a = sym may in let b = sym left_is in let q = sym long in λ i. f.write_done || ((a i && all_moved r bytes f) && u == q i && is_over w xs (nat_lt (b i) hold)))
+          ∙ (let a = sym may in let b = sym left_is in let q = sym long in
+          λ i. f.write_done || ((a i && all_moved r bytes f) && u == q i && is_over w xs (nat_lt (b i) hold)))
           ∙ step.done
         where
           room : Bool
@@ -141,7 +148,8 @@ module _ (rk wk : FilterKind) (bytes : List ℕ) (ended from_live : Bool) (hold 
 
           go : (b : Bool) → all_moved r bytes f ≡ b → (f.write_done || (all_moved r bytes f && u == f.moved && is_over w mid room))
               ≡ (f.write_done || ((true && all_moved r bytes f) && u == f.moved && is_over w xs room))
-          go false h = (λ i. f.write_done || (h i && u == f.moved && is_over w mid room)) ∙ (λ i. f.write_done || ((true && sym h i) && u == f.moved && is_over w xs room))
+          go false h = (λ i. f.write_done || (h i && u == f.moved && is_over w mid room))
+              ∙ (λ i. f.write_done || ((true && sym h i) && u == f.moved && is_over w xs room))
           go true h =
               let all = eqb-true f.moved (length mid) (and_parts f.read_done (nat_eq f.moved (length mid)) h).1 in
               let a = sym (whole all) in
@@ -149,11 +157,20 @@ module _ (rk wk : FilterKind) (bytes : List ℕ) (ended from_live : Bool) (hold 
 
       done_is : (b : Bool) → may_end ≡ b → ended_by b (record f { turned = u }) ≡ now
       done_is true h =
-          (let a = open_now in λ i. if a i then record f { turned = u } else record f { turned = u; write_done = f.write_done || (all_moved r bytes f && u == f.moved && is_over w mid (nat_lt (length (raw_output r w bytes (record f { turned = u }))) hold)) })
+          (let a = open_now in λ i. if a i then record f { turned = u }
+          else record f {
+            turned = u;
+            write_done =
+                f.write_done || (all_moved r bytes f && u ==
+                f.moved && is_over w mid (nat_lt (length (raw_output r w bytes (record f { turned = u }))) hold));
+          })
           ∙ (let a = flag_is h in λ i. record f { turned = u; write_done = a i })
       done_is false h =
           let a : f.write_done ≡ s.after.finished =
-          sym (or-false f.write_done) ∙ (let b = sym h in λ i. f.write_done || ((b i && all_moved r bytes f) && (u == length xs) && is_over w xs (nat_lt (left_at w xs f.given u f.write_done) hold))) ∙ step.done in
+          sym (or-false f.write_done)
+          ∙ (let b = sym h in λ i. f.write_done ||
+          ((b i && all_moved r bytes f) && (u == length xs) && is_over w xs
+          (nat_lt (left_at w xs f.given u f.write_done) hold))) ∙ step.done in
           λ i. record f { turned = u; write_done = a i }
 
       as-counts : WrittenAs y (written_by s y)
@@ -167,7 +184,12 @@ module _ (rk wk : FilterKind) (bytes : List ℕ) (ended from_live : Bool) (hold 
             buffers =
                 let o1 = output-turned r bytes f s.used in
                 let w1 = raw_output-turned r w bytes ended f fits u s.after.finished s.made grown in
-                sym (λ i. record { raw_input = if from_live then raw_input bytes f else []; input = if from_live then input r bytes f else []; output = o1 i; raw_output = w1 i });
+                sym (λ i. record {
+                  raw_input = if from_live then raw_input bytes f else [];
+                  input = if from_live then input r bytes f else [];
+                  output = o1 i;
+                  raw_output = w1 i;
+                });
             reads = c.holds.reads;
             writes = λ _. step.stands;
           };
@@ -192,23 +214,33 @@ module _ (rk wk : FilterKind) (bytes : List ℕ) (ended from_live : Bool) (hold 
       goes =
           let a = sym open_now in
           let b = sym (over_is may_end refl) in
-          subst (λ q. WrittenAs y (if q then y else written_by (stepped x.lane.writer (may_end && has_moved_all y) hold (length (raw_output r w bytes f)) (output r bytes f)) y)) a
-          (subst (λ q. WrittenAs y (written_by (stepped x.lane.writer q hold (length (raw_output r w bytes f)) (output r bytes f)) y)) b as-counts)
+          subst (λ q. WrittenAs y (if q then y else written_by
+          (stepped x.lane.writer (may_end && has_moved_all y) hold (length (raw_output r w bytes f)) (output r bytes f)) y)) a
+          (subst (λ q. WrittenAs y (written_by
+          (stepped x.lane.writer q hold (length (raw_output r w bytes f)) (output r bytes f)) y)) b as-counts)
 
     -- a held direction stays as it is
     rests : f.held ≡ true → WrittenAs y (write_part hold may_end y)
     rests h =
-        subst (λ q. WrittenAs y (if q then y else written_by (stepped x.lane.writer (may_end && has_moved_all y) hold (length (raw_output r w bytes f)) (output r bytes f)) y)) (sym h) (record {
+        subst (λ q. WrittenAs y (if q then y else written_by
+        (stepped x.lane.writer (may_end && has_moved_all y) hold (length (raw_output r w bytes f)) (output r bytes f)) y)) (sym h)
+        (record {
           used = (λ i. if h i then f else record f { turned = first_from (write_stops r w bytes hold f) f.turned (f.moved - f.turned) });
           place =
-              (λ i. or_else x.to_bad (if h i then None else met w xs f.turned over (nat_lt (length (raw_output r w bytes f)) hold))) ∙ or_else-none x.to_bad;
+              (λ i. or_else x.to_bad (if h i then None else met w xs f.turned over (nat_lt (length (raw_output r w bytes f)) hold)))
+              ∙ or_else-none x.to_bad;
           done = by_may may_end;
           from_bad = refl;
           carries = subst (Carries rk wk bytes ended from_live true) (sym (in_counts-same rk wk bytes ended from_live true x c)) c;
         })
       where
         by_may : (b : Bool) → ended_by b f ≡ f
-        by_may true = λ i. if h i then f else record f { write_done = f.write_done || (all_moved r bytes f && f.turned == f.moved && is_over w mid (nat_lt (length (raw_output r w bytes f)) hold)) }
+        by_may true = λ i. if h i then f
+            else record f {
+              write_done =
+                  f.write_done || (all_moved r bytes f && f.turned ==
+                  f.moved && is_over w mid (nat_lt (length (raw_output r w bytes f)) hold));
+            }
         by_may false = refl
 
     by_held : (b : Bool) → f.held ≡ b → WrittenAs y (write_part hold may_end y)
@@ -217,4 +249,5 @@ module _ (rk wk : FilterKind) (bytes : List ℕ) (ended from_live : Bool) (hold 
 
     -- the write filter's part of a round
     pub writes-as : WrittenAs x (write_part hold may_end x)
-    writes-as = subst (λ z. WrittenAs z (write_part hold may_end z)) (in_counts-same rk wk bytes ended from_live true x c) (by_held f.held refl)
+    writes-as = subst (λ z. WrittenAs z (write_part hold may_end z)) (in_counts-same rk wk bytes ended from_live true x c)
+        (by_held f.held refl)

@@ -30,7 +30,8 @@ module _ (e : SideId) (x : Passage) (p : Plain) where
 
   pub passed-far : number (peer e) < length p.sides → side_at (plain_passed e x p) (peer e) ≡ with_bad x.to_bad (side_at p (peer e))
   passed-far inside =
-      side-put near (peer e) (with_bad x.to_bad (side_at near (peer e))) (subst (λ n. number (peer e) < n) (sym (length-set p.sides (number e) _)) inside)
+      side-put near (peer e) (with_bad x.to_bad (side_at near (peer e)))
+      (subst (λ n. number (peer e) < n) (sym (length-set p.sides (number e) _)) inside)
       ∙ ap (with_bad x.to_bad) (side-put_other (put_flow e x.flow p) e (peer e) _ (peer-apart e))
 
   pub passed-near : number e < length p.sides → side_at (plain_passed e x p) e ≡ with_bad x.from_bad (side_at p e)
@@ -51,14 +52,16 @@ module _ (e : SideId) (x : Passage) (p : Plain) where
   pub passed-from : (side_at p (peer e)).bad ≡ x.to_bad → plain_passed e x p ≡ change_side e (with_bad x.from_bad) (put_flow e x.flow p)
   passed-from k =
       bad-same (peer e) x.to_bad near
-      (ap (λ (z : PlainSide). z.bad) (side-put_other (put_flow e x.flow p) e (peer e) (with_bad x.from_bad (side_at p e)) (peer-apart e)) ∙ k)
+      (ap (λ (z : PlainSide). z.bad)
+      (side-put_other (put_flow e x.flow p) e (peer e) (with_bad x.from_bad (side_at p e)) (peer-apart e)) ∙ k)
 
   -- where the mark of the side stays at which it begins
   pub passed-to : (side_at p e).bad ≡ x.from_bad → plain_passed e x p ≡ change_side (peer e) (with_bad x.to_bad) (put_flow e x.flow p)
   passed-to h = ap (change_side (peer e) (with_bad x.to_bad)) (bad-same e x.from_bad (put_flow e x.flow p) h)
 
 -- where all that was passed is there already
-pub passed-none : (e : SideId) (x : Passage) (p : Plain) → flow_at p e ≡ x.flow → (side_at p e).bad ≡ x.from_bad → (side_at p (peer e)).bad ≡ x.to_bad →
+pub passed-none : (e : SideId) (x : Passage) (p : Plain) → flow_at p e ≡ x.flow → (side_at p e).bad ≡ x.from_bad →
+    (side_at p (peer e)).bad ≡ x.to_bad →
     plain_passed e x p ≡ p
 passed-none e x p f h k = passed-flow_alone e x p h k ∙ (λ i. put_flow e (sym f i) p) ∙ put_flow-same e p
 
@@ -95,17 +98,20 @@ passed-twice e x y p near_in far_in =
     own_far : side_at (put_side e b2 (put_flow e y.flow p)) (peer e) ≡ side_at p (peer e)
     own_far = side-put_other (put_flow e y.flow p) e (peer e) b2 (peer-apart e)
 
-    seen_far : side_at (put_side e (with_bad y.from_bad (side_at (plain_passed e x p) e)) (put_flow e y.flow (plain_passed e x p))) (peer e)
+    seen_far : side_at (put_side e (with_bad y.from_bad (side_at (plain_passed e x p) e)) (put_flow e y.flow (plain_passed e x p)))
+        (peer e)
         ≡ with_bad x.to_bad (side_at p (peer e))
     seen_far =
-        side-put_other (put_flow e y.flow (plain_passed e x p)) e (peer e) (with_bad y.from_bad (side_at (plain_passed e x p) e)) (peer-apart e)
+        side-put_other (put_flow e y.flow (plain_passed e x p)) e (peer e) (with_bad y.from_bad (side_at (plain_passed e x p) e))
+        (peer-apart e)
         ∙ passed-far e x p far_in
 
     sides : set (set (set (set p.sides (number e) a1) (number (peer e)) b1) (number e) b2) (number (peer e)) c2
         ≡ set (set p.sides (number e) b2) (number (peer e)) c2
     sides =
         ap (λ z. set z (number (peer e)) c2)
-        (sym (set_comm (set p.sides (number e) a1) (number e) (number (peer e)) b2 b1 apart) ∙ ap (λ z. set z (number (peer e)) b1) (set-set p.sides (number e) a1 b2))
+        (sym (set_comm (set p.sides (number e) a1) (number e) (number (peer e)) b2 b1 apart)
+        ∙ ap (λ z. set z (number (peer e)) b1) (set-set p.sides (number e) a1 b2))
         ∙ set-set (set p.sides (number e) b2) (number (peer e)) b1 c2
 
 -- A round looks at the same before and after
@@ -117,7 +123,8 @@ part_of g p e = pass_part (read_mark p e) (hold_mark g p (peer e)) (side_at p e)
 abbrev pub round_of : Settings → Plain → SideId → Passage → Passage
 round_of g p e = pass_round (read_mark p e) (hold_mark g p (peer e)) (side_at p e).ended (is_live p e) (is_live p (peer e))
 
-module _ (g : Settings) (e : SideId) (x : Passage) (p : Plain) (near_in : number e < length p.sides) (far_in : number (peer e) < length p.sides) where
+module _ (g : Settings) (e : SideId) (x : Passage) (p : Plain) (near_in : number e < length p.sides)
+    (far_in : number (peer e) < length p.sides) where
   pub part-same : part_of g (plain_passed e x p) e ≡ part_of g p e
   part-same =
       let a = passed-near e x p near_in in
@@ -128,7 +135,8 @@ module _ (g : Settings) (e : SideId) (x : Passage) (p : Plain) (near_in : number
   round-same =
       let a = passed-near e x p near_in in
       let b = passed-far e x p far_in in
-      λ i. pass_round (mark_or (a i).marks.read_high most_at_once) (mark_or (b i).marks.write_high g.hold) (a i).ended (a i).live (b i).live
+      λ i. pass_round (mark_or (a i).marks.read_high most_at_once) (mark_or (b i).marks.write_high g.hold) (a i).ended (a i).live
+      (b i).live
 
   -- who lives stays
   pub live-same : (a : SideId) → is_live (plain_passed e x p) a ≡ is_live p a
@@ -139,7 +147,8 @@ module _ (g : Settings) (e : SideId) (x : Passage) (p : Plain) (near_in : number
       (λ h k. ap (λ (z : PlainSide). z.live) (passed-other e x p a h k))
 
   -- where the marks of its two sides stay or rise, those of all sides do
-  pub marks-rise : (is_some (side_at p e).bad ≡ true → is_some x.from_bad ≡ true) → (is_some (side_at p (peer e)).bad ≡ true → is_some x.to_bad ≡ true) →
+  pub marks-rise : (is_some (side_at p e).bad ≡ true → is_some x.from_bad ≡ true) →
+      (is_some (side_at p (peer e)).bad ≡ true → is_some x.to_bad ≡ true) →
       (a : SideId) → is_some (side_at p a).bad ≡ true → is_some (side_at (plain_passed e x p) a).bad ≡ true
   marks-rise own far a =
       by_side e a (λ z. is_some (side_at p z).bad ≡ true → is_some (side_at (plain_passed e x p) z).bad ≡ true)
