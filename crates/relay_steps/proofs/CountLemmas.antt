@@ -1,5 +1,5 @@
 -- Where a relay stands for a trace, no count passes four times what was read at one end, and three.
-use Rattle.std.proofs.Common.{◌≡◌, ℕ, zero, suc, ◌+◌, ◌*◌, ◌^◌, ◌<◌, ◌≤◌, Bool, true, false, ◌||◌, nat_le, List, [], ◌∷◌, length, get_or, refl, sym, ◌∙◌, ap, subst, arith}
+use Rattle.std.proofs.Common.{◌≡◌, ℕ, zero, suc, ◌+◌, ◌*◌, ◌^◌, ◌<◌, ◌≤◌, Bool, false, ◌||◌, nat_le, List, [], ◌∷◌, length, get_or, refl, subst, arith}
 use Rattle.std.specs.List.{list_any}
 use Rattle.std.proofs.lemmas.Bool.{lt-leb}
 use Rattle.ev_types.specs.declared.side.Side.TheVariants.{In, Out}
@@ -13,8 +13,8 @@ use Rattle.relay_model.specs.Rooms.{read_kind, write_kind, read_filter, write_fi
 use Rattle.relay_model.specs.Stages.{Stage}
 use Rattle.relay_model.specs.Told.{CountsTold}
 use Rattle.relay_model.proofs.QuietLemmas.{state_is_told}
-use Rattle.relay_state.specs.State.{State, Lane, no_lane, lane_at}
-use Rattle.relay_state.specs.Counting.{spent, has_flown_far, has_read_far, is_spent}
+use Rattle.relay_state.specs.State.{State, no_lane, lane_at}
+use Rattle.relay_state.specs.Counting.{has_flown_far, has_read_far, is_spent}
 use Rattle.relay_steps.specs.Meaning.{LaneFits, StandsFor}
 use Rattle.relay_steps.proofs.SizeLemmas.{middle-most, outcome-most}
 

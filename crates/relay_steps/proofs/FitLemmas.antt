@@ -1,6 +1,6 @@
 -- A lane that fits goes on fitting where nothing that it looks at changed.
-use Rattle.std.proofs.Common.{◌≡◌, ◌≢◌, ℕ, ◌*◌, ◌<◌, Bool, true, List, length, get_or, set, slice_index_or, slice_set, refl, sym, ◌∙◌, ap, subst, arith}
-use Rattle.std.specs.Prelude.{Option, is_some}
+use Rattle.std.proofs.Common.{◌≡◌, ◌≢◌, ℕ, ◌<◌, Bool, true, List, length, sym, subst}
+use Rattle.std.specs.Prelude.{is_some}
 use Rattle.std.proofs.lemmas.List.{get_or-set_same, get_or-set_other, set-get_or}
 use Rattle.ev_types.specs.declared.side.SideId.{SideId}
 use Rattle.ev_types.specs.Sides.{number, peer}
@@ -13,7 +13,7 @@ use Rattle.relay_model.specs.Plain.{Plain, PlainSide, side_at, flow_at, put_side
 use Rattle.relay_model.specs.Rooms.{read_kind, write_kind, read_filter, write_filter}
 use Rattle.relay_state.specs.State.{State, Lane, lane_at, with_lane}
 use Rattle.relay_steps.specs.Meaning.{LaneFits}
-use Rattle.relay_steps.proofs.EndLemmas.{SameTold, number-apart}
+use Rattle.relay_steps.proofs.EndLemmas.{number-apart}
 
 -- All that a lane looks at: what was read, whether that has ended, who lives, how far the direction has come, and which sides are marked.
 pub record Sight : Type 0 where
