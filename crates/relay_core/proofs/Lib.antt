@@ -1,2 +1,5 @@
-pub mod RelayLemmas
+pub mod StepLemmas
 pub mod RoundLemmas
+pub mod PassageLemmas
+pub mod RelayLemmas
+pub mod TimeLemmas

@@ -1,14 +1,30 @@
--- One side of the relay, seen and replaced.
-use Rattle.std.proofs.Common.{◌≡◌, ℕ, Bool, Result, Ok, Err, MatchResult, ◌*◌, ◌<◌, ◌≤◌, length, map, get_or, slice_index_or, slice_set, sym, ◌∙◌, ap, subst, arith}
-use Rattle.std.proofs.lemmas.List.{get_or-map, map-set, set-get_or, get_or-set_same, length-map}
+-- The relay's state with one side replaced, and what is so of each side: no marks, timeouts or bad places, so that nothing is timed and
+-- no reason becomes due.
+use Rattle.std.proofs.Common.{◌≡◌, ℕ, zero, suc, Bool, true, false, Result, Ok, Err, MatchResult, ◌*◌, ◌<◌, ◌≤◌, ◌&&◌, nat_le, if◌then◌else◌, List, [], ◌∷◌, length, map, get_or, slice_index_or, slice_set, None, refl, sym, ◌∙◌, ap, subst, arith}
+use Rattle.std.proofs.lemmas.List.{get_or-map, map-set, set-get_or, set-set, get_or-set_same, length-map}
+use Rattle.token_bucket.specs.declared.limit.Dir.TheVariants as dir
 use Rattle.ev_types.specs.declared.side.Side.{Side}
 use Rattle.ev_types.specs.declared.side.Side.TheVariants.{In, Out}
 use Rattle.ev_types.specs.declared.side.SideId.{SideId}
+use Rattle.ev_types.specs.declared.why.Why.{Why}
+use Rattle.ev_types.specs.declared.why.Why.TheVariants as why
 use Rattle.ev_types.specs.Sides.{half, number, peer}
-use Rattle.relay_core.specs.State.{State, Lane, SideValue, RelayValue, no_side, side_at, flags_at, lane_at, with_side, with_lane, spare_read}
-use Rattle.relay_core.specs.Passing.{round, Passed, SomeRounds, round_from, PassedFrom, PartlyPassed}
-use Rattle.relay_core.specs.SideView.{side_value, lane_of, spare_of}
-use Rattle.relay_core.specs.RelayView.{relay_of, IsPaired}
+use Rattle.relay_model.specs.Settings.{Settings, no_marks}
+use Rattle.relay_model.specs.Due.{with_reason}
+use Rattle.relay_model.specs.Flow.{Flow, no_flow}
+use Rattle.relay_model.specs.Plain as plain
+use Rattle.relay_model.specs.Plain.{Plain, PlainSide, no_side, side_at, flow_at, put_side, put_flow, change_side, change_flow, is_live}
+use Rattle.relay_model.specs.Reasons.{has_hook, raise}
+use Rattle.relay_model.specs.Rooms.{mark_or, read_mark}
+use Rattle.relay_model.specs.Moments.{active_at}
+use Rattle.relay_state.specs.State.{State, Lane, no_lane, lane_at, with_plain, with_lane, lane_got, lane_left}
+use Rattle.relay_state.specs.Passage.{Passage, read_part, pass_round, Passed, SomeRounds}
+use Rattle.relay_state.specs.Passing.{passage_at, with_bad, with_passage, round_from, PassedFrom, PartlyPassed}
+use Rattle.relay_state.specs.Rooms.{input_length, output_length}
+use Rattle.relay_state.specs.Serving.{raise_read, raise_write, with_got, after_got}
+use Rattle.relay_core.specs.RelayValue.{RelayValue, spare_read}
+use Rattle.relay_core.specs.SideView.{plain_side, flow_of_side, lane_of, passage_of, spare_of}
+use Rattle.relay_core.specs.RelayView.{state_with, relay_of, IsPaired}
 use Rattle.relay_core.specs.declared.relay.Relay.TheInside.{Inside}
 use Rattle.relay_core.specs.declared.side.SideState.{SideState}
 
@@ -20,48 +36,221 @@ half-le Out = omega arith
 pub number-lt : (e : SideId) (n : ℕ) → e.link < n → number e < 2 * n
 number-lt e n h = omega (arith, half-le e.side)
 
--- what stood at a side is put there again
-pub with_side-same : (s : State) (e : SideId) → with_side s e (side_at s e) ≡ s
-with_side-same s e = let p = set-get_or s.sides (number e) no_side in λ i. record s { sides = p i }
+-- what is so of each side
 
--- the state of a relay in which this side was put at a place
-abbrev pub state_with : Inside → ℕ → SideState → State
-state_with r i y = record { settings = r.settings; time = r.time; opened = r.opened; sides = map side_value (slice_set r.sides.items i y) }
+module _ {A : Type 0} (f : PlainSide → A) (a : A) where
+  -- of each side of the relay and of none
+  pub all_seen : ((x : SideState) → f (plain_side x) ≡ a) → f no_side ≡ a → (xs : List SideState) (n : ℕ) →
+      f (slice_index_or (map plain_side xs) n no_side) ≡ a
+  all_seen h none [] zero = none
+  all_seen h none [] (suc n) = none
+  all_seen h none (x ∷ xs) zero = h x
+  all_seen h none (x ∷ xs) (suc n) = all_seen h none xs n
+
+  -- and also once one is replaced
+  all_set : (xs : List PlainSide) (n : ℕ) (y : PlainSide) → f y ≡ a → ((k : ℕ) → f (slice_index_or xs k no_side) ≡ a) → (k : ℕ) →
+      f (slice_index_or (slice_set xs n y) k no_side) ≡ a
+  all_set [] zero y e h k = h k
+  all_set [] (suc n) y e h k = h k
+  all_set (x ∷ xs) zero y e h zero = e
+  all_set (x ∷ xs) zero y e h (suc k) = h (suc k)
+  all_set (x ∷ xs) (suc n) y e h zero = h zero
+  all_set (x ∷ xs) (suc n) y e h (suc k) = all_set xs n y e (λ j. h (suc j)) k
+
+-- no side has marks, a timeout, a timeout that passed, or a bad place
+pub marks_seen : (r : Inside) (xs : List SideState) (e : SideId) → (side_at (state_with r xs).plain e).marks ≡ no_marks
+marks_seen r xs e = all_seen (λ x. x.marks) no_marks (λ x. refl) refl xs (number e)
+
+pub bad_seen : (r : Inside) (xs : List SideState) (e : SideId) → (side_at (state_with r xs).plain e).bad ≡ None
+bad_seen r xs e = all_seen (λ x. x.bad) None (λ x. refl) refl xs (number e)
+
+-- where no side has a hook, no reason becomes due
+pub raise-none : (g : Settings) (e : SideId) (y : Why) (p : Plain) → has_hook g e ≡ false → raise g e y p ≡ p
+raise-none g e y p h = ap (λ b. if b && is_live p e then record p { due = with_reason e y p.due } else p) h
+
+pub raise_read-none : (e : SideId) (s : State) → has_hook s.settings e ≡ false → raise_read e s ≡ s
+raise_read-none e s h = go (nat_le (side_at s.plain e).marks.read_low (input_length s e))
+  where
+    go : (b : Bool) → (if b then with_plain (raise s.settings e why.Read s.plain) s else s) ≡ s
+    go true = ap (λ p. with_plain p s) (raise-none s.settings e why.Read s.plain h)
+    go false = refl
+
+pub raise_write-none : (e : SideId) (s : State) → has_hook s.settings e ≡ false → raise_write e s ≡ s
+raise_write-none e s h = go (nat_le (output_length s e) (side_at s.plain e).marks.write_low)
+  where
+    go : (b : Bool) → (if b then with_plain (raise s.settings e why.Write s.plain) s else s) ≡ s
+    go true = ap (λ p. with_plain p s) (raise-none s.settings e why.Write s.plain h)
+    go false = refl
+
+pub no_hook : (v : RelayValue) (r : Inside) → relay_of r ≡ v → (e : SideId) → has_hook v.state.settings e ≡ false
+no_hook v r is e = ap (λ (z : RelayValue). has_hook z.state.settings e) (sym is)
+
+-- one side replaced
+
+-- the state with a side, and with the direction that begins at it
+abbrev pub put_at : SideId → PlainSide → Flow → Lane → State → State
+put_at e x f l s = with_lane e l (with_plain (put_flow e f (put_side e x s.plain)) s)
+
+module _ (s : State) (e : SideId) where
+  same_side-is : put_side e (side_at s.plain e) s.plain ≡ s.plain
+  same_side-is = let p = s.plain in let h = set-get_or p.sides (number e) no_side in λ i. record p { sides = h i }
+
+  -- where the direction stays as it was
+  pub put_side-is : (x : PlainSide) → put_at e x (flow_at s.plain e) (lane_at s e) s ≡ with_plain (put_side e x s.plain) s
+  put_side-is x =
+      let p = s.plain in
+      let f = set-get_or p.flows (number e) no_flow in
+      let l = set-get_or s.lanes (number e) no_lane in
+      λ i. record s {
+        plain = record p { sides = slice_set p.sides (number e) x; flows = f i };
+        lanes = l i;
+      }
+
+  -- where the counts of it stay
+  pub put_left-is : (x : PlainSide) (l : Lane) → put_at e x (flow_at s.plain e) l s ≡ with_lane e l (with_plain (put_side e x s.plain) s)
+  put_left-is x l =
+      let p = s.plain in
+      let f = set-get_or p.flows (number e) no_flow in
+      λ i. record s {
+        plain = record p { sides = slice_set p.sides (number e) x; flows = f i };
+        lanes = slice_set s.lanes (number e) l;
+      }
+
+  -- where the side stays
+  pub put_flow-is : (f : Flow) (l : Lane) → put_at e (side_at s.plain e) f l s ≡ with_lane e l (with_plain (put_flow e f s.plain) s)
+  put_flow-is f l = ap (λ p. with_lane e l (with_plain (put_flow e f p) s)) same_side-is
+
+  -- and the counts too
+  pub put_lane-is : (l : Lane) → put_at e (side_at s.plain e) (flow_at s.plain e) l s ≡ with_lane e l s
+  put_lane-is l = put_left-is (side_at s.plain e) l ∙ ap (λ p. with_lane e l (with_plain p s)) same_side-is
+
+  pub put_same-is : put_at e (side_at s.plain e) (flow_at s.plain e) (lane_at s e) s ≡ s
+  put_same-is = put_side-is (side_at s.plain e) ∙ ap (λ p. with_plain p s) same_side-is
+
+-- a good side stays one
+good : (p : Plain) (e : SideId) → (side_at p e).bad ≡ None → change_side e (with_bad None) p ≡ p
+good p e h =
+    ap (λ b. let x = side_at p e in record p { sides = slice_set p.sides (number e) (record x { bad = b }) }) (sym h)
+    ∙ (let k = set-get_or p.sides (number e) no_side in λ i. record p { sides = k i })
+
+-- where both sides are good, passing changes the direction alone
+passed_good : (s : State) (e : SideId) (f : Flow) (l : Lane) → (side_at s.plain e).bad ≡ None → (side_at s.plain (peer e)).bad ≡ None →
+    with_passage e (record { flow = f; lane = l; from_bad = None; to_bad = None }) s ≡ with_lane e l (with_plain (put_flow e f s.plain) s)
+passed_good s e f l from to =
+    let q : Plain = put_flow e f s.plain in
+    ap (λ p. with_lane e l (with_plain p s)) (ap (change_side (peer e) (with_bad None)) (good q e from) ∙ good q (peer e) to)
 
 -- a side of a relay, as the code reaches it
-module _ (v : RelayValue) (r : Inside) (is : relay_of r ≡ v) (paired : IsPaired r) (e : SideId) (opened : e.link < v.state.opened)
+module _ (v : RelayValue) (r : Inside) (is : relay_of r ≡ v) (paired : IsPaired r) (e : SideId) (opened : e.link < v.state.plain.opened)
     (i : ℕ) (i_is : i ≡ number e) (x : SideState) (x_is : x ≡ get_or r.sides.items i x) where
+  abbrev xs : List SideState
+  xs = r.sides.items
+
+  abbrev s : State
+  s = state_with r r.sides.items
+
   in_range : number e < length r.sides.items
   in_range =
-      let here : e.link < r.opened = subst (λ (z : RelayValue). e.link < z.state.opened) (sym is) opened in
+      let here : e.link < r.opened = subst (λ (z : RelayValue). e.link < z.state.plain.opened) (sym is) opened in
       omega (arith, number-lt e r.opened here, paired)
 
-  inside_seen : side_at (relay_of r).state e ≡ side_value x
-  inside_seen = get_or-map side_value r.sides.items (number e) x no_side in_range
-      ∙ ap side_value (ap (λ n. get_or r.sides.items n x) (sym i_is) ∙ sym x_is)
+  found : get_or r.sides.items (number e) x ≡ x
+  found = ap (λ n. get_or r.sides.items n x) (sym i_is) ∙ sym x_is
 
-  pub seen : side_at v.state e ≡ side_value x
-  seen = ap (λ (z : RelayValue). side_at z.state e) (sym is) ∙ inside_seen
+  side_inside : side_at (state_with r r.sides.items).plain e ≡ plain_side x
+  side_inside = get_or-map plain_side r.sides.items (number e) x no_side in_range ∙ ap plain_side found
 
-  pub replaced : (y : SideState) (f : SideValue → SideValue) → side_value y ≡ f (side_value x) →
-      state_with r i y ≡ with_side v.state e (f (side_at v.state e))
-  replaced y f h =
-      let p = map-set side_value r.sides.items i y in
-      let q : side_value y ≡ f (side_at (relay_of r).state e) = h ∙ ap f (sym inside_seen) in
-      ap (λ ss. let s : State = record { settings = r.settings; time = r.time; opened = r.opened; sides = ss } in
-      s) (p ∙ ap (λ n. slice_set (map side_value r.sides.items) n (side_value y)) i_is)
-      ∙ ap (with_side (relay_of r).state e) q
-      ∙ ap (λ (z : RelayValue). with_side z.state e (f (side_at z.state e))) is
+  flow_inside : flow_at (state_with r r.sides.items).plain e ≡ flow_of_side x
+  flow_inside = get_or-map flow_of_side r.sides.items (number e) x no_flow in_range ∙ ap flow_of_side found
 
-  -- a side that the contracts see as before
-  pub unchanged : (y : SideState) → side_value y ≡ side_value x →
-      state_with r i y ≡ v.state
-  unchanged y h = replaced y (λ z. z) h ∙ with_side-same v.state e
+  lane_inside : lane_at (state_with r r.sides.items) e ≡ lane_of x
+  lane_inside = get_or-map lane_of r.sides.items (number e) x no_lane in_range ∙ ap lane_of found
+
+  pub side_seen : side_at v.state.plain e ≡ plain_side x
+  side_seen = ap (λ (z : RelayValue). side_at z.state.plain e) (sym is) ∙ side_inside
+
+  pub flow_seen : flow_at v.state.plain e ≡ flow_of_side x
+  flow_seen = ap (λ (z : RelayValue). flow_at z.state.plain e) (sym is) ∙ flow_inside
+
+  pub lane_seen : lane_at v.state e ≡ lane_of x
+  lane_seen = ap (λ (z : RelayValue). lane_at z.state e) (sym is) ∙ lane_inside
+
+  -- what is so of the state that is seen, as it is so of the state inside
+  pub carried : (y : SideState) (f : State → State) → state_with r (slice_set r.sides.items i y) ≡ f (state_with r r.sides.items) →
+      state_with r (slice_set r.sides.items i y) ≡ f v.state
+  carried y f h = h ∙ ap (λ (z : RelayValue). f z.state) is
+
+  -- the side y in the place of x
+  put : (y : SideState) → state_with r (slice_set r.sides.items i y)
+      ≡ put_at e (plain_side y) (flow_of_side y) (lane_of y) (state_with r r.sides.items)
+  put y =
+      let a = map-set plain_side xs i y ∙ ap (λ n. slice_set (map plain_side xs) n (plain_side y)) i_is in
+      let b = map-set flow_of_side xs i y ∙ ap (λ n. slice_set (map flow_of_side xs) n (flow_of_side y)) i_is in
+      let c = map-set lane_of xs i y ∙ ap (λ n. slice_set (map lane_of xs) n (lane_of y)) i_is in
+      let p = s.plain in
+      λ j. record s { plain = record p { sides = a j; flows = b j }; lanes = c j }
+
+  -- where y comes from x by these changes
+  changed : (y : SideState) (g : PlainSide → PlainSide) (f : Flow → Flow) (l : Lane → Lane) →
+      plain_side y ≡ g (plain_side x) → flow_of_side y ≡ f (flow_of_side x) → lane_of y ≡ l (lane_of x) →
+      state_with r (slice_set r.sides.items i y)
+      ≡ put_at e (g (side_at s.plain e)) (f (flow_at s.plain e)) (l (lane_at s e)) (state_with r r.sides.items)
+  changed y g f l a b c =
+      let p = a ∙ ap g (sym side_inside) in
+      let q = b ∙ ap f (sym flow_inside) in
+      let t = c ∙ ap l (sym lane_inside) in
+      put y ∙ (λ j. put_at e (p j) (q j) (t j) s)
+
+  -- where only the side changes
+  pub changed_side : (y : SideState) (g : PlainSide → PlainSide) →
+      plain_side y ≡ g (plain_side x) → flow_of_side y ≡ flow_of_side x → lane_of y ≡ lane_of x →
+      state_with r (slice_set r.sides.items i y) ≡ with_plain (change_side e g v.state.plain) v.state
+  changed_side y g a b c = carried y (λ z. with_plain (change_side e g z.plain) z)
+      (changed y g (λ f. f) (λ l. l) a b c ∙ put_side-is s e (g (side_at s.plain e)))
+
+  -- and a reason becomes due where there is a hook: there is none
+  pub changed_raising : (y : SideState) (g : PlainSide → PlainSide) (reason : Why) →
+      plain_side y ≡ g (plain_side x) → flow_of_side y ≡ flow_of_side x → lane_of y ≡ lane_of x →
+      state_with r (slice_set r.sides.items i y) ≡ with_plain (raise v.state.settings e reason (change_side e g v.state.plain)) v.state
+  changed_raising y g reason a b c =
+      changed_side y g a b c
+      ∙ ap (λ p. with_plain p v.state) (sym (raise-none v.state.settings e reason (change_side e g v.state.plain) (no_hook v r is e)))
+
+  -- where only the direction changes
+  pub changed_flow : (y : SideState) (f : Flow → Flow) (l : Lane → Lane) →
+      plain_side y ≡ plain_side x → flow_of_side y ≡ f (flow_of_side x) → lane_of y ≡ l (lane_of x) →
+      state_with r (slice_set r.sides.items i y)
+      ≡ with_lane e (l (lane_at v.state e)) (with_plain (change_flow e f v.state.plain) v.state)
+  changed_flow y f l a b c = carried y (λ z. with_lane e (l (lane_at z e)) (with_plain (change_flow e f z.plain) z))
+      (changed y (λ g. g) f l a b c ∙ put_flow-is s e (f (flow_at s.plain e)) (l (lane_at s e)))
+
+  -- where only the bytes change
+  pub changed_lane : (y : SideState) (l : Lane → Lane) →
+      plain_side y ≡ plain_side x → flow_of_side y ≡ flow_of_side x → lane_of y ≡ l (lane_of x) →
+      state_with r (slice_set r.sides.items i y) ≡ with_lane e (l (lane_at v.state e)) v.state
+  changed_lane y l a b c = carried y (λ z. with_lane e (l (lane_at z e)) z)
+      (changed y (λ g. g) (λ f. f) l a b c ∙ put_lane-is s e (l (lane_at s e)))
+
+  -- where nothing changes that contracts see
+  pub unchanged : (y : SideState) → plain_side y ≡ plain_side x → passage_of y ≡ passage_of x →
+      state_with r (slice_set r.sides.items i y) ≡ v.state
+  unchanged y a b = carried y (λ z. z)
+      (changed y (λ g. g) (λ f. f) (λ l. l) a (ap (λ (z : Passage). z.flow) b) (ap (λ (z : Passage). z.lane) b) ∙ put_same-is s e)
+
+  -- where the side is freed that the direction begins at
+  pub changed_left : (y : SideState) →
+      plain_side y ≡ (let z = plain_side x in record z { live = false }) →
+      flow_of_side y ≡ flow_of_side x → lane_of y ≡ lane_left (lane_of x) →
+      state_with r (slice_set r.sides.items i y)
+      ≡ with_lane e (lane_left (lane_at v.state e)) (with_plain (plain.freed e v.state.plain) v.state)
+  changed_left y a b c = carried y (λ z. with_lane e (lane_left (lane_at z e)) (with_plain (plain.freed e z.plain) z))
+      (changed y (λ z. record z { live = false; group = None }) (λ f. f) lane_left a b c
+      ∙ put_left-is s e (let z = side_at s.plain e in record z { live = false; group = None }) (lane_left (lane_at s e)))
 
   pub spare_seen : spare_read v e ≡ spare_of x
   spare_seen =
       ap (λ (z : RelayValue). spare_read z e) (sym is)
-      ∙ get_or-map spare_of r.sides.items (number e) x 0 in_range ∙ ap spare_of (ap (λ n. get_or r.sides.items n x) (sym i_is) ∙ sym x_is)
+      ∙ get_or-map spare_of r.sides.items (number e) x 0 in_range ∙ ap spare_of found
 
   pub spare_put : (y : SideState) → slice_index_or (map spare_of (slice_set r.sides.items i y)) (number e) 0 ≡ spare_of y
   spare_put y =
@@ -70,42 +259,105 @@ module _ (v : RelayValue) (r : Inside) (is : relay_of r ≡ v) (paired : IsPaire
       ∙ get_or-set_same (map spare_of r.sides.items) (number e) (spare_of y) 0
       (subst (λ n. number e < n) (sym (length-map r.sides.items spare_of)) in_range)
 
+  -- bytes were got
+
+  module _ (y : SideState) (bytes : List ℕ)
+      (side_is : plain_side y ≡ active_at r.time dir.Read (plain_side x))
+      (passage_is : passage_of y ≡ (let z = passage_of x in read_part 16384 false (record z { lane = lane_got bytes z.lane }))) where
+    abbrev grown : State
+    grown = with_got s e bytes
+
+    marks_got : (side_at grown.plain e).marks ≡ no_marks
+    marks_got =
+        all_set (λ z. z.marks) no_marks s.plain.sides (number e) (active_at r.time dir.Read (side_at s.plain e)) (marks_seen r xs e)
+        (λ k. all_seen (λ z. z.marks) no_marks (λ z. refl) refl xs k) (number e)
+
+    bad_got : (k : ℕ) → (slice_index_or grown.plain.sides k no_side).bad ≡ None
+    bad_got k = all_set (λ z. z.bad) None s.plain.sides (number e) (active_at r.time dir.Read (side_at s.plain e)) (bad_seen r xs e)
+        (λ k. all_seen (λ z. z.bad) None (λ z. refl) refl xs k) k
+
+    lane_got_is : lane_at grown e ≡ lane_got bytes (lane_of x)
+    lane_got_is =
+        get_or-set_same (map lane_of xs) (number e) (lane_got bytes (lane_at s e)) no_lane
+        (subst (λ n. number e < n) (sym (length-map xs lane_of)) in_range)
+        ∙ ap (lane_got bytes) lane_inside
+
+    got_seen : passage_at grown e ≡ (let z = passage_of x in record z { lane = lane_got bytes z.lane })
+    got_seen =
+        let b = bad_got (number e) in
+        let c = bad_got (number (peer e)) in
+        λ j. record { flow = flow_inside j; lane = lane_got_is j; from_bad = b j; to_bad = c j }
+
+    read_seen : read_part (read_mark grown.plain e) false (passage_at grown e) ≡ passage_of y
+    read_seen =
+        ap (λ m. read_part (mark_or m.read_high 16384) false (passage_at grown e)) marks_got
+        ∙ ap (read_part 16384 false) got_seen ∙ sym passage_is
+
+    pub got_is : state_with r (slice_set r.sides.items i y) ≡ after_got v.state e bytes
+    got_is = carried y (λ z. after_got z e bytes) (
+        put y
+        ∙ ap (λ z. put_at e z (flow_of_side y) (lane_of y) s) (side_is ∙ ap (active_at r.time dir.Read) (sym side_inside))
+        ∙ (let h = set-set (map lane_of xs) (number e) (lane_got bytes (lane_at s e)) (lane_of y) in
+        let z : State = put_at e (active_at r.time dir.Read (side_at s.plain e)) (flow_of_side y) (lane_of y) s in
+        λ j. record z { lanes = sym h j })
+        ∙ sym (passed_good grown e (flow_of_side y) (lane_of y) (bad_got (number e)) (bad_got (number (peer e))))
+        ∙ ap (λ z. with_passage e z grown) (sym read_seen)
+        ∙ sym (raise_read-none e (with_passage e (read_part (read_mark grown.plain e) false (passage_at grown e)) grown) refl))
+
   -- the direction that begins at the side was passed, or some rounds of it were made
+
   pub passes : (y : SideState) (T : Type 0) (E : Type 0) (result : Result T E) (to_live : Bool) →
-      to_live ≡ (flags_at v.state (peer e)).live →
-      (y.flags ≡ x.flags) × (y.read ≡ x.read) →
-      MatchResult result (λ _. Passed (round r.settings.hold x.flags.ended x.flags.live to_live) (lane_of x) (lane_of y))
-      (λ _. SomeRounds (round r.settings.hold x.flags.ended x.flags.live to_live) (lane_of x) (lane_of y)) →
-      MatchResult result (λ _. PassedFrom v.state e (state_with r i y)) (λ _. PartlyPassed v.state e (state_with r i y))
+      to_live ≡ is_live v.state.plain (peer e) →
+      plain_side y ≡ plain_side x →
+      MatchResult result (λ _. Passed (pass_round 16384 r.settings.hold x.flags.ended x.flags.live to_live) (passage_of x) (passage_of y))
+      (λ _. SomeRounds (pass_round 16384 r.settings.hold x.flags.ended x.flags.live to_live) (passage_of x) (passage_of y)) →
+      MatchResult result (λ _. PassedFrom v.state e (state_with r (slice_set r.sides.items i y)))
+      (λ _. PartlyPassed v.state e (state_with r (slice_set r.sides.items i y)))
   passes y T E result to_live live_is same = go result
     where
-      f : Lane → Lane
-      f = round r.settings.hold x.flags.ended x.flags.live to_live
+      f : Passage → Passage
+      f = pass_round 16384 r.settings.hold x.flags.ended x.flags.live to_live
+
+      f_inside : f ≡ round_from s e
+      f_inside =
+          let a = marks_seen r xs e in
+          let b = marks_seen r xs (peer e) in
+          let c = side_inside in
+          let d : to_live ≡ is_live s.plain (peer e) = live_is ∙ ap (λ (z : RelayValue). is_live z.state.plain (peer e)) (sym is) in
+          λ j. pass_round (mark_or (sym a j).read_high 16384)
+          (mark_or (sym b j).write_high r.settings.hold) (sym c j).ended (sym c j).live (d j)
 
       f_is : f ≡ round_from v.state e
-      f_is =
-          ap (λ n. round n x.flags.ended x.flags.live to_live) (ap (λ (z : RelayValue). z.state.settings.hold) is)
-          ∙ ap (λ (z : SideValue). round v.state.settings.hold z.flags.ended z.flags.live to_live) (sym seen)
-          ∙ ap (λ b. round v.state.settings.hold (flags_at v.state e).ended (flags_at v.state e).live b) live_is
+      f_is = f_inside ∙ ap (λ (z : RelayValue). round_from z.state e) is
 
-      lane_is : lane_of x ≡ lane_at v.state e
-      lane_is = ap (λ (z : SideValue). z.lane) (sym seen)
+      seen_inside : passage_of x ≡ passage_at s e
+      seen_inside =
+          let a = bad_seen r xs e in
+          let b = bad_seen r xs (peer e) in
+          λ j. record { flow = sym flow_inside j; lane = sym lane_inside j; from_bad = sym a j; to_bad = sym b j }
 
-      put : state_with r i y ≡ with_lane v.state e (lane_of y)
-      put = replaced y (λ z. record z { lane = lane_of y }) (let p = same.0 in let q = same.1 in
-          λ j. record { flags = p j; read = q j; lane = lane_of y })
+      seen_is : passage_of x ≡ passage_at v.state e
+      seen_is = seen_inside ∙ ap (λ (z : RelayValue). passage_at z.state e) is
 
-      go : (a : Result T E) → MatchResult a (λ _. Passed f (lane_of x) (lane_of y)) (λ _. SomeRounds f (lane_of x) (lane_of y)) →
-          MatchResult a (λ _. PassedFrom v.state e (state_with r i y)) (λ _. PartlyPassed v.state e (state_with r i y))
+      put_is : state_with r (slice_set r.sides.items i y) ≡ with_passage e (passage_of y) v.state
+      put_is = carried y (with_passage e (passage_of y)) (
+          changed y (λ g. g) (λ _. flow_of_side y) (λ _. lane_of y) same refl refl
+          ∙ put_flow-is s e (flow_of_side y) (lane_of y)
+          ∙ sym (passed_good s e (flow_of_side y) (lane_of y) (bad_seen r xs e) (bad_seen r xs (peer e))))
+
+      go : (a : Result T E) →
+          MatchResult a (λ _. Passed f (passage_of x) (passage_of y)) (λ _. SomeRounds f (passage_of x) (passage_of y)) →
+          MatchResult a (λ _. PassedFrom v.state e (state_with r (slice_set r.sides.items i y)))
+          (λ _. PartlyPassed v.state e (state_with r (slice_set r.sides.items i y)))
       go (Ok a) h = (
-        lane_of y,
-        subst (λ g. Passed g (lane_at v.state e) (lane_of y)) f_is
-            (subst (λ z. Passed f z (lane_of y)) lane_is h),
-        put,
+        passage_of y,
+        subst (λ g. Passed g (passage_at v.state e) (passage_of y)) f_is
+            (subst (λ z. Passed f z (passage_of y)) seen_is h),
+        put_is,
       )
       go (Err a) h = (
-        lane_of y,
-        subst (λ g. SomeRounds g (lane_at v.state e) (lane_of y)) f_is
-            (subst (λ z. SomeRounds f z (lane_of y)) lane_is h),
-        put,
+        passage_of y,
+        subst (λ g. SomeRounds g (passage_at v.state e) (passage_of y)) f_is
+            (subst (λ z. SomeRounds f z (passage_of y)) seen_is h),
+        put_is,
       )

@@ -1,11 +1,81 @@
--- Rounds of passing: a round changes nothing, or it changes a count and brings a weight down. So passing comes to an
--- end.
-use Rattle.std.proofs.Common.{◌≡◌, ◌≢◌, inl, inr, ℕ, zero, suc, ◌+◌, ◌-◌, ◌*◌, ◌/◌, ◌<◌, ◌≤◌, Bool, true, false, not, ◌&&◌, ◌||◌, ◌==◌, nat_le, if◌then◌else◌, List, [], ◌++◌, length, take, drop, refl, sym, ◌∙◌, ap, subst, arith, append-nil, length-drop, length-append, length-take-le, eqb-true}
+-- Rounds of passing where each filter hands its bytes on: a round changes nothing, or it changes a count and brings a weight down. So
+-- passing comes to an end.
+use Rattle.std.proofs.Common.{◌≡◌, ◌≢◌, inl, inr, ℕ, zero, suc, ◌+◌, ◌-◌, ◌*◌, ◌/◌, ◌<◌, ◌≤◌, min, Bool, true, false, not, ◌&&◌, ◌==◌, nat_le, if◌then◌else◌, [], ◌++◌, length, take, drop, Option, refl, sym, ◌∙◌, ap, subst, arith, append-nil, length-drop, length-append, length-take-le, eqb-true}
+use Rattle.std.specs.List.{last_or}
 use Rattle.std.proofs.lemmas.List.{nil_from_length}
 use mathlib.Core.Logic.{◌⊎◌}
 use Rattle.relay_model.specs.Flow.{Flow}
-use Rattle.relay_core.specs.State.{Lane}
-use Rattle.relay_core.specs.Passing.{held, used_now, read_filtered, is_moving, moved, turned_now, write_filtered, round, rounds}
+use Rattle.relay_model.specs.Conserved.{Buffers}
+
+-- a direction with such filters: its counts and its bytes, the last byte that either filter used, and how many were read
+pub record Straight : Type 0 where
+  pub flow : Flow
+  pub buffers : Buffers
+  pub last_used : Option ℕ
+  pub last_turned : Option ℕ
+  pub read : ℕ
+
+-- The parts of a round
+
+abbrev pub held_now : ℕ → Straight → Bool
+held_now hold x =
+    let waiting : ℕ = length x.buffers.raw_output in
+    if nat_le hold waiting then true else (if nat_le waiting (hold / 2) then false else x.flow.held)
+
+abbrev pub held : ℕ → Straight → Straight
+held hold x = let f = x.flow in record x { flow = record f { held = held_now hold x } }
+
+abbrev pub used_now : ℕ → Buffers → ℕ
+used_now mark b = min (length b.raw_input) (mark - length b.input)
+
+abbrev pub read_on : ℕ → Bool → Straight → Straight
+read_on mark over x =
+    let f = x.flow in
+    let b = x.buffers in
+    let n : ℕ = used_now mark b in
+    record x {
+      flow = record f { used = f.used + n; read_done = over && n == length b.raw_input };
+      buffers = record b { raw_input = drop n b.raw_input; input = b.input ++ take n b.raw_input };
+      last_used = last_or x.last_used (take n b.raw_input);
+    }
+
+abbrev pub read_filtered : ℕ → Bool → Straight → Straight
+read_filtered mark over x = if x.flow.read_done then x else read_on mark over x
+
+abbrev pub is_moving : Straight → Bool
+is_moving x = not x.flow.held && length x.buffers.output == 0
+
+abbrev pub moved : Straight → Straight
+moved x =
+    let f = x.flow in
+    let b = x.buffers in
+    if is_moving x
+    then record x { flow = record f { moved = f.moved + length b.input }; buffers = record b { input = []; output = b.input } } else x
+
+abbrev pub turned_now : ℕ → Buffers → ℕ
+turned_now hold b = min (length b.output) (hold - length b.raw_output)
+
+abbrev pub write_on : ℕ → Bool → Straight → Straight
+write_on hold over x =
+    let f = x.flow in
+    let b = x.buffers in
+    let n : ℕ = turned_now hold b in
+    record x {
+      flow = record f { turned = f.turned + n; write_done = over && n == length b.output };
+      buffers = record b { output = drop n b.output; raw_output = b.raw_output ++ take n b.output };
+      last_turned = last_or x.last_turned (take n b.output);
+    }
+
+abbrev pub write_open : ℕ → Bool → Straight → Straight
+write_open hold over x = if x.flow.write_done then x else write_on hold over x
+
+abbrev pub write_filtered : ℕ → Bool → Straight → Straight
+write_filtered hold may_end x = if x.flow.held then x else write_open hold (may_end && (x.flow.read_done && length x.buffers.input == 0)) x
+
+abbrev pub round : ℕ → ℕ → Bool → Bool → Bool → Straight → Straight
+round mark hold ended from_live to_live x =
+    if to_live then (if from_live then write_filtered hold true (moved (read_filtered mark ended (held hold x)))
+    else write_filtered hold false (held hold x)) else x
 
 -- The weight of a direction. A byte weighs by the places before it; a filter that is not finished weighs 1, and so does
 -- a direction that is not held. A held one weighs 2 where it is about to be let go.
@@ -17,7 +87,7 @@ abbrev pub held_weight : ℕ → Bool → ℕ → ℕ
 held_weight hold true n = if nat_le hold n then 0 else (if nat_le n (hold / 2) then 2 else 0)
 held_weight hold false n = 1
 
-abbrev pub weight : ℕ → Lane → ℕ
+abbrev pub weight : ℕ → Straight → ℕ
 weight hold x =
     3 * length x.buffers.raw_input + 2 * length x.buffers.input + length x.buffers.output
     + open_weight x.flow.read_done + open_weight x.flow.write_done + held_weight hold x.flow.held (length x.buffers.raw_output)
@@ -27,20 +97,16 @@ abbrev counted : Flow → ℕ
 counted f = f.used + f.moved + f.turned + (2 - open_weight f.read_done - open_weight f.write_done)
 
 -- a part of a round leaves all as it is, or counts and brings the weight down
-abbrev Steps : ℕ → Lane → Lane → Type 0
+abbrev Steps : ℕ → Straight → Straight → Type 0
 Steps hold x y = (y ≡ x) ⊎ ((weight hold y < weight hold x) × (counted x.flow < counted y.flow))
 
-then_steps : (hold : ℕ) (x y z : Lane) → Steps hold x y → Steps hold y z → Steps hold x z
+then_steps : (hold : ℕ) (x y z : Straight) → Steps hold x y → Steps hold y z → Steps hold x z
 then_steps hold x y z (inl p) (inl q) = inl (q ∙ p)
-then_steps hold x y z (inl p) (inr q) = inr (subst (λ (w : Lane). (weight hold z < weight hold w) × (counted w.flow < counted z.flow)) p q)
+then_steps hold x y z (inl p) (inr q) =
+    inr (subst (λ (w : Straight). (weight hold z < weight hold w) × (counted w.flow < counted z.flow)) p q)
 then_steps hold x y z (inr p) (inl q) =
-    inr (subst (λ (w : Lane). (weight hold w < weight hold x) × (counted x.flow < counted w.flow)) (sym q) p)
+    inr (subst (λ (w : Straight). (weight hold w < weight hold x) × (counted x.flow < counted w.flow)) (sym q) p)
 then_steps hold x y z (inr p) (inr q) = inr (omega (arith, p.0, q.0), omega (arith, p.1, q.1))
-
-open_weight-or : (a b : Bool) → ((a || b) ≡ a) ⊎ ((open_weight a ≡ 1) × (open_weight (a || b) ≡ 0))
-open_weight-or true b = inl refl
-open_weight-or false true = inr (refl, refl)
-open_weight-or false false = inl refl
 
 open_weight-le : (a : Bool) → open_weight a ≤ 1
 open_weight-le true = omega arith
@@ -50,18 +116,19 @@ none_or_some : (n : ℕ) → (n ≡ 0) ⊎ (0 < n)
 none_or_some zero = inl refl
 none_or_some (suc n) = inr (omega arith)
 
-taken_none : (n : ℕ) (xs ys : List ℕ) → n ≡ 0 → (drop n xs ≡ xs) × (ys ++ take n xs ≡ ys)
-taken_none n xs ys e = (ap (λ m. drop m xs) e, ap (λ m. ys ++ take m xs) e ∙ append-nil ys)
+false_or_true : (b : Bool) → (b ≡ false) ⊎ (b ≡ true)
+false_or_true false = inl refl
+false_or_true true = inr refl
 
-module _ (hold : ℕ) (ended : Bool) (x : Lane) where
+module _ (hold mark : ℕ) (over : Bool) (x : Straight) where
   abbrev n : ℕ
-  n = used_now x.buffers
+  n = used_now mark x.buffers
 
-  abbrev more : Bool
-  more = ended && n == length x.buffers.raw_input
+  abbrev done : Bool
+  done = over && n == length x.buffers.raw_input
 
-  read_steps : Steps hold x (read_filtered ended x)
-  read_steps = go (none_or_some n) (open_weight-or x.flow.read_done more)
+  read_steps : Steps hold x (read_filtered mark over x)
+  read_steps = go x.flow.read_done refl
     where
       most : n ≤ length x.buffers.raw_input
       most = omega arith
@@ -73,31 +140,42 @@ module _ (hold : ℕ) (ended : Bool) (x : Lane) where
       made = length-append x.buffers.input (take n x.buffers.raw_input)
           ∙ ap (λ m. length x.buffers.input + m) (length-take-le n x.buffers.raw_input most)
 
-      go : (n ≡ 0) ⊎ (0 < n) → ((x.flow.read_done || more) ≡ x.flow.read_done) ⊎
-          ((open_weight x.flow.read_done ≡ 1) × (open_weight (x.flow.read_done || more) ≡ 0)) → Steps hold x (read_filtered ended x)
-      go (inl none) (inl same) =
-          let p = taken_none n x.buffers.raw_input x.buffers.input none in
+      by : open_weight x.flow.read_done ≡ 1 → x.flow.read_done ≡ false → (n ≡ 0) ⊎ (0 < n) → (done ≡ false) ⊎ (done ≡ true) →
+          Steps hold x (read_on mark over x)
+      by w e (inl none) (inl goes) =
           let a : x.flow.used + n ≡ x.flow.used = omega (arith, none) in
-          let p0 = p.0 in let p1 = p.1 in
-          inl (λ i. record {
-            flow = record (x.flow) { used = a i; read_done = same i };
-            buffers = record (x.buffers) { raw_input = p0 i; input = p1 i };
+          let b : done ≡ x.flow.read_done = goes ∙ sym e in
+          let l = append-nil x.buffers.input in
+          let p : x.buffers.input ++ take n x.buffers.raw_input ≡ x.buffers.input = ap
+          (λ m. x.buffers.input ++ take m x.buffers.raw_input) none ∙ l in
+          let flow = x.flow in
+          let buffers = x.buffers in
+          inl (λ i. record x {
+            flow = record flow { used = a i; read_done = b i };
+            buffers = record buffers { raw_input = drop (none i) x.buffers.raw_input; input = p i };
+            last_used = last_or x.last_used (take (none i) x.buffers.raw_input);
           })
-      go (inl none) (inr q) = inr (
-        omega (arith, left, made, none, q.0, q.1, open_weight-le x.flow.write_done),
-        omega (arith, none, q.0, q.1, open_weight-le x.flow.write_done),
-      )
-      go (inr some) (inl same) =
-          let w : open_weight (x.flow.read_done || more) ≡ open_weight x.flow.read_done = ap open_weight same in
-          inr (omega (arith, left, made, most, w), omega (arith, w))
-      go (inr some) (inr q) = inr (omega (arith, left, made, most, q.0, q.1), omega (arith, q.0, q.1, open_weight-le x.flow.write_done))
+      by w e k (inr ends) =
+          let d : open_weight done ≡ 0 = ap open_weight ends in
+          inr (omega (arith, left, made, most, w, d), omega (arith, w, d, open_weight-le x.flow.write_done))
+      by w e (inr some) (inl goes) =
+          let d : open_weight done ≡ 1 = ap open_weight goes in
+          inr (omega (arith, left, made, most, some, w, d), omega (arith, some, w, d))
 
-  read_keeps : (read_filtered ended x).flow.held ≡ x.flow.held
-  read_keeps = refl
+      go : (b : Bool) → x.flow.read_done ≡ b → Steps hold x (if b then x else read_on mark over x)
+      go true e = inl refl
+      go false e = by (ap open_weight e) e (none_or_some n) (false_or_true done)
 
-module _ (hold : ℕ) (x : Lane) where
-  abbrev moved_if : Bool → Lane
-  moved_if q = if q then record {
+  read_keeps : (read_filtered mark over x).flow.held ≡ x.flow.held
+  read_keeps = go x.flow.read_done
+    where
+      go : (b : Bool) → (if b then x else read_on mark over x).flow.held ≡ x.flow.held
+      go true = refl
+      go false = refl
+
+module _ (hold : ℕ) (x : Straight) where
+  abbrev moved_if : Bool → Straight
+  moved_if q = if q then record x {
     flow = record (x.flow) { moved = x.flow.moved + length x.buffers.input };
     buffers = record (x.buffers) { input = []; output = x.buffers.input };
   } else x
@@ -118,7 +196,7 @@ module _ (hold : ℕ) (x : Lane) where
           let a : x.flow.moved + length x.buffers.input ≡ x.flow.moved = omega (arith, none) in
           let b : [] ≡ x.buffers.input = sym (nil_from_length x.buffers.input none) in
           let d : x.buffers.input ≡ x.buffers.output = sym b ∙ sym (nil_from_length x.buffers.output (empty e)) in
-          inl (λ i. record { flow = record (x.flow) { moved = a i }; buffers = record (x.buffers) { input = b i; output = d i } })
+          inl (λ i. record x { flow = record (x.flow) { moved = a i }; buffers = record (x.buffers) { input = b i; output = d i } })
       go true e (inr some) = inr (omega (arith, some, empty e), omega (arith, some))
 
   moved_keeps : (moved x).flow.held ≡ x.flow.held
@@ -128,23 +206,15 @@ module _ (hold : ℕ) (x : Lane) where
       go true = refl
       go false = refl
 
-module _ (hold : ℕ) (finish : Bool) (x : Lane) where
+module _ (hold : ℕ) (over : Bool) (x : Straight) where
   abbrev t : ℕ
   t = turned_now hold x.buffers
 
-  abbrev over : Bool
-  over = finish && x.flow.read_done && t == length x.buffers.output && length x.buffers.input == 0
+  abbrev ends : Bool
+  ends = over && t == length x.buffers.output
 
-  abbrev written_if : Bool → Lane
-  written_if h =
-      if h then x
-      else record {
-        flow = record (x.flow) { turned = x.flow.turned + t; write_done = x.flow.write_done || over };
-        buffers = record (x.buffers) { output = drop t x.buffers.output; raw_output = x.buffers.raw_output ++ take t x.buffers.output };
-      }
-
-  write_steps : Steps hold x (write_filtered hold finish x)
-  write_steps = go x.flow.held refl (none_or_some t) (open_weight-or x.flow.write_done over)
+  open_steps : x.flow.held ≡ false → Steps hold x (write_open hold over x)
+  open_steps free = go x.flow.write_done refl
     where
       most : t ≤ length x.buffers.output
       most = omega arith
@@ -152,45 +222,64 @@ module _ (hold : ℕ) (finish : Bool) (x : Lane) where
       left : length (drop t x.buffers.output) ≡ length x.buffers.output - t
       left = length-drop t x.buffers.output
 
-      go : (h : Bool) → x.flow.held ≡ h → (t ≡ 0) ⊎ (0 < t) → ((x.flow.write_done || over) ≡ x.flow.write_done) ⊎
-          ((open_weight x.flow.write_done ≡ 1) × (open_weight (x.flow.write_done || over) ≡ 0)) → Steps hold x (written_if h)
-      go true e k j = inl refl
-      go false e k j =
-          let a : held_weight hold x.flow.held (length x.buffers.raw_output) ≡ 1 =
-          ap (λ b. held_weight hold b (length x.buffers.raw_output)) e in
-          let b : held_weight hold x.flow.held (length (x.buffers.raw_output ++ take t x.buffers.output)) ≡ 1 =
-          ap (λ b. held_weight hold b (length (x.buffers.raw_output ++ take t x.buffers.output))) e in
-          by a b k j
-        where
-          by : held_weight hold x.flow.held (length x.buffers.raw_output) ≡ 1 →
-              held_weight hold x.flow.held (length (x.buffers.raw_output ++ take t x.buffers.output)) ≡ 1 →
-              (t ≡ 0) ⊎ (0 < t) → ((x.flow.write_done || over) ≡ x.flow.write_done) ⊎
-              ((open_weight x.flow.write_done ≡ 1) × (open_weight (x.flow.write_done || over) ≡ 0)) → Steps hold x (written_if false)
-          by a b (inl none) (inl same) =
-              let p = taken_none t x.buffers.output x.buffers.raw_output none in
-              let n : x.flow.turned + t ≡ x.flow.turned = omega (arith, none) in
-              let p0 = p.0 in let p1 = p.1 in
-              inl (λ i. record {
-                flow = record (x.flow) { turned = n i; write_done = same i };
-                buffers = record (x.buffers) { output = p0 i; raw_output = p1 i };
-              })
-          by a b (inl none) (inr q) = inr
-              (omega (arith, a, b, left, none, q.0, q.1), omega (arith, none, q.0, q.1, open_weight-le x.flow.read_done))
-          by a b (inr some) (inl same) =
-              let w : open_weight (x.flow.write_done || over) ≡ open_weight x.flow.write_done = ap open_weight same in
-              inr (omega (arith, a, b, left, most, w), omega (arith, w))
-          by a b (inr some) (inr q) = inr
-              (omega (arith, a, b, left, most, q.0, q.1), omega (arith, q.0, q.1, open_weight-le x.flow.read_done))
+      old : held_weight hold x.flow.held (length x.buffers.raw_output) ≡ 1
+      old = ap (λ b. held_weight hold b (length x.buffers.raw_output)) free
 
-  write_keeps : (write_filtered hold finish x).flow.held ≡ x.flow.held
-  write_keeps = go x.flow.held
+      new : held_weight hold x.flow.held (length (x.buffers.raw_output ++ take t x.buffers.output)) ≡ 1
+      new = ap (λ b. held_weight hold b (length (x.buffers.raw_output ++ take t x.buffers.output))) free
+
+      by : open_weight x.flow.write_done ≡ 1 → x.flow.write_done ≡ false → (t ≡ 0) ⊎ (0 < t) → (ends ≡ false) ⊎ (ends ≡ true) →
+          Steps hold x (write_on hold over x)
+      by w e (inl none) (inl goes) =
+          let a : x.flow.turned + t ≡ x.flow.turned = omega (arith, none) in
+          let b : ends ≡ x.flow.write_done = goes ∙ sym e in
+          let p : x.buffers.raw_output ++ take t x.buffers.output ≡ x.buffers.raw_output = ap
+          (λ m. x.buffers.raw_output ++ take m x.buffers.output) none ∙ append-nil x.buffers.raw_output in
+          let flow = x.flow in
+          let buffers = x.buffers in
+          inl (λ i. record x {
+            flow = record flow { turned = a i; write_done = b i };
+            buffers = record buffers { output = drop (none i) x.buffers.output; raw_output = p i };
+            last_turned = last_or x.last_turned (take (none i) x.buffers.output);
+          })
+      by w e k (inr done) =
+          let d : open_weight ends ≡ 0 = ap open_weight done in
+          inr (omega (arith, old, new, left, most, w, d), omega (arith, w, d, open_weight-le x.flow.read_done))
+      by w e (inr some) (inl goes) =
+          let d : open_weight ends ≡ 1 = ap open_weight goes in
+          inr (omega (arith, old, new, left, most, some, w, d), omega (arith, some, w, d))
+
+      go : (b : Bool) → x.flow.write_done ≡ b → Steps hold x (if b then x else write_on hold over x)
+      go true e = inl refl
+      go false e = by (ap open_weight e) e (none_or_some t) (false_or_true ends)
+
+  open_keeps : (write_open hold over x).flow.held ≡ x.flow.held
+  open_keeps = go x.flow.write_done
     where
-      go : (h : Bool) → (written_if h).flow.held ≡ x.flow.held
+      go : (b : Bool) → (if b then x else write_on hold over x).flow.held ≡ x.flow.held
       go true = refl
       go false = refl
 
+module _ (hold : ℕ) (may_end : Bool) (x : Straight) where
+  abbrev behind : Bool
+  behind = may_end && (x.flow.read_done && length x.buffers.input == 0)
+
+  write_steps : Steps hold x (write_filtered hold may_end x)
+  write_steps = go x.flow.held refl
+    where
+      go : (h : Bool) → x.flow.held ≡ h → Steps hold x (if h then x else write_open hold behind x)
+      go true e = inl refl
+      go false e = open_steps hold behind x e
+
+  write_keeps : (write_filtered hold may_end x).flow.held ≡ x.flow.held
+  write_keeps = go x.flow.held
+    where
+      go : (h : Bool) → (if h then x else write_open hold behind x).flow.held ≡ x.flow.held
+      go true = refl
+      go false = open_keeps hold behind x
+
 -- being held changes nothing, or it changes and brings the weight down
-abbrev Turns : ℕ → Lane → Lane → Type 0
+abbrev Turns : ℕ → Straight → Straight → Type 0
 Turns hold x y = (y ≡ x) ⊎ ((weight hold y < weight hold x) × (y.flow.held ≢ x.flow.held))
 
 abbrev kept_back : Bool → Bool → Bool → Bool
@@ -200,7 +289,7 @@ abbrev weight_by : Bool → Bool → Bool → ℕ
 weight_by true p q = if p then 0 else (if q then 2 else 0)
 weight_by false p q = 1
 
-module _ (hold : ℕ) (x : Lane) where
+module _ (hold : ℕ) (x : Straight) where
   abbrev full : Bool
   full = nat_le hold (length x.buffers.raw_output)
 
@@ -231,37 +320,33 @@ module _ (hold : ℕ) (x : Lane) where
       go : (kept_back x.flow.held full low ≡ x.flow.held) ⊎
           ((weight_by (kept_back x.flow.held full low) full low < weight_by x.flow.held full low) ×
           (kept_back x.flow.held full low ≢ x.flow.held)) → Turns hold x (held hold x)
-      go (inl same) = inl (λ i. record { flow = record (x.flow) { held = same i }; buffers = x.buffers })
+      go (inl same) = let flow = x.flow in inl (λ i. record x { flow = record flow { held = same i } })
       go (inr q) = inr (omega (arith, a, b, q.0), q.1)
 
 -- a round leaves all as it is, or changes a count and brings the weight down
-abbrev pub Rounds : ℕ → Lane → Lane → Type 0
+abbrev pub Rounds : ℕ → Straight → Straight → Type 0
 Rounds hold x y = (y ≡ x) ⊎ ((weight hold y < weight hold x) × (y.flow ≢ x.flow))
 
-held_then : (hold : ℕ) (x y z : Lane) → Turns hold x y → Steps hold y z → z.flow.held ≡ y.flow.held → Rounds hold x z
+held_then : (hold : ℕ) (x y z : Straight) → Turns hold x y → Steps hold y z → z.flow.held ≡ y.flow.held → Rounds hold x z
 held_then hold x y z (inl p) (inl q) k = inl (q ∙ p)
 held_then hold x y z (inl p) (inr q) k =
-    let s = subst (λ (w : Lane). (weight hold z < weight hold w) × (counted w.flow < counted z.flow)) p q in
+    let s = subst (λ (w : Straight). (weight hold z < weight hold w) × (counted w.flow < counted z.flow)) p q in
     inr (s.0, λ e. absurd (let c : counted z.flow ≡ counted x.flow = ap counted e in omega (arith, c, s.1)))
 held_then hold x y z (inr p) (inl q) k =
-    inr (subst (λ (w : Lane). weight hold w < weight hold x) (sym q) p.0, λ e. p.1 (sym k ∙ ap (λ f. f.held) e))
+    inr (subst (λ (w : Straight). weight hold w < weight hold x) (sym q) p.0, λ e. p.1 (sym k ∙ ap (λ f. f.held) e))
 held_then hold x y z (inr p) (inr q) k = inr (omega (arith, p.0, q.0), λ e. p.1 (sym k ∙ ap (λ f. f.held) e))
 
-pub round_falls : (hold : ℕ) (ended from_live to_live : Bool) (x : Lane) → Rounds hold x (round hold ended from_live to_live x)
-round_falls hold ended from_live false x = inl refl
-round_falls hold ended false true x =
+pub round_falls : (mark hold : ℕ) (ended from_live to_live : Bool) (x : Straight) →
+    Rounds hold x (round mark hold ended from_live to_live x)
+round_falls mark hold ended from_live false x = inl refl
+round_falls mark hold ended false true x =
     held_then hold x (held hold x) (write_filtered hold false (held hold x)) (held_turns hold x)
     (write_steps hold false (held hold x)) (write_keeps hold false (held hold x))
-round_falls hold ended true true x =
-    let a : Lane = held hold x in
-    let b : Lane = read_filtered ended a in
-    let c : Lane = moved b in
-    let d : Lane = write_filtered hold true c in
+round_falls mark hold ended true true x =
+    let a : Straight = held hold x in
+    let b : Straight = read_filtered mark ended a in
+    let c : Straight = moved b in
+    let d : Straight = write_filtered hold true c in
     held_then hold x a d (held_turns hold x)
-    (then_steps hold a b d (read_steps hold ended a) (then_steps hold b c d (moved_steps hold b) (write_steps hold true c)))
-    (write_keeps hold true c ∙ moved_keeps hold b)
-
--- a round after so many
-pub rounds-suc : (n : ℕ) (f : Lane → Lane) (x : Lane) → rounds (suc n) f x ≡ f (rounds n f x)
-rounds-suc zero f x = refl
-rounds-suc (suc n) f x = rounds-suc n f (f x)
+    (then_steps hold a b d (read_steps hold mark ended a) (then_steps hold b c d (moved_steps hold b) (write_steps hold true c)))
+    (write_keeps hold true c ∙ moved_keeps hold b ∙ read_keeps hold mark ended a)

@@ -1,9 +1,5 @@
-pub mod State
+pub mod SettingsView
 pub mod SideView
+pub mod RelayValue
 pub mod RelayView
-pub mod Passing
-pub mod Opening
-pub mod Rooms
-pub mod Serving
-pub mod Closing
-pub mod Counting
+pub mod Steps

@@ -1,11 +1,64 @@
--- What contracts see of a side as the code keeps it.
-use Rattle.std.specs.Prelude.{◌≡◌, ◌⊎◌, ◌+◌, ◌≤◌, ℕ, ◌-◌, ◌^◌, ◌==◌, nat_le, min, if◌then◌else◌, length}
+-- What contracts see of a side as the code keeps it: the side, and the direction that begins at it. Each filter hands its bytes on as
+-- they are.
+use Rattle.std.specs.Prelude.{◌≡◌, ◌⊎◌, ◌+◌, ◌≤◌, ℕ, Bool, false, ◌-◌, ◌^◌, ◌==◌, nat_le, min, if◌then◌else◌, length, Option, None}
+use Rattle.ev_types.specs.declared.filter.FilterKind.TheVariants as kind
+use Rattle.relay_model.specs.Settings.{no_marks, no_timeouts}
+use Rattle.relay_model.specs.Plain.{PlainSide}
 use Rattle.relay_model.specs.Flow.{Flow}
-use Rattle.relay_model.specs.Conserved.{Buffers}
-use Rattle.relay_core.specs.State.{Lane, SideValue}
-use Rattle.relay_core.specs.Passing.{used_now}
+use Rattle.relay_model.specs.Conserved.{Buffers, Running}
+use Rattle.relay_state.specs.State.{Lane}
+use Rattle.relay_state.specs.Passage.{Passage}
+use Rattle.relay_core.specs.declared.flags.SideFlags.{SideFlags}
 use Rattle.relay_core.specs.declared.side.Progress.{Progress}
 use Rattle.relay_core.specs.declared.side.SideState.{SideState}
+
+-- the flags of a side
+abbrev pub flags_of : PlainSide → SideFlags
+flags_of x = record {
+  live = x.live;
+  connecting = x.connecting;
+  reads = x.reads;
+  writes = x.writes;
+  ended = x.ended;
+  failed = x.failed;
+  write_ended = x.write_ended;
+  closed = x.closed;
+}
+
+-- a side that has these flags
+abbrev pub flagged : SideFlags → PlainSide → PlainSide
+flagged f x = record x {
+  live = f.live;
+  connecting = f.connecting;
+  reads = f.reads;
+  writes = f.writes;
+  ended = f.ended;
+  failed = f.failed;
+  write_ended = f.write_ended;
+  closed = f.closed;
+}
+
+-- No side has marks, timeouts, a limit or a group.
+abbrev pub plain_side : SideState → PlainSide
+plain_side s = record {
+  live = s.flags.live;
+  connecting = s.flags.connecting;
+  reads = s.flags.reads;
+  writes = s.flags.writes;
+  ended = s.flags.ended;
+  failed = s.flags.failed;
+  expired = false;
+  bad = None;
+  write_ended = s.flags.write_ended;
+  closed = s.flags.closed;
+  marks = no_marks;
+  timeouts = no_timeouts;
+  last_read = s.last_read;
+  last_write = s.last_write;
+  limit = None;
+  group = None;
+  references = 0;
+}
 
 abbrev pub flow_of : Progress → Flow
 flow_of p = record {
@@ -18,6 +71,9 @@ flow_of p = record {
   held = p.held;
 }
 
+abbrev pub flow_of_side : SideState → Flow
+flow_of_side s = flow_of s.flow
+
 abbrev pub buffers_of : SideState → Buffers
 buffers_of s = record {
   raw_input = s.raw_input.items;
@@ -26,11 +82,28 @@ buffers_of s = record {
   raw_output = s.raw_output.items;
 }
 
-abbrev pub lane_of : SideState → Lane
-lane_of s = record { flow = flow_of s.flow; buffers = buffers_of s }
+-- a filter that hands its bytes on, after so many of which this is the last
+abbrev pub handing_on : ℕ → Option ℕ → Bool → Running
+handing_on used last finished = record { kind = kind.None; since = 0; used = used; last = last; finished = finished; stopped = None }
 
-abbrev pub side_value : SideState → SideValue
-side_value s = record { flags = s.flags; read = s.read; lane = lane_of s }
+-- As bytes are handed on, a filter made as many as it used.
+abbrev pub lane_of : SideState → Lane
+lane_of s = record {
+  buffers = buffers_of s;
+  reader = handing_on s.flow.used s.last_used s.flow.read_done;
+  writer = handing_on s.flow.turned s.last_turned s.flow.write_done;
+  read = s.read;
+  read_made = s.flow.used;
+  write_made = s.flow.turned;
+}
+
+-- No filter meets a bad place.
+abbrev pub passage_of : SideState → Passage
+passage_of s = record { flow = flow_of_side s; lane = lane_of s; from_bad = None; to_bad = None }
+
+-- how many bytes the read filter uses now, until the input has reached the read mark
+abbrev pub used_now : Buffers → ℕ
+used_now b = min (length b.raw_input) (16384 - length b.input)
 
 -- The read filter has room: for what it uses now, or the input is empty and the raw input, which is short, goes there whole.
 abbrev pub HasInputRoom : SideState → Type 0

@@ -1,11 +1,15 @@
 // Closing a link: the steps in their order, whether one is called for, and what it changes.
-ghost use Rattle.std.specs.Prelude.{◌≡◌, ◌<◌};
-ghost use Rattle.relay_core.specs.Closing.{closing_of, link_of_step, is_called_for, gone, peer_gone, freed, after_closing};
-ghost use Rattle.relay_core.specs.State.{side_at, with_side};
+ghost use Rattle.std.specs.Prelude.{◌≡◌, ◌<◌, is_some, map};
+ghost use Rattle.relay_model.specs.Plain.{side_at};
+ghost use Rattle.relay_model.specs.Plain as plain;
+ghost use Rattle.relay_model.specs.Close.{closing_of, fault};
+ghost use Rattle.relay_state.specs.State.{lane_at, with_plain, with_lane, lane_left, lane_lost};
+ghost use Rattle.relay_state.specs.Closing.{is_complete, closing_entry, freed};
+ghost use Rattle.relay_core.specs.Steps.{steps_of, link_of_step, close_step, after_closing};
 
 use crate::relay::Relay;
 use crate::side::SideState;
-use ev_types::{Side, SideId};
+use ev_types::{Cause, Side, SideId};
 use evbuf_chain::ByteQueue;
 use std::alloc::Global;
 
@@ -29,7 +33,8 @@ pub enum Closing {
 impl Closing {
     /// The steps of a link, in their order.
     pub fn of(link: u32) -> [Closing; 9]
-        ensures { result ≡ closing_of link }
+        ensures steps { result ≡ steps_of link }
+        ensures model { map close_step result ≡ closing_of link }
     {
         let near = SideId {
             link,
@@ -51,11 +56,14 @@ impl Closing {
 }
 
 impl SideState {
-    ghost use Rattle.relay_core.specs.SideView.{side_value};
+    ghost use Rattle.std.specs.Prelude.{false};
+    ghost use Rattle.relay_core.specs.SideView.{plain_side, flow_of_side, lane_of};
 
     /// The side is freed: what was read from it and not moved is dropped.
     fn drop_input(&mut self, alloc: Global)
-        ensures { side_value self.new ≡ gone (side_value self.old) }
+        ensures side { plain_side self.new ≡ (let x = plain_side self.old in record x { live = false }) }
+        ensures flow { flow_of_side self.new ≡ flow_of_side self.old }
+        ensures lane { lane_of self.new ≡ lane_left (lane_of self.old) }
     {
         self.flags.live = false;
         self.raw_input = ByteQueue::new(alloc);
@@ -64,7 +72,9 @@ impl SideState {
 
     /// The peer is freed: what waits to be given to it is dropped.
     fn drop_output(&mut self, alloc: Global)
-        ensures { side_value self.new ≡ peer_gone (side_value self.old) }
+        ensures side { plain_side self.new ≡ plain_side self.old }
+        ensures flow { flow_of_side self.new ≡ flow_of_side self.old }
+        ensures lane { lane_of self.new ≡ lane_lost (lane_of self.old) }
     {
         self.output = ByteQueue::new(alloc);
         self.raw_output = ByteQueue::new(alloc);
@@ -72,13 +82,14 @@ impl SideState {
 }
 
 impl Relay {
+    ghost use Rattle.std.specs.Prelude.{◌==◌};
     ghost use Rattle.ev_types.specs.Sides.{peer};
-    ghost use Rattle.relay_core.specs.Closing.{is_all_given, is_nothing_waiting};
+    ghost use Rattle.relay_state.specs.Rooms.{output_length};
 
     /// Whether the direction to the side has ended and all of it was given.
     fn is_all_given(&self, side: SideId) -> bool
-        requires { side.link < self.now.state.opened }
-        ensures { result ≡ is_all_given self.now.state side }
+        requires { side.link < self.now.state.plain.opened }
+        ensures { result ≡ is_complete self.now.state (peer side) }
     {
         let from = &self.sides[side.peer().number()];
         from.flags.ended
@@ -90,22 +101,35 @@ impl Relay {
     }
 
     fn is_nothing_waiting(&self, side: SideId) -> bool
-        requires { side.link < self.now.state.opened }
-        ensures { result ≡ is_nothing_waiting self.now.state side }
+        requires { side.link < self.now.state.plain.opened }
+        ensures { result ≡ output_length self.now.state side == 0 }
     {
         let from = &self.sides[side.peer().number()];
-        from.output.len() == 0 && from.raw_output.len() == 0
+        from.output_len() == 0
+    }
+
+    /// Why the side is to be freed, where it is faulty.
+    pub fn fault(&self, side: SideId) -> Option<Cause>
+        requires { side.link < self.now.state.plain.opened }
+        ensures { result ≡ fault (side_at self.now.state.plain side) }
+    {
+        let own = &self.sides[side.number()];
+        if own.flags.failed {
+            Some(Cause::Failed)
+        } else {
+            None
+        }
     }
 
     /// Whether there is anything to do at a step of closing.
     pub fn calls_for(&self, step: Closing) -> bool
-        requires { link_of_step step < self.now.state.opened }
-        ensures { result ≡ is_called_for self.now.state step }
+        requires { link_of_step step < self.now.state.plain.opened }
+        ensures { result ≡ is_some (closing_entry self.now.state (close_step step)) }
     {
         match step {
             Closing::Faulty(side) => {
-                let flags = self.flags(side);
-                flags.live && flags.failed
+                let live = self.flags(side).live;
+                live && self.fault(side).is_some()
             }
             Closing::EndWriting(side) => {
                 let flags = self.flags(side);
@@ -138,8 +162,9 @@ impl Relay {
     }
 
     fn drop_input(&mut self, side: SideId)
-        requires { side.link < self.old.state.opened }
-        ensures { self.new.state ≡ with_side self.old.state side (gone (side_at self.old.state side)) }
+        requires { side.link < self.old.state.plain.opened }
+        ensures { self.new.state ≡ with_lane side (lane_left (lane_at self.old.state side))
+            (with_plain (plain.freed side self.old.state.plain) self.old.state) }
     {
         let alloc = self.alloc;
         let own = &mut self.sides[side.number()];
@@ -147,8 +172,8 @@ impl Relay {
     }
 
     fn drop_output(&mut self, from: SideId)
-        requires { from.link < self.old.state.opened }
-        ensures { self.new.state ≡ with_side self.old.state from (peer_gone (side_at self.old.state from)) }
+        requires { from.link < self.old.state.plain.opened }
+        ensures { self.new.state ≡ with_lane from (lane_lost (lane_at self.old.state from)) self.old.state }
     {
         let alloc = self.alloc;
         let own = &mut self.sides[from.number()];
@@ -157,8 +182,8 @@ impl Relay {
 
     /// The side is freed: what was read from it and not moved, and what waits to be given to it, is dropped.
     fn free(&mut self, side: SideId)
-        requires { side.link < self.old.state.opened }
-        ensures { self.new.state ≡ freed self.old.state side }
+        requires { side.link < self.old.state.plain.opened }
+        ensures { self.new.state ≡ freed side self.old.state }
     {
         self.drop_input(side);
         self.drop_output(side.peer());
@@ -166,7 +191,7 @@ impl Relay {
 
     /// Makes the change of a step of closing. Takes no memory.
     pub fn close(&mut self, step: Closing)
-        requires { link_of_step step < self.old.state.opened }
+        requires { link_of_step step < self.old.state.plain.opened }
         ensures { self.new.state ≡ after_closing self.old.state step }
     {
         match step {

@@ -1,7 +1,6 @@
 // What the relay counts.
 ghost use Rattle.std.specs.Prelude.{◌≡◌, ◌-◌, ◌^◌, ◌<◌, ◌≤◌, min, IsTrue, Some, None, if◌then◌else◌, nat_lt};
-ghost use Rattle.relay_core.specs.declared.count.Counts.{Counts as CountsValue};
-ghost use Rattle.relay_core.specs.Counting.{counts_of, link_state, link_count, is_open, open_below, buffered_at, buffered_below, is_spent};
+ghost use Rattle.relay_state.specs.Counting.{read_of, moved_of, given_of, link_state, link_count, is_open, open_below, buffered_at, buffered_below, is_spent};
 
 use crate::relay::Relay;
 use crate::side::SideState;
@@ -22,12 +21,13 @@ pub struct Counts {
 }
 
 impl SideState {
+    ghost use Rattle.std.specs.Prelude.{◌||◌};
     ghost use Rattle.std.specs.List.{list_any};
-    ghost use Rattle.relay_core.specs.Counting.{has_come_far};
-    ghost use Rattle.relay_core.specs.SideView.{side_value};
+    ghost use Rattle.relay_state.specs.Counting.{has_flown_far, has_read_far};
+    ghost use Rattle.relay_core.specs.SideView.{flow_of_side, lane_of};
 
     fn is_spent(&self) -> bool
-        ensures { result ≡ has_come_far (side_value self.now) }
+        ensures { result ≡ has_flown_far (flow_of_side self.now) || has_read_far (lane_of self.now) }
     {
         self.read >= SPENT
             || self.flow.used >= SPENT
@@ -38,7 +38,7 @@ impl SideState {
 
     /// Whether a count of some side has come far.
     fn any_is_spent(sides: &[SideState]) -> bool
-        ensures { result ≡ list_any (λ s. has_come_far (side_value s)) sides.now }
+        ensures { result ≡ list_any (λ s. has_flown_far (flow_of_side s) || has_read_far (lane_of s)) sides.now }
     {
         sides.iter().any(|side| side.is_spent())
     }
@@ -47,8 +47,10 @@ impl SideState {
 impl Relay {
     /// What was counted of a side, freed or not.
     pub fn counts(&self, side: SideId) -> Counts
-        requires { side.link < self.now.state.opened }
-        ensures { result ≡ counts_of self.now.state side }
+        requires { side.link < self.now.state.plain.opened }
+        ensures read { result.read ≡ read_of self.now.state side }
+        ensures moved { result.moved ≡ moved_of self.now.state side }
+        ensures given { result.given ≡ given_of self.now.state side }
     {
         let own = &self.sides[side.number()];
         let from = &self.sides[side.peer().number()];
@@ -61,7 +63,7 @@ impl Relay {
 
     /// What a link came to. None exactly from the number of opened links on.
     pub fn link(&self, link: u32) -> Option<LinkCount>
-        ensures { result ≡ (if nat_lt link self.now.state.opened then Some (link_count self.now.state link) else None) }
+        ensures { result ≡ (if nat_lt link self.now.state.plain.opened then Some (link_count self.now.state link) else None) }
     {
         if link >= self.opened {
             return None;
@@ -73,7 +75,7 @@ impl Relay {
         let near_counts = self.counts(near);
         let far_counts = self.counts(near.peer());
         Some(LinkCount {
-            state: self.link_state(near),
+            state: self.link_state(link),
             in_read: near_counts.read,
             in_given: near_counts.given,
             out_read: far_counts.read,
@@ -81,10 +83,14 @@ impl Relay {
         })
     }
 
-    fn link_state(&self, near: SideId) -> LinkState
-        requires { near.link < self.now.state.opened }
-        ensures { result ≡ link_state self.now.state near }
+    fn link_state(&self, link: u32) -> LinkState
+        requires { link < self.now.state.plain.opened }
+        ensures { result ≡ link_state self.now.state link }
     {
+        let near = SideId {
+            link,
+            side: Side::In,
+        };
         let flags = self.flags(near);
         let far_flags = self.flags(near.peer());
         if flags.live || far_flags.live {
@@ -98,7 +104,7 @@ impl Relay {
 
     /// How many links have a live side.
     pub fn open_links(&self) -> u32
-        ensures { result ≡ open_below self.now.state self.now.state.opened }
+        ensures { result ≡ open_below self.now.state self.now.state.plain.opened }
     {
         let mut count = 0;
         for link in 0..self.opened {
@@ -110,7 +116,7 @@ impl Relay {
     }
 
     fn is_open(&self, link: u32) -> bool
-        requires { link < self.now.state.opened }
+        requires { link < self.now.state.plain.opened }
         ensures { result ≡ is_open self.now.state link }
     {
         let near = SideId {
@@ -122,7 +128,7 @@ impl Relay {
 
     /// The number of bytes in all buffers of live sides, or 2^64 - 1 where that is more.
     pub fn buffered(&self) -> u64
-        ensures { result ≡ min (buffered_below self.now.state self.now.state.opened) (2 ^ 64 - 1) }
+        ensures { result ≡ min (buffered_below self.now.state self.now.state.plain.opened) (2 ^ 64 - 1) }
     {
         let mut total: u64 = 0;
         for link in 0..self.opened {
@@ -137,7 +143,7 @@ impl Relay {
     }
 
     fn buffered_at(&self, side: SideId) -> u64
-        requires { side.link < self.now.state.opened }
+        requires { side.link < self.now.state.plain.opened }
         ensures { result ≡ min (buffered_at self.now.state side) (2 ^ 64 - 1) }
     {
         let own = &self.sides[side.number()];
@@ -148,10 +154,10 @@ impl Relay {
         (own.input_len() as u64).saturating_add(from.output_len() as u64)
     }
 
-    /// Whether a count has come to 2^62: bytes read from an end, used, moved, turned or given.
+    /// Whether a count has come to 2^62: turns, or bytes read from an end, used, moved, turned or given.
     pub fn is_spent(&self) -> bool
         ensures { result ≡ is_spent self.now.state }
     {
-        SideState::any_is_spent(&self.sides)
+        self.turns >= SPENT || SideState::any_is_spent(&self.sides)
     }
 }

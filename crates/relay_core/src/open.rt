@@ -1,6 +1,6 @@
 // Opening links.
 ghost use Rattle.std.specs.Prelude.{◌≡◌, ◌<◌, ◌≤◌, nat_lt, OnOk};
-ghost use Rattle.relay_core.specs.Opening.{after_opened};
+ghost use Rattle.relay_state.specs.Opening.{after_opened};
 
 use crate::relay::Relay;
 use crate::side::SideState;
@@ -9,14 +9,14 @@ use ev_types::NoMemory;
 impl Relay {
     /// How many links were opened.
     pub fn opened(&self) -> u32
-        ensures { result ≡ self.now.state.opened }
+        ensures { result ≡ self.now.state.plain.opened }
     {
         self.opened
     }
 
     /// Whether fewer links were opened than the settings allow.
     pub fn can_open(&self) -> bool
-        ensures { result ≡ nat_lt self.now.state.opened self.now.state.settings.links }
+        ensures { result ≡ nat_lt self.now.state.plain.opened self.now.state.settings.links }
     {
         self.opened < self.settings.links
     }
@@ -32,13 +32,16 @@ impl Relay {
 
     /// Opens the next link, in room that was made before. Its In end is connected; whether its Out end is, is told.
     pub fn open(&mut self, connected: bool)
-        requires allowed { self.old.state.opened < self.old.state.settings.links }
+        requires allowed { self.old.state.plain.opened < self.old.state.settings.links }
         requires room { 0 < self.old.spare_links }
         ensures { self.new.state ≡ after_opened self.old.state connected }
     {
         let alloc = self.alloc;
-        self.sides.push(SideState::new(alloc, true)).unwrap();
-        self.sides.push(SideState::new(alloc, connected)).unwrap();
+        let time = self.time;
+        self.sides.push(SideState::new(alloc, true, time)).unwrap();
+        self.sides
+            .push(SideState::new(alloc, connected, time))
+            .unwrap();
         self.opened += 1;
     }
 }

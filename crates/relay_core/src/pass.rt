@@ -1,12 +1,15 @@
 // Passing a direction: rounds until one changes nothing. A round has its room before it begins, so that want of memory
 // leaves whole rounds.
 ghost use Rattle.std.specs.Prelude.{◌≡◌, ◌<◌, length, OnOk, MatchResult, IsTrue, ◌↔◌};
-ghost use Rattle.relay_core.specs.Passing.{held, read_filtered, moved, write_filtered, round, rounds, Passed, SomeRounds};
-ghost use Rattle.relay_core.specs.SideView.{side_value, lane_of, HasInputRoom, HasOutputRoom, not_turned};
+ghost use Rattle.std.specs.Prelude.{◌≤◌, take};
+ghost use Rattle.std.specs.List.{last_or};
+ghost use Rattle.relay_state.specs.Passage.{hold_part, read_part, move_part, has_moved_all, write_part, pass_round, Passed, SomeRounds};
+ghost use Rattle.relay_core.specs.SideView.{plain_side, passage_of, HasInputRoom, HasOutputRoom, not_turned};
 
 use crate::relay::Relay;
 use crate::side::{Progress, READ_MARK, SideState};
 use ev_types::{NoMemory, SideId};
+use evbuf_chain::ByteQueue;
 use std::mem::swap;
 
 /// Whether nothing was counted in between.
@@ -16,10 +19,22 @@ fn same_progress(a: Progress, b: Progress) -> bool
     a == b
 }
 
+/// The last of the first bytes of a queue, or the byte before them where there are none. Constant.
+fn last_of(queue: &ByteQueue, count: usize, before: Option<u8>) -> Option<u8>
+    requires { count ≤ length queue.now.items }
+    ensures { result ≡ last_or before (take count queue.now.items) }
+{
+    if count == 0 {
+        return before;
+    }
+    Some(queue.as_slice()[count - 1])
+}
+
 impl SideState {
     /// Makes room for what a round may move.
     fn reserve_round(&mut self, hold: u64) -> Result<(), NoMemory>
-        ensures same { side_value self.new ≡ side_value self.old }
+        ensures side { plain_side self.new ≡ plain_side self.old }
+        ensures passage { passage_of self.new ≡ passage_of self.old }
         ensures input { OnOk result (HasInputRoom self.new) }
         ensures raw_output { OnOk result (HasOutputRoom hold (not_turned self.new) self.new) }
     {
@@ -38,7 +53,8 @@ impl SideState {
 
     /// The direction becomes held at the hold mark, and is no more held at half of it.
     fn hold_back(&mut self, hold: u64)
-        ensures side { side_value self.new ≡ record (side_value self.old) { lane = held hold (lane_of self.old) } }
+        ensures side { plain_side self.new ≡ plain_side self.old }
+        ensures passage { passage_of self.new ≡ hold_part hold (passage_of self.old) }
         ensures spares { (self.new.input.spare ≡ self.old.input.spare) × (self.new.raw_output.spare ≡ self.old.raw_output.spare) }
     {
         let waiting = self.raw_output.len() as u64;
@@ -49,25 +65,31 @@ impl SideState {
         }
     }
 
-    /// The read filter runs until the raw input is used up or the input reaches the read mark.
+    /// The read filter runs until the raw input is used up or the input reaches the read mark, unless it is finished.
     pub(crate) fn run_read_filter(&mut self, ended: bool)
         requires { HasInputRoom self.old }
-        ensures side { side_value self.new ≡ record (side_value self.old) { lane = read_filtered ended (lane_of self.old) } }
+        ensures side { plain_side self.new ≡ plain_side self.old }
+        ensures passage { passage_of self.new ≡ read_part 16384 ended (passage_of self.old) }
         ensures spare { self.new.raw_output.spare ≡ self.old.raw_output.spare }
     {
+        if self.flow.read_done {
+            return;
+        }
         let count = self
             .raw_input
             .len()
             .min(READ_MARK.saturating_sub(self.input.len()));
         let done = ended && count == self.raw_input.len();
+        self.last_used = last_of(&self.raw_input, count, self.last_used);
         self.raw_input.give(&mut self.input, count);
         self.flow.used += count as u64;
-        self.flow.read_done = self.flow.read_done || done;
+        self.flow.read_done = done;
     }
 
     /// The input goes whole to an empty output, unless the direction is held.
     fn move_input(&mut self)
-        ensures side { side_value self.new ≡ record (side_value self.old) { lane = moved (lane_of self.old) } }
+        ensures side { plain_side self.new ≡ plain_side self.old }
+        ensures passage { passage_of self.new ≡ move_part (passage_of self.old) }
         ensures spare { self.new.raw_output.spare ≡ self.old.raw_output.spare }
     {
         if !self.flow.held && self.output.len() == 0 {
@@ -76,30 +98,39 @@ impl SideState {
         }
     }
 
-    /// The write filter runs until the output is used up or the raw output reaches the hold mark.
+    /// Whether all that will ever come was moved.
+    fn has_moved_all(&self) -> bool
+        ensures { result ≡ has_moved_all (passage_of self.now) }
+    {
+        self.flow.read_done && self.input.len() == 0
+    }
+
+    /// The write filter runs until the output is used up or the raw output reaches the hold mark, unless it is finished or
+    /// the direction is held.
     fn run_write_filter(&mut self, hold: u64, finish: bool)
         requires { HasOutputRoom hold (length self.old.output.items) self.old }
-        ensures { side_value self.new ≡ record (side_value self.old) { lane = write_filtered hold finish (lane_of self.old) } }
+        ensures side { plain_side self.new ≡ plain_side self.old }
+        ensures passage { passage_of self.new ≡ write_part hold finish (passage_of self.old) }
     {
-        if self.flow.held {
+        if self.flow.held || self.flow.write_done {
             return;
         }
         let room = hold.saturating_sub(self.raw_output.len() as u64);
         let count = self.output.len().min(room as usize);
-        let done = finish
-            && self.flow.read_done
-            && count == self.output.len()
-            && self.input.len() == 0;
+        let over = finish && self.has_moved_all();
+        let done = over && count == self.output.len();
+        self.last_turned = last_of(&self.output, count, self.last_turned);
         self.output.give(&mut self.raw_output, count);
         self.flow.turned += count as u64;
-        self.flow.write_done = self.flow.write_done || done;
+        self.flow.write_done = done;
     }
 
     /// One round, in room that was made before.
     fn make_round(&mut self, hold: u64, ended: bool, from_live: bool, to_live: bool)
         requires input { HasInputRoom self.old }
         requires raw_output { HasOutputRoom hold (not_turned self.old) self.old }
-        ensures { side_value self.new ≡ record (side_value self.old) { lane = round hold ended from_live to_live (lane_of self.old) } }
+        ensures side { plain_side self.new ≡ plain_side self.old }
+        ensures passage { passage_of self.new ≡ pass_round 16384 hold ended from_live to_live (passage_of self.old) }
     {
         if !to_live {
             return;
@@ -122,10 +153,10 @@ impl SideState {
         from_live: bool,
         to_live: bool,
     ) -> Result<(), NoMemory>
-        ensures flags { (self.new.flags ≡ self.old.flags) × (self.new.read ≡ self.old.read) }
-        ensures lane { MatchResult result
-            (λ _. Passed (round hold ended from_live to_live) (lane_of self.old) (lane_of self.new))
-            (λ _. SomeRounds (round hold ended from_live to_live) (lane_of self.old) (lane_of self.new)) }
+        ensures side { plain_side self.new ≡ plain_side self.old }
+        ensures passage { MatchResult result
+            (λ _. Passed (pass_round 16384 hold ended from_live to_live) (passage_of self.old) (passage_of self.new))
+            (λ _. SomeRounds (pass_round 16384 hold ended from_live to_live) (passage_of self.old) (passage_of self.new)) }
     {
         loop {
             self.reserve_round(hold)?;
@@ -139,13 +170,15 @@ impl SideState {
 }
 
 impl Relay {
-    ghost use Rattle.relay_core.specs.Passing.{PassedFrom, PartlyPassed};
+    ghost use Rattle.relay_state.specs.Passing.{PassedFrom, PartlyPassed};
 
     /// Passes the direction that begins at the side: rounds until one changes nothing. Want of memory comes between two
     /// rounds.
     pub fn pass(&mut self, from: SideId) -> Result<(), NoMemory>
-        requires { from.link < self.old.state.opened }
-        ensures { MatchResult result (λ _. PassedFrom self.old.state from self.new.state) (λ _. PartlyPassed self.old.state from self.new.state) }
+        requires { from.link < self.old.state.plain.opened }
+        ensures { MatchResult result
+            (λ _. PassedFrom self.old.state from self.new.state)
+            (λ _. PartlyPassed self.old.state from self.new.state) }
     {
         let hold = self.settings.hold;
         let to_live = self.flags(from.peer()).live;

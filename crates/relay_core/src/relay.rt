@@ -1,6 +1,8 @@
 // The relay's state, and its time.
 ghost use Rattle.std.specs.Prelude.{◌≡◌, ◌+◌, ◌*◌, ◌^◌, ◌<◌, [], min, max};
-ghost use Rattle.relay_core.specs.State.{new_state};
+ghost use Rattle.relay_state.specs.State.{new_state};
+ghost use Rattle.relay_state.specs.Time.{begun, poll_timeout};
+ghost use Rattle.relay_core.specs.SettingsView.{model_settings};
 
 use crate::settings::Settings;
 use crate::side::SideState;
@@ -19,12 +21,13 @@ pub struct Relay {
     pub(crate) alloc: Global,
     pub(crate) settings: Settings,
     pub(crate) time: u64,
+    pub(crate) turns: u64,
     pub(crate) opened: u32,
     pub(crate) sides: Vec<SideState>,
 }
 
 impl Model for Relay {
-    ghost use Rattle.relay_core.specs.State.{RelayValue};
+    ghost use Rattle.relay_core.specs.RelayValue.{RelayValue};
 
     ghost Value = { RelayValue };
 
@@ -38,12 +41,13 @@ impl Model for Relay {
 impl Relay {
     /// A relay with no link at time 0. Takes no memory.
     pub fn new(alloc: Global, settings: Settings) -> Relay
-        ensures { result.state ≡ new_state settings }
+        ensures { result.state ≡ new_state (model_settings settings) }
     {
         Relay {
             alloc,
             settings,
             time: 0,
+            turns: 0,
             opened: 0,
             sides: Vec::new(alloc),
         }
@@ -51,17 +55,27 @@ impl Relay {
 
     /// Milliseconds. It never falls.
     pub fn time(&self) -> u64
-        ensures { result ≡ self.now.state.time }
+        ensures { result ≡ self.now.state.plain.time }
     {
         self.time
     }
 
-    /// A reading of the clock becomes the time, cut at 2^62 and unless the time is greater. Answers the time.
+    /// A turn begins. A reading of the clock becomes the time, cut at 2^62 and unless the time is greater. Answers the time.
     pub fn begin(&mut self, reading: u64) -> u64
-        ensures time { result ≡ max self.old.state.time (min reading (2 ^ 62)) }
-        ensures state { self.new.state ≡ (let s = self.old.state in record s { time = result }) }
+        requires turns { self.old.state.plain.turn < 2 ^ 62 }
+        ensures time { result ≡ max self.old.state.plain.time (min reading (2 ^ 62)) }
+        ensures state { self.new.state ≡ begun self.old.state result }
     {
+        self.turns += 1;
         self.time = self.time.max(reading.min(LAST_TIME));
         self.time
+    }
+
+    /// For how many milliseconds a poll may wait; None is for ever. Nothing has a time to wait for yet.
+    pub fn poll_timeout(&self) -> Option<u64>
+        ensures { result ≡ poll_timeout self.now.state }
+    {
+        let _ = &self.alloc;
+        None
     }
 }

@@ -1,7 +1,11 @@
 // How many bytes may be read from a side's end and given to it now, and what a side wants.
 ghost use Rattle.std.specs.Prelude.{◌≡◌, ◌<◌};
-ghost use Rattle.relay_core.specs.State.{flags_at, with_flags};
-ghost use Rattle.relay_core.specs.Rooms.{may_read, may_write, read_room, write_room, offer as offer_of, wants_read, wants_write};
+ghost use Rattle.token_bucket.specs.declared.limit.Dir.TheVariants.{Read, Write};
+ghost use Rattle.relay_model.specs.Plain.{side_at, change_side};
+ghost use Rattle.relay_model.specs.Rooms.{may_read, may_write};
+ghost use Rattle.relay_state.specs.State.{with_plain};
+ghost use Rattle.relay_state.specs.Rooms.{read_room, write_room, offer as offer_of, wants};
+ghost use Rattle.relay_core.specs.SideView.{flags_of, flagged};
 
 use crate::flags::SideFlags;
 use crate::relay::Relay;
@@ -11,23 +15,23 @@ use ev_types::SideId;
 impl Relay {
     /// What is so of the side.
     pub fn flags(&self, side: SideId) -> SideFlags
-        requires { side.link < self.now.state.opened }
-        ensures { result ≡ flags_at self.now.state side }
+        requires { side.link < self.now.state.plain.opened }
+        ensures { result ≡ flags_of (side_at self.now.state.plain side) }
     {
         self.sides[side.number()].flags
     }
 
     pub(crate) fn set_flags(&mut self, side: SideId, flags: SideFlags)
-        requires { side.link < self.old.state.opened }
-        ensures { self.new.state ≡ with_flags self.old.state side flags }
+        requires { side.link < self.old.state.plain.opened }
+        ensures { self.new.state ≡ with_plain (change_side side (flagged flags) self.old.state.plain) self.old.state }
     {
         let own = &mut self.sides[side.number()];
         own.flags = flags;
     }
 
     fn may_read(&self, side: SideId) -> bool
-        requires { side.link < self.now.state.opened }
-        ensures { result ≡ may_read self.now.state side }
+        requires { side.link < self.now.state.plain.opened }
+        ensures { result ≡ may_read self.now.state.plain side }
     {
         let flags = self.flags(side);
         let peer_live = self.flags(side.peer()).live;
@@ -35,8 +39,8 @@ impl Relay {
     }
 
     fn may_write(&self, side: SideId) -> bool
-        requires { side.link < self.now.state.opened }
-        ensures { result ≡ may_write self.now.state side }
+        requires { side.link < self.now.state.plain.opened }
+        ensures { result ≡ may_write self.now.state.plain side }
     {
         let flags = self.flags(side);
         flags.live && !flags.connecting && flags.writes && !flags.failed && !flags.write_ended
@@ -44,7 +48,7 @@ impl Relay {
 
     /// How many bytes may be read from the side's end now, at most 16,384.
     pub fn read_room(&self, side: SideId) -> usize
-        requires { side.link < self.now.state.opened }
+        requires { side.link < self.now.state.plain.opened }
         ensures { result ≡ read_room self.now.state side }
     {
         if !self.may_read(side) {
@@ -56,7 +60,7 @@ impl Relay {
 
     /// How many bytes may be given to the side's end now, at most 16,384.
     pub fn write_room(&self, side: SideId) -> usize
-        requires { side.link < self.now.state.opened }
+        requires { side.link < self.now.state.plain.opened }
         ensures { result ≡ write_room self.now.state side }
     {
         if !self.may_write(side) {
@@ -68,7 +72,7 @@ impl Relay {
 
     /// The bytes that are given to the side's end now: as many as there is room for.
     pub fn offer(&self, side: SideId) -> &[u8]
-        requires { side.link < self.now.state.opened }
+        requires { side.link < self.now.state.plain.opened }
         ensures { result.now ≡ offer_of self.now.state side }
     {
         let room = self.write_room(side);
@@ -79,16 +83,16 @@ impl Relay {
 
     /// Whether the side wants to be read.
     pub fn wants_read(&self, side: SideId) -> bool
-        requires { side.link < self.now.state.opened }
-        ensures { result ≡ wants_read self.now.state side }
+        requires { side.link < self.now.state.plain.opened }
+        ensures { result ≡ wants self.now.state side Read }
     {
         self.read_room(side) > 0
     }
 
     /// Whether the side wants to be written, or to be told that it is connected.
     pub fn wants_write(&self, side: SideId) -> bool
-        requires { side.link < self.now.state.opened }
-        ensures { result ≡ wants_write self.now.state side }
+        requires { side.link < self.now.state.plain.opened }
+        ensures { result ≡ wants self.now.state side Write }
     {
         let flags = self.flags(side);
         self.write_room(side) > 0 || (flags.live && flags.connecting && !flags.failed)

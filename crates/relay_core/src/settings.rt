@@ -1,5 +1,7 @@
 // What is settled before a run.
 ghost use Rattle.std.specs.Prelude.{◌≡◌};
+ghost use Rattle.relay_model.specs.Settings.{usual};
+ghost use Rattle.relay_core.specs.SettingsView.{model_settings};
 
 /// What is settled before a run: the run's hold mark in bytes, and how many links are opened at most.
 ///
@@ -13,8 +15,7 @@ pub struct Settings {
 impl Settings {
     /// A hold mark of 524,288 and 256 links.
     pub fn usual() -> Settings
-        ensures hold { result.hold ≡ 524288 }
-        ensures links { result.links ≡ 256 }
+        ensures { model_settings result ≡ usual }
     {
         Settings {
             hold: 524_288,

@@ -23,12 +23,17 @@ pub(crate) struct Progress {
     pub(crate) held: bool,
 }
 
-/// A side and its direction. No count passes the count of the step before it, so none passes the bytes read.
+/// A side and its direction: when bytes were read from its end last, and when it took some, and the last byte that each
+/// filter of the direction used. No count passes the count of the step before it, so none passes the bytes read.
 #[derive(Drop)]
 pub(crate) struct SideState {
     pub(crate) flags: SideFlags,
+    pub(crate) last_read: u64,
+    pub(crate) last_write: u64,
     pub(crate) read: u64,
     pub(crate) flow: Progress,
+    pub(crate) last_used: Option<u8>,
+    pub(crate) last_turned: Option<u8>,
     pub(crate) raw_input: ByteQueue,
     pub(crate) input: ByteQueue,
     pub(crate) output: ByteQueue,
@@ -41,12 +46,18 @@ pub(crate) struct SideState {
 
 impl SideState {
     ghost use Rattle.std.specs.Prelude.{◌≡◌};
-    ghost use Rattle.relay_core.specs.State.{new_side};
-    ghost use Rattle.relay_core.specs.SideView.{side_value};
+    ghost use Rattle.ev_types.specs.declared.side.Side.TheVariants.{In};
+    ghost use Rattle.relay_model.specs.Settings.{usual};
+    ghost use Rattle.relay_model.specs.Flow.{no_flow};
+    ghost use Rattle.relay_model.specs.Plain.{new_side};
+    ghost use Rattle.relay_state.specs.State.{no_lane};
+    ghost use Rattle.relay_core.specs.SideView.{plain_side, flow_of_side, lane_of};
 
-    /// A side of a link that was opened just now. Takes no memory.
-    pub(crate) fn new(alloc: Global, connected: bool) -> SideState
-        ensures { side_value result ≡ new_side connected }
+    /// A side of a link that is opened at a time. Takes no memory.
+    pub(crate) fn new(alloc: Global, connected: bool, time: u64) -> SideState
+        ensures side { plain_side result ≡ new_side usual time 0 In connected }
+        ensures flow { flow_of_side result ≡ no_flow }
+        ensures lane { lane_of result ≡ no_lane }
     {
         SideState {
             flags: SideFlags {
@@ -59,6 +70,8 @@ impl SideState {
                 write_ended: false,
                 closed: false,
             },
+            last_read: time,
+            last_write: time,
             read: 0,
             flow: Progress {
                 used: 0,
@@ -69,6 +82,8 @@ impl SideState {
                 write_done: false,
                 held: false,
             },
+            last_used: None,
+            last_turned: None,
             raw_input: ByteQueue::new(alloc),
             input: ByteQueue::new(alloc),
             output: ByteQueue::new(alloc),

@@ -2,7 +2,7 @@
 ghost use Rattle.std.specs.Prelude.{◌≡◌, ◌<◌, length};
 
 use super::*;
-use ev_types::{LinkState, NoMemory, Side, SideId};
+use ev_types::{Cause, LinkState, NoMemory, Side, SideId};
 use std::test::Fail;
 
 const IN: SideId = SideId {
@@ -74,11 +74,27 @@ fn close_step(relay: &mut Relay, step: Closing, link: u32) {
     }
 }
 
+/// A read fails at an end. It answers why the side is to be freed.
+fn fail(relay: &mut Relay, side: SideId) -> Option<Cause> {
+    if side.link < relay.opened() {
+        relay.read_failed(side);
+    }
+    fault(relay, side)
+}
+
+fn fault(relay: &Relay, side: SideId) -> Option<Cause> {
+    if side.link >= relay.opened() {
+        return None;
+    }
+    relay.fault(side)
+}
+
 #[test]
 fn a_link_passes_bytes_and_ends(rt: HostRuntime) -> Result<(), Fail> {
     let mut relay = Relay::new(rt.alloc(), Settings::usual());
     assert_eq!(rt; relay.begin(7), 7);
     assert_eq!(rt; relay.time(), 7);
+    assert_eq!(rt; relay.poll_timeout(), None);
     open(&mut relay, true)?;
     read(&mut relay, IN, b"hello")?;
     assert_eq!(rt; relay.buffered(), 5);
@@ -111,5 +127,23 @@ fn a_held_direction_goes_on_at_half_of_the_hold_mark(rt: HostRuntime) -> Result<
         assert_eq!(rt; give(&mut relay, OUT, most), offered);
         pass(&mut relay, IN)?;
     }
+    Ok(())
+}
+
+#[test]
+fn a_side_whose_read_failed_is_freed(rt: HostRuntime) -> Result<(), Fail> {
+    let mut relay = Relay::new(rt.alloc(), Settings::usual());
+    open(&mut relay, true)?;
+    assert_eq!(rt; fail(&mut relay, IN), Some(Cause::Failed));
+    assert_eq!(rt; fault(&relay, OUT), None);
+    close(&mut relay, 0);
+    let gone = LinkCount {
+        state: LinkState::Gone,
+        in_read: 0,
+        in_given: 0,
+        out_read: 0,
+        out_given: 0,
+    };
+    assert_eq!(rt; relay.link(0), Some(gone));
     Ok(())
 }

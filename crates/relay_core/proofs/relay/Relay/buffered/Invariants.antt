@@ -1,5 +1,5 @@
 use Rattle.std.proofs.Common.{◌≡◌, ◌-◌, ◌^◌, min}
-use Rattle.relay_core.specs.Counting.{buffered_below}
+use Rattle.relay_state.specs.Counting.{buffered_below}
 use Rattle.relay_core.proofs.relay.Relay.buffered.Given as goal
 
 abbrev pub invariant-loop-link : goal.invariant-loop-link

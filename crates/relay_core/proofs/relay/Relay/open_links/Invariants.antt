@@ -1,5 +1,5 @@
 use Rattle.std.proofs.Common.{◌≡◌, ◌≤◌}
-use Rattle.relay_core.specs.Counting.{open_below}
+use Rattle.relay_state.specs.Counting.{open_below}
 use Rattle.relay_core.proofs.relay.Relay.open_links.Given as goal
 
 abbrev pub invariant-loop-link : goal.invariant-loop-link

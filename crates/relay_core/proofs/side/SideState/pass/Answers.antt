@@ -1,14 +1,10 @@
 use Rattle.std.proofs.Common.{◌≡◌, suc, ◌<◌, true, false, inl, inr, sym, ◌∙◌, ap, subst, refl}
-use Rattle.relay_core.specs.State.{Lane, SideValue}
-use Rattle.relay_core.specs.SideView.{side_value, lane_of, flow_of}
-use Rattle.relay_core.specs.Passing.{round, rounds}
-use Rattle.relay_core.specs.declared.side.SideState.{SideState}
+use Rattle.relay_state.specs.Passage.{Passage, pass_round, rounds}
+use Rattle.relay_core.specs.SideView.{passage_of, flow_of}
 use Rattle.relay_core.specs.declared.side.Progress.{Progress}
-use Rattle.relay_core.proofs.RoundLemmas.{weight, round_falls, rounds-suc}
+use Rattle.relay_core.proofs.RoundLemmas.{Straight, weight, round, round_falls}
+use Rattle.relay_core.proofs.PassageLemmas.{passage, straight, seen_of, round-is, rounds-suc}
 use Rattle.relay_core.proofs.side.SideState.pass.Goals as goal
-
-same_lane : (a b : SideState) → side_value b ≡ side_value a → lane_of b ≡ lane_of a
-same_lane a b s = ap (λ (z : SideValue). z.lane) s
 
 -- equal counts of the code, from equal counts as contracts see them
 same_counts : (a b : Progress) → flow_of a ≡ flow_of b → a ≡ b
@@ -30,18 +26,20 @@ same_counts a b h =
       held = held i;
     }
 
-pub returns-then-same_progress-clause-lane : goal.returns-then-same_progress-clause-lane
-returns-then-same_progress-clause-lane c =
-    let f : Lane → Lane = round c.args.hold c.args.ended c.args.from_live c.args.to_live in
+pub returns-then-same_progress-clause-passage : goal.returns-then-same_progress-clause-passage
+returns-then-same_progress-clause-passage c =
+    let f : Passage → Passage = pass_round 16384 c.args.hold c.args.ended c.args.from_live c.args.to_live in
     let mid = c.reserve_round.new.self in
     let new = c.make_round.new.self in
     let some = c.loop-before.invariant.some in
-    let before : lane_of mid ≡ rounds some.0 f (lane_of c.args.self.now) =
-    same_lane c.loop-before.self mid c.in_ok-reserve_round.ensures.same ∙ some.1 in
-    let once : lane_of new ≡ f (lane_of mid) = ap (λ (z : SideValue). z.lane) c.make_round.ensures in
-    let still : f (lane_of mid) ≡ lane_of mid = elim (round_falls c.args.hold c.args.ended c.args.from_live c.args.to_live (lane_of mid)) [
-      | inl same ↦ same
-      | inr falls ↦ absurd (falls.1 (sym (ap (λ (x : Lane). x.flow) once) ∙ ap flow_of (c.if-same_progress.ensures.0 refl)))
+    let before : passage_of mid ≡ rounds some.0 f (passage_of c.args.self.now) = c.in_ok-reserve_round.ensures.passage ∙ some.1 in
+    let once : passage_of new ≡ f (passage_of mid) = c.make_round.ensures.passage in
+    let made : passage (round 16384 c.args.hold c.args.ended c.args.from_live c.args.to_live (straight mid)) ≡ f (passage_of mid) =
+    round-is 16384 c.args.hold c.args.ended c.args.from_live c.args.to_live (straight mid) in
+    let still : f (passage_of mid) ≡ passage_of mid =
+    elim (round_falls 16384 c.args.hold c.args.ended c.args.from_live c.args.to_live (straight mid)) [
+      | inl same ↦ sym made ∙ ap passage same
+      | inr falls ↦ absurd (falls.1 (ap (λ (x : Passage). x.flow) (made ∙ sym once) ∙ ap flow_of (c.if-same_progress.ensures.0 refl)))
     ] in (some.0, once ∙ still ∙ before, ap f (once ∙ still) ∙ sym once)
 
 pub loop-before-smaller : goal.loop-before-smaller
@@ -49,29 +47,28 @@ loop-before-smaller c =
     let h = c.args.hold in
     let mid = c.reserve_round.new.self in
     let new = c.make_round.new.self in
-    let once : lane_of new ≡ round h c.args.ended c.args.from_live c.args.to_live (lane_of mid) =
-    ap (λ (z : SideValue). z.lane) c.make_round.ensures in
-    let begun : weight h (lane_of mid) ≡ weight h (lane_of c.loop-before.self) =
-    ap (weight h) (same_lane c.loop-before.self mid c.in_ok-reserve_round.ensures.same) in
-    elim (round_falls h c.args.ended c.args.from_live c.args.to_live (lane_of mid)) [
+    let g : Straight → Straight = round 16384 h c.args.ended c.args.from_live c.args.to_live in
+    let once : straight new ≡ g (straight mid) =
+    ap seen_of (c.make_round.ensures.passage ∙ sym (round-is 16384 h c.args.ended c.args.from_live c.args.to_live (straight mid))) in
+    let begun : weight h (straight mid) ≡ weight h (straight c.loop-before.self) =
+    ap (λ p. weight h (seen_of p)) c.in_ok-reserve_round.ensures.passage in
+    elim (round_falls 16384 h c.args.ended c.args.from_live c.args.to_live (straight mid)) [
       | inl same ↦ absurd (
-          let counts : new.flow ≡ mid.flow = same_counts new.flow mid.flow (ap (λ (x : Lane). x.flow) (once ∙ same)) in
+          let counts : new.flow ≡ mid.flow = same_counts new.flow mid.flow (ap (λ (x : Straight). x.flow) (once ∙ same)) in
           let e : false ≡ true = c.if-same_progress.ensures.1 counts in cc)
-      | inr falls ↦ subst (λ n. weight h (lane_of new) < n) begun
-          (subst (λ n. n < weight h (lane_of mid)) (sym (ap (weight h) once)) falls.0)
+      | inr falls ↦ subst (λ n. weight h (straight new) < n) begun
+          (subst (λ n. n < weight h (straight mid)) (sym (ap (weight h) once)) falls.0)
     ]
 
 pub loop-before-preserved : goal.loop-before-preserved
 loop-before-preserved c =
-    let f : Lane → Lane = round c.args.hold c.args.ended c.args.from_live c.args.to_live in
-    let same = c.in_ok-reserve_round.ensures.same in
+    let f : Passage → Passage = pass_round 16384 c.args.hold c.args.ended c.args.from_live c.args.to_live in
     let some = c.loop-before.invariant.some in
     record {
-      flags = ap (λ (z : SideValue). z.flags) c.make_round.ensures ∙ ap (λ (z : SideValue). z.flags) same ∙ c.loop-before.invariant.flags;
-      read = ap (λ (z : SideValue). z.read) c.make_round.ensures ∙ ap (λ (z : SideValue). z.read) same ∙ c.loop-before.invariant.read;
+      side = c.make_round.ensures.side ∙ c.in_ok-reserve_round.ensures.side ∙ c.loop-before.invariant.side;
       some = (
         suc some.0,
-        ap (λ (z : SideValue). z.lane) c.make_round.ensures ∙ ap f (same_lane c.loop-before.self c.reserve_round.new.self same)
-            ∙ ap f some.1 ∙ sym (rounds-suc some.0 f (lane_of c.args.self.now)),
+        c.make_round.ensures.passage ∙ ap f (c.in_ok-reserve_round.ensures.passage ∙ some.1)
+            ∙ sym (rounds-suc some.0 f (passage_of c.args.self.now)),
       );
     }
