@@ -21,7 +21,7 @@ use Rattle.relay_model.specs.Rooms.{is_connecting, may_read, most_at_once, read_
 use Rattle.relay_model.specs.Close.{freed_entry, fault, CloseStep}
 use Rattle.relay_core.specs.declared.close.Closing.{Closing}
 use Rattle.relay_core.specs.declared.close.Closing.TheVariants as closing
-use Rattle.relay_core.specs.Steps.{closing_of, close_step, after_closing, entry_events}
+use Rattle.relay_core.specs.Steps.{steps_of, close_step, after_closing, entry_events}
 use Rattle.relay_state.specs.State.{State}
 use Rattle.relay_state.specs.Rooms.{read_room, input_length, wants, write_room, offer}
 use Rattle.relay_state.specs.Serving.{after_conn, after_read, after_write}
@@ -357,7 +357,7 @@ module _ (links : ℕ) where
       none r = more n 0 2 s new a (omega arith) (nothing n s new a w r)
 
   closes_link : (k : ℕ) → IsRaising 18 (ClosesLink k)
-  closes_link k = each LooksAt 2 looks (closing_of k)
+  closes_link k = each LooksAt 2 looks (steps_of k)
 
   closes_all : IsRaising (18 * links) (ForAllLinks ClosesLink)
   closes_all n s new a w h =

@@ -20,7 +20,7 @@ use Rattle.relay_core.specs.declared.close.Closing.{Closing}
 use Rattle.relay_core.specs.declared.close.Closing.TheVariants as closing
 use Rattle.relay_state.specs.State.{State}
 use Rattle.relay_state.specs.Closing.{in_side, out_side}
-use Rattle.relay_core.specs.Steps.{link_of_step, closing_of, after_closing, entry_events}
+use Rattle.relay_core.specs.Steps.{link_of_step, steps_of, after_closing, entry_events}
 use Rattle.relay_drive.specs.Phases.{closing_events, told_events, told_step}
 use Rattle.relay_model.specs.Plain.{side_at}
 use Rattle.relay_model.specs.Close.{fault, freed_entry}
@@ -116,7 +116,7 @@ closing_vouched v w s (closing.PeerGone e) h law =
 closing_vouched v w s (closing.Shut e) h law = h
 
 -- each step of closing a link is of that link
-pub closing_link : (k i : ℕ) (d : Closing) → i < length (closing_of k) → link_of_step (get_or (closing_of k) i d) ≡ k
+pub closing_link : (k i : ℕ) (d : Closing) → i < length (steps_of k) → link_of_step (get_or (steps_of k) i d) ≡ k
 closing_link k zero d h = refl
 closing_link k (suc zero) d h = refl
 closing_link k (suc (suc zero)) d h = refl

@@ -21,6 +21,7 @@ use Rattle.ev_port.specs.EndSteps.{EndsWent, AllWent, PortStays}
 use Rattle.ev_port.specs.Ends.{is_failed_conn, conn_events, is_failed_read, read_events, is_failed_write, write_step, write_events, took_bytes}
 use Rattle.ev_port.specs.Counting.{counted}
 use Rattle.relay_state.specs.State.{State}
+use Rattle.relay_steps.proofs.FrameLemmas.{frame-conn, frame-read, frame-write}
 use Rattle.relay_drive.specs.declared.run.Run.{Run}
 use Rattle.relay_drive.specs.Calls.{is_memory, after_conn, after_read, after_write}
 use Rattle.relay_model.specs.Told.{has_failed}
@@ -121,21 +122,13 @@ goes_once waits l l' f f' a served does same entries list longer went stays hear
 -- What calls leave as it is
 
 pub conn_same : (s : State) (e : SideId) (answer : ConnAnswer) → Same s (after_conn s e answer)
-conn_same s e conn.Connected = record { time = refl; opened = refl; settings = refl }
-conn_same s e conn.Pending = record { time = refl; opened = refl; settings = refl }
-conn_same s e conn.Failed = record { time = refl; opened = refl; settings = refl }
+conn_same s e answer = let f = frame-conn s e answer in record { time = f.time; opened = f.opened; settings = f.settings }
 
 pub read_same : (s : State) (e : SideId) (answer : ReadAnswer) (bytes : List ℕ) → Same s (after_read s e answer bytes)
-read_same s e (read.Got n) bytes = record { time = refl; opened = refl; settings = refl }
-read_same s e read.Ended bytes = record { time = refl; opened = refl; settings = refl }
-read_same s e read.NotYet bytes = record { time = refl; opened = refl; settings = refl }
-read_same s e read.Failed bytes = record { time = refl; opened = refl; settings = refl }
+read_same s e answer bytes = let f = frame-read s e answer bytes in record { time = f.time; opened = f.opened; settings = f.settings }
 
 pub write_same : (s : State) (e : SideId) (answer : WriteAnswer) → Same s (after_write s e answer)
-write_same s e (write.Took n) = record { time = refl; opened = refl; settings = refl }
-write_same s e write.NotYet = record { time = refl; opened = refl; settings = refl }
-write_same s e write.Failed = record { time = refl; opened = refl; settings = refl }
-write_same s e write.NoMemory = record { time = refl; opened = refl; settings = refl }
+write_same s e answer = let f = frame-write s e answer in record { time = f.time; opened = f.opened; settings = f.settings }
 
 pub same_as : (s new is : State) → new ≡ is → Same s is → Same s new
 same_as s new is e h = subst (Same s) (sym e) h

@@ -28,7 +28,7 @@ use Rattle.relay_core.specs.declared.close.Closing.TheVariants as closing
 use Rattle.relay_state.specs.State.{State}
 use Rattle.relay_state.specs.Rooms.{read_room, write_room, offer, wants}
 use Rattle.relay_state.specs.Closing.{in_side, out_side, closing_entry, closed}
-use Rattle.relay_core.specs.Steps.{link_of_step, closing_of, close_step, after_closing, entry_events}
+use Rattle.relay_core.specs.Steps.{link_of_step, steps_of, close_step, after_closing, entry_events}
 use Rattle.relay_drive.specs.Steps.{Nothing, Then}
 use Rattle.relay_drive.specs.Calls.{Checks, Reads, Writes, after_conn, after_read, after_write, is_memory}
 use Rattle.relay_drive.specs.Phases.{links_from, ReadsSide, WritesSide, ConnectsSide, ReadsWithRoom, ServesSide, CutServing, PassesSide, CutPassing, PassesLink, CutPassingLink, closing_events, Closes, LooksAt, ClosesLink, CutClosingLink}
@@ -365,26 +365,26 @@ closing-cut n rest c cs t s new a lt k h =
     (stands-nothing n t (closing_then rest (c ∷ cs)) s new a k h)
 
 -- the steps of some links
-abbrev pub steps_of : List ℕ → List CloseStep
-steps_of [] = []
-steps_of (k ∷ ks) = model.closing_of k ++ steps_of ks
+abbrev pub model_steps : List ℕ → List CloseStep
+model_steps [] = []
+model_steps (k ∷ ks) = model.closing_of k ++ model_steps ks
 
-pub steps_of-links : (k n : ℕ) → steps_of (links_from k n) ≡ closing_from k n
-steps_of-links k zero = refl
-steps_of-links k (suc n) = ap (λ z. model.closing_of k ++ z) (steps_of-links (k + 1) n)
+pub model_steps-links : (k n : ℕ) → model_steps (links_from k n) ≡ closing_from k n
+model_steps-links k zero = refl
+model_steps-links k (suc n) = ap (λ z. model.closing_of k ++ z) (model_steps-links (k + 1) n)
 
 abbrev pub closing_links : List ℕ → Stage
-closing_links ks = Stage.Closing (steps_of ks)
+closing_links ks = Stage.Closing (model_steps ks)
 
 pub closing_links-keep : (n : ℕ) → Keeps n (link_below n) closing_links ClosesLink
 closing_links-keep n k ks t s new a lt w h =
-    all-keeps n (step_below n) (closing_then (steps_of ks)) LooksAt (closing-keeps n (steps_of ks)) (closing_of k) t s new a
+    all-keeps n (step_below n) (closing_then (model_steps ks)) LooksAt (closing-keeps n (model_steps ks)) (steps_of k) t s new a
     (lt, (lt, (lt, (lt, (lt, (lt, (lt, (lt, (lt, tt))))))))) w h
 
 pub closing_links-cut : (n : ℕ) (k : ℕ) (ks : List ℕ) (t : Trace) (s new : State) (a : Trace) → link_below n k →
     StandsWith n t (closing_links (k ∷ ks)) s → CutClosingLink k s a new →
     LeftFor TurnAnswer.Memory (t ++ a) new
 closing_links-cut n k ks t s new a lt w h =
-    cut-leaves n (step_below n) (closing_then (steps_of ks)) LooksAt (closing-keeps n (steps_of ks)) (λ _. Nothing)
+    cut-leaves n (step_below n) (closing_then (model_steps ks)) LooksAt (closing-keeps n (model_steps ks)) (λ _. Nothing)
     (LeftFor TurnAnswer.Memory)
-    (closing-cut n (steps_of ks)) (closing_of k) t s new a (lt, (lt, (lt, (lt, (lt, (lt, (lt, (lt, (lt, tt))))))))) w h
+    (closing-cut n (model_steps ks)) (steps_of k) t s new a (lt, (lt, (lt, (lt, (lt, (lt, (lt, (lt, (lt, tt))))))))) w h

@@ -29,7 +29,7 @@ use Rattle.relay_steps.proofs.PollSteps.{named, marks_of, MarkedWithin, poll-sta
 use Rattle.relay_steps.proofs.OpenSteps.{opened-stands}
 use Rattle.relay_steps.proofs.FrameLemmas.{frame-begun}
 use Rattle.relay_drive.proofs.MeantFolds.{StandsWith, Each_is, stands-nothing, all-keeps, cut-leaves}
-use Rattle.relay_drive.proofs.MeantServing.{left-stands, IsBelow, serving, serving-keeps, serving-cut, sides_of-links, link_below, links-below, passing_links, passing_links-keep, passing_links-cut, steps_of-links, closing_links, closing_links-keep, closing_links-cut}
+use Rattle.relay_drive.proofs.MeantServing.{left-stands, IsBelow, serving, serving-keeps, serving-cut, sides_of-links, link_below, links-below, passing_links, passing_links-keep, passing_links-cut, model_steps-links, closing_links, closing_links-keep, closing_links-cut}
 
 -- The clock
 
@@ -219,7 +219,7 @@ served-pass n t s k = record {
 passed-close : (n : ℕ) (t : Trace) (s : State) → StandsWith n t (Stage.Passing [] []) s →
     StandsWith s.plain.opened t (closing_links (links_from 0 s.plain.opened)) s
 passed-close n t s k = record {
-  stands = subst (λ cs. StandsFor t (Stage.Closing cs) s) (sym (steps_of-links 0 s.plain.opened)) (passed_all-stands t s k.stands);
+  stands = subst (λ cs. StandsFor t (Stage.Closing cs) s) (sym (model_steps-links 0 s.plain.opened)) (passed_all-stands t s k.stands);
   opened = refl;
 }
 

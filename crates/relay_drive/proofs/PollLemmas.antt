@@ -1,5 +1,5 @@
 -- The entries of a poll, and what sides want.
-use Rattle.std.proofs.Common.{◌≡◌, inl, inr, ℕ, zero, suc, ◌+◌, Bool, true, false, ◌||◌, List, [], ◌∷◌, ◌++◌, length, take, if◌then◌else◌, None, refl, sym, ◌∙◌, ap, subst, arith, append_assoc, append-nil}
+use Rattle.std.proofs.Common.{◌≡◌, inl, inr, ℕ, zero, suc, ◌+◌, Bool, true, false, ◌||◌, List, [], ◌∷◌, ◌++◌, length, take, if◌then◌else◌, Option, refl, sym, ◌∙◌, ap, subst, arith, append_assoc, append-nil}
 use Rattle.std.proofs.lemmas.List.Folds.{list_any-append}
 use Rattle.stream_words.specs.Faults.{Counted}
 use mathlib.Core.Logic.{◌⊎◌}
@@ -86,9 +86,9 @@ ready_polls (w ∷ ws) =
     ∙ both_false (has_poll_failed (marks w)) (has_poll_failed (ready_events ws)) (mark_polls w.can_read w.can_write w.side)
     (ready_polls ws)
 
-pub Heard-poll : (f g : Faults) (ws : List Want) (accept : Bool) → PollFaults f g false →
-    Heard f g (poll_events None ws (polled.Ready accept)) false
-Heard-poll f g ws accept h = record {
+pub Heard-poll : (f g : Faults) (timeout : Option ℕ) (ws : List Want) (accept : Bool) → PollFaults f g false →
+    Heard f g (poll_events timeout ws (polled.Ready accept)) false
+Heard-poll f g timeout ws accept h = record {
   ends = λ e. subst (λ z. Counted (f.ends e) (g.ends e) z)
       (sym (list_any-append (failed_by e) (want_events ws) (ready_events ws)
       ∙ both_false (has_failed e (want_events ws)) (has_failed e (ready_events ws)) (want_failed ws e) (ready_failed ws e)))
@@ -99,8 +99,9 @@ Heard-poll f g ws accept h = record {
   listener = Counted-same f.listener g.listener h.listener;
 }
 
-pub Heard-failed_poll : (f g : Faults) (ws : List Want) → PollFaults f g true → Heard f g (poll_events None ws polled.Failed) false
-Heard-failed_poll f g ws h = record {
+pub Heard-failed_poll : (f g : Faults) (timeout : Option ℕ) (ws : List Want) → PollFaults f g true →
+    Heard f g (poll_events timeout ws polled.Failed) false
+Heard-failed_poll f g timeout ws h = record {
   ends = λ e. subst (λ z. Counted (f.ends e) (g.ends e) z)
       (sym (list_any-append (failed_by e) (want_events ws) ((entry.PollFailed, []) ∷ [])
       ∙ both_false (has_failed e (want_events ws)) false (want_failed ws e) refl))

@@ -10,7 +10,8 @@ use Rattle.relay_core.specs.declared.close.Closing.{Closing}
 use Rattle.relay_core.specs.declared.close.Closing.TheVariants as closing
 use Rattle.relay_state.specs.State.{State}
 use Rattle.relay_state.specs.Closing.{closing_entry}
-use Rattle.relay_core.specs.Steps.{closing_of, close_step, after_closing}
+use Rattle.relay_core.specs.Steps as steps
+use Rattle.relay_core.specs.Steps.{steps_of, after_closing}
 pub use Rattle.relay_core.specs.Steps.{closing_events}
 use Rattle.relay_drive.specs.Steps.{Nothing, Each, CutAt}
 
@@ -32,10 +33,10 @@ pub record Closes (step : Closing) (s : State) (a : Trace) (new : State) : Type 
 
 -- a step of closing is made where it is called for
 abbrev pub LooksAt : Closing → State → Trace → State → Type 0
-LooksAt step s a new = MatchBool (is_some (closing_entry s (close_step step))) (Closes step s a new) (Nothing s a new)
+LooksAt step s a new = MatchBool (is_some (closing_entry s (steps.close_step step))) (Closes step s a new) (Nothing s a new)
 
 abbrev pub ClosesLink : ℕ → State → Trace → State → Type 0
-ClosesLink k s a new = Each LooksAt (closing_of k) s a new
+ClosesLink k s a new = Each LooksAt (steps_of k) s a new
 
 abbrev pub CutClosingLink : ℕ → State → Trace → State → Type 0
-CutClosingLink k s a new = CutAt LooksAt (λ _. Nothing) (closing_of k) s a new
+CutClosingLink k s a new = CutAt LooksAt (λ _. Nothing) (steps_of k) s a new

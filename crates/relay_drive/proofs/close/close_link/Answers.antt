@@ -2,7 +2,7 @@ use Rattle.std.proofs.Common.{◌<◌, List, length, get_or, sym, ◌∙◌, ap,
 use Rattle.std.proofs.lemmas.Result.{err_from_is_err_and}
 use Rattle.relay_core.specs.declared.close.Closing.{Closing}
 use Rattle.relay_core.specs.declared.close.Closing.TheVariants.{BothDone}
-use Rattle.relay_core.specs.Steps.{link_of_step, closing_of}
+use Rattle.relay_core.specs.Steps.{link_of_step, steps_of}
 use Rattle.relay_drive.specs.Steps.{Nothing}
 use Rattle.relay_drive.specs.Phases.{LooksAt}
 use Rattle.relay_drive.proofs.ClosingLemmas.{closing_link}
@@ -13,20 +13,20 @@ pub close_step-requires : goal.close_step-requires
 close_step-requires g c =
     let k = c.args.link in
     let i = c.loop-step.step-index in
-    let is = c.of-steps.ensures in
-    let lt : i < length (closing_of k) = c.loop-step-test.true in
+    let is = c.of-steps.ensures.steps in
+    let lt : i < length (steps_of k) = c.loop-step-test.true in
     let link = ap (λ (z : List Closing). link_of_step (get_or z i _)) is ∙ closing_link k i _ lt in
     subst (λ m. m < c.loop-step.run.relay.state.plain.opened) (sym link) (subst (λ m. k < m) (sym c.loop-step.invariant.kept) c.requires)
 
 pub returns-in_err-close_step-clause-went : goal.returns-in_err-close_step-clause-went
 returns-in_err-close_step-clause-went g c =
     let p = err_from_is_err_and c.from_residual.result c.from_residual.ensures.1 in
-    rw (p.1) (goes_cut LooksAt (λ _. Nothing) (closing_of c.args.link) c.loop-step.step-index (BothDone 0) c.loop-step-test.true
+    rw (p.1) (goes_cut LooksAt (λ _. Nothing) (steps_of c.args.link) c.loop-step.step-index (BothDone 0) c.loop-step-test.true
     c.loop-step.invariant.went c.in_err-close_step.ensures.went)
 
 pub loop-step-preserved : goal.loop-step-preserved
 loop-step-preserved g c = record {
-  went = goes_next LooksAt (closing_of c.args.link) c.loop-step.step-index _ c.loop-step-test.true
-      c.loop-step.invariant.went (rw (c.of-steps.ensures) at c.in_ok-close_step.ensures.went);
+  went = goes_next LooksAt (steps_of c.args.link) c.loop-step.step-index _ c.loop-step-test.true
+      c.loop-step.invariant.went (rw (c.of-steps.ensures.steps) at c.in_ok-close_step.ensures.went);
   kept = c.in_ok-close_step.ensures.kept ∙ c.loop-step.invariant.kept;
 }

@@ -1,8 +1,11 @@
-use Rattle.std.proofs.Common.{◌≡◌, false, ◌&&◌, refl, sym, ◌∙◌, ap, subst}
+use Rattle.std.proofs.Common.{◌≡◌, length, true, false, ◌&&◌, refl, sym, ◌∙◌, ap, subst}
 use Rattle.std.specs.Prelude.{MatchBool}
 use Rattle.std.proofs.lemmas.Bool.{not-true, not-false}
 use Rattle.token_bucket.specs.declared.limit.Dir.TheVariants as dir
-use Rattle.relay_state.specs.Rooms.{wants}
+use Rattle.ev_port.specs.Ends.{got_bytes}
+use Rattle.relay_state.specs.State.{State}
+use Rattle.relay_state.specs.Rooms.{read_room, wants}
+use Rattle.relay_steps.proofs.FrameLemmas.{frame-read}
 use Rattle.relay_drive.specs.Steps.{Nothing}
 use Rattle.relay_drive.specs.Phases.{ReadsWithRoom}
 use Rattle.relay_drive.proofs.GoesLemmas.{Grew-none, goes_as, goes_nowhere}
@@ -26,3 +29,24 @@ returns-then-not-want-clause-went g c =
     ap (λ b. b && wants s e dir.Read) (not-true c.args.want.can_read c.if-not-want.true) in
     goes_as (λ a p. subst (λ b. MatchBool b (ReadsWithRoom e s a s) (Nothing s a s)) (sym no) p)
     (goes_nowhere refl refl (Grew-none (g.S.Scribe.trace c.args.scribe.now)) (λ s t x k. k))
+
+pub returns-clause-went : goal.returns-clause-went
+returns-clause-went g c =
+    let s = c.args.run.now.relay.state in
+    let e = c.args.want.side in
+    let new = c.ask_read.new.run.relay.state in
+    let yes : c.args.want.can_read && wants s e dir.Read ≡ true =
+    ap (λ b. b && wants s e dir.Read) (not-false c.args.want.can_read c.if-not-want.false) ∙ sym c.wants_read.ensures
+    ∙ c.if-not-wants_read.false in
+    let most : length c.ask_read.new.into ≡ read_room s e = c.ask_read.auto.into ∙ c.split_at_mut-into.ensures.front_len
+    ∙ c.read_room-room.ensures in
+    goes_as (λ a p. subst (λ b. MatchBool b (ReadsWithRoom e s a new) (Nothing s a new)) (sym yes)
+    (c.in_ok-ask_read.field-0, c.ask_read.new.into, most, p)) c.in_ok-ask_read.ensures.went
+
+pub returns-clause-kept : goal.returns-clause-kept
+returns-clause-kept g c =
+    let s = c.args.run.now.relay.state in
+    let e = c.args.want.side in
+    let r = c.in_ok-ask_read.ensures.went.does in
+    ap (λ (z : State). z.plain.opened) r.state
+    ∙ (frame-read s e c.in_ok-ask_read.field-0 (got_bytes c.in_ok-ask_read.field-0 c.ask_read.new.into)).opened
