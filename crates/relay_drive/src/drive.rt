@@ -122,7 +122,7 @@ impl Drive {
     }
 
     /// The number of bytes in all buffers of live sides, or 2^64 - 1 where that is more: those under way in the trace, read and
-    /// not yet given (`buffered_is_underway` of relay_meaning). Takes no memory; linear in the number of links.
+    /// not yet given (`buffered_is_underway` of relay_laws). Takes no memory; linear in the number of links.
     pub fn buffered(&self) -> u64
         ensures { result ≡ min (buffered_below self.now.state self.now.state.plain.opened) (2 ^ 64 - 1) }
     {
