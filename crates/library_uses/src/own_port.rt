@@ -1,9 +1,11 @@
 // The relay over a port of one's own: a call that waits, says hello and ends, and the other end that hears it.
-ghost use Rattle.std.specs.Prelude.{◌≡◌, ◌<◌, ⊤, map, length};
-ghost use Rattle.ev_port.specs.Ends.{ReadWithin};
+ghost use Rattle.std.specs.Prelude.{◌≡◌, ◌<◌, ⊤, false, map, length};
+ghost use Rattle.ev_port.specs.Ends.{ReadWithin, is_failed_read};
 ghost use Rattle.library_uses.specs.OwnPort.{marked, no_fault, silent_port, silent_end};
 
-use ev_port::{Accepted, Addr, ConnAnswer, Mute, Polled, Port, ReadAnswer, Started, Want, WriteAnswer};
+use ev_port::{
+    Accepted, Addr, ConnAnswer, Mute, Polled, Port, ReadAnswer, Started, Want, WriteAnswer,
+};
 use ev_types::{Side, SideId};
 use relay_core::Settings;
 use relay_drive::Drive;
@@ -11,6 +13,7 @@ use std::alloc::Global;
 use std::io::Print;
 
 /// One call: whether it waits, what its In end has still to say, how many bytes its Out end heard and whether it heard the end.
+#[derive(Drop)]
 struct OneCall {
     waits: bool,
     left: &'static [u8],
@@ -88,7 +91,8 @@ impl Port for OneCall {
 impl OneCall {
     fn say(&mut self, into: &mut [u8]) -> ReadAnswer
         requires { 0 < length into.old }
-        ensures { ReadWithin result (length into.new) }
+        ensures within { ReadWithin result (length into.new) }
+        ensures well { is_failed_read result ≡ false }
     {
         let said = self.left.len().min(into.len());
         if said == 0 {
