@@ -4,3 +4,4 @@ pub mod SizeLemmas
 pub mod CountLemmas
 pub mod FrameLemmas
 pub mod WaitLemmas
+pub mod CalmLemmas
