@@ -3,3 +3,7 @@ pub mod DoneLemmas
 pub mod LinkLemmas
 pub mod PlainlyLemmas
 pub mod UnderwayLemmas
+pub mod SideLemmas
+pub mod SettledLemmas
+pub mod OrderLemmas
+pub mod FreeLemmas
