@@ -7,3 +7,7 @@ pub mod SideLemmas
 pub mod SettledLemmas
 pub mod OrderLemmas
 pub mod FreeLemmas
+pub mod ByteLemmas
+pub mod PollLemmas
+pub mod EventLemmas
+pub mod SpellingLemmas
