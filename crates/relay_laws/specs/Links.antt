@@ -1,14 +1,16 @@
 -- What a link came to, and how many live, told from the frees in a trace.
-use Rattle.std.specs.Prelude.{◌≡◌, ℕ, zero, suc, ◌+◌, ◌<◌, Bool, false, ◌&&◌, not, if◌then◌else◌}
+use Rattle.std.specs.Prelude.{◌≡◌, ℕ, zero, suc, ◌+◌, ◌<◌, Bool, false, ◌&&◌, not, if◌then◌else◌, List}
 use Rattle.std.specs.List.{list_any}
 use Rattle.ev_types.specs.declared.side.SideId.{SideId}
 use Rattle.ev_types.specs.declared.status.LinkState.{LinkState}
 use Rattle.ev_types.specs.declared.status.LinkState.TheVariants as state
 use Rattle.ev_types.specs.declared.why.Cause.TheVariants as cause
 use Rattle.ev_types.specs.declared.entry.Entry.TheVariants as entry
-use Rattle.ev_types.specs.Sides.{same_end}
+use Rattle.ev_types.specs.Sides.{peer, same_end}
 use Rattle.ev_types.specs.Trace.{Event, Trace}
 use Rattle.relay_model.specs.Trace.{bytes_read, bytes_given}
+use Rattle.relay_model.specs.Flow.{passed_at_end}
+use Rattle.relay_model.specs.Rooms.{read_filter, write_filter}
 use Rattle.relay_model.specs.Stages.{Stage}
 use Rattle.relay_model.specs.Told.{is_freed}
 use Rattle.relay_model.specs.Totals.{opened}
@@ -49,7 +51,11 @@ pub record LinksAre (t : Trace) (s : State) : Type 0 where
 abbrev pub LinksAreTold : Type 0
 LinksAreTold = (t : Trace) (x : Stage) (s : State) → StandsFor t x s → LinksAre t s
 
--- Where a link is done, all that was read at either side was given to the other.
+-- what the filters of a direction make of all that was read where it begins, with their ends
+abbrev pub passed_from : Trace → State → SideId → List ℕ
+passed_from t s e = passed_at_end (read_filter s.settings s.plain e) (write_filter s.settings s.plain (peer e)) (bytes_read e t)
+
+-- Where a link is done, each side was given all that the filters make of what was read at the other, with their ends.
 abbrev pub DoneIsWhole : Type 0
 DoneIsWhole = (t : Trace) (x : Stage) (s : State) → StandsFor t x s → (link : ℕ) → link_state_in t link ≡ state.Done →
-    (bytes_given (out_side link) t ≡ bytes_read (in_side link) t) × (bytes_given (in_side link) t ≡ bytes_read (out_side link) t)
+    (bytes_given (out_side link) t ≡ passed_from t s (in_side link)) × (bytes_given (in_side link) t ≡ passed_from t s (out_side link))

@@ -5,6 +5,7 @@ use Rattle.ev_types.specs.declared.side.SideId.{SideId}
 use Rattle.ev_types.specs.Trace.{Trace}
 use Rattle.script_text.specs.TraceLaws.{IsSpellable}
 use Rattle.relay_model.specs.Trace.{bytes_read}
+use Rattle.relay_model.specs.Settings.{Settings}
 use Rattle.relay_model.specs.Stages.{Stage}
 use Rattle.relay_model.specs.Lines.{brings}
 use Rattle.ev_types.specs.ScriptTurn.{ScriptTurn}
@@ -30,7 +31,15 @@ BringsFit turns = (e : SideId) → FewBytes (flat_map (brings e) (flat_map (λ t
 abbrev pub ReadsFitAsScripted : Type 0
 ReadsFitAsScripted = (turns : List ScriptTurn) (closing_by : ℕ) (t : Trace) → BringsFit turns → IsAnswered turns closing_by t → ReadsFit t
 
--- A trace for which a relay stands can be spelled as text and read back, where what was read fits and links are named by numbers
--- below 2^32.
+-- Each timeout is a number of 64 bits.
+pub record TimeoutsFit (g : Settings) : Type 0 where
+  pub in_read : g.in_timeouts.read_ms < 2 ^ 64
+  pub in_write : g.in_timeouts.write_ms < 2 ^ 64
+  pub out_read : g.out_timeouts.read_ms < 2 ^ 64
+  pub out_write : g.out_timeouts.write_ms < 2 ^ 64
+
+-- A trace for which a relay stands can be spelled as text and read back, where what was read fits, links are named by numbers
+-- below 2^32, and timeouts fit.
 abbrev pub StoodIsSpellable : Type 0
-StoodIsSpellable = (t : Trace) (x : Stage) (s : State) → StandsFor t x s → s.settings.links ≤ 2 ^ 32 → ReadsFit t → IsSpellable t
+StoodIsSpellable = (t : Trace) (x : Stage) (s : State) → StandsFor t x s → s.settings.links ≤ 2 ^ 32 → TimeoutsFit s.settings → ReadsFit t →
+    IsSpellable t

@@ -1,0 +1,13 @@
+pub mod LawLemmas
+pub mod DoneLemmas
+pub mod LinkLemmas
+pub mod PlainlyLemmas
+pub mod UnderwayLemmas
+pub mod SideLemmas
+pub mod SettledLemmas
+pub mod OrderLemmas
+pub mod FreeLemmas
+pub mod ByteLemmas
+pub mod PollLemmas
+pub mod EventLemmas
+pub mod SpellingLemmas
