@@ -36,7 +36,7 @@ use Rattle.relay_state.specs.State.{State}
 use Rattle.relay_state.specs.Closing.{in_side, out_side}
 use Rattle.relay_state.specs.Counting.{link_count}
 use Rattle.relay_steps.specs.Meaning.{IsBuilt, StandsFor}
-use Rattle.relay_laws.specs.Spelling.{BringsFit}
+use Rattle.relay_laws.specs.Spelling.{TimeoutsFit, BringsFit}
 use Rattle.relay_laws.proofs.LawLemmas.{means_conserved, counts_are_told}
 use Rattle.relay_laws.proofs.LinkLemmas.{links_are_told}
 use Rattle.relay_model.proofs.PollLemmas.{polls_fail_as_scripted}
@@ -80,6 +80,10 @@ usual-is g h l = rw (h, l) refl
 pub usual-built : IsBuilt usual
 usual-built = record { hooks = refl; in_rate = refl; out_rate = refl; in_group = refl; out_group = refl; groups = refl }
 
+-- nor a timeout
+usual-fits : TimeoutsFit usual
+usual-fits = record { in_read = omega arith; in_write = omega arith; out_read = omega arith; out_write = omega arith }
+
 -- a relay that stands for a trace stood so
 pub stood-at : (g : model.Settings) (t : Trace) (x : Stage) (s : State) → s.settings ≡ g → StandsFor t x s → StoodAt g t x
 stood-at g t x s is k = record {
@@ -111,7 +115,7 @@ run-of script answer t x s is k left fit played ends =
       quiet = legal_is_quiet g t (at x s.plain, stood.reached);
       freed = λ before after e why moved given bytes split.
           frees_have_causes g t before after e why moved given bytes (at x s.plain, stood.reached) split;
-      read_back = trace_of-trace_text t (stood_is_spellable t x s k (omega (arith, links)) reads);
+      read_back = trace_of-trace_text t (stood_is_spellable t x s k (omega (arith, links)) (subst TimeoutsFit (sym is) usual-fits) reads);
       opened = length-lines_below s s.plain.opened ∙ (links_are_told t x s k).links;
       report = tells-below t x s k s.plain.opened (omega arith);
     }
