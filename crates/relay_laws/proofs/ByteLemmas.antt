@@ -126,7 +126,8 @@ at_end-bytes kind.ToLf xs h = All-append IsByte (to_lf xs) (last_cr xs) (lf-byte
 at_end-bytes kind.HexOut xs h = hex_out-bytes xs h
 at_end-bytes kind.HexIn xs h = hex_in-bytes xs
 
-made-bytes : (k : FilterKind) (b : Bool) (xs : List ℕ) → AllBytes xs → AllBytes (if b then (filter_of k).at_end xs else (filter_of k).before xs)
+made-bytes : (k : FilterKind) (b : Bool) (xs : List ℕ) → AllBytes xs →
+    AllBytes (if b then (filter_of k).at_end xs else (filter_of k).before xs)
 made-bytes k true xs h = at_end-bytes k xs h
 made-bytes k false xs h = before-bytes k xs h
 

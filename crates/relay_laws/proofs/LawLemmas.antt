@@ -120,9 +120,10 @@ module _ (t : Trace) (x : Stage) (s : State) (k : StandsFor t x s) where
   pub taken-length : (e : SideId) → length (bytes_given (peer e) t) ≡ (flow_at s.plain e).given
   taken-length e =
       let a = k.accounts e in
+      let r = read_filter s.settings s.plain e in
+      let w = write_filter s.settings s.plain (peer e) in
       ap length a.given
-      ∙ length-take-le (flow_at s.plain e).given
-      (outcome (read_filter s.settings s.plain e) (write_filter s.settings s.plain (peer e)) (bytes_read e t) (flow_at s.plain e)) a.fits.given
+      ∙ length-take-le (flow_at s.plain e).given (outcome r w (bytes_read e t) (flow_at s.plain e)) a.fits.given
 
 pub means_conserved : MeansConserved
 means_conserved t x s k = conserved t x s k

@@ -87,8 +87,9 @@ module _ (t : Trace) (x : Stage) (s : State) (h : StandsFor t x s) where
       let f : Flow = flow_at p e in
       let read = bytes_read e t in
       let r : Filter = read_filter s.settings p e in
-      let held = plainly-held (read_kind s.settings e.side) (write_kind s.settings (peer e).side) (read_kind-none s.settings plainly e.side)
-          (write_kind-none s.settings plainly (peer e).side) read (has_ended e t) f (h.accounts e).fits in
+      let held = plainly-held (read_kind s.settings e.side) (write_kind s.settings (peer e).side)
+          (read_kind-none s.settings plainly e.side) (write_kind-none s.settings plainly (peer e).side)
+          read (has_ended e t) f (h.accounts e).fits in
       let back = peer-peer e in
       let far : not_taken t s (peer e) ≡ length (output r read f) + length (raw_output r (write_filter s.settings p (peer e)) read f) =
           ap (λ z. length (output (read_filter s.settings p z) (bytes_read z t) (flow_at p z))
@@ -96,7 +97,8 @@ module _ (t : Trace) (x : Stage) (s : State) (h : StandsFor t x s) where
       let given = taken-length t x s h e in
       ap (λ z. not_moved t s e + z) far ∙ held ∙ ap (λ z. length read - z) (sym given)
 
-  both-are : IsPlainly s.settings → (link : ℕ) → link < p.opened → is_freed (in_side link) t ≡ false → is_freed (out_side link) t ≡ false →
+  both-are : IsPlainly s.settings → (link : ℕ) → link < p.opened → is_freed (in_side link) t ≡ false →
+      is_freed (out_side link) t ≡ false →
       buffered_at s (in_side link) + buffered_at s (out_side link) ≡ not_given t (in_side link) + not_given t (out_side link)
   both-are plainly link lt near far =
       let a = holds-live (in_side link) lt (live-told t x s h (in_side link) lt ∙ ap not near) in
