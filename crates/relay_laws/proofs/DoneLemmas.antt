@@ -1,10 +1,7 @@
 -- Where writing was ended at both sides of a link, closing frees both as done, and nothing comes between: the entries, and all steps.
-use Rattle.std.proofs.Common.{◌≡◌, ℕ, zero, suc, ◌+◌, ◌<◌, ◌≤◌, Bool, true, false, ◌&&◌, ◌||◌, not, if◌then◌else◌, List, [], ◌∷◌, ◌++◌, Some, None, ◌⊎◌, inl, inr, refl, sym, ◌∙◌, ap, subst, arith}
-use Rattle.std.specs.Prelude.{⊤}
+use Rattle.std.proofs.Common.{◌≡◌, ℕ, ◌<◌, ◌≤◌, Bool, true, false, ◌&&◌, ◌||◌, not, List, [], ◌∷◌, ◌++◌, Some, ◌⊎◌, inl, inr, refl, sym, ◌∙◌, ap, subst, arith}
 use Rattle.std.proofs.lemmas.Bool.{and_from, and_parts, or_cases, or_from, or_left, or_right, cases_lt}
-use Rattle.ev_types.specs.declared.side.Side.TheVariants.{Out}
 use Rattle.ev_types.specs.declared.side.SideId.{SideId}
-use Rattle.ev_types.specs.declared.why.Cause.TheVariants as cause
 use Rattle.ev_types.specs.declared.entry.Entry.{Entry}
 use Rattle.ev_types.specs.declared.entry.Entry.TheVariants as entry
 use Rattle.ev_types.specs.Sides.{peer, same_end}
@@ -12,21 +9,19 @@ use Rattle.ev_types.specs.Trace.{Event, Trace}
 use Rattle.relay_model.specs.Trace.{write_closed_by}
 use Rattle.relay_model.specs.Settings.{Settings}
 use Rattle.relay_model.specs.Plain.{Plain, side_at, is_live}
-use Rattle.relay_model.specs.Past.{Past, past}
-use Rattle.relay_model.specs.Close.{CloseStep, closing_from, closing_entry, entry_where, freed_entry, is_complete, steps_left}
-use Rattle.relay_model.specs.Stages.{Stage, Halt, State, Wanting, Marking, Accepting, Serving, Filtering, Dispatching, Firing, Passing, Closing, Over}
-use Rattle.relay_model.specs.Turn.{after_reading, Quietly, Reaches}
+use Rattle.relay_model.specs.Past.{past}
+use Rattle.relay_model.specs.Close.{CloseStep, closing_entry, entry_where, is_complete, steps_left}
+use Rattle.relay_model.specs.Stages.{Stage, State, Closing}
+use Rattle.relay_model.specs.Turn.{after_reading, Reaches}
 use Rattle.relay_model.specs.Told.{freed_by, is_freeing}
 use Rattle.relay_model.proofs.EndLemmas.{same_end-eq, same_end-refl}
-use Rattle.relay_model.proofs.KeepsLemmas.{Keeps-side}
-use Rattle.relay_model.proofs.SeenLemmas.{seen, but_bad}
+use Rattle.relay_model.proofs.SeenLemmas.{seen}
 use Rattle.relay_model.proofs.EffectLemmas.{SideEffect, Effect}
 use Rattle.relay_model.proofs.StepLemmas.{put-effect}
-use Rattle.relay_model.proofs.StageLemmas.{quiet-silent}
 use Rattle.relay_model.proofs.KindLemmas.{ClosedKind, closed-kind, PutKind, put-kind}
 use Rattle.relay_model.proofs.CloseCases.{where_parts}
 use Rattle.relay_model.proofs.LeftLemmas.{in_of, out_of, in-or-out}
-use Rattle.relay_model.proofs.FireLemmas.{is_open_stage, reading-open}
+use Rattle.relay_model.proofs.FireLemmas.{reading-open}
 use Rattle.relay_model.proofs.ToldLemmas.{kept, list_any-push}
 use Rattle.relay_laws.specs.Links.{done_by, is_done}
 use Rattle.relay_laws.proofs.DoneOrder.{JoinsNext, Ordered, OrderedAt, left-ordered, open-ordered, IsJoining, IsOutNext, Ended, joining, half_done, all_done, Joined, quiet-joined}

@@ -1,35 +1,25 @@
 -- Where writing was ended at both sides of a link, closing frees both as done, and nothing comes between: by induction over the
 -- steps.
-use Rattle.std.proofs.Common.{◌≡◌, ℕ, zero, suc, ◌+◌, ◌<◌, ◌≤◌, Bool, true, false, ◌&&◌, ◌||◌, not, if◌then◌else◌, List, [], ◌∷◌, ◌++◌, Some, None, ◌⊎◌, inl, inr, refl, sym, ◌∙◌, ap, subst, arith}
+use Rattle.std.proofs.Common.{◌≡◌, ℕ, zero, suc, ◌+◌, ◌<◌, Bool, true, false, ◌&&◌, if◌then◌else◌, List, [], ◌∷◌, Some, None, inl, inr, refl, sym, ◌∙◌, ap, subst}
 use Rattle.std.specs.Prelude.{⊤}
-use Rattle.std.proofs.lemmas.Bool.{and_from, and_parts, or_cases, or_from, or_left, or_right, cases_lt}
+use Rattle.std.proofs.lemmas.Bool.{and_from}
 use Rattle.ev_types.specs.declared.side.Side.TheVariants.{Out}
 use Rattle.ev_types.specs.declared.side.SideId.{SideId}
 use Rattle.ev_types.specs.declared.why.Cause.TheVariants as cause
 use Rattle.ev_types.specs.declared.entry.Entry.{Entry}
-use Rattle.ev_types.specs.declared.entry.Entry.TheVariants as entry
-use Rattle.ev_types.specs.Sides.{peer, same_end}
-use Rattle.ev_types.specs.Trace.{Event, Trace}
-use Rattle.relay_model.specs.Trace.{write_closed_by}
+use Rattle.ev_types.specs.Trace.{Trace}
 use Rattle.relay_model.specs.Settings.{Settings}
 use Rattle.relay_model.specs.Plain.{Plain, side_at, is_live}
 use Rattle.relay_model.specs.Past.{Past, past}
-use Rattle.relay_model.specs.Close.{CloseStep, closing_from, closing_entry, entry_where, freed_entry, is_complete, steps_left}
+use Rattle.relay_model.specs.Close.{CloseStep, closing_from, closing_entry, entry_where, freed_entry, steps_left}
 use Rattle.relay_model.specs.Stages.{Stage, Halt, State, Wanting, Marking, Accepting, Serving, Filtering, Dispatching, Firing, Passing, Closing, Over}
-use Rattle.relay_model.specs.Turn.{after_reading, Quietly, Reaches}
-use Rattle.relay_model.specs.Told.{freed_by, is_freeing}
-use Rattle.relay_model.proofs.EndLemmas.{same_end-eq, same_end-refl}
+use Rattle.relay_model.specs.Turn.{Quietly}
 use Rattle.relay_model.proofs.KeepsLemmas.{Keeps-side}
-use Rattle.relay_model.proofs.SeenLemmas.{seen, but_bad}
-use Rattle.relay_model.proofs.EffectLemmas.{SideEffect, Effect}
-use Rattle.relay_model.proofs.StepLemmas.{put-effect}
+use Rattle.relay_model.proofs.SeenLemmas.{but_bad}
 use Rattle.relay_model.proofs.StageLemmas.{quiet-silent}
-use Rattle.relay_model.proofs.KindLemmas.{ClosedKind, closed-kind, PutKind, put-kind}
-use Rattle.relay_model.proofs.CloseCases.{where_parts}
-use Rattle.relay_model.proofs.LeftLemmas.{in_of, out_of, in-or-out}
-use Rattle.relay_model.proofs.FireLemmas.{is_open_stage, reading-open}
-use Rattle.relay_model.proofs.ToldLemmas.{kept, list_any-push}
-use Rattle.relay_laws.specs.Links.{done_by, is_done}
+use Rattle.relay_model.proofs.LeftLemmas.{in_of, out_of}
+use Rattle.relay_model.proofs.FireLemmas.{is_open_stage}
+use Rattle.relay_laws.specs.Links.{is_done}
 
 -- The order of closing
 
@@ -160,7 +150,7 @@ pub quiet-joined : (g : Settings) (t : Trace) (x : Stage) (s : Plain) (new : Sta
 quiet-joined g t x s new h k =
     let silent = quiet-silent g t x s new h in
     let same : (e : SideId) → but_bad (side_at new.plain e) ≡ but_bad (side_at s e) =
-        λ e. Keeps-side but_bad s new.plain e silent.keeps in
+    λ e. Keeps-side but_bad s new.plain e silent.keeps in
     let opened : new.plain.opened ≡ s.opened = silent.keeps.opened in
     record {
       ordered = quiet-ordered g t x s new k.ordered h;

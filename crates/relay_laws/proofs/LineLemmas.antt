@@ -1,12 +1,9 @@
 -- What each entry of a trace for which a relay stands has fits a line of text.
-use Rattle.std.proofs.Common.{◌≡◌, ℕ, zero, suc, ◌+◌, ◌*◌, ◌^◌, ◌%◌, ◌<◌, ◌≤◌, Bool, true, false, ◌==◌, ◌||◌, if◌then◌else◌, List, [], ◌∷◌, ◌++◌, length, take, drop, Option, Some, None, refl, sym, ◌∙◌, ap, subst, arith, append_assoc, length-append, get_or, ◌⊎◌, inl, inr}
+use Rattle.std.proofs.Common.{◌≡◌, ℕ, suc, ◌+◌, ◌*◌, ◌^◌, ◌%◌, ◌<◌, ◌≤◌, Bool, true, false, ◌==◌, ◌||◌, if◌then◌else◌, List, [], ◌∷◌, ◌++◌, length, take, Option, Some, None, refl, sym, ◌∙◌, ap, subst, arith, length-append, inl, inr}
 use Rattle.std.specs.Prelude.{All}
 use Rattle.std.specs.List.{flat_map}
-use Rattle.std.proofs.lemmas.Bool.{cases_lt}
-use Rattle.std.proofs.lemmas.Grind.{flat_map-append}
-use Rattle.std.proofs.lemmas.List.{take-append-drop, get_or_past, length-take}
+use Rattle.std.proofs.lemmas.List.{length-take}
 use Rattle.std.proofs.lemmas.List.Elements.{All-head, All-take}
-use Rattle.ev_types.specs.declared.side.Side.{Side}
 use Rattle.ev_types.specs.declared.side.Side.TheVariants.{Out}
 use Rattle.ev_types.specs.declared.side.SideId.{SideId}
 use Rattle.ev_types.specs.declared.filter.FilterKind.{FilterKind}
@@ -20,7 +17,7 @@ use Rattle.ev_types.specs.declared.why.Cause.TheVariants as cause
 use Rattle.ev_types.specs.declared.entry.Entry.TheVariants as entry
 use Rattle.ev_types.specs.Sides.{peer}
 use Rattle.ev_types.specs.Trace.{Event, Trace}
-use Rattle.script_text.specs.TraceLaws.{IsOut, IsCause, IsEntry, StandBeside, IsSpellable}
+use Rattle.script_text.specs.TraceLaws.{IsCause, IsEntry}
 use Rattle.relay_model.specs.Trace.{told_moved_by, told_given_by, bytes_read, bytes_given}
 use Rattle.relay_model.specs.Filter.{is_hex, not_hex_from, or_else, odd_end, filter_of}
 use Rattle.relay_model.specs.Flow.{Flow, middle, outcome}
@@ -30,19 +27,16 @@ use Rattle.relay_model.specs.Serve.{CarriesGot, CarriesTook}
 use Rattle.relay_model.specs.Stages.{Stage, at}
 use Rattle.relay_model.specs.Turn.{IsLegal}
 use Rattle.relay_model.specs.Causes.{IsBadPlace, HasCause}
-use Rattle.relay_model.specs.Lines.{brings}
-use Rattle.relay_model.specs.Scripted.{begun, pending}
 use Rattle.relay_model.proofs.EndLemmas.{same_end-refl}
-use Rattle.relay_model.proofs.PlayedReads.{reads_what_comes}
 use Rattle.relay_model.proofs.TraceLemmas.{bytes_read-append}
 use Rattle.relay_model.proofs.CauseLemmas.{frees_have_causes}
 use Rattle.relay_state.specs.State.{State}
 use Rattle.relay_steps.specs.Meaning.{StandsFor}
 use Rattle.relay_steps.proofs.EndLemmas.{peer-peer}
 use Rattle.relay_steps.proofs.SizeLemmas.{middle-most, outcome-most}
-use Rattle.relay_laws.specs.Spelling.{FewBytes, ReadsFit, TimeoutsFit, ReadsFitAsScripted, StoodIsSpellable}
-use Rattle.relay_laws.proofs.EventLemmas.{Says, all-say}
-use Rattle.relay_laws.proofs.ByteLemmas.{IsByte, AllBytes, outcome-bytes, all-part, all-event, all-got, all-took}
+use Rattle.relay_laws.specs.Spelling.{ReadsFit}
+use Rattle.relay_laws.proofs.EventLemmas.{Says}
+use Rattle.relay_laws.proofs.ByteLemmas.{IsByte, AllBytes, outcome-bytes, all-event, all-got, all-took}
 
 -- Bad places
 
@@ -112,8 +106,8 @@ module _ (t : Trace) (x : Stage) (s : State) (k : StandsFor t x s) (few : s.sett
   read-before before after y is e =
       let all = (fit e).count in
       let parts : length (bytes_read e t) ≡ length (bytes_read e before) + length (bytes_read e (y ∷ after)) =
-          ap (λ z. length (bytes_read e z)) is ∙ ap length (bytes_read-append e before (y ∷ after))
-          ∙ length-append (bytes_read e before) (bytes_read e (y ∷ after)) in
+      ap (λ z. length (bytes_read e z)) is ∙ ap length (bytes_read-append e before (y ∷ after))
+      ∙ length-append (bytes_read e before) (bytes_read e (y ∷ after)) in
       omega (arith, all, parts)
 
   -- no more was moved from a side than its read filter made, and no more given than the write filter made of that
@@ -121,7 +115,7 @@ module _ (t : Trace) (x : Stage) (s : State) (k : StandsFor t x s) (few : s.sett
   moved-fits e =
       let f : Flow = flow_at s.plain e in
       let a : length (middle (read_filter s.settings s.plain e) (bytes_read e t) f) ≤ 2 * length (bytes_read e t) + 1 =
-          middle-most (read_kind s.settings e.side) (bytes_read e t) f in
+      middle-most (read_kind s.settings e.side) (bytes_read e t) f in
       let b : f.moved ≤ length (middle (read_filter s.settings s.plain e) (bytes_read e t) f) = (k.accounts e).fits.moved in
       omega (arith, a, b)
 
@@ -131,7 +125,7 @@ module _ (t : Trace) (x : Stage) (s : State) (k : StandsFor t x s) (few : s.sett
       let r = read_filter s.settings s.plain e in
       let w = write_filter s.settings s.plain (peer e) in
       let a : length (outcome r w (bytes_read e t) f) ≤ 2 * f.turned + 1 =
-          outcome-most (read_kind s.settings e.side) (write_kind s.settings (peer e).side) (bytes_read e t) f in
+      outcome-most (read_kind s.settings e.side) (write_kind s.settings (peer e).side) (bytes_read e t) f in
       let b : f.given ≤ length (outcome r w (bytes_read e t) f) = (k.accounts e).fits.given in
       let c : f.turned ≤ f.moved = (k.accounts e).fits.turned in
       let d = moved-fits e in
@@ -208,14 +202,14 @@ module _ (t : Trace) (x : Stage) (s : State) (k : StandsFor t x s) (few : s.sett
       let Moved : ℕ → Type 0 = λ n. n ≡ (flow_at s.plain e).moved in
       let Given : ℕ → Type 0 = λ n. n ≡ (flow_at s.plain (peer e)).given in
       let told_moved : moved ≡ (flow_at s.plain e).moved =
-          All-head Moved moved []
-          (subst (λ b. All Moved (if b then moved ∷ [] else [])) same
-          (all-event Moved (told_moved_by e) t before y after is own.side_freed)) in
+      All-head Moved moved []
+      (subst (λ b. All Moved (if b then moved ∷ [] else [])) same
+      (all-event Moved (told_moved_by e) t before y after is own.side_freed)) in
       let peer_freed = subst (λ z. All Given (flat_map (told_given_by z) t)) (peer-peer e) far.peer_freed in
       let told_given : given ≡ (flow_at s.plain (peer e)).given =
-          All-head Given given []
-          (subst (λ b. All Given (if b then given ∷ [] else [])) same
-          (all-event Given (told_given_by e) t before y after is peer_freed)) in
+      All-head Given given []
+      (subst (λ b. All Given (if b then given ∷ [] else [])) same
+      (all-event Given (told_given_by e) t before y after is peer_freed)) in
       let a = moved-fits e in
       let b = given-fits (peer e) in
       let c = (fit e).count in

@@ -1,10 +1,10 @@
 -- Where nothing is set, no side has a timeout; an In side is never connecting; no activity is later than the time.
-use Rattle.std.proofs.Common.{◌≡◌, ℕ, ◌^◌, ◌<◌, ◌≤◌, Bool, true, false, refl, sym, ◌∙◌, arith}
+use Rattle.std.proofs.Common.{◌≡◌, ℕ, ◌^◌, ◌<◌, ◌≤◌, Bool, false, refl, arith}
 use Rattle.ev_types.specs.declared.side.Side.{Side}
 use Rattle.ev_types.specs.declared.side.Side.TheVariants.{In, Out}
 use Rattle.ev_types.specs.declared.side.SideId.{SideId}
 use Rattle.ev_types.specs.Trace.{Trace}
-use Rattle.relay_model.specs.Settings.{Settings, Timeouts, no_timeouts, timeouts_set}
+use Rattle.relay_model.specs.Settings.{Settings, no_timeouts, timeouts_set}
 use Rattle.relay_model.specs.Plain.{side_at, new_side}
 use Rattle.relay_model.specs.Stages.{State}
 use Rattle.relay_model.specs.Turn.{Reaches}
@@ -12,7 +12,7 @@ use Rattle.relay_model.proofs.PlainLemmas.{is_connected}
 use Rattle.relay_steps.specs.Meaning.{IsBuilt}
 use Rattle.relay_laws.specs.Frees.{IsPlainly}
 use Rattle.relay_laws.specs.Spelling.{TimeoutsFit}
-use Rattle.relay_laws.proofs.SideLemmas.{Looks, looks, IsKept, all-hold}
+use Rattle.relay_laws.proofs.SideLemmas.{Looks, looks, all-hold}
 
 -- No timeouts
 

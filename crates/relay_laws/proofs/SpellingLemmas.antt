@@ -1,48 +1,25 @@
 -- A trace for which a relay stands can be spelled.
-use Rattle.std.proofs.Common.{◌≡◌, ℕ, zero, suc, ◌+◌, ◌*◌, ◌^◌, ◌%◌, ◌<◌, ◌≤◌, Bool, true, false, ◌==◌, ◌||◌, if◌then◌else◌, List, [], ◌∷◌, ◌++◌, length, take, drop, Option, Some, None, refl, sym, ◌∙◌, ap, subst, arith, append_assoc, length-append, get_or, ◌⊎◌, inl, inr}
+use Rattle.std.proofs.Common.{◌≡◌, ℕ, ◌<◌, ◌≤◌, List, [], ◌∷◌, ◌++◌, length, take, drop, refl, sym, ◌∙◌, ap, subst, arith, append_assoc, length-append, get_or, ◌⊎◌, inl, inr}
 use Rattle.std.specs.Prelude.{All}
 use Rattle.std.specs.List.{flat_map}
 use Rattle.std.proofs.lemmas.Bool.{cases_lt}
 use Rattle.std.proofs.lemmas.Grind.{flat_map-append}
-use Rattle.std.proofs.lemmas.List.{take-append-drop, get_or_past, length-take}
-use Rattle.std.proofs.lemmas.List.Elements.{All-head, All-take}
+use Rattle.std.proofs.lemmas.List.{take-append-drop, get_or_past}
 use Rattle.ev_types.specs.declared.side.Side.{Side}
 use Rattle.ev_types.specs.declared.side.Side.TheVariants.{Out}
-use Rattle.ev_types.specs.declared.side.SideId.{SideId}
-use Rattle.ev_types.specs.declared.filter.FilterKind.{FilterKind}
-use Rattle.ev_types.specs.declared.filter.FilterKind.TheVariants as kind
-use Rattle.ev_types.specs.declared.answer.ReadAnswer.{ReadAnswer}
 use Rattle.ev_types.specs.declared.answer.ReadAnswer.TheVariants as read
-use Rattle.ev_types.specs.declared.answer.WriteAnswer.{WriteAnswer}
 use Rattle.ev_types.specs.declared.answer.WriteAnswer.TheVariants as write
-use Rattle.ev_types.specs.declared.why.Cause.{Cause}
-use Rattle.ev_types.specs.declared.why.Cause.TheVariants as cause
 use Rattle.ev_types.specs.declared.entry.Entry.TheVariants as entry
-use Rattle.ev_types.specs.Sides.{peer}
 use Rattle.ev_types.specs.Trace.{Event, Trace}
-use Rattle.script_text.specs.TraceLaws.{IsOut, IsCause, IsEntry, StandBeside, IsSpellable}
-use Rattle.relay_model.specs.Trace.{told_moved_by, told_given_by, bytes_read, bytes_given}
-use Rattle.relay_model.specs.Filter.{is_hex, not_hex_from, or_else, odd_end, filter_of}
-use Rattle.relay_model.specs.Flow.{Flow, middle, outcome}
-use Rattle.relay_model.specs.Plain.{Plain, flow_at}
-use Rattle.relay_model.specs.Rooms.{most_at_once, read_kind, write_kind, read_filter, write_filter}
-use Rattle.relay_model.specs.Serve.{CarriesGot, CarriesTook}
-use Rattle.relay_model.specs.Stages.{Stage, at}
-use Rattle.relay_model.specs.Turn.{IsLegal}
-use Rattle.relay_model.specs.Causes.{IsBadPlace, HasCause}
+use Rattle.script_text.specs.TraceLaws.{IsOut, IsEntry, StandBeside, IsSpellable}
+use Rattle.relay_model.specs.Trace.{bytes_read}
+use Rattle.relay_model.specs.Stages.{at}
 use Rattle.relay_model.specs.Lines.{brings}
 use Rattle.relay_model.specs.Scripted.{begun, pending}
-use Rattle.relay_model.proofs.EndLemmas.{same_end-refl}
 use Rattle.relay_model.proofs.PlayedReads.{reads_what_comes}
-use Rattle.relay_model.proofs.TraceLemmas.{bytes_read-append}
-use Rattle.relay_model.proofs.CauseLemmas.{frees_have_causes}
-use Rattle.relay_state.specs.State.{State}
-use Rattle.relay_steps.specs.Meaning.{StandsFor}
-use Rattle.relay_steps.proofs.EndLemmas.{peer-peer}
-use Rattle.relay_steps.proofs.SizeLemmas.{middle-most, outcome-most}
-use Rattle.relay_laws.specs.Spelling.{FewBytes, ReadsFit, TimeoutsFit, ReadsFitAsScripted, StoodIsSpellable}
-use Rattle.relay_laws.proofs.EventLemmas.{Says, all-say}
-use Rattle.relay_laws.proofs.ByteLemmas.{IsByte, AllBytes, outcome-bytes, all-part, all-event, all-got, all-took}
+use Rattle.relay_laws.specs.Spelling.{FewBytes, ReadsFitAsScripted, StoodIsSpellable}
+use Rattle.relay_laws.proofs.EventLemmas.{all-say}
+use Rattle.relay_laws.proofs.ByteLemmas.{all-part}
 use Rattle.relay_laws.proofs.LineLemmas.{FitsLine, line-fits}
 
 -- a beginning of bytes is bytes
@@ -58,11 +35,11 @@ reads_fit_as_scripted turns closing_by t fit answered e =
     let rest : List ℕ = flat_map (brings e) (flat_map (λ turn. turn.1) (drop n turns)) in
     let all : List ℕ = flat_map (brings e) (flat_map (λ turn. turn.1) turns) in
     let whole : all ≡ bytes_read e t ++ (pending turns t e ++ rest) =
-        ap (λ z. flat_map (brings e) (flat_map (λ turn. turn.1) z)) (sym (take-append-drop n turns))
-        ∙ ap (flat_map (brings e)) (flat_map-append (λ turn. turn.1) (take n turns) (drop n turns))
-        ∙ flat_map-append (brings e) (flat_map (λ turn. turn.1) (take n turns)) (flat_map (λ turn. turn.1) (drop n turns))
-        ∙ ap (λ z. z ++ rest) (sym (reads_what_comes turns closing_by t e answered))
-        ∙ append_assoc (bytes_read e t) (pending turns t e) rest in
+    ap (λ z. flat_map (brings e) (flat_map (λ turn. turn.1) z)) (sym (take-append-drop n turns))
+    ∙ ap (flat_map (brings e)) (flat_map-append (λ turn. turn.1) (take n turns) (drop n turns))
+    ∙ flat_map-append (brings e) (flat_map (λ turn. turn.1) (take n turns)) (flat_map (λ turn. turn.1) (drop n turns))
+    ∙ ap (λ z. z ++ rest) (sym (reads_what_comes turns closing_by t e answered))
+    ∙ append_assoc (bytes_read e t) (pending turns t e) rest in
     bytes-front (bytes_read e t) (pending turns t e ++ rest) (subst FewBytes whole (fit e))
 
 -- What fits a line is spelled
