@@ -1,8 +1,8 @@
 -- What filters make of bytes are bytes, and bytes that stand in a part of a trace stand in the whole.
-use Rattle.std.proofs.Common.{◌≡◌, ℕ, ◌+◌, ◌-◌, ◌*◌, ◌/◌, ◌%◌, ◌<◌, ◌≤◌, Bool, true, false, ◌==◌, ◌&&◌, ◌||◌, not, nat_lt, nat_le, if◌then◌else◌, List, [], ◌∷◌, ◌++◌, length, take, inl, inr, refl, sym, ◌∙◌, ap, subst, arith, length-append, ◌⊎◌}
+use Rattle.std.proofs.Common.{◌≡◌, ℕ, ◌+◌, ◌-◌, ◌*◌, ◌/◌, ◌%◌, ◌<◌, ◌≤◌, Bool, true, false, ◌==◌, ◌&&◌, ◌||◌, not, nat_lt, nat_le, if◌then◌else◌, List, [], ◌∷◌, ◌++◌, length, take, inl, inr, refl, ◌∙◌, ap, subst, arith, length-append}
 use Rattle.std.specs.Prelude.{All}
 use Rattle.std.specs.List.{flat_map}
-use Rattle.std.proofs.lemmas.Bool.{and_parts, or_cases, leb-true, leb-false, ltb-true, ltb-false}
+use Rattle.std.proofs.lemmas.Bool.{and_parts, or_cases, leb-true}
 use Rattle.std.proofs.lemmas.Grind.{flat_map-append}
 use Rattle.std.proofs.lemmas.List.{get_or_append_left, get_or-append-add}
 use Rattle.std.proofs.lemmas.List.Elements.{All-nil, All-cons, All-head, All-tail, All-append, All-take}
@@ -126,7 +126,8 @@ at_end-bytes kind.ToLf xs h = All-append IsByte (to_lf xs) (last_cr xs) (lf-byte
 at_end-bytes kind.HexOut xs h = hex_out-bytes xs h
 at_end-bytes kind.HexIn xs h = hex_in-bytes xs
 
-made-bytes : (k : FilterKind) (b : Bool) (xs : List ℕ) → AllBytes xs → AllBytes (if b then (filter_of k).at_end xs else (filter_of k).before xs)
+made-bytes : (k : FilterKind) (b : Bool) (xs : List ℕ) → AllBytes xs →
+    AllBytes (if b then (filter_of k).at_end xs else (filter_of k).before xs)
 made-bytes k true xs h = at_end-bytes k xs h
 made-bytes k false xs h = before-bytes k xs h
 

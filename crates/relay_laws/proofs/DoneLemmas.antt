@@ -1,11 +1,7 @@
--- Where writing was ended at both sides of a link, closing frees both as done, and nothing comes between: by induction over the
--- steps.
-use Rattle.std.proofs.Common.{◌≡◌, ℕ, zero, suc, ◌+◌, ◌<◌, ◌≤◌, Bool, true, false, ◌&&◌, ◌||◌, not, if◌then◌else◌, List, [], ◌∷◌, ◌++◌, Some, None, ◌⊎◌, inl, inr, refl, sym, ◌∙◌, ap, subst, arith}
-use Rattle.std.specs.Prelude.{⊤}
+-- Where writing was ended at both sides of a link, closing frees both as done, and nothing comes between: the entries, and all steps.
+use Rattle.std.proofs.Common.{◌≡◌, ℕ, ◌<◌, ◌≤◌, Bool, true, false, ◌&&◌, ◌||◌, not, List, [], ◌∷◌, ◌++◌, Some, ◌⊎◌, inl, inr, refl, sym, ◌∙◌, ap, subst, arith}
 use Rattle.std.proofs.lemmas.Bool.{and_from, and_parts, or_cases, or_from, or_left, or_right, cases_lt}
-use Rattle.ev_types.specs.declared.side.Side.TheVariants.{Out}
 use Rattle.ev_types.specs.declared.side.SideId.{SideId}
-use Rattle.ev_types.specs.declared.why.Cause.TheVariants as cause
 use Rattle.ev_types.specs.declared.entry.Entry.{Entry}
 use Rattle.ev_types.specs.declared.entry.Entry.TheVariants as entry
 use Rattle.ev_types.specs.Sides.{peer, same_end}
@@ -13,156 +9,22 @@ use Rattle.ev_types.specs.Trace.{Event, Trace}
 use Rattle.relay_model.specs.Trace.{write_closed_by}
 use Rattle.relay_model.specs.Settings.{Settings}
 use Rattle.relay_model.specs.Plain.{Plain, side_at, is_live}
-use Rattle.relay_model.specs.Past.{Past, past}
-use Rattle.relay_model.specs.Close.{CloseStep, closing_from, closing_entry, entry_where, freed_entry, is_complete, steps_left}
-use Rattle.relay_model.specs.Stages.{Stage, Halt, State, Wanting, Marking, Accepting, Serving, Filtering, Dispatching, Firing, Passing, Closing, Over}
-use Rattle.relay_model.specs.Turn.{after_reading, Quietly, Reaches}
+use Rattle.relay_model.specs.Past.{past}
+use Rattle.relay_model.specs.Close.{CloseStep, closing_entry, entry_where, is_complete, steps_left}
+use Rattle.relay_model.specs.Stages.{Stage, State, Closing}
+use Rattle.relay_model.specs.Turn.{after_reading, Reaches}
 use Rattle.relay_model.specs.Told.{freed_by, is_freeing}
 use Rattle.relay_model.proofs.EndLemmas.{same_end-eq, same_end-refl}
-use Rattle.relay_model.proofs.KeepsLemmas.{Keeps-side}
-use Rattle.relay_model.proofs.SeenLemmas.{seen, but_bad}
+use Rattle.relay_model.proofs.SeenLemmas.{seen}
 use Rattle.relay_model.proofs.EffectLemmas.{SideEffect, Effect}
 use Rattle.relay_model.proofs.StepLemmas.{put-effect}
-use Rattle.relay_model.proofs.StageLemmas.{quiet-silent}
 use Rattle.relay_model.proofs.KindLemmas.{ClosedKind, closed-kind, PutKind, put-kind}
 use Rattle.relay_model.proofs.CloseCases.{where_parts}
 use Rattle.relay_model.proofs.LeftLemmas.{in_of, out_of, in-or-out}
-use Rattle.relay_model.proofs.FireLemmas.{is_open_stage, reading-open}
+use Rattle.relay_model.proofs.FireLemmas.{reading-open}
 use Rattle.relay_model.proofs.ToldLemmas.{kept, list_any-push}
 use Rattle.relay_laws.specs.Links.{done_by, is_done}
-
--- The order of closing
-
--- both sides of a link are to be looked at for being done, at once or behind the end of writing at one of them
-abbrev pub JoinsNext : ℕ → List CloseStep → Type 0
-JoinsNext k (CloseStep.BothDone n ∷ cs) = n ≡ k
-JoinsNext k (CloseStep.EndWriting e ∷ CloseStep.BothDone n ∷ cs) = (e.link ≡ k) × (n ≡ k)
-JoinsNext k _ = ⊥
-
-abbrev pub Ordered : List CloseStep → Type 0
-Ordered [] = ⊤
-Ordered (CloseStep.EndWriting e ∷ cs) = JoinsNext e.link cs × Ordered cs
-Ordered (c ∷ cs) = Ordered cs
-
-abbrev pub OrderedAt : Stage → Type 0
-OrderedAt (Closing cs) = Ordered cs
-OrderedAt _ = ⊤
-
-closing-ordered : (k left : ℕ) → Ordered (closing_from k left)
-closing-ordered k zero = tt
-closing-ordered k (suc left) = ((refl, refl), (refl, closing-ordered (k + 1) left))
-
-left-ordered : (c : CloseStep) (cs : List CloseStep) → Ordered (c ∷ cs) → Ordered (steps_left c cs)
-left-ordered (CloseStep.Faulty e) cs h = h
-left-ordered (CloseStep.EndWriting e) cs h = h.1
-left-ordered (CloseStep.BothDone k) cs h = h
-left-ordered (CloseStep.OutDone k) cs h = h
-left-ordered (CloseStep.PeerGone e) cs h = h
-left-ordered (CloseStep.Shut e) cs h = h
-
-first-ordered : (c : CloseStep) (cs : List CloseStep) → Ordered (c ∷ cs) → Ordered cs
-first-ordered (CloseStep.Faulty e) cs h = h
-first-ordered (CloseStep.EndWriting e) cs h = h.1
-first-ordered (CloseStep.BothDone k) cs h = h
-first-ordered (CloseStep.OutDone k) cs h = h
-first-ordered (CloseStep.PeerGone e) cs h = h
-first-ordered (CloseStep.Shut e) cs h = h
-
-open-ordered : (x : Stage) → is_open_stage x ≡ true → OrderedAt x
-open-ordered (Closing cs) h = absurd (cc)
-open-ordered _ h = tt
-
--- At the stage of a turn
-
-abbrev pub IsJoining : ℕ → Stage → Type 0
-IsJoining k (Closing cs) = JoinsNext k cs
-IsJoining k _ = ⊥
-
--- the Out side of a link is to be freed as done next
-abbrev pub IsOutNext : ℕ → Stage → Type 0
-IsOutNext k (Closing (CloseStep.OutDone n ∷ cs)) = n ≡ k
-IsOutNext k _ = ⊥
-
--- what is so of a link at both of whose sides writing was ended
-pub data Ended (k : ℕ) (t : Trace) (x : Stage) (s : Plain) : Type 0 where
-  joining : is_live s (in_of k) ≡ true → is_live s (out_of k) ≡ true → IsJoining k x → Ended k t x s
-  half_done : is_done (in_of k) t ≡ true → IsOutNext k x → Ended k t x s
-  all_done : is_done (in_of k) t ≡ true → is_done (out_of k) t ≡ true → Ended k t x s
-
-pub record Joined (t : Trace) (x : Stage) (s : Plain) : Type 0 where
-  pub ordered : OrderedAt x
-  pub each : (k : ℕ) → k < s.opened → (side_at s (in_of k)).write_ended ≡ true → (side_at s (out_of k)).write_ended ≡ true → Ended k t x s
-
--- a step that is to be done is called for
-where-some : (b : Bool) (y : Entry) → entry_where b y ≡ None → b ≡ true → ⊥
-where-some true y h k = cc
-where-some false y h k = cc
-
-both_called : (g : Settings) (p : Past) (s : Plain) (k : ℕ) → closing_entry g p s (CloseStep.BothDone k) ≡ None → is_live s (in_of k) ≡ true → is_live s (out_of k) ≡ true →
-    (side_at s (in_of k)).write_ended ≡ true → (side_at s (out_of k)).write_ended ≡ true → ⊥
-both_called g p s k none a b d f =
-    let x = side_at s (in_of k) in
-    let y = side_at s (out_of k) in
-    where-some (x.live && y.live && x.write_ended && y.write_ended) (freed_entry s (in_of k) cause.Done) none
-    (and_from (x.live && y.live && x.write_ended) y.write_ended (and_from (x.live && y.live) x.write_ended (and_from x.live y.live a b) d) f)
-
--- Silent steps
-
-module _ (g : Settings) (t : Trace) (k : ℕ) where
-  quiet-joining : (x : Stage) (s : Plain) (new : State) → Quietly g t x s new → is_live s (in_of k) ≡ true → is_live s (out_of k) ≡ true →
-      (side_at s (in_of k)).write_ended ≡ true → (side_at s (out_of k)).write_ended ≡ true → IsJoining k x → IsJoining k new.stage
-  quiet-joining (Closing (CloseStep.BothDone n ∷ cs)) s new h a b d f j =
-      absurd (both_called g (past g t) s k (ap (λ z. closing_entry g (past g t) s (CloseStep.BothDone z)) (sym j) ∙ h.0) a b d f)
-  quiet-joining (Closing (CloseStep.EndWriting e ∷ CloseStep.BothDone n ∷ cs)) s new h a b d f j = subst (λ z. IsJoining k z.stage) (sym h.1) j.1
-  quiet-joining (Closing _) s new h a b d f j = absurd j
-  quiet-joining _ s new h a b d f j = absurd j
-
-  quiet-out : (x : Stage) (s : Plain) (new : State) → Quietly g t x s new → IsOutNext k x → ⊥
-  quiet-out (Closing (CloseStep.OutDone n ∷ cs)) s new h j =
-      let none : Some (freed_entry s (record { link = n; side = Out }) cause.Done) ≡ None = h.0 in cc
-  quiet-out (Closing _) s new h j = absurd j
-  quiet-out _ s new h j = absurd j
-
-  quiet-ended : (x : Stage) (s : Plain) (new : State) → Quietly g t x s new → is_live new.plain (in_of k) ≡ is_live s (in_of k) → is_live new.plain (out_of k) ≡ is_live s (out_of k) →
-      (side_at s (in_of k)).write_ended ≡ true → (side_at s (out_of k)).write_ended ≡ true → Ended k t x s → Ended k t new.stage new.plain
-  quiet-ended x s new h i o d f (joining a b j) = joining (i ∙ a) (o ∙ b) (quiet-joining x s new h a b d f j)
-  quiet-ended x s new h i o d f (half_done a j) = absurd (quiet-out x s new h j)
-  quiet-ended x s new h i o d f (all_done a b) = all_done a b
-
-quiet-ordered : (g : Settings) (t : Trace) (x : Stage) (s : Plain) (new : State) → OrderedAt x → Quietly g t x s new → OrderedAt new.stage
-quiet-ordered g t (Wanting []) s new o h = subst (λ z. OrderedAt z.stage) (sym h) tt
-quiet-ordered g t (Marking (w ∷ ws) marks) s new o h = subst (λ z. OrderedAt z.stage) (sym h) tt
-quiet-ordered g t (Marking [] marks) s new o h = subst (λ z. OrderedAt z.stage) (sym h) tt
-quiet-ordered g t (Accepting n marks) s new o h = subst (λ z. OrderedAt z.stage) (sym h) tt
-quiet-ordered g t (Serving (m ∷ ms)) s new o h = subst (λ z. OrderedAt z.stage) (sym h.1) tt
-quiet-ordered g t (Filtering e ms) s new o h = subst (λ z. OrderedAt z.stage) (sym h) tt
-quiet-ordered g t (Serving []) s new o h = subst (λ z. OrderedAt z.stage) (sym h) tt
-quiet-ordered g t (Firing x rs) s new o h = subst (λ z. OrderedAt z.stage) (sym h) (fire x.stopped)
-  where
-    fire : (b : Bool) → OrderedAt (if b then Over (Halt.StoppedBy x.side.link) else Dispatching rs)
-    fire true = tt
-    fire false = tt
-quiet-ordered g t (Dispatching []) s new o h = subst (λ z. OrderedAt z.stage) (sym h) tt
-quiet-ordered g t (Passing [] (e ∷ es)) s new o (inl h) = subst (λ z. OrderedAt z.stage) (sym h.1) tt
-quiet-ordered g t (Passing [] (e ∷ es)) s new o (inr h) = subst (λ z. OrderedAt z.stage) (sym h) tt
-quiet-ordered g t (Passing (x ∷ xs) (e ∷ es)) s new o h = subst (λ z. OrderedAt z.stage) (sym h) tt
-quiet-ordered g t (Passing [] []) s new o h = subst (λ z. OrderedAt z.stage) (sym h) (closing-ordered 0 s.opened)
-quiet-ordered g t (Closing (c ∷ cs)) s new o h = subst (λ z. OrderedAt z.stage) (sym h.1) (first-ordered c cs o)
-quiet-ordered g t (Closing []) s new o h = subst (λ z. OrderedAt z.stage) (sym h) tt
-quiet-ordered g t _ s new o h = absurd h
-
-quiet-joined : (g : Settings) (t : Trace) (x : Stage) (s : Plain) (new : State) → Quietly g t x s new → Joined t x s → Joined t new.stage new.plain
-quiet-joined g t x s new h k =
-    let silent = quiet-silent g t x s new h in
-    let same : (e : SideId) → but_bad (side_at new.plain e) ≡ but_bad (side_at s e) = λ e. Keeps-side but_bad s new.plain e silent.keeps in
-    let opened : new.plain.opened ≡ s.opened = silent.keeps.opened in
-    record {
-      ordered = quiet-ordered g t x s new k.ordered h;
-      each = λ n lt i o.
-          let i_old : (side_at s (in_of n)).write_ended ≡ true = sym (ap (λ z. z.write_ended) (same (in_of n))) ∙ i in
-          let o_old : (side_at s (out_of n)).write_ended ≡ true = sym (ap (λ z. z.write_ended) (same (out_of n))) ∙ o in
-          quiet-ended g t n x s new h (ap (λ z. z.live) (same (in_of n))) (ap (λ z. z.live) (same (out_of n))) i_old o_old (k.each n (subst (λ m. n < m) opened lt) i_old o_old);
-    }
+use Rattle.relay_laws.proofs.DoneOrder.{JoinsNext, Ordered, OrderedAt, left-ordered, open-ordered, IsJoining, IsOutNext, Ended, joining, half_done, all_done, Joined, quiet-joined}
 
 -- Entries
 
@@ -175,19 +37,25 @@ done-now e t y h = list_any-push (done_by e) t y ∙ or_right (is_done e t) (don
 module _ (g : Settings) (t : Trace) (k : ℕ) where
   -- closing at a link at both of whose sides writing was ended
   closed-joining : (s : Plain) (c : CloseStep) (cs : List CloseStep) (y : Entry) (new : Plain) → closing_entry g (past g t) s c ≡ Some y →
-      (side_at s (in_of k)).write_ended ≡ true → (side_at s (out_of k)).write_ended ≡ true → JoinsNext k (c ∷ cs) → Ended k (t ++ (y, []) ∷ []) (Closing (steps_left c cs)) new
-  closed-joining s (CloseStep.BothDone n) cs y new h d f j = half_done (done-now (in_of k) t (y, []) (go y (closed-kind g (past g t) s (CloseStep.BothDone n) y h))) j
+      (side_at s (in_of k)).write_ended ≡ true → (side_at s (out_of k)).write_ended ≡ true → JoinsNext k (c ∷ cs) →
+      Ended k (t ++ (y, []) ∷ []) (Closing (steps_left c cs)) new
+  closed-joining s (CloseStep.BothDone n) cs y new h d f j =
+      half_done (done-now (in_of k) t (y, []) (go y (closed-kind g (past g t) s (CloseStep.BothDone n) y h))) j
     where
       go : (v : Entry) → ClosedKind g (past g t) s (CloseStep.BothDone n) v → done_by (in_of k) (v, []) ≡ true
       go v (ClosedKind.in_done a b c w) = ap (λ z. same_end (in_of z) (in_of k)) j ∙ same_end-refl (in_of k)
-  closed-joining s (CloseStep.EndWriting e) (CloseStep.BothDone n ∷ cs) y new h d f j = absurd (ended (side_at s e).write_ended (is_ended (in-or-out e)) h)
+  closed-joining s (CloseStep.EndWriting e) (CloseStep.BothDone n ∷ cs) y new h d f j =
+      absurd (ended (side_at s e).write_ended (is_ended (in-or-out e)) h)
     where
       is_ended : (e ≡ in_of e.link) ⊎ (e ≡ out_of e.link) → (side_at s e).write_ended ≡ true
       is_ended (inl same) = ap (λ z. (side_at s z).write_ended) (same ∙ ap in_of j.0) ∙ d
       is_ended (inr same) = ap (λ z. (side_at s z).write_ended) (same ∙ ap out_of j.0) ∙ f
 
-      ended : (b : Bool) → b ≡ true → entry_where ((side_at s e).live && is_live s (peer e) && is_complete g (past g t) s (peer e) && not (side_at s e).connecting && not b) (entry.CloseWrite e) ≡ Some y → ⊥
-      ended true i h = none ((side_at s e).live && is_live s (peer e) && is_complete g (past g t) s (peer e) && not (side_at s e).connecting) h
+      ready : Bool
+      ready = (side_at s e).live && is_live s (peer e) && is_complete g (past g t) s (peer e) && not (side_at s e).connecting
+
+      ended : (b : Bool) → b ≡ true → entry_where (ready && not b) (entry.CloseWrite e) ≡ Some y → ⊥
+      ended true i h = none ready h
         where
           none : (b : Bool) → entry_where (b && false) (entry.CloseWrite e) ≡ Some y → ⊥
           none true h = cc
@@ -195,7 +63,8 @@ module _ (g : Settings) (t : Trace) (k : ℕ) where
       ended false i h = absurd (cc)
   closed-joining s _ cs y new h d f j = absurd j
 
-  closed-out : (s : Plain) (c : CloseStep) (cs : List CloseStep) (y : Entry) → closing_entry g (past g t) s c ≡ Some y → IsOutNext k (Closing (c ∷ cs)) → done_by (out_of k) (y, []) ≡ true
+  closed-out : (s : Plain) (c : CloseStep) (cs : List CloseStep) (y : Entry) → closing_entry g (past g t) s c ≡ Some y →
+      IsOutNext k (Closing (c ∷ cs)) → done_by (out_of k) (y, []) ≡ true
   closed-out s (CloseStep.OutDone n) cs y h j = go y (closed-kind g (past g t) s (CloseStep.OutDone n) y h)
     where
       go : (v : Entry) → ClosedKind g (past g t) s (CloseStep.OutDone n) v → done_by (out_of k) (v, []) ≡ true
@@ -208,7 +77,8 @@ module _ (g : Settings) (t : Trace) (k : ℕ) where
     pub far : is_live s (out_of k) ≡ true
     pub joins : IsJoining k x
 
-  lives-both : (s : Plain) (z : SideId) → z.link ≡ k → is_live s z ≡ true → is_live s (peer z) ≡ true → (x : Stage) → IsJoining k x → IsJoined s x
+  lives-both : (s : Plain) (z : SideId) → z.link ≡ k → is_live s z ≡ true → is_live s (peer z) ≡ true → (x : Stage) → IsJoining k x →
+      IsJoined s x
   lives-both s z l a b x j = go (in-or-out z)
     where
       go : (z ≡ in_of z.link) ⊎ (z ≡ out_of z.link) → IsJoined s x
@@ -220,16 +90,18 @@ module _ (g : Settings) (t : Trace) (k : ℕ) where
           record { near = ap (λ v. is_live s (peer v)) (sym far) ∙ b; far = ap (λ v. is_live s v) (sym far) ∙ a; joins = j }
 
   -- writing is ended at a side of the link
-  closed-write : (s : Plain) (c : CloseStep) (cs : List CloseStep) (y : Entry) (e : SideId) → e.link ≡ k → ClosedKind g (past g t) s c y → closing_entry g (past g t) s c ≡ Some y →
+  closed-write : (s : Plain) (c : CloseStep) (cs : List CloseStep) (y : Entry) (e : SideId) → e.link ≡ k →
+      ClosedKind g (past g t) s c y → closing_entry g (past g t) s c ≡ Some y →
       write_closed_by e (y, []) ≡ true → Ordered (c ∷ cs) → IsJoined s (Closing (steps_left c cs))
   closed-write s c cs y e l (ClosedKind.faulty a b) h w o = absurd (cc)
   closed-write s c cs y e l (ClosedKind.write_ended {z = z} a b) h w o =
       let same : z ≡ e = same_end-eq z e w in
       let link : z.link ≡ k = ap (λ v. v.link) same ∙ l in
       let x = side_at s z in
-      let called = (where_parts (x.live && is_live s (peer z) && is_complete g (past g t) s (peer z) && not x.connecting && not x.write_ended) (entry.CloseWrite z) (entry.CloseWrite z) h).0 in
-      let first = (and_parts (x.live && is_live s (peer z) && is_complete g (past g t) s (peer z) && not x.connecting) (not x.write_ended) called).0 in
-      let second = (and_parts (x.live && is_live s (peer z) && is_complete g (past g t) s (peer z)) (not x.connecting) first).0 in
+      let whole : Bool = x.live && is_live s (peer z) && is_complete g (past g t) s (peer z) in
+      let called = (where_parts (whole && not x.connecting && not x.write_ended) (entry.CloseWrite z) (entry.CloseWrite z) h).0 in
+      let first = (and_parts (whole && not x.connecting) (not x.write_ended) called).0 in
+      let second = (and_parts whole (not x.connecting) first).0 in
       let third = (and_parts (x.live && is_live s (peer z)) (is_complete g (past g t) s (peer z)) second).0 in
       lives-both s z link a (and_parts x.live (is_live s (peer z)) third).1 (Closing cs) (subst (λ n. JoinsNext n cs) link o.0)
   closed-write s c cs y e l (ClosedKind.in_done a b d f) h w o = absurd (cc)
@@ -238,7 +110,8 @@ module _ (g : Settings) (t : Trace) (k : ℕ) where
   closed-write s c cs y e l (ClosedKind.shut a b) h w o = absurd (cc)
 
   -- so it is of the kind of entry that is put
-  put-write : (s : Plain) (x : Stage) (y : Event) (new : State) (e : SideId) → e.link ≡ k → PutKind g t s x y new → write_closed_by e y ≡ true → OrderedAt x → IsJoined s new.stage
+  put-write : (s : Plain) (x : Stage) (y : Event) (new : State) (e : SideId) → e.link ≡ k → PutKind g t s x y new →
+      write_closed_by e y ≡ true → OrderedAt x → IsJoined s new.stage
   put-write s x y new e l (PutKind.turned a b) w o = absurd (cc)
   put-write s x y new e l PutKind.polled w o = absurd (cc)
   put-write s x y new e l (PutKind.wanted a) w o = absurd (cc)
@@ -252,10 +125,12 @@ module _ (g : Settings) (t : Trace) (k : ℕ) where
   put-write s x y new e l (PutKind.frees a same) w o = absurd (cc)
   put-write s x y new e l (PutKind.asked same m n) w o = absurd (cc)
   put-write s x y new e l PutKind.recorded w o = absurd (cc)
-  put-write s x y new e l (PutKind.closed {c = c} {cs = cs} {e = z} a) w o = closed-write s c cs z e l (closed-kind g (past g t) s c z a) a w o
+  put-write s x y new e l (PutKind.closed {c = c} {cs = cs} {e = z} a) w o =
+      closed-write s c cs z e l (closed-kind g (past g t) s c z a) a w o
 
   -- a link that was being freed as done, or is to be, goes on so
-  put-joining : (s : Plain) (x : Stage) (y : Event) (new : State) → PutKind g t s x y new → (side_at s (in_of k)).write_ended ≡ true → (side_at s (out_of k)).write_ended ≡ true →
+  put-joining : (s : Plain) (x : Stage) (y : Event) (new : State) → PutKind g t s x y new → (side_at s (in_of k)).write_ended ≡ true →
+      (side_at s (out_of k)).write_ended ≡ true →
       IsJoining k x → Ended k (t ++ y ∷ []) new.stage new.plain
   put-joining s x y new (PutKind.closed {c = c} {cs = cs} {e = z} a) d f j = closed-joining s c cs z new.plain a d f j
   put-joining s x y new (PutKind.turned a b) d f j = absurd j
@@ -289,9 +164,12 @@ module _ (g : Settings) (t : Trace) (k : ℕ) where
   put-out s x y new PutKind.recorded j = absurd j
 
   -- where writing is ended just now, both sides live still
-  lives-on : (s : Plain) (y : Event) (new : State) (e z : SideId) → SideEffect e y new.stage (seen (side_at s e)) (seen (side_at new.plain e)) →
+  lives-on : (s : Plain) (y : Event) (new : State) (e z : SideId) →
+      SideEffect e y new.stage (seen (side_at s e)) (seen (side_at new.plain e)) →
       write_closed_by z y ≡ true → is_freeing new.stage e ≡ false → is_live s e ≡ true → is_live new.plain e ≡ true
-  lives-on s y new e z effect w still live = effect.live ∙ and_from (is_live s e) (not (freed_by e y || is_freeing new.stage e)) live (ap not (or_from (freed_by e y) (is_freeing new.stage e) (none y w) still))
+  lives-on s y new e z effect w still live =
+      let apart = or_from (freed_by e y) (is_freeing new.stage e) (none y w) still in
+      effect.live ∙ and_from (is_live s e) (not (freed_by e y || is_freeing new.stage e)) live (ap not apart)
     where
       none : (y : Event) → write_closed_by z y ≡ true → freed_by e y ≡ false
       none (entry.CloseWrite side, bytes) w = refl
@@ -302,10 +180,13 @@ module _ (g : Settings) (t : Trace) (k : ℕ) where
   joining-still (Closing cs) e j = refl
   joining-still _ e j = absurd j
 
-  put-ended : (s : Plain) (x : Stage) (y : Event) (new : State) → k < s.opened → PutKind g t s x y new → Effect g x s y new.stage new.plain → Joined t x s →
-      (side_at new.plain (in_of k)).write_ended ≡ true → (side_at new.plain (out_of k)).write_ended ≡ true → Ended k (t ++ y ∷ []) new.stage new.plain
+  put-ended : (s : Plain) (x : Stage) (y : Event) (new : State) → k < s.opened → PutKind g t s x y new →
+      Effect g x s y new.stage new.plain → Joined t x s →
+      (side_at new.plain (in_of k)).write_ended ≡ true → (side_at new.plain (out_of k)).write_ended ≡ true →
+      Ended k (t ++ y ∷ []) new.stage new.plain
   put-ended s x y new lt kind effect h d f =
-      go (or_cases (side_at s (in_of k)).write_ended (write_closed_by (in_of k) y) (sym near.write_ended ∙ d)) (or_cases (side_at s (out_of k)).write_ended (write_closed_by (out_of k) y) (sym far.write_ended ∙ f))
+      go (or_cases (side_at s (in_of k)).write_ended (write_closed_by (in_of k) y) (sym near.write_ended ∙ d))
+      (or_cases (side_at s (out_of k)).write_ended (write_closed_by (out_of k) y) (sym far.write_ended ∙ f))
     where
       near : SideEffect (in_of k) y new.stage (seen (side_at s (in_of k))) (seen (side_at new.plain (in_of k)))
       near = effect.each (in_of k) lt
@@ -316,20 +197,24 @@ module _ (g : Settings) (t : Trace) (k : ℕ) where
       just : (e : SideId) → e.link ≡ k → write_closed_by e y ≡ true → Ended k (t ++ y ∷ []) new.stage new.plain
       just e l w =
           let j = put-write s x y new e l kind w h.ordered in
-          joining (lives-on s y new (in_of k) e near w (joining-still new.stage (in_of k) j.joins) j.near) (lives-on s y new (out_of k) e far w (joining-still new.stage (out_of k) j.joins) j.far) j.joins
+          joining (lives-on s y new (in_of k) e near w (joining-still new.stage (in_of k) j.joins) j.near)
+          (lives-on s y new (out_of k) e far w (joining-still new.stage (out_of k) j.joins) j.far) j.joins
 
-      both : (side_at s (in_of k)).write_ended ≡ true → (side_at s (out_of k)).write_ended ≡ true → Ended k t x s → Ended k (t ++ y ∷ []) new.stage new.plain
+      both : (side_at s (in_of k)).write_ended ≡ true → (side_at s (out_of k)).write_ended ≡ true → Ended k t x s →
+          Ended k (t ++ y ∷ []) new.stage new.plain
       both a b (joining i o j) = put-joining s x y new kind a b j
       both a b (half_done i j) = all_done (done-push (in_of k) t y i) (done-now (out_of k) t y (put-out s x y new kind j))
       both a b (all_done i o) = all_done (done-push (in_of k) t y i) (done-push (out_of k) t y o)
 
-      go : ((side_at s (in_of k)).write_ended ≡ true) ⊎ (write_closed_by (in_of k) y ≡ true) → ((side_at s (out_of k)).write_ended ≡ true) ⊎ (write_closed_by (out_of k) y ≡ true) →
+      go : ((side_at s (in_of k)).write_ended ≡ true) ⊎ (write_closed_by (in_of k) y ≡ true) →
+          ((side_at s (out_of k)).write_ended ≡ true) ⊎ (write_closed_by (out_of k) y ≡ true) →
           Ended k (t ++ y ∷ []) new.stage new.plain
       go (inr w) o = just (in_of k) refl w
       go (inl a) (inr w) = just (out_of k) refl w
       go (inl a) (inl b) = both a b (h.each k lt a b)
 
-put-ordered : (g : Settings) (t : Trace) (s : Plain) (x : Stage) (y : Event) (new : State) → OrderedAt x → PutKind g t s x y new → OrderedAt new.stage
+put-ordered : (g : Settings) (t : Trace) (s : Plain) (x : Stage) (y : Event) (new : State) → OrderedAt x → PutKind g t s x y new →
+    OrderedAt new.stage
 put-ordered g t s x y new o (PutKind.turned a b) = tt
 put-ordered g t s x y new o PutKind.polled = tt
 put-ordered g t s x y new o (PutKind.wanted a) = tt
@@ -337,7 +222,8 @@ put-ordered g t s x y new o PutKind.poll_failed = tt
 put-ordered g t s x y new o (PutKind.readied a) = tt
 put-ordered g t s x y new o PutKind.opened = tt
 put-ordered g t s x y new o (PutKind.checked a) = tt
-put-ordered g t s x y new o (PutKind.was_read {side = side} {answer = answer} left a b) = open-ordered (after_reading side answer left) (reading-open side answer left)
+put-ordered g t s x y new o (PutKind.was_read {side = side} {answer = answer} left a b) =
+    open-ordered (after_reading side answer left) (reading-open side answer left)
 put-ordered g t s x y new o (PutKind.written a b c) = tt
 put-ordered g t s x y new o (PutKind.fired a) = tt
 put-ordered g t s x y new o (PutKind.frees a same) = tt
@@ -345,15 +231,18 @@ put-ordered g t s x y new o (PutKind.asked same k l) = tt
 put-ordered g t s x y new o PutKind.recorded = tt
 put-ordered g t s x y new o (PutKind.closed {c = c} {cs = cs} a) = left-ordered c cs o
 
-put-joined : (g : Settings) (t : Trace) (s : Plain) (x : Stage) (y : Event) (new : State) → PutKind g t s x y new → Effect g x s y new.stage new.plain → Joined t x s → Joined (t ++ y ∷ []) new.stage new.plain
+put-joined : (g : Settings) (t : Trace) (s : Plain) (x : Stage) (y : Event) (new : State) → PutKind g t s x y new →
+    Effect g x s y new.stage new.plain → Joined t x s → Joined (t ++ y ∷ []) new.stage new.plain
 put-joined g t s x y new kind effect h = record {
   ordered = put-ordered g t s x y new h.ordered kind;
   each = λ k lt d f. go k lt d f (cases_lt k s.opened);
 }
   where
-    go : (k : ℕ) → k < new.plain.opened → (side_at new.plain (in_of k)).write_ended ≡ true → (side_at new.plain (out_of k)).write_ended ≡ true → (k < s.opened) ⊎ (s.opened ≤ k) → Ended k (t ++ y ∷ []) new.stage new.plain
+    go : (k : ℕ) → k < new.plain.opened → (side_at new.plain (in_of k)).write_ended ≡ true →
+        (side_at new.plain (out_of k)).write_ended ≡ true → (k < s.opened) ⊎ (s.opened ≤ k) → Ended k (t ++ y ∷ []) new.stage new.plain
     go k lt d f (inl l) = put-ended g t k s x y new l kind effect h d f
-    go k lt d f (inr ge) = absurd (let none : (side_at new.plain (in_of k)).write_ended ≡ false = ap (λ z. z.write_ended) (effect.came (in_of k) ge lt) in cc)
+    go k lt d f (inr ge) = absurd (
+        let none : (side_at new.plain (in_of k)).write_ended ≡ false = ap (λ z. z.write_ended) (effect.came (in_of k) ge lt) in cc)
 
 pub joined : (g : Settings) (t : Trace) (s : State) → Reaches g t s → Joined t s.stage s.plain
 joined g t s Reaches.begins = record { ordered = tt; each = λ k lt d f. absurd (omega (arith, lt)) }

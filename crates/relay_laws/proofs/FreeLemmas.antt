@@ -78,8 +78,8 @@ unasked g built t legal before after y is =
     put-unasked g before k.old.plain k.old.stage y k.new k.kind (all-calm g built before k.old k.reached).stage
 
 -- no free is asked for
-pub not_asked : (g : Settings) → IsBuilt g → (t : Trace) → IsLegal g t → (before early : Trace) (me : SideId) (a : Act) (answer : AskAnswer) →
-    (y : Event) (after : Trace) → before ≡ early ++ (entry.Asked me a answer, []) ∷ [] → t ≡ before ++ y ∷ after → ⊥
+pub not_asked : (g : Settings) → IsBuilt g → (t : Trace) → IsLegal g t → (before early : Trace) (me : SideId) (a : Act) →
+    (answer : AskAnswer) (y : Event) (after : Trace) → before ≡ early ++ (entry.Asked me a answer, []) ∷ [] → t ≡ before ++ y ∷ after → ⊥
 not_asked g built t legal before early me a answer y after split is =
     let asked : Event = (entry.Asked me a answer, []) in
     let whole = is ∙ ap (λ z. z ++ y ∷ after) split ∙ append_assoc early (asked ∷ []) (y ∷ after) in
@@ -133,7 +133,8 @@ module _ (g : Settings) (unset : IsPlainly g) where
       go false false None h = cc
 
   gone-given : (t : Trace) (s : Plain) (x : Stage) (y : Event) (new : State) → Reaches g t (at x s) → PutKind g t s x y new →
-      (e : SideId) (moved given : ℕ) → y.0 ≡ entry.Freed e cause.PeerGone moved given → All (λ told. told ≡ given) (moved_at_free (peer e) t)
+      (e : SideId) (moved given : ℕ) → y.0 ≡ entry.Freed e cause.PeerGone moved given →
+      All (λ told. told ≡ given) (moved_at_free (peer e) t)
   gone-given t s x y new r (PutKind.turned a b) e moved given h = absurd (cc)
   gone-given t s x y new r PutKind.polled e moved given h = absurd (cc)
   gone-given t s x y new r (PutKind.wanted a) e moved given h = absurd (cc)

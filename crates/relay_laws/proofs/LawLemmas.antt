@@ -1,5 +1,5 @@
 -- A relay that stands for a trace stands for it in the model.
-use Rattle.std.proofs.Common.{◌≡◌, ℕ, ◌*◌, ◌<◌, ◌≤◌, Bool, false, List, [], ◌∷◌, ◌++◌, length, map, refl, sym, ◌∙◌, ap, subst, arith, if◌then◌else◌, length-take-le}
+use Rattle.std.proofs.Common.{◌≡◌, ℕ, ◌<◌, false, List, [], ◌∷◌, ◌++◌, length, map, refl, sym, ◌∙◌, ap, subst, arith, if◌then◌else◌, length-take-le}
 use Rattle.std.specs.List.{flat_map, list_any}
 use Rattle.std.proofs.lemmas.Bool.{or_parts}
 use Rattle.std.proofs.lemmas.List.{get_or-map, length-map}
@@ -12,7 +12,7 @@ use Rattle.ev_types.specs.Trace.{Event, Trace}
 use Rattle.relay_model.specs.Trace.{read_by, given_by, ended_by, told_moved_by, told_given_by, write_closed_by, bytes_read, bytes_given}
 use Rattle.relay_model.specs.Flow.{outcome}
 use Rattle.relay_model.specs.Conserved.{Buffers}
-use Rattle.relay_model.specs.Plain.{Plain, flow_at}
+use Rattle.relay_model.specs.Plain.{flow_at}
 use Rattle.relay_model.specs.Rooms.{read_filter, write_filter}
 use Rattle.relay_model.specs.Stages.{Stage, at}
 use Rattle.relay_model.specs.Turn.{Reaches}
@@ -120,9 +120,10 @@ module _ (t : Trace) (x : Stage) (s : State) (k : StandsFor t x s) where
   pub taken-length : (e : SideId) → length (bytes_given (peer e) t) ≡ (flow_at s.plain e).given
   taken-length e =
       let a = k.accounts e in
+      let r = read_filter s.settings s.plain e in
+      let w = write_filter s.settings s.plain (peer e) in
       ap length a.given
-      ∙ length-take-le (flow_at s.plain e).given
-      (outcome (read_filter s.settings s.plain e) (write_filter s.settings s.plain (peer e)) (bytes_read e t) (flow_at s.plain e)) a.fits.given
+      ∙ length-take-le (flow_at s.plain e).given (outcome r w (bytes_read e t) (flow_at s.plain e)) a.fits.given
 
 pub means_conserved : MeansConserved
 means_conserved t x s k = conserved t x s k

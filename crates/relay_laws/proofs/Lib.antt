@@ -1,4 +1,5 @@
 pub mod LawLemmas
+pub mod DoneOrder
 pub mod DoneLemmas
 pub mod LinkLemmas
 pub mod PlainlyLemmas
@@ -10,4 +11,5 @@ pub mod FreeLemmas
 pub mod ByteLemmas
 pub mod PollLemmas
 pub mod EventLemmas
+pub mod LineLemmas
 pub mod SpellingLemmas

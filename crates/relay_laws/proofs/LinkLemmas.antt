@@ -30,7 +30,8 @@ use Rattle.relay_steps.specs.Meaning.{StandsFor}
 use Rattle.relay_steps.proofs.CalmLemmas.{all-calm, calm-still}
 use Rattle.relay_laws.specs.Links.{done_by, is_done, lives_in, link_state_in, living_below, LinksAre, LinksAreTold, DoneIsWhole}
 use Rattle.relay_laws.proofs.LawLemmas.{told, means_conserved}
-use Rattle.relay_laws.proofs.DoneLemmas.{IsOutNext, Ended, joined}
+use Rattle.relay_laws.proofs.DoneOrder.{IsOutNext, Ended}
+use Rattle.relay_laws.proofs.DoneLemmas.{joined}
 
 -- Tests
 

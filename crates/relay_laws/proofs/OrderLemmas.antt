@@ -1,6 +1,6 @@
 -- Where filters hand bytes on as they are, the four counts of a direction stay in order over what was read: by induction over the steps
 -- of a legal trace.
-use Rattle.std.proofs.Common.{◌≡◌, ℕ, zero, suc, ◌+◌, ◌-◌, ◌≤◌, min, Bool, true, false, ◌&&◌, ◌||◌, ◌==◌, not, if◌then◌else◌, List, [], ◌∷◌, ◌++◌, length, take, Option, None, Some, refl, sym, ◌∙◌, ap, subst, arith, slice_index_or, length-append}
+use Rattle.std.proofs.Common.{◌≡◌, ℕ, zero, suc, ◌+◌, ◌-◌, ◌≤◌, min, Bool, true, false, ◌&&◌, ◌||◌, ◌==◌, not, if◌then◌else◌, List, [], ◌∷◌, ◌++◌, length, Option, None, Some, refl, sym, ◌∙◌, ap, subst, arith, slice_index_or, length-append}
 use Rattle.std.specs.Prelude.{slice_set, nat_lt}
 use Rattle.std.proofs.lemmas.List.{get_or-set_other}
 use Rattle.token_bucket.specs.declared.limit.Dir.TheVariants as dir
@@ -94,7 +94,7 @@ order-moved k read f e h = go (not f.held && length (output (filter_of k) read f
     go true =
         let m = h.moved in let n = h.turned in
         let all : length (middle (filter_of k) read f) ≡ f.used =
-            ap (λ z. length (middle (filter_of z) read f)) e ∙ middle-length read f h.used m n in
+        ap (λ z. length (middle (filter_of z) read f)) e ∙ middle-length read f h.used m n in
         record { used = h.used; moved = omega (arith, all); turned = omega (arith, all, m, n); given = h.given }
 
 -- All directions

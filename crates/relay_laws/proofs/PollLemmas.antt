@@ -1,5 +1,5 @@
 -- No poll waits longer than the timeouts of the sides: there are no timers, limits and groups to wait for.
-use Rattle.std.proofs.Common.{◌≡◌, ℕ, ◌+◌, ◌-◌, ◌^◌, ◌<◌, ◌≤◌, min, Bool, true, false, ◌&&◌, if◌then◌else◌, List, [], ◌∷◌, ◌++◌, map, Option, Some, None, refl, sym, ◌∙◌, ap, subst, arith}
+use Rattle.std.proofs.Common.{ℕ, ◌+◌, ◌-◌, ◌^◌, ◌<◌, ◌≤◌, min, Bool, true, false, ◌&&◌, if◌then◌else◌, List, [], ◌∷◌, ◌++◌, map, Some, sym, ap, subst, arith}
 use Rattle.std.specs.Prelude.{option_map}
 use Rattle.std.specs.List.{AllByRecursion, flat_map}
 use Rattle.token_bucket.specs.declared.limit.Dir.{Dir}
@@ -69,9 +69,9 @@ module _ (g : Settings) (built : IsBuilt g) (fit : TimeoutsFit g) (t : Trace) (s
   moments-near : AreNear p.time (moments g u p)
   moments-near =
       let timers : AreNear p.time (map (λ x. x.deadline) p.timers) =
-          subst (λ z. AreNear p.time (map (λ x. x.deadline) z)) (sym (ap (λ z. z.0) (all-calm g built t s r).waiting)) tt in
+      subst (λ z. AreNear p.time (map (λ x. x.deadline) z)) (sym (ap (λ z. z.0) (all-calm g built t s r).waiting)) tt in
       let groups : AreNear p.time (group_gains u p 0 g.groups) =
-          subst (λ z. AreNear p.time (group_gains u p 0 z)) (sym built.groups) tt in
+      subst (λ z. AreNear p.time (group_gains u p 0 z)) (sym built.groups) tt in
       let expiries = flat_map (λ e. flat_map (expiry g u p e) both_ways) (all_sides p) in
       let gains = flat_map (λ e. limit_gain u p e (side_at p e).limit) (all_sides p) in
       let deadlines = map (λ x. x.deadline) p.timers in

@@ -1,10 +1,10 @@
 -- Where nothing is set, no side has a timeout; an In side is never connecting; no activity is later than the time.
-use Rattle.std.proofs.Common.{◌≡◌, ℕ, ◌^◌, ◌<◌, ◌≤◌, Bool, true, false, refl, sym, ◌∙◌, arith}
+use Rattle.std.proofs.Common.{◌≡◌, ℕ, ◌^◌, ◌<◌, ◌≤◌, Bool, false, refl, arith}
 use Rattle.ev_types.specs.declared.side.Side.{Side}
 use Rattle.ev_types.specs.declared.side.Side.TheVariants.{In, Out}
 use Rattle.ev_types.specs.declared.side.SideId.{SideId}
 use Rattle.ev_types.specs.Trace.{Trace}
-use Rattle.relay_model.specs.Settings.{Settings, Timeouts, no_timeouts, timeouts_set}
+use Rattle.relay_model.specs.Settings.{Settings, no_timeouts, timeouts_set}
 use Rattle.relay_model.specs.Plain.{side_at, new_side}
 use Rattle.relay_model.specs.Stages.{State}
 use Rattle.relay_model.specs.Turn.{Reaches}
@@ -12,7 +12,7 @@ use Rattle.relay_model.proofs.PlainLemmas.{is_connected}
 use Rattle.relay_steps.specs.Meaning.{IsBuilt}
 use Rattle.relay_laws.specs.Frees.{IsPlainly}
 use Rattle.relay_laws.specs.Spelling.{TimeoutsFit}
-use Rattle.relay_laws.proofs.SideLemmas.{Looks, looks, IsKept, all-hold}
+use Rattle.relay_laws.proofs.SideLemmas.{Looks, looks, all-hold}
 
 -- No timeouts
 
@@ -23,7 +23,8 @@ none-set : (g : Settings) → IsPlainly g → (x : Side) → timeouts_set g x �
 none-set g h In = h.in_timeouts
 none-set g h Out = h.out_timeouts
 
-pub untimed : (g : Settings) → IsPlainly g → (t : Trace) (s : State) → Reaches g t s → (e : SideId) → (side_at s.plain e).timeouts ≡ no_timeouts
+pub untimed : (g : Settings) → IsPlainly g → (t : Trace) (s : State) → Reaches g t s → (e : SideId) →
+    (side_at s.plain e).timeouts ≡ no_timeouts
 untimed g plainly t s r = all-hold g Untimed (record {
   later = λ n m e x le h. h;
   unopened = λ n e. refl;
@@ -38,7 +39,8 @@ untimed g plainly t s r = all-hold g Untimed (record {
 abbrev InConnected : ℕ → SideId → Looks → Type 0
 InConnected n e x = e.side ≡ In → x.connecting ≡ false
 
-new-connected : (g : Settings) (n turn : ℕ) (x : Side) (connected : Bool) → x ≡ In → (new_side g n turn x (is_connected x connected)).connecting ≡ false
+new-connected : (g : Settings) (n turn : ℕ) (x : Side) (connected : Bool) → x ≡ In →
+    (new_side g n turn x (is_connected x connected)).connecting ≡ false
 new-connected g n turn In connected h = refl
 new-connected g n turn Out connected h = absurd (cc)
 
@@ -61,7 +63,8 @@ pub record Settled (n : ℕ) (e : SideId) (x : Looks) : Type 0 where
   pub read_ms : x.timeouts.read_ms < 2 ^ 64
   pub write_ms : x.timeouts.write_ms < 2 ^ 64
 
-new-settled : (g : Settings) → TimeoutsFit g → (n turn : ℕ) (e : SideId) (x : Side) (connected : Bool) → Settled n e (looks (new_side g n turn x connected))
+new-settled : (g : Settings) → TimeoutsFit g → (n turn : ℕ) (e : SideId) (x : Side) (connected : Bool) →
+    Settled n e (looks (new_side g n turn x connected))
 new-settled g fit n turn e In connected =
     record { last_read = omega arith; last_write = omega arith; read_ms = fit.in_read; write_ms = fit.in_write }
 new-settled g fit n turn e Out connected =

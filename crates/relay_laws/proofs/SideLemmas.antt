@@ -1,7 +1,7 @@
 -- What is so of every side where no hook asks, of its timeouts, its last activity and its connection: it is kept by each step, where it
 -- is so of the sides of a new link, of one that was active just now or connected just now, and stays so in time. By induction over the
 -- steps.
-use Rattle.std.proofs.Common.{◌≡◌, ℕ, ◌+◌, ◌*◌, ◌≤◌, Bool, true, false, not, nat_lt, nat_le, if◌then◌else◌, List, [], ◌∷◌, ◌++◌, length, fold, inl, inr, refl, sym, ◌∙◌, ap, subst, arith}
+use Rattle.std.proofs.Common.{◌≡◌, ℕ, ◌+◌, ◌*◌, ◌≤◌, Bool, true, false, not, nat_lt, nat_le, if◌then◌else◌, List, [], ◌∷◌, ◌++◌, length, fold, inl, inr, sym, subst}
 use Rattle.std.specs.Prelude.{filter}
 use Rattle.std.proofs.lemmas.Bool.Decides.{eqb_tells}
 use Rattle.token_bucket.specs.declared.limit.Dir.{Dir}

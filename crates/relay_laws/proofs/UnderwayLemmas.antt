@@ -1,10 +1,9 @@
 -- The buffers of live sides hold what is under way.
 use Rattle.std.proofs.Common.{◌≡◌, ℕ, zero, suc, ◌+◌, ◌-◌, ◌<◌, ◌≤◌, Bool, true, false, not, if◌then◌else◌, [], length, sym, ◌∙◌, ap, arith, refl}
-use Rattle.ev_types.specs.declared.filter.FilterKind.{FilterKind}
 use Rattle.ev_types.specs.declared.side.SideId.{SideId}
 use Rattle.ev_types.specs.Sides.{peer}
 use Rattle.ev_types.specs.Trace.{Trace}
-use Rattle.relay_model.specs.Trace.{bytes_read, bytes_given, has_ended}
+use Rattle.relay_model.specs.Trace.{bytes_read, has_ended}
 use Rattle.relay_model.specs.Filter.{Filter}
 use Rattle.relay_model.specs.Flow.{Flow, raw_input, input, output, raw_output}
 use Rattle.relay_model.specs.Conserved.{Buffers}
@@ -12,7 +11,6 @@ use Rattle.relay_model.specs.Plain.{Plain, flow_at, is_live}
 use Rattle.relay_model.specs.Rooms.{read_kind, write_kind, read_filter, write_filter}
 use Rattle.relay_model.specs.Stages.{Stage}
 use Rattle.relay_model.specs.Told.{is_freed}
-use Rattle.relay_model.specs.Totals.{opened}
 use Rattle.relay_state.specs.State.{State, lane_at}
 use Rattle.relay_state.specs.Rooms.{input_length, output_length}
 use Rattle.relay_state.specs.Closing.{in_side, out_side}
@@ -36,9 +34,9 @@ module _ (t : Trace) (x : Stage) (s : State) (h : StandsFor t x s) where
       let r : Filter = read_filter s.settings p e in
       let k = (h.each e lt).holds.buffers in
       let raw : (lane_at s e).buffers.raw_input ≡ raw_input (bytes_read e t) f =
-          ap (λ (b : Buffers). b.raw_input) k ∙ ap (λ b. if b then raw_input (bytes_read e t) f else []) live in
+      ap (λ (b : Buffers). b.raw_input) k ∙ ap (λ b. if b then raw_input (bytes_read e t) f else []) live in
       let made : (lane_at s e).buffers.input ≡ input r (bytes_read e t) f =
-          ap (λ (b : Buffers). b.input) k ∙ ap (λ b. if b then input r (bytes_read e t) f else []) live in
+      ap (λ (b : Buffers). b.input) k ∙ ap (λ b. if b then input r (bytes_read e t) f else []) live in
       λ i. length (raw i) + length (made i)
 
   -- what waits for a live side is what was moved to it and not given
@@ -50,11 +48,11 @@ module _ (t : Trace) (x : Stage) (s : State) (h : StandsFor t x s) where
       let back = peer-peer e in
       let there : is_live p (peer (peer e)) ≡ true = ap (is_live p) back ∙ live in
       let waits : (lane_at s (peer e)).buffers.output ≡ output r (bytes_read (peer e) t) f =
-          ap (λ (b : Buffers). b.output) k ∙ ap (λ b. if b then output r (bytes_read (peer e) t) f else []) there in
+      ap (λ (b : Buffers). b.output) k ∙ ap (λ b. if b then output r (bytes_read (peer e) t) f else []) there in
       let made : (lane_at s (peer e)).buffers.raw_output ≡ raw_output r (write_filter s.settings p e) (bytes_read (peer e) t) f =
-          ap (λ (b : Buffers). b.raw_output) k
-          ∙ ap (λ b. if b then raw_output r (write_filter s.settings p (peer (peer e))) (bytes_read (peer e) t) f else []) there
-          ∙ ap (λ z. raw_output r (write_filter s.settings p z) (bytes_read (peer e) t) f) back in
+      ap (λ (b : Buffers). b.raw_output) k
+      ∙ ap (λ b. if b then raw_output r (write_filter s.settings p (peer (peer e))) (bytes_read (peer e) t) f else []) there
+      ∙ ap (λ z. raw_output r (write_filter s.settings p z) (bytes_read (peer e) t) f) back in
       λ i. length (waits i) + length (made i)
 
   holds-live : (e : SideId) → e.link < p.opened → is_live p e ≡ true → buffered_at s e ≡ not_moved t s e + not_taken t s e
@@ -87,16 +85,18 @@ module _ (t : Trace) (x : Stage) (s : State) (h : StandsFor t x s) where
       let f : Flow = flow_at p e in
       let read = bytes_read e t in
       let r : Filter = read_filter s.settings p e in
-      let held = plainly-held (read_kind s.settings e.side) (write_kind s.settings (peer e).side) (read_kind-none s.settings plainly e.side)
-          (write_kind-none s.settings plainly (peer e).side) read (has_ended e t) f (h.accounts e).fits in
+      let held = plainly-held (read_kind s.settings e.side) (write_kind s.settings (peer e).side)
+      (read_kind-none s.settings plainly e.side) (write_kind-none s.settings plainly (peer e).side)
+      read (has_ended e t) f (h.accounts e).fits in
       let back = peer-peer e in
       let far : not_taken t s (peer e) ≡ length (output r read f) + length (raw_output r (write_filter s.settings p (peer e)) read f) =
-          ap (λ z. length (output (read_filter s.settings p z) (bytes_read z t) (flow_at p z))
-          + length (raw_output (read_filter s.settings p z) (write_filter s.settings p (peer e)) (bytes_read z t) (flow_at p z))) back in
+      ap (λ z. length (output (read_filter s.settings p z) (bytes_read z t) (flow_at p z))
+      + length (raw_output (read_filter s.settings p z) (write_filter s.settings p (peer e)) (bytes_read z t) (flow_at p z))) back in
       let given = taken-length t x s h e in
       ap (λ z. not_moved t s e + z) far ∙ held ∙ ap (λ z. length read - z) (sym given)
 
-  both-are : IsPlainly s.settings → (link : ℕ) → link < p.opened → is_freed (in_side link) t ≡ false → is_freed (out_side link) t ≡ false →
+  both-are : IsPlainly s.settings → (link : ℕ) → link < p.opened → is_freed (in_side link) t ≡ false →
+      is_freed (out_side link) t ≡ false →
       buffered_at s (in_side link) + buffered_at s (out_side link) ≡ not_given t (in_side link) + not_given t (out_side link)
   both-are plainly link lt near far =
       let a = holds-live (in_side link) lt (live-told t x s h (in_side link) lt ∙ ap not near) in

@@ -37,5 +37,5 @@ IsFreedFor t e (cause.Filter place) given = ⊥
 
 -- So it is of each free of a legal trace.
 abbrev pub FreesAreFor : Type 0
-FreesAreFor = (g : Settings) (t before after : Trace) (e : SideId) (why : Cause) (moved given : ℕ) (bytes : List ℕ) → IsPlainly g → IsLegal g t →
-    t ≡ before ++ (entry.Freed e why moved given, bytes) ∷ after → IsFreedFor before e why given
+FreesAreFor = (g : Settings) (t before after : Trace) (e : SideId) (why : Cause) (moved given : ℕ) (bytes : List ℕ) → IsPlainly g →
+    IsLegal g t → t ≡ before ++ (entry.Freed e why moved given, bytes) ∷ after → IsFreedFor before e why given

@@ -29,7 +29,8 @@ BringsFit turns = (e : SideId) → FewBytes (flat_map (brings e) (flat_map (λ t
 
 -- Where every answer is a script's, what was read fits as far as what the script brings in does.
 abbrev pub ReadsFitAsScripted : Type 0
-ReadsFitAsScripted = (turns : List ScriptTurn) (closing_by : ℕ) (t : Trace) → BringsFit turns → IsAnswered turns closing_by t → ReadsFit t
+ReadsFitAsScripted = (turns : List ScriptTurn) (closing_by : ℕ) (t : Trace) → BringsFit turns → IsAnswered turns closing_by t →
+    ReadsFit t
 
 -- Each timeout is a number of 64 bits.
 pub record TimeoutsFit (g : Settings) : Type 0 where
@@ -41,5 +42,5 @@ pub record TimeoutsFit (g : Settings) : Type 0 where
 -- A trace for which a relay stands can be spelled as text and read back, where what was read fits, links are named by numbers
 -- below 2^32, and timeouts fit.
 abbrev pub StoodIsSpellable : Type 0
-StoodIsSpellable = (t : Trace) (x : Stage) (s : State) → StandsFor t x s → s.settings.links ≤ 2 ^ 32 → TimeoutsFit s.settings → ReadsFit t →
-    IsSpellable t
+StoodIsSpellable = (t : Trace) (x : Stage) (s : State) → StandsFor t x s → s.settings.links ≤ 2 ^ 32 → TimeoutsFit s.settings →
+    ReadsFit t → IsSpellable t

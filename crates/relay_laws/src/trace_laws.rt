@@ -10,13 +10,14 @@ pub fn links_are_told()
     ensures { LinksAreTold }
 {}
 
-/// Where a link is done, all that was read at either side was given to the other.
+/// Where a link is done, each side was given all that the filters make of what was read at the other, with their ends.
 pub fn done_is_whole()
     ensures { DoneIsWhole }
 {}
 
-/// The buffers of live sides hold exactly the bytes that are under way: what was read and not moved, and what was moved and not
-/// given. Where both sides of a link live, that is what was read at either and not given to the other.
+/// The buffers of live sides hold exactly the bytes that are under way: what was read or made by a filter and not moved, and what was
+/// moved or made and not given. With no filters, and where both sides of a link live, that is what was read at either and not given to
+/// the other.
 pub fn buffered_is_underway()
     ensures { BufferedIsUnderway }
 {}
