@@ -11,6 +11,8 @@ mod push;
 mod read;
 mod room;
 mod script;
+mod set_words;
+mod setting;
 mod tally;
 mod trace;
 mod value_text;
