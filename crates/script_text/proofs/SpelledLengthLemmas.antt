@@ -24,7 +24,8 @@ use Rattle.script_text.specs.Given.{with_setting}
 use Rattle.script_text.specs.Script.{ScriptValue, SoFar}
 use Rattle.script_text.specs.Pieces.{begun, pieces, lines, words, is_filled}
 use Rattle.script_text.specs.Numbers.{number_within, bytes_of}
-use Rattle.script_text.specs.Grammar.{keyword_of, link_of, end_of, made_of, more_of, of_end, setting_name_of, set_by, said_by, is_comment, said}
+use Rattle.script_text.specs.Grammar.{keyword_of, link_of, end_of, made_of, more_of, of_end, setting_name_of, set_by, said_by}
+use Rattle.script_text.specs.Grammar.{is_comment, said}
 use Rattle.script_text.specs.Brought.{brought, all_brought}
 use Rattle.script_text.specs.Order.{may_follow, with_line, extended}
 use Rattle.script_text.specs.Spelled.{is_plain, line_read, going_on, lines_read, no_line, script_of}
@@ -180,7 +181,8 @@ extended-bytes so_far (line.Within x) = at_case (nat_lt 0 (length so_far.turns) 
     at_case : (b : Bool) → (nat_lt 0 (length so_far.turns) && may_follow (lines_of so_far.turns) x) ≡ b →
         IfSome (if b then Some longer else None) (λ longer. so_many longer ≡ so_many so_far + brought x)
     at_case true may =
-        let some = ltb-true 0 (length so_far.turns) (and_parts (nat_lt 0 (length so_far.turns)) (may_follow (lines_of so_far.turns) x) may).0 in
+        let both = and_parts (nat_lt 0 (length so_far.turns)) (may_follow (lines_of so_far.turns) x) may in
+        let some = ltb-true 0 (length so_far.turns) both.0 in
         ap all_brought (lines_of-with_line so_far.turns x some) ∙ sum_by_push brought (lines_of so_far.turns) x
     at_case false may = tt
 extended-bytes so_far line.Skipped = omega arith

@@ -48,7 +48,8 @@ opened-more before line = ap length (opened_links-more before line) ∙ length-a
 -- the ends of an opened link are kept
 pub number-within : (side : SideId) (ended : List Bool) (links : ℕ) → length ended ≡ 2 * links → side.link < links →
     number side < length ended
-number-within side ended links e lt = elim side.side as (λ s. 2 * side.link + half s < length ended) [ In ↦ omega arith | Out ↦ omega arith ]
+number-within side ended links e lt =
+    elim side.side as (λ s. 2 * side.link + half s < length ended) [ In ↦ omega arith | Out ↦ omega arith ]
 
 -- a line that ends no end
 pub is_ended-other : (e : ℕ) (before : List TurnLine) (line : TurnLine) → is_end_of e line ≡ false →

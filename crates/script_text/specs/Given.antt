@@ -18,49 +18,18 @@ once (Some before) longer = None
 
 -- What is given with this setting more. Each side has marks and timeouts of its own. A setting that was given before is not given again.
 abbrev pub with_setting : Given → Setting → Option Given
-with_setting g (Hold bytes) = once g.hold (record {
-  hold = Some bytes;
-  in_marks = g.in_marks;
-  out_marks = g.out_marks;
-  in_timeouts = g.in_timeouts;
-  out_timeouts = g.out_timeouts;
-})
-with_setting g (Marks In marks) = once g.in_marks (record {
-  hold = g.hold;
-  in_marks = Some marks;
-  out_marks = g.out_marks;
-  in_timeouts = g.in_timeouts;
-  out_timeouts = g.out_timeouts;
-})
-with_setting g (Marks Out marks) = once g.out_marks (record {
-  hold = g.hold;
-  in_marks = g.in_marks;
-  out_marks = Some marks;
-  in_timeouts = g.in_timeouts;
-  out_timeouts = g.out_timeouts;
-})
-with_setting g (Timeouts In timeouts) = once g.in_timeouts (record {
-  hold = g.hold;
-  in_marks = g.in_marks;
-  out_marks = g.out_marks;
-  in_timeouts = Some timeouts;
-  out_timeouts = g.out_timeouts;
-})
-with_setting g (Timeouts Out timeouts) = once g.out_timeouts (record {
-  hold = g.hold;
-  in_marks = g.in_marks;
-  out_marks = g.out_marks;
-  in_timeouts = g.in_timeouts;
-  out_timeouts = Some timeouts;
-})
+with_setting g (Hold bytes) = once g.hold (record g { hold = Some bytes })
+with_setting g (Marks In marks) = once g.in_marks (record g { in_marks = Some marks })
+with_setting g (Marks Out marks) = once g.out_marks (record g { out_marks = Some marks })
+with_setting g (Timeouts In timeouts) = once g.in_timeouts (record g { in_timeouts = Some timeouts })
+with_setting g (Timeouts Out timeouts) = once g.out_timeouts (record g { out_timeouts = Some timeouts })
 
 -- the settings of a run: what was given, and the usual ones where nothing was
 abbrev pub settings_by : Given → Settings
-settings_by g = record {
+settings_by g = record usual {
   hold = unwrap_or g.hold usual.hold;
   in_marks = unwrap_or g.in_marks usual.in_marks;
   out_marks = unwrap_or g.out_marks usual.out_marks;
   in_timeouts = unwrap_or g.in_timeouts usual.in_timeouts;
   out_timeouts = unwrap_or g.out_timeouts usual.out_timeouts;
-  links = usual.links;
 }
