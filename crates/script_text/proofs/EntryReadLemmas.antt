@@ -1,6 +1,6 @@
 -- An entry is what its line says.
-use Rattle.std.proofs.Common.{◌≡◌, ◌<◌, ◌≤◌, ◌+◌, ◌^◌, ◌||◌, ℕ, zero, suc, true, false, Bool, lit<, List, [], ◌∷◌, ◌++◌, length, take}
-use Rattle.std.proofs.Common.{get_or, refl, ap, sym, ◌∙◌, arith, codes, Option, Some, None, append_assoc, length-append}
+use Rattle.std.proofs.Common.{◌≡◌, ◌<◌, ◌^◌, ◌||◌, ℕ, true, false, Bool, List, [], ◌∷◌, ◌++◌, length, take}
+use Rattle.std.proofs.Common.{get_or, refl, ap, sym, ◌∙◌, arith, codes, Option, Some, None, length-append}
 use Rattle.std.specs.Prelude.{option_map, option_and_then}
 use Rattle.std.specs.Fmt.{decimal}
 use Rattle.std.specs.Str.{bytes_eq, all_ascii_digits}
@@ -21,7 +21,7 @@ use Rattle.ev_types.specs.declared.entry.Entry.{Entry}
 use Rattle.ev_types.specs.declared.entry.Entry.TheVariants.{Turn, Poll, Want, Ready, PollFailed, Opened, Conn, Read, Write, Fired, Asked}
 use Rattle.ev_types.specs.declared.entry.Entry.TheVariants.{Freed, CloseWrite, Close}
 use Rattle.ev_types.specs.Trace.{Event}
-use Rattle.script_text.specs.Lines.{phrase, side_word, marks_word, why_word, cause_word}
+use Rattle.script_text.specs.Lines.{side_word, marks_word, why_word, cause_word}
 use Rattle.script_text.specs.ActLine.{act_words, ask_word}
 use Rattle.script_text.specs.TraceText.{conn_word, entry_words}
 use Rattle.script_text.specs.Numbers.{any_number}
@@ -32,11 +32,9 @@ use Rattle.ev_types.specs.declared.why.Why.{Why}
 use Rattle.ev_types.specs.declared.why.Cause.{Cause}
 use Rattle.script_text.specs.EntryGrammar.{event_said, asked_by, last_and_front, end_and_number_of}
 use Rattle.script_text.specs.TraceLaws.{IsWide, IsEnd, IsOut, IsWhy, IsCause, IsAct, IsEntry, StandBeside, AreBytes}
-use Rattle.script_text.proofs.SolidLemmas.{AreSolid, AreSolid-append, Solid-decimal, Solid-encode_lower}
 use Rattle.script_text.proofs.ValueReadLemmas.{any_number-decimal, link_of-decimal, end_of-words, marks_of-word, conn_of-word}
-use Rattle.script_text.proofs.ValueReadLemmas.{ask_of-word, why_of-word, cause_of-word, lower_bytes_of-encode_lower, computed}
-use Rattle.script_text.proofs.ValueReadLemmas.{Solid-marks_word, Solid-conn_word, Solid-ask_word, Solid-why_word, Solid-cause_word}
-use Rattle.script_text.proofs.ActReadLemmas.{act_of-words, AreSolid-end, AreSolid-act_words}
+use Rattle.script_text.proofs.ValueReadLemmas.{ask_of-word, why_of-word, cause_of-word, lower_bytes_of-encode_lower}
+use Rattle.script_text.proofs.ActReadLemmas.{act_of-words}
 
 -- the words of an entry's line, with those of an ask one by one
 abbrev pub flat_words : Entry → List ℕ → List (List ℕ)

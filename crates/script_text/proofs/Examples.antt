@@ -4,6 +4,7 @@ use Rattle.hex.specs.Hex.{decode_pairs}
 use Rattle.ev_types.specs.declared.side.Side.TheVariants.{In, Out}
 use Rattle.ev_types.specs.declared.side.SideId.{SideId}
 use Rattle.ev_types.specs.declared.turn_line.TurnLine.TheVariants.{NewLink, Conn, Pending, Eof, ReadFail, Take, WriteFail, Spur, PollFail}
+use Rattle.relay_settings.specs.Usual.{no_marks, no_timeouts, usual}
 use Rattle.script_text.specs.Pieces.{lines, words}
 use Rattle.script_text.specs.Numbers.{number_within}
 use Rattle.script_text.specs.Spelled.{script_of}
@@ -36,7 +37,10 @@ known_numbers = (refl, refl, refl, refl, refl, refl)
 pub known_script : script_of
     (text (codes "# two turns" ∷ codes "at 5" ∷ codes "open" ∷ codes "w 0 out all" ∷ [] ∷ codes "r 0 in 61fF" ∷ codes "at 3" ∷ codes
     "eof 0 in" ∷ []))
-    ≡ Ok (record { turns = (5, NewLink false ∷ Take out_end None ∷ Pending in_end (97 ∷ 255 ∷ []) ∷ []) ∷ (3, Eof in_end ∷ []) ∷ [] })
+    ≡ Ok (record {
+      settings = usual;
+      turns = (5, NewLink false ∷ Take out_end None ∷ Pending in_end (97 ∷ 255 ∷ []) ∷ []) ∷ (3, Eof in_end ∷ []) ∷ [];
+    })
 unfolding decode_pairs
 known_script = refl
 
@@ -44,6 +48,7 @@ pub known_faults : script_of
     (text (codes "at 0" ∷ codes "open wait" ∷ codes "conn 0 fail" ∷ codes "conn 0 ok" ∷ codes "rfail 0 out" ∷ codes "w 0 in 7" ∷ codes
     "wfail 0 in" ∷ codes "spur 0 out" ∷ codes "pollfail" ∷ []))
     ≡ Ok (record {
+      settings = usual;
       turns = (
         0,
         NewLink true ∷ Conn 0 false ∷ Conn 0 true ∷ ReadFail out_end ∷ Take in_end
@@ -51,6 +56,33 @@ pub known_faults : script_of
       ) ∷ [];
     })
 known_faults = refl
+
+-- settings before the turns, in any order
+pub known_settings : script_of
+    (text (codes "# started with" ∷ codes "set marks out 0 1 2 16777216" ∷ [] ∷ codes "set hold 1" ∷ codes
+    "set timeouts in 0 1099511627776" ∷ codes "at 5" ∷ []))
+    ≡ Ok (record {
+      settings = record {
+        hold = 1;
+        in_marks = no_marks;
+        out_marks = record { read_low = 0; read_high = 1; write_low = 2; write_high = 16777216 };
+        in_timeouts = record { read_ms = 0; write_ms = 1099511627776 };
+        out_timeouts = no_timeouts;
+        links = 256;
+      };
+      turns = (5, []) ∷ [];
+    })
+known_settings = refl
+
+-- a setting that is given again, and one behind a turn; a mark of 0 bytes, and one that is too high; a timeout that is too long; three
+-- marks; a name that is none; no name
+pub known_bad_settings : (script_of (text (codes "set hold 5" ∷ [] ∷ codes "set hold 5" ∷ [])) ≡ Err 3)
+    × (script_of (text (codes "set hold 5" ∷ codes "at 0" ∷ codes "set timeouts in 5 5" ∷ [])) ≡ Err 3)
+    × (script_of (text (codes "set hold 0" ∷ [])) ≡ Err 1) × (script_of (text (codes "set marks in 0 0 0 16777217" ∷ [])) ≡ Err 1)
+    × (script_of (text (codes "set timeouts out 0 1099511627777" ∷ [])) ≡ Err 1)
+    × (script_of (text (codes "set marks in 0 0 0" ∷ [])) ≡ Err 1) × (script_of (text (codes "set links 5" ∷ [])) ≡ Err 1)
+    × (script_of (text (codes "set" ∷ [])) ≡ Err 1)
+known_bad_settings = (refl, refl, refl, refl, refl, refl, refl, refl)
 
 -- a line before any turn; a word that is none, behind a skipped line; a link that was not opened; a decision of a link
 -- that is none to decide; bytes of an end that was ended, and of one whose reads fail

@@ -1,6 +1,6 @@
 -- Lines, words, numbers and bad lines, as the laws say them.
 use Rattle.std.proofs.Common.{◌≡◌, ◌<◌, ◌≤◌, ◌+◌, ◌-◌, ◌^◌, ℕ, zero, suc, true, false, cond, ◌&&◌, leb, List, [], ◌∷◌, ◌++◌, length, take}
-use Rattle.std.proofs.Common.{get_or, refl, ap, sym, ◌∙◌, arith, inl, inr, Option, Some, None, Ok, Err, rules, leb-true, le-leb}
+use Rattle.std.proofs.Common.{get_or, refl, ap, sym, ◌∙◌, arith, inl, inr, Option, Some, None, Result, Ok, Err, rules, leb-true, le-leb}
 use Rattle.std.proofs.Common.{append_assoc}
 use Rattle.std.specs.Fmt.{decimal}
 use Rattle.std.specs.Str.{all_ascii_digits}
@@ -12,8 +12,8 @@ use Rattle.std.proofs.lemmas.Fmt.{first_decimal}
 use Rattle.script_text.specs.Pieces.{pieces, begun, lines, words}
 use Rattle.script_text.specs.Numbers.{value_of, is_numeral, number_within}
 use Rattle.script_text.specs.Lines.{phrase}
-use Rattle.script_text.specs.Script.{ScriptValue}
-use Rattle.script_text.specs.Spelled.{line_read, lines_read, going_on, script_of, no_line}
+use Rattle.script_text.specs.Script.{ScriptValue, SoFar, whole}
+use Rattle.script_text.specs.Spelled.{line_read, lines_read, going_on, whole_of, script_of, no_line}
 use Rattle.script_text.specs.Laws.{Lacks, AllLack, AreWords, with_ends, IsFirstBad}
 use Rattle.script_text.proofs.NumberLemmas.{value_from, is_numeral-plain}
 
@@ -88,15 +88,15 @@ decimal-number_within max n word small spelled =
     ] refl spelled
 
 -- where the lines from here on are first bad
-pub record IsBadAt (from : ScriptValue) (before : ℕ) (ls : List (List ℕ)) (n : ℕ) : Type 0 where
+pub record IsBadAt (from : SoFar) (before : ℕ) (ls : List (List ℕ)) (n : ℕ) : Type 0 where
   pub place : ℕ
   pub number : n ≡ before + place + 1
   pub within : place < length ls
-  pub script : ScriptValue
+  pub script : SoFar
   pub spelled : lines_read from before (take place ls) ≡ Ok script
   pub bad : line_read script (get_or ls place []) ≡ None
 
-pub lines_read-bad : (from : ScriptValue) (before : ℕ) (ls : List (List ℕ)) (n : ℕ) → lines_read from before ls ≡ Err n →
+pub lines_read-bad : (from : SoFar) (before : ℕ) (ls : List (List ℕ)) (n : ℕ) → lines_read from before ls ≡ Err n →
     IsBadAt from before ls n
 lines_read-bad from before [] n refused = absurd cc
 lines_read-bad from before (l ∷ ls) n refused =
@@ -113,15 +113,20 @@ lines_read-bad from before (l ∷ ls) n refused =
             number = omega (arith, later.number);
             within = omega (arith, later.within);
             script = later.script;
-            spelled = ap (λ (o : Option ScriptValue). going_on o (before + 1)
+            spelled = ap (λ (o : Option SoFar). going_on o (before + 1)
                 (λ longer. lines_read longer (before + 1) (take later.place ls))) here ∙ later.spelled;
             bad = later.bad;
           }
     ] refl refused
 
+-- a text that spells no script has a line that is not read
+whole_of-bad : (r : Result SoFar ℕ) (n : ℕ) → whole_of r ≡ Err n → r ≡ Err n
+whole_of-bad (Ok so_far) n refused = absurd cc
+whole_of-bad (Err line) n refused = cc
+
 pub script_of-bad : (text : List ℕ) (n : ℕ) → script_of text ≡ Err n → IsFirstBad text n
 script_of-bad text n refused =
-    let at = lines_read-bad no_line 0 (lines text) n refused in
+    let at = lines_read-bad no_line 0 (lines text) n (whole_of-bad (lines_read no_line 0 (lines text)) n refused) in
     let place : at.place ≡ n - 1 = omega (arith, at.number) in
     record {
       above = omega (arith, at.number);
@@ -130,3 +135,23 @@ script_of-bad text n refused =
       before = rw (← place) at.spelled;
       bad = rw (← place) at.bad;
     }
+
+-- a script that a text spells is the whole of what its lines come to
+pub record IsRead (text : List ℕ) (script : ScriptValue) : Type 0 where
+  pub so_far : SoFar
+  pub read : lines_read no_line 0 (lines text) ≡ Ok so_far
+  pub is : whole so_far ≡ script
+
+whole_of-ok : (text : List ℕ) (script : ScriptValue) (r : Result SoFar ℕ) → lines_read no_line 0 (lines text) ≡ r → whole_of r ≡ Ok script →
+    IsRead text script
+whole_of-ok text script (Ok so_far) read spelled = record { so_far = so_far; read = read; is = cc }
+whole_of-ok text script (Err line) read spelled = absurd cc
+
+pub script_of-read : (text : List ℕ) (script : ScriptValue) → script_of text ≡ Ok script → IsRead text script
+script_of-read text script spelled = whole_of-ok text script (lines_read no_line 0 (lines text)) refl spelled
+
+-- a reader at the end of a text has the whole script
+pub script_of-last : (text rest : List ℕ) (so_far : SoFar) (before : ℕ) → length rest ≡ 0 →
+    lines_read so_far before (lines rest) ≡ lines_read no_line 0 (lines text) → script_of text ≡ Ok (whole so_far)
+script_of-last text [] so_far before none read = ap whole_of (sym read)
+script_of-last text (b ∷ bs) so_far before none read = absurd (omega (arith, none))

@@ -3,6 +3,7 @@ pub mod NumberLemmas
 pub mod TurnLemmas
 pub mod TallyLemmas
 pub mod LawLemmas
+pub mod SpelledLengthLemmas
 pub mod LimitLemmas
 pub mod ShapeLemmas
 pub mod BesideLemmas

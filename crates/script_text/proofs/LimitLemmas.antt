@@ -1,9 +1,9 @@
 -- The limit of five numbers is what `LimitCfg::new` makes of them.
-use Rattle.std.proofs.Common.{◌≡◌, ◌<◌, ◌≤◌, ◌+◌, ◌^◌, ℕ, Bool, true, false, cond, eqb, ltb, leb, ◌&&◌, ◌||◌, Option, Some, None, Result}
-use Rattle.std.proofs.Common.{Ok, Err, inl, inr, arith, refl, ap, sym, ◌∙◌, le-leb}
+use Rattle.std.proofs.Common.{◌≡◌, ◌^◌, ℕ, Bool, true, false, Some, None, Result}
+use Rattle.std.proofs.Common.{Ok, Err, arith, refl, ap, sym, ◌∙◌, le-leb}
 use Rattle.std.specs.Prelude.{IfOk}
 use Rattle.std.specs.Result.{result_ok}
-use Rattle.std.proofs.lemmas.Bool.Decides.{eqb_tells, leb_tells, nat_tests}
+use Rattle.std.proofs.lemmas.Bool.Decides.{nat_tests}
 use Rattle.std.proofs.Props.{props}
 use Rattle.token_bucket.specs.declared.limit.LimitCfg.{LimitCfg}
 use Rattle.token_bucket.specs.declared.limit.LimitFault.{LimitFault}

@@ -1,13 +1,12 @@
 -- A trace is what its text says.
-use Rattle.std.proofs.Common.{◌≡◌, ◌<◌, ◌+◌, ◌^◌, ℕ, true, false, Bool, lit<, List, [], ◌∷◌, ◌++◌, length, map, refl, ap, sym, ◌∙◌, arith}
-use Rattle.std.proofs.Common.{codes, Option, Some, None, Result, Ok, Err, zero, suc, get_or, ◌-◌, append_assoc, append-nil, length-append}
+use Rattle.std.proofs.Common.{◌≡◌, ◌<◌, ◌+◌, ◌^◌, ℕ, true, false, lit<, List, [], ◌∷◌, ◌++◌, length, map, refl, ap, sym, ◌∙◌, arith}
+use Rattle.std.proofs.Common.{codes, Option, Some, None, Ok, Err, zero, suc, get_or, ◌-◌, append_assoc, append-nil, length-append}
 use Rattle.std.specs.Prelude.{option_map, IsSome}
 use Rattle.std.specs.Fmt.{decimal}
 use Rattle.hex.specs.Hex.{encode_lower}
 use Rattle.ev_types.specs.declared.side.SideId.{SideId}
 use Rattle.ev_types.specs.declared.act.Act.{Act}
 use Rattle.ev_types.specs.declared.act.Act.TheVariants as act
-use Rattle.ev_types.specs.declared.answer.AskAnswer.{AskAnswer}
 use Rattle.ev_types.specs.declared.answer.ReadAnswer.TheVariants as read
 use Rattle.ev_types.specs.declared.answer.WriteAnswer.TheVariants as write
 use Rattle.ev_types.specs.declared.entry.Entry.{Entry}
@@ -15,14 +14,14 @@ use Rattle.ev_types.specs.declared.entry.Entry.TheVariants.{Turn, Poll, Want, Re
 use Rattle.ev_types.specs.declared.entry.Entry.TheVariants.{Freed, CloseWrite, Close}
 use Rattle.ev_types.specs.Trace.{Trace, Event}
 use Rattle.script_text.specs.Pieces.{lines, words}
-use Rattle.script_text.specs.Lines.{phrase, line_of, side_word, marks_word, why_word, cause_word}
+use Rattle.script_text.specs.Lines.{phrase, side_word, marks_word, why_word, cause_word}
 use Rattle.script_text.specs.ActLine.{act_words, ask_word}
 use Rattle.script_text.specs.TraceText.{conn_word, entry_words, trace_text}
 use Rattle.script_text.specs.EntryGrammar.{event_said}
 use Rattle.script_text.specs.Spelled.{going_on}
 use Rattle.script_text.specs.TraceSpelled.{trace_line_read, trace_lines_read, trace_of}
 use Rattle.script_text.specs.Laws.{AllLack, with_ends}
-use Rattle.script_text.specs.TraceLaws.{IsWide, IsEnd, IsAct, IsEntry, StandBeside, AreBytes, IsSpellable, IsFirstBadLine}
+use Rattle.script_text.specs.TraceLaws.{IsWide, IsEnd, IsEntry, StandBeside, AreBytes, IsSpellable, IsFirstBadLine}
 use Rattle.script_text.proofs.LawLemmas.{lines-with_ends, words-phrase}
 use Rattle.script_text.proofs.SolidLemmas.{Solid, AreSolid, AreSolid-append, AreWords-solid, Lacks-phrase, line_of-phrase, Solid-decimal}
 use Rattle.script_text.proofs.SolidLemmas.{Solid-encode_lower}

@@ -1,11 +1,11 @@
 -- Each value is what its word says, and its word is one.
-use Rattle.std.proofs.Common.{◌≡◌, ◌<◌, ◌≤◌, ◌+◌, ◌*◌, ◌-◌, ◌^◌, ℕ, zero, suc, slice_index, Bool, true, false, ◌||◌, cond, leb, le-leb}
-use Rattle.std.proofs.Common.{lit<, List, [], ◌∷◌, ◌++◌, length, refl, ap, sym, ◌∙◌, arith, codes, Option, Some, None}
+use Rattle.std.proofs.Common.{◌≡◌, ◌<◌, ◌≤◌, ◌-◌, ◌^◌, ℕ, zero, suc, slice_index, Bool, true, false, ◌||◌, le-leb}
+use Rattle.std.proofs.Common.{lit<, List, [], ◌∷◌, length, refl, ap, ◌∙◌, arith, codes, Option, Some}
 use Rattle.std.specs.Prelude.{option_map, option_and_then}
 use Rattle.std.specs.List.{list_all}
 use Rattle.std.specs.Fmt.{decimal}
 use Rattle.std.specs.Result.{result_ok}
-use Rattle.hex.specs.Hex.{IsBytes, encode_lower, lower_digits, decode_of}
+use Rattle.hex.specs.Hex.{IsBytes, encode_lower, lower_digits}
 use Rattle.hex.proofs.HexLemmas.{length-encode_with, decode_of-encode_lower}
 use Rattle.token_bucket.specs.declared.limit.Dir.{Dir}
 use Rattle.token_bucket.specs.declared.limit.Dir.TheVariants as dir
@@ -14,14 +14,13 @@ use Rattle.ev_types.specs.declared.side.Side.TheVariants as side
 use Rattle.ev_types.specs.declared.side.SideId.{SideId}
 use Rattle.ev_types.specs.declared.why.Why.{Why}
 use Rattle.ev_types.specs.declared.why.Why.TheVariants as why
-use Rattle.ev_types.specs.declared.why.Flags.{Flags}
 use Rattle.ev_types.specs.declared.why.Cause.{Cause}
 use Rattle.ev_types.specs.declared.why.Cause.TheVariants as cause
 use Rattle.ev_types.specs.declared.answer.ConnAnswer.{ConnAnswer}
 use Rattle.ev_types.specs.declared.answer.ConnAnswer.TheVariants as conn
 use Rattle.ev_types.specs.declared.answer.AskAnswer.{AskAnswer}
 use Rattle.ev_types.specs.declared.answer.AskAnswer.TheVariants as answer
-use Rattle.script_text.specs.Numbers.{any_number, number_within}
+use Rattle.script_text.specs.Numbers.{any_number}
 use Rattle.script_text.specs.Grammar.{side_of, link_of, end_of}
 use Rattle.script_text.specs.ValueGrammar.{dir_of, marks_of, conn_of, why_of, cause_of, ask_of, lower_bytes_of, is_no_capital}
 use Rattle.script_text.specs.Lines.{side_word, dir_word, marks_word, why_word, cause_word}

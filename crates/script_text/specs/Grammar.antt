@@ -1,21 +1,31 @@
 -- What a line says, by cases on its words. Which lines may stand behind which stands elsewhere.
-use Rattle.std.specs.Prelude.{ℕ, ◌^◌, ◌-◌, List, [], ◌∷◌, ◌==◌, codes, Bool, true, false, if◌then◌else◌, Option, Some, None, option_map, option_and_then}
+use Rattle.std.specs.Prelude.{ℕ, ◌^◌, ◌-◌, List, [], ◌∷◌, ◌==◌, codes, Bool, true, false, if◌then◌else◌, nat_lt}
+use Rattle.std.specs.Prelude.{Option, Some, None, option_map, option_and_then}
 use Rattle.std.specs.Str.{bytes_eq}
 use Rattle.ev_types.specs.declared.side.Side.{Side}
 use Rattle.ev_types.specs.declared.side.Side.TheVariants.{In, Out}
 use Rattle.ev_types.specs.declared.side.SideId.{SideId}
+use Rattle.relay_settings.specs.declared.settings.Marks.{Marks}
+use Rattle.relay_settings.specs.declared.settings.Timeouts.{Timeouts}
 use Rattle.script_text.specs.Numbers.{number_within, bytes_of}
+use Rattle.script_text.specs.ValueGrammar.{◌>>=◌}
 use Rattle.ev_types.specs.declared.turn_line.TurnLine.{TurnLine}
 use Rattle.ev_types.specs.declared.turn_line.TurnLine.TheVariants as turn
 use Rattle.script_text.specs.declared.line.Keyword.{Keyword}
-use Rattle.script_text.specs.declared.line.Keyword.TheVariants.{At, Open, Conn, Pending, Eof, ReadFail, Take, WriteFail, Spur, PollFail}
+use Rattle.script_text.specs.declared.line.Keyword.TheVariants.{Set, At, Open, Conn, Pending, Eof, ReadFail, Take}
+use Rattle.script_text.specs.declared.line.Keyword.TheVariants.{WriteFail, Spur, PollFail}
+use Rattle.script_text.specs.declared.setting.Setting.{Setting}
+use Rattle.script_text.specs.declared.setting.Setting.TheVariants as setting
+use Rattle.script_text.specs.declared.setting.SettingName.{SettingName}
+use Rattle.script_text.specs.declared.setting.SettingName.TheVariants as name
 use Rattle.script_text.specs.declared.line.Line.{Line}
 use Rattle.script_text.specs.declared.line.Line.TheVariants as line
 
 -- the kind of a line, by its first word
 abbrev pub keyword_of : List ℕ → Option Keyword
 keyword_of word =
-    if bytes_eq word (codes "at") then Some At
+    if bytes_eq word (codes "set") then Some Set
+    else (if bytes_eq word (codes "at") then Some At
     else (if bytes_eq word (codes "open") then Some Open
     else (if bytes_eq word (codes "conn") then Some Conn
     else (if bytes_eq word (codes "r") then Some Pending
@@ -25,7 +35,7 @@ keyword_of word =
     else (if bytes_eq word (codes "wfail") then Some WriteFail
     else (if bytes_eq word (codes "spur") then Some Spur
     else (if bytes_eq word (codes "pollfail") then Some PollFail
-    else None)))))))))
+    else None))))))))))
 
 abbrev pub side_of : List ℕ → Option Side
 side_of word = if bytes_eq word (codes "in") then Some In else (if bytes_eq word (codes "out") then Some Out else None)
@@ -49,8 +59,46 @@ more_of word = if bytes_eq word (codes "all") then Some None else option_map (λ
 abbrev pub of_end : (SideId → TurnLine) → List ℕ → List ℕ → Option Line
 of_end what link side = option_map (λ e. line.Within (what e)) (end_of link side)
 
+-- which setting a word names
+abbrev pub setting_name_of : List ℕ → Option SettingName
+setting_name_of word =
+    if bytes_eq word (codes "hold") then Some name.Hold
+    else (if bytes_eq word (codes "marks") then Some name.Marks
+    else (if bytes_eq word (codes "timeouts") then Some name.Timeouts
+    else None))
+
+-- the hold mark, of 1 to 2^24 bytes
+abbrev pub hold_of : List ℕ → Option ℕ
+hold_of word = number_within (2 ^ 24) word >>= (λ n. if nat_lt 0 n then Some n else None)
+
+-- four marks, each at most 2^24 bytes: low and high for reading, low and high for writing
+abbrev pub side_marks_of : List ℕ → List ℕ → List ℕ → List ℕ → Option Marks
+side_marks_of read_low read_high write_low write_high = do
+  rl ← number_within (2 ^ 24) read_low
+  rh ← number_within (2 ^ 24) read_high
+  wl ← number_within (2 ^ 24) write_low
+  wh ← number_within (2 ^ 24) write_high
+  Some (record { read_low = rl; read_high = rh; write_low = wl; write_high = wh })
+
+-- the timeouts for reading and for writing, each at most 2^40 ms
+abbrev pub side_timeouts_of : List ℕ → List ℕ → Option Timeouts
+side_timeouts_of read write = do
+  r ← number_within (2 ^ 40) read
+  w ← number_within (2 ^ 40) write
+  Some (record { read_ms = r; write_ms = w })
+
+-- what a line sets that names a setting, by the words behind the name
+abbrev pub set_by : SettingName → List (List ℕ) → Option Setting
+set_by name.Hold (bytes ∷ []) = option_map (λ n. setting.Hold n) (hold_of bytes)
+set_by name.Marks (side ∷ rl ∷ rh ∷ wl ∷ wh ∷ []) =
+    side_of side >>= (λ s. option_map (λ marks. setting.Marks s marks) (side_marks_of rl rh wl wh))
+set_by name.Timeouts (side ∷ r ∷ w ∷ []) =
+    side_of side >>= (λ s. option_map (λ timeouts. setting.Timeouts s timeouts) (side_timeouts_of r w))
+set_by _ _ = None
+
 -- What a line of a kind says by its further words. A moment is at most 2^40 ms.
 abbrev pub said_by : Keyword → List (List ℕ) → Option Line
+said_by Set (what ∷ more) = setting_name_of what >>= (λ named. option_map (λ s. line.Set s) (set_by named more))
 said_by At (ms ∷ []) = option_map (λ n. line.At n) (number_within (2 ^ 40) ms)
 said_by Open [] = Some (line.Within (turn.NewLink false))
 said_by Open (word ∷ []) = if bytes_eq word (codes "wait") then Some (line.Within (turn.NewLink true)) else None

@@ -4,7 +4,7 @@ use Rattle.std.specs.Fmt.{decimal}
 use Rattle.script_text.specs.Pieces.{lines, words}
 use Rattle.script_text.specs.Numbers.{number_within}
 use Rattle.script_text.specs.Lines.{phrase}
-use Rattle.script_text.specs.Script.{ScriptValue}
+use Rattle.script_text.specs.Script.{SoFar}
 use Rattle.script_text.specs.Spelled.{line_read, lines_read, script_of, no_line}
 
 -- a byte does not stand in a list
@@ -46,7 +46,7 @@ NumbersAreDecimal = (max n : ℕ) (word : List ℕ) → max < 2 ^ 64 → (number
 pub record IsFirstBad (text : List ℕ) (n : ℕ) : Type 0 where
   pub above : 0 < n
   pub within : n ≤ length (lines text)
-  pub script : ScriptValue
+  pub script : SoFar
   pub before : lines_read no_line 0 (take (n - 1) (lines text)) ≡ Ok script
   pub bad : line_read script (slice_index_or (lines text) (n - 1) []) ≡ None
 

@@ -1,9 +1,11 @@
+pub mod Given
 pub mod Script
 pub mod ScriptView
 pub mod Pieces
 pub mod Numbers
 pub mod Grammar
 pub mod Order
+pub mod Brought
 pub mod Spelled
 pub mod Tally
 pub mod ReadingView

@@ -1,14 +1,16 @@
 -- Which line may stand behind which: what the lines so far say of links and ends, and what they leave room for.
-use Rattle.std.specs.Prelude.{ℕ, ◌+◌, ◌^◌, List, [], ◌∷◌, ◌++◌, ◌==◌, ◌&&◌, not, Bool, true, false, if◌then◌else◌, nat_lt, nat_le, length, sum_by, slice_index_or, Option, Some, None}
+use Rattle.std.specs.Prelude.{ℕ, List, [], ◌∷◌, ◌++◌, ◌==◌, ◌&&◌, not, Bool, true, false, if◌then◌else◌, nat_lt, length}
+use Rattle.std.specs.Prelude.{slice_index_or, Option, Some, None, option_map}
 use Rattle.std.specs.List.{list_any, flat_map}
 use Rattle.ev_types.specs.Sides.{number}
 use Rattle.ev_types.specs.declared.side.SideId.{SideId}
 use Rattle.ev_types.specs.declared.turn_line.TurnLine.{TurnLine}
 use Rattle.ev_types.specs.declared.turn_line.TurnLine.TheVariants.{NewLink, Conn, Pending, Eof, ReadFail, Take, WriteFail, Spur, PollFail}
 use Rattle.script_text.specs.declared.line.Line.{Line}
-use Rattle.script_text.specs.declared.line.Line.TheVariants.{At, Within, Skipped}
+use Rattle.script_text.specs.declared.line.Line.TheVariants.{Set, At, Within, Skipped}
 use Rattle.ev_types.specs.ScriptTurn.{ScriptTurn, lines_of}
-use Rattle.script_text.specs.Script.{ScriptValue}
+use Rattle.script_text.specs.Given.{with_setting}
+use Rattle.script_text.specs.Script.{SoFar}
 
 -- the link that a line opens, with whether the line says wait
 abbrev pub opened_by : TurnLine → List Bool
@@ -27,20 +29,11 @@ opened before = length (opened_links before)
 abbrev pub is_undecided : ℕ → List TurnLine → Bool
 is_undecided link before = slice_index_or (opened_links before) link false
 
--- how many bytes a line brings to the end with this number
-abbrev pub brought : ℕ → TurnLine → ℕ
-brought end (Pending side bytes) = if number side == end then length bytes else 0
-brought end _ = 0
-
 -- does a line end what the end with this number gives, or fail it
 abbrev pub is_end_of : ℕ → TurnLine → Bool
 is_end_of end (Eof side) = number side == end
 is_end_of end (ReadFail side) = number side == end
 is_end_of end _ = false
-
--- how many bytes some lines bring to the end with this number
-abbrev pub bytes_for : ℕ → List TurnLine → ℕ
-bytes_for end before = sum_by (brought end) before
 
 -- do some lines end what the end with this number gives, or fail it
 abbrev pub is_ended : ℕ → List TurnLine → Bool
@@ -52,13 +45,11 @@ is_known side before = nat_lt side.link (opened before)
 
 -- May this line of a turn stand behind the others? There are at most 256 links. A line names a link that was opened
 -- before, and one that decides a link names one that was opened with wait. An end whose bytes were ended or failed
--- gets no more of them, and none gets more than 2^18.
+-- gets no more of them.
 abbrev pub may_follow : List TurnLine → TurnLine → Bool
 may_follow before (NewLink wait) = nat_lt (opened before) 256
 may_follow before (Conn link made) = is_undecided link before
-may_follow before (Pending side bytes) =
-    is_known side before && not (is_ended (number side) before)
-    && nat_le (bytes_for (number side) before + length bytes) (2 ^ 18)
+may_follow before (Pending side bytes) = is_known side before && not (is_ended (number side) before)
 may_follow before (Eof side) = is_known side before
 may_follow before (ReadFail side) = is_known side before
 may_follow before (Take side more) = is_known side before
@@ -72,12 +63,16 @@ with_line [] line = []
 with_line (turn ∷ []) line = (turn.0, turn.1 ++ line ∷ []) ∷ []
 with_line (turn ∷ next ∷ more) line = turn ∷ with_line (next ∷ more) line
 
--- The script with a line more, where that line may stand there. There are at most 20,000 turns, and each line but
--- `at` belongs to a turn. A skipped line may stand anywhere, and adds nothing.
-abbrev pub extended : ScriptValue → Line → Option ScriptValue
-extended script (At ms) =
-    if nat_lt (length script.turns) 20000 then Some (record { turns = script.turns ++ (ms, []) ∷ [] }) else None
-extended script (Within line) =
-    if nat_lt 0 (length script.turns) && may_follow (lines_of script.turns) line
-    then Some (record { turns = with_line script.turns line }) else None
-extended script Skipped = Some script
+-- The script with a line more, where that line may stand there. Settings stand before the first turn, each once. There are at
+-- most 20,000 turns, and each line but `at` and `set` belongs to a turn. A skipped line may stand anywhere, and adds nothing.
+abbrev pub extended : SoFar → Line → Option SoFar
+extended so_far (Set setting) =
+    if nat_lt 0 (length so_far.turns) then None
+    else option_map (λ g. record { given = g; turns = so_far.turns }) (with_setting so_far.given setting)
+extended so_far (At ms) =
+    if nat_lt (length so_far.turns) 20000
+    then Some (record { given = so_far.given; turns = so_far.turns ++ (ms, []) ∷ [] }) else None
+extended so_far (Within line) =
+    if nat_lt 0 (length so_far.turns) && may_follow (lines_of so_far.turns) line
+    then Some (record { given = so_far.given; turns = with_line so_far.turns line }) else None
+extended so_far Skipped = Some so_far

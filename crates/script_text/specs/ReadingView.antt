@@ -2,15 +2,15 @@
 use Rattle.std.specs.Prelude.{◌≡◌, List}
 use Rattle.ev_types.specs.declared.turn_line.TurnLine.{TurnLine}
 use Rattle.script_text.specs.declared.read.Reading.TheInside.{Inside}
-use Rattle.script_text.specs.Script.{ScriptValue}
+use Rattle.script_text.specs.Script.{SoFar}
 use Rattle.script_text.specs.ScriptView.{turn_values}
 use Rattle.ev_types.specs.ScriptTurn.{lines_of}
 use Rattle.script_text.specs.Order.{opened_links}
 use Rattle.script_text.specs.Tally.{IsTally}
 
 -- the script of the lines so far
-abbrev pub script_so_far : Inside → ScriptValue
-script_so_far r = record { turns = turn_values r.turns.items }
+abbrev pub script_so_far : Inside → SoFar
+script_so_far r = record { given = r.given; turns = turn_values r.turns.items }
 
 -- the lines so far, of all turns
 abbrev pub lines_so_far : Inside → List TurnLine
@@ -19,4 +19,4 @@ lines_so_far r = lines_of (turn_values r.turns.items)
 -- what is kept of the links and their ends is what those lines say of them
 pub record IsReading (r : Inside) : Type 0 where
   pub links : r.links.items ≡ opened_links (lines_so_far r)
-  pub ends : IsTally r.ends.items (lines_so_far r)
+  pub ends : IsTally r.ended.items (lines_so_far r)

@@ -10,4 +10,4 @@ abbrev pub turn_values : List (ℕ × Vec TurnLine Global) → List ScriptTurn
 turn_values turns = map (λ turn. (turn.0, turn.1.items)) turns
 
 abbrev pub script_value : Inside → ScriptValue
-script_value s = record { turns = turn_values s.turns.items }
+script_value s = record { settings = s.settings; turns = turn_values s.turns.items }

@@ -1,7 +1,9 @@
 -- The script that a text spells, or the first line that is not in the grammar.
-use Rattle.std.specs.Prelude.{◌≡◌, ℕ, ◌+◌, ◌-◌, ◌^◌, ⊤, min, List, [], ◌∷◌, ◌&&◌, Bool, if◌then◌else◌, nat_le, Option, Some, None, option_and_then, Result, Ok, Err}
+use Rattle.std.specs.Prelude.{◌≡◌, ℕ, ◌+◌, ◌-◌, ◌^◌, ⊤, min, List, [], ◌∷◌, ◌&&◌, Bool, if◌then◌else◌, nat_le}
+use Rattle.std.specs.Prelude.{Option, Some, None, option_and_then, Result, Ok, Err}
 use Rattle.std.specs.List.{list_all}
-use Rattle.script_text.specs.Script.{ScriptValue}
+use Rattle.script_text.specs.Given.{nothing_given}
+use Rattle.script_text.specs.Script.{ScriptValue, SoFar, whole}
 use Rattle.script_text.specs.Pieces.{lines, words}
 use Rattle.script_text.specs.Grammar.{said}
 use Rattle.script_text.specs.Order.{extended}
@@ -12,30 +14,35 @@ use Rattle.script_text.specs.declared.script.ScriptFault.TheVariants.{Memory, Ba
 abbrev pub is_plain : ℕ → Bool
 is_plain byte = nat_le 32 byte && nat_le byte 126
 
--- the script with the line of this text more, where the line is in the grammar there
-abbrev pub line_read : ScriptValue → List ℕ → Option ScriptValue
-line_read script line =
-    if list_all is_plain line then option_and_then (λ what. extended script what) (said (words line)) else None
+-- the script so far with the line of this text more, where the line is in the grammar there
+abbrev pub line_read : SoFar → List ℕ → Option SoFar
+line_read so_far line =
+    if list_all is_plain line then option_and_then (λ what. extended so_far what) (said (words line)) else None
 
 -- what a script or a trace goes on to, or this line where there is none
 abbrev pub going_on : {A : Type 0} → Option A → ℕ → (A → Result A ℕ) → Result A ℕ
 going_on None line on = Err line
 going_on (Some longer) line on = on longer
 
--- The script after some lines more, or the number of the first of them that is not in the grammar. So many lines stand
+-- The script so far after some lines more, or the number of the first of them that is not in the grammar. So many lines stand
 -- before them.
-abbrev pub lines_read : ScriptValue → ℕ → List (List ℕ) → Result ScriptValue ℕ
-lines_read script before [] = Ok script
-lines_read script before (line ∷ more) =
-    going_on (line_read script line) (before + 1) (λ longer. lines_read longer (before + 1) more)
+abbrev pub lines_read : SoFar → ℕ → List (List ℕ) → Result SoFar ℕ
+lines_read so_far before [] = Ok so_far
+lines_read so_far before (line ∷ more) =
+    going_on (line_read so_far line) (before + 1) (λ longer. lines_read longer (before + 1) more)
 
--- the script of no line
-abbrev pub no_line : ScriptValue
-no_line = record { turns = [] }
+-- a script of which no line was read
+abbrev pub no_line : SoFar
+no_line = record { given = nothing_given; turns = [] }
+
+-- the whole script, where no line follows, or the same number
+abbrev pub whole_of : Result SoFar ℕ → Result ScriptValue ℕ
+whole_of (Ok so_far) = Ok (whole so_far)
+whole_of (Err line) = Err line
 
 -- the script that a text spells, or the number of its first bad line, counted from 1
 abbrev pub script_of : List ℕ → Result ScriptValue ℕ
-script_of text = lines_read no_line 0 (lines text)
+script_of text = whole_of (lines_read no_line 0 (lines text))
 
 -- A text that was refused for a line has this one as its first bad line. A number above 2^32 - 1 is told as that
 -- number. Memory may run out whatever the text is.

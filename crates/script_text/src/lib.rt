@@ -11,6 +11,8 @@ mod push;
 mod read;
 mod room;
 mod script;
+mod set_words;
+mod setting;
 mod tally;
 mod trace;
 mod value_text;
@@ -25,6 +27,7 @@ pub use laws::{
     trace_refused_at_first_bad, written_is_read,
 };
 pub use read::read_script;
+pub use relay_settings::{Marks, Settings, Timeouts};
 pub use room::{LINE_ROOM, make_room};
 pub use script::{Script, ScriptFault};
 pub use trace::read_trace;

@@ -2,6 +2,8 @@
 ghost use Rattle.std.specs.Prelude.{◌≡◌, ◌∷◌, [], IfOk, map};
 ghost use Rattle.script_text.specs.Grammar.{keyword_of, made_of, more_of, is_comment, said, said_by};
 
+use crate::set_words::set_line;
+use crate::setting::Setting;
 use crate::value_words::{read_end, read_link};
 use crate::words::{hex_bytes, is_word, number};
 use crate::{ByteList, TurnLine};
@@ -19,6 +21,7 @@ const MAX_TAKE: u64 = 1 << 40;
 /// Own.
 #[derive(Clone, Copy)]
 pub enum Keyword {
+    Set,
     At,
     Open,
     Conn,
@@ -36,6 +39,8 @@ pub enum Keyword {
 /// Own.
 #[derive(Drop)]
 pub enum Line {
+    /// The run is started with this.
+    Set(Setting),
     /// A turn begins at this moment.
     At(u64),
     /// A line of the turn that began last.
@@ -47,7 +52,9 @@ pub enum Line {
 fn read_keyword(word: &[u8]) -> Option<Keyword>
     ensures { result ≡ keyword_of word.now }
 {
-    if is_word(word, "at") {
+    if is_word(word, "set") {
+        Some(Keyword::Set)
+    } else if is_word(word, "at") {
         Some(Keyword::At)
     } else if is_word(word, "open") {
         Some(Keyword::Open)
@@ -121,6 +128,7 @@ fn line_by(alloc: Global, keyword: Keyword, more: &[&[u8]]) -> Result<Option<Lin
     ensures { IfOk result (λ line. line ≡ said_by keyword (map (λ w. w.now) more.now)) }
 {
     match keyword {
+        Keyword::Set => Ok(set_line(more)),
         Keyword::At => Ok(at_line(more)),
         Keyword::Open => Ok(open_line(more)),
         Keyword::Conn => Ok(conn_line(more)),

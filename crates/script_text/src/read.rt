@@ -1,12 +1,15 @@
 // Reads a script line by line. What a line says is told elsewhere; here stands where it may stand.
-ghost use Rattle.std.specs.Prelude.{◌≡◌, ◌≤◌, ◌<◌, ◌+◌, ◌^◌, [], ◌&&◌, not, true, nat_lt, nat_le, length, IfOk, IfErr, OnOk, if◌then◌else◌};
+ghost use Rattle.std.specs.Prelude.{◌≡◌, ◌≤◌, ◌<◌, ◌*◌, not, true, nat_lt, length, IfOk, IfErr, OnOk, if◌then◌else◌};
 ghost use Rattle.ev_types.specs.Sides.{number};
 ghost use Rattle.ev_types.specs.ScriptTurn.{lines_of};
-ghost use Rattle.script_text.specs.Order.{extended, with_line, may_follow, is_known, is_undecided, bytes_for, is_ended};
-ghost use Rattle.script_text.specs.Spelled.{line_read, script_of, IsTold};
+ghost use Rattle.script_text.specs.Brought.{all_brought};
+ghost use Rattle.script_text.specs.Order.{extended, with_line, may_follow, is_known, is_undecided, is_ended};
+ghost use Rattle.script_text.specs.Script.{whole};
+ghost use Rattle.script_text.specs.Spelled.{line_read, no_line, script_of, IsTold};
 
 use crate::line::{Line, line_of};
-use crate::tally::{EndSoFar, count_line, count_link, kept};
+use crate::setting::{Given, Setting};
+use crate::tally::{count_line, count_link, kept};
 use crate::words::{first_piece, is_plain_text, told, words_of};
 use crate::{Script, ScriptFault, TurnLine};
 use ev_types::{NoMemory, SideId};
@@ -19,24 +22,23 @@ const MAX_TURNS: usize = 20_000;
 /// The most links of a script.
 const MAX_LINKS: usize = 256;
 
-/// The most bytes that a script brings to one end.
-const MAX_PENDING: usize = 1 << 18;
-
 /// A script of which some lines were read. Contracts see the script so far.
 ///
 /// Own.
 #[derive(Drop)]
 pub struct Reading {
+    given: Given,
     turns: Vec<(u64, Vec<TurnLine>)>,
     /// Whether the line that opened a link said wait.
     links: Vec<bool>,
-    ends: Vec<EndSoFar>,
+    /// Of each end whether its bytes were ended or failed.
+    ended: Vec<bool>,
 }
 
 impl Model for Reading {
-    ghost use Rattle.script_text.specs.Script.{ScriptValue};
+    ghost use Rattle.script_text.specs.Script.{SoFar};
 
-    ghost Value = { ScriptValue };
+    ghost Value = { SoFar };
 
     ghost use Rattle.script_text.specs.ReadingView.{script_so_far, IsReading};
 
@@ -48,12 +50,13 @@ impl Model for Reading {
 impl Reading {
     /// No line was read. Takes no memory.
     pub fn new(alloc: Global) -> Reading
-        ensures { result.turns ≡ [] }
+        ensures { result ≡ no_line }
     {
         Reading {
+            given: Given::nothing(),
             turns: Vec::new(alloc),
             links: Vec::new(alloc),
-            ends: Vec::new(alloc),
+            ended: Vec::new(alloc),
         }
     }
 
@@ -78,6 +81,7 @@ impl Reading {
             ≡ extended self.old line) }
     {
         match line {
+            Line::Set(setting) => Ok(self.set(setting)),
             Line::At(ms) => self.begin_turn(alloc, ms),
             Line::Within(line) => {
                 if self.is_empty() || !self.may_follow(&line) {
@@ -95,6 +99,12 @@ impl Reading {
         ensures { result ≡ not (nat_lt 0 (length self.now.turns)) }
     {
         self.turns.is_empty()
+    }
+
+    fn set(&mut self, setting: Setting) -> bool
+        ensures { (if result then Some self.new else None) ≡ extended self.old (Line.Set setting) }
+    {
+        self.is_empty() && self.given.take(setting)
     }
 
     fn begin_turn(&mut self, alloc: Global, ms: u64) -> Result<bool, NoMemory>
@@ -115,9 +125,7 @@ impl Reading {
         match line {
             TurnLine::NewLink { .. } => self.links.len() < MAX_LINKS,
             TurnLine::Conn(link, _) => self.is_undecided(*link),
-            TurnLine::Pending(side, list) => {
-                self.is_known(*side) && self.has_room(*side, list.bytes.len())
-            }
+            TurnLine::Pending(side, _) => self.is_known(*side) && !self.is_ended(*side),
             TurnLine::Eof(side) => self.is_known(*side),
             TurnLine::ReadFail(side) => self.is_known(*side),
             TurnLine::Take(side, _) => self.is_known(*side),
@@ -141,38 +149,39 @@ impl Reading {
         self.links.get(link as usize).copied().unwrap_or(false)
     }
 
-    /// May so many bytes more come in at the end?
-    fn has_room(&self, side: SideId, count: usize) -> bool
-        ensures { result
-            ≡ (not (is_ended (number side) (lines_of self.now.turns))
-            && nat_le (bytes_for (number side) (lines_of self.now.turns) + count) (2 ^ 18)) }
+    /// Were the bytes of the end ended or failed?
+    fn is_ended(&self, side: SideId) -> bool
+        ensures { result ≡ is_ended (number side) (lines_of self.now.turns) }
     {
-        let end = kept(&self.ends, side.number());
-        !end.ended && end.bytes.saturating_add(count) <= MAX_PENDING
+        kept(&self.ended, side.number())
     }
 
     /// Puts a line that may stand there at the end of the last turn.
     fn put(&mut self, line: TurnLine) -> Result<(), NoMemory>
         requires begun { 0 < length self.old.turns }
         requires follows { may_follow (lines_of self.old.turns) line ≡ true }
-        ensures { OnOk result (self.new.turns ≡ with_line self.old.turns line) }
+        ensures turns { OnOk result (self.new.turns ≡ with_line self.old.turns line) }
+        ensures given { OnOk result (self.new.given ≡ self.old.given) }
     {
         let last = self.turns.len() - 1;
         self.links.reserve(1)?;
-        self.ends.reserve(2)?;
+        self.ended.reserve(2)?;
         let lines = &mut self.turns[last].1;
         lines.reserve(1)?;
         count_link(&mut self.links, &line);
-        count_line(&mut self.ends, &line);
+        count_line(&mut self.ended, &line);
         lines.push(line).unwrap();
         Ok(())
     }
 
     /// The script of all lines so far.
     fn finish(self) -> Script
-        ensures { result ≡ self }
+        ensures { result ≡ whole self }
     {
-        Script { turns: self.turns }
+        Script {
+            settings: self.given.settings(),
+            turns: self.turns,
+        }
     }
 }
 
@@ -183,6 +192,7 @@ impl Reading {
 /// Own.
 pub fn read_script(alloc: Global, text: &[u8]) -> Result<Script, ScriptFault>
     ensures script { IfOk result (λ script. script_of text.now ≡ Ok script) }
+    ensures bytes { IfOk result (λ script. 2 * all_brought (lines_of script.turns) ≤ length text.now) }
     ensures fault { IfErr result (λ fault. IsTold fault (script_of text.now)) }
 {
     let mut reading = Reading::new(alloc);

@@ -4,15 +4,17 @@ ghost use Rattle.std.specs.Prelude.{◌≡◌};
 ghost use Rattle.script_text.specs.declared.script.ScriptFault.TheVariants.{Memory};
 
 use ev_types::{NoMemory, TurnLine};
+use relay_settings::Settings;
 use std::alloc::{AllocError, AllocFailed};
 use std::marker::Model;
 use thiserror::Error;
 
-/// A script: its turns, each with its moment in milliseconds and its lines.
+/// A script: the settings of its run, and its turns, each with its moment in milliseconds and its lines.
 ///
 /// Own.
 #[derive(Drop)]
 pub struct Script {
+    pub settings: Settings,
     pub turns: Vec<(u64, Vec<TurnLine>)>,
 }
 

@@ -5,27 +5,11 @@ ghost use Rattle.script_text.specs.Tally.{closed, counted, kept_of};
 
 use crate::TurnLine;
 
-/// What the lines so far say of an end: how many bytes they bring, and whether they end these or fail reads behind
-/// them.
-///
-/// Own.
-#[derive(Clone, Copy)]
-pub struct EndSoFar {
-    pub bytes: usize,
-    pub ended: bool,
-}
-
-/// An end of which no line has spoken.
-const UNTOUCHED: EndSoFar = EndSoFar {
-    bytes: 0,
-    ended: false,
-};
-
-/// What is kept of the end with this number.
-pub fn kept(ends: &[EndSoFar], end: usize) -> EndSoFar
-    ensures { result ≡ kept_of ends.now end }
+/// Whether the bytes of the end with this number were ended or failed.
+pub fn kept(ended: &[bool], end: usize) -> bool
+    ensures { result ≡ kept_of ended.now end }
 {
-    ends.get(end).copied().unwrap_or(UNTOUCHED)
+    ended.get(end).copied().unwrap_or(false)
 }
 
 /// Keeps the link that a line opens, with whether the line says wait, in room that was made before. Takes no memory.
@@ -38,32 +22,27 @@ pub fn count_link(links: &mut Vec<bool>, line: &TurnLine)
     }
 }
 
-/// Keeps count of one line more, in room that was made before. Takes no memory.
-pub fn count_line(ends: &mut Vec<EndSoFar>, line: &TurnLine)
-    requires { vec_len ends.old + 2 ≤ vec_capacity ends.old }
-    ensures { ends.new.items ≡ counted ends.old.items line.now }
+/// Keeps what one line more says of the ends, in room that was made before. Takes no memory.
+pub fn count_line(ended: &mut Vec<bool>, line: &TurnLine)
+    requires { vec_len ended.old + 2 ≤ vec_capacity ended.old }
+    ensures { ended.new.items ≡ counted ended.old.items line.now }
 {
     match line {
         TurnLine::NewLink { .. } => {
-            ends.push(UNTOUCHED).unwrap();
-            ends.push(UNTOUCHED).unwrap();
+            ended.push(false).unwrap();
+            ended.push(false).unwrap();
         }
-        TurnLine::Pending(side, list) => {
-            if let Some(end) = ends.get_mut(side.number()) {
-                end.bytes = end.bytes.saturating_add(list.bytes.len());
-            }
-        }
-        TurnLine::Eof(side) => close(ends, side.number()),
-        TurnLine::ReadFail(side) => close(ends, side.number()),
+        TurnLine::Eof(side) => close(ended, side.number()),
+        TurnLine::ReadFail(side) => close(ended, side.number()),
         _ => {}
     }
 }
 
 /// No bytes may come in behind those of this end.
-fn close(ends: &mut Vec<EndSoFar>, end: usize)
-    ensures { ends.new.items ≡ closed ends.old.items end }
+fn close(ended: &mut Vec<bool>, end: usize)
+    ensures { ended.new.items ≡ closed ended.old.items end }
 {
-    if let Some(end) = ends.get_mut(end) {
-        end.ended = true;
+    if let Some(end) = ended.get_mut(end) {
+        *end = true;
     }
 }

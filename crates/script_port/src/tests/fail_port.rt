@@ -2,7 +2,7 @@
 use crate::{FailPort, PortCall, ScriptPort};
 use ev_port::{Accepted, Polled, Port, Want};
 use ev_types::{ByteList, ConnAnswer, ReadAnswer, Side, SideId, TurnLine, WriteAnswer};
-use script_text::Script;
+use script_text::{Script, Settings};
 use std::alloc::Global;
 use std::test::Fail;
 
@@ -30,7 +30,17 @@ fn failing(alloc: Global, kind: PortCall, k: u64) -> Result<FailPort, Fail> {
         TurnLine::Take(OUT_0, None),
     ]?;
     let turns = vec![in alloc; (1, lines)]?;
-    let mut port = FailPort::new(ScriptPort::new(alloc, Script { turns })?, kind, k);
+    let mut port = FailPort::new(
+        ScriptPort::new(
+            alloc,
+            Script {
+                settings: Settings::usual(),
+                turns,
+            },
+        )?,
+        kind,
+        k,
+    );
     port.now();
     Ok(port)
 }

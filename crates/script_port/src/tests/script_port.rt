@@ -2,7 +2,7 @@
 use crate::ScriptPort;
 use ev_port::{Accepted, Polled, Port, Started, Want};
 use ev_types::{Addr, ByteList, ConnAnswer, ReadAnswer, Side, SideId, TurnLine, WriteAnswer};
-use script_text::Script;
+use script_text::{Script, Settings};
 use std::alloc::{AllocError, Global};
 use std::test::Fail;
 
@@ -40,7 +40,10 @@ fn script(alloc: Global) -> Result<Script, Fail> {
         TurnLine::Take(OUT_0, Some(1)),
     ]?;
     let turns = vec![in alloc; (5, first), (3, second)]?;
-    Ok(Script { turns })
+    Ok(Script {
+        settings: Settings::usual(),
+        turns,
+    })
 }
 
 fn all_of(side: SideId) -> Want {
@@ -137,7 +140,13 @@ fn port_of(alloc: Global, turns: Vec<Vec<TurnLine>>) -> Result<ScriptPort, Fail>
     for lines in turns {
         timed.push((7, lines))?;
     }
-    Ok(ScriptPort::new(alloc, Script { turns: timed })?)
+    Ok(ScriptPort::new(
+        alloc,
+        Script {
+            settings: Settings::usual(),
+            turns: timed,
+        },
+    )?)
 }
 
 fn marks_of(port: &mut ScriptPort, first: SideId, second: SideId) -> [(bool, bool); 2] {

@@ -4,7 +4,7 @@ use ev_types::{Side, SideId};
 use std::test::Fail;
 
 /// Texts, each with its first bad line.
-const TEXTS: [(&str, Option<u32>); 75] = [
+const TEXTS: [(&str, Option<u32>); 74] = [
     ("", None),
     ("at 0", None),
     ("at 0\nopen\nr 0 in aBCd\n", None),
@@ -81,7 +81,6 @@ const TEXTS: [(&str, Option<u32>); 75] = [
     ("at 0\nopen\nspur 0\n", Some(3)),
     ("at 0\npollfail\npollfail\n", None),
     ("at 0\npollfail 0\n", Some(2)),
-    ("set hold 4096\n", Some(1)),
     ("at 0\nset hold 4096\n", Some(2)),
     ("on 0 in read 1 stop\n", Some(1)),
     ("version 2\n", Some(1)),
@@ -215,15 +214,16 @@ fn a_line_has_at_most_65_536_digits(rt: HostRuntime) -> Result<(), Fail> {
 }
 
 #[test]
-fn an_end_gets_at_most_2_to_the_18_bytes(rt: HostRuntime) -> Result<(), Fail> {
+fn an_end_gets_more_than_2_to_the_18_bytes(rt: HostRuntime) -> Result<(), Fail> {
     let mut line = repeated(&rt, "r 0 in ", b"00", 32_768)?;
     line.push(b'\n')?;
-    let mut text = repeated(&rt, "at 0\nopen\n", &line, 8)?;
-    assert_eq!(rt; read_script(rt.alloc(), &text).err(), None);
-    text.extend_from_slice(b"r 0 out 00\nr 0 in 00\n")?;
+    let mut text = repeated(&rt, "at 0\nopen\n", &line, 9)?;
+    let script = read_script(rt.alloc(), &text)?;
+    assert_eq!(rt; script.turns[0].1.len(), 10);
+    text.extend_from_slice(b"eof 0 in\nr 0 in 00\n")?;
     assert_eq!(rt;
         read_script(rt.alloc(), &text).err(),
-        Some(ScriptFault::BadLine(12))
+        Some(ScriptFault::BadLine(13))
     );
     Ok(())
 }

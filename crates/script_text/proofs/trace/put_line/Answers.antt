@@ -1,4 +1,4 @@
-use Rattle.std.proofs.Common.{◌≡◌, ℕ, List, length, map, ap, sym, ◌∙◌, Bor}
+use Rattle.std.proofs.Common.{ℕ, List, length, map, ap, sym, ◌∙◌, Bor}
 use Rattle.script_text.proofs.BesideLemmas.{beside_of}
 use Rattle.script_text.proofs.trace.put_line.Goals as goal
 

@@ -14,5 +14,5 @@ invariant_of-self-2 c =
     ∙ lines_of-pushed c.self.inside.turns.items (c.args.ms, c.new.result) c.new.ensures.items in
     record {
       links = c.self.invariant.links ∙ ap opened_links (sym same);
-      ends = subst (λ (lines : List TurnLine). IsTally c.self.inside.ends.items lines) (sym same) c.self.invariant.ends;
+      ends = subst (λ (lines : List TurnLine). IsTally c.self.inside.ended.items lines) (sym same) c.self.invariant.ends;
     }

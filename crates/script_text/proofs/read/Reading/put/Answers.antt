@@ -2,7 +2,7 @@ use Rattle.std.proofs.Common.{◌≡◌, ◌<◌, ◌+◌, ◌-◌, true, Bool, 
 use Rattle.std.proofs.lemmas.List.{length-map}
 use Rattle.ev_types.specs.declared.turn_line.TurnLine.{TurnLine}
 use Rattle.ev_types.specs.ScriptTurn.{ScriptTurn, lines_of}
-use Rattle.script_text.specs.Script.{ScriptValue}
+use Rattle.script_text.specs.Script.{SoFar}
 use Rattle.script_text.specs.ScriptView.{turn_values}
 use Rattle.script_text.specs.Order.{opened_by, opened_links, with_line, may_follow}
 use Rattle.script_text.specs.Tally.{IsTally}
@@ -26,7 +26,7 @@ invariant_of-self-in_err-reserve-3 c =
 pub invariant_of-self-2 : goal.invariant_of-self-2
 invariant_of-self-2 c =
     let ts = turn_values c.self.inside.turns.items in
-    let turns_are = ap (λ (s : ScriptValue). s.turns) c.self.view_is in
+    let turns_are = ap (λ (s : SoFar). s.turns) c.self.view_is in
     let some : 0 < length ts = rw turns_are c.requires.begun in
     let last_is : c.len-last.result - 1 + 1 ≡ length c.self.inside.turns.items =
     omega (arith, length-map c.self.inside.turns.items turn_value, c.self.inside.turns.ok.0) in
@@ -37,7 +37,7 @@ invariant_of-self-2 c =
     let lines = ap lines_of put ∙ lines_of-with_line ts c.args.line some in
     let kept : IsTally c.reserve-2.new.self.items (lines_of ts) = rw c.in_ok-reserve-2.ensures.items c.self.invariant.ends in
     let follows : may_follow (lines_of ts) c.args.line ≡ true = rw turns_are c.requires.follows in
-    let more : IsTally c.count_line.new.ends.items (lines_of ts ++ c.args.line ∷ []) =
+    let more : IsTally c.count_line.new.ended.items (lines_of ts ++ c.args.line ∷ []) =
     rw c.count_line.ensures (IsTally-counted c.reserve-2.new.self.items (lines_of ts) c.args.line kept follows) in
     record {
       links =
@@ -45,13 +45,13 @@ invariant_of-self-2 c =
           ∙ ap (λ (links : List Bool). links ++ opened_by c.args.line) (c.in_ok-reserve.ensures.items ∙ c.self.invariant.links)
           ∙ sym (opened_links-more (lines_of ts) c.args.line)
           ∙ ap opened_links (sym lines);
-      ends = subst (λ (ls : List TurnLine). IsTally c.count_line.new.ends.items ls) (sym lines) more;
+      ends = subst (λ (ls : List TurnLine). IsTally c.count_line.new.ended.items ls) (sym lines) more;
     }
 
-pub returns : goal.returns
-returns c =
+pub returns-clause-turns : goal.returns-clause-turns
+returns-clause-turns c =
     let ts = turn_values c.self.inside.turns.items in
-    let turns_are = ap (λ (s : ScriptValue). s.turns) c.self.view_is in
+    let turns_are = ap (λ (s : SoFar). s.turns) c.self.view_is in
     let some : 0 < length ts = rw turns_are c.requires.begun in
     let last_is : c.len-last.result - 1 + 1 ≡ length c.self.inside.turns.items =
     omega (arith, length-map c.self.inside.turns.items turn_value, c.self.inside.turns.ok.0) in

@@ -1,0 +1,94 @@
+// What the `set` lines of a script give. Each setting is given at most once.
+ghost use Rattle.std.specs.Prelude.{◌≡◌, Some, None, is_none, if◌then◌else◌};
+ghost use Rattle.script_text.specs.Given.{nothing_given, settings_by, with_setting};
+
+use ev_types::Side;
+use relay_settings::{Marks, Settings, Timeouts};
+
+/// Which setting a line names.
+///
+/// Own.
+#[derive(Clone, Copy)]
+pub enum SettingName {
+    Hold,
+    Marks,
+    Timeouts,
+}
+
+/// What one line sets.
+///
+/// Own.
+#[derive(Clone, Copy)]
+pub enum Setting {
+    /// The hold mark, in bytes.
+    Hold(u64),
+    Marks(Side, Marks),
+    Timeouts(Side, Timeouts),
+}
+
+/// What the lines so far give; none where no line has set it.
+///
+/// Own.
+#[derive(Clone, Copy)]
+pub struct Given {
+    pub hold: Option<u64>,
+    pub in_marks: Option<Marks>,
+    pub out_marks: Option<Marks>,
+    pub in_timeouts: Option<Timeouts>,
+    pub out_timeouts: Option<Timeouts>,
+}
+
+impl Given {
+    /// No line has set anything.
+    pub fn nothing() -> Given
+        ensures { result ≡ nothing_given }
+    {
+        Given {
+            hold: None,
+            in_marks: None,
+            out_marks: None,
+            in_timeouts: None,
+            out_timeouts: None,
+        }
+    }
+
+    /// Takes one setting more, and tells whether it was not given before.
+    pub fn take(&mut self, setting: Setting) -> bool
+        ensures { (if result then Some self.new else None) ≡ with_setting self.old setting }
+    {
+        match setting {
+            Setting::Hold(bytes) => give(&mut self.hold, bytes),
+            Setting::Marks(Side::In, marks) => give(&mut self.in_marks, marks),
+            Setting::Marks(Side::Out, marks) => give(&mut self.out_marks, marks),
+            Setting::Timeouts(Side::In, timeouts) => give(&mut self.in_timeouts, timeouts),
+            Setting::Timeouts(Side::Out, timeouts) => give(&mut self.out_timeouts, timeouts),
+        }
+    }
+
+    /// The settings of a run: the usual ones where nothing was given.
+    pub fn settings(&self) -> Settings
+        ensures { result ≡ settings_by self.now }
+    {
+        let usual = Settings::usual();
+        Settings {
+            hold: self.hold.unwrap_or(usual.hold),
+            in_marks: self.in_marks.unwrap_or(usual.in_marks),
+            out_marks: self.out_marks.unwrap_or(usual.out_marks),
+            in_timeouts: self.in_timeouts.unwrap_or(usual.in_timeouts),
+            out_timeouts: self.out_timeouts.unwrap_or(usual.out_timeouts),
+            links: usual.links,
+        }
+    }
+}
+
+/// Gives the value where none was given before, and tells whether none was.
+fn give<T: Copy>(place: &mut Option<T>, value: T) -> bool
+    ensures fresh { result ≡ is_none place.old }
+    ensures given { place.new ≡ (if result then Some value else place.old) }
+{
+    if place.is_some() {
+        return false;
+    }
+    *place = Some(value);
+    true
+}
