@@ -1,7 +1,8 @@
 -- The relay's state with one side replaced, and what is so of each side: none has a bad place or a hook, so that no reason becomes due.
-use Rattle.std.proofs.Common.{◌≡◌, ℕ, zero, suc, Bool, true, false, Result, Ok, Err, MatchResult, ◌*◌, ◌<◌, ◌≤◌, ◌&&◌, nat_le, if◌then◌else◌, List, [], ◌∷◌, length, map, get_or, slice_index_or, slice_set, None, refl, sym, ◌∙◌, ap, subst, arith}
-use Rattle.std.proofs.lemmas.List.Elements.{All-set}
+use Rattle.std.proofs.Common.{◌≡◌, ℕ, zero, suc, ◌+◌, Bool, true, false, Result, Ok, Err, MatchResult, ◌*◌, ◌<◌, ◌≤◌, ◌&&◌, nat_le, if◌then◌else◌, List, [], ◌∷◌, ◌++◌, length, length-append, map, get_or, slice_index_or, slice_set, None, refl, sym, ◌∙◌, ap, subst, arith}
+use Rattle.std.proofs.lemmas.List.Elements.{All-set, All-nil, All-cons, All-append}
 use Rattle.std.proofs.lemmas.List.{length-set, get_or-map, map-set, set-get_or, set-set, get_or-set_same, length-map}
+use Rattle.std.specs.List.{All}
 use Rattle.token_bucket.specs.declared.limit.Dir.TheVariants as dir
 use Rattle.ev_types.specs.declared.side.Side.{Side}
 use Rattle.ev_types.specs.declared.side.Side.TheVariants.{In, Out}
@@ -9,11 +10,11 @@ use Rattle.ev_types.specs.declared.side.SideId.{SideId}
 use Rattle.ev_types.specs.declared.why.Why.{Why}
 use Rattle.ev_types.specs.declared.why.Why.TheVariants as why
 use Rattle.ev_types.specs.Sides.{half, number, peer}
-use Rattle.relay_model.specs.Settings.{Settings}
+use Rattle.relay_model.specs.Settings.{Settings, Marks, Timeouts, no_timeouts, usual}
 use Rattle.relay_model.specs.Due.{with_reason}
 use Rattle.relay_model.specs.Flow.{Flow, no_flow}
 use Rattle.relay_model.specs.Plain as plain
-use Rattle.relay_model.specs.Plain.{Plain, PlainSide, no_side, side_at, flow_at, put_side, put_flow, change_side, change_flow, is_live}
+use Rattle.relay_model.specs.Plain.{Plain, PlainSide, no_side, new_side, side_at, flow_at, put_side, put_flow, change_side, change_flow, is_live}
 use Rattle.relay_model.specs.Reasons.{has_hook, raise}
 use Rattle.relay_model.specs.Rooms.{most_at_once, mark_or, read_mark, hold_mark}
 use Rattle.relay_model.specs.Moments.{active_at}
@@ -137,6 +138,26 @@ passed_good : (s : State) (e : SideId) (f : Flow) (l : Lane) → (side_at s.plai
 passed_good s e f l from to =
     let q : Plain = put_flow e f s.plain in
     ap (λ p. with_lane e l (with_plain p s)) (ap (change_side (peer e) (with_bad None)) (good q e from) ∙ good q (peer e) to)
+
+-- a side whose link opens is sound
+pub new_sound : (time : ℕ) (timed connected : Bool) (m : Marks) (t : Timeouts) (x : PlainSide) → (timed ≡ false → t ≡ no_timeouts) →
+    x ≡ (let y = new_side usual time 0 In connected in record y { marks = m; timeouts = t }) → IsSoundSide time timed x
+new_sound time timed connected m t x h is = subst (IsSoundSide time timed) (sym is) (omega arith, omega arith, λ e. (h e, refl))
+
+-- and the sides are with two more of them
+pub opened_sound : (near far : Timeouts) (opened time : ℕ) (timed : Bool) (xs ys : List SideState) (a b : SideState) →
+    AreSound near far opened time timed xs → ys ≡ (xs ++ a ∷ []) ++ b ∷ [] →
+    IsSoundSide time timed (plain_side a) → IsSoundSide time timed (plain_side b) → AreSound near far (opened + 1) time timed ys
+opened_sound near far opened time timed xs ys a b h is p q =
+    let P : SideState → Type 0 = λ z. IsSoundSide time timed (plain_side z) in
+    let l = length-append (xs ++ a ∷ []) (b ∷ []) in
+    let k = length-append xs (a ∷ []) in
+    record {
+      paired = omega (arith, ap length is, l, k, h.paired);
+      untimed = h.untimed;
+      sides = subst (All P) (sym is) (All-append P (xs ++ a ∷ []) (b ∷ [])
+          (All-append P xs (a ∷ []) h.sides (All-cons P a [] p (All-nil P))) (All-cons P b [] q (All-nil P)));
+    }
 
 -- a side of a relay, as the code reaches it
 module _ (v : RelayValue) (r : Inside) (is : relay_of r ≡ v) (sound : IsSound r) (e : SideId) (opened : e.link < v.state.plain.opened)

@@ -12,7 +12,7 @@ pub invariant_of-self : goal.invariant_of-self
 invariant_of-self c =
     still_sound c.args.self.now c.self.inside c.self.view_is c.self.invariant c.args.side c.requires c.number.result c.number.ensures
     c.index_mut-own.result.now c.index_mut-own.ensures.value _
-    (active_at c.self.inside.time dir.Write) (λ k. (k.0, omega arith, k.1.1)) refl
+    (active_at c.self.inside.time dir.Write) (λ k. (k.0, omega arith, k.2)) refl
 
 pub returns : goal.returns
 returns c =
