@@ -3,3 +3,4 @@ pub mod RoundLemmas
 pub mod PassageLemmas
 pub mod RelayLemmas
 pub mod TimeLemmas
+pub mod WaitLemmas

@@ -203,12 +203,12 @@ write_made hold may_end z n done last left made free goes n_is done_is last_is l
     ∙ (λ i. passage (if sym free i then z else (if sym goes i then z else write_on hold behind z))) ∙ write-is hold may_end z
 
 -- the four parts of a round, one after another
-pub parts-are : (hold : ℕ) (ended from_live to_live : Bool) (x a b c d : Passage) → from_live ≡ true → to_live ≡ true →
-    a ≡ hold_part hold x → b ≡ read_part 16384 ended a → c ≡ move_part b → d ≡ write_part hold true c →
-    d ≡ pass_round 16384 hold ended from_live to_live x
-parts-are hold ended from_live to_live x a b c d from to h r m w =
-    w ∙ ap (write_part hold true) (m ∙ ap move_part (r ∙ ap (read_part 16384 ended) h))
-    ∙ (λ i. pass_round 16384 hold ended (sym from i) (sym to i) x)
+pub parts-are : (mark hold : ℕ) (ended from_live to_live : Bool) (x a b c d : Passage) → from_live ≡ true → to_live ≡ true →
+    a ≡ hold_part hold x → b ≡ read_part mark ended a → c ≡ move_part b → d ≡ write_part hold true c →
+    d ≡ pass_round mark hold ended from_live to_live x
+parts-are mark hold ended from_live to_live x a b c d from to h r m w =
+    w ∙ ap (write_part hold true) (m ∙ ap move_part (r ∙ ap (read_part mark ended) h))
+    ∙ (λ i. pass_round mark hold ended (sym from i) (sym to i) x)
 
 -- a round after so many
 pub rounds-suc : (n : ℕ) (f : Passage → Passage) (x : Passage) → rounds (suc n) f x ≡ f (rounds n f x)

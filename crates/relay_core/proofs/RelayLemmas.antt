@@ -1,7 +1,8 @@
--- The relay's state with one side replaced, and what is so of each side: no marks, timeouts or bad places, so that nothing is timed and
--- no reason becomes due.
-use Rattle.std.proofs.Common.{◌≡◌, ℕ, zero, suc, Bool, true, false, Result, Ok, Err, MatchResult, ◌*◌, ◌<◌, ◌≤◌, ◌&&◌, nat_le, if◌then◌else◌, List, [], ◌∷◌, length, map, get_or, slice_index_or, slice_set, None, refl, sym, ◌∙◌, ap, subst, arith}
-use Rattle.std.proofs.lemmas.List.{get_or-map, map-set, set-get_or, set-set, get_or-set_same, length-map}
+-- The relay's state with one side replaced, and what is so of each side: none has a bad place or a hook, so that no reason becomes due.
+use Rattle.std.proofs.Common.{◌≡◌, ℕ, zero, suc, ◌+◌, Bool, true, false, Result, Ok, Err, MatchResult, ◌*◌, ◌<◌, ◌≤◌, ◌&&◌, nat_le, if◌then◌else◌, List, [], ◌∷◌, ◌++◌, length, length-append, map, get_or, slice_index_or, slice_set, None, refl, sym, ◌∙◌, ap, subst, arith}
+use Rattle.std.proofs.lemmas.List.Elements.{All-set, All-nil, All-cons, All-append}
+use Rattle.std.proofs.lemmas.List.{length-set, get_or-map, map-set, set-get_or, set-set, get_or-set_same, length-map}
+use Rattle.std.specs.List.{All}
 use Rattle.token_bucket.specs.declared.limit.Dir.TheVariants as dir
 use Rattle.ev_types.specs.declared.side.Side.{Side}
 use Rattle.ev_types.specs.declared.side.Side.TheVariants.{In, Out}
@@ -9,13 +10,13 @@ use Rattle.ev_types.specs.declared.side.SideId.{SideId}
 use Rattle.ev_types.specs.declared.why.Why.{Why}
 use Rattle.ev_types.specs.declared.why.Why.TheVariants as why
 use Rattle.ev_types.specs.Sides.{half, number, peer}
-use Rattle.relay_model.specs.Settings.{Settings, no_marks}
+use Rattle.relay_model.specs.Settings.{Settings, Marks, Timeouts, no_timeouts, usual}
 use Rattle.relay_model.specs.Due.{with_reason}
 use Rattle.relay_model.specs.Flow.{Flow, no_flow}
 use Rattle.relay_model.specs.Plain as plain
-use Rattle.relay_model.specs.Plain.{Plain, PlainSide, no_side, side_at, flow_at, put_side, put_flow, change_side, change_flow, is_live}
+use Rattle.relay_model.specs.Plain.{Plain, PlainSide, no_side, new_side, side_at, flow_at, put_side, put_flow, change_side, change_flow, is_live}
 use Rattle.relay_model.specs.Reasons.{has_hook, raise}
-use Rattle.relay_model.specs.Rooms.{mark_or, read_mark}
+use Rattle.relay_model.specs.Rooms.{most_at_once, mark_or, read_mark, hold_mark}
 use Rattle.relay_model.specs.Moments.{active_at}
 use Rattle.relay_state.specs.State.{State, Lane, no_lane, lane_at, with_plain, with_lane, lane_got, lane_left}
 use Rattle.relay_state.specs.Passage.{Passage, read_part, pass_round, Passed, SomeRounds}
@@ -23,8 +24,9 @@ use Rattle.relay_state.specs.Passing.{passage_at, with_bad, with_passage, round_
 use Rattle.relay_state.specs.Rooms.{input_length, output_length}
 use Rattle.relay_state.specs.Serving.{raise_read, raise_write, with_got, after_got}
 use Rattle.relay_core.specs.RelayValue.{RelayValue, spare_read}
-use Rattle.relay_core.specs.SideView.{plain_side, flow_of_side, lane_of, passage_of, spare_of}
-use Rattle.relay_core.specs.RelayView.{state_with, relay_of, IsPaired}
+use Rattle.relay_core.specs.SideView.{plain_side, flow_of_side, lane_of, passage_of, spare_of, read_mark_of}
+use Rattle.relay_core.specs.SettingsView.{model_timeouts}
+use Rattle.relay_core.specs.RelayView.{state_with, relay_of, AreSound, IsSound, IsSoundSide}
 use Rattle.relay_core.specs.declared.relay.Relay.TheInside.{Inside}
 use Rattle.relay_core.specs.declared.side.SideState.{SideState}
 
@@ -57,10 +59,7 @@ module _ {A : Type 0} (f : PlainSide → A) (a : A) where
   all_set (x ∷ xs) (suc n) y e h zero = h zero
   all_set (x ∷ xs) (suc n) y e h (suc k) = all_set xs n y e (λ j. h (suc j)) k
 
--- no side has marks, a timeout, a timeout that passed, or a bad place
-pub marks_seen : (r : Inside) (xs : List SideState) (e : SideId) → (side_at (state_with r xs).plain e).marks ≡ no_marks
-marks_seen r xs e = all_seen (λ x. x.marks) no_marks (λ x. refl) refl xs (number e)
-
+-- no side has a bad place
 pub bad_seen : (r : Inside) (xs : List SideState) (e : SideId) → (side_at (state_with r xs).plain e).bad ≡ None
 bad_seen r xs e = all_seen (λ x. x.bad) None (λ x. refl) refl xs (number e)
 
@@ -140,8 +139,28 @@ passed_good s e f l from to =
     let q : Plain = put_flow e f s.plain in
     ap (λ p. with_lane e l (with_plain p s)) (ap (change_side (peer e) (with_bad None)) (good q e from) ∙ good q (peer e) to)
 
+-- a side whose link opens is sound
+pub new_sound : (time : ℕ) (timed connected : Bool) (m : Marks) (t : Timeouts) (x : PlainSide) → (timed ≡ false → t ≡ no_timeouts) →
+    x ≡ (let y = new_side usual time 0 In connected in record y { marks = m; timeouts = t }) → IsSoundSide time timed x
+new_sound time timed connected m t x h is = subst (IsSoundSide time timed) (sym is) (omega arith, omega arith, λ e. (h e, refl))
+
+-- and the sides are with two more of them
+pub opened_sound : (near far : Timeouts) (opened time : ℕ) (timed : Bool) (xs ys : List SideState) (a b : SideState) →
+    AreSound near far opened time timed xs → ys ≡ (xs ++ a ∷ []) ++ b ∷ [] →
+    IsSoundSide time timed (plain_side a) → IsSoundSide time timed (plain_side b) → AreSound near far (opened + 1) time timed ys
+opened_sound near far opened time timed xs ys a b h is p q =
+    let P : SideState → Type 0 = λ z. IsSoundSide time timed (plain_side z) in
+    let l = length-append (xs ++ a ∷ []) (b ∷ []) in
+    let k = length-append xs (a ∷ []) in
+    record {
+      paired = omega (arith, ap length is, l, k, h.paired);
+      untimed = h.untimed;
+      sides = subst (All P) (sym is) (All-append P (xs ++ a ∷ []) (b ∷ [])
+          (All-append P xs (a ∷ []) h.sides (All-cons P a [] p (All-nil P))) (All-cons P b [] q (All-nil P)));
+    }
+
 -- a side of a relay, as the code reaches it
-module _ (v : RelayValue) (r : Inside) (is : relay_of r ≡ v) (paired : IsPaired r) (e : SideId) (opened : e.link < v.state.plain.opened)
+module _ (v : RelayValue) (r : Inside) (is : relay_of r ≡ v) (sound : IsSound r) (e : SideId) (opened : e.link < v.state.plain.opened)
     (i : ℕ) (i_is : i ≡ number e) (x : SideState) (x_is : x ≡ get_or r.sides.items i x) where
   abbrev xs : List SideState
   xs = r.sides.items
@@ -152,7 +171,7 @@ module _ (v : RelayValue) (r : Inside) (is : relay_of r ≡ v) (paired : IsPaire
   in_range : number e < length r.sides.items
   in_range =
       let here : e.link < r.opened = subst (λ (z : RelayValue). e.link < z.state.plain.opened) (sym is) opened in
-      omega (arith, number-lt e r.opened here, paired)
+      omega (arith, number-lt e r.opened here, sound.paired)
 
   found : get_or r.sides.items (number e) x ≡ x
   found = ap (λ n. get_or r.sides.items n x) (sym i_is) ∙ sym x_is
@@ -174,6 +193,27 @@ module _ (v : RelayValue) (r : Inside) (is : relay_of r ≡ v) (paired : IsPaire
 
   pub lane_seen : lane_at v.state e ≡ lane_of x
   lane_seen = ap (λ (z : RelayValue). lane_at z.state e) (sym is) ∙ lane_inside
+
+  sound_inside : IsSoundSide r.time r.timed (plain_side x)
+  sound_inside =
+      subst (λ z. IsSoundSide r.time r.timed (plain_side z)) found (sound.sides (number e) x in_range)
+
+  -- the sides are sound with another one in its place
+  pub sound_put : (y : SideState) → IsSoundSide r.time r.timed (plain_side y) →
+      AreSound (model_timeouts r.settings.in_timeouts) (model_timeouts r.settings.out_timeouts) r.opened r.time r.timed
+      (slice_set r.sides.items i y)
+  sound_put y h = record {
+    paired = length-set r.sides.items i y ∙ sound.paired;
+    untimed = sound.untimed;
+    sides = All-set (λ z. IsSoundSide r.time r.timed (plain_side z)) r.sides.items i y h sound.sides;
+  }
+
+  -- where it comes from the one that was there by a change that keeps a side sound
+  pub still_sound : (y : SideState) (g : PlainSide → PlainSide) →
+      (IsSoundSide r.time r.timed (plain_side x) → IsSoundSide r.time r.timed (g (plain_side x))) → plain_side y ≡ g (plain_side x) →
+      AreSound (model_timeouts r.settings.in_timeouts) (model_timeouts r.settings.out_timeouts) r.opened r.time r.timed
+      (slice_set r.sides.items i y)
+  still_sound y g k h = sound_put y (subst (IsSoundSide r.time r.timed) (sym h) (k sound_inside))
 
   -- what is so of the state that is seen, as it is so of the state inside
   pub carried : (y : SideState) (f : State → State) → state_with r (slice_set r.sides.items i y) ≡ f (state_with r r.sides.items) →
@@ -263,14 +303,16 @@ module _ (v : RelayValue) (r : Inside) (is : relay_of r ≡ v) (paired : IsPaire
 
   module _ (y : SideState) (bytes : List ℕ)
       (side_is : plain_side y ≡ active_at r.time dir.Read (plain_side x))
-      (passage_is : passage_of y ≡ (let z = passage_of x in read_part 16384 false (record z { lane = lane_got bytes z.lane }))) where
+      (passage_is : passage_of y ≡ (let z = passage_of x in read_part (read_mark_of x) false (record z { lane = lane_got bytes z.lane }))) where
     abbrev grown : State
     grown = with_got s e bytes
 
-    marks_got : (side_at grown.plain e).marks ≡ no_marks
-    marks_got =
-        all_set (λ z. z.marks) no_marks s.plain.sides (number e) (active_at r.time dir.Read (side_at s.plain e)) (marks_seen r xs e)
-        (λ k. all_seen (λ z. z.marks) no_marks (λ z. refl) refl xs k) (number e)
+    mark_got : read_mark grown.plain e ≡ read_mark_of x
+    mark_got =
+        ap (λ z. mark_or z.marks.read_high most_at_once)
+        (get_or-set_same (map plain_side xs) (number e) (active_at r.time dir.Read (side_at s.plain e)) no_side
+        (subst (λ n. number e < n) (sym (length-map xs plain_side)) in_range))
+        ∙ ap (λ z. mark_or z.marks.read_high most_at_once) side_inside
 
     bad_got : (k : ℕ) → (slice_index_or grown.plain.sides k no_side).bad ≡ None
     bad_got k = all_set (λ z. z.bad) None s.plain.sides (number e) (active_at r.time dir.Read (side_at s.plain e)) (bad_seen r xs e)
@@ -290,8 +332,7 @@ module _ (v : RelayValue) (r : Inside) (is : relay_of r ≡ v) (paired : IsPaire
 
     read_seen : read_part (read_mark grown.plain e) false (passage_at grown e) ≡ passage_of y
     read_seen =
-        ap (λ m. read_part (mark_or m.read_high 16384) false (passage_at grown e)) marks_got
-        ∙ ap (read_part 16384 false) got_seen ∙ sym passage_is
+        ap (λ m. read_part m false (passage_at grown e)) mark_got ∙ ap (read_part (read_mark_of x) false) got_seen ∙ sym passage_is
 
     pub got_is : state_with r (slice_set r.sides.items i y) ≡ after_got v.state e bytes
     got_is = carried y (λ z. after_got z e bytes) (
@@ -306,29 +347,21 @@ module _ (v : RelayValue) (r : Inside) (is : relay_of r ≡ v) (paired : IsPaire
 
   -- the direction that begins at the side was passed, or some rounds of it were made
 
-  pub passes : (y : SideState) (T : Type 0) (E : Type 0) (result : Result T E) (to_live : Bool) →
+  pub passes : (y : SideState) (T : Type 0) (E : Type 0) (result : Result T E) (mark hold : ℕ) (to_live : Bool) →
+      mark ≡ read_mark v.state.plain e → hold ≡ hold_mark v.state.settings v.state.plain (peer e) →
       to_live ≡ is_live v.state.plain (peer e) →
       plain_side y ≡ plain_side x →
-      MatchResult result (λ _. Passed (pass_round 16384 r.settings.hold x.flags.ended x.flags.live to_live) (passage_of x) (passage_of y))
-      (λ _. SomeRounds (pass_round 16384 r.settings.hold x.flags.ended x.flags.live to_live) (passage_of x) (passage_of y)) →
+      MatchResult result (λ _. Passed (pass_round mark hold x.flags.ended x.flags.live to_live) (passage_of x) (passage_of y))
+      (λ _. SomeRounds (pass_round mark hold x.flags.ended x.flags.live to_live) (passage_of x) (passage_of y)) →
       MatchResult result (λ _. PassedFrom v.state e (state_with r (slice_set r.sides.items i y)))
       (λ _. PartlyPassed v.state e (state_with r (slice_set r.sides.items i y)))
-  passes y T E result to_live live_is same = go result
+  passes y T E result mark hold to_live mark_is hold_is live_is same = go result
     where
       f : Passage → Passage
-      f = pass_round 16384 r.settings.hold x.flags.ended x.flags.live to_live
-
-      f_inside : f ≡ round_from s e
-      f_inside =
-          let a = marks_seen r xs e in
-          let b = marks_seen r xs (peer e) in
-          let c = side_inside in
-          let d : to_live ≡ is_live s.plain (peer e) = live_is ∙ ap (λ (z : RelayValue). is_live z.state.plain (peer e)) (sym is) in
-          λ j. pass_round (mark_or (sym a j).read_high 16384)
-          (mark_or (sym b j).write_high r.settings.hold) (sym c j).ended (sym c j).live (d j)
+      f = pass_round mark hold x.flags.ended x.flags.live to_live
 
       f_is : f ≡ round_from v.state e
-      f_is = f_inside ∙ ap (λ (z : RelayValue). round_from z.state e) is
+      f_is = λ j. pass_round (mark_is j) (hold_is j) (sym side_seen j).ended (sym side_seen j).live (live_is j)
 
       seen_inside : passage_of x ≡ passage_at s e
       seen_inside =

@@ -1,9 +1,11 @@
 -- How the relay keeps its state. There are no timers, and nothing is due.
-use Rattle.std.specs.Prelude.{◌≡◌, ◌-◌, ◌*◌, ◌/◌, List, [], length, map, vec_len, vec_capacity}
-use Rattle.relay_model.specs.Plain.{Plain}
+use Rattle.std.specs.Prelude.{◌≡◌, ℕ, ◌-◌, ◌*◌, ◌/◌, ◌≤◌, Bool, false, List, [], length, map, vec_len, vec_capacity}
+use Rattle.std.specs.List.{All}
+use Rattle.relay_model.specs.Settings.{Timeouts, no_timeouts}
+use Rattle.relay_model.specs.Plain.{Plain, PlainSide}
 use Rattle.relay_state.specs.State.{State}
 use Rattle.relay_core.specs.RelayValue.{RelayValue}
-use Rattle.relay_core.specs.SettingsView.{model_settings}
+use Rattle.relay_core.specs.SettingsView.{model_timeouts, model_settings}
 use Rattle.relay_core.specs.SideView.{plain_side, flow_of_side, lane_of, spare_of}
 use Rattle.relay_core.specs.declared.relay.Relay.TheInside.{Inside}
 use Rattle.relay_core.specs.declared.side.SideState.{SideState}
@@ -30,6 +32,17 @@ relay_of r = record {
   spare_reads = map spare_of r.sides.items;
 }
 
--- there are two sides for each link
-abbrev pub IsPaired : Inside → Type 0
-IsPaired r = length r.sides.items ≡ 2 * r.opened
+-- What is so of a side: its activity is not ahead of the time, and where nothing is timed it has no timeouts, of which none has passed.
+abbrev pub IsSoundSide : ℕ → Bool → PlainSide → Type 0
+IsSoundSide time timed x =
+    (x.last_read ≤ time) × (x.last_write ≤ time) × (timed ≡ false → (x.timeouts ≡ no_timeouts) × (x.expired ≡ false))
+
+-- what is so of the sides, with the timeouts that the sides of the next link get
+pub record AreSound (near far : Timeouts) (opened time : ℕ) (timed : Bool) (xs : List SideState) : Type 0 where
+  pub paired : length xs ≡ 2 * opened  -- there are two for each link
+  pub untimed : timed ≡ false → (near ≡ no_timeouts) × (far ≡ no_timeouts)  -- nothing is timed only where no timeouts are set
+  pub sides : All (λ x. IsSoundSide time timed (plain_side x)) xs
+
+abbrev pub IsSound : Inside → Type 0
+IsSound r =
+    AreSound (model_timeouts r.settings.in_timeouts) (model_timeouts r.settings.out_timeouts) r.opened r.time r.timed r.sides.items

@@ -2,12 +2,13 @@
 -- they are.
 use Rattle.std.specs.Prelude.{◌≡◌, ◌⊎◌, ◌+◌, ◌≤◌, ℕ, Bool, false, ◌-◌, ◌^◌, ◌==◌, nat_le, min, if◌then◌else◌, length, Option, None}
 use Rattle.ev_types.specs.declared.filter.FilterKind.TheVariants as kind
-use Rattle.relay_model.specs.Settings.{no_marks, no_timeouts}
 use Rattle.relay_model.specs.Plain.{PlainSide}
+use Rattle.relay_model.specs.Rooms.{most_at_once, mark_or}
 use Rattle.relay_model.specs.Flow.{Flow}
 use Rattle.relay_model.specs.Conserved.{Buffers, Running}
 use Rattle.relay_state.specs.State.{Lane}
 use Rattle.relay_state.specs.Passage.{Passage}
+use Rattle.relay_core.specs.SettingsView.{model_marks, model_timeouts}
 use Rattle.relay_core.specs.declared.flags.SideFlags.{SideFlags}
 use Rattle.relay_core.specs.declared.side.Progress.{Progress}
 use Rattle.relay_core.specs.declared.side.SideState.{SideState}
@@ -21,24 +22,12 @@ flags_of x = record {
   writes = x.writes;
   ended = x.ended;
   failed = x.failed;
+  expired = x.expired;
   write_ended = x.write_ended;
   closed = x.closed;
 }
 
--- a side that has these flags
-abbrev pub flagged : SideFlags → PlainSide → PlainSide
-flagged f x = record x {
-  live = f.live;
-  connecting = f.connecting;
-  reads = f.reads;
-  writes = f.writes;
-  ended = f.ended;
-  failed = f.failed;
-  write_ended = f.write_ended;
-  closed = f.closed;
-}
-
--- No side has marks, timeouts, a limit or a group.
+-- No side has a limit, a group, a bad place or a reference.
 abbrev pub plain_side : SideState → PlainSide
 plain_side s = record {
   live = s.flags.live;
@@ -47,12 +36,12 @@ plain_side s = record {
   writes = s.flags.writes;
   ended = s.flags.ended;
   failed = s.flags.failed;
-  expired = false;
+  expired = s.flags.expired;
   bad = None;
   write_ended = s.flags.write_ended;
   closed = s.flags.closed;
-  marks = no_marks;
-  timeouts = no_timeouts;
+  marks = model_marks s.marks;
+  timeouts = model_timeouts s.timeouts;
   last_read = s.last_read;
   last_write = s.last_write;
   limit = None;
@@ -101,26 +90,35 @@ lane_of s = record {
 abbrev pub passage_of : SideState → Passage
 passage_of s = record { flow = flow_of_side s; lane = lane_of s; from_bad = None; to_bad = None }
 
+-- the length of the input at which reading stops
+abbrev pub read_mark_of : SideState → ℕ
+read_mark_of s = mark_or s.marks.read_high most_at_once
+
+-- how many bytes that wait for its end hold the direction to it, where so many do in the run
+abbrev pub hold_mark_of : ℕ → SideState → ℕ
+hold_mark_of hold s = mark_or s.marks.write_high hold
+
 -- how many bytes the read filter uses now, until the input has reached the read mark
-abbrev pub used_now : Buffers → ℕ
-used_now b = min (length b.raw_input) (16384 - length b.input)
+abbrev pub used_now : ℕ → Buffers → ℕ
+used_now mark b = min (length b.raw_input) (mark - length b.input)
 
--- The read filter has room: for what it uses now, or the input is empty and the raw input, which is short, goes there whole.
-abbrev pub HasInputRoom : SideState → Type 0
-HasInputRoom s = (used_now (buffers_of s) ≤ s.input.spare) ⊎ ((length s.input.items ≡ 0) × (length s.raw_input.items ≤ 16384))
+-- The read filter has room: for what it uses now, or the input is empty and the raw input, which the mark allows, goes there whole.
+abbrev pub HasInputRoom : ℕ → SideState → Type 0
+HasInputRoom mark s = (used_now mark (buffers_of s) ≤ s.input.spare) ⊎ ((length s.input.items ≡ 0) × (length s.raw_input.items ≤ mark))
 
--- The write filter has room for n bytes, or the raw output is empty and so many, which the hold mark allows, go there whole.
+-- The write filter has room for so much of n bytes as the hold mark allows, or the raw output is empty and the mark allows all of them.
 abbrev pub HasOutputRoom : ℕ → ℕ → SideState → Type 0
-HasOutputRoom hold n s = (n ≤ s.raw_output.spare) ⊎ ((length s.raw_output.items ≡ 0) × (n ≤ hold))
+HasOutputRoom hold n s =
+    (min n (hold - length s.raw_output.items) ≤ s.raw_output.spare) ⊎ ((length s.raw_output.items ≡ 0) × (n ≤ hold))
 
 -- all bytes of the direction that are not in the raw output yet
 abbrev pub not_turned : SideState → ℕ
 not_turned s = length s.raw_input.items + length s.input.items + length s.output.items
 
--- so many bytes of a read can be kept and counted: they go to an empty input whole, or the input has room up to its
--- mark
+-- So many bytes of a read can be kept and counted. Either the input has room up to its mark, or what is read goes there with the raw
+-- input: whole to an empty input, which the mark allows, and else in the room that is there.
 abbrev pub spare_of : SideState → ℕ
 spare_of s =
     let fits : ℕ = min (s.raw_input.spare) (2 ^ 64 - 1 - s.read) in
-    if nat_le (16384 - length s.input.items) s.input.spare then fits
-    else (if length s.input.items == 0 then min fits (16384 - length s.raw_input.items) else 0)
+    if nat_le (read_mark_of s - length s.input.items) s.input.spare then fits
+    else min fits ((if length s.input.items == 0 then read_mark_of s else s.input.spare) - length s.raw_input.items)

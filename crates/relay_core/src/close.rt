@@ -1,6 +1,6 @@
 // Closing a link: the steps in their order, whether one is called for, and what it changes.
-ghost use Rattle.std.specs.Prelude.{◌≡◌, ◌<◌, is_some, map};
-ghost use Rattle.relay_model.specs.Plain.{side_at};
+ghost use Rattle.std.specs.Prelude.{◌≡◌, ◌<◌, true, is_some, map};
+ghost use Rattle.relay_model.specs.Plain.{side_at, change_side};
 ghost use Rattle.relay_model.specs.Plain as plain;
 ghost use Rattle.relay_model.specs.Close.{closing_of, fault};
 ghost use Rattle.relay_state.specs.State.{lane_at, with_plain, with_lane, lane_left, lane_lost};
@@ -116,6 +116,8 @@ impl Relay {
         let own = &self.sides[side.number()];
         if own.flags.failed {
             Some(Cause::Failed)
+        } else if own.flags.expired {
+            Some(Cause::Timeout)
         } else {
             None
         }
@@ -189,6 +191,24 @@ impl Relay {
         self.drop_output(side.peer());
     }
 
+    fn end_writing(&mut self, side: SideId)
+        requires { side.link < self.old.state.plain.opened }
+        ensures { self.new.state
+            ≡ with_plain (change_side side (λ x. record x { write_ended = true }) self.old.state.plain) self.old.state }
+    {
+        let own = &mut self.sides[side.number()];
+        own.flags.write_ended = true;
+    }
+
+    /// The end of the side is closed.
+    fn shut(&mut self, side: SideId)
+        requires { side.link < self.old.state.plain.opened }
+        ensures { self.new.state ≡ with_plain (change_side side (λ x. record x { closed = true }) self.old.state.plain) self.old.state }
+    {
+        let own = &mut self.sides[side.number()];
+        own.flags.closed = true;
+    }
+
     /// Makes the change of a step of closing. Takes no memory.
     pub fn close(&mut self, step: Closing)
         requires { link_of_step step < self.old.state.plain.opened }
@@ -196,11 +216,7 @@ impl Relay {
     {
         match step {
             Closing::Faulty(side) | Closing::PeerGone(side) => self.free(side),
-            Closing::EndWriting(side) => {
-                let mut flags = self.flags(side);
-                flags.write_ended = true;
-                self.set_flags(side, flags);
-            }
+            Closing::EndWriting(side) => self.end_writing(side),
             Closing::BothDone(link) => {
                 let near = SideId {
                     link,
@@ -209,11 +225,7 @@ impl Relay {
                 self.free(near);
                 self.free(near.peer());
             }
-            Closing::Shut(side) => {
-                let mut flags = self.flags(side);
-                flags.closed = true;
-                self.set_flags(side, flags);
-            }
+            Closing::Shut(side) => self.shut(side),
         }
     }
 }

@@ -1,6 +1,6 @@
 // What is so of a side.
 
-/// What is so of a side. A failed side is freed when its link is closed.
+/// What is so of a side. A side that failed or expired is freed when its link is closed.
 ///
 /// Libevent: event2/bufferevent.h, `bufferevent_get_enabled` for the two directions; the others are own.
 #[derive(Clone, Copy, Debug, PartialEq, Eq)]
@@ -17,6 +17,8 @@ pub struct SideFlags {
     pub ended: bool,
     /// A read, a write or a connect check failed.
     pub failed: bool,
+    /// One of its timeouts has passed.
+    pub expired: bool,
     /// Writing was ended at its end.
     pub write_ended: bool,
     /// Its end was closed.

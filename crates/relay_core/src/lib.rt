@@ -7,13 +7,13 @@
 
 mod close;
 mod count;
+mod expiry;
 mod flags;
 mod open;
 mod pass;
 mod relay;
 mod room;
 mod serve;
-mod settings;
 mod side;
 
 pub use close::Closing;
@@ -21,7 +21,7 @@ pub use count::Counts;
 pub use ev_types::LinkCount;
 pub use flags::SideFlags;
 pub use relay::Relay;
-pub use settings::Settings;
+pub use relay_settings::{Marks, Settings, Timeouts};
 
 #[cfg(test)]
 mod tests;

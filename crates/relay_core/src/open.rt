@@ -5,6 +5,7 @@ ghost use Rattle.relay_state.specs.Opening.{after_opened};
 use crate::relay::Relay;
 use crate::side::SideState;
 use ev_types::NoMemory;
+use relay_settings::Settings;
 
 impl Relay {
     /// How many links were opened.
@@ -38,10 +39,17 @@ impl Relay {
     {
         let alloc = self.alloc;
         let time = self.time;
-        self.sides.push(SideState::new(alloc, true, time)).unwrap();
-        self.sides
-            .push(SideState::new(alloc, connected, time))
-            .unwrap();
+        let Settings {
+            in_marks,
+            out_marks,
+            in_timeouts,
+            out_timeouts,
+            ..
+        } = self.settings;
+        let near = SideState::new(alloc, in_marks, in_timeouts, true, time);
+        let far = SideState::new(alloc, out_marks, out_timeouts, connected, time);
+        self.sides.push(near).unwrap();
+        self.sides.push(far).unwrap();
         self.opened += 1;
     }
 }

@@ -7,7 +7,7 @@ ghost use Rattle.relay_state.specs.Passage.{hold_part, read_part, move_part, has
 ghost use Rattle.relay_core.specs.SideView.{plain_side, passage_of, HasInputRoom, HasOutputRoom, not_turned};
 
 use crate::relay::Relay;
-use crate::side::{Progress, READ_MARK, SideState};
+use crate::side::{Progress, SideState};
 use ev_types::{NoMemory, SideId};
 use evbuf_chain::ByteQueue;
 use std::mem::swap;
@@ -32,21 +32,24 @@ fn last_of(queue: &ByteQueue, count: usize, before: Option<u8>) -> Option<u8>
 
 impl SideState {
     /// Makes room for what a round may move.
-    fn reserve_round(&mut self, hold: u64) -> Result<(), NoMemory>
+    fn reserve_round(&mut self, mark: u64, hold: u64) -> Result<(), NoMemory>
         ensures side { plain_side self.new ≡ plain_side self.old }
         ensures passage { passage_of self.new ≡ passage_of self.old }
-        ensures input { OnOk result (HasInputRoom self.new) }
+        ensures input { OnOk result (HasInputRoom mark self.new) }
         ensures raw_output { OnOk result (HasOutputRoom hold (not_turned self.new) self.new) }
     {
+        let mark = mark as usize;
+        let hold = hold as usize;
         let raw = self.raw_input.len();
         let input = self.input.len();
-        if input > 0 || raw > READ_MARK {
-            self.input
-                .reserve(raw.min(READ_MARK.saturating_sub(input)))?;
+        if input > 0 || raw > mark {
+            self.input.reserve(raw.min(mark.saturating_sub(input)))?;
         }
         let most = raw + input + self.output.len();
-        if self.raw_output.len() > 0 || most as u64 > hold {
-            self.raw_output.reserve(most)?;
+        let waiting = self.raw_output.len();
+        if waiting > 0 || most > hold {
+            self.raw_output
+                .reserve(most.min(hold.saturating_sub(waiting)))?;
         }
         Ok(())
     }
@@ -66,19 +69,17 @@ impl SideState {
     }
 
     /// The read filter runs until the raw input is used up or the input reaches the read mark, unless it is finished.
-    pub(crate) fn run_read_filter(&mut self, ended: bool)
-        requires { HasInputRoom self.old }
+    pub(crate) fn run_read_filter(&mut self, mark: u64, ended: bool)
+        requires { HasInputRoom mark self.old }
         ensures side { plain_side self.new ≡ plain_side self.old }
-        ensures passage { passage_of self.new ≡ read_part 16384 ended (passage_of self.old) }
+        ensures passage { passage_of self.new ≡ read_part mark ended (passage_of self.old) }
         ensures spare { self.new.raw_output.spare ≡ self.old.raw_output.spare }
     {
         if self.flow.read_done {
             return;
         }
-        let count = self
-            .raw_input
-            .len()
-            .min(READ_MARK.saturating_sub(self.input.len()));
+        let room = (mark as usize).saturating_sub(self.input.len());
+        let count = self.raw_input.len().min(room);
         let done = ended && count == self.raw_input.len();
         self.last_used = last_of(&self.raw_input, count, self.last_used);
         self.raw_input.give(&mut self.input, count);
@@ -126,18 +127,18 @@ impl SideState {
     }
 
     /// One round, in room that was made before.
-    fn make_round(&mut self, hold: u64, ended: bool, from_live: bool, to_live: bool)
-        requires input { HasInputRoom self.old }
+    fn make_round(&mut self, mark: u64, hold: u64, ended: bool, from_live: bool, to_live: bool)
+        requires input { HasInputRoom mark self.old }
         requires raw_output { HasOutputRoom hold (not_turned self.old) self.old }
         ensures side { plain_side self.new ≡ plain_side self.old }
-        ensures passage { passage_of self.new ≡ pass_round 16384 hold ended from_live to_live (passage_of self.old) }
+        ensures passage { passage_of self.new ≡ pass_round mark hold ended from_live to_live (passage_of self.old) }
     {
         if !to_live {
             return;
         }
         self.hold_back(hold);
         if from_live {
-            self.run_read_filter(ended);
+            self.run_read_filter(mark, ended);
             self.move_input();
             self.run_write_filter(hold, true);
         } else {
@@ -148,6 +149,7 @@ impl SideState {
     /// Rounds until one changes nothing.
     pub(crate) fn pass(
         &mut self,
+        mark: u64,
         hold: u64,
         ended: bool,
         from_live: bool,
@@ -155,13 +157,13 @@ impl SideState {
     ) -> Result<(), NoMemory>
         ensures side { plain_side self.new ≡ plain_side self.old }
         ensures passage { MatchResult result
-            (λ _. Passed (pass_round 16384 hold ended from_live to_live) (passage_of self.old) (passage_of self.new))
-            (λ _. SomeRounds (pass_round 16384 hold ended from_live to_live) (passage_of self.old) (passage_of self.new)) }
+            (λ _. Passed (pass_round mark hold ended from_live to_live) (passage_of self.old) (passage_of self.new))
+            (λ _. SomeRounds (pass_round mark hold ended from_live to_live) (passage_of self.old) (passage_of self.new)) }
     {
         loop {
-            self.reserve_round(hold)?;
+            self.reserve_round(mark, hold)?;
             let before = self.flow;
-            self.make_round(hold, ended, from_live, to_live);
+            self.make_round(mark, hold, ended, from_live, to_live);
             if same_progress(self.flow, before) {
                 return Ok(());
             }
@@ -180,10 +182,11 @@ impl Relay {
             (λ _. PassedFrom self.old.state from self.new.state)
             (λ _. PartlyPassed self.old.state from self.new.state) }
     {
-        let hold = self.settings.hold;
+        let mark = self.read_mark(from);
+        let hold = self.hold_mark(from.peer());
         let to_live = self.flags(from.peer()).live;
         let own = &mut self.sides[from.number()];
         let flags = own.flags;
-        own.pass(hold, flags.ended, flags.live, to_live)
+        own.pass(mark, hold, flags.ended, flags.live, to_live)
     }
 }

@@ -1,18 +1,15 @@
-// The relay's state, and its time.
-ghost use Rattle.std.specs.Prelude.{◌≡◌, ◌+◌, ◌*◌, ◌^◌, ◌<◌, [], min, max};
+// The relay's state.
+ghost use Rattle.std.specs.Prelude.{◌≡◌, false};
+ghost use Rattle.relay_settings.specs.Usual.{no_timeouts};
 ghost use Rattle.relay_state.specs.State.{new_state};
-ghost use Rattle.relay_state.specs.Time.{begun, poll_timeout};
 ghost use Rattle.relay_core.specs.SettingsView.{model_settings};
 
-use crate::settings::Settings;
 use crate::side::SideState;
+use relay_settings::{Settings, Timeouts};
 use std::alloc::Global;
 use std::marker::Model;
 
-/// No turn's time is greater: 2^62 milliseconds.
-pub(crate) const LAST_TIME: u64 = 1 << 62;
-
-/// The relay's own state. Calls on a side ask that its link was opened. What a call answers, and the state after it, is
+/// The relay's own state, and whether any side may have a timeout. Calls on a side ask that its link was opened. What a call answers, and the state after it, is
 /// said by its contract.
 ///
 /// Own; it does what libevent's sample le-proxy does.
@@ -20,6 +17,7 @@ pub(crate) const LAST_TIME: u64 = 1 << 62;
 pub struct Relay {
     pub(crate) alloc: Global,
     pub(crate) settings: Settings,
+    pub(crate) timed: bool,
     pub(crate) time: u64,
     pub(crate) turns: u64,
     pub(crate) opened: u32,
@@ -31,11 +29,18 @@ impl Model for Relay {
 
     ghost Value = { RelayValue };
 
-    ghost use Rattle.relay_core.specs.RelayView.{relay_of, IsPaired};
+    ghost use Rattle.relay_core.specs.RelayView.{relay_of, IsSound};
 
     ghost view = { relay_of };
 
-    ghost invariant = { IsPaired };
+    ghost invariant = { IsSound };
+}
+
+/// Whether a side of the run may have a timeout.
+fn has_timeouts(settings: &Settings) -> bool
+    ensures { result ≡ false → (settings.now.in_timeouts ≡ no_timeouts) × (settings.now.out_timeouts ≡ no_timeouts) }
+{
+    settings.in_timeouts != Timeouts::none() || settings.out_timeouts != Timeouts::none()
 }
 
 impl Relay {
@@ -46,6 +51,7 @@ impl Relay {
         Relay {
             alloc,
             settings,
+            timed: has_timeouts(&settings),
             time: 0,
             turns: 0,
             opened: 0,
@@ -60,22 +66,4 @@ impl Relay {
         self.time
     }
 
-    /// A turn begins. A reading of the clock becomes the time, cut at 2^62 and unless the time is greater. Answers the time.
-    pub fn begin(&mut self, reading: u64) -> u64
-        requires turns { self.old.state.plain.turn < 2 ^ 62 }
-        ensures time { result ≡ max self.old.state.plain.time (min reading (2 ^ 62)) }
-        ensures state { self.new.state ≡ begun self.old.state result }
-    {
-        self.turns += 1;
-        self.time = self.time.max(reading.min(LAST_TIME));
-        self.time
-    }
-
-    /// For how many milliseconds a poll may wait; None is for ever. Nothing has a time to wait for yet.
-    pub fn poll_timeout(&self) -> Option<u64>
-        ensures { result ≡ poll_timeout self.now.state }
-    {
-        let _ = &self.alloc;
-        None
-    }
 }

@@ -1,15 +1,14 @@
 // How many bytes may be read from a side's end and given to it now, and what a side wants.
 ghost use Rattle.std.specs.Prelude.{◌≡◌, ◌<◌};
 ghost use Rattle.token_bucket.specs.declared.limit.Dir.TheVariants.{Read, Write};
-ghost use Rattle.relay_model.specs.Plain.{side_at, change_side};
-ghost use Rattle.relay_model.specs.Rooms.{may_read, may_write};
-ghost use Rattle.relay_state.specs.State.{with_plain};
+ghost use Rattle.relay_model.specs.Plain.{side_at};
+ghost use Rattle.relay_model.specs.Rooms.{read_mark, hold_mark, may_read, may_write};
 ghost use Rattle.relay_state.specs.Rooms.{read_room, write_room, offer as offer_of, wants};
-ghost use Rattle.relay_core.specs.SideView.{flags_of, flagged};
+ghost use Rattle.relay_core.specs.SideView.{flags_of};
 
 use crate::flags::SideFlags;
 use crate::relay::Relay;
-use crate::side::READ_MARK;
+use crate::side::MOST_AT_ONCE;
 use ev_types::SideId;
 
 impl Relay {
@@ -19,14 +18,6 @@ impl Relay {
         ensures { result ≡ flags_of (side_at self.now.state.plain side) }
     {
         self.sides[side.number()].flags
-    }
-
-    pub(crate) fn set_flags(&mut self, side: SideId, flags: SideFlags)
-        requires { side.link < self.old.state.plain.opened }
-        ensures { self.new.state ≡ with_plain (change_side side (flagged flags) self.old.state.plain) self.old.state }
-    {
-        let own = &mut self.sides[side.number()];
-        own.flags = flags;
     }
 
     fn may_read(&self, side: SideId) -> bool
@@ -46,6 +37,22 @@ impl Relay {
         flags.live && !flags.connecting && flags.writes && !flags.failed && !flags.write_ended
     }
 
+    /// The length of the side's input at which reading stops.
+    pub(crate) fn read_mark(&self, side: SideId) -> u64
+        requires { side.link < self.now.state.plain.opened }
+        ensures { result ≡ read_mark self.now.state.plain side }
+    {
+        self.sides[side.number()].read_mark()
+    }
+
+    /// How many bytes that wait for the side's end hold the direction to it.
+    pub(crate) fn hold_mark(&self, side: SideId) -> u64
+        requires { side.link < self.now.state.plain.opened }
+        ensures { result ≡ hold_mark self.now.state.settings self.now.state.plain side }
+    {
+        self.sides[side.number()].hold_mark(self.settings.hold)
+    }
+
     /// How many bytes may be read from the side's end now, at most 16,384.
     pub fn read_room(&self, side: SideId) -> usize
         requires { side.link < self.now.state.plain.opened }
@@ -55,7 +62,8 @@ impl Relay {
             return 0;
         }
         let own = &self.sides[side.number()];
-        READ_MARK.saturating_sub(own.input_len())
+        let mark = own.read_mark() as usize;
+        mark.saturating_sub(own.input_len()).min(MOST_AT_ONCE)
     }
 
     /// How many bytes may be given to the side's end now, at most 16,384.
@@ -67,7 +75,7 @@ impl Relay {
             return 0;
         }
         let from = &self.sides[side.peer().number()];
-        from.raw_output.len().min(READ_MARK)
+        from.raw_output.len().min(MOST_AT_ONCE)
     }
 
     /// The bytes that are given to the side's end now: as many as there is room for.

@@ -12,14 +12,14 @@ ghost use Rattle.relay_state.specs.Serving.{flow_given, raise_write, after_got, 
 ghost use Rattle.relay_core.specs.RelayValue.{spare_read};
 
 use crate::relay::Relay;
-use crate::side::{READ_MARK, SideState};
+use crate::side::SideState;
 use ev_types::{NoMemory, SideId};
 
 impl SideState {
     ghost use Rattle.std.specs.Prelude.{false};
     ghost use Rattle.relay_state.specs.State.{lane_got};
     ghost use Rattle.relay_state.specs.Passage.{Passage, read_part};
-    ghost use Rattle.relay_core.specs.SideView.{plain_side, flow_of_side, lane_of, passage_of, spare_of};
+    ghost use Rattle.relay_core.specs.SideView.{plain_side, flow_of_side, lane_of, passage_of, read_mark_of, spare_of};
 
     /// Makes room for a read of so many bytes. It is also refused where they could not be counted.
     fn reserve_read(&mut self, room: usize) -> Result<(), NoMemory>
@@ -30,9 +30,11 @@ impl SideState {
         if room as u64 > u64::MAX - self.read {
             return Err(NoMemory);
         }
+        let mark = self.read_mark() as usize;
         let input = self.input.len();
-        if input > 0 || room > READ_MARK || self.raw_input.len() > READ_MARK - room {
-            self.input.reserve(READ_MARK.saturating_sub(input))?;
+        let raw = self.raw_input.len().saturating_add(room);
+        if input > 0 || raw > mark {
+            self.input.reserve(raw.min(mark.saturating_sub(input)))?;
         }
         self.raw_input.reserve(room)?;
         Ok(())
@@ -44,12 +46,13 @@ impl SideState {
         requires room { length bytes.now ≤ spare_of self.old }
         ensures side { plain_side self.new ≡ active_at time Read (plain_side self.old) }
         ensures passage { passage_of self.new
-            ≡ (let x = passage_of self.old in read_part 16384 false (record x { lane = lane_got bytes.now x.lane })) }
+            ≡ (let x = passage_of self.old in read_part (read_mark_of self.old) false (record x { lane = lane_got bytes.now x.lane })) }
     {
+        let mark = self.read_mark();
         self.last_read = time;
         self.read += bytes.len() as u64;
         self.raw_input.push(bytes);
-        self.run_read_filter(false);
+        self.run_read_filter(mark, false);
     }
 
     /// The peer's end took the first bytes of the raw output.

@@ -1,8 +1,14 @@
 use Rattle.std.proofs.Common.{◌≤◌, length, subst}
 use Rattle.relay_state.specs.State.{Lane, lane_taken}
 use Rattle.relay_state.specs.Serving.{flow_given}
-use Rattle.relay_core.proofs.RelayLemmas.{changed_flow, lane_seen}
+use Rattle.relay_core.proofs.RelayLemmas.{still_sound, changed_flow, lane_seen}
 use Rattle.relay_core.proofs.relay.Relay.took_from.Goals as goal
+
+pub invariant_of-self : goal.invariant_of-self
+invariant_of-self c =
+    still_sound c.args.self.now c.self.inside c.self.view_is c.self.invariant c.args.from c.requires.opened c.number.result c.number.ensures
+    c.index_mut-own.result.now c.index_mut-own.ensures.value c.took.new.self
+    (λ x. x) (λ k. k) c.took.ensures.side
 
 pub took-requires : goal.took-requires
 took-requires c =

@@ -28,16 +28,16 @@ same_counts a b h =
 
 pub returns-then-same_progress-clause-passage : goal.returns-then-same_progress-clause-passage
 returns-then-same_progress-clause-passage c =
-    let f : Passage → Passage = pass_round 16384 c.args.hold c.args.ended c.args.from_live c.args.to_live in
+    let f : Passage → Passage = pass_round c.args.mark c.args.hold c.args.ended c.args.from_live c.args.to_live in
     let mid = c.reserve_round.new.self in
     let new = c.make_round.new.self in
     let some = c.loop-before.invariant.some in
     let before : passage_of mid ≡ rounds some.0 f (passage_of c.args.self.now) = c.in_ok-reserve_round.ensures.passage ∙ some.1 in
     let once : passage_of new ≡ f (passage_of mid) = c.make_round.ensures.passage in
-    let made : passage (round 16384 c.args.hold c.args.ended c.args.from_live c.args.to_live (straight mid)) ≡ f (passage_of mid) =
-    round-is 16384 c.args.hold c.args.ended c.args.from_live c.args.to_live (straight mid) in
+    let made : passage (round c.args.mark c.args.hold c.args.ended c.args.from_live c.args.to_live (straight mid)) ≡ f (passage_of mid) =
+    round-is c.args.mark c.args.hold c.args.ended c.args.from_live c.args.to_live (straight mid) in
     let still : f (passage_of mid) ≡ passage_of mid =
-    elim (round_falls 16384 c.args.hold c.args.ended c.args.from_live c.args.to_live (straight mid)) [
+    elim (round_falls c.args.mark c.args.hold c.args.ended c.args.from_live c.args.to_live (straight mid)) [
       | inl same ↦ sym made ∙ ap passage same
       | inr falls ↦ absurd (falls.1 (ap (λ (x : Passage). x.flow) (made ∙ sym once) ∙ ap flow_of (c.if-same_progress.ensures.0 refl)))
     ] in (some.0, once ∙ still ∙ before, ap f (once ∙ still) ∙ sym once)
@@ -47,12 +47,12 @@ loop-before-smaller c =
     let h = c.args.hold in
     let mid = c.reserve_round.new.self in
     let new = c.make_round.new.self in
-    let g : Straight → Straight = round 16384 h c.args.ended c.args.from_live c.args.to_live in
+    let g : Straight → Straight = round c.args.mark h c.args.ended c.args.from_live c.args.to_live in
     let once : straight new ≡ g (straight mid) =
-    ap seen_of (c.make_round.ensures.passage ∙ sym (round-is 16384 h c.args.ended c.args.from_live c.args.to_live (straight mid))) in
+    ap seen_of (c.make_round.ensures.passage ∙ sym (round-is c.args.mark h c.args.ended c.args.from_live c.args.to_live (straight mid))) in
     let begun : weight h (straight mid) ≡ weight h (straight c.loop-before.self) =
     ap (λ p. weight h (seen_of p)) c.in_ok-reserve_round.ensures.passage in
-    elim (round_falls 16384 h c.args.ended c.args.from_live c.args.to_live (straight mid)) [
+    elim (round_falls c.args.mark h c.args.ended c.args.from_live c.args.to_live (straight mid)) [
       | inl same ↦ absurd (
           let counts : new.flow ≡ mid.flow = same_counts new.flow mid.flow (ap (λ (x : Straight). x.flow) (once ∙ same)) in
           let e : false ≡ true = c.if-same_progress.ensures.1 counts in cc)
@@ -62,7 +62,7 @@ loop-before-smaller c =
 
 pub loop-before-preserved : goal.loop-before-preserved
 loop-before-preserved c =
-    let f : Passage → Passage = pass_round 16384 c.args.hold c.args.ended c.args.from_live c.args.to_live in
+    let f : Passage → Passage = pass_round c.args.mark c.args.hold c.args.ended c.args.from_live c.args.to_live in
     let some = c.loop-before.invariant.some in
     record {
       side = c.make_round.ensures.side ∙ c.in_ok-reserve_round.ensures.side ∙ c.loop-before.invariant.side;

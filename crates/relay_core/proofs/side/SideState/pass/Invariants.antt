@@ -8,7 +8,7 @@ use Rattle.relay_core.proofs.side.SideState.pass.Given as goal
 abbrev pub invariant-loop-before : goal.invariant-loop-before
 invariant-loop-before l = record {
   side : plain_side l.self ≡ plain_side l.fn.self;
-  some : SomeRounds (pass_round 16384 l.hold l.ended l.from_live l.to_live) (passage_of l.fn.self) (passage_of l.self);
+  some : SomeRounds (pass_round l.mark l.hold l.ended l.from_live l.to_live) (passage_of l.fn.self) (passage_of l.self);
 }
 
 abbrev pub decreases-loop-before : goal.decreases-loop-before

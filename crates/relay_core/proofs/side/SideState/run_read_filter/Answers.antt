@@ -11,7 +11,7 @@ returns-clause-passage c =
       | then-ended w ↦ w.done-is ∙ ap (λ m. n == m) w.len-then-ended.ensures.len ∙ ap (λ b. b && n == length raw) (sym w.if-ended.true)
       | else-ended w ↦ w.done-is ∙ w.if-ended.false ∙ ap (λ b. b && n == length raw) (sym w.if-ended.false)
     ] in
-    read_made 16384 c.args.ended (straight c.args.self.now) n c.if-ended.done c.last_of-self.result
+    read_made c.args.mark c.args.ended (straight c.args.self.now) n c.if-ended.done c.last_of-self.result
     c.give.new.self.items c.give.new.into.items
-    c.if-self.false (omega (arith, c.min-count.ensures, c.len.ensures.len, c.len-2.ensures.len, c.saturating_sub.ensures))
+    c.if-self.false (omega (arith, c.min-count.ensures, c.len.ensures.len, c.len-2.ensures.len, c.saturating_sub-room.ensures))
     done c.last_of-self.ensures c.give.ensures.left c.give.ensures.given

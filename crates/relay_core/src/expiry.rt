@@ -1,0 +1,273 @@
+// What time brings: the start of a turn, and for how long a poll may wait. A side that is idle for as long as one of its
+// timeouts expires. Where the settings have no timeouts, no side is looked at.
+ghost use Rattle.std.specs.Prelude.{◌≡◌, ◌^◌, ◌<◌, min, max, fold, IsTrue};
+ghost use Rattle.std.specs.List.{list_any, flat_map};
+ghost use Rattle.relay_model.specs.Plain.{side_at, change_side, all_sides};
+ghost use Rattle.relay_model.specs.Reasons.{raise, happened, timeout_flag};
+ghost use Rattle.relay_model.specs.Moments.{is_timed, active_at, both_ways, timers_taken, has_run_out, expire};
+ghost use Rattle.relay_model.specs.Turn.{turned_to};
+ghost use Rattle.relay_state.specs.State.{with_plain};
+ghost use Rattle.relay_state.specs.Rooms.{wants};
+ghost use Rattle.relay_state.specs.Time.{expiry, timed, side_timed, begun, poll_timeout};
+ghost use Rattle.relay_core.specs.Waits.{earlier, wait_until, is_expired, expiries};
+
+use crate::relay::Relay;
+use crate::side::SideState;
+use ev_types::{Side, SideId};
+use token_bucket::Dir;
+
+/// No turn's time is greater: 2^62 milliseconds.
+pub(crate) const LAST_TIME: u64 = 1 << 62;
+
+/// The lesser of two waits, of which None is for ever.
+fn earlier(a: Option<u64>, b: Option<u64>) -> Option<u64>
+    ensures { result ≡ earlier a b }
+{
+    match (a, b) {
+        (Some(x), Some(y)) => Some(x.min(y)),
+        (Some(x), None) => Some(x),
+        (None, other) => other,
+    }
+}
+
+impl SideState {
+    ghost use Rattle.std.specs.Prelude.{◌-◌};
+    ghost use Rattle.relay_model.specs.Moments.{timeout_of, last_activity};
+    ghost use Rattle.relay_core.specs.SideView.{plain_side, flow_of_side, lane_of};
+
+    fn timeout(&self, dir: Dir) -> u64
+        ensures { result ≡ timeout_of (plain_side self.now) dir }
+    {
+        match dir {
+            Dir::Read => self.timeouts.read_ms,
+            Dir::Write => self.timeouts.write_ms,
+        }
+    }
+
+    /// For how long the direction was idle.
+    fn idle_time(&self, dir: Dir, time: u64) -> u64
+        ensures { result ≡ time - last_activity (plain_side self.now) dir }
+    {
+        match dir {
+            Dir::Read => time.saturating_sub(self.last_read),
+            Dir::Write => time.saturating_sub(self.last_write),
+        }
+    }
+
+    fn be_active(&mut self, dir: Dir, time: u64)
+        ensures side { plain_side self.new ≡ active_at time dir (plain_side self.old) }
+        ensures flow { flow_of_side self.new ≡ flow_of_side self.old }
+        ensures lane { lane_of self.new ≡ lane_of self.old }
+    {
+        match dir {
+            Dir::Read => self.last_read = time,
+            Dir::Write => self.last_write = time,
+        }
+    }
+
+    /// The direction is disabled, and the side is to be freed for it.
+    fn expire(&mut self, dir: Dir)
+        ensures side { plain_side self.new ≡ expire dir (plain_side self.old) }
+        ensures flow { flow_of_side self.new ≡ flow_of_side self.old }
+        ensures lane { lane_of self.new ≡ lane_of self.old }
+    {
+        match dir {
+            Dir::Read => self.flags.reads = false,
+            Dir::Write => self.flags.writes = false,
+        }
+        self.flags.expired = true;
+    }
+}
+
+impl Relay {
+    /// Whether the side is live and has a timeout for the direction.
+    fn is_timed(&self, side: SideId, dir: Dir) -> bool
+        requires { side.link < self.now.state.plain.opened }
+        ensures { result ≡ is_timed (side_at self.now.state.plain side) dir }
+    {
+        let own = &self.sides[side.number()];
+        own.flags.live && own.timeout(dir) >= 1
+    }
+
+    fn wants(&self, side: SideId, dir: Dir) -> bool
+        requires { side.link < self.now.state.plain.opened }
+        ensures { result ≡ wants self.now.state side dir }
+    {
+        match dir {
+            Dir::Read => self.wants_read(side),
+            Dir::Write => self.wants_write(side),
+        }
+    }
+
+    /// Whether the direction was idle for as long as its timeout.
+    fn has_run_out(&self, side: SideId, dir: Dir) -> bool
+        requires { side.link < self.now.state.plain.opened }
+        ensures { result ≡ has_run_out (side_at self.now.state.plain side) dir self.now.state.plain.time }
+    {
+        let own = &self.sides[side.number()];
+        own.idle_time(dir, self.time) >= own.timeout(dir)
+    }
+
+    fn be_active(&mut self, side: SideId, dir: Dir)
+        requires { side.link < self.old.state.plain.opened }
+        ensures { self.new.state
+            ≡ with_plain (change_side side (active_at self.old.state.plain.time dir) self.old.state.plain) self.old.state }
+    {
+        let time = self.time;
+        let own = &mut self.sides[side.number()];
+        own.be_active(dir, time);
+    }
+
+    fn expire(&mut self, side: SideId, dir: Dir)
+        requires opened { side.link < self.old.state.plain.opened }
+        requires timed { IsTrue (is_timed (side_at self.old.state.plain side) dir) }
+        ensures { self.new.state ≡ with_plain (raise self.old.state.settings side (happened dir timeout_flag)
+            (change_side side (expire dir) self.old.state.plain)) self.old.state }
+    {
+        let own = &mut self.sides[side.number()];
+        own.expire(dir);
+    }
+
+    /// The time is held against one direction of a side.
+    fn look_at(&mut self, side: SideId, dir: Dir)
+        requires { side.link < self.old.state.plain.opened }
+        ensures { self.new.state ≡ timed side self.old.state dir }
+    {
+        if !self.is_timed(side, dir) {
+            return;
+        }
+        if !self.wants(side, dir) {
+            self.be_active(side, dir);
+        } else if self.has_run_out(side, dir) {
+            self.expire(side, dir);
+        }
+    }
+
+    /// The time is held against a side, its reading first.
+    fn look_at_side(&mut self, side: SideId)
+        requires { side.link < self.old.state.plain.opened }
+        ensures state { self.new.state ≡ side_timed self.old.state side }
+        ensures opened { self.new.state.plain.opened ≡ self.old.state.plain.opened }
+    {
+        self.look_at(side, Dir::Read);
+        self.look_at(side, Dir::Write);
+    }
+
+    /// The time is held against all sides, in number order.
+    fn look_at_sides(&mut self)
+        ensures { self.new.state ≡ fold side_timed self.old.state (all_sides self.old.state.plain) }
+    {
+        if !self.timed {
+            return;
+        }
+        for link in 0..self.opened {
+            let near = SideId {
+                link,
+                side: Side::In,
+            };
+            self.look_at_side(near);
+            self.look_at_side(near.peer());
+        }
+    }
+
+    /// A reading of the clock becomes the time, of one turn more.
+    fn turn_to(&mut self, reading: u64) -> u64
+        requires { self.old.state.plain.turn < 2 ^ 62 }
+        ensures time { result ≡ max self.old.state.plain.time (min reading (2 ^ 62)) }
+        ensures state { self.new.state
+            ≡ with_plain (timers_taken self.old.state.settings (turned_to result self.old.state.plain)) self.old.state }
+    {
+        self.turns += 1;
+        self.time = self.time.max(reading.min(LAST_TIME));
+        self.time
+    }
+
+    /// A turn begins. A reading of the clock becomes the time, cut at 2^62 and unless the time is greater. Answers the time.
+    /// Constant where no timeout is set, else linear in the number of links.
+    pub fn begin(&mut self, reading: u64) -> u64
+        requires turns { self.old.state.plain.turn < 2 ^ 62 }
+        ensures time { result ≡ max self.old.state.plain.time (min reading (2 ^ 62)) }
+        ensures state { self.new.state ≡ begun self.old.state result }
+    {
+        let time = self.turn_to(reading);
+        self.look_at_sides();
+        time
+    }
+
+    /// Whether a live side has expired.
+    fn any_is_expired(&self) -> bool
+        ensures { result ≡ list_any (is_expired self.now.state) (all_sides self.now.state.plain) }
+    {
+        for link in 0..self.opened {
+            let near = SideId {
+                link,
+                side: Side::In,
+            };
+            if self.is_expired(near) || self.is_expired(near.peer()) {
+                return true;
+            }
+        }
+        false
+    }
+
+    fn is_expired(&self, side: SideId) -> bool
+        requires { side.link < self.now.state.plain.opened }
+        ensures { result ≡ is_expired self.now.state side }
+    {
+        let flags = self.flags(side);
+        flags.live && flags.expired
+    }
+
+    /// For how many milliseconds more the direction may be idle, where it is wanted and has a timeout.
+    fn wait_for(&self, side: SideId, dir: Dir) -> Option<u64>
+        requires { side.link < self.now.state.plain.opened }
+        ensures { result ≡ wait_until self.now.state.plain.time (expiry self.now.state side dir) }
+    {
+        if !self.is_timed(side, dir) || !self.wants(side, dir) {
+            return None;
+        }
+        let own = &self.sides[side.number()];
+        let idle = own.idle_time(dir, self.time);
+        Some(own.timeout(dir).saturating_sub(idle))
+    }
+
+    fn wait_at(&self, side: SideId) -> Option<u64>
+        requires { side.link < self.now.state.plain.opened }
+        ensures { result ≡ wait_until self.now.state.plain.time (flat_map (expiry self.now.state side) both_ways) }
+    {
+        earlier(
+            self.wait_for(side, Dir::Read),
+            self.wait_for(side, Dir::Write),
+        )
+    }
+
+    /// The least wait of all sides.
+    fn least_wait(&self) -> Option<u64>
+        ensures { result ≡ wait_until self.now.state.plain.time (expiries self.now.state (all_sides self.now.state.plain)) }
+    {
+        let mut least = None;
+        for link in 0..self.opened {
+            let near = SideId {
+                link,
+                side: Side::In,
+            };
+            let wait = earlier(self.wait_at(near), self.wait_at(near.peer()));
+            least = earlier(least, wait);
+        }
+        least
+    }
+
+    /// For how many milliseconds a poll may wait; None is for ever. Constant where no timeout is set, else linear in the number
+    /// of links.
+    pub fn poll_timeout(&self) -> Option<u64>
+        ensures { result ≡ poll_timeout self.now.state }
+    {
+        if !self.timed {
+            return None;
+        }
+        if self.any_is_expired() {
+            return Some(0);
+        }
+        self.least_wait()
+    }
+}
