@@ -25,6 +25,7 @@ use Rattle.relay_model.specs.Causes.{HasCause, FreesHaveCauses, FaultsAreFreed}
 use Rattle.relay_model.proofs.HeldLemmas.{held}
 use Rattle.relay_model.proofs.FaultSteps.{faults}
 use Rattle.relay_model.proofs.BadSteps.{bad_place}
+use Rattle.relay_model.proofs.FirstMet.{first-met}
 use Rattle.relay_model.proofs.QuietLemmas.{there}
 use Rattle.relay_model.proofs.FaultLemmas.{is_faulty, no-fault}
 use Rattle.relay_model.proofs.KindLemmas.{ClosedKind, closed-kind, PutKind}
@@ -56,7 +57,8 @@ faulty-cause g t s z cs why r live (FaultCase.by_timeout a b) =
 faulty-cause g t s z cs why r live (FaultCase.by_filter {place = place} a b d) =
     let k = kept g t (at (Closing (CloseStep.Faulty z ∷ cs)) s) r in
     let lt = live-there s z k.counts.shape.sides live in
-    (s, record { left = cs; reached = r }, sym (k.each z lt).failed ∙ a, b, bad_place g t (Closing (CloseStep.Faulty z ∷ cs)) s r z place live d)
+    (s, record { left = cs; reached = r }, sym (k.each z lt).failed ∙ a, b, bad_place g t (Closing (CloseStep.Faulty z ∷ cs)) s r z place live d,
+    (cs, first-met g t (at (Closing (CloseStep.Faulty z ∷ cs)) s) r z lt place d))
 
 closed-cause : (g : Settings) (t : Trace) (s : Plain) (c : CloseStep) (cs : List CloseStep) (y : Entry) → Reaches g t (at (Closing (c ∷ cs)) s) → ClosedKind g (past g t) s c y →
     (e : SideId) (why : Cause) (moved given : ℕ) → y ≡ entry.Freed e why moved given → HasCause g t e why

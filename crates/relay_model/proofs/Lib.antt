@@ -63,6 +63,7 @@ pub mod CauseLemmas
 pub mod GrownLemmas
 pub mod BadSteps
 pub mod TotalLemmas
+pub mod FirstMet
 pub mod LeftLemmas
 pub mod LeftSteps
 pub mod NextLemmas

@@ -1,5 +1,5 @@
 -- Why a side is freed, told from what stands before its free and from the state in which it is freed.
-use Rattle.std.specs.Prelude.{◌≡◌, ◌⊎◌, ℕ, ◌-◌, ◌<◌, ◌≤◌, Bool, true, false, List, [], ◌∷◌, ◌++◌, take, Some, None}
+use Rattle.std.specs.Prelude.{◌≡◌, ◌⊎◌, ℕ, ◌-◌, ◌<◌, ◌≤◌, Bool, true, false, ◌&&◌, nat_lt, List, [], ◌∷◌, ◌++◌, length, take, Some, None}
 use Rattle.std.specs.List.{list_any}
 use Rattle.token_bucket.specs.declared.limit.Dir.{Dir}
 use Rattle.ev_types.specs.declared.side.SideId.{SideId}
@@ -11,16 +11,18 @@ use Rattle.ev_types.specs.declared.entry.Entry.TheVariants as entry
 use Rattle.ev_types.specs.Sides.{peer}
 use Rattle.ev_types.specs.Trace.{Event, Trace}
 use Rattle.relay_model.specs.Trace.{bytes_read, has_ended, is_write_closed}
-use Rattle.relay_model.specs.Filter.{Filter}
+use Rattle.relay_model.specs.Filter.{Filter, met}
 use Rattle.relay_model.specs.Flow.{middle}
+use Rattle.relay_model.specs.Conserved.{all_moved}
 use Rattle.relay_model.specs.Settings.{Settings}
 use Rattle.relay_model.specs.Plain.{Plain, side_at, flow_at, is_live}
 use Rattle.relay_model.specs.Past.{past}
-use Rattle.relay_model.specs.Rooms.{read_filter, write_filter, wants, output_length}
+use Rattle.relay_model.specs.Rooms.{read_filter, write_filter, read_mark, hold_mark, input_at, raw_output_at, wants, output_length}
 use Rattle.relay_model.specs.Moments.{timeout_of, last_activity}
 use Rattle.relay_model.specs.Close.{CloseStep, fault, is_complete}
-use Rattle.relay_model.specs.Stages.{Stage, at}
-use Rattle.relay_model.specs.Turn.{turned_to, Reaches, IsLegal}
+use Rattle.relay_model.specs.Stages.{Stage, State, at}
+use Rattle.relay_model.specs.Turn.{turned_to, Quietly, Reaches, IsLegal}
+use Rattle.relay_model.specs.Onward.{Leads}
 use Rattle.relay_model.specs.RatesKept.{is_turn}
 use Rattle.relay_model.specs.Told.{is_freed, has_failed, failed_by}
 
@@ -76,15 +78,47 @@ abbrev pub IsBadPlace : Settings → Trace → Plain → SideId → ℕ → Type
 IsBadPlace g t s e place =
     IsFirstBad (read_filter g s e) (bytes_read e t) (has_ended e t) place ⊎ IsFirstBad (write_filter g s e) (moved_to g t s e) (has_ended (peer e) t) place
 
+-- In a state the read filter of a side meets a place in what was read from it. Its target has room, and the next byte is bad;
+-- or no byte is left, the side has ended, and its end is bad.
+abbrev pub ReadMeets : Settings → Trace → Plain → SideId → ℕ → Type 0
+ReadMeets g t s e place =
+    let room = nat_lt (length (input_at g (past g t) s e)) (read_mark s e) in
+    met (read_filter g s e) (bytes_read e t) (flow_at s e).used (has_ended e t) room ≡ Some place
+
+-- So does its write filter in what was moved to it, while the direction isn't held. An end comes only where the peer lives, its
+-- read filter is finished and nothing waits in its input.
+abbrev pub WriteMeets : Settings → Trace → Plain → SideId → ℕ → Type 0
+WriteMeets g t s e place =
+    let d = peer e in
+    let f = flow_at s d in
+    let over = is_live s d && all_moved (read_filter g s d) (bytes_read d t) f in
+    let room = nat_lt (length (raw_output_at g (past g t) s e)) (hold_mark g s e) in
+    (f.held ≡ false) × (met (write_filter g s e) (moved_to g t s e) f.turned over room ≡ Some place)
+
+-- The place is the first that one of the two filters of a side met in time. Once, in the run that leads to a state, the side
+-- had none; behind the step that followed, its read filter or its write filter met this one, and the side kept it.
+pub record MetFirst (g : Settings) (t : Trace) (now : State) (e : SideId) (place : ℕ) : Type 0 where
+  pub early : Trace
+  pub before : State
+  pub reached : Reaches g early before
+  pub unmet : (side_at before.plain e).bad ≡ None
+  pub after : State
+  pub step : Quietly g early before.stage before.plain after
+  pub meets : ReadMeets g early after.plain e place ⊎ WriteMeets g early after.plain e place
+  pub keeps : (side_at after.plain e).bad ≡ Some place
+  pub since : Leads g early after t now
+
 -- What stands behind a cause with which a side is freed. A hook asked for it just now. Or closing found it faulty: its end
--- failed in this turn; else it timed out as the turn began; else a filter of it met a bad place. Or writing was ended
--- at both ends of the link. Or its peer was freed, and nothing is left that it might be given.
+-- failed in this turn; else it timed out as the turn began; else a filter of it met a bad place, and this is the first one
+-- that was met. Or writing was ended at both ends of the link. Or its peer was freed, and nothing is left that it might be
+-- given.
 abbrev pub HasCause : Settings → Trace → SideId → Cause → Type 0
 HasCause g t e cause.Hook = AskedFree t e
 HasCause g t e cause.Failed = (s : Plain) × LookedAt g t s e × InThisTurn (failed_by e) t
 HasCause g t e cause.Timeout = (s : Plain) × LookedAt g t s e × (has_failed e t ≡ false) × TimedOut g t e
 HasCause g t e (cause.Filter place) =
     (s : Plain) × LookedAt g t s e × (has_failed e t ≡ false) × ((side_at s e).expired ≡ false) × IsBadPlace g t s e place
+    × ((left : List CloseStep) × MetFirst g t (at (Stage.Closing (CloseStep.Faulty e ∷ left)) s) e place)
 HasCause g t e cause.Done = (is_write_closed e t ≡ true) × (is_write_closed (peer e) t ≡ true)
 HasCause g t e cause.PeerGone =
     (is_freed (peer e) t ≡ true) × ((x : Stage) × (s : Plain) × Reaches g t (at x s) × (output_length g (past g t) s e ≡ 0))
@@ -115,3 +149,8 @@ pub record NothingLeft (g : Settings) (t : Trace) (s : Plain) (e : SideId) : Typ
 -- at both ends was freed, a live side whose peer is gone has bytes that it may still be given, and each freed side's end was closed.
 abbrev pub NothingIsLeft : Type 0
 NothingIsLeft = (g : Settings) (t : Trace) (s : Plain) (e : SideId) → Reaches g t (at Stage.Between s) → e.link < s.opened → NothingLeft g t s e
+
+-- The place that a side keeps is the first that one of its two filters met.
+abbrev pub PlacesAreFirst : Type 0
+PlacesAreFirst = (g : Settings) (t : Trace) (s : State) (e : SideId) (place : ℕ) → Reaches g t s → e.link < s.plain.opened →
+    (side_at s.plain e).bad ≡ Some place → MetFirst g t s e place

@@ -26,6 +26,7 @@ pub mod Serve
 pub mod Close
 pub mod Stages
 pub mod Turn
+pub mod Onward
 pub mod Answers
 pub mod RatesKept
 pub mod Stands

@@ -1,5 +1,5 @@
 // The laws that every legal trace obeys, each on a function whose contract it is.
-ghost use Rattle.relay_model.specs.Causes.{AskedFreesAreNext, FaultsAreFreed, FreesHaveCauses, NothingIsLeft};
+ghost use Rattle.relay_model.specs.Causes.{AskedFreesAreNext, FaultsAreFreed, FreesHaveCauses, NothingIsLeft, PlacesAreFirst};
 ghost use Rattle.relay_model.specs.Quiet.{LegalIsQuiet};
 ghost use Rattle.relay_model.specs.Told.{FreesTellTotals, LinksInOrder, StateIsTold, TimeRises};
 
@@ -47,4 +47,9 @@ pub fn faults_are_freed()
 /// and each freed side's end was closed.
 pub fn nothing_is_left()
     ensures { NothingIsLeft }
+{}
+
+/// The bad place that a side keeps is the first in time that its read filter or its write filter met.
+pub fn places_are_first()
+    ensures { PlacesAreFirst }
 {}
