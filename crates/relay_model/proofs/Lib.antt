@@ -59,7 +59,9 @@ pub mod FaultLemmas
 pub mod TimeLemmas
 pub mod FaultSteps
 pub mod BadLemmas
+pub mod OrderLemmas
 pub mod CauseLemmas
+pub mod CalledLemmas
 pub mod GrownLemmas
 pub mod BadSteps
 pub mod TotalLemmas

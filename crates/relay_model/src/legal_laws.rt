@@ -1,5 +1,5 @@
 // The laws that every legal trace obeys, each on a function whose contract it is.
-ghost use Rattle.relay_model.specs.Causes.{AskedFreesAreNext, FaultsAreFreed, FreesHaveCauses, NothingIsLeft, PlacesAreFirst};
+ghost use Rattle.relay_model.specs.Causes.{AskedFreesAreNext, FaultsAreAnswered, FaultsAreFreed, FreesAreCalledFor, FreesHaveCauses, NothingIsLeft, PlacesAreFirst};
 ghost use Rattle.relay_model.specs.Quiet.{LegalIsQuiet};
 ghost use Rattle.relay_model.specs.Told.{FreesTellTotals, LinksInOrder, StateIsTold, TimeRises};
 
@@ -52,4 +52,14 @@ pub fn nothing_is_left()
 /// The bad place that a side keeps is the first in time that its read filter or its write filter met.
 pub fn places_are_first()
     ensures { PlacesAreFirst }
+{}
+
+/// Each free is put from a state that calls for it with that cause.
+pub fn frees_are_called_for()
+    ensures { FreesAreCalledFor }
+{}
+
+/// Where closing looks at a live side for its fault, the free with the cause that its faults call for is what follows.
+pub fn faults_are_answered()
+    ensures { FaultsAreAnswered }
 {}
