@@ -165,7 +165,7 @@ flow-same : (s : Plain) (e : SideId) (x : Flow) → length s.flows ≡ 2 * s.ope
 flow-same s e x size lt = get_or-set_same s.flows (number e) x no_flow (omega (arith, size, number-lt e s.opened lt))
 
 -- What the side of a filter has met by a step that keeps another place than before.
-abbrev Meets : Settings → Trace → Plain → SideId → ℕ → Type 0
+abbrev pub Meets : Settings → Trace → Plain → SideId → ℕ → Type 0
 Meets g t s e place = ReadMeets g t s e place ⊎ WriteMeets g t s e place
 
 -- The same flow and marks tell the same of the read filter.
@@ -308,9 +308,9 @@ part-old g t s e Part.Drain z p was = meets-old (turned_ran-of) (peer e) _ z p w
     turned_ran-of = put_flow e (with_turned (read_filter g s e) (write_filter g s (peer e)) (bytes_read e t) (hold_mark g s (peer e)) (flow_at s e)) s
 
 -- what a silent step makes a side keep is met behind it
-record StepMeets (g : Settings) (t : Trace) (s : Plain) (new : Plain) : Type 0 where
-  old : (z : SideId) (p : ℕ) → (side_at s z).bad ≡ Some p → (side_at new z).bad ≡ Some p
-  now : (z : SideId) → z.link < s.opened → (p : ℕ) → (side_at s z).bad ≡ None → (side_at new z).bad ≡ Some p → Meets g t new z p
+pub record StepMeets (g : Settings) (t : Trace) (s : Plain) (new : Plain) : Type 0 where
+  pub old : (z : SideId) (p : ℕ) → (side_at s z).bad ≡ Some p → (side_at new z).bad ≡ Some p
+  pub now : (z : SideId) → z.link < s.opened → (p : ℕ) → (side_at s z).bad ≡ None → (side_at new z).bad ≡ Some p → Meets g t new z p
 
 same-meets : (g : Settings) (t : Trace) (s new : Plain) → new.sides ≡ s.sides → StepMeets g t s new
 same-meets g t s new same = record {
@@ -318,7 +318,7 @@ same-meets g t s new same = record {
   now = λ z lt p none h. absurd (let k = ap (λ l. (side_at (record s { sides = l }) z).bad) same in cc);
 }
 
-quiet-meets : (g : Settings) (t : Trace) (s : Plain) (x : Stage) (new : State) → Kept g t x s → PartsLive x s → QuietKind g t s x new → StepMeets g t s new.plain
+pub quiet-meets : (g : Settings) (t : Trace) (s : Plain) (x : Stage) (new : State) → Kept g t x s → PartsLive x s → QuietKind g t s x new → StepMeets g t s new.plain
 quiet-meets g t s x new k parts (QuietKind.moved next a) = same-meets g t s s refl
 quiet-meets g t s x new k parts (QuietKind.filtered {e = e}) =
     let ran : Plain = read_run g (past g t) e false s in

@@ -62,6 +62,7 @@ pub mod BadLemmas
 pub mod OrderLemmas
 pub mod CauseLemmas
 pub mod CalledLemmas
+pub mod OnwardLemmas
 pub mod GrownLemmas
 pub mod BadSteps
 pub mod TotalLemmas

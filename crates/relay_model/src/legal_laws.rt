@@ -1,5 +1,5 @@
 // The laws that every legal trace obeys, each on a function whose contract it is.
-ghost use Rattle.relay_model.specs.Causes.{AskedFreesAreNext, FaultsAreAnswered, FaultsAreFreed, FreesAreCalledFor, FreesHaveCauses, NothingIsLeft, PlacesAreFirst};
+ghost use Rattle.relay_model.specs.Causes.{AskedFreesAreNext, FaultsAreAnswered, FaultsAreFreed, FaultyAreFreed, FreesAreCalledFor, FreesHaveCauses, NothingIsLeft, PlacesAreFirst};
 ghost use Rattle.relay_model.specs.Quiet.{LegalIsQuiet};
 ghost use Rattle.relay_model.specs.Told.{FreesTellTotals, LinksInOrder, StateIsTold, TimeRises};
 
@@ -62,4 +62,9 @@ pub fn frees_are_called_for()
 /// Where closing looks at a live side for its fault, the free with the cause that its faults call for is what follows.
 pub fn faults_are_answered()
     ensures { FaultsAreAnswered }
+{}
+
+/// A live side with a fault is freed before its turn is over.
+pub fn faulty_are_freed()
+    ensures { FaultyAreFreed }
 {}
