@@ -78,3 +78,5 @@ pub mod FilterFitLemmas
 mod QuietExamples
 pub mod AccountedLemmas
 pub mod PollLemmas
+pub mod FlowLemmas
+pub mod FitsLemmas

@@ -44,4 +44,5 @@ pub mod Told
 pub mod Hooked
 pub mod Quiet
 pub mod Causes
+pub mod Fitting
 pub mod StepLaws

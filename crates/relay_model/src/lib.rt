@@ -2,6 +2,7 @@
 //! in `specs/`, in the order in which `specs/Lib.antt` names them; the laws that they obey stand on the functions here.
 #![tactic(auto)]
 
+mod buffer_laws;
 mod filter_laws;
 mod laws;
 mod legal_laws;
@@ -28,3 +29,4 @@ pub use played_laws::{
 };
 pub use step_laws::{entries_keep_accounts, nothing_is_accounted, silent_steps_keep_accounts};
 pub use turn_laws::{beginnings_are_legal, limits_are_kept, trace_tells_rates, trace_tells_shape};
+pub use buffer_laws::{counts_fit};
