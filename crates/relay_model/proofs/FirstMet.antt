@@ -141,7 +141,7 @@ meets-new s e place z p none now = go (put-cases e z x s)
         (same.0, ap (λ o. or_else o place) (sym was) ∙ sym (ap (λ v. v.bad) same.1) ∙ now)
 
 -- a side that kept a place keeps it
-meets-old : (s : Plain) (e : SideId) (place : Option ℕ) (z : SideId) (p : ℕ) → (side_at s z).bad ≡ Some p → (side_at (meets e place s) z).bad ≡ Some p
+pub meets-old : (s : Plain) (e : SideId) (place : Option ℕ) (z : SideId) (p : ℕ) → (side_at s z).bad ≡ Some p → (side_at (meets e place s) z).bad ≡ Some p
 meets-old s e place z p was = go (put-cases e z x s)
   where
     x : PlainSide
@@ -154,14 +154,14 @@ meets-old s e place z p was = go (put-cases e z x s)
         ap (λ v. v.bad) same.1 ∙ ap (λ o. or_else o place) old
 
 -- the marks and the life of sides stay
-meets-marks : (s : Plain) (e : SideId) (place : Option ℕ) (z : SideId) → (side_at (meets e place s) z).marks ≡ (side_at s z).marks
+pub meets-marks : (s : Plain) (e : SideId) (place : Option ℕ) (z : SideId) → (side_at (meets e place s) z).marks ≡ (side_at s z).marks
 meets-marks s e place z = set-seen (λ v. v.marks) s.sides (number e) (record (side_at s e) { bad = or_else (side_at s e).bad place }) _ refl (number z)
 
-meets-live : (s : Plain) (e : SideId) (place : Option ℕ) (z : SideId) → is_live (meets e place s) z ≡ is_live s z
+pub meets-live : (s : Plain) (e : SideId) (place : Option ℕ) (z : SideId) → is_live (meets e place s) z ≡ is_live s z
 meets-live s e place z = set-seen (λ v. v.live) s.sides (number e) (record (side_at s e) { bad = or_else (side_at s e).bad place }) _ refl (number z)
 
 -- the direction that was changed
-flow-same : (s : Plain) (e : SideId) (x : Flow) → length s.flows ≡ 2 * s.opened → e.link < s.opened → flow_at (put_flow e x s) e ≡ x
+pub flow-same : (s : Plain) (e : SideId) (x : Flow) → length s.flows ≡ 2 * s.opened → e.link < s.opened → flow_at (put_flow e x s) e ≡ x
 flow-same s e x size lt = get_or-set_same s.flows (number e) x no_flow (omega (arith, size, number-lt e s.opened lt))
 
 -- What the side of a filter has met by a step that keeps another place than before.
@@ -291,7 +291,7 @@ part-meets g t s e Part.Move size ended needs z lt p none now = absurd (cc)
 part-meets g t s e Part.Write size ended needs z lt p none now = write-part g t s e size needs z lt p none now
 part-meets g t s e Part.Drain size ended needs z lt p none now = drain-part g t s e size z lt p none now
 
-part-old : (g : Settings) (t : Trace) (s : Plain) (e : SideId) (x : Part) (z : SideId) (p : ℕ) → (side_at s z).bad ≡ Some p → (side_at (do_part g (past g t) e x s) z).bad ≡ Some p
+pub part-old : (g : Settings) (t : Trace) (s : Plain) (e : SideId) (x : Part) (z : SideId) (p : ℕ) → (side_at s z).bad ≡ Some p → (side_at (do_part g (past g t) e x s) z).bad ≡ Some p
 part-old g t s e Part.Hold z p was = was
 part-old g t s e Part.Read z p was = meets-old (used_ran-of) e _ z p was
   where

@@ -80,3 +80,4 @@ pub mod AccountedLemmas
 pub mod PollLemmas
 pub mod FlowLemmas
 pub mod FitsLemmas
+pub mod PassedLemmas

@@ -45,4 +45,5 @@ pub mod Hooked
 pub mod Quiet
 pub mod Causes
 pub mod Fitting
+pub mod Passed
 pub mod StepLaws

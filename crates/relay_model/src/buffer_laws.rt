@@ -1,7 +1,14 @@
 // Laws on what the four buffers of a direction hold, each on a function whose contract it is.
 ghost use Rattle.relay_model.specs.Fitting.{CountsFit};
+ghost use Rattle.relay_model.specs.Passed.{AllIsPassed};
 
 /// In every state that a trace leads to, no count of a direction passes what is there for it.
 pub fn counts_fit()
     ensures { CountsFit }
+{}
+
+/// Between two turns, a direction between live sides that isn't held has its first three buffers empty, and a held one has
+/// more than half of the hold mark in its raw output.
+pub fn all_is_passed()
+    ensures { AllIsPassed }
 {}
