@@ -81,3 +81,4 @@ pub mod PollLemmas
 pub mod FlowLemmas
 pub mod FitsLemmas
 pub mod PassedLemmas
+pub mod BoundLemmas
