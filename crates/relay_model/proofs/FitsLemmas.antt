@@ -48,7 +48,7 @@ accounts r w e read ended f h = record {
 abbrev pub Fit : Settings → Trace → SideId → Flow → Type 0
 Fit g t e f = Fits (filter_of (read_kind g e.side)) (filter_of (write_kind g (peer e).side)) (bytes_read e t) (has_ended e t) f
 
-abbrev AllFits : Settings → Trace → Plain → Type 0
+abbrev pub AllFits : Settings → Trace → Plain → Type 0
 AllFits g t s = (z : SideId) → Fit g t z (flow_at s z)
 
 -- Silent steps
@@ -81,12 +81,12 @@ module _ (g : Settings) (t : Trace) (e : SideId) where
         (subst (λ v. Fit g t v (change (flow_at s v))) (sym (number-eq z e changed.0)) (keeps (h e)))
   ]
 
-  read_run-fits : (s : Plain) (ended : Bool) → AllFits g t s → AllFits g t (read_run g (past g t) e ended s)
+  pub read_run-fits : (s : Plain) (ended : Bool) → AllFits g t s → AllFits g t (read_run g (past g t) e ended s)
   read_run-fits s ended h =
       change-fits (with_used (read_filter g s e) (bytes_read e t) (read_mark s e)) s
       (λ k. (used-keeps r w [] e _ _ _ (flow_at s e) (acc (flow_at s e) k) law_r (read_mark s e)).fits) h
 
-  write_run-fits : (s : Plain) (may_end : Bool) → AllFits g t s → AllFits g t (write_run g (past g t) e may_end s)
+  pub write_run-fits : (s : Plain) (may_end : Bool) → AllFits g t s → AllFits g t (write_run g (past g t) e may_end s)
   write_run-fits s may_end h =
       change-fits (with_turned (read_filter g s e) (write_filter g s (peer e)) (bytes_read e t) (hold_mark g s (peer e))) s
       (λ k. (turned-keeps r w [] e _ _ _ (flow_at s e) (acc (flow_at s e) k) law_w (hold_mark g s (peer e))).fits) h
@@ -138,7 +138,7 @@ told g t y e f xs b p q h =
     subst (λ v. Fits (filter_of (read_kind g e.side)) (filter_of (write_kind g (peer e).side)) v (has_ended e (t ++ y ∷ [])) f) (sym p)
     (subst (λ v. Fits (filter_of (read_kind g e.side)) (filter_of (write_kind g (peer e).side)) xs v f) (sym q) h)
 
-read-fits : (g : Settings) (t : Trace) (s : Plain) (y : Event) (e : SideId) (f : Flow) → (side_at s e).ended ≡ has_ended e t → ReadCase s e y →
+pub read-fits : (g : Settings) (t : Trace) (s : Plain) (y : Event) (e : SideId) (f : Flow) → (side_at s e).ended ≡ has_ended e t → ReadCase s e y →
     Fit g t e f → Fit g (t ++ y ∷ []) e f
 read-fits g t s y e f ended (ReadCase.none a b) h =
     told g t y e f (bytes_read e t) (has_ended e t)

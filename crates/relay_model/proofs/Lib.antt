@@ -82,3 +82,5 @@ pub mod FlowLemmas
 pub mod FitsLemmas
 pub mod PassedLemmas
 pub mod BoundLemmas
+pub mod HooklessLemmas
+pub mod BoundSteps

@@ -46,4 +46,5 @@ pub mod Quiet
 pub mod Causes
 pub mod Fitting
 pub mod Passed
+pub mod Bounds
 pub mod StepLaws

@@ -1,4 +1,5 @@
 // Laws on what the four buffers of a direction hold, each on a function whose contract it is.
+ghost use Rattle.relay_model.specs.Bounds.{BuffersAreWithin};
 ghost use Rattle.relay_model.specs.Fitting.{CountsFit};
 ghost use Rattle.relay_model.specs.Passed.{AllIsPassed};
 
@@ -11,4 +12,10 @@ pub fn counts_fit()
 /// more than half of the hold mark in its raw output.
 pub fn all_is_passed()
     ensures { AllIsPassed }
+{}
+
+/// With no hooks, each of the four buffers of a direction stays within its mark, and one byte or none more, in every state
+/// that a trace leads to; and so do all four together.
+pub fn buffers_are_within()
+    ensures { BuffersAreWithin }
 {}
