@@ -84,3 +84,4 @@ pub mod PassedLemmas
 pub mod BoundLemmas
 pub mod HooklessLemmas
 pub mod BoundSteps
+pub mod StillLemmas

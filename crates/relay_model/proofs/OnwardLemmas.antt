@@ -35,12 +35,12 @@ reaches-on g t s r u new (Leads.goes {mid = mid} l q) = Reaches.goes {s = mid} (
 reaches-on g t s r u new (Leads.puts {u = v} {mid = mid} e bytes l p) = Reaches.puts {s = mid} e bytes (reaches-on g t s r v mid l) p
 
 -- links stay opened
-effect-more : (n m : ℕ) (b : Bool) (k : ℕ) → m ≡ (n + (if b then 1 else 0)) → k < n → k < m
+pub effect-more : (n m : ℕ) (b : Bool) (k : ℕ) → m ≡ (n + (if b then 1 else 0)) → k < n → k < m
 effect-more n m true k h lt = omega arith
 effect-more n m false k h lt = omega arith
 
 -- A side that is freed stays so
-dead-stays : (e : SideId) (y : Event) (after : Stage) (old new : Seen) → SideEffect e y after old new → old.live ≡ false → new.live ≡ false
+pub dead-stays : (e : SideId) (y : Event) (after : Stage) (old new : Seen) → SideEffect e y after old new → old.live ≡ false → new.live ≡ false
 dead-stays e y after old new k h = k.live ∙ ap (λ b. b && not (freed_by e y || is_freeing after e)) h
 
 -- A faulty side is freed, or stays faulty.

@@ -231,7 +231,7 @@ Settled g t Between s = AllWere g t s
 Settled g t _ s = ⊤
 
 -- a part of a round leaves the directions of other sides
-part-other : (g : Settings) (p : Past) (s : Plain) (e : SideId) (x : Part) (z : SideId) → same_end z e ≡ false → flow_at (do_part g p e x s) z ≡ flow_at s z
+pub part-other : (g : Settings) (p : Past) (s : Plain) (e : SideId) (x : Part) (z : SideId) → same_end z e ≡ false → flow_at (do_part g p e x s) z ≡ flow_at s z
 part-other g p s e Part.Hold z h = get_or-set_other s.flows (number e) (number z) _ no_flow (number-apart z e h)
 part-other g p s e Part.Read z h =
     get_or-set_other (read_run g p e (side_at s e).ended s).flows (number e) (number z) _ no_flow (number-apart z e h)

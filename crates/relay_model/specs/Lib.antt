@@ -47,4 +47,5 @@ pub mod Causes
 pub mod Fitting
 pub mod Passed
 pub mod Bounds
+pub mod Still
 pub mod StepLaws

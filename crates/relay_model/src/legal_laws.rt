@@ -1,6 +1,7 @@
 // The laws that every legal trace obeys, each on a function whose contract it is.
 ghost use Rattle.relay_model.specs.Causes.{AskedFreesAreNext, FaultsAreAnswered, FaultsAreFreed, FaultyAreFreed, FreesAreCalledFor, FreesHaveCauses, NothingIsLeft, PlacesAreFirst};
 ghost use Rattle.relay_model.specs.Quiet.{LegalIsQuiet};
+ghost use Rattle.relay_model.specs.Still.{FreedStandStill, FreedStoodStill};
 ghost use Rattle.relay_model.specs.Told.{FreesTellTotals, LinksInOrder, StateIsTold, TimeRises};
 
 /// The counts of the plain state, and what it says of each side, are what the trace says that leads to it.
@@ -67,4 +68,15 @@ pub fn faults_are_answered()
 /// A live side with a fault is freed before its turn is over.
 pub fn faulty_are_freed()
     ensures { FaultyAreFreed }
+{}
+
+/// From a state behind the free of a side on, what was moved from it and whether its direction's filters are finished stay.
+pub fn freed_stand_still()
+    ensures { FreedStandStill }
+{}
+
+/// Whatever state a trace leads to, behind each free on the way they were what they are in it, and the free told how many
+/// bytes were moved.
+pub fn freed_stood_still()
+    ensures { FreedStoodStill }
 {}
