@@ -254,7 +254,7 @@ write-due g none p side write.Failed s =
     ap (λ z. z.due) (raise-none g none side (happened dir.Write error_flag) (change_side side (λ x. record x { failed = true; writes = false }) s))
 write-due g none p side write.NoMemory s = refl
 
-opened-by : (s new : Plain) (y : Event) → new.opened ≡ (s.opened + (if is_opened y then 1 else 0)) → is_opened y ≡ false → new.opened ≡ s.opened
+pub opened-by : (s new : Plain) (y : Event) → new.opened ≡ (s.opened + (if is_opened y then 1 else 0)) → is_opened y ≡ false → new.opened ≡ s.opened
 opened-by s new y h k = h ∙ ap (λ b. s.opened + (if b then 1 else 0)) k ∙ (let a : s.opened + 0 ≡ s.opened = omega arith in a)
 
 put-asleep : (g : Settings) (none : HasNoHooks g) (t : Trace) (x : Stage) (s : Plain) (y : Entry) (bytes : List ℕ) (new : State) →

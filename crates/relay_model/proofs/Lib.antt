@@ -85,3 +85,4 @@ pub mod BoundLemmas
 pub mod HooklessLemmas
 pub mod BoundSteps
 pub mod StillLemmas
+pub mod MarkLemmas

@@ -1,14 +1,15 @@
 -- How many bytes a direction may hold.
-use Rattle.std.specs.Prelude.{ℕ, ◌+◌, ◌*◌, ◌<◌, ◌≤◌, List, length}
+use Rattle.std.specs.Prelude.{ℕ, ◌+◌, ◌*◌, ◌<◌, ◌≤◌, max, List, length}
 use Rattle.ev_types.specs.declared.side.SideId.{SideId}
 use Rattle.ev_types.specs.Sides.{peer}
 use Rattle.ev_types.specs.Trace.{Trace}
 use Rattle.relay_model.specs.Trace.{bytes_read}
 use Rattle.relay_model.specs.Filter.{Filter}
 use Rattle.relay_model.specs.Flow.{Flow, raw_input, input, output, raw_output}
-use Rattle.relay_model.specs.Settings.{Settings, HasNoHooks}
+use Rattle.relay_model.specs.Settings.{Settings, HasNoHooks, marks_set}
 use Rattle.relay_model.specs.Plain.{Plain, flow_at}
-use Rattle.relay_model.specs.Rooms.{read_filter, write_filter, read_mark, hold_mark}
+use Rattle.relay_model.specs.Rooms.{read_filter, write_filter, mark_or, most_at_once, read_mark, hold_mark}
+use Rattle.relay_model.specs.Asks.{most_mark}
 use Rattle.relay_model.specs.Stages.{State}
 use Rattle.relay_model.specs.Turn.{Reaches}
 
@@ -31,3 +32,15 @@ DirectionWithin g t s e mark hold = BuffersWithin (read_filter g s e) (write_fil
 abbrev pub BuffersAreWithin : Type 0
 BuffersAreWithin = (g : Settings) (t : Trace) (s : State) (e : SideId) → HasNoHooks g → Reaches g t s → e.link < s.plain.opened →
     DirectionWithin g t s.plain e (read_mark s.plain e) (hold_mark g s.plain (peer e))
+
+-- the greatest marks that a side can come to have, whatever hooks ask
+abbrev pub most_read_mark : Settings → SideId → ℕ
+most_read_mark g e = max (mark_or (marks_set g e.side).read_high most_at_once) most_mark
+
+abbrev pub most_hold_mark : Settings → SideId → ℕ
+most_hold_mark g e = max (max (mark_or (marks_set g e.side).write_high g.hold) g.hold) most_mark
+
+-- Whatever hooks ask, the buffers are within the greatest marks that there can be.
+abbrev pub BuffersStayWithin : Type 0
+BuffersStayWithin = (g : Settings) (t : Trace) (s : State) (e : SideId) → Reaches g t s → e.link < s.plain.opened →
+    DirectionWithin g t s.plain e (most_read_mark g e) (most_hold_mark g (peer e))

@@ -1,5 +1,5 @@
 // Laws on what the four buffers of a direction hold, each on a function whose contract it is.
-ghost use Rattle.relay_model.specs.Bounds.{BuffersAreWithin};
+ghost use Rattle.relay_model.specs.Bounds.{BuffersAreWithin, BuffersStayWithin};
 ghost use Rattle.relay_model.specs.Fitting.{CountsFit};
 ghost use Rattle.relay_model.specs.Passed.{AllIsPassed};
 
@@ -18,4 +18,9 @@ pub fn all_is_passed()
 /// that a trace leads to; and so do all four together.
 pub fn buffers_are_within()
     ensures { BuffersAreWithin }
+{}
+
+/// Whatever hooks ask, the buffers stay within the greatest marks that a side can come to have.
+pub fn buffers_stay_within()
+    ensures { BuffersStayWithin }
 {}

@@ -30,4 +30,4 @@ pub use played_laws::{
 };
 pub use step_laws::{entries_keep_accounts, nothing_is_accounted, silent_steps_keep_accounts};
 pub use turn_laws::{beginnings_are_legal, limits_are_kept, trace_tells_rates, trace_tells_shape};
-pub use buffer_laws::{all_is_passed, buffers_are_within, counts_fit};
+pub use buffer_laws::{all_is_passed, buffers_are_within, buffers_stay_within, counts_fit};
