@@ -1,14 +1,14 @@
 -- How many bytes a direction may hold, by induction over the steps.
-use Rattle.std.proofs.Common.{◌≡◌, ℕ, ◌+◌, ◌*◌, ◌-◌, ◌<◌, ◌≤◌, Bool, true, false, ◌==◌, ◌||◌, if◌then◌else◌, List, [], ◌∷◌, ◌++◌, length, take, ◌⊎◌, inl, inr, refl, sym, ◌∙◌, ap, subst, arith, slice_index_or, append-nil}
+use Rattle.std.proofs.Common.{◌≡◌, ℕ, ◌+◌, ◌*◌, ◌<◌, ◌≤◌, Bool, true, false, if◌then◌else◌, List, [], ◌∷◌, ◌++◌, length, take, ◌⊎◌, inl, inr, refl, sym, ◌∙◌, ap, subst, arith, slice_index_or, append-nil}
 use Rattle.std.specs.List.{list_any}
-use Rattle.std.proofs.lemmas.Bool.{cases_lt, or_parts, and_parts}
+use Rattle.std.proofs.lemmas.Bool.{cases_lt, or_parts}
 use Rattle.std.proofs.lemmas.List.{get_or_past, length-drop, length-take-le}
 use Rattle.ev_types.specs.declared.side.SideId.{SideId}
 use Rattle.ev_types.specs.declared.answer.ReadAnswer.{ReadAnswer}
 use Rattle.ev_types.specs.declared.answer.ReadAnswer.TheVariants as read
 use Rattle.ev_types.specs.declared.entry.Entry.{Entry}
 use Rattle.ev_types.specs.declared.entry.Entry.TheVariants as entry
-use Rattle.ev_types.specs.Sides.{peer, number, same_end}
+use Rattle.ev_types.specs.Sides.{peer, number}
 use Rattle.ev_types.specs.Trace.{Event, Trace}
 use Rattle.relay_model.specs.Trace.{read_by, bytes_read, has_ended}
 use Rattle.relay_model.specs.Settings.{Settings, Marks, HasNoHooks, marks_set}
@@ -16,11 +16,11 @@ use Rattle.relay_model.specs.Filter.{Filter, filter_of}
 use Rattle.relay_model.specs.Flow.{Flow, Fits, no_flow, middle, raw_input, input, output, outcome, raw_output}
 use Rattle.relay_model.specs.Plain.{Plain, side_at, flow_at, change_flow, is_live}
 use Rattle.relay_model.specs.Past.{past}
-use Rattle.relay_model.specs.Rooms.{read_kind, write_kind, read_filter, write_filter, mark_or, read_mark, hold_mark, read_room, may_read}
+use Rattle.relay_model.specs.Rooms.{read_kind, write_kind, read_filter, write_filter, mark_or, read_mark, hold_mark, read_room}
 use Rattle.relay_model.specs.Pass.{with_held, with_used, with_read_done, with_moved, with_turned, with_write_done}
 use Rattle.relay_model.specs.Round.{Part, do_part, read_run, write_run}
 use Rattle.relay_model.specs.Close.{CloseStep}
-use Rattle.relay_model.specs.Stages.{Stage, State, Between, Polling, Wanting, Marking, Accepting, Serving, Dispatching, Firing, Freeing, Closing}
+use Rattle.relay_model.specs.Stages.{Stage, State, Wanting, Marking, Serving, Dispatching, Freeing, Closing}
 use Rattle.relay_model.specs.Turn.{Puts, Reaches}
 use Rattle.relay_model.specs.Told.{names}
 use Rattle.relay_model.specs.Bounds.{BuffersWithin, DirectionWithin, BuffersAreWithin}

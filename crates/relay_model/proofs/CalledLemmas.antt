@@ -1,7 +1,7 @@
 -- Each free is put from a state that calls for it, and a faulty side is freed.
-use Rattle.std.proofs.Common.{◌≡◌, ℕ, ◌<◌, ◌≤◌, Bool, true, false, ◌||◌, not, if◌then◌else◌, List, [], ◌∷◌, ◌++◌, Option, Some, None, ◌⊎◌, inl, inr, refl, sym, ◌∙◌, ap, subst, arith}
-use Rattle.std.specs.Prelude.{option_map, is_some}
-use Rattle.std.proofs.lemmas.Bool.{not-true, or_parts, or_left, or_right, cases_lt}
+use Rattle.std.proofs.Common.{◌≡◌, ℕ, true, if◌then◌else◌, List, ◌∷◌, Some, None, refl, sym, ◌∙◌, ap, subst}
+use Rattle.std.specs.Prelude.{option_map}
+use Rattle.std.proofs.lemmas.Bool.{not-true}
 use Rattle.ev_types.specs.declared.side.Side.TheVariants.{In, Out}
 use Rattle.ev_types.specs.declared.side.SideId.{SideId}
 use Rattle.ev_types.specs.declared.why.Cause.{Cause}
@@ -11,20 +11,18 @@ use Rattle.ev_types.specs.declared.entry.Entry.TheVariants as entry
 use Rattle.ev_types.specs.Sides.{peer}
 use Rattle.ev_types.specs.Trace.{Event, Trace}
 use Rattle.relay_model.specs.Settings.{Settings}
-use Rattle.relay_model.specs.Plain.{Plain, PlainSide, side_at, is_live, freed}
+use Rattle.relay_model.specs.Plain.{Plain, side_at, is_live}
 use Rattle.relay_model.specs.Past.{past}
-use Rattle.relay_model.specs.Close.{CloseStep, fault, freed_entry, closing_entry, closed_by, steps_left}
-use Rattle.relay_model.specs.Stages.{Stage, State, at, Between, Freeing, Closing}
-use Rattle.relay_model.specs.Turn.{Reaches, Puts, Quietly}
-use Rattle.relay_model.specs.Onward.{Leads}
-use Rattle.relay_model.specs.Told.{is_freed}
-use Rattle.relay_model.specs.Causes.{IsCalledFor, PutFor, FreesAreCalledFor, FaultAnswered, FaultsAreAnswered, FaultyAreFreed}
+use Rattle.relay_model.specs.Close.{CloseStep, fault, freed_entry, closing_entry}
+use Rattle.relay_model.specs.Stages.{Stage, State, at, Freeing, Closing}
+use Rattle.relay_model.specs.Turn.{Reaches}
+use Rattle.relay_model.specs.Causes.{IsCalledFor, FreesAreCalledFor, FaultsAreAnswered}
 use Rattle.relay_model.proofs.PlacedLemmas.{live-there}
 use Rattle.relay_model.proofs.ToldLemmas.{kept}
 use Rattle.relay_model.proofs.HeldLemmas.{held}
 use Rattle.relay_model.proofs.KindLemmas.{ClosedKind, closed-kind, PutKind, put-kind}
 use Rattle.relay_model.proofs.SplitLemmas.{reaches_split}
-use Rattle.relay_model.proofs.CauseLemmas.{FaultCase, fault-case, faults_are_freed}
+use Rattle.relay_model.proofs.CauseLemmas.{FaultCase, fault-case}
 use Rattle.relay_model.proofs.OrderLemmas.{ordered, faultless}
 
 -- Each free is called for

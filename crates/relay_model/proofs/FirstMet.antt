@@ -1,12 +1,11 @@
 -- The place that a side keeps is the first that one of its filters met, by induction over the steps.
 use Rattle.std.proofs.Common.{◌≡◌, ℕ, ◌+◌, ◌*◌, ◌<◌, ◌≤◌, Bool, true, false, ◌&&◌, ◌||◌, ◌==◌, not, if◌then◌else◌, List, [], ◌∷◌, ◌++◌, length, take, Option, Some, None, is_none, ◌⊎◌, inl, inr, refl, sym, ◌∙◌, ap, subst, arith, eqb-true}
 use Rattle.std.specs.Prelude.{nat_lt}
-use Rattle.std.proofs.lemmas.Bool.{and_parts, cases_lt, ltb-true, ltb-false}
-use Rattle.std.proofs.lemmas.List.{get_or-set_same, length-set, length-take-le, take_all}
+use Rattle.std.proofs.lemmas.Bool.{and_parts, cases_lt, ltb-true}
+use Rattle.std.proofs.lemmas.List.{get_or-set_same, length-set, take_all}
 use Rattle.ev_types.specs.declared.side.SideId.{SideId}
-use Rattle.ev_types.specs.declared.entry.Entry.{Entry}
 use Rattle.ev_types.specs.Sides.{peer, number}
-use Rattle.ev_types.specs.Trace.{Event, Trace}
+use Rattle.ev_types.specs.Trace.{Trace}
 use Rattle.relay_model.specs.Trace.{bytes_read, has_ended}
 use Rattle.relay_model.specs.Settings.{Settings}
 use Rattle.relay_model.specs.Filter.{Filter, met, or_else, holds}
@@ -15,12 +14,12 @@ use Rattle.relay_model.specs.Conserved.{all_moved}
 use Rattle.relay_model.specs.Plain.{Plain, PlainSide, side_at, flow_at, put_flow, put_side, is_live}
 use Rattle.relay_model.specs.Past.{past}
 use Rattle.relay_model.specs.Rooms.{read_filter, write_filter, read_mark, hold_mark}
-use Rattle.relay_model.specs.Pass.{first_from, is_over, with_used, read_place, with_read_done, write_stops, with_turned, write_place, with_write_done}
+use Rattle.relay_model.specs.Pass.{is_over, with_used, read_place, with_read_done, with_turned, write_place, with_write_done}
 use Rattle.relay_model.specs.Round.{Part, do_part, meets, read_run, write_run}
-use Rattle.relay_model.specs.Stages.{Stage, State, at}
-use Rattle.relay_model.specs.Turn.{Reaches, Quietly, Puts}
+use Rattle.relay_model.specs.Stages.{Stage, State}
+use Rattle.relay_model.specs.Turn.{Reaches}
 use Rattle.relay_model.specs.Onward.{Leads}
-use Rattle.relay_model.specs.Causes.{moved_to, ReadMeets, WriteMeets, MetFirst, PlacesAreFirst}
+use Rattle.relay_model.specs.Causes.{ReadMeets, WriteMeets, MetFirst, PlacesAreFirst}
 use Rattle.relay_model.proofs.EndLemmas.{number-lt, peer-peer}
 use Rattle.relay_model.proofs.KeepsLemmas.{raised_read}
 use Rattle.relay_model.proofs.EffectLemmas.{Effect}
@@ -209,8 +208,8 @@ write-meets g t s new e may_end f p flow marks live h = subst (λ d. At d) (sym 
     here = (
       ap (λ (v : Flow). v.held) flow ∙ k.open_still,
       ap (λ (v : Flow). met w (take v.moved (middle r xs v)) v.turned (is_live new e && all_moved r xs v) (nat_lt (length (raw_output r w xs v)) (hold_mark g new (peer e)))) flow
-      ∙ ap (λ m. met w (take f.moved (middle r xs f)) f.turned (is_live new e && all_moved r xs f) (nat_lt (length (raw_output r w xs f)) (if m.write_high == 0 then g.hold else m.write_high))) marks
-      ∙ met-more w (take f.moved (middle r xs f)) f.turned (may_end && all_moved r xs f) (is_live new e && all_moved r xs f) _ p (more may_end (all_moved r xs f) (is_live new e) live) k.is,
+          ∙ ap (λ m. met w (take f.moved (middle r xs f)) f.turned (is_live new e && all_moved r xs f) (nat_lt (length (raw_output r w xs f)) (if m.write_high == 0 then g.hold else m.write_high))) marks
+          ∙ met-more w (take f.moved (middle r xs f)) f.turned (may_end && all_moved r xs f) (is_live new e && all_moved r xs f) _ p (more may_end (all_moved r xs f) (is_live new e) live) k.is,
     )
 
 module _ (g : Settings) (t : Trace) (s : Plain) (e : SideId) (size : length s.flows ≡ 2 * s.opened) where
@@ -377,7 +376,7 @@ first-met g t new (Reaches.goes {t = u} {s = old} reached h) e lt place now = go
           step = f.step;
           meets = f.meets;
           keeps = f.keeps;
-              since = Leads.goes {mid = old} f.since h;
+          since = Leads.goes {mid = old} f.since h;
         }
       where
         some-same : {a b : ℕ} → Some a ≡ Some b → a ≡ b
@@ -404,7 +403,7 @@ first-met g t new (Reaches.puts {t = u} {s = old} y bytes reached h) e lt place 
           step = f.step;
           meets = f.meets;
           keeps = f.keeps;
-              since = Leads.puts {mid = old} y bytes f.since h;
+          since = Leads.puts {mid = old} y bytes f.since h;
         }
 
 pub places_are_first : PlacesAreFirst

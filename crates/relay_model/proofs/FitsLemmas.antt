@@ -1,18 +1,16 @@
 -- The counts of every direction fit, by induction over the steps.
-use Rattle.std.proofs.Common.{◌≡◌, ℕ, ◌+◌, ◌<◌, ◌≤◌, Bool, true, false, ◌||◌, not, if◌then◌else◌, List, [], ◌∷◌, ◌++◌, length, take, ◌⊎◌, inl, inr, refl, sym, ◌∙◌, ap, subst, arith, slice_index_or, append-nil}
+use Rattle.std.proofs.Common.{◌≡◌, ℕ, ◌≤◌, Bool, true, false, ◌||◌, if◌then◌else◌, List, [], ◌∷◌, ◌++◌, length, take, ◌⊎◌, inl, inr, refl, sym, ◌∙◌, ap, subst, arith, slice_index_or, append-nil}
 use Rattle.std.proofs.lemmas.Bool.{not-true}
 use Rattle.ev_types.specs.declared.side.SideId.{SideId}
-use Rattle.ev_types.specs.declared.answer.ReadAnswer.TheVariants as read
-use Rattle.ev_types.specs.declared.entry.Entry.TheVariants as entry
 use Rattle.ev_types.specs.Sides.{peer, number}
 use Rattle.ev_types.specs.Trace.{Event, Trace}
-use Rattle.relay_model.specs.Trace.{read_by, ended_by, bytes_read, has_ended}
+use Rattle.relay_model.specs.Trace.{bytes_read, has_ended}
 use Rattle.relay_model.specs.Settings.{Settings}
 use Rattle.relay_model.specs.Filter.{Filter, filter_of}
 use Rattle.relay_model.specs.FilterLaws.{PrefixLaw}
 use Rattle.relay_model.specs.Flow.{Flow, Fits, no_flow, outcome, raw_output}
 use Rattle.relay_model.specs.Conserved.{Accounted}
-use Rattle.relay_model.specs.Plain.{Plain, side_at, flow_at, change_flow, nothing_yet, is_live}
+use Rattle.relay_model.specs.Plain.{Plain, side_at, flow_at, change_flow}
 use Rattle.relay_model.specs.Past.{past}
 use Rattle.relay_model.specs.Rooms.{read_kind, write_kind, read_filter, write_filter, read_mark, hold_mark, raw_output_at}
 use Rattle.relay_model.specs.Pass.{with_held, with_used, with_read_done, with_moved, with_turned, with_write_done}
@@ -26,7 +24,7 @@ use Rattle.relay_model.proofs.KeepsLemmas.{raised_read}
 use Rattle.relay_model.proofs.PlacedLemmas.{may_read-parts}
 use Rattle.relay_model.proofs.PlainLemmas.{flow_at-change}
 use Rattle.relay_model.proofs.TraceLemmas.{bytes_read-push, has_ended-push}
-use Rattle.relay_model.proofs.KindLemmas.{PutKind, put-kind}
+use Rattle.relay_model.proofs.KindLemmas.{put-kind}
 use Rattle.relay_model.proofs.FireLemmas.{QuietKind, quiet-kind}
 use Rattle.relay_model.proofs.ToldLemmas.{kept}
 use Rattle.relay_model.proofs.BadSteps.{ended-is}

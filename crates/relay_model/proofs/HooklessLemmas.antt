@@ -32,7 +32,7 @@ use Rattle.relay_model.specs.Moments.{active_at, is_timed, has_run_out, expire, 
 use Rattle.relay_model.specs.Round.{Part, do_part, read_run}
 use Rattle.relay_model.specs.Serve.{marks_left, after_conn, after_read, after_write, after_got}
 use Rattle.relay_model.specs.Close.{CloseStep, closed_by}
-use Rattle.relay_model.specs.Stages.{Stage, State, Between, Polling, Wanting, Marking, Accepting, Serving, Filtering, Dispatching, Firing, Freeing, Passing, Closing, Over}
+use Rattle.relay_model.specs.Stages.{Stage, State, Between, Polling, Wanting, Marking, Accepting, Serving, Filtering, Dispatching, Firing, Freeing, Passing, Closing}
 use Rattle.relay_model.specs.Turn.{turned_to, after_reading, Quietly, Puts, Reaches}
 use Rattle.relay_model.proofs.EndLemmas.{number-lt}
 use Rattle.relay_model.proofs.PlainLemmas.{seen-change}
@@ -44,7 +44,6 @@ use Rattle.relay_model.proofs.EffectLemmas.{Effect}
 use Rattle.relay_model.proofs.StepLemmas.{put-effect}
 use Rattle.relay_model.proofs.StageLemmas.{closed-opened}
 use Rattle.relay_model.proofs.SeenLemmas.{do_part-keeps}
-use Rattle.relay_model.proofs.KindLemmas.{PutKind, put-kind}
 use Rattle.relay_model.proofs.FirstMet.{meets-marks}
 use Rattle.relay_model.proofs.PassedLemmas.{part-marks, closed-marks}
 

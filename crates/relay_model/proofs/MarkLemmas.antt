@@ -1,5 +1,5 @@
 -- No mark of a side is above the greatest that there can be, by induction over the steps.
-use Rattle.std.proofs.Common.{◌≡◌, ℕ, ◌+◌, ◌-◌, ◌*◌, ◌<◌, ◌≤◌, max, Bool, true, false, ◌==◌, ◌||◌, if◌then◌else◌, List, [], ◌∷◌, ◌++◌, length, Option, Some, None, ◌⊎◌, inl, inr, refl, sym, ◌∙◌, ap, subst, arith}
+use Rattle.std.proofs.Common.{◌≡◌, ℕ, ◌+◌, ◌-◌, ◌*◌, ◌<◌, ◌≤◌, Bool, true, false, ◌==◌, ◌||◌, if◌then◌else◌, List, [], ◌∷◌, ◌++◌, length, Option, Some, None, ◌⊎◌, inl, inr, refl, sym, ◌∙◌, ap, subst, arith}
 use Rattle.std.specs.Prelude.{nat_lt}
 use Rattle.std.proofs.lemmas.Bool.{cases_lt, or_parts, ltb-false}
 use Rattle.token_bucket.specs.declared.limit.Dir.{Dir}
@@ -12,7 +12,7 @@ use Rattle.ev_types.specs.declared.answer.AskAnswer.TheVariants as ask
 use Rattle.ev_types.specs.declared.entry.Entry.{Entry}
 use Rattle.ev_types.specs.declared.entry.Entry.TheVariants as entry
 use Rattle.ev_types.specs.Sides.{peer}
-use Rattle.ev_types.specs.Trace.{Event, Trace}
+use Rattle.ev_types.specs.Trace.{Trace}
 use Rattle.relay_model.specs.Trace.{bytes_read, has_ended}
 use Rattle.relay_model.specs.Settings.{Settings, Marks, marks_set}
 use Rattle.relay_model.specs.Plain.{Plain, PlainSide, side_at, flow_at, with_link}
@@ -22,15 +22,13 @@ use Rattle.relay_model.specs.Asks.{Ask, Answered, refusal, names_no_live, has_ba
 use Rattle.relay_model.specs.Stages.{Stage, State, Between, Polling, Wanting, Marking, Accepting, Serving, Dispatching, Firing, Freeing, Closing}
 use Rattle.relay_model.specs.Turn.{turned_to, Puts, Reaches}
 use Rattle.relay_model.specs.Totals.{is_opened}
-use Rattle.relay_model.specs.Bounds.{BuffersWithin, DirectionWithin, most_read_mark, most_hold_mark, BuffersStayWithin}
+use Rattle.relay_model.specs.Bounds.{most_read_mark, most_hold_mark, BuffersStayWithin}
 use Rattle.relay_model.proofs.KeepsLemmas.{raised_read, raised_write}
-use Rattle.relay_model.proofs.SeenLemmas.{do_part-keeps}
 use Rattle.relay_model.proofs.PlainLemmas.{seen-change}
 use Rattle.relay_model.proofs.TimeLemmas.{put-cases, time-marks}
-use Rattle.relay_model.proofs.EffectLemmas.{Effect}
 use Rattle.relay_model.proofs.StepLemmas.{put-effect}
 use Rattle.relay_model.proofs.StageLemmas.{quiet-silent, closed-opened}
-use Rattle.relay_model.proofs.ToldLemmas.{Kept, kept}
+use Rattle.relay_model.proofs.ToldLemmas.{kept}
 use Rattle.relay_model.proofs.FireLemmas.{QuietKind, quiet-kind}
 use Rattle.relay_model.proofs.FitsLemmas.{fits}
 use Rattle.relay_model.proofs.PassedLemmas.{part-marks, closed-marks, freed-marks}

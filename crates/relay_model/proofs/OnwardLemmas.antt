@@ -1,9 +1,8 @@
 -- What stays on the way from a state to a later one.
-use Rattle.std.proofs.Common.{◌≡◌, ℕ, ◌+◌, ◌<◌, ◌≤◌, Bool, true, false, ◌&&◌, ◌||◌, not, if◌then◌else◌, List, [], ◌∷◌, ◌++◌, Option, Some, None, ◌⊎◌, inl, inr, refl, sym, ◌∙◌, ap, subst, arith}
-use Rattle.std.specs.Prelude.{is_some, option_map}
+use Rattle.std.proofs.Common.{◌≡◌, ℕ, ◌+◌, ◌<◌, Bool, true, false, ◌&&◌, ◌||◌, not, if◌then◌else◌, Option, Some, None, ◌⊎◌, inl, inr, refl, sym, ◌∙◌, ap, subst, arith}
+use Rattle.std.specs.Prelude.{is_some}
 use Rattle.std.proofs.lemmas.Bool.{or_left, or_right, or_cases}
 use Rattle.ev_types.specs.declared.side.SideId.{SideId}
-use Rattle.ev_types.specs.declared.why.Cause.TheVariants as cause
 use Rattle.ev_types.specs.Trace.{Event, Trace}
 use Rattle.relay_model.specs.Settings.{Settings}
 use Rattle.relay_model.specs.Plain.{Plain, PlainSide, side_at, is_live}
@@ -20,14 +19,13 @@ use Rattle.relay_model.proofs.SeenLemmas.{Seen, seen, but_bad}
 use Rattle.relay_model.proofs.EffectLemmas.{SideEffect, Effect}
 use Rattle.relay_model.proofs.StepLemmas.{put-effect}
 use Rattle.relay_model.proofs.StageLemmas.{Silent, quiet-silent}
-use Rattle.relay_model.proofs.ToldLemmas.{Kept, kept}
-use Rattle.relay_model.proofs.KindLemmas.{PutKind, put-kind}
+use Rattle.relay_model.proofs.ToldLemmas.{kept}
+use Rattle.relay_model.proofs.KindLemmas.{put-kind}
 use Rattle.relay_model.proofs.FireLemmas.{quiet-kind}
-use Rattle.relay_model.proofs.FaultLemmas.{is_faulty, no-fault, not-faulty}
+use Rattle.relay_model.proofs.FaultLemmas.{is_faulty, no-fault}
 use Rattle.relay_model.proofs.FaultSteps.{faults, TurnOrNot, turn_or_not}
 use Rattle.relay_model.proofs.TotalLemmas.{parts-live}
 use Rattle.relay_model.proofs.FirstMet.{StepMeets, quiet-meets}
-use Rattle.relay_model.proofs.CauseLemmas.{faults_are_freed}
 
 pub reaches-on : (g : Settings) (t : Trace) (s : State) → Reaches g t s → (u : Trace) (new : State) → Leads g t s u new → Reaches g u new
 reaches-on g t s r u new (Leads.stays) = r

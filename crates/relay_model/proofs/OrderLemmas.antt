@@ -1,5 +1,5 @@
 -- Closing looks at a side for its fault before it frees that side for another cause, by induction over the steps.
-use Rattle.std.proofs.Common.{◌≡◌, ℕ, zero, suc, ◌+◌, ◌<◌, Bool, true, false, ◌||◌, ◌==◌, List, [], ◌∷◌, None, refl, sym, ◌∙◌, ap, subst, arith, eqb-true, eq-eqb}
+use Rattle.std.proofs.Common.{◌≡◌, ℕ, zero, suc, ◌+◌, ◌<◌, Bool, true, false, ◌||◌, ◌==◌, List, [], ◌∷◌, None, refl, ◌∙◌, ap, arith, eqb-true, eq-eqb}
 use Rattle.std.specs.Prelude.{⊤}
 use Rattle.std.specs.List.{list_any}
 use Rattle.std.proofs.lemmas.Bool.{or_parts, or_from}
@@ -10,7 +10,7 @@ use Rattle.ev_types.specs.Trace.{Event, Trace}
 use Rattle.relay_model.specs.Settings.{Settings}
 use Rattle.relay_model.specs.Plain.{Plain, side_at, is_live}
 use Rattle.relay_model.specs.Close.{CloseStep, fault, closing_of, closing_from, steps_left}
-use Rattle.relay_model.specs.Stages.{Stage, State, at, Between, Firing, Freeing, Closing}
+use Rattle.relay_model.specs.Stages.{Stage, State, at, Closing}
 use Rattle.relay_model.specs.Turn.{after_reading, Reaches}
 use Rattle.relay_model.proofs.EndLemmas.{same_end-eq}
 use Rattle.relay_model.proofs.SeenLemmas.{seen}

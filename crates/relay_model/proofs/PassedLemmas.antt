@@ -1,5 +1,5 @@
 -- What passing leaves stays until the turn is over, by induction over the steps.
-use Rattle.std.proofs.Common.{◌≡◌, ℕ, zero, suc, ◌+◌, ◌*◌, ◌<◌, ◌≤◌, Bool, true, false, ◌||◌, ◌==◌, if◌then◌else◌, List, [], ◌∷◌, ◌++◌, length, fold, Option, Some, None, ◌⊎◌, inl, inr, refl, sym, ◌∙◌, ap, subst, arith, append-nil}
+use Rattle.std.proofs.Common.{◌≡◌, ℕ, zero, suc, ◌+◌, ◌*◌, ◌<◌, ◌≤◌, Bool, true, false, ◌==◌, if◌then◌else◌, List, [], ◌∷◌, ◌++◌, length, fold, Option, Some, None, ◌⊎◌, inl, inr, refl, sym, ◌∙◌, ap, subst, arith, append-nil}
 use Rattle.std.specs.Prelude.{⊤, option_map}
 use Rattle.std.specs.List.{list_any}
 use Rattle.std.proofs.lemmas.Bool.{or_parts, or_from, or_left, or_right, cases_order}
@@ -17,8 +17,8 @@ use Rattle.relay_model.specs.Trace.{bytes_read, read_by, has_ended}
 use Rattle.relay_model.specs.Settings.{Settings, Marks, HoldsSome}
 use Rattle.relay_model.specs.Due.{Reason, without_due}
 use Rattle.relay_model.specs.Filter.{Filter, or_else}
-use Rattle.relay_model.specs.Flow.{Flow, no_flow}
-use Rattle.relay_model.specs.Plain.{Plain, PlainSide, side_at, flow_at, put_flow, is_live, sides_from, all_sides, freed, without_timer}
+use Rattle.relay_model.specs.Flow.{no_flow}
+use Rattle.relay_model.specs.Plain.{Plain, PlainSide, side_at, flow_at, put_flow, is_live, sides_from, freed, without_timer}
 use Rattle.relay_model.specs.Past.{Past, past}
 use Rattle.relay_model.specs.Rooms.{Want, read_filter, write_filter, read_mark, hold_mark, mark_or}
 use Rattle.relay_model.specs.Pass.{with_held, with_used, with_read_done, with_moved, with_turned, with_write_done, read_place, write_place}
@@ -28,11 +28,11 @@ use Rattle.relay_model.specs.Passed.{DirectionPassed, AllIsPassed}
 use Rattle.relay_model.specs.Round.{Part, parts_of, do_part, meets, read_run, write_run, round}
 use Rattle.relay_model.specs.Serve.{after_read}
 use Rattle.relay_model.specs.Close.{CloseStep, closed_by, steps_left, fault}
-use Rattle.relay_model.specs.Stages.{Stage, State, at, Between, Polling, Wanting, Marking, Accepting, Serving, Filtering, Dispatching, Firing, Freeing, Passing, Closing, Over, Halt}
+use Rattle.relay_model.specs.Stages.{Stage, State, at, Between, Wanting, Marking, Accepting, Serving, Filtering, Dispatching, Firing, Passing, Closing, Over, Halt}
 use Rattle.relay_model.specs.Turn.{Quietly, Reaches, after_reading}
 use Rattle.relay_model.proofs.EndLemmas.{same_end-eq, same_end-refl, number-apart}
 use Rattle.relay_model.proofs.KeepsLemmas.{Keeps-side, change_side-same}
-use Rattle.relay_model.proofs.SeenLemmas.{Seen, seen, but_bad, do_part-keeps}
+use Rattle.relay_model.proofs.SeenLemmas.{seen, but_bad, do_part-keeps}
 use Rattle.relay_model.proofs.EffectLemmas.{SideEffect, Effect}
 use Rattle.relay_model.proofs.PlainLemmas.{seen-change}
 use Rattle.relay_model.proofs.TraceLemmas.{bytes_read-push}

@@ -1,14 +1,12 @@
 -- What stands still behind the free of a side, by induction over the steps.
-use Rattle.std.proofs.Common.{◌≡◌, ℕ, suc, ◌+◌, ◌-◌, ◌<◌, ◌≤◌, Bool, true, false, ◌||◌, not, if◌then◌else◌, List, [], ◌∷◌, ◌++◌, ◌⊎◌, inl, inr, refl, sym, ◌∙◌, ap, subst, arith, slice_index_or, append_assoc}
+use Rattle.std.proofs.Common.{◌≡◌, ℕ, suc, ◌-◌, ◌<◌, ◌≤◌, Bool, true, false, ◌||◌, not, if◌then◌else◌, List, [], ◌∷◌, ◌++◌, ◌⊎◌, inl, inr, refl, sym, ◌∙◌, ap, subst, arith, slice_index_or}
 use Rattle.std.specs.Prelude.{All}
-use Rattle.std.specs.List.{list_any}
-use Rattle.std.proofs.lemmas.Bool.{cases_lt, or_left}
+use Rattle.std.proofs.lemmas.Bool.{cases_lt}
 use Rattle.ev_types.specs.declared.side.SideId.{SideId}
-use Rattle.ev_types.specs.declared.why.Cause.{Cause}
 use Rattle.ev_types.specs.declared.entry.Entry.TheVariants as entry
 use Rattle.ev_types.specs.Sides.{same_end, peer, number}
 use Rattle.ev_types.specs.Trace.{Event, Trace}
-use Rattle.relay_model.specs.Trace.{bytes_read, told_moved_by, moved_at_free}
+use Rattle.relay_model.specs.Trace.{bytes_read, moved_at_free}
 use Rattle.relay_model.specs.Settings.{Settings}
 use Rattle.relay_model.specs.Filter.{Filter}
 use Rattle.relay_model.specs.Flow.{Flow, no_flow}
@@ -23,11 +21,10 @@ use Rattle.relay_model.specs.Turn.{Reaches}
 use Rattle.relay_model.specs.Onward.{Leads}
 use Rattle.relay_model.specs.Totals.{is_opened}
 use Rattle.relay_model.specs.Told.{names, freed_by, is_freed, is_freeing}
-use Rattle.relay_model.specs.Still.{FreedStandStill, StoodStill, FreedStoodStill}
+use Rattle.relay_model.specs.Still.{FreedStandStill, FreedStoodStill}
 use Rattle.relay_model.proofs.EndLemmas.{same_end-eq, same_end-refl}
 use Rattle.relay_model.proofs.KeepsLemmas.{Keeps-side, raised_read}
 use Rattle.relay_model.proofs.SeenLemmas.{seen, but_bad}
-use Rattle.relay_model.proofs.EffectLemmas.{Effect}
 use Rattle.relay_model.proofs.StepLemmas.{put-effect}
 use Rattle.relay_model.proofs.StageLemmas.{quiet-silent}
 use Rattle.relay_model.proofs.ToldLemmas.{Kept, kept, none_of}

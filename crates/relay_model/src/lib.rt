@@ -10,6 +10,7 @@ mod played_laws;
 mod step_laws;
 mod turn_laws;
 
+pub use buffer_laws::{all_is_passed, buffers_are_within, buffers_stay_within, counts_fit};
 pub use filter_laws::{
     a_step_fits_its_target, a_step_is_the_function, cuts_agree, cuts_give_the_function, runs_join,
 };
@@ -30,4 +31,3 @@ pub use played_laws::{
 };
 pub use step_laws::{entries_keep_accounts, nothing_is_accounted, silent_steps_keep_accounts};
 pub use turn_laws::{beginnings_are_legal, limits_are_kept, trace_tells_rates, trace_tells_shape};
-pub use buffer_laws::{all_is_passed, buffers_are_within, buffers_stay_within, counts_fit};
