@@ -1,7 +1,7 @@
 -- Each step of a turn keeps each direction accounted for, whatever the settings and the filters are: a silent step, and an entry,
 -- as far as what a write took is the first of what waited.
 use Rattle.std.proofs.Common.{◌≡◌, ℕ, zero, suc, ◌+◌, ◌*◌, ◌<◌, ◌≤◌, Bool, true, false, ◌&&◌, ◌||◌, ◌==◌, not, if◌then◌else◌, List, [], ◌∷◌, ◌++◌, length, take, ◌⊎◌, inl, inr, refl, sym, ◌∙◌, ap, subst, arith, slice_index_or, append-nil}
-use Rattle.std.specs.Prelude.{slice_set, ⊤, All}
+use Rattle.std.specs.Prelude.{slice_set, All}
 use Rattle.std.proofs.lemmas.Bool.{and_parts, eqb-true}
 use Rattle.std.proofs.lemmas.List.{length-take, nil_from_length, get_or-set_same}
 use Rattle.ev_types.specs.declared.side.SideId.{SideId}
@@ -21,18 +21,17 @@ use Rattle.relay_model.specs.FilterLaws.{PrefixLaw}
 use Rattle.relay_model.specs.Flow.{Flow, no_flow, raw_output}
 use Rattle.relay_model.specs.Conserved.{Accounted, IsComplete}
 use Rattle.relay_model.specs.Reasons.{happened, error_flag}
-use Rattle.relay_model.specs.Plain.{Plain, nothing_yet, side_at, flow_at, change_side, change_flow, is_live}
+use Rattle.relay_model.specs.Plain.{Plain, side_at, flow_at, change_side, change_flow, is_live}
 use Rattle.relay_model.specs.Past.{past}
-use Rattle.relay_model.specs.Rooms.{read_kind, write_kind, read_filter, write_filter, read_mark, hold_mark, raw_input_at, input_at, output_at, raw_output_at}
+use Rattle.relay_model.specs.Rooms.{read_kind, write_kind, read_filter, write_filter, read_mark, hold_mark, raw_input_at, input_at, output_at}
 use Rattle.relay_model.specs.Pass.{with_held, with_used, with_read_done, with_moved, with_turned, with_write_done}
 use Rattle.relay_model.specs.Moments.{active_at}
 use Rattle.relay_model.specs.Serve.{after_write, CarriesTook}
 use Rattle.relay_model.specs.Round.{Part, do_part, read_run, write_run}
 use Rattle.relay_model.specs.Close.{CloseStep, is_complete}
 use Rattle.relay_model.specs.Stages.{Stage, State}
-use Rattle.relay_model.specs.Turn.{Quietly, Puts, Reaches, turned_to}
+use Rattle.relay_model.specs.Turn.{turned_to}
 use Rattle.relay_model.specs.Told.{is_freed}
-use Rattle.relay_model.specs.Stands.{DirectionAccounted}
 use Rattle.relay_model.specs.StepLaws.{TookFirst, SilentStepsKeepAccounts, EntriesKeepAccounts, NothingIsAccounted}
 use Rattle.relay_model.proofs.EndLemmas.{same_end-eq, same_end-refl, number-apart, number-eq, number-lt, peer-peer}
 use Rattle.relay_model.proofs.EveryFilter.{every_filter}

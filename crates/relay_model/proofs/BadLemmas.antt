@@ -105,7 +105,7 @@ put-stations g t s x y new (PutKind.asked {after = after} same m l) e = flows-sa
 put-stations g t s x y new (PutKind.recorded) e = refl
 put-stations g t s x y new (PutKind.closed {c = c} a) e = flows-same (closed-flows c s) e
 
-closed-reads : (g : Settings) (p : Past) (s : Plain) (c : CloseStep) (z : Entry) (e : SideId) → ClosedKind g p s c z → read_by e (z, []) ≡ []
+pub closed-reads : (g : Settings) (p : Past) (s : Plain) (c : CloseStep) (z : Entry) (e : SideId) → ClosedKind g p s c z → read_by e (z, []) ≡ []
 closed-reads g p s c z e (ClosedKind.faulty a b) = refl
 closed-reads g p s c z e (ClosedKind.write_ended a b) = refl
 closed-reads g p s c z e (ClosedKind.in_done a b d f) = refl

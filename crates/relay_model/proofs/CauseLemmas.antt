@@ -25,17 +25,19 @@ use Rattle.relay_model.specs.Causes.{HasCause, FreesHaveCauses, FaultsAreFreed}
 use Rattle.relay_model.proofs.HeldLemmas.{held}
 use Rattle.relay_model.proofs.FaultSteps.{faults}
 use Rattle.relay_model.proofs.BadSteps.{bad_place}
+use Rattle.relay_model.proofs.FirstMet.{first-met}
+use Rattle.relay_model.proofs.OrderLemmas.{ordered, faultless}
 use Rattle.relay_model.proofs.QuietLemmas.{there}
 use Rattle.relay_model.proofs.FaultLemmas.{is_faulty, no-fault}
 use Rattle.relay_model.proofs.KindLemmas.{ClosedKind, closed-kind, PutKind}
 
 -- the causes of a fault
-data FaultCase (x : PlainSide) : Cause → Type 0 where
+pub data FaultCase (x : PlainSide) : Cause → Type 0 where
   by_failure : x.failed ≡ true → FaultCase x cause.Failed
   by_timeout : x.failed ≡ false → x.expired ≡ true → FaultCase x cause.Timeout
   by_filter : {place : ℕ} → x.failed ≡ false → x.expired ≡ false → x.bad ≡ Some place → FaultCase x (cause.Filter place)
 
-fault-case : (x : PlainSide) (why : Cause) → fault x ≡ Some why → FaultCase x why
+pub fault-case : (x : PlainSide) (why : Cause) → fault x ≡ Some why → FaultCase x why
 fault-case x why h = go x.failed refl x.expired refl x.bad refl h
   where
     go : (a : Bool) → x.failed ≡ a → (b : Bool) → x.expired ≡ b → (o : Option ℕ) → x.bad ≡ o →
@@ -55,8 +57,14 @@ faulty-cause g t s z cs why r live (FaultCase.by_timeout a b) =
     (s, record { left = cs; reached = r }, sym (k.each z lt).failed ∙ a, (faults g t (at (Closing (CloseStep.Faulty z ∷ cs)) s) r).expired z lt live b)
 faulty-cause g t s z cs why r live (FaultCase.by_filter {place = place} a b d) =
     let k = kept g t (at (Closing (CloseStep.Faulty z ∷ cs)) s) r in
-    let lt = live-there s z k.counts.shape.sides live in
-    (s, record { left = cs; reached = r }, sym (k.each z lt).failed ∙ a, b, bad_place g t (Closing (CloseStep.Faulty z ∷ cs)) s r z place live d)
+    let lt = live-there s z k.counts.shape.sides live in (
+      s,
+      record { left = cs; reached = r },
+      sym (k.each z lt).failed ∙ a,
+      b,
+      bad_place g t (Closing (CloseStep.Faulty z ∷ cs)) s r z place live d,
+      (cs, first-met g t (at (Closing (CloseStep.Faulty z ∷ cs)) s) r z lt place d),
+    )
 
 closed-cause : (g : Settings) (t : Trace) (s : Plain) (c : CloseStep) (cs : List CloseStep) (y : Entry) → Reaches g t (at (Closing (c ∷ cs)) s) → ClosedKind g (past g t) s c y →
     (e : SideId) (why : Cause) (moved given : ℕ) → y ≡ entry.Freed e why moved given → HasCause g t e why
@@ -72,7 +80,11 @@ closed-cause g t s c cs y r (ClosedKind.in_done {k = n} a b d f) e why moved giv
     let two : cause.Done ≡ why = cc in
     let k = kept g t (at (Closing (CloseStep.BothDone n ∷ cs)) s) r in
     let lt = live-there s i k.counts.shape.sides a in
-    subst (λ v. HasCause g t v why) one (subst (λ v. HasCause g t i v) two (sym (k.each i lt).write_ended ∙ d, sym (k.each o lt).write_ended ∙ f))
+    subst (λ v. HasCause g t v why) one (subst (λ v. HasCause g t i v) two (
+      sym (k.each i lt).write_ended ∙ d,
+      sym (k.each o lt).write_ended ∙ f,
+      (s, cs, r, faultless g t s (CloseStep.BothDone n) cs r (ordered g t (at (Closing (CloseStep.BothDone n ∷ cs)) s) r).0 i refl refl lt a),
+    ))
 closed-cause g t s c cs y r (ClosedKind.out_done {k = n}) e why moved given h =
     let i : SideId = record { link = n; side = In } in
     let o : SideId = record { link = n; side = Out } in
@@ -80,14 +92,28 @@ closed-cause g t s c cs y r (ClosedKind.out_done {k = n}) e why moved given h =
     let two : cause.Done ≡ why = cc in
     let k = kept g t (at (Closing (CloseStep.OutDone n ∷ cs)) s) r in
     let ready = (held g t (at (Closing (CloseStep.OutDone n ∷ cs)) s) r).ready.0 in
-    subst (λ v. HasCause g t v why) one (subst (λ v. HasCause g t o v) two (sym (k.each o k.placed.0).write_ended ∙ ready.out_ended, sym (k.each i k.placed.0).write_ended ∙ ready.in_ended))
+    subst (λ v. HasCause g t v why) one (subst (λ v. HasCause g t o v) two (
+      sym (k.each o k.placed.0).write_ended ∙ ready.out_ended,
+      sym (k.each i k.placed.0).write_ended ∙ ready.in_ended,
+      (s, cs, r, faultless g t s (CloseStep.OutDone n) cs r (ordered g t (at (Closing (CloseStep.OutDone n ∷ cs)) s) r).0 o refl refl k.placed.0 ready.live),
+    ))
 closed-cause g t s c cs y r (ClosedKind.peer_gone {z = z} a b d) e why moved given h =
     let one : z ≡ e = cc in
     let two : cause.PeerGone ≡ why = cc in
     let k = kept g t (at (Closing (CloseStep.PeerGone z ∷ cs)) s) r in
     let lt = live-there s z k.counts.shape.sides a in
     let told = (k.each (peer z) lt).live in
-    subst (λ v. HasCause g t v why) one (subst (λ v. HasCause g t z v) two (gone (is_freed (peer z) t) (sym told ∙ not-true (is_live s (peer z)) b), (Closing (CloseStep.PeerGone z ∷ cs), s, r, d)))
+    subst (λ v. HasCause g t v why) one (subst (λ v. HasCause g t z v) two (
+      gone (is_freed (peer z) t) (sym told ∙ not-true (is_live s (peer z)) b),
+      (
+        Closing (CloseStep.PeerGone z ∷ cs),
+        s,
+        r,
+        d,
+        (cs, refl),
+        faultless g t s (CloseStep.PeerGone z) cs r (ordered g t (at (Closing (CloseStep.PeerGone z ∷ cs)) s) r).0 z refl refl lt a,
+      ),
+    ))
   where
     gone : (f : Bool) → not (f || false) ≡ false → f ≡ true
     gone true h = refl

@@ -16,7 +16,7 @@ use Rattle.relay_model.proofs.FilterRunLemmas.{run-within}
 abbrev one_if : Bool → ℕ
 one_if b = if b then 1 else 0
 
-adds-two : (k : FilterKind) (count : ℕ) (last : Option ℕ) (x : ℕ) → length (adds k count last x) ≤ 2
+pub adds-two : (k : FilterKind) (count : ℕ) (last : Option ℕ) (x : ℕ) → length (adds k count last x) ≤ 2
 adds-two kind.None count last x = omega arith
 adds-two kind.ToCrlf count last x = by_lf (x == LF && not (is_cr last))
   where
@@ -162,7 +162,7 @@ end-most kind.ToLf count last after now made used n xs e le h = by_cr (is_cr las
 end-most kind.HexOut count last after now made used n xs e le h = omega arith
 end-most kind.HexIn count last after now made used n xs e le h = omega arith
 
-end-one : (k : FilterKind) (last : Option ℕ) → length (end_adds k last) ≤ 1
+pub end-one : (k : FilterKind) (last : Option ℕ) → length (end_adds k last) ≤ 1
 end-one kind.None last = omega arith
 end-one kind.ToCrlf last = omega arith
 end-one kind.ToLf last = by_cr (is_cr last)

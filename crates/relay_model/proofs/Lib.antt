@@ -59,10 +59,14 @@ pub mod FaultLemmas
 pub mod TimeLemmas
 pub mod FaultSteps
 pub mod BadLemmas
+pub mod OrderLemmas
 pub mod CauseLemmas
+pub mod CalledLemmas
+pub mod OnwardLemmas
 pub mod GrownLemmas
 pub mod BadSteps
 pub mod TotalLemmas
+pub mod FirstMet
 pub mod LeftLemmas
 pub mod LeftSteps
 pub mod NextLemmas
@@ -74,3 +78,11 @@ pub mod FilterFitLemmas
 mod QuietExamples
 pub mod AccountedLemmas
 pub mod PollLemmas
+pub mod FlowLemmas
+pub mod FitsLemmas
+pub mod PassedLemmas
+pub mod BoundLemmas
+pub mod HooklessLemmas
+pub mod BoundSteps
+pub mod StillLemmas
+pub mod MarkLemmas

@@ -39,19 +39,19 @@ of_both field true x y z p q = p
 of_both field false x y z p q = q
 
 module _ (r w : Filter) (read : List ℕ) (ended : Bool) (mark hold : ℕ) (f : Flow) (still : whole_round r w read ended mark hold f ≡ f) where
-  abbrev f1 : Flow
+  abbrev pub f1 : Flow
   f1 = with_held r w read hold f
 
-  abbrev f2 : Flow
+  abbrev pub f2 : Flow
   f2 = with_used r read mark f1
 
-  abbrev f3 : Flow
+  abbrev pub f3 : Flow
   f3 = with_read_done r read mark ended f2
 
-  abbrev f4 : Flow
+  abbrev pub f4 : Flow
   f4 = with_moved r read f3
 
-  abbrev f5 : Flow
+  abbrev pub f5 : Flow
   f5 = with_turned r w read hold f4
 
   abbrev f6 : Flow
@@ -71,7 +71,7 @@ module _ (r w : Filter) (read : List ℕ) (ended : Bool) (mark hold : ℕ) (f : 
   is_1 : f1 ≡ f
   is_1 = ap (λ b. record f { held = b }) (after_3 (λ x. x.held) (λ x b. refl) (λ x n. refl) (λ x n. refl))
 
-  is_2 : f2 ≡ f
+  pub is_2 : f2 ≡ f
   is_2 = ap (λ n. record f1 { used = n }) (after_3 (λ x. x.used) (λ x b. refl) (λ x n. refl) (λ x n. refl)) ∙ ap (λ (x : Flow). record x { used = f.used }) is_1
 
   is_3 : f3 ≡ f
@@ -88,7 +88,7 @@ module _ (r w : Filter) (read : List ℕ) (ended : Bool) (mark hold : ℕ) (f : 
       by_test true = refl
       by_test false = refl
 
-  is_5 : f5 ≡ f
+  pub is_5 : f5 ≡ f
   is_5 =
       by_held f4.held
       ∙ ap (λ n. record f4 { turned = n }) (after_5 (λ x. x.turned) (λ x b. refl))

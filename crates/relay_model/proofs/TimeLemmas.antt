@@ -343,3 +343,6 @@ time-expired g p s e h = (time-eased g p s).expired e h
 
 pub time-flows : (g : Settings) (p : Past) (s : Plain) → (time_passed g p s).flows ≡ s.flows
 time-flows g p s = (time-eased g p s).flows
+
+pub time-marks : (g : Settings) (p : Past) (s : Plain) (e : SideId) → (side_at (time_passed g p s) e).marks ≡ (side_at s e).marks
+time-marks g p s e = ap (λ z. z.marks) (Keeps-side core s (time_passed g p s) e (time-eased g p s).keeps)

@@ -26,6 +26,7 @@ pub mod Serve
 pub mod Close
 pub mod Stages
 pub mod Turn
+pub mod Onward
 pub mod Answers
 pub mod RatesKept
 pub mod Stands
@@ -43,4 +44,8 @@ pub mod Told
 pub mod Hooked
 pub mod Quiet
 pub mod Causes
+pub mod Fitting
+pub mod Passed
+pub mod Bounds
+pub mod Still
 pub mod StepLaws

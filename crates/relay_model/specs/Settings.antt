@@ -1,5 +1,5 @@
 -- What a run was started with. What it does with that stands in the modules behind.
-use Rattle.std.specs.Prelude.{ℕ, List, [], Option, None}
+use Rattle.std.specs.Prelude.{◌≡◌, ℕ, ◌≤◌, List, [], Option, None}
 use Rattle.ev_types.specs.declared.side.Side.{Side}
 use Rattle.ev_types.specs.declared.side.Side.TheVariants.{In, Out}
 use Rattle.ev_types.specs.declared.side.SideId.{SideId}
@@ -85,3 +85,13 @@ marks_set g Out = g.out_marks
 abbrev pub timeouts_set : Settings → Side → Timeouts
 timeouts_set g In = g.in_timeouts
 timeouts_set g Out = g.out_timeouts
+
+-- Ranges of settings, on which some laws rest.
+
+-- the hold mark is not 0
+pub record HoldsSome (g : Settings) : Type 0 where
+  pub hold : 1 ≤ g.hold
+
+-- No side has a hook, so that nothing is asked.
+pub record HasNoHooks (g : Settings) : Type 0 where
+  pub none : g.hooks ≡ []

@@ -1,6 +1,7 @@
 // The laws that every legal trace obeys, each on a function whose contract it is.
-ghost use Rattle.relay_model.specs.Causes.{AskedFreesAreNext, FaultsAreFreed, FreesHaveCauses, NothingIsLeft};
+ghost use Rattle.relay_model.specs.Causes.{AskedFreesAreNext, FaultsAreAnswered, FaultsAreFreed, FaultyAreFreed, FreesAreCalledFor, FreesHaveCauses, NothingIsLeft, PlacesAreFirst};
 ghost use Rattle.relay_model.specs.Quiet.{LegalIsQuiet};
+ghost use Rattle.relay_model.specs.Still.{FreedStandStill, FreedStoodStill};
 ghost use Rattle.relay_model.specs.Told.{FreesTellTotals, LinksInOrder, StateIsTold, TimeRises};
 
 /// The counts of the plain state, and what it says of each side, are what the trace says that leads to it.
@@ -47,4 +48,35 @@ pub fn faults_are_freed()
 /// and each freed side's end was closed.
 pub fn nothing_is_left()
     ensures { NothingIsLeft }
+{}
+
+/// The bad place that a side keeps is the first in time that its read filter or its write filter met.
+pub fn places_are_first()
+    ensures { PlacesAreFirst }
+{}
+
+/// Each free is put from a state that calls for it with that cause.
+pub fn frees_are_called_for()
+    ensures { FreesAreCalledFor }
+{}
+
+/// Where closing looks at a live side for its fault, the free with the cause that its faults call for is what follows.
+pub fn faults_are_answered()
+    ensures { FaultsAreAnswered }
+{}
+
+/// A live side with a fault is freed before its turn is over.
+pub fn faulty_are_freed()
+    ensures { FaultyAreFreed }
+{}
+
+/// From a state behind the free of a side on, what was moved from it and whether its direction's filters are finished stay.
+pub fn freed_stand_still()
+    ensures { FreedStandStill }
+{}
+
+/// Whatever state a trace leads to, behind each free on the way they were what they are in it, and the free told how many
+/// bytes were moved.
+pub fn freed_stood_still()
+    ensures { FreedStoodStill }
 {}

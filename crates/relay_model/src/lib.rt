@@ -2,6 +2,7 @@
 //! in `specs/`, in the order in which `specs/Lib.antt` names them; the laws that they obey stand on the functions here.
 #![tactic(auto)]
 
+mod buffer_laws;
 mod filter_laws;
 mod laws;
 mod legal_laws;
@@ -9,6 +10,7 @@ mod played_laws;
 mod step_laws;
 mod turn_laws;
 
+pub use buffer_laws::{all_is_passed, buffers_are_within, buffers_stay_within, counts_fit};
 pub use filter_laws::{
     a_step_fits_its_target, a_step_is_the_function, cuts_agree, cuts_give_the_function, runs_join,
 };
@@ -18,8 +20,10 @@ pub use laws::{
     what_is_met_is_bad,
 };
 pub use legal_laws::{
-    asked_frees_are_next, faults_are_freed, frees_have_causes, frees_tell_totals, legal_is_quiet,
-    links_in_order, nothing_is_left, state_is_told, time_rises,
+    asked_frees_are_next, faults_are_answered, faults_are_freed, faulty_are_freed,
+    freed_stand_still, freed_stood_still, frees_are_called_for, frees_have_causes,
+    frees_tell_totals, legal_is_quiet, links_in_order, nothing_is_left, places_are_first,
+    state_is_told, time_rises,
 };
 pub use played_laws::{
     answers_go_on, end_ties_join, nothing_is_tied, nothing_stands, polls_fail_as_scripted,

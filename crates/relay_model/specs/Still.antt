@@ -1,0 +1,34 @@
+-- What stands still behind the free of a side.
+use Rattle.std.specs.Prelude.{◌≡◌, ℕ, true, List, [], ◌∷◌, ◌++◌}
+use Rattle.ev_types.specs.declared.side.SideId.{SideId}
+use Rattle.ev_types.specs.declared.why.Cause.{Cause}
+use Rattle.ev_types.specs.declared.entry.Entry.TheVariants as entry
+use Rattle.ev_types.specs.Trace.{Trace}
+use Rattle.relay_model.specs.Conserved.{StandsStill}
+use Rattle.relay_model.specs.Settings.{Settings}
+use Rattle.relay_model.specs.Plain.{flow_at}
+use Rattle.relay_model.specs.Stages.{State}
+use Rattle.relay_model.specs.Turn.{Reaches}
+use Rattle.relay_model.specs.Onward.{Leads}
+use Rattle.relay_model.specs.Told.{is_freed}
+
+-- From a state behind the free of a side on, the bytes that were moved from it are as many as they were, and whether the two
+-- filters of its direction are finished stays as it was.
+abbrev pub FreedStandStill : Type 0
+FreedStandStill = (g : Settings) (t u : Trace) (s new : State) (e : SideId) → Reaches g t s → is_freed e t ≡ true → Leads g t s u new →
+    StandsStill (flow_at s.plain e) (flow_at new.plain e)
+
+-- A state behind the free of a side, on the way to a later one, with what stood still since. The free told how many bytes were
+-- moved.
+pub record StoodStill (g : Settings) (free t : Trace) (new : State) (e : SideId) (told : ℕ) : Type 0 where
+  pub since : State
+  pub reached : Reaches g free since
+  pub leads : Leads g free since t new
+  pub still : StandsStill (flow_at since.plain e) (flow_at new.plain e)
+  pub moved : (flow_at new.plain e).moved ≡ told
+
+-- Wherever a free stands in a trace, and whatever state the trace leads to, on the way there was such a state.
+abbrev pub FreedStoodStill : Type 0
+FreedStoodStill = (g : Settings) (t before after : Trace) (new : State) (e : SideId) (why : Cause) (moved given : ℕ) (bytes : List ℕ) →
+    Reaches g t new → t ≡ before ++ (entry.Freed e why moved given, bytes) ∷ after →
+    StoodStill g (before ++ (entry.Freed e why moved given, bytes) ∷ []) t new e moved

@@ -1,0 +1,26 @@
+// Laws on what the four buffers of a direction hold, each on a function whose contract it is.
+ghost use Rattle.relay_model.specs.Bounds.{BuffersAreWithin, BuffersStayWithin};
+ghost use Rattle.relay_model.specs.Fitting.{CountsFit};
+ghost use Rattle.relay_model.specs.Passed.{AllIsPassed};
+
+/// In every state that a trace leads to, no count of a direction passes what is there for it.
+pub fn counts_fit()
+    ensures { CountsFit }
+{}
+
+/// Between two turns, a direction between live sides that isn't held has its first three buffers empty, and a held one has
+/// more than half of the hold mark in its raw output.
+pub fn all_is_passed()
+    ensures { AllIsPassed }
+{}
+
+/// With no hooks, each of the four buffers of a direction stays within its mark, and one byte or none more, in every state
+/// that a trace leads to; and so do all four together.
+pub fn buffers_are_within()
+    ensures { BuffersAreWithin }
+{}
+
+/// Whatever hooks ask, the buffers stay within the greatest marks that a side can come to have.
+pub fn buffers_stay_within()
+    ensures { BuffersStayWithin }
+{}
