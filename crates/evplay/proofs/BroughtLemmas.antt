@@ -1,5 +1,5 @@
--- What a script that a text spells brings in at an end are bytes, at most 2^18 of them.
-use Rattle.std.proofs.Common.{◌≡◌, ◌≢◌, inl, inr, ◌≤◌, ◌<◌, ◌+◌, ◌^◌, ℕ, Bool, true, false, ◌&&◌, not, nat_lt, nat_le, nat_eq}
+-- What a script that a text spells brings in at an end are bytes, at most half as many as the text has.
+use Rattle.std.proofs.Common.{◌≡◌, ◌≢◌, inl, inr, ◌≤◌, ◌<◌, ◌+◌, ◌*◌, ◌^◌, ℕ, Bool, true, false, ◌&&◌, not, nat_lt, nat_le, nat_eq}
 use Rattle.std.proofs.Common.{if◌then◌else◌, List, [], ◌∷◌, ◌++◌, length, map, codes, Option, Some, None, Result, Ok, Err, refl, sym, ap}
 use Rattle.std.proofs.Common.{◌∙◌, subst, arith, length-append, append_assoc, append-nil}
 use Rattle.std.specs.Prelude.{All, IfSome, option_map, option_and_then}
@@ -24,11 +24,15 @@ use Rattle.script_text.specs.declared.line.Keyword.TheVariants as keyword
 use Rattle.script_text.specs.declared.line.Line.{Line}
 use Rattle.script_text.specs.declared.line.Line.TheVariants as line
 use Rattle.ev_types.specs.ScriptTurn.{ScriptTurn, lines_of}
-use Rattle.script_text.specs.Script.{ScriptValue}
+use Rattle.script_text.specs.Script.{ScriptValue, SoFar}
 use Rattle.script_text.specs.Pieces.{lines}
 use Rattle.script_text.specs.Numbers.{number_within, bytes_of}
-use Rattle.script_text.specs.Grammar.{keyword_of, link_of, end_of, made_of, more_of, of_end, said_by, is_comment, said}
-use Rattle.script_text.specs.Order.{brought, bytes_for, is_ended, is_known, may_follow, with_line, extended}
+use Rattle.script_text.specs.Grammar.{keyword_of, link_of, end_of, made_of, more_of, of_end, setting_name_of, set_by, said_by, is_comment, said}
+use Rattle.script_text.specs.Order.{may_follow, with_line, extended}
+use Rattle.script_text.specs.Brought.{brought, all_brought}
+use Rattle.script_text.specs.Given.{with_setting}
+use Rattle.script_text.specs.declared.setting.Given.{Given}
+use Rattle.script_text.proofs.LawLemmas.{script_of-read}
 use Rattle.script_text.specs.Spelled.{no_line, script_of}
 use Rattle.relay_model.specs.Lines.{brings}
 use Rattle.relay_laws.specs.Spelling.{FewBytes, BringsFit}
@@ -74,6 +78,9 @@ mapped-bytes side None h = tt
 mapped-bytes side (Some bytes) h = h
 
 said_by-bytes : (k : Keyword) (ws : List (List ℕ)) → IfSome (said_by k ws) HasBytes
+said_by-bytes keyword.Set (what ∷ more) =
+    some-then HasBytes (λ named. option_map (λ s. line.Set s) (set_by named more))
+    (λ named. some-map HasBytes (λ s. line.Set s) (λ s. tt) (set_by named more)) (setting_name_of what)
 said_by-bytes keyword.At (ms ∷ []) = some-map HasBytes (λ n. line.At n) (λ n. tt) (number_within (2 ^ 40) ms)
 said_by-bytes keyword.Open [] = tt
 said_by-bytes keyword.Open (word ∷ []) = some-if HasBytes (bytes_eq word (codes "wait")) (Some (line.Within (turn.NewLink true))) None tt tt
@@ -102,14 +109,8 @@ said-bytes (first ∷ more) =
 -- The lines so far
 
 -- what some lines bring in at an end
-abbrev brought_in : SideId → List TurnLine → List ℕ
+abbrev pub brought_in : SideId → List TurnLine → List ℕ
 brought_in e xs = flat_map (brings e) xs
-
--- what lines bring in at each end are bytes, as many as are counted for it, and those are at most 2^18
-record Fits (xs : List TurnLine) (e : SideId) : Type 0 where
-  each : AreBytes (brought_in e xs)
-  count : length (brought_in e xs) ≡ bytes_for (number e) xs
-  few : bytes_for (number e) xs ≤ 2 ^ 18
 
 -- one line more
 brought_in-push : (e : SideId) (xs : List TurnLine) (x : TurnLine) → brought_in e (xs ++ x ∷ []) ≡ brought_in e xs ++ brings e x
@@ -117,67 +118,45 @@ brought_in-push e xs x =
     flat_map-append (brings e) xs (x ∷ [])
     ∙ ap (λ z. brought_in e xs ++ z) (append-nil (brings e x))
 
--- what one line brings in at an end
-record FitsLine (xs : List TurnLine) (x : TurnLine) (e : SideId) : Type 0 where
-  each : AreBytes (brings e x)
-  count : length (brings e x) ≡ brought (number e) x
-  few : bytes_for (number e) xs + brought (number e) x ≤ 2 ^ 18
-
-fits-push : (xs : List TurnLine) (x : TurnLine) (e : SideId) → Fits xs e → FitsLine xs x e → Fits (xs ++ x ∷ []) e
-fits-push xs x e h k =
-    let more = brought_in-push e xs x in
-    let counted : bytes_for (number e) (xs ++ x ∷ []) ≡ bytes_for (number e) xs + brought (number e) x =
-    sum_by_push (brought (number e)) xs x in
-    record {
-      each = subst AreBytes (sym more) (All-append (λ b. b < 256) (brought_in e xs) (brings e x) h.each k.each);
-      count = ap length more ∙ length-append (brought_in e xs) (brings e x) ∙ omega (arith, h.count, k.count, counted);
-      few = omega (arith, k.few, counted);
-    }
-
--- a line that brings in nothing
-brings-nothing : (xs : List TurnLine) (x : TurnLine) (e : SideId) → Fits xs e → brings e x ≡ [] → brought (number e) x ≡ 0 → FitsLine xs x e
-brings-nothing xs x e h none zero = record {
-  each = subst AreBytes (sym none) (All-nil (λ b. b < 256));
-  count = ap length none ∙ sym zero;
-  few = omega (arith, h.few, zero);
-}
-
-line-fits : (xs : List TurnLine) (x : TurnLine) (e : SideId) → HasBytes (line.Within x) → may_follow xs x ≡ true → Fits xs e →
-    FitsLine xs x e
-line-fits xs (turn.NewLink wait) e is h fits = brings-nothing xs (turn.NewLink wait) e fits refl refl
-line-fits xs (turn.Conn link made) e is h fits = brings-nothing xs (turn.Conn link made) e fits refl refl
-line-fits xs (turn.Eof side) e is h fits = brings-nothing xs (turn.Eof side) e fits refl refl
-line-fits xs (turn.ReadFail side) e is h fits = brings-nothing xs (turn.ReadFail side) e fits refl refl
-line-fits xs (turn.Take side more) e is h fits = brings-nothing xs (turn.Take side more) e fits refl refl
-line-fits xs (turn.WriteFail side) e is h fits = brings-nothing xs (turn.WriteFail side) e fits refl refl
-line-fits xs (turn.Spur side) e is h fits = brings-nothing xs (turn.Spur side) e fits refl refl
-line-fits xs turn.PollFail e is h fits = brings-nothing xs turn.PollFail e fits refl refl
-line-fits xs (turn.Pending side bytes) e is h fits = elim (same_end_tells side e) [ inl t ↦ at_end t.0 t.1 | inr t ↦ elsewhere t.0 t.1 ]
+-- what a line brings in at an end are bytes, and no more than it brings in
+brings-bytes : (x : TurnLine) (e : SideId) → HasBytes (line.Within x) → AreBytes (brings e x)
+brings-bytes (turn.NewLink waits) e is = All-nil (λ b. b < 256)
+brings-bytes (turn.Conn link made) e is = All-nil (λ b. b < 256)
+brings-bytes (turn.Pending side bytes) e is = go (same_end side e)
   where
-    x : TurnLine
-    x = turn.Pending side bytes
+    go : (b : Bool) → AreBytes (if b then bytes else [])
+    go true = is
+    go false = All-nil (λ b. b < 256)
+brings-bytes (turn.Eof side) e is = All-nil (λ b. b < 256)
+brings-bytes (turn.ReadFail side) e is = All-nil (λ b. b < 256)
+brings-bytes (turn.Take side more) e is = All-nil (λ b. b < 256)
+brings-bytes (turn.WriteFail side) e is = All-nil (λ b. b < 256)
+brings-bytes (turn.Spur side) e is = All-nil (λ b. b < 256)
+brings-bytes turn.PollFail e is = All-nil (λ b. b < 256)
 
-    room : bytes_for (number side) xs + length bytes ≤ 2 ^ 18
-    room =
-        leb-true (bytes_for (number side) xs + length bytes) (2 ^ 18)
-        (and_parts (is_known side xs && not (is_ended (number side) xs)) (nat_le (bytes_for (number side) xs + length bytes) (2 ^ 18)) h).1
+brings-most : (x : TurnLine) (e : SideId) → length (brings e x) ≤ brought x
+brings-most (turn.NewLink waits) e = omega arith
+brings-most (turn.Conn link made) e = omega arith
+brings-most (turn.Pending side bytes) e = go (same_end side e)
+  where
+    go : (b : Bool) → length (if b then bytes else []) ≤ length bytes
+    go true = omega arith
+    go false = omega arith
+brings-most (turn.Eof side) e = omega arith
+brings-most (turn.ReadFail side) e = omega arith
+brings-most (turn.Take side more) e = omega arith
+brings-most (turn.WriteFail side) e = omega arith
+brings-most (turn.Spur side) e = omega arith
+brings-most turn.PollFail e = omega arith
 
-    at_end : same_end side e ≡ true → number side ≡ number e → FitsLine xs x e
-    at_end same one =
-        let here : brings e x ≡ bytes = ap (λ b. if b then bytes else []) same in
-        let equal : nat_eq (number side) (number e) ≡ true =
-        elim (eqb_tells (number side) (number e)) [ inl u ↦ u.0 | inr u ↦ absurd (u.1 one) ] in
-        let counted : brought (number e) x ≡ length bytes = ap (λ b. if b then length bytes else 0) equal in
-        let left : bytes_for (number e) xs + length bytes ≤ 2 ^ 18 = subst (λ n. bytes_for n xs + length bytes ≤ 2 ^ 18) one room in
-        record { each = subst AreBytes (sym here) is; count = ap length here ∙ sym counted; few = omega (arith, left, counted) }
-
-    elsewhere : same_end side e ≡ false → number side ≢ number e → FitsLine xs x e
-    elsewhere other two =
-        let none : brings e x ≡ [] = ap (λ b. if b then bytes else []) other in
-        let differ : nat_eq (number side) (number e) ≡ false =
-        elim (eqb_tells (number side) (number e)) [ inl u ↦ absurd (two u.1) | inr u ↦ u.0 ] in
-        let zero : brought (number e) x ≡ 0 = ap (λ b. if b then length bytes else 0) differ in
-        brings-nothing xs x e fits none zero
+-- all lines bring in at an end no more than at all ends together
+brought-most : (xs : List TurnLine) (e : SideId) → length (brought_in e xs) ≤ all_brought xs
+brought-most [] e = omega arith
+brought-most (x ∷ xs) e =
+    let a = length-append (brings e x) (brought_in e xs) in
+    let b = brings-most x e in
+    let c = brought-most xs e in
+    omega (arith, a, b, c)
 
 -- Turns
 
@@ -193,35 +172,48 @@ lines_of-with_line (t ∷ next ∷ more) x h =
 
 -- The whole script
 
-abbrev AllFit : ScriptValue → Type 0
-AllFit s = (e : SideId) → Fits (lines_of s.turns) e
+-- what the lines so far bring in at each end are bytes
+abbrev AllBytes : SoFar → Type 0
+AllBytes s = (e : SideId) → AreBytes (brought_in e (lines_of s.turns))
 
-extended-fits : (s new : ScriptValue) (x : Line) → HasBytes x → AllFit s → extended s x ≡ Some new → AllFit new
-extended-fits s new (line.At ms) is fits h = at_case (nat_lt (length s.turns) 20000) h
+extended-bytes : (s new : SoFar) (x : Line) → HasBytes x → AllBytes s → extended s x ≡ Some new → AllBytes new
+extended-bytes s new (line.Set setting) is all h = set_case (nat_lt 0 (length s.turns)) (with_setting s.given setting) h
   where
-    at_case : (b : Bool) → (if b then Some (record { turns = s.turns ++ (ms, []) ∷ [] }) else None) ≡ Some new → AllFit new
-    at_case true k = subst AllFit (some-is _ new k) (λ e. subst (λ z. Fits z e) (sym (lines_of-turn s.turns ms)) (fits e))
+    set_case : (b : Bool) (o : Option Given) →
+        (if b then None else option_map (λ g. let z : SoFar = record { given = g; turns = s.turns } in z) o) ≡ Some new → AllBytes new
+    set_case true o k = none-some new k
+    set_case false None k = none-some new k
+    set_case false (Some g) k = subst AllBytes (some-is _ new k) all
+extended-bytes s new (line.At ms) is all h = at_case (nat_lt (length s.turns) 20000) h
+  where
+    at_case : (b : Bool) → (if b then Some (record { given = s.given; turns = s.turns ++ (ms, []) ∷ [] }) else None) ≡ Some new → AllBytes new
+    at_case true k = subst AllBytes (some-is _ new k) (λ e. subst (λ z. AreBytes (brought_in e z)) (sym (lines_of-turn s.turns ms)) (all e))
     at_case false k = none-some new k
-extended-fits s new line.Skipped is fits h = subst AllFit (some-is s new h) fits
-extended-fits s new (line.Within x) is fits h = within_case (nat_lt 0 (length s.turns) && may_follow (lines_of s.turns) x) refl h
+extended-bytes s new line.Skipped is all h = subst AllBytes (some-is s new h) all
+extended-bytes s new (line.Within x) is all h = within_case (nat_lt 0 (length s.turns) && may_follow (lines_of s.turns) x) refl h
   where
     within_case : (b : Bool) → (nat_lt 0 (length s.turns) && may_follow (lines_of s.turns) x) ≡ b →
-        (if b then Some (record { turns = with_line s.turns x }) else None) ≡ Some new → AllFit new
+        (if b then Some (record { given = s.given; turns = with_line s.turns x }) else None) ≡ Some new → AllBytes new
     within_case true tests k =
         let both = and_parts (nat_lt 0 (length s.turns)) (may_follow (lines_of s.turns) x) tests in
         let longer = lines_of-with_line s.turns x (ltb-true 0 (length s.turns) both.0) in
-        subst AllFit (some-is _ new k)
-        (λ e. subst (λ z. Fits z e) (sym longer)
-        (fits-push (lines_of s.turns) x e (fits e) (line-fits (lines_of s.turns) x e is both.1 (fits e))))
+        subst AllBytes (some-is _ new k)
+        (λ e. subst (λ z. AreBytes (brought_in e z)) (sym longer)
+        (subst AreBytes (sym (brought_in-push e (lines_of s.turns) x))
+        (All-append (λ b. b < 256) (brought_in e (lines_of s.turns)) (brings e x) (all e) (brings-bytes x e is))))
     within_case false tests k = none-some new k
 
-said-fits : (s new : ScriptValue) (ws : List (List ℕ)) (x : Line) → said ws ≡ Some x → AllFit s → extended s x ≡ Some new → AllFit new
-said-fits s new ws x is fits h = extended-fits s new x (subst (λ o. IfSome o HasBytes) is (said-bytes ws)) fits h
+said-all : (s new : SoFar) (ws : List (List ℕ)) (x : Line) → said ws ≡ Some x → AllBytes s → extended s x ≡ Some new → AllBytes new
+said-all s new ws x is all h = extended-bytes s new x (subst (λ o. IfSome o HasBytes) is (said-bytes ws)) all h
 
--- what a text spells brings in bytes at each end, and fewer than 2^64
-pub brings-fit : (text : List ℕ) (script : ScriptValue) → script_of text ≡ Ok script → BringsFit script.turns
-brings-fit text script h e =
-    let start : AllFit no_line = λ end. record { each = All-nil (λ b. b < 256); count = refl; few = omega arith } in
-    let all = keeps-lines AllFit said-fits no_line script 0 (lines text) start h e in
-    let few : FewBytes (brought_in e (lines_of script.turns)) = record { each = all.each; count = omega (arith, all.count, all.few) } in
-    few
+-- what a text of at most 2^24 bytes spells brings in bytes at each end, and few enough to be counted
+pub brings-fit : (text : List ℕ) (script : ScriptValue) → script_of text ≡ Ok script → length text ≤ 2 ^ 24 →
+    2 * all_brought (lines_of script.turns) ≤ length text → BringsFit script.turns
+brings-fit text script h most half e =
+    let read = script_of-read text script h in
+    let start : AllBytes no_line = λ end. All-nil (λ b. b < 256) in
+    let all : (end : SideId) → AreBytes (brought_in end (lines_of script.turns)) =
+    subst (λ (z : ScriptValue). (end : SideId) → AreBytes (brought_in end (lines_of z.turns))) read.is
+    (keeps-lines AllBytes said-all no_line read.so_far 0 (lines text) start read.read) in
+    let few = brought-most (lines_of script.turns) e in
+    record { each = all e; count = omega (arith, few, most, half) }

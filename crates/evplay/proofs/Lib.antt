@@ -9,3 +9,4 @@ pub mod PlayedLemmas
 pub mod RunLemmas
 pub mod ComplaintLemmas
 pub mod TurnEndLemmas
+pub mod TimeoutLemmas

@@ -1,5 +1,5 @@
 -- What a drive and a script port keep over the turns of a script is a run of that script.
-use Rattle.std.proofs.Common.{◌≡◌, ◌≤◌, ◌+◌, List, [], length, refl, ap, subst, arith, count_by}
+use Rattle.std.proofs.Common.{◌≡◌, ◌≤◌, ◌+◌, List, [], length, refl, ap, ◌∙◌, subst, arith, count_by}
 use Rattle.ev_types.specs.Trace.{Trace}
 use Rattle.ev_types.specs.ScriptTurn.{ScriptTurn, lines_of}
 use Rattle.script_text.specs.Script.{ScriptValue}
@@ -15,7 +15,7 @@ use Rattle.script_port.specs.ScriptVouched.{NoneWaits, ScriptVouches}
 use Rattle.script_port.proofs.ScriptWaitingLemmas.{always_called, took_called}
 use Rattle.relay_state.specs.State.{State}
 use Rattle.relay_steps.specs.Meaning.{StandsFor, LeftFor}
-use Rattle.relay_laws.specs.Spelling.{BringsFit}
+use Rattle.relay_laws.specs.Spelling.{TimeoutsFit, BringsFit}
 use Rattle.relay_drive.specs.Known.{known, Point, Question}
 use Rattle.evplay.proofs.HeadlineLemmas.{run-of}
 use Rattle.evplay.proofs.OrderLemmas.{opens-in-order}
@@ -43,32 +43,34 @@ took-of : (turns : List ScriptTurn) (t : Trace) (s : State) → s.settings.links
 took-of turns t s l h = subst (λ n. AlwaysTookAll turns n [] t) l h
 
 -- All turns were made.
-pub went-run : (script : ScriptValue) (p : PortState) (t : Trace) (s : State) → s.settings ≡ settings_of script →
+pub went-run : (script : ScriptValue) (p : PortState) (t : Trace) (s : State) →
+    script.settings.links ≡ 256 → TimeoutsFit (settings_of script) → s.settings ≡ settings_of script →
     StandsFor t Stage.Between s → NamesOpened 0 (lines_of script.turns) → BringsFit script.turns →
     count_by is_turn t ≡ length script.turns →
     PortKnown Point.Between p s script.turns t → AtTurnEnds (StoodBetween (settings_of script)) t →
     IsRun script TurnAnswer.Went t (lines_below s s.plain.opened)
-went-run script p t s g k names fit all seen ends =
+went-run script p t s usual_links timeouts g k names fit all seen ends =
     let turns = script.turns in
-    let l : s.settings.links ≡ 256 = ap (λ (z : Settings). z.links) g in
+    let l : s.settings.links ≡ 256 = ap (λ (z : Settings). z.links) g ∙ usual_links in
     let called = called-for turns t Stage.Between s k names (omega (arith, all)) in
     let took = took-of turns t s l (always_called turns s.settings.links [] t called seen.0.1) in
     let waits : TookAll turns 256 t = subst (λ n. TookAll turns n t) l (took_called turns s.settings.links t called seen.1) in
     let planned : count_by is_turn t ≡ length turns + 0 = omega (arith, all) in
     let played = vouched_played script p t 0 TurnAnswer.Went seen.0.0 called took (planned, waits) in
-    run-of script TurnAnswer.Went t Stage.Between s g k refl fit played ends
+    run-of script TurnAnswer.Went t Stage.Between s usual_links timeouts g k refl fit played ends
 
 -- The last turn was refused with a failed poll.
-pub failed-run : (script : ScriptValue) (p : PortState) (t : Trace) (s : State) → s.settings ≡ settings_of script →
+pub failed-run : (script : ScriptValue) (p : PortState) (t : Trace) (s : State) →
+    script.settings.links ≡ 256 → TimeoutsFit (settings_of script) → s.settings ≡ settings_of script →
     LeftFor TurnAnswer.PollFault t s → NamesOpened 0 (lines_of script.turns) → BringsFit script.turns →
     count_by is_turn t ≤ length script.turns →
     PortKnown Point.Accepting p s script.turns t → AtTurnEnds (StoodBetween (settings_of script)) t →
     IsRun script TurnAnswer.PollFault t (lines_below s s.plain.opened)
-failed-run script p t s g k names fit few seen ends =
+failed-run script p t s usual_links timeouts g k names fit few seen ends =
     let turns = script.turns in
-    let l : s.settings.links ≡ 256 = ap (λ (z : Settings). z.links) g in
+    let l : s.settings.links ≡ 256 = ap (λ (z : Settings). z.links) g ∙ usual_links in
     let called = called-for turns t k.stage s k.stands names few in
     let took = took-of turns t s l (always_called turns s.settings.links [] t called seen.0.1) in
     let planned : count_by is_turn t ≤ length turns + 0 = omega (arith, few) in
     let played = vouched_played script p t 0 TurnAnswer.PollFault seen.0.0 called took planned in
-    run-of script TurnAnswer.PollFault t k.stage s g k.stands k.left fit played ends
+    run-of script TurnAnswer.PollFault t k.stage s usual_links timeouts g k.stands k.left fit played ends

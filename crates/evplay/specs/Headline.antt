@@ -14,7 +14,7 @@ use Rattle.relay_model.specs.Totals.{opened}
 use Rattle.relay_model.specs.FilterLaws.{IsPrefixOf}
 use Rattle.relay_model.specs.Filter.{filter_of}
 use Rattle.relay_model.specs.Flow.{passed, passed_at_end}
-use Rattle.relay_model.specs.Settings.{Settings, usual}
+use Rattle.relay_model.specs.Settings.{Settings}
 use Rattle.relay_model.specs.Rooms.{read_kind, write_kind}
 use Rattle.relay_model.specs.Plain.{Plain}
 use Rattle.relay_model.specs.Stages.{Stage, at}
@@ -23,7 +23,8 @@ use Rattle.relay_model.specs.Answers.{TurnAnswer, LeftAt}
 use Rattle.relay_model.specs.Stands.{AllAccounted}
 use Rattle.relay_model.specs.Quiet.{IsQuiet}
 use Rattle.relay_model.specs.Plays.{Plays}
-use Rattle.script_port.specs.ScriptPlayed.{script_played}
+use Rattle.relay_model.specs.Script.{Script}
+use Rattle.relay_core.specs.SettingsView.{model_settings}
 use Rattle.relay_model.specs.Causes.{HasCause}
 use Rattle.relay_state.specs.Closing.{in_side, out_side}
 use Rattle.relay_laws.specs.Links.{link_state_in}
@@ -43,9 +44,13 @@ abbrev pub TellsLinks : Trace → ℕ → List LinkCount → Type 0
 TellsLinks t link [] = Unit {0}
 TellsLinks t link (told ∷ more) = TellsLink t link told × TellsLinks t (suc link) more
 
--- The settings of a script's run: the usual ones, since no line of a script sets anything yet.
+-- the settings of a script's run: what its lines set, and else the usual ones
 abbrev pub settings_of : ScriptValue → Settings
-settings_of script = usual
+settings_of script = model_settings script.settings
+
+-- the script as the model plays it
+abbrev pub script_run : ScriptValue → Script
+script_run script = record { settings = settings_of script; plans = []; turns = script.turns }
 
 -- What the filters of a direction make of what was read where it begins: before the side has ended without their ends, from then on
 -- with them.
@@ -80,7 +85,7 @@ pub record EndedSo (g : Settings) (answer : TurnAnswer) (t : Trace) : Type 0 whe
 -- done with its end but that it is closed, once; and each free has its cause. The text of the trace, read as a trace, is the same trace. The report has a line for each opened link and
 -- tells of it.
 pub record IsRun (script : ScriptValue) (answer : TurnAnswer) (t : Trace) (links : List LinkCount) : Type 0 where
-  pub played : Plays (script_played script) 0 answer t
+  pub played : Plays (script_run script) 0 answer t
   pub polls : PollsFailed answer script.turns t
   pub ended : EndedSo (settings_of script) answer t
   pub turn_ends : AtTurnEnds (StoodBetween (settings_of script)) t

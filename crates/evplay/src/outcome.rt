@@ -39,6 +39,7 @@ pub fn outcome_of(alloc: Global, mode: Mode, text: &[u8]) -> Result<Outcome, Sta
 
 /// What the script of links that the text spells comes to.
 fn relay(alloc: Global, text: &[u8]) -> Result<Outcome, Status>
+    requires { length text.now ≤ 2 ^ 24 }
     ensures comes_to { IfOk result (λ outcome. ComesTo Relay text.now outcome.status outcome.text.items) }
     ensures refused { IfErr result (λ status. Refuses Relay text.now status) }
 {

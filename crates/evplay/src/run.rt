@@ -1,7 +1,8 @@
 // Makes the turns of a script over a port that answers by it, and gives the text of what happened.
 ghost use Rattle.std.specs.Prelude.{◌≡◌, ◌≢◌, ◌≤◌, ◌⊎◌, length, IfOk, IfErr};
 ghost use Rattle.relay_drive.specs.declared.fault.DriveFault.TheVariants.{Memory, PollFault};
-ghost use Rattle.relay_laws.specs.Spelling.{BringsFit};
+ghost use Rattle.relay_laws.specs.Spelling.{BringsFit, TimeoutsFit};
+ghost use Rattle.evplay.specs.Headline.{settings_of};
 ghost use Rattle.ev_types.specs.ScriptTurn.{lines_of};
 ghost use Rattle.relay_model.specs.Called.{NamesOpened};
 ghost use Rattle.evplay.specs.Report.{lines_below};
@@ -9,7 +10,7 @@ ghost use Rattle.evplay.specs.Play.{IsRunText, run_text};
 ghost use Rattle.evplay.specs.Run.{answer_of, ended_as};
 
 use ev_types::{NoMemory, Status};
-use relay_drive::{Drive, DriveFault, Settings};
+use relay_drive::{Drive, DriveFault};
 use script_port::ScriptPort;
 use script_text::{LinkLine, Script, write_report};
 use std::alloc::Global;
@@ -43,13 +44,16 @@ pub fn run(alloc: Global, script: Script) -> Result<(Vec<u8>, RunEnd), DriveFaul
     requires few { length script.turns ≤ 20000 }
     requires names { NamesOpened 0 (lines_of script.turns) }
     requires brings { BringsFit script.turns }
+    requires links { script.settings.links ≡ 256 }
+    requires timeouts { TimeoutsFit (settings_of script) }
     ensures text { IfOk result (λ ran. IsRunText script (answer_of ran.1) ran.0.items) }
     ensures only_memory { IfErr result (λ fault. fault ≡ Memory) }
 {
     let turns = script.turns.len();
+    let settings = script.settings;
     let mut port = ScriptPort::new(alloc, script)?;
     let mut scribe = TextScribe::new(alloc);
-    let mut drive = Drive::new(alloc, Settings::usual())?;
+    let mut drive = Drive::new(alloc, settings)?;
     for _ in 0..turns {
         if let Err(fault) = drive.turn(&mut port, &mut scribe) {
             return cut_off(alloc, fault, scribe, &drive);

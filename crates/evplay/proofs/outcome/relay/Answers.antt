@@ -1,6 +1,7 @@
 use Rattle.script_port.proofs.ScriptSpelledLemmas.{spelled_names_opened}
 use Rattle.evplay.proofs.BroughtLemmas.{brings-fit}
-use Rattle.evplay.proofs.ScriptLemmas.{few-turns}
+use Rattle.evplay.proofs.ScriptLemmas.{few-turns, links-usual}
+use Rattle.evplay.proofs.TimeoutLemmas.{timeouts-fit}
 use Rattle.evplay.proofs.outcome.relay.Goals as goal
 
 pub run-requires-clause-few : goal.run-requires-clause-few
@@ -10,4 +11,10 @@ pub run-requires-clause-names : goal.run-requires-clause-names
 run-requires-clause-names c = spelled_names_opened c.args.text.now c.in-Ok.script c.in-Ok.ensures.script
 
 pub run-requires-clause-brings : goal.run-requires-clause-brings
-run-requires-clause-brings c = brings-fit c.args.text.now c.in-Ok.script c.in-Ok.ensures.script
+run-requires-clause-brings c = brings-fit c.args.text.now c.in-Ok.script c.in-Ok.ensures.script c.requires c.in-Ok.ensures.bytes
+
+pub run-requires-clause-links : goal.run-requires-clause-links
+run-requires-clause-links c = links-usual c.args.text.now c.in-Ok.script c.in-Ok.ensures.script
+
+pub run-requires-clause-timeouts : goal.run-requires-clause-timeouts
+run-requires-clause-timeouts c = timeouts-fit c.args.text.now c.in-Ok.script c.in-Ok.ensures.script

@@ -12,8 +12,6 @@ use Rattle.relay_model.specs.Answers.{TurnAnswer}
 use Rattle.relay_model.specs.RatesKept.{is_turn}
 use Rattle.relay_steps.specs.Meaning.{StandsFor, LeftFor}
 use Rattle.relay_laws.proofs.LawLemmas.{new_relay_stands}
-use Rattle.relay_core.specs.SettingsView.{model_settings}
-use Rattle.relay_steps.specs.Meaning.{IsBuilt}
 use Rattle.relay_drive.specs.declared.fault.DriveFault.{DriveFault}
 use Rattle.relay_drive.specs.declared.fault.DriveFault.TheVariants as fault
 use Rattle.relay_drive.specs.DriveValue.{DriveValue, new_drive, is_worn}
@@ -23,7 +21,7 @@ use Rattle.relay_drive.specs.Phases.{CutTurn}
 use Rattle.relay_drive.specs.DriveStands as drive
 use Rattle.relay_drive.proofs.BoundLaws.{new_drive_is_within, within_is_not_worn, went_is_bounded}
 use Rattle.evplay.proofs.FaultLemmas.{memory-or-poll}
-use Rattle.evplay.proofs.HeadlineLemmas.{usual-is, usual-built, stood-at}
+use Rattle.evplay.proofs.HeadlineLemmas.{built, stood-at}
 use Rattle.evplay.proofs.RunLemmas.{went-run, failed-run}
 use Rattle.evplay.proofs.TurnEndLemmas.{ends-none, ends-grow}
 use Rattle.evplay.proofs.TurnCountLemmas.{turn-once, turn-first, cut-poll-once, cut-poll-first, count-append}
@@ -54,16 +52,15 @@ err-as (Err e) p f = f e p
 
 pub loop-init : goal.loop-init
 loop-init c =
-    let u = c.usual.result in
     rw (c.in_ok-drive.ensures, c.new-scribe.ensures) (record {
       calm = refl;
-      settings = usual-is u c.usual.ensures.hold c.usual.ensures.links;
+      settings = refl;
       stands = record { fits = record { time = refl; last = refl; opened = refl }; entries = refl };
       turns = refl;
       seen = ((c.in_ok-port.ensures.vouched, tt), inl (λ called. refl));
-      means = new_relay_stands (model_settings u) (subst IsBuilt (sym (usual-is u c.usual.ensures.hold c.usual.ensures.links)) usual-built);
+      means = new_relay_stands (settings_of c.args.script) (built c.args.script.settings);
       ends = ends-none (StoodBetween (settings_of c.args.script));
-      within = subst (λ n. IsWithin 0 n (new_drive u)) c.usual.ensures.links (new_drive_is_within u);
+      within = subst (λ n. IsWithin 0 n (new_drive c.args.script.settings)) c.requires.links (new_drive_is_within c.args.script.settings);
     })
 
 pub loop-preserved : goal.loop-preserved
@@ -114,7 +111,7 @@ returns-clause-text c =
     ) in (
       t,
       lines_below s s.plain.opened,
-      went-run c.args.script c.loop.port t s inv.settings inv.means c.requires.names c.requires.brings
+      went-run c.args.script c.loop.port t s c.requires.links c.requires.timeouts inv.settings inv.means c.requires.names c.requires.brings
           (inv.turns ∙ all) inv.seen inv.ends,
       c.in_ok-written.ensures,
     )
@@ -153,7 +150,7 @@ returns-in-Err-clause-text c =
     let seen = w.told (Question.Took c.args.script.turns) t inv.stands inv.seen in
     let ends = ends-grow (StoodBetween (settings_of c.args.script)) t w.added inv.ends (stood-at (settings_of c.args.script) t Stage.Between c.loop.drive.state inv.settings inv.means)
     (cut-poll-first cut) once in
-    let run = failed-run c.args.script c.turn.new.port u s (rw w.settings inv.settings) left c.requires.names c.requires.brings counted seen ends in
+    let run = failed-run c.args.script c.turn.new.port u s c.requires.links c.requires.timeouts (rw w.settings inv.settings) left c.requires.names c.requires.brings counted seen ends in
     rw ended.1 (u, lines_below s s.plain.opened, run, rw (text, longer) refl))
 
 pub returns-in-Err-clause-only_memory : goal.returns-in-Err-clause-only_memory
