@@ -13,3 +13,4 @@ pub mod PollLemmas
 pub mod EventLemmas
 pub mod LineLemmas
 pub mod SpellingLemmas
+pub mod HandLemmas

@@ -3,3 +3,4 @@ pub mod Links
 pub mod Underway
 pub mod Frees
 pub mod Spelling
+pub mod Plainly

@@ -1,6 +1,7 @@
 // What the traces tell that a relay and a script have in common.
 ghost use Rattle.relay_laws.specs.Frees.{FreesAreFor};
 ghost use Rattle.relay_laws.specs.Links.{DoneIsWhole, LinksAreTold};
+ghost use Rattle.relay_laws.specs.Plainly.{PlainlyHandsOn};
 ghost use Rattle.relay_laws.specs.Spelling.{ReadsFitAsScripted, StoodIsSpellable};
 ghost use Rattle.relay_laws.specs.Underway.{BufferedIsUnderway};
 
@@ -38,4 +39,9 @@ pub fn reads_fit_as_scripted()
 /// direction, and beside each entry stand exactly the bytes that were got or taken.
 pub fn stood_is_spellable()
     ensures { StoodIsSpellable }
+{}
+
+/// Where no filter is set, what the filters make of what was read is what was read.
+pub fn plainly_hands_on()
+    ensures { PlainlyHandsOn }
 {}
