@@ -33,14 +33,16 @@ fault-called g t s e cs why live h (FaultCase.by_failure a) = (cs, refl, live, h
 fault-called g t s e cs why live h (FaultCase.by_timeout a b) = (cs, refl, live, h)
 fault-called g t s e cs why live h (FaultCase.by_filter a b d) = (cs, refl, live, h)
 
-closed-called : (g : Settings) (t : Trace) (s : Plain) (c : CloseStep) (cs : List CloseStep) (y : Entry) → Reaches g t (at (Closing (c ∷ cs)) s) →
+closed-called : (g : Settings) (t : Trace) (s : Plain) (c : CloseStep) (cs : List CloseStep) (y : Entry) →
+    Reaches g t (at (Closing (c ∷ cs)) s) →
     ClosedKind g (past g t) s c y → (e : SideId) (why : Cause) (moved given : ℕ) → y ≡ entry.Freed e why moved given →
     IsCalledFor g t (Closing (c ∷ cs)) s e why
 closed-called g t s c cs y r (ClosedKind.faulty {z = z} {why = w} a b) e why moved given h =
     let one : z ≡ e = cc in
     let two : w ≡ why = cc in
     subst (λ v. IsCalledFor g t (Closing (CloseStep.Faulty z ∷ cs)) s v why) one
-    (subst (λ v. IsCalledFor g t (Closing (CloseStep.Faulty z ∷ cs)) s z v) two (fault-called g t s z cs w a b (fault-case (side_at s z) w b)))
+    (subst (λ v. IsCalledFor g t (Closing (CloseStep.Faulty z ∷ cs)) s z v) two
+    (fault-called g t s z cs w a b (fault-case (side_at s z) w b)))
 closed-called g t s c cs y r (ClosedKind.write_ended a b) e why moved given h = absurd (cc)
 closed-called g t s c cs y r (ClosedKind.in_done {k = n} a b d f) e why moved given h =
     let i : SideId = record { link = n; side = In } in
@@ -58,7 +60,8 @@ closed-called g t s c cs y r (ClosedKind.out_done {k = n}) e why moved given h =
     let ready = (held g t (at x s) r).ready.0 in
     let lt = live-there s o (kept g t (at x s) r).counts.shape.sides ready.live in
     let none = faultless g t s (CloseStep.OutDone n) cs r (ordered g t (at x s) r).0 o refl refl lt ready.live in
-    subst (λ v. IsCalledFor g t x s v why) one (subst (λ v. IsCalledFor g t x s o v) two (cs, refl, ready.live, none, ready.out_ended, ready.in_ended))
+    subst (λ v. IsCalledFor g t x s v why) one
+    (subst (λ v. IsCalledFor g t x s o v) two (cs, refl, ready.live, none, ready.out_ended, ready.in_ended))
 closed-called g t s c cs y r (ClosedKind.peer_gone {z = z} a b d) e why moved given h =
     let x : Stage = Closing (CloseStep.PeerGone z ∷ cs) in
     let one : z ≡ e = cc in
@@ -86,7 +89,8 @@ put-called g t s x y new r (PutKind.asked same m l) e why moved given h = absurd
 put-called g t s x y new r (PutKind.recorded {gone = gone} {x = f} {rs = rs}) e why moved given h =
     let one : gone ≡ e = cc in
     let two : cause.Hook ≡ why = cc in
-    subst (λ v. IsCalledFor g t (Freeing gone f rs) s v why) one (subst (λ v. IsCalledFor g t (Freeing gone f rs) s gone v) two (f, rs, refl))
+    subst (λ v. IsCalledFor g t (Freeing gone f rs) s v why) one
+    (subst (λ v. IsCalledFor g t (Freeing gone f rs) s gone v) two (f, rs, refl))
 put-called g t s x y new r (PutKind.closed {c = c} {cs = cs} {e = z} a) e why moved given h =
     closed-called g t s c cs z r (closed-kind g (past g t) s c z a) e why moved given h
 
@@ -100,7 +104,8 @@ frees_are_called_for g t before after e why moved given bytes legal split =
       next = k.new;
       put = k.put;
       called = put-called g before k.old.plain k.old.stage (entry.Freed e why moved given, bytes) k.new k.reached
-          (put-kind g before k.old.stage k.old.plain (entry.Freed e why moved given) bytes k.new (kept g before k.old k.reached).placed k.put)
+          (put-kind g before k.old.stage k.old.plain (entry.Freed e why moved given) bytes k.new
+          (kept g before k.old k.reached).placed k.put)
           e why moved given refl;
     }
 
@@ -117,7 +122,8 @@ faults_are_answered g t s e left live = record {
     called : closing_entry g (past g t) s (CloseStep.Faulty e) ≡ option_map (freed_entry s e) (fault (side_at s e))
     called = ap (λ b. if b then option_map (freed_entry s e) (fault (side_at s e)) else None) live
 
-    entry_is : (why : Cause) → fault (side_at s e) ≡ Some why → closing_entry g (past g t) s (CloseStep.Faulty e) ≡ Some (freed_entry s e why)
+    entry_is : (why : Cause) → fault (side_at s e) ≡ Some why →
+        closing_entry g (past g t) s (CloseStep.Faulty e) ≡ Some (freed_entry s e why)
     entry_is why h = called ∙ ap (option_map (freed_entry s e)) h
 
     none_is : fault (side_at s e) ≡ None → closing_entry g (past g t) s (CloseStep.Faulty e) ≡ None

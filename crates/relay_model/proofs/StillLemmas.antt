@@ -1,5 +1,6 @@
 -- What stands still behind the free of a side, by induction over the steps.
-use Rattle.std.proofs.Common.{◌≡◌, ℕ, suc, ◌-◌, ◌<◌, ◌≤◌, Bool, true, false, ◌||◌, not, if◌then◌else◌, List, [], ◌∷◌, ◌++◌, ◌⊎◌, inl, inr, refl, sym, ◌∙◌, ap, subst, arith, slice_index_or}
+use Rattle.std.proofs.Common.{◌≡◌, ℕ, suc, ◌-◌, ◌<◌, ◌≤◌, Bool, true, false, ◌||◌, not, if◌then◌else◌, List, [], ◌∷◌, ◌++◌, ◌⊎◌, inl}
+use Rattle.std.proofs.Common.{inr, refl, sym, ◌∙◌, ap, subst, arith, slice_index_or}
 use Rattle.std.specs.Prelude.{All}
 use Rattle.std.proofs.lemmas.Bool.{cases_lt}
 use Rattle.ev_types.specs.declared.side.SideId.{SideId}
@@ -50,7 +51,8 @@ rest_of f = record { moved = f.moved; read_done = f.read_done; write_done = f.wr
 turned-rest : (r w : Filter) (xs : List ℕ) (hold : ℕ) (f : Flow) → rest_of (with_turned r w xs hold f) ≡ rest_of f
 turned-rest r w xs hold f = go f.held
   where
-    go : (b : Bool) → rest_of (if b then f else record f { turned = first_from (write_stops r w xs hold f) f.turned (f.moved - f.turned) }) ≡ rest_of f
+    go : (b : Bool) → rest_of
+        (if b then f else record f { turned = first_from (write_stops r w xs hold f) f.turned (f.moved - f.turned) }) ≡ rest_of f
     go true = refl
     go false = refl
 
@@ -58,13 +60,15 @@ turned-rest r w xs hold f = go f.held
 own-part : (g : Settings) (t : Trace) (s : Plain) (e : SideId) (x : Part) → is_live s e ≡ false → NeedsLive s e x →
     rest_of (flow_at (do_part g (past g t) e x s) e) ≡ rest_of (flow_at s e)
 own-part g t s e Part.Hold dead needs =
-    set-seen rest_of s.flows (number e) (with_held (read_filter g s e) (write_filter g s (peer e)) (bytes_read e t) (hold_mark g s (peer e)) (flow_at s e)) no_flow refl
+    set-seen rest_of s.flows (number e)
+    (with_held (read_filter g s e) (write_filter g s (peer e)) (bytes_read e t) (hold_mark g s (peer e)) (flow_at s e)) no_flow refl
     (number e)
 own-part g t s e Part.Read dead needs = absurd (cc)
 own-part g t s e Part.Move dead needs = absurd (cc)
 own-part g t s e Part.Write dead needs = absurd (cc)
 own-part g t s e Part.Drain dead needs =
-    set-seen rest_of s.flows (number e) (with_turned (read_filter g s e) (write_filter g s (peer e)) (bytes_read e t) (hold_mark g s (peer e)) (flow_at s e)) no_flow
+    set-seen rest_of s.flows (number e)
+    (with_turned (read_filter g s e) (write_filter g s (peer e)) (bytes_read e t) (hold_mark g s (peer e)) (flow_at s e)) no_flow
     (turned-rest (read_filter g s e) (write_filter g s (peer e)) (bytes_read e t) (hold_mark g s (peer e)) (flow_at s e)) (number e)
 
 part-rest : (g : Settings) (t : Trace) (s : Plain) (z : SideId) (x : Part) (e : SideId) → is_live s e ≡ false → NeedsLive s z x →
@@ -78,19 +82,23 @@ part-rest g t s z x e dead needs = go (same_end e z) refl
         subst (λ v. rest_of (flow_at (do_part g (past g t) v x s) e) ≡ rest_of (flow_at s e)) same
         (own-part g t s e x dead (subst (λ v. NeedsLive s v x) (sym same) needs))
 
-quiet-rest : (g : Settings) (t : Trace) (s : Plain) (x : Stage) (new : State) (e : SideId) → PartsLive x s → is_live s e ≡ false → QuietKind g t s x new →
+quiet-rest : (g : Settings) (t : Trace) (s : Plain) (x : Stage) (new : State) (e : SideId) → PartsLive x s → is_live s e ≡ false →
+    QuietKind g t s x new →
     rest_of (flow_at new.plain e) ≡ rest_of (flow_at s e)
 quiet-rest g t s x new e parts dead (QuietKind.moved next a) = refl
 quiet-rest g t s x new e parts dead (QuietKind.filtered {e = z}) =
-    ap (λ flows. rest_of (slice_index_or flows (number e) no_flow)) (ap (λ v. v.flows) (raised_read g (past g t) z (read_run g (past g t) z false s)).1)
-    ∙ set-seen rest_of s.flows (number z) (with_used (read_filter g s z) (bytes_read z t) (read_mark s z) (flow_at s z)) no_flow refl (number e)
+    ap (λ flows. rest_of (slice_index_or flows (number e) no_flow))
+    (ap (λ v. v.flows) (raised_read g (past g t) z (read_run g (past g t) z false s)).1)
+    ∙ set-seen rest_of s.flows (number z) (with_used (read_filter g s z) (bytes_read z t) (read_mark s z) (flow_at s z)) no_flow refl
+    (number e)
 quiet-rest g t s x new e parts dead (QuietKind.dispatched) = refl
 quiet-rest g t s x new e parts dead (QuietKind.passed {x = p} {e = z}) = part-rest g t s z p e dead parts.0
 quiet-rest g t s x new e parts dead (QuietKind.closes) = refl
 quiet-rest g t s x new e parts dead (QuietKind.looked a) = refl
 quiet-rest g t s x new e parts dead (QuietKind.over) = refl
 
-put-rest : (g : Settings) (t : Trace) (s : Plain) (y : Event) (new : Plain) (e : SideId) → (flow_at new e ≡ flow_at s e) ⊎ Takes g t s y new e →
+put-rest : (g : Settings) (t : Trace) (s : Plain) (y : Event) (new : Plain) (e : SideId) →
+    (flow_at new e ≡ flow_at s e) ⊎ Takes g t s y new e →
     rest_of (flow_at new e) ≡ rest_of (flow_at s e)
 put-rest g t s y new e (inl same) = ap rest_of same
 put-rest g t s y new e (inr k) = ap rest_of k.flow
@@ -134,7 +142,8 @@ freed-names e (entry.Freed side why moved given, bytes) h = h
 freed-names e _ h = refl
 
 -- a side that was freed is one of an opened link
-freed-there : (g : Settings) (t : Trace) (s : State) (e : SideId) → Kept g t s.stage s.plain → is_freed e t ≡ true → e.link < s.plain.opened
+freed-there : (g : Settings) (t : Trace) (s : State) (e : SideId) → Kept g t s.stage s.plain → is_freed e t ≡ true →
+    e.link < s.plain.opened
 freed-there g t s e k h = go (cases_lt e.link s.plain.opened)
   where
     go : (e.link < s.plain.opened) ⊎ (s.plain.opened ≤ e.link) → e.link < s.plain.opened
@@ -156,7 +165,8 @@ record Passes (g : Settings) (first : Trace) (t : Trace) (new : State) : Type 0 
   reached : Reaches g first mid
   leads : Leads g first mid t new
 
-passes : (g : Settings) (t : Trace) (new : State) → Reaches g t new → (before : Trace) (y : Event) (after : Trace) → t ≡ before ++ y ∷ after →
+passes : (g : Settings) (t : Trace) (new : State) → Reaches g t new → (before : Trace) (y : Event) (after : Trace) →
+    t ≡ before ++ y ∷ after →
     Passes g (before ++ y ∷ []) t new
 passes g t new (Reaches.begins) before y after h = absurd (none before h)
   where
@@ -169,7 +179,8 @@ passes g t new (Reaches.goes {t = u} {s = old} r q) before y after h =
 passes g t new (Reaches.puts {t = u} {s = old} e bytes r p) before y after h =
     go (λ rest k. passes g u old r before y rest k) (pushed_split u (e, bytes) before y after h)
   where
-    go : ((rest : Trace) → u ≡ before ++ y ∷ rest → Passes g (before ++ y ∷ []) u old) → IsLast u (e, bytes) before y after ⊎ IsEarlier u (e, bytes) before y after →
+    go : ((rest : Trace) → u ≡ before ++ y ∷ rest → Passes g (before ++ y ∷ []) u old) →
+        IsLast u (e, bytes) before y after ⊎ IsEarlier u (e, bytes) before y after →
         Passes g (before ++ y ∷ []) (u ++ (e, bytes) ∷ []) new
     go earlier (inl k) =
         let same : u ++ (e, bytes) ∷ [] ≡ before ++ y ∷ [] = λ i. sym k.before_is i ++ sym k.is i ∷ [] in
