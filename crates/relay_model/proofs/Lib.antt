@@ -86,3 +86,4 @@ pub mod HooklessLemmas
 pub mod BoundSteps
 pub mod StillLemmas
 pub mod MarkLemmas
+pub mod OneWayLemmas

@@ -1,5 +1,6 @@
 // The laws that every legal trace obeys, each on a function whose contract it is.
 ghost use Rattle.relay_model.specs.Causes.{AskedFreesAreNext, FaultsAreAnswered, FaultsAreFreed, FaultyAreFreed, FreesAreCalledFor, FreesHaveCauses, NothingIsLeft, PlacesAreFirst};
+ghost use Rattle.relay_model.specs.Onward.{AllOnOneWay};
 ghost use Rattle.relay_model.specs.Quiet.{LegalIsQuiet};
 ghost use Rattle.relay_model.specs.Still.{FreedStandStill, FreedStoodStill};
 ghost use Rattle.relay_model.specs.Told.{FreesTellTotals, LinksInOrder, StateIsTold, TimeRises};
@@ -79,4 +80,9 @@ pub fn freed_stand_still()
 /// bytes were moved.
 pub fn freed_stood_still()
     ensures { FreedStoodStill }
+{}
+
+/// A trace tells the way that a run took: of any two states to which it leads, one leads to the other with no entry.
+pub fn all_on_one_way()
+    ensures { AllOnOneWay }
 {}

@@ -20,7 +20,7 @@ pub use laws::{
     what_is_met_is_bad,
 };
 pub use legal_laws::{
-    asked_frees_are_next, faults_are_answered, faults_are_freed, faulty_are_freed,
+    all_on_one_way, asked_frees_are_next, faults_are_answered, faults_are_freed, faulty_are_freed,
     freed_stand_still, freed_stood_still, frees_are_called_for, frees_have_causes,
     frees_tell_totals, legal_is_quiet, links_in_order, nothing_is_left, places_are_first,
     state_is_told, time_rises,
