@@ -22,7 +22,7 @@ use Rattle.relay_model.specs.Turn.{Reaches}
 use Rattle.relay_model.specs.Onward.{Leads}
 use Rattle.relay_model.specs.Totals.{is_opened}
 use Rattle.relay_model.specs.Told.{names, freed_by, is_freed, is_freeing}
-use Rattle.relay_model.specs.Still.{FreedStandStill, FreedStoodStill}
+use Rattle.relay_model.specs.Still.{FreedStandStill, FreedAreStill}
 use Rattle.relay_model.proofs.EndLemmas.{same_end-eq, same_end-refl}
 use Rattle.relay_model.proofs.KeepsLemmas.{Keeps-side, raised_read}
 use Rattle.relay_model.proofs.SeenLemmas.{seen, but_bad}
@@ -37,6 +37,7 @@ use Rattle.relay_model.proofs.TotalLemmas.{NeedsLive, PartsLive, parts-live, fre
 use Rattle.relay_model.proofs.TraceLemmas.{moved_at_free-append}
 use Rattle.relay_model.proofs.FlowLemmas.{Takes, put-flow}
 use Rattle.relay_model.proofs.PassedLemmas.{part-other}
+use Rattle.relay_model.proofs.OneWayLemmas.{all_on_one_way}
 use Rattle.relay_model.proofs.OnwardLemmas.{reaches-on, dead-stays, effect-more}
 
 -- What stands still, of one direction
@@ -195,19 +196,35 @@ told-there : (P : ℕ → Type 0) (xs ys : List ℕ) (n : ℕ) → All P (xs ++ 
 told-there P [] ys n h = h 0 0 (omega arith)
 told-there P (x ∷ xs) ys n h = told-there P xs ys n (λ k d lt. h (suc k) d (omega arith))
 
-pub freed_stood_still : FreedStoodStill
-freed_stood_still g t before after new e why moved given bytes r h =
-    let y : Event = (entry.Freed e why moved given, bytes) in
+still-back : (a b : Flow) → StandsStill a b → StandsStill b a
+still-back a b h = record { moved = sym h.moved; read_done = sym h.read_done; write_done = sym h.write_done }
+
+still-on : (a b c : Flow) → StandsStill a b → StandsStill b c → StandsStill a c
+still-on a b c h k = record { moved = k.moved ∙ h.moved; read_done = k.read_done ∙ h.read_done; write_done = k.write_done ∙ h.write_done }
+
+pub freed_are_still : FreedAreStill
+freed_are_still g t before after s new e why moved given bytes at_free r h =
     let k = passes g t new r before y after h in
-    let freed : is_freed e (before ++ y ∷ []) ≡ true = any-split (freed_by e) before y [] (same_end-refl e) in
-    let told : moved_at_free e t ≡ moved_at_free e before ++ moved ∷ moved_at_free e after =
-    ap (moved_at_free e) h ∙ moved_at_free-append e before (y ∷ after)
-    ∙ ap (λ b. moved_at_free e before ++ ((if b then moved ∷ [] else []) ++ moved_at_free e after)) (same_end-refl e) in
-    record {
-      since = k.mid;
-      reached = k.reached;
-      leads = k.leads;
-      still = freed_stand_still g (before ++ y ∷ []) t k.mid new e k.reached freed k.leads;
-      moved = sym (told-there (λ n. n ≡ (flow_at new.plain e).moved) (moved_at_free e before) (moved_at_free e after) moved
-          (subst (All (λ n. n ≡ (flow_at new.plain e).moved)) told (frees_tell_totals g t new.stage new.plain e r).moved));
-    }
+    let here : StandsStill (flow_at s.plain e) (flow_at k.mid.plain e) = elim (all_on_one_way g u s k.mid at_free k.reached) [
+      | inl l ↦ freed_stand_still g u u s k.mid e at_free freed l
+      | inr l ↦ still-back (flow_at k.mid.plain e) (flow_at s.plain e) (freed_stand_still g u u k.mid s e k.reached freed l)
+    ] in (
+      still-on (flow_at s.plain e) (flow_at k.mid.plain e) (flow_at new.plain e) here
+      (freed_stand_still g u t k.mid new e k.reached freed k.leads),
+      sym (told-there (λ n. n ≡ (flow_at new.plain e).moved) (moved_at_free e before) (moved_at_free e after) moved
+      (subst (All (λ n. n ≡ (flow_at new.plain e).moved)) told (frees_tell_totals g t new.stage new.plain e r).moved)),
+    )
+  where
+    y : Event
+    y = (entry.Freed e why moved given, bytes)
+
+    u : Trace
+    u = before ++ y ∷ []
+
+    freed : is_freed e u ≡ true
+    freed = any-split (freed_by e) before y [] (same_end-refl e)
+
+    told : moved_at_free e t ≡ moved_at_free e before ++ moved ∷ moved_at_free e after
+    told =
+        ap (moved_at_free e) h ∙ moved_at_free-append e before (y ∷ after)
+        ∙ ap (λ b. moved_at_free e before ++ ((if b then moved ∷ [] else []) ++ moved_at_free e after)) (same_end-refl e)
