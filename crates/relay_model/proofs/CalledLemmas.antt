@@ -1,5 +1,5 @@
 -- Each free is put from a state that calls for it, and a faulty side is freed.
-use Rattle.std.proofs.Common.{◌≡◌, ℕ, true, if◌then◌else◌, List, ◌∷◌, Some, None, refl, sym, ◌∙◌, ap, subst}
+use Rattle.std.proofs.Common.{◌≡◌, ℕ, true, if◌then◌else◌, List, ◌∷◌, Some, None, ◌⊎◌, inl, inr, refl, sym, ◌∙◌, ap, subst}
 use Rattle.std.specs.Prelude.{option_map}
 use Rattle.std.proofs.lemmas.Bool.{not-true}
 use Rattle.ev_types.specs.declared.side.Side.TheVariants.{In, Out}
@@ -11,12 +11,12 @@ use Rattle.ev_types.specs.declared.entry.Entry.TheVariants as entry
 use Rattle.ev_types.specs.Sides.{peer}
 use Rattle.ev_types.specs.Trace.{Event, Trace}
 use Rattle.relay_model.specs.Settings.{Settings}
-use Rattle.relay_model.specs.Plain.{Plain, side_at, is_live}
+use Rattle.relay_model.specs.Plain.{Plain, PlainSide, side_at, is_live}
 use Rattle.relay_model.specs.Past.{past}
 use Rattle.relay_model.specs.Close.{CloseStep, fault, freed_entry, closing_entry}
 use Rattle.relay_model.specs.Stages.{Stage, State, at, Freeing, Closing}
 use Rattle.relay_model.specs.Turn.{Reaches}
-use Rattle.relay_model.specs.Causes.{IsCalledFor, FreesAreCalledFor, FaultsAreAnswered}
+use Rattle.relay_model.specs.Causes.{IsCalledFor, PutFor, FreesAreCalledFor, FailedAreFreedSo, FaultsAreAnswered}
 use Rattle.relay_model.proofs.PlacedLemmas.{live-there}
 use Rattle.relay_model.proofs.ToldLemmas.{kept}
 use Rattle.relay_model.proofs.HeldLemmas.{held}
@@ -108,6 +108,30 @@ frees_are_called_for g t before after e why moved given bytes legal split =
           (kept g before k.old k.reached).placed k.put)
           e why moved given refl;
     }
+
+-- A side that failed
+
+failed-fault : (x : PlainSide) → x.failed ≡ true → fault x ≡ Some cause.Failed
+failed-fault x h = ap (λ b. if b then Some cause.Failed else (if x.expired then Some cause.Timeout else option_map cause.Filter x.bad)) h
+
+pub failed_are_freed_so : FailedAreFreedSo
+failed_are_freed_so g t before after e why moved given bytes legal split failed = go why k.called
+  where
+    k : PutFor g before e why moved given bytes
+    k = frees_are_called_for g t before after e why moved given bytes legal split
+
+    fails : is_live k.plain e ≡ true → fault (side_at k.plain e) ≡ Some cause.Failed
+    fails live =
+        let c = kept g before (at k.stage k.plain) k.reached in
+        failed-fault (side_at k.plain e) ((c.each e (live-there k.plain e c.counts.shape.sides live)).failed ∙ failed)
+
+    go : (c : Cause) → IsCalledFor g before k.stage k.plain e c → (c ≡ cause.Hook) ⊎ (c ≡ cause.Failed)
+    go cause.Hook h = inl refl
+    go cause.Failed h = inr refl
+    go cause.Timeout h = absurd (let same = sym (fails h.2) ∙ h.3 in cc)
+    go (cause.Filter place) h = absurd (let same = sym (fails h.2) ∙ h.3 in cc)
+    go cause.Done h = absurd (let same = sym (fails h.2) ∙ h.3 in cc)
+    go cause.PeerGone h = absurd (let same = sym (fails h.2) ∙ h.3 in cc)
 
 -- Each fault is answered
 

@@ -1,5 +1,5 @@
 -- Of two states to which a trace leads, one leads to the other with no entry, by induction over the trace.
-use Rattle.std.proofs.Common.{◌≡◌, ℕ, zero, suc, ◌+◌, ◌<◌, ◌≤◌, Bool, true, false, if◌then◌else◌, List, [], ◌∷◌, ◌++◌, length, fold}
+use Rattle.std.proofs.Common.{◌≡◌, ℕ, zero, suc, ◌+◌, ◌≤◌, Bool, true, false, if◌then◌else◌, List, [], ◌∷◌, ◌++◌, length, fold}
 use Rattle.std.proofs.Common.{Option, Some, None, ◌⊎◌, inl, inr, refl, sym, ◌∙◌, ap, subst, arith, length-append}
 use Rattle.std.specs.Prelude.{⊤}
 use Rattle.ev_types.specs.declared.side.SideId.{SideId}
@@ -31,14 +31,16 @@ data Steps (g : Settings) (t : Trace) : ℕ → State → State → Type 0 where
   none : {s : State} → Steps g t 0 s s
   step : {n : ℕ} {s mid new : State} → Quietly g t s.stage s.plain mid → Steps g t n mid new → Steps g t (suc n) s new
 
-steps-snoc : (g : Settings) (t : Trace) (n : ℕ) (s mid new : State) → Steps g t n s mid → Quietly g t mid.stage mid.plain new → Steps g t (suc n) s new
+steps-snoc : (g : Settings) (t : Trace) (n : ℕ) (s mid new : State) → Steps g t n s mid → Quietly g t mid.stage mid.plain new →
+    Steps g t (suc n) s new
 steps-snoc g t n s mid new Steps.none q = Steps.step {mid = new} q Steps.none
 steps-snoc g t n s mid new (Steps.step {n = m} {mid = next} p k) q = Steps.step {mid = next} p (steps-snoc g t m next mid new k q)
 
 steps-add : (g : Settings) (t : Trace) (n m : ℕ) (s mid new : State) → Steps g t n s mid → Steps g t m mid new → Steps g t (n + m) s new
 steps-add g t n m s mid new Steps.none k = subst (λ z. Steps g t z s new) (let e : m ≡ 0 + m = omega arith in e) k
 steps-add g t n m s mid new (Steps.step {n = i} {mid = next} p h) k =
-    subst (λ z. Steps g t z s new) (let e : suc (i + m) ≡ suc i + m = omega arith in e) (Steps.step {mid = next} p (steps-add g t i m next mid new h k))
+    subst (λ z. Steps g t z s new) (let e : suc (i + m) ≡ suc i + m = omega arith in e)
+    (Steps.step {mid = next} p (steps-add g t i m next mid new h k))
 
 steps-lead : (g : Settings) (t : Trace) (n : ℕ) (a s new : State) → Leads g t a t s → Steps g t n s new → Leads g t a t new
 steps-lead g t n a s new l Steps.none = l
@@ -120,10 +122,12 @@ round-end : (g : Settings) (t : Trace) (e : SideId) (es : List SideId) (parts : 
 round-end g t e es [] s n x new same k =
     inr (record { count = n; fewer = omega arith; steps = subst (λ v. Steps g t n (at v s) new) same k })
 round-end g t e es (p ∷ parts) s n x new same Steps.none =
-    inl (subst (λ v. Path g t (at v s) (at (Passing [] (e ∷ es)) (rounded g t e (p ∷ parts) s))) (sym same) (round-path g t e es (p ∷ parts) s))
+    inl (subst (λ v. Path g t (at v s) (at (Passing [] (e ∷ es)) (rounded g t e (p ∷ parts) s))) (sym same)
+    (round-path g t e es (p ∷ parts) s))
 round-end g t e es (p ∷ parts) s n x new same (Steps.step {n = m} {mid = mid} q k) =
     let is : mid ≡ at (Passing parts (e ∷ es)) (do_part g (past g t) e p s) = subst (λ v. Quietly g t v s mid) same q in
-    elim (round-end g t e es parts (do_part g (past g t) e p s) m (Passing parts (e ∷ es)) new refl (subst (λ v. Steps g t m v new) is k)) [
+    elim (round-end g t e es parts (do_part g (past g t) e p s) m (Passing parts (e ∷ es)) new refl
+    (subst (λ v. Steps g t m v new) is k)) [
       | inl h ↦ inl h
       | inr h ↦ inr (record { count = h.count; fewer = (let f = h.fewer in omega arith); steps = h.steps })
     ]
@@ -134,7 +138,9 @@ Both g t fuel = (s a b : State) (n m : ℕ) → n + m ≤ fuel → Steps g t n s
 
 forked : (g : Settings) (t : Trace) (fuel : ℕ) → Both g t fuel → (s a b mid other : State) (n m : ℕ) → suc n + suc m ≤ suc fuel →
     Quietly g t s.stage s.plain mid → Steps g t n mid a → Forks g t s.stage s.plain mid other → Steps g t m other b → Joined g t a b
-forked g t fuel ih s a b mid other n m le q k fork h = go (round-end g t fork.e fork.es parts s.plain m (Passing parts (fork.e ∷ fork.es)) b refl (subst (λ v. Steps g t m v b) fork.second h))
+forked g t fuel ih s a b mid other n m le q k fork h =
+    go (round-end g t fork.e fork.es parts s.plain m (Passing parts (fork.e ∷ fork.es)) b refl
+    (subst (λ v. Steps g t m v b) fork.second h))
   where
     parts : List Part
     parts = round_parts g (past g t) fork.e s.plain
@@ -147,7 +153,8 @@ forked g t fuel ih s a b mid other n m le q k fork h = go (round-end g t fork.e 
     go (inl p) =
         inr (path-add g t b s a (subst (λ v. Path g t b v) back p) (record { count = suc n; steps = Steps.step {mid = mid} q k }))
     go (inr p) =
-        ih s a b (suc n) p.count (let f = p.fewer in omega arith) (Steps.step {mid = mid} q k) (subst (λ v. Steps g t p.count v b) back p.steps)
+        ih s a b (suc n) p.count (let f = p.fewer in omega arith) (Steps.step {mid = mid} q k)
+        (subst (λ v. Steps g t p.count v b) back p.steps)
 
 flip : (g : Settings) (t : Trace) (a b : State) → Joined g t a b → Joined g t b a
 flip g t a b (inl h) = inr h
@@ -155,7 +162,8 @@ flip g t a b (inr h) = inl h
 
 both-ways : (g : Settings) (t : Trace) (fuel : ℕ) → Both g t fuel
 both-ways g t fuel s a b n m le Steps.none h = inl (record { count = m; steps = h })
-both-ways g t fuel s a b n m le (Steps.step {n = i} {mid = mid} q k) Steps.none = inr (record { count = suc i; steps = Steps.step {mid = mid} q k })
+both-ways g t fuel s a b n m le (Steps.step {n = i} {mid = mid} q k) Steps.none =
+    inr (record { count = suc i; steps = Steps.step {mid = mid} q k })
 both-ways g t zero s a b n m le (Steps.step {n = i} {mid = mid} q k) (Steps.step {n = j} {mid = other} p h) = absurd (omega arith)
 both-ways g t (suc fuel) s a b n m le (Steps.step {n = i} {mid = mid} q k) (Steps.step {n = j} {mid = other} p h) =
     elim (quiet-fork g t s.stage s.plain mid other q p) [
@@ -225,7 +233,8 @@ closed-ranked g p s c y x (ClosedKind.out_done) = tt
 closed-ranked g p s c y x (ClosedKind.peer_gone a b d) = tt
 closed-ranked g p s c y x (ClosedKind.shut a b) = tt
 
-put-ranked : (g : Settings) (t : Trace) (x : Stage) (s : Plain) (y : Entry) (bytes : List ℕ) (new : State) → Puts g t x s y bytes new → Ranked y x
+put-ranked : (g : Settings) (t : Trace) (x : Stage) (s : Plain) (y : Entry) (bytes : List ℕ) (new : State) → Puts g t x s y bytes new →
+    Ranked y x
 put-ranked g t Between s (entry.Turn ms) bytes new h = tt
 put-ranked g t Polling s (entry.Poll timeout) bytes new h = tt
 put-ranked g t (Wanting (w ∷ ws)) s (entry.Want side r d) bytes new h = tt
@@ -238,12 +247,14 @@ put-ranked g t (Serving (m ∷ ms)) s (entry.Write side offered answer) bytes ne
 put-ranked g t (Dispatching (r ∷ rs)) s (entry.Fired side y) bytes new h = tt
 put-ranked g t (Firing x rs) s (entry.Asked side a answer) bytes new h = refl
 put-ranked g t (Freeing gone x rs) s y bytes new h = subst (λ v. Ranked v (Freeing gone x rs)) (sym h.0) tt
-put-ranked g t (Closing (c ∷ cs)) s y bytes new h = closed-ranked g (past g t) s c y (Closing (c ∷ cs)) (closed-kind g (past g t) s c y h.0)
+put-ranked g t (Closing (c ∷ cs)) s y bytes new h =
+    closed-ranked g (past g t) s c y (Closing (c ∷ cs)) (closed-kind g (past g t) s c y h.0)
 put-ranked g t _ s y bytes new h = absurd h
 
 -- One entry from one state
 
-answer-same : (g : Settings) (p : Past) (s : Plain) (a : Act) (answer : AskAnswer) (x y : Plain) → Ask g p s a answer x → Ask g p s a answer y → x ≡ y
+answer-same : (g : Settings) (p : Past) (s : Plain) (a : Act) (answer : AskAnswer) (x y : Plain) → Ask g p s a answer x →
+    Ask g p s a answer y → x ≡ y
 answer-same g p s a answer x y h k = go (refusal g s a) h k
   where
     go : (r : Option AskAnswer) → Answered r g p s a answer x → Answered r g p s a answer y → x ≡ y
@@ -276,7 +287,8 @@ put-same g t _ s y bytes a b h k = absurd h
 -- One entry from two states of one way
 
 -- marks that are set or left out: what is left out before the one is left out behind it
-marking-fork : (g : Settings) (t u : Trace) (n : ℕ) (ws marks : List Want) (s : Plain) (first b : State) (w : Want) (bytes : List ℕ) (nb : State) →
+marking-fork : (g : Settings) (t u : Trace) (n : ℕ) (ws marks : List Want) (s : Plain) (first b : State) (w : Want) (bytes : List ℕ)
+    (nb : State) →
     first ≡ at (Marking ws marks) s → Steps g t n first b → Puts g t b.stage b.plain (entry.Ready w.side w.read w.write) bytes nb →
     Path g u (at (Marking ws (marks ++ w ∷ [])) s) nb
 marking-fork g t u n [] marks s first b w bytes nb same Steps.none r =
@@ -315,7 +327,8 @@ later-fork g t (Accepting i marks) s (entry.Opened link connected) bytes na mid 
     let low : rank b.stage ≡ 2 = put-ranked g t b.stage b.plain (entry.Opened link connected) bytes nb r in
     let high = steps-rank g t n mid b k in
     let here : rank mid.stage ≡ 3 = ap (λ (v : State). rank v.stage) q in omega arith)
-later-fork g t (Serving (m ∷ ms)) s (entry.Conn side answer) bytes na mid b nb n p q k r = absurd (let e : Call.Nothing ≡ Call.AskConnect = sym q.0 ∙ p.1 in cc)
+later-fork g t (Serving (m ∷ ms)) s (entry.Conn side answer) bytes na mid b nb n p q k r =
+    absurd (let e : Call.Nothing ≡ Call.AskConnect = sym q.0 ∙ p.1 in cc)
 later-fork g t (Serving (m ∷ ms)) s (entry.Read side room answer) bytes na mid b nb n p q k r =
     absurd (let e : Call.Nothing ≡ Call.AskRead room = sym q.0 ∙ p.1 in cc)
 later-fork g t (Serving (m ∷ ms)) s (entry.Write side offered answer) bytes na mid b nb n p q k r =
@@ -336,7 +349,8 @@ later-fork g t _ s y bytes na mid b nb n p q k r = absurd p
 put-fork : (g : Settings) (t : Trace) (a b : State) (y : Entry) (bytes : List ℕ) (na nb : State) (n : ℕ) → Steps g t n a b →
     Puts g t a.stage a.plain y bytes na → Puts g t b.stage b.plain y bytes nb → Joined g (t ++ (y, bytes) ∷ []) na nb
 put-fork g t a b y bytes na nb n Steps.none p r =
-    inl (subst (λ v. Path g (t ++ (y, bytes) ∷ []) na v) (put-same g t a.stage a.plain y bytes na nb p r) (record { count = 0; steps = Steps.none }))
+    inl (subst (λ v. Path g (t ++ (y, bytes) ∷ []) na v) (put-same g t a.stage a.plain y bytes na nb p r)
+    (record { count = 0; steps = Steps.none }))
 put-fork g t a b y bytes na nb n (Steps.step {n = m} {mid = mid} q k) p r =
     later-fork g t a.stage a.plain y bytes na mid b nb m p q k r
 
@@ -383,7 +397,8 @@ joined-on g t a b x y (inr h) p q = paths-join g t b x y (path-add g t b a x h p
 abbrev OneWay : Settings → ℕ → Type 0
 OneWay g k = (t : Trace) (a b : State) → length t ≤ k → Reaches g t a → Reaches g t b → Joined g t a b
 
-origins-join : (g : Settings) (k : ℕ) (t : Trace) (a b : State) → length t ≤ k → ((u : Trace) (y : Event) → t ≡ u ++ y ∷ [] → (x z : State) →
+origins-join : (g : Settings) (k : ℕ) (t : Trace) (a b : State) → length t ≤ k →
+    ((u : Trace) (y : Event) → t ≡ u ++ y ∷ [] → (x z : State) →
     Reaches g u x → Reaches g u z → Joined g u x z) → Origin g t a → Origin g t b → Joined g t a b
 origins-join g k t a b le ih (Origin.begun h p) (Origin.begun i q) = paths-join g t start a b p q
 origins-join g k t a b le ih (Origin.begun h p) (Origin.behind v z o2 n2 i r put q) = absurd (no-last v z (sym h ∙ i))
@@ -412,7 +427,8 @@ one-way g zero t a b le r1 r2 =
     (λ u y h x z m n. absurd (let l = ap length h in omega (arith, length-append u (y ∷ [])))) (origin g t a r1) (origin g t b r2)
 one-way g (suc k) t a b le r1 r2 =
     origins-join g (suc k) t a b le
-    (λ u y h x z m n. one-way g k u x z (let l = ap length h in omega (arith, length-append u (y ∷ []))) m n) (origin g t a r1) (origin g t b r2)
+    (λ u y h x z m n. one-way g k u x z (let l = ap length h in omega (arith, length-append u (y ∷ []))) m n) (origin g t a r1)
+    (origin g t b r2)
 
 pub all_on_one_way : AllOnOneWay
 all_on_one_way g t a b r1 r2 = elim (one-way g (length t) t a b (omega arith) r1 r2) [

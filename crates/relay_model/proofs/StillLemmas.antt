@@ -210,9 +210,9 @@ freed_are_still g t before after s new e why moved given bytes at_free r h =
       | inr l ↦ still-back (flow_at k.mid.plain e) (flow_at s.plain e) (freed_stand_still g u u k.mid s e k.reached freed l)
     ] in (
       still-on (flow_at s.plain e) (flow_at k.mid.plain e) (flow_at new.plain e) here
-      (freed_stand_still g u t k.mid new e k.reached freed k.leads),
+          (freed_stand_still g u t k.mid new e k.reached freed k.leads),
       sym (told-there (λ n. n ≡ (flow_at new.plain e).moved) (moved_at_free e before) (moved_at_free e after) moved
-      (subst (All (λ n. n ≡ (flow_at new.plain e).moved)) told (frees_tell_totals g t new.stage new.plain e r).moved)),
+          (subst (All (λ n. n ≡ (flow_at new.plain e).moved)) told (frees_tell_totals g t new.stage new.plain e r).moved)),
     )
   where
     y : Event

@@ -168,6 +168,12 @@ abbrev pub FreesAreCalledFor : Type 0
 FreesAreCalledFor = (g : Settings) (t before after : Trace) (e : SideId) (why : Cause) (moved given : ℕ) (bytes : List ℕ) →
     IsLegal g t → t ≡ before ++ (entry.Freed e why moved given, bytes) ∷ after → PutFor g before e why moved given bytes
 
+-- A side that failed is freed for that, or by a hook: whatever other fault it has, and also where its link is done or its peer gone.
+abbrev pub FailedAreFreedSo : Type 0
+FailedAreFreedSo = (g : Settings) (t before after : Trace) (e : SideId) (why : Cause) (moved given : ℕ) (bytes : List ℕ) →
+    IsLegal g t → t ≡ before ++ (entry.Freed e why moved given, bytes) ∷ after → has_failed e before ≡ true →
+    (why ≡ cause.Hook) ⊎ (why ≡ cause.Failed)
+
 -- Where closing looks at a live side for its fault, the free with that cause is put, and nothing else goes on; with no fault
 -- nothing is put.
 pub record FaultAnswered (g : Settings) (t : Trace) (s : Plain) (e : SideId) (left : List CloseStep) : Type 0 where

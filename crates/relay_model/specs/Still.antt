@@ -22,5 +22,6 @@ FreedStandStill = (g : Settings) (t u : Trace) (s new : State) (e : SideId) → 
 -- As many bytes were moved as the free told.
 abbrev pub FreedAreStill : Type 0
 FreedAreStill = (g : Settings) (t before after : Trace) (s new : State) (e : SideId) (why : Cause) (moved given : ℕ) (bytes : List ℕ) →
-    Reaches g (before ++ (entry.Freed e why moved given, bytes) ∷ []) s → Reaches g t new → t ≡ before ++ (entry.Freed e why moved given, bytes) ∷ after →
+    Reaches g (before ++ (entry.Freed e why moved given, bytes) ∷ []) s → Reaches g t new →
+    t ≡ before ++ (entry.Freed e why moved given, bytes) ∷ after →
     StandsStill (flow_at s.plain e) (flow_at new.plain e) × ((flow_at new.plain e).moved ≡ moved)

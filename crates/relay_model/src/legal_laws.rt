@@ -1,5 +1,6 @@
 // The laws that every legal trace obeys, each on a function whose contract it is.
-ghost use Rattle.relay_model.specs.Causes.{AskedFreesAreNext, FaultsAreAnswered, FaultsAreFreed, FaultyAreFreed, FreesAreCalledFor, FreesHaveCauses, NothingIsLeft, PlacesAreFirst};
+ghost use Rattle.relay_model.specs.Causes.{AskedFreesAreNext, FailedAreFreedSo, FaultsAreAnswered, FaultsAreFreed};
+ghost use Rattle.relay_model.specs.Causes.{FaultyAreFreed, FreesAreCalledFor, FreesHaveCauses, NothingIsLeft, PlacesAreFirst};
 ghost use Rattle.relay_model.specs.Onward.{AllOnOneWay};
 ghost use Rattle.relay_model.specs.Quiet.{LegalIsQuiet};
 ghost use Rattle.relay_model.specs.Still.{FreedAreStill, FreedStandStill};
@@ -85,4 +86,9 @@ pub fn all_on_one_way()
 /// how many bytes were moved.
 pub fn freed_are_still()
     ensures { FreedAreStill }
+{}
+
+/// A side that failed is freed for that, or by a hook, whatever else it is.
+pub fn failed_are_freed_so()
+    ensures { FailedAreFreedSo }
 {}
