@@ -33,7 +33,7 @@ fault-called g t s e cs why live h (FaultCase.by_failure a) = (cs, refl, live, h
 fault-called g t s e cs why live h (FaultCase.by_timeout a b) = (cs, refl, live, h)
 fault-called g t s e cs why live h (FaultCase.by_filter a b d) = (cs, refl, live, h)
 
-closed-called : (g : Settings) (t : Trace) (s : Plain) (c : CloseStep) (cs : List CloseStep) (y : Entry) →
+pub closed-called : (g : Settings) (t : Trace) (s : Plain) (c : CloseStep) (cs : List CloseStep) (y : Entry) →
     Reaches g t (at (Closing (c ∷ cs)) s) →
     ClosedKind g (past g t) s c y → (e : SideId) (why : Cause) (moved given : ℕ) → y ≡ entry.Freed e why moved given →
     IsCalledFor g t (Closing (c ∷ cs)) s e why

@@ -87,3 +87,4 @@ pub mod BoundSteps
 pub mod MarkLemmas
 pub mod OneWayLemmas
 pub mod StillLemmas
+pub mod ClosingLemmas

@@ -190,6 +190,20 @@ abbrev pub FaultsAreAnswered : Type 0
 FaultsAreAnswered =
     (g : Settings) (t : Trace) (s : Plain) (e : SideId) (left : List CloseStep) → is_live s e ≡ true → FaultAnswered g t s e left
 
+-- behind the one trace, and in the other, the free of a side stands with a cause
+pub record FreedAs (t u : Trace) (e : SideId) (why : Cause) : Type 0 where
+  pub early : Trace
+  pub moved : ℕ
+  pub given : ℕ
+  pub since : Trace
+  pub is : u ≡ t ++ (early ++ (entry.Freed e why moved given, []) ∷ since)
+
+-- A live side that has a fault as closing begins, or while it goes on, is freed with the cause that its faults call for.
+abbrev pub ClosingFreesFaulty : Type 0
+ClosingFreesFaulty = (g : Settings) (t u : Trace) (cs : List CloseStep) (s new : Plain) (e : SideId) (why : Cause) →
+    Reaches g t (at (Stage.Closing cs) s) → e.link < s.opened → is_live s e ≡ true → fault (side_at s e) ≡ Some why →
+    Leads g t (at (Stage.Closing cs) s) u (at Stage.Between new) → FreedAs t u e why
+
 -- A live side with a fault is freed before the turn is over.
 abbrev pub FaultyAreFreed : Type 0
 FaultyAreFreed =

@@ -1,5 +1,5 @@
 // The laws that every legal trace obeys, each on a function whose contract it is.
-ghost use Rattle.relay_model.specs.Causes.{AskedFreesAreNext, FailedAreFreedSo, FaultsAreAnswered, FaultsAreFreed};
+ghost use Rattle.relay_model.specs.Causes.{AskedFreesAreNext, ClosingFreesFaulty, FailedAreFreedSo, FaultsAreAnswered, FaultsAreFreed};
 ghost use Rattle.relay_model.specs.Causes.{FaultyAreFreed, FreesAreCalledFor, FreesHaveCauses, NothingIsLeft, PlacesAreFirst};
 ghost use Rattle.relay_model.specs.Onward.{AllOnOneWay};
 ghost use Rattle.relay_model.specs.Quiet.{LegalIsQuiet};
@@ -91,4 +91,9 @@ pub fn freed_are_still()
 /// A side that failed is freed for that, or by a hook, whatever else it is.
 pub fn failed_are_freed_so()
     ensures { FailedAreFreedSo }
+{}
+
+/// A live side that is faulty as closing begins is freed in it with the cause that its faults call for.
+pub fn closing_frees_faulty()
+    ensures { ClosingFreesFaulty }
 {}
