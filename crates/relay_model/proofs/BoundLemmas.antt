@@ -1,5 +1,7 @@
 -- How many bytes the buffers of a direction hold after each step of it.
-use Rattle.std.proofs.Common.{◌≡◌, ℕ, zero, suc, ◌+◌, ◌-◌, ◌<◌, ◌≤◌, Bool, true, false, ◌==◌, ◌&&◌, ◌||◌, not, if◌then◌else◌, List, [], ◌∷◌, ◌++◌, length, take, drop, Option, Some, None, is_none, refl, sym, ◌∙◌, ap, subst, arith, length-append, eqb-true}
+use Rattle.std.proofs.Common.{◌≡◌, ℕ, zero, suc, ◌+◌, ◌-◌, ◌<◌, ◌≤◌, Bool, true, false, ◌==◌, ◌&&◌, ◌||◌, not, if◌then◌else◌, List, []}
+use Rattle.std.proofs.Common.{◌∷◌, ◌++◌, length, take, drop, Option, Some, None, is_none, refl, sym, ◌∙◌, ap, subst, arith}
+use Rattle.std.proofs.Common.{length-append, eqb-true}
 use Rattle.std.specs.Prelude.{nat_lt, nat_le, is_some, bytes_eq}
 use Rattle.std.proofs.lemmas.Bool.{and_parts, or_parts, leb-false, ltb-true}
 use Rattle.std.proofs.lemmas.List.{length-drop, length-take-le, take_all}
@@ -11,7 +13,8 @@ use Rattle.relay_model.specs.FilterLaws.{PrefixLaw, last_of, more, more_at_end}
 use Rattle.relay_model.specs.FilterRun.{adds, end_adds}
 use Rattle.relay_model.specs.Flow.{Flow, Fits, no_flow, middle, outcome, raw_input, input, output, raw_output}
 use Rattle.relay_model.specs.Conserved.{all_moved}
-use Rattle.relay_model.specs.Pass.{first_from, is_over, read_stops, with_used, with_read_done, with_moved, with_held, write_stops, with_turned, with_write_done}
+use Rattle.relay_model.specs.Pass.{first_from, is_over, read_stops, with_used, with_read_done, with_moved, with_held, write_stops}
+use Rattle.relay_model.specs.Pass.{with_turned, with_write_done}
 use Rattle.relay_model.proofs.EveryFilter.{every_filter}
 use Rattle.relay_model.proofs.FlowSteps.{middle-used, middle-finished, middle-got, outcome-grown}
 use Rattle.relay_model.proofs.FilterRunLemmas.{before-push, LooksAt, read-looks, write-looks}
@@ -38,8 +41,10 @@ one-more n xs lt = go (drop n xs) refl
     go (y ∷ ys) e = record { byte = y; is = take-add n 1 xs ∙ ap (λ z. take n xs ++ take 1 z) e }
 
 -- a run passes its limit by at most one byte
-run-bound : (k : FilterKind) (all : List ℕ) (gone limit most : ℕ) (stop : ℕ → Bool) → LooksAt k stop limit 0 gone all → limit ≤ most → (n left : ℕ) → n + left ≤ length all →
-    length ((filter_of k).before (take n all)) ≤ gone + most + 1 → length ((filter_of k).before (take (first_from stop n left) all)) ≤ gone + most + 1
+run-bound : (k : FilterKind) (all : List ℕ) (gone limit most : ℕ) (stop : ℕ → Bool) → LooksAt k stop limit 0 gone all → limit ≤ most →
+    (n left : ℕ) → n + left ≤ length all →
+    length ((filter_of k).before (take n all)) ≤ gone + most + 1 →
+    length ((filter_of k).before (take (first_from stop n left) all)) ≤ gone + most + 1
 run-bound k all gone limit most stop looks le n zero fits h = h
 run-bound k all gone limit most stop looks le n (suc left) fits h =
     go (λ next. run-bound k all gone limit most stop looks le (n + 1) left (omega arith) next) (stop n) refl
@@ -50,11 +55,13 @@ run-bound k all gone limit most stop looks le n (suc left) fits h =
     one : OneMore n all
     one = one-more n all (omega arith)
 
-    go : (length (f.before (take (n + 1) all)) ≤ gone + most + 1 → length (f.before (take (first_from stop (n + 1) left) all)) ≤ gone + most + 1) →
+    go : (length (f.before (take (n + 1) all)) ≤ gone + most + 1 →
+        length (f.before (take (first_from stop (n + 1) left) all)) ≤ gone + most + 1) →
         (b : Bool) → stop n ≡ b → length (f.before (take (if b then n else first_from stop (n + 1) left) all)) ≤ gone + most + 1
     go next true e = h
     go next false e =
-        let parts = or_parts (nat_le limit (length (drop gone (f.before (take n all))) + 0)) (is_some (f.bad (take (n + 1) all))) (sym (looks n) ∙ e) in
+        let parts = or_parts (nat_le limit (length (drop gone (f.before (take n all))) + 0)) (is_some (f.bad (take (n + 1) all)))
+        (sym (looks n) ∙ e) in
         let below = leb-false limit (length (drop gone (f.before (take n all))) + 0) parts.0 in
         let good : f.bad (take n all ++ one.byte ∷ []) ≡ None = ap f.bad (sym one.is) ∙ none_where (f.bad (take (n + 1) all)) parts.1 in
         let made : f.before (take (n + 1) all) ≡ f.before (take n all) ++ adds k (length (take n all)) (last_of (take n all)) one.byte =
@@ -73,17 +80,22 @@ end-most k xs =
     let c = end-one k (last_of xs) in omega (arith, a, b, c)
 
 end-free : (f : Filter) (xs : List ℕ) → holds f xs ≡ false → f.at_end xs ≡ f.before xs
-end-free f xs h = (bytes_eq-Decides (f.at_end xs) (f.before xs)).0 (go (bytes_eq (f.at_end xs) (f.before xs)) (or_parts (not (bytes_eq (f.at_end xs) (f.before xs))) (is_some (f.bad_at_end xs) && is_none (f.bad xs)) h).0)
+end-free f xs h =
+    (bytes_eq-Decides (f.at_end xs) (f.before xs)).0
+    (go (bytes_eq (f.at_end xs) (f.before xs))
+    (or_parts (not (bytes_eq (f.at_end xs) (f.before xs))) (is_some (f.bad_at_end xs) && is_none (f.bad xs)) h).0)
   where
     go : (b : Bool) → not b ≡ false → b ≡ true
     go true e = refl
     go false e = absurd (cc)
 
 -- an end that is over passes no limit that was kept
-over-bound : (k : FilterKind) (xs : List ℕ) (gone limit most n : ℕ) (room : Bool) → limit ≤ most → n ≡ length ((filter_of k).before xs) - gone →
+over-bound : (k : FilterKind) (xs : List ℕ) (gone limit most n : ℕ) (room : Bool) → limit ≤ most →
+    n ≡ length ((filter_of k).before xs) - gone →
     room ≡ nat_lt n limit → is_over (filter_of k) xs room ≡ true →
     length ((filter_of k).before xs) ≤ gone + most + 1 → length ((filter_of k).at_end xs) ≤ gone + most + 1
-over-bound k xs gone limit most n room le size is_room over h = go (holds (filter_of k) xs) refl (and_parts (is_none ((filter_of k).bad_at_end xs)) _ over).1
+over-bound k xs gone limit most n room le size is_room over h =
+    go (holds (filter_of k) xs) refl (and_parts (is_none ((filter_of k).bad_at_end xs)) _ over).1
   where
     go : (b : Bool) → holds (filter_of k) xs ≡ b → (not b || room) ≡ true → length ((filter_of k).at_end xs) ≤ gone + most + 1
     go false e o = let same = ap length (end-free (filter_of k) xs e) in omega arith
@@ -121,7 +133,8 @@ module _ (j k : FilterKind) (read : List ℕ) (ended : Bool) (most most_held : �
   law_r : PrefixLaw (filter_of j)
   law_r = (every_filter j).prefix
 
-  pub used-bounded : (mark : ℕ) → mark ≤ most → Bounded (filter_of j) (filter_of k) read most most_held (with_used (filter_of j) read mark f)
+  pub used-bounded : (mark : ℕ) → mark ≤ most →
+      Bounded (filter_of j) (filter_of k) read most most_held (with_used (filter_of j) read mark f)
   used-bounded mark le = by_flag f.read_done refl
     where
       stop : ℕ
@@ -144,21 +157,28 @@ module _ (j k : FilterKind) (read : List ℕ) (ended : Bool) (most most_held : �
       by_flag false e =
           let same : f.used + (stop - f.used) ≡ stop = omega (arith, above) in
           let grown : middle r read now ≡ middle r read f ++ more r (take f.used read) (take (stop - f.used) (raw_input read f)) =
-          subst (λ n. middle r read (record f { used = n }) ≡ middle r read f ++ more r (take f.used read) (take (stop - f.used) (raw_input read f))) same
+          subst (λ n. middle r read (record f { used = n }) ≡ middle r read f ++ more r (take f.used read)
+          (take (stop - f.used) (raw_input read f))) same
           (middle-used r law_r read f (stop - f.used) e) in
           let before : length (r.before (take f.used read)) ≤ f.moved + most + 1 =
           subst (λ d. length (if d then r.at_end (take f.used read) else r.before (take f.used read)) ≤ f.moved + most + 1) e b.inp in
           let after : length (r.before (take stop read)) ≤ f.moved + most + 1 =
-          run-bound j read f.moved mark most (read_stops r read mark f) (read-looks j read mark f e) le f.used (length read - f.used) (omega (arith, fits.used)) before in
-          let made : outcome r w read now ≡ outcome r w read f = outcome-grown r w read read ended f fits stop f.read_done (more r (take f.used read) (take (stop - f.used) (raw_input read f))) grown in
+          run-bound j read f.moved mark most (read_stops r read mark f) (read-looks j read mark f e) le f.used (length read - f.used)
+          (omega (arith, fits.used)) before in
+          let made : outcome r w read now ≡ outcome r w read f =
+          outcome-grown r w read read ended f fits stop f.read_done
+          (more r (take f.used read) (take (stop - f.used) (raw_input read f))) grown in
           record {
             raw = let k = b.raw in omega (arith, above);
-            inp = subst (λ d. length (if d then r.at_end (take stop read) else r.before (take stop read)) ≤ f.moved + most + 1) (sym e) after;
+            inp =
+                subst (λ d. length (if d then r.at_end (take stop read) else r.before (take stop read)) ≤ f.moved + most + 1)
+                (sym e) after;
             out = b.out;
             raw_out = subst (λ z. length z ≤ f.given + most_held + 1) (sym made) b.raw_out;
           }
 
-  pub read_done-bounded : (mark : ℕ) (has_ended : Bool) → mark ≤ most → Bounded (filter_of j) (filter_of k) read most most_held (with_read_done (filter_of j) read mark has_ended f)
+  pub read_done-bounded : (mark : ℕ) (has_ended : Bool) → mark ≤ most →
+      Bounded (filter_of j) (filter_of k) read most most_held (with_read_done (filter_of j) read mark has_ended f)
   read_done-bounded mark has_ended le = by_flag f.read_done refl _ refl
     where
       room : Bool
@@ -177,7 +197,8 @@ module _ (j k : FilterKind) (read : List ℕ) (ended : Bool) (most most_held : �
           let whole : take f.used read ≡ read = take_all f.used read (omega arith) in
           let open_is : middle r read f ≡ r.before read =
           ap (λ d. if d then r.at_end (take f.used read) else r.before (take f.used read)) e ∙ ap r.before whole in
-          let size : length (input r read f) ≡ length (r.before read) - f.moved = length-drop f.moved (middle r read f) ∙ ap (λ z. length z - f.moved) open_is in
+          let size : length (input r read f) ≡ length (r.before read) - f.moved = length-drop f.moved (middle r read f)
+          ∙ ap (λ z. length z - f.moved) open_is in
           let before : length (r.before read) ≤ f.moved + most + 1 = subst (λ z. length z ≤ f.moved + most + 1) open_is b.inp in
           let after : length (r.at_end read) ≤ f.moved + most + 1 =
           over-bound j read f.moved mark most (length (input r read f)) room le size refl parts.1 before in
@@ -197,7 +218,8 @@ module _ (j k : FilterKind) (read : List ℕ) (ended : Bool) (most most_held : �
           Bounded r w read most most_held (if q then record f { moved = length (middle r read f) } else f)
       go false e = b
       go true e =
-          let none : length (output r read f) ≡ 0 = eqb-true (length (output r read f)) 0 (and_parts (not f.held) (length (output r read f) == 0) e).1 in
+          let none : length (output r read f) ≡ 0 =
+          eqb-true (length (output r read f)) 0 (and_parts (not f.held) (length (output r read f) == 0) e).1 in
           let there = length-take-le f.moved (middle r read f) fits.moved in
           let left_over = length-drop f.turned (take f.moved (middle r read f)) in
           let k = b.inp in
@@ -208,10 +230,12 @@ module _ (j k : FilterKind) (read : List ℕ) (ended : Bool) (most most_held : �
             raw_out = b.raw_out;
           }
 
-  pub held-bounded : (hold : ℕ) → Bounded (filter_of j) (filter_of k) read most most_held (with_held (filter_of j) (filter_of k) read hold f)
+  pub held-bounded : (hold : ℕ) →
+      Bounded (filter_of j) (filter_of k) read most most_held (with_held (filter_of j) (filter_of k) read hold f)
   held-bounded hold = record { raw = b.raw; inp = b.inp; out = b.out; raw_out = b.raw_out }
 
-  pub turned-bounded : (hold : ℕ) → hold ≤ most_held → Bounded (filter_of j) (filter_of k) read most most_held (with_turned (filter_of j) (filter_of k) read hold f)
+  pub turned-bounded : (hold : ℕ) → hold ≤ most_held →
+      Bounded (filter_of j) (filter_of k) read most most_held (with_turned (filter_of j) (filter_of k) read hold f)
   turned-bounded hold le = by_held f.held
     where
       ys : List ℕ
@@ -236,22 +260,27 @@ module _ (j k : FilterKind) (read : List ℕ) (ended : Bool) (most most_held : �
           subst (λ n. Bounded r w read most most_held (record f { turned = n })) same b
       by_flag false e =
           let before : length (w.before (take f.turned ys)) ≤ f.given + most_held + 1 =
-          subst (λ d. length (if d then w.at_end (take f.turned ys) else w.before (take f.turned ys)) ≤ f.given + most_held + 1) e b.raw_out in
+          subst (λ d. length (if d then w.at_end (take f.turned ys) else w.before
+          (take f.turned ys)) ≤ f.given + most_held + 1) e b.raw_out in
           let after : length (w.before (take stop ys)) ≤ f.given + most_held + 1 =
-          run-bound k ys f.given hold most_held (write_stops r w read hold f) (write-looks r k read hold f e) le f.turned (f.moved - f.turned)
+          run-bound k ys f.given hold most_held (write_stops r w read hold f) (write-looks r k read hold f e) le f.turned
+          (f.moved - f.turned)
           (omega (arith, fits.turned, fits.moved)) before in
           record {
             raw = b.raw;
             inp = b.inp;
             out = let k = b.out in omega (arith, above);
-            raw_out = subst (λ d. length (if d then w.at_end (take stop ys) else w.before (take stop ys)) ≤ f.given + most_held + 1) (sym e) after;
+            raw_out =
+                subst (λ d. length (if d then w.at_end (take stop ys) else w.before (take stop ys)) ≤ f.given + most_held + 1)
+                (sym e) after;
           }
 
       by_held : (q : Bool) → Bounded r w read most most_held (if q then f else now)
       by_held true = b
       by_held false = by_flag f.write_done refl
 
-  pub write_done-bounded : (hold : ℕ) → hold ≤ most_held → Bounded (filter_of j) (filter_of k) read most most_held (with_write_done (filter_of j) (filter_of k) read hold f)
+  pub write_done-bounded : (hold : ℕ) → hold ≤ most_held →
+      Bounded (filter_of j) (filter_of k) read most most_held (with_write_done (filter_of j) (filter_of k) read hold f)
   write_done-bounded hold le = by_held f.held
     where
       ys : List ℕ
@@ -277,7 +306,8 @@ module _ (j k : FilterKind) (read : List ℕ) (ended : Bool) (most most_held : �
           ap (λ d. if d then w.at_end (take f.turned ys) else w.before (take f.turned ys)) e ∙ ap w.before whole in
           let size : length (raw_output r w read f) ≡ length (w.before ys) - f.given =
           length-drop f.given (outcome r w read f) ∙ ap (λ z. length z - f.given) open_is in
-          let before : length (w.before ys) ≤ f.given + most_held + 1 = subst (λ z. length z ≤ f.given + most_held + 1) open_is b.raw_out in
+          let before : length (w.before ys) ≤ f.given + most_held + 1 =
+          subst (λ z. length z ≤ f.given + most_held + 1) open_is b.raw_out in
           let after : length (w.at_end ys) ≤ f.given + most_held + 1 =
           over-bound k ys f.given hold most_held (length (raw_output r w read f)) room le size refl parts.1 before in
           record {
@@ -304,5 +334,7 @@ module _ (j k : FilterKind) (read : List ℕ) (ended : Bool) (most most_held : �
         raw = let a = length-append read bytes in let c = length-drop f.used read in let d = fits.used in omega (arith, a, c, d, le);
         inp = subst (λ z. length z ≤ f.moved + most + 1) (sym same) b.inp;
         out = b.out;
-        raw_out = subst (λ z. length (if f.write_done then w.at_end (take f.turned z) else w.before (take f.turned z)) ≤ f.given + most_held + 1) (sym same) b.raw_out;
+        raw_out =
+            subst (λ z. length (if f.write_done then w.at_end (take f.turned z) else w.before
+            (take f.turned z)) ≤ f.given + most_held + 1) (sym same) b.raw_out;
       }

@@ -1,5 +1,6 @@
 -- The place that a side keeps is the first that one of its filters met, by induction over the steps.
-use Rattle.std.proofs.Common.{◌≡◌, ℕ, ◌+◌, ◌*◌, ◌<◌, ◌≤◌, Bool, true, false, ◌&&◌, ◌||◌, ◌==◌, not, if◌then◌else◌, List, [], ◌∷◌, ◌++◌, length, take, Option, Some, None, is_none, ◌⊎◌, inl, inr, refl, sym, ◌∙◌, ap, subst, arith, eqb-true}
+use Rattle.std.proofs.Common.{◌≡◌, ℕ, ◌+◌, ◌*◌, ◌<◌, ◌≤◌, Bool, true, false, ◌&&◌, ◌||◌, ◌==◌, not, if◌then◌else◌, List, [], ◌∷◌, ◌++◌}
+use Rattle.std.proofs.Common.{length, take, Option, Some, None, is_none, ◌⊎◌, inl, inr, refl, sym, ◌∙◌, ap, subst, arith, eqb-true}
 use Rattle.std.specs.Prelude.{nat_lt}
 use Rattle.std.proofs.lemmas.Bool.{and_parts, cases_lt, ltb-true}
 use Rattle.std.proofs.lemmas.List.{get_or-set_same, length-set, take_all}
@@ -35,10 +36,12 @@ use Rattle.relay_model.proofs.StageLemmas.{quiet-silent}
 -- Of filters
 
 -- what is met where no end may come is met also where one may
-met-more : (f : Filter) (xs : List ℕ) (used : ℕ) (a b room : Bool) (p : ℕ) → (a ≡ true → b ≡ true) → met f xs used a room ≡ Some p → met f xs used b room ≡ Some p
+met-more : (f : Filter) (xs : List ℕ) (used : ℕ) (a b room : Bool) (p : ℕ) → (a ≡ true → b ≡ true) → met f xs used a room ≡ Some p →
+    met f xs used b room ≡ Some p
 met-more f xs used a b room p more h = go room (nat_lt used (length xs)) a b more h
   where
-    go : (q c a b : Bool) → (a ≡ true → b ≡ true) → (if q then (if c then f.bad (take (used + 1) xs) else (if a then f.bad_at_end xs else None)) else None) ≡ Some p →
+    go : (q c a b : Bool) → (a ≡ true → b ≡ true) →
+        (if q then (if c then f.bad (take (used + 1) xs) else (if a then f.bad_at_end xs else None)) else None) ≡ Some p →
         (if q then (if c then f.bad (take (used + 1) xs) else (if b then f.bad_at_end xs else None)) else None) ≡ Some p
     go false c a b m h = absurd (cc)
     go true true a b m h = h
@@ -47,11 +50,13 @@ met-more f xs used a b room p more h = go room (nat_lt used (length xs)) a b mor
     go true false true false m h = absurd (let k = m refl in cc)
 
 -- where a place is met, not all is used, or the end is bad
-met-open : (f : Filter) (xs : List ℕ) (used : ℕ) (over room : Bool) (p : ℕ) → met f xs used over room ≡ Some p → (used < length xs) ⊎ ((over ≡ true) × (f.bad_at_end xs ≡ Some p))
+met-open : (f : Filter) (xs : List ℕ) (used : ℕ) (over room : Bool) (p : ℕ) → met f xs used over room ≡ Some p →
+    (used < length xs) ⊎ ((over ≡ true) × (f.bad_at_end xs ≡ Some p))
 met-open f xs used over room p h = go room (nat_lt used (length xs)) refl over refl h
   where
     go : (q c : Bool) → nat_lt used (length xs) ≡ c → (a : Bool) → over ≡ a →
-        (if q then (if c then f.bad (take (used + 1) xs) else (if a then f.bad_at_end xs else None)) else None) ≡ Some p → (used < length xs) ⊎ ((over ≡ true) × (f.bad_at_end xs ≡ Some p))
+        (if q then (if c then f.bad (take (used + 1) xs) else (if a then f.bad_at_end xs else None)) else None) ≡ Some p →
+        (used < length xs) ⊎ ((over ≡ true) × (f.bad_at_end xs ≡ Some p))
     go false c l a o h = absurd (cc)
     go true true l a o h = inl (ltb-true used (length xs) l)
     go true false l true o h = inr (o, h)
@@ -72,7 +77,8 @@ or_kept false b none = false-unless b none
     false-unless false h = refl
 
 -- A filter that met a place isn't finished by the same step.
-read_done-kept : (r : Filter) (xs : List ℕ) (mark : ℕ) (ended : Bool) (f : Flow) (p : ℕ) → read_place r xs mark ended f ≡ Some p → with_read_done r xs mark ended f ≡ f
+read_done-kept : (r : Filter) (xs : List ℕ) (mark : ℕ) (ended : Bool) (f : Flow) (p : ℕ) → read_place r xs mark ended f ≡ Some p →
+    with_read_done r xs mark ended f ≡ f
 read_done-kept r xs mark ended f p h = ap (λ b. record f { read_done = b }) (or_kept f.read_done _ no)
   where
     no : (ended && f.used == length xs && is_over r xs (nat_lt (length (input r xs f)) mark)) ≡ true → ⊥
@@ -90,15 +96,19 @@ record WriteMet (r w : Filter) (xs : List ℕ) (hold : ℕ) (may_end : Bool) (f 
   open_still : f.held ≡ false
   is : met w (take f.moved (middle r xs f)) f.turned (may_end && all_moved r xs f) (nat_lt (length (raw_output r w xs f)) hold) ≡ Some p
 
-write-met : (r w : Filter) (xs : List ℕ) (hold : ℕ) (may_end : Bool) (f : Flow) (p : ℕ) → write_place r w xs hold may_end f ≡ Some p → WriteMet r w xs hold may_end f p
+write-met : (r w : Filter) (xs : List ℕ) (hold : ℕ) (may_end : Bool) (f : Flow) (p : ℕ) → write_place r w xs hold may_end f ≡ Some p →
+    WriteMet r w xs hold may_end f p
 write-met r w xs hold may_end f p h = go f.held refl h
   where
-    go : (b : Bool) → f.held ≡ b → (if b then None else met w (take f.moved (middle r xs f)) f.turned (may_end && all_moved r xs f) (nat_lt (length (raw_output r w xs f)) hold)) ≡ Some p →
+    go : (b : Bool) → f.held ≡ b →
+        (if b then None else met w (take f.moved (middle r xs f)) f.turned (may_end && all_moved r xs f)
+        (nat_lt (length (raw_output r w xs f)) hold)) ≡ Some p →
         WriteMet r w xs hold may_end f p
     go true e h = absurd (cc)
     go false e h = record { open_still = e; is = h }
 
-write_done-kept : (r w : Filter) (xs : List ℕ) (hold : ℕ) (f : Flow) (p : ℕ) → write_place r w xs hold true f ≡ Some p → with_write_done r w xs hold f ≡ f
+write_done-kept : (r w : Filter) (xs : List ℕ) (hold : ℕ) (f : Flow) (p : ℕ) → write_place r w xs hold true f ≡ Some p →
+    with_write_done r w xs hold f ≡ f
 write_done-kept r w xs hold f p h = go f.held
   where
     room : Bool
@@ -120,14 +130,18 @@ write_done-kept r w xs hold f p h = go f.held
           | inr bad ↦ bad-not_over w ys room p (ap w.bad_at_end (sym same) ∙ bad.1) a.1
         ]
 
-    go : (b : Bool) → (if b then f else record f { write_done = f.write_done || (all_moved r xs f && f.turned == f.moved && is_over w ys room) }) ≡ f
+    go : (b : Bool) → (if b then f else record f {
+      write_done =
+          f.write_done || (all_moved r xs f && f.turned == f.moved && is_over w ys room);
+    }) ≡ f
     go true = refl
     go false = ap (λ q. record f { write_done = q }) (or_kept f.write_done _ no)
 
 -- Of steps
 
 -- a side that had no place has the one that is met now
-meets-new : (s : Plain) (e : SideId) (place : Option ℕ) (z : SideId) (p : ℕ) → (side_at s z).bad ≡ None → (side_at (meets e place s) z).bad ≡ Some p → (z ≡ e) × (place ≡ Some p)
+meets-new : (s : Plain) (e : SideId) (place : Option ℕ) (z : SideId) (p : ℕ) → (side_at s z).bad ≡ None →
+    (side_at (meets e place s) z).bad ≡ Some p → (z ≡ e) × (place ≡ Some p)
 meets-new s e place z p none now = go (put-cases e z x s)
   where
     x : PlainSide
@@ -140,13 +154,15 @@ meets-new s e place z p none now = go (put-cases e z x s)
         (same.0, ap (λ o. or_else o place) (sym was) ∙ sym (ap (λ v. v.bad) same.1) ∙ now)
 
 -- a side that kept a place keeps it
-pub meets-old : (s : Plain) (e : SideId) (place : Option ℕ) (z : SideId) (p : ℕ) → (side_at s z).bad ≡ Some p → (side_at (meets e place s) z).bad ≡ Some p
+pub meets-old : (s : Plain) (e : SideId) (place : Option ℕ) (z : SideId) (p : ℕ) → (side_at s z).bad ≡ Some p →
+    (side_at (meets e place s) z).bad ≡ Some p
 meets-old s e place z p was = go (put-cases e z x s)
   where
     x : PlainSide
     x = record (side_at s e) { bad = or_else (side_at s e).bad place }
 
-    go : ((z ≡ e) × (side_at (put_side e x s) z ≡ x)) ⊎ (side_at (put_side e x s) z ≡ side_at s z) → (side_at (meets e place s) z).bad ≡ Some p
+    go : ((z ≡ e) × (side_at (put_side e x s) z ≡ x)) ⊎ (side_at (put_side e x s) z ≡ side_at s z) →
+        (side_at (meets e place s) z).bad ≡ Some p
     go (inr same) = ap (λ v. v.bad) same ∙ was
     go (inl same) =
         let old : (side_at s e).bad ≡ Some p = ap (λ v. (side_at s v).bad) (sym same.0) ∙ was in
@@ -154,10 +170,12 @@ meets-old s e place z p was = go (put-cases e z x s)
 
 -- the marks and the life of sides stay
 pub meets-marks : (s : Plain) (e : SideId) (place : Option ℕ) (z : SideId) → (side_at (meets e place s) z).marks ≡ (side_at s z).marks
-meets-marks s e place z = set-seen (λ v. v.marks) s.sides (number e) (record (side_at s e) { bad = or_else (side_at s e).bad place }) _ refl (number z)
+meets-marks s e place z =
+    set-seen (λ v. v.marks) s.sides (number e) (record (side_at s e) { bad = or_else (side_at s e).bad place }) _ refl (number z)
 
 pub meets-live : (s : Plain) (e : SideId) (place : Option ℕ) (z : SideId) → is_live (meets e place s) z ≡ is_live s z
-meets-live s e place z = set-seen (λ v. v.live) s.sides (number e) (record (side_at s e) { bad = or_else (side_at s e).bad place }) _ refl (number z)
+meets-live s e place z =
+    set-seen (λ v. v.live) s.sides (number e) (record (side_at s e) { bad = or_else (side_at s e).bad place }) _ refl (number z)
 
 -- the direction that was changed
 pub flow-same : (s : Plain) (e : SideId) (x : Flow) → length s.flows ≡ 2 * s.opened → e.link < s.opened → flow_at (put_flow e x s) e ≡ x
@@ -168,8 +186,10 @@ abbrev pub Meets : Settings → Trace → Plain → SideId → ℕ → Type 0
 Meets g t s e place = ReadMeets g t s e place ⊎ WriteMeets g t s e place
 
 -- The same flow and marks tell the same of the read filter.
-read-meets : (g : Settings) (t : Trace) (s new : Plain) (e : SideId) (ended : Bool) (f : Flow) (p : ℕ) → flow_at new e ≡ f → (side_at new e).marks ≡ (side_at s e).marks →
-    (ended ≡ true → has_ended e t ≡ true) → read_place (read_filter g s e) (bytes_read e t) (read_mark s e) ended f ≡ Some p → ReadMeets g t new e p
+read-meets : (g : Settings) (t : Trace) (s new : Plain) (e : SideId) (ended : Bool) (f : Flow) (p : ℕ) → flow_at new e ≡ f →
+    (side_at new e).marks ≡ (side_at s e).marks →
+    (ended ≡ true → has_ended e t ≡ true) → read_place (read_filter g s e) (bytes_read e t) (read_mark s e) ended f ≡ Some p →
+    ReadMeets g t new e p
 read-meets g t s new e ended f p flow marks told h =
     let r = read_filter g s e in
     let xs = bytes_read e t in
@@ -177,18 +197,24 @@ read-meets g t s new e ended f p flow marks told h =
     ∙ ap (λ m. met r xs f.used (has_ended e t) (nat_lt (length (input r xs f)) (if m.read_high == 0 then 16384 else m.read_high))) marks
     ∙ met-more r xs f.used ended (has_ended e t) (nat_lt (length (input r xs f)) (read_mark s e)) p told h
 
-write-meets : (g : Settings) (t : Trace) (s new : Plain) (e : SideId) (may_end : Bool) (f : Flow) (p : ℕ) → flow_at new e ≡ f → (side_at new (peer e)).marks ≡ (side_at s (peer e)).marks →
+write-meets : (g : Settings) (t : Trace) (s new : Plain) (e : SideId) (may_end : Bool) (f : Flow) (p : ℕ) → flow_at new e ≡ f →
+    (side_at new (peer e)).marks ≡ (side_at s (peer e)).marks →
     (may_end ≡ true → is_live new e ≡ true) →
-    write_place (read_filter g s e) (write_filter g s (peer e)) (bytes_read e t) (hold_mark g s (peer e)) may_end f ≡ Some p → WriteMeets g t new (peer e) p
+    write_place (read_filter g s e) (write_filter g s (peer e)) (bytes_read e t) (hold_mark g s (peer e)) may_end f ≡ Some p →
+    WriteMeets g t new (peer e) p
 write-meets g t s new e may_end f p flow marks live h = subst (λ d. At d) (sym (peer-peer e)) here
   where
     w : Filter
     w = write_filter g s (peer e)
 
     At : SideId → Type 0
-    At d = ((flow_at new d).held ≡ false) × (met (write_filter g new (peer e)) (take (flow_at new d).moved (middle (read_filter g new d) (bytes_read d t) (flow_at new d))) (flow_at new d).turned
+    At d =
+        ((flow_at new d).held ≡ false)
+        × (met (write_filter g new (peer e))
+        (take (flow_at new d).moved (middle (read_filter g new d) (bytes_read d t) (flow_at new d))) (flow_at new d).turned
         (is_live new d && all_moved (read_filter g new d) (bytes_read d t) (flow_at new d))
-        (nat_lt (length (raw_output (read_filter g new d) (write_filter g new (peer e)) (bytes_read d t) (flow_at new d))) (hold_mark g new (peer e))) ≡ Some p)
+        (nat_lt (length (raw_output (read_filter g new d) (write_filter g new (peer e)) (bytes_read d t) (flow_at new d)))
+        (hold_mark g new (peer e))) ≡ Some p)
 
     r : Filter
     r = read_filter g s e
@@ -207,9 +233,12 @@ write-meets g t s new e may_end f p flow marks live h = subst (λ d. At d) (sym 
     here : At e
     here = (
       ap (λ (v : Flow). v.held) flow ∙ k.open_still,
-      ap (λ (v : Flow). met w (take v.moved (middle r xs v)) v.turned (is_live new e && all_moved r xs v) (nat_lt (length (raw_output r w xs v)) (hold_mark g new (peer e)))) flow
-          ∙ ap (λ m. met w (take f.moved (middle r xs f)) f.turned (is_live new e && all_moved r xs f) (nat_lt (length (raw_output r w xs f)) (if m.write_high == 0 then g.hold else m.write_high))) marks
-          ∙ met-more w (take f.moved (middle r xs f)) f.turned (may_end && all_moved r xs f) (is_live new e && all_moved r xs f) _ p (more may_end (all_moved r xs f) (is_live new e) live) k.is,
+      ap (λ (v : Flow). met w (take v.moved (middle r xs v)) v.turned (is_live new e && all_moved r xs v)
+          (nat_lt (length (raw_output r w xs v)) (hold_mark g new (peer e)))) flow
+          ∙ ap (λ m. met w (take f.moved (middle r xs f)) f.turned (is_live new e && all_moved r xs f)
+          (nat_lt (length (raw_output r w xs f)) (if m.write_high == 0 then g.hold else m.write_high))) marks
+          ∙ met-more w (take f.moved (middle r xs f)) f.turned (may_end && all_moved r xs f) (is_live new e && all_moved r xs f) _ p
+          (more may_end (all_moved r xs f) (is_live new e) live) k.is,
     )
 
 module _ (g : Settings) (t : Trace) (s : Plain) (e : SideId) (size : length s.flows ≡ 2 * s.opened) where
@@ -232,23 +261,29 @@ module _ (g : Settings) (t : Trace) (s : Plain) (e : SideId) (size : length s.fl
   turned = with_turned (read_filter g s e) (write_filter g s (peer e)) (bytes_read e t) (hold_mark g s (peer e)) (flow_at s e)
 
   abbrev turned_ran : Plain
-  turned_ran = put_flow e (with_turned (read_filter g s e) (write_filter g s (peer e)) (bytes_read e t) (hold_mark g s (peer e)) (flow_at s e)) s
+  turned_ran =
+      put_flow e (with_turned (read_filter g s e) (write_filter g s (peer e)) (bytes_read e t) (hold_mark g s (peer e)) (flow_at s e)) s
 
   abbrev place_of : Bool → Option ℕ
   place_of ended = read_place (read_filter g s e) (bytes_read e t) (read_mark s e) ended (flow_at used_ran e)
 
   abbrev write_place_of : Bool → Option ℕ
-  write_place_of may_end = write_place (read_filter g s e) (write_filter g s (peer e)) (bytes_read e t) (hold_mark g s (peer e)) may_end (flow_at turned_ran e)
+  write_place_of may_end =
+      write_place (read_filter g s e) (write_filter g s (peer e)) (bytes_read e t) (hold_mark g s (peer e)) may_end (flow_at turned_ran e)
 
-  run-meets : (ended : Bool) → (ended ≡ true → has_ended e t ≡ true) → (z : SideId) → z.link < s.opened → (p : ℕ) → (side_at s z).bad ≡ None →
+  run-meets : (ended : Bool) → (ended ≡ true → has_ended e t ≡ true) → (z : SideId) → z.link < s.opened → (p : ℕ) →
+      (side_at s z).bad ≡ None →
       (side_at (read_run g (past g t) e ended s) z).bad ≡ Some p → Meets g t (read_run g (past g t) e ended s) z p
   run-meets ended told z lt p none now =
       let k = meets-new used_ran e (place_of ended) z p none now in
       subst (λ v. Meets g t (read_run g (past g t) e ended s) v p) (sym k.0)
-      (inl (read-meets g t s (read_run g (past g t) e ended s) e ended (flow_at used_ran e) p refl (meets-marks used_ran e (place_of ended) e) told k.1))
+      (inl (read-meets g t s (read_run g (past g t) e ended s) e ended (flow_at used_ran e) p refl
+      (meets-marks used_ran e (place_of ended) e) told k.1))
 
-  read-part : (ended : Bool) → (ended ≡ true → has_ended e t ≡ true) → (z : SideId) → z.link < s.opened → (p : ℕ) → (side_at s z).bad ≡ None →
-      (let ran = read_run g (past g t) e ended s in let new = put_flow e (with_read_done (read_filter g s e) (bytes_read e t) (read_mark s e) ended (flow_at ran e)) ran in
+  read-part : (ended : Bool) → (ended ≡ true → has_ended e t ≡ true) → (z : SideId) → z.link < s.opened → (p : ℕ) →
+      (side_at s z).bad ≡ None →
+      (let ran = read_run g (past g t) e ended s in let new =
+      put_flow e (with_read_done (read_filter g s e) (bytes_read e t) (read_mark s e) ended (flow_at ran e)) ran in
       (side_at new z).bad ≡ Some p → Meets g t new z p)
   read-part ended told z lt p none now =
       let ran : Plain = read_run g (past g t) e ended s in
@@ -256,41 +291,54 @@ module _ (g : Settings) (t : Trace) (s : Plain) (e : SideId) (size : length s.fl
       let k = meets-new used_ran e (place_of ended) z p none now in
       let here : e.link < s.opened = subst (λ v. v.link < s.opened) k.0 lt in
       let same : flow_at (put_flow e done ran) e ≡ flow_at used_ran e =
-      flow-same ran e done (length-set s.flows (number e) used ∙ size) here ∙ read_done-kept r xs (read_mark s e) ended (flow_at used_ran e) p k.1 in
+      flow-same ran e done (length-set s.flows (number e) used ∙ size) here
+      ∙ read_done-kept r xs (read_mark s e) ended (flow_at used_ran e) p k.1 in
       subst (λ v. Meets g t (put_flow e done ran) v p) (sym k.0)
-      (inl (read-meets g t s (put_flow e done ran) e ended (flow_at used_ran e) p same (meets-marks used_ran e (place_of ended) e) told k.1))
+      (inl (read-meets g t s (put_flow e done ran) e ended (flow_at used_ran e) p same
+      (meets-marks used_ran e (place_of ended) e) told k.1))
 
-  drain-part : (z : SideId) → z.link < s.opened → (p : ℕ) → (side_at s z).bad ≡ None → (side_at (write_run g (past g t) e false s) z).bad ≡ Some p → Meets g t (write_run g (past g t) e false s) z p
+  drain-part : (z : SideId) → z.link < s.opened → (p : ℕ) → (side_at s z).bad ≡ None →
+      (side_at (write_run g (past g t) e false s) z).bad ≡ Some p → Meets g t (write_run g (past g t) e false s) z p
   drain-part z lt p none now =
       let new : Plain = write_run g (past g t) e false s in
       let k = meets-new turned_ran (peer e) (write_place_of false) z p none now in
       subst (λ v. Meets g t new v p) (sym k.0)
-      (inr (write-meets g t s new e false (flow_at turned_ran e) p refl (meets-marks turned_ran (peer e) (write_place_of false) (peer e)) (λ q. absurd (cc)) k.1))
+      (inr (write-meets g t s new e false (flow_at turned_ran e) p refl
+      (meets-marks turned_ran (peer e) (write_place_of false) (peer e)) (λ q. absurd (cc)) k.1))
 
   write-part : is_live s e ≡ true → (z : SideId) → z.link < s.opened → (p : ℕ) → (side_at s z).bad ≡ None →
-      (let ran = write_run g (past g t) e true s in let new = put_flow e (with_write_done (read_filter g s e) (write_filter g s (peer e)) (bytes_read e t) (hold_mark g s (peer e)) (flow_at ran e)) ran in
+      (let ran = write_run g (past g t) e true s in let new =
+      put_flow e (with_write_done (read_filter g s e) (write_filter g s (peer e)) (bytes_read e t) (hold_mark g s (peer e))
+      (flow_at ran e)) ran in
       (side_at new z).bad ≡ Some p → Meets g t new z p)
   write-part live z lt p none now =
       let ran : Plain = write_run g (past g t) e true s in
-      let done : Flow = with_write_done (read_filter g s e) (write_filter g s (peer e)) (bytes_read e t) (hold_mark g s (peer e)) (flow_at ran e) in
+      let done : Flow = with_write_done (read_filter g s e) (write_filter g s (peer e)) (bytes_read e t) (hold_mark g s (peer e))
+      (flow_at ran e) in
       let k = meets-new turned_ran (peer e) (write_place_of true) z p none now in
       let here : e.link < s.opened = subst (λ v. v.link < s.opened) k.0 lt in
       let same : flow_at (put_flow e done ran) e ≡ flow_at turned_ran e =
-      flow-same ran e done (length-set s.flows (number e) turned ∙ size) here ∙ write_done-kept r w xs (hold_mark g s (peer e)) (flow_at turned_ran e) p k.1 in
+      flow-same ran e done (length-set s.flows (number e) turned ∙ size) here
+      ∙ write_done-kept r w xs (hold_mark g s (peer e)) (flow_at turned_ran e) p k.1 in
       subst (λ v. Meets g t (put_flow e done ran) v p) (sym k.0)
-      (inr (write-meets g t s (put_flow e done ran) e true (flow_at turned_ran e) p same (meets-marks turned_ran (peer e) (write_place_of true) (peer e))
+      (inr (write-meets g t s (put_flow e done ran) e true (flow_at turned_ran e) p same
+      (meets-marks turned_ran (peer e) (write_place_of true) (peer e))
       (λ _. meets-live turned_ran (peer e) (write_place_of true) e ∙ live) k.1))
 
 -- what a part of a round makes a side keep is met there
-part-meets : (g : Settings) (t : Trace) (s : Plain) (e : SideId) (x : Part) → length s.flows ≡ 2 * s.opened → (side_at s e).ended ≡ has_ended e t → NeedsLive s e x →
-    (z : SideId) → z.link < s.opened → (p : ℕ) → (side_at s z).bad ≡ None → (side_at (do_part g (past g t) e x s) z).bad ≡ Some p → Meets g t (do_part g (past g t) e x s) z p
+part-meets : (g : Settings) (t : Trace) (s : Plain) (e : SideId) (x : Part) → length s.flows ≡ 2 * s.opened →
+    (side_at s e).ended ≡ has_ended e t → NeedsLive s e x →
+    (z : SideId) → z.link < s.opened → (p : ℕ) → (side_at s z).bad ≡ None → (side_at (do_part g (past g t) e x s) z).bad ≡ Some p →
+    Meets g t (do_part g (past g t) e x s) z p
 part-meets g t s e Part.Hold size ended needs z lt p none now = absurd (cc)
-part-meets g t s e Part.Read size ended needs z lt p none now = read-part g t s e size (side_at s e).ended (λ h. sym ended ∙ h) z lt p none now
+part-meets g t s e Part.Read size ended needs z lt p none now =
+    read-part g t s e size (side_at s e).ended (λ h. sym ended ∙ h) z lt p none now
 part-meets g t s e Part.Move size ended needs z lt p none now = absurd (cc)
 part-meets g t s e Part.Write size ended needs z lt p none now = write-part g t s e size needs z lt p none now
 part-meets g t s e Part.Drain size ended needs z lt p none now = drain-part g t s e size z lt p none now
 
-pub part-old : (g : Settings) (t : Trace) (s : Plain) (e : SideId) (x : Part) (z : SideId) (p : ℕ) → (side_at s z).bad ≡ Some p → (side_at (do_part g (past g t) e x s) z).bad ≡ Some p
+pub part-old : (g : Settings) (t : Trace) (s : Plain) (e : SideId) (x : Part) (z : SideId) (p : ℕ) → (side_at s z).bad ≡ Some p →
+    (side_at (do_part g (past g t) e x s) z).bad ≡ Some p
 part-old g t s e Part.Hold z p was = was
 part-old g t s e Part.Read z p was = meets-old (used_ran-of) e _ z p was
   where
@@ -300,11 +348,13 @@ part-old g t s e Part.Move z p was = was
 part-old g t s e Part.Write z p was = meets-old (turned_ran-of) (peer e) _ z p was
   where
     turned_ran-of : Plain
-    turned_ran-of = put_flow e (with_turned (read_filter g s e) (write_filter g s (peer e)) (bytes_read e t) (hold_mark g s (peer e)) (flow_at s e)) s
+    turned_ran-of =
+        put_flow e (with_turned (read_filter g s e) (write_filter g s (peer e)) (bytes_read e t) (hold_mark g s (peer e)) (flow_at s e)) s
 part-old g t s e Part.Drain z p was = meets-old (turned_ran-of) (peer e) _ z p was
   where
     turned_ran-of : Plain
-    turned_ran-of = put_flow e (with_turned (read_filter g s e) (write_filter g s (peer e)) (bytes_read e t) (hold_mark g s (peer e)) (flow_at s e)) s
+    turned_ran-of =
+        put_flow e (with_turned (read_filter g s e) (write_filter g s (peer e)) (bytes_read e t) (hold_mark g s (peer e)) (flow_at s e)) s
 
 -- what a silent step makes a side keep is met behind it
 pub record StepMeets (g : Settings) (t : Trace) (s : Plain) (new : Plain) : Type 0 where
@@ -317,7 +367,8 @@ same-meets g t s new same = record {
   now = λ z lt p none h. absurd (let k = ap (λ l. (side_at (record s { sides = l }) z).bad) same in cc);
 }
 
-pub quiet-meets : (g : Settings) (t : Trace) (s : Plain) (x : Stage) (new : State) → Kept g t x s → PartsLive x s → QuietKind g t s x new → StepMeets g t s new.plain
+pub quiet-meets : (g : Settings) (t : Trace) (s : Plain) (x : Stage) (new : State) → Kept g t x s → PartsLive x s →
+    QuietKind g t s x new → StepMeets g t s new.plain
 quiet-meets g t s x new k parts (QuietKind.moved next a) = same-meets g t s s refl
 quiet-meets g t s x new k parts (QuietKind.filtered {e = e}) =
     let ran : Plain = read_run g (past g t) e false s in
@@ -343,10 +394,13 @@ AllFirst g t s = (e : SideId) → e.link < s.plain.opened → (place : ℕ) → 
 
 pub first-met : (g : Settings) (t : Trace) (s : State) → Reaches g t s → AllFirst g t s
 first-met g t s (Reaches.begins) e lt place h = absurd (omega arith)
-first-met g t new (Reaches.goes {t = u} {s = old} reached h) e lt place now = go (first-met g u old reached e) (side_at old.plain e).bad refl
+first-met g t new (Reaches.goes {t = u} {s = old} reached h) e lt place now =
+    go (first-met g u old reached e) (side_at old.plain e).bad refl
   where
     k : StepMeets g u old.plain new.plain
-    k = quiet-meets g u old.plain old.stage new (kept g u old reached) (parts-live g u old reached) (quiet-kind g u old.stage old.plain new h)
+    k =
+        quiet-meets g u old.plain old.stage new (kept g u old reached) (parts-live g u old reached)
+        (quiet-kind g u old.stage old.plain new h)
 
     lt' : e.link < old.plain.opened
     lt' = subst (λ n. e.link < n) (quiet-silent g u old.stage old.plain new h).keeps.opened lt
@@ -381,7 +435,8 @@ first-met g t new (Reaches.goes {t = u} {s = old} reached h) e lt place now = go
       where
         some-same : {a b : ℕ} → Some a ≡ Some b → a ≡ b
         some-same h = cc
-first-met g t new (Reaches.puts {t = u} {s = old} y bytes reached h) e lt place now = go (first-met g u old reached e) (cases_lt e.link old.plain.opened)
+first-met g t new (Reaches.puts {t = u} {s = old} y bytes reached h) e lt place now =
+    go (first-met g u old reached e) (cases_lt e.link old.plain.opened)
   where
     c : Kept g u old.stage old.plain
     c = kept g u old reached

@@ -1,5 +1,6 @@
 -- The counts of every direction fit, by induction over the steps.
-use Rattle.std.proofs.Common.{◌≡◌, ℕ, ◌≤◌, Bool, true, false, ◌||◌, if◌then◌else◌, List, [], ◌∷◌, ◌++◌, length, take, ◌⊎◌, inl, inr, refl, sym, ◌∙◌, ap, subst, arith, slice_index_or, append-nil}
+use Rattle.std.proofs.Common.{◌≡◌, ℕ, ◌≤◌, Bool, true, false, ◌||◌, if◌then◌else◌, List, [], ◌∷◌, ◌++◌, length, take, ◌⊎◌, inl, inr}
+use Rattle.std.proofs.Common.{refl, sym, ◌∙◌, ap, subst, arith, slice_index_or, append-nil}
 use Rattle.std.proofs.lemmas.Bool.{not-true}
 use Rattle.ev_types.specs.declared.side.SideId.{SideId}
 use Rattle.ev_types.specs.Sides.{peer, number}
@@ -61,8 +62,10 @@ module _ (g : Settings) (t : Trace) (e : SideId) where
   abbrev taken : Flow → List ℕ
   taken f = take f.given (outcome (filter_of (read_kind g e.side)) (filter_of (write_kind g (peer e).side)) (bytes_read e t) f)
 
-  abbrev acc : (f : Flow) → Fit g t e f → Accounted (filter_of (read_kind g e.side)) (filter_of (write_kind g (peer e).side)) [] e (bytes_read e t)
-      (take f.given (outcome (filter_of (read_kind g e.side)) (filter_of (write_kind g (peer e).side)) (bytes_read e t) f)) (has_ended e t) f
+  abbrev acc : (f : Flow) → Fit g t e f →
+      Accounted (filter_of (read_kind g e.side)) (filter_of (write_kind g (peer e).side)) [] e (bytes_read e t)
+      (take f.given (outcome (filter_of (read_kind g e.side)) (filter_of (write_kind g (peer e).side)) (bytes_read e t) f))
+      (has_ended e t) f
   acc f h = accounts (filter_of (read_kind g e.side)) (filter_of (write_kind g (peer e).side)) e (bytes_read e t) (has_ended e t) f h
 
   law_r : PrefixLaw (filter_of (read_kind g e.side))
@@ -71,7 +74,8 @@ module _ (g : Settings) (t : Trace) (e : SideId) where
   law_w : PrefixLaw (filter_of (write_kind g (peer e).side))
   law_w = (every_filter (write_kind g (peer e).side)).prefix
 
-  change-fits : (change : Flow → Flow) (s : Plain) → (Fit g t e (flow_at s e) → Fit g t e (change (flow_at s e))) → AllFits g t s → AllFits g t (change_flow e change s)
+  change-fits : (change : Flow → Flow) (s : Plain) → (Fit g t e (flow_at s e) → Fit g t e (change (flow_at s e))) → AllFits g t s →
+      AllFits g t (change_flow e change s)
   change-fits change s keeps h z = elim (flow_at-change e z change s) [
     | inl same ↦ subst (λ f. Fit g t z f) (sym same) (h z)
     | inr changed ↦
@@ -100,11 +104,13 @@ module _ (g : Settings) (t : Trace) (e : SideId) where
       (read_done-keeps r w [] e _ _ _ (flow_at ran e) (acc (flow_at ran e) k) law_r (read_mark s e)).fits)
       (read_run-fits s (side_at s e).ended h)
   part-fits s Part.Move ended h =
-      change-fits (with_moved (read_filter g s e) (bytes_read e t)) s (λ k. (moved-keeps r w [] e _ _ _ (flow_at s e) (acc (flow_at s e) k) refl).fits) h
+      change-fits (with_moved (read_filter g s e) (bytes_read e t)) s
+      (λ k. (moved-keeps r w [] e _ _ _ (flow_at s e) (acc (flow_at s e) k) refl).fits) h
   part-fits s Part.Write ended h =
       let ran : Plain = write_run g (past g t) e true s in
       change-fits (with_write_done (read_filter g s e) (write_filter g s (peer e)) (bytes_read e t) (hold_mark g s (peer e))) ran
-      (λ k. (write_done-keeps r w [] e _ _ _ (flow_at ran e) (acc (flow_at ran e) k) law_w (hold_mark g s (peer e))).fits) (write_run-fits s true h)
+      (λ k. (write_done-keeps r w [] e _ _ _ (flow_at ran e) (acc (flow_at ran e) k) law_w (hold_mark g s (peer e))).fits)
+      (write_run-fits s true h)
   part-fits s Part.Drain ended h = write_run-fits s false h
 
 quiet-fits : (g : Settings) (t : Trace) (s : Plain) (x : Stage) (new : State) → ((z : SideId) → (side_at s z).ended ≡ has_ended z t) →
@@ -131,12 +137,14 @@ or_yes false = refl
 
 -- what a trace of one event more tells
 told : (g : Settings) (t : Trace) (y : Event) (e : SideId) (f : Flow) (xs : List ℕ) (b : Bool) → bytes_read e (t ++ y ∷ []) ≡ xs →
-    has_ended e (t ++ y ∷ []) ≡ b → Fits (filter_of (read_kind g e.side)) (filter_of (write_kind g (peer e).side)) xs b f → Fit g (t ++ y ∷ []) e f
+    has_ended e (t ++ y ∷ []) ≡ b → Fits (filter_of (read_kind g e.side)) (filter_of (write_kind g (peer e).side)) xs b f →
+    Fit g (t ++ y ∷ []) e f
 told g t y e f xs b p q h =
     subst (λ v. Fits (filter_of (read_kind g e.side)) (filter_of (write_kind g (peer e).side)) v (has_ended e (t ++ y ∷ [])) f) (sym p)
     (subst (λ v. Fits (filter_of (read_kind g e.side)) (filter_of (write_kind g (peer e).side)) xs v f) (sym q) h)
 
-pub read-fits : (g : Settings) (t : Trace) (s : Plain) (y : Event) (e : SideId) (f : Flow) → (side_at s e).ended ≡ has_ended e t → ReadCase s e y →
+pub read-fits : (g : Settings) (t : Trace) (s : Plain) (y : Event) (e : SideId) (f : Flow) → (side_at s e).ended ≡ has_ended e t →
+    ReadCase s e y →
     Fit g t e f → Fit g (t ++ y ∷ []) e f
 read-fits g t s y e f ended (ReadCase.none a b) h =
     told g t y e f (bytes_read e t) (has_ended e t)
@@ -171,7 +179,8 @@ flow-fits : (g : Settings) (t : Trace) (s : Plain) (y : Event) (new : Plain) (e 
 flow-fits g t s y new e (inl same) h = subst (λ f. Fit g t e f) (sym same) h
 flow-fits g t s y new e (inr k) h =
     subst (λ f. Fit g t e f) (sym k.flow)
-    (accounted-given (r g t e) (w g t e) [] e _ _ _ (flow_at s e) (acc g t e (flow_at s e) h) k.n k.some (takes-within g t s y new e k) refl).fits
+    (accounted-given (r g t e) (w g t e) [] e _ _ _ (flow_at s e) (acc g t e (flow_at s e) h) k.n k.some
+    (takes-within g t s y new e k) refl).fits
 
 pub fits : (g : Settings) (t : Trace) (s : State) → Reaches g t s → AllFits g t s.plain
 fits g t s (Reaches.begins) e = record {
@@ -183,11 +192,13 @@ fits g t s (Reaches.begins) e = record {
   write_done = λ done. absurd (cc);
 }
 fits g t new (Reaches.goes {t = u} {s = old} k h) e =
-    quiet-fits g u old.plain old.stage new (ended-is g u old.stage old.plain (kept g u old k)) (quiet-kind g u old.stage old.plain new h) (fits g u old k) e
+    quiet-fits g u old.plain old.stage new (ended-is g u old.stage old.plain (kept g u old k))
+    (quiet-kind g u old.stage old.plain new h) (fits g u old k) e
 fits g t new (Reaches.puts {t = u} {s = old} y bytes k h) e =
     let c = kept g u old k in
     let kind = put-kind g u old.stage old.plain y bytes new c.placed h in
-    read-fits g u old.plain (y, bytes) e (flow_at new.plain e) (ended-is g u old.stage old.plain c e) (put-read g u old.plain old.stage (y, bytes) new kind e)
+    read-fits g u old.plain (y, bytes) e (flow_at new.plain e) (ended-is g u old.stage old.plain c e)
+    (put-read g u old.plain old.stage (y, bytes) new kind e)
     (flow-fits g u old.plain (y, bytes) new.plain e (put-flow g u old.plain old.stage (y, bytes) new kind e) (fits g u old k e))
 
 pub counts_fit : CountsFit

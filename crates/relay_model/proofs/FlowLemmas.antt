@@ -1,5 +1,6 @@
 -- What an entry does to the counts of a direction and to what was read where it begins.
-use Rattle.std.proofs.Common.{◌≡◌, ℕ, ◌+◌, ◌-◌, ◌≤◌, Bool, true, false, if◌then◌else◌, List, [], ◌∷◌, ◌++◌, length, Option, Some, None, ◌⊎◌, inl, inr, refl, sym, ◌∙◌, ap, subst, arith, slice_index_or, min}
+use Rattle.std.proofs.Common.{◌≡◌, ℕ, ◌+◌, ◌-◌, ◌≤◌, Bool, true, false, if◌then◌else◌, List, [], ◌∷◌, ◌++◌, length, Option, Some, None}
+use Rattle.std.proofs.Common.{◌⊎◌, inl, inr, refl, sym, ◌∙◌, ap, subst, arith, slice_index_or, min}
 use Rattle.token_bucket.specs.declared.limit.Dir.TheVariants as dir
 use Rattle.ev_types.specs.declared.side.SideId.{SideId}
 use Rattle.ev_types.specs.declared.answer.ReadAnswer.{ReadAnswer}
@@ -16,7 +17,8 @@ use Rattle.relay_model.specs.Flow.{Flow, no_flow}
 use Rattle.relay_model.specs.Plain.{Plain, flow_at, change_side, change_flow}
 use Rattle.relay_model.specs.Past.{Past, past}
 use Rattle.relay_model.specs.Reasons.{happened, error_flag}
-use Rattle.relay_model.specs.Rooms.{may_read, may_write, write_room, read_room, within_rates, at_most, share, allowance, raw_output_at, read_mark, input_length, most_at_once}
+use Rattle.relay_model.specs.Rooms.{may_read, may_write, write_room, read_room, within_rates, at_most, share, allowance, raw_output_at}
+use Rattle.relay_model.specs.Rooms.{read_mark, input_length, most_at_once}
 use Rattle.relay_model.specs.Moments.{active_at}
 use Rattle.relay_model.specs.Serve.{after_write, CarriesGot, CarriesTook}
 use Rattle.relay_model.specs.Close.{CloseStep}
@@ -53,7 +55,8 @@ write_room-below g p s e = go (may_write s e)
         let b = min-left most_at_once out in omega arith
     go false = omega arith
 
-pub read_room-below : (g : Settings) (p : Past) (s : Plain) (e : SideId) → 1 ≤ read_room g p s e → read_room g p s e + input_length g p s e ≤ read_mark s e
+pub read_room-below : (g : Settings) (p : Past) (s : Plain) (e : SideId) → 1 ≤ read_room g p s e →
+    read_room g p s e + input_length g p s e ≤ read_mark s e
 read_room-below g p s e = go (may_read s e)
   where
     mark : ℕ
@@ -87,7 +90,8 @@ pub record Takes (g : Settings) (t : Trace) (s : Plain) (y : Event) (new : Plain
 flows-at : {xs ys : List Flow} → ys ≡ xs → (e : SideId) → slice_index_or ys (number e) no_flow ≡ slice_index_or xs (number e) no_flow
 flows-at h e = ap (λ z. slice_index_or z (number e) no_flow) h
 
-took-flow : (g : Settings) (t : Trace) (s : Plain) (side : SideId) (offered n : ℕ) (bytes : List ℕ) (e : SideId) → may_write s side ≡ true →
+took-flow : (g : Settings) (t : Trace) (s : Plain) (side : SideId) (offered n : ℕ) (bytes : List ℕ) (e : SideId) →
+    may_write s side ≡ true →
     offered ≡ write_room g (past g t) s side → length bytes ≡ n → 1 ≤ n → n ≤ offered →
     (let new = after_write g (past g t) side (write.Took n) s in
     (flow_at new e ≡ flow_at s e) ⊎ Takes g t s (entry.Write side offered (write.Took n), bytes) new e)
@@ -160,7 +164,8 @@ put-flow g t s x y new (PutKind.closed {c = c} a) e = inl (flows-at (closed-flow
 
 pub data ReadCase (s : Plain) (e : SideId) : Event → Type 0 where
   none : {y : Event} → read_by e y ≡ [] → ended_by e y ≡ false → ReadCase s e y
-  got : {room n : ℕ} {bytes : List ℕ} → may_read s e ≡ true → length bytes ≡ n → 1 ≤ n → n ≤ room → ReadCase s e (entry.Read e room (read.Got n), bytes)
+  got : {room n : ℕ} {bytes : List ℕ} → may_read s e ≡ true → length bytes ≡ n → 1 ≤ n → n ≤ room →
+      ReadCase s e (entry.Read e room (read.Got n), bytes)
   ends : {room : ℕ} {bytes : List ℕ} → may_read s e ≡ true → ReadCase s e (entry.Read e room read.Ended, bytes)
 
 closed-read : (g : Settings) (p : Past) (s : Plain) (c : CloseStep) (z : Entry) (e : SideId) → ClosedKind g p s c z → ReadCase s e (z, [])
@@ -184,7 +189,8 @@ was_read-case s side room read.Ended bytes e may c false q = ReadCase.none refl 
 was_read-case s side room read.NotYet bytes e may c b q = ReadCase.none refl refl
 was_read-case s side room read.Failed bytes e may c b q = ReadCase.none refl refl
 
-pub put-read : (g : Settings) (t : Trace) (s : Plain) (x : Stage) (y : Event) (new : State) → PutKind g t s x y new → (e : SideId) → ReadCase s e y
+pub put-read : (g : Settings) (t : Trace) (s : Plain) (x : Stage) (y : Event) (new : State) → PutKind g t s x y new → (e : SideId) →
+    ReadCase s e y
 put-read g t s x y new (PutKind.turned a b) e = ReadCase.none refl refl
 put-read g t s x y new (PutKind.polled) e = ReadCase.none refl refl
 put-read g t s x y new (PutKind.wanted a) e = ReadCase.none refl refl

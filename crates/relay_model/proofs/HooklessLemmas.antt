@@ -1,5 +1,6 @@
 -- With no hooks nothing is asked, so that the marks of each side stay those of the settings, by induction over the steps.
-use Rattle.std.proofs.Common.{◌≡◌, ℕ, ◌+◌, ◌*◌, ◌<◌, ◌≤◌, Bool, true, false, ◌&&◌, if◌then◌else◌, List, [], ◌∷◌, ◌++◌, length, fold, filter, ◌⊎◌, inl, inr, refl, sym, ◌∙◌, ap, subst, arith, slice_index_or}
+use Rattle.std.proofs.Common.{◌≡◌, ℕ, ◌+◌, ◌*◌, ◌<◌, ◌≤◌, Bool, true, false, ◌&&◌, if◌then◌else◌, List, [], ◌∷◌, ◌++◌, length, fold}
+use Rattle.std.proofs.Common.{filter, ◌⊎◌, inl, inr, refl, sym, ◌∙◌, ap, subst, arith, slice_index_or}
 use Rattle.std.specs.Prelude.{⊤, nat_le, nat_lt, not}
 use Rattle.std.specs.List.{list_any}
 use Rattle.std.proofs.lemmas.Bool.{cases_lt}
@@ -23,16 +24,19 @@ use Rattle.ev_types.specs.Sides.{same_end, number, half, peer}
 use Rattle.ev_types.specs.Trace.{Event, Trace}
 use Rattle.relay_model.specs.Settings.{Settings, HasNoHooks, marks_set}
 use Rattle.relay_model.specs.Due.{Due, batch, with_reason}
-use Rattle.relay_model.specs.Plain.{Plain, PlainSide, Timer, no_side, new_side, with_link, side_at, flow_at, put_flow, change_side, change_flow, is_live, all_sides}
+use Rattle.relay_model.specs.Plain.{Plain, PlainSide, Timer, no_side, new_side, with_link, side_at, flow_at, put_flow, change_side}
+use Rattle.relay_model.specs.Plain.{change_flow, is_live, all_sides}
 use Rattle.relay_model.specs.Past.{Past, past}
 use Rattle.relay_model.specs.Rooms.{Want, wants, read_filter, read_mark}
 use Rattle.relay_model.specs.Pass.{with_used}
 use Rattle.relay_model.specs.Reasons.{raise, raise_read, raise_write, happened, end_flag, error_flag, timeout_flag}
-use Rattle.relay_model.specs.Moments.{active_at, is_timed, has_run_out, expire, timed, side_timed, timers_taken, time_passed, by_deadline, both_ways}
+use Rattle.relay_model.specs.Moments.{active_at, is_timed, has_run_out, expire, timed, side_timed, timers_taken, time_passed}
+use Rattle.relay_model.specs.Moments.{by_deadline, both_ways}
 use Rattle.relay_model.specs.Round.{Part, do_part, read_run}
 use Rattle.relay_model.specs.Serve.{marks_left, after_conn, after_read, after_write, after_got}
 use Rattle.relay_model.specs.Close.{CloseStep, closed_by}
-use Rattle.relay_model.specs.Stages.{Stage, State, Between, Polling, Wanting, Marking, Accepting, Serving, Filtering, Dispatching, Firing, Freeing, Passing, Closing}
+use Rattle.relay_model.specs.Stages.{Stage, State, Between, Polling, Wanting, Marking, Accepting, Serving, Filtering, Dispatching}
+use Rattle.relay_model.specs.Stages.{Firing, Freeing, Passing, Closing}
 use Rattle.relay_model.specs.Turn.{turned_to, after_reading, Quietly, Puts, Reaches}
 use Rattle.relay_model.proofs.EndLemmas.{number-lt}
 use Rattle.relay_model.proofs.PlainLemmas.{seen-change}
@@ -51,7 +55,8 @@ use Rattle.relay_model.proofs.PassedLemmas.{part-marks, closed-marks}
 
 module _ (g : Settings) (none : HasNoHooks g) where
   raise-none : (e : SideId) (y : Why) (s : Plain) → raise g e y s ≡ s
-  raise-none e y s = ap (λ hs. if list_any (λ x. same_end x e) hs && is_live s e then record s { due = with_reason e y s.due } else s) none.none
+  raise-none e y s =
+      ap (λ hs. if list_any (λ x. same_end x e) hs && is_live s e then record s { due = with_reason e y s.due } else s) none.none
 
   raise_read-none : (p : Past) (e : SideId) (s : Plain) → raise_read g p e s ≡ s
   raise_read-none p e s = go (nat_le (side_at s e).marks.read_low _)
@@ -67,7 +72,8 @@ module _ (g : Settings) (none : HasNoHooks g) where
       go true = raise-none e why.Write s
       go false = refl
 
-  fold-due : {X : Type 0} (step : Plain → X → Plain) → ((s : Plain) (x : X) → (step s x).due ≡ s.due) → (s : Plain) (xs : List X) → (fold step s xs).due ≡ s.due
+  fold-due : {X : Type 0} (step : Plain → X → Plain) → ((s : Plain) (x : X) → (step s x).due ≡ s.due) → (s : Plain) (xs : List X) →
+      (fold step s xs).due ≡ s.due
   fold-due step h s [] = refl
   fold-due step h s (x ∷ xs) = fold-due step h (step s x) xs ∙ h s x
 
@@ -86,7 +92,8 @@ module _ (g : Settings) (none : HasNoHooks g) where
   time-due p s =
       fold-due (side_timed g p) (λ x e. fold-due (timed g p e) (λ y d. timed-due p e y d) x both_ways) (timers_taken g s) (all_sides s)
       ∙ fold-due {X = Timer} (λ state x. raise g x.side why.Timer state) (λ z x. ap (λ v. v.due) (raise-none x.side why.Timer z))
-      (record s { timers = filter (λ x. nat_lt s.time x.deadline) s.timers }) (by_deadline (filter (λ x. nat_le x.deadline s.time) s.timers))
+      (record s { timers = filter (λ x. nat_lt s.time x.deadline) s.timers })
+      (by_deadline (filter (λ x. nat_le x.deadline s.time) s.timers))
 
 -- No hook runs.
 abbrev Idle : Stage → Type 0
@@ -125,7 +132,8 @@ active-marks time dir.Write x = refl
 due-marks : (s new : Plain) (e : SideId) → ((ds : List Due) × (new ≡ record s { due = ds })) → (side_at new e).marks ≡ (side_at s e).marks
 due-marks s new e h = ap (λ z. (side_at z e).marks) h.1
 
-pub conn-marks : (g : Settings) (side : SideId) (answer : ConnAnswer) (s : Plain) (e : SideId) → (side_at (after_conn g side answer s) e).marks ≡ (side_at s e).marks
+pub conn-marks : (g : Settings) (side : SideId) (answer : ConnAnswer) (s : Plain) (e : SideId) →
+    (side_at (after_conn g side answer s) e).marks ≡ (side_at s e).marks
 conn-marks g side conn.Connected s e =
     due-marks (change_side side (λ x. record x { connecting = false }) s) _ e (raised g side why.Connected _)
     ∙ seen-change (λ v. v.marks) side e (λ x. record x { connecting = false }) s (λ x. refl)
@@ -134,7 +142,8 @@ conn-marks g side conn.Failed s e =
     due-marks (change_side side (λ x. record x { failed = true; writes = false }) s) _ e (raised g side (happened dir.Write error_flag) _)
     ∙ seen-change (λ v. v.marks) side e (λ x. record x { failed = true; writes = false }) s (λ x. refl)
 
-pub read-marks : (g : Settings) (side : SideId) (answer : ReadAnswer) (s : Plain) (e : SideId) → (side_at (after_read g side answer s) e).marks ≡ (side_at s e).marks
+pub read-marks : (g : Settings) (side : SideId) (answer : ReadAnswer) (s : Plain) (e : SideId) →
+    (side_at (after_read g side answer s) e).marks ≡ (side_at s e).marks
 read-marks g side (read.Got n) s e = seen-change (λ v. v.marks) side e (active_at s.time dir.Read) s (λ x. refl)
 read-marks g side read.Ended s e =
     due-marks (change_side side (λ x. record x { ended = true; reads = false }) s) _ e (raised g side (happened dir.Read end_flag) _)
@@ -144,7 +153,8 @@ read-marks g side read.Failed s e =
     due-marks (change_side side (λ x. record x { failed = true; reads = false }) s) _ e (raised g side (happened dir.Read error_flag) _)
     ∙ seen-change (λ v. v.marks) side e (λ x. record x { failed = true; reads = false }) s (λ x. refl)
 
-pub write-marks : (g : Settings) (p : Past) (side : SideId) (answer : WriteAnswer) (s : Plain) (e : SideId) → (side_at (after_write g p side answer s) e).marks ≡ (side_at s e).marks
+pub write-marks : (g : Settings) (p : Past) (side : SideId) (answer : WriteAnswer) (s : Plain) (e : SideId) →
+    (side_at (after_write g p side answer s) e).marks ≡ (side_at s e).marks
 write-marks g p side (write.Took n) s e =
     let given : Plain = change_flow (peer side) (λ f. record f { given = f.given + n }) s in
     due-marks (change_side side (active_at s.time dir.Write) given) _ e (raised_write g p side _)
@@ -155,7 +165,8 @@ write-marks g p side write.Failed s e =
     ∙ seen-change (λ v. v.marks) side e (λ x. record x { failed = true; writes = false }) s (λ x. refl)
 write-marks g p side write.NoMemory s e = refl
 
-pub got-marks : (g : Settings) (p : Past) (side : SideId) (s : Plain) (e : SideId) → (side_at (after_got g p side s) e).marks ≡ (side_at s e).marks
+pub got-marks : (g : Settings) (p : Past) (side : SideId) (s : Plain) (e : SideId) →
+    (side_at (after_got g p side s) e).marks ≡ (side_at s e).marks
 got-marks g p side s e =
     due-marks (read_run g p side false s) _ e (raised_read g p side (read_run g p side false s))
     ∙ meets-marks (put_flow side (with_used (read_filter g s side) (p.read side) (read_mark s side) (flow_at s side)) s) side _ e
@@ -171,15 +182,18 @@ link-marks g connected s size e link = go e.side refl
     go : (z : Side) → e.side ≡ z → (side_at (with_link g connected s) e).marks ≡ marks_set g e.side
     go In z =
         let i : number e ≡ length s.sides + 0 = omega (arith, ap half z) in
-        ap (λ v. (slice_index_or (s.sides ++ two) v no_side).marks) i ∙ ap (λ v. v.marks) (get_or-append-add s.sides two 0 no_side) ∙ ap (marks_set g) (sym z)
+        ap (λ v. (slice_index_or (s.sides ++ two) v no_side).marks) i ∙ ap (λ v. v.marks) (get_or-append-add s.sides two 0 no_side)
+        ∙ ap (marks_set g) (sym z)
     go Out z =
         let i : number e ≡ length s.sides + 1 = omega (arith, ap half z) in
-        ap (λ v. (slice_index_or (s.sides ++ two) v no_side).marks) i ∙ ap (λ v. v.marks) (get_or-append-add s.sides two 1 no_side) ∙ ap (marks_set g) (sym z)
+        ap (λ v. (slice_index_or (s.sides ++ two) v no_side).marks) i ∙ ap (λ v. v.marks) (get_or-append-add s.sides two 1 no_side)
+        ∙ ap (marks_set g) (sym z)
 
 pub old-marks : (g : Settings) (connected : Bool) (s : Plain) → length s.sides ≡ 2 * s.opened → (e : SideId) → e.link < s.opened →
     (side_at (with_link g connected s) e).marks ≡ (side_at s e).marks
 old-marks g connected s size e lt =
-    ap (λ v. v.marks) (get_or_append_left s.sides (new_side g s.time s.turn In true ∷ new_side g s.time s.turn Out connected ∷ []) no_side (number e)
+    ap (λ v. v.marks) (get_or_append_left s.sides
+    (new_side g s.time s.turn In true ∷ new_side g s.time s.turn Out connected ∷ []) no_side (number e)
     (omega (arith, number-lt e s.opened lt)))
 
 -- By induction
@@ -193,14 +207,18 @@ pub record Asleep (g : Settings) (x : Stage) (s : Plain) : Type 0 where
 same-asleep : (g : Settings) (x y : Stage) (s : Plain) → Idle y → Asleep g x s → Asleep g y s
 same-asleep g x y s idle h = record { due = h.due; idle = idle; marks = h.marks }
 
-quiet-asleep : (g : Settings) (none : HasNoHooks g) (t : Trace) (x : Stage) (s : Plain) (new : State) → Asleep g x s → Quietly g t x s new →
+quiet-asleep : (g : Settings) (none : HasNoHooks g) (t : Trace) (x : Stage) (s : Plain) (new : State) → Asleep g x s →
+    Quietly g t x s new →
     Asleep g new.stage new.plain
 quiet-asleep g none t (Wanting []) s new h q = subst (λ z. Asleep g z.stage z.plain) (sym q) (same-asleep g (Wanting []) _ s tt h)
 quiet-asleep g none t (Marking (w ∷ ws) marks) s new h q =
     subst (λ z. Asleep g z.stage z.plain) (sym q) (same-asleep g (Marking (w ∷ ws) marks) _ s tt h)
-quiet-asleep g none t (Marking [] marks) s new h q = subst (λ z. Asleep g z.stage z.plain) (sym q) (same-asleep g (Marking [] marks) _ s tt h)
-quiet-asleep g none t (Accepting n marks) s new h q = subst (λ z. Asleep g z.stage z.plain) (sym q) (same-asleep g (Accepting n marks) _ s tt h)
-quiet-asleep g none t (Serving (m ∷ ms)) s new h q = subst (λ z. Asleep g z.stage z.plain) (sym q.1) (same-asleep g (Serving (m ∷ ms)) _ s tt h)
+quiet-asleep g none t (Marking [] marks) s new h q =
+    subst (λ z. Asleep g z.stage z.plain) (sym q) (same-asleep g (Marking [] marks) _ s tt h)
+quiet-asleep g none t (Accepting n marks) s new h q =
+    subst (λ z. Asleep g z.stage z.plain) (sym q) (same-asleep g (Accepting n marks) _ s tt h)
+quiet-asleep g none t (Serving (m ∷ ms)) s new h q =
+    subst (λ z. Asleep g z.stage z.plain) (sym q.1) (same-asleep g (Serving (m ∷ ms)) _ s tt h)
 quiet-asleep g none t (Filtering e ms) s new h q =
     subst (λ z. Asleep g z.stage z.plain) (sym q)
     (record {
@@ -227,46 +245,61 @@ quiet-asleep g none t (Passing (x ∷ parts) (e ∷ es)) s new h q =
       marks = λ z lt. part-marks g (past g t) s e x z ∙ h.marks z (subst (λ n. z.link < n) (do_part-keeps g (past g t) e x s).opened lt);
     })
 quiet-asleep g none t (Passing [] []) s new h q = subst (λ z. Asleep g z.stage z.plain) (sym q) (same-asleep g (Passing [] []) _ s tt h)
-quiet-asleep g none t (Closing (c ∷ cs)) s new h q = subst (λ z. Asleep g z.stage z.plain) (sym q.1) (same-asleep g (Closing (c ∷ cs)) _ s tt h)
+quiet-asleep g none t (Closing (c ∷ cs)) s new h q =
+    subst (λ z. Asleep g z.stage z.plain) (sym q.1) (same-asleep g (Closing (c ∷ cs)) _ s tt h)
 quiet-asleep g none t (Closing []) s new h q = subst (λ z. Asleep g z.stage z.plain) (sym q) (same-asleep g (Closing []) _ s tt h)
 quiet-asleep g none t _ s new h q = absurd q
 
-conn-due : (g : Settings) (none : HasNoHooks g) (side : SideId) (answer : ConnAnswer) (s : Plain) → (after_conn g side answer s).due ≡ s.due
-conn-due g none side conn.Connected s = ap (λ z. z.due) (raise-none g none side why.Connected (change_side side (λ x. record x { connecting = false }) s))
+conn-due : (g : Settings) (none : HasNoHooks g) (side : SideId) (answer : ConnAnswer) (s : Plain) →
+    (after_conn g side answer s).due ≡ s.due
+conn-due g none side conn.Connected s =
+    ap (λ z. z.due) (raise-none g none side why.Connected (change_side side (λ x. record x { connecting = false }) s))
 conn-due g none side conn.Pending s = refl
 conn-due g none side conn.Failed s =
-    ap (λ z. z.due) (raise-none g none side (happened dir.Write error_flag) (change_side side (λ x. record x { failed = true; writes = false }) s))
+    ap (λ z. z.due) (raise-none g none side (happened dir.Write error_flag)
+    (change_side side (λ x. record x { failed = true; writes = false }) s))
 
-read-due : (g : Settings) (none : HasNoHooks g) (side : SideId) (answer : ReadAnswer) (s : Plain) → (after_read g side answer s).due ≡ s.due
+read-due : (g : Settings) (none : HasNoHooks g) (side : SideId) (answer : ReadAnswer) (s : Plain) →
+    (after_read g side answer s).due ≡ s.due
 read-due g none side (read.Got n) s = refl
 read-due g none side read.Ended s =
-    ap (λ z. z.due) (raise-none g none side (happened dir.Read end_flag) (change_side side (λ x. record x { ended = true; reads = false }) s))
+    ap (λ z. z.due) (raise-none g none side (happened dir.Read end_flag)
+    (change_side side (λ x. record x { ended = true; reads = false }) s))
 read-due g none side read.NotYet s = refl
 read-due g none side read.Failed s =
-    ap (λ z. z.due) (raise-none g none side (happened dir.Read error_flag) (change_side side (λ x. record x { failed = true; reads = false }) s))
+    ap (λ z. z.due) (raise-none g none side (happened dir.Read error_flag)
+    (change_side side (λ x. record x { failed = true; reads = false }) s))
 
-write-due : (g : Settings) (none : HasNoHooks g) (p : Past) (side : SideId) (answer : WriteAnswer) (s : Plain) → (after_write g p side answer s).due ≡ s.due
+write-due : (g : Settings) (none : HasNoHooks g) (p : Past) (side : SideId) (answer : WriteAnswer) (s : Plain) →
+    (after_write g p side answer s).due ≡ s.due
 write-due g none p side (write.Took n) s =
-    ap (λ z. z.due) (raise_write-none g none p side (change_side side (active_at s.time dir.Write) (change_flow (peer side) (λ f. record f { given = f.given + n }) s)))
+    ap (λ z. z.due) (raise_write-none g none p side
+    (change_side side (active_at s.time dir.Write) (change_flow (peer side) (λ f. record f { given = f.given + n }) s)))
 write-due g none p side write.NotYet s = refl
 write-due g none p side write.Failed s =
-    ap (λ z. z.due) (raise-none g none side (happened dir.Write error_flag) (change_side side (λ x. record x { failed = true; writes = false }) s))
+    ap (λ z. z.due) (raise-none g none side (happened dir.Write error_flag)
+    (change_side side (λ x. record x { failed = true; writes = false }) s))
 write-due g none p side write.NoMemory s = refl
 
-pub opened-by : (s new : Plain) (y : Event) → new.opened ≡ (s.opened + (if is_opened y then 1 else 0)) → is_opened y ≡ false → new.opened ≡ s.opened
+pub opened-by : (s new : Plain) (y : Event) → new.opened ≡ (s.opened + (if is_opened y then 1 else 0)) → is_opened y ≡ false →
+    new.opened ≡ s.opened
 opened-by s new y h k = h ∙ ap (λ b. s.opened + (if b then 1 else 0)) k ∙ (let a : s.opened + 0 ≡ s.opened = omega arith in a)
 
 put-asleep : (g : Settings) (none : HasNoHooks g) (t : Trace) (x : Stage) (s : Plain) (y : Entry) (bytes : List ℕ) (new : State) →
-    length s.sides ≡ 2 * s.opened → Effect g x s (y, bytes) new.stage new.plain → Asleep g x s → Puts g t x s y bytes new → Asleep g new.stage new.plain
+    length s.sides ≡ 2 * s.opened → Effect g x s (y, bytes) new.stage new.plain → Asleep g x s → Puts g t x s y bytes new →
+    Asleep g new.stage new.plain
 put-asleep g none t Between s (entry.Turn ms) bytes new size k h q =
     let p : Past = past g (t ++ (entry.Turn ms, []) ∷ []) in
     let opened = opened-by s new.plain (entry.Turn ms, bytes) k.opened refl in
     record {
       due = ap (λ z. z.plain.due) q.3 ∙ time-due g none p (turned_to ms s) ∙ h.due;
       idle = subst (λ z. Idle z.stage) (sym q.3) tt;
-      marks = λ z lt. ap (λ v. (side_at v.plain z).marks) q.3 ∙ time-marks g p (turned_to ms s) z ∙ h.marks z (subst (λ n. z.link < n) opened lt);
+      marks =
+          λ z lt. ap (λ v. (side_at v.plain z).marks) q.3 ∙ time-marks g p (turned_to ms s) z
+          ∙ h.marks z (subst (λ n. z.link < n) opened lt);
     }
-put-asleep g none t Polling s (entry.Poll timeout) bytes new size k h q = subst (λ z. Asleep g z.stage z.plain) (sym q.2) (same-asleep g Polling _ s tt h)
+put-asleep g none t Polling s (entry.Poll timeout) bytes new size k h q =
+    subst (λ z. Asleep g z.stage z.plain) (sym q.2) (same-asleep g Polling _ s tt h)
 put-asleep g none t (Wanting (w ∷ ws)) s (entry.Want side r d) bytes new size k h q =
     subst (λ z. Asleep g z.stage z.plain) (sym q.2) (same-asleep g (Wanting (w ∷ ws)) _ s tt h)
 put-asleep g none t (Wanting []) s entry.PollFailed bytes new size k h q =
@@ -277,7 +310,8 @@ put-asleep g none t (Accepting n marks) s (entry.Opened link connected) bytes ne
     subst (λ z. Asleep g z.stage z.plain) (sym q.4)
     (record { due = h.due; idle = tt; marks = λ z lt. go z lt (cases_lt z.link s.opened) })
   where
-    go : (z : SideId) → z.link < s.opened + 1 → (z.link < s.opened) ⊎ (s.opened ≤ z.link) → (side_at (with_link g connected s) z).marks ≡ marks_set g z.side
+    go : (z : SideId) → z.link < s.opened + 1 → (z.link < s.opened) ⊎ (s.opened ≤ z.link) →
+        (side_at (with_link g connected s) z).marks ≡ marks_set g z.side
     go z lt (inl old) = old-marks g connected s size z old ∙ h.marks z old
     go z lt (inr ge) = link-marks g connected s size z (omega arith)
 put-asleep g none t (Serving (m ∷ ms)) s (entry.Conn side answer) bytes new size k h q =
@@ -285,21 +319,25 @@ put-asleep g none t (Serving (m ∷ ms)) s (entry.Conn side answer) bytes new si
     record {
       due = ap (λ z. z.plain.due) q.3 ∙ conn-due g none side answer s ∙ h.due;
       idle = subst (λ z. Idle z.stage) (sym q.3) tt;
-      marks = λ z lt. ap (λ v. (side_at v.plain z).marks) q.3 ∙ conn-marks g side answer s z ∙ h.marks z (subst (λ n. z.link < n) opened lt);
+      marks =
+          λ z lt. ap (λ v. (side_at v.plain z).marks) q.3 ∙ conn-marks g side answer s z ∙ h.marks z (subst (λ n. z.link < n) opened lt);
     }
 put-asleep g none t (Serving (m ∷ ms)) s (entry.Read side room answer) bytes new size k h q =
     let opened = opened-by s new.plain (entry.Read side room answer, bytes) k.opened refl in
     record {
       due = ap (λ z. z.plain.due) q.3 ∙ read-due g none side answer s ∙ h.due;
       idle = subst (λ z. Idle z.stage) (sym q.3) (reading-idle side answer (marks_left s m ms));
-      marks = λ z lt. ap (λ v. (side_at v.plain z).marks) q.3 ∙ read-marks g side answer s z ∙ h.marks z (subst (λ n. z.link < n) opened lt);
+      marks =
+          λ z lt. ap (λ v. (side_at v.plain z).marks) q.3 ∙ read-marks g side answer s z ∙ h.marks z (subst (λ n. z.link < n) opened lt);
     }
 put-asleep g none t (Serving (m ∷ ms)) s (entry.Write side offered answer) bytes new size k h q =
     let opened = opened-by s new.plain (entry.Write side offered answer, bytes) k.opened refl in
     record {
       due = ap (λ z. z.plain.due) q.3 ∙ write-due g none (past g t) side answer s ∙ h.due;
       idle = subst (λ z. Idle z.stage) (sym q.3) tt;
-      marks = λ z lt. ap (λ v. (side_at v.plain z).marks) q.3 ∙ write-marks g (past g t) side answer s z ∙ h.marks z (subst (λ n. z.link < n) opened lt);
+      marks =
+          λ z lt. ap (λ v. (side_at v.plain z).marks) q.3 ∙ write-marks g (past g t) side answer s z
+          ∙ h.marks z (subst (λ n. z.link < n) opened lt);
     }
 put-asleep g none t (Dispatching (r ∷ rs)) s (entry.Fired side y) bytes new size k h q = absurd (let i = h.idle in cc)
 put-asleep g none t (Firing x rs) s (entry.Asked side a answer) bytes new size k h q = absurd h.idle

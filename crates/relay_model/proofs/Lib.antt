@@ -84,5 +84,7 @@ pub mod PassedLemmas
 pub mod BoundLemmas
 pub mod HooklessLemmas
 pub mod BoundSteps
-pub mod StillLemmas
 pub mod MarkLemmas
+pub mod OneWayLemmas
+pub mod StillLemmas
+pub mod ClosingLemmas

@@ -1,5 +1,6 @@
 -- What stays on the way from a state to a later one.
-use Rattle.std.proofs.Common.{◌≡◌, ℕ, ◌+◌, ◌<◌, Bool, true, false, ◌&&◌, ◌||◌, not, if◌then◌else◌, Option, Some, None, ◌⊎◌, inl, inr, refl, sym, ◌∙◌, ap, subst, arith}
+use Rattle.std.proofs.Common.{◌≡◌, ℕ, ◌+◌, ◌<◌, Bool, true, false, ◌&&◌, ◌||◌, not, if◌then◌else◌, Option, Some, None, ◌⊎◌, inl, inr}
+use Rattle.std.proofs.Common.{refl, sym, ◌∙◌, ap, subst, arith}
 use Rattle.std.specs.Prelude.{is_some}
 use Rattle.std.proofs.lemmas.Bool.{or_left, or_right, or_cases}
 use Rattle.ev_types.specs.declared.side.SideId.{SideId}
@@ -38,14 +39,16 @@ effect-more n m true k h lt = omega arith
 effect-more n m false k h lt = omega arith
 
 -- A side that is freed stays so
-pub dead-stays : (e : SideId) (y : Event) (after : Stage) (old new : Seen) → SideEffect e y after old new → old.live ≡ false → new.live ≡ false
+pub dead-stays : (e : SideId) (y : Event) (after : Stage) (old new : Seen) → SideEffect e y after old new → old.live ≡ false →
+    new.live ≡ false
 dead-stays e y after old new k h = k.live ∙ ap (λ b. b && not (freed_by e y || is_freeing after e)) h
 
 -- A faulty side is freed, or stays faulty.
 abbrev Faulted : State → SideId → Type 0
 Faulted s e = (e.link < s.plain.opened) × ((is_live s.plain e ≡ false) ⊎ (is_faulty (seen (side_at s.plain e)) ≡ true))
 
-faulty-more : (x y : Seen) → (x.failed ≡ true → y.failed ≡ true) → (x.expired ≡ true → y.expired ≡ true) → (is_some x.bad ≡ true → is_some y.bad ≡ true) →
+faulty-more : (x y : Seen) → (x.failed ≡ true → y.failed ≡ true) → (x.expired ≡ true → y.expired ≡ true) →
+    (is_some x.bad ≡ true → is_some y.bad ≡ true) →
     is_faulty x ≡ true → is_faulty y ≡ true
 faulty-more x y a b c h = go (or_cases (x.failed || x.expired) (is_some x.bad) h)
   where
@@ -57,7 +60,8 @@ faulty-more x y a b c h = go (or_cases (x.failed || x.expired) (is_some x.bad) h
     go (inl k) = first (or_cases x.failed x.expired k)
     go (inr k) = or_right (y.failed || y.expired) (is_some y.bad) (c k)
 
-quiet-faulted : (g : Settings) (t : Trace) (s new : State) (e : SideId) → Silent s.stage s.plain new.stage new.plain → StepMeets g t s.plain new.plain →
+quiet-faulted : (g : Settings) (t : Trace) (s new : State) (e : SideId) → Silent s.stage s.plain new.stage new.plain →
+    StepMeets g t s.plain new.plain →
     Faulted s e → Faulted new e
 quiet-faulted g t s new e k m h = (subst (λ n. e.link < n) (sym k.keeps.opened) h.0, go h.1)
   where
@@ -71,16 +75,20 @@ quiet-faulted g t s new e k m h = (subst (λ n. e.link < n) (sym k.keeps.opened)
     go : (is_live s.plain e ≡ false) ⊎ (is_faulty (seen (side_at s.plain e)) ≡ true) →
         (is_live new.plain e ≡ false) ⊎ (is_faulty (seen (side_at new.plain e)) ≡ true)
     go (inl dead) = inl (ap (λ z. z.live) same ∙ dead)
-    go (inr faulty) = inr (faulty-more (seen (side_at s.plain e)) (seen (side_at new.plain e)) (λ q. ap (λ z. z.failed) same ∙ q) (λ q. ap (λ z. z.expired) same ∙ q)
+    go (inr faulty) =
+        inr (faulty-more (seen (side_at s.plain e)) (seen (side_at new.plain e)) (λ q. ap (λ z. z.failed) same ∙ q)
+        (λ q. ap (λ z. z.expired) same ∙ q)
         (some (side_at s.plain e).bad refl) faulty)
 
 -- while a faulty side lives no turn begins
-faulty-turn : (g : Settings) (t : Trace) (s : Plain) (e : SideId) (x : Stage) (y : Event) (new : State) → Reaches g t (at x s) → e.link < s.opened →
+faulty-turn : (g : Settings) (t : Trace) (s : Plain) (e : SideId) (x : Stage) (y : Event) (new : State) → Reaches g t (at x s) →
+    e.link < s.opened →
     is_live s e ≡ true → is_faulty (seen (side_at s e)) ≡ true → TurnOrNot g t s x y new → is_turn y ≡ false
 faulty-turn g t s e x y new r lt live faulty (TurnOrNot.turns) = absurd ((faults g t (at Between s) r).await e lt live faulty)
 faulty-turn g t s e x y new r lt live faulty (TurnOrNot.stays no_turn) = no_turn
 
-put-faulted : (g : Settings) (t : Trace) (s new : State) (e : SideId) (y : Event) → Reaches g t s → Effect g s.stage s.plain y new.stage new.plain →
+put-faulted : (g : Settings) (t : Trace) (s new : State) (e : SideId) (y : Event) → Reaches g t s →
+    Effect g s.stage s.plain y new.stage new.plain →
     TurnOrNot g t s.plain s.stage y new → Faulted s e → Faulted new e
 put-faulted g t s new e y r k kind h =
     (effect-more s.plain.opened new.plain.opened (is_opened y) e.link k.opened h.0, go h.1 kind (is_live s.plain e) refl)
@@ -95,9 +103,11 @@ put-faulted g t s new e y r k kind h =
     go (inr faulty) kind true q =
         let no_turn = faulty-turn g t s.plain e s.stage y new r h.0 q faulty kind in
         inr (faulty-more (seen (side_at s.plain e)) (seen (side_at new.plain e))
-        (λ f. one.failed ∙ or_left (side_at s.plain e).failed (failed_by e y) f) (λ f. one.expired no_turn ∙ f) (λ f. ap is_some one.bad ∙ f) faulty)
+        (λ f. one.failed ∙ or_left (side_at s.plain e).failed (failed_by e y) f) (λ f. one.expired no_turn ∙ f)
+        (λ f. ap is_some one.bad ∙ f) faulty)
 
-faulted-on : (g : Settings) (t : Trace) (s : State) (e : SideId) → Reaches g t s → Faulted s e → (u : Trace) (new : State) → Leads g t s u new → Faulted new e
+faulted-on : (g : Settings) (t : Trace) (s : State) (e : SideId) → Reaches g t s → Faulted s e → (u : Trace) (new : State) →
+    Leads g t s u new → Faulted new e
 faulted-on g t s e r h u new (Leads.stays) = h
 faulted-on g t s e r h u new (Leads.goes {mid = mid} l q) =
     let m = reaches-on g t s r u mid l in

@@ -1,5 +1,6 @@
 -- Closing looks at a side for its fault before it frees that side for another cause, by induction over the steps.
-use Rattle.std.proofs.Common.{◌≡◌, ℕ, zero, suc, ◌+◌, ◌<◌, Bool, true, false, ◌||◌, ◌==◌, List, [], ◌∷◌, None, refl, ◌∙◌, ap, arith, eqb-true, eq-eqb}
+use Rattle.std.proofs.Common.{◌≡◌, ℕ, zero, suc, ◌+◌, ◌<◌, Bool, true, false, ◌||◌, ◌==◌, List, [], ◌∷◌, None, refl, ◌∙◌, ap, arith}
+use Rattle.std.proofs.Common.{eqb-true, eq-eqb}
 use Rattle.std.specs.Prelude.{⊤}
 use Rattle.std.specs.List.{list_any}
 use Rattle.std.proofs.lemmas.Bool.{or_parts, or_from}
@@ -80,7 +81,8 @@ quiet-ordered g t s x new o QuietKind.closes = closing-in_order 0 s.opened
 quiet-ordered g t s x new o (QuietKind.looked h) = o.1
 quiet-ordered g t s x new o QuietKind.over = tt
 
-put-ordered : (g : Settings) (t : Trace) (s : Plain) (x : Stage) (y : Event) (new : State) → Ordered x → PutKind g t s x y new → Ordered new.stage
+put-ordered : (g : Settings) (t : Trace) (s : Plain) (x : Stage) (y : Event) (new : State) → Ordered x → PutKind g t s x y new →
+    Ordered new.stage
 put-ordered g t s x y new o (PutKind.turned a b) = tt
 put-ordered g t s x y new o (PutKind.polled) = tt
 put-ordered g t s x y new o (PutKind.wanted a) = tt
@@ -102,10 +104,12 @@ ordered g t s (Reaches.begins) = tt
 ordered g t new (Reaches.goes {t = u} {s = old} r h) =
     quiet-ordered g u old.plain old.stage new (ordered g u old r) (quiet-kind g u old.stage old.plain new h)
 ordered g t new (Reaches.puts {t = u} {s = old} e bytes r h) =
-    put-ordered g u old.plain old.stage (e, bytes) new (ordered g u old r) (put-kind g u old.stage old.plain e bytes new (kept g u old r).placed h)
+    put-ordered g u old.plain old.stage (e, bytes) new (ordered g u old r)
+    (put-kind g u old.stage old.plain e bytes new (kept g u old r).placed h)
 
 -- a side that is looked at for its fault is of its link
-looks-less : (e : SideId) (k : ℕ) → e.link ≡ k → (cs : List CloseStep) → list_any (looks_link k) cs ≡ false → list_any (looks_at e) cs ≡ false
+looks-less : (e : SideId) (k : ℕ) → e.link ≡ k → (cs : List CloseStep) → list_any (looks_link k) cs ≡ false →
+    list_any (looks_at e) cs ≡ false
 looks-less e k link [] h = refl
 looks-less e k link (c ∷ cs) h =
     let parts = or_parts (looks_link k c) (list_any (looks_link k) cs) h in

@@ -1,5 +1,6 @@
 -- What passing leaves stays until the turn is over, by induction over the steps.
-use Rattle.std.proofs.Common.{◌≡◌, ℕ, zero, suc, ◌+◌, ◌*◌, ◌<◌, ◌≤◌, Bool, true, false, ◌==◌, if◌then◌else◌, List, [], ◌∷◌, ◌++◌, length, fold, Option, Some, None, ◌⊎◌, inl, inr, refl, sym, ◌∙◌, ap, subst, arith, append-nil}
+use Rattle.std.proofs.Common.{◌≡◌, ℕ, zero, suc, ◌+◌, ◌*◌, ◌<◌, ◌≤◌, Bool, true, false, ◌==◌, if◌then◌else◌, List, [], ◌∷◌, ◌++◌}
+use Rattle.std.proofs.Common.{length, fold, Option, Some, None, ◌⊎◌, inl, inr, refl, sym, ◌∙◌, ap, subst, arith, append-nil}
 use Rattle.std.specs.Prelude.{⊤, option_map}
 use Rattle.std.specs.List.{list_any}
 use Rattle.std.proofs.lemmas.Bool.{or_parts, or_from, or_left, or_right, cases_order}
@@ -28,7 +29,8 @@ use Rattle.relay_model.specs.Passed.{DirectionPassed, AllIsPassed}
 use Rattle.relay_model.specs.Round.{Part, parts_of, do_part, meets, read_run, write_run, round}
 use Rattle.relay_model.specs.Serve.{after_read}
 use Rattle.relay_model.specs.Close.{CloseStep, closed_by, steps_left, fault}
-use Rattle.relay_model.specs.Stages.{Stage, State, at, Between, Wanting, Marking, Accepting, Serving, Filtering, Dispatching, Firing, Passing, Closing, Over, Halt}
+use Rattle.relay_model.specs.Stages.{Stage, State, at, Between, Wanting, Marking, Accepting, Serving, Filtering, Dispatching, Firing}
+use Rattle.relay_model.specs.Stages.{Passing, Closing, Over, Halt}
 use Rattle.relay_model.specs.Turn.{Quietly, Reaches, after_reading}
 use Rattle.relay_model.proofs.EndLemmas.{same_end-eq, same_end-refl, number-apart}
 use Rattle.relay_model.proofs.KeepsLemmas.{Keeps-side, change_side-same}
@@ -78,12 +80,14 @@ none-unless : (o : Option ℕ) → ((p : ℕ) → o ≡ Some p → ⊥) → o �
 none-unless None h = refl
 none-unless (Some p) h = absurd (h p refl)
 
-none-before : (s : Plain) (e : SideId) (place : Option ℕ) (z : SideId) → (side_at (meets e place s) z).bad ≡ None → (side_at s z).bad ≡ None
+none-before : (s : Plain) (e : SideId) (place : Option ℕ) (z : SideId) → (side_at (meets e place s) z).bad ≡ None →
+    (side_at s z).bad ≡ None
 none-before s e place z h = none-unless (side_at s z).bad (λ p q. let k = meets-old s e place z p q in cc)
 
 -- One round of a direction between live sides, which changes nothing
 
-module _ (g : Settings) (t : Trace) (s : Plain) (e : SideId) (flows : length s.flows ≡ 2 * s.opened) (sides : length s.sides ≡ 2 * s.opened)
+module _ (g : Settings) (t : Trace) (s : Plain) (e : SideId) (flows : length s.flows ≡ 2 * s.opened)
+    (sides : length s.sides ≡ 2 * s.opened)
     (lt : e.link < s.opened) (ended : (side_at s e).ended ≡ has_ended e t) where
   abbrev r : Filter
   r = read_filter g s e
@@ -98,7 +102,9 @@ module _ (g : Settings) (t : Trace) (s : Plain) (e : SideId) (flows : length s.f
   s1 = do_part g (past g t) e Part.Hold s
 
   abbrev base1 : Plain
-  base1 = put_flow e (with_used (read_filter g s e) (bytes_read e t) (read_mark s e) (flow_at (do_part g (past g t) e Part.Hold s) e)) (do_part g (past g t) e Part.Hold s)
+  base1 =
+      put_flow e (with_used (read_filter g s e) (bytes_read e t) (read_mark s e) (flow_at (do_part g (past g t) e Part.Hold s) e))
+      (do_part g (past g t) e Part.Hold s)
 
   abbrev place1 : Option ℕ
   place1 = read_place (read_filter g s e) (bytes_read e t) (read_mark s e) (side_at s e).ended (flow_at base1 e)
@@ -113,7 +119,8 @@ module _ (g : Settings) (t : Trace) (s : Plain) (e : SideId) (flows : length s.f
   s3 = do_part g (past g t) e Part.Move s2
 
   abbrev base2 : Plain
-  base2 = put_flow e (with_turned (read_filter g s e) (write_filter g s (peer e)) (bytes_read e t) (hold_mark g s3 (peer e)) (flow_at s3 e)) s3
+  base2 =
+      put_flow e (with_turned (read_filter g s e) (write_filter g s (peer e)) (bytes_read e t) (hold_mark g s3 (peer e)) (flow_at s3 e)) s3
 
   abbrev place2 : Option ℕ
   place2 = write_place (read_filter g s e) (write_filter g s (peer e)) (bytes_read e t) (hold_mark g s3 (peer e)) true (flow_at base2 e)
@@ -151,7 +158,8 @@ module _ (g : Settings) (t : Trace) (s : Plain) (e : SideId) (flows : length s.f
       flow-same s2 e _ size2 lt
       ∙ ap (with_moved r xs) (flow-same ran1 e _ size_base1 lt ∙ ap (with_read_done r xs (read_mark s e) (side_at s e).ended) flow_base1)
 
-  flow_base2 : flow_at base2 e ≡ with_turned r w xs (hold_mark g s (peer e)) (with_moved r xs (with_read_done r xs (read_mark s e) (side_at s e).ended
+  flow_base2 : flow_at base2 e ≡ with_turned r w xs (hold_mark g s (peer e))
+      (with_moved r xs (with_read_done r xs (read_mark s e) (side_at s e).ended
       (with_used r xs (read_mark s e) (with_held r w xs (hold_mark g s (peer e)) (flow_at s e)))))
   flow_base2 = flow-same s3 e _ size3 lt ∙ (λ i. with_turned r w xs (hold3 i) (flow3 i))
 
@@ -162,13 +170,15 @@ module _ (g : Settings) (t : Trace) (s : Plain) (e : SideId) (flows : length s.f
       (side_at s (peer e)).bad ≡ None → DirectionFits g t s e → DirectionPassed g t s e
   passed-now range live peer_live still none peer_none fit =
       passing_ends r w xs (side_at s e).ended (read_mark s e) (hold_mark g s (peer e)) (flow_at s e)
-      (mark_or-some (side_at s e).marks.read_high 16384 (omega arith)) (mark_or-some (side_at s (peer e)).marks.write_high g.hold range.hold)
+      (mark_or-some (side_at s e).marks.read_high 16384 (omega arith))
+      (mark_or-some (side_at s (peer e)).marks.write_high g.hold range.hold)
       (record {
         used = fit.used;
         moved = fit.moved;
         turned = fit.turned;
         given = fit.given;
-        read_done = λ h. subst (λ b. (b ≡ true) × ((flow_at s e).used ≡ length xs) × (r.bad_at_end xs ≡ None)) (sym ended) (fit.read_done h);
+        read_done =
+            λ h. subst (λ b. (b ≡ true) × ((flow_at s e).used ≡ length xs) × (r.bad_at_end xs ≡ None)) (sym ended) (fit.read_done h);
         write_done = fit.write_done;
       })
       (ap (read_place r xs (read_mark s e) (side_at s e).ended)
@@ -212,7 +222,8 @@ record LeavesPassed (g : Settings) (t : Trace) (s : Plain) (u : Trace) (new : Pl
 leaves-passed : (g : Settings) (t : Trace) (s : Plain) (u : Trace) (new : Plain) (e : SideId) → LeavesPassed g t s u new e →
     WasPassed g t s e → WasPassed g u new e
 leaves-passed g t s u new e k h live peer_live none peer_none =
-    let was = h (k.live e (inl refl) live) (k.live (peer e) (inr refl) peer_live) (k.bad e (inl refl) none) (k.bad (peer e) (inr refl) peer_none) in
+    let was = h (k.live e (inl refl) live) (k.live (peer e) (inr refl) peer_live) (k.bad e (inl refl) none)
+    (k.bad (peer e) (inr refl) peer_none) in
     let r = read_filter g s e in
     let w = write_filter g s (peer e) in
     subst (λ xs. IsPassed r w xs (hold_mark g new (peer e)) (flow_at new e)) (sym k.read)
@@ -231,7 +242,8 @@ Settled g t Between s = AllWere g t s
 Settled g t _ s = ⊤
 
 -- a part of a round leaves the directions of other sides
-pub part-other : (g : Settings) (p : Past) (s : Plain) (e : SideId) (x : Part) (z : SideId) → same_end z e ≡ false → flow_at (do_part g p e x s) z ≡ flow_at s z
+pub part-other : (g : Settings) (p : Past) (s : Plain) (e : SideId) (x : Part) (z : SideId) → same_end z e ≡ false →
+    flow_at (do_part g p e x s) z ≡ flow_at s z
 part-other g p s e Part.Hold z h = get_or-set_other s.flows (number e) (number z) _ no_flow (number-apart z e h)
 part-other g p s e Part.Read z h =
     get_or-set_other (read_run g p e (side_at s e).ended s).flows (number e) (number z) _ no_flow (number-apart z e h)
@@ -242,15 +254,18 @@ part-other g p s e Part.Write z h =
     ∙ get_or-set_other s.flows (number e) (number z) _ no_flow (number-apart z e h)
 part-other g p s e Part.Drain z h = get_or-set_other s.flows (number e) (number z) _ no_flow (number-apart z e h)
 
-pub part-marks : (g : Settings) (p : Past) (s : Plain) (e : SideId) (x : Part) (z : SideId) → (side_at (do_part g p e x s) z).marks ≡ (side_at s z).marks
+pub part-marks : (g : Settings) (p : Past) (s : Plain) (e : SideId) (x : Part) (z : SideId) →
+    (side_at (do_part g p e x s) z).marks ≡ (side_at s z).marks
 part-marks g p s e Part.Hold z = refl
 part-marks g p s e Part.Read z =
     meets-marks (put_flow e (with_used (read_filter g s e) (p.read e) (read_mark s e) (flow_at s e)) s) e _ z
 part-marks g p s e Part.Move z = refl
 part-marks g p s e Part.Write z =
-    meets-marks (put_flow e (with_turned (read_filter g s e) (write_filter g s (peer e)) (p.read e) (hold_mark g s (peer e)) (flow_at s e)) s) (peer e) _ z
+    meets-marks (put_flow e
+    (with_turned (read_filter g s e) (write_filter g s (peer e)) (p.read e) (hold_mark g s (peer e)) (flow_at s e)) s) (peer e) _ z
 part-marks g p s e Part.Drain z =
-    meets-marks (put_flow e (with_turned (read_filter g s e) (write_filter g s (peer e)) (p.read e) (hold_mark g s (peer e)) (flow_at s e)) s) (peer e) _ z
+    meets-marks (put_flow e
+    (with_turned (read_filter g s e) (write_filter g s (peer e)) (p.read e) (hold_mark g s (peer e)) (flow_at s e)) s) (peer e) _ z
 
 part-leaves : (g : Settings) (t : Trace) (s : Plain) (e : SideId) (x : Part) (z : SideId) → same_end z e ≡ false →
     LeavesPassed g t s t (do_part g (past g t) e x s) z
@@ -284,7 +299,8 @@ side-among k (suc left) e h l = go (cases_order k e.link) (λ lt. side-among (k 
         or_right (same_end e (record { link = k; side = In })) _ (or_right (same_end e (record { link = k; side = Out })) _ (later lt))
     go (inr (inr gt)) later = absurd (omega arith)
 
-fire-settled : (g : Settings) (t : Trace) (b : Bool) (k : ℕ) (rs : List Reason) (s : Plain) → Settled g t (if b then Over (Halt.StoppedBy k) else Dispatching rs) s
+fire-settled : (g : Settings) (t : Trace) (b : Bool) (k : ℕ) (rs : List Reason) (s : Plain) →
+    Settled g t (if b then Over (Halt.StoppedBy k) else Dispatching rs) s
 fire-settled g t true k rs s = tt
 fire-settled g t false k rs s = tt
 
@@ -299,9 +315,11 @@ now-passed g t s e es range k fit ended still h z lt none = go (same_end z e) re
     go true q =
         let same = same_end-eq z e q in
         subst (λ v. WasPassed g t s v) (sym same) (λ live peer_live bad peer_bad.
-        passed-now g t s e k.counts.shape.flows k.counts.shape.sides (subst (λ v. v.link < s.opened) same lt) (ended e) range live peer_live still bad peer_bad (fit e))
+        passed-now g t s e k.counts.shape.flows k.counts.shape.sides (subst (λ v. v.link < s.opened) same lt)
+        (ended e) range live peer_live still bad peer_bad (fit e))
 
-quiet-settled : (g : Settings) (t : Trace) (x : Stage) (s : Plain) (new : State) → HoldsSome g → Kept g t x s → ((z : SideId) → DirectionFits g t s z) →
+quiet-settled : (g : Settings) (t : Trace) (x : Stage) (s : Plain) (new : State) → HoldsSome g → Kept g t x s →
+    ((z : SideId) → DirectionFits g t s z) →
     ((z : SideId) → (side_at s z).ended ≡ has_ended z t) → Settled g t x s → Quietly g t x s new → Settled g t new.stage new.plain
 quiet-settled g t (Wanting []) s new range k fit ended h q = subst (λ z. Settled g t z.stage z.plain) (sym q) tt
 quiet-settled g t (Marking (w ∷ ws) marks) s new range k fit ended h q = subst (λ z. Settled g t z.stage z.plain) (sym q) tt
@@ -346,24 +364,28 @@ closed-leaves : (g : Settings) (t : Trace) (s : Plain) (c : CloseStep) (cs : Lis
     read_by e (y, []) ≡ [] → Effect g (Closing (c ∷ cs)) s (y, []) (Closing (steps_left c cs)) (closed_by c s) →
     LeavesPassed g t s (t ++ (y, []) ∷ []) (closed_by c s) e
 closed-leaves g t s c cs y e lt none k = record {
-  live = λ z o h. (was-live z (y, []) (Closing (steps_left c cs)) (seen (side_at s z)) (seen (side_at (closed_by c s) z)) (effect z o) h).0;
+  live =
+      λ z o h. (was-live z (y, []) (Closing (steps_left c cs)) (seen (side_at s z)) (seen (side_at (closed_by c s) z)) (effect z o) h).0;
   bad = λ z o h. sym (effect z o).bad ∙ h;
   read = bytes_read-push e t (y, []) ∙ ap (λ v. bytes_read e t ++ v) none ∙ append-nil (bytes_read e t);
   flow = ap (λ l. flow_at (record s { flows = l }) e) (closed-flows c s);
   marks = closed-marks c s (peer e);
 }
   where
-    effect : (z : SideId) → (z ≡ e) ⊎ (z ≡ peer e) → SideEffect z (y, []) (Closing (steps_left c cs)) (seen (side_at s z)) (seen (side_at (closed_by c s) z))
+    effect : (z : SideId) → (z ≡ e) ⊎ (z ≡ peer e) →
+        SideEffect z (y, []) (Closing (steps_left c cs)) (seen (side_at s z)) (seen (side_at (closed_by c s) z))
     effect z (inl same) = k.each z (subst (λ v. v.link < s.opened) (sym same) lt)
     effect z (inr same) = k.each z (subst (λ v. v.link < s.opened) (sym same) lt)
 
-reading-settled : (g : Settings) (t : Trace) (side : SideId) (answer : ReadAnswer) (ms : List Want) (s : Plain) → Settled g t (after_reading side answer ms) s
+reading-settled : (g : Settings) (t : Trace) (side : SideId) (answer : ReadAnswer) (ms : List Want) (s : Plain) →
+    Settled g t (after_reading side answer ms) s
 reading-settled g t side (read.Got n) ms s = tt
 reading-settled g t side read.Ended ms s = tt
 reading-settled g t side read.NotYet ms s = tt
 reading-settled g t side read.Failed ms s = tt
 
-put-settled : (g : Settings) (t : Trace) (s : Plain) (x : Stage) (y : Event) (new : State) → Effect g x s y new.stage new.plain → Settled g t x s →
+put-settled : (g : Settings) (t : Trace) (s : Plain) (x : Stage) (y : Event) (new : State) → Effect g x s y new.stage new.plain →
+    Settled g t x s →
     PutKind g t s x y new → Settled g (t ++ y ∷ []) new.stage new.plain
 put-settled g t s x y new k h (PutKind.turned a b) = tt
 put-settled g t s x y new k h (PutKind.polled) = tt
@@ -388,7 +410,8 @@ settled : (g : Settings) (t : Trace) (s : State) → HoldsSome g → Reaches g t
 settled g t s range (Reaches.begins) = λ e lt. absurd (omega arith)
 settled g t new range (Reaches.goes {t = u} {s = old} reached h) =
     let k = kept g u old reached in
-    quiet-settled g u old.stage old.plain new range k (λ z. fits g u old reached z) (ended-is g u old.stage old.plain k) (settled g u old range reached) h
+    quiet-settled g u old.stage old.plain new range k (λ z. fits g u old reached z) (ended-is g u old.stage old.plain k)
+    (settled g u old range reached) h
 settled g t new range (Reaches.puts {t = u} {s = old} y bytes reached h) =
     let c = kept g u old reached in
     put-settled g u old.plain old.stage (y, bytes) new (put-effect g u old.stage old.plain y bytes new c.counts.shape.sides c.placed h)
@@ -398,7 +421,8 @@ settled g t new range (Reaches.puts {t = u} {s = old} y bytes reached h) =
 faultless-good : (x : PlainSide) → fault x ≡ None → x.bad ≡ None
 faultless-good x h = go x.failed x.expired x.bad h
   where
-    go : (a b : Bool) (o : Option ℕ) → (if a then Some cause.Failed else (if b then Some cause.Timeout else option_map cause.Filter o)) ≡ None → o ≡ None
+    go : (a b : Bool) (o : Option ℕ) →
+        (if a then Some cause.Failed else (if b then Some cause.Timeout else option_map cause.Filter o)) ≡ None → o ≡ None
     go true b o h = absurd (cc)
     go false true o h = absurd (cc)
     go false false (Some n) h = absurd (cc)

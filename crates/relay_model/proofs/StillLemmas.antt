@@ -1,5 +1,6 @@
 -- What stands still behind the free of a side, by induction over the steps.
-use Rattle.std.proofs.Common.{◌≡◌, ℕ, suc, ◌-◌, ◌<◌, ◌≤◌, Bool, true, false, ◌||◌, not, if◌then◌else◌, List, [], ◌∷◌, ◌++◌, ◌⊎◌, inl, inr, refl, sym, ◌∙◌, ap, subst, arith, slice_index_or}
+use Rattle.std.proofs.Common.{◌≡◌, ℕ, suc, ◌-◌, ◌<◌, ◌≤◌, Bool, true, false, ◌||◌, not, if◌then◌else◌, List, [], ◌∷◌, ◌++◌, ◌⊎◌, inl}
+use Rattle.std.proofs.Common.{inr, refl, sym, ◌∙◌, ap, subst, arith, slice_index_or}
 use Rattle.std.specs.Prelude.{All}
 use Rattle.std.proofs.lemmas.Bool.{cases_lt}
 use Rattle.ev_types.specs.declared.side.SideId.{SideId}
@@ -21,7 +22,7 @@ use Rattle.relay_model.specs.Turn.{Reaches}
 use Rattle.relay_model.specs.Onward.{Leads}
 use Rattle.relay_model.specs.Totals.{is_opened}
 use Rattle.relay_model.specs.Told.{names, freed_by, is_freed, is_freeing}
-use Rattle.relay_model.specs.Still.{FreedStandStill, FreedStoodStill}
+use Rattle.relay_model.specs.Still.{FreedStandStill, FreedAreStill}
 use Rattle.relay_model.proofs.EndLemmas.{same_end-eq, same_end-refl}
 use Rattle.relay_model.proofs.KeepsLemmas.{Keeps-side, raised_read}
 use Rattle.relay_model.proofs.SeenLemmas.{seen, but_bad}
@@ -36,6 +37,7 @@ use Rattle.relay_model.proofs.TotalLemmas.{NeedsLive, PartsLive, parts-live, fre
 use Rattle.relay_model.proofs.TraceLemmas.{moved_at_free-append}
 use Rattle.relay_model.proofs.FlowLemmas.{Takes, put-flow}
 use Rattle.relay_model.proofs.PassedLemmas.{part-other}
+use Rattle.relay_model.proofs.OneWayLemmas.{all_on_one_way}
 use Rattle.relay_model.proofs.OnwardLemmas.{reaches-on, dead-stays, effect-more}
 
 -- What stands still, of one direction
@@ -50,7 +52,8 @@ rest_of f = record { moved = f.moved; read_done = f.read_done; write_done = f.wr
 turned-rest : (r w : Filter) (xs : List ℕ) (hold : ℕ) (f : Flow) → rest_of (with_turned r w xs hold f) ≡ rest_of f
 turned-rest r w xs hold f = go f.held
   where
-    go : (b : Bool) → rest_of (if b then f else record f { turned = first_from (write_stops r w xs hold f) f.turned (f.moved - f.turned) }) ≡ rest_of f
+    go : (b : Bool) → rest_of
+        (if b then f else record f { turned = first_from (write_stops r w xs hold f) f.turned (f.moved - f.turned) }) ≡ rest_of f
     go true = refl
     go false = refl
 
@@ -58,13 +61,15 @@ turned-rest r w xs hold f = go f.held
 own-part : (g : Settings) (t : Trace) (s : Plain) (e : SideId) (x : Part) → is_live s e ≡ false → NeedsLive s e x →
     rest_of (flow_at (do_part g (past g t) e x s) e) ≡ rest_of (flow_at s e)
 own-part g t s e Part.Hold dead needs =
-    set-seen rest_of s.flows (number e) (with_held (read_filter g s e) (write_filter g s (peer e)) (bytes_read e t) (hold_mark g s (peer e)) (flow_at s e)) no_flow refl
+    set-seen rest_of s.flows (number e)
+    (with_held (read_filter g s e) (write_filter g s (peer e)) (bytes_read e t) (hold_mark g s (peer e)) (flow_at s e)) no_flow refl
     (number e)
 own-part g t s e Part.Read dead needs = absurd (cc)
 own-part g t s e Part.Move dead needs = absurd (cc)
 own-part g t s e Part.Write dead needs = absurd (cc)
 own-part g t s e Part.Drain dead needs =
-    set-seen rest_of s.flows (number e) (with_turned (read_filter g s e) (write_filter g s (peer e)) (bytes_read e t) (hold_mark g s (peer e)) (flow_at s e)) no_flow
+    set-seen rest_of s.flows (number e)
+    (with_turned (read_filter g s e) (write_filter g s (peer e)) (bytes_read e t) (hold_mark g s (peer e)) (flow_at s e)) no_flow
     (turned-rest (read_filter g s e) (write_filter g s (peer e)) (bytes_read e t) (hold_mark g s (peer e)) (flow_at s e)) (number e)
 
 part-rest : (g : Settings) (t : Trace) (s : Plain) (z : SideId) (x : Part) (e : SideId) → is_live s e ≡ false → NeedsLive s z x →
@@ -78,19 +83,23 @@ part-rest g t s z x e dead needs = go (same_end e z) refl
         subst (λ v. rest_of (flow_at (do_part g (past g t) v x s) e) ≡ rest_of (flow_at s e)) same
         (own-part g t s e x dead (subst (λ v. NeedsLive s v x) (sym same) needs))
 
-quiet-rest : (g : Settings) (t : Trace) (s : Plain) (x : Stage) (new : State) (e : SideId) → PartsLive x s → is_live s e ≡ false → QuietKind g t s x new →
+quiet-rest : (g : Settings) (t : Trace) (s : Plain) (x : Stage) (new : State) (e : SideId) → PartsLive x s → is_live s e ≡ false →
+    QuietKind g t s x new →
     rest_of (flow_at new.plain e) ≡ rest_of (flow_at s e)
 quiet-rest g t s x new e parts dead (QuietKind.moved next a) = refl
 quiet-rest g t s x new e parts dead (QuietKind.filtered {e = z}) =
-    ap (λ flows. rest_of (slice_index_or flows (number e) no_flow)) (ap (λ v. v.flows) (raised_read g (past g t) z (read_run g (past g t) z false s)).1)
-    ∙ set-seen rest_of s.flows (number z) (with_used (read_filter g s z) (bytes_read z t) (read_mark s z) (flow_at s z)) no_flow refl (number e)
+    ap (λ flows. rest_of (slice_index_or flows (number e) no_flow))
+    (ap (λ v. v.flows) (raised_read g (past g t) z (read_run g (past g t) z false s)).1)
+    ∙ set-seen rest_of s.flows (number z) (with_used (read_filter g s z) (bytes_read z t) (read_mark s z) (flow_at s z)) no_flow refl
+    (number e)
 quiet-rest g t s x new e parts dead (QuietKind.dispatched) = refl
 quiet-rest g t s x new e parts dead (QuietKind.passed {x = p} {e = z}) = part-rest g t s z p e dead parts.0
 quiet-rest g t s x new e parts dead (QuietKind.closes) = refl
 quiet-rest g t s x new e parts dead (QuietKind.looked a) = refl
 quiet-rest g t s x new e parts dead (QuietKind.over) = refl
 
-put-rest : (g : Settings) (t : Trace) (s : Plain) (y : Event) (new : Plain) (e : SideId) → (flow_at new e ≡ flow_at s e) ⊎ Takes g t s y new e →
+put-rest : (g : Settings) (t : Trace) (s : Plain) (y : Event) (new : Plain) (e : SideId) →
+    (flow_at new e ≡ flow_at s e) ⊎ Takes g t s y new e →
     rest_of (flow_at new e) ≡ rest_of (flow_at s e)
 put-rest g t s y new e (inl same) = ap rest_of same
 put-rest g t s y new e (inr k) = ap rest_of k.flow
@@ -134,7 +143,8 @@ freed-names e (entry.Freed side why moved given, bytes) h = h
 freed-names e _ h = refl
 
 -- a side that was freed is one of an opened link
-freed-there : (g : Settings) (t : Trace) (s : State) (e : SideId) → Kept g t s.stage s.plain → is_freed e t ≡ true → e.link < s.plain.opened
+freed-there : (g : Settings) (t : Trace) (s : State) (e : SideId) → Kept g t s.stage s.plain → is_freed e t ≡ true →
+    e.link < s.plain.opened
 freed-there g t s e k h = go (cases_lt e.link s.plain.opened)
   where
     go : (e.link < s.plain.opened) ⊎ (s.plain.opened ≤ e.link) → e.link < s.plain.opened
@@ -156,7 +166,8 @@ record Passes (g : Settings) (first : Trace) (t : Trace) (new : State) : Type 0 
   reached : Reaches g first mid
   leads : Leads g first mid t new
 
-passes : (g : Settings) (t : Trace) (new : State) → Reaches g t new → (before : Trace) (y : Event) (after : Trace) → t ≡ before ++ y ∷ after →
+passes : (g : Settings) (t : Trace) (new : State) → Reaches g t new → (before : Trace) (y : Event) (after : Trace) →
+    t ≡ before ++ y ∷ after →
     Passes g (before ++ y ∷ []) t new
 passes g t new (Reaches.begins) before y after h = absurd (none before h)
   where
@@ -169,7 +180,8 @@ passes g t new (Reaches.goes {t = u} {s = old} r q) before y after h =
 passes g t new (Reaches.puts {t = u} {s = old} e bytes r p) before y after h =
     go (λ rest k. passes g u old r before y rest k) (pushed_split u (e, bytes) before y after h)
   where
-    go : ((rest : Trace) → u ≡ before ++ y ∷ rest → Passes g (before ++ y ∷ []) u old) → IsLast u (e, bytes) before y after ⊎ IsEarlier u (e, bytes) before y after →
+    go : ((rest : Trace) → u ≡ before ++ y ∷ rest → Passes g (before ++ y ∷ []) u old) →
+        IsLast u (e, bytes) before y after ⊎ IsEarlier u (e, bytes) before y after →
         Passes g (before ++ y ∷ []) (u ++ (e, bytes) ∷ []) new
     go earlier (inl k) =
         let same : u ++ (e, bytes) ∷ [] ≡ before ++ y ∷ [] = λ i. sym k.before_is i ++ sym k.is i ∷ [] in
@@ -184,19 +196,35 @@ told-there : (P : ℕ → Type 0) (xs ys : List ℕ) (n : ℕ) → All P (xs ++ 
 told-there P [] ys n h = h 0 0 (omega arith)
 told-there P (x ∷ xs) ys n h = told-there P xs ys n (λ k d lt. h (suc k) d (omega arith))
 
-pub freed_stood_still : FreedStoodStill
-freed_stood_still g t before after new e why moved given bytes r h =
-    let y : Event = (entry.Freed e why moved given, bytes) in
+still-back : (a b : Flow) → StandsStill a b → StandsStill b a
+still-back a b h = record { moved = sym h.moved; read_done = sym h.read_done; write_done = sym h.write_done }
+
+still-on : (a b c : Flow) → StandsStill a b → StandsStill b c → StandsStill a c
+still-on a b c h k = record { moved = k.moved ∙ h.moved; read_done = k.read_done ∙ h.read_done; write_done = k.write_done ∙ h.write_done }
+
+pub freed_are_still : FreedAreStill
+freed_are_still g t before after s new e why moved given bytes at_free r h =
     let k = passes g t new r before y after h in
-    let freed : is_freed e (before ++ y ∷ []) ≡ true = any-split (freed_by e) before y [] (same_end-refl e) in
-    let told : moved_at_free e t ≡ moved_at_free e before ++ moved ∷ moved_at_free e after =
-    ap (moved_at_free e) h ∙ moved_at_free-append e before (y ∷ after)
-    ∙ ap (λ b. moved_at_free e before ++ ((if b then moved ∷ [] else []) ++ moved_at_free e after)) (same_end-refl e) in
-    record {
-      since = k.mid;
-      reached = k.reached;
-      leads = k.leads;
-      still = freed_stand_still g (before ++ y ∷ []) t k.mid new e k.reached freed k.leads;
-      moved = sym (told-there (λ n. n ≡ (flow_at new.plain e).moved) (moved_at_free e before) (moved_at_free e after) moved
-          (subst (All (λ n. n ≡ (flow_at new.plain e).moved)) told (frees_tell_totals g t new.stage new.plain e r).moved));
-    }
+    let here : StandsStill (flow_at s.plain e) (flow_at k.mid.plain e) = elim (all_on_one_way g u s k.mid at_free k.reached) [
+      | inl l ↦ freed_stand_still g u u s k.mid e at_free freed l
+      | inr l ↦ still-back (flow_at k.mid.plain e) (flow_at s.plain e) (freed_stand_still g u u k.mid s e k.reached freed l)
+    ] in (
+      still-on (flow_at s.plain e) (flow_at k.mid.plain e) (flow_at new.plain e) here
+          (freed_stand_still g u t k.mid new e k.reached freed k.leads),
+      sym (told-there (λ n. n ≡ (flow_at new.plain e).moved) (moved_at_free e before) (moved_at_free e after) moved
+          (subst (All (λ n. n ≡ (flow_at new.plain e).moved)) told (frees_tell_totals g t new.stage new.plain e r).moved)),
+    )
+  where
+    y : Event
+    y = (entry.Freed e why moved given, bytes)
+
+    u : Trace
+    u = before ++ y ∷ []
+
+    freed : is_freed e u ≡ true
+    freed = any-split (freed_by e) before y [] (same_end-refl e)
+
+    told : moved_at_free e t ≡ moved_at_free e before ++ moved ∷ moved_at_free e after
+    told =
+        ap (moved_at_free e) h ∙ moved_at_free-append e before (y ∷ after)
+        ∙ ap (λ b. moved_at_free e before ++ ((if b then moved ∷ [] else []) ++ moved_at_free e after)) (same_end-refl e)

@@ -1,5 +1,6 @@
 -- Why a side is freed, told from what stands before its free and from the state in which it is freed.
-use Rattle.std.specs.Prelude.{◌≡◌, ◌⊎◌, ℕ, ◌-◌, ◌<◌, ◌≤◌, Bool, true, false, ◌&&◌, nat_lt, List, [], ◌∷◌, ◌++◌, length, take, Some, None, is_some}
+use Rattle.std.specs.Prelude.{◌≡◌, ◌⊎◌, ℕ, ◌-◌, ◌<◌, ◌≤◌, Bool, true, false, ◌&&◌, nat_lt, List, [], ◌∷◌, ◌++◌, length, take, Some}
+use Rattle.std.specs.Prelude.{None, is_some}
 use Rattle.std.specs.List.{list_any}
 use Rattle.token_bucket.specs.declared.limit.Dir.{Dir}
 use Rattle.ev_types.specs.declared.side.Side.{Side}
@@ -80,7 +81,8 @@ moved_to g t s e = let f = flow_at s (peer e) in take f.moved (middle (read_filt
 -- A place is bad for the side's read filter in what was read from it, or for its write filter in what was moved to it.
 abbrev pub IsBadPlace : Settings → Trace → Plain → SideId → ℕ → Type 0
 IsBadPlace g t s e place =
-    IsFirstBad (read_filter g s e) (bytes_read e t) (has_ended e t) place ⊎ IsFirstBad (write_filter g s e) (moved_to g t s e) (has_ended (peer e) t) place
+    IsFirstBad (read_filter g s e) (bytes_read e t) (has_ended e t) place ⊎ IsFirstBad (write_filter g s e) (moved_to g t s e)
+    (has_ended (peer e) t) place
 
 -- In a state the read filter of a side meets a place in what was read from it. Its target has room, and the next byte is bad;
 -- or no byte is left, the side has ended, and its end is bad.
@@ -166,6 +168,12 @@ abbrev pub FreesAreCalledFor : Type 0
 FreesAreCalledFor = (g : Settings) (t before after : Trace) (e : SideId) (why : Cause) (moved given : ℕ) (bytes : List ℕ) →
     IsLegal g t → t ≡ before ++ (entry.Freed e why moved given, bytes) ∷ after → PutFor g before e why moved given bytes
 
+-- A side that failed is freed for that, or by a hook: whatever other fault it has, and also where its link is done or its peer gone.
+abbrev pub FailedAreFreedSo : Type 0
+FailedAreFreedSo = (g : Settings) (t before after : Trace) (e : SideId) (why : Cause) (moved given : ℕ) (bytes : List ℕ) →
+    IsLegal g t → t ≡ before ++ (entry.Freed e why moved given, bytes) ∷ after → has_failed e before ≡ true →
+    (why ≡ cause.Hook) ⊎ (why ≡ cause.Failed)
+
 -- Where closing looks at a live side for its fault, the free with that cause is put, and nothing else goes on; with no fault
 -- nothing is put.
 pub record FaultAnswered (g : Settings) (t : Trace) (s : Plain) (e : SideId) (left : List CloseStep) : Type 0 where
@@ -173,16 +181,33 @@ pub record FaultAnswered (g : Settings) (t : Trace) (s : Plain) (e : SideId) (le
       Puts g t (Stage.Closing (CloseStep.Faulty e ∷ left)) s (freed_entry s e why) [] (at (Stage.Closing left) (freed e s))
   pub only : (why : Cause) → fault (side_at s e) ≡ Some why → (y : Entry) (bytes : List ℕ) (new : State) →
       Puts g t (Stage.Closing (CloseStep.Faulty e ∷ left)) s y bytes new → (y ≡ freed_entry s e why) × (bytes ≡ [])
-  pub now : (why : Cause) → fault (side_at s e) ≡ Some why → (new : State) → Quietly g t (Stage.Closing (CloseStep.Faulty e ∷ left)) s new → ⊥
+  pub now : (why : Cause) → fault (side_at s e) ≡ Some why → (new : State) →
+      Quietly g t (Stage.Closing (CloseStep.Faulty e ∷ left)) s new → ⊥
   pub spares : fault (side_at s e) ≡ None → (y : Entry) (bytes : List ℕ) (new : State) →
       Puts g t (Stage.Closing (CloseStep.Faulty e ∷ left)) s y bytes new → ⊥
 
 abbrev pub FaultsAreAnswered : Type 0
-FaultsAreAnswered = (g : Settings) (t : Trace) (s : Plain) (e : SideId) (left : List CloseStep) → is_live s e ≡ true → FaultAnswered g t s e left
+FaultsAreAnswered =
+    (g : Settings) (t : Trace) (s : Plain) (e : SideId) (left : List CloseStep) → is_live s e ≡ true → FaultAnswered g t s e left
+
+-- behind the one trace, and in the other, the free of a side stands with a cause
+pub record FreedAs (t u : Trace) (e : SideId) (why : Cause) : Type 0 where
+  pub early : Trace
+  pub moved : ℕ
+  pub given : ℕ
+  pub since : Trace
+  pub is : u ≡ t ++ (early ++ (entry.Freed e why moved given, []) ∷ since)
+
+-- A live side that has a fault as closing begins, or while it goes on, is freed with the cause that its faults call for.
+abbrev pub ClosingFreesFaulty : Type 0
+ClosingFreesFaulty = (g : Settings) (t u : Trace) (cs : List CloseStep) (s new : Plain) (e : SideId) (why : Cause) →
+    Reaches g t (at (Stage.Closing cs) s) → e.link < s.opened → is_live s e ≡ true → fault (side_at s e) ≡ Some why →
+    Leads g t (at (Stage.Closing cs) s) u (at Stage.Between new) → FreedAs t u e why
 
 -- A live side with a fault is freed before the turn is over.
 abbrev pub FaultyAreFreed : Type 0
-FaultyAreFreed = (g : Settings) (t u : Trace) (s : State) (new : Plain) (e : SideId) → Reaches g t s → Leads g t s u (at Stage.Between new) →
+FaultyAreFreed =
+    (g : Settings) (t u : Trace) (s : State) (new : Plain) (e : SideId) → Reaches g t s → Leads g t s u (at Stage.Between new) →
     e.link < s.plain.opened → is_live s.plain e ≡ true → is_some (fault (side_at s.plain e)) ≡ true → is_freed e u ≡ true
 
 -- each free of a legal trace has its cause
@@ -193,7 +218,8 @@ FreesHaveCauses = (g : Settings) (t before after : Trace) (e : SideId) (why : Ca
 -- What a hook frees is recorded next: behind an ask that frees a side, answered Ok, stands its free or nothing.
 abbrev pub AskedFreesAreNext : Type 0
 AskedFreesAreNext = (g : Settings) (t before after : Trace) (me e : SideId) (bytes : List ℕ) (next : Event) → IsLegal g t →
-    t ≡ before ++ (entry.Asked me (act.Free e) ask.Ok, bytes) ∷ next ∷ after → (moved : ℕ) × (given : ℕ) × (next ≡ (entry.Freed e cause.Hook moved given, []))
+    t ≡ before ++ (entry.Asked me (act.Free e) ask.Ok, bytes) ∷ next ∷ after → (moved : ℕ) × (given : ℕ)
+    × (next ≡ (entry.Freed e cause.Hook moved given, []))
 
 -- Between turns no live side of an opened link is faulty: each that failed, timed out or met a bad place was freed.
 abbrev pub FaultsAreFreed : Type 0
@@ -202,7 +228,8 @@ FaultsAreFreed = (g : Settings) (t : Trace) (s : Plain) (e : SideId) → Reaches
 
 -- What is left to do at a side of an opened link, and at the link.
 pub record NothingLeft (g : Settings) (t : Trace) (s : Plain) (e : SideId) : Type 0 where
-  pub writing : is_live s e ≡ true → is_live s (peer e) ≡ true → is_complete g (past g t) s (peer e) ≡ true → (side_at s e).connecting ≡ false → (side_at s e).write_ended ≡ true
+  pub writing : is_live s e ≡ true → is_live s (peer e) ≡ true → is_complete g (past g t) s (peer e) ≡ true →
+      (side_at s e).connecting ≡ false → (side_at s e).write_ended ≡ true
   pub done : is_live s e ≡ true → is_live s (peer e) ≡ true → (side_at s e).write_ended ≡ true → (side_at s (peer e)).write_ended ≡ false
   pub peer_gone : is_live s e ≡ true → is_live s (peer e) ≡ false → 1 ≤ output_length g (past g t) s e
   pub shut : is_live s e ≡ false → (side_at s e).closed ≡ true
@@ -210,7 +237,8 @@ pub record NothingLeft (g : Settings) (t : Trace) (s : Plain) (e : SideId) : Typ
 -- Between turns nothing is left: writing was ended behind each whole direction of two live sides, a link whose writing was ended
 -- at both ends was freed, a live side whose peer is gone has bytes that it may still be given, and each freed side's end was closed.
 abbrev pub NothingIsLeft : Type 0
-NothingIsLeft = (g : Settings) (t : Trace) (s : Plain) (e : SideId) → Reaches g t (at Stage.Between s) → e.link < s.opened → NothingLeft g t s e
+NothingIsLeft =
+    (g : Settings) (t : Trace) (s : Plain) (e : SideId) → Reaches g t (at Stage.Between s) → e.link < s.opened → NothingLeft g t s e
 
 -- The place that a side keeps is the first that one of its two filters met.
 abbrev pub PlacesAreFirst : Type 0

@@ -18,17 +18,10 @@ abbrev pub FreedStandStill : Type 0
 FreedStandStill = (g : Settings) (t u : Trace) (s new : State) (e : SideId) → Reaches g t s → is_freed e t ≡ true → Leads g t s u new →
     StandsStill (flow_at s.plain e) (flow_at new.plain e)
 
--- A state behind the free of a side, on the way to a later one, with what stood still since. The free told how many bytes were
--- moved.
-pub record StoodStill (g : Settings) (free t : Trace) (new : State) (e : SideId) (told : ℕ) : Type 0 where
-  pub since : State
-  pub reached : Reaches g free since
-  pub leads : Leads g free since t new
-  pub still : StandsStill (flow_at since.plain e) (flow_at new.plain e)
-  pub moved : (flow_at new.plain e).moved ≡ told
-
--- Wherever a free stands in a trace, and whatever state the trace leads to, on the way there was such a state.
-abbrev pub FreedStoodStill : Type 0
-FreedStoodStill = (g : Settings) (t before after : Trace) (new : State) (e : SideId) (why : Cause) (moved given : ℕ) (bytes : List ℕ) →
-    Reaches g t new → t ≡ before ++ (entry.Freed e why moved given, bytes) ∷ after →
-    StoodStill g (before ++ (entry.Freed e why moved given, bytes) ∷ []) t new e moved
+-- Wherever a free stands in a trace, they are so in any state that the trace led to there and any state that the whole leads to.
+-- As many bytes were moved as the free told.
+abbrev pub FreedAreStill : Type 0
+FreedAreStill = (g : Settings) (t before after : Trace) (s new : State) (e : SideId) (why : Cause) (moved given : ℕ) (bytes : List ℕ) →
+    Reaches g (before ++ (entry.Freed e why moved given, bytes) ∷ []) s → Reaches g t new →
+    t ≡ before ++ (entry.Freed e why moved given, bytes) ∷ after →
+    StandsStill (flow_at s.plain e) (flow_at new.plain e) × ((flow_at new.plain e).moved ≡ moved)

@@ -1,7 +1,9 @@
 // The laws that every legal trace obeys, each on a function whose contract it is.
-ghost use Rattle.relay_model.specs.Causes.{AskedFreesAreNext, FaultsAreAnswered, FaultsAreFreed, FaultyAreFreed, FreesAreCalledFor, FreesHaveCauses, NothingIsLeft, PlacesAreFirst};
+ghost use Rattle.relay_model.specs.Causes.{AskedFreesAreNext, ClosingFreesFaulty, FailedAreFreedSo, FaultsAreAnswered, FaultsAreFreed};
+ghost use Rattle.relay_model.specs.Causes.{FaultyAreFreed, FreesAreCalledFor, FreesHaveCauses, NothingIsLeft, PlacesAreFirst};
+ghost use Rattle.relay_model.specs.Onward.{AllOnOneWay};
 ghost use Rattle.relay_model.specs.Quiet.{LegalIsQuiet};
-ghost use Rattle.relay_model.specs.Still.{FreedStandStill, FreedStoodStill};
+ghost use Rattle.relay_model.specs.Still.{FreedAreStill, FreedStandStill};
 ghost use Rattle.relay_model.specs.Told.{FreesTellTotals, LinksInOrder, StateIsTold, TimeRises};
 
 /// The counts of the plain state, and what it says of each side, are what the trace says that leads to it.
@@ -75,8 +77,23 @@ pub fn freed_stand_still()
     ensures { FreedStandStill }
 {}
 
-/// Whatever state a trace leads to, behind each free on the way they were what they are in it, and the free told how many
-/// bytes were moved.
-pub fn freed_stood_still()
-    ensures { FreedStoodStill }
+/// A trace tells the way that a run took: of any two states to which it leads, one leads to the other with no entry.
+pub fn all_on_one_way()
+    ensures { AllOnOneWay }
+{}
+
+/// Wherever a free stands in a trace, they are the same in any state there and any that the whole leads to, and the free told
+/// how many bytes were moved.
+pub fn freed_are_still()
+    ensures { FreedAreStill }
+{}
+
+/// A side that failed is freed for that, or by a hook, whatever else it is.
+pub fn failed_are_freed_so()
+    ensures { FailedAreFreedSo }
+{}
+
+/// A live side that is faulty as closing begins is freed in it with the cause that its faults call for.
+pub fn closing_frees_faulty()
+    ensures { ClosingFreesFaulty }
 {}

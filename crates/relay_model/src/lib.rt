@@ -20,10 +20,10 @@ pub use laws::{
     what_is_met_is_bad,
 };
 pub use legal_laws::{
-    asked_frees_are_next, faults_are_answered, faults_are_freed, faulty_are_freed,
-    freed_stand_still, freed_stood_still, frees_are_called_for, frees_have_causes,
-    frees_tell_totals, legal_is_quiet, links_in_order, nothing_is_left, places_are_first,
-    state_is_told, time_rises,
+    all_on_one_way, asked_frees_are_next, closing_frees_faulty, failed_are_freed_so,
+    faults_are_answered, faults_are_freed, faulty_are_freed, freed_are_still, freed_stand_still,
+    frees_are_called_for, frees_have_causes, frees_tell_totals, legal_is_quiet, links_in_order,
+    nothing_is_left, places_are_first, state_is_told, time_rises,
 };
 pub use played_laws::{
     answers_go_on, end_ties_join, nothing_is_tied, nothing_stands, polls_fail_as_scripted,
