@@ -219,7 +219,7 @@ fn an_end_gets_more_than_2_to_the_18_bytes(rt: HostRuntime) -> Result<(), Fail> 
     line.push(b'\n')?;
     let mut text = repeated(&rt, "at 0\nopen\n", &line, 9)?;
     let script = read_script(rt.alloc(), &text)?;
-    assert_eq!(rt; script.turns[0].1.len(), 10);
+    assert!(rt; matches!(script.turns.as_slice(), [(_, lines)] if lines.len() == 10));
     text.extend_from_slice(b"eof 0 in\nr 0 in 00\n")?;
     assert_eq!(rt;
         read_script(rt.alloc(), &text).err(),
