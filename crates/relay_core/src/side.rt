@@ -78,17 +78,7 @@ impl SideState {
         ensures lane { lane_of result ≡ no_lane }
     {
         SideState {
-            flags: SideFlags {
-                live: true,
-                connecting: !connected,
-                reads: true,
-                writes: true,
-                ended: false,
-                failed: false,
-                expired: false,
-                write_ended: false,
-                closed: false,
-            },
+            flags: SideFlags::at_opening(connected),
             marks,
             timeouts,
             last_read: time,

@@ -120,7 +120,13 @@ fn a_link_passes_bytes_and_ends(rt: HostRuntime) -> Result<(), Fail> {
 
 #[test]
 fn a_held_direction_goes_on_at_half_of_the_hold_mark(rt: HostRuntime) -> Result<(), Fail> {
-    let mut relay = Relay::new(rt.alloc(), Settings { hold: 4, ..Settings::usual() });
+    let mut relay = Relay::new(
+        rt.alloc(),
+        Settings {
+            hold: 4,
+            ..Settings::usual()
+        },
+    );
     open(&mut relay, true)?;
     read(&mut relay, IN, b"0123456789")?;
     for (most, offered) in [(1, 4), (1, 3), (4, 4), (4, 4)] {

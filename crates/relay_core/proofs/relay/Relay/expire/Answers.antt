@@ -14,7 +14,7 @@ invariant_of-self c =
     still_sound c.args.self.now c.self.inside c.self.view_is c.self.invariant c.args.side c.requires.opened c.number.result c.number.ensures
     c.index_mut-own.result.now c.index_mut-own.ensures.value c.expire.new.self
     (expire c.args.dir)
-    (expire_sound c.self.inside.time c.self.inside.timed c.args.dir (plain_side c.index_mut-own.result.now)
+    (expire_sound c.self.inside.time c.self.inside.untimed c.args.dir (plain_side c.index_mut-own.result.now)
     (sym (ap (λ x. is_timed x c.args.dir) seen) ∙ c.requires.timed))
     c.expire.ensures.side
 
