@@ -303,7 +303,8 @@ module _ (v : RelayValue) (r : Inside) (is : relay_of r ≡ v) (sound : IsSound 
 
   module _ (y : SideState) (bytes : List ℕ)
       (side_is : plain_side y ≡ active_at r.time dir.Read (plain_side x))
-      (passage_is : passage_of y ≡ (let z = passage_of x in read_part (read_mark_of x) false (record z { lane = lane_got bytes z.lane }))) where
+      (passage_is : passage_of y
+      ≡ (let z = passage_of x in read_part (read_mark_of x) false (record z { lane = lane_got bytes z.lane }))) where
     abbrev grown : State
     grown = with_got s e bytes
 

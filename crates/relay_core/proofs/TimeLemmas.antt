@@ -1,5 +1,5 @@
 -- Where nothing is timed, a turn begins with nothing but its time, and a poll waits for ever. Looking at sides opens no link.
-use Rattle.std.proofs.Common.{◌≡◌, ℕ, zero, suc, ◌+◌, ◌<◌, ◌≤◌, ◌-◌, Bool, true, false, ◌&&◌, ◌||◌, nat_le, not, if◌then◌else◌, List, [], ◌∷◌, ◌++◌, map, slice_index_or, Some, None, option_map, refl, sym, ◌∙◌, ap, arith, fold}
+use Rattle.std.proofs.Common.{◌≡◌, ℕ, zero, suc, ◌+◌, ◌<◌, ◌-◌, Bool, true, false, ◌&&◌, ◌||◌, nat_le, not, if◌then◌else◌, List, [], ◌∷◌, ◌++◌, map, slice_index_or, Some, None, option_map, refl, sym, ◌∙◌, ap, arith, fold}
 use Rattle.std.proofs.lemmas.List.Elements.{All-head, All-tail}
 use Rattle.std.specs.List.{All, list_any, flat_map}
 use Rattle.token_bucket.specs.declared.limit.Dir.{Dir}
@@ -132,7 +132,8 @@ side_timed-opened s e = timed-opened (timed e s dir.Read) e dir.Write ∙ timed-
 
 -- A side stays sound as a direction of it is active, and as one expires, since it has a timeout.
 
-pub active_sound : (time : ℕ) (none : Bool) (d : Dir) (x : PlainSide) → IsSoundSide time none x → IsSoundSide time none (active_at time d x)
+pub active_sound : (time : ℕ) (none : Bool) (d : Dir) (x : PlainSide) → IsSoundSide time none x →
+    IsSoundSide time none (active_at time d x)
 active_sound time none dir.Read x h = (omega arith, h.1, h.2)
 active_sound time none dir.Write x h = (h.0, omega arith, h.2)
 
@@ -152,7 +153,8 @@ pub sides_from-more : (k n : ℕ) → k < n →
 sides_from-more k n h = let a : n - k ≡ suc (n - (k + 1)) = omega (arith, h) in ap (sides_from k) a
 
 -- where both sides of a link have not, one has where one of those behind has
-pub any-more : (p : SideId → Bool) (k n : ℕ) → k < n → p (record { link = k; side = In }) ≡ false → p (record { link = k; side = Out }) ≡ false →
+pub any-more : (p : SideId → Bool) (k n : ℕ) → k < n →
+    p (record { link = k; side = In }) ≡ false → p (record { link = k; side = Out }) ≡ false →
     list_any p (sides_from k (n - k)) ≡ list_any p (sides_from (k + 1) (n - (k + 1)))
 any-more p k n h near far =
     let rest : Bool = list_any p (sides_from (k + 1) (n - (k + 1))) in

@@ -9,8 +9,8 @@ use relay_settings::{Settings, Timeouts};
 use std::alloc::Global;
 use std::marker::Model;
 
-/// The relay's own state, and whether no side has a timeout. Calls on a side ask that its link was opened. What a call answers, and the state after it, is
-/// said by its contract.
+/// The relay's own state, and whether no side has a timeout. Calls on a side ask that its link was opened. What a call
+/// answers, and the state after it, is said by its contract.
 ///
 /// Own; it does what libevent's sample le-proxy does.
 #[derive(Drop)]

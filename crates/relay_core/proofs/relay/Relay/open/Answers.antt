@@ -1,5 +1,4 @@
 use Rattle.std.proofs.Common.{true, ◌≡◌, ◌++◌, ◌∷◌, []}
-use Rattle.relay_core.specs.SettingsView.{model_timeouts}
 use Rattle.relay_core.specs.SideView.{plain_side}
 use Rattle.relay_core.proofs.RelayLemmas.{new_sound, opened_sound}
 use Rattle.relay_core.proofs.relay.Relay.open.Goals as goal
