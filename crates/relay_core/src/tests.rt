@@ -199,6 +199,29 @@ fn a_side_is_read_up_to_its_high_mark(rt: HostRuntime) -> Result<(), Fail> {
 }
 
 #[test]
+fn a_great_mark_takes_no_more_room_than_comes(rt: HostRuntime) -> Result<(), Fail> {
+    let great = Marks {
+        read_high: u64::MAX,
+        write_high: u64::MAX,
+        ..Marks::none()
+    };
+    let settings = Settings {
+        in_marks: great,
+        out_marks: great,
+        ..Settings::usual()
+    };
+    let mut relay = Relay::new(rt.alloc(), settings);
+    open(&mut relay, true)?;
+    for bytes in [b"ab", b"cd"] {
+        get(&mut relay, IN, bytes)?;
+    }
+    pass(&mut relay, IN)?;
+    read(&mut relay, IN, b"ef")?;
+    assert_eq!(rt; give(&mut relay, OUT, 6), 6);
+    Ok(())
+}
+
+#[test]
 fn an_idle_side_is_freed_and_its_peer_gets_what_waits(rt: HostRuntime) -> Result<(), Fail> {
     let settings = Settings {
         in_timeouts: Timeouts {
