@@ -1,3 +1,4 @@
+pub mod SettingsLemmas
 pub mod StepLemmas
 pub mod RoundLemmas
 pub mod PassageLemmas

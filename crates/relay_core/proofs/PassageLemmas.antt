@@ -3,10 +3,10 @@ use Rattle.std.proofs.Common.{◌≡◌, ℕ, zero, suc, ◌+◌, Bool, true, fa
 use Rattle.std.specs.List.{last_or}
 use Rattle.relay_model.specs.FilterStep.{Stepped, stepped}
 use Rattle.relay_state.specs.Passage.{Passage, hold_part, read_by, read_part, move_part, written_by, write_part, pass_round, rounds}
-use Rattle.relay_core.specs.SideView.{handing_on, flow_of, buffers_of}
+use Rattle.relay_core.specs.SideView.{handing_on, flow_of, buffers_of, used_now}
 use Rattle.relay_core.specs.declared.side.SideState.{SideState}
 use Rattle.relay_core.proofs.StepLemmas.{step-is}
-use Rattle.relay_core.proofs.RoundLemmas.{Straight, held, used_now, turned_now, read_on, read_filtered, is_moving, moved, write_on, write_open, write_filtered, round}
+use Rattle.relay_core.proofs.RoundLemmas.{Straight, held, turned_now, read_on, read_filtered, is_moving, moved, write_on, write_open, write_filtered, round}
 
 abbrev pub passage : Straight → Passage
 passage z = record {

@@ -140,21 +140,21 @@ passed_good s e f l from to =
     ap (λ p. with_lane e l (with_plain p s)) (ap (change_side (peer e) (with_bad None)) (good q e from) ∙ good q (peer e) to)
 
 -- a side whose link opens is sound
-pub new_sound : (time : ℕ) (timed connected : Bool) (m : Marks) (t : Timeouts) (x : PlainSide) → (timed ≡ false → t ≡ no_timeouts) →
-    x ≡ (let y = new_side usual time 0 In connected in record y { marks = m; timeouts = t }) → IsSoundSide time timed x
-new_sound time timed connected m t x h is = subst (IsSoundSide time timed) (sym is) (omega arith, omega arith, λ e. (h e, refl))
+pub new_sound : (time : ℕ) (untimed connected : Bool) (m : Marks) (t : Timeouts) (x : PlainSide) → (untimed ≡ true → t ≡ no_timeouts) →
+    x ≡ (let y = new_side usual time 0 In connected in record y { marks = m; timeouts = t }) → IsSoundSide time untimed x
+new_sound time untimed connected m t x h is = subst (IsSoundSide time untimed) (sym is) (omega arith, omega arith, λ e. (h e, refl))
 
 -- and the sides are with two more of them
-pub opened_sound : (near far : Timeouts) (opened time : ℕ) (timed : Bool) (xs ys : List SideState) (a b : SideState) →
-    AreSound near far opened time timed xs → ys ≡ (xs ++ a ∷ []) ++ b ∷ [] →
-    IsSoundSide time timed (plain_side a) → IsSoundSide time timed (plain_side b) → AreSound near far (opened + 1) time timed ys
-opened_sound near far opened time timed xs ys a b h is p q =
-    let P : SideState → Type 0 = λ z. IsSoundSide time timed (plain_side z) in
+pub opened_sound : (near far : Timeouts) (opened time : ℕ) (untimed : Bool) (xs ys : List SideState) (a b : SideState) →
+    AreSound near far opened time untimed xs → ys ≡ (xs ++ a ∷ []) ++ b ∷ [] →
+    IsSoundSide time untimed (plain_side a) → IsSoundSide time untimed (plain_side b) → AreSound near far (opened + 1) time untimed ys
+opened_sound near far opened time untimed xs ys a b h is p q =
+    let P : SideState → Type 0 = λ z. IsSoundSide time untimed (plain_side z) in
     let l = length-append (xs ++ a ∷ []) (b ∷ []) in
     let k = length-append xs (a ∷ []) in
     record {
       paired = omega (arith, ap length is, l, k, h.paired);
-      untimed = h.untimed;
+      unset = h.unset;
       sides = subst (All P) (sym is) (All-append P (xs ++ a ∷ []) (b ∷ [])
           (All-append P xs (a ∷ []) h.sides (All-cons P a [] p (All-nil P))) (All-cons P b [] q (All-nil P)));
     }
@@ -194,26 +194,26 @@ module _ (v : RelayValue) (r : Inside) (is : relay_of r ≡ v) (sound : IsSound 
   pub lane_seen : lane_at v.state e ≡ lane_of x
   lane_seen = ap (λ (z : RelayValue). lane_at z.state e) (sym is) ∙ lane_inside
 
-  sound_inside : IsSoundSide r.time r.timed (plain_side x)
+  sound_inside : IsSoundSide r.time r.untimed (plain_side x)
   sound_inside =
-      subst (λ z. IsSoundSide r.time r.timed (plain_side z)) found (sound.sides (number e) x in_range)
+      subst (λ z. IsSoundSide r.time r.untimed (plain_side z)) found (sound.sides (number e) x in_range)
 
   -- the sides are sound with another one in its place
-  pub sound_put : (y : SideState) → IsSoundSide r.time r.timed (plain_side y) →
-      AreSound (model_timeouts r.settings.in_timeouts) (model_timeouts r.settings.out_timeouts) r.opened r.time r.timed
+  pub sound_put : (y : SideState) → IsSoundSide r.time r.untimed (plain_side y) →
+      AreSound (model_timeouts r.settings.in_timeouts) (model_timeouts r.settings.out_timeouts) r.opened r.time r.untimed
       (slice_set r.sides.items i y)
   sound_put y h = record {
     paired = length-set r.sides.items i y ∙ sound.paired;
-    untimed = sound.untimed;
-    sides = All-set (λ z. IsSoundSide r.time r.timed (plain_side z)) r.sides.items i y h sound.sides;
+    unset = sound.unset;
+    sides = All-set (λ z. IsSoundSide r.time r.untimed (plain_side z)) r.sides.items i y h sound.sides;
   }
 
   -- where it comes from the one that was there by a change that keeps a side sound
   pub still_sound : (y : SideState) (g : PlainSide → PlainSide) →
-      (IsSoundSide r.time r.timed (plain_side x) → IsSoundSide r.time r.timed (g (plain_side x))) → plain_side y ≡ g (plain_side x) →
-      AreSound (model_timeouts r.settings.in_timeouts) (model_timeouts r.settings.out_timeouts) r.opened r.time r.timed
+      (IsSoundSide r.time r.untimed (plain_side x) → IsSoundSide r.time r.untimed (g (plain_side x))) → plain_side y ≡ g (plain_side x) →
+      AreSound (model_timeouts r.settings.in_timeouts) (model_timeouts r.settings.out_timeouts) r.opened r.time r.untimed
       (slice_set r.sides.items i y)
-  still_sound y g k h = sound_put y (subst (IsSoundSide r.time r.timed) (sym h) (k sound_inside))
+  still_sound y g k h = sound_put y (subst (IsSoundSide r.time r.untimed) (sym h) (k sound_inside))
 
   -- what is so of the state that is seen, as it is so of the state inside
   pub carried : (y : SideState) (f : State → State) → state_with r (slice_set r.sides.items i y) ≡ f (state_with r r.sides.items) →
@@ -303,7 +303,8 @@ module _ (v : RelayValue) (r : Inside) (is : relay_of r ≡ v) (sound : IsSound 
 
   module _ (y : SideState) (bytes : List ℕ)
       (side_is : plain_side y ≡ active_at r.time dir.Read (plain_side x))
-      (passage_is : passage_of y ≡ (let z = passage_of x in read_part (read_mark_of x) false (record z { lane = lane_got bytes z.lane }))) where
+      (passage_is : passage_of y
+      ≡ (let z = passage_of x in read_part (read_mark_of x) false (record z { lane = lane_got bytes z.lane }))) where
     abbrev grown : State
     grown = with_got s e bytes
 

@@ -6,6 +6,7 @@ use Rattle.std.proofs.lemmas.List.{nil_from_length}
 use mathlib.Core.Logic.{◌⊎◌}
 use Rattle.relay_model.specs.Flow.{Flow}
 use Rattle.relay_model.specs.Conserved.{Buffers}
+use Rattle.relay_core.specs.SideView.{used_now}
 
 -- a direction with such filters: its counts and its bytes, the last byte that either filter used, and how many were read
 pub record Straight : Type 0 where
@@ -24,9 +25,6 @@ held_now hold x =
 
 abbrev pub held : ℕ → Straight → Straight
 held hold x = let f = x.flow in record x { flow = record f { held = held_now hold x } }
-
-abbrev pub used_now : ℕ → Buffers → ℕ
-used_now mark b = min (length b.raw_input) (mark - length b.input)
 
 abbrev pub read_on : ℕ → Bool → Straight → Straight
 read_on mark over x =

@@ -1,5 +1,5 @@
 -- Where nothing is timed, a turn begins with nothing but its time, and a poll waits for ever. Looking at sides opens no link.
-use Rattle.std.proofs.Common.{◌≡◌, ℕ, zero, suc, ◌+◌, ◌<◌, ◌≤◌, ◌-◌, Bool, true, false, ◌&&◌, ◌||◌, nat_le, not, if◌then◌else◌, List, [], ◌∷◌, ◌++◌, map, slice_index_or, Some, None, option_map, refl, sym, ◌∙◌, ap, arith, fold}
+use Rattle.std.proofs.Common.{◌≡◌, ℕ, zero, suc, ◌+◌, ◌<◌, ◌-◌, Bool, true, false, ◌&&◌, ◌||◌, nat_le, not, if◌then◌else◌, List, [], ◌∷◌, ◌++◌, map, slice_index_or, Some, None, option_map, refl, sym, ◌∙◌, ap, arith, fold}
 use Rattle.std.proofs.lemmas.List.Elements.{All-head, All-tail}
 use Rattle.std.specs.List.{All, list_any, flat_map}
 use Rattle.token_bucket.specs.declared.limit.Dir.{Dir}
@@ -43,11 +43,11 @@ all_at P none [] all (suc n) = none
 all_at P none (x ∷ xs) all zero = All-head (λ z. P (plain_side z)) x xs all
 all_at P none (x ∷ xs) all (suc n) = all_at P none xs (All-tail (λ z. P (plain_side z)) x xs all) n
 
-pub untimed_seen : (r : Inside) → IsSound r → r.timed ≡ false → IsUntimed (state_with r r.sides.items)
+pub untimed_seen : (r : Inside) → IsSound r → r.untimed ≡ true → IsUntimed (state_with r r.sides.items)
 untimed_seen r sound h =
-    let none : IsSoundSide r.time r.timed no_side = (omega arith, omega arith, λ e. (refl, refl)) in
-    let at : (n : ℕ) → IsSoundSide r.time r.timed (slice_index_or (map plain_side r.sides.items) n no_side) =
-    all_at (IsSoundSide r.time r.timed) none r.sides.items sound.sides in
+    let none : IsSoundSide r.time r.untimed no_side = (omega arith, omega arith, λ e. (refl, refl)) in
+    let at : (n : ℕ) → IsSoundSide r.time r.untimed (slice_index_or (map plain_side r.sides.items) n no_side) =
+    all_at (IsSoundSide r.time r.untimed) none r.sides.items sound.sides in
     record { timeouts = λ e. ((at (number e)).2 h).0; expired = λ e. ((at (number e)).2 h).1 }
 
 module _ (s : State) (u : IsUntimed s) where
@@ -92,7 +92,7 @@ module _ (s : State) (u : IsUntimed s) where
       go false = refl
 
 -- nothing presses, and there is no moment to wake up for
-pub poll_timeout-none : (r : Inside) → IsSound r → r.timed ≡ false → poll_timeout (state_with r r.sides.items) ≡ None
+pub poll_timeout-none : (r : Inside) → IsSound r → r.untimed ≡ true → poll_timeout (state_with r r.sides.items) ≡ None
 poll_timeout-none r sound h =
     let s : State = state_with r r.sides.items in
     let u = untimed_seen r sound h in
@@ -100,7 +100,7 @@ poll_timeout-none r sound h =
     else option_map (λ moment. moment - s.plain.time) (earliest (expiries-none s u (all_sides s.plain) i)))
 
 -- no side changes as it is looked at
-pub sides_timed-none : (r : Inside) → IsSound r → r.timed ≡ false →
+pub sides_timed-none : (r : Inside) → IsSound r → r.untimed ≡ true →
     fold side_timed (state_with r r.sides.items) (all_sides (state_with r r.sides.items).plain) ≡ state_with r r.sides.items
 sides_timed-none r sound h =
     let s : State = state_with r r.sides.items in all_timed-none s (untimed_seen r sound h) (all_sides s.plain)
@@ -132,18 +132,19 @@ side_timed-opened s e = timed-opened (timed e s dir.Read) e dir.Write ∙ timed-
 
 -- A side stays sound as a direction of it is active, and as one expires, since it has a timeout.
 
-pub active_sound : (time : ℕ) (timed : Bool) (d : Dir) (x : PlainSide) → IsSoundSide time timed x → IsSoundSide time timed (active_at time d x)
-active_sound time are dir.Read x h = (omega arith, h.1, h.2)
-active_sound time are dir.Write x h = (h.0, omega arith, h.2)
+pub active_sound : (time : ℕ) (none : Bool) (d : Dir) (x : PlainSide) → IsSoundSide time none x →
+    IsSoundSide time none (active_at time d x)
+active_sound time none dir.Read x h = (omega arith, h.1, h.2)
+active_sound time none dir.Write x h = (h.0, omega arith, h.2)
 
 untimed_not : (d : Dir) (x : PlainSide) → is_timed x d ≡ true → x.timeouts ≡ no_timeouts → false ≡ true
 untimed_not d x is none = sym (no_timeout d x none) ∙ is
 
-pub expire_sound : (time : ℕ) (timed : Bool) (d : Dir) (x : PlainSide) → is_timed x d ≡ true → IsSoundSide time timed x →
-    IsSoundSide time timed (expire d x)
-expire_sound time are dir.Read x is h =
+pub expire_sound : (time : ℕ) (none : Bool) (d : Dir) (x : PlainSide) → is_timed x d ≡ true → IsSoundSide time none x →
+    IsSoundSide time none (expire d x)
+expire_sound time none dir.Read x is h =
     (h.0, h.1, λ e. absurd (let wrong : false ≡ true = untimed_not dir.Read x is (h.2 e).0 in cc))
-expire_sound time are dir.Write x is h =
+expire_sound time none dir.Write x is h =
     (h.0, h.1, λ e. absurd (let wrong : false ≡ true = untimed_not dir.Write x is (h.2 e).0 in cc))
 
 -- the sides from a link on are those of it and of the links behind
@@ -152,7 +153,8 @@ pub sides_from-more : (k n : ℕ) → k < n →
 sides_from-more k n h = let a : n - k ≡ suc (n - (k + 1)) = omega (arith, h) in ap (sides_from k) a
 
 -- where both sides of a link have not, one has where one of those behind has
-pub any-more : (p : SideId → Bool) (k n : ℕ) → k < n → p (record { link = k; side = In }) ≡ false → p (record { link = k; side = Out }) ≡ false →
+pub any-more : (p : SideId → Bool) (k n : ℕ) → k < n →
+    p (record { link = k; side = In }) ≡ false → p (record { link = k; side = Out }) ≡ false →
     list_any p (sides_from k (n - k)) ≡ list_any p (sides_from (k + 1) (n - (k + 1)))
 any-more p k n h near far =
     let rest : Bool = list_any p (sides_from (k + 1) (n - (k + 1))) in

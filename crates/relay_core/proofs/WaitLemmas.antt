@@ -1,10 +1,10 @@
 -- The earliest of two lists of moments, one after the other, is the lesser of those of each.
-use Rattle.std.proofs.Common.{◌≡◌, ℕ, ◌+◌, ◌-◌, ◌≤◌, min, List, [], ◌∷◌, ◌++◌, Option, Some, None, refl, sym, ◌∙◌, ap, arith, append-nil}
+use Rattle.std.proofs.Common.{◌≡◌, ℕ, ◌-◌, min, List, [], ◌∷◌, ◌++◌, Option, Some, None, refl, sym, ◌∙◌, ap, arith, append-nil}
 use Rattle.std.specs.List.{flat_map}
 use Rattle.token_bucket.specs.declared.limit.Dir.TheVariants as dir
 use Rattle.ev_types.specs.declared.side.SideId.{SideId}
 use Rattle.relay_model.specs.Rates.{least_with}
-use Rattle.relay_model.specs.Moments.{both_ways, earliest}
+use Rattle.relay_model.specs.Moments.{both_ways}
 use Rattle.relay_state.specs.State.{State}
 use Rattle.relay_state.specs.Time.{expiry}
 use Rattle.relay_core.specs.Waits.{earlier, wait_until, expiries}
@@ -37,6 +37,10 @@ pub earlier-none : (a : Option ℕ) → earlier a None ≡ a
 earlier-none None = refl
 earlier-none (Some n) = refl
 
+-- the wait for both directions of a side
+abbrev pub side_wait : State → SideId → Option ℕ
+side_wait s e = wait_until s.plain.time (flat_map (expiry s e) both_ways)
+
 module _ (s : State) where
   abbrev t : ℕ
   t = s.plain.time
@@ -44,7 +48,7 @@ module _ (s : State) where
   -- both directions of a side
   pub wait_both : (e : SideId) →
       earlier (wait_until s.plain.time (expiry s e dir.Read)) (wait_until s.plain.time (expiry s e dir.Write))
-      ≡ wait_until s.plain.time (flat_map (expiry s e) both_ways)
+      ≡ side_wait s e
   wait_both e =
       let r : List ℕ = expiry s e dir.Read in
       let w : List ℕ = expiry s e dir.Write in
@@ -52,9 +56,7 @@ module _ (s : State) where
 
   -- two sides more
   pub wait_more : (least : Option ℕ) (a b : SideId) (es : List SideId) →
-      earlier
-      (earlier least (earlier (wait_until s.plain.time (flat_map (expiry s a) both_ways)) (wait_until s.plain.time (flat_map (expiry s b) both_ways))))
-      (wait_until s.plain.time (expiries s es))
+      earlier (earlier least (earlier (side_wait s a) (side_wait s b))) (wait_until s.plain.time (expiries s es))
       ≡ earlier least (wait_until s.plain.time (expiries s (a ∷ b ∷ es)))
   wait_more least a b es =
       let x : List ℕ = flat_map (expiry s a) both_ways in

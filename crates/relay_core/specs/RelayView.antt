@@ -1,5 +1,5 @@
 -- How the relay keeps its state. There are no timers, and nothing is due.
-use Rattle.std.specs.Prelude.{◌≡◌, ℕ, ◌-◌, ◌*◌, ◌/◌, ◌≤◌, Bool, false, List, [], length, map, vec_len, vec_capacity}
+use Rattle.std.specs.Prelude.{◌≡◌, ℕ, ◌-◌, ◌*◌, ◌/◌, ◌≤◌, Bool, true, false, List, [], length, map, vec_len, vec_capacity}
 use Rattle.std.specs.List.{All}
 use Rattle.relay_model.specs.Settings.{Timeouts, no_timeouts}
 use Rattle.relay_model.specs.Plain.{Plain, PlainSide}
@@ -32,17 +32,17 @@ relay_of r = record {
   spare_reads = map spare_of r.sides.items;
 }
 
--- What is so of a side: its activity is not ahead of the time, and where nothing is timed it has no timeouts, of which none has passed.
+-- What is so of a side: its activity is not ahead of the time, and where nothing is timed it has no timeouts, and none has passed.
 abbrev pub IsSoundSide : ℕ → Bool → PlainSide → Type 0
-IsSoundSide time timed x =
-    (x.last_read ≤ time) × (x.last_write ≤ time) × (timed ≡ false → (x.timeouts ≡ no_timeouts) × (x.expired ≡ false))
+IsSoundSide time untimed x =
+    (x.last_read ≤ time) × (x.last_write ≤ time) × (untimed ≡ true → (x.timeouts ≡ no_timeouts) × (x.expired ≡ false))
 
 -- what is so of the sides, with the timeouts that the sides of the next link get
-pub record AreSound (near far : Timeouts) (opened time : ℕ) (timed : Bool) (xs : List SideState) : Type 0 where
+pub record AreSound (near far : Timeouts) (opened time : ℕ) (untimed : Bool) (xs : List SideState) : Type 0 where
   pub paired : length xs ≡ 2 * opened  -- there are two for each link
-  pub untimed : timed ≡ false → (near ≡ no_timeouts) × (far ≡ no_timeouts)  -- nothing is timed only where no timeouts are set
-  pub sides : All (λ x. IsSoundSide time timed (plain_side x)) xs
+  pub unset : untimed ≡ true → (near ≡ no_timeouts) × (far ≡ no_timeouts)  -- nothing is timed only where no timeouts are set
+  pub sides : All (λ x. IsSoundSide time untimed (plain_side x)) xs
 
 abbrev pub IsSound : Inside → Type 0
 IsSound r =
-    AreSound (model_timeouts r.settings.in_timeouts) (model_timeouts r.settings.out_timeouts) r.opened r.time r.timed r.sides.items
+    AreSound (model_timeouts r.settings.in_timeouts) (model_timeouts r.settings.out_timeouts) r.opened r.time r.untimed r.sides.items

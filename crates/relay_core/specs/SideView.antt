@@ -1,6 +1,6 @@
 -- What contracts see of a side as the code keeps it: the side, and the direction that begins at it. Each filter hands its bytes on as
 -- they are.
-use Rattle.std.specs.Prelude.{◌≡◌, ◌⊎◌, ◌+◌, ◌≤◌, ℕ, Bool, false, ◌-◌, ◌^◌, ◌==◌, nat_le, min, if◌then◌else◌, length, Option, None}
+use Rattle.std.specs.Prelude.{◌≡◌, ◌⊎◌, ◌+◌, ◌≤◌, ℕ, Bool, true, false, not, ◌-◌, ◌^◌, ◌==◌, nat_le, min, if◌then◌else◌, length, Option, None}
 use Rattle.ev_types.specs.declared.filter.FilterKind.TheVariants as kind
 use Rattle.relay_model.specs.Plain.{PlainSide}
 use Rattle.relay_model.specs.Rooms.{most_at_once, mark_or}
@@ -25,6 +25,20 @@ flags_of x = record {
   expired = x.expired;
   write_ended = x.write_ended;
   closed = x.closed;
+}
+
+-- those of a side whose link opens
+abbrev pub opening_flags : Bool → SideFlags
+opening_flags connected = record {
+  live = true;
+  connecting = not connected;
+  reads = true;
+  writes = true;
+  ended = false;
+  failed = false;
+  expired = false;
+  write_ended = false;
+  closed = false;
 }
 
 -- No side has a limit, a group, a bad place or a reference.
@@ -104,7 +118,8 @@ used_now mark b = min (length b.raw_input) (mark - length b.input)
 
 -- The read filter has room: for what it uses now, or the input is empty and the raw input, which the mark allows, goes there whole.
 abbrev pub HasInputRoom : ℕ → SideState → Type 0
-HasInputRoom mark s = (used_now mark (buffers_of s) ≤ s.input.spare) ⊎ ((length s.input.items ≡ 0) × (length s.raw_input.items ≤ mark))
+HasInputRoom mark s =
+    (used_now mark (buffers_of s) ≤ s.input.spare) ⊎ ((length s.input.items ≡ 0) × (length s.raw_input.items ≤ mark))
 
 -- The write filter has room for so much of n bytes as the hold mark allows, or the raw output is empty and the mark allows all of them.
 abbrev pub HasOutputRoom : ℕ → ℕ → SideState → Type 0

@@ -157,7 +157,7 @@ impl Relay {
     fn look_at_sides(&mut self)
         ensures { self.new.state ≡ fold side_timed self.old.state (all_sides self.old.state.plain) }
     {
-        if !self.timed {
+        if self.untimed {
             return;
         }
         for link in 0..self.opened {
@@ -262,7 +262,7 @@ impl Relay {
     pub fn poll_timeout(&self) -> Option<u64>
         ensures { result ≡ poll_timeout self.now.state }
     {
-        if !self.timed {
+        if self.untimed {
             return None;
         }
         if self.any_is_expired() {

@@ -31,7 +31,7 @@ fn last_of(queue: &ByteQueue, count: usize, before: Option<u8>) -> Option<u8>
 }
 
 impl SideState {
-    /// Makes room for what a round may move.
+    /// Makes room for what a round may move, and for no more than waits, however great the marks are.
     fn reserve_round(&mut self, mark: u64, hold: u64) -> Result<(), NoMemory>
         ensures side { plain_side self.new ≡ plain_side self.old }
         ensures passage { passage_of self.new ≡ passage_of self.old }

@@ -1,5 +1,5 @@
 // The relay's state.
-ghost use Rattle.std.specs.Prelude.{◌≡◌, false};
+ghost use Rattle.std.specs.Prelude.{◌≡◌, ◌↔◌, IsTrue};
 ghost use Rattle.relay_settings.specs.Usual.{no_timeouts};
 ghost use Rattle.relay_state.specs.State.{new_state};
 ghost use Rattle.relay_core.specs.SettingsView.{model_settings};
@@ -9,15 +9,15 @@ use relay_settings::{Settings, Timeouts};
 use std::alloc::Global;
 use std::marker::Model;
 
-/// The relay's own state, and whether any side may have a timeout. Calls on a side ask that its link was opened. What a call answers, and the state after it, is
-/// said by its contract.
+/// The relay's own state, and whether no side has a timeout. Calls on a side ask that its link was opened. What a call
+/// answers, and the state after it, is said by its contract.
 ///
 /// Own; it does what libevent's sample le-proxy does.
 #[derive(Drop)]
 pub struct Relay {
     pub(crate) alloc: Global,
     pub(crate) settings: Settings,
-    pub(crate) timed: bool,
+    pub(crate) untimed: bool,
     pub(crate) time: u64,
     pub(crate) turns: u64,
     pub(crate) opened: u32,
@@ -36,11 +36,11 @@ impl Model for Relay {
     ghost invariant = { IsSound };
 }
 
-/// Whether a side of the run may have a timeout.
-fn has_timeouts(settings: &Settings) -> bool
-    ensures { result ≡ false → (settings.now.in_timeouts ≡ no_timeouts) × (settings.now.out_timeouts ≡ no_timeouts) }
+/// Whether no side gets a timeout as its link opens.
+fn is_untimed(settings: &Settings) -> bool
+    ensures { IsTrue result ↔ ((settings.now.in_timeouts ≡ no_timeouts) × (settings.now.out_timeouts ≡ no_timeouts)) }
 {
-    settings.in_timeouts != Timeouts::none() || settings.out_timeouts != Timeouts::none()
+    settings.in_timeouts == Timeouts::none() && settings.out_timeouts == Timeouts::none()
 }
 
 impl Relay {
@@ -51,7 +51,7 @@ impl Relay {
         Relay {
             alloc,
             settings,
-            timed: has_timeouts(&settings),
+            untimed: is_untimed(&settings),
             time: 0,
             turns: 0,
             opened: 0,
@@ -65,5 +65,4 @@ impl Relay {
     {
         self.time
     }
-
 }

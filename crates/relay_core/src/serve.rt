@@ -21,7 +21,8 @@ impl SideState {
     ghost use Rattle.relay_state.specs.Passage.{Passage, read_part};
     ghost use Rattle.relay_core.specs.SideView.{plain_side, flow_of_side, lane_of, passage_of, read_mark_of, spare_of};
 
-    /// Makes room for a read of so many bytes. It is also refused where they could not be counted.
+    /// Makes room for a read of so many bytes, and for no more than waits then, however great the mark is. It is also refused
+    /// where they could not be counted.
     fn reserve_read(&mut self, room: usize) -> Result<(), NoMemory>
         ensures side { plain_side self.new ≡ plain_side self.old }
         ensures passage { passage_of self.new ≡ passage_of self.old }

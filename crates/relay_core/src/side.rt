@@ -32,8 +32,9 @@ pub(crate) struct Progress {
     pub(crate) held: bool,
 }
 
-/// A side and its direction: its marks and timeouts, when bytes were read from its end last, and when it took some, and the last byte that each
-/// filter of the direction used. No count passes the count of the step before it, so none passes the bytes read.
+/// A side and its direction: its marks and timeouts, when bytes were read from its end last, and when it took some, and
+/// the last byte that each filter of the direction used. No count passes the count of the step before it, so none passes
+/// the bytes read.
 #[derive(Drop)]
 pub(crate) struct SideState {
     pub(crate) flags: SideFlags,
@@ -78,17 +79,7 @@ impl SideState {
         ensures lane { lane_of result ≡ no_lane }
     {
         SideState {
-            flags: SideFlags {
-                live: true,
-                connecting: !connected,
-                reads: true,
-                writes: true,
-                ended: false,
-                failed: false,
-                expired: false,
-                write_ended: false,
-                closed: false,
-            },
+            flags: SideFlags::at_opening(connected),
             marks,
             timeouts,
             last_read: time,

@@ -24,8 +24,8 @@ fn open(relay: &mut Relay, connected: bool) -> Result<(), NoMemory> {
     Ok(())
 }
 
-/// Some bytes are read from an end, or its end where there are none, and the direction is passed.
-fn read(relay: &mut Relay, side: SideId, bytes: &[u8]) -> Result<(), NoMemory> {
+/// Some bytes are read from an end, or its end where there are none.
+fn get(relay: &mut Relay, side: SideId, bytes: &[u8]) -> Result<(), NoMemory> {
     if side.link >= relay.opened() {
         return Ok(());
     }
@@ -35,7 +35,29 @@ fn read(relay: &mut Relay, side: SideId, bytes: &[u8]) -> Result<(), NoMemory> {
     } else {
         relay.got(side, bytes);
     }
+    Ok(())
+}
+
+/// They are read, and the direction is passed.
+fn read(relay: &mut Relay, side: SideId, bytes: &[u8]) -> Result<(), NoMemory> {
+    get(relay, side, bytes)?;
     pass(relay, side)
+}
+
+/// How many bytes may be read from an end.
+fn room(relay: &Relay, side: SideId) -> usize {
+    if side.link >= relay.opened() {
+        return 0;
+    }
+    relay.read_room(side)
+}
+
+/// A turn begins. For how long may its poll wait?
+fn turn(relay: &mut Relay, reading: u64) -> Option<u64> {
+    if !relay.is_spent() {
+        relay.begin(reading);
+    }
+    relay.poll_timeout()
 }
 
 fn pass(relay: &mut Relay, side: SideId) -> Result<(), NoMemory> {
@@ -120,7 +142,14 @@ fn a_link_passes_bytes_and_ends(rt: HostRuntime) -> Result<(), Fail> {
 
 #[test]
 fn a_held_direction_goes_on_at_half_of_the_hold_mark(rt: HostRuntime) -> Result<(), Fail> {
-    let mut relay = Relay::new(rt.alloc(), Settings { hold: 4, ..Settings::usual() });
+    let settings = Settings {
+        out_marks: Marks {
+            write_high: 4,
+            ..Marks::none()
+        },
+        ..Settings::usual()
+    };
+    let mut relay = Relay::new(rt.alloc(), settings);
     open(&mut relay, true)?;
     read(&mut relay, IN, b"0123456789")?;
     for (most, offered) in [(1, 4), (1, 3), (4, 4), (4, 4)] {
@@ -145,5 +174,77 @@ fn a_side_whose_read_failed_is_freed(rt: HostRuntime) -> Result<(), Fail> {
         out_given: 0,
     };
     assert_eq!(rt; relay.link(0), Some(gone));
+    Ok(())
+}
+
+#[test]
+fn a_side_is_read_up_to_its_high_mark(rt: HostRuntime) -> Result<(), Fail> {
+    let settings = Settings {
+        in_marks: Marks {
+            read_high: 6,
+            ..Marks::none()
+        },
+        ..Settings::usual()
+    };
+    let mut relay = Relay::new(rt.alloc(), settings);
+    open(&mut relay, true)?;
+    assert_eq!(rt; (room(&relay, IN), room(&relay, OUT)), (6, 16_384));
+    for (bytes, left) in [(b"abcd", 2), (b"efgh", 0)] {
+        get(&mut relay, IN, bytes)?;
+        assert_eq!(rt; room(&relay, IN), left);
+    }
+    pass(&mut relay, IN)?;
+    assert_eq!(rt; room(&relay, IN), 6);
+    Ok(())
+}
+
+#[test]
+fn a_great_mark_takes_no_more_room_than_comes(rt: HostRuntime) -> Result<(), Fail> {
+    let great = Marks {
+        read_high: u64::MAX,
+        write_high: u64::MAX,
+        ..Marks::none()
+    };
+    let settings = Settings {
+        in_marks: great,
+        out_marks: great,
+        ..Settings::usual()
+    };
+    let mut relay = Relay::new(rt.alloc(), settings);
+    open(&mut relay, true)?;
+    for bytes in [b"ab", b"cd"] {
+        get(&mut relay, IN, bytes)?;
+    }
+    pass(&mut relay, IN)?;
+    read(&mut relay, IN, b"ef")?;
+    assert_eq!(rt; give(&mut relay, OUT, 6), 6);
+    Ok(())
+}
+
+#[test]
+fn an_idle_side_is_freed_and_its_peer_gets_what_waits(rt: HostRuntime) -> Result<(), Fail> {
+    let settings = Settings {
+        in_timeouts: Timeouts {
+            read_ms: 5,
+            ..Timeouts::none()
+        },
+        ..Settings::usual()
+    };
+    let mut relay = Relay::new(rt.alloc(), settings);
+    assert_eq!(rt; turn(&mut relay, 10), None);
+    open(&mut relay, true)?;
+    read(&mut relay, IN, b"x")?;
+    for (reading, wait) in [(10, 5), (14, 1), (15, 0)] {
+        assert_eq!(rt; turn(&mut relay, reading), Some(wait));
+    }
+    assert_eq!(rt;
+        (fault(&relay, IN), fault(&relay, OUT)),
+        (Some(Cause::Timeout), None)
+    );
+    close(&mut relay, 0);
+    assert_eq!(rt; (turn(&mut relay, 99), relay.open_links()), (None, 1));
+    assert_eq!(rt; give(&mut relay, OUT, 1), 1);
+    close(&mut relay, 0);
+    assert_eq!(rt; relay.open_links(), 0);
     Ok(())
 }

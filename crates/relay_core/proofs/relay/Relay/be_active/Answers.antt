@@ -11,7 +11,7 @@ invariant_of-self c =
     still_sound c.args.self.now c.self.inside c.self.view_is c.self.invariant c.args.side c.requires c.number.result c.number.ensures
     c.index_mut-own.result.now c.index_mut-own.ensures.value c.be_active.new.self
     (active_at c.self.inside.time c.args.dir)
-    (active_sound c.self.inside.time c.self.inside.timed c.args.dir (plain_side c.index_mut-own.result.now)) c.be_active.ensures.side
+    (active_sound c.self.inside.time c.self.inside.untimed c.args.dir (plain_side c.index_mut-own.result.now)) c.be_active.ensures.side
 
 pub returns : goal.returns
 returns c =

@@ -9,18 +9,21 @@ use Rattle.relay_core.proofs.relay.Relay.expire.Goals as goal
 pub invariant_of-self : goal.invariant_of-self
 invariant_of-self c =
     let seen =
-    side_seen c.args.self.now c.self.inside c.self.view_is c.self.invariant c.args.side c.requires.opened c.number.result c.number.ensures
+    side_seen c.args.self.now c.self.inside c.self.view_is c.self.invariant c.args.side c.requires.opened
+    c.number.result c.number.ensures
     c.index_mut-own.result.now c.index_mut-own.ensures.value in
-    still_sound c.args.self.now c.self.inside c.self.view_is c.self.invariant c.args.side c.requires.opened c.number.result c.number.ensures
+    still_sound c.args.self.now c.self.inside c.self.view_is c.self.invariant c.args.side c.requires.opened
+    c.number.result c.number.ensures
     c.index_mut-own.result.now c.index_mut-own.ensures.value c.expire.new.self
     (expire c.args.dir)
-    (expire_sound c.self.inside.time c.self.inside.timed c.args.dir (plain_side c.index_mut-own.result.now)
+    (expire_sound c.self.inside.time c.self.inside.untimed c.args.dir (plain_side c.index_mut-own.result.now)
     (sym (ap (λ x. is_timed x c.args.dir) seen) ∙ c.requires.timed))
     c.expire.ensures.side
 
 pub returns : goal.returns
 returns c =
-    changed_raising c.args.self.now c.self.inside c.self.view_is c.self.invariant c.args.side c.requires.opened c.number.result c.number.ensures
+    changed_raising c.args.self.now c.self.inside c.self.view_is c.self.invariant c.args.side c.requires.opened
+    c.number.result c.number.ensures
     c.index_mut-own.result.now c.index_mut-own.ensures.value c.expire.new.self
     (expire c.args.dir) (happened c.args.dir timeout_flag)
     c.expire.ensures.side c.expire.ensures.flow c.expire.ensures.lane

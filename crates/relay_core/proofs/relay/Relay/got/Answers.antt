@@ -6,7 +6,8 @@ use Rattle.relay_core.proofs.relay.Relay.got.Goals as goal
 
 pub invariant_of-self : goal.invariant_of-self
 invariant_of-self c =
-    still_sound c.args.self.now c.self.inside c.self.view_is c.self.invariant c.args.side c.requires.opened c.number.result c.number.ensures
+    still_sound c.args.self.now c.self.inside c.self.view_is c.self.invariant c.args.side c.requires.opened
+    c.number.result c.number.ensures
     c.index_mut-own.result.now c.index_mut-own.ensures.value c.got.new.self
     (active_at c.self.inside.time dir.Read) (λ k. (omega arith, k.1, k.2)) c.got.ensures.side
 

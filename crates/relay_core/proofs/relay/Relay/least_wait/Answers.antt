@@ -1,14 +1,11 @@
 use Rattle.std.proofs.Common.{◌≡◌, ◌∙◌, ◌+◌, ◌-◌, ap, sym, arith}
-use Rattle.std.specs.List.{flat_map}
 use Rattle.ev_types.specs.declared.side.Side.TheVariants.{In, Out}
 use Rattle.ev_types.specs.declared.side.SideId.{SideId}
 use Rattle.relay_model.specs.Plain.{sides_from}
-use Rattle.relay_model.specs.Moments.{both_ways}
-use Rattle.relay_state.specs.Time.{expiry}
 use Rattle.relay_core.specs.RelayValue.{RelayValue}
 use Rattle.relay_core.specs.Waits.{earlier, wait_until, expiries}
 use Rattle.relay_core.proofs.TimeLemmas.{sides_from-more}
-use Rattle.relay_core.proofs.WaitLemmas.{earlier-none, wait_more}
+use Rattle.relay_core.proofs.WaitLemmas.{earlier-none, side_wait, wait_more}
 use Rattle.relay_core.proofs.relay.Relay.least_wait.Goals as goal
 
 pub loop-link-preserved : goal.loop-link-preserved
@@ -20,7 +17,7 @@ loop-link-preserved c =
     let far : SideId = record { link = k; side = Out } in
     let rest = sides_from (k + 1) (n - (k + 1)) in
     let same : c.self.inside.opened ≡ n = ap (λ (z : RelayValue). z.state.plain.opened) c.self.view_is in
-    let b = c.wait_at-in-loop-link.ensures ∙ ap (λ e. wait_until s.plain.time (flat_map (expiry s e) both_ways)) c.peer.ensures in
+    let b = c.wait_at-in-loop-link.ensures ∙ ap (side_wait s) c.peer.ensures in
     let least = c.earlier-least.ensures
     ∙ ap (earlier c.loop-link.least) (c.earlier-wait.ensures ∙ (λ i. earlier (c.wait_at.ensures i) (b i))) in
     ap (λ w. earlier w (wait_until s.plain.time (expiries s rest))) least

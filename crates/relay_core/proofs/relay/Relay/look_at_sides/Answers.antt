@@ -5,10 +5,10 @@ use Rattle.relay_core.specs.RelayValue.{RelayValue}
 use Rattle.relay_core.proofs.TimeLemmas.{sides_timed-none, sides_from-more}
 use Rattle.relay_core.proofs.relay.Relay.look_at_sides.Goals as goal
 
-pub returns-then-not-self : goal.returns-then-not-self
-returns-then-not-self c =
+pub returns-then-self : goal.returns-then-self
+returns-then-self c =
     subst (λ (z : RelayValue). z.state ≡ fold side_timed z.state (all_sides z.state.plain)) c.self.view_is
-    (sym (sides_timed-none c.self.inside c.self.invariant c.if-not-self.true))
+    (sym (sides_timed-none c.self.inside c.self.invariant c.if-self.true))
 
 pub loop-link-preserved : goal.loop-link-preserved
 loop-link-preserved c =

@@ -15,5 +15,6 @@ returns c =
     passes c.args.self.now c.self.inside c.self.view_is c.self.invariant c.args.from c.requires c.number.result c.number.ensures
     c.index_mut-own.result.now c.index_mut-own.ensures.value c.pass.new.self _ _ c.pass.result
     c.read_mark-mark.result c.hold_mark-hold.result c.flags-to_live.result.live c.read_mark-mark.ensures
-    (c.hold_mark-hold.ensures ∙ ap (λ e. hold_mark c.args.self.now.state.settings c.args.self.now.state.plain e) c.peer.ensures) (ap (λ f. f.live) c.flags-to_live.ensures
-    ∙ ap (λ e. is_live c.args.self.now.state.plain e) c.peer-2.ensures) c.pass.ensures.side c.pass.ensures.passage
+    (c.hold_mark-hold.ensures ∙ ap (λ e. hold_mark c.args.self.now.state.settings c.args.self.now.state.plain e) c.peer.ensures)
+    (ap (λ f. f.live) c.flags-to_live.ensures ∙ ap (λ e. is_live c.args.self.now.state.plain e) c.peer-2.ensures)
+    c.pass.ensures.side c.pass.ensures.passage

@@ -6,7 +6,8 @@ use Rattle.relay_core.proofs.relay.Relay.took_from.Goals as goal
 
 pub invariant_of-self : goal.invariant_of-self
 invariant_of-self c =
-    still_sound c.args.self.now c.self.inside c.self.view_is c.self.invariant c.args.from c.requires.opened c.number.result c.number.ensures
+    still_sound c.args.self.now c.self.inside c.self.view_is c.self.invariant c.args.from c.requires.opened
+    c.number.result c.number.ensures
     c.index_mut-own.result.now c.index_mut-own.ensures.value c.took.new.self
     (λ x. x) (λ k. k) c.took.ensures.side
 
