@@ -171,7 +171,7 @@ frees_are_for g t before after e why moved given bytes unset legal is =
     go why is (frees_have_causes g t before after e why moved given bytes legal is)
   where
     go : (w : Cause) → t ≡ before ++ (entry.Freed e w moved given, bytes) ∷ after → HasCause g before e w → IsFreedFor before e w given
-    go cause.Done is h = h
+    go cause.Done is h = (h.0, h.1)
     go cause.Failed is h = h.2
     go cause.PeerGone is h =
         let k = there g t legal.0 legal.1 before (entry.Freed e cause.PeerGone moved given, bytes) after is in
