@@ -1,4 +1,4 @@
-// That each call answers with ample memory, and one worked life. Helpers without clauses keep what a test has to know small.
+// That each call that can want memory answers something else with ample memory. Helpers without clauses keep what a test has to know small.
 use super::*;
 use std::alloc::Global;
 use std::test::Fail;
@@ -6,6 +6,12 @@ use std::test::Fail;
 fn with_output(alloc: Global, bytes: &[u8]) -> Result<Bev, BevFault> {
     let mut bev = Bev::new(alloc)?;
     bev.write(bytes)?;
+    Ok(bev)
+}
+
+fn with_input(alloc: Global) -> Result<Bev, BevFault> {
+    let mut bev = Bev::new(alloc)?;
+    bev.add_input(b"xyz")?;
     Ok(bev)
 }
 
@@ -52,10 +58,6 @@ fn give_input(from: &mut Bev, to: &mut Bev, n: usize) -> Result<usize, BevFault>
     from.give_input(to, n)
 }
 
-fn add_input(bev: &mut Bev) -> Result<(), BevFault> {
-    bev.add_input(b"xyz")
-}
-
 fn pass_output(from: &mut Bev, to: &mut Bev) -> Result<usize, BevFault> {
     from.pass_output(to, 1)
 }
@@ -74,10 +76,6 @@ fn input(bev: &Bev) -> &[u8] {
 
 fn output(bev: &Bev) -> &[u8] {
     bev.front_output(9)
-}
-
-fn take(bev: &mut Bev, into: &mut [u8]) -> Result<usize, BevFault> {
-    bev.take(into)
 }
 
 fn free(bev: &mut Bev) -> Result<(), BevFault> {
@@ -110,5 +108,27 @@ fn a_free_drops_the_bytes_and_keeps_the_references(rt: HostRuntime) -> Result<()
     assert_eq!(rt; incref(&mut bev), Err(BevFault::NotLive));
     give_back(&mut bev)?;
     assert_eq!(rt; state(&bev).refs, 0);
+    Ok(())
+}
+
+#[test]
+fn output_goes_to_the_end_of_another_input_or_output(rt: HostRuntime) -> Result<(), Fail> {
+    let mut from = with_output(rt.alloc(), b"abc")?;
+    let mut to = with_output(rt.alloc(), b"x")?;
+    assert_eq!(rt; give_output(&mut from, &mut to, 2), Ok(2));
+    assert_eq!(rt; pass_output(&mut from, &mut to), Ok(1));
+    assert_eq!(rt; input(&to), b"ab".as_slice());
+    assert_eq!(rt; output(&to), b"xc".as_slice());
+    Ok(())
+}
+
+#[test]
+fn input_goes_to_the_end_of_another_input_or_output(rt: HostRuntime) -> Result<(), Fail> {
+    let mut from = with_input(rt.alloc())?;
+    let mut to = with_input(rt.alloc())?;
+    assert_eq!(rt; pass_input(&mut from, &mut to), Ok(2));
+    assert_eq!(rt; give_input(&mut from, &mut to, 9), Ok(1));
+    assert_eq!(rt; input(&to), b"xyzxy".as_slice());
+    assert_eq!(rt; output(&to), b"z".as_slice());
     Ok(())
 }

@@ -11,7 +11,7 @@ use Rattle.std.proofs.lemmas.Bool.Decides.{eqb_tells}
 use Rattle.std.proofs.lemmas.Grind.{flat_map-append}
 use Rattle.std.proofs.lemmas.List.{map-append}
 use Rattle.std.proofs.lemmas.List.Elements.{All-append, All-nil, All-from_get_or}
-use Rattle.std.proofs.lemmas.List.Sums.{sum_by_push}
+use Rattle.std.proofs.lemmas.List.Sums.{sum_by-cons}
 use Rattle.hex.specs.Hex.{decode_of}
 use Rattle.hex.specs.declared.error.FromHexError.{FromHexError}
 use Rattle.hex.proofs.HexLemmas.{decode_of-ok}
@@ -153,10 +153,7 @@ brings-most turn.PollFail e = omega arith
 brought-most : (xs : List TurnLine) (e : SideId) → length (brought_in e xs) ≤ all_brought xs
 brought-most [] e = omega arith
 brought-most (x ∷ xs) e =
-    let a = length-append (brings e x) (brought_in e xs) in
-    let b = brings-most x e in
-    let c = brought-most xs e in
-    omega (arith, a, b, c)
+    omega (arith, length-append (brings e x) (flat_map (brings e) xs), brings-most x e, brought-most xs e, sum_by-cons brought x xs)
 
 -- Turns
 

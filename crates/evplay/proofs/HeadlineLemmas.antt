@@ -100,6 +100,7 @@ pub run-of : (script : ScriptValue) (answer : TurnAnswer) (t : Trace) (x : Stage
     (k : StandsFor t x s) → LeftAt s.settings answer x s.plain → BringsFit script.turns →
     Plays (script_played script) 0 answer t →
     AtTurnEnds (StoodBetween (settings_of script)) t → IsRun script answer t (lines_below s s.plain.opened)
+unfolding stood-at
 run-of script answer t x s usual_links timeouts is k left fit played ends =
     let g : model.Settings = settings_of script in
     let stood : StoodAt g t x = stood-at g t x s is k in

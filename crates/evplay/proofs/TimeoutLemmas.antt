@@ -22,8 +22,7 @@ use Rattle.script_text.specs.Script.{ScriptValue, SoFar, whole}
 use Rattle.script_text.specs.Given.{once, with_setting}
 use Rattle.script_text.specs.Pieces.{lines}
 use Rattle.script_text.specs.Numbers.{number_within, bytes_of}
-use Rattle.script_text.specs.Grammar.{keyword_of, link_of, end_of, made_of, more_of, of_end, hold_of, side_marks_of, side_timeouts_of, set_by, setting_name_of, said_by, is_comment, said}
-use Rattle.script_text.specs.ValueGrammar.{side_of}
+use Rattle.script_text.specs.Grammar.{keyword_of, link_of, end_of, made_of, more_of, of_end, hold_of, side_marks_of, side_of, side_timeouts_of, set_by, setting_name_of, said_by, is_comment, said}
 use Rattle.script_text.specs.Order.{may_follow, with_line, extended}
 use Rattle.script_text.specs.Spelled.{no_line, script_of}
 use Rattle.script_text.proofs.LawLemmas.{script_of-read, decimal-number_within}

@@ -1,4 +1,4 @@
-use Rattle.std.proofs.Common.{◌≡◌, ◌≢◌, ◌⊎◌, inl, inr, ◌≤◌, ◌<◌, ◌+◌, ◌*◌, ◌++◌, ℕ, length, Some, false, refl, sym, ◌∙◌, subst, arith, Result}
+use Rattle.std.proofs.Common.{◌≡◌, ◌≢◌, ◌⊎◌, inl, inr, ◌≤◌, ◌<◌, ◌+◌, ◌*◌, ◌++◌, ℕ, length, Some, false, refl, ap, ◌∙◌, subst, arith, Result}
 use Rattle.std.proofs.Common.{Ok, Err, IfOk, IfErr}
 use Rattle.std.proofs.lemmas.List.{length-map}
 use Rattle.std.specs.Prelude.{count_by}
@@ -52,7 +52,8 @@ err-as (Err e) p f = f e p
 
 pub loop-init : goal.loop-init
 loop-init c =
-    rw (c.in_ok-drive.ensures, c.new-scribe.ensures) (record {
+    let seen : c.script.inside.settings ≡ c.args.script.settings = ap (λ (z : ScriptValue). z.settings) c.script.view_is in
+    rw (c.in_ok-drive.ensures, c.new-scribe.ensures, seen) (record {
       calm = refl;
       settings = refl;
       stands = record { fits = record { time = refl; last = refl; opened = refl }; entries = refl };
