@@ -84,8 +84,7 @@ all_moved r read f = f.read_done && nat_eq f.moved (length (middle r read f))
 
 -- The buffers hold exactly what the counts leave. While the side lives, its read filter stands at the bytes that it used of
 -- what was read; while the peer lives, its write filter stands at the bytes that it used of what was moved.
-pub record Holds (read_name write_name : FilterKind) (r w : Filter) (read : List ℕ) (ended from_live to_live : Bool) (f : Flow)
-    (b : Buffers) (reader writer : Running) : Type 0 where
+pub record Holds (read_name write_name : FilterKind) (r w : Filter) (read : List ℕ) (ended from_live to_live : Bool) (f : Flow) (b : Buffers) (reader writer : Running) : Type 0 where
   pub buffers : b ≡ left r w read from_live to_live f
   pub reads : from_live ≡ true → StandsAt read_name r read f.used ended f.read_done reader
   pub writes : to_live ≡ true → StandsAt write_name w (take f.moved (middle r read f)) f.turned (all_moved r read f) f.write_done writer

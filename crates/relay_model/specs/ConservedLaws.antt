@@ -35,8 +35,7 @@ write_adds r w ended read f b =
 -- While both sides live: what was given, then the raw output, then what the write filter still adds for the rest, is what the
 -- filters make of all that was read.
 abbrev pub AllIsThere : Type 0
-AllIsThere = (read_name write_name : FilterKind) (r w : Filter) (t : Trace) (from : SideId) (read taken : List ℕ) (ended : Bool)
-    (f : Flow) (b : Buffers)
+AllIsThere = (read_name write_name : FilterKind) (r w : Filter) (t : Trace) (from : SideId) (read taken : List ℕ) (ended : Bool) (f : Flow) (b : Buffers)
     (reader writer : Running) → IsFilter r → IsFilter w → Accounted r w t from read taken ended f →
     Holds read_name write_name r w read ended true true f b reader writer →
     taken ++ (b.raw_output ++ write_adds r w ended read f b) ≡ passed r w ended read
@@ -52,6 +51,5 @@ RestAfterFree = (r w : Filter) (t : Trace) (from : SideId) (read taken : List �
 
 -- Two inputs at which one running filter could stand look alike to it: so what it will make of the bytes to come is known.
 abbrev pub RunningIsKnown : Type 0
-RunningIsKnown = (name : FilterKind) (f : Filter) (xs zs : List ℕ) (m n : ℕ) (over done over' done' : Bool) (x : Running) → m ≤
-    length xs → n ≤ length zs →
+RunningIsKnown = (name : FilterKind) (f : Filter) (xs zs : List ℕ) (m n : ℕ) (over done over' done' : Bool) (x : Running) → m ≤ length xs → n ≤ length zs →
     StandsAt name f xs m over done x → StandsAt name f zs n over' done' x → LookAlike f (take m xs) (take n zs)

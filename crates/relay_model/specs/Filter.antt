@@ -18,8 +18,7 @@ holds f xs = not (bytes_eq (f.at_end xs) (f.before xs)) || (is_some (f.bad_at_en
 -- The bad place that a filter meets after it used the first so many bytes of xs. With no room for output it meets none.
 -- It meets the next byte's place where that byte is bad; where no byte is left and none will come, the place of a bad end.
 abbrev pub met : Filter → List ℕ → ℕ → Bool → Bool → Option ℕ
-met f xs used over room = if room then (if nat_lt used (length xs) then f.bad (take (used + 1) xs)
-    else (if over then f.bad_at_end xs else None)) else None
+met f xs used over room = if room then (if nat_lt used (length xs) then f.bad (take (used + 1) xs) else (if over then f.bad_at_end xs else None)) else None
 
 abbrev pub never : List ℕ → Option ℕ
 never xs = None
@@ -94,5 +93,4 @@ filter_of kind.None = record { before = λ xs. xs; at_end = λ xs. xs; bad = nev
 filter_of kind.ToCrlf = record { before = crlf_after 0; at_end = crlf_after 0; bad = never; bad_at_end = never; since = 0 }
 filter_of kind.ToLf = record { before = to_lf; at_end = λ xs. to_lf xs ++ last_cr xs; bad = never; bad_at_end = never; since = 0 }
 filter_of kind.HexOut = record { before = hex_out; at_end = hex_out; bad = never; bad_at_end = never; since = 0 }
-filter_of kind.HexIn = record { before = hex_in; at_end = hex_in; bad = not_hex_from 0; bad_at_end = λ xs. or_else
-    (not_hex_from 0 xs) (odd_end xs); since = 0 }
+filter_of kind.HexIn = record { before = hex_in; at_end = hex_in; bad = not_hex_from 0; bad_at_end = λ xs. or_else (not_hex_from 0 xs) (odd_end xs); since = 0 }

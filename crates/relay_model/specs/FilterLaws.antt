@@ -66,5 +66,4 @@ pub record IsMetPlace (f : Filter) (xs : List ℕ) (used place : ℕ) : Type 0 w
   pub next : used < length xs → f.bad (take used xs) ≡ None → place ≡ used
 
 abbrev pub MetIsBad : Type 0
-MetIsBad = (f : Filter) (xs : List ℕ) (used : ℕ) (over room : Bool) (place : ℕ) → IsFilter f → met f xs used over room ≡ Some place
-    → IsMetPlace f xs used place
+MetIsBad = (f : Filter) (xs : List ℕ) (used : ℕ) (over room : Bool) (place : ℕ) → IsFilter f → met f xs used over room ≡ Some place → IsMetPlace f xs used place

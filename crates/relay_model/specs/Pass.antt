@@ -47,8 +47,7 @@ module _ (r w : Filter) (read : List ℕ) where
 
   -- Must the write filter stop at a place? The raw output is at the hold mark, or the next byte is bad.
   abbrev pub write_stops : ℕ → Flow → ℕ → Bool
-  write_stops hold f n = nat_le hold (length (raw_output r w read (record f { turned = n }))) || is_some
-      (w.bad (take (n + 1) (middle r read f)))
+  write_stops hold f n = nat_le hold (length (raw_output r w read (record f { turned = n }))) || is_some (w.bad (take (n + 1) (middle r read f)))
 
   -- The write filter runs until it must stop, or the output is used up, unless the direction is held.
   abbrev pub with_turned : ℕ → Flow → Flow
@@ -65,6 +64,5 @@ module _ (r w : Filter) (read : List ℕ) where
   with_write_done hold f =
       if f.held then f
       else record f {
-        write_done = f.write_done || (all_moved r read f && f.turned == f.moved && is_over w (middle r read f)
-            (nat_lt (length (raw_output r w read f)) hold));
+        write_done = f.write_done || (all_moved r read f && f.turned == f.moved && is_over w (middle r read f) (nat_lt (length (raw_output r w read f)) hold));
       }

@@ -129,7 +129,6 @@ is_served x = is_behind_accepting x && not (is_turn x)
 -- before it where all was taken as it began and as it ends; or as it began, where it is cut off before accepting has ended.
 abbrev pub TurnTakesAll : Type 0
 TurnTakesAll = (turns : List ScriptTurn) (links : ℕ) (t : Trace) (ms : ℕ) (accepting behind : Trace) →
-    AlwaysTookAll turns links [] t → TookAll turns links t → list_any is_behind_accepting accepting ≡ false → list_all is_served
-        behind ≡ true →
+    AlwaysTookAll turns links [] t → TookAll turns links t → list_any is_behind_accepting accepting ≡ false → list_all is_served behind ≡ true →
     (behind ≡ []) ⊎ TookAll turns links (t ++ (entry.Turn ms, []) ∷ (accepting ++ behind)) →
     AlwaysTookAll turns links [] (t ++ (entry.Turn ms, []) ∷ (accepting ++ behind))

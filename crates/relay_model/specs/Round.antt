@@ -52,8 +52,7 @@ module _ (g : Settings) (p : Past) (e : SideId) where
 
   abbrev pub do_part : Part → Plain → Plain
   do_part Part.Hold s = change_flow e (with_held (filter_in s) (filter_out s) (p.read e) (hold_of s)) s
-  do_part Part.Read s = change_flow e (with_read_done (filter_in s) (p.read e) (read_mark s e) (side_at s e).ended)
-      (read_run (side_at s e).ended s)
+  do_part Part.Read s = change_flow e (with_read_done (filter_in s) (p.read e) (read_mark s e) (side_at s e).ended) (read_run (side_at s e).ended s)
   do_part Part.Move s = change_flow e (with_moved (filter_in s) (p.read e)) s
   do_part Part.Write s = change_flow e (with_write_done (filter_in s) (filter_out s) (p.read e) (hold_of s)) (write_run true s)
   do_part Part.Drain s = write_run false s

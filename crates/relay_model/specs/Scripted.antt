@@ -103,8 +103,7 @@ module _ (turns : List ScriptTurn) (t : Trace) where
   -- An undecided end that was never answered to be connected is marked for writing once it is decided; every other end where
   -- it takes a byte, or where writes fail.
   abbrev pub can_write : SideId → Bool
-  can_write e = if is_undecided e && not (is_connected e t) then is_some (decision e) else nat_le 1 (at_most (may_take e) 1)
-      || writes_fail e
+  can_write e = if is_undecided e && not (is_connected e t) then is_some (decision e) else nat_le 1 (at_most (may_take e) 1) || writes_fail e
 
   -- what a poll marks of a want
   abbrev pub marked : Want → Want

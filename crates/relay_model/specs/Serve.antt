@@ -74,6 +74,5 @@ abbrev pub after_write : Settings → Past → SideId → WriteAnswer → Plain 
 after_write g p e (write.Took n) s =
     raise_write g p e (change_side e (active_at s.time dir.Write) (change_flow (peer e) (λ f. record f { given = f.given + n }) s))
 after_write g p e write.NotYet s = s
-after_write g p e write.Failed s = raise g e (happened dir.Write error_flag) (change_side e
-    (λ x. record x { failed = true; writes = false }) s)
+after_write g p e write.Failed s = raise g e (happened dir.Write error_flag) (change_side e (λ x. record x { failed = true; writes = false }) s)
 after_write g p e write.NoMemory s = s

@@ -51,8 +51,7 @@ pub record IsUntold (t : Trace) (e : SideId) : Type 0 where
 -- the trace accounts for the direction that begins at a side
 abbrev pub DirectionAccounted : Settings → Trace → Plain → SideId → Type 0
 DirectionAccounted g t s e =
-    direction.Accounted (read_filter g s e) (write_filter g s (peer e)) t e (bytes_read e t) (bytes_given (peer e) t)
-        (has_ended e t) (flow_at s e)
+    direction.Accounted (read_filter g s e) (write_filter g s (peer e)) t e (bytes_read e t) (bytes_given (peer e) t) (has_ended e t) (flow_at s e)
 
 -- its buffers and running filters hold exactly what the counts leave
 abbrev pub DirectionHolds : Settings → Trace → Plain → SideId → Buffers → Runnings → Type 0

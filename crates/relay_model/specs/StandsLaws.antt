@@ -28,8 +28,7 @@ BuffersHoldTheRest = (g : Settings) (t : Trace) (v : Kept) → KeptConserved g t
     is_live v.plain e ≡ true → is_live v.plain (peer e) ≡ true →
     bytes_given (peer e) t
     ++ ((buffers_at v.buffers e).raw_output
-    ++ write_adds (read_filter g v.plain e) (write_filter g v.plain (peer e)) (has_ended e t) (bytes_read e t) (flow_at v.plain e)
-        (buffers_at v.buffers e))
+    ++ write_adds (read_filter g v.plain e) (write_filter g v.plain (peer e)) (has_ended e t) (bytes_read e t) (flow_at v.plain e) (buffers_at v.buffers e))
     ≡ passed (read_filter g v.plain e) (write_filter g v.plain (peer e)) (has_ended e t) (bytes_read e t)
 
 -- Once a side was freed, what was given to its peer and what waits there are what was moved before: so many bytes as the free
@@ -41,5 +40,4 @@ FreeAccountsForTheRest = (g : Settings) (t : Trace) (s : Plain) → AllAccounted
     ++ (raw_output (read_filter g s e) (write_filter g s (peer e)) (bytes_read e t) (flow_at s e)
     ++ more (write_filter g s (peer e)) (take (flow_at s e).turned (middle (read_filter g s e) (bytes_read e t) (flow_at s e)))
     (output (read_filter g s e) (bytes_read e t) (flow_at s e)))
-    ≡ (write_filter g s (peer e)).before (take moved (if has_ended e t then (read_filter g s e).at_end (bytes_read e t)
-        else (read_filter g s e).before (bytes_read e t)))
+    ≡ (write_filter g s (peer e)).before (take moved (if has_ended e t then (read_filter g s e).at_end (bytes_read e t) else (read_filter g s e).before (bytes_read e t)))

@@ -63,13 +63,11 @@ pub record IsTied (g : Settings) (port_began port_now : PortTold) (ends_began en
 -- After a turn that wasn't cut off, accepting stands open only where that turn opened as many links as a turn may open, or
 -- no more may be opened in all.
 abbrev pub ClosedAfterTurn : Settings → PortTold → Trace → Type 0
-ClosedAfterTurn g now t = MatchOption now.accepting ⊤ (λ stands_open. stands_open ≡ true → (opened_in_turn t ≡ most_opened) ⊎
-    (g.links ≤ opened t))
+ClosedAfterTurn g now t = MatchOption now.accepting ⊤ (λ stands_open. stands_open ≡ true → (opened_in_turn t ≡ most_opened) ⊎ (g.links ≤ opened t))
 
 -- What an end tells over two traces in a row, it tells over both as one.
 abbrev pub EndTiesJoin : Type 0
-EndTiesJoin = (began mid now : EndTold) (e : SideId) (t more : Trace) → EndTied began mid e t → EndTied mid now e more → EndTied
-    began now e (t ++ more)
+EndTiesJoin = (began mid now : EndTold) (e : SideId) (t more : Trace) → EndTied began mid e t → EndTied mid now e more → EndTied began now e (t ++ more)
 
 -- Before anything happened a port is tied to the trace of no entries, whatever it tells.
 abbrev pub NothingIsTied : Type 0

@@ -85,15 +85,13 @@ StateIsTold = (g : Settings) (t : Trace) (x : Stage) (s : Plain) → Reaches g t
 
 -- Time doesn't fall, and no turn is later than the latest time.
 abbrev pub TimeRises : Type 0
-TimeRises = (g : Settings) (t before after : Trace) (s : Plain) (x : Stage) (ms : ℕ) (bytes : List ℕ) → Reaches g t
-    (record { stage = x; plain = s }) →
+TimeRises = (g : Settings) (t before after : Trace) (s : Plain) (x : Stage) (ms : ℕ) (bytes : List ℕ) → Reaches g t (record { stage = x; plain = s }) →
     t ≡ before ++ (entry.Turn ms, bytes) ∷ after → (last_time 0 before ≤ ms) × (ms ≤ latest)
 
 -- Links are opened in the order of their numbers.
 abbrev pub LinksInOrder : Type 0
 LinksInOrder = (g : Settings) (t before after : Trace) (s : Plain) (x : Stage) (link : ℕ) (connected : Bool) (bytes : List ℕ) →
-    Reaches g t (record { stage = x; plain = s }) → t ≡ before ++ (entry.Opened link connected, bytes) ∷ after → link ≡ count_by
-        is_opened before
+    Reaches g t (record { stage = x; plain = s }) → t ≡ before ++ (entry.Opened link connected, bytes) ∷ after → link ≡ count_by is_opened before
 
 -- Each free of a side told how many bytes were moved from it, and how many its end was given; neither number changes later.
 pub record FreesTell (t : Trace) (s : Plain) (e : SideId) : Type 0 where
@@ -101,5 +99,4 @@ pub record FreesTell (t : Trace) (s : Plain) (e : SideId) : Type 0 where
   pub given : All (λ told. told ≡ (flow_at s (peer e)).given) (given_at_free e t)
 
 abbrev pub FreesTellTotals : Type 0
-FreesTellTotals = (g : Settings) (t : Trace) (x : Stage) (s : Plain) (e : SideId) → Reaches g t (record { stage = x; plain = s }) →
-    FreesTell t s e
+FreesTellTotals = (g : Settings) (t : Trace) (x : Stage) (s : Plain) (e : SideId) → Reaches g t (record { stage = x; plain = s }) → FreesTell t s e

@@ -116,8 +116,7 @@ Quietly g t _ s new = ⊥
 pub data Reaches (g : Settings) : Trace → State → Type 0 where
   begins : Reaches g [] start
   goes : {t : Trace} {s new : State} → Reaches g t s → Quietly g t s.stage s.plain new → Reaches g t new
-  puts : {t : Trace} {s new : State} → (e : Entry) (bytes : List ℕ) → Reaches g t s → Puts g t s.stage s.plain e bytes new →
-      Reaches g (t ++ (e, bytes) ∷ []) new
+  puts : {t : Trace} {s new : State} → (e : Entry) (bytes : List ℕ) → Reaches g t s → Puts g t s.stage s.plain e bytes new → Reaches g (t ++ (e, bytes) ∷ []) new
 
 -- A trace is legal where it can lead to some state.
 abbrev pub IsLegal : Settings → Trace → Type 0
