@@ -58,7 +58,8 @@ OccursAt-begins_with needle w k h =
     take-begins_with needle (drop k w) (omega (arith, length-drop k w)) (OccursAt-part w needle k h)
 
 -- what a search of a slice finds is the first place
-pub FindsNeedle-first_place : (needle w : List ℕ) (r : Option ℕ) → 0 < length needle → FindsNeedle w needle 0 r → r ≡ first_place (begins_with needle) 0 w
+pub FindsNeedle-first_place : (needle w : List ℕ) (r : Option ℕ) → 0 < length needle → FindsNeedle w needle 0 r → r ≡ first_place
+    (begins_with needle) 0 w
 FindsNeedle-first_place needle w None some nowhere =
     elim (first_place (begins_with needle) 0 w) as (λ v. first_place (begins_with needle) 0 w ≡ v → None ≡ v) [
       | None ↦ λ is. refl
@@ -76,7 +77,8 @@ FindsNeedle-first_place needle w (Some k) some first =
           let found = first_place-found (begins_with needle) 0 w p is in
           let place : p ≡ found.0 = omega (arith, found.1) in
           let within = found.2.within in
-          same_first found.0 p place (λ lt. first.0.before found.0 (omega arith) lt (begins_with-OccursAt needle w found.0 (omega arith) found.2.passes))
+          same_first found.0 p place (λ lt. first.0.before found.0 (omega arith) lt (begins_with-OccursAt needle w found.0
+              (omega arith) found.2.passes))
           (λ lt. let no = found.2.before k lt in let yes = here in cc)
     ] refl where
       same_first : (j p : ℕ) → p ≡ j → (j < k → ⊥) → (k < j → ⊥) → Some k ≡ Some p
@@ -86,7 +88,8 @@ ltb_tells : (a b : ℕ) → ((ltb a b ≡ true) × (a < b)) ⊎ ((ltb a b ≡ fa
 ltb_tells a b = elim (leb_tells (suc a) b) [ inl h ↦ inl (h.0, omega (arith, h.1)) | inr h ↦ inr (h.0, omega (arith, h.1)) ]
 
 -- an empty needle stands where a byte does
-pub place_of-empty : (needle bytes : List ℕ) (from : ℕ) → length needle ≡ 0 → place_of needle bytes from ≡ then_some (ltb from (length bytes)) from
+pub place_of-empty : (needle bytes : List ℕ) (from : ℕ) → length needle ≡ 0 → place_of needle bytes from ≡ then_some
+    (ltb from (length bytes)) from
 place_of-empty (n ∷ ns) bytes from none = absurd (omega arith)
 place_of-empty [] bytes from none = elim (ltb_tells from (length bytes)) [
   | inl below ↦ let e = drop_more bytes from 0 below.1 in rw (below.0, e) refl

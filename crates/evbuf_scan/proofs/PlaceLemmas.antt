@@ -69,7 +69,8 @@ pub record Reads (test : List ℕ → Bool) (m : ℕ) : Type 0 where
   pub needs : (w : List ℕ) → test w ≡ true → m ≤ length w + 1
 
 -- where something is found enough bytes stand for the test
-first_place-needs : (test : List ℕ → Bool) (m : ℕ) → Reads test m → (n : ℕ) (xs : List ℕ) (p : ℕ) → first_place test n xs ≡ Some p → m ≤ length xs + 1
+first_place-needs : (test : List ℕ → Bool) (m : ℕ) → Reads test m → (n : ℕ) (xs : List ℕ) (p : ℕ) → first_place test n xs ≡ Some p
+    → m ≤ length xs + 1
 first_place-needs test m reads n xs p is =
     let found = first_place-found test n xs p is in
     let enough : m ≤ length (drop found.0 xs) + 1 = reads.needs (drop found.0 xs) found.2.passes in
@@ -131,7 +132,8 @@ place_from-first test bytes from =
     ] refl
 
 -- a place that passes is the first one there
-pub first_place-here : (test : List ℕ → Bool) (xs : List ℕ) (i : ℕ) → i < length xs → test (drop i xs) ≡ true → first_place test i (drop i xs) ≡ Some i
+pub first_place-here : (test : List ℕ → Bool) (xs : List ℕ) (i : ℕ) → i < length xs → test (drop i xs) ≡ true → first_place test i
+    (drop i xs) ≡ Some i
 first_place-here test xs i lt passes =
     let e = drop_more xs i 0 lt in
     let passes' : test (get_or xs i 0 ∷ drop (i + 1) xs) ≡ true = rw e at passes in
@@ -146,14 +148,17 @@ first_place-next test xs i lt fails =
     rw (e, fails') refl
 
 -- what a window at a place finds is the first place from there on
-pub first_place-at : (test : List ℕ → Bool) (m : ℕ) → Reads test m → (at n : ℕ) (xs : List ℕ) (p : ℕ) → first_place test 0 (take n xs) ≡ Some p →
+pub first_place-at : (test : List ℕ → Bool) (m : ℕ) → Reads test m → (at n : ℕ) (xs : List ℕ) (p : ℕ) → first_place test 0
+    (take n xs) ≡ Some p →
     first_place test at xs ≡ Some (at + p)
 first_place-at test m reads at n xs p is =
-    let here : first_place test (at + 0) (take n xs) ≡ Some (at + p) = first_place-shift test at 0 (take n xs) ∙ ap (option_map (λ k. at + k)) is in
+    let here : first_place test (at + 0) (take n xs) ≡ Some (at + p) = first_place-shift test at 0 (take n xs) ∙ ap
+        (option_map (λ k. at + k)) is in
     let here' : first_place test at (take n xs) ≡ Some (at + p) = rw add-zero at here in
     ap (first_place test at) (sym (take-append-drop n xs)) ∙ first_place-window test m reads at (take n xs) (drop n xs) (at + p) here'
 
-window_none : (test : List ℕ → Bool) (at n : ℕ) (xs : List ℕ) → first_place test 0 (take n xs) ≡ None → first_place test at (take n xs) ≡ None
+window_none : (test : List ℕ → Bool) (at n : ℕ) (xs : List ℕ) → first_place test 0 (take n xs) ≡ None → first_place test
+    at (take n xs) ≡ None
 window_none test at n xs is =
     let here : first_place test (at + 0) (take n xs) ≡ None = first_place-shift test at 0 (take n xs) ∙ ap (option_map (λ k. at + k)) is in
     rw add-zero at here
@@ -166,7 +171,8 @@ first_place-short test at n xs short is =
     ap (first_place test at) (sym whole) ∙ window_none test at n xs is
 
 -- a full window that has nothing
-pub first_place-full : (test : List ℕ → Bool) (m : ℕ) → Reads test m → 0 < m → (at n skip : ℕ) (xs : List ℕ) → length (take n xs) ≡ n → skip + m ≤ n + 1 →
+pub first_place-full : (test : List ℕ → Bool) (m : ℕ) → Reads test m → 0 < m → (at n skip : ℕ) (xs : List ℕ) → length (take n xs) ≡
+    n → skip + m ≤ n + 1 →
     first_place test 0 (take n xs) ≡ None → first_place test at xs ≡ first_place test (at + skip) (drop skip xs)
 first_place-full test m reads some at n skip xs full fits is =
     let whole = take-append-drop n xs in

@@ -35,12 +35,14 @@ periodic = run (new_base 1) (persists ∷ adds 0 100 ∷ turn 100 ∷ [])
 pub known_periodic : (sees periodic ≡ Some (Some (0, 1), Some 0))
     × (sees (run (new_base 1) (persists ∷ adds 0 100 ∷ turn 100 ∷ next_active ∷ turn 150 ∷ [])) ≡ Some (None, Some 50))
     × (sees (run (new_base 1) (persists ∷ adds 0 100 ∷ turn 100 ∷ next_active ∷ turn 230 ∷ next_active ∷ [])) ≡ Some (None, Some 70))
-    × (sees (run (new_base 1) (persists ∷ adds 0 100 ∷ turn 100 ∷ next_active ∷ turn 230 ∷ next_active ∷ turn 430 ∷ next_active ∷ [])) ≡ Some (None, Some 100))
+    × (sees (run (new_base 1) (persists ∷ adds 0 100 ∷ turn 100 ∷ next_active ∷ turn 230 ∷ next_active ∷ turn 430 ∷ next_active ∷
+        [])) ≡ Some (None, Some 100))
 known_periodic = (refl, refl, refl, refl)
 
 -- a signal event is called once for each count, until it is deleted
 abbrev signalling : List (BaseValue → Step)
-signalling = (λ b. new_event b true (Some 5)) ∷ (λ b. set_priority b 0 0) ∷ (λ b. add_event b 0 None) ∷ (λ b. signal b 5 2) ∷ turn 0 ∷ next_active ∷ []
+signalling = (λ b. new_event b true (Some 5)) ∷ (λ b. set_priority b 0 0) ∷ (λ b. add_event b 0 None) ∷ (λ b. signal b 5 2) ∷ turn
+    0 ∷ next_active ∷ []
 
 pub known_signals : (sees (run (new_base 2) signalling) ≡ Some (Some (0, 8), Some 0))
     × (sees (elim (run (new_base 2) signalling) [ Ok b ↦ run b (next_active ∷ []) | Err f ↦ Err f ]) ≡ Some (None, None))
@@ -49,19 +51,28 @@ known_signals = (refl, refl, refl)
 
 -- Equal deadlines fire in the order of adding, and less urgent events in a later turn.
 pub known_crowd : (sees (run (new_base 2) ((λ b. new_event b false None) ∷ (λ b. set_priority b 0 2) ∷ [])) ≡ None)
-    × (sees (run (new_base 3) (once ∷ once ∷ once ∷ (λ b. set_priority b 2 0) ∷ adds 2 5 ∷ adds 1 5 ∷ adds 0 5 ∷ turn 7 ∷ [])) ≡ Some (Some (2, 1), Some 0))
-    × (sees (run (new_base 3) (once ∷ once ∷ once ∷ (λ b. set_priority b 2 0) ∷ adds 2 5 ∷ adds 1 5 ∷ adds 0 5 ∷ turn 7 ∷ next_active ∷ [])) ≡ Some (None, Some 0))
-    × (sees (run (new_base 3) (once ∷ once ∷ once ∷ (λ b. set_priority b 2 0) ∷ adds 2 5 ∷ adds 1 5 ∷ adds 0 5 ∷ turn 7 ∷ next_active ∷ turn 8 ∷ [])) ≡ Some (Some (1, 1), Some 0))
-    × (sees (run (new_base 3) (once ∷ once ∷ once ∷ (λ b. set_priority b 2 0) ∷ adds 2 5 ∷ adds 1 5 ∷ adds 0 5 ∷ turn 7 ∷ next_active ∷ turn 8 ∷ next_active ∷ [])) ≡ Some (Some (0, 1), Some 0))
+    × (sees (run (new_base 3) (once ∷ once ∷ once ∷ (λ b. set_priority b 2 0) ∷ adds 2 5 ∷ adds 1 5 ∷ adds 0 5 ∷ turn 7 ∷ [])) ≡
+        Some (Some (2, 1), Some 0))
+    × (sees (run (new_base 3) (once ∷ once ∷ once ∷ (λ b. set_priority b 2 0) ∷ adds 2 5 ∷ adds 1 5 ∷ adds 0 5 ∷ turn 7 ∷
+        next_active ∷ [])) ≡ Some (None, Some 0))
+    × (sees (run (new_base 3) (once ∷ once ∷ once ∷ (λ b. set_priority b 2 0) ∷ adds 2 5 ∷ adds 1 5 ∷ adds 0 5 ∷ turn 7 ∷
+        next_active ∷ turn 8 ∷ [])) ≡ Some (Some (1, 1), Some 0))
+    × (sees (run (new_base 3) (once ∷ once ∷ once ∷ (λ b. set_priority b 2 0) ∷ adds 2 5 ∷ adds 1 5 ∷ adds 0 5 ∷ turn 7 ∷
+        next_active ∷ turn 8 ∷ next_active ∷ [])) ≡ Some (Some (0, 1), Some 0))
 known_crowd = (refl, refl, refl, refl, refl)
 
 -- an event that was deleted and made active anew waits for a later turn
-pub known_anew : sees (run (new_base 1) (once ∷ once ∷ (λ b. activate b 0 2) ∷ (λ b. activate b 1 2) ∷ turn 0 ∷ next_active ∷ dels 1 ∷ (λ b. activate b 1 2) ∷ [])) ≡ Some (None, Some 0)
+pub known_anew : sees (run (new_base 1) (once ∷ once ∷ (λ b. activate b 0 2) ∷ (λ b. activate b 1 2) ∷ turn 0 ∷ next_active ∷ dels
+    1 ∷ (λ b. activate b 1 2) ∷ [])) ≡ Some (None, Some 0)
 known_anew = refl
 
 -- a timeout, a signal and a call join their flags, and only the signal adds a call
-pub known_joined : (sees (run (new_base 1) ((λ b. new_event b false (Some 3)) ∷ adds 0 1 ∷ turn 1 ∷ (λ b. signal b 3 1) ∷ (λ b. activate b 0 2) ∷ [])) ≡ Some (Some (0, 11), Some 0))
-    × (sees (run (new_base 1) ((λ b. new_event b false (Some 3)) ∷ adds 0 1 ∷ turn 1 ∷ (λ b. signal b 3 1) ∷ (λ b. activate b 0 2) ∷ next_active ∷ [])) ≡ Some (Some (0, 11), Some 0))
-    × (sees (run (new_base 1) ((λ b. new_event b false (Some 3)) ∷ adds 0 1 ∷ turn 1 ∷ (λ b. signal b 3 1) ∷ (λ b. activate b 0 2) ∷ next_active ∷ next_active ∷ [])) ≡ Some (None, None))
-    × (sees (run (new_base 1) ((λ b. new_event b false (Some 3)) ∷ adds 0 1 ∷ turn 1 ∷ (λ b. signal b 3 1) ∷ adds 0 4 ∷ [])) ≡ Some (None, Some 4))
+pub known_joined : (sees (run (new_base 1) ((λ b. new_event b false (Some 3)) ∷ adds 0 1 ∷ turn 1 ∷ (λ b. signal b 3 1) ∷
+    (λ b. activate b 0 2) ∷ [])) ≡ Some (Some (0, 11), Some 0))
+    × (sees (run (new_base 1) ((λ b. new_event b false (Some 3)) ∷ adds 0 1 ∷ turn 1 ∷ (λ b. signal b 3 1) ∷ (λ b. activate b 0 2)
+        ∷ next_active ∷ [])) ≡ Some (Some (0, 11), Some 0))
+    × (sees (run (new_base 1) ((λ b. new_event b false (Some 3)) ∷ adds 0 1 ∷ turn 1 ∷ (λ b. signal b 3 1) ∷ (λ b. activate b 0 2)
+        ∷ next_active ∷ next_active ∷ [])) ≡ Some (None, None))
+    × (sees (run (new_base 1) ((λ b. new_event b false (Some 3)) ∷ adds 0 1 ∷ turn 1 ∷ (λ b. signal b 3 1) ∷ adds 0 4 ∷ [])) ≡ Some
+        (None, Some 4))
 known_joined = (refl, refl, refl, refl)

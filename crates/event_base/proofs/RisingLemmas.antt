@@ -38,7 +38,8 @@ pub but_with-same : {V : Type 0} (k j : ℕ) (v : V) (f : ℕ → Option V) → 
 but_with-same k j v f h = grind (arith, common_steps)
 
 -- a row is one of equal values too
-pub Rises-same : {V : Type 0} (before : V → V → Type 0) (ks : List ℕ) (f g : ℕ → Option V) → ((j : ℕ) → g j ≡ f j) → Rises before ks f → Rises before ks g
+pub Rises-same : {V : Type 0} (before : V → V → Type 0) (ks : List ℕ) (f g : ℕ → Option V) → ((j : ℕ) → g j ≡ f j) → Rises before
+    ks f → Rises before ks g
 Rises-same before [] f g e r = λ k. e k ∙ r k
 Rises-same before (k ∷ ks) f g e r = (
   record { value = r.0.value; has = e k ∙ r.0.has; leads = λ j w n h. r.0.leads j w n (sym (e j) ∙ h) },
@@ -46,7 +47,8 @@ Rises-same before (k ∷ ks) f g e r = (
 )
 
 -- a number without a value is not in the row
-pub Rises-absent : {V : Type 0} (before : V → V → Type 0) (ks : List ℕ) (f : ℕ → Option V) (k : ℕ) → Rises before ks f → f k ≡ None → list_any (λ o. o == k) ks ≡ false
+pub Rises-absent : {V : Type 0} (before : V → V → Type 0) (ks : List ℕ) (f : ℕ → Option V) (k : ℕ) → Rises before ks f → f k ≡ None
+    → list_any (λ o. o == k) ks ≡ false
 Rises-absent before [] f k r h = refl
 Rises-absent before (j ∷ ks) f k r h =
     let rest = Rises-absent before ks (but j f) k r.1 (but-none j k f h) in
@@ -54,7 +56,8 @@ Rises-absent before (j ∷ ks) f k r h =
     grind (arith, common_steps)
 
 -- a row without one number is the row of the values without its own
-pub Rises-without : {V : Type 0} (before : V → V → Type 0) (ks : List ℕ) (f : ℕ → Option V) (k : ℕ) → Rises before ks f → Rises before (filter (λ o. not (o == k)) ks) (but k f)
+pub Rises-without : {V : Type 0} (before : V → V → Type 0) (ks : List ℕ) (f : ℕ → Option V) (k : ℕ) → Rises before ks f → Rises
+    before (filter (λ o. not (o == k)) ks) (but k f)
 Rises-without before [] f k r = λ j. but-none k j f (r j)
 Rises-without before (j ∷ ks) f k r =
     let rest = Rises-without before ks (but j f) k r.1 in
@@ -70,7 +73,8 @@ Rises-without before (j ∷ ks) f k r =
     (cases_eq j k)
 
 -- a number that had no value is the last of the row, where its value comes after all others
-pub Rises-push : {V : Type 0} (before : V → V → Type 0) (ks : List ℕ) (f : ℕ → Option V) (k : ℕ) (v : V) → Rises before ks f → f k ≡ None → ((j : ℕ) (w : V) → f j ≡ Some w → before w v) → Rises before (ks ++ k ∷ []) (with k v f)
+pub Rises-push : {V : Type 0} (before : V → V → Type 0) (ks : List ℕ) (f : ℕ → Option V) (k : ℕ) (v : V) → Rises before ks f → f k
+    ≡ None → ((j : ℕ) (w : V) → f j ≡ Some w → before w v) → Rises before (ks ++ k ∷ []) (with k v f)
 Rises-push before [] f k v r h last = (
   record { value = v; has = with-same k v f; leads = λ j w n e. (let none = with-other k j v f n in cc (none, e, r j)) },
   λ j. but_with-same k j v f h ∙ r j,

@@ -36,11 +36,13 @@ deaf_needed : (number : ℕ) (e : Event) → hears number e ≡ false → one_if
 deaf_needed number e h = ap (λ b. one_if (b && not (is_active e))) h
 
 -- the count with one event more
-count_more : (number : ℕ) (e : Event) (es : List Event) → count_by (is_woken_by number) (e ∷ es) ≡ one_if (is_woken_by number e) + count_by (is_woken_by number) es
+count_more : (number : ℕ) (e : Event) (es : List Event) → count_by (is_woken_by number) (e ∷ es) ≡ one_if (is_woken_by number e) +
+    count_by (is_woken_by number) es
 count_more number e es = sum_by-cons (λ x. one_if (is_woken_by number x)) e es
 
 -- The events with the flag are those that the definition of a signal gives.
-pub signalled-risen : (number count : ℕ) (rest done : List Event) (next : ℕ) → risen 8 count count (done ++ rest) next (hearing number (length done) rest) ≡ done ++ signalled number count next rest
+pub signalled-risen : (number count : ℕ) (rest done : List Event) (next : ℕ) → risen 8 count count (done ++ rest) next
+    (hearing number (length done) rest) ≡ done ++ signalled number count next rest
 signalled-risen number count [] done next = refl
 signalled-risen number count (e ∷ es) done next =
     let k = length done in
@@ -57,7 +59,8 @@ signalled-risen number count (e ∷ es) done next =
     ∙ sym (shifted done new (signalled number count (next + needed e) es))
     ∙ ap (λ m. done ++ new ∷ signalled number count m es) more
     ∙ ap (λ b. done ++ cond b new e ∷ later) (sym heard)))
-    (λ deaf. (let same : next ≡ next + one_if (is_woken_by number e) = sym (ap (λ n. next + n) (deaf_needed number e deaf) ∙ add-zero next) in
+    (λ deaf. (let same : next ≡ next + one_if (is_woken_by number e) = sym (ap (λ n. next + n) (deaf_needed number e deaf) ∙
+        add-zero next) in
     ap (λ b. risen 8 count count (done ++ e ∷ es) next (cond b (k ∷ hs) hs)) deaf
     ∙ ap (λ xs. risen 8 count count xs next hs) (shifted done e es)
     ∙ ap (λ n. risen 8 count count ((done ++ e ∷ []) ++ es) next (hearing number n es)) (sym (length_push done e))
@@ -75,7 +78,8 @@ hearing-absent number k from (e ∷ es) h =
     let rest : list_any (λ j. j == k) hs ≡ false = hearing-absent number k (from + 1) es (omega arith) in
     let apart : from ≡ k → ⊥ = λ q. omega arith in
     ⊎_elim
-    (λ heard. ap (λ b. list_any (λ j. j == k) (cond b (from ∷ hs) hs)) heard ∙ ap (λ b. b || list_any (λ j. j == k) hs) (ne_eqb from k apart) ∙ rest)
+    (λ heard. ap (λ b. list_any (λ j. j == k) (cond b (from ∷ hs) hs)) heard ∙ ap (λ b. b || list_any (λ j. j == k) hs)
+        (ne_eqb from k apart) ∙ rest)
     (λ deaf. ap (λ b. list_any (λ j. j == k) (cond b (from ∷ hs) hs)) deaf ∙ rest)
     (cases_Bool (hears number e))
 
@@ -90,19 +94,23 @@ hearing-apart number from (e ∷ es) =
     (cases_Bool (hears number e))
 
 -- as many become active as the signal wakes
-pub hearing-wakers : (number : ℕ) (rest done : List Event) → length (wakers (done ++ rest) (hearing number (length done) rest)) ≡ count_by (is_woken_by number) rest
+pub hearing-wakers : (number : ℕ) (rest done : List Event) → length (wakers (done ++ rest) (hearing number (length done) rest)) ≡
+    count_by (is_woken_by number) rest
 hearing-wakers number [] done = refl
 hearing-wakers number (e ∷ es) done =
     let k = length done in
     let hs = hearing number (k + 1) es in
     let ws = wakers (done ++ e ∷ es) hs in
-    let rest = subst (λ n. length (wakers ((done ++ e ∷ []) ++ es) (hearing number n es)) ≡ count_by (is_woken_by number) es) (length_push done e) (hearing-wakers number es (done ++ e ∷ [])) in
-    let here : length ws ≡ count_by (is_woken_by number) es = subst (λ xs. length (wakers xs hs) ≡ count_by (is_woken_by number) es) (sym (shifted done e es)) rest in
+    let rest = subst (λ n. length (wakers ((done ++ e ∷ []) ++ es) (hearing number n es)) ≡ count_by (is_woken_by number) es)
+        (length_push done e) (hearing-wakers number es (done ++ e ∷ [])) in
+    let here : length ws ≡ count_by (is_woken_by number) es = subst (λ xs. length (wakers xs hs) ≡ count_by (is_woken_by number)
+        es) (sym (shifted done e es)) rest in
     let count = count_more number e es in
     let behind : Bool → ℕ = λ b. length (cond b ws (record { event = k; priority = (event_of (done ++ e ∷ es) k).priority } ∷ ws)) in
     ⊎_elim
     (λ heard. (let one : one_if (is_woken_by number e) ≡ needed e = woken_needed number e heard in
-    let start : length (wakers (done ++ e ∷ es) (hearing number k (e ∷ es))) ≡ behind (is_active e) = ap (λ b. length (wakers (done ++ e ∷ es) (cond b (k ∷ hs) hs))) heard ∙ ap (λ (x : Event). behind (is_active x)) (seam done e es) in
+    let start : length (wakers (done ++ e ∷ es) (hearing number k (e ∷ es))) ≡ behind (is_active e) = ap
+        (λ b. length (wakers (done ++ e ∷ es) (cond b (k ∷ hs) hs))) heard ∙ ap (λ (x : Event). behind (is_active x)) (seam done e es) in
     start ∙ ⊎_elim
     (λ active. (let none : needed e ≡ 0 = ap (λ b. cond b 0 1) active in
     ap behind active ∙ here ∙ omega (arith, count, one, none)))
@@ -115,15 +123,18 @@ hearing-wakers number (e ∷ es) done =
     (cases_Bool (hears number e))
 
 -- the counts of a hearing event fit
-counts_fit : (number count : ℕ) (e : Event) → hears number e ≡ true → overflows number count e ≡ false → ForSome e.active (λ (a : Activation). a.count + count < 2 ^ 64)
+counts_fit : (number count : ℕ) (e : Event) → hears number e ≡ true → overflows number count e ≡ false → ForSome e.active
+    (λ (a : Activation). a.count + count < 2 ^ 64)
 counts_fit number count e heard h = split e.active (rw heard at h)
   where
-    split : (o : Option Activation) → (true && option_map_or (λ (a : Activation). not (nat_lt (a.count + count) (2 ^ 64))) o false) ≡ false → ForSome o (λ (a : Activation). a.count + count < 2 ^ 64)
+    split : (o : Option Activation) → (true && option_map_or (λ (a : Activation). not (nat_lt (a.count + count) (2 ^ 64))) o false)
+        ≡ false → ForSome o (λ (a : Activation). a.count + count < 2 ^ 64)
     split None q = search rules
     split (Some a) q = (let fits = ltb-true (a.count + count) (2 ^ 64) (not-false (nat_lt (a.count + count) (2 ^ 64)) q) in search rules)
 
 -- the counts and the order numbers fit, one after another
-pub hearing-can : (number count : ℕ) (rest done : List Event) (next : ℕ) → next + count_by (is_woken_by number) rest < 2 ^ 64 → list_any (overflows number count) rest ≡ false → CanRise 8 count count (done ++ rest) next (hearing number (length done) rest)
+pub hearing-can : (number count : ℕ) (rest done : List Event) (next : ℕ) → next + count_by (is_woken_by number) rest < 2 ^ 64 →
+    list_any (overflows number count) rest ≡ false → CanRise 8 count count (done ++ rest) next (hearing number (length done) rest)
 hearing-can number count [] done next low fits = tt
 hearing-can number count (e ∷ es) done next low fits =
     let k = length done in
@@ -138,9 +149,14 @@ hearing-can number count (e ∷ es) done next low fits =
     subst (λ xs. CanRise 8 count count xs (next + needed e) hs) (sym (set-append_seam done e es new ∙ shifted done new es))
     (subst (λ n. CanRise 8 count count ((done ++ new ∷ []) ++ es) (next + needed e) (hearing number n es)) (length_push done new) rest) in
     let size : k < length (done ++ e ∷ es) = (let l = length-append done (e ∷ es) in omega arith) in
-    let now : (λ (x : Event). (k < length (done ++ e ∷ es)) × (0 < count → ForSome x.active (λ (a : Activation). a.count + count < 2 ^ 64)) × (next + needed x < 2 ^ 64) × CanRise 8 count count (set (done ++ e ∷ es) k (activated 8 next count count x)) (next + needed x) hs) e = (size, λ some. counts_fit number count e heard parts.0, omega (arith, one, more, low), there) in
+    let now : (λ (x : Event). (k < length (done ++ e ∷ es)) × (0 < count → ForSome x.active
+        (λ (a : Activation). a.count + count < 2 ^ 64)) × (next + needed x < 2 ^ 64) × CanRise 8 count count
+        (set (done ++ e ∷ es) k (activated 8 next count count x)) (next + needed x) hs) e =
+        (size, λ some. counts_fit number count e heard parts.0, omega (arith, one, more, low), there) in
     let all : CanRise 8 count count (done ++ e ∷ es) next (k ∷ hs) =
-    subst (λ (x : Event). (k < length (done ++ e ∷ es)) × (0 < count → ForSome x.active (λ (a : Activation). a.count + count < 2 ^ 64)) × (next + needed x < 2 ^ 64) × CanRise 8 count count (set (done ++ e ∷ es) k (activated 8 next count count x)) (next + needed x) hs) (sym (seam done e es)) now in
+    subst (λ (x : Event). (k < length (done ++ e ∷ es)) ×
+        (0 < count → ForSome x.active (λ (a : Activation). a.count + count < 2 ^ 64)) × (next + needed x < 2 ^ 64) × CanRise 8
+        count count (set (done ++ e ∷ es) k (activated 8 next count count x)) (next + needed x) hs) (sym (seam done e es)) now in
     subst (λ b. CanRise 8 count count (done ++ e ∷ es) next (cond b (k ∷ hs) hs)) (sym heard) all))
     (λ deaf. (let none : one_if (is_woken_by number e) ≡ 0 = deaf_needed number e deaf in
     let rest = hearing-can number count es (done ++ e ∷ []) next (omega (arith, none, more, low)) parts.1 in

@@ -51,7 +51,9 @@ slice_get-pushed [] y = refl
 slice_get-pushed (x ∷ xs) y = slice_get-pushed xs y
 
 -- what is kept of the events stays tied as both change for one event
-pub IsTied-set : {V : Type 0} (value : Event → Option V) (values : List (Option V)) (events : List Event) (k : ℕ) (e new : Event) (v : Option V) → IsTied value values events → length events ≤ length values → slice_get events k ≡ Some e → value new ≡ v → IsTied value (set values k v) (set events k new)
+pub IsTied-set : {V : Type 0} (value : Event → Option V) (values : List (Option V)) (events : List Event) (k : ℕ) (e new : Event)
+    (v : Option V) → IsTied value values events → length events ≤ length values → slice_get events k ≡ Some e → value new ≡ v →
+    IsTied value (set values k v) (set events k new)
 IsTied-set value values events k e new v tied room is same j = ⊎_elim
     (λ q. ap (at (set values k v)) q ∙ get_or-set_same values k v None (let lt = slice_get-within events k e is in omega arith) ∙ sym same
     ∙ sym (ap (option_and_then value) (ap (slice_get (set events k new)) q ∙ slice_get-set_same events k e new is)))
@@ -59,25 +61,33 @@ IsTied-set value values events k e new v tied room is same j = ⊎_elim
     (cases_eq j k)
 
 -- what is kept of an event does not change with the rest of it
-pub IsTied-keep : {V : Type 0} (value : Event → Option V) (values : List (Option V)) (events : List Event) (k : ℕ) (e new : Event) → IsTied value values events → slice_get events k ≡ Some e → value new ≡ value e → IsTied value values (set events k new)
+pub IsTied-keep : {V : Type 0} (value : Event → Option V) (values : List (Option V)) (events : List Event) (k : ℕ) (e new : Event)
+    → IsTied value values events → slice_get events k ≡ Some e → value new ≡ value e → IsTied value values (set events k new)
 IsTied-keep value values events k e new tied is same j = ⊎_elim
-    (λ q. tied j ∙ ap (value_at value events) q ∙ ap (option_and_then value) is ∙ sym same ∙ sym (ap (option_and_then value) (slice_get-set_same events k e new is)) ∙ sym (ap (value_at value (set events k new)) q))
+    (λ q. tied j ∙ ap (value_at value events) q ∙ ap (option_and_then value) is ∙ sym same ∙ sym
+        (ap (option_and_then value) (slice_get-set_same events k e new is)) ∙ sym (ap (value_at value (set events k new)) q))
     (λ n. tied j ∙ ap (option_and_then value) (sym (slice_get-set_other events k j new n)))
     (cases_eq j k)
 
 -- nothing is kept of a new event
-pub IsTied-push : {V : Type 0} (value : Event → Option V) (values : List (Option V)) (events : List Event) (new : Event) → IsTied value values events → value new ≡ None → IsTied value values (events ++ new ∷ [])
+pub IsTied-push : {V : Type 0} (value : Event → Option V) (values : List (Option V)) (events : List Event) (new : Event) → IsTied
+    value values events → value new ≡ None → IsTied value values (events ++ new ∷ [])
 IsTied-push value values events new tied none j = ⊎_elim
-    (λ q. tied j ∙ ap (value_at value events) q ∙ ap (option_and_then value) (slice_get-past events (length events) (omega arith)) ∙ sym none ∙ sym (ap (option_and_then value) (slice_get-pushed events new)) ∙ sym (ap (value_at value (events ++ new ∷ [])) q))
+    (λ q. tied j ∙ ap (value_at value events) q ∙ ap (option_and_then value) (slice_get-past events (length events) (omega arith))
+        ∙ sym none ∙ sym (ap (option_and_then value) (slice_get-pushed events new)) ∙ sym (ap (value_at value (events ++ new ∷ [])) q))
     (λ n. tied j ∙ ap (option_and_then value) (sym (slice_get-push events new j n)))
     (cases_eq j (length events))
 
 -- what is kept stays tied where the values of all numbers stay
-pub IsTied-same : {V : Type 0} (value : Event → Option V) (values more : List (Option V)) (events : List Event) → ((k : ℕ) → at more k ≡ at values k) → IsTied value values events → IsTied value more events
+pub IsTied-same : {V : Type 0} (value : Event → Option V) (values more : List (Option V)) (events : List Event) →
+    ((k : ℕ) → at more k ≡ at values k) → IsTied value values events → IsTied value more events
 IsTied-same value values more events e tied k = e k ∙ tied k
 
 -- the events and what is kept beside them as one event changes
-pub AreKept-set : (events : List Event) (deadlines : DeadlinesValue) (ready : ReadyValue) (k : ℕ) (e new : Event) (m : Option Moment) (p : Option Place) → AreKept events deadlines ready → slice_get events k ≡ Some e → moment_of new ≡ m → place_of new ≡ p → new.priority < ready.priorities → AreKept (set events k new) (record deadlines { moments = set deadlines.moments k m }) (record ready { places = set ready.places k p })
+pub AreKept-set : (events : List Event) (deadlines : DeadlinesValue) (ready : ReadyValue) (k : ℕ) (e new : Event)
+    (m : Option Moment) (p : Option Place) → AreKept events deadlines ready → slice_get events k ≡ Some e → moment_of new ≡ m →
+    place_of new ≡ p → new.priority < ready.priorities → AreKept (set events k new)
+    (record deadlines { moments = set deadlines.moments k m }) (record ready { places = set ready.places k p })
 AreKept-set events deadlines ready k e new m p kept is moment place low = record {
   placed = IsTied-set place_of ready.places events k e new p kept.placed kept.places is place;
   timed = IsTied-set moment_of deadlines.moments events k e new m kept.timed kept.moments is moment;
@@ -89,7 +99,10 @@ AreKept-set events deadlines ready k e new m p kept is moment place low = record
 }
 
 -- the same, where the event stays as active as it was
-pub AreKept-moment : (events : List Event) (deadlines : DeadlinesValue) (ready : ReadyValue) (k : ℕ) (e new : Event) (m : Option Moment) → AreKept events deadlines ready → slice_get events k ≡ Some e → moment_of new ≡ m → place_of new ≡ place_of e → new.priority < ready.priorities → AreKept (set events k new) (record deadlines { moments = set deadlines.moments k m }) ready
+pub AreKept-moment : (events : List Event) (deadlines : DeadlinesValue) (ready : ReadyValue) (k : ℕ) (e new : Event)
+    (m : Option Moment) → AreKept events deadlines ready → slice_get events k ≡ Some e → moment_of new ≡ m → place_of new ≡
+    place_of e → new.priority < ready.priorities → AreKept (set events k new)
+    (record deadlines { moments = set deadlines.moments k m }) ready
 AreKept-moment events deadlines ready k e new m kept is moment place low = record {
   placed = IsTied-keep place_of ready.places events k e new kept.placed is place;
   timed = IsTied-set moment_of deadlines.moments events k e new m kept.timed kept.moments is moment;
@@ -101,7 +114,9 @@ AreKept-moment events deadlines ready k e new m kept is moment place low = recor
 }
 
 -- more room changes nothing
-pub AreKept-grow : (events : List Event) (deadlines more : DeadlinesValue) (ready room : ReadyValue) → AreKept events deadlines ready → ((k : ℕ) → at more.moments k ≡ at deadlines.moments k) → ((k : ℕ) → at room.places k ≡ at ready.places k) → length events ≤ length more.moments → length events ≤ length room.places → room.priorities ≡ ready.priorities → AreKept events more room
+pub AreKept-grow : (events : List Event) (deadlines more : DeadlinesValue) (ready room : ReadyValue) → AreKept events deadlines
+    ready → ((k : ℕ) → at more.moments k ≡ at deadlines.moments k) → ((k : ℕ) → at room.places k ≡ at ready.places k) → length
+    events ≤ length more.moments → length events ≤ length room.places → room.priorities ≡ ready.priorities → AreKept events more room
 AreKept-grow events deadlines more ready room kept moments places longer wider same = record {
   placed = IsTied-same place_of ready.places room.places events places kept.placed;
   timed = IsTied-same moment_of deadlines.moments more.moments events moments kept.timed;
@@ -113,7 +128,9 @@ AreKept-grow events deadlines more ready room kept moments places longer wider s
 }
 
 -- a new event
-pub AreKept-push : (events : List Event) (deadlines : DeadlinesValue) (ready : ReadyValue) (new : Event) → AreKept events deadlines ready → length events + 1 ≤ 2 ^ 32 → length events + 1 ≤ length deadlines.moments → length events + 1 ≤ length ready.places → moment_of new ≡ None → place_of new ≡ None → new.priority < ready.priorities → AreKept (events ++ new ∷ []) deadlines ready
+pub AreKept-push : (events : List Event) (deadlines : DeadlinesValue) (ready : ReadyValue) (new : Event) → AreKept events deadlines
+    ready → length events + 1 ≤ 2 ^ 32 → length events + 1 ≤ length deadlines.moments → length events + 1 ≤ length ready.places →
+    moment_of new ≡ None → place_of new ≡ None → new.priority < ready.priorities → AreKept (events ++ new ∷ []) deadlines ready
 AreKept-push events deadlines ready new kept few longer wider moment place low = record {
   placed = IsTied-push place_of ready.places events new kept.placed place;
   timed = IsTied-push moment_of deadlines.moments events new kept.timed moment;
@@ -125,13 +142,16 @@ AreKept-push events deadlines ready new kept few longer wider moment place low =
 }
 
 -- an event that is there has one of the priorities
-pub priority-within : (events : List Event) (deadlines : DeadlinesValue) (ready : ReadyValue) (k : ℕ) (e : Event) → AreKept events deadlines ready → slice_get events k ≡ Some e → e.priority < ready.priorities
+pub priority-within : (events : List Event) (deadlines : DeadlinesValue) (ready : ReadyValue) (k : ℕ) (e : Event) → AreKept events
+    deadlines ready → slice_get events k ≡ Some e → e.priority < ready.priorities
 priority-within events deadlines ready k e kept is =
     let low = All-get_or (λ (e : Event). e.priority < ready.priorities) events k e (slice_get-within events k e is) kept.within in
     subst (λ (x : Event). x.priority < ready.priorities) (slice_get-get_or events k e e is) low
 
 -- the events as one changes in what is not kept beside them
-pub AreKept-keep : (events : List Event) (deadlines : DeadlinesValue) (ready : ReadyValue) (k : ℕ) (e new : Event) → AreKept events deadlines ready → slice_get events k ≡ Some e → moment_of new ≡ moment_of e → place_of new ≡ place_of e → new.priority < ready.priorities → AreKept (set events k new) deadlines ready
+pub AreKept-keep : (events : List Event) (deadlines : DeadlinesValue) (ready : ReadyValue) (k : ℕ) (e new : Event) → AreKept events
+    deadlines ready → slice_get events k ≡ Some e → moment_of new ≡ moment_of e → place_of new ≡ place_of e → new.priority <
+    ready.priorities → AreKept (set events k new) deadlines ready
 AreKept-keep events deadlines ready k e new kept is moment place low = record {
   placed = IsTied-keep place_of ready.places events k e new kept.placed is place;
   timed = IsTied-keep moment_of deadlines.moments events k e new kept.timed is moment;
@@ -143,7 +163,9 @@ AreKept-keep events deadlines ready k e new kept is moment place low = record {
 }
 
 -- the events as one becomes active or inactive
-pub AreKept-place : (events : List Event) (deadlines : DeadlinesValue) (ready : ReadyValue) (k : ℕ) (e new : Event) (p : Option Place) → AreKept events deadlines ready → slice_get events k ≡ Some e → moment_of new ≡ moment_of e → place_of new ≡ p → new.priority < ready.priorities → AreKept (set events k new) deadlines (record ready { places = set ready.places k p })
+pub AreKept-place : (events : List Event) (deadlines : DeadlinesValue) (ready : ReadyValue) (k : ℕ) (e new : Event)
+    (p : Option Place) → AreKept events deadlines ready → slice_get events k ≡ Some e → moment_of new ≡ moment_of e → place_of new
+    ≡ p → new.priority < ready.priorities → AreKept (set events k new) deadlines (record ready { places = set ready.places k p })
 AreKept-place events deadlines ready k e new p kept is moment place low = record {
   placed = IsTied-set place_of ready.places events k e new p kept.placed kept.places is place;
   timed = IsTied-keep moment_of deadlines.moments events k e new kept.timed is moment;
@@ -155,7 +177,8 @@ AreKept-place events deadlines ready k e new p kept is moment place low = record
 }
 
 -- what holds beside the events does not depend on the last order number of adding
-pub AreKept-last : (events : List Event) (moments : List (Option Moment)) (before last : ℕ) (ready : ReadyValue) → AreKept events (record { moments = moments; last = before }) ready → AreKept events (record { moments = moments; last = last }) ready
+pub AreKept-last : (events : List Event) (moments : List (Option Moment)) (before last : ℕ) (ready : ReadyValue) → AreKept events
+    (record { moments = moments; last = before }) ready → AreKept events (record { moments = moments; last = last }) ready
 AreKept-last events moments before last ready kept = record {
   placed = kept.placed;
   timed = kept.timed;
@@ -167,7 +190,8 @@ AreKept-last events moments before last ready kept = record {
 }
 
 -- what holds beside the events goes by the moments alone
-pub AreKept-as : (events : List Event) (deadlines others : DeadlinesValue) (ready : ReadyValue) → others.moments ≡ deadlines.moments → AreKept events deadlines ready → AreKept events others ready
+pub AreKept-as : (events : List Event) (deadlines others : DeadlinesValue) (ready : ReadyValue) → others.moments ≡
+    deadlines.moments → AreKept events deadlines ready → AreKept events others ready
 AreKept-as events deadlines others ready same kept = record {
   placed = kept.placed;
   timed = subst (λ ms. IsTied moment_of ms events) (sym same) kept.timed;

@@ -183,7 +183,8 @@ extended-bytes s new (line.Set setting) is all h = set_case (nat_lt 0 (length s.
     set_case false (Some g) k = subst AllBytes (some-is _ new k) all
 extended-bytes s new (line.At ms) is all h = at_case (nat_lt (length s.turns) 20000) h
   where
-    at_case : (b : Bool) → (if b then Some (record { given = s.given; turns = s.turns ++ (ms, []) ∷ [] }) else None) ≡ Some new → AllBytes new
+    at_case : (b : Bool) → (if b then Some (record { given = s.given; turns = s.turns ++ (ms, []) ∷ [] }) else None) ≡ Some new →
+        AllBytes new
     at_case true k = subst AllBytes (some-is _ new k) (λ e. subst (λ z. AreBytes (brought_in e z)) (sym (lines_of-turn s.turns ms)) (all e))
     at_case false k = none-some new k
 extended-bytes s new line.Skipped is all h = subst AllBytes (some-is s new h) all

@@ -51,7 +51,8 @@ timeouts-short read write = go (number_within (2 ^ 40) read) (number_within (2 ^
     (number-most (2 ^ 40) write (omega arith))
   where
     go : (a b : Option ℕ) → IfSome a (λ n. n ≤ 2 ^ 40) → IfSome b (λ n. n ≤ 2 ^ 40) →
-        IfSome (option_and_then (λ r. option_and_then (λ w. Some (let t : Timeouts = record { read_ms = r; write_ms = w } in t)) b) a) IsShort
+        IfSome (option_and_then (λ r. option_and_then (λ w. Some (let t : Timeouts = record { read_ms = r; write_ms = w } in t)) b)
+            a) IsShort
     go None b h k = tt
     go (Some r) None h k = tt
     go (Some r) (Some w) h k = (omega (arith, h), omega (arith, k))
@@ -82,7 +83,8 @@ within-short : {A : Type 0} (f : A → Line) → ((x : A) → SetsShort (f x)) �
 within-short f each None = tt
 within-short f each (Some x) = each x
 
-then-short : {A : Type 0} (f : A → Option Line) → ((x : A) → IfSome (f x) SetsShort) → (o : Option A) → IfSome (option_and_then f o) SetsShort
+then-short : {A : Type 0} (f : A → Option Line) → ((x : A) → IfSome (f x) SetsShort) → (o : Option A) → IfSome
+    (option_and_then f o) SetsShort
 then-short f each None = tt
 then-short f each (Some x) = each x
 

@@ -24,7 +24,8 @@ same_moment_same_place xs i k d pairs wi wk e =
     ]
 
 -- two timers of one slot have one moment
-pub same_slot_same_moment : (slots : Slab Moment) (x y : Timer) → IsInSlot slots x → IsInSlot slots y → x.handle.slot ≡ y.handle.slot → moment_of x ≡ moment_of y
+pub same_slot_same_moment : (slots : Slab Moment) (x y : Timer) → IsInSlot slots x → IsInSlot slots y → x.handle.slot ≡
+    y.handle.slot → moment_of x ≡ moment_of y
 same_slot_same_moment slots x y hx hy e =
     let same : Some (moment_of x) ≡ Some (moment_of y) = sym hx ∙ ap (get slots) e ∙ hy in cc
 
@@ -37,7 +38,8 @@ pub stamp_of_handle : (handle : TimerKey) (x : Timer) → is_timer_of handle x �
 stamp_of_handle handle x h = eqb-true x.handle.stamp handle.stamp (and_parts _ _ h).1
 
 -- a handle has one place
-pub one_place : (handle : TimerKey) (slots : Slab Moment) (xs : List Timer) (i k : ℕ) (d : Timer) → AllPairs IsEarlier xs → All (IsInSlot slots) xs
+pub one_place : (handle : TimerKey) (slots : Slab Moment) (xs : List Timer) (i k : ℕ) (d : Timer) → AllPairs IsEarlier xs → All
+    (IsInSlot slots) xs
     → i < length xs → k < length xs → is_timer_of handle (get_or xs i d) ≡ true → k ≢ i → is_timer_of handle (get_or xs k d) ≡ false
 one_place handle slots xs i k d pairs all wi wk hi differ =
     false_from_ne_true (is_timer_of handle (get_or xs k d)) (λ hk.
@@ -52,32 +54,38 @@ pub place_of_moment : (m : Moment) (xs : List Timer) (at k : ℕ) (d : Timer) �
 place_of_moment m xs at k d pairs wa wk parts e =
     elim (cases_order at k) [
       | inl same ↦ same
-      | inr (inl l) ↦ absurd (let yes : is_before (moment_of (get_or xs at d)) m ≡ true = subst (λ n. is_before (moment_of (get_or xs at d)) n ≡ true) e (pairs at k d l wk) in let no = parts.1 at d (omega arith) (omega arith) in cc)
+      | inr (inl l) ↦ absurd (let yes : is_before (moment_of (get_or xs at d)) m ≡ true = subst
+          (λ n. is_before (moment_of (get_or xs at d)) n ≡ true) e (pairs at k d l wk) in let no = parts.1 at d (omega arith)
+          (omega arith) in cc)
       | inr (inr l) ↦ absurd (before_differs _ _ (parts.0 k d (omega arith) l) e)
     ]
 
 -- where no element passes the test, all are kept
 pub kept_all : {X : Type 0} (p : X → Bool) (xs : List X) → All (λ x. p x ≡ false) xs → filter (λ x. not (p x)) xs ≡ xs
 kept_all p [] none = refl
-kept_all p (x ∷ xs) none = rw (All-head (λ y. p y ≡ false) x xs none) (ap (λ ys. x ∷ ys) (kept_all p xs (All-tail (λ y. p y ≡ false) x xs none)))
+kept_all p (x ∷ xs) none = rw (All-head (λ y. p y ≡ false) x xs none)
+    (ap (λ ys. x ∷ ys) (kept_all p xs (All-tail (λ y. p y ≡ false) x xs none)))
 
 -- without the one element that passes the test
 pub remove-one : {X : Type 0} (p : X → Bool) (xs : List X) (i : ℕ) (d : X) → i < length xs → p (get_or xs i d) ≡ true
     → ((k : ℕ) → k < length xs → k ≢ i → p (get_or xs k d) ≡ false) → remove xs i ≡ filter (λ x. not (p x)) xs
 remove-one p [] i d within here others = absurd (omega arith)
-remove-one p (x ∷ xs) zero d within here others = rw here (sym (kept_all p xs (All-from_get_or (λ y. p y ≡ false) xs d (λ k h. others (suc k) (omega arith) (omega arith)))))
+remove-one p (x ∷ xs) zero d within here others = rw here
+    (sym (kept_all p xs (All-from_get_or (λ y. p y ≡ false) xs d (λ k h. others (suc k) (omega arith) (omega arith)))))
 remove-one p (x ∷ xs) (suc i) d within here others =
     let first : p x ≡ false = others 0 (omega arith) (omega arith) in
     rw first (ap (λ ys. x ∷ ys) (remove-one p xs i d (omega arith) here (λ k h n. others (suc k) (omega arith) (λ e. n (omega arith)))))
 
 -- the list without the timer of a handle
-pub without-remove : (handle : TimerKey) (slots : Slab Moment) (xs : List Timer) (i : ℕ) (d : Timer) → AllPairs IsEarlier xs → All (IsInSlot slots) xs
+pub without-remove : (handle : TimerKey) (slots : Slab Moment) (xs : List Timer) (i : ℕ) (d : Timer) → AllPairs IsEarlier xs → All
+    (IsInSlot slots) xs
     → i < length xs → is_timer_of handle (get_or xs i d) ≡ true → remove xs i ≡ without handle xs
 without-remove handle slots xs i d pairs all within here =
     remove-one (is_timer_of handle) xs i d within here (λ k h differ. one_place handle slots xs i k d pairs all within h here differ)
 
 -- one timer less
-pub length-without : (handle : TimerKey) (slots : Slab Moment) (xs : List Timer) (i : ℕ) (d : Timer) → AllPairs IsEarlier xs → All (IsInSlot slots) xs
+pub length-without : (handle : TimerKey) (slots : Slab Moment) (xs : List Timer) (i : ℕ) (d : Timer) → AllPairs IsEarlier xs → All
+    (IsInSlot slots) xs
     → i < length xs → is_timer_of handle (get_or xs i d) ≡ true → length (without handle xs) + 1 ≡ length xs
 length-without handle slots xs i d pairs all within here =
     rw (← without-remove handle slots xs i d pairs all within here) (length-remove xs i within)
@@ -97,20 +105,24 @@ find-none p [] none = refl
 find-none p (x ∷ xs) none = rw (All-head (λ y. p y ≡ false) x xs none) (find-none p xs (All-tail (λ y. p y ≡ false) x xs none))
 
 -- where the timer at the place that the moment of a slot has is of another handle, no timer is of this one
-pub not_here : (handle : TimerKey) (m : Moment) (slots : Slab Moment) (xs : List Timer) (at : ℕ) → AllPairs IsEarlier xs → All (IsInSlot slots) xs
+pub not_here : (handle : TimerKey) (m : Moment) (slots : Slab Moment) (xs : List Timer) (at : ℕ) → AllPairs IsEarlier xs → All
+    (IsInSlot slots) xs
     → get slots handle.slot ≡ Some m → at ≤ length xs
     → IsPartitionPoint (λ x. is_before (moment_of x) m ≡ true) (λ x. is_before (moment_of x) m ≡ false) xs at
     → ((d : Timer) → at < length xs → is_timer_of handle (get_or xs at d) ≡ false) → All (λ x. is_timer_of handle x ≡ false) xs
 not_here handle m slots xs at pairs all held within parts here = λ k d h.
     false_from_ne_true (is_timer_of handle (get_or xs k d)) (λ hk.
-    let same : Some (moment_of (get_or xs k d)) ≡ Some m = sym (all k d h) ∙ ap (get slots) (slot_of_handle handle (get_or xs k d) hk) ∙ held in
+    let same : Some (moment_of (get_or xs k d)) ≡ Some m = sym (all k d h) ∙ ap (get slots)
+        (slot_of_handle handle (get_or xs k d) hk) ∙ held in
     let moment : moment_of (get_or xs k d) ≡ m = cc in
     let place : at ≡ k = place_of_moment m xs at k d pairs within h parts moment in
-    let other : is_timer_of handle (get_or xs k d) ≡ false = subst (λ i. is_timer_of handle (get_or xs i d) ≡ false) place (here d (omega arith)) in
+    let other : is_timer_of handle (get_or xs k d) ≡ false = subst (λ i. is_timer_of handle (get_or xs i d) ≡ false) place
+        (here d (omega arith)) in
     cc)
 
 -- in a slot that no timer holds there is no timer of its handles
-pub not_held : (handle : TimerKey) (slots : Slab Moment) (xs : List Timer) → All (IsInSlot slots) xs → get slots handle.slot ≡ None → All (λ x. is_timer_of handle x ≡ false) xs
+pub not_held : (handle : TimerKey) (slots : Slab Moment) (xs : List Timer) → All (IsInSlot slots) xs → get slots handle.slot ≡ None
+    → All (λ x. is_timer_of handle x ≡ false) xs
 not_held handle slots xs all vacant = λ k d h.
     false_from_ne_true (is_timer_of handle (get_or xs k d)) (λ hk.
     let gone : get slots (get_or xs k d).handle.slot ≡ None = ap (get slots) (slot_of_handle handle (get_or xs k d) hk) ∙ vacant in

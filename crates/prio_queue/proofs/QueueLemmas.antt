@@ -30,7 +30,8 @@ length_begun f (suc i) [] = refl
 length_begun f (suc i) (x ∷ xs) = ap suc (length_begun f i xs)
 
 -- with the next element replaced by its image, one more has become its image
-pub begun_next : {X : Type 0} (f : X → X) (i : ℕ) (xs : List X) (d : X) → i < length xs → set (begun f i xs) i (f (get_or xs i d)) ≡ begun f (suc i) xs
+pub begun_next : {X : Type 0} (f : X → X) (i : ℕ) (xs : List X) (d : X) → i < length xs → set (begun f i xs) i (f (get_or xs i d))
+    ≡ begun f (suc i) xs
 begun_next f i [] d h = absurd (omega arith)
 begun_next f zero (x ∷ xs) d h = refl
 begun_next f (suc i) (x ∷ xs) d h = ap (λ ys. f x ∷ ys) (begun_next f i xs d (omega arith))
@@ -42,28 +43,35 @@ get_or_begun f zero (x ∷ xs) d h = refl
 get_or_begun f (suc i) (x ∷ xs) d h = get_or_begun f i xs d (omega arith)
 
 -- a step of a loop that replaces each element, seen by f, by its image under g
-pub begun_step : {X Y : Type 0} (f : X → Y) (g : Y → Y) (i : ℕ) (xs : List X) (ys : List Y) (x y : X) → i < length xs → map f xs ≡ begun g i ys → x ≡ get_or xs i x → f y ≡ g (f x) → map f (set xs i y) ≡ begun g (i + 1) ys
+pub begun_step : {X Y : Type 0} (f : X → Y) (g : Y → Y) (i : ℕ) (xs : List X) (ys : List Y) (x y : X) → i < length xs → map f xs ≡
+    begun g i ys → x ≡ get_or xs i x → f y ≡ g (f x) → map f (set xs i y) ≡ begun g (i + 1) ys
 begun_step f g i xs ys x y within so_far is image =
     let count : length xs ≡ length ys = sym (length-map xs f) ∙ ap length so_far ∙ length_begun g i ys in
     let lt : i < length ys = omega arith in
-    let seen : f x ≡ get_or ys i (f x) = ap f is ∙ sym (get_or-map f xs i x (f x) within) ∙ ap (λ zs. get_or zs i (f x)) so_far ∙ get_or_begun g i ys (f x) lt in
-    rw add-one (map-set f xs i y ∙ ap (λ zs. set zs i (f y)) so_far ∙ ap (λ z. set (begun g i ys) i z) (image ∙ ap g seen) ∙ begun_next g i ys (f x) lt)
+    let seen : f x ≡ get_or ys i (f x) = ap f is ∙ sym (get_or-map f xs i x (f x) within) ∙ ap (λ zs. get_or zs i (f x)) so_far ∙
+        get_or_begun g i ys (f x) lt in
+    rw add-one (map-set f xs i y ∙ ap (λ zs. set zs i (f y)) so_far ∙ ap (λ z. set (begun g i ys) i z) (image ∙ ap g seen) ∙
+        begun_next g i ys (f x) lt)
 
 -- a queue that lost its first key
-pub popped_at : {X : Type 0} (f : X → List ℕ) (xs : List X) (i : ℕ) (x y : X) → i < length xs → x ≡ get_or xs i x → f y ≡ drop 1 (f x) → map f (set xs i y) ≡ popped (map f xs) i
+pub popped_at : {X : Type 0} (f : X → List ℕ) (xs : List X) (i : ℕ) (x y : X) → i < length xs → x ≡ get_or xs i x → f y ≡ drop 1
+    (f x) → map f (set xs i y) ≡ popped (map f xs) i
 popped_at f xs i x y within is lost =
     map-set f xs i y ∙ ap (λ q. set (map f xs) i q) (lost ∙ ap (drop 1) (ap f is ∙ sym (get_or-map f xs i x [] within)))
 
 -- a queue that got a key which stood in none
-pub activated_at : {X : Type 0} (f : X → List ℕ) (xs : List X) (i : ℕ) (x y : X) (key : ℕ) → i < length xs → x ≡ get_or xs i x → f y ≡ f x ++ key ∷ [] → is_queued key (map f xs) ≡ false → map f (set xs i y) ≡ activated (map f xs) i key
+pub activated_at : {X : Type 0} (f : X → List ℕ) (xs : List X) (i : ℕ) (x y : X) (key : ℕ) → i < length xs → x ≡ get_or xs i x → f
+    y ≡ f x ++ key ∷ [] → is_queued key (map f xs) ≡ false → map f (set xs i y) ≡ activated (map f xs) i key
 activated_at f xs i x y key within is got absent =
-    rw absent (map-set f xs i y ∙ ap (λ q. set (map f xs) i q) (got ∙ ap (λ q. q ++ key ∷ []) (ap f is ∙ sym (get_or-map f xs i x [] within))))
+    rw absent (map-set f xs i y ∙ ap (λ q. set (map f xs) i q) (got ∙ ap (λ q. q ++ key ∷ [])
+        (ap f is ∙ sym (get_or-map f xs i x [] within))))
 
 -- a queue whose keys stayed
 pub kept_at : {X : Type 0} (f : X → List ℕ) (xs : List X) (i : ℕ) (x y : X) → x ≡ get_or xs i x → f y ≡ f x → map f (set xs i y) ≡ map f xs
 kept_at f xs i x y is kept = map-set_same f xs i y x (kept ∙ ap f is)
 
 -- a queue that changed into some other list of its keys
-pub changed_at : {X : Type 0} (f : X → List ℕ) (g : List ℕ → List ℕ) (xs : List X) (i : ℕ) (x y : X) → i < length xs → x ≡ get_or xs i x → f y ≡ g (f x) → map f (set xs i y) ≡ set (map f xs) i (g (get_or (map f xs) i []))
+pub changed_at : {X : Type 0} (f : X → List ℕ) (g : List ℕ → List ℕ) (xs : List X) (i : ℕ) (x y : X) → i < length xs → x ≡ get_or
+    xs i x → f y ≡ g (f x) → map f (set xs i y) ≡ set (map f xs) i (g (get_or (map f xs) i []))
 changed_at f g xs i x y within is became =
     map-set f xs i y ∙ ap (λ q. set (map f xs) i q) (became ∙ ap g (ap f is ∙ sym (get_or-map f xs i x [] within)))

@@ -334,7 +334,8 @@ module _ (links : ℕ) where
   few-events (Some y) = omega arith
 
   closing-most : (s : State) (step : Closing) → length (closing_events s step) ≤ 2
-  closing-most s (closing.Faulty e) = let h = few-events (option_map (freed_entry s.plain e) (fault (side_at s.plain e))) in omega (arith, h)
+  closing-most s (closing.Faulty e) = let h = few-events (option_map (freed_entry s.plain e) (fault (side_at s.plain e))) in
+      omega (arith, h)
   closing-most s (closing.EndWriting e) = omega arith
   closing-most s (closing.BothDone k) = omega arith
   closing-most s (closing.PeerGone e) = omega arith

@@ -206,7 +206,8 @@ module _ (n : ℕ) (e : SideId) (ms : List rooms.Want) where
       (writes c (t ++ h.front) h.middle new h.back lt read.1 read.0 h.second)
 
 pub serving-keeps : (n : ℕ) → Keeps n (IsBelow n) serving ServesSide
-serving-keeps n w ws t s new a lt k h = serves n w.side (marks_of ws) w.can_read w.can_write t s new a lt k (is_connecting s.plain w.side) refl h
+serving-keeps n w ws t s new a lt k h = serves n w.side (marks_of ws) w.can_read w.can_write t s new a lt k
+    (is_connecting s.plain w.side) refl h
 
 pub serving-cut : (n : ℕ) (w : Want) (ws : List Want) (t : Trace) (s new : State) (a : Trace) → IsBelow n w →
     StandsWith n t (serving (w ∷ ws)) s → CutServing w s a new → LeftFor TurnAnswer.Memory (t ++ a) new
@@ -307,13 +308,15 @@ called-stands t s cs (closing.EndWriting e) lt k called =
 called-stands t s cs (closing.BothDone l) lt k called =
     let i : SideId = in_side l in
     let o : SideId = out_side l in
-    let first = closed-stands t s (CloseStep.BothDone l) cs (freed_entry s.plain i cause.Done) lt k (where_some _ (freed_entry s.plain i cause.Done) called) in
+    let first = closed-stands t s (CloseStep.BothDone l) cs (freed_entry s.plain i cause.Done) lt k
+        (where_some _ (freed_entry s.plain i cause.Done) called) in
     let second = closed-stands (t ++ (freed_entry s.plain i cause.Done, []) ∷ []) (closed (CloseStep.BothDone l) s) (CloseStep.OutDone l) cs
     (freed_entry s.plain o cause.Done) lt first refl in
     subst (λ z. StandsFor z (Stage.Closing cs) (after_closing s (closing.BothDone l)))
     (append_assoc t ((freed_entry s.plain i cause.Done, []) ∷ []) ((freed_entry s.plain o cause.Done, []) ∷ [])) second
 called-stands t s cs (closing.PeerGone e) lt k called =
-    closed-stands t s (CloseStep.PeerGone e) cs (freed_entry s.plain e cause.PeerGone) lt k (where_some _ (freed_entry s.plain e cause.PeerGone) called)
+    closed-stands t s (CloseStep.PeerGone e) cs (freed_entry s.plain e cause.PeerGone) lt k
+        (where_some _ (freed_entry s.plain e cause.PeerGone) called)
 called-stands t s cs (closing.Shut e) lt k called =
     closed-stands t s (CloseStep.Shut e) cs (entry.Close e) lt k (where_some _ (entry.Close e) called)
 

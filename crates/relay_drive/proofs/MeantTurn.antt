@@ -117,7 +117,8 @@ below-named n (w ∷ ws) a = (a.0, below-named n ws a.1)
 wants-below : (n : ℕ) (s : State) (ws : List Want) → s.plain.opened ≤ n → map named ws ≡ state.wanted s → Each_is (IsBelow n) ws
 wants-below n s ws le names =
     below-named n ws (subst (Each_is (Sided n)) (sym names)
-    (sided-some n (map (state.want_of s) (sides_from 0 s.plain.opened)) (sided-all n (state.want_of s) (λ e. refl) 0 s.plain.opened (omega (arith, le)))))
+    (sided-some n (map (state.want_of s) (sides_from 0 s.plain.opened)) (sided-all n (state.want_of s) (λ e. refl) 0 s.plain.opened
+        (omega (arith, le)))))
 
 -- Polling and accepting
 
@@ -239,19 +240,22 @@ closes-end : (n : ℕ) (t : Trace) (s new : State) (a : Trace) → StandsWith n 
     ForAllLinks ClosesLink s a new → StandsFor (t ++ a) Stage.Between new
 closes-end n t s new a k h =
     closed_all-stands (t ++ a) new
-    (all-keeps s.plain.opened (link_below s.plain.opened) closing_links ClosesLink (closing_links-keep s.plain.opened) (links_from 0 s.plain.opened) t s
+    (all-keeps s.plain.opened (link_below s.plain.opened) closing_links ClosesLink (closing_links-keep s.plain.opened)
+        (links_from 0 s.plain.opened) t s
     new a (all-below s.plain.opened) (passed-close n t s k) h).stands
 
 passes-all : (n : ℕ) (t : Trace) (s new : State) (a : Trace) → StandsWith n t (Stage.Serving []) s →
     ForAllLinks PassesLink s a new → StandsWith s.plain.opened (t ++ a) (Stage.Passing [] []) new
 passes-all n t s new a k h =
-    all-keeps s.plain.opened (link_below s.plain.opened) passing_links PassesLink (passing_links-keep s.plain.opened) (links_from 0 s.plain.opened) t s
+    all-keeps s.plain.opened (link_below s.plain.opened) passing_links PassesLink (passing_links-keep s.plain.opened)
+        (links_from 0 s.plain.opened) t s
     new a (all-below s.plain.opened) (served-pass n t s k) h
 
 serves-all : (marked : List Want) (t : Trace) (s new : State) (a : Trace) → StandsWith s.plain.opened t (serving marked) s →
     Each_is (IsBelow s.plain.opened) marked → Each ServesSide marked s a new →
     StandsWith s.plain.opened (t ++ a) (Stage.Serving []) new
-serves-all marked t s new a k below h = all-keeps s.plain.opened (IsBelow s.plain.opened) serving ServesSide (serving-keeps s.plain.opened) marked t
+serves-all marked t s new a k below h = all-keeps s.plain.opened (IsBelow s.plain.opened) serving ServesSide
+    (serving-keeps s.plain.opened) marked t
     s new a below k h
 
 -- a whole turn: whatever trace the relay stood for before it, it stands for that trace with the turn's entries
@@ -267,7 +271,8 @@ turn_keeps t s new a k turn =
     let served = serves-all marked ((t ++ h.front) ++ p.front) p.middle v.middle v.front poll.0 poll.1 v.first in
     let q = v.second in
     let passed = passes-all p.middle.plain.opened (((t ++ h.front) ++ p.front) ++ v.front) v.middle q.middle q.front served q.first in
-    let closed = closes-end v.middle.plain.opened ((((t ++ h.front) ++ p.front) ++ v.front) ++ q.front) q.middle new q.back passed q.second in
+    let closed = closes-end v.middle.plain.opened ((((t ++ h.front) ++ p.front) ++ v.front) ++ q.front) q.middle new q.back passed
+        q.second in
     (joined-stands Stage.Between new.plain.opened t h.front h.back a new h.joined
     (joined-stands Stage.Between new.plain.opened (t ++ h.front) p.front p.back h.back new p.joined
     (joined-stands Stage.Between new.plain.opened ((t ++ h.front) ++ p.front) v.front v.back p.back new v.joined
@@ -293,7 +298,8 @@ serving-leaves : (marked : List Want) (t : Trace) (s new : State) (a : Trace) �
     Each_is (IsBelow s.plain.opened) marked → CutAt ServesSide CutServing marked s a new →
     LeftFor TurnAnswer.Memory (t ++ a) new
 serving-leaves marked t s new a k below h =
-    cut-leaves s.plain.opened (IsBelow s.plain.opened) serving ServesSide (serving-keeps s.plain.opened) CutServing (LeftFor TurnAnswer.Memory)
+    cut-leaves s.plain.opened (IsBelow s.plain.opened) serving ServesSide (serving-keeps s.plain.opened) CutServing
+        (LeftFor TurnAnswer.Memory)
     (serving-cut s.plain.opened) marked t s new a below k h
 
 passing-leaves : (n : ℕ) (t : Trace) (s new : State) (a : Trace) → StandsWith n t (Stage.Serving []) s →

@@ -30,6 +30,7 @@ passes-whole k l xs p q = rw (p, q) refl
 
 pub plainly_hands_on : PlainlyHandsOn
 plainly_hands_on g h e xs = record {
-  passed = λ ended. passes-on (read_kind g e.side) (write_kind g (other e.side)) ended xs (reads-none g h e.side) (writes-none g h (other e.side));
+  passed = λ ended. passes-on (read_kind g e.side) (write_kind g (other e.side)) ended xs (reads-none g h e.side)
+      (writes-none g h (other e.side));
   whole = passes-whole (read_kind g e.side) (write_kind g (other e.side)) xs (reads-none g h e.side) (writes-none g h (other e.side));
 }

@@ -44,17 +44,21 @@ fault-case x why h = go x.failed refl x.expired refl x.bad refl h
         (if a then Some cause.Failed else (if b then Some cause.Timeout else option_map cause.Filter o)) ≡ Some why → FaultCase x why
     go true a b i o j h = let same : cause.Failed ≡ why = cc in subst (λ v. FaultCase x v) same (FaultCase.by_failure a)
     go false a true i o j h = let same : cause.Timeout ≡ why = cc in subst (λ v. FaultCase x v) same (FaultCase.by_timeout a i)
-    go false a false i (Some place) j h = let same : cause.Filter place ≡ why = cc in subst (λ v. FaultCase x v) same (FaultCase.by_filter a i j)
+    go false a false i (Some place) j h = let same : cause.Filter place ≡ why = cc in subst (λ v. FaultCase x v) same
+        (FaultCase.by_filter a i j)
     go false a false i None j h = absurd (cc)
 
-faulty-cause : (g : Settings) (t : Trace) (s : Plain) (z : SideId) (cs : List CloseStep) (why : Cause) → Reaches g t (at (Closing (CloseStep.Faulty z ∷ cs)) s) → is_live s z ≡ true → FaultCase (side_at s z) why → HasCause g t z why
+faulty-cause : (g : Settings) (t : Trace) (s : Plain) (z : SideId) (cs : List CloseStep) (why : Cause) → Reaches g t
+    (at (Closing (CloseStep.Faulty z ∷ cs)) s) → is_live s z ≡ true → FaultCase (side_at s z) why → HasCause g t z why
 faulty-cause g t s z cs why r live (FaultCase.by_failure a) =
     let k = kept g t (at (Closing (CloseStep.Faulty z ∷ cs)) s) r in
-    (s, record { left = cs; reached = r }, (faults g t (at (Closing (CloseStep.Faulty z ∷ cs)) s) r).failed z (live-there s z k.counts.shape.sides live) live a)
+    (s, record { left = cs; reached = r }, (faults g t (at (Closing (CloseStep.Faulty z ∷ cs)) s) r).failed z
+        (live-there s z k.counts.shape.sides live) live a)
 faulty-cause g t s z cs why r live (FaultCase.by_timeout a b) =
     let k = kept g t (at (Closing (CloseStep.Faulty z ∷ cs)) s) r in
     let lt = live-there s z k.counts.shape.sides live in
-    (s, record { left = cs; reached = r }, sym (k.each z lt).failed ∙ a, (faults g t (at (Closing (CloseStep.Faulty z ∷ cs)) s) r).expired z lt live b)
+    (s, record { left = cs; reached = r }, sym (k.each z lt).failed ∙ a, (faults g t (at (Closing (CloseStep.Faulty z ∷ cs)) s)
+        r).expired z lt live b)
 faulty-cause g t s z cs why r live (FaultCase.by_filter {place = place} a b d) =
     let k = kept g t (at (Closing (CloseStep.Faulty z ∷ cs)) s) r in
     let lt = live-there s z k.counts.shape.sides live in (
@@ -66,7 +70,8 @@ faulty-cause g t s z cs why r live (FaultCase.by_filter {place = place} a b d) =
       (cs, first-met g t (at (Closing (CloseStep.Faulty z ∷ cs)) s) r z lt place d),
     )
 
-closed-cause : (g : Settings) (t : Trace) (s : Plain) (c : CloseStep) (cs : List CloseStep) (y : Entry) → Reaches g t (at (Closing (c ∷ cs)) s) → ClosedKind g (past g t) s c y →
+closed-cause : (g : Settings) (t : Trace) (s : Plain) (c : CloseStep) (cs : List CloseStep) (y : Entry) → Reaches g t
+    (at (Closing (c ∷ cs)) s) → ClosedKind g (past g t) s c y →
     (e : SideId) (why : Cause) (moved given : ℕ) → y ≡ entry.Freed e why moved given → HasCause g t e why
 closed-cause g t s c cs y r (ClosedKind.faulty {z = z} {why = w} a b) e why moved given h =
     let one : z ≡ e = cc in
@@ -83,7 +88,8 @@ closed-cause g t s c cs y r (ClosedKind.in_done {k = n} a b d f) e why moved giv
     subst (λ v. HasCause g t v why) one (subst (λ v. HasCause g t i v) two (
       sym (k.each i lt).write_ended ∙ d,
       sym (k.each o lt).write_ended ∙ f,
-      (s, cs, r, faultless g t s (CloseStep.BothDone n) cs r (ordered g t (at (Closing (CloseStep.BothDone n ∷ cs)) s) r).0 i refl refl lt a),
+      (s, cs, r, faultless g t s (CloseStep.BothDone n) cs r (ordered g t (at (Closing (CloseStep.BothDone n ∷ cs)) s) r).0 i refl
+          refl lt a),
     ))
 closed-cause g t s c cs y r (ClosedKind.out_done {k = n}) e why moved given h =
     let i : SideId = record { link = n; side = In } in
@@ -95,7 +101,8 @@ closed-cause g t s c cs y r (ClosedKind.out_done {k = n}) e why moved given h =
     subst (λ v. HasCause g t v why) one (subst (λ v. HasCause g t o v) two (
       sym (k.each o k.placed.0).write_ended ∙ ready.out_ended,
       sym (k.each i k.placed.0).write_ended ∙ ready.in_ended,
-      (s, cs, r, faultless g t s (CloseStep.OutDone n) cs r (ordered g t (at (Closing (CloseStep.OutDone n ∷ cs)) s) r).0 o refl refl k.placed.0 ready.live),
+      (s, cs, r, faultless g t s (CloseStep.OutDone n) cs r (ordered g t (at (Closing (CloseStep.OutDone n ∷ cs)) s) r).0 o refl
+          refl k.placed.0 ready.live),
     ))
 closed-cause g t s c cs y r (ClosedKind.peer_gone {z = z} a b d) e why moved given h =
     let one : z ≡ e = cc in
@@ -120,7 +127,8 @@ closed-cause g t s c cs y r (ClosedKind.peer_gone {z = z} a b d) e why moved giv
     gone false h = absurd (cc)
 closed-cause g t s c cs y r (ClosedKind.shut a b) e why moved given h = absurd (cc)
 
-put-cause : (g : Settings) (t : Trace) (s : Plain) (x : Stage) (y : Event) (new : State) → Reaches g t (at x s) → PutKind g t s x y new → (e : SideId) (why : Cause) (moved given : ℕ) → y.0 ≡ entry.Freed e why moved given → HasCause g t e why
+put-cause : (g : Settings) (t : Trace) (s : Plain) (x : Stage) (y : Event) (new : State) → Reaches g t (at x s) → PutKind g t s x y
+    new → (e : SideId) (why : Cause) (moved given : ℕ) → y.0 ≡ entry.Freed e why moved given → HasCause g t e why
 put-cause g t s x y new r (PutKind.turned a b) e why moved given h = absurd (cc)
 put-cause g t s x y new r (PutKind.polled) e why moved given h = absurd (cc)
 put-cause g t s x y new r (PutKind.wanted a) e why moved given h = absurd (cc)
@@ -138,7 +146,8 @@ put-cause g t s x y new r (PutKind.recorded {gone = gone} {x = f} {rs = rs}) e w
     let two : cause.Hook ≡ why = cc in
     let k = (held g t (at (Freeing gone f rs) s) r).hook gone (same_end-refl gone) in
     subst (λ v. HasCause g t v why) one (subst (λ v. HasCause g t gone v) two (record { early = k.early; me = k.me; is = k.is }))
-put-cause g t s x y new r (PutKind.closed {c = c} {cs = cs} {e = z} a) e why moved given h = closed-cause g t s c cs z r (closed-kind g (past g t) s c z a) e why moved given h
+put-cause g t s x y new r (PutKind.closed {c = c} {cs = cs} {e = z} a) e why moved given h = closed-cause g t s c cs z r
+    (closed-kind g (past g t) s c z a) e why moved given h
 
 pub frees_have_causes : FreesHaveCauses
 frees_have_causes g t before after e why moved given bytes legal split =

@@ -29,7 +29,8 @@ pub closing-where : (holds : Bool) (e : Entry) → closes e ≡ true → IsClosi
 closing-where true e is = is
 closing-where false e is = tt
 
-pub closing-fault : (s : Plain) (e : SideId) (live : Bool) (why : Option Cause) → IsClosing (if live then option_map (freed_entry s e) why else None)
+pub closing-fault : (s : Plain) (e : SideId) (live : Bool) (why : Option Cause) → IsClosing
+    (if live then option_map (freed_entry s e) why else None)
 closing-fault s e true None = tt
 closing-fault s e true (Some why) = refl
 closing-fault s e false why = tt

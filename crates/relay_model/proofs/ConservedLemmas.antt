@@ -16,9 +16,11 @@ pub before-more : (f : Filter) → PrefixLaw f → (xs ys : List ℕ) → f.befo
 before-more f law xs ys = IsPrefixOf-rest (f.before xs) (f.before (xs ++ ys)) (law.grows xs ys)
 
 pub before-more_at_end : (f : Filter) → PrefixLaw f → (xs ys : List ℕ) → f.before xs ++ more_at_end f xs ys ≡ f.at_end (xs ++ ys)
-before-more_at_end f law xs ys = IsPrefixOf-rest (f.before xs) (f.at_end (xs ++ ys)) (IsPrefixOf-trans _ _ _ (law.grows xs ys) (law.ends (xs ++ ys)))
+before-more_at_end f law xs ys = IsPrefixOf-rest (f.before xs) (f.at_end (xs ++ ys)) (IsPrefixOf-trans _ _ _ (law.grows xs ys)
+    (law.ends (xs ++ ys)))
 
-pub before-adds : (f : Filter) → PrefixLaw f → (ends : Bool) (xs ys zs : List ℕ) → xs ++ ys ≡ zs → f.before xs ++ adds f false ends xs ys ≡ (if ends then f.at_end zs else f.before zs)
+pub before-adds : (f : Filter) → PrefixLaw f → (ends : Bool) (xs ys zs : List ℕ) → xs ++ ys ≡ zs → f.before xs ++ adds f false ends
+    xs ys ≡ (if ends then f.at_end zs else f.before zs)
 before-adds f law true xs ys zs e = before-more_at_end f law xs ys ∙ ap f.at_end e
 before-adds f law false xs ys zs e = before-more f law xs ys ∙ ap f.before e
 
@@ -29,9 +31,11 @@ take-drop-drop v m xs h = ap (λ z. z ++ drop v (take m xs)) (sym (take-take v m
 -- the read filter's part of the whole
 read_whole : (r : Filter) → PrefixLaw r → (read : List ℕ) (ended done : Bool) (used : ℕ) →
     (done ≡ true → (ended ≡ true) × (used ≡ length read) × (r.bad_at_end read ≡ None)) →
-    (if done then r.at_end (take used read) else r.before (take used read)) ++ adds r done (ends_well r ended read) (take used read) (drop used read)
+    (if done then r.at_end (take used read) else r.before (take used read)) ++ adds r done (ends_well r ended read)
+        (take used read) (drop used read)
     ≡ (if ends_well r ended read then r.at_end read else r.before read)
-read_whole r law read ended false used h = before-adds r law (ends_well r ended read) (take used read) (drop used read) read (take-append-drop used read)
+read_whole r law read ended false used h = before-adds r law (ends_well r ended read) (take used read) (drop used read) read
+    (take-append-drop used read)
 read_whole r law read ended true used h =
     append-nil (r.at_end (take used read))
     ∙ ap r.at_end (ap (λ n. take n read) (h refl).1 ∙ take-length read)
@@ -43,7 +47,8 @@ read_whole r law read ended true used h =
 -- the write filter's part of the whole
 write_whole : (w : Filter) → PrefixLaw w → (ends done : Bool) (turned moved : ℕ) (xs rest : List ℕ) → turned ≤ moved →
     (done ≡ true → (turned ≡ moved) × (moved ≡ length xs) × (rest ≡ []) × (ends ≡ true)) →
-    (if done then w.at_end (take turned xs) else w.before (take turned xs)) ++ adds w done ends (take turned xs) (drop turned (take moved xs) ++ (drop moved xs ++ rest))
+    (if done then w.at_end (take turned xs) else w.before (take turned xs)) ++ adds w done ends (take turned xs)
+        (drop turned (take moved xs) ++ (drop moved xs ++ rest))
     ≡ (if ends then w.at_end (xs ++ rest) else w.before (xs ++ rest))
 write_whole w law ends false turned moved xs rest le h =
     before-adds w law ends (take turned xs) (drop turned (take moved xs) ++ (drop moved xs ++ rest)) (xs ++ rest)
@@ -53,10 +58,12 @@ write_whole w law ends false turned moved xs rest le h =
     ∙ ap (λ z. z ++ rest) (take-append-drop moved xs))
 write_whole w law ends true turned moved xs rest le h =
     append-nil (w.at_end (take turned xs))
-    ∙ ap w.at_end (ap (λ n. take n xs) ((h refl).0 ∙ (h refl).1) ∙ take-length xs ∙ sym (append-nil xs) ∙ ap (λ z. xs ++ z) (sym (h refl).2))
+    ∙ ap w.at_end (ap (λ n. take n xs) ((h refl).0 ∙ (h refl).1) ∙ take-length xs ∙ sym (append-nil xs) ∙ ap (λ z. xs ++ z)
+        (sym (h refl).2))
     ∙ ap (λ b. if b then w.at_end (xs ++ rest) else w.before (xs ++ rest)) (sym (h refl).3)
 
-module _ (r w : Filter) (r_law : PrefixLaw r) (w_law : PrefixLaw w) (read : List ℕ) (ended : Bool) (f : Flow) (fits : Fits r w read ended f) where
+module _ (r w : Filter) (r_law : PrefixLaw r) (w_law : PrefixLaw w) (read : List ℕ) (ended : Bool) (f : Flow)
+    (fits : Fits r w read ended f) where
   -- what the filters still add, by the counts
   abbrev rest : List ℕ
   rest = adds r f.read_done (ends_well r ended read) (take f.used read) (drop f.used read)
@@ -70,7 +77,8 @@ module _ (r w : Filter) (r_law : PrefixLaw r) (w_law : PrefixLaw w) (read : List
   ends_of_done : f.read_done ≡ true → ends_well r ended read ≡ true
   ends_of_done done = ap (λ b. b && is_none (r.bad_at_end read)) (fits.read_done done).0 ∙ ap is_none (fits.read_done done).2
 
-  outcome-still : outcome r w read f ++ still ≡ (if ends_well r ended read then w.at_end (middle r read f ++ rest) else w.before (middle r read f ++ rest))
+  outcome-still : outcome r w read f ++ still ≡ (if ends_well r ended read then w.at_end (middle r read f ++ rest) else w.before
+      (middle r read f ++ rest))
   outcome-still =
       write_whole w w_law (ends_well r ended read) f.write_done f.turned f.moved (middle r read f) rest fits.turned
       (λ done. let k = fits.write_done done in (k.1, k.2, rest_of_done k.0, ends_of_done k.0))
@@ -83,7 +91,8 @@ module _ (r w : Filter) (r_law : PrefixLaw r) (w_law : PrefixLaw w) (read : List
   passed-by_end : (if ends_well r ended read then w.at_end (r.at_end read) else w.before (r.before read)) ≡ passed r w ended read
   passed-by_end = by_ended ended
     where
-      by_ended : (b : Bool) → (if b && is_none (r.bad_at_end read) then w.at_end (r.at_end read) else w.before (r.before read)) ≡ passed r w b read
+      by_ended : (b : Bool) → (if b && is_none (r.bad_at_end read) then w.at_end (r.at_end read) else w.before (r.before read)) ≡
+          passed r w b read
       by_ended true = refl
       by_ended false = refl
 
@@ -119,13 +128,16 @@ take-prefix n xs ys h p = ap (take n) (sym p) ∙ take-take n (length xs) ys h
 pub middle-first : (r : Filter) → PrefixLaw r → (read : List ℕ) (ended done : Bool) (used moved : ℕ) →
     (done ≡ true → (ended ≡ true) × (used ≡ length read) × (r.bad_at_end read ≡ None)) →
     moved ≤ length (if done then r.at_end (take used read) else r.before (take used read)) →
-    take moved (if done then r.at_end (take used read) else r.before (take used read)) ≡ take moved (if ended then r.at_end read else r.before read)
+    take moved (if done then r.at_end (take used read) else r.before (take used read)) ≡ take moved
+        (if ended then r.at_end read else r.before read)
 middle-first r law read ended true used moved h le =
-    ap (take moved) (ap r.at_end (ap (λ n. take n read) (h refl).1 ∙ take-length read) ∙ ap (λ b. if b then r.at_end read else r.before read) (sym (h refl).0))
+    ap (take moved) (ap r.at_end (ap (λ n. take n read) (h refl).1 ∙ take-length read) ∙ ap
+        (λ b. if b then r.at_end read else r.before read) (sym (h refl).0))
 middle-first r law read ended false used moved h le = take-prefix moved _ _ le (by_ended ended)
   where
     grows : IsPrefixOf (r.before (take used read)) (r.before read)
-    grows = subst (λ z. IsPrefixOf (r.before (take used read)) (r.before z)) (take-append-drop used read) (law.grows (take used read) (drop used read))
+    grows = subst (λ z. IsPrefixOf (r.before (take used read)) (r.before z)) (take-append-drop used read)
+        (law.grows (take used read) (drop used read))
 
     by_ended : (b : Bool) → IsPrefixOf (r.before (take used read)) (if b then r.at_end read else r.before read)
     by_ended true = IsPrefixOf-trans _ _ _ grows (law.ends read)

@@ -24,7 +24,8 @@ none_told P xs e = subst (All P) (sym e) (λ k d lt. absurd (omega arith))
 
 -- a direction of which nothing was told yet
 pub accounted-first : (r w : Filter) (t : Trace) (from : SideId) →
-    moved_at_free from t ≡ [] → given_at_free (peer from) t ≡ [] → is_write_closed (peer from) t ≡ false → Accounted r w t from [] [] false no_flow
+    moved_at_free from t ≡ [] → given_at_free (peer from) t ≡ [] → is_write_closed (peer from) t ≡ false → Accounted r w t from []
+        [] false no_flow
 accounted-first r w t from not_freed peer_not_freed not_closed = record {
   fits = record {
     used = omega arith;
@@ -50,12 +51,15 @@ pub accounted-told : (r w : Filter) (t t' : Trace) (from : SideId) (read taken :
 accounted-told r w t t' from read taken ended f moved given c moved_is all_moved given_is all_given closed = record {
   fits = c.fits;
   given = c.given;
-  side_freed = subst (All (λ told. told ≡ f.moved)) (sym moved_is) (All-append (λ told. told ≡ f.moved) (moved_at_free from t) moved c.side_freed all_moved);
-  peer_freed = subst (All (λ told. told ≡ f.given)) (sym given_is) (All-append (λ told. told ≡ f.given) (given_at_free (peer from) t) given c.peer_freed all_given);
+  side_freed = subst (All (λ told. told ≡ f.moved)) (sym moved_is) (All-append (λ told. told ≡ f.moved) (moved_at_free from t)
+      moved c.side_freed all_moved);
+  peer_freed = subst (All (λ told. told ≡ f.given)) (sym given_is) (All-append (λ told. told ≡ f.given)
+      (given_at_free (peer from) t) given c.peer_freed all_given);
   closed = closed;
 }
 
-module _ (r w : Filter) (t : Trace) (from : SideId) (read taken : List ℕ) (ended : Bool) (f : Flow) (c : Accounted r w t from read taken ended f) where
+module _ (r w : Filter) (t : Trace) (from : SideId) (read taken : List ℕ) (ended : Bool) (f : Flow)
+    (c : Accounted r w t from read taken ended f) where
   -- while the write filter isn't finished, writing was not ended
   not_closed : {P : Type 0} → f.write_done ≡ false → is_write_closed (peer from) t ≡ true → P
   not_closed open_still closed = absurd (let k = (c.closed closed).write_done in cc)
@@ -80,7 +84,8 @@ module _ (r w : Filter) (t : Trace) (from : SideId) (read taken : List ℕ) (end
       (done' ≡ true → (ended' ≡ true) × (used' ≡ length read') × (r.bad_at_end read' ≡ None)) →
       Accounted r w t from read' taken ended' (record f { used = used'; read_done = done' })
   grown read' ended' used' done' z open_still e le finished =
-      let same : outcome r w read' (record f { used = used'; read_done = done' }) ≡ outcome r w read f = outcome-grown r w read read' ended f c.fits used' done' z e in
+      let same : outcome r w read' (record f { used = used'; read_done = done' }) ≡ outcome r w read f = outcome-grown r w read
+          read' ended f c.fits used' done' z e in
       record {
         fits = record {
           used = le;
@@ -97,7 +102,8 @@ module _ (r w : Filter) (t : Trace) (from : SideId) (read taken : List ℕ) (end
       }
 
   -- n more bytes were used by the read filter
-  pub accounted-used : PrefixLaw r → (n : ℕ) → f.read_done ≡ false → n ≤ length (raw_input read f) → Accounted r w t from read taken ended (record f { used = f.used + n })
+  pub accounted-used : PrefixLaw r → (n : ℕ) → f.read_done ≡ false → n ≤ length (raw_input read f) → Accounted r w t from read
+      taken ended (record f { used = f.used + n })
   accounted-used law n h le =
       grown read ended (f.used + n) f.read_done _ (write_open h) (middle-used r law read f n h)
       (let k = c.fits.used in omega (arith, length-drop f.used read)) (λ done. absurd (cc))
@@ -142,7 +148,8 @@ module _ (r w : Filter) (t : Trace) (from : SideId) (read taken : List ℕ) (end
   -- what the write filter made grew
   outcome_grown : (turned' : ℕ) (done' : Bool) (z : List ℕ) → f.write_done ≡ false →
       outcome r w read (record f { turned = turned'; write_done = done' }) ≡ outcome r w read f ++ z → turned' ≤ f.moved →
-      (done' ≡ true → (f.read_done ≡ true) × (turned' ≡ f.moved) × (f.moved ≡ length (middle r read f)) × (w.bad_at_end (middle r read f) ≡ None)) →
+      (done' ≡ true → (f.read_done ≡ true) × (turned' ≡ f.moved) × (f.moved ≡ length (middle r read f)) ×
+          (w.bad_at_end (middle r read f) ≡ None)) →
       Accounted r w t from read taken ended (record f { turned = turned'; write_done = done' })
   outcome_grown turned' done' z open_still e le finished = record {
     fits = record {
@@ -160,12 +167,14 @@ module _ (r w : Filter) (t : Trace) (from : SideId) (read taken : List ℕ) (end
   }
 
   -- n more bytes were used by the write filter
-  pub accounted-turned : PrefixLaw w → (n : ℕ) → f.write_done ≡ false → f.turned + n ≤ f.moved → Accounted r w t from read taken ended (record f { turned = f.turned + n })
+  pub accounted-turned : PrefixLaw w → (n : ℕ) → f.write_done ≡ false → f.turned + n ≤ f.moved → Accounted r w t from read taken
+      ended (record f { turned = f.turned + n })
   accounted-turned law n h le =
       outcome_grown (f.turned + n) f.write_done _ h (outcome-turned r w law read f n le h) le (λ done. absurd (cc))
 
   -- the write filter finished, at a good end of all that will come
-  pub accounted-write_done : PrefixLaw w → f.write_done ≡ false → f.read_done ≡ true → f.turned ≡ f.moved → f.moved ≡ length (middle r read f) →
+  pub accounted-write_done : PrefixLaw w → f.write_done ≡ false → f.read_done ≡ true → f.turned ≡ f.moved → f.moved ≡ length
+      (middle r read f) →
       w.bad_at_end (middle r read f) ≡ None → Accounted r w t from read taken ended (record f { write_done = true })
   accounted-write_done law h read_done all_turned all_moved good =
       outcome_grown f.turned true _ h (outcome-finished r w law read f h) c.fits.turned (λ done. (read_done, all_turned, all_moved, good))
@@ -231,7 +240,8 @@ module _ (r w : Filter) (t : Trace) (from : SideId) (read taken : List ℕ) (end
             ∙ ap (λ z. take f.given (outcome r w read f) ++ z) (sym none_left)
             ∙ take-append-drop f.given (outcome r w read f)
             ∙ outcome-done r w read f write_done
-            ∙ ap w.at_end (ap (λ n. take n xs) (b.1 ∙ b.2) ∙ take-length xs ∙ middle-done r read f read_done ∙ ap r.at_end (ap (λ n. take n read) a.1 ∙ take-length read))
+            ∙ ap w.at_end (ap (λ n. take n xs) (b.1 ∙ b.2) ∙ take-length xs ∙ middle-done r read f read_done ∙ ap r.at_end
+                (ap (λ n. take n read) a.1 ∙ take-length read))
             ∙ ap (λ o. if is_none o then w.at_end (r.at_end read) else w.before (r.before read)) (sym a.2);
       }
     where

@@ -65,7 +65,8 @@ pub and_yes : (a b c : Bool) → (b || c) ≡ true → false ≡ (a && not (b ||
 and_yes true b c h = cc
 and_yes false b c h = refl
 
-pub idle-still : (e : SideId) (y : Event) (after : Stage) (old new : Seen) → IsIdle e y → is_freeing after e ≡ false → new ≡ old → SideEffect e y after old new
+pub idle-still : (e : SideId) (y : Event) (after : Stage) (old new : Seen) → IsIdle e y → is_freeing after e ≡ false → new ≡ old →
+    SideEffect e y after old new
 idle-still e y after old new i h k = record {
   live = ap (λ z. z.live) k ∙ and_no old.live (freed_by e y) (is_freeing after e) i.freed h;
   ended = ap (λ z. z.ended) k ∙ or_no old.ended (ended_by e y) i.ended;

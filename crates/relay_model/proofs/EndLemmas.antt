@@ -54,7 +54,8 @@ number-eq a b h = go a.side b.side refl refl
 
 -- ends that differ have different numbers
 pub number-apart : (a b : SideId) → same_end a b ≡ false → number a ≢ number b
-number-apart a b h = λ p. absurd (let r : same_end a b ≡ same_end b b = ap (λ x. same_end x b) (number-eq a b p) in let q = same_end-refl b in cc)
+number-apart a b h = λ p. absurd (let r : same_end a b ≡ same_end b b = ap (λ x. same_end x b) (number-eq a b p) in let q =
+    same_end-refl b in cc)
 
 -- one name is that of an opened link and the other isn't
 pub same_end-apart : (a b : SideId) (n : ℕ) → a.link < n → n ≤ b.link → same_end a b ≡ false

@@ -36,7 +36,8 @@ is_faulty x = x.failed || x.expired || is_some x.bad
 pub not-faulty : (x : PlainSide) → fault x ≡ None → is_faulty (seen x) ≡ false
 not-faulty x h = go x.failed x.expired x.bad h
   where
-    go : (a b : Bool) (o : Option ℕ) → (if a then Some cause.Failed else (if b then Some cause.Timeout else option_map cause.Filter o)) ≡ None → (a || b || is_some o) ≡ false
+    go : (a b : Bool) (o : Option ℕ) → (if a then Some cause.Failed else (if b then Some cause.Timeout else option_map cause.Filter
+        o)) ≡ None → (a || b || is_some o) ≡ false
     go true b o h = absurd (cc)
     go false true o h = absurd (cc)
     go false false (Some n) h = absurd (cc)
@@ -45,7 +46,8 @@ not-faulty x h = go x.failed x.expired x.bad h
 pub no-fault : (x : PlainSide) → is_faulty (seen x) ≡ false → fault x ≡ None
 no-fault x h = go x.failed x.expired x.bad h
   where
-    go : (a b : Bool) (o : Option ℕ) → (a || b || is_some o) ≡ false → (if a then Some cause.Failed else (if b then Some cause.Timeout else option_map cause.Filter o)) ≡ None
+    go : (a b : Bool) (o : Option ℕ) → (a || b || is_some o) ≡ false → (if a then Some cause.Failed
+        else (if b then Some cause.Timeout else option_map cause.Filter o)) ≡ None
     go true b o h = absurd (cc)
     go false true o h = absurd (cc)
     go false false (Some n) h = absurd (cc)
@@ -84,20 +86,24 @@ looked-here k left e same Out z =
     let is : e ≡ o = λ j. record { link = same j; side = z j } in
     or_right (same_end (record { link = k; side = In }) e) _ (or_left (same_end o e) _ (ap (λ v. same_end o v) is ∙ same_end-refl o))
 
-looked-later : (k left : ℕ) (e : SideId) → list_any (looks_at e) (closing_from (k + 1) left) ≡ true → list_any (looks_at e) (closing_from k (suc left)) ≡ true
-looked-later k left e h = list_any-append (looks_at e) (closing_of k) (closing_from (k + 1) left) ∙ or_right (list_any (looks_at e) (closing_of k)) _ h
+looked-later : (k left : ℕ) (e : SideId) → list_any (looks_at e) (closing_from (k + 1) left) ≡ true → list_any (looks_at e)
+    (closing_from k (suc left)) ≡ true
+looked-later k left e h = list_any-append (looks_at e) (closing_of k) (closing_from (k + 1) left) ∙ or_right
+    (list_any (looks_at e) (closing_of k)) _ h
 
 pub looked-for : (k left : ℕ) (e : SideId) → k ≤ e.link → e.link < k + left → list_any (looks_at e) (closing_from k left) ≡ true
 looked-for k zero e h l = absurd (omega arith)
 looked-for k (suc left) e h l = go (cases_order k e.link) (λ lt. looked-for (k + 1) left e (omega arith) (omega arith))
   where
-    go : (k ≡ e.link) ⊎ ((k < e.link) ⊎ (e.link < k)) → (k < e.link → list_any (looks_at e) (closing_from (k + 1) left) ≡ true) → list_any (looks_at e) (closing_from k (suc left)) ≡ true
+    go : (k ≡ e.link) ⊎ ((k < e.link) ⊎ (e.link < k)) → (k < e.link → list_any (looks_at e) (closing_from (k + 1) left) ≡ true) →
+        list_any (looks_at e) (closing_from k (suc left)) ≡ true
     go (inl same) later = looked-here k left e (sym same) e.side refl
     go (inr (inl lt)) later = looked-later k left e (later lt)
     go (inr (inr gt)) later = absurd (omega arith)
 
 -- a step of closing leaves faults, and none of its entries tells of a failure or a turn
-pub closed-fails : (g : Settings) (p : Past) (s : Plain) (c : CloseStep) (e : Entry) → ClosedKind g p s c e → (z : SideId) → (failed_by z (e, []) ≡ false) × (is_turn (e, []) ≡ false) × (looks_at z c ≡ true → freed_by z (e, []) ≡ true)
+pub closed-fails : (g : Settings) (p : Past) (s : Plain) (c : CloseStep) (e : Entry) → ClosedKind g p s c e → (z : SideId) →
+    (failed_by z (e, []) ≡ false) × (is_turn (e, []) ≡ false) × (looks_at z c ≡ true → freed_by z (e, []) ≡ true)
 closed-fails g p s c e (ClosedKind.faulty a b) z = (refl, refl, λ h. h)
 closed-fails g p s c e (ClosedKind.write_ended a b) z = (refl, refl, λ h. absurd (cc))
 closed-fails g p s c e (ClosedKind.in_done a b d f) z = (refl, refl, λ h. absurd (cc))
@@ -109,7 +115,8 @@ pub rest : (a b : Bool) → a ≡ false → (a || b) ≡ true → b ≡ true
 rest true b n h = absurd (cc)
 rest false b n h = h
 
-pub steps-looked : (c : CloseStep) (cs : List CloseStep) (z : SideId) → looks_at z c ≡ false → list_any (looks_at z) (c ∷ cs) ≡ true → list_any (looks_at z) (steps_left c cs) ≡ true
+pub steps-looked : (c : CloseStep) (cs : List CloseStep) (z : SideId) → looks_at z c ≡ false → list_any (looks_at z) (c ∷ cs) ≡
+    true → list_any (looks_at z) (steps_left c cs) ≡ true
 steps-looked (CloseStep.Faulty e) cs z n h = rest (same_end e z) _ n h
 steps-looked (CloseStep.EndWriting e) cs z n h = h
 steps-looked (CloseStep.BothDone k) cs z n h = h
@@ -118,14 +125,16 @@ steps-looked (CloseStep.PeerGone e) cs z n h = h
 steps-looked (CloseStep.Shut e) cs z n h = h
 
 -- what an entry that is no beginning of a turn does to a faulty side
-pub old-faulty : (e : SideId) (y : Event) (after : Stage) (old new : Seen) → SideEffect e y after old new → is_turn y ≡ false → failed_by e y ≡ false → is_faulty new ≡ true → is_faulty old ≡ true
+pub old-faulty : (e : SideId) (y : Event) (after : Stage) (old new : Seen) → SideEffect e y after old new → is_turn y ≡ false →
+    failed_by e y ≡ false → is_faulty new ≡ true → is_faulty old ≡ true
 old-faulty e y after old new k turn fails h =
     let a : new.failed ≡ old.failed = k.failed ∙ sym (or_no old.failed (failed_by e y) fails) in
     let b : new.expired ≡ old.expired = k.expired turn in
     let c : new.bad ≡ old.bad = k.bad in
     (λ i. (sym a) i || (sym b) i || is_some ((sym c) i)) ∙ h
 
-pub was-live : (e : SideId) (y : Event) (after : Stage) (old new : Seen) → SideEffect e y after old new → new.live ≡ true → (old.live ≡ true) × (freed_by e y ≡ false)
+pub was-live : (e : SideId) (y : Event) (after : Stage) (old new : Seen) → SideEffect e y after old new → new.live ≡ true →
+    (old.live ≡ true) × (freed_by e y ≡ false)
 was-live e y after old new k h =
     let parts = and_parts old.live (not (freed_by e y || is_freeing after e)) (sym k.live ∙ h) in
     (parts.0, (or_parts (freed_by e y) (is_freeing after e) (not-true _ parts.1)).0)

@@ -35,7 +35,8 @@ use Rattle.relay_model.proofs.KindLemmas.{closed-kind, PutKind, put-kind}
 
 -- Closing looks for each faulty side
 
-put-await : (g : Settings) (t : Trace) (s : Plain) (x : Stage) (y : Event) (new : State) → Effect g x s y new.stage new.plain → FaultsAwait x s → PutKind g t s x y new → FaultsAwait new.stage new.plain
+put-await : (g : Settings) (t : Trace) (s : Plain) (x : Stage) (y : Event) (new : State) → Effect g x s y new.stage new.plain →
+    FaultsAwait x s → PutKind g t s x y new → FaultsAwait new.stage new.plain
 put-await g t s x y new k await (PutKind.turned a b) e lt live faulty = tt
 put-await g t s x y new k await (PutKind.polled) e lt live faulty = tt
 put-await g t s x y new k await (PutKind.wanted a) e lt live faulty = tt
@@ -43,7 +44,8 @@ put-await g t s x y new k await (PutKind.poll_failed) e lt live faulty = tt
 put-await g t s x y new k await (PutKind.readied a) e lt live faulty = tt
 put-await g t s x y new k await (PutKind.opened) e lt live faulty = tt
 put-await g t s x y new k await (PutKind.checked a) e lt live faulty = tt
-put-await g t s x y new k await (PutKind.was_read {side = side} {answer = answer} left a b) e lt live faulty = open-awaits (after_reading side answer left) e (reading-open side answer left)
+put-await g t s x y new k await (PutKind.was_read {side = side} {answer = answer} left a b) e lt live faulty = open-awaits
+    (after_reading side answer left) e (reading-open side answer left)
 put-await g t s x y new k await (PutKind.written a b c) e lt live faulty = tt
 put-await g t s x y new k await (PutKind.fired a) e lt live faulty = tt
 put-await g t s x y new k await (PutKind.frees a same) e lt live faulty = tt
@@ -55,15 +57,18 @@ put-await g t s x y new k await (PutKind.closed {c = c} {cs = cs} {e = z} a) e l
     let old : e.link < s.opened = subst (λ n. e.link < n) same lt in
     let one = k.each e old in
     let was = was-live e (z, []) (Closing (steps_left c cs)) (seen (side_at s e)) (seen (side_at (closed_by c s) e)) one live in
-    let waits = await e old was.0 (old-faulty e (z, []) (Closing (steps_left c cs)) (seen (side_at s e)) (seen (side_at (closed_by c s) e)) one f.1 f.0 faulty) in
+    let waits = await e old was.0 (old-faulty e (z, []) (Closing (steps_left c cs)) (seen (side_at s e))
+        (seen (side_at (closed_by c s) e)) one f.1 f.0 faulty) in
     steps-looked c cs e (other (looks_at e c) refl was.1 f.2) waits
   where
-    other : (q : Bool) → looks_at e c ≡ q → freed_by e (z, []) ≡ false → (looks_at e c ≡ true → freed_by e (z, []) ≡ true) → looks_at e c ≡ false
+    other : (q : Bool) → looks_at e c ≡ q → freed_by e (z, []) ≡ false → (looks_at e c ≡ true → freed_by e (z, []) ≡ true) →
+        looks_at e c ≡ false
     other false q not_freed m = q
     other true q not_freed m = absurd (let v = m q in cc)
 
 -- what closing doesn't call for is no faulty side
-skipped : (g : Settings) (p : Past) (s : Plain) (c : CloseStep) (e : SideId) → closing_entry g p s c ≡ None → is_live s e ≡ true → is_faulty (seen (side_at s e)) ≡ true → looks_at e c ≡ false
+skipped : (g : Settings) (p : Past) (s : Plain) (c : CloseStep) (e : SideId) → closing_entry g p s c ≡ None → is_live s e ≡ true →
+    is_faulty (seen (side_at s e)) ≡ true → looks_at e c ≡ false
 skipped g p s (CloseStep.Faulty z) e none live faulty = go (same_end z e) refl
   where
     faultless : (b : Bool) (o : Option Cause) → b ≡ true → (if b then option_map (freed_entry s z) o else None) ≡ None → o ≡ None
@@ -83,13 +88,15 @@ skipped g p s (CloseStep.OutDone z) e none live faulty = refl
 skipped g p s (CloseStep.PeerGone z) e none live faulty = refl
 skipped g p s (CloseStep.Shut z) e none live faulty = refl
 
-quiet-await : (g : Settings) (t : Trace) (s : Plain) (x : Stage) (new : State) → FaultsAwait x s → QuietKind g t s x new → FaultsAwait new.stage new.plain
+quiet-await : (g : Settings) (t : Trace) (s : Plain) (x : Stage) (new : State) → FaultsAwait x s → QuietKind g t s x new →
+    FaultsAwait new.stage new.plain
 quiet-await g t s x new await (QuietKind.moved next h) e lt live faulty = open-awaits next e h
 quiet-await g t s x new await (QuietKind.filtered) e lt live faulty = tt
 quiet-await g t s x new await (QuietKind.dispatched) e lt live faulty = tt
 quiet-await g t s x new await (QuietKind.passed) e lt live faulty = tt
 quiet-await g t s x new await (QuietKind.closes) e lt live faulty = looked-for 0 s.opened e (omega arith) (omega arith)
-quiet-await g t s x new await (QuietKind.looked {c = c} {cs = cs} h) e lt live faulty = rest (looks_at e c) _ (skipped g (past g t) s c e h live faulty) (await e lt live faulty)
+quiet-await g t s x new await (QuietKind.looked {c = c} {cs = cs} h) e lt live faulty = rest (looks_at e c) _
+    (skipped g (past g t) s c e h live faulty) (await e lt live faulty)
 quiet-await g t s x new await (QuietKind.over) e lt live faulty = absurd (let w = await e lt live faulty in cc)
 
 -- Since when a side is faulty
@@ -127,10 +134,12 @@ pub record Faults (g : Settings) (t : Trace) (x : Stage) (s : Plain) : Type 0 wh
 
 -- an entry begins a turn, or none does
 pub data TurnOrNot (g : Settings) (t : Trace) (s : Plain) : Stage → Event → State → Type 0 where
-  turns : {ms : ℕ} → TurnOrNot g t s Between (entry.Turn ms, []) (at Polling (time_passed g (past g (t ++ (entry.Turn ms, []) ∷ [])) (turned_to ms s)))
+  turns : {ms : ℕ} → TurnOrNot g t s Between (entry.Turn ms, [])
+      (at Polling (time_passed g (past g (t ++ (entry.Turn ms, []) ∷ [])) (turned_to ms s)))
   stays : {x : Stage} {y : Event} {new : State} → is_turn y ≡ false → TurnOrNot g t s x y new
 
-pub turn_or_not : (g : Settings) (t : Trace) (s : Plain) (x : Stage) (y : Event) (new : State) → PutKind g t s x y new → TurnOrNot g t s x y new
+pub turn_or_not : (g : Settings) (t : Trace) (s : Plain) (x : Stage) (y : Event) (new : State) → PutKind g t s x y new → TurnOrNot
+    g t s x y new
 turn_or_not g t s x y new (PutKind.turned a b) = TurnOrNot.turns
 turn_or_not g t s x y new (PutKind.polled) = TurnOrNot.stays refl
 turn_or_not g t s x y new (PutKind.wanted a) = TurnOrNot.stays refl
@@ -144,7 +153,8 @@ turn_or_not g t s x y new (PutKind.fired a) = TurnOrNot.stays refl
 turn_or_not g t s x y new (PutKind.frees a same) = TurnOrNot.stays refl
 turn_or_not g t s x y new (PutKind.asked same m l) = TurnOrNot.stays refl
 turn_or_not g t s x y new (PutKind.recorded) = TurnOrNot.stays refl
-turn_or_not g t s x y new (PutKind.closed {c = c} {e = z} a) = TurnOrNot.stays (closed-fails g (past g t) s c z (closed-kind g (past g t) s c z a) (record { link = 0; side = In })).1
+turn_or_not g t s x y new (PutKind.closed {c = c} {e = z} a) = TurnOrNot.stays (closed-fails g (past g t) s c z
+    (closed-kind g (past g t) s c z a) (record { link = 0; side = In })).1
 
 -- the side of a link that was opened just now is not faulty
 fresh-faultless : (x : Seen) → x ≡ fresh → is_faulty x ≡ true → ⊥
@@ -156,13 +166,15 @@ failed-faulty x h = or_left (x.failed || x.expired) (is_some x.bad) (or_left x.f
 expired-faulty : (x : PlainSide) → x.expired ≡ true → is_faulty (seen x) ≡ true
 expired-faulty x h = or_left (x.failed || x.expired) (is_some x.bad) (or_right x.failed x.expired h)
 
-put-faults : (g : Settings) (t : Trace) (s : Plain) (x : Stage) (y : Event) (new : State) → Reaches g t (at x s) → Effect g x s y new.stage new.plain → Faults g t x s → PutKind g t s x y new → TurnOrNot g t s x y new →
+put-faults : (g : Settings) (t : Trace) (s : Plain) (x : Stage) (y : Event) (new : State) → Reaches g t (at x s) → Effect g x s y
+    new.stage new.plain → Faults g t x s → PutKind g t s x y new → TurnOrNot g t s x y new →
     Faults g (t ++ y ∷ []) new.stage new.plain
 put-faults g t s x y new r k h kind (TurnOrNot.turns {ms = ms}) = record {
   await = put-await g t s Between (entry.Turn ms, []) _ k h.await kind;
   failed = λ e lt live fails.
       let old = same e in
-      absurd (h.await e (subst (λ n. e.link < n) keeps.opened lt) (sym (ap (λ z. z.live) old) ∙ live) (failed-faulty (side_at s e) (sym (ap (λ z. z.failed) old) ∙ fails)));
+      absurd (h.await e (subst (λ n. e.link < n) keeps.opened lt) (sym (ap (λ z. z.live) old) ∙ live)
+          (failed-faulty (side_at s e) (sym (ap (λ z. z.failed) old) ∙ fails)));
   expired = λ e lt live late.
       go e (subst (λ n. e.link < n) keeps.opened lt) (sym (ap (λ z. z.live) (same e)) ∙ live) (time-expired g p (turned_to ms s) e late);
 }
@@ -176,7 +188,8 @@ put-faults g t s x y new r k h kind (TurnOrNot.turns {ms = ms}) = record {
     same : (e : SideId) → but_expired (side_at (time_passed g p (turned_to ms s)) e) ≡ but_expired (side_at s e)
     same e = Keeps-side but_expired (turned_to ms s) (time_passed g p (turned_to ms s)) e keeps
 
-    go : (e : SideId) → e.link < s.opened → is_live s e ≡ true → ((side_at s e).expired ≡ true) ⊎ IsLate g p (turned_to ms s) e → TimedOut g (t ++ (entry.Turn ms, []) ∷ []) e
+    go : (e : SideId) → e.link < s.opened → is_live s e ≡ true → ((side_at s e).expired ≡ true) ⊎ IsLate g p (turned_to ms s) e →
+        TimedOut g (t ++ (entry.Turn ms, []) ∷ []) e
     go e lt live (inl old) = absurd (h.await e lt live (expired-faulty (side_at s e) old))
     go e lt live (inr late) = record {
       early = t;
@@ -195,24 +208,31 @@ put-faults g t s x y new r k h kind (TurnOrNot.stays no_turn) = record {
   expired = λ e lt live late. expired e lt live late (cases_lt e.link s.opened);
 }
   where
-    failed : (e : SideId) → e.link < new.plain.opened → is_live new.plain e ≡ true → (side_at new.plain e).failed ≡ true → (e.link < s.opened) ⊎ (s.opened ≤ e.link) → InThisTurn (failed_by e) (t ++ y ∷ [])
-    failed e lt live fails (inr ge) = absurd (fresh-faultless (seen (side_at new.plain e)) (k.came e ge lt) (failed-faulty (side_at new.plain e) fails))
+    failed : (e : SideId) → e.link < new.plain.opened → is_live new.plain e ≡ true → (side_at new.plain e).failed ≡ true →
+        (e.link < s.opened) ⊎ (s.opened ≤ e.link) → InThisTurn (failed_by e) (t ++ y ∷ [])
+    failed e lt live fails (inr ge) = absurd (fresh-faultless (seen (side_at new.plain e)) (k.came e ge lt)
+        (failed-faulty (side_at new.plain e) fails))
     failed e lt live fails (inl old) = by (or_cases (side_at s e).failed (failed_by e y) (sym one.failed ∙ fails))
       where
         one : SideEffect e y new.stage (seen (side_at s e)) (seen (side_at new.plain e))
         one = k.each e old
 
         by : ((side_at s e).failed ≡ true) ⊎ (failed_by e y ≡ true) → InThisTurn (failed_by e) (t ++ y ∷ [])
-        by (inl was) = turn-push (failed_by e) t y no_turn (h.failed e old (was-live e y new.stage (seen (side_at s e)) (seen (side_at new.plain e)) one live).0 was)
+        by (inl was) = turn-push (failed_by e) t y no_turn
+            (h.failed e old (was-live e y new.stage (seen (side_at s e)) (seen (side_at new.plain e)) one live).0 was)
         by (inr now_failed) = turn-last (failed_by e) t y now_failed
 
-    expired : (e : SideId) → e.link < new.plain.opened → is_live new.plain e ≡ true → (side_at new.plain e).expired ≡ true → (e.link < s.opened) ⊎ (s.opened ≤ e.link) → TimedOut g (t ++ y ∷ []) e
-    expired e lt live late (inr ge) = absurd (fresh-faultless (seen (side_at new.plain e)) (k.came e ge lt) (expired-faulty (side_at new.plain e) late))
+    expired : (e : SideId) → e.link < new.plain.opened → is_live new.plain e ≡ true → (side_at new.plain e).expired ≡ true →
+        (e.link < s.opened) ⊎ (s.opened ≤ e.link) → TimedOut g (t ++ y ∷ []) e
+    expired e lt live late (inr ge) = absurd (fresh-faultless (seen (side_at new.plain e)) (k.came e ge lt)
+        (expired-faulty (side_at new.plain e) late))
     expired e lt live late (inl old) =
         let one = k.each e old in
-        timed-push g t e y no_turn (h.expired e old (was-live e y new.stage (seen (side_at s e)) (seen (side_at new.plain e)) one live).0 (sym (one.expired no_turn) ∙ late))
+        timed-push g t e y no_turn (h.expired e old (was-live e y new.stage (seen (side_at s e)) (seen (side_at new.plain e)) one
+            live).0 (sym (one.expired no_turn) ∙ late))
 
-quiet-faults : (g : Settings) (t : Trace) (s : Plain) (x : Stage) (new : State) → Silent x s new.stage new.plain → Faults g t x s → QuietKind g t s x new → Faults g t new.stage new.plain
+quiet-faults : (g : Settings) (t : Trace) (s : Plain) (x : Stage) (new : State) → Silent x s new.stage new.plain → Faults g t x s →
+    QuietKind g t s x new → Faults g t new.stage new.plain
 quiet-faults g t s x new k h kind = record {
   await = quiet-await g t s x new h.await kind;
   failed = λ e lt live fails.
@@ -224,11 +244,14 @@ quiet-faults g t s x new k h kind = record {
 }
 
 pub faults : (g : Settings) (t : Trace) (s : State) → Reaches g t s → Faults g t s.stage s.plain
-faults g t s (Reaches.begins) = record { await = λ e lt live faulty. absurd (omega arith); failed = λ e lt live h. absurd (omega arith); expired = λ e lt live h. absurd (omega arith) }
+faults g t s (Reaches.begins) = record { await = λ e lt live faulty. absurd (omega arith); failed = λ e lt live h. absurd
+    (omega arith); expired = λ e lt live h. absurd (omega arith) }
 faults g t new (Reaches.goes {t = u} {s = old} r h) =
-    quiet-faults g u old.plain old.stage new (quiet-silent g u old.stage old.plain new h) (faults g u old r) (quiet-kind g u old.stage old.plain new h)
+    quiet-faults g u old.plain old.stage new (quiet-silent g u old.stage old.plain new h) (faults g u old r)
+        (quiet-kind g u old.stage old.plain new h)
 faults g t new (Reaches.puts {t = u} {s = old} e bytes r h) =
     let c = kept g u old r in
     let kind = put-kind g u old.stage old.plain e bytes new c.placed h in
-    put-faults g u old.plain old.stage (e, bytes) new r (put-effect g u old.stage old.plain e bytes new c.counts.shape.sides c.placed h) (faults g u old r) kind
+    put-faults g u old.plain old.stage (e, bytes) new r (put-effect g u old.stage old.plain e bytes new c.counts.shape.sides
+        c.placed h) (faults g u old r) kind
     (turn_or_not g u old.plain old.stage (e, bytes) new kind)

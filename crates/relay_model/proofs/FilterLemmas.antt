@@ -45,12 +45,14 @@ more_is : (f : Filter) (l : IsLocal f) (xs ys : List ℕ) → more f xs ys ≡ l
 more_is f l xs ys = ap (drop (length (f.before xs))) (l.appends xs ys) ∙ drop-append_seam (f.before xs) (l.onward (last_of xs) ys)
 
 more_at_end_is : (f : Filter) (l : IsLocal f) (xs ys : List ℕ) → more_at_end f xs ys ≡ l.to_end (last_of xs) ys
-more_at_end_is f l xs ys = ap (drop (length (f.before xs))) (l.appends_at_end xs ys) ∙ drop-append_seam (f.before xs) (l.to_end (last_of xs) ys)
+more_at_end_is f l xs ys = ap (drop (length (f.before xs))) (l.appends_at_end xs ys) ∙ drop-append_seam (f.before xs)
+    (l.to_end (last_of xs) ys)
 
 cut_of_local : (f : Filter) → IsLocal f → CutLaw f
 cut_of_local f l = record {
   same = λ xs zs h ys. more_is f l xs ys ∙ ap (λ o. l.onward o ys) (same_last f xs zs l.first h) ∙ sym (more_is f l zs ys);
-  same_at_end = λ xs zs h ys. more_at_end_is f l xs ys ∙ ap (λ o. l.to_end o ys) (same_last f xs zs l.first h) ∙ sym (more_at_end_is f l zs ys);
+  same_at_end = λ xs zs h ys. more_at_end_is f l xs ys ∙ ap (λ o. l.to_end o ys) (same_last f xs zs l.first h) ∙ sym
+      (more_at_end_is f l zs ys);
   same_bad = λ xs zs h ys. l.good (xs ++ ys) ∙ sym (l.good (zs ++ ys));
   same_bad_at_end = λ xs zs h ys. l.good_at_end (xs ++ ys) ∙ sym (l.good_at_end (zs ++ ys));
 }
@@ -90,11 +92,13 @@ hex_out_local = record {
 abbrev pub byte_of : Option ℕ → ℕ
 byte_of o = unwrap_or o 0
 
-pub crlf_after-append : (last : ℕ) (xs ys : List ℕ) → crlf_after last (xs ++ ys) ≡ crlf_after last xs ++ crlf_after (byte_of (last_or (Some last) xs)) ys
+pub crlf_after-append : (last : ℕ) (xs ys : List ℕ) → crlf_after last (xs ++ ys) ≡ crlf_after last xs ++ crlf_after
+    (byte_of (last_or (Some last) xs)) ys
 crlf_after-append last [] ys = refl
 crlf_after-append last (x ∷ xs) ys =
     let made : List ℕ = if x == LF && not (last == CR) then CR ∷ LF ∷ [] else x ∷ [] in
-    ap (λ z. made ++ z) (crlf_after-append x xs ys) ∙ sym (append_assoc made (crlf_after x xs) (crlf_after (byte_of (last_or (Some x) xs)) ys))
+    ap (λ z. made ++ z) (crlf_after-append x xs ys) ∙ sym (append_assoc made (crlf_after x xs)
+        (crlf_after (byte_of (last_or (Some x) xs)) ys))
 
 pub to_crlf-append : (xs ys : List ℕ) → crlf_after 0 (xs ++ ys) ≡ crlf_after 0 xs ++ crlf_after (byte_of (last_of xs)) ys
 to_crlf-append [] ys = refl
@@ -118,7 +122,8 @@ lf_after None ys = to_lf ys
 lf_after (Some x) [] = []
 lf_after (Some x) (y ∷ ys) = (if x == CR && not (y == LF) then x ∷ [] else []) ++ to_lf (y ∷ ys)
 
-held_then : (b c : Bool) (x : ℕ) (z : List ℕ) → (if b && c then [] else x ∷ []) ++ z ≡ (if b then [] else x ∷ []) ++ ((if b && not c then x ∷ [] else []) ++ z)
+held_then : (b c : Bool) (x : ℕ) (z : List ℕ) → (if b && c then [] else x ∷ []) ++ z ≡ (if b then [] else x ∷ []) ++
+    ((if b && not c then x ∷ [] else []) ++ z)
 held_then true true x z = refl
 held_then true false x z = refl
 held_then false true x z = refl

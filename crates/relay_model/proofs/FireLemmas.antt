@@ -40,9 +40,11 @@ pub data QuietKind (g : Settings) (t : Trace) (s : Plain) : Stage → State → 
   moved : {x : Stage} (next : Stage) → is_open_stage next ≡ true → QuietKind g t s x (at next s)
   filtered : {e : SideId} {ms : List Want} → QuietKind g t s (Filtering e ms) (at (Serving ms) (after_got g (past g t) e s))
   dispatched : {rs : List Reason} → QuietKind g t s (Serving []) (at (Dispatching rs) (record s { due = [] }))
-  passed : {x : Part} {xs : List Part} {e : SideId} {es : List SideId} → QuietKind g t s (Passing (x ∷ xs) (e ∷ es)) (at (Passing xs (e ∷ es)) (do_part g (past g t) e x s))
+  passed : {x : Part} {xs : List Part} {e : SideId} {es : List SideId} → QuietKind g t s (Passing (x ∷ xs) (e ∷ es))
+      (at (Passing xs (e ∷ es)) (do_part g (past g t) e x s))
   closes : QuietKind g t s (Passing [] []) (at (Closing (closing_from 0 s.opened)) s)
-  looked : {c : CloseStep} {cs : List CloseStep} → closing_entry g (past g t) s c ≡ None → QuietKind g t s (Closing (c ∷ cs)) (at (Closing cs) s)
+  looked : {c : CloseStep} {cs : List CloseStep} → closing_entry g (past g t) s c ≡ None → QuietKind g t s (Closing (c ∷ cs))
+      (at (Closing cs) s)
   over : QuietKind g t s (Closing []) (at Between s)
 
 after_fire-open : (b : Bool) (k : ℕ) (rs : List Reason) → is_open_stage (if b then Over (Halt.StoppedBy k) else Dispatching rs) ≡ true
@@ -50,17 +52,26 @@ after_fire-open true k rs = refl
 after_fire-open false k rs = refl
 
 pub quiet-kind : (g : Settings) (t : Trace) (x : Stage) (s : Plain) (new : State) → Quietly g t x s new → QuietKind g t s x new
-quiet-kind g t (Wanting []) s new h = subst (λ z. QuietKind g t s (Wanting []) z) (sym h) (QuietKind.moved (Marking (wanted g (past g t) s) []) refl)
-quiet-kind g t (Marking (w ∷ ws) marks) s new h = subst (λ z. QuietKind g t s (Marking (w ∷ ws) marks) z) (sym h) (QuietKind.moved (Marking ws marks) refl)
-quiet-kind g t (Marking [] marks) s new h = subst (λ z. QuietKind g t s (Marking [] marks) z) (sym h) (QuietKind.moved (Accepting 0 marks) refl)
-quiet-kind g t (Accepting n marks) s new h = subst (λ z. QuietKind g t s (Accepting n marks) z) (sym h) (QuietKind.moved (Serving marks) refl)
-quiet-kind g t (Serving (m ∷ ms)) s new h = subst (λ z. QuietKind g t s (Serving (m ∷ ms)) z) (sym h.1) (QuietKind.moved (Serving (marks_left s m ms)) refl)
+quiet-kind g t (Wanting []) s new h = subst (λ z. QuietKind g t s (Wanting []) z) (sym h) (QuietKind.moved
+    (Marking (wanted g (past g t) s) []) refl)
+quiet-kind g t (Marking (w ∷ ws) marks) s new h = subst (λ z. QuietKind g t s (Marking (w ∷ ws) marks) z) (sym h)
+    (QuietKind.moved (Marking ws marks) refl)
+quiet-kind g t (Marking [] marks) s new h = subst (λ z. QuietKind g t s (Marking [] marks) z) (sym h)
+    (QuietKind.moved (Accepting 0 marks) refl)
+quiet-kind g t (Accepting n marks) s new h = subst (λ z. QuietKind g t s (Accepting n marks) z) (sym h)
+    (QuietKind.moved (Serving marks) refl)
+quiet-kind g t (Serving (m ∷ ms)) s new h = subst (λ z. QuietKind g t s (Serving (m ∷ ms)) z) (sym h.1)
+    (QuietKind.moved (Serving (marks_left s m ms)) refl)
 quiet-kind g t (Filtering e ms) s new h = subst (λ z. QuietKind g t s (Filtering e ms) z) (sym h) QuietKind.filtered
 quiet-kind g t (Serving []) s new h = subst (λ z. QuietKind g t s (Serving []) z) (sym h) QuietKind.dispatched
-quiet-kind g t (Firing x rs) s new h = subst (λ z. QuietKind g t s (Firing x rs) z) (sym h) (QuietKind.moved (after_fire x rs) (after_fire-open x.stopped x.side.link rs))
-quiet-kind g t (Dispatching []) s new h = subst (λ z. QuietKind g t s (Dispatching []) z) (sym h) (QuietKind.moved (Passing [] (all_sides s)) refl)
-quiet-kind g t (Passing [] (e ∷ es)) s new (inl h) = subst (λ z. QuietKind g t s (Passing [] (e ∷ es)) z) (sym h.1) (QuietKind.moved (Passing [] es) refl)
-quiet-kind g t (Passing [] (e ∷ es)) s new (inr h) = subst (λ z. QuietKind g t s (Passing [] (e ∷ es)) z) (sym h) (QuietKind.moved (Passing (round_parts g (past g t) e s) (e ∷ es)) refl)
+quiet-kind g t (Firing x rs) s new h = subst (λ z. QuietKind g t s (Firing x rs) z) (sym h)
+    (QuietKind.moved (after_fire x rs) (after_fire-open x.stopped x.side.link rs))
+quiet-kind g t (Dispatching []) s new h = subst (λ z. QuietKind g t s (Dispatching []) z) (sym h)
+    (QuietKind.moved (Passing [] (all_sides s)) refl)
+quiet-kind g t (Passing [] (e ∷ es)) s new (inl h) = subst (λ z. QuietKind g t s (Passing [] (e ∷ es)) z) (sym h.1)
+    (QuietKind.moved (Passing [] es) refl)
+quiet-kind g t (Passing [] (e ∷ es)) s new (inr h) = subst (λ z. QuietKind g t s (Passing [] (e ∷ es)) z) (sym h)
+    (QuietKind.moved (Passing (round_parts g (past g t) e s) (e ∷ es)) refl)
 quiet-kind g t (Passing (x ∷ xs) (e ∷ es)) s new h = subst (λ z. QuietKind g t s (Passing (x ∷ xs) (e ∷ es)) z) (sym h) QuietKind.passed
 quiet-kind g t (Passing [] []) s new h = subst (λ z. QuietKind g t s (Passing [] []) z) (sym h) QuietKind.closes
 quiet-kind g t (Closing (c ∷ cs)) s new h = subst (λ z. QuietKind g t s (Closing (c ∷ cs)) z) (sym h.1) (QuietKind.looked h.0)
@@ -71,7 +82,8 @@ quiet-kind g t _ s new h = absurd h
 
 -- behind a free of the side only asks and frees stand
 abbrev pub InRun : SideId → Trace → Type 0
-InRun e t = (before : Trace) (y : Event) (after : Trace) → freed_by e y ≡ true → t ≡ before ++ y ∷ after → list_all is_within_fire after ≡ true
+InRun e t = (before : Trace) (y : Event) (after : Trace) → freed_by e y ≡ true → t ≡ before ++ y ∷ after → list_all is_within_fire
+    after ≡ true
 
 -- so it is of the side whose hook runs
 abbrev pub Runs : Stage → Trace → Type 0
@@ -94,11 +106,13 @@ run-push e t x within h before y after freed split = go (pushed_split t x before
     go (inl k) = ap (λ z. list_all is_within_fire z) k.none_after
     go (inr k) =
         ap (λ z. list_all is_within_fire z) k.after_is ∙ list_all-append is_within_fire k.rest (x ∷ [])
-        ∙ and_from (list_all is_within_fire k.rest) (list_all is_within_fire (x ∷ [])) (h before y k.rest freed k.there) (ap (λ z. z && true) within)
+        ∙ and_from (list_all is_within_fire k.rest) (list_all is_within_fire (x ∷ [])) (h before y k.rest freed k.there)
+            (ap (λ z. z && true) within)
 
 -- an event of a split trace
 pub any-split : (p : Event → Bool) (before : Trace) (y : Event) (after : Trace) → p y ≡ true → list_any p (before ++ y ∷ after) ≡ true
-any-split p before y after h = list_any-append p before (y ∷ after) ∙ or_right (list_any p before) (p y || list_any p after) (or_left (p y) (list_any p after) h)
+any-split p before y after h = list_any-append p before (y ∷ after) ∙ or_right (list_any p before) (p y || list_any p after)
+    (or_left (p y) (list_any p after) h)
 
 -- a fire begins at a side that was not freed
 run-begins : (e : SideId) (t : Trace) (x : Event) → freed_by e x ≡ false → is_freed e t ≡ false → InRun e (t ++ x ∷ [])
@@ -106,7 +120,8 @@ run-begins e t x none unfreed before y after freed split = go (pushed_split t x 
   where
     go : IsLast t x before y after ⊎ IsEarlier t x before y after → list_all is_within_fire after ≡ true
     go (inl k) = absurd (let same : freed_by e x ≡ true = ap (λ z. freed_by e z) (sym k.is) ∙ freed in cc)
-    go (inr k) = absurd (let was : is_freed e t ≡ true = ap (λ z. is_freed e z) k.there ∙ any-split (freed_by e) before y k.rest freed in cc)
+    go (inr k) = absurd (let was : is_freed e t ≡ true = ap (λ z. is_freed e z) k.there ∙ any-split (freed_by e) before y k.rest
+        freed in cc)
 
 pub reading-open : (side : SideId) (answer : ReadAnswer) (ms : List Want) → is_open_stage (after_reading side answer ms) ≡ true
 reading-open side (read.Got n) ms = refl
@@ -114,7 +129,8 @@ reading-open side read.Ended ms = refl
 reading-open side read.NotYet ms = refl
 reading-open side read.Failed ms = refl
 
-pub put-runs : (g : Settings) (t : Trace) (s : Plain) (x : Stage) (y : Event) (new : State) → ((e : SideId) → is_live s e ≡ true → is_freed e t ≡ false) → Runs x t → PutKind g t s x y new → Runs new.stage (t ++ y ∷ [])
+pub put-runs : (g : Settings) (t : Trace) (s : Plain) (x : Stage) (y : Event) (new : State) →
+    ((e : SideId) → is_live s e ≡ true → is_freed e t ≡ false) → Runs x t → PutKind g t s x y new → Runs new.stage (t ++ y ∷ [])
 put-runs g t s x y new live runs (PutKind.turned a b) = tt
 put-runs g t s x y new live runs (PutKind.polled) = tt
 put-runs g t s x y new live runs (PutKind.wanted a) = tt
@@ -122,7 +138,8 @@ put-runs g t s x y new live runs (PutKind.poll_failed) = tt
 put-runs g t s x y new live runs (PutKind.readied a) = tt
 put-runs g t s x y new live runs (PutKind.opened) = tt
 put-runs g t s x y new live runs (PutKind.checked a) = tt
-put-runs g t s x y new live runs (PutKind.was_read {side = side} {answer = answer} left a b) = open-runs (after_reading side answer left) _ (reading-open side answer left)
+put-runs g t s x y new live runs (PutKind.was_read {side = side} {answer = answer} left a b) = open-runs
+    (after_reading side answer left) _ (reading-open side answer left)
 put-runs g t s x y new live runs (PutKind.written a b c) = tt
 put-runs g t s x y new live runs (PutKind.fired {side = side} {y = why} a) = run-begins side t (entry.Fired side why, []) refl (live side a)
 put-runs g t s x y new live runs (PutKind.frees {x = f} {next = next} {gone = gone} a same) =

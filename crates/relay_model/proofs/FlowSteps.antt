@@ -55,7 +55,8 @@ raw_input-got read bytes f h = drop-append-le f.used read bytes h
 
 -- Where what the read filter made grows, by any step that changes no count behind it
 
-module _ (r w : Filter) (read read' : List ℕ) (ended : Bool) (f : Flow) (fits : Fits r w read ended f) (used' : ℕ) (done' : Bool) (z : List ℕ)
+module _ (r w : Filter) (read read' : List ℕ) (ended : Bool) (f : Flow) (fits : Fits r w read ended f) (used' : ℕ) (done' : Bool)
+    (z : List ℕ)
     (grown : middle r read' (record f { used = used'; read_done = done' }) ≡ middle r read f ++ z) where
   turned_is_there : f.turned ≤ length (middle r read f)
   turned_is_there = let a = fits.turned in let b = fits.moved in omega arith
@@ -76,7 +77,8 @@ module _ (r w : Filter) (read read' : List ℕ) (ended : Bool) (f : Flow) (fits 
 
 -- n bytes were moved from the input to the output
 
-pub input-moved : (r : Filter) (read : List ℕ) (f : Flow) (n : ℕ) → input r read (record f { moved = f.moved + n }) ≡ drop n (input r read f)
+pub input-moved : (r : Filter) (read : List ℕ) (f : Flow) (n : ℕ) → input r read (record f { moved = f.moved + n }) ≡ drop n
+    (input r read f)
 input-moved r read f n = sym (drop-drop n f.moved (middle r read f))
 
 pub output-moved : (r w : Filter) (read : List ℕ) (ended : Bool) (f : Flow) → Fits r w read ended f → (n : ℕ) →
@@ -89,10 +91,12 @@ output-moved r w read ended f fits n =
 
 -- While the write filter isn't finished
 
-pub outcome-open : (r w : Filter) (read : List ℕ) (f : Flow) → f.write_done ≡ false → outcome r w read f ≡ w.before (take f.turned (middle r read f))
+pub outcome-open : (r w : Filter) (read : List ℕ) (f : Flow) → f.write_done ≡ false → outcome r w read f ≡ w.before
+    (take f.turned (middle r read f))
 outcome-open r w read f h = ap (λ b. if b then w.at_end (take f.turned (middle r read f)) else w.before (take f.turned (middle r read f))) h
 
-pub outcome-done : (r w : Filter) (read : List ℕ) (f : Flow) → f.write_done ≡ true → outcome r w read f ≡ w.at_end (take f.turned (middle r read f))
+pub outcome-done : (r w : Filter) (read : List ℕ) (f : Flow) → f.write_done ≡ true → outcome r w read f ≡ w.at_end
+    (take f.turned (middle r read f))
 outcome-done r w read f h = ap (λ b. if b then w.at_end (take f.turned (middle r read f)) else w.before (take f.turned (middle r read f))) h
 
 -- n more bytes of what was moved
@@ -107,7 +111,8 @@ take-output r read f n h =
 
 -- the write filter used n more bytes of the output
 pub outcome-turned : (r w : Filter) → PrefixLaw w → (read : List ℕ) (f : Flow) (n : ℕ) → f.turned + n ≤ f.moved → f.write_done ≡ false →
-    outcome r w read (record f { turned = f.turned + n }) ≡ outcome r w read f ++ more w (take f.turned (middle r read f)) (take n (output r read f))
+    outcome r w read (record f { turned = f.turned + n }) ≡ outcome r w read f ++ more w (take f.turned (middle r read f))
+        (take n (output r read f))
 outcome-turned r w law read f n le h =
     outcome-open r w read (record f { turned = f.turned + n }) h
     ∙ ap w.before (take-output r read f n le)
@@ -122,15 +127,18 @@ outcome-finished r w law read f h =
     ∙ sym (before-more_at_end w law (take f.turned (middle r read f)) [])
     ∙ ap (λ z. z ++ more_at_end w (take f.turned (middle r read f)) []) (sym (outcome-open r w read f h))
 
-pub output-turned : (r : Filter) (read : List ℕ) (f : Flow) (n : ℕ) → output r read (record f { turned = f.turned + n }) ≡ drop n (output r read f)
+pub output-turned : (r : Filter) (read : List ℕ) (f : Flow) (n : ℕ) → output r read (record f { turned = f.turned + n }) ≡ drop n
+    (output r read f)
 output-turned r read f n = sym (drop-drop n f.turned (take f.moved (middle r read f)))
 
 -- where what the write filter made grows, so does the raw output
-pub raw_output-turned : (r w : Filter) (read : List ℕ) (ended : Bool) (f : Flow) → Fits r w read ended f → (turned' : ℕ) (done' : Bool) (z : List ℕ) →
+pub raw_output-turned : (r w : Filter) (read : List ℕ) (ended : Bool) (f : Flow) → Fits r w read ended f → (turned' : ℕ)
+    (done' : Bool) (z : List ℕ) →
     outcome r w read (record f { turned = turned'; write_done = done' }) ≡ outcome r w read f ++ z →
     raw_output r w read (record f { turned = turned'; write_done = done' }) ≡ raw_output r w read f ++ z
 raw_output-turned r w read ended f fits turned' done' z e = ap (drop f.given) e ∙ drop-append-le f.given (outcome r w read f) z fits.given
 
 -- the peer's end took n bytes of the raw output
-pub raw_output-given : (r w : Filter) (read : List ℕ) (f : Flow) (n : ℕ) → raw_output r w read (record f { given = f.given + n }) ≡ drop n (raw_output r w read f)
+pub raw_output-given : (r w : Filter) (read : List ℕ) (f : Flow) (n : ℕ) → raw_output r w read (record f { given = f.given + n }) ≡
+    drop n (raw_output r w read f)
 raw_output-given r w read f n = sym (drop-drop n f.given (outcome r w read f))

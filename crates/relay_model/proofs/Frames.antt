@@ -54,7 +54,8 @@ pub shape-same : (s : Plain) → SameShape s s
 shape-same s = record { time = refl; turn = refl; opened = refl; sides = refl; flows = refl }
 
 pub shape-then : (a b c : Plain) → SameShape a b → SameShape b c → SameShape a c
-shape-then a b c x y = record { time = y.time ∙ x.time; turn = y.turn ∙ x.turn; opened = y.opened ∙ x.opened; sides = y.sides ∙ x.sides; flows = y.flows ∙ x.flows }
+shape-then a b c x y = record { time = y.time ∙ x.time; turn = y.turn ∙ x.turn; opened = y.opened ∙ x.opened; sides = y.sides ∙
+    x.sides; flows = y.flows ∙ x.flows }
 
 pub shape-is : (old new : Plain) → new ≡ old → SameShape old new
 shape-is old new e = subst (λ z. SameShape old z) (sym e) (shape-same old)
@@ -65,14 +66,16 @@ frame-same s = record { shape = shape-same s; rates = λ a. refl }
 pub frame-then : (a b c : Plain) → SameFrame a b → SameFrame b c → SameFrame a c
 frame-then a b c x y = record { shape = shape-then a b c x.shape y.shape; rates = λ e. y.rates e ∙ x.rates e }
 
-pub frame-at : (s after : Plain) (x : Stage) (new : State) → new ≡ record { stage = x; plain = after } → SameFrame s after → SameFrame s new.plain
+pub frame-at : (s after : Plain) (x : Stage) (new : State) → new ≡ record { stage = x; plain = after } → SameFrame s after →
+    SameFrame s new.plain
 frame-at s after x new e k = subst (λ z. SameFrame s z.plain) (sym e) k
 
 -- a change of one side, of one direction, and of the timers or the due entries
 pub shape-put : (e : SideId) (x : PlainSide) (s : Plain) → SameShape s (put_side e x s)
 shape-put e x s = record { time = refl; turn = refl; opened = refl; sides = length-set s.sides (number e) x; flows = refl }
 
-pub frame-change : (e : SideId) (f : PlainSide → PlainSide) (s : Plain) → ((x : PlainSide) → rates_of (f x) ≡ rates_of x) → SameFrame s (change_side e f s)
+pub frame-change : (e : SideId) (f : PlainSide → PlainSide) (s : Plain) → ((x : PlainSide) → rates_of (f x) ≡ rates_of x) →
+    SameFrame s (change_side e f s)
 frame-change e f s same = record { shape = shape-put e (f (side_at s e)) s; rates = λ a. seen-change rates_of e a f s same }
 
 pub frame-flow : (e : SideId) (f : Flow → Flow) (s : Plain) → SameFrame s (change_flow e f s)
@@ -82,7 +85,8 @@ frame-flow e f s = record {
 }
 
 pub frame-waiting : (s : Plain) (timers : List Timer) (due : List Due) → SameFrame s (record s { timers = timers; due = due })
-frame-waiting s timers due = record { shape = record { time = refl; turn = refl; opened = refl; sides = refl; flows = refl }; rates = λ a. refl }
+frame-waiting s timers due = record { shape = record { time = refl; turn = refl; opened = refl; sides = refl; flows = refl }; rates
+    = λ a. refl }
 
 pub frame-raise : (g : Settings) (e : SideId) (y : Why) (s : Plain) → SameFrame s (raise g e y s)
 frame-raise g e y s = if_so _
@@ -95,7 +99,8 @@ pub frame-if : (b : Bool) (s x y : Plain) → SameFrame s x → SameFrame s y �
 frame-if true s x y p q = p
 frame-if false s x y p q = q
 
-pub frame-fold : {A : Type 0} (f : Plain → A → Plain) (s : Plain) (xs : List A) → ((z : Plain) (x : A) → SameFrame z (f z x)) → SameFrame s (fold f s xs)
+pub frame-fold : {A : Type 0} (f : Plain → A → Plain) (s : Plain) (xs : List A) → ((z : Plain) (x : A) → SameFrame z (f z x)) →
+    SameFrame s (fold f s xs)
 frame-fold f s [] same = frame-same s
 frame-fold f s (x ∷ xs) same = frame-then s (f s x) _ (same s x) (frame-fold f (f s x) xs same)
 
@@ -110,16 +115,19 @@ expire-rates dir.Write x = refl
 pub frame-timed : (g : Settings) (p : Past) (e : SideId) (s : Plain) (d : Dir) → SameFrame s (timed g p e s d)
 frame-timed g p e s d =
     frame-if (not (is_timed (side_at s e) d)) s s _ (frame-same s)
-    (frame-if (not (wants g p s e d)) s (change_side e (active_at s.time d) s) _ (frame-change e (active_at s.time d) s (active-rates s.time d))
+    (frame-if (not (wants g p s e d)) s (change_side e (active_at s.time d) s) _ (frame-change e (active_at s.time d) s
+        (active-rates s.time d))
     (frame-if (has_run_out (side_at s e) d s.time) s _ s
-    (frame-then s (change_side e (expire d) s) _ (frame-change e (expire d) s (expire-rates d)) (frame-raise g e (happened d timeout_flag) (change_side e (expire d) s)))
+    (frame-then s (change_side e (expire d) s) _ (frame-change e (expire d) s (expire-rates d))
+        (frame-raise g e (happened d timeout_flag) (change_side e (expire d) s)))
     (frame-same s)))
 
 pub frame-time_passed : (g : Settings) (p : Past) (s : Plain) → SameFrame s (time_passed g p s)
 frame-time_passed g p s =
     frame-then s (timers_taken g s) _
     (frame-then s (record s { timers = left }) _ (frame-waiting s left s.due)
-    (frame-fold {A = Timer} (λ state x. raise g x.side why.Timer state) (record s { timers = left }) (by_deadline taken) (λ z x. frame-raise g x.side why.Timer z)))
+    (frame-fold {A = Timer} (λ state x. raise g x.side why.Timer state) (record s { timers = left }) (by_deadline taken)
+        (λ z x. frame-raise g x.side why.Timer z)))
     (frame-fold (side_timed g p) (timers_taken g s) (all_sides s) (λ z e. frame-fold (timed g p e) z both_ways (frame-timed g p e)))
   where
     left : List Timer
@@ -137,7 +145,8 @@ frame-raise_write g p e s = frame-if _ s (raise g e why.Write s) s (frame-raise 
 -- a free
 pub shape-freed : (e : SideId) (s : Plain) → SameShape s (freed e s)
 shape-freed e s =
-    shape-then s (record s { timers = _; due = _ }) _ (SameFrame.shape (frame-waiting s (without_timer e s.timers) (without_due e s.due))) (shape-put e _ _)
+    shape-then s (record s { timers = _; due = _ }) _
+        (SameFrame.shape (frame-waiting s (without_timer e s.timers) (without_due e s.due))) (shape-put e _ _)
 
 pub shape-done : (g : Settings) (p : Past) (s : Plain) (a : Act) → SameShape s (done g p s a)
 shape-done g p s (act.Free e) = shape-freed e s
@@ -156,30 +165,37 @@ shape-done g p s (act.Incref e) = shape-put e _ s
 shape-done g p s (act.Decref e) = shape-put e _ s
 shape-done g p s act.Stop = shape-same s
 
-pub shape-answered : (r : Option AskAnswer) (g : Settings) (p : Past) (s : Plain) (a : Act) (answer : AskAnswer) (new : Plain) → Answered r g p s a answer new → SameShape s new
+pub shape-answered : (r : Option AskAnswer) (g : Settings) (p : Past) (s : Plain) (a : Act) (answer : AskAnswer) (new : Plain) →
+    Answered r g p s a answer new → SameShape s new
 shape-answered (Some refused) g p s a answer new h = shape-is s new h.1
 shape-answered None g p s a answer new h =
     elim h [ inl ok ↦ subst (λ z. SameShape s z) (sym ok.1) (shape-done g p s a) | inr lacks ↦ shape-is s new lacks.2 ]
 
 pub frame-conn : (g : Settings) (e : SideId) (answer : ConnAnswer) (s : Plain) → SameFrame s (after_conn g e answer s)
-frame-conn g e conn.Connected s = frame-then s (change_side e (λ x. record x { connecting = false }) s) _ (frame-change e (λ x. record x { connecting = false }) s (λ x. refl)) (frame-raise g e why.Connected _)
+frame-conn g e conn.Connected s = frame-then s (change_side e (λ x. record x { connecting = false }) s) _
+    (frame-change e (λ x. record x { connecting = false }) s (λ x. refl)) (frame-raise g e why.Connected _)
 frame-conn g e conn.Pending s = frame-same s
-frame-conn g e conn.Failed s = frame-then s (change_side e (λ x. record x { failed = true; writes = false }) s) _ (frame-change e (λ x. record x { failed = true; writes = false }) s (λ x. refl)) (frame-raise g e (happened dir.Write error_flag) _)
+frame-conn g e conn.Failed s = frame-then s (change_side e (λ x. record x { failed = true; writes = false }) s) _
+    (frame-change e (λ x. record x { failed = true; writes = false }) s (λ x. refl)) (frame-raise g e (happened dir.Write error_flag) _)
 
 pub frame-read : (g : Settings) (e : SideId) (answer : ReadAnswer) (s : Plain) → SameFrame s (after_read g e answer s)
 frame-read g e (read.Got n) s = frame-change e (active_at s.time dir.Read) s (λ x. refl)
-frame-read g e read.Ended s = frame-then s (change_side e (λ x. record x { ended = true; reads = false }) s) _ (frame-change e (λ x. record x { ended = true; reads = false }) s (λ x. refl)) (frame-raise g e (happened dir.Read end_flag) _)
+frame-read g e read.Ended s = frame-then s (change_side e (λ x. record x { ended = true; reads = false }) s) _
+    (frame-change e (λ x. record x { ended = true; reads = false }) s (λ x. refl)) (frame-raise g e (happened dir.Read end_flag) _)
 frame-read g e read.NotYet s = frame-same s
-frame-read g e read.Failed s = frame-then s (change_side e (λ x. record x { failed = true; reads = false }) s) _ (frame-change e (λ x. record x { failed = true; reads = false }) s (λ x. refl)) (frame-raise g e (happened dir.Read error_flag) _)
+frame-read g e read.Failed s = frame-then s (change_side e (λ x. record x { failed = true; reads = false }) s) _
+    (frame-change e (λ x. record x { failed = true; reads = false }) s (λ x. refl)) (frame-raise g e (happened dir.Read error_flag) _)
 
 pub frame-write : (g : Settings) (p : Past) (e : SideId) (answer : WriteAnswer) (s : Plain) → SameFrame s (after_write g p e answer s)
 frame-write g p e (write.Took n) s =
     frame-then s (change_side e (active_at s.time dir.Write) (change_flow (peer e) (λ f. record f { given = f.given + n }) s)) _
-    (frame-then s (change_flow (peer e) (λ f. record f { given = f.given + n }) s) _ (frame-flow (peer e) (λ f. record f { given = f.given + n }) s)
+    (frame-then s (change_flow (peer e) (λ f. record f { given = f.given + n }) s) _ (frame-flow (peer e)
+        (λ f. record f { given = f.given + n }) s)
     (frame-change e (active_at s.time dir.Write) (change_flow (peer e) (λ f. record f { given = f.given + n }) s) (λ x. refl)))
     (frame-raise_write g p e _)
 frame-write g p e write.NotYet s = frame-same s
-frame-write g p e write.Failed s = frame-then s (change_side e (λ x. record x { failed = true; writes = false }) s) _ (frame-change e (λ x. record x { failed = true; writes = false }) s (λ x. refl)) (frame-raise g e (happened dir.Write error_flag) _)
+frame-write g p e write.Failed s = frame-then s (change_side e (λ x. record x { failed = true; writes = false }) s) _
+    (frame-change e (λ x. record x { failed = true; writes = false }) s (λ x. refl)) (frame-raise g e (happened dir.Write error_flag) _)
 frame-write g p e write.NoMemory s = frame-same s
 
 pub shape-closed : (c : CloseStep) (s : Plain) → SameShape s (closed_by c s)

@@ -45,8 +45,10 @@ module _ (g : Settings) (n : ℕ) (x : GroupSet) (is : slice_get g.groups n ≡ 
   pub within-share : (e : SideId) (d : Dir) (k : ℕ) → (side_at s e).group ≡ Some n → within_rates g (past g t) s e d k ≤ part d
   within-share e d k in_it =
       let a : share g (past g t) s e d ≡ Some (part d) =
-      ap (λ z. share_in g (past g t) s d z) in_it ∙ ap (λ z. option_map (λ y. share_among y d (group_spells g n d t) s.time (members s n)) z) is in
-      let b : within_rates g (past g t) s e d k ≡ min (part d) (at_most (allowance (past g t) s e d) k) = ap (λ z. at_most z (at_most (allowance (past g t) s e d) k)) a in
+      ap (λ z. share_in g (past g t) s d z) in_it ∙ ap
+          (λ z. option_map (λ y. share_among y d (group_spells g n d t) s.time (members s n)) z) is in
+      let b : within_rates g (past g t) s e d k ≡ min (part d) (at_most (allowance (past g t) s e d) k) = ap
+          (λ z. at_most z (at_most (allowance (past g t) s e d) k)) a in
       omega (arith, b)
 
   pub read_room-shared : (e : SideId) → (side_at s e).group ≡ Some n → read_room g (past g t) s e ≤ part dir.Read
@@ -60,17 +62,23 @@ module _ (g : Settings) (n : ℕ) (x : GroupSet) (is : slice_get g.groups n ≡ 
   beat-where false k most h = omega arith
 
   -- what a read or a write moves among members is at most the share of its side
-  pub read-among : (told : (e : SideId) → (side_at s e).group ≡ group_after g e t) (side : SideId) (d : Dir) (room : ℕ) (answer : ReadAnswer) (bytes : List ℕ) →
-      room ≡ read_room g (past g t) s side → CarriesGot answer room bytes → bytes_of (beat_among g n d t (entry.Read side room answer, bytes)) ≤ part d
+  pub read-among : (told : (e : SideId) → (side_at s e).group ≡ group_after g e t) (side : SideId) (d : Dir) (room : ℕ)
+      (answer : ReadAnswer) (bytes : List ℕ) →
+      room ≡ read_room g (past g t) s side → CarriesGot answer room bytes → bytes_of (beat_among g n d t
+          (entry.Read side room answer, bytes)) ≤ part d
   read-among told side dir.Read room answer bytes asked carries =
       beat-where (same_group (group_after g side t) n) _ _
       (λ named. got-within side side room (part dir.Read) answer bytes carries
       (λ same. let k = read_room-shared side (told side ∙ group-named (group_after g side t) n named) in omega (arith, asked, k)))
-  read-among told side dir.Write room answer bytes asked carries = beat-where (same_group (group_after g side t) n) 0 _ (λ named. omega arith)
+  read-among told side dir.Write room answer bytes asked carries = beat-where (same_group (group_after g side t) n) 0 _
+      (λ named. omega arith)
 
-  pub write-among : (told : (e : SideId) → (side_at s e).group ≡ group_after g e t) (side : SideId) (d : Dir) (offered : ℕ) (answer : WriteAnswer) (bytes : List ℕ) →
-      offered ≡ write_room g (past g t) s side → CarriesTook answer offered bytes → bytes_of (beat_among g n d t (entry.Write side offered answer, bytes)) ≤ part d
-  write-among told side dir.Read offered answer bytes asked carries = beat-where (same_group (group_after g side t) n) 0 _ (λ named. omega arith)
+  pub write-among : (told : (e : SideId) → (side_at s e).group ≡ group_after g e t) (side : SideId) (d : Dir) (offered : ℕ)
+      (answer : WriteAnswer) (bytes : List ℕ) →
+      offered ≡ write_room g (past g t) s side → CarriesTook answer offered bytes → bytes_of
+          (beat_among g n d t (entry.Write side offered answer, bytes)) ≤ part d
+  write-among told side dir.Read offered answer bytes asked carries = beat-where (same_group (group_after g side t) n) 0 _
+      (λ named. omega arith)
   write-among told side dir.Write offered answer bytes asked carries =
       beat-where (same_group (group_after g side t) n) _ _
       (λ named. took-within side side offered (part dir.Write) answer bytes carries
@@ -80,8 +88,10 @@ module _ (g : Settings) (n : ℕ) (x : GroupSet) (is : slice_get g.groups n ≡ 
   still-among d y h = let k = ap bytes_of (beat_among-still g n d t y h) in omega (arith, k)
 
 -- What an entry moves among the members of a group is at most a member's share.
-pub puts-shared : (g : Settings) (t : Trace) (x : Stage) (s : Plain) (e' : Entry) (bytes : List ℕ) (new : State) (n : ℕ) (y : GroupSet) (d : Dir) → (is : slice_get g.groups n ≡ Some y) →
-    ((e : SideId) → (side_at s e).group ≡ group_after g e t) → Puts g t x s e' bytes new → bytes_of (beat_among g n d t (e', bytes)) ≤ part g n y is t s d
+pub puts-shared : (g : Settings) (t : Trace) (x : Stage) (s : Plain) (e' : Entry) (bytes : List ℕ) (new : State) (n : ℕ)
+    (y : GroupSet) (d : Dir) → (is : slice_get g.groups n ≡ Some y) →
+    ((e : SideId) → (side_at s e).group ≡ group_after g e t) → Puts g t x s e' bytes new → bytes_of
+        (beat_among g n d t (e', bytes)) ≤ part g n y is t s d
 puts-shared g t Stage.Between s (entry.Turn ms) bytes new n y d is told h = omega arith
 puts-shared g t Stage.Polling s (entry.Poll timeout) bytes new n y d is told h = omega arith
 puts-shared g t (Stage.Wanting (w ∷ ws)) s (entry.Want side r w') bytes new n y d is told h = omega arith
@@ -89,14 +99,18 @@ puts-shared g t (Stage.Wanting []) s entry.PollFailed bytes new n y d is told h 
 puts-shared g t (Stage.Marking (w ∷ ws) marks) s (entry.Ready side r w') bytes new n y d is told h = omega arith
 puts-shared g t (Stage.Accepting k marks) s (entry.Opened link connected) bytes new n y d is told h = omega arith
 puts-shared g t (Stage.Serving (m ∷ ms)) s (entry.Conn side answer) bytes new n y d is told h = omega arith
-puts-shared g t (Stage.Serving (m ∷ ms)) s (entry.Read side room answer) bytes new n y d is told h = let called = read-called g (past g t) s m room h.1 in
+puts-shared g t (Stage.Serving (m ∷ ms)) s (entry.Read side room answer) bytes new n y d is told h = let called = read-called g
+    (past g t) s m room h.1 in
     read-among g n y is t s told side d room answer bytes (called.is_room ∙ ap (λ z. read_room g (past g t) s z) (sym h.0)) h.2
-puts-shared g t (Stage.Serving (m ∷ ms)) s (entry.Write side offered answer) bytes new n y d is told h = let called = write-called g (past g t) s m offered h.1 in
+puts-shared g t (Stage.Serving (m ∷ ms)) s (entry.Write side offered answer) bytes new n y d is told h = let called = write-called
+    g (past g t) s m offered h.1 in
     write-among g n y is t s told side d offered answer bytes (called.is_offered ∙ ap (λ z. write_room g (past g t) s z) (sym h.0)) h.2
 puts-shared g t (Stage.Dispatching (r ∷ rs)) s (entry.Fired side y') bytes new n y d is told h = omega arith
 puts-shared g t (Stage.Firing x rs) s (entry.Asked side a answer) bytes new n y d is told h = omega arith
-puts-shared g t (Stage.Freeing gone x rs) s e' bytes new n y d is told h = still-among g n y is t s d (e', bytes) (subst (λ z. is_still (z, bytes) ≡ true) (sym h.0) refl)
-puts-shared g t (Stage.Closing (c ∷ cs)) s e' bytes new n y d is told h = still-among g n y is t s d (e', bytes) (closes-still e' bytes (closing-closes g (past g t) s c e' h.0))
+puts-shared g t (Stage.Freeing gone x rs) s e' bytes new n y d is told h = still-among g n y is t s d (e', bytes)
+    (subst (λ z. is_still (z, bytes) ≡ true) (sym h.0) refl)
+puts-shared g t (Stage.Closing (c ∷ cs)) s e' bytes new n y d is told h = still-among g n y is t s d (e', bytes)
+    (closes-still e' bytes (closing-closes g (past g t) s c e' h.0))
 puts-shared g t _ s e' bytes new n y d is told h = absurd h
 
 abbrev pub GroupBounded : Settings → ℕ → GroupSet → Dir → Trace → Type 0
@@ -106,13 +120,16 @@ GroupBounded g n y d t = (before run : Trace) (ms : ℕ) → t ≡ before ++ tur
 pub moved_among-push : (g : Settings) (n : ℕ) (d : Dir) (before t : Trace) (x : Event) →
     moved_among g n d before (t ++ x ∷ []) ≡ moved_among g n d before t + bytes_of (beat_among g n d (before ++ t) x)
 moved_among-push g n d before t x =
-    ap (λ z. sum_by bytes_of z) (beats_among-push g n d before t x) ∙ sum_by-append bytes_of (beats_among g n d before t) (beat_among g n d (before ++ t) x ∷ []) ∙ omega arith
+    ap (λ z. sum_by bytes_of z) (beats_among-push g n d before t x) ∙ sum_by-append bytes_of (beats_among g n d before t)
+        (beat_among g n d (before ++ t) x ∷ []) ∙ omega arith
 
-pub group_bounded-puts : (g : Settings) (n : ℕ) (y : GroupSet) (d : Dir) → slice_get g.groups n ≡ Some y → (t : Trace) (s new : State) (e' : Entry) (bytes : List ℕ) → Rated g t s →
+pub group_bounded-puts : (g : Settings) (n : ℕ) (y : GroupSet) (d : Dir) → slice_get g.groups n ≡ Some y → (t : Trace)
+    (s new : State) (e' : Entry) (bytes : List ℕ) → Rated g t s →
     GroupBounded g n y d t → Puts g t s.stage s.plain e' bytes new → GroupBounded g n y d (t ++ (e', bytes) ∷ [])
 group_bounded-puts g n y d is t s new e' bytes rated bounded p before run ms split =
     elim (split-at_one t before run x (turn_at ms) split) [
-      | inl at_end ↦ subst (λ z. moved_among g n d (before ++ turn_at ms ∷ []) z ≤ most_moved (limit_of y.cfg d) ms (last_time ms run) + (least_share y - 1)) (sym at_end.0) (omega arith)
+      | inl at_end ↦ subst (λ z. moved_among g n d (before ++ turn_at ms ∷ []) z ≤ most_moved (limit_of y.cfg d) ms
+          (last_time ms run) + (least_share y - 1)) (sym at_end.0) (omega arith)
       | inr earlier ↦ behind earlier.0 earlier.1 earlier.2
     ]
   where
@@ -147,23 +164,28 @@ group_bounded-puts g n y d is t s new e' bytes rated bounded p before run ms spl
         step : bytes_of (beat_among g n d t x) ≤ part g n y is t s.plain d
         step = puts-shared g t s.stage s.plain e' bytes new n y d is (λ e. (rated.told e).group) p
 
-        shared : (part g n y is t s.plain d ≡ 0) ⊎ ((is_suspended y d (group_spells g n d t) ≡ false) × (part g n y is t s.plain d ≤ max (group_level y d (group_spells g n d t) s.plain.time) (least_share y)))
+        shared : (part g n y is t s.plain d ≡ 0) ⊎ ((is_suspended y d (group_spells g n d t) ≡ false) ×
+            (part g n y is t s.plain d ≤ max (group_level y d (group_spells g n d t) s.plain.time) (least_share y)))
         shared = share-parts y d (group_spells g n d t) s.plain.time (members s.plain n)
 
         held : group_level y d (group_spells g n d t) s.plain.time ≤ most_moved (limit_of y.cfg d) ms s.plain.time - moved
-        held = subst (λ z. group_level y d (group_spells g n d z) s.plain.time ≤ most_moved (limit_of y.cfg d) ms s.plain.time - moved) (sym cut) (group-most y g n d before rest ms s.plain.time)
+        held = subst (λ z. group_level y d (group_spells g n d z) s.plain.time ≤ most_moved (limit_of y.cfg d) ms s.plain.time -
+            moved) (sym cut) (group-most y g n d before rest ms s.plain.time)
 
-        within : is_suspended y d (group_spells g n d t) ≡ false → part g n y is t s.plain d ≤ max (group_level y d (group_spells g n d t) s.plain.time) (least_share y) →
+        within : is_suspended y d (group_spells g n d t) ≡ false → part g n y is t s.plain d ≤ max
+            (group_level y d (group_spells g n d t) s.plain.time) (least_share y) →
             moved_among g n d (before ++ turn_at ms ∷ []) run ≤ most_moved (limit_of y.cfg d) ms (last_time ms run) + (least_share y - 1)
         within free le =
             let some = group_spells-some g n d before rest ms in
             let count : length (group_spells g n d t) ≡ some.0 + 1 = ap (λ z. length (group_spells g n d z)) cut ∙ some.1 in
             let last = group_spells-last g n d t ∙ sym rated.shape.time in
             let one = not_suspended-left y d (group_spells g n d t) s.plain.time some.0 count last free in
-            let same : most_moved (limit_of y.cfg d) ms s.plain.time ≡ most_moved (limit_of y.cfg d) ms (last_time ms rest) = ap (λ z. most_moved (limit_of y.cfg d) ms z) time in
+            let same : most_moved (limit_of y.cfg d) ms s.plain.time ≡ most_moved (limit_of y.cfg d) ms (last_time ms rest) = ap
+                (λ z. most_moved (limit_of y.cfg d) ms z) time in
             omega (arith, all, step, le, held, one, same, grows)
 
-pub group_bounded : (g : Settings) (n : ℕ) (y : GroupSet) (d : Dir) → slice_get g.groups n ≡ Some y → {t : Trace} {s : State} → Reaches g t s → GroupBounded g n y d t
+pub group_bounded : (g : Settings) (n : ℕ) (y : GroupSet) (d : Dir) → slice_get g.groups n ≡ Some y → {t : Trace} {s : State} →
+    Reaches g t s → GroupBounded g n y d t
 group_bounded g n y d is r =
     (reaches-holds g (λ t s. Rated g t s × GroupBounded g n y d t)
     (rated g begins, λ before run ms split. absurd (let k = append-empty before (turn_at ms ∷ run) (sym split) in cc))

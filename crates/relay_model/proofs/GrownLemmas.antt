@@ -35,15 +35,19 @@ pub grew-same : (xs : List ℕ) (over : Bool) → GrewList xs over xs over
 grew-same xs over = record { more = []; is = sym (append-nil xs); stays = λ h. (h, refl) }
 
 -- a bad place stays bad
-pub bad-grew : (f : Filter) → BadLaw f → (xs : List ℕ) (over : Bool) (new : List ℕ) (new_over : Bool) (place : ℕ) → GrewList xs over new new_over → IsBadIn f xs over place → IsBadIn f new new_over place
+pub bad-grew : (f : Filter) → BadLaw f → (xs : List ℕ) (over : Bool) (new : List ℕ) (new_over : Bool) (place : ℕ) → GrewList xs
+    over new new_over → IsBadIn f xs over place → IsBadIn f new new_over place
 bad-grew f law xs over new new_over place k (inl h) = inl (subst (λ z. f.bad z ≡ Some place) (sym k.is) (law.stays xs k.more place h))
-bad-grew f law xs over new new_over place k (inr h) = let s = k.stays h.0 in inr (s.0, subst (λ z. f.bad_at_end z ≡ Some place) (sym s.1) h.1)
+bad-grew f law xs over new new_over place k (inr h) = let s = k.stays h.0 in inr (s.0, subst (λ z. f.bad_at_end z ≡ Some place)
+    (sym s.1) h.1)
 
 -- what is met is bad there
-pub bad-met : (f : Filter) → BadLaw f → (xs : List ℕ) (used : ℕ) (over room : Bool) (place : ℕ) → met f xs used over room ≡ Some place → IsBadIn f xs over place
+pub bad-met : (f : Filter) → BadLaw f → (xs : List ℕ) (used : ℕ) (over room : Bool) (place : ℕ) → met f xs used over room ≡ Some
+    place → IsBadIn f xs over place
 bad-met f law xs used over room place h = go room (nat_lt used (length xs)) over refl h
   where
-    go : (b c d : Bool) → over ≡ d → (if b then (if c then f.bad (take (used + 1) xs) else (if d then f.bad_at_end xs else None)) else None) ≡ Some place → IsBadIn f xs over place
+    go : (b c d : Bool) → over ≡ d → (if b then (if c then f.bad (take (used + 1) xs) else (if d then f.bad_at_end xs else None))
+        else None) ≡ Some place → IsBadIn f xs over place
     go false c d e h = absurd (cc)
     go true true d e h = inl (bad-of_take f law (used + 1) xs place h)
     go true false true e h = inr (e, h)
@@ -69,7 +73,8 @@ abbrev pub stations : Flow → Stations
 stations f = record { used = f.used; moved = f.moved; read_done = f.read_done }
 
 -- the same counts at more bytes
-pub grown-read : (r : Filter) (read : List ℕ) (ended : Bool) (f : Flow) (bytes : List ℕ) (new_ended : Bool) (new : Flow) → stations new ≡ stations f → FlowOk r read ended f →
+pub grown-read : (r : Filter) (read : List ℕ) (ended : Bool) (f : Flow) (bytes : List ℕ) (new_ended : Bool) (new : Flow) → stations
+    new ≡ stations f → FlowOk r read ended f →
     (ended ≡ true → (new_ended ≡ true) × (bytes ≡ [])) → Grown r read ended f (read ++ bytes) new_ended new
 grown-read r read ended f bytes new_ended new same k stays = record {
   ok = record {
@@ -102,17 +107,21 @@ grown-read r read ended f bytes new_ended new same k stays = record {
     all : all_moved r (read ++ bytes) new ≡ all_moved r read f
     all = let d = ap (λ z. z.read_done) same in let m = ap (λ z. z.moved) same in λ i. d i && nat_eq (m i) (length (made i))
 
-pub grown-counts : (r : Filter) (read : List ℕ) (ended : Bool) (f new : Flow) → stations new ≡ stations f → FlowOk r read ended f → Grown r read ended f read ended new
+pub grown-counts : (r : Filter) (read : List ℕ) (ended : Bool) (f new : Flow) → stations new ≡ stations f → FlowOk r read ended f →
+    Grown r read ended f read ended new
 grown-counts r read ended f new same k =
     subst (λ z. Grown r read ended f z ended new) (append-nil read) (grown-read r read ended f [] ended new same k (λ h. (h, refl)))
 
 -- more was made of what was read, and as much was moved
-grown-made : (r : Filter) (read : List ℕ) (ended : Bool) (f new : Flow) → FlowOk r read ended f → new.moved ≡ f.moved → new.used ≤ length read →
-    (new.read_done ≡ true → (ended ≡ true) × (new.used ≡ length read)) → f.read_done ≡ false → (more : List ℕ) → middle r read new ≡ middle r read f ++ more → Grown r read ended f read ended new
+grown-made : (r : Filter) (read : List ℕ) (ended : Bool) (f new : Flow) → FlowOk r read ended f → new.moved ≡ f.moved → new.used ≤
+    length read →
+    (new.read_done ≡ true → (ended ≡ true) × (new.used ≡ length read)) → f.read_done ≡ false → (more : List ℕ) → middle r read new
+        ≡ middle r read f ++ more → Grown r read ended f read ended new
 grown-made r read ended f new k same used done unfinished more made = record {
   ok = record {
     used = used;
-    moved = let m = k.moved in let l : length (middle r read new) ≡ length (middle r read f ++ more) = ap length made in omega (arith, length-append (middle r read f) more);
+    moved = let m = k.moved in let l : length (middle r read new) ≡ length (middle r read f ++ more) = ap length made in
+        omega (arith, length-append (middle r read f) more);
     done = done;
   };
   raw = grew-same read ended;
@@ -135,12 +144,16 @@ first-above stop n (suc left) = go (stop n) (first-above stop (n + 1) left)
     go false h = (omega arith, omega arith)
 
 -- what is made of a longer beginning begins with what is made of a shorter one
-before-grows : (r : Filter) → PrefixLaw r → (read : List ℕ) (m n : ℕ) → m ≤ n → r.before (take n read) ≡ r.before (take m read) ++ drop (length (r.before (take m read))) (r.before (take n read))
+before-grows : (r : Filter) → PrefixLaw r → (read : List ℕ) (m n : ℕ) → m ≤ n → r.before (take n read) ≡ r.before (take m read) ++
+    drop (length (r.before (take m read))) (r.before (take n read))
 before-grows r law read m n le =
-    let joined : take m read ++ drop m (take n read) ≡ take n read = ap (λ z. z ++ drop m (take n read)) (sym (take-take m n read le)) ∙ take-append-drop m (take n read) in
-    sym (IsPrefixOf-rest (r.before (take m read)) (r.before (take n read)) (subst (λ z. IsPrefixOf (r.before (take m read)) (r.before z)) joined (law.grows (take m read) (drop m (take n read)))))
+    let joined : take m read ++ drop m (take n read) ≡ take n read = ap (λ z. z ++ drop m (take n read))
+        (sym (take-take m n read le)) ∙ take-append-drop m (take n read) in
+    sym (IsPrefixOf-rest (r.before (take m read)) (r.before (take n read))
+        (subst (λ z. IsPrefixOf (r.before (take m read)) (r.before z)) joined (law.grows (take m read) (drop m (take n read)))))
 
-pub grown-used : (r : Filter) → IsFilter r → (read : List ℕ) (mark : ℕ) (ended : Bool) (f : Flow) → FlowOk r read ended f → Grown r read ended f read ended (with_used r read mark f)
+pub grown-used : (r : Filter) → IsFilter r → (read : List ℕ) (mark : ℕ) (ended : Bool) (f : Flow) → FlowOk r read ended f → Grown r
+    read ended f read ended (with_used r read mark f)
 grown-used r law read mark ended f k = go f.read_done refl
   where
     go : (b : Bool) → f.read_done ≡ b → Grown r read ended f read ended (with_used r read mark f)
@@ -155,9 +168,11 @@ grown-used r law read mark ended f k = go f.read_done refl
         (drop (length (r.before (take f.used read))) (r.before (take (with_used r read mark f).used read)))
         (ap (λ d. if d then r.at_end (take (with_used r read mark f).used read) else r.before (take (with_used r read mark f).used read)) h
         ∙ before-grows r law.prefix read f.used (with_used r read mark f).used b.0
-        ∙ ap (λ d. (if d then r.at_end (take f.used read) else r.before (take f.used read)) ++ drop (length (r.before (take f.used read))) (r.before (take (with_used r read mark f).used read))) (sym h))
+        ∙ ap (λ d. (if d then r.at_end (take f.used read) else r.before (take f.used read)) ++ drop
+            (length (r.before (take f.used read))) (r.before (take (with_used r read mark f).used read))) (sym h))
 
-pub grown-done : (r : Filter) → IsFilter r → (read : List ℕ) (mark : ℕ) (ended : Bool) (f : Flow) → FlowOk r read ended f → Grown r read ended f read ended (with_read_done r read mark ended f)
+pub grown-done : (r : Filter) → IsFilter r → (read : List ℕ) (mark : ℕ) (ended : Bool) (f : Flow) → FlowOk r read ended f → Grown r
+    read ended f read ended (with_read_done r read mark ended f)
 grown-done r law read mark ended f k = go f.read_done refl test refl
   where
     test : Bool
@@ -167,8 +182,10 @@ grown-done r law read mark ended f k = go f.read_done refl test refl
     new = with_read_done r read mark ended f
 
     go : (b : Bool) → f.read_done ≡ b → (c : Bool) → test ≡ c → Grown r read ended f read ended new
-    go true h c q = grown-counts r read ended f new (let d : new.read_done ≡ f.read_done = ap (λ z. z || test) h ∙ sym h in λ i. record { used = f.used; moved = f.moved; read_done = d i }) k
-    go false h false q = grown-counts r read ended f new (let d : new.read_done ≡ f.read_done = (λ i. h i || q i) ∙ sym h in λ i. record { used = f.used; moved = f.moved; read_done = d i }) k
+    go true h c q = grown-counts r read ended f new (let d : new.read_done ≡ f.read_done = ap (λ z. z || test) h ∙ sym h in λ i.
+        record { used = f.used; moved = f.moved; read_done = d i }) k
+    go false h false q = grown-counts r read ended f new (let d : new.read_done ≡ f.read_done = (λ i. h i || q i) ∙ sym h in λ i.
+        record { used = f.used; moved = f.moved; read_done = d i }) k
     go false h true q =
         let parts = and_parts (ended && f.used == length read) (is_over r read (nat_lt (length (input r read f)) mark)) q in
         let first = and_parts ended (f.used == length read) parts.0 in
@@ -177,9 +194,11 @@ grown-done r law read mark ended f k = go f.read_done refl test refl
         (drop (length (r.before (take f.used read))) (r.at_end (take f.used read)))
         (ap (λ z. if z then r.at_end (take f.used read) else r.before (take f.used read)) d
         ∙ sym (IsPrefixOf-rest (r.before (take f.used read)) (r.at_end (take f.used read)) (law.prefix.ends (take f.used read)))
-        ∙ ap (λ z. (if z then r.at_end (take f.used read) else r.before (take f.used read)) ++ drop (length (r.before (take f.used read))) (r.at_end (take f.used read))) (sym h))
+        ∙ ap (λ z. (if z then r.at_end (take f.used read) else r.before (take f.used read)) ++ drop
+            (length (r.before (take f.used read))) (r.at_end (take f.used read))) (sym h))
 
-pub grown-moved : (r : Filter) (read : List ℕ) (ended : Bool) (f : Flow) → FlowOk r read ended f → Grown r read ended f read ended (with_moved r read f)
+pub grown-moved : (r : Filter) (read : List ℕ) (ended : Bool) (f : Flow) → FlowOk r read ended f → Grown r read ended f read ended
+    (with_moved r read f)
 grown-moved r read ended f k = go (not f.held && length (output r read f) == 0)
   where
     all : Flow
@@ -199,16 +218,19 @@ grown-moved r read ended f k = go (not f.held && length (output r read f) == 0)
         stays = λ h.
             let parts = and_parts f.read_done (nat_eq f.moved (length (middle r read f))) h in
             let same : f.moved ≡ length (middle r read f) = eqb-true f.moved (length (middle r read f)) parts.1 in
-            (and_from f.read_done (nat_eq (length (middle r read f)) (length (middle r read f))) parts.0 (eq-eqb (length (middle r read f)) (length (middle r read f)) refl), ap (λ n. take n (middle r read f)) (sym same));
+            (and_from f.read_done (nat_eq (length (middle r read f)) (length (middle r read f))) parts.0
+                (eq-eqb (length (middle r read f)) (length (middle r read f)) refl), ap (λ n. take n (middle r read f)) (sym same));
       };
     }
 
-grew-trans : (xs : List ℕ) (a : Bool) (ys : List ℕ) (b : Bool) (zs : List ℕ) (c : Bool) → GrewList xs a ys b → GrewList ys b zs c → GrewList xs a zs c
+grew-trans : (xs : List ℕ) (a : Bool) (ys : List ℕ) (b : Bool) (zs : List ℕ) (c : Bool) → GrewList xs a ys b → GrewList ys b zs c →
+    GrewList xs a zs c
 grew-trans xs a ys b zs c h k = record {
   more = h.more ++ k.more;
   is = k.is ∙ ap (λ v. v ++ k.more) h.is ∙ append_assoc xs h.more k.more;
   stays = λ q. let m = h.stays q in let n = k.stays m.0 in (n.0, n.1 ∙ m.1);
 }
 
-pub grown-trans : (r : Filter) (read : List ℕ) (ended : Bool) (f mid new : Flow) → Grown r read ended f read ended mid → Grown r read ended mid read ended new → Grown r read ended f read ended new
+pub grown-trans : (r : Filter) (read : List ℕ) (ended : Bool) (f mid new : Flow) → Grown r read ended f read ended mid → Grown r
+    read ended mid read ended new → Grown r read ended f read ended new
 grown-trans r read ended f mid new h k = record { ok = k.ok; raw = grew-same read ended; passed = grew-trans _ _ _ _ _ _ h.passed k.passed }

@@ -43,7 +43,8 @@ still-freeing (Freeing e f rs) gone h = absurd (cc)
 still-freeing (Closing cs) gone h = refl
 still-freeing _ gone h = refl
 
-put-hook : (g : Settings) (t : Trace) (s : Plain) (x : Stage) (y : Event) (new : State) → ((e : SideId) → is_live s e ≡ true → is_freed e t ≡ false) → PutKind g t s x y new →
+put-hook : (g : Settings) (t : Trace) (s : Plain) (x : Stage) (y : Event) (new : State) → ((e : SideId) → is_live s e ≡ true →
+    is_freed e t ≡ false) → PutKind g t s x y new →
     (gone : SideId) → is_freeing new.stage gone ≡ true → FreedByHook g (t ++ y ∷ []) gone
 put-hook g t s x y new live (PutKind.turned a b) gone h = absurd (cc)
 put-hook g t s x y new live (PutKind.polled) gone h = absurd (cc)
@@ -52,7 +53,8 @@ put-hook g t s x y new live (PutKind.poll_failed) gone h = absurd (cc)
 put-hook g t s x y new live (PutKind.readied a) gone h = absurd (cc)
 put-hook g t s x y new live (PutKind.opened) gone h = absurd (cc)
 put-hook g t s x y new live (PutKind.checked a) gone h = absurd (cc)
-put-hook g t s x y new live (PutKind.was_read {side = side} {answer = answer} left a b) gone h = absurd (let k = still-freeing (after_reading side answer left) gone (reading-open side answer left) in cc)
+put-hook g t s x y new live (PutKind.was_read {side = side} {answer = answer} left a b) gone h = absurd
+    (let k = still-freeing (after_reading side answer left) gone (reading-open side answer left) in cc)
 put-hook g t s x y new live (PutKind.written a b c) gone h = absurd (cc)
 put-hook g t s x y new live (PutKind.fired a) gone h = absurd (cc)
 put-hook g t s x y new live (PutKind.frees {x = f} {gone = freed_one} a same) gone h =
@@ -113,12 +115,16 @@ closing-looks k (suc left) = (tt, (tt, (tt, (tt, (tt, (tt, (tt, (tt, (tt, closin
 
 -- the sides behind the free of one
 pub freed-other : (s : Plain) (e z : SideId) → same_end z e ≡ false → side_at (freed e s) z ≡ side_at s z
-freed-other s e z h = change_side-other e z (λ v. record v { live = false; group = None }) (record s { timers = without_timer e s.timers; due = without_due e s.due }) h
+freed-other s e z h = change_side-other e z (λ v. record v { live = false; group = None })
+    (record s { timers = without_timer e s.timers; due = without_due e s.due }) h
 
-pub freed-same : (s : Plain) (e : SideId) → length s.sides ≡ 2 * s.opened → e.link < s.opened → side_at (freed e s) e ≡ record (side_at s e) { live = false; group = None }
-freed-same s e size lt = change_side-same e (λ v. record v { live = false; group = None }) (record s { timers = without_timer e s.timers; due = without_due e s.due }) size lt
+pub freed-same : (s : Plain) (e : SideId) → length s.sides ≡ 2 * s.opened → e.link < s.opened → side_at (freed e s) e ≡
+    record (side_at s e) { live = false; group = None }
+freed-same s e size lt = change_side-same e (λ v. record v { live = false; group = None })
+    (record s { timers = without_timer e s.timers; due = without_due e s.due }) size lt
 
-closed-ready : (g : Settings) (p : Past) (s : Plain) (c : CloseStep) (cs : List CloseStep) (e : Entry) → length s.sides ≡ 2 * s.opened → link_of c < s.opened → AllLooks cs → ClosedKind g p s c e →
+closed-ready : (g : Settings) (p : Past) (s : Plain) (c : CloseStep) (cs : List CloseStep) (e : Entry) → length s.sides ≡ 2 *
+    s.opened → link_of c < s.opened → AllLooks cs → ClosedKind g p s c e →
     AllReady (steps_left c cs) (closed_by c s)
 closed-ready g p s c cs e size lt h (ClosedKind.faulty {z = z} a b) = looks-ready cs (closed_by (CloseStep.Faulty z) s) h
 closed-ready g p s c cs e size lt h (ClosedKind.write_ended {z = z} a b) = looks-ready cs (closed_by (CloseStep.EndWriting z) s) h
@@ -127,12 +133,14 @@ closed-ready g p s c cs e size lt h (ClosedKind.in_done {k = k} a b d f) =
     let o : SideId = record { link = k; side = Out } in
     let apart : same_end o i ≡ false = and_right (k == k) false refl in
     let out : side_at (freed i s) o ≡ side_at s o = freed-other s i o apart in
-    (record { live = ap (λ z. z.live) out ∙ b; gone = ap (λ z. z.live) (freed-same s i size lt); in_ended = ap (λ z. z.write_ended) (freed-same s i size lt) ∙ d; out_ended = ap (λ z. z.write_ended) out ∙ f }, h)
+    (record { live = ap (λ z. z.live) out ∙ b; gone = ap (λ z. z.live) (freed-same s i size lt); in_ended = ap (λ z. z.write_ended)
+        (freed-same s i size lt) ∙ d; out_ended = ap (λ z. z.write_ended) out ∙ f }, h)
 closed-ready g p s c cs e size lt h (ClosedKind.out_done {k = k}) = looks-ready cs (closed_by (CloseStep.OutDone k) s) h
 closed-ready g p s c cs e size lt h (ClosedKind.peer_gone {z = z} a b d) = looks-ready cs (closed_by (CloseStep.PeerGone z) s) h
 closed-ready g p s c cs e size lt h (ClosedKind.shut {z = z} a b) = looks-ready cs (closed_by (CloseStep.Shut z) s) h
 
-put-ready : (g : Settings) (t : Trace) (s : Plain) (x : Stage) (y : Event) (new : State) → length s.sides ≡ 2 * s.opened → Placed x s → DoneReady x s → PutKind g t s x y new → DoneReady new.stage new.plain
+put-ready : (g : Settings) (t : Trace) (s : Plain) (x : Stage) (y : Event) (new : State) → length s.sides ≡ 2 * s.opened → Placed x
+    s → DoneReady x s → PutKind g t s x y new → DoneReady new.stage new.plain
 put-ready g t s x y new size placed ready (PutKind.turned a b) = tt
 put-ready g t s x y new size placed ready (PutKind.polled) = tt
 put-ready g t s x y new size placed ready (PutKind.wanted a) = tt
@@ -140,15 +148,18 @@ put-ready g t s x y new size placed ready (PutKind.poll_failed) = tt
 put-ready g t s x y new size placed ready (PutKind.readied a) = tt
 put-ready g t s x y new size placed ready (PutKind.opened) = tt
 put-ready g t s x y new size placed ready (PutKind.checked a) = tt
-put-ready g t s x y new size placed ready (PutKind.was_read {side = side} {answer = answer} left a b) = open-ready (after_reading side answer left) _ (reading-open side answer left)
+put-ready g t s x y new size placed ready (PutKind.was_read {side = side} {answer = answer} left a b) = open-ready
+    (after_reading side answer left) _ (reading-open side answer left)
 put-ready g t s x y new size placed ready (PutKind.written a b c) = tt
 put-ready g t s x y new size placed ready (PutKind.fired a) = tt
 put-ready g t s x y new size placed ready (PutKind.frees a same) = tt
 put-ready g t s x y new size placed ready (PutKind.asked same k l) = tt
 put-ready g t s x y new size placed ready (PutKind.recorded) = tt
-put-ready g t s x y new size placed ready (PutKind.closed {c = c} {cs = cs} {e = e} a) = closed-ready g (past g t) s c cs e size placed.0 ready.1 (closed-kind g (past g t) s c e a)
+put-ready g t s x y new size placed ready (PutKind.closed {c = c} {cs = cs} {e = e} a) = closed-ready g (past g t) s c cs e size
+    placed.0 ready.1 (closed-kind g (past g t) s c e a)
 
-quiet-ready : (g : Settings) (t : Trace) (s : Plain) (x : Stage) (new : State) → DoneReady x s → QuietKind g t s x new → DoneReady new.stage new.plain
+quiet-ready : (g : Settings) (t : Trace) (s : Plain) (x : Stage) (new : State) → DoneReady x s → QuietKind g t s x new → DoneReady
+    new.stage new.plain
 quiet-ready g t s x new ready (QuietKind.moved next h) = open-ready next s h
 quiet-ready g t s x new ready QuietKind.filtered = tt
 quiet-ready g t s x new ready QuietKind.dispatched = tt
@@ -165,7 +176,8 @@ pub record Held (g : Settings) (t : Trace) (x : Stage) (s : Plain) : Type 0 wher
   pub ready : DoneReady x s
 
 -- a side that lives was not freed
-pub live-unfreed : (g : Settings) (t : Trace) (x : Stage) (s : Plain) → Kept g t x s → (e : SideId) → is_live s e ≡ true → is_freed e t ≡ false
+pub live-unfreed : (g : Settings) (t : Trace) (x : Stage) (s : Plain) → Kept g t x s → (e : SideId) → is_live s e ≡ true → is_freed
+    e t ≡ false
 live-unfreed g t x s k e live =
     let told = k.each e (live-there s e k.counts.shape.sides live) in
     (or_parts (is_freed e t) (is_freeing x e) (not-true _ (sym told.live ∙ live))).0

@@ -100,11 +100,13 @@ Keeps-raise f g e y s = let r = raised g e y s in subst (λ z. Keeps f s z) (sym
 pub Keeps-raise_read : {A : Type 0} (f : PlainSide → A) (g : Settings) (p : Past) (e : SideId) (s : Plain) → Keeps f s (raise_read g p e s)
 Keeps-raise_read f g p e s = let r = raised_read g p e s in subst (λ z. Keeps f s z) (sym r.1) (Keeps-due f s r.0)
 
-pub Keeps-raise_write : {A : Type 0} (f : PlainSide → A) (g : Settings) (p : Past) (e : SideId) (s : Plain) → Keeps f s (raise_write g p e s)
+pub Keeps-raise_write : {A : Type 0} (f : PlainSide → A) (g : Settings) (p : Past) (e : SideId) (s : Plain) → Keeps f s
+    (raise_write g p e s)
 Keeps-raise_write f g p e s = let r = raised_write g p e s in subst (λ z. Keeps f s z) (sym r.1) (Keeps-due f s r.0)
 
 -- another value of a side, which f does not tell from the one before
-pub Keeps-put : {A : Type 0} (f : PlainSide → A) (e : SideId) (x : PlainSide) (s : Plain) → f x ≡ f (side_at s e) → Keeps f s (put_side e x s)
+pub Keeps-put : {A : Type 0} (f : PlainSide → A) (e : SideId) (x : PlainSide) (s : Plain) → f x ≡ f (side_at s e) → Keeps f s
+    (put_side e x s)
 Keeps-put f e x s h = record {
   time = refl;
   turn = refl;
@@ -117,14 +119,18 @@ pub Keeps-flow : {A : Type 0} (f : PlainSide → A) (e : SideId) (x : Flow) (s :
 Keeps-flow f e x s = record { time = refl; turn = refl; opened = refl; flows = length-set s.flows (number e) x; sides = refl }
 
 -- steps in a row
-pub Keeps-fold : {A X : Type 0} (f : PlainSide → A) (step : Plain → X → Plain) → ((s : Plain) (x : X) → Keeps f s (step s x)) → (s : Plain) (xs : List X) → Keeps f s (fold step s xs)
+pub Keeps-fold : {A X : Type 0} (f : PlainSide → A) (step : Plain → X → Plain) → ((s : Plain) (x : X) → Keeps f s (step s x)) →
+    (s : Plain) (xs : List X) → Keeps f s (fold step s xs)
 Keeps-fold f step h s [] = Keeps-refl f s
 Keeps-fold f step h s (x ∷ xs) = Keeps-trans f s (step s x) (fold step (step s x) xs) (h s x) (Keeps-fold f step h (step s x) xs)
 
 -- What a change of a side makes of it, and of another
 
-pub change_side-same : (e : SideId) (change : PlainSide → PlainSide) (s : Plain) → length s.sides ≡ 2 * s.opened → e.link < s.opened → side_at (change_side e change s) e ≡ change (side_at s e)
-change_side-same e change s size lt = get_or-set_same s.sides (number e) (change (side_at s e)) no_side (omega (arith, number-lt e s.opened lt))
+pub change_side-same : (e : SideId) (change : PlainSide → PlainSide) (s : Plain) → length s.sides ≡ 2 * s.opened → e.link <
+    s.opened → side_at (change_side e change s) e ≡ change (side_at s e)
+change_side-same e change s size lt = get_or-set_same s.sides (number e) (change (side_at s e)) no_side
+    (omega (arith, number-lt e s.opened lt))
 
-pub change_side-other : (e z : SideId) (change : PlainSide → PlainSide) (s : Plain) → same_end z e ≡ false → side_at (change_side e change s) z ≡ side_at s z
+pub change_side-other : (e z : SideId) (change : PlainSide → PlainSide) (s : Plain) → same_end z e ≡ false → side_at
+    (change_side e change s) z ≡ side_at s z
 change_side-other e z change s h = get_or-set_other s.sides (number e) (number z) (change (side_at s e)) no_side (number-apart z e h)

@@ -72,7 +72,8 @@ closing-followed k (suc left) =
     let shut_in : (rest : Bool) → (same_end (in_of k) (in_of k) || rest) ≡ true = λ rest. or_left (same_end (in_of k) (in_of k)) rest i in
     let shut_out : (first rest : Bool) → (first || (same_end (out_of k) (out_of k) || rest)) ≡ true =
     λ first rest. or_right first (same_end (out_of k) (out_of k) || rest) (or_left (same_end (out_of k) (out_of k)) rest o) in
-    let out_first : (rest : Bool) → (same_end (out_of k) (out_of k) || rest) ≡ true = λ rest. or_left (same_end (out_of k) (out_of k)) rest o in
+    let out_first : (rest : Bool) → (same_end (out_of k) (out_of k) || rest) ≡ true = λ rest. or_left
+        (same_end (out_of k) (out_of k)) rest o in
     let join : (rest : Bool) → ((k == k) || rest) ≡ true = λ rest. or_left (k == k) rest b in (
       (shut_in _, shut_out _ _),
       (
@@ -105,7 +106,8 @@ found p n k zero h ge lt = absurd (omega arith)
 found p n k (suc left) h ge lt = go (cases_order k n) (λ l. found p n (k + 1) left h (omega arith) (omega arith))
   where
     go : (k ≡ n) ⊎ ((k < n) ⊎ (n < k)) → (k < n → Has p (closing_from (k + 1) left)) → Has p (closing_from k (suc left))
-    go (inl same) later = list_any-append p (closing_of k) (closing_from (k + 1) left) ∙ or_left (list_any p (closing_of k)) _ (ap (λ v. list_any p (closing_of v)) same ∙ h)
+    go (inl same) later = list_any-append p (closing_of k) (closing_from (k + 1) left) ∙ or_left (list_any p (closing_of k)) _
+        (ap (λ v. list_any p (closing_of v)) same ∙ h)
     go (inr (inl l)) later = list_any-append p (closing_of k) (closing_from (k + 1) left) ∙ or_right (list_any p (closing_of k)) _ (later l)
     go (inr (inr g)) later = absurd (omega arith)
 
@@ -117,7 +119,8 @@ in-or-out e = go e.side refl
     go In z = inl (λ i. record { link = e.link; side = z i })
     go Out z = inr (λ i. record { link = e.link; side = z i })
 
-of-link : (q : SideId → CloseStep → Bool) (k : ℕ) → Has (q (in_of k)) (closing_of k) → Has (q (out_of k)) (closing_of k) → (e : SideId) → e.link ≡ k → Has (q e) (closing_of k)
+of-link : (q : SideId → CloseStep → Bool) (k : ℕ) → Has (q (in_of k)) (closing_of k) → Has (q (out_of k)) (closing_of k) →
+    (e : SideId) → e.link ≡ k → Has (q e) (closing_of k)
 of-link q k a b e same = go (in-or-out e)
   where
     go : (e ≡ in_of e.link) ⊎ (e ≡ out_of e.link) → Has (q e) (closing_of k)
@@ -127,16 +130,19 @@ of-link q k a b e same = go (in-or-out e)
 all-shut : (e : SideId) → Has (shuts e) (closing_of e.link)
 all-shut e =
     of-link shuts e.link (or_left (same_end (in_of e.link) (in_of e.link)) _ (same_end-refl (in_of e.link)))
-    (or_right (same_end (in_of e.link) (out_of e.link)) _ (or_left (same_end (out_of e.link) (out_of e.link)) _ (same_end-refl (out_of e.link)))) e refl
+    (or_right (same_end (in_of e.link) (out_of e.link)) _ (or_left (same_end (out_of e.link) (out_of e.link)) _
+        (same_end-refl (out_of e.link)))) e refl
 
 all-leave : (e : SideId) → Has (leaves e) (closing_of e.link)
 all-leave e =
     of-link leaves e.link (or_left (same_end (in_of e.link) (in_of e.link)) _ (same_end-refl (in_of e.link)))
-    (or_right (same_end (in_of e.link) (out_of e.link)) _ (or_left (same_end (out_of e.link) (out_of e.link)) _ (same_end-refl (out_of e.link)))) e refl
+    (or_right (same_end (in_of e.link) (out_of e.link)) _ (or_left (same_end (out_of e.link) (out_of e.link)) _
+        (same_end-refl (out_of e.link)))) e refl
 
 all-end : (e : SideId) → Has (ends e) (closing_of e.link)
 all-end e =
-    of-link ends e.link (or_right (same_end (out_of e.link) (in_of e.link)) _ (or_left (same_end (in_of e.link) (in_of e.link)) _ (same_end-refl (in_of e.link))))
+    of-link ends e.link (or_right (same_end (out_of e.link) (in_of e.link)) _ (or_left (same_end (in_of e.link) (in_of e.link)) _
+        (same_end-refl (in_of e.link))))
     (or_left (same_end (out_of e.link) (out_of e.link)) _ (same_end-refl (out_of e.link))) e refl
 
 all-join : (k : ℕ) → Has (joins k) (closing_of k)
@@ -147,8 +153,10 @@ all-join k = or_left (k == k) _ (eq-eqb k k refl)
 pub record Left (g : Settings) (t : Trace) (cs : List CloseStep) (s : Plain) (e : SideId) : Type 0 where
   pub shut : is_live s e ≡ false → (side_at s e).closed ≡ false → Has (shuts e) cs
   pub gone : is_live s e ≡ true → is_live s (peer e) ≡ false → output_length g (past g t) s e ≡ 0 → Has (leaves e) cs
-  pub done : is_live s e ≡ true → is_live s (peer e) ≡ true → (side_at s e).write_ended ≡ true → (side_at s (peer e)).write_ended ≡ true → Has (joins e.link) cs
-  pub writing : is_live s e ≡ true → is_live s (peer e) ≡ true → is_complete g (past g t) s (peer e) ≡ true → (side_at s e).connecting ≡ false → (side_at s e).write_ended ≡ false → Has (ends e) cs
+  pub done : is_live s e ≡ true → is_live s (peer e) ≡ true → (side_at s e).write_ended ≡ true → (side_at s (peer e)).write_ended ≡
+      true → Has (joins e.link) cs
+  pub writing : is_live s e ≡ true → is_live s (peer e) ≡ true → is_complete g (past g t) s (peer e) ≡ true →
+      (side_at s e).connecting ≡ false → (side_at s e).write_ended ≡ false → Has (ends e) cs
 
 abbrev pub AllLeft : Settings → Trace → List CloseStep → Plain → Type 0
 AllLeft g t cs s = (e : SideId) → e.link < s.opened → Left g t cs s e
@@ -168,7 +176,8 @@ where-none : (b : Bool) (y : Entry) → entry_where b y ≡ None → b ≡ true 
 where-none true y h k = cc
 where-none false y h k = cc
 
-looked-left : (g : Settings) (t : Trace) (s : Plain) (c : CloseStep) (cs : List CloseStep) (e : SideId) → closing_entry g (past g t) s c ≡ None → Left g t (c ∷ cs) s e → Left g t cs s e
+looked-left : (g : Settings) (t : Trace) (s : Plain) (c : CloseStep) (cs : List CloseStep) (e : SideId) → closing_entry g
+    (past g t) s c ≡ None → Left g t (c ∷ cs) s e → Left g t cs s e
 looked-left g t s c cs e none h = record {
   shut = λ a b. rest (shuts e c) _ (no_shut c none a b (shuts e c) refl) (h.shut a b);
   gone = λ a b d. rest (leaves e c) _ (no_gone c none a b d (leaves e c) refl) (h.gone a b d);
@@ -179,77 +188,93 @@ looked-left g t s c cs e none h = record {
     p : Past
     p = past g t
 
-    no_shut : (c : CloseStep) → closing_entry g p s c ≡ None → is_live s e ≡ false → (side_at s e).closed ≡ false → (q : Bool) → shuts e c ≡ q → shuts e c ≡ false
+    no_shut : (c : CloseStep) → closing_entry g p s c ≡ None → is_live s e ≡ false → (side_at s e).closed ≡ false → (q : Bool) →
+        shuts e c ≡ q → shuts e c ≡ false
     no_shut c n a b false q = q
     no_shut (CloseStep.Shut z) n a b true q = absurd (
         let same = same_end-eq z e q in
         where-none (not (is_live s z) && not (side_at s z).closed) (entry.Close z) n
-        (ap (λ v. not (is_live s v) && not (side_at s v).closed) same ∙ and_from (not (is_live s e)) (not (side_at s e).closed) (ap not a) (ap not b)))
+        (ap (λ v. not (is_live s v) && not (side_at s v).closed) same ∙ and_from (not (is_live s e)) (not (side_at s e).closed)
+            (ap not a) (ap not b)))
     no_shut (CloseStep.Faulty z) n a b true q = absurd (cc)
     no_shut (CloseStep.EndWriting z) n a b true q = absurd (cc)
     no_shut (CloseStep.BothDone z) n a b true q = absurd (cc)
     no_shut (CloseStep.OutDone z) n a b true q = absurd (cc)
     no_shut (CloseStep.PeerGone z) n a b true q = absurd (cc)
 
-    no_gone : (c : CloseStep) → closing_entry g p s c ≡ None → is_live s e ≡ true → is_live s (peer e) ≡ false → output_length g p s e ≡ 0 → (q : Bool) → leaves e c ≡ q → leaves e c ≡ false
+    no_gone : (c : CloseStep) → closing_entry g p s c ≡ None → is_live s e ≡ true → is_live s (peer e) ≡ false → output_length g p
+        s e ≡ 0 → (q : Bool) → leaves e c ≡ q → leaves e c ≡ false
     no_gone c n a b d false q = q
     no_gone (CloseStep.PeerGone z) n a b d true q = absurd (
         let same = same_end-eq z e q in
         where-none (is_live s z && not (is_live s (peer z)) && output_length g p s z == 0) (freed_entry s z cause.PeerGone) n
         (ap (λ v. is_live s v && not (is_live s (peer v)) && output_length g p s v == 0) same
-        ∙ and_from (is_live s e && not (is_live s (peer e))) (output_length g p s e == 0) (and_from (is_live s e) (not (is_live s (peer e))) a (ap not b)) (eq-eqb (output_length g p s e) 0 d)))
+        ∙ and_from (is_live s e && not (is_live s (peer e))) (output_length g p s e == 0) (and_from (is_live s e)
+            (not (is_live s (peer e))) a (ap not b)) (eq-eqb (output_length g p s e) 0 d)))
     no_gone (CloseStep.Faulty z) n a b d true q = absurd (cc)
     no_gone (CloseStep.EndWriting z) n a b d true q = absurd (cc)
     no_gone (CloseStep.BothDone z) n a b d true q = absurd (cc)
     no_gone (CloseStep.OutDone z) n a b d true q = absurd (cc)
     no_gone (CloseStep.Shut z) n a b d true q = absurd (cc)
 
-    both : (i : SideId) → is_live s i ≡ true → is_live s (peer i) ≡ true → (side_at s i).write_ended ≡ true → (side_at s (peer i)).write_ended ≡ true →
+    both : (i : SideId) → is_live s i ≡ true → is_live s (peer i) ≡ true → (side_at s i).write_ended ≡ true →
+        (side_at s (peer i)).write_ended ≡ true →
         (is_live s i && is_live s (peer i) && (side_at s i).write_ended && (side_at s (peer i)).write_ended) ≡ true
     both i a b d f =
         and_from (is_live s i && is_live s (peer i) && (side_at s i).write_ended) (side_at s (peer i)).write_ended
         (and_from (is_live s i && is_live s (peer i)) (side_at s i).write_ended (and_from (is_live s i) (is_live s (peer i)) a b) d) f
 
-    all : is_live s e ≡ true → is_live s (peer e) ≡ true → (side_at s e).write_ended ≡ true → (side_at s (peer e)).write_ended ≡ true → (e ≡ in_of e.link) ⊎ (e ≡ out_of e.link) →
-        (let i = in_of e.link in (is_live s i && is_live s (peer i) && (side_at s i).write_ended && (side_at s (peer i)).write_ended) ≡ true)
-    all a b d f (inl same) = ap (λ i. is_live s i && is_live s (peer i) && (side_at s i).write_ended && (side_at s (peer i)).write_ended) (sym same) ∙ both e a b d f
+    all : is_live s e ≡ true → is_live s (peer e) ≡ true → (side_at s e).write_ended ≡ true → (side_at s (peer e)).write_ended ≡
+        true → (e ≡ in_of e.link) ⊎ (e ≡ out_of e.link) →
+        (let i = in_of e.link in (is_live s i && is_live s (peer i) && (side_at s i).write_ended &&
+            (side_at s (peer i)).write_ended) ≡ true)
+    all a b d f (inl same) = ap (λ i. is_live s i && is_live s (peer i) && (side_at s i).write_ended &&
+        (side_at s (peer i)).write_ended) (sym same) ∙ both e a b d f
     all a b d f (inr same) =
         let other : peer e ≡ in_of e.link = ap peer same in
         ap (λ i. is_live s i && is_live s (peer i) && (side_at s i).write_ended && (side_at s (peer i)).write_ended) (sym other)
         ∙ both (peer e) b (ap (λ v. is_live s v) (peer-peer e) ∙ a) f (ap (λ v. (side_at s v).write_ended) (peer-peer e) ∙ d)
 
-    no_done : (c : CloseStep) → closing_entry g p s c ≡ None → is_live s e ≡ true → is_live s (peer e) ≡ true → (side_at s e).write_ended ≡ true → (side_at s (peer e)).write_ended ≡ true →
+    no_done : (c : CloseStep) → closing_entry g p s c ≡ None → is_live s e ≡ true → is_live s (peer e) ≡ true →
+        (side_at s e).write_ended ≡ true → (side_at s (peer e)).write_ended ≡ true →
         (q : Bool) → joins e.link c ≡ q → joins e.link c ≡ false
     no_done c n a b d f false q = q
     no_done (CloseStep.BothDone k) n a b d f true q = absurd (
         let same : k ≡ e.link = eqb-true k e.link q in
         let i = in_of k in
-        where-none (is_live s i && is_live s (peer i) && (side_at s i).write_ended && (side_at s (peer i)).write_ended) (freed_entry s i cause.Done) n
-        (ap (λ v. (is_live s (in_of v) && is_live s (peer (in_of v)) && (side_at s (in_of v)).write_ended && (side_at s (peer (in_of v))).write_ended)) same ∙ all a b d f (in-or-out e)))
+        where-none (is_live s i && is_live s (peer i) && (side_at s i).write_ended && (side_at s (peer i)).write_ended)
+            (freed_entry s i cause.Done) n
+        (ap (λ v. (is_live s (in_of v) && is_live s (peer (in_of v)) && (side_at s (in_of v)).write_ended &&
+            (side_at s (peer (in_of v))).write_ended)) same ∙ all a b d f (in-or-out e)))
     no_done (CloseStep.Faulty z) n a b d f true q = absurd (cc)
     no_done (CloseStep.EndWriting z) n a b d f true q = absurd (cc)
     no_done (CloseStep.OutDone z) n a b d f true q = absurd (cc)
     no_done (CloseStep.PeerGone z) n a b d f true q = absurd (cc)
     no_done (CloseStep.Shut z) n a b d f true q = absurd (cc)
 
-    no_end : (c : CloseStep) → closing_entry g p s c ≡ None → is_live s e ≡ true → is_live s (peer e) ≡ true → is_complete g p s (peer e) ≡ true → (side_at s e).connecting ≡ false → (side_at s e).write_ended ≡ false →
+    no_end : (c : CloseStep) → closing_entry g p s c ≡ None → is_live s e ≡ true → is_live s (peer e) ≡ true → is_complete g p s
+        (peer e) ≡ true → (side_at s e).connecting ≡ false → (side_at s e).write_ended ≡ false →
         (q : Bool) → ends e c ≡ q → ends e c ≡ false
     no_end c n a b d f i false q = q
     no_end (CloseStep.EndWriting z) n a b d f i true q = absurd (
         let same = same_end-eq z e q in
         let x = side_at s e in
-        where-none ((side_at s z).live && is_live s (peer z) && is_complete g p s (peer z) && not (side_at s z).connecting && not (side_at s z).write_ended) (entry.CloseWrite z) n
-        (ap (λ v. (side_at s v).live && is_live s (peer v) && is_complete g p s (peer v) && not (side_at s v).connecting && not (side_at s v).write_ended) same
+        where-none ((side_at s z).live && is_live s (peer z) && is_complete g p s (peer z) && not (side_at s z).connecting && not
+            (side_at s z).write_ended) (entry.CloseWrite z) n
+        (ap (λ v. (side_at s v).live && is_live s (peer v) && is_complete g p s (peer v) && not (side_at s v).connecting && not
+            (side_at s v).write_ended) same
         ∙ and_from (x.live && is_live s (peer e) && is_complete g p s (peer e) && not x.connecting) (not x.write_ended)
         (and_from (x.live && is_live s (peer e) && is_complete g p s (peer e)) (not x.connecting)
-        (and_from (x.live && is_live s (peer e)) (is_complete g p s (peer e)) (and_from x.live (is_live s (peer e)) a b) d) (ap not f)) (ap not i)))
+        (and_from (x.live && is_live s (peer e)) (is_complete g p s (peer e)) (and_from x.live (is_live s (peer e)) a b) d)
+            (ap not f)) (ap not i)))
     no_end (CloseStep.Faulty z) n a b d f i true q = absurd (cc)
     no_end (CloseStep.BothDone z) n a b d f i true q = absurd (cc)
     no_end (CloseStep.OutDone z) n a b d f i true q = absurd (cc)
     no_end (CloseStep.PeerGone z) n a b d f i true q = absurd (cc)
     no_end (CloseStep.Shut z) n a b d f i true q = absurd (cc)
 
-pub quiet-left : (g : Settings) (t : Trace) (s : Plain) (x : Stage) (new : State) → Lefts g t x s → QuietKind g t s x new → Lefts g t new.stage new.plain
+pub quiet-left : (g : Settings) (t : Trace) (s : Plain) (x : Stage) (new : State) → Lefts g t x s → QuietKind g t s x new → Lefts g
+    t new.stage new.plain
 quiet-left g t s x new h (QuietKind.moved next a) = open-left g t next s a
 quiet-left g t s x new h (QuietKind.filtered) = tt
 quiet-left g t s x new h (QuietKind.dispatched) = tt

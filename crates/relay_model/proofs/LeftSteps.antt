@@ -36,22 +36,28 @@ use Rattle.relay_model.proofs.LeftLemmas.{Needs, Followed, Left, Lefts, open-lef
 -- What a step of closing leaves
 
 closed-connecting : (c : CloseStep) (s : Plain) → Keeps (λ x. x.connecting) s (closed_by c s)
-closed-connecting (CloseStep.Faulty e) s = record { time = refl; turn = refl; opened = refl; flows = refl; sides = (Keeps-put (λ x. x.connecting) e (record (side_at s e) { live = false; group = None }) s refl).sides }
+closed-connecting (CloseStep.Faulty e) s = record { time = refl; turn = refl; opened = refl; flows = refl; sides =
+    (Keeps-put (λ x. x.connecting) e (record (side_at s e) { live = false; group = None }) s refl).sides }
 closed-connecting (CloseStep.EndWriting e) s = Keeps-put (λ x. x.connecting) e _ s refl
-closed-connecting (CloseStep.BothDone k) s = record { time = refl; turn = refl; opened = refl; flows = refl; sides = (Keeps-put (λ x. x.connecting) (in_of k) (record (side_at s (in_of k)) { live = false; group = None }) s refl).sides }
-closed-connecting (CloseStep.OutDone k) s = record { time = refl; turn = refl; opened = refl; flows = refl; sides = (Keeps-put (λ x. x.connecting) (out_of k) (record (side_at s (out_of k)) { live = false; group = None }) s refl).sides }
-closed-connecting (CloseStep.PeerGone e) s = record { time = refl; turn = refl; opened = refl; flows = refl; sides = (Keeps-put (λ x. x.connecting) e (record (side_at s e) { live = false; group = None }) s refl).sides }
+closed-connecting (CloseStep.BothDone k) s = record { time = refl; turn = refl; opened = refl; flows = refl; sides =
+    (Keeps-put (λ x. x.connecting) (in_of k) (record (side_at s (in_of k)) { live = false; group = None }) s refl).sides }
+closed-connecting (CloseStep.OutDone k) s = record { time = refl; turn = refl; opened = refl; flows = refl; sides =
+    (Keeps-put (λ x. x.connecting) (out_of k) (record (side_at s (out_of k)) { live = false; group = None }) s refl).sides }
+closed-connecting (CloseStep.PeerGone e) s = record { time = refl; turn = refl; opened = refl; flows = refl; sides =
+    (Keeps-put (λ x. x.connecting) e (record (side_at s e) { live = false; group = None }) s refl).sides }
 closed-connecting (CloseStep.Shut e) s = Keeps-put (λ x. x.connecting) e _ s refl
 
 -- the bytes that an end was read stay
 reads-same : (g : Settings) (t : Trace) (y : Event) → ((e : SideId) → read_by e y ≡ []) → (past g (t ++ y ∷ [])).read ≡ (past g t).read
 reads-same g t y none = λ i e. (bytes_read-push e t y ∙ ap (λ z. bytes_read e t ++ z) (none e) ∙ append-nil (bytes_read e t)) i
 
-output-same : (g : Settings) (p q : Past) (s new : Plain) (e : SideId) → q.read ≡ p.read → new.flows ≡ s.flows → output_length g q new e ≡ output_length g p s e
+output-same : (g : Settings) (p q : Past) (s new : Plain) (e : SideId) → q.read ≡ p.read → new.flows ≡ s.flows → output_length g q
+    new e ≡ output_length g p s e
 output-same g p q s new e reads flows =
     ap (λ r. output_length g (record q { read = r }) new e) reads ∙ ap (λ f. output_length g p (record s { flows = f }) e) flows
 
-complete-same : (g : Settings) (p q : Past) (s new : Plain) (e : SideId) → q.read ≡ p.read → new.flows ≡ s.flows → (side_at new e).ended ≡ (side_at s e).ended → is_complete g q new e ≡ is_complete g p s e
+complete-same : (g : Settings) (p q : Past) (s new : Plain) (e : SideId) → q.read ≡ p.read → new.flows ≡ s.flows →
+    (side_at new e).ended ≡ (side_at s e).ended → is_complete g q new e ≡ is_complete g p s e
 complete-same g p q s new e reads flows ended =
     ap (λ r. is_complete g (record q { read = r }) new e) reads
     ∙ ap (λ f. is_complete g p (record new { flows = f }) e) flows
@@ -69,9 +75,11 @@ record StepTells (c : CloseStep) (y : Event) (s : Plain) (cs : List CloseStep) :
   is_done : (k : ℕ) → joins k c ≡ true → freed_by (in_of k) y ≡ true
   is_end : (e : SideId) → ends e c ≡ true → write_closed_by e y ≡ true
 
-step-tells : (g : Settings) (p : Past) (s : Plain) (c : CloseStep) (cs : List CloseStep) (y : Entry) → Needs c cs → FirstReady c s → ClosedKind g p s c y → StepTells c (y, []) s cs
+step-tells : (g : Settings) (p : Past) (s : Plain) (c : CloseStep) (cs : List CloseStep) (y : Entry) → Needs c cs → FirstReady c s
+    → ClosedKind g p s c y → StepTells c (y, []) s cs
 step-tells g p s c cs y needs ready (ClosedKind.faulty {z = z} a b) = record {
-  frees = λ e h. let same = same_end-eq z e h in (subst (λ v. Has (shuts v) cs) same needs.0, λ live. subst (λ v. Has (leaves (peer v)) cs) same needs.1);
+  frees = λ e h. let same = same_end-eq z e h in (subst (λ v. Has (shuts v) cs) same needs.0, λ live. subst
+      (λ v. Has (leaves (peer v)) cs) same needs.1);
   writes = λ e h. absurd (cc);
   reads = λ e. refl;
   ends_no = λ e. refl;
@@ -91,7 +99,8 @@ step-tells g p s c cs y needs ready (ClosedKind.write_ended {z = z} a b) = recor
   is_end = λ e h. h;
 }
 step-tells g p s c cs y needs ready (ClosedKind.in_done {k = k} a b d f) = record {
-  frees = λ e h. let same = same_end-eq (in_of k) e h in (subst (λ v. Has (shuts v) cs) same needs.0, λ live. subst (λ v. Has (leaves (peer v)) cs) same needs.1);
+  frees = λ e h. let same = same_end-eq (in_of k) e h in (subst (λ v. Has (shuts v) cs) same needs.0, λ live. subst
+      (λ v. Has (leaves (peer v)) cs) same needs.1);
   writes = λ e h. absurd (cc);
   reads = λ e. refl;
   ends_no = λ e. refl;
@@ -102,7 +111,8 @@ step-tells g p s c cs y needs ready (ClosedKind.in_done {k = k} a b d f) = recor
 }
 step-tells g p s c cs y needs ready (ClosedKind.out_done {k = k}) = record {
   frees = λ e h. let same = same_end-eq (out_of k) e h in
-      (subst (λ v. Has (shuts v) cs) same needs, λ live. absurd (let dead : is_live s (peer e) ≡ false = ap (λ v. is_live s (peer v)) (sym same) ∙ ready.gone in cc));
+      (subst (λ v. Has (shuts v) cs) same needs, λ live. absurd (let dead : is_live s (peer e) ≡ false = ap
+          (λ v. is_live s (peer v)) (sym same) ∙ ready.gone in cc));
   writes = λ e h. absurd (cc);
   reads = λ e. refl;
   ends_no = λ e. refl;
@@ -113,7 +123,8 @@ step-tells g p s c cs y needs ready (ClosedKind.out_done {k = k}) = record {
 }
 step-tells g p s c cs y needs ready (ClosedKind.peer_gone {z = z} a b d) = record {
   frees = λ e h. let same = same_end-eq z e h in
-      (subst (λ v. Has (shuts v) cs) same needs, λ live. absurd (let dead : is_live s (peer e) ≡ false = ap (λ v. is_live s (peer v)) (sym same) ∙ not-true (is_live s (peer z)) b in cc));
+      (subst (λ v. Has (shuts v) cs) same needs, λ live. absurd (let dead : is_live s (peer e) ≡ false = ap
+          (λ v. is_live s (peer v)) (sym same) ∙ not-true (is_live s (peer z)) b in cc));
   writes = λ e h. absurd (cc);
   reads = λ e. refl;
   ends_no = λ e. refl;
@@ -133,7 +144,8 @@ step-tells g p s c cs y needs ready (ClosedKind.shut {z = z} a b) = record {
   is_end = λ e h. absurd (cc);
 }
 
-steps-keep : (q : CloseStep → Bool) → ((k : ℕ) → q (CloseStep.OutDone k) ≡ false) → (c : CloseStep) (cs : List CloseStep) → Has q cs → Has q (steps_left c cs)
+steps-keep : (q : CloseStep → Bool) → ((k : ℕ) → q (CloseStep.OutDone k) ≡ false) → (c : CloseStep) (cs : List CloseStep) → Has q
+    cs → Has q (steps_left c cs)
 steps-keep q none (CloseStep.Faulty e) cs h = h
 steps-keep q none (CloseStep.EndWriting e) cs h = h
 steps-keep q none (CloseStep.BothDone k) cs h = or_right (q (CloseStep.OutDone k)) (list_any q cs) h
@@ -147,12 +159,14 @@ unless true b f h = absurd (let k = f refl in cc)
 unless false b f h = refl
 
 -- a side that was freed by the event, where it lived before and doesn't now
-freed-now : (e : SideId) (y : Event) (after : Stage) (old new : Seen) → SideEffect e y after old new → is_freeing after e ≡ false → old.live ≡ true → new.live ≡ false → freed_by e y ≡ true
+freed-now : (e : SideId) (y : Event) (after : Stage) (old new : Seen) → SideEffect e y after old new → is_freeing after e ≡ false →
+    old.live ≡ true → new.live ≡ false → freed_by e y ≡ true
 freed-now e y after old new k still was now_dead = go (freed_by e y) refl
   where
     go : (q : Bool) → freed_by e y ≡ q → freed_by e y ≡ true
     go true q = q
-    go false q = absurd (let v : new.live ≡ true = k.live ∙ and_from old.live (not (freed_by e y || is_freeing after e)) was (ap not (or_from (freed_by e y) (is_freeing after e) q still)) in cc)
+    go false q = absurd (let v : new.live ≡ true = k.live ∙ and_from old.live (not (freed_by e y || is_freeing after e)) was
+        (ap not (or_from (freed_by e y) (is_freeing after e) q still)) in cc)
 
 closed-left : (g : Settings) (t : Trace) (s : Plain) (c : CloseStep) (cs : List CloseStep) (y : Event) (e : SideId) →
     SideEffect e y (Closing (steps_left c cs)) (seen (side_at s e)) (seen (side_at (closed_by c s) e)) →
@@ -177,10 +191,12 @@ closed-left g t s c cs y e a b tells h = record {
       let peer_was = was-live (peer e) y after peer_old peer_new b peer_live in
       let parts = or_parts (side_at s e).write_ended (write_closed_by e y) (sym a.write_ended ∙ we) in
       let ended = b.ended ∙ sym (or_no (side_at s (peer e)).ended (ended_by (peer e) y) (tells.ends_no (peer e))) in
-      let whole = sym (complete-same g (past g t) (past g (t ++ y ∷ [])) s (closed_by c s) (peer e) reads (closed-flows c s) ended) ∙ complete in
+      let whole = sym (complete-same g (past g t) (past g (t ++ y ∷ [])) s (closed_by c s) (peer e) reads (closed-flows c s) ended)
+          ∙ complete in
       let linked = sym (Keeps-side (λ x. x.connecting) s (closed_by c s) e (closed-connecting c s)) ∙ connected in
       steps-keep (ends e) (λ k. refl) c cs
-      (rest (ends e c) _ (unless (ends e c) (write_closed_by e y) (tells.is_end e) parts.1) (h.writing was.0 peer_was.0 whole linked parts.0));
+      (rest (ends e c) _ (unless (ends e c) (write_closed_by e y) (tells.is_end e) parts.1)
+          (h.writing was.0 peer_was.0 whole linked parts.0));
 }
   where
     after : Stage
@@ -201,24 +217,31 @@ closed-left g t s c cs y e a b tells h = record {
     reads : (past g (t ++ y ∷ [])).read ≡ (past g t).read
     reads = reads-same g t y tells.reads
 
-    shut : is_live (closed_by c s) e ≡ false → (side_at s e).closed ≡ false → end_closed_by e y ≡ false → (q : Bool) → is_live s e ≡ q → Has (shuts e) cs
-    shut dead unclosed no_close false q = rest (shuts e c) _ (unless (shuts e c) (end_closed_by e y) (tells.is_shut e) no_close) (h.shut q unclosed)
+    shut : is_live (closed_by c s) e ≡ false → (side_at s e).closed ≡ false → end_closed_by e y ≡ false → (q : Bool) → is_live s e
+        ≡ q → Has (shuts e) cs
+    shut dead unclosed no_close false q = rest (shuts e c) _ (unless (shuts e c) (end_closed_by e y) (tells.is_shut e) no_close)
+        (h.shut q unclosed)
     shut dead unclosed no_close true q = (tells.frees e (freed-now e y after old new a refl q dead)).0
 
-    gone : is_live s e ≡ true → freed_by e y ≡ false → is_live (closed_by c s) (peer e) ≡ false → output_length g (past g t) s e ≡ 0 → (q : Bool) → is_live s (peer e) ≡ q → Has (leaves e) cs
-    gone live unfreed dead none false q = rest (leaves e c) _ (unless (leaves e c) (freed_by e y) (tells.is_gone e) unfreed) (h.gone live q none)
+    gone : is_live s e ≡ true → freed_by e y ≡ false → is_live (closed_by c s) (peer e) ≡ false → output_length g (past g t) s e ≡
+        0 → (q : Bool) → is_live s (peer e) ≡ q → Has (leaves e) cs
+    gone live unfreed dead none false q = rest (leaves e c) _ (unless (leaves e c) (freed_by e y) (tells.is_gone e) unfreed)
+        (h.gone live q none)
     gone live unfreed dead none true q =
         subst (λ v. Has (leaves v) cs) (peer-peer e)
         ((tells.frees (peer e) (freed-now (peer e) y after peer_old peer_new b refl q dead)).1 (ap (λ v. is_live s v) (peer-peer e) ∙ live))
 
-    no_join : freed_by e y ≡ false → freed_by (peer e) y ≡ false → (e ≡ in_of e.link) ⊎ (e ≡ out_of e.link) → freed_by (in_of e.link) y ≡ false
+    no_join : freed_by e y ≡ false → freed_by (peer e) y ≡ false → (e ≡ in_of e.link) ⊎ (e ≡ out_of e.link) → freed_by
+        (in_of e.link) y ≡ false
     no_join m n (inl same) = ap (λ v. freed_by v y) (sym same) ∙ m
     no_join m n (inr same) = ap (λ v. freed_by v y) (sym (ap peer same)) ∙ n
 
     done : is_live s e ≡ true → freed_by e y ≡ false → is_live s (peer e) ≡ true → freed_by (peer e) y ≡ false →
-        ((side_at s e).write_ended ≡ true) ⊎ (write_closed_by e y ≡ true) → ((side_at s (peer e)).write_ended ≡ true) ⊎ (write_closed_by (peer e) y ≡ true) → Has (joins e.link) cs
+        ((side_at s e).write_ended ≡ true) ⊎ (write_closed_by e y ≡ true) → ((side_at s (peer e)).write_ended ≡ true) ⊎
+            (write_closed_by (peer e) y ≡ true) → Has (joins e.link) cs
     done live m peer_live n (inl we) (inl peer_we) =
-        rest (joins e.link c) _ (unless (joins e.link c) (freed_by (in_of e.link) y) (tells.is_done e.link) (no_join m n (in-or-out e))) (h.done live peer_live we peer_we)
+        rest (joins e.link c) _ (unless (joins e.link c) (freed_by (in_of e.link) y) (tells.is_done e.link)
+            (no_join m n (in-or-out e))) (h.done live peer_live we peer_we)
     done live m peer_live n (inr now_closed) o = tells.writes e now_closed
     done live m peer_live n (inl we) (inr now_closed) = tells.writes (peer e) now_closed
 
@@ -230,7 +253,8 @@ followed-left (CloseStep.OutDone k) cs h = h.1
 followed-left (CloseStep.PeerGone e) cs h = h.1
 followed-left (CloseStep.Shut e) cs h = h.1
 
-put-left : (g : Settings) (t : Trace) (s : Plain) (x : Stage) (y : Event) (new : State) → DoneReady x s → Effect g x s y new.stage new.plain → Lefts g t x s → PutKind g t s x y new → Lefts g (t ++ y ∷ []) new.stage new.plain
+put-left : (g : Settings) (t : Trace) (s : Plain) (x : Stage) (y : Event) (new : State) → DoneReady x s → Effect g x s y new.stage
+    new.plain → Lefts g t x s → PutKind g t s x y new → Lefts g (t ++ y ∷ []) new.stage new.plain
 put-left g t s x y new ready k h (PutKind.turned a b) = tt
 put-left g t s x y new ready k h (PutKind.polled) = tt
 put-left g t s x y new ready k h (PutKind.wanted a) = tt
@@ -238,7 +262,8 @@ put-left g t s x y new ready k h (PutKind.poll_failed) = tt
 put-left g t s x y new ready k h (PutKind.readied a) = tt
 put-left g t s x y new ready k h (PutKind.opened) = tt
 put-left g t s x y new ready k h (PutKind.checked a) = tt
-put-left g t s x y new ready k h (PutKind.was_read {side = side} {answer = answer} left a b) = open-left g _ (after_reading side answer left) _ (reading-open side answer left)
+put-left g t s x y new ready k h (PutKind.was_read {side = side} {answer = answer} left a b) = open-left g _
+    (after_reading side answer left) _ (reading-open side answer left)
 put-left g t s x y new ready k h (PutKind.written a b c) = tt
 put-left g t s x y new ready k h (PutKind.fired a) = tt
 put-left g t s x y new ready k h (PutKind.frees a same) = tt
@@ -254,15 +279,18 @@ put-left g t s x y new ready k h (PutKind.closed {c = c} {cs = cs} {e = z} a) =
 
 lefts : (g : Settings) (t : Trace) (s : State) → Reaches g t s → Lefts g t s.stage s.plain
 lefts g t s (Reaches.begins) = λ e lt. absurd (omega arith)
-lefts g t new (Reaches.goes {t = u} {s = old} r h) = quiet-left g u old.plain old.stage new (lefts g u old r) (quiet-kind g u old.stage old.plain new h)
+lefts g t new (Reaches.goes {t = u} {s = old} r h) = quiet-left g u old.plain old.stage new (lefts g u old r)
+    (quiet-kind g u old.stage old.plain new h)
 lefts g t new (Reaches.puts {t = u} {s = old} e bytes r h) =
     let c = kept g u old r in
-    put-left g u old.plain old.stage (e, bytes) new (held g u old r).ready (put-effect g u old.stage old.plain e bytes new c.counts.shape.sides c.placed h) (lefts g u old r)
+    put-left g u old.plain old.stage (e, bytes) new (held g u old r).ready (put-effect g u old.stage old.plain e bytes new
+        c.counts.shape.sides c.placed h) (lefts g u old r)
     (put-kind g u old.stage old.plain e bytes new c.placed h)
 
 pub nothing_is_left : NothingIsLeft
 nothing_is_left g t s e r lt = record {
-  writing = λ live peer_live complete connected. true-unless (side_at s e).write_ended (λ f. let k = left.writing live peer_live complete connected f in absurd (cc));
+  writing = λ live peer_live complete connected. true-unless (side_at s e).write_ended (λ f. let k = left.writing live peer_live
+      complete connected f in absurd (cc));
   done = λ live peer_live we. false-unless (side_at s (peer e)).write_ended (λ f. let k = left.done live peer_live we f in absurd (cc));
   peer_gone = λ live dead. above (output_length g (past g t) s e) (λ f. let k = left.gone live dead f in absurd (cc));
   shut = λ dead. true-unless (side_at s e).closed (λ f. let k = left.shut dead f in absurd (cc));

@@ -68,7 +68,8 @@ first_from-good f xs stop next n (suc left) good = by_flag (first_from-good f xs
     by_flag rest false e = rest (next n e)
 
 -- the read filter uses good bytes alone
-pub used-good : (r : Filter) (read : List ℕ) (mark : ℕ) (f : Flow) → r.bad (take f.used read) ≡ None → r.bad (take (with_used r read mark f).used read) ≡ None
+pub used-good : (r : Filter) (read : List ℕ) (mark : ℕ) (f : Flow) → r.bad (take f.used read) ≡ None → r.bad
+    (take (with_used r read mark f).used read) ≡ None
 used-good r read mark f good =
     first_from-good r read (read_stops r read mark f)
     (λ n e. none_or _ (right_false (nat_le mark (length (input r read (record f { used = n })))) _ e))
@@ -93,17 +94,20 @@ turned-good r w read hold f good = by_held f.held
     by_held false = goes_on
 
 -- once the side is freed, a round lets what was moved stand still
-pub drain-stands_still : (r w : Filter) (read : List ℕ) (hold : ℕ) (f : Flow) → StandsStill f (with_turned r w read hold (with_held r w read hold f))
+pub drain-stands_still : (r w : Filter) (read : List ℕ) (hold : ℕ) (f : Flow) → StandsStill f
+    (with_turned r w read hold (with_held r w read hold f))
 drain-stands_still r w read hold f = by_held (with_held r w read hold f).held
   where
     now : Flow
     now = with_held r w read hold f
 
-    by_held : (b : Bool) → StandsStill f (if b then now else record now { turned = first_from (write_stops r w read hold now) now.turned (now.moved - now.turned) })
+    by_held : (b : Bool) → StandsStill f (if b then now else record now { turned = first_from (write_stops r w read hold now)
+        now.turned (now.moved - now.turned) })
     by_held true = record { moved = refl; read_done = refl; write_done = refl }
     by_held false = record { moved = refl; read_done = refl; write_done = refl }
 
-module _ (r w : Filter) (t : Trace) (from : SideId) (read taken : List ℕ) (ended : Bool) (f : Flow) (c : Accounted r w t from read taken ended f) where
+module _ (r w : Filter) (t : Trace) (from : SideId) (read taken : List ℕ) (ended : Bool) (f : Flow)
+    (c : Accounted r w t from read taken ended f) where
   pub used-keeps : PrefixLaw r → (mark : ℕ) → Accounted r w t from read taken ended (with_used r read mark f)
   used-keeps law mark = by_flag f.read_done refl
     where
@@ -132,7 +136,8 @@ module _ (r w : Filter) (t : Trace) (from : SideId) (read taken : List ℕ) (end
   pub read_done-keeps : PrefixLaw r → (mark : ℕ) → Accounted r w t from read taken ended (with_read_done r read mark ended f)
   read_done-keeps law mark = by_flag f.read_done refl _ refl
     where
-      by_flag : (b : Bool) → f.read_done ≡ b → (x : Bool) → (ended && f.used == length read && is_over r read (nat_lt (length (input r read f)) mark)) ≡ x →
+      by_flag : (b : Bool) → f.read_done ≡ b → (x : Bool) → (ended && f.used == length read && is_over r read
+          (nat_lt (length (input r read f)) mark)) ≡ x →
           Accounted r w t from read taken ended (record f { read_done = b || x })
       by_flag true e x h = subst (λ b. Accounted r w t from read taken ended (record f { read_done = b })) e c
       by_flag false e false h = subst (λ b. Accounted r w t from read taken ended (record f { read_done = b })) e c
@@ -151,7 +156,8 @@ module _ (r w : Filter) (t : Trace) (from : SideId) (read taken : List ℕ) (end
           let k = c.fits.moved in
           let same : f.moved + (length (middle r read f) - f.moved) ≡ length (middle r read f) = omega arith in
           subst (λ n. Accounted r w t from read taken ended (record f { moved = n })) same
-          (accounted-moved r w t from read taken ended f c (length (middle r read f) - f.moved) e (omega (arith, length-drop f.moved (middle r read f))) not_freed)
+          (accounted-moved r w t from read taken ended f c (length (middle r read f) - f.moved) e
+              (omega (arith, length-drop f.moved (middle r read f))) not_freed)
 
       by_test : (b : Bool) → Accounted r w t from read taken ended (if b then record f { moved = length (middle r read f) } else f)
       by_test true = all_moved_now f.write_done refl
@@ -195,7 +201,8 @@ module _ (r w : Filter) (t : Trace) (from : SideId) (read taken : List ℕ) (end
       room : Bool
       room = nat_lt (length (raw_output r w read f)) hold
 
-      by_flag : (b : Bool) → f.write_done ≡ b → (x : Bool) → (all_moved r read f && f.turned == f.moved && is_over w (middle r read f) room) ≡ x →
+      by_flag : (b : Bool) → f.write_done ≡ b → (x : Bool) → (all_moved r read f && f.turned == f.moved && is_over w
+          (middle r read f) room) ≡ x →
           Accounted r w t from read taken ended (record f { write_done = b || x })
       by_flag true e x h = subst (λ b. Accounted r w t from read taken ended (record f { write_done = b })) e c
       by_flag false e false h = subst (λ b. Accounted r w t from read taken ended (record f { write_done = b })) e c
@@ -206,6 +213,7 @@ module _ (r w : Filter) (t : Trace) (from : SideId) (read taken : List ℕ) (end
           (eqb-true f.turned f.moved k.1) (eqb-true f.moved (length (middle r read f)) all.1) (over-good w (middle r read f) room k.2)
 
       by_held : (b : Bool) → Accounted r w t from read taken ended
-          (if b then f else record f { write_done = f.write_done || (all_moved r read f && f.turned == f.moved && is_over w (middle r read f) room) })
+          (if b then f else record f { write_done = f.write_done || (all_moved r read f && f.turned == f.moved && is_over w
+              (middle r read f) room) })
       by_held true = c
       by_held false = by_flag f.write_done refl _ refl

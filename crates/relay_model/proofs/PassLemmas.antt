@@ -16,7 +16,8 @@ first_from-stays : (stop : ℕ → Bool) (n left : ℕ) → first_from stop n le
 first_from-stays stop n zero h = inl refl
 first_from-stays stop n (suc left) h = by_flag (first_from-above stop (n + 1) left) (stop n) refl h
   where
-    by_flag : n + 1 ≤ first_from stop (n + 1) left → (b : Bool) → stop n ≡ b → (if b then n else first_from stop (n + 1) left) ≡ n → (suc left ≡ 0) ⊎ (stop n ≡ true)
+    by_flag : n + 1 ≤ first_from stop (n + 1) left → (b : Bool) → stop n ≡ b → (if b then n else first_from stop (n + 1) left) ≡ n
+        → (suc left ≡ 0) ⊎ (stop n ≡ true)
     by_flag above true e k = inr e
     by_flag above false e k = absurd (omega arith)
 
@@ -25,16 +26,19 @@ either_true true b h = inl refl
 either_true false b h = inr h
 
 -- with room and a byte left, a filter that meets nothing has a good next byte
-met-none : (f : Filter) (xs : List ℕ) (used : ℕ) (over room : Bool) → room ≡ true → used < length xs → met f xs used over room ≡ None → f.bad (take (used + 1) xs) ≡ None
+met-none : (f : Filter) (xs : List ℕ) (used : ℕ) (over room : Bool) → room ≡ true → used < length xs → met f xs used over room ≡
+    None → f.bad (take (used + 1) xs) ≡ None
 met-none f xs used over room is_room left h =
     let next : nat_lt used (length xs) ≡ true = lt-ltb used (length xs) left in
     sym
-    (ap (λ b. if b then (if nat_lt used (length xs) then f.bad (take (used + 1) xs) else (if over then f.bad_at_end xs else None)) else None) is_room
+    (ap (λ b. if b then (if nat_lt used (length xs) then f.bad (take (used + 1) xs) else (if over then f.bad_at_end xs else None))
+        else None) is_room
     ∙ ap (λ b. if b then f.bad (take (used + 1) xs) else (if over then f.bad_at_end xs else None)) next)
     ∙ h
 
 -- a field of either of two values that share it
-of_both : {A : Type 0} (field : Flow → A) (b : Bool) (x y z : Flow) → field x ≡ field z → field y ≡ field z → field (if b then x else y) ≡ field z
+of_both : {A : Type 0} (field : Flow → A) (b : Bool) (x y z : Flow) → field x ≡ field z → field y ≡ field z → field
+    (if b then x else y) ≡ field z
 of_both field true x y z p q = p
 of_both field false x y z p q = q
 
@@ -61,21 +65,26 @@ module _ (r w : Filter) (read : List ℕ) (ended : Bool) (mark hold : ℕ) (f : 
   after_5 : {A : Type 0} (field : Flow → A) → ((x : Flow) (b : Bool) → field (record x { write_done = b }) ≡ field x) → field f5 ≡ field f
   after_5 field keeps = sym (of_both field f5.held f5 _ f5 refl (keeps f5 _)) ∙ ap field still
 
-  after_4 : {A : Type 0} (field : Flow → A) → ((x : Flow) (b : Bool) → field (record x { write_done = b }) ≡ field x) → ((x : Flow) (n : ℕ) → field (record x { turned = n }) ≡ field x) → field f4 ≡ field f
+  after_4 : {A : Type 0} (field : Flow → A) → ((x : Flow) (b : Bool) → field (record x { write_done = b }) ≡ field x) →
+      ((x : Flow) (n : ℕ) → field (record x { turned = n }) ≡ field x) → field f4 ≡ field f
   after_4 field keeps keeps_turned = sym (of_both field f4.held f4 _ f4 refl (keeps_turned f4 _)) ∙ after_5 field keeps
 
-  after_3 : {A : Type 0} (field : Flow → A) → ((x : Flow) (b : Bool) → field (record x { write_done = b }) ≡ field x) → ((x : Flow) (n : ℕ) → field (record x { turned = n }) ≡ field x) →
+  after_3 : {A : Type 0} (field : Flow → A) → ((x : Flow) (b : Bool) → field (record x { write_done = b }) ≡ field x) →
+      ((x : Flow) (n : ℕ) → field (record x { turned = n }) ≡ field x) →
       ((x : Flow) (n : ℕ) → field (record x { moved = n }) ≡ field x) → field f3 ≡ field f
-  after_3 field keeps keeps_turned keeps_moved = sym (of_both field _ (record f3 { moved = length (middle r read f3) }) f3 f3 (keeps_moved f3 _) refl) ∙ after_4 field keeps keeps_turned
+  after_3 field keeps keeps_turned keeps_moved = sym (of_both field _ (record f3 { moved = length (middle r read f3) }) f3 f3
+      (keeps_moved f3 _) refl) ∙ after_4 field keeps keeps_turned
 
   is_1 : f1 ≡ f
   is_1 = ap (λ b. record f { held = b }) (after_3 (λ x. x.held) (λ x b. refl) (λ x n. refl) (λ x n. refl))
 
   pub is_2 : f2 ≡ f
-  is_2 = ap (λ n. record f1 { used = n }) (after_3 (λ x. x.used) (λ x b. refl) (λ x n. refl) (λ x n. refl)) ∙ ap (λ (x : Flow). record x { used = f.used }) is_1
+  is_2 = ap (λ n. record f1 { used = n }) (after_3 (λ x. x.used) (λ x b. refl) (λ x n. refl) (λ x n. refl)) ∙ ap
+      (λ (x : Flow). record x { used = f.used }) is_1
 
   is_3 : f3 ≡ f
-  is_3 = ap (λ b. record f2 { read_done = b }) (after_3 (λ x. x.read_done) (λ x b. refl) (λ x n. refl) (λ x n. refl)) ∙ ap (λ (x : Flow). record x { read_done = f.read_done }) is_2
+  is_3 = ap (λ b. record f2 { read_done = b }) (after_3 (λ x. x.read_done) (λ x b. refl) (λ x n. refl) (λ x n. refl)) ∙ ap
+      (λ (x : Flow). record x { read_done = f.read_done }) is_2
 
   is_4 : f4 ≡ f
   is_4 =
@@ -97,7 +106,8 @@ module _ (r w : Filter) (read : List ℕ) (ended : Bool) (mark hold : ℕ) (f : 
       stop : ℕ
       stop = first_from (write_stops r w read hold f4) f4.turned (f4.moved - f4.turned)
 
-      by_held : (b : Bool) → (if b then f4 else record f4 { turned = stop }) ≡ record f4 { turned = (if b then f4 else record f4 { turned = stop }).turned }
+      by_held : (b : Bool) → (if b then f4 else record f4 { turned = stop }) ≡ record f4 { turned =
+          (if b then f4 else record f4 { turned = stop }).turned }
       by_held true = refl
       by_held false = refl
 
@@ -128,7 +138,8 @@ passing_ends r w read ended mark hold f mark_some hold_some fits good_in good_ou
     held : f.held ≡ true → hold / 2 < full
     held h = by_test (nat_le hold full) refl (nat_le full (hold / 2)) refl (held_is ∙ h)
       where
-        by_test : (a : Bool) → nat_le hold full ≡ a → (b : Bool) → nat_le full (hold / 2) ≡ b → (if a then true else (if b then false else f.held)) ≡ true → hold / 2 < full
+        by_test : (a : Bool) → nat_le hold full ≡ a → (b : Bool) → nat_le full (hold / 2) ≡ b →
+            (if a then true else (if b then false else f.held)) ≡ true → hold / 2 < full
         by_test true p b q k = let le = leb-true hold full p in omega arith
         by_test false p true q k = absurd (cc)
         by_test false p false q k = leb-false full (hold / 2) q
@@ -136,7 +147,8 @@ passing_ends r w read ended mark hold f mark_some hold_some fits good_in good_ou
     below : f.held ≡ false → full < hold
     below h = by_test (nat_le hold full) refl (held_is ∙ h)
       where
-        by_test : (a : Bool) → nat_le hold full ≡ a → (if a then true else (if nat_le full (hold / 2) then false else f.held)) ≡ false → full < hold
+        by_test : (a : Bool) → nat_le hold full ≡ a → (if a then true else (if nat_le full (hold / 2) then false else f.held)) ≡
+            false → full < hold
         by_test true p k = absurd (cc)
         by_test false p k = leb-false hold full p
 
@@ -150,7 +162,8 @@ passing_ends r w read ended mark hold f mark_some hold_some fits good_in good_ou
 
     turned_is : f.held ≡ false → first_from (write_stops r w read hold f) f.turned (f.moved - f.turned) ≡ f.turned
     turned_is h =
-        ap (λ b. (if b then f else record f { turned = first_from (write_stops r w read hold f) f.turned (f.moved - f.turned) }).turned) (sym h)
+        ap (λ b. (if b then f else record f { turned = first_from (write_stops r w read hold f) f.turned (f.moved - f.turned)
+            }).turned) (sym h)
         ∙ ap (λ x. x.turned) (still_turned r w read ended mark hold f still)
 
     all_turned : f.held ≡ false → f.turned ≡ f.moved
@@ -172,7 +185,8 @@ passing_ends r w read ended mark hold f mark_some hold_some fits good_in good_ou
         by_order false p = let le = fits.turned in let ge = ltb-false f.turned f.moved p in omega arith
 
     no_output : f.held ≡ false → output r read f ≡ []
-    no_output h = drop_of_length-le (take f.moved xs) (let here = length-take-le f.moved xs fits.moved in let all = all_turned h in omega arith)
+    no_output h = drop_of_length-le (take f.moved xs) (let here = length-take-le f.moved xs fits.moved in let all = all_turned h in
+        omega arith)
 
     moves : f.held ≡ false → (not f.held && length (output r read f) == 0) ≡ true
     moves h = ap (λ b. not b && length (output r read f) == 0) h ∙ eq-eqb (length (output r read f)) 0 (ap length (no_output h))
@@ -197,12 +211,14 @@ passing_ends r w read ended mark hold f mark_some hold_some fits good_in good_ou
               | inl p ↦ absurd (let le = leb-true mark (length (input r read f)) p in let lt = room in omega arith)
               | inr q ↦
                   absurd
-                  (let good = ap is_some (met-none r read f.used ended (nat_lt (length (input r read f)) mark) (lt-ltb (length (input r read f)) mark room) lt good_in) in cc)
+                  (let good = ap is_some (met-none r read f.used ended (nat_lt (length (input r read f)) mark)
+                      (lt-ltb (length (input r read f)) mark room) lt good_in) in cc)
             ]
 
         by_order : (b : Bool) → nat_lt f.used (length read) ≡ b → f.used ≡ length read
         by_order true p =
-            elim (first_from-stays (read_stops r read mark f) f.used (length read - f.used) (ap (λ x. x.used) (still_used r w read ended mark hold f still))) [
+            elim (first_from-stays (read_stops r read mark f) f.used (length read - f.used)
+                (ap (λ x. x.used) (still_used r w read ended mark hold f still))) [
               | inl q ↦ (let le = fits.used in omega arith)
               | inr q ↦ stops (ltb-true f.used (length read) p) q
             ]

@@ -85,7 +85,8 @@ spells-moves (Moves m ∷ bs) n = spells-moves bs n
 
 -- Sides
 
-pub beats-push : (e : SideId) (d : Dir) (t : Trace) (x : Event) → map (beat_of e d) (t ++ x ∷ []) ≡ map (beat_of e d) t ++ beat_of e d x ∷ []
+pub beats-push : (e : SideId) (d : Dir) (t : Trace) (x : Event) → map (beat_of e d) (t ++ x ∷ []) ≡ map (beat_of e d) t ++ beat_of
+    e d x ∷ []
 beats-push e d [] x = refl
 beats-push e d (y ∷ t) x = ap (λ z. beat_of e d y ∷ z) (beats-push e d t x)
 
@@ -99,11 +100,13 @@ beat_of-still e dir.Write (entry.Read side room (read.Got n), bytes) h = cc
 beat_of-still e dir.Write (entry.Write side offered (write.Took n), bytes) h = cc
 beat_of-still e dir.Write _ h = refl
 
-pub side_spells-still : (e : SideId) (d : Dir) (t : Trace) (x : Event) → is_still x ≡ true → side_spells e d (t ++ x ∷ []) ≡ side_spells e d t
+pub side_spells-still : (e : SideId) (d : Dir) (t : Trace) (x : Event) → is_still x ≡ true → side_spells e d (t ++ x ∷ []) ≡
+    side_spells e d t
 side_spells-still e d t x h =
     ap spells (beats-push e d t x ∙ ap (λ z. map (beat_of e d) t ++ z ∷ []) (beat_of-still e d x h)) ∙ spells-still (map (beat_of e d) t)
 
-pub side_spells-turn : (e : SideId) (d : Dir) (t : Trace) (ms : ℕ) (bytes : List ℕ) → side_spells e d (t ++ (entry.Turn ms, bytes) ∷ []) ≡ side_spells e d t ++ record { time = ms; moved = 0 } ∷ []
+pub side_spells-turn : (e : SideId) (d : Dir) (t : Trace) (ms : ℕ) (bytes : List ℕ) → side_spells e d
+    (t ++ (entry.Turn ms, bytes) ∷ []) ≡ side_spells e d t ++ record { time = ms; moved = 0 } ∷ []
 side_spells-turn e d t ms bytes = ap spells (beats-push e d t (entry.Turn ms, bytes)) ∙ spells-begins (map (beat_of e d) t) ms
 
 -- Groups
@@ -117,7 +120,8 @@ pub beats_among-push : (g : Settings) (n : ℕ) (d : Dir) (before t : Trace) (x 
 beats_among-push g n d before [] x = ap (λ z. beat_among g n d z x ∷ []) (sym (append-nil before))
 beats_among-push g n d before (y ∷ t) x =
     ap (λ z. beat_among g n d before y ∷ z)
-    (beats_among-push g n d (before ++ y ∷ []) t x ∙ ap (λ z. beats_among g n d (before ++ y ∷ []) t ++ beat_among g n d z x ∷ []) (append_assoc before (y ∷ []) t))
+    (beats_among-push g n d (before ++ y ∷ []) t x ∙ ap (λ z. beats_among g n d (before ++ y ∷ []) t ++ beat_among g n d z x ∷ [])
+        (append_assoc before (y ∷ []) t))
 
 pub beat_among-still : (g : Settings) (n : ℕ) (d : Dir) (t : Trace) (x : Event) → is_still x ≡ true → beat_among g n d t x ≡ Moves 0
 beat_among-still g n d t (entry.Turn ms, bytes) h = cc
@@ -129,13 +133,16 @@ beat_among-still g n dir.Read t (entry.Write side offered _, bytes) h = ap Moves
 beat_among-still g n dir.Write t (entry.Write side offered _, bytes) h = ap Moves (either_zero (same_group (group_after g side t) n))
 beat_among-still g n d t _ h = refl
 
-pub group_spells-still : (g : Settings) (n : ℕ) (d : Dir) (t : Trace) (x : Event) → is_still x ≡ true → group_spells g n d (t ++ x ∷ []) ≡ group_spells g n d t
+pub group_spells-still : (g : Settings) (n : ℕ) (d : Dir) (t : Trace) (x : Event) → is_still x ≡ true → group_spells g n d
+    (t ++ x ∷ []) ≡ group_spells g n d t
 group_spells-still g n d t x h =
-    ap spells (beats_among-push g n d [] t x ∙ ap (λ z. beats_among g n d [] t ++ z ∷ []) (beat_among-still g n d t x h)) ∙ spells-still (beats_among g n d [] t)
+    ap spells (beats_among-push g n d [] t x ∙ ap (λ z. beats_among g n d [] t ++ z ∷ []) (beat_among-still g n d t x h)) ∙
+        spells-still (beats_among g n d [] t)
 
 pub group_spells-turn : (g : Settings) (n : ℕ) (d : Dir) (t : Trace) (ms : ℕ) (bytes : List ℕ) →
     group_spells g n d (t ++ (entry.Turn ms, bytes) ∷ []) ≡ group_spells g n d t ++ record { time = ms; moved = 0 } ∷ []
-group_spells-turn g n d t ms bytes = ap spells (beats_among-push g n d [] t (entry.Turn ms, bytes)) ∙ spells-begins (beats_among g n d [] t) ms
+group_spells-turn g n d t ms bytes = ap spells (beats_among-push g n d [] t (entry.Turn ms, bytes)) ∙ spells-begins
+    (beats_among g n d [] t) ms
 
 -- The past
 

@@ -53,14 +53,16 @@ may_write-live s e h =
 pub room-read : (g : Settings) (p : Past) (s : Plain) (e : SideId) → nat_le 1 (read_room g p s e) ≡ true → may_read s e ≡ true
 room-read g p s e h = go (may_read s e) refl h
   where
-    go : (b : Bool) → may_read s e ≡ b → nat_le 1 (if b then within_rates g p s e dir.Read (min most_at_once (read_mark s e - input_length g p s e)) else 0) ≡ true → may_read s e ≡ true
+    go : (b : Bool) → may_read s e ≡ b → nat_le 1 (if b then within_rates g p s e dir.Read
+        (min most_at_once (read_mark s e - input_length g p s e)) else 0) ≡ true → may_read s e ≡ true
     go true e h = e
     go false e h = absurd (cc)
 
 pub room-write : (g : Settings) (p : Past) (s : Plain) (e : SideId) → nat_le 1 (write_room g p s e) ≡ true → may_write s e ≡ true
 room-write g p s e h = go (may_write s e) refl h
   where
-    go : (b : Bool) → may_write s e ≡ b → nat_le 1 (if b then within_rates g p s e dir.Write (min most_at_once (length (raw_output_at g p s e))) else 0) ≡ true → may_write s e ≡ true
+    go : (b : Bool) → may_write s e ≡ b → nat_le 1 (if b then within_rates g p s e dir.Write
+        (min most_at_once (length (raw_output_at g p s e))) else 0) ≡ true → may_write s e ≡ true
     go true e h = e
     go false e h = absurd (cc)
 
@@ -89,7 +91,8 @@ wanted-live g p s = go (all_sides s)
     one e (inl k) = wants-live g p s e dir.Read k
     one e (inr k) = wants-live g p s e dir.Write k
 
-    keep : (e : SideId) (rest : List Want) → AllLive s rest → (b : Bool) → some (want_of g p s e) ≡ b → AllLive s (if b then want_of g p s e ∷ rest else rest)
+    keep : (e : SideId) (rest : List Want) → AllLive s rest → (b : Bool) → some (want_of g p s e) ≡ b → AllLive s
+        (if b then want_of g p s e ∷ rest else rest)
     keep e rest h true k = (one e (or_cases (wants g p s e dir.Read) (wants g p s e dir.Write) k), h)
     keep e rest h false k = h
 

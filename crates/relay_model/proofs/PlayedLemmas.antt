@@ -23,7 +23,8 @@ is_empty (x ∷ xs) = false
 -- No link waits wherever accepting has ended.
 abbrev pub none_waits : List ScriptTurn → Trace → Trace → Bool
 none_waits turns before [] = true
-none_waits turns before (x ∷ t) = (if is_behind_accepting x then is_empty (waiting turns before) else true) && none_waits turns (before ++ x ∷ []) t
+none_waits turns before (x ∷ t) = (if is_behind_accepting x then is_empty (waiting turns before) else true) && none_waits turns
+    (before ++ x ∷ []) t
 
 both_true : (a b : Bool) → (a && b) ≡ true → (a ≡ true) × (b ≡ true)
 both_true true b h = (refl, h)
@@ -34,12 +35,14 @@ empty_is_nil [] h = refl
 empty_is_nil (x ∷ xs) h = absurd (false≢true h)
 
 module _ (turns : List ScriptTurn) (links : ℕ) where
-  by_test : (before : Trace) (b : Bool) → (if b then is_empty (waiting turns before) else true) ≡ true → MatchBool b (TookAll turns links before) ⊤
+  by_test : (before : Trace) (b : Bool) → (if b then is_empty (waiting turns before) else true) ≡ true → MatchBool b
+      (TookAll turns links before) ⊤
   by_test before true h = inl (empty_is_nil (waiting turns before) h)
   by_test before false h = tt
 
   pub always_took : (before t : Trace) → none_waits turns before t ≡ true → AlwaysTookAll turns links before t
   always_took before [] h = tt
   always_took before (x ∷ t) h =
-      let parts = both_true (if is_behind_accepting x then is_empty (waiting turns before) else true) (none_waits turns (before ++ x ∷ []) t) h in
+      let parts = both_true (if is_behind_accepting x then is_empty (waiting turns before) else true)
+          (none_waits turns (before ++ x ∷ []) t) h in
       (by_test before (is_behind_accepting x) parts.0, always_took (before ++ x ∷ []) t parts.1)

@@ -33,7 +33,8 @@ module _ (e : SideId) where
   silent-append : (t u : Trace) → IsSilent t → IsSilent u → IsSilent (t ++ u)
   silent-append t u h k = record {
     reads = bytes_read-append e t u ∙ ap (λ z. z ++ bytes_read e u) h.reads ∙ k.reads;
-    turns = let parts = sum_by-append (λ x. if is_turn x then 1 else 0) t u in let left = h.turns in let right = k.turns in omega (arith, parts, left, right);
+    turns = let parts = sum_by-append (λ x. if is_turn x then 1 else 0) t u in let left = h.turns in let right = k.turns in
+        omega (arith, parts, left, right);
   }
 
   silent-cons : (x : Event) (t : Trace) → IsSilent (x ∷ []) → IsSilent t → IsSilent (x ∷ t)
@@ -41,11 +42,13 @@ module _ (e : SideId) where
 
   silent-wants : (ws : List Want) → IsSilent (want_events ws)
   silent-wants [] = record { reads = refl; turns = refl }
-  silent-wants (w ∷ ws) = silent-cons (entry.Want w.side w.read w.write, []) (want_events ws) (record { reads = refl; turns = refl }) (silent-wants ws)
+  silent-wants (w ∷ ws) = silent-cons (entry.Want w.side w.read w.write, []) (want_events ws)
+      (record { reads = refl; turns = refl }) (silent-wants ws)
 
   silent-readies : (ws : List Want) → IsSilent (ready_events ws)
   silent-readies [] = record { reads = refl; turns = refl }
-  silent-readies (w ∷ ws) = silent-cons (entry.Ready w.side w.read w.write, []) (ready_events ws) (record { reads = refl; turns = refl }) (silent-readies ws)
+  silent-readies (w ∷ ws) = silent-cons (entry.Ready w.side w.read w.write, []) (ready_events ws)
+      (record { reads = refl; turns = refl }) (silent-readies ws)
 
   silent-polled : (fails : Bool) (ws : List Want) → IsSilent (if fails then (entry.PollFailed, []) ∷ [] else ready_events ws)
   silent-polled true ws = record { reads = refl; turns = refl }
@@ -73,16 +76,19 @@ module _ (e : SideId) where
 
     fits-silent : (t u : Trace) → IsSilent u → Fits t → Fits (t ++ u)
     fits-silent t u h fits =
-        let same : bytes_read e (t ++ u) ≡ bytes_read e t = bytes_read-append e t u ∙ ap (λ z. bytes_read e t ++ z) h.reads ∙ append-nil (bytes_read e t) in
+        let same : bytes_read e (t ++ u) ≡ bytes_read e t = bytes_read-append e t u ∙ ap (λ z. bytes_read e t ++ z) h.reads ∙
+            append-nil (bytes_read e t) in
         let parts = sum_by-append (λ x. if is_turn x then 1 else 0) t u in
         let none = h.turns in
         let count : count_by is_turn (t ++ u) ≡ count_by is_turn t = omega (arith, parts, none) in
-        subst (λ z. IsPrefixOf z (came (count_by is_turn (t ++ u)))) (sym same) (subst (λ n. IsPrefixOf (bytes_read e t) (came n)) (sym count) fits)
+        subst (λ z. IsPrefixOf z (came (count_by is_turn (t ++ u)))) (sym same) (subst (λ n. IsPrefixOf (bytes_read e t) (came n))
+            (sym count) fits)
 
     came-more : (n : ℕ) → IsPrefixOf (came n) (came (n + 1))
     came-more n =
         let ys = take (n + 1) turns in
-        let halves : take n turns ++ drop n ys ≡ ys = ap (λ z. z ++ drop n ys) (sym (take-take n (n + 1) turns (omega arith))) ∙ take-append-drop n ys in
+        let halves : take n turns ++ drop n ys ≡ ys = ap (λ z. z ++ drop n ys) (sym (take-take n (n + 1) turns (omega arith))) ∙
+            take-append-drop n ys in
         let ls = λ (z : List ScriptTurn). flat_map (λ turn. turn.1) z in
         IsPrefixOf-append (came n) (flat_map (brings e) (ls (drop n ys))) (came (n + 1))
         (sym (flat_map-append (brings e) (ls (take n turns)) (ls (drop n ys)))
@@ -108,11 +114,13 @@ module _ (e : SideId) where
 
     abbrev answer : List ℕ → Bool → Bool → Bool → ℕ → ReadAnswer × List ℕ
     answer xs some fail end room =
-        if some then (read.Got (min room (length xs)), take room xs) else (if fail then (read.Failed, []) else (if end then (read.Ended, []) else (read.NotYet, [])))
+        if some then (read.Got (min room (length xs)), take room xs) else (if fail then (read.Failed, [])
+            else (if end then (read.Ended, []) else (read.NotYet, [])))
 
     -- a read gives what is pending, up to its room
     read_of : (s : SideId) (room : ℕ) (xs : List ℕ) (some fail end : Bool) → nat_le 1 (length xs) ≡ some →
-        bytes_read e ((entry.Read s room (answer xs some fail end room).0, (answer xs some fail end room).1) ∷ []) ≡ (if same_end s e then take room xs else [])
+        bytes_read e ((entry.Read s room (answer xs some fail end room).0, (answer xs some fail end room).1) ∷ []) ≡
+            (if same_end s e then take room xs else [])
     read_of s room xs true fail end h = append-nil (if same_end s e then take room xs else [])
     read_of s room [] false true end h = same_both (same_end s e) (take room []) (take-nil room)
     read_of s room [] false false true h = same_both (same_end s e) (take room []) (take-nil room)
@@ -126,7 +134,8 @@ module _ (e : SideId) where
         whole = read_of s room (pending turns t s) (nat_le 1 (length (pending turns t s))) (reads_fail turns t s) (is_ended turns t s) refl
 
         go : (c : Bool) → same_end s e ≡ c → Fits (t ++ events turns closing_by t (Step.Read s room))
-        go false h = fits-silent t (events turns closing_by t (Step.Read s room)) (record { reads = whole ∙ ap (λ c. if c then take room (pending turns t s) else []) h; turns = refl }) fits
+        go false h = fits-silent t (events turns closing_by t (Step.Read s room))
+            (record { reads = whole ∙ ap (λ c. if c then take room (pending turns t s) else []) h; turns = refl }) fits
         go true h =
             let gone = bytes_read e t in
             let u = events turns closing_by t (Step.Read s room) in
@@ -134,13 +143,16 @@ module _ (e : SideId) where
             let rest = drop (length gone) all in
             let own : pending turns t s ≡ rest = ap (λ z. pending turns t z) (same_end-eq s e h) in
             let now : bytes_read e (t ++ u) ≡ gone ++ take room rest =
-            bytes_read-append e t u ∙ ap (λ z. gone ++ z) (whole ∙ ap (λ c. if c then take room (pending turns t s) else []) h ∙ ap (take room) own) in
+            bytes_read-append e t u ∙ ap (λ z. gone ++ z) (whole ∙ ap (λ c. if c then take room (pending turns t s) else []) h ∙ ap
+                (take room) own) in
             let parts = sum_by-append (λ x. if is_turn x then 1 else 0) t u in
             let count : count_by is_turn (t ++ u) ≡ count_by is_turn t = omega (arith, parts) in
             let fit : IsPrefixOf (gone ++ take room rest) all =
             IsPrefixOf-append (gone ++ take room rest) (drop room rest) all
-            (append_assoc gone (take room rest) (drop room rest) ∙ ap (λ z. gone ++ z) (take-append-drop room rest) ∙ IsPrefixOf-rest gone all fits) in
-            subst (λ z. IsPrefixOf z (came (count_by is_turn (t ++ u)))) (sym now) (subst (λ n. IsPrefixOf (gone ++ take room rest) (came n)) (sym count) fit)
+            (append_assoc gone (take room rest) (drop room rest) ∙ ap (λ z. gone ++ z) (take-append-drop room rest) ∙
+                IsPrefixOf-rest gone all fits) in
+            subst (λ z. IsPrefixOf z (came (count_by is_turn (t ++ u)))) (sym now)
+                (subst (λ n. IsPrefixOf (gone ++ take room rest) (came n)) (sym count) fit)
 
     fits-step : (t : Trace) (x : Step) → Fits t → Fits (t ++ events turns closing_by t x)
     fits-step t Step.Now fits = fits-turn t _ fits
@@ -152,7 +164,8 @@ module _ (e : SideId) where
     fits-step t Step.Accept fits = fits-silent t (accepted (opened t) (waiting turns t)) (silent-accepted (opened t) (waiting turns t)) fits
     fits-step t (Step.Check s) fits = fits-silent t (events turns closing_by t (Step.Check s)) (record { reads = refl; turns = refl }) fits
     fits-step t (Step.Read s room) fits = fits-read t s room fits
-    fits-step t (Step.Write s offered) fits = fits-silent t (events turns closing_by t (Step.Write s offered)) (record { reads = refl; turns = refl }) fits
+    fits-step t (Step.Write s offered) fits = fits-silent t (events turns closing_by t (Step.Write s offered))
+        (record { reads = refl; turns = refl }) fits
     fits-step t (Step.Own x) fits = fits-silent t (own_events x) (silent-own x) fits
 
     fits-steps : (xs : List Step) (t : Trace) → Fits t → Fits (fold (λ z x. z ++ events turns closing_by z x) t xs)
@@ -163,4 +176,5 @@ module _ (e : SideId) where
     fits-answered t (steps, is) = subst Fits (sym is) (fits-steps steps [] refl)
 
 pub reads_what_comes : ReadsWhatComes
-reads_what_comes turns closing_by t e answered = IsPrefixOf-rest (bytes_read e t) (came e turns closing_by (count_by is_turn t)) (fits-answered e turns closing_by t answered)
+reads_what_comes turns closing_by t e answered = IsPrefixOf-rest (bytes_read e t) (came e turns closing_by (count_by is_turn t))
+    (fits-answered e turns closing_by t answered)

@@ -43,7 +43,8 @@ counts-served t x h =
     let a : count_by is_turn (t ++ x ∷ []) ≡ count_by is_turn t =
     (let parts = sum_by-append (λ y. if is_turn y then 1 else 0) t (x ∷ []) in let none = ap once q.turn in omega (arith, parts, none)) in
     let b : opened (t ++ x ∷ []) ≡ opened t =
-    (let parts = sum_by-append (λ y. if is_opened y then 1 else 0) t (x ∷ []) in let none = ap once q.opens in omega (arith, parts, none)) in
+    (let parts = sum_by-append (λ y. if is_opened y then 1 else 0) t (x ∷ []) in let none = ap once q.opens in
+        omega (arith, parts, none)) in
     let c : opened_in_turn (t ++ x ∷ []) ≡ opened_in_turn t = fold-append opened_by 0 t (x ∷ []) ∙ q.in_turn (opened_in_turn t) in
     λ i. record { turns = a i; opened = b i; in_turn = c i }
 
@@ -58,17 +59,20 @@ abbrev pub StaysServed : (Trace → Type 0) → Type 0
 StaysServed none_waits = (t u : Trace) → list_all is_served u ≡ true → none_waits t → none_waits (t ++ u)
 
 module _ (none_waits : Trace → Type 0) (links : ℕ) where
-  pub always-append : (before t u : Trace) → AlwaysAllTaken none_waits links before t → AlwaysAllTaken none_waits links (before ++ t) u → AlwaysAllTaken none_waits links before (t ++ u)
+  pub always-append : (before t u : Trace) → AlwaysAllTaken none_waits links before t → AlwaysAllTaken none_waits links
+      (before ++ t) u → AlwaysAllTaken none_waits links before (t ++ u)
   always-append before [] u h k = subst (λ z. AlwaysAllTaken none_waits links z u) (append-nil before) k
   always-append before (x ∷ t) u h k =
-      (h.0, always-append (before ++ x ∷ []) t u h.1 (subst (λ z. AlwaysAllTaken none_waits links z u) (sym (append_assoc before (x ∷ []) t)) k))
+      (h.0, always-append (before ++ x ∷ []) t u h.1 (subst (λ z. AlwaysAllTaken none_waits links z u)
+          (sym (append_assoc before (x ∷ []) t)) k))
 
   -- nothing is asked of entries before accepting has ended
   pub always-accepting : (before t : Trace) → list_any is_behind_accepting t ≡ false → AlwaysAllTaken none_waits links before t
   always-accepting before [] h = tt
   always-accepting before (x ∷ t) h = by_test (λ k. always-accepting (before ++ x ∷ []) t k) (is_behind_accepting x) refl
     where
-      by_test : (list_any is_behind_accepting t ≡ false → AlwaysAllTaken none_waits links (before ++ x ∷ []) t) → (b : Bool) → is_behind_accepting x ≡ b → AlwaysAllTaken none_waits links before (x ∷ t)
+      by_test : (list_any is_behind_accepting t ≡ false → AlwaysAllTaken none_waits links (before ++ x ∷ []) t) → (b : Bool) →
+          is_behind_accepting x ≡ b → AlwaysAllTaken none_waits links before (x ∷ t)
       by_test rest true e = absurd (let k = ap (λ b. b || list_any is_behind_accepting t) e in cc)
       by_test rest false e = (
         subst (λ b. MatchBool b (AllTaken none_waits links before) ⊤) (sym e) tt,
@@ -80,12 +84,14 @@ module _ (none_waits : Trace → Type 0) (links : ℕ) where
   anyway false P p = tt
 
   -- so where all was taken, it stays so
-  pub took-served : StaysServed none_waits → (t u : Trace) → list_all is_served u ≡ true → AllTaken none_waits links t → AllTaken none_waits links (t ++ u)
+  pub took-served : StaysServed none_waits → (t u : Trace) → list_all is_served u ≡ true → AllTaken none_waits links t → AllTaken
+      none_waits links (t ++ u)
   took-served stays t u h (inl none) = inl (stays t u h none)
   took-served stays t u h (inr (inl many)) = inr (inl (ap (λ c. c.in_turn) (counts-all_served t u h) ∙ many))
   took-served stays t u h (inr (inr all)) = inr (inr (subst (λ n. links ≤ n) (sym (ap (λ c. c.opened) (counts-all_served t u h))) all))
 
-  pub always-served : StaysServed none_waits → (before t : Trace) → list_all is_served t ≡ true → AllTaken none_waits links before → AlwaysAllTaken none_waits links before t
+  pub always-served : StaysServed none_waits → (before t : Trace) → list_all is_served t ≡ true → AllTaken none_waits links before
+      → AlwaysAllTaken none_waits links before t
   always-served stays before [] h took = tt
   always-served stays before (x ∷ t) h took =
       let parts = and_parts (is_served x) (list_all is_served t) h in
@@ -96,7 +102,8 @@ module _ (none_waits : Trace → Type 0) (links : ℕ) where
 
 module _ (turns : List ScriptTurn) (links : ℕ) where
   abbrev TookBy : Counts → Type 0
-  TookBy c = (drop c.opened (flat_map links_by (flat_map (λ turn. turn.1) (take c.turns turns))) ≡ []) ⊎ (c.in_turn ≡ 64) ⊎ (links ≤ c.opened)
+  TookBy c = (drop c.opened (flat_map links_by (flat_map (λ turn. turn.1) (take c.turns turns))) ≡ []) ⊎ (c.in_turn ≡ 64) ⊎
+      (links ≤ c.opened)
 
   took_as : (t u : Trace) → counts t ≡ counts u → TookAll turns links t → TookAll turns links u
   took_as t u same h = subst TookBy same h
@@ -106,12 +113,14 @@ none_waiting turns u = waiting turns u ≡ []
 
 waiting-served : (turns : List ScriptTurn) → StaysServed (none_waiting turns)
 waiting-served turns t u h none =
-    subst (λ (c : Counts). drop c.opened (flat_map links_by (flat_map (λ turn. turn.1) (take c.turns turns))) ≡ []) (sym (counts-all_served t u h)) none
+    subst (λ (c : Counts). drop c.opened (flat_map links_by (flat_map (λ turn. turn.1) (take c.turns turns))) ≡ [])
+        (sym (counts-all_served t u h)) none
 
 pub turn_takes_all : TurnTakesAll
 turn_takes_all turns links t ms accepting behind so_far began quiet served ends =
     always-append (none_waiting turns) links [] t ((entry.Turn ms, []) ∷ (accepting ++ behind)) so_far
-    (began, always-append (none_waiting turns) links (t ++ (entry.Turn ms, []) ∷ []) accepting behind (always-accepting (none_waiting turns) links _ accepting quiet) (at_end behind served ends))
+    (began, always-append (none_waiting turns) links (t ++ (entry.Turn ms, []) ∷ []) accepting behind
+        (always-accepting (none_waiting turns) links _ accepting quiet) (at_end behind served ends))
   where
     at_end : (u : Trace) → list_all is_served u ≡ true → (u ≡ []) ⊎ TookAll turns links (t ++ (entry.Turn ms, []) ∷ (accepting ++ u)) →
         AlwaysTookAll turns links ((t ++ (entry.Turn ms, []) ∷ []) ++ accepting) u
@@ -120,4 +129,5 @@ turn_takes_all turns links t ms accepting behind so_far began quiet served ends 
         let front = (t ++ (entry.Turn ms, []) ∷ []) ++ accepting in
         let whole : front ++ u ≡ t ++ (entry.Turn ms, []) ∷ (accepting ++ u) =
         append_assoc (t ++ (entry.Turn ms, []) ∷ []) accepting u ∙ append_assoc t ((entry.Turn ms, []) ∷ []) (accepting ++ u) in
-        always-served (none_waiting turns) links (waiting-served turns) front u s (took_as turns links (t ++ (entry.Turn ms, []) ∷ (accepting ++ u)) front (ap counts (sym whole) ∙ counts-all_served front u s) took)
+        always-served (none_waiting turns) links (waiting-served turns) front u s (took_as turns links
+            (t ++ (entry.Turn ms, []) ∷ (accepting ++ u)) front (ap counts (sym whole) ∙ counts-all_served front u s) took)

@@ -68,7 +68,8 @@ reading-idle side read.Ended ms = refl
 reading-idle side read.NotYet ms = refl
 reading-idle side read.Failed ms = refl
 
-closed-idle : (g : Settings) (p : Past) (s : Plain) (c : CloseStep) (e : Entry) → ClosedKind g p s c e → IsBehind (e, []) Poll.Idle × (poll_by Poll.Idle (e, []) ≡ Poll.Idle)
+closed-idle : (g : Settings) (p : Past) (s : Plain) (c : CloseStep) (e : Entry) → ClosedKind g p s c e → IsBehind (e, []) Poll.Idle
+    × (poll_by Poll.Idle (e, []) ≡ Poll.Idle)
 closed-idle g p s c e (ClosedKind.faulty a b) = (tt, refl)
 closed-idle g p s c e (ClosedKind.write_ended a b) = (tt, refl)
 closed-idle g p s c e (ClosedKind.in_done a b d f) = (tt, refl)
@@ -76,7 +77,8 @@ closed-idle g p s c e ClosedKind.out_done = (tt, refl)
 closed-idle g p s c e (ClosedKind.peer_gone a b d) = (tt, refl)
 closed-idle g p s c e (ClosedKind.shut a b) = (tt, refl)
 
-put-poll : (g : Settings) (t : Trace) (s : Plain) (x : Stage) (y : Event) (new : State) → PutKind g t s x y new → IsBehind y (poll_at x) × (poll_by (poll_at x) y ≡ poll_at new.stage)
+put-poll : (g : Settings) (t : Trace) (s : Plain) (x : Stage) (y : Event) (new : State) → PutKind g t s x y new → IsBehind y
+    (poll_at x) × (poll_by (poll_at x) y ≡ poll_at new.stage)
 put-poll g t s x y new (PutKind.turned a b) = (refl, refl)
 put-poll g t s x y new PutKind.polled = (refl, refl)
 put-poll g t s x y new (PutKind.wanted a) = (tt, refl)
@@ -148,11 +150,13 @@ still-append t u h k = record {
 
 still-wants : (ws : List Want) → IsStill (want_events ws)
 still-wants [] = still-none
-still-wants (w ∷ ws) = still-append ((entry.Want w.side w.read w.write, []) ∷ []) (want_events ws) (record { poll = λ p. refl; turns = refl }) (still-wants ws)
+still-wants (w ∷ ws) = still-append ((entry.Want w.side w.read w.write, []) ∷ []) (want_events ws)
+    (record { poll = λ p. refl; turns = refl }) (still-wants ws)
 
 still-readies : (ws : List Want) → IsStill (ready_events ws)
 still-readies [] = still-none
-still-readies (w ∷ ws) = still-append ((entry.Ready w.side w.read w.write, []) ∷ []) (ready_events ws) (record { poll = λ p. refl; turns = refl }) (still-readies ws)
+still-readies (w ∷ ws) = still-append ((entry.Ready w.side w.read w.write, []) ∷ []) (ready_events ws)
+    (record { poll = λ p. refl; turns = refl }) (still-readies ws)
 
 still-accepted : (link : ℕ) (links : List Bool) → IsStill (accepted link links)
 still-accepted link [] = still-none
@@ -174,7 +178,8 @@ module _ (turns : List ScriptTurn) where
   among-last : (n : ℕ) → fails_among turns n ≡ (fails_among turns (n - 1) || fails_at n)
   among-last n =
       let ys = take n turns in
-      let halves : ys ≡ take (n - 1) turns ++ drop (n - 1) ys = sym (ap (λ z. z ++ drop (n - 1) ys) (sym (take-take (n - 1) n turns (omega arith))) ∙ take-append-drop (n - 1) ys) in
+      let halves : ys ≡ take (n - 1) turns ++ drop (n - 1) ys = sym (ap (λ z. z ++ drop (n - 1) ys)
+          (sym (take-take (n - 1) n turns (omega arith))) ∙ take-append-drop (n - 1) ys) in
       ap (λ z. list_any fails_poll (flat_map (λ turn. turn.1) z)) halves
       ∙ ap (list_any fails_poll) (flat_map-append (λ turn. turn.1) (take (n - 1) turns) (drop (n - 1) ys))
       ∙ list_any-append fails_poll (flat_map (λ turn. turn.1) (take (n - 1) turns)) _
@@ -207,13 +212,15 @@ module _ (turns : List ScriptTurn) where
         let before : fails_among turns (count_by is_turn t) ≡ false = subst (λ p. Known p (count_by is_turn t)) idle known in
         let parts = count-append t (y ∷ []) in
         let less : count_by is_turn (t ++ y ∷ []) - 1 ≡ count_by is_turn t = omega (arith, parts) in
-        subst (λ p. Known p (count_by is_turn (t ++ y ∷ []))) (sym (fold-append poll_by Poll.Idle t (y ∷ []))) (ap (fails_among turns) less ∙ before)
+        subst (λ p. Known p (count_by is_turn (t ++ y ∷ []))) (sym (fold-append poll_by Poll.Idle t (y ∷ [])))
+            (ap (fails_among turns) less ∙ before)
 
     -- what is put behind the wants
     abbrev outcome : Bool → List Want → Trace
     outcome fails ws = if fails then (entry.PollFailed, []) ∷ [] else ready_events ws
 
-    known-outcome : (t : Trace) (timeout : Option ℕ) (ws marked : List Want) → fails_among turns (count_by is_turn t - 1) ≡ false → (b : Bool) → fails_at (count_by is_turn t) ≡ b →
+    known-outcome : (t : Trace) (timeout : Option ℕ) (ws marked : List Want) → fails_among turns (count_by is_turn t - 1) ≡ false →
+        (b : Bool) → fails_at (count_by is_turn t) ≡ b →
         KnownOf (t ++ (entry.Poll timeout, []) ∷ (want_events ws ++ outcome b marked))
     known-outcome t timeout ws marked before true fails =
         let mid = t ++ (entry.Poll timeout, []) ∷ want_events ws in
@@ -230,12 +237,15 @@ module _ (turns : List ScriptTurn) where
         let y : Event = (entry.Poll timeout, []) in
         let one = count-append t (y ∷ []) in
         let same : count_by is_turn (t ++ y ∷ []) ≡ count_by is_turn t = omega (arith, one) in
-        let none : fails_among turns (count_by is_turn t) ≡ false = among-last (count_by is_turn t) ∙ or_from (fails_among turns (count_by is_turn t - 1)) (fails_at (count_by is_turn t)) before fails in
+        let none : fails_among turns (count_by is_turn t) ≡ false = among-last (count_by is_turn t) ∙ or_from
+            (fails_among turns (count_by is_turn t - 1)) (fails_at (count_by is_turn t)) before fails in
         let first : KnownOf (t ++ y ∷ []) =
-        subst (λ p. Known p (count_by is_turn (t ++ y ∷ []))) (sym (fold-append poll_by Poll.Idle t (y ∷ []))) (ap (fails_among turns) same ∙ none) in
+        subst (λ p. Known p (count_by is_turn (t ++ y ∷ []))) (sym (fold-append poll_by Poll.Idle t (y ∷ [])))
+            (ap (fails_among turns) same ∙ none) in
         let second = known-still (t ++ y ∷ []) (want_events ws) (still-wants ws) first in
         let third = known-still ((t ++ y ∷ []) ++ want_events ws) (ready_events marked) (still-readies marked) second in
-        subst KnownOf (append_assoc (t ++ y ∷ []) (want_events ws) (ready_events marked) ∙ append_assoc t (y ∷ []) (want_events ws ++ ready_events marked)) third
+        subst KnownOf (append_assoc (t ++ y ∷ []) (want_events ws) (ready_events marked) ∙ append_assoc t (y ∷ [])
+            (want_events ws ++ ready_events marked)) third
 
     known-step : (t rest : Trace) (x : Step) → whole ≡ put t x ++ rest → KnownOf t → KnownOf (put t x)
     known-step t rest Step.Now is known =
@@ -269,7 +279,8 @@ module _ (turns : List ScriptTurn) where
   left-none Poll.Failed n h = h.1
   left-none Poll.Idle n h = (or_parts (fails_among turns (n - 1)) (fails_at n) (sym (among-last n) ∙ h)).0
 
-  polls-left : (g : Settings) (answer : TurnAnswer) (t : Trace) (x : Stage) (s : Plain) → LeftAt g answer x s → Known (poll_at x) (count_by is_turn t) → PollsFailed answer turns t
+  polls-left : (g : Settings) (answer : TurnAnswer) (t : Trace) (x : Stage) (s : Plain) → LeftAt g answer x s → Known (poll_at x)
+      (count_by is_turn t) → PollsFailed answer turns t
   polls-left g TurnAnswer.Went t x s left known = subst (λ z. Known (poll_at z) (count_by is_turn t)) left known
   polls-left g (TurnAnswer.Stopped link) t x s left known = subst (λ z. Known (poll_at z) (count_by is_turn t)) left known
   polls-left g TurnAnswer.PollFault t x s left known = subst (λ z. Known (poll_at z) (count_by is_turn t)) left known

@@ -21,7 +21,8 @@ use Rattle.relay_model.proofs.SeenLemmas.{seen, but_expired, time_passed-keeps}
 use Rattle.relay_model.proofs.EffectLemmas.{SideEffect, Effect, idle-still, fresh, or_no, and_no}
 
 -- a turn begins
-pub turn-effect : (g : Settings) (s : Plain) (ms : ℕ) (bytes : List ℕ) (p : Past) → s.time ≤ ms → ms ≤ latest → Effect g Between s (entry.Turn ms, bytes) Polling (time_passed g p (turned_to ms s))
+pub turn-effect : (g : Settings) (s : Plain) (ms : ℕ) (bytes : List ℕ) (p : Past) → s.time ≤ ms → ms ≤ latest → Effect g Between s
+    (entry.Turn ms, bytes) Polling (time_passed g p (turned_to ms s))
 turn-effect g s ms bytes p le late = record {
   time = k.time;
   rises = let h = k.time in omega arith;
@@ -43,7 +44,8 @@ turn-effect g s ms bytes p le late = record {
     k : Keeps but_expired (turned_to ms s) new
     k = time_passed-keeps g p (turned_to ms s)
 
-    same : (e : SideId) → but_expired (side_at new e) ≡ but_expired (side_at s e) → SideEffect e (entry.Turn ms, bytes) Polling (seen (side_at s e)) (seen (side_at new e))
+    same : (e : SideId) → but_expired (side_at new e) ≡ but_expired (side_at s e) → SideEffect e (entry.Turn ms, bytes) Polling
+        (seen (side_at s e)) (seen (side_at new e))
     same e h = record {
       live = ap (λ z. z.live) h ∙ and_no (side_at s e).live false false refl refl;
       ended = ap (λ z. z.ended) h ∙ or_no (side_at s e).ended false refl;
@@ -65,7 +67,8 @@ abbrev two : Settings → Plain → Bool → List PlainSide
 two g s connected = in_side g s ∷ out_side g s connected ∷ []
 
 -- a link is opened
-pub opened-effect : (g : Settings) (s : Plain) (n : ℕ) (marks : List Want) (link : ℕ) (connected : Bool) (bytes : List ℕ) → length s.sides ≡ 2 * s.opened → s.opened < g.links →
+pub opened-effect : (g : Settings) (s : Plain) (n : ℕ) (marks : List Want) (link : ℕ) (connected : Bool) (bytes : List ℕ) → length
+    s.sides ≡ 2 * s.opened → s.opened < g.links →
     Effect g (Accepting n marks) s (entry.Opened link connected, bytes) (Accepting (n + 1) marks) (with_link g connected s)
 opened-effect g s n marks link connected bytes size few = record {
   time = refl;
@@ -77,7 +80,8 @@ opened-effect g s n marks link connected bytes size few = record {
   sides = λ h. omega (arith, length-append s.sides (two g s connected));
   flows = λ h. omega (arith, length-append s.flows (no_flow ∷ no_flow ∷ []));
   named = λ e h. absurd (cc);
-  each = λ e lt. idle-still e (entry.Opened link connected, bytes) (Accepting (n + 1) marks) (seen (side_at s e)) (seen (side_at (with_link g connected s) e))
+  each = λ e lt. idle-still e (entry.Opened link connected, bytes) (Accepting (n + 1) marks) (seen (side_at s e))
+      (seen (side_at (with_link g connected s) e))
       (record { freed = refl; ended = refl; failed = refl; write_ended = refl; closed = refl }) refl
       (ap seen (get_or_append_left s.sides (two g s connected) no_side (number e) (omega (arith, number-lt e s.opened lt))));
   came = λ e h l. by_side e (omega arith) e.side refl;
@@ -87,7 +91,9 @@ opened-effect g s n marks link connected bytes size few = record {
     by_side : (e : SideId) → e.link ≡ s.opened → (z : Side) → e.side ≡ z → seen (side_at (with_link g connected s) e) ≡ fresh
     by_side e l In z =
         let i : number e ≡ length s.sides + 0 = omega (arith, ap half z) in
-        ap (λ v. seen (slice_index_or (s.sides ++ two g s connected) v no_side)) i ∙ ap seen (get_or-append-add s.sides (two g s connected) 0 no_side)
+        ap (λ v. seen (slice_index_or (s.sides ++ two g s connected) v no_side)) i ∙ ap seen
+            (get_or-append-add s.sides (two g s connected) 0 no_side)
     by_side e l Out z =
         let i : number e ≡ length s.sides + 1 = omega (arith, ap half z) in
-        ap (λ v. seen (slice_index_or (s.sides ++ two g s connected) v no_side)) i ∙ ap seen (get_or-append-add s.sides (two g s connected) 1 no_side)
+        ap (λ v. seen (slice_index_or (s.sides ++ two g s connected) v no_side)) i ∙ ap seen
+            (get_or-append-add s.sides (two g s connected) 1 no_side)

@@ -21,7 +21,8 @@ b = record { link = 0; side = Out }
 
 -- a hook of a frees it and asks on; then the hook of b is called
 abbrev rest : Trace
-rest = (entry.Asked a act.Stop ask.Ok, []) ∷ (entry.Freed b cause.Hook 0 0, []) ∷ (entry.Fired b why.Read, []) ∷ (entry.Asked a act.Stop ask.Ok, []) ∷ []
+rest = (entry.Asked a act.Stop ask.Ok, []) ∷ (entry.Freed b cause.Hook 0 0, []) ∷ (entry.Fired b why.Read, []) ∷
+    (entry.Asked a act.Stop ask.Ok, []) ∷ []
 
 fire-ends_at_the_next : behind_fire rest ≡ (entry.Fired b why.Read, []) ∷ (entry.Asked a act.Stop ask.Ok, []) ∷ []
 fire-ends_at_the_next = refl

@@ -41,16 +41,20 @@ pub record There (g : Settings) (t : Trace) (y : Event) : Type 0 where
   pub kept : Kept g t old.stage old.plain
   pub held : Held g t old.stage old.plain
 
-pub there : (g : Settings) (t : Trace) (s : State) → Reaches g t s → (before : Trace) (y : Event) (after : Trace) → t ≡ before ++ y ∷ after → There g before y
+pub there : (g : Settings) (t : Trace) (s : State) → Reaches g t s → (before : Trace) (y : Event) (after : Trace) → t ≡ before ++ y
+    ∷ after → There g before y
 there g t s r before y after h =
     let p = reaches_split g t s r before y after h in
     let k = kept g before p.old p.reached in
-    record { old = p.old; new = p.new; reached = p.reached; kind = put-kind g before p.old.stage p.old.plain y.0 y.1 p.new k.placed p.put; kept = k; held = held g before p.old p.reached }
+    record { old = p.old; new = p.new; reached = p.reached; kind = put-kind g before p.old.stage p.old.plain y.0 y.1 p.new k.placed
+        p.put; kept = k; held = held g before p.old p.reached }
 
 -- Turns and links
 
-turn-put : (g : Settings) (t : Trace) (s : Plain) (x : Stage) (y : Event) (new : State) (ms : ℕ) → PutKind g t s x y new → y.0 ≡ entry.Turn ms → (s.time ≤ ms) × (ms ≤ latest)
-turn-put g t s x y new ms (PutKind.turned {ms = now} a b) h = let same : now ≡ ms = cc in (subst (λ n. s.time ≤ n) same a, subst (λ n. n ≤ latest) same b)
+turn-put : (g : Settings) (t : Trace) (s : Plain) (x : Stage) (y : Event) (new : State) (ms : ℕ) → PutKind g t s x y new → y.0 ≡
+    entry.Turn ms → (s.time ≤ ms) × (ms ≤ latest)
+turn-put g t s x y new ms (PutKind.turned {ms = now} a b) h = let same : now ≡ ms = cc in (subst (λ n. s.time ≤ n) same a, subst
+    (λ n. n ≤ latest) same b)
 turn-put g t s x y new ms (PutKind.polled) h = absurd (cc)
 turn-put g t s x y new ms (PutKind.wanted a) h = absurd (cc)
 turn-put g t s x y new ms (PutKind.poll_failed) h = absurd (cc)
@@ -63,7 +67,8 @@ turn-put g t s x y new ms (PutKind.fired a) h = absurd (cc)
 turn-put g t s x y new ms (PutKind.frees a same) h = absurd (cc)
 turn-put g t s x y new ms (PutKind.asked same k l) h = absurd (cc)
 turn-put g t s x y new ms (PutKind.recorded) h = absurd (cc)
-turn-put g t s x y new ms (PutKind.closed {c = c} {e = e} a) h = absurd (closed-turn g (past g t) s c e ms (closed-kind g (past g t) s c e a) h)
+turn-put g t s x y new ms (PutKind.closed {c = c} {e = e} a) h = absurd (closed-turn g (past g t) s c e ms
+    (closed-kind g (past g t) s c e a) h)
   where
     closed-turn : (g : Settings) (p : Past) (s : Plain) (c : CloseStep) (e : Entry) (ms : ℕ) → ClosedKind g p s c e → e ≡ entry.Turn ms → ⊥
     closed-turn g p s c e ms (ClosedKind.faulty a b) h = cc
@@ -79,7 +84,8 @@ time_rises g t before after s x ms bytes r h =
     let p = turn-put g before k.old.plain k.old.stage _ k.new ms k.kind refl in
     (subst (λ n. n ≤ ms) k.kept.counts.shape.time p.0, p.1)
 
-link-put : (g : Settings) (t : Trace) (s : Plain) (x : Stage) (y : Event) (new : State) (link : ℕ) (connected : Bool) → PutKind g t s x y new → y.0 ≡ entry.Opened link connected → link ≡ s.opened
+link-put : (g : Settings) (t : Trace) (s : Plain) (x : Stage) (y : Event) (new : State) (link : ℕ) (connected : Bool) → PutKind g t
+    s x y new → y.0 ≡ entry.Opened link connected → link ≡ s.opened
 link-put g t s x y new link connected (PutKind.turned a b) h = absurd (cc)
 link-put g t s x y new link connected (PutKind.polled) h = absurd (cc)
 link-put g t s x y new link connected (PutKind.wanted a) h = absurd (cc)
@@ -93,9 +99,11 @@ link-put g t s x y new link connected (PutKind.fired a) h = absurd (cc)
 link-put g t s x y new link connected (PutKind.frees a same) h = absurd (cc)
 link-put g t s x y new link connected (PutKind.asked same k l) h = absurd (cc)
 link-put g t s x y new link connected (PutKind.recorded) h = absurd (cc)
-link-put g t s x y new link connected (PutKind.closed {c = c} {e = e} a) h = absurd (closed-open g (past g t) s c e link connected (closed-kind g (past g t) s c e a) h)
+link-put g t s x y new link connected (PutKind.closed {c = c} {e = e} a) h = absurd (closed-open g (past g t) s c e link connected
+    (closed-kind g (past g t) s c e a) h)
   where
-    closed-open : (g : Settings) (p : Past) (s : Plain) (c : CloseStep) (e : Entry) (link : ℕ) (connected : Bool) → ClosedKind g p s c e → e ≡ entry.Opened link connected → ⊥
+    closed-open : (g : Settings) (p : Past) (s : Plain) (c : CloseStep) (e : Entry) (link : ℕ) (connected : Bool) → ClosedKind g p
+        s c e → e ≡ entry.Opened link connected → ⊥
     closed-open g p s c e link connected (ClosedKind.faulty a b) h = cc
     closed-open g p s c e link connected (ClosedKind.write_ended a b) h = cc
     closed-open g p s c e link connected (ClosedKind.in_done a b d f) h = cc
@@ -111,15 +119,19 @@ links_in_order g t before after s x link connected bytes r h =
 -- Quiet
 
 -- what is begun at a side is begun while it lives, or it is its free
-closed-starts : (g : Settings) (p : Past) (s : Plain) (c : CloseStep) (e : Entry) (z : SideId) (bytes : List ℕ) → FirstReady c s → ClosedKind g p s c e → starts_at z (e, bytes) ≡ true → is_live s z ≡ true
+closed-starts : (g : Settings) (p : Past) (s : Plain) (c : CloseStep) (e : Entry) (z : SideId) (bytes : List ℕ) → FirstReady c s →
+    ClosedKind g p s c e → starts_at z (e, bytes) ≡ true → is_live s z ≡ true
 closed-starts g p s c e z bytes ready (ClosedKind.faulty {z = v} a b) h = ap (λ w. is_live s w) (sym (same_end-eq v z h)) ∙ a
 closed-starts g p s c e z bytes ready (ClosedKind.write_ended {z = v} a b) h = ap (λ w. is_live s w) (sym (same_end-eq v z h)) ∙ a
-closed-starts g p s c e z bytes ready (ClosedKind.in_done {k = k} a b d f) h = ap (λ w. is_live s w) (sym (same_end-eq (record { link = k; side = In }) z h)) ∙ a
-closed-starts g p s c e z bytes ready (ClosedKind.out_done {k = k}) h = ap (λ w. is_live s w) (sym (same_end-eq (record { link = k; side = Out }) z h)) ∙ ready.live
+closed-starts g p s c e z bytes ready (ClosedKind.in_done {k = k} a b d f) h = ap (λ w. is_live s w)
+    (sym (same_end-eq (record { link = k; side = In }) z h)) ∙ a
+closed-starts g p s c e z bytes ready (ClosedKind.out_done {k = k}) h = ap (λ w. is_live s w)
+    (sym (same_end-eq (record { link = k; side = Out }) z h)) ∙ ready.live
 closed-starts g p s c e z bytes ready (ClosedKind.peer_gone {z = v} a b d) h = ap (λ w. is_live s w) (sym (same_end-eq v z h)) ∙ a
 closed-starts g p s c e z bytes ready (ClosedKind.shut a b) h = absurd (cc)
 
-put-starts : (g : Settings) (t : Trace) (s : Plain) (x : Stage) (y : Event) (new : State) (z : SideId) → DoneReady x s → PutKind g t s x y new → starts_at z y ≡ true → (is_live s z ≡ true) ⊎ (is_freeing x z ≡ true)
+put-starts : (g : Settings) (t : Trace) (s : Plain) (x : Stage) (y : Event) (new : State) (z : SideId) → DoneReady x s → PutKind g
+    t s x y new → starts_at z y ≡ true → (is_live s z ≡ true) ⊎ (is_freeing x z ≡ true)
 put-starts g t s x y new z ready (PutKind.turned a b) h = absurd (cc)
 put-starts g t s x y new z ready (PutKind.polled) h = absurd (cc)
 put-starts g t s x y new z ready (PutKind.wanted {side = v} a) h = inl (ap (λ w. is_live s w) (sym (same_end-eq v z h)) ∙ a)
@@ -127,13 +139,16 @@ put-starts g t s x y new z ready (PutKind.poll_failed) h = absurd (cc)
 put-starts g t s x y new z ready (PutKind.readied {side = v} a) h = inl (ap (λ w. is_live s w) (sym (same_end-eq v z h)) ∙ a)
 put-starts g t s x y new z ready (PutKind.opened) h = absurd (cc)
 put-starts g t s x y new z ready (PutKind.checked {side = v} a) h = inl (ap (λ w. is_live s w) (sym (same_end-eq v z h)) ∙ a)
-put-starts g t s x y new z ready (PutKind.was_read {side = v} left a b) h = inl (ap (λ w. is_live s w) (sym (same_end-eq v z h)) ∙ (may_read-parts s v a).live)
-put-starts g t s x y new z ready (PutKind.written {side = v} a b c) h = inl (ap (λ w. is_live s w) (sym (same_end-eq v z h)) ∙ may_write-live s v a)
+put-starts g t s x y new z ready (PutKind.was_read {side = v} left a b) h = inl (ap (λ w. is_live s w) (sym (same_end-eq v z h)) ∙
+    (may_read-parts s v a).live)
+put-starts g t s x y new z ready (PutKind.written {side = v} a b c) h = inl (ap (λ w. is_live s w) (sym (same_end-eq v z h)) ∙
+    may_write-live s v a)
 put-starts g t s x y new z ready (PutKind.fired {side = v} a) h = inl (ap (λ w. is_live s w) (sym (same_end-eq v z h)) ∙ a)
 put-starts g t s x y new z ready (PutKind.frees a same) h = absurd (cc)
 put-starts g t s x y new z ready (PutKind.asked same k l) h = absurd (cc)
 put-starts g t s x y new z ready (PutKind.recorded {gone = v}) h = inr h
-put-starts g t s x y new z ready (PutKind.closed {c = c} {e = e} a) h = inl (closed-starts g (past g t) s c e z [] ready.0 (closed-kind g (past g t) s c e a) h)
+put-starts g t s x y new z ready (PutKind.closed {c = c} {e = e} a) h = inl (closed-starts g (past g t) s c e z [] ready.0
+    (closed-kind g (past g t) s c e a) h)
 
 -- behind its free nothing is begun at a side
 starts-late : (g : Settings) (t : Trace) (y : Event) (z : SideId) → There g t y → is_freed z t ≡ true → starts_at z y ≡ false
@@ -143,7 +158,8 @@ starts-late g t y z k freed = go (starts_at z y) refl
     no (inl live) = let unfreed = live-unfreed g t k.old.stage k.old.plain k.kept z live in cc
     no (inr freeing) =
         let hook = k.held.hook z freeing in
-        let before : is_freed z t ≡ (is_freed z hook.early || false) = ap (λ v. is_freed z v) hook.is ∙ list_any-push (freed_by z) hook.early (entry.Asked hook.me (act.Free z) ask.Ok, []) in
+        let before : is_freed z t ≡ (is_freed z hook.early || false) = ap (λ v. is_freed z v) hook.is ∙ list_any-push (freed_by z)
+            hook.early (entry.Asked hook.me (act.Free z) ask.Ok, []) in
         let was = or_from (is_freed z hook.early) false hook.was_live refl in
         cc
 
@@ -152,7 +168,8 @@ starts-late g t y z k freed = go (starts_at z y) refl
     go true h = absurd (no (put-starts g t k.old.plain k.old.stage y k.new z k.held.ready k.kind h))
 
 -- an end is closed that was not closed before
-close-put : (g : Settings) (t : Trace) (s : Plain) (x : Stage) (y : Event) (new : State) (z : SideId) → Placed x s → PutKind g t s x y new → end_closed_by z y ≡ true → (z.link < s.opened) × ((side_at s z).closed ≡ false)
+close-put : (g : Settings) (t : Trace) (s : Plain) (x : Stage) (y : Event) (new : State) (z : SideId) → Placed x s → PutKind g t s
+    x y new → end_closed_by z y ≡ true → (z.link < s.opened) × ((side_at s z).closed ≡ false)
 close-put g t s x y new z placed (PutKind.turned a b) h = absurd (cc)
 close-put g t s x y new z placed (PutKind.polled) h = absurd (cc)
 close-put g t s x y new z placed (PutKind.wanted a) h = absurd (cc)
@@ -166,9 +183,11 @@ close-put g t s x y new z placed (PutKind.fired a) h = absurd (cc)
 close-put g t s x y new z placed (PutKind.frees a same) h = absurd (cc)
 close-put g t s x y new z placed (PutKind.asked same k l) h = absurd (cc)
 close-put g t s x y new z placed (PutKind.recorded) h = absurd (cc)
-close-put g t s x y new z placed (PutKind.closed {c = c} {e = e} a) h = closed-close g (past g t) s c e z placed.0 (closed-kind g (past g t) s c e a) h
+close-put g t s x y new z placed (PutKind.closed {c = c} {e = e} a) h = closed-close g (past g t) s c e z placed.0
+    (closed-kind g (past g t) s c e a) h
   where
-    closed-close : (g : Settings) (p : Past) (s : Plain) (c : CloseStep) (e : Entry) (z : SideId) → link_of c < s.opened → ClosedKind g p s c e → end_closed_by z (e, []) ≡ true → (z.link < s.opened) × ((side_at s z).closed ≡ false)
+    closed-close : (g : Settings) (p : Past) (s : Plain) (c : CloseStep) (e : Entry) (z : SideId) → link_of c < s.opened →
+        ClosedKind g p s c e → end_closed_by z (e, []) ≡ true → (z.link < s.opened) × ((side_at s z).closed ≡ false)
     closed-close g p s c e z lt (ClosedKind.faulty a b) h = absurd (cc)
     closed-close g p s c e z lt (ClosedKind.write_ended a b) h = absurd (cc)
     closed-close g p s c e z lt (ClosedKind.in_done a b d f) h = absurd (cc)
@@ -178,7 +197,8 @@ close-put g t s x y new z placed (PutKind.closed {c = c} {e = e} a) h = closed-c
         let same = same_end-eq v z h in
         (subst (λ w. w.link < s.opened) same lt, ap (λ w. (side_at s w).closed) (sym same) ∙ not-true (side_at s v).closed b)
 
-close-once : (g : Settings) (t : Trace) (y : Event) (z : SideId) → There g t y → end_closed_by z y ≡ true → list_any (end_closed_by z) t ≡ false
+close-once : (g : Settings) (t : Trace) (y : Event) (z : SideId) → There g t y → end_closed_by z y ≡ true → list_any
+    (end_closed_by z) t ≡ false
 close-once g t y z k h =
     let c = close-put g t k.old.plain k.old.stage y k.new z k.kept.placed k.kind h in
     sym (k.kept.each z c.0).closed ∙ c.1
@@ -197,13 +217,16 @@ count-none p (y ∷ t) h =
     let c = count-cons p y t false parts.0 in let z = count-none p t parts.1 in omega arith
 
 -- what passes a test where nothing before it did stands once at most
-at_most_one : (p : Event → Bool) (t : Trace) → ((before : Trace) (y : Event) (after : Trace) → t ≡ before ++ y ∷ after → p y ≡ true → list_any p before ≡ false) → count_by p t ≤ 1
+at_most_one : (p : Event → Bool) (t : Trace) → ((before : Trace) (y : Event) (after : Trace) → t ≡ before ++ y ∷ after → p y ≡ true
+    → list_any p before ≡ false) → count_by p t ≤ 1
 at_most_one p [] h = omega arith
-at_most_one p (x ∷ t) h = go (p x) refl (at_most_one p t (λ before y after k q. (or_parts (p x) (list_any p before) (h (x ∷ before) y after (ap (λ v. x ∷ v) k) q)).1))
+at_most_one p (x ∷ t) h = go (p x) refl (at_most_one p t
+    (λ before y after k q. (or_parts (p x) (list_any p before) (h (x ∷ before) y after (ap (λ v. x ∷ v) k) q)).1))
   where
     none : p x ≡ true → (before : Trace) (y : Event) (after : Trace) → t ≡ before ++ y ∷ after → (q : Bool) → p y ≡ q → p y ≡ false
     none px before y after k false e = e
-    none px before y after k true e = absurd (let parts = or_parts (p x) (list_any p before) (h (x ∷ before) y after (ap (λ v. x ∷ v) k) e) in let no = parts.0 in cc)
+    none px before y after k true e = absurd (let parts = or_parts (p x) (list_any p before)
+        (h (x ∷ before) y after (ap (λ v. x ∷ v) k) e) in let no = parts.0 in cc)
 
     go : (q : Bool) → p x ≡ q → count_by p t ≤ 1 → count_by p (x ∷ t) ≤ 1
     go false e le = let c : count_by p (x ∷ t) ≡ 0 + count_by p t = count-cons p x t false e in omega arith
@@ -213,7 +236,8 @@ at_most_one p (x ∷ t) h = go (p x) refl (at_most_one p t (λ before y after k 
         omega arith
 
 -- what the hook of a side asks is asked while its fire runs
-ask-put : (g : Settings) (t : Trace) (s : Plain) (x : Stage) (y : Event) (new : State) (z : SideId) → Runs x t → PutKind g t s x y new → asked_by z y ≡ true → InRun z t
+ask-put : (g : Settings) (t : Trace) (s : Plain) (x : Stage) (y : Event) (new : State) (z : SideId) → Runs x t → PutKind g t s x y
+    new → asked_by z y ≡ true → InRun z t
 ask-put g t s x y new z runs (PutKind.turned a b) h = absurd (cc)
 ask-put g t s x y new z runs (PutKind.polled) h = absurd (cc)
 ask-put g t s x y new z runs (PutKind.wanted a) h = absurd (cc)
@@ -227,9 +251,11 @@ ask-put g t s x y new z runs (PutKind.fired a) h = absurd (cc)
 ask-put g t s x y new z runs (PutKind.frees {x = f} a same) h = subst (λ v. InRun v t) (same_end-eq f.side z h) runs
 ask-put g t s x y new z runs (PutKind.asked {x = f} same k l) h = subst (λ v. InRun v t) (same_end-eq f.side z h) runs
 ask-put g t s x y new z runs (PutKind.recorded) h = absurd (cc)
-ask-put g t s x y new z runs (PutKind.closed {c = c} {e = e} a) h = absurd (closed-ask g (past g t) s c e z (closed-kind g (past g t) s c e a) h)
+ask-put g t s x y new z runs (PutKind.closed {c = c} {e = e} a) h = absurd (closed-ask g (past g t) s c e z
+    (closed-kind g (past g t) s c e a) h)
   where
-    closed-ask : (g : Settings) (p : Past) (s : Plain) (c : CloseStep) (e : Entry) (z : SideId) → ClosedKind g p s c e → asked_by z (e, []) ≡ true → ⊥
+    closed-ask : (g : Settings) (p : Past) (s : Plain) (c : CloseStep) (e : Entry) (z : SideId) → ClosedKind g p s c e → asked_by z
+        (e, []) ≡ true → ⊥
     closed-ask g p s c e z (ClosedKind.faulty a b) h = cc
     closed-ask g p s c e z (ClosedKind.write_ended a b) h = cc
     closed-ask g p s c e z (ClosedKind.in_done a b d f) h = cc
@@ -239,18 +265,23 @@ ask-put g t s x y new z runs (PutKind.closed {c = c} {e = e} a) h = absurd (clos
 
 -- where each event that passes stands in the leading run, none passes behind it
 behind-run : (p : Event → Bool) → ((y : Event) → p y ≡ true → is_within_fire y ≡ true) → (t : Trace) →
-    ((before : Trace) (y : Event) (after : Trace) → t ≡ before ++ y ∷ after → p y ≡ true → list_all is_within_fire before ≡ true) → list_any p (behind_fire t) ≡ false
+    ((before : Trace) (y : Event) (after : Trace) → t ≡ before ++ y ∷ after → p y ≡ true → list_all is_within_fire before ≡ true) →
+        list_any p (behind_fire t) ≡ false
 behind-run p within [] h = refl
 behind-run p within (x ∷ t) h =
-    go (is_within_fire x) refl (behind-run p within t (λ before y after k q. (and_parts (is_within_fire x) (list_all is_within_fire before) (h (x ∷ before) y after (ap (λ v. x ∷ v) k) q)).1))
+    go (is_within_fire x) refl (behind-run p within t
+        (λ before y after k q. (and_parts (is_within_fire x) (list_all is_within_fire before)
+        (h (x ∷ before) y after (ap (λ v. x ∷ v) k) q)).1))
   where
     outside : is_within_fire x ≡ false → (before : Trace) (y : Event) (after : Trace) → x ∷ t ≡ before ++ y ∷ after → p y ≡ true → ⊥
-    outside late [] y after k q = let w = within y q in let same : x ≡ y = cc in let v : is_within_fire x ≡ is_within_fire y = ap is_within_fire same in cc
+    outside late [] y after k q = let w = within y q in let same : x ≡ y = cc in let v : is_within_fire x ≡ is_within_fire y = ap
+        is_within_fire same in cc
     outside late (b ∷ bs) y after k q =
         let w = (and_parts (is_within_fire b) (list_all is_within_fire bs) (h (b ∷ bs) y after k q)).0 in
         let same : x ≡ b = cc in let v : is_within_fire x ≡ is_within_fire b = ap is_within_fire same in cc
 
-    fails : is_within_fire x ≡ false → (before : Trace) (y : Event) (after : Trace) → x ∷ t ≡ before ++ y ∷ after → (q : Bool) → p y ≡ q → p y ≡ false
+    fails : is_within_fire x ≡ false → (before : Trace) (y : Event) (after : Trace) → x ∷ t ≡ before ++ y ∷ after → (q : Bool) → p
+        y ≡ q → p y ≡ false
     fails late before y after k false e = e
     fails late before y after k true e = absurd (outside late before y after k e)
 
@@ -264,8 +295,10 @@ ask-within z _ h = absurd (cc)
 
 pub legal_is_quiet : LegalIsQuiet
 legal_is_quiet g t legal before after e why moved given bytes split = record {
-  starts = none_from_splits (starts_at e) after (λ mid y rest k. starts-late g (behind mid) y e (at_mid mid y rest k) (any-split (freed_by e) before freed mid (same_end-refl e)));
-  closes = at_most_one (end_closed_by e) after (λ mid y rest k q. last_part (end_closed_by e) mid (close-once g (behind mid) y e (at_mid mid y rest k) q));
+  starts = none_from_splits (starts_at e) after (λ mid y rest k. starts-late g (behind mid) y e (at_mid mid y rest k)
+      (any-split (freed_by e) before freed mid (same_end-refl e)));
+  closes = at_most_one (end_closed_by e) after (λ mid y rest k q. last_part (end_closed_by e) mid
+      (close-once g (behind mid) y e (at_mid mid y rest k) q));
   asks = behind-run (asked_by e) (ask-within e) after (λ mid y rest k q. let v = at_mid mid y rest k in
       ask-put g (behind mid) v.old.plain v.old.stage y v.new e v.held.runs v.kind q before freed mid (same_end-refl e) refl);
 }
@@ -277,7 +310,9 @@ legal_is_quiet g t legal before after e why moved given bytes split = record {
     behind mid = before ++ freed ∷ mid
 
     at_mid : (mid : Trace) (y : Event) (rest : Trace) → after ≡ mid ++ y ∷ rest → There g (behind mid) y
-    at_mid mid y rest k = there g t legal.0 legal.1 (behind mid) y rest (split ∙ ap (λ v. before ++ freed ∷ v) k ∙ sym (append_assoc before (freed ∷ mid) (y ∷ rest)))
+    at_mid mid y rest k = there g t legal.0 legal.1 (behind mid) y rest (split ∙ ap (λ v. before ++ freed ∷ v) k ∙ sym
+        (append_assoc before (freed ∷ mid) (y ∷ rest)))
 
     last_part : (p : Event → Bool) (mid : Trace) → list_any p (before ++ freed ∷ mid) ≡ false → list_any p mid ≡ false
-    last_part p mid h = (or_parts (p freed) (list_any p mid) (or_parts (list_any p before) (list_any p (freed ∷ mid)) (sym (list_any-append p before (freed ∷ mid)) ∙ h)).1).1
+    last_part p mid h = (or_parts (p freed) (list_any p mid) (or_parts (list_any p before) (list_any p (freed ∷ mid))
+        (sym (list_any-append p before (freed ∷ mid)) ∙ h)).1).1

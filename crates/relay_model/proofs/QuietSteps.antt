@@ -69,7 +69,8 @@ kept-raise_read g p e s = if_so _
     if_so false = kept-same s
 
 pub kept-flow : (e : SideId) (f : Flow → Flow) (s : Plain) → KeptQuietly s (change_flow e f s)
-kept-flow e f s = record { time = refl; turn = refl; opened = refl; timers = refl; sides = λ a. refl; side_count = refl; flow_count = length-set s.flows (number e) (f (flow_at s e)) }
+kept-flow e f s = record { time = refl; turn = refl; opened = refl; timers = refl; sides = λ a. refl; side_count = refl; flow_count
+    = length-set s.flows (number e) (f (flow_at s e)) }
 
 pub kept-meets : (e : SideId) (place : Option ℕ) (s : Plain) → KeptQuietly s (meets e place s)
 kept-meets e place s = record {
@@ -87,20 +88,24 @@ module _ (g : Settings) (p : Past) (e : SideId) where
   kept-read_run ended s = kept-then s _ _ (kept-flow e (with_used (filter_in g p e s) (p.read e) (read_mark s e)) s) (kept-meets e _ _)
 
   pub kept-write_run : (may_end : Bool) (s : Plain) → KeptQuietly s (write_run g p e may_end s)
-  kept-write_run may_end s = kept-then s _ _ (kept-flow e (with_turned (filter_in g p e s) (filter_out g p e s) (p.read e) (hold_of g p e s)) s) (kept-meets (peer e) _ _)
+  kept-write_run may_end s = kept-then s _ _
+      (kept-flow e (with_turned (filter_in g p e s) (filter_out g p e s) (p.read e) (hold_of g p e s)) s) (kept-meets (peer e) _ _)
 
   pub kept-part : (x : Part) (s : Plain) → KeptQuietly s (do_part g p e x s)
   kept-part Part.Hold s = kept-flow e (with_held (filter_in g p e s) (filter_out g p e s) (p.read e) (hold_of g p e s)) s
-  kept-part Part.Read s = kept-then s _ _ (kept-read_run (side_at s e).ended s) (kept-flow e (with_read_done (filter_in g p e s) (p.read e) (read_mark s e) (side_at s e).ended) (read_run g p e (side_at s e).ended s))
+  kept-part Part.Read s = kept-then s _ _ (kept-read_run (side_at s e).ended s) (kept-flow e
+      (with_read_done (filter_in g p e s) (p.read e) (read_mark s e) (side_at s e).ended) (read_run g p e (side_at s e).ended s))
   kept-part Part.Move s = kept-flow e (with_moved (filter_in g p e s) (p.read e)) s
-  kept-part Part.Write s = kept-then s _ _ (kept-write_run true s) (kept-flow e (with_write_done (filter_in g p e s) (filter_out g p e s) (p.read e) (hold_of g p e s)) (write_run g p e true s))
+  kept-part Part.Write s = kept-then s _ _ (kept-write_run true s)
+      (kept-flow e (with_write_done (filter_in g p e s) (filter_out g p e s) (p.read e) (hold_of g p e s)) (write_run g p e true s))
   kept-part Part.Drain s = kept-write_run false s
 
   pub kept-after_got : (s : Plain) → KeptQuietly s (after_got g p e s)
   kept-after_got s = kept-then s _ _ (kept-read_run false s) (kept-raise_read g p e _)
 
 -- the plain state of a state that is known
-pub kept-at : (s after : Plain) (x : Stage) (new : State) → new ≡ record { stage = x; plain = after } → KeptQuietly s after → KeptQuietly s new.plain
+pub kept-at : (s after : Plain) (x : Stage) (new : State) → new ≡ record { stage = x; plain = after } → KeptQuietly s after →
+    KeptQuietly s new.plain
 kept-at s after x new e k = subst (λ z. KeptQuietly s z.plain) (sym e) k
 
 pub kept-quietly : (g : Settings) (t : Trace) (x : Stage) (s : Plain) (new : State) → Quietly g t x s new → KeptQuietly s new.plain
@@ -113,7 +118,8 @@ kept-quietly g t (Stage.Filtering e ms) s new h = kept-at s _ _ new h (kept-afte
 kept-quietly g t (Stage.Serving []) s new h = kept-at s _ _ new h (kept-due s [])
 kept-quietly g t (Stage.Firing x rs) s new h = kept-at s s _ new h (kept-same s)
 kept-quietly g t (Stage.Dispatching []) s new h = kept-at s s _ new h (kept-same s)
-kept-quietly g t (Stage.Passing [] (e ∷ es)) s new h = elim h [ inl passed ↦ kept-at s s _ new passed.1 (kept-same s) | inr begins ↦ kept-at s s _ new begins (kept-same s) ]
+kept-quietly g t (Stage.Passing [] (e ∷ es)) s new h = elim h [ inl passed ↦ kept-at s s _ new passed.1 (kept-same s) | inr begins
+    ↦ kept-at s s _ new begins (kept-same s) ]
 kept-quietly g t (Stage.Passing (x ∷ xs) (e ∷ es)) s new h = kept-at s _ _ new h (kept-part g (past g t) e x s)
 kept-quietly g t (Stage.Passing [] []) s new h = kept-at s s _ new h (kept-same s)
 kept-quietly g t (Stage.Closing (c ∷ cs)) s new h = kept-at s s _ new h.1 (kept-same s)

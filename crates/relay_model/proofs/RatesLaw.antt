@@ -58,7 +58,8 @@ fits-quietly g t (Stage.Filtering e ms) s new h = fits-at _ _ new h tt
 fits-quietly g t (Stage.Serving []) s new h = fits-at _ _ new h tt
 fits-quietly g t (Stage.Firing x rs) s new h = fits-at _ _ new h (fits-fire x rs s)
 fits-quietly g t (Stage.Dispatching []) s new h = fits-at _ _ new h tt
-fits-quietly g t (Stage.Passing [] (e ∷ es)) s new h = elim h [ inl passed ↦ fits-at _ _ new passed.1 tt | inr begins ↦ fits-at _ _ new begins tt ]
+fits-quietly g t (Stage.Passing [] (e ∷ es)) s new h = elim h [ inl passed ↦ fits-at _ _ new passed.1 tt | inr begins ↦ fits-at _ _
+    new begins tt ]
 fits-quietly g t (Stage.Passing (x ∷ xs) (e ∷ es)) s new h = fits-at _ _ new h tt
 fits-quietly g t (Stage.Passing [] []) s new h = fits-at _ _ new h tt
 fits-quietly g t (Stage.Closing (c ∷ cs)) s new h = fits-at _ _ new h.1 tt
@@ -66,7 +67,8 @@ fits-quietly g t (Stage.Closing []) s new h = fits-at _ _ new h tt
 fits-quietly g t _ s new h = absurd h
 
 -- an ask that is answered Ok did what it does
-pub answered-ok : (r : Option AskAnswer) (g : Settings) (p : Past) (s : Plain) (a : Act) (new : Plain) → refusal g s a ≡ r → Answered r g p s a ask.Ok new → new ≡ done g p s a
+pub answered-ok : (r : Option AskAnswer) (g : Settings) (p : Past) (s : Plain) (a : Act) (new : Plain) → refusal g s a ≡ r →
+    Answered r g p s a ask.Ok new → new ≡ done g p s a
 answered-ok (Some refused) g p s a new is h = absurd (refusal-not_ok g s a refused is (sym h.0))
 answered-ok None g p s a new is h = elim h [ inl ok ↦ ok.1 | inr lacks ↦ let bad : ask.Ok ≡ ask.Memory = lacks.0 in cc ]
 
@@ -82,7 +84,8 @@ pub fits-reading : (e : SideId) (answer : ReadAnswer) (ms : List Want) (s : Plai
 fits-reading e (read.Got n) ms s = tt
 fits-reading e _ ms s = tt
 
-pub fits-puts : (g : Settings) (t : Trace) (x : Stage) (s : Plain) (e : Entry) (bytes : List ℕ) (new : State) → Puts g t x s e bytes new → StageFits new.stage new.plain
+pub fits-puts : (g : Settings) (t : Trace) (x : Stage) (s : Plain) (e : Entry) (bytes : List ℕ) (new : State) → Puts g t x s e
+    bytes new → StageFits new.stage new.plain
 fits-puts g t Stage.Between s (entry.Turn ms) bytes new h = fits-at _ _ new h.3 tt
 fits-puts g t Stage.Polling s (entry.Poll timeout) bytes new h = fits-at _ _ new h.2 tt
 fits-puts g t (Stage.Wanting (w ∷ ws)) s (entry.Want side r w') bytes new h = fits-at _ _ new h.2 tt
@@ -108,35 +111,44 @@ ClosesRates g a s new (Some e) = (bytes : List ℕ) → RatesBy g a (e, bytes) s
 pub closing-free : (g : Settings) (a e : SideId) (why : Cause) (s : Plain) → ClosesRates g a s (freed e s) (Some (freed_entry s e why))
 closing-free g a e why s = λ bytes. rates-freed g e a (freed_entry s e why, bytes) s (λ was. refl) (λ was. refl)
 
-pub closing-rates_where : (g : Settings) (a : SideId) (s new : Plain) (holds : Bool) (e : Entry) → ClosesRates g a s new (Some e) → ClosesRates g a s new (entry_where holds e)
+pub closing-rates_where : (g : Settings) (a : SideId) (s new : Plain) (holds : Bool) (e : Entry) → ClosesRates g a s new (Some e) →
+    ClosesRates g a s new (entry_where holds e)
 closing-rates_where g a s new true e is = is
 closing-rates_where g a s new false e is = tt
 
-pub closing-faulty : (g : Settings) (a e : SideId) (s : Plain) (live : Bool) (why : Option Cause) → ClosesRates g a s (freed e s) (if live then option_map (freed_entry s e) why else None)
+pub closing-faulty : (g : Settings) (a e : SideId) (s : Plain) (live : Bool) (why : Option Cause) → ClosesRates g a s (freed e s)
+    (if live then option_map (freed_entry s e) why else None)
 closing-faulty g a e s true None = tt
 closing-faulty g a e s true (Some why) = closing-free g a e why s
 closing-faulty g a e s false why = tt
 
-pub closing-rates : (g : Settings) (p : Past) (a : SideId) (s : Plain) (c : CloseStep) → ClosesRates g a s (closed_by c s) (closing_entry g p s c)
+pub closing-rates : (g : Settings) (p : Past) (a : SideId) (s : Plain) (c : CloseStep) → ClosesRates g a s (closed_by c s)
+    (closing_entry g p s c)
 closing-rates g p a s (CloseStep.Faulty e) = closing-faulty g a e s (is_live s e) (fault (side_at s e))
 closing-rates g p a s (CloseStep.EndWriting e) =
     closing-rates_where g a s (closed_by (CloseStep.EndWriting e) s) _ (entry.CloseWrite e)
-    (λ bytes. rates-neutral g a (entry.CloseWrite e, bytes) s _ (record { limit = λ was. refl; group = λ was. refl }) (frame-change e (λ x. record x { write_ended = true }) s (λ x. refl)))
+    (λ bytes. rates-neutral g a (entry.CloseWrite e, bytes) s _ (record { limit = λ was. refl; group = λ was. refl })
+        (frame-change e (λ x. record x { write_ended = true }) s (λ x. refl)))
 closing-rates g p a s (CloseStep.BothDone k) =
     let i : SideId = record { link = k; side = In } in
     closing-rates_where g a s (freed i s) _ (freed_entry s i cause.Done) (closing-free g a i cause.Done s)
 closing-rates g p a s (CloseStep.OutDone k) = closing-free g a (record { link = k; side = Out }) cause.Done s
-closing-rates g p a s (CloseStep.PeerGone e) = closing-rates_where g a s (freed e s) _ (freed_entry s e cause.PeerGone) (closing-free g a e cause.PeerGone s)
+closing-rates g p a s (CloseStep.PeerGone e) = closing-rates_where g a s (freed e s) _ (freed_entry s e cause.PeerGone)
+    (closing-free g a e cause.PeerGone s)
 closing-rates g p a s (CloseStep.Shut e) =
     closing-rates_where g a s (closed_by (CloseStep.Shut e) s) _ (entry.Close e)
-    (λ bytes. rates-neutral g a (entry.Close e, bytes) s _ (record { limit = λ was. refl; group = λ was. refl }) (frame-change e (λ x. record x { closed = true }) s (λ x. refl)))
+    (λ bytes. rates-neutral g a (entry.Close e, bytes) s _ (record { limit = λ was. refl; group = λ was. refl })
+        (frame-change e (λ x. record x { closed = true }) s (λ x. refl)))
 
 -- A free by a hook is recorded behind its ask, and the group is gone already.
-pub rates-recorded : (g : Settings) (a gone : SideId) (s : Plain) (bytes : List ℕ) → ((b : SideId) → same_end gone b ≡ true → (side_at s b).group ≡ None) →
+pub rates-recorded : (g : Settings) (a gone : SideId) (s : Plain) (bytes : List ℕ) → ((b : SideId) → same_end gone b ≡ true →
+    (side_at s b).group ≡ None) →
     RatesBy g a (freed_entry s gone cause.Hook, bytes) s s
-rates-recorded g a gone s bytes fits = record { limit = λ was h. h; group = λ was h. by_name was h (same_end gone a) refl; begun = λ h. h; stays = λ h. refl }
+rates-recorded g a gone s bytes fits = record { limit = λ was h. h; group = λ was h. by_name was h (same_end gone a) refl; begun =
+    λ h. h; stays = λ h. refl }
   where
-    by_name : (was : Option ℕ) → (side_at s a).group ≡ was → (b : Bool) → same_end gone a ≡ b → (side_at s a).group ≡ (if same_end gone a then None else was)
+    by_name : (was : Option ℕ) → (side_at s a).group ≡ was → (b : Bool) → same_end gone a ≡ b → (side_at s a).group ≡
+        (if same_end gone a then None else was)
     by_name was h true same = fits a same ∙ sym (ap (λ b. if b then None else was) same)
     by_name was h false other = h ∙ sym (ap (λ b. if b then None else was) other)
 
@@ -151,7 +163,8 @@ begun_later turn old new same begun later le = subst (λ z. IsBegun later z) (sy
     by_case None h = tt
     by_case (Some x) h = omega arith
 
-pub rates-at : (g : Settings) (a : SideId) (x : Event) (s after : Plain) (stage : Stage) (new : State) → new ≡ record { stage = stage; plain = after } → RatesBy g a x s after → RatesBy g a x s new.plain
+pub rates-at : (g : Settings) (a : SideId) (x : Event) (s after : Plain) (stage : Stage) (new : State) → new ≡
+    record { stage = stage; plain = after } → RatesBy g a x s after → RatesBy g a x s new.plain
 rates-at g a x s after stage new e k = subst (λ z. RatesBy g a x s z.plain) (sym e) k
 
 pub rates-puts : (g : Settings) (t : Trace) (x : Stage) (s : Plain) (e : Entry) (bytes : List ℕ) (new : State) (a : SideId) →
@@ -165,19 +178,27 @@ rates-puts g t Stage.Between s (entry.Turn ms) bytes new a paired fits h =
       begun = λ h. begun_later s.turn (side_at s a).limit _ (ap (λ z. z.0) (same.rates a)) h _ (omega (arith, same.shape.turn));
       stays = λ h. ap (λ z. z.0) (same.rates a);
     })
-rates-puts g t Stage.Polling s (entry.Poll timeout) bytes new a paired fits h = rates-at g a _ s s _ new h.2 (rates-still g a (entry.Poll timeout, bytes) s (record { limit = λ was. refl; group = λ was. refl }))
-rates-puts g t (Stage.Wanting (w ∷ ws)) s (entry.Want side r w') bytes new a paired fits h = rates-at g a _ s s _ new h.2 (rates-still g a (entry.Want side r w', bytes) s (record { limit = λ was. refl; group = λ was. refl }))
-rates-puts g t (Stage.Wanting []) s entry.PollFailed bytes new a paired fits h = rates-at g a _ s s _ new h.1 (rates-still g a (entry.PollFailed, bytes) s (record { limit = λ was. refl; group = λ was. refl }))
+rates-puts g t Stage.Polling s (entry.Poll timeout) bytes new a paired fits h = rates-at g a _ s s _ new h.2
+    (rates-still g a (entry.Poll timeout, bytes) s (record { limit = λ was. refl; group = λ was. refl }))
+rates-puts g t (Stage.Wanting (w ∷ ws)) s (entry.Want side r w') bytes new a paired fits h = rates-at g a _ s s _ new h.2
+    (rates-still g a (entry.Want side r w', bytes) s (record { limit = λ was. refl; group = λ was. refl }))
+rates-puts g t (Stage.Wanting []) s entry.PollFailed bytes new a paired fits h = rates-at g a _ s s _ new h.1
+    (rates-still g a (entry.PollFailed, bytes) s (record { limit = λ was. refl; group = λ was. refl }))
 rates-puts g t (Stage.Marking (w ∷ ws) marks) s (entry.Ready side r w') bytes new a paired fits h =
     rates-at g a _ s s _ new h.3 (rates-still g a (entry.Ready side r w', bytes) s (record { limit = λ was. refl; group = λ was. refl }))
-rates-puts g t (Stage.Accepting n marks) s (entry.Opened link connected) bytes new a paired fits h = rates-at g a _ s _ _ new h.4 (rates-opened g a link connected bytes s paired h.0)
+rates-puts g t (Stage.Accepting n marks) s (entry.Opened link connected) bytes new a paired fits h = rates-at g a _ s _ _ new h.4
+    (rates-opened g a link connected bytes s paired h.0)
 rates-puts g t (Stage.Serving (m ∷ ms)) s (entry.Conn side answer) bytes new a paired fits h =
-    rates-at g a _ s _ _ new h.3 (rates-neutral g a (entry.Conn side answer, bytes) s _ (record { limit = λ was. refl; group = λ was. refl }) (frame-conn g side answer s))
+    rates-at g a _ s _ _ new h.3 (rates-neutral g a (entry.Conn side answer, bytes) s _
+        (record { limit = λ was. refl; group = λ was. refl }) (frame-conn g side answer s))
 rates-puts g t (Stage.Serving (m ∷ ms)) s (entry.Read side room answer) bytes new a paired fits h =
-    rates-at g a _ s _ _ new h.3 (rates-neutral g a (entry.Read side room answer, bytes) s _ (record { limit = λ was. refl; group = λ was. refl }) (frame-read g side answer s))
+    rates-at g a _ s _ _ new h.3 (rates-neutral g a (entry.Read side room answer, bytes) s _
+        (record { limit = λ was. refl; group = λ was. refl }) (frame-read g side answer s))
 rates-puts g t (Stage.Serving (m ∷ ms)) s (entry.Write side offered answer) bytes new a paired fits h =
-    rates-at g a _ s _ _ new h.3 (rates-neutral g a (entry.Write side offered answer, bytes) s _ (record { limit = λ was. refl; group = λ was. refl }) (frame-write g (past g t) side answer s))
-rates-puts g t (Stage.Dispatching (r ∷ rs)) s (entry.Fired side y) bytes new a paired fits h = rates-at g a _ s s _ new h.3 (rates-still g a (entry.Fired side y, bytes) s (record { limit = λ was. refl; group = λ was. refl }))
+    rates-at g a _ s _ _ new h.3 (rates-neutral g a (entry.Write side offered answer, bytes) s _
+        (record { limit = λ was. refl; group = λ was. refl }) (frame-write g (past g t) side answer s))
+rates-puts g t (Stage.Dispatching (r ∷ rs)) s (entry.Fired side y) bytes new a paired fits h = rates-at g a _ s s _ new h.3
+    (rates-still g a (entry.Fired side y, bytes) s (record { limit = λ was. refl; group = λ was. refl }))
 rates-puts g t (Stage.Firing x rs) s (entry.Asked side ask' answer) bytes new a paired fits h =
     rates-at g a _ s h.3 _ new h.5 (rates-answered g (past g t) s side a bytes (refusal g s ask') ask' answer h.3 refl h.4)
 rates-puts g t (Stage.Freeing gone x rs) s e bytes new a paired fits h =
@@ -199,13 +220,17 @@ rated-goes g t s new h q =
     record {
       shape = shape-goes t s.plain new.plain h.shape k;
       fits = fits-quietly g t s.stage s.plain new q;
-      told = λ e. record { limit = ap (λ z. cfg_of z.limit) (k.sides e) ∙ (h.told e).limit; group = ap (λ z. z.group) (k.sides e) ∙ (h.told e).group };
-      begun = λ e. begun_later s.plain.turn (side_at s.plain e).limit _ (ap (λ z. z.limit) (k.sides e)) (h.begun e) _ (omega (arith, k.turn));
+      told = λ e. record { limit = ap (λ z. cfg_of z.limit) (k.sides e) ∙ (h.told e).limit; group = ap (λ z. z.group) (k.sides e) ∙
+          (h.told e).group };
+      begun = λ e. begun_later s.plain.turn (side_at s.plain e).limit _ (ap (λ z. z.limit) (k.sides e)) (h.begun e) _
+          (omega (arith, k.turn));
     }
 
-pub rated-puts : (g : Settings) (t : Trace) (s new : State) (e : Entry) (bytes : List ℕ) → Rated g t s → Puts g t s.stage s.plain e bytes new → Rated g (t ++ (e, bytes) ∷ []) new
+pub rated-puts : (g : Settings) (t : Trace) (s new : State) (e : Entry) (bytes : List ℕ) → Rated g t s → Puts g t s.stage s.plain e
+    bytes new → Rated g (t ++ (e, bytes) ∷ []) new
 rated-puts g t s new e bytes h p =
-    let step : (a : SideId) → RatesBy g a (e, bytes) s.plain new.plain = λ a. rates-puts g t s.stage s.plain e bytes new a h.shape.sides h.fits p in
+    let step : (a : SideId) → RatesBy g a (e, bytes) s.plain new.plain = λ a. rates-puts g t s.stage s.plain e bytes new a
+        h.shape.sides h.fits p in
     record {
       shape = shape-put t (e, bytes) s.plain new.plain h.shape (shape-puts g t s.stage s.plain e bytes new p);
       fits = fits-puts g t s.stage s.plain e bytes new p;
@@ -218,7 +243,8 @@ rated-puts g t s new e bytes h p =
 
 pub rated : (g : Settings) {t : Trace} {s : State} → Reaches g t s → Rated g t s
 rated g r =
-    reaches-holds g (Rated g) (record { shape = shape-begins; fits = tt; told = λ e. record { limit = refl; group = refl }; begun = λ e. tt })
+    reaches-holds g (Rated g) (record { shape = shape-begins; fits = tt; told = λ e. record { limit = refl; group = refl }; begun =
+        λ e. tt })
     (rated-goes g) (rated-puts g) r
 
 pub rates-are_told : TraceTellsRates

@@ -26,10 +26,12 @@ use Rattle.relay_model.specs.RatesKept.{limit_by, limit_after, is_rate_ask}
 use Rattle.relay_model.proofs.PlainLemmas.{seen-change, side_at-change, side_at-same, side_at-other, side_at-new, side_at-old, live-within, same_end-number}
 use Rattle.relay_model.proofs.Frames.{SameFrame, rates_of, frame-same, frame-change, frame-waiting, frame-raise_read, frame-raise_write}
 
-pub limit_after-push : (g : Settings) (e : SideId) (t : Trace) (x : Event) → limit_after g e (t ++ x ∷ []) ≡ limit_by g e (limit_after g e t) x
+pub limit_after-push : (g : Settings) (e : SideId) (t : Trace) (x : Event) → limit_after g e (t ++ x ∷ []) ≡ limit_by g e
+    (limit_after g e t) x
 limit_after-push g e t x = fold-append (λ was y. limit_by g e was y) None t (x ∷ [])
 
-pub group_after-push : (g : Settings) (e : SideId) (t : Trace) (x : Event) → group_after g e (t ++ x ∷ []) ≡ group_by g e (group_after g e t) x
+pub group_after-push : (g : Settings) (e : SideId) (t : Trace) (x : Event) → group_after g e (t ++ x ∷ []) ≡ group_by g e
+    (group_after g e t) x
 group_after-push g e t x = fold-append (λ was y. group_by g e was y) None t (x ∷ [])
 
 abbrev pub cfg_of : Option Standing → Option LimitCfg
@@ -61,13 +63,15 @@ pub rates-neutral : (g : Settings) (e : SideId) (x : Event) (old new : Plain) �
 rates-neutral g e x old new neutral same = record {
   limit = λ was h. ap (λ z. cfg_of z.0) (same.rates e) ∙ h ∙ sym (neutral.limit was);
   group = λ was h. ap (λ z. z.1) (same.rates e) ∙ h ∙ sym (neutral.group was);
-  begun = λ h. subst (λ z. IsBegun new.turn z) (sym (ap (λ z. z.0) (same.rates e))) (subst (λ n. IsBegun n (side_at old e).limit) (sym same.shape.turn) h);
+  begun = λ h. subst (λ z. IsBegun new.turn z) (sym (ap (λ z. z.0) (same.rates e))) (subst (λ n. IsBegun n (side_at old e).limit)
+      (sym same.shape.turn) h);
   stays = λ h. ap (λ z. z.0) (same.rates e);
 }
 
 -- A free takes the side out of its group and leaves all limits.
 pub freed-limit : (e a : SideId) (s : Plain) → (side_at (freed e s) a).limit ≡ (side_at s a).limit
-freed-limit e a s = seen-change (λ x. x.limit) e a (λ x. record x { live = false; group = None }) (record s { timers = without_timer e s.timers; due = without_due e s.due }) (λ x. refl)
+freed-limit e a s = seen-change (λ x. x.limit) e a (λ x. record x { live = false; group = None })
+    (record s { timers = without_timer e s.timers; due = without_due e s.due }) (λ x. refl)
 
 pub freed-group : (e a : SideId) (s : Plain) → (side_at (freed e s) a).group ≡ (if same_end e a then None else (side_at s a).group)
 freed-group e a s = by_name (same_end e a) refl
@@ -85,14 +89,18 @@ freed-group e a s = by_name (same_end e a) refl
     by_place : (b : Bool) → nat_lt (number e) (length s.sides) ≡ b → same_end e a ≡ true → (side_at (freed e s) a).group ≡ None
     by_place true h same = ap (λ x. x.group) (side_at-same e a out rest (ltb-true (number e) (length s.sides) h) same)
     by_place false h same =
-        nothing (ap (λ k. slice_index_or s.sides k no_side) (sym (same_end-number e a same)) ∙ get_or_past s.sides (number e) no_side (ltb-false (number e) (length s.sides) h))
+        nothing (ap (λ k. slice_index_or s.sides k no_side) (sym (same_end-number e a same)) ∙ get_or_past s.sides (number e)
+            no_side (ltb-false (number e) (length s.sides) h))
 
     by_name : (b : Bool) → same_end e a ≡ b → (side_at (freed e s) a).group ≡ (if same_end e a then None else (side_at s a).group)
-    by_name true same = by_place (nat_lt (number e) (length s.sides)) refl same ∙ sym (ap (λ b. if b then None else (side_at s a).group) same)
-    by_name false other = ap (λ x. x.group) (side_at-other e a out rest other) ∙ sym (ap (λ b. if b then None else (side_at s a).group) other)
+    by_name true same = by_place (nat_lt (number e) (length s.sides)) refl same ∙ sym
+        (ap (λ b. if b then None else (side_at s a).group) same)
+    by_name false other = ap (λ x. x.group) (side_at-other e a out rest other) ∙ sym
+        (ap (λ b. if b then None else (side_at s a).group) other)
 
 pub rates-freed : (g : Settings) (e a : SideId) (x : Event) (s : Plain) →
-    ((was : Option LimitCfg) → limit_by g a was x ≡ was) → ((was : Option ℕ) → group_by g a was x ≡ (if same_end e a then None else was)) → RatesBy g a x s (freed e s)
+    ((was : Option LimitCfg) → limit_by g a was x ≡ was) → ((was : Option ℕ) → group_by g a was x ≡
+        (if same_end e a then None else was)) → RatesBy g a x s (freed e s)
 rates-freed g e a x s limit group = record {
   limit = λ was h. ap cfg_of (freed-limit e a s) ∙ h ∙ sym (limit was);
   group = λ was h. freed-group e a s ∙ ap (λ z. if same_end e a then None else z) h ∙ sym (group was);
@@ -110,9 +118,11 @@ pub set_begun : (time turn : ℕ) (cfg : Option LimitCfg) → IsBegun turn (opti
 set_begun time turn None = tt
 set_begun time turn (Some cfg) = omega arith
 
-pub rates-opened : (g : Settings) (a : SideId) (link : ℕ) (connected : Bool) (bytes : List ℕ) (s : Plain) → length s.sides ≡ 2 * s.opened → link ≡ s.opened →
+pub rates-opened : (g : Settings) (a : SideId) (link : ℕ) (connected : Bool) (bytes : List ℕ) (s : Plain) → length s.sides ≡ 2 *
+    s.opened → link ≡ s.opened →
     RatesBy g a (entry.Opened link connected, bytes) s (with_link g connected s)
-rates-opened g a link connected bytes s paired next = elim (eqb_tells link a.link) [ inl same ↦ new_one same.0 (sym next ∙ same.1) | inr other ↦ old_one other.0 (λ h. other.1 (next ∙ h)) ]
+rates-opened g a link connected bytes s paired next = elim (eqb_tells link a.link) [ inl same ↦ new_one same.0
+    (sym next ∙ same.1) | inr other ↦ old_one other.0 (λ h. other.1 (next ∙ h)) ]
   where
     x : Event
     x = (entry.Opened link connected, bytes)
@@ -121,7 +131,8 @@ rates-opened g a link connected bytes s paired next = elim (eqb_tells link a.lin
     new_one named here =
         let seen = side_at-new g connected s a paired here in
         record {
-          limit = λ was h. ap (λ z. cfg_of z.limit) seen ∙ set_cfg s.time s.turn (rate_set g a.side) ∙ sym (ap (λ b. if b then rate_set g a.side else was) named);
+          limit = λ was h. ap (λ z. cfg_of z.limit) seen ∙ set_cfg s.time s.turn (rate_set g a.side) ∙ sym
+              (ap (λ b. if b then rate_set g a.side else was) named);
           group = λ was h. ap (λ z. z.group) seen ∙ sym (ap (λ b. if b then group_set g a.side else was) named);
           begun = λ h. subst (λ z. IsBegun s.turn z) (sym (ap (λ z. z.limit) seen)) (set_begun s.time s.turn (rate_set g a.side));
           stays = λ h. absurd (let bad : true ≡ false = sym named ∙ h in cc);
@@ -151,34 +162,43 @@ not-false true h = refl
 not-false false h = cc
 
 -- no refusal is Ok
-pub first-not_ok : (b : Bool) (r given : AskAnswer) (rest : Option AskAnswer) → (given ≡ ask.Ok → ⊥) → (rest ≡ Some r → r ≡ ask.Ok → ⊥) → (if b then Some given else rest) ≡ Some r → r ≡ ask.Ok → ⊥
+pub first-not_ok : (b : Bool) (r given : AskAnswer) (rest : Option AskAnswer) → (given ≡ ask.Ok → ⊥) →
+    (rest ≡ Some r → r ≡ ask.Ok → ⊥) → (if b then Some given else rest) ≡ Some r → r ≡ ask.Ok → ⊥
 first-not_ok true r given rest not_ok others h ok = not_ok (let same : given ≡ r = cc in same ∙ ok)
 first-not_ok false r given rest not_ok others h ok = others h ok
 
 pub refusal-not_ok : (g : Settings) (s : Plain) (a : Act) (r : AskAnswer) → refusal g s a ≡ Some r → r ≡ ask.Ok → ⊥
 refusal-not_ok g s a r =
-    first-not_ok _ r ask.NotLive _ (λ h. cc) (first-not_ok _ r ask.BadValue _ (λ h. cc) (first-not_ok _ r ask.NoGroup _ (λ h. cc) (first-not_ok _ r ask.TooManyRefs None (λ h. cc) (λ h ok. cc))))
+    first-not_ok _ r ask.NotLive _ (λ h. cc)
+        (first-not_ok _ r ask.BadValue _ (λ h. cc) (first-not_ok _ r ask.NoGroup _ (λ h. cc)
+        (first-not_ok _ r ask.TooManyRefs None (λ h. cc) (λ h ok. cc))))
 
 -- an ask that isn't answered Ok changes no limit and no group
-pub neutral-refused : (g : Settings) (e me : SideId) (a : Act) (answer : AskAnswer) (bytes : List ℕ) → (answer ≡ ask.Ok → ⊥) → IsNeutral g e (entry.Asked me a answer, bytes)
-neutral-refused g e me a answer bytes not_ok = record { limit = λ was. by_limit a answer not_ok was; group = λ was. by_group a answer not_ok was }
+pub neutral-refused : (g : Settings) (e me : SideId) (a : Act) (answer : AskAnswer) (bytes : List ℕ) → (answer ≡ ask.Ok → ⊥) →
+    IsNeutral g e (entry.Asked me a answer, bytes)
+neutral-refused g e me a answer bytes not_ok = record { limit = λ was. by_limit a answer not_ok was; group = λ was. by_group a
+    answer not_ok was }
   where
-    by_limit : (a : Act) (answer : AskAnswer) → (answer ≡ ask.Ok → ⊥) → (was : Option LimitCfg) → limit_by g e was (entry.Asked me a answer, bytes) ≡ was
+    by_limit : (a : Act) (answer : AskAnswer) → (answer ≡ ask.Ok → ⊥) → (was : Option LimitCfg) → limit_by g e was
+        (entry.Asked me a answer, bytes) ≡ was
     by_limit (act.Rate side cfg) ask.Ok not_ok was = absurd (not_ok refl)
     by_limit _ _ not_ok was = refl
 
-    by_group : (a : Act) (answer : AskAnswer) → (answer ≡ ask.Ok → ⊥) → (was : Option ℕ) → group_by g e was (entry.Asked me a answer, bytes) ≡ was
+    by_group : (a : Act) (answer : AskAnswer) → (answer ≡ ask.Ok → ⊥) → (was : Option ℕ) → group_by g e was
+        (entry.Asked me a answer, bytes) ≡ was
     by_group (act.Free side) ask.Ok not_ok was = absurd (not_ok refl)
     by_group (act.Join side n) ask.Ok not_ok was = absurd (not_ok refl)
     by_group (act.Leave side) ask.Ok not_ok was = absurd (not_ok refl)
     by_group _ _ not_ok was = refl
 
-pub set_limit-cfg : (p : Past) (s : Plain) (e : SideId) (was : Option Standing) (cfg : Option LimitCfg) → cfg_of (limit_set p s e was cfg) ≡ cfg
+pub set_limit-cfg : (p : Past) (s : Plain) (e : SideId) (was : Option Standing) (cfg : Option LimitCfg) → cfg_of
+    (limit_set p s e was cfg) ≡ cfg
 set_limit-cfg p s e was None = refl
 set_limit-cfg p s e None (Some cfg) = refl
 set_limit-cfg p s e (Some was) (Some cfg) = refl
 
-pub set_limit-begun : (p : Past) (s : Plain) (e : SideId) (was : Option Standing) (cfg : Option LimitCfg) → IsBegun s.turn (limit_set p s e was cfg)
+pub set_limit-begun : (p : Past) (s : Plain) (e : SideId) (was : Option Standing) (cfg : Option LimitCfg) → IsBegun s.turn
+    (limit_set p s e was cfg)
 set_limit-begun p s e was None = tt
 set_limit-begun p s e None (Some cfg) = omega arith
 set_limit-begun p s e (Some was) (Some cfg) = omega arith
@@ -188,7 +208,8 @@ enabled-rates dir.Read on x = refl
 enabled-rates dir.Write on x = refl
 
 module _ (g : Settings) (p : Past) (s : Plain) (me a : SideId) (bytes : List ℕ) where
-  pub rates-rate : (e : SideId) (cfg : Option LimitCfg) → is_live s e ≡ true → RatesBy g a (entry.Asked me (act.Rate e cfg) ask.Ok, bytes) s (done g p s (act.Rate e cfg))
+  pub rates-rate : (e : SideId) (cfg : Option LimitCfg) → is_live s e ≡ true → RatesBy g a
+      (entry.Asked me (act.Rate e cfg) ask.Ok, bytes) s (done g p s (act.Rate e cfg))
   rates-rate e cfg live = by_name (same_end e a) refl
     where
       set : PlainSide → PlainSide
@@ -198,7 +219,8 @@ module _ (g : Settings) (p : Past) (s : Plain) (me a : SideId) (bytes : List ℕ
       by_name true same =
           let seen = side_at-same e a set s (live-within s e live) same in
           record {
-            limit = λ was h. ap (λ z. cfg_of z.limit) seen ∙ set_limit-cfg p s e (side_at s a).limit cfg ∙ sym (ap (λ b. if b then cfg else was) same);
+            limit = λ was h. ap (λ z. cfg_of z.limit) seen ∙ set_limit-cfg p s e (side_at s a).limit cfg ∙ sym
+                (ap (λ b. if b then cfg else was) same);
             group = λ was h. ap (λ z. z.group) seen ∙ h;
             begun = λ h. subst (λ z. IsBegun s.turn z) (sym (ap (λ z. z.limit) seen)) (set_limit-begun p s e (side_at s a).limit cfg);
             stays = λ h. absurd (let bad : true ≡ false = sym same ∙ h in cc);
@@ -214,7 +236,8 @@ module _ (g : Settings) (p : Past) (s : Plain) (me a : SideId) (bytes : List ℕ
 
   -- the side is put into a group, or out of one
   pub rates-group : (e : SideId) (n : Option ℕ) (x : Event) → is_live s e ≡ true → ((was : Option LimitCfg) → limit_by g a was x ≡ was) →
-      ((was : Option ℕ) → group_by g a was x ≡ (if same_end e a then n else was)) → RatesBy g a x s (change_side e (λ x. record x { group = n }) s)
+      ((was : Option ℕ) → group_by g a was x ≡ (if same_end e a then n else was)) → RatesBy g a x s
+          (change_side e (λ x. record x { group = n }) s)
   rates-group e n x live limit group = by_name (same_end e a) refl
     where
       set : PlainSide → PlainSide
@@ -243,28 +266,40 @@ module _ (g : Settings) (p : Past) (s : Plain) (me a : SideId) (bytes : List ℕ
   rates-done (act.Rate e cfg) live = rates-rate e cfg (not-false (is_live s e) live)
   rates-done (act.Join e n) live = rates-group e (Some n) _ (not-false (is_live s e) live) (λ was. refl) (λ was. refl)
   rates-done (act.Leave e) live = rates-group e None _ (not-false (is_live s e) live) (λ was. refl) (λ was. refl)
-  rates-done (act.Enable e d) live = rates-neutral g a _ s _ (record { limit = λ was. refl; group = λ was. refl }) (frame-change e (enabled d true) s (enabled-rates d true))
-  rates-done (act.Disable e d) live = rates-neutral g a _ s _ (record { limit = λ was. refl; group = λ was. refl }) (frame-change e (enabled d false) s (enabled-rates d false))
+  rates-done (act.Enable e d) live = rates-neutral g a _ s _ (record { limit = λ was. refl; group = λ was. refl })
+      (frame-change e (enabled d true) s (enabled-rates d true))
+  rates-done (act.Disable e d) live = rates-neutral g a _ s _ (record { limit = λ was. refl; group = λ was. refl })
+      (frame-change e (enabled d false) s (enabled-rates d false))
   rates-done (act.Marks e d low high) live =
-      rates-neutral g a _ s _ (record { limit = λ was. refl; group = λ was. refl }) (frame-change e (λ x. record x { marks = marked d low high x.marks }) s (λ x. refl))
+      rates-neutral g a _ s _ (record { limit = λ was. refl; group = λ was. refl }) (frame-change e
+          (λ x. record x { marks = marked d low high x.marks }) s (λ x. refl))
   rates-done (act.Timeouts e r w) live =
       rates-neutral g a _ s _ (record { limit = λ was. refl; group = λ was. refl })
-      (frame-change e (λ x. record x { timeouts = record { read_ms = r; write_ms = w }; last_read = s.time; last_write = s.time }) s (λ x. refl))
-  rates-done (act.Trigger e dir.Read) live = rates-neutral g a _ s _ (record { limit = λ was. refl; group = λ was. refl }) (frame-raise_read g p e s)
-  rates-done (act.Trigger e dir.Write) live = rates-neutral g a _ s _ (record { limit = λ was. refl; group = λ was. refl }) (frame-raise_write g p e s)
-  rates-done (act.Timer e delay) live = rates-neutral g a _ s _ (record { limit = λ was. refl; group = λ was. refl }) (frame-waiting s _ s.due)
+      (frame-change e (λ x. record x { timeouts = record { read_ms = r; write_ms = w }; last_read = s.time; last_write = s.time })
+          s (λ x. refl))
+  rates-done (act.Trigger e dir.Read) live = rates-neutral g a _ s _ (record { limit = λ was. refl; group = λ was. refl })
+      (frame-raise_read g p e s)
+  rates-done (act.Trigger e dir.Write) live = rates-neutral g a _ s _ (record { limit = λ was. refl; group = λ was. refl })
+      (frame-raise_write g p e s)
+  rates-done (act.Timer e delay) live = rates-neutral g a _ s _ (record { limit = λ was. refl; group = λ was. refl })
+      (frame-waiting s _ s.due)
   rates-done (act.Cancel e) live = rates-neutral g a _ s _ (record { limit = λ was. refl; group = λ was. refl }) (frame-waiting s _ s.due)
-  rates-done (act.Incref e) live = rates-neutral g a _ s _ (record { limit = λ was. refl; group = λ was. refl }) (frame-change e (λ x. record x { references = x.references + 1 }) s (λ x. refl))
-  rates-done (act.Decref e) live = rates-neutral g a _ s _ (record { limit = λ was. refl; group = λ was. refl }) (frame-change e (λ x. record x { references = x.references - 1 }) s (λ x. refl))
+  rates-done (act.Incref e) live = rates-neutral g a _ s _ (record { limit = λ was. refl; group = λ was. refl })
+      (frame-change e (λ x. record x { references = x.references + 1 }) s (λ x. refl))
+  rates-done (act.Decref e) live = rates-neutral g a _ s _ (record { limit = λ was. refl; group = λ was. refl })
+      (frame-change e (λ x. record x { references = x.references - 1 }) s (λ x. refl))
   rates-done act.Stop live = rates-neutral g a _ s _ (record { limit = λ was. refl; group = λ was. refl }) (frame-same s)
 
-  pub rates-answered : (r : Option AskAnswer) (ask' : Act) (answer : AskAnswer) (new : Plain) → refusal g s ask' ≡ r → Answered r g p s ask' answer new →
+  pub rates-answered : (r : Option AskAnswer) (ask' : Act) (answer : AskAnswer) (new : Plain) → refusal g s ask' ≡ r → Answered r g
+      p s ask' answer new →
       RatesBy g a (entry.Asked me ask' answer, bytes) s new
   rates-answered (Some refused) ask' answer new is h =
       rates-neutral g a _ s new (neutral-refused g a me ask' answer bytes (λ ok. refusal-not_ok g s ask' refused is (sym h.0 ∙ ok)))
       (subst (λ z. SameFrame s z) (sym h.1) (frame-same s))
   rates-answered None ask' answer new is h =
       elim h [
-        | inl ok ↦ subst (λ z. RatesBy g a (entry.Asked me ask' z, bytes) s new) (sym ok.0) (subst (λ z. RatesBy g a (entry.Asked me ask' ask.Ok, bytes) s z) (sym ok.1) (rates-done ask' (ask-live g s ask' is)))
-        | inr lacks ↦ rates-neutral g a _ s new (neutral-refused g a me ask' answer bytes (λ ok. let no : ask.Memory ≡ ask.Ok = sym lacks.0 ∙ ok in cc)) (subst (λ z. SameFrame s z) (sym lacks.2) (frame-same s))
+        | inl ok ↦ subst (λ z. RatesBy g a (entry.Asked me ask' z, bytes) s new) (sym ok.0)
+            (subst (λ z. RatesBy g a (entry.Asked me ask' ask.Ok, bytes) s z) (sym ok.1) (rates-done ask' (ask-live g s ask' is)))
+        | inr lacks ↦ rates-neutral g a _ s new (neutral-refused g a me ask' answer bytes (λ ok. let no : ask.Memory ≡ ask.Ok = sym
+            lacks.0 ∙ ok in cc)) (subst (λ z. SameFrame s z) (sym lacks.2) (frame-same s))
       ]

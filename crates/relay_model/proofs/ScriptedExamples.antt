@@ -44,7 +44,8 @@ once lines steps = played ((0, lines) ∷ []) (Step.Now ∷ steps)
 
 -- The clock may fall, and the time stays. Closing turns go on from the last reading.
 clock-goes_on : played ((5000, []) ∷ (1000, []) ∷ []) (Step.Now ∷ Step.Now ∷ Step.Now ∷ Step.Now ∷ Step.Now ∷ Step.Now ∷ [])
-    ≡ plain (entry.Turn 5000) ∷ plain (entry.Turn 5000) ∷ plain (entry.Turn 5000) ∷ plain (entry.Turn 5000) ∷ plain (entry.Turn 5000) ∷ plain (entry.Turn 5000) ∷ []
+    ≡ plain (entry.Turn 5000) ∷ plain (entry.Turn 5000) ∷ plain (entry.Turn 5000) ∷ plain (entry.Turn 5000) ∷ plain
+        (entry.Turn 5000) ∷ plain (entry.Turn 5000) ∷ []
 clock-goes_on = refl
 
 clock-passes_at_last : played ((2500, []) ∷ (1000, []) ∷ []) (Step.Now ∷ Step.Now ∷ Step.Now ∷ Step.Now ∷ [])
@@ -60,8 +61,10 @@ links-in_order : once (line.NewLink false ∷ line.NewLink true ∷ []) (Step.Ac
 links-in_order = refl
 
 -- A read gives what is pending, and then fails or is ended.
-reads-in_parts : once (line.NewLink false ∷ line.Pending i (1 ∷ 2 ∷ []) ∷ line.Pending o (7 ∷ []) ∷ line.Pending i (3 ∷ []) ∷ line.Eof i ∷ []) (Step.Read i 2 ∷ Step.Read i 2 ∷ Step.Read i 2 ∷ Step.Read o 2 ∷ Step.Read o 2 ∷ [])
-    ≡ plain (entry.Turn 0) ∷ (entry.Read i 2 (read.Got 2), 1 ∷ 2 ∷ []) ∷ (entry.Read i 2 (read.Got 1), 3 ∷ []) ∷ plain (entry.Read i 2 read.Ended)
+reads-in_parts : once (line.NewLink false ∷ line.Pending i (1 ∷ 2 ∷ []) ∷ line.Pending o (7 ∷ []) ∷ line.Pending i (3 ∷ []) ∷
+    line.Eof i ∷ []) (Step.Read i 2 ∷ Step.Read i 2 ∷ Step.Read i 2 ∷ Step.Read o 2 ∷ Step.Read o 2 ∷ [])
+    ≡ plain (entry.Turn 0) ∷ (entry.Read i 2 (read.Got 2), 1 ∷ 2 ∷ []) ∷ (entry.Read i 2 (read.Got 1), 3 ∷ []) ∷ plain
+        (entry.Read i 2 read.Ended)
     ∷ (entry.Read o 2 (read.Got 1), 7 ∷ []) ∷ plain (entry.Read o 2 read.NotYet) ∷ []
 reads-in_parts = refl
 
@@ -71,21 +74,26 @@ reads-fail_first = refl
 
 -- A write takes what it may, and then fails or waits. A closing turn takes everything.
 writes-in_parts : once (line.Take o (Some 1) ∷ line.Take o (Some 2) ∷ line.Take i (Some 1) ∷ line.WriteFail o ∷ [])
-    (Step.Write o (1 ∷ 2 ∷ []) ∷ Step.Write o (3 ∷ 4 ∷ []) ∷ Step.Write o (4 ∷ []) ∷ Step.Write i (5 ∷ []) ∷ Step.Write i (6 ∷ []) ∷ Step.Now ∷ Step.Write o (4 ∷ []) ∷ Step.Write i (6 ∷ []) ∷ [])
-    ≡ plain (entry.Turn 0) ∷ (entry.Write o 2 (write.Took 2), 1 ∷ 2 ∷ []) ∷ (entry.Write o 2 (write.Took 1), 3 ∷ []) ∷ plain (entry.Write o 1 write.Failed)
+    (Step.Write o (1 ∷ 2 ∷ []) ∷ Step.Write o (3 ∷ 4 ∷ []) ∷ Step.Write o (4 ∷ []) ∷ Step.Write i (5 ∷ []) ∷ Step.Write i (6 ∷ [])
+        ∷ Step.Now ∷ Step.Write o (4 ∷ []) ∷ Step.Write i (6 ∷ []) ∷ [])
+    ≡ plain (entry.Turn 0) ∷ (entry.Write o 2 (write.Took 2), 1 ∷ 2 ∷ []) ∷ (entry.Write o 2 (write.Took 1), 3 ∷ []) ∷ plain
+        (entry.Write o 1 write.Failed)
     ∷ (entry.Write i 1 (write.Took 1), 5 ∷ []) ∷ plain (entry.Write i 1 write.NotYet)
     ∷ plain (entry.Turn 1000) ∷ (entry.Write o 1 (write.Took 1), 4 ∷ []) ∷ (entry.Write i 1 (write.Took 1), 6 ∷ []) ∷ []
 writes-in_parts = refl
 
-writes-any_number : once (line.Take o None ∷ []) (Step.Write o (1 ∷ 2 ∷ []) ∷ []) ≡ plain (entry.Turn 0) ∷ (entry.Write o 2 (write.Took 2), 1 ∷ 2 ∷ []) ∷ []
+writes-any_number : once (line.Take o None ∷ []) (Step.Write o (1 ∷ 2 ∷ []) ∷ []) ≡ plain (entry.Turn 0) ∷
+    (entry.Write o 2 (write.Took 2), 1 ∷ 2 ∷ []) ∷ []
 writes-any_number = refl
 
 -- An undecided end waits for the first decision, which a closing turn brings.
-check-decided : once (line.NewLink true ∷ line.NewLink true ∷ line.Conn 1 true ∷ line.Conn 0 false ∷ line.Conn 0 true ∷ []) (Step.Check o ∷ Step.Check (record { link = 1; side = Out }) ∷ [])
+check-decided : once (line.NewLink true ∷ line.NewLink true ∷ line.Conn 1 true ∷ line.Conn 0 false ∷ line.Conn 0 true ∷ [])
+    (Step.Check o ∷ Step.Check (record { link = 1; side = Out }) ∷ [])
     ≡ plain (entry.Turn 0) ∷ plain (entry.Conn o conn.Failed) ∷ plain (entry.Conn (record { link = 1; side = Out }) conn.Connected) ∷ []
 check-decided = refl
 
-check-closing : once (line.NewLink true ∷ []) (Step.Check o ∷ Step.Now ∷ Step.Check o ∷ []) ≡ plain (entry.Turn 0) ∷ plain (entry.Conn o conn.Pending) ∷ plain (entry.Turn 1000) ∷ plain (entry.Conn o conn.Connected) ∷ []
+check-closing : once (line.NewLink true ∷ []) (Step.Check o ∷ Step.Now ∷ Step.Check o ∷ []) ≡ plain (entry.Turn 0) ∷ plain
+    (entry.Conn o conn.Pending) ∷ plain (entry.Turn 1000) ∷ plain (entry.Conn o conn.Connected) ∷ []
 check-closing = refl
 
 -- The poll marks what is wanted and can be done, but for the lines that mark all or fail it in their turn alone.
@@ -96,18 +104,22 @@ abbrev polled : List TurnLine → Trace
 polled lines = once lines (Step.Poll (Some 9) wants_all ∷ [])
 
 abbrev poll_then : Trace → Trace
-poll_then marks = plain (entry.Turn 0) ∷ plain (entry.Poll (Some 9)) ∷ plain (entry.Want i true true) ∷ plain (entry.Want o true true) ∷ marks
+poll_then marks = plain (entry.Turn 0) ∷ plain (entry.Poll (Some 9)) ∷ plain (entry.Want i true true) ∷ plain
+    (entry.Want o true true) ∷ marks
 
 poll-nothing : polled (line.NewLink false ∷ []) ≡ poll_then []
 poll-nothing = refl
 
-poll-pending : polled (line.NewLink false ∷ line.Pending i (1 ∷ []) ∷ line.Take o (Some 1) ∷ []) ≡ poll_then (plain (entry.Ready i true false) ∷ plain (entry.Ready o false true) ∷ [])
+poll-pending : polled (line.NewLink false ∷ line.Pending i (1 ∷ []) ∷ line.Take o (Some 1) ∷ []) ≡ poll_then
+    (plain (entry.Ready i true false) ∷ plain (entry.Ready o false true) ∷ [])
 poll-pending = refl
 
-poll-at_the_end : polled (line.NewLink false ∷ line.Eof i ∷ line.ReadFail o ∷ []) ≡ poll_then (plain (entry.Ready i true false) ∷ plain (entry.Ready o true false) ∷ [])
+poll-at_the_end : polled (line.NewLink false ∷ line.Eof i ∷ line.ReadFail o ∷ []) ≡ poll_then
+    (plain (entry.Ready i true false) ∷ plain (entry.Ready o true false) ∷ [])
 poll-at_the_end = refl
 
-poll-failing_writes : polled (line.NewLink false ∷ line.WriteFail o ∷ line.Take i None ∷ []) ≡ poll_then (plain (entry.Ready i false true) ∷ plain (entry.Ready o false true) ∷ [])
+poll-failing_writes : polled (line.NewLink false ∷ line.WriteFail o ∷ line.Take i None ∷ []) ≡ poll_then
+    (plain (entry.Ready i false true) ∷ plain (entry.Ready o false true) ∷ [])
 poll-failing_writes = refl
 
 poll-undecided : polled (line.NewLink true ∷ line.Take o None ∷ []) ≡ poll_then []
@@ -123,8 +135,10 @@ poll-connected = refl
 poll-all_of_an_end : polled (line.NewLink true ∷ line.Spur o ∷ []) ≡ poll_then (plain (entry.Ready o true true) ∷ [])
 poll-all_of_an_end = refl
 
-poll-all_in_its_turn : once (line.NewLink true ∷ line.Spur i ∷ line.PollFail ∷ []) (Step.Now ∷ Step.Poll None (want i true false ∷ want o false true ∷ []) ∷ [])
-    ≡ plain (entry.Turn 0) ∷ plain (entry.Turn 1000) ∷ plain (entry.Poll None) ∷ plain (entry.Want i true false) ∷ plain (entry.Want o false true) ∷ plain (entry.Ready o false true) ∷ []
+poll-all_in_its_turn : once (line.NewLink true ∷ line.Spur i ∷ line.PollFail ∷ []) (Step.Now ∷ Step.Poll None
+    (want i true false ∷ want o false true ∷ []) ∷ [])
+    ≡ plain (entry.Turn 0) ∷ plain (entry.Turn 1000) ∷ plain (entry.Poll None) ∷ plain (entry.Want i true false) ∷ plain
+        (entry.Want o false true) ∷ plain (entry.Ready o false true) ∷ []
 poll-all_in_its_turn = refl
 
 poll-fails : polled (line.NewLink false ∷ line.Pending i (1 ∷ []) ∷ line.PollFail ∷ []) ≡ poll_then (plain entry.PollFailed ∷ [])
@@ -135,7 +149,8 @@ abbrev planned : ℕ → Planned
 planned n = record { kind = why_kind.Read; nth = n; act = Some act.Stop }
 
 abbrev planned_script : Script
-planned_script = record { settings = usual; plans = (o, planned 1) ∷ (record { link = 7; side = In }, planned 1) ∷ (o, planned 2) ∷ []; turns = [] }
+planned_script = record { settings = usual; plans = (o, planned 1) ∷ (record { link = 7; side = In }, planned 1) ∷ (o, planned 2) ∷
+    []; turns = [] }
 
 hooks-handed_in : (run_settings planned_script 2).hooks ≡ o ∷ o ∷ []
 hooks-handed_in = refl
@@ -145,7 +160,8 @@ hooks-plan = refl
 
 -- The second read of Out is answered by its second line.
 abbrev fired_twice : Trace
-fired_twice = plain (entry.Fired o why.Read) ∷ plain (entry.Asked o act.Stop ask.Ok) ∷ plain (entry.Fired i why.Read) ∷ plain (entry.Fired o why.Read) ∷ plain (entry.Asked o act.Stop ask.Ok) ∷ []
+fired_twice = plain (entry.Fired o why.Read) ∷ plain (entry.Asked o act.Stop ask.Ok) ∷ plain (entry.Fired i why.Read) ∷ plain
+    (entry.Fired o why.Read) ∷ plain (entry.Asked o act.Stop ask.Ok) ∷ []
 
 asks-planned : IsPlanned (plan_of planned_script o) (heard_in o fired_twice) (asked_in o fired_twice)
 asks-planned = refl

@@ -29,7 +29,8 @@ pub record Seen : Type 0 where
   pub closed : Bool
 
 abbrev pub seen : PlainSide → Seen
-seen x = record { live = x.live; ended = x.ended; failed = x.failed; expired = x.expired; bad = x.bad; write_ended = x.write_ended; closed = x.closed }
+seen x = record { live = x.live; ended = x.ended; failed = x.failed; expired = x.expired; bad = x.bad; write_ended = x.write_ended;
+    closed = x.closed }
 
 -- all but the bad place, and all but the expiry
 abbrev pub but_bad : PlainSide → Seen
@@ -46,7 +47,8 @@ enabled-seen dir.Write on x = refl
 
 -- an ask frees a side, or leaves all that closing looks at
 abbrev pub FreesOrNot : Act → Type 0
-FreesOrNot a = ((e : SideId) × (a ≡ act.Free e)) ⊎ ((g : Settings) (p : Past) (s : Plain) → Keeps seen s (done g p s a) × ((done g p s a).flows ≡ s.flows))
+FreesOrNot a = ((e : SideId) × (a ≡ act.Free e)) ⊎ ((g : Settings) (p : Past) (s : Plain) → Keeps seen s (done g p s a) ×
+    ((done g p s a).flows ≡ s.flows))
 
 pub frees_or_not : (a : Act) → FreesOrNot a
 frees_or_not (act.Free e) = inl (e, refl)
@@ -101,17 +103,20 @@ timers_taken-keeps f g s =
     let later : List Timer = filter (λ x. nat_lt s.time x.deadline) s.timers in
     let come : List Timer = by_deadline (filter (λ x. nat_le x.deadline s.time) s.timers) in
     Keeps-trans f s (record s { timers = later }) _ (Keeps-timers f s later)
-    (Keeps-fold f (λ (state : Plain) (x : Timer). raise g x.side why.Timer state) (λ state x. Keeps-raise f g x.side why.Timer state) (record s { timers = later }) come)
+    (Keeps-fold f (λ (state : Plain) (x : Timer). raise g x.side why.Timer state) (λ state x. Keeps-raise f g x.side why.Timer
+        state) (record s { timers = later }) come)
 
 pub timed-keeps : (g : Settings) (p : Past) (e : SideId) (s : Plain) (d : Dir) → Keeps but_expired s (timed g p e s d)
-timed-keeps g p e s d = go (not ((side_at s e).live && nat_le 1 (timeout_of (side_at s e) d))) (not (wants g p s e d)) (nat_le (timeout_of (side_at s e) d) (s.time - last_activity (side_at s e) d))
+timed-keeps g p e s d = go (not ((side_at s e).live && nat_le 1 (timeout_of (side_at s e) d))) (not (wants g p s e d))
+    (nat_le (timeout_of (side_at s e) d) (s.time - last_activity (side_at s e) d))
   where
     go : (a b c : Bool) → Keeps but_expired s (if a then s
         else (if b then change_side e (active_at s.time d) s
         else (if c then raise g e (happened d timeout_flag) (change_side e (λ y. record (enabled d false y) { expired = true }) s) else s)))
     go true b c = Keeps-refl but_expired s
     go false true c = Keeps-put but_expired e _ s (active_at-seen s.time d (side_at s e))
-    go false false true = Keeps-trans but_expired s _ _ (Keeps-put but_expired e _ s (expired-seen d (side_at s e))) (Keeps-raise but_expired g e (happened d timeout_flag) _)
+    go false false true = Keeps-trans but_expired s _ _ (Keeps-put but_expired e _ s (expired-seen d (side_at s e)))
+        (Keeps-raise but_expired g e (happened d timeout_flag) _)
     go false false false = Keeps-refl but_expired s
 
 pub side_timed-keeps : (g : Settings) (p : Past) (s : Plain) (e : SideId) → Keeps but_expired s (side_timed g p s e)

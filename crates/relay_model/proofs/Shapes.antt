@@ -33,7 +33,8 @@ pub one_where-not : (holds : Bool) → holds ≡ false → one_where holds ≡ 0
 one_where-not true h = cc
 one_where-not false h = refl
 
-pub shape_by-other : (x : Event) (old new : Plain) → is_turn x ≡ false → time_by old.time x ≡ old.time → is_opened x ≡ false → SameShape old new → ShapeBy x old new
+pub shape_by-other : (x : Event) (old new : Plain) → is_turn x ≡ false → time_by old.time x ≡ old.time → is_opened x ≡ false →
+    SameShape old new → ShapeBy x old new
 shape_by-other x old new no_turn no_time no_link same =
     let a = one_where-not (is_turn x) no_turn in
     let b = one_where-not (is_opened x) no_link in
@@ -54,7 +55,8 @@ shape_by-turn ms bytes old new same = record {
   flows = same.flows ∙ omega arith;
 }
 
-pub shape_by-link : (g : Settings) (link : ℕ) (connected : Bool) (bytes : List ℕ) (s : Plain) → ShapeBy (entry.Opened link connected, bytes) s (with_link g connected s)
+pub shape_by-link : (g : Settings) (link : ℕ) (connected : Bool) (bytes : List ℕ) (s : Plain) → ShapeBy
+    (entry.Opened link connected, bytes) s (with_link g connected s)
 shape_by-link g link connected bytes s = record {
   time = refl;
   turn = omega arith;
@@ -63,34 +65,45 @@ shape_by-link g link connected bytes s = record {
   flows = length-append s.flows _;
 }
 
-pub shape-at : (s after : Plain) (x : Stage) (new : State) → new ≡ record { stage = x; plain = after } → SameShape s after → SameShape s new.plain
+pub shape-at : (s after : Plain) (x : Stage) (new : State) → new ≡ record { stage = x; plain = after } → SameShape s after →
+    SameShape s new.plain
 shape-at s after x new e k = subst (λ z. SameShape s z.plain) (sym e) k
 
-pub shape-puts : (g : Settings) (t : Trace) (x : Stage) (s : Plain) (e : Entry) (bytes : List ℕ) (new : State) → Puts g t x s e bytes new → ShapeBy (e, bytes) s new.plain
+pub shape-puts : (g : Settings) (t : Trace) (x : Stage) (s : Plain) (e : Entry) (bytes : List ℕ) (new : State) → Puts g t x s e
+    bytes new → ShapeBy (e, bytes) s new.plain
 shape-puts g t Stage.Between s (entry.Turn ms) bytes new h =
     subst (λ z. ShapeBy (entry.Turn ms, bytes) s z.plain) (sym h.3)
     (shape_by-turn ms bytes s _ (frame-time_passed g (past g (t ++ (entry.Turn ms, []) ∷ [])) (turned_to ms s)).shape)
-shape-puts g t Stage.Polling s (entry.Poll timeout) bytes new h = shape_by-other (entry.Poll timeout, bytes) s new.plain refl refl refl (shape-at s s _ new h.2 (shape-same s))
-shape-puts g t (Stage.Wanting (w ∷ ws)) s (entry.Want side r w') bytes new h = shape_by-other (entry.Want side r w', bytes) s new.plain refl refl refl (shape-at s s _ new h.2 (shape-same s))
-shape-puts g t (Stage.Wanting []) s entry.PollFailed bytes new h = shape_by-other (entry.PollFailed, bytes) s new.plain refl refl refl (shape-at s s _ new h.1 (shape-same s))
-shape-puts g t (Stage.Marking (w ∷ ws) marks) s (entry.Ready side r w') bytes new h = shape_by-other (entry.Ready side r w', bytes) s new.plain refl refl refl (shape-at s s _ new h.3 (shape-same s))
+shape-puts g t Stage.Polling s (entry.Poll timeout) bytes new h = shape_by-other (entry.Poll timeout, bytes) s new.plain refl refl
+    refl (shape-at s s _ new h.2 (shape-same s))
+shape-puts g t (Stage.Wanting (w ∷ ws)) s (entry.Want side r w') bytes new h = shape_by-other (entry.Want side r w', bytes) s
+    new.plain refl refl refl (shape-at s s _ new h.2 (shape-same s))
+shape-puts g t (Stage.Wanting []) s entry.PollFailed bytes new h = shape_by-other (entry.PollFailed, bytes) s new.plain refl refl
+    refl (shape-at s s _ new h.1 (shape-same s))
+shape-puts g t (Stage.Marking (w ∷ ws) marks) s (entry.Ready side r w') bytes new h = shape_by-other (entry.Ready side r w', bytes)
+    s new.plain refl refl refl (shape-at s s _ new h.3 (shape-same s))
 shape-puts g t (Stage.Accepting n marks) s (entry.Opened link connected) bytes new h =
     subst (λ z. ShapeBy (entry.Opened link connected, bytes) s z.plain) (sym h.4) (shape_by-link g link connected bytes s)
 shape-puts g t (Stage.Serving (m ∷ ms)) s (entry.Conn side answer) bytes new h =
     shape_by-other (entry.Conn side answer, bytes) s new.plain refl refl refl (shape-at s _ _ new h.3 (frame-conn g side answer s).shape)
 shape-puts g t (Stage.Serving (m ∷ ms)) s (entry.Read side room answer) bytes new h =
-    shape_by-other (entry.Read side room answer, bytes) s new.plain refl refl refl (shape-at s _ _ new h.3 (frame-read g side answer s).shape)
+    shape_by-other (entry.Read side room answer, bytes) s new.plain refl refl refl (shape-at s _ _ new h.3
+        (frame-read g side answer s).shape)
 shape-puts g t (Stage.Serving (m ∷ ms)) s (entry.Write side offered answer) bytes new h =
-    shape_by-other (entry.Write side offered answer, bytes) s new.plain refl refl refl (shape-at s _ _ new h.3 (frame-write g (past g t) side answer s).shape)
-shape-puts g t (Stage.Dispatching (r ∷ rs)) s (entry.Fired side y) bytes new h = shape_by-other (entry.Fired side y, bytes) s new.plain refl refl refl (shape-at s s _ new h.3 (shape-same s))
+    shape_by-other (entry.Write side offered answer, bytes) s new.plain refl refl refl (shape-at s _ _ new h.3
+        (frame-write g (past g t) side answer s).shape)
+shape-puts g t (Stage.Dispatching (r ∷ rs)) s (entry.Fired side y) bytes new h = shape_by-other (entry.Fired side y, bytes) s
+    new.plain refl refl refl (shape-at s s _ new h.3 (shape-same s))
 shape-puts g t (Stage.Firing x rs) s (entry.Asked side a answer) bytes new h =
-    shape_by-other (entry.Asked side a answer, bytes) s new.plain refl refl refl (shape-at s h.3 _ new h.5 (shape-answered (refusal g s a) g (past g t) s a answer h.3 h.4))
+    shape_by-other (entry.Asked side a answer, bytes) s new.plain refl refl refl (shape-at s h.3 _ new h.5
+        (shape-answered (refusal g s a) g (past g t) s a answer h.3 h.4))
 shape-puts g t (Stage.Freeing gone x rs) s e bytes new h =
     subst (λ z. ShapeBy (z, bytes) s new.plain) (sym h.0)
     (shape_by-other (freed_entry s gone cause.Hook, bytes) s new.plain refl refl refl (shape-at s s _ new h.2 (shape-same s)))
 shape-puts g t (Stage.Closing (c ∷ cs)) s e bytes new h =
     let is = closing-closes g (past g t) s c e h.0 in
     let still = closes-still e bytes is in
-    shape_by-other (e, bytes) s new.plain (still-no_turn (e, bytes) still) (still-no_time (e, bytes) s.time still) (closes-opens_none e bytes is)
+    shape_by-other (e, bytes) s new.plain (still-no_turn (e, bytes) still) (still-no_time (e, bytes) s.time still)
+        (closes-opens_none e bytes is)
     (shape-at s _ _ new h.2 (shape-closed c s))
 shape-puts g t _ s e bytes new h = absurd h

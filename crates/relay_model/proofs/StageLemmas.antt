@@ -27,7 +27,8 @@ use Rattle.relay_model.proofs.AskLemmas.{Frees, GoesOn, ask-outcome}
 
 -- Silent steps
 
-after_fire-still : (b : Bool) (k : ℕ) (rs : List Reason) (e : SideId) → is_freeing (if b then Over (Halt.StoppedBy k) else Dispatching rs) e ≡ false
+after_fire-still : (b : Bool) (k : ℕ) (rs : List Reason) (e : SideId) → is_freeing (if b then Over (Halt.StoppedBy k)
+    else Dispatching rs) e ≡ false
 after_fire-still true k rs e = refl
 after_fire-still false k rs e = refl
 
@@ -37,29 +38,45 @@ pub record Silent (x : Stage) (s : Plain) (after : Stage) (new : Plain) : Type 0
   pub before : (e : SideId) → is_freeing x e ≡ false
   pub still : (e : SideId) → is_freeing after e ≡ false
 
-same-silent : (x : Stage) (s : Plain) (after : Stage) → ((e : SideId) → is_freeing x e ≡ false) → ((e : SideId) → is_freeing after e ≡ false) → Silent x s after s
+same-silent : (x : Stage) (s : Plain) (after : Stage) → ((e : SideId) → is_freeing x e ≡ false) →
+    ((e : SideId) → is_freeing after e ≡ false) → Silent x s after s
 same-silent x s after before still = record { keeps = Keeps-refl but_bad s; before = before; still = still }
 
 pub quiet-silent : (g : Settings) (t : Trace) (x : Stage) (s : Plain) (new : State) → Quietly g t x s new → Silent x s new.stage new.plain
-quiet-silent g t (Wanting []) s new h = subst (λ z. Silent (Wanting []) s z.stage z.plain) (sym h) (same-silent (Wanting []) s _ (λ e. refl) (λ e. refl))
-quiet-silent g t (Marking (w ∷ ws) marks) s new h = subst (λ z. Silent (Marking (w ∷ ws) marks) s z.stage z.plain) (sym h) (same-silent (Marking (w ∷ ws) marks) s _ (λ e. refl) (λ e. refl))
-quiet-silent g t (Marking [] marks) s new h = subst (λ z. Silent (Marking [] marks) s z.stage z.plain) (sym h) (same-silent (Marking [] marks) s _ (λ e. refl) (λ e. refl))
-quiet-silent g t (Accepting n marks) s new h = subst (λ z. Silent (Accepting n marks) s z.stage z.plain) (sym h) (same-silent (Accepting n marks) s _ (λ e. refl) (λ e. refl))
-quiet-silent g t (Serving (m ∷ ms)) s new h = subst (λ z. Silent (Serving (m ∷ ms)) s z.stage z.plain) (sym h.1) (same-silent (Serving (m ∷ ms)) s _ (λ e. refl) (λ e. refl))
+quiet-silent g t (Wanting []) s new h = subst (λ z. Silent (Wanting []) s z.stage z.plain) (sym h)
+    (same-silent (Wanting []) s _ (λ e. refl) (λ e. refl))
+quiet-silent g t (Marking (w ∷ ws) marks) s new h = subst (λ z. Silent (Marking (w ∷ ws) marks) s z.stage z.plain) (sym h)
+    (same-silent (Marking (w ∷ ws) marks) s _ (λ e. refl) (λ e. refl))
+quiet-silent g t (Marking [] marks) s new h = subst (λ z. Silent (Marking [] marks) s z.stage z.plain) (sym h)
+    (same-silent (Marking [] marks) s _ (λ e. refl) (λ e. refl))
+quiet-silent g t (Accepting n marks) s new h = subst (λ z. Silent (Accepting n marks) s z.stage z.plain) (sym h)
+    (same-silent (Accepting n marks) s _ (λ e. refl) (λ e. refl))
+quiet-silent g t (Serving (m ∷ ms)) s new h = subst (λ z. Silent (Serving (m ∷ ms)) s z.stage z.plain) (sym h.1)
+    (same-silent (Serving (m ∷ ms)) s _ (λ e. refl) (λ e. refl))
 quiet-silent g t (Filtering e ms) s new h =
-    subst (λ z. Silent (Filtering e ms) s z.stage z.plain) (sym h) (record { keeps = after_got-keeps g (past g t) e s; before = λ e. refl; still = λ e. refl })
+    subst (λ z. Silent (Filtering e ms) s z.stage z.plain) (sym h)
+        (record { keeps = after_got-keeps g (past g t) e s; before = λ e. refl; still = λ e. refl })
 quiet-silent g t (Serving []) s new h =
-    subst (λ z. Silent (Serving []) s z.stage z.plain) (sym h) (record { keeps = Keeps-due but_bad s []; before = λ e. refl; still = λ e. refl })
+    subst (λ z. Silent (Serving []) s z.stage z.plain) (sym h)
+        (record { keeps = Keeps-due but_bad s []; before = λ e. refl; still = λ e. refl })
 quiet-silent g t (Firing x rs) s new h =
-    subst (λ z. Silent (Firing x rs) s z.stage z.plain) (sym h) (same-silent (Firing x rs) s _ (λ e. refl) (after_fire-still x.stopped x.side.link rs))
-quiet-silent g t (Dispatching []) s new h = subst (λ z. Silent (Dispatching []) s z.stage z.plain) (sym h) (same-silent (Dispatching []) s _ (λ e. refl) (λ e. refl))
-quiet-silent g t (Passing [] (e ∷ es)) s new (inl h) = subst (λ z. Silent (Passing [] (e ∷ es)) s z.stage z.plain) (sym h.1) (same-silent (Passing [] (e ∷ es)) s _ (λ e. refl) (λ e. refl))
-quiet-silent g t (Passing [] (e ∷ es)) s new (inr h) = subst (λ z. Silent (Passing [] (e ∷ es)) s z.stage z.plain) (sym h) (same-silent (Passing [] (e ∷ es)) s _ (λ e. refl) (λ e. refl))
+    subst (λ z. Silent (Firing x rs) s z.stage z.plain) (sym h) (same-silent (Firing x rs) s _ (λ e. refl)
+        (after_fire-still x.stopped x.side.link rs))
+quiet-silent g t (Dispatching []) s new h = subst (λ z. Silent (Dispatching []) s z.stage z.plain) (sym h)
+    (same-silent (Dispatching []) s _ (λ e. refl) (λ e. refl))
+quiet-silent g t (Passing [] (e ∷ es)) s new (inl h) = subst (λ z. Silent (Passing [] (e ∷ es)) s z.stage z.plain) (sym h.1)
+    (same-silent (Passing [] (e ∷ es)) s _ (λ e. refl) (λ e. refl))
+quiet-silent g t (Passing [] (e ∷ es)) s new (inr h) = subst (λ z. Silent (Passing [] (e ∷ es)) s z.stage z.plain) (sym h)
+    (same-silent (Passing [] (e ∷ es)) s _ (λ e. refl) (λ e. refl))
 quiet-silent g t (Passing (x ∷ xs) (e ∷ es)) s new h =
-    subst (λ z. Silent (Passing (x ∷ xs) (e ∷ es)) s z.stage z.plain) (sym h) (record { keeps = do_part-keeps g (past g t) e x s; before = λ e. refl; still = λ e. refl })
-quiet-silent g t (Passing [] []) s new h = subst (λ z. Silent (Passing [] []) s z.stage z.plain) (sym h) (same-silent (Passing [] []) s _ (λ e. refl) (λ e. refl))
-quiet-silent g t (Closing (c ∷ cs)) s new h = subst (λ z. Silent (Closing (c ∷ cs)) s z.stage z.plain) (sym h.1) (same-silent (Closing (c ∷ cs)) s _ (λ e. refl) (λ e. refl))
-quiet-silent g t (Closing []) s new h = subst (λ z. Silent (Closing []) s z.stage z.plain) (sym h) (same-silent (Closing []) s _ (λ e. refl) (λ e. refl))
+    subst (λ z. Silent (Passing (x ∷ xs) (e ∷ es)) s z.stage z.plain) (sym h)
+        (record { keeps = do_part-keeps g (past g t) e x s; before = λ e. refl; still = λ e. refl })
+quiet-silent g t (Passing [] []) s new h = subst (λ z. Silent (Passing [] []) s z.stage z.plain) (sym h)
+    (same-silent (Passing [] []) s _ (λ e. refl) (λ e. refl))
+quiet-silent g t (Closing (c ∷ cs)) s new h = subst (λ z. Silent (Closing (c ∷ cs)) s z.stage z.plain) (sym h.1)
+    (same-silent (Closing (c ∷ cs)) s _ (λ e. refl) (λ e. refl))
+quiet-silent g t (Closing []) s new h = subst (λ z. Silent (Closing []) s z.stage z.plain) (sym h)
+    (same-silent (Closing []) s _ (λ e. refl) (λ e. refl))
 quiet-silent g t _ s new h = absurd h
 
 -- What the next stage names
@@ -68,7 +85,8 @@ after_fire-placed : (b : Bool) (k : ℕ) (rs : List Reason) (s : Plain) → Plac
 after_fire-placed true k rs s = tt
 after_fire-placed false k rs s = tt
 
-pub quiet-placed : (g : Settings) (t : Trace) (x : Stage) (s : Plain) (new : State) → Placed x s → Quietly g t x s new → Placed new.stage new.plain
+pub quiet-placed : (g : Settings) (t : Trace) (x : Stage) (s : Plain) (new : State) → Placed x s → Quietly g t x s new → Placed
+    new.stage new.plain
 quiet-placed g t (Wanting []) s new placed h = subst (λ z. Placed z.stage z.plain) (sym h) (wanted-live g (past g t) s)
 quiet-placed g t (Marking (w ∷ ws) marks) s new placed h = subst (λ z. Placed z.stage z.plain) (sym h) placed.1
 quiet-placed g t (Marking [] marks) s new placed h = subst (λ z. Placed z.stage z.plain) (sym h) tt
@@ -81,7 +99,8 @@ quiet-placed g t (Dispatching []) s new placed h = subst (λ z. Placed z.stage z
 quiet-placed g t (Passing [] (e ∷ es)) s new placed (inl h) = subst (λ z. Placed z.stage z.plain) (sym h.1) tt
 quiet-placed g t (Passing [] (e ∷ es)) s new placed (inr h) = subst (λ z. Placed z.stage z.plain) (sym h) tt
 quiet-placed g t (Passing (x ∷ xs) (e ∷ es)) s new placed h = subst (λ z. Placed z.stage z.plain) (sym h) tt
-quiet-placed g t (Passing [] []) s new placed h = subst (λ z. Placed z.stage z.plain) (sym h) (closing-opened 0 s.opened s.opened (omega arith))
+quiet-placed g t (Passing [] []) s new placed h = subst (λ z. Placed z.stage z.plain) (sym h)
+    (closing-opened 0 s.opened s.opened (omega arith))
 quiet-placed g t (Closing (c ∷ cs)) s new placed h = subst (λ z. Placed z.stage z.plain) (sym h.1) placed.1
 quiet-placed g t (Closing []) s new placed h = subst (λ z. Placed z.stage z.plain) (sym h) tt
 quiet-placed g t _ s new placed h = absurd h
@@ -99,7 +118,8 @@ asked-placed g p s x rs a answer after size lt h = go (ask-outcome g p s x rs a 
     freeing : (gone : SideId) → is_live s gone ≡ true → Placed (after_ask x rs (act.Free gone) ask.Ok) (freed gone s)
     freeing gone live =
         let there = live-there s gone size live in
-        (there, lt, ap (λ z. z.live) (change_side-same gone (λ z. record z { live = false; group = None }) (record s { timers = without_timer gone s.timers; due = without_due gone s.due }) size there))
+        (there, lt, ap (λ z. z.live) (change_side-same gone (λ z. record z { live = false; group = None })
+            (record s { timers = without_timer gone s.timers; due = without_due gone s.due }) size there))
 
     go : Frees s after a answer ⊎ GoesOn x rs s after a answer → Placed (after_ask x rs a answer) after
     go (inl k) =
@@ -107,7 +127,8 @@ asked-placed g p s x rs a answer after size lt h = go (ask-outcome g p s x rs a 
         (subst (λ z. Placed (after_ask x rs z answer) (freed k.gone s)) (sym k.act)
         (subst (λ z. Placed (after_ask x rs (act.Free k.gone) z) (freed k.gone s)) (sym k.answered) (freeing k.gone k.live)))
     go (inr k) =
-        let in_range : k.fire.side.link < after.opened = let o = k.keeps.opened in let l : k.fire.side.link ≡ x.side.link = ap (λ z. z.link) k.same in omega arith in
+        let in_range : k.fire.side.link < after.opened = let o = k.keeps.opened in let l : k.fire.side.link ≡ x.side.link = ap
+            (λ z. z.link) k.same in omega arith in
         subst (λ z. Placed z after) (sym k.stage) in_range
 
 steps-placed : (c : CloseStep) (cs : List CloseStep) (n : ℕ) → link_of c < n → AllOpened n cs → AllOpened n (steps_left c cs)
@@ -126,20 +147,29 @@ closed-opened (CloseStep.OutDone k) s = refl
 closed-opened (CloseStep.PeerGone e) s = refl
 closed-opened (CloseStep.Shut e) s = refl
 
-pub put-placed : (g : Settings) (t : Trace) (x : Stage) (s : Plain) (e : Entry) (bytes : List ℕ) (new : State) → length s.sides ≡ 2 * s.opened → Placed x s → Puts g t x s e bytes new → Placed new.stage new.plain
+pub put-placed : (g : Settings) (t : Trace) (x : Stage) (s : Plain) (e : Entry) (bytes : List ℕ) (new : State) → length s.sides ≡ 2
+    * s.opened → Placed x s → Puts g t x s e bytes new → Placed new.stage new.plain
 put-placed g t Between s (entry.Turn ms) bytes new size placed h = subst (λ z. Placed z.stage z.plain) (sym h.3) tt
-put-placed g t Polling s (entry.Poll timeout) bytes new size placed h = subst (λ z. Placed z.stage z.plain) (sym h.2) (wanted-live g (past g t) s)
+put-placed g t Polling s (entry.Poll timeout) bytes new size placed h = subst (λ z. Placed z.stage z.plain) (sym h.2)
+    (wanted-live g (past g t) s)
 put-placed g t (Wanting (w ∷ ws)) s (entry.Want side r d) bytes new size placed h = subst (λ z. Placed z.stage z.plain) (sym h.2) placed.1
 put-placed g t (Wanting []) s entry.PollFailed bytes new size placed h = subst (λ z. Placed z.stage z.plain) (sym h.1) tt
-put-placed g t (Marking (w ∷ ws) marks) s (entry.Ready side r d) bytes new size placed h = subst (λ z. Placed z.stage z.plain) (sym h.3) placed.1
-put-placed g t (Accepting n marks) s (entry.Opened link connected) bytes new size placed h = subst (λ z. Placed z.stage z.plain) (sym h.4) tt
+put-placed g t (Marking (w ∷ ws) marks) s (entry.Ready side r d) bytes new size placed h = subst (λ z. Placed z.stage z.plain)
+    (sym h.3) placed.1
+put-placed g t (Accepting n marks) s (entry.Opened link connected) bytes new size placed h = subst (λ z. Placed z.stage z.plain)
+    (sym h.4) tt
 put-placed g t (Serving (m ∷ ms)) s (entry.Conn side answer) bytes new size placed h = subst (λ z. Placed z.stage z.plain) (sym h.3) tt
-put-placed g t (Serving (m ∷ ms)) s (entry.Read side room answer) bytes new size placed h = subst (λ z. Placed z.stage z.plain) (sym h.3) (reading-placed side answer _ _)
-put-placed g t (Serving (m ∷ ms)) s (entry.Write side offered answer) bytes new size placed h = subst (λ z. Placed z.stage z.plain) (sym h.3) tt
-put-placed g t (Dispatching (r ∷ rs)) s (entry.Fired side y) bytes new size placed h = subst (λ z. Placed z.stage z.plain) (sym h.3) (live-there s side size h.1)
+put-placed g t (Serving (m ∷ ms)) s (entry.Read side room answer) bytes new size placed h = subst (λ z. Placed z.stage z.plain)
+    (sym h.3) (reading-placed side answer _ _)
+put-placed g t (Serving (m ∷ ms)) s (entry.Write side offered answer) bytes new size placed h = subst (λ z. Placed z.stage z.plain)
+    (sym h.3) tt
+put-placed g t (Dispatching (r ∷ rs)) s (entry.Fired side y) bytes new size placed h = subst (λ z. Placed z.stage z.plain)
+    (sym h.3) (live-there s side size h.1)
 put-placed g t (Firing x rs) s (entry.Asked side a answer) bytes new size placed h =
-    subst (λ z. Placed z.stage z.plain) (sym h.5) (asked-placed g (past g t) s (record x { asks = x.asks + 1 }) rs a answer h.3 size placed h.4)
+    subst (λ z. Placed z.stage z.plain) (sym h.5) (asked-placed g (past g t) s (record x { asks = x.asks + 1 }) rs a answer h.3
+        size placed h.4)
 put-placed g t (Freeing gone x rs) s e bytes new size placed h = subst (λ z. Placed z.stage z.plain) (sym h.2) placed.1
 put-placed g t (Closing (c ∷ cs)) s e bytes new size placed h =
-    subst (λ z. Placed z.stage z.plain) (sym h.2) (subst (λ n. AllOpened n (steps_left c cs)) (sym (closed-opened c s)) (steps-placed c cs s.opened placed.0 placed.1))
+    subst (λ z. Placed z.stage z.plain) (sym h.2) (subst (λ n. AllOpened n (steps_left c cs)) (sym (closed-opened c s))
+        (steps-placed c cs s.opened placed.0 placed.1))
 put-placed g t _ s e bytes new size placed h = absurd h

@@ -24,9 +24,11 @@ opened_or n m = go (nat_lt n m) refl
 
 pub bytes_given_begin : BytesGivenBegin
 bytes_given_begin g t s c e = elim (opened_or e.link s.opened) [
-  | inl lt ↦ given_begins (read_filter g s e) (write_filter g s (peer e)) t e (bytes_read e t) (bytes_given (peer e) t) (has_ended e t) (flow_at s e)
+  | inl lt ↦ given_begins (read_filter g s e) (write_filter g s (peer e)) t e (bytes_read e t) (bytes_given (peer e) t)
+      (has_ended e t) (flow_at s e)
       (every_filter (read_kind g e.side)) (every_filter (write_kind g (peer e).side)) (c.each e lt)
-  | inr le ↦ subst (λ z. IsPrefixOf z (passed (read_filter g s e) (write_filter g s (peer e)) (has_ended e t) (bytes_read e t))) (sym (c.unopened (peer e) le).given) refl
+  | inr le ↦ subst (λ z. IsPrefixOf z (passed (read_filter g s e) (write_filter g s (peer e)) (has_ended e t) (bytes_read e t)))
+      (sym (c.unopened (peer e) le).given) refl
 ]
 
 pub closed_is_whole : ClosedIsWhole
@@ -42,12 +44,16 @@ buffers_hold_the_rest g t v c e lt live peer_live =
     let f = flow_at v.plain e in
     let b = buffers_at v.buffers e in
     let x = runnings_at v.runnings e in
-    let shape = λ (p q : Bool). direction.Holds (read_kind g e.side) (write_kind g (peer e).side) r w (bytes_read e t) (has_ended e t) p q f b x.reader x.writer in
-    let holds : shape true true = subst (λ q. shape true q) peer_live (subst (λ p. shape p (is_live v.plain (peer e))) live (c.each e lt)) in
-    all_is_there (read_kind g e.side) (write_kind g (peer e).side) r w t e (bytes_read e t) (bytes_given (peer e) t) (has_ended e t) f b x.reader x.writer
+    let shape = λ (p q : Bool). direction.Holds (read_kind g e.side) (write_kind g (peer e).side) r w (bytes_read e t)
+        (has_ended e t) p q f b x.reader x.writer in
+    let holds : shape true true = subst (λ q. shape true q) peer_live (subst (λ p. shape p (is_live v.plain (peer e))) live
+        (c.each e lt)) in
+    all_is_there (read_kind g e.side) (write_kind g (peer e).side) r w t e (bytes_read e t) (bytes_given (peer e) t)
+        (has_ended e t) f b x.reader x.writer
     (every_filter (read_kind g e.side)) (every_filter (write_kind g (peer e).side)) (c.accounted.each e lt) holds
 
 pub free_accounts_for_the_rest : FreeAccountsForTheRest
 free_accounts_for_the_rest g t s c e lt moved told open_still =
-    rest_after_free (read_filter g s e) (write_filter g s (peer e)) t e (bytes_read e t) (bytes_given (peer e) t) (has_ended e t) (flow_at s e) moved
+    rest_after_free (read_filter g s e) (write_filter g s (peer e)) t e (bytes_read e t) (bytes_given (peer e) t) (has_ended e t)
+        (flow_at s e) moved
     (every_filter (read_kind g e.side)) (every_filter (write_kind g (peer e).side)) (c.each e lt) told open_still

@@ -90,7 +90,8 @@ module _ (f next : Filter) (place : ℕ) (law : IsFilter f) (next_law : IsFilter
 
   badness : BadLaw both
   badness = record {
-    is_there = λ xs bad h. (let k = behind-some place bad (next.bad (drop place xs)) h in let lt = reaches xs k.there k.is in let le = k.sum in omega arith);
+    is_there = λ xs bad h. (let k = behind-some place bad (next.bad (drop place xs)) h in let lt = reaches xs k.there k.is in
+        let le = k.sum in omega arith);
     shows = λ xs bad h.
         let k = behind-some place bad (next.bad (drop place xs)) h in
         let same : bad + 1 ≡ place + (k.there + 1) = let le = k.sum in omega arith in
@@ -107,7 +108,8 @@ module _ (f next : Filter) (place : ℕ) (law : IsFilter f) (next_law : IsFilter
     stops = λ xs bad h.
         let k = behind-some place bad (next.bad (drop place xs)) h in
         let le : place ≤ place + k.there = omega arith in
-        ap (λ z. f.before (take place xs) ++ z) (next_law.badness.stops (drop place xs) k.there k.is ∙ ap next.before (sym (upto xs k.there)))
+        ap (λ z. f.before (take place xs) ++ z) (next_law.badness.stops (drop place xs) k.there k.is ∙ ap next.before
+            (sym (upto xs k.there)))
         ∙ ap (λ z. f.before z ++ next.before (drop place (take (place + k.there) xs))) (sym (take-take place (place + k.there) xs le))
         ∙ ap (λ n. both.before (take n xs)) k.sum;
     bad_at_end = λ xs bad h.
@@ -130,13 +132,15 @@ module _ (f next : Filter) (place : ℕ) (law : IsFilter f) (next_law : IsFilter
   more_is : (xs ys : List ℕ) → place ≤ length xs → more both xs ys ≡ more next (drop place xs) ys
   more_is xs ys le =
       ap (drop (length (both.before xs))) (late xs ys le)
-      ∙ ap (λ n. drop n (f.before (take place xs) ++ next.before (drop place xs ++ ys))) (length-append (f.before (take place xs)) (next.before (drop place xs)))
+      ∙ ap (λ n. drop n (f.before (take place xs) ++ next.before (drop place xs ++ ys))) (length-append (f.before (take place xs))
+          (next.before (drop place xs)))
       ∙ drop-append-add (f.before (take place xs)) (next.before (drop place xs ++ ys)) (length (next.before (drop place xs)))
 
   more_at_end_is : (xs ys : List ℕ) → place ≤ length xs → more_at_end both xs ys ≡ more_at_end next (drop place xs) ys
   more_at_end_is xs ys le =
       ap (drop (length (both.before xs))) (late_end xs ys le)
-      ∙ ap (λ n. drop n (f.before (take place xs) ++ next.at_end (drop place xs ++ ys))) (length-append (f.before (take place xs)) (next.before (drop place xs)))
+      ∙ ap (λ n. drop n (f.before (take place xs) ++ next.at_end (drop place xs ++ ys))) (length-append (f.before (take place xs))
+          (next.before (drop place xs)))
       ∙ drop-append-add (f.before (take place xs)) (next.at_end (drop place xs ++ ys)) (length (next.before (drop place xs)))
 
   cut : CutLaw both
@@ -144,7 +148,8 @@ module _ (f next : Filter) (place : ℕ) (law : IsFilter f) (next_law : IsFilter
     same = λ xs zs h ys.
         more_is xs ys h.begun ∙ next_law.cut.same _ _ (alike xs zs h) ys ∙ sym (more_is zs ys (subst (λ n. place ≤ n) h.count h.begun));
     same_at_end = λ xs zs h ys.
-        more_at_end_is xs ys h.begun ∙ next_law.cut.same_at_end _ _ (alike xs zs h) ys ∙ sym (more_at_end_is zs ys (subst (λ n. place ≤ n) h.count h.begun));
+        more_at_end_is xs ys h.begun ∙ next_law.cut.same_at_end _ _ (alike xs zs h) ys ∙ sym
+            (more_at_end_is zs ys (subst (λ n. place ≤ n) h.count h.begun));
     same_bad = λ xs zs h ys.
         ap (behind place)
         (ap next.bad (drop-append-le place xs ys h.begun)

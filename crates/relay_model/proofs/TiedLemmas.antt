@@ -34,7 +34,8 @@ Counts-plus (Some before) q r m n h k = λ fits.
     second (omega (arith, fits)) ∙ ap (λ z. Some z) (omega arith)
 
 module _ (e : SideId) (t u : Trace) where
-  bytes : (p q r : Option (List ℕ)) (f : Event → List ℕ) → Adds p q (flat_map f t) → Adds q r (flat_map f u) → Adds p r (flat_map f (t ++ u))
+  bytes : (p q r : Option (List ℕ)) (f : Event → List ℕ) → Adds p q (flat_map f t) → Adds q r (flat_map f u) → Adds p r
+      (flat_map f (t ++ u))
   bytes p q r f h k = subst (λ z. Adds p r z) (sym (flat_map-append f t u)) (Adds-append p q r (flat_map f t) (flat_map f u) h k)
 
   flag : (p q r : Option Bool) (f : Event → Bool) → Raises p q (list_any f t) → Raises q r (list_any f u) → Raises p r (list_any f (t ++ u))
@@ -50,7 +51,8 @@ module _ (e : SideId) (t u : Trace) where
   end_ties_join began mid now h k = record {
     handed_out = bytes began.handed_out mid.handed_out now.handed_out (read_by e) h.handed_out k.handed_out;
     taken = bytes began.taken mid.taken now.taken (given_by e) h.taken k.taken;
-    made_connected = flag began.made_connected mid.made_connected now.made_connected (made_connected_by e) h.made_connected k.made_connected;
+    made_connected = flag began.made_connected mid.made_connected now.made_connected (made_connected_by e) h.made_connected
+        k.made_connected;
     ended = flag began.ended mid.ended now.ended (ended_by e) h.ended k.ended;
     connected = flag began.connected mid.connected now.connected (connected_by e) h.connected k.connected;
     write_ended = flag began.write_ended mid.write_ended now.write_ended (write_closed_by e) h.write_ended k.write_ended;
@@ -126,13 +128,15 @@ nothing_is_tied g port ends = record {
 }
 
 -- one turn more follows the time of the last one
-pub LastFollows-push : (before : ℕ) (ts : List ℕ) (time reading : ℕ) → time ≡ max (unwrap_or (last_or (Some before) ts) 0) (min reading latest) → LastFollows before (ts ++ time ∷ []) reading
+pub LastFollows-push : (before : ℕ) (ts : List ℕ) (time reading : ℕ) → time ≡ max (unwrap_or (last_or (Some before) ts) 0)
+    (min reading latest) → LastFollows before (ts ++ time ∷ []) reading
 LastFollows-push before [] time reading h = h
 LastFollows-push before (x ∷ []) time reading h = h
 LastFollows-push before (x ∷ y ∷ ts) time reading h = LastFollows-push x (y ∷ ts) time reading h
 
 -- the polls that ask to accept, of two traces in a row
-pub polls_that_accept-append : (links n : ℕ) (t u : Trace) → polls_that_accept links n (t ++ u) ≡ polls_that_accept links n t + polls_that_accept links (n + opened t) u
+pub polls_that_accept-append : (links n : ℕ) (t u : Trace) → polls_that_accept links n (t ++ u) ≡ polls_that_accept links n t +
+    polls_that_accept links (n + opened t) u
 polls_that_accept-append links n [] u =
     let same : polls_that_accept links n u ≡ polls_that_accept links (n + 0) u = ap (λ k. polls_that_accept links k u) (omega arith) in
     omega (arith, same)
@@ -140,6 +144,8 @@ polls_that_accept-append links n (x ∷ t) u =
     let asks : ℕ = if is_poll x && nat_lt n links then 1 else 0 in
     let opens : ℕ = if is_opened x then 1 else 0 in
     let rest = polls_that_accept-append links (n + opens) t u in
-    let count : n + opens + opened t ≡ n + opened (x ∷ t) = (let parts = sum_by-cons (λ y. if is_opened y then 1 else 0) x t in omega (arith, parts)) in
-    let same : polls_that_accept links (n + opens + opened t) u ≡ polls_that_accept links (n + opened (x ∷ t)) u = ap (λ k. polls_that_accept links k u) count in
+    let count : n + opens + opened t ≡ n + opened (x ∷ t) = (let parts = sum_by-cons (λ y. if is_opened y then 1 else 0) x t in
+        omega (arith, parts)) in
+    let same : polls_that_accept links (n + opens + opened t) u ≡ polls_that_accept links (n + opened (x ∷ t)) u = ap
+        (λ k. polls_that_accept links k u) count in
     omega (arith, rest, same)

@@ -70,9 +70,11 @@ none_of p q less [] h = refl
 none_of p q less (y ∷ t) h = let k = or_parts (p y) (list_any p t) h in or_from (q y) (list_any q t) (less y k.0) (none_of p q less t k.1)
 
 -- nothing was told of a side that no event names
-unnamed : (t : Trace) (x : Stage) (s : Plain) (e : SideId) → list_any (names e) t ≡ false → is_freeing x e ≡ false → seen (side_at s e) ≡ fresh → SideTold t x s e
+unnamed : (t : Trace) (x : Stage) (s : Plain) (e : SideId) → list_any (names e) t ≡ false → is_freeing x e ≡ false → seen
+    (side_at s e) ≡ fresh → SideTold t x s e
 unnamed t x s e h still k = record {
-  live = ap (λ z. z.live) k ∙ sym (ap not (or_from (is_freed e t) (is_freeing x e) (none_of (names e) (freed_by e) (freed-names e) t h) still));
+  live = ap (λ z. z.live) k ∙ sym (ap not (or_from (is_freed e t) (is_freeing x e) (none_of (names e) (freed_by e) (freed-names e)
+      t h) still));
   ended = ap (λ z. z.ended) k ∙ sym (none_of (names e) (ended_by e) (ended-names e) t h);
   failed = ap (λ z. z.failed) k ∙ sym (none_of (names e) (failed_by e) (failed-names e) t h);
   write_ended = ap (λ z. z.write_ended) k ∙ sym (none_of (names e) (write_closed_by e) (write_closed-names e) t h);
@@ -80,7 +82,8 @@ unnamed t x s e h still k = record {
 }
 
 -- the flag of a side and the trace after one event more
-flag-push : (p : Event → Bool) (t : Trace) (y : Event) (old new : Bool) → new ≡ (old || p y) → old ≡ list_any p t → new ≡ list_any p (t ++ y ∷ [])
+flag-push : (p : Event → Bool) (t : Trace) (y : Event) (old new : Bool) → new ≡ (old || p y) → old ≡ list_any p t → new ≡ list_any
+    p (t ++ y ∷ [])
 flag-push p t y old new h k = h ∙ ap (λ z. z || p y) k ∙ sym (list_any-push p t y)
 
 live-push : (a f b d : Bool) → (f ≡ true → b ≡ true) → (not (a || f) && not (b || d)) ≡ not ((a || b) || d)
@@ -110,8 +113,10 @@ pub record Kept (g : Settings) (t : Trace) (x : Stage) (s : Plain) : Type 0 wher
   pub each : (e : SideId) → e.link < s.opened → SideTold t x s e
   pub placed : Placed x s
 
-named-push : (t : Trace) (y : Event) (n m : ℕ) (e : SideId) → (n ≤ m) → (names e y ≡ true → e.link < n) → (n ≤ e.link → list_any (names e) t ≡ false) → m ≤ e.link → list_any (names e) (t ++ y ∷ []) ≡ false
-named-push t y n m e le one before h = list_any-push (names e) t y ∙ or_from (list_any (names e) t) (names e y) (before (omega arith)) (go (names e y) refl)
+named-push : (t : Trace) (y : Event) (n m : ℕ) (e : SideId) → (n ≤ m) → (names e y ≡ true → e.link < n) →
+    (n ≤ e.link → list_any (names e) t ≡ false) → m ≤ e.link → list_any (names e) (t ++ y ∷ []) ≡ false
+named-push t y n m e le one before h = list_any-push (names e) t y ∙ or_from (list_any (names e) t) (names e y)
+    (before (omega arith)) (go (names e y) refl)
   where
     go : (q : Bool) → names e y ≡ q → names e y ≡ false
     go false k = k
@@ -133,33 +138,40 @@ fresh-still x s z placed h = go (is_freeing x z) refl
     go false k = k
     go true k = absurd (let dead = freeing-dead x s z placed k in let live : is_live s z ≡ true = ap (λ v. v.live) h in cc)
 
-put-side : (g : Settings) (t : Trace) (x : Stage) (s : Plain) (y : Event) (after : Stage) (new : Plain) → Effect g x s y after new → Placed after new → (z : SideId) → z.link < new.opened →
-    (s.opened ≤ z.link → list_any (names z) t ≡ false) → (z.link < s.opened → SideTold t x s z) → (z.link < s.opened) ⊎ (s.opened ≤ z.link) → SideTold (t ++ y ∷ []) after new z
+put-side : (g : Settings) (t : Trace) (x : Stage) (s : Plain) (y : Event) (after : Stage) (new : Plain) → Effect g x s y after new
+    → Placed after new → (z : SideId) → z.link < new.opened →
+    (s.opened ≤ z.link → list_any (names z) t ≡ false) → (z.link < s.opened → SideTold t x s z) → (z.link < s.opened) ⊎
+        (s.opened ≤ z.link) → SideTold (t ++ y ∷ []) after new z
 put-side g t x s y after new k placed z lt none told (inl l) = side-push g t x s y after new k z l (told l)
 put-side g t x s y after new k placed z lt none told (inr ge) =
     let came = k.came z ge lt in
     let other : names z y ≡ false = go (names z y) refl in
-    unnamed (t ++ y ∷ []) after new z (list_any-push (names z) t y ∙ or_from (list_any (names z) t) (names z y) (none ge) other) (fresh-still after new z placed came) came
+    unnamed (t ++ y ∷ []) after new z (list_any-push (names z) t y ∙ or_from (list_any (names z) t) (names z y) (none ge) other)
+        (fresh-still after new z placed came) came
   where
     go : (q : Bool) → names z y ≡ q → names z y ≡ false
     go false e = e
     go true e = absurd (let l = k.named z e in omega arith)
 
-put-kept : (g : Settings) (t : Trace) (x : Stage) (s : Plain) (e : Entry) (bytes : List ℕ) (new : State) → Kept g t x s → Puts g t x s e bytes new → Kept g (t ++ (e, bytes) ∷ []) new.stage new.plain
+put-kept : (g : Settings) (t : Trace) (x : Stage) (s : Plain) (e : Entry) (bytes : List ℕ) (new : State) → Kept g t x s → Puts g t
+    x s e bytes new → Kept g (t ++ (e, bytes) ∷ []) new.stage new.plain
 put-kept g t x s e bytes new h put =
     let c = h.counts in
     let k : Effect g x s (e, bytes) new.stage new.plain = put-effect g t x s e bytes new c.shape.sides h.placed put in
     let more = grows s.opened new.plain.opened (is_opened (e, bytes)) k.opened in
     let placed : Placed new.stage new.plain = put-placed g t x s e bytes new c.shape.sides h.placed put in
-    let told : (z : SideId) → z.link < new.plain.opened → (z.link < s.opened) ⊎ (s.opened ≤ z.link) → SideTold (t ++ (e, bytes) ∷ []) new.stage new.plain z =
+    let told : (z : SideId) → z.link < new.plain.opened → (z.link < s.opened) ⊎ (s.opened ≤ z.link) → SideTold
+        (t ++ (e, bytes) ∷ []) new.stage new.plain z =
     λ z lt o. put-side g t x s (e, bytes) new.stage new.plain k placed z lt (c.named z) (h.each z) o in
-    let named : (z : SideId) → new.plain.opened ≤ z.link → list_any (names z) (t ++ (e, bytes) ∷ []) ≡ false = λ z. named-push t (e, bytes) s.opened new.plain.opened z more (k.named z) (c.named z) in
+    let named : (z : SideId) → new.plain.opened ≤ z.link → list_any (names z) (t ++ (e, bytes) ∷ []) ≡ false = λ z. named-push t
+        (e, bytes) s.opened new.plain.opened z more (k.named z) (c.named z) in
     record {
       counts = record {
         shape = record {
           time = k.time ∙ ap (λ n. time_by n (e, bytes)) c.shape.time ∙ sym (fold_push time_by 0 t (e, bytes));
           turn = k.turn ∙ ap (λ n. n + (if is_turn (e, bytes) then 1 else 0)) c.shape.turn ∙ sym (count_by-push is_turn t (e, bytes));
-          opened = k.opened ∙ ap (λ n. n + (if is_opened (e, bytes) then 1 else 0)) c.shape.opened ∙ sym (count_by-push is_opened t (e, bytes));
+          opened = k.opened ∙ ap (λ n. n + (if is_opened (e, bytes) then 1 else 0)) c.shape.opened ∙ sym
+              (count_by-push is_opened t (e, bytes));
           sides = k.sides c.shape.sides;
           flows = k.flows c.shape.flows;
         };
@@ -171,7 +183,8 @@ put-kept g t x s e bytes new h put =
       placed = placed;
     }
 
-quiet-side : (t : Trace) (x : Stage) (s : Plain) (after : Stage) (new : Plain) (z : SideId) → Silent x s after new → SideTold t x s z → SideTold t after new z
+quiet-side : (t : Trace) (x : Stage) (s : Plain) (after : Stage) (new : Plain) (z : SideId) → Silent x s after new → SideTold t x s
+    z → SideTold t after new z
 quiet-side t x s after new z k h =
     let c = Keeps-side but_bad s new z k.keeps in
     record {
@@ -182,7 +195,8 @@ quiet-side t x s after new z k h =
       closed = ap (λ v. v.closed) c ∙ h.closed;
     }
 
-quiet-kept : (g : Settings) (t : Trace) (x : Stage) (s : Plain) (new : State) → Kept g t x s → Quietly g t x s new → Kept g t new.stage new.plain
+quiet-kept : (g : Settings) (t : Trace) (x : Stage) (s : Plain) (new : State) → Kept g t x s → Quietly g t x s new → Kept g t
+    new.stage new.plain
 quiet-kept g t x s new h quiet =
     let c = h.counts in
     let k : Silent x s new.stage new.plain = quiet-silent g t x s new quiet in
@@ -210,7 +224,8 @@ quiet-kept g t x s new h quiet =
 
 pub kept : (g : Settings) (t : Trace) (s : State) → Reaches g t s → Kept g t s.stage s.plain
 kept g t s (Reaches.begins) = record {
-  counts = record { shape = record { time = refl; turn = refl; opened = refl; sides = refl; flows = refl }; latest = omega arith; links = omega arith; named = λ z le. refl };
+  counts = record { shape = record { time = refl; turn = refl; opened = refl; sides = refl; flows = refl }; latest = omega arith;
+      links = omega arith; named = λ z le. refl };
   each = λ z lt. absurd (omega arith);
   placed = tt;
 }

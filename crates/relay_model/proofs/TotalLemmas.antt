@@ -71,7 +71,8 @@ needs-same s new e same Part.Read h = same ∙ h
 needs-same s new e same Part.Move h = same ∙ h
 needs-same s new e same Part.Write h = same ∙ h
 
-parts-same : (s new : Plain) (e : SideId) → is_live new e ≡ is_live s e → (xs : List Part) → AllByRecursion (NeedsLive s e) xs → AllByRecursion (NeedsLive new e) xs
+parts-same : (s new : Plain) (e : SideId) → is_live new e ≡ is_live s e → (xs : List Part) → AllByRecursion (NeedsLive s e) xs →
+    AllByRecursion (NeedsLive new e) xs
 parts-same s new e same [] h = tt
 parts-same s new e same (x ∷ xs) h = (needs-same s new e same x h.0, parts-same s new e same xs h.1)
 
@@ -83,7 +84,8 @@ none-left : (es : List SideId) (s : Plain) → PartsLive (Passing [] es) s
 none-left [] s = tt
 none-left (e ∷ es) s = tt
 
-quiet-parts : (g : Settings) (t : Trace) (x : Stage) (s : Plain) (new : State) → PartsLive x s → Quietly g t x s new → PartsLive new.stage new.plain
+quiet-parts : (g : Settings) (t : Trace) (x : Stage) (s : Plain) (new : State) → PartsLive x s → Quietly g t x s new → PartsLive
+    new.stage new.plain
 quiet-parts g t (Wanting []) s new parts h = subst (λ z. PartsLive z.stage z.plain) (sym h) tt
 quiet-parts g t (Marking (w ∷ ws) marks) s new parts h = subst (λ z. PartsLive z.stage z.plain) (sym h) tt
 quiet-parts g t (Marking [] marks) s new parts h = subst (λ z. PartsLive z.stage z.plain) (sym h) tt
@@ -94,10 +96,12 @@ quiet-parts g t (Serving []) s new parts h = subst (λ z. PartsLive z.stage z.pl
 quiet-parts g t (Firing x rs) s new parts h = subst (λ z. PartsLive z.stage z.plain) (sym h) (fire-parts x.stopped x.side.link rs s)
 quiet-parts g t (Dispatching []) s new parts h = subst (λ z. PartsLive z.stage z.plain) (sym h) (none-left (all_sides s) s)
 quiet-parts g t (Passing [] (e ∷ es)) s new parts (inl h) = subst (λ z. PartsLive z.stage z.plain) (sym h.1) (none-left es s)
-quiet-parts g t (Passing [] (e ∷ es)) s new parts (inr h) = subst (λ z. PartsLive z.stage z.plain) (sym h) (round-live s e (is_live s e) (is_live s (peer e)) refl)
+quiet-parts g t (Passing [] (e ∷ es)) s new parts (inr h) = subst (λ z. PartsLive z.stage z.plain) (sym h)
+    (round-live s e (is_live s e) (is_live s (peer e)) refl)
 quiet-parts g t (Passing (x ∷ xs) (e ∷ es)) s new parts h =
     subst (λ z. PartsLive z.stage z.plain) (sym h)
-    (parts-same s (do_part g (past g t) e x s) e (ap (λ z. z.live) (Keeps-side but_bad s (do_part g (past g t) e x s) e (do_part-keeps g (past g t) e x s))) xs parts.1)
+    (parts-same s (do_part g (past g t) e x s) e
+        (ap (λ z. z.live) (Keeps-side but_bad s (do_part g (past g t) e x s) e (do_part-keeps g (past g t) e x s))) xs parts.1)
 quiet-parts g t (Passing [] []) s new parts h = subst (λ z. PartsLive z.stage z.plain) (sym h) tt
 quiet-parts g t (Closing (c ∷ cs)) s new parts h = subst (λ z. PartsLive z.stage z.plain) (sym h.1) tt
 quiet-parts g t (Closing []) s new parts h = subst (λ z. PartsLive z.stage z.plain) (sym h) tt
@@ -109,7 +113,8 @@ reading-parts side read.Ended ms s = tt
 reading-parts side read.NotYet ms s = tt
 reading-parts side read.Failed ms s = tt
 
-put-parts : (g : Settings) (t : Trace) (s : Plain) (x : Stage) (y : Event) (new : State) → PutKind g t s x y new → PartsLive new.stage new.plain
+put-parts : (g : Settings) (t : Trace) (s : Plain) (x : Stage) (y : Event) (new : State) → PutKind g t s x y new → PartsLive
+    new.stage new.plain
 put-parts g t s x y new (PutKind.turned a b) = tt
 put-parts g t s x y new (PutKind.polled) = tt
 put-parts g t s x y new (PutKind.wanted a) = tt
@@ -165,12 +170,14 @@ done-moved : (r w : Filter) (xs : List ℕ) (hold : ℕ) (f : Flow) → (with_wr
 done-moved r w xs hold f = ap (λ z. z.moved) (done-stations r w xs hold f)
 
 runs-moved : RunsKeep (λ f. f.moved)
-runs-moved = record { held = λ r w xs hold f. refl; used = λ r xs mark f. refl; read_done = λ r xs mark ended f. refl; turned = turned-moved; write_done = done-moved }
+runs-moved = record { held = λ r w xs hold f. refl; used = λ r xs mark f. refl; read_done = λ r xs mark ended f. refl; turned =
+    turned-moved; write_done = done-moved }
 
 turned-given : (r w : Filter) (xs : List ℕ) (hold : ℕ) (f : Flow) → (with_turned r w xs hold f).given ≡ f.given
 turned-given r w xs hold f = go f.held
   where
-    go : (b : Bool) → (if b then f else record f { turned = first_from (write_stops r w xs hold f) f.turned (f.moved - f.turned) }).given ≡ f.given
+    go : (b : Bool) → (if b then f else record f { turned = first_from (write_stops r w xs hold f) f.turned (f.moved - f.turned)
+        }).given ≡ f.given
     go true = refl
     go false = refl
 
@@ -178,7 +185,8 @@ done-given : (r w : Filter) (xs : List ℕ) (hold : ℕ) (f : Flow) → (with_wr
 done-given r w xs hold f = go f.held
   where
     go : (b : Bool) → (if b then f else record f {
-      write_done = f.write_done || (all_moved r xs f && f.turned == f.moved && is_over w (middle r xs f) (nat_lt (length (raw_output r w xs f)) hold));
+      write_done = f.write_done || (all_moved r xs f && f.turned == f.moved && is_over w (middle r xs f)
+          (nat_lt (length (raw_output r w xs f)) hold));
     }).given ≡ f.given
     go true = refl
     go false = refl
@@ -191,28 +199,34 @@ moved-given r xs f = go (not f.held && length (output r xs f) == 0)
     go false = refl
 
 runs-given : RunsKeep (λ f. f.given)
-runs-given = record { held = λ r w xs hold f. refl; used = λ r xs mark f. refl; read_done = λ r xs mark ended f. refl; turned = turned-given; write_done = done-given }
+runs-given = record { held = λ r w xs hold f. refl; used = λ r xs mark f. refl; read_done = λ r xs mark ended f. refl; turned =
+    turned-given; write_done = done-given }
 
 module _ (v : Flow → ℕ) (k : RunsKeep v) (g : Settings) (p : Past) (e : SideId) where
   read_run-kept : (s : Plain) (ended : Bool) (z : SideId) → v (flow_at (read_run g p e ended s) z) ≡ v (flow_at s z)
-  read_run-kept s ended z = set-seen v s.flows (number e) _ no_flow (k.used (read_filter g s e) (p.read e) (read_mark s e) (flow_at s e)) (number z)
+  read_run-kept s ended z = set-seen v s.flows (number e) _ no_flow (k.used (read_filter g s e) (p.read e) (read_mark s e)
+      (flow_at s e)) (number z)
 
   write_run-kept : (s : Plain) (may_end : Bool) (z : SideId) → v (flow_at (write_run g p e may_end s) z) ≡ v (flow_at s z)
-  write_run-kept s may_end z = set-seen v s.flows (number e) _ no_flow (k.turned (read_filter g s e) (write_filter g s (peer e)) (p.read e) (hold_mark g s (peer e)) (flow_at s e)) (number z)
+  write_run-kept s may_end z = set-seen v s.flows (number e) _ no_flow (k.turned (read_filter g s e) (write_filter g s (peer e))
+      (p.read e) (hold_mark g s (peer e)) (flow_at s e)) (number z)
 
   hold-kept : (s : Plain) (z : SideId) → v (flow_at (do_part g p e Part.Hold s) z) ≡ v (flow_at s z)
-  hold-kept s z = set-seen v s.flows (number e) _ no_flow (k.held (read_filter g s e) (write_filter g s (peer e)) (p.read e) (hold_mark g s (peer e)) (flow_at s e)) (number z)
+  hold-kept s z = set-seen v s.flows (number e) _ no_flow (k.held (read_filter g s e) (write_filter g s (peer e)) (p.read e)
+      (hold_mark g s (peer e)) (flow_at s e)) (number z)
 
   read-kept : (s : Plain) (z : SideId) → v (flow_at (do_part g p e Part.Read s) z) ≡ v (flow_at s z)
   read-kept s z =
       let ran : Plain = read_run g p e (side_at s e).ended s in
-      set-seen v ran.flows (number e) _ no_flow (k.read_done (read_filter g s e) (p.read e) (read_mark s e) (side_at s e).ended (flow_at ran e)) (number z)
+      set-seen v ran.flows (number e) _ no_flow (k.read_done (read_filter g s e) (p.read e) (read_mark s e) (side_at s e).ended
+          (flow_at ran e)) (number z)
       ∙ read_run-kept s (side_at s e).ended z
 
   write-kept : (s : Plain) (z : SideId) → v (flow_at (do_part g p e Part.Write s) z) ≡ v (flow_at s z)
   write-kept s z =
       let ran : Plain = write_run g p e true s in
-      set-seen v ran.flows (number e) _ no_flow (k.write_done (read_filter g s e) (write_filter g s (peer e)) (p.read e) (hold_mark g s (peer e)) (flow_at ran e)) (number z)
+      set-seen v ran.flows (number e) _ no_flow (k.write_done (read_filter g s e) (write_filter g s (peer e)) (p.read e)
+          (hold_mark g s (peer e)) (flow_at ran e)) (number z)
       ∙ write_run-kept s true z
 
   got-kept : (s : Plain) (z : SideId) → v (flow_at (after_got g p e s) z) ≡ v (flow_at s z)
@@ -221,26 +235,31 @@ module _ (v : Flow → ℕ) (k : RunsKeep v) (g : Settings) (p : Past) (e : Side
       ∙ read_run-kept s false z
 
 -- what was given stays, whatever part is done
-part-given : (g : Settings) (p : Past) (s : Plain) (e : SideId) (x : Part) (z : SideId) → (flow_at (do_part g p e x s) z).given ≡ (flow_at s z).given
+part-given : (g : Settings) (p : Past) (s : Plain) (e : SideId) (x : Part) (z : SideId) → (flow_at (do_part g p e x s) z).given ≡
+    (flow_at s z).given
 part-given g p s e Part.Hold z = hold-kept (λ f. f.given) runs-given g p e s z
 part-given g p s e Part.Read z = read-kept (λ f. f.given) runs-given g p e s z
-part-given g p s e Part.Move z = set-seen (λ f. f.given) s.flows (number e) _ no_flow (moved-given (read_filter g s e) (p.read e) (flow_at s e)) (number z)
+part-given g p s e Part.Move z = set-seen (λ f. f.given) s.flows (number e) _ no_flow (moved-given (read_filter g s e) (p.read e)
+    (flow_at s e)) (number z)
 part-given g p s e Part.Write z = write-kept (λ f. f.given) runs-given g p e s z
 part-given g p s e Part.Drain z = write_run-kept (λ f. f.given) runs-given g p e s false z
 
 -- what was moved stays, but of a live side
-part-moved : (g : Settings) (p : Past) (s : Plain) (e : SideId) (x : Part) (z : SideId) → NeedsLive s e x → (is_live s z ≡ true) ⊎ ((flow_at (do_part g p e x s) z).moved ≡ (flow_at s z).moved)
+part-moved : (g : Settings) (p : Past) (s : Plain) (e : SideId) (x : Part) (z : SideId) → NeedsLive s e x → (is_live s z ≡ true) ⊎
+    ((flow_at (do_part g p e x s) z).moved ≡ (flow_at s z).moved)
 part-moved g p s e Part.Hold z h = inr (hold-kept (λ f. f.moved) runs-moved g p e s z)
 part-moved g p s e Part.Read z h = inr (read-kept (λ f. f.moved) runs-moved g p e s z)
 part-moved g p s e Part.Move z h = go (same_end z e) refl
   where
     go : (q : Bool) → same_end z e ≡ q → (is_live s z ≡ true) ⊎ ((flow_at (do_part g p e Part.Move s) z).moved ≡ (flow_at s z).moved)
     go true q = inl (ap (λ w. is_live s w) (same_end-eq z e q) ∙ h)
-    go false q = inr (ap (λ f. f.moved) (get_or-set_other s.flows (number e) (number z) (with_moved (read_filter g s e) (p.read e) (flow_at s e)) no_flow (number-apart z e q)))
+    go false q = inr (ap (λ f. f.moved) (get_or-set_other s.flows (number e) (number z) (with_moved (read_filter g s e) (p.read e)
+        (flow_at s e)) no_flow (number-apart z e q)))
 part-moved g p s e Part.Write z h = inr (write-kept (λ f. f.moved) runs-moved g p e s z)
 part-moved g p s e Part.Drain z h = inr (write_run-kept (λ f. f.moved) runs-moved g p e s false z)
 
-quiet-given : (g : Settings) (t : Trace) (s : Plain) (x : Stage) (new : State) (z : SideId) → QuietKind g t s x new → (flow_at new.plain z).given ≡ (flow_at s z).given
+quiet-given : (g : Settings) (t : Trace) (s : Plain) (x : Stage) (new : State) (z : SideId) → QuietKind g t s x new →
+    (flow_at new.plain z).given ≡ (flow_at s z).given
 quiet-given g t s x new z (QuietKind.moved next a) = refl
 quiet-given g t s x new z (QuietKind.filtered {e = e}) = got-kept (λ f. f.given) runs-given g (past g t) e s z
 quiet-given g t s x new z (QuietKind.dispatched) = refl
@@ -249,7 +268,8 @@ quiet-given g t s x new z (QuietKind.closes) = refl
 quiet-given g t s x new z (QuietKind.looked a) = refl
 quiet-given g t s x new z (QuietKind.over) = refl
 
-quiet-moved : (g : Settings) (t : Trace) (s : Plain) (x : Stage) (new : State) (z : SideId) → PartsLive x s → QuietKind g t s x new → (is_live s z ≡ true) ⊎ ((flow_at new.plain z).moved ≡ (flow_at s z).moved)
+quiet-moved : (g : Settings) (t : Trace) (s : Plain) (x : Stage) (new : State) (z : SideId) → PartsLive x s → QuietKind g t s x new
+    → (is_live s z ≡ true) ⊎ ((flow_at new.plain z).moved ≡ (flow_at s z).moved)
 quiet-moved g t s x new z parts (QuietKind.moved next a) = inr refl
 quiet-moved g t s x new z parts (QuietKind.filtered {e = e}) = inr (got-kept (λ f. f.moved) runs-moved g (past g t) e s z)
 quiet-moved g t s x new z parts (QuietKind.dispatched) = inr refl
@@ -276,11 +296,15 @@ one-told gone e n = go (same_end gone e) refl
 
 closed-told : (g : Settings) (p : Past) (s : Plain) (c : CloseStep) (y : Entry) (e : SideId) → ClosedKind g p s c y →
     AllAre (flow_at s e).moved (told_moved_by e (y, [])) × AllAre (flow_at s (peer e)).given (told_given_by e (y, []))
-closed-told g p s c y e (ClosedKind.faulty {z = z} a b) = (one-told z e (λ v. (flow_at s v).moved), one-told z e (λ v. (flow_at s (peer v)).given))
+closed-told g p s c y e (ClosedKind.faulty {z = z} a b) = (one-told z e (λ v. (flow_at s v).moved), one-told z e
+    (λ v. (flow_at s (peer v)).given))
 closed-told g p s c y e (ClosedKind.write_ended a b) = (none-told _ [] refl, none-told _ [] refl)
-closed-told g p s c y e (ClosedKind.in_done {k = k} a b d f) = (one-told (record { link = k; side = In }) e (λ v. (flow_at s v).moved), one-told (record { link = k; side = In }) e (λ v. (flow_at s (peer v)).given))
-closed-told g p s c y e (ClosedKind.out_done {k = k}) = (one-told (record { link = k; side = Out }) e (λ v. (flow_at s v).moved), one-told (record { link = k; side = Out }) e (λ v. (flow_at s (peer v)).given))
-closed-told g p s c y e (ClosedKind.peer_gone {z = z} a b d) = (one-told z e (λ v. (flow_at s v).moved), one-told z e (λ v. (flow_at s (peer v)).given))
+closed-told g p s c y e (ClosedKind.in_done {k = k} a b d f) = (one-told (record { link = k; side = In }) e
+    (λ v. (flow_at s v).moved), one-told (record { link = k; side = In }) e (λ v. (flow_at s (peer v)).given))
+closed-told g p s c y e (ClosedKind.out_done {k = k}) = (one-told (record { link = k; side = Out }) e (λ v. (flow_at s v).moved),
+    one-told (record { link = k; side = Out }) e (λ v. (flow_at s (peer v)).given))
+closed-told g p s c y e (ClosedKind.peer_gone {z = z} a b d) = (one-told z e (λ v. (flow_at s v).moved), one-told z e
+    (λ v. (flow_at s (peer v)).given))
 closed-told g p s c y e (ClosedKind.shut a b) = (none-told _ [] refl, none-told _ [] refl)
 
 pub put-told : (g : Settings) (t : Trace) (s : Plain) (x : Stage) (y : Event) (new : State) (e : SideId) → PutKind g t s x y new →
@@ -297,7 +321,8 @@ put-told g t s x y new e (PutKind.written a b c) = (none-told _ [] refl, none-to
 put-told g t s x y new e (PutKind.fired a) = (none-told _ [] refl, none-told _ [] refl)
 put-told g t s x y new e (PutKind.frees a same) = (none-told _ [] refl, none-told _ [] refl)
 put-told g t s x y new e (PutKind.asked same m l) = (none-told _ [] refl, none-told _ [] refl)
-put-told g t s x y new e (PutKind.recorded {gone = z}) = (one-told z e (λ v. (flow_at s v).moved), one-told z e (λ v. (flow_at s (peer v)).given))
+put-told g t s x y new e (PutKind.recorded {gone = z}) = (one-told z e (λ v. (flow_at s v).moved), one-told z e
+    (λ v. (flow_at s (peer v)).given))
 put-told g t s x y new e (PutKind.closed {c = c} {e = y1} a) = closed-told g (past g t) s c y1 e (closed-kind g (past g t) s c y1 a)
 
 -- what was given to a side stays, or the side lives and its end takes some
@@ -317,33 +342,41 @@ written-given g p s side (write.Took n) e live = go (same_end side e) refl
         let same : e ≡ side = sym (peer-peer e) ∙ ap peer (same_end-eq (peer e) (peer side) q) ∙ peer-peer side in
         let yes : same_end side e ≡ true = ap (λ v. same_end side v) same ∙ same_end-refl side in cc)
 
-    go : (q : Bool) → same_end side e ≡ q → (is_live s e ≡ true) ⊎ ((flow_at (after_write g p side (write.Took n) s) (peer e)).given ≡ (flow_at s (peer e)).given)
+    go : (q : Bool) → same_end side e ≡ q → (is_live s e ≡ true) ⊎
+        ((flow_at (after_write g p side (write.Took n) s) (peer e)).given ≡ (flow_at s (peer e)).given)
     go true q = inl (ap (λ v. is_live s v) (sym (same_end-eq side e q)) ∙ live)
     go false q = inr (
         ap (λ flows. (slice_index_or flows (number (peer e)) no_flow).given) (ap (λ z. z.flows) (raised_write g p side before).1)
-        ∙ ap (λ f. f.given) (get_or-set_other s.flows (number (peer side)) (number (peer e)) x no_flow (number-apart (peer e) (peer side) (apart q (same_end (peer e) (peer side)) refl))))
+        ∙ ap (λ f. f.given) (get_or-set_other s.flows (number (peer side)) (number (peer e)) x no_flow
+            (number-apart (peer e) (peer side) (apart q (same_end (peer e) (peer side)) refl))))
 written-given g p s side write.NotYet e live = inr refl
 written-given g p s side write.Failed e live =
-    inr (ap (λ flows. (slice_index_or flows (number (peer e)) no_flow).given) (ap (λ z. z.flows) (raised g side (happened dir.Write error_flag) (change_side side (λ x. record x { failed = true; writes = false }) s)).1))
+    inr (ap (λ flows. (slice_index_or flows (number (peer e)) no_flow).given) (ap (λ z. z.flows)
+        (raised g side (happened dir.Write error_flag) (change_side side (λ x. record x { failed = true; writes = false }) s)).1))
 written-given g p s side write.NoMemory e live = inr refl
 
-flows-given : {xs ys : List Flow} → ys ≡ xs → (e : SideId) → (slice_index_or ys (number e) no_flow).given ≡ (slice_index_or xs (number e) no_flow).given
+flows-given : {xs ys : List Flow} → ys ≡ xs → (e : SideId) → (slice_index_or ys (number e) no_flow).given ≡
+    (slice_index_or xs (number e) no_flow).given
 flows-given h e = ap (λ z. (slice_index_or z (number e) no_flow).given) h
 
 put-given : (g : Settings) (t : Trace) (s : Plain) (x : Stage) (y : Event) (new : State) (e : SideId) → PutKind g t s x y new →
     ((is_live s e ≡ true) × (freed_by e y ≡ false)) ⊎ ((flow_at new.plain (peer e)).given ≡ (flow_at s (peer e)).given)
-put-given g t s x y new e (PutKind.turned {ms = ms} a b) = inr (flows-given (time-flows g (past g (t ++ (entry.Turn ms, []) ∷ [])) (turned_to ms s)) (peer e))
+put-given g t s x y new e (PutKind.turned {ms = ms} a b) = inr
+    (flows-given (time-flows g (past g (t ++ (entry.Turn ms, []) ∷ [])) (turned_to ms s)) (peer e))
 put-given g t s x y new e (PutKind.polled) = inr refl
 put-given g t s x y new e (PutKind.wanted a) = inr refl
 put-given g t s x y new e (PutKind.poll_failed) = inr refl
 put-given g t s x y new e (PutKind.readied a) = inr refl
 put-given g t s x y new e (PutKind.opened) = inr (ap (λ f. f.given) (default-same s.flows (number (peer e))))
 put-given g t s x y new e (PutKind.checked {side = side} {answer = answer} a) = inr (flows-given (conn-flows g side answer s) (peer e))
-put-given g t s x y new e (PutKind.was_read {side = side} {answer = answer} left a b) = inr (flows-given (read-flows g side answer s) (peer e))
-put-given g t s x y new e (PutKind.written {side = side} {answer = answer} a b c) = go (written-given g (past g t) s side answer e (may_write-live s side a))
+put-given g t s x y new e (PutKind.was_read {side = side} {answer = answer} left a b) = inr
+    (flows-given (read-flows g side answer s) (peer e))
+put-given g t s x y new e (PutKind.written {side = side} {answer = answer} a b c) = go (written-given g (past g t) s side answer e
+    (may_write-live s side a))
   where
     go : (is_live s e ≡ true) ⊎ ((flow_at (after_write g (past g t) side answer s) (peer e)).given ≡ (flow_at s (peer e)).given) →
-        ((is_live s e ≡ true) × (false ≡ false)) ⊎ ((flow_at (after_write g (past g t) side answer s) (peer e)).given ≡ (flow_at s (peer e)).given)
+        ((is_live s e ≡ true) × (false ≡ false)) ⊎ ((flow_at (after_write g (past g t) side answer s) (peer e)).given ≡
+            (flow_at s (peer e)).given)
     go (inl k) = inl (k, refl)
     go (inr k) = inr k
 put-given g t s x y new e (PutKind.fired a) = inr refl
@@ -354,21 +387,28 @@ put-given g t s x y new e (PutKind.closed {c = c} a) = inr (flows-given (closed-
 
 -- The law
 
-put-free_told : (g : Settings) (t : Trace) (s : Plain) (x : Stage) (y : Event) (new : State) (e : SideId) → (is_live s e ≡ true → is_freed e t ≡ false) → PutKind g t s x y new → FreesTell t s e → FreesTell (t ++ y ∷ []) new.plain e
+put-free_told : (g : Settings) (t : Trace) (s : Plain) (x : Stage) (y : Event) (new : State) (e : SideId) →
+    (is_live s e ≡ true → is_freed e t ≡ false) → PutKind g t s x y new → FreesTell t s e → FreesTell (t ++ y ∷ []) new.plain e
 put-free_told g t s x y new e unfreed k h = record {
   moved =
       subst (λ n. AllAre n (moved_at_free e (t ++ y ∷ []))) (sym (ap (λ z. z.moved) (put-stations g t s x y new k e)))
-      (subst (λ xs. AllAre (flow_at s e).moved xs) (sym (moved_at_free-push e t y)) (All-append (λ told. told ≡ (flow_at s e).moved) (moved_at_free e t) (told_moved_by e y) h.moved (put-told g t s x y new e k).0));
+      (subst (λ xs. AllAre (flow_at s e).moved xs) (sym (moved_at_free-push e t y)) (All-append
+          (λ told. told ≡ (flow_at s e).moved) (moved_at_free e t) (told_moved_by e y) h.moved (put-told g t s x y new e k).0));
   given = go (put-given g t s x y new e k);
 }
   where
-    go : ((is_live s e ≡ true) × (freed_by e y ≡ false)) ⊎ ((flow_at new.plain (peer e)).given ≡ (flow_at s (peer e)).given) → AllAre (flow_at new.plain (peer e)).given (given_at_free e (t ++ y ∷ []))
-    go (inl a) = none-told _ _ (given-untold e (t ++ y ∷ []) (list_any-push (freed_by e) t y ∙ or_from (is_freed e t) (freed_by e y) (unfreed a.0) a.1))
+    go : ((is_live s e ≡ true) × (freed_by e y ≡ false)) ⊎ ((flow_at new.plain (peer e)).given ≡ (flow_at s (peer e)).given) →
+        AllAre (flow_at new.plain (peer e)).given (given_at_free e (t ++ y ∷ []))
+    go (inl a) = none-told _ _ (given-untold e (t ++ y ∷ []) (list_any-push (freed_by e) t y ∙ or_from (is_freed e t)
+        (freed_by e y) (unfreed a.0) a.1))
     go (inr a) =
         subst (λ n. AllAre n (given_at_free e (t ++ y ∷ []))) (sym a)
-        (subst (λ xs. AllAre (flow_at s (peer e)).given xs) (sym (given_at_free-push e t y)) (All-append (λ told. told ≡ (flow_at s (peer e)).given) (given_at_free e t) (told_given_by e y) h.given (put-told g t s x y new e k).1))
+        (subst (λ xs. AllAre (flow_at s (peer e)).given xs) (sym (given_at_free-push e t y))
+            (All-append (λ told. told ≡ (flow_at s (peer e)).given) (given_at_free e t) (told_given_by e y) h.given
+            (put-told g t s x y new e k).1))
 
-quiet-free_told : (g : Settings) (t : Trace) (s : Plain) (x : Stage) (new : State) (e : SideId) → (is_live s e ≡ true → is_freed e t ≡ false) → PartsLive x s → QuietKind g t s x new → FreesTell t s e → FreesTell t new.plain e
+quiet-free_told : (g : Settings) (t : Trace) (s : Plain) (x : Stage) (new : State) (e : SideId) →
+    (is_live s e ≡ true → is_freed e t ≡ false) → PartsLive x s → QuietKind g t s x new → FreesTell t s e → FreesTell t new.plain e
 quiet-free_told g t s x new e unfreed parts k h = record {
   moved = go (quiet-moved g t s x new e parts k);
   given = subst (λ n. AllAre n (given_at_free e t)) (sym (quiet-given g t s x new (peer e) k)) h.given;
@@ -381,15 +421,18 @@ quiet-free_told g t s x new e unfreed parts k h = record {
 pub parts-live : (g : Settings) (t : Trace) (s : State) → Reaches g t s → PartsLive s.stage s.plain
 parts-live g t s (Reaches.begins) = tt
 parts-live g t new (Reaches.goes {t = u} {s = old} r h) = quiet-parts g u old.stage old.plain new (parts-live g u old r) h
-parts-live g t new (Reaches.puts {t = u} {s = old} e bytes r h) = put-parts g u old.plain old.stage (e, bytes) new (put-kind g u old.stage old.plain e bytes new (kept g u old r).placed h)
+parts-live g t new (Reaches.puts {t = u} {s = old} e bytes r h) = put-parts g u old.plain old.stage (e, bytes) new
+    (put-kind g u old.stage old.plain e bytes new (kept g u old r).placed h)
 
 frees-told : (g : Settings) (t : Trace) (s : State) (e : SideId) → Reaches g t s → FreesTell t s.plain e
 frees-told g t s e (Reaches.begins) = record { moved = none-told _ [] refl; given = none-told _ [] refl }
 frees-told g t new e (Reaches.goes {t = u} {s = old} r h) =
-    quiet-free_told g u old.plain old.stage new e (live-unfreed g u old.stage old.plain (kept g u old r) e) (parts-live g u old r) (quiet-kind g u old.stage old.plain new h) (frees-told g u old e r)
+    quiet-free_told g u old.plain old.stage new e (live-unfreed g u old.stage old.plain (kept g u old r) e) (parts-live g u old r)
+        (quiet-kind g u old.stage old.plain new h) (frees-told g u old e r)
 frees-told g t new e (Reaches.puts {t = u} {s = old} y bytes r h) =
     let c = kept g u old r in
-    put-free_told g u old.plain old.stage (y, bytes) new e (live-unfreed g u old.stage old.plain c e) (put-kind g u old.stage old.plain y bytes new c.placed h) (frees-told g u old e r)
+    put-free_told g u old.plain old.stage (y, bytes) new e (live-unfreed g u old.stage old.plain c e)
+        (put-kind g u old.stage old.plain y bytes new c.placed h) (frees-told g u old e r)
 
 pub frees_tell_totals : FreesTellTotals
 frees_tell_totals g t x s e r = frees-told g t (record { stage = x; plain = s }) e r

@@ -47,5 +47,6 @@ or_no false false = refl
 pub has_ended-push : (e : SideId) (t : Trace) (x : Event) → has_ended e (t ++ x ∷ []) ≡ (has_ended e t || ended_by e x)
 has_ended-push e t x = has_ended-append e t (x ∷ []) ∙ or_no (has_ended e t) (ended_by e x)
 
-pub is_write_closed-push : (e : SideId) (t : Trace) (x : Event) → is_write_closed e (t ++ x ∷ []) ≡ (is_write_closed e t || write_closed_by e x)
+pub is_write_closed-push : (e : SideId) (t : Trace) (x : Event) → is_write_closed e (t ++ x ∷ []) ≡
+    (is_write_closed e t || write_closed_by e x)
 is_write_closed-push e t x = is_write_closed-append e t (x ∷ []) ∙ or_no (is_write_closed e t) (write_closed_by e x)

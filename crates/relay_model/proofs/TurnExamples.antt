@@ -38,7 +38,8 @@ out_of k = record { link = k; side = Out }
 
 -- reasons of one side join, and stand where the first of them became due
 abbrev pending : List Due
-pending = with_reason (in_of 0) (event 17) (with_reason (in_of 1) why.Read (with_reason (in_of 0) (event 65) (with_reason (in_of 0) why.Timer [])))
+pending = with_reason (in_of 0) (event 17)
+    (with_reason (in_of 1) why.Read (with_reason (in_of 0) (event 65) (with_reason (in_of 0) why.Timer [])))
 
 batch-joined : batch pending ≡ (in_of 0, event 81) ∷ (in_of 0, why.Timer) ∷ (in_of 1, why.Read) ∷ []
 batch-joined = refl
@@ -136,10 +137,12 @@ room-read_mark_used_up = refl
 room-other_side : read_room five_at_most (bytes_past (1 ∷ 2 ∷ 3 ∷ 4 ∷ 5 ∷ [])) (opened_with five_at_most) (out_of 0) ≡ 16384
 room-other_side = refl
 
-wanted-new_link : wanted usual nothing_past (opened_with usual) ≡ record { side = in_of 0; read = true; write = false } ∷ record { side = out_of 0; read = true; write = false } ∷ []
+wanted-new_link : wanted usual nothing_past (opened_with usual) ≡ record { side = in_of 0; read = true; write = false } ∷
+    record { side = out_of 0; read = true; write = false } ∷ []
 wanted-new_link = refl
 
-wanted-connecting : wanted usual nothing_past (with_link usual false (turned_to 0 nothing_yet)) ≡ record { side = in_of 0; read = true; write = false } ∷ record { side = out_of 0; read = false; write = true } ∷ []
+wanted-connecting : wanted usual nothing_past (with_link usual false (turned_to 0 nothing_yet)) ≡
+    record { side = in_of 0; read = true; write = false } ∷ record { side = out_of 0; read = false; write = true } ∷ []
 wanted-connecting = refl
 
 -- Ten bytes are read at a hold mark of 4. The raw output fills up to the mark, and the direction is held.
@@ -158,7 +161,8 @@ taken n s = after_write held_at_four ten (out_of 0) (write.Took n) s
 abbrev first_offer : Plain
 first_offer = passed (after_got held_at_four ten (in_of 0) (opened_with held_at_four))
 
-hold-fills_to_the_mark : flow_at first_offer (in_of 0) ≡ record { used = 10; moved = 10; turned = 4; given = 0; read_done = false; write_done = false; held = true }
+hold-fills_to_the_mark : flow_at first_offer (in_of 0) ≡ record { used = 10; moved = 10; turned = 4; given = 0; read_done = false;
+    write_done = false; held = true }
 hold-fills_to_the_mark = refl
 
 hold-first_offer : write_room held_at_four ten first_offer (out_of 0) ≡ 4
@@ -198,7 +202,8 @@ refusal-decref_none = refl
 refusal-decref_of_none_freed : refusal usual (freed (in_of 0) (opened_with usual)) (act.Decref (in_of 0)) ≡ Some ask.NotLive
 refusal-decref_of_none_freed = refl
 
-refusal-decref_freed : refusal usual (freed (in_of 0) (done usual nothing_past (opened_with usual) (act.Incref (in_of 0)))) (act.Decref (in_of 0)) ≡ None
+refusal-decref_freed : refusal usual (freed (in_of 0) (done usual nothing_past (opened_with usual) (act.Incref (in_of 0))))
+    (act.Decref (in_of 0)) ≡ None
 refusal-decref_freed = refl
 
 -- A read timeout of a second.
@@ -214,10 +219,12 @@ timeout-half = refl
 timeout-passed : poll_timeout timed_in nothing_past (at_time timed_in 1000 (opened_with timed_in)) ≡ Some 0
 timeout-passed = refl
 
-timeout-wanted : wanted timed_in nothing_past (at_time timed_in 1000 (opened_with timed_in)) ≡ record { side = out_of 0; read = true; write = false } ∷ []
+timeout-wanted : wanted timed_in nothing_past (at_time timed_in 1000 (opened_with timed_in)) ≡
+    record { side = out_of 0; read = true; write = false } ∷ []
 timeout-wanted = refl
 
-timeout-cause : closing_entry timed_in nothing_past (at_time timed_in 1000 (opened_with timed_in)) (CloseStep.Faulty (in_of 0)) ≡ Some (entry.Freed (in_of 0) cause.Timeout 0 0)
+timeout-cause : closing_entry timed_in nothing_past (at_time timed_in 1000 (opened_with timed_in)) (CloseStep.Faulty (in_of 0)) ≡
+    Some (entry.Freed (in_of 0) cause.Timeout 0 0)
 timeout-cause = refl
 
 -- A timer of 100 that is set at 10.
@@ -251,5 +258,6 @@ abbrev plan : List Planned
 plan = record { kind = kind.Read; nth = 1; act = Some (act.Free (in_of 0)) } ∷ record { kind = kind.Read; nth = 2; act = Some act.Stop }
     ∷ record { kind = kind.Read; nth = 1; act = None } ∷ record { kind = kind.Event; nth = 1; act = Some (act.Cancel (in_of 1)) } ∷ []
 
-planned-in_order : acts_behind plan [] (why.Read ∷ event 17 ∷ why.Read ∷ event 33 ∷ []) ≡ act.Free (in_of 0) ∷ act.Cancel (in_of 1) ∷ act.Stop ∷ []
+planned-in_order : acts_behind plan [] (why.Read ∷ event 17 ∷ why.Read ∷ event 33 ∷ []) ≡ act.Free (in_of 0) ∷ act.Cancel (in_of 1)
+    ∷ act.Stop ∷ []
 planned-in_order = refl

@@ -37,7 +37,8 @@ last_put g _ _ Reaches.begins t e h = absurd (not_empty t e h)
 last_put g u _ (Reaches.goes {s = old} r q) t e h = last_put g u old r t e h
 last_put g _ new (Reaches.puts {t = u} {s = old} x bytes r q) t e h =
     let same = ends_alike u t (x, bytes) e h in
-    (old, new, subst (λ v. Reaches g v old) same.0 r, subst (λ v. Puts g v old.stage old.plain e.0 e.1 new) same.0 (subst (λ y. Puts g u old.stage old.plain y.0 y.1 new) same.1 q))
+    (old, new, subst (λ v. Reaches g v old) same.0 r, subst (λ v. Puts g v old.stage old.plain e.0 e.1 new) same.0
+        (subst (λ y. Puts g u old.stage old.plain y.0 y.1 new) same.1 q))
 
 -- marks rise in every state that is reached
 reaches-rise : (g : Settings) (t : Trace) (s : State) → Reaches g t s → Rise 0 (unmarked s.stage)
@@ -45,7 +46,8 @@ reaches-rise g _ _ Reaches.begins = tt
 reaches-rise g t new (Reaches.goes {s = old} r q) = quietly-rise g t old.stage old.plain new q (reaches-rise g t old r)
 reaches-rise g _ new (Reaches.puts {t = u} {s = old} x bytes r q) = puts-rise g u old.stage old.plain x bytes new q (reaches-rise g u old r)
 
-ahead-goes : (g : Settings) (t : Trace) (k : ℕ) (a s new : State) → Ahead g t k a s → Quietly g t s.stage s.plain new → Ahead g t (suc k) a new
+ahead-goes : (g : Settings) (t : Trace) (k : ℕ) (a s new : State) → Ahead g t k a s → Quietly g t s.stage s.plain new → Ahead g t
+    (suc k) a new
 ahead-goes g t zero a s new h q = (new, subst (λ x. Quietly g t x.stage x.plain new) (sym h) q, refl)
 ahead-goes g t (suc k) a s new h q = (h.0, h.1, ahead-goes g t k h.0 s new h.2 q)
 
@@ -85,7 +87,8 @@ replay_from-more [] g t x mid a e h q =
 replay_from-more (c ∷ es) g t x mid a e h q = found (step g t x c) refl (λ new more. replay_from-more es g (t ++ c ∷ []) new mid a e more) h
   where
     found : (o : Option State) → step g t x c ≡ o →
-        ((new : State) → replay_from g (t ++ c ∷ []) new es ≡ Some mid → step g ((t ++ c ∷ []) ++ es) mid e ≡ Some a → replay_from g (t ++ c ∷ []) new (es ++ e ∷ []) ≡ Some a) →
+        ((new : State) → replay_from g (t ++ c ∷ []) new es ≡ Some mid → step g ((t ++ c ∷ []) ++ es) mid e ≡ Some a → replay_from
+            g (t ++ c ∷ []) new (es ++ e ∷ []) ≡ Some a) →
         elim o [ Some new ↦ replay_from g (t ++ c ∷ []) new es | None ↦ None ] ≡ Some mid → replay_from g t x (c ∷ es ++ e ∷ []) ≡ Some a
     found None w more h = absurd (cc)
     found (Some new) w more h =
@@ -112,7 +115,8 @@ rest_of : (g : Settings) (t : Trace) (o : Option State) → is_some (elim o [ So
 rest_of g t None h = absurd (cc)
 rest_of g t (Some x) h = (x, refl, found (rest_within most_silent g t x) refl h)
   where
-    found : (o : Option State) → rest_within most_silent g t x ≡ o → is_some o ≡ true → (r : State) × (rest_within most_silent g t x ≡ Some r)
+    found : (o : Option State) → rest_within most_silent g t x ≡ o → is_some o ≡ true → (r : State) ×
+        (rest_within most_silent g t x ≡ Some r)
     found None q h = absurd (cc)
     found (Some r) q h = (r, q)
 

@@ -31,14 +31,17 @@ unmarked _ = []
 stays : (y : Stage) (p : Plain) (new : State) → new ≡ at y p → Rise 0 (unmarked y) → Rise 0 (unmarked new.stage)
 stays y p new e h = subst (λ z. Rise 0 (unmarked z)) (ap (λ x. x.stage) (sym e)) h
 
-after_fire-rise : (x : Fire) (stopped : Bool) (rs : List (SideId × Why)) → Rise 0 (unmarked (if stopped then Over (Halt.StoppedBy x.side.link) else Dispatching rs))
+after_fire-rise : (x : Fire) (stopped : Bool) (rs : List (SideId × Why)) → Rise 0 (unmarked
+    (if stopped then Over (Halt.StoppedBy x.side.link) else Dispatching rs))
 after_fire-rise x true rs = tt
 after_fire-rise x false rs = tt
 
 -- they rise in number, at every stage
-pub quietly-rise : (g : Settings) (t : Trace) (x : Stage) (p : Plain) (new : State) → Quietly g t x p new → Rise 0 (unmarked x) → Rise 0 (unmarked new.stage)
+pub quietly-rise : (g : Settings) (t : Trace) (x : Stage) (p : Plain) (new : State) → Quietly g t x p new → Rise 0 (unmarked x) →
+    Rise 0 (unmarked new.stage)
 quietly-rise g t (Wanting []) p new h r = stays _ _ new h (wanted-rise g (past g t) p)
-quietly-rise g t (Marking (w ∷ ws) marks) p new h r = stays (Marking ws marks) _ new h (rise-weaken 0 (number w.side + 1) ws (omega arith) r.1)
+quietly-rise g t (Marking (w ∷ ws) marks) p new h r = stays (Marking ws marks) _ new h (rise-weaken 0 (number w.side + 1) ws
+    (omega arith) r.1)
 quietly-rise g t (Marking [] marks) p new h r = stays (Accepting 0 marks) _ new h tt
 quietly-rise g t (Accepting n marks) p new h r = stays (Serving marks) _ new h tt
 quietly-rise g t (Serving (m ∷ ms)) p new h r = stays _ _ new h.1 tt
@@ -63,12 +66,14 @@ after_ask-rise x rs (act.Free e) ask.Ok = tt
 after_ask-rise x rs act.Stop ask.Ok = tt
 after_ask-rise x rs _ _ = tt
 
-pub puts-rise : (g : Settings) (t : Trace) (x : Stage) (p : Plain) (e : Entry) (bytes : List ℕ) (new : State) → Puts g t x p e bytes new → Rise 0 (unmarked x) → Rise 0 (unmarked new.stage)
+pub puts-rise : (g : Settings) (t : Trace) (x : Stage) (p : Plain) (e : Entry) (bytes : List ℕ) (new : State) → Puts g t x p e
+    bytes new → Rise 0 (unmarked x) → Rise 0 (unmarked new.stage)
 puts-rise g t Between p (entry.Turn ms) bytes new h r = stays _ _ new h.3 tt
 puts-rise g t Polling p (entry.Poll timeout) bytes new h r = stays _ _ new h.2 tt
 puts-rise g t (Wanting (w ∷ ws)) p (entry.Want side read write) bytes new h r = stays _ _ new h.2 tt
 puts-rise g t (Wanting []) p entry.PollFailed bytes new h r = stays _ _ new h.1 tt
-puts-rise g t (Marking (w ∷ ws) marks) p (entry.Ready side read write) bytes new h r = stays _ _ new h.3 (rise-weaken 0 (number w.side + 1) ws (omega arith) r.1)
+puts-rise g t (Marking (w ∷ ws) marks) p (entry.Ready side read write) bytes new h r = stays _ _ new h.3
+    (rise-weaken 0 (number w.side + 1) ws (omega arith) r.1)
 puts-rise g t (Accepting n marks) p (entry.Opened link connected) bytes new h r = stays _ _ new h.4 tt
 puts-rise g t (Serving (m ∷ ms)) p (entry.Conn side answer) bytes new h r = stays _ _ new h.3 tt
 puts-rise g t (Serving (m ∷ ms)) p (entry.Read side room answer) bytes new h r = stays _ _ new h.3 (after_reading-rise side answer _)
@@ -89,14 +94,16 @@ Beyond n _ = Unit {0}
 moves : (n : ℕ) (y : Stage) (p : Plain) (new : State) → new ≡ at y p → Beyond n y → Beyond n new.stage
 moves n y p new e h = subst (λ z. Beyond n z) (ap (λ x. x.stage) (sym e)) h
 
-after_fire-beyond : (n : ℕ) (x : Fire) (stopped : Bool) (rs : List (SideId × Why)) → Beyond n (if stopped then Over (Halt.StoppedBy x.side.link) else Dispatching rs)
+after_fire-beyond : (n : ℕ) (x : Fire) (stopped : Bool) (rs : List (SideId × Why)) → Beyond n
+    (if stopped then Over (Halt.StoppedBy x.side.link) else Dispatching rs)
 after_fire-beyond n x true rs = tt
 after_fire-beyond n x false rs = tt
 
 rise-rest : (n : ℕ) (w : Want) (ws : List Want) → Rise n (w ∷ ws) → Rise n ws
 rise-rest n w ws h = let here = h.0 in rise-weaken n (number w.side + 1) ws (omega arith) h.1
 
-quietly-beyond : (n : ℕ) (g : Settings) (t : Trace) (x : Stage) (p : Plain) (new : State) → Quietly g t x p new → Beyond n x → Beyond n new.stage
+quietly-beyond : (n : ℕ) (g : Settings) (t : Trace) (x : Stage) (p : Plain) (new : State) → Quietly g t x p new → Beyond n x →
+    Beyond n new.stage
 quietly-beyond n g t (Wanting []) p new h b = absurd b
 quietly-beyond n g t (Marking (w ∷ ws) marks) p new h b = moves n (Marking ws marks) _ new h (rise-rest n w ws b)
 quietly-beyond n g t (Marking [] marks) p new h b = moves n _ _ new h tt
@@ -118,7 +125,8 @@ ahead-beyond : (n : ℕ) (g : Settings) (t : Trace) (k : ℕ) (a s : State) → 
 ahead-beyond n g t zero a s h b = subst (λ x. Beyond n x.stage) h b
 ahead-beyond n g t (suc k) a s h b = ahead-beyond n g t k h.0 s h.2 (quietly-beyond n g t a.stage a.plain h.0 h.1 b)
 
-ready-beyond : (n : ℕ) (g : Settings) (t : Trace) (x : Stage) (p : Plain) (side : SideId) (read write : Bool) (bytes : List ℕ) (new : State) →
+ready-beyond : (n : ℕ) (g : Settings) (t : Trace) (x : Stage) (p : Plain) (side : SideId) (read write : Bool) (bytes : List ℕ)
+    (new : State) →
     Puts g t x p (entry.Ready side read write) bytes new → Beyond n x → n ≤ number side
 ready-beyond n g t (Marking (w ∷ ws) marks) p side read write bytes new h b = subst (λ e. n ≤ number e) (sym h.0) b.0
 ready-beyond n g t (Freeing gone x rs) p side read write bytes new h b = absurd (no_freeing p gone (entry.Ready side read write) refl h.0)
@@ -135,7 +143,8 @@ ready-beyond n g t _ p side read write bytes new h b = absurd h
 
 -- Where an entry can be put and the relay goes on silently all the same, the entry can't be put any more.
 module _ (g : Settings) (t : Trace) (p : Plain) (bytes : List ℕ) (y b s new : State) (k : ℕ) (ahead : Ahead g t k b s) where
-  pub put_once : (x : Stage) (e : Entry) → Rise 0 (unmarked x) → Puts g t x p e bytes y → Quietly g t x p b → Puts g t s.stage s.plain e bytes new → ⊥
+  pub put_once : (x : Stage) (e : Entry) → Rise 0 (unmarked x) → Puts g t x p e bytes y → Quietly g t x p b → Puts g t s.stage
+      s.plain e bytes new → ⊥
   put_once (Wanting []) entry.PollFailed r h q again =
       let later : 1 ≤ rank b.stage = subst (λ x. 1 ≤ rank x.stage) (sym q) (lit≤ tt) in
       let there = ahead-rank g t k b s ahead in

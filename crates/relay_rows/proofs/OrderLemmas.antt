@@ -40,7 +40,8 @@ rank (Over why) = 8
 goes_to : (n : ℕ) (y : Stage) (p : Plain) (new : State) → new ≡ at y p → n ≤ rank y → n ≤ rank new.stage
 goes_to n y p new e h = subst (λ z. n ≤ rank z) (ap (λ x. x.stage) (sym e)) h
 
-after_fire-rank : (x : Fire) (stopped : Bool) (rs : List (SideId × Why)) → 5 ≤ rank (if stopped then Over (Halt.StoppedBy x.side.link) else Dispatching rs)
+after_fire-rank : (x : Fire) (stopped : Bool) (rs : List (SideId × Why)) → 5 ≤ rank (if stopped then Over
+    (Halt.StoppedBy x.side.link) else Dispatching rs)
 after_fire-rank x true rs = lit≤ tt
 after_fire-rank x false rs = lit≤ tt
 
@@ -75,13 +76,15 @@ ahead-rank g t (suc k) a s h =
 
 -- Where some entries can be put
 
-pub no_closing : (g : Settings) (t : Trace) (p : Plain) (c : CloseStep) (e : Entry) → is_closing e ≡ false → closing_entry g (past g t) p c ≡ Some e → ⊥
+pub no_closing : (g : Settings) (t : Trace) (p : Plain) (c : CloseStep) (e : Entry) → is_closing e ≡ false → closing_entry g
+    (past g t) p c ≡ Some e → ⊥
 no_closing g t p c e other h = let yes = closing_entry-is g (past g t) p c e h in absurd (cc)
 
 pub no_freeing : (p : Plain) (gone : SideId) (e : Entry) → is_closing e ≡ false → e ≡ freed_entry p gone cause.Hook → ⊥
 no_freeing p gone e other h = let yes : is_closing e ≡ true = ap is_closing h in absurd (cc)
 
-pub poll_failed-rank : (g : Settings) (t : Trace) (x : Stage) (p : Plain) (bytes : List ℕ) (new : State) → Puts g t x p entry.PollFailed bytes new → rank x ≡ 0
+pub poll_failed-rank : (g : Settings) (t : Trace) (x : Stage) (p : Plain) (bytes : List ℕ) (new : State) → Puts g t x p
+    entry.PollFailed bytes new → rank x ≡ 0
 poll_failed-rank g t (Wanting []) p bytes new h = refl
 poll_failed-rank g t (Wanting (w ∷ ws)) p bytes new h = absurd h
 poll_failed-rank g t (Marking [] marks) p bytes new h = absurd h
@@ -111,7 +114,8 @@ opened-rank g t (Freeing gone x rs) p link connected bytes new h = absurd (no_fr
 opened-rank g t (Closing (c ∷ cs)) p link connected bytes new h = absurd (no_closing g t p c (entry.Opened link connected) refl h.0)
 opened-rank g t _ p link connected bytes new h = absurd h
 
-pub asked-rank : (g : Settings) (t : Trace) (x : Stage) (p : Plain) (side : SideId) (a : Act) (answer : AskAnswer) (bytes : List ℕ) (new : State) →
+pub asked-rank : (g : Settings) (t : Trace) (x : Stage) (p : Plain) (side : SideId) (a : Act) (answer : AskAnswer) (bytes : List ℕ)
+    (new : State) →
     Puts g t x p (entry.Asked side a answer) bytes new → rank x ≡ 4
 asked-rank g t (Firing x rs) p side a answer bytes new h = refl
 asked-rank g t (Wanting []) p side a answer bytes new h = absurd h
@@ -151,7 +155,8 @@ rise-filter keeps n (w ∷ ws) h =
 rise-sides : (g : Settings) (p : Past) (s : Plain) (n k : ℕ) → Rise (2 * k) (map (want_of g p s) (sides_from k n))
 rise-sides g p s zero k = tt
 rise-sides g p s (suc n) k =
-    (omega arith, (omega arith, rise-weaken (2 * k + 1 + 1) (2 * (k + 1)) (map (want_of g p s) (sides_from (k + 1) n)) (omega arith) (rise-sides g p s n (k + 1))))
+    (omega arith, (omega arith, rise-weaken (2 * k + 1 + 1) (2 * (k + 1)) (map (want_of g p s) (sides_from (k + 1) n))
+        (omega arith) (rise-sides g p s n (k + 1))))
 
 pub wanted-rise : (g : Settings) (p : Past) (s : Plain) → Rise 0 (wanted g p s)
 wanted-rise g p s = rise-filter (λ w. w.read || w.write) 0 (map (want_of g p s) (all_sides s)) (rise-sides g p s s.opened 0)

@@ -8,7 +8,8 @@ pub time_falls-is_wrong : IsWrong time_falls
 time_falls-is_wrong = refuses-is time_falls.settings time_falls.before time_falls.event refl
 
 pub turn_after_a_failed_poll-is_wrong : IsWrong turn_after_a_failed_poll
-turn_after_a_failed_poll-is_wrong = refuses-is turn_after_a_failed_poll.settings turn_after_a_failed_poll.before turn_after_a_failed_poll.event refl
+turn_after_a_failed_poll-is_wrong = refuses-is turn_after_a_failed_poll.settings turn_after_a_failed_poll.before
+    turn_after_a_failed_poll.event refl
 
 pub turn_within_a_turn-is_wrong : IsWrong turn_within_a_turn
 turn_within_a_turn-is_wrong = refuses-is turn_within_a_turn.settings turn_within_a_turn.before turn_within_a_turn.event refl
@@ -29,7 +30,8 @@ pub read_without_a_mark-is_wrong : IsWrong read_without_a_mark
 read_without_a_mark-is_wrong = refuses-is read_without_a_mark.settings read_without_a_mark.before read_without_a_mark.event refl
 
 pub write_offers_too_little-is_wrong : IsWrong write_offers_too_little
-write_offers_too_little-is_wrong = refuses-is write_offers_too_little.settings write_offers_too_little.before write_offers_too_little.event refl
+write_offers_too_little-is_wrong = refuses-is write_offers_too_little.settings write_offers_too_little.before
+    write_offers_too_little.event refl
 
 pub wait_too_long-is_wrong : IsWrong wait_too_long
 wait_too_long-is_wrong = refuses-is wait_too_long.settings wait_too_long.before wait_too_long.event refl
@@ -38,13 +40,15 @@ pub writing_ended_early-is_wrong : IsWrong writing_ended_early
 writing_ended_early-is_wrong = refuses-is writing_ended_early.settings writing_ended_early.before writing_ended_early.event refl
 
 pub peer_gone_without_cause-is_wrong : IsWrong peer_gone_without_cause
-peer_gone_without_cause-is_wrong = refuses-is peer_gone_without_cause.settings peer_gone_without_cause.before peer_gone_without_cause.event refl
+peer_gone_without_cause-is_wrong = refuses-is peer_gone_without_cause.settings peer_gone_without_cause.before
+    peer_gone_without_cause.event refl
 
 pub done_too_early-is_wrong : IsWrong done_too_early
 done_too_early-is_wrong = refuses-is done_too_early.settings done_too_early.before done_too_early.event refl
 
 pub output_of_a_freed_side_dropped-is_wrong : IsWrong output_of_a_freed_side_dropped
-output_of_a_freed_side_dropped-is_wrong = refuses-is output_of_a_freed_side_dropped.settings output_of_a_freed_side_dropped.before output_of_a_freed_side_dropped.event refl
+output_of_a_freed_side_dropped-is_wrong = refuses-is output_of_a_freed_side_dropped.settings output_of_a_freed_side_dropped.before
+    output_of_a_freed_side_dropped.event refl
 
 pub freed_twice-is_wrong : IsWrong freed_twice
 freed_twice-is_wrong = refuses-is freed_twice.settings freed_twice.before freed_twice.event refl
@@ -59,7 +63,8 @@ pub fired_on_a_freed_side-is_wrong : IsWrong fired_on_a_freed_side
 fired_on_a_freed_side-is_wrong = refuses-is fired_on_a_freed_side.settings fired_on_a_freed_side.before fired_on_a_freed_side.event refl
 
 pub write_reason_above_the_low_mark-is_wrong : IsWrong write_reason_above_the_low_mark
-write_reason_above_the_low_mark-is_wrong = refuses-is write_reason_above_the_low_mark.settings write_reason_above_the_low_mark.before write_reason_above_the_low_mark.event refl
+write_reason_above_the_low_mark-is_wrong = refuses-is write_reason_above_the_low_mark.settings
+    write_reason_above_the_low_mark.before write_reason_above_the_low_mark.event refl
 
 pub fired_without_a_reason-is_wrong : IsWrong fired_without_a_reason
 fired_without_a_reason-is_wrong = refuses-is fired_without_a_reason.settings fired_without_a_reason.before fired_without_a_reason.event refl

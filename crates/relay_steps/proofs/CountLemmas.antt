@@ -66,11 +66,13 @@ module _ (t : Trace) (x : Stage) (s : State) (k : StandsFor t x s) (n : ℕ) (fe
         omega (arith, a, b, some)
 
     moved : f.moved ≤ 2 * n + 1
-    moved = let a : f.moved ≤ length (middle (read_filter s.settings s.plain e) (bytes_read e t) f) = (k.accounts e).fits.moved in let b = fits.read_made in omega (arith, a, b, made)
+    moved = let a : f.moved ≤ length (middle (read_filter s.settings s.plain e) (bytes_read e t) f) = (k.accounts e).fits.moved in
+        let b = fits.read_made in omega (arith, a, b, made)
 
     written : (lane_at s e).write_made ≤ 4 * n + 3
     written =
-        let a : length (outcome (read_filter s.settings s.plain e) (write_filter s.settings s.plain (peer e)) (bytes_read e t) f) ≤ 2 * f.turned + 1 =
+        let a : length (outcome (read_filter s.settings s.plain e) (write_filter s.settings s.plain (peer e)) (bytes_read e t) f) ≤
+            2 * f.turned + 1 =
             outcome-most (read_kind s.settings e.side) (write_kind s.settings (peer e).side) (bytes_read e t) f in
         let b = fits.write_made in
         let c : f.turned ≤ f.moved = (k.accounts e).fits.turned in
@@ -80,7 +82,8 @@ module _ (t : Trace) (x : Stage) (s : State) (k : StandsFor t x s) (n : ℕ) (fe
     flow-near =
         let a : f.used ≤ length (bytes_read e t) = (k.accounts e).fits.used in
         let b : f.turned ≤ f.moved = (k.accounts e).fits.turned in
-        let c : f.given ≤ length (outcome (read_filter s.settings s.plain e) (write_filter s.settings s.plain (peer e)) (bytes_read e t) f) =
+        let c : f.given ≤ length (outcome (read_filter s.settings s.plain e) (write_filter s.settings s.plain (peer e))
+            (bytes_read e t) f) =
             (k.accounts e).fits.given in
         let d = fits.write_made in
         neither _ _ (neither _ _ (neither _ _ (near f.used (omega (arith, a, some))) (near f.moved (omega (arith, moved))))

@@ -82,7 +82,8 @@ frame-then a b c f g = record {
 }
 
 -- a plain state with these numbers
-pub frame-plain : (s : State) (p : Plain) → p.opened ≡ s.plain.opened → p.time ≡ s.plain.time → p.turn ≡ s.plain.turn → Frame s (with_plain p s)
+pub frame-plain : (s : State) (p : Plain) → p.opened ≡ s.plain.opened → p.time ≡ s.plain.time → p.turn ≡ s.plain.turn → Frame s
+    (with_plain p s)
 frame-plain s p a b c = record { settings = refl; opened = a; time = b; turn = c; reads = λ n k. k }
 
 frame-raise : (s : State) (e : SideId) (y : Why) (p : Plain) → p.opened ≡ s.plain.opened → p.time ≡ s.plain.time → p.turn ≡ s.plain.turn →
@@ -156,14 +157,16 @@ part-read mark hold ended Part.Drain x = written x.flow.held _ refl
     written true y h = refl
     written false y h = h
 
-round-read : (mark hold : ℕ) (ended from_live to_live : Bool) (x : Passage) → (pass_round mark hold ended from_live to_live x).lane.read ≡ x.lane.read
+round-read : (mark hold : ℕ) (ended from_live to_live : Bool) (x : Passage) → (pass_round mark hold ended from_live to_live
+    x).lane.read ≡ x.lane.read
 round-read mark hold ended from_live to_live x = go (parts_of from_live to_live) x
   where
     go : (ps : List Part) (y : Passage) → (fold (λ z part. pass_part mark hold ended part z) y ps).lane.read ≡ y.lane.read
     go [] y = refl
     go (p ∷ ps) y = go ps (pass_part mark hold ended p y) ∙ part-read mark hold ended p y
 
-rounds-read : (m : ℕ) (f : Passage → Passage) (x : Passage) → ((y : Passage) → (f y).lane.read ≡ y.lane.read) → (rounds m f x).lane.read ≡ x.lane.read
+rounds-read : (m : ℕ) (f : Passage → Passage) (x : Passage) → ((y : Passage) → (f y).lane.read ≡ y.lane.read) →
+    (rounds m f x).lane.read ≡ x.lane.read
 rounds-read zero f x each = refl
 rounds-read (suc m) f x each = rounds-read m f (f x) each ∙ each x
 
@@ -273,7 +276,8 @@ frame-timed s e d = go (not (is_timed (side_at s.plain e) d)) (not (wants s e d)
     go false false true = frame-raise s e (happened d timeout_flag) _ refl refl refl
     go false false false = frame-same s
 
-frame-fold : {A : Type 0} (f : State → A → State) → ((z : State) (x : A) → Frame z (f z x)) → (s : State) (xs : List A) → Frame s (fold f s xs)
+frame-fold : {A : Type 0} (f : State → A → State) → ((z : State) (x : A) → Frame z (f z x)) → (s : State) (xs : List A) → Frame s
+    (fold f s xs)
 frame-fold f each s [] = frame-same s
 frame-fold f each s (x ∷ xs) = frame-then s (f s x) _ (each s x) (frame-fold f each (f s x) xs)
 

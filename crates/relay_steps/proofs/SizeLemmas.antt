@@ -77,7 +77,8 @@ middle-most k read f = go f.read_done
     few : length (take f.used read) ≤ length read
     few = let e = length-take f.used read in omega (arith, e)
 
-    go : (b : Bool) → length (if b then (filter_of k).at_end (take f.used read) else (filter_of k).before (take f.used read)) ≤ 2 * length read + 1
+    go : (b : Bool) → length (if b then (filter_of k).at_end (take f.used read) else (filter_of k).before (take f.used read)) ≤ 2 *
+        length read + 1
     go true = let h = at_end-most k (take f.used read) in omega (arith, h, few)
     go false = let h = before-most k (take f.used read) in omega (arith, h, few)
 

@@ -35,11 +35,13 @@ other_end e x differs = elim (same_end_tells e x) [ inl same ↦ absurd (other_n
 
 -- The call that fails
 
-pub end_failing : (p : FailPort) (call : PortCall) (e : SideId) (f : EndState → EndState) → is_failing p call ≡ true → ((s : EndState) → (f s).tally.faults ≡ s.tally.faults) →
+pub end_failing : (p : FailPort) (call : PortCall) (e : SideId) (f : EndState → EndState) → is_failing p call ≡ true →
+    ((s : EndState) → (f s).tally.faults ≡ s.tally.faults) →
     EndFaults (fail_faults p) (fail_faults (failed_at p e f)) e true
 end_failing p call e f fails same = by_plan p.plan (and_parts (same_call p.kind call) (is_last p.plan) fails).1
   where
-    by_plan : (plan : FailPlan) → is_last plan ≡ true → EndFaults (fail_faults (record p { plan = plan })) (fail_faults (failed_at p e f)) e true
+    by_plan : (plan : FailPlan) → is_last plan ≡ true → EndFaults (fail_faults (record p { plan = plan }))
+        (fail_faults (failed_at p e f)) e true
     by_plan (Left calls) h =
         let here = faults-at_end p.inner.links e f same in
         let own = same_self e in
@@ -57,7 +59,8 @@ pub poll_failing : (p : FailPort) (call : PortCall) (ws : List Want) (accept : B
     PollFaults (fail_faults p) (fail_faults (record p { inner = failed_poll p.inner ws accept timeout; plan = AtPoll })) true
 poll_failing p call ws accept timeout fails = by_plan p.plan (and_parts (same_call p.kind call) (is_last p.plan) fails).1
   where
-    by_plan : (plan : FailPlan) → is_last plan ≡ true → PollFaults (fail_faults (record p { plan = plan })) (fail_faults (record p { inner = failed_poll p.inner ws accept timeout; plan = AtPoll })) true
+    by_plan : (plan : FailPlan) → is_last plan ≡ true → PollFaults (fail_faults (record p { plan = plan }))
+        (fail_faults (record p { inner = failed_poll p.inner ws accept timeout; plan = AtPoll })) true
     by_plan (Left calls) h = record {
       ends = λ e. ap (λ n. counted n 0) (faults-wants ws p.inner.links e);
       polling = one_more p.inner.tally.poll_faults;
@@ -70,11 +73,13 @@ poll_failing p call ws accept timeout fails = by_plan p.plan (and_parts (same_ca
 -- Every other call
 
 -- what failed stays
-passed_by : (p : FailPort) (kind : PortCall) (new : PortState) (e : SideId) (is_fault : Bool) → EndFaults (script_faults p.inner) (script_faults new) e is_fault →
+passed_by : (p : FailPort) (kind : PortCall) (new : PortState) (e : SideId) (is_fault : Bool) → EndFaults (script_faults p.inner)
+    (script_faults new) e is_fault →
     EndFaults (fail_faults p) (fail_faults (passed p kind new)) e is_fault
 passed_by p kind new e is_fault h = by_plan p.plan (same_call p.kind kind)
   where
-    kept : (plan : FailPlan) → EndFaults (fail_faults (record p { plan = plan })) (fail_faults (record p { inner = new; plan = plan })) e is_fault
+    kept : (plan : FailPlan) → EndFaults (fail_faults (record p { plan = plan })) (fail_faults
+        (record p { inner = new; plan = plan })) e is_fault
     kept plan = record {
       own = beside ((script_faults p.inner).ends e) ((script_faults new).ends e) (end_failed plan e) is_fault h.own;
       others = λ x differs. ap (λ n. counted n (end_failed plan x)) (h.others x differs);
@@ -82,15 +87,19 @@ passed_by p kind new e is_fault h = by_plan p.plan (same_call p.kind kind)
       listener = refl;
     }
 
-    by_plan : (plan : FailPlan) (same : Bool) → EndFaults (fail_faults (record p { plan = plan })) (fail_faults (record p { inner = new; plan = if same then one_less plan else plan })) e is_fault
+    by_plan : (plan : FailPlan) (same : Bool) → EndFaults (fail_faults (record p { plan = plan }))
+        (fail_faults (record p { inner = new; plan = if same then one_less plan else plan })) e is_fault
     by_plan plan false = kept plan
-    by_plan (Left calls) true = let h = kept (Left calls) in record { own = h.own; others = h.others; polling = h.polling; listener = h.listener }
+    by_plan (Left calls) true = let h = kept (Left calls) in record { own = h.own; others = h.others; polling = h.polling; listener
+        = h.listener }
     by_plan AtPoll true = kept AtPoll
     by_plan AtAccept true = kept AtAccept
     by_plan (AtEnd side) true = kept (AtEnd side)
 
 -- a call that was counted, and that the inner port answered
-pub end_passed : (p : FailPort) (kind : PortCall) (counts : FailPort) (new : PortState) (e : SideId) (is_fault : Bool) → counts ≡ after_call p kind → EndFaults (script_faults counts.inner) (script_faults new) e is_fault →
+pub end_passed : (p : FailPort) (kind : PortCall) (counts : FailPort) (new : PortState) (e : SideId) (is_fault : Bool) → counts ≡
+    after_call p kind → EndFaults (script_faults counts.inner) (script_faults new) e is_fault →
     EndFaults (fail_faults p) (fail_faults (record counts { inner = new })) e is_fault
 end_passed p kind counts new e is_fault is h =
-    subst (λ (m : FailPort). EndFaults (script_faults m.inner) (script_faults new) e is_fault → EndFaults (fail_faults p) (fail_faults (record m { inner = new })) e is_fault) (sym is) (passed_by p kind new e is_fault) h
+    subst (λ (m : FailPort). EndFaults (script_faults m.inner) (script_faults new) e is_fault → EndFaults (fail_faults p)
+        (fail_faults (record m { inner = new })) e is_fault) (sym is) (passed_by p kind new e is_fault) h

@@ -60,7 +60,8 @@ counts l n = record { ends = faults_at l; polling = n; listener = 0 }
 pub faults_stay : (l new : LinksState) (n : ℕ) → ((e : SideId) → faults_at new e ≡ faults_at l e) → FaultsStay (counts l n) (counts new n)
 faults_stay l new n ends = record { ends = ends; polling = refl; listener = refl }
 
-pub faults-at_end : (l : LinksState) (side : SideId) (f : EndState → EndState) → ((s : EndState) → (f s).tally.faults ≡ s.tally.faults) → (e : SideId) → faults_at (at_end side f l) e ≡ faults_at l e
+pub faults-at_end : (l : LinksState) (side : SideId) (f : EndState → EndState) → ((s : EndState) → (f s).tally.faults ≡
+    s.tally.faults) → (e : SideId) → faults_at (at_end side f l) e ≡ faults_at l e
 faults-at_end l side f h e = kept_at_end (λ (s : EndState). s.tally.faults) 0 l side e f h
 
 line_counts_none : (turn : Option ℕ) (x : TurnLine) (s : EndState) → (end_after_line turn x s).tally.faults ≡ s.tally.faults
@@ -74,7 +75,8 @@ line_counts_none turn (line.Take side more) s = refl
 line_counts_none turn (line.WriteFail side) s = refl
 line_counts_none turn (line.Spur side) s = refl
 
-pub faults-turn : (turn : Option (ℕ × List TurnLine)) (p : PortState) (e : SideId) → faults_at (begin_turn turn p).links e ≡ faults_at p.links e
+pub faults-turn : (turn : Option (ℕ × List TurnLine)) (p : PortState) (e : SideId) → faults_at (begin_turn turn p).links e ≡
+    faults_at p.links e
 faults-turn None p e = refl
 faults-turn (Some turn) p e = lines_keep (λ (s : EndState). s.tally.faults) 0 line_counts_none turn.1 (entered (Some p.begun) p.links) e
 
@@ -91,9 +93,11 @@ faults-accept link [] l e = refl
 faults-accept link (wait ∷ ws) l e =
     let fewer : LinksState = record l { waiting = ws } in
     let in_end : SideId = record { link = link; side = In } in
-    faults-at_end (at_end in_end (accepted true) fewer) (out_end link) (accepted _) (λ s. refl) e ∙ faults-at_end fewer in_end (accepted true) (λ s. refl) e
+    faults-at_end (at_end in_end (accepted true) fewer) (out_end link) (accepted _) (λ s. refl) e ∙ faults-at_end fewer in_end
+        (accepted true) (λ s. refl) e
 
-accept_counts : (ws : List Bool) (l new : LinksState) (n link : ℕ) → new ≡ accept_first link ws l → ListenerFaults (counts l n) (counts new n) false
+accept_counts : (ws : List Bool) (l new : LinksState) (n link : ℕ) → new ≡ accept_first link ws l → ListenerFaults (counts l n)
+    (counts new n) false
 accept_counts ws l new n link links = record {
   ends = λ e. ap (λ z. faults_at z e) links ∙ faults-accept link ws l e;
   polling = refl;
@@ -101,19 +105,23 @@ accept_counts ws l new n link links = record {
 }
 
 -- no accept fails
-pub never_failed : (ws : List Bool) (l new : LinksState) (t : PortTally) (link : ℕ) → new ≡ accept_first link ws l → ListenerFaults (counts l t.poll_faults) (counts new (accept_tally (accept_answer ws) t).poll_faults) (is_failed_accept (accept_answer ws))
+pub never_failed : (ws : List Bool) (l new : LinksState) (t : PortTally) (link : ℕ) → new ≡ accept_first link ws l → ListenerFaults
+    (counts l t.poll_faults) (counts new (accept_tally (accept_answer ws) t).poll_faults) (is_failed_accept (accept_answer ws))
 never_failed [] l new t link links = accept_counts [] l new t.poll_faults link links
 never_failed (wait ∷ ws) l new t link links = accept_counts (wait ∷ ws) l new t.poll_faults link links
 
 -- Calls on one end
 
 -- an end that is not there counts no fault and is answered by none
-end_counts : (o : Option EndState) (f : EndState → EndState) (fails : EndState → Bool) → ((s : EndState) → (f s).tally.faults ≡ risen_if (fails s) s.tally.faults) →
-    Counted (option_map_or (λ (s : EndState). s.tally.faults) o 0) (option_map_or (λ (s : EndState). s.tally.faults) (option_map f o) 0) (option_map_or fails o false)
+end_counts : (o : Option EndState) (f : EndState → EndState) (fails : EndState → Bool) → ((s : EndState) → (f s).tally.faults ≡
+    risen_if (fails s) s.tally.faults) →
+    Counted (option_map_or (λ (s : EndState). s.tally.faults) o 0) (option_map_or (λ (s : EndState). s.tally.faults)
+        (option_map f o) 0) (option_map_or fails o false)
 end_counts None f fails h = counted-none 0
 end_counts (Some s) f fails h = rw (h s) (counted-risen (fails s) s.tally.faults)
 
-end_faults : (l new : LinksState) (n : ℕ) (e : SideId) (f : EndState → EndState) (fails : EndState → Bool) (is_fault : Bool) → new ≡ at_end e f l → is_fault ≡ option_map_or fails (end_of l e) false →
+end_faults : (l new : LinksState) (n : ℕ) (e : SideId) (f : EndState → EndState) (fails : EndState → Bool) (is_fault : Bool) → new
+    ≡ at_end e f l → is_fault ≡ option_map_or fails (end_of l e) false →
     ((s : EndState) → (f s).tally.faults ≡ risen_if (fails s) s.tally.faults) → EndFaults (counts l n) (counts new n) e is_fault
 end_faults l new n e f fails is_fault links is h = record {
   own =
@@ -127,26 +135,32 @@ end_faults l new n e f fails is_fault links is h = record {
 }
 
 -- a test of what an end answers
-tested : {A : Type 0} (test : A → Bool) (answer : EndState → A) (none : A) (o : Option EndState) → test none ≡ false → test (option_map_or answer o none) ≡ option_map_or (λ s. test (answer s)) o false
+tested : {A : Type 0} (test : A → Bool) (answer : EndState → A) (none : A) (o : Option EndState) → test none ≡ false → test
+    (option_map_or answer o none) ≡ option_map_or (λ s. test (answer s)) o false
 tested test answer none None h = h
 tested test answer none (Some s) h = refl
 
-pub read_faults : (l new : LinksState) (n : ℕ) (e : SideId) (room : ℕ) (answer : ReadAnswer) → new ≡ at_end e (λ s. after_read s room) l → answer ≡ read_answer_at l e room → EndFaults (counts l n) (counts new n) e (is_failed_read answer)
+pub read_faults : (l new : LinksState) (n : ℕ) (e : SideId) (room : ℕ) (answer : ReadAnswer) → new ≡ at_end e
+    (λ s. after_read s room) l → answer ≡ read_answer_at l e room → EndFaults (counts l n) (counts new n) e (is_failed_read answer)
 read_faults l new n e room answer links is =
     end_faults l new n e (λ s. after_read s room) (λ s. is_failed_read (read_answer s room)) (is_failed_read answer) links
     (ap is_failed_read is ∙ tested is_failed_read (λ s. read_answer s room) read.NotYet (end_of l e) refl) (λ s. refl)
 
-pub check_faults : (l new : LinksState) (n : ℕ) (e : SideId) (answer : ConnAnswer) → new ≡ at_end e after_check l → answer ≡ conn_answer_at l e → EndFaults (counts l n) (counts new n) e (is_failed_conn answer)
+pub check_faults : (l new : LinksState) (n : ℕ) (e : SideId) (answer : ConnAnswer) → new ≡ at_end e after_check l → answer ≡
+    conn_answer_at l e → EndFaults (counts l n) (counts new n) e (is_failed_conn answer)
 check_faults l new n e answer links is =
     end_faults l new n e after_check (λ s. is_failed_conn (conn_answer s)) (is_failed_conn answer) links
     (ap is_failed_conn is ∙ tested is_failed_conn conn_answer conn.Pending (end_of l e) refl) (λ s. refl)
 
-answered_faults : (l new : LinksState) (n : ℕ) (e : SideId) (from : List ℕ) (answer : WriteAnswer) → new ≡ at_end e (λ s. after_write s from) l → answer ≡ write_answer_at l e (length from) → EndFaults (counts l n) (counts new n) e (is_failed_write answer)
+answered_faults : (l new : LinksState) (n : ℕ) (e : SideId) (from : List ℕ) (answer : WriteAnswer) → new ≡ at_end e
+    (λ s. after_write s from) l → answer ≡ write_answer_at l e (length from) → EndFaults (counts l n) (counts new n) e
+    (is_failed_write answer)
 answered_faults l new n e from answer links is =
     end_faults l new n e (λ s. after_write s from) (λ s. is_failed_write (write_answer s (length from))) (is_failed_write answer) links
     (ap is_failed_write is ∙ tested is_failed_write (λ s. write_answer s (length from)) write.NotYet (end_of l e) refl) (λ s. refl)
 
-pub write_faults : (l new : LinksState) (n : ℕ) (e : SideId) (from : List ℕ) (answer : WriteAnswer) → WroteAt l new e from answer → EndFaults (counts l n) (counts new n) e (is_failed_write answer)
+pub write_faults : (l new : LinksState) (n : ℕ) (e : SideId) (from : List ℕ) (answer : WriteAnswer) → WroteAt l new e from answer →
+    EndFaults (counts l n) (counts new n) e (is_failed_write answer)
 write_faults l new n e from write.NoMemory w = record {
   own = rw w.0 (counted-none (faults_at l e));
   others = λ x differs. ap (λ z. faults_at z x) w.0;
@@ -159,7 +173,9 @@ write_faults l new n e from write.Failed w = answered_faults l new n e from writ
 
 -- Polls
 
-pub poll_counted : (p q : PortState) (ws : List Want) (accept : Bool) (timeout : Option ℕ) (answer : Polled) → q ≡ after_poll p ws accept timeout (poll_answer p accept) → answer ≡ poll_answer p accept → PollFaults (script_faults p) (script_faults q) (is_failed_poll answer)
+pub poll_counted : (p q : PortState) (ws : List Want) (accept : Bool) (timeout : Option ℕ) (answer : Polled) → q ≡ after_poll p ws
+    accept timeout (poll_answer p accept) → answer ≡ poll_answer p accept → PollFaults (script_faults p) (script_faults q)
+    (is_failed_poll answer)
 poll_counted p q ws accept timeout answer after is = rw (after, is) (record {
   ends = λ e. faults-wants ws p.links e;
   polling = counted-risen (is_failed_poll (poll_answer p accept)) p.tally.poll_faults;

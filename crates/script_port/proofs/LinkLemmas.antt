@@ -18,48 +18,61 @@ use Rattle.script_port.proofs.ListLemmas.{changed_set, same_set, part_read, slic
 abbrev states : List EndKept → List EndState
 states es = map (λ e. e.state) es
 
-took : (waiting : List Bool) (turn : Option ℕ) (fails : Bool) (es : List EndKept) (e : SideId) (k : ℕ) (x y : EndKept) (from : List ℕ) → k ≡ number e → k < length es → x ≡ get_or es k x → y ≡ record x { state = after_write x.state from } →
-    ◌≡◌ {A = LinksState} (record { waiting = waiting; ends = states (set es k y); turn = turn; poll_fails = fails }) (at_end e (λ s. after_write s from) (record { waiting = waiting; ends = states es; turn = turn; poll_fails = fails }))
+took : (waiting : List Bool) (turn : Option ℕ) (fails : Bool) (es : List EndKept) (e : SideId) (k : ℕ) (x y : EndKept)
+    (from : List ℕ) → k ≡ number e → k < length es → x ≡ get_or es k x → y ≡ record x { state = after_write x.state from } →
+    ◌≡◌ {A = LinksState} (record { waiting = waiting; ends = states (set es k y); turn = turn; poll_fails = fails })
+        (at_end e (λ s. after_write s from) (record { waiting = waiting; ends = states es; turn = turn; poll_fails = fails }))
 took waiting turn fails es e k x y from n within read w =
     let whole = changed_set (λ e. e.state) (λ s. after_write s from) es k x y within read (ap (λ e. e.state) w) in
     rw (whole, n)
 
-answers : (waiting : List Bool) (turn : Option ℕ) (fails : Bool) (es : List EndKept) (e : SideId) (k : ℕ) (x : EndKept) (offer : ℕ) → k ≡ number e → k < length es → x ≡ get_or es k x →
+answers : (waiting : List Bool) (turn : Option ℕ) (fails : Bool) (es : List EndKept) (e : SideId) (k : ℕ) (x : EndKept) (offer : ℕ)
+    → k ≡ number e → k < length es → x ≡ get_or es k x →
     write_answer_at (record { waiting = waiting; ends = states es; turn = turn; poll_fails = fails }) e offer ≡ write_answer x.state offer
 answers waiting turn fails es e k x offer n within read =
     let found = part_read (λ e. e.state) es k x within read in
     rw (← n, found)
 
-keeps : (waiting : List Bool) (turn : Option ℕ) (fails : Bool) (es : List EndKept) (e : SideId) (k : ℕ) (x y : EndKept) → k ≡ number e → k < length es → x ≡ get_or es k x → length y.state.taken < 2 ^ 64 - 1 →
+keeps : (waiting : List Bool) (turn : Option ℕ) (fails : Bool) (es : List EndKept) (e : SideId) (k : ℕ) (x y : EndKept) → k ≡
+    number e → k < length es → x ≡ get_or es k x → length y.state.taken < 2 ^ 64 - 1 →
     length (taken_at (record { waiting = waiting; ends = states (set es k y); turn = turn; poll_fails = fails }) e) < 2 ^ 64 - 1
 keeps waiting turn fails es e k x y n within read h =
     let whole = changed_set (λ e. e.state) (λ _. y.state) es k x y within read refl in
     let found = part_read (λ e. e.state) es k x within read in
     let here : slice_get (states (set es k y)) (number e) ≡ Some y.state =
-    ap (slice_get (states (set es k y))) (sym n) ∙ ap (λ z. slice_get z k) whole ∙ slice_get-changed_same (λ _. y.state) (states es) k ∙ ap (option_map (λ _. y.state)) found in
+    ap (slice_get (states (set es k y))) (sym n) ∙ ap (λ z. slice_get z k) whole ∙ slice_get-changed_same (λ _. y.state)
+        (states es) k ∙ ap (option_map (λ _. y.state)) found in
     subst (λ (o : Option EndState). length (option_map_or (λ (s : EndState). s.taken) o []) < 2 ^ 64 - 1) (sym here) h
 
 -- a write to an end that there is
-pub wrote_within : (waiting : List Bool) (turn : Option ℕ) (fails : Bool) (es : List EndKept) (e : SideId) (k : ℕ) (x y : EndKept) (from : List ℕ) (answer : WriteAnswer) → k ≡ number e → k < length es → x ≡ get_or es k x → Wrote x y from answer →
-    WroteAt (record { waiting = waiting; ends = states es; turn = turn; poll_fails = fails }) (record { waiting = waiting; ends = states (set es k y); turn = turn; poll_fails = fails }) e from answer
+pub wrote_within : (waiting : List Bool) (turn : Option ℕ) (fails : Bool) (es : List EndKept) (e : SideId) (k : ℕ) (x y : EndKept)
+    (from : List ℕ) (answer : WriteAnswer) → k ≡ number e → k < length es → x ≡ get_or es k x → Wrote x y from answer →
+    WroteAt (record { waiting = waiting; ends = states es; turn = turn; poll_fails = fails })
+        (record { waiting = waiting; ends = states (set es k y); turn = turn; poll_fails = fails }) e from answer
 wrote_within waiting turn fails es e k x y from write.NoMemory n within read w =
     let same = same_set (λ e. e.state) es k x y read (ap (λ e. e.state) w.0) in
-    (rw same, rw (answers waiting turn fails es e k x (length from) n within read) w.1, rw (answers waiting turn fails es e k x (length from) n within read) w.2)
+    (rw same, rw (answers waiting turn fails es e k x (length from) n within read) w.1, rw (answers waiting turn fails es e k x
+        (length from) n within read) w.2)
 wrote_within waiting turn fails es e k x y from (write.Took count) n within read w =
-    (took waiting turn fails es e k x y from n within read w.0, w.1 ∙ sym (answers waiting turn fails es e k x (length from) n within read), keeps waiting turn fails es e k x y n within read w.2)
+    (took waiting turn fails es e k x y from n within read w.0, w.1 ∙ sym (answers waiting turn fails es e k x (length from) n
+        within read), keeps waiting turn fails es e k x y n within read w.2)
 wrote_within waiting turn fails es e k x y from write.NotYet n within read w =
-    (took waiting turn fails es e k x y from n within read w.0, w.1 ∙ sym (answers waiting turn fails es e k x (length from) n within read), keeps waiting turn fails es e k x y n within read w.2)
+    (took waiting turn fails es e k x y from n within read w.0, w.1 ∙ sym (answers waiting turn fails es e k x (length from) n
+        within read), keeps waiting turn fails es e k x y n within read w.2)
 wrote_within waiting turn fails es e k x y from write.Failed n within read w =
-    (took waiting turn fails es e k x y from n within read w.0, w.1 ∙ sym (answers waiting turn fails es e k x (length from) n within read), keeps waiting turn fails es e k x y n within read w.2)
+    (took waiting turn fails es e k x y from n within read w.0, w.1 ∙ sym (answers waiting turn fails es e k x (length from) n
+        within read), keeps waiting turn fails es e k x y n within read w.2)
 
 -- a write leaves the bytes to come
-pub keeps_to_come : (es : List EndKept) (k : ℕ) (x y : EndKept) (from : List ℕ) (answer : WriteAnswer) → x ≡ get_or es k x → Wrote x y from answer → map (λ e. e.to_come) (set es k y) ≡ map (λ e. e.to_come) es
+pub keeps_to_come : (es : List EndKept) (k : ℕ) (x y : EndKept) (from : List ℕ) (answer : WriteAnswer) → x ≡ get_or es k x → Wrote
+    x y from answer → map (λ e. e.to_come) (set es k y) ≡ map (λ e. e.to_come) es
 keeps_to_come es k x y from write.NoMemory read w = same_set (λ e. e.to_come) es k x y read (ap (λ e. e.to_come) w.0)
 keeps_to_come es k x y from (write.Took count) read w = same_set (λ e. e.to_come) es k x y read (ap (λ e. e.to_come) w.0)
 keeps_to_come es k x y from write.NotYet read w = same_set (λ e. e.to_come) es k x y read (ap (λ e. e.to_come) w.0)
 keeps_to_come es k x y from write.Failed read w = same_set (λ e. e.to_come) es k x y read (ap (λ e. e.to_come) w.0)
 
 -- one more want is changed
-pub marks_more : (f : Want → Want) (xs ys : List Want) (i : ℕ) (d r : Want) → i < length xs → i < length ys → ys ≡ map f (take i xs) ++ drop i xs → r ≡ f (get_or ys i d) → set ys i r ≡ map f (take (i + 1) xs) ++ drop (i + 1) xs
+pub marks_more : (f : Want → Want) (xs ys : List Want) (i : ℕ) (d r : Want) → i < length xs → i < length ys → ys ≡ map f
+    (take i xs) ++ drop i xs → r ≡ f (get_or ys i d) → set ys i r ≡ map f (take (i + 1) xs) ++ drop (i + 1) xs
 marks_more f xs ys i d r within also so_far e =
     ap (set ys i) e ∙ map_over_more f xs ys i (get_or ys i d) within so_far (get_or_default ys i d (get_or ys i d) also)

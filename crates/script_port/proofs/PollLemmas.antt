@@ -31,7 +31,8 @@ abbrev wants_of : SideId → List Want → EndState → EndState
 wants_of e [] s = s
 wants_of e (w ∷ ws) s = wants_of e ws (wanted_if (same_end w.side e) w s)
 
-wants_same : (e : SideId) (w : Want) (ws : List Want) (s : EndState) → same_end w.side e ≡ true → wants_of e (w ∷ ws) s ≡ wants_of e ws (wanted w s)
+wants_same : (e : SideId) (w : Want) (ws : List Want) (s : EndState) → same_end w.side e ≡ true → wants_of e (w ∷ ws) s ≡ wants_of
+    e ws (wanted w s)
 wants_same e w ws s h = ap (λ b. wants_of e ws (wanted_if b w s)) h
 
 wants_other : (e : SideId) (w : Want) (ws : List Want) (s : EndState) → same_end w.side e ≡ false → wants_of e (w ∷ ws) s ≡ wants_of e ws s
@@ -49,16 +50,19 @@ map_none : (o : Option EndState) → o ≡ option_map (λ s. s) o
 map_none None = refl
 map_none (Some s) = refl
 
-one_end_after : (e : SideId) (w : Want) (ws : List Want) (l : LinksState) → option_map (wants_of e ws) (end_of (at_end w.side (wanted w) l) e) ≡ option_map (wants_of e (w ∷ ws)) (end_of l e)
+one_end_after : (e : SideId) (w : Want) (ws : List Want) (l : LinksState) → option_map (wants_of e ws)
+    (end_of (at_end w.side (wanted w) l) e) ≡ option_map (wants_of e (w ∷ ws)) (end_of l e)
 one_end_after e w ws l =
     elim (same_end_tells w.side e) [
       | inl same ↦
           let here = slice_get-changed_same (wanted w) l.ends (number e) in
           rw (same.1, here)
-          (map_twice (wanted w) (wants_of e ws) (slice_get l.ends (number e)) ∙ map_agree (λ s. wants_of e ws (wanted w s)) (wants_of e (w ∷ ws)) (λ s. sym (wants_same e w ws s same.0)) (slice_get l.ends (number e)))
+          (map_twice (wanted w) (wants_of e ws) (slice_get l.ends (number e)) ∙ map_agree (λ s. wants_of e ws (wanted w s))
+              (wants_of e (w ∷ ws)) (λ s. sym (wants_same e w ws s same.0)) (slice_get l.ends (number e)))
       | inr other ↦
           let elsewhere = slice_get-changed_other (wanted w) l.ends (number w.side) (number e) (λ q. other.1 (sym q)) in
-          rw elsewhere (map_agree (wants_of e ws) (wants_of e (w ∷ ws)) (λ s. sym (wants_other e w ws s other.0)) (slice_get l.ends (number e)))
+          rw elsewhere (map_agree (wants_of e ws) (wants_of e (w ∷ ws)) (λ s. sym (wants_other e w ws s other.0))
+              (slice_get l.ends (number e)))
     ]
 
 end_after_wants : (e : SideId) (ws : List Want) (l : LinksState) → end_of (after_wants ws l) e ≡ option_map (wants_of e ws) (end_of l e)
@@ -67,7 +71,8 @@ end_after_wants e (w ∷ ws) l = end_after_wants e ws (at_end w.side (wanted w) 
 
 -- counting wants changes their four numbers alone
 only_counts : (e : SideId) (ws : List Want) (s t : EndState) → t ≡ wants_of e ws s →
-    t ≡ record s { tally = record s.tally { read_wants = t.tally.read_wants; write_wants = t.tally.write_wants; read_marks = t.tally.read_marks; write_marks = t.tally.write_marks } }
+    t ≡ record s { tally = record s.tally { read_wants = t.tally.read_wants; write_wants = t.tally.write_wants; read_marks =
+        t.tally.read_marks; write_marks = t.tally.write_marks } }
 only_counts e [] s t q = rw q
 only_counts e (w ∷ ws) s t q =
     elim (cases_Bool (same_end w.side e)) [
@@ -78,7 +83,8 @@ only_counts e (w ∷ ws) s t q =
 abbrev flagged : SideId → (Want → Bool) → List Want → ℕ
 flagged e flag ws = count_by (λ w. same_end w.side e && flag w) ws
 
-flagged_more : (e : SideId) (flag : Want → Bool) (w : Want) (ws : List Want) (b : Bool) → same_end w.side e ≡ b → flagged e flag (w ∷ ws) ≡ once (b && flag w) + flagged e flag ws
+flagged_more : (e : SideId) (flag : Want → Bool) (w : Want) (ws : List Want) (b : Bool) → same_end w.side e ≡ b → flagged e flag
+    (w ∷ ws) ≡ once (b && flag w) + flagged e flag ws
 flagged_more e flag w ws b h =
     sum_by-cons (λ (x : Want). cond (same_end x.side e && flag x) 1 0) w ws ∙ ap (λ t. once (t && flag w) + flagged e flag ws) h
 
@@ -106,7 +112,8 @@ counts_of reads writes e ws = record no_step {
   write_marks = writes;
 }
 
-wants_went : (e : SideId) (ws : List Want) (s : EndState) → EndWent (told_of_end s) (told_of_end (wants_of e ws s)) (counts_of (flagged e (λ w. w.can_read) ws) (flagged e (λ w. w.can_write) ws) e ws)
+wants_went : (e : SideId) (ws : List Want) (s : EndState) → EndWent (told_of_end s) (told_of_end (wants_of e ws s))
+    (counts_of (flagged e (λ w. w.can_read) ws) (flagged e (λ w. w.can_write) ws) e ws)
 wants_went e ws s =
     let same = only_counts e ws s (wants_of e ws s) refl in
     record {
@@ -128,45 +135,61 @@ wants_went e ws s =
       write_marks = λ h. ap Some (number_after (λ t. t.tally.write_marks) (λ w. w.can_write) (λ w t. refl) e ws s h);
     }
 
-wants_ends : (ws : List Want) (l : LinksState) (e : SideId) → EndWent (ends_told l e) (ends_told (after_wants ws l) e) (counts_of (flagged e (λ w. w.can_read) ws) (flagged e (λ w. w.can_write) ws) e ws)
+wants_ends : (ws : List Want) (l : LinksState) (e : SideId) → EndWent (ends_told l e) (ends_told (after_wants ws l) e)
+    (counts_of (flagged e (λ w. w.can_read) ws) (flagged e (λ w. w.can_write) ws) e ws)
 wants_ends ws l e =
     let after = end_after_wants e ws l in
     rw after
-    (went_if (wants_of e ws) (counts_of (flagged e (λ w. w.can_read) ws) (flagged e (λ w. w.can_write) ws) e ws) (end_of l e) (λ s _. wants_went e ws s))
+    (went_if (wants_of e ws) (counts_of (flagged e (λ w. w.can_read) ws) (flagged e (λ w. w.can_write) ws) e ws) (end_of l e)
+        (λ s _. wants_went e ws s))
 
-poll_ends : (ws : List Want) (accept : Bool) (l : LinksState) → AllWent (ends_told l) (ends_told (after_wants ws l)) (poll_step ws (polled.Ready accept))
+poll_ends : (ws : List Want) (accept : Bool) (l : LinksState) → AllWent (ends_told l) (ends_told (after_wants ws l))
+    (poll_step ws (polled.Ready accept))
 poll_ends ws accept l = λ e. wants_ends ws l e
 
 -- of marks that were cleared none is counted
-none_flagged : (e : SideId) (flag : Want → Bool) → ((w : Want) → flag (unmarked w) ≡ false) → (ws : List Want) → flagged e flag (map unmarked ws) ≡ 0
+none_flagged : (e : SideId) (flag : Want → Bool) → ((w : Want) → flag (unmarked w) ≡ false) → (ws : List Want) → flagged e flag
+    (map unmarked ws) ≡ 0
 none_flagged e flag none [] = refl
 none_flagged e flag none (w ∷ ws) =
     let rest = none_flagged e flag none ws in
-    let one : once (same_end w.side e && flag (unmarked w)) ≡ 0 = elim (cases_Bool (same_end w.side e)) [ inl same ↦ rw (same, none w) | inr other ↦ rw other ] in
-    let both : flagged e flag (map unmarked (w ∷ ws)) ≡ once (same_end w.side e && flag (unmarked w)) + flagged e flag (map unmarked ws) = flagged_more e flag (unmarked w) (map unmarked ws) (same_end w.side e) refl in
+    let one : once (same_end w.side e && flag (unmarked w)) ≡ 0 = elim (cases_Bool (same_end w.side e))
+        [ inl same ↦ rw (same, none w) | inr other ↦ rw other ] in
+    let both : flagged e flag (map unmarked (w ∷ ws)) ≡ once (same_end w.side e && flag (unmarked w)) + flagged e flag
+        (map unmarked ws) = flagged_more e flag (unmarked w) (map unmarked ws) (same_end w.side e) refl in
     omega (arith, rest, one, both)
 
 none_counted : (ws : List Want) → count_by (λ (w : Want). false) ws ≡ 0
 none_counted [] = refl
-none_counted (w ∷ ws) = let rest = none_counted ws in let parts = sum_by-cons (λ (x : Want). cond false 1 0) w ws in omega (arith, rest, parts)
+none_counted (w ∷ ws) = let rest = none_counted ws in let parts = sum_by-cons (λ (x : Want). cond false 1 0) w ws in
+    omega (arith, rest, parts)
 
 -- a poll that failed and cleared all marks
-pub failed_poll_ends : (ws : List Want) (l : LinksState) → AllWent (ends_told l) (ends_told (after_wants (map unmarked ws) l)) (poll_step (map unmarked ws) polled.Failed)
+pub failed_poll_ends : (ws : List Want) (l : LinksState) → AllWent (ends_told l) (ends_told (after_wants (map unmarked ws) l))
+    (poll_step (map unmarked ws) polled.Failed)
 failed_poll_ends ws l = λ e.
     let marks = map unmarked ws in
-    let reads : flagged e (λ w. w.can_read) marks ≡ count_by (λ (w : Want). false) marks = none_flagged e (λ w. w.can_read) (λ w. refl) ws ∙ sym (none_counted marks) in
-    let writes : flagged e (λ w. w.can_write) marks ≡ count_by (λ (w : Want). false) marks = none_flagged e (λ w. w.can_write) (λ w. refl) ws ∙ sym (none_counted marks) in
-    subst (λ n. EndWent (ends_told l e) (ends_told (after_wants marks l) e) (counts_of n (count_by (λ (w : Want). false) marks) e marks)) reads
-    (subst (λ n. EndWent (ends_told l e) (ends_told (after_wants marks l) e) (counts_of (flagged e (λ w. w.can_read) marks) n e marks)) writes (wants_ends marks l e))
+    let reads : flagged e (λ w. w.can_read) marks ≡ count_by (λ (w : Want). false) marks = none_flagged e (λ w. w.can_read)
+        (λ w. refl) ws ∙ sym (none_counted marks) in
+    let writes : flagged e (λ w. w.can_write) marks ≡ count_by (λ (w : Want). false) marks = none_flagged e (λ w. w.can_write)
+        (λ w. refl) ws ∙ sym (none_counted marks) in
+    subst (λ n. EndWent (ends_told l e) (ends_told (after_wants marks l) e) (counts_of n (count_by (λ (w : Want). false) marks) e
+        marks)) reads
+    (subst (λ n. EndWent (ends_told l e) (ends_told (after_wants marks l) e) (counts_of (flagged e (λ w. w.can_read) marks) n e
+        marks)) writes (wants_ends marks l e))
 
-answer_ends : (p : PortState) (ws : List Want) (accept : Bool) → AllWent (ends_told p.links) (ends_told (after_wants (poll_marks p.links ws) p.links)) (poll_step (poll_marks p.links ws) (poll_answer p accept))
+answer_ends : (p : PortState) (ws : List Want) (accept : Bool) → AllWent (ends_told p.links)
+    (ends_told (after_wants (poll_marks p.links ws) p.links)) (poll_step (poll_marks p.links ws) (poll_answer p accept))
 answer_ends p ws accept = by_line p.links.poll_fails
   where
     by_line : (b : Bool) →
-        AllWent (ends_told p.links) (ends_told (after_wants (if b then map unmarked ws else map (λ w. marked p.links w) ws) p.links)) (poll_step (if b then map unmarked ws else map (λ w. marked p.links w) ws) (if b then polled.Failed else polled.Ready (poll_accepts p accept)))
+        AllWent (ends_told p.links) (ends_told (after_wants (if b then map unmarked ws else map (λ w. marked p.links w) ws)
+            p.links)) (poll_step (if b then map unmarked ws else map (λ w. marked p.links w) ws)
+            (if b then polled.Failed else polled.Ready (poll_accepts p accept)))
     by_line true = failed_poll_ends ws p.links
     by_line false = poll_ends (map (λ w. marked p.links w) ws) (poll_accepts p accept) p.links
 
 -- a poll that left these wants and was answered so
-pub poll_went : (p : PortState) (ws marks : List Want) (accept : Bool) (answer : Polled) → marks ≡ poll_marks p.links ws → answer ≡ poll_answer p accept → AllWent (ends_told p.links) (ends_told (after_wants marks p.links)) (poll_step marks answer)
+pub poll_went : (p : PortState) (ws marks : List Want) (accept : Bool) (answer : Polled) → marks ≡ poll_marks p.links ws → answer ≡
+    poll_answer p accept → AllWent (ends_told p.links) (ends_told (after_wants marks p.links)) (poll_step marks answer)
 poll_went p ws marks accept answer m a = rw (m, a) (answer_ends p ws accept)

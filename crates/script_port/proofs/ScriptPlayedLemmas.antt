@@ -47,7 +47,8 @@ untouched-cons e y ls k h = record {
   brings = flat_map-append (brings e) (y ∷ []) ls ∙ ap (λ z. z ++ flat_map (brings e) ls) k.brings ∙ h.brings;
   ends = list_any-append (ends e) (y ∷ []) ls ∙ ap (λ z. z || list_any (ends e) ls) k.ends ∙ h.ends;
   reads = list_any-append (fails_reads e) (y ∷ []) ls ∙ ap (λ z. z || list_any (fails_reads e) ls) k.reads ∙ h.reads;
-  allows = (let parts = sum_by-append (allows e) (y ∷ []) ls in let first = k.allows in let rest = h.allows in omega (arith, parts, first, rest));
+  allows = (let parts = sum_by-append (allows e) (y ∷ []) ls in let first = k.allows in let rest = h.allows in
+      omega (arith, parts, first, rest));
   any = list_any-append (allows_all e) (y ∷ []) ls ∙ ap (λ z. z || list_any (allows_all e) ls) k.any ∙ h.any;
   writes = list_any-append (fails_writes e) (y ∷ []) ls ∙ ap (λ z. z || list_any (fails_writes e) ls) k.writes ∙ h.writes;
   decides = flat_map-append (decides e.link) (y ∷ []) ls ∙ ap (λ z. z ++ flat_map (decides e.link) ls) k.decides ∙ h.decides;
@@ -56,8 +57,10 @@ untouched-cons e y ls k h = record {
 
 -- a line that names no end of a link says nothing of it
 untouched-one : (e : SideId) (n : ℕ) (x : TurnLine) → NamesOpened n (x ∷ []) → n ≤ e.link → Untouched e (x ∷ [])
-untouched-one e n (line.NewLink wait) h far = record { brings = refl; ends = refl; reads = refl; allows = refl; any = refl; writes = refl; decides = refl; marks = refl }
-untouched-one e n line.PollFail h far = record { brings = refl; ends = refl; reads = refl; allows = refl; any = refl; writes = refl; decides = refl; marks = refl }
+untouched-one e n (line.NewLink wait) h far = record { brings = refl; ends = refl; reads = refl; allows = refl; any = refl; writes
+    = refl; decides = refl; marks = refl }
+untouched-one e n line.PollFail h far = record { brings = refl; ends = refl; reads = refl; allows = refl; any = refl; writes =
+    refl; decides = refl; marks = refl }
 untouched-one e n (line.Conn link connected) h far =
     let other = apart_links link e.link (let first = h.0 in omega (arith, first, far)) in
     record { brings = refl; ends = refl; reads = refl; allows = refl; any = refl; writes = refl; decides = rw other; marks = refl }
@@ -88,7 +91,8 @@ abbrev opened_by : ℕ → TurnLine → ℕ
 opened_by n (line.NewLink wait) = n + 1
 opened_by n _ = n
 
-pub names-cons : (n : ℕ) (x : TurnLine) (xs : List TurnLine) → NamesOpened n (x ∷ xs) → NamesOpened n (x ∷ []) × NamesOpened (opened_by n x) xs × (n + length (links_of (x ∷ xs)) ≡ opened_by n x + length (links_of xs))
+pub names-cons : (n : ℕ) (x : TurnLine) (xs : List TurnLine) → NamesOpened n (x ∷ xs) → NamesOpened n (x ∷ []) × NamesOpened
+    (opened_by n x) xs × (n + length (links_of (x ∷ xs)) ≡ opened_by n x + length (links_of xs))
 names-cons n (line.NewLink wait) xs h = (tt, h, omega arith)
 names-cons n line.PollFail xs h = (tt, h, refl)
 names-cons n (line.Conn link connected) xs h = ((h.0, tt), h.1, refl)
@@ -100,11 +104,13 @@ names-cons n (line.WriteFail side) xs h = ((h.0, tt), h.1, refl)
 names-cons n (line.Spur side) xs h = ((h.0, tt), h.1, refl)
 
 pub untouched : (e : SideId) (n : ℕ) (xs : List TurnLine) → NamesOpened n xs → n + length (links_of xs) ≤ e.link → Untouched e xs
-untouched e n [] named h = record { brings = refl; ends = refl; reads = refl; allows = refl; any = refl; writes = refl; decides = refl; marks = refl }
+untouched e n [] named h = record { brings = refl; ends = refl; reads = refl; allows = refl; any = refl; writes = refl; decides =
+    refl; marks = refl }
 untouched e n (x ∷ xs) named h =
     let parts = names-cons n x xs named in
     let count = parts.2 in
-    untouched-cons e x xs (untouched-one e n x parts.0 (omega (arith, h))) (untouched e (opened_by n x) xs parts.1 (omega (arith, h, count)))
+    untouched-cons e x xs (untouched-one e n x parts.0 (omega (arith, h))) (untouched e (opened_by n x) xs parts.1
+        (omega (arith, h, count)))
 
 pub named_before : (n : ℕ) (xs ys : List TurnLine) → NamesOpened n (xs ++ ys) → NamesOpened n xs
 named_before n [] ys h = tt
@@ -120,10 +126,12 @@ named_before n (line.Spur side ∷ xs) ys h = (h.0, named_before n xs ys h.1)
 
 -- the lines of the first turns, and those of the rest
 pub all_lines : (n : ℕ) (turns : List ScriptTurn) → lines_of (take n turns) ++ lines_of (drop n turns) ≡ lines_of turns
-all_lines n turns = sym (flat_map-append (λ (turn : ScriptTurn). turn.1) (take n turns) (drop n turns)) ∙ ap lines_of (take-append-drop n turns)
+all_lines n turns = sym (flat_map-append (λ (turn : ScriptTurn). turn.1) (take n turns) (drop n turns)) ∙ ap lines_of
+    (take-append-drop n turns)
 
 -- the turn that begins next
-pub lines_more : (n : ℕ) (turns : List ScriptTurn) (turn : ScriptTurn) → slice_get turns n ≡ Some turn → lines_of (take (n + 1) turns) ≡ lines_of (take n turns) ++ turn.1
+pub lines_more : (n : ℕ) (turns : List ScriptTurn) (turn : ScriptTurn) → slice_get turns n ≡ Some turn → lines_of
+    (take (n + 1) turns) ≡ lines_of (take n turns) ++ turn.1
 lines_more n turns turn h =
     let within : n < length turns = slice_get_within turns n turn h in
     let here : get_or turns n turn ≡ turn = get_or_from_slice_get turns n turn turn h in
@@ -131,16 +139,19 @@ lines_more n turns turn h =
     ∙ flat_map-append (λ (x : ScriptTurn). x.1) (take n turns) (turn ∷ []) ∙ ap (λ z. lines_of (take n turns) ++ z) (append-nil turn.1)
 
 -- the lines of the turn that began last
-pub lines_of_turn : (n : ℕ) (turns : List ScriptTurn) (turn : ScriptTurn) → slice_get turns n ≡ Some turn → lines_of (drop (n + 1 - 1) (take (n + 1) turns)) ≡ turn.1
+pub lines_of_turn : (n : ℕ) (turns : List ScriptTurn) (turn : ScriptTurn) → slice_get turns n ≡ Some turn → lines_of
+    (drop (n + 1 - 1) (take (n + 1) turns)) ≡ turn.1
 lines_of_turn n turns turn h =
     let within : n < length turns = slice_get_within turns n turn h in
     let here : get_or turns n turn ≡ turn = get_or_from_slice_get turns n turn turn h in
     let less : n + 1 - 1 ≡ n = omega arith in
     let front : length (take n turns) ≡ n = length-take-le n turns (omega arith) in
-    ap (λ k. lines_of (drop k (take (n + 1) turns))) less ∙ ap (λ z. lines_of (drop n z)) (take_more turns n turn within ∙ ap (λ z. take n turns ++ z ∷ []) here)
+    ap (λ k. lines_of (drop k (take (n + 1) turns))) less ∙ ap (λ z. lines_of (drop n z)) (take_more turns n turn within ∙ ap
+        (λ z. take n turns ++ z ∷ []) here)
     ∙ ap lines_of (drop_at (take n turns) (turn ∷ []) n front) ∙ append-nil turn.1
 
-pub moment_next : (n : ℕ) (turns : List ScriptTurn) (turn : ScriptTurn) (d : ℕ) → slice_get turns n ≡ Some turn → get_or (map (λ (x : ScriptTurn). x.0) turns) n d ≡ turn.0
+pub moment_next : (n : ℕ) (turns : List ScriptTurn) (turn : ScriptTurn) (d : ℕ) → slice_get turns n ≡ Some turn → get_or
+    (map (λ (x : ScriptTurn). x.0) turns) n d ≡ turn.0
 moment_next n [] turn d h = absurd (cc)
 moment_next zero (x ∷ turns) turn d h = ap (λ (o : Option ScriptTurn). option_map_or (λ (y : ScriptTurn). y.0) o 0) h
 moment_next (suc n) (x ∷ turns) turn d h = moment_next n turns turn d h

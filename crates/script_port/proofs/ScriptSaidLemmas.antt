@@ -41,7 +41,8 @@ pub record Said (e : SideId) (y : TurnLine) (s new : EndState) : Type 0 where
   pub eof : new.eof ≡ (s.eof || ends e y)
   pub read_fails : new.read_fails ≡ (s.read_fails || fails_reads e y)
   pub taken : new.taken ≡ s.taken
-  pub may_take : (any : Bool) (sum : ℕ) → MayTake s.may_take any sum (length s.taken) → MayTake new.may_take (any || allows_all e y) (sum + allows e y) (length s.taken)
+  pub may_take : (any : Bool) (sum : ℕ) → MayTake s.may_take any sum (length s.taken) → MayTake new.may_take
+      (any || allows_all e y) (sum + allows e y) (length s.taken)
   pub write_fails : new.write_fails ≡ (s.write_fails || fails_writes e y)
   pub wait : new.wait ≡ s.wait
   pub decision : (ds : List Bool) → s.decision ≡ decided_at e.side ds → new.decision ≡ decided_at e.side (ds ++ decides e.link y)
@@ -54,9 +55,11 @@ or_true false = refl
 
 -- what is allowed stays
 may_same : (o : Option ℕ) (taken : ℕ) (any : Bool) (sum : ℕ) → MayTake o any sum taken → MayTake o (any || false) (sum + 0) taken
-may_same o taken any sum h = subst (λ z. MayTake o z (sum + 0) taken) (sym (or_false any)) (subst (λ z. MayTake o any z taken) (omega arith) h)
+may_same o taken any sum h = subst (λ z. MayTake o z (sum + 0) taken) (sym (or_false any))
+    (subst (λ z. MayTake o any z taken) (omega arith) h)
 
-may_more : (o : Option ℕ) (more taken : ℕ) (any : Bool) (sum : ℕ) → MayTake o any sum taken → MayTake (allowed o (Some more)) (any || false) (sum + more) taken
+may_more : (o : Option ℕ) (more taken : ℕ) (any : Bool) (sum : ℕ) → MayTake o any sum taken → MayTake (allowed o (Some more))
+    (any || false) (sum + more) taken
 may_more None more taken any sum h = or_false any ∙ h
 may_more (Some k) more taken any sum h = (or_false any ∙ h.0, takes-more k sum taken more h.1)
 
@@ -68,14 +71,17 @@ decides_none : (o : Option Bool) (side : Side) (ds : List Bool) → o ≡ decide
 decides_none o side ds h = h ∙ ap (decided_at side) (sym (append-nil ds))
 
 -- a line that says nothing of an end
-unsaid : (e : SideId) (y : TurnLine) (s : EndState) → brings e y ≡ [] → ends e y ≡ false → fails_reads e y ≡ false → allows_all e y ≡ false → allows e y ≡ 0 → fails_writes e y ≡ false →
+unsaid : (e : SideId) (y : TurnLine) (s : EndState) → brings e y ≡ [] → ends e y ≡ false → fails_reads e y ≡ false → allows_all e y
+    ≡ false → allows e y ≡ 0 → fails_writes e y ≡ false →
     ((ds : List Bool) → s.decision ≡ decided_at e.side ds → s.decision ≡ decided_at e.side (ds ++ decides e.link y)) → Said e y s s
 unsaid e y s b d r any a w decision = record {
   pending = sym (append-nil s.pending) ∙ ap (λ z. s.pending ++ z) (sym b);
   eof = sym (or_false s.eof) ∙ ap (λ z. s.eof || z) (sym d);
   read_fails = sym (or_false s.read_fails) ∙ ap (λ z. s.read_fails || z) (sym r);
   taken = refl;
-  may_take = λ before sum h. subst (λ z. MayTake s.may_take (before || z) (sum + allows e y) (length s.taken)) (sym any) (subst (λ z. MayTake s.may_take (before || false) (sum + z) (length s.taken)) (sym a) (may_same s.may_take (length s.taken) before sum h));
+  may_take = λ before sum h. subst (λ z. MayTake s.may_take (before || z) (sum + allows e y) (length s.taken)) (sym any)
+      (subst (λ z. MayTake s.may_take (before || false) (sum + z) (length s.taken)) (sym a)
+      (may_same s.may_take (length s.taken) before sum h));
   write_fails = sym (or_false s.write_fails) ∙ ap (λ z. s.write_fails || z) (sym w);
   wait = refl;
   decision = decision;
@@ -100,7 +106,8 @@ said turn (line.NewLink wait) e s h = absurd (cc)
 said turn line.PollFail e s h = absurd (cc)
 said turn (line.Conn link connected) e s h =
     let same : (link == link) ≡ true = elim (eqb_tells link link) [ inl t ↦ t.0 | inr t ↦ absurd (t.1 refl) ] in
-    subst (λ z. Said z (line.Conn link connected) s (end_after_line turn (line.Conn link connected) s)) (same_end-eq (out_end link) e h) (record {
+    subst (λ z. Said z (line.Conn link connected) s (end_after_line turn (line.Conn link connected) s))
+        (same_end-eq (out_end link) e h) (record {
       pending = sym (append-nil s.pending);
       eof = sym (or_false s.eof);
       read_fails = sym (or_false s.read_fails);
@@ -198,7 +205,8 @@ said turn (line.Spur side) e s h = record {
 }
 
 -- a decision at another link's Out end is none here
-undecides : (link : ℕ) (connected : Bool) (side : Side) (at : ℕ) → (link == at && same_side Out side) ≡ false → (o : Option Bool) (ds : List Bool) → o ≡ decided_at side ds → o ≡ decided_at side (ds ++ (if link == at then connected ∷ [] else []))
+undecides : (link : ℕ) (connected : Bool) (side : Side) (at : ℕ) → (link == at && same_side Out side) ≡ false → (o : Option Bool)
+    (ds : List Bool) → o ≡ decided_at side ds → o ≡ decided_at side (ds ++ (if link == at then connected ∷ [] else []))
 undecides link connected In at h o ds k = k
 undecides link connected Out at h o ds k =
     elim (cases_Bool (link == at)) [
@@ -210,11 +218,14 @@ undecides link connected Out at h o ds k =
 pub not_said : (x : TurnLine) (e : SideId) (s : EndState) → is_named x e ≡ false → Said e x s s
 not_said (line.NewLink wait) e s h = unsaid e (line.NewLink wait) s refl refl refl refl refl refl (decides_none s.decision e.side)
 not_said line.PollFail e s h = unsaid e line.PollFail s refl refl refl refl refl refl (decides_none s.decision e.side)
-not_said (line.Conn link connected) e s h = unsaid e (line.Conn link connected) s refl refl refl refl refl refl (undecides link connected e.side e.link h s.decision)
-not_said (line.Pending side bytes) e s h = unsaid e (line.Pending side bytes) s (rw h) refl refl refl refl refl (decides_none s.decision e.side)
+not_said (line.Conn link connected) e s h = unsaid e (line.Conn link connected) s refl refl refl refl refl refl
+    (undecides link connected e.side e.link h s.decision)
+not_said (line.Pending side bytes) e s h = unsaid e (line.Pending side bytes) s (rw h) refl refl refl refl refl
+    (decides_none s.decision e.side)
 not_said (line.Eof side) e s h = unsaid e (line.Eof side) s refl h refl refl refl refl (decides_none s.decision e.side)
 not_said (line.ReadFail side) e s h = unsaid e (line.ReadFail side) s refl refl h refl refl refl (decides_none s.decision e.side)
 not_said (line.Take side None) e s h = unsaid e (line.Take side None) s refl refl refl h refl refl (decides_none s.decision e.side)
-not_said (line.Take side (Some more)) e s h = unsaid e (line.Take side (Some more)) s refl refl refl refl (rw h) refl (decides_none s.decision e.side)
+not_said (line.Take side (Some more)) e s h = unsaid e (line.Take side (Some more)) s refl refl refl refl (rw h) refl
+    (decides_none s.decision e.side)
 not_said (line.WriteFail side) e s h = unsaid e (line.WriteFail side) s refl refl refl refl refl h (decides_none s.decision e.side)
 not_said (line.Spur side) e s h = unsaid e (line.Spur side) s refl refl refl refl refl refl (decides_none s.decision e.side)

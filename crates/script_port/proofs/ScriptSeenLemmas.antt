@@ -42,7 +42,8 @@ use Rattle.script_port.proofs.ScriptAnswerLemmas.{one_le, reads, reads_same, wri
 
 none_made : (e : SideId) (t front rest : Trace) → t ≡ front ++ rest → OpensInOrder t → opened t ≤ e.link → is_made_connected e rest ≡ false
 none_made e t front [] is order h = refl
-none_made e t front (x ∷ rest) is order h = ap (λ b. b || is_made_connected e rest) (one x is) ∙ none_made e t (front ++ x ∷ []) rest (is ∙ sym (append_assoc front (x ∷ []) rest)) order h
+none_made e t front (x ∷ rest) is order h = ap (λ b. b || is_made_connected e rest) (one x is) ∙ none_made e t (front ++ x ∷ [])
+    rest (is ∙ sym (append_assoc front (x ∷ []) rest)) order h
   where
     one : (y : Event) → t ≡ front ++ y ∷ rest → made_connected_by e y ≡ false
     one (entry.Opened link connected, bytes) eq =
@@ -51,7 +52,8 @@ none_made e t front (x ∷ rest) is order h = ap (λ b. b || is_made_connected e
         let whole : opened t ≡ opened (front ++ y ∷ rest) = ap opened eq in
         let parts = sum_by-append (λ z. if is_opened z then 1 else 0) front (y ∷ rest) in
         let first = sum_by-cons (λ z. if is_opened z then 1 else 0) y rest in
-        elim (eqb_tells link e.link) [ inl same ↦ absurd (let s = same.1 in omega (arith, here, whole, parts, first, h, s)) | inr other ↦ rw other.0 refl ]
+        elim (eqb_tells link e.link) [ inl same ↦ absurd (let s = same.1 in omega (arith, here, whole, parts, first, h, s)) | inr
+            other ↦ rw other.0 refl ]
     one _ eq = refl
 
 -- what stands past a list
@@ -114,7 +116,8 @@ module _ (turns : List ScriptTurn) (t : Trace) (asked : IsCalledFor turns t) whe
   links_are = links_played so_far
 
   pub links_whole : model.links turns t ++ links_of to_come ≡ links_of (lines_of turns)
-  links_whole = ap (λ z. z ++ links_of to_come) links_are ∙ sym (links_of-append so_far to_come) ∙ ap links_of (all_lines (model.begun turns t) turns)
+  links_whole = ap (λ z. z ++ links_of to_come) links_are ∙ sym (links_of-append so_far to_come) ∙ ap links_of
+      (all_lines (model.begun turns t) turns)
 
   -- nothing is said of an end of a link that no line opened
   unsaid : (e : SideId) → length (model.links turns t) ≤ e.link → Untouched e (model.lines turns t)
@@ -124,16 +127,19 @@ module _ (turns : List ScriptTurn) (t : Trace) (asked : IsCalledFor turns t) whe
       untouched e 0 so_far named (omega (arith, long, h))
 
   -- what is said in the running turn is said so far
-  lines_parts : model.lines turns t ≡ lines_of (take (model.begun turns t - 1) (take (model.begun turns t) turns)) ++ model.lines_now turns t
+  lines_parts : model.lines turns t ≡ lines_of (take (model.begun turns t - 1) (take (model.begun turns t) turns)) ++
+      model.lines_now turns t
   lines_parts =
       ap lines_of (sym (take-append-drop (model.begun turns t - 1) (take (model.begun turns t) turns)))
-      ∙ flat_map-append (λ (turn : ScriptTurn). turn.1) (take (model.begun turns t - 1) (take (model.begun turns t) turns)) (drop (model.begun turns t - 1) (take (model.begun turns t) turns))
+      ∙ flat_map-append (λ (turn : ScriptTurn). turn.1) (take (model.begun turns t - 1) (take (model.begun turns t) turns))
+          (drop (model.begun turns t - 1) (take (model.begun turns t) turns))
 
   pub unmarked_now : (e : SideId) → length (model.links turns t) ≤ e.link → list_any (marks_all e) (model.lines_now turns t) ≡ false
   unmarked_now e far =
       let before = lines_of (take (model.begun turns t - 1) (take (model.begun turns t) turns)) in
       or_right (list_any (marks_all e) before) (list_any (marks_all e) (model.lines_now turns t))
-      (sym (list_any-append (marks_all e) before (model.lines_now turns t)) ∙ ap (list_any (marks_all e)) (sym lines_parts) ∙ (unsaid e far).marks)
+      (sym (list_any-append (marks_all e) before (model.lines_now turns t)) ∙ ap (list_any (marks_all e)) (sym lines_parts) ∙
+          (unsaid e far).marks)
     where
       or_right : (a b : Bool) → (a || b) ≡ false → b ≡ false
       or_right true b k = absurd (cc)
@@ -142,27 +148,36 @@ module _ (turns : List ScriptTurn) (t : Trace) (asked : IsCalledFor turns t) whe
   module _ (l : LinksState) (h : LinksStand (links_of (lines_of turns)) (model.lines turns t) t l) where
     -- an end beyond all links of the script
     beyond : (e : SideId) → end_of l e ≡ None → length (model.links turns t) ≤ e.link
-    beyond e found = let all = h.beyond e found in let whole = ap length links_whole in let parts = length-append (model.links turns t) (links_of to_come) in omega (arith, all, whole, parts)
+    beyond e found = let all = h.beyond e found in let whole = ap length links_whole in let parts = length-append
+        (model.links turns t) (links_of to_come) in omega (arith, all, whole, parts)
 
-    pending_is : (e : SideId) (o : Option EndState) → end_of l e ≡ o → model.pending turns t e ≡ option_map_or (λ (s : EndState). s.pending) o []
+    pending_is : (e : SideId) (o : Option EndState) → end_of l e ≡ o → model.pending turns t e ≡ option_map_or
+        (λ (s : EndState). s.pending) o []
     pending_is e None found = ap (drop (length (bytes_read e t))) (unsaid e (beyond e found)).brings ∙ drop-nil (length (bytes_read e t))
-    pending_is e (Some s) found = ap (drop (length (bytes_read e t))) (sym (h.ends e s found).came) ∙ drop-append_seam (bytes_read e t) s.pending
+    pending_is e (Some s) found = ap (drop (length (bytes_read e t))) (sym (h.ends e s found).came) ∙ drop-append_seam
+        (bytes_read e t) s.pending
 
-    ended_is : (e : SideId) (o : Option EndState) → end_of l e ≡ o → model.is_ended turns t e ≡ option_map_or (λ (s : EndState). s.eof) o false
+    ended_is : (e : SideId) (o : Option EndState) → end_of l e ≡ o → model.is_ended turns t e ≡ option_map_or
+        (λ (s : EndState). s.eof) o false
     ended_is e None found = (unsaid e (beyond e found)).ends
     ended_is e (Some s) found = sym (h.ends e s found).eof
 
-    reads_are : (e : SideId) (o : Option EndState) → end_of l e ≡ o → model.reads_fail turns t e ≡ option_map_or (λ (s : EndState). s.read_fails) o false
+    reads_are : (e : SideId) (o : Option EndState) → end_of l e ≡ o → model.reads_fail turns t e ≡ option_map_or
+        (λ (s : EndState). s.read_fails) o false
     reads_are e None found = (unsaid e (beyond e found)).reads
     reads_are e (Some s) found = sym (h.ends e s found).read_fails
 
     pub read_is : (e : SideId) (room : ℕ) → model.read_answer turns t e room ≡ (read_answer_at l e room, take room (pending_at l e))
     read_is e room = by_end (end_of l e) refl
       where
-        by_end : (o : Option EndState) → end_of l e ≡ o → model.read_answer turns t e room ≡ (option_map_or (λ (s : EndState). read_answer s room) o read.NotYet, take room (option_map_or (λ (s : EndState). s.pending) o []))
+        by_end : (o : Option EndState) → end_of l e ≡ o → model.read_answer turns t e room ≡
+            (option_map_or (λ (s : EndState). read_answer s room) o read.NotYet, take room
+            (option_map_or (λ (s : EndState). s.pending) o []))
         by_end None found =
-            (λ i. reads (pending_is e None found i) (reads_are e None found i) (ended_is e None found i) room) ∙ ap (λ z. (read.NotYet, z)) (sym (take-nil room))
-        by_end (Some s) found = (λ i. reads (pending_is e (Some s) found i) (reads_are e (Some s) found i) (ended_is e (Some s) found i) room) ∙ reads_same s room
+            (λ i. reads (pending_is e None found i) (reads_are e None found i) (ended_is e None found i) room) ∙ ap
+                (λ z. (read.NotYet, z)) (sym (take-nil room))
+        by_end (Some s) found = (λ i. reads (pending_is e (Some s) found i) (reads_are e (Some s) found i)
+            (ended_is e (Some s) found i) room) ∙ reads_same s room
 
     pub can_read_is : (e : SideId) → model.can_read turns t e ≡ can_read_at l e
     can_read_is e = by_end (end_of l e) refl
@@ -170,13 +185,17 @@ module _ (turns : List ScriptTurn) (t : Trace) (asked : IsCalledFor turns t) whe
         by_end : (o : Option EndState) → end_of l e ≡ o → model.can_read turns t e ≡ option_map_or can_read o false
         by_end None found = (λ i. nat_le 1 (length (pending_is e None found i)) || reads_are e None found i || ended_is e None found i)
         by_end (Some s) found =
-            (λ i. nat_le 1 (length (pending_is e (Some s) found i)) || reads_are e (Some s) found i || ended_is e (Some s) found i) ∙ ap (λ b. b || s.read_fails || s.eof) (one_le (length s.pending))
+            (λ i. nat_le 1 (length (pending_is e (Some s) found i)) || reads_are e (Some s) found i || ended_is e (Some s) found i)
+                ∙ ap (λ b. b || s.read_fails || s.eof) (one_le (length s.pending))
 
     -- what the script lets an end take
-    lets_is : (e : SideId) → model.may_take turns t e ≡ lets (list_any (allows_all e) (model.lines turns t)) (sum_by (allows e) (model.lines turns t)) (length (bytes_given e t))
-    lets_is e = ap (λ b. if b || list_any (allows_all e) (model.lines turns t) then None else Some (sum_by (allows e) (model.lines turns t) - length (bytes_given e t))) not_closing
+    lets_is : (e : SideId) → model.may_take turns t e ≡ lets (list_any (allows_all e) (model.lines turns t))
+        (sum_by (allows e) (model.lines turns t)) (length (bytes_given e t))
+    lets_is e = ap (λ b. if b || list_any (allows_all e) (model.lines turns t) then None else Some
+        (sum_by (allows e) (model.lines turns t) - length (bytes_given e t))) not_closing
 
-    writes_are : (e : SideId) (o : Option EndState) → end_of l e ≡ o → model.writes_fail turns t e ≡ option_map_or (λ (s : EndState). s.write_fails) o false
+    writes_are : (e : SideId) (o : Option EndState) → end_of l e ≡ o → model.writes_fail turns t e ≡ option_map_or
+        (λ (s : EndState). s.write_fails) o false
     writes_are e None found = (λ i. not (not_closing i) && (unsaid e (beyond e found)).writes i)
     writes_are e (Some s) found = (λ i. not (not_closing i) && sym (h.ends e s found).write_fails i)
 
@@ -185,13 +204,17 @@ module _ (turns : List ScriptTurn) (t : Trace) (asked : IsCalledFor turns t) whe
     takes_none e offer far =
         let un = unsaid e far in
         let nothing : sum_by (allows e) (model.lines turns t) ≡ 0 = un.allows in
-        ap (λ o. at_most o offer) (lets_is e ∙ (λ i. lets (un.any i) (sum_by (allows e) (model.lines turns t)) (length (bytes_given e t)))) ∙ omega (arith, nothing)
+        ap (λ o. at_most o offer) (lets_is e ∙ (λ i. lets (un.any i) (sum_by (allows e) (model.lines turns t))
+            (length (bytes_given e t)))) ∙ omega (arith, nothing)
 
-    pub write_is : (e : SideId) (from : List ℕ) → ((s : EndState) → end_of l e ≡ Some s → length s.taken + taken_of s.may_take (length from) < 2 ^ 64 - 1) →
+    pub write_is : (e : SideId) (from : List ℕ) → ((s : EndState) → end_of l e ≡ Some s → length s.taken + taken_of s.may_take
+        (length from) < 2 ^ 64 - 1) →
         model.write_answer turns t e from ≡ (write_answer_at l e (length from), took_bytes (write_answer_at l e (length from)) from)
     write_is e from fits = by_end (end_of l e) refl
       where
-        by_end : (o : Option EndState) → end_of l e ≡ o → model.write_answer turns t e from ≡ (option_map_or (λ (s : EndState). write_answer s (length from)) o write.NotYet, took_bytes (option_map_or (λ (s : EndState). write_answer s (length from)) o write.NotYet) from)
+        by_end : (o : Option EndState) → end_of l e ≡ o → model.write_answer turns t e from ≡
+            (option_map_or (λ (s : EndState). write_answer s (length from)) o write.NotYet, took_bytes
+            (option_map_or (λ (s : EndState). write_answer s (length from)) o write.NotYet) from)
         by_end None found =
             let none = takes_none e (length from) (beyond e found) in
             let test : nat_le 1 (at_most (model.may_take turns t e) (length from)) ≡ false = ap (nat_le 1) none ∙ one_le 0 in
@@ -199,29 +222,35 @@ module _ (turns : List ScriptTurn) (t : Trace) (asked : IsCalledFor turns t) whe
         by_end (Some s) found =
             let k = h.ends e s found in
             let given : length (bytes_given e t) ≡ length s.taken = ap length (sym k.taken) in
-            let lets_so : model.may_take turns t e ≡ lets (list_any (allows_all e) (model.lines turns t)) (sum_by (allows e) (model.lines turns t)) (length s.taken) =
+            let lets_so : model.may_take turns t e ≡ lets (list_any (allows_all e) (model.lines turns t))
+                (sum_by (allows e) (model.lines turns t)) (length s.taken) =
             lets_is e ∙ ap (lets (list_any (allows_all e) (model.lines turns t)) (sum_by (allows e) (model.lines turns t))) given in
             (λ i. writes (model.may_take turns t e) (writes_are e (Some s) found i) from)
-            ∙ writes_same (model.may_take turns t e) s from (ap (λ o. at_most o (length from)) lets_so ∙ takes_same s.may_take _ _ (length s.taken) (length from) k.may_take (fits s found))
+            ∙ writes_same (model.may_take turns t e) s from (ap (λ o. at_most o (length from)) lets_so ∙ takes_same s.may_take _ _
+                (length s.taken) (length from) k.may_take (fits s found))
 
     decision_is : (e : SideId) → model.decision turns t e ≡ model.first_or None (flat_map (decides e.link) (model.lines turns t))
     decision_is e = λ i. model.first_or (if not_closing i then Some true else None) (flat_map (decides e.link) (model.lines turns t))
 
     -- an end of a link that was opened is undecided just where the port has it so
-    undecided_is : (e : SideId) (s : EndState) → EndStands (links_of (lines_of turns)) (model.lines turns t) t e s → e.link < length (model.links turns t) → model.is_undecided turns t e ≡ s.wait
+    undecided_is : (e : SideId) (s : EndState) → EndStands (links_of (lines_of turns)) (model.lines turns t) t e s → e.link <
+        length (model.links turns t) → model.is_undecided turns t e ≡ s.wait
     undecided_is e s k near =
-        sym (k.wait ∙ ap (λ z. model.undecided_at e.side (get_or z e.link false)) (sym links_whole) ∙ ap (model.undecided_at e.side) (within_stays (model.links turns t) (links_of to_come) e.link near))
+        sym (k.wait ∙ ap (λ z. model.undecided_at e.side (get_or z e.link false)) (sym links_whole) ∙ ap
+            (model.undecided_at e.side) (within_stays (model.links turns t) (links_of to_come) e.link near))
 
     not_undecided : (e : SideId) → length (model.links turns t) ≤ e.link → model.is_undecided turns t e ≡ false
     not_undecided e far = ap (model.undecided_at e.side) (past (model.links turns t) e.link far) ∙ undecided_none e.side
 
     -- an undecided end is decided just as the port has it
-    decided_is : (e : SideId) (s : EndState) → EndStands (links_of (lines_of turns)) (model.lines turns t) t e s → s.wait ≡ true → model.decision turns t e ≡ s.decision
+    decided_is : (e : SideId) (s : EndState) → EndStands (links_of (lines_of turns)) (model.lines turns t) t e s → s.wait ≡ true →
+        model.decision turns t e ≡ s.decision
     decided_is e s k w =
         let ds = flat_map (decides e.link) (model.lines turns t) in
         decision_is e ∙ sym (decided_out e.side (get_or (links_of (lines_of turns)) e.link false) ds (sym k.wait ∙ w)) ∙ sym k.decision
 
-    undecided_yet : (e : SideId) (s : EndState) → EndStands (links_of (lines_of turns)) (model.lines turns t) t e s → length (model.links turns t) ≤ e.link → s.decision ≡ None
+    undecided_yet : (e : SideId) (s : EndState) → EndStands (links_of (lines_of turns)) (model.lines turns t) t e s → length
+        (model.links turns t) ≤ e.link → s.decision ≡ None
     undecided_yet e s k far = k.decision ∙ ap (decided_at e.side) (unsaid e far).decides ∙ decided_none e.side
 
     not_made : (e : SideId) → length (model.links turns t) ≤ e.link → is_made_connected e t ≡ false
@@ -241,9 +270,11 @@ module _ (turns : List ScriptTurn) (t : Trace) (asked : IsCalledFor turns t) whe
               | inl near ↦
                   elim (cases_Bool s.wait) [
                     | inl w ↦
-                        (λ i. conn_of ((undecided_is e s k near ∙ w) i) (decided_is e s k w i) (is_made_connected e t)) ∙ ap (λ b. conn_of b s.decision s.tally.made_connected) (sym w)
+                        (λ i. conn_of ((undecided_is e s k near ∙ w) i) (decided_is e s k w i) (is_made_connected e t)) ∙ ap
+                            (λ b. conn_of b s.decision s.tally.made_connected) (sym w)
                     | inr w ↦
-                        (λ i. conn_of ((undecided_is e s k near ∙ w) i) (model.decision turns t e) (sym k.made_connected i)) ∙ ap (λ b. conn_of b s.decision s.tally.made_connected) (sym w)
+                        (λ i. conn_of ((undecided_is e s k near ∙ w) i) (model.decision turns t e) (sym k.made_connected i)) ∙ ap
+                            (λ b. conn_of b s.decision s.tally.made_connected) (sym w)
                   ]
               | inr far ↦
                   far_is far ∙ sym (conn_none s.wait)
@@ -251,16 +282,20 @@ module _ (turns : List ScriptTurn) (t : Trace) (asked : IsCalledFor turns t) whe
             ]
 
     -- whether the script lets an end take a byte is whether the port does
-    any_is : (e : SideId) (s : EndState) → EndStands (links_of (lines_of turns)) (model.lines turns t) t e s → nat_le 1 (at_most (model.may_take turns t e) 1) ≡ not (taken_of s.may_take 1 == 0)
+    any_is : (e : SideId) (s : EndState) → EndStands (links_of (lines_of turns)) (model.lines turns t) t e s → nat_le 1
+        (at_most (model.may_take turns t e) 1) ≡ not (taken_of s.may_take 1 == 0)
     any_is e s k =
-        ap (λ o. nat_le 1 (at_most o 1)) (lets_is e ∙ ap (λ (z : List ℕ). lets (list_any (allows_all e) (model.lines turns t)) (sum_by (allows e) (model.lines turns t)) (length z)) (sym k.taken))
-        ∙ takes_any s.may_take (list_any (allows_all e) (model.lines turns t)) (sum_by (allows e) (model.lines turns t)) (length s.taken) k.may_take
+        ap (λ o. nat_le 1 (at_most o 1)) (lets_is e ∙ ap (λ (z : List ℕ). lets (list_any (allows_all e) (model.lines turns t))
+            (sum_by (allows e) (model.lines turns t)) (length z)) (sym k.taken))
+        ∙ takes_any s.may_take (list_any (allows_all e) (model.lines turns t)) (sum_by (allows e) (model.lines turns t))
+            (length s.taken) k.may_take
 
     pub can_write_is : (e : SideId) → model.can_write turns t e ≡ can_write_at l e
     can_write_is e = by_end (end_of l e) refl
       where
         far_is : length (model.links turns t) ≤ e.link → model.can_write turns t e ≡ false
-        far_is far = λ i. write_of (not_undecided e far i) (is_connected e t) (model.decision turns t e) (nat_le 1 (takes_none e 1 far i)) (not (not_closing i) && (unsaid e far).writes i)
+        far_is far = λ i. write_of (not_undecided e far i) (is_connected e t) (model.decision turns t e)
+            (nat_le 1 (takes_none e 1 far i)) (not (not_closing i) && (unsaid e far).writes i)
 
         by_end : (o : Option EndState) → end_of l e ≡ o → model.can_write turns t e ≡ option_map_or can_write o false
         by_end None found = far_is (beyond e found)
@@ -270,22 +305,27 @@ module _ (turns : List ScriptTurn) (t : Trace) (asked : IsCalledFor turns t) whe
               | inl near ↦
                   elim (cases_Bool s.wait) [
                     | inl w ↦
-                        (λ i. write_of ((undecided_is e s k near ∙ w) i) (sym k.connected i) (decided_is e s k w i) (any_is e s k i) (writes_are e (Some s) found i))
+                        (λ i. write_of ((undecided_is e s k near ∙ w) i) (sym k.connected i) (decided_is e s k w i)
+                            (any_is e s k i) (writes_are e (Some s) found i))
                         ∙ ap (λ b. write_of b s.tally.connected s.decision (not (taken_of s.may_take 1 == 0)) s.write_fails) (sym w)
                     | inr w ↦
-                        (λ i. write_of ((undecided_is e s k near ∙ w) i) (sym k.connected i) (model.decision turns t e) (any_is e s k i) (writes_are e (Some s) found i))
+                        (λ i. write_of ((undecided_is e s k near ∙ w) i) (sym k.connected i) (model.decision turns t e)
+                            (any_is e s k i) (writes_are e (Some s) found i))
                         ∙ ap (λ b. write_of b s.tally.connected s.decision (not (taken_of s.may_take 1 == 0)) s.write_fails) (sym w)
                   ]
               | inr far ↦
                   let none : not (taken_of s.may_take 1 == 0) ≡ false = sym (any_is e s k) ∙ ap (nat_le 1) (takes_none e 1 far) in
                   far_is far ∙ sym (write_none s.wait s.tally.connected)
-                  ∙ (λ i. write_of s.wait s.tally.connected (sym (undecided_yet e s k far) i) (sym none i) (sym (k.write_fails ∙ (unsaid e far).writes) i))
+                  ∙ (λ i. write_of s.wait s.tally.connected (sym (undecided_yet e s k far) i) (sym none i)
+                      (sym (k.write_fails ∙ (unsaid e far).writes) i))
             ]
 
     -- what is marked in the running turn alone
-    pub spurs_are : (n : ℕ) → RunsTurn (model.lines_now turns t) n l → (e : SideId) → list_any (marks_all e) (model.lines_now turns t) ≡ is_spurred_at l e
+    pub spurs_are : (n : ℕ) → RunsTurn (model.lines_now turns t) n l → (e : SideId) → list_any (marks_all e)
+        (model.lines_now turns t) ≡ is_spurred_at l e
     spurs_are n now e = by_end (end_of l e) refl
       where
-        by_end : (o : Option EndState) → end_of l e ≡ o → list_any (marks_all e) (model.lines_now turns t) ≡ option_map_or (is_spurred l.turn) o false
+        by_end : (o : Option EndState) → end_of l e ≡ o → list_any (marks_all e) (model.lines_now turns t) ≡ option_map_or
+            (is_spurred l.turn) o false
         by_end None found = unmarked_now e (beyond e found)
         by_end (Some s) found = sym (now.spurs e s found)

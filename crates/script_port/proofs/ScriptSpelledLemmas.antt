@@ -49,7 +49,8 @@ opened_is : (xs : List TurnLine) → opened xs ≡ length (links_of xs)
 opened_is xs = ap length (links_same xs)
 
 -- one line more
-named_push : (n : ℕ) (xs : List TurnLine) (x : TurnLine) → NamesOpened n xs → NamesOpened (n + length (links_of xs)) (x ∷ []) → NamesOpened n (xs ++ x ∷ [])
+named_push : (n : ℕ) (xs : List TurnLine) (x : TurnLine) → NamesOpened n xs → NamesOpened (n + length (links_of xs)) (x ∷ []) →
+    NamesOpened n (xs ++ x ∷ [])
 named_push n [] x h k = subst (λ m. NamesOpened m (x ∷ [])) (omega arith) k
 named_push n (line.NewLink wait ∷ xs) x h k = named_push (n + 1) xs x h (subst (λ m. NamesOpened m (x ∷ [])) (omega arith) k)
 named_push n (line.Pending side bytes ∷ xs) x h k = (h.0, named_push n xs x h.1 k)
@@ -86,7 +87,8 @@ follows xs line.PollFail h = tt
 lines_with : (turns : List ScriptTurn) (x : TurnLine) → 0 < length turns → lines_of (with_line turns x) ≡ lines_of turns ++ x ∷ []
 lines_with [] x h = absurd (omega (arith, h))
 lines_with (turn ∷ []) x h = append-nil (turn.1 ++ x ∷ []) ∙ ap (λ z. z ++ x ∷ []) (sym (append-nil turn.1))
-lines_with (turn ∷ next ∷ turns) x h = ap (λ z. turn.1 ++ z) (lines_with (next ∷ turns) x (omega arith)) ∙ sym (append_assoc turn.1 (lines_of (next ∷ turns)) (x ∷ []))
+lines_with (turn ∷ next ∷ turns) x h = ap (λ z. turn.1 ++ z) (lines_with (next ∷ turns) x (omega arith)) ∙ sym
+    (append_assoc turn.1 (lines_of (next ∷ turns)) (x ∷ []))
 
 abbrev IsNamed : SoFar → Type 0
 IsNamed script = NamesOpened 0 (lines_of script.turns)
@@ -105,20 +107,24 @@ extended_named script new (text_line.Set setting) h named =
 extended_named script new (text_line.At ms) h named =
     let more : SoFar = record { given = script.given; turns = script.turns ++ (ms, []) ∷ [] } in
     let is : more ≡ new = (if_some (nat_lt (length script.turns) 20000) more new h).1 in
-    let same : lines_of (script.turns ++ (ms, []) ∷ []) ≡ lines_of script.turns = flat_map-append (λ (turn : ScriptTurn). turn.1) script.turns ((ms, []) ∷ []) ∙ append-nil (lines_of script.turns) in
+    let same : lines_of (script.turns ++ (ms, []) ∷ []) ≡ lines_of script.turns = flat_map-append (λ (turn : ScriptTurn). turn.1)
+        script.turns ((ms, []) ∷ []) ∙ append-nil (lines_of script.turns) in
     subst IsNamed is (subst (NamesOpened 0) (sym same) named)
 extended_named script new (text_line.Within x) h named =
     let more : SoFar = record { given = script.given; turns = with_line script.turns x } in
     let parts = if_some (nat_lt 0 (length script.turns) && may_follow (lines_of script.turns) x) more new h in
     let tests = and_parts (nat_lt 0 (length script.turns)) (may_follow (lines_of script.turns) x) parts.0 in
     let some : 0 < length script.turns = tested 0 (length script.turns) tests.0 in
-    let follow : NamesOpened (opened (lines_of script.turns)) (x ∷ []) = follows (lines_of script.turns) x (subst (λ z. may_follow z x ≡ true) (lines_same script.turns) tests.1) in
+    let follow : NamesOpened (opened (lines_of script.turns)) (x ∷ []) = follows (lines_of script.turns) x
+        (subst (λ z. may_follow z x ≡ true) (lines_same script.turns) tests.1) in
     let count = opened_is (lines_of script.turns) in
-    let here : NamesOpened (0 + length (links_of (lines_of script.turns))) (x ∷ []) = subst (λ m. NamesOpened m (x ∷ [])) (omega (arith, count)) follow in
+    let here : NamesOpened (0 + length (links_of (lines_of script.turns))) (x ∷ []) = subst (λ m. NamesOpened m (x ∷ []))
+        (omega (arith, count)) follow in
     subst IsNamed parts.1 (subst (NamesOpened 0) (sym (lines_with script.turns x some)) (named_push 0 (lines_of script.turns) x named here))
 extended_named script new text_line.Skipped h named = subst IsNamed (from_some script new h) named
 
-line_named : (script new : SoFar) (plain : Bool) (what : Option Line) → ◌≡◌ {A = Option SoFar} (if plain then option_and_then (λ x. extended script x) what else None) (Some new) → IsNamed script → IsNamed new
+line_named : (script new : SoFar) (plain : Bool) (what : Option Line) → ◌≡◌ {A = Option SoFar}
+    (if plain then option_and_then (λ x. extended script x) what else None) (Some new) → IsNamed script → IsNamed new
 line_named script new true None h named = absurd (cc)
 line_named script new true (Some what) h named = extended_named script new what h named
 line_named script new false what h named = absurd (cc)
@@ -127,7 +133,8 @@ lines_named : (ls : List (List ℕ)) (script new : SoFar) (before : ℕ) → lin
 lines_named [] script new before h named = subst IsNamed (from_ok script new h) named
 lines_named (l ∷ ls) script new before h named = by_line (λ longer k. lines_named ls longer new (before + 1) k) (line_read script l) refl h
   where
-    by_line : ((longer : SoFar) → lines_read longer (before + 1) ls ≡ Ok new → IsNamed longer → IsNamed new) → (o : Option SoFar) → line_read script l ≡ o →
+    by_line : ((longer : SoFar) → lines_read longer (before + 1) ls ≡ Ok new → IsNamed longer → IsNamed new) → (o : Option SoFar) →
+        line_read script l ≡ o →
         going_on o (before + 1) (λ longer. lines_read longer (before + 1) ls) ≡ Ok new → IsNamed new
     by_line rest None is k = absurd (cc)
     by_line rest (Some longer) is k = rest longer k (line_named script longer (list_all is_plain l) (said (words l)) is named)

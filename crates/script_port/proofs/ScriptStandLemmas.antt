@@ -27,7 +27,8 @@ use Rattle.script_port.proofs.ScriptSaidLemmas.{is_named, Said, said, not_said}
 pub from_some : {A : Type 0} (x y : A) → ◌≡◌ {A = Option A} (Some x) (Some y) → x ≡ y
 from_some x y h = ap (λ o. unwrap_or o x) h
 
-map_some : (f : EndState → EndState) (o : Option EndState) (s : EndState) → option_map f o ≡ Some s → (old : EndState) × (o ≡ Some old) × (s ≡ f old)
+map_some : (f : EndState → EndState) (o : Option EndState) (s : EndState) → option_map f o ≡ Some s → (old : EndState) ×
+    (o ≡ Some old) × (s ≡ f old)
 map_some f None s h = absurd (cc)
 map_some f (Some old) s h = (old, refl, sym (from_some (f old) s h))
 
@@ -53,7 +54,8 @@ sum-push f xs x = let parts = sum_by-append f xs (x ∷ []) in omega (arith, par
 
 -- an end of links of which one was changed: it is that one, or it stayed
 pub end_changed : (side e : SideId) (f : EndState → EndState) (l : LinksState) (s : EndState) → end_of (at_end side f l) e ≡ Some s →
-    ((same_end side e ≡ true) × ((old : EndState) × (end_of l e ≡ Some old) × (s ≡ f old))) ⊎ ((same_end side e ≡ false) × (end_of l e ≡ Some s))
+    ((same_end side e ≡ true) × ((old : EndState) × (end_of l e ≡ Some old) × (s ≡ f old))) ⊎
+        ((same_end side e ≡ false) × (end_of l e ≡ Some s))
 end_changed side e f l s h =
     elim (same_end_tells side e) [
       | inl same ↦
@@ -76,7 +78,8 @@ none_changed side e f l h =
 -- What may be taken
 
 -- a write takes the least of what is offered and what may be taken
-pub takes-write : (k allowed taken offer : ℕ) → TakesOn k allowed taken → taken + min offer k < 2 ^ 64 - 1 → TakesOn (k - offer) allowed (taken + min offer k)
+pub takes-write : (k allowed taken offer : ℕ) → TakesOn k allowed taken → taken + min offer k < 2 ^ 64 - 1 → TakesOn (k - offer)
+    allowed (taken + min offer k)
 takes-write k allowed taken offer h within =
     let least = h.least in
     let most = h.most in
@@ -86,16 +89,20 @@ takes-write k allowed taken offer h within =
 
 module _ (waits : List Bool) where
   -- an end with what a line says of it
-  end_line : (ls : List TurnLine) (t : Trace) (e : SideId) (y : TurnLine) (s new : EndState) → EndStands waits ls t e s → Said e y s new → EndStands waits (ls ++ y ∷ []) t e new
+  end_line : (ls : List TurnLine) (t : Trace) (e : SideId) (y : TurnLine) (s new : EndState) → EndStands waits ls t e s → Said e y
+      s new → EndStands waits (ls ++ y ∷ []) t e new
   end_line ls t e y s new h is = record {
-    came = ap (λ z. bytes_read e t ++ z) is.pending ∙ sym (append_assoc (bytes_read e t) s.pending (brings e y)) ∙ ap (λ z. z ++ brings e y) h.came ∙ sym (flat-push (brings e) ls y);
+    came = ap (λ z. bytes_read e t ++ z) is.pending ∙ sym (append_assoc (bytes_read e t) s.pending (brings e y)) ∙ ap
+        (λ z. z ++ brings e y) h.came ∙ sym (flat-push (brings e) ls y);
     eof = is.eof ∙ ap (λ z. z || ends e y) h.eof ∙ sym (any-push (ends e) ls y);
     read_fails = is.read_fails ∙ ap (λ z. z || fails_reads e y) h.read_fails ∙ sym (any-push (fails_reads e) ls y);
     taken = is.taken ∙ h.taken;
     may_take =
-        subst (λ z. MayTake new.may_take (list_any (allows_all e) (ls ++ y ∷ [])) (sum_by (allows e) (ls ++ y ∷ [])) (length z)) (sym is.taken)
+        subst (λ z. MayTake new.may_take (list_any (allows_all e) (ls ++ y ∷ [])) (sum_by (allows e) (ls ++ y ∷ [])) (length z))
+            (sym is.taken)
         (subst (λ z. MayTake new.may_take z (sum_by (allows e) (ls ++ y ∷ [])) (length s.taken)) (sym (any-push (allows_all e) ls y))
-        (subst (λ z. MayTake new.may_take (list_any (allows_all e) ls || allows_all e y) z (length s.taken)) (sym (sum-push (allows e) ls y))
+        (subst (λ z. MayTake new.may_take (list_any (allows_all e) ls || allows_all e y) z (length s.taken))
+            (sym (sum-push (allows e) ls y))
         (is.may_take (list_any (allows_all e) ls) (sum_by (allows e) ls) h.may_take)));
     write_fails = is.write_fails ∙ ap (λ z. z || fails_writes e y) h.write_fails ∙ sym (any-push (fails_writes e) ls y);
     wait = is.wait ∙ h.wait;
@@ -104,13 +111,16 @@ module _ (waits : List Bool) where
     connected = is.connected ∙ h.connected;
   }
 
-  links-push : (ls : List TurnLine) (t : Trace) (y : TurnLine) (l : LinksState) → links_by y ≡ [] → LinksStand waits ls t l → (opened t ≤ length (flat_map links_by (ls ++ y ∷ []))) × (l.waiting ≡ drop (opened t) (flat_map links_by (ls ++ y ∷ [])))
+  links-push : (ls : List TurnLine) (t : Trace) (y : TurnLine) (l : LinksState) → links_by y ≡ [] → LinksStand waits ls t l →
+      (opened t ≤ length (flat_map links_by (ls ++ y ∷ []))) × (l.waiting ≡ drop (opened t) (flat_map links_by (ls ++ y ∷ [])))
   links-push ls t y l none h =
-      let same : flat_map links_by (ls ++ y ∷ []) ≡ flat_map links_by ls = flat-push links_by ls y ∙ ap (λ z. flat_map links_by ls ++ z) none ∙ append-nil (flat_map links_by ls) in
+      let same : flat_map links_by (ls ++ y ∷ []) ≡ flat_map links_by ls = flat-push links_by ls y ∙ ap
+          (λ z. flat_map links_by ls ++ z) none ∙ append-nil (flat_map links_by ls) in
       (subst (λ z. opened t ≤ length z) (sym same) h.in_order, subst (λ z. l.waiting ≡ drop (opened t) z) (sym same) h.waiting)
 
   -- one line that names an end
-  at_line : (ls : List TurnLine) (t : Trace) (side : SideId) (x : TurnLine) (l : LinksState) → links_by x ≡ [] → ((e : SideId) → is_named x e ≡ same_end side e) → LinksStand waits ls t l →
+  at_line : (ls : List TurnLine) (t : Trace) (side : SideId) (x : TurnLine) (l : LinksState) → links_by x ≡ [] →
+      ((e : SideId) → is_named x e ≡ same_end side e) → LinksStand waits ls t l →
       LinksStand waits (ls ++ x ∷ []) t (at_end side (end_after_line l.turn x) l)
   at_line ls t side x l none named h =
       let lists = links-push ls t x l none h in record {
@@ -127,11 +137,14 @@ module _ (waits : List Bool) where
         beyond = λ e found. h.beyond e (none_changed side e (end_after_line l.turn x) l found);
       }
 
-  pub line_stands : (ls : List TurnLine) (t : Trace) (x : TurnLine) (l : LinksState) → LinksStand waits ls t l → LinksStand waits (ls ++ x ∷ []) t (after_line x l)
+  pub line_stands : (ls : List TurnLine) (t : Trace) (x : TurnLine) (l : LinksState) → LinksStand waits ls t l → LinksStand waits
+      (ls ++ x ∷ []) t (after_line x l)
   line_stands ls t (line.NewLink wait) l h =
       let more = flat-push links_by ls (line.NewLink wait) in record {
-        in_order = (let before = h.in_order in let long = length-append (flat_map links_by ls) (wait ∷ []) in subst (λ z. opened t ≤ length z) (sym more) (omega (arith, before, long)));
-        waiting = ap (λ z. z ++ wait ∷ []) h.waiting ∙ sym (drop-append-le (opened t) (flat_map links_by ls) (wait ∷ []) h.in_order) ∙ ap (drop (opened t)) (sym more);
+        in_order = (let before = h.in_order in let long = length-append (flat_map links_by ls) (wait ∷ []) in subst
+            (λ z. opened t ≤ length z) (sym more) (omega (arith, before, long)));
+        waiting = ap (λ z. z ++ wait ∷ []) h.waiting ∙ sym (drop-append-le (opened t) (flat_map links_by ls) (wait ∷ [])
+            h.in_order) ∙ ap (drop (opened t)) (sym more);
         ends = λ e s found. end_line ls t e (line.NewLink wait) s s (h.ends e s found) (not_said (line.NewLink wait) e s refl);
         beyond = h.beyond;
       }
@@ -151,7 +164,8 @@ module _ (waits : List Bool) where
   line_stands ls t (line.Spur side) l h = at_line ls t side (line.Spur side) l refl (λ e. refl) h
 
   -- lines in their order
-  pub lines_stand : (ls : List TurnLine) (t : Trace) (xs : List TurnLine) (l : LinksState) → LinksStand waits ls t l → LinksStand waits (ls ++ xs) t (after_lines xs l)
+  pub lines_stand : (ls : List TurnLine) (t : Trace) (xs : List TurnLine) (l : LinksState) → LinksStand waits ls t l → LinksStand
+      waits (ls ++ xs) t (after_lines xs l)
   lines_stand ls t [] l h = subst (λ z. LinksStand waits z t l) (sym (append-nil ls)) h
   lines_stand ls t (x ∷ xs) l h =
       subst (λ z. LinksStand waits z t (after_lines (x ∷ xs) l)) (append_assoc ls (x ∷ []) xs)

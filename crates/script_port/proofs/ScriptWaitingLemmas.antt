@@ -29,7 +29,8 @@ none_to_accept [] h = refl
 none_to_accept (wait ∷ ws) h = absurd (cc)
 
 -- a poll that was asked is ready to accept unless none waits
-none_to_open : (accept : Bool) (ws : List Bool) → accept ≡ true → polled.Ready (accept && not (nat_eq (length ws) 0)) ≡ polled.Ready false → ws ≡ []
+none_to_open : (accept : Bool) (ws : List Bool) → accept ≡ true → polled.Ready (accept && not (nat_eq (length ws) 0)) ≡
+    polled.Ready false → ws ≡ []
 none_to_open true [] e h = refl
 none_to_open true (wait ∷ ws) e h =
     elim (eqb_tells (length (wait ∷ ws)) 0) [
@@ -41,7 +42,8 @@ none_to_open false ws e h = absurd (cc)
 pub none_at_poll : (p : PortState) (accept : Bool) → accept ≡ true → poll_answer p accept ≡ polled.Ready false → p.links.waiting ≡ []
 none_at_poll p accept asked none = by_line p.links.poll_fails none
   where
-    by_line : (b : Bool) → (if b then polled.Failed else polled.Ready (accept && not (nat_eq (length p.links.waiting) 0))) ≡ polled.Ready false → p.links.waiting ≡ []
+    by_line : (b : Bool) → (if b then polled.Failed else polled.Ready (accept && not (nat_eq (length p.links.waiting) 0))) ≡
+        polled.Ready false → p.links.waiting ≡ []
     by_line true h = absurd (cc)
     by_line false h = none_to_open accept p.links.waiting asked h
 
@@ -49,7 +51,8 @@ pub waiting-wants : (ws : List Want) (l : LinksState) → (after_wants ws l).wai
 waiting-wants ws l = (like-wants ws l).waiting
 
 -- Behind a trace that is called for, all that a script port is said to have taken was taken by its script.
-pub took_called : (turns : List ScriptTurn) (links : ℕ) (t : Trace) → IsCalledFor turns t → AllTaken (NoneWaits turns) links t → TookAll turns links t
+pub took_called : (turns : List ScriptTurn) (links : ℕ) (t : Trace) → IsCalledFor turns t → AllTaken (NoneWaits turns) links t →
+    TookAll turns links t
 took_called turns links t called (inl none) = inl (none called)
 took_called turns links t called (inr many) = inr many
 
@@ -57,9 +60,11 @@ only_if : (b : Bool) (P Q : Type 0) → (P → Q) → MatchBool b P ⊤ → Matc
 only_if true P Q f h = f h
 only_if false P Q f h = h
 
-pub always_called : (turns : List ScriptTurn) (links : ℕ) (before t : Trace) → IsCalledFor turns (before ++ t) → AlwaysAllTaken (NoneWaits turns) links before t → AlwaysTookAll turns links before t
+pub always_called : (turns : List ScriptTurn) (links : ℕ) (before t : Trace) → IsCalledFor turns (before ++ t) → AlwaysAllTaken
+    (NoneWaits turns) links before t → AlwaysTookAll turns links before t
 always_called turns links before [] called h = tt
 always_called turns links before (x ∷ t) called h = (
-  only_if (is_behind_accepting x) (AllTaken (NoneWaits turns) links before) (TookAll turns links before) (took_called turns links before (called_before turns before (x ∷ t) called)) h.0,
+  only_if (is_behind_accepting x) (AllTaken (NoneWaits turns) links before) (TookAll turns links before)
+      (took_called turns links before (called_before turns before (x ∷ t) called)) h.0,
   always_called turns links (before ++ x ∷ []) t (subst (IsCalledFor turns) (sym (append_assoc before (x ∷ []) t)) called) h.1,
 )

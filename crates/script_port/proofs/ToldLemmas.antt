@@ -40,7 +40,8 @@ EndWent-nothing step = record {
 
 -- Ends by their numbers
 
-same_number : (l m : ℕ) (s t : Side) → 2 * l + half s ≡ 2 * m + half t → ◌≡◌ {A = SideId} (record { link = l; side = s }) (record { link = m; side = t })
+same_number : (l m : ℕ) (s t : Side) → 2 * l + half s ≡ 2 * m + half t → ◌≡◌ {A = SideId} (record { link = l; side = s })
+    (record { link = m; side = t })
 same_number l m In In e = ap (λ n. record { link = n; side = In }) (omega arith)
 same_number l m Out Out e = ap (λ n. record { link = n; side = Out }) (omega arith)
 same_number l m In Out e = absurd (omega arith)
@@ -49,7 +50,8 @@ same_number l m Out In e = absurd (omega arith)
 pub other_number : (a b : SideId) → a ≢ b → number a ≢ number b
 other_number a b h e = h (same_number a.link b.link a.side b.side e)
 
-same_by_parts : (l m : ℕ) (s t : Side) → ((nat_eq l m && same_side s t ≡ true) × (2 * l + half s ≡ 2 * m + half t)) ⊎ ((nat_eq l m && same_side s t ≡ false) × (2 * l + half s ≢ 2 * m + half t))
+same_by_parts : (l m : ℕ) (s t : Side) → ((nat_eq l m && same_side s t ≡ true) × (2 * l + half s ≡ 2 * m + half t)) ⊎
+    ((nat_eq l m && same_side s t ≡ false) × (2 * l + half s ≢ 2 * m + half t))
 same_by_parts l m In In = elim (eqb_tells l m) [ inl t ↦ inl (rw t.0, omega (arith, t.1)) | inr t ↦ inr (rw t.0, λ e. t.1 (omega arith)) ]
 same_by_parts l m Out Out = elim (eqb_tells l m) [ inl t ↦ inl (rw t.0, omega (arith, t.1)) | inr t ↦ inr (rw t.0, λ e. t.1 (omega arith)) ]
 same_by_parts l m In Out = inr (elim (cases_Bool (nat_eq l m)) [ inl t ↦ rw t | inr t ↦ rw t ], λ e. absurd (omega arith))
@@ -61,13 +63,15 @@ same_end_tells a b = same_by_parts a.link b.link a.side b.side
 
 -- A change at one end
 
-pub went_if : (f : EndState → EndState) (step : EndStep) (o : Option EndState) → ((s : EndState) → o ≡ Some s → EndWent (told_of_end s) (told_of_end (f s)) step) →
+pub went_if : (f : EndState → EndState) (step : EndStep) (o : Option EndState) → ((s : EndState) → o ≡ Some s → EndWent
+    (told_of_end s) (told_of_end (f s)) step) →
     EndWent (option_map_or told_of_end o nothing_told) (option_map_or told_of_end (option_map f o) nothing_told) step
 went_if f step None h = EndWent-nothing step
 went_if f step (Some s) h = h s refl
 
 -- one end goes a step, and no other does
-pub ends_step : (l : LinksState) (end : SideId) (f : EndState → EndState) (step : EndStep) → ((s : EndState) → end_of l end ≡ Some s → EndWent (told_of_end s) (told_of_end (f s)) step) →
+pub ends_step : (l : LinksState) (end : SideId) (f : EndState → EndState) (step : EndStep) →
+    ((s : EndState) → end_of l end ≡ Some s → EndWent (told_of_end s) (told_of_end (f s)) step) →
     EndsWent (ends_told l) (ends_told (at_end end f l)) end step
 ends_step l end f step h = record {
   own =
@@ -78,12 +82,14 @@ ends_step l end f step h = record {
       rw elsewhere (EndWent-none (ends_told l e));
 }
 
-kept_if : {X : Type 0} (g : EndState → X) (d : X) (f : EndState → EndState) → ((s : EndState) → g (f s) ≡ g s) → (o : Option EndState) → option_map_or g (option_map f o) d ≡ option_map_or g o d
+kept_if : {X : Type 0} (g : EndState → X) (d : X) (f : EndState → EndState) → ((s : EndState) → g (f s) ≡ g s) →
+    (o : Option EndState) → option_map_or g (option_map f o) d ≡ option_map_or g o d
 kept_if g d f h None = refl
 kept_if g d f h (Some s) = h s
 
 -- a change that leaves what is seen of an end
-pub kept_at_end : {X : Type 0} (g : EndState → X) (d : X) (l : LinksState) (end e : SideId) (f : EndState → EndState) → ((s : EndState) → g (f s) ≡ g s) →
+pub kept_at_end : {X : Type 0} (g : EndState → X) (d : X) (l : LinksState) (end e : SideId) (f : EndState → EndState) →
+    ((s : EndState) → g (f s) ≡ g s) →
     option_map_or g (end_of (at_end end f l) e) d ≡ option_map_or g (end_of l e) d
 kept_at_end g d l end e f h =
     elim (cases_eq (number e) (number end)) [

@@ -25,7 +25,8 @@ run-in-place limit n count last (x ∷ src) (suc used) e =
     ∙ (λ i. goes_on false (x ∷ []) (ih i))
 
 -- it doesn't stop, since it goes on up to its limit
-no-stop : (m : ℕ) (all over room : Bool) → (room ≡ true → all ≡ true) → (if room && (not all || (over && false)) then Some m else None) ≡ None
+no-stop : (m : ℕ) (all over room : Bool) → (room ≡ true → all ≡ true) → (if room && (not all || (over && false)) then Some m
+    else None) ≡ None
 no-stop m all over false h = refl
 no-stop m true true true h = refl
 no-stop m true false true h = refl
@@ -74,7 +75,8 @@ step-in-place before going unstopped over limit n src used e =
     ∙ ap running ran
     ∙ (λ i. record {
       used = used;
-      made = (ap (λ z. take used src ++ z) (no-end ((used == length src) && over && not false && (not false || room))) ∙ append-nil (take used src)) i;
+      made = (ap (λ z. take used src ++ z) (no-end ((used == length src) && over && not false && (not false || room))) ∙ append-nil
+          (take used src)) i;
       after = record y {
         finished = over-at-end (used == length src) over room i;
         stopped = no-stop y.used (used == length src) over room all i;

@@ -15,6 +15,7 @@ loop-left-preserved c = (
       let none : Waking = record { event = 0; priority = 0 } in
       let count : c.loop-left.left ≡ i + 1 = omega arith in
       c.pop_last.ensures.left
-      ∙ ap (λ qs. without_last qs (get_or waking i none).priority) (c.loop-left.invariant.1 queues can e ∙ ap (λ n. appended_all queues (take n waking)) count)
+      ∙ ap (λ qs. without_last qs (get_or waking i none).priority) (c.loop-left.invariant.1 queues can e ∙ ap
+          (λ n. appended_all queues (take n waking)) count)
       ∙ appended_all-less queues waking i none can (omega arith),
 )

@@ -10,7 +10,8 @@ pub returns : goal.returns
 returns c = λ script p t closing answer vouches asked took ends.
     let same = vouches.0 in
     let stands = stands_if p script.turns t vouches (subst (λ turns. IsCalledFor turns t) (sym same) asked) in record {
-      answered = subst (λ turns. IsAnswered turns (closing_step (script_played script).settings) t) same (stands.answered (closing_step (script_played script).settings));
+      answered = subst (λ turns. IsAnswered turns (closing_step (script_played script).settings) t) same
+          (stands.answered (closing_step (script_played script).settings));
       took_all = took;
       turns = ends;
     }

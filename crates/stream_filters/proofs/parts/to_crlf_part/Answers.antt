@@ -10,7 +10,8 @@ put-requires-2 c =
     let src = c.args.src.now in
     let old = c.args.dst.now in
     let plain = plain-crlf c.args.known.now.last (take used src) c.length_before-used.ensures.others in
-    let room = plain-room kind.ToCrlf c.args.limit c.args.known.now.used c.args.known.now.last src old.items used old.cap c.length_before-used.ensures.within (omega arith) plain c.requires.room in
+    let room = plain-room kind.ToCrlf c.args.limit c.args.known.now.used c.args.known.now.last src old.items used old.cap
+        c.length_before-used.ensures.within (omega arith) plain c.requires.room in
     omega (arith, room)
 
 pub returns-clause-part : goal.returns-clause-part

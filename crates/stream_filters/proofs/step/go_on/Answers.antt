@@ -57,7 +57,8 @@ returns-in-Some-clause-answers c =
     let over = is_last c.args.mode in
     let after = c.run-used.new.known in
     let mid = c.run-used.new.dst in
-    let ran = subst (λ z. RanOver k c.args.limit known src z after mid.items c.run-used.result) c.in_ok-reserve.ensures.items c.run-used.ensures.ran in
+    let ran = subst (λ z. RanOver k c.args.limit known src z after mid.items c.run-used.result) c.in_ok-reserve.ensures.items
+        c.run-used.ensures.ran in
     let room : nat_lt c.len-2.result c.args.limit ≡ nat_lt (length mid.items) c.args.limit =
     ap (λ m. nat_lt m c.args.limit) (let e : c.len-2.result ≡ length mid.items = omega arith in e) in
     let fin = c.is_over-known.ensures
@@ -68,10 +69,12 @@ returns-in-Some-clause-answers c =
       stopped-is k c.args.limit over known src old.items c.requires.open c.requires.unstopped after mid.items c.run-used.result ran
           ∙ sym stop ∙ c.in-Some.is,
       record {
-        after_it = after-is k c.args.limit over known src old.items c.requires.open c.requires.unstopped after mid.items c.run-used.result ran c.is_over-known.result c.stop_place-known.result fin stop;
+        after_it = after-is k c.args.limit over known src old.items c.requires.open c.requires.unstopped after mid.items
+            c.run-used.result ran c.is_over-known.result c.stop_place-known.result fin stop;
         filled_by_it =
             c.put.ensures.items ∙ ap (λ z. mid.items ++ z) c.end_bytes.ensures
-            ∙ filled-is k c.args.limit over known src old.items c.requires.open c.requires.unstopped after mid.items c.run-used.result ran c.is_over-known.result fin;
+            ∙ filled-is k c.args.limit over known src old.items c.requires.open c.requires.unstopped after mid.items
+                c.run-used.result ran c.is_over-known.result fin;
       },
     )
 
@@ -84,7 +87,8 @@ returns-in-None-clause-answers c =
     let over = is_last c.args.mode in
     let after = c.run-used.new.known in
     let mid = c.run-used.new.dst in
-    let ran = subst (λ z. RanOver k c.args.limit known src z after mid.items c.run-used.result) c.in_ok-reserve.ensures.items c.run-used.ensures.ran in
+    let ran = subst (λ z. RanOver k c.args.limit known src z after mid.items c.run-used.result) c.in_ok-reserve.ensures.items
+        c.run-used.ensures.ran in
     let room : nat_lt c.len-2.result c.args.limit ≡ nat_lt (length mid.items) c.args.limit =
     ap (λ m. nat_lt m c.args.limit) (let e : c.len-2.result ≡ length mid.items = omega arith in e) in
     let fin = c.is_over-known.ensures
@@ -93,13 +97,17 @@ returns-in-None-clause-answers c =
     ∙ (λ i. stop_place (running_of k after) (c.run-used.result == length src) (c.ends_stream-over.ensures i) (room i)) in (
       record {
         used = used-is k c.args.limit over known src old.items c.requires.open c.requires.unstopped after mid.items c.run-used.result ran;
-        finished = fin ∙ sym (finished-is k c.args.limit over known src old.items c.requires.open c.requires.unstopped after mid.items c.run-used.result ran);
-        unstopped = stopped-is k c.args.limit over known src old.items c.requires.open c.requires.unstopped after mid.items c.run-used.result ran ∙ sym stop ∙ c.in-None.is;
+        finished = fin ∙ sym (finished-is k c.args.limit over known src old.items c.requires.open c.requires.unstopped after
+            mid.items c.run-used.result ran);
+        unstopped = stopped-is k c.args.limit over known src old.items c.requires.open c.requires.unstopped after mid.items
+            c.run-used.result ran ∙ sym stop ∙ c.in-None.is;
       },
       record {
-        after_it = after-is k c.args.limit over known src old.items c.requires.open c.requires.unstopped after mid.items c.run-used.result ran c.is_over-known.result c.stop_place-known.result fin stop;
+        after_it = after-is k c.args.limit over known src old.items c.requires.open c.requires.unstopped after mid.items
+            c.run-used.result ran c.is_over-known.result c.stop_place-known.result fin stop;
         filled_by_it =
             c.put.ensures.items ∙ ap (λ z. mid.items ++ z) c.end_bytes.ensures
-            ∙ filled-is k c.args.limit over known src old.items c.requires.open c.requires.unstopped after mid.items c.run-used.result ran c.is_over-known.result fin;
+            ∙ filled-is k c.args.limit over known src old.items c.requires.open c.requires.unstopped after mid.items
+                c.run-used.result ran c.is_over-known.result fin;
       },
     )

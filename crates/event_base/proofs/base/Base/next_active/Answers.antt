@@ -21,7 +21,8 @@ record Front (x : Inside) (number : ℕ) : Type 0 where
   within : number < length x.events.items
   next : next_event (base_of x) ≡ Some number
 
-front-of : (x : Inside) (number : ℕ) → AreKept x.events.items x.deadlines x.ready → IsNext x.batch_priority x.batch_end x.ready.places (Some number) → Front x number
+front-of : (x : Inside) (number : ℕ) → AreKept x.events.items x.deadlines x.ready → IsNext x.batch_priority x.batch_end
+    x.ready.places (Some number) → Front x number
 front-of x number kept found =
     let there = next-there (base_of x) x.ready.places number kept.placed found in
     record {
@@ -30,19 +31,22 @@ front-of x number kept found =
     }
 
 -- the event that was looked up stands in the list that is kept
-kept-is : {seen items : List Event} (e : Event) (number : ℕ) → seen ≡ items → Some e ≡ slice_get seen number → slice_get items number ≡ Some e
+kept-is : {seen items : List Event} (e : Event) (number : ℕ) → seen ≡ items → Some e ≡ slice_get seen number → slice_get items
+    number ≡ Some e
 kept-is e number same found = sym (found ∙ ap (λ xs. slice_get xs number) same)
 
 pub returns-in_default-clause-fire : goal.returns-in_default-clause-fire
 returns-in_default-clause-fire c =
     let b = base_of c.self.inside in
-    let none : next_event b ≡ None = next_event-is b c.self.inside.ready.places (made false None 0) None c.self.invariant.kept.placed c.in_default.ensures in
+    let none : next_event b ≡ None = next_event-is b c.self.inside.ready.places (made false None 0) None
+        c.self.invariant.kept.placed c.in_default.ensures in
     rw (← c.self.view_is) (sym (next_fire-none b c.if-self.false none))
 
 pub returns-in_default-clause-ok : goal.returns-in_default-clause-ok
 returns-in_default-clause-ok c =
     let b = base_of c.self.inside in
-    let none : next_event b ≡ None = next_event-is b c.self.inside.ready.places (made false None 0) None c.self.invariant.kept.placed c.in_default.ensures in
+    let none : next_event b ≡ None = next_event-is b c.self.inside.ready.places (made false None 0) None
+        c.self.invariant.kept.placed c.in_default.ensures in
     rw (← c.self.view_is) (next_active-none b c.if-self.false none)
 
 pub overflow_cast-event : goal.overflow_cast-event
@@ -64,11 +68,14 @@ returns-in_err-timeout-clause-refused c =
     let front = front-of c.self.inside number c.self.invariant.kept c.in-Some.ensures in
     let is = kept-is c.in-Some-event_at.kept number c.deref.ensures.value c.in-Some-event_at.ensures in
     let p = err_from_is_err_and c.from_residual.result c.from_residual.ensures.1 in
-    let past = is_past_numbers c.self.inside.time (c.self.inside.deadlines.last + 1) c.in-Some-active.active.flags c.in-Some-event_at.kept in
-    let step = next_active-call b number c.in-Some-event_at.kept c.in-Some-active.active c.if-self.false front.next is c.in-Some-active.is in
+    let past = is_past_numbers c.self.inside.time (c.self.inside.deadlines.last + 1) c.in-Some-active.active.flags
+        c.in-Some-event_at.kept in
+    let step = next_active-call b number c.in-Some-event_at.kept c.in-Some-active.active c.if-self.false front.next is
+        c.in-Some-active.is in
     subst (λ (v : BaseValue). IfErr c.from_residual.result (λ fault. IsAnswer fault (next_active v))) c.self.view_is
     (if_err c.from_residual.result p.0 (λ fault. IsAnswer fault (next_active b)) p.1
-    (answer-spent past (next_active b) (called_base b number c.in-Some-event_at.kept c.in-Some-active.active) p.0 step (p.2 ∙ c.in_err-timeout.ensures.refused)))
+    (answer-spent past (next_active b) (called_base b number c.in-Some-event_at.kept c.in-Some-active.active) p.0 step
+        (p.2 ∙ c.in_err-timeout.ensures.refused)))
 
 pub index_mut-requires : goal.index_mut-requires
 index_mut-requires c =
@@ -84,7 +91,8 @@ invariant_of-self-2 c =
     let is = kept-is c.in-Some-event_at.kept number c.deref.ensures.value c.in-Some-event_at.ensures in
     record {
       kept = rw (c.rest_front_unless.ensures, c.is_active.ensures, c.called-called.ensures)
-          (called-kept c.self.inside.events.items c.self.inside.deadlines c.set_again.new.deadlines c.self.inside.ready number c.in-Some-event_at.kept
+          (called-kept c.self.inside.events.items c.self.inside.deadlines c.set_again.new.deadlines c.self.inside.ready number
+              c.in-Some-event_at.kept
           c.in-Some-active.active c.in_ok-timeout.timeout c.self.invariant.kept is c.in-Some-active.is c.in_ok-timeout.ensures.moments);
       early = c.self.invariant.early;
     }
@@ -95,7 +103,8 @@ returns-clause-fire c =
     let number = c.in-Some.number in
     let front = front-of c.self.inside number c.self.invariant.kept c.in-Some.ensures in
     let is = kept-is c.in-Some-event_at.kept number c.deref.ensures.value c.in-Some-event_at.ensures in
-    rw (← c.self.view_is) (sym (next_fire-call b number c.in-Some-event_at.kept c.in-Some-active.active c.if-self.false front.next is c.in-Some-active.is))
+    rw (← c.self.view_is) (sym (next_fire-call b number c.in-Some-event_at.kept c.in-Some-active.active c.if-self.false front.next
+        is c.in-Some-active.is))
 
 pub returns-clause-ok : goal.returns-clause-ok
 returns-clause-ok c =
@@ -105,4 +114,5 @@ returns-clause-ok c =
     let is = kept-is c.in-Some-event_at.kept number c.deref.ensures.value c.in-Some-event_at.ensures in
     let step = next_active-call b number c.in-Some-event_at.kept c.in-Some-active.active c.if-self.false front.next is c.in-Some-active.is
     ∙ call-ok b number c.in-Some-event_at.kept c.in-Some-active.active c.in_ok-timeout.ensures.fits in
-    rw (← c.self.view_is, c.called-called.ensures, c.in_ok-timeout.ensures.timeout, c.in_ok-timeout.ensures.last, c.rest_front_unless.ensures) step
+    rw (← c.self.view_is, c.called-called.ensures, c.in_ok-timeout.ensures.timeout, c.in_ok-timeout.ensures.last,
+        c.rest_front_unless.ensures) step

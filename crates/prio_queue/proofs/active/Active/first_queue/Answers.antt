@@ -4,7 +4,9 @@ use Rattle.prio_queue.proofs.QueueLemmas.{position_of_map}
 use Rattle.prio_queue.proofs.active.Active.first_queue.Goals as goal
 
 pub returns-in-Some : goal.returns-in-Some
-returns-in-Some c = rw (← c.self.view_is, position_of_map (λ (q : List ℕ). nat_lt 0 (length q)), ← c.as_slice.ensures.value) c.in-Some.ensures
+returns-in-Some c = rw (← c.self.view_is, position_of_map (λ (q : List ℕ). nat_lt 0 (length q)), ← c.as_slice.ensures.value)
+    c.in-Some.ensures
 
 pub returns-in-None : goal.returns-in-None
-returns-in-None c = rw (← c.self.view_is, position_of_map (λ (q : List ℕ). nat_lt 0 (length q)), ← c.as_slice.ensures.value) c.in-None.ensures
+returns-in-None c = rw (← c.self.view_is, position_of_map (λ (q : List ℕ). nat_lt 0 (length q)), ← c.as_slice.ensures.value)
+    c.in-None.ensures
