@@ -1,0 +1,83 @@
+-- The counts of faults of a port over sockets, and what it tells beside them: nothing.
+use Rattle.std.specs.Prelude.{◌≡◌, ⊤, Bool, ◌&&◌, List, map, None}
+use Rattle.ev_types.specs.declared.side.SideId.{SideId}
+use Rattle.ev_types.specs.Told.{EndTold, PortTold}
+use Rattle.ev_types.specs.Trace.{Trace}
+use Rattle.ev_port.specs.Faults.{Faults}
+use Rattle.ev_port.specs.declared.port.Accepted.{Accepted}
+use Rattle.ev_port.specs.declared.port.Accepted.TheVariants as accepted
+use Rattle.mio_port.specs.declared.mio_port.Pair.{Pair}
+use Rattle.mio_port.specs.declared.mio_port.Pair.TheVariants as pair
+use Rattle.mio_port.specs.declared.mio_port.MioPort.{MioPort}
+use Rattle.ev_port.specs.declared.port.Polled.{Polled}
+use Rattle.ev_port.specs.declared.port.Polled.TheVariants as polled
+use Rattle.ev_port.specs.declared.port.Want.{Want}
+use Rattle.mio_port.specs.Door.{is_open}
+use Rattle.mio_port.specs.Ends.{end_faults, marked, unmarked}
+
+-- one count for polling, one for the listener and one for each end that was made
+abbrev pub mio_faults : {R : Type 0} → MioPort R → Faults
+mio_faults p = record { ends = end_faults p.ends.ends.items; polling = p.polling_faults; listener = p.door.faults }
+
+-- it answers by no plan of its own, and vouches for no trace
+abbrev pub vouches_nothing : {P Plan : Type 0} → P → Plan → Trace → Type 0
+vouches_nothing p plan t = ⊥
+
+abbrev pub silent_port : PortTold
+silent_port = record {
+  accept_polls = None;
+  timeout = None;
+  links = None;
+  accepting = None;
+  readings = None;
+  reading = None;
+  started = None;
+}
+
+abbrev pub silent_end : SideId → EndTold
+silent_end e = record {
+  handed_out = None;
+  taken = None;
+  made_connected = None;
+  ended = None;
+  connected = None;
+  write_ended = None;
+  closed = None;
+  reads = None;
+  writes = None;
+  checks = None;
+  rooms = None;
+  offers = None;
+  read_wants = None;
+  write_wants = None;
+  read_marks = None;
+  write_marks = None;
+}
+
+-- two ends that were just made met no fault
+abbrev pub HasNoFault : Pair → Type 0
+HasNoFault (pair.Made inside outside) = (inside.faults ≡ 0) × (outside.faults ≡ 0)
+HasNoFault (pair.Not why) = ⊤
+
+-- a link was not made
+abbrev pub IsNoLink : Accepted → Type 0
+IsNoLink (accepted.Link connected) = ⊥
+IsNoLink accepted.NotYet = ⊤
+IsNoLink accepted.Failed = ⊤
+IsNoLink accepted.NoMemory = ⊤
+
+-- no fault was met yet
+pub record IsFaultless (counts : Faults) : Type 0 where
+  pub ends : (e : SideId) → counts.ends e ≡ 0
+  pub polling : counts.polling ≡ 0
+  pub listener : counts.listener ≡ 0
+
+-- what a poll marked: what was wanted and is ready, or nothing where it failed
+abbrev pub Marked : {R : Type 0} → MioPort R → List Want → List Want → Polled → Type 0
+Marked p old new (polled.Ready accept) = new ≡ map (marked p.ends.ends.items) old
+Marked p old new polled.Failed = new ≡ map unmarked old
+
+-- links are accepted where that was asked and the listener can be
+abbrev pub Accepts : {R : Type 0} → MioPort R → Bool → Polled → Type 0
+Accepts p asked (polled.Ready accept) = accept ≡ (asked && is_open p.door)
+Accepts p asked polled.Failed = ⊤

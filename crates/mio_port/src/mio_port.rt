@@ -1,0 +1,307 @@
+// The port over real sockets. Its parts keep the ends, the listener, the kernel's reports and the clock; here stands what
+// each call of a port does with them, and which count of faults it raises.
+ghost use Rattle.std.specs.Prelude.{◌≡◌, ⊤, ◌*◌, ◌+◌, ◌<◌, length, false, true, is_none, None};
+ghost use Rattle.ev_types.specs.declared.side.SideId.{SideId};
+ghost use Rattle.ev_port.specs.Faults.{FaultsStay, PollFaults, ListenerFaults};
+ghost use Rattle.ev_port.specs.Calls.{is_failed_accept};
+ghost use Rattle.ev_port.specs.Polling.{is_failed_poll};
+ghost use Rattle.mio_port.specs.PortFaults.{IsFaultless, Marked, Accepts, HasNoFault, IsNoLink, mio_faults, vouches_nothing, silent_port, silent_end};
+
+use crate::clock::SteadyClock;
+use crate::door::{Arrival, Door, arrival_of, socket_addr};
+use crate::end::End;
+use crate::ends::{Ends, in_end, out_end, unmark};
+use crate::kernel::{Kernel, cut_to};
+use ev_port::{Accepted, Addr, ConnAnswer, Polled, Port, ReadAnswer, Started, Want, WriteAnswer};
+use ev_types::SideId;
+use mio::net::TcpStream;
+use std::alloc::AllocGlobal;
+use std::io;
+use std::io::ErrorKind;
+use std::net::Net;
+use std::time::Clock;
+
+/// For so many milliseconds no link is asked for after the system had no descriptor or no memory for one, unless an end
+/// is closed sooner.
+const SCARCE_PAUSE: u64 = 100;
+
+/// A port over TCP sockets of IPv4, none of which ever blocks a call; only `poll` waits.
+///
+/// Each socket is watched for both ways from the moment it is made, and each end keeps a bit a way that says that it is
+/// ready. A report of the kernel sets the bit, an error or a hang-up sets both, and a call that finds the way blocked
+/// clears it, as does a read or a write that came short. So a call of `poll` makes at most one call of the system, whatever
+/// is wanted; and none where something wanted is ready already, but at each 16th such poll, so that nothing waits for ever
+/// behind an end that is always ready.
+///
+/// Its clauses are those of every port. It tells nothing of the bytes and vouches for no trace, since no clause can say
+/// what a socket gives. Its counts of faults are real: one for polling, one for the listener and one an end, each of 64
+/// bits, and each rises where one of its calls is answered `Failed`. An end that was made keeps its count when it is
+/// closed.
+///
+/// Only `start` and `accept` take memory: `start` a table of reports, `accept` the places of the link's ends and of those
+/// of lower numbers that weren't made. No memory is given back before the port goes, and a number is never used again. Each
+/// call takes constant time, but `poll`, which is linear in the wants and the reports, and `accept`, which is so over a
+/// run of links that are numbered in turn.
+///
+/// Own, over mio's `Poll`, `TcpListener` and `TcpStream`; libevent has it as event2/event.h, `EV_ET`, and event2/listener.h.
+/// Differs: a listener that found no descriptor is left alone for a while, where libevent's reports the error each time.
+#[derive(Drop)]
+pub struct MioPort<'a, R> {
+    rt: &'a R,
+    clock: SteadyClock,
+    kernel: Option<Kernel>,
+    door: Door,
+    ends: Ends,
+    polling_faults: u64,
+}
+
+/// The two ends of a link that came, or why none did.
+#[derive(Drop)]
+enum Pair {
+    Made(End, End),
+    Not(Arrival),
+}
+
+impl<'a, R: Net + Clock + AllocGlobal> MioPort<'a, R> {
+    /// A port that listens nowhere, has no end and met no fault. It makes no socket and takes no memory. Its clock begins
+    /// here.
+    pub fn new(rt: &'a R) -> MioPort<'a, R>
+        ensures { IsFaultless (mio_faults result) }
+    {
+        MioPort {
+            rt,
+            clock: SteadyClock::new(rt),
+            kernel: None,
+            door: Door::new(),
+            ends: Ends::new(rt.alloc()),
+            polling_faults: 0,
+        }
+    }
+
+    /// Where it listens: after a start at port 0 the port that the system chose. `None` where it doesn't listen.
+    pub fn local(&self) -> Option<Addr>
+        ensures { is_none self.now.door.listener ≡ true → result ≡ None }
+    {
+        self.door.local()
+    }
+
+    // A first listener is closed before the second one is made.
+    fn listen(&mut self, at: Addr, to: Addr) -> io::Result<()>
+        ensures { FaultsStay (mio_faults self.old) (mio_faults self.new) }
+    {
+        self.door.shut();
+        let kernel = match self.kernel.take() {
+            Some(kernel) => kernel,
+            None => Kernel::new(self.rt)?,
+        };
+        let listener = kernel.listen(self.rt, socket_addr(at));
+        self.kernel = Some(kernel);
+        self.door.open(listener?, socket_addr(to));
+        Ok(())
+    }
+
+    // A poll, with what it marks.
+    fn ready_for(&mut self, wants: &mut [Want], accept: bool, timeout: Option<u64>) -> Polled
+        ensures marked { Marked self.new wants.old wants.new result }
+        ensures asked { Accepts self.new accept result }
+        ensures cause { PollFaults (mio_faults self.old) (mio_faults self.new) (is_failed_poll result) }
+    {
+        let pause = self.pause_left();
+        let is_any = accept && self.door.is_open() || self.ends.is_any_ready(wants);
+        let most = if accept {
+            cut_to(timeout, pause)
+        } else {
+            timeout
+        };
+        if !self.look(is_any, most) {
+            unmark(wants);
+            self.polling_faults = self.polling_faults.saturating_add(1);
+            return Polled::Failed;
+        }
+        self.pause_left();
+        self.ends.mark(wants);
+        Polled::Ready {
+            accept: accept && self.door.is_open(),
+        }
+    }
+
+    // Whether the kernel could be asked, if it was.
+    fn look(&mut self, is_any: bool, timeout: Option<u64>) -> bool
+        ensures { FaultsStay (mio_faults self.old) (mio_faults self.new) }
+    {
+        let Some(kernel) = &mut self.kernel else {
+            return false;
+        };
+        if is_any && !kernel.is_due() {
+            return true;
+        }
+        if kernel.wait(if is_any { Some(0) } else { timeout }).is_err() {
+            return false;
+        }
+        kernel.tell(&mut self.ends, &mut self.door);
+        true
+    }
+
+    // Ends a pause that is over, and gives what is left of one that isn't.
+    fn pause_left(&mut self) -> Option<u64>
+        ensures { FaultsStay (mio_faults self.old) (mio_faults self.new) }
+    {
+        let to = self.door.pause_end()?;
+        let time = self.clock.read(self.rt);
+        self.door.pass_time(time);
+        self.door.pause_end()?;
+        Some(to.saturating_sub(time))
+    }
+
+    fn pause(&mut self)
+        ensures { FaultsStay (mio_faults self.old) (mio_faults self.new) }
+    {
+        let time = self.clock.read(self.rt);
+        self.door.pause(time.saturating_add(SCARCE_PAUSE));
+    }
+
+    fn pair(&self, link: u32) -> Pair
+        ensures { HasNoFault result }
+    {
+        let Some(kernel) = &self.kernel else {
+            return Pair::Not(Arrival::NoneWaits);
+        };
+        match self.door.ask() {
+            Arrival::Came(stream) => match kernel.end(stream, in_end(link).number()) {
+                Ok(inside) => Pair::Made(inside, self.outside(kernel, out_end(link).number())),
+                Err(error) => Pair::Not(arrival_of(&error)),
+            },
+            other => Pair::Not(other),
+        }
+    }
+
+    // A connection to the target that is begun, or an end that was refused.
+    fn outside(&self, kernel: &Kernel, number: usize) -> End
+        ensures { result.faults ≡ 0 }
+    {
+        let Some(target) = self.door.target() else {
+            return End::refused();
+        };
+        let Ok(stream) = TcpStream::connect(self.rt, target) else {
+            return End::refused();
+        };
+        kernel
+            .end(stream, number)
+            .unwrap_or_else(|_error| End::refused())
+    }
+
+    fn refuse(&mut self, why: Arrival) -> Accepted
+        ensures cause { ListenerFaults (mio_faults self.old) (mio_faults self.new) (is_failed_accept result) }
+        ensures none { IsNoLink result }
+    {
+        match why {
+            Arrival::NoneWaits => self.door.ran_out(),
+            Arrival::Came(_) | Arrival::Again => {}
+            Arrival::Scarce => self.pause(),
+            Arrival::Failed => {
+                self.door.count_fault();
+                return Accepted::Failed;
+            }
+        }
+        Accepted::NotYet
+    }
+}
+
+/// What the trait leaves open, call by call:
+///
+/// - `start` listens with `SO_REUSEADDR` and the longest queue that the system allows. It is `Failed`, at the listener's
+///   count, where the address can't be had, and `NoMemory` where the table of reports or the kernel finds none. A second
+///   start closes the first listener before it makes its own, and leaves the ends. After one that failed nothing listens.
+/// - `now` is in milliseconds since the port was made and never falls. Where the system's clock can't be read it is the
+///   last reading.
+/// - `poll` is `Failed`, at the count of polling, before the first start and where the kernel refuses to wait; then nothing
+///   is marked. A wait that a signal interrupts is ready for nothing. A timeout is in milliseconds, `None` is for ever, and
+///   more than 24 days are cut to that.
+/// - `accept` makes both ends with `TCP_NODELAY`. The Out end is never connected yet: its check decides, also where its
+///   connection couldn't be begun. `NoMemory` comes before anything is accepted. `NotYet` comes for a link that was
+///   accepted before, where none waits, where one went before it was taken, and where the system is short of
+///   descriptors, buffers or memory: then no link is asked for until an end is closed or 100 ms passed, and a poll
+///   that asks for links waits no longer than that. Each other error is `Failed`, at the listener's count, and leaves the
+///   listener ready.
+/// - `connect_state` is `Failed`, at the end's count, for a connection that was refused or that broke, and stays so.
+/// - `read` and `write` are `NotYet` where they would block or were interrupted, and at an end that was closed or never
+///   made; a write that takes no byte is `Failed`, as is every other error. No signal comes of a peer that is gone.
+/// - `close_write` ignores what the system says, and `close` drops the socket with all that wasn't read.
+impl<'a, R: Net + Clock + AllocGlobal> Port for MioPort<'a, R> {
+    ghost use Rattle.std.specs.Prelude.{⊤};
+
+    ghost Plan = { ⊤ };
+
+    ghost vouches = { vouches_nothing };
+
+    ghost none_waits = { λ _ _. ⊤ };
+
+    ghost faults = { mio_faults };
+
+    ghost ends = { λ _. silent_end };
+
+    ghost told = { λ _. silent_port };
+
+    fn start(&mut self, listen: Addr, to: Addr) -> Started {
+        match self.listen(listen, to) {
+            Ok(()) => Started::Started,
+            Err(error) if error.kind() == ErrorKind::OutOfMemory => Started::NoMemory,
+            Err(_) => {
+                self.door.count_fault();
+                Started::Failed
+            }
+        }
+    }
+
+    fn now(&mut self) -> u64 {
+        self.clock.read(self.rt)
+    }
+
+    fn poll(&mut self, wants: &mut [Want], accept: bool, timeout: Option<u64>) -> Polled {
+        self.ready_for(wants, accept, timeout)
+    }
+
+    fn accept(&mut self, link: u32) -> Accepted {
+        if self.ends.holds(link) {
+            return Accepted::NotYet;
+        }
+        if self.ends.make_room(link).is_err() {
+            return Accepted::NoMemory;
+        }
+        match self.pair(link) {
+            Pair::Made(inside, outside) => {
+                self.ends.put(link, inside, outside);
+                Accepted::Link { connected: false }
+            }
+            Pair::Not(why) => self.refuse(why),
+        }
+    }
+
+    fn connect_state(&mut self, end: SideId) -> ConnAnswer {
+        self.ends.check(end)
+    }
+
+    fn read(&mut self, end: SideId, into: &mut [u8]) -> ReadAnswer {
+        self.ends.read(end, into)
+    }
+
+    fn write(&mut self, end: SideId, from: &[u8]) -> WriteAnswer {
+        self.ends.write(end, from)
+    }
+
+    fn close_write(&mut self, end: SideId) {
+        self.ends.close_write(end);
+    }
+
+    fn close(&mut self, end: SideId) {
+        self.ends.close(end);
+        self.door.end_pause();
+    }
+
+    ghost waits_no_more = { λ plan t u quiet waits. waits };
+
+    ghost unheard = { λ p e unheard plan t vouched. vouched };
+}
+
+#[cfg(test)]
+mod pauses;
