@@ -6,3 +6,5 @@ pub mod Ends
 pub mod Door
 pub mod Waiting
 pub mod PortFaults
+pub mod Answers
+pub mod PortCalls

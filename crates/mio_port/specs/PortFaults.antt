@@ -19,9 +19,13 @@ use Rattle.mio_port.specs.Ends.{end_faults, marked, unmarked}
 abbrev pub mio_faults : {R : Type 0} → MioPort R → Faults
 mio_faults p = record { ends = end_faults p.ends.ends.items; polling = p.polling_faults; listener = p.door.faults }
 
--- it answers by no plan of its own, and vouches for no trace
-abbrev pub vouches_nothing : {P Plan : Type 0} → P → Plan → Trace → Type 0
+-- it answers by no plan that tells anything, and vouches for no trace
+abbrev pub vouches_nothing : {R : Type 0} → MioPort R → ⊤ → Trace → Type 0
 vouches_nothing p plan t = ⊥
+
+-- so nothing rests on what this says of links that wait
+abbrev pub waits_untold : ⊤ → Trace → Type 0
+waits_untold plan t = ⊤
 
 abbrev pub silent_port : PortTold
 silent_port = record {
@@ -54,30 +58,8 @@ silent_end e = record {
   write_marks = None;
 }
 
--- two ends that were just made met no fault
-abbrev pub HasNoFault : Pair → Type 0
-HasNoFault (pair.Made inside outside) = (inside.faults ≡ 0) × (outside.faults ≡ 0)
-HasNoFault (pair.Not why) = ⊤
-
--- a link was not made
-abbrev pub IsNoLink : Accepted → Type 0
-IsNoLink (accepted.Link connected) = ⊥
-IsNoLink accepted.NotYet = ⊤
-IsNoLink accepted.Failed = ⊤
-IsNoLink accepted.NoMemory = ⊤
-
 -- no fault was met yet
 pub record IsFaultless (counts : Faults) : Type 0 where
   pub ends : (e : SideId) → counts.ends e ≡ 0
   pub polling : counts.polling ≡ 0
   pub listener : counts.listener ≡ 0
-
--- what a poll marked: what was wanted and is ready, or nothing where it failed
-abbrev pub Marked : {R : Type 0} → MioPort R → List Want → List Want → Polled → Type 0
-Marked p old new (polled.Ready accept) = new ≡ map (marked p.ends.ends.items) old
-Marked p old new polled.Failed = new ≡ map unmarked old
-
--- links are accepted where that was asked and the listener can be
-abbrev pub Accepts : {R : Type 0} → MioPort R → Bool → Polled → Type 0
-Accepts p asked (polled.Ready accept) = accept ≡ (asked && is_open p.door)
-Accepts p asked polled.Failed = ⊤

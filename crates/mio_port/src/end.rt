@@ -1,9 +1,10 @@
 // One end: its connection, what the kernel told of it, and its count of faults.
-ghost use Rattle.std.specs.Prelude.{◌≡◌, ◌<◌, length, false, true};
+ghost use Rattle.std.specs.Prelude.{◌≡◌, ◌<◌, length, false, true, Some};
 ghost use Rattle.stream_words.specs.Faults.{Counted};
 ghost use Rattle.ev_port.specs.Ends.{ReadWithin, is_failed_read, WriteWithin, is_failed_write, is_failed_conn};
 ghost use Rattle.mio.specs.Event as event;
 ghost use Rattle.mio_port.specs.Attempts.{AttemptBy, CheckBy, check_of, read_answer, write_answer, check_answer};
+ghost use Rattle.mio_port.specs.Answers.{ReadBy, WrittenBy, CheckedBy};
 ghost use Rattle.mio_port.specs.End.{fresh, read_end, written_end, checked_end, noticed_end, closed_end};
 
 use crate::attempt::{Attempt, attempt_of};
@@ -163,8 +164,7 @@ impl End {
         ensures within { ReadWithin result (length into.new) }
         ensures cause { Counted self.old.faults self.new.faults (is_failed_read result) }
         ensures other_way { self.new.write_ready ≡ self.old.write_ready }
-        ensures refused { self.old.connection ≡ Connection.Refused → result ≡ ReadAnswer.Failed }
-        ensures closed { self.old.connection ≡ Connection.Closed → result ≡ ReadAnswer.NotYet }
+        ensures by { ReadBy (Some self.old.connection) result }
     {
         let attempt = self.connection.read(into);
         self.take_read(attempt, into.len())
@@ -200,8 +200,7 @@ impl End {
         ensures within { WriteWithin result (length from.now) }
         ensures cause { Counted self.old.faults self.new.faults (is_failed_write result) }
         ensures other_way { self.new.read_ready ≡ self.old.read_ready }
-        ensures refused { self.old.connection ≡ Connection.Refused → result ≡ WriteAnswer.Failed }
-        ensures closed { self.old.connection ≡ Connection.Closed → result ≡ WriteAnswer.NotYet }
+        ensures by { WrittenBy (Some self.old.connection) result }
     {
         let attempt = self.connection.write(from);
         self.take_write(attempt, from.len())
@@ -231,8 +230,7 @@ impl End {
     pub(crate) fn check(&mut self) -> ConnAnswer
         ensures cause { Counted self.old.faults self.new.faults (is_failed_conn result) }
         ensures other_way { self.new.read_ready ≡ self.old.read_ready }
-        ensures refused { self.old.connection ≡ Connection.Refused → result ≡ ConnAnswer.Failed }
-        ensures closed { self.old.connection ≡ Connection.Closed → result ≡ ConnAnswer.Pending }
+        ensures by { CheckedBy (Some self.old.connection) result }
         ensures failed { result ≡ ConnAnswer.Failed → self.new.connection ≡ Connection.Refused }
     {
         let check = self.connection.check();

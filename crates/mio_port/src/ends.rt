@@ -4,8 +4,10 @@ ghost use Rattle.std.specs.List.{list_any};
 ghost use Rattle.stream_words.specs.Faults.{Counted};
 ghost use Rattle.ev_port.specs.Ends.{ReadWithin, is_failed_read, WriteWithin, is_failed_write, is_failed_conn};
 ghost use Rattle.ev_types.specs.Sides.{number};
+ghost use Rattle.mio_port.specs.Answers.{connection_of, connection_at, ReadBy, WrittenBy, CheckedBy};
+ghost use Rattle.mio_port.specs.PortCalls.{OthersStay};
 ghost use Rattle.mio_port.specs.End.{noticed_end, closed_end};
-ghost use Rattle.mio_port.specs.Ends.{faults_of, is_there, CountsStay, CountsAt, PlacesStay, PlaceWent, holds, is_made, can_read, can_write, wants_ready, marked, unmarked};
+ghost use Rattle.mio_port.specs.Ends.{faults_of, CountsStay, CountsAt, PlacesStay, PlaceWent, holds, is_made, can_read, can_write, wants_ready, marked, unmarked};
 
 use crate::end::End;
 use ev_port::Want;
@@ -45,7 +47,7 @@ fn read_at(place: &mut Option<End>, into: &mut [u8]) -> ReadAnswer
     requires { 0 < length into.old }
     ensures within { ReadWithin result (length into.new) }
     ensures cause { Counted (faults_of place.old) (faults_of place.new) (is_failed_read result) }
-    ensures absent { is_there place.old ≡ false → result ≡ ReadAnswer.NotYet }
+    ensures by { ReadBy (connection_of place.old) result }
 {
     match place {
         Some(end) => end.read(into),
@@ -57,7 +59,7 @@ fn write_at(place: &mut Option<End>, from: &[u8]) -> WriteAnswer
     requires { 0 < length from.now }
     ensures within { WriteWithin result (length from.now) }
     ensures cause { Counted (faults_of place.old) (faults_of place.new) (is_failed_write result) }
-    ensures absent { is_there place.old ≡ false → result ≡ WriteAnswer.NotYet }
+    ensures by { WrittenBy (connection_of place.old) result }
 {
     match place {
         Some(end) => end.write(from),
@@ -67,7 +69,7 @@ fn write_at(place: &mut Option<End>, from: &[u8]) -> WriteAnswer
 
 fn check_at(place: &mut Option<End>) -> ConnAnswer
     ensures cause { Counted (faults_of place.old) (faults_of place.new) (is_failed_conn result) }
-    ensures absent { is_there place.old ≡ false → result ≡ ConnAnswer.Pending }
+    ensures by { CheckedBy (connection_of place.old) result }
 {
     match place {
         Some(end) => end.check(),
@@ -136,6 +138,7 @@ impl Ends {
         requires no_fault_out { outside.faults ≡ 0 }
         ensures counts { CountsStay self.old.ends.items self.new.ends.items }
         ensures made { holds self.new.ends.items link ≡ true }
+        ensures others { OthersStay self.old.ends.items self.new.ends.items link }
     {
         self.ends[in_end(link).number()] = Some(inside);
         self.ends[out_end(link).number()] = Some(outside);
@@ -197,7 +200,7 @@ impl Ends {
         requires { 0 < length into.old }
         ensures within { ReadWithin result (length into.new) }
         ensures cause { CountsAt self.old.ends.items self.new.ends.items side (is_failed_read result) }
-        ensures absent { is_made self.old.ends.items side ≡ false → result ≡ ReadAnswer.NotYet }
+        ensures by { ReadBy (connection_at self.old.ends.items side) result }
     {
         match self.ends.get_mut(side.number()) {
             Some(place) => read_at(place, into),
@@ -209,7 +212,7 @@ impl Ends {
         requires { 0 < length from.now }
         ensures within { WriteWithin result (length from.now) }
         ensures cause { CountsAt self.old.ends.items self.new.ends.items side (is_failed_write result) }
-        ensures absent { is_made self.old.ends.items side ≡ false → result ≡ WriteAnswer.NotYet }
+        ensures by { WrittenBy (connection_at self.old.ends.items side) result }
     {
         match self.ends.get_mut(side.number()) {
             Some(place) => write_at(place, from),
@@ -219,7 +222,7 @@ impl Ends {
 
     pub(crate) fn check(&mut self, side: SideId) -> ConnAnswer
         ensures cause { CountsAt self.old.ends.items self.new.ends.items side (is_failed_conn result) }
-        ensures absent { is_made self.old.ends.items side ≡ false → result ≡ ConnAnswer.Pending }
+        ensures by { CheckedBy (connection_at self.old.ends.items side) result }
     {
         match self.ends.get_mut(side.number()) {
             Some(place) => check_at(place),

@@ -1,11 +1,18 @@
 // The port over real sockets. Its parts keep the ends, the listener, the kernel's reports and the clock; here stands what
 // each call of a port does with them, and which count of faults it raises.
-ghost use Rattle.std.specs.Prelude.{◌≡◌, ⊤, ◌*◌, ◌+◌, ◌<◌, length, false, true, is_none, None};
-ghost use Rattle.ev_types.specs.declared.side.SideId.{SideId};
-ghost use Rattle.ev_port.specs.Faults.{FaultsStay, PollFaults, ListenerFaults};
-ghost use Rattle.ev_port.specs.Calls.{is_failed_accept};
-ghost use Rattle.ev_port.specs.Polling.{is_failed_poll};
-ghost use Rattle.mio_port.specs.PortFaults.{IsFaultless, Marked, Accepts, HasNoFault, IsNoLink, mio_faults, vouches_nothing, silent_port, silent_end};
+ghost use Rattle.std.specs.Prelude.{◌≡◌, ◌<◌, ◌≤◌, ⊤, [], true, false, length, is_some, is_none, None, MatchResult};
+ghost use Rattle.ev_types.specs.Sides.{number};
+ghost use Rattle.ev_port.specs.Vouching.{LongerBy, NothingWaits};
+ghost use Rattle.ev_port.specs.EndSteps.{EndsWent, AllWent, PortStays, no_step};
+ghost use Rattle.ev_port.specs.Faults.{FaultsStay, EndFaults, PollFaults, ListenerFaults};
+ghost use Rattle.ev_port.specs.Calls.{Ticked, ClockRead, is_failed_start, StartedAt, is_failed_accept, accept_events, accept_step, AcceptedLink};
+ghost use Rattle.ev_port.specs.Polling.{is_failed_poll, opens_accepting, AllMarked, poll_events, poll_step, PolledWith};
+ghost use Rattle.ev_port.specs.Ends.{is_failed_conn, conn_step, conn_events, ReadWithin, is_failed_read, read_step, read_events, WriteWithin, is_failed_write, write_step, write_events, close_write_events, close_events, close_write_step, close_step};
+ghost use Rattle.mio_port.specs.Answers.{connection_at, ReadBy, WrittenBy, CheckedBy};
+ghost use Rattle.mio_port.specs.End.{closed_end};
+ghost use Rattle.mio_port.specs.Ends.{PlacesStay, PlaceWent};
+ghost use Rattle.mio_port.specs.PortCalls.{Listens, Marked, Accepts, MadeLink, HasNoFault, IsNoLink};
+ghost use Rattle.mio_port.specs.PortFaults.{IsFaultless, mio_faults, vouches_nothing, waits_untold, silent_port, silent_end};
 
 use crate::clock::SteadyClock;
 use crate::door::{Arrival, Door, arrival_of, socket_addr};
@@ -87,7 +94,10 @@ impl<'a, R: Net + Clock + AllocGlobal> MioPort<'a, R> {
 
     // A first listener is closed before the second one is made.
     fn listen(&mut self, at: Addr, to: Addr) -> io::Result<()>
-        ensures { FaultsStay (mio_faults self.old) (mio_faults self.new) }
+        ensures faults { self.new.door.faults ≡ self.old.door.faults }
+        ensures polling { self.new.polling_faults ≡ self.old.polling_faults }
+        ensures ends { self.new.ends ≡ self.old.ends }
+        ensures listens { MatchResult result (λ _. Listens self.new.door to Started.Started) (λ _. Listens self.new.door to Started.Failed) }
     {
         self.door.shut();
         let kernel = match self.kernel.take() {
@@ -102,8 +112,8 @@ impl<'a, R: Net + Clock + AllocGlobal> MioPort<'a, R> {
 
     // A poll, with what it marks.
     fn ready_for(&mut self, wants: &mut [Want], accept: bool, timeout: Option<u64>) -> Polled
-        ensures marked { Marked self.new wants.old wants.new result }
-        ensures asked { Accepts self.new accept result }
+        ensures marked { Marked self.new.ends.ends.items wants.old wants.new result }
+        ensures asked { Accepts self.new.door accept result }
         ensures cause { PollFaults (mio_faults self.old) (mio_faults self.new) (is_failed_poll result) }
     {
         let pause = self.pause_left();
@@ -144,7 +154,9 @@ impl<'a, R: Net + Clock + AllocGlobal> MioPort<'a, R> {
 
     // Ends a pause that is over, and gives what is left of one that isn't.
     fn pause_left(&mut self) -> Option<u64>
-        ensures { FaultsStay (mio_faults self.old) (mio_faults self.new) }
+        ensures faults { self.new.door.faults ≡ self.old.door.faults }
+        ensures polling { self.new.polling_faults ≡ self.old.polling_faults }
+        ensures ends { self.new.ends ≡ self.old.ends }
     {
         let to = self.door.pause_end()?;
         let time = self.clock.read(self.rt);
@@ -154,7 +166,10 @@ impl<'a, R: Net + Clock + AllocGlobal> MioPort<'a, R> {
     }
 
     fn pause(&mut self)
-        ensures { FaultsStay (mio_faults self.old) (mio_faults self.new) }
+        ensures faults { self.new.door.faults ≡ self.old.door.faults }
+        ensures polling { self.new.polling_faults ≡ self.old.polling_faults }
+        ensures paused { is_some self.new.door.paused_to ≡ true }
+        ensures ends { self.new.ends ≡ self.old.ends }
     {
         let time = self.clock.read(self.rt);
         self.door.pause(time.saturating_add(SCARCE_PAUSE));
@@ -193,6 +208,7 @@ impl<'a, R: Net + Clock + AllocGlobal> MioPort<'a, R> {
     fn refuse(&mut self, why: Arrival) -> Accepted
         ensures cause { ListenerFaults (mio_faults self.old) (mio_faults self.new) (is_failed_accept result) }
         ensures none { IsNoLink result }
+        ensures ends { self.new.ends ≡ self.old.ends }
     {
         match why {
             Arrival::NoneWaits => self.door.ran_out(),
@@ -234,7 +250,7 @@ impl<'a, R: Net + Clock + AllocGlobal> Port for MioPort<'a, R> {
 
     ghost vouches = { vouches_nothing };
 
-    ghost none_waits = { λ _ _. ⊤ };
+    ghost none_waits = { waits_untold };
 
     ghost faults = { mio_faults };
 
@@ -242,7 +258,16 @@ impl<'a, R: Net + Clock + AllocGlobal> Port for MioPort<'a, R> {
 
     ghost told = { λ _. silent_port };
 
-    fn start(&mut self, listen: Addr, to: Addr) -> Started {
+    fn start(&mut self, listen: Addr, to: Addr) -> Started
+        ensures listens { Listens self.new.door to result }
+        ensures stays { self.new.ends ≡ self.old.ends }
+
+        // What every port says.
+        ensures cause { ListenerFaults (mio_faults self.old) (mio_faults self.new) (is_failed_start result) }
+        ensures ends { AllWent silent_end silent_end (λ _. no_step) }
+        ensures told { StartedAt silent_port silent_port listen to }
+        ensures vouched { LongerBy (vouches_nothing self.old) (vouches_nothing self.new) [] }
+    {
         match self.listen(listen, to) {
             Ok(()) => Started::Started,
             Err(error) if error.kind() == ErrorKind::OutOfMemory => Started::NoMemory,
@@ -253,15 +278,46 @@ impl<'a, R: Net + Clock + AllocGlobal> Port for MioPort<'a, R> {
         }
     }
 
-    fn now(&mut self) -> u64 {
+    fn now(&mut self) -> u64
+        ensures steady { self.old.clock.last ≤ result }
+        ensures kept { self.new.clock.last ≡ result }
+        ensures stays { self.new.ends ≡ self.old.ends }
+
+        // What every port says.
+        ensures cause { FaultsStay (mio_faults self.old) (mio_faults self.new) }
+        ensures ends { AllWent silent_end silent_end (λ _. no_step) }
+        ensures told { ClockRead silent_port silent_port result }
+        ensures vouched { Ticked (vouches_nothing self.old) (vouches_nothing self.new) result }
+    {
         self.clock.read(self.rt)
     }
 
-    fn poll(&mut self, wants: &mut [Want], accept: bool, timeout: Option<u64>) -> Polled {
+    fn poll(&mut self, wants: &mut [Want], accept: bool, timeout: Option<u64>) -> Polled
+        ensures marks { Marked self.new.ends.ends.items wants.old wants.new result }
+        ensures accepts { Accepts self.new.door accept result }
+
+        // What every port says.
+        ensures marked { AllMarked wants.old wants.new }
+        ensures asked { opens_accepting result ≡ true → accept ≡ true }
+        ensures cause { PollFaults (mio_faults self.old) (mio_faults self.new) (is_failed_poll result) }
+        ensures ends { AllWent silent_end silent_end (poll_step wants.new result) }
+        ensures told { PolledWith silent_port silent_port accept timeout result }
+        ensures vouched { LongerBy (vouches_nothing self.old) (vouches_nothing self.new) (poll_events timeout wants.new result) }
+        ensures waiting { accept ≡ true → result ≡ Polled.Ready false → NothingWaits (vouches_nothing self.new) waits_untold }
+    {
         self.ready_for(wants, accept, timeout)
     }
 
-    fn accept(&mut self, link: u32) -> Accepted {
+    fn accept(&mut self, link: u32) -> Accepted
+        ensures made { MadeLink self.old.ends.ends.items self.new.ends.ends.items link result }
+
+        // What every port says.
+        ensures cause { ListenerFaults (mio_faults self.old) (mio_faults self.new) (is_failed_accept result) }
+        ensures ends { AllWent silent_end silent_end (accept_step link result) }
+        ensures told { AcceptedLink silent_port silent_port result }
+        ensures vouched { LongerBy (vouches_nothing self.old) (vouches_nothing self.new) (accept_events link result) }
+        ensures waiting { result ≡ Accepted.NotYet → NothingWaits (vouches_nothing self.new) waits_untold }
+    {
         if self.ends.holds(link) {
             return Accepted::NotYet;
         }
@@ -277,23 +333,68 @@ impl<'a, R: Net + Clock + AllocGlobal> Port for MioPort<'a, R> {
         }
     }
 
-    fn connect_state(&mut self, end: SideId) -> ConnAnswer {
+    fn connect_state(&mut self, end: SideId) -> ConnAnswer
+        ensures by { CheckedBy (connection_at self.old.ends.ends.items end) result }
+
+        // What every port says.
+        ensures cause { EndFaults (mio_faults self.old) (mio_faults self.new) end (is_failed_conn result) }
+        ensures ends { EndsWent silent_end silent_end end (conn_step result) }
+        ensures told { PortStays silent_port silent_port }
+        ensures vouched { LongerBy (vouches_nothing self.old) (vouches_nothing self.new) (conn_events end result) }
+    {
         self.ends.check(end)
     }
 
-    fn read(&mut self, end: SideId, into: &mut [u8]) -> ReadAnswer {
+    fn read(&mut self, end: SideId, into: &mut [u8]) -> ReadAnswer
+        requires { 0 < length into.old }
+        ensures by { ReadBy (connection_at self.old.ends.ends.items end) result }
+
+        // What every port says.
+        ensures within { ReadWithin result (length into.new) }
+        ensures cause { EndFaults (mio_faults self.old) (mio_faults self.new) end (is_failed_read result) }
+        ensures ends { EndsWent silent_end silent_end end (read_step result into.new) }
+        ensures told { PortStays silent_port silent_port }
+        ensures vouched { LongerBy (vouches_nothing self.old) (vouches_nothing self.new) (read_events end into.new result) }
+    {
         self.ends.read(end, into)
     }
 
-    fn write(&mut self, end: SideId, from: &[u8]) -> WriteAnswer {
+    fn write(&mut self, end: SideId, from: &[u8]) -> WriteAnswer
+        requires { 0 < length from.now }
+        ensures by { WrittenBy (connection_at self.old.ends.ends.items end) result }
+
+        // What every port says.
+        ensures within { WriteWithin result (length from.now) }
+        ensures cause { EndFaults (mio_faults self.old) (mio_faults self.new) end (is_failed_write result) }
+        ensures ends { EndsWent silent_end silent_end end (write_step result from.now) }
+        ensures told { PortStays silent_port silent_port }
+        ensures vouched { LongerBy (vouches_nothing self.old) (vouches_nothing self.new) (write_events end from.now result) }
+    {
         self.ends.write(end, from)
     }
 
-    fn close_write(&mut self, end: SideId) {
+    fn close_write(&mut self, end: SideId)
+        ensures same { self.new ≡ self.old }
+
+        // What every port says.
+        ensures cause { FaultsStay (mio_faults self.old) (mio_faults self.new) }
+        ensures ends { EndsWent silent_end silent_end end (close_write_step) }
+        ensures told { PortStays silent_port silent_port }
+        ensures vouched { LongerBy (vouches_nothing self.old) (vouches_nothing self.new) (close_write_events end) }
+    {
         self.ends.close_write(end);
     }
 
-    fn close(&mut self, end: SideId) {
+    fn close(&mut self, end: SideId)
+        ensures gone { PlaceWent self.old.ends.ends.items self.new.ends.ends.items (number end) closed_end }
+        ensures pause { self.new.door.paused_to ≡ None }
+
+        // What every port says.
+        ensures cause { FaultsStay (mio_faults self.old) (mio_faults self.new) }
+        ensures ends { EndsWent silent_end silent_end end (close_step) }
+        ensures told { PortStays silent_port silent_port }
+        ensures vouched { LongerBy (vouches_nothing self.old) (vouches_nothing self.new) (close_events end) }
+    {
         self.ends.close(end);
         self.door.end_pause();
     }
