@@ -1,15 +1,7 @@
 -- What each call of the port says beyond what every port says: which ends stand where, and what is answered for one that
 -- isn't there.
-use Rattle.std.specs.Prelude.{◌≡◌, ◌≢◌, ℕ, ◌+◌, ◌*◌, ⊤, Bool, true, false, ◌&&◌, List, map, Option, Some, None, is_some, MatchOption, slice_index_or, option_map}
+use Rattle.std.specs.Prelude.{◌≡◌, ◌≢◌, ℕ, ◌+◌, ◌*◌, ⊤, Bool, true, false, ◌&&◌, List, map, Option, Some, None, is_some, MatchOption, slice_index_or}
 use Rattle.ev_types.specs.declared.addr.Addr.{Addr}
-use Rattle.ev_types.specs.declared.side.SideId.{SideId}
-use Rattle.ev_types.specs.Sides.{number}
-use Rattle.ev_types.specs.declared.answer.ConnAnswer.{ConnAnswer}
-use Rattle.ev_types.specs.declared.answer.ConnAnswer.TheVariants as conn
-use Rattle.ev_types.specs.declared.answer.ReadAnswer.{ReadAnswer}
-use Rattle.ev_types.specs.declared.answer.ReadAnswer.TheVariants as read
-use Rattle.ev_types.specs.declared.answer.WriteAnswer.{WriteAnswer}
-use Rattle.ev_types.specs.declared.answer.WriteAnswer.TheVariants as write
 use Rattle.ev_port.specs.declared.port.Accepted.{Accepted}
 use Rattle.ev_port.specs.declared.port.Accepted.TheVariants as accepted
 use Rattle.ev_port.specs.declared.port.Polled.{Polled}
@@ -18,14 +10,11 @@ use Rattle.ev_port.specs.declared.port.Started.{Started}
 use Rattle.ev_port.specs.declared.port.Started.TheVariants as started
 use Rattle.ev_port.specs.declared.port.Want.{Want}
 use Rattle.mio_port.specs.declared.door.Door.{Door}
-use Rattle.mio_port.specs.declared.end.Connection.{Connection}
-use Rattle.mio_port.specs.declared.end.Connection.TheVariants as connection
 use Rattle.mio_port.specs.declared.end.End.{End}
 use Rattle.mio_port.specs.declared.mio_port.Pair.{Pair}
 use Rattle.mio_port.specs.declared.mio_port.Pair.TheVariants as pair
 use Rattle.mio_port.specs.Door.{addr_of, is_open}
 use Rattle.mio_port.specs.Ends.{PlacesStay, holds, marked, unmarked}
-use Rattle.mio_port.specs.Answers.{connection_of}
 
 -- Starting
 

@@ -1,19 +1,11 @@
 -- The counts of faults of a port over sockets, and what it tells beside them: nothing.
-use Rattle.std.specs.Prelude.{◌≡◌, ⊤, Bool, ◌&&◌, List, map, None}
+use Rattle.std.specs.Prelude.{◌≡◌, ⊤, None}
 use Rattle.ev_types.specs.declared.side.SideId.{SideId}
 use Rattle.ev_types.specs.Told.{EndTold, PortTold}
 use Rattle.ev_types.specs.Trace.{Trace}
 use Rattle.ev_port.specs.Faults.{Faults}
-use Rattle.ev_port.specs.declared.port.Accepted.{Accepted}
-use Rattle.ev_port.specs.declared.port.Accepted.TheVariants as accepted
-use Rattle.mio_port.specs.declared.mio_port.Pair.{Pair}
-use Rattle.mio_port.specs.declared.mio_port.Pair.TheVariants as pair
 use Rattle.mio_port.specs.declared.mio_port.MioPort.{MioPort}
-use Rattle.ev_port.specs.declared.port.Polled.{Polled}
-use Rattle.ev_port.specs.declared.port.Polled.TheVariants as polled
-use Rattle.ev_port.specs.declared.port.Want.{Want}
-use Rattle.mio_port.specs.Door.{is_open}
-use Rattle.mio_port.specs.Ends.{end_faults, marked, unmarked}
+use Rattle.mio_port.specs.Ends.{end_faults}
 
 -- one count for polling, one for the listener and one for each end that was made
 abbrev pub mio_faults : {R : Type 0} → MioPort R → Faults

@@ -1,13 +1,14 @@
 // The kernel's reports: what is watched, how often it is asked, and what it told.
-ghost use Rattle.std.specs.Prelude.{◌≡◌, ◌<◌, IfOk};
+ghost use Rattle.std.specs.Prelude.{◌≡◌, ◌<◌, true, is_some, IfOk, OnOk};
 ghost use Rattle.mio_port.specs.Ends.{CountsStay};
 ghost use Rattle.mio_port.specs.Waiting.{looks_after, is_due, cut_to};
 
 use crate::door::Door;
 use crate::end::End;
 use crate::ends::Ends;
+use crate::scarce::is_scarce;
 use mio::net::{TcpListener, TcpStream};
-use mio::{Events, Interest, Poll, Token};
+use mio::{Events, Interest, Poll, Registry, Token};
 use std::alloc::{AllocGlobal, Global};
 use std::io;
 use std::net::{Net, SocketAddr};
@@ -22,7 +23,8 @@ pub(crate) const LOOK_EVERY: u32 = 16;
 // No end has this number.
 const LISTENER: Token = Token(usize::MAX);
 
-/// What is watched, and how many polls went by since the kernel was last asked.
+/// What is watched, how many polls went by since the kernel was last asked, and a descriptor that is kept for the second
+/// end of a link, whose first one may take the last.
 ///
 /// Own.
 #[derive(Drop)]
@@ -30,6 +32,7 @@ pub(crate) struct Kernel {
     poll: Poll,
     events: Events<Global>,
     skipped: u32,
+    spare: Option<Registry>,
     ghost below: { skipped < 16 },
 }
 
@@ -40,6 +43,7 @@ impl Kernel {
             poll: Poll::new(rt)?,
             events,
             skipped: 0,
+            spare: None,
         })
     }
 
@@ -62,6 +66,27 @@ impl Kernel {
             .registry()
             .register(&mut stream, Token(number), both_ways)?;
         Ok(End::open(stream))
+    }
+
+    /// Sees that a descriptor is kept. It fails where the system has none.
+    pub(crate) fn keep_spare(&mut self) -> io::Result<()>
+        ensures { OnOk result (is_some self.new.spare ≡ true) }
+    {
+        if self.spare.is_none() {
+            self.spare = Some(self.poll.registry().try_clone()?);
+        }
+        Ok(())
+    }
+
+    /// Begins a connection, by the descriptor that is kept where there is no other.
+    pub(crate) fn connect<R: Net>(&mut self, rt: &R, to: SocketAddr) -> io::Result<TcpStream> {
+        match TcpStream::connect(rt, to) {
+            Err(error) if is_scarce(&error) => {
+                self.spare = None;
+                TcpStream::connect(rt, to)
+            }
+            begun => begun,
+        }
     }
 
     /// A poll found something ready already: is the kernel to be asked all the same?

@@ -21,11 +21,10 @@ use crate::ends::{Ends, in_end, out_end, unmark};
 use crate::kernel::{Kernel, cut_to};
 use ev_port::{Accepted, Addr, ConnAnswer, Polled, Port, ReadAnswer, Started, Want, WriteAnswer};
 use ev_types::SideId;
-use mio::net::TcpStream;
 use std::alloc::AllocGlobal;
 use std::io;
 use std::io::ErrorKind;
-use std::net::Net;
+use std::net::{Net, SocketAddr};
 use std::time::Clock;
 
 /// For so many milliseconds no link is asked for after the system had no descriptor or no memory for one, unless an end
@@ -44,6 +43,9 @@ const SCARCE_PAUSE: u64 = 100;
 /// what a socket gives. Its counts of faults are real: one for polling, one for the listener and one an end, each of 64
 /// bits, and each rises where one of its calls is answered `Failed`. An end that was made keeps its count when it is
 /// closed.
+///
+/// It holds three descriptors, for the listener, the kernel's reports and a spare one for the second end of a link, and two for
+/// each link whose ends are open.
 ///
 /// Only `start` and `accept` take memory: `start` a table of reports, `accept` the places of the link's ends and of those
 /// of lower numbers that weren't made. No memory is given back before the port goes, and a number is never used again. Each
@@ -175,34 +177,29 @@ impl<'a, R: Net + Clock + AllocGlobal> MioPort<'a, R> {
         self.door.pause(time.saturating_add(SCARCE_PAUSE));
     }
 
-    fn pair(&self, link: u32) -> Pair
-        ensures { HasNoFault result }
+    // Asks for a connection only while a descriptor is kept for its other end.
+    fn pair(&mut self, link: u32) -> Pair
+        ensures pair { HasNoFault result }
+        ensures ends { self.new.ends ≡ self.old.ends }
+        ensures door { self.new.door ≡ self.old.door }
+        ensures polling { self.new.polling_faults ≡ self.old.polling_faults }
     {
-        let Some(kernel) = &self.kernel else {
+        let Some(kernel) = &mut self.kernel else {
             return Pair::Not(Arrival::NoneWaits);
         };
+        if let Err(error) = kernel.keep_spare() {
+            return Pair::Not(arrival_of(&error));
+        }
         match self.door.ask() {
             Arrival::Came(stream) => match kernel.end(stream, in_end(link).number()) {
-                Ok(inside) => Pair::Made(inside, self.outside(kernel, out_end(link).number())),
+                Ok(inside) => Pair::Made(
+                    inside,
+                    outside(self.rt, kernel, self.door.target(), out_end(link).number()),
+                ),
                 Err(error) => Pair::Not(arrival_of(&error)),
             },
             other => Pair::Not(other),
         }
-    }
-
-    // A connection to the target that is begun, or an end that was refused.
-    fn outside(&self, kernel: &Kernel, number: usize) -> End
-        ensures { result.faults ≡ 0 }
-    {
-        let Some(target) = self.door.target() else {
-            return End::refused();
-        };
-        let Ok(stream) = TcpStream::connect(self.rt, target) else {
-            return End::refused();
-        };
-        kernel
-            .end(stream, number)
-            .unwrap_or_else(|_error| End::refused())
     }
 
     fn refuse(&mut self, why: Arrival) -> Accepted
@@ -221,6 +218,21 @@ impl<'a, R: Net + Clock + AllocGlobal> MioPort<'a, R> {
         }
         Accepted::NotYet
     }
+}
+
+// A connection to the target that is begun, or an end that was refused.
+fn outside<R: Net>(rt: &R, kernel: &mut Kernel, target: Option<SocketAddr>, number: usize) -> End
+    ensures { result.faults ≡ 0 }
+{
+    let Some(target) = target else {
+        return End::refused();
+    };
+    let Ok(stream) = kernel.connect(rt, target) else {
+        return End::refused();
+    };
+    kernel
+        .end(stream, number)
+        .unwrap_or_else(|_error| End::refused())
 }
 
 /// What the trait leaves open, call by call:

@@ -233,8 +233,9 @@ fn a_ready_end_does_not_hide_a_new_link(rt: HostRuntime) -> Result<(), Fail> {
     let mut port = MioPort::new(&rt);
     let _first = joined(&rt, &mut port)?;
     assert!(rt; is_marked(&mut port, to_write(IN)));
+    assert_eq!(rt; port.accept(3), Accepted::NotYet);
     let _second = client(&rt, &port)?;
-    for _ in 0..MOST_POLLS {
+    for _ in 0..16 {
         let mut wants = [to_write(IN)];
         let polled = port.poll(&mut wants, true, None);
         assert_eq!(rt;
