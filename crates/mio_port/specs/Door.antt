@@ -9,8 +9,8 @@ use Rattle.std.specs.declared.net.socket_addr.SocketAddr.{SocketAddr}
 use Rattle.mio.specs.declared.net.listener.TcpListener.{TcpListener}
 use Rattle.ev_port.specs.Counting.{risen_if}
 use Rattle.ev_types.specs.declared.addr.Addr.{Addr}
-use Rattle.mio_port.specs.declared.door.Arrival.{Arrival}
-use Rattle.mio_port.specs.declared.door.Arrival.TheVariants as arrival
+use Rattle.mio_port.specs.declared.door.Miss.{Miss}
+use Rattle.mio_port.specs.declared.door.Miss.TheVariants as miss
 use Rattle.mio_port.specs.declared.door.Door.{Door}
 
 -- no listener, after so many faults
@@ -38,11 +38,11 @@ abbrev pub faulty_door : Door → Door
 faulty_door d = record d { faults = risen_if true d.faults }
 
 -- what an error of an accept says: none waits, another may wait, the system is short of something, or it failed
-abbrev pub arrival_of_kind : ErrorKind → Bool → Arrival
-arrival_of_kind kind.WouldBlock scarce = arrival.NoneWaits
-arrival_of_kind kind.Interrupted scarce = arrival.Again
-arrival_of_kind kind.ConnectionAborted scarce = arrival.Again
-arrival_of_kind _ scarce = if scarce then arrival.Scarce else arrival.Failed
+abbrev pub miss_of_kind : ErrorKind → Bool → Miss
+miss_of_kind kind.WouldBlock scarce = miss.NoneWaits
+miss_of_kind kind.Interrupted scarce = miss.Again
+miss_of_kind kind.ConnectionAborted scarce = miss.Again
+miss_of_kind _ scarce = if scarce then miss.Scarce else miss.Failed
 
 -- an IPv4 address with its port; no other address is told
 abbrev pub addr_of : SocketAddr → Option Addr

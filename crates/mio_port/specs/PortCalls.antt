@@ -1,6 +1,6 @@
 -- What each call of the port says beyond what every port says: which ends stand where, and what is answered for one that
 -- isn't there.
-use Rattle.std.specs.Prelude.{◌≡◌, ◌≢◌, ℕ, ◌+◌, ◌*◌, ⊤, Bool, true, false, ◌&&◌, List, map, Option, Some, None, is_some, MatchOption, slice_index_or}
+use Rattle.std.specs.Prelude.{◌≡◌, ◌≢◌, ℕ, ◌+◌, ◌*◌, ⊤, Bool, true, false, ◌&&◌, List, map, Option, Some, None, Result, Ok, Err, is_some, MatchOption, slice_index_or}
 use Rattle.ev_types.specs.declared.addr.Addr.{Addr}
 use Rattle.ev_port.specs.declared.port.Accepted.{Accepted}
 use Rattle.ev_port.specs.declared.port.Accepted.TheVariants as accepted
@@ -10,9 +10,8 @@ use Rattle.ev_port.specs.declared.port.Started.{Started}
 use Rattle.ev_port.specs.declared.port.Started.TheVariants as started
 use Rattle.ev_port.specs.declared.port.Want.{Want}
 use Rattle.mio_port.specs.declared.door.Door.{Door}
+use Rattle.mio_port.specs.declared.door.Miss.{Miss}
 use Rattle.mio_port.specs.declared.end.End.{End}
-use Rattle.mio_port.specs.declared.mio_port.Pair.{Pair}
-use Rattle.mio_port.specs.declared.mio_port.Pair.TheVariants as pair
 use Rattle.mio_port.specs.Door.{addr_of, is_open}
 use Rattle.mio_port.specs.Ends.{PlacesStay, holds, marked, unmarked}
 
@@ -51,9 +50,9 @@ MadeLink old new link accepted.Failed = PlacesStay old new
 MadeLink old new link accepted.NoMemory = PlacesStay old new
 
 -- two ends that were just made met no fault
-abbrev pub HasNoFault : Pair → Type 0
-HasNoFault (pair.Made inside outside) = (inside.faults ≡ 0) × (outside.faults ≡ 0)
-HasNoFault (pair.Not why) = ⊤
+abbrev pub HasNoFault : Result (End × End) Miss → Type 0
+HasNoFault (Ok ends) = (ends.0.faults ≡ 0) × (ends.1.faults ≡ 0)
+HasNoFault (Err why) = ⊤
 
 -- a link was not made
 abbrev pub IsNoLink : Accepted → Type 0

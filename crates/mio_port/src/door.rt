@@ -1,8 +1,8 @@
 // The listener, where its links are connected to, and when it can be asked for another link.
-ghost use Rattle.std.specs.Prelude.{◌≡◌, None, Some, is_none, true, false};
+ghost use Rattle.std.specs.Prelude.{◌≡◌, None, Some, is_none, true, false, Err};
 ghost use Rattle.std.specs.IoError.{error_kind, raw_os_error};
 ghost use Rattle.mio_port.specs.Scarcity.{is_scarce};
-ghost use Rattle.mio_port.specs.Door.{arrival_of_kind, addr_of, shut_door, opened_door, is_open, after_time, faulty_door};
+ghost use Rattle.mio_port.specs.Door.{miss_of_kind, addr_of, shut_door, opened_door, is_open, after_time, faulty_door};
 
 use crate::scarce::is_scarce;
 use ev_port::Addr;
@@ -24,27 +24,26 @@ pub(crate) struct Door {
     faults: u64,
 }
 
-/// What came of asking the listener for a connection. `Again` is one that went before it could be taken, or a call that
-/// was interrupted: another may wait.
+/// Why the listener gave no connection. `Again` is one that went before it could be taken, or a call that was interrupted:
+/// another may wait.
 ///
 /// Own.
-#[derive(Drop)]
-pub(crate) enum Arrival {
-    Came(TcpStream),
+#[derive(Clone, Copy)]
+pub(crate) enum Miss {
     NoneWaits,
     Again,
     Scarce,
     Failed,
 }
 
-pub(crate) fn arrival_of(error: &io::Error) -> Arrival
-    ensures { result ≡ arrival_of_kind (error_kind error.now) (is_scarce (raw_os_error error.now)) }
+pub(crate) fn miss_of(error: &io::Error) -> Miss
+    ensures { result ≡ miss_of_kind (error_kind error.now) (is_scarce (raw_os_error error.now)) }
 {
     match error.kind() {
-        ErrorKind::WouldBlock => Arrival::NoneWaits,
-        ErrorKind::Interrupted | ErrorKind::ConnectionAborted => Arrival::Again,
-        _ if is_scarce(error) => Arrival::Scarce,
-        _ => Arrival::Failed,
+        ErrorKind::WouldBlock => Miss::NoneWaits,
+        ErrorKind::Interrupted | ErrorKind::ConnectionAborted => Miss::Again,
+        _ if is_scarce(error) => Miss::Scarce,
+        _ => Miss::Failed,
     }
 }
 
@@ -163,15 +162,15 @@ impl Door {
     }
 
     /// Asks for a connection. It changes nothing here.
-    pub(crate) fn ask(&self) -> Arrival
-        ensures { is_none self.now.listener ≡ true → result ≡ Arrival.NoneWaits }
+    pub(crate) fn ask(&self) -> Result<TcpStream, Miss>
+        ensures { is_none self.now.listener ≡ true → result ≡ Err Miss.NoneWaits }
     {
         let Some(listener) = &self.listener else {
-            return Arrival::NoneWaits;
+            return Err(Miss::NoneWaits);
         };
         match listener.accept() {
-            Ok((stream, _from)) => Arrival::Came(stream),
-            Err(error) => arrival_of(&error),
+            Ok((stream, _from)) => Ok(stream),
+            Err(error) => Err(miss_of(&error)),
         }
     }
 }

@@ -1,10 +1,11 @@
 // The kernel's reports: what is watched, how often it is asked, and what it told.
-ghost use Rattle.std.specs.Prelude.{◌≡◌, ◌<◌, true, is_some, IfOk, OnOk};
+ghost use Rattle.std.specs.Prelude.{◌≡◌, ◌<◌, true, false, is_some, IfOk, OnOk};
+ghost use Rattle.mio_port.specs.End.{fresh};
 ghost use Rattle.mio_port.specs.Ends.{CountsStay};
 ghost use Rattle.mio_port.specs.Waiting.{looks_after, is_due, cut_to};
 
 use crate::door::Door;
-use crate::end::End;
+use crate::end::{Connection, End};
 use crate::ends::Ends;
 use crate::scarce::is_scarce;
 use mio::net::{TcpListener, TcpStream};
@@ -58,7 +59,7 @@ impl Kernel {
 
     /// An end that is watched both ways, under its number, and whose short writes aren't held back.
     pub(crate) fn end(&self, mut stream: TcpStream, number: usize) -> io::Result<End>
-        ensures { IfOk result (λ end. end.faults ≡ 0) }
+        ensures { IfOk result (λ end. end ≡ fresh (Connection.Open stream) false) }
     {
         let _ignored = stream.set_nodelay(true);
         let both_ways = Interest::READABLE | Interest::WRITABLE;
@@ -99,7 +100,9 @@ impl Kernel {
     }
 
     /// Waits for reports, at most so many milliseconds. An interrupted wait has none.
-    pub(crate) fn wait(&mut self, timeout: Option<u64>) -> io::Result<()> {
+    pub(crate) fn wait(&mut self, timeout: Option<u64>) -> io::Result<()>
+        ensures { self.new.skipped ≡ 0 }
+    {
         self.skipped = 0;
         self.poll
             .poll(&mut self.events, timeout.map(Duration::from_millis))

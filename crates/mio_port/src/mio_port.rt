@@ -15,7 +15,7 @@ ghost use Rattle.mio_port.specs.PortCalls.{Listens, Marked, Accepts, MadeLink, H
 ghost use Rattle.mio_port.specs.PortFaults.{IsFaultless, mio_faults, vouches_nothing, waits_untold, silent_port, silent_end};
 
 use crate::clock::SteadyClock;
-use crate::door::{Arrival, Door, arrival_of, socket_addr};
+use crate::door::{Door, Miss, miss_of, socket_addr};
 use crate::end::End;
 use crate::ends::{Ends, in_end, out_end, unmark};
 use crate::kernel::{Kernel, cut_to};
@@ -62,13 +62,6 @@ pub struct MioPort<'a, R> {
     door: Door,
     ends: Ends,
     polling_faults: u64,
-}
-
-/// The two ends of a link that came, or why none did.
-#[derive(Drop)]
-enum Pair {
-    Made(End, End),
-    Not(Arrival),
 }
 
 impl<'a, R: Net + Clock + AllocGlobal> MioPort<'a, R> {
@@ -178,40 +171,40 @@ impl<'a, R: Net + Clock + AllocGlobal> MioPort<'a, R> {
     }
 
     // Asks for a connection only while a descriptor is kept for its other end.
-    fn pair(&mut self, link: u32) -> Pair
+    fn pair(&mut self, link: u32) -> Result<(End, End), Miss>
         ensures pair { HasNoFault result }
         ensures ends { self.new.ends ≡ self.old.ends }
         ensures door { self.new.door ≡ self.old.door }
         ensures polling { self.new.polling_faults ≡ self.old.polling_faults }
     {
         let Some(kernel) = &mut self.kernel else {
-            return Pair::Not(Arrival::NoneWaits);
+            return Err(Miss::NoneWaits);
         };
         if let Err(error) = kernel.keep_spare() {
-            return Pair::Not(arrival_of(&error));
+            return Err(miss_of(&error));
         }
-        match self.door.ask() {
-            Arrival::Came(stream) => match kernel.end(stream, in_end(link).number()) {
-                Ok(inside) => Pair::Made(
-                    inside,
-                    outside(self.rt, kernel, self.door.target(), out_end(link).number()),
-                ),
-                Err(error) => Pair::Not(arrival_of(&error)),
-            },
-            other => Pair::Not(other),
+        let stream = self.door.ask()?;
+        let target = self.door.target();
+        match kernel.end(stream, in_end(link).number()) {
+            Ok(inside) => {
+                let number = out_end(link).number();
+                Ok((inside, outside(self.rt, kernel, target, number)))
+            }
+            Err(error) => Err(miss_of(&error)),
         }
     }
 
-    fn refuse(&mut self, why: Arrival) -> Accepted
+    // No link is made.
+    fn refuse(&mut self, why: Miss) -> Accepted
         ensures cause { ListenerFaults (mio_faults self.old) (mio_faults self.new) (is_failed_accept result) }
         ensures none { IsNoLink result }
         ensures ends { self.new.ends ≡ self.old.ends }
     {
         match why {
-            Arrival::NoneWaits => self.door.ran_out(),
-            Arrival::Came(_) | Arrival::Again => {}
-            Arrival::Scarce => self.pause(),
-            Arrival::Failed => {
+            Miss::NoneWaits => self.door.ran_out(),
+            Miss::Again => {}
+            Miss::Scarce => self.pause(),
+            Miss::Failed => {
                 self.door.count_fault();
                 return Accepted::Failed;
             }
@@ -337,11 +330,11 @@ impl<'a, R: Net + Clock + AllocGlobal> Port for MioPort<'a, R> {
             return Accepted::NoMemory;
         }
         match self.pair(link) {
-            Pair::Made(inside, outside) => {
+            Ok((inside, outside)) => {
                 self.ends.put(link, inside, outside);
                 Accepted::Link { connected: false }
             }
-            Pair::Not(why) => self.refuse(why),
+            Err(why) => self.refuse(why),
         }
     }
 
