@@ -1,1 +1,1 @@
-pub mod MarkLemmas
+pub mod WantMarkLemmas

@@ -13,7 +13,7 @@ use Rattle.mio_port.specs.declared.door.Door.{Door}
 use Rattle.mio_port.specs.declared.door.Miss.{Miss}
 use Rattle.mio_port.specs.declared.end.End.{End}
 use Rattle.mio_port.specs.Door.{addr_of, is_open}
-use Rattle.mio_port.specs.Ends.{PlacesStay, holds, marked, unmarked}
+use Rattle.mio_port.specs.EndPlaces.{PlacesStay, holds, marked, unmarked}
 
 -- Starting
 

@@ -5,7 +5,7 @@ use Rattle.ev_types.specs.Told.{EndTold, PortTold}
 use Rattle.ev_types.specs.Trace.{Trace}
 use Rattle.ev_port.specs.Faults.{Faults}
 use Rattle.mio_port.specs.declared.mio_port.MioPort.{MioPort}
-use Rattle.mio_port.specs.Ends.{end_faults}
+use Rattle.mio_port.specs.EndPlaces.{end_faults}
 
 -- one count for polling, one for the listener and one for each end that was made
 abbrev pub mio_faults : {R : Type 0} → MioPort R → Faults

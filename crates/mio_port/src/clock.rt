@@ -1,6 +1,6 @@
 // The port's clock: milliseconds of the system's steady clock since the port was made.
 ghost use Rattle.std.specs.Prelude.{◌≡◌, ◌≤◌};
-ghost use Rattle.mio_port.specs.Times.{millis_of};
+ghost use Rattle.mio_port.specs.WholeMillis.{millis_of};
 
 use std::time::{Clock, Duration, Instant};
 

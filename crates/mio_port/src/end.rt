@@ -4,8 +4,8 @@ ghost use Rattle.stream_words.specs.Faults.{Counted};
 ghost use Rattle.ev_port.specs.Ends.{ReadWithin, is_failed_read, WriteWithin, is_failed_write, is_failed_conn};
 ghost use Rattle.mio.specs.Event as event;
 ghost use Rattle.mio_port.specs.Attempts.{AttemptBy, CheckBy, check_of, read_answer, write_answer, check_answer};
-ghost use Rattle.mio_port.specs.Answers.{ReadBy, WrittenBy, CheckedBy};
-ghost use Rattle.mio_port.specs.End.{fresh, read_end, written_end, checked_end, noticed_end, closed_end};
+ghost use Rattle.mio_port.specs.EndAnswers.{ReadBy, WrittenBy, CheckedBy};
+ghost use Rattle.mio_port.specs.OneEnd.{fresh, read_end, written_end, checked_end, noticed_end, closed_end};
 
 use crate::attempt::{Attempt, attempt_of};
 use ev_types::{ConnAnswer, ReadAnswer, WriteAnswer};

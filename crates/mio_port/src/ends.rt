@@ -4,10 +4,10 @@ ghost use Rattle.std.specs.List.{list_any};
 ghost use Rattle.stream_words.specs.Faults.{Counted};
 ghost use Rattle.ev_port.specs.Ends.{ReadWithin, is_failed_read, WriteWithin, is_failed_write, is_failed_conn};
 ghost use Rattle.ev_types.specs.Sides.{number};
-ghost use Rattle.mio_port.specs.Answers.{connection_of, connection_at, ReadBy, WrittenBy, CheckedBy};
+ghost use Rattle.mio_port.specs.EndAnswers.{connection_of, connection_at, ReadBy, WrittenBy, CheckedBy};
 ghost use Rattle.mio_port.specs.PortCalls.{OthersStay};
-ghost use Rattle.mio_port.specs.End.{noticed_end, closed_end};
-ghost use Rattle.mio_port.specs.Ends.{faults_of, CountsStay, CountsAt, PlacesStay, PlaceWent, holds, is_made, can_read, can_write, wants_ready, marked, unmarked};
+ghost use Rattle.mio_port.specs.OneEnd.{noticed_end, closed_end};
+ghost use Rattle.mio_port.specs.EndPlaces.{faults_of, CountsStay, CountsAt, PlacesStay, PlaceWent, holds, is_made, can_read, can_write, wants_ready, marked, unmarked};
 
 use crate::end::End;
 use ev_port::Want;

@@ -1,7 +1,7 @@
 // The kernel's reports: what is watched, how often it is asked, and what it told.
 ghost use Rattle.std.specs.Prelude.{◌≡◌, ◌<◌, true, false, is_some, IfOk, OnOk};
-ghost use Rattle.mio_port.specs.End.{fresh};
-ghost use Rattle.mio_port.specs.Ends.{CountsStay};
+ghost use Rattle.mio_port.specs.OneEnd.{fresh};
+ghost use Rattle.mio_port.specs.EndPlaces.{CountsStay};
 ghost use Rattle.mio_port.specs.Waiting.{looks_after, is_due, cut_to};
 
 use crate::door::Door;

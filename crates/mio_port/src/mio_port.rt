@@ -8,9 +8,9 @@ ghost use Rattle.ev_port.specs.Faults.{FaultsStay, EndFaults, PollFaults, Listen
 ghost use Rattle.ev_port.specs.Calls.{Ticked, ClockRead, is_failed_start, StartedAt, is_failed_accept, accept_events, accept_step, AcceptedLink};
 ghost use Rattle.ev_port.specs.Polling.{is_failed_poll, opens_accepting, AllMarked, poll_events, poll_step, PolledWith};
 ghost use Rattle.ev_port.specs.Ends.{is_failed_conn, conn_step, conn_events, ReadWithin, is_failed_read, read_step, read_events, WriteWithin, is_failed_write, write_step, write_events, close_write_events, close_events, close_write_step, close_step};
-ghost use Rattle.mio_port.specs.Answers.{connection_at, ReadBy, WrittenBy, CheckedBy};
-ghost use Rattle.mio_port.specs.End.{closed_end};
-ghost use Rattle.mio_port.specs.Ends.{PlacesStay, PlaceWent};
+ghost use Rattle.mio_port.specs.EndAnswers.{connection_at, ReadBy, WrittenBy, CheckedBy};
+ghost use Rattle.mio_port.specs.OneEnd.{closed_end};
+ghost use Rattle.mio_port.specs.EndPlaces.{PlacesStay, PlaceWent};
 ghost use Rattle.mio_port.specs.PortCalls.{Listens, Marked, Accepts, MadeLink, HasNoFault, IsNoLink};
 ghost use Rattle.mio_port.specs.PortFaults.{IsFaultless, mio_faults, vouches_nothing, waits_untold, silent_port, silent_end};
 

@@ -1,6 +1,6 @@
 use Rattle.std.proofs.Common.{◌<◌, length, arith}
-use Rattle.mio_port.specs.Ends.{unmarked}
-use Rattle.mio_port.proofs.MarkLemmas.{marks-more}
+use Rattle.mio_port.specs.EndPlaces.{unmarked}
+use Rattle.mio_port.proofs.WantMarkLemmas.{marks-more}
 use Rattle.mio_port.proofs.ends.unmark.Goals as goal
 
 pub loop-want-preserved : goal.loop-want-preserved

@@ -1,5 +1,5 @@
 use Rattle.std.proofs.Common.{◌≡◌, ◌++◌, take, drop, map}
-use Rattle.mio_port.specs.Ends.{unmarked}
+use Rattle.mio_port.specs.EndPlaces.{unmarked}
 use Rattle.mio_port.proofs.ends.unmark.Given as goal
 
 abbrev pub invariant-loop-want : goal.invariant-loop-want

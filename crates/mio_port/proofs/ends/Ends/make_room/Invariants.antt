@@ -1,6 +1,6 @@
 use Rattle.std.proofs.Common.{◌≡◌, ◌+◌, ◌≤◌}
 use Rattle.std.specs.Prelude.{vec_len, vec_capacity}
-use Rattle.mio_port.specs.Ends.{PlacesStay}
+use Rattle.mio_port.specs.EndPlaces.{PlacesStay}
 use Rattle.mio_port.proofs.ends.Ends.make_room.Given as goal
 
 -- one absent place was added a turn

@@ -1,6 +1,6 @@
 use Rattle.std.proofs.Common.{◌<◌, length, arith}
-use Rattle.mio_port.specs.Ends.{marked}
-use Rattle.mio_port.proofs.MarkLemmas.{marks-more}
+use Rattle.mio_port.specs.EndPlaces.{marked}
+use Rattle.mio_port.proofs.WantMarkLemmas.{marks-more}
 use Rattle.mio_port.proofs.ends.Ends.mark.Goals as goal
 
 pub loop-want-preserved : goal.loop-want-preserved

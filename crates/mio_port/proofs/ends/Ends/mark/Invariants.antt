@@ -1,5 +1,5 @@
 use Rattle.std.proofs.Common.{◌≡◌, ◌++◌, take, drop, map}
-use Rattle.mio_port.specs.Ends.{marked}
+use Rattle.mio_port.specs.EndPlaces.{marked}
 use Rattle.mio_port.proofs.ends.Ends.mark.Given as goal
 
 abbrev pub invariant-loop-want : goal.invariant-loop-want

@@ -1,5 +1,5 @@
 use Rattle.std.proofs.Common.{◌≡◌}
-use Rattle.mio_port.specs.Ends.{CountsStay}
+use Rattle.mio_port.specs.EndPlaces.{CountsStay}
 use Rattle.mio_port.proofs.kernel.Kernel.tell.Given as goal
 
 -- no report raises a count
