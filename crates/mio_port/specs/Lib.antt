@@ -1,0 +1,10 @@
+pub mod Attempts
+pub mod Scarcity
+pub mod WholeMillis
+pub mod OneEnd
+pub mod EndPlaces
+pub mod Door
+pub mod Waiting
+pub mod PortFaults
+pub mod EndAnswers
+pub mod PortCalls

@@ -1,0 +1,62 @@
+-- What each call of the port says beyond what every port says: which ends stand where, and what is answered for one that
+-- isn't there.
+use Rattle.std.specs.Prelude.{◌≡◌, ◌≢◌, ℕ, ◌+◌, ◌*◌, ⊤, Bool, true, false, ◌&&◌, List, map, Option, Some, None, Result, Ok, Err, is_some, MatchOption, slice_index_or}
+use Rattle.ev_types.specs.declared.addr.Addr.{Addr}
+use Rattle.ev_port.specs.declared.port.Accepted.{Accepted}
+use Rattle.ev_port.specs.declared.port.Accepted.TheVariants as accepted
+use Rattle.ev_port.specs.declared.port.Polled.{Polled}
+use Rattle.ev_port.specs.declared.port.Polled.TheVariants as polled
+use Rattle.ev_port.specs.declared.port.Started.{Started}
+use Rattle.ev_port.specs.declared.port.Started.TheVariants as started
+use Rattle.ev_port.specs.declared.port.Want.{Want}
+use Rattle.mio_port.specs.declared.door.Door.{Door}
+use Rattle.mio_port.specs.declared.door.Miss.{Miss}
+use Rattle.mio_port.specs.declared.end.End.{End}
+use Rattle.mio_port.specs.Door.{addr_of, is_open}
+use Rattle.mio_port.specs.EndPlaces.{PlacesStay, holds, marked, unmarked}
+
+-- Starting
+
+-- a port that was started listens and has the target that it was given; any other listens nowhere
+abbrev pub Listens : Door → Addr → Started → Type 0
+Listens d to started.Started = (is_some d.listener ≡ true) × MatchOption d.target ⊥ (λ target. addr_of target ≡ Some to)
+Listens d to started.Failed = d.listener ≡ None
+Listens d to started.NoMemory = d.listener ≡ None
+
+-- Polling
+
+-- what a poll marked: what was wanted and is ready, or nothing where it failed
+abbrev pub Marked : List (Option End) → List Want → List Want → Polled → Type 0
+Marked ends old new (polled.Ready accept) = new ≡ map (marked ends) old
+Marked ends old new polled.Failed = new ≡ map unmarked old
+
+-- links are accepted where that was asked and the listener can be
+abbrev pub Accepts : Door → Bool → Polled → Type 0
+Accepts d asked (polled.Ready accept) = accept ≡ (asked && is_open d)
+Accepts d asked polled.Failed = ⊤
+
+-- Accepting
+
+-- every place but the two of one link is as it was
+abbrev pub OthersStay : List (Option End) → List (Option End) → ℕ → Type 0
+OthersStay old new link = (n : ℕ) → n ≢ 2 * link → n ≢ 2 * link + 1 → slice_index_or new n None ≡ slice_index_or old n None
+
+-- a link that was made wasn't there before, and its Out end is never connected yet; without a link nothing was made
+abbrev pub MadeLink : List (Option End) → List (Option End) → ℕ → Accepted → Type 0
+MadeLink old new link (accepted.Link connected) =
+    (connected ≡ false) × (holds old link ≡ false) × (holds new link ≡ true) × OthersStay old new link
+MadeLink old new link accepted.NotYet = PlacesStay old new
+MadeLink old new link accepted.Failed = PlacesStay old new
+MadeLink old new link accepted.NoMemory = PlacesStay old new
+
+-- two ends that were just made met no fault
+abbrev pub HasNoFault : Result (End × End) Miss → Type 0
+HasNoFault (Ok ends) = (ends.0.faults ≡ 0) × (ends.1.faults ≡ 0)
+HasNoFault (Err why) = ⊤
+
+-- a link was not made
+abbrev pub IsNoLink : Accepted → Type 0
+IsNoLink (accepted.Link connected) = ⊥
+IsNoLink accepted.NotYet = ⊤
+IsNoLink accepted.Failed = ⊤
+IsNoLink accepted.NoMemory = ⊤

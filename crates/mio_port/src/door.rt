@@ -1,0 +1,176 @@
+// The listener, where its links are connected to, and when it can be asked for another link.
+ghost use Rattle.std.specs.Prelude.{◌≡◌, None, Some, is_none, true, false, Err};
+ghost use Rattle.std.specs.IoError.{error_kind, raw_os_error};
+ghost use Rattle.mio_port.specs.Scarcity.{is_scarce};
+ghost use Rattle.mio_port.specs.Door.{miss_of_kind, addr_of, shut_door, opened_door, is_open, after_time, faulty_door};
+
+use crate::scarce::is_scarce;
+use ev_port::Addr;
+use mio::net::{TcpListener, TcpStream};
+use std::io;
+use std::io::ErrorKind;
+use std::net::{Ipv4Addr, SocketAddr};
+
+/// The listener and the target of its links. It is ready once the kernel told that a link waits, and until an accept finds
+/// none. It is paused, up to a time of the port's clock, where the system had no descriptor or no memory for a link.
+///
+/// Own.
+#[derive(Drop)]
+pub(crate) struct Door {
+    listener: Option<TcpListener>,
+    target: Option<SocketAddr>,
+    ready: bool,
+    paused_to: Option<u64>,
+    faults: u64,
+}
+
+/// Why the listener gave no connection. `Again` is one that went before it could be taken, or a call that was interrupted:
+/// another may wait.
+///
+/// Own.
+#[derive(Clone, Copy)]
+pub(crate) enum Miss {
+    NoneWaits,
+    Again,
+    Scarce,
+    Failed,
+}
+
+pub(crate) fn miss_of(error: &io::Error) -> Miss
+    ensures { result ≡ miss_of_kind (error_kind error.now) (is_scarce (raw_os_error error.now)) }
+{
+    match error.kind() {
+        ErrorKind::WouldBlock => Miss::NoneWaits,
+        ErrorKind::Interrupted | ErrorKind::ConnectionAborted => Miss::Again,
+        _ if is_scarce(error) => Miss::Scarce,
+        _ => Miss::Failed,
+    }
+}
+
+pub(crate) fn socket_addr(addr: Addr) -> SocketAddr
+    ensures { addr_of result ≡ Some addr }
+{
+    let [a, b, c, d] = addr.ip;
+    SocketAddr::from((Ipv4Addr::new(a, b, c, d), addr.port))
+}
+
+pub(crate) fn addr_of(addr: SocketAddr) -> Option<Addr>
+    ensures { result ≡ addr_of addr }
+{
+    match addr {
+        SocketAddr::V4(addr) => Some(Addr {
+            ip: addr.ip().octets(),
+            port: addr.port(),
+        }),
+        SocketAddr::V6(_) => None,
+    }
+}
+
+impl Door {
+    pub(crate) fn new() -> Door
+        ensures { result ≡ shut_door 0 }
+    {
+        Door {
+            listener: None,
+            target: None,
+            ready: false,
+            paused_to: None,
+            faults: 0,
+        }
+    }
+
+    /// Drops the listener.
+    pub(crate) fn shut(&mut self)
+        ensures { self.new ≡ shut_door self.old.faults }
+    {
+        self.listener = None;
+        self.target = None;
+        self.ready = false;
+        self.paused_to = None;
+    }
+
+    pub(crate) fn open(&mut self, listener: TcpListener, target: SocketAddr)
+        ensures { self.new ≡ opened_door listener target self.old.faults }
+    {
+        self.shut();
+        self.listener = Some(listener);
+        self.target = Some(target);
+    }
+
+    pub(crate) fn local(&self) -> Option<Addr>
+        ensures { is_none self.now.listener ≡ true → result ≡ None }
+    {
+        addr_of(self.listener.as_ref()?.local_addr().ok()?)
+    }
+
+    pub(crate) fn target(&self) -> Option<SocketAddr>
+        ensures { result ≡ self.now.target }
+    {
+        self.target
+    }
+
+    /// A link can be asked for.
+    pub(crate) fn is_open(&self) -> bool
+        ensures { result ≡ is_open self.now }
+    {
+        self.ready && self.paused_to.is_none()
+    }
+
+    pub(crate) fn pause_end(&self) -> Option<u64>
+        ensures { result ≡ self.now.paused_to }
+    {
+        self.paused_to
+    }
+
+    pub(crate) fn notice(&mut self)
+        ensures { self.new ≡ record self.old { ready = true } }
+    {
+        self.ready = true;
+    }
+
+    pub(crate) fn ran_out(&mut self)
+        ensures { self.new ≡ record self.old { ready = false } }
+    {
+        self.ready = false;
+    }
+
+    pub(crate) fn pause(&mut self, to: u64)
+        ensures { self.new ≡ record self.old { paused_to = Some to } }
+    {
+        self.paused_to = Some(to);
+    }
+
+    pub(crate) fn end_pause(&mut self)
+        ensures { self.new ≡ record self.old { paused_to = None } }
+    {
+        self.paused_to = None;
+    }
+
+    /// It is this time: a pause that reached its end is over.
+    pub(crate) fn pass_time(&mut self, time: u64)
+        ensures { self.new ≡ after_time self.old time }
+    {
+        if matches!(self.paused_to, Some(to) if to <= time) {
+            self.paused_to = None;
+        }
+    }
+
+    pub(crate) fn count_fault(&mut self)
+        ensures { self.new ≡ faulty_door self.old }
+    {
+        self.faults = self.faults.saturating_add(1);
+    }
+
+    /// Asks for a connection. It changes nothing here.
+    pub(crate) fn ask(&self) -> Result<TcpStream, Miss>
+        ensures { is_none self.now.listener ≡ true → result ≡ Err Miss.NoneWaits }
+    {
+        let Some(listener) = &self.listener else {
+            return Err(Miss::NoneWaits);
+        };
+        match listener.accept() {
+            Ok((stream, _from)) => Ok(stream),
+            Err(error) => Err(miss_of(&error)),
+        }
+    }
+}

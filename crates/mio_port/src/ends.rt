@@ -1,0 +1,266 @@
+// The ends of all links, by their numbers. An end stays once it is made, and its count of faults with it.
+ghost use Rattle.std.specs.Prelude.{◌≡◌, ◌<◌, ◌+◌, ◌*◌, [], length, map, OnOk, false, true, option_map};
+ghost use Rattle.std.specs.List.{list_any};
+ghost use Rattle.stream_words.specs.Faults.{Counted};
+ghost use Rattle.ev_port.specs.Ends.{ReadWithin, is_failed_read, WriteWithin, is_failed_write, is_failed_conn};
+ghost use Rattle.ev_types.specs.Sides.{number};
+ghost use Rattle.mio_port.specs.EndAnswers.{connection_of, connection_at, ReadBy, WrittenBy, CheckedBy};
+ghost use Rattle.mio_port.specs.PortCalls.{OthersStay};
+ghost use Rattle.mio_port.specs.OneEnd.{noticed_end, closed_end};
+ghost use Rattle.mio_port.specs.EndPlaces.{faults_of, CountsStay, CountsAt, PlacesStay, PlaceWent, holds, is_made, can_read, can_write, wants_ready, marked, unmarked};
+
+use crate::end::End;
+use ev_port::Want;
+use ev_types::{ConnAnswer, ReadAnswer, Side, SideId, WriteAnswer};
+use mio::event::Event;
+use std::alloc::{AllocError, Global};
+
+/// The ends of all links: each link's In end at twice its number, and its Out end behind it.
+///
+/// Own.
+#[derive(Drop)]
+pub(crate) struct Ends {
+    ends: Vec<Option<End>>,
+}
+
+pub(crate) fn in_end(link: u32) -> SideId
+    ensures { result ≡ record { link = link; side = Side.In } }
+{
+    SideId {
+        link,
+        side: Side::In,
+    }
+}
+
+pub(crate) fn out_end(link: u32) -> SideId
+    ensures { result ≡ record { link = link; side = Side.Out } }
+{
+    SideId {
+        link,
+        side: Side::Out,
+    }
+}
+
+// The calls on the place of an end. Where no end is there they find nothing to do.
+
+fn read_at(place: &mut Option<End>, into: &mut [u8]) -> ReadAnswer
+    requires { 0 < length into.old }
+    ensures within { ReadWithin result (length into.new) }
+    ensures cause { Counted (faults_of place.old) (faults_of place.new) (is_failed_read result) }
+    ensures by { ReadBy (connection_of place.old) result }
+{
+    match place {
+        Some(end) => end.read(into),
+        None => ReadAnswer::NotYet,
+    }
+}
+
+fn write_at(place: &mut Option<End>, from: &[u8]) -> WriteAnswer
+    requires { 0 < length from.now }
+    ensures within { WriteWithin result (length from.now) }
+    ensures cause { Counted (faults_of place.old) (faults_of place.new) (is_failed_write result) }
+    ensures by { WrittenBy (connection_of place.old) result }
+{
+    match place {
+        Some(end) => end.write(from),
+        None => WriteAnswer::NotYet,
+    }
+}
+
+fn check_at(place: &mut Option<End>) -> ConnAnswer
+    ensures cause { Counted (faults_of place.old) (faults_of place.new) (is_failed_conn result) }
+    ensures by { CheckedBy (connection_of place.old) result }
+{
+    match place {
+        Some(end) => end.check(),
+        None => ConnAnswer::Pending,
+    }
+}
+
+fn notice_at(place: &mut Option<End>, event: &Event)
+    ensures { place.new ≡ option_map (λ end. noticed_end end event.now) place.old }
+{
+    if let Some(end) = place {
+        end.notice(event);
+    }
+}
+
+fn close_at(place: &mut Option<End>)
+    ensures { place.new ≡ option_map closed_end place.old }
+{
+    if let Some(end) = place {
+        end.close();
+    }
+}
+
+impl Ends {
+    pub(crate) fn new(alloc: Global) -> Ends
+        ensures { result.ends.items ≡ [] }
+    {
+        Ends {
+            ends: Vec::new(alloc),
+        }
+    }
+
+    /// One of the two ends of this link was made already.
+    pub(crate) fn holds(&self, link: u32) -> bool
+        ensures { result ≡ holds self.now.ends.items link }
+    {
+        self.is_made(in_end(link)) || self.is_made(out_end(link))
+    }
+
+    fn is_made(&self, side: SideId) -> bool
+        ensures { result ≡ is_made self.now.ends.items side }
+    {
+        matches!(self.ends.get(side.number()), Some(Some(_)))
+    }
+
+    /// Room for the two ends of this link. Ends before them that weren't made stay absent. Where memory is wanting
+    /// nothing changes.
+    pub(crate) fn make_room(&mut self, link: u32) -> Result<(), AllocError>
+        ensures places { PlacesStay self.old.ends.items self.new.ends.items }
+        ensures room { OnOk result (2 * link + 1 < length self.new.ends.items) }
+    {
+        let needed = out_end(link).number() + 1;
+        let missing = needed.saturating_sub(self.ends.len());
+        self.ends.reserve(missing)?;
+        for _place in 0..missing {
+            self.ends.push_reserved(None);
+        }
+        Ok(())
+    }
+
+    /// Puts the two ends of a link into their places.
+    pub(crate) fn put(&mut self, link: u32, inside: End, outside: End)
+        requires room { 2 * link + 1 < length self.old.ends.items }
+        requires new { holds self.old.ends.items link ≡ false }
+        requires no_fault_in { inside.faults ≡ 0 }
+        requires no_fault_out { outside.faults ≡ 0 }
+        ensures counts { CountsStay self.old.ends.items self.new.ends.items }
+        ensures made { holds self.new.ends.items link ≡ true }
+        ensures others { OthersStay self.old.ends.items self.new.ends.items link }
+    {
+        self.ends[in_end(link).number()] = Some(inside);
+        self.ends[out_end(link).number()] = Some(outside);
+    }
+
+    /// What the kernel reported of the end with this number. Of an end that isn't there it tells nothing.
+    pub(crate) fn notice(&mut self, number: usize, event: &Event)
+        ensures counts { CountsStay self.old.ends.items self.new.ends.items }
+        ensures went { PlaceWent self.old.ends.items self.new.ends.items number (λ end. noticed_end end event.now) }
+    {
+        if let Some(place) = self.ends.get_mut(number) {
+            notice_at(place, event);
+        }
+    }
+
+    fn can_read(&self, want: Want) -> bool
+        ensures { result ≡ can_read self.now.ends.items want }
+    {
+        want.read
+            && matches!(self.ends.get(want.side.number()), Some(Some(end)) if end.is_read_ready())
+    }
+
+    fn can_write(&self, want: Want) -> bool
+        ensures { result ≡ can_write self.now.ends.items want }
+    {
+        want.write
+            && matches!(self.ends.get(want.side.number()), Some(Some(end)) if end.is_write_ready())
+    }
+
+    /// Something that is wanted can be done.
+    pub(crate) fn is_any_ready(&self, wants: &[Want]) -> bool
+        ensures { result ≡ list_any (wants_ready self.now.ends.items) wants.now }
+    {
+        wants
+            .iter()
+            .any(|want| self.can_read(*want) || self.can_write(*want))
+    }
+
+    /// Marks what is wanted and can be done, and nothing else.
+    pub(crate) fn mark(&self, wants: &mut [Want])
+        ensures { wants.new ≡ map (marked self.now.ends.items) wants.old }
+    {
+        for want in wants.iter_mut() {
+            *want = self.marked(*want);
+        }
+    }
+
+    fn marked(&self, want: Want) -> Want
+        ensures { result ≡ marked self.now.ends.items want }
+    {
+        Want {
+            can_read: self.can_read(want),
+            can_write: self.can_write(want),
+            ..want
+        }
+    }
+
+    pub(crate) fn read(&mut self, side: SideId, into: &mut [u8]) -> ReadAnswer
+        requires { 0 < length into.old }
+        ensures within { ReadWithin result (length into.new) }
+        ensures cause { CountsAt self.old.ends.items self.new.ends.items side (is_failed_read result) }
+        ensures by { ReadBy (connection_at self.old.ends.items side) result }
+    {
+        match self.ends.get_mut(side.number()) {
+            Some(place) => read_at(place, into),
+            None => ReadAnswer::NotYet,
+        }
+    }
+
+    pub(crate) fn write(&mut self, side: SideId, from: &[u8]) -> WriteAnswer
+        requires { 0 < length from.now }
+        ensures within { WriteWithin result (length from.now) }
+        ensures cause { CountsAt self.old.ends.items self.new.ends.items side (is_failed_write result) }
+        ensures by { WrittenBy (connection_at self.old.ends.items side) result }
+    {
+        match self.ends.get_mut(side.number()) {
+            Some(place) => write_at(place, from),
+            None => WriteAnswer::NotYet,
+        }
+    }
+
+    pub(crate) fn check(&mut self, side: SideId) -> ConnAnswer
+        ensures cause { CountsAt self.old.ends.items self.new.ends.items side (is_failed_conn result) }
+        ensures by { CheckedBy (connection_at self.old.ends.items side) result }
+    {
+        match self.ends.get_mut(side.number()) {
+            Some(place) => check_at(place),
+            None => ConnAnswer::Pending,
+        }
+    }
+
+    pub(crate) fn close_write(&self, side: SideId) {
+        if let Some(Some(end)) = self.ends.get(side.number()) {
+            end.close_write();
+        }
+    }
+
+    pub(crate) fn close(&mut self, side: SideId)
+        ensures counts { CountsStay self.old.ends.items self.new.ends.items }
+        ensures went { PlaceWent self.old.ends.items self.new.ends.items (number side) closed_end }
+    {
+        if let Some(place) = self.ends.get_mut(side.number()) {
+            close_at(place);
+        }
+    }
+}
+
+/// Marks nothing.
+pub(crate) fn unmark(wants: &mut [Want])
+    ensures { wants.new ≡ map unmarked wants.old }
+{
+    for want in wants.iter_mut() {
+        *want = unmarked(*want);
+    }
+}
+
+fn unmarked(want: Want) -> Want
+    ensures { result ≡ unmarked want }
+{
+    Want {
+        can_read: false,
+        can_write: false,
+        ..want
+    }
+}

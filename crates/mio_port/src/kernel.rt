@@ -1,0 +1,135 @@
+// The kernel's reports: what is watched, how often it is asked, and what it told.
+ghost use Rattle.std.specs.Prelude.{◌≡◌, ◌<◌, true, false, is_some, IfOk, OnOk};
+ghost use Rattle.mio_port.specs.OneEnd.{fresh};
+ghost use Rattle.mio_port.specs.EndPlaces.{CountsStay};
+ghost use Rattle.mio_port.specs.Waiting.{looks_after, is_due, cut_to};
+
+use crate::door::Door;
+use crate::end::{Connection, End};
+use crate::ends::Ends;
+use crate::scarce::is_scarce;
+use mio::net::{TcpListener, TcpStream};
+use mio::{Events, Interest, Poll, Registry, Token};
+use std::alloc::{AllocGlobal, Global};
+use std::io;
+use std::net::{Net, SocketAddr};
+use std::time::Duration;
+
+/// The most reports that one wait takes. What is over comes with the next.
+const MOST_EVENTS: usize = 1024;
+
+/// Where something wanted is ready already, the kernel is asked at each poll of this number.
+pub(crate) const LOOK_EVERY: u32 = 16;
+
+// No end has this number.
+const LISTENER: Token = Token(usize::MAX);
+
+/// What is watched, how many polls went by since the kernel was last asked, and a descriptor that is kept for the second
+/// end of a link, whose first one may take the last.
+///
+/// Own.
+#[derive(Drop)]
+pub(crate) struct Kernel {
+    poll: Poll,
+    events: Events<Global>,
+    skipped: u32,
+    spare: Option<Registry>,
+    ghost below: { skipped < 16 },
+}
+
+impl Kernel {
+    pub(crate) fn new<R: Net + AllocGlobal>(rt: &R) -> io::Result<Kernel> {
+        let events = Events::with_capacity(rt.alloc(), MOST_EVENTS)?;
+        Ok(Kernel {
+            poll: Poll::new(rt)?,
+            events,
+            skipped: 0,
+            spare: None,
+        })
+    }
+
+    /// A listener that is watched.
+    pub(crate) fn listen<R: Net>(&self, rt: &R, at: SocketAddr) -> io::Result<TcpListener> {
+        let mut listener = TcpListener::bind(rt, at)?;
+        self.poll
+            .registry()
+            .register(&mut listener, LISTENER, Interest::READABLE)?;
+        Ok(listener)
+    }
+
+    /// An end that is watched both ways, under its number, and whose short writes aren't held back.
+    pub(crate) fn end(&self, mut stream: TcpStream, number: usize) -> io::Result<End>
+        ensures { IfOk result (λ end. end ≡ fresh (Connection.Open stream) false) }
+    {
+        let _ignored = stream.set_nodelay(true);
+        let both_ways = Interest::READABLE | Interest::WRITABLE;
+        self.poll
+            .registry()
+            .register(&mut stream, Token(number), both_ways)?;
+        Ok(End::open(stream))
+    }
+
+    /// Sees that a descriptor is kept. It fails where the system has none.
+    pub(crate) fn keep_spare(&mut self) -> io::Result<()>
+        ensures { OnOk result (is_some self.new.spare ≡ true) }
+    {
+        if self.spare.is_none() {
+            self.spare = Some(self.poll.registry().try_clone()?);
+        }
+        Ok(())
+    }
+
+    /// Begins a connection, by the descriptor that is kept where there is no other.
+    pub(crate) fn connect<R: Net>(&mut self, rt: &R, to: SocketAddr) -> io::Result<TcpStream> {
+        match TcpStream::connect(rt, to) {
+            Err(error) if is_scarce(&error) => {
+                self.spare = None;
+                TcpStream::connect(rt, to)
+            }
+            begun => begun,
+        }
+    }
+
+    /// A poll found something ready already: is the kernel to be asked all the same?
+    pub(crate) fn is_due(&mut self) -> bool
+        ensures due { result ≡ is_due self.old.skipped }
+        ensures counted { self.new.skipped ≡ looks_after self.old.skipped }
+    {
+        self.skipped = (self.skipped + 1) % LOOK_EVERY;
+        self.skipped == 0
+    }
+
+    /// Waits for reports, at most so many milliseconds. An interrupted wait has none.
+    pub(crate) fn wait(&mut self, timeout: Option<u64>) -> io::Result<()>
+        ensures { self.new.skipped ≡ 0 }
+    {
+        self.skipped = 0;
+        self.poll
+            .poll(&mut self.events, timeout.map(Duration::from_millis))
+    }
+
+    /// Passes the reports of the last wait on.
+    pub(crate) fn tell(&self, ends: &mut Ends, door: &mut Door)
+        ensures ends { CountsStay ends.old.ends.items ends.new.ends.items }
+        ensures door { door.new.faults ≡ door.old.faults }
+    {
+        for event in &self.events {
+            if event.token() == LISTENER {
+                door.notice();
+            } else {
+                ends.notice(event.token().0, event);
+            }
+        }
+    }
+}
+
+/// A wait that ends with the pause at the latest, where there is one.
+pub(crate) fn cut_to(timeout: Option<u64>, pause: Option<u64>) -> Option<u64>
+    ensures { result ≡ cut_to timeout pause }
+{
+    match (timeout, pause) {
+        (Some(timeout), Some(pause)) => Some(timeout.min(pause)),
+        (None, pause) => pause,
+        (timeout, None) => timeout,
+    }
+}

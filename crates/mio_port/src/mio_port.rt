@@ -1,0 +1,413 @@
+// The port over real sockets. Its parts keep the ends, the listener, the kernel's reports and the clock; here stands what
+// each call of a port does with them, and which count of faults it raises.
+ghost use Rattle.std.specs.Prelude.{◌≡◌, ◌<◌, ◌≤◌, ⊤, [], true, false, length, is_some, is_none, None, MatchResult};
+ghost use Rattle.ev_types.specs.Sides.{number};
+ghost use Rattle.ev_port.specs.Vouching.{LongerBy, NothingWaits};
+ghost use Rattle.ev_port.specs.EndSteps.{EndsWent, AllWent, PortStays, no_step};
+ghost use Rattle.ev_port.specs.Faults.{FaultsStay, EndFaults, PollFaults, ListenerFaults};
+ghost use Rattle.ev_port.specs.Calls.{Ticked, ClockRead, is_failed_start, StartedAt, is_failed_accept, accept_events, accept_step, AcceptedLink};
+ghost use Rattle.ev_port.specs.Polling.{is_failed_poll, opens_accepting, AllMarked, poll_events, poll_step, PolledWith};
+ghost use Rattle.ev_port.specs.Ends.{is_failed_conn, conn_step, conn_events, ReadWithin, is_failed_read, read_step, read_events, WriteWithin, is_failed_write, write_step, write_events, close_write_events, close_events, close_write_step, close_step};
+ghost use Rattle.mio_port.specs.EndAnswers.{connection_at, ReadBy, WrittenBy, CheckedBy};
+ghost use Rattle.mio_port.specs.OneEnd.{closed_end};
+ghost use Rattle.mio_port.specs.EndPlaces.{PlacesStay, PlaceWent};
+ghost use Rattle.mio_port.specs.PortCalls.{Listens, Marked, Accepts, MadeLink, HasNoFault, IsNoLink};
+ghost use Rattle.mio_port.specs.PortFaults.{IsFaultless, mio_faults, vouches_nothing, waits_untold, silent_port, silent_end};
+
+use crate::clock::SteadyClock;
+use crate::door::{Door, Miss, miss_of, socket_addr};
+use crate::end::End;
+use crate::ends::{Ends, in_end, out_end, unmark};
+use crate::kernel::{Kernel, cut_to};
+use ev_port::{Accepted, Addr, ConnAnswer, Polled, Port, ReadAnswer, Started, Want, WriteAnswer};
+use ev_types::SideId;
+use std::alloc::AllocGlobal;
+use std::io;
+use std::io::ErrorKind;
+use std::net::{Net, SocketAddr};
+use std::time::Clock;
+
+/// For so many milliseconds no link is asked for after the system had no descriptor or no memory for one, unless an end
+/// is closed sooner.
+const SCARCE_PAUSE: u64 = 100;
+
+/// A port over TCP sockets of IPv4, none of which ever blocks a call; only `poll` waits.
+///
+/// Each socket is watched for both ways from the moment it is made, and each end keeps a bit a way that says that it is
+/// ready. A report of the kernel sets the bit, an error or a hang-up sets both, and a call that finds the way blocked
+/// clears it, as does a read or a write that came short. So a call of `poll` makes at most one call of the system, whatever
+/// is wanted; and none where something wanted is ready already, but at each 16th such poll, so that nothing waits for ever
+/// behind an end that is always ready.
+///
+/// Its clauses are those of every port. It tells nothing of the bytes and vouches for no trace, since no clause can say
+/// what a socket gives. Its counts of faults are real: one for polling, one for the listener and one an end, each of 64
+/// bits, and each rises where one of its calls is answered `Failed`. An end that was made keeps its count when it is
+/// closed.
+///
+/// It holds three descriptors, for the listener, the kernel's reports and a spare one for the second end of a link, and two for
+/// each link whose ends are open.
+///
+/// Only `start` and `accept` take memory: `start` a table of reports, `accept` the places of the link's ends and of those
+/// of lower numbers that weren't made. No memory is given back before the port goes, and a number is never used again. Each
+/// call takes constant time, but `poll`, which is linear in the wants and the reports, and `accept`, which is so over a
+/// run of links that are numbered in turn.
+///
+/// Own, over mio's `Poll`, `TcpListener` and `TcpStream`; libevent has it as event2/event.h, `EV_ET`, and event2/listener.h.
+/// Differs: a listener that found no descriptor is left alone for a while, where libevent's reports the error each time.
+#[derive(Drop)]
+pub struct MioPort<'a, R> {
+    rt: &'a R,
+    clock: SteadyClock,
+    kernel: Option<Kernel>,
+    door: Door,
+    ends: Ends,
+    polling_faults: u64,
+}
+
+impl<'a, R: Net + Clock + AllocGlobal> MioPort<'a, R> {
+    /// A port that listens nowhere, has no end and met no fault. It makes no socket and takes no memory. Its clock begins
+    /// here.
+    pub fn new(rt: &'a R) -> MioPort<'a, R>
+        ensures { IsFaultless (mio_faults result) }
+    {
+        MioPort {
+            rt,
+            clock: SteadyClock::new(rt),
+            kernel: None,
+            door: Door::new(),
+            ends: Ends::new(rt.alloc()),
+            polling_faults: 0,
+        }
+    }
+
+    /// Where it listens: after a start at port 0 the port that the system chose. `None` where it doesn't listen.
+    pub fn local(&self) -> Option<Addr>
+        ensures { is_none self.now.door.listener ≡ true → result ≡ None }
+    {
+        self.door.local()
+    }
+
+    // A first listener is closed before the second one is made.
+    fn listen(&mut self, at: Addr, to: Addr) -> io::Result<()>
+        ensures faults { self.new.door.faults ≡ self.old.door.faults }
+        ensures polling { self.new.polling_faults ≡ self.old.polling_faults }
+        ensures ends { self.new.ends ≡ self.old.ends }
+        ensures listens { MatchResult result (λ _. Listens self.new.door to Started.Started) (λ _. Listens self.new.door to Started.Failed) }
+    {
+        self.door.shut();
+        let kernel = match self.kernel.take() {
+            Some(kernel) => kernel,
+            None => Kernel::new(self.rt)?,
+        };
+        let listener = kernel.listen(self.rt, socket_addr(at));
+        self.kernel = Some(kernel);
+        self.door.open(listener?, socket_addr(to));
+        Ok(())
+    }
+
+    // A poll, with what it marks.
+    fn ready_for(&mut self, wants: &mut [Want], accept: bool, timeout: Option<u64>) -> Polled
+        ensures marked { Marked self.new.ends.ends.items wants.old wants.new result }
+        ensures asked { Accepts self.new.door accept result }
+        ensures cause { PollFaults (mio_faults self.old) (mio_faults self.new) (is_failed_poll result) }
+    {
+        let pause = self.pause_left();
+        let is_any = accept && self.door.is_open() || self.ends.is_any_ready(wants);
+        let most = if accept {
+            cut_to(timeout, pause)
+        } else {
+            timeout
+        };
+        if !self.look(is_any, most) {
+            unmark(wants);
+            self.polling_faults = self.polling_faults.saturating_add(1);
+            return Polled::Failed;
+        }
+        self.pause_left();
+        self.ends.mark(wants);
+        Polled::Ready {
+            accept: accept && self.door.is_open(),
+        }
+    }
+
+    // Whether the kernel could be asked, if it was.
+    fn look(&mut self, is_any: bool, timeout: Option<u64>) -> bool
+        ensures { FaultsStay (mio_faults self.old) (mio_faults self.new) }
+    {
+        let Some(kernel) = &mut self.kernel else {
+            return false;
+        };
+        if is_any && !kernel.is_due() {
+            return true;
+        }
+        if kernel.wait(if is_any { Some(0) } else { timeout }).is_err() {
+            return false;
+        }
+        kernel.tell(&mut self.ends, &mut self.door);
+        true
+    }
+
+    // Ends a pause that is over, and gives what is left of one that isn't.
+    fn pause_left(&mut self) -> Option<u64>
+        ensures faults { self.new.door.faults ≡ self.old.door.faults }
+        ensures polling { self.new.polling_faults ≡ self.old.polling_faults }
+        ensures ends { self.new.ends ≡ self.old.ends }
+    {
+        let to = self.door.pause_end()?;
+        let time = self.clock.read(self.rt);
+        self.door.pass_time(time);
+        self.door.pause_end()?;
+        Some(to.saturating_sub(time))
+    }
+
+    fn pause(&mut self)
+        ensures faults { self.new.door.faults ≡ self.old.door.faults }
+        ensures polling { self.new.polling_faults ≡ self.old.polling_faults }
+        ensures paused { is_some self.new.door.paused_to ≡ true }
+        ensures ends { self.new.ends ≡ self.old.ends }
+    {
+        let time = self.clock.read(self.rt);
+        self.door.pause(time.saturating_add(SCARCE_PAUSE));
+    }
+
+    // Asks for a connection only while a descriptor is kept for its other end.
+    fn pair(&mut self, link: u32) -> Result<(End, End), Miss>
+        ensures pair { HasNoFault result }
+        ensures ends { self.new.ends ≡ self.old.ends }
+        ensures door { self.new.door ≡ self.old.door }
+        ensures polling { self.new.polling_faults ≡ self.old.polling_faults }
+    {
+        let Some(kernel) = &mut self.kernel else {
+            return Err(Miss::NoneWaits);
+        };
+        if let Err(error) = kernel.keep_spare() {
+            return Err(miss_of(&error));
+        }
+        let stream = self.door.ask()?;
+        let target = self.door.target();
+        match kernel.end(stream, in_end(link).number()) {
+            Ok(inside) => {
+                let number = out_end(link).number();
+                Ok((inside, outside(self.rt, kernel, target, number)))
+            }
+            Err(error) => Err(miss_of(&error)),
+        }
+    }
+
+    // No link is made.
+    fn refuse(&mut self, why: Miss) -> Accepted
+        ensures cause { ListenerFaults (mio_faults self.old) (mio_faults self.new) (is_failed_accept result) }
+        ensures none { IsNoLink result }
+        ensures ends { self.new.ends ≡ self.old.ends }
+    {
+        match why {
+            Miss::NoneWaits => self.door.ran_out(),
+            Miss::Again => {}
+            Miss::Scarce => self.pause(),
+            Miss::Failed => {
+                self.door.count_fault();
+                return Accepted::Failed;
+            }
+        }
+        Accepted::NotYet
+    }
+}
+
+// A connection to the target that is begun, or an end that was refused.
+fn outside<R: Net>(rt: &R, kernel: &mut Kernel, target: Option<SocketAddr>, number: usize) -> End
+    ensures { result.faults ≡ 0 }
+{
+    let Some(target) = target else {
+        return End::refused();
+    };
+    let Ok(stream) = kernel.connect(rt, target) else {
+        return End::refused();
+    };
+    kernel
+        .end(stream, number)
+        .unwrap_or_else(|_error| End::refused())
+}
+
+/// What the trait leaves open, call by call:
+///
+/// - `start` listens with `SO_REUSEADDR` and the longest queue that the system allows. It is `Failed`, at the listener's
+///   count, where the address can't be had, and `NoMemory` where the table of reports or the kernel finds none. A second
+///   start closes the first listener before it makes its own, and leaves the ends. After one that failed nothing listens.
+/// - `now` is in milliseconds since the port was made and never falls. Where the system's clock can't be read it is the
+///   last reading.
+/// - `poll` is `Failed`, at the count of polling, before the first start and where the kernel refuses to wait; then nothing
+///   is marked. A wait that a signal interrupts is ready for nothing. A timeout is in milliseconds, `None` is for ever, and
+///   more than 24 days are cut to that.
+/// - `accept` makes both ends with `TCP_NODELAY`. The Out end is never connected yet: its check decides, also where its
+///   connection couldn't be begun. `NoMemory` comes before anything is accepted. `NotYet` comes for a link that was
+///   accepted before, where none waits, where one went before it was taken, and where the system is short of
+///   descriptors, buffers or memory: then no link is asked for until an end is closed or 100 ms passed, and a poll
+///   that asks for links waits no longer than that. Each other error is `Failed`, at the listener's count, and leaves the
+///   listener ready.
+/// - `connect_state` is `Failed`, at the end's count, for a connection that was refused or that broke, and stays so.
+/// - `read` and `write` are `NotYet` where they would block or were interrupted, and at an end that was closed or never
+///   made; a write that takes no byte is `Failed`, as is every other error. No signal comes of a peer that is gone.
+/// - `close_write` ignores what the system says, and `close` drops the socket with all that wasn't read.
+impl<'a, R: Net + Clock + AllocGlobal> Port for MioPort<'a, R> {
+    ghost use Rattle.std.specs.Prelude.{⊤};
+
+    ghost Plan = { ⊤ };
+
+    ghost vouches = { vouches_nothing };
+
+    ghost none_waits = { waits_untold };
+
+    ghost faults = { mio_faults };
+
+    ghost ends = { λ _. silent_end };
+
+    ghost told = { λ _. silent_port };
+
+    fn start(&mut self, listen: Addr, to: Addr) -> Started
+        ensures listens { Listens self.new.door to result }
+        ensures stays { self.new.ends ≡ self.old.ends }
+
+        // What every port says.
+        ensures cause { ListenerFaults (mio_faults self.old) (mio_faults self.new) (is_failed_start result) }
+        ensures ends { AllWent silent_end silent_end (λ _. no_step) }
+        ensures told { StartedAt silent_port silent_port listen to }
+        ensures vouched { LongerBy (vouches_nothing self.old) (vouches_nothing self.new) [] }
+    {
+        match self.listen(listen, to) {
+            Ok(()) => Started::Started,
+            Err(error) if error.kind() == ErrorKind::OutOfMemory => Started::NoMemory,
+            Err(_) => {
+                self.door.count_fault();
+                Started::Failed
+            }
+        }
+    }
+
+    fn now(&mut self) -> u64
+        ensures steady { self.old.clock.last ≤ result }
+        ensures kept { self.new.clock.last ≡ result }
+        ensures stays { self.new.ends ≡ self.old.ends }
+
+        // What every port says.
+        ensures cause { FaultsStay (mio_faults self.old) (mio_faults self.new) }
+        ensures ends { AllWent silent_end silent_end (λ _. no_step) }
+        ensures told { ClockRead silent_port silent_port result }
+        ensures vouched { Ticked (vouches_nothing self.old) (vouches_nothing self.new) result }
+    {
+        self.clock.read(self.rt)
+    }
+
+    fn poll(&mut self, wants: &mut [Want], accept: bool, timeout: Option<u64>) -> Polled
+        ensures marks { Marked self.new.ends.ends.items wants.old wants.new result }
+        ensures accepts { Accepts self.new.door accept result }
+
+        // What every port says.
+        ensures marked { AllMarked wants.old wants.new }
+        ensures asked { opens_accepting result ≡ true → accept ≡ true }
+        ensures cause { PollFaults (mio_faults self.old) (mio_faults self.new) (is_failed_poll result) }
+        ensures ends { AllWent silent_end silent_end (poll_step wants.new result) }
+        ensures told { PolledWith silent_port silent_port accept timeout result }
+        ensures vouched { LongerBy (vouches_nothing self.old) (vouches_nothing self.new) (poll_events timeout wants.new result) }
+        ensures waiting { accept ≡ true → result ≡ Polled.Ready false → NothingWaits (vouches_nothing self.new) waits_untold }
+    {
+        self.ready_for(wants, accept, timeout)
+    }
+
+    fn accept(&mut self, link: u32) -> Accepted
+        ensures made { MadeLink self.old.ends.ends.items self.new.ends.ends.items link result }
+
+        // What every port says.
+        ensures cause { ListenerFaults (mio_faults self.old) (mio_faults self.new) (is_failed_accept result) }
+        ensures ends { AllWent silent_end silent_end (accept_step link result) }
+        ensures told { AcceptedLink silent_port silent_port result }
+        ensures vouched { LongerBy (vouches_nothing self.old) (vouches_nothing self.new) (accept_events link result) }
+        ensures waiting { result ≡ Accepted.NotYet → NothingWaits (vouches_nothing self.new) waits_untold }
+    {
+        if self.ends.holds(link) {
+            return Accepted::NotYet;
+        }
+        if self.ends.make_room(link).is_err() {
+            return Accepted::NoMemory;
+        }
+        match self.pair(link) {
+            Ok((inside, outside)) => {
+                self.ends.put(link, inside, outside);
+                Accepted::Link { connected: false }
+            }
+            Err(why) => self.refuse(why),
+        }
+    }
+
+    fn connect_state(&mut self, end: SideId) -> ConnAnswer
+        ensures by { CheckedBy (connection_at self.old.ends.ends.items end) result }
+
+        // What every port says.
+        ensures cause { EndFaults (mio_faults self.old) (mio_faults self.new) end (is_failed_conn result) }
+        ensures ends { EndsWent silent_end silent_end end (conn_step result) }
+        ensures told { PortStays silent_port silent_port }
+        ensures vouched { LongerBy (vouches_nothing self.old) (vouches_nothing self.new) (conn_events end result) }
+    {
+        self.ends.check(end)
+    }
+
+    fn read(&mut self, end: SideId, into: &mut [u8]) -> ReadAnswer
+        requires { 0 < length into.old }
+        ensures by { ReadBy (connection_at self.old.ends.ends.items end) result }
+
+        // What every port says.
+        ensures within { ReadWithin result (length into.new) }
+        ensures cause { EndFaults (mio_faults self.old) (mio_faults self.new) end (is_failed_read result) }
+        ensures ends { EndsWent silent_end silent_end end (read_step result into.new) }
+        ensures told { PortStays silent_port silent_port }
+        ensures vouched { LongerBy (vouches_nothing self.old) (vouches_nothing self.new) (read_events end into.new result) }
+    {
+        self.ends.read(end, into)
+    }
+
+    fn write(&mut self, end: SideId, from: &[u8]) -> WriteAnswer
+        requires { 0 < length from.now }
+        ensures by { WrittenBy (connection_at self.old.ends.ends.items end) result }
+
+        // What every port says.
+        ensures within { WriteWithin result (length from.now) }
+        ensures cause { EndFaults (mio_faults self.old) (mio_faults self.new) end (is_failed_write result) }
+        ensures ends { EndsWent silent_end silent_end end (write_step result from.now) }
+        ensures told { PortStays silent_port silent_port }
+        ensures vouched { LongerBy (vouches_nothing self.old) (vouches_nothing self.new) (write_events end from.now result) }
+    {
+        self.ends.write(end, from)
+    }
+
+    fn close_write(&mut self, end: SideId)
+        ensures same { self.new ≡ self.old }
+
+        // What every port says.
+        ensures cause { FaultsStay (mio_faults self.old) (mio_faults self.new) }
+        ensures ends { EndsWent silent_end silent_end end (close_write_step) }
+        ensures told { PortStays silent_port silent_port }
+        ensures vouched { LongerBy (vouches_nothing self.old) (vouches_nothing self.new) (close_write_events end) }
+    {
+        self.ends.close_write(end);
+    }
+
+    fn close(&mut self, end: SideId)
+        ensures gone { PlaceWent self.old.ends.ends.items self.new.ends.ends.items (number end) closed_end }
+        ensures pause { self.new.door.paused_to ≡ None }
+
+        // What every port says.
+        ensures cause { FaultsStay (mio_faults self.old) (mio_faults self.new) }
+        ensures ends { EndsWent silent_end silent_end end (close_step) }
+        ensures told { PortStays silent_port silent_port }
+        ensures vouched { LongerBy (vouches_nothing self.old) (vouches_nothing self.new) (close_events end) }
+    {
+        self.ends.close(end);
+        self.door.end_pause();
+    }
+
+    ghost waits_no_more = { λ plan t u quiet waits. waits };
+
+    ghost unheard = { λ p e unheard plan t vouched. vouched };
+}
+
+#[cfg(test)]
+mod pauses;
