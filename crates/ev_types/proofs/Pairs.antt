@@ -16,5 +16,9 @@ paired-push (f ∷ fs) e bs ys h k =
     let whole = sum_by-cons bytes_beside f fs in
     let within : bytes_beside f ≤ length bs = omega arith in
     let left : sum_by bytes_beside fs ≡ length (drop (bytes_beside f) bs) = omega (arith, length-drop (bytes_beside f) bs) in
-    rw (take-append-le (bytes_beside f) bs ys within, drop-append-le (bytes_beside f) bs ys within, paired-push fs e
-        (drop (bytes_beside f) bs) ys left k) refl
+    rw (
+      take-append-le (bytes_beside f) bs ys within,
+      drop-append-le (bytes_beside f) bs ys within,
+      paired-push fs e
+          (drop (bytes_beside f) bs) ys left k,
+    ) refl

@@ -66,8 +66,11 @@ Reads-is_end style = record {
 pub run_length-within : (w : List ℕ) → run_length w ≤ length w
 run_length-within [] = omega arith
 run_length-within (b ∷ w) =
-    elim (is_cr_or_lf b) as (λ v. cond v (run_length w + 1) 0 ≤ length (b ∷ w)) [ true ↦ omega (arith, run_length-within w) | false
-        ↦ omega arith ]
+    elim (is_cr_or_lf b) as (λ v. cond v (run_length w + 1) 0 ≤ length (b ∷ w)) [
+      | true ↦ omega (arith, run_length-within w)
+      | false
+          ↦ omega arith
+    ]
 
 -- a run that ends before so many bytes
 pub run_length-take : (n : ℕ) (xs : List ℕ) → run_length (take n xs) < n → run_length xs ≡ run_length (take n xs)
@@ -75,7 +78,7 @@ run_length-take zero xs lt = absurd (omega arith)
 run_length-take (suc n) [] lt = refl
 run_length-take (suc n) (b ∷ xs) lt =
     elim (is_cr_or_lf b) as (λ v. cond v (run_length (take n xs) + 1) 0 < suc n → cond v (run_length xs + 1) 0 ≡ cond v
-        (run_length (take n xs) + 1) 0) [
+    (run_length (take n xs) + 1) 0) [
       | true ↦ λ below. ap (λ k. k + 1) (run_length-take n xs (omega arith))
       | false ↦ λ below. refl
     ] lt
@@ -86,7 +89,7 @@ run_length-drop zero xs full = omega arith
 run_length-drop (suc n) [] full = absurd (omega arith)
 run_length-drop (suc n) (b ∷ xs) full =
     elim (is_cr_or_lf b) as (λ v. suc n ≤ cond v (run_length (take n xs) + 1) 0 → cond v (run_length xs + 1) 0 ≡ suc n + run_length
-        (drop n xs)) [
+    (drop n xs)) [
       | true ↦ λ filled. omega (arith, run_length-drop n xs (omega arith))
       | false ↦ λ filled. absurd (omega arith)
     ] full

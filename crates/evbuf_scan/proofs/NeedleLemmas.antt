@@ -78,7 +78,7 @@ FindsNeedle-first_place needle w (Some k) some first =
           let place : p ≡ found.0 = omega (arith, found.1) in
           let within = found.2.within in
           same_first found.0 p place (λ lt. first.0.before found.0 (omega arith) lt (begins_with-OccursAt needle w found.0
-              (omega arith) found.2.passes))
+          (omega arith) found.2.passes))
           (λ lt. let no = found.2.before k lt in let yes = here in cc)
     ] refl where
       same_first : (j p : ℕ) → p ≡ j → (j < k → ⊥) → (k < j → ⊥) → Some k ≡ Some p

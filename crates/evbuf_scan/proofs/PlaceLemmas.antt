@@ -153,7 +153,7 @@ pub first_place-at : (test : List ℕ → Bool) (m : ℕ) → Reads test m → (
     first_place test at xs ≡ Some (at + p)
 first_place-at test m reads at n xs p is =
     let here : first_place test (at + 0) (take n xs) ≡ Some (at + p) = first_place-shift test at 0 (take n xs) ∙ ap
-        (option_map (λ k. at + k)) is in
+    (option_map (λ k. at + k)) is in
     let here' : first_place test at (take n xs) ≡ Some (at + p) = rw add-zero at here in
     ap (first_place test at) (sym (take-append-drop n xs)) ∙ first_place-window test m reads at (take n xs) (drop n xs) (at + p) here'
 

@@ -29,7 +29,7 @@ pub next_active-call : (b : BaseValue) (k : ℕ) (e : Event) (a : Activation) �
     b.events k ≡ Some e → e.active ≡ Some a → next_active b ≡ call b k e a
 next_active-call b k e a broken next is active =
     ap (λ (o : Option ℕ). option_map_or (λ number. at_event b number (λ e. option_map_or (call b number e) e.active (Ok b))) o
-        (Ok b)) (next_call-event b (Some k) broken next)
+    (Ok b)) (next_call-event b (Some k) broken next)
     ∙ ap (λ (o : Option Event). option_map_or (λ (e : Event). option_map_or (call b k e) e.active (Ok b)) o (Err NoEvent)) is
     ∙ ap (λ (o : Option Activation). option_map_or (call b k e) o (Ok b)) active
 
@@ -41,7 +41,7 @@ pub next_fire-call : (b : BaseValue) (k : ℕ) (e : Event) (a : Activation) → 
     b.events k ≡ Some e → e.active ≡ Some a → next_fire b ≡ Some (k, a.flags)
 next_fire-call b k e a broken next is active =
     ap (λ (o : Option ℕ). option_map_or (λ number. option_map_or (λ (e : Event). option_map (λ (a : Activation). (number, a.flags))
-        e.active) (slice_get b.events number) None) o None) (next_call-event b (Some k) broken next)
+    e.active) (slice_get b.events number) None) o None) (next_call-event b (Some k) broken next)
     ∙ ap (λ (o : Option Event). option_map_or (λ (e : Event). option_map (λ (a : Activation). (k, a.flags)) e.active) o None) is
     ∙ ap (option_map (λ (a : Activation). (k, a.flags))) active
 
@@ -81,21 +81,21 @@ pub signal-done : (b new : BaseValue) (number count k : ℕ) (numbers : List ℕ
     (count ≡ 0 → ⊥) → b.next_activation + count_by (is_woken_by number) b.events < 2 ^ 64 → list_any (overflows number count)
     b.events ≡ false
     → new ≡ with_parts b (risen 8 k k b.events b.next_activation numbers) (b.next_activation + length (wakers b.events numbers)) →
-        signal b number count ≡ Ok new
+    signal b number count ≡ Ok new
 signal-done b new number count k numbers are same some low fits is =
     let next = b.next_activation in
     let woken = count_by (is_woken_by number) b.events in
     let good : Step = Ok (with_parts b (signalled number count next b.events) (next + woken)) in
     let events : risen 8 k k b.events next numbers ≡ signalled number count next b.events =
     ap (λ n. risen 8 n n b.events next numbers) same ∙ ap (risen 8 count count b.events next) are ∙ signalled-risen number count
-        b.events [] next in
+    b.events [] next in
     let total : length (wakers b.events numbers) ≡ woken = ap (λ ks. length (wakers b.events ks)) are ∙ hearing-wakers number b.events [] in
     ap (λ t. cond t (Ok b) (cond (fit next woken && not (list_any (overflows number count) b.events)) good (Err Spent)))
-        (ne_eqb count 0 some)
+    (ne_eqb count 0 some)
     ∙ ap (λ t. cond (t && not (list_any (overflows number count) b.events)) good (Err Spent)) (fit-true next woken low)
     ∙ ap (λ t. cond (not t) good (Err Spent)) fits
     ∙ ap Ok (sym (is ∙ ap (λ es. with_parts b es (next + length (wakers b.events numbers))) events ∙ ap
-        (λ n. with_parts b (signalled number count next b.events) (next + n)) total))
+    (λ n. with_parts b (signalled number count next b.events) (next + n)) total))
 
 -- a base whose turn has begun
 abbrev pub turned : BaseValue → ℕ → ℕ → List Event → ℕ → Bool → BaseValue
@@ -110,7 +110,7 @@ turned b now time events next over = record b {
 -- a turn whose order numbers fit
 pub begin_turn-ok : (b : BaseValue) (now : ℕ) → b.next_activation + count_by (wakes (time_at b.time now)) b.events < 2 ^ 64
     → begin_turn b now ≡ Ok (turned b now (time_at b.time now) (map (timed_out (time_at b.time now) b.next_activation b.events)
-        b.events) (b.next_activation + count_by (wakes (time_at b.time now)) b.events) (ended b))
+    b.events) (b.next_activation + count_by (wakes (time_at b.time now)) b.events) (ended b))
 begin_turn-ok b now low = ap (λ t. cond t
     (Ok (turned b now (time_at b.time now) (map (timed_out (time_at b.time now) b.next_activation b.events) b.events)
     (b.next_activation + count_by (wakes (time_at b.time now)) b.events) (ended b))) (Err Spent))
@@ -121,20 +121,28 @@ pub begin_turn-done : (b mid new : BaseValue) (now time : ℕ) (numbers : List �
     → length (wakers b.events numbers) ≡ count_by (wakes time) b.events
     → b.next_activation + count_by (wakes time) b.events < 2 ^ 64
     → mid ≡ with_parts b (risen 1 1 0 b.events b.next_activation numbers) (b.next_activation + length (wakers b.events numbers))
-    → new ≡ record mid { time = time; batch_priority = unwrap_or (least active_priority mid.events) 0; batch_end = cond over 0
-        mid.next_activation }
+    → new ≡ record mid {
+      time = time;
+      batch_priority = unwrap_or (least active_priority mid.events) 0;
+      batch_end = cond over 0
+          mid.next_activation;
+    }
     → begin_turn b now ≡ Ok new
 begin_turn-done b mid new now time numbers over at_time is_over events total low half whole =
     let next = b.next_activation in
     let made : new ≡ turned b now time (map (timed_out time next b.events) b.events) (next + count_by (wakes time) b.events) (ended b) =
     whole
-    ∙ ap (λ (m : BaseValue). record m { time = time; batch_priority = unwrap_or (least active_priority m.events) 0; batch_end =
-        cond over 0 m.next_activation }) half
+    ∙ ap (λ (m : BaseValue). record m {
+      time = time;
+      batch_priority = unwrap_or (least active_priority m.events) 0;
+      batch_end =
+          cond over 0 m.next_activation;
+    }) half
     ∙ ap (λ es. turned b now time es (next + length (wakers b.events numbers)) over) events
     ∙ ap (λ n. turned b now time (map (timed_out time next b.events) b.events) (next + n) over) total
     ∙ ap (turned b now time (map (timed_out time next b.events) b.events) (next + count_by (wakes time) b.events)) is_over in
     let low_then : next + count_by (wakes (time_at b.time now)) b.events < 2 ^ 64 = subst (λ t. next + count_by (wakes t) b.events
-        < 2 ^ 64) at_time low in
+    < 2 ^ 64) at_time low in
     begin_turn-ok b now low_then
     ∙ ap (λ t. Ok (turned b now t (map (timed_out t next b.events) b.events) (next + count_by (wakes t) b.events) (ended b))) (sym at_time)
     ∙ ap Ok (sym made)
@@ -154,7 +162,7 @@ pub called-kept : (events : List Event) (before after : DeadlinesValue) (ready :
     (timeout : Option Timeout) → AreKept events before ready → slice_get events k ≡ Some e → e.active ≡ Some a → after.moments ≡
     set before.moments k (option_map moment_at timeout)
     → AreKept (set events k (record e { pending = e.persist && e.pending; timeout = timeout; active = one_less a })) after
-        (record ready { places = cond (is_some (one_less a)) ready.places (set ready.places k None) })
+    (record ready { places = cond (is_some (one_less a)) ready.places (set ready.places k None) })
 called-kept events before after ready k e a timeout kept is active moments = AreKept-as _
     (record before { moments = set before.moments k (option_map moment_at timeout) }) after _ moments (split (nat_le a.count 1) refl)
   where
@@ -170,8 +178,10 @@ called-kept events before after ready k e a timeout kept is active moments = Are
     split : (b : Bool) → nat_le a.count 1 ≡ b → AreKept
         (set events k (left (cond b None (Some (record a { count = a.count - 1 })))))
         (record before { moments = set before.moments k (option_map moment_at timeout) })
-        (record ready { places = cond (is_some (cond b None (Some (record a { count = a.count - 1 })))) ready.places
-            (set ready.places k None) })
+        (record ready {
+          places = cond (is_some (cond b None (Some (record a { count = a.count - 1 })))) ready.places
+              (set ready.places k None);
+        })
     split true h = AreKept-set events before ready k e (left None) (option_map moment_at timeout) None kept is refl refl low
     split false h = AreKept-moment events before ready k e (left (Some (record a { count = a.count - 1 })))
         (option_map moment_at timeout) kept is refl

@@ -49,14 +49,17 @@ own_of : (waiting : List (Option Waiting)) (k : ℕ) (w : Waiting) → at waitin
     t.key ≡ Some (kept t) → is_timer_of w.timer t ≡ nat_eq t.key k
 own_of waiting k w is apart t h = ⊎_elim
     (λ e. (let same : kept t ≡ w = (let there : at waiting k ≡ Some (kept t) = subst (λ i. at waiting i ≡ Some (kept t)) e h in cc
-        (there, is)) in
+    (there, is)) in
     let handle : w.timer ≡ t.handle = sym (ap (λ (v : Waiting). v.timer) same) in
-    let all : is_timer_of t.handle t ≡ true = rw (eq-eqb t.handle.slot t.handle.slot refl, eq-eqb t.handle.stamp t.handle.stamp
-        refl) refl in
+    let all : is_timer_of t.handle t ≡ true = rw (
+      eq-eqb t.handle.slot t.handle.slot refl,
+      eq-eqb t.handle.stamp t.handle.stamp
+          refl,
+    ) refl in
     ap (λ (h : TimerKey). is_timer_of h t) handle ∙ all ∙ sym (eq-eqb t.key k e)))
     (λ n. (let stamps : t.handle.stamp ≡ w.timer.stamp → ⊥ = λ e. apart t.key (kept t) n h e in
     and_right (nat_eq t.handle.slot w.timer.slot) (nat_eq t.handle.stamp w.timer.stamp) (ne_eqb t.handle.stamp w.timer.stamp
-        stamps) ∙ sym (ne_eqb t.key k n)))
+    stamps) ∙ sym (ne_eqb t.key k n)))
     (cases_eq t.key k)
 
 -- the keys without the timer of a handle are the others
@@ -106,7 +109,7 @@ pub IsLeast-first_deadline : (pending : List Timer) (waiting : List (Option Wait
 IsLeast-first_deadline [] waiting last timed = λ k. ap (option_map (λ (m : Moment). m.deadline)) (timed.rises k)
 IsLeast-first_deadline (t ∷ ts) waiting last timed =
     let is : at (moments waiting) t.key ≡ Some (moment (kept t)) = at-moments waiting t.key ∙ ap (option_map moment)
-        (All-head (HasHandle waiting) t ts timed.handles) in (
+    (All-head (HasHandle waiting) t ts timed.handles) in (
       (t.key, ap (option_map (λ (m : Moment). m.deadline)) is),
       λ j m e. least (at (moments waiting) j) m e (λ n h. ⊎_elim
           (λ q. (let same : Some (moment (kept t)) ≡ Some n = sym (ap (at (moments waiting)) q ∙ is) ∙ h in
@@ -149,7 +152,7 @@ due_rises time (t ∷ ts) f r h =
     let rest = due_rises time ts (but t.key f) r.1 (tells_but t.key f ts (All-tail (Tells f) t ts h)) in
     ⊎_elim
     (λ due. (let in_time : nat_le r.0.value.deadline time ≡ true = le-leb r.0.value.deadline time
-        (omega (arith, leb-true t.deadline time due)) in
+    (omega (arith, leb-true t.deadline time due)) in
     rw due (
       record {
         value = r.0.value;
@@ -162,7 +165,7 @@ due_rises time (t ∷ ts) f r h =
     (λ later. (let after : time < t.deadline = leb-false t.deadline time later in
     rw later (λ k. late time (f k) (λ m e. ⊎_elim
     (λ q. (let v : r.0.value ≡ m = (let e2 = sym r.0.has ∙ sym (ap f q) ∙ e in cc e2) in subst (λ (x : Moment). time < x.deadline)
-        v (omega arith)))
+    v (omega arith)))
     (λ n. omega (arith, (r.0.leads k m n e).0))
     (cases_eq k t.key)))))
     (cases_Bool (nat_le t.deadline time))
@@ -224,7 +227,7 @@ rises_with t m (u ∷ us) f own r h none last =
     let same : r.0.value.deadline ≡ u.deadline = All-head (Tells f) u us h r.0.value r.0.has in
     let apart : u.key ≢ t.key = λ e. (let no = sym r.0.has ∙ ap f e ∙ none in cc no) in
     let rest = rises_with t m us (but u.key f) own r.1 (tells_but u.key f us (All-tail (Tells f) u us h))
-        (but-none u.key t.key f none) (λ j n e. last j n (but-some u.key j n f e)) in
+    (but-none u.key t.key f none) (λ j n e. last j n (but-some u.key j n f e)) in
     ⊎_elim
     (λ sooner. rw sooner (
       record {
@@ -234,7 +237,7 @@ rises_with t m (u ∷ us) f own r h none last =
             (let is : f j ≡ Some n = sym (with-other t.key j m f other) ∙ e in
             let behind : u.deadline ≤ n.deadline = ⊎_elim
             (λ q. (let v : r.0.value ≡ n = (let e2 = sym r.0.has ∙ sym (ap f q) ∙ is in cc e2) in subst
-                (λ (x : Moment). u.deadline ≤ x.deadline) v (omega arith)))
+            (λ (x : Moment). u.deadline ≤ x.deadline) v (omega arith)))
             (λ d. omega (arith, (r.0.leads j n d is).0))
             (cases_eq j u.key) in
             let less = ltb-true t.deadline u.deadline sooner in
@@ -271,7 +274,7 @@ rise_from (t ∷ ts) f r h =
     let tells = All-tail (Tells f) t ts h in (
       (λ k d lt. (let has_it = has k d lt in
           let other : (get_or ts k d).key ≢ t.key = λ e. (let no : but t.key f (get_or ts k d).key ≡ None = ap (but t.key f) e ∙
-              but-same t.key f in let both = sym no ∙ has_it.1 in cc both) in
+          but-same t.key f in let both = sym no ∙ has_it.1 in cc both) in
           let value : f (get_or ts k d).key ≡ Some has_it.0 = but-some t.key (get_or ts k d).key has_it.0 f has_it.1 in
           let own : has_it.0.deadline ≡ (get_or ts k d).deadline = tells k d lt has_it.0 value in
           let ahead = (r.0.leads (get_or ts k d).key has_it.0 other value).0 in omega arith)),
@@ -291,12 +294,12 @@ without_with handle t (u ∷ us) new rise =
     ⊎_elim
     (λ sooner. (let less = ltb-true t.deadline u.deadline sooner in
     let behind : All (λ (v : Timer). t.deadline < v.deadline) (u ∷ us) = All-cons (λ (v : Timer). t.deadline < v.deadline) u us
-        less (All-weaker (λ (v : Timer). u.deadline ≤ v.deadline) (λ (v : Timer). t.deadline < v.deadline) (λ v h. omega arith) us
-        rise.0) in
+    less (All-weaker (λ (v : Timer). u.deadline ≤ v.deadline) (λ (v : Timer). t.deadline < v.deadline) (λ v h. omega arith) us
+    rise.0) in
     let left : without handle (with_timer t (u ∷ us)) ≡ t ∷ without handle (u ∷ us) = rw (sooner, new) refl in
     left ∙ sym (first_with t (without handle (u ∷ us)) (all_left (λ (v : Timer). t.deadline < v.deadline)
-        (λ v. not (is_timer_of handle v)) (u ∷ us) (All-weaker (λ (v : Timer). t.deadline < v.deadline)
-        (λ v. not (is_timer_of handle v) ≡ true → t.deadline < v.deadline) (λ v h p. h) (u ∷ us) behind)))))
+    (λ v. not (is_timer_of handle v)) (u ∷ us) (All-weaker (λ (v : Timer). t.deadline < v.deadline)
+    (λ v. not (is_timer_of handle v) ≡ true → t.deadline < v.deadline) (λ v h p. h) (u ∷ us) behind)))))
     (λ later. rw later (split (is_timer_of handle u) later rest))
     (cases_Bool (nat_lt t.deadline u.deadline))
   where
@@ -316,31 +319,31 @@ IsTimed-add pending waiting last t timed none lt number =
           (Rises-same IsSooner _ (with t.key (moment (kept t)) (at (moments waiting))) _
           (λ j. at-set_some (moments waiting) t.key j (moment (kept t)) (rw (length-map waiting (option_map moment)) lt))
           (rises_with t (moment (kept t)) pending (at (moments waiting)) refl timed.rises (IsTimed-tells pending waiting last
-              timed) (at-moments waiting t.key ∙ ap (option_map moment) none)
+          timed) (at-moments waiting t.key ∙ ap (option_map moment) none)
           (λ j n h. order_below (at waiting j) n (λ w e. timed.below j w e) (sym (at-moments waiting j) ∙ h))));
       handles = all_with (HasHandle (set waiting t.key (Some (kept t)))) t pending (get_or-set_same waiting t.key (Some (kept t)) None lt)
           (All-weaker (HasHandle waiting) (HasHandle (set waiting t.key (Some (kept t))))
           (λ u h. (let other : u.key ≢ t.key = λ e. (let no = sym h ∙ ap (at waiting) e ∙ none in cc no) in get_or-set_other
-              waiting t.key u.key (Some (kept t)) None other ∙ h)) pending timed.handles);
+          waiting t.key u.key (Some (kept t)) None other ∙ h)) pending timed.handles);
       below = λ j w h. ⊎_elim
           (λ e. (let v : kept t ≡ w = (let e2 = sym (ap (at (set waiting t.key (Some (kept t)))) e ∙ get_or-set_same waiting t.key
-              (Some (kept t)) None lt) ∙ h in cc e2) in
+          (Some (kept t)) None lt) ∙ h in cc e2) in
           subst (λ (x : Waiting). number_of x.timer ≤ last + 1) v (omega arith)))
           (λ n. (let low = timed.below j w (sym (get_or-set_other waiting t.key j (Some (kept t)) None n) ∙ h) in omega arith))
           (cases_eq j t.key);
       apart = λ j k v w n h g. ⊎_elim
           (λ e. (let is : kept t ≡ v = (let e2 = sym (ap (at (set waiting t.key (Some (kept t)))) e ∙ get_or-set_same waiting t.key
-              (Some (kept t)) None lt) ∙ h in cc e2) in
+          (Some (kept t)) None lt) ∙ h in cc e2) in
           let other : k ≢ t.key = λ q. n (e ∙ sym q) in
           let low = timed.below k w (sym (get_or-set_other waiting t.key k (Some (kept t)) None other) ∙ g) in
           subst (λ (x : Waiting). number_of x.timer ≢ number_of w.timer) is (λ same. omega arith)))
           (λ m. ⊎_elim
           (λ e. (let is : kept t ≡ w = (let e2 = sym (ap (at (set waiting t.key (Some (kept t)))) e ∙ get_or-set_same waiting t.key
-              (Some (kept t)) None lt) ∙ g in cc e2) in
+          (Some (kept t)) None lt) ∙ g in cc e2) in
           let low = timed.below j v (sym (get_or-set_other waiting t.key j (Some (kept t)) None m) ∙ h) in
           subst (λ (x : Waiting). number_of v.timer ≢ number_of x.timer) is (λ same. omega arith)))
           (λ other. timed.apart j k v w n (sym (get_or-set_other waiting t.key j (Some (kept t)) None m) ∙ h)
-              (sym (get_or-set_other waiting t.key k (Some (kept t)) None other) ∙ g))
+          (sym (get_or-set_other waiting t.key k (Some (kept t)) None other) ∙ g))
           (cases_eq k t.key))
           (cases_eq j t.key);
     }
@@ -359,7 +362,7 @@ IsTimed-replace pending waiting last t w timed is lt number =
     let low = timed.below t.key w is in
     let stamps : t.handle.stamp ≡ w.timer.stamp → ⊥ = λ e. omega arith in
     let new : is_timer_of w.timer t ≡ false = and_right (nat_eq t.handle.slot w.timer.slot) (nat_eq t.handle.stamp w.timer.stamp)
-        (ne_eqb t.handle.stamp w.timer.stamp stamps) in
+    (ne_eqb t.handle.stamp w.timer.stamp stamps) in
     let rise = rise_from pending (at (moments waiting)) timed.rises (IsTimed-tells pending waiting last timed) in
     let placed = IsTimed-add (without w.timer pending) (set waiting t.key None) last t (IsTimed-clear pending waiting last t.key w timed is)
     (get_or-set_same waiting t.key None None lt) (rw (length-set waiting t.key None) lt) number in

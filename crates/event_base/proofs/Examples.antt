@@ -36,7 +36,7 @@ pub known_periodic : (sees periodic ≡ Some (Some (0, 1), Some 0))
     × (sees (run (new_base 1) (persists ∷ adds 0 100 ∷ turn 100 ∷ next_active ∷ turn 150 ∷ [])) ≡ Some (None, Some 50))
     × (sees (run (new_base 1) (persists ∷ adds 0 100 ∷ turn 100 ∷ next_active ∷ turn 230 ∷ next_active ∷ [])) ≡ Some (None, Some 70))
     × (sees (run (new_base 1) (persists ∷ adds 0 100 ∷ turn 100 ∷ next_active ∷ turn 230 ∷ next_active ∷ turn 430 ∷ next_active ∷
-        [])) ≡ Some (None, Some 100))
+    [])) ≡ Some (None, Some 100))
 known_periodic = (refl, refl, refl, refl)
 
 -- a signal event is called once for each count, until it is deleted
@@ -52,13 +52,13 @@ known_signals = (refl, refl, refl)
 -- Equal deadlines fire in the order of adding, and less urgent events in a later turn.
 pub known_crowd : (sees (run (new_base 2) ((λ b. new_event b false None) ∷ (λ b. set_priority b 0 2) ∷ [])) ≡ None)
     × (sees (run (new_base 3) (once ∷ once ∷ once ∷ (λ b. set_priority b 2 0) ∷ adds 2 5 ∷ adds 1 5 ∷ adds 0 5 ∷ turn 7 ∷ [])) ≡
-        Some (Some (2, 1), Some 0))
+    Some (Some (2, 1), Some 0))
     × (sees (run (new_base 3) (once ∷ once ∷ once ∷ (λ b. set_priority b 2 0) ∷ adds 2 5 ∷ adds 1 5 ∷ adds 0 5 ∷ turn 7 ∷
-        next_active ∷ [])) ≡ Some (None, Some 0))
+    next_active ∷ [])) ≡ Some (None, Some 0))
     × (sees (run (new_base 3) (once ∷ once ∷ once ∷ (λ b. set_priority b 2 0) ∷ adds 2 5 ∷ adds 1 5 ∷ adds 0 5 ∷ turn 7 ∷
-        next_active ∷ turn 8 ∷ [])) ≡ Some (Some (1, 1), Some 0))
+    next_active ∷ turn 8 ∷ [])) ≡ Some (Some (1, 1), Some 0))
     × (sees (run (new_base 3) (once ∷ once ∷ once ∷ (λ b. set_priority b 2 0) ∷ adds 2 5 ∷ adds 1 5 ∷ adds 0 5 ∷ turn 7 ∷
-        next_active ∷ turn 8 ∷ next_active ∷ [])) ≡ Some (Some (0, 1), Some 0))
+    next_active ∷ turn 8 ∷ next_active ∷ [])) ≡ Some (Some (0, 1), Some 0))
 known_crowd = (refl, refl, refl, refl, refl)
 
 -- an event that was deleted and made active anew waits for a later turn
@@ -70,9 +70,9 @@ known_anew = refl
 pub known_joined : (sees (run (new_base 1) ((λ b. new_event b false (Some 3)) ∷ adds 0 1 ∷ turn 1 ∷ (λ b. signal b 3 1) ∷
     (λ b. activate b 0 2) ∷ [])) ≡ Some (Some (0, 11), Some 0))
     × (sees (run (new_base 1) ((λ b. new_event b false (Some 3)) ∷ adds 0 1 ∷ turn 1 ∷ (λ b. signal b 3 1) ∷ (λ b. activate b 0 2)
-        ∷ next_active ∷ [])) ≡ Some (Some (0, 11), Some 0))
+    ∷ next_active ∷ [])) ≡ Some (Some (0, 11), Some 0))
     × (sees (run (new_base 1) ((λ b. new_event b false (Some 3)) ∷ adds 0 1 ∷ turn 1 ∷ (λ b. signal b 3 1) ∷ (λ b. activate b 0 2)
-        ∷ next_active ∷ next_active ∷ [])) ≡ Some (None, None))
+    ∷ next_active ∷ next_active ∷ [])) ≡ Some (None, None))
     × (sees (run (new_base 1) ((λ b. new_event b false (Some 3)) ∷ adds 0 1 ∷ turn 1 ∷ (λ b. signal b 3 1) ∷ adds 0 4 ∷ [])) ≡ Some
-        (None, Some 4))
+    (None, Some 4))
 known_joined = (refl, refl, refl, refl)

@@ -53,7 +53,7 @@ unfound p xs d fail =
     (λ j low. fail j (get_or xs j d) (here xs j d low))
     (λ within. absurd (omega arith)) in
     ap (λ n. cond (nat_lt n (length xs)) (Some n) None) place ∙ ap (λ b. cond b (Some (length xs)) None)
-        (le-ltb (length xs) (length xs) (omega arith))
+    (le-ltb (length xs) (length xs) (omega arith))
 
 -- the order number of an active event
 abbrev order_of : Option Activation → Option ℕ
@@ -129,31 +129,31 @@ next_event-front b places k tied front low =
     let batch : in_batch b e.0 ≡ true = order_batch e.0.active e.0.priority p front.value b.batch_end e.2 low in
     let own : order_of e.0.active ≡ Some front.value = order_own e.0.active e.0.priority p front.value e.2 in
     let nobody : list_any (λ other. in_batch b other && made_earlier other e.0) b.events ≡ false = none_any
-        (λ other. in_batch b other && made_earlier other e.0) b.events
+    (λ other. in_batch b other && made_earlier other e.0) b.events
     (λ j y is. ⊎_elim
     (λ inside. (let order = batch_order y.active y.priority p b.batch_end inside in
     let placed : orders p places j ≡ Some order.0 = own_order places b.events p j y tied is ∙ order.1 in
     let above : front.value ≤ order.0 = ⊎_elim
     (λ q. (let same : Some front.value ≡ Some order.0 = sym front.has ∙ sym (ap (orders p places) q) ∙ placed in let equal :
-        front.value ≡ order.0 = cc same in omega arith))
+    front.value ≡ order.0 = cc same in omega arith))
     (λ n. (let more = front.leads j order.0 n placed in omega arith))
     (cases_eq j k) in
     and_right (in_batch b y) (made_earlier y e.0) (earlier y.active e.0.active order.0 front.value
-        (order_own y.active y.priority p order.0 order.1) own ∙ le-ltb order.0 front.value above)))
+    (order_own y.active y.priority p order.0 order.1) own ∙ le-ltb order.0 front.value above)))
     (λ out. and_left (in_batch b y) (made_earlier y e.0) out)
     (cases_Bool (in_batch b y))) in
     found (is_first b) b.events k e.0 e.1 (and_from (in_batch b e.0)
-        (not (list_any (λ other. in_batch b other && made_earlier other e.0) b.events)) batch (ap not nobody))
+    (not (list_any (λ other. in_batch b other && made_earlier other e.0) b.events)) batch (ap not nobody))
     (λ j y less is. ⊎_elim
     (λ inside. (let order = batch_order y.active y.priority p b.batch_end inside in
     let placed : orders p places j ≡ Some order.0 = own_order places b.events p j y tied is ∙ order.1 in
     let apart : j ≡ k → ⊥ = λ q. omega arith in
     let above = front.leads j order.0 apart placed in
     let before : made_earlier e.0 y ≡ true = earlier e.0.active y.active front.value order.0 own
-        (order_own y.active y.priority p order.0 order.1) ∙ lt-ltb front.value order.0 above in
+    (order_own y.active y.priority p order.0 order.1) ∙ lt-ltb front.value order.0 above in
     and_right (in_batch b y) (not (list_any (λ other. in_batch b other && made_earlier other y) b.events))
     (ap not (any_from (λ other. in_batch b other && made_earlier other y) b.events k e.0 e.1
-        (and_from (in_batch b e.0) (made_earlier e.0 y) batch before)))))
+    (and_from (in_batch b e.0) (made_earlier e.0 y) batch before)))))
     (λ out. and_left (in_batch b y) (not (list_any (λ other. in_batch b other && made_earlier other y) b.events)) out)
     (cases_Bool (in_batch b y)))
 
@@ -175,7 +175,7 @@ least_is number (e ∷ es) = go (number e) (least number es) refl (least_is numb
 
     go : (n rest : Option ℕ) → number e ≡ n → IsLeast (λ k. option_and_then number (slice_get es k)) rest
         → IsLeast (λ k. option_and_then number (slice_get (e ∷ es) k))
-            (option_map_or (λ n. Some (option_map_or (λ m. min n m) rest n)) n rest)
+        (option_map_or (λ n. Some (option_map_or (λ m. min n m) rest n)) n rest)
     go None None q h = by_cases
       where
         by_cases : (k : ℕ) → option_and_then number (slice_get (e ∷ es) k) ≡ None
@@ -213,7 +213,7 @@ pub least-priority : (places : List (Option Place)) (events : List Event) (o : O
 least-priority places events o tied h = least_unique (λ k. option_and_then active_priority (slice_get events k))
     (least active_priority events) o (least_is active_priority events)
     (least_same (priorities places) (λ k. option_and_then active_priority (slice_get events k)) o
-        (λ k. own k (slice_get events k) (tied k)) h)
+    (λ k. own k (slice_get events k) (tied k)) h)
   where
     active : (x : Option Activation) (priority : ℕ) → cond (is_some x) (Some priority) None ≡ option_map
         (λ (place : Place). place.priority) (option_map (λ (a : Activation). placed_at priority a.order) x)

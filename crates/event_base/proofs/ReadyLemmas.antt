@@ -134,7 +134,7 @@ pub IsPlaced-rest_front : (queues : List (List ℕ)) (places : List (Option Plac
 IsPlaced-rest_front queues places next priority k placed front =
     let there : priority < length queues = ⊎_elim (λ lt. lt)
     (λ past. (let none = subst (λ q. Rises ◌<◌ q (orders priority places)) (get_or_past queues priority [] past)
-        (placed.rises priority) k in cc (none, front.has)))
+    (placed.rises priority) k in cc (none, front.has)))
     (cases_lt priority (length queues)) in record {
       rises = λ q. ⊎_elim
           (λ e. subst (λ p. Rises ◌<◌ (queue_of (popped queues priority) p) (orders p (set places k None))) e
@@ -144,7 +144,7 @@ IsPlaced-rest_front queues places next priority k placed front =
           (λ n. rw (get_or-set_other queues priority q (drop 1 (queue_of queues priority)) [] (λ e. n (sym e)))
           (Rises-same ◌<◌ _ (orders q places) _
           (λ j. orders-set_none q places k j ∙ sym
-              (but-absent k j (orders q places) (in_one (at places k) priority q front.value n front.has)))
+          (but-absent k j (orders q places) (in_one (at places k) priority q front.value n front.has)))
           (placed.rises q)))
           (cases_eq priority q);
       below = λ j place h. placed.below j place (but-some k j place (at places) (sym (at-set_none places k j) ∙ h));
@@ -175,7 +175,7 @@ orders-set_other : (places : List (Option Place)) (k j priority : ℕ) (place : 
     (place.priority ≡ priority → ⊥) → orders priority (set places k (Some place)) j ≡ orders priority places j
 orders-set_other places k j priority place lt was n = ⊎_elim
     (λ e. (let there : orders priority (set places k (Some place)) j ≡ None = ap (λ i. orders priority (set places k (Some place))
-        i) e ∙ ap (order_in priority) (get_or-set_same places k (Some place) None lt) ∙ other in
+    i) e ∙ ap (order_in priority) (get_or-set_same places k (Some place) None lt) ∙ other in
     let before : orders priority places j ≡ None = ap (orders priority places) e ∙ ap (order_in priority) was in cc (there, before)))
     (λ m. ap (order_in priority) (get_or-set_other places k j (Some place) None m))
     (cases_eq j k)
@@ -214,7 +214,7 @@ IsPlaced-wake queues places next k priority placed lt was there =
           (cases_eq priority q);
       below = λ j other h. ⊎_elim
           (λ e. (let is : at (set places k (Some place)) j ≡ Some place = ap (at (set places k (Some place))) e ∙ get_or-set_same
-              places k (Some place) None lt in
+          places k (Some place) None lt in
           let same : place ≡ other = cc (is, h) in subst (λ (p : Place). p.order < next + 1) same (omega arith)))
           (λ n. (let low = placed.below j other (sym (get_or-set_other places k j (Some place) None n) ∙ h) in omega arith))
           (cases_eq j k);

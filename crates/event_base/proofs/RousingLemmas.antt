@@ -72,11 +72,14 @@ AreKept-next events deadlines n places next last kept = record {
 pub risen-kept : (flag first more : ℕ) (ks : List ℕ) (events : List Event) (deadlines : DeadlinesValue) (n : ℕ)
     (places : List (Option Place)) (next last : ℕ)
     → AreKept events deadlines (record { priorities = n; places = places; next = next }) → AreApart ks → CanRise flag first more
-        events next ks
+    events next ks
     → CanWake n places next (wakers events ks) × AreKept (risen flag first more events next ks) deadlines
-        (record { priorities = n; places = woken places next (wakers events ks); next = last })
-risen-kept flag first more [] events deadlines n places next last kept apart can = (tt, AreKept-next events deadlines n places next
-    last kept)
+    (record { priorities = n; places = woken places next (wakers events ks); next = last })
+risen-kept flag first more [] events deadlines n places next last kept apart can = (
+  tt,
+  AreKept-next events deadlines n places next
+      last kept,
+)
 risen-kept flag first more (k ∷ ks) events deadlines n places next last kept apart can =
     let e = event_of events k in
     let new = activated flag next first more e in
@@ -87,37 +90,42 @@ risen-kept flag first more (k ∷ ks) events deadlines n places next last kept a
     let others : wakers (set events k new) ks ≡ ws = wakers-set events k new ks apart.0 in
     let w : Waking = record { event = k; priority = e.priority } in
     let claim : Bool → Type 0 = λ b. CanWake n places next (cond b ws (w ∷ ws)) × AreKept (risen flag first more (set events k new)
-        (next + needed e) ks) deadlines (record { priorities = n; places = woken places next (cond b ws (w ∷ ws)); next = last }) in
+    (next + needed e) ks) deadlines (record { priorities = n; places = woken places next (cond b ws (w ∷ ws)); next = last }) in
     ⊎_elim
     (λ active. (let same : next + needed e ≡ next = ap (λ b. next + cond b 0 1) active ∙ add-zero next in
     let after : AreKept (set events k new) deadlines (record { priorities = n; places = places; next = next + needed e }) =
-        AreKept-next (set events k new) deadlines n places next (next + needed e) (AreKept-keep events deadlines ready k e new kept
-        is refl (active_place e.active flag next first more e.priority active) low) in
+    AreKept-next (set events k new) deadlines n places next (next + needed e) (AreKept-keep events deadlines ready k e new kept
+    is refl (active_place e.active flag next first more e.priority active) low) in
     let rest = risen-kept flag first more ks (set events k new) deadlines n places (next + needed e) last after apart.1 can.3 in
     subst claim (sym active) (
       subst (λ m. CanWake n places m ws) same (subst (λ (vs : List Waking). CanWake n places (next + needed e) vs) others rest.0),
       subst (λ m. AreKept (risen flag first more (set events k new) (next + needed e) ks) deadlines
           (record { priorities = n; places = woken places m ws; next = last })) same
           (subst (λ (vs : List Waking). AreKept (risen flag first more (set events k new) (next + needed e) ks) deadlines
-              (record { priorities = n; places = woken places (next + needed e) vs; next = last })) others rest.1),
+          (record { priorities = n; places = woken places (next + needed e) vs; next = last })) others rest.1),
     )))
     (λ fresh. (let more_by : next + needed e ≡ next + 1 = ap (λ b. next + cond b 0 1) fresh in
     let place : Place = placed_at e.priority next in
     let after : AreKept (set events k new) deadlines
-        (record { priorities = n; places = set places k (Some place); next = next + needed e }) = AreKept-next (set events k new)
-        deadlines n (set places k (Some place)) next (next + needed e) (AreKept-place events deadlines ready k e new
-        (Some place) kept is refl (fresh_place e.active flag next first more e.priority fresh) low) in
+    (record { priorities = n; places = set places k (Some place); next = next + needed e }) = AreKept-next (set events k new)
+    deadlines n (set places k (Some place)) next (next + needed e) (AreKept-place events deadlines ready k e new
+    (Some place) kept is refl (fresh_place e.active flag next first more e.priority fresh) low) in
     let rest = risen-kept flag first more ks (set events k new) deadlines n (set places k (Some place)) (next + needed e) last
-        after apart.1 can.3 in
+    after apart.1 can.3 in
     let none : at places k ≡ None = kept.placed k ∙ ap (option_and_then place_of) is ∙ no_place e.active e.priority fresh in
     let room : k < length places = (let lt = can.0 in let wide = kept.places in omega arith) in
     subst claim (sym fresh) (
-      (room, none, low, subst (λ m. CanWake n (set places k (Some place)) m ws) more_by (subst
-          (λ (vs : List Waking). CanWake n (set places k (Some place)) (next + needed e) vs) others rest.0)),
+      (
+        room,
+        none,
+        low,
+        subst (λ m. CanWake n (set places k (Some place)) m ws) more_by (subst
+            (λ (vs : List Waking). CanWake n (set places k (Some place)) (next + needed e) vs) others rest.0),
+      ),
       subst (λ m. AreKept (risen flag first more (set events k new) (next + needed e) ks) deadlines
           (record { priorities = n; places = woken (set places k (Some place)) m ws; next = last })) more_by
           (subst (λ (vs : List Waking). AreKept (risen flag first more (set events k new) (next + needed e) ks) deadlines
-              (record { priorities = n; places = woken (set places k (Some place)) (next + needed e) vs; next = last })) others rest.1),
+          (record { priorities = n; places = woken (set places k (Some place)) (next + needed e) vs; next = last })) others rest.1),
     )))
     (cases_Bool (is_active e))
 
@@ -128,5 +136,5 @@ CanRise-known flag first more [] events next size e can = All-nil (λ k. k < siz
 CanRise-known flag first more (k ∷ ks) events next size e can =
     All-cons (λ k. k < size) k ks (rw (← e) can.0)
     (CanRise-known flag first more ks (set events k (activated flag next first more (event_of events k)))
-        (next + needed (event_of events k)) size
+    (next + needed (event_of events k)) size
     (length-set events k (activated flag next first more (event_of events k)) ∙ e) can.3)

@@ -60,7 +60,7 @@ signalled-risen number count (e ∷ es) done next =
     ∙ ap (λ m. done ++ new ∷ signalled number count m es) more
     ∙ ap (λ b. done ++ cond b new e ∷ later) (sym heard)))
     (λ deaf. (let same : next ≡ next + one_if (is_woken_by number e) = sym (ap (λ n. next + n) (deaf_needed number e deaf) ∙
-        add-zero next) in
+    add-zero next) in
     ap (λ b. risen 8 count count (done ++ e ∷ es) next (cond b (k ∷ hs) hs)) deaf
     ∙ ap (λ xs. risen 8 count count xs next hs) (shifted done e es)
     ∙ ap (λ n. risen 8 count count ((done ++ e ∷ []) ++ es) next (hearing number n es)) (sym (length_push done e))
@@ -79,7 +79,7 @@ hearing-absent number k from (e ∷ es) h =
     let apart : from ≡ k → ⊥ = λ q. omega arith in
     ⊎_elim
     (λ heard. ap (λ b. list_any (λ j. j == k) (cond b (from ∷ hs) hs)) heard ∙ ap (λ b. b || list_any (λ j. j == k) hs)
-        (ne_eqb from k apart) ∙ rest)
+    (ne_eqb from k apart) ∙ rest)
     (λ deaf. ap (λ b. list_any (λ j. j == k) (cond b (from ∷ hs) hs)) deaf ∙ rest)
     (cases_Bool (hears number e))
 
@@ -102,15 +102,15 @@ hearing-wakers number (e ∷ es) done =
     let hs = hearing number (k + 1) es in
     let ws = wakers (done ++ e ∷ es) hs in
     let rest = subst (λ n. length (wakers ((done ++ e ∷ []) ++ es) (hearing number n es)) ≡ count_by (is_woken_by number) es)
-        (length_push done e) (hearing-wakers number es (done ++ e ∷ [])) in
+    (length_push done e) (hearing-wakers number es (done ++ e ∷ [])) in
     let here : length ws ≡ count_by (is_woken_by number) es = subst (λ xs. length (wakers xs hs) ≡ count_by (is_woken_by number)
-        es) (sym (shifted done e es)) rest in
+    es) (sym (shifted done e es)) rest in
     let count = count_more number e es in
     let behind : Bool → ℕ = λ b. length (cond b ws (record { event = k; priority = (event_of (done ++ e ∷ es) k).priority } ∷ ws)) in
     ⊎_elim
     (λ heard. (let one : one_if (is_woken_by number e) ≡ needed e = woken_needed number e heard in
     let start : length (wakers (done ++ e ∷ es) (hearing number k (e ∷ es))) ≡ behind (is_active e) = ap
-        (λ b. length (wakers (done ++ e ∷ es) (cond b (k ∷ hs) hs))) heard ∙ ap (λ (x : Event). behind (is_active x)) (seam done e es) in
+    (λ b. length (wakers (done ++ e ∷ es) (cond b (k ∷ hs) hs))) heard ∙ ap (λ (x : Event). behind (is_active x)) (seam done e es) in
     start ∙ ⊎_elim
     (λ active. (let none : needed e ≡ 0 = ap (λ b. cond b 0 1) active in
     ap behind active ∙ here ∙ omega (arith, count, one, none)))
@@ -150,13 +150,13 @@ hearing-can number count (e ∷ es) done next low fits =
     (subst (λ n. CanRise 8 count count ((done ++ new ∷ []) ++ es) (next + needed e) (hearing number n es)) (length_push done new) rest) in
     let size : k < length (done ++ e ∷ es) = (let l = length-append done (e ∷ es) in omega arith) in
     let now : (λ (x : Event). (k < length (done ++ e ∷ es)) × (0 < count → ForSome x.active
-        (λ (a : Activation). a.count + count < 2 ^ 64)) × (next + needed x < 2 ^ 64) × CanRise 8 count count
-        (set (done ++ e ∷ es) k (activated 8 next count count x)) (next + needed x) hs) e =
-        (size, λ some. counts_fit number count e heard parts.0, omega (arith, one, more, low), there) in
+    (λ (a : Activation). a.count + count < 2 ^ 64)) × (next + needed x < 2 ^ 64) × CanRise 8 count count
+    (set (done ++ e ∷ es) k (activated 8 next count count x)) (next + needed x) hs) e =
+    (size, λ some. counts_fit number count e heard parts.0, omega (arith, one, more, low), there) in
     let all : CanRise 8 count count (done ++ e ∷ es) next (k ∷ hs) =
     subst (λ (x : Event). (k < length (done ++ e ∷ es)) ×
-        (0 < count → ForSome x.active (λ (a : Activation). a.count + count < 2 ^ 64)) × (next + needed x < 2 ^ 64) × CanRise 8
-        count count (set (done ++ e ∷ es) k (activated 8 next count count x)) (next + needed x) hs) (sym (seam done e es)) now in
+    (0 < count → ForSome x.active (λ (a : Activation). a.count + count < 2 ^ 64)) × (next + needed x < 2 ^ 64) × CanRise 8
+    count count (set (done ++ e ∷ es) k (activated 8 next count count x)) (next + needed x) hs) (sym (seam done e es)) now in
     subst (λ b. CanRise 8 count count (done ++ e ∷ es) next (cond b (k ∷ hs) hs)) (sym heard) all))
     (λ deaf. (let none : one_if (is_woken_by number e) ≡ 0 = deaf_needed number e deaf in
     let rest = hearing-can number count es (done ++ e ∷ []) next (omega (arith, none, more, low)) parts.1 in

@@ -65,7 +65,7 @@ pub IsTied-keep : {V : Type 0} (value : Event → Option V) (values : List (Opti
     → IsTied value values events → slice_get events k ≡ Some e → value new ≡ value e → IsTied value values (set events k new)
 IsTied-keep value values events k e new tied is same j = ⊎_elim
     (λ q. tied j ∙ ap (value_at value events) q ∙ ap (option_and_then value) is ∙ sym same ∙ sym
-        (ap (option_and_then value) (slice_get-set_same events k e new is)) ∙ sym (ap (value_at value (set events k new)) q))
+    (ap (option_and_then value) (slice_get-set_same events k e new is)) ∙ sym (ap (value_at value (set events k new)) q))
     (λ n. tied j ∙ ap (option_and_then value) (sym (slice_get-set_other events k j new n)))
     (cases_eq j k)
 
@@ -74,7 +74,7 @@ pub IsTied-push : {V : Type 0} (value : Event → Option V) (values : List (Opti
     value values events → value new ≡ None → IsTied value values (events ++ new ∷ [])
 IsTied-push value values events new tied none j = ⊎_elim
     (λ q. tied j ∙ ap (value_at value events) q ∙ ap (option_and_then value) (slice_get-past events (length events) (omega arith))
-        ∙ sym none ∙ sym (ap (option_and_then value) (slice_get-pushed events new)) ∙ sym (ap (value_at value (events ++ new ∷ [])) q))
+    ∙ sym none ∙ sym (ap (option_and_then value) (slice_get-pushed events new)) ∙ sym (ap (value_at value (events ++ new ∷ [])) q))
     (λ n. tied j ∙ ap (option_and_then value) (sym (slice_get-push events new j n)))
     (cases_eq j (length events))
 

@@ -67,12 +67,12 @@ settled_stays time next events e settled = go e.timeout settled
 
     go : (o : Option Timeout) → (option_map_or (λ (t : Timeout). nat_le t.deadline time) o false ≡ false) ⊎ HasFlag e.active
         → option_map_or (λ (t : Timeout). cond (nat_le t.deadline time) (activated 1 (next + count_by (wakes_before time t) events)
-            1 0 e) e) o e ≡ e
+        1 0 e) e) o e ≡ e
     go None h = refl
     go (Some t) h = ⊎_elim
         (λ late. ap (λ b. cond b (activated 1 (next + count_by (wakes_before time t) events) 1 0 e) e) late)
         (λ flag. ap (λ x. cond (nat_le t.deadline time) x e) (same (next + count_by (wakes_before time t) events) flag) ∙
-            either_same (nat_le t.deadline time) e)
+        either_same (nat_le t.deadline time) e)
         h
 
 settled_sleeps : (time : ℕ) (e : Event) → IsSettled time e → wakes time e ≡ false
@@ -104,7 +104,7 @@ IsOpen-after time events g k next is lt =
       shut = λ j within h. ⊎_elim
           (λ q. subst (λ i. IsSettled time (event_of (set events k new) i)) (sym q)
           (subst (IsSettled time) (sym (get_or-set_same events k new (made false None 0) lt))
-              (inr (flagged (event_of events k).active next))))
+          (inr (flagged (event_of events k).active next))))
           (λ n. subst (IsSettled time) (sym (get_or-set_other events k j new (made false None 0) n))
           (is.shut j (let s = size in omega arith) (sym (but-other k j g n) ∙ h)))
           (cases_eq j k);
@@ -196,9 +196,9 @@ none_before : (time : ℕ) (events : List Event) (g : ℕ → Option Moment) (k 
     IsSooner k g → (event_of events k).timeout ≡ Some t → count_by (wakes_before time t) events ≡ 0
 none_before time events g k t is first hk = count_none (wakes_before time t) events (λ i lt. ⊎_elim
     (λ wakes_up. and_right (wakes time (event_of events i)) (option_map_or (λ (u : Timeout). comes_before u t)
-        (event_of events i).timeout false) (go i lt wakes_up (event_of events i).timeout refl))
+    (event_of events i).timeout false) (go i lt wakes_up (event_of events i).timeout refl))
     (λ sleeps. and_left (wakes time (event_of events i)) (option_map_or (λ (u : Timeout). comes_before u t)
-        (event_of events i).timeout false) sleeps)
+    (event_of events i).timeout false) sleeps)
     (cases_Bool (wakes time (event_of events i))))
   where
     go : (i : ℕ) → i < length events → wakes time (event_of events i) ≡ true → (o : Option Timeout) → (event_of events i).timeout ≡
@@ -222,7 +222,7 @@ next_rises time next events g k is first = go (event_of events k).timeout refl
     own : (t : Timeout) → e.timeout ≡ Some t → activated 1 (next + count_by (wakes_before time t) events) 1 0 e ≡ activated 1 next 1 0 e
     own t h = ⊎_elim
         (λ active. ap (λ (a : Activation). record e { active = Some a }) (order_free e.active
-            (next + count_by (wakes_before time t) events) next active))
+        (next + count_by (wakes_before time t) events) next active))
         (λ fresh. ap (λ n. activated 1 n 1 0 e) (ap (λ c. next + c) (none_before time events g k t is first h) ∙ add-zero next))
         (cases_Bool (is_active e))
 
@@ -235,7 +235,7 @@ next_rises time next events g k is first = go (event_of events k).timeout refl
         let equal = ap (λ (x : Moment). x.deadline) value in
         let low = (is.open_ones k first.value first.has).2 in
         ap (λ b. cond b (activated 1 (next + count_by (wakes_before time t) events) 1 0 e) e)
-            (le-leb t.deadline time (omega arith)) ∙ own t q
+        (le-leb t.deadline time (omega arith)) ∙ own t q
 
 -- the next event is due
 next_due : (time : ℕ) (events : List Event) (g : ℕ → Option Moment) (k : ℕ) → IsOpen time events g → IsLeading IsSooner k g →
@@ -253,27 +253,27 @@ count_after time next events g k is first =
     let sum = sum_by-set (λ x. one_if (wakes time x)) events k new (made false None 0) lt in
     let gone : one_if (wakes time new) ≡ 0 = ap one_if (and_right (is_due time new) false refl) in
     let was : one_if (wakes time (event_of events k)) ≡ needed (event_of events k) = needed_if time (event_of events k)
-        (next_due time events g k is first) in
+    (next_due time events g k is first) in
     omega (arith, sum, gone, was)
 
 -- the order numbers of the events behind the next one are told from it on
 order_after : (time next : ℕ) (events : List Event) (g : ℕ → Option Moment) (k i : ℕ) (u : Timeout) → IsOpen time events g →
     IsLeading IsSooner k g → (i ≡ k → ⊥) → i < length events → (event_of events i).timeout ≡ Some u → wakes time (event_of events i) ≡ true
     → (next + needed (event_of events k)) + count_by (wakes_before time u)
-        (set events k (activated 1 next 1 0 (event_of events k))) ≡ next + count_by (wakes_before time u) events
+    (set events k (activated 1 next 1 0 (event_of events k))) ≡ next + count_by (wakes_before time u) events
 order_after time next events g k i u is first n lt hi wakes_up =
     let e = event_of events k in
     let new = activated 1 next 1 0 e in
     let within = (is.open_ones k first.value first.has).0 in
     let sum = sum_by-set (λ x. one_if (wakes_before time u x)) events k new (made false None 0) within in
     let gone : one_if (wakes_before time u new) ≡ 0 = ap one_if (and_left (wakes time new)
-        (option_map_or (λ (t : Timeout). comes_before t u) new.timeout false) (and_right (is_due time new) false refl)) in
+    (option_map_or (λ (t : Timeout). comes_before t u) new.timeout false) (and_right (is_due time new) false refl)) in
     let own = timeout_of time events g k first.value is first.has in
     let ahead : option_map_or (λ (t : Timeout). comes_before t u) e.timeout false ≡ true = ap
-        (λ (o : Option Timeout). option_map_or (λ (t : Timeout). comes_before t u) o false) own.1
+    (λ (o : Option Timeout). option_map_or (λ (t : Timeout). comes_before t u) o false) own.1
     ∙ (let sooner = behind time events g k i own.0 u is first own.1 hi lt wakes_up n in is_before own.0 u sooner.0 sooner.1) in
     let was : one_if (wakes_before time u e) ≡ needed e = ap (λ b. one_if (wakes time e && b)) ahead ∙ both (wakes time e) ∙
-        needed_if time e (next_due time events g k is first) in
+    needed_if time e (next_due time events g k is first) in
     omega (arith, sum, gone, was)
   where
     both : (b : Bool) → one_if (b && true) ≡ one_if b
@@ -284,7 +284,7 @@ order_after time next events g k i u is first n lt hi wakes_up =
 others_rise : (time next : ℕ) (events : List Event) (g : ℕ → Option Moment) (k i : ℕ) → IsOpen time events g → IsLeading IsSooner k
     g → (i ≡ k → ⊥) → i < length events
     → timed_out time (next + needed (event_of events k)) (set events k (activated 1 next 1 0 (event_of events k)))
-        (event_of events i) ≡ timed_out time next events (event_of events i)
+    (event_of events i) ≡ timed_out time next events (event_of events i)
 others_rise time next events g k i is first n lt = go (event_of events i).timeout refl
   where
     after : List Event
@@ -301,23 +301,23 @@ others_rise time next events g k i is first n lt = go (event_of events i).timeou
     own u h due = ⊎_elim
         (λ active. ap (λ (a : Activation). record x { active = Some a }) (order_free x.active _ _ active))
         (λ fresh. (let is_now : is_due time x ≡ true = ap (λ (o : Option Timeout). option_map_or
-            (λ (t : Timeout). nat_le t.deadline time) o false) h ∙ due in
+        (λ (t : Timeout). nat_le t.deadline time) o false) h ∙ due in
         let wakes_up : wakes time x ≡ true = ap (λ b. b && not (is_active x)) is_now ∙ ap not fresh in
         ap (λ m. activated 1 m 1 0 x) (order_after time next events g k i u is first n lt h wakes_up)))
         (cases_Bool (is_active x))
 
     go : (o : Option Timeout) → x.timeout ≡ o
         → option_map_or (λ (t : Timeout). cond (nat_le t.deadline time) (activated 1 (later + count_by (wakes_before time t) after)
-            1 0 x) x) o x
+        1 0 x) x) o x
         ≡ option_map_or (λ (t : Timeout). cond (nat_le t.deadline time) (activated 1 (next + count_by (wakes_before time t) events)
-            1 0 x) x) o x
+        1 0 x) x) o x
     go None q = refl
     go (Some u) q = if_true (nat_le u.deadline time) _ _ x (own u q)
 
 -- one event gets the flag, and the rest becomes what all would have become
 step : (time next : ℕ) (events : List Event) (g : ℕ → Option Moment) (k : ℕ) → IsOpen time events g → IsLeading IsSooner k g
     → map (timed_out time (next + needed (event_of events k)) (set events k (activated 1 next 1 0 (event_of events k))))
-        (set events k (activated 1 next 1 0 (event_of events k))) ≡ map (timed_out time next events) events
+    (set events k (activated 1 next 1 0 (event_of events k))) ≡ map (timed_out time next events) events
 step time next events g k is first =
     let new = activated 1 next 1 0 (event_of events k) in
     let after = set events k new in
@@ -331,11 +331,11 @@ step time next events g k is first =
     let low_before : i < length events = (let s = size in omega arith) in
     get_or-map (timed_out time later after) after i nobody nobody low ∙ ⊎_elim
     (λ q. ap (λ j. timed_out time later after (event_of after j)) q ∙ ap (timed_out time later after)
-        (get_or-set_same events k new nobody within)
+    (get_or-set_same events k new nobody within)
     ∙ settled_stays time later after new (inr (flagged (event_of events k).active next))
     ∙ sym (next_rises time next events g k is first) ∙ sym (ap (λ j. timed_out time next events (event_of events j)) q))
     (λ n. ap (timed_out time later after) (get_or-set_other events k i new nobody n) ∙ others_rise time next events g k i is first
-        n low_before)
+    n low_before)
     (cases_eq i k)
     ∙ sym (get_or-map (timed_out time next events) events i nobody nobody low_before)))
 
@@ -346,11 +346,11 @@ risen-due time [] next events g is r =
     let nobody = made false None 0 in
     ext_get_or nobody events (map (timed_out time next events) events) (sym (length-map events (timed_out time next events)))
     (λ i lt. sym (get_or-map (timed_out time next events) events i nobody nobody lt ∙ settled_stays time next events
-        (event_of events i) (is.shut i lt (r i))))
+    (event_of events i) (is.shut i lt (r i))))
 risen-due time (k ∷ ks) next events g is r =
     let lt = (is.open_ones k r.0.value r.0.has).0 in
     risen-due time ks (next + needed (event_of events k)) (set events k (activated 1 next 1 0 (event_of events k))) (but k g)
-        (IsOpen-after time events g k next is lt) r.1
+    (IsOpen-after time events g k next is lt) r.1
     ∙ step time next events g k is r.0
 
 -- the order numbers fit, one after another
@@ -385,7 +385,7 @@ wakers-due time (k ∷ ks) events g is r =
     let count = count_after time 0 events g k is r.0 in
     let rest = wakers-due time ks (set events k new) (but k g) (IsOpen-after time events g k 0 is lt) r.1 in
     let same : length (wakers (set events k new) ks) ≡ length ws = ap length (wakers-set events k new ks
-        (Rises-absent IsSooner ks (but k g) k r.1 (but-same k g))) in
+    (Rises-absent IsSooner ks (but k g) k r.1 (but-same k g))) in
     ⊎_elim
     (λ active. (let none : needed e ≡ 0 = ap (λ b. cond b 0 1) active in
     ap (λ b. length (cond b ws (w ∷ ws))) active ∙ omega (arith, count, none, rest, same)))

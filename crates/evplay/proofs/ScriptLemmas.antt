@@ -35,7 +35,7 @@ few-extended s new (Set setting) few h = set_case (nat_lt 0 (length s.turns)) (w
   where
     set_case : (b : Bool) (o : Option Given) →
         (if b then None else option_map (λ g. let z : SoFar = record { given = g; turns = s.turns } in z) o) ≡ Some new → length
-            new.turns ≤ 20000
+        new.turns ≤ 20000
     set_case true o e = none-some new e
     set_case false None e = none-some new e
     set_case false (Some g) e = rw (← some-is _ new e) few

@@ -52,7 +52,7 @@ timeouts-short read write = go (number_within (2 ^ 40) read) (number_within (2 ^
   where
     go : (a b : Option ℕ) → IfSome a (λ n. n ≤ 2 ^ 40) → IfSome b (λ n. n ≤ 2 ^ 40) →
         IfSome (option_and_then (λ r. option_and_then (λ w. Some (let t : Timeouts = record { read_ms = r; write_ms = w } in t)) b)
-            a) IsShort
+        a) IsShort
     go None b h k = tt
     go (Some r) None h k = tt
     go (Some r) (Some w) h k = (omega (arith, h), omega (arith, k))

@@ -150,7 +150,7 @@ closing_events-none s (closing.Shut e) = refl
 looks : (step : Closing) → IsPutting 0 (LooksAt step)
 looks step s new a h =
     by_bool (is_some (closing_entry s (close_step step))) (λ c. ap (count_by is_turn) c.entries ∙ closing_events-none s step)
-        (nothing s new a) h
+    (nothing s new a) h
 
 closes_link : (k : ℕ) → IsPutting 0 (ClosesLink k)
 closes_link k = each LooksAt looks (steps_of k)

@@ -16,7 +16,7 @@ find-none : {X : Type 0} (p : X → Bool) (xs : List X) → All (λ x. p x ≡ f
 find-none p [] none = refl
 find-none p (x ∷ xs) none =
     ap (λ b. if b then Some x else find p xs) (All-head (λ y. p y ≡ false) x xs none) ∙ find-none p xs
-        (All-tail (λ y. p y ≡ false) x xs none)
+    (All-tail (λ y. p y ≡ false) x xs none)
 
 All-from_none : {X : Type 0} (p : X → Bool) (xs : List X) → find p xs ≡ None → All (λ x. p x ≡ false) xs
 All-from_none p [] e = All-nil (λ x. p x ≡ false)
@@ -46,7 +46,7 @@ record Gone (handle : TimerKey) (q : TimerQueue) : Type 0 where
 numbered-after : (change : TimerCall) (q : TimerQueue) → Numbered q → Numbered (after change q)
 numbered-after (TimerCall.Added deadline key slot) q all =
     All-with_timer (λ t. t.handle.stamp ≤ q.last + 1) (record { deadline = deadline; key = key; handle = next_handle q slot })
-        q.pending (omega arith)
+    q.pending (omega arith)
     (All-weaker (λ t. t.handle.stamp ≤ q.last) (λ t. t.handle.stamp ≤ q.last + 1) (λ t h. omega arith) q.pending all)
 numbered-after (TimerCall.Cancelled handle) q all = All-filter (λ t. not (is_timer_of handle t)) (λ t. t.handle.stamp ≤ q.last)
     q.pending all
@@ -67,7 +67,7 @@ gone-after handle (TimerCall.Added deadline key slot) q gone =
       none = All-with_timer (λ t. is_timer_of handle t ≡ false)
           (record { deadline = deadline; key = key; handle = next_handle q slot }) q.pending
           (other_number handle (record { deadline = deadline; key = key; handle = next_handle q slot })
-              (λ same. omega (arith, same, gone.old))) gone.none;
+          (λ same. omega (arith, same, gone.old))) gone.none;
     }
 gone-after handle (TimerCall.Cancelled other) q gone =
     record { old = gone.old; none = All-filter (λ t. not (is_timer_of other t)) (λ t. is_timer_of handle t ≡ false) q.pending gone.none }
@@ -81,13 +81,16 @@ gone-after_all handle (change ∷ rest) q gone = gone-after_all handle rest (aft
 pub handles-are_new : HandlesAreNew
 handles-are_new changes slot =
     let all : Numbered (reached changes) = numbered-after_all changes (record { pending = []; last = 0 })
-        (All-nil (λ t. t.handle.stamp ≤ 0)) in
+    (All-nil (λ t. t.handle.stamp ≤ 0)) in
     find-none (is_timer_of (next_handle (reached changes) slot)) (reached changes).pending
     (All-weaker (λ t. t.handle.stamp ≤ (reached changes).last) (λ t. is_timer_of (next_handle (reached changes) slot) t ≡ false)
     (λ t low. other_number (next_handle (reached changes) slot) t (λ same. omega (arith, same, low))) (reached changes).pending all)
 
 pub handles-stay_gone : HandlesStayGone
 handles-stay_gone before more handle old none =
-    let gone : Gone handle (reached before) = record { old = old; none = All-from_none (is_timer_of handle)
-        (reached before).pending none } in
+    let gone : Gone handle (reached before) = record {
+      old = old;
+      none = All-from_none (is_timer_of handle)
+          (reached before).pending none;
+    } in
     find-none (is_timer_of handle) (after_all more (reached before)).pending (gone-after_all handle more (reached before) gone).none

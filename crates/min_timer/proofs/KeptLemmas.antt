@@ -20,7 +20,7 @@ at_some {X} {P} o x e h = let there : OnSome (Some x) P = subst (λ v. OnSome v 
 pub kept-with_timer : (order : List Timer) (slots roomy new : Slab Moment) (last : ℕ) (t : Timer) → IsKept order slots last
     → roomy ≡ record slots { capacity = roomy.capacity } → t.handle.stamp ≡ last + 1 → get roomy t.handle.slot ≡ None
     → Updates roomy new t.handle.slot (Some (moment_of t)) → slab_len new ≡ slab_len roomy + 1 → IsKept (with_timer t order) new
-        t.handle.stamp
+    t.handle.stamp
 kept-with_timer order slots roomy new last t kept room next vacant updates one_more =
     let same : roomy.slots ≡ slots.slots = ap (λ s. s.slots) room in
     let count : slab_len roomy ≡ slab_len slots = ap (count_by is_some) same in
@@ -37,7 +37,7 @@ kept-with_timer order slots roomy new last t kept room next vacant updates one_m
 -- without the first timer
 pub kept-rest : (x : Timer) (rest : List Timer) (slots new : Slab Moment) (last : ℕ) (freed : Option Moment) → IsKept (x ∷ rest) slots last
     → Updates slots new x.handle.slot None → freed ≡ get slots x.handle.slot → OnSome freed (slab_len new + 1 ≡ slab_len slots) →
-        IsKept rest new last
+    IsKept rest new last
 kept-rest x rest slots new last freed kept updates was len =
     let one_less : slab_len new + 1 ≡ slab_len slots = at_some freed (moment_of x) (was ∙ kept.in_slots 0 x (omega arith)) len in
     record {
@@ -51,11 +51,11 @@ kept-rest x rest slots new last freed kept updates was len =
 pub kept-without : (handle : TimerKey) (order : List Timer) (slots new : Slab Moment) (last i : ℕ) (d : Timer) → IsKept order slots last
     → i < length order → is_timer_of handle (get_or order i d) ≡ true
     → Updates slots new handle.slot None → (freed : Option Moment) → freed ≡ get slots handle.slot → OnSome freed
-        (slab_len new + 1 ≡ slab_len slots)
+    (slab_len new + 1 ≡ slab_len slots)
     → IsKept (without handle order) new last
 kept-without handle order slots new last i d kept within here updates freed was len =
     let held_here : get slots handle.slot ≡ Some (moment_of (get_or order i d)) = ap (get slots)
-        (sym (slot_of_handle handle (get_or order i d) here)) ∙ kept.in_slots i d within in
+    (sym (slot_of_handle handle (get_or order i d) here)) ∙ kept.in_slots i d within in
     let one_less : slab_len new + 1 ≡ slab_len slots = at_some freed (moment_of (get_or order i d)) (was ∙ held_here) len in
     let others = filter_passes (λ x. not (is_timer_of handle x)) order in
     let held = All-filter (λ x. not (is_timer_of handle x)) (IsInSlot slots) order kept.in_slots in
@@ -65,10 +65,10 @@ kept-without handle order slots new last i d kept within here updates freed was 
           let x = get_or (without handle order) k e in
           updates.others x.handle.slot (λ same.
           let moments : moment_of x ≡ moment_of (get_or order i d) = same_slot_same_moment slots x (get_or order i d) (held k e h)
-              (kept.in_slots i d within) (same ∙ sym (slot_of_handle handle (get_or order i d) here)) in
+          (kept.in_slots i d within) (same ∙ sym (slot_of_handle handle (get_or order i d) here)) in
           let stamps : x.handle.stamp ≡ handle.stamp = ap (λ m. m.stamp) moments ∙ stamp_of_handle handle (get_or order i d) here in
           let yes : is_timer_of handle x ≡ true = and_from _ _ (eq-eqb x.handle.slot handle.slot same)
-              (eq-eqb x.handle.stamp handle.stamp stamps) in
+          (eq-eqb x.handle.stamp handle.stamp stamps) in
           let no : is_timer_of handle x ≡ false = not-true (is_timer_of handle x) (others k e h) in
           cc)
           ∙ held k e h;

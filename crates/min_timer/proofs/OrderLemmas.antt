@@ -49,8 +49,11 @@ rest_in_order x xs pairs = λ i j d l h. pairs (suc i) (suc j) d (omega arith) (
 pub parted : (p : Timer → Bool) → ((a b : Timer) → IsEarlier a b → p b ≡ true → p a ≡ true) → (xs : List Timer) → AllPairs
     IsEarlier xs → IsPartitionedBy p xs
 parted p falls xs pairs = λ i j d le within pass.
-    elim (eq-or-lt_of_le le) [ inl e ↦ subst (λ k. p (get_or xs k d) ≡ true) (sym e) pass | inr l ↦ falls (get_or xs i d)
-        (get_or xs j d) (pairs i j d l within) pass ]
+    elim (eq-or-lt_of_le le) [
+      | inl e ↦ subst (λ k. p (get_or xs k d) ≡ true) (sym e) pass
+      | inr l ↦ falls (get_or xs i d)
+          (get_or xs j d) (pairs i j d l within) pass
+    ]
 
 -- what holds of the timer and of the others holds of all
 pub All-with_timer : (P : Timer → Type 0) (t : Timer) (xs : List Timer) → P t → All P xs → All P (with_timer t xs)
@@ -67,15 +70,15 @@ in_order-with_timer t [] pairs older = AllPairs-cons IsEarlier t [] (All-nil (Is
 in_order-with_timer t (x ∷ xs) pairs older =
     cond_both (nat_lt t.deadline x.deadline) (t ∷ x ∷ xs) (x ∷ with_timer t xs) (AllPairs IsEarlier)
     (λ e. let before : is_before (moment_of t) (moment_of x) ≡ true = before_by_deadline (moment_of t) (moment_of x)
-        (ltb-true t.deadline x.deadline e) in
+    (ltb-true t.deadline x.deadline e) in
     AllPairs-cons IsEarlier t (x ∷ xs)
     (All-cons (IsEarlier t) x xs before (All-weaker (IsEarlier x) (IsEarlier t) (λ y h. before_before (moment_of t) (moment_of x)
-        (moment_of y) before h) xs (first_is_earlier x xs pairs)))
+    (moment_of y) before h) xs (first_is_earlier x xs pairs)))
     pairs)
     (λ e. AllPairs-cons IsEarlier x (with_timer t xs)
     (All-with_timer (IsEarlier x) t xs
     (before_by_stamp (moment_of x) (moment_of t) (ltb-false t.deadline x.deadline e) (All-head
-        (λ y. y.handle.stamp < t.handle.stamp) x xs older))
+    (λ y. y.handle.stamp < t.handle.stamp) x xs older))
     (first_is_earlier x xs pairs))
     (in_order-with_timer t xs (rest_in_order x xs pairs) (All-tail (λ y. y.handle.stamp < t.handle.stamp) x xs older)))
 
@@ -94,11 +97,11 @@ insert-with_timer t [] zero within parts = refl
 insert-with_timer t [] (suc i) within parts = absurd (omega arith)
 insert-with_timer t (x ∷ xs) zero within parts =
     let later : nat_lt t.deadline x.deadline ≡ true = lt-ltb t.deadline x.deadline (leb-false x.deadline t.deadline
-        (parts.1 0 x (omega arith) (omega arith))) in
+    (parts.1 0 x (omega arith) (omega arith))) in
     rw later refl
 insert-with_timer t (x ∷ xs) (suc i) within parts =
     let no_later : nat_lt t.deadline x.deadline ≡ false = le-ltb t.deadline x.deadline (leb-true x.deadline t.deadline
-        (parts.0 0 x (omega arith) (omega arith))) in
+    (parts.0 0 x (omega arith) (omega arith))) in
     rw no_later
     (ap (λ ys. x ∷ ys)
     (insert-with_timer t xs i (omega arith)
@@ -111,4 +114,4 @@ in_slots-with_timer slots new t xs vacant updates all =
     All-with_timer (IsInSlot new) t xs updates.changed
     (All-weaker (IsInSlot slots) (IsInSlot new)
     (λ x held. updates.others x.handle.slot (λ e. let gone : get slots x.handle.slot ≡ None = ap (get slots) e ∙ vacant in cc) ∙
-        held) xs all)
+    held) xs all)

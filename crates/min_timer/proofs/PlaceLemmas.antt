@@ -113,11 +113,11 @@ pub not_here : (handle : TimerKey) (m : Moment) (slots : Slab Moment) (xs : List
 not_here handle m slots xs at pairs all held within parts here = λ k d h.
     false_from_ne_true (is_timer_of handle (get_or xs k d)) (λ hk.
     let same : Some (moment_of (get_or xs k d)) ≡ Some m = sym (all k d h) ∙ ap (get slots)
-        (slot_of_handle handle (get_or xs k d) hk) ∙ held in
+    (slot_of_handle handle (get_or xs k d) hk) ∙ held in
     let moment : moment_of (get_or xs k d) ≡ m = cc in
     let place : at ≡ k = place_of_moment m xs at k d pairs within h parts moment in
     let other : is_timer_of handle (get_or xs k d) ≡ false = subst (λ i. is_timer_of handle (get_or xs i d) ≡ false) place
-        (here d (omega arith)) in
+    (here d (omega arith)) in
     cc)
 
 -- in a slot that no timer holds there is no timer of its handles

@@ -49,9 +49,9 @@ begun_step f g i xs ys x y within so_far is image =
     let count : length xs ≡ length ys = sym (length-map xs f) ∙ ap length so_far ∙ length_begun g i ys in
     let lt : i < length ys = omega arith in
     let seen : f x ≡ get_or ys i (f x) = ap f is ∙ sym (get_or-map f xs i x (f x) within) ∙ ap (λ zs. get_or zs i (f x)) so_far ∙
-        get_or_begun g i ys (f x) lt in
+    get_or_begun g i ys (f x) lt in
     rw add-one (map-set f xs i y ∙ ap (λ zs. set zs i (f y)) so_far ∙ ap (λ z. set (begun g i ys) i z) (image ∙ ap g seen) ∙
-        begun_next g i ys (f x) lt)
+    begun_next g i ys (f x) lt)
 
 -- a queue that lost its first key
 pub popped_at : {X : Type 0} (f : X → List ℕ) (xs : List X) (i : ℕ) (x y : X) → i < length xs → x ≡ get_or xs i x → f y ≡ drop 1
@@ -64,7 +64,7 @@ pub activated_at : {X : Type 0} (f : X → List ℕ) (xs : List X) (i : ℕ) (x 
     y ≡ f x ++ key ∷ [] → is_queued key (map f xs) ≡ false → map f (set xs i y) ≡ activated (map f xs) i key
 activated_at f xs i x y key within is got absent =
     rw absent (map-set f xs i y ∙ ap (λ q. set (map f xs) i q) (got ∙ ap (λ q. q ++ key ∷ [])
-        (ap f is ∙ sym (get_or-map f xs i x [] within))))
+    (ap f is ∙ sym (get_or-map f xs i x [] within))))
 
 -- a queue whose keys stayed
 pub kept_at : {X : Type 0} (f : X → List ℕ) (xs : List X) (i : ℕ) (x y : X) → x ≡ get_or xs i x → f y ≡ f x → map f (set xs i y) ≡ map f xs

@@ -114,8 +114,12 @@ pub record Same (s new : State) : Type 0 where
   pub settings : new.settings ≡ s.settings
 
 pub same : (s new : State) → new ≡ s → Same s new
-same s new e = record { time = ap (λ (z : State). z.plain.time) e; opened = ap (λ (z : State). z.plain.opened) e; settings = ap
-    (λ (z : State). z.settings) e }
+same s new e = record {
+  time = ap (λ (z : State). z.plain.time) e;
+  opened = ap (λ (z : State). z.plain.opened) e;
+  settings = ap
+      (λ (z : State). z.settings) e;
+}
 
 -- entries that begin no turn and open no link
 pub record Still (u : Trace) : Type 0 where

@@ -106,16 +106,16 @@ pub closing_vouched : {Plan : Type 0} (v w : Plan → Trace → Type 0) (s : Sta
 closing_vouched v w s (closing.Faulty e) h law =
     faulty s e (λ z. LongerBy v w z) (λ plan t k. h plan t k)
     (λ why plan t k. subst (w plan) (ap (λ z. z ++ (freed_entry s.plain e why, []) ∷ []) (append-nil t))
-        (law _ tt plan (t ++ []) (h plan t k)))
+    (law _ tt plan (t ++ []) (h plan t k)))
 closing_vouched v w s (closing.EndWriting e) h law = h
 closing_vouched v w s (closing.BothDone k) h law = λ plan t p.
     let one : Event = (freed_entry s.plain (in_side k) cause.Done, []) in
     let first = subst (w plan) (ap (λ z. z ++ one ∷ []) (append-nil t)) (law _ tt plan (t ++ []) (h plan t p)) in
     subst (w plan) (append_assoc t (one ∷ []) ((freed_entry s.plain (out_side k) cause.Done, []) ∷ []))
-        (law _ tt plan (t ++ one ∷ []) first)
+    (law _ tt plan (t ++ one ∷ []) first)
 closing_vouched v w s (closing.PeerGone e) h law =
     λ plan t k. subst (w plan) (ap (λ z. z ++ (freed_entry s.plain e cause.PeerGone, []) ∷ []) (append-nil t))
-        (law _ tt plan (t ++ []) (h plan t k))
+    (law _ tt plan (t ++ []) (h plan t k))
 closing_vouched v w s (closing.Shut e) h law = h
 
 -- each step of closing a link is of that link

@@ -309,14 +309,14 @@ called-stands t s cs (closing.BothDone l) lt k called =
     let i : SideId = in_side l in
     let o : SideId = out_side l in
     let first = closed-stands t s (CloseStep.BothDone l) cs (freed_entry s.plain i cause.Done) lt k
-        (where_some _ (freed_entry s.plain i cause.Done) called) in
+    (where_some _ (freed_entry s.plain i cause.Done) called) in
     let second = closed-stands (t ++ (freed_entry s.plain i cause.Done, []) ∷ []) (closed (CloseStep.BothDone l) s) (CloseStep.OutDone l) cs
     (freed_entry s.plain o cause.Done) lt first refl in
     subst (λ z. StandsFor z (Stage.Closing cs) (after_closing s (closing.BothDone l)))
     (append_assoc t ((freed_entry s.plain i cause.Done, []) ∷ []) ((freed_entry s.plain o cause.Done, []) ∷ [])) second
 called-stands t s cs (closing.PeerGone e) lt k called =
     closed-stands t s (CloseStep.PeerGone e) cs (freed_entry s.plain e cause.PeerGone) lt k
-        (where_some _ (freed_entry s.plain e cause.PeerGone) called)
+    (where_some _ (freed_entry s.plain e cause.PeerGone) called)
 called-stands t s cs (closing.Shut e) lt k called =
     closed-stands t s (CloseStep.Shut e) cs (entry.Close e) lt k (where_some _ (entry.Close e) called)
 

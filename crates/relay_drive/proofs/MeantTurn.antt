@@ -118,7 +118,7 @@ wants-below : (n : ℕ) (s : State) (ws : List Want) → s.plain.opened ≤ n �
 wants-below n s ws le names =
     below-named n ws (subst (Each_is (Sided n)) (sym names)
     (sided-some n (map (state.want_of s) (sides_from 0 s.plain.opened)) (sided-all n (state.want_of s) (λ e. refl) 0 s.plain.opened
-        (omega (arith, le)))))
+    (omega (arith, le)))))
 
 -- Polling and accepting
 
@@ -241,14 +241,14 @@ closes-end : (n : ℕ) (t : Trace) (s new : State) (a : Trace) → StandsWith n 
 closes-end n t s new a k h =
     closed_all-stands (t ++ a) new
     (all-keeps s.plain.opened (link_below s.plain.opened) closing_links ClosesLink (closing_links-keep s.plain.opened)
-        (links_from 0 s.plain.opened) t s
+    (links_from 0 s.plain.opened) t s
     new a (all-below s.plain.opened) (passed-close n t s k) h).stands
 
 passes-all : (n : ℕ) (t : Trace) (s new : State) (a : Trace) → StandsWith n t (Stage.Serving []) s →
     ForAllLinks PassesLink s a new → StandsWith s.plain.opened (t ++ a) (Stage.Passing [] []) new
 passes-all n t s new a k h =
     all-keeps s.plain.opened (link_below s.plain.opened) passing_links PassesLink (passing_links-keep s.plain.opened)
-        (links_from 0 s.plain.opened) t s
+    (links_from 0 s.plain.opened) t s
     new a (all-below s.plain.opened) (served-pass n t s k) h
 
 serves-all : (marked : List Want) (t : Trace) (s new : State) (a : Trace) → StandsWith s.plain.opened t (serving marked) s →
@@ -272,7 +272,7 @@ turn_keeps t s new a k turn =
     let q = v.second in
     let passed = passes-all p.middle.plain.opened (((t ++ h.front) ++ p.front) ++ v.front) v.middle q.middle q.front served q.first in
     let closed = closes-end v.middle.plain.opened ((((t ++ h.front) ++ p.front) ++ v.front) ++ q.front) q.middle new q.back passed
-        q.second in
+    q.second in
     (joined-stands Stage.Between new.plain.opened t h.front h.back a new h.joined
     (joined-stands Stage.Between new.plain.opened (t ++ h.front) p.front p.back h.back new p.joined
     (joined-stands Stage.Between new.plain.opened ((t ++ h.front) ++ p.front) v.front v.back p.back new v.joined
@@ -299,7 +299,7 @@ serving-leaves : (marked : List Want) (t : Trace) (s new : State) (a : Trace) �
     LeftFor TurnAnswer.Memory (t ++ a) new
 serving-leaves marked t s new a k below h =
     cut-leaves s.plain.opened (IsBelow s.plain.opened) serving ServesSide (serving-keeps s.plain.opened) CutServing
-        (LeftFor TurnAnswer.Memory)
+    (LeftFor TurnAnswer.Memory)
     (serving-cut s.plain.opened) marked t s new a below k h
 
 passing-leaves : (n : ℕ) (t : Trace) (s new : State) (a : Trace) → StandsWith n t (Stage.Serving []) s →

@@ -98,12 +98,12 @@ module _ (g : Settings) (t : Trace) (e : SideId) where
       NeedsLive s e x → All_at s → All_at (do_part g (past g t) e x s)
   part-keeps s Part.Hold ended live needs h =
       change-at g t e (with_held (read_filter g s e) (write_filter g s (peer e)) (bytes_read e t) (hold_mark g s (peer e))) s
-          (λ c. held-keeps _ _ t e _ _ _ (flow_at s e) c (hold_mark g s (peer e))) h
+      (λ c. held-keeps _ _ t e _ _ _ (flow_at s e) c (hold_mark g s (peer e))) h
   part-keeps s Part.Read ended live needs h =
       let ran : Plain = read_run g (past g t) e (side_at s e).ended s in
       change-at g t e (with_read_done (read_filter g s e) (bytes_read e t) (read_mark s e) (side_at s e).ended) ran
       (λ c. subst (λ b. Acc g t e (with_read_done (read_filter g s e) (bytes_read e t) (read_mark s e) b (flow_at ran e)))
-          (sym ended) (read_done-keeps _ _ t e _ _ _ (flow_at ran e) c law_r (read_mark s e)))
+      (sym ended) (read_done-keeps _ _ t e _ _ _ (flow_at ran e) c law_r (read_mark s e)))
       (read-keeps s (side_at s e).ended h)
   part-keeps s Part.Move ended live needs h =
       change-at g t e (with_moved (read_filter g s e) (bytes_read e t)) s (λ c. moved-keeps _ _ t e _ _ _ (flow_at s e) c (live needs)) h
@@ -132,7 +132,7 @@ pub silent_steps_keep_accounts : SilentStepsKeepAccounts
 silent_steps_keep_accounts g t s new r q h =
     let c = kept g t s r in
     quiet-accounted g t s.plain s.stage new (ended-is g t s.stage s.plain c) (live-unfreed g t s.stage s.plain c)
-        (parts-live g t s r) (quiet-kind g t s.stage s.plain new q) h
+    (parts-live g t s r) (quiet-kind g t s.stage s.plain new q) h
 
 -- Entries
 
@@ -165,14 +165,14 @@ module _ (g : Settings) (t : Trace) (y : Event) (e : SideId) (f : Flow) where
       (subst (λ v. Accounted r w (t ++ y ∷ []) e xs v (has_ended e (t ++ y ∷ [])) f) (sym q)
       (subst (λ v. Accounted r w (t ++ y ∷ []) e xs zs v f) (sym s)
       (accounted-told r w t (t ++ y ∷ []) e xs zs b f (told_moved_by e y) (told_given_by (peer e) y) c (moved_at_free-push e t y)
-          moved (given_at_free-push (peer e) t y) given by_closed)))
+      moved (given_at_free-push (peer e) t y) given by_closed)))
     where
       by_closed : is_write_closed (peer e) (t ++ y ∷ []) ≡ true → IsComplete r w xs zs f
       by_closed h = elim (or_cases (is_write_closed (peer e) t) (write_closed_by (peer e) y)
           (sym (is_write_closed-push (peer e) t y) ∙ h)) [
-        | inl k ↦ c.closed k
-        | inr k ↦ closed k
-      ]
+            | inl k ↦ c.closed k
+            | inr k ↦ closed k
+          ]
 
   -- an event by which nothing was read, given or ended
   told-still : read_by e y ≡ [] → given_by (peer e) y ≡ [] → ended_by e y ≡ false →
@@ -203,9 +203,9 @@ read-accounted g t side room (read.Got n) bytes e f open_still c = go (same_end 
         told-final g t y e f (bytes_read e t ++ bytes) (bytes_given (peer e) t) (has_ended e t)
         (bytes_read-push e t y ∙ ap (λ b. bytes_read e t ++ (if b then bytes else [])) q)
         (bytes_given-push (peer e) t y ∙ append-nil (bytes_given (peer e) t)) (has_ended-push e t y ∙ or_no (has_ended e t))
-            (none-are _) (none-are _) (λ h. absurd (cc))
+        (none-are _) (none-are _) (λ h. absurd (cc))
         (accounted-got _ _ t e (bytes_read e t) (bytes_given (peer e) t) (has_ended e t) f c bytes
-            (ap (λ z. has_ended z t) (sym (same_end-eq side e q)) ∙ open_still))
+        (ap (λ z. has_ended z t) (sym (same_end-eq side e q)) ∙ open_still))
       where
         or_no : (b : Bool) → (b || false) ≡ b
         or_no true = refl
@@ -226,7 +226,7 @@ read-accounted g t side room read.Ended bytes e f open_still c = go (same_end si
         (bytes_read-push e t y ∙ append-nil (bytes_read e t)) (bytes_given-push (peer e) t y ∙ append-nil (bytes_given (peer e) t))
         (has_ended-push e t y ∙ ap (λ b. has_ended e t || b) q ∙ or_yes (has_ended e t)) (none-are _) (none-are _) (λ h. absurd (cc))
         (accounted-ended _ _ t e (bytes_read e t) (bytes_given (peer e) t) (has_ended e t) f c
-            (ap (λ z. has_ended z t) (sym (same_end-eq side e q)) ∙ open_still))
+        (ap (λ z. has_ended z t) (sym (same_end-eq side e q)) ∙ open_still))
     go false q = told-still g t y e f refl refl q (none-are _) (none-are _) (λ h. absurd (cc)) c
 read-accounted g t side room read.NotYet bytes e f open_still c = told-still g t (entry.Read side room read.NotYet, bytes) e f refl
     refl refl (none-are _) (none-are _) (λ h. absurd (cc)) c
@@ -240,7 +240,7 @@ write-accounted : (g : Settings) (t : Trace) (s : Plain) (side : SideId) (offere
     Acc g (t ++ (entry.Write side offered answer, bytes) ∷ []) e (flow_at (after_write g (past g t) side answer s) e)
 write-accounted g t s side offered (write.Took n) bytes there unfreed carries first h e =
     subst (λ p. Acc g (t ++ y ∷ []) e (slice_index_or p (number e) no_flow))
-        (sym (ap (λ z. z.flows) (raised_write g (past g t) side before).1)) (go (same_end side (peer e)) refl)
+    (sym (ap (λ z. z.flows) (raised_write g (past g t) side before).1)) (go (same_end side (peer e)) refl)
   where
     y : Event
     y = (entry.Write side offered (write.Took n), bytes)
@@ -267,7 +267,7 @@ write-accounted g t s side offered (write.Took n) bytes there unfreed carries fi
         let f : Flow = flow_at s e in
         let xs : List ℕ = raw_output (read_filter g s e) (write_filter g s (peer e)) (bytes_read e t) f in
         let taken : bytes ≡ take n xs = first ∙ (λ i. take n (raw_output (read_filter g s (back i)) (write_filter g s (at i))
-            (bytes_read (back i) t) (flow_at s (back i)))) in
+        (bytes_read (back i) t) (flow_at s (back i)))) in
         let within : n ≤ length xs = let a = ap length taken in let b = carries.0 in omega (arith, length-take n xs) in
         let not_freed : given_at_free (peer e) t ≡ [] = given-untold (peer e) t (ap (λ z. is_freed z t) (sym at) ∙ unfreed) in
         let c = accounted-given _ _ t e (bytes_read e t) (bytes_given (peer e) t) (has_ended e t) f (h e) n carries.1 within not_freed in
@@ -275,7 +275,7 @@ write-accounted g t s side offered (write.Took n) bytes there unfreed carries fi
         told-final g t y e (record f { given = f.given + n }) (bytes_read e t) (bytes_given (peer e) t ++ take n xs) (has_ended e t)
         (bytes_read-push e t y ∙ append-nil (bytes_read e t))
         (bytes_given-push (peer e) t y ∙ ap (λ b. bytes_given (peer e) t ++ (if b then bytes else [])) q ∙ ap
-            (λ z. bytes_given (peer e) t ++ z) taken)
+        (λ z. bytes_given (peer e) t ++ z) taken)
         (has_ended-push e t y ∙ or_no (has_ended e t)) (none-are _) (none-are _) (λ k. absurd (cc)) c in
         let same : slice_index_or (slice_set s.flows (number (peer side)) x) (number e) no_flow ≡ record f { given = f.given + n } =
         ap (λ z. slice_index_or (slice_set s.flows (number (peer side)) x) (number z) no_flow) (sym back)
@@ -286,15 +286,15 @@ write-accounted g t s side offered (write.Took n) bytes there unfreed carries fi
         set-either s.flows (number (peer side)) (number e) x (Acc g (t ++ y ∷ []) e)
         (λ same. absurd (let k = number-eq e (peer side) same in
         let yes : same_end side (peer e) ≡ true = ap (λ z. same_end side z) (ap peer k ∙ peer-peer side) ∙ same_end-refl side in
-            cc)) (old q)
+        cc)) (old q)
 write-accounted g t s side offered write.NotYet bytes there unfreed carries first h e = told-still g t
     (entry.Write side offered write.NotYet, bytes) e (flow_at s e) refl refl refl (none-are _) (none-are _) (λ k. absurd (cc)) (h e)
 write-accounted g t s side offered write.Failed bytes there unfreed carries first h e =
     subst (λ p. Acc g (t ++ (entry.Write side offered write.Failed, bytes) ∷ []) e (slice_index_or p (number e) no_flow))
     (sym (ap (λ z. z.flows) (raised g side (happened dir.Write error_flag) (change_side side
-        (λ x. record x { failed = true; writes = false }) s)).1))
+    (λ x. record x { failed = true; writes = false }) s)).1))
     (told-still g t (entry.Write side offered write.Failed, bytes) e (flow_at s e) refl refl refl (none-are _) (none-are _)
-        (λ k. absurd (cc)) (h e))
+    (λ k. absurd (cc)) (h e))
 write-accounted g t s side offered write.NoMemory bytes there unfreed carries first h e = absurd carries
 
 -- closing
@@ -331,9 +331,9 @@ closed-accounted g t s c y (ClosedKind.write_ended {z = z} a b) h e moved given 
         let p4 = and_parts ((side_at s e).ended && f.write_done) (raw == 0) p3.0 in
         let p5 = and_parts (side_at s e).ended f.write_done p4.0 in
         let none : length (raw_output (read_filter g s e) (write_filter g s (peer e)) (bytes_read e t) f) ≡ 0 = ap out
-            (sym (peer-peer e)) ∙ eqb-true (out (peer (peer e))) 0 p1.1 in
+        (sym (peer-peer e)) ∙ eqb-true (out (peer (peer e))) 0 p1.1 in
         complete-finished _ _ t e (bytes_read e t) (bytes_given (peer e) t) (has_ended e t) f (h e) ((h e).fits.write_done p5.1).0
-            p5.1 (nil_from_length _ none)
+        p5.1 (nil_from_length _ none)
 
 moved-told : (g : Settings) (t : Trace) (s : Plain) (x : Stage) (y : Event) (new : State) (e : SideId) → PutKind g t s x y new →
     All (λ told. told ≡ (flow_at s e).moved) (told_moved_by e y)
@@ -354,7 +354,7 @@ untold : (g : Settings) (t : Trace) (y : Event) (e : SideId) (f : Flow) → read
     write_closed_by (peer e) y ≡ false → Acc g t e f → Acc g (t ++ y ∷ []) e f
 untold g t y e f p q s m n v c =
     told-still g t y e f p q s (subst (All (λ told. told ≡ f.moved)) (sym m) (none-are _))
-        (subst (All (λ told. told ≡ f.given)) (sym n) (none-are _)) (λ k. absurd (cc)) c
+    (subst (All (λ told. told ≡ f.given)) (sym n) (none-are _)) (λ k. absurd (cc)) c
 
 put-accounted : (g : Settings) (t : Trace) (s : Plain) (x : Stage) (y : Event) (new : State) → length s.flows ≡ 2 * s.opened →
     ((z : SideId) → is_live s z ≡ true → z.link < s.opened) →
@@ -363,7 +363,7 @@ put-accounted : (g : Settings) (t : Trace) (s : Plain) (x : Stage) (y : Event) (
     Acc g (t ++ y ∷ []) e (flow_at new.plain e)
 put-accounted g t s x y new flows there ended unfreed first (PutKind.turned {ms = ms} a b) h e =
     as_before g (t ++ y ∷ []) e s (time-flows g (past g (t ++ (entry.Turn ms, []) ∷ [])) (turned_to ms s))
-        (untold g t y e (flow_at s e) refl refl refl refl refl refl (h e))
+    (untold g t y e (flow_at s e) refl refl refl refl refl refl (h e))
 put-accounted g t s x y new flows there ended unfreed first (PutKind.polled) h e = untold g t y e (flow_at s e) refl refl refl refl
     refl refl (h e)
 put-accounted g t s x y new flows there ended unfreed first (PutKind.wanted a) h e = untold g t y e (flow_at s e) refl refl refl
@@ -374,18 +374,18 @@ put-accounted g t s x y new flows there ended unfreed first (PutKind.readied a) 
     refl refl refl (h e)
 put-accounted g t s x y new flows there ended unfreed first (PutKind.opened) h e =
     subst (λ z. Acc g (t ++ y ∷ []) e z) (sym (default-same s.flows (number e))) (untold g t y e (flow_at s e) refl refl refl refl
-        refl refl (h e))
+    refl refl (h e))
 put-accounted g t s x y new flows there ended unfreed first (PutKind.checked {side = side} {answer = answer} a) h e =
     as_before g (t ++ y ∷ []) e s (conn-flows g side answer s) (untold g t y e (flow_at s e) refl refl refl refl refl refl (h e))
 put-accounted g t s x y new flows there ended unfreed first
     (PutKind.was_read {side = side} {room = room} {answer = answer} {bytes = bytes} left a b) h e =
     as_before g (t ++ y ∷ []) e s (read-flows g side answer s) (read-accounted g t side room answer bytes e (flow_at s e)
-        (sym (ended side) ∙ not_true (side_at s side).ended (may_read-parts s side a).ended) (h e))
+    (sym (ended side) ∙ not_true (side_at s side).ended (may_read-parts s side a).ended) (h e))
 put-accounted g t s x y new flows there ended unfreed first
     (PutKind.written {side = side} {offered = offered} {answer = answer} {bytes = bytes} a b c) h e =
     let live = may_write-live s side a in
     write-accounted g t s side offered answer bytes
-        (let l = there side live in omega (arith, flows, number-lt (peer side) s.opened l)) (unfreed side live) c first h e
+    (let l = there side live in omega (arith, flows, number-lt (peer side) s.opened l)) (unfreed side live) c first h e
 put-accounted g t s x y new flows there ended unfreed first (PutKind.fired a) h e = untold g t y e (flow_at s e) refl refl refl
     refl refl refl (h e)
 put-accounted g t s x y new flows there ended unfreed first (PutKind.frees a same) h e = untold g t y e (flow_at s e) refl refl
@@ -394,18 +394,18 @@ put-accounted g t s x y new flows there ended unfreed first (PutKind.asked same 
     (untold g t y e (flow_at s e) refl refl refl refl refl refl (h e))
 put-accounted g t s x y new flows there ended unfreed first (PutKind.recorded {gone = z}) h e =
     told-still g t y e (flow_at s e) refl refl refl (moved-told g t s x y new e PutKind.recorded)
-        (given-told g t s x y new e PutKind.recorded) (λ k. absurd (cc)) (h e)
+    (given-told g t s x y new e PutKind.recorded) (λ k. absurd (cc)) (h e)
 put-accounted g t s x y new flows there ended unfreed first (PutKind.closed {c = c} {e = y1} a) h e =
     as_before g (t ++ y ∷ []) e s (closed-flows c s)
     (closed-accounted g t s c y1 (closed-kind g (past g t) s c y1 a) h e (moved-told g t s x y new e (PutKind.closed a))
-        (given-told g t s x y new e (PutKind.closed a)))
+    (given-told g t s x y new e (PutKind.closed a)))
 
 -- An entry
 pub entries_keep_accounts : EntriesKeepAccounts
 entries_keep_accounts g t s new y bytes r p first h =
     let c = kept g t s r in
     put-accounted g t s.plain s.stage (y, bytes) new c.counts.shape.flows (λ z live. live-there s.plain z c.counts.shape.sides
-        live) (ended-is g t s.stage s.plain c) (live-unfreed g t s.stage s.plain c) first
+    live) (ended-is g t s.stage s.plain c) (live-unfreed g t s.stage s.plain c) first
     (put-kind g t s.stage s.plain y bytes new c.placed p) h
 
 -- Before the first turn

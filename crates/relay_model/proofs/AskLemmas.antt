@@ -78,7 +78,7 @@ other-ask g p s x rs a answer after y stage h = go (refusal g s a) h
     by_act : FreesOrNot a → answer ≡ ask.Ok → Keeps seen s (done g p s a) × ((done g p s a).flows ≡ s.flows)
     by_act (inl k) ok =
         absurd (let freeing : after_ask x rs a answer ≡ Freeing k.0 x (without_reasons k.0 rs) = ap (λ z. after_ask x rs z answer)
-            k.1 ∙ ap (λ z. after_ask x rs (act.Free k.0) z) ok in cc)
+        k.1 ∙ ap (λ z. after_ask x rs (act.Free k.0) z) ok in cc)
     by_act (inr k) ok = k g p s
 
     go : (r : Option AskAnswer) → Answered r g p s a answer after → Keeps seen s after × (after.flows ≡ s.flows)

@@ -90,14 +90,14 @@ write-stations : (g : Settings) (p : Past) (side : SideId) (answer : WriteAnswer
 write-stations g p side (write.Took n) s e =
     let x : Flow = record (flow_at s (peer side)) { given = (flow_at s (peer side)).given + n } in
     let before : Plain = change_side side (active_at s.time dir.Write) (change_flow (peer side)
-        (λ f. record f { given = f.given + n }) s) in
+    (λ f. record f { given = f.given + n }) s) in
     ap (λ z. stations (slice_index_or z (number e) no_flow)) (ap (λ z. z.flows) (raised_write g p side before).1)
     ∙ set-seen stations s.flows (number (peer side)) x no_flow refl (number e)
 write-stations g p side write.NotYet s e = refl
 write-stations g p side write.Failed s e =
     ap (λ z. stations (slice_index_or z (number e) no_flow))
-        (ap (λ z. z.flows) (raised g side (happened dir.Write error_flag) (change_side side
-        (λ x. record x { failed = true; writes = false }) s)).1)
+    (ap (λ z. z.flows) (raised g side (happened dir.Write error_flag) (change_side side
+    (λ x. record x { failed = true; writes = false }) s)).1)
 write-stations g p side write.NoMemory s e = refl
 
 pub put-stations : (g : Settings) (t : Trace) (s : Plain) (x : Stage) (y : Event) (new : State) → PutKind g t s x y new →
@@ -168,9 +168,9 @@ pub put-goes : (g : Settings) (t : Trace) (s : Plain) (x : Stage) (y : Event) (n
     (t ++ y ∷ []) new.plain e
 put-goes g t s x y new ended fit k e =
     subst (λ z. Grown (read_filter g s e) (bytes_read e t) (has_ended e t) (flow_at s e) z (has_ended e (t ++ y ∷ []))
-        (flow_at new.plain e)) (sym (bytes_read-push e t y))
+    (flow_at new.plain e)) (sym (bytes_read-push e t y))
     (subst (λ z. Grown (read_filter g s e) (bytes_read e t) (has_ended e t) (flow_at s e) (bytes_read e t ++ read_by e y) z
-        (flow_at new.plain e)) (sym (has_ended-push e t y))
+    (flow_at new.plain e)) (sym (has_ended-push e t y))
     (grown-read (read_filter g s e) (bytes_read e t) (has_ended e t) (flow_at s e) (read_by e y) (has_ended e t || ended_by e y)
-        (flow_at new.plain e) (put-stations g t s x y new k e) (fit e)
+    (flow_at new.plain e) (put-stations g t s x y new k e) (fit e)
     (λ h. (or_left (has_ended e t) (ended_by e y) h, put-reads g t s x y new ended k e h))))

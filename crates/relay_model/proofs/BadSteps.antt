@@ -47,7 +47,7 @@ ended-is g t x s k e = go (cases_lt e.link s.opened)
     go (inl lt) = (k.each e lt).ended
     go (inr ge) =
         ap (λ z. z.ended) (get_or_past s.sides (number e) no_side (let size = k.counts.shape.sides in
-            omega (arith, number-ge e s.opened ge)))
+        omega (arith, number-ge e s.opened ge)))
         ∙ sym (none_of (names e) (ended_by e) (ended-names e) t (k.counts.named e ge))
 
 -- The place of a side, which is bad for its read filter in the direction that begins at it, or for its write filter in the
@@ -56,7 +56,7 @@ abbrev BadFor : Settings → Trace → Plain → SideId → SideId → ℕ → T
 BadFor g t s e d place =
     IsBadIn (read_filter g s e) (bytes_read e t) (has_ended e t) place
     ⊎ IsBadIn (write_filter g s e) (moved_list (read_filter g s d) (bytes_read d t) (flow_at s d))
-        (all_moved (read_filter g s d) (bytes_read d t) (flow_at s d)) place
+    (all_moved (read_filter g s d) (bytes_read d t) (flow_at s d)) place
 
 abbrev AllBad : Settings → Trace → Plain → Type 0
 AllBad g t s = (e : SideId) → e.link < s.opened → (place : ℕ) → (side_at s e).bad ≡ Some place → BadFor g t s e (peer e) place
@@ -89,15 +89,15 @@ flow-goes g t s e x fit k z = go (same_end z e) refl (cases_lt (number e) (lengt
     go : (q : Bool) → same_end z e ≡ q → (number e < length s.flows) ⊎ (length s.flows ≤ number e) → Goes g t s t (put_flow e x s) z
     go false q o =
         subst (λ f. Grown (read_filter g s z) (bytes_read z t) (has_ended z t) (flow_at s z) (bytes_read z t) (has_ended z t) f)
-            (sym (get_or-set_other s.flows (number e) (number z) x no_flow (number-apart z e q)))
+        (sym (get_or-set_other s.flows (number e) (number z) x no_flow (number-apart z e q)))
         (grown-same (read_filter g s z) (bytes_read z t) (has_ended z t) (flow_at s z) (fit z))
     go true q (inl lt) =
         subst (λ v. Goes g t s t (put_flow e x s) v) (sym (same_end-eq z e q))
         (subst (λ f. Grown (read_filter g s e) (bytes_read e t) (has_ended e t) (flow_at s e) (bytes_read e t) (has_ended e t) f)
-            (sym (get_or-set_same s.flows (number e) x no_flow lt)) k)
+        (sym (get_or-set_same s.flows (number e) x no_flow lt)) k)
     go true q (inr ge) =
         subst (λ f. Grown (read_filter g s z) (bytes_read z t) (has_ended z t) (flow_at s z) (bytes_read z t) (has_ended z t) f)
-            (sym (ap (λ xs. slice_index_or xs (number z) no_flow) (set_past s.flows (number e) x ge)))
+        (sym (ap (λ xs. slice_index_or xs (number z) no_flow) (set_past s.flows (number e) x ge)))
         (grown-same (read_filter g s z) (bytes_read z t) (has_ended z t) (flow_at s z) (fit z))
 
 fitting-flow : (g : Settings) (t : Trace) (s : Plain) (e : SideId) (x : Flow) → Grown (read_filter g s e) (bytes_read e t)
@@ -143,14 +143,16 @@ fitting-read g t s e ended told h =
     let ran : Plain = put_flow e f s in
     fitting-meets g t ran e (read_place r xs mark ended (flow_at ran e))
     (λ p m. inl (over-more r xs ended (has_ended e t) p told (bad-met r (every_filter (read_kind g e.side)).badness xs
-        (flow_at ran e).used ended (nat_lt (length (input r xs (flow_at ran e))) mark) p m)))
+    (flow_at ran e).used ended (nat_lt (length (input r xs (flow_at ran e))) mark) p m)))
     (fitting-flow g t s e f (grown-used r (every_filter (read_kind g e.side)) xs mark (has_ended e t) (flow_at s e) (h.fit e)) h)
 
 pub turned-stations : (r w : Filter) (xs : List ℕ) (hold : ℕ) (f : Flow) → stations (with_turned r w xs hold f) ≡ stations f
 turned-stations r w xs hold f = go f.held
   where
-    go : (b : Bool) → stations (if b then f else record f { turned = first_from (write_stops r w xs hold f) f.turned
-        (f.moved - f.turned) }) ≡ stations f
+    go : (b : Bool) → stations (if b then f else record f {
+      turned = first_from (write_stops r w xs hold f) f.turned
+          (f.moved - f.turned);
+    }) ≡ stations f
     go true = refl
     go false = refl
 
@@ -187,7 +189,7 @@ fitting-write g t s e may_end h =
     let ran : Plain = put_flow e f s in
     fitting-meets g t ran (peer e) (write_place r w xs hold may_end (flow_at ran e))
     (λ p m. subst (λ d. BadFor g t ran (peer e) d p) (sym (peer-peer e))
-        (inr (met-write r w (every_filter (write_kind g (peer e).side)) xs hold may_end (flow_at ran e) p m)))
+    (inr (met-write r w (every_filter (write_kind g (peer e).side)) xs hold may_end (flow_at ran e) p m)))
     (fitting-flow g t s e f (grown-counts r xs (has_ended e t) (flow_at s e) f (turned-stations r w xs hold (flow_at s e)) (h.fit e)) h)
 
 fitting-part : (g : Settings) (t : Trace) (s : Plain) (e : SideId) (x : Part) → ((z : SideId) → (side_at s z).ended ≡ has_ended z
@@ -195,7 +197,7 @@ fitting-part : (g : Settings) (t : Trace) (s : Plain) (e : SideId) (x : Part) �
 fitting-part g t s e Part.Hold ended h =
     let r = read_filter g s e in
     fitting-flow g t s e _ (grown-counts r (bytes_read e t) (has_ended e t) (flow_at s e) (with_held r (write_filter g s (peer e))
-        (bytes_read e t) (hold_mark g s (peer e)) (flow_at s e)) refl (h.fit e)) h
+    (bytes_read e t) (hold_mark g s (peer e)) (flow_at s e)) refl (h.fit e)) h
 fitting-part g t s e Part.Read ended h =
     let r = read_filter g s e in
     let xs = bytes_read e t in
@@ -204,7 +206,7 @@ fitting-part g t s e Part.Read ended h =
     fitting-flow g t ran e (with_read_done r xs (read_mark s e) (side_at s e).ended (flow_at ran e))
     (subst (λ b. Grown r xs b (flow_at ran e) xs b (with_read_done r xs (read_mark s e) (side_at s e).ended (flow_at ran e))) (ended e)
     (grown-done r (every_filter (read_kind g e.side)) xs (read_mark s e) (side_at s e).ended (flow_at ran e)
-        (subst (λ b. FlowOk r xs b (flow_at ran e)) (sym (ended e)) (k.fit e)))) k
+    (subst (λ b. FlowOk r xs b (flow_at ran e)) (sym (ended e)) (k.fit e)))) k
 fitting-part g t s e Part.Move ended h =
     fitting-flow g t s e _ (grown-moved (read_filter g s e) (bytes_read e t) (has_ended e t) (flow_at s e) (h.fit e)) h
 fitting-part g t s e Part.Write ended h =
@@ -216,7 +218,7 @@ fitting-part g t s e Part.Write ended h =
     let k : Fitting g t ran = fitting-write g t s e true h in
     fitting-flow g t ran e (with_write_done r w xs hold (flow_at ran e))
     (grown-counts r xs (has_ended e t) (flow_at ran e) (with_write_done r w xs hold (flow_at ran e))
-        (done-stations r w xs hold (flow_at ran e)) (k.fit e)) k
+    (done-stations r w xs hold (flow_at ran e)) (k.fit e)) k
 fitting-part g t s e Part.Drain ended h = fitting-write g t s e false h
 
 quiet-fitting : (g : Settings) (t : Trace) (s : Plain) (x : Stage) (new : State) → ((z : SideId) → (side_at s z).ended ≡ has_ended
@@ -225,7 +227,7 @@ quiet-fitting g t s x new ended h (QuietKind.moved next a) = h
 quiet-fitting g t s x new ended h (QuietKind.filtered {e = e}) =
     let r = raised_read g (past g t) e (read_run g (past g t) e false s) in
     subst (λ z. Fitting g t z) (sym r.1) (fitting-due g t (read_run g (past g t) e false s) r.0
-        (fitting-read g t s e false (λ q. absurd (cc)) h))
+    (fitting-read g t s e false (λ q. absurd (cc)) h))
 quiet-fitting g t s x new ended h (QuietKind.dispatched) = fitting-due g t s [] h
 quiet-fitting g t s x new ended h (QuietKind.passed {x = p} {e = e}) = fitting-part g t s e p ended h
 quiet-fitting g t s x new ended h (QuietKind.closes) = h
@@ -250,15 +252,17 @@ put-fitting g t s x y new ended effect h k = record {
     go e lt place b (inr ge) = absurd (let none = ap (λ z. z.bad) (effect.came e ge lt) in cc)
 
 fitting : (g : Settings) (t : Trace) (s : State) → Reaches g t s → Fitting g t s.plain
-fitting g t s (Reaches.begins) = record { fit = λ e. record { used = omega arith; moved = omega arith; done = λ h. absurd (cc) };
-    bad = λ e lt place b. absurd (omega arith) }
+fitting g t s (Reaches.begins) = record {
+  fit = λ e. record { used = omega arith; moved = omega arith; done = λ h. absurd (cc) };
+  bad = λ e lt place b. absurd (omega arith);
+}
 fitting g t new (Reaches.goes {t = u} {s = old} r h) =
     quiet-fitting g u old.plain old.stage new (ended-is g u old.stage old.plain (kept g u old r)) (fitting g u old r)
-        (quiet-kind g u old.stage old.plain new h)
+    (quiet-kind g u old.stage old.plain new h)
 fitting g t new (Reaches.puts {t = u} {s = old} e bytes r h) =
     let c = kept g u old r in
     put-fitting g u old.plain old.stage (e, bytes) new (ended-is g u old.stage old.plain c)
-        (put-effect g u old.stage old.plain e bytes new c.counts.shape.sides c.placed h) (fitting g u old r)
+    (put-effect g u old.stage old.plain e bytes new c.counts.shape.sides c.placed h) (fitting g u old r)
     (put-kind g u old.stage old.plain e bytes new c.placed h)
 
 -- a bad place is the first one of its list, or of its end
@@ -279,6 +283,6 @@ bad_place g t x s r e place live b = go (h.bad e (live-there s e (kept g t (at x
     go (inr k) =
         let d = peer e in
         inr (first-bad (write_filter g s e) (every_filter (write_kind g e.side)).badness (moved_to g t s e)
-            (all_moved (read_filter g s d) (bytes_read d t) (flow_at s d)) (has_ended d t) place
+        (all_moved (read_filter g s d) (bytes_read d t) (flow_at s d)) (has_ended d t) place
         (λ q. ((h.fit d).done (and_parts (flow_at s d).read_done (nat_eq (flow_at s d).moved
-            (length (middle (read_filter g s d) (bytes_read d t) (flow_at s d)))) q).0).0) k)
+        (length (middle (read_filter g s d) (bytes_read d t) (flow_at s d)))) q).0).0) k)

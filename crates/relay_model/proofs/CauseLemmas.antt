@@ -51,14 +51,21 @@ fault-case x why h = go x.failed refl x.expired refl x.bad refl h
 faulty-cause : (g : Settings) (t : Trace) (s : Plain) (z : SideId) (cs : List CloseStep) (why : Cause) → Reaches g t
     (at (Closing (CloseStep.Faulty z ∷ cs)) s) → is_live s z ≡ true → FaultCase (side_at s z) why → HasCause g t z why
 faulty-cause g t s z cs why r live (FaultCase.by_failure a) =
-    let k = kept g t (at (Closing (CloseStep.Faulty z ∷ cs)) s) r in
-    (s, record { left = cs; reached = r }, (faults g t (at (Closing (CloseStep.Faulty z ∷ cs)) s) r).failed z
-        (live-there s z k.counts.shape.sides live) live a)
+    let k = kept g t (at (Closing (CloseStep.Faulty z ∷ cs)) s) r in (
+      s,
+      record { left = cs; reached = r },
+      (faults g t (at (Closing (CloseStep.Faulty z ∷ cs)) s) r).failed z
+          (live-there s z k.counts.shape.sides live) live a,
+    )
 faulty-cause g t s z cs why r live (FaultCase.by_timeout a b) =
     let k = kept g t (at (Closing (CloseStep.Faulty z ∷ cs)) s) r in
-    let lt = live-there s z k.counts.shape.sides live in
-    (s, record { left = cs; reached = r }, sym (k.each z lt).failed ∙ a, (faults g t (at (Closing (CloseStep.Faulty z ∷ cs)) s)
-        r).expired z lt live b)
+    let lt = live-there s z k.counts.shape.sides live in (
+      s,
+      record { left = cs; reached = r },
+      sym (k.each z lt).failed ∙ a,
+      (faults g t (at (Closing (CloseStep.Faulty z ∷ cs)) s)
+          r).expired z lt live b,
+    )
 faulty-cause g t s z cs why r live (FaultCase.by_filter {place = place} a b d) =
     let k = kept g t (at (Closing (CloseStep.Faulty z ∷ cs)) s) r in
     let lt = live-there s z k.counts.shape.sides live in (
@@ -88,8 +95,13 @@ closed-cause g t s c cs y r (ClosedKind.in_done {k = n} a b d f) e why moved giv
     subst (λ v. HasCause g t v why) one (subst (λ v. HasCause g t i v) two (
       sym (k.each i lt).write_ended ∙ d,
       sym (k.each o lt).write_ended ∙ f,
-      (s, cs, r, faultless g t s (CloseStep.BothDone n) cs r (ordered g t (at (Closing (CloseStep.BothDone n ∷ cs)) s) r).0 i refl
-          refl lt a),
+      (
+        s,
+        cs,
+        r,
+        faultless g t s (CloseStep.BothDone n) cs r (ordered g t (at (Closing (CloseStep.BothDone n ∷ cs)) s) r).0 i refl
+            refl lt a,
+      ),
     ))
 closed-cause g t s c cs y r (ClosedKind.out_done {k = n}) e why moved given h =
     let i : SideId = record { link = n; side = In } in
@@ -101,8 +113,13 @@ closed-cause g t s c cs y r (ClosedKind.out_done {k = n}) e why moved given h =
     subst (λ v. HasCause g t v why) one (subst (λ v. HasCause g t o v) two (
       sym (k.each o k.placed.0).write_ended ∙ ready.out_ended,
       sym (k.each i k.placed.0).write_ended ∙ ready.in_ended,
-      (s, cs, r, faultless g t s (CloseStep.OutDone n) cs r (ordered g t (at (Closing (CloseStep.OutDone n ∷ cs)) s) r).0 o refl
-          refl k.placed.0 ready.live),
+      (
+        s,
+        cs,
+        r,
+        faultless g t s (CloseStep.OutDone n) cs r (ordered g t (at (Closing (CloseStep.OutDone n ∷ cs)) s) r).0 o refl
+            refl k.placed.0 ready.live,
+      ),
     ))
 closed-cause g t s c cs y r (ClosedKind.peer_gone {z = z} a b d) e why moved given h =
     let one : z ≡ e = cc in

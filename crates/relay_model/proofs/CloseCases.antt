@@ -49,7 +49,7 @@ faulty_parts s z false o e h = absurd (cc)
 freed-effect : (g : Settings) (x : Stage) (s : Plain) (after : Stage) (z : SideId) (why : Cause) (moved given : ℕ) (bytes : List ℕ)
     → length s.sides ≡ 2 * s.opened → z.link < s.opened →
     ((e : SideId) → is_freeing after e ≡ false) → ((e : SideId) → is_freeing x e ≡ false) → Effect g x s
-        (entry.Freed z why moved given, bytes) after (freed z s)
+    (entry.Freed z why moved given, bytes) after (freed z s)
 freed-effect g x s after z why moved given bytes size lt still before =
     effect-at g x s y after (freed z s) z changed (record { time = refl; turn = refl; opened = refl; flows = refl; sides = refl })
     (record { turn = refl; opens = refl; time = λ n. refl }) size lt here
@@ -133,13 +133,13 @@ closed-effect g x s after z bytes size lt still before =
 pub closing-effect : (g : Settings) (x : Stage) (p : Past) (s : Plain) (after : Stage) (c : CloseStep) (e : Entry) (bytes : List ℕ)
     → length s.sides ≡ 2 * s.opened → link_of c < s.opened →
     ((z : SideId) → is_freeing after z ≡ false) → ((z : SideId) → is_freeing x z ≡ false) → closing_entry g p s c ≡ Some e → Effect
-        g x s (e, bytes) after (closed_by c s)
+    g x s (e, bytes) after (closed_by c s)
 closing-effect g x p s after (CloseStep.Faulty z) e bytes size lt still before h =
     let k = faulty_parts s z (is_live s z) (fault (side_at s z)) e h in
     subst (λ v. Effect g x s (v, bytes) after (freed z s)) (sym k.1.2) (freed-effect g x s after z k.1.0 _ _ bytes size lt still before)
 closing-effect g x p s after (CloseStep.EndWriting z) e bytes size lt still before h =
     subst (λ v. Effect g x s (v, bytes) after (change_side z (λ v. record v { write_ended = true }) s))
-        (sym (where_parts _ (entry.CloseWrite z) e h).1)
+    (sym (where_parts _ (entry.CloseWrite z) e h).1)
     (write_ended-effect g x s after z bytes size lt still before)
 closing-effect g x p s after (CloseStep.BothDone k) e bytes size lt still before h =
     subst (λ v. Effect g x s (v, bytes) after (freed (record { link = k; side = In }) s)) (sym (where_parts _ _ e h).1)
@@ -150,10 +150,10 @@ closing-effect g x p s after (CloseStep.OutDone k) e bytes size lt still before 
     (freed-effect g x s after (record { link = k; side = Out }) cause.Done _ _ bytes size lt still before)
 closing-effect g x p s after (CloseStep.PeerGone z) e bytes size lt still before h =
     subst (λ v. Effect g x s (v, bytes) after (freed z s)) (sym (where_parts _ _ e h).1) (freed-effect g x s after z cause.PeerGone
-        _ _ bytes size lt still before)
+    _ _ bytes size lt still before)
 closing-effect g x p s after (CloseStep.Shut z) e bytes size lt still before h =
     subst (λ v. Effect g x s (v, bytes) after (change_side z (λ v. record v { closed = true }) s))
-        (sym (where_parts _ (entry.Close z) e h).1)
+    (sym (where_parts _ (entry.Close z) e h).1)
     (closed-effect g x s after z bytes size lt still before)
 
 -- What a hook frees
@@ -161,7 +161,7 @@ closing-effect g x p s after (CloseStep.Shut z) e bytes size lt still before h =
 pub asked-effect : (g : Settings) (p : Past) (s : Plain) (x : Fire) (rs : List Reason) (me : SideId) (a : Act) (answer : AskAnswer)
     (bytes : List ℕ) (next : Fire) (after : Plain) →
     length s.sides ≡ 2 * s.opened → me.link < s.opened → Ask g p s a answer after → Effect g (Firing x rs) s
-        (entry.Asked me a answer, bytes) (after_ask next rs a answer) after
+    (entry.Asked me a answer, bytes) (after_ask next rs a answer) after
 asked-effect g p s x rs me a answer bytes next after size lt h = go (ask-outcome g p s next rs a answer after h)
   where
     idle : (a : Act) (answer : AskAnswer) (e : SideId) → IsIdle e (entry.Asked me a answer, bytes)
@@ -174,9 +174,9 @@ asked-effect g p s x rs me a answer bytes next after size lt h = go (ask-outcome
         (after_ask next rs (act.Free gone) ask.Ok) (freed gone s)
     freeing gone live =
         effect-at g (Firing x rs) s (entry.Asked me (act.Free gone) ask.Ok, bytes) (after_ask next rs (act.Free gone) ask.Ok)
-            (freed gone s) gone (record (side_at s gone) { live = false; group = None })
+        (freed gone s) gone (record (side_at s gone) { live = false; group = None })
         (record { time = refl; turn = refl; opened = refl; flows = refl; sides = refl }) (plainly (act.Free gone) ask.Ok) size
-            (live-there s gone size live)
+        (live-there s gone size live)
         (record {
           live = and_yes (side_at s gone).live false (same_end gone gone) (same_end-refl gone);
           ended = or_no (side_at s gone).ended false refl;
@@ -194,10 +194,10 @@ asked-effect g p s x rs me a answer bytes next after size lt h = go (ask-outcome
         subst (λ z. Effect g (Firing x rs) s (entry.Asked me a answer, bytes) (after_ask next rs a answer) z) (sym k.freed)
         (subst (λ z. Effect g (Firing x rs) s (entry.Asked me z answer, bytes) (after_ask next rs z answer) (freed k.gone s)) (sym k.act)
         (subst (λ z. Effect g (Firing x rs) s (entry.Asked me (act.Free k.gone) z, bytes) (after_ask next rs (act.Free k.gone) z)
-            (freed k.gone s)) (sym k.answered) (freeing k.gone k.live)))
+        (freed k.gone s)) (sym k.answered) (freeing k.gone k.live)))
     go (inr k) =
         effect-keeps g (Firing x rs) s (entry.Asked me a answer, bytes) (after_ask next rs a answer) after k.keeps
-            (plainly a answer) (idle a answer)
+        (plainly a answer) (idle a answer)
         (λ e. ap (λ z. is_freeing z e) k.stage) (λ e. refl) (named-one s me lt)
 
 -- what a hook freed is recorded

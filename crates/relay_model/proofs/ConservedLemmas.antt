@@ -32,7 +32,7 @@ take-drop-drop v m xs h = ap (λ z. z ++ drop v (take m xs)) (sym (take-take v m
 read_whole : (r : Filter) → PrefixLaw r → (read : List ℕ) (ended done : Bool) (used : ℕ) →
     (done ≡ true → (ended ≡ true) × (used ≡ length read) × (r.bad_at_end read ≡ None)) →
     (if done then r.at_end (take used read) else r.before (take used read)) ++ adds r done (ends_well r ended read)
-        (take used read) (drop used read)
+    (take used read) (drop used read)
     ≡ (if ends_well r ended read then r.at_end read else r.before read)
 read_whole r law read ended false used h = before-adds r law (ends_well r ended read) (take used read) (drop used read) read
     (take-append-drop used read)
@@ -48,7 +48,7 @@ read_whole r law read ended true used h =
 write_whole : (w : Filter) → PrefixLaw w → (ends done : Bool) (turned moved : ℕ) (xs rest : List ℕ) → turned ≤ moved →
     (done ≡ true → (turned ≡ moved) × (moved ≡ length xs) × (rest ≡ []) × (ends ≡ true)) →
     (if done then w.at_end (take turned xs) else w.before (take turned xs)) ++ adds w done ends (take turned xs)
-        (drop turned (take moved xs) ++ (drop moved xs ++ rest))
+    (drop turned (take moved xs) ++ (drop moved xs ++ rest))
     ≡ (if ends then w.at_end (xs ++ rest) else w.before (xs ++ rest))
 write_whole w law ends false turned moved xs rest le h =
     before-adds w law ends (take turned xs) (drop turned (take moved xs) ++ (drop moved xs ++ rest)) (xs ++ rest)
@@ -59,7 +59,7 @@ write_whole w law ends false turned moved xs rest le h =
 write_whole w law ends true turned moved xs rest le h =
     append-nil (w.at_end (take turned xs))
     ∙ ap w.at_end (ap (λ n. take n xs) ((h refl).0 ∙ (h refl).1) ∙ take-length xs ∙ sym (append-nil xs) ∙ ap (λ z. xs ++ z)
-        (sym (h refl).2))
+    (sym (h refl).2))
     ∙ ap (λ b. if b then w.at_end (xs ++ rest) else w.before (xs ++ rest)) (sym (h refl).3)
 
 module _ (r w : Filter) (r_law : PrefixLaw r) (w_law : PrefixLaw w) (read : List ℕ) (ended : Bool) (f : Flow)
@@ -129,10 +129,10 @@ pub middle-first : (r : Filter) → PrefixLaw r → (read : List ℕ) (ended don
     (done ≡ true → (ended ≡ true) × (used ≡ length read) × (r.bad_at_end read ≡ None)) →
     moved ≤ length (if done then r.at_end (take used read) else r.before (take used read)) →
     take moved (if done then r.at_end (take used read) else r.before (take used read)) ≡ take moved
-        (if ended then r.at_end read else r.before read)
+    (if ended then r.at_end read else r.before read)
 middle-first r law read ended true used moved h le =
     ap (take moved) (ap r.at_end (ap (λ n. take n read) (h refl).1 ∙ take-length read) ∙ ap
-        (λ b. if b then r.at_end read else r.before read) (sym (h refl).0))
+    (λ b. if b then r.at_end read else r.before read) (sym (h refl).0))
 middle-first r law read ended false used moved h le = take-prefix moved _ _ le (by_ended ended)
   where
     grows : IsPrefixOf (r.before (take used read)) (r.before read)

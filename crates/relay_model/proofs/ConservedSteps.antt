@@ -25,7 +25,7 @@ none_told P xs e = subst (All P) (sym e) (λ k d lt. absurd (omega arith))
 -- a direction of which nothing was told yet
 pub accounted-first : (r w : Filter) (t : Trace) (from : SideId) →
     moved_at_free from t ≡ [] → given_at_free (peer from) t ≡ [] → is_write_closed (peer from) t ≡ false → Accounted r w t from []
-        [] false no_flow
+    [] false no_flow
 accounted-first r w t from not_freed peer_not_freed not_closed = record {
   fits = record {
     used = omega arith;
@@ -85,7 +85,7 @@ module _ (r w : Filter) (t : Trace) (from : SideId) (read taken : List ℕ) (end
       Accounted r w t from read' taken ended' (record f { used = used'; read_done = done' })
   grown read' ended' used' done' z open_still e le finished =
       let same : outcome r w read' (record f { used = used'; read_done = done' }) ≡ outcome r w read f = outcome-grown r w read
-          read' ended f c.fits used' done' z e in
+      read' ended f c.fits used' done' z e in
       record {
         fits = record {
           used = le;
@@ -149,7 +149,7 @@ module _ (r w : Filter) (t : Trace) (from : SideId) (read taken : List ℕ) (end
   outcome_grown : (turned' : ℕ) (done' : Bool) (z : List ℕ) → f.write_done ≡ false →
       outcome r w read (record f { turned = turned'; write_done = done' }) ≡ outcome r w read f ++ z → turned' ≤ f.moved →
       (done' ≡ true → (f.read_done ≡ true) × (turned' ≡ f.moved) × (f.moved ≡ length (middle r read f)) ×
-          (w.bad_at_end (middle r read f) ≡ None)) →
+      (w.bad_at_end (middle r read f) ≡ None)) →
       Accounted r w t from read taken ended (record f { turned = turned'; write_done = done' })
   outcome_grown turned' done' z open_still e le finished = record {
     fits = record {
@@ -241,7 +241,7 @@ module _ (r w : Filter) (t : Trace) (from : SideId) (read taken : List ℕ) (end
             ∙ take-append-drop f.given (outcome r w read f)
             ∙ outcome-done r w read f write_done
             ∙ ap w.at_end (ap (λ n. take n xs) (b.1 ∙ b.2) ∙ take-length xs ∙ middle-done r read f read_done ∙ ap r.at_end
-                (ap (λ n. take n read) a.1 ∙ take-length read))
+            (ap (λ n. take n read) a.1 ∙ take-length read))
             ∙ ap (λ o. if is_none o then w.at_end (r.at_end read) else w.before (r.before read)) (sym a.2);
       }
     where

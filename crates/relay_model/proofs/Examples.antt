@@ -259,6 +259,15 @@ what_is_left_is_held : Holds kind.ToLf kind.None lf plainly (97 ∷ 13 ∷ 10 �
 what_is_left_is_held = record {
   buffers = refl;
   reads = λ live. absurd (cc);
-  writes = λ live. (record { kind = refl; since = refl; begun = omega arith; used = refl; good = refl; last = refl; finished =
-      refl; stopped = tt });
+  writes = λ live. (record {
+    kind = refl;
+    since = refl;
+    begun = omega arith;
+    used = refl;
+    good = refl;
+    last = refl;
+    finished =
+        refl;
+    stopped = tt;
+  });
 }

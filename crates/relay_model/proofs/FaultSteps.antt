@@ -58,7 +58,7 @@ put-await g t s x y new k await (PutKind.closed {c = c} {cs = cs} {e = z} a) e l
     let one = k.each e old in
     let was = was-live e (z, []) (Closing (steps_left c cs)) (seen (side_at s e)) (seen (side_at (closed_by c s) e)) one live in
     let waits = await e old was.0 (old-faulty e (z, []) (Closing (steps_left c cs)) (seen (side_at s e))
-        (seen (side_at (closed_by c s) e)) one f.1 f.0 faulty) in
+    (seen (side_at (closed_by c s) e)) one f.1 f.0 faulty) in
     steps-looked c cs e (other (looks_at e c) refl was.1 f.2) waits
   where
     other : (q : Bool) → looks_at e c ≡ q → freed_by e (z, []) ≡ false → (looks_at e c ≡ true → freed_by e (z, []) ≡ true) →
@@ -174,7 +174,7 @@ put-faults g t s x y new r k h kind (TurnOrNot.turns {ms = ms}) = record {
   failed = λ e lt live fails.
       let old = same e in
       absurd (h.await e (subst (λ n. e.link < n) keeps.opened lt) (sym (ap (λ z. z.live) old) ∙ live)
-          (failed-faulty (side_at s e) (sym (ap (λ z. z.failed) old) ∙ fails)));
+      (failed-faulty (side_at s e) (sym (ap (λ z. z.failed) old) ∙ fails)));
   expired = λ e lt live late.
       go e (subst (λ n. e.link < n) keeps.opened lt) (sym (ap (λ z. z.live) (same e)) ∙ live) (time-expired g p (turned_to ms s) e late);
 }
@@ -229,7 +229,7 @@ put-faults g t s x y new r k h kind (TurnOrNot.stays no_turn) = record {
     expired e lt live late (inl old) =
         let one = k.each e old in
         timed-push g t e y no_turn (h.expired e old (was-live e y new.stage (seen (side_at s e)) (seen (side_at new.plain e)) one
-            live).0 (sym (one.expired no_turn) ∙ late))
+        live).0 (sym (one.expired no_turn) ∙ late))
 
 quiet-faults : (g : Settings) (t : Trace) (s : Plain) (x : Stage) (new : State) → Silent x s new.stage new.plain → Faults g t x s →
     QuietKind g t s x new → Faults g t new.stage new.plain
@@ -244,14 +244,18 @@ quiet-faults g t s x new k h kind = record {
 }
 
 pub faults : (g : Settings) (t : Trace) (s : State) → Reaches g t s → Faults g t s.stage s.plain
-faults g t s (Reaches.begins) = record { await = λ e lt live faulty. absurd (omega arith); failed = λ e lt live h. absurd
-    (omega arith); expired = λ e lt live h. absurd (omega arith) }
+faults g t s (Reaches.begins) = record {
+  await = λ e lt live faulty. absurd (omega arith);
+  failed = λ e lt live h. absurd
+      (omega arith);
+  expired = λ e lt live h. absurd (omega arith);
+}
 faults g t new (Reaches.goes {t = u} {s = old} r h) =
     quiet-faults g u old.plain old.stage new (quiet-silent g u old.stage old.plain new h) (faults g u old r)
-        (quiet-kind g u old.stage old.plain new h)
+    (quiet-kind g u old.stage old.plain new h)
 faults g t new (Reaches.puts {t = u} {s = old} e bytes r h) =
     let c = kept g u old r in
     let kind = put-kind g u old.stage old.plain e bytes new c.placed h in
     put-faults g u old.plain old.stage (e, bytes) new r (put-effect g u old.stage old.plain e bytes new c.counts.shape.sides
-        c.placed h) (faults g u old r) kind
+    c.placed h) (faults g u old r) kind
     (turn_or_not g u old.plain old.stage (e, bytes) new kind)

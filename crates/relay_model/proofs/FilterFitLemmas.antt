@@ -233,7 +233,7 @@ module _ (x : Running) (over : Bool) (limit n : ℕ) (src : List ℕ) where
       none =
           end-none x.kind (count_of ran_on) ran_on.last
           (last_part (all && over && not (is_end_bad x.kind (count_of ran_on)))
-              (not (holds_byte x.kind (count_of ran_on) ran_on.last) || false) e)
+          (not (holds_byte x.kind (count_of ran_on) ran_on.last) || false) e)
 
   fits : (b : Bool) → (x.finished || is_some x.stopped) ≡ b →
       FitsTarget x.kind limit n (length src)

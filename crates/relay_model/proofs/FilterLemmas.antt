@@ -98,7 +98,7 @@ crlf_after-append last [] ys = refl
 crlf_after-append last (x ∷ xs) ys =
     let made : List ℕ = if x == LF && not (last == CR) then CR ∷ LF ∷ [] else x ∷ [] in
     ap (λ z. made ++ z) (crlf_after-append x xs ys) ∙ sym (append_assoc made (crlf_after x xs)
-        (crlf_after (byte_of (last_or (Some x) xs)) ys))
+    (crlf_after (byte_of (last_or (Some x) xs)) ys))
 
 pub to_crlf-append : (xs ys : List ℕ) → crlf_after 0 (xs ++ ys) ≡ crlf_after 0 xs ++ crlf_after (byte_of (last_of xs)) ys
 to_crlf-append [] ys = refl

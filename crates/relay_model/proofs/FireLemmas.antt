@@ -107,7 +107,7 @@ run-push e t x within h before y after freed split = go (pushed_split t x before
     go (inr k) =
         ap (λ z. list_all is_within_fire z) k.after_is ∙ list_all-append is_within_fire k.rest (x ∷ [])
         ∙ and_from (list_all is_within_fire k.rest) (list_all is_within_fire (x ∷ [])) (h before y k.rest freed k.there)
-            (ap (λ z. z && true) within)
+        (ap (λ z. z && true) within)
 
 -- an event of a split trace
 pub any-split : (p : Event → Bool) (before : Trace) (y : Event) (after : Trace) → p y ≡ true → list_any p (before ++ y ∷ after) ≡ true

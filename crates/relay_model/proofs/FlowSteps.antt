@@ -112,7 +112,7 @@ take-output r read f n h =
 -- the write filter used n more bytes of the output
 pub outcome-turned : (r w : Filter) → PrefixLaw w → (read : List ℕ) (f : Flow) (n : ℕ) → f.turned + n ≤ f.moved → f.write_done ≡ false →
     outcome r w read (record f { turned = f.turned + n }) ≡ outcome r w read f ++ more w (take f.turned (middle r read f))
-        (take n (output r read f))
+    (take n (output r read f))
 outcome-turned r w law read f n le h =
     outcome-open r w read (record f { turned = f.turned + n }) h
     ∙ ap w.before (take-output r read f n le)

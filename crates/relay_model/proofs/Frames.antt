@@ -54,8 +54,14 @@ pub shape-same : (s : Plain) → SameShape s s
 shape-same s = record { time = refl; turn = refl; opened = refl; sides = refl; flows = refl }
 
 pub shape-then : (a b c : Plain) → SameShape a b → SameShape b c → SameShape a c
-shape-then a b c x y = record { time = y.time ∙ x.time; turn = y.turn ∙ x.turn; opened = y.opened ∙ x.opened; sides = y.sides ∙
-    x.sides; flows = y.flows ∙ x.flows }
+shape-then a b c x y = record {
+  time = y.time ∙ x.time;
+  turn = y.turn ∙ x.turn;
+  opened = y.opened ∙ x.opened;
+  sides = y.sides ∙
+      x.sides;
+  flows = y.flows ∙ x.flows;
+}
 
 pub shape-is : (old new : Plain) → new ≡ old → SameShape old new
 shape-is old new e = subst (λ z. SameShape old z) (sym e) (shape-same old)
@@ -85,8 +91,11 @@ frame-flow e f s = record {
 }
 
 pub frame-waiting : (s : Plain) (timers : List Timer) (due : List Due) → SameFrame s (record s { timers = timers; due = due })
-frame-waiting s timers due = record { shape = record { time = refl; turn = refl; opened = refl; sides = refl; flows = refl }; rates
-    = λ a. refl }
+frame-waiting s timers due = record {
+  shape = record { time = refl; turn = refl; opened = refl; sides = refl; flows = refl };
+  rates
+      = λ a. refl;
+}
 
 pub frame-raise : (g : Settings) (e : SideId) (y : Why) (s : Plain) → SameFrame s (raise g e y s)
 frame-raise g e y s = if_so _
@@ -116,10 +125,10 @@ pub frame-timed : (g : Settings) (p : Past) (e : SideId) (s : Plain) (d : Dir) �
 frame-timed g p e s d =
     frame-if (not (is_timed (side_at s e) d)) s s _ (frame-same s)
     (frame-if (not (wants g p s e d)) s (change_side e (active_at s.time d) s) _ (frame-change e (active_at s.time d) s
-        (active-rates s.time d))
+    (active-rates s.time d))
     (frame-if (has_run_out (side_at s e) d s.time) s _ s
     (frame-then s (change_side e (expire d) s) _ (frame-change e (expire d) s (expire-rates d))
-        (frame-raise g e (happened d timeout_flag) (change_side e (expire d) s)))
+    (frame-raise g e (happened d timeout_flag) (change_side e (expire d) s)))
     (frame-same s)))
 
 pub frame-time_passed : (g : Settings) (p : Past) (s : Plain) → SameFrame s (time_passed g p s)
@@ -127,7 +136,7 @@ frame-time_passed g p s =
     frame-then s (timers_taken g s) _
     (frame-then s (record s { timers = left }) _ (frame-waiting s left s.due)
     (frame-fold {A = Timer} (λ state x. raise g x.side why.Timer state) (record s { timers = left }) (by_deadline taken)
-        (λ z x. frame-raise g x.side why.Timer z)))
+    (λ z x. frame-raise g x.side why.Timer z)))
     (frame-fold (side_timed g p) (timers_taken g s) (all_sides s) (λ z e. frame-fold (timed g p e) z both_ways (frame-timed g p e)))
   where
     left : List Timer
@@ -146,7 +155,7 @@ frame-raise_write g p e s = frame-if _ s (raise g e why.Write s) s (frame-raise 
 pub shape-freed : (e : SideId) (s : Plain) → SameShape s (freed e s)
 shape-freed e s =
     shape-then s (record s { timers = _; due = _ }) _
-        (SameFrame.shape (frame-waiting s (without_timer e s.timers) (without_due e s.due))) (shape-put e _ _)
+    (SameFrame.shape (frame-waiting s (without_timer e s.timers) (without_due e s.due))) (shape-put e _ _)
 
 pub shape-done : (g : Settings) (p : Past) (s : Plain) (a : Act) → SameShape s (done g p s a)
 shape-done g p s (act.Free e) = shape-freed e s
@@ -190,7 +199,7 @@ pub frame-write : (g : Settings) (p : Past) (e : SideId) (answer : WriteAnswer) 
 frame-write g p e (write.Took n) s =
     frame-then s (change_side e (active_at s.time dir.Write) (change_flow (peer e) (λ f. record f { given = f.given + n }) s)) _
     (frame-then s (change_flow (peer e) (λ f. record f { given = f.given + n }) s) _ (frame-flow (peer e)
-        (λ f. record f { given = f.given + n }) s)
+    (λ f. record f { given = f.given + n }) s)
     (frame-change e (active_at s.time dir.Write) (change_flow (peer e) (λ f. record f { given = f.given + n }) s) (λ x. refl)))
     (frame-raise_write g p e _)
 frame-write g p e write.NotYet s = frame-same s

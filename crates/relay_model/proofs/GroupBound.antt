@@ -46,9 +46,9 @@ module _ (g : Settings) (n : ℕ) (x : GroupSet) (is : slice_get g.groups n ≡ 
   within-share e d k in_it =
       let a : share g (past g t) s e d ≡ Some (part d) =
       ap (λ z. share_in g (past g t) s d z) in_it ∙ ap
-          (λ z. option_map (λ y. share_among y d (group_spells g n d t) s.time (members s n)) z) is in
+      (λ z. option_map (λ y. share_among y d (group_spells g n d t) s.time (members s n)) z) is in
       let b : within_rates g (past g t) s e d k ≡ min (part d) (at_most (allowance (past g t) s e d) k) = ap
-          (λ z. at_most z (at_most (allowance (past g t) s e d) k)) a in
+      (λ z. at_most z (at_most (allowance (past g t) s e d) k)) a in
       omega (arith, b)
 
   pub read_room-shared : (e : SideId) → (side_at s e).group ≡ Some n → read_room g (past g t) s e ≤ part dir.Read
@@ -65,7 +65,7 @@ module _ (g : Settings) (n : ℕ) (x : GroupSet) (is : slice_get g.groups n ≡ 
   pub read-among : (told : (e : SideId) → (side_at s e).group ≡ group_after g e t) (side : SideId) (d : Dir) (room : ℕ)
       (answer : ReadAnswer) (bytes : List ℕ) →
       room ≡ read_room g (past g t) s side → CarriesGot answer room bytes → bytes_of (beat_among g n d t
-          (entry.Read side room answer, bytes)) ≤ part d
+      (entry.Read side room answer, bytes)) ≤ part d
   read-among told side dir.Read room answer bytes asked carries =
       beat-where (same_group (group_after g side t) n) _ _
       (λ named. got-within side side room (part dir.Read) answer bytes carries
@@ -76,7 +76,7 @@ module _ (g : Settings) (n : ℕ) (x : GroupSet) (is : slice_get g.groups n ≡ 
   pub write-among : (told : (e : SideId) → (side_at s e).group ≡ group_after g e t) (side : SideId) (d : Dir) (offered : ℕ)
       (answer : WriteAnswer) (bytes : List ℕ) →
       offered ≡ write_room g (past g t) s side → CarriesTook answer offered bytes → bytes_of
-          (beat_among g n d t (entry.Write side offered answer, bytes)) ≤ part d
+      (beat_among g n d t (entry.Write side offered answer, bytes)) ≤ part d
   write-among told side dir.Read offered answer bytes asked carries = beat-where (same_group (group_after g side t) n) 0 _
       (λ named. omega arith)
   write-among told side dir.Write offered answer bytes asked carries =
@@ -91,7 +91,7 @@ module _ (g : Settings) (n : ℕ) (x : GroupSet) (is : slice_get g.groups n ≡ 
 pub puts-shared : (g : Settings) (t : Trace) (x : Stage) (s : Plain) (e' : Entry) (bytes : List ℕ) (new : State) (n : ℕ)
     (y : GroupSet) (d : Dir) → (is : slice_get g.groups n ≡ Some y) →
     ((e : SideId) → (side_at s e).group ≡ group_after g e t) → Puts g t x s e' bytes new → bytes_of
-        (beat_among g n d t (e', bytes)) ≤ part g n y is t s d
+    (beat_among g n d t (e', bytes)) ≤ part g n y is t s d
 puts-shared g t Stage.Between s (entry.Turn ms) bytes new n y d is told h = omega arith
 puts-shared g t Stage.Polling s (entry.Poll timeout) bytes new n y d is told h = omega arith
 puts-shared g t (Stage.Wanting (w ∷ ws)) s (entry.Want side r w') bytes new n y d is told h = omega arith
@@ -121,7 +121,7 @@ pub moved_among-push : (g : Settings) (n : ℕ) (d : Dir) (before t : Trace) (x 
     moved_among g n d before (t ++ x ∷ []) ≡ moved_among g n d before t + bytes_of (beat_among g n d (before ++ t) x)
 moved_among-push g n d before t x =
     ap (λ z. sum_by bytes_of z) (beats_among-push g n d before t x) ∙ sum_by-append bytes_of (beats_among g n d before t)
-        (beat_among g n d (before ++ t) x ∷ []) ∙ omega arith
+    (beat_among g n d (before ++ t) x ∷ []) ∙ omega arith
 
 pub group_bounded-puts : (g : Settings) (n : ℕ) (y : GroupSet) (d : Dir) → slice_get g.groups n ≡ Some y → (t : Trace)
     (s new : State) (e' : Entry) (bytes : List ℕ) → Rated g t s →
@@ -181,7 +181,7 @@ group_bounded-puts g n y d is t s new e' bytes rated bounded p before run ms spl
             let last = group_spells-last g n d t ∙ sym rated.shape.time in
             let one = not_suspended-left y d (group_spells g n d t) s.plain.time some.0 count last free in
             let same : most_moved (limit_of y.cfg d) ms s.plain.time ≡ most_moved (limit_of y.cfg d) ms (last_time ms rest) = ap
-                (λ z. most_moved (limit_of y.cfg d) ms z) time in
+            (λ z. most_moved (limit_of y.cfg d) ms z) time in
             omega (arith, all, step, le, held, one, same, grows)
 
 pub group_bounded : (g : Settings) (n : ℕ) (y : GroupSet) (d : Dir) → slice_get g.groups n ≡ Some y → {t : Trace} {s : State} →

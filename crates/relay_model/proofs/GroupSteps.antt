@@ -83,13 +83,13 @@ not_suspended-left x d all time n count last free = elim (eqb_tells (group_level
 -- a share is nothing, or at most the greater of what is left and the least share
 pub share-parts : (x : GroupSet) (d : Dir) (all : List Spell) (time count : ℕ) →
     (share_among x d all time count ≡ 0) ⊎ ((is_suspended x d all ≡ false) × (share_among x d all time count ≤ max
-        (group_level x d all time) (least_share x)))
+    (group_level x d all time) (least_share x)))
 share-parts x d all time count = by_flag (is_suspended x d all) refl
   where
     by_flag : (b : Bool) → is_suspended x d all ≡ b →
         ((if is_suspended x d all then 0 else max (group_level x d all time / count) (least_share x)) ≡ 0)
         ⊎ ((is_suspended x d all ≡ false) × ((if is_suspended x d all then 0 else max (group_level x d all time / count)
-            (least_share x)) ≤ max (group_level x d all time) (least_share x)))
+        (least_share x)) ≤ max (group_level x d all time) (least_share x)))
     by_flag true is = inl (ap (λ b. if b then 0 else max (group_level x d all time / count) (least_share x)) is)
     by_flag false is =
         inr (
@@ -104,33 +104,33 @@ share-parts x d all time count = by_flag (is_suspended x d all) refl
 
 pub beats-cut : (g : Settings) (n : ℕ) (d : Dir) (first before rest : Trace) (ms : ℕ) →
     beats_among g n d first (before ++ (entry.Turn ms, []) ∷ rest) ≡ beats_among g n d first before ++ Begins ms ∷ beats_among g n
-        d (first ++ before ++ (entry.Turn ms, []) ∷ []) rest
+    d (first ++ before ++ (entry.Turn ms, []) ∷ []) rest
 beats-cut g n d first [] rest ms = ap (λ z. Begins ms ∷ beats_among g n d (z ++ (entry.Turn ms, []) ∷ []) rest) (sym (append-nil first))
 beats-cut g n d first (x ∷ before) rest ms =
     ap (λ z. beat_among g n d first x ∷ z)
     (beats-cut g n d (first ++ x ∷ []) before rest ms
     ∙ ap (λ z. beats_among g n d (first ++ x ∷ []) before ++ Begins ms ∷ beats_among g n d (z ++ (entry.Turn ms, []) ∷ []) rest)
-        (append_assoc first (x ∷ []) before))
+    (append_assoc first (x ∷ []) before))
 
 pub group_spells-cut : (g : Settings) (n : ℕ) (d : Dir) (before rest : Trace) (ms : ℕ) →
     group_spells g n d (before ++ (entry.Turn ms, []) ∷ rest) ≡ group_spells g n d before ++ rest_spells
-        (beats_among g n d (before ++ (entry.Turn ms, []) ∷ []) rest) ms
+    (beats_among g n d (before ++ (entry.Turn ms, []) ∷ []) rest) ms
 group_spells-cut g n d before rest ms =
     ap spells (beats-cut g n d [] before rest ms) ∙ spells-apart (beats_among g n d [] before)
-        (beats_among g n d (before ++ (entry.Turn ms, []) ∷ []) rest) ms
+    (beats_among g n d (before ++ (entry.Turn ms, []) ∷ []) rest) ms
 
 -- What a group's bucket holds is at most a burst and what came since the start of any turn, less what members moved since.
 pub group-most : (x : GroupSet) (g : Settings) (n : ℕ) (d : Dir) (before rest : Trace) (ms time : ℕ) →
     group_level x d (group_spells g n d (before ++ (entry.Turn ms, []) ∷ rest)) time ≤ most_moved (limit_of x.cfg d) ms time -
-        moved_among g n d (before ++ (entry.Turn ms, []) ∷ []) rest
+    moved_among g n d (before ++ (entry.Turn ms, []) ∷ []) rest
 group-most x g n d before rest ms time =
     let l : Limit = limit_of x.cfg d in
     let cs : List Beat = beats_among g n d (before ++ (entry.Turn ms, []) ∷ []) rest in
     let term = least-term l time (l.rate + l.rate * ticks l.tick 0 time - moved_in (group_spells g n d before ++ rest_spells cs
-        ms)) (group_spells g n d before) (spells cs) (record { time = ms; moved = moved_first cs }) in
+    ms)) (group_spells g n d before) (spells cs) (record { time = ms; moved = moved_first cs }) in
     let total : moved_in (rest_spells cs ms) ≡ moved_among g n d (before ++ (entry.Turn ms, []) ∷ []) rest = moved_in-rest cs ms in
     subst (λ z. group_level x d z time ≤ most_moved l ms time - moved_among g n d (before ++ (entry.Turn ms, []) ∷ []) rest)
-        (sym (group_spells-cut g n d before rest ms))
+    (sym (group_spells-cut g n d before rest ms))
     (subst (λ z. group_level x d (group_spells g n d before ++ rest_spells cs ms) time ≤ most_moved l ms time - z) total term)
 
 -- there is a spell where a turn began

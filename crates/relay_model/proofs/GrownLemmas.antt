@@ -38,8 +38,11 @@ grew-same xs over = record { more = []; is = sym (append-nil xs); stays = λ h. 
 pub bad-grew : (f : Filter) → BadLaw f → (xs : List ℕ) (over : Bool) (new : List ℕ) (new_over : Bool) (place : ℕ) → GrewList xs
     over new new_over → IsBadIn f xs over place → IsBadIn f new new_over place
 bad-grew f law xs over new new_over place k (inl h) = inl (subst (λ z. f.bad z ≡ Some place) (sym k.is) (law.stays xs k.more place h))
-bad-grew f law xs over new new_over place k (inr h) = let s = k.stays h.0 in inr (s.0, subst (λ z. f.bad_at_end z ≡ Some place)
-    (sym s.1) h.1)
+bad-grew f law xs over new new_over place k (inr h) = let s = k.stays h.0 in inr (
+  s.0,
+  subst (λ z. f.bad_at_end z ≡ Some place)
+      (sym s.1) h.1,
+)
 
 -- what is met is bad there
 pub bad-met : (f : Filter) → BadLaw f → (xs : List ℕ) (used : ℕ) (over room : Bool) (place : ℕ) → met f xs used over room ≡ Some
@@ -116,7 +119,7 @@ grown-counts r read ended f new same k =
 grown-made : (r : Filter) (read : List ℕ) (ended : Bool) (f new : Flow) → FlowOk r read ended f → new.moved ≡ f.moved → new.used ≤
     length read →
     (new.read_done ≡ true → (ended ≡ true) × (new.used ≡ length read)) → f.read_done ≡ false → (more : List ℕ) → middle r read new
-        ≡ middle r read f ++ more → Grown r read ended f read ended new
+    ≡ middle r read f ++ more → Grown r read ended f read ended new
 grown-made r read ended f new k same used done unfinished more made = record {
   ok = record {
     used = used;
@@ -148,9 +151,9 @@ before-grows : (r : Filter) → PrefixLaw r → (read : List ℕ) (m n : ℕ) �
     drop (length (r.before (take m read))) (r.before (take n read))
 before-grows r law read m n le =
     let joined : take m read ++ drop m (take n read) ≡ take n read = ap (λ z. z ++ drop m (take n read))
-        (sym (take-take m n read le)) ∙ take-append-drop m (take n read) in
+    (sym (take-take m n read le)) ∙ take-append-drop m (take n read) in
     sym (IsPrefixOf-rest (r.before (take m read)) (r.before (take n read))
-        (subst (λ z. IsPrefixOf (r.before (take m read)) (r.before z)) joined (law.grows (take m read) (drop m (take n read)))))
+    (subst (λ z. IsPrefixOf (r.before (take m read)) (r.before z)) joined (law.grows (take m read) (drop m (take n read)))))
 
 pub grown-used : (r : Filter) → IsFilter r → (read : List ℕ) (mark : ℕ) (ended : Bool) (f : Flow) → FlowOk r read ended f → Grown r
     read ended f read ended (with_used r read mark f)
@@ -169,7 +172,7 @@ grown-used r law read mark ended f k = go f.read_done refl
         (ap (λ d. if d then r.at_end (take (with_used r read mark f).used read) else r.before (take (with_used r read mark f).used read)) h
         ∙ before-grows r law.prefix read f.used (with_used r read mark f).used b.0
         ∙ ap (λ d. (if d then r.at_end (take f.used read) else r.before (take f.used read)) ++ drop
-            (length (r.before (take f.used read))) (r.before (take (with_used r read mark f).used read))) (sym h))
+        (length (r.before (take f.used read))) (r.before (take (with_used r read mark f).used read))) (sym h))
 
 pub grown-done : (r : Filter) → IsFilter r → (read : List ℕ) (mark : ℕ) (ended : Bool) (f : Flow) → FlowOk r read ended f → Grown r
     read ended f read ended (with_read_done r read mark ended f)
@@ -195,7 +198,7 @@ grown-done r law read mark ended f k = go f.read_done refl test refl
         (ap (λ z. if z then r.at_end (take f.used read) else r.before (take f.used read)) d
         ∙ sym (IsPrefixOf-rest (r.before (take f.used read)) (r.at_end (take f.used read)) (law.prefix.ends (take f.used read)))
         ∙ ap (λ z. (if z then r.at_end (take f.used read) else r.before (take f.used read)) ++ drop
-            (length (r.before (take f.used read))) (r.at_end (take f.used read))) (sym h))
+        (length (r.before (take f.used read))) (r.at_end (take f.used read))) (sym h))
 
 pub grown-moved : (r : Filter) (read : List ℕ) (ended : Bool) (f : Flow) → FlowOk r read ended f → Grown r read ended f read ended
     (with_moved r read f)
@@ -217,9 +220,11 @@ grown-moved r read ended f k = go (not f.held && length (output r read f) == 0)
         is = whole ∙ sym (take-append-drop f.moved (middle r read f));
         stays = λ h.
             let parts = and_parts f.read_done (nat_eq f.moved (length (middle r read f))) h in
-            let same : f.moved ≡ length (middle r read f) = eqb-true f.moved (length (middle r read f)) parts.1 in
-            (and_from f.read_done (nat_eq (length (middle r read f)) (length (middle r read f))) parts.0
-                (eq-eqb (length (middle r read f)) (length (middle r read f)) refl), ap (λ n. take n (middle r read f)) (sym same));
+            let same : f.moved ≡ length (middle r read f) = eqb-true f.moved (length (middle r read f)) parts.1 in (
+              and_from f.read_done (nat_eq (length (middle r read f)) (length (middle r read f))) parts.0
+                  (eq-eqb (length (middle r read f)) (length (middle r read f)) refl),
+              ap (λ n. take n (middle r read f)) (sym same),
+            );
       };
     }
 

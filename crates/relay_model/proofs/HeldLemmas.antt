@@ -132,9 +132,16 @@ closed-ready g p s c cs e size lt h (ClosedKind.in_done {k = k} a b d f) =
     let i : SideId = record { link = k; side = In } in
     let o : SideId = record { link = k; side = Out } in
     let apart : same_end o i ≡ false = and_right (k == k) false refl in
-    let out : side_at (freed i s) o ≡ side_at s o = freed-other s i o apart in
-    (record { live = ap (λ z. z.live) out ∙ b; gone = ap (λ z. z.live) (freed-same s i size lt); in_ended = ap (λ z. z.write_ended)
-        (freed-same s i size lt) ∙ d; out_ended = ap (λ z. z.write_ended) out ∙ f }, h)
+    let out : side_at (freed i s) o ≡ side_at s o = freed-other s i o apart in (
+      record {
+        live = ap (λ z. z.live) out ∙ b;
+        gone = ap (λ z. z.live) (freed-same s i size lt);
+        in_ended = ap (λ z. z.write_ended)
+            (freed-same s i size lt) ∙ d;
+        out_ended = ap (λ z. z.write_ended) out ∙ f;
+      },
+      h,
+    )
 closed-ready g p s c cs e size lt h (ClosedKind.out_done {k = k}) = looks-ready cs (closed_by (CloseStep.OutDone k) s) h
 closed-ready g p s c cs e size lt h (ClosedKind.peer_gone {z = z} a b d) = looks-ready cs (closed_by (CloseStep.PeerGone z) s) h
 closed-ready g p s c cs e size lt h (ClosedKind.shut {z = z} a b) = looks-ready cs (closed_by (CloseStep.Shut z) s) h

@@ -34,7 +34,7 @@ hex_in-grows (x ∷ y ∷ xs) ys = by_digits (hex_in-grows xs ys) (is_hex x && i
   where
     by_digits : IsPrefixOf (hex_in xs) (hex_in (xs ++ ys)) → (b : Bool) →
         IsPrefixOf (if b then (16 * hex_value x + hex_value y) ∷ hex_in xs else []) (if b then (16 * hex_value x + hex_value y) ∷
-            hex_in (xs ++ ys) else [])
+        hex_in (xs ++ ys) else [])
     by_digits rest true = ap (λ z. (16 * hex_value x + hex_value y) ∷ z) rest
     by_digits rest false = refl
 
@@ -58,7 +58,7 @@ not_hex_from-stays first (x ∷ xs) ys place h = by_digit (not_hex_from-stays (f
   where
     by_digit : (not_hex_from (first + 1) xs ≡ Some place → not_hex_from (first + 1) (xs ++ ys) ≡ Some place) → (b : Bool) →
         (if b then not_hex_from (first + 1) xs else Some first) ≡ Some place → (if b then not_hex_from (first + 1) (xs ++ ys)
-            else Some first) ≡ Some place
+        else Some first) ≡ Some place
     by_digit rest true e = rest e
     by_digit rest false e = e
 
@@ -115,16 +115,16 @@ hex_in-stops first (x ∷ []) (suc zero) h = refl
 hex_in-stops first (x ∷ []) (suc (suc n)) h = refl
 hex_in-stops first (x ∷ y ∷ xs) zero h =
     ap (λ b. if b then (16 * hex_value x + hex_value y) ∷ hex_in xs else []) (not_both first (first + 0) xs (omega arith)
-        (is_hex x) (is_hex y) h)
+    (is_hex x) (is_hex y) h)
 hex_in-stops first (x ∷ y ∷ xs) (suc zero) h =
     ap (λ b. if b then (16 * hex_value x + hex_value y) ∷ hex_in xs else []) (not_both first (first + 1) xs (omega arith)
-        (is_hex x) (is_hex y) h)
+    (is_hex x) (is_hex y) h)
 hex_in-stops first (x ∷ y ∷ xs) (suc (suc n)) h = by_digits (hex_in-stops (first + 1 + 1) xs n) (is_hex x) (is_hex y) h
   where
     by_digits : (not_hex_from (first + 1 + 1) xs ≡ Some (first + 1 + 1 + n) → hex_in xs ≡ hex_in (take n xs)) → (b c : Bool) →
         (if b then (if c then not_hex_from (first + 1 + 1) xs else Some (first + 1)) else Some first) ≡ Some (first + suc (suc n)) →
         (if b && c then (16 * hex_value x + hex_value y) ∷ hex_in xs else []) ≡ (if b && c then (16 * hex_value x + hex_value y) ∷
-            hex_in (take n xs) else [])
+        hex_in (take n xs) else [])
     by_digits rest true true e =
         ap (λ z. (16 * hex_value x + hex_value y) ∷ z)
         (rest (e ∙ ap Some (let k : first + suc (suc n) ≡ first + 1 + 1 + n = omega arith in k)))

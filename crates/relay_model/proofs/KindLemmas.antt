@@ -57,12 +57,12 @@ closed-kind g p s (CloseStep.Faulty z) e h =
 closed-kind g p s (CloseStep.EndWriting z) e h =
     let x = side_at s z in
     let k = where_parts (x.live && is_live s (peer z) && is_complete g p s (peer z) && not x.connecting && not x.write_ended)
-        (entry.CloseWrite z) e h in
+    (entry.CloseWrite z) e h in
     let a = and_parts (x.live && is_live s (peer z) && is_complete g p s (peer z) && not x.connecting) (not x.write_ended) k.0 in
     let b = and_parts (x.live && is_live s (peer z) && is_complete g p s (peer z)) (not x.connecting) a.0 in
     let c = and_parts (x.live && is_live s (peer z)) (is_complete g p s (peer z)) b.0 in
     subst (λ v. ClosedKind g p s (CloseStep.EndWriting z) v) (sym k.1) (ClosedKind.write_ended
-        (and_parts x.live (is_live s (peer z)) c.0).0 c.1)
+    (and_parts x.live (is_live s (peer z)) c.0).0 c.1)
 closed-kind g p s (CloseStep.BothDone n) e h =
     let i : SideId = record { link = n; side = In } in
     let x = side_at s i in
@@ -122,17 +122,17 @@ pub put-kind : (g : Settings) (t : Trace) (x : Stage) (s : Plain) (e : Entry) (b
     t x s e bytes new → PutKind g t s x (e, bytes) new
 put-kind g t Between s (entry.Turn ms) bytes new placed h =
     subst (λ b. PutKind g t s Between (entry.Turn ms, b) new) (sym h.2) (subst (λ z. PutKind g t s Between (entry.Turn ms, []) z)
-        (sym h.3) (PutKind.turned h.0 h.1))
+    (sym h.3) (PutKind.turned h.0 h.1))
 put-kind g t Polling s (entry.Poll timeout) bytes new placed h =
     subst (λ b. PutKind g t s Polling (entry.Poll timeout, b) new) (sym h.1)
-        (subst (λ z. PutKind g t s Polling (entry.Poll timeout, []) z) (sym h.2) PutKind.polled)
+    (subst (λ z. PutKind g t s Polling (entry.Poll timeout, []) z) (sym h.2) PutKind.polled)
 put-kind g t (Wanting (w ∷ ws)) s (entry.Want side r d) bytes new placed h =
     let live : is_live s side ≡ true = ap (λ z. is_live s z) (sym (ap (λ z. z.side) h.0)) ∙ placed.0 in
     subst (λ b. PutKind g t s (Wanting (w ∷ ws)) (entry.Want side r d, b) new) (sym h.1) (subst
-        (λ z. PutKind g t s (Wanting (w ∷ ws)) (entry.Want side r d, []) z) (sym h.2) (PutKind.wanted live))
+    (λ z. PutKind g t s (Wanting (w ∷ ws)) (entry.Want side r d, []) z) (sym h.2) (PutKind.wanted live))
 put-kind g t (Wanting []) s entry.PollFailed bytes new placed h =
     subst (λ b. PutKind g t s (Wanting []) (entry.PollFailed, b) new) (sym h.0)
-        (subst (λ z. PutKind g t s (Wanting []) (entry.PollFailed, []) z) (sym h.1) PutKind.poll_failed)
+    (subst (λ z. PutKind g t s (Wanting []) (entry.PollFailed, []) z) (sym h.1) PutKind.poll_failed)
 put-kind g t (Marking (w ∷ ws) marks) s (entry.Ready side r d) bytes new placed h =
     let live : is_live s side ≡ true = ap (λ z. is_live s z) h.0 ∙ placed.0 in
     subst (λ b. PutKind g t s (Marking (w ∷ ws) marks) (entry.Ready side r d, b) new) (sym h.2)
@@ -148,7 +148,7 @@ put-kind g t (Serving (m ∷ ms)) s (entry.Conn side answer) bytes new placed h 
 put-kind g t (Serving (m ∷ ms)) s (entry.Read side room answer) bytes new placed h =
     let may : may_read s side ≡ true = ap (λ z. may_read s z) h.0 ∙ (read-called g (past g t) s m room h.1).may in
     subst (λ z. PutKind g t s (Serving (m ∷ ms)) (entry.Read side room answer, bytes) z) (sym h.3)
-        (PutKind.was_read (marks_left s m ms) may h.2)
+    (PutKind.was_read (marks_left s m ms) may h.2)
 put-kind g t (Serving (m ∷ ms)) s (entry.Write side offered answer) bytes new placed h =
     let called = write-called g (past g t) s m offered h.1 in
     let may : may_write s side ≡ true = ap (λ z. may_write s z) h.0 ∙ called.may in
@@ -161,7 +161,7 @@ put-kind g t (Firing x rs) s (entry.Asked side a answer) bytes new placed h =
     subst (λ b. PutKind g t s (Firing x rs) (entry.Asked side a answer, b) new) (sym h.2)
     (subst (λ z. PutKind g t s (Firing x rs) (entry.Asked z a answer, []) new) (sym h.0)
     (subst (λ z. PutKind g t s (Firing x rs) (entry.Asked x.side a answer, []) z) (sym h.5)
-        (go (ask-outcome g (past g t) s next rs a answer h.3 h.4))))
+    (go (ask-outcome g (past g t) s next rs a answer h.3 h.4))))
   where
     next : Fire
     next = record x { asks = x.asks + 1 }
@@ -171,9 +171,9 @@ put-kind g t (Firing x rs) s (entry.Asked side a answer) bytes new placed h =
     go (inl k) =
         subst (λ z. PutKind g t s (Firing x rs) (entry.Asked x.side a answer, []) (at (after_ask next rs a answer) z)) (sym k.freed)
         (subst (λ z. PutKind g t s (Firing x rs) (entry.Asked x.side z answer, []) (at (after_ask next rs z answer)
-            (freed k.gone s))) (sym k.act)
+        (freed k.gone s))) (sym k.act)
         (subst (λ z. PutKind g t s (Firing x rs) (entry.Asked x.side (act.Free k.gone) z, [])
-            (at (after_ask next rs (act.Free k.gone) z) (freed k.gone s))) (sym k.answered) (PutKind.frees k.live refl)))
+        (at (after_ask next rs (act.Free k.gone) z) (freed k.gone s))) (sym k.answered) (PutKind.frees k.live refl)))
     go (inr k) = subst (λ z. PutKind g t s (Firing x rs) (entry.Asked x.side a answer, []) (at z h.3)) (sym k.stage)
         (PutKind.asked k.same k.keeps k.flows)
 put-kind g t (Freeing gone x rs) s e bytes new placed h =
@@ -182,5 +182,5 @@ put-kind g t (Freeing gone x rs) s e bytes new placed h =
     (subst (λ z. PutKind g t s (Freeing gone x rs) (freed_entry s gone cause.Hook, []) z) (sym h.2) PutKind.recorded))
 put-kind g t (Closing (c ∷ cs)) s e bytes new placed h =
     subst (λ b. PutKind g t s (Closing (c ∷ cs)) (e, b) new) (sym h.1) (subst (λ z. PutKind g t s (Closing (c ∷ cs)) (e, []) z)
-        (sym h.2) (PutKind.closed h.0))
+    (sym h.2) (PutKind.closed h.0))
 put-kind g t _ s e bytes new placed h = absurd h

@@ -73,7 +73,7 @@ closing-followed k (suc left) =
     let shut_out : (first rest : Bool) → (first || (same_end (out_of k) (out_of k) || rest)) ≡ true =
     λ first rest. or_right first (same_end (out_of k) (out_of k) || rest) (or_left (same_end (out_of k) (out_of k)) rest o) in
     let out_first : (rest : Bool) → (same_end (out_of k) (out_of k) || rest) ≡ true = λ rest. or_left
-        (same_end (out_of k) (out_of k)) rest o in
+    (same_end (out_of k) (out_of k)) rest o in
     let join : (rest : Bool) → ((k == k) || rest) ≡ true = λ rest. or_left (k == k) rest b in (
       (shut_in _, shut_out _ _),
       (
@@ -131,18 +131,18 @@ all-shut : (e : SideId) → Has (shuts e) (closing_of e.link)
 all-shut e =
     of-link shuts e.link (or_left (same_end (in_of e.link) (in_of e.link)) _ (same_end-refl (in_of e.link)))
     (or_right (same_end (in_of e.link) (out_of e.link)) _ (or_left (same_end (out_of e.link) (out_of e.link)) _
-        (same_end-refl (out_of e.link)))) e refl
+    (same_end-refl (out_of e.link)))) e refl
 
 all-leave : (e : SideId) → Has (leaves e) (closing_of e.link)
 all-leave e =
     of-link leaves e.link (or_left (same_end (in_of e.link) (in_of e.link)) _ (same_end-refl (in_of e.link)))
     (or_right (same_end (in_of e.link) (out_of e.link)) _ (or_left (same_end (out_of e.link) (out_of e.link)) _
-        (same_end-refl (out_of e.link)))) e refl
+    (same_end-refl (out_of e.link)))) e refl
 
 all-end : (e : SideId) → Has (ends e) (closing_of e.link)
 all-end e =
     of-link ends e.link (or_right (same_end (out_of e.link) (in_of e.link)) _ (or_left (same_end (in_of e.link) (in_of e.link)) _
-        (same_end-refl (in_of e.link))))
+    (same_end-refl (in_of e.link))))
     (or_left (same_end (out_of e.link) (out_of e.link)) _ (same_end-refl (out_of e.link))) e refl
 
 all-join : (k : ℕ) → Has (joins k) (closing_of k)
@@ -195,7 +195,7 @@ looked-left g t s c cs e none h = record {
         let same = same_end-eq z e q in
         where-none (not (is_live s z) && not (side_at s z).closed) (entry.Close z) n
         (ap (λ v. not (is_live s v) && not (side_at s v).closed) same ∙ and_from (not (is_live s e)) (not (side_at s e).closed)
-            (ap not a) (ap not b)))
+        (ap not a) (ap not b)))
     no_shut (CloseStep.Faulty z) n a b true q = absurd (cc)
     no_shut (CloseStep.EndWriting z) n a b true q = absurd (cc)
     no_shut (CloseStep.BothDone z) n a b true q = absurd (cc)
@@ -210,7 +210,7 @@ looked-left g t s c cs e none h = record {
         where-none (is_live s z && not (is_live s (peer z)) && output_length g p s z == 0) (freed_entry s z cause.PeerGone) n
         (ap (λ v. is_live s v && not (is_live s (peer v)) && output_length g p s v == 0) same
         ∙ and_from (is_live s e && not (is_live s (peer e))) (output_length g p s e == 0) (and_from (is_live s e)
-            (not (is_live s (peer e))) a (ap not b)) (eq-eqb (output_length g p s e) 0 d)))
+        (not (is_live s (peer e))) a (ap not b)) (eq-eqb (output_length g p s e) 0 d)))
     no_gone (CloseStep.Faulty z) n a b d true q = absurd (cc)
     no_gone (CloseStep.EndWriting z) n a b d true q = absurd (cc)
     no_gone (CloseStep.BothDone z) n a b d true q = absurd (cc)
@@ -227,7 +227,7 @@ looked-left g t s c cs e none h = record {
     all : is_live s e ≡ true → is_live s (peer e) ≡ true → (side_at s e).write_ended ≡ true → (side_at s (peer e)).write_ended ≡
         true → (e ≡ in_of e.link) ⊎ (e ≡ out_of e.link) →
         (let i = in_of e.link in (is_live s i && is_live s (peer i) && (side_at s i).write_ended &&
-            (side_at s (peer i)).write_ended) ≡ true)
+        (side_at s (peer i)).write_ended) ≡ true)
     all a b d f (inl same) = ap (λ i. is_live s i && is_live s (peer i) && (side_at s i).write_ended &&
         (side_at s (peer i)).write_ended) (sym same) ∙ both e a b d f
     all a b d f (inr same) =
@@ -243,9 +243,9 @@ looked-left g t s c cs e none h = record {
         let same : k ≡ e.link = eqb-true k e.link q in
         let i = in_of k in
         where-none (is_live s i && is_live s (peer i) && (side_at s i).write_ended && (side_at s (peer i)).write_ended)
-            (freed_entry s i cause.Done) n
+        (freed_entry s i cause.Done) n
         (ap (λ v. (is_live s (in_of v) && is_live s (peer (in_of v)) && (side_at s (in_of v)).write_ended &&
-            (side_at s (peer (in_of v))).write_ended)) same ∙ all a b d f (in-or-out e)))
+        (side_at s (peer (in_of v))).write_ended)) same ∙ all a b d f (in-or-out e)))
     no_done (CloseStep.Faulty z) n a b d f true q = absurd (cc)
     no_done (CloseStep.EndWriting z) n a b d f true q = absurd (cc)
     no_done (CloseStep.OutDone z) n a b d f true q = absurd (cc)
@@ -260,13 +260,13 @@ looked-left g t s c cs e none h = record {
         let same = same_end-eq z e q in
         let x = side_at s e in
         where-none ((side_at s z).live && is_live s (peer z) && is_complete g p s (peer z) && not (side_at s z).connecting && not
-            (side_at s z).write_ended) (entry.CloseWrite z) n
+        (side_at s z).write_ended) (entry.CloseWrite z) n
         (ap (λ v. (side_at s v).live && is_live s (peer v) && is_complete g p s (peer v) && not (side_at s v).connecting && not
-            (side_at s v).write_ended) same
+        (side_at s v).write_ended) same
         ∙ and_from (x.live && is_live s (peer e) && is_complete g p s (peer e) && not x.connecting) (not x.write_ended)
         (and_from (x.live && is_live s (peer e) && is_complete g p s (peer e)) (not x.connecting)
         (and_from (x.live && is_live s (peer e)) (is_complete g p s (peer e)) (and_from x.live (is_live s (peer e)) a b) d)
-            (ap not f)) (ap not i)))
+        (ap not f)) (ap not i)))
     no_end (CloseStep.Faulty z) n a b d f i true q = absurd (cc)
     no_end (CloseStep.BothDone z) n a b d f i true q = absurd (cc)
     no_end (CloseStep.OutDone z) n a b d f i true q = absurd (cc)

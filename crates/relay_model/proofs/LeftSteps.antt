@@ -36,15 +36,39 @@ use Rattle.relay_model.proofs.LeftLemmas.{Needs, Followed, Left, Lefts, open-lef
 -- What a step of closing leaves
 
 closed-connecting : (c : CloseStep) (s : Plain) → Keeps (λ x. x.connecting) s (closed_by c s)
-closed-connecting (CloseStep.Faulty e) s = record { time = refl; turn = refl; opened = refl; flows = refl; sides =
-    (Keeps-put (λ x. x.connecting) e (record (side_at s e) { live = false; group = None }) s refl).sides }
+closed-connecting (CloseStep.Faulty e) s = record {
+  time = refl;
+  turn = refl;
+  opened = refl;
+  flows = refl;
+  sides =
+      (Keeps-put (λ x. x.connecting) e (record (side_at s e) { live = false; group = None }) s refl).sides;
+}
 closed-connecting (CloseStep.EndWriting e) s = Keeps-put (λ x. x.connecting) e _ s refl
-closed-connecting (CloseStep.BothDone k) s = record { time = refl; turn = refl; opened = refl; flows = refl; sides =
-    (Keeps-put (λ x. x.connecting) (in_of k) (record (side_at s (in_of k)) { live = false; group = None }) s refl).sides }
-closed-connecting (CloseStep.OutDone k) s = record { time = refl; turn = refl; opened = refl; flows = refl; sides =
-    (Keeps-put (λ x. x.connecting) (out_of k) (record (side_at s (out_of k)) { live = false; group = None }) s refl).sides }
-closed-connecting (CloseStep.PeerGone e) s = record { time = refl; turn = refl; opened = refl; flows = refl; sides =
-    (Keeps-put (λ x. x.connecting) e (record (side_at s e) { live = false; group = None }) s refl).sides }
+closed-connecting (CloseStep.BothDone k) s = record {
+  time = refl;
+  turn = refl;
+  opened = refl;
+  flows = refl;
+  sides =
+      (Keeps-put (λ x. x.connecting) (in_of k) (record (side_at s (in_of k)) { live = false; group = None }) s refl).sides;
+}
+closed-connecting (CloseStep.OutDone k) s = record {
+  time = refl;
+  turn = refl;
+  opened = refl;
+  flows = refl;
+  sides =
+      (Keeps-put (λ x. x.connecting) (out_of k) (record (side_at s (out_of k)) { live = false; group = None }) s refl).sides;
+}
+closed-connecting (CloseStep.PeerGone e) s = record {
+  time = refl;
+  turn = refl;
+  opened = refl;
+  flows = refl;
+  sides =
+      (Keeps-put (λ x. x.connecting) e (record (side_at s e) { live = false; group = None }) s refl).sides;
+}
 closed-connecting (CloseStep.Shut e) s = Keeps-put (λ x. x.connecting) e _ s refl
 
 -- the bytes that an end was read stay
@@ -78,8 +102,11 @@ record StepTells (c : CloseStep) (y : Event) (s : Plain) (cs : List CloseStep) :
 step-tells : (g : Settings) (p : Past) (s : Plain) (c : CloseStep) (cs : List CloseStep) (y : Entry) → Needs c cs → FirstReady c s
     → ClosedKind g p s c y → StepTells c (y, []) s cs
 step-tells g p s c cs y needs ready (ClosedKind.faulty {z = z} a b) = record {
-  frees = λ e h. let same = same_end-eq z e h in (subst (λ v. Has (shuts v) cs) same needs.0, λ live. subst
-      (λ v. Has (leaves (peer v)) cs) same needs.1);
+  frees = λ e h. let same = same_end-eq z e h in (
+    subst (λ v. Has (shuts v) cs) same needs.0,
+    λ live. subst
+        (λ v. Has (leaves (peer v)) cs) same needs.1,
+  );
   writes = λ e h. absurd (cc);
   reads = λ e. refl;
   ends_no = λ e. refl;
@@ -99,8 +126,11 @@ step-tells g p s c cs y needs ready (ClosedKind.write_ended {z = z} a b) = recor
   is_end = λ e h. h;
 }
 step-tells g p s c cs y needs ready (ClosedKind.in_done {k = k} a b d f) = record {
-  frees = λ e h. let same = same_end-eq (in_of k) e h in (subst (λ v. Has (shuts v) cs) same needs.0, λ live. subst
-      (λ v. Has (leaves (peer v)) cs) same needs.1);
+  frees = λ e h. let same = same_end-eq (in_of k) e h in (
+    subst (λ v. Has (shuts v) cs) same needs.0,
+    λ live. subst
+        (λ v. Has (leaves (peer v)) cs) same needs.1,
+  );
   writes = λ e h. absurd (cc);
   reads = λ e. refl;
   ends_no = λ e. refl;
@@ -110,9 +140,11 @@ step-tells g p s c cs y needs ready (ClosedKind.in_done {k = k} a b d f) = recor
   is_end = λ e h. absurd (cc);
 }
 step-tells g p s c cs y needs ready (ClosedKind.out_done {k = k}) = record {
-  frees = λ e h. let same = same_end-eq (out_of k) e h in
-      (subst (λ v. Has (shuts v) cs) same needs, λ live. absurd (let dead : is_live s (peer e) ≡ false = ap
-          (λ v. is_live s (peer v)) (sym same) ∙ ready.gone in cc));
+  frees = λ e h. let same = same_end-eq (out_of k) e h in (
+    subst (λ v. Has (shuts v) cs) same needs,
+    λ live. absurd (let dead : is_live s (peer e) ≡ false = ap
+        (λ v. is_live s (peer v)) (sym same) ∙ ready.gone in cc),
+  );
   writes = λ e h. absurd (cc);
   reads = λ e. refl;
   ends_no = λ e. refl;
@@ -122,9 +154,11 @@ step-tells g p s c cs y needs ready (ClosedKind.out_done {k = k}) = record {
   is_end = λ e h. absurd (cc);
 }
 step-tells g p s c cs y needs ready (ClosedKind.peer_gone {z = z} a b d) = record {
-  frees = λ e h. let same = same_end-eq z e h in
-      (subst (λ v. Has (shuts v) cs) same needs, λ live. absurd (let dead : is_live s (peer e) ≡ false = ap
-          (λ v. is_live s (peer v)) (sym same) ∙ not-true (is_live s (peer z)) b in cc));
+  frees = λ e h. let same = same_end-eq z e h in (
+    subst (λ v. Has (shuts v) cs) same needs,
+    λ live. absurd (let dead : is_live s (peer e) ≡ false = ap
+        (λ v. is_live s (peer v)) (sym same) ∙ not-true (is_live s (peer z)) b in cc),
+  );
   writes = λ e h. absurd (cc);
   reads = λ e. refl;
   ends_no = λ e. refl;
@@ -192,11 +226,11 @@ closed-left g t s c cs y e a b tells h = record {
       let parts = or_parts (side_at s e).write_ended (write_closed_by e y) (sym a.write_ended ∙ we) in
       let ended = b.ended ∙ sym (or_no (side_at s (peer e)).ended (ended_by (peer e) y) (tells.ends_no (peer e))) in
       let whole = sym (complete-same g (past g t) (past g (t ++ y ∷ [])) s (closed_by c s) (peer e) reads (closed-flows c s) ended)
-          ∙ complete in
+      ∙ complete in
       let linked = sym (Keeps-side (λ x. x.connecting) s (closed_by c s) e (closed-connecting c s)) ∙ connected in
       steps-keep (ends e) (λ k. refl) c cs
       (rest (ends e c) _ (unless (ends e c) (write_closed_by e y) (tells.is_end e) parts.1)
-          (h.writing was.0 peer_was.0 whole linked parts.0));
+      (h.writing was.0 peer_was.0 whole linked parts.0));
 }
   where
     after : Stage
@@ -238,10 +272,10 @@ closed-left g t s c cs y e a b tells h = record {
 
     done : is_live s e ≡ true → freed_by e y ≡ false → is_live s (peer e) ≡ true → freed_by (peer e) y ≡ false →
         ((side_at s e).write_ended ≡ true) ⊎ (write_closed_by e y ≡ true) → ((side_at s (peer e)).write_ended ≡ true) ⊎
-            (write_closed_by (peer e) y ≡ true) → Has (joins e.link) cs
+        (write_closed_by (peer e) y ≡ true) → Has (joins e.link) cs
     done live m peer_live n (inl we) (inl peer_we) =
         rest (joins e.link c) _ (unless (joins e.link c) (freed_by (in_of e.link) y) (tells.is_done e.link)
-            (no_join m n (in-or-out e))) (h.done live peer_live we peer_we)
+        (no_join m n (in-or-out e))) (h.done live peer_live we peer_we)
     done live m peer_live n (inr now_closed) o = tells.writes e now_closed
     done live m peer_live n (inl we) (inr now_closed) = tells.writes (peer e) now_closed
 
@@ -284,7 +318,7 @@ lefts g t new (Reaches.goes {t = u} {s = old} r h) = quiet-left g u old.plain ol
 lefts g t new (Reaches.puts {t = u} {s = old} e bytes r h) =
     let c = kept g u old r in
     put-left g u old.plain old.stage (e, bytes) new (held g u old r).ready (put-effect g u old.stage old.plain e bytes new
-        c.counts.shape.sides c.placed h) (lefts g u old r)
+    c.counts.shape.sides c.placed h) (lefts g u old r)
     (put-kind g u old.stage old.plain e bytes new c.placed h)
 
 pub nothing_is_left : NothingIsLeft

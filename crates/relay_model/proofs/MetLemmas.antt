@@ -39,7 +39,7 @@ bad-next f law used xs place good bad = by_order (nat_lt place used) refl
 -- what is met where there is room: the next byte where one is left, the end where none is
 met-cases : (f : Filter) → BadLaw f → (xs : List ℕ) (used place : ℕ) (over room b : Bool) → nat_lt used (length xs) ≡ b →
     (if room then (if b then f.bad (take (used + 1) xs) else (if over then f.bad_at_end xs else None)) else None) ≡ Some place →
-        IsMetPlace f xs used place
+    IsMetPlace f xs used place
 met-cases f law xs used place over false b e h = absurd (cc)
 met-cases f law xs used place over true true e h =
     let bad : f.bad xs ≡ Some place = bad-of_take f law (used + 1) xs place h in

@@ -62,7 +62,7 @@ freeing-next g u s (Reaches.begins) t me e bytes h = absurd (none t h)
     none (x ∷ xs) k = cc
 freeing-next g u new (Reaches.goes {t = v} {s = old} r q) t me e bytes h =
     absurd (let was = freeing-next g v old r t me e bytes h in let not_freeing = (quiet-silent g v old.stage old.plain new
-        q).before e in cc)
+    q).before e in cc)
 freeing-next g u new (Reaches.puts {t = v} {s = old} y b r put) t me e bytes h = go (pushed_split v (y, b) t
     (entry.Asked me (act.Free e) ask.Ok, bytes) [] h)
   where
@@ -91,9 +91,12 @@ put-recorded g t s x y new e (PutKind.fired a) h = absurd (cc)
 put-recorded g t s x y new e (PutKind.frees a same) h = absurd (cc)
 put-recorded g t s x y new e (PutKind.asked same m l) h = absurd (cc)
 put-recorded g t s x y new e (PutKind.recorded {gone = gone}) h =
-    let same = same_end-eq gone e h in
-    ((flow_at s gone).moved, (flow_at s (peer gone)).given, ap
-        (λ v. (entry.Freed v cause.Hook (flow_at s gone).moved (flow_at s (peer gone)).given, [])) same)
+    let same = same_end-eq gone e h in (
+      (flow_at s gone).moved,
+      (flow_at s (peer gone)).given,
+      ap
+          (λ v. (entry.Freed v cause.Hook (flow_at s gone).moved (flow_at s (peer gone)).given, [])) same,
+    )
 put-recorded g t s x y new e (PutKind.closed a) h = absurd (cc)
 
 pub asked_frees_are_next : AskedFreesAreNext
@@ -101,4 +104,4 @@ asked_frees_are_next g t before after me e bytes next legal split =
     let asked : Event = (entry.Asked me (act.Free e) ask.Ok, bytes) in
     let k = there g t legal.0 legal.1 (before ++ asked ∷ []) next after (split ∙ sym (append_assoc before (asked ∷ []) (next ∷ after))) in
     put-recorded g (before ++ asked ∷ []) k.old.plain k.old.stage next k.new e k.kind (freeing-next g (before ++ asked ∷ []) k.old
-        k.reached before me e bytes refl)
+    k.reached before me e bytes refl)

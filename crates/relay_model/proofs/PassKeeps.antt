@@ -101,8 +101,10 @@ drain-stands_still r w read hold f = by_held (with_held r w read hold f).held
     now : Flow
     now = with_held r w read hold f
 
-    by_held : (b : Bool) → StandsStill f (if b then now else record now { turned = first_from (write_stops r w read hold now)
-        now.turned (now.moved - now.turned) })
+    by_held : (b : Bool) → StandsStill f (if b then now else record now {
+      turned = first_from (write_stops r w read hold now)
+          now.turned (now.moved - now.turned);
+    })
     by_held true = record { moved = refl; read_done = refl; write_done = refl }
     by_held false = record { moved = refl; read_done = refl; write_done = refl }
 
@@ -157,7 +159,7 @@ module _ (r w : Filter) (t : Trace) (from : SideId) (read taken : List ℕ) (end
           let same : f.moved + (length (middle r read f) - f.moved) ≡ length (middle r read f) = omega arith in
           subst (λ n. Accounted r w t from read taken ended (record f { moved = n })) same
           (accounted-moved r w t from read taken ended f c (length (middle r read f) - f.moved) e
-              (omega (arith, length-drop f.moved (middle r read f))) not_freed)
+          (omega (arith, length-drop f.moved (middle r read f))) not_freed)
 
       by_test : (b : Bool) → Accounted r w t from read taken ended (if b then record f { moved = length (middle r read f) } else f)
       by_test true = all_moved_now f.write_done refl
@@ -213,7 +215,9 @@ module _ (r w : Filter) (t : Trace) (from : SideId) (read taken : List ℕ) (end
           (eqb-true f.turned f.moved k.1) (eqb-true f.moved (length (middle r read f)) all.1) (over-good w (middle r read f) room k.2)
 
       by_held : (b : Bool) → Accounted r w t from read taken ended
-          (if b then f else record f { write_done = f.write_done || (all_moved r read f && f.turned == f.moved && is_over w
-              (middle r read f) room) })
+          (if b then f else record f {
+            write_done = f.write_done || (all_moved r read f && f.turned == f.moved && is_over w
+                (middle r read f) room);
+          })
       by_held true = c
       by_held false = by_flag f.write_done refl _ refl

@@ -32,7 +32,7 @@ met-none f xs used over room is_room left h =
     let next : nat_lt used (length xs) ≡ true = lt-ltb used (length xs) left in
     sym
     (ap (λ b. if b then (if nat_lt used (length xs) then f.bad (take (used + 1) xs) else (if over then f.bad_at_end xs else None))
-        else None) is_room
+    else None) is_room
     ∙ ap (λ b. if b then f.bad (take (used + 1) xs) else (if over then f.bad_at_end xs else None)) next)
     ∙ h
 
@@ -106,8 +106,10 @@ module _ (r w : Filter) (read : List ℕ) (ended : Bool) (mark hold : ℕ) (f : 
       stop : ℕ
       stop = first_from (write_stops r w read hold f4) f4.turned (f4.moved - f4.turned)
 
-      by_held : (b : Bool) → (if b then f4 else record f4 { turned = stop }) ≡ record f4 { turned =
-          (if b then f4 else record f4 { turned = stop }).turned }
+      by_held : (b : Bool) → (if b then f4 else record f4 { turned = stop }) ≡ record f4 {
+        turned =
+            (if b then f4 else record f4 { turned = stop }).turned;
+      }
       by_held true = refl
       by_held false = refl
 
@@ -162,8 +164,9 @@ passing_ends r w read ended mark hold f mark_some hold_some fits good_in good_ou
 
     turned_is : f.held ≡ false → first_from (write_stops r w read hold f) f.turned (f.moved - f.turned) ≡ f.turned
     turned_is h =
-        ap (λ b. (if b then f else record f { turned = first_from (write_stops r w read hold f) f.turned (f.moved - f.turned)
-            }).turned) (sym h)
+        ap (λ b. (if b then f else record f {
+          turned = first_from (write_stops r w read hold f) f.turned (f.moved - f.turned);
+        }).turned) (sym h)
         ∙ ap (λ x. x.turned) (still_turned r w read ended mark hold f still)
 
     all_turned : f.held ≡ false → f.turned ≡ f.moved
@@ -212,13 +215,13 @@ passing_ends r w read ended mark hold f mark_some hold_some fits good_in good_ou
               | inr q ↦
                   absurd
                   (let good = ap is_some (met-none r read f.used ended (nat_lt (length (input r read f)) mark)
-                      (lt-ltb (length (input r read f)) mark room) lt good_in) in cc)
+                  (lt-ltb (length (input r read f)) mark room) lt good_in) in cc)
             ]
 
         by_order : (b : Bool) → nat_lt f.used (length read) ≡ b → f.used ≡ length read
         by_order true p =
             elim (first_from-stays (read_stops r read mark f) f.used (length read - f.used)
-                (ap (λ x. x.used) (still_used r w read ended mark hold f still))) [
+            (ap (λ x. x.used) (still_used r w read ended mark hold f still))) [
               | inl q ↦ (let le = fits.used in omega arith)
               | inr q ↦ stops (ltb-true f.used (length read) p) q
             ]

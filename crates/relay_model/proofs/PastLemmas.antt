@@ -121,7 +121,7 @@ beats_among-push g n d before [] x = ap (λ z. beat_among g n d z x ∷ []) (sym
 beats_among-push g n d before (y ∷ t) x =
     ap (λ z. beat_among g n d before y ∷ z)
     (beats_among-push g n d (before ++ y ∷ []) t x ∙ ap (λ z. beats_among g n d (before ++ y ∷ []) t ++ beat_among g n d z x ∷ [])
-        (append_assoc before (y ∷ []) t))
+    (append_assoc before (y ∷ []) t))
 
 pub beat_among-still : (g : Settings) (n : ℕ) (d : Dir) (t : Trace) (x : Event) → is_still x ≡ true → beat_among g n d t x ≡ Moves 0
 beat_among-still g n d t (entry.Turn ms, bytes) h = cc
@@ -137,7 +137,7 @@ pub group_spells-still : (g : Settings) (n : ℕ) (d : Dir) (t : Trace) (x : Eve
     (t ++ x ∷ []) ≡ group_spells g n d t
 group_spells-still g n d t x h =
     ap spells (beats_among-push g n d [] t x ∙ ap (λ z. beats_among g n d [] t ++ z ∷ []) (beat_among-still g n d t x h)) ∙
-        spells-still (beats_among g n d [] t)
+    spells-still (beats_among g n d [] t)
 
 pub group_spells-turn : (g : Settings) (n : ℕ) (d : Dir) (t : Trace) (ms : ℕ) (bytes : List ℕ) →
     group_spells g n d (t ++ (entry.Turn ms, bytes) ∷ []) ≡ group_spells g n d t ++ record { time = ms; moved = 0 } ∷ []

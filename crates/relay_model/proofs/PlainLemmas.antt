@@ -15,13 +15,19 @@ use Rattle.relay_model.specs.Plain.{Plain, PlainSide, no_side, new_side, with_li
 -- an element of a list in which one was set is as it was, or the new one
 pub set-either : {A : Type 0} (xs : List A) (i j : ℕ) (y d : A) →
     (slice_index_or (slice_set xs i y) j d ≡ slice_index_or xs j d) ⊎ ((j ≡ i) × (slice_index_or (slice_set xs i y) j d ≡ y))
-set-either {A} xs i j y d = elim (eqb_tells j i) [ inl same ↦ within same.1 (nat_lt i (length xs)) refl | inr other ↦ inl
-    (get_or-set_other xs i j y d other.1) ]
+set-either {A} xs i j y d = elim (eqb_tells j i) [
+  | inl same ↦ within same.1 (nat_lt i (length xs)) refl
+  | inr other ↦ inl
+      (get_or-set_other xs i j y d other.1)
+]
   where
     within : j ≡ i → (b : Bool) → nat_lt i (length xs) ≡ b →
         (slice_index_or (slice_set xs i y) j d ≡ slice_index_or xs j d) ⊎ ((j ≡ i) × (slice_index_or (slice_set xs i y) j d ≡ y))
-    within same true lt = inr (same, ap (λ k. slice_index_or (slice_set xs i y) k d) same ∙ get_or-set_same xs i y d
-        (ltb-true i (length xs) lt))
+    within same true lt = inr (
+      same,
+      ap (λ k. slice_index_or (slice_set xs i y) k d) same ∙ get_or-set_same xs i y d
+          (ltb-true i (length xs) lt),
+    )
     within same false lt = inl (ap (λ z. slice_index_or z j d) (set_past xs i y (ltb-false i (length xs) lt)))
 
 -- a side is as it was, or the changed one
@@ -79,7 +85,7 @@ pub side_at-other : (e a : SideId) (f : PlainSide → PlainSide) (s : Plain) →
     side_at s a
 side_at-other e a f s other =
     get_or-set_other s.sides (number e) (number a) (f (side_at s e)) no_side (λ h. let same : same_end e a ≡ true = number-tells e
-        a (sym h) in cc)
+    a (sym h) in cc)
 
 -- It changes the side that it names, where that was opened.
 pub side_at-same : (e a : SideId) (f : PlainSide → PlainSide) (s : Plain) → number e < length s.sides → same_end e a ≡ true →
@@ -137,5 +143,5 @@ side_at-old g connected s e paired other = by_case (nat_lt (number e) (length s.
         let beyond = ltb-false (number e) (length s.sides) h in
         let above : s.opened < e.link = omega (arith, paired, half-below e.side, other) in
         get_or_past (s.sides ++ new_sides g connected s) (number e) no_side
-            (omega (arith, length-append s.sides (new_sides g connected s), paired))
+        (omega (arith, length-append s.sides (new_sides g connected s), paired))
         ∙ sym (get_or_past s.sides (number e) no_side beyond)

@@ -47,10 +47,10 @@ abbrev hi_trace : Trace
 hi_trace =
     plain (entry.Turn 0) ∷ plain (entry.Poll None) ∷ plain (entry.Opened 0 true)
     ∷ plain (entry.Turn 1) ∷ plain (entry.Poll None) ∷ plain (entry.Want i true false) ∷ plain (entry.Want o true false) ∷ plain
-        (entry.Ready i true false)
+    (entry.Ready i true false)
     ∷ (entry.Read i 16384 (read.Got 2), hi)
     ∷ plain (entry.Turn 2) ∷ plain (entry.Poll None) ∷ plain (entry.Want i true false) ∷ plain (entry.Want o true true) ∷ plain
-        (entry.Ready i true false) ∷ plain (entry.Ready o false true)
+    (entry.Ready i true false) ∷ plain (entry.Ready o false true)
     ∷ plain (entry.Read i 16384 read.Ended) ∷ (entry.Write o 2 (write.Took 2), hi) ∷ plain (entry.CloseWrite o) ∷ []
 
 abbrev hi_steps : List Step
@@ -58,7 +58,7 @@ hi_steps =
     Step.Now ∷ Step.Poll None [] ∷ Step.Accept
     ∷ Step.Now ∷ Step.Poll None (want i true false ∷ want o true false ∷ []) ∷ Step.Read i 16384
     ∷ Step.Now ∷ Step.Poll None (want i true false ∷ want o true true ∷ []) ∷ Step.Read i 16384 ∷ Step.Write o hi ∷ Step.Own
-        (entry.CloseWrite o) ∷ []
+    (entry.CloseWrite o) ∷ []
 
 hi-is_played : Plays hi_script 0 TurnAnswer.Went hi_trace
 hi-is_played = record { answered = (hi_steps, refl); took_all = always_took hi_script.turns 256 [] hi_trace refl; turns = (refl, inl refl) }
@@ -80,14 +80,14 @@ abbrev pub both_trace : Trace
 both_trace =
     plain (entry.Turn 0) ∷ plain (entry.Poll None) ∷ plain (entry.Opened 0 true)
     ∷ plain (entry.Turn 1) ∷ plain (entry.Poll None) ∷ plain (entry.Want i true false) ∷ plain (entry.Want o true false) ∷ plain
-        (entry.Ready i true false)
+    (entry.Ready i true false)
     ∷ (entry.Read i 16384 (read.Got 3), get)
     ∷ plain (entry.Turn 2) ∷ plain (entry.Poll None) ∷ plain (entry.Want i true false) ∷ plain (entry.Want o true true) ∷ plain
-        (entry.Ready i true false) ∷ plain (entry.Ready o true true)
+    (entry.Ready i true false) ∷ plain (entry.Ready o true true)
     ∷ plain (entry.Read i 16384 read.Ended) ∷ (entry.Read o 16384 (read.Got 3), ok) ∷ (entry.Write o 3 (write.Took 3), get) ∷ plain
-        (entry.CloseWrite o)
+    (entry.CloseWrite o)
     ∷ plain (entry.Turn 3) ∷ plain (entry.Poll None) ∷ plain (entry.Want i false true) ∷ plain (entry.Want o true false) ∷ plain
-        (entry.Ready i false true) ∷ plain (entry.Ready o true false)
+    (entry.Ready i false true) ∷ plain (entry.Ready o true false)
     ∷ (entry.Write i 3 (write.Took 3), ok) ∷ plain (entry.Read o 16384 read.Ended) ∷ plain (entry.CloseWrite i)
     ∷ plain (entry.Freed i cause.Done 3 3) ∷ plain (entry.Freed o cause.Done 3 3) ∷ plain (entry.Close i) ∷ plain (entry.Close o) ∷ []
 
@@ -96,15 +96,19 @@ both_steps =
     Step.Now ∷ Step.Poll None [] ∷ Step.Accept
     ∷ Step.Now ∷ Step.Poll None (want i true false ∷ want o true false ∷ []) ∷ Step.Read i 16384
     ∷ Step.Now ∷ Step.Poll None (want i true false ∷ want o true true ∷ []) ∷ Step.Read i 16384 ∷ Step.Read o 16384 ∷ Step.Write o
-        get ∷ Step.Own (entry.CloseWrite o)
+    get ∷ Step.Own (entry.CloseWrite o)
     ∷ Step.Now ∷ Step.Poll None (want i false true ∷ want o true false ∷ []) ∷ Step.Write i ok ∷ Step.Read o 16384 ∷ Step.Own
-        (entry.CloseWrite i)
+    (entry.CloseWrite i)
     ∷ Step.Own (entry.Freed i cause.Done 3 3) ∷ Step.Own (entry.Freed o cause.Done 3 3) ∷ Step.Own (entry.Close i) ∷ Step.Own
-        (entry.Close o) ∷ []
+    (entry.Close o) ∷ []
 
 both-is_played : Plays both_script 0 TurnAnswer.Went both_trace
-both-is_played = record { answered = (both_steps, refl); took_all = always_took both_script.turns 256 [] both_trace refl; turns =
-    (refl, inl refl) }
+both-is_played = record {
+  answered = (both_steps, refl);
+  took_all = always_took both_script.turns 256 [] both_trace refl;
+  turns =
+      (refl, inl refl);
+}
 
 -- A connection fails.
 abbrev failed_script : Script
@@ -114,7 +118,7 @@ abbrev pub failed_trace : Trace
 failed_trace =
     plain (entry.Turn 0) ∷ plain (entry.Poll None) ∷ plain (entry.Opened 0 false)
     ∷ plain (entry.Turn 1) ∷ plain (entry.Poll None) ∷ plain (entry.Want i true false) ∷ plain (entry.Want o false true) ∷ plain
-        (entry.Ready i true false) ∷ plain (entry.Ready o false true)
+    (entry.Ready i true false) ∷ plain (entry.Ready o false true)
     ∷ (entry.Read i 16384 (read.Got 1), 97 ∷ []) ∷ plain (entry.Conn o conn.Failed)
     ∷ plain (entry.Freed o cause.Failed 0 0) ∷ plain (entry.Freed i cause.PeerGone 1 0) ∷ plain (entry.Close i) ∷ plain (entry.Close o) ∷ []
 
@@ -123,11 +127,14 @@ failed_steps =
     Step.Now ∷ Step.Poll None [] ∷ Step.Accept
     ∷ Step.Now ∷ Step.Poll None (want i true false ∷ want o false true ∷ []) ∷ Step.Read i 16384 ∷ Step.Check o
     ∷ Step.Own (entry.Freed o cause.Failed 0 0) ∷ Step.Own (entry.Freed i cause.PeerGone 1 0) ∷ Step.Own (entry.Close i) ∷ Step.Own
-        (entry.Close o) ∷ []
+    (entry.Close o) ∷ []
 
 failed-is_played : Plays failed_script 0 TurnAnswer.Went failed_trace
-failed-is_played = record { answered = (failed_steps, refl); took_all = always_took failed_script.turns 256 [] failed_trace refl;
-    turns = (refl, inl refl) }
+failed-is_played = record {
+  answered = (failed_steps, refl);
+  took_all = always_took failed_script.turns 256 [] failed_trace refl;
+  turns = (refl, inl refl);
+}
 
 -- A link waits and isn't opened. That may be so where memory was wanting before accepting ended; but no turn goes on so, and
 -- no run says that all is well.

@@ -44,5 +44,5 @@ module _ (turns : List ScriptTurn) (links : ℕ) where
   always_took before [] h = tt
   always_took before (x ∷ t) h =
       let parts = both_true (if is_behind_accepting x then is_empty (waiting turns before) else true)
-          (none_waits turns (before ++ x ∷ []) t) h in
+      (none_waits turns (before ++ x ∷ []) t) h in
       (by_test before (is_behind_accepting x) parts.0, always_took (before ++ x ∷ []) t parts.1)

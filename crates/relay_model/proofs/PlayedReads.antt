@@ -77,18 +77,18 @@ module _ (e : SideId) where
     fits-silent : (t u : Trace) → IsSilent u → Fits t → Fits (t ++ u)
     fits-silent t u h fits =
         let same : bytes_read e (t ++ u) ≡ bytes_read e t = bytes_read-append e t u ∙ ap (λ z. bytes_read e t ++ z) h.reads ∙
-            append-nil (bytes_read e t) in
+        append-nil (bytes_read e t) in
         let parts = sum_by-append (λ x. if is_turn x then 1 else 0) t u in
         let none = h.turns in
         let count : count_by is_turn (t ++ u) ≡ count_by is_turn t = omega (arith, parts, none) in
         subst (λ z. IsPrefixOf z (came (count_by is_turn (t ++ u)))) (sym same) (subst (λ n. IsPrefixOf (bytes_read e t) (came n))
-            (sym count) fits)
+        (sym count) fits)
 
     came-more : (n : ℕ) → IsPrefixOf (came n) (came (n + 1))
     came-more n =
         let ys = take (n + 1) turns in
         let halves : take n turns ++ drop n ys ≡ ys = ap (λ z. z ++ drop n ys) (sym (take-take n (n + 1) turns (omega arith))) ∙
-            take-append-drop n ys in
+        take-append-drop n ys in
         let ls = λ (z : List ScriptTurn). flat_map (λ turn. turn.1) z in
         IsPrefixOf-append (came n) (flat_map (brings e) (ls (drop n ys))) (came (n + 1))
         (sym (flat_map-append (brings e) (ls (take n turns)) (ls (drop n ys)))
@@ -115,12 +115,12 @@ module _ (e : SideId) where
     abbrev answer : List ℕ → Bool → Bool → Bool → ℕ → ReadAnswer × List ℕ
     answer xs some fail end room =
         if some then (read.Got (min room (length xs)), take room xs) else (if fail then (read.Failed, [])
-            else (if end then (read.Ended, []) else (read.NotYet, [])))
+        else (if end then (read.Ended, []) else (read.NotYet, [])))
 
     -- a read gives what is pending, up to its room
     read_of : (s : SideId) (room : ℕ) (xs : List ℕ) (some fail end : Bool) → nat_le 1 (length xs) ≡ some →
         bytes_read e ((entry.Read s room (answer xs some fail end room).0, (answer xs some fail end room).1) ∷ []) ≡
-            (if same_end s e then take room xs else [])
+        (if same_end s e then take room xs else [])
     read_of s room xs true fail end h = append-nil (if same_end s e then take room xs else [])
     read_of s room [] false true end h = same_both (same_end s e) (take room []) (take-nil room)
     read_of s room [] false false true h = same_both (same_end s e) (take room []) (take-nil room)
@@ -144,15 +144,15 @@ module _ (e : SideId) where
             let own : pending turns t s ≡ rest = ap (λ z. pending turns t z) (same_end-eq s e h) in
             let now : bytes_read e (t ++ u) ≡ gone ++ take room rest =
             bytes_read-append e t u ∙ ap (λ z. gone ++ z) (whole ∙ ap (λ c. if c then take room (pending turns t s) else []) h ∙ ap
-                (take room) own) in
+            (take room) own) in
             let parts = sum_by-append (λ x. if is_turn x then 1 else 0) t u in
             let count : count_by is_turn (t ++ u) ≡ count_by is_turn t = omega (arith, parts) in
             let fit : IsPrefixOf (gone ++ take room rest) all =
             IsPrefixOf-append (gone ++ take room rest) (drop room rest) all
             (append_assoc gone (take room rest) (drop room rest) ∙ ap (λ z. gone ++ z) (take-append-drop room rest) ∙
-                IsPrefixOf-rest gone all fits) in
+            IsPrefixOf-rest gone all fits) in
             subst (λ z. IsPrefixOf z (came (count_by is_turn (t ++ u)))) (sym now)
-                (subst (λ n. IsPrefixOf (gone ++ take room rest) (came n)) (sym count) fit)
+            (subst (λ n. IsPrefixOf (gone ++ take room rest) (came n)) (sym count) fit)
 
     fits-step : (t : Trace) (x : Step) → Fits t → Fits (t ++ events turns closing_by t x)
     fits-step t Step.Now fits = fits-turn t _ fits

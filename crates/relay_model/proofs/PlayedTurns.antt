@@ -44,7 +44,7 @@ counts-served t x h =
     (let parts = sum_by-append (λ y. if is_turn y then 1 else 0) t (x ∷ []) in let none = ap once q.turn in omega (arith, parts, none)) in
     let b : opened (t ++ x ∷ []) ≡ opened t =
     (let parts = sum_by-append (λ y. if is_opened y then 1 else 0) t (x ∷ []) in let none = ap once q.opens in
-        omega (arith, parts, none)) in
+    omega (arith, parts, none)) in
     let c : opened_in_turn (t ++ x ∷ []) ≡ opened_in_turn t = fold-append opened_by 0 t (x ∷ []) ∙ q.in_turn (opened_in_turn t) in
     λ i. record { turns = a i; opened = b i; in_turn = c i }
 
@@ -62,9 +62,11 @@ module _ (none_waits : Trace → Type 0) (links : ℕ) where
   pub always-append : (before t u : Trace) → AlwaysAllTaken none_waits links before t → AlwaysAllTaken none_waits links
       (before ++ t) u → AlwaysAllTaken none_waits links before (t ++ u)
   always-append before [] u h k = subst (λ z. AlwaysAllTaken none_waits links z u) (append-nil before) k
-  always-append before (x ∷ t) u h k =
-      (h.0, always-append (before ++ x ∷ []) t u h.1 (subst (λ z. AlwaysAllTaken none_waits links z u)
-          (sym (append_assoc before (x ∷ []) t)) k))
+  always-append before (x ∷ t) u h k = (
+    h.0,
+    always-append (before ++ x ∷ []) t u h.1 (subst (λ z. AlwaysAllTaken none_waits links z u)
+        (sym (append_assoc before (x ∷ []) t)) k),
+  )
 
   -- nothing is asked of entries before accepting has ended
   pub always-accepting : (before t : Trace) → list_any is_behind_accepting t ≡ false → AlwaysAllTaken none_waits links before t
@@ -114,13 +116,15 @@ none_waiting turns u = waiting turns u ≡ []
 waiting-served : (turns : List ScriptTurn) → StaysServed (none_waiting turns)
 waiting-served turns t u h none =
     subst (λ (c : Counts). drop c.opened (flat_map links_by (flat_map (λ turn. turn.1) (take c.turns turns))) ≡ [])
-        (sym (counts-all_served t u h)) none
+    (sym (counts-all_served t u h)) none
 
 pub turn_takes_all : TurnTakesAll
 turn_takes_all turns links t ms accepting behind so_far began quiet served ends =
-    always-append (none_waiting turns) links [] t ((entry.Turn ms, []) ∷ (accepting ++ behind)) so_far
-    (began, always-append (none_waiting turns) links (t ++ (entry.Turn ms, []) ∷ []) accepting behind
-        (always-accepting (none_waiting turns) links _ accepting quiet) (at_end behind served ends))
+    always-append (none_waiting turns) links [] t ((entry.Turn ms, []) ∷ (accepting ++ behind)) so_far (
+      began,
+      always-append (none_waiting turns) links (t ++ (entry.Turn ms, []) ∷ []) accepting behind
+          (always-accepting (none_waiting turns) links _ accepting quiet) (at_end behind served ends),
+    )
   where
     at_end : (u : Trace) → list_all is_served u ≡ true → (u ≡ []) ⊎ TookAll turns links (t ++ (entry.Turn ms, []) ∷ (accepting ++ u)) →
         AlwaysTookAll turns links ((t ++ (entry.Turn ms, []) ∷ []) ++ accepting) u
@@ -130,4 +134,4 @@ turn_takes_all turns links t ms accepting behind so_far began quiet served ends 
         let whole : front ++ u ≡ t ++ (entry.Turn ms, []) ∷ (accepting ++ u) =
         append_assoc (t ++ (entry.Turn ms, []) ∷ []) accepting u ∙ append_assoc t ((entry.Turn ms, []) ∷ []) (accepting ++ u) in
         always-served (none_waiting turns) links (waiting-served turns) front u s (took_as turns links
-            (t ++ (entry.Turn ms, []) ∷ (accepting ++ u)) front (ap counts (sym whole) ∙ counts-all_served front u s) took)
+        (t ++ (entry.Turn ms, []) ∷ (accepting ++ u)) front (ap counts (sym whole) ∙ counts-all_served front u s) took)

@@ -179,7 +179,7 @@ module _ (turns : List ScriptTurn) where
   among-last n =
       let ys = take n turns in
       let halves : ys ≡ take (n - 1) turns ++ drop (n - 1) ys = sym (ap (λ z. z ++ drop (n - 1) ys)
-          (sym (take-take (n - 1) n turns (omega arith))) ∙ take-append-drop (n - 1) ys) in
+      (sym (take-take (n - 1) n turns (omega arith))) ∙ take-append-drop (n - 1) ys) in
       ap (λ z. list_any fails_poll (flat_map (λ turn. turn.1) z)) halves
       ∙ ap (list_any fails_poll) (flat_map-append (λ turn. turn.1) (take (n - 1) turns) (drop (n - 1) ys))
       ∙ list_any-append fails_poll (flat_map (λ turn. turn.1) (take (n - 1) turns)) _
@@ -213,7 +213,7 @@ module _ (turns : List ScriptTurn) where
         let parts = count-append t (y ∷ []) in
         let less : count_by is_turn (t ++ y ∷ []) - 1 ≡ count_by is_turn t = omega (arith, parts) in
         subst (λ p. Known p (count_by is_turn (t ++ y ∷ []))) (sym (fold-append poll_by Poll.Idle t (y ∷ [])))
-            (ap (fails_among turns) less ∙ before)
+        (ap (fails_among turns) less ∙ before)
 
     -- what is put behind the wants
     abbrev outcome : Bool → List Want → Trace
@@ -238,14 +238,14 @@ module _ (turns : List ScriptTurn) where
         let one = count-append t (y ∷ []) in
         let same : count_by is_turn (t ++ y ∷ []) ≡ count_by is_turn t = omega (arith, one) in
         let none : fails_among turns (count_by is_turn t) ≡ false = among-last (count_by is_turn t) ∙ or_from
-            (fails_among turns (count_by is_turn t - 1)) (fails_at (count_by is_turn t)) before fails in
+        (fails_among turns (count_by is_turn t - 1)) (fails_at (count_by is_turn t)) before fails in
         let first : KnownOf (t ++ y ∷ []) =
         subst (λ p. Known p (count_by is_turn (t ++ y ∷ []))) (sym (fold-append poll_by Poll.Idle t (y ∷ [])))
-            (ap (fails_among turns) same ∙ none) in
+        (ap (fails_among turns) same ∙ none) in
         let second = known-still (t ++ y ∷ []) (want_events ws) (still-wants ws) first in
         let third = known-still ((t ++ y ∷ []) ++ want_events ws) (ready_events marked) (still-readies marked) second in
         subst KnownOf (append_assoc (t ++ y ∷ []) (want_events ws) (ready_events marked) ∙ append_assoc t (y ∷ [])
-            (want_events ws ++ ready_events marked)) third
+        (want_events ws ++ ready_events marked)) third
 
     known-step : (t rest : Trace) (x : Step) → whole ≡ put t x ++ rest → KnownOf t → KnownOf (put t x)
     known-step t rest Step.Now is known =

@@ -92,8 +92,8 @@ opened-effect g s n marks link connected bytes size few = record {
     by_side e l In z =
         let i : number e ≡ length s.sides + 0 = omega (arith, ap half z) in
         ap (λ v. seen (slice_index_or (s.sides ++ two g s connected) v no_side)) i ∙ ap seen
-            (get_or-append-add s.sides (two g s connected) 0 no_side)
+        (get_or-append-add s.sides (two g s connected) 0 no_side)
     by_side e l Out z =
         let i : number e ≡ length s.sides + 1 = omega (arith, ap half z) in
         ap (λ v. seen (slice_index_or (s.sides ++ two g s connected) v no_side)) i ∙ ap seen
-            (get_or-append-add s.sides (two g s connected) 1 no_side)
+        (get_or-append-add s.sides (two g s connected) 1 no_side)

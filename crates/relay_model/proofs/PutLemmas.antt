@@ -30,7 +30,7 @@ add-none n false h = omega arith
 pub effect-keeps : (g : Settings) (x : Stage) (s : Plain) (y : Event) (after : Stage) (new : Plain) → Keeps seen s new →
     IsPlainEvent y → ((e : SideId) → IsIdle e y) →
     ((e : SideId) → is_freeing after e ≡ false) → ((e : SideId) → is_freeing x e ≡ false) →
-        ((e : SideId) → names e y ≡ true → e.link < s.opened) → Effect g x s y after new
+    ((e : SideId) → names e y ≡ true → e.link < s.opened) → Effect g x s y after new
 effect-keeps g x s y after new k p idle still before named = record {
   time = k.time ∙ sym (p.time s.time);
   rises = let h = k.time in omega arith;
@@ -71,10 +71,10 @@ effect-at g x s y after new z changed k p size lt here others before named = rec
     go : (e : SideId) (q : Bool) → same_end z e ≡ q → SideEffect e y after (seen (side_at s e)) (seen (side_at new e))
     go e true q =
         let there : seen (side_at new z) ≡ seen changed = Keeps-side seen (put_side z changed s) new z k ∙ ap seen
-            (change_side-same z (λ _. changed) s size lt) in
+        (change_side-same z (λ _. changed) s size lt) in
         subst (λ v. SideEffect v y after (seen (side_at s v)) (seen (side_at new v))) (same_end-eq z e q)
         (subst (λ v. SideEffect z y after (seen (side_at s z)) v) (sym there) here)
     go e false q =
         let elsewhere : seen (side_at new e) ≡ seen (side_at s e) = Keeps-side seen (put_side z changed s) new e k ∙ ap seen
-            (change_side-other z e (λ _. changed) s (same_end-flip z e false q)) in
+        (change_side-other z e (λ _. changed) s (same_end-flip z e false q)) in
         idle-still e y after (seen (side_at s e)) (seen (side_at new e)) (others e q).0 (others e q).1 elsewhere

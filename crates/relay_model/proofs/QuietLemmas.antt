@@ -46,15 +46,25 @@ pub there : (g : Settings) (t : Trace) (s : State) → Reaches g t s → (before
 there g t s r before y after h =
     let p = reaches_split g t s r before y after h in
     let k = kept g before p.old p.reached in
-    record { old = p.old; new = p.new; reached = p.reached; kind = put-kind g before p.old.stage p.old.plain y.0 y.1 p.new k.placed
-        p.put; kept = k; held = held g before p.old p.reached }
+    record {
+      old = p.old;
+      new = p.new;
+      reached = p.reached;
+      kind = put-kind g before p.old.stage p.old.plain y.0 y.1 p.new k.placed
+          p.put;
+      kept = k;
+      held = held g before p.old p.reached;
+    }
 
 -- Turns and links
 
 turn-put : (g : Settings) (t : Trace) (s : Plain) (x : Stage) (y : Event) (new : State) (ms : ℕ) → PutKind g t s x y new → y.0 ≡
     entry.Turn ms → (s.time ≤ ms) × (ms ≤ latest)
-turn-put g t s x y new ms (PutKind.turned {ms = now} a b) h = let same : now ≡ ms = cc in (subst (λ n. s.time ≤ n) same a, subst
-    (λ n. n ≤ latest) same b)
+turn-put g t s x y new ms (PutKind.turned {ms = now} a b) h = let same : now ≡ ms = cc in (
+  subst (λ n. s.time ≤ n) same a,
+  subst
+      (λ n. n ≤ latest) same b,
+)
 turn-put g t s x y new ms (PutKind.polled) h = absurd (cc)
 turn-put g t s x y new ms (PutKind.wanted a) h = absurd (cc)
 turn-put g t s x y new ms (PutKind.poll_failed) h = absurd (cc)
@@ -159,7 +169,7 @@ starts-late g t y z k freed = go (starts_at z y) refl
     no (inr freeing) =
         let hook = k.held.hook z freeing in
         let before : is_freed z t ≡ (is_freed z hook.early || false) = ap (λ v. is_freed z v) hook.is ∙ list_any-push (freed_by z)
-            hook.early (entry.Asked hook.me (act.Free z) ask.Ok, []) in
+        hook.early (entry.Asked hook.me (act.Free z) ask.Ok, []) in
         let was = or_from (is_freed z hook.early) false hook.was_live refl in
         cc
 
@@ -266,12 +276,12 @@ ask-put g t s x y new z runs (PutKind.closed {c = c} {e = e} a) h = absurd (clos
 -- where each event that passes stands in the leading run, none passes behind it
 behind-run : (p : Event → Bool) → ((y : Event) → p y ≡ true → is_within_fire y ≡ true) → (t : Trace) →
     ((before : Trace) (y : Event) (after : Trace) → t ≡ before ++ y ∷ after → p y ≡ true → list_all is_within_fire before ≡ true) →
-        list_any p (behind_fire t) ≡ false
+    list_any p (behind_fire t) ≡ false
 behind-run p within [] h = refl
 behind-run p within (x ∷ t) h =
     go (is_within_fire x) refl (behind-run p within t
-        (λ before y after k q. (and_parts (is_within_fire x) (list_all is_within_fire before)
-        (h (x ∷ before) y after (ap (λ v. x ∷ v) k) q)).1))
+    (λ before y after k q. (and_parts (is_within_fire x) (list_all is_within_fire before)
+    (h (x ∷ before) y after (ap (λ v. x ∷ v) k) q)).1))
   where
     outside : is_within_fire x ≡ false → (before : Trace) (y : Event) (after : Trace) → x ∷ t ≡ before ++ y ∷ after → p y ≡ true → ⊥
     outside late [] y after k q = let w = within y q in let same : x ≡ y = cc in let v : is_within_fire x ≡ is_within_fire y = ap

@@ -69,8 +69,16 @@ kept-raise_read g p e s = if_so _
     if_so false = kept-same s
 
 pub kept-flow : (e : SideId) (f : Flow → Flow) (s : Plain) → KeptQuietly s (change_flow e f s)
-kept-flow e f s = record { time = refl; turn = refl; opened = refl; timers = refl; sides = λ a. refl; side_count = refl; flow_count
-    = length-set s.flows (number e) (f (flow_at s e)) }
+kept-flow e f s = record {
+  time = refl;
+  turn = refl;
+  opened = refl;
+  timers = refl;
+  sides = λ a. refl;
+  side_count = refl;
+  flow_count
+      = length-set s.flows (number e) (f (flow_at s e));
+}
 
 pub kept-meets : (e : SideId) (place : Option ℕ) (s : Plain) → KeptQuietly s (meets e place s)
 kept-meets e place s = record {
@@ -118,8 +126,11 @@ kept-quietly g t (Stage.Filtering e ms) s new h = kept-at s _ _ new h (kept-afte
 kept-quietly g t (Stage.Serving []) s new h = kept-at s _ _ new h (kept-due s [])
 kept-quietly g t (Stage.Firing x rs) s new h = kept-at s s _ new h (kept-same s)
 kept-quietly g t (Stage.Dispatching []) s new h = kept-at s s _ new h (kept-same s)
-kept-quietly g t (Stage.Passing [] (e ∷ es)) s new h = elim h [ inl passed ↦ kept-at s s _ new passed.1 (kept-same s) | inr begins
-    ↦ kept-at s s _ new begins (kept-same s) ]
+kept-quietly g t (Stage.Passing [] (e ∷ es)) s new h = elim h [
+  | inl passed ↦ kept-at s s _ new passed.1 (kept-same s)
+  | inr begins
+      ↦ kept-at s s _ new begins (kept-same s)
+]
 kept-quietly g t (Stage.Passing (x ∷ xs) (e ∷ es)) s new h = kept-at s _ _ new h (kept-part g (past g t) e x s)
 kept-quietly g t (Stage.Passing [] []) s new h = kept-at s s _ new h (kept-same s)
 kept-quietly g t (Stage.Closing (c ∷ cs)) s new h = kept-at s s _ new h.1 (kept-same s)

@@ -78,13 +78,13 @@ stays-puts g e t s new e' bytes rated stays p before rest ms cfg split limit non
           let first : Stood s.plain e cfg (count_by is_turn t) = stood-first g e t s cfg rated limit' in
           let free : sets_limit e (e', bytes) ≡ false = ap (λ z. sets_limit e z) (sym at_end.2) in
           subst (λ z. Stood new.plain e cfg (count_by is_turn z)) (sym at_end.1) (stood-goes s.plain new.plain e cfg
-              (count_by is_turn t) (step.stays free) first)
+          (count_by is_turn t) (step.stays free) first)
       | inr earlier ↦
           let step = rates-puts g t s.stage s.plain e' bytes new e rated.shape.sides rated.fits p in
           let none' = count-none (is_rate_ask e) earlier.0 (e', bytes) (ap (λ z. count_by (is_rate_ask e) z) (sym earlier.1) ∙ none) in
           let was : Stood s.plain e cfg (count_by is_turn before) = stays before earlier.0 ms cfg earlier.2 limit none'.0 in
           let free : sets_limit e (e', bytes) ≡ false = sets-none g t s.stage s.plain e' bytes new e was.standing rated.shape.sides
-              p was.stands none'.1 in
+          p was.stands none'.1 in
           stood-goes s.plain new.plain e cfg (count_by is_turn before) (step.stays free) was
     ]
 
@@ -140,7 +140,7 @@ was_asked-rate e (x ∷ t) was h some = by_flag (λ more. was_asked-rate e t (as
     by_flag later true asks = was_asked-stays t (asked_by was x) (none-cons is_turn x t h).1 (rate_ask-asks e x was asks)
     by_flag later false not_asks =
         later (λ zero. some (let k = count-cons (is_rate_ask e) x t in let o = one_where-not (is_rate_ask e x) not_asks in
-            omega (arith, k, o, zero)))
+        omega (arith, k, o, zero)))
 
 -- More time lets more through.
 
@@ -154,7 +154,7 @@ most-later cfg dir.Read ms a b le = more cfg.read_rate cfg.read_burst
     more rate burst =
         let q = div-later a b cfg.tick_ms cfg.ticks le in
         let r : rate * (a / cfg.tick_ms - ms / cfg.tick_ms) ≤ rate * (b / cfg.tick_ms - ms / cfg.tick_ms) = mul-le-mul_left rate
-            (omega (arith, q)) in
+        (omega (arith, q)) in
         omega (arith, r)
 most-later cfg dir.Write ms a b le = more cfg.write_rate cfg.write_burst
   where
@@ -162,7 +162,7 @@ most-later cfg dir.Write ms a b le = more cfg.write_rate cfg.write_burst
     more rate burst =
         let q = div-later a b cfg.tick_ms cfg.ticks le in
         let r : rate * (a / cfg.tick_ms - ms / cfg.tick_ms) ≤ rate * (b / cfg.tick_ms - ms / cfg.tick_ms) = mul-le-mul_left rate
-            (omega (arith, q)) in
+        (omega (arith, q)) in
         omega (arith, r)
 
 -- The bound
@@ -174,7 +174,7 @@ abbrev pub Bounded : Settings → SideId → Dir → Trace → Type 0
 Bounded g e d t = (cfg : LimitCfg) (before run last : Trace) (ms : ℕ) → t ≡ before ++ turn_at ms ∷ (run ++ last) → limit_after g e
     before ≡ Some cfg →
     count_by (is_rate_ask e) run ≡ 0 → count_by is_turn last ≡ 0 → moved_over e d (run ++ last) ≤ most_moved (limit_of cfg d) ms
-        (last_time ms run)
+    (last_time ms run)
 
 pub moved-push : (e : SideId) (d : Dir) (t : Trace) (x : Event) → moved_over e d (t ++ x ∷ []) ≡ moved_over e d t + moved_by e d x
 moved-push e d t x = sum_by-append (λ y. moved_by e d y) t (x ∷ []) ∙ omega arith
@@ -183,20 +183,20 @@ moved-push e d t x = sum_by-append (λ y. moved_by e d y) t (x ∷ []) ∙ omega
 pub step-bounded : (g : Settings) (e : SideId) (d : Dir) (t : Trace) (s new : State) (e' : Entry) (bytes : List ℕ) → Rated g t s →
     LimitStays g e t s → Puts g t s.stage s.plain e' bytes new →
     (cfg : LimitCfg) (before rest : Trace) (ms : ℕ) → t ≡ before ++ turn_at ms ∷ rest → limit_after g e before ≡ Some cfg →
-        count_by (is_rate_ask e) rest ≡ 0 →
+    count_by (is_rate_ask e) rest ≡ 0 →
     (most : ℕ) → most ≡ most_moved (limit_of cfg d) ms s.plain.time → moved_over e d rest ≤ most → moved_over e d rest + moved_by e
-        d (e', bytes) ≤ most
+    d (e', bytes) ≤ most
 step-bounded g e d t s new e' bytes rated stays p cfg before rest ms split limit none most most_is was =
     let stood : Stood s.plain e cfg (count_by is_turn before) = stays before rest ms cfg split limit none in
     let a : moved_by e d (e', bytes) ≤ standing_level stood.standing d (side_spells e d t) s.plain.time = puts-within g t s.stage
-        s.plain e' bytes new e d stood.standing p stood.stands in
+    s.plain e' bytes new e d stood.standing p stood.stands in
     let b : standing_level stood.standing d (side_spells e d t) s.plain.time ≤ most_moved (limit_of stood.standing.cfg d) ms
-        s.plain.time - moved_over e d rest =
+    s.plain.time - moved_over e d rest =
     subst (λ z. standing_level stood.standing d (side_spells e d z) s.plain.time ≤ most_moved (limit_of stood.standing.cfg d) ms
-        s.plain.time - moved_over e d rest) (sym split)
+    s.plain.time - moved_over e d rest) (sym split)
     (standing-most stood.standing e d before rest ms s.plain.time stood.begun) in
     let c : most_moved (limit_of stood.standing.cfg d) ms s.plain.time ≡ most = ap (λ z. most_moved (limit_of z d) ms s.plain.time)
-        stood.cfg_is ∙ sym most_is in
+    stood.cfg_is ∙ sym most_is in
     omega (arith, a, b, c, was)
 
 pub bounded-puts : (g : Settings) (e : SideId) (d : Dir) (t : Trace) (s new : State) (e' : Entry) (bytes : List ℕ) → Rated g t s →
@@ -227,9 +227,9 @@ bounded-puts g e d t s new e' bytes rated stays late bounded p cfg before run la
         let was : moved_over e d (rest ++ []) ≤ most_moved (limit_of cfg d) ms (last_time ms rest) =
         bounded cfg before rest [] ms (cut ∙ ap (λ z. before ++ turn_at ms ∷ z) (sym (append-nil rest))) limit none'.0 refl in
         let was' : moved_over e d rest ≤ most_moved (limit_of cfg d) ms (last_time ms rest) = subst
-            (λ z. moved_over e d z ≤ most_moved (limit_of cfg d) ms (last_time ms rest)) (append-nil rest) was in
+        (λ z. moved_over e d z ≤ most_moved (limit_of cfg d) ms (last_time ms rest)) (append-nil rest) was in
         let step = step-bounded g e d t s new e' bytes rated stays p cfg before rest ms cut limit none'.0
-            (most_moved (limit_of cfg d) ms (last_time ms rest)) (ap (λ z. most_moved (limit_of cfg d) ms z) (sym time)) was' in
+        (most_moved (limit_of cfg d) ms (last_time ms rest)) (ap (λ z. most_moved (limit_of cfg d) ms z) (sym time)) was' in
         let later : last_time ms rest ≤ last_time ms run =
         let k = puts-later g t s.stage s.plain e' bytes new p in
         let q : last_time ms run ≡ time_by (last_time ms rest) x = ap (λ z. last_time ms z) is ∙ last_time-push ms rest x in
@@ -262,9 +262,9 @@ bounded-puts g e d t s new e' bytes rated stays late bounded p cfg before run la
             ms (last_time ms run)
         unasked zero =
             let none_all : count_by (is_rate_ask e) (run ++ last') ≡ 0 = let k = sum_by-append (λ z. cond (is_rate_ask e z) 1 0)
-                run last' in omega (arith, k, none, zero) in
+            run last' in omega (arith, k, none, zero) in
             step-bounded g e d t s new e' bytes rated stays p cfg before (run ++ last') ms cut limit none_all
-                (most_moved (limit_of cfg d) ms (last_time ms run)) (ap (λ z. most_moved (limit_of cfg d) ms z) (sym time)) was
+            (most_moved (limit_of cfg d) ms (last_time ms run)) (ap (λ z. most_moved (limit_of cfg d) ms z) (sym time)) was
 
         asked : count_by (is_rate_ask e) last' ≢ 0 → moved_over e d (run ++ last') + moved_by e d x ≤ most_moved (limit_of cfg d)
             ms (last_time ms run)

@@ -45,7 +45,7 @@ pub within-allowance : (g : Settings) (p : Past) (s : Plain) (e : SideId) (d : D
     within_rates g p s e d n ≤ standing_level y d (p.turns e d) s.time
 within-allowance g p s e d n y is =
     let a : allowance p s e d ≡ Some (standing_level y d (p.turns e d) s.time) = ap (λ z. option_map
-        (λ x. standing_level x d (p.turns e d) s.time) z) is in
+    (λ x. standing_level x d (p.turns e d) s.time) z) is in
     let b = at_most-le (share g p s e d) (at_most (allowance p s e d) n) in
     let c : at_most (allowance p s e d) n ≡ min (standing_level y d (p.turns e d) s.time) n = ap (λ z. at_most z n) a in
     omega (arith, b, c)
@@ -102,22 +102,22 @@ none-within e d x most h = let k = moved-still e d x h in omega (arith, k)
 pub read_put-within : (g : Settings) (t : Trace) (s : Plain) (e side : SideId) (d : Dir) (room : ℕ) (answer : ReadAnswer)
     (bytes : List ℕ) (y : Standing) → (side_at s e).limit ≡ Some y →
     room ≡ read_room g (past g t) s side → CarriesGot answer room bytes → moved_by e d (entry.Read side room answer, bytes) ≤
-        standing_level y d ((past g t).turns e d) s.time
+    standing_level y d ((past g t).turns e d) s.time
 read_put-within g t s e side dir.Read room answer bytes y is asked carries =
     got-within e side room _ answer bytes carries
     (λ same. let k = read_room-allowed g (past g t) s e y is in let q = asked ∙ ap (λ z. read_room g (past g t) s z)
-        (same_end-eq side e same) in omega (arith, k, q))
+    (same_end-eq side e same) in omega (arith, k, q))
 read_put-within g t s e side dir.Write room answer bytes y is asked carries = omega arith
 
 pub write_put-within : (g : Settings) (t : Trace) (s : Plain) (e side : SideId) (d : Dir) (offered : ℕ) (answer : WriteAnswer)
     (bytes : List ℕ) (y : Standing) → (side_at s e).limit ≡ Some y →
     offered ≡ write_room g (past g t) s side → CarriesTook answer offered bytes → moved_by e d
-        (entry.Write side offered answer, bytes) ≤ standing_level y d ((past g t).turns e d) s.time
+    (entry.Write side offered answer, bytes) ≤ standing_level y d ((past g t).turns e d) s.time
 write_put-within g t s e side dir.Read offered answer bytes y is asked carries = omega arith
 write_put-within g t s e side dir.Write offered answer bytes y is asked carries =
     took-within e side offered _ answer bytes carries
     (λ same. let k = write_room-allowed g (past g t) s e y is in let q = asked ∙ ap (λ z. write_room g (past g t) s z)
-        (same_end-eq side e same) in omega (arith, k, q))
+    (same_end-eq side e same) in omega (arith, k, q))
 
 -- What an entry moves at a side with a limit is at most what its bucket holds.
 pub puts-within : (g : Settings) (t : Trace) (x : Stage) (s : Plain) (e' : Entry) (bytes : List ℕ) (new : State) (e : SideId)
@@ -243,8 +243,11 @@ pub late-quietly : (g : Settings) (t : Trace) (x : Stage) (s : Plain) (new : Sta
     is_late new.stage ≡ true
 late-quietly g t (Stage.Firing x rs) s new late h = late-at _ _ new h (late-fire x rs)
 late-quietly g t (Stage.Dispatching []) s new late h = late-at _ _ new h refl
-late-quietly g t (Stage.Passing [] (e ∷ es)) s new late h = elim h [ inl passed ↦ late-at _ _ new passed.1 refl | inr begins
-    ↦ late-at _ _ new begins refl ]
+late-quietly g t (Stage.Passing [] (e ∷ es)) s new late h = elim h [
+  | inl passed ↦ late-at _ _ new passed.1 refl
+  | inr begins
+      ↦ late-at _ _ new begins refl
+]
 late-quietly g t (Stage.Passing (x ∷ xs) (e ∷ es)) s new late h = late-at _ _ new h refl
 late-quietly g t (Stage.Passing [] []) s new late h = late-at _ _ new h refl
 late-quietly g t (Stage.Closing (c ∷ cs)) s new late h = late-at _ _ new h.1 refl

@@ -58,8 +58,11 @@ fits-quietly g t (Stage.Filtering e ms) s new h = fits-at _ _ new h tt
 fits-quietly g t (Stage.Serving []) s new h = fits-at _ _ new h tt
 fits-quietly g t (Stage.Firing x rs) s new h = fits-at _ _ new h (fits-fire x rs s)
 fits-quietly g t (Stage.Dispatching []) s new h = fits-at _ _ new h tt
-fits-quietly g t (Stage.Passing [] (e ∷ es)) s new h = elim h [ inl passed ↦ fits-at _ _ new passed.1 tt | inr begins ↦ fits-at _ _
-    new begins tt ]
+fits-quietly g t (Stage.Passing [] (e ∷ es)) s new h = elim h [
+  | inl passed ↦ fits-at _ _ new passed.1 tt
+  | inr begins ↦ fits-at _ _
+      new begins tt
+]
 fits-quietly g t (Stage.Passing (x ∷ xs) (e ∷ es)) s new h = fits-at _ _ new h tt
 fits-quietly g t (Stage.Passing [] []) s new h = fits-at _ _ new h tt
 fits-quietly g t (Stage.Closing (c ∷ cs)) s new h = fits-at _ _ new h.1 tt
@@ -128,7 +131,7 @@ closing-rates g p a s (CloseStep.Faulty e) = closing-faulty g a e s (is_live s e
 closing-rates g p a s (CloseStep.EndWriting e) =
     closing-rates_where g a s (closed_by (CloseStep.EndWriting e) s) _ (entry.CloseWrite e)
     (λ bytes. rates-neutral g a (entry.CloseWrite e, bytes) s _ (record { limit = λ was. refl; group = λ was. refl })
-        (frame-change e (λ x. record x { write_ended = true }) s (λ x. refl)))
+    (frame-change e (λ x. record x { write_ended = true }) s (λ x. refl)))
 closing-rates g p a s (CloseStep.BothDone k) =
     let i : SideId = record { link = k; side = In } in
     closing-rates_where g a s (freed i s) _ (freed_entry s i cause.Done) (closing-free g a i cause.Done s)
@@ -138,14 +141,19 @@ closing-rates g p a s (CloseStep.PeerGone e) = closing-rates_where g a s (freed 
 closing-rates g p a s (CloseStep.Shut e) =
     closing-rates_where g a s (closed_by (CloseStep.Shut e) s) _ (entry.Close e)
     (λ bytes. rates-neutral g a (entry.Close e, bytes) s _ (record { limit = λ was. refl; group = λ was. refl })
-        (frame-change e (λ x. record x { closed = true }) s (λ x. refl)))
+    (frame-change e (λ x. record x { closed = true }) s (λ x. refl)))
 
 -- A free by a hook is recorded behind its ask, and the group is gone already.
 pub rates-recorded : (g : Settings) (a gone : SideId) (s : Plain) (bytes : List ℕ) → ((b : SideId) → same_end gone b ≡ true →
     (side_at s b).group ≡ None) →
     RatesBy g a (freed_entry s gone cause.Hook, bytes) s s
-rates-recorded g a gone s bytes fits = record { limit = λ was h. h; group = λ was h. by_name was h (same_end gone a) refl; begun =
-    λ h. h; stays = λ h. refl }
+rates-recorded g a gone s bytes fits = record {
+  limit = λ was h. h;
+  group = λ was h. by_name was h (same_end gone a) refl;
+  begun =
+      λ h. h;
+  stays = λ h. refl;
+}
   where
     by_name : (was : Option ℕ) → (side_at s a).group ≡ was → (b : Bool) → same_end gone a ≡ b → (side_at s a).group ≡
         (if same_end gone a then None else was)
@@ -190,13 +198,13 @@ rates-puts g t (Stage.Accepting n marks) s (entry.Opened link connected) bytes n
     (rates-opened g a link connected bytes s paired h.0)
 rates-puts g t (Stage.Serving (m ∷ ms)) s (entry.Conn side answer) bytes new a paired fits h =
     rates-at g a _ s _ _ new h.3 (rates-neutral g a (entry.Conn side answer, bytes) s _
-        (record { limit = λ was. refl; group = λ was. refl }) (frame-conn g side answer s))
+    (record { limit = λ was. refl; group = λ was. refl }) (frame-conn g side answer s))
 rates-puts g t (Stage.Serving (m ∷ ms)) s (entry.Read side room answer) bytes new a paired fits h =
     rates-at g a _ s _ _ new h.3 (rates-neutral g a (entry.Read side room answer, bytes) s _
-        (record { limit = λ was. refl; group = λ was. refl }) (frame-read g side answer s))
+    (record { limit = λ was. refl; group = λ was. refl }) (frame-read g side answer s))
 rates-puts g t (Stage.Serving (m ∷ ms)) s (entry.Write side offered answer) bytes new a paired fits h =
     rates-at g a _ s _ _ new h.3 (rates-neutral g a (entry.Write side offered answer, bytes) s _
-        (record { limit = λ was. refl; group = λ was. refl }) (frame-write g (past g t) side answer s))
+    (record { limit = λ was. refl; group = λ was. refl }) (frame-write g (past g t) side answer s))
 rates-puts g t (Stage.Dispatching (r ∷ rs)) s (entry.Fired side y) bytes new a paired fits h = rates-at g a _ s s _ new h.3
     (rates-still g a (entry.Fired side y, bytes) s (record { limit = λ was. refl; group = λ was. refl }))
 rates-puts g t (Stage.Firing x rs) s (entry.Asked side ask' answer) bytes new a paired fits h =
@@ -220,8 +228,11 @@ rated-goes g t s new h q =
     record {
       shape = shape-goes t s.plain new.plain h.shape k;
       fits = fits-quietly g t s.stage s.plain new q;
-      told = λ e. record { limit = ap (λ z. cfg_of z.limit) (k.sides e) ∙ (h.told e).limit; group = ap (λ z. z.group) (k.sides e) ∙
-          (h.told e).group };
+      told = λ e. record {
+        limit = ap (λ z. cfg_of z.limit) (k.sides e) ∙ (h.told e).limit;
+        group = ap (λ z. z.group) (k.sides e) ∙
+            (h.told e).group;
+      };
       begun = λ e. begun_later s.plain.turn (side_at s.plain e).limit _ (ap (λ z. z.limit) (k.sides e)) (h.begun e) _
           (omega (arith, k.turn));
     }
@@ -230,7 +241,7 @@ pub rated-puts : (g : Settings) (t : Trace) (s new : State) (e : Entry) (bytes :
     bytes new → Rated g (t ++ (e, bytes) ∷ []) new
 rated-puts g t s new e bytes h p =
     let step : (a : SideId) → RatesBy g a (e, bytes) s.plain new.plain = λ a. rates-puts g t s.stage s.plain e bytes new a
-        h.shape.sides h.fits p in
+    h.shape.sides h.fits p in
     record {
       shape = shape-put t (e, bytes) s.plain new.plain h.shape (shape-puts g t s.stage s.plain e bytes new p);
       fits = fits-puts g t s.stage s.plain e bytes new p;
@@ -243,8 +254,13 @@ rated-puts g t s new e bytes h p =
 
 pub rated : (g : Settings) {t : Trace} {s : State} → Reaches g t s → Rated g t s
 rated g r =
-    reaches-holds g (Rated g) (record { shape = shape-begins; fits = tt; told = λ e. record { limit = refl; group = refl }; begun =
-        λ e. tt })
+    reaches-holds g (Rated g) (record {
+      shape = shape-begins;
+      fits = tt;
+      told = λ e. record { limit = refl; group = refl };
+      begun =
+          λ e. tt;
+    })
     (rated-goes g) (rated-puts g) r
 
 pub rates-are_told : TraceTellsRates

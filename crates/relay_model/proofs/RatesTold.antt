@@ -90,7 +90,7 @@ freed-group e a s = by_name (same_end e a) refl
     by_place true h same = ap (λ x. x.group) (side_at-same e a out rest (ltb-true (number e) (length s.sides) h) same)
     by_place false h same =
         nothing (ap (λ k. slice_index_or s.sides k no_side) (sym (same_end-number e a same)) ∙ get_or_past s.sides (number e)
-            no_side (ltb-false (number e) (length s.sides) h))
+        no_side (ltb-false (number e) (length s.sides) h))
 
     by_name : (b : Bool) → same_end e a ≡ b → (side_at (freed e s) a).group ≡ (if same_end e a then None else (side_at s a).group)
     by_name true same = by_place (nat_lt (number e) (length s.sides)) refl same ∙ sym
@@ -100,7 +100,7 @@ freed-group e a s = by_name (same_end e a) refl
 
 pub rates-freed : (g : Settings) (e a : SideId) (x : Event) (s : Plain) →
     ((was : Option LimitCfg) → limit_by g a was x ≡ was) → ((was : Option ℕ) → group_by g a was x ≡
-        (if same_end e a then None else was)) → RatesBy g a x s (freed e s)
+    (if same_end e a then None else was)) → RatesBy g a x s (freed e s)
 rates-freed g e a x s limit group = record {
   limit = λ was h. ap cfg_of (freed-limit e a s) ∙ h ∙ sym (limit was);
   group = λ was h. freed-group e a s ∙ ap (λ z. if same_end e a then None else z) h ∙ sym (group was);
@@ -121,8 +121,11 @@ set_begun time turn (Some cfg) = omega arith
 pub rates-opened : (g : Settings) (a : SideId) (link : ℕ) (connected : Bool) (bytes : List ℕ) (s : Plain) → length s.sides ≡ 2 *
     s.opened → link ≡ s.opened →
     RatesBy g a (entry.Opened link connected, bytes) s (with_link g connected s)
-rates-opened g a link connected bytes s paired next = elim (eqb_tells link a.link) [ inl same ↦ new_one same.0
-    (sym next ∙ same.1) | inr other ↦ old_one other.0 (λ h. other.1 (next ∙ h)) ]
+rates-opened g a link connected bytes s paired next = elim (eqb_tells link a.link) [
+  | inl same ↦ new_one same.0
+      (sym next ∙ same.1)
+  | inr other ↦ old_one other.0 (λ h. other.1 (next ∙ h))
+]
   where
     x : Event
     x = (entry.Opened link connected, bytes)
@@ -170,14 +173,17 @@ first-not_ok false r given rest not_ok others h ok = others h ok
 pub refusal-not_ok : (g : Settings) (s : Plain) (a : Act) (r : AskAnswer) → refusal g s a ≡ Some r → r ≡ ask.Ok → ⊥
 refusal-not_ok g s a r =
     first-not_ok _ r ask.NotLive _ (λ h. cc)
-        (first-not_ok _ r ask.BadValue _ (λ h. cc) (first-not_ok _ r ask.NoGroup _ (λ h. cc)
-        (first-not_ok _ r ask.TooManyRefs None (λ h. cc) (λ h ok. cc))))
+    (first-not_ok _ r ask.BadValue _ (λ h. cc) (first-not_ok _ r ask.NoGroup _ (λ h. cc)
+    (first-not_ok _ r ask.TooManyRefs None (λ h. cc) (λ h ok. cc))))
 
 -- an ask that isn't answered Ok changes no limit and no group
 pub neutral-refused : (g : Settings) (e me : SideId) (a : Act) (answer : AskAnswer) (bytes : List ℕ) → (answer ≡ ask.Ok → ⊥) →
     IsNeutral g e (entry.Asked me a answer, bytes)
-neutral-refused g e me a answer bytes not_ok = record { limit = λ was. by_limit a answer not_ok was; group = λ was. by_group a
-    answer not_ok was }
+neutral-refused g e me a answer bytes not_ok = record {
+  limit = λ was. by_limit a answer not_ok was;
+  group = λ was. by_group a
+      answer not_ok was;
+}
   where
     by_limit : (a : Act) (answer : AskAnswer) → (answer ≡ ask.Ok → ⊥) → (was : Option LimitCfg) → limit_by g e was
         (entry.Asked me a answer, bytes) ≡ was
@@ -237,7 +243,7 @@ module _ (g : Settings) (p : Past) (s : Plain) (me a : SideId) (bytes : List ℕ
   -- the side is put into a group, or out of one
   pub rates-group : (e : SideId) (n : Option ℕ) (x : Event) → is_live s e ≡ true → ((was : Option LimitCfg) → limit_by g a was x ≡ was) →
       ((was : Option ℕ) → group_by g a was x ≡ (if same_end e a then n else was)) → RatesBy g a x s
-          (change_side e (λ x. record x { group = n }) s)
+      (change_side e (λ x. record x { group = n }) s)
   rates-group e n x live limit group = by_name (same_end e a) refl
     where
       set : PlainSide → PlainSide
@@ -272,11 +278,11 @@ module _ (g : Settings) (p : Past) (s : Plain) (me a : SideId) (bytes : List ℕ
       (frame-change e (enabled d false) s (enabled-rates d false))
   rates-done (act.Marks e d low high) live =
       rates-neutral g a _ s _ (record { limit = λ was. refl; group = λ was. refl }) (frame-change e
-          (λ x. record x { marks = marked d low high x.marks }) s (λ x. refl))
+      (λ x. record x { marks = marked d low high x.marks }) s (λ x. refl))
   rates-done (act.Timeouts e r w) live =
       rates-neutral g a _ s _ (record { limit = λ was. refl; group = λ was. refl })
       (frame-change e (λ x. record x { timeouts = record { read_ms = r; write_ms = w }; last_read = s.time; last_write = s.time })
-          s (λ x. refl))
+      s (λ x. refl))
   rates-done (act.Trigger e dir.Read) live = rates-neutral g a _ s _ (record { limit = λ was. refl; group = λ was. refl })
       (frame-raise_read g p e s)
   rates-done (act.Trigger e dir.Write) live = rates-neutral g a _ s _ (record { limit = λ was. refl; group = λ was. refl })

@@ -21,7 +21,7 @@ use Rattle.relay_model.proofs.Shapes.{one_where, ShapeBy, shape-puts}
 pub reaches-holds : (g : Settings) (Holds : Trace → State → Type 0) → Holds [] start →
     ((t : Trace) (s new : State) → Holds t s → Quietly g t s.stage s.plain new → Holds t new) →
     ((t : Trace) (s new : State) (e : Entry) (bytes : List ℕ) → Holds t s → Puts g t s.stage s.plain e bytes new → Holds
-        (t ++ (e, bytes) ∷ []) new) →
+    (t ++ (e, bytes) ∷ []) new) →
     {t : Trace} {s : State} → Reaches g t s → Holds t s
 reaches-holds g Holds first quiet put begins = first
 reaches-holds g Holds first quiet put (goes {t = t} {s = s} {new = new} r q) = quiet t s new (reaches-holds g Holds first quiet put r) q
@@ -83,7 +83,7 @@ beginning-is_legal g r =
         subst (λ z. IsLegal g z) (sym (take-append-le n t (x ∷ []) (leb-true n (length t) le))) (earlier n)
     by_length t x n new whole earlier false gt =
         subst (λ z. IsLegal g z) (sym (take_all n (t ++ x ∷ []) (let lt = leb-false n (length t) gt in
-            omega (arith, length-append t (x ∷ []))))) (new, whole)
+        omega (arith, length-append t (x ∷ []))))) (new, whole)
 
 pub beginnings-are_legal : BeginningsAreLegal
 beginnings-are_legal g t u legal = subst (λ z. IsLegal g z) (take-append_seam t u) (beginning-is_legal g legal.1 (length t))

@@ -66,7 +66,7 @@ holds-to_lf xs = by_last (last_of xs) (last_cr-last xs)
 pub holds-hex_in : (xs : List ℕ) → not_hex_from 0 xs ≡ None → holds (filter_of kind.HexIn) xs ≡ (length xs % 2 == 1)
 holds-hex_in xs good =
     ap (λ b. not b || (is_some (or_else (not_hex_from 0 xs) (odd_end xs)) && is_none (not_hex_from 0 xs)))
-        (same_bytes (hex_in xs) (hex_in xs) refl)
+    (same_bytes (hex_in xs) (hex_in xs) refl)
     ∙ ap (λ o. is_some (or_else o (odd_end xs)) && is_none o) good
     ∙ by_test (length xs % 2 == 1)
   where

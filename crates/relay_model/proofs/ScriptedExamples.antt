@@ -45,7 +45,7 @@ once lines steps = played ((0, lines) ∷ []) (Step.Now ∷ steps)
 -- The clock may fall, and the time stays. Closing turns go on from the last reading.
 clock-goes_on : played ((5000, []) ∷ (1000, []) ∷ []) (Step.Now ∷ Step.Now ∷ Step.Now ∷ Step.Now ∷ Step.Now ∷ Step.Now ∷ [])
     ≡ plain (entry.Turn 5000) ∷ plain (entry.Turn 5000) ∷ plain (entry.Turn 5000) ∷ plain (entry.Turn 5000) ∷ plain
-        (entry.Turn 5000) ∷ plain (entry.Turn 5000) ∷ []
+    (entry.Turn 5000) ∷ plain (entry.Turn 5000) ∷ []
 clock-goes_on = refl
 
 clock-passes_at_last : played ((2500, []) ∷ (1000, []) ∷ []) (Step.Now ∷ Step.Now ∷ Step.Now ∷ Step.Now ∷ [])
@@ -64,7 +64,7 @@ links-in_order = refl
 reads-in_parts : once (line.NewLink false ∷ line.Pending i (1 ∷ 2 ∷ []) ∷ line.Pending o (7 ∷ []) ∷ line.Pending i (3 ∷ []) ∷
     line.Eof i ∷ []) (Step.Read i 2 ∷ Step.Read i 2 ∷ Step.Read i 2 ∷ Step.Read o 2 ∷ Step.Read o 2 ∷ [])
     ≡ plain (entry.Turn 0) ∷ (entry.Read i 2 (read.Got 2), 1 ∷ 2 ∷ []) ∷ (entry.Read i 2 (read.Got 1), 3 ∷ []) ∷ plain
-        (entry.Read i 2 read.Ended)
+    (entry.Read i 2 read.Ended)
     ∷ (entry.Read o 2 (read.Got 1), 7 ∷ []) ∷ plain (entry.Read o 2 read.NotYet) ∷ []
 reads-in_parts = refl
 
@@ -75,9 +75,9 @@ reads-fail_first = refl
 -- A write takes what it may, and then fails or waits. A closing turn takes everything.
 writes-in_parts : once (line.Take o (Some 1) ∷ line.Take o (Some 2) ∷ line.Take i (Some 1) ∷ line.WriteFail o ∷ [])
     (Step.Write o (1 ∷ 2 ∷ []) ∷ Step.Write o (3 ∷ 4 ∷ []) ∷ Step.Write o (4 ∷ []) ∷ Step.Write i (5 ∷ []) ∷ Step.Write i (6 ∷ [])
-        ∷ Step.Now ∷ Step.Write o (4 ∷ []) ∷ Step.Write i (6 ∷ []) ∷ [])
+    ∷ Step.Now ∷ Step.Write o (4 ∷ []) ∷ Step.Write i (6 ∷ []) ∷ [])
     ≡ plain (entry.Turn 0) ∷ (entry.Write o 2 (write.Took 2), 1 ∷ 2 ∷ []) ∷ (entry.Write o 2 (write.Took 1), 3 ∷ []) ∷ plain
-        (entry.Write o 1 write.Failed)
+    (entry.Write o 1 write.Failed)
     ∷ (entry.Write i 1 (write.Took 1), 5 ∷ []) ∷ plain (entry.Write i 1 write.NotYet)
     ∷ plain (entry.Turn 1000) ∷ (entry.Write o 1 (write.Took 1), 4 ∷ []) ∷ (entry.Write i 1 (write.Took 1), 6 ∷ []) ∷ []
 writes-in_parts = refl
@@ -138,7 +138,7 @@ poll-all_of_an_end = refl
 poll-all_in_its_turn : once (line.NewLink true ∷ line.Spur i ∷ line.PollFail ∷ []) (Step.Now ∷ Step.Poll None
     (want i true false ∷ want o false true ∷ []) ∷ [])
     ≡ plain (entry.Turn 0) ∷ plain (entry.Turn 1000) ∷ plain (entry.Poll None) ∷ plain (entry.Want i true false) ∷ plain
-        (entry.Want o false true) ∷ plain (entry.Ready o false true) ∷ []
+    (entry.Want o false true) ∷ plain (entry.Ready o false true) ∷ []
 poll-all_in_its_turn = refl
 
 poll-fails : polled (line.NewLink false ∷ line.Pending i (1 ∷ []) ∷ line.PollFail ∷ []) ≡ poll_then (plain entry.PollFailed ∷ [])
@@ -149,8 +149,12 @@ abbrev planned : ℕ → Planned
 planned n = record { kind = why_kind.Read; nth = n; act = Some act.Stop }
 
 abbrev planned_script : Script
-planned_script = record { settings = usual; plans = (o, planned 1) ∷ (record { link = 7; side = In }, planned 1) ∷ (o, planned 2) ∷
-    []; turns = [] }
+planned_script = record {
+  settings = usual;
+  plans = (o, planned 1) ∷ (record { link = 7; side = In }, planned 1) ∷ (o, planned 2) ∷
+      [];
+  turns = [];
+}
 
 hooks-handed_in : (run_settings planned_script 2).hooks ≡ o ∷ o ∷ []
 hooks-handed_in = refl

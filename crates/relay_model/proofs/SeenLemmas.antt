@@ -29,8 +29,15 @@ pub record Seen : Type 0 where
   pub closed : Bool
 
 abbrev pub seen : PlainSide → Seen
-seen x = record { live = x.live; ended = x.ended; failed = x.failed; expired = x.expired; bad = x.bad; write_ended = x.write_ended;
-    closed = x.closed }
+seen x = record {
+  live = x.live;
+  ended = x.ended;
+  failed = x.failed;
+  expired = x.expired;
+  bad = x.bad;
+  write_ended = x.write_ended;
+  closed = x.closed;
+}
 
 -- all but the bad place, and all but the expiry
 abbrev pub but_bad : PlainSide → Seen
@@ -104,7 +111,7 @@ timers_taken-keeps f g s =
     let come : List Timer = by_deadline (filter (λ x. nat_le x.deadline s.time) s.timers) in
     Keeps-trans f s (record s { timers = later }) _ (Keeps-timers f s later)
     (Keeps-fold f (λ (state : Plain) (x : Timer). raise g x.side why.Timer state) (λ state x. Keeps-raise f g x.side why.Timer
-        state) (record s { timers = later }) come)
+    state) (record s { timers = later }) come)
 
 pub timed-keeps : (g : Settings) (p : Past) (e : SideId) (s : Plain) (d : Dir) → Keeps but_expired s (timed g p e s d)
 timed-keeps g p e s d = go (not ((side_at s e).live && nat_le 1 (timeout_of (side_at s e) d))) (not (wants g p s e d))

@@ -35,15 +35,23 @@ named-one s side lt e h = subst (λ z. z.link < s.opened) (same_end-eq side e h)
 failed-effect : (g : Settings) (x : Stage) (s : Plain) (y : Event) (after : Stage) (side : SideId) (changed : PlainSide)
     (new : Plain) → Keeps seen (put_side side changed s) new →
     seen changed ≡ record (seen (side_at s side)) { failed = true } → IsPlainEvent y → length s.sides ≡ 2 * s.opened → side.link <
-        s.opened → ((e : SideId) → is_freeing after e ≡ false) →
+    s.opened → ((e : SideId) → is_freeing after e ≡ false) →
     ((e : SideId) → is_freeing x e ≡ false) → ((e : SideId) → names e y ≡ same_end side e) →
-        ((e : SideId) → failed_by e y ≡ same_end side e) →
+    ((e : SideId) → failed_by e y ≡ same_end side e) →
     ((e : SideId) → (freed_by e y ≡ false) × (ended_by e y ≡ false) × (write_closed_by e y ≡ false) × (end_closed_by e y ≡ false))
-        → Effect g x s y after new
+    → Effect g x s y after new
 failed-effect g x s y after side changed new k c p size lt still before named fails idle =
     effect-at g x s y after new side changed k p size lt here
-    (λ e q. (record { freed = (idle e).0; ended = (idle e).1; failed = fails e ∙ q; write_ended = (idle e).2; closed = (idle e).3
-        }, still e))
+    (λ e q. (
+      record {
+        freed = (idle e).0;
+        ended = (idle e).1;
+        failed = fails e ∙ q;
+        write_ended = (idle e).2;
+        closed = (idle e).3;
+      },
+      still e,
+    ))
     before (λ e h. named-one s side lt e (sym (named e) ∙ h))
   where
     here : SideEffect side y after (seen (side_at s side)) (seen changed)
@@ -61,7 +69,7 @@ failed-effect g x s y after side changed new k c p size lt still before named fa
 ended-effect : (g : Settings) (x : Stage) (s : Plain) (room : ℕ) (bytes : List ℕ) (after : Stage) (side : SideId)
     (changed : PlainSide) (new : Plain) → Keeps seen (put_side side changed s) new →
     seen changed ≡ record (seen (side_at s side)) { ended = true } → length s.sides ≡ 2 * s.opened → side.link < s.opened →
-        ((e : SideId) → is_freeing after e ≡ false) →
+    ((e : SideId) → is_freeing after e ≡ false) →
     ((e : SideId) → is_freeing x e ≡ false) → Effect g x s (entry.Read side room read.Ended, bytes) after new
 ended-effect g x s room bytes after side changed new k c size lt still before =
     effect-at g x s y after new side changed k (record { turn = refl; opens = refl; time = λ n. refl }) size lt here
@@ -92,58 +100,58 @@ module _ (g : Settings) (m : Want) (ms : List Want) (s : Plain) (side : SideId) 
   pub conn-effect : (answer : ConnAnswer) (bytes : List ℕ) → Effect g x s (entry.Conn side answer, bytes) after (after_conn g side answer s)
   conn-effect conn.Connected bytes =
       effect-keeps g x s (entry.Conn side conn.Connected, bytes) after _ (Keeps-trans seen s _ _ (Keeps-put seen side _ s refl)
-          (Keeps-raise seen g side why.Connected _))
+      (Keeps-raise seen g side why.Connected _))
       (record { turn = refl; opens = refl; time = λ n. refl })
-          (λ e. record { freed = refl; ended = refl; failed = refl; write_ended = refl; closed = refl }) still (λ e. refl)
-          (named-one s side lt)
+      (λ e. record { freed = refl; ended = refl; failed = refl; write_ended = refl; closed = refl }) still (λ e. refl)
+      (named-one s side lt)
   conn-effect conn.Pending bytes =
       effect-keeps g x s (entry.Conn side conn.Pending, bytes) after s (Keeps-refl seen s)
       (record { turn = refl; opens = refl; time = λ n. refl })
-          (λ e. record { freed = refl; ended = refl; failed = refl; write_ended = refl; closed = refl }) still (λ e. refl)
-          (named-one s side lt)
+      (λ e. record { freed = refl; ended = refl; failed = refl; write_ended = refl; closed = refl }) still (λ e. refl)
+      (named-one s side lt)
   conn-effect conn.Failed bytes =
       failed-effect g x s (entry.Conn side conn.Failed, bytes) after side _ _ (Keeps-raise seen g side
-          (happened dir.Write error_flag) _) refl
+      (happened dir.Write error_flag) _) refl
       (record { turn = refl; opens = refl; time = λ n. refl }) size lt still (λ e. refl) (λ e. refl) (λ e. refl)
-          (λ e. (refl, refl, refl, refl))
+      (λ e. (refl, refl, refl, refl))
 
   pub read-effect : (room : ℕ) (answer : ReadAnswer) (bytes : List ℕ) → Effect g x s (entry.Read side room answer, bytes) after
       (after_read g side answer s)
   read-effect room (read.Got n) bytes =
       effect-keeps g x s (entry.Read side room (read.Got n), bytes) after _ (Keeps-put seen side _ s refl)
       (record { turn = refl; opens = refl; time = λ n. refl })
-          (λ e. record { freed = refl; ended = refl; failed = refl; write_ended = refl; closed = refl }) still (λ e. refl)
-          (named-one s side lt)
+      (λ e. record { freed = refl; ended = refl; failed = refl; write_ended = refl; closed = refl }) still (λ e. refl)
+      (named-one s side lt)
   read-effect room read.Ended bytes = ended-effect g x s room bytes after side _ _ (Keeps-raise seen g side
       (happened dir.Read end_flag) _) refl size lt still (λ e. refl)
   read-effect room read.NotYet bytes =
       effect-keeps g x s (entry.Read side room read.NotYet, bytes) after s (Keeps-refl seen s)
       (record { turn = refl; opens = refl; time = λ n. refl })
-          (λ e. record { freed = refl; ended = refl; failed = refl; write_ended = refl; closed = refl }) still (λ e. refl)
-          (named-one s side lt)
+      (λ e. record { freed = refl; ended = refl; failed = refl; write_ended = refl; closed = refl }) still (λ e. refl)
+      (named-one s side lt)
   read-effect room read.Failed bytes =
       failed-effect g x s (entry.Read side room read.Failed, bytes) after side _ _ (Keeps-raise seen g side
-          (happened dir.Read error_flag) _) refl
+      (happened dir.Read error_flag) _) refl
       (record { turn = refl; opens = refl; time = λ n. refl }) size lt still (λ e. refl) (λ e. refl) (λ e. refl)
-          (λ e. (refl, refl, refl, refl))
+      (λ e. (refl, refl, refl, refl))
 
   pub write-effect : (p : Past) (offered : ℕ) (answer : WriteAnswer) (bytes : List ℕ) → CarriesTook answer offered bytes → Effect g
       x s (entry.Write side offered answer, bytes) after (after_write g p side answer s)
   write-effect p offered (write.Took n) bytes h =
       effect-keeps g x s (entry.Write side offered (write.Took n), bytes) after _
       (Keeps-trans seen s _ _ (Keeps-trans seen s _ _ (Keeps-flow seen (peer side) _ s) (Keeps-put seen side _ _ refl))
-          (Keeps-raise_write seen g p side _))
+      (Keeps-raise_write seen g p side _))
       (record { turn = refl; opens = refl; time = λ n. refl })
-          (λ e. record { freed = refl; ended = refl; failed = refl; write_ended = refl; closed = refl }) still (λ e. refl)
-          (named-one s side lt)
+      (λ e. record { freed = refl; ended = refl; failed = refl; write_ended = refl; closed = refl }) still (λ e. refl)
+      (named-one s side lt)
   write-effect p offered write.NotYet bytes h =
       effect-keeps g x s (entry.Write side offered write.NotYet, bytes) after s (Keeps-refl seen s)
       (record { turn = refl; opens = refl; time = λ n. refl })
-          (λ e. record { freed = refl; ended = refl; failed = refl; write_ended = refl; closed = refl }) still (λ e. refl)
-          (named-one s side lt)
+      (λ e. record { freed = refl; ended = refl; failed = refl; write_ended = refl; closed = refl }) still (λ e. refl)
+      (named-one s side lt)
   write-effect p offered write.Failed bytes h =
       failed-effect g x s (entry.Write side offered write.Failed, bytes) after side _ _ (Keeps-raise seen g side
-          (happened dir.Write error_flag) _) refl
+      (happened dir.Write error_flag) _) refl
       (record { turn = refl; opens = refl; time = λ n. refl }) size lt still (λ e. refl) (λ e. refl) (λ e. refl)
-          (λ e. (refl, refl, refl, refl))
+      (λ e. (refl, refl, refl, refl))
   write-effect p offered write.NoMemory bytes h = absurd h

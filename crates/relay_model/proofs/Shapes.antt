@@ -88,15 +88,15 @@ shape-puts g t (Stage.Serving (m ∷ ms)) s (entry.Conn side answer) bytes new h
     shape_by-other (entry.Conn side answer, bytes) s new.plain refl refl refl (shape-at s _ _ new h.3 (frame-conn g side answer s).shape)
 shape-puts g t (Stage.Serving (m ∷ ms)) s (entry.Read side room answer) bytes new h =
     shape_by-other (entry.Read side room answer, bytes) s new.plain refl refl refl (shape-at s _ _ new h.3
-        (frame-read g side answer s).shape)
+    (frame-read g side answer s).shape)
 shape-puts g t (Stage.Serving (m ∷ ms)) s (entry.Write side offered answer) bytes new h =
     shape_by-other (entry.Write side offered answer, bytes) s new.plain refl refl refl (shape-at s _ _ new h.3
-        (frame-write g (past g t) side answer s).shape)
+    (frame-write g (past g t) side answer s).shape)
 shape-puts g t (Stage.Dispatching (r ∷ rs)) s (entry.Fired side y) bytes new h = shape_by-other (entry.Fired side y, bytes) s
     new.plain refl refl refl (shape-at s s _ new h.3 (shape-same s))
 shape-puts g t (Stage.Firing x rs) s (entry.Asked side a answer) bytes new h =
     shape_by-other (entry.Asked side a answer, bytes) s new.plain refl refl refl (shape-at s h.3 _ new h.5
-        (shape-answered (refusal g s a) g (past g t) s a answer h.3 h.4))
+    (shape-answered (refusal g s a) g (past g t) s a answer h.3 h.4))
 shape-puts g t (Stage.Freeing gone x rs) s e bytes new h =
     subst (λ z. ShapeBy (z, bytes) s new.plain) (sym h.0)
     (shape_by-other (freed_entry s gone cause.Hook, bytes) s new.plain refl refl refl (shape-at s s _ new h.2 (shape-same s)))
@@ -104,6 +104,6 @@ shape-puts g t (Stage.Closing (c ∷ cs)) s e bytes new h =
     let is = closing-closes g (past g t) s c e h.0 in
     let still = closes-still e bytes is in
     shape_by-other (e, bytes) s new.plain (still-no_turn (e, bytes) still) (still-no_time (e, bytes) s.time still)
-        (closes-opens_none e bytes is)
+    (closes-opens_none e bytes is)
     (shape-at s _ _ new h.2 (shape-closed c s))
 shape-puts g t _ s e bytes new h = absurd h

@@ -77,7 +77,7 @@ pub side_spells-apart : (e : SideId) (d : Dir) (before rest : Trace) (ms : ℕ) 
     side_spells e d (before ++ (entry.Turn ms, []) ∷ rest) ≡ side_spells e d before ++ rest_spells (map (beat_of e d) rest) ms
 side_spells-apart e d before rest ms =
     ap spells (map-append (beat_of e d) before ((entry.Turn ms, []) ∷ rest)) ∙ spells-apart (map (beat_of e d) before)
-        (map (beat_of e d) rest) ms
+    (map (beat_of e d) rest) ms
 
 -- The level is below each of its terms.
 
@@ -97,19 +97,19 @@ least-term l time n (p ∷ pre) post x = least-term l time
 -- What a bucket holds is at most a burst and what came since the start of any later turn, less what was moved since.
 pub standing-most : (y : Standing) (e : SideId) (d : Dir) (before rest : Trace) (ms time : ℕ) → y.turn ≤ count_by is_turn before →
     standing_level y d (side_spells e d (before ++ (entry.Turn ms, []) ∷ rest)) time ≤ most_moved (limit_of y.cfg d) ms time -
-        moved_over e d rest
+    moved_over e d rest
 standing-most y e d before rest ms time begun =
     let l : Limit = limit_of y.cfg d in
     let cs : List Beat = map (beat_of e d) rest in
     let within : y.turn ≤ length (side_spells e d before) = omega (arith, begun, spells-count e d before) in
     let later : drop y.turn (side_spells e d (before ++ (entry.Turn ms, []) ∷ rest)) ≡ drop y.turn (side_spells e d before) ++
-        rest_spells cs ms =
+    rest_spells cs ms =
     ap (λ z. drop y.turn z) (side_spells-apart e d before rest ms) ∙ drop-append-le y.turn (side_spells e d before)
-        (rest_spells cs ms) within in
+    (rest_spells cs ms) within in
     let term = least-term l time (held_as_set y d + l.rate * ticks l.tick y.time time - moved_in
-        (drop y.turn (side_spells e d before) ++ rest_spells cs ms))
+    (drop y.turn (side_spells e d before) ++ rest_spells cs ms))
     (drop y.turn (side_spells e d before)) (spells cs) (record { time = ms; moved = moved_first cs }) in
     let total : moved_in (rest_spells cs ms) ≡ moved_over e d rest = moved_in-rest cs ms ∙ beats-total e d rest in
     subst (λ z. level l y.time (held_as_set y d) z time ≤ most_moved l ms time - moved_over e d rest) (sym later)
     (subst (λ z. level l y.time (held_as_set y d) (drop y.turn (side_spells e d before) ++ rest_spells cs ms) time ≤ most_moved l
-        ms time - z) total term)
+    ms time - z) total term)

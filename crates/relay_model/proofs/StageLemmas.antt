@@ -55,13 +55,13 @@ quiet-silent g t (Serving (m ∷ ms)) s new h = subst (λ z. Silent (Serving (m 
     (same-silent (Serving (m ∷ ms)) s _ (λ e. refl) (λ e. refl))
 quiet-silent g t (Filtering e ms) s new h =
     subst (λ z. Silent (Filtering e ms) s z.stage z.plain) (sym h)
-        (record { keeps = after_got-keeps g (past g t) e s; before = λ e. refl; still = λ e. refl })
+    (record { keeps = after_got-keeps g (past g t) e s; before = λ e. refl; still = λ e. refl })
 quiet-silent g t (Serving []) s new h =
     subst (λ z. Silent (Serving []) s z.stage z.plain) (sym h)
-        (record { keeps = Keeps-due but_bad s []; before = λ e. refl; still = λ e. refl })
+    (record { keeps = Keeps-due but_bad s []; before = λ e. refl; still = λ e. refl })
 quiet-silent g t (Firing x rs) s new h =
     subst (λ z. Silent (Firing x rs) s z.stage z.plain) (sym h) (same-silent (Firing x rs) s _ (λ e. refl)
-        (after_fire-still x.stopped x.side.link rs))
+    (after_fire-still x.stopped x.side.link rs))
 quiet-silent g t (Dispatching []) s new h = subst (λ z. Silent (Dispatching []) s z.stage z.plain) (sym h)
     (same-silent (Dispatching []) s _ (λ e. refl) (λ e. refl))
 quiet-silent g t (Passing [] (e ∷ es)) s new (inl h) = subst (λ z. Silent (Passing [] (e ∷ es)) s z.stage z.plain) (sym h.1)
@@ -70,7 +70,7 @@ quiet-silent g t (Passing [] (e ∷ es)) s new (inr h) = subst (λ z. Silent (Pa
     (same-silent (Passing [] (e ∷ es)) s _ (λ e. refl) (λ e. refl))
 quiet-silent g t (Passing (x ∷ xs) (e ∷ es)) s new h =
     subst (λ z. Silent (Passing (x ∷ xs) (e ∷ es)) s z.stage z.plain) (sym h)
-        (record { keeps = do_part-keeps g (past g t) e x s; before = λ e. refl; still = λ e. refl })
+    (record { keeps = do_part-keeps g (past g t) e x s; before = λ e. refl; still = λ e. refl })
 quiet-silent g t (Passing [] []) s new h = subst (λ z. Silent (Passing [] []) s z.stage z.plain) (sym h)
     (same-silent (Passing [] []) s _ (λ e. refl) (λ e. refl))
 quiet-silent g t (Closing (c ∷ cs)) s new h = subst (λ z. Silent (Closing (c ∷ cs)) s z.stage z.plain) (sym h.1)
@@ -117,9 +117,12 @@ asked-placed g p s x rs a answer after size lt h = go (ask-outcome g p s x rs a 
   where
     freeing : (gone : SideId) → is_live s gone ≡ true → Placed (after_ask x rs (act.Free gone) ask.Ok) (freed gone s)
     freeing gone live =
-        let there = live-there s gone size live in
-        (there, lt, ap (λ z. z.live) (change_side-same gone (λ z. record z { live = false; group = None })
-            (record s { timers = without_timer gone s.timers; due = without_due gone s.due }) size there))
+        let there = live-there s gone size live in (
+          there,
+          lt,
+          ap (λ z. z.live) (change_side-same gone (λ z. record z { live = false; group = None })
+              (record s { timers = without_timer gone s.timers; due = without_due gone s.due }) size there),
+        )
 
     go : Frees s after a answer ⊎ GoesOn x rs s after a answer → Placed (after_ask x rs a answer) after
     go (inl k) =
@@ -128,7 +131,7 @@ asked-placed g p s x rs a answer after size lt h = go (ask-outcome g p s x rs a 
         (subst (λ z. Placed (after_ask x rs (act.Free k.gone) z) (freed k.gone s)) (sym k.answered) (freeing k.gone k.live)))
     go (inr k) =
         let in_range : k.fire.side.link < after.opened = let o = k.keeps.opened in let l : k.fire.side.link ≡ x.side.link = ap
-            (λ z. z.link) k.same in omega arith in
+        (λ z. z.link) k.same in omega arith in
         subst (λ z. Placed z after) (sym k.stage) in_range
 
 steps-placed : (c : CloseStep) (cs : List CloseStep) (n : ℕ) → link_of c < n → AllOpened n cs → AllOpened n (steps_left c cs)
@@ -167,9 +170,9 @@ put-placed g t (Dispatching (r ∷ rs)) s (entry.Fired side y) bytes new size pl
     (sym h.3) (live-there s side size h.1)
 put-placed g t (Firing x rs) s (entry.Asked side a answer) bytes new size placed h =
     subst (λ z. Placed z.stage z.plain) (sym h.5) (asked-placed g (past g t) s (record x { asks = x.asks + 1 }) rs a answer h.3
-        size placed h.4)
+    size placed h.4)
 put-placed g t (Freeing gone x rs) s e bytes new size placed h = subst (λ z. Placed z.stage z.plain) (sym h.2) placed.1
 put-placed g t (Closing (c ∷ cs)) s e bytes new size placed h =
     subst (λ z. Placed z.stage z.plain) (sym h.2) (subst (λ n. AllOpened n (steps_left c cs)) (sym (closed-opened c s))
-        (steps-placed c cs s.opened placed.0 placed.1))
+    (steps-placed c cs s.opened placed.0 placed.1))
 put-placed g t _ s e bytes new size placed h = absurd h

@@ -45,15 +45,15 @@ buffers_hold_the_rest g t v c e lt live peer_live =
     let b = buffers_at v.buffers e in
     let x = runnings_at v.runnings e in
     let shape = λ (p q : Bool). direction.Holds (read_kind g e.side) (write_kind g (peer e).side) r w (bytes_read e t)
-        (has_ended e t) p q f b x.reader x.writer in
+    (has_ended e t) p q f b x.reader x.writer in
     let holds : shape true true = subst (λ q. shape true q) peer_live (subst (λ p. shape p (is_live v.plain (peer e))) live
-        (c.each e lt)) in
+    (c.each e lt)) in
     all_is_there (read_kind g e.side) (write_kind g (peer e).side) r w t e (bytes_read e t) (bytes_given (peer e) t)
-        (has_ended e t) f b x.reader x.writer
+    (has_ended e t) f b x.reader x.writer
     (every_filter (read_kind g e.side)) (every_filter (write_kind g (peer e).side)) (c.accounted.each e lt) holds
 
 pub free_accounts_for_the_rest : FreeAccountsForTheRest
 free_accounts_for_the_rest g t s c e lt moved told open_still =
     rest_after_free (read_filter g s e) (write_filter g s (peer e)) t e (bytes_read e t) (bytes_given (peer e) t) (has_ended e t)
-        (flow_at s e) moved
+    (flow_at s e) moved
     (every_filter (read_kind g e.side)) (every_filter (write_kind g (peer e).side)) (c.each e lt) told open_still

@@ -30,7 +30,7 @@ use Rattle.relay_model.proofs.PutLemmas.{IsPlainEvent, effect-keeps}
 -- an entry by which the plain state stays as it was
 same-effect : (g : Settings) (x : Stage) (s : Plain) (y : Event) (after : Stage) → IsPlainEvent y → ((e : SideId) → IsIdle e y) →
     ((e : SideId) → is_freeing after e ≡ false) → ((e : SideId) → is_freeing x e ≡ false) →
-        ((e : SideId) → names e y ≡ true → e.link < s.opened) → Effect g x s y after s
+    ((e : SideId) → names e y ≡ true → e.link < s.opened) → Effect g x s y after s
 same-effect g x s y after p idle still before named = effect-keeps g x s y after s (Keeps-refl seen s) p idle still before named
 
 reading-still : (side : SideId) (answer : ReadAnswer) (ms : List Want) (e : SideId) → is_freeing (after_reading side answer ms) e ≡ false
@@ -46,7 +46,7 @@ conn-live g p s m h = go (is_connecting s m.side) refl m.write m.read h
     go : (a : Bool) → is_connecting s m.side ≡ a → (b c : Bool) → (if a then (if b then Call.AskConnect else Call.Nothing)
         else (if c then (if nat_le 1 (read_room g p s m.side) then Call.AskRead (read_room g p s m.side) else Call.Nothing)
         else (if b && nat_le 1 (write_room g p s m.side) then Call.AskWrite (write_room g p s m.side) else Call.Nothing))) ≡
-            Call.AskConnect → is_live s m.side ≡ true
+        Call.AskConnect → is_live s m.side ≡ true
     go true a b c h = connecting-live s m.side a
     go false a b c h = absurd (none b c (nat_le 1 (read_room g p s m.side)) (nat_le 1 (write_room g p s m.side)) h)
       where
@@ -91,7 +91,7 @@ write-called g p s m offered h = go (is_connecting s m.side) m.write m.read (nat
     go : (a b c d f : Bool) → nat_le 1 (write_room g p s m.side) ≡ f → (if a then (if b then Call.AskConnect else Call.Nothing)
         else (if c then (if d then Call.AskRead (read_room g p s m.side) else Call.Nothing)
         else (if b && f then Call.AskWrite (write_room g p s m.side) else Call.Nothing))) ≡ Call.AskWrite offered → CalledWrite g p
-            s m.side offered
+        s m.side offered
     go true true c d f e h = absurd (cc)
     go true false c d f e h = absurd (cc)
     go false b true true f e h = absurd (cc)
@@ -105,29 +105,29 @@ pub put-effect : (g : Settings) (t : Trace) (x : Stage) (s : Plain) (e : Entry) 
     Effect g x s (e, bytes) new.stage new.plain
 put-effect g t Between s (entry.Turn ms) bytes new size placed h =
     subst (λ z. Effect g Between s (entry.Turn ms, bytes) z.stage z.plain) (sym h.3) (turn-effect g s ms bytes
-        (past g (t ++ (entry.Turn ms, []) ∷ [])) h.0 h.1)
+    (past g (t ++ (entry.Turn ms, []) ∷ [])) h.0 h.1)
 put-effect g t Polling s (entry.Poll timeout) bytes new size placed h =
     subst (λ z. Effect g Polling s (entry.Poll timeout, bytes) z.stage z.plain) (sym h.2)
     (same-effect g Polling s (entry.Poll timeout, bytes) _ (record { turn = refl; opens = refl; time = λ n. refl })
-        (λ e. record { freed = refl; ended = refl; failed = refl; write_ended = refl; closed = refl }) (λ e. refl) (λ e. refl)
-        (λ e k. absurd (cc)))
+    (λ e. record { freed = refl; ended = refl; failed = refl; write_ended = refl; closed = refl }) (λ e. refl) (λ e. refl)
+    (λ e k. absurd (cc)))
 put-effect g t (Wanting (w ∷ ws)) s (entry.Want side r d) bytes new size placed h =
     let lt : side.link < s.opened = live-there s side size (ap (λ z. is_live s z) (sym (ap (λ z. z.side) h.0)) ∙ placed.0) in
     subst (λ z. Effect g (Wanting (w ∷ ws)) s (entry.Want side r d, bytes) z.stage z.plain) (sym h.2)
     (same-effect g (Wanting (w ∷ ws)) s (entry.Want side r d, bytes) _ (record { turn = refl; opens = refl; time = λ n. refl })
-        (λ e. record { freed = refl; ended = refl; failed = refl; write_ended = refl; closed = refl }) (λ e. refl) (λ e. refl)
+    (λ e. record { freed = refl; ended = refl; failed = refl; write_ended = refl; closed = refl }) (λ e. refl) (λ e. refl)
     (named-one s side lt))
 put-effect g t (Wanting []) s entry.PollFailed bytes new size placed h =
     subst (λ z. Effect g (Wanting []) s (entry.PollFailed, bytes) z.stage z.plain) (sym h.1)
     (same-effect g (Wanting []) s (entry.PollFailed, bytes) _ (record { turn = refl; opens = refl; time = λ n. refl })
-        (λ e. record { freed = refl; ended = refl; failed = refl; write_ended = refl; closed = refl }) (λ e. refl) (λ e. refl)
-        (λ e k. absurd (cc)))
+    (λ e. record { freed = refl; ended = refl; failed = refl; write_ended = refl; closed = refl }) (λ e. refl) (λ e. refl)
+    (λ e k. absurd (cc)))
 put-effect g t (Marking (w ∷ ws) marks) s (entry.Ready side r d) bytes new size placed h =
     let lt : side.link < s.opened = live-there s side size (ap (λ z. is_live s z) h.0 ∙ placed.0) in
     subst (λ z. Effect g (Marking (w ∷ ws) marks) s (entry.Ready side r d, bytes) z.stage z.plain) (sym h.3)
     (same-effect g (Marking (w ∷ ws) marks) s (entry.Ready side r d, bytes) _
-        (record { turn = refl; opens = refl; time = λ n. refl })
-        (λ e. record { freed = refl; ended = refl; failed = refl; write_ended = refl; closed = refl }) (λ e. refl) (λ e. refl)
+    (record { turn = refl; opens = refl; time = λ n. refl })
+    (λ e. record { freed = refl; ended = refl; failed = refl; write_ended = refl; closed = refl }) (λ e. refl) (λ e. refl)
     (named-one s side lt))
 put-effect g t (Accepting n marks) s (entry.Opened link connected) bytes new size placed h =
     subst (λ z. Effect g (Accepting n marks) s (entry.Opened link connected, bytes) z.stage z.plain) (sym h.4)
@@ -138,18 +138,18 @@ put-effect g t (Serving (m ∷ ms)) s (entry.Conn side answer) bytes new size pl
     (conn-effect g m ms s side _ size lt (λ e. refl) answer bytes)
 put-effect g t (Serving (m ∷ ms)) s (entry.Read side room answer) bytes new size placed h =
     let lt : side.link < s.opened = live-there s side size
-        (ap (λ z. is_live s z) h.0 ∙ (may_read-parts s m.side (read-called g (past g t) s m room h.1).may).live) in
+    (ap (λ z. is_live s z) h.0 ∙ (may_read-parts s m.side (read-called g (past g t) s m room h.1).may).live) in
     subst (λ z. Effect g (Serving (m ∷ ms)) s (entry.Read side room answer, bytes) z.stage z.plain) (sym h.3)
     (read-effect g m ms s side _ size lt (reading-still side answer _) room answer bytes)
 put-effect g t (Serving (m ∷ ms)) s (entry.Write side offered answer) bytes new size placed h =
     let lt : side.link < s.opened = live-there s side size (ap (λ z. is_live s z) h.0 ∙ may_write-live s m.side
-        (write-called g (past g t) s m offered h.1).may) in
+    (write-called g (past g t) s m offered h.1).may) in
     subst (λ z. Effect g (Serving (m ∷ ms)) s (entry.Write side offered answer, bytes) z.stage z.plain) (sym h.3)
     (write-effect g m ms s side _ size lt (λ e. refl) (past g t) offered answer bytes h.2)
 put-effect g t (Dispatching (r ∷ rs)) s (entry.Fired side y) bytes new size placed h =
     subst (λ z. Effect g (Dispatching (r ∷ rs)) s (entry.Fired side y, bytes) z.stage z.plain) (sym h.3)
     (same-effect g (Dispatching (r ∷ rs)) s (entry.Fired side y, bytes) _ (record { turn = refl; opens = refl; time = λ n. refl })
-        (λ e. record { freed = refl; ended = refl; failed = refl; write_ended = refl; closed = refl }) (λ e. refl) (λ e. refl)
+    (λ e. record { freed = refl; ended = refl; failed = refl; write_ended = refl; closed = refl }) (λ e. refl) (λ e. refl)
     (named-one s side (live-there s side size h.1)))
 put-effect g t (Firing x rs) s (entry.Asked side a answer) bytes new size placed h =
     subst (λ z. Effect g (Firing x rs) s (entry.Asked side a answer, bytes) z.stage z.plain) (sym h.5)
@@ -157,7 +157,7 @@ put-effect g t (Firing x rs) s (entry.Asked side a answer) bytes new size placed
 put-effect g t (Freeing gone x rs) s e bytes new size placed h =
     subst (λ z. Effect g (Freeing gone x rs) s (e, bytes) z.stage z.plain) (sym h.2)
     (subst (λ z. Effect g (Freeing gone x rs) s (z, bytes) (Firing x rs) s) (sym h.0) (freeing-effect g s x rs gone cause.Hook _ _
-        bytes placed.0 placed.2))
+    bytes placed.0 placed.2))
 put-effect g t (Closing (c ∷ cs)) s e bytes new size placed h =
     subst (λ z. Effect g (Closing (c ∷ cs)) s (e, bytes) z.stage z.plain) (sym h.2)
     (closing-effect g (Closing (c ∷ cs)) (past g t) s _ c e bytes size placed.0 (λ z. refl) (λ z. refl) h.0)

@@ -109,7 +109,7 @@ module _ (f next : Filter) (place : ℕ) (law : IsFilter f) (next_law : IsFilter
         let k = behind-some place bad (next.bad (drop place xs)) h in
         let le : place ≤ place + k.there = omega arith in
         ap (λ z. f.before (take place xs) ++ z) (next_law.badness.stops (drop place xs) k.there k.is ∙ ap next.before
-            (sym (upto xs k.there)))
+        (sym (upto xs k.there)))
         ∙ ap (λ z. f.before z ++ next.before (drop place (take (place + k.there) xs))) (sym (take-take place (place + k.there) xs le))
         ∙ ap (λ n. both.before (take n xs)) k.sum;
     bad_at_end = λ xs bad h.
@@ -133,14 +133,14 @@ module _ (f next : Filter) (place : ℕ) (law : IsFilter f) (next_law : IsFilter
   more_is xs ys le =
       ap (drop (length (both.before xs))) (late xs ys le)
       ∙ ap (λ n. drop n (f.before (take place xs) ++ next.before (drop place xs ++ ys))) (length-append (f.before (take place xs))
-          (next.before (drop place xs)))
+      (next.before (drop place xs)))
       ∙ drop-append-add (f.before (take place xs)) (next.before (drop place xs ++ ys)) (length (next.before (drop place xs)))
 
   more_at_end_is : (xs ys : List ℕ) → place ≤ length xs → more_at_end both xs ys ≡ more_at_end next (drop place xs) ys
   more_at_end_is xs ys le =
       ap (drop (length (both.before xs))) (late_end xs ys le)
       ∙ ap (λ n. drop n (f.before (take place xs) ++ next.at_end (drop place xs ++ ys))) (length-append (f.before (take place xs))
-          (next.before (drop place xs)))
+      (next.before (drop place xs)))
       ∙ drop-append-add (f.before (take place xs)) (next.at_end (drop place xs ++ ys)) (length (next.before (drop place xs)))
 
   cut : CutLaw both
@@ -149,7 +149,7 @@ module _ (f next : Filter) (place : ℕ) (law : IsFilter f) (next_law : IsFilter
         more_is xs ys h.begun ∙ next_law.cut.same _ _ (alike xs zs h) ys ∙ sym (more_is zs ys (subst (λ n. place ≤ n) h.count h.begun));
     same_at_end = λ xs zs h ys.
         more_at_end_is xs ys h.begun ∙ next_law.cut.same_at_end _ _ (alike xs zs h) ys ∙ sym
-            (more_at_end_is zs ys (subst (λ n. place ≤ n) h.count h.begun));
+        (more_at_end_is zs ys (subst (λ n. place ≤ n) h.count h.begun));
     same_bad = λ xs zs h ys.
         ap (behind place)
         (ap next.bad (drop-append-le place xs ys h.begun)

@@ -93,8 +93,15 @@ reading-passes told = omega (arith, told)
 
 -- Accepting is not left open behind a turn that opened one link of two.
 abbrev left_open : PortTold
-left_open = record { accept_polls = None; timeout = None; links = None; accepting = Some true; readings = None; reading = None;
-    started = None }
+left_open = record {
+  accept_polls = None;
+  timeout = None;
+  links = None;
+  accepting = Some true;
+  readings = None;
+  reading = None;
+  started = None;
+}
 
 abbrev links_at_most : ℕ → Settings
 links_at_most n = record usual { links = n }

@@ -145,7 +145,7 @@ polls_that_accept-append links n (x ∷ t) u =
     let opens : ℕ = if is_opened x then 1 else 0 in
     let rest = polls_that_accept-append links (n + opens) t u in
     let count : n + opens + opened t ≡ n + opened (x ∷ t) = (let parts = sum_by-cons (λ y. if is_opened y then 1 else 0) x t in
-        omega (arith, parts)) in
+    omega (arith, parts)) in
     let same : polls_that_accept links (n + opens + opened t) u ≡ polls_that_accept links (n + opened (x ∷ t)) u = ap
-        (λ k. polls_that_accept links k u) count in
+    (λ k. polls_that_accept links k u) count in
     omega (arith, rest, same)

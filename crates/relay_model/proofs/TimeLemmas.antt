@@ -47,8 +47,18 @@ record Core : Type 0 where
   group : Option ℕ
 
 abbrev core : PlainSide → Core
-core x = record { live = x.live; connecting = x.connecting; ended = x.ended; failed = x.failed; write_ended = x.write_ended; marks
-    = x.marks; timeouts = x.timeouts; limit = x.limit; group = x.group }
+core x = record {
+  live = x.live;
+  connecting = x.connecting;
+  ended = x.ended;
+  failed = x.failed;
+  write_ended = x.write_ended;
+  marks
+      = x.marks;
+  timeouts = x.timeouts;
+  limit = x.limit;
+  group = x.group;
+}
 
 -- the members of groups are the same
 members-same : (s new : Plain) → Keeps core s new → (n : ℕ) → members new n ≡ members s n
@@ -66,7 +76,7 @@ within-same : (g : Settings) (p : Past) (s new : Plain) (e : SideId) (d : Dir) (
 within-same g p s new e d n m k same =
     let c = Keeps-side core s new e k in
     let share : share_in g p new d (side_at new e).group ≡ share_in g p s d (side_at s e).group = ap (share_in g p new d)
-        (ap (λ z. z.group) c) ∙ by_group (side_at s e).group in
+    (ap (λ z. z.group) c) ∙ by_group (side_at s e).group in
     let own : allowance p new e d ≡ allowance p s e d =
     ap (λ o. option_map (λ x. standing_level x d (p.turns e d) new.time) o) (ap (λ z. z.limit) c)
     ∙ ap (λ time. option_map (λ x. standing_level x d (p.turns e d) time) (side_at s e).limit) k.time in
@@ -146,12 +156,12 @@ wanted-before g p s new e dir.Write k h = go (may_write new e) refl (may_write s
 
     go : (a : Bool) → may_write new e ≡ a → (b : Bool) → may_write s e ≡ b →
         (nat_le 1 (if a then within_rates g p new e dir.Write (min most_at_once (length (raw_output_at g p new e))) else 0)
-            || (is_connecting new e && not (side_at new e).failed)) ≡ true →
+        || (is_connecting new e && not (side_at new e).failed)) ≡ true →
         (nat_le 1 (if b then within_rates g p s e dir.Write (min most_at_once (length (raw_output_at g p s e))) else 0)
-            || (is_connecting s e && not (side_at s e).failed)) ≡ true
+        || (is_connecting s e && not (side_at s e).failed)) ≡ true
     go true a true b h =
         (λ i. nat_le 1 (sym (within-same g p s new e dir.Write _ _ k.keeps room) i) || ((sym c i).live && (sym c i).connecting &&
-            not (sym c i).failed)) ∙ h
+        not (sym c i).failed)) ∙ h
     go true a false b h = absurd (let was = may_write-before g p s new e k a in cc)
     go false a true b h = or_right _ _ ((λ i. (sym c i).live && (sym c i).connecting && not (sym c i).failed) ∙ h)
     go false a false b h = (λ i. (sym c i).live && (sym c i).connecting && not (sym c i).failed) ∙ h
@@ -165,13 +175,22 @@ put-cases e z x s = go (same_end z e) refl (cases_lt (number e) (length s.sides)
     go : (q : Bool) → same_end z e ≡ q → (number e < length s.sides) ⊎ (length s.sides ≤ number e) →
         ((z ≡ e) × (side_at (put_side e x s) z ≡ x)) ⊎ (side_at (put_side e x s) z ≡ side_at s z)
     go false q o = inr (change_side-other e z (λ _. x) s q)
-    go true q (inl lt) = let same = same_end-eq z e q in inl (same, ap (λ v. side_at (put_side e x s) v) same ∙ get_or-set_same
-        s.sides (number e) x no_side lt)
+    go true q (inl lt) = let same = same_end-eq z e q in inl (
+      same,
+      ap (λ v. side_at (put_side e x s) v) same ∙ get_or-set_same
+          s.sides (number e) x no_side lt,
+    )
     go true q (inr ge) = inr (ap (λ xs. slice_index_or xs (number z) no_side) (set_past s.sides (number e) x ge))
 
 Eased-refl : (g : Settings) (p : Past) (s : Plain) → Eased g p s s
-Eased-refl g p s = record { keeps = Keeps-refl core s; flows = refl; reads = λ e h. h; writes = λ e h. h; last = λ e d. inl refl;
-    expired = λ e h. inl h }
+Eased-refl g p s = record {
+  keeps = Keeps-refl core s;
+  flows = refl;
+  reads = λ e h. h;
+  writes = λ e h. h;
+  last = λ e d. inl refl;
+  expired = λ e h. inl h;
+}
 
 Eased-due : (g : Settings) (p : Past) (s new : Plain) (ds : List Due) → Eased g p s new → Eased g p s (record new { due = ds })
 Eased-due g p s new ds k = record {
@@ -236,13 +255,13 @@ Eased-active g p s new e d k = record {
 
     last : (z : SideId) (f : Dir) → ((z ≡ e) × (side_at (put_side e x new) z ≡ x)) ⊎ (side_at (put_side e x new) z ≡ side_at new z) →
         (last_activity (side_at (put_side e x new) z) f ≡ last_activity (side_at s z) f) ⊎
-            (last_activity (side_at (put_side e x new) z) f ≡ s.time)
+        (last_activity (side_at (put_side e x new) z) f ≡ s.time)
     last z f (inr same) = older z f _ (ap (λ v. last_activity v f) same)
     last z f (inl h) = go (last-active new.time d (side_at new e) f)
       where
         go : (last_activity x f ≡ last_activity (side_at new e) f) ⊎ (last_activity x f ≡ new.time) →
             (last_activity (side_at (put_side e x new) z) f ≡ last_activity (side_at s z) f) ⊎
-                (last_activity (side_at (put_side e x new) z) f ≡ s.time)
+            (last_activity (side_at (put_side e x new) z) f ≡ s.time)
         go (inl a) = older z f _ (ap (λ v. last_activity v f) h.1 ∙ a ∙ ap (λ v. last_activity (side_at new v) f) (sym h.0))
         go (inr a) = inr (ap (λ v. last_activity v f) h.1 ∙ a ∙ k.keeps.time)
 
@@ -300,7 +319,7 @@ Eased-stopped g p s new e d late k = record {
     last : (z : SideId) (f : Dir) → (last_activity (side_at new z) f ≡ last_activity (side_at s z) f) ⊎
         (last_activity (side_at new z) f ≡ s.time) →
         (last_activity (side_at (put_side e x new) z) f ≡ last_activity (side_at s z) f) ⊎
-            (last_activity (side_at (put_side e x new) z) f ≡ s.time)
+        (last_activity (side_at (put_side e x new) z) f ≡ s.time)
     last z f (inl a) = inl (same z f ∙ a)
     last z f (inr a) = inr (same z f ∙ a)
 
@@ -345,7 +364,7 @@ Eased-timed g p s new e d k =
     go false a false h true i =
         let has = (and_parts (side_at new e).live (nat_le 1 (timeout_of (side_at new e) d)) (not-false _ a)).1 in
         let late = late-before g p s new e d k (leb-true 1 (timeout_of (side_at new e) d) has) (not-false (wants g p new e d) h)
-            (leb-true _ _ i) in
+        (leb-true _ _ i) in
         Eased-raise g p s _ e (happened d timeout_flag) (Eased-stopped g p s new e d late k)
 
 Eased-fold : {X : Type 0} (g : Settings) (p : Past) (s : Plain) (step : Plain → X → Plain) →
@@ -367,12 +386,12 @@ Eased-timers g p s =
       expired = λ e h. inl h;
     } in
     Eased-fold g p s (λ (state : Plain) (x : Timer). raise g x.side why.Timer state) (λ new x k. Eased-raise g p s new x.side
-        why.Timer k) (record s { timers = later }) come begin
+    why.Timer k) (record s { timers = later }) come begin
 
 time-eased : (g : Settings) (p : Past) (s : Plain) → Eased g p s (time_passed g p s)
 time-eased g p s =
     Eased-fold g p s (side_timed g p) (λ new z m. Eased-fold g p s (timed g p z) (λ now d n. Eased-timed g p s now z d n) new
-        both_ways m) (timers_taken g s) (all_sides s) (Eased-timers g p s)
+    both_ways m) (timers_taken g s) (all_sides s) (Eased-timers g p s)
 
 pub time-expired : (g : Settings) (p : Past) (s : Plain) (e : SideId) → (side_at (time_passed g p s) e).expired ≡ true →
     ((side_at s e).expired ≡ true) ⊎ IsLate g p s e

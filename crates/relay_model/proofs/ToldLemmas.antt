@@ -141,13 +141,13 @@ fresh-still x s z placed h = go (is_freeing x z) refl
 put-side : (g : Settings) (t : Trace) (x : Stage) (s : Plain) (y : Event) (after : Stage) (new : Plain) → Effect g x s y after new
     → Placed after new → (z : SideId) → z.link < new.opened →
     (s.opened ≤ z.link → list_any (names z) t ≡ false) → (z.link < s.opened → SideTold t x s z) → (z.link < s.opened) ⊎
-        (s.opened ≤ z.link) → SideTold (t ++ y ∷ []) after new z
+    (s.opened ≤ z.link) → SideTold (t ++ y ∷ []) after new z
 put-side g t x s y after new k placed z lt none told (inl l) = side-push g t x s y after new k z l (told l)
 put-side g t x s y after new k placed z lt none told (inr ge) =
     let came = k.came z ge lt in
     let other : names z y ≡ false = go (names z y) refl in
     unnamed (t ++ y ∷ []) after new z (list_any-push (names z) t y ∙ or_from (list_any (names z) t) (names z y) (none ge) other)
-        (fresh-still after new z placed came) came
+    (fresh-still after new z placed came) came
   where
     go : (q : Bool) → names z y ≡ q → names z y ≡ false
     go false e = e
@@ -161,10 +161,10 @@ put-kept g t x s e bytes new h put =
     let more = grows s.opened new.plain.opened (is_opened (e, bytes)) k.opened in
     let placed : Placed new.stage new.plain = put-placed g t x s e bytes new c.shape.sides h.placed put in
     let told : (z : SideId) → z.link < new.plain.opened → (z.link < s.opened) ⊎ (s.opened ≤ z.link) → SideTold
-        (t ++ (e, bytes) ∷ []) new.stage new.plain z =
+    (t ++ (e, bytes) ∷ []) new.stage new.plain z =
     λ z lt o. put-side g t x s (e, bytes) new.stage new.plain k placed z lt (c.named z) (h.each z) o in
     let named : (z : SideId) → new.plain.opened ≤ z.link → list_any (names z) (t ++ (e, bytes) ∷ []) ≡ false = λ z. named-push t
-        (e, bytes) s.opened new.plain.opened z more (k.named z) (c.named z) in
+    (e, bytes) s.opened new.plain.opened z more (k.named z) (c.named z) in
     record {
       counts = record {
         shape = record {
@@ -224,8 +224,12 @@ quiet-kept g t x s new h quiet =
 
 pub kept : (g : Settings) (t : Trace) (s : State) → Reaches g t s → Kept g t s.stage s.plain
 kept g t s (Reaches.begins) = record {
-  counts = record { shape = record { time = refl; turn = refl; opened = refl; sides = refl; flows = refl }; latest = omega arith;
-      links = omega arith; named = λ z le. refl };
+  counts = record {
+    shape = record { time = refl; turn = refl; opened = refl; sides = refl; flows = refl };
+    latest = omega arith;
+    links = omega arith;
+    named = λ z le. refl;
+  };
   each = λ z lt. absurd (omega arith);
   placed = tt;
 }

@@ -101,7 +101,7 @@ quiet-parts g t (Passing [] (e ∷ es)) s new parts (inr h) = subst (λ z. Parts
 quiet-parts g t (Passing (x ∷ xs) (e ∷ es)) s new parts h =
     subst (λ z. PartsLive z.stage z.plain) (sym h)
     (parts-same s (do_part g (past g t) e x s) e
-        (ap (λ z. z.live) (Keeps-side but_bad s (do_part g (past g t) e x s) e (do_part-keeps g (past g t) e x s))) xs parts.1)
+    (ap (λ z. z.live) (Keeps-side but_bad s (do_part g (past g t) e x s) e (do_part-keeps g (past g t) e x s))) xs parts.1)
 quiet-parts g t (Passing [] []) s new parts h = subst (λ z. PartsLive z.stage z.plain) (sym h) tt
 quiet-parts g t (Closing (c ∷ cs)) s new parts h = subst (λ z. PartsLive z.stage z.plain) (sym h.1) tt
 quiet-parts g t (Closing []) s new parts h = subst (λ z. PartsLive z.stage z.plain) (sym h) tt
@@ -170,14 +170,21 @@ done-moved : (r w : Filter) (xs : List ℕ) (hold : ℕ) (f : Flow) → (with_wr
 done-moved r w xs hold f = ap (λ z. z.moved) (done-stations r w xs hold f)
 
 runs-moved : RunsKeep (λ f. f.moved)
-runs-moved = record { held = λ r w xs hold f. refl; used = λ r xs mark f. refl; read_done = λ r xs mark ended f. refl; turned =
-    turned-moved; write_done = done-moved }
+runs-moved = record {
+  held = λ r w xs hold f. refl;
+  used = λ r xs mark f. refl;
+  read_done = λ r xs mark ended f. refl;
+  turned =
+      turned-moved;
+  write_done = done-moved;
+}
 
 turned-given : (r w : Filter) (xs : List ℕ) (hold : ℕ) (f : Flow) → (with_turned r w xs hold f).given ≡ f.given
 turned-given r w xs hold f = go f.held
   where
-    go : (b : Bool) → (if b then f else record f { turned = first_from (write_stops r w xs hold f) f.turned (f.moved - f.turned)
-        }).given ≡ f.given
+    go : (b : Bool) → (if b then f else record f {
+      turned = first_from (write_stops r w xs hold f) f.turned (f.moved - f.turned);
+    }).given ≡ f.given
     go true = refl
     go false = refl
 
@@ -199,8 +206,14 @@ moved-given r xs f = go (not f.held && length (output r xs f) == 0)
     go false = refl
 
 runs-given : RunsKeep (λ f. f.given)
-runs-given = record { held = λ r w xs hold f. refl; used = λ r xs mark f. refl; read_done = λ r xs mark ended f. refl; turned =
-    turned-given; write_done = done-given }
+runs-given = record {
+  held = λ r w xs hold f. refl;
+  used = λ r xs mark f. refl;
+  read_done = λ r xs mark ended f. refl;
+  turned =
+      turned-given;
+  write_done = done-given;
+}
 
 module _ (v : Flow → ℕ) (k : RunsKeep v) (g : Settings) (p : Past) (e : SideId) where
   read_run-kept : (s : Plain) (ended : Bool) (z : SideId) → v (flow_at (read_run g p e ended s) z) ≡ v (flow_at s z)
@@ -219,14 +232,14 @@ module _ (v : Flow → ℕ) (k : RunsKeep v) (g : Settings) (p : Past) (e : Side
   read-kept s z =
       let ran : Plain = read_run g p e (side_at s e).ended s in
       set-seen v ran.flows (number e) _ no_flow (k.read_done (read_filter g s e) (p.read e) (read_mark s e) (side_at s e).ended
-          (flow_at ran e)) (number z)
+      (flow_at ran e)) (number z)
       ∙ read_run-kept s (side_at s e).ended z
 
   write-kept : (s : Plain) (z : SideId) → v (flow_at (do_part g p e Part.Write s) z) ≡ v (flow_at s z)
   write-kept s z =
       let ran : Plain = write_run g p e true s in
       set-seen v ran.flows (number e) _ no_flow (k.write_done (read_filter g s e) (write_filter g s (peer e)) (p.read e)
-          (hold_mark g s (peer e)) (flow_at ran e)) (number z)
+      (hold_mark g s (peer e)) (flow_at ran e)) (number z)
       ∙ write_run-kept s true z
 
   got-kept : (s : Plain) (z : SideId) → v (flow_at (after_got g p e s) z) ≡ v (flow_at s z)
@@ -296,15 +309,26 @@ one-told gone e n = go (same_end gone e) refl
 
 closed-told : (g : Settings) (p : Past) (s : Plain) (c : CloseStep) (y : Entry) (e : SideId) → ClosedKind g p s c y →
     AllAre (flow_at s e).moved (told_moved_by e (y, [])) × AllAre (flow_at s (peer e)).given (told_given_by e (y, []))
-closed-told g p s c y e (ClosedKind.faulty {z = z} a b) = (one-told z e (λ v. (flow_at s v).moved), one-told z e
-    (λ v. (flow_at s (peer v)).given))
+closed-told g p s c y e (ClosedKind.faulty {z = z} a b) = (
+  one-told z e (λ v. (flow_at s v).moved),
+  one-told z e
+      (λ v. (flow_at s (peer v)).given),
+)
 closed-told g p s c y e (ClosedKind.write_ended a b) = (none-told _ [] refl, none-told _ [] refl)
-closed-told g p s c y e (ClosedKind.in_done {k = k} a b d f) = (one-told (record { link = k; side = In }) e
-    (λ v. (flow_at s v).moved), one-told (record { link = k; side = In }) e (λ v. (flow_at s (peer v)).given))
-closed-told g p s c y e (ClosedKind.out_done {k = k}) = (one-told (record { link = k; side = Out }) e (λ v. (flow_at s v).moved),
-    one-told (record { link = k; side = Out }) e (λ v. (flow_at s (peer v)).given))
-closed-told g p s c y e (ClosedKind.peer_gone {z = z} a b d) = (one-told z e (λ v. (flow_at s v).moved), one-told z e
-    (λ v. (flow_at s (peer v)).given))
+closed-told g p s c y e (ClosedKind.in_done {k = k} a b d f) = (
+  one-told (record { link = k; side = In }) e
+      (λ v. (flow_at s v).moved),
+  one-told (record { link = k; side = In }) e (λ v. (flow_at s (peer v)).given),
+)
+closed-told g p s c y e (ClosedKind.out_done {k = k}) = (
+  one-told (record { link = k; side = Out }) e (λ v. (flow_at s v).moved),
+  one-told (record { link = k; side = Out }) e (λ v. (flow_at s (peer v)).given),
+)
+closed-told g p s c y e (ClosedKind.peer_gone {z = z} a b d) = (
+  one-told z e (λ v. (flow_at s v).moved),
+  one-told z e
+      (λ v. (flow_at s (peer v)).given),
+)
 closed-told g p s c y e (ClosedKind.shut a b) = (none-told _ [] refl, none-told _ [] refl)
 
 pub put-told : (g : Settings) (t : Trace) (s : Plain) (x : Stage) (y : Event) (new : State) (e : SideId) → PutKind g t s x y new →
@@ -321,8 +345,11 @@ put-told g t s x y new e (PutKind.written a b c) = (none-told _ [] refl, none-to
 put-told g t s x y new e (PutKind.fired a) = (none-told _ [] refl, none-told _ [] refl)
 put-told g t s x y new e (PutKind.frees a same) = (none-told _ [] refl, none-told _ [] refl)
 put-told g t s x y new e (PutKind.asked same m l) = (none-told _ [] refl, none-told _ [] refl)
-put-told g t s x y new e (PutKind.recorded {gone = z}) = (one-told z e (λ v. (flow_at s v).moved), one-told z e
-    (λ v. (flow_at s (peer v)).given))
+put-told g t s x y new e (PutKind.recorded {gone = z}) = (
+  one-told z e (λ v. (flow_at s v).moved),
+  one-told z e
+      (λ v. (flow_at s (peer v)).given),
+)
 put-told g t s x y new e (PutKind.closed {c = c} {e = y1} a) = closed-told g (past g t) s c y1 e (closed-kind g (past g t) s c y1 a)
 
 -- what was given to a side stays, or the side lives and its end takes some
@@ -348,11 +375,11 @@ written-given g p s side (write.Took n) e live = go (same_end side e) refl
     go false q = inr (
         ap (λ flows. (slice_index_or flows (number (peer e)) no_flow).given) (ap (λ z. z.flows) (raised_write g p side before).1)
         ∙ ap (λ f. f.given) (get_or-set_other s.flows (number (peer side)) (number (peer e)) x no_flow
-            (number-apart (peer e) (peer side) (apart q (same_end (peer e) (peer side)) refl))))
+        (number-apart (peer e) (peer side) (apart q (same_end (peer e) (peer side)) refl))))
 written-given g p s side write.NotYet e live = inr refl
 written-given g p s side write.Failed e live =
     inr (ap (λ flows. (slice_index_or flows (number (peer e)) no_flow).given) (ap (λ z. z.flows)
-        (raised g side (happened dir.Write error_flag) (change_side side (λ x. record x { failed = true; writes = false }) s)).1))
+    (raised g side (happened dir.Write error_flag) (change_side side (λ x. record x { failed = true; writes = false }) s)).1))
 written-given g p s side write.NoMemory e live = inr refl
 
 flows-given : {xs ys : List Flow} → ys ≡ xs → (e : SideId) → (slice_index_or ys (number e) no_flow).given ≡
@@ -376,7 +403,7 @@ put-given g t s x y new e (PutKind.written {side = side} {answer = answer} a b c
   where
     go : (is_live s e ≡ true) ⊎ ((flow_at (after_write g (past g t) side answer s) (peer e)).given ≡ (flow_at s (peer e)).given) →
         ((is_live s e ≡ true) × (false ≡ false)) ⊎ ((flow_at (after_write g (past g t) side answer s) (peer e)).given ≡
-            (flow_at s (peer e)).given)
+        (flow_at s (peer e)).given)
     go (inl k) = inl (k, refl)
     go (inr k) = inr k
 put-given g t s x y new e (PutKind.fired a) = inr refl
@@ -393,7 +420,7 @@ put-free_told g t s x y new e unfreed k h = record {
   moved =
       subst (λ n. AllAre n (moved_at_free e (t ++ y ∷ []))) (sym (ap (λ z. z.moved) (put-stations g t s x y new k e)))
       (subst (λ xs. AllAre (flow_at s e).moved xs) (sym (moved_at_free-push e t y)) (All-append
-          (λ told. told ≡ (flow_at s e).moved) (moved_at_free e t) (told_moved_by e y) h.moved (put-told g t s x y new e k).0));
+      (λ told. told ≡ (flow_at s e).moved) (moved_at_free e t) (told_moved_by e y) h.moved (put-told g t s x y new e k).0));
   given = go (put-given g t s x y new e k);
 }
   where
@@ -404,8 +431,8 @@ put-free_told g t s x y new e unfreed k h = record {
     go (inr a) =
         subst (λ n. AllAre n (given_at_free e (t ++ y ∷ []))) (sym a)
         (subst (λ xs. AllAre (flow_at s (peer e)).given xs) (sym (given_at_free-push e t y))
-            (All-append (λ told. told ≡ (flow_at s (peer e)).given) (given_at_free e t) (told_given_by e y) h.given
-            (put-told g t s x y new e k).1))
+        (All-append (λ told. told ≡ (flow_at s (peer e)).given) (given_at_free e t) (told_given_by e y) h.given
+        (put-told g t s x y new e k).1))
 
 quiet-free_told : (g : Settings) (t : Trace) (s : Plain) (x : Stage) (new : State) (e : SideId) →
     (is_live s e ≡ true → is_freed e t ≡ false) → PartsLive x s → QuietKind g t s x new → FreesTell t s e → FreesTell t new.plain e
@@ -428,11 +455,11 @@ frees-told : (g : Settings) (t : Trace) (s : State) (e : SideId) → Reaches g t
 frees-told g t s e (Reaches.begins) = record { moved = none-told _ [] refl; given = none-told _ [] refl }
 frees-told g t new e (Reaches.goes {t = u} {s = old} r h) =
     quiet-free_told g u old.plain old.stage new e (live-unfreed g u old.stage old.plain (kept g u old r) e) (parts-live g u old r)
-        (quiet-kind g u old.stage old.plain new h) (frees-told g u old e r)
+    (quiet-kind g u old.stage old.plain new h) (frees-told g u old e r)
 frees-told g t new e (Reaches.puts {t = u} {s = old} y bytes r h) =
     let c = kept g u old r in
     put-free_told g u old.plain old.stage (y, bytes) new e (live-unfreed g u old.stage old.plain c e)
-        (put-kind g u old.stage old.plain y bytes new c.placed h) (frees-told g u old e r)
+    (put-kind g u old.stage old.plain y bytes new c.placed h) (frees-told g u old e r)
 
 pub frees_tell_totals : FreesTellTotals
 frees_tell_totals g t x s e r = frees-told g t (record { stage = x; plain = s }) e r

@@ -161,8 +161,15 @@ taken n s = after_write held_at_four ten (out_of 0) (write.Took n) s
 abbrev first_offer : Plain
 first_offer = passed (after_got held_at_four ten (in_of 0) (opened_with held_at_four))
 
-hold-fills_to_the_mark : flow_at first_offer (in_of 0) ≡ record { used = 10; moved = 10; turned = 4; given = 0; read_done = false;
-    write_done = false; held = true }
+hold-fills_to_the_mark : flow_at first_offer (in_of 0) ≡ record {
+  used = 10;
+  moved = 10;
+  turned = 4;
+  given = 0;
+  read_done = false;
+  write_done = false;
+  held = true;
+}
 hold-fills_to_the_mark = refl
 
 hold-first_offer : write_room held_at_four ten first_offer (out_of 0) ≡ 4

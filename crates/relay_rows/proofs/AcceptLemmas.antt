@@ -21,8 +21,11 @@ rests-went g t h =
 pub rests-stopped : (link : ℕ) (g : Settings) (t : Trace) → stage_after g t ≡ Some (Stage.Over (Halt.StoppedBy link)) → IsStoppedBy link g t
 rests-stopped link g t h =
     let w = stage_after-is g t (Stage.Over (Halt.StoppedBy link)) h in
-    record { replayed = is_replayed g t (replay g t) (Stage.Over (Halt.StoppedBy link)) h; legal =
-        (Stage.Over (Halt.StoppedBy link), w.0, w.1, refl) }
+    record {
+      replayed = is_replayed g t (replay g t) (Stage.Over (Halt.StoppedBy link)) h;
+      legal =
+          (Stage.Over (Halt.StoppedBy link), w.0, w.1, refl);
+    }
 
 pub rests-failed : (g : Settings) (t : Trace) → stage_after g t ≡ Some (Stage.Over Halt.PollFailed) → FailsToPoll g t
 rests-failed g t h =

@@ -36,9 +36,13 @@ last_put : (g : Settings) (u : Trace) (s : State) → Reaches g u s → (t : Tra
 last_put g _ _ Reaches.begins t e h = absurd (not_empty t e h)
 last_put g u _ (Reaches.goes {s = old} r q) t e h = last_put g u old r t e h
 last_put g _ new (Reaches.puts {t = u} {s = old} x bytes r q) t e h =
-    let same = ends_alike u t (x, bytes) e h in
-    (old, new, subst (λ v. Reaches g v old) same.0 r, subst (λ v. Puts g v old.stage old.plain e.0 e.1 new) same.0
-        (subst (λ y. Puts g u old.stage old.plain y.0 y.1 new) same.1 q))
+    let same = ends_alike u t (x, bytes) e h in (
+      old,
+      new,
+      subst (λ v. Reaches g v old) same.0 r,
+      subst (λ v. Puts g v old.stage old.plain e.0 e.1 new) same.0
+          (subst (λ y. Puts g u old.stage old.plain y.0 y.1 new) same.1 q),
+    )
 
 -- marks rise in every state that is reached
 reaches-rise : (g : Settings) (t : Trace) (s : State) → Reaches g t s → Rise 0 (unmarked s.stage)
@@ -88,7 +92,7 @@ replay_from-more (c ∷ es) g t x mid a e h q = found (step g t x c) refl (λ ne
   where
     found : (o : Option State) → step g t x c ≡ o →
         ((new : State) → replay_from g (t ++ c ∷ []) new es ≡ Some mid → step g ((t ++ c ∷ []) ++ es) mid e ≡ Some a → replay_from
-            g (t ++ c ∷ []) new (es ++ e ∷ []) ≡ Some a) →
+        g (t ++ c ∷ []) new (es ++ e ∷ []) ≡ Some a) →
         elim o [ Some new ↦ replay_from g (t ++ c ∷ []) new es | None ↦ None ] ≡ Some mid → replay_from g t x (c ∷ es ++ e ∷ []) ≡ Some a
     found None w more h = absurd (cc)
     found (Some new) w more h =

@@ -154,9 +154,14 @@ rise-filter keeps n (w ∷ ws) h =
 
 rise-sides : (g : Settings) (p : Past) (s : Plain) (n k : ℕ) → Rise (2 * k) (map (want_of g p s) (sides_from k n))
 rise-sides g p s zero k = tt
-rise-sides g p s (suc n) k =
-    (omega arith, (omega arith, rise-weaken (2 * k + 1 + 1) (2 * (k + 1)) (map (want_of g p s) (sides_from (k + 1) n))
-        (omega arith) (rise-sides g p s n (k + 1))))
+rise-sides g p s (suc n) k = (
+  omega arith,
+  (
+    omega arith,
+    rise-weaken (2 * k + 1 + 1) (2 * (k + 1)) (map (want_of g p s) (sides_from (k + 1) n))
+        (omega arith) (rise-sides g p s n (k + 1)),
+  ),
+)
 
 pub wanted-rise : (g : Settings) (p : Past) (s : Plain) → Rise 0 (wanted g p s)
 wanted-rise g p s = rise-filter (λ w. w.read || w.write) 0 (map (want_of g p s) (all_sides s)) (rise-sides g p s s.opened 0)

@@ -101,7 +101,7 @@ closing-refl : (e : Entry) → is_closing e ≡ true → same_end_of e e ≡ tru
 closing-refl (entry.Freed a b c d) h =
     and_from (same_end a a && same_cause b b && c == c) (d == d)
     (and_from (same_end a a && same_cause b b) (c == c) (and_from (same_end a a) (same_cause b b) (end-refl a) (cause-refl b))
-        (eq-eqb c c refl))
+    (eq-eqb c c refl))
     (eq-eqb d d refl)
 closing-refl (entry.CloseWrite a) h = end-refl a
 closing-refl (entry.Close a) h = end-refl a
@@ -177,9 +177,9 @@ from_answered None g p s a answer new (inr h) = ap (answered None g p s a) h.0 �
 module _ (g : Settings) (t : Trace) (s : Plain) (bytes : List ℕ) (new : State) where
   asked_from : (test : Bool) (x : Fire) (rs : List (SideId × Why)) (a : Act) (answer : AskAnswer) (after : Plain) → test ≡ true →
       answered (refusal g s a) g (past g t) s a answer ≡ Some after → new ≡ at (after_ask (record x { asks = x.asks + 1 }) rs a
-          answer) after →
+      answer) after →
       (if test then option_map (at (after_ask (record x { asks = x.asks + 1 }) rs a answer))
-          (answered (refusal g s a) g (past g t) s a answer) else None) ≡ Some new
+      (answered (refusal g s a) g (past g t) s a answer) else None) ≡ Some new
   asked_from true x rs a answer after h e q = ap (option_map (at (after_ask (record x { asks = x.asks + 1 }) rs a answer))) e ∙ ap
       Some (sym q)
   asked_from false x rs a answer after h e q = absurd (cc)
@@ -187,8 +187,11 @@ module _ (g : Settings) (t : Trace) (s : Plain) (bytes : List ℕ) (new : State)
   closing_from : (c : CloseStep) (cs : List CloseStep) (e : Entry) → closing_entry g (past g t) s c ≡ Some e → bytes ≡ [] →
       new ≡ at (Closing (steps_left c cs)) (closed_by c s) → put g t (Closing (c ∷ cs)) s e bytes ≡ Some new
   closing_from c cs e h none q =
-      ap (λ due. elim due [ Some x ↦ provided (same_end_of x e && is_empty bytes) (at (Closing (steps_left c cs))
-          (closed_by c s)) | None ↦ None ]) h
+      ap (λ due. elim due [
+        | Some x ↦ provided (same_end_of x e && is_empty bytes) (at (Closing (steps_left c cs))
+            (closed_by c s))
+        | None ↦ None
+      ]) h
       ∙ provided-from (same_end_of e e && is_empty bytes) (at (Closing (steps_left c cs)) (closed_by c s)) new
       (and_from (same_end_of e e) (is_empty bytes) (closing-refl e (closing_entry-is g (past g t) s c e h)) (from_empty bytes none)) q
 
@@ -202,7 +205,7 @@ put-from g t (Wanting (w ∷ ws)) s (entry.Want side read write) bytes new h =
     provided-from _ _ new
     (and_from _ _
     (and_from _ _ (and_from _ _ (from_end w.side side (ap (λ x. x.side) h.0)) (from_flag w.read read (ap (λ x. x.read) h.0)))
-        (from_flag w.write write (ap (λ x. x.write) h.0)))
+    (from_flag w.write write (ap (λ x. x.write) h.0)))
     (from_empty bytes h.1))
     h.2
 put-from g t (Wanting []) s entry.PollFailed bytes new h = provided-from _ _ new (from_empty bytes h.0) h.1
@@ -211,20 +214,20 @@ put-from g t (Marking (w ∷ ws) marks) s (entry.Ready side read write) bytes ne
 put-from g t (Accepting n marks) s (entry.Opened link connected) bytes new h =
     provided-from _ _ new
     (and_from _ _ (and_from _ _ (and_from _ _ (eq-eqb link s.opened h.0) (lt-ltb n most_opened h.1)) (lt-ltb link g.links h.2))
-        (from_empty bytes h.3)) h.4
+    (from_empty bytes h.3)) h.4
 put-from g t (Serving (m ∷ ms)) s (entry.Conn side answer) bytes new h =
     provided-from _ _ new (and_from _ _ (and_from _ _ (from_end side m.side h.0) (from_connect (call_for g (past g t) s m) h.1))
-        (from_empty bytes h.2)) h.3
+    (from_empty bytes h.2)) h.3
 put-from g t (Serving (m ∷ ms)) s (entry.Read side room answer) bytes new h =
     provided-from _ _ new (and_from _ _ (and_from _ _ (from_end side m.side h.0) (from_read room (call_for g (past g t) s m) h.1))
-        (from_got answer room bytes h.2)) h.3
+    (from_got answer room bytes h.2)) h.3
 put-from g t (Serving (m ∷ ms)) s (entry.Write side offered answer) bytes new h =
     provided-from _ _ new (and_from _ _ (and_from _ _ (from_end side m.side h.0) (from_write offered (call_for g (past g t) s m)
-        h.1)) (from_took answer offered bytes h.2)) h.3
+    h.1)) (from_took answer offered bytes h.2)) h.3
 put-from g t (Dispatching (r ∷ rs)) s (entry.Fired side y) bytes new h =
     provided-from _ _ new
     (and_from _ _ (and_from _ _ (and_from _ _ (from_end r.0 side (ap (λ x. x.0) h.0)) (from_why r.1 y (ap (λ x. x.1) h.0))) h.1)
-        (from_empty bytes h.2)) h.3
+    (from_empty bytes h.2)) h.3
 put-from g t (Firing x rs) s (entry.Asked side a answer) bytes new h =
     asked_from g t s bytes new _ x rs a answer h.3
     (and_from _ _ (and_from _ _ (from_end side x.side h.0) (lt-ltb x.asks most_asks h.1)) (from_empty bytes h.2))
@@ -232,6 +235,6 @@ put-from g t (Firing x rs) s (entry.Asked side a answer) bytes new h =
 put-from g t (Freeing gone x rs) s e bytes new h =
     provided-from _ _ new
     (and_from _ _ (ap (λ y. same_end_of y (freed_entry s gone cause.Hook)) h.0 ∙ closing-refl (freed_entry s gone cause.Hook) refl)
-        (from_empty bytes h.1)) h.2
+    (from_empty bytes h.1)) h.2
 put-from g t (Closing (c ∷ cs)) s e bytes new h = closing_from g t s bytes new c cs e h.0 h.1 h.2
 put-from g t _ s _ bytes new h = absurd h

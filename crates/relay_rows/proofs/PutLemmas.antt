@@ -98,7 +98,7 @@ module _ (g : Settings) (t : Trace) (s : Plain) where
       (entry.Turn ms) bytes new
   turn-is ms bytes new h =
       let w = provided-is (nat_le s.time ms && nat_le ms latest && is_empty bytes) (at Polling
-          (time_passed g (past g (t ++ (entry.Turn ms, []) ∷ [])) (turned_to ms s))) new h in
+      (time_passed g (past g (t ++ (entry.Turn ms, []) ∷ [])) (turned_to ms s))) new h in
       let p = and_parts (nat_le s.time ms && nat_le ms latest) (is_empty bytes) w.0 in
       let q = and_parts (nat_le s.time ms) (nat_le ms latest) p.0 in
       (leb-true s.time ms q.0, leb-true ms latest q.1, is_empty-is bytes p.1, w.1)
@@ -107,16 +107,16 @@ module _ (g : Settings) (t : Trace) (s : Plain) where
       t Polling s (entry.Poll timeout) bytes new
   poll-is timeout bytes new h =
       let w = provided-is (same_number timeout (poll_timeout g (past g t) s) && is_empty bytes)
-          (at (Wanting (wanted g (past g t) s)) s) new h in
+      (at (Wanting (wanted g (past g t) s)) s) new h in
       let p = and_parts (same_number timeout (poll_timeout g (past g t) s)) (is_empty bytes) w.0 in
       (same_number-is timeout (poll_timeout g (past g t) s) p.0, is_empty-is bytes p.1, w.1)
 
   want-is : (w : Want) (ws : List Want) (side : SideId) (read write : Bool) (bytes : List ℕ) (new : State) →
       put g t (Wanting (w ∷ ws)) s (entry.Want side read write) bytes ≡ Some new → Puts g t (Wanting (w ∷ ws)) s
-          (entry.Want side read write) bytes new
+      (entry.Want side read write) bytes new
   want-is w ws side read write bytes new h =
       let x = provided-is (same_end w.side side && same_flag w.read read && same_flag w.write write && is_empty bytes)
-          (at (Wanting ws) s) new h in
+      (at (Wanting ws) s) new h in
       let p = and_parts (same_end w.side side && same_flag w.read read && same_flag w.write write) (is_empty bytes) x.0 in
       let q = and_parts (same_end w.side side && same_flag w.read read) (same_flag w.write write) p.0 in
       let r = and_parts (same_end w.side side) (same_flag w.read read) q.0 in
@@ -131,20 +131,20 @@ module _ (g : Settings) (t : Trace) (s : Plain) where
 
   ready-is : (w : Want) (ws marks : List Want) (side : SideId) (read write : Bool) (bytes : List ℕ) (new : State) →
       put g t (Marking (w ∷ ws) marks) s (entry.Ready side read write) bytes ≡ Some new → Puts g t (Marking (w ∷ ws) marks) s
-          (entry.Ready side read write) bytes new
+      (entry.Ready side read write) bytes new
   ready-is w ws marks side read write bytes new h =
       let x = provided-is (same_end side w.side && is_part_of read write w && is_empty bytes)
-          (at (Marking ws (marks ++ record { side = side; read = read; write = write } ∷ [])) s) new h in
+      (at (Marking ws (marks ++ record { side = side; read = read; write = write } ∷ [])) s) new h in
       let p = and_parts (same_end side w.side && is_part_of read write w) (is_empty bytes) x.0 in
       let q = and_parts (same_end side w.side) (is_part_of read write w) p.0 in
       (same_end-is side w.side q.0, is_part_of-is read write w q.1, is_empty-is bytes p.1, x.1)
 
   opened-is : (n : ℕ) (marks : List Want) (link : ℕ) (connected : Bool) (bytes : List ℕ) (new : State) →
       put g t (Accepting n marks) s (entry.Opened link connected) bytes ≡ Some new → Puts g t (Accepting n marks) s
-          (entry.Opened link connected) bytes new
+      (entry.Opened link connected) bytes new
   opened-is n marks link connected bytes new h =
       let x = provided-is (link == s.opened && nat_lt n most_opened && nat_lt link g.links && is_empty bytes)
-          (at (Accepting (n + 1) marks) (with_link g connected s)) new h in
+      (at (Accepting (n + 1) marks) (with_link g connected s)) new h in
       let p = and_parts (link == s.opened && nat_lt n most_opened && nat_lt link g.links) (is_empty bytes) x.0 in
       let q = and_parts (link == s.opened && nat_lt n most_opened) (nat_lt link g.links) p.0 in
       let r = and_parts (link == s.opened) (nat_lt n most_opened) q.0 in
@@ -152,37 +152,37 @@ module _ (g : Settings) (t : Trace) (s : Plain) where
 
   conn-is : (m : Want) (ms : List Want) (side : SideId) (answer : ConnAnswer) (bytes : List ℕ) (new : State) →
       put g t (Serving (m ∷ ms)) s (entry.Conn side answer) bytes ≡ Some new → Puts g t (Serving (m ∷ ms)) s
-          (entry.Conn side answer) bytes new
+      (entry.Conn side answer) bytes new
   conn-is m ms side answer bytes new h =
       let x = provided-is (same_end side m.side && asks_connect (call_for g (past g t) s m) && is_empty bytes)
-          (at (Serving (marks_left s m ms)) (after_conn g side answer s)) new h in
+      (at (Serving (marks_left s m ms)) (after_conn g side answer s)) new h in
       let p = and_parts (same_end side m.side && asks_connect (call_for g (past g t) s m)) (is_empty bytes) x.0 in
       let q = and_parts (same_end side m.side) (asks_connect (call_for g (past g t) s m)) p.0 in
       (same_end-is side m.side q.0, asks_connect-is (call_for g (past g t) s m) q.1, is_empty-is bytes p.1, x.1)
 
   read-is : (m : Want) (ms : List Want) (side : SideId) (room : ℕ) (answer : ReadAnswer) (bytes : List ℕ) (new : State) →
       put g t (Serving (m ∷ ms)) s (entry.Read side room answer) bytes ≡ Some new → Puts g t (Serving (m ∷ ms)) s
-          (entry.Read side room answer) bytes new
+      (entry.Read side room answer) bytes new
   read-is m ms side room answer bytes new h =
       let x = provided-is (same_end side m.side && asks_read room (call_for g (past g t) s m) && carries_got answer room bytes)
-          (at (after_reading side answer (marks_left s m ms)) (after_read g side answer s)) new h in
+      (at (after_reading side answer (marks_left s m ms)) (after_read g side answer s)) new h in
       let p = and_parts (same_end side m.side && asks_read room (call_for g (past g t) s m)) (carries_got answer room bytes) x.0 in
       let q = and_parts (same_end side m.side) (asks_read room (call_for g (past g t) s m)) p.0 in
       (same_end-is side m.side q.0, asks_read-is room (call_for g (past g t) s m) q.1, carries_got-is answer room bytes p.1, x.1)
 
   write-is : (m : Want) (ms : List Want) (side : SideId) (offered : ℕ) (answer : WriteAnswer) (bytes : List ℕ) (new : State) →
       put g t (Serving (m ∷ ms)) s (entry.Write side offered answer) bytes ≡ Some new → Puts g t (Serving (m ∷ ms)) s
-          (entry.Write side offered answer) bytes new
+      (entry.Write side offered answer) bytes new
   write-is m ms side offered answer bytes new h =
       let x = provided-is (same_end side m.side && asks_write offered (call_for g (past g t) s m) && carries_took answer offered
-          bytes) (at (Serving (marks_left s m ms)) (after_write g (past g t) side answer s)) new h in
+      bytes) (at (Serving (marks_left s m ms)) (after_write g (past g t) side answer s)) new h in
       let p = and_parts (same_end side m.side && asks_write offered (call_for g (past g t) s m)) (carries_took answer offered bytes) x.0 in
       let q = and_parts (same_end side m.side) (asks_write offered (call_for g (past g t) s m)) p.0 in
       (same_end-is side m.side q.0, asks_write-is offered (call_for g (past g t) s m) q.1, carries_took-is answer offered bytes p.1, x.1)
 
   fired-is : (r : Reason) (rs : List Reason) (side : SideId) (y : Why) (bytes : List ℕ) (new : State) →
       put g t (Dispatching (r ∷ rs)) s (entry.Fired side y) bytes ≡ Some new → Puts g t (Dispatching (r ∷ rs)) s
-          (entry.Fired side y) bytes new
+      (entry.Fired side y) bytes new
   fired-is r rs side y bytes new h =
       let x = provided-is (same_end r.0 side && same_why r.1 y && is_live s side && is_empty bytes) (at (Firing (begun side) rs) s) new h in
       let p = and_parts (same_end r.0 side && same_why r.1 y && is_live s side) (is_empty bytes) x.0 in
@@ -195,16 +195,16 @@ module _ (g : Settings) (t : Trace) (s : Plain) where
   asked_from : (x : Fire) (rs : List Reason) (side : SideId) (a : Act) (answer : AskAnswer) (bytes : List ℕ) (new : State)
       (after : Option Plain) →
       answered (refusal g s a) g (past g t) s a answer ≡ after → option_map
-          (at (after_ask (record x { asks = x.asks + 1 }) rs a answer)) after ≡ Some new →
+      (at (after_ask (record x { asks = x.asks + 1 }) rs a answer)) after ≡ Some new →
       (mid : Plain) × Ask g (past g t) s a answer mid × (new ≡ at (after_ask (record x { asks = x.asks + 1 }) rs a answer) mid)
   asked_from x rs side a answer bytes new None e h = absurd (cc)
   asked_from x rs side a answer bytes new (Some mid) e h = (mid, answered-is (refusal g s a) g (past g t) s a answer mid e, cc)
 
   asked_at : (test : Bool) (x : Fire) (rs : List Reason) (side : SideId) (a : Act) (answer : AskAnswer) (bytes : List ℕ) (new : State) →
       (if test then option_map (at (after_ask (record x { asks = x.asks + 1 }) rs a answer))
-          (answered (refusal g s a) g (past g t) s a answer) else None) ≡ Some new →
+      (answered (refusal g s a) g (past g t) s a answer) else None) ≡ Some new →
       (test ≡ true) × (mid : Plain) × Ask g (past g t) s a answer mid ×
-          (new ≡ at (after_ask (record x { asks = x.asks + 1 }) rs a answer) mid)
+      (new ≡ at (after_ask (record x { asks = x.asks + 1 }) rs a answer) mid)
   asked_at true x rs side a answer bytes new h =
       let w = asked_from x rs side a answer bytes new (answered (refusal g s a) g (past g t) s a answer) refl h in
       (refl, w.0, w.1, w.2)
@@ -226,8 +226,11 @@ module _ (g : Settings) (t : Trace) (s : Plain) where
       (same_end_of-is e (freed_entry s gone cause.Hook) p.0, is_empty-is bytes p.1, w.1)
 
   closing_at : (due : Option Entry) (c : CloseStep) (cs : List CloseStep) (e : Entry) (bytes : List ℕ) (new : State) →
-      elim due [ Some x ↦ provided (same_end_of x e && is_empty bytes) (at (Closing (steps_left c cs)) (closed_by c s)) | None
-          ↦ None ] ≡ Some new →
+      elim due [
+        | Some x ↦ provided (same_end_of x e && is_empty bytes) (at (Closing (steps_left c cs)) (closed_by c s))
+        | None
+            ↦ None
+      ] ≡ Some new →
       (due ≡ Some e) × (bytes ≡ []) × (new ≡ at (Closing (steps_left c cs)) (closed_by c s))
   closing_at None c cs e bytes new h = absurd (cc)
   closing_at (Some x) c cs e bytes new h =

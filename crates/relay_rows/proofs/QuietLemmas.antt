@@ -58,14 +58,14 @@ module _ (g : Settings) (p : Past) (e : SideId) (s : Plain) where
   write_run-same : (may_end : Bool) →
       same_flow (with_turned (filter_in g p e s) (filter_out g p e s) (p.read e) (hold_of g p e s) (flow_at s e)) (flow_at s e) ≡ true →
       keeps_place (peer e) (write_place (filter_in g p e s) (filter_out g p e s) (p.read e) (hold_of g p e s) may_end
-          (flow_at s e)) s ≡ true →
+      (flow_at s e)) s ≡ true →
       write_run g p e may_end s ≡ s
   write_run-same may_end turned place =
       ap (λ ran. meets (peer e) (write_place (filter_in g p e s) (filter_out g p e s) (p.read e) (hold_of g p e s) may_end
-          (flow_at ran e)) ran)
+      (flow_at ran e)) ran)
       (goes-same e (with_turned (filter_in g p e s) (filter_out g p e s) (p.read e) (hold_of g p e s)) s turned)
       ∙ meets-same (peer e) (write_place (filter_in g p e s) (filter_out g p e s) (p.read e) (hold_of g p e s) may_end
-          (flow_at s e)) s place
+      (flow_at s e)) s place
 
   pub do_part-same : (x : Part) → leaves g p e s x ≡ true → do_part g p e x s ≡ s
   do_part-same Part.Hold h = goes-same e (with_held (filter_in g p e s) (filter_out g p e s) (p.read e) (hold_of g p e s)) s h
@@ -88,7 +88,7 @@ module _ (g : Settings) (p : Past) (e : SideId) (s : Plain) where
       let a = and_parts (turned && place) over h in
       let b = and_parts turned place a.0 in
       ap (λ ran. change_flow e (with_write_done (filter_in g p e s) (filter_out g p e s) (p.read e) (hold_of g p e s)) ran)
-          (write_run-same true b.0 b.1)
+      (write_run-same true b.0 b.1)
       ∙ goes-same e (with_write_done (filter_in g p e s) (filter_out g p e s) (p.read e) (hold_of g p e s)) s a.1
   do_part-same Part.Drain h =
       let f = flow_at s e in
@@ -129,7 +129,7 @@ quiet-is g t (Firing x rs) s new h = cc
 quiet-is g t (Dispatching []) s new h = cc
 quiet-is g t (Passing [] (e ∷ es)) s new h =
     passing_at (is_passed g (past g t) e s) (round g (past g t) e s ≡ s) (at (Passing [] es) s)
-        (at (Passing (round_parts g (past g t) e s) (e ∷ es)) s) new
+    (at (Passing (round_parts g (past g t) e s) (e ∷ es)) s) new
     (is_passed-is g (past g t) e s) h
 quiet-is g t (Passing (x ∷ xs) (e ∷ es)) s new h = cc
 quiet-is g t (Passing [] []) s new h = cc

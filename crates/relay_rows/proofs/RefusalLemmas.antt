@@ -37,7 +37,7 @@ other_turn : (g : Settings) (t : Trace) (e : SideId) (es : List SideId) (p : Pla
     (past g t) e p ≡ test →
     Quietly g t (Passing [] (e ∷ es)) p new →
     ((if test then Some (at (Passing [] es) p) else Some (at (Passing (round_parts g (past g t) e p) (e ∷ es)) p)) ≡ Some new) ⊎
-        Turns g t (Passing [] (e ∷ es)) p new
+    Turns g t (Passing [] (e ∷ es)) p new
 other_turn g t e es p new true q (inl h) = inl (ap Some (sym h.1))
 other_turn g t e es p new true q (inr h) = inr (inl (q, h))
 other_turn g t e es p new false q (inl h) = inr (inr (q, h.0))
@@ -54,7 +54,7 @@ quiet-from g t (Marking [] marks) p new h = inl (ap Some (sym h))
 quiet-from g t (Accepting n marks) p new h = inl (ap Some (sym h))
 quiet-from g t (Serving (m ∷ ms)) p new h =
     inl (provided-from (asks_nothing (call_for g (past g t) p m)) (at (Serving (marks_left p m ms)) p) new
-        (nothing_asked (call_for g (past g t) p m) h.0) h.1)
+    (nothing_asked (call_for g (past g t) p m) h.0) h.1)
 quiet-from g t (Filtering e ms) p new h = inl (ap Some (sym h))
 quiet-from g t (Serving []) p new h = inl (ap Some (sym h))
 quiet-from g t (Firing x rs) p new h = inl (ap Some (sym h))
@@ -81,14 +81,26 @@ module _ (g : Settings) (t : Trace) where
     step-next : (n : ℕ) (a b : State) → put g t a.stage a.plain e.0 e.1 ≡ None → quiet g t a.stage a.plain ≡ Some b → step_within
         (suc n) g t a e ≡ step_within n g t b e
     step-next n a b q h =
-        ap (λ o. elim o [ Some new ↦ Some new | None ↦ elim (quiet g t a.stage a.plain) [ Some new ↦ step_within n g t new e | None
-            ↦ None ] ]) q
+        ap (λ o. elim o [
+          | Some new ↦ Some new
+          | None ↦ elim (quiet g t a.stage a.plain) [
+            | Some new ↦ step_within n g t new e
+            | None
+                ↦ None
+          ]
+        ]) q
         ∙ ap (λ o. elim o [ Some new ↦ step_within n g t new e | None ↦ None ]) h
 
     step-here : (n : ℕ) (a new : State) → put g t a.stage a.plain e.0 e.1 ≡ Some new → step_within (suc n) g t a e ≡ Some new
     step-here n a new q =
-        ap (λ o. elim o [ Some new ↦ Some new | None ↦ elim (quiet g t a.stage a.plain) [ Some new ↦ step_within n g t new e | None
-            ↦ None ] ]) q
+        ap (λ o. elim o [
+          | Some new ↦ Some new
+          | None ↦ elim (quiet g t a.stage a.plain) [
+            | Some new ↦ step_within n g t new e
+            | None
+                ↦ None
+          ]
+        ]) q
 
     -- Within so many silent steps the relay comes to rest, or the event is put.
     abbrev pub Settles : ℕ → State → Type 0
@@ -111,7 +123,7 @@ module _ (g : Settings) (t : Trace) where
       settles-parts (x ∷ xs) zero p h = absurd (settles-zero (at (Passing (x ∷ xs) (c ∷ cs)) p) h)
       settles-parts (x ∷ xs) (suc n) p h =
           let w = settles-parts xs n (do_part g (past g t) c x p) (settles-next n (at (Passing (x ∷ xs) (c ∷ cs)) p)
-              (at (Passing xs (c ∷ cs)) (do_part g (past g t) c x p)) refl refl h) in
+          (at (Passing xs (c ∷ cs)) (do_part g (past g t) c x p)) refl refl h) in
           let le = w.1 in
           (w.0, omega arith, w.2)
 
@@ -122,7 +134,7 @@ module _ (g : Settings) (t : Trace) where
       settles-loop zero (suc n) p le no_pass same h = absurd (omega arith)
       settles-loop (suc most) (suc n) p le no_pass same h =
           let turn = ap (λ b. if b then Some (at (Passing [] cs) p) else Some (at (Passing (round_parts g (past g t) c p) (c ∷ cs))
-              p)) no_pass in
+          p)) no_pass in
           let w = settles-parts (round_parts g (past g t) c p) n p
           (settles-next n (at (Passing [] (c ∷ cs)) p) (at (Passing (round_parts g (past g t) c p) (c ∷ cs)) p) refl turn h) in
           let less = w.1 in
@@ -152,7 +164,7 @@ module _ (g : Settings) (t : Trace) where
           Settles n (at x p) → step_within n g t (at x p) e ≡ Some new
       agrees-turn most k n (Passing [] (c ∷ cs)) p b more le r (inl h) ahead settles =
           let w = past_parts c cs (round_parts g (past g t) c p) k p s h.0 (puts-rank g t s.stage s.plain e.0 e.1 new puts)
-              (subst (λ y. Ahead g t k y s) h.1 ahead) in
+          (subst (λ y. Ahead g t k y s) h.1 ahead) in
           let less = w.1 in
           more w.0 n (Passing [] (c ∷ cs)) p (omega arith) r w.2 settles
       agrees-turn most k n (Passing [] (c ∷ cs)) p b more le r (inr h) ahead settles =
@@ -162,7 +174,7 @@ module _ (g : Settings) (t : Trace) where
       agrees-next : (most k n : ℕ) (x : Stage) (p : Plain) (b : State) → Agrees most → k ≤ most → Rise 0 (unmarked x) → Quietly g t
           x p b → Ahead g t k b s →
           Settles (suc n) (at x p) → (o : Option State) → put g t x p e.0 e.1 ≡ o → (quiet g t x p ≡ Some b) ⊎ Turns g t x p b →
-              step_within (suc n) g t (at x p) e ≡ Some new
+          step_within (suc n) g t (at x p) e ≡ Some new
       agrees-next most k n x p b more le r q ahead settles (Some y) h follow =
           absurd (put_once g t p e.1 y b s new k ahead x e.0 r (put-is g t x p e.0 e.1 y h) q puts)
       agrees-next most k n x p b more le r q ahead settles None h (inl next) =
@@ -175,8 +187,8 @@ module _ (g : Settings) (t : Trace) where
       agrees most k zero x p le r ahead settles = absurd (settles-zero (at x p) settles)
       agrees most zero (suc n) x p le r ahead settles =
           step-here n (at x p) new (subst (λ u. put g t u.stage u.plain e.0 e.1 ≡ Some new) (sym ahead)
-              (put-from g t s.stage s.plain e.0 e.1 new puts))
+          (put-from g t s.stage s.plain e.0 e.1 new puts))
       agrees zero (suc k) (suc n) x p le r ahead settles = absurd (omega arith)
       agrees (suc most) (suc k) (suc n) x p le r ahead settles =
           agrees-next most k n x p ahead.0 (agrees most) (omega arith) r ahead.1 ahead.2 settles (put g t x p e.0 e.1) refl
-              (quiet-from g t x p ahead.0 ahead.1)
+          (quiet-from g t x p ahead.0 ahead.1)

@@ -22,14 +22,19 @@ step_within-is (suc n) g t x e new r h =
     More : Type 0
     More = (mid : State) → Reaches g t mid → step_within n g t mid e ≡ Some new → Reaches g (t ++ e ∷ []) new
 
-    quiet_at : (q : Option State) → quiet g t x.stage x.plain ≡ q → More → elim q [ Some mid ↦ step_within n g t mid e | None
-        ↦ None ] ≡ Some new → Reaches g (t ++ e ∷ []) new
+    quiet_at : (q : Option State) → quiet g t x.stage x.plain ≡ q → More → elim q [
+      | Some mid ↦ step_within n g t mid e
+      | None
+          ↦ None
+    ] ≡ Some new → Reaches g (t ++ e ∷ []) new
     quiet_at None q more h = absurd (cc)
     quiet_at (Some mid) q more h = more mid (Reaches.goes r (quiet-is g t x.stage x.plain mid q)) h
 
     put_at : (p : Option State) → put g t x.stage x.plain e.0 e.1 ≡ p → More →
-        elim p [ Some mid ↦ Some mid | None ↦ elim (quiet g t x.stage x.plain) [ Some mid ↦ step_within n g t mid e | None ↦ None ]
-            ] ≡ Some new → Reaches g (t ++ e ∷ []) new
+        elim p [
+          | Some mid ↦ Some mid
+          | None ↦ elim (quiet g t x.stage x.plain) [ Some mid ↦ step_within n g t mid e | None ↦ None ]
+        ] ≡ Some new → Reaches g (t ++ e ∷ []) new
     put_at (Some mid) p more h =
         let same : mid ≡ new = cc in
         subst (λ s. Reaches g (t ++ e ∷ []) s) same (Reaches.puts e.0 e.1 r (put-is g t x.stage x.plain e.0 e.1 mid p))
@@ -63,8 +68,11 @@ rest_within-is (suc n) g t x new r h =
     More : Type 0
     More = (mid : State) → Reaches g t mid → rest_within n g t mid ≡ Some new → Reaches g t new
 
-    quiet_at : (q : Option State) → quiet g t x.stage x.plain ≡ q → More → elim q [ Some mid ↦ rest_within n g t mid | None ↦ Some
-        x ] ≡ Some new → Reaches g t new
+    quiet_at : (q : Option State) → quiet g t x.stage x.plain ≡ q → More → elim q [
+      | Some mid ↦ rest_within n g t mid
+      | None ↦ Some
+          x
+    ] ≡ Some new → Reaches g t new
     quiet_at None q more h = let same : x ≡ new = cc in subst (λ s. Reaches g t s) same r
     quiet_at (Some mid) q more h = more mid (Reaches.goes r (quiet-is g t x.stage x.plain mid q)) h
 

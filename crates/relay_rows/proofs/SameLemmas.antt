@@ -88,11 +88,11 @@ same_end_of-is _ _ h = absurd (cc)
 pub same_flow-is : (a b : Flow) → same_flow a b ≡ true → a ≡ b
 same_flow-is a b h =
     let held = and_parts (a.used == b.used && a.moved == b.moved && a.turned == b.turned && a.given == b.given && same_flag
-        a.read_done b.read_done && same_flag a.write_done b.write_done) (same_flag a.held b.held) h in
+    a.read_done b.read_done && same_flag a.write_done b.write_done) (same_flag a.held b.held) h in
     let write = and_parts (a.used == b.used && a.moved == b.moved && a.turned == b.turned && a.given == b.given && same_flag
-        a.read_done b.read_done) (same_flag a.write_done b.write_done) held.0 in
+    a.read_done b.read_done) (same_flag a.write_done b.write_done) held.0 in
     let read = and_parts (a.used == b.used && a.moved == b.moved && a.turned == b.turned && a.given == b.given)
-        (same_flag a.read_done b.read_done) write.0 in
+    (same_flag a.read_done b.read_done) write.0 in
     let given = and_parts (a.used == b.used && a.moved == b.moved && a.turned == b.turned) (a.given == b.given) read.0 in
     let turned = and_parts (a.used == b.used && a.moved == b.moved) (a.turned == b.turned) given.0 in
     let used = and_parts (a.used == b.used) (a.moved == b.moved) turned.0 in

@@ -61,7 +61,7 @@ module _ (t : Trace) (x : Stage) (s : State) (k : StandsFor t x s) (n : ℕ) (fe
     made : (lane_at s e).read_made ≤ 2 * n + 1
     made =
         let a : length (middle (read_filter s.settings s.plain e) (bytes_read e t) f) ≤ 2 * length (bytes_read e t) + 1 =
-            middle-most (read_kind s.settings e.side) (bytes_read e t) f in
+        middle-most (read_kind s.settings e.side) (bytes_read e t) f in
         let b = fits.read_made in
         omega (arith, a, b, some)
 
@@ -72,8 +72,8 @@ module _ (t : Trace) (x : Stage) (s : State) (k : StandsFor t x s) (n : ℕ) (fe
     written : (lane_at s e).write_made ≤ 4 * n + 3
     written =
         let a : length (outcome (read_filter s.settings s.plain e) (write_filter s.settings s.plain (peer e)) (bytes_read e t) f) ≤
-            2 * f.turned + 1 =
-            outcome-most (read_kind s.settings e.side) (write_kind s.settings (peer e).side) (bytes_read e t) f in
+        2 * f.turned + 1 =
+        outcome-most (read_kind s.settings e.side) (write_kind s.settings (peer e).side) (bytes_read e t) f in
         let b = fits.write_made in
         let c : f.turned ≤ f.moved = (k.accounts e).fits.turned in
         omega (arith, a, b, c, moved)
@@ -83,8 +83,8 @@ module _ (t : Trace) (x : Stage) (s : State) (k : StandsFor t x s) (n : ℕ) (fe
         let a : f.used ≤ length (bytes_read e t) = (k.accounts e).fits.used in
         let b : f.turned ≤ f.moved = (k.accounts e).fits.turned in
         let c : f.given ≤ length (outcome (read_filter s.settings s.plain e) (write_filter s.settings s.plain (peer e))
-            (bytes_read e t) f) =
-            (k.accounts e).fits.given in
+        (bytes_read e t) f) =
+        (k.accounts e).fits.given in
         let d = fits.write_made in
         neither _ _ (neither _ _ (neither _ _ (near f.used (omega (arith, a, some))) (near f.moved (omega (arith, moved))))
         (near f.turned (omega (arith, b, moved)))) (near f.given (omega (arith, c, d, written)))

@@ -71,7 +71,7 @@ pub fits-same : (g : Settings) (t u : Trace) (p q : Plain) (e : SideId) (l m : L
     LaneFits g t p e l → LaneFits g u q e m
 fits-same g t u p q e l m z same k =
     fits-seen g u q p e m (subst (λ y. FitsSight g p e y m) (sym z) (subst (FitsSight g p e (sight t p e)) (sym same)
-        (seen-fits g t p e l k)))
+    (seen-fits g t p e l k)))
 
 -- One lane, one side and one direction are replaced, and each other stays.
 

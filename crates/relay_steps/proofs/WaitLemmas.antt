@@ -42,21 +42,21 @@ got-waits s e bytes =
     let got : State = with_got s e bytes in
     Keeps-trans waits s.plain got.plain _ (Keeps-put waits e (active_at s.plain.time dir.Read (side_at s.plain e)) s.plain refl)
     (Keeps-trans waits got.plain (read_run e got).plain _
-        (passed-waits e (read_part (read_mark got.plain e) false (passage_at got e)) got.plain) (raised-waits e (read_run e got)))
+    (passed-waits e (read_part (read_mark got.plain e) false (passage_at got e)) got.plain) (raised-waits e (read_run e got)))
 
 failed-waits : (s : State) (e : SideId) (x : PlainSide) (y : Why) → waits x ≡ waits (side_at s.plain e) →
     Keeps waits s.plain (raise s.settings e y (put_side e x s.plain))
 failed-waits s e x y h =
     Keeps-trans waits s.plain (put_side e x s.plain) _ (Keeps-put waits e x s.plain h) (Keeps-raise waits s.settings e y
-        (put_side e x s.plain))
+    (put_side e x s.plain))
 
 pub read-waits : (s : State) (e : SideId) (answer : ReadAnswer) (bytes : List ℕ) →
     is_connecting (after_read s e answer bytes).plain e ≡ is_connecting s.plain e
 read-waits s e (read.Got n) bytes = Keeps-side waits s.plain _ e (got-waits s e bytes)
 read-waits s e read.Ended bytes =
     Keeps-side waits s.plain _ e (failed-waits s e (record (side_at s.plain e) { ended = true; reads = false })
-        (happened dir.Read end_flag) refl)
+    (happened dir.Read end_flag) refl)
 read-waits s e read.NotYet bytes = refl
 read-waits s e read.Failed bytes =
     Keeps-side waits s.plain _ e (failed-waits s e (record (side_at s.plain e) { failed = true; reads = false })
-        (happened dir.Read error_flag) refl)
+    (happened dir.Read error_flag) refl)

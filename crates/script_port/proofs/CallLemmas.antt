@@ -49,8 +49,8 @@ pub length-accept_first : (link : ℕ) (ws : List Bool) (l : LinksState) → len
 length-accept_first link [] l = refl
 length-accept_first link (wait ∷ ws) l =
     length-at_end (record { link = link; side = Out }) (accepted (not wait)) (at_end (record { link = link; side = In })
-        (accepted true) (record l { waiting = ws })) ∙ length-at_end (record { link = link; side = In }) (accepted true)
-        (record l { waiting = ws })
+    (accepted true) (record l { waiting = ws })) ∙ length-at_end (record { link = link; side = In }) (accepted true)
+    (record l { waiting = ws })
 
 pub length-wrote : (old new : LinksState) (e : SideId) (from : List ℕ) (answer : WriteAnswer) → WroteAt old new e from answer →
     length new.ends ≡ length old.ends
@@ -239,7 +239,7 @@ read_is : (l : LinksState) (end : SideId) (s : EndState) (answer : ReadAnswer) (
     read_step answer into ≡ record no_step { got = take room s.pending; ended = is_ended (read_answer s room); reads = 1; room = room }
 read_is l end s answer into room found a g n =
     let got : got_bytes answer into ≡ take room s.pending = g ∙ ap
-        (λ o. take room (option_map_or (λ (t : EndState). t.pending) o [])) found in
+    (λ o. take room (option_map_or (λ (t : EndState). t.pending) o [])) found in
     let same : answer ≡ read_answer s room = a ∙ ap (λ o. option_map_or (λ (t : EndState). read_answer t room) o read.NotYet) found in
     λ i. record no_step { got = got i; ended = is_ended (same i); reads = 1; room = n i }
 
@@ -250,7 +250,7 @@ read_ends l end answer into room a g n =
     ends_step l end (λ s. after_read s room) (read_step answer into)
     (λ s found.
     read_counted s (after_read s room) (take room s.pending) (drop room s.pending) (is_failed_read (read_answer s room))
-        (read_answer s room) room (read_step answer into) refl
+    (read_answer s room) room (read_step answer into) refl
     (read_is l end s answer into room found a g n))
 
 pub check_ends : (l : LinksState) (end : SideId) (answer : ConnAnswer) → answer ≡ conn_answer_at l end → EndsWent (ends_told l)
@@ -259,7 +259,7 @@ check_ends l end answer a =
     ends_step l end after_check (conn_step answer) (λ s found.
     let same : conn_answer s ≡ answer = sym (a ∙ ap (λ o. option_map_or conn_answer o conn.Pending) found) in
     subst (λ z. EndWent (told_of_end s) (told_of_end (after_check s)) (conn_step z)) same (check_counted s
-        (is_failed_conn (conn_answer s)) (conn_answer s)))
+    (is_failed_conn (conn_answer s)) (conn_answer s)))
 
 took_is : (s : EndState) (from : List ℕ) → took_bytes (write_answer s (length from)) from ≡ take (taken_of s.may_take (length from)) from
 took_is s from =
@@ -276,10 +276,10 @@ took_ends old new e from answer is w a =
     rw w
     (ends_step old e (λ s. after_write s from) (write_step answer from) (λ s found.
     let same : answer ≡ write_answer s (length from) = a ∙ ap (λ o. option_map_or (λ (t : EndState). write_answer t (length from))
-        o write.NotYet) found in
+    o write.NotYet) found in
     let took : took_bytes answer from ≡ take (taken_of s.may_take (length from)) from = ap (λ b. took_bytes b from) same ∙ took_is s from in
     write_counted s (after_write s from) (take (taken_of s.may_take (length from)) from) (left_to_take s.may_take (length from))
-        (is_failed_write (write_answer s (length from))) (length from) (write_step answer from) refl (is ∙ rw took)))
+    (is_failed_write (write_answer s (length from))) (length from) (write_step answer from) refl (is ∙ rw took)))
 
 pub wrote_ends : (old new : LinksState) (e : SideId) (from : List ℕ) (answer : WriteAnswer) → WroteAt old new e from answer →
     EndsWent (ends_told old) (ends_told new) e (write_step answer from)
@@ -298,7 +298,7 @@ failed_read_ends l end into room n =
     (λ s found.
     read_counted s (failed_read room s) [] s.pending false read.Failed room (read_step read.Failed into)
     (ap (λ z. record s { given = z; tally = with_read read.Failed room s.tally }) (sym (append-nil s.given)))
-        (λ i. record no_step { got = []; ended = false; reads = 1; room = n i }))
+    (λ i. record no_step { got = []; ended = false; reads = 1; room = n i }))
 
 pub failed_write_ends : (l : LinksState) (end : SideId) (from : List ℕ) → EndsWent (ends_told l)
     (ends_told (at_end end (failed_write (length from)) l)) end (write_step write.Failed from)
@@ -321,12 +321,12 @@ made_if made o = went_if (accepted made) (record no_step { made_connected = made
 -- the ends of a link that was accepted
 both_made : (i o e : SideId) (made : Bool) (l : LinksState) → number i ≢ number o →
     EndWent (ends_told l e) (ends_told (at_end o (accepted made) (at_end i (accepted true) l)) e)
-        (record no_step { made_connected = same_end e i || (same_end e o && made) })
+    (record no_step { made_connected = same_end e i || (same_end e o && made) })
 both_made i o e made l apart =
     elim (same_end_tells e i) [
       | inl is_in ↦
           let not_out = slice_get-changed_other (accepted made) (changed (number i) (accepted true) l.ends) (number o) (number e)
-              (λ q. apart (sym is_in.1 ∙ q)) in
+          (λ q. apart (sym is_in.1 ∙ q)) in
           let here = slice_get-changed_same (accepted true) l.ends (number i) in
           rw (is_in.0, not_out, is_in.1, here) (made_if true (slice_get l.ends (number i)))
       | inr not_in ↦
@@ -338,7 +338,7 @@ both_made i o e made l apart =
                 rw (not_in.0, is_out.0, is_out.1, here, before) (made_if made (slice_get l.ends (number o)))
             | inr not_out ↦
                 let elsewhere = slice_get-changed_other (accepted made) (changed (number i) (accepted true) l.ends) (number o)
-                    (number e) not_out.1 in
+                (number e) not_out.1 in
                 rw (not_in.0, not_out.0, elsewhere, not_changed) (EndWent-none (ends_told l e))
           ]
     ]
@@ -348,4 +348,4 @@ pub accept_ends : (link : ℕ) (ws : List Bool) (l : LinksState) → AllWent (en
 accept_ends link [] l = λ e. EndWent-none (ends_told l e)
 accept_ends link (wait ∷ ws) l = λ e.
     both_made (record { link = link; side = In }) (record { link = link; side = Out }) e (not wait) (record l { waiting = ws })
-        (λ q. absurd (omega arith))
+    (λ q. absurd (omega arith))

@@ -90,8 +90,13 @@ passed_by p kind new e is_fault h = by_plan p.plan (same_call p.kind kind)
     by_plan : (plan : FailPlan) (same : Bool) → EndFaults (fail_faults (record p { plan = plan }))
         (fail_faults (record p { inner = new; plan = if same then one_less plan else plan })) e is_fault
     by_plan plan false = kept plan
-    by_plan (Left calls) true = let h = kept (Left calls) in record { own = h.own; others = h.others; polling = h.polling; listener
-        = h.listener }
+    by_plan (Left calls) true = let h = kept (Left calls) in record {
+      own = h.own;
+      others = h.others;
+      polling = h.polling;
+      listener
+          = h.listener;
+    }
     by_plan AtPoll true = kept AtPoll
     by_plan AtAccept true = kept AtAccept
     by_plan (AtEnd side) true = kept (AtEnd side)
@@ -102,4 +107,4 @@ pub end_passed : (p : FailPort) (kind : PortCall) (counts : FailPort) (new : Por
     EndFaults (fail_faults p) (fail_faults (record counts { inner = new })) e is_fault
 end_passed p kind counts new e is_fault is h =
     subst (λ (m : FailPort). EndFaults (script_faults m.inner) (script_faults new) e is_fault → EndFaults (fail_faults p)
-        (fail_faults (record m { inner = new })) e is_fault) (sym is) (passed_by p kind new e is_fault) h
+    (fail_faults (record m { inner = new })) e is_fault) (sym is) (passed_by p kind new e is_fault) h

@@ -94,7 +94,7 @@ faults-accept link (wait ∷ ws) l e =
     let fewer : LinksState = record l { waiting = ws } in
     let in_end : SideId = record { link = link; side = In } in
     faults-at_end (at_end in_end (accepted true) fewer) (out_end link) (accepted _) (λ s. refl) e ∙ faults-at_end fewer in_end
-        (accepted true) (λ s. refl) e
+    (accepted true) (λ s. refl) e
 
 accept_counts : (ws : List Bool) (l new : LinksState) (n link : ℕ) → new ≡ accept_first link ws l → ListenerFaults (counts l n)
     (counts new n) false
@@ -116,7 +116,7 @@ never_failed (wait ∷ ws) l new t link links = accept_counts (wait ∷ ws) l ne
 end_counts : (o : Option EndState) (f : EndState → EndState) (fails : EndState → Bool) → ((s : EndState) → (f s).tally.faults ≡
     risen_if (fails s) s.tally.faults) →
     Counted (option_map_or (λ (s : EndState). s.tally.faults) o 0) (option_map_or (λ (s : EndState). s.tally.faults)
-        (option_map f o) 0) (option_map_or fails o false)
+    (option_map f o) 0) (option_map_or fails o false)
 end_counts None f fails h = counted-none 0
 end_counts (Some s) f fails h = rw (h s) (counted-risen (fails s) s.tally.faults)
 

@@ -55,8 +55,8 @@ one_line (line.Conn link connected) l e s found = quiet_line (out_end link) e (e
     s found (λ t. record { pending = sym (append-nil t.pending); given = refl; taken = refl })
 one_line (line.Pending side bytes) l e s found =
     changed_there side e (end_after_line l.turn (line.Pending side bytes)) l s bytes (line_bytes (number e)
-        (line.Pending side bytes)) found (bytes_here side bytes (number e)) (bytes_elsewhere side bytes (number e))
-        (record { pending = refl; given = refl; taken = refl })
+    (line.Pending side bytes)) found (bytes_here side bytes (number e)) (bytes_elsewhere side bytes (number e))
+    (record { pending = refl; given = refl; taken = refl })
 one_line (line.Eof side) l e s found = quiet_line side e (end_after_line l.turn (line.Eof side)) l s found
     (λ t. record { pending = sym (append-nil t.pending); given = refl; taken = refl })
 one_line (line.ReadFail side) l e s found = quiet_line side e (end_after_line l.turn (line.ReadFail side)) l s found
@@ -78,7 +78,7 @@ all_lines (x ∷ xs) l e s found =
 
 pub lines_bring : (xs : List TurnLine) (l : LinksState) (e : SideId) (s : EndState) → end_of l e ≡ Some s →
     IsSomeAnd (end_of (after_lines xs l) e) (λ t. (t.pending ≡ s.pending ++ bytes_of (number e) xs) × (t.given ≡ s.given) ×
-        (t.taken ≡ s.taken))
+    (t.taken ≡ s.taken))
 lines_bring xs l e s found =
     let all = all_lines xs l e s found in
     rw all.1 (all.2.pending, all.2.given, all.2.taken)

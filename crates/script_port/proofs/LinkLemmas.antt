@@ -21,7 +21,7 @@ states es = map (λ e. e.state) es
 took : (waiting : List Bool) (turn : Option ℕ) (fails : Bool) (es : List EndKept) (e : SideId) (k : ℕ) (x y : EndKept)
     (from : List ℕ) → k ≡ number e → k < length es → x ≡ get_or es k x → y ≡ record x { state = after_write x.state from } →
     ◌≡◌ {A = LinksState} (record { waiting = waiting; ends = states (set es k y); turn = turn; poll_fails = fails })
-        (at_end e (λ s. after_write s from) (record { waiting = waiting; ends = states es; turn = turn; poll_fails = fails }))
+    (at_end e (λ s. after_write s from) (record { waiting = waiting; ends = states es; turn = turn; poll_fails = fails }))
 took waiting turn fails es e k x y from n within read w =
     let whole = changed_set (λ e. e.state) (λ s. after_write s from) es k x y within read (ap (λ e. e.state) w) in
     rw (whole, n)
@@ -41,27 +41,39 @@ keeps waiting turn fails es e k x y n within read h =
     let found = part_read (λ e. e.state) es k x within read in
     let here : slice_get (states (set es k y)) (number e) ≡ Some y.state =
     ap (slice_get (states (set es k y))) (sym n) ∙ ap (λ z. slice_get z k) whole ∙ slice_get-changed_same (λ _. y.state)
-        (states es) k ∙ ap (option_map (λ _. y.state)) found in
+    (states es) k ∙ ap (option_map (λ _. y.state)) found in
     subst (λ (o : Option EndState). length (option_map_or (λ (s : EndState). s.taken) o []) < 2 ^ 64 - 1) (sym here) h
 
 -- a write to an end that there is
 pub wrote_within : (waiting : List Bool) (turn : Option ℕ) (fails : Bool) (es : List EndKept) (e : SideId) (k : ℕ) (x y : EndKept)
     (from : List ℕ) (answer : WriteAnswer) → k ≡ number e → k < length es → x ≡ get_or es k x → Wrote x y from answer →
     WroteAt (record { waiting = waiting; ends = states es; turn = turn; poll_fails = fails })
-        (record { waiting = waiting; ends = states (set es k y); turn = turn; poll_fails = fails }) e from answer
+    (record { waiting = waiting; ends = states (set es k y); turn = turn; poll_fails = fails }) e from answer
 wrote_within waiting turn fails es e k x y from write.NoMemory n within read w =
-    let same = same_set (λ e. e.state) es k x y read (ap (λ e. e.state) w.0) in
-    (rw same, rw (answers waiting turn fails es e k x (length from) n within read) w.1, rw (answers waiting turn fails es e k x
-        (length from) n within read) w.2)
-wrote_within waiting turn fails es e k x y from (write.Took count) n within read w =
-    (took waiting turn fails es e k x y from n within read w.0, w.1 ∙ sym (answers waiting turn fails es e k x (length from) n
-        within read), keeps waiting turn fails es e k x y n within read w.2)
-wrote_within waiting turn fails es e k x y from write.NotYet n within read w =
-    (took waiting turn fails es e k x y from n within read w.0, w.1 ∙ sym (answers waiting turn fails es e k x (length from) n
-        within read), keeps waiting turn fails es e k x y n within read w.2)
-wrote_within waiting turn fails es e k x y from write.Failed n within read w =
-    (took waiting turn fails es e k x y from n within read w.0, w.1 ∙ sym (answers waiting turn fails es e k x (length from) n
-        within read), keeps waiting turn fails es e k x y n within read w.2)
+    let same = same_set (λ e. e.state) es k x y read (ap (λ e. e.state) w.0) in (
+      rw same,
+      rw (answers waiting turn fails es e k x (length from) n within read) w.1,
+      rw (answers waiting turn fails es e k x
+          (length from) n within read) w.2,
+    )
+wrote_within waiting turn fails es e k x y from (write.Took count) n within read w = (
+  took waiting turn fails es e k x y from n within read w.0,
+  w.1 ∙ sym (answers waiting turn fails es e k x (length from) n
+      within read),
+  keeps waiting turn fails es e k x y n within read w.2,
+)
+wrote_within waiting turn fails es e k x y from write.NotYet n within read w = (
+  took waiting turn fails es e k x y from n within read w.0,
+  w.1 ∙ sym (answers waiting turn fails es e k x (length from) n
+      within read),
+  keeps waiting turn fails es e k x y n within read w.2,
+)
+wrote_within waiting turn fails es e k x y from write.Failed n within read w = (
+  took waiting turn fails es e k x y from n within read w.0,
+  w.1 ∙ sym (answers waiting turn fails es e k x (length from) n
+      within read),
+  keeps waiting turn fails es e k x y n within read w.2,
+)
 
 -- a write leaves the bytes to come
 pub keeps_to_come : (es : List EndKept) (k : ℕ) (x y : EndKept) (from : List ℕ) (answer : WriteAnswer) → x ≡ get_or es k x → Wrote

@@ -58,11 +58,11 @@ one_end_after e w ws l =
           let here = slice_get-changed_same (wanted w) l.ends (number e) in
           rw (same.1, here)
           (map_twice (wanted w) (wants_of e ws) (slice_get l.ends (number e)) ∙ map_agree (λ s. wants_of e ws (wanted w s))
-              (wants_of e (w ∷ ws)) (λ s. sym (wants_same e w ws s same.0)) (slice_get l.ends (number e)))
+          (wants_of e (w ∷ ws)) (λ s. sym (wants_same e w ws s same.0)) (slice_get l.ends (number e)))
       | inr other ↦
           let elsewhere = slice_get-changed_other (wanted w) l.ends (number w.side) (number e) (λ q. other.1 (sym q)) in
           rw elsewhere (map_agree (wants_of e ws) (wants_of e (w ∷ ws)) (λ s. sym (wants_other e w ws s other.0))
-              (slice_get l.ends (number e)))
+          (slice_get l.ends (number e)))
     ]
 
 end_after_wants : (e : SideId) (ws : List Want) (l : LinksState) → end_of (after_wants ws l) e ≡ option_map (wants_of e ws) (end_of l e)
@@ -71,8 +71,15 @@ end_after_wants e (w ∷ ws) l = end_after_wants e ws (at_end w.side (wanted w) 
 
 -- counting wants changes their four numbers alone
 only_counts : (e : SideId) (ws : List Want) (s t : EndState) → t ≡ wants_of e ws s →
-    t ≡ record s { tally = record s.tally { read_wants = t.tally.read_wants; write_wants = t.tally.write_wants; read_marks =
-        t.tally.read_marks; write_marks = t.tally.write_marks } }
+    t ≡ record s {
+      tally = record s.tally {
+        read_wants = t.tally.read_wants;
+        write_wants = t.tally.write_wants;
+        read_marks =
+            t.tally.read_marks;
+        write_marks = t.tally.write_marks;
+      };
+    }
 only_counts e [] s t q = rw q
 only_counts e (w ∷ ws) s t q =
     elim (cases_Bool (same_end w.side e)) [
@@ -141,7 +148,7 @@ wants_ends ws l e =
     let after = end_after_wants e ws l in
     rw after
     (went_if (wants_of e ws) (counts_of (flagged e (λ w. w.can_read) ws) (flagged e (λ w. w.can_write) ws) e ws) (end_of l e)
-        (λ s _. wants_went e ws s))
+    (λ s _. wants_went e ws s))
 
 poll_ends : (ws : List Want) (accept : Bool) (l : LinksState) → AllWent (ends_told l) (ends_told (after_wants ws l))
     (poll_step ws (polled.Ready accept))
@@ -154,9 +161,9 @@ none_flagged e flag none [] = refl
 none_flagged e flag none (w ∷ ws) =
     let rest = none_flagged e flag none ws in
     let one : once (same_end w.side e && flag (unmarked w)) ≡ 0 = elim (cases_Bool (same_end w.side e))
-        [ inl same ↦ rw (same, none w) | inr other ↦ rw other ] in
+    [ inl same ↦ rw (same, none w) | inr other ↦ rw other ] in
     let both : flagged e flag (map unmarked (w ∷ ws)) ≡ once (same_end w.side e && flag (unmarked w)) + flagged e flag
-        (map unmarked ws) = flagged_more e flag (unmarked w) (map unmarked ws) (same_end w.side e) refl in
+    (map unmarked ws) = flagged_more e flag (unmarked w) (map unmarked ws) (same_end w.side e) refl in
     omega (arith, rest, one, both)
 
 none_counted : (ws : List Want) → count_by (λ (w : Want). false) ws ≡ 0
@@ -170,13 +177,13 @@ pub failed_poll_ends : (ws : List Want) (l : LinksState) → AllWent (ends_told 
 failed_poll_ends ws l = λ e.
     let marks = map unmarked ws in
     let reads : flagged e (λ w. w.can_read) marks ≡ count_by (λ (w : Want). false) marks = none_flagged e (λ w. w.can_read)
-        (λ w. refl) ws ∙ sym (none_counted marks) in
+    (λ w. refl) ws ∙ sym (none_counted marks) in
     let writes : flagged e (λ w. w.can_write) marks ≡ count_by (λ (w : Want). false) marks = none_flagged e (λ w. w.can_write)
-        (λ w. refl) ws ∙ sym (none_counted marks) in
+    (λ w. refl) ws ∙ sym (none_counted marks) in
     subst (λ n. EndWent (ends_told l e) (ends_told (after_wants marks l) e) (counts_of n (count_by (λ (w : Want). false) marks) e
-        marks)) reads
+    marks)) reads
     (subst (λ n. EndWent (ends_told l e) (ends_told (after_wants marks l) e) (counts_of (flagged e (λ w. w.can_read) marks) n e
-        marks)) writes (wants_ends marks l e))
+    marks)) writes (wants_ends marks l e))
 
 answer_ends : (p : PortState) (ws : List Want) (accept : Bool) → AllWent (ends_told p.links)
     (ends_told (after_wants (poll_marks p.links ws) p.links)) (poll_step (poll_marks p.links ws) (poll_answer p accept))
@@ -184,8 +191,8 @@ answer_ends p ws accept = by_line p.links.poll_fails
   where
     by_line : (b : Bool) →
         AllWent (ends_told p.links) (ends_told (after_wants (if b then map unmarked ws else map (λ w. marked p.links w) ws)
-            p.links)) (poll_step (if b then map unmarked ws else map (λ w. marked p.links w) ws)
-            (if b then polled.Failed else polled.Ready (poll_accepts p accept)))
+        p.links)) (poll_step (if b then map unmarked ws else map (λ w. marked p.links w) ws)
+        (if b then polled.Failed else polled.Ready (poll_accepts p accept)))
     by_line true = failed_poll_ends ws p.links
     by_line false = poll_ends (map (λ w. marked p.links w) ws) (poll_accepts p accept) p.links
 

@@ -26,7 +26,7 @@ one_le n =
 abbrev pub reads : List ℕ → Bool → Bool → ℕ → ReadAnswer × List ℕ
 reads xs fail end room =
     if nat_le 1 (length xs) then (read.Got (min room (length xs)), take room xs) else (if fail then (read.Failed, [])
-        else (if end then (read.Ended, []) else (read.NotYet, [])))
+    else (if end then (read.Ended, []) else (read.NotYet, [])))
 
 empty : (xs : List ℕ) → length xs ≡ 0 → xs ≡ []
 empty [] h = refl
@@ -40,8 +40,11 @@ reads_same s room =
           let test : nat_le 1 (length s.pending) ≡ false = one_le (length s.pending) ∙ ap not none.0 in
           elim (cases_Bool s.read_fails) [
             | inl fails ↦ rw (test, none.0, fails, nothing) refl
-            | inr fails ↦ elim (cases_Bool s.eof) [ inl eof ↦ rw (test, none.0, fails, eof, nothing) refl | inr eof
-                ↦ rw (test, none.0, fails, eof, nothing) refl ]
+            | inr fails ↦ elim (cases_Bool s.eof) [
+              | inl eof ↦ rw (test, none.0, fails, eof, nothing) refl
+              | inr eof
+                  ↦ rw (test, none.0, fails, eof, nothing) refl
+            ]
           ]
       | inr some ↦
           let test : nat_le 1 (length s.pending) ≡ true = one_le (length s.pending) ∙ ap not some.0 in
@@ -62,11 +65,11 @@ writes_same most s from same =
     elim (eqb_tells (taken_of s.may_take (length from)) 0) [
       | inl none ↦
           let test : nat_le 1 (at_most most (length from)) ≡ false = one_le (at_most most (length from)) ∙ ap (λ n. not (n == 0))
-              same ∙ ap not none.0 in
+          same ∙ ap not none.0 in
           elim (cases_Bool s.write_fails) [ inl fails ↦ rw (test, none.0, fails) refl | inr fails ↦ rw (test, none.0, fails) refl ]
       | inr some ↦
           let test : nat_le 1 (at_most most (length from)) ≡ true = one_le (at_most most (length from)) ∙ ap (λ n. not (n == 0))
-              same ∙ ap not some.0 in
+          same ∙ ap not some.0 in
           rw (test, some.0, same) refl
     ]
 
@@ -89,8 +92,14 @@ takes_any (Some k) any allowed taken h =
     let within = h.1.within in
     rw h.0
     (elim (leb_tells 1 (min (allowed - taken) 1)) [
-      | inl t ↦ elim (eqb_tells (min 1 k) 0) [ inl e ↦ absurd (let a = t.1 in let b = e.1 in
-          omega (arith, a, b, least, most, within)) | inr e ↦ rw (t.0, e.0) refl ]
-      | inr t ↦ elim (eqb_tells (min 1 k) 0) [ inl e ↦ rw (t.0, e.0) refl | inr e ↦ absurd
-          (e.1 (let a = t.1 in omega (arith, a, least, most, within))) ]
+      | inl t ↦ elim (eqb_tells (min 1 k) 0) [
+        | inl e ↦ absurd (let a = t.1 in let b = e.1 in
+            omega (arith, a, b, least, most, within))
+        | inr e ↦ rw (t.0, e.0) refl
+      ]
+      | inr t ↦ elim (eqb_tells (min 1 k) 0) [
+        | inl e ↦ rw (t.0, e.0) refl
+        | inr e ↦ absurd
+            (e.1 (let a = t.1 in omega (arith, a, least, most, within)))
+      ]
     ])

@@ -63,8 +63,11 @@ read_bytes side room s =
           let nothing : take room s.pending ≡ [] = ap (take room) (empty s.pending none.1) ∙ take-nil room in
           elim (cases_Bool s.read_fails) [
             | inl fails ↦ rw (none.0, fails, nothing) refl
-            | inr fails ↦ elim (cases_Bool s.eof) [ inl eof ↦ rw (none.0, fails, eof, nothing) refl | inr eof
-                ↦ rw (none.0, fails, eof, nothing) refl ]
+            | inr fails ↦ elim (cases_Bool s.eof) [
+              | inl eof ↦ rw (none.0, fails, eof, nothing) refl
+              | inr eof
+                  ↦ rw (none.0, fails, eof, nothing) refl
+            ]
           ]
       | inr some ↦ let same = same_self side in rw (some.0, same) (append-nil (take room s.pending))
     ]
@@ -72,20 +75,23 @@ read_bytes side room s =
 pub read_stands : (waits : List Bool) (ls : List TurnLine) (t : Trace) (side : SideId) (room : ℕ) (l : LinksState) → LinksStand
     waits ls t l →
     LinksStand waits ls (t ++ (entry.Read side room (read_answer_at l side room), take room (pending_at l side)) ∷ [])
-        (at_end side (λ s. after_read s room) l)
+    (at_end side (λ s. after_read s room) l)
 read_stands waits ls t side room l h =
     let u : Trace = (entry.Read side room (read_answer_at l side room), take room (pending_at l side)) ∷ [] in
     at_end_stands waits ls t u side (λ s. after_read s room) l refl (λ e other. read_silent side e room
-        (read_answer_at l side room) (take room (pending_at l side)) other)
+    (read_answer_at l side room) (take room (pending_at l side)) other)
     (λ s found k.
     let is : u ≡ (entry.Read side room (read_answer s room), take room s.pending) ∷ [] =
-    ap (λ (o : Option EndState). (entry.Read side room (option_map_or (λ (x : EndState). read_answer x room) o read.NotYet), take
-        room (option_map_or (λ (x : EndState). x.pending) o [])) ∷ []) found in
+    ap (λ (o : Option EndState). (
+      entry.Read side room (option_map_or (λ (x : EndState). read_answer x room) o read.NotYet),
+      take
+          room (option_map_or (λ (x : EndState). x.pending) o []),
+    ) ∷ []) found in
     let got : bytes_read side u ≡ take room s.pending = ap (bytes_read side) is ∙ read_bytes side room s in
     end_event waits ls t u side s (after_read s room) k
     (sym (ap (λ z. z ++ drop room s.pending) got ∙ take-append-drop room s.pending))
     (sym (append-nil s.taken)) (same_said s _ _ _ _ _) k.may_take (sym (or_false s.tally.made_connected))
-        (sym (or_false s.tally.connected)))
+    (sym (or_false s.tally.connected)))
     h
 
 -- Connect checks
@@ -107,10 +113,10 @@ check_stands waits ls t side l h =
     at_end_stands waits ls t u side after_check l refl (λ e other. check_silent side e (conn_answer_at l side) other)
     (λ s found k.
     let is : u ≡ (entry.Conn side (conn_answer s), []) ∷ [] = ap (λ (o : Option EndState).
-        (entry.Conn side (option_map_or conn_answer o conn.Pending), []) ∷ []) found in
+    (entry.Conn side (option_map_or conn_answer o conn.Pending), []) ∷ []) found in
     let tells : is_connected side u ≡ ends.is_connected (conn_answer s) = ap (is_connected side) is ∙ check_tells side (conn_answer s) in
     end_event waits ls t u side s (after_check s) k refl (sym (append-nil s.taken)) (same_said s _ _ _ _ _) k.may_take
-        (sym (or_false s.tally.made_connected))
+    (sym (or_false s.tally.made_connected))
     (ap (λ z. s.tally.connected || z) (sym tells)))
     h
 
@@ -125,12 +131,18 @@ write_silent side e offered write.NoMemory bytes h = record { read = refl; given
 
 -- a write took the bytes that were offered, up to what may be taken
 write_bytes : (side : SideId) (from : List ℕ) (s : EndState) →
-    bytes_given side ((entry.Write side (length from) (write_answer s (length from)), took_bytes (write_answer s (length from))
-        from) ∷ []) ≡ take (taken_of s.may_take (length from)) from
+    bytes_given side ((
+      entry.Write side (length from) (write_answer s (length from)),
+      took_bytes (write_answer s (length from))
+          from,
+    ) ∷ []) ≡ take (taken_of s.may_take (length from)) from
 write_bytes side from s =
     elim (eqb_tells (taken_of s.may_take (length from)) 0) [
-      | inl none ↦ elim (cases_Bool s.write_fails) [ inl fails ↦ rw (none.0, none.1, fails) refl | inr fails
-          ↦ rw (none.0, none.1, fails) refl ]
+      | inl none ↦ elim (cases_Bool s.write_fails) [
+        | inl fails ↦ rw (none.0, none.1, fails) refl
+        | inr fails
+            ↦ rw (none.0, none.1, fails) refl
+      ]
       | inr some ↦ let same = same_self side in rw (some.0, same) (append-nil (take (taken_of s.may_take (length from)) from))
     ]
 
@@ -142,28 +154,36 @@ write_leaves None any sum taken from within h = h
 write_leaves (Some k) any sum taken from within h =
     let both = length-append taken (take (min (length from) k) from) in
     let part = length-take (min (length from) k) from in
-    let long : length (taken ++ take (min (length from) k) from) ≡ length taken + min (length from) k = omega (arith, both, part) in
-    (h.0, subst (TakesOn (k - length from) sum) (sym long) (takes-write k sum (length taken) (length from) h.1
-        (subst (λ n. n < 2 ^ 64 - 1) long within)))
+    let long : length (taken ++ take (min (length from) k) from) ≡ length taken + min (length from) k = omega (arith, both, part) in (
+      h.0,
+      subst (TakesOn (k - length from) sum) (sym long) (takes-write k sum (length taken) (length from) h.1
+          (subst (λ n. n < 2 ^ 64 - 1) long within)),
+    )
 
 pub write_stands : (waits : List Bool) (ls : List TurnLine) (t : Trace) (side : SideId) (from : List ℕ) (l : LinksState) → length
     (taken_at (at_end side (λ s. after_write s from) l) side) < 2 ^ 64 - 1 → LinksStand waits ls t l →
-    LinksStand waits ls (t ++ (entry.Write side (length from) (write_answer_at l side (length from)), took_bytes
-        (write_answer_at l side (length from)) from) ∷ []) (at_end side (λ s. after_write s from) l)
+    LinksStand waits ls (t ++ (
+      entry.Write side (length from) (write_answer_at l side (length from)),
+      took_bytes
+          (write_answer_at l side (length from)) from,
+    ) ∷ []) (at_end side (λ s. after_write s from) l)
 write_stands waits ls t side from l within h =
     let answer = write_answer_at l side (length from) in
     let u : Trace = (entry.Write side (length from) answer, took_bytes answer from) ∷ [] in
     at_end_stands waits ls t u side (λ s. after_write s from) l refl (λ e other. write_silent side e (length from) answer
-        (took_bytes answer from) other)
+    (took_bytes answer from) other)
     (λ s found k.
     let is : u ≡ (entry.Write side (length from) (write_answer s (length from)), took_bytes (write_answer s (length from)) from) ∷ [] =
-    ap (λ (o : Option EndState). (entry.Write side (length from) (option_map_or (λ (x : EndState). write_answer x (length from)) o
-        write.NotYet), took_bytes (option_map_or (λ (x : EndState). write_answer x (length from)) o write.NotYet) from) ∷ []) found in
+    ap (λ (o : Option EndState). (
+      entry.Write side (length from) (option_map_or (λ (x : EndState). write_answer x (length from)) o
+          write.NotYet),
+      took_bytes (option_map_or (λ (x : EndState). write_answer x (length from)) o write.NotYet) from,
+    ) ∷ []) found in
     let gave : bytes_given side u ≡ take (taken_of s.may_take (length from)) from = ap (bytes_given side) is ∙ write_bytes side from s in
     let here : end_of (at_end side (λ s. after_write s from) l) side ≡ Some (after_write s from) =
     slice_get-changed_same (λ s. after_write s from) l.ends (number side) ∙ ap (option_map (λ s. after_write s from)) found in
     let fits : length (after_write s from).taken < 2 ^ 64 - 1 = subst (λ (o : Option EndState). length
-        (option_map_or (λ (x : EndState). x.taken) o []) < 2 ^ 64 - 1) here within in
+    (option_map_or (λ (x : EndState). x.taken) o []) < 2 ^ 64 - 1) here within in
     end_event waits ls t u side s (after_write s from) k refl (ap (λ z. s.taken ++ z) (sym gave)) (same_said s _ _ _ _ _)
     (write_leaves s.may_take (list_any (allows_all side) ls) (sum_by (allows side) ls) s.taken from fits k.may_take)
     (sym (or_false s.tally.made_connected)) (sym (or_false s.tally.connected)))
@@ -174,8 +194,11 @@ write_stands waits ls t side from l within h =
 -- a name of an end of a link, by its side
 ends_apart : (link : ℕ) (e : SideId) → same_end (record { link = link; side = In }) e ≡ false → same_end
     (record { link = link; side = Out }) e ≡ false → (link == e.link) ≡ false
-ends_apart link e h k = elim (eqb_tells link e.link) [ inl t ↦ by_side e.side (sym (ap (λ b. b && same_side In e.side) t.0) ∙ h)
-    (sym (ap (λ b. b && same_side Out e.side) t.0) ∙ k) | inr t ↦ t.0 ]
+ends_apart link e h k = elim (eqb_tells link e.link) [
+  | inl t ↦ by_side e.side (sym (ap (λ b. b && same_side In e.side) t.0) ∙ h)
+      (sym (ap (λ b. b && same_side Out e.side) t.0) ∙ k)
+  | inr t ↦ t.0
+]
   where
     by_side : (side : Side) → same_side In side ≡ false → same_side Out side ≡ false → (link == e.link) ≡ false
     by_side In p q = absurd (cc)
@@ -212,14 +235,14 @@ module _ (waits : List Bool) (ls : List TurnLine) (t : Trace) (l : LinksState) (
   in_stands s k =
       let same = same_link in
       end_event waits ls t opens in_end s (accepted true s) k refl (sym (append-nil s.taken)) (same_said s _ _ _ _ _) k.may_take
-          (rw same refl) (sym (or_false s.tally.connected))
+      (rw same refl) (sym (or_false s.tally.connected))
 
   out_stands : (s : EndState) → EndStands waits ls t out_end s → EndStands waits ls (t ++ opens) out_end (accepted (not wait) s)
   out_stands s k =
       let same = same_link in
       let plain = or_false (not wait) in
       end_event waits ls t opens out_end s (accepted (not wait) s) k refl (sym (append-nil s.taken)) (same_said s _ _ _ _ _)
-          k.may_take (rw (same, plain) refl) (sym (or_false s.tally.connected))
+      k.may_take (rw (same, plain) refl) (sym (or_false s.tally.connected))
 
   opens_silent : (e : SideId) → same_end in_end e ≡ false → same_end out_end e ≡ false → Silent e opens
   opens_silent e p q = let other = ends_apart link e p q in record { read = refl; given = refl; made = rw other refl; connected = refl }
@@ -232,38 +255,41 @@ module _ (waits : List Bool) (ls : List TurnLine) (t : Trace) (l : LinksState) (
         (record l { waiting = later })) s found);
     beyond = λ e found.
         h.beyond e (none_changed in_end e (accepted true) (record l { waiting = later }) (none_changed out_end e
-            (accepted (not wait)) (at_end in_end (accepted true) (record l { waiting = later })) found));
+        (accepted (not wait)) (at_end in_end (accepted true) (record l { waiting = later })) found));
   }
     where
       at_in : (e : SideId) (s : EndState) → same_end out_end e ≡ false →
           ((same_end in_end e ≡ true) × ((old : EndState) × (end_of l e ≡ Some old) × (s ≡ accepted true old))) ⊎
-              ((same_end in_end e ≡ false) × (end_of l e ≡ Some s)) → EndStands waits ls (t ++ opens) e s
+          ((same_end in_end e ≡ false) × (end_of l e ≡ Some s)) → EndStands waits ls (t ++ opens) e s
       at_in e s other (inl own) =
           let is : in_end ≡ e = same_end-eq in_end e own.0 in
           subst (λ z. EndStands waits ls (t ++ opens) e z) (sym own.1.2)
           (subst (λ z. EndStands waits ls (t ++ opens) z (accepted true own.1.0)) is (in_stands own.1.0
-              (subst (λ z. EndStands waits ls t z own.1.0) (sym is) (h.ends e own.1.0 own.1.1))))
+          (subst (λ z. EndStands waits ls t z own.1.0) (sym is) (h.ends e own.1.0 own.1.1))))
       at_in e s other (inr same) = end_silent waits ls t opens e s s (opens_silent e same.0 other) (as_before s) (h.ends e s same.1)
 
       not_both : (e : SideId) → same_end out_end e ≡ true → same_end in_end e ≡ false
       not_both e o =
           elim (same_end_tells in_end e) [
-            | inl i ↦ elim (same_end_tells out_end e) [ inl p ↦ absurd (let a = i.1 in let b = p.1 in omega (arith, a, b)) | inr p
-                ↦ absurd (let b = p.0 in cc) ]
+            | inl i ↦ elim (same_end_tells out_end e) [
+              | inl p ↦ absurd (let a = i.1 in let b = p.1 in omega (arith, a, b))
+              | inr p
+                  ↦ absurd (let b = p.0 in cc)
+            ]
             | inr i ↦ i.0
           ]
 
       at_out : (e : SideId) (s : EndState) →
           ((same_end out_end e ≡ true) × ((old : EndState) × (end_of (at_end in_end (accepted true) (record l { waiting = later }))
-              e ≡ Some old) × (s ≡ accepted (not wait) old)))
+          e ≡ Some old) × (s ≡ accepted (not wait) old)))
           ⊎ ((same_end out_end e ≡ false) × (end_of (at_end in_end (accepted true) (record l { waiting = later })) e ≡ Some s)) →
-              EndStands waits ls (t ++ opens) e s
+          EndStands waits ls (t ++ opens) e s
       at_out e s (inl own) =
           let is : out_end ≡ e = same_end-eq out_end e own.0 in
           let found : end_of l e ≡ Some own.1.0 =
           sym (slice_get-changed_other (accepted true) l.ends (number in_end) (number e) (λ q. elim (same_end_tells in_end e)
-              [ inl i ↦ absurd (let a = i.0 in let b = not_both e own.0 in cc) | inr i ↦ i.1 (sym q) ])) ∙ own.1.1 in
+          [ inl i ↦ absurd (let a = i.0 in let b = not_both e own.0 in cc) | inr i ↦ i.1 (sym q) ])) ∙ own.1.1 in
           subst (λ z. EndStands waits ls (t ++ opens) e z) (sym own.1.2)
           (subst (λ z. EndStands waits ls (t ++ opens) z (accepted (not wait) own.1.0)) is
-              (out_stands own.1.0 (subst (λ z. EndStands waits ls t z own.1.0) (sym is) (h.ends e own.1.0 found))))
+          (out_stands own.1.0 (subst (λ z. EndStands waits ls t z own.1.0) (sym is) (h.ends e own.1.0 found))))
       at_out e s (inr same) = at_in e s same.0 (end_changed in_end e (accepted true) (record l { waiting = later }) s same.1)

@@ -33,14 +33,14 @@ next_bytes side bytes rest l k e h b = b.bytes k h ∙ ap (λ t. t ++ bytes_of k
 bytes_come : (turn : Option ℕ) (side : SideId) (bytes : List ℕ) (rest : List TurnLine) (l : LinksKept) (k : ℕ) → k ≡ number side →
     Brings (line.Pending side bytes ∷ rest) l →
     changed k (state_after_line turn (at.Pending (length bytes)) (kept_at k l.to_come)) l.state.ends ≡ changed k
-        (end_after_line turn (line.Pending side bytes)) l.state.ends
+    (end_after_line turn (line.Pending side bytes)) l.state.ends
 bytes_come turn side bytes rest l k e b =
     let coming = state_after_line turn (at.Pending (length bytes)) (kept_at k l.to_come) in
     let come = end_after_line turn (line.Pending side bytes) in
     elim (cases_lt k (length l.to_come)) [
       | inl h ↦
           let first : take (length bytes) (kept_at k l.to_come) ≡ bytes = ap (take (length bytes))
-              (next_bytes side bytes rest l k e h b) ∙ take_at bytes (bytes_of k rest) (length bytes) refl in
+          (next_bytes side bytes rest l k e h b) ∙ take_at bytes (bytes_of k rest) (length bytes) refl in
           changed_agree coming come l.state.ends k (λ (s : EndState). rw first)
       | inr h ↦
           let beyond : length l.state.ends ≤ k = omega (arith, b.ends) in
@@ -55,10 +55,10 @@ bytes_left side bytes rest l k0 k n b h =
     elim (cases_eq k k0) [
       | inl e ↦
           rw (sym e) (get_or-changed_same (drop (length bytes)) l.to_come k [] h ∙ ap (drop (length bytes))
-              (next_bytes side bytes rest l k (e ∙ n) h b) ∙ drop_at bytes (bytes_of k rest) (length bytes) refl)
+          (next_bytes side bytes rest l k (e ∙ n) h b) ∙ drop_at bytes (bytes_of k rest) (length bytes) refl)
       | inr e ↦
           get_or-changed_other (drop (length bytes)) l.to_come k0 k [] e ∙ b.bytes k h ∙ ap (λ t. t ++ bytes_of k rest)
-              (bytes_elsewhere side bytes k (λ q. e (q ∙ sym n)))
+          (bytes_elsewhere side bytes k (λ q. e (q ∙ sym n)))
     ]
 
 -- a line that changes an end and brings no bytes
@@ -74,24 +74,36 @@ one_line : (x : TurnLine) (rest : List TurnLine) (l : LinksKept) → Brings (x �
     ≡ after_line x l.state) × Brings rest (links_after_line (kept_line x) l)
 one_line (line.NewLink wait) rest l b = (rw b.links, record { links = rw b.links; bytes = b.bytes; ends = b.ends })
 one_line line.PollFail rest l b = (refl, record { links = b.links; bytes = b.bytes; ends = b.ends })
-one_line (line.Conn link connected) rest l b =
-    (refl, quiet_line (out_end link) (end_after_line l.state.turn (line.Conn link connected)) rest l
-        (record { links = b.links; bytes = b.bytes; ends = b.ends }))
-one_line (line.Eof side) rest l b =
-    (refl, quiet_line side (end_after_line l.state.turn (line.Eof side)) rest l
-        (record { links = b.links; bytes = b.bytes; ends = b.ends }))
-one_line (line.ReadFail side) rest l b =
-    (refl, quiet_line side (end_after_line l.state.turn (line.ReadFail side)) rest l
-        (record { links = b.links; bytes = b.bytes; ends = b.ends }))
-one_line (line.Take side more) rest l b =
-    (refl, quiet_line side (end_after_line l.state.turn (line.Take side more)) rest l
-        (record { links = b.links; bytes = b.bytes; ends = b.ends }))
-one_line (line.WriteFail side) rest l b =
-    (refl, quiet_line side (end_after_line l.state.turn (line.WriteFail side)) rest l
-        (record { links = b.links; bytes = b.bytes; ends = b.ends }))
-one_line (line.Spur side) rest l b =
-    (refl, quiet_line side (end_after_line l.state.turn (line.Spur side)) rest l
-        (record { links = b.links; bytes = b.bytes; ends = b.ends }))
+one_line (line.Conn link connected) rest l b = (
+  refl,
+  quiet_line (out_end link) (end_after_line l.state.turn (line.Conn link connected)) rest l
+      (record { links = b.links; bytes = b.bytes; ends = b.ends }),
+)
+one_line (line.Eof side) rest l b = (
+  refl,
+  quiet_line side (end_after_line l.state.turn (line.Eof side)) rest l
+      (record { links = b.links; bytes = b.bytes; ends = b.ends }),
+)
+one_line (line.ReadFail side) rest l b = (
+  refl,
+  quiet_line side (end_after_line l.state.turn (line.ReadFail side)) rest l
+      (record { links = b.links; bytes = b.bytes; ends = b.ends }),
+)
+one_line (line.Take side more) rest l b = (
+  refl,
+  quiet_line side (end_after_line l.state.turn (line.Take side more)) rest l
+      (record { links = b.links; bytes = b.bytes; ends = b.ends }),
+)
+one_line (line.WriteFail side) rest l b = (
+  refl,
+  quiet_line side (end_after_line l.state.turn (line.WriteFail side)) rest l
+      (record { links = b.links; bytes = b.bytes; ends = b.ends }),
+)
+one_line (line.Spur side) rest l b = (
+  refl,
+  quiet_line side (end_after_line l.state.turn (line.Spur side)) rest l
+      (record { links = b.links; bytes = b.bytes; ends = b.ends }),
+)
 one_line (line.Pending side bytes) rest l b =
     let k = number side in
     let come = bytes_come l.state.turn side bytes rest l k refl b in
@@ -140,8 +152,12 @@ with_more_links v w l =
     let ends = new_ends-append v w in
     let bytes = no_bytes-append v w in
     rw (ends, bytes)
-    (rw (sym (append_assoc l.state.ends (new_ends v) (new_ends w)), sym (append_assoc l.to_open v w), sym
-        (append_assoc l.to_come (no_bytes v) (no_bytes w))))
+    (rw (
+      sym (append_assoc l.state.ends (new_ends v) (new_ends w)),
+      sym (append_assoc l.to_open v w),
+      sym
+          (append_assoc l.to_come (no_bytes v) (no_bytes w)),
+    ))
 
 -- the links of one turn more
 pub links_step : (turns : List (ℕ × List TurnLine)) (i : ℕ) (turn : ℕ × List TurnLine) (l m n : LinksKept) → i < length turns →
@@ -150,7 +166,7 @@ pub links_step : (turns : List (ℕ × List TurnLine)) (i : ℕ) (turn : ℕ × 
 links_step turns i turn l m n h e now so_far =
     let later = lines_of (drop (i + 1) turns) in
     ap (with_links (links_of later)) now ∙ sym (with_more_links (links_of turn.1) (links_of later) l) ∙ ap (λ t. with_links t l)
-        (sym (links_of-append turn.1 later) ∙ ap links_of (sym (turn_begins turns i turn h e))) ∙ so_far
+    (sym (links_of-append turn.1 later) ∙ ap links_of (sym (turn_begins turns i turn h e))) ∙ so_far
 
 with_all_bytes-append : (xs ys : List TurnLine) (to_come : List (List ℕ)) → with_all_bytes (xs ++ ys) to_come ≡ with_all_bytes ys
     (with_all_bytes xs to_come)
@@ -183,10 +199,10 @@ kept-with_bytes (line.Pending side bytes) to_come k h =
     elim (cases_eq k (number side)) [
       | inl e ↦
           ap (λ n. kept_at k (changed n (λ before. before ++ bytes) to_come)) (sym e) ∙ get_or-changed_same
-              (λ before. before ++ bytes) to_come k [] h ∙ ap (λ t. kept_at k to_come ++ t) (sym (bytes_here side bytes k e))
+          (λ before. before ++ bytes) to_come k [] h ∙ ap (λ t. kept_at k to_come ++ t) (sym (bytes_here side bytes k e))
       | inr e ↦
           get_or-changed_other (λ before. before ++ bytes) to_come (number side) k [] e ∙ sym (append-nil (kept_at k to_come)) ∙ ap
-              (λ t. kept_at k to_come ++ t) (sym (bytes_elsewhere side bytes k e))
+          (λ t. kept_at k to_come ++ t) (sym (bytes_elsewhere side bytes k e))
     ]
 kept-with_bytes _ to_come k h = sym (append-nil (kept_at k to_come))
 
@@ -216,7 +232,7 @@ all_to_come xs l links ends come = record {
       let known = length-with_all_bytes xs (no_bytes (links_of xs)) in
       let within : k < length (no_bytes (links_of xs)) = omega (arith, known, ap length come) in
       ap (kept_at k) come ∙ kept-with_all_bytes xs (no_bytes (links_of xs)) k within ∙ ap (λ t. t ++ bytes_of k xs)
-          (no_bytes_at (links_of xs) k);
+      (no_bytes_at (links_of xs) k);
   ends = ap length ends ∙ as_many_ends (links_of xs) ∙ sym (length-with_all_bytes xs (no_bytes (links_of xs))) ∙ ap length (sym come);
 }
 
@@ -225,4 +241,4 @@ pub links_done : (turns : List (ℕ × List TurnLine)) (i : ℕ) (l n : LinksKep
     (links_of (lines_of (drop i turns))) l ≡ n → l ≡ n
 links_done turns i l n h so_far =
     sym (rw (append-nil l.state.ends, append-nil l.to_open, append-nil l.to_come)) ∙ ap (λ t. with_links (links_of (lines_of t)) l)
-        (sym (drop_all i turns h)) ∙ so_far
+    (sym (drop_all i turns h)) ∙ so_far

@@ -56,8 +56,11 @@ runs-accept now n link (wait ∷ ws) l h =
 
 fresh : (k : ℕ) (o : Option ℕ) → ((turn : ℕ) → o ≡ Some turn → turn < k) → same_turn (Some k) o ≡ false
 fresh k None h = refl
-fresh k (Some turn) h = let less = h turn refl in elim (eqb_tells k turn) [ inl t ↦ absurd
-    (let e = t.1 in omega (arith, less, e)) | inr t ↦ t.0 ]
+fresh k (Some turn) h = let less = h turn refl in elim (eqb_tells k turn) [
+  | inl t ↦ absurd
+      (let e = t.1 in omega (arith, less, e))
+  | inr t ↦ t.0
+]
 
 pub runs-entered : (now : List TurnLine) (k : ℕ) (l : LinksState) → RunsTurn now k l → RunsTurn [] (k + 1) (entered (Some k) l)
 runs-entered now k l h = record {
@@ -95,11 +98,11 @@ spurred now k side l runs h = record {
         | inl own ↦
             ap (λ (z : EndState). is_spurred l.turn z) own.1.2 ∙ same_turn-self k l.turn runs
             ∙ sym (any-push (marks_all e) now (line.Spur side) ∙ ap (λ z. list_any (marks_all e) now || z) own.0 ∙ or_true
-                (list_any (marks_all e) now))
+            (list_any (marks_all e) now))
         | inr other ↦
             h.spurs e s other.1
             ∙ sym (any-push (marks_all e) now (line.Spur side) ∙ ap (λ z. list_any (marks_all e) now || z) other.0 ∙ or_false
-                (list_any (marks_all e) now))
+            (list_any (marks_all e) now))
       ];
   earlier = λ e s found turn is.
       elim (end_changed side e (λ x. record x { spurred = l.turn }) l s found) [
@@ -121,22 +124,22 @@ runs-line now k line.PollFail l runs h = record {
 }
 runs-line now k (line.Conn link connected) l runs h =
     still now (k + 1) (line.Conn link connected) (after_line (line.Conn link connected) l) refl (λ e. refl)
-        (runs-at_end now (k + 1) (out_end link) (end_after_line l.turn (line.Conn link connected)) l (λ s. refl) h)
+    (runs-at_end now (k + 1) (out_end link) (end_after_line l.turn (line.Conn link connected)) l (λ s. refl) h)
 runs-line now k (line.Pending side bytes) l runs h =
     still now (k + 1) (line.Pending side bytes) (after_line (line.Pending side bytes) l) refl (λ e. refl)
-        (runs-at_end now (k + 1) side (end_after_line l.turn (line.Pending side bytes)) l (λ s. refl) h)
+    (runs-at_end now (k + 1) side (end_after_line l.turn (line.Pending side bytes)) l (λ s. refl) h)
 runs-line now k (line.Eof side) l runs h =
     still now (k + 1) (line.Eof side) (after_line (line.Eof side) l) refl (λ e. refl) (runs-at_end now (k + 1) side
-        (end_after_line l.turn (line.Eof side)) l (λ s. refl) h)
+    (end_after_line l.turn (line.Eof side)) l (λ s. refl) h)
 runs-line now k (line.ReadFail side) l runs h =
     still now (k + 1) (line.ReadFail side) (after_line (line.ReadFail side) l) refl (λ e. refl)
-        (runs-at_end now (k + 1) side (end_after_line l.turn (line.ReadFail side)) l (λ s. refl) h)
+    (runs-at_end now (k + 1) side (end_after_line l.turn (line.ReadFail side)) l (λ s. refl) h)
 runs-line now k (line.Take side more) l runs h =
     still now (k + 1) (line.Take side more) (after_line (line.Take side more) l) refl (λ e. refl)
-        (runs-at_end now (k + 1) side (end_after_line l.turn (line.Take side more)) l (λ s. refl) h)
+    (runs-at_end now (k + 1) side (end_after_line l.turn (line.Take side more)) l (λ s. refl) h)
 runs-line now k (line.WriteFail side) l runs h =
     still now (k + 1) (line.WriteFail side) (after_line (line.WriteFail side) l) refl (λ e. refl)
-        (runs-at_end now (k + 1) side (end_after_line l.turn (line.WriteFail side)) l (λ s. refl) h)
+    (runs-at_end now (k + 1) side (end_after_line l.turn (line.WriteFail side)) l (λ s. refl) h)
 runs-line now k (line.Spur side) l runs h = spurred now k side l runs h
 
 -- no line changes which turn runs

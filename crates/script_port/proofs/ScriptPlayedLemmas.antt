@@ -57,10 +57,28 @@ untouched-cons e y ls k h = record {
 
 -- a line that names no end of a link says nothing of it
 untouched-one : (e : SideId) (n : ℕ) (x : TurnLine) → NamesOpened n (x ∷ []) → n ≤ e.link → Untouched e (x ∷ [])
-untouched-one e n (line.NewLink wait) h far = record { brings = refl; ends = refl; reads = refl; allows = refl; any = refl; writes
-    = refl; decides = refl; marks = refl }
-untouched-one e n line.PollFail h far = record { brings = refl; ends = refl; reads = refl; allows = refl; any = refl; writes =
-    refl; decides = refl; marks = refl }
+untouched-one e n (line.NewLink wait) h far = record {
+  brings = refl;
+  ends = refl;
+  reads = refl;
+  allows = refl;
+  any = refl;
+  writes
+      = refl;
+  decides = refl;
+  marks = refl;
+}
+untouched-one e n line.PollFail h far = record {
+  brings = refl;
+  ends = refl;
+  reads = refl;
+  allows = refl;
+  any = refl;
+  writes =
+      refl;
+  decides = refl;
+  marks = refl;
+}
 untouched-one e n (line.Conn link connected) h far =
     let other = apart_links link e.link (let first = h.0 in omega (arith, first, far)) in
     record { brings = refl; ends = refl; reads = refl; allows = refl; any = refl; writes = refl; decides = rw other; marks = refl }
@@ -104,13 +122,22 @@ names-cons n (line.WriteFail side) xs h = ((h.0, tt), h.1, refl)
 names-cons n (line.Spur side) xs h = ((h.0, tt), h.1, refl)
 
 pub untouched : (e : SideId) (n : ℕ) (xs : List TurnLine) → NamesOpened n xs → n + length (links_of xs) ≤ e.link → Untouched e xs
-untouched e n [] named h = record { brings = refl; ends = refl; reads = refl; allows = refl; any = refl; writes = refl; decides =
-    refl; marks = refl }
+untouched e n [] named h = record {
+  brings = refl;
+  ends = refl;
+  reads = refl;
+  allows = refl;
+  any = refl;
+  writes = refl;
+  decides =
+      refl;
+  marks = refl;
+}
 untouched e n (x ∷ xs) named h =
     let parts = names-cons n x xs named in
     let count = parts.2 in
     untouched-cons e x xs (untouched-one e n x parts.0 (omega (arith, h))) (untouched e (opened_by n x) xs parts.1
-        (omega (arith, h, count)))
+    (omega (arith, h, count)))
 
 pub named_before : (n : ℕ) (xs ys : List TurnLine) → NamesOpened n (xs ++ ys) → NamesOpened n xs
 named_before n [] ys h = tt
@@ -147,7 +174,7 @@ lines_of_turn n turns turn h =
     let less : n + 1 - 1 ≡ n = omega arith in
     let front : length (take n turns) ≡ n = length-take-le n turns (omega arith) in
     ap (λ k. lines_of (drop k (take (n + 1) turns))) less ∙ ap (λ z. lines_of (drop n z)) (take_more turns n turn within ∙ ap
-        (λ z. take n turns ++ z ∷ []) here)
+    (λ z. take n turns ++ z ∷ []) here)
     ∙ ap lines_of (drop_at (take n turns) (turn ∷ []) n front) ∙ append-nil turn.1
 
 pub moment_next : (n : ℕ) (turns : List ScriptTurn) (turn : ScriptTurn) (d : ℕ) → slice_get turns n ≡ Some turn → get_or

@@ -41,24 +41,47 @@ quiet-none : Quiet []
 quiet-none = record { silent = silent-none; turns = refl }
 
 pub quiet-want : (side : SideId) (r w : Bool) → Quiet ((entry.Want side r w, []) ∷ [])
-quiet-want side r w = record { silent = record { ends = λ e. record { read = refl; given = refl; made = refl; connected = refl };
-    opens = refl }; turns = refl }
+quiet-want side r w = record {
+  silent = record {
+    ends = λ e. record { read = refl; given = refl; made = refl; connected = refl };
+    opens = refl;
+  };
+  turns = refl;
+}
 
 quiet-ready : (side : SideId) (r w : Bool) → Quiet ((entry.Ready side r w, []) ∷ [])
-quiet-ready side r w = record { silent = record { ends = λ e. record { read = refl; given = refl; made = refl; connected = refl };
-    opens = refl }; turns = refl }
+quiet-ready side r w = record {
+  silent = record {
+    ends = λ e. record { read = refl; given = refl; made = refl; connected = refl };
+    opens = refl;
+  };
+  turns = refl;
+}
 
 quiet-begun : (timeout : Option ℕ) → Quiet ((entry.Poll timeout, []) ∷ [])
-quiet-begun timeout = record { silent = record { ends = λ e. record { read = refl; given = refl; made = refl; connected = refl };
-    opens = refl }; turns = refl }
+quiet-begun timeout = record {
+  silent = record {
+    ends = λ e. record { read = refl; given = refl; made = refl; connected = refl };
+    opens = refl;
+  };
+  turns = refl;
+}
 
 pub quiet-close_write : (side : SideId) → Quiet ((entry.CloseWrite side, []) ∷ [])
-quiet-close_write side = record { silent =
-    record { ends = λ e. record { read = refl; given = refl; made = refl; connected = refl }; opens = refl }; turns = refl }
+quiet-close_write side = record {
+  silent =
+      record { ends = λ e. record { read = refl; given = refl; made = refl; connected = refl }; opens = refl };
+  turns = refl;
+}
 
 pub quiet-close : (side : SideId) → Quiet ((entry.Close side, []) ∷ [])
-quiet-close side = record { silent = record { ends = λ e. record { read = refl; given = refl; made = refl; connected = refl };
-    opens = refl }; turns = refl }
+quiet-close side = record {
+  silent = record {
+    ends = λ e. record { read = refl; given = refl; made = refl; connected = refl };
+    opens = refl;
+  };
+  turns = refl;
+}
 
 -- a turn says nothing of ends and links either
 pub silent-turn : (ms : ℕ) → AllSilent ((entry.Turn ms, []) ∷ [])
@@ -66,14 +89,20 @@ silent-turn ms = record { ends = λ e. record { read = refl; given = refl; made 
 
 pub quiet-unheard : (x : Entry) → IsUnheard x → Quiet ((x, []) ∷ [])
 quiet-unheard (entry.Fired side why) h =
-    record { silent = record { ends = λ e. record { read = refl; given = refl; made = refl; connected = refl }; opens = refl };
-    turns = refl }
+    record {
+      silent = record { ends = λ e. record { read = refl; given = refl; made = refl; connected = refl }; opens = refl };
+      turns = refl;
+    }
 quiet-unheard (entry.Asked side act answer) h =
-    record { silent = record { ends = λ e. record { read = refl; given = refl; made = refl; connected = refl }; opens = refl };
-    turns = refl }
+    record {
+      silent = record { ends = λ e. record { read = refl; given = refl; made = refl; connected = refl }; opens = refl };
+      turns = refl;
+    }
 quiet-unheard (entry.Freed side cause moved given) h =
-    record { silent = record { ends = λ e. record { read = refl; given = refl; made = refl; connected = refl }; opens = refl };
-    turns = refl }
+    record {
+      silent = record { ends = λ e. record { read = refl; given = refl; made = refl; connected = refl }; opens = refl };
+      turns = refl;
+    }
 quiet-unheard _ h = absurd h
 
 pub unheard_is : (x : Entry) → IsUnheard x → (x, []) ∷ [] ≡ plays.own_events x
@@ -99,20 +128,26 @@ quiet-readies : (ws : List Want) → Quiet (ready_events ws)
 quiet-readies [] = quiet-none
 quiet-readies (w ∷ ws) =
     quiet-append (if w.can_read then (entry.Ready w.side true w.can_write, []) ∷ [] else (if w.can_write
-        then (entry.Ready w.side false true, []) ∷ [] else [])) (ready_events ws)
+    then (entry.Ready w.side false true, []) ∷ [] else [])) (ready_events ws)
     (quiet-mark w.side w.can_read w.can_write) (quiet-readies ws)
 
 quiet-failed : Quiet ((entry.PollFailed, []) ∷ [])
-quiet-failed = record { silent = record { ends = λ e. record { read = refl; given = refl; made = refl; connected = refl }; opens =
-    refl }; turns = refl }
+quiet-failed = record {
+  silent = record {
+    ends = λ e. record { read = refl; given = refl; made = refl; connected = refl };
+    opens =
+        refl;
+  };
+  turns = refl;
+}
 
 pub quiet-poll : (timeout : Option ℕ) (ws : List Want) (answer : Polled) → Quiet (poll_events timeout ws answer)
 quiet-poll timeout ws (polled.Ready accept) =
     quiet-append ((entry.Poll timeout, []) ∷ []) (want_events ws ++ ready_events ws) (quiet-begun timeout)
-        (quiet-append (want_events ws) (ready_events ws) (quiet-wants ws) (quiet-readies ws))
+    (quiet-append (want_events ws) (ready_events ws) (quiet-wants ws) (quiet-readies ws))
 quiet-poll timeout ws polled.Failed =
     quiet-append ((entry.Poll timeout, []) ∷ []) (want_events ws ++ (entry.PollFailed, []) ∷ []) (quiet-begun timeout)
-        (quiet-append (want_events ws) ((entry.PollFailed, []) ∷ []) (quiet-wants ws) quiet-failed)
+    (quiet-append (want_events ws) ((entry.PollFailed, []) ∷ []) (quiet-wants ws) quiet-failed)
 
 -- a want as the model has it
 abbrev pub wish : Want → rooms.Want
@@ -127,7 +162,7 @@ shown ws = filter (λ w. w.read || w.write) ws
 
 one_mark : (side : SideId) (a b : Bool) (ws : List rooms.Want) (rest : Trace) → rest ≡ plays.ready_events (shown ws) →
     ◌≡◌ {A = Trace} ((if a then (entry.Ready side true b, []) ∷ [] else (if b then (entry.Ready side false true, []) ∷ [] else []))
-        ++ rest) (plays.ready_events (shown (record { side = side; read = a; write = b } ∷ ws)))
+    ++ rest) (plays.ready_events (shown (record { side = side; read = a; write = b } ∷ ws)))
 one_mark side true b ws rest h = ap (λ z. (entry.Ready side true b, []) ∷ z) h
 one_mark side false true ws rest h = ap (λ z. (entry.Ready side false true, []) ∷ z) h
 one_mark side false false ws rest h = h
@@ -139,8 +174,12 @@ wishes_kept f same (w ∷ ws) = λ i. same w i ∷ wishes_kept f same ws i
 
 module _ (turns : List ScriptTurn) (t : Trace) (asked : IsCalledFor turns t) (l : LinksState) (n : ℕ)
     (h : LinksStand (links_of (lines_of turns)) (model.lines turns t) t l) (now : RunsTurn (model.lines_now turns t) n l) where
-  mark_is : (w : Want) → model.marked turns t (wish w) ≡ record { side = w.side; read = w.read &&
-      (can_read_at l w.side || is_spurred_at l w.side); write = w.write && (can_write_at l w.side || is_spurred_at l w.side) }
+  mark_is : (w : Want) → model.marked turns t (wish w) ≡ record {
+    side = w.side;
+    read = w.read &&
+        (can_read_at l w.side || is_spurred_at l w.side);
+    write = w.write && (can_write_at l w.side || is_spurred_at l w.side);
+  }
   mark_is w =
       let all = spurs_are turns t asked l h n now w.side in
       let r = can_read_is turns t asked l h w.side in
@@ -151,25 +190,25 @@ module _ (turns : List ScriptTurn) (t : Trace) (asked : IsCalledFor turns t) (l 
   readies_same [] = refl
   readies_same (w ∷ ws) =
       one_mark w.side (w.read && (can_read_at l w.side || is_spurred_at l w.side)) (w.write &&
-          (can_write_at l w.side || is_spurred_at l w.side)) (map (model.marked turns t) (map wish ws))
-          (ready_events (map (λ w. marked l w) ws)) (readies_same ws)
+      (can_write_at l w.side || is_spurred_at l w.side)) (map (model.marked turns t) (map wish ws))
+      (ready_events (map (λ w. marked l w) ws)) (readies_same ws)
       ∙ ap (λ z. plays.ready_events (shown (z ∷ map (model.marked turns t) (map wish ws)))) (sym (mark_is w))
 
   pub poll_is : (timeout : Option ℕ) (ws : List Want) (accept : Bool) (closing_by : ℕ) →
       poll_events timeout (poll_marks l ws) (if l.poll_fails then polled.Failed else polled.Ready accept) ≡ plays.events turns
-          closing_by t (plays.Step.Poll timeout (map wish ws))
+      closing_by t (plays.Step.Poll timeout (map wish ws))
   poll_is timeout ws accept closing_by = by_line l.poll_fails refl
     where
       by_line : (b : Bool) → l.poll_fails ≡ b →
           poll_events timeout (if b then map unmarked ws else map (λ w. marked l w) ws) (if b then polled.Failed else polled.Ready
-              accept) ≡ plays.events turns closing_by t (plays.Step.Poll timeout (map wish ws))
+          accept) ≡ plays.events turns closing_by t (plays.Step.Poll timeout (map wish ws))
       by_line true fails =
           let wants = wants_same (map unmarked ws) ∙ ap plays.want_events (wishes_kept unmarked (λ w. refl) ws) in
           (λ i. (entry.Poll timeout, []) ∷ (wants i ++ (entry.PollFailed, []) ∷ []))
           ∙ ap (λ b. (entry.Poll timeout, []) ∷ (plays.want_events (map wish ws) ++ (if b then (entry.PollFailed, []) ∷ []
-              else plays.ready_events (model.marks turns t (map wish ws))))) (sym (sym now.poll ∙ fails))
+          else plays.ready_events (model.marks turns t (map wish ws))))) (sym (sym now.poll ∙ fails))
       by_line false goes =
           let wants = wants_same (map (λ w. marked l w) ws) ∙ ap plays.want_events (wishes_kept (λ w. marked l w) (λ w. refl) ws) in
           (λ i. (entry.Poll timeout, []) ∷ (wants i ++ readies_same ws i))
           ∙ ap (λ b. (entry.Poll timeout, []) ∷ (plays.want_events (map wish ws) ++ (if b then (entry.PollFailed, []) ∷ []
-              else plays.ready_events (model.marks turns t (map wish ws))))) (sym (sym now.poll ∙ goes))
+          else plays.ready_events (model.marks turns t (map wish ws))))) (sym (sym now.poll ∙ goes))

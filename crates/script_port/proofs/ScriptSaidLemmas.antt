@@ -107,7 +107,7 @@ said turn line.PollFail e s h = absurd (cc)
 said turn (line.Conn link connected) e s h =
     let same : (link == link) ≡ true = elim (eqb_tells link link) [ inl t ↦ t.0 | inr t ↦ absurd (t.1 refl) ] in
     subst (λ z. Said z (line.Conn link connected) s (end_after_line turn (line.Conn link connected) s))
-        (same_end-eq (out_end link) e h) (record {
+    (same_end-eq (out_end link) e h) (record {
       pending = sym (append-nil s.pending);
       eof = sym (or_false s.eof);
       read_fails = sym (or_false s.read_fails);

@@ -52,8 +52,11 @@ none_made e t front (x ∷ rest) is order h = ap (λ b. b || is_made_connected e
         let whole : opened t ≡ opened (front ++ y ∷ rest) = ap opened eq in
         let parts = sum_by-append (λ z. if is_opened z then 1 else 0) front (y ∷ rest) in
         let first = sum_by-cons (λ z. if is_opened z then 1 else 0) y rest in
-        elim (eqb_tells link e.link) [ inl same ↦ absurd (let s = same.1 in omega (arith, here, whole, parts, first, h, s)) | inr
-            other ↦ rw other.0 refl ]
+        elim (eqb_tells link e.link) [
+          | inl same ↦ absurd (let s = same.1 in omega (arith, here, whole, parts, first, h, s))
+          | inr
+              other ↦ rw other.0 refl
+        ]
     one _ eq = refl
 
 -- what stands past a list
@@ -132,14 +135,14 @@ module _ (turns : List ScriptTurn) (t : Trace) (asked : IsCalledFor turns t) whe
   lines_parts =
       ap lines_of (sym (take-append-drop (model.begun turns t - 1) (take (model.begun turns t) turns)))
       ∙ flat_map-append (λ (turn : ScriptTurn). turn.1) (take (model.begun turns t - 1) (take (model.begun turns t) turns))
-          (drop (model.begun turns t - 1) (take (model.begun turns t) turns))
+      (drop (model.begun turns t - 1) (take (model.begun turns t) turns))
 
   pub unmarked_now : (e : SideId) → length (model.links turns t) ≤ e.link → list_any (marks_all e) (model.lines_now turns t) ≡ false
   unmarked_now e far =
       let before = lines_of (take (model.begun turns t - 1) (take (model.begun turns t) turns)) in
       or_right (list_any (marks_all e) before) (list_any (marks_all e) (model.lines_now turns t))
       (sym (list_any-append (marks_all e) before (model.lines_now turns t)) ∙ ap (list_any (marks_all e)) (sym lines_parts) ∙
-          (unsaid e far).marks)
+      (unsaid e far).marks)
     where
       or_right : (a b : Bool) → (a || b) ≡ false → b ≡ false
       or_right true b k = absurd (cc)
@@ -170,12 +173,14 @@ module _ (turns : List ScriptTurn) (t : Trace) (asked : IsCalledFor turns t) whe
     pub read_is : (e : SideId) (room : ℕ) → model.read_answer turns t e room ≡ (read_answer_at l e room, take room (pending_at l e))
     read_is e room = by_end (end_of l e) refl
       where
-        by_end : (o : Option EndState) → end_of l e ≡ o → model.read_answer turns t e room ≡
-            (option_map_or (λ (s : EndState). read_answer s room) o read.NotYet, take room
-            (option_map_or (λ (s : EndState). s.pending) o []))
+        by_end : (o : Option EndState) → end_of l e ≡ o → model.read_answer turns t e room ≡ (
+          option_map_or (λ (s : EndState). read_answer s room) o read.NotYet,
+          take room
+              (option_map_or (λ (s : EndState). s.pending) o []),
+        )
         by_end None found =
             (λ i. reads (pending_is e None found i) (reads_are e None found i) (ended_is e None found i) room) ∙ ap
-                (λ z. (read.NotYet, z)) (sym (take-nil room))
+            (λ z. (read.NotYet, z)) (sym (take-nil room))
         by_end (Some s) found = (λ i. reads (pending_is e (Some s) found i) (reads_are e (Some s) found i)
             (ended_is e (Some s) found i) room) ∙ reads_same s room
 
@@ -186,7 +191,7 @@ module _ (turns : List ScriptTurn) (t : Trace) (asked : IsCalledFor turns t) whe
         by_end None found = (λ i. nat_le 1 (length (pending_is e None found i)) || reads_are e None found i || ended_is e None found i)
         by_end (Some s) found =
             (λ i. nat_le 1 (length (pending_is e (Some s) found i)) || reads_are e (Some s) found i || ended_is e (Some s) found i)
-                ∙ ap (λ b. b || s.read_fails || s.eof) (one_le (length s.pending))
+            ∙ ap (λ b. b || s.read_fails || s.eof) (one_le (length s.pending))
 
     -- what the script lets an end take
     lets_is : (e : SideId) → model.may_take turns t e ≡ lets (list_any (allows_all e) (model.lines turns t))
@@ -205,16 +210,18 @@ module _ (turns : List ScriptTurn) (t : Trace) (asked : IsCalledFor turns t) whe
         let un = unsaid e far in
         let nothing : sum_by (allows e) (model.lines turns t) ≡ 0 = un.allows in
         ap (λ o. at_most o offer) (lets_is e ∙ (λ i. lets (un.any i) (sum_by (allows e) (model.lines turns t))
-            (length (bytes_given e t)))) ∙ omega (arith, nothing)
+        (length (bytes_given e t)))) ∙ omega (arith, nothing)
 
     pub write_is : (e : SideId) (from : List ℕ) → ((s : EndState) → end_of l e ≡ Some s → length s.taken + taken_of s.may_take
         (length from) < 2 ^ 64 - 1) →
         model.write_answer turns t e from ≡ (write_answer_at l e (length from), took_bytes (write_answer_at l e (length from)) from)
     write_is e from fits = by_end (end_of l e) refl
       where
-        by_end : (o : Option EndState) → end_of l e ≡ o → model.write_answer turns t e from ≡
-            (option_map_or (λ (s : EndState). write_answer s (length from)) o write.NotYet, took_bytes
-            (option_map_or (λ (s : EndState). write_answer s (length from)) o write.NotYet) from)
+        by_end : (o : Option EndState) → end_of l e ≡ o → model.write_answer turns t e from ≡ (
+          option_map_or (λ (s : EndState). write_answer s (length from)) o write.NotYet,
+          took_bytes
+              (option_map_or (λ (s : EndState). write_answer s (length from)) o write.NotYet) from,
+        )
         by_end None found =
             let none = takes_none e (length from) (beyond e found) in
             let test : nat_le 1 (at_most (model.may_take turns t e) (length from)) ≡ false = ap (nat_le 1) none ∙ one_le 0 in
@@ -223,11 +230,11 @@ module _ (turns : List ScriptTurn) (t : Trace) (asked : IsCalledFor turns t) whe
             let k = h.ends e s found in
             let given : length (bytes_given e t) ≡ length s.taken = ap length (sym k.taken) in
             let lets_so : model.may_take turns t e ≡ lets (list_any (allows_all e) (model.lines turns t))
-                (sum_by (allows e) (model.lines turns t)) (length s.taken) =
+            (sum_by (allows e) (model.lines turns t)) (length s.taken) =
             lets_is e ∙ ap (lets (list_any (allows_all e) (model.lines turns t)) (sum_by (allows e) (model.lines turns t))) given in
             (λ i. writes (model.may_take turns t e) (writes_are e (Some s) found i) from)
             ∙ writes_same (model.may_take turns t e) s from (ap (λ o. at_most o (length from)) lets_so ∙ takes_same s.may_take _ _
-                (length s.taken) (length from) k.may_take (fits s found))
+            (length s.taken) (length from) k.may_take (fits s found))
 
     decision_is : (e : SideId) → model.decision turns t e ≡ model.first_or None (flat_map (decides e.link) (model.lines turns t))
     decision_is e = λ i. model.first_or (if not_closing i then Some true else None) (flat_map (decides e.link) (model.lines turns t))
@@ -237,7 +244,7 @@ module _ (turns : List ScriptTurn) (t : Trace) (asked : IsCalledFor turns t) whe
         length (model.links turns t) → model.is_undecided turns t e ≡ s.wait
     undecided_is e s k near =
         sym (k.wait ∙ ap (λ z. model.undecided_at e.side (get_or z e.link false)) (sym links_whole) ∙ ap
-            (model.undecided_at e.side) (within_stays (model.links turns t) (links_of to_come) e.link near))
+        (model.undecided_at e.side) (within_stays (model.links turns t) (links_of to_come) e.link near))
 
     not_undecided : (e : SideId) → length (model.links turns t) ≤ e.link → model.is_undecided turns t e ≡ false
     not_undecided e far = ap (model.undecided_at e.side) (past (model.links turns t) e.link far) ∙ undecided_none e.side
@@ -271,10 +278,10 @@ module _ (turns : List ScriptTurn) (t : Trace) (asked : IsCalledFor turns t) whe
                   elim (cases_Bool s.wait) [
                     | inl w ↦
                         (λ i. conn_of ((undecided_is e s k near ∙ w) i) (decided_is e s k w i) (is_made_connected e t)) ∙ ap
-                            (λ b. conn_of b s.decision s.tally.made_connected) (sym w)
+                        (λ b. conn_of b s.decision s.tally.made_connected) (sym w)
                     | inr w ↦
                         (λ i. conn_of ((undecided_is e s k near ∙ w) i) (model.decision turns t e) (sym k.made_connected i)) ∙ ap
-                            (λ b. conn_of b s.decision s.tally.made_connected) (sym w)
+                        (λ b. conn_of b s.decision s.tally.made_connected) (sym w)
                   ]
               | inr far ↦
                   far_is far ∙ sym (conn_none s.wait)
@@ -286,9 +293,9 @@ module _ (turns : List ScriptTurn) (t : Trace) (asked : IsCalledFor turns t) whe
         (at_most (model.may_take turns t e) 1) ≡ not (taken_of s.may_take 1 == 0)
     any_is e s k =
         ap (λ o. nat_le 1 (at_most o 1)) (lets_is e ∙ ap (λ (z : List ℕ). lets (list_any (allows_all e) (model.lines turns t))
-            (sum_by (allows e) (model.lines turns t)) (length z)) (sym k.taken))
+        (sum_by (allows e) (model.lines turns t)) (length z)) (sym k.taken))
         ∙ takes_any s.may_take (list_any (allows_all e) (model.lines turns t)) (sum_by (allows e) (model.lines turns t))
-            (length s.taken) k.may_take
+        (length s.taken) k.may_take
 
     pub can_write_is : (e : SideId) → model.can_write turns t e ≡ can_write_at l e
     can_write_is e = by_end (end_of l e) refl
@@ -306,18 +313,18 @@ module _ (turns : List ScriptTurn) (t : Trace) (asked : IsCalledFor turns t) whe
                   elim (cases_Bool s.wait) [
                     | inl w ↦
                         (λ i. write_of ((undecided_is e s k near ∙ w) i) (sym k.connected i) (decided_is e s k w i)
-                            (any_is e s k i) (writes_are e (Some s) found i))
+                        (any_is e s k i) (writes_are e (Some s) found i))
                         ∙ ap (λ b. write_of b s.tally.connected s.decision (not (taken_of s.may_take 1 == 0)) s.write_fails) (sym w)
                     | inr w ↦
                         (λ i. write_of ((undecided_is e s k near ∙ w) i) (sym k.connected i) (model.decision turns t e)
-                            (any_is e s k i) (writes_are e (Some s) found i))
+                        (any_is e s k i) (writes_are e (Some s) found i))
                         ∙ ap (λ b. write_of b s.tally.connected s.decision (not (taken_of s.may_take 1 == 0)) s.write_fails) (sym w)
                   ]
               | inr far ↦
                   let none : not (taken_of s.may_take 1 == 0) ≡ false = sym (any_is e s k) ∙ ap (nat_le 1) (takes_none e 1 far) in
                   far_is far ∙ sym (write_none s.wait s.tally.connected)
                   ∙ (λ i. write_of s.wait s.tally.connected (sym (undecided_yet e s k far) i) (sym none i)
-                      (sym (k.write_fails ∙ (unsaid e far).writes) i))
+                  (sym (k.write_fails ∙ (unsaid e far).writes) i))
             ]
 
     -- what is marked in the running turn alone

@@ -108,7 +108,7 @@ extended_named script new (text_line.At ms) h named =
     let more : SoFar = record { given = script.given; turns = script.turns ++ (ms, []) ∷ [] } in
     let is : more ≡ new = (if_some (nat_lt (length script.turns) 20000) more new h).1 in
     let same : lines_of (script.turns ++ (ms, []) ∷ []) ≡ lines_of script.turns = flat_map-append (λ (turn : ScriptTurn). turn.1)
-        script.turns ((ms, []) ∷ []) ∙ append-nil (lines_of script.turns) in
+    script.turns ((ms, []) ∷ []) ∙ append-nil (lines_of script.turns) in
     subst IsNamed is (subst (NamesOpened 0) (sym same) named)
 extended_named script new (text_line.Within x) h named =
     let more : SoFar = record { given = script.given; turns = with_line script.turns x } in
@@ -116,10 +116,10 @@ extended_named script new (text_line.Within x) h named =
     let tests = and_parts (nat_lt 0 (length script.turns)) (may_follow (lines_of script.turns) x) parts.0 in
     let some : 0 < length script.turns = tested 0 (length script.turns) tests.0 in
     let follow : NamesOpened (opened (lines_of script.turns)) (x ∷ []) = follows (lines_of script.turns) x
-        (subst (λ z. may_follow z x ≡ true) (lines_same script.turns) tests.1) in
+    (subst (λ z. may_follow z x ≡ true) (lines_same script.turns) tests.1) in
     let count = opened_is (lines_of script.turns) in
     let here : NamesOpened (0 + length (links_of (lines_of script.turns))) (x ∷ []) = subst (λ m. NamesOpened m (x ∷ []))
-        (omega (arith, count)) follow in
+    (omega (arith, count)) follow in
     subst IsNamed parts.1 (subst (NamesOpened 0) (sym (lines_with script.turns x some)) (named_push 0 (lines_of script.turns) x named here))
 extended_named script new text_line.Skipped h named = subst IsNamed (from_some script new h) named
 

@@ -55,7 +55,7 @@ sum-push f xs x = let parts = sum_by-append f xs (x ∷ []) in omega (arith, par
 -- an end of links of which one was changed: it is that one, or it stayed
 pub end_changed : (side e : SideId) (f : EndState → EndState) (l : LinksState) (s : EndState) → end_of (at_end side f l) e ≡ Some s →
     ((same_end side e ≡ true) × ((old : EndState) × (end_of l e ≡ Some old) × (s ≡ f old))) ⊎
-        ((same_end side e ≡ false) × (end_of l e ≡ Some s))
+    ((same_end side e ≡ false) × (end_of l e ≡ Some s))
 end_changed side e f l s h =
     elim (same_end_tells side e) [
       | inl same ↦
@@ -99,10 +99,10 @@ module _ (waits : List Bool) where
     taken = is.taken ∙ h.taken;
     may_take =
         subst (λ z. MayTake new.may_take (list_any (allows_all e) (ls ++ y ∷ [])) (sum_by (allows e) (ls ++ y ∷ [])) (length z))
-            (sym is.taken)
+        (sym is.taken)
         (subst (λ z. MayTake new.may_take z (sum_by (allows e) (ls ++ y ∷ [])) (length s.taken)) (sym (any-push (allows_all e) ls y))
         (subst (λ z. MayTake new.may_take (list_any (allows_all e) ls || allows_all e y) z (length s.taken))
-            (sym (sum-push (allows e) ls y))
+        (sym (sum-push (allows e) ls y))
         (is.may_take (list_any (allows_all e) ls) (sum_by (allows e) ls) h.may_take)));
     write_fails = is.write_fails ∙ ap (λ z. z || fails_writes e y) h.write_fails ∙ sym (any-push (fails_writes e) ls y);
     wait = is.wait ∙ h.wait;
@@ -115,7 +115,7 @@ module _ (waits : List Bool) where
       (opened t ≤ length (flat_map links_by (ls ++ y ∷ []))) × (l.waiting ≡ drop (opened t) (flat_map links_by (ls ++ y ∷ [])))
   links-push ls t y l none h =
       let same : flat_map links_by (ls ++ y ∷ []) ≡ flat_map links_by ls = flat-push links_by ls y ∙ ap
-          (λ z. flat_map links_by ls ++ z) none ∙ append-nil (flat_map links_by ls) in
+      (λ z. flat_map links_by ls ++ z) none ∙ append-nil (flat_map links_by ls) in
       (subst (λ z. opened t ≤ length z) (sym same) h.in_order, subst (λ z. l.waiting ≡ drop (opened t) z) (sym same) h.waiting)
 
   -- one line that names an end

@@ -83,14 +83,28 @@ pub record Like (l new : LinksState) : Type 0 where
 
 pub same_said : (s : EndState) (given pending : List ℕ) (may_take : Option ℕ) (taken : List ℕ) (tally : EndTally) →
     SameSaid s (record s { given = given; pending = pending; may_take = may_take; taken = taken; tally = tally })
-same_said s given pending may_take taken tally = record { eof = refl; read_fails = refl; write_fails = refl; wait = refl; decision
-    = refl; spurred = refl }
+same_said s given pending may_take taken tally = record {
+  eof = refl;
+  read_fails = refl;
+  write_fails = refl;
+  wait = refl;
+  decision
+      = refl;
+  spurred = refl;
+}
 
 -- only counts changed
 pub counts_alone : (s : EndState) (tally : EndTally) → tally.made_connected ≡ s.tally.made_connected → tally.connected ≡
     s.tally.connected → AsBefore s (record s { tally = tally })
-counts_alone s tally made connected = record { said = same_said s s.given s.pending s.may_take s.taken tally; pending = refl; taken
-    = refl; may_take = refl; made_connected = made; connected = connected }
+counts_alone s tally made connected = record {
+  said = same_said s s.given s.pending s.may_take s.taken tally;
+  pending = refl;
+  taken
+      = refl;
+  may_take = refl;
+  made_connected = made;
+  connected = connected;
+}
 
 pub as_before : (s : EndState) → AsBefore s s
 as_before s = counts_alone s s.tally refl refl
@@ -158,12 +172,12 @@ module _ (waits : List Bool) (ls : List TurnLine) where
   pub end_event : (t u : Trace) (e : SideId) (s new : EndState) → EndStands waits ls t e s → s.pending ≡ bytes_read e u ++
       new.pending → new.taken ≡ s.taken ++ bytes_given e u → SameSaid s new →
       MayTake new.may_take (list_any (allows_all e) ls) (sum_by (allows e) ls) (length new.taken) → new.tally.made_connected ≡
-          (s.tally.made_connected || is_made_connected e u) →
+      (s.tally.made_connected || is_made_connected e u) →
       new.tally.connected ≡ (s.tally.connected || is_connected e u) → EndStands waits ls (t ++ u) e new
   end_event t u e s new h came taken said may made connected = record {
     came =
         ap (λ z. z ++ new.pending) (bytes_read-append e t u) ∙ append_assoc (bytes_read e t) (bytes_read e u) new.pending ∙ ap
-            (λ z. bytes_read e t ++ z) (sym came) ∙ h.came;
+        (λ z. bytes_read e t ++ z) (sym came) ∙ h.came;
     eof = said.eof ∙ h.eof;
     read_fails = said.read_fails ∙ h.read_fails;
     taken = taken ∙ ap (λ z. z ++ bytes_given e u) h.taken ∙ sym (bytes_given-append e t u);
@@ -181,7 +195,7 @@ module _ (waits : List Bool) (ls : List TurnLine) where
       end_event t u e s new h (sym b.pending ∙ ap (λ z. z ++ new.pending) (sym q.read))
       (b.taken ∙ sym (append-nil s.taken) ∙ ap (λ z. s.taken ++ z) (sym q.given)) b.said
       (subst (λ z. MayTake new.may_take (list_any (allows_all e) ls) (sum_by (allows e) ls) (length z)) (sym b.taken)
-          (subst (λ z. MayTake z (list_any (allows_all e) ls) (sum_by (allows e) ls) (length s.taken)) (sym b.may_take) h.may_take))
+      (subst (λ z. MayTake z (list_any (allows_all e) ls) (sum_by (allows e) ls) (length s.taken)) (sym b.may_take) h.may_take))
       (b.made_connected ∙ sym (or_false s.tally.made_connected) ∙ ap (λ z. s.tally.made_connected || z) (sym q.made))
       (b.connected ∙ sym (or_false s.tally.connected) ∙ ap (λ z. s.tally.connected || z) (sym q.connected))
 
@@ -190,9 +204,11 @@ module _ (waits : List Bool) (ls : List TurnLine) where
       (opened (t ++ u) ≤ length (flat_map links_by ls)) × (new.waiting ≡ drop (opened (t ++ u)) (flat_map links_by ls))
   no_link t u l new none same h =
       let parts = sum_by-append (λ x. if is_opened x then 1 else 0) t u in
-      let count : opened (t ++ u) ≡ opened t = omega (arith, parts, none) in
-      (subst (λ n. n ≤ length (flat_map links_by ls)) (sym count) h.in_order, same ∙ h.waiting ∙ ap
-          (λ n. drop n (flat_map links_by ls)) (sym count))
+      let count : opened (t ++ u) ≡ opened t = omega (arith, parts, none) in (
+        subst (λ n. n ≤ length (flat_map links_by ls)) (sym count) h.in_order,
+        same ∙ h.waiting ∙ ap
+            (λ n. drop n (flat_map links_by ls)) (sym count),
+      )
 
   pub links_silent : (t u : Trace) (l new : LinksState) → AllSilent u → Like l new → LinksStand waits ls t l → LinksStand waits ls
       (t ++ u) new
@@ -208,7 +224,7 @@ module _ (waits : List Bool) (ls : List TurnLine) where
   pub at_end_stands : (t u : Trace) (side : SideId) (f : EndState → EndState) (l : LinksState) → opened u ≡ 0 →
       ((e : SideId) → same_end side e ≡ false → Silent e u) →
       ((s : EndState) → end_of l side ≡ Some s → EndStands waits ls t side s → EndStands waits ls (t ++ u) side (f s)) → LinksStand
-          waits ls t l → LinksStand waits ls (t ++ u) (at_end side f l)
+      waits ls t l → LinksStand waits ls (t ++ u) (at_end side f l)
   at_end_stands t u side f l none others here h =
       let lists = no_link t u l (at_end side f l) none refl h in record {
         in_order = lists.0;
@@ -220,7 +236,7 @@ module _ (waits : List Bool) (ls : List TurnLine) where
                   let old = own.1.0 in
                   let there : end_of l side ≡ Some old = subst (λ z. end_of l z ≡ Some old) (sym same) own.1.1 in
                   subst (λ z. EndStands waits ls (t ++ u) e z) (sym own.1.2) (subst (λ z. EndStands waits ls (t ++ u) z (f old))
-                      same (here old there (h.ends side old there)))
+                  same (here old there (h.ends side old there)))
               | inr same ↦ end_silent t u e s s (others e same.0) (as_before s) (h.ends e s same.1)
             ];
         beyond = λ e found. h.beyond e (none_changed side e f l found);

@@ -60,7 +60,7 @@ called_before turns t u asked = record {
   turns_left = let parts = sum_by-append (λ x. if is_turn x then 1 else 0) t u in let few = asked.turns_left in omega (arith, parts, few);
   in_order = λ before after link connected bytes is.
       asked.in_order before (after ++ u) link connected bytes (ap (λ z. z ++ u) is ∙ append_assoc before
-          ((entry.Opened link connected, bytes) ∷ after) u);
+      ((entry.Opened link connected, bytes) ∷ after) u);
 }
 
 module _ (p q : PortState) (turns : q.turns ≡ p.turns) (begun : q.begun ≡ p.begun) (t u : Trace) (none : count_by is_turn u ≡ 0) where
@@ -75,14 +75,14 @@ module _ (p q : PortState) (turns : q.turns ≡ p.turns) (begun : q.begun ≡ p.
     answered = λ closing_by.
         subst (λ z. plays.IsAnswered z closing_by (t ++ u)) (sym turns)
         (subst (λ z. plays.IsAnswered p.turns closing_by (t ++ z)) (sym (is closing_by)) (answers_go_on p.turns closing_by t
-            (stands.answered closing_by) x));
+        (stands.answered closing_by) x));
     begun = begun ∙ stands.begun ∙ sym count_same;
     links = subst (λ z. LinksStand (links_of (lines_of z)) (model.lines z (t ++ u)) (t ++ u) q.links) (sym turns)
         (subst (λ n. LinksStand (links_of (lines_of p.turns)) (flat_map (λ turn. turn.1) (take n p.turns)) (t ++ u) q.links)
-            (sym count_same) links);
+        (sym count_same) links);
     now = subst (λ z. RunsTurn (model.lines_now z (t ++ u)) q.begun q.links) (sym turns)
         (subst (λ n. RunsTurn (flat_map (λ turn. turn.1) (drop (n - 1) (take n p.turns))) q.begun q.links) (sym count_same)
-            (subst (λ n. RunsTurn (model.lines_now p.turns t) n q.links) (sym begun) runs));
+        (subst (λ n. RunsTurn (model.lines_now p.turns t) n q.links) (sym begun) runs));
   }
 
 -- a port of which nothing changed that a trace tells
@@ -94,7 +94,7 @@ stays p q t turns begun links stands = record {
       (subst (λ z. LinksStand (links_of (lines_of p.turns)) (model.lines p.turns t) t z) (sym links) stands.links);
   now = subst (λ z. RunsTurn (model.lines_now z t) q.begun q.links) (sym turns)
       (subst (λ n. RunsTurn (model.lines_now p.turns t) n q.links) (sym begun)
-          (subst (λ z. RunsTurn (model.lines_now p.turns t) p.begun z) (sym links) stands.now));
+      (subst (λ z. RunsTurn (model.lines_now p.turns t) p.begun z) (sym links) stands.now));
 }
 
 no_entry : (p q : PortState) → q.turns ≡ p.turns → q.begun ≡ p.begun → q.links ≡ p.links → Longer (StandsIf p) (StandsIf q) []
@@ -104,13 +104,13 @@ no_entry p q turns begun links = λ t vouched.
 -- a call whose entries say nothing of ends and links
 quiet_call : (p q : PortState) (u : Trace) → q.turns ≡ p.turns → q.begun ≡ p.begun → Like p.links q.links → Quiet u →
     ((t : Trace) → IsCalledFor p.turns t → PortStands p t → (x : plays.Step) × ((closing_by : ℕ) → u ≡ plays.events p.turns
-        closing_by t x)) → Longer (StandsIf p) (StandsIf q) u
+    closing_by t x)) → Longer (StandsIf p) (StandsIf q) u
 quiet_call p q u turns begun alike quiet step = λ t vouched asked.
     let before = called_before p.turns t u (subst (λ z. IsCalledFor z (t ++ u)) turns asked) in
     let stands = vouched before in
     let x = step t before stands in
     go_on p q turns begun t u quiet.turns x.0 x.1 (links_silent (links_of (lines_of p.turns)) (model.lines p.turns t) t u p.links
-        q.links quiet.silent alike stands.links)
+    q.links quiet.silent alike stands.links)
     (runs-like (model.lines_now p.turns t) p.begun p.links q.links alike stands.now) stands
 
 pub start_stood : (p : PortState) (listen to : Addr) → Longer (StandsIf p) (StandsIf (after_start p listen to)) []
@@ -137,22 +137,25 @@ unheard_stood p x h = quiet_call p p ((x, []) ∷ []) refl refl (like p.links) (
 -- a poll that was answered as the port answers
 answered_poll : (p : PortState) (ws : List Want) (tally : PortTally) (accept : Bool) (timeout : Option ℕ) →
     Longer (StandsIf p) (StandsIf (record p { links = after_wants (poll_marks p.links ws) p.links; tally = tally }))
-        (poll_events timeout (poll_marks p.links ws) (poll_answer p accept))
+    (poll_events timeout (poll_marks p.links ws) (poll_answer p accept))
 answered_poll p ws tally accept timeout =
     let marks = poll_marks p.links ws in
     quiet_call p (record p { links = after_wants marks p.links; tally = tally }) (poll_events timeout marks (poll_answer p accept))
-        refl refl (like-wants marks p.links) (quiet-poll timeout marks (poll_answer p accept))
-    (λ t asked stands. (plays.Step.Poll timeout (map wish ws), λ closing_by. poll_is p.turns t asked p.links p.begun stands.links
-        stands.now timeout ws (poll_accepts p accept) closing_by))
+    refl refl (like-wants marks p.links) (quiet-poll timeout marks (poll_answer p accept))
+    (λ t asked stands. (
+      plays.Step.Poll timeout (map wish ws),
+      λ closing_by. poll_is p.turns t asked p.links p.begun stands.links
+          stands.now timeout ws (poll_accepts p accept) closing_by,
+    ))
 
 pub poll_stood : (p : PortState) (ws marks : List Want) (tally : PortTally) (accept : Bool) (timeout : Option ℕ) (answer : Polled)
     → marks ≡ poll_marks p.links ws → answer ≡ poll_answer p accept →
     Longer (StandsIf p) (StandsIf (record p { links = after_wants marks p.links; tally = tally })) (poll_events timeout marks answer)
 poll_stood p ws marks tally accept timeout answer is a =
     subst (λ z. Longer (StandsIf p) (StandsIf (record p { links = after_wants z p.links; tally = tally }))
-        (poll_events timeout z answer)) (sym is)
+    (poll_events timeout z answer)) (sym is)
     (subst (λ z. Longer (StandsIf p) (StandsIf (record p { links = after_wants (poll_marks p.links ws) p.links; tally = tally }))
-        (poll_events timeout (poll_marks p.links ws) z)) (sym a) (answered_poll p ws tally accept timeout))
+    (poll_events timeout (poll_marks p.links ws) z)) (sym a) (answered_poll p ws tally accept timeout))
 
 -- Calls on one end
 
@@ -169,14 +172,14 @@ check_stood p e = λ t vouched asked.
 
 pub read_stood : (p : PortState) (e : SideId) (room : ℕ) →
     Longer (StandsIf p) (StandsIf (record p { links = at_end e (λ s. after_read s room) p.links }))
-        ((entry.Read e room (read_answer_at p.links e room), take room (pending_at p.links e)) ∷ [])
+    ((entry.Read e room (read_answer_at p.links e room), take room (pending_at p.links e)) ∷ [])
 read_stood p e room = λ t vouched asked.
     let u : Trace = (entry.Read e room (read_answer_at p.links e room), take room (pending_at p.links e)) ∷ [] in
     let before = called_before p.turns t u asked in
     let stands = vouched before in
     go_on p (record p { links = at_end e (λ s. after_read s room) p.links }) refl refl t u refl (plays.Step.Read e room)
     (λ closing_by. ap (λ (z : ReadAnswer × List ℕ). (entry.Read e room z.0, z.1) ∷ []) (sym
-        (read_is p.turns t before p.links stands.links e room)))
+    (read_is p.turns t before p.links stands.links e room)))
     (read_stands (links_of (lines_of p.turns)) (model.lines p.turns t) t e room p.links stands.links)
     (runs-at_end (model.lines_now p.turns t) p.begun e (λ s. after_read s room) p.links (λ s. refl) stands.now) stands
 
@@ -191,23 +194,29 @@ takes_fits p e from within s found =
     let here : end_of (at_end e (λ s. after_write s from) p.links) e ≡ Some (after_write s from) =
     slice_get-changed_same (λ s. after_write s from) p.links.ends (number e) ∙ ap (option_map (λ s. after_write s from)) found in
     let fits : length (after_write s from).taken < 2 ^ 64 - 1 = subst (λ (o : Option EndState). length
-        (option_map_or (λ (x : EndState). x.taken) o []) < 2 ^ 64 - 1) here within in
+    (option_map_or (λ (x : EndState). x.taken) o []) < 2 ^ 64 - 1) here within in
     let both = length-append s.taken (take (taken_of s.may_take (length from)) from) in
     let part = length-take-le (taken_of s.may_take (length from)) from (takes_within s.may_take (length from)) in
     omega (arith, fits, both, part)
 
 took_stood : (p : PortState) (e : SideId) (from : List ℕ) → length (taken_at (at_end e (λ s. after_write s from) p.links) e) < 2 ^ 64 - 1 →
     Longer (StandsIf p) (StandsIf (record p { links = at_end e (λ s. after_write s from) p.links }))
-    ((entry.Write e (length from) (write_answer_at p.links e (length from)), took_bytes (write_answer_at p.links e (length from))
-        from) ∷ [])
+    ((
+      entry.Write e (length from) (write_answer_at p.links e (length from)),
+      took_bytes (write_answer_at p.links e (length from))
+          from,
+    ) ∷ [])
 took_stood p e from within = λ t vouched asked.
-    let u : Trace = (entry.Write e (length from) (write_answer_at p.links e (length from)), took_bytes
-        (write_answer_at p.links e (length from)) from) ∷ [] in
+    let u : Trace = (
+      entry.Write e (length from) (write_answer_at p.links e (length from)),
+      took_bytes
+          (write_answer_at p.links e (length from)) from,
+    ) ∷ [] in
     let before = called_before p.turns t u asked in
     let stands = vouched before in
     go_on p (record p { links = at_end e (λ s. after_write s from) p.links }) refl refl t u refl (plays.Step.Write e from)
     (λ closing_by. ap (λ (z : WriteAnswer × List ℕ). (entry.Write e (length from) z.0, z.1) ∷ [])
-        (sym (write_is p.turns t before p.links stands.links e from (takes_fits p e from within))))
+    (sym (write_is p.turns t before p.links stands.links e from (takes_fits p e from within))))
     (write_stands (links_of (lines_of p.turns)) (model.lines p.turns t) t e from p.links within stands.links)
     (runs-at_end (model.lines_now p.turns t) p.begun e (λ s. after_write s from) p.links (λ s. refl) stands.now) stands
 
@@ -217,10 +226,13 @@ took_as : (p : PortState) (new : LinksState) (e : SideId) (from : List ℕ) (ans
     Longer (StandsIf p) (StandsIf (record p { links = new })) ((entry.Write e (length from) answer, took_bytes answer from) ∷ [])
 took_as p new e from answer is a within =
     subst (λ (z : WriteAnswer). Longer (StandsIf p) (StandsIf (record p { links = new }))
-        ((entry.Write e (length from) z, took_bytes z from) ∷ [])) (sym a)
+    ((entry.Write e (length from) z, took_bytes z from) ∷ [])) (sym a)
     (subst (λ (l : LinksState). Longer (StandsIf p) (StandsIf (record p { links = l }))
-        ((entry.Write e (length from) (write_answer_at p.links e (length from)), took_bytes
-        (write_answer_at p.links e (length from)) from) ∷ []))
+    ((
+      entry.Write e (length from) (write_answer_at p.links e (length from)),
+      took_bytes
+          (write_answer_at p.links e (length from)) from,
+    ) ∷ []))
     (sym is) (took_stood p e from (subst (λ (l : LinksState). length (taken_at l e) < 2 ^ 64 - 1) is within)))
 
 pub write_stood : (p : PortState) (new : LinksState) (e : SideId) (from : List ℕ) (answer : WriteAnswer) → WroteAt p.links new e
@@ -233,18 +245,26 @@ write_stood p new e from write.Failed w = took_as p new e from write.Failed w.0 
 -- Accepts
 
 accept_by : (p : PortState) (link : ℕ) (ws : List Bool) → p.links.waiting ≡ ws →
-    Longer (StandsIf p) (StandsIf (record p { links = accept_first link ws p.links; tally = accept_tally (accept_answer ws) p.tally
-        })) (accept_events link (accept_answer ws))
-accept_by p link [] is = no_entry p (record p { links = accept_first link [] p.links; tally = accept_tally (accept_answer [])
-    p.tally }) refl refl refl
+    Longer (StandsIf p) (StandsIf (record p {
+      links = accept_first link ws p.links;
+      tally = accept_tally (accept_answer ws) p.tally;
+    })) (accept_events link (accept_answer ws))
+accept_by p link [] is = no_entry p (record p {
+  links = accept_first link [] p.links;
+  tally = accept_tally (accept_answer [])
+      p.tally;
+}) refl refl refl
 accept_by p link (wait ∷ later) is = λ t vouched asked.
     let u = accept_events link (accept_answer (wait ∷ later)) in
     let before = called_before p.turns t u asked in
     let stands = vouched before in
     let number_is : link ≡ opened t = asked.in_order t [] link (not wait) [] refl in
     let waiting : model.waiting p.turns t ≡ wait ∷ later = sym stands.links.waiting ∙ is in
-    go_on p (record p { links = accept_first link (wait ∷ later) p.links; tally = accept_tally (accept_answer (wait ∷ later))
-        p.tally }) refl refl t u refl plays.Step.Accept
+    go_on p (record p {
+      links = accept_first link (wait ∷ later) p.links;
+      tally = accept_tally (accept_answer (wait ∷ later))
+          p.tally;
+    }) refl refl t u refl plays.Step.Accept
     (λ closing_by. ap (λ n. plays.accepted n (wait ∷ later)) number_is ∙ ap (plays.accepted (opened t)) (sym waiting))
     (accept_stands (links_of (lines_of p.turns)) (model.lines p.turns t) t p.links wait later link stands.links is)
     (runs-accept (model.lines_now p.turns t) p.begun link (wait ∷ later) p.links stands.now) stands
@@ -282,8 +302,8 @@ turn_begins p turn ms t next is stands =
       begun = ap (λ n. n + 1) stands.begun ∙ sym count;
       links = subst (λ z. LinksStand waits z (t ++ u) (after_lines turn.1 running)) (sym lines)
           (lines_stand waits (model.lines p.turns t) (t ++ u) turn.1 running (entered_stands waits (model.lines p.turns t) (t ++ u)
-              (Some p.begun) p.links (links_silent waits (model.lines p.turns t) t u p.links p.links (silent-turn ms)
-              (like p.links) stands.links)));
+          (Some p.begun) p.links (links_silent waits (model.lines p.turns t) t u p.links p.links (silent-turn ms)
+          (like p.links) stands.links)));
       now = subst (λ z. RunsTurn z (p.begun + 1) (after_lines turn.1 running))
           (sym (ap (λ n. flat_map (λ turn. turn.1) (drop (n - 1) (take n p.turns))) count ∙ lines_of_turn (model.begun p.turns t)
           p.turns turn here))
@@ -355,7 +375,7 @@ new_stood turns = λ asked. record {
     ends = λ e s found.
         let waits = links_of (lines_of turns) in
         subst (EndStands waits [] [] e) (sym (new_at waits e.link e.side s found)) (new_stands waits e
-            (model.undecided_at e.side (get_or waits e.link false)) refl);
+        (model.undecided_at e.side (get_or waits e.link false)) refl);
     beyond = λ e found. new_past (links_of (lines_of turns)) e.link e.side found;
   };
   now = record {
@@ -381,8 +401,11 @@ stands_if p turns t vouched = subst (StandsIf p) (append-nil t) (subst (λ z. Is
 
 -- a port with these turns that stands behind a trace vouches for it
 vouches_by : (p : PortState) (turns : List ScriptTurn) (t : Trace) → p.turns ≡ turns → StandsIf p t → ScriptVouches p turns t
-vouches_by p turns t same stood = (same, λ own unheard. subst (λ z. IsCalledFor z (t ++ own) → PortStands p (t ++ own)) same
-    (stood_on p own t unheard stood))
+vouches_by p turns t same stood = (
+  same,
+  λ own unheard. subst (λ z. IsCalledFor z (t ++ own) → PortStands p (t ++ own)) same
+      (stood_on p own t unheard stood),
+)
 
 vouched_on : (p q : PortState) (u : Trace) → q.turns ≡ p.turns → Longer (StandsIf p) (StandsIf q) u → LongerBy (ScriptVouches p)
     (ScriptVouches q) u
@@ -393,7 +416,7 @@ pub call_vouched : (p q r : PortState) (u v : Trace) → q ≡ r → v ≡ u →
     LongerBy (ScriptVouches p) (ScriptVouches q) v
 call_vouched p q r u v port entries same h =
     subst (λ z. LongerBy (ScriptVouches p) (ScriptVouches z) v) (sym port)
-        (subst (λ z. LongerBy (ScriptVouches p) (ScriptVouches r) z) (sym entries) (vouched_on p r u same h))
+    (subst (λ z. LongerBy (ScriptVouches p) (ScriptVouches r) z) (sym entries) (vouched_on p r u same h))
 
 clock_begun : (turn : Option ScriptTurn) (p : PortState) → (begin_turn turn p).clock ≡ option_map_or (λ (x : ScriptTurn). x.0) turn p.clock
 clock_begun None p = refl
@@ -410,7 +433,7 @@ reading_vouched p begun is =
     subst (λ z. Ticked (ScriptVouches p) (ScriptVouches (count_reading z)) z.clock) (sym is)
     (subst (λ n. Ticked (ScriptVouches p) (ScriptVouches (after_now p)) n) (sym (clock_begun (next_turn p) p))
     (λ turns t vouched. vouches_by (after_now p) turns (t ++ (entry.Turn (turn_time t (clock_answer p)), []) ∷ [])
-        (turns_begun (next_turn p) p ∙ vouched.0) (now_stood p t (stands_if p turns t vouched))))
+    (turns_begun (next_turn p) p ∙ vouched.0) (now_stood p t (stands_if p turns t vouched))))
 
 pub new_from : (turns : List ScriptTurn) (p : PortState) → p ≡ new_port turns → ScriptVouches p turns []
 new_from turns p is = subst (λ z. ScriptVouches z turns []) (sym is) (vouches_by (new_port turns) turns [] refl (new_stood turns))

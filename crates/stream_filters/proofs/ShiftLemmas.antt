@@ -39,7 +39,7 @@ pub step-shift : (x : Running) (over : Bool) (limit n : ℕ) (src : List ℕ) �
     stepped x over (limit - n) 0 src ≡ stepped x over limit n src
 step-shift x over limit n src =
     let go : Ran → Bool → Stepped = λ (ran : Ran) (room : Bool). if x.finished || is_some x.stopped
-        then record { used = 0; made = []; after = x }
+    then record { used = 0; made = []; after = x }
     else ending (after_bytes x (take ran.used src)) ran (ran.used == length src) over room in
     let zero_more : n + 0 ≡ n = omega arith in
     let ran = run-shift x.kind limit n 0 (count_of x) x.last src ∙ (λ i. run x.kind limit (zero_more i) (count_of x) x.last src) in

@@ -10,8 +10,15 @@ overflow_add-result c =
     let window = c.window_at-window.result.now in
     let found = first_place-found (begins_with c.args.needle.now) 0 window c.in-Some.place (sym c.in-Some.ensures) in
     let within = found.2.within in
-    omega (arith, found.1, within, ap length c.window_at-window.ensures, length-take (length c.loop-at.room)
-        (drop c.loop-at.at c.args.buf.now.bytes), length-drop c.loop-at.at c.args.buf.now.bytes)
+    omega (
+      arith,
+      found.1,
+      within,
+      ap length c.window_at-window.ensures,
+      length-take (length c.loop-at.room)
+          (drop c.loop-at.at c.args.buf.now.bytes),
+      length-drop c.loop-at.at c.args.buf.now.bytes,
+    )
 
 pub returns-in-Some : goal.returns-in-Some
 returns-in-Some c =
@@ -41,6 +48,6 @@ loop-at-preserved c =
     let fits : skip + length c.args.needle.now ≤ length c.loop-at.room + 1 = omega (arith, window_long, full) in
     ap (first_place (begins_with c.args.needle.now) (c.loop-at.at + skip)) (sym (drop-drop skip c.loop-at.at c.args.buf.now.bytes))
     ∙ sym (first_place-full (begins_with c.args.needle.now) (length c.args.needle.now) (Reads-begins_with c.args.needle.now)
-        c.requires.some c.loop-at.at
+    c.requires.some c.loop-at.at
     (length c.loop-at.room) skip rest full fits nothing)
     ∙ c.loop-at.invariant

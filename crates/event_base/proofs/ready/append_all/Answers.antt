@@ -23,7 +23,7 @@ unfolding none
 returns-in-Err-clause-refused c =
     let there = (CanAppend-at c.args.active.now c.args.waking.now c.loop-at.at none c.requires (omega arith)).1 in
     let count : length c.loop-at.active ≡ length c.args.active.now = ap length c.loop-at.invariant ∙ length-appended_all
-        c.args.active.now (take c.loop-at.at c.args.waking.now) in (
+    c.args.active.now (take c.loop-at.at c.args.waking.now) in (
       only_memory c.in-Err.fault (λ e. absurd (omega (arith, c.in-Err.ensures.bad.0 (ap Err e)))),
       c.take_back.ensures c.args.active.now (CanAppend-take _ _ c.loop-at.at c.requires) (c.in-Err.ensures.err ∙ c.loop-at.invariant),
     )

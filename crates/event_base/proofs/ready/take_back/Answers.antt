@@ -16,6 +16,6 @@ loop-left-preserved c = (
       let count : c.loop-left.left ≡ i + 1 = omega arith in
       c.pop_last.ensures.left
       ∙ ap (λ qs. without_last qs (get_or waking i none).priority) (c.loop-left.invariant.1 queues can e ∙ ap
-          (λ n. appended_all queues (take n waking)) count)
+      (λ n. appended_all queues (take n waking)) count)
       ∙ appended_all-less queues waking i none can (omega arith),
 )

@@ -150,10 +150,10 @@ returns-in-Err-clause-text c =
     let counted : count_by is_turn u ≤ length c.args.script.turns = omega (arith, count-append t w.added, once, inv.turns, below) in
     let seen = w.told (Question.Took c.args.script.turns) t inv.stands inv.seen in
     let ends = ends-grow (StoodBetween (settings_of c.args.script)) t w.added inv.ends (stood-at (settings_of c.args.script) t
-        Stage.Between c.loop.drive.state inv.settings inv.means)
+    Stage.Between c.loop.drive.state inv.settings inv.means)
     (cut-poll-first cut) once in
     let run = failed-run c.args.script c.turn.new.port u s c.requires.links c.requires.timeouts (rw w.settings inv.settings) left
-        c.requires.names c.requires.brings counted seen ends in
+    c.requires.names c.requires.brings counted seen ends in
     rw ended.1 (u, lines_below s s.plain.opened, run, rw (text, longer) refl))
 
 pub returns-in-Err-clause-only_memory : goal.returns-in-Err-clause-only_memory

@@ -13,7 +13,7 @@ returns-in_err-accept_one-clause-went g c =
     let p = err_from_is_err_and c.from_residual.result c.from_residual.ensures.1 in
     let s = c.loop.run.relay.state in
     let allowed : s.plain.opened < s.settings.links = ltb-true s.plain.opened s.settings.links
-        (sym c.can_open.ensures ∙ c.if-not-can_open.false) in
+    (sym c.can_open.ensures ∙ c.if-not-can_open.false) in
     let here = subst (λ (z : State). z.plain.opened < z.settings.links) (sym c.in_err-accept_one.ensures.went.does.1) allowed in
     rw (p.1, p.2) (goes_as (λ a q. (c.loop.counter, omega arith, here, then_nothing q))
     (goes_then c.loop.invariant.went c.in_err-accept_one.ensures.went))

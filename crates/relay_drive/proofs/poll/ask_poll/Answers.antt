@@ -81,8 +81,13 @@ returns-in-Failed-clause-went g c =
     let h2 = ap length names in omega (arith, h1, h2) in
     goes_some l0 (g.S.Scribe.trace c.put-in-Failed.new.scribe) (g.P.Port.faults c.args.port.now) (g.P.Port.faults c.poll.new.self)
     events (poll_still timeout ms polled.Failed)
-    (record { named = ms; marks = rw (c.requires) at marks; many = many ∙ ap length c.requires;
-      entries = ap (λ o. poll_events o ms polled.Failed) c.poll_timeout-timeout.ensures; state = refl })
+    (record {
+      named = ms;
+      marks = rw (c.requires) at marks;
+      many = many ∙ ap length c.requires;
+      entries = ap (λ o. poll_events o ms polled.Failed) c.poll_timeout-timeout.ensures;
+      state = refl;
+    })
     (same s s refl)
     (counted_three c.args.run.now.entries c.put.new.entries c.put_wants.new.entries c.put-in-Failed.new.entries 1
     (length (want_events ws)) 1 c.put.ensures.counted c.put_wants.ensures.counted

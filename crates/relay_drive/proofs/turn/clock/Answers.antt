@@ -24,7 +24,7 @@ returns-clause-went g c =
     let l0 = g.S.Scribe.trace c.args.scribe.now in
     goes_by l0 (g.S.Scribe.trace c.put.new.scribe) (g.P.Port.faults c.args.port.now) (g.P.Port.faults c.now.new.self) events
     (reading, record { entries = refl; state = state }) (ap (λ (z : State). z.settings) state ∙ (frame-begun s ms).settings)
-        (let n = c.put.ensures.counted in
+    (let n = c.put.ensures.counted in
     omega (arith, n))
     (Grew-join l0 (g.S.Scribe.trace c.reserve.new.self) (g.S.Scribe.trace c.put.new.scribe) [] events c.reserve.ensures.trace
     (rw (time) at c.put.ensures.list))

@@ -11,7 +11,7 @@ put-requires-2 c =
     let old = c.args.dst.now in
     let plain = plain-crlf c.args.known.now.last (take used src) c.length_before-used.ensures.others in
     let room = plain-room kind.ToCrlf c.args.limit c.args.known.now.used c.args.known.now.last src old.items used old.cap
-        c.length_before-used.ensures.within (omega arith) plain c.requires.room in
+    c.length_before-used.ensures.within (omega arith) plain c.requires.room in
     omega (arith, room)
 
 pub returns-clause-part : goal.returns-clause-part

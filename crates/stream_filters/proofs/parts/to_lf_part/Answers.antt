@@ -12,7 +12,7 @@ put-requires c =
     let last = c.args.known.now.last in
     let plain = plain-lf last (take used src) (is_cr-eq last ∙ sym c.if-eq.ensures) c.length_before-used.ensures.others in
     let room = plain-room kind.ToLf c.args.limit c.args.known.now.used last src old.items used old.cap
-        c.length_before-used.ensures.within (omega arith) plain c.requires.room in
+    c.length_before-used.ensures.within (omega arith) plain c.requires.room in
     omega (arith, room)
 
 pub returns-clause-part : goal.returns-clause-part

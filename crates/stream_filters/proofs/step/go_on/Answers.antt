@@ -58,7 +58,7 @@ returns-in-Some-clause-answers c =
     let after = c.run-used.new.known in
     let mid = c.run-used.new.dst in
     let ran = subst (λ z. RanOver k c.args.limit known src z after mid.items c.run-used.result) c.in_ok-reserve.ensures.items
-        c.run-used.ensures.ran in
+    c.run-used.ensures.ran in
     let room : nat_lt c.len-2.result c.args.limit ≡ nat_lt (length mid.items) c.args.limit =
     ap (λ m. nat_lt m c.args.limit) (let e : c.len-2.result ≡ length mid.items = omega arith in e) in
     let fin = c.is_over-known.ensures
@@ -74,7 +74,7 @@ returns-in-Some-clause-answers c =
         filled_by_it =
             c.put.ensures.items ∙ ap (λ z. mid.items ++ z) c.end_bytes.ensures
             ∙ filled-is k c.args.limit over known src old.items c.requires.open c.requires.unstopped after mid.items
-                c.run-used.result ran c.is_over-known.result fin;
+            c.run-used.result ran c.is_over-known.result fin;
       },
     )
 
@@ -88,7 +88,7 @@ returns-in-None-clause-answers c =
     let after = c.run-used.new.known in
     let mid = c.run-used.new.dst in
     let ran = subst (λ z. RanOver k c.args.limit known src z after mid.items c.run-used.result) c.in_ok-reserve.ensures.items
-        c.run-used.ensures.ran in
+    c.run-used.ensures.ran in
     let room : nat_lt c.len-2.result c.args.limit ≡ nat_lt (length mid.items) c.args.limit =
     ap (λ m. nat_lt m c.args.limit) (let e : c.len-2.result ≡ length mid.items = omega arith in e) in
     let fin = c.is_over-known.ensures
@@ -108,6 +108,6 @@ returns-in-None-clause-answers c =
         filled_by_it =
             c.put.ensures.items ∙ ap (λ z. mid.items ++ z) c.end_bytes.ensures
             ∙ filled-is k c.args.limit over known src old.items c.requires.open c.requires.unstopped after mid.items
-                c.run-used.result ran c.is_over-known.result fin;
+            c.run-used.result ran c.is_over-known.result fin;
       },
     )

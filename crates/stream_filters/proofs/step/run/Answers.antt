@@ -17,7 +17,7 @@ loop-at-preserved c =
     let rest = c.split_at.ensures.back in
     let piece = c.split_at-in-loop-at.ensures.front ∙ ap (take used) rest in
     let part = subst (λ z. AppendsPart k limit now.used now.last z c.loop-at.dst.items c.part-used.new.dst.items used) rest
-        c.part-used.ensures.part in
+    c.part-used.ensures.part in
     let known = c.use_bytes.ensures ∙ (λ i. record now { used = now.used + length (piece i); last = last_or now.last (piece i) }) in
     let more = along-more k limit c.args.known.now now src c.args.dst.now.items c.loop-at.dst.items at
     (vec_capacity c.loop-at.dst) c.loop-at.invariant.along

@@ -20,7 +20,7 @@ returns-clause-answers c =
     let going : known.finished ≡ false = c.if-known.false in
     let unstopped = c.in_default.is in
     let count : used ≡ min (length src) (c.args.limit - c.args.held) = c.min-used.ensures ∙ ap (min (length src))
-        c.saturating_sub.ensures in
+    c.saturating_sub.ensures in
     let fin : c.if-used-src.known ≡ ((used == length src) && is_last c.args.mode) = elim c.if-used-src.branch [
       | then-used-src w ↦
           (let same : (used == length src) ≡ true = grind (arith, nat_tests, w.if-used-src.true) in
@@ -35,7 +35,10 @@ returns-clause-answers c =
     subst (λ (s : Stepped). AnswersInPlace (Ok (record { used = used; finished = c.if-used-src.known })) s (running_of kind.None known)
     (running_of kind.None (record c.use_bytes.new.self { finished = c.if-used-src.known })) src) (sym step) (
       record { used = refl; finished = fin; unstopped = refl },
-      (λ i. running_of kind.None (record (noted i) { finished = fin i; stopped = (ap (λ (z : Knowledge). z.stopped) noted ∙
-          unstopped) i })),
+      (λ i. running_of kind.None (record (noted i) {
+        finished = fin i;
+        stopped = (ap (λ (z : Knowledge). z.stopped) noted ∙
+            unstopped) i;
+      })),
       refl,
     )

@@ -14,7 +14,7 @@ returns-clause-ok c =
     c.replace-source.ensures.value ∙ c.index_mut.ensures.value
     ∙ ap (λ d. get_or xs c.args.from d) (sym c.replace-source.ensures.value) in
     let new = set (set (set xs c.args.from c.replace-source.new.dest) c.args.to c.add_buffer-answer.new.self) c.args.from
-        c.add_buffer-answer.new.from in
+    c.add_buffer-answer.new.from in
     let R : List Evbuffered → Type 0 = λ ys. OnOk c.add_buffer-answer.result (MovesAll ys c.args.to c.args.from new) in
     subst R c.self.view_is
     (OnOk-both c.add_buffer-answer.result
@@ -34,7 +34,7 @@ returns-clause-err c =
     c.replace-source.ensures.value ∙ c.index_mut.ensures.value
     ∙ ap (λ d. get_or xs c.args.from d) (sym c.replace-source.ensures.value) in
     let new = set (set (set xs c.args.from c.replace-source.new.dest) c.args.to c.add_buffer-answer.new.self) c.args.from
-        c.add_buffer-answer.new.from in
+    c.add_buffer-answer.new.from in
     let R : List Evbuffered → Type 0 = λ ys. OnErr c.add_buffer-answer.result (new ≡ ys) in
     subst R c.self.view_is
     (OnErr-both c.add_buffer-answer.result

@@ -28,7 +28,7 @@ gone (Some a) h = cc h
 kept_by : (events : List Event) (deadlines : DeadlinesValue) (ready : ReadyValue) (k last : ℕ) (e : Event) (t : Timeout) → AreKept
     events deadlines ready → slice_get events k ≡ Some e
     → AreKept (set events k (added (Some t) e))
-        (record { moments = set deadlines.moments k (Some (record { deadline = t.deadline; order = t.order })); last = last })
+    (record { moments = set deadlines.moments k (Some (record { deadline = t.deadline; order = t.order })); last = last })
     (record ready { places = cond (is_active (added (Some t) e)) ready.places (set ready.places k None) })
 kept_by events deadlines ready k last e t kept is = split (is_active (added (Some t) e)) refl
   where
@@ -49,17 +49,24 @@ kept_by events deadlines ready k last e t kept is = split (is_active (added (Som
 pub invariant_of-self-2 : goal.invariant_of-self-2
 invariant_of-self-2 c =
     let is : slice_get c.self.inside.events.items c.args.event ≡ Some c.in-Some.kept = sym
-        (c.in-Some.ensures ∙ ap (λ xs. slice_get xs c.args.event) c.deref.ensures.value) in
+    (c.in-Some.ensures ∙ ap (λ xs. slice_get xs c.args.event) c.deref.ensures.value) in
     record {
       kept = rw (c.rest_unless.ensures, c.is_active.ensures, c.added_until-added.ensures, c.last-order.ensures, c.in_ok-set.ensures.ok)
           (kept_by c.self.inside.events.items c.self.inside.deadlines c.self.inside.ready c.args.event _ c.in-Some.kept _
-              c.self.invariant.kept is);
+          c.self.invariant.kept is);
       early = c.self.invariant.early;
     }
 
 pub returns-clause-ok : goal.returns-clause-ok
 returns-clause-ok c =
     let is : slice_get c.self.inside.events.items c.args.event ≡ Some c.in-Some.kept = sym
-        (c.in-Some.ensures ∙ ap (λ xs. slice_get xs c.args.event) c.deref.ensures.value) in
-    rw (← c.self.view_is, is, lt-ltb _ _ c.in_ok-set.ensures.fits, c.added_until-added.ensures, c.last-order.ensures,
-        c.in_ok-set.ensures.ok, c.rest_unless.ensures) refl
+    (c.in-Some.ensures ∙ ap (λ xs. slice_get xs c.args.event) c.deref.ensures.value) in
+    rw (
+      ← c.self.view_is,
+      is,
+      lt-ltb _ _ c.in_ok-set.ensures.fits,
+      c.added_until-added.ensures,
+      c.last-order.ensures,
+      c.in_ok-set.ensures.ok,
+      c.rest_unless.ensures,
+    ) refl

@@ -23,7 +23,7 @@ returns-in_err-due-clause-refused c =
     let low : next + count_by (wakes time) items < 2 ^ 64 = omega (arith, woken, c.next.ensures, c.if-woken_at-next.false) in
     let at_time : time ≡ time_at c.self.inside.time c.args.now = c.max-time.ensures ∙ ap (max c.self.inside.time) c.min.ensures in
     let low_then : next + count_by (wakes (time_at c.self.inside.time c.args.now)) items < 2 ^ 64 = subst
-        (λ t. next + count_by (wakes t) items < 2 ^ 64) at_time low in
+    (λ t. next + count_by (wakes t) items < 2 ^ 64) at_time low in
     let good = begin_turn-ok (base_of c.self.inside) c.args.now low_then in
     let p = err_from_is_err_and c.from_residual.result c.from_residual.ensures.1 in
     subst (λ (v : BaseValue). IfErr c.from_residual.result (λ fault. IsAnswer fault (begin_turn v c.args.now))) c.self.view_is
@@ -73,7 +73,7 @@ returns-in_err-rouse-clause-refused c =
     let low : next + count_by (wakes time) items < 2 ^ 64 = omega (arith, woken, c.next.ensures, c.if-woken_at-next.false) in
     let at_time : time ≡ time_at c.self.inside.time c.args.now = c.max-time.ensures ∙ ap (max c.self.inside.time) c.min.ensures in
     let low_then : next + count_by (wakes (time_at c.self.inside.time c.args.now)) items < 2 ^ 64 = subst
-        (λ t. next + count_by (wakes t) items < 2 ^ 64) at_time low in
+    (λ t. next + count_by (wakes t) items < 2 ^ 64) at_time low in
     let good = begin_turn-ok (base_of c.self.inside) c.args.now low_then in
     let p = err_from_is_err_and c.from_residual-in_err-rouse.result c.from_residual-in_err-rouse.ensures.1 in
     subst (λ (v : BaseValue). IfErr c.from_residual-in_err-rouse.result (λ fault. IsAnswer fault (begin_turn v c.args.now))) c.self.view_is
@@ -95,13 +95,13 @@ returns-clause-ok c =
     let numbers = c.deref-2.result.now in
     let is_due = c.deref-2.ensures.value in
     let events : risen 1 1 0 items next numbers ≡ map (timed_out time next items) items = ap (risen 1 1 0 items next) is_due ∙
-        risen-due time due next items (due_at time moments) start rises in
+    risen-due time due next items (due_at time moments) start rises in
     let total : length (wakers items numbers) ≡ count_by (wakes time) items = ap (λ ks. length (wakers items ks)) is_due ∙
-        wakers-due time due items (due_at time moments) start rises in
+    wakers-due time due items (due_at time moments) start rises in
     let mid : c.rouse.new.self ≡ with_parts (base_of c.self.inside) (risen 1 1 0 items next numbers)
-        (next + length (wakers items numbers)) =
+    (next + length (wakers items numbers)) =
     subst (λ (v : BaseValue). c.rouse.new.self ≡ with_parts v (risen 1 1 0 v.events v.next_activation numbers)
-        (v.next_activation + length (wakers v.events numbers))) (sym c.self.view_is) c.in_ok-rouse.ensures.ok in
+    (v.next_activation + length (wakers v.events numbers))) (sym c.self.view_is) c.in_ok-rouse.ensures.ok in
     subst (λ (v : BaseValue). begin_turn v c.args.now ≡ Ok c.fix_batch.new.self) c.self.view_is
     (begin_turn-done (base_of c.self.inside) c.rouse.new.self c.fix_batch.new.self c.args.now time numbers c.ended-over.result
-        at_time (c.ended-over.ensures ∙ ap ended (sym c.self.view_is)) events total low mid c.fix_batch.ensures)
+    at_time (c.ended-over.ensures ∙ ap ended (sym c.self.view_is)) events total low mid c.fix_batch.ensures)

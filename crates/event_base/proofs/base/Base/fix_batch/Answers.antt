@@ -9,5 +9,5 @@ use Rattle.event_base.proofs.base.Base.fix_batch.Goals as goal
 pub returns : goal.returns
 returns c =
     let e = least-priority c.self.inside.ready.places c.self.inside.events.items c.first_priority.result
-        c.self.invariant.kept.placed c.first_priority.ensures in
+    c.self.invariant.kept.placed c.first_priority.ensures in
     rw (← c.self.view_is, e, c.unwrap_or-priority.ensures, c.batch_end-end.ensures, c.next.ensures) refl

@@ -32,8 +32,8 @@ invariant_of-self-2 c =
     let room = c.in_ok-grow.ensures.room in
     let room_2 = c.in_ok-grow-2.ensures.room in
     let grown = AreKept-grow c.self.inside.events.items c.self.inside.deadlines c.grow-2.new.self c.self.inside.ready
-        c.grow.new.self kept c.in_ok-grow-2.ensures.moments c.in_ok-grow.ensures.places (omega (arith, kept.moments, longer))
-        (omega (arith, kept.places, wider)) c.in_ok-grow.ensures.priorities in
+    c.grow.new.self kept c.in_ok-grow-2.ensures.moments c.in_ok-grow.ensures.places (omega (arith, kept.moments, longer))
+    (omega (arith, kept.places, wider)) c.in_ok-grow.ensures.priorities in
     let some = grown.some in
     let low : c.grow.new.self.priorities / 2 < c.grow.new.self.priorities = omega (arith, some) in
     let few : length c.self.inside.events.items + 1 ≤ 2 ^ 32 = omega (arith, count, size) in

@@ -39,14 +39,14 @@ pub returns-in_default-clause-fire : goal.returns-in_default-clause-fire
 returns-in_default-clause-fire c =
     let b = base_of c.self.inside in
     let none : next_event b ≡ None = next_event-is b c.self.inside.ready.places (made false None 0) None
-        c.self.invariant.kept.placed c.in_default.ensures in
+    c.self.invariant.kept.placed c.in_default.ensures in
     rw (← c.self.view_is) (sym (next_fire-none b c.if-self.false none))
 
 pub returns-in_default-clause-ok : goal.returns-in_default-clause-ok
 returns-in_default-clause-ok c =
     let b = base_of c.self.inside in
     let none : next_event b ≡ None = next_event-is b c.self.inside.ready.places (made false None 0) None
-        c.self.invariant.kept.placed c.in_default.ensures in
+    c.self.invariant.kept.placed c.in_default.ensures in
     rw (← c.self.view_is) (next_active-none b c.if-self.false none)
 
 pub overflow_cast-event : goal.overflow_cast-event
@@ -69,13 +69,13 @@ returns-in_err-timeout-clause-refused c =
     let is = kept-is c.in-Some-event_at.kept number c.deref.ensures.value c.in-Some-event_at.ensures in
     let p = err_from_is_err_and c.from_residual.result c.from_residual.ensures.1 in
     let past = is_past_numbers c.self.inside.time (c.self.inside.deadlines.last + 1) c.in-Some-active.active.flags
-        c.in-Some-event_at.kept in
+    c.in-Some-event_at.kept in
     let step = next_active-call b number c.in-Some-event_at.kept c.in-Some-active.active c.if-self.false front.next is
-        c.in-Some-active.is in
+    c.in-Some-active.is in
     subst (λ (v : BaseValue). IfErr c.from_residual.result (λ fault. IsAnswer fault (next_active v))) c.self.view_is
     (if_err c.from_residual.result p.0 (λ fault. IsAnswer fault (next_active b)) p.1
     (answer-spent past (next_active b) (called_base b number c.in-Some-event_at.kept c.in-Some-active.active) p.0 step
-        (p.2 ∙ c.in_err-timeout.ensures.refused)))
+    (p.2 ∙ c.in_err-timeout.ensures.refused)))
 
 pub index_mut-requires : goal.index_mut-requires
 index_mut-requires c =
@@ -92,7 +92,7 @@ invariant_of-self-2 c =
     record {
       kept = rw (c.rest_front_unless.ensures, c.is_active.ensures, c.called-called.ensures)
           (called-kept c.self.inside.events.items c.self.inside.deadlines c.set_again.new.deadlines c.self.inside.ready number
-              c.in-Some-event_at.kept
+          c.in-Some-event_at.kept
           c.in-Some-active.active c.in_ok-timeout.timeout c.self.invariant.kept is c.in-Some-active.is c.in_ok-timeout.ensures.moments);
       early = c.self.invariant.early;
     }
@@ -104,7 +104,7 @@ returns-clause-fire c =
     let front = front-of c.self.inside number c.self.invariant.kept c.in-Some.ensures in
     let is = kept-is c.in-Some-event_at.kept number c.deref.ensures.value c.in-Some-event_at.ensures in
     rw (← c.self.view_is) (sym (next_fire-call b number c.in-Some-event_at.kept c.in-Some-active.active c.if-self.false front.next
-        is c.in-Some-active.is))
+    is c.in-Some-active.is))
 
 pub returns-clause-ok : goal.returns-clause-ok
 returns-clause-ok c =
@@ -114,5 +114,10 @@ returns-clause-ok c =
     let is = kept-is c.in-Some-event_at.kept number c.deref.ensures.value c.in-Some-event_at.ensures in
     let step = next_active-call b number c.in-Some-event_at.kept c.in-Some-active.active c.if-self.false front.next is c.in-Some-active.is
     ∙ call-ok b number c.in-Some-event_at.kept c.in-Some-active.active c.in_ok-timeout.ensures.fits in
-    rw (← c.self.view_is, c.called-called.ensures, c.in_ok-timeout.ensures.timeout, c.in_ok-timeout.ensures.last,
-        c.rest_front_unless.ensures) step
+    rw (
+      ← c.self.view_is,
+      c.called-called.ensures,
+      c.in_ok-timeout.ensures.timeout,
+      c.in_ok-timeout.ensures.last,
+      c.rest_front_unless.ensures,
+    ) step

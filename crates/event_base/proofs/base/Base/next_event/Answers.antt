@@ -8,4 +8,4 @@ use Rattle.event_base.proofs.base.Base.next_event.Goals as goal
 pub returns : goal.returns
 returns c =
     rw (← c.self.view_is) (sym (next_event-is (base_of c.self.inside) c.self.inside.ready.places (made false None 0)
-        c.next_before.result c.self.invariant.kept.placed c.next_before.ensures))
+    c.next_before.result c.self.invariant.kept.placed c.next_before.ensures))

@@ -10,7 +10,7 @@ use Rattle.event_base.proofs.deadlines.Deadlines.clear.Goals as goal
 pub invariant_of-self : goal.invariant_of-self
 invariant_of-self c =
     let is : at c.self.inside.waiting.items c.args.event ≡ Some c.in-Some.old = sym (c.in-Some.ensures ∙ ap
-        (λ xs. at xs c.args.event) c.deref.ensures.value) in
+    (λ xs. at xs c.args.event) c.deref.ensures.value) in
     rw (c.cancel.ensures.left, c.cancel.ensures.last) (IsTimed-clear _ _ _ _ c.in-Some.old c.self.invariant is)
 
 pub returns-in_default : goal.returns-in_default
@@ -18,7 +18,7 @@ returns-in_default c =
     let waiting = c.self.inside.waiting.items in
     let none : at waiting c.args.event ≡ None = sym (c.in_default.ensures ∙ ap (λ xs. at xs c.args.event) c.deref.ensures.value) in
     let same : set (moments waiting) c.args.event None ≡ moments waiting = ap (set (moments waiting) c.args.event)
-        (sym (at-moments waiting c.args.event ∙ ap (option_map moment) none)) ∙ set-get_or (moments waiting) c.args.event None in
+    (sym (at-moments waiting c.args.event ∙ ap (option_map moment) none)) ∙ set-get_or (moments waiting) c.args.event None in
     rw (← c.self.view_is) (value_of-same _ _ _ _ (sym same) refl)
 
 pub returns : goal.returns

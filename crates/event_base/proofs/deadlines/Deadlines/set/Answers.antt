@@ -17,7 +17,7 @@ invariant_of-self-in-Some c =
     let room : c.args.event < length waiting = rw (← c.self.view_is, length-map waiting (option_map moment)) at c.requires in
     rw (c.cancel.ensures.left, c.cancel.ensures.last, c.in_ok-timer.ensures.added, c.in_ok-timer.ensures.counted, c.from.ensures)
     (IsTimed-replace c.self.inside.timers.pending waiting c.self.inside.timers.last t c.in-Some.old c.self.invariant is room
-        c.in_ok-timer.ensures.numbered)
+    c.in_ok-timer.ensures.numbered)
 
 pub invariant_of-self-in_default : goal.invariant_of-self-in_default
 invariant_of-self-in_default c =
@@ -33,9 +33,9 @@ returns-in-Some-clause-ok c =
     let waiting = c.self.inside.waiting.items in
     let w : Waiting = record { deadline = c.args.deadline; timer = c.in_ok-timer.timer } in
     let number : moment w ≡ (record { deadline = c.args.deadline; order = c.self.inside.timers.last + 1 }) = ap
-        (λ n. record { deadline = c.args.deadline; order = n }) c.in_ok-timer.ensures.numbered in
+    (λ n. record { deadline = c.args.deadline; order = n }) c.in_ok-timer.ensures.numbered in
     rw (← c.self.view_is) (value_of-same _ _ _ _ (map-set (option_map moment) waiting c.args.event (Some w) ∙ ap
-        (λ m. set (moments waiting) c.args.event (Some m)) number)
+    (λ m. set (moments waiting) c.args.event (Some m)) number)
     (c.cancel.ensures.last ∙ c.in_ok-timer.ensures.counted))
 
 pub returns-in_default-clause-ok : goal.returns-in_default-clause-ok
@@ -43,7 +43,7 @@ returns-in_default-clause-ok c =
     let waiting = c.self.inside.waiting.items in
     let w : Waiting = record { deadline = c.args.deadline; timer = c.in_ok-timer.timer } in
     let number : moment w ≡ (record { deadline = c.args.deadline; order = c.self.inside.timers.last + 1 }) = ap
-        (λ n. record { deadline = c.args.deadline; order = n }) c.in_ok-timer.ensures.numbered in
+    (λ n. record { deadline = c.args.deadline; order = n }) c.in_ok-timer.ensures.numbered in
     rw (← c.self.view_is) (value_of-same _ _ _ _ (map-set (option_map moment) waiting c.args.event (Some w) ∙ ap
-        (λ m. set (moments waiting) c.args.event (Some m)) number)
+    (λ m. set (moments waiting) c.args.event (Some m)) number)
     c.in_ok-timer.ensures.counted)

@@ -20,8 +20,8 @@ loop-w-init c = record {
 pub invariant_of-self-in-loop-w : goal.invariant_of-self-in-loop-w
 invariant_of-self-in-loop-w c =
     let places : c.loop-w.self-inside.places.items ≡ woken c.self.inside.places.items c.self.inside.next c.args.waking.now = sym
-        (at_drop_all (woken c.loop-w.self-inside.places.items c.loop-w.self-inside.next) c.args.waking.now c.loop-w.w-index
-        (omega arith)) ∙ c.loop-w.invariant.places in
+    (at_drop_all (woken c.loop-w.self-inside.places.items c.loop-w.self-inside.next) c.args.waking.now c.loop-w.w-index
+    (omega arith)) ∙ c.loop-w.invariant.places in
     let next : c.loop-w.self-inside.next ≡ c.self.inside.next + length c.args.waking.now = omega arith in
     rw (c.loop-w.invariant.active, c.in_ok-append_all.ensures.ok, places, next)
     (IsPlaced-woken _ _ _ _ c.args.waking.now c.self.invariant refl (rw (← c.self.view_is) at c.requires.can))
@@ -29,9 +29,9 @@ invariant_of-self-in-loop-w c =
 pub returns-clause-ok : goal.returns-clause-ok
 returns-clause-ok c =
     let places : c.loop-w.self-inside.places.items ≡ woken c.self.inside.places.items c.self.inside.next c.args.waking.now = sym
-        (at_drop_all (woken c.loop-w.self-inside.places.items c.loop-w.self-inside.next) c.args.waking.now c.loop-w.w-index
-        (omega arith)) ∙ c.loop-w.invariant.places in
+    (at_drop_all (woken c.loop-w.self-inside.places.items c.loop-w.self-inside.next) c.args.waking.now c.loop-w.w-index
+    (omega arith)) ∙ c.loop-w.invariant.places in
     let next : c.loop-w.self-inside.next ≡ c.self.inside.next + length c.args.waking.now = omega arith in
     let count : length c.loop-w.self-inside.active ≡ length c.self.inside.active = ap length
-        (c.loop-w.invariant.active ∙ c.in_ok-append_all.ensures.ok) ∙ length-appended_all c.self.inside.active c.args.waking.now in
+    (c.loop-w.invariant.active ∙ c.in_ok-append_all.ensures.ok) ∙ length-appended_all c.self.inside.active c.args.waking.now in
     rw (← c.self.view_is) (cc (places, next, count))

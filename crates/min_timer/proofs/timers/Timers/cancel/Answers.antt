@@ -24,28 +24,28 @@ left : (c : goal.After-try_remove) → c.remove.new.self.items ≡ without c.arg
 left c =
     let order = c.self.inside.order.items in let at = c.in-Some.at in let there = stands c in
     let removed : c.remove.new.self.items ≡ remove order at = subst (λ r. OnSome r (c.remove.new.self.items ≡ remove order at))
-        c.unwrap-found.ensures c.remove.ensures.items in
+    c.unwrap-found.ensures c.remove.ensures.items in
     removed ∙ without-remove c.args.timer c.self.inside.slots order at c.unwrap-found.result c.self.invariant.in_order
-        c.self.invariant.in_slots there.0 (there.1 c.unwrap-found.result)
+    c.self.invariant.in_slots there.0 (there.1 c.unwrap-found.result)
 
 pub invariant_of-self : goal.invariant_of-self
 invariant_of-self c =
     let there = stands c in
     subst (λ o. IsKept o c.try_remove.new.self c.self.inside.last) (sym (left c))
     (kept-without c.args.timer c.self.inside.order.items c.self.inside.slots c.try_remove.new.self c.self.inside.last
-        c.in-Some.at c.unwrap-found.result
+    c.in-Some.at c.unwrap-found.result
     c.self.invariant there.0 (there.1 c.unwrap-found.result) c.try_remove.ensures.updates c.try_remove.result
-        c.try_remove.ensures.value c.try_remove.ensures.len)
+    c.try_remove.ensures.value c.try_remove.ensures.len)
 
 pub returns-clause-answer : goal.returns-clause-answer
 returns-clause-answer c =
     let order = c.self.inside.order.items in let at = c.in-Some.at in let found = c.unwrap-found.result in let there = stands c in
     let read : found ≡ get_or order at found = subst (λ r. IfSome r (λ y. y ≡ get_or order at y)) c.unwrap-found.ensures
-        c.remove.ensures.value in
+    c.remove.ensures.value in
     let one : timer_of c.args.timer order ≡ Some found =
     find-one (is_timer_of c.args.timer) order at found there.0 (there.1 found)
     (λ k h differ. one_place c.args.timer c.self.inside.slots order at k found c.self.invariant.in_order c.self.invariant.in_slots
-        there.0 h (there.1 found) differ)
+    there.0 h (there.1 found) differ)
     ∙ ap Some (sym read) in
     rw (← c.self.view_is, one) refl
 

@@ -7,6 +7,6 @@ pub invariant_of-self-2 : goal.invariant_of-self-2
 invariant_of-self-2 c =
     let parts : c.self.inside.order.items ≡ c.in_ok-first.first ∷ c.pop_front.new.self.items = c.in_ok-first.ensures.items in
     kept-rest c.in_ok-first.first c.pop_front.new.self.items c.self.inside.slots c.try_remove.new.self c.self.inside.last
-        c.try_remove.result
+    c.try_remove.result
     (subst (λ o. IsKept o c.self.inside.slots c.self.inside.last) parts c.self.invariant) c.try_remove.ensures.updates
-        c.try_remove.ensures.value c.try_remove.ensures.len
+    c.try_remove.ensures.value c.try_remove.ensures.len

@@ -8,7 +8,7 @@ use Rattle.script_port.proofs.fail_port.FailPortPort.write.Goals as goal
 pub returns-then-is_failing-clause-cause : goal.returns-then-is_failing-clause-cause
 returns-then-is_failing-clause-cause c =
     rw c.fail_write.ensures (end_failing c.args.self.now Write c.args.end (failed_write (length c.args.from.now))
-        (sym c.is_failing.ensures ∙ c.if-is_failing.true) (λ s. refl))
+    (sym c.is_failing.ensures ∙ c.if-is_failing.true) (λ s. refl))
 
 pub returns-then-is_failing-clause-ends : goal.returns-then-is_failing-clause-ends
 returns-then-is_failing-clause-ends c = rw c.fail_write.ensures (failed_write_ends c.args.self.now.inner.links c.args.end c.args.from.now)

@@ -11,7 +11,7 @@ returns-then-number-len c =
     let k = c.number-number.result in
     let within : k < length es = omega arith in
     let states = changed_set (λ e. e.state) (accepted c.args.connected) es k x c.accept.new.self within c.index_mut.ensures.value
-        (rw c.accept.ensures) in
+    (rw c.accept.ensures) in
     let to_come = same_set (λ e. e.to_come) es k x c.accept.new.self c.index_mut.ensures.value (rw c.accept.ensures) in
     rw (← c.self.view_is, states, to_come, c.number-number.ensures)
 

@@ -13,9 +13,9 @@ returns-then-number-len c =
     let within : k < length es = omega arith in
     let next = part_at (λ e. e.to_come) es k x [] within c.index_mut.ensures.value in
     let states = changed_set (λ e. e.state) (state_after_line c.self.inside.turn line (kept_at k (map (λ e. e.to_come) es))) es k x
-        c.apply.new.self within c.index_mut.ensures.value (rw (c.apply.ensures, next)) in
+    c.apply.new.self within c.index_mut.ensures.value (rw (c.apply.ensures, next)) in
     let to_come = changed_set (λ e. e.to_come) (left_after_line line) es k x c.apply.new.self within c.index_mut.ensures.value
-        (rw c.apply.ensures) in
+    (rw c.apply.ensures) in
     rw (← c.self.view_is, states, to_come, c.number-number.ensures)
 
 pub returns-else-number-len : goal.returns-else-number-len

@@ -11,7 +11,7 @@ returns-then-number-len-clause-after c =
     let k = c.number-number.result in
     let within : k < length es = omega arith in
     let states = changed_set (λ e. e.state) (after_check) es k x c.connect_state.new.self within c.index_mut.ensures.value
-        (rw c.connect_state.ensures.after) in
+    (rw c.connect_state.ensures.after) in
     let to_come = same_set (λ e. e.to_come) es k x c.connect_state.new.self c.index_mut.ensures.value (rw c.connect_state.ensures.after) in
     rw (← c.self.view_is, states, to_come, c.number-number.ensures)
 

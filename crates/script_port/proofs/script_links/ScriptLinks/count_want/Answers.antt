@@ -11,12 +11,12 @@ returns-then-number-len c =
     let k = c.number-number.result in
     let within : k < length es = omega arith in
     let states = changed_set (λ e. e.state) (wanted c.args.want.now) es k x c.count_want.new.self within c.index_mut.ensures.value
-        (rw c.count_want.ensures) in
+    (rw c.count_want.ensures) in
     let to_come = same_set (λ e. e.to_come) es k x c.count_want.new.self c.index_mut.ensures.value (rw c.count_want.ensures) in
     rw (← c.self.view_is, states, to_come, c.number-number.ensures)
 
 pub returns-else-number-len : goal.returns-else-number-len
 returns-else-number-len c =
     let states = changed_past (λ e. e.state) (wanted c.args.want.now) c.self.inside.ends.items (number c.args.want.now.side)
-        (omega arith) in
+    (omega arith) in
     rw (← c.self.view_is, states)

@@ -18,5 +18,5 @@ returns-in_ok-expect c =
 pub returns-else-number-len : goal.returns-else-number-len
 returns-else-number-len c =
     let to_come = changed_past (λ e. e.to_come) (λ before. before ++ c.in-Pending.list) c.self.inside.ends.items
-        (number c.in-Pending.end) (omega arith) in
+    (number c.in-Pending.end) (omega arith) in
     rw (← c.self.view_is, c.in-Pending.is, to_come)

@@ -11,7 +11,7 @@ returns-then-number-len c =
     let k = c.number-number.result in
     let within : k < length es = omega arith in
     let states = changed_set (λ e. e.state) (failed_write c.args.offer) es k x c.fail_write.new.self within
-        c.index_mut.ensures.value (rw c.fail_write.ensures) in
+    c.index_mut.ensures.value (rw c.fail_write.ensures) in
     let to_come = same_set (λ e. e.to_come) es k x c.fail_write.new.self c.index_mut.ensures.value (rw c.fail_write.ensures) in
     rw (← c.self.view_is, states, to_come, c.number-number.ensures)
 

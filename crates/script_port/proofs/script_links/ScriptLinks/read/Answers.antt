@@ -12,7 +12,7 @@ returns-then-number-len-clause-after c =
     let k = c.number-number.result in
     let within : k < length es = omega arith in
     let states = changed_set (λ e. e.state) (λ s. after_read s (length c.args.into.now)) es k x c.read.new.self within
-        c.index_mut.ensures.value (rw c.read.ensures.after) in
+    c.index_mut.ensures.value (rw c.read.ensures.after) in
     let to_come = same_set (λ e. e.to_come) es k x c.read.new.self c.index_mut.ensures.value (rw c.read.ensures.after) in
     rw (← c.self.view_is, states, to_come, c.number-number.ensures)
 
@@ -29,5 +29,5 @@ returns-else-number-len-clause-bytes c =
 pub returns-else-number-len-clause-after : goal.returns-else-number-len-clause-after
 returns-else-number-len-clause-after c =
     let states = changed_past (λ e. e.state) (λ s. after_read s (length c.args.into.now)) c.self.inside.ends.items
-        (number c.args.end) (omega arith) in
+    (number c.args.end) (omega arith) in
     rw (← c.self.view_is, states)

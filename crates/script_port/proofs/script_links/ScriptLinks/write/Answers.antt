@@ -10,18 +10,18 @@ returns-then-number-len-clause-wrote c =
     let es = c.self.inside.ends.items in
     rw (← c.self.view_is)
     (wrote_within _ _ _ es c.args.end c.number-number.result c.index_mut.result.now c.write.new.self c.args.from.now c.write.result
-        c.number-number.ensures (omega arith) c.index_mut.ensures.value c.write.ensures)
+    c.number-number.ensures (omega arith) c.index_mut.ensures.value c.write.ensures)
 
 pub returns-then-number-len-clause-kept : goal.returns-then-number-len-clause-kept
 returns-then-number-len-clause-kept c =
     let to_come = keeps_to_come c.self.inside.ends.items c.number-number.result c.index_mut.result.now c.write.new.self
-        c.args.from.now c.write.result c.index_mut.ensures.value c.write.ensures in
+    c.args.from.now c.write.result c.index_mut.ensures.value c.write.ensures in
     rw (← c.self.view_is, to_come)
 
 pub returns-else-number-len-clause-wrote : goal.returns-else-number-len-clause-wrote
 returns-else-number-len-clause-wrote c =
     let none = part_past (λ e. e.state) c.self.inside.ends.items (number c.args.end) (omega arith) in
     let states = changed_past (λ e. e.state) (λ s. after_write s c.args.from.now) c.self.inside.ends.items (number c.args.end)
-        (omega arith) in
+    (omega arith) in
     rw (← c.self.view_is, states, none)
     (refl, refl, omega arith)

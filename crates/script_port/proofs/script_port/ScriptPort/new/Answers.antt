@@ -26,10 +26,14 @@ invariant_of-result c =
     let turns = map shown_turn items in
     let xs = lines_of turns in
     let first = rw c.deref-lines-items.ensures.value at c.loop-lines.invariant in
-    let past : length turns ≤ c.loop-lines.lines-index = omega (arith, length-map items shown_turn, ap length
-        c.deref-lines-items.ensures.value) in
+    let past : length turns ≤ c.loop-lines.lines-index = omega (
+      arith,
+      length-map items shown_turn,
+      ap length
+          c.deref-lines-items.ensures.value,
+    ) in
     let all_links = links_done turns c.loop-lines.lines-index c.loop-lines.links _ past first ∙ ap (with_links (links_of xs))
-        c.new-links.ensures in
+    c.new-links.ensures in
     let kept = rw (← c.script.view_is) at c.in_ok-turns.ensures in
     rw kept.turns
     (all_to_come xs c.keep.new.links
@@ -43,10 +47,14 @@ returns-clause-vouched c =
     let turns = map shown_turn items in
     let xs = lines_of turns in
     let first = rw c.deref-lines-items.ensures.value at c.loop-lines.invariant in
-    let past : length turns ≤ c.loop-lines.lines-index = omega (arith, length-map items shown_turn, ap length
-        c.deref-lines-items.ensures.value) in
+    let past : length turns ≤ c.loop-lines.lines-index = omega (
+      arith,
+      length-map items shown_turn,
+      ap length
+          c.deref-lines-items.ensures.value,
+    ) in
     let all_links = links_done turns c.loop-lines.lines-index c.loop-lines.links _ past first ∙ ap (with_links (links_of xs))
-        c.new-links.ensures in
+    c.new-links.ensures in
     let kept = rw (← c.script.view_is) at c.in_ok-turns.ensures in
     let links = ap (λ (l : LinksKept). l.state) kept.links ∙ ap (λ (l : LinksKept). l.state) all_links in
     rw (← c.script.view_is) (new_from turns _ (rw (kept.turns, links, c.new.ensures)))

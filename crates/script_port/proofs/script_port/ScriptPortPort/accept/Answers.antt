@@ -26,19 +26,19 @@ returns-clause-vouched c =
     let p = port_state c.self.inside in
     rw (← c.self.view_is)
     (call_vouched p _ (after_accept p c.args.link) _ _
-        (rw (c.accept-answer.ensures.after, c.count_accept.ensures, c.accept-answer.ensures.answer))
-        (rw c.accept-answer.ensures.answer) refl (accept_stood p c.args.link))
+    (rw (c.accept-answer.ensures.after, c.count_accept.ensures, c.accept-answer.ensures.answer))
+    (rw c.accept-answer.ensures.answer) refl (accept_stood p c.args.link))
 
 pub returns-clause-waiting : goal.returns-clause-waiting
 returns-clause-waiting c = λ none.
     let l = c.self.inside.links.state in
     let empty = none_to_accept l.waiting (sym c.accept-answer.ensures.answer ∙ none) in
     nothing_waits _ (ap (λ (k : LinksKept). k.state.waiting) c.accept-answer.ensures.after ∙ ap
-        (λ ws. (accept_first c.args.link ws l).waiting) empty ∙ empty)
+    (λ ws. (accept_first c.args.link ws l).waiting) empty ∙ empty)
 
 pub returns-clause-cause : goal.returns-clause-cause
 returns-clause-cause c =
     let p = port_state c.self.inside in
     let links = ap (λ (k : LinksKept). k.state) c.accept-answer.ensures.after in
     rw (← c.self.view_is, links, c.count_accept.ensures, c.accept-answer.ensures.answer) (never_failed p.links.waiting p.links
-        (accept_first c.args.link p.links.waiting p.links) p.tally c.args.link refl)
+    (accept_first c.args.link p.links.waiting p.links) p.tally c.args.link refl)

@@ -12,7 +12,7 @@ pub invariant_of-self : goal.invariant_of-self
 invariant_of-self c =
     rw c.close.ensures
     (still_brings _ c.self.inside.links (at_end c.args.end after_close c.self.inside.links.state)
-        (length-at_end c.args.end after_close c.self.inside.links.state) c.self.invariant)
+    (length-at_end c.args.end after_close c.self.inside.links.state) c.self.invariant)
 
 pub returns-clause-ends : goal.returns-clause-ends
 returns-clause-ends c =
@@ -23,10 +23,10 @@ pub returns-clause-vouched : goal.returns-clause-vouched
 returns-clause-vouched c =
     let p = port_state c.self.inside in
     rw (← c.self.view_is) (call_vouched p _ (record p { links = at_end c.args.end after_close p.links }) _ _ (rw c.close.ensures)
-        refl refl (close_stood p c.args.end))
+    refl refl (close_stood p c.args.end))
 
 pub returns-clause-cause : goal.returns-clause-cause
 returns-clause-cause c =
     let p = port_state c.self.inside in
     rw (← c.self.view_is, c.close.ensures) (faults_stay p.links (at_end c.args.end after_close p.links) p.tally.poll_faults
-        (faults-at_end p.links c.args.end after_close (λ s. refl)))
+    (faults-at_end p.links c.args.end after_close (λ s. refl)))

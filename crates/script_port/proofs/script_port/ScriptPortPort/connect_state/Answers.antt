@@ -11,7 +11,7 @@ pub invariant_of-self : goal.invariant_of-self
 invariant_of-self c =
     rw c.connect_state.ensures.after
     (still_brings _ c.self.inside.links (at_end c.args.end after_check c.self.inside.links.state)
-        (length-at_end c.args.end after_check c.self.inside.links.state) c.self.invariant)
+    (length-at_end c.args.end after_check c.self.inside.links.state) c.self.invariant)
 
 pub returns-clause-ends : goal.returns-clause-ends
 returns-clause-ends c =
@@ -23,10 +23,10 @@ returns-clause-vouched c =
     let p = port_state c.self.inside in
     rw (← c.self.view_is)
     (call_vouched p _ (record p { links = at_end c.args.end after_check p.links }) _ _ (rw c.connect_state.ensures.after)
-        (rw c.connect_state.ensures.answer) refl (check_stood p c.args.end))
+    (rw c.connect_state.ensures.answer) refl (check_stood p c.args.end))
 
 pub returns-clause-cause : goal.returns-clause-cause
 returns-clause-cause c =
     let p = port_state c.self.inside in
     rw (← c.self.view_is, c.connect_state.ensures.after) (check_faults p.links (at_end c.args.end after_check p.links)
-        p.tally.poll_faults c.args.end _ refl c.connect_state.ensures.answer)
+    p.tally.poll_faults c.args.end _ refl c.connect_state.ensures.answer)

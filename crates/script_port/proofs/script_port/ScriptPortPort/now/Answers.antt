@@ -19,7 +19,7 @@ returns-clause-ends c = λ e.
 pub returns-clause-vouched : goal.returns-clause-vouched
 returns-clause-vouched c =
     rw c.saturating_add-self-inside.ensures (reading_vouched c.args.self.now (port_state c.self.inside)
-        (c.self.view_is ∙ c.begin_turn.ensures))
+    (c.self.view_is ∙ c.begin_turn.ensures))
 
 pub returns-clause-cause : goal.returns-clause-cause
 returns-clause-cause c =

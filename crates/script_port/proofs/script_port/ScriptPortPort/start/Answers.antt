@@ -9,7 +9,7 @@ pub returns-clause-vouched : goal.returns-clause-vouched
 returns-clause-vouched c =
     let p = port_state c.self.inside in
     rw (← c.self.view_is) (call_vouched p _ (after_start p c.args.listen c.args.to) [] [] refl refl refl
-        (start_stood p c.args.listen c.args.to))
+    (start_stood p c.args.listen c.args.to))
 
 pub returns-clause-cause : goal.returns-clause-cause
 returns-clause-cause c = rw (← c.self.view_is) (record { ends = λ e. refl; polling = refl; listener = counted-none 0 })

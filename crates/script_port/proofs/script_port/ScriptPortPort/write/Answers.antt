@@ -21,7 +21,7 @@ returns-clause-vouched c =
     let p = port_state c.self.inside in
     rw (← c.self.view_is)
     (call_vouched p _ (record p { links = c.write.new.self.state }) _ _ refl refl refl (write_stood p c.write.new.self.state
-        c.args.end c.args.from.now c.write.result c.write.ensures.wrote))
+    c.args.end c.args.from.now c.write.result c.write.ensures.wrote))
 
 pub returns-clause-cause : goal.returns-clause-cause
 returns-clause-cause c =
