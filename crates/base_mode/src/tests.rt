@@ -82,39 +82,32 @@ fn a_script_has_its_lines(rt: HostRuntime) -> Result<(), Fail> {
     Ok(())
 }
 
-#[test]
-fn a_text_is_refused_at_its_first_bad_line(rt: HostRuntime) -> Result<(), Fail> {
-    assert_eq!(rt; bad_line(&rt, "")?, 1);
-    assert_eq!(rt; bad_line(&rt, "\n#a")?, 3);
-    assert_eq!(rt; bad_line(&rt, "base 1")?, 0);
-    assert_eq!(rt; bad_line(&rt, "base 0")?, 1);
-    assert_eq!(rt; bad_line(&rt, "base 257\n")?, 1);
-    assert_eq!(rt; bad_line(&rt, "turn 0\nbase 1\n")?, 1);
-    assert_eq!(rt; bad_line(&rt, "base 1\n\nbase 1\n")?, 3);
-    assert_eq!(rt; bad_line(&rt, "base 1\nadd 0\n")?, 2);
-    Ok(())
-}
+/// Texts, each with the number of its first bad line, or 0 for a script.
+const TEXTS: [(&str, u32); 18] = [
+    ("", 1),
+    ("\n#a", 3),
+    ("base 1", 0),
+    ("base 0", 1),
+    ("base 257\n", 1),
+    ("turn 0\nbase 1\n", 1),
+    ("base 1\n\nbase 1\n", 3),
+    ("base 1\nadd 0\n", 2),
+    ("base 1\nnew 255 once signal 64\nprio 255 1000\n", 0),
+    ("base 1\nnew 256 once\n", 2),
+    ("base 1\nnew 0 once\nnew 0 persist\n", 3),
+    ("base 1\nsignal 0 0\n", 2),
+    ("base 1\nsignal 65 1\n", 2),
+    ("base 1\nturn 1099511627777\n", 2),
+    ("base 1\nnew 0 once\nadd 0 1099511627776\non 0 0 exit\n", 0),
+    ("base 1\nnew 0 once\non 0 1 add 9\n", 3),
+    ("base 1\nturn 0 # late\n", 2),
+    ("base 1\n\tturn 0\n", 2),
+];
 
 #[test]
-fn the_ranges_of_a_line_hold(rt: HostRuntime) -> Result<(), Fail> {
-    assert_eq!(rt;
-        bad_line(&rt, "base 1\nnew 255 once signal 64\nprio 255 1000\n")?,
-        0
-    );
-    assert_eq!(rt; bad_line(&rt, "base 1\nnew 256 once\n")?, 2);
-    assert_eq!(rt; bad_line(&rt, "base 1\nnew 0 once\nnew 0 persist\n")?, 3);
-    assert_eq!(rt; bad_line(&rt, "base 1\nsignal 0 0\n")?, 2);
-    assert_eq!(rt; bad_line(&rt, "base 1\nsignal 65 1\n")?, 2);
-    assert_eq!(rt; bad_line(&rt, "base 1\nturn 1099511627777\n")?, 2);
-    assert_eq!(rt;
-        bad_line(
-            &rt,
-            "base 1\nnew 0 once\nadd 0 1099511627776\non 0 0 exit\n"
-        )?,
-        0
-    );
-    assert_eq!(rt; bad_line(&rt, "base 1\nnew 0 once\non 0 1 add 9\n")?, 3);
-    assert_eq!(rt; bad_line(&rt, "base 1\nturn 0 # late\n")?, 2);
-    assert_eq!(rt; bad_line(&rt, "base 1\n\tturn 0\n")?, 2);
+fn a_text_is_refused_at_its_first_bad_line(rt: HostRuntime) -> Result<(), Fail> {
+    for (text, line) in TEXTS {
+        assert_eq!(rt; bad_line(&rt, text)?, line);
+    }
     Ok(())
 }

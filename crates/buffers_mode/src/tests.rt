@@ -100,7 +100,7 @@ fn each_line_has_its_answer(rt: HostRuntime) -> Result<(), Fail> {
 }
 
 /// Texts, each with its first bad line.
-const BAD: [(&str, u32); 34] = [
+const BAD: [(&str, u32); 35] = [
     ("nothing 0", 1),
     ("len", 1),
     ("len 16", 1),
@@ -135,6 +135,7 @@ const BAD: [(&str, u32); 34] = [
     ("eol 0 cr 0", 1),
     ("eol 0 lf 4611686018427387905", 1),
     ("readln 0 lf 0", 1),
+    ("len 0 # x", 1),
 ];
 
 #[test]
@@ -143,10 +144,4 @@ fn the_first_bad_line_is_told(rt: HostRuntime) {
         let fault = play_buffers(rt.alloc(), text.as_bytes()).err();
         assert_eq!(rt; fault, Some(ModeFault::BadLine(line)), "{text}");
     }
-}
-
-#[test]
-fn a_comment_ends_no_line_of_words(rt: HostRuntime) {
-    let fault = play_buffers(rt.alloc(), b"len 0 # x").err();
-    assert_eq!(rt; fault, Some(ModeFault::BadLine(1)));
 }

@@ -8,6 +8,7 @@ use Rattle.relay_model.specs.Flow.{Flow}
 use Rattle.relay_model.specs.Conserved.{Buffers, Running}
 use Rattle.relay_state.specs.State.{Lane}
 use Rattle.relay_state.specs.Passage.{Passage}
+use Rattle.evbuf_chain.specs.Inner.{Queued}
 use Rattle.relay_core.specs.SettingsView.{model_marks, model_timeouts}
 use Rattle.relay_core.specs.declared.flags.SideFlags.{SideFlags}
 use Rattle.relay_core.specs.declared.side.Progress.{Progress}
@@ -137,3 +138,10 @@ spare_of s =
     let fits : ℕ = min (s.raw_input.spare) (2 ^ 64 - 1 - s.read) in
     if nat_le (read_mark_of s - length s.input.items) s.input.spare then fits
     else min fits ((if length s.input.items == 0 then read_mark_of s else s.input.spare) - length s.raw_input.items)
+
+-- a queue without a byte has no room
+abbrev pub IsLean : Queued → Type 0
+IsLean q = length q.items ≡ 0 → q.spare ≡ 0
+
+abbrev pub HasNoIdleRoom : SideState → Type 0
+HasNoIdleRoom s = IsLean s.raw_input × IsLean s.input × IsLean s.output × IsLean s.raw_output

@@ -1,15 +1,16 @@
 // Passing a direction: rounds until one changes nothing. A round has its room before it begins, so that want of memory
-// leaves whole rounds.
+// leaves whole rounds. At the end each queue without a byte gives its room up, so that an idle link holds none.
 ghost use Rattle.std.specs.Prelude.{◌≡◌, ◌<◌, length, OnOk, MatchResult, IsTrue, ◌↔◌};
 ghost use Rattle.std.specs.Prelude.{◌≤◌, take};
 ghost use Rattle.std.specs.List.{last_or};
 ghost use Rattle.relay_state.specs.Passage.{hold_part, read_part, move_part, has_moved_all, write_part, pass_round, Passed, SomeRounds};
-ghost use Rattle.relay_core.specs.SideView.{plain_side, passage_of, HasInputRoom, HasOutputRoom, not_turned};
+ghost use Rattle.relay_core.specs.SideView.{plain_side, passage_of, HasInputRoom, HasOutputRoom, not_turned, IsLean, HasNoIdleRoom};
 
 use crate::relay::Relay;
 use crate::side::{Progress, SideState};
 use ev_types::{NoMemory, SideId};
 use evbuf_chain::ByteQueue;
+use std::alloc::Global;
 use std::mem::swap;
 
 /// Whether nothing was counted in between.
@@ -28,6 +29,16 @@ fn last_of(queue: &ByteQueue, count: usize, before: Option<u8>) -> Option<u8>
         return before;
     }
     Some(queue.as_slice()[count - 1])
+}
+
+/// Gives up the room of a queue that has no byte. Takes no memory; constant.
+fn give_up(queue: &mut ByteQueue, alloc: Global)
+    ensures items { queue.new.items ≡ queue.old.items }
+    ensures room { IsLean queue.new }
+{
+    if queue.len() == 0 {
+        *queue = ByteQueue::new(alloc);
+    }
 }
 
 impl SideState {
@@ -147,7 +158,7 @@ impl SideState {
     }
 
     /// Rounds until one changes nothing.
-    pub(crate) fn pass(
+    fn make_rounds(
         &mut self,
         mark: u64,
         hold: u64,
@@ -169,13 +180,46 @@ impl SideState {
             }
         }
     }
+
+    /// Gives up the room of each of the four buffers that has no byte.
+    fn give_up_rooms(&mut self, alloc: Global)
+        ensures side { plain_side self.new ≡ plain_side self.old }
+        ensures passage { passage_of self.new ≡ passage_of self.old }
+        ensures rooms { HasNoIdleRoom self.new }
+    {
+        give_up(&mut self.raw_input, alloc);
+        give_up(&mut self.input, alloc);
+        give_up(&mut self.output, alloc);
+        give_up(&mut self.raw_output, alloc);
+    }
+
+    /// Rounds until one changes nothing. Then no buffer without a byte has room.
+    pub(crate) fn pass(
+        &mut self,
+        alloc: Global,
+        mark: u64,
+        hold: u64,
+        ended: bool,
+        from_live: bool,
+        to_live: bool,
+    ) -> Result<(), NoMemory>
+        ensures side { plain_side self.new ≡ plain_side self.old }
+        ensures passage { MatchResult result
+            (λ _. Passed (pass_round mark hold ended from_live to_live) (passage_of self.old) (passage_of self.new))
+            (λ _. SomeRounds (pass_round mark hold ended from_live to_live) (passage_of self.old) (passage_of self.new)) }
+        ensures rooms { OnOk result (HasNoIdleRoom self.new) }
+    {
+        self.make_rounds(mark, hold, ended, from_live, to_live)?;
+        self.give_up_rooms(alloc);
+        Ok(())
+    }
 }
 
 impl Relay {
     ghost use Rattle.relay_state.specs.Passing.{PassedFrom, PartlyPassed};
 
     /// Passes the direction that begins at the side: rounds until one changes nothing. Want of memory comes between two
-    /// rounds.
+    /// rounds. Afterwards no buffer that has no byte holds memory.
     pub fn pass(&mut self, from: SideId) -> Result<(), NoMemory>
         requires { from.link < self.old.state.plain.opened }
         ensures { MatchResult result
@@ -185,8 +229,9 @@ impl Relay {
         let mark = self.read_mark(from);
         let hold = self.hold_mark(from.peer());
         let to_live = self.flags(from.peer()).live;
+        let alloc = self.alloc;
         let own = &mut self.sides[from.number()];
         let flags = own.flags;
-        own.pass(mark, hold, flags.ended, flags.live, to_live)
+        own.pass(alloc, mark, hold, flags.ended, flags.live, to_live)
     }
 }

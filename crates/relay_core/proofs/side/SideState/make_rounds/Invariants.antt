@@ -3,7 +3,7 @@ use Rattle.relay_state.specs.Passage.{pass_round, SomeRounds}
 use Rattle.relay_core.specs.SideView.{plain_side, passage_of}
 use Rattle.relay_core.proofs.RoundLemmas.{weight}
 use Rattle.relay_core.proofs.PassageLemmas.{straight}
-use Rattle.relay_core.proofs.side.SideState.pass.Given as goal
+use Rattle.relay_core.proofs.side.SideState.make_rounds.Given as goal
 
 abbrev pub invariant-loop-before : goal.invariant-loop-before
 invariant-loop-before l = record {

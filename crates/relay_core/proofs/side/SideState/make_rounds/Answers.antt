@@ -4,7 +4,7 @@ use Rattle.relay_core.specs.SideView.{passage_of, flow_of}
 use Rattle.relay_core.specs.declared.side.Progress.{Progress}
 use Rattle.relay_core.proofs.RoundLemmas.{Straight, weight, round, round_falls}
 use Rattle.relay_core.proofs.PassageLemmas.{passage, straight, seen_of, round-is, rounds-suc}
-use Rattle.relay_core.proofs.side.SideState.pass.Goals as goal
+use Rattle.relay_core.proofs.side.SideState.make_rounds.Goals as goal
 
 -- equal counts of the code, from equal counts as contracts see them
 same_counts : (a b : Progress) → flow_of a ≡ flow_of b → a ≡ b
