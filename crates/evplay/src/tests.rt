@@ -153,7 +153,7 @@ const BAD: [(&str, u32); 14] = [
     ("at 0\nopen\nwfail 0\n", 3),
     ("at 0\nopen\nspur 0 both\n", 3),
     ("at 0\npollfail now\n", 2),
-    ("set hold 4\n", 1),
+    ("set hold 0\n", 1),
 ];
 
 #[test]
