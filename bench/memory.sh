@@ -1,7 +1,8 @@
 #!/usr/bin/env bash
 # Prints what idle links hold that have moved bytes each way: the greatest number of bytes in blocks of at most 70,000 bytes during a
 # run in which each of 256 links moves them, one after the other, less that of a run in which one link moves as many in as many
-# turns. It also prints how often each run asked for memory. It tests nothing: read the figures. It needs a C compiler.
+# turns. It also prints how often each run asked for memory. The port of the script keeps the room of what came in at its ends, so that
+# long pieces count there. It tests nothing: read the figures. It needs a C compiler.
 # Usage: bench/memory.sh [PROGRAM]; build the program first, as the README says.
 set -u
 cd "$(dirname "$0")/.." || exit 1
