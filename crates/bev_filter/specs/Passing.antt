@@ -23,29 +23,29 @@ with_held bev Read buf = record bev { input = buf }
 with_held bev Write buf = record bev { output = buf }
 
 -- the bufferevent that bytes leave, the one to which they come, and the filter
-pub record Passage : Type 0 where
+pub record Crossing : Type 0 where
   pub from : BevValue
   pub to : BevValue
   pub filter : Running
 
 -- the filter's step over all bytes of the source, with the target's length under the limit
-abbrev pub passing : Dir → Passage → ℕ → Mode → Stepped
+abbrev pub passing : Dir → Crossing → ℕ → Mode → Stepped
 passing dir p limit mode = stepped p.filter (is_last mode) limit (length (held p.to dir).bytes) (held p.from dir).bytes
 
 -- The step was made: the bytes that it used have left the source, and what it made of them stands at the end of the target.
 -- Nothing else changed but what is spare in the two.
-pub record Passed (dir : Dir) (s : Stepped) (before after : Passage) : Type 0 where
+pub record Crossed (dir : Dir) (s : Stepped) (before after : Crossing) : Type 0 where
   pub gone : after.from ≡ with_held before.from dir (less (held before.from dir) s.used (held after.from dir).spare)
   pub come : after.to ≡ with_held before.to dir (more (held before.to dir) s.made (held after.to dir).spare)
   pub filter : after.filter ≡ s.after
 
 -- Ok tells how many bytes were used and whether the filter is finished, where it did not stop. Filter tells the place at which
 -- it stopped. Want of memory changed nothing, and neither did Spent.
-abbrev pub Passes : Dir → ℕ → Mode → Result Step PassFault → Passage → Passage → Type 0
+abbrev pub Passes : Dir → ℕ → Mode → Result Step PassFault → Crossing → Crossing → Type 0
 Passes dir limit mode (Ok step) before after =
-    WentOn step (passing dir before limit mode) × Passed dir (passing dir before limit mode) before after
+    WentOn step (passing dir before limit mode) × Crossed dir (passing dir before limit mode) before after
 Passes dir limit mode (Err (Filter place)) before after =
-    ((passing dir before limit mode).after.stopped ≡ Some place) × Passed dir (passing dir before limit mode) before after
+    ((passing dir before limit mode).after.stopped ≡ Some place) × Crossed dir (passing dir before limit mode) before after
 Passes dir limit mode (Err Memory) before after = after ≡ before
 Passes dir limit mode (Err Spent) before after = after ≡ before
 

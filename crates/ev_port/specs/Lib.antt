@@ -8,3 +8,4 @@ pub mod Vouching
 pub mod Counting
 pub mod Memory
 pub mod MemoryView
+pub mod Silent

@@ -22,5 +22,5 @@ IsFirstPlace test bytes from (Some place) =
     (from ≤ place) × PassesAt test bytes place × ((k : ℕ) → from ≤ k → k < place → ¬ PassesAt test bytes k)
 
 -- the first place is first
-abbrev pub PlacesAreFirst : Type 0
-PlacesAreFirst = (test : List ℕ → Bool) (bytes : List ℕ) (from : ℕ) → IsFirstPlace test bytes from (place_from test bytes from)
+abbrev pub PlaceIsFirst : Type 0
+PlaceIsFirst = (test : List ℕ → Bool) (bytes : List ℕ) (from : ℕ) → IsFirstPlace test bytes from (place_from test bytes from)

@@ -14,7 +14,7 @@ use Rattle.event_base.specs.Deadlines.{Moment, deadlines}
 use Rattle.event_base.specs.Ready.{order_in, orders, priorities, IsLeast, IsFront, IsNext}
 use Rattle.event_base.specs.Events.{is_active}
 use Rattle.event_base.specs.Turns.{least, active_priority, deadline_of, in_batch, made_earlier, is_first, next_event}
-use Rattle.event_base.specs.Tied.{value_at, IsTied, place_of, moment_of}
+use Rattle.event_base.specs.Tied.{value_at, Mirrors, place_of, moment_of}
 use Rattle.event_base.proofs.RousingLemmas.{placed_at}
 use Rattle.event_base.proofs.TiedLemmas.{slice_get-within, slice_get-get_or}
 
@@ -95,12 +95,12 @@ earlier (Some a) (Some c) v w h g = (let left : a.order ≡ v = cc h in let righ
     left ∙ ap (nat_lt v) right)
 
 -- the order number of an event among those of a priority
-own_order : (places : List (Option Place)) (events : List Event) (p j : ℕ) (y : Event) → IsTied place_of places events → slice_get
+own_order : (places : List (Option Place)) (events : List Event) (p j : ℕ) (y : Event) → Mirrors place_of places events → slice_get
     events j ≡ Some y → orders p places j ≡ order_in p (place_of y)
 own_order places events p j y tied is = ap (order_in p) (tied j ∙ ap (option_and_then place_of) is)
 
 -- an event with an order number is there
-event_with : (places : List (Option Place)) (events : List Event) (p j v : ℕ) → IsTied place_of places events → orders p places j ≡
+event_with : (places : List (Option Place)) (events : List Event) (p j v : ℕ) → Mirrors place_of places events → orders p places j ≡
     Some v → (y : Event) × (slice_get events j ≡ Some y) × (order_in p (place_of y) ≡ Some v)
 event_with places events p j v tied h = go (slice_get events j) refl
   where
@@ -109,7 +109,7 @@ event_with places events p j v tied h = go (slice_get events j) refl
     go (Some y) q = (y, q, sym (own_order places events p j y tied q) ∙ h)
 
 -- Where no order number of the priority is below the end, no event of the batch is left.
-pub next_event-none : (b : BaseValue) (places : List (Option Place)) (d : Event) → IsTied place_of places b.events → IsNext
+pub next_event-none : (b : BaseValue) (places : List (Option Place)) (d : Event) → Mirrors place_of places b.events → IsNext
     b.batch_priority b.batch_end places None → next_event b ≡ None
 next_event-none b places d tied none = unfound (is_first b) b.events d (λ j y is. and_left (in_batch b y)
     (not (list_any (λ other. in_batch b other && made_earlier other y) b.events)) (⊎_elim
@@ -121,7 +121,7 @@ next_event-none b places d tied none = unfound (is_first b) b.events d (λ j y i
     (cases_Bool (in_batch b y))))
 
 -- the next fire is the front of the batch
-pub next_event-front : (b : BaseValue) (places : List (Option Place)) (k : ℕ) → IsTied place_of places b.events →
+pub next_event-front : (b : BaseValue) (places : List (Option Place)) (k : ℕ) → Mirrors place_of places b.events →
     (front : IsFront b.batch_priority places (Some k)) → front.value < b.batch_end → next_event b ≡ Some k
 next_event-front b places k tied front low =
     let p = b.batch_priority in
@@ -208,7 +208,7 @@ least_same f g None e h = λ k. e k ∙ h k
 least_same f g (Some n) e h = ((h.0.0, e h.0.0 ∙ h.0.1), λ j m r. h.1 j m (sym (e j) ∙ r))
 
 -- the most urgent priority of an active event
-pub least-priority : (places : List (Option Place)) (events : List Event) (o : Option ℕ) → IsTied place_of places events → IsLeast
+pub least-priority : (places : List (Option Place)) (events : List Event) (o : Option ℕ) → Mirrors place_of places events → IsLeast
     (priorities places) o → least active_priority events ≡ o
 least-priority places events o tied h = least_unique (λ k. option_and_then active_priority (slice_get events k))
     (least active_priority events) o (least_is active_priority events)
@@ -225,7 +225,7 @@ least-priority places events o tied h = least_unique (λ k. option_and_then acti
     own k (Some y) e = active y.active y.priority ∙ sym (ap (option_map (λ (place : Place). place.priority)) e)
 
 -- the least deadline of an event
-pub least-deadline : (moments : List (Option Moment)) (events : List Event) (o : Option ℕ) → IsTied moment_of moments events →
+pub least-deadline : (moments : List (Option Moment)) (events : List Event) (o : Option ℕ) → Mirrors moment_of moments events →
     IsLeast (deadlines moments) o → least deadline_of events ≡ o
 least-deadline moments events o tied h = least_unique (λ k. option_and_then deadline_of (slice_get events k))
     (least deadline_of events) o (least_is deadline_of events)
@@ -251,13 +251,13 @@ active-priority (e ∷ es) = ap (λ b. is_active e || b) (active-priority es) �
     split false = refl
 
 -- the next fire, as the queue of the batch tells it
-pub next_event-is : (b : BaseValue) (places : List (Option Place)) (d : Event) (o : Option ℕ) → IsTied place_of places b.events →
+pub next_event-is : (b : BaseValue) (places : List (Option Place)) (d : Event) (o : Option ℕ) → Mirrors place_of places b.events →
     IsNext b.batch_priority b.batch_end places o → next_event b ≡ o
 next_event-is b places d None tied next = next_event-none b places d tied next
 next_event-is b places d (Some k) tied next = next_event-front b places k tied next.0 (next.1 next.0.value next.0.has)
 
 -- the event that fires next is there, and active
-pub next-there : (b : BaseValue) (places : List (Option Place)) (k : ℕ) → IsTied place_of places b.events → IsNext b.batch_priority
+pub next-there : (b : BaseValue) (places : List (Option Place)) (k : ℕ) → Mirrors place_of places b.events → IsNext b.batch_priority
     b.batch_end places (Some k) → (e : Event) × (a : Activation) × (slice_get b.events k ≡ Some e) × (e.active ≡ Some a)
 next-there b places k tied next =
     let there = event_with places b.events b.batch_priority k next.0.value tied next.0.has in

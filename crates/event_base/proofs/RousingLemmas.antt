@@ -16,7 +16,7 @@ use Rattle.event_base.specs.Ready.{ReadyValue, CanWake, woken}
 use Rattle.event_base.specs.Events.{made, is_active, joined, activated}
 use Rattle.event_base.specs.Rousing.{event_of, needed, risen, wakers, AreApart, CanRise}
 use Rattle.event_base.specs.Tied.{value_at, place_of, moment_of, AreKept}
-use Rattle.event_base.proofs.TiedLemmas.{IsTied-set, IsTied-keep, AreKept-set, AreKept-keep, AreKept-place, priority-within}
+use Rattle.event_base.proofs.TiedLemmas.{Mirrors-set, Mirrors-keep, AreKept-set, AreKept-keep, AreKept-place, priority-within}
 
 -- an event that is there
 pub slice_get-event_of : (events : List Event) (k : ℕ) → k < length events → slice_get events k ≡ Some (event_of events k)

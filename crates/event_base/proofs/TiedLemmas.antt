@@ -8,7 +8,7 @@ use Rattle.event_base.specs.Rising.{at}
 use Rattle.event_base.specs.declared.ready.Place.{Place}
 use Rattle.event_base.specs.Deadlines.{Moment, DeadlinesValue}
 use Rattle.event_base.specs.Ready.{ReadyValue}
-use Rattle.event_base.specs.Tied.{value_at, IsTied, place_of, moment_of, AreKept}
+use Rattle.event_base.specs.Tied.{value_at, Mirrors, place_of, moment_of, AreKept}
 use Rattle.std.proofs.lemmas.List.Elements.{All-set, All-push, All-get_or}
 
 pub slice_get-set_same : {X : Type 0} (xs : List X) (k : ℕ) (x y : X) → slice_get xs k ≡ Some x → slice_get (set xs k y) k ≡ Some y
@@ -51,37 +51,37 @@ slice_get-pushed [] y = refl
 slice_get-pushed (x ∷ xs) y = slice_get-pushed xs y
 
 -- what is kept of the events stays tied as both change for one event
-pub IsTied-set : {V : Type 0} (value : Event → Option V) (values : List (Option V)) (events : List Event) (k : ℕ) (e new : Event)
-    (v : Option V) → IsTied value values events → length events ≤ length values → slice_get events k ≡ Some e → value new ≡ v →
-    IsTied value (set values k v) (set events k new)
-IsTied-set value values events k e new v tied room is same j = ⊎_elim
+pub Mirrors-set : {V : Type 0} (value : Event → Option V) (values : List (Option V)) (events : List Event) (k : ℕ) (e new : Event)
+    (v : Option V) → Mirrors value values events → length events ≤ length values → slice_get events k ≡ Some e → value new ≡ v →
+    Mirrors value (set values k v) (set events k new)
+Mirrors-set value values events k e new v tied room is same j = ⊎_elim
     (λ q. ap (at (set values k v)) q ∙ get_or-set_same values k v None (let lt = slice_get-within events k e is in omega arith) ∙ sym same
     ∙ sym (ap (option_and_then value) (ap (slice_get (set events k new)) q ∙ slice_get-set_same events k e new is)))
     (λ n. get_or-set_other values k j v None n ∙ tied j ∙ ap (option_and_then value) (sym (slice_get-set_other events k j new n)))
     (cases_eq j k)
 
 -- what is kept of an event does not change with the rest of it
-pub IsTied-keep : {V : Type 0} (value : Event → Option V) (values : List (Option V)) (events : List Event) (k : ℕ) (e new : Event)
-    → IsTied value values events → slice_get events k ≡ Some e → value new ≡ value e → IsTied value values (set events k new)
-IsTied-keep value values events k e new tied is same j = ⊎_elim
+pub Mirrors-keep : {V : Type 0} (value : Event → Option V) (values : List (Option V)) (events : List Event) (k : ℕ) (e new : Event)
+    → Mirrors value values events → slice_get events k ≡ Some e → value new ≡ value e → Mirrors value values (set events k new)
+Mirrors-keep value values events k e new tied is same j = ⊎_elim
     (λ q. tied j ∙ ap (value_at value events) q ∙ ap (option_and_then value) is ∙ sym same ∙ sym
     (ap (option_and_then value) (slice_get-set_same events k e new is)) ∙ sym (ap (value_at value (set events k new)) q))
     (λ n. tied j ∙ ap (option_and_then value) (sym (slice_get-set_other events k j new n)))
     (cases_eq j k)
 
 -- nothing is kept of a new event
-pub IsTied-push : {V : Type 0} (value : Event → Option V) (values : List (Option V)) (events : List Event) (new : Event) → IsTied
-    value values events → value new ≡ None → IsTied value values (events ++ new ∷ [])
-IsTied-push value values events new tied none j = ⊎_elim
+pub Mirrors-push : {V : Type 0} (value : Event → Option V) (values : List (Option V)) (events : List Event) (new : Event) → Mirrors
+    value values events → value new ≡ None → Mirrors value values (events ++ new ∷ [])
+Mirrors-push value values events new tied none j = ⊎_elim
     (λ q. tied j ∙ ap (value_at value events) q ∙ ap (option_and_then value) (slice_get-past events (length events) (omega arith))
     ∙ sym none ∙ sym (ap (option_and_then value) (slice_get-pushed events new)) ∙ sym (ap (value_at value (events ++ new ∷ [])) q))
     (λ n. tied j ∙ ap (option_and_then value) (sym (slice_get-push events new j n)))
     (cases_eq j (length events))
 
 -- what is kept stays tied where the values of all numbers stay
-pub IsTied-same : {V : Type 0} (value : Event → Option V) (values more : List (Option V)) (events : List Event) →
-    ((k : ℕ) → at more k ≡ at values k) → IsTied value values events → IsTied value more events
-IsTied-same value values more events e tied k = e k ∙ tied k
+pub Mirrors-same : {V : Type 0} (value : Event → Option V) (values more : List (Option V)) (events : List Event) →
+    ((k : ℕ) → at more k ≡ at values k) → Mirrors value values events → Mirrors value more events
+Mirrors-same value values more events e tied k = e k ∙ tied k
 
 -- the events and what is kept beside them as one event changes
 pub AreKept-set : (events : List Event) (deadlines : DeadlinesValue) (ready : ReadyValue) (k : ℕ) (e new : Event)
@@ -89,8 +89,8 @@ pub AreKept-set : (events : List Event) (deadlines : DeadlinesValue) (ready : Re
     place_of new ≡ p → new.priority < ready.priorities → AreKept (set events k new)
     (record deadlines { moments = set deadlines.moments k m }) (record ready { places = set ready.places k p })
 AreKept-set events deadlines ready k e new m p kept is moment place low = record {
-  placed = IsTied-set place_of ready.places events k e new p kept.placed kept.places is place;
-  timed = IsTied-set moment_of deadlines.moments events k e new m kept.timed kept.moments is moment;
+  placed = Mirrors-set place_of ready.places events k e new p kept.placed kept.places is place;
+  timed = Mirrors-set moment_of deadlines.moments events k e new m kept.timed kept.moments is moment;
   places = rw (length-set events k new, length-set ready.places k p) kept.places;
   moments = rw (length-set events k new, length-set deadlines.moments k m) kept.moments;
   few = rw (length-set events k new) kept.few;
@@ -104,8 +104,8 @@ pub AreKept-moment : (events : List Event) (deadlines : DeadlinesValue) (ready :
     place_of e → new.priority < ready.priorities → AreKept (set events k new)
     (record deadlines { moments = set deadlines.moments k m }) ready
 AreKept-moment events deadlines ready k e new m kept is moment place low = record {
-  placed = IsTied-keep place_of ready.places events k e new kept.placed is place;
-  timed = IsTied-set moment_of deadlines.moments events k e new m kept.timed kept.moments is moment;
+  placed = Mirrors-keep place_of ready.places events k e new kept.placed is place;
+  timed = Mirrors-set moment_of deadlines.moments events k e new m kept.timed kept.moments is moment;
   places = rw (length-set events k new) kept.places;
   moments = rw (length-set events k new, length-set deadlines.moments k m) kept.moments;
   few = rw (length-set events k new) kept.few;
@@ -118,8 +118,8 @@ pub AreKept-grow : (events : List Event) (deadlines more : DeadlinesValue) (read
     ready → ((k : ℕ) → at more.moments k ≡ at deadlines.moments k) → ((k : ℕ) → at room.places k ≡ at ready.places k) → length
     events ≤ length more.moments → length events ≤ length room.places → room.priorities ≡ ready.priorities → AreKept events more room
 AreKept-grow events deadlines more ready room kept moments places longer wider same = record {
-  placed = IsTied-same place_of ready.places room.places events places kept.placed;
-  timed = IsTied-same moment_of deadlines.moments more.moments events moments kept.timed;
+  placed = Mirrors-same place_of ready.places room.places events places kept.placed;
+  timed = Mirrors-same moment_of deadlines.moments more.moments events moments kept.timed;
   places = wider;
   moments = longer;
   few = kept.few;
@@ -132,8 +132,8 @@ pub AreKept-push : (events : List Event) (deadlines : DeadlinesValue) (ready : R
     ready → length events + 1 ≤ 2 ^ 32 → length events + 1 ≤ length deadlines.moments → length events + 1 ≤ length ready.places →
     moment_of new ≡ None → place_of new ≡ None → new.priority < ready.priorities → AreKept (events ++ new ∷ []) deadlines ready
 AreKept-push events deadlines ready new kept few longer wider moment place low = record {
-  placed = IsTied-push place_of ready.places events new kept.placed place;
-  timed = IsTied-push moment_of deadlines.moments events new kept.timed moment;
+  placed = Mirrors-push place_of ready.places events new kept.placed place;
+  timed = Mirrors-push moment_of deadlines.moments events new kept.timed moment;
   places = rw (length_push events new) wider;
   moments = rw (length_push events new) longer;
   few = rw (length_push events new) few;
@@ -153,8 +153,8 @@ pub AreKept-keep : (events : List Event) (deadlines : DeadlinesValue) (ready : R
     deadlines ready → slice_get events k ≡ Some e → moment_of new ≡ moment_of e → place_of new ≡ place_of e → new.priority <
     ready.priorities → AreKept (set events k new) deadlines ready
 AreKept-keep events deadlines ready k e new kept is moment place low = record {
-  placed = IsTied-keep place_of ready.places events k e new kept.placed is place;
-  timed = IsTied-keep moment_of deadlines.moments events k e new kept.timed is moment;
+  placed = Mirrors-keep place_of ready.places events k e new kept.placed is place;
+  timed = Mirrors-keep moment_of deadlines.moments events k e new kept.timed is moment;
   places = rw (length-set events k new) kept.places;
   moments = rw (length-set events k new) kept.moments;
   few = rw (length-set events k new) kept.few;
@@ -167,8 +167,8 @@ pub AreKept-place : (events : List Event) (deadlines : DeadlinesValue) (ready : 
     (p : Option Place) → AreKept events deadlines ready → slice_get events k ≡ Some e → moment_of new ≡ moment_of e → place_of new
     ≡ p → new.priority < ready.priorities → AreKept (set events k new) deadlines (record ready { places = set ready.places k p })
 AreKept-place events deadlines ready k e new p kept is moment place low = record {
-  placed = IsTied-set place_of ready.places events k e new p kept.placed kept.places is place;
-  timed = IsTied-keep moment_of deadlines.moments events k e new kept.timed is moment;
+  placed = Mirrors-set place_of ready.places events k e new p kept.placed kept.places is place;
+  timed = Mirrors-keep moment_of deadlines.moments events k e new kept.timed is moment;
   places = rw (length-set events k new, length-set ready.places k p) kept.places;
   moments = rw (length-set events k new) kept.moments;
   few = rw (length-set events k new) kept.few;
@@ -194,7 +194,7 @@ pub AreKept-as : (events : List Event) (deadlines others : DeadlinesValue) (read
     deadlines.moments → AreKept events deadlines ready → AreKept events others ready
 AreKept-as events deadlines others ready same kept = record {
   placed = kept.placed;
-  timed = subst (λ ms. IsTied moment_of ms events) (sym same) kept.timed;
+  timed = subst (λ ms. Mirrors moment_of ms events) (sym same) kept.timed;
   places = kept.places;
   moments = subst (λ (ms : List (Option Moment)). length events ≤ length ms) (sym same) kept.moments;
   few = kept.few;

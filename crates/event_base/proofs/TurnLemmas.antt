@@ -17,7 +17,7 @@ use Rattle.event_base.specs.Deadlines.{Moment, IsSooner, if_due, due_at}
 use Rattle.event_base.specs.Events.{made, is_active, joined, activated}
 use Rattle.event_base.specs.Turns.{is_due, wakes, comes_before, wakes_before, timed_out}
 use Rattle.event_base.specs.Rousing.{event_of, needed, risen, wakers, AreApart, CanRise}
-use Rattle.event_base.specs.Tied.{value_at, IsTied, moment_of, moment_at as mom}
+use Rattle.event_base.specs.Tied.{value_at, Mirrors, moment_of, moment_at as mom}
 use Rattle.event_base.proofs.RisingLemmas.{but-same, but-other, but-some, Rises-absent}
 use Rattle.event_base.proofs.RousingLemmas.{slice_get-event_of, wakers-set}
 use Rattle.event_base.proofs.TiedLemmas.{slice_get-within, slice_get-get_or as get_or-slice_get}
@@ -412,7 +412,7 @@ not_due time (Some t) e = split (nat_le t.deadline time) e
     split false q = refl
 
 -- as a turn begins, the due moments are those of the events that are still to get the flag
-pub IsOpen-start : (time : ℕ) (moments : List (Option Moment)) (events : List Event) → IsTied moment_of moments events → IsOpen
+pub IsOpen-start : (time : ℕ) (moments : List (Option Moment)) (events : List Event) → Mirrors moment_of moments events → IsOpen
     time events (due_at time moments)
 IsOpen-start time moments events tied = record {
   open_ones = λ j m h. (let due = due_late time (at moments j) m h in

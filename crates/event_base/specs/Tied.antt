@@ -22,14 +22,14 @@ abbrev pub value_at : {V : Type 0} → (Event → Option V) → List Event → �
 value_at value events k = option_and_then value (slice_get events k)
 
 -- the list has what is kept of each event, and nothing else
-abbrev pub IsTied : {V : Type 0} → (Event → Option V) → List (Option V) → List Event → Type 0
-IsTied value values events = (k : ℕ) → at values k ≡ value_at value events k
+abbrev pub Mirrors : {V : Type 0} → (Event → Option V) → List (Option V) → List Event → Type 0
+Mirrors value values events = (k : ℕ) → at values k ≡ value_at value events k
 
 -- What is kept beside the events: the queues have the active ones, the timers those with a deadline, there is room for
 -- all, every event has one of the priorities, and its number fits a u32.
 pub record AreKept (events : List Event) (deadlines : DeadlinesValue) (ready : ReadyValue) : Type 0 where
-  pub placed : IsTied place_of ready.places events
-  pub timed : IsTied moment_of deadlines.moments events
+  pub placed : Mirrors place_of ready.places events
+  pub timed : Mirrors moment_of deadlines.moments events
   pub places : length events ≤ length ready.places
   pub moments : length events ≤ length deadlines.moments
   pub few : length events ≤ 2 ^ 32

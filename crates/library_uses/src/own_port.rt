@@ -1,7 +1,8 @@
 // The relay over a port of one's own: a call that waits, says hello and ends, and the other end that hears it.
 ghost use Rattle.std.specs.Prelude.{◌≡◌, ◌<◌, ⊤, false, map, length};
 ghost use Rattle.ev_port.specs.Ends.{ReadWithin, is_failed_read};
-ghost use Rattle.library_uses.specs.OwnPort.{marked, no_fault, silent_port, silent_end};
+ghost use Rattle.ev_port.specs.Silent.{silent_port, silent_end};
+ghost use Rattle.library_uses.specs.OwnPort.{marked, no_fault};
 
 use ev_port::{
     Accepted, Addr, ConnAnswer, Mute, Polled, Port, ReadAnswer, Started, Want, WriteAnswer,

@@ -1,7 +1,6 @@
--- The counts of faults of a port over sockets, and what it tells beside them: nothing.
-use Rattle.std.specs.Prelude.{◌≡◌, ⊤, None}
+-- The counts of faults of a port over sockets. It tells nothing beside them, and vouches for no trace.
+use Rattle.std.specs.Prelude.{◌≡◌, ⊤}
 use Rattle.ev_types.specs.declared.side.SideId.{SideId}
-use Rattle.ev_types.specs.Told.{EndTold, PortTold}
 use Rattle.ev_types.specs.Trace.{Trace}
 use Rattle.ev_port.specs.Faults.{Faults}
 use Rattle.mio_port.specs.declared.mio_port.MioPort.{MioPort}
@@ -18,37 +17,6 @@ vouches_nothing p plan t = ⊥
 -- so nothing rests on what this says of links that wait
 abbrev pub waits_untold : ⊤ → Trace → Type 0
 waits_untold plan t = ⊤
-
-abbrev pub silent_port : PortTold
-silent_port = record {
-  accept_polls = None;
-  timeout = None;
-  links = None;
-  accepting = None;
-  readings = None;
-  reading = None;
-  started = None;
-}
-
-abbrev pub silent_end : SideId → EndTold
-silent_end e = record {
-  handed_out = None;
-  taken = None;
-  made_connected = None;
-  ended = None;
-  connected = None;
-  write_ended = None;
-  closed = None;
-  reads = None;
-  writes = None;
-  checks = None;
-  rooms = None;
-  offers = None;
-  read_wants = None;
-  write_wants = None;
-  read_marks = None;
-  write_marks = None;
-}
 
 -- no fault was met yet
 pub record IsFaultless (counts : Faults) : Type 0 where

@@ -2,6 +2,7 @@
 // each call of a port does with them, and which count of faults it raises.
 ghost use Rattle.std.specs.Prelude.{◌≡◌, ◌<◌, ◌≤◌, ⊤, [], true, false, length, is_some, is_none, None, MatchResult};
 ghost use Rattle.ev_types.specs.Sides.{number};
+ghost use Rattle.ev_port.specs.Silent.{silent_port, silent_end};
 ghost use Rattle.ev_port.specs.Vouching.{LongerBy, NothingWaits};
 ghost use Rattle.ev_port.specs.EndSteps.{EndsWent, AllWent, PortStays, no_step};
 ghost use Rattle.ev_port.specs.Faults.{FaultsStay, EndFaults, PollFaults, ListenerFaults};
@@ -12,7 +13,7 @@ ghost use Rattle.mio_port.specs.EndAnswers.{connection_at, ReadBy, WrittenBy, Ch
 ghost use Rattle.mio_port.specs.OneEnd.{closed_end};
 ghost use Rattle.mio_port.specs.EndPlaces.{PlacesStay, PlaceWent};
 ghost use Rattle.mio_port.specs.PortCalls.{Listens, Marked, Accepts, MadeLink, HasNoFault, IsNoLink};
-ghost use Rattle.mio_port.specs.PortFaults.{IsFaultless, mio_faults, vouches_nothing, waits_untold, silent_port, silent_end};
+ghost use Rattle.mio_port.specs.PortFaults.{IsFaultless, mio_faults, vouches_nothing, waits_untold};
 
 use crate::clock::SteadyClock;
 use crate::door::{Door, Miss, miss_of, socket_addr};

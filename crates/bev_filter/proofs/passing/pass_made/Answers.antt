@@ -2,13 +2,13 @@ use Rattle.std.proofs.Common.{◌≡◌, ◌-◌, ◌∙◌, ap, sym, subst, len
 use Rattle.relay_model.specs.FilterStep.{Stepped}
 use Rattle.stream_filters.specs.StepAnswers.{Answers}
 use Rattle.stream_filters.specs.declared.fault.FilterFault.{FilterFault}
-use Rattle.bev_filter.specs.Passing.{Passage, passing}
+use Rattle.bev_filter.specs.Passing.{Crossing, passing}
 use Rattle.bev_filter.proofs.PassingLemmas.{step-beside, passed-beside}
 use Rattle.bev_filter.proofs.passing.pass_made.Goals as goal
 
 pub returns-in-Ok-clause-passes : goal.returns-in-Ok-clause-passes
 returns-in-Ok-clause-passes c =
-    let p : Passage = record { from = c.args.from.now; to = c.args.to.now; filter = c.args.filter.now } in
+    let p : Crossing = record { from = c.args.from.now; to = c.args.to.now; filter = c.args.filter.now } in
     let empty = c.new-made.ensures.items in
     let left = c.saturating_sub-room.ensures ∙ ap (λ n. c.args.limit - n) c.len.ensures in
     let e = step-beside c.args.dir p c.args.limit c.saturating_sub-room.result c.args.mode c.copied-next.result c.bytes.result.now
@@ -23,7 +23,7 @@ returns-in-Ok-clause-passes c =
 
 pub returns-in-BadByte-clause-passes : goal.returns-in-BadByte-clause-passes
 returns-in-BadByte-clause-passes c =
-    let p : Passage = record { from = c.args.from.now; to = c.args.to.now; filter = c.args.filter.now } in
+    let p : Crossing = record { from = c.args.from.now; to = c.args.to.now; filter = c.args.filter.now } in
     let empty = c.new-made.ensures.items in
     let left = c.saturating_sub-room.ensures ∙ ap (λ n. c.args.limit - n) c.len.ensures in
     let e = step-beside c.args.dir p c.args.limit c.saturating_sub-room.result c.args.mode c.copied-next.result c.bytes.result.now
