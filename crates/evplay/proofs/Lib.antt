@@ -1,12 +1,8 @@
-pub mod Lists
 pub mod ScriptLemmas
 pub mod BroughtLemmas
 pub mod FaultLemmas
 pub mod HeadlineLemmas
-pub mod TurnCountLemmas
 pub mod OrderLemmas
 pub mod PlayedLemmas
 pub mod RunLemmas
-pub mod ComplaintLemmas
-pub mod TurnEndLemmas
 pub mod TimeoutLemmas

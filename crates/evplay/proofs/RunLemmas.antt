@@ -20,10 +20,11 @@ use Rattle.relay_drive.specs.Known.{known, Point, Question}
 use Rattle.evplay.proofs.HeadlineLemmas.{run-of}
 use Rattle.evplay.proofs.OrderLemmas.{opens-in-order}
 use Rattle.evplay.proofs.PlayedLemmas.{vouched_played}
-use Rattle.evplay.proofs.TurnCountLemmas.{begun-is}
-use Rattle.evplay.specs.TurnEnds.{AtTurnEnds}
-use Rattle.evplay.specs.Headline.{IsRun, settings_of, StoodBetween}
-use Rattle.evplay.specs.Report.{lines_below}
+use Rattle.run_end.proofs.TurnCountLemmas.{begun-is}
+use Rattle.relay_laws.specs.TurnEnds.{AtTurnEnds}
+use Rattle.relay_laws.specs.Relayed.{StoodBetween}
+use Rattle.evplay.specs.Headline.{IsRun, settings_of}
+use Rattle.relay_laws.specs.Report.{lines_below}
 
 -- what is known of a script port and a trace of its script
 abbrev pub PortKnown : Point → PortState → State → List ScriptTurn → Trace → Type 0

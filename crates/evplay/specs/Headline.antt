@@ -1,48 +1,17 @@
--- What `play` says of the trace that it writes. Some facts are in the model's words, the others in plain ones.
-use Rattle.std.specs.Prelude.{◌≡◌, ℕ, suc, true, List, [], ◌∷◌, ◌++◌, length, Ok}
-use Rattle.ev_types.specs.declared.side.SideId.{SideId}
-use Rattle.ev_types.specs.declared.entry.Entry.TheVariants as entry
-use Rattle.ev_types.specs.declared.why.Cause.{Cause}
-use Rattle.ev_types.specs.Sides.{peer}
+-- What `play` says of the trace that it writes: a relay made it, and it is played from the script.
+use Rattle.std.specs.Prelude.{◌≡◌, [], Ok, List}
 use Rattle.ev_types.specs.Trace.{Trace}
 use Rattle.ev_types.specs.declared.status.LinkCount.{LinkCount}
 use Rattle.script_text.specs.Script.{ScriptValue}
 use Rattle.script_text.specs.TraceText.{trace_text}
 use Rattle.script_text.specs.TraceSpelled.{trace_of}
-use Rattle.relay_model.specs.Trace.{bytes_read, bytes_given, has_ended, is_write_closed}
-use Rattle.relay_model.specs.Totals.{opened}
-use Rattle.relay_model.specs.FilterLaws.{IsPrefixOf}
-use Rattle.relay_model.specs.Filter.{filter_of}
-use Rattle.relay_model.specs.Flow.{passed, passed_at_end}
 use Rattle.relay_model.specs.Settings.{Settings}
-use Rattle.relay_model.specs.Rooms.{read_kind, write_kind}
-use Rattle.relay_model.specs.Plain.{Plain}
-use Rattle.relay_model.specs.Stages.{Stage, at}
-use Rattle.relay_model.specs.Turn.{Reaches}
-use Rattle.relay_model.specs.Answers.{TurnAnswer, LeftAt}
-use Rattle.relay_model.specs.Stands.{AllAccounted}
-use Rattle.relay_model.specs.Quiet.{IsQuiet}
+use Rattle.relay_model.specs.Answers.{TurnAnswer}
 use Rattle.relay_model.specs.Plays.{Plays}
 use Rattle.relay_model.specs.Script.{Script}
-use Rattle.relay_core.specs.SettingsView.{model_settings}
-use Rattle.relay_model.specs.Causes.{HasCause}
-use Rattle.relay_state.specs.Closing.{in_side, out_side}
-use Rattle.relay_laws.specs.Links.{link_state_in}
 use Rattle.relay_model.specs.Polls.{PollsFailed}
-use Rattle.evplay.specs.TurnEnds.{AtTurnEnds}
-
--- a line of a report tells what a link came to in a trace, and how many bytes the trace has of its ends
-pub record TellsLink (t : Trace) (link : ℕ) (told : LinkCount) : Type 0 where
-  pub state : told.state ≡ link_state_in t link
-  pub in_read : told.in_read ≡ length (bytes_read (in_side link) t)
-  pub in_given : told.in_given ≡ length (bytes_given (in_side link) t)
-  pub out_read : told.out_read ≡ length (bytes_read (out_side link) t)
-  pub out_given : told.out_given ≡ length (bytes_given (out_side link) t)
-
--- lines tell of the links from a number on
-abbrev pub TellsLinks : Trace → ℕ → List LinkCount → Type 0
-TellsLinks t link [] = Unit {0}
-TellsLinks t link (told ∷ more) = TellsLink t link told × TellsLinks t (suc link) more
+use Rattle.relay_core.specs.SettingsView.{model_settings}
+use Rattle.relay_laws.specs.Relayed.{IsRelayed}
 
 -- the settings of a script's run: what its lines set, and else the usual ones
 abbrev pub settings_of : ScriptValue → Settings
@@ -52,48 +21,11 @@ settings_of script = model_settings script.settings
 abbrev pub script_run : ScriptValue → Script
 script_run script = record { settings = settings_of script; plans = []; turns = script.turns }
 
--- What the filters of a direction make of what was read where it begins: before the side has ended without their ends, from then on
--- with them.
-abbrev pub handed_on : Settings → Trace → SideId → List ℕ
-handed_on g t e = passed (filter_of (read_kind g e.side)) (filter_of (write_kind g (peer e).side)) (has_ended e t) (bytes_read e t)
-
--- and all that they make of it, with their ends
-abbrev pub handed_on_whole : Settings → Trace → SideId → List ℕ
-handed_on_whole g t e = passed_at_end (filter_of (read_kind g e.side)) (filter_of (write_kind g (peer e).side)) (bytes_read e t)
-
--- A run stood so behind a trace: the trace leads to this state at this stage of a turn, and it accounts for every byte in
--- every direction of that state: none was lost, made or changed.
-pub record StoodAt (g : Settings) (t : Trace) (x : Stage) : Type 0 where
-  pub plain : Plain
-  pub reached : Reaches g t (at x plain)
-  pub accounted : AllAccounted g t plain
-
--- so it stood between two turns
-abbrev pub StoodBetween : Settings → Trace → Type 0
-StoodBetween g t = StoodAt g t Stage.Between
-
--- so it stood where a turn may answer this
-pub record EndedSo (g : Settings) (answer : TurnAnswer) (t : Trace) : Type 0 where
-  pub stage : Stage
-  pub stood : StoodAt g t stage
-  pub left : LeftAt g answer stage stood.plain
-
--- A trace that was written, of a run that ended with this answer, is played from the script: its turns are the script's, every
--- answer in it is the script's, and every link that waits is accepted. It is legal, and no byte in it was lost, made or
--- changed: as it ends, and wherever a turn of it ends. Whatever happened, the bytes given to a side are a prefix of what the filters
--- make of those read from its peer; where writing was ended at a side, they are all of that. Behind the free of a side nothing is
--- done with its end but that it is closed, once; and each free has its cause. The text of the trace, read as a trace, is the same trace. The report has a line for each opened link and
--- tells of it.
+-- A relay made this trace and its report, and ended with this answer: no byte was lost, made or changed, and each side was given a
+-- prefix of what the filters make of what was read at the other. The trace is played from the script: its turns are the script's,
+-- every answer in it is the script's, and every link that waits is accepted. Its text, read as a trace, is the same trace.
 pub record IsRun (script : ScriptValue) (answer : TurnAnswer) (t : Trace) (links : List LinkCount) : Type 0 where
+  pub relayed : IsRelayed (settings_of script) answer t links
   pub played : Plays (script_run script) 0 answer t
   pub polls : PollsFailed answer script.turns t
-  pub ended : EndedSo (settings_of script) answer t
-  pub turn_ends : AtTurnEnds (StoodBetween (settings_of script)) t
-  pub begins : (e : SideId) → IsPrefixOf (bytes_given (peer e) t) (handed_on (settings_of script) t e)
-  pub whole : (e : SideId) → is_write_closed (peer e) t ≡ true → bytes_given (peer e) t ≡ handed_on_whole (settings_of script) t e
-  pub quiet : IsQuiet t
-  pub freed : (before after : Trace) (e : SideId) (why : Cause) (moved given : ℕ) (bytes : List ℕ) →
-      t ≡ before ++ (entry.Freed e why moved given, bytes) ∷ after → HasCause (settings_of script) before e why
   pub read_back : trace_of (trace_text t) ≡ Ok t
-  pub opened : length links ≡ opened t
-  pub report : TellsLinks t 0 links

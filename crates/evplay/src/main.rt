@@ -3,10 +3,8 @@
 //! `play_program` does all that the program does; `main` hands it the words and the streams, and hands on its status.
 #![tactic(auto)]
 
-mod complaint;
 mod input;
 mod outcome;
-mod output;
 mod play;
 mod program;
 mod run;
@@ -17,9 +15,9 @@ mod words;
 
 use ev_port::{StdSink, StdSource};
 use program::play_program;
+use run_end::program_words;
+use std::io;
 use std::process::ExitCode;
-use std::{env, io};
-use words::{BadWords, bad_words};
 
 fn main(rt: HostRuntime) -> ExitCode {
     let words = program_words(&rt);
@@ -27,12 +25,4 @@ fn main(rt: HostRuntime) -> ExitCode {
     let mut sink = StdSink::new(io::writer(&rt));
     let mut errors = StdSink::new(rt.stderr());
     ExitCode::from(play_program(rt.alloc(), words, &mut source, &mut sink, &mut errors))
-}
-
-/// The words after the program's name.
-fn program_words(rt: &HostRuntime) -> Result<Vec<String>, BadWords> {
-    match env::args(rt) {
-        Ok(args) => Ok(args.skip(1).collect(rt.alloc())?),
-        Err(error) => Err(bad_words(error.kind())),
-    }
 }

@@ -4,12 +4,13 @@ ghost use Rattle.evplay.specs.declared.words.Mode.TheVariants.{Relay, Buffers, B
 ghost use Rattle.evplay.specs.Play.{ComesTo, Refuses};
 
 use crate::run::run;
-use crate::status::{buffers_status, fault_status, script_status};
+use crate::status::{buffers_status, script_status};
 use crate::words::Mode;
 use base_mode::play_base;
 use buffers_mode::play_buffers;
 use ev_types::Status;
 use pairs_mode::play_pairs;
+use run_end::fault_status;
 use script_text::read_script;
 use std::alloc::Global;
 

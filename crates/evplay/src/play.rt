@@ -7,10 +7,10 @@ ghost use Rattle.evplay.specs.Play.{DidWith};
 
 use crate::input::{ReadStop, read_text};
 use crate::outcome::outcome_of;
-use crate::output::write_text;
 use crate::words::mode_of;
 use ev_port::{Sink, Source};
 use ev_types::Status;
+use run_end::write_text;
 use std::alloc::Global;
 
 /// Plays the script that a source spells, and writes what it comes to to a sink. It always returns. The words are

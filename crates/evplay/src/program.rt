@@ -1,16 +1,15 @@
 // All of the program but its words and streams: how the process ends, and what it says.
 ghost use Rattle.std.specs.Prelude.{◌≡◌, map, string_bytes, IfOk, IfErr};
 ghost use Rattle.ev_types.specs.declared.status.Status.{Status};
+ghost use Rattle.run_end.specs.EndStatus.{status_number, words_status};
+ghost use Rattle.run_end.specs.Complains.{Complains};
 ghost use Rattle.evplay.specs.Words.{mode_of};
-ghost use Rattle.evplay.specs.Status.{status_number, words_status};
 ghost use Rattle.evplay.specs.Play.{DidWith};
-ghost use Rattle.evplay.specs.Program.{Complains};
 
-use crate::complaint::finish;
 use crate::play::play;
-use crate::words::BadWords;
 use ev_port::{Sink, Source};
 use ev_types::Status;
+use run_end::{BadWords, finish};
 use std::alloc::Global;
 
 /// Plays as its words say. Nothing is read or written where the words can't be read.

@@ -5,14 +5,15 @@ ghost use Rattle.relay_laws.specs.Spelling.{BringsFit, TimeoutsFit};
 ghost use Rattle.evplay.specs.Headline.{settings_of};
 ghost use Rattle.ev_types.specs.ScriptTurn.{lines_of};
 ghost use Rattle.relay_model.specs.Called.{NamesOpened};
-ghost use Rattle.evplay.specs.Report.{lines_below};
+ghost use Rattle.relay_laws.specs.Report.{lines_below};
 ghost use Rattle.evplay.specs.Play.{IsRunText, run_text};
 ghost use Rattle.evplay.specs.Run.{answer_of, ended_as};
 
 use ev_types::{NoMemory, Status};
 use relay_drive::{Drive, DriveFault};
 use script_port::ScriptPort;
-use script_text::{LinkLine, Script, write_report};
+use run_end::link_lines;
+use script_text::{Script, write_report};
 use std::alloc::Global;
 use text_scribe::TextScribe;
 
@@ -87,17 +88,4 @@ fn written(alloc: Global, scribe: TextScribe, drive: &Drive) -> Result<Vec<u8>, 
     let mut text = scribe.into_text();
     write_report(&links, &mut text)?;
     Ok(text)
-}
-
-/// The links of a drive as the report says them, in order.
-fn link_lines(alloc: Global, drive: &Drive) -> Result<Vec<LinkLine>, NoMemory>
-    ensures { IfOk result (λ lines. lines.items ≡ lines_below drive.now.state drive.now.state.plain.opened) }
-{
-    let mut lines = Vec::new(alloc);
-    for link in 0..drive.opened() {
-        if let Some(count) = drive.link(link) {
-            lines.push(count)?;
-        }
-    }
-    Ok(lines)
 }

@@ -1,7 +1,7 @@
 // What no clause says: that calls answer with ample memory, and runs that were worked out by hand.
 use crate::program::play_program;
-use crate::words::BadWords;
 use ev_port::{MemSink, MemSource};
+use run_end::BadWords;
 use std::alloc::Global;
 use std::test::Fail;
 

@@ -14,3 +14,5 @@ pub mod EventLemmas
 pub mod LineLemmas
 pub mod SpellingLemmas
 pub mod HandLemmas
+pub mod TurnEndLemmas
+pub mod RelayedLemmas

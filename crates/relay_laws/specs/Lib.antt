@@ -4,3 +4,6 @@ pub mod Underway
 pub mod Frees
 pub mod Spelling
 pub mod Plainly
+pub mod Report
+pub mod TurnEnds
+pub mod Relayed

@@ -21,12 +21,14 @@ use Rattle.relay_drive.specs.Phases.{CutTurn}
 use Rattle.relay_drive.specs.DriveStands as drive
 use Rattle.relay_drive.proofs.BoundLaws.{new_drive_is_within, within_is_not_worn, went_is_bounded}
 use Rattle.evplay.proofs.FaultLemmas.{memory-or-poll}
-use Rattle.evplay.proofs.HeadlineLemmas.{built, stood-at}
+use Rattle.relay_laws.proofs.RelayedLemmas.{stood-at}
+use Rattle.evplay.proofs.HeadlineLemmas.{built}
 use Rattle.evplay.proofs.RunLemmas.{went-run, failed-run}
-use Rattle.evplay.proofs.TurnEndLemmas.{ends-none, ends-grow}
-use Rattle.evplay.proofs.TurnCountLemmas.{turn-once, turn-first, cut-poll-once, cut-poll-first, count-append}
-use Rattle.evplay.specs.Headline.{settings_of, StoodBetween}
-use Rattle.evplay.specs.Report.{lines_below}
+use Rattle.relay_laws.proofs.TurnEndLemmas.{ends-none, ends-grow}
+use Rattle.run_end.proofs.TurnCountLemmas.{turn-once, turn-first, cut-poll-once, cut-poll-first, count-append}
+use Rattle.relay_laws.specs.Relayed.{StoodBetween}
+use Rattle.evplay.specs.Headline.{settings_of}
+use Rattle.relay_laws.specs.Report.{lines_below}
 use Rattle.evplay.proofs.run.run.Goals as goal
 
 same-trace : (t u : Trace) → Some t ≡ Some u → t ≡ u

@@ -6,8 +6,9 @@ use Rattle.relay_steps.specs.Meaning.{StandsFor}
 use Rattle.relay_drive.specs.Known.{Point}
 use Rattle.relay_drive.specs.DriveStands.{DriveStands}
 use Rattle.relay_drive.specs.Bounds.{IsWithin, most_of_turn}
-use Rattle.evplay.specs.TurnEnds.{AtTurnEnds}
-use Rattle.evplay.specs.Headline.{settings_of, StoodBetween}
+use Rattle.relay_laws.specs.TurnEnds.{AtTurnEnds}
+use Rattle.relay_laws.specs.Relayed.{StoodBetween}
+use Rattle.evplay.specs.Headline.{settings_of}
 use Rattle.evplay.proofs.RunLemmas.{PortKnown}
 use Rattle.evplay.proofs.run.run.Given as goal
 

@@ -31,7 +31,7 @@ use Rattle.relay_drive.specs.Phases.{links_from, Polls, OpensOne, OpensSome, Acc
 use Rattle.relay_drive.specs.Phases.{ConnectsSide, ServesSide, PassesSide, PassesLink, ForAllLinks, closing_events}
 use Rattle.relay_drive.specs.Phases.{LooksAt, ClosesLink, Turns, CutTurn, in_poll, CutPolling}
 use Rattle.relay_drive.specs.declared.fault.DriveFault.TheVariants as fault
-use Rattle.evplay.specs.TurnEnds.{begins_turn}
+use Rattle.relay_laws.specs.TurnEnds.{begins_turn}
 
 -- among the entries that a step puts, so many begin a turn
 abbrev IsPutting : ℕ → (State → Trace → State → Type 0) → Type 0

@@ -1,6 +1,6 @@
 use Rattle.std.proofs.Common.{◌≡◌, ◌≤◌, ◌-◌, length, take}
 use Rattle.stream_words.specs.Streams.{TookOn}
-use Rattle.evplay.proofs.output.write_text.Given as goal
+use Rattle.run_end.proofs.output.write_text.Given as goal
 
 abbrev pub invariant-loop-at : goal.invariant-loop-at
 invariant-loop-at g l = record {

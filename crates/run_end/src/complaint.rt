@@ -4,8 +4,8 @@ ghost use Rattle.std.specs.Fmt.{decimal};
 ghost use Rattle.ev_types.specs.declared.status.Status.TheVariants.{BadScript, Stopped};
 ghost use Rattle.stream_words.specs.Faults.{Rose};
 ghost use Rattle.stream_words.specs.Streams.{TookOn};
-ghost use Rattle.evplay.specs.Status.{complaint, status_number};
-ghost use Rattle.evplay.specs.Program.{Complains};
+ghost use Rattle.run_end.specs.EndStatus.{complaint, status_number};
+ghost use Rattle.run_end.specs.Complains.{Complains};
 
 use crate::output::{WriteFailed, write_text};
 use crate::status::process_status;

@@ -1,7 +1,7 @@
 use Rattle.std.proofs.Common.{arith, rules}
 use Rattle.stream_words.proofs.StreamLemmas.{TookOn-join}
-use Rattle.evplay.proofs.Lists.{take_next}
-use Rattle.evplay.proofs.output.write_text.Goals as goal
+use Rattle.run_end.proofs.ListPart.{take_next}
+use Rattle.run_end.proofs.output.write_text.Goals as goal
 
 pub loop-at-preserved : goal.loop-at-preserved
 loop-at-preserved g c = record {

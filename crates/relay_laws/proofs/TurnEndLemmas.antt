@@ -4,7 +4,7 @@ use Rattle.std.proofs.Common.{count_by, if◌then◌else◌, append-nil}
 use Rattle.ev_types.specs.Trace.{Event, Trace}
 use Rattle.relay_model.specs.RatesKept.{is_turn}
 use Rattle.std.proofs.lemmas.List.Sums.{sum_by-append, sum_by-cons}
-use Rattle.evplay.specs.TurnEnds.{begins_turn, AtTurnEnds}
+use Rattle.relay_laws.specs.TurnEnds.{begins_turn, AtTurnEnds}
 
 head-is : (x y : Event) (t u : Trace) → x ∷ t ≡ y ∷ u → x ≡ y
 head-is x y t u h = cc h

@@ -1,9 +1,9 @@
 use Rattle.std.proofs.Common.{[], ◌∷◌, ◌++◌, codes, refl}
 use Rattle.std.specs.Fmt.{decimal}
 use Rattle.ev_types.specs.declared.status.Status.TheVariants.{BadScript}
-use Rattle.evplay.specs.Status.{complaint}
-use Rattle.evplay.proofs.ComplaintLemmas.{ok-join}
-use Rattle.evplay.proofs.complaint.complain_of_line.Goals as goal
+use Rattle.run_end.specs.EndStatus.{complaint}
+use Rattle.run_end.proofs.ComplaintLemmas.{ok-join}
+use Rattle.run_end.proofs.complaint.complain_of_line.Goals as goal
 
 pub returns-clause-whole : goal.returns-clause-whole
 returns-clause-whole g c =

@@ -1,0 +1,3 @@
+pub mod ListPart
+pub mod ComplaintLemmas
+pub mod TurnCountLemmas

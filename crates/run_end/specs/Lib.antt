@@ -1,0 +1,2 @@
+pub mod EndStatus
+pub mod Complains
