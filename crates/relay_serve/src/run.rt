@@ -1,37 +1,79 @@
 // A run over a port: it is started once, and turns are made until all links were opened and none is open.
-ghost use Rattle.std.specs.Prelude.{◌≡◌, ◌≢◌, MatchResult, true, false, ℕ};
-ghost use Rattle.ev_types.specs.declared.status.Status.{Status};
-ghost use Rattle.relay_core.specs.SettingsView.{model_settings};
+ghost use Rattle.std.specs.Prelude.{◌≡◌, ◌≢◌};
+ghost use Rattle.ev_types.specs.declared.status.Status.TheVariants.{WriteFault};
 ghost use Rattle.relay_drive.specs.DriveValue.{new_drive};
 ghost use Rattle.relay_serve.specs.Seen.{seen, drained};
 ghost use Rattle.relay_serve.specs.Served.{Did};
-ghost use Rattle.relay_serve.specs.Underway.{route_of, Finished, Refused, TurnsGo};
+ghost use Rattle.relay_serve.specs.Underway.{TurnsGo, RanTo, ended_as};
 
 use crate::report::report;
-use ev_port::{Addr, Port, Scribe, Sink, Started};
+use ev_port::{Port, Scribe, Sink, Started};
 use ev_types::Status;
 use relay_drive::{Drive, DriveFault};
-use relay_settings::Route;
+use relay_settings::{Route, Settings};
 use std::alloc::Global;
 use std::sync::Wait;
 
 /// Makes turns until so many links were opened as the settings allow and none is open.
 fn make_turns<R: Wait, P: Port, S: Scribe>(
     rt: &R,
-    links: u32,
+    settings: &Settings,
     drive: &mut Drive,
     port: &mut P,
     scribe: &mut S,
 ) -> Result<(), DriveFault>
-    requires links { drive.old.state.settings.links ≡ links }
-    requires new { (settings : Rattle.relay_settings.specs.declared.settings.Settings.Settings) × (drive.old ≡ new_drive settings) }
-    ensures went { TurnsGo P.Port S.Scribe result (drive.old, port.old, scribe.old) (drive.new, port.new, scribe.new) }
+    requires { drive.old ≡ new_drive settings.now }
+    ensures { TurnsGo P.Port S.Scribe result (drive.old, port.old, scribe.old) (drive.new, port.new, scribe.new) }
 {
     for _ in rt.forever() {
-        if drive.opened() == links && drive.open_links() == 0 {
+        if drive.opened() == settings.links && drive.open_links() == 0 {
             return Ok(());
         }
         drive.turn(port, scribe)?;
     }
     unreachable!()
+}
+
+/// Starts the port, and makes the turns.
+fn run<R: Wait, P: Port, S: Scribe>(
+    rt: &R,
+    route: &Route,
+    drive: &mut Drive,
+    port: &mut P,
+    scribe: &mut S,
+) -> Result<(), DriveFault>
+    requires { drive.old ≡ new_drive route.now.settings }
+    ensures { RanTo route.now (ended_as result) (seen P.Port S.Scribe (port.old, scribe.old)) (seen P.Port S.Scribe (port.new, scribe.new))
+        drive.new.state }
+{
+    match port.start(route.listen, route.to) {
+        Started::Started => make_turns(rt, &route.settings, drive, port, scribe),
+        Started::Failed => Err(DriveFault::OpenFault),
+        Started::NoMemory => Err(DriveFault::Memory),
+    }
+}
+
+/// Relays over a port: starts it once, makes turns until so many links were opened as the settings allow and none is open, and writes
+/// the report. A failed start, a failed poll or accept, and counts that came to 2^62 end the run, and the report is written all the
+/// same; want of memory ends it with nothing written. It may never return.
+///
+/// Own.
+pub fn relay<R: Wait, P: Port, S: Scribe, K: Sink>(
+    rt: &R,
+    alloc: Global,
+    route: &Route,
+    port: &mut P,
+    scribe: &mut S,
+    sink: &mut K,
+) -> Status
+    ensures did { Did route.now result (seen P.Port S.Scribe (port.old, scribe.old)) (seen P.Port S.Scribe (port.new, scribe.new))
+        (drained K.Sink sink.old) (drained K.Sink sink.new) }
+    ensures write_calm { result ≢ WriteFault → K.faults sink.new ≡ K.faults sink.old }
+    ensures unwritten { result ≡ Status.Memory → sink.new ≡ sink.old }
+{
+    let Ok(mut drive) = Drive::new(alloc, route.settings) else {
+        return Status::Memory;
+    };
+    let ended = run(rt, route, &mut drive, port, scribe);
+    report(alloc, ended, &drive, sink)
 }

@@ -1,6 +1,7 @@
--- A turn of the relay puts one entry that begins a turn: its clock puts it, and no other step does.
+-- A turn of the relay puts one entry that begins a turn: its clock puts it, and no other step does. So does a turn that is cut off, unless
+-- it puts nothing.
 use Rattle.std.proofs.Common.{◌≡◌, ℕ, zero, suc, ◌+◌, Bool, true, false, ◌&&◌, nat_lt, if◌then◌else◌, List, [], ◌∷◌, ◌++◌, refl, ◌∙◌, ap}
-use Rattle.std.proofs.Common.{arith, count_by, inl, inr}
+use Rattle.std.proofs.Common.{arith, count_by, inl, inr, ◌⊎◌}
 use Rattle.std.specs.Prelude.{MatchBool, Option, Some, None, is_some, option_map}
 use Rattle.std.proofs.lemmas.List.Sums.{sum_by-append}
 use Rattle.ev_types.specs.declared.side.SideId.{SideId}
@@ -25,11 +26,14 @@ use Rattle.relay_state.specs.Closing.{in_side, out_side, closing_entry}
 use Rattle.relay_model.specs.RatesKept.{is_turn}
 use Rattle.ev_types.specs.ScriptTurn.{ScriptTurn}
 use Rattle.relay_model.specs.Scripted.{begun}
-use Rattle.relay_drive.specs.Steps.{Nothing, Then, Each}
+use Rattle.relay_drive.specs.Steps.{Nothing, Then, Each, CutAt}
 use Rattle.relay_drive.specs.Calls.{Ticks}
 use Rattle.relay_drive.specs.Phases.{links_from, Polls, OpensOne, OpensSome, AcceptsWhere, PollsAndAccepts, ReadsSide, WritesSide}
 use Rattle.relay_drive.specs.Phases.{ConnectsSide, ServesSide, PassesSide, PassesLink, ForAllLinks, closing_events}
-use Rattle.relay_drive.specs.Phases.{LooksAt, ClosesLink, Turns, CutTurn, in_poll, CutPolling}
+use Rattle.relay_drive.specs.Phases.{LooksAt, ClosesLink, Turns, CutTurn, before, in_poll, in_serving, in_passing, in_closing}
+use Rattle.relay_drive.specs.Phases.{CutPoll, CutAccepting, CutPolling, AcceptsMore, CutServing, CutPassing, CutPassingLink, CutClosingLink}
+use Rattle.relay_drive.specs.Phases.{CutForAllLinks}
+use Rattle.relay_drive.specs.declared.fault.DriveFault.{DriveFault}
 use Rattle.relay_drive.specs.declared.fault.DriveFault.TheVariants as fault
 use Rattle.relay_laws.specs.TurnEnds.{begins_turn}
 
@@ -186,6 +190,69 @@ cut-poll-once {s = s} {new = new} {a = a} (in_poll reading h) = both 1 0 (ticks 
 
 pub cut-poll-first : {s new : State} {a : Trace} → CutTurn fault.PollFault s a new → begins_turn a ≡ true
 cut-poll-first {s = s} {new = new} {a = a} (in_poll reading h) = ticks-first reading _ s new a h
+
+-- A turn that is cut off anywhere has one too, unless it is cut off before it puts anything.
+
+cut_at : {X : Type 0} (R Cut : X → State → Trace → State → Type 0) → ((x : X) → IsPutting 0 (R x)) → ((x : X) → IsPutting 0 (Cut x)) →
+    (xs : List X) → IsPutting 0 (CutAt R Cut xs)
+cut_at R Cut f g xs s new a h = both 0 0 (each R f h.front) (g h.last) s new a h.went
+
+accepts_more : IsPutting 0 AcceptsMore
+accepts_more s new a h = opens_some h.0 s new a h.3
+
+cut_poll : (f : DriveFault) → IsPutting 0 (CutPoll f)
+cut_poll fault.Memory s new a h = nothing s new a h
+cut_poll fault.PollFault s new a h = failed-poll-none s new a (inl h)
+cut_poll fault.OpenFault s new a h = absurd h
+cut_poll fault.Spent s new a h = absurd h
+
+cut_accepting : (f : DriveFault) → IsPutting 0 (CutAccepting f)
+cut_accepting fault.Memory s new a h = both 0 0 (polls h.0 true) accepts_more s new a h.1
+cut_accepting fault.OpenFault s new a h = both 0 0 (polls h.0 true) accepts_more s new a h.1
+cut_accepting fault.PollFault s new a h = absurd h
+cut_accepting fault.Spent s new a h = absurd h
+
+cut_polling : (f : DriveFault) → IsPutting 0 (CutPolling f)
+cut_polling f s new a (inl h) = cut_poll f s new a h
+cut_polling f s new a (inr h) = cut_accepting f s new a h
+
+cut_serving : (w : Want) → IsPutting 0 (CutServing w)
+cut_serving w s new a (inl h) = nothing s new a h
+cut_serving w s new a (inr h) = reads w.side w.can_read s new a h.1
+
+cut_passing : (e : SideId) → IsPutting 0 (CutPassing e)
+cut_passing e s new a h = ap (count_by is_turn) h.0
+
+cut_passing_link : (k : ℕ) → IsPutting 0 (CutPassingLink k)
+cut_passing_link k = cut_at PassesSide CutPassing passes cut_passing (in_side k ∷ out_side k ∷ [])
+
+cut_closing_link : (k : ℕ) → IsPutting 0 (CutClosingLink k)
+cut_closing_link k = cut_at LooksAt (λ _. Nothing) looks (λ _. nothing) (steps_of k)
+
+cut_links : (R Cut : ℕ → State → Trace → State → Type 0) → ((k : ℕ) → IsPutting 0 (R k)) → ((k : ℕ) → IsPutting 0 (Cut k)) →
+    IsPutting 0 (CutForAllLinks R Cut)
+cut_links R Cut f g s new a h = cut_at R Cut f g (links_from 0 s.plain.opened) s new a h
+
+-- one turn begins in front of these entries
+pub record BeginsOnce (a : Trace) : Type 0 where
+  pub first : begins_turn a ≡ true
+  pub once : count_by is_turn a ≡ 1
+
+begins_once : (reading : ℕ) (R : State → Trace → State → Type 0) → IsPutting 0 R → (s new : State) (a : Trace) → Then (Ticks reading) R s a new →
+    BeginsOnce a
+begins_once reading R f s new a h = record { first = ticks-first reading R s new a h; once = both 1 0 (ticks reading) f s new a h }
+
+pub cut-begins : {f : DriveFault} {s new : State} {a : Trace} → CutTurn f s a new → (a ≡ []) ⊎ BeginsOnce a
+cut-begins (before h) = inl h.0
+cut-begins {f = f} {s = s} {new = new} {a = a} (in_poll reading h) = inr (begins_once reading (CutPolling f) (cut_polling f) s new a h)
+cut-begins {s = s} {new = new} {a = a} (in_serving reading marked h) =
+    inr (begins_once reading _ (both 0 0 (polls_and_accepts marked) (cut_at ServesSide CutServing serves cut_serving marked)) s new a h)
+cut-begins {s = s} {new = new} {a = a} (in_passing reading marked h) =
+    inr (begins_once reading _ (both 0 0 (polls_and_accepts marked) (both 0 0 (each ServesSide serves marked)
+    (cut_links PassesLink CutPassingLink passes_link cut_passing_link))) s new a h)
+cut-begins {s = s} {new = new} {a = a} (in_closing reading marked h) =
+    inr (begins_once reading _ (both 0 0 (polls_and_accepts marked) (both 0 0 (each ServesSide serves marked)
+    (both 0 0 (all_links PassesLink passes_link) (cut_links ClosesLink CutClosingLink closes_link cut_closing_link)))) s new a h)
 
 -- as many turns of a script were begun as the trace has
 pub begun-is : (turns : List ScriptTurn) (t : Trace) → begun turns t ≡ count_by is_turn t

@@ -1,0 +1,292 @@
+#!/usr/bin/env python3
+"""Sends bytes through the built evrelay and compares each of them at both ends.
+
+  bench/relay_traffic.py [--evrelay PATH] [--quick] [--seed N]
+
+Stages, each over a relay of its own:
+  traffic   some 200 links at once, random sizes and pieces, both ways, each half closed by itself
+  reset     one link of many is reset in the middle; all others arrive whole
+  refused   a target that refuses: the client is closed, and the relay goes on
+  stopped   a reader that stops for seconds: memory stays within the hold mark, the processor is idle, then all arrives
+  vanished  clients that vanish while bytes come for them
+  short     links beyond the descriptors: each one in the end
+
+It ends with status 1 at the first byte that is lost, changed or doubled, at a report that tells other numbers than were sent, or at a
+relay that doesn't end by itself with status 0. Standard library only. --quick is what the gate runs: a few seconds."""
+import argparse, asyncio, os, random, re, resource, socket, struct, subprocess, sys, time
+
+MIB = 1 << 20
+
+
+def fail(text):
+    print('relay_traffic: ' + text, file=sys.stderr, flush=True)
+    os._exit(1)
+
+
+def free_port():
+    with socket.socket() as s:
+        s.bind(('127.0.0.1', 0))
+        return s.getsockname()[1]
+
+
+def is_listening(port):
+    want = ':%04X' % port
+    with open('/proc/net/tcp') as table:
+        return any(w[3] == '0A' and w[1].endswith(want) for w in (line.split() for line in table))
+
+
+class Relay:
+    """A relay to a target's port, for so many links."""
+
+    def __init__(self, program, target, links, words=(), descriptors=None):
+        self.port = free_port()
+        command = [program, '--listen', f'127.0.0.1:{self.port}', '--to', f'127.0.0.1:{target}', '--links', str(links), *words]
+
+        def limit():
+            if descriptors:
+                resource.setrlimit(resource.RLIMIT_NOFILE, (descriptors, descriptors))
+
+        self.process = subprocess.Popen(command, stdout=subprocess.PIPE, stderr=subprocess.PIPE, stdin=subprocess.DEVNULL,
+                                        preexec_fn=limit)
+        end = time.time() + 5
+        while not is_listening(self.port):
+            if self.process.poll() is not None or time.time() > end:
+                fail('the relay does not listen: ' + self.process.stderr.read().decode())
+            time.sleep(.01)
+
+    def resident(self):
+        with open(f'/proc/{self.process.pid}/status') as status:
+            return int(re.search(r'VmRSS:\s+(\d+)', status.read()).group(1)) * 1024
+
+    def seconds(self):
+        with open(f'/proc/{self.process.pid}/stat') as stat:
+            fields = stat.read().rpartition(')')[2].split()
+        return (int(fields[11]) + int(fields[12])) / os.sysconf('SC_CLK_TCK')
+
+    def report(self):
+        """The lines of the report, once the relay ended by itself."""
+        try:
+            out, err = self.process.communicate(timeout=20)
+        except subprocess.TimeoutExpired:
+            self.process.kill()
+            fail('the relay did not end')
+        if self.process.returncode != 0 or err:
+            fail(f'the relay ended with {self.process.returncode}: {err.decode()}')
+        return out.decode().splitlines()
+
+
+def told(lines):
+    """state -> the sorted counts (in read, in given, out read, out given) of the links in it"""
+    links = {}
+    for line in lines[:-1]:
+        words = line.split()
+        if words[0] != 'link' or words[3] != 'in' or words[6] != 'out':
+            fail('a line of the report is strange: ' + line)
+        links.setdefault(words[2], []).append((int(words[4]), int(words[5]), int(words[7]), int(words[8])))
+    counts = re.fullmatch(r'done (\d+) open (\d+) gone (\d+)', lines[-1])
+    if not counts or [int(n) for n in counts.groups()] != [len(links.get(s, ())) for s in ('done', 'open', 'gone')]:
+        fail('the last line of the report is strange: ' + lines[-1])
+    return {state: sorted(each) for state, each in links.items()}
+
+
+async def send(writer, data, rng, pause=0.0):
+    at = 0
+    while at < len(data):
+        piece = rng.choice((1, 7, 100, 1460, 4096, 16384, 65536))
+        writer.write(data[at:at + piece])
+        at += piece
+        await writer.drain()
+        if pause and rng.random() < .1:
+            await asyncio.sleep(rng.random() * pause)
+    writer.write_eof()
+
+
+async def take(reader, owed, what):
+    got = bytearray()
+    while True:
+        piece = await reader.read(65536)
+        if not piece:
+            break
+        got += piece
+        if not owed.startswith(bytes(got[-len(piece):]), len(got) - len(piece)):
+            fail(f'{what}: a byte before {len(got)} differs')
+    if len(got) != len(owed):
+        fail(f'{what}: {len(got)} bytes came of {len(owed)}')
+
+
+async def drain(reader):
+    while await reader.read(65536):
+        pass
+
+
+class Target:
+    """A target that knows by the first eight bytes of a link what it has to send and what it is owed. Of a link that is to be cut it is
+    owed nothing."""
+
+    def __init__(self):
+        self.plans = {}
+        self.cut = set()
+
+    async def start(self):
+        self.server = await asyncio.start_server(self.met, '127.0.0.1', 0, backlog=1024)
+        self.port = self.server.sockets[0].getsockname()[1]
+
+    async def met(self, reader, writer):
+        key = None
+        try:
+            key = await reader.readexactly(8)
+            up, down, seed = self.plans[key]
+            owed = drain(reader) if key in self.cut else take(reader, up, 'up')
+            await asyncio.gather(owed, send(writer, down, random.Random(seed), .01))
+        except (asyncio.IncompleteReadError, ConnectionError):
+            if key not in self.cut:
+                fail('a link of the target was cut off')
+        writer.close()
+
+
+def plan(target, rng, most):
+    key = rng.randbytes(8)
+    up, down = rng.randbytes(rng.randrange(most)), rng.randbytes(rng.randrange(most))
+    target.plans[key] = (up, down, rng.random())
+    return key, up, down
+
+
+async def client(relay, key, up, down, rng):
+    reader, writer = await asyncio.open_connection('127.0.0.1', relay.port)
+    await asyncio.gather(send(writer, key + up, rng, .01), take(reader, down, 'down'))
+    writer.close()
+    return len(key) + len(up), len(down)
+
+
+async def traffic(program, rng, links, most):
+    target = Target()
+    await target.start()
+    relay = Relay(program, target.port, links)
+    plans = [plan(target, rng, most) for _ in range(links)]
+    sums = await asyncio.gather(*(client(relay, *p, random.Random(rng.random())) for p in plans))
+    lines = await asyncio.to_thread(relay.report)
+    owed = sorted((up, down, down, up) for up, down in sums)
+    if told(lines) != {'done': owed}:
+        fail('the report of the traffic tells other numbers')
+    return f'{links} links, {sum(u + d for u, d in sums) / MIB:.0f} MiB'
+
+
+async def reset(program, rng, links, most):
+    target = Target()
+    await target.start()
+    relay = Relay(program, target.port, links + 1)
+    key, _, _ = plan(target, rng, 4 * MIB)
+    target.cut.add(key)
+    cut = socket.create_connection(('127.0.0.1', relay.port))
+    cut.setsockopt(socket.SOL_SOCKET, socket.SO_LINGER, struct.pack('ii', 1, 0))
+    cut.sendall(key + bytes(1000))
+    await asyncio.sleep(.1)
+    plans = [plan(target, rng, most) for _ in range(links)]
+    tasks = [asyncio.create_task(client(relay, *p, random.Random(rng.random()))) for p in plans]
+    await asyncio.sleep(.02)
+    cut.close()
+    sums = await asyncio.gather(*tasks)
+    lines = told(await asyncio.to_thread(relay.report))
+    if lines.get('done') != sorted((up, down, down, up) for up, down in sums) or len(lines.get('gone', ())) != 1:
+        fail('the report behind a reset tells other numbers')
+    return f'{links} links beside one that was reset'
+
+
+async def refused(program, rng, links):
+    relay = Relay(program, free_port(), links)
+    for _ in range(links):
+        reader, writer = await asyncio.open_connection('127.0.0.1', relay.port)
+        try:
+            writer.write(b'hello')
+            if await asyncio.wait_for(reader.read(), 5):
+                fail('bytes came from a target that refuses')
+        except ConnectionError:
+            pass
+        writer.close()
+    lines = told(await asyncio.to_thread(relay.report))
+    if len(lines.get('gone', ())) != links:
+        fail('links to a target that refuses are not gone')
+    return f'{links} clients were closed'
+
+
+async def stopped(program, rng, size, seconds, words):
+    server = socket.create_server(('127.0.0.1', 0))
+    server.setsockopt(socket.SOL_SOCKET, socket.SO_RCVBUF, 65536)
+    relay = Relay(program, server.getsockname()[1], 1, words)
+    before = relay.resident()
+    data = rng.randbytes(size)
+    reader, writer = await asyncio.open_connection('127.0.0.1', relay.port)
+    peer, _ = await asyncio.to_thread(server.accept)
+    sending = asyncio.create_task(send(writer, data, rng))
+    await asyncio.sleep(.5)
+    used = relay.seconds()
+    await asyncio.sleep(seconds)
+    used = relay.seconds() - used
+    grown = relay.resident() - before
+    if grown > 2 * MIB:
+        fail(f'a reader that stopped costs {grown / MIB:.1f} MiB')
+    if used > .05 * seconds:
+        fail(f'a reader that stopped costs {used:.2f} s in {seconds} s')
+    peer.setblocking(False)
+    far_reader, far_writer = await asyncio.open_connection(sock=peer)
+    await asyncio.gather(sending, take(far_reader, data, 'behind a stop'))
+    far_writer.close()
+    if await reader.read():
+        fail('bytes came from a target that sent none')
+    writer.close()
+    await asyncio.to_thread(relay.report)
+    return f'{grown / MIB:.2f} MiB, {used:.2f} s of {seconds} s'
+
+
+async def vanished(program, rng, links):
+    target = Target()
+    await target.start()
+    relay = Relay(program, target.port, links)
+    for _ in range(links):
+        key = rng.randbytes(8)
+        target.plans[key] = (b'', bytes(4 * MIB), 1)
+        target.cut.add(key)
+        gone = socket.create_connection(('127.0.0.1', relay.port))
+        gone.sendall(key)
+        await asyncio.sleep(.01)
+        gone.setsockopt(socket.SOL_SOCKET, socket.SO_LINGER, struct.pack('ii', 1, 0))
+        gone.close()
+    lines = told(await asyncio.to_thread(relay.report))
+    if len(lines.get('gone', ())) != links:
+        fail('links of clients that vanished are not gone')
+    return f'{links} clients'
+
+
+async def short(program, rng, links, descriptors, most):
+    target = Target()
+    await target.start()
+    relay = Relay(program, target.port, links, descriptors=descriptors)
+    plans = [plan(target, rng, most) for _ in range(links)]
+    sums = await asyncio.gather(*(client(relay, *p, random.Random(rng.random())) for p in plans))
+    lines = told(await asyncio.to_thread(relay.report))
+    if lines != {'done': sorted((up, down, down, up) for up, down in sums)}:
+        fail('the report with few descriptors tells other numbers')
+    return f'{links} links with {descriptors} descriptors'
+
+
+async def main():
+    parser = argparse.ArgumentParser()
+    parser.add_argument('--evrelay', default='crates/evrelay/out/evrelay')
+    parser.add_argument('--quick', action='store_true')
+    parser.add_argument('--seed', type=int, default=1)
+    args = parser.parse_args()
+    program, rng, quick = os.path.abspath(args.evrelay), random.Random(args.seed), args.quick
+    stages = [
+        ('traffic', traffic(program, rng, 40 if quick else 200, 200_000 if quick else 2_000_000)),
+        ('reset', reset(program, rng, 10 if quick else 60, 100_000 if quick else 1_000_000)),
+        ('refused', refused(program, rng, 5)),
+        ('stopped', stopped(program, rng, (8 if quick else 64) * MIB, 1 if quick else 5, ())),
+        ('vanished', vanished(program, rng, 5 if quick else 40)),
+        ('short', short(program, rng, 20 if quick else 60, 24 if quick else 60, 20_000)),
+    ]
+    for name, stage in stages:
+        began = time.time()
+        print(f'{name}: {await stage} ({time.time() - began:.1f} s)', flush=True)
+
+
+asyncio.run(main())

@@ -1,0 +1,2 @@
+pub mod TurnsLemmas
+pub mod EndLemmas

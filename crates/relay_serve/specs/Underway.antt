@@ -1,0 +1,76 @@
+-- What a run over a port has done, as far as it came.
+use Rattle.std.specs.Prelude.{◌≡◌, ◌≢◌, ℕ, Bool, false, length, ◌<◌, List, take, Result, Ok, Err, MatchResult}
+use Rattle.ev_types.specs.declared.status.Status.{Status}
+use Rattle.ev_types.specs.declared.status.Status.TheVariants as status
+use Rattle.ev_types.specs.Growth.{Grew}
+use Rattle.ev_types.specs.Trace.{Trace}
+use Rattle.stream_words.specs.Faults.{Rose}
+use Rattle.stream_words.specs.Streams.{TookOn}
+use Rattle.ev_port.specs.declared.port.Port as port
+use Rattle.ev_port.specs.declared.scribe.Scribe as scribe
+use Rattle.relay_model.specs.Answers.{TurnAnswer}
+use Rattle.relay_model.specs.Settings.{Settings}
+use Rattle.relay_model.specs.Tied.{IsTied}
+use Rattle.relay_settings.specs.declared.route.Route.{Route}
+use Rattle.relay_state.specs.State.{State}
+use Rattle.relay_state.specs.Counting.{open_below}
+use Rattle.relay_steps.specs.Meaning.{LeftFor}
+use Rattle.relay_laws.specs.Relayed.{StoodBetween}
+use Rattle.relay_laws.specs.Report.{lines_below}
+use Rattle.relay_laws.specs.TurnEnds.{AtTurnEnds}
+use Rattle.relay_drive.specs.declared.fault.DriveFault.{DriveFault}
+use Rattle.relay_drive.specs.declared.fault.DriveFault.TheVariants as fault
+use Rattle.relay_drive.specs.Advances.{Heard}
+use Rattle.relay_drive.specs.DriveStands.{turn_answer_of, StandsBetween}
+use Rattle.relay_drive.specs.DriveValue.{DriveValue}
+use Rattle.relay_drive.specs.Phases.{is_open_fault}
+use Rattle.run_end.specs.EndStatus.{status_of}
+use Rattle.relay_serve.specs.Seen.{Seen, Drained, seen}
+use Rattle.relay_serve.specs.Served.{EndedAs, IsServed, IsWornOut}
+
+-- Turns of a drive that was new put these entries. `After` holds of them and of the relay's state; wherever a turn ended, the run stood
+-- for the trace up to there. The port is tied to them since they began.
+pub record TurnsWent (g : Settings) (After : Trace → State → Type 0) (open_failed : Bool) (old new : Seen) (s : State) : Type 0 where
+  pub added : Trace
+  pub list : Grew old.log new.log added
+  pub settings : s.settings ≡ g
+  pub after : After added s
+  pub ends : AtTurnEnds (StoodBetween g) added
+  pub tied : IsTied g old.told new.told old.ends new.ends added
+  pub heard : Heard old.faults new.faults added open_failed
+
+-- so many links were opened as may be, and none is open
+pub record IsServedOut (s : State) : Type 0 where
+  pub all_opened : s.plain.opened ≡ s.settings.links
+  pub none_open : open_below s s.plain.opened ≡ 0
+
+-- the last turn was refused
+abbrev pub TurnsCut : DriveFault → Settings → Seen → Seen → State → Type 0
+TurnsCut fault.Spent g old new s = (went : TurnsWent g StandsBetween false old new s) × IsWornOut went.added
+TurnsCut why g old new s = TurnsWent g (LeftFor (turn_answer_of why)) (is_open_fault why) old new s
+
+-- turns were made until all was served, or until one was refused
+abbrev pub TurnsGo : {P S : Type 0} → port.Ghosts P → scribe.Ghosts S → Result Unit DriveFault → DriveValue × P × S → DriveValue × P × S → Type 0
+TurnsGo p h result old new =
+    let g : Settings = old.0.state.settings in
+    let before : Seen = seen p h (old.1, old.2) in
+    let now : Seen = seen p h (new.1, new.2) in
+    MatchResult result (λ _. TurnsWent g StandsBetween false before now new.0.state × IsServedOut new.0.state)
+    (λ why. TurnsCut why g before now new.0.state)
+
+-- the status with which a program ends once its report is written
+abbrev pub ended_as : Result Unit DriveFault → Status
+ended_as (Ok done) = status.Ok
+ended_as (Err why) = status_of why
+
+-- A run came to this, with the lines of the relay's report.
+abbrev pub RanTo : Route → Status → Seen → Seen → State → Type 0
+RanTo route status.Memory old new s = (t : Trace) × IsServed route TurnAnswer.Memory false old new t (lines_below s s.plain.opened)
+RanTo route ended old new s = (t : Trace) × EndedAs route ended old new t (lines_below s s.plain.opened)
+
+-- A report of a run that ended so was written whole, or in part, or not at all where memory ran out.
+abbrev pub Reported : Status → Status → List ℕ → Drained → Drained → Type 0
+Reported ended status.Memory text before after = after ≡ before
+Reported ended status.WriteFault text before after =
+    (ended ≢ status.Memory) × (n : ℕ) × (n < length text) × TookOn before.taken after.taken (take n text) × Rose before.faults after.faults
+Reported ended result text before after = (result ≡ ended) × TookOn before.taken after.taken text × (after.faults ≡ before.faults)
