@@ -1,6 +1,8 @@
 -- How a run ended, from what its turns came to.
-use Rattle.std.proofs.Common.{◌≡◌, ◌≢◌, ◌⊎◌, inl, inr, ℕ, zero, suc, ◌+◌, Bool, true, false, ◌||◌, ◌&&◌, if◌then◌else◌, List, [], ◌∷◌, ◌++◌, refl, sym, ◌∙◌, ap, subst, arith, All, fold}
-use Rattle.std.specs.List.{list_any}
+use Rattle.std.proofs.Common.{◌≡◌, ◌≢◌, ◌⊎◌, inl, inr, ℕ, zero, suc, ◌+◌, Bool, true, false, ◌||◌, ◌&&◌, if◌then◌else◌, List, [], ◌∷◌, ◌++◌, refl, sym, ◌∙◌, ap, subst, arith, fold, Result, Ok, Err}
+use Rattle.std.specs.Prelude.{MatchResult}
+use Rattle.std.specs.List.{list_any, All}
+use Rattle.std.proofs.lemmas.List.Elements.{All-nil, All-cons, All-append}
 use Rattle.ev_types.specs.declared.side.SideId.{SideId}
 use Rattle.ev_types.specs.declared.entry.Entry.TheVariants as entry
 use Rattle.ev_types.specs.declared.status.LinkCount.{LinkCount}
@@ -10,6 +12,9 @@ use Rattle.ev_types.specs.declared.status.Status.TheVariants as status
 use Rattle.ev_types.specs.Growth.{Grew}
 use Rattle.ev_types.specs.Trace.{Event, Trace}
 use Rattle.stream_words.specs.Streams.{TookOn}
+use Rattle.ev_port.specs.Calls.{StartedAt}
+use Rattle.ev_port.specs.EndSteps.{AllWent, no_step}
+use Rattle.ev_port.specs.Faults.{ListenerFaults}
 use Rattle.script_text.specs.ReportText.{report_text}
 use Rattle.relay_model.specs.Answers.{TurnAnswer, LeftAt}
 use Rattle.relay_model.specs.Plain.{side_at}
@@ -40,34 +45,36 @@ use Rattle.run_end.specs.EndStatus.{status_of}
 use Rattle.relay_serve.specs.Seen.{Seen, Drained}
 use Rattle.relay_serve.specs.Served.{settings_on, BeganSo, IsServed, EndedAs, ReportedAll, RanOut, Did}
 use Rattle.relay_serve.specs.Underway.{TurnsWent, TurnsCut, IsServedOut, RanTo, Reported, ended_as}
-use Rattle.relay_serve.proofs.TurnsLemmas.{built, turns-none}
+use Rattle.relay_serve.proofs.TurnsLemmas.{built}
 
 -- a sum of which the whole is 0
 both-none : (m n : ℕ) → m + n ≡ 0 → (m ≡ 0) × (n ≡ 0)
 both-none m n h = (omega (arith, h), omega (arith, h))
 
 -- a link that is told as open is
-told-open : (open done : Bool) → (if open then state.Live else (if done then state.Done else state.Gone)) ≡ state.Live → open ≡ true
+told-open : (lives done : Bool) → (if lives then state.Live else (if done then state.Done else state.Gone)) ≡ state.Live → lives ≡ true
 told-open true done h = refl
 told-open false true h = absurd (cc)
 told-open false false h = absurd (cc)
 
-not-live : (s : State) (k : ℕ) → (if is_open s k then 1 else 0) ≡ 0 → link_state s k ≢ state.Live
+-- what a link adds to the number of open ones
+abbrev one : Bool → ℕ
+one lives = if lives then 1 else 0
+
+not-live : (s : State) (k : ℕ) → one (is_open s k) ≡ 0 → link_state s k ≢ state.Live
 not-live s k h live =
     let done : Bool = (side_at s.plain (in_side k)).write_ended && (side_at s.plain (out_side k)).write_ended in
-    let open : is_open s k ≡ true = told-open (is_open s k) done live in
-    absurd (omega (arith, ap (λ b. if b then 1 else 0) open, h))
-
-All-push : {A : Type 0} (P : A → Type 0) (xs : List A) (x : A) → All P xs → P x → All P (xs ++ x ∷ [])
-All-push P [] x h p = (p, tt)
-All-push P (y ∷ xs) x h p = (h.0, All-push P xs x h.1 p)
+    let lives : is_open s k ≡ true = told-open (is_open s k) done live in
+    absurd (let e = ap one lives in omega (arith, e, h))
 
 -- where no link is open, none is told as open
 none-live : (s : State) (n : ℕ) → open_below s n ≡ 0 → All (λ link. link.state ≢ state.Live) (lines_below s n)
-none-live s zero h = tt
+none-live s zero h = All-nil (λ (link : LinkCount). link.state ≢ state.Live)
 none-live s (suc n) h =
-    let parts = both-none (open_below s n) (if is_open s n then 1 else 0) h in
-    All-push (λ (link : LinkCount). link.state ≢ state.Live) (lines_below s n) (link_count s n) (none-live s n parts.0) (not-live s n parts.1)
+    let P : LinkCount → Type 0 = λ link. link.state ≢ state.Live in
+    let parts = both-none (open_below s n) (one (is_open s n)) h in
+    All-append P (lines_below s n) (link_count s n ∷ []) (none-live s n parts.0)
+    (All-cons P (link_count s n) [] (not-live s n parts.1) (All-nil P))
 
 -- a trace whose last poll failed tells of a failed poll
 poll-any : (p : Poll) (t : Trace) → fold poll_by p t ≡ Poll.Failed → (p ≡ Poll.Failed) ⊎ (has_poll_failed t ≡ true)
@@ -110,11 +117,20 @@ failed-told t s k = by_case (poll-any Poll.Idle t (poll_is_told s.settings t _ k
     by_case (inl h) = absurd (cc)
     by_case (inr h) = h
 
--- The port was started, and told this from then on.
+-- The port was started, and told this from then on. The scribe kept nothing of that.
 pub record Begun (route : Route) (old mid : Seen) (start_failed : Bool) : Type 0 where
   pub log : mid.log ≡ old.log
   pub start : BeganSo route old mid.told mid.ends
   pub heard : Heard old.faults mid.faults [] start_failed
+
+-- so it is where the port says of its start what every port does
+pub begun-by : (route : Route) (old mid : Seen) (start_failed : Bool) → mid.log ≡ old.log → ListenerFaults old.faults mid.faults start_failed →
+    AllWent old.ends mid.ends (λ _. no_step) → StartedAt old.told mid.told route.listen route.to → Begun route old mid start_failed
+begun-by route old mid start_failed log cause ends told = record {
+  log = log;
+  start = record { told_of_start = told; ends_stay = ends };
+  heard = Heard-open old.faults mid.faults [] start_failed cause (λ e. refl) refl;
+}
 
 module _ (route : Route) (old mid new : Seen) (b : Begun route old mid false) where
   -- what turns behind the start came to, where a turn may answer so
@@ -141,21 +157,36 @@ module _ (route : Route) (old mid new : Seen) (b : Begun route old mid false) wh
 
   -- all was served
   pub ran-out : (s : State) → TurnsWent (settings_on route) StandsBetween false mid new s → IsServedOut s → RanTo route status.Ok old new s
-  ran-out s w all = (w.added, went-served s w, record {
-    all_opened = sym (links_are_told w.added Stage.Between s w.after).links ∙ all.all_opened
-        ∙ ap (λ (z : Settings). z.links) w.settings;
-    none_open = none-live s s.plain.opened all.none_open;
-  })
+  ran-out s w all = (
+    w.added,
+    (
+      went-served s w,
+      record {
+        all_opened = sym (links_are_told w.added Stage.Between s w.after).links ∙ all.all_opened
+            ∙ ap (λ (z : Settings). z.links) w.settings;
+        none_open = none-live s s.plain.opened all.none_open;
+      },
+    ),
+  )
 
   -- a turn was refused
   pub ran-cut : (f : DriveFault) (s : State) → TurnsCut f (settings_on route) mid new s → RanTo route (status_of f) old new s
   ran-cut fault.Memory s w = (w.added, left-served TurnAnswer.Memory false s w)
   ran-cut fault.PollFault s w =
       let v = left-served TurnAnswer.PollFault false s w in
-      (w.added, v, v.heard.polling.fault (failed-told w.added s w.after))
+      (w.added, (v, v.heard.polling.fault (failed-told w.added s w.after)))
   ran-cut fault.OpenFault s w =
-      let v = left-served TurnAnswer.OpenFault true s w in (w.added, inl v, v.heard.listener.fault refl)
-  ran-cut fault.Spent s w = (w.0.added, went-served s w.0, w.1)
+      let v = left-served TurnAnswer.OpenFault true s w in (w.added, (inl v, v.heard.listener.fault refl))
+  ran-cut fault.Spent s w = (w.0.added, (went-served s w.0, w.1))
+
+-- what came of the turns behind a start
+pub ran-of : (route : Route) (old mid new : Seen) → Begun route old mid false → (s : State) (g : Settings) → g ≡ settings_on route →
+    (r : Result Unit DriveFault) →
+    MatchResult r (λ _. TurnsWent g StandsBetween false mid new s × IsServedOut s) (λ why. TurnsCut why g mid new s) →
+    RanTo route (ended_as r) old new s
+ran-of route old mid new b s g is (Ok done) h =
+    ran-out route old mid new b s (subst (λ z. TurnsWent z StandsBetween false mid new s) is h.0) h.1
+ran-of route old mid new b s g is (Err why) h = ran-cut route old mid new b why s (subst (λ z. TurnsCut why z mid new s) is h)
 
 -- The start alone
 
@@ -177,7 +208,7 @@ module _ (route : Route) (old new : Seen) (failed : Bool) (b : Begun route old n
       }
 
 pub start-failed : (route : Route) (old new : Seen) → Begun route old new true → RanTo route status.OpenFault old new (new_state (settings_on route))
-start-failed route old new b = ([], inr (refl, only-started route old new true b TurnAnswer.Went refl), b.heard.listener.fault refl)
+start-failed route old new b = ([], (inr (refl, only-started route old new true b TurnAnswer.Went refl), b.heard.listener.fault refl))
 
 pub start-lacked : (route : Route) (old new : Seen) → Begun route old new false → RanTo route status.Memory old new (new_state (settings_on route))
 start-lacked route old new b = ([], only-started route old new false b TurnAnswer.Memory tt)
@@ -194,7 +225,7 @@ did route ended result old new s before after ran told = by_result result told
 
     -- a status with which no run ends
     never : (x : Status) → ended ≡ x → (RanTo route x old new s → ⊥) → ⊥
-    never x is no = no (subst (λ e. RanTo route e old new s) is ran)
+    never x is none = none (subst (λ e. RanTo route e old new s) is ran)
 
     ran-as : (e : Status) → e ≢ status.Memory → RanTo route e old new s → (t : Trace) × EndedAs route e old new t links
     ran-as status.Memory k r = absurd (k refl)

@@ -1,5 +1,8 @@
 -- Turns in a row: none, one more, and one that is cut off.
-use Rattle.std.proofs.Common.{◌≡◌, ◌≢◌, ◌⊎◌, inl, inr, ℕ, Bool, true, false, ◌||◌, [], ◌++◌, refl, sym, ◌∙◌, ap, subst, count_by, append-nil}
+use Rattle.std.proofs.Common.{◌≡◌, ◌≢◌, ◌⊎◌, inl, inr, ℕ, Bool, true, false, ◌||◌, [], ◌++◌, refl, sym, ◌∙◌, ap, subst, count_by, append-nil, Result, Err}
+use Rattle.std.specs.Prelude.{⊤}
+use Rattle.ev_types.specs.declared.side.SideId.{SideId}
+use Rattle.ev_types.specs.Told.{EndTold, PortTold}
 use Rattle.ev_types.specs.Trace.{Trace}
 use Rattle.ev_types.specs.Growth.{Grew}
 use Rattle.relay_model.specs.RatesKept.{is_turn}
@@ -20,7 +23,7 @@ use Rattle.relay_drive.specs.declared.fault.DriveFault.{DriveFault}
 use Rattle.relay_drive.specs.declared.fault.DriveFault.TheVariants as fault
 use Rattle.relay_drive.specs.Advances.{Heard}
 use Rattle.relay_drive.specs.DriveStands.{DriveStands, DriveWent, StandsBetween, turn_answer_of}
-use Rattle.relay_drive.specs.DriveValue.{DriveValue, new_drive}
+use Rattle.relay_drive.specs.DriveValue.{DriveValue, new_drive, is_worn}
 use Rattle.relay_drive.specs.Known.{Question}
 use Rattle.relay_drive.specs.Phases.{CutTurn, in_poll, CutPolling, is_open_fault}
 use Rattle.relay_drive.proofs.GoesLemmas.{Grew-none, Grew-join, Heard-none, Heard-join}
@@ -32,20 +35,24 @@ use Rattle.relay_serve.specs.Underway.{TurnsWent, TurnsCut}
 pub built : (g : code.Settings) → IsBuilt (model_settings g)
 built g = record { hooks = refl; in_rate = refl; out_rate = refl; in_group = refl; out_group = refl; groups = refl }
 
--- before the first turn
-pub turns-none : (g : code.Settings) (old : Seen) → TurnsWent (model_settings g) StandsBetween false old old (new_state (model_settings g))
-turns-none g old = record {
-  added = [];
-  list = Grew-none old.log;
-  settings = refl;
-  after = new_relay_stands (model_settings g) (built g);
-  ends = ends-none (StoodBetween (model_settings g));
-  tied = nothing_is_tied (model_settings g) old.told old.ends;
-  heard = Heard-none old.faults;
-}
+-- a drive went so, and stands for what its turns put
+abbrev pub Standing : Settings → Seen → Seen → DriveValue → Type 0
+Standing g old new d = (w : TurnsWent g StandsBetween false old new d.state) × DriveStands w.added d
 
-pub new-stands : (g : code.Settings) → DriveStands [] (new_drive g)
-new-stands g = record { fits = record { time = refl; last = refl; opened = refl }; entries = refl }
+-- before the first turn
+pub stands-new : (g : code.Settings) (old : Seen) → Standing (model_settings g) old old (new_drive g)
+stands-new g old = (
+  record {
+    added = [];
+    list = Grew-none old.log;
+    settings = refl;
+    after = new_relay_stands (model_settings g) (built g);
+    ends = ends-none (StoodBetween (model_settings g));
+    tied = nothing_is_tied (model_settings g) old.told old.ends;
+    heard = Heard-none old.faults;
+  },
+  record { fits = record { time = refl; last = refl; opened = refl }; entries = refl },
+)
 
 -- wherever a turn ended, the run stood so, with one turn more or none
 ends-on : (g : Settings) (t a : Trace) (s : State) → s.settings ≡ g → StandsBetween t s → AtTurnEnds (StoodBetween g) t →
@@ -71,6 +78,15 @@ turns-next open_failed g old mid new d e v v' w t begins tied = record {
   heard = Heard-join old.faults mid.faults new.faults w.added t.added false open_failed w.heard t.heard;
 }
 
+-- A whole turn more.
+pub stands-next : {Plan : Type 0} {R : State → Trace → State → Type 0} (g : Settings) (old mid new : Seen) (d e : DriveValue)
+    (v v' : Settings → Question Plan → Trace → Type 0) → (k : Standing g old mid d) →
+    (t : DriveWent R StandsBetween false d e mid.log new.log v v' mid.faults new.faults) → BeginsOnce t.added →
+    IsTied g old.told new.told old.ends new.ends (k.0.added ++ t.added) → Standing g old new e
+unfolding turns-next
+stands-next g old mid new d e v v' k t once tied =
+    (turns-next false g old mid new d e v v' k.0 t (inr once) tied, t.stands k.0.added k.1)
+
 -- no turn is cut off as spent behind its beginning
 pub spent-never : {s new : State} {a : Trace} → CutTurn fault.Spent s a new → ⊥
 spent-never {new = new} (in_poll reading c) = by_case c.second
@@ -85,3 +101,35 @@ cut-of fault.Memory g old new s k w = w
 cut-of fault.PollFault g old new s k w = w
 cut-of fault.OpenFault g old new s k w = w
 cut-of fault.Spent g old new s k w = absurd (k refl)
+
+-- a turn was refused as too much was counted
+pub cut-spent : (g : Settings) (old mid new : Seen) (d : DriveValue) (s : State) (f : DriveFault) →
+    (w : TurnsWent g StandsBetween false old mid d.state) → DriveStands w.added d → is_worn d ≡ true → new ≡ mid → s ≡ d.state →
+    f ≡ fault.Spent → TurnsCut f g old new s
+cut-spent g old mid new d s f w k worn seen_is s_is f_is =
+    let base : TurnsCut fault.Spent g old mid d.state = (w, (d, k, w.after, worn)) in
+    subst (λ x. TurnsCut x g old new s) (sym f_is)
+    (subst (λ n. TurnsCut fault.Spent g old n s) (sym seen_is) (subst (λ z. TurnsCut fault.Spent g old mid z) (sym s_is) base))
+
+-- and where it was refused for another cause
+pub cut-else : (f : DriveFault) (g : Settings) (old new : Seen) (s before : State) (a : Trace) → CutTurn f before a s →
+    TurnsWent g (LeftFor (turn_answer_of f)) (is_open_fault f) old new s → TurnsCut f g old new s
+cut-else f g old new s before a cut w = cut-of f g old new s (λ is. spent-never (subst (λ x. CutTurn x before a s) is cut)) w
+
+-- a port that is tied to a trace is tied to it with the entries of a turn, whatever the settings are called
+pub tied-on : (g s s' : Settings) (began told told' : PortTold) (ends_began ends ends' : SideId → EndTold) (t u : Trace) → s ≡ g → s' ≡ s →
+    IsTied g began told ends_began ends t → (IsTied s began told ends_began ends t × ⊤ → IsTied s' began told' ends_began ends' u) →
+    IsTied g began told' ends_began ends' u
+tied-on g s s' began told told' ends_began ends ends' t u is same h f =
+    subst (λ z. IsTied z began told' ends_began ends' u) (same ∙ is) (f (subst (λ z. IsTied z began told ends_began ends t) (sym is) h, tt))
+
+pub same-fault : {T : Type 0} {f h : DriveFault} → ◌≡◌ {A = Result T DriveFault} (Err f) (Err h) → f ≡ h
+same-fault k = cc k
+
+pub unworn : (b : Bool) → (b ≡ true → ⊥) → b ≡ false
+unworn true k = absurd (k refl)
+unworn false k = refl
+
+pub either : {X : Type 0} (b : Bool) → (b ≡ true → X) → (b ≡ false → X) → X
+either true f h = f refl
+either false f h = h refl

@@ -25,8 +25,8 @@ fn text_of(alloc: Global, drive: &Drive) -> Result<Vec<u8>, NoMemory>
 
 /// Writes the report of a run that is to end with this status.
 fn write<K: Sink>(alloc: Global, ended: Status, drive: &Drive, sink: &mut K) -> Status
-    requires { ended ≢ Memory }
-    requires { ended ≢ WriteFault }
+    requires lasted { ended ≢ Memory }
+    requires unwritten_yet { ended ≢ WriteFault }
     ensures reported { Reported ended result (report_text (lines_below drive.now.state drive.now.state.plain.opened))
         (drained K.Sink sink.old) (drained K.Sink sink.new) }
     ensures unwritten { result ≡ Memory → sink.new ≡ sink.old }

@@ -29,7 +29,9 @@ fn make_turns<R: Wait, P: Port, S: Scribe>(
         if drive.opened() == settings.links && drive.open_links() == 0 {
             return Ok(());
         }
-        drive.turn(port, scribe)?;
+        if let Err(fault) = drive.turn(port, scribe) {
+            return Err(fault);
+        }
     }
     unreachable!()
 }
