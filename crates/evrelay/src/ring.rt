@@ -92,7 +92,7 @@ fn put_moved(
 
 /// It tells nothing, and has room for every number of entries and bytes that can be asked for.
 impl Scribe for Ring {
-    ghost use Rattle.std.specs.Prelude.{◌^◌};
+    ghost use Rattle.std.specs.Prelude.{◌^◌, ◌+◌};
 
     ghost trace = { λ _. None };
 
