@@ -1,6 +1,8 @@
 -- The timeouts that a script sets are numbers of 64 bits.
 use Rattle.std.proofs.Common.{◌≡◌, ◌≤◌, ◌<◌, ◌+◌, ◌^◌, ℕ, Bool, true, false, ◌&&◌, List, [], ◌∷◌, ◌++◌, length, codes, Option, Some, None, Ok, refl, subst, arith, if◌then◌else◌}
 use Rattle.std.specs.Prelude.{⊤, nat_lt, IfSome, option_map, option_and_then, unwrap_or}
+use Rattle.token_bucket.specs.declared.limit.Dir.TheVariants.{Read, Write}
+use Rattle.ev_types.specs.declared.filter.FilterKind.{FilterKind}
 use Rattle.ev_types.specs.declared.side.Side.{Side}
 use Rattle.ev_types.specs.declared.side.Side.TheVariants.{In, Out}
 use Rattle.std.specs.Str.{bytes_eq}
@@ -22,6 +24,7 @@ use Rattle.script_text.specs.Script.{ScriptValue, SoFar, whole}
 use Rattle.script_text.specs.Given.{once, with_setting}
 use Rattle.script_text.specs.Pieces.{lines}
 use Rattle.script_text.specs.Numbers.{number_within, bytes_of}
+use Rattle.script_text.specs.FilterNames.{filter_kind_of}
 use Rattle.script_text.specs.Grammar.{keyword_of, link_of, end_of, made_of, more_of, of_end, hold_of, side_marks_of, side_of, side_timeouts_of, set_by, setting_name_of, said_by, is_comment, said}
 use Rattle.script_text.specs.Order.{may_follow, with_line, extended}
 use Rattle.script_text.specs.Spelled.{no_line, script_of}
@@ -77,6 +80,11 @@ set-short name.Marks (side ∷ rl ∷ rh ∷ wl ∷ wh ∷ []) = go (side_of sid
     go None b = tt
     go (Some s) None = tt
     go (Some s) (Some m) = tt
+set-short (name.Filter side dir) (filter ∷ []) = go (filter_kind_of filter)
+  where
+    go : (o : Option FilterKind) → IfSome (option_map (λ s. line.Set s) (option_map (λ kind. setting.Filter side dir kind) o)) SetsShort
+    go None = tt
+    go (Some kind) = tt
 set-short _ _ = tt
 
 within-short : {A : Type 0} (f : A → Line) → ((x : A) → SetsShort (f x)) → (o : Option A) → IfSome (option_map f o) SetsShort
@@ -133,6 +141,10 @@ once-short (Some x) longer new g h = none-some new h
 
 with-short : (g new : Given) (s : Setting) → SetsShort (line.Set s) → GivenShort g → with_setting g s ≡ Some new → GivenShort new
 with-short g new (setting.Hold n) is k h = once-short g.hold (record g { hold = Some n }) new k h
+with-short g new (setting.Filter In Read f) is k h = once-short g.in_read (record g { in_read = Some f }) new k h
+with-short g new (setting.Filter In Write f) is k h = once-short g.in_write (record g { in_write = Some f }) new k h
+with-short g new (setting.Filter Out Read f) is k h = once-short g.out_read (record g { out_read = Some f }) new k h
+with-short g new (setting.Filter Out Write f) is k h = once-short g.out_write (record g { out_write = Some f }) new k h
 with-short g new (setting.Marks In m) is k h = once-short g.in_marks (record g { in_marks = Some m }) new k h
 with-short g new (setting.Marks Out m) is k h = once-short g.out_marks (record g { out_marks = Some m }) new k h
 with-short g new (setting.Timeouts In t) is k h = once-short g.in_timeouts (record g { in_timeouts = Some t }) new (is, k.1) h

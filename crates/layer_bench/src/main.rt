@@ -9,10 +9,10 @@ mod passing;
 use due::rounds_of_due;
 use idle::idle_bevs;
 use passing::{copied, passed};
+use script_text::filter_named;
 use std::alloc::Global;
 use std::env;
 use std::io::Print;
-use stream_filters::FilterKind;
 
 /// How many pieces are passed, owners are due and bufferevents are made without a word, and with one.
 const LITTLE: u32 = 16;
@@ -39,14 +39,12 @@ fn main(rt: HostRuntime) -> anyhow::Result<()> {
 fn one(rt: &impl Print, alloc: Global, word: &str, amount: u32) -> anyhow::Result<()> {
     let done = match word {
         "copy" => copied(alloc, amount)?,
-        "none" => passed(alloc, FilterKind::None, amount)?,
-        "to-crlf" => passed(alloc, FilterKind::ToCrlf, amount)?,
-        "to-lf" => passed(alloc, FilterKind::ToLf, amount)?,
-        "hex-out" => passed(alloc, FilterKind::HexOut, amount)?,
-        "hex-in" => passed(alloc, FilterKind::HexIn, amount)?,
         "due" => rounds_of_due(alloc, 10_000, amount / 16)?,
         "idle" => idle_bevs(alloc, amount)?,
-        _ => 0,
+        _ => match filter_named(word.as_bytes()) {
+            Some(kind) => passed(alloc, kind, amount)?,
+            None => 0,
+        },
     };
     println!(rt; "{word} {done}")?;
     Ok(())

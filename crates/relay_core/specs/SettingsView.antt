@@ -1,4 +1,4 @@
--- What contracts see of the settings as the code keeps them: no filters, limits, groups and hooks, and all else as it was set.
+-- What contracts see of the settings as the code keeps them: no limits, groups and hooks, and all else as it was set.
 use Rattle.relay_model.specs.Settings as model
 use Rattle.relay_model.specs.Settings.{usual}
 use Rattle.relay_settings.specs.declared.settings.Marks.{Marks}
@@ -14,6 +14,10 @@ model_timeouts t = record { read_ms = t.read_ms; write_ms = t.write_ms }
 abbrev pub model_settings : Settings → model.Settings
 model_settings g = record usual {
   hold = g.hold;
+  in_read = g.in_read;
+  in_write = g.in_write;
+  out_read = g.out_read;
+  out_write = g.out_write;
   in_marks = model_marks g.in_marks;
   out_marks = model_marks g.out_marks;
   in_timeouts = model_timeouts g.in_timeouts;

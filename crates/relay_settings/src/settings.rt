@@ -2,6 +2,8 @@
 ghost use Rattle.std.specs.Prelude.{◌≡◌};
 ghost use Rattle.relay_settings.specs.Usual.{no_marks, no_timeouts, usual};
 
+use ev_types::FilterKind;
+
 /// Marks of a side, in bytes. A high mark of 0 is none.
 ///
 /// Libevent: event2/bufferevent.h, `bufferevent_setwatermark`; Bufferevents: concepts and basics.
@@ -52,13 +54,17 @@ impl Timeouts {
     }
 }
 
-/// What a run is started with: its hold mark in bytes, marks and timeouts of its In and Out sides, and how many links are opened at
-/// most. Marks are at most 2^24, timeouts at most 2^40 ms; nothing else is asked of them.
+/// What a run is started with: its hold mark in bytes, the filters, marks and timeouts of its In and Out sides, and how many links
+/// are opened at most. What is read at a side goes through its read filter, and what is given to it through its write filter. Marks are at most 2^24, timeouts at most 2^40 ms; nothing else is asked of them.
 ///
 /// Own; the hold mark is that of libevent's sample le-proxy.
 #[derive(Clone, Copy, Debug, PartialEq, Eq)]
 pub struct Settings {
     pub hold: u64,
+    pub in_read: FilterKind,
+    pub in_write: FilterKind,
+    pub out_read: FilterKind,
+    pub out_write: FilterKind,
     pub in_marks: Marks,
     pub out_marks: Marks,
     pub in_timeouts: Timeouts,
@@ -67,12 +73,16 @@ pub struct Settings {
 }
 
 impl Settings {
-    /// A hold mark of 524,288 bytes, no marks, no timeouts, and 256 links. Takes no memory.
+    /// A hold mark of 524,288 bytes, no filters, no marks, no timeouts, and 256 links. Takes no memory.
     pub fn usual() -> Settings
         ensures { result ≡ usual }
     {
         Settings {
             hold: 524_288,
+            in_read: FilterKind::None,
+            in_write: FilterKind::None,
+            out_read: FilterKind::None,
+            out_write: FilterKind::None,
             in_marks: Marks::none(),
             out_marks: Marks::none(),
             in_timeouts: Timeouts::none(),

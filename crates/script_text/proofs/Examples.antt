@@ -1,6 +1,7 @@
 -- The definitions at a few worked values, so that a wrong rule in them does not check.
 use Rattle.std.proofs.Common.{◌≡◌, ℕ, List, [], ◌∷◌, ◌++◌, true, false, refl, None, Some, Ok, Err, codes}
 use Rattle.hex.specs.Hex.{decode_pairs}
+use Rattle.ev_types.specs.declared.filter.FilterKind.TheVariants as kind
 use Rattle.ev_types.specs.declared.side.Side.TheVariants.{In, Out}
 use Rattle.ev_types.specs.declared.side.SideId.{SideId}
 use Rattle.ev_types.specs.declared.turn_line.TurnLine.TheVariants.{NewLink, Conn, Pending, Eof, ReadFail, Take, WriteFail, Spur, PollFail}
@@ -60,10 +61,14 @@ known_faults = refl
 -- settings before the turns, in any order
 pub known_settings : script_of
     (text (codes "# started with" ∷ codes "set marks out 0 1 2 16777216" ∷ [] ∷ codes "set hold 1" ∷ codes
-    "set timeouts in 0 1099511627776" ∷ codes "at 5" ∷ []))
+    "set out-write to-crlf" ∷ codes "set timeouts in 0 1099511627776" ∷ codes "set in-read hex-in" ∷ codes "at 5" ∷ []))
     ≡ Ok (record {
       settings = record {
         hold = 1;
+        in_read = kind.HexIn;
+        in_write = kind.None;
+        out_read = kind.None;
+        out_write = kind.ToCrlf;
         in_marks = no_marks;
         out_marks = record { read_low = 0; read_high = 1; write_low = 2; write_high = 16777216 };
         in_timeouts = record { read_ms = 0; write_ms = 1099511627776 };
@@ -75,14 +80,18 @@ pub known_settings : script_of
 known_settings = refl
 
 -- a setting that is given again, and one behind a turn; a mark of 0 bytes, and one that is too high; a timeout that is too long; three
--- marks; a name that is none; no name
+-- marks; a name that is none; no name; a filter that is given again, one behind a turn, one that is none, no filter, and two
 pub known_bad_settings : (script_of (text (codes "set hold 5" ∷ [] ∷ codes "set hold 5" ∷ [])) ≡ Err 3)
     × (script_of (text (codes "set hold 5" ∷ codes "at 0" ∷ codes "set timeouts in 5 5" ∷ [])) ≡ Err 3)
     × (script_of (text (codes "set hold 0" ∷ [])) ≡ Err 1) × (script_of (text (codes "set marks in 0 0 0 16777217" ∷ [])) ≡ Err 1)
     × (script_of (text (codes "set timeouts out 0 1099511627777" ∷ [])) ≡ Err 1)
     × (script_of (text (codes "set marks in 0 0 0" ∷ [])) ≡ Err 1) × (script_of (text (codes "set links 5" ∷ [])) ≡ Err 1)
     × (script_of (text (codes "set" ∷ [])) ≡ Err 1)
-known_bad_settings = (refl, refl, refl, refl, refl, refl, refl, refl)
+    × (script_of (text (codes "set in-read none" ∷ codes "set out-read none" ∷ codes "set in-read to-lf" ∷ [])) ≡ Err 3)
+    × (script_of (text (codes "at 0" ∷ codes "set in-read none" ∷ [])) ≡ Err 2)
+    × (script_of (text (codes "set in-read None" ∷ [])) ≡ Err 1) × (script_of (text (codes "set in-read" ∷ [])) ≡ Err 1)
+    × (script_of (text (codes "set in-read to-lf to-lf" ∷ [])) ≡ Err 1)
+known_bad_settings = (refl, refl, refl, refl, refl, refl, refl, refl, refl, refl, refl, refl, refl)
 
 -- a line before any turn; a word that is none, behind a skipped line; a link that was not opened; a decision of a link
 -- that is none to decide; bytes of an end that was ended, and of one whose reads fail

@@ -5,9 +5,11 @@ use Rattle.std.specs.Str.{bytes_eq}
 use Rattle.ev_types.specs.declared.side.Side.{Side}
 use Rattle.ev_types.specs.declared.side.Side.TheVariants.{In, Out}
 use Rattle.ev_types.specs.declared.side.SideId.{SideId}
+use Rattle.token_bucket.specs.declared.limit.Dir.TheVariants.{Read, Write}
 use Rattle.relay_settings.specs.declared.settings.Marks.{Marks}
 use Rattle.relay_settings.specs.declared.settings.Timeouts.{Timeouts}
 use Rattle.script_text.specs.Numbers.{number_within, bytes_of}
+use Rattle.script_text.specs.FilterNames.{filter_kind_of}
 use Rattle.script_text.specs.ValueGrammar.{◌>>=◌}
 use Rattle.ev_types.specs.declared.turn_line.TurnLine.{TurnLine}
 use Rattle.ev_types.specs.declared.turn_line.TurnLine.TheVariants as turn
@@ -65,7 +67,11 @@ setting_name_of word =
     if bytes_eq word (codes "hold") then Some name.Hold
     else (if bytes_eq word (codes "marks") then Some name.Marks
     else (if bytes_eq word (codes "timeouts") then Some name.Timeouts
-    else None))
+    else (if bytes_eq word (codes "in-read") then Some (name.Filter In Read)
+    else (if bytes_eq word (codes "in-write") then Some (name.Filter In Write)
+    else (if bytes_eq word (codes "out-read") then Some (name.Filter Out Read)
+    else (if bytes_eq word (codes "out-write") then Some (name.Filter Out Write)
+    else None))))))
 
 -- the hold mark, of 1 to 2^24 bytes
 abbrev pub hold_of : List ℕ → Option ℕ
@@ -94,6 +100,7 @@ set_by name.Marks (side ∷ rl ∷ rh ∷ wl ∷ wh ∷ []) =
     side_of side >>= (λ s. option_map (λ marks. setting.Marks s marks) (side_marks_of rl rh wl wh))
 set_by name.Timeouts (side ∷ r ∷ w ∷ []) =
     side_of side >>= (λ s. option_map (λ timeouts. setting.Timeouts s timeouts) (side_timeouts_of r w))
+set_by (name.Filter side dir) (filter ∷ []) = option_map (λ kind. setting.Filter side dir kind) (filter_kind_of filter)
 set_by _ _ = None
 
 -- What a line of a kind says by its further words. A moment is at most 2^40 ms.

@@ -3,6 +3,7 @@ pub mod Script
 pub mod ScriptView
 pub mod Pieces
 pub mod Numbers
+pub mod FilterNames
 pub mod Grammar
 pub mod Order
 pub mod Brought

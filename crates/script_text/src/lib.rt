@@ -31,6 +31,7 @@ pub use relay_settings::{Marks, Settings, Timeouts};
 pub use room::{LINE_ROOM, make_room};
 pub use script::{Script, ScriptFault};
 pub use trace::read_trace;
+pub use value_words::filter_named;
 pub use words::{
     MAX_NUMBER, first_piece, hex_bytes, is_plain_text, is_word, number, told, words_of,
 };

@@ -4,8 +4,9 @@ ghost use Rattle.script_text.specs.Grammar.{hold_of, said_by, set_by, setting_na
 
 use crate::line::{Keyword, Line};
 use crate::setting::{Setting, SettingName};
-use crate::value_words::read_side;
+use crate::value_words::{filter_named, read_side};
 use crate::words::{is_word, number};
+use ev_types::{Dir, Side};
 use relay_settings::{Marks, Timeouts};
 
 /// The most bytes that a mark can have.
@@ -23,6 +24,14 @@ fn read_name(word: &[u8]) -> Option<SettingName>
         Some(SettingName::Marks)
     } else if is_word(word, "timeouts") {
         Some(SettingName::Timeouts)
+    } else if is_word(word, "in-read") {
+        Some(SettingName::Filter(Side::In, Dir::Read))
+    } else if is_word(word, "in-write") {
+        Some(SettingName::Filter(Side::In, Dir::Write))
+    } else if is_word(word, "out-read") {
+        Some(SettingName::Filter(Side::Out, Dir::Read))
+    } else if is_word(word, "out-write") {
+        Some(SettingName::Filter(Side::Out, Dir::Write))
     } else {
         None
     }
@@ -42,6 +51,7 @@ fn read_setting(name: SettingName, words: &[&[u8]]) -> Option<Setting>
 {
     match name {
         SettingName::Hold => set_hold(words),
+        SettingName::Filter(side, dir) => set_filter(side, dir, words),
         SettingName::Marks => set_marks(words),
         SettingName::Timeouts => set_timeouts(words),
     }
@@ -61,6 +71,15 @@ fn read_hold(word: &[u8]) -> Option<u64>
 {
     let bytes = number(word, MAX_MARK)?;
     (bytes > 0).then_some(bytes)
+}
+
+fn set_filter(side: Side, dir: Dir, words: &[&[u8]]) -> Option<Setting>
+    ensures { result ≡ set_by (SettingName.Filter side dir) (map (λ w. w.now) words.now) }
+{
+    match words {
+        [filter] => Some(Setting::Filter(side, dir, filter_named(filter)?)),
+        _ => None,
+    }
 }
 
 fn set_marks(words: &[&[u8]]) -> Option<Setting>

@@ -2,7 +2,7 @@
 ghost use Rattle.std.specs.Prelude.{◌≡◌, Some, None, is_none, if◌then◌else◌};
 ghost use Rattle.script_text.specs.Given.{nothing_given, settings_by, with_setting};
 
-use ev_types::Side;
+use ev_types::{Dir, FilterKind, Side};
 use relay_settings::{Marks, Settings, Timeouts};
 
 /// Which setting a line names.
@@ -11,6 +11,8 @@ use relay_settings::{Marks, Settings, Timeouts};
 #[derive(Clone, Copy)]
 pub enum SettingName {
     Hold,
+    /// The filter of what is read at a side, or of what is written to it.
+    Filter(Side, Dir),
     Marks,
     Timeouts,
 }
@@ -22,6 +24,7 @@ pub enum SettingName {
 pub enum Setting {
     /// The hold mark, in bytes.
     Hold(u64),
+    Filter(Side, Dir, FilterKind),
     Marks(Side, Marks),
     Timeouts(Side, Timeouts),
 }
@@ -32,6 +35,10 @@ pub enum Setting {
 #[derive(Clone, Copy)]
 pub struct Given {
     pub hold: Option<u64>,
+    pub in_read: Option<FilterKind>,
+    pub in_write: Option<FilterKind>,
+    pub out_read: Option<FilterKind>,
+    pub out_write: Option<FilterKind>,
     pub in_marks: Option<Marks>,
     pub out_marks: Option<Marks>,
     pub in_timeouts: Option<Timeouts>,
@@ -45,6 +52,10 @@ impl Given {
     {
         Given {
             hold: None,
+            in_read: None,
+            in_write: None,
+            out_read: None,
+            out_write: None,
             in_marks: None,
             out_marks: None,
             in_timeouts: None,
@@ -58,6 +69,10 @@ impl Given {
     {
         match setting {
             Setting::Hold(bytes) => give(&mut self.hold, bytes),
+            Setting::Filter(Side::In, Dir::Read, kind) => give(&mut self.in_read, kind),
+            Setting::Filter(Side::In, Dir::Write, kind) => give(&mut self.in_write, kind),
+            Setting::Filter(Side::Out, Dir::Read, kind) => give(&mut self.out_read, kind),
+            Setting::Filter(Side::Out, Dir::Write, kind) => give(&mut self.out_write, kind),
             Setting::Marks(Side::In, marks) => give(&mut self.in_marks, marks),
             Setting::Marks(Side::Out, marks) => give(&mut self.out_marks, marks),
             Setting::Timeouts(Side::In, timeouts) => give(&mut self.in_timeouts, timeouts),
@@ -72,6 +87,10 @@ impl Given {
         let usual = Settings::usual();
         Settings {
             hold: self.hold.unwrap_or(usual.hold),
+            in_read: self.in_read.unwrap_or(usual.in_read),
+            in_write: self.in_write.unwrap_or(usual.in_write),
+            out_read: self.out_read.unwrap_or(usual.out_read),
+            out_write: self.out_write.unwrap_or(usual.out_write),
             in_marks: self.in_marks.unwrap_or(usual.in_marks),
             out_marks: self.out_marks.unwrap_or(usual.out_marks),
             in_timeouts: self.in_timeouts.unwrap_or(usual.in_timeouts),

@@ -1,12 +1,14 @@
 // Reads single words, whatever line they stand in.
 ghost use Rattle.std.specs.Prelude.{◌≡◌, IfOk, option_map};
+ghost use Rattle.script_text.specs.FilterNames.{filter_kind_of};
 ghost use Rattle.script_text.specs.Grammar.{side_of, link_of, end_of};
 ghost use Rattle.script_text.specs.ValueGrammar.{dir_of, lower_bytes_of, is_no_capital, rest_behind, marks_of, conn_of, read_of, write_of, event_of, why_of, filter_of, cause_of, ask_of};
 ghost use Rattle.std.specs.List.{list_all};
 
 use crate::words::{is_word, number};
 use ev_types::{
-    AskAnswer, Cause, ConnAnswer, Dir, Flags, NoMemory, ReadAnswer, Side, SideId, Why, WriteAnswer,
+    AskAnswer, Cause, ConnAnswer, Dir, FilterKind, Flags, NoMemory, ReadAnswer, Side, SideId, Why,
+    WriteAnswer,
 };
 use hex::FromHexError;
 use std::alloc::Global;
@@ -48,6 +50,28 @@ pub fn read_dir(word: &[u8]) -> Option<Dir>
         Some(Dir::Read)
     } else if is_word(word, "write") {
         Some(Dir::Write)
+    } else {
+        None
+    }
+}
+
+/// The filter that a word names: `none`, `to-crlf`, `to-lf`, `hex-out` or `hex-in`. `None` for every other word, capital
+/// letters among them. Takes no memory, and a constant time.
+///
+/// Own.
+pub fn filter_named(word: &[u8]) -> Option<FilterKind>
+    ensures { result ≡ filter_kind_of word.now }
+{
+    if is_word(word, "none") {
+        Some(FilterKind::None)
+    } else if is_word(word, "to-crlf") {
+        Some(FilterKind::ToCrlf)
+    } else if is_word(word, "to-lf") {
+        Some(FilterKind::ToLf)
+    } else if is_word(word, "hex-out") {
+        Some(FilterKind::HexOut)
+    } else if is_word(word, "hex-in") {
+        Some(FilterKind::HexIn)
     } else {
         None
     }
