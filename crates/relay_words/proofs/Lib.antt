@@ -1,0 +1,6 @@
+pub mod CutLemmas
+pub mod OptionRules
+pub mod WordViews
+pub mod ClapTurns
+pub mod ClapReads
+pub mod ClapAgrees

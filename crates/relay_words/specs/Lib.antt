@@ -1,0 +1,5 @@
+pub mod Values
+pub mod Options
+pub mod ServeGrammar
+pub mod Clap
+pub mod ModeGrammar
