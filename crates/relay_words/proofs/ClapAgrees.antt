@@ -20,7 +20,7 @@ use Rattle.relay_words.specs.ServeGrammar.{serve_names}
 use Rattle.relay_words.specs.Clap.{serve_app}
 use Rattle.relay_words.proofs.OptionRules.{built_rule, row}
 use Rattle.relay_words.proofs.WordViews.{AreTexts}
-use Rattle.relay_words.proofs.ClapTurns.{built_shape}
+use Rattle.relay_words.proofs.ClapTurns.{built_shape, no_entry, no_entry_fault}
 use Rattle.relay_words.proofs.ClapReads.{extend, idle_at, is_nil, verdict, verdict_is}
 
 -- ---- each option is known, and none is given twice
@@ -157,18 +157,10 @@ module _ (names : List Named) where
 abbrev parse_of : List Text → Option (List Row)
 parse_of words = cond (is_nil (fault_of serve_app words)) (Some (matches_of serve_app words)) None
 
-no_entry : (stop : Option (Text × List Text)) → entered (built serve_app) stop ≡ None
-no_entry None = refl
-no_entry (Some p) = refl
-
-no_entry_fault : (stop : Option (Text × List Text)) → entered_fault (built serve_app) stop ≡ []
-no_entry_fault None = refl
-no_entry_fault (Some p) = refl
-
 pub serve_parse : (words : List Text) → AreTexts words → list_any is_bare words ≡ false → parse_of words ≡ option_map (map row) (options_of serve_names words)
 serve_parse words texts full =
     let stop = (walk (built serve_app).top.rules [] nothing_held words).stopped in
-    ap₂ (λ e f. cond (is_nil (level_fault (built_shape serve_names) [] nothing_held words (is_some e) f)) (Some (matches_of serve_app words)) None) (no_entry stop) (no_entry_fault stop)
+    ap₂ (λ e f. cond (is_nil (level_fault (built_shape serve_names) [] nothing_held words (is_some e) f)) (Some (matches_of serve_app words)) None) (no_entry (built serve_app).top stop) (no_entry_fault (built serve_app).top stop)
     ∙ outcome_is serve_names words texts full
 
 -- ---- the answers of the parse

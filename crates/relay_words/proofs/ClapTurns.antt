@@ -2,8 +2,8 @@
 use Rattle.std.proofs.Common.{◌≡◌, ◌∙◌, ℕ, Bool, cond, true, false, refl, sym, ap, List, [], ◌∷◌, ◌++◌, map, length, Option, Some, None, is_some, option_map, codes}
 use Rattle.std.specs.Str.{bytes_eq}
 use Rattle.clap.specs.Kinds.{Kinds, or_else}
-use Rattle.clap.specs.Faults.{flags_fault, option_fault, settle_fault, turn_fault, use_fault}
-use Rattle.clap.specs.Simple.{Shape, new_shape}
+use Rattle.clap.specs.Faults.{entered_fault, flags_fault, option_fault, settle_fault, turn_fault, use_fault}
+use Rattle.clap.specs.Simple.{Shape, entered, new_shape}
 use Rattle.clap.specs.Walk.{Held, Rule, Text, Waiting, Walk, arg_by_id, arg_by_index, arg_by_long, arg_by_short, idle, option, reacted, settled, walked}
 use Rattle.clap.specs.declared.error.kind.ErrorKind.TheVariants as kind
 use Rattle.relay_words.specs.Options.{Given, Named}
@@ -35,6 +35,15 @@ with_value g = Some (g.0, g.1 ∷ [])
 or_else-nil : (ks : Kinds) → or_else ks [] ≡ ks
 or_else-nil [] = refl
 or_else-nil (k ∷ ks) = refl
+
+-- a command with no subcommands enters none
+pub no_entry : (top : Shape) (stop : Option (Text × List Text)) → entered (record { top = top; subs = [] }) stop ≡ None
+no_entry top None = refl
+no_entry top (Some p) = refl
+
+pub no_entry_fault : (top : Shape) (stop : Option (Text × List Text)) → entered_fault (record { top = top; subs = [] }) stop ≡ []
+no_entry_fault top None = refl
+no_entry_fault top (Some p) = refl
 
 module _ (names : List Named) where
   abbrev rules : List Rule

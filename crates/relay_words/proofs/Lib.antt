@@ -4,3 +4,4 @@ pub mod WordViews
 pub mod ClapTurns
 pub mod ClapReads
 pub mod ClapAgrees
+pub mod ModeReads

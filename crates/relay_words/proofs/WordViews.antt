@@ -40,7 +40,7 @@ first_char : (cs : List ℕ) (b : ℕ) (bs : List ℕ) → encode_utf8_all cs �
 first_char [] b bs e = absurd (omega (arith, ap length e))
 first_char (c ∷ cs) b bs e = (c, refl)
 
-same : (a b : ℕ) → (a == b) ≡ true → a ≡ b
+pub same : (a b : ℕ) → (a == b) ≡ true → a ≡ b
 same a b e = (Decides-eqb a b).0 e
 
 -- the name and the value are cut alike
