@@ -1,18 +1,19 @@
 -- Clap finds no fault in the words exactly where they give options by the grammar, and keeps their values.
-use Rattle.std.proofs.Common.{◌≡◌, ◌∙◌, ◌&&◌, ◌||◌, ℕ, Bool, cond, true, false, not, refl, sym, ap, ap₂, List, [], ◌∷◌, ◌++◌, map, Option, Some, None, is_some, option_map, append-nil, append_assoc, true≢false}
+use Rattle.std.proofs.Common.{◌≡◌, ◌≢◌, ◌∙◌, ◌&&◌, ◌||◌, ℕ, Bool, cond, true, false, not, refl, sym, ap, ap₂, List, [], ◌∷◌, ◌++◌, map, Option, Some, None, is_some, option_map, append-nil, append_assoc, true≢false, inl, inr}
 use Rattle.std.specs.Prelude.{option_and_then, slice_get, unwrap_or, IsSomeAnd}
 use Rattle.std.specs.Option.{option_map_or}
 use Rattle.clap.specs.Facts.{explicit_source}
 use Rattle.std.specs.List.{find, fold, list_all, list_any}
 use Rattle.std.specs.Str.{bytes_eq}
-use Rattle.clap.specs.Kinds.{IsAmong, Kinds, or_else}
-use Rattle.clap.specs.Matches.{first_value}
+use Rattle.clap.specs.Kinds.{Kinds, or_else}
+use Rattle.clap.specs.Matches.{first_value, found_of}
 use Rattle.clap.proofs.WalkLemmas.{first_value-rows}
-use Rattle.clap.specs.declared.error.kind.ErrorKind.{ErrorKind}
 use Rattle.clap.specs.declared.parser.matches.Found.{Found}
-use Rattle.clap.specs.Faults.{check_fault, default_fault, defaults_fault, entered_fault, fault_of, level_fault, settle_fault, walk_fault}
+use Rattle.clap.specs.declared.parser.matches.ArgMatches.{ArgMatches}
+use Rattle.relay_words.specs.Parse.{Refuses, Takes}
+use Rattle.clap.specs.Faults.{check_fault, default_fault, defaults_fault, entered_fault, fault_of, is_simple_and_free, level_fault, settle_fault, walk_fault}
 use Rattle.clap.specs.Takes.{is_given}
-use Rattle.clap.specs.Simple.{App, Shape, built, entered, matches_of}
+use Rattle.clap.specs.Simple.{Shape, built, entered, is_simple, matches_of}
 use Rattle.clap.specs.Walk.{Row, Text, first_of, has_row, nothing_held, rows_after, rows_of, settled, walk, walk_from, with_default}
 use Rattle.clap.specs.declared.error.kind.ErrorKind.TheVariants as kind
 use Rattle.relay_words.specs.Options.{Given, Named, are_once, given_by, has_required, is_bare, is_known, options_of, value_of}
@@ -165,27 +166,43 @@ serve_parse words texts full =
 
 -- ---- the answers of the parse
 
--- where clap finds no fault, its matches are those of the options that the words give
-pub taken : (words : List Text) → AreTexts words → list_any is_bare words ≡ false → fault_of serve_app words ≡ []
-    → IsSomeAnd (options_of serve_names words) (λ given. matches_of serve_app words ≡ map row given)
-taken words texts full none = go (options_of serve_names words) (sym (ap (λ f. cond (is_nil f) (Some (matches_of serve_app words)) None) none) ∙ serve_parse words texts full)
+pub serve_is_simple : is_simple serve_app ≡ true
+serve_is_simple = refl
+
+pub serve_is_free : is_simple_and_free serve_app ≡ true
+serve_is_free = refl
+
+-- the values that clap has are those that were given
+values_are : (f : Found) (given : List Given) → rows_of f ≡ map row given → (name : Text) → first_value f name ≡ value_of name given
+values_are f given e name = first_value-rows f name ∙ ap (first_of name) e ∙ first_of-given given name
+
+-- where clap takes the words, they give options, and its values are theirs
+pub serve_taken : (words : List Text) (m : ArgMatches) → AreTexts words → Takes serve_app words m
+    → IsSomeAnd (options_of serve_names words) (λ given. (name : Text) → first_value (found_of m) name ≡ value_of name given)
+serve_taken words m texts t = go (options_of serve_names words)
+    (sym (ap (λ f. cond (is_nil f) (Some (matches_of serve_app words)) None) (t.fine serve_is_free)) ∙ serve_parse words texts t.full)
   where
-    go : (o : Option (List Given)) → Some (matches_of serve_app words) ≡ option_map (map row) o → IsSomeAnd o (λ given. matches_of serve_app words ≡ map row given)
+    go : (o : Option (List Given)) → Some (matches_of serve_app words) ≡ option_map (map row) o
+        → IsSomeAnd o (λ given. (name : Text) → first_value (found_of m) name ≡ value_of name given)
     go None e = absurd (true≢false (ap is_some e))
-    go (Some given) e = ap (λ o. unwrap_or o (matches_of serve_app words)) e
+    go (Some given) e = values_are (found_of m) given ((t.matches serve_is_simple).0 ∙ ap (λ o. unwrap_or o (matches_of serve_app words)) e)
 
 -- where clap finds a fault, the words give no options
-pub refused : (words : List Text) → AreTexts words → list_any is_bare words ≡ false → (e : ErrorKind) → IsAmong e (fault_of serve_app words) → options_of serve_names words ≡ None
-refused words texts full e among = go (fault_of serve_app words) refl among
+faulty : (words : List Text) → AreTexts words → list_any is_bare words ≡ false → fault_of serve_app words ≢ [] → options_of serve_names words ≡ None
+faulty words texts full fault = go (fault_of serve_app words) refl
   where
     ends : (o : Option (List Given)) → None ≡ option_map (map row) o → o ≡ None
     ends None h = refl
     ends (Some given) h = absurd (true≢false (ap is_some (sym h)))
 
-    go : (f : Kinds) → fault_of serve_app words ≡ f → IsAmong e f → options_of serve_names words ≡ None
-    go [] is none = absurd none
-    go (k ∷ ks) is one = ends (options_of serve_names words) (sym (ap (λ x. cond (is_nil x) (Some (matches_of serve_app words)) None) is) ∙ serve_parse words texts full)
+    go : (f : Kinds) → fault_of serve_app words ≡ f → options_of serve_names words ≡ None
+    go [] is = absurd (fault is)
+    go (k ∷ ks) is = ends (options_of serve_names words)
+        (sym (ap (λ x. cond (is_nil x) (Some (matches_of serve_app words)) None) is) ∙ serve_parse words texts full)
 
--- the values that clap has are those that were given
-pub values_are : (f : Found) (given : List Given) → rows_of f ≡ map row given → (name : Text) → first_value f name ≡ value_of name given
-values_are f given e name = first_value-rows f name ∙ ap (first_of name) e ∙ first_of-given given name
+-- where the words are refused, they give no options
+pub serve_refused : (words : List Text) → AreTexts words → Refuses serve_app words → options_of serve_names words ≡ None
+serve_refused words texts r = elim (r serve_is_free) [
+  | inl bare ↦ rw bare refl
+  | inr f ↦ faulty words texts f.0 f.1
+]

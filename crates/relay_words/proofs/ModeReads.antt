@@ -1,16 +1,20 @@
 -- Clap finds no fault in the words exactly where they are one word without a hyphen.
-use Rattle.std.proofs.Common.{◌≡◌, ◌∙◌, ◌==◌, ◌&&◌, ◌||◌, ℕ, Bool, true, false, refl, sym, ap, ap₂, List, [], ◌∷◌, Option, Some, None, is_some, true≢false, codes, inl, inr}
+use Rattle.std.proofs.Common.{◌≡◌, ◌≢◌, ◌∙◌, ◌==◌, ◌&&◌, ◌||◌, ℕ, Bool, true, false, refl, sym, ap, ap₂, List, [], ◌∷◌, Option, Some, None, is_some, true≢false, codes, inl, inr}
 use Rattle.std.specs.Prelude.{◌⊎◌, option_and_then}
 use Rattle.std.specs.List.{list_any}
-use Rattle.clap.specs.Kinds.{IsAmong, Kinds}
-use Rattle.clap.specs.Faults.{defaults_fault, fault_of, flags_fault, level_fault, walk_fault}
-use Rattle.clap.specs.Simple.{built, entered, matches_of}
+use Rattle.clap.specs.Kinds.{Kinds}
+use Rattle.clap.specs.Matches.{first_value, found_of}
+use Rattle.clap.proofs.WalkLemmas.{first_value-rows}
+use Rattle.clap.specs.declared.parser.matches.ArgMatches.{ArgMatches}
+use Rattle.clap.specs.Faults.{defaults_fault, fault_of, flags_fault, is_simple_and_free, level_fault, walk_fault}
+use Rattle.clap.specs.Simple.{built, entered, is_simple, matches_of}
 use Rattle.clap.specs.Walk.{Text, first_of, nothing_held, walk, walked}
 use Rattle.clap.specs.declared.error.kind.ErrorKind.{ErrorKind}
 use Rattle.clap.specs.declared.error.kind.ErrorKind.TheVariants as kind
 use Rattle.relay_words.specs.Options.{has_hyphen, is_bare}
 use Rattle.relay_words.specs.ModeGrammar.{mode_named, mode_of}
 use Rattle.relay_words.specs.Clap.{mode_app}
+use Rattle.relay_words.specs.Parse.{Refuses, Takes}
 use Rattle.relay_words.proofs.OptionRules.{row}
 use Rattle.relay_words.proofs.WordViews.{AreTexts, IsLong, IsPlain, IsShort, same, word_view}
 use Rattle.relay_words.proofs.ClapTurns.{no_entry, no_entry_fault}
@@ -105,25 +109,44 @@ or_false : (a b : Bool) → (a || b) ≡ false → (a ≡ false) × (b ≡ false
 or_false true b e = absurd (true≢false e)
 or_false false b e = (refl, e)
 
--- where clap finds no fault, the words ask for the mode that its value names
-pub mode_taken : (words : List Text) → AreTexts words → list_any is_bare words ≡ false → fault_of mode_app words ≡ []
+its_mode : (words : List Text) → AreTexts words → list_any is_bare words ≡ false → fault_of mode_app words ≡ []
     → mode_of words ≡ option_and_then mode_named (first_of (codes "mode") (matches_of mode_app words))
-mode_taken [] texts full e = not_nil kind.MissingRequiredArgument (sym no_word ∙ sym (fault_in-is []) ∙ e)
-mode_taken (word ∷ []) texts full e =
+its_mode [] texts full e = not_nil kind.MissingRequiredArgument (sym no_word ∙ sym (fault_in-is []) ∙ e)
+its_mode (word ∷ []) texts full e =
     taken_one word (word_view word texts.0 (or_false (is_bare word) false full).0) (sym (fault_in-is (word ∷ [])) ∙ e)
-mode_taken (word ∷ next ∷ more) texts full e =
+its_mode (word ∷ next ∷ more) texts full e =
     let first = or_false (is_bare word) (is_bare next || list_any is_bare more) full in
     let second = or_false (is_bare next) (list_any is_bare more) first.1 in
     taken_more word next more (word_view word texts.0 first.0) (word_view next texts.1.0 second.0) (sym (fault_in-is (word ∷ next ∷ more)) ∙ e)
 
-refused_one : (word : Text) → View word → (e : ErrorKind) → IsAmong e (fault_in (word ∷ [])) → mode_named word ≡ None
-refused_one word (inl w) e among = mode_named-hyphen word w.hyphen
-refused_one word (inr (inl w)) e among = mode_named-hyphen word w.hyphen
-refused_one word (inr (inr w)) e among = absurd (rw (one_word word w) at among)
+refused_one : (word : Text) → View word → fault_in (word ∷ []) ≢ [] → mode_named word ≡ None
+refused_one word (inl w) fault = mode_named-hyphen word w.hyphen
+refused_one word (inr (inl w)) fault = mode_named-hyphen word w.hyphen
+refused_one word (inr (inr w)) fault = absurd (fault (one_word word w))
 
--- where clap finds a fault, the words ask for no mode
-pub mode_refused : (words : List Text) → AreTexts words → list_any is_bare words ≡ false → (e : ErrorKind) → IsAmong e (fault_of mode_app words) → mode_of words ≡ None
-mode_refused [] texts full e among = refl
-mode_refused (word ∷ []) texts full e among =
-    refused_one word (word_view word texts.0 (or_false (is_bare word) false full).0) e (rw (fault_in-is (word ∷ [])) at among)
-mode_refused (word ∷ next ∷ more) texts full e among = refl
+faulty : (words : List Text) → AreTexts words → list_any is_bare words ≡ false → fault_of mode_app words ≢ [] → mode_of words ≡ None
+faulty [] texts full fault = refl
+faulty (word ∷ []) texts full fault =
+    refused_one word (word_view word texts.0 (or_false (is_bare word) false full).0) (λ none. fault (fault_in-is (word ∷ []) ∙ none))
+faulty (word ∷ next ∷ more) texts full fault = refl
+
+pub mode_is_simple : is_simple mode_app ≡ true
+mode_is_simple = refl
+
+pub mode_is_free : is_simple_and_free mode_app ≡ true
+mode_is_free = refl
+
+-- where clap takes the words, they ask for the mode that its value names
+pub mode_taken : (words : List Text) (m : ArgMatches) → AreTexts words → Takes mode_app words m
+    → mode_of words ≡ option_and_then mode_named (first_value (found_of m) (codes "mode"))
+mode_taken words m texts t =
+    let value : first_value (found_of m) (codes "mode") ≡ first_of (codes "mode") (matches_of mode_app words) =
+      first_value-rows (found_of m) (codes "mode") ∙ ap (first_of (codes "mode")) (t.matches mode_is_simple).0 in
+    its_mode words texts t.full (t.fine mode_is_free) ∙ sym (ap (option_and_then mode_named) value)
+
+-- where the words are refused, they ask for no mode
+pub mode_refused : (words : List Text) → AreTexts words → Refuses mode_app words → mode_of words ≡ None
+mode_refused words texts r = elim (r mode_is_free) [
+  | inl bare ↦ mode_of-bare words bare
+  | inr f ↦ faulty words texts f.0 f.1
+]

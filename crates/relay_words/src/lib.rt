@@ -5,6 +5,7 @@
 mod fault;
 mod mode;
 mod options;
+mod parse;
 mod serve;
 mod values;
 

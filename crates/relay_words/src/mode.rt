@@ -7,8 +7,8 @@ ghost use Rattle.relay_words.specs.declared.fault.WordsFault.TheVariants.{Usage}
 ghost use Rattle.relay_words.specs.Clap.{mode_app, mode_rule};
 ghost use Rattle.relay_words.specs.ModeGrammar.{mode_named, mode_of};
 
-use crate::fault::{WordsFault, words_fault};
-use crate::options::{bare_command, has_bare};
+use crate::fault::WordsFault;
+use crate::parse::{bare_command, parsed};
 use clap::{Arg, ArgAction, ArgMatches, Command};
 use std::alloc::{AllocError, Global};
 
@@ -46,14 +46,7 @@ fn mode_matches<'a>(alloc: Global, words: &'a [String]) -> Result<ArgMatches<'a>
     ensures read { IfOk result (λ m. mode_of (map string_bytes words.now) ≡ option_and_then mode_named (first_value (found_of m) (codes "mode"))) }
     ensures refused { IfErr result (λ fault. fault ≡ Usage → mode_of (map string_bytes words.now) ≡ None) }
 {
-    if has_bare(words) {
-        return Err(WordsFault::Usage);
-    }
-    let command = mode_command(alloc)?;
-    match command.try_get_matches_from(words) {
-        Ok(matches) => Ok(matches),
-        Err(error) => Err(words_fault(error)),
-    }
+    parsed(mode_command(alloc)?, words)
 }
 
 fn mode_command<'a>(alloc: Global) -> Result<Command<'a>, AllocError>

@@ -1,15 +1,15 @@
 // Options of a command line, as clap reads them.
 ghost use Rattle.std.specs.Prelude.{◌≡◌, IfOk, IfErr, IsSomeAnd, None, ℕ, List, false, map, string_bytes};
-ghost use Rattle.std.specs.List.{list_any};
 ghost use Rattle.clap.specs.Matches.{first_value, found_of};
 ghost use Rattle.clap.specs.Simple.{app_of, with_rule};
 ghost use Rattle.clap.specs.Walk.{rule_of};
-ghost use Rattle.relay_words.specs.Clap.{bare_app, option_rule, serve_app};
+ghost use Rattle.relay_words.specs.Clap.{option_rule, serve_app};
 ghost use Rattle.relay_words.specs.declared.fault.WordsFault.TheVariants.{Usage};
-ghost use Rattle.relay_words.specs.Options.{is_bare, options_of, value_of};
+ghost use Rattle.relay_words.specs.Options.{options_of, value_of};
 ghost use Rattle.relay_words.specs.ServeGrammar.{serve_names};
 
-use crate::fault::{WordsFault, words_fault};
+use crate::fault::WordsFault;
+use crate::parse::{bare_command, parsed};
 use clap::{Arg, ArgAction, ArgMatches, Command};
 use std::alloc::{AllocError, Global};
 
@@ -19,32 +19,7 @@ pub fn serve_options<'a>(alloc: Global, words: &'a [String]) -> Result<ArgMatche
         (λ given. (name : List ℕ) → first_value (found_of m) name ≡ value_of name given)) }
     ensures refused { IfErr result (λ fault. fault ≡ Usage → options_of serve_names (map string_bytes words.now) ≡ None) }
 {
-    if has_bare(words) {
-        return Err(WordsFault::Usage);
-    }
-    let command = serve_command(alloc)?;
-    match command.try_get_matches_from(words) {
-        Ok(matches) => Ok(matches),
-        Err(error) => Err(words_fault(error)),
-    }
-}
-
-/// Whether one of the words is of no program.
-pub fn has_bare(words: &[String]) -> bool
-    ensures { result ≡ list_any is_bare (map string_bytes words.now) }
-{
-    for word in words {
-        if is_bare(word.as_str()) {
-            return true;
-        }
-    }
-    false
-}
-
-fn is_bare(word: &str) -> bool
-    ensures { result ≡ is_bare word.now }
-{
-    word == "" || word == "-" || word == "--"
+    parsed(serve_command(alloc)?, words)
 }
 
 fn serve_command<'a>(alloc: Global) -> Result<Command<'a>, AllocError>
@@ -59,16 +34,6 @@ fn serve_command<'a>(alloc: Global) -> Result<Command<'a>, AllocError>
     let command = with_option(alloc, command, "in-write", false)?;
     let command = with_option(alloc, command, "out-read", false)?;
     with_option(alloc, command, "out-write", false)
-}
-
-/// A command that answers for no word itself: it has no flags for help and for its version.
-pub fn bare_command<'a>(alloc: Global, program: &'a str) -> Command<'a>
-    ensures { app_of result ≡ bare_app program.now }
-{
-    Command::new(alloc, program)
-        .no_binary_name(true)
-        .disable_help_flag(true)
-        .disable_version_flag(true)
 }
 
 /// The command with one option more, which takes a value.

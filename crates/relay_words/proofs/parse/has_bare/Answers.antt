@@ -3,7 +3,7 @@ use Rattle.std.specs.List.{list_any}
 use Rattle.clap.proofs.WalkLemmas.{list_any-map}
 use Rattle.relay_words.specs.Options.{is_bare}
 use Rattle.relay_words.proofs.CutLemmas.{list_any-at}
-use Rattle.relay_words.proofs.options.has_bare.Goals as goal
+use Rattle.relay_words.proofs.parse.has_bare.Goals as goal
 
 pub returns-then-is_bare : goal.returns-then-is_bare
 returns-then-is_bare c =
