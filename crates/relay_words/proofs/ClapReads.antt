@@ -190,21 +190,21 @@ module _ (names : List Named) where
       let turn = turn-known names h word w.name (Some v) required w refl e k in
       elim (settle_view done last l) [
         | inr f ↦
-          let fault : option_fault rules false (built_rule (w.name, required)) (Some v) h ≡ kind.ArgumentConflict ∷ [] = rw f.0 refl in
-          verdict-refused (idle_at done last) word more _ _ (turn ∙ fault)
-          ∙ sym (target-cons_none done last (w.name, v) (given_by None more) (λ gs. f.1 ((w.name, v) ∷ gs)))
+            let fault : option_fault rules false (built_rule (w.name, required)) (Some v) h ≡ kind.ArgumentConflict ∷ [] = rw f.0 refl in
+            verdict-refused (idle_at done last) word more _ _ (turn ∙ fault)
+            ∙ sym (target-cons_none done last (w.name, v) (given_by None more) (λ gs. f.1 ((w.name, v) ∷ gs)))
         | inl s ↦ elim (use_view s.0 w.name v required k) [
           | inr f ↦
-            let fault : option_fault rules false (built_rule (w.name, required)) (Some v) h ≡ kind.ArgumentConflict ∷ [] = rw (s.1, s.2, f.0) refl in
-            verdict-refused (idle_at done last) word more _ _ (turn ∙ fault)
-            ∙ sym (target-cons_none done last (w.name, v) (given_by None more) (λ gs. s.3 ((w.name, v) ∷ gs) ∙ f.1 gs))
+              let fault : option_fault rules false (built_rule (w.name, required)) (Some v) h ≡ kind.ArgumentConflict ∷ [] = rw (s.1, s.2, f.0) refl in
+              verdict-refused (idle_at done last) word more _ _ (turn ∙ fault)
+              ∙ sym (target-cons_none done last (w.name, v) (given_by None more) (λ gs. s.3 ((w.name, v) ∷ gs) ∙ f.1 gs))
           | inl u ↦
-            let now = s.0 ++ (w.name, v) ∷ [] in
-            let fine : option_fault rules false (built_rule (w.name, required)) (Some v) h ≡ [] = rw (s.1, s.2, u.0) refl in
-            let walk : walk_at (reacted rules (built_rule (w.name, required)) (v ∷ []) h) idle ≡ idle_at now None = rw (s.2, u.1) refl in
-            verdict-goes_on (idle_at done last) (idle_at now None) word more (turn ∙ fine)
-            (walked-attached names h word w.name v required w refl e k ∙ walk) ∙ next.0 now None tt
-            ∙ sym (target-cons done now last (w.name, v) (given_by None more) (λ gs. s.3 ((w.name, v) ∷ gs) ∙ u.2 gs))
+              let now = s.0 ++ (w.name, v) ∷ [] in
+              let fine : option_fault rules false (built_rule (w.name, required)) (Some v) h ≡ [] = rw (s.1, s.2, u.0) refl in
+              let walk : walk_at (reacted rules (built_rule (w.name, required)) (v ∷ []) h) idle ≡ idle_at now None = rw (s.2, u.1) refl in
+              verdict-goes_on (idle_at done last) (idle_at now None) word more (turn ∙ fine)
+              (walked-attached names h word w.name v required w refl e k ∙ walk) ∙ next.0 now None tt
+              ∙ sym (target-cons done now last (w.name, v) (given_by None more) (λ gs. s.3 ((w.name, v) ∷ gs) ∙ u.2 gs))
         ]
       ]
 
@@ -215,10 +215,10 @@ module _ (names : List Named) where
       elim (settle_view done last l) [
         | inr f ↦ verdict-refused _ word more _ _ (turn ∙ f.0) ∙ sym (target-none done last (given_by (Some w.name) more) f.1)
         | inl s ↦
-          let walk : walk_at (record (settled rules (held_at done (pend last))) { pending = Some (w.name, []) }) (option w.name) ≡ wait_at s.0 w.name = rw s.2 refl in
-          verdict-goes_on (idle_at done last) (wait_at s.0 w.name) word more (turn ∙ s.1)
-          (walked-named names (held_at done (pend last)) word w.name required w refl e k ∙ walk)
-          ∙ next.1 s.0 w.name required k ∙ sym (target-same done s.0 last (given_by (Some w.name) more) s.3)
+            let walk : walk_at (record (settled rules (held_at done (pend last))) { pending = Some (w.name, []) }) (option w.name) ≡ wait_at s.0 w.name = rw s.2 refl in
+            verdict-goes_on (idle_at done last) (wait_at s.0 w.name) word more (turn ∙ s.1)
+            (walked-named names (held_at done (pend last)) word w.name required w refl e k ∙ walk)
+            ∙ next.1 s.0 w.name required k ∙ sym (target-same done s.0 last (given_by (Some w.name) more) s.3)
       ]
 
   -- what a long word comes to, by its value

@@ -141,7 +141,7 @@ pub mode_taken : (words : List Text) (m : ArgMatches) → AreTexts words → Tak
     → mode_of words ≡ option_and_then mode_named (first_value (found_of m) (codes "mode"))
 mode_taken words m texts t =
     let value : first_value (found_of m) (codes "mode") ≡ first_of (codes "mode") (matches_of mode_app words) =
-      first_value-rows (found_of m) (codes "mode") ∙ ap (first_of (codes "mode")) (t.matches mode_is_simple).0 in
+    first_value-rows (found_of m) (codes "mode") ∙ ap (first_of (codes "mode")) (t.matches mode_is_simple).0 in
     its_mode words texts t.full (t.fine mode_is_free) ∙ sym (ap (option_and_then mode_named) value)
 
 -- where the words are refused, they ask for no mode

@@ -64,7 +64,9 @@ is_short a b bs e f utf8 =
     let behind : IsUtf8 (b ∷ bs) = IsUtf8-drop (a ∷ b ∷ bs) 1 utf8 (IsCharBoundary-after_ascii (a ∷ b ∷ bs) 0 utf8 (omega arith) low) in
     let first = first_char (chars (b ∷ bs)) b bs (encodes-chars (b ∷ bs) behind) in
     record {
-      first = b; others = bs; char = first.0;
+      first = b;
+      others = bs;
+      char = first.0;
       more = rw (e, f) refl;
       long = rw (e, f) refl;
       short = rw (e, f) refl;
@@ -76,7 +78,8 @@ is_short a b bs e f utf8 =
 is_long : (a b : ℕ) (bs : List ℕ) → (a == 45) ≡ true → (b == 45) ≡ true → is_bare (a ∷ b ∷ bs) ≡ false → IsLong (a ∷ b ∷ bs)
 is_long a b [] e f full = absurd (true≢false (rw (e, f) at full))
 is_long a b (c ∷ cs) e f full = record {
-  name = (name_in (c ∷ cs)).0; value = (name_in (c ∷ cs)).1;
+  name = (name_in (c ∷ cs)).0;
+  value = (name_in (c ∷ cs)).1;
   more = rw (e, f) refl;
   long = rw (e, f) (ap Some (name_in-clap (c ∷ cs)));
   option = rw (e, f) refl;

@@ -34,7 +34,12 @@ serve_by value = do
     listen = listen;
     to = to;
     settings = record usual {
-      links = links; hold = hold; in_read = in_read; in_write = in_write; out_read = out_read; out_write = out_write;
+      links = links;
+      hold = hold;
+      in_read = in_read;
+      in_write = in_write;
+      out_read = out_read;
+      out_write = out_write;
     };
   })
 

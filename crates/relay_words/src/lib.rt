@@ -12,3 +12,6 @@ mod values;
 pub use fault::WordsFault;
 pub use mode::{Mode, mode_words};
 pub use serve::{ServeWords, serve_words};
+
+#[cfg(test)]
+mod tests;

@@ -59,7 +59,9 @@ fn mode_arg<'a>(alloc: Global) -> Arg<'a>
     ensures rule { rule_of result ≡ mode_rule }
     ensures own { result.global ≡ false }
 {
-    Arg::new(alloc, "mode").action(ArgAction::Set).required(true)
+    Arg::new(alloc, "mode")
+        .action(ArgAction::Set)
+        .required(true)
 }
 
 fn mode_named(word: &str) -> Option<Mode>

@@ -44,7 +44,12 @@ pub fn read_addr(word: &str) -> Option<Addr>
     let (second, behind) = cut_at(behind, '.')?;
     let (third, behind) = cut_at(behind, '.')?;
     let (fourth, port) = cut_at(behind, ':')?;
-    let ip = [read_part(first)?, read_part(second)?, read_part(third)?, read_part(fourth)?];
+    let ip = [
+        read_part(first)?,
+        read_part(second)?,
+        read_part(third)?,
+        read_part(fourth)?,
+    ];
     let port = read_positive(port, MAX_PORT)? as u16;
     Some(Addr { ip, port })
 }
