@@ -29,7 +29,8 @@ use Rattle.relay_words.proofs.ClapReads.{extend, idle_at, is_nil, verdict, verdi
 abbrev are_fine : List Named → List Given → List Given → Bool
 are_fine names done gs = list_all (λ g. is_known names g.0) gs && are_once done gs
 
-extend-step : (known again all once : Bool) (r : Option (List Given)) → cond (known && not again) (cond (all && once) r None) None ≡ cond ((known && all) && (not again && once)) r None
+extend-step : (known again all once : Bool) (r : Option (List Given))
+    → cond (known && not again) (cond (all && once) r None) None ≡ cond ((known && all) && (not again && once)) r None
 extend-step true false all once r = refl
 extend-step true true true once r = refl
 extend-step true true false once r = refl
@@ -40,7 +41,8 @@ extend-all names done [] = ap (λ xs. Some xs) (sym (append-nil done))
 extend-all names done (g ∷ gs) =
     ap (λ x. cond (is_known names g.0 && not (is_some (value_of g.0 done))) x None) (extend-all names (done ++ g ∷ []) gs
     ∙ ap (λ xs. cond (are_fine names (done ++ g ∷ []) gs) (Some xs) None) (append_assoc done (g ∷ []) gs))
-    ∙ extend-step (is_known names g.0) (is_some (value_of g.0 done)) (list_all (λ h. is_known names h.0) gs) (are_once (done ++ g ∷ []) gs) (Some (done ++ g ∷ gs))
+    ∙ extend-step (is_known names g.0) (is_some (value_of g.0 done)) (list_all (λ h. is_known names h.0) gs)
+    (are_once (done ++ g ∷ []) gs) (Some (done ++ g ∷ gs))
 
 -- ---- what was given, among the rows
 
@@ -84,7 +86,8 @@ module _ (names : List Named) where
   defaults-none (n ∷ ns) rows = go (has_row n.0 rows) (defaults-none ns (with_default rows (built_rule n)))
     where
       go : (b : Bool) → defaults_fault (with_default rows (built_rule n)) (map built_rule ns) ≡ []
-          → or_else (cond (b || true) [] (default_fault [] (built_rule n))) (defaults_fault (with_default rows (built_rule n)) (map built_rule ns)) ≡ []
+          → or_else (cond (b || true) [] (default_fault [] (built_rule n)))
+          (defaults_fault (with_default rows (built_rule n)) (map built_rule ns)) ≡ []
       go true e = e
       go false e = e
 
@@ -123,31 +126,37 @@ module _ (names : List Named) where
       let rows = (settled shape.rules end).rows in
       let w = walk_fault shape [] (walk_from nothing_held) words in
       let s = settle_fault shape.rules false end in
-      ap₂ (λ d rs. cond (is_nil (or_else w (or_else s (or_else d (check_fault shape rs false))))) (Some rs) None) (defaults-none names rows) (finished-same names rows)
+      ap₂ (λ d rs. cond (is_nil (or_else w (or_else s (or_else d (check_fault shape rs false))))) (Some rs) None)
+      (defaults-none names rows) (finished-same names rows)
       ∙ in_turn w s rows
 
   checked-given : (given : List Given) → checked (map row given) ≡ cond (has_required names given) (Some (map row given)) None
-  checked-given given = ap (λ b. cond (is_nil (cond b (kind.MissingRequiredArgument ∷ []) [])) (Some (map row given)) None) (lacks names given)
+  checked-given given = ap (λ b. cond (is_nil (cond b (kind.MissingRequiredArgument ∷ []) [])) (Some (map row given)) None)
+      (lacks names given)
       ∙ go (list_any (λ n. n.1 && not (is_some (value_of n.0 given))) names)
     where
-      go : (b : Bool) → cond (is_nil (cond b (kind.MissingRequiredArgument ∷ []) [])) (Some (map row given)) None ≡ cond (not b) (Some (map row given)) None
+      go : (b : Bool) → cond (is_nil (cond b (kind.MissingRequiredArgument ∷ []) [])) (Some (map row given)) None
+          ≡ cond (not b) (Some (map row given)) None
       go true = refl
       go false = refl
 
   in_all : (given : List Given) (known once required : Bool) → checked (map row given) ≡ cond required (Some (map row given)) None
-      → option_and_then checked (option_map (map row) (cond (known && once) (Some given) None)) ≡ option_map (map row) (cond (known && (once && required)) (Some given) None)
+      → option_and_then checked (option_map (map row) (cond (known && once) (Some given) None))
+      ≡ option_map (map row) (cond (known && (once && required)) (Some given) None)
   in_all given true true true e = e
   in_all given true true false e = e
   in_all given true false required e = refl
   in_all given false once required e = refl
 
   by_given : (o : Option (List Given)) → option_and_then checked (option_map (map row) (option_and_then (extend names []) o))
-      ≡ option_map (map row) (option_and_then (λ given. cond (list_all (λ g. is_known names g.0) given && (are_once [] given && has_required names given)) (Some given) None) o)
+      ≡ option_map (map row) (option_and_then (λ given. cond
+      (list_all (λ g. is_known names g.0) given && (are_once [] given && has_required names given)) (Some given) None) o)
   by_given None = refl
   by_given (Some given) = ap (λ x. option_and_then checked (option_map (map row) x)) (extend-all names [] given)
       ∙ in_all given (list_all (λ g. is_known names g.0) given) (are_once [] given) (has_required names given) (checked-given given)
 
-  pub outcome_is : (words : List Text) → AreTexts words → list_any is_bare words ≡ false → outcome words ≡ option_map (map row) (options_of names words)
+  pub outcome_is : (words : List Text) → AreTexts words → list_any is_bare words ≡ false
+      → outcome words ≡ option_map (map row) (options_of names words)
   outcome_is words texts full =
       outcome-verdict words ∙ ap (option_and_then checked) (verdict_is names words texts full) ∙ by_given (given_by None words)
       ∙ sym (ap (λ b. option_map (map row) (cond b None (option_and_then (λ given. cond (list_all (λ g. is_known names g.0) given
@@ -158,10 +167,12 @@ module _ (names : List Named) where
 abbrev parse_of : List Text → Option (List Row)
 parse_of words = cond (is_nil (fault_of serve_app words)) (Some (matches_of serve_app words)) None
 
-pub serve_parse : (words : List Text) → AreTexts words → list_any is_bare words ≡ false → parse_of words ≡ option_map (map row) (options_of serve_names words)
+pub serve_parse : (words : List Text) → AreTexts words → list_any is_bare words ≡ false
+    → parse_of words ≡ option_map (map row) (options_of serve_names words)
 serve_parse words texts full =
     let stop = (walk (built serve_app).top.rules [] nothing_held words).stopped in
-    ap₂ (λ e f. cond (is_nil (level_fault (built_shape serve_names) [] nothing_held words (is_some e) f)) (Some (matches_of serve_app words)) None) (no_entry (built serve_app).top stop) (no_entry_fault (built serve_app).top stop)
+    ap₂ (λ e f. cond (is_nil (level_fault (built_shape serve_names) [] nothing_held words (is_some e) f))
+    (Some (matches_of serve_app words)) None) (no_entry (built serve_app).top stop) (no_entry_fault (built serve_app).top stop)
     ∙ outcome_is serve_names words texts full
 
 -- ---- the answers of the parse
@@ -188,7 +199,8 @@ serve_taken words m texts t = go (options_of serve_names words)
     go (Some given) e = values_are (found_of m) given ((t.matches serve_is_simple).0 ∙ ap (λ o. unwrap_or o (matches_of serve_app words)) e)
 
 -- where clap finds a fault, the words give no options
-faulty : (words : List Text) → AreTexts words → list_any is_bare words ≡ false → fault_of serve_app words ≢ [] → options_of serve_names words ≡ None
+faulty : (words : List Text) → AreTexts words → list_any is_bare words ≡ false → fault_of serve_app words ≢ []
+    → options_of serve_names words ≡ None
 faulty words texts full fault = go (fault_of serve_app words) refl
   where
     ends : (o : Option (List Given)) → None ≡ option_map (map row) o → o ≡ None

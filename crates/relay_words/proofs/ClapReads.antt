@@ -36,21 +36,25 @@ module _ (names : List Named) where
   abbrev pub target : List Given → Option Given → Option (List Given) → Option (List Row)
   target done last o = option_map (map row) (option_and_then (λ gs. extend names done (list_of last ++ gs)) o)
 
-  target-none : (done : List Given) (last : Option Given) (o : Option (List Given)) → ((gs : List Given) → extend names done (list_of last ++ gs) ≡ None) → target done last o ≡ None
+  target-none : (done : List Given) (last : Option Given) (o : Option (List Given))
+      → ((gs : List Given) → extend names done (list_of last ++ gs) ≡ None) → target done last o ≡ None
   target-none done last None h = refl
   target-none done last (Some gs) h = ap (option_map (map row)) (h gs)
 
-  target-cons_none : (done : List Given) (last : Option Given) (g : Given) (o : Option (List Given)) → ((gs : List Given) → extend names done (list_of last ++ g ∷ gs) ≡ None)
+  target-cons_none : (done : List Given) (last : Option Given) (g : Given) (o : Option (List Given))
+      → ((gs : List Given) → extend names done (list_of last ++ g ∷ gs) ≡ None)
       → target done last (and_then g o) ≡ None
   target-cons_none done last g None h = refl
   target-cons_none done last g (Some gs) h = ap (option_map (map row)) (h gs)
 
-  target-same : (done now : List Given) (last : Option Given) (o : Option (List Given)) → ((gs : List Given) → extend names done (list_of last ++ gs) ≡ extend names now gs)
+  target-same : (done now : List Given) (last : Option Given) (o : Option (List Given))
+      → ((gs : List Given) → extend names done (list_of last ++ gs) ≡ extend names now gs)
       → target done last o ≡ target now None o
   target-same done now last None h = refl
   target-same done now last (Some gs) h = ap (option_map (map row)) (h gs)
 
-  target-cons : (done now : List Given) (last : Option Given) (g : Given) (o : Option (List Given)) → ((gs : List Given) → extend names done (list_of last ++ g ∷ gs) ≡ extend names now gs)
+  target-cons : (done now : List Given) (last : Option Given) (g : Given) (o : Option (List Given))
+      → ((gs : List Given) → extend names done (list_of last ++ g ∷ gs) ≡ extend names now gs)
       → target done last (and_then g o) ≡ target now None o
   target-cons done now last g None h = refl
   target-cons done now last g (Some gs) h = ap (option_map (map row)) (h gs)
@@ -69,12 +73,14 @@ module _ (names : List Named) where
   cond-none true x e = e
   cond-none false x e = refl
 
-  extend-unknown_past : (done : List Given) (last : Option Given) (g : Given) (gs : List Given) → required_of names g.0 ≡ None → extend names done (list_of last ++ g ∷ gs) ≡ None
+  extend-unknown_past : (done : List Given) (last : Option Given) (g : Given) (gs : List Given) → required_of names g.0 ≡ None
+      → extend names done (list_of last ++ g ∷ gs) ≡ None
   extend-unknown_past done None g gs k = extend-unknown done g gs k
   extend-unknown_past done (Some l) g gs k = cond-none _ _ (extend-unknown (done ++ l ∷ []) g gs k)
 
   -- whatever follows a name that no program has
-  target-unknown_name : (done : List Given) (last : Option Given) (name : Text) (words : List Text) → required_of names name ≡ None → target done last (given_by (Some name) words) ≡ None
+  target-unknown_name : (done : List Given) (last : Option Given) (name : Text) (words : List Text) → required_of names name ≡ None
+      → target done last (given_by (Some name) words) ≡ None
   target-unknown_name done last name [] k = refl
   target-unknown_name done last name (word ∷ more) k = go (has_hyphen word)
     where
@@ -93,7 +99,8 @@ module _ (names : List Named) where
       ⊎ ((use_fault false (built_rule (name, required)) (v ∷ []) (map row done) ≡ kind.ArgumentConflict ∷ [])
       × ((gs : List Given) → extend names done ((name, v) ∷ gs) ≡ None))
 
-  used_or_again : (done : List Given) (name v : Text) (required : Bool) → required_of names name ≡ Some required → (b : Bool) → is_some (value_of name done) ≡ b → Used done name v required
+  used_or_again : (done : List Given) (name v : Text) (required : Bool) → required_of names name ≡ Some required → (b : Bool)
+      → is_some (value_of name done) ≡ b → Used done name v required
   used_or_again done name v required k false e =
       let new : has_row name (map row done) ≡ false = has_row-given done name ∙ e in
       let known : is_known names name ≡ true = is_known-required_of names name ∙ ap is_some k in
@@ -147,12 +154,15 @@ module _ (names : List Named) where
   verdict-cons : (w : Walk) (word : Text) (more : List Text)
       → verdict w (word ∷ more) ≡ cond (is_nil (turn_fault (built_shape names) [] w word)) (verdict (walked rules [] w word) more) None
   unfolding walk_fault
-  verdict-cons w word more = joined (turn_fault (built_shape names) [] w word) (walk_fault (built_shape names) [] (walked rules [] w word) more) _
+  verdict-cons w word more = joined (turn_fault (built_shape names) [] w word)
+      (walk_fault (built_shape names) [] (walked rules [] w word) more) _
 
-  verdict-refused : (w : Walk) (word : Text) (more : List Text) (k : ErrorKind) (ks : Kinds) → turn_fault (built_shape names) [] w word ≡ k ∷ ks → verdict w (word ∷ more) ≡ None
+  verdict-refused : (w : Walk) (word : Text) (more : List Text) (k : ErrorKind) (ks : Kinds)
+      → turn_fault (built_shape names) [] w word ≡ k ∷ ks → verdict w (word ∷ more) ≡ None
   verdict-refused w word more k ks e = verdict-cons w word more ∙ ap (λ f. cond (is_nil f) (verdict (walked rules [] w word) more) None) e
 
-  verdict-goes_on : (w next : Walk) (word : Text) (more : List Text) → turn_fault (built_shape names) [] w word ≡ [] → walked rules [] w word ≡ next
+  verdict-goes_on : (w next : Walk) (word : Text) (more : List Text) → turn_fault (built_shape names) [] w word ≡ []
+      → walked rules [] w word ≡ next
       → verdict w (word ∷ more) ≡ verdict next more
   verdict-goes_on w next word more e f =
       verdict-cons w word more ∙ ap (λ x. cond (is_nil x) (verdict (walked rules [] w word) more) None) e ∙ ap (λ x. verdict x more) f
@@ -170,21 +180,25 @@ module _ (names : List Named) where
     | inr f ↦ rw (f.0, f.1 []) refl
   ]
 
-  verdict-waits : (done : List Given) (name : Text) (required : Bool) → required_of names name ≡ Some required → verdict (wait_at done name) [] ≡ None
+  verdict-waits : (done : List Given) (name : Text) (required : Bool) → required_of names name ≡ Some required
+      → verdict (wait_at done name) [] ≡ None
   unfolding walk_fault
   verdict-waits done name required k = rw (id-known names name required k) refl
 
   -- what the words that follow come to
   abbrev Reads : List Text → Type 0
   Reads words =
-      ((done : List Given) (last : Option Given) → IsKnown last → verdict (idle_at done last) words ≡ target done last (given_by None words))
+      ((done : List Given) (last : Option Given) → IsKnown last
+      → verdict (idle_at done last) words ≡ target done last (given_by None words))
       × ((done : List Given) (name : Text) (required : Bool) → required_of names name ≡ Some required
       → verdict (wait_at done name) words ≡ target done None (given_by (Some name) words))
 
   -- ---- a word where no option waits
 
-  attached : (done : List Given) (last : Option Given) (word : Text) (more : List Text) (w : IsLong word) (v : Text) (required : Bool) → IsKnown last → w.value ≡ Some v
-      → required_of names w.name ≡ Some required → Reads more → verdict (idle_at done last) (word ∷ more) ≡ target done last (and_then (w.name, v) (given_by None more))
+  attached : (done : List Given) (last : Option Given) (word : Text) (more : List Text) (w : IsLong word) (v : Text) (required : Bool)
+      → IsKnown last → w.value ≡ Some v
+      → required_of names w.name ≡ Some required → Reads more
+      → verdict (idle_at done last) (word ∷ more) ≡ target done last (and_then (w.name, v) (given_by None more))
   attached done last word more w v required l e k next =
       let h = held_at done (pend last) in
       let turn = turn-known names h word w.name (Some v) required w refl e k in
@@ -195,7 +209,8 @@ module _ (names : List Named) where
             ∙ sym (target-cons_none done last (w.name, v) (given_by None more) (λ gs. f.1 ((w.name, v) ∷ gs)))
         | inl s ↦ elim (use_view s.0 w.name v required k) [
           | inr f ↦
-              let fault : option_fault rules false (built_rule (w.name, required)) (Some v) h ≡ kind.ArgumentConflict ∷ [] = rw (s.1, s.2, f.0) refl in
+              let fault : option_fault rules false (built_rule (w.name, required)) (Some v) h
+              ≡ kind.ArgumentConflict ∷ [] = rw (s.1, s.2, f.0) refl in
               verdict-refused (idle_at done last) word more _ _ (turn ∙ fault)
               ∙ sym (target-cons_none done last (w.name, v) (given_by None more) (λ gs. s.3 ((w.name, v) ∷ gs) ∙ f.1 gs))
           | inl u ↦
@@ -208,14 +223,17 @@ module _ (names : List Named) where
         ]
       ]
 
-  named : (done : List Given) (last : Option Given) (word : Text) (more : List Text) (w : IsLong word) (required : Bool) → IsKnown last → w.value ≡ None
-      → required_of names w.name ≡ Some required → Reads more → verdict (idle_at done last) (word ∷ more) ≡ target done last (given_by (Some w.name) more)
+  named : (done : List Given) (last : Option Given) (word : Text) (more : List Text) (w : IsLong word) (required : Bool) → IsKnown last
+      → w.value ≡ None
+      → required_of names w.name ≡ Some required → Reads more
+      → verdict (idle_at done last) (word ∷ more) ≡ target done last (given_by (Some w.name) more)
   named done last word more w required l e k next =
       let turn = turn-known names (held_at done (pend last)) word w.name None required w refl e k in
       elim (settle_view done last l) [
         | inr f ↦ verdict-refused _ word more _ _ (turn ∙ f.0) ∙ sym (target-none done last (given_by (Some w.name) more) f.1)
         | inl s ↦
-            let walk : walk_at (record (settled rules (held_at done (pend last))) { pending = Some (w.name, []) }) (option w.name) ≡ wait_at s.0 w.name = rw s.2 refl in
+            let walk : walk_at (record (settled rules (held_at done (pend last))) { pending = Some (w.name, []) }) (option w.name)
+            ≡ wait_at s.0 w.name = rw s.2 refl in
             verdict-goes_on (idle_at done last) (wait_at s.0 w.name) word more (turn ∙ s.1)
             (walked-named names (held_at done (pend last)) word w.name required w refl e k ∙ walk)
             ∙ next.1 s.0 w.name required k ∙ sym (target-same done s.0 last (given_by (Some w.name) more) s.3)
@@ -225,46 +243,58 @@ module _ (names : List Named) where
   abbrev after_long : Text → Option Text → List Text → Option (List Given)
   after_long name value more = option_map_or (λ v. and_then (name, v) (given_by None more)) value (given_by (Some name) more)
 
-  target-unknown : (done : List Given) (last : Option Given) (name : Text) (value : Option Text) (more : List Text) → required_of names name ≡ None
+  target-unknown : (done : List Given) (last : Option Given) (name : Text) (value : Option Text) (more : List Text)
+      → required_of names name ≡ None
       → target done last (after_long name value more) ≡ None
   target-unknown done last name None more k = target-unknown_name done last name more k
   target-unknown done last name (Some v) more k =
       target-cons_none done last (name, v) (given_by None more) (λ gs. extend-unknown_past done last (name, v) gs k)
 
-  long_by_value : (done : List Given) (last : Option Given) (word : Text) (more : List Text) (w : IsLong word) (required : Bool) (value : Option Text) → IsKnown last
+  long_by_value : (done : List Given) (last : Option Given) (word : Text) (more : List Text) (w : IsLong word) (required : Bool)
+      (value : Option Text) → IsKnown last
       → w.value ≡ value → required_of names w.name ≡ Some required → Reads more
       → verdict (idle_at done last) (word ∷ more) ≡ target done last (after_long w.name value more)
   long_by_value done last word more w required (Some v) l e k next = attached done last word more w v required l e k next
   long_by_value done last word more w required None l e k next = named done last word more w required l e k next
 
-  long_by_name : (done : List Given) (last : Option Given) (word : Text) (more : List Text) (w : IsLong word) (found : Option Bool) → IsKnown last
-      → required_of names w.name ≡ found → Reads more → verdict (idle_at done last) (word ∷ more) ≡ target done last (after_long w.name w.value more)
+  long_by_name : (done : List Given) (last : Option Given) (word : Text) (more : List Text) (w : IsLong word) (found : Option Bool)
+      → IsKnown last
+      → required_of names w.name ≡ found → Reads more → verdict (idle_at done last) (word ∷ more)
+      ≡ target done last (after_long w.name w.value more)
   long_by_name done last word more w (Some required) l k next = long_by_value done last word more w required w.value l refl k next
   long_by_name done last word more w None l k next =
-      verdict-refused _ word more _ _ (turn-unknown names (held_at done (pend last)) word w k) ∙ sym (target-unknown done last w.name w.value more k)
+      verdict-refused _ word more _ _ (turn-unknown names (held_at done (pend last)) word w k)
+      ∙ sym (target-unknown done last w.name w.value more k)
 
-  idle_reads : (done : List Given) (last : Option Given) (word : Text) (more : List Text) → IsKnown last → IsLong word ⊎ (IsShort word ⊎ IsPlain word) → Reads more
+  idle_reads : (done : List Given) (last : Option Given) (word : Text) (more : List Text) → IsKnown last
+      → IsLong word ⊎ (IsShort word ⊎ IsPlain word) → Reads more
       → verdict (idle_at done last) (word ∷ more) ≡ target done last (given_by None (word ∷ more))
-  idle_reads done last word more l (inl w) next = long_by_name done last word more w (required_of names w.name) l refl next ∙ sym (rw w.option refl)
-  idle_reads done last word more l (inr (inl w)) next = verdict-refused _ word more _ _ (turn-short names done (pend last) word w) ∙ sym (rw w.option refl)
+  idle_reads done last word more l (inl w) next = long_by_name done last word more w (required_of names w.name) l refl next
+      ∙ sym (rw w.option refl)
+  idle_reads done last word more l (inr (inl w)) next = verdict-refused _ word more _ _ (turn-short names done (pend last) word w)
+      ∙ sym (rw w.option refl)
   idle_reads done last word more l (inr (inr w)) next =
       verdict-refused _ word more _ _ (turn-stray names (held_at done (pend last)) word w) ∙ sym (rw w.option refl)
 
   -- ---- a word where an option waits for its value
 
-  missing : (done : List Given) (name : Text) (required : Bool) (word : Text) (more : List Text) (w : IsLong word) (found : Option Bool) → required_of names name ≡ Some required
+  missing : (done : List Given) (name : Text) (required : Bool) (word : Text) (more : List Text) (w : IsLong word) (found : Option Bool)
+      → required_of names name ≡ Some required
       → required_of names w.name ≡ found → verdict (wait_at done name) (word ∷ more) ≡ None
   missing done name required word more w (Some other) k l =
       verdict-refused _ word more _ _ (turn-missing names done name required word w.name w.value other w refl refl k l)
   missing done name required word more w None k l = verdict-refused _ word more _ _ (turn-missing_unknown names done name word w l)
 
   wait_reads : (done : List Given) (name : Text) (required : Bool) (word : Text) (more : List Text) → required_of names name ≡ Some required
-      → IsLong word ⊎ (IsShort word ⊎ IsPlain word) → Reads more → verdict (wait_at done name) (word ∷ more) ≡ target done None (given_by (Some name) (word ∷ more))
+      → IsLong word ⊎ (IsShort word ⊎ IsPlain word) → Reads more
+      → verdict (wait_at done name) (word ∷ more) ≡ target done None (given_by (Some name) (word ∷ more))
   wait_reads done name required word more k (inl w) next =
       missing done name required word more w (required_of names w.name) k refl ∙ sym (rw w.hyphen refl)
-  wait_reads done name required word more k (inr (inl w)) next = verdict-refused _ word more _ _ (turn-missing_short names done name word w) ∙ sym (rw w.hyphen refl)
+  wait_reads done name required word more k (inr (inl w)) next = verdict-refused _ word more _ _
+      (turn-missing_short names done name word w) ∙ sym (rw w.hyphen refl)
   wait_reads done name required word more k (inr (inr w)) next =
-      verdict-goes_on _ (idle_at done (Some (name, word))) word more (turn-value names done name word w) (walked-value names done name required word w k)
+      verdict-goes_on _ (idle_at done (Some (name, word))) word more (turn-value names done name word w)
+      (walked-value names done name required word w k)
       ∙ next.0 done (Some (name, word)) (required, k) ∙ sym (target-waited done (name, word) (given_by None more)) ∙ sym (rw w.hyphen refl)
 
   or_false : (a b : Bool) → (a || b) ≡ false → (a ≡ false) × (b ≡ false)
@@ -276,8 +306,10 @@ module _ (names : List Named) where
   reads (word ∷ more) texts full =
       let parts = or_false (is_bare word) (list_any is_bare more) full in
       let view = word_view word texts.0 parts.0 in
-      let next = reads more texts.1 parts.1 in
-      (λ done last k. idle_reads done last word more k view next, λ done name required k. wait_reads done name required word more k view next)
+      let next = reads more texts.1 parts.1 in (
+        λ done last k. idle_reads done last word more k view next,
+        λ done name required k. wait_reads done name required word more k view next,
+      )
 
   -- the rows of the options that the words give, where each is known and none is given twice
   pub verdict_is : (words : List Text) → AreTexts words → list_any is_bare words ≡ false

@@ -50,10 +50,12 @@ module _ (names : List Named) where
   rules = map built_rule names
 
   -- the rule of a name that the command has
-  pub long-known : (name : Text) (required : Bool) → required_of names name ≡ Some required → arg_by_long rules name ≡ Some (built_rule (name, required))
+  pub long-known : (name : Text) (required : Bool) → required_of names name ≡ Some required
+      → arg_by_long rules name ≡ Some (built_rule (name, required))
   long-known name required e = arg_by_long-named names name ∙ ap (option_map (λ r. built_rule (name, r))) e
 
-  pub id-known : (name : Text) (required : Bool) → required_of names name ≡ Some required → arg_by_id rules name ≡ Some (built_rule (name, required))
+  pub id-known : (name : Text) (required : Bool) → required_of names name ≡ Some required
+      → arg_by_id rules name ≡ Some (built_rule (name, required))
   id-known name required e = arg_by_id-named names name ∙ ap (option_map (λ r. built_rule (name, r))) e
 
   pub long-unknown : (name : Text) → required_of names name ≡ None → arg_by_long rules name ≡ None
@@ -61,7 +63,8 @@ module _ (names : List Named) where
 
   -- ---- a word with two hyphens
 
-  pub turn-known : (h : Held) (word name : Text) (value : Option Text) (required : Bool) → (w : IsLong word) → w.name ≡ name → w.value ≡ value
+  pub turn-known : (h : Held) (word name : Text) (value : Option Text) (required : Bool) → (w : IsLong word) → w.name ≡ name
+      → w.value ≡ value
       → required_of names name ≡ Some required
       → turn_fault (built_shape names) [] (walk_at h idle) word ≡ option_fault rules false (built_rule (name, required)) value h
   turn-known h word name (Some v) required w n e k =
@@ -74,13 +77,15 @@ module _ (names : List Named) where
   turn-unknown h word w k = rw (w.more, w.long, long-unknown w.name k) refl
 
   -- the option is used with the value that is attached to it
-  pub walked-attached : (h : Held) (word name v : Text) (required : Bool) (w : IsLong word) → w.name ≡ name → w.value ≡ Some v → required_of names name ≡ Some required
+  pub walked-attached : (h : Held) (word name v : Text) (required : Bool) (w : IsLong word) → w.name ≡ name → w.value ≡ Some v
+      → required_of names name ≡ Some required
       → walked rules [] (walk_at h idle) word ≡ walk_at (reacted rules (built_rule (name, required)) (v ∷ []) h) idle
   unfolding walked
   walked-attached h word name v required w n e k = rw (w.more, w.long, n, e, long-known name required k) refl
 
   -- the option waits for its value
-  pub walked-named : (h : Held) (word name : Text) (required : Bool) (w : IsLong word) → w.name ≡ name → w.value ≡ None → required_of names name ≡ Some required
+  pub walked-named : (h : Held) (word name : Text) (required : Bool) (w : IsLong word) → w.name ≡ name → w.value ≡ None
+      → required_of names name ≡ Some required
       → walked rules [] (walk_at h idle) word ≡ walk_at (record (settled rules h) { pending = Some (name, []) }) (option name)
   unfolding walked
   walked-named h word name required w n e k = rw (w.more, w.long, n, e, long-known name required k) refl
@@ -94,12 +99,14 @@ module _ (names : List Named) where
 
   -- ---- a word without a hyphen
 
-  pub turn-stray : (h : Held) (word : Text) → IsPlain word → turn_fault (built_shape names) [] (walk_at h idle) word ≡ kind.UnknownArgument ∷ []
+  pub turn-stray : (h : Held) (word : Text) → IsPlain word → turn_fault (built_shape names) [] (walk_at h idle) word
+      ≡ kind.UnknownArgument ∷ []
   turn-stray h word w = rw (w.more, w.long, w.short, arg_by_index-named names 1) refl
 
   -- ---- a word where an option waits for its value
 
-  pub turn-missing : (done : List Given) (name : Text) (required : Bool) (word next : Text) (value : Option Text) (other : Bool) (w : IsLong word) → w.name ≡ next
+  pub turn-missing : (done : List Given) (name : Text) (required : Bool) (word next : Text) (value : Option Text) (other : Bool)
+      (w : IsLong word) → w.name ≡ next
       → w.value ≡ value → required_of names name ≡ Some required → required_of names next ≡ Some other
       → turn_fault (built_shape names) [] (walk_at (held_at done (Some (name, []))) (option name)) word ≡ kind.InvalidValue ∷ []
   turn-missing done name required word next (Some v) other w n e k l =
@@ -121,7 +128,9 @@ module _ (names : List Named) where
   turn-value done name word w = rw (w.more, w.long, w.short) refl
 
   -- the word is the value
-  pub walked-value : (done : List Given) (name : Text) (required : Bool) (word : Text) → IsPlain word → required_of names name ≡ Some required
-      → walked rules [] (walk_at (held_at done (Some (name, []))) (option name)) word ≡ walk_at (held_at done (with_value (name, word))) idle
+  pub walked-value : (done : List Given) (name : Text) (required : Bool) (word : Text) → IsPlain word
+      → required_of names name ≡ Some required
+      → walked rules [] (walk_at (held_at done (Some (name, []))) (option name)) word
+      ≡ walk_at (held_at done (with_value (name, word))) idle
   unfolding walked
   walked-value done name required word w k = rw (w.more, w.long, w.short, id-known name required k, same_as_itself name) refl

@@ -5,3 +5,4 @@ pub mod ClapTurns
 pub mod ClapReads
 pub mod ClapAgrees
 pub mod ModeReads
+mod Examples

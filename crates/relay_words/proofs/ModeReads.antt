@@ -50,7 +50,8 @@ fault_in words = level_fault (built mode_app).top [] nothing_held words false []
 fault_in-is : (words : List Text) → fault_of mode_app words ≡ fault_in words
 fault_in-is words =
     let stop = (walk (built mode_app).top.rules [] nothing_held words).stopped in
-    ap₂ (λ e f. level_fault (built mode_app).top [] nothing_held words (is_some e) f) (no_entry (built mode_app).top stop) (no_entry_fault (built mode_app).top stop)
+    ap₂ (λ e f. level_fault (built mode_app).top [] nothing_held words (is_some e) f) (no_entry (built mode_app).top stop)
+    (no_entry_fault (built mode_app).top stop)
 
 no_word : fault_in [] ≡ kind.MissingRequiredArgument ∷ []
 unfolding walk_fault defaults_fault
@@ -76,11 +77,13 @@ long_second : (word next : Text) (more : List Text) → IsPlain word → IsLong 
 unfolding walk_fault walked
 long_second word next more v w = rw (v.more, v.long, v.short, w.more, w.long) refl
 
-short_second : (word next : Text) (more : List Text) → IsPlain word → IsShort next → fault_in (word ∷ next ∷ more) ≡ kind.UnknownArgument ∷ []
+short_second : (word next : Text) (more : List Text) → IsPlain word → IsShort next
+    → fault_in (word ∷ next ∷ more) ≡ kind.UnknownArgument ∷ []
 unfolding walk_fault walked flags_fault
 short_second word next more v w = rw (v.more, v.long, v.short, w.more, w.long, w.short, w.chars) refl
 
-plain_second : (word next : Text) (more : List Text) → IsPlain word → IsPlain next → fault_in (word ∷ next ∷ more) ≡ kind.UnknownArgument ∷ []
+plain_second : (word next : Text) (more : List Text) → IsPlain word → IsPlain next
+    → fault_in (word ∷ next ∷ more) ≡ kind.UnknownArgument ∷ []
 unfolding walk_fault walked
 plain_second word next more v w = rw (v.more, v.long, v.short, w.more, w.long, w.short) refl
 
@@ -117,7 +120,8 @@ its_mode (word ∷ []) texts full e =
 its_mode (word ∷ next ∷ more) texts full e =
     let first = or_false (is_bare word) (is_bare next || list_any is_bare more) full in
     let second = or_false (is_bare next) (list_any is_bare more) first.1 in
-    taken_more word next more (word_view word texts.0 first.0) (word_view next texts.1.0 second.0) (sym (fault_in-is (word ∷ next ∷ more)) ∙ e)
+    taken_more word next more (word_view word texts.0 first.0) (word_view next texts.1.0 second.0)
+    (sym (fault_in-is (word ∷ next ∷ more)) ∙ e)
 
 refused_one : (word : Text) → View word → fault_in (word ∷ []) ≢ [] → mode_named word ≡ None
 refused_one word (inl w) fault = mode_named-hyphen word w.hyphen

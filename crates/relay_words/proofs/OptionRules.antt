@@ -33,20 +33,24 @@ same_as_itself a = (bytes_eq-Decides a a).1 refl
 abbrev rule_for : Text → Bool → Rule
 rule_for name required = built_rule (name, required)
 
-pub arg_by_id-named : (names : List Named) (name : Text) → arg_by_id (map built_rule names) name ≡ option_map (rule_for name) (required_of names name)
+pub arg_by_id-named : (names : List Named) (name : Text) → arg_by_id (map built_rule names) name
+    ≡ option_map (rule_for name) (required_of names name)
 arg_by_id-named [] name = refl
 arg_by_id-named (n ∷ ns) name = go (bytes_eq n.0 name) refl (arg_by_id-named ns name)
   where
-    go : (b : Bool) → bytes_eq n.0 name ≡ b → arg_by_id (map built_rule ns) name ≡ option_map (rule_for name) (required_of ns name) → cond b (Some (built_rule n)) (arg_by_id (map built_rule ns) name)
+    go : (b : Bool) → bytes_eq n.0 name ≡ b → arg_by_id (map built_rule ns) name ≡ option_map (rule_for name) (required_of ns name)
+        → cond b (Some (built_rule n)) (arg_by_id (map built_rule ns) name)
         ≡ option_map (rule_for name) (option_map (λ m. m.1) (cond b (Some n) (find (λ m. bytes_eq m.0 name) ns)))
     go true e h = ap (λ m. Some (built_rule (m, n.1))) (same_text n.0 name e)
     go false e h = h
 
-pub arg_by_long-named : (names : List Named) (name : Text) → arg_by_long (map built_rule names) name ≡ option_map (rule_for name) (required_of names name)
+pub arg_by_long-named : (names : List Named) (name : Text) → arg_by_long (map built_rule names) name
+    ≡ option_map (rule_for name) (required_of names name)
 arg_by_long-named [] name = refl
 arg_by_long-named (n ∷ ns) name = go (bytes_eq n.0 name) refl (arg_by_long-named ns name)
   where
-    go : (b : Bool) → bytes_eq n.0 name ≡ b → arg_by_long (map built_rule ns) name ≡ option_map (rule_for name) (required_of ns name) → cond (b || false) (Some (built_rule n)) (arg_by_long (map built_rule ns) name)
+    go : (b : Bool) → bytes_eq n.0 name ≡ b → arg_by_long (map built_rule ns) name ≡ option_map (rule_for name) (required_of ns name)
+        → cond (b || false) (Some (built_rule n)) (arg_by_long (map built_rule ns) name)
         ≡ option_map (rule_for name) (option_map (λ m. m.1) (cond b (Some n) (find (λ m. bytes_eq m.0 name) ns)))
     go true e h = ap (λ m. Some (built_rule (m, n.1))) (same_text n.0 name e)
     go false e h = h
@@ -55,7 +59,8 @@ pub is_known-required_of : (names : List Named) (name : Text) → is_known names
 is_known-required_of [] name = refl
 is_known-required_of (n ∷ ns) name = go (bytes_eq n.0 name) (is_known-required_of ns name)
   where
-    go : (b : Bool) → is_known ns name ≡ is_some (required_of ns name) → (b || is_known ns name) ≡ is_some (option_map (λ m. m.1) (cond b (Some n) (find (λ m. bytes_eq m.0 name) ns)))
+    go : (b : Bool) → is_known ns name ≡ is_some (required_of ns name)
+        → (b || is_known ns name) ≡ is_some (option_map (λ m. m.1) (cond b (Some n) (find (λ m. bytes_eq m.0 name) ns)))
     go true h = refl
     go false h = h
 
@@ -74,7 +79,8 @@ pub has_row-given : (given : List Given) (name : Text) → has_row name (map row
 has_row-given [] name = refl
 has_row-given (g ∷ gs) name = go (bytes_eq g.0 name) (has_row-given gs name)
   where
-    go : (b : Bool) → has_row name (map row gs) ≡ is_some (value_of name gs) → (b || has_row name (map row gs)) ≡ is_some (option_map (λ h. h.1) (cond b (Some g) (find (λ h. bytes_eq h.0 name) gs)))
+    go : (b : Bool) → has_row name (map row gs) ≡ is_some (value_of name gs)
+        → (b || has_row name (map row gs)) ≡ is_some (option_map (λ h. h.1) (cond b (Some g) (find (λ h. bytes_eq h.0 name) gs)))
     go true h = refl
     go false h = h
 
@@ -84,7 +90,8 @@ at_row-new [] name change missing new = refl
 at_row-new (g ∷ gs) name change missing new = go (bytes_eq g.0 name) (at_row-new gs name change missing) new
   where
     go : (b : Bool) → (has_row name (map row gs) ≡ false → at_row name change missing (map row gs) ≡ map row gs ++ missing)
-        → (b || has_row name (map row gs)) ≡ false → cond b (change (row g) ++ map row gs) (row g ∷ at_row name change missing (map row gs)) ≡ row g ∷ (map row gs ++ missing)
+        → (b || has_row name (map row gs)) ≡ false → cond b (change (row g) ++ map row gs)
+        (row g ∷ at_row name change missing (map row gs)) ≡ row g ∷ (map row gs ++ missing)
     go true h e = absurd (true≢false e)
     go false h e = ap (λ rs. row g ∷ rs) (h e)
 
@@ -94,7 +101,8 @@ map-row-end (h ∷ hs) g = ap (λ rs. row h ∷ rs) (map-row-end hs g)
 
 -- a name that is new adds a row
 pub with_values-new : (given : List Given) (name value : Text) → has_row name (map row given) ≡ false
-    → with_values name (reading_of vp.String) CommandLine (value ∷ []) (without name (map row given)) ≡ map row (given ++ (name, value) ∷ [])
+    → with_values name (reading_of vp.String) CommandLine (value ∷ []) (without name (map row given))
+    ≡ map row (given ++ (name, value) ∷ [])
 with_values-new given name value new =
     let kept : without name (map row given) ≡ map row given = at_row-new given name (λ _. []) [] new ∙ append-nil (map row given) in
     ap (λ rs. with_values name (reading_of vp.String) CommandLine (value ∷ []) rs) kept

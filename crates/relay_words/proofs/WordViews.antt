@@ -48,8 +48,11 @@ name_in-clap : (text : List ℕ) → name_and_value text ≡ name_in text
 name_in-clap text = go (list_any (λ b. b == 61) text)
   where
     go : (b : Bool) → ◌≡◌ {A = List ℕ × Option (List ℕ)}
-        (before_first (λ x. x == 61) text, cond b (Some (after_first (λ x. x == 61) text)) None)
-        (before_first (λ x. x == 61) text, option_map (λ (c : List ℕ × List ℕ). c.1) (cond b (Some (before_first (λ x. x == 61) text, after_first (λ x. x == 61) text)) None))
+        (before_first (λ x. x == 61) text, cond b (Some (after_first (λ x. x == 61) text)) None) (
+          before_first (λ x. x == 61) text,
+          option_map (λ (c : List ℕ × List ℕ). c.1)
+              (cond b (Some (before_first (λ x. x == 61) text, after_first (λ x. x == 61) text)) None),
+        )
     go true = refl
     go false = refl
 
@@ -86,7 +89,8 @@ is_long a b (c ∷ cs) e f full = record {
   hyphen = e;
 }
 
-hyphen_view : (a b : ℕ) (bs : List ℕ) (second : Bool) → (b == 45) ≡ second → (a == 45) ≡ true → IsUtf8 (a ∷ b ∷ bs) → is_bare (a ∷ b ∷ bs) ≡ false
+hyphen_view : (a b : ℕ) (bs : List ℕ) (second : Bool) → (b == 45) ≡ second → (a == 45) ≡ true → IsUtf8 (a ∷ b ∷ bs)
+    → is_bare (a ∷ b ∷ bs) ≡ false
     → IsLong (a ∷ b ∷ bs) ⊎ (IsShort (a ∷ b ∷ bs) ⊎ IsPlain (a ∷ b ∷ bs))
 hyphen_view a b bs true f e utf8 full = inl (is_long a b bs e f full)
 hyphen_view a b bs false f e utf8 full = inr (inl (is_short a b bs e f utf8))

@@ -63,9 +63,12 @@ are_once before (g ∷ gs) = not (is_some (value_of g.0 before)) && are_once (be
 abbrev pub has_required : List Named → List Given → Bool
 has_required names given = not (list_any (λ n. n.1 && not (is_some (value_of n.0 given))) names)
 
--- the options that a program with these names is given: each is one of them, none comes twice, and the required ones are there
+-- each of the options is one that the program has, none comes twice, and the required ones are there
+abbrev pub are_right : List Named → List Given → Bool
+are_right names given = list_all (λ g. is_known names g.0) given && (are_once [] given && has_required names given)
+
+-- the options that a program with these names is given
 abbrev pub options_of : List Named → List (List ℕ) → Option (List Given)
 options_of names words =
     if list_any is_bare words then None
-    else given_by None words >>= (λ given. if list_all (λ g. is_known names g.0) given && (are_once [] given && has_required names given)
-    then Some given else None)
+    else given_by None words >>= (λ given. if are_right names given then Some given else None)

@@ -14,4 +14,5 @@ pub record Takes (a : App) (words : List (List ℕ)) (m : ArgMatches) : Type 0 w
 
 -- a word is bare, or clap finds a fault in the words
 abbrev pub Refuses : App → List (List ℕ) → Type 0
-Refuses a words = is_simple_and_free a ≡ true → (list_any is_bare words ≡ true) ⊎ ((list_any is_bare words ≡ false) × (fault_of a words ≢ []))
+Refuses a words =
+    is_simple_and_free a ≡ true → (list_any is_bare words ≡ true) ⊎ ((list_any is_bare words ≡ false) × (fault_of a words ≢ []))

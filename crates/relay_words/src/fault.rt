@@ -15,6 +15,7 @@ use std::alloc::AllocError;
 pub enum WordsFault {
     /// The words are none of the program's.
     Usage,
+    /// Memory ran out while the words were read.
     Memory,
 }
 
@@ -26,7 +27,7 @@ impl From<AllocError> for WordsFault {
     }
 }
 
-/// What a refusal of clap's comes to.
+/// What an error of clap's comes to; its text is dropped.
 pub fn words_fault(error: Error) -> WordsFault
     ensures { result ≡ Usage → kind_of error ≢ OutOfMemory }
 {

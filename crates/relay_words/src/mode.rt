@@ -27,7 +27,10 @@ pub enum Mode {
     Pairs,
 }
 
-/// Reads the words after the program's name: they are one mode word.
+/// Reads the words after the program's name: they are one mode word, `relay`, `buffers`, `base` or `pairs`.
+///
+/// `Usage` for all other words, `--help` and `--version` among them. `Memory` where memory runs out, whatever the words are. Takes
+/// memory for what clap keeps of the words, and gives it back. The time is linear in their length.
 ///
 /// Own.
 pub fn mode_words(alloc: Global, words: &[String]) -> Result<Mode, WordsFault>
@@ -41,9 +44,10 @@ pub fn mode_words(alloc: Global, words: &[String]) -> Result<Mode, WordsFault>
     }
 }
 
-/// What clap reads of the words.
+/// What clap makes of the words: it has the mode word, where there is one.
 fn mode_matches<'a>(alloc: Global, words: &'a [String]) -> Result<ArgMatches<'a>, WordsFault>
-    ensures read { IfOk result (λ m. mode_of (map string_bytes words.now) ≡ option_and_then mode_named (first_value (found_of m) (codes "mode"))) }
+    ensures read { IfOk result (λ m. mode_of (map string_bytes words.now)
+        ≡ option_and_then mode_named (first_value (found_of m) (codes "mode"))) }
     ensures refused { IfErr result (λ fault. fault ≡ Usage → mode_of (map string_bytes words.now) ≡ None) }
 {
     parsed(mode_command(alloc)?, words)
@@ -64,6 +68,7 @@ fn mode_arg<'a>(alloc: Global) -> Arg<'a>
         .required(true)
 }
 
+/// The mode of a word.
 fn mode_named(word: &str) -> Option<Mode>
     ensures { result ≡ mode_named word.now }
 {

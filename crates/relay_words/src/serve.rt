@@ -32,7 +32,12 @@ pub struct ServeWords {
     pub settings: Settings,
 }
 
-/// Reads the words after the program's name.
+/// Reads the words after the program's name: `--listen A`, `--to A` and `--links N` are required, and `--hold N`, `--in-read F`,
+/// `--in-write F`, `--out-read F` and `--out-write F` may be left out; each at most once, as one word with `=` or as two.
+///
+/// `Usage` for all other words, `--help` and `--version` among them. A word that is empty, `-` or `--` is refused wherever it stands.
+/// `Memory` where memory runs out, whatever the words are. Takes memory for what clap keeps of the words, and gives it back. The time
+/// is linear in their length.
 ///
 /// Own.
 pub fn serve_words(alloc: Global, words: &[String]) -> Result<ServeWords, WordsFault>
@@ -46,6 +51,7 @@ pub fn serve_words(alloc: Global, words: &[String]) -> Result<ServeWords, WordsF
     }
 }
 
+/// What options come to, by the values that clap has for them.
 fn serve_values(matches: &ArgMatches<'_>) -> Option<ServeWords>
     ensures { result ≡ serve_by (first_value (found_of matches.now)) }
 {
@@ -74,6 +80,7 @@ fn serve_values(matches: &ArgMatches<'_>) -> Option<ServeWords>
     })
 }
 
+/// The hold mark that a word spells, or the usual one where there is no word.
 fn hold_or(usual: u64, word: Option<&str>) -> Option<u64>
     ensures { result ≡ unless_given usual hold_of (option_map (λ w. w.now) word.entry) }
 {
@@ -83,6 +90,7 @@ fn hold_or(usual: u64, word: Option<&str>) -> Option<u64>
     }
 }
 
+/// The filter that a word names, or the usual one where there is no word.
 fn filter_or(usual: FilterKind, word: Option<&str>) -> Option<FilterKind>
     ensures { result ≡ unless_given usual filter_kind_of (option_map (λ w. w.now) word.entry) }
 {

@@ -11,7 +11,9 @@ returns c =
     let texts = strings_are_texts c.args.words.now in
     let is = c.in_ok-serve_command.ensures in
     record {
-      read = IfOk-weaker c.parsed.result _ _ (λ m taken. serve_taken words m texts (subst (λ a. Takes a words m) is taken)) c.parsed.ensures.taken;
-      refused = IfErr-weaker c.parsed.result _ _ (λ fault refuses usage. serve_refused words texts (subst (λ a. Refuses a words) is (refuses usage)))
+      read = IfOk-weaker c.parsed.result _ _ (λ m taken. serve_taken words m texts
+          (subst (λ a. Takes a words m) is taken)) c.parsed.ensures.taken;
+      refused = IfErr-weaker c.parsed.result _ _ (λ fault refuses usage. serve_refused words texts
+          (subst (λ a. Refuses a words) is (refuses usage)))
           c.parsed.ensures.refused;
     }

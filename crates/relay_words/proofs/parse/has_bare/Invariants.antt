@@ -4,4 +4,5 @@ use Rattle.relay_words.specs.Options.{is_bare}
 use Rattle.relay_words.proofs.parse.has_bare.Given as goal
 
 abbrev pub invariant-loop-word : goal.invariant-loop-word
-invariant-loop-word l = list_any (λ w. is_bare (string_bytes w)) (drop l.word-index l.words) ≡ list_any (λ w. is_bare (string_bytes w)) l.words
+invariant-loop-word l = list_any (λ w. is_bare (string_bytes w)) (drop l.word-index l.words)
+    ≡ list_any (λ w. is_bare (string_bytes w)) l.words

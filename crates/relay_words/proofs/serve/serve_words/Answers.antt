@@ -6,7 +6,8 @@ use Rattle.relay_words.specs.ServeGrammar.{serve_by, serve_names, serve_words_of
 use Rattle.relay_words.proofs.serve.serve_words.Goals as goal
 
 -- the words come to what their values come to
-by_values : (words : List (List ℕ)) (f : List ℕ → Option (List ℕ)) → IsSomeAnd (options_of serve_names words) (λ given. (name : List ℕ) → f name ≡ value_of name given)
+by_values : (words : List (List ℕ)) (f : List ℕ → Option (List ℕ))
+    → IsSomeAnd (options_of serve_names words) (λ given. (name : List ℕ) → f name ≡ value_of name given)
     → serve_words_of words ≡ serve_by f
 by_values words f given = go (options_of serve_names words) given
   where
