@@ -1,0 +1,8 @@
+pub mod CutLemmas
+pub mod OptionRules
+pub mod WordViews
+pub mod ClapTurns
+pub mod ClapReads
+pub mod ClapAgrees
+pub mod ModeReads
+mod Examples

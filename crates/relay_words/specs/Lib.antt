@@ -1,0 +1,6 @@
+pub mod Values
+pub mod Options
+pub mod ServeGrammar
+pub mod Clap
+pub mod Parse
+pub mod ModeGrammar

@@ -1,0 +1,17 @@
+//! The words of the programs' command lines, read and judged: those of `evrelay`, which name their options, and the one mode word of
+//! `evplay`. What the programs do with them stands elsewhere.
+#![tactic(auto)]
+
+mod fault;
+mod mode;
+mod options;
+mod parse;
+mod serve;
+mod values;
+
+pub use fault::WordsFault;
+pub use mode::{Mode, mode_words};
+pub use serve::{ServeWords, serve_words};
+
+#[cfg(test)]
+mod tests;
