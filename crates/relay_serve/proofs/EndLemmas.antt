@@ -1,5 +1,5 @@
 -- How a run ended, from what its turns came to.
-use Rattle.std.proofs.Common.{◌≡◌, ◌≢◌, ◌⊎◌, inl, inr, ℕ, zero, suc, ◌+◌, Bool, true, false, ◌||◌, ◌&&◌, if◌then◌else◌, List, [], ◌∷◌, ◌++◌, refl, sym, ◌∙◌, ap, subst, arith, fold, Result, Ok, Err}
+use Rattle.std.proofs.Common.{◌≡◌, ◌≢◌, ◌⊎◌, inl, inr, ℕ, zero, suc, ◌+◌, Bool, true, false, ◌||◌, ◌&&◌, if◌then◌else◌, List, [], ◌∷◌, ◌++◌, refl, sym, ◌∙◌, ap, subst, arith, fold, Result, Ok, Err, Option, Some, None}
 use Rattle.std.specs.Prelude.{MatchResult}
 use Rattle.std.specs.List.{list_any, All}
 use Rattle.std.proofs.lemmas.List.Elements.{All-nil, All-cons, All-append}
@@ -43,7 +43,7 @@ use Rattle.relay_drive.proofs.GoesLemmas.{Grew-none, Heard-join}
 use Rattle.relay_drive.proofs.HeardLemmas.{Heard-open}
 use Rattle.run_end.specs.EndStatus.{status_of}
 use Rattle.relay_serve.specs.Seen.{Seen, Drained}
-use Rattle.relay_serve.specs.Served.{settings_on, BeganSo, IsServed, EndedAs, ReportedAll, RanOut, Did}
+use Rattle.relay_serve.specs.Served.{settings_on, BeganSo, IsServed, EndedAs, ReportedAll, RanOut, Did, DidWith}
 use Rattle.relay_serve.specs.Underway.{TurnsWent, TurnsCut, IsServedOut, RanTo, Reported, ended_as}
 use Rattle.relay_serve.proofs.TurnsLemmas.{built}
 
@@ -269,3 +269,19 @@ did route ended result old new s before after ran told = by_result result told
     by_result status.ReadFault h = never status.ReadFault (sym h.0) (λ r. r.1)
     by_result (status.Stopped link turn) h = never (status.Stopped link turn) (sym h.0) (λ r. r.1)
     by_result status.TooLong h = never status.TooLong (sym h.0) (λ r. r.1)
+
+-- Words
+
+-- memory ran out while the words were read
+pub words-lacked : (o : Option Route) (old : Seen) (before : Drained) → DidWith o status.Memory old old before before
+words-lacked None old before = (inr refl, refl, refl)
+words-lacked (Some route) old before = inr (inr refl)
+
+-- the words are not in the grammar
+pub words-refused : (o : Option Route) (old : Seen) (before : Drained) → o ≡ None → DidWith o status.Usage old old before before
+words-refused o old before is = subst (λ z. DidWith z status.Usage old old before before) (sym is) (inl refl, refl, refl)
+
+-- they are
+pub words-taken : (o : Option Route) (route : Route) (ended : Status) (old new : Seen) (before after : Drained) → o ≡ Some route →
+    Did route ended old new before after → DidWith o ended old new before after
+words-taken o route ended old new before after is h = subst (λ z. DidWith z ended old new before after) (sym is) h

@@ -1,5 +1,5 @@
 -- What `serve` says of the run that it made over a port.
-use Rattle.std.specs.Prelude.{◌≡◌, ◌≢◌, ◌⊎◌, ℕ, ◌<◌, Bool, true, false, List, [], length, take, All}
+use Rattle.std.specs.Prelude.{◌≡◌, ◌≢◌, ◌⊎◌, ℕ, ◌<◌, Bool, true, false, List, [], length, take, All, Option, Some, None}
 use Rattle.ev_types.specs.declared.addr.Addr.{Addr}
 use Rattle.ev_types.specs.declared.side.SideId.{SideId}
 use Rattle.ev_types.specs.declared.status.LinkCount.{LinkCount}
@@ -96,3 +96,8 @@ Did route status.ReadFault old new before after = ⊥
 Did route (status.Stopped link turn) old new before after = ⊥
 Did route status.TooLong old new before after = ⊥
 Did route ended old new before after = ReportedAll route ended old new before after
+
+-- Words that are not in the grammar do nothing, and what a call did with the others.
+abbrev pub DidWith : Option Route → Status → Seen → Seen → Drained → Drained → Type 0
+DidWith None ended old new before after = ((ended ≡ status.Usage) ⊎ (ended ≡ status.Memory)) × (new ≡ old) × (after ≡ before)
+DidWith (Some route) ended old new before after = Did route ended old new before after

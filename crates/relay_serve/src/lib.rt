@@ -4,5 +4,7 @@
 
 mod report;
 mod run;
+mod top;
 
 pub use run::relay;
+pub use top::serve;

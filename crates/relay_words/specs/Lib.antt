@@ -4,3 +4,4 @@ pub mod ServeGrammar
 pub mod Clap
 pub mod Parse
 pub mod ModeGrammar
+pub mod WordsStatus

@@ -6,7 +6,7 @@ use Rattle.script_text.specs.ValueGrammar.{◌>>=◌}
 use Rattle.relay_settings.specs.Usual.{usual}
 use Rattle.relay_words.specs.Options.{Named, options_of, value_of}
 use Rattle.relay_words.specs.Values.{addr_named, positive_within}
-use Rattle.relay_words.specs.declared.serve.ServeWords.{ServeWords}
+use Rattle.relay_settings.specs.declared.route.Route.{Route}
 
 -- the options, and whether each is required
 abbrev pub serve_names : List Named
@@ -20,7 +20,7 @@ unless_given otherwise read (Some word) = read word
 unless_given otherwise read _ = Some otherwise
 
 -- what options come to, by the value that each name was given
-abbrev pub serve_by : (List ℕ → Option (List ℕ)) → Option ServeWords
+abbrev pub serve_by : (List ℕ → Option (List ℕ)) → Option Route
 serve_by value = do
   listen ← value (codes "listen") >>= addr_named
   to ← value (codes "to") >>= addr_named
@@ -44,5 +44,5 @@ serve_by value = do
   })
 
 -- what words come to
-abbrev pub serve_words_of : List (List ℕ) → Option ServeWords
+abbrev pub serve_words_of : List (List ℕ) → Option Route
 serve_words_of words = options_of serve_names words >>= (λ given. serve_by (λ name. value_of name given))

@@ -3,9 +3,11 @@ ghost use Rattle.std.specs.Prelude.{◌≡◌, ◌≢◌};
 ghost use Rattle.clap.specs.Values.{kind_of};
 ghost use Rattle.clap.specs.declared.error.kind.ErrorKind.TheVariants.{OutOfMemory};
 ghost use Rattle.relay_words.specs.declared.fault.WordsFault.TheVariants.{Usage, Memory};
+ghost use Rattle.relay_words.specs.WordsStatus.{status_of_words};
 
 use clap::Error;
 use clap::error::ErrorKind;
+use ev_types::Status;
 use std::alloc::AllocError;
 
 /// Why the words of a command line are not taken.
@@ -17,6 +19,18 @@ pub enum WordsFault {
     Usage,
     /// Memory ran out while the words were read.
     Memory,
+}
+
+impl WordsFault {
+    /// How a program ends with such words.
+    pub fn status(self) -> Status
+        ensures { result ≡ status_of_words self }
+    {
+        match self {
+            WordsFault::Usage => Status::Usage,
+            WordsFault::Memory => Status::Memory,
+        }
+    }
 }
 
 impl From<AllocError> for WordsFault {

@@ -11,7 +11,8 @@ mod values;
 
 pub use fault::WordsFault;
 pub use mode::{Mode, mode_words};
-pub use serve::{ServeWords, serve_words};
+pub use relay_settings::Route;
+pub use serve::serve_words;
 
 #[cfg(test)]
 mod tests;

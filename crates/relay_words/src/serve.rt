@@ -11,8 +11,8 @@ use crate::fault::WordsFault;
 use crate::options::serve_options;
 use crate::values::{read_addr, read_positive};
 use clap::ArgMatches;
-use ev_types::{Addr, FilterKind};
-use relay_settings::Settings;
+use ev_types::FilterKind;
+use relay_settings::{Route, Settings};
 use script_text::filter_named;
 use std::alloc::Global;
 
@@ -22,16 +22,6 @@ const MAX_LINKS: u64 = u16::MAX as u64;
 /// The most bytes of a hold mark.
 const MAX_HOLD: u64 = 1 << 24;
 
-/// What the words of `evrelay` ask for: where it listens, where it connects to, and the settings of its run.
-///
-/// Own.
-#[derive(Clone, Copy, Debug, PartialEq, Eq)]
-pub struct ServeWords {
-    pub listen: Addr,
-    pub to: Addr,
-    pub settings: Settings,
-}
-
 /// Reads the words after the program's name: `--listen A`, `--to A` and `--links N` are required, and `--hold N`, `--in-read F`,
 /// `--in-write F`, `--out-read F` and `--out-write F` may be left out; each at most once, as one word with `=` or as two.
 ///
@@ -40,7 +30,7 @@ pub struct ServeWords {
 /// is linear in their length.
 ///
 /// Own.
-pub fn serve_words(alloc: Global, words: &[String]) -> Result<ServeWords, WordsFault>
+pub fn serve_words(alloc: Global, words: &[String]) -> Result<Route, WordsFault>
     ensures read { IfOk result (λ found. serve_words_of (map string_bytes words.now) ≡ Some found) }
     ensures refused { IfErr result (λ fault. fault ≡ Usage → serve_words_of (map string_bytes words.now) ≡ None) }
 {
@@ -52,7 +42,7 @@ pub fn serve_words(alloc: Global, words: &[String]) -> Result<ServeWords, WordsF
 }
 
 /// What options come to, by the values that clap has for them.
-fn serve_values(matches: &ArgMatches<'_>) -> Option<ServeWords>
+fn serve_values(matches: &ArgMatches<'_>) -> Option<Route>
     ensures { result ≡ serve_by (first_value (found_of matches.now)) }
 {
     let listen = read_addr(matches.get_str("listen")?)?;
@@ -73,7 +63,7 @@ fn serve_values(matches: &ArgMatches<'_>) -> Option<ServeWords>
         out_write,
         ..usual
     };
-    Some(ServeWords {
+    Some(Route {
         listen,
         to,
         settings,

@@ -1,5 +1,5 @@
 // What no clause says: that calls answer with ample memory; and the words of the two programs, as a user may give them.
-use crate::{Mode, ServeWords, WordsFault, mode_words, serve_words};
+use crate::{Mode, Route, WordsFault, mode_words, serve_words};
 use ev_types::{Addr, FilterKind};
 use relay_settings::Settings;
 use std::alloc::Global;
@@ -198,7 +198,7 @@ fn right_words_come_to_their_values(rt: HostRuntime) -> Result<(), Fail> {
             out_write,
             ..Settings::usual()
         };
-        let wanted = ServeWords {
+        let wanted = Route {
             listen: LISTEN,
             to: TO,
             settings,
