@@ -1,5 +1,5 @@
 -- Clap finds no fault in the words exactly where they give options by the grammar, and keeps their values.
-use Rattle.std.proofs.Common.{◌≡◌, ◌≢◌, ◌∙◌, ◌&&◌, ◌||◌, ℕ, Bool, cond, true, false, not, refl, sym, ap, ap₂, List, [], ◌∷◌, ◌++◌, map, Option, Some, None, is_some, option_map, append-nil, append_assoc, true≢false, inl, inr}
+use Rattle.std.proofs.Common.{◌≡◌, ◌≢◌, ◌∙◌, ◌&&◌, ◌||◌, Bool, cond, true, false, not, refl, sym, ap, ap₂, List, [], ◌∷◌, ◌++◌, map, Option, Some, None, is_some, option_map, append-nil, append_assoc, true≢false, inl, inr}
 use Rattle.std.specs.Prelude.{option_and_then, slice_get, unwrap_or, IsSomeAnd}
 use Rattle.std.specs.Option.{option_map_or}
 use Rattle.clap.specs.Facts.{explicit_source}
@@ -11,9 +11,9 @@ use Rattle.clap.proofs.WalkLemmas.{first_value-rows}
 use Rattle.clap.specs.declared.parser.matches.Found.{Found}
 use Rattle.clap.specs.declared.parser.matches.ArgMatches.{ArgMatches}
 use Rattle.relay_words.specs.Parse.{Refuses, Takes}
-use Rattle.clap.specs.Faults.{check_fault, default_fault, defaults_fault, entered_fault, fault_of, is_simple_and_free, level_fault, settle_fault, walk_fault}
+use Rattle.clap.specs.Faults.{check_fault, default_fault, defaults_fault, fault_of, is_simple_and_free, level_fault, settle_fault, walk_fault}
 use Rattle.clap.specs.Takes.{is_given}
-use Rattle.clap.specs.Simple.{Shape, built, entered, is_simple, matches_of}
+use Rattle.clap.specs.Simple.{Shape, built, is_simple, matches_of}
 use Rattle.clap.specs.Walk.{Row, Text, first_of, has_row, nothing_held, rows_after, rows_of, settled, walk, walk_from, with_default}
 use Rattle.clap.specs.declared.error.kind.ErrorKind.TheVariants as kind
 use Rattle.relay_words.specs.Options.{Given, Named, are_once, given_by, has_required, is_bare, is_known, options_of, value_of}

@@ -1,14 +1,14 @@
 -- What clap makes of all the words: the options that the words give, each known and none given twice.
-use Rattle.std.proofs.Common.{◌≡◌, ◌∙◌, ◌&&◌, ◌||◌, ℕ, Bool, cond, true, false, not, refl, sym, ap, ap₂, List, [], ◌∷◌, ◌++◌, map, length, Option, Some, None, is_some, option_map, inl, inr, true≢false, append-nil, append_assoc, IsUtf8}
+use Rattle.std.proofs.Common.{◌≡◌, ◌∙◌, ◌&&◌, ◌||◌, Bool, cond, true, false, not, refl, sym, ap, List, [], ◌∷◌, ◌++◌, map, Option, Some, None, is_some, option_map, inl, inr, true≢false}
 use Rattle.std.specs.Prelude.{◌⊎◌, option_and_then}
-use Rattle.std.specs.List.{fold, list_all, list_any}
+use Rattle.std.specs.List.{fold, list_any}
 use Rattle.clap.specs.Kinds.{Kinds, or_else}
 use Rattle.clap.specs.Faults.{option_fault, settle_fault, turn_fault, use_fault, walk_fault}
 use Rattle.std.specs.Option.{option_map_or}
-use Rattle.clap.specs.Walk.{Held, Row, Rule, Text, Walk, idle, option, has_row, reacted, settled, settled_rows, used, walked}
+use Rattle.clap.specs.Walk.{Row, Rule, Text, Walk, idle, option, has_row, reacted, settled, settled_rows, used, walked}
 use Rattle.clap.specs.declared.error.kind.ErrorKind.{ErrorKind}
 use Rattle.clap.specs.declared.error.kind.ErrorKind.TheVariants as kind
-use Rattle.relay_words.specs.Options.{Given, Named, and_then, given_by, has_hyphen, is_bare, is_known, option_word, value_of}
+use Rattle.relay_words.specs.Options.{Given, Named, and_then, given_by, has_hyphen, is_bare, is_known, value_of}
 use Rattle.relay_words.proofs.OptionRules.{built_rule, has_row-given, is_known-required_of, required_of, row, with_values-new}
 use Rattle.relay_words.proofs.WordViews.{AreTexts, IsLong, IsPlain, IsShort, word_view}
 use Rattle.relay_words.proofs.ClapTurns.{built_shape, held_at, id-known, turn-known, turn-missing, turn-missing_short, turn-missing_unknown, turn-short, turn-stray, turn-unknown, turn-value, walk_at, walked-attached, walked-named, walked-value, with_value}

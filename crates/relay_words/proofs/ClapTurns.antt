@@ -1,10 +1,9 @@
 -- What clap makes of one word, where the command has only options that are named by their long forms.
-use Rattle.std.proofs.Common.{◌≡◌, ◌∙◌, ℕ, Bool, cond, true, false, refl, sym, ap, List, [], ◌∷◌, ◌++◌, map, length, Option, Some, None, is_some, option_map, codes}
-use Rattle.std.specs.Str.{bytes_eq}
+use Rattle.std.proofs.Common.{◌≡◌, ◌∙◌, Bool, true, false, refl, ap, List, [], ◌∷◌, map, Option, Some, None, option_map, codes}
 use Rattle.clap.specs.Kinds.{Kinds, or_else}
-use Rattle.clap.specs.Faults.{entered_fault, flags_fault, option_fault, settle_fault, turn_fault, use_fault}
+use Rattle.clap.specs.Faults.{entered_fault, flags_fault, option_fault, turn_fault}
 use Rattle.clap.specs.Simple.{Shape, entered, new_shape}
-use Rattle.clap.specs.Walk.{Held, Rule, Text, Waiting, Walk, arg_by_id, arg_by_index, arg_by_long, arg_by_short, idle, option, reacted, settled, walked}
+use Rattle.clap.specs.Walk.{Held, Rule, Text, Waiting, Walk, arg_by_id, arg_by_long, idle, option, reacted, settled, walked}
 use Rattle.clap.specs.declared.error.kind.ErrorKind.TheVariants as kind
 use Rattle.relay_words.specs.Options.{Given, Named}
 use Rattle.relay_words.proofs.OptionRules.{arg_by_id-named, arg_by_index-named, arg_by_long-named, arg_by_short-named, built_rule, required_of, row, same_as_itself}

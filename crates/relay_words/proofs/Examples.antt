@@ -1,5 +1,5 @@
 -- The grammar at a few words.
-use Rattle.std.proofs.Common.{◌≡◌, refl, codes, List, [], ◌∷◌, Some, None}
+use Rattle.std.proofs.Common.{◌≡◌, refl, codes, [], ◌∷◌, Some, None}
 use Rattle.ev_types.specs.declared.filter.FilterKind.TheVariants as filter
 use Rattle.relay_settings.specs.Usual.{usual}
 use Rattle.relay_words.specs.ModeGrammar.{mode_of}

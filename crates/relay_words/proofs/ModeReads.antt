@@ -1,5 +1,5 @@
 -- Clap finds no fault in the words exactly where they are one word without a hyphen.
-use Rattle.std.proofs.Common.{◌≡◌, ◌≢◌, ◌∙◌, ◌==◌, ◌&&◌, ◌||◌, ℕ, Bool, true, false, refl, sym, ap, ap₂, List, [], ◌∷◌, Option, Some, None, is_some, true≢false, codes, inl, inr}
+use Rattle.std.proofs.Common.{◌≡◌, ◌≢◌, ◌∙◌, ◌==◌, ◌||◌, Bool, true, false, refl, sym, ap, ap₂, List, [], ◌∷◌, None, is_some, true≢false, codes, inl, inr}
 use Rattle.std.specs.Prelude.{◌⊎◌, option_and_then}
 use Rattle.std.specs.List.{list_any}
 use Rattle.clap.specs.Kinds.{Kinds}
@@ -7,7 +7,7 @@ use Rattle.clap.specs.Matches.{first_value, found_of}
 use Rattle.clap.proofs.WalkLemmas.{first_value-rows}
 use Rattle.clap.specs.declared.parser.matches.ArgMatches.{ArgMatches}
 use Rattle.clap.specs.Faults.{defaults_fault, fault_of, flags_fault, is_simple_and_free, level_fault, walk_fault}
-use Rattle.clap.specs.Simple.{built, entered, is_simple, matches_of}
+use Rattle.clap.specs.Simple.{built, is_simple, matches_of}
 use Rattle.clap.specs.Walk.{Text, first_of, nothing_held, walk, walked}
 use Rattle.clap.specs.declared.error.kind.ErrorKind.{ErrorKind}
 use Rattle.clap.specs.declared.error.kind.ErrorKind.TheVariants as kind
