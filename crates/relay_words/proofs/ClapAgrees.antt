@@ -1,5 +1,5 @@
 -- Clap finds no fault in the words exactly where they give options by the grammar, and keeps their values.
-use Rattle.std.proofs.Common.{◌≡◌, ◌≢◌, ◌∙◌, ◌&&◌, ◌||◌, ℕ, Bool, cond, true, false, not, refl, sym, ap, ap₂, List, [], ◌∷◌, ◌++◌, map, Option, Some, None, is_some, option_map, append-nil, append_assoc, true≢false, inl, inr}
+use Rattle.std.proofs.Common.{◌≡◌, ◌≢◌, ◌∙◌, ◌&&◌, ◌||◌, Bool, cond, true, false, not, refl, sym, ap, ap₂, List, [], ◌∷◌, ◌++◌, map, Option, Some, None, is_some, option_map, append-nil, append_assoc, true≢false, inl, inr}
 use Rattle.std.specs.Prelude.{option_and_then, slice_get, unwrap_or, IsSomeAnd}
 use Rattle.std.specs.Option.{option_map_or}
 use Rattle.clap.specs.Facts.{explicit_source}
@@ -10,13 +10,13 @@ use Rattle.clap.specs.Matches.{first_value, found_of}
 use Rattle.clap.proofs.WalkLemmas.{first_value-rows}
 use Rattle.clap.specs.declared.parser.matches.Found.{Found}
 use Rattle.clap.specs.declared.parser.matches.ArgMatches.{ArgMatches}
-use Rattle.relay_words.specs.Parse.{Refuses, Takes}
-use Rattle.clap.specs.Faults.{check_fault, default_fault, defaults_fault, entered_fault, fault_of, is_simple_and_free, level_fault, settle_fault, walk_fault}
+use Rattle.relay_words.specs.Parse.{ClapRefuses, ClapTakes}
+use Rattle.clap.specs.Faults.{check_fault, default_fault, defaults_fault, fault_of, is_simple_and_free, level_fault, settle_fault, walk_fault}
 use Rattle.clap.specs.Takes.{is_given}
-use Rattle.clap.specs.Simple.{Shape, built, entered, is_simple, matches_of}
+use Rattle.clap.specs.Simple.{Shape, built, is_simple, matches_of}
 use Rattle.clap.specs.Walk.{Row, Text, first_of, has_row, nothing_held, rows_after, rows_of, settled, walk, walk_from, with_default}
 use Rattle.clap.specs.declared.error.kind.ErrorKind.TheVariants as kind
-use Rattle.relay_words.specs.Options.{Given, Named, are_once, given_by, has_required, is_bare, is_known, options_of, value_of}
+use Rattle.relay_words.specs.Options.{Chosen, Named, are_once, options_in, has_required, is_bare, has_name, options_of, value_for}
 use Rattle.relay_words.specs.ServeGrammar.{serve_names}
 use Rattle.relay_words.specs.Clap.{serve_app}
 use Rattle.relay_words.proofs.OptionRules.{built_rule, row}
@@ -26,22 +26,22 @@ use Rattle.relay_words.proofs.ClapReads.{extend, idle_at, is_nil, verdict, verdi
 
 -- ---- each option is known, and none is given twice
 
-abbrev are_fine : List Named → List Given → List Given → Bool
-are_fine names done gs = list_all (λ g. is_known names g.0) gs && are_once done gs
+abbrev are_fine : List Named → List Chosen → List Chosen → Bool
+are_fine names done gs = list_all (λ g. has_name names g.0) gs && are_once done gs
 
-extend-step : (known again all once : Bool) (r : Option (List Given))
+extend-step : (known again all once : Bool) (r : Option (List Chosen))
     → cond (known && not again) (cond (all && once) r None) None ≡ cond ((known && all) && (not again && once)) r None
 extend-step true false all once r = refl
 extend-step true true true once r = refl
 extend-step true true false once r = refl
 extend-step false again all once r = refl
 
-extend-all : (names : List Named) (done gs : List Given) → extend names done gs ≡ cond (are_fine names done gs) (Some (done ++ gs)) None
+extend-all : (names : List Named) (done gs : List Chosen) → extend names done gs ≡ cond (are_fine names done gs) (Some (done ++ gs)) None
 extend-all names done [] = ap (λ xs. Some xs) (sym (append-nil done))
 extend-all names done (g ∷ gs) =
-    ap (λ x. cond (is_known names g.0 && not (is_some (value_of g.0 done))) x None) (extend-all names (done ++ g ∷ []) gs
+    ap (λ x. cond (has_name names g.0 && not (is_some (value_for g.0 done))) x None) (extend-all names (done ++ g ∷ []) gs
     ∙ ap (λ xs. cond (are_fine names (done ++ g ∷ []) gs) (Some xs) None) (append_assoc done (g ∷ []) gs))
-    ∙ extend-step (is_known names g.0) (is_some (value_of g.0 done)) (list_all (λ h. is_known names h.0) gs)
+    ∙ extend-step (has_name names g.0) (is_some (value_for g.0 done)) (list_all (λ h. has_name names h.0) gs)
     (are_once (done ++ g ∷ []) gs) (Some (done ++ g ∷ gs))
 
 -- ---- what was given, among the rows
@@ -52,28 +52,29 @@ first o = option_and_then (λ (r : Row). slice_get r.values 0) o
 abbrev used : Option Row → Bool
 used o = option_map_or (λ (r : Row). explicit_source r.source) o false
 
-pub first_of-given : (given : List Given) (name : Text) → first_of name (map row given) ≡ value_of name given
+pub first_of-given : (given : List Chosen) (name : Text) → first_of name (map row given) ≡ value_for name given
 first_of-given [] name = refl
 first_of-given (g ∷ gs) name = go (bytes_eq g.0 name) (first_of-given gs name)
   where
-    go : (b : Bool) → first_of name (map row gs) ≡ value_of name gs
+    go : (b : Bool) → first_of name (map row gs) ≡ value_for name gs
         → first (cond b (Some (row g)) (find (λ r. bytes_eq r.id name) (map row gs)))
         ≡ option_map (λ h. h.1) (cond b (Some g) (find (λ h. bytes_eq h.0 name) gs))
     go true e = refl
     go false e = e
 
-is_given-given : (given : List Given) (name : Text) → is_given name (map row given) ≡ is_some (value_of name given)
+is_given-given : (given : List Chosen) (name : Text) → is_given name (map row given) ≡ is_some (value_for name given)
 is_given-given [] name = refl
 is_given-given (g ∷ gs) name = go (bytes_eq g.0 name) (is_given-given gs name)
   where
-    go : (b : Bool) → is_given name (map row gs) ≡ is_some (value_of name gs)
+    go : (b : Bool) → is_given name (map row gs) ≡ is_some (value_for name gs)
         → used (cond b (Some (row g)) (find (λ r. bytes_eq r.id name) (map row gs)))
         ≡ is_some (option_map (λ h. h.1) (cond b (Some g) (find (λ h. bytes_eq h.0 name) gs)))
     go true e = refl
     go false e = e
 
-lacks : (names : List Named) (given : List Given) → list_any (λ a. a.required && not (is_given a.id (map row given))) (map built_rule names)
-    ≡ list_any (λ n. n.1 && not (is_some (value_of n.0 given))) names
+lacks : (names : List Named) (given : List Chosen) → list_any (λ a. a.required && not (is_given a.id (map row given)))
+    (map built_rule names)
+    ≡ list_any (λ n. n.1 && not (is_some (value_for n.0 given))) names
 lacks [] given = refl
 lacks (n ∷ ns) given = ap₂ (λ b c. (n.1 && not b) || c) (is_given-given given n.0) (lacks ns given)
 
@@ -130,17 +131,17 @@ module _ (names : List Named) where
       (defaults-none names rows) (finished-same names rows)
       ∙ in_turn w s rows
 
-  checked-given : (given : List Given) → checked (map row given) ≡ cond (has_required names given) (Some (map row given)) None
+  checked-given : (given : List Chosen) → checked (map row given) ≡ cond (has_required names given) (Some (map row given)) None
   checked-given given = ap (λ b. cond (is_nil (cond b (kind.MissingRequiredArgument ∷ []) [])) (Some (map row given)) None)
       (lacks names given)
-      ∙ go (list_any (λ n. n.1 && not (is_some (value_of n.0 given))) names)
+      ∙ go (list_any (λ n. n.1 && not (is_some (value_for n.0 given))) names)
     where
       go : (b : Bool) → cond (is_nil (cond b (kind.MissingRequiredArgument ∷ []) [])) (Some (map row given)) None
           ≡ cond (not b) (Some (map row given)) None
       go true = refl
       go false = refl
 
-  in_all : (given : List Given) (known once required : Bool) → checked (map row given) ≡ cond required (Some (map row given)) None
+  in_all : (given : List Chosen) (known once required : Bool) → checked (map row given) ≡ cond required (Some (map row given)) None
       → option_and_then checked (option_map (map row) (cond (known && once) (Some given) None))
       ≡ option_map (map row) (cond (known && (once && required)) (Some given) None)
   in_all given true true true e = e
@@ -148,19 +149,19 @@ module _ (names : List Named) where
   in_all given true false required e = refl
   in_all given false once required e = refl
 
-  by_given : (o : Option (List Given)) → option_and_then checked (option_map (map row) (option_and_then (extend names []) o))
+  by_given : (o : Option (List Chosen)) → option_and_then checked (option_map (map row) (option_and_then (extend names []) o))
       ≡ option_map (map row) (option_and_then (λ given. cond
-      (list_all (λ g. is_known names g.0) given && (are_once [] given && has_required names given)) (Some given) None) o)
+      (list_all (λ g. has_name names g.0) given && (are_once [] given && has_required names given)) (Some given) None) o)
   by_given None = refl
   by_given (Some given) = ap (λ x. option_and_then checked (option_map (map row) x)) (extend-all names [] given)
-      ∙ in_all given (list_all (λ g. is_known names g.0) given) (are_once [] given) (has_required names given) (checked-given given)
+      ∙ in_all given (list_all (λ g. has_name names g.0) given) (are_once [] given) (has_required names given) (checked-given given)
 
   pub outcome_is : (words : List Text) → AreTexts words → list_any is_bare words ≡ false
       → outcome words ≡ option_map (map row) (options_of names words)
   outcome_is words texts full =
-      outcome-verdict words ∙ ap (option_and_then checked) (verdict_is names words texts full) ∙ by_given (given_by None words)
-      ∙ sym (ap (λ b. option_map (map row) (cond b None (option_and_then (λ given. cond (list_all (λ g. is_known names g.0) given
-      && (are_once [] given && has_required names given)) (Some given) None) (given_by None words)))) full)
+      outcome-verdict words ∙ ap (option_and_then checked) (verdict_is names words texts full) ∙ by_given (options_in None words)
+      ∙ sym (ap (λ b. option_map (map row) (cond b None (option_and_then (λ given. cond (list_all (λ g. has_name names g.0) given
+      && (are_once [] given && has_required names given)) (Some given) None) (options_in None words)))) full)
 
 -- ---- the command of the program that relays between sockets
 
@@ -184,17 +185,17 @@ pub serve_is_free : is_simple_and_free serve_app ≡ true
 serve_is_free = refl
 
 -- the values that clap has are those that were given
-values_are : (f : Found) (given : List Given) → rows_of f ≡ map row given → (name : Text) → first_value f name ≡ value_of name given
+values_are : (f : Found) (given : List Chosen) → rows_of f ≡ map row given → (name : Text) → first_value f name ≡ value_for name given
 values_are f given e name = first_value-rows f name ∙ ap (first_of name) e ∙ first_of-given given name
 
 -- where clap takes the words, they give options, and its values are theirs
-pub serve_taken : (words : List Text) (m : ArgMatches) → AreTexts words → Takes serve_app words m
-    → IsSomeAnd (options_of serve_names words) (λ given. (name : Text) → first_value (found_of m) name ≡ value_of name given)
+pub serve_taken : (words : List Text) (m : ArgMatches) → AreTexts words → ClapTakes serve_app words m
+    → IsSomeAnd (options_of serve_names words) (λ given. (name : Text) → first_value (found_of m) name ≡ value_for name given)
 serve_taken words m texts t = go (options_of serve_names words)
     (sym (ap (λ f. cond (is_nil f) (Some (matches_of serve_app words)) None) (t.fine serve_is_free)) ∙ serve_parse words texts t.full)
   where
-    go : (o : Option (List Given)) → Some (matches_of serve_app words) ≡ option_map (map row) o
-        → IsSomeAnd o (λ given. (name : Text) → first_value (found_of m) name ≡ value_of name given)
+    go : (o : Option (List Chosen)) → Some (matches_of serve_app words) ≡ option_map (map row) o
+        → IsSomeAnd o (λ given. (name : Text) → first_value (found_of m) name ≡ value_for name given)
     go None e = absurd (true≢false (ap is_some e))
     go (Some given) e = values_are (found_of m) given ((t.matches serve_is_simple).0 ∙ ap (λ o. unwrap_or o (matches_of serve_app words)) e)
 
@@ -203,7 +204,7 @@ faulty : (words : List Text) → AreTexts words → list_any is_bare words ≡ f
     → options_of serve_names words ≡ None
 faulty words texts full fault = go (fault_of serve_app words) refl
   where
-    ends : (o : Option (List Given)) → None ≡ option_map (map row) o → o ≡ None
+    ends : (o : Option (List Chosen)) → None ≡ option_map (map row) o → o ≡ None
     ends None h = refl
     ends (Some given) h = absurd (true≢false (ap is_some (sym h)))
 
@@ -213,7 +214,7 @@ faulty words texts full fault = go (fault_of serve_app words) refl
         (sym (ap (λ x. cond (is_nil x) (Some (matches_of serve_app words)) None) is) ∙ serve_parse words texts full)
 
 -- where the words are refused, they give no options
-pub serve_refused : (words : List Text) → AreTexts words → Refuses serve_app words → options_of serve_names words ≡ None
+pub serve_refused : (words : List Text) → AreTexts words → ClapRefuses serve_app words → options_of serve_names words ≡ None
 serve_refused words texts r = elim (r serve_is_free) [
   | inl bare ↦ rw bare refl
   | inr f ↦ faulty words texts f.0 f.1

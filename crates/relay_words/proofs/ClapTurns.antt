@@ -1,12 +1,11 @@
 -- What clap makes of one word, where the command has only options that are named by their long forms.
-use Rattle.std.proofs.Common.{◌≡◌, ◌∙◌, ℕ, Bool, cond, true, false, refl, sym, ap, List, [], ◌∷◌, ◌++◌, map, length, Option, Some, None, is_some, option_map, codes}
-use Rattle.std.specs.Str.{bytes_eq}
+use Rattle.std.proofs.Common.{◌≡◌, ◌∙◌, Bool, true, false, refl, ap, List, [], ◌∷◌, map, Option, Some, None, option_map, codes}
 use Rattle.clap.specs.Kinds.{Kinds, or_else}
-use Rattle.clap.specs.Faults.{entered_fault, flags_fault, option_fault, settle_fault, turn_fault, use_fault}
+use Rattle.clap.specs.Faults.{entered_fault, flags_fault, option_fault, turn_fault}
 use Rattle.clap.specs.Simple.{Shape, entered, new_shape}
-use Rattle.clap.specs.Walk.{Held, Rule, Text, Waiting, Walk, arg_by_id, arg_by_index, arg_by_long, arg_by_short, idle, option, reacted, settled, walked}
+use Rattle.clap.specs.Walk.{Held, Rule, Text, Waiting, Walk, arg_by_id, arg_by_long, idle, option, reacted, settled, walked}
 use Rattle.clap.specs.declared.error.kind.ErrorKind.TheVariants as kind
-use Rattle.relay_words.specs.Options.{Given, Named}
+use Rattle.relay_words.specs.Options.{Chosen, Named}
 use Rattle.relay_words.proofs.OptionRules.{arg_by_id-named, arg_by_index-named, arg_by_long-named, arg_by_short-named, built_rule, required_of, row, same_as_itself}
 use Rattle.relay_words.proofs.WordViews.{IsLong, IsPlain, IsShort}
 
@@ -22,14 +21,14 @@ built_shape names = record (new_shape (codes "evrelay")) {
 }
 
 -- what was given and was used, and what is pending
-abbrev pub held_at : List Given → Option (Text × List Text) → Held
+abbrev pub held_at : List Chosen → Option (Text × List Text) → Held
 held_at done pending = record { rows = map row done; pending = pending; skip = 0 }
 
 abbrev pub walk_at : Held → Waiting → Walk
 walk_at h waiting = record { held = h; waiting = waiting; position = 1; is_trailing = false; stopped = None }
 
 -- an option that has its value, which is used with the next option
-abbrev pub with_value : Given → Option (Text × List Text)
+abbrev pub with_value : Chosen → Option (Text × List Text)
 with_value g = Some (g.0, g.1 ∷ [])
 
 or_else-nil : (ks : Kinds) → or_else ks [] ≡ ks
@@ -92,7 +91,7 @@ module _ (names : List Named) where
 
   -- ---- a word with one hyphen
 
-  pub turn-short : (done : List Given) (pending : Option (Text × List Text)) (word : Text) → IsShort word
+  pub turn-short : (done : List Chosen) (pending : Option (Text × List Text)) (word : Text) → IsShort word
       → turn_fault (built_shape names) [] (walk_at (held_at done pending) idle) word ≡ kind.UnknownArgument ∷ []
   unfolding flags_fault
   turn-short done pending word w = rw (w.more, w.long, w.short, w.chars, arg_by_short-named names w.char) refl
@@ -105,7 +104,7 @@ module _ (names : List Named) where
 
   -- ---- a word where an option waits for its value
 
-  pub turn-missing : (done : List Given) (name : Text) (required : Bool) (word next : Text) (value : Option Text) (other : Bool)
+  pub turn-missing : (done : List Chosen) (name : Text) (required : Bool) (word next : Text) (value : Option Text) (other : Bool)
       (w : IsLong word) → w.name ≡ next
       → w.value ≡ value → required_of names name ≡ Some required → required_of names next ≡ Some other
       → turn_fault (built_shape names) [] (walk_at (held_at done (Some (name, []))) (option name)) word ≡ kind.InvalidValue ∷ []
@@ -114,21 +113,21 @@ module _ (names : List Named) where
   turn-missing done name required word next None other w n e k l =
       rw (w.more, w.long, n, e, long-known next other l, id-known name required k) refl
 
-  pub turn-missing_unknown : (done : List Given) (name : Text) (word : Text) (w : IsLong word) → required_of names w.name ≡ None
+  pub turn-missing_unknown : (done : List Chosen) (name : Text) (word : Text) (w : IsLong word) → required_of names w.name ≡ None
       → turn_fault (built_shape names) [] (walk_at (held_at done (Some (name, []))) (option name)) word ≡ kind.UnknownArgument ∷ []
   turn-missing_unknown done name word w k = rw (w.more, w.long, long-unknown w.name k) refl
 
-  pub turn-missing_short : (done : List Given) (name : Text) (word : Text) → IsShort word
+  pub turn-missing_short : (done : List Chosen) (name : Text) (word : Text) → IsShort word
       → turn_fault (built_shape names) [] (walk_at (held_at done (Some (name, []))) (option name)) word ≡ kind.UnknownArgument ∷ []
   unfolding flags_fault
   turn-missing_short done name word w = rw (w.more, w.long, w.short, w.chars, arg_by_short-named names w.char) refl
 
-  pub turn-value : (done : List Given) (name : Text) (word : Text) → IsPlain word
+  pub turn-value : (done : List Chosen) (name : Text) (word : Text) → IsPlain word
       → turn_fault (built_shape names) [] (walk_at (held_at done (Some (name, []))) (option name)) word ≡ []
   turn-value done name word w = rw (w.more, w.long, w.short) refl
 
   -- the word is the value
-  pub walked-value : (done : List Given) (name : Text) (required : Bool) (word : Text) → IsPlain word
+  pub walked-value : (done : List Chosen) (name : Text) (required : Bool) (word : Text) → IsPlain word
       → required_of names name ≡ Some required
       → walked rules [] (walk_at (held_at done (Some (name, []))) (option name)) word
       ≡ walk_at (held_at done (with_value (name, word))) idle

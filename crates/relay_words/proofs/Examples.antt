@@ -1,9 +1,9 @@
 -- The grammar at a few words.
-use Rattle.std.proofs.Common.{◌≡◌, refl, codes, List, [], ◌∷◌, Some, None}
+use Rattle.std.proofs.Common.{◌≡◌, refl, codes, [], ◌∷◌, Some, None}
 use Rattle.ev_types.specs.declared.filter.FilterKind.TheVariants as filter
 use Rattle.relay_settings.specs.Usual.{usual}
 use Rattle.relay_words.specs.ModeGrammar.{mode_of}
-use Rattle.relay_words.specs.Options.{given_by, option_word}
+use Rattle.relay_words.specs.Options.{options_in, option_word}
 use Rattle.relay_words.specs.ServeGrammar.{serve_words_of}
 use Rattle.relay_words.specs.Values.{addr_named, positive_within}
 use Rattle.relay_words.specs.declared.mode.Mode.TheVariants.{Buffers}
@@ -25,14 +25,14 @@ in_one_word : option_word (codes "--a=b=c") ≡ Some (codes "a", Some (codes "b=
 in_one_word = refl
 
 -- in one word a value may begin with `-`, in two it does not
-in_both_forms : given_by None (codes "--to" ∷ codes "a" ∷ codes "--links=-7" ∷ [])
+in_both_forms : options_in None (codes "--to" ∷ codes "a" ∷ codes "--links=-7" ∷ [])
     ≡ Some ((codes "to", codes "a") ∷ (codes "links", codes "-7") ∷ [])
 in_both_forms = refl
 
-no_hyphen : given_by None (codes "--links" ∷ codes "-7" ∷ []) ≡ None
+no_hyphen : options_in None (codes "--links" ∷ codes "-7" ∷ []) ≡ None
 no_hyphen = refl
 
-no_stray : given_by None (codes "--links=7" ∷ codes "7" ∷ []) ≡ None
+no_stray : options_in None (codes "--links=7" ∷ codes "7" ∷ []) ≡ None
 no_stray = refl
 
 words_in_any_order : serve_words_of (codes "--links=7" ∷ codes "--out-write" ∷ codes "hex-in" ∷ codes "--to" ∷ codes "1.2.3.4:5"

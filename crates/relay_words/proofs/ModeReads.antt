@@ -1,5 +1,5 @@
 -- Clap finds no fault in the words exactly where they are one word without a hyphen.
-use Rattle.std.proofs.Common.{◌≡◌, ◌≢◌, ◌∙◌, ◌==◌, ◌&&◌, ◌||◌, ℕ, Bool, true, false, refl, sym, ap, ap₂, List, [], ◌∷◌, Option, Some, None, is_some, true≢false, codes, inl, inr}
+use Rattle.std.proofs.Common.{◌≡◌, ◌≢◌, ◌∙◌, ◌==◌, ◌||◌, Bool, true, false, refl, sym, ap, ap₂, List, [], ◌∷◌, None, is_some, true≢false, codes, inl, inr}
 use Rattle.std.specs.Prelude.{◌⊎◌, option_and_then}
 use Rattle.std.specs.List.{list_any}
 use Rattle.clap.specs.Kinds.{Kinds}
@@ -7,14 +7,14 @@ use Rattle.clap.specs.Matches.{first_value, found_of}
 use Rattle.clap.proofs.WalkLemmas.{first_value-rows}
 use Rattle.clap.specs.declared.parser.matches.ArgMatches.{ArgMatches}
 use Rattle.clap.specs.Faults.{defaults_fault, fault_of, flags_fault, is_simple_and_free, level_fault, walk_fault}
-use Rattle.clap.specs.Simple.{built, entered, is_simple, matches_of}
+use Rattle.clap.specs.Simple.{built, is_simple, matches_of}
 use Rattle.clap.specs.Walk.{Text, first_of, nothing_held, walk, walked}
 use Rattle.clap.specs.declared.error.kind.ErrorKind.{ErrorKind}
 use Rattle.clap.specs.declared.error.kind.ErrorKind.TheVariants as kind
 use Rattle.relay_words.specs.Options.{has_hyphen, is_bare}
 use Rattle.relay_words.specs.ModeGrammar.{mode_named, mode_of}
 use Rattle.relay_words.specs.Clap.{mode_app}
-use Rattle.relay_words.specs.Parse.{Refuses, Takes}
+use Rattle.relay_words.specs.Parse.{ClapRefuses, ClapTakes}
 use Rattle.relay_words.proofs.OptionRules.{row}
 use Rattle.relay_words.proofs.WordViews.{AreTexts, IsLong, IsPlain, IsShort, same, word_view}
 use Rattle.relay_words.proofs.ClapTurns.{no_entry, no_entry_fault}
@@ -141,7 +141,7 @@ pub mode_is_free : is_simple_and_free mode_app ≡ true
 mode_is_free = refl
 
 -- where clap takes the words, they ask for the mode that its value names
-pub mode_taken : (words : List Text) (m : ArgMatches) → AreTexts words → Takes mode_app words m
+pub mode_taken : (words : List Text) (m : ArgMatches) → AreTexts words → ClapTakes mode_app words m
     → mode_of words ≡ option_and_then mode_named (first_value (found_of m) (codes "mode"))
 mode_taken words m texts t =
     let value : first_value (found_of m) (codes "mode") ≡ first_of (codes "mode") (matches_of mode_app words) =
@@ -149,7 +149,7 @@ mode_taken words m texts t =
     its_mode words texts t.full (t.fine mode_is_free) ∙ sym (ap (option_and_then mode_named) value)
 
 -- where the words are refused, they ask for no mode
-pub mode_refused : (words : List Text) → AreTexts words → Refuses mode_app words → mode_of words ≡ None
+pub mode_refused : (words : List Text) → AreTexts words → ClapRefuses mode_app words → mode_of words ≡ None
 mode_refused words texts r = elim (r mode_is_free) [
   | inl bare ↦ mode_of-bare words bare
   | inr f ↦ faulty words texts f.0 f.1

@@ -7,7 +7,7 @@ use Rattle.clap.specs.Walk.{Row, Rule, Text, arg_by_id, arg_by_index, arg_by_lon
 use Rattle.clap.specs.Values.{reading_of}
 use Rattle.clap.specs.declared.builder.value_parser.ValueParser.TheVariants as vp
 use Rattle.clap.specs.declared.parser.matches.ValueSource.TheVariants.{CommandLine}
-use Rattle.relay_words.specs.Options.{Given, Named, is_known, value_of}
+use Rattle.relay_words.specs.Options.{Chosen, Named, has_name, value_for}
 use Rattle.relay_words.specs.Clap.{option_rule}
 
 -- an option as clap builds it: it takes one text
@@ -15,7 +15,7 @@ abbrev pub built_rule : Named → Rule
 built_rule n = record (option_rule n) { parser = Some vp.String; range = Some (record { start_inclusive = 1; end_inclusive = 1 }) }
 
 -- what clap keeps of an option that was given
-abbrev pub row : Given → Row
+abbrev pub row : Chosen → Row
 row g = record { id = g.0; values = g.1 ∷ []; count = None; source = Some CommandLine; reading = reading_of vp.String }
 
 -- whether the option of a name is required, where there is one
@@ -55,12 +55,12 @@ arg_by_long-named (n ∷ ns) name = go (bytes_eq n.0 name) refl (arg_by_long-nam
     go true e h = ap (λ m. Some (built_rule (m, n.1))) (same_text n.0 name e)
     go false e h = h
 
-pub is_known-required_of : (names : List Named) (name : Text) → is_known names name ≡ is_some (required_of names name)
-is_known-required_of [] name = refl
-is_known-required_of (n ∷ ns) name = go (bytes_eq n.0 name) (is_known-required_of ns name)
+pub has_name-required_of : (names : List Named) (name : Text) → has_name names name ≡ is_some (required_of names name)
+has_name-required_of [] name = refl
+has_name-required_of (n ∷ ns) name = go (bytes_eq n.0 name) (has_name-required_of ns name)
   where
-    go : (b : Bool) → is_known ns name ≡ is_some (required_of ns name)
-        → (b || is_known ns name) ≡ is_some (option_map (λ m. m.1) (cond b (Some n) (find (λ m. bytes_eq m.0 name) ns)))
+    go : (b : Bool) → has_name ns name ≡ is_some (required_of ns name)
+        → (b || has_name ns name) ≡ is_some (option_map (λ m. m.1) (cond b (Some n) (find (λ m. bytes_eq m.0 name) ns)))
     go true h = refl
     go false h = h
 
@@ -75,16 +75,16 @@ arg_by_short-named (n ∷ ns) x = arg_by_short-named ns x
 
 -- ---- what was given, as rows
 
-pub has_row-given : (given : List Given) (name : Text) → has_row name (map row given) ≡ is_some (value_of name given)
+pub has_row-given : (given : List Chosen) (name : Text) → has_row name (map row given) ≡ is_some (value_for name given)
 has_row-given [] name = refl
 has_row-given (g ∷ gs) name = go (bytes_eq g.0 name) (has_row-given gs name)
   where
-    go : (b : Bool) → has_row name (map row gs) ≡ is_some (value_of name gs)
+    go : (b : Bool) → has_row name (map row gs) ≡ is_some (value_for name gs)
         → (b || has_row name (map row gs)) ≡ is_some (option_map (λ h. h.1) (cond b (Some g) (find (λ h. bytes_eq h.0 name) gs)))
     go true h = refl
     go false h = h
 
-at_row-new : (given : List Given) (name : Text) (change : Row → List Row) (missing : List Row) → has_row name (map row given) ≡ false
+at_row-new : (given : List Chosen) (name : Text) (change : Row → List Row) (missing : List Row) → has_row name (map row given) ≡ false
     → at_row name change missing (map row given) ≡ map row given ++ missing
 at_row-new [] name change missing new = refl
 at_row-new (g ∷ gs) name change missing new = go (bytes_eq g.0 name) (at_row-new gs name change missing) new
@@ -95,12 +95,12 @@ at_row-new (g ∷ gs) name change missing new = go (bytes_eq g.0 name) (at_row-n
     go true h e = absurd (true≢false e)
     go false h e = ap (λ rs. row g ∷ rs) (h e)
 
-map-row-end : (given : List Given) (g : Given) → map row (given ++ g ∷ []) ≡ map row given ++ row g ∷ []
+map-row-end : (given : List Chosen) (g : Chosen) → map row (given ++ g ∷ []) ≡ map row given ++ row g ∷ []
 map-row-end [] g = refl
 map-row-end (h ∷ hs) g = ap (λ rs. row h ∷ rs) (map-row-end hs g)
 
 -- a name that is new adds a row
-pub with_values-new : (given : List Given) (name value : Text) → has_row name (map row given) ≡ false
+pub with_values-new : (given : List Chosen) (name value : Text) → has_row name (map row given) ≡ false
     → with_values name (reading_of vp.String) CommandLine (value ∷ []) (without name (map row given))
     ≡ map row (given ++ (name, value) ∷ [])
 with_values-new given name value new =

@@ -8,9 +8,9 @@ use Rattle.std.specs.Str.{bytes_eq}
 use Rattle.script_text.specs.ValueGrammar.{◌>>=◌}
 use Rattle.relay_words.specs.Values.{cut}
 
--- a name with its value
-abbrev pub Given : Type 0
-Given = List ℕ × List ℕ
+-- an option that was given: a name with its value
+abbrev pub Chosen : Type 0
+Chosen = List ℕ × List ℕ
 
 -- a name of the program, and whether its option is required
 abbrev pub Named : Type 0
@@ -35,40 +35,40 @@ option_word (a ∷ b ∷ c ∷ cs) = if a == 45 && b == 45 then Some (name_in (c
 option_word _ = None
 
 -- one option, and those that follow
-abbrev pub and_then : Given → Option (List Given) → Option (List Given)
+abbrev pub and_then : Chosen → Option (List Chosen) → Option (List Chosen)
 and_then given others = option_map (λ more. given ∷ more) others
 
 -- the options that words give, in their order, where `waiting` is a name whose value is the next word
-abbrev pub given_by : Option (List ℕ) → List (List ℕ) → Option (List Given)
-given_by None [] = Some []
-given_by None (word ∷ more) =
-    option_word word >>= (λ o. option_map_or (λ v. and_then (o.0, v) (given_by None more)) o.1 (given_by (Some o.0) more))
-given_by (Some name) [] = None
-given_by (Some name) (word ∷ more) = if has_hyphen word then None else and_then (name, word) (given_by None more)
+abbrev pub options_in : Option (List ℕ) → List (List ℕ) → Option (List Chosen)
+options_in None [] = Some []
+options_in None (word ∷ more) =
+    option_word word >>= (λ o. option_map_or (λ v. and_then (o.0, v) (options_in None more)) o.1 (options_in (Some o.0) more))
+options_in (Some name) [] = None
+options_in (Some name) (word ∷ more) = if has_hyphen word then None else and_then (name, word) (options_in None more)
 
 -- the value that was given for a name
-abbrev pub value_of : List ℕ → List Given → Option (List ℕ)
-value_of name given = option_map (λ g. g.1) (find (λ g. bytes_eq g.0 name) given)
+abbrev pub value_for : List ℕ → List Chosen → Option (List ℕ)
+value_for name given = option_map (λ g. g.1) (find (λ g. bytes_eq g.0 name) given)
 
 -- whether a program has the name
-abbrev pub is_known : List Named → List ℕ → Bool
-is_known names name = list_any (λ n. bytes_eq n.0 name) names
+abbrev pub has_name : List Named → List ℕ → Bool
+has_name names name = list_any (λ n. bytes_eq n.0 name) names
 
 -- no name is given twice; `before` was given in front of the others
-abbrev pub are_once : List Given → List Given → Bool
+abbrev pub are_once : List Chosen → List Chosen → Bool
 are_once before [] = true
-are_once before (g ∷ gs) = not (is_some (value_of g.0 before)) && are_once (before ++ g ∷ []) gs
+are_once before (g ∷ gs) = not (is_some (value_for g.0 before)) && are_once (before ++ g ∷ []) gs
 
 -- each required option is given
-abbrev pub has_required : List Named → List Given → Bool
-has_required names given = not (list_any (λ n. n.1 && not (is_some (value_of n.0 given))) names)
+abbrev pub has_required : List Named → List Chosen → Bool
+has_required names given = not (list_any (λ n. n.1 && not (is_some (value_for n.0 given))) names)
 
 -- each of the options is one that the program has, none comes twice, and the required ones are there
-abbrev pub are_right : List Named → List Given → Bool
-are_right names given = list_all (λ g. is_known names g.0) given && (are_once [] given && has_required names given)
+abbrev pub are_right : List Named → List Chosen → Bool
+are_right names given = list_all (λ g. has_name names g.0) given && (are_once [] given && has_required names given)
 
 -- the options that a program with these names is given
-abbrev pub options_of : List Named → List (List ℕ) → Option (List Given)
+abbrev pub options_of : List Named → List (List ℕ) → Option (List Chosen)
 options_of names words =
     if list_any is_bare words then None
-    else given_by None words >>= (λ given. if are_right names given then Some given else None)
+    else options_in None words >>= (λ given. if are_right names given then Some given else None)

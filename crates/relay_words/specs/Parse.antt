@@ -7,12 +7,12 @@ use Rattle.clap.specs.declared.parser.matches.ArgMatches.{ArgMatches}
 use Rattle.relay_words.specs.Options.{is_bare}
 
 -- no word is bare, clap finds no fault in the words, and m has their matches
-pub record Takes (a : App) (words : List (List ℕ)) (m : ArgMatches) : Type 0 where
+pub record ClapTakes (a : App) (words : List (List ℕ)) (m : ArgMatches) : Type 0 where
   pub full : list_any is_bare words ≡ false
   pub fine : is_simple_and_free a ≡ true → fault_of a words ≡ []
   pub matches : HasMatchesOf a words m
 
 -- a word is bare, or clap finds a fault in the words
-abbrev pub Refuses : App → List (List ℕ) → Type 0
-Refuses a words =
+abbrev pub ClapRefuses : App → List (List ℕ) → Type 0
+ClapRefuses a words =
     is_simple_and_free a ≡ true → (list_any is_bare words ≡ true) ⊎ ((list_any is_bare words ≡ false) × (fault_of a words ≢ []))

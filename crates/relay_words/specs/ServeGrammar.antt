@@ -4,7 +4,7 @@ use Rattle.script_text.specs.FilterNames.{filter_kind_of}
 use Rattle.script_text.specs.Grammar.{hold_of}
 use Rattle.script_text.specs.ValueGrammar.{◌>>=◌}
 use Rattle.relay_settings.specs.Usual.{usual}
-use Rattle.relay_words.specs.Options.{Named, options_of, value_of}
+use Rattle.relay_words.specs.Options.{Named, options_of, value_for}
 use Rattle.relay_words.specs.Values.{addr_named, positive_within}
 use Rattle.relay_settings.specs.declared.route.Route.{Route}
 
@@ -45,4 +45,4 @@ serve_by value = do
 
 -- what words come to
 abbrev pub serve_words_of : List (List ℕ) → Option Route
-serve_words_of words = options_of serve_names words >>= (λ given. serve_by (λ name. value_of name given))
+serve_words_of words = options_of serve_names words >>= (λ given. serve_by (λ name. value_for name given))

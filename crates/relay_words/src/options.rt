@@ -5,7 +5,7 @@ ghost use Rattle.clap.specs.Simple.{app_of, with_rule};
 ghost use Rattle.clap.specs.Walk.{rule_of};
 ghost use Rattle.relay_words.specs.Clap.{option_rule, serve_app};
 ghost use Rattle.relay_words.specs.declared.fault.WordsFault.TheVariants.{Usage};
-ghost use Rattle.relay_words.specs.Options.{options_of, value_of};
+ghost use Rattle.relay_words.specs.Options.{options_of, value_for};
 ghost use Rattle.relay_words.specs.ServeGrammar.{serve_names};
 
 use crate::fault::WordsFault;
@@ -16,7 +16,7 @@ use std::alloc::{AllocError, Global};
 /// The options that words give to the program that relays between sockets.
 pub fn serve_options<'a>(alloc: Global, words: &'a [String]) -> Result<ArgMatches<'a>, WordsFault>
     ensures read { IfOk result (λ m. IsSomeAnd (options_of serve_names (map string_bytes words.now))
-        (λ given. (name : List ℕ) → first_value (found_of m) name ≡ value_of name given)) }
+        (λ given. (name : List ℕ) → first_value (found_of m) name ≡ value_for name given)) }
     ensures refused { IfErr result (λ fault. fault ≡ Usage → options_of serve_names (map string_bytes words.now) ≡ None) }
 {
     parsed(serve_command(alloc)?, words)

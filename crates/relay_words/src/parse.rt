@@ -5,7 +5,7 @@ ghost use Rattle.clap.specs.Simple.{app_of};
 ghost use Rattle.relay_words.specs.Clap.{bare_app};
 ghost use Rattle.relay_words.specs.declared.fault.WordsFault.TheVariants.{Usage};
 ghost use Rattle.relay_words.specs.Options.{is_bare};
-ghost use Rattle.relay_words.specs.Parse.{Refuses, Takes};
+ghost use Rattle.relay_words.specs.Parse.{ClapRefuses, ClapTakes};
 
 use crate::fault::{WordsFault, words_fault};
 use clap::{ArgMatches, Command};
@@ -23,8 +23,8 @@ pub fn bare_command<'a>(alloc: Global, program: &'a str) -> Command<'a>
 
 /// What clap reads of the words. A word that no program takes is refused before clap is asked.
 pub fn parsed<'a>(command: Command<'a>, words: &'a [String]) -> Result<ArgMatches<'a>, WordsFault>
-    ensures taken { IfOk result (Takes (app_of command.entry) (map string_bytes words.now)) }
-    ensures refused { IfErr result (λ fault. fault ≡ Usage → Refuses (app_of command.entry) (map string_bytes words.now)) }
+    ensures taken { IfOk result (ClapTakes (app_of command.entry) (map string_bytes words.now)) }
+    ensures refused { IfErr result (λ fault. fault ≡ Usage → ClapRefuses (app_of command.entry) (map string_bytes words.now)) }
 {
     if has_bare(words) {
         return Err(WordsFault::Usage);

@@ -1,6 +1,6 @@
 use Rattle.std.proofs.Common.{map, string_bytes, subst}
 use Rattle.std.proofs.lemmas.Result.{IfErr-weaker, IfOk-weaker}
-use Rattle.relay_words.specs.Parse.{Refuses, Takes}
+use Rattle.relay_words.specs.Parse.{ClapRefuses, ClapTakes}
 use Rattle.relay_words.proofs.WordViews.{strings_are_texts}
 use Rattle.relay_words.proofs.ClapAgrees.{serve_refused, serve_taken}
 use Rattle.relay_words.proofs.options.serve_options.Goals as goal
@@ -12,8 +12,8 @@ returns c =
     let is = c.in_ok-serve_command.ensures in
     record {
       read = IfOk-weaker c.parsed.result _ _ (λ m taken. serve_taken words m texts
-          (subst (λ a. Takes a words m) is taken)) c.parsed.ensures.taken;
+          (subst (λ a. ClapTakes a words m) is taken)) c.parsed.ensures.taken;
       refused = IfErr-weaker c.parsed.result _ _ (λ fault refuses usage. serve_refused words texts
-          (subst (λ a. Refuses a words) is (refuses usage)))
+          (subst (λ a. ClapRefuses a words) is (refuses usage)))
           c.parsed.ensures.refused;
     }

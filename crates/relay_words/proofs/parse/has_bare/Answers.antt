@@ -1,4 +1,4 @@
-use Rattle.std.proofs.Common.{◌≡◌, ◌∙◌, true, sym, ap, map, drop, List, String, string_bytes, drop_of_length-le}
+use Rattle.std.proofs.Common.{◌≡◌, ◌∙◌, true, sym, ap, string_bytes, drop_of_length-le}
 use Rattle.std.specs.List.{list_any}
 use Rattle.clap.proofs.WalkLemmas.{list_any-map}
 use Rattle.relay_words.specs.Options.{is_bare}

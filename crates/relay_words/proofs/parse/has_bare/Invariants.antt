@@ -1,4 +1,4 @@
-use Rattle.std.proofs.Common.{◌≡◌, map, drop, string_bytes}
+use Rattle.std.proofs.Common.{◌≡◌, drop, string_bytes}
 use Rattle.std.specs.List.{list_any}
 use Rattle.relay_words.specs.Options.{is_bare}
 use Rattle.relay_words.proofs.parse.has_bare.Given as goal

@@ -1,4 +1,4 @@
-use Rattle.std.proofs.Common.{◌≡◌, ◌≢◌, ◌∙◌, sym, subst, inl, inr, [], refl}
+use Rattle.std.proofs.Common.{◌≢◌, ◌∙◌, sym, subst, inl, inr, []}
 use Rattle.clap.specs.Kinds.{IsAmong, Kinds}
 use Rattle.clap.specs.declared.error.kind.ErrorKind.{ErrorKind}
 use Rattle.relay_words.proofs.parse.parsed.Goals as goal
