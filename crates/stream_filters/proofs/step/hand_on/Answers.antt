@@ -1,9 +1,9 @@
-use Rattle.std.proofs.Common.{◌≡◌, ℕ, ◌+◌, ◌-◌, ◌==◌, ◌&&◌, true, false, Option, Some, None, sym, ◌∙◌, ap, refl, length, take, min, arith, inr}
+use Rattle.std.proofs.Common.{◌≡◌, ℕ, ◌+◌, ◌-◌, ◌==◌, ◌&&◌, true, false, Option, Some, None, sym, ◌∙◌, ap, refl, length, min, arith, inr}
 use Rattle.std.specs.Prelude.{is_some}
 use Rattle.std.specs.List.{last_or}
 use Rattle.std.proofs.lemmas.Bool.Decides.{nat_tests}
 use Rattle.ev_types.specs.declared.filter.FilterKind.TheVariants as kind
-use Rattle.relay_model.specs.FilterStep.{Stepped, stepped}
+use Rattle.relay_model.specs.FilterStep.{Stepped}
 use Rattle.stream_filters.specs.declared.knowledge.Knowledge.{Knowledge}
 use Rattle.stream_filters.specs.Knowledge.{running_of}
 use Rattle.stream_filters.proofs.InPlaceLemmas.{step-in-place}
