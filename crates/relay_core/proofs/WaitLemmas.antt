@@ -1,0 +1,67 @@
+-- The earliest of two lists of moments, one after the other, is the lesser of those of each.
+use Rattle.std.proofs.Common.{◌≡◌, ℕ, ◌-◌, min, List, [], ◌∷◌, ◌++◌, Option, Some, None, refl, sym, ◌∙◌, ap, arith, append-nil}
+use Rattle.std.specs.List.{flat_map}
+use Rattle.token_bucket.specs.declared.limit.Dir.TheVariants as dir
+use Rattle.ev_types.specs.declared.side.SideId.{SideId}
+use Rattle.relay_model.specs.Rates.{least_with}
+use Rattle.relay_model.specs.Moments.{both_ways}
+use Rattle.relay_state.specs.State.{State}
+use Rattle.relay_state.specs.Time.{expiry}
+use Rattle.relay_core.specs.Waits.{earlier, wait_until, expiries}
+
+least_with-min : (n m : ℕ) (xs : List ℕ) → least_with (min n m) xs ≡ min n (least_with m xs)
+least_with-min n m [] = refl
+least_with-min n m (x ∷ xs) =
+    let a : min (min n m) x ≡ min n (min m x) = omega arith in ap (λ k. least_with k xs) a ∙ least_with-min n (min m x) xs
+
+least_with-append : (n m : ℕ) (xs ys : List ℕ) → least_with n (xs ++ m ∷ ys) ≡ min (least_with n xs) (least_with m ys)
+least_with-append n m [] ys = least_with-min n m ys
+least_with-append n m (x ∷ xs) ys = least_with-append (min n x) m xs ys
+
+pub wait_until-append : (time : ℕ) (xs ys : List ℕ) → wait_until time (xs ++ ys) ≡ earlier (wait_until time xs) (wait_until time ys)
+wait_until-append time [] ys = refl
+wait_until-append time (x ∷ xs) [] = ap (wait_until time) (append-nil (x ∷ xs))
+wait_until-append time (x ∷ xs) (y ∷ ys) =
+    let n : ℕ = least_with x xs in
+    let m : ℕ = least_with y ys in
+    let a : min n m - time ≡ min (n - time) (m - time) = omega arith in
+    ap (λ k. Some (k - time)) (least_with-append x y xs ys) ∙ ap Some a
+
+pub earlier-assoc : (a b c : Option ℕ) → earlier (earlier a b) c ≡ earlier a (earlier b c)
+earlier-assoc None b c = refl
+earlier-assoc (Some n) None c = refl
+earlier-assoc (Some n) (Some m) None = refl
+earlier-assoc (Some n) (Some m) (Some k) = let a : min (min n m) k ≡ min n (min m k) = omega arith in ap Some a
+
+pub earlier-none : (a : Option ℕ) → earlier a None ≡ a
+earlier-none None = refl
+earlier-none (Some n) = refl
+
+-- the wait for both directions of a side
+abbrev pub side_wait : State → SideId → Option ℕ
+side_wait s e = wait_until s.plain.time (flat_map (expiry s e) both_ways)
+
+module _ (s : State) where
+  abbrev t : ℕ
+  t = s.plain.time
+
+  -- both directions of a side
+  pub wait_both : (e : SideId) →
+      earlier (wait_until s.plain.time (expiry s e dir.Read)) (wait_until s.plain.time (expiry s e dir.Write))
+      ≡ side_wait s e
+  wait_both e =
+      let r : List ℕ = expiry s e dir.Read in
+      let w : List ℕ = expiry s e dir.Write in
+      ap (λ ws. earlier (wait_until t r) (wait_until t ws)) (sym (append-nil w)) ∙ sym (wait_until-append t r (w ++ []))
+
+  -- two sides more
+  pub wait_more : (least : Option ℕ) (a b : SideId) (es : List SideId) →
+      earlier (earlier least (earlier (side_wait s a) (side_wait s b))) (wait_until s.plain.time (expiries s es))
+      ≡ earlier least (wait_until s.plain.time (expiries s (a ∷ b ∷ es)))
+  wait_more least a b es =
+      let x : List ℕ = flat_map (expiry s a) both_ways in
+      let y : List ℕ = flat_map (expiry s b) both_ways in
+      let z : List ℕ = expiries s es in
+      earlier-assoc least (earlier (wait_until t x) (wait_until t y)) (wait_until t z)
+      ∙ ap (earlier least) (earlier-assoc (wait_until t x) (wait_until t y) (wait_until t z)
+      ∙ ap (earlier (wait_until t x)) (sym (wait_until-append t y z)) ∙ sym (wait_until-append t x (y ++ z)))

@@ -1,0 +1,25 @@
+use Rattle.std.proofs.Common.{◌≤◌, length, subst}
+use Rattle.relay_state.specs.State.{Lane, lane_taken}
+use Rattle.relay_state.specs.Serving.{flow_given}
+use Rattle.relay_core.proofs.RelayLemmas.{still_sound, changed_flow, lane_seen}
+use Rattle.relay_core.proofs.relay.Relay.took_from.Goals as goal
+
+pub invariant_of-self : goal.invariant_of-self
+invariant_of-self c =
+    still_sound c.args.self.now c.self.inside c.self.view_is c.self.invariant c.args.from c.requires.opened
+    c.number.result c.number.ensures
+    c.index_mut-own.result.now c.index_mut-own.ensures.value c.took.new.self
+    (λ x. x) (λ k. k) c.took.ensures.side
+
+pub took-requires : goal.took-requires
+took-requires c =
+    subst (λ (z : Lane). c.args.count ≤ length z.buffers.raw_output)
+    (lane_seen c.args.self.now c.self.inside c.self.view_is c.self.invariant c.args.from c.requires.opened
+    c.number.result c.number.ensures c.index_mut-own.result.now c.index_mut-own.ensures.value)
+    c.requires.within
+
+pub returns : goal.returns
+returns c =
+    changed_flow c.args.self.now c.self.inside c.self.view_is c.self.invariant c.args.from c.requires.opened
+    c.number.result c.number.ensures c.index_mut-own.result.now c.index_mut-own.ensures.value c.took.new.self
+    (flow_given c.args.count) (lane_taken c.args.count) c.took.ensures.side c.took.ensures.flow c.took.ensures.lane
