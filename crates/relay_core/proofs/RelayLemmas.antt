@@ -170,6 +170,7 @@ opened_sound near far opened time untimed xs ys a b h is p q =
     record {
       paired = omega (arith, ap length is, l, k, h.paired);
       unset = h.unset;
+      untimed_then = h.untimed_then;
       sides = subst (All P) (sym is) (All-append P (xs ++ a ∷ []) (b ∷ [])
           (All-append P xs (a ∷ []) h.sides (All-cons P a [] p (All-nil P))) (All-cons P b [] q (All-nil P)));
     }
@@ -220,6 +221,7 @@ module _ (v : RelayValue) (r : Inside) (is : relay_of r ≡ v) (sound : IsSound 
   sound_put y h = record {
     paired = length-set r.sides.items i y ∙ sound.paired;
     unset = sound.unset;
+    untimed_then = sound.untimed_then;
     sides = All-set (λ z. IsSoundSide r.time r.untimed (plain_side z)) r.sides.items i y h sound.sides;
   }
 
