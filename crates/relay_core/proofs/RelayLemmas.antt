@@ -1,7 +1,7 @@
--- The relay's state with one side replaced, and what is so of each side: none has a bad place or a hook, so that no reason becomes due.
-use Rattle.std.proofs.Common.{◌≡◌, ℕ, zero, suc, ◌+◌, Bool, true, false, Result, Ok, Err, MatchResult, ◌*◌, ◌<◌, ◌≤◌, ◌&&◌, nat_le, if◌then◌else◌, List, [], ◌∷◌, ◌++◌, length, length-append, map, get_or, slice_index_or, slice_set, None, refl, sym, ◌∙◌, ap, subst, arith}
+-- The relay's state with one side replaced, and what is so of each side: none has a hook, so that no reason becomes due.
+use Rattle.std.proofs.Common.{◌≡◌, ℕ, zero, suc, ◌+◌, Bool, true, false, Result, Ok, Err, MatchResult, ◌*◌, ◌<◌, ◌≤◌, ◌&&◌, nat_le, if◌then◌else◌, List, [], ◌∷◌, ◌++◌, length, length-append, map, get_or, slice_index_or, slice_set, Option, None, ◌≢◌, refl, sym, ◌∙◌, ap, subst, arith}
 use Rattle.std.proofs.lemmas.List.Elements.{All-set, All-nil, All-cons, All-append}
-use Rattle.std.proofs.lemmas.List.{length-set, get_or-map, map-set, set-get_or, set-set, get_or-set_same, length-map}
+use Rattle.std.proofs.lemmas.List.{length-set, get_or-map, map-set, set-get_or, set-set, get_or-set_same, get_or-set_other, length-map}
 use Rattle.std.specs.List.{All}
 use Rattle.token_bucket.specs.declared.limit.Dir.TheVariants as dir
 use Rattle.ev_types.specs.declared.side.Side.{Side}
@@ -9,7 +9,7 @@ use Rattle.ev_types.specs.declared.side.Side.TheVariants.{In, Out}
 use Rattle.ev_types.specs.declared.side.SideId.{SideId}
 use Rattle.ev_types.specs.declared.why.Why.{Why}
 use Rattle.ev_types.specs.declared.why.Why.TheVariants as why
-use Rattle.ev_types.specs.Sides.{half, number, peer}
+use Rattle.ev_types.specs.Sides.{half, number, other, peer}
 use Rattle.relay_model.specs.Settings.{Settings, Marks, Timeouts, no_timeouts, usual}
 use Rattle.relay_model.specs.Due.{with_reason}
 use Rattle.relay_model.specs.Flow.{Flow, no_flow}
@@ -26,6 +26,7 @@ use Rattle.relay_state.specs.Serving.{raise_read, raise_write, with_got, after_g
 use Rattle.relay_core.specs.RelayValue.{RelayValue, spare_read}
 use Rattle.relay_core.specs.SideView.{plain_side, flow_of_side, lane_of, passage_of, spare_of, read_mark_of}
 use Rattle.relay_core.specs.SettingsView.{model_timeouts}
+use Rattle.relay_core.specs.HalfPassed.{passage_with, with_half, HalfPassed, HalfPartlyPassed}
 use Rattle.relay_core.specs.RelayView.{state_with, relay_of, AreSound, IsSound, IsSoundSide}
 use Rattle.relay_core.specs.declared.relay.Relay.TheInside.{Inside}
 use Rattle.relay_core.specs.declared.side.SideState.{SideState}
@@ -58,10 +59,6 @@ module _ {A : Type 0} (f : PlainSide → A) (a : A) where
   all_set (x ∷ xs) zero y e h (suc k) = h (suc k)
   all_set (x ∷ xs) (suc n) y e h zero = h zero
   all_set (x ∷ xs) (suc n) y e h (suc k) = all_set xs n y e (λ j. h (suc j)) k
-
--- no side has a bad place
-pub bad_seen : (r : Inside) (xs : List SideState) (e : SideId) → (side_at (state_with r xs).plain e).bad ≡ None
-bad_seen r xs e = all_seen (λ x. x.bad) None (λ x. refl) refl xs (number e)
 
 -- where no side has a hook, no reason becomes due
 pub raise-none : (g : Settings) (e : SideId) (y : Why) (p : Plain) → has_hook g e ≡ false → raise g e y p ≡ p
@@ -126,18 +123,36 @@ module _ (s : State) (e : SideId) where
   pub put_same-is : put_at e (side_at s.plain e) (flow_at s.plain e) (lane_at s e) s ≡ s
   put_same-is = put_side-is (side_at s.plain e) ∙ ap (λ p. with_plain p s) same_side-is
 
--- a good side stays one
-good : (p : Plain) (e : SideId) → (side_at p e).bad ≡ None → change_side e (with_bad None) p ≡ p
-good p e h =
-    ap (λ b. let x = side_at p e in record p { sides = slice_set p.sides (number e) (record x { bad = b }) }) (sym h)
+-- a side that keeps its bad place stays as it is
+keeps_bad : (p : Plain) (e : SideId) (b : Option ℕ) → b ≡ (side_at p e).bad → change_side e (with_bad b) p ≡ p
+keeps_bad p e b h =
+    ap (λ b. let x = side_at p e in record p { sides = slice_set p.sides (number e) (record x { bad = b }) }) h
     ∙ (let k = set-get_or p.sides (number e) no_side in λ i. record p { sides = k i })
 
--- where both sides are good, passing changes the direction alone
-passed_good : (s : State) (e : SideId) (f : Flow) (l : Lane) → (side_at s.plain e).bad ≡ None → (side_at s.plain (peer e)).bad ≡ None →
-    with_passage e (record { flow = f; lane = l; from_bad = None; to_bad = None }) s ≡ with_lane e l (with_plain (put_flow e f s.plain) s)
-passed_good s e f l from to =
-    let q : Plain = put_flow e f s.plain in
-    ap (λ p. with_lane e l (with_plain p s)) (ap (change_side (peer e) (with_bad None)) (good q e from) ∙ good q (peer e) to)
+-- the two sides of a link have two numbers
+peer-apart : (e : SideId) → number (peer e) ≢ number e
+peer-apart e h = go e.side h
+  where
+    go : (x : Side) → 2 * e.link + half (other x) ≡ 2 * e.link + half x → ⊥
+    go In h = absurd (omega (arith, h))
+    go Out h = absurd (omega (arith, h))
+
+-- Passing is what it is at the side where the direction begins, and then the other side's bad place.
+pub whole_passes : (old mid new : State) (e : SideId) (before after : Option ℕ) (T : Type 0) (E : Type 0) (result : Result T E) →
+    before ≡ (side_at old.plain (peer e)).bad →
+    MatchResult result (λ _. HalfPassed old e before mid after) (λ _. HalfPartlyPassed old e before mid after) →
+    new ≡ with_plain (change_side (peer e) (with_bad after) mid.plain) mid →
+    MatchResult result (λ _. PassedFrom old e new) (λ _. PartlyPassed old e new)
+whole_passes old mid new e before after T E (Ok a) is h put = (
+  h.0,
+  subst (λ b. Passed (round_from old e) (passage_with old e b) h.0) is h.1,
+  put ∙ (λ j. with_plain (change_side (peer e) (with_bad (h.3 j)) (h.2 j).plain) (h.2 j)),
+)
+whole_passes old mid new e before after T E (Err a) is h put = (
+  h.0,
+  subst (λ b. SomeRounds (round_from old e) (passage_with old e b) h.0) is h.1,
+  put ∙ (λ j. with_plain (change_side (peer e) (with_bad (h.3 j)) (h.2 j).plain) (h.2 j)),
+)
 
 -- a side whose link opens is sound
 pub new_sound : (time : ℕ) (untimed connected : Bool) (m : Marks) (t : Timeouts) (x : PlainSide) → (untimed ≡ true → t ≡ no_timeouts) →
@@ -155,6 +170,7 @@ opened_sound near far opened time untimed xs ys a b h is p q =
     record {
       paired = omega (arith, ap length is, l, k, h.paired);
       unset = h.unset;
+      untimed_then = h.untimed_then;
       sides = subst (All P) (sym is) (All-append P (xs ++ a ∷ []) (b ∷ [])
           (All-append P xs (a ∷ []) h.sides (All-cons P a [] p (All-nil P))) (All-cons P b [] q (All-nil P)));
     }
@@ -205,6 +221,7 @@ module _ (v : RelayValue) (r : Inside) (is : relay_of r ≡ v) (sound : IsSound 
   sound_put y h = record {
     paired = length-set r.sides.items i y ∙ sound.paired;
     unset = sound.unset;
+    untimed_then = sound.untimed_then;
     sides = All-set (λ z. IsSoundSide r.time r.untimed (plain_side z)) r.sides.items i y h sound.sides;
   }
 
@@ -275,7 +292,8 @@ module _ (v : RelayValue) (r : Inside) (is : relay_of r ≡ v) (sound : IsSound 
   pub unchanged : (y : SideState) → plain_side y ≡ plain_side x → passage_of y ≡ passage_of x →
       state_with r (slice_set r.sides.items i y) ≡ v.state
   unchanged y a b = carried y (λ z. z)
-      (changed y (λ g. g) (λ f. f) (λ l. l) a (ap (λ (z : Passage). z.flow) b) (ap (λ (z : Passage). z.lane) b) ∙ put_same-is s e)
+      (changed y (λ g. g) (λ f. f) (λ l. l) a (ap (λ (z : Option ℕ → Passage). (z None).flow) b)
+      (ap (λ (z : Option ℕ → Passage). (z None).lane) b) ∙ put_same-is s e)
 
   -- where the side is freed that the direction begins at
   pub changed_left : (y : SideState) →
@@ -302,11 +320,26 @@ module _ (v : RelayValue) (r : Inside) (is : relay_of r ≡ v) (sound : IsSound 
   -- bytes were got
 
   module _ (y : SideState) (bytes : List ℕ)
-      (side_is : plain_side y ≡ active_at r.time dir.Read (plain_side x))
+      (side_is : plain_side y ≡ with_bad y.bad (active_at r.time dir.Read (plain_side x)))
       (passage_is : passage_of y
-      ≡ (let z = passage_of x in read_part (read_mark_of x) false (record z { lane = lane_got bytes z.lane }))) where
+      ≡ (λ to. (let z = passage_of x to in read_part (read_mark_of x) false (record z { lane = lane_got bytes z.lane })))) where
     abbrev grown : State
     grown = with_got s e bytes
+
+    abbrev active : PlainSide
+    active = active_at r.time dir.Read (side_at s.plain e)
+
+    abbrev to : Option ℕ
+    to = (side_at (with_got s e bytes).plain (peer e)).bad
+
+    abbrev passed_half : State
+    passed_half = with_half e (passage_of y to) (with_got s e bytes)
+
+    sides_long : number e < length (map plain_side xs)
+    sides_long = subst (λ n. number e < n) (sym (length-map xs plain_side)) in_range
+
+    active_seen : side_at grown.plain e ≡ active
+    active_seen = get_or-set_same (map plain_side xs) (number e) active no_side sides_long
 
     mark_got : read_mark grown.plain e ≡ read_mark_of x
     mark_got =
@@ -315,48 +348,64 @@ module _ (v : RelayValue) (r : Inside) (is : relay_of r ≡ v) (sound : IsSound 
         (subst (λ n. number e < n) (sym (length-map xs plain_side)) in_range))
         ∙ ap (λ z. mark_or z.marks.read_high most_at_once) side_inside
 
-    bad_got : (k : ℕ) → (slice_index_or grown.plain.sides k no_side).bad ≡ None
-    bad_got k = all_set (λ z. z.bad) None s.plain.sides (number e) (active_at r.time dir.Read (side_at s.plain e)) (bad_seen r xs e)
-        (λ k. all_seen (λ z. z.bad) None (λ z. refl) refl xs k) k
-
     lane_got_is : lane_at grown e ≡ lane_got bytes (lane_of x)
     lane_got_is =
         get_or-set_same (map lane_of xs) (number e) (lane_got bytes (lane_at s e)) no_lane
         (subst (λ n. number e < n) (sym (length-map xs lane_of)) in_range)
         ∙ ap (lane_got bytes) lane_inside
 
-    got_seen : passage_at grown e ≡ (let z = passage_of x in record z { lane = lane_got bytes z.lane })
+    got_seen : passage_at grown e ≡ (let z = passage_of x to in record z { lane = lane_got bytes z.lane })
     got_seen =
-        let b = bad_got (number e) in
-        let c = bad_got (number (peer e)) in
-        λ j. record { flow = flow_inside j; lane = lane_got_is j; from_bad = b j; to_bad = c j }
+        let b = ap (λ (z : PlainSide). z.bad) active_seen ∙ ap (λ (z : PlainSide). z.bad) side_inside in
+        λ j. record { flow = flow_inside j; lane = lane_got_is j; from_bad = b j; to_bad = to }
 
-    read_seen : read_part (read_mark grown.plain e) false (passage_at grown e) ≡ passage_of y
+    read_seen : read_part (read_mark grown.plain e) false (passage_at grown e) ≡ passage_of y to
     read_seen =
-        ap (λ m. read_part m false (passage_at grown e)) mark_got ∙ ap (read_part (read_mark_of x) false) got_seen ∙ sym passage_is
+        ap (λ m. read_part m false (passage_at grown e)) mark_got ∙ ap (read_part (read_mark_of x) false) got_seen
+        ∙ sym (ap (λ (f : Option ℕ → Passage). f to) passage_is)
+
+    side_y : plain_side y ≡ with_bad y.bad active
+    side_y = side_is ∙ ap (λ z. with_bad y.bad (active_at r.time dir.Read z)) (sym side_inside)
+
+    half_is : put_at e (plain_side y) (flow_of_side y) (lane_of y) s ≡ passed_half
+    half_is =
+        let S : List PlainSide = map plain_side xs in
+        let n : ℕ = number e in
+        let h = ap (λ z. slice_set (slice_set S n active) n (with_bad y.bad z)) active_seen
+        ∙ set-set S n active (with_bad y.bad active) ∙ ap (slice_set S n) (sym side_y) in
+        let k = set-set (map lane_of xs) n (lane_got bytes (lane_at s e)) (lane_of y) in
+        let p = s.plain in
+        λ j. record s {
+          plain = record p { sides = sym h j; flows = slice_set p.flows n (flow_of_side y) };
+          lanes = sym k j;
+        }
+
+    whole_is : with_passage e (passage_of y to) grown ≡ passed_half
+    whole_is =
+        let p : Plain = change_side e (with_bad y.bad) (put_flow e (flow_of_side y) grown.plain) in
+        let apart = get_or-set_other grown.plain.sides (number e) (number (peer e)) (with_bad y.bad (side_at grown.plain e)) no_side
+        (peer-apart e) in
+        ap (λ q. with_lane e (lane_of y) (with_plain q grown))
+        (keeps_bad p (peer e) to (sym (ap (λ (z : PlainSide). z.bad) apart)))
 
     pub got_is : state_with r (slice_set r.sides.items i y) ≡ after_got v.state e bytes
     got_is = carried y (λ z. after_got z e bytes) (
-        put y
-        ∙ ap (λ z. put_at e z (flow_of_side y) (lane_of y) s) (side_is ∙ ap (active_at r.time dir.Read) (sym side_inside))
-        ∙ (let h = set-set (map lane_of xs) (number e) (lane_got bytes (lane_at s e)) (lane_of y) in
-        let z : State = put_at e (active_at r.time dir.Read (side_at s.plain e)) (flow_of_side y) (lane_of y) s in
-        λ j. record z { lanes = sym h j })
-        ∙ sym (passed_good grown e (flow_of_side y) (lane_of y) (bad_got (number e)) (bad_got (number (peer e))))
+        put y ∙ half_is ∙ sym whole_is
         ∙ ap (λ z. with_passage e z grown) (sym read_seen)
         ∙ sym (raise_read-none e (with_passage e (read_part (read_mark grown.plain e) false (passage_at grown e)) grown) refl))
 
   -- the direction that begins at the side was passed, or some rounds of it were made
 
-  pub passes : (y : SideState) (T : Type 0) (E : Type 0) (result : Result T E) (mark hold : ℕ) (to_live : Bool) →
+  pub half_passes : (y : SideState) (T : Type 0) (E : Type 0) (result : Result T E) (mark hold : ℕ) (to_live : Bool)
+      (before after : Option ℕ) →
       mark ≡ read_mark v.state.plain e → hold ≡ hold_mark v.state.settings v.state.plain (peer e) →
       to_live ≡ is_live v.state.plain (peer e) →
-      plain_side y ≡ plain_side x →
-      MatchResult result (λ _. Passed (pass_round mark hold x.flags.ended x.flags.live to_live) (passage_of x) (passage_of y))
-      (λ _. SomeRounds (pass_round mark hold x.flags.ended x.flags.live to_live) (passage_of x) (passage_of y)) →
-      MatchResult result (λ _. PassedFrom v.state e (state_with r (slice_set r.sides.items i y)))
-      (λ _. PartlyPassed v.state e (state_with r (slice_set r.sides.items i y)))
-  passes y T E result mark hold to_live mark_is hold_is live_is same = go result
+      plain_side y ≡ with_bad y.bad (plain_side x) →
+      MatchResult result (λ _. Passed (pass_round mark hold x.flags.ended x.flags.live to_live) (passage_of x before) (passage_of y after))
+      (λ _. SomeRounds (pass_round mark hold x.flags.ended x.flags.live to_live) (passage_of x before) (passage_of y after)) →
+      MatchResult result (λ _. HalfPassed v.state e before (state_with r (slice_set r.sides.items i y)) after)
+      (λ _. HalfPartlyPassed v.state e before (state_with r (slice_set r.sides.items i y)) after)
+  half_passes y T E result mark hold to_live before after mark_is hold_is live_is same = go result
     where
       f : Passage → Passage
       f = pass_round mark hold x.flags.ended x.flags.live to_live
@@ -364,34 +413,34 @@ module _ (v : RelayValue) (r : Inside) (is : relay_of r ≡ v) (sound : IsSound 
       f_is : f ≡ round_from v.state e
       f_is = λ j. pass_round (mark_is j) (hold_is j) (sym side_seen j).ended (sym side_seen j).live (live_is j)
 
-      seen_inside : passage_of x ≡ passage_at s e
+      seen_inside : passage_of x before ≡ passage_with s e before
       seen_inside =
-          let a = bad_seen r xs e in
-          let b = bad_seen r xs (peer e) in
-          λ j. record { flow = sym flow_inside j; lane = sym lane_inside j; from_bad = sym a j; to_bad = sym b j }
+          let a = ap (λ (z : PlainSide). z.bad) (sym side_inside) in
+          λ j. record { flow = sym flow_inside j; lane = sym lane_inside j; from_bad = a j; to_bad = before }
 
-      seen_is : passage_of x ≡ passage_at v.state e
-      seen_is = seen_inside ∙ ap (λ (z : RelayValue). passage_at z.state e) is
+      seen_is : passage_of x before ≡ passage_with v.state e before
+      seen_is = seen_inside ∙ ap (λ (z : RelayValue). passage_with z.state e before) is
 
-      put_is : state_with r (slice_set r.sides.items i y) ≡ with_passage e (passage_of y) v.state
-      put_is = carried y (with_passage e (passage_of y)) (
-          changed y (λ g. g) (λ _. flow_of_side y) (λ _. lane_of y) same refl refl
-          ∙ put_flow-is s e (flow_of_side y) (lane_of y)
-          ∙ sym (passed_good s e (flow_of_side y) (lane_of y) (bad_seen r xs e) (bad_seen r xs (peer e))))
+      put_is : state_with r (slice_set r.sides.items i y) ≡ with_half e (passage_of y after) v.state
+      put_is = carried y (with_half e (passage_of y after))
+          (changed y (with_bad y.bad) (λ _. flow_of_side y) (λ _. lane_of y) same refl refl)
 
       go : (a : Result T E) →
-          MatchResult a (λ _. Passed f (passage_of x) (passage_of y)) (λ _. SomeRounds f (passage_of x) (passage_of y)) →
-          MatchResult a (λ _. PassedFrom v.state e (state_with r (slice_set r.sides.items i y)))
-          (λ _. PartlyPassed v.state e (state_with r (slice_set r.sides.items i y)))
+          MatchResult a (λ _. Passed f (passage_of x before) (passage_of y after))
+          (λ _. SomeRounds f (passage_of x before) (passage_of y after)) →
+          MatchResult a (λ _. HalfPassed v.state e before (state_with r (slice_set r.sides.items i y)) after)
+          (λ _. HalfPartlyPassed v.state e before (state_with r (slice_set r.sides.items i y)) after)
       go (Ok a) h = (
-        passage_of y,
-        subst (λ g. Passed g (passage_at v.state e) (passage_of y)) f_is
-            (subst (λ z. Passed f z (passage_of y)) seen_is h),
+        passage_of y after,
+        subst (λ g. Passed g (passage_with v.state e before) (passage_of y after)) f_is
+            (subst (λ z. Passed f z (passage_of y after)) seen_is h),
         put_is,
+        refl,
       )
       go (Err a) h = (
-        passage_of y,
-        subst (λ g. SomeRounds g (passage_at v.state e) (passage_of y)) f_is
-            (subst (λ z. SomeRounds f z (passage_of y)) seen_is h),
+        passage_of y after,
+        subst (λ g. SomeRounds g (passage_with v.state e before) (passage_of y after)) f_is
+            (subst (λ z. SomeRounds f z (passage_of y after)) seen_is h),
         put_is,
+        refl,
       )

@@ -40,7 +40,9 @@ IsSoundSide time untimed x =
 -- what is so of the sides, with the timeouts that the sides of the next link get
 pub record AreSound (near far : Timeouts) (opened time : ℕ) (untimed : Bool) (xs : List SideState) : Type 0 where
   pub paired : length xs ≡ 2 * opened  -- there are two for each link
-  pub unset : untimed ≡ true → (near ≡ no_timeouts) × (far ≡ no_timeouts)  -- nothing is timed only where no timeouts are set
+  -- nothing is timed exactly where no timeouts are set
+  pub unset : untimed ≡ true → (near ≡ no_timeouts) × (far ≡ no_timeouts)
+  pub untimed_then : near ≡ no_timeouts → far ≡ no_timeouts → untimed ≡ true
   pub sides : All (λ x. IsSoundSide time untimed (plain_side x)) xs
 
 abbrev pub IsSound : Inside → Type 0

@@ -1,17 +1,19 @@
--- What contracts see of a side as the code keeps it: the side, and the direction that begins at it. Each filter hands its bytes on as
--- they are.
-use Rattle.std.specs.Prelude.{◌≡◌, ◌⊎◌, ◌+◌, ◌≤◌, ℕ, Bool, true, false, not, ◌-◌, ◌^◌, ◌==◌, nat_le, min, if◌then◌else◌, length, Option, None}
-use Rattle.ev_types.specs.declared.filter.FilterKind.TheVariants as kind
+-- What contracts see of a side as the code keeps it: the side, and the direction that begins at it.
+use Rattle.std.specs.Prelude.{◌≡◌, ◌+◌, ◌≤◌, ℕ, Bool, true, false, not, length, vec_capacity, Option, None, is_some}
+use Rattle.ev_types.specs.declared.filter.FilterKind.{FilterKind}
 use Rattle.relay_model.specs.Plain.{PlainSide}
 use Rattle.relay_model.specs.Rooms.{most_at_once, mark_or}
 use Rattle.relay_model.specs.Flow.{Flow}
-use Rattle.relay_model.specs.Conserved.{Buffers, Running}
-use Rattle.relay_state.specs.State.{Lane}
+use Rattle.relay_model.specs.FilterStep.{begun}
+use Rattle.relay_model.specs.Conserved.{Buffers}
+use Rattle.relay_state.specs.State.{Lane, no_lane}
 use Rattle.relay_state.specs.Passage.{Passage}
 use Rattle.evbuf_chain.specs.Inner.{Queued}
+use Rattle.stream_filters.specs.StepAnswers.{most_by_step}
+use Rattle.relay_core.specs.StepRoom.{HasStepRoom}
 use Rattle.relay_core.specs.SettingsView.{model_marks, model_timeouts}
 use Rattle.relay_core.specs.declared.flags.SideFlags.{SideFlags}
-use Rattle.relay_core.specs.declared.side.Progress.{Progress}
+use Rattle.relay_core.specs.declared.pass.Reached.{Reached}
 use Rattle.relay_core.specs.declared.side.SideState.{SideState}
 
 -- the flags of a side
@@ -42,7 +44,7 @@ opening_flags connected = record {
   closed = false;
 }
 
--- No side has a limit, a group, a bad place or a reference.
+-- No side has a limit, a group or a reference.
 abbrev pub plain_side : SideState → PlainSide
 plain_side s = record {
   live = s.flags.live;
@@ -52,7 +54,7 @@ plain_side s = record {
   ended = s.flags.ended;
   failed = s.flags.failed;
   expired = s.flags.expired;
-  bad = None;
+  bad = s.bad;
   write_ended = s.flags.write_ended;
   closed = s.flags.closed;
   marks = model_marks s.marks;
@@ -64,19 +66,17 @@ plain_side s = record {
   references = 0;
 }
 
-abbrev pub flow_of : Progress → Flow
-flow_of p = record {
-  used = p.used;
-  moved = p.moved;
-  turned = p.turned;
-  given = p.given;
-  read_done = p.read_done;
-  write_done = p.write_done;
-  held = p.held;
-}
-
+-- how far the direction has come
 abbrev pub flow_of_side : SideState → Flow
-flow_of_side s = flow_of s.flow
+flow_of_side s = record {
+  used = s.reader.used;
+  moved = s.moved;
+  turned = s.writer.used;
+  given = s.given;
+  read_done = s.reader.finished;
+  write_done = s.writer.finished;
+  held = s.held;
+}
 
 abbrev pub buffers_of : SideState → Buffers
 buffers_of s = record {
@@ -86,24 +86,34 @@ buffers_of s = record {
   raw_output = s.raw_output.items;
 }
 
--- a filter that hands its bytes on, after so many of which this is the last
-abbrev pub handing_on : ℕ → Option ℕ → Bool → Running
-handing_on used last finished = record { kind = kind.None; since = 0; used = used; last = last; finished = finished; stopped = None }
-
--- As bytes are handed on, a filter made as many as it used.
 abbrev pub lane_of : SideState → Lane
 lane_of s = record {
   buffers = buffers_of s;
-  reader = handing_on s.flow.used s.last_used s.flow.read_done;
-  writer = handing_on s.flow.turned s.last_turned s.flow.write_done;
+  reader = s.reader;
+  writer = s.writer;
   read = s.read;
-  read_made = s.flow.used;
-  write_made = s.flow.turned;
+  read_made = s.read_made;
+  write_made = s.write_made;
 }
 
--- No filter meets a bad place.
-abbrev pub passage_of : SideState → Passage
-passage_of s = record { flow = flow_of_side s; lane = lane_of s; from_bad = None; to_bad = None }
+-- a direction of a new link, with these filters
+abbrev pub fresh_lane : FilterKind → FilterKind → Lane
+fresh_lane reader writer = record no_lane { reader = begun reader; writer = begun writer }
+
+-- the direction, where the side at which it ends has this bad place
+abbrev pub passage_of : SideState → Option ℕ → Passage
+passage_of s to = record { flow = flow_of_side s; lane = lane_of s; from_bad = s.bad; to_bad = to }
+
+-- what a round may change, as the code compares it
+abbrev pub reached_of : Passage → Reached
+reached_of x = record {
+  reader = record { used = x.flow.used; finished = x.flow.read_done; stopped = is_some x.lane.reader.stopped };
+  writer = record { used = x.flow.turned; finished = x.flow.write_done; stopped = is_some x.lane.writer.stopped };
+  moved = x.flow.moved;
+  held = x.flow.held;
+  from_bad = is_some x.from_bad;
+  to_bad = is_some x.to_bad;
+}
 
 -- the length of the input at which reading stops
 abbrev pub read_mark_of : SideState → ℕ
@@ -113,35 +123,40 @@ read_mark_of s = mark_or s.marks.read_high most_at_once
 abbrev pub hold_mark_of : ℕ → SideState → ℕ
 hold_mark_of hold s = mark_or s.marks.write_high hold
 
--- how many bytes the read filter uses now, until the input has reached the read mark
-abbrev pub used_now : ℕ → Buffers → ℕ
-used_now mark b = min (length b.raw_input) (mark - length b.input)
-
--- The read filter has room: for what it uses now, or the input is empty and the raw input, which the mark allows, goes there whole.
+-- the read filter has room for its step
 abbrev pub HasInputRoom : ℕ → SideState → Type 0
 HasInputRoom mark s =
-    (used_now mark (buffers_of s) ≤ s.input.spare) ⊎ ((length s.input.items ≡ 0) × (length s.raw_input.items ≤ mark))
+    HasStepRoom s.reader.kind (length s.raw_input.items) (length s.input.items) mark s.input.spare (vec_capacity s.beside) s.read_made
 
--- The write filter has room for so much of n bytes as the hold mark allows, or the raw output is empty and the mark allows all of them.
+-- the write filter has room for its step over so many bytes
 abbrev pub HasOutputRoom : ℕ → ℕ → SideState → Type 0
-HasOutputRoom hold n s =
-    (min n (hold - length s.raw_output.items) ≤ s.raw_output.spare) ⊎ ((length s.raw_output.items ≡ 0) × (n ≤ hold))
+HasOutputRoom hold count s =
+    HasStepRoom s.writer.kind count (length s.raw_output.items) hold s.raw_output.spare (vec_capacity s.beside) s.write_made
 
--- all bytes of the direction that are not in the raw output yet
-abbrev pub not_turned : SideState → ℕ
-not_turned s = length s.raw_input.items + length s.input.items + length s.output.items
+-- what the write filter may be offered at most, once the read filter made its step
+abbrev pub most_offered : ℕ → SideState → ℕ
+most_offered mark s =
+    most_by_step s.reader.kind (length s.raw_input.items) (length s.input.items) mark + length s.input.items + length s.output.items
 
--- So many bytes of a read can be kept and counted. Either the input has room up to its mark, or what is read goes there with the raw
--- input: whole to an empty input, which the mark allows, and else in the room that is there.
+-- the end of the direction is as it was, and room stays
+pub record SameEnd (old new : SideState) : Type 0 where
+  pub writer : new.writer ≡ old.writer
+  pub raw_output : new.raw_output ≡ old.raw_output
+  pub write_made : new.write_made ≡ old.write_made
+  pub beside : vec_capacity old.beside ≤ vec_capacity new.beside
+
+-- so many bytes of a read can be taken in
 abbrev pub spare_of : SideState → ℕ
-spare_of s =
-    let fits : ℕ = min (s.raw_input.spare) (2 ^ 64 - 1 - s.read) in
-    if nat_le (read_mark_of s - length s.input.items) s.input.spare then fits
-    else min fits ((if length s.input.items == 0 then read_mark_of s else s.input.spare) - length s.raw_input.items)
+spare_of s = s.readable
 
 -- a queue without a byte has no room
 abbrev pub IsLean : Queued → Type 0
 IsLean q = length q.items ≡ 0 → q.spare ≡ 0
 
-abbrev pub HasNoIdleRoom : SideState → Type 0
-HasNoIdleRoom s = IsLean s.raw_input × IsLean s.input × IsLean s.output × IsLean s.raw_output
+-- and there is none beside the buffers
+pub record HasNoIdleRoom (s : SideState) : Type 0 where
+  pub raw_input : IsLean s.raw_input
+  pub input : IsLean s.input
+  pub output : IsLean s.output
+  pub raw_output : IsLean s.raw_output
+  pub beside : vec_capacity s.beside ≡ 0

@@ -12,6 +12,7 @@ use crate::side::SideState;
 use ev_types::{Cause, Side, SideId};
 use evbuf_chain::ByteQueue;
 use std::alloc::Global;
+use stream_filters::StreamFilter;
 
 /// A step of closing a link.
 ///
@@ -66,6 +67,7 @@ impl SideState {
         ensures lane { lane_of self.new ≡ lane_left (lane_of self.old) }
     {
         self.flags.live = false;
+        self.readable = 0;
         self.raw_input = ByteQueue::new(alloc);
         self.input = ByteQueue::new(alloc);
     }
@@ -93,7 +95,7 @@ impl Relay {
     {
         let from = &self.sides[side.peer().number()];
         from.flags.ended
-            && from.flow.write_done
+            && from.writer.is_finished()
             && from.raw_input.len() == 0
             && from.input.len() == 0
             && from.output.len() == 0
@@ -119,7 +121,7 @@ impl Relay {
         } else if own.flags.expired {
             Some(Cause::Timeout)
         } else {
-            None
+            own.bad.map(Cause::Filter)
         }
     }
 

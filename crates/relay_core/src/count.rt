@@ -5,6 +5,7 @@ ghost use Rattle.relay_state.specs.Counting.{read_of, moved_of, given_of, link_s
 use crate::relay::Relay;
 use crate::side::SideState;
 use ev_types::{LinkCount, LinkState, Side, SideId};
+use stream_filters::StreamFilter;
 
 /// A count of the relay that has come so far lets a run end.
 pub(crate) const SPENT: u64 = 1 << 62;
@@ -29,11 +30,13 @@ impl SideState {
     fn is_spent(&self) -> bool
         ensures { result ≡ has_flown_far (flow_of_side self.now) || has_read_far (lane_of self.now) }
     {
-        self.read >= SPENT
-            || self.flow.used >= SPENT
-            || self.flow.moved >= SPENT
-            || self.flow.turned >= SPENT
-            || self.flow.given >= SPENT
+        self.reader.used() >= SPENT
+            || self.moved >= SPENT
+            || self.writer.used() >= SPENT
+            || self.given >= SPENT
+            || self.read >= SPENT
+            || self.read_made >= SPENT
+            || self.write_made >= SPENT
     }
 
     /// Whether a count of some side has come far.
@@ -56,8 +59,8 @@ impl Relay {
         let from = &self.sides[side.peer().number()];
         Counts {
             read: own.read,
-            moved: own.flow.moved,
-            given: from.flow.given,
+            moved: own.moved,
+            given: from.given,
         }
     }
 
@@ -154,7 +157,7 @@ impl Relay {
         (own.input_len() as u64).saturating_add(from.output_len() as u64)
     }
 
-    /// Whether a count has come to 2^62: turns, or bytes read from an end, used, moved, turned or given.
+    /// Whether a count has come to 2^62: turns, or bytes read from an end, used or made by a filter, moved or given.
     pub fn is_spent(&self) -> bool
         ensures { result ≡ is_spent self.now.state }
     {

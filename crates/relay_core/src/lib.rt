@@ -15,6 +15,7 @@ mod relay;
 mod room;
 mod serve;
 mod side;
+mod step;
 
 pub use close::Closing;
 pub use count::Counts;

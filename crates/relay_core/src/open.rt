@@ -40,14 +40,20 @@ impl Relay {
         let alloc = self.alloc;
         let time = self.time;
         let Settings {
+            in_read,
+            in_write,
+            out_read,
+            out_write,
             in_marks,
             out_marks,
             in_timeouts,
             out_timeouts,
             ..
         } = self.settings;
-        let near = SideState::new(alloc, in_marks, in_timeouts, true, time);
-        let far = SideState::new(alloc, out_marks, out_timeouts, connected, time);
+        let inward = (in_read, out_write);
+        let outward = (out_read, in_write);
+        let near = SideState::new(alloc, in_marks, in_timeouts, inward, true, time);
+        let far = SideState::new(alloc, out_marks, out_timeouts, outward, connected, time);
         self.sides.push(near).unwrap();
         self.sides.push(far).unwrap();
         self.opened += 1;

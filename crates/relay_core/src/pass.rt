@@ -1,34 +1,66 @@
 // Passing a direction: rounds until one changes nothing. A round has its room before it begins, so that want of memory
 // leaves whole rounds. At the end each queue without a byte gives its room up, so that an idle link holds none.
-ghost use Rattle.std.specs.Prelude.{◌≡◌, ◌<◌, length, OnOk, MatchResult, IsTrue, ◌↔◌};
-ghost use Rattle.std.specs.Prelude.{◌≤◌, take};
-ghost use Rattle.std.specs.List.{last_or};
-ghost use Rattle.relay_state.specs.Passage.{hold_part, read_part, move_part, has_moved_all, write_part, pass_round, Passed, SomeRounds};
-ghost use Rattle.relay_core.specs.SideView.{plain_side, passage_of, HasInputRoom, HasOutputRoom, not_turned, IsLean, HasNoIdleRoom};
+ghost use Rattle.std.specs.Prelude.{◌≡◌, ◌<◌, length, OnOk, MatchResult, IsTrue, ◌↔◌, is_some};
+ghost use Rattle.std.specs.Prelude.{◌≤◌};
+ghost use Rattle.relay_model.specs.Filter.{or_else};
+ghost use Rattle.relay_state.specs.Passage.{hold_part, read_part, move_part, write_part, pass_round, Passed, SomeRounds};
+ghost use Rattle.relay_core.specs.SideView.{plain_side, passage_of, reached_of, HasInputRoom, HasOutputRoom, most_offered, SameEnd, IsLean, HasNoIdleRoom};
 
 use crate::relay::Relay;
-use crate::side::{Progress, SideState};
+use crate::side::SideState;
+use crate::step::{reserve_step, step_over};
 use ev_types::{NoMemory, SideId};
 use evbuf_chain::ByteQueue;
 use std::alloc::Global;
 use std::mem::swap;
+use stream_filters::{AnyFilter, StreamFilter};
 
-/// Whether nothing was counted in between.
-fn same_progress(a: Progress, b: Progress) -> bool
+/// How far a filter came.
+#[derive(Clone, Copy, PartialEq, Eq)]
+pub(crate) struct FilterReach {
+    used: u64,
+    finished: bool,
+    stopped: bool,
+}
+
+/// What a round may change: how far the two filters came, how many bytes were moved, whether the direction is held, and whether
+/// the sides at its two ends have a bad place.
+#[derive(Clone, Copy, PartialEq, Eq)]
+pub(crate) struct Reached {
+    reader: FilterReach,
+    writer: FilterReach,
+    moved: u64,
+    held: bool,
+    from_bad: bool,
+    to_bad: bool,
+}
+
+/// How far this filter came.
+fn reach_of(filter: &AnyFilter) -> FilterReach
+    ensures { result ≡ record { used = filter.now.used; finished = filter.now.finished; stopped = is_some filter.now.stopped } }
+{
+    FilterReach {
+        used: filter.used(),
+        finished: filter.is_finished(),
+        stopped: filter.stopped().is_some(),
+    }
+}
+
+/// Whether nothing changed in between.
+fn is_same(a: Reached, b: Reached) -> bool
     ensures { IsTrue result ↔ (a ≡ b) }
 {
     a == b
 }
 
-/// The last of the first bytes of a queue, or the byte before them where there are none. Constant.
-fn last_of(queue: &ByteQueue, count: usize, before: Option<u8>) -> Option<u8>
-    requires { count ≤ length queue.now.items }
-    ensures { result ≡ last_or before (take count queue.now.items) }
+/// The first of two bad places in time.
+fn first_place(before: Option<u64>, next: Option<u64>) -> Option<u64>
+    ensures { result ≡ or_else before next }
 {
-    if count == 0 {
-        return before;
+    match before {
+        Some(place) => Some(place),
+        None => next,
     }
-    Some(queue.as_slice()[count - 1])
 }
 
 /// Gives up the room of a queue that has no byte. Takes no memory; constant.
@@ -42,107 +74,146 @@ fn give_up(queue: &mut ByteQueue, alloc: Global)
 }
 
 impl SideState {
-    /// Makes room for what a round may move, and for no more than waits, however great the marks are.
+    ghost use Rattle.std.specs.Prelude.{◌==◌, ◌&&◌, ◌+◌};
+    ghost use Rattle.relay_state.specs.Passing.{with_bad};
+
+    /// How far the direction has come, where the side at which it ends has this bad place.
+    fn reached(&self, to_bad: Option<u64>) -> Reached
+        ensures { result ≡ reached_of (passage_of self.now to_bad) }
+    {
+        Reached {
+            reader: reach_of(&self.reader),
+            writer: reach_of(&self.writer),
+            moved: self.moved,
+            held: self.held,
+            from_bad: self.bad.is_some(),
+            to_bad: to_bad.is_some(),
+        }
+    }
+
+    /// Makes room for what a round may make, and for no more than waits, however great the marks are. It is also refused where
+    /// that could not be counted.
     fn reserve_round(&mut self, mark: u64, hold: u64) -> Result<(), NoMemory>
         ensures side { plain_side self.new ≡ plain_side self.old }
         ensures passage { passage_of self.new ≡ passage_of self.old }
         ensures input { OnOk result (HasInputRoom mark self.new) }
-        ensures raw_output { OnOk result (HasOutputRoom hold (not_turned self.new) self.new) }
+        ensures raw_output { OnOk result (HasOutputRoom hold (most_offered mark self.new) self.new) }
     {
-        let mark = mark as usize;
-        let hold = hold as usize;
-        let raw = self.raw_input.len();
-        let input = self.input.len();
-        if input > 0 || raw > mark {
-            self.input.reserve(raw.min(mark.saturating_sub(input)))?;
-        }
-        let most = raw + input + self.output.len();
-        let waiting = self.raw_output.len();
-        if waiting > 0 || most > hold {
-            self.raw_output
-                .reserve(most.min(hold.saturating_sub(waiting)))?;
-        }
+        self.readable = 0;
+        let most = reserve_step(
+            self.reader.kind(),
+            self.raw_input.len(),
+            &mut self.input,
+            &mut self.beside,
+            mark as usize,
+            self.read_made,
+        )?;
+        let offered = most + self.input.len() + self.output.len();
+        reserve_step(
+            self.writer.kind(),
+            offered,
+            &mut self.raw_output,
+            &mut self.beside,
+            hold as usize,
+            self.write_made,
+        )?;
         Ok(())
     }
 
     /// The direction becomes held at the hold mark, and is no more held at half of it.
     fn hold_back(&mut self, hold: u64)
-        ensures side { plain_side self.new ≡ plain_side self.old }
-        ensures passage { passage_of self.new ≡ hold_part hold (passage_of self.old) }
-        ensures spares { (self.new.input.spare ≡ self.old.input.spare) × (self.new.raw_output.spare ≡ self.old.raw_output.spare) }
+        ensures passage { passage_of self.new ≡ (λ to. hold_part hold (passage_of self.old to)) }
+        ensures same { self.new ≡ record self.old { held = self.new.held } }
     {
         let waiting = self.raw_output.len() as u64;
         if waiting >= hold {
-            self.flow.held = true;
+            self.held = true;
         } else if waiting <= hold / 2 {
-            self.flow.held = false;
+            self.held = false;
         }
     }
 
-    /// The read filter runs until the raw input is used up or the input reaches the read mark, unless it is finished.
+    /// The read filter makes a step, until the input reaches the read mark.
     pub(crate) fn run_read_filter(&mut self, mark: u64, ended: bool)
         requires { HasInputRoom mark self.old }
-        ensures side { plain_side self.new ≡ plain_side self.old }
-        ensures passage { passage_of self.new ≡ read_part mark ended (passage_of self.old) }
-        ensures spare { self.new.raw_output.spare ≡ self.old.raw_output.spare }
+        ensures side { plain_side self.new ≡ with_bad self.new.bad (plain_side self.old) }
+        ensures passage { passage_of self.new ≡ (λ to. read_part mark ended (passage_of self.old to)) }
+        ensures most { length self.new.input.items + length self.new.output.items ≤ most_offered mark self.old }
+        ensures same { SameEnd self.old self.new }
     {
-        if self.flow.read_done {
-            return;
-        }
-        let room = (mark as usize).saturating_sub(self.input.len());
-        let count = self.raw_input.len().min(room);
-        let done = ended && count == self.raw_input.len();
-        self.last_used = last_of(&self.raw_input, count, self.last_used);
-        self.raw_input.give(&mut self.input, count);
-        self.flow.used += count as u64;
-        self.flow.read_done = done;
+        self.readable = 0;
+        let _most = self.read;
+        self.read_made = step_over(
+            &mut self.reader,
+            &mut self.raw_input,
+            &mut self.input,
+            &mut self.beside,
+            mark as usize,
+            ended,
+            self.read_made,
+        );
+        self.bad = first_place(self.bad, self.reader.stopped());
     }
 
     /// The input goes whole to an empty output, unless the direction is held.
     fn move_input(&mut self)
         ensures side { plain_side self.new ≡ plain_side self.old }
-        ensures passage { passage_of self.new ≡ move_part (passage_of self.old) }
-        ensures spare { self.new.raw_output.spare ≡ self.old.raw_output.spare }
+        ensures passage { passage_of self.new ≡ (λ to. move_part (passage_of self.old to)) }
+        ensures most { length self.new.output.items ≤ length self.old.input.items + length self.old.output.items }
+        ensures same { SameEnd self.old self.new }
     {
-        if !self.flow.held && self.output.len() == 0 {
-            self.flow.moved += self.input.len() as u64;
+        if !self.held && self.output.len() == 0 {
+            self.readable = 0;
+            self.moved += self.input.len() as u64;
             swap(&mut self.input, &mut self.output);
         }
     }
 
-    /// Whether all that will ever come was moved.
-    fn has_moved_all(&self) -> bool
-        ensures { result ≡ has_moved_all (passage_of self.now) }
+    /// Whether the write filter may finish: all that will ever come was moved.
+    fn may_finish(&self, may_end: bool) -> bool
+        ensures { result ≡ (may_end && (self.now.reader.finished && length self.now.input.items == 0)) }
     {
-        self.flow.read_done && self.input.len() == 0
+        may_end && self.reader.is_finished() && self.input.len() == 0
     }
 
-    /// The write filter runs until the output is used up or the raw output reaches the hold mark, unless it is finished or
-    /// the direction is held.
-    fn run_write_filter(&mut self, hold: u64, finish: bool)
+    /// The write filter makes a step, until the raw output reaches the hold mark, unless the direction is held.
+    fn run_write_filter(&mut self, hold: u64, may_end: bool, to_bad: &mut Option<u64>)
         requires { HasOutputRoom hold (length self.old.output.items) self.old }
         ensures side { plain_side self.new ≡ plain_side self.old }
-        ensures passage { passage_of self.new ≡ write_part hold finish (passage_of self.old) }
+        ensures passage { passage_of self.new to_bad.new ≡ write_part hold may_end (passage_of self.old to_bad.old) }
     {
-        if self.flow.held || self.flow.write_done {
+        if self.held {
             return;
         }
-        let room = hold.saturating_sub(self.raw_output.len() as u64);
-        let count = self.output.len().min(room as usize);
-        let over = finish && self.has_moved_all();
-        let done = over && count == self.output.len();
-        self.last_turned = last_of(&self.output, count, self.last_turned);
-        self.output.give(&mut self.raw_output, count);
-        self.flow.turned += count as u64;
-        self.flow.write_done = done;
+        self.readable = 0;
+        let _most = self.moved;
+        let over = self.may_finish(may_end);
+        self.write_made = step_over(
+            &mut self.writer,
+            &mut self.output,
+            &mut self.raw_output,
+            &mut self.beside,
+            hold as usize,
+            over,
+            self.write_made,
+        );
+        *to_bad = first_place(*to_bad, self.writer.stopped());
     }
 
     /// One round, in room that was made before.
-    fn make_round(&mut self, mark: u64, hold: u64, ended: bool, from_live: bool, to_live: bool)
+    fn make_round(
+        &mut self,
+        mark: u64,
+        hold: u64,
+        ended: bool,
+        from_live: bool,
+        to_live: bool,
+        to_bad: &mut Option<u64>,
+    )
         requires input { HasInputRoom mark self.old }
-        requires raw_output { HasOutputRoom hold (not_turned self.old) self.old }
-        ensures side { plain_side self.new ≡ plain_side self.old }
-        ensures passage { passage_of self.new ≡ pass_round mark hold ended from_live to_live (passage_of self.old) }
+        requires raw_output { HasOutputRoom hold (most_offered mark self.old) self.old }
+        ensures side { plain_side self.new ≡ with_bad self.new.bad (plain_side self.old) }
+        ensures passage { passage_of self.new to_bad.new ≡ pass_round mark hold ended from_live to_live (passage_of self.old to_bad.old) }
     {
         if !to_live {
             return;
@@ -151,9 +222,9 @@ impl SideState {
         if from_live {
             self.run_read_filter(mark, ended);
             self.move_input();
-            self.run_write_filter(hold, true);
+            self.run_write_filter(hold, true, to_bad);
         } else {
-            self.run_write_filter(hold, false);
+            self.run_write_filter(hold, false, to_bad);
         }
     }
 
@@ -165,73 +236,107 @@ impl SideState {
         ended: bool,
         from_live: bool,
         to_live: bool,
+        to_bad: &mut Option<u64>,
     ) -> Result<(), NoMemory>
-        ensures side { plain_side self.new ≡ plain_side self.old }
+        ensures side { plain_side self.new ≡ with_bad self.new.bad (plain_side self.old) }
         ensures passage { MatchResult result
-            (λ _. Passed (pass_round mark hold ended from_live to_live) (passage_of self.old) (passage_of self.new))
-            (λ _. SomeRounds (pass_round mark hold ended from_live to_live) (passage_of self.old) (passage_of self.new)) }
+            (λ _. Passed (pass_round mark hold ended from_live to_live) (passage_of self.old to_bad.old) (passage_of self.new to_bad.new))
+            (λ _. SomeRounds (pass_round mark hold ended from_live to_live) (passage_of self.old to_bad.old) (passage_of self.new to_bad.new)) }
     {
         loop {
             self.reserve_round(mark, hold)?;
-            let before = self.flow;
-            self.make_round(mark, hold, ended, from_live, to_live);
-            if same_progress(self.flow, before) {
+            let before = self.reached(*to_bad);
+            self.make_round(mark, hold, ended, from_live, to_live, to_bad);
+            if is_same(self.reached(*to_bad), before) {
                 return Ok(());
             }
         }
     }
 
-    /// Gives up the room of each of the four buffers that has no byte.
+    /// Gives up the room of each of the four buffers that has no byte, and the room beside them.
     fn give_up_rooms(&mut self, alloc: Global)
         ensures side { plain_side self.new ≡ plain_side self.old }
         ensures passage { passage_of self.new ≡ passage_of self.old }
         ensures rooms { HasNoIdleRoom self.new }
     {
+        self.readable = 0;
+        self.beside = Vec::new(alloc);
         give_up(&mut self.raw_input, alloc);
         give_up(&mut self.input, alloc);
         give_up(&mut self.output, alloc);
         give_up(&mut self.raw_output, alloc);
     }
 
-    /// Rounds until one changes nothing. Then no buffer without a byte has room.
+    /// Rounds until one changes nothing. Then no buffer without a byte has room, and there is none beside the buffers.
     pub(crate) fn pass(
         &mut self,
         alloc: Global,
         mark: u64,
         hold: u64,
-        ended: bool,
-        from_live: bool,
         to_live: bool,
+        to_bad: &mut Option<u64>,
     ) -> Result<(), NoMemory>
-        ensures side { plain_side self.new ≡ plain_side self.old }
+        ensures side { plain_side self.new ≡ with_bad self.new.bad (plain_side self.old) }
         ensures passage { MatchResult result
-            (λ _. Passed (pass_round mark hold ended from_live to_live) (passage_of self.old) (passage_of self.new))
-            (λ _. SomeRounds (pass_round mark hold ended from_live to_live) (passage_of self.old) (passage_of self.new)) }
+            (λ _. Passed (pass_round mark hold self.old.flags.ended self.old.flags.live to_live) (passage_of self.old to_bad.old) (passage_of self.new to_bad.new))
+            (λ _. SomeRounds (pass_round mark hold self.old.flags.ended self.old.flags.live to_live) (passage_of self.old to_bad.old) (passage_of self.new to_bad.new)) }
         ensures rooms { OnOk result (HasNoIdleRoom self.new) }
     {
-        self.make_rounds(mark, hold, ended, from_live, to_live)?;
+        let flags = self.flags;
+        self.make_rounds(mark, hold, flags.ended, flags.live, to_live, to_bad)?;
         self.give_up_rooms(alloc);
         Ok(())
     }
 }
 
 impl Relay {
-    ghost use Rattle.relay_state.specs.Passing.{PassedFrom, PartlyPassed};
+    ghost use Rattle.relay_model.specs.Plain.{side_at, change_side};
+    ghost use Rattle.relay_state.specs.State.{with_plain};
+    ghost use Rattle.relay_state.specs.Passing.{with_bad, PassedFrom, PartlyPassed};
+    ghost use Rattle.relay_core.specs.HalfPassed.{HalfPassed, HalfPartlyPassed};
 
-    /// Passes the direction that begins at the side: rounds until one changes nothing. Want of memory comes between two
-    /// rounds. Afterwards no buffer that has no byte holds memory.
-    pub fn pass(&mut self, from: SideId) -> Result<(), NoMemory>
+    /// The first bad place that a filter of the side met.
+    fn bad(&self, side: SideId) -> Option<u64>
+        requires { side.link < self.now.state.plain.opened }
+        ensures { result ≡ (side_at self.now.state.plain side).bad }
+    {
+        self.sides[side.number()].bad
+    }
+
+    fn set_bad(&mut self, side: SideId, place: Option<u64>)
+        requires { side.link < self.old.state.plain.opened }
+        ensures { self.new.state ≡ with_plain (change_side side (with_bad place) self.old.state.plain) self.old.state }
+    {
+        let own = &mut self.sides[side.number()];
+        own.bad = place;
+    }
+
+    /// Passes the direction that begins at the side, but for the bad place of the peer, which is handed back.
+    fn pass_half(&mut self, from: SideId, to_bad: &mut Option<u64>) -> Result<(), NoMemory>
         requires { from.link < self.old.state.plain.opened }
         ensures { MatchResult result
-            (λ _. PassedFrom self.old.state from self.new.state)
-            (λ _. PartlyPassed self.old.state from self.new.state) }
+            (λ _. HalfPassed self.old.state from to_bad.old self.new.state to_bad.new)
+            (λ _. HalfPartlyPassed self.old.state from to_bad.old self.new.state to_bad.new) }
     {
         let mark = self.read_mark(from);
         let hold = self.hold_mark(from.peer());
         let to_live = self.flags(from.peer()).live;
         let alloc = self.alloc;
         let own = &mut self.sides[from.number()];
-        let flags = own.flags;
-        own.pass(alloc, mark, hold, flags.ended, flags.live, to_live)
+        own.pass(alloc, mark, hold, to_live, to_bad)
+    }
+
+    /// Passes the direction that begins at the side: rounds until one changes nothing. Want of memory comes between two
+    /// rounds. After a pass that ended no buffer of the direction that has no byte holds memory.
+    pub fn pass(&mut self, from: SideId) -> Result<(), NoMemory>
+        requires { from.link < self.old.state.plain.opened }
+        ensures { MatchResult result
+            (λ _. PassedFrom self.old.state from self.new.state)
+            (λ _. PartlyPassed self.old.state from self.new.state) }
+    {
+        let mut to_bad = self.bad(from.peer());
+        let result = self.pass_half(from, &mut to_bad);
+        self.set_bad(from.peer(), to_bad);
+        result
     }
 }

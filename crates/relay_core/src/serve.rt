@@ -13,16 +13,18 @@ ghost use Rattle.relay_core.specs.RelayValue.{spare_read};
 
 use crate::relay::Relay;
 use crate::side::SideState;
+use crate::step::reserve_step;
 use ev_types::{NoMemory, SideId};
 
 impl SideState {
     ghost use Rattle.std.specs.Prelude.{false};
     ghost use Rattle.relay_state.specs.State.{lane_got};
     ghost use Rattle.relay_state.specs.Passage.{Passage, read_part};
+    ghost use Rattle.relay_state.specs.Passing.{with_bad};
     ghost use Rattle.relay_core.specs.SideView.{plain_side, flow_of_side, lane_of, passage_of, read_mark_of, spare_of};
 
-    /// Makes room for a read of so many bytes, and for no more than waits then, however great the mark is. It is also refused
-    /// where they could not be counted.
+    /// Makes room for a read of so many bytes, and for no more than can come then, however great the mark is. It is also refused
+    /// where they, or what the read filter makes of them, could not be counted.
     fn reserve_read(&mut self, room: usize) -> Result<(), NoMemory>
         ensures side { plain_side self.new ≡ plain_side self.old }
         ensures passage { passage_of self.new ≡ passage_of self.old }
@@ -31,13 +33,18 @@ impl SideState {
         if room as u64 > u64::MAX - self.read {
             return Err(NoMemory);
         }
+        self.readable = 0;
         let mark = self.read_mark() as usize;
-        let input = self.input.len();
-        let raw = self.raw_input.len().saturating_add(room);
-        if input > 0 || raw > mark {
-            self.input.reserve(raw.min(mark.saturating_sub(input)))?;
-        }
+        reserve_step(
+            self.reader.kind(),
+            self.raw_input.len() + room,
+            &mut self.input,
+            &mut self.beside,
+            mark,
+            self.read_made,
+        )?;
         self.raw_input.reserve(room)?;
+        self.readable = room;
         Ok(())
     }
 
@@ -45,11 +52,12 @@ impl SideState {
     fn got(&mut self, bytes: &[u8], time: u64)
         requires some { 0 < length bytes.now }
         requires room { length bytes.now ≤ spare_of self.old }
-        ensures side { plain_side self.new ≡ active_at time Read (plain_side self.old) }
+        ensures side { plain_side self.new ≡ with_bad self.new.bad (active_at time Read (plain_side self.old)) }
         ensures passage { passage_of self.new
-            ≡ (let x = passage_of self.old in read_part (read_mark_of self.old) false (record x { lane = lane_got bytes.now x.lane })) }
+            ≡ (λ to. (let x = passage_of self.old to in read_part (read_mark_of self.old) false (record x { lane = lane_got bytes.now x.lane }))) }
     {
         let mark = self.read_mark();
+        self.readable = 0;
         self.last_read = time;
         self.read += bytes.len() as u64;
         self.raw_input.push(bytes);
@@ -63,8 +71,9 @@ impl SideState {
         ensures flow { flow_of_side self.new ≡ flow_given count (flow_of_side self.old) }
         ensures lane { lane_of self.new ≡ lane_taken count (lane_of self.old) }
     {
+        let _most = self.write_made;
         self.raw_output.drop_front(count);
-        self.flow.given += count as u64;
+        self.given += count as u64;
     }
 }
 

@@ -1,13 +1,16 @@
 // One side, with the direction that begins at it: the bytes that were read from its end, on their way to the peer's
 // end. They pass the raw input, the input, the output and the raw output; the side's read filter stands between the
-// first two, the peer's write filter between the last two. Each filter hands its bytes on as they are.
-ghost use Rattle.std.specs.Prelude.{◌≡◌, ◌+◌, ◌≤◌, length};
-ghost use Rattle.relay_model.specs.Rooms.{mark_or};
+// first two, the peer's write filter between the last two.
+ghost use Rattle.std.specs.Prelude.{◌≡◌, ◌+◌, ◌≤◌, ◌<◌, ◌-◌, ◌^◌, min, length, vec_capacity};
+ghost use Rattle.relay_model.specs.Rooms.{mark_or, most_at_once};
+ghost use Rattle.relay_core.specs.StepRoom.{CanRead};
 
 use crate::flags::SideFlags;
+use ev_types::FilterKind;
 use evbuf_chain::ByteQueue;
 use relay_settings::{Marks, Timeouts};
 use std::alloc::Global;
+use stream_filters::AnyFilter;
 
 /// The most bytes of one read and of one write, and the length of the input at which reading stops where no mark is set.
 pub(crate) const MOST_AT_ONCE: usize = 16_384;
@@ -19,22 +22,10 @@ fn mark_or(set: u64, usual: u64) -> u64
     if set == 0 { usual } else { set }
 }
 
-/// How far a direction has come: bytes that the read filter used, bytes that were moved to the output, bytes that the
-/// write filter used, bytes that the peer's end took; and whether each filter is finished and the direction is held.
-#[derive(Clone, Copy, PartialEq, Eq)]
-pub(crate) struct Progress {
-    pub(crate) used: u64,
-    pub(crate) moved: u64,
-    pub(crate) turned: u64,
-    pub(crate) given: u64,
-    pub(crate) read_done: bool,
-    pub(crate) write_done: bool,
-    pub(crate) held: bool,
-}
-
-/// A side and its direction: its marks and timeouts, when bytes were read from its end last, and when it took some, and
-/// the last byte that each filter of the direction used. No count passes the count of the step before it, so none passes
-/// the bytes read.
+/// A side and its direction: its marks and timeouts, when bytes were read from its end last, and when it took some, and the first bad
+/// place that a filter of the side met. Of the direction: how many bytes were read, made of them by the read filter of this side,
+/// moved, made of those by the write filter of the peer, and given to its end. No count passes the count of the step before it. What a
+/// filter makes that doesn't hand its bytes on is made beside the buffers first.
 #[derive(Drop)]
 pub(crate) struct SideState {
     pub(crate) flags: SideFlags,
@@ -42,18 +33,27 @@ pub(crate) struct SideState {
     pub(crate) timeouts: Timeouts,
     pub(crate) last_read: u64,
     pub(crate) last_write: u64,
+    pub(crate) bad: Option<u64>,
     pub(crate) read: u64,
-    pub(crate) flow: Progress,
-    pub(crate) last_used: Option<u8>,
-    pub(crate) last_turned: Option<u8>,
+    pub(crate) reader: AnyFilter,
+    pub(crate) read_made: u64,
+    pub(crate) moved: u64,
+    pub(crate) writer: AnyFilter,
+    pub(crate) write_made: u64,
+    pub(crate) given: u64,
+    pub(crate) held: bool,
     pub(crate) raw_input: ByteQueue,
     pub(crate) input: ByteQueue,
     pub(crate) output: ByteQueue,
     pub(crate) raw_output: ByteQueue,
-    ghost used: { flow.used + length raw_input.items ≤ read },
-    ghost moved: { flow.moved + length input.items ≤ flow.used },
-    ghost turned: { flow.turned + length output.items ≤ flow.moved },
-    ghost given: { flow.given + length raw_output.items ≤ flow.turned },
+    pub(crate) beside: Vec<u8>,
+    /// For how many bytes of a read there is room now.
+    pub(crate) readable: usize,
+    ghost count_used: { reader.used + length raw_input.items ≤ read },
+    ghost count_moved: { moved + length input.items ≤ read_made },
+    ghost count_turned: { writer.used + length output.items ≤ moved },
+    ghost count_given: { given + length raw_output.items ≤ write_made },
+    ghost room: { 0 < readable → CanRead reader.kind read read_made (mark_or marks.read_high most_at_once) raw_input input (vec_capacity beside) readable },
 }
 
 impl SideState {
@@ -61,45 +61,45 @@ impl SideState {
     ghost use Rattle.relay_model.specs.Settings.{usual};
     ghost use Rattle.relay_model.specs.Flow.{no_flow};
     ghost use Rattle.relay_model.specs.Plain.{new_side};
-    ghost use Rattle.relay_state.specs.State.{no_lane};
-    ghost use Rattle.relay_core.specs.SideView.{plain_side, flow_of_side, lane_of, read_mark_of, hold_mark_of};
+    ghost use Rattle.relay_core.specs.SideView.{fresh_lane, plain_side, flow_of_side, lane_of, read_mark_of, hold_mark_of};
     ghost use Rattle.relay_core.specs.SettingsView.{model_marks, model_timeouts};
 
-    /// A side of a link that is opened at a time. Takes no memory.
+    /// A side of a link that is opened at a time, with the filters of the direction that begins at it. Takes no memory.
     pub(crate) fn new(
         alloc: Global,
         marks: Marks,
         timeouts: Timeouts,
+        filters: (FilterKind, FilterKind),
         connected: bool,
         time: u64,
     ) -> SideState
         ensures side { plain_side result
             ≡ (let x = new_side usual time 0 In connected in record x { marks = model_marks marks; timeouts = model_timeouts timeouts }) }
         ensures flow { flow_of_side result ≡ no_flow }
-        ensures lane { lane_of result ≡ no_lane }
+        ensures lane { lane_of result ≡ fresh_lane filters.0 filters.1 }
     {
+        let (reader, writer) = filters;
         SideState {
             flags: SideFlags::at_opening(connected),
             marks,
             timeouts,
             last_read: time,
             last_write: time,
+            bad: None,
             read: 0,
-            flow: Progress {
-                used: 0,
-                moved: 0,
-                turned: 0,
-                given: 0,
-                read_done: false,
-                write_done: false,
-                held: false,
-            },
-            last_used: None,
-            last_turned: None,
+            reader: AnyFilter::new(reader),
+            read_made: 0,
+            moved: 0,
+            writer: AnyFilter::new(writer),
+            write_made: 0,
+            given: 0,
+            held: false,
             raw_input: ByteQueue::new(alloc),
             input: ByteQueue::new(alloc),
             output: ByteQueue::new(alloc),
             raw_output: ByteQueue::new(alloc),
+            beside: Vec::new(alloc),
+            readable: 0,
         }
     }
 
@@ -117,17 +117,17 @@ impl SideState {
         mark_or(self.marks.write_high, hold)
     }
 
-    /// How many bytes were read and not moved yet.
+    /// How many bytes were read and not moved yet, or 2^64 - 1 where that is more.
     pub(crate) fn input_len(&self) -> usize
-        ensures { result ≡ length self.now.raw_input.items + length self.now.input.items }
+        ensures { result ≡ min (length self.now.raw_input.items + length self.now.input.items) (2 ^ 64 - 1) }
     {
-        self.raw_input.len() + self.input.len()
+        self.raw_input.len().saturating_add(self.input.len())
     }
 
-    /// How many bytes were moved and not given yet.
+    /// How many bytes were moved and not given yet, or 2^64 - 1 where that is more.
     pub(crate) fn output_len(&self) -> usize
-        ensures { result ≡ length self.now.output.items + length self.now.raw_output.items }
+        ensures { result ≡ min (length self.now.output.items + length self.now.raw_output.items) (2 ^ 64 - 1) }
     {
-        self.output.len() + self.raw_output.len()
+        self.output.len().saturating_add(self.raw_output.len())
     }
 }

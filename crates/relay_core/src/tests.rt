@@ -2,7 +2,8 @@
 ghost use Rattle.std.specs.Prelude.{◌≡◌, ◌<◌, length};
 
 use super::*;
-use ev_types::{Cause, LinkState, NoMemory, Side, SideId};
+use ev_types::{Cause, FilterKind, LinkState, NoMemory, Side, SideId};
+use std::alloc::Global;
 use std::test::Fail;
 
 const IN: SideId = SideId {
@@ -244,6 +245,141 @@ fn an_idle_side_is_freed_and_its_peer_gets_what_waits(rt: HostRuntime) -> Result
     close(&mut relay, 0);
     assert_eq!(rt; (turn(&mut relay, 99), relay.open_links()), (None, 1));
     assert_eq!(rt; give(&mut relay, OUT, 1), 1);
+    close(&mut relay, 0);
+    assert_eq!(rt; relay.open_links(), 0);
+    Ok(())
+}
+
+/// A run of one direction: its filters, the hold mark, what is read at In in two pieces before its end, what is given to Out
+/// by then, and why either side is to be freed.
+#[derive(Drop)]
+struct Run {
+    in_read: FilterKind,
+    out_write: FilterKind,
+    hold: u64,
+    first: &'static [u8],
+    second: &'static [u8],
+    given: &'static [u8],
+    faults: (Option<Cause>, Option<Cause>),
+}
+
+/// Gives Out what is offered to it, and passes on, a few times.
+fn give_all(relay: &mut Relay, into: &mut Vec<u8>) -> Result<(), NoMemory> {
+    for _ in 0..4 {
+        if OUT.link < relay.opened() {
+            into.extend_from_slice(relay.offer(OUT))?;
+        }
+        give(relay, OUT, usize::MAX);
+        pass(relay, IN)?;
+    }
+    Ok(())
+}
+
+/// What Out is given, and why either side is to be freed.
+fn run_through(
+    alloc: Global,
+    run: &Run,
+    given: &mut Vec<u8>,
+) -> Result<(Option<Cause>, Option<Cause>), NoMemory> {
+    let settings = Settings {
+        hold: run.hold,
+        in_read: run.in_read,
+        out_write: run.out_write,
+        ..Settings::usual()
+    };
+    let mut relay = Relay::new(alloc, settings);
+    open(&mut relay, true)?;
+    for piece in [run.first, run.second, b""] {
+        read(&mut relay, IN, piece)?;
+        give_all(&mut relay, given)?;
+    }
+    Ok((fault(&relay, IN), fault(&relay, OUT)))
+}
+
+#[test]
+fn bytes_pass_through_the_filters_of_both_sides(rt: HostRuntime) -> Result<(), Fail> {
+    let runs = [
+        Run {
+            in_read: FilterKind::ToCrlf,
+            out_write: FilterKind::None,
+            hold: 100,
+            first: b"a\nb\r",
+            second: b"\nc\n",
+            given: b"a\r\nb\r\nc\r\n",
+            faults: (None, None),
+        },
+        // a CR is held between two reads, and given at the end
+        Run {
+            in_read: FilterKind::None,
+            out_write: FilterKind::ToLf,
+            hold: 100,
+            first: b"a\r",
+            second: b"\nb\r",
+            given: b"a\nb\r",
+            faults: (None, None),
+        },
+        // the place counts from the first byte that was read
+        Run {
+            in_read: FilterKind::HexIn,
+            out_write: FilterKind::None,
+            hold: 100,
+            first: b"616",
+            second: b"2zz",
+            given: b"ab",
+            faults: (Some(Cause::Filter(4)), None),
+        },
+        // the write filter's bad place is that of the side it gives to
+        Run {
+            in_read: FilterKind::None,
+            out_write: FilterKind::HexIn,
+            hold: 100,
+            first: b"6",
+            second: b"g",
+            given: b"",
+            faults: (None, Some(Cause::Filter(1))),
+        },
+        // two digits a byte pass a mark of three
+        Run {
+            in_read: FilterKind::HexOut,
+            out_write: FilterKind::HexIn,
+            hold: 3,
+            first: b"\x01\xab\xff",
+            second: b"zyxw",
+            given: b"\x01\xab\xffzyxw",
+            faults: (None, None),
+        },
+        Run {
+            in_read: FilterKind::ToLf,
+            out_write: FilterKind::HexOut,
+            hold: 3,
+            first: b"\x01\r",
+            second: b"\n\xff",
+            given: b"010aff",
+            faults: (None, None),
+        },
+    ];
+    for run in &runs {
+        let mut given = Vec::new(rt.alloc());
+        assert_eq!(rt; run_through(rt.alloc(), run, &mut given)?, run.faults);
+        assert!(rt; given.as_slice() == run.given);
+    }
+    Ok(())
+}
+
+#[test]
+fn the_first_bad_place_of_a_side_is_told(rt: HostRuntime) -> Result<(), Fail> {
+    let settings = Settings {
+        in_read: FilterKind::HexIn,
+        in_write: FilterKind::HexIn,
+        ..Settings::usual()
+    };
+    let mut relay = Relay::new(rt.alloc(), settings);
+    open(&mut relay, true)?;
+    read(&mut relay, OUT, b"00q")?;
+    assert_eq!(rt; fault(&relay, IN), Some(Cause::Filter(2)));
+    read(&mut relay, IN, b"z")?;
+    assert_eq!(rt; fault(&relay, IN), Some(Cause::Filter(2)));
+    assert_eq!(rt; fault(&relay, OUT), None);
     close(&mut relay, 0);
     assert_eq!(rt; relay.open_links(), 0);
     Ok(())

@@ -1,5 +1,5 @@
 -- A step that runs, and then stops or finishes or neither.
-use Rattle.std.proofs.Common.{◌≡◌, ℕ, ◌+◌, ◌-◌, ◌≤◌, Bool, false, ◌||◌, ◌==◌, if◌then◌else◌, List, [], ◌++◌, length, take, Option, None, sym, ◌∙◌, ap, arith, append_assoc, length-append}
+use Rattle.std.proofs.Common.{◌≡◌, ℕ, ◌+◌, ◌-◌, ◌≤◌, Bool, true, false, min, nat_le, leb-true, leb-false, refl, ◌||◌, ◌==◌, if◌then◌else◌, List, [], ◌++◌, length, take, Option, None, sym, ◌∙◌, ap, arith, append_assoc, length-append}
 use Rattle.std.specs.Prelude.{nat_lt, is_some, max}
 use Rattle.ev_types.specs.declared.filter.FilterKind.{FilterKind}
 use Rattle.relay_model.specs.Conserved.{Running}
@@ -9,6 +9,24 @@ use Rattle.relay_model.proofs.FilterFitLemmas.{step_fits}
 use Rattle.stream_filters.specs.declared.knowledge.Knowledge.{Knowledge}
 use Rattle.stream_filters.specs.Knowledge.{running_of}
 use Rattle.stream_filters.specs.Parts.{HasRoom, RanOver}
+use Rattle.stream_filters.specs.StepAnswers.{most_by_step}
+
+-- a step makes no more than it makes at most
+pub most-enough : (k : FilterKind) (count held limit n : ℕ) → n ≤ most_made k count → (limit ≤ held → n ≡ 0) →
+    held + n ≤ max held (limit + 1) → n ≤ most_by_step k count held limit
+most-enough k count held limit n a b d = go (nat_le limit held) refl
+  where
+    go : (t : Bool) → nat_le limit held ≡ t → n ≤ (if t then 0 else min (limit - held + 1) (most_made k count))
+    go true e = omega (arith, b (leb-true limit held e))
+    go false e = omega (arith, leb-false limit held e, a, d)
+
+-- of any filter
+pub step-most : (x : Running) (over : Bool) (limit n : ℕ) (src : List ℕ) →
+    length (stepped x over limit n src).made ≤ most_by_step x.kind (length src) n limit
+step-most x over limit n src =
+    let fits = step_fits x over limit n src in
+    most-enough x.kind (length src) n limit (length (stepped x over limit n src).made) fits.most
+    (λ le. ap length (fits.unchanged le)) fits.passes_by_one
 
 module _ (k : FilterKind) (limit : ℕ) (over : Bool) (before : Knowledge) (src old : List ℕ) (going : before.finished ≡ false)
     (unstopped : before.stopped ≡ None) where
@@ -36,12 +54,12 @@ module _ (k : FilterKind) (limit : ℕ) (over : Bool) (before : Knowledge) (src 
   made_is = ap (λ (s : Stepped). s.made) goes
 
   -- room for all that the step makes
-  pub room-all : (room capacity : ℕ) →
-      ((n : ℕ) → n ≤ most_made k (length src) → (limit ≤ length old → n ≡ 0) → length old + n ≤ max (length old) (limit + 1) → n ≤ room) →
-      length old + room ≤ capacity → length old + length output ≤ capacity
-  room-all room capacity enough there =
+  pub room-all : (capacity : ℕ) → length old + most_by_step k (length src) (length old) limit ≤ capacity →
+      length old + length output ≤ capacity
+  room-all capacity there =
       let fits = step_fits x over limit (length old) src in
-      let n = enough (length output) fits.most (λ le. ap length (fits.unchanged le)) fits.passes_by_one in
+      let n = most-enough k (length src) (length old) limit (length output) fits.most (λ le. ap length (fits.unchanged le))
+      fits.passes_by_one in
       omega (arith, n, there)
 
   pub room-run : (capacity : ℕ) → length old + length output ≤ capacity → HasRoom k limit before.used before.last src old capacity

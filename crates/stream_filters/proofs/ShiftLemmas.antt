@@ -1,11 +1,12 @@
 -- A step into a target that holds bytes is the step into an empty one, with what the limit leaves.
-use Rattle.std.proofs.Common.{◌≡◌, ℕ, ◌+◌, ◌-◌, Bool, true, false, ◌==◌, ◌||◌, if◌then◌else◌, List, [], ◌∷◌, length, take, Option, Some, refl, ◌∙◌, ap, arith}
+use Rattle.std.proofs.Common.{◌≡◌, ℕ, ◌+◌, ◌-◌, Bool, true, false, ◌==◌, ◌||◌, if◌then◌else◌, List, [], ◌∷◌, length, take, min, Option, Some, refl, ◌∙◌, arith}
 use Rattle.std.specs.Prelude.{nat_le, nat_lt, is_some}
 use Rattle.std.proofs.lemmas.Bool.Decides.{nat_tests}
 use Rattle.ev_types.specs.declared.filter.FilterKind.{FilterKind}
 use Rattle.relay_model.specs.Conserved.{Running}
 use Rattle.relay_model.specs.FilterRun.{Ran, goes_on, run, adds, is_bad_byte}
-use Rattle.relay_model.specs.FilterStep.{count_of, after_bytes, Stepped, ending, stepped}
+use Rattle.relay_model.specs.FilterStep.{count_of, after_bytes, Stepped, ending, stepped, most_made}
+use Rattle.stream_filters.specs.StepAnswers.{most_by_step}
 
 le-shift : (limit n m : ℕ) → nat_le (limit - n) m ≡ nat_le limit (n + m)
 le-shift limit n m = by_test (nat_le (limit - n) m) (nat_le limit (n + m)) refl refl
@@ -49,3 +50,14 @@ step-shift x over limit n src =
     (nat_lt (plus (length (run x.kind (limit - n) 0 (count_of x) x.last src).made) i) (limit - n)))
     ∙ (λ i. go (ran i) (nat_lt (length (ran i).made) (limit - n)))
     ∙ (λ i. go r (lt-shift limit n (length r.made) i))
+
+-- and it needs no more room then
+pub most-shift : (k : FilterKind) (count n limit : ℕ) → most_by_step k count 0 (limit - n) ≡ most_by_step k count n limit
+most-shift k count n limit = by_test (nat_le (limit - n) 0) (nat_le limit n) refl refl
+  where
+    by_test : (a b : Bool) → nat_le (limit - n) 0 ≡ a → nat_le limit n ≡ b →
+        (if a then 0 else min (limit - n - 0 + 1) (most_made k count)) ≡ (if b then 0 else min (limit - n + 1) (most_made k count))
+    by_test true true e f = refl
+    by_test false false e f = omega arith
+    by_test true false e f = absurd (grind (arith, nat_tests, e, f))
+    by_test false true e f = absurd (grind (arith, nat_tests, e, f))

@@ -1,12 +1,18 @@
 -- How a step of a filter answers.
-use Rattle.std.specs.Prelude.{◌≡◌, ℕ, ◌+◌, ◌^◌, Bool, true, false, not, ◌&&◌, ◌||◌, nat_lt, List, ◌++◌, take, Some, None, is_some, Result, Ok, Err}
+use Rattle.std.specs.Prelude.{◌≡◌, ℕ, ◌+◌, ◌-◌, min, nat_le, if◌then◌else◌, ◌^◌, Bool, true, false, not, ◌&&◌, ◌||◌, nat_lt, List, ◌++◌, take, Some, None, is_some, Result, Ok, Err}
+use Rattle.ev_types.specs.declared.filter.FilterKind.{FilterKind}
 use Rattle.ev_types.specs.declared.filter.Mode.{Mode}
 use Rattle.ev_types.specs.declared.filter.Mode.TheVariants as mode_of
 use Rattle.relay_model.specs.Conserved.{Running}
-use Rattle.relay_model.specs.FilterStep.{Stepped}
+use Rattle.relay_model.specs.FilterStep.{Stepped, most_made}
 use Rattle.stream_filters.specs.declared.stream_filter.Step.{Step}
 use Rattle.stream_filters.specs.declared.fault.FilterFault.{FilterFault}
 use Rattle.stream_filters.specs.declared.fault.FilterFault.TheVariants.{Memory, BadByte, Spent}
+
+-- How many bytes a step makes at most that is offered so many, where the target holds `held`: none at the limit, and else at most
+-- one byte above it.
+abbrev pub most_by_step : FilterKind → ℕ → ℕ → ℕ → ℕ
+most_by_step k count held limit = if nat_le limit held then 0 else min (limit - held + 1) (most_made k count)
 
 -- does the stream end behind the source
 abbrev pub is_last : Mode → Bool

@@ -1,13 +1,13 @@
 // A filter whose kind is chosen when it is made.
-ghost use Rattle.std.specs.Prelude.{◌≡◌, true, [], length};
+ghost use Rattle.std.specs.Prelude.{◌≡◌, ◌≤◌, ◌<◌, ◌+◌, ◌^◌, true, [], length, take, min, vec_capacity, ◌-◌, ◌⊎◌};
 ghost use Rattle.ev_types.specs.declared.filter.FilterKind.TheVariants as kind_of;
 ghost use Rattle.ev_types.specs.declared.filter.Mode.TheVariants as mode_of;
 ghost use Rattle.relay_model.specs.FilterStep.{begun, stepped};
-ghost use Rattle.stream_filters.specs.StepAnswers.{AnswersInPlace, is_last, is_spent, says_spent};
+ghost use Rattle.stream_filters.specs.StepAnswers.{most_by_step, WasMade, AnswersInPlace, is_last, is_spent, says_spent};
 
 use crate::fault::FilterFault;
 use crate::knowledge::Knowledge;
-use crate::step::{step_by, step_in_place};
+use crate::step::{hand_on, make, step_by, step_in_place};
 use crate::stream_filter::{Step, StreamFilter};
 use ev_types::{FilterKind, Mode};
 use std::marker::Model;
@@ -75,6 +75,43 @@ impl AnyFilter {
         ensures spent { says_spent result ≡ is_spent self.old (length src.now) }
     {
         step_in_place(&mut self.known, src, held, limit, mode)
+    }
+
+    /// The bad place at which it stopped. Takes no memory; the cost is constant.
+    pub fn stopped(&self) -> Option<u64>
+        ensures { result ≡ self.now.stopped }
+    {
+        self.known.stopped
+    }
+
+    /// A step in room that was made before, which is not refused; whether the stream ends behind the source is told. It answers
+    /// how many bytes it used. A filter that is finished or has stopped does nothing. Takes no memory; the cost is in the length
+    /// of the source.
+    ///
+    /// Own.
+    pub fn make(&mut self, src: &[u8], dst: &mut Vec<u8>, limit: usize, over: bool) -> usize
+        requires counted { self.old.used + length src.now < 2 ^ 64 }
+        requires room { length dst.old.items + most_by_step self.old.kind (length src.now) (length dst.old.items) limit ≤ vec_capacity dst.old }
+        ensures used { result ≡ (stepped self.old over limit (length dst.old.items) src.now).used }
+        ensures made { WasMade (stepped self.old over limit (length dst.old.items) src.now) self.new dst.old.items dst.new.items }
+        ensures capacity { vec_capacity dst.old ≤ vec_capacity dst.new }
+    {
+        make(self.kind, &mut self.known, src, dst, limit, over)
+    }
+
+    /// The same of a filter that gives every byte as it is, where the target holds `held` bytes and the caller moves the bytes
+    /// that the step used. Takes no memory; the cost is constant.
+    ///
+    /// Own.
+    pub fn hand_on(&mut self, src: &[u8], held: usize, limit: usize, over: bool) -> usize
+        requires kind { self.old.kind ≡ kind_of.None }
+        requires counted { self.old.used + length src.now < 2 ^ 64 }
+        ensures used { result ≡ (stepped self.old over limit held src.now).used }
+        ensures after { self.new ≡ (stepped self.old over limit held src.now).after }
+        ensures made { (stepped self.old over limit held src.now).made ≡ take result src.now }
+        ensures many { (result ≡ 0) ⊎ (result ≡ min (length src.now) (limit - held)) }
+    {
+        hand_on(&mut self.known, src, held, limit, over)
     }
 }
 

@@ -16,6 +16,7 @@ pub use any::AnyFilter;
 pub use ev_types::{FilterKind, Mode};
 pub use fault::FilterFault;
 pub use filters::{HexIn, HexOut, NoFilter, ToCrlf, ToLf};
+pub use step::most_step;
 pub use stream_filter::{Step, StreamFilter};
 
 #[cfg(test)]

@@ -1,12 +1,12 @@
 // One step of a running filter of any kind: its run, part by part, and its end.
-ghost use Rattle.std.specs.Prelude.{◌≡◌, ◌≤◌, ◌<◌, ◌+◌, ◌^◌, ◌++◌, ◌==◌, [], ⊤, true, false, if◌then◌else◌, nat_lt, ℕ, max, None, length, take, drop, OnOk, OnErr, vec_len, vec_capacity};
+ghost use Rattle.std.specs.Prelude.{◌≡◌, ◌≤◌, ◌<◌, ◌+◌, ◌^◌, ◌++◌, ◌==◌, [], ⊤, true, false, if◌then◌else◌, nat_lt, ℕ, max, None, length, take, drop, min, OnOk, OnErr, vec_len, vec_capacity, ◌-◌, ◌⊎◌};
 ghost use Rattle.ev_types.specs.declared.filter.FilterKind.TheVariants as kind_of;
 ghost use Rattle.ev_types.specs.declared.filter.Mode.TheVariants as mode_of;
 ghost use Rattle.relay_model.specs.FilterRun.{is_end_bad as end_is_bad, holds_byte as byte_is_held, end_adds};
 ghost use Rattle.relay_model.specs.FilterStep.{stepped, ending, stop_place as place_of_stop, is_finished, after_bytes, most_made as most_of};
 ghost use Rattle.stream_filters.specs.Knowledge.{running_of, IsDigitLast};
 ghost use Rattle.stream_filters.specs.Parts.{HasRoom, RanOver};
-ghost use Rattle.stream_filters.specs.StepAnswers.{Answers, AnswersInPlace, is_last, is_spent, says_spent, WasMade};
+ghost use Rattle.stream_filters.specs.StepAnswers.{most_by_step, Answers, AnswersInPlace, is_last, is_spent, says_spent, WasMade};
 
 use crate::fault::FilterFault;
 use crate::knowledge::Knowledge;
@@ -14,17 +14,29 @@ use crate::parts::{part, put};
 use crate::stream_filter::Step;
 use ev_types::{FilterKind, Mode};
 
-/// How many bytes a step makes at most of so many.
+/// How many bytes a step makes at most of so many, or 2^64 - 1 where that is more.
 fn most_made(kind: FilterKind, count: usize) -> usize
-    requires { count < 2 ^ 63 }
-    ensures { result ≡ most_of kind count }
+    ensures { result ≡ min (most_of kind count) (2 ^ 64 - 1) }
 {
     match kind {
         FilterKind::None => count,
-        FilterKind::ToCrlf | FilterKind::HexOut => 2 * count,
-        FilterKind::ToLf => count + 1,
+        FilterKind::ToCrlf | FilterKind::HexOut => count.saturating_mul(2),
+        FilterKind::ToLf => count.saturating_add(1),
         FilterKind::HexIn => count / 2 + 1,
     }
+}
+
+/// How many bytes a step of a filter of this kind makes at most that is offered `count` bytes, where the target holds `held`:
+/// none at the limit, and else at most one byte above it; or 2^64 - 1 where that is more. Takes no memory; the cost is constant.
+///
+/// Own.
+pub fn most_step(kind: FilterKind, count: usize, held: usize, limit: usize) -> usize
+    ensures { result ≡ min (most_by_step kind count held limit) (2 ^ 64 - 1) }
+{
+    if limit <= held {
+        return 0;
+    }
+    (limit - held).saturating_add(1).min(most_made(kind, count))
 }
 
 /// Whether the stream ends behind the source.
@@ -110,15 +122,33 @@ fn run(
     at
 }
 
-/// How many bytes a step makes at most that is offered so many, where the target holds `len` bytes.
-fn room_for(kind: FilterKind, count: usize, len: usize, limit: usize) -> usize
-    requires { count < 2 ^ 63 }
-    ensures most { (n : ℕ) → n ≤ most_of kind count → (limit ≤ len → n ≡ 0) → len + n ≤ max len (limit + 1) → n ≤ result }
+/// What a step of a filter does that has not stopped and isn't finished, in room that was made before. It answers how many
+/// bytes it used.
+fn run_on(
+    kind: FilterKind,
+    known: &mut Knowledge,
+    src: &[u8],
+    dst: &mut Vec<u8>,
+    limit: usize,
+    over: bool,
+) -> usize
+    requires open { known.old.finished ≡ false }
+    requires unstopped { known.old.stopped ≡ None }
+    requires counted { known.old.used + length src.now < 2 ^ 64 }
+    requires digit { IsDigitLast kind known.old.last }
+    requires room { length dst.old.items + most_by_step kind (length src.now) (length dst.old.items) limit ≤ vec_capacity dst.old }
+    ensures used { result ≡ (stepped (running_of kind known.old) over limit (length dst.old.items) src.now).used }
+    ensures made { WasMade (stepped (running_of kind known.old) over limit (length dst.old.items) src.now) (running_of kind known.new) dst.old.items dst.new.items }
+    ensures digit { IsDigitLast kind known.new.last }
+    ensures capacity { vec_capacity dst.old ≤ vec_capacity dst.new }
 {
-    if limit <= len {
-        return 0;
-    }
-    (limit - len).saturating_add(1).min(most_made(kind, count))
+    let used = run(kind, known, src, dst, limit);
+    let all = used == src.len();
+    let room = dst.len() < limit;
+    known.stopped = stop_place(kind, known, all, over, room);
+    known.finished = is_over(kind, known, all, over, room);
+    put(dst, end_bytes(kind, known));
+    used
 }
 
 /// A step of a filter that has not stopped and isn't finished.
@@ -138,14 +168,8 @@ fn go_on(
     ensures counted { says_spent result ≡ false }
     ensures digit { IsDigitLast kind known.new.last }
 {
-    dst.reserve(room_for(kind, src.len(), dst.len(), limit))?;
-    let used = run(kind, known, src, dst, limit);
-    let all = used == src.len();
-    let over = ends_stream(mode);
-    let room = dst.len() < limit;
-    known.stopped = stop_place(kind, known, all, over, room);
-    known.finished = is_over(kind, known, all, over, room);
-    put(dst, end_bytes(kind, known));
+    dst.reserve(most_step(kind, src.len(), dst.len(), limit))?;
+    let used = run_on(kind, known, src, dst, limit, ends_stream(mode));
     match known.stopped {
         Some(place) => Err(FilterFault::BadByte { used, place }),
         None => Ok(Step {
@@ -153,6 +177,29 @@ fn go_on(
             finished: known.finished,
         }),
     }
+}
+
+/// A step in room that was made before: what `step_by` does, but it asks for counts that fit and is not refused.
+pub(crate) fn make(
+    kind: FilterKind,
+    known: &mut Knowledge,
+    src: &[u8],
+    dst: &mut Vec<u8>,
+    limit: usize,
+    over: bool,
+) -> usize
+    requires counted { known.old.used + length src.now < 2 ^ 64 }
+    requires digit { IsDigitLast kind known.old.last }
+    requires room { length dst.old.items + most_by_step kind (length src.now) (length dst.old.items) limit ≤ vec_capacity dst.old }
+    ensures used { result ≡ (stepped (running_of kind known.old) over limit (length dst.old.items) src.now).used }
+    ensures made { WasMade (stepped (running_of kind known.old) over limit (length dst.old.items) src.now) (running_of kind known.new) dst.old.items dst.new.items }
+    ensures digit { IsDigitLast kind known.new.last }
+    ensures capacity { vec_capacity dst.old ≤ vec_capacity dst.new }
+{
+    if known.finished || known.stopped.is_some() {
+        return 0;
+    }
+    run_on(kind, known, src, dst, limit, over)
 }
 
 /// One step of a filter of this kind.
@@ -182,6 +229,30 @@ pub(crate) fn step_by(
         return Err(FilterFault::Spent);
     }
     go_on(kind, known, src, dst, limit, mode)
+}
+
+/// What a step of a filter does that gives every byte as it is, where the target holds `held` bytes. It answers how many bytes
+/// it used.
+pub(crate) fn hand_on(
+    known: &mut Knowledge,
+    src: &[u8],
+    held: usize,
+    limit: usize,
+    over: bool,
+) -> usize
+    requires counted { known.old.used + length src.now < 2 ^ 64 }
+    ensures used { result ≡ (stepped (running_of kind_of.None known.old) over limit held src.now).used }
+    ensures after { running_of kind_of.None known.new ≡ (stepped (running_of kind_of.None known.old) over limit held src.now).after }
+    ensures made { (stepped (running_of kind_of.None known.old) over limit held src.now).made ≡ take result src.now }
+    ensures many { (result ≡ 0) ⊎ (result ≡ min (length src.now) (limit - held)) }
+{
+    if known.finished || known.stopped.is_some() {
+        return 0;
+    }
+    let used = src.len().min(limit.saturating_sub(held));
+    known.use_bytes(src.split_at(used).0);
+    known.finished = used == src.len() && over;
+    used
 }
 
 /// One step of a filter that gives every byte as it is, where the target holds `held` bytes.

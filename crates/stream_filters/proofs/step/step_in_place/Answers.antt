@@ -1,10 +1,9 @@
-use Rattle.std.proofs.Common.{◌≡◌, ◌+◌, ◌-◌, ◌==◌, ◌&&◌, true, false, Bool, sym, ◌∙◌, ap, subst, refl, length, take, min, arith}
-use Rattle.std.specs.Prelude.{◌≢◌}
+use Rattle.std.proofs.Common.{◌≡◌, ◌+◌, ◌-◌, ◌==◌, ◌&&◌, true, false, sym, ◌∙◌, ap, subst, refl, length, min, arith}
 use Rattle.std.specs.List.{last_or}
 use Rattle.std.proofs.lemmas.Bool.Decides.{nat_tests}
 use Rattle.std.specs.Prelude.{Ok}
 use Rattle.ev_types.specs.declared.filter.FilterKind.TheVariants as kind
-use Rattle.relay_model.specs.FilterStep.{Stepped, stepped}
+use Rattle.relay_model.specs.FilterStep.{Stepped}
 use Rattle.stream_filters.specs.declared.knowledge.Knowledge.{Knowledge}
 use Rattle.stream_filters.specs.Knowledge.{running_of}
 use Rattle.stream_filters.specs.StepAnswers.{AnswersInPlace, is_last}

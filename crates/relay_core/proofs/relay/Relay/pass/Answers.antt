@@ -1,20 +1,16 @@
 use Rattle.std.proofs.Common.{ap, ◌∙◌}
-use Rattle.relay_model.specs.Plain.{is_live}
-use Rattle.relay_model.specs.Rooms.{hold_mark}
-use Rattle.relay_core.proofs.RelayLemmas.{still_sound, passes}
+use Rattle.relay_model.specs.Plain.{side_at, change_side}
+use Rattle.relay_state.specs.State.{with_plain}
+use Rattle.relay_state.specs.Passing.{with_bad}
+use Rattle.relay_core.proofs.RelayLemmas.{whole_passes}
 use Rattle.relay_core.proofs.relay.Relay.pass.Goals as goal
-
-pub invariant_of-self : goal.invariant_of-self
-invariant_of-self c =
-    still_sound c.args.self.now c.self.inside c.self.view_is c.self.invariant c.args.from c.requires c.number.result c.number.ensures
-    c.index_mut-own.result.now c.index_mut-own.ensures.value c.pass.new.self
-    (λ x. x) (λ k. k) c.pass.ensures.side
 
 pub returns : goal.returns
 returns c =
-    passes c.args.self.now c.self.inside c.self.view_is c.self.invariant c.args.from c.requires c.number.result c.number.ensures
-    c.index_mut-own.result.now c.index_mut-own.ensures.value c.pass.new.self _ _ c.pass.result
-    c.read_mark-mark.result c.hold_mark-hold.result c.flags-to_live.result.live c.read_mark-mark.ensures
-    (c.hold_mark-hold.ensures ∙ ap (λ e. hold_mark c.args.self.now.state.settings c.args.self.now.state.plain e) c.peer.ensures)
-    (ap (λ f. f.live) c.flags-to_live.ensures ∙ ap (λ e. is_live c.args.self.now.state.plain e) c.peer-2.ensures)
-    c.pass.ensures.side c.pass.ensures.passage
+    let old = c.args.self.now.state in
+    let mid = c.pass_half-result.new.self.state in
+    whole_passes old mid c.set_bad.new.self.state c.args.from c.bad-to_bad.result c.pass_half-result.new.to_bad _ _
+    c.pass_half-result.result
+    (c.bad-to_bad.ensures ∙ ap (λ e. (side_at old.plain e).bad) c.peer.ensures)
+    c.pass_half-result.ensures
+    (c.set_bad.ensures ∙ ap (λ e. with_plain (change_side e (with_bad c.pass_half-result.new.to_bad) mid.plain) mid) c.peer-2.ensures)

@@ -1,74 +1,66 @@
-use Rattle.std.proofs.Common.{◌≡◌, suc, ◌<◌, true, false, inl, inr, sym, ◌∙◌, ap, subst, refl}
-use Rattle.relay_state.specs.Passage.{Passage, pass_round, rounds}
-use Rattle.relay_core.specs.SideView.{passage_of, flow_of}
-use Rattle.relay_core.specs.declared.side.Progress.{Progress}
-use Rattle.relay_core.proofs.RoundLemmas.{Straight, weight, round, round_falls}
-use Rattle.relay_core.proofs.PassageLemmas.{passage, straight, seen_of, round-is, rounds-suc}
+use Rattle.std.proofs.Common.{◌≡◌, ℕ, suc, ◌<◌, true, false, Option, inl, inr, sym, ◌∙◌, ap, subst, refl, MatchResult}
+use Rattle.std.proofs.lemmas.Result.{err_from_is_err_and}
+use Rattle.relay_state.specs.Passage.{Passage, pass_round, rounds, Passed, SomeRounds}
+use Rattle.relay_state.specs.Passing.{with_bad}
+use Rattle.relay_core.specs.SideView.{passage_of, reached_of}
+use Rattle.relay_core.proofs.RoundLemmas.{weight, round_falls, rounds-suc}
 use Rattle.relay_core.proofs.side.SideState.make_rounds.Goals as goal
 
--- equal counts of the code, from equal counts as contracts see them
-same_counts : (a b : Progress) → flow_of a ≡ flow_of b → a ≡ b
-same_counts a b h =
-    let used = ap (λ f. f.used) h in
-    let moved = ap (λ f. f.moved) h in
-    let turned = ap (λ f. f.turned) h in
-    let given = ap (λ f. f.given) h in
-    let read_done = ap (λ f. f.read_done) h in
-    let write_done = ap (λ f. f.write_done) h in
-    let held = ap (λ f. f.held) h in
-    λ i. record {
-      used = used i;
-      moved = moved i;
-      turned = turned i;
-      given = given i;
-      read_done = read_done i;
-      write_done = write_done i;
-      held = held i;
-    }
-
-pub returns-then-same_progress-clause-passage : goal.returns-then-same_progress-clause-passage
-returns-then-same_progress-clause-passage c =
+pub returns-then-is_same-clause-passage : goal.returns-then-is_same-clause-passage
+returns-then-is_same-clause-passage c =
     let f : Passage → Passage = pass_round c.args.mark c.args.hold c.args.ended c.args.from_live c.args.to_live in
-    let mid = c.reserve_round.new.self in
-    let new = c.make_round.new.self in
-    let some = c.loop-before.invariant.some in
-    let before : passage_of mid ≡ rounds some.0 f (passage_of c.args.self.now) = c.in_ok-reserve_round.ensures.passage ∙ some.1 in
-    let once : passage_of new ≡ f (passage_of mid) = c.make_round.ensures.passage in
-    let made : passage (round c.args.mark c.args.hold c.args.ended c.args.from_live c.args.to_live (straight mid)) ≡ f (passage_of mid) =
-    round-is c.args.mark c.args.hold c.args.ended c.args.from_live c.args.to_live (straight mid) in
-    let still : f (passage_of mid) ≡ passage_of mid =
-    elim (round_falls c.args.mark c.args.hold c.args.ended c.args.from_live c.args.to_live (straight mid)) [
-      | inl same ↦ sym made ∙ ap passage same
-      | inr falls ↦ absurd (falls.1 (ap (λ (x : Passage). x.flow) (made ∙ sym once) ∙ ap flow_of (c.if-same_progress.ensures.0 refl)))
+    let to = c.loop-self.to_bad in
+    let mid = passage_of c.reserve_round.new.self to in
+    let new = passage_of c.make_round.new.self c.make_round.new.to_bad in
+    let some = c.loop-self.invariant.some in
+    let before : passage_of c.reserve_round.new.self to ≡ rounds some.0 f (passage_of c.args.self.now c.args.to_bad.now) =
+    ap (λ (g : Option ℕ → Passage). g to) c.in_ok-reserve_round.ensures.passage ∙ some.1 in
+    let once = c.make_round.ensures.passage in
+    let still : f mid ≡ mid =
+    elim (round_falls c.args.mark c.args.hold c.args.ended c.args.from_live c.args.to_live mid (record { read = refl; write = refl })) [
+      | inl same ↦ same
+      | inr falls ↦ absurd (falls.1 (ap reached_of (sym once) ∙ sym c.reached.ensures ∙ c.if-is_same.ensures.0 refl ∙ c.reached-before.ensures))
     ] in (some.0, once ∙ still ∙ before, ap f (once ∙ still) ∙ sym once)
 
-pub loop-before-smaller : goal.loop-before-smaller
-loop-before-smaller c =
+pub loop-self-smaller : goal.loop-self-smaller
+loop-self-smaller c =
     let h = c.args.hold in
-    let mid = c.reserve_round.new.self in
-    let new = c.make_round.new.self in
-    let g : Straight → Straight = round c.args.mark h c.args.ended c.args.from_live c.args.to_live in
-    let once : straight new ≡ g (straight mid) =
-    ap seen_of (c.make_round.ensures.passage ∙ sym (round-is c.args.mark h c.args.ended c.args.from_live c.args.to_live (straight mid))) in
-    let begun : weight h (straight mid) ≡ weight h (straight c.loop-before.self) =
-    ap (λ p. weight h (seen_of p)) c.in_ok-reserve_round.ensures.passage in
-    elim (round_falls c.args.mark h c.args.ended c.args.from_live c.args.to_live (straight mid)) [
+    let to = c.loop-self.to_bad in
+    let mid = passage_of c.reserve_round.new.self to in
+    let new = passage_of c.make_round.new.self c.make_round.new.to_bad in
+    let once = c.make_round.ensures.passage in
+    let begun : weight h mid ≡ weight h (passage_of c.loop-self.self to) =
+    ap (λ (g : Option ℕ → Passage). weight h (g to)) c.in_ok-reserve_round.ensures.passage in
+    elim (round_falls c.args.mark h c.args.ended c.args.from_live c.args.to_live mid (record { read = refl; write = refl })) [
       | inl same ↦ absurd (
-          let counts : new.flow ≡ mid.flow = same_counts new.flow mid.flow (ap (λ (x : Straight). x.flow) (once ∙ same)) in
-          let e : false ≡ true = c.if-same_progress.ensures.1 counts in cc)
-      | inr falls ↦ subst (λ n. weight h (straight new) < n) begun
-          (subst (λ n. n < weight h (straight mid)) (sym (ap (weight h) once)) falls.0)
+          let counts = c.reached.ensures ∙ ap reached_of (once ∙ same) ∙ sym c.reached-before.ensures in
+          let e : false ≡ true = c.if-is_same.ensures.1 counts in cc)
+      | inr falls ↦ subst (λ n. weight h new < n) begun
+          (subst (λ n. n < weight h mid) (sym (ap (weight h) once)) falls.0)
     ]
 
-pub loop-before-preserved : goal.loop-before-preserved
-loop-before-preserved c =
+pub loop-self-preserved : goal.loop-self-preserved
+loop-self-preserved c =
     let f : Passage → Passage = pass_round c.args.mark c.args.hold c.args.ended c.args.from_live c.args.to_live in
-    let some = c.loop-before.invariant.some in
+    let to = c.loop-self.to_bad in
+    let some = c.loop-self.invariant.some in
     record {
-      side = c.make_round.ensures.side ∙ c.in_ok-reserve_round.ensures.side ∙ c.loop-before.invariant.side;
+      side = c.make_round.ensures.side
+          ∙ ap (with_bad c.make_round.new.self.bad) (c.in_ok-reserve_round.ensures.side ∙ c.loop-self.invariant.side);
       some = (
         suc some.0,
-        c.make_round.ensures.passage ∙ ap f (c.in_ok-reserve_round.ensures.passage ∙ some.1)
-            ∙ sym (rounds-suc some.0 f (passage_of c.args.self.now)),
+        c.make_round.ensures.passage
+            ∙ ap f (ap (λ (g : Option ℕ → Passage). g to) c.in_ok-reserve_round.ensures.passage ∙ some.1)
+            ∙ sym (rounds-suc some.0 f (passage_of c.args.self.now c.args.to_bad.now)),
       );
     }
+
+pub returns-in_err-reserve_round-clause-passage : goal.returns-in_err-reserve_round-clause-passage
+returns-in_err-reserve_round-clause-passage c =
+    let some = c.loop-self.invariant.some in
+    let f : Passage → Passage = pass_round c.args.mark c.args.hold c.args.ended c.args.from_live c.args.to_live in
+    let old = passage_of c.args.self.now c.args.to_bad.now in
+    let new = passage_of c.reserve_round.new.self c.loop-self.to_bad in
+    let p = err_from_is_err_and c.from_residual.result c.from_residual.ensures.1 in
+    subst (λ r. MatchResult r (λ _. Passed f old new) (λ _. SomeRounds f old new)) (sym p.1)
+    (some.0, ap (λ (g : Option ℕ → Passage). g c.loop-self.to_bad) c.reserve_round.ensures.passage ∙ some.1)

@@ -1,17 +1,29 @@
-use Rattle.std.proofs.Common.{◌≡◌, ◌&&◌, ◌==◌, length, ap, sym, ◌∙◌, arith}
-use Rattle.relay_core.proofs.PassageLemmas.{straight, read_made}
+use Rattle.std.proofs.Common.{length, length-append, ap, ◌∙◌, arith}
+use Rattle.relay_model.specs.Filter.{or_else}
+use Rattle.relay_model.specs.Conserved.{Running}
+use Rattle.relay_state.specs.Passage.{read_step}
+use Rattle.stream_filters.proofs.GoOnLemmas.{step-most}
+use Rattle.relay_core.specs.SideView.{lane_of}
+use Rattle.relay_core.proofs.PassageLemmas.{read-is}
 use Rattle.relay_core.proofs.side.SideState.run_read_filter.Goals as goal
-use Rattle.relay_core.proofs.side.SideState.run_read_filter.Goals.{then-ended, else-ended}
 
 pub returns-clause-passage : goal.returns-clause-passage
 returns-clause-passage c =
-    let raw = c.args.self.now.raw_input.items in
-    let n = c.min-count.result in
-    let done : c.if-ended.done ≡ (c.args.ended && n == length raw) = elim c.if-ended.branch [
-      | then-ended w ↦ w.done-is ∙ ap (λ m. n == m) w.len-then-ended.ensures.len ∙ ap (λ b. b && n == length raw) (sym w.if-ended.true)
-      | else-ended w ↦ w.done-is ∙ w.if-ended.false ∙ ap (λ b. b && n == length raw) (sym w.if-ended.false)
-    ] in
-    read_made c.args.mark c.args.ended (straight c.args.self.now) n c.if-ended.done c.last_of-self.result
-    c.give.new.self.items c.give.new.into.items
-    c.if-self.false (omega (arith, c.min-count.ensures, c.len.ensures.len, c.len-2.ensures.len, c.saturating_sub-room.ensures))
-    done c.last_of-self.ensures c.give.ensures.left c.give.ensures.given
+    let s = c.args.self.now in
+    let e = c.step_over-self.ensures in
+    λ i to. read-is c.args.mark c.args.ended s to c.step_over-self.new.filter c.step_over-self.new.from.items
+    c.step_over-self.new.into.items c.step_over-self.result c.first_place-self.result
+    e.filter e.left e.filled e.made
+    (c.first_place-self.ensures
+    ∙ ap (or_else s.bad) (c.stopped.ensures ∙ ap (λ (z : Running). z.stopped) e.filter)) i
+
+pub returns-clause-most : goal.returns-clause-most
+returns-clause-most c =
+    let s = c.args.self.now in
+    let step = read_step c.args.mark c.args.ended (lane_of s) in
+    omega (
+      arith,
+      ap length c.step_over-self.ensures.filled,
+      length-append s.input.items step.made,
+      step-most s.reader c.args.ended c.args.mark (length s.input.items) s.raw_input.items,
+    )

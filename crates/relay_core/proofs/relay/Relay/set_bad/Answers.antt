@@ -1,0 +1,16 @@
+use Rattle.std.proofs.Common.{refl}
+use Rattle.relay_state.specs.Passing.{with_bad}
+use Rattle.relay_core.proofs.RelayLemmas.{still_sound, changed_side}
+use Rattle.relay_core.proofs.relay.Relay.set_bad.Goals as goal
+
+pub invariant_of-self : goal.invariant_of-self
+invariant_of-self c =
+    still_sound c.args.self.now c.self.inside c.self.view_is c.self.invariant c.args.side c.requires c.number.result c.number.ensures
+    c.index_mut-own.result.now c.index_mut-own.ensures.value _
+    (with_bad c.args.place) (λ k. k) refl
+
+pub returns : goal.returns
+returns c =
+    changed_side c.args.self.now c.self.inside c.self.view_is c.self.invariant c.args.side c.requires c.number.result c.number.ensures
+    c.index_mut-own.result.now c.index_mut-own.ensures.value _
+    (with_bad c.args.place) refl refl refl
