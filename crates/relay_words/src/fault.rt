@@ -43,7 +43,8 @@ impl From<AllocError> for WordsFault {
 
 /// What an error of clap's comes to; its text is dropped.
 pub fn words_fault(error: Error) -> WordsFault
-    ensures { result ≡ Usage → kind_of error ≢ OutOfMemory }
+    ensures usage { result ≡ Usage → kind_of error ≢ OutOfMemory }
+    ensures memory { result ≡ Memory → kind_of error ≡ OutOfMemory }
 {
     match error.kind() {
         ErrorKind::OutOfMemory => WordsFault::Memory,

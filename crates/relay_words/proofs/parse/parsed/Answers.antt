@@ -19,6 +19,6 @@ returns-in-Ok-clause-taken c = record {
 
 pub returns-in-Err-clause-refused : goal.returns-in-Err-clause-refused
 returns-in-Err-clause-refused c = λ usage simple. elim (c.in-Err.ensures.kinds simple) [
-  | inl memory ↦ absurd (c.words_fault.ensures usage memory)
+  | inl memory ↦ absurd (c.words_fault.ensures.usage usage memory)
   | inr among ↦ inr (sym c.has_bare.ensures ∙ c.if-has_bare.false, not_empty _ _ among)
 ]
