@@ -1,9 +1,8 @@
 -- How a run ended, from what its turns came to.
-use Rattle.std.proofs.Common.{◌≡◌, ◌≢◌, ◌⊎◌, inl, inr, ℕ, zero, suc, ◌+◌, Bool, true, false, ◌||◌, ◌&&◌, if◌then◌else◌, List, [], ◌∷◌, ◌++◌, refl, sym, ◌∙◌, ap, subst, arith, fold, Result, Ok, Err, Option, Some, None}
+use Rattle.std.proofs.Common.{◌≡◌, ◌≢◌, ◌⊎◌, inl, inr, ℕ, zero, suc, ◌+◌, Bool, true, false, ◌||◌, ◌&&◌, if◌then◌else◌, List, [], ◌∷◌, refl, sym, ◌∙◌, ap, subst, arith, fold, Result, Ok, Err, Option, Some, None}
 use Rattle.std.specs.Prelude.{MatchResult}
-use Rattle.std.specs.List.{list_any, All}
+use Rattle.std.specs.List.{All}
 use Rattle.std.proofs.lemmas.List.Elements.{All-nil, All-cons, All-append}
-use Rattle.ev_types.specs.declared.side.SideId.{SideId}
 use Rattle.ev_types.specs.declared.entry.Entry.TheVariants as entry
 use Rattle.ev_types.specs.declared.status.LinkCount.{LinkCount}
 use Rattle.ev_types.specs.declared.status.LinkState.TheVariants as state
@@ -20,15 +19,13 @@ use Rattle.relay_model.specs.Answers.{TurnAnswer, LeftAt}
 use Rattle.relay_model.specs.Plain.{side_at}
 use Rattle.relay_model.specs.Settings.{Settings}
 use Rattle.relay_model.specs.Stages.{Stage}
-use Rattle.relay_model.specs.Totals.{opened}
 use Rattle.relay_model.proofs.TiedLemmas.{nothing_is_tied}
-use Rattle.relay_model.proofs.PollLemmas.{Poll, poll_by, poll_in, poll_at, poll_is_told}
+use Rattle.relay_model.proofs.PollLemmas.{Poll, poll_by, poll_at, poll_is_told}
 use Rattle.relay_settings.specs.declared.route.Route.{Route}
 use Rattle.relay_state.specs.State.{State, new_state}
 use Rattle.relay_state.specs.Closing.{in_side, out_side}
 use Rattle.relay_state.specs.Counting.{link_count, link_state, is_open, open_below}
 use Rattle.relay_steps.specs.Meaning.{StandsFor, LeftFor}
-use Rattle.relay_laws.specs.Relayed.{IsRelayed}
 use Rattle.relay_laws.specs.Report.{lines_below}
 use Rattle.relay_laws.specs.Relayed.{StoodBetween}
 use Rattle.relay_laws.proofs.LawLemmas.{new_relay_stands}
@@ -42,6 +39,9 @@ use Rattle.relay_drive.specs.DriveStands.{StandsBetween}
 use Rattle.relay_drive.proofs.GoesLemmas.{Grew-none, Heard-join}
 use Rattle.relay_drive.proofs.HeardLemmas.{Heard-open}
 use Rattle.run_end.specs.EndStatus.{status_of}
+use Rattle.relay_words.specs.WordsStatus.{status_of_words}
+use Rattle.relay_words.specs.declared.fault.WordsFault.{WordsFault}
+use Rattle.relay_words.specs.declared.fault.WordsFault.TheVariants as words
 use Rattle.relay_serve.specs.Seen.{Seen, Drained}
 use Rattle.relay_serve.specs.Served.{settings_on, BeganSo, IsServed, EndedAs, ReportedAll, RanOut, Did, DidWith}
 use Rattle.relay_serve.specs.Underway.{TurnsWent, TurnsCut, IsServedOut, RanTo, Reported, ended_as}
@@ -272,16 +272,10 @@ did route ended result old new s before after ran told = by_result result told
 
 -- Words
 
--- memory ran out while the words were read
-pub words-lacked : (o : Option Route) (old : Seen) (before : Drained) → DidWith o status.Memory old old before before
-words-lacked None old before = (inr refl, refl, refl)
-words-lacked (Some route) old before = inr (inr refl)
-
--- the words are not in the grammar
-pub words-refused : (o : Option Route) (old : Seen) (before : Drained) → o ≡ None → DidWith o status.Usage old old before before
-words-refused o old before is = subst (λ z. DidWith z status.Usage old old before before) (sym is) (inl refl, refl, refl)
-
--- they are
-pub words-taken : (o : Option Route) (route : Route) (ended : Status) (old new : Seen) (before after : Drained) → o ≡ Some route →
-    Did route ended old new before after → DidWith o ended old new before after
-words-taken o route ended old new before after is h = subst (λ z. DidWith z ended old new before after) (sym is) h
+-- The words are not in the grammar, or memory ran out while they were read: nothing was done.
+pub words-ended : (o : Option Route) (why : WordsFault) (old : Seen) (before : Drained) → (why ≡ words.Usage → o ≡ None) →
+    DidWith o (status_of_words why) old old before before
+words-ended o words.Usage old before none =
+    subst (λ z. DidWith z status.Usage old old before before) (sym (none refl)) (inl refl, refl, refl)
+words-ended None words.Memory old before none = (inr refl, refl, refl)
+words-ended (Some route) words.Memory old before none = inr (inr refl)

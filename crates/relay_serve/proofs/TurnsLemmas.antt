@@ -1,27 +1,24 @@
 -- Turns in a row: none, one more, and one that is cut off.
-use Rattle.std.proofs.Common.{◌≡◌, ◌≢◌, ◌⊎◌, inl, inr, ℕ, Bool, true, false, ◌||◌, [], ◌++◌, refl, sym, ◌∙◌, ap, subst, count_by, append-nil, Result, Err}
+use Rattle.std.proofs.Common.{◌≡◌, ◌≢◌, ◌⊎◌, inl, inr, Bool, true, false, [], ◌++◌, refl, sym, ◌∙◌, ap, subst, append-nil, Result, Err}
 use Rattle.std.specs.Prelude.{⊤}
 use Rattle.ev_types.specs.declared.side.SideId.{SideId}
 use Rattle.ev_types.specs.Told.{EndTold, PortTold}
 use Rattle.ev_types.specs.Trace.{Trace}
-use Rattle.ev_types.specs.Growth.{Grew}
-use Rattle.relay_model.specs.RatesKept.{is_turn}
 use Rattle.relay_model.specs.Settings.{Settings}
 use Rattle.relay_model.specs.Stages.{Stage}
 use Rattle.relay_model.specs.Tied.{IsTied}
 use Rattle.relay_model.proofs.TiedLemmas.{nothing_is_tied}
 use Rattle.relay_settings.specs.declared.settings.Settings as code
 use Rattle.relay_core.specs.SettingsView.{model_settings}
-use Rattle.relay_state.specs.State.{State, new_state}
+use Rattle.relay_state.specs.State.{State}
 use Rattle.relay_steps.specs.Meaning.{IsBuilt, LeftFor}
 use Rattle.relay_laws.specs.Relayed.{StoodBetween}
-use Rattle.relay_laws.specs.TurnEnds.{AtTurnEnds, begins_turn}
+use Rattle.relay_laws.specs.TurnEnds.{AtTurnEnds}
 use Rattle.relay_laws.proofs.LawLemmas.{new_relay_stands}
 use Rattle.relay_laws.proofs.RelayedLemmas.{stood-at}
 use Rattle.relay_laws.proofs.TurnEndLemmas.{ends-none, ends-grow}
 use Rattle.relay_drive.specs.declared.fault.DriveFault.{DriveFault}
 use Rattle.relay_drive.specs.declared.fault.DriveFault.TheVariants as fault
-use Rattle.relay_drive.specs.Advances.{Heard}
 use Rattle.relay_drive.specs.DriveStands.{DriveStands, DriveWent, StandsBetween, turn_answer_of}
 use Rattle.relay_drive.specs.DriveValue.{DriveValue, new_drive, is_worn}
 use Rattle.relay_drive.specs.Known.{Question}

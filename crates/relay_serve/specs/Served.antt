@@ -1,6 +1,5 @@
 -- What `serve` says of the run that it made over a port.
 use Rattle.std.specs.Prelude.{◌≡◌, ◌≢◌, ◌⊎◌, ℕ, ◌<◌, Bool, true, false, List, [], length, take, All, Option, Some, None}
-use Rattle.ev_types.specs.declared.addr.Addr.{Addr}
 use Rattle.ev_types.specs.declared.side.SideId.{SideId}
 use Rattle.ev_types.specs.declared.status.LinkCount.{LinkCount}
 use Rattle.ev_types.specs.declared.status.LinkState.TheVariants as state

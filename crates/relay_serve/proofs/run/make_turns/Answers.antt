@@ -1,4 +1,4 @@
-use Rattle.std.proofs.Common.{◌≡◌, ◌++◌, true, false, refl}
+use Rattle.std.proofs.Common.{◌≡◌, ◌++◌, false, refl}
 use Rattle.relay_model.specs.Settings.{Settings}
 use Rattle.relay_core.specs.SettingsView.{model_settings}
 use Rattle.relay_drive.specs.DriveValue.{is_worn}

@@ -1,4 +1,4 @@
-use Rattle.std.proofs.Common.{◌≡◌, true, false, refl, ap}
+use Rattle.std.proofs.Common.{true, false, refl, ap}
 use Rattle.relay_drive.specs.DriveValue.{DriveValue}
 use Rattle.relay_serve.specs.Seen.{Seen, seen}
 use Rattle.relay_serve.proofs.EndLemmas.{begun-by, ran-of, start-failed, start-lacked}

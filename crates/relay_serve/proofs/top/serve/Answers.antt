@@ -1,0 +1,15 @@
+use Rattle.std.proofs.Common.{map, string_bytes, sym, subst}
+use Rattle.relay_words.specs.ServeGrammar.{serve_words_of}
+use Rattle.relay_serve.specs.Seen.{seen, drained}
+use Rattle.relay_serve.specs.Served.{DidWith}
+use Rattle.relay_serve.proofs.EndLemmas.{words-ended}
+use Rattle.relay_serve.proofs.top.serve.Goals as goal
+
+-- The words are not in the grammar, or memory ran out.
+pub returns-in-Err-clause-did : goal.returns-in-Err-clause-did
+returns-in-Err-clause-did g c =
+    let old = seen g.P.Port g.S.Scribe (c.args.port.now, c.args.scribe.now) in
+    let before = drained g.K.Sink c.args.sink.now in
+    let given = serve_words_of (map string_bytes c.args.words.now) in
+    subst (λ ended. DidWith given ended old old before before) (sym c.status.ensures)
+    (words-ended given c.in-Err.fault old before c.in-Err.ensures.refused)
