@@ -1,1 +1,2 @@
 pub mod RingText
+pub mod Program

@@ -1,13 +1,21 @@
 // All of the program but its words, its port and its streams: how the process ends, and what it says.
-ghost use Rattle.std.specs.Prelude.{◌≡◌, map, string_bytes, IfErr};
+ghost use Rattle.std.specs.Prelude.{◌≡◌, ◌⊎◌, List, map, string_bytes, IfOk, IfErr, OnOk, OnErr};
+ghost use Rattle.ev_types.specs.declared.entry.Entry.{Entry};
+ghost use Rattle.ev_types.specs.declared.status.Status.{Status};
 ghost use Rattle.run_end.specs.EndStatus.{status_number, words_status};
-ghost use Rattle.evrelay.specs.Program.{Says};
+ghost use Rattle.relay_words.specs.ServeGrammar.{serve_words_of};
+ghost use Rattle.relay_serve.specs.Seen.{drained};
+ghost use Rattle.relay_serve.specs.Served.{DidWith};
+ghost use Rattle.stream_words.specs.Faults.{Rose};
+ghost use Rattle.stream_words.specs.Streams.{TookOn};
+ghost use Rattle.evrelay.specs.RingText.{ring_text};
+ghost use Rattle.evrelay.specs.Program.{untold, shows, Says};
 
 use crate::ring::Ring;
 use ev_port::{Port, Sink};
 use ev_types::Status;
 use relay_serve::serve;
-use run_end::{BadWords, finish, write_text};
+use run_end::{BadWords, WriteFailed, finish, process_status, write_text};
 use std::alloc::Global;
 use std::sync::Wait;
 
@@ -20,10 +28,70 @@ fn serve_by<R: Wait, P: Port, K: Sink>(
     ring: &mut Ring,
     sink: &mut K,
 ) -> Status
-    ensures refused { IfErr words (λ bad. (result ≡ words_status bad) × (port.new ≡ port.old) × (ring.new ≡ ring.old) × (sink.new ≡ sink.old)) }
+    ensures served { IfOk words (λ all. DidWith (serve_words_of (map string_bytes all.items)) result
+        (untold P.Port port.old) (untold P.Port port.new) (drained K.Sink sink.old) (drained K.Sink sink.new)) }
+    ensures refused { IfErr words (λ bad. (result ≡ words_status bad) × (port.new ≡ port.old) × (sink.new ≡ sink.old)) }
 {
     match words {
         Ok(words) => serve(rt, alloc, &words, port, ring, sink),
         Err(bad) => bad.status(),
     }
+}
+
+/// Whether the last entries are shown after such an end.
+fn shows(ended: Status) -> bool
+    ensures { result ≡ shows ended }
+{
+    match ended {
+        Status::PollFault | Status::OpenFault => true,
+        _ => false,
+    }
+}
+
+/// Writes the last entries, unless memory is wanting for their text.
+fn show<E: Sink>(alloc: Global, errors: &mut E, ring: &Ring) -> Result<(), WriteFailed>
+    ensures shown { OnOk result (TookOn (E.taken errors.old) (E.taken errors.new) (ring_text ring.now.entries.items) ⊎ (errors.new ≡ errors.old)) }
+    ensures calm { OnOk result (E.faults errors.new ≡ E.faults errors.old) }
+    ensures fault { OnErr result (Rose (E.faults errors.old) (E.faults errors.new)) }
+{
+    match ring.text(alloc) {
+        Ok(text) => write_text(errors, &text),
+        Err(_) => Ok(()),
+    }
+}
+
+/// Says how the program ended, after a fault of its port with the last entries, and answers the status of its process. Where
+/// that can't be written, the status still tells.
+fn say<E: Sink>(alloc: Global, errors: &mut E, ended: Status, ring: &Ring) -> u8
+    ensures number { result ≡ status_number ended }
+    ensures said { Says ended ring.now.entries.items (E.taken errors.old) (E.taken errors.new) (E.faults errors.old) (E.faults errors.new) }
+{
+    if shows(ended) && show(alloc, errors, ring).is_err() {
+        return process_status(ended);
+    }
+    finish(errors, ended)
+}
+
+/// Relays as its words say, says on the last sink how that ended, and answers the status of the process. The words are those after
+/// the program's name, or why they can't be read. It may never return.
+///
+/// Own.
+pub fn relay_program<R: Wait, P: Port, K: Sink, E: Sink>(
+    rt: &R,
+    alloc: Global,
+    words: Result<Vec<String>, BadWords>,
+    port: &mut P,
+    sink: &mut K,
+    errors: &mut E,
+) -> u8
+    ensures served { IfOk words (λ all. (ended : Status) × (result ≡ status_number ended)
+        × DidWith (serve_words_of (map string_bytes all.items)) ended (untold P.Port port.old) (untold P.Port port.new) (drained K.Sink sink.old) (drained K.Sink sink.new)
+        × ((entries : List Entry) × Says ended entries (E.taken errors.old) (E.taken errors.new) (E.faults errors.old) (E.faults errors.new))) }
+    ensures refused { IfErr words (λ bad. (port.new ≡ port.old) × (sink.new ≡ sink.old)) }
+{
+    let Ok(mut ring) = Ring::new(alloc) else {
+        return finish(errors, Status::Memory);
+    };
+    let ended = serve_by(rt, alloc, words, port, &mut ring, sink);
+    say(alloc, errors, ended, &ring)
 }

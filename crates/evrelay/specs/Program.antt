@@ -1,0 +1,30 @@
+-- What the program says on standard error, and what it did, by the status with which it ended.
+use Rattle.std.specs.Prelude.{◌⊎◌, ℕ, Bool, true, false, if◌then◌else◌, List, [], ◌++◌, Option, None}
+use Rattle.ev_types.specs.declared.entry.Entry.{Entry}
+use Rattle.ev_types.specs.declared.status.Status.{Status}
+use Rattle.ev_types.specs.declared.status.Status.TheVariants as status
+use Rattle.stream_words.specs.Faults.{Rose}
+use Rattle.stream_words.specs.Streams.{TookOn}
+use Rattle.ev_port.specs.declared.port.Port as port
+use Rattle.relay_serve.specs.Seen.{Seen}
+use Rattle.run_end.specs.EndStatus.{complaint}
+use Rattle.evrelay.specs.RingText.{ring_text}
+
+-- what is seen of a run whose scribe tells nothing
+abbrev pub untold : {P : Type 0} → port.Ghosts P → P → Seen
+untold g p = record { log = None; told = g.told p; ends = g.ends p; faults = g.faults p }
+
+-- after which faults the last entries are shown: those of the port
+abbrev pub shows : Status → Bool
+shows status.PollFault = true
+shows status.OpenFault = true
+shows ended = false
+
+-- their lines, and behind them the line of the status
+abbrev pub said : Status → List Entry → List ℕ
+said ended entries = (if shows ended then ring_text entries else []) ++ complaint ended
+
+-- That was said; or the line alone, where memory was wanting for the others; or the sink failed.
+abbrev pub Says : Status → List Entry → Option (List ℕ) → Option (List ℕ) → ℕ → ℕ → Type 0
+Says ended entries told now_told faults now_faults =
+    TookOn told now_told (said ended entries) ⊎ TookOn told now_told (complaint ended) ⊎ Rose faults now_faults
