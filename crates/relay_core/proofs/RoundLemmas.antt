@@ -16,9 +16,9 @@ pub record IsTold (x : Passage) : Type 0 where
   pub read : x.flow.read_done ≡ x.lane.reader.finished
   pub write : x.flow.write_done ≡ x.lane.writer.finished
 
--- The weight of a direction. A byte weighs more the farther it has to go, and a filter may make two of it; a filter that is not finished may
--- make one more. What may yet be told weighs 1, and so does a direction that is not held. A held one weighs 2 where it is about to be let
--- go.
+-- The weight of a direction. A byte weighs more the farther it has to go, and a filter may make two of it; a filter that is not finished
+-- may make one more. What may yet be told weighs 1, and so does a direction that is not held. A held one weighs 2 where it is about to
+-- be let go.
 
 abbrev pub held_weight : ℕ → Bool → ℕ → ℕ
 held_weight hold true n = if nat_le hold n then 0 else (if nat_le n (hold / 2) then 2 else 0)
