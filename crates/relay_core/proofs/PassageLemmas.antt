@@ -3,7 +3,7 @@ use Rattle.std.proofs.Common.{◌≡◌, ℕ, ◌+◌, Bool, true, false, ◌&&�
 use Rattle.relay_model.specs.Filter.{or_else}
 use Rattle.relay_model.specs.Conserved.{Running}
 use Rattle.relay_model.specs.FilterStep.{Stepped}
-use Rattle.relay_state.specs.Passage.{Passage, hold_part, read_step, read_by, read_part, move_part, has_moved_all, write_step, written_by, write_part, pass_round}
+use Rattle.relay_state.specs.Passage.{Passage, hold_part, read_step, read_part, move_part, has_moved_all, write_step, written_by, write_part, pass_round}
 use Rattle.relay_state.specs.Passing.{with_bad}
 use Rattle.relay_model.specs.Plain.{PlainSide}
 use Rattle.relay_core.specs.SideView.{plain_side, flow_of_side, lane_of, passage_of}

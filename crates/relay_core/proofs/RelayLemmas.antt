@@ -24,7 +24,8 @@ use Rattle.relay_state.specs.Passing.{passage_at, with_bad, with_passage, round_
 use Rattle.relay_state.specs.Rooms.{input_length, output_length}
 use Rattle.relay_state.specs.Serving.{raise_read, raise_write, with_got, after_got}
 use Rattle.relay_core.specs.RelayValue.{RelayValue, spare_read}
-use Rattle.relay_core.specs.SideView.{plain_side, flow_of_side, lane_of, passage_of, spare_of, read_mark_of}
+use Rattle.relay_core.specs.SideView.{plain_side, flow_of_side, lane_of, passage_of, read_mark_of}
+use Rattle.relay_core.specs.SideRooms.{spare_of}
 use Rattle.relay_core.specs.SettingsView.{model_timeouts}
 use Rattle.relay_core.specs.HalfPassed.{passage_with, with_half, HalfPassed, HalfPartlyPassed}
 use Rattle.relay_core.specs.RelayView.{state_with, relay_of, AreSound, IsSound, IsSoundSide}

@@ -1,12 +1,12 @@
 -- Rounds of passing: a round changes nothing, or it changes what the code compares and brings a weight down. So passing comes to an end.
-use Rattle.std.proofs.Common.{◌≡◌, ◌≢◌, inl, inr, ℕ, zero, suc, ◌+◌, ◌-◌, ◌*◌, ◌/◌, ◌<◌, ◌≤◌, Bool, true, false, not, ◌&&◌, ◌==◌, nat_le, if◌then◌else◌, List, [], ◌++◌, length, drop, Option, Some, None, refl, sym, ◌∙◌, ap, subst, arith, append-nil, length-drop, length-append, eqb-true}
+use Rattle.std.proofs.Common.{◌≡◌, ◌≢◌, inl, inr, ℕ, zero, suc, ◌+◌, ◌-◌, ◌*◌, ◌/◌, ◌<◌, ◌≤◌, Bool, true, false, not, ◌&&◌, ◌==◌, nat_le, if◌then◌else◌, [], ◌++◌, length, Option, Some, None, refl, sym, ◌∙◌, ap, subst, arith, append-nil, length-drop, length-append, eqb-true}
 use Rattle.std.specs.Prelude.{is_some}
 use Rattle.std.proofs.lemmas.List.{nil_from_length}
 use mathlib.Core.Logic.{◌⊎◌}
 use Rattle.relay_model.specs.Filter.{or_else}
-use Rattle.relay_model.specs.FilterStep.{Stepped, stepped}
+use Rattle.relay_model.specs.FilterStep.{Stepped}
 use Rattle.relay_state.specs.State.{lane_moved}
-use Rattle.relay_state.specs.Passage.{Passage, rounds, holds_back, hold_part, read_step, read_by, read_part, move_part, write_step, written_by, write_part, has_moved_all, pass_round}
+use Rattle.relay_state.specs.Passage.{Passage, rounds, hold_part, read_step, read_by, read_part, move_part, write_step, written_by, write_part, has_moved_all, pass_round}
 use Rattle.relay_core.specs.declared.pass.Reached.{Reached}
 use Rattle.relay_core.specs.SideView.{reached_of}
 use Rattle.relay_core.proofs.StepLemmas.{bit, bit-le, idle, GoesOn, step-within, step-goes}
@@ -16,9 +16,9 @@ pub record IsTold (x : Passage) : Type 0 where
   pub read : x.flow.read_done ≡ x.lane.reader.finished
   pub write : x.flow.write_done ≡ x.lane.writer.finished
 
--- The weight of a direction. A byte weighs more the farther it has to go, and a filter may make two of it; a filter that is not finished may
--- make one more. What may yet be told weighs 1, and so does a direction that is not held. A held one weighs 2 where it is about to be let
--- go.
+-- The weight of a direction. A byte weighs more the farther it has to go, and a filter may make two of it; a filter that is not finished
+-- may make one more. What may yet be told weighs 1, and so does a direction that is not held. A held one weighs 2 where it is about to
+-- be let go.
 
 abbrev pub held_weight : ℕ → Bool → ℕ → ℕ
 held_weight hold true n = if nat_le hold n then 0 else (if nat_le n (hold / 2) then 2 else 0)

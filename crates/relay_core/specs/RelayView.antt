@@ -6,7 +6,8 @@ use Rattle.relay_model.specs.Plain.{Plain, PlainSide}
 use Rattle.relay_state.specs.State.{State}
 use Rattle.relay_core.specs.RelayValue.{RelayValue}
 use Rattle.relay_core.specs.SettingsView.{model_timeouts, model_settings}
-use Rattle.relay_core.specs.SideView.{plain_side, flow_of_side, lane_of, spare_of}
+use Rattle.relay_core.specs.SideView.{plain_side, flow_of_side, lane_of}
+use Rattle.relay_core.specs.SideRooms.{spare_of}
 use Rattle.relay_core.specs.declared.relay.Relay.TheInside.{Inside}
 use Rattle.relay_core.specs.declared.side.SideState.{SideState}
 

@@ -1,5 +1,5 @@
 -- What contracts see of a side as the code keeps it: the side, and the direction that begins at it.
-use Rattle.std.specs.Prelude.{◌≡◌, ◌+◌, ◌≤◌, ℕ, Bool, true, false, not, length, vec_capacity, Option, None, is_some}
+use Rattle.std.specs.Prelude.{ℕ, Bool, true, false, not, Option, None, is_some}
 use Rattle.ev_types.specs.declared.filter.FilterKind.{FilterKind}
 use Rattle.relay_model.specs.Plain.{PlainSide}
 use Rattle.relay_model.specs.Rooms.{most_at_once, mark_or}
@@ -8,9 +8,6 @@ use Rattle.relay_model.specs.FilterStep.{begun}
 use Rattle.relay_model.specs.Conserved.{Buffers}
 use Rattle.relay_state.specs.State.{Lane, no_lane}
 use Rattle.relay_state.specs.Passage.{Passage}
-use Rattle.evbuf_chain.specs.Inner.{Queued}
-use Rattle.stream_filters.specs.StepAnswers.{most_by_step}
-use Rattle.relay_core.specs.StepRoom.{HasStepRoom}
 use Rattle.relay_core.specs.SettingsView.{model_marks, model_timeouts}
 use Rattle.relay_core.specs.declared.flags.SideFlags.{SideFlags}
 use Rattle.relay_core.specs.declared.pass.Reached.{Reached}
@@ -122,41 +119,3 @@ read_mark_of s = mark_or s.marks.read_high most_at_once
 -- how many bytes that wait for its end hold the direction to it, where so many do in the run
 abbrev pub hold_mark_of : ℕ → SideState → ℕ
 hold_mark_of hold s = mark_or s.marks.write_high hold
-
--- the read filter has room for its step
-abbrev pub HasInputRoom : ℕ → SideState → Type 0
-HasInputRoom mark s =
-    HasStepRoom s.reader.kind (length s.raw_input.items) (length s.input.items) mark s.input.spare (vec_capacity s.beside) s.read_made
-
--- the write filter has room for its step over so many bytes
-abbrev pub HasOutputRoom : ℕ → ℕ → SideState → Type 0
-HasOutputRoom hold count s =
-    HasStepRoom s.writer.kind count (length s.raw_output.items) hold s.raw_output.spare (vec_capacity s.beside) s.write_made
-
--- what the write filter may be offered at most, once the read filter made its step
-abbrev pub most_offered : ℕ → SideState → ℕ
-most_offered mark s =
-    most_by_step s.reader.kind (length s.raw_input.items) (length s.input.items) mark + length s.input.items + length s.output.items
-
--- the end of the direction is as it was, and room stays
-pub record SameEnd (old new : SideState) : Type 0 where
-  pub writer : new.writer ≡ old.writer
-  pub raw_output : new.raw_output ≡ old.raw_output
-  pub write_made : new.write_made ≡ old.write_made
-  pub beside : vec_capacity old.beside ≤ vec_capacity new.beside
-
--- so many bytes of a read can be taken in
-abbrev pub spare_of : SideState → ℕ
-spare_of s = s.readable
-
--- a queue without a byte has no room
-abbrev pub IsLean : Queued → Type 0
-IsLean q = length q.items ≡ 0 → q.spare ≡ 0
-
--- and there is none beside the buffers
-pub record HasNoIdleRoom (s : SideState) : Type 0 where
-  pub raw_input : IsLean s.raw_input
-  pub input : IsLean s.input
-  pub output : IsLean s.output
-  pub raw_output : IsLean s.raw_output
-  pub beside : vec_capacity s.beside ≡ 0

@@ -4,7 +4,8 @@ ghost use Rattle.std.specs.Prelude.{◌≡◌, ◌<◌, length, OnOk, MatchResul
 ghost use Rattle.std.specs.Prelude.{◌≤◌};
 ghost use Rattle.relay_model.specs.Filter.{or_else};
 ghost use Rattle.relay_state.specs.Passage.{hold_part, read_part, move_part, write_part, pass_round, Passed, SomeRounds};
-ghost use Rattle.relay_core.specs.SideView.{plain_side, passage_of, reached_of, HasInputRoom, HasOutputRoom, most_offered, SameEnd, IsLean, HasNoIdleRoom};
+ghost use Rattle.relay_core.specs.SideView.{plain_side, passage_of, reached_of};
+ghost use Rattle.relay_core.specs.SideRooms.{HasInputRoom, HasOutputRoom, most_offered, SameEnd, IsLean, HasNoIdleRoom};
 
 use crate::relay::Relay;
 use crate::side::SideState;
@@ -142,6 +143,7 @@ impl SideState {
         ensures same { SameEnd self.old self.new }
     {
         self.readable = 0;
+        // what was used and what is offered are no more than this, so that they can be counted
         let _most = self.read;
         self.read_made = step_over(
             &mut self.reader,
@@ -186,6 +188,7 @@ impl SideState {
             return;
         }
         self.readable = 0;
+        // what was used and what is offered are no more than this, so that they can be counted
         let _most = self.moved;
         let over = self.may_finish(may_end);
         self.write_made = step_over(

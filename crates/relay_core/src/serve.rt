@@ -21,7 +21,8 @@ impl SideState {
     ghost use Rattle.relay_state.specs.State.{lane_got};
     ghost use Rattle.relay_state.specs.Passage.{Passage, read_part};
     ghost use Rattle.relay_state.specs.Passing.{with_bad};
-    ghost use Rattle.relay_core.specs.SideView.{plain_side, flow_of_side, lane_of, passage_of, read_mark_of, spare_of};
+    ghost use Rattle.relay_core.specs.SideView.{plain_side, flow_of_side, lane_of, passage_of, read_mark_of};
+    ghost use Rattle.relay_core.specs.SideRooms.{spare_of};
 
     /// Makes room for a read of so many bytes, and for no more than can come then, however great the mark is. It is also refused
     /// where they, or what the read filter makes of them, could not be counted.
@@ -71,6 +72,7 @@ impl SideState {
         ensures flow { flow_of_side self.new ≡ flow_given count (flow_of_side self.old) }
         ensures lane { lane_of self.new ≡ lane_taken count (lane_of self.old) }
     {
+        // no more can be given than was made
         let _most = self.write_made;
         self.raw_output.drop_front(count);
         self.given += count as u64;

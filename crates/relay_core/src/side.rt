@@ -24,8 +24,8 @@ fn mark_or(set: u64, usual: u64) -> u64
 
 /// A side and its direction: its marks and timeouts, when bytes were read from its end last, and when it took some, and the first bad
 /// place that a filter of the side met. Of the direction: how many bytes were read, made of them by the read filter of this side,
-/// moved, made of those by the write filter of the peer, and given to its end. No count passes the count of the step before it. What a
-/// filter makes that doesn't hand its bytes on is made beside the buffers first.
+/// moved, made of those by the write filter of the peer, and given to its end. No filter uses more than came to it, and nothing is moved or
+/// given that was not made. What a filter makes that doesn't hand its bytes on is made beside the buffers first.
 #[derive(Drop)]
 pub(crate) struct SideState {
     pub(crate) flags: SideFlags,

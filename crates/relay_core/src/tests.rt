@@ -252,7 +252,7 @@ fn an_idle_side_is_freed_and_its_peer_gets_what_waits(rt: HostRuntime) -> Result
 
 /// A run of one direction: its filters, the hold mark, what is read at In in two pieces before its end, what is given to Out
 /// by then, and why either side is to be freed.
-#[derive(Drop)]
+#[derive(Clone, Copy)]
 struct Run {
     in_read: FilterKind,
     out_write: FilterKind,
@@ -262,6 +262,68 @@ struct Run {
     given: &'static [u8],
     faults: (Option<Cause>, Option<Cause>),
 }
+
+/// The filters alone and together, and where each may stop.
+const RUNS: [Run; 6] = [
+    Run {
+        in_read: FilterKind::ToCrlf,
+        out_write: FilterKind::None,
+        hold: 100,
+        first: b"a\nb\r",
+        second: b"\nc\n",
+        given: b"a\r\nb\r\nc\r\n",
+        faults: (None, None),
+    },
+    // a CR is held between two reads, and given at the end
+    Run {
+        in_read: FilterKind::None,
+        out_write: FilterKind::ToLf,
+        hold: 100,
+        first: b"a\r",
+        second: b"\nb\r",
+        given: b"a\nb\r",
+        faults: (None, None),
+    },
+    // the place counts from the first byte that was read
+    Run {
+        in_read: FilterKind::HexIn,
+        out_write: FilterKind::None,
+        hold: 100,
+        first: b"616",
+        second: b"2zz",
+        given: b"ab",
+        faults: (Some(Cause::Filter(4)), None),
+    },
+    // the write filter's bad place is that of the side it gives to
+    Run {
+        in_read: FilterKind::None,
+        out_write: FilterKind::HexIn,
+        hold: 100,
+        first: b"6",
+        second: b"g",
+        given: b"",
+        faults: (None, Some(Cause::Filter(1))),
+    },
+    // two digits a byte pass a mark of three
+    Run {
+        in_read: FilterKind::HexOut,
+        out_write: FilterKind::HexIn,
+        hold: 3,
+        first: b"\x01\xab\xff",
+        second: b"zyxw",
+        given: b"\x01\xab\xffzyxw",
+        faults: (None, None),
+    },
+    Run {
+        in_read: FilterKind::ToLf,
+        out_write: FilterKind::HexOut,
+        hold: 3,
+        first: b"\x01\r",
+        second: b"\n\xff",
+        given: b"010aff",
+        faults: (None, None),
+    },
+];
 
 /// Gives Out what is offered to it, and passes on, a few times.
 fn give_all(relay: &mut Relay, into: &mut Vec<u8>) -> Result<(), NoMemory> {
@@ -298,67 +360,7 @@ fn run_through(
 
 #[test]
 fn bytes_pass_through_the_filters_of_both_sides(rt: HostRuntime) -> Result<(), Fail> {
-    let runs = [
-        Run {
-            in_read: FilterKind::ToCrlf,
-            out_write: FilterKind::None,
-            hold: 100,
-            first: b"a\nb\r",
-            second: b"\nc\n",
-            given: b"a\r\nb\r\nc\r\n",
-            faults: (None, None),
-        },
-        // a CR is held between two reads, and given at the end
-        Run {
-            in_read: FilterKind::None,
-            out_write: FilterKind::ToLf,
-            hold: 100,
-            first: b"a\r",
-            second: b"\nb\r",
-            given: b"a\nb\r",
-            faults: (None, None),
-        },
-        // the place counts from the first byte that was read
-        Run {
-            in_read: FilterKind::HexIn,
-            out_write: FilterKind::None,
-            hold: 100,
-            first: b"616",
-            second: b"2zz",
-            given: b"ab",
-            faults: (Some(Cause::Filter(4)), None),
-        },
-        // the write filter's bad place is that of the side it gives to
-        Run {
-            in_read: FilterKind::None,
-            out_write: FilterKind::HexIn,
-            hold: 100,
-            first: b"6",
-            second: b"g",
-            given: b"",
-            faults: (None, Some(Cause::Filter(1))),
-        },
-        // two digits a byte pass a mark of three
-        Run {
-            in_read: FilterKind::HexOut,
-            out_write: FilterKind::HexIn,
-            hold: 3,
-            first: b"\x01\xab\xff",
-            second: b"zyxw",
-            given: b"\x01\xab\xffzyxw",
-            faults: (None, None),
-        },
-        Run {
-            in_read: FilterKind::ToLf,
-            out_write: FilterKind::HexOut,
-            hold: 3,
-            first: b"\x01\r",
-            second: b"\n\xff",
-            given: b"010aff",
-            faults: (None, None),
-        },
-    ];
-    for run in &runs {
+    for run in &RUNS {
         let mut given = Vec::new(rt.alloc());
         assert_eq!(rt; run_through(rt.alloc(), run, &mut given)?, run.faults);
         assert!(rt; given.as_slice() == run.given);

@@ -135,3 +135,23 @@ fn each_filter_makes_its_own(rt: HostRuntime) -> Result<(), Fail> {
     assert_eq!(rt; target.as_slice(), b"\n\r\n0a".as_slice());
     Ok(())
 }
+
+#[test]
+fn a_step_in_room_is_the_step(rt: HostRuntime) -> Result<(), Fail> {
+    for (kind, stream, made) in STREAMS {
+        let stream = stream.as_bytes();
+        let mut filter = AnyFilter::new(kind);
+        let mut target = Vec::new(rt.alloc());
+        let most = most_step(kind, stream.len(), 0, 100);
+        assert!(rt; made.len() <= most);
+        target.reserve(most)?;
+        let used = filter.make(stream, &mut target, 100, true);
+        assert_eq!(rt; (used, filter.stopped()), (stream.len(), None));
+        assert_eq!(rt; target.as_slice(), made.as_bytes());
+    }
+    let mut filter = AnyFilter::new(FilterKind::None);
+    assert_eq!(rt; filter.hand_on(b"abc", 1, 3, true), 2);
+    assert_eq!(rt; filter.hand_on(b"c", 0, 3, true), 1);
+    assert!(rt; filter.is_finished());
+    Ok(())
+}

@@ -1,4 +1,4 @@
-use Rattle.std.proofs.Common.{◌≡◌, ◌-◌, ◌++◌, ◌∙◌, length, drop, ap, arith}
+use Rattle.std.proofs.Common.{◌-◌, ◌++◌, ◌∙◌, length, drop, ap, arith}
 use Rattle.relay_model.specs.FilterStep.{Stepped, stepped}
 use Rattle.stream_filters.proofs.GoOnLemmas.{step-most}
 use Rattle.relay_core.proofs.StepLemmas.{step-here, step-within}

@@ -19,5 +19,6 @@ returns-else-from_live-clause-passage c =
     let to = c.args.to_bad.now in
     let at = λ (f : Option ℕ → Passage). f to in
     drained c.args.mark c.args.hold c.args.ended c.args.from_live c.args.to_live (passage_of c.args.self.now to)
-    (passage_of c.hold_back.new.self to) (passage_of c.run_write_filter-else-from_live.new.self c.run_write_filter-else-from_live.new.to_bad)
+    (passage_of c.hold_back.new.self to)
+    (passage_of c.run_write_filter-else-from_live.new.self c.run_write_filter-else-from_live.new.to_bad)
     c.if-from_live.false c.if-not-to_live.false (ap at c.hold_back.ensures.passage) c.run_write_filter-else-from_live.ensures.passage

@@ -19,7 +19,9 @@ returns-then-is_same-clause-passage c =
     let still : f mid ≡ mid =
     elim (round_falls c.args.mark c.args.hold c.args.ended c.args.from_live c.args.to_live mid (record { read = refl; write = refl })) [
       | inl same ↦ same
-      | inr falls ↦ absurd (falls.1 (ap reached_of (sym once) ∙ sym c.reached.ensures ∙ c.if-is_same.ensures.0 refl ∙ c.reached-before.ensures))
+      | inr falls ↦ absurd (
+          let same = sym c.reached.ensures ∙ c.if-is_same.ensures.0 refl ∙ c.reached-before.ensures in
+          falls.1 (ap reached_of (sym once) ∙ same))
     ] in (some.0, once ∙ still ∙ before, ap f (once ∙ still) ∙ sym once)
 
 pub loop-self-smaller : goal.loop-self-smaller

@@ -8,7 +8,8 @@ use Rattle.relay_core.proofs.side.SideState.make_rounds.Given as goal
 abbrev pub invariant-loop-self : goal.invariant-loop-self
 invariant-loop-self l = record {
   side : plain_side l.self ≡ with_bad l.self.bad (plain_side l.fn.self);
-  some : SomeRounds (pass_round l.mark l.hold l.ended l.from_live l.to_live) (passage_of l.fn.self l.fn.to_bad) (passage_of l.self l.to_bad);
+  some : SomeRounds (pass_round l.mark l.hold l.ended l.from_live l.to_live)
+      (passage_of l.fn.self l.fn.to_bad) (passage_of l.self l.to_bad);
 }
 
 abbrev pub decreases-loop-self : goal.decreases-loop-self
