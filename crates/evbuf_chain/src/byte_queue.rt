@@ -101,8 +101,7 @@ impl ByteQueue {
     {
         self.start += n;
         if self.kept.len() - self.start <= self.start / SPARSE {
-            self.kept.rotate_left(self.start);
-            self.kept.truncate(self.kept.len() - self.start);
+            pull_down(&mut self.kept, self.start);
             self.start = 0;
         }
     }
@@ -169,6 +168,21 @@ impl ByteQueue {
         self.start = front;
         Ok(())
     }
+}
+
+// Moves what stands behind a place to the front, and drops what stood before it.
+fn pull_down(kept: &mut Vec<u8>, start: usize)
+    requires within { start ≤ vec_len kept.old }
+    requires apart { vec_len kept.old ≤ start + start }
+    ensures items { kept.new.items ≡ drop start kept.old.items }
+    ensures len { vec_len kept.new + start ≡ vec_len kept.old }
+    ensures capacity { vec_capacity kept.new ≡ vec_capacity kept.old }
+{
+    let rest = kept.len() - start;
+    let (front, back) = kept.as_mut_slice().split_at_mut(start);
+    let (front, _) = front.split_at_mut(rest);
+    front.copy_from_slice(back);
+    kept.truncate(rest);
 }
 
 // Writes bytes over what stands at a place.

@@ -5,6 +5,8 @@
 
 mod program;
 mod ring;
+#[cfg(test)]
+mod tests;
 
 use ev_port::StdSink;
 use mio_port::MioPort;

@@ -1,5 +1,5 @@
 // Passing a direction: rounds until one changes nothing. A round has its room before it begins, so that want of memory
-// leaves whole rounds. At the end each queue without a byte gives its room up, so that an idle link holds none.
+// leaves whole rounds. Where a pass moves nothing each queue without a byte gives its room up, so that an idle link holds none.
 ghost use Rattle.std.specs.Prelude.{◌≡◌, ◌<◌, length, OnOk, MatchResult, IsTrue, ◌↔◌, is_some};
 ghost use Rattle.std.specs.Prelude.{◌≤◌};
 ghost use Rattle.relay_model.specs.Filter.{or_else};
@@ -270,7 +270,19 @@ impl SideState {
         give_up(&mut self.raw_output, alloc);
     }
 
-    /// Rounds until one changes nothing. Then no buffer without a byte has room, and there is none beside the buffers.
+    /// Room that a pass left behind the moved bytes goes where the next read needs it.
+    fn hand_room_back(&mut self)
+        ensures side { plain_side self.new ≡ plain_side self.old }
+        ensures passage { passage_of self.new ≡ passage_of self.old }
+    {
+        if self.raw_input.len() == 0 && self.output.len() == 0 {
+            self.readable = 0;
+            swap(&mut self.raw_input, &mut self.output);
+        }
+    }
+
+    /// Rounds until one changes nothing. Where the first one did so, no buffer without a byte has room then, and there is none beside
+    /// the buffers: a direction in which bytes move keeps its room for the next ones.
     pub(crate) fn pass(
         &mut self,
         alloc: Global,
@@ -283,11 +295,16 @@ impl SideState {
         ensures passage { MatchResult result
             (λ _. Passed (pass_round mark hold self.old.flags.ended self.old.flags.live to_live) (passage_of self.old to_bad.old) (passage_of self.new to_bad.new))
             (λ _. SomeRounds (pass_round mark hold self.old.flags.ended self.old.flags.live to_live) (passage_of self.old to_bad.old) (passage_of self.new to_bad.new)) }
-        ensures rooms { OnOk result (HasNoIdleRoom self.new) }
+        ensures rooms { OnOk result (reached_of (passage_of self.new to_bad.new) ≡ reached_of (passage_of self.old to_bad.old) → HasNoIdleRoom self.new) }
     {
         let flags = self.flags;
+        let before = self.reached(*to_bad);
         self.make_rounds(mark, hold, flags.ended, flags.live, to_live, to_bad)?;
-        self.give_up_rooms(alloc);
+        if is_same(self.reached(*to_bad), before) {
+            self.give_up_rooms(alloc);
+        } else {
+            self.hand_room_back();
+        }
         Ok(())
     }
 }
