@@ -1,9 +1,9 @@
 -- What the parts of a round make of a direction, as the code makes them.
-use Rattle.std.proofs.Common.{◌≡◌, ℕ, ◌+◌, Bool, true, false, ◌&&◌, ◌==◌, if◌then◌else◌, List, ◌++◌, length, drop, Option, sym, ◌∙◌, ap}
+use Rattle.std.proofs.Common.{◌≡◌, ℕ, ◌+◌, Bool, true, false, ◌&&◌, ◌==◌, if◌then◌else◌, List, ◌++◌, length, drop, Option, sym, ◌∙◌, ap, subst}
 use Rattle.relay_model.specs.Filter.{or_else}
 use Rattle.relay_model.specs.Conserved.{Running}
 use Rattle.relay_model.specs.FilterStep.{Stepped}
-use Rattle.relay_state.specs.Passage.{Passage, hold_part, read_step, read_part, move_part, has_moved_all, write_step, written_by, write_part, pass_round}
+use Rattle.relay_state.specs.Passage.{Passage, hold_part, read_step, read_part, move_part, has_moved_all, write_step, written_by, write_part, pass_round, Passed}
 use Rattle.relay_state.specs.Passing.{with_bad}
 use Rattle.relay_model.specs.Plain.{PlainSide}
 use Rattle.relay_core.specs.SideView.{plain_side, flow_of_side, lane_of, passage_of}
@@ -87,3 +87,7 @@ drained mark hold ended from_live to_live x a d from to h w =
 -- a side that differs by a bad place differs by its own
 pub own-bad : (y : SideState) (b : Option ℕ) (x : PlainSide) → plain_side y ≡ with_bad b x → plain_side y ≡ with_bad y.bad x
 own-bad y b x h = h ∙ ap (λ p. with_bad p x) (sym (ap (λ z. z.bad) h))
+
+-- what was passed is passed by another name
+pub passed-as : {old x y : Passage} (f : Passage → Passage) → y ≡ x → Passed f old x → Passed f old y
+passed-as f is h = (h.0, is ∙ h.1, subst (λ z. f z ≡ z) (sym is) h.2)
