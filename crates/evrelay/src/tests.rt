@@ -49,7 +49,8 @@ fn port_of(alloc: Global, script: &str) -> Result<ScriptPort, Fail> {
 }
 
 /// Both ways end by themselves.
-const BOTH_WAYS: &str = "at 0\nopen\nat 1\nr 0 in 474554\neof 0 in\nw 0 in all\nw 0 out all\nat 2\nr 0 out 323030\neof 0 out\nat 3\n";
+const BOTH_WAYS: &str =
+    "at 0\nopen\nat 1\nr 0 in 474554\neof 0 in\nw 0 in all\nw 0 out all\nat 2\nr 0 out 323030\neof 0 out\nat 3\n";
 
 /// One link ends by itself, and the connection of the other fails.
 const ONE_GONE: &str =

@@ -5,11 +5,10 @@ ghost use Rattle.run_end.specs.declared.words.BadWords.TheVariants.{Memory};
 ghost use Rattle.run_end.specs.EndStatus.{words_status};
 
 use ev_types::Status;
-use std::alloc::AllocError;
+use std::alloc::{AllocError, AllocGlobal};
 use std::env;
 use std::env::Env;
 use std::io::ErrorKind;
-use std::alloc::AllocGlobal;
 
 /// Why the words of a command line can't be read.
 ///
