@@ -10,6 +10,8 @@ Stages, each over a relay of its own:
   stopped   a reader that stops for seconds: memory stays within the hold mark, the processor is idle, then all arrives
   vanished  clients that vanish while bytes come for them
   short     links beyond the descriptors: each one in the end
+  hex       what one relay turns into hex, a second one behind it turns back, whatever the pieces
+  lines     line ends that are turned, beside as many bytes that aren't: processor seconds a GiB
 
 It ends with status 1 at the first byte that is lost, changed or doubled, at a report that tells other numbers than were sent, or at a
 relay that doesn't end by itself with status 0. Standard library only. --quick is what the gate runs: a few seconds."""
@@ -269,6 +271,40 @@ async def short(program, rng, links, descriptors, most):
     return f'{links} links with {descriptors} descriptors'
 
 
+async def hex_and_back(program, rng, size):
+    """Two relays in a row: hex digits between them, both ways."""
+    target = Target()
+    await target.start()
+    second = Relay(program, target.port, 1, ('--in-read', 'hex-in', '--out-read=hex-out'))
+    first = Relay(program, second.port, 1, ('--in-read=hex-out', '--out-read', 'hex-in'))
+    key, up, down = rng.randbytes(8), rng.randbytes(size), rng.randbytes(size)
+    target.plans[key] = (up, down, rng.random())
+    await client(first, key, up, down, rng)
+    whole = size + len(key)
+    for relay, owed in ((first, (whole, size, 2 * size, 2 * whole)), (second, (2 * whole, 2 * size, size, whole))):
+        if told(await asyncio.to_thread(relay.report)) != {'done': [owed]}:
+            fail('a report of hex digits tells other numbers')
+    return f'{2 * size / MIB:.0f} MiB'
+
+
+async def lines(program, rng, size):
+    """Bytes of which each 40th is an LF, as they are and with CRs put in: both come whole."""
+    data = b'0123456789abcdefghijklmnopqrstuvwxyz... \n' * (size // 41)
+    costs = []
+    for words, owed in (((), data), (('--in-read', 'to-crlf'), data.replace(b'\n', b'\r\n'))):
+        server = socket.create_server(('127.0.0.1', 0))
+        relay = Relay(program, server.getsockname()[1], 1, words)
+        reader, writer = await asyncio.open_connection('127.0.0.1', relay.port)
+        peer, _ = await asyncio.to_thread(server.accept)
+        far_reader, far_writer = await asyncio.open_connection(sock=peer)
+        await asyncio.gather(send(writer, data, random.Random(1)), take(far_reader, owed, 'lines'))
+        costs.append(relay.seconds() * (1 << 30) / len(data))
+        far_writer.close()
+        writer.close()
+        await asyncio.to_thread(relay.report)
+    return f'{costs[0]:.2f} s a GiB as they are, {costs[1]:.2f} s with to-crlf'
+
+
 async def main():
     parser = argparse.ArgumentParser()
     parser.add_argument('--evrelay', default='crates/evrelay/out/evrelay')
@@ -283,6 +319,8 @@ async def main():
         ('stopped', stopped(program, rng, (8 if quick else 64) * MIB, 1 if quick else 5, ())),
         ('vanished', vanished(program, rng, 5 if quick else 40)),
         ('short', short(program, rng, 20 if quick else 60, 24 if quick else 60, 20_000)),
+        ('hex', hex_and_back(program, rng, (MIB if quick else 32 * MIB))),
+        ('lines', lines(program, rng, (4 if quick else 128) * MIB)),
     ]
     for name, stage in stages:
         began = time.time()
