@@ -11,8 +11,8 @@ ghost use Rattle.evplay.specs.Run.{answer_of, ended_as};
 
 use ev_types::{NoMemory, Status};
 use relay_drive::{Drive, DriveFault};
-use script_port::ScriptPort;
 use run_end::link_lines;
+use script_port::ScriptPort;
 use script_text::{Script, write_report};
 use std::alloc::Global;
 use text_scribe::TextScribe;
