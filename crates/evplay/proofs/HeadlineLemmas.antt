@@ -1,11 +1,12 @@
 -- A trace for which a relay stands, over the port of a script, is a run of that script.
-use Rattle.std.proofs.Common.{◌≡◌, ◌≤◌, ◌<◌, [], length, refl, sym, ◌∙◌, ap, subst, arith}
+use Rattle.std.proofs.Common.{◌≡◌, ◌+◌, [], length, refl, sym, ◌∙◌, ap, subst, arith}
 use Rattle.ev_types.specs.Trace.{Trace}
 use Rattle.script_text.specs.Script.{ScriptValue}
 use Rattle.script_text.proofs.TraceReadLemmas.{trace_of-trace_text}
 use Rattle.relay_model.specs.Settings as model
 use Rattle.relay_settings.specs.declared.settings.Settings.{Settings}
 use Rattle.relay_model.specs.Stages.{Stage, at}
+use Rattle.relay_model.specs.Turn.{Reaches}
 use Rattle.relay_model.specs.Answers.{TurnAnswer, LeftAt, EndsWith}
 use Rattle.relay_model.specs.Plays.{AlwaysTookAll, EndsPlayed, Plays}
 use Rattle.relay_model.specs.Script.{closing_step}
@@ -15,9 +16,9 @@ use Rattle.relay_state.specs.State.{State}
 use Rattle.relay_steps.specs.Meaning.{IsBuilt, StandsFor}
 use Rattle.relay_laws.specs.TurnEnds.{AtTurnEnds}
 use Rattle.relay_laws.specs.Report.{lines_below}
-use Rattle.relay_laws.specs.Relayed.{StoodAt, StoodBetween}
+use Rattle.relay_laws.specs.Relayed.{StoodBetween}
 use Rattle.relay_laws.specs.Spelling.{TimeoutsFit, BringsFit}
-use Rattle.relay_laws.proofs.RelayedLemmas.{stood-at, relayed-of}
+use Rattle.relay_laws.proofs.RelayedLemmas.{relayed-of}
 use Rattle.relay_model.proofs.PollLemmas.{polls_fail_as_scripted}
 use Rattle.relay_laws.proofs.SpellingLemmas.{reads_fit_as_scripted, stood_is_spellable}
 use Rattle.evplay.specs.Headline.{IsRun, settings_of, script_run}
@@ -43,13 +44,12 @@ pub run-of : (script : ScriptValue) (answer : TurnAnswer) (t : Trace) (x : Stage
     (k : StandsFor t x s) → LeftAt s.settings answer x s.plain → BringsFit script.turns →
     Plays (script_played script) 0 answer t →
     AtTurnEnds (StoodBetween (settings_of script)) t → IsRun script answer t (lines_below s s.plain.opened)
-unfolding stood-at
 run-of script answer t x s usual_links timeouts is k left fit played ends =
     let g : model.Settings = settings_of script in
-    let stood : StoodAt g t x = stood-at g t x s is k in
+    let reached : Reaches g t (at x s.plain) = subst (λ z. Reaches z t (at x s.plain)) is k.reached in
     let reads = reads_fit_as_scripted script.turns (closing_step g) t fit played.answered in
     let left_at : LeftAt g answer x s.plain = subst (λ z. LeftAt z answer x s.plain) is left in
-    let legal : EndsWith g answer t = (x, s.plain, stood.reached, left_at) in
+    let legal : EndsWith g answer t = (x, s.plain, reached, left_at) in
     let links : s.settings.links ≡ 256 = ap (λ (z : model.Settings). z.links) is ∙ usual_links in
     record {
       relayed = relayed-of g answer t x s is k left ends;

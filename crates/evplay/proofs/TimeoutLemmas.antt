@@ -1,6 +1,6 @@
 -- The timeouts that a script sets are numbers of 64 bits.
-use Rattle.std.proofs.Common.{◌≡◌, ◌≤◌, ◌<◌, ◌+◌, ◌^◌, ℕ, Bool, true, false, ◌&&◌, List, [], ◌∷◌, ◌++◌, length, codes, Option, Some, None, Ok, refl, subst, arith, if◌then◌else◌}
-use Rattle.std.specs.Prelude.{⊤, nat_lt, IfSome, option_map, option_and_then, unwrap_or}
+use Rattle.std.proofs.Common.{◌≡◌, ◌≤◌, ◌<◌, ◌^◌, ℕ, Bool, true, false, ◌&&◌, List, [], ◌∷◌, ◌++◌, length, codes, Option, Some, None, Ok, refl, subst, arith, if◌then◌else◌}
+use Rattle.std.specs.Prelude.{nat_lt, IfSome, option_map, option_and_then, unwrap_or}
 use Rattle.token_bucket.specs.declared.limit.Dir.TheVariants.{Read, Write}
 use Rattle.ev_types.specs.declared.filter.FilterKind.{FilterKind}
 use Rattle.ev_types.specs.declared.side.Side.{Side}

@@ -1,5 +1,5 @@
 -- What a call of `play` read and wrote, by its status.
-use Rattle.std.specs.Prelude.{◌≡◌, ◌<◌, ℕ, ◌^◌, ◌-◌, min, ⊤, true, false, List, ◌++◌, length, take, Option, Some, None, Ok, Err}
+use Rattle.std.specs.Prelude.{◌≡◌, ◌<◌, ◌⊎◌, ℕ, ◌^◌, ◌-◌, min, ⊤, true, false, List, ◌++◌, length, take, Option, Some, None, Ok, Err}
 use Rattle.ev_types.specs.declared.status.Status.{Status}
 use Rattle.ev_types.specs.declared.status.Status.TheVariants as status
 use Rattle.ev_types.specs.Trace.{Trace}
@@ -14,8 +14,8 @@ use Rattle.buffers_mode.specs.Text.{answers_of}
 use Rattle.base_mode.specs.Turned as base
 use Rattle.base_mode.specs.Spelled as base_script
 use Rattle.pairs_mode.specs.Run as pairs
-use Rattle.evplay.specs.declared.words.Mode.{Mode}
-use Rattle.evplay.specs.declared.words.Mode.TheVariants as mode
+use Rattle.relay_words.specs.declared.mode.Mode.{Mode}
+use Rattle.relay_words.specs.declared.mode.Mode.TheVariants as mode
 use Rattle.evplay.specs.Headline.{IsRun}
 
 -- the text of a trace, and the report behind it
@@ -88,7 +88,7 @@ Did m (status.Stopped link turn) left now_left taken now_taken = ⊥
 Did m status.OpenFault left now_left taken now_taken = ⊥
 Did m status.Spent left now_left taken now_taken = PlayedAll m status.Spent left now_left taken now_taken
 
--- words that ask for no mode are refused, and what a call did with the others
+-- Words that ask for no mode are refused, or memory ran out while they were read. What a call did with the others.
 abbrev pub DidWith : Option Mode → Status → Option (List ℕ) → Option (List ℕ) → Option (List ℕ) → Option (List ℕ) → Type 0
-DidWith None ended left now_left taken now_taken = ended ≡ status.Usage
+DidWith None ended left now_left taken now_taken = (ended ≡ status.Usage) ⊎ (ended ≡ status.Memory)
 DidWith (Some m) ended left now_left taken now_taken = Did m ended left now_left taken now_taken

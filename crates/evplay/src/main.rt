@@ -11,7 +11,6 @@ mod run;
 mod status;
 #[cfg(test)]
 mod tests;
-mod words;
 
 use ev_port::{StdSink, StdSource};
 use program::play_program;

@@ -1,15 +1,15 @@
 // What a script comes to, by its mode: the text that is to be written, and how the program ends once it is.
 ghost use Rattle.std.specs.Prelude.{◌≤◌, ◌^◌, length, IfOk, IfErr};
-ghost use Rattle.evplay.specs.declared.words.Mode.TheVariants.{Relay, Buffers, Base, Pairs};
+ghost use Rattle.relay_words.specs.declared.mode.Mode.TheVariants.{Relay, Buffers, Base, Pairs};
 ghost use Rattle.evplay.specs.Play.{ComesTo, Refuses};
 
 use crate::run::run;
 use crate::status::{buffers_status, script_status};
-use crate::words::Mode;
 use base_mode::play_base;
 use buffers_mode::play_buffers;
 use ev_types::Status;
 use pairs_mode::play_pairs;
+use relay_words::Mode;
 use run_end::fault_status;
 use script_text::read_script;
 use std::alloc::Global;

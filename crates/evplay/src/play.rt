@@ -1,15 +1,15 @@
 // All that the program does, as one call: words, source, script, what it comes to, sink, in this order.
-ghost use Rattle.std.specs.Prelude.{◌≡◌, ◌≢◌, ◌+◌, ◌^◌, map, string_bytes};
+ghost use Rattle.std.specs.Prelude.{◌≡◌, ◌≢◌, ◌+◌, ◌^◌, None, map, string_bytes};
 ghost use Rattle.stream_words.specs.Faults.{Rose};
 ghost use Rattle.stream_words.specs.Streams.{GaveCount, GaveAtMost};
-ghost use Rattle.evplay.specs.Words.{mode_of};
+ghost use Rattle.relay_words.specs.ModeGrammar.{mode_of};
 ghost use Rattle.evplay.specs.Play.{DidWith};
 
 use crate::input::{ReadStop, read_text};
 use crate::outcome::outcome_of;
-use crate::words::mode_of;
 use ev_port::{Sink, Source};
 use ev_types::Status;
+use relay_words::mode_words;
 use run_end::write_text;
 use std::alloc::Global;
 
@@ -23,12 +23,13 @@ pub fn play<S: Source, K: Sink>(
     source: &mut S,
     sink: &mut K,
 ) -> Status
-    // What the call did, by its status: usage exactly for words that are not one mode word, a bad script by its first
-    // bad line, and else the whole text that the script comes to, or the part of it before the sink failed.
+    // What the call did, by its status: usage, or else out of memory, for words that are not one mode word, a bad script by
+    // its first bad line, and else the whole text that the script comes to, or the part of it before the sink failed.
     ensures did { DidWith (mode_of (map string_bytes words.now)) result (S.left source.old) (S.left source.new) (K.taken sink.old) (K.taken sink.new) }
 
     // The words are looked at before all else. What is not written wholly or in part is not written at all.
     ensures unread { result ≡ Status.Usage → source.new ≡ source.old }
+    ensures no_mode { mode_of (map string_bytes words.now) ≡ None → source.new ≡ source.old }
     ensures unwritten { result ≢ Status.Ok → result ≢ Status.PollFault → result ≢ Status.Spent → result ≢ Status.WriteFault → sink.new ≡ sink.old }
 
     // A fault is answered only where its count rose in this call. With every other answer the counts are as they were.
@@ -41,8 +42,9 @@ pub fn play<S: Source, K: Sink>(
     ensures too_long { result ≡ Status.TooLong → GaveCount (S.left source.old) (S.left source.new) (2 ^ 24 + 1) }
     ensures not_too_long { result ≢ Status.TooLong → GaveAtMost (S.left source.old) (S.left source.new) (2 ^ 24) }
 {
-    let Some(mode) = mode_of(words) else {
-        return Status::Usage;
+    let mode = match mode_words(alloc, words) {
+        Ok(mode) => mode,
+        Err(fault) => return fault.status(),
     };
     let text = match read_text(alloc, source) {
         Ok(text) => text,

@@ -3,7 +3,7 @@ ghost use Rattle.std.specs.Prelude.{◌≡◌, map, string_bytes, IfOk, IfErr};
 ghost use Rattle.ev_types.specs.declared.status.Status.{Status};
 ghost use Rattle.run_end.specs.EndStatus.{status_number, words_status};
 ghost use Rattle.run_end.specs.Complains.{Complains};
-ghost use Rattle.evplay.specs.Words.{mode_of};
+ghost use Rattle.relay_words.specs.ModeGrammar.{mode_of};
 ghost use Rattle.evplay.specs.Play.{DidWith};
 
 use crate::play::play;

@@ -39,7 +39,7 @@ fn came_to(
 }
 
 /// Words and scripts, each with the status, the text and the line that it comes to.
-const RUNS: [(&[&str], &str, u8, &str, &str); 16] = [
+const RUNS: [(&[&str], &str, u8, &str, &str); 15] = [
     (&["relay"], "", 0, "done 0 open 0 gone 0\n", ""),
     // Both ways end by themselves, and then the link is done.
     (
@@ -81,6 +81,61 @@ const RUNS: [(&[&str], &str, u8, &str, &str); 16] = [
          read 0 in 16384 notyet\nlink 0 open in 0 0 out 0 0\ndone 0 open 1 gone 0\n",
         "",
     ),
+    // A CR that ends a read is held: it and the LF that comes first in the next read are one line end.
+    (
+        &["relay"],
+        "set in-read to-lf\nat 0\nopen\nat 1\nr 0 in 610d\nat 2\nr 0 in 0a62\neof 0 in\nw 0 out all\nat 3\n",
+        0,
+        "turn 0\npoll none\nopen 0\nturn 1\npoll none\nwant 0 in r\nwant 0 out r\nready 0 in r\n\
+         read 0 in 16384 got 610d\nturn 2\npoll none\nwant 0 in r\nwant 0 out rw\nready 0 in r\nready 0 out w\n\
+         read 0 in 16384 got 0a62\nwrite 0 out 1 took 61\nturn 3\npoll none\nwant 0 in r\nwant 0 out rw\n\
+         ready 0 in r\nready 0 out w\nread 0 in 16384 end\nwrite 0 out 2 took 0a62\nclosewrite 0 out\n\
+         link 0 open in 4 0 out 0 3\ndone 0 open 1 gone 0\n",
+        "",
+    ),
+    // A held CR goes on as it is once its side has ended.
+    (
+        &["relay"],
+        "set in-read to-lf\nat 0\nopen\nat 1\nr 0 in 0d\neof 0 in\nw 0 out all\nat 2\nat 3\n",
+        0,
+        "turn 0\npoll none\nopen 0\nturn 1\npoll none\nwant 0 in r\nwant 0 out r\nready 0 in r\n\
+         read 0 in 16384 got 0d\nturn 2\npoll none\nwant 0 in r\nwant 0 out r\nready 0 in r\n\
+         read 0 in 16384 end\nturn 3\npoll none\nwant 0 out rw\nready 0 out w\nwrite 0 out 1 took 0d\n\
+         closewrite 0 out\nlink 0 open in 1 0 out 0 1\ndone 0 open 1 gone 0\n",
+        "",
+    ),
+    // Each LF is given as CR LF.
+    (
+        &["relay"],
+        "set out-write to-crlf\nat 0\nopen\nat 1\nr 0 in 474554202f0a0a\neof 0 in\nw 0 out all\nat 2\n",
+        0,
+        "turn 0\npoll none\nopen 0\nturn 1\npoll none\nwant 0 in r\nwant 0 out r\nready 0 in r\n\
+         read 0 in 16384 got 474554202f0a0a\nturn 2\npoll none\nwant 0 in r\nwant 0 out rw\nready 0 in r\n\
+         ready 0 out w\nread 0 in 16384 end\nwrite 0 out 9 took 474554202f0d0a0d0a\nclosewrite 0 out\n\
+         link 0 open in 7 0 out 0 9\ndone 0 open 1 gone 0\n",
+        "",
+    ),
+    // A byte that is no hex digit frees its side, with the place of the byte from 0; nothing of its digits is given.
+    (
+        &["relay"],
+        "set in-read hex-in\nat 0\nopen\nat 1\nr 0 in 3467\neof 0 in\nw 0 out all\nat 2\n",
+        0,
+        "turn 0\npoll none\nopen 0\nturn 1\npoll none\nwant 0 in r\nwant 0 out r\nready 0 in r\n\
+         read 0 in 16384 got 3467\nfreed 0 in filter:1 0 0\nfreed 0 out peergone 0 0\nclose 0 in\nclose 0 out\n\
+         turn 2\npoll none\nlink 0 gone in 2 0 out 0 0\ndone 0 open 0 gone 1\n",
+        "",
+    ),
+    // So does an end within a byte, once what was whole is given.
+    (
+        &["relay"],
+        "set in-read hex-in\nat 0\nopen\nat 1\nr 0 in 346134\neof 0 in\nw 0 out all\nat 2\n",
+        0,
+        "turn 0\npoll none\nopen 0\nturn 1\npoll none\nwant 0 in r\nwant 0 out r\nready 0 in r\n\
+         read 0 in 16384 got 346134\nturn 2\npoll none\nwant 0 in r\nwant 0 out rw\nready 0 in r\nready 0 out w\n\
+         read 0 in 16384 end\nwrite 0 out 1 took 4a\nfreed 0 in filter:3 1 0\nfreed 0 out peergone 0 1\n\
+         close 0 in\nclose 0 out\nlink 0 gone in 3 0 out 0 1\ndone 0 open 0 gone 1\n",
+        "",
+    ),
     (
         &["buffers"],
         "cb 0\nadd 0 610d0a620a\nreadln 0 crlf\nreadln 0 crlf\nreadln 0 crlf\n",
@@ -106,13 +161,36 @@ const RUNS: [(&[&str], &str, u8, &str, &str); 16] = [
     ),
     (&["buffers"], "len 16\n", 2, "", "bad script: line 1\n"),
     (&["base"], "\n", 2, "", "bad script: line 2\n"),
-    (&[], "", 1, "", "usage\n"),
-    (&["play"], "", 1, "", "usage\n"),
-    (&["relay", "x"], TWO_BYTES, 1, "", "usage\n"),
-    (&["--drain", "relay"], TWO_BYTES, 1, "", "usage\n"),
-    (&["--help"], "", 1, "", "usage\n"),
-    (&[""], "", 1, "", "usage\n"),
 ];
+
+/// Words that are not one mode word, among them each kind that a reader of command lines could answer itself.
+const BAD_WORDS: [&[&str]; 15] = [
+    &[],
+    &["play"],
+    &["rel"],
+    &["relay", "x"],
+    &["relay", "relay"],
+    &["--drain", "relay"],
+    &["relay", "--drain"],
+    &["--help"],
+    &["-h"],
+    &["--version"],
+    &["-V"],
+    &[""],
+    &["-"],
+    &["--"],
+    &["--", "relay"],
+];
+
+#[test]
+fn words_that_are_no_mode_word_are_usage(rt: HostRuntime) -> Result<(), Fail> {
+    for words in BAD_WORDS {
+        let run = came_to(rt.alloc(), words, TWO_BYTES.as_bytes(), 0, 0)?;
+        assert_eq!(rt; (run.number, run.text.len()), (1, 0), "{words:?}");
+        assert_eq!(rt; run.said.as_slice(), b"usage\n".as_slice(), "{words:?}");
+    }
+    Ok(())
+}
 
 #[test]
 fn runs_come_to_their_texts(rt: HostRuntime) -> Result<(), Fail> {
