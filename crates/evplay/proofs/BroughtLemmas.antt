@@ -25,7 +25,8 @@ use Rattle.ev_types.specs.ScriptTurn.{ScriptTurn, lines_of}
 use Rattle.script_text.specs.Script.{ScriptValue, SoFar}
 use Rattle.script_text.specs.Pieces.{lines}
 use Rattle.script_text.specs.Numbers.{number_within, bytes_of}
-use Rattle.script_text.specs.Grammar.{keyword_of, link_of, end_of, made_of, more_of, of_end, setting_name_of, set_by, said_by, is_comment, said}
+use Rattle.script_text.specs.Grammar.{keyword_of, link_of, end_of, made_of, more_of, of_end, setting_name_of, set_by}
+use Rattle.script_text.specs.Grammar.{said_by, is_comment, said}
 use Rattle.script_text.specs.Order.{may_follow, with_line, extended}
 use Rattle.script_text.specs.Brought.{brought, all_brought}
 use Rattle.script_text.specs.Given.{with_setting}
