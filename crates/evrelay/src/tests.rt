@@ -5,8 +5,11 @@ use ev_port::{MemSink, Port, Scribe};
 use ev_types::{Entry, ReadAnswer, Side, SideId};
 use script_port::{FailPort, PortCall, ScriptPort};
 use script_text::read_script;
-use std::alloc::Global;
+use std::alloc::{AllocGlobal, Global};
+use std::sync::Wait;
 use std::test::Fail;
+
+mod sockets;
 
 /// What a run of the program came to: the status of the process, its report, and what it said on standard error.
 #[derive(Drop)]
@@ -17,8 +20,8 @@ struct Ended {
 }
 
 /// A run with so many links over this port, where this write of the report fails, counted from 1; 0 is none.
-fn came_to<P: Port>(
-    rt: &HostRuntime,
+fn came_to<R: Wait + AllocGlobal, P: Port>(
+    rt: &R,
     links: &str,
     port: &mut P,
     failing_write: u64,
