@@ -5,6 +5,7 @@ use Rattle.std.specs.List.{All}
 use Rattle.ev_types.specs.declared.side.SideId.{SideId}
 use Rattle.relay_model.specs.Settings.{Timeouts, no_timeouts}
 use Rattle.relay_model.specs.Plain.{side_at, flow_at}
+use Rattle.relay_core.specs.declared.close.Closing.{Closing}
 use Rattle.relay_core.specs.Steps as steps
 use Rattle.relay_core.specs.Steps.{steps_of}
 use Rattle.relay_state.specs.State.{State, lane_at}
@@ -27,9 +28,13 @@ IsStillFrom s e = round_from s e (passage_at s e) ≡ passage_at s e
 abbrev pub IsStill : State → ℕ → Type 0
 IsStill s k = IsStillFrom s (in_side k) × IsStillFrom s (out_side k)
 
+-- this step of closing is not called for
+abbrev pub IsUncalled : State → Closing → Type 0
+IsUncalled s step = is_some (closing_entry s (steps.close_step step)) ≡ false
+
 -- closing has nothing to do at this link
 abbrev pub IsSettled : State → ℕ → Type 0
-IsSettled s k = All (λ step. is_some (closing_entry s (steps.close_step step)) ≡ false) (steps_of k)
+IsSettled s k = All (IsUncalled s) (steps_of k)
 
 -- a count of the direction that begins at this side has come to 2^62
 abbrev pub is_far_from : State → SideId → Bool
