@@ -16,3 +16,4 @@ pub mod BoundLaws
 pub mod MeantServing
 pub mod MeantTurn
 pub mod WentLemmas
+pub mod OtherLinks
