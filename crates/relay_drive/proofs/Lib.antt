@@ -17,3 +17,5 @@ pub mod MeantServing
 pub mod MeantTurn
 pub mod WentLemmas
 pub mod OtherLinks
+pub mod LooksLemmas
+pub mod TableLemmas
