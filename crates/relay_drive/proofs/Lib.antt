@@ -17,3 +17,4 @@ pub mod MeantServing
 pub mod MeantTurn
 pub mod WentLemmas
 pub mod OtherLinks
+pub mod LinkParts
