@@ -17,5 +17,6 @@ pub mod MeantServing
 pub mod MeantTurn
 pub mod WentLemmas
 pub mod OtherLinks
+pub mod LinkParts
 pub mod LooksLemmas
 pub mod TableLemmas

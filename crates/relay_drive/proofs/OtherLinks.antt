@@ -1,7 +1,8 @@
--- What each step of a turn leaves of every other link than the one that it is about.
-use Rattle.std.proofs.Common.{◌≡◌, ◌≢◌, ℕ, ◌+◌, ◌*◌, ◌<◌, Bool, true, false, ◌&&◌, nat_le, nat_lt, if◌then◌else◌, List, [], ◌∷◌, ◌++◌, length, refl, sym, ◌∙◌, ap, subst, arith}
-use Rattle.std.specs.Prelude.{MatchBool, is_some}
-use Rattle.std.specs.List.{AllByRecursion}
+-- What each step of a turn leaves of every other link than the one that it is about, and what was found of a link is still so where
+-- the link is the same.
+use Rattle.std.proofs.Common.{◌≡◌, ◌≢◌, ℕ, ◌+◌, ◌*◌, ◌<◌, Bool, true, false, ◌&&◌, nat_le, nat_lt, if◌then◌else◌, List, [], ◌∷◌, ◌++◌, length, refl, sym, ◌∙◌, ap, subst, arith, zero, suc, ◌-◌, None}
+use Rattle.std.specs.Prelude.{MatchBool, is_some, slice_index_or, option_map}
+use Rattle.std.specs.List.{AllByRecursion, All}
 use Rattle.std.proofs.lemmas.List.{get_or-set_other, get_or_append_left}
 use Rattle.token_bucket.specs.declared.limit.Dir.TheVariants as dir
 use Rattle.ev_types.specs.declared.side.SideId.{SideId}
@@ -13,42 +14,45 @@ use Rattle.ev_types.specs.declared.answer.WriteAnswer.{WriteAnswer}
 use Rattle.ev_types.specs.declared.answer.WriteAnswer.TheVariants as write
 use Rattle.ev_types.specs.declared.why.Why.{Why}
 use Rattle.ev_types.specs.declared.why.Why.TheVariants as why
-use Rattle.ev_types.specs.Sides.{half, number, peer}
+use Rattle.ev_types.specs.Sides.{number, peer}
 use Rattle.ev_types.specs.Trace.{Trace}
 use Rattle.ev_port.specs.declared.port.Want.{Want}
 use Rattle.relay_model.specs.Flow.{Flow, no_flow}
 use Rattle.relay_model.specs.Settings.{Settings}
 use Rattle.relay_model.specs.Due.{with_reason}
 use Rattle.relay_model.specs.Plain as plain
-use Rattle.relay_model.specs.Plain.{Plain, PlainSide, no_side, new_side, side_at, flow_at, put_side, put_flow, change_side, change_flow, is_live, with_link}
+use Rattle.relay_model.specs.Plain.{Plain, PlainSide, no_side, side_at, flow_at, put_side, put_flow, change_side, change_flow, is_live}
 use Rattle.relay_model.specs.Reasons.{has_hook, raise, happened, end_flag, error_flag}
 use Rattle.relay_model.specs.Moments.{active_at}
 use Rattle.relay_model.specs.Rooms.{is_connecting}
 use Rattle.relay_model.specs.Serve as model
-use Rattle.relay_model.specs.Close.{CloseStep, closed_by}
+use Rattle.relay_model.specs.Close.{fault, freed_entry}
 use Rattle.relay_model.specs.Turn.{turned_to}
 use Rattle.relay_model.proofs.PlainLemmas.{half-below}
-use Rattle.relay_state.specs.State.{State, Lane, no_lane, lane_at, with_plain, with_lane, lane_left, lane_lost}
+use Rattle.relay_state.specs.State.{State, Lane, no_lane, lane_at, with_plain, with_lane, lane_left}
 use Rattle.relay_state.specs.Passage.{Passage}
-use Rattle.relay_state.specs.Passing.{with_bad, plain_passed, with_passage, PassedFrom, read_run}
+use Rattle.relay_state.specs.Passing.{with_bad, plain_passed, with_passage, PassedFrom, read_run, passage_at, round_from}
 use Rattle.relay_state.specs.Rooms.{wants, input_length, output_length, read_room, write_room}
 use Rattle.relay_state.specs.Serving.{raise_read, raise_write, after_conn, with_got, after_got, after_read, flow_given, with_taken, after_took, after_write}
-use Rattle.relay_state.specs.Opening.{after_opened}
 use Rattle.relay_state.specs.Closing.{in_side, out_side, closing_entry, closed, freed}
 use Rattle.relay_core.specs.declared.close.Closing.{Closing}
 use Rattle.relay_core.specs.declared.close.Closing.TheVariants as closing
 use Rattle.relay_core.specs.Steps as steps
 use Rattle.relay_core.specs.Steps.{steps_of, link_of_step, after_closing}
 use Rattle.relay_drive.specs.Steps.{Nothing, Then, Each}
-use Rattle.relay_drive.specs.PassPhase.{PassesSide, PassesLink}
+use Rattle.relay_drive.specs.PassPhase.{PassesLink}
 use Rattle.relay_drive.specs.ServePhase.{ReadsSide, WritesSide, ConnectsSide, ServesSide}
 use Rattle.relay_drive.specs.ClosePhase.{Closes, LooksAt, ClosesLink}
 use Rattle.relay_drive.specs.Calls.{Reads, Writes}
 use Rattle.relay_drive.specs.PollPhase.{OpensOne}
-use Rattle.relay_drive.specs.Links.{SameLink, HasPairs}
+use Rattle.relay_drive.specs.Links.{SameLink, HasPairs, IsStillFrom, IsStill, IsSettled, is_far}
+use Rattle.token_bucket.specs.declared.limit.Dir.{Dir}
+use Rattle.ev_types.specs.declared.why.Cause.{Cause}
+use Rattle.ev_types.specs.declared.entry.Entry.{Entry}
+use Rattle.ev_types.specs.declared.entry.Entry.TheVariants as entry
+use Rattle.relay_state.specs.Counting.{is_open}
 
--- One after another
-
+-- where nothing changed, and where one change stands behind another
 pub same_link : (k : ℕ) (s : State) → SameLink k s s
 same_link k s = record { settings = refl; side = λ e h. refl; flow = λ e h. refl; lane = λ e h. refl }
 
@@ -112,6 +116,7 @@ by_lane k s e l other = record {
 
 -- Passing
 
+-- another direction was replaced
 passage-other : (k : ℕ) (s : State) (e : SideId) (x : Passage) → k ≢ e.link → SameLink k s (with_passage e x s)
 passage-other k s e x other =
     let p : Plain = put_flow e x.flow s.plain in
@@ -125,6 +130,7 @@ passage-other k s e x other =
 passed-other : (k : ℕ) (e : SideId) {s new : State} → k ≢ e.link → PassedFrom s e new → SameLink k s new
 passed-other k e {s = s} other h = subst (SameLink k s) (sym h.2) (passage-other k s e h.0 other)
 
+-- another link was passed
 pub passes-other : (k j : ℕ) (s new : State) (a : Trace) → PassesLink j s a new → k ≢ j → SameLink k s new
 passes-other k j s new a h other =
     same_link-then k (passed-other k (in_side j) other h.first.1)
@@ -194,7 +200,8 @@ reads-other k e marked s new a other h = go (marked && wants s e dir.Read) h
     go true r = subst (SameLink k s) (sym r.3.state) (read-other k s e r.0 _ other)
     go false r = same_link-is k r.1
 
-writes-other : (k : ℕ) (e : SideId) (marked : Bool) (s new : State) (a : Trace) → k ≢ e.link → WritesSide e marked s a new → SameLink k s new
+writes-other : (k : ℕ) (e : SideId) (marked : Bool) (s new : State) (a : Trace) → k ≢ e.link → WritesSide e marked s a new →
+    SameLink k s new
 writes-other k e marked s new a other h = go (marked && nat_lt 0 (write_room s e)) h
   where
     go : (b : Bool) → MatchBool b ((answer : WriteAnswer) × Writes e answer s a new) (Nothing s a new) → SameLink k s new
@@ -206,6 +213,7 @@ connects-other : (k : ℕ) (e : SideId) (marked : Bool) (s new : State) (a : Tra
 connects-other k e true s new a other r = subst (SameLink k s) (sym r.1.state) (conn-other k s e r.0 other)
 connects-other k e false s new a other r = same_link-is k r.1
 
+-- a side of another link was served
 pub serves-other : (k : ℕ) (w : Want) (s new : State) (a : Trace) → ServesSide w s a new → k ≢ w.side.link → SameLink k s new
 serves-other k w s new a h other = go (is_connecting s.plain w.side) h
   where
@@ -217,6 +225,7 @@ serves-other k w s new a h other = go (is_connecting s.plain w.side) h
 
 -- Closing
 
+-- a side of another link was freed
 freed-other : (k : ℕ) (s : State) (e : SideId) → k ≢ e.link → SameLink k s (freed e s)
 freed-other k s e other =
     let p : Plain = plain.freed e s.plain in
@@ -247,24 +256,133 @@ each_look-other k [] s new a others h = same_link-is k h.1
 each_look-other k (x ∷ xs) s new a others h =
     same_link-then k (looks-other k x s h.middle h.front others.0 h.first) (each_look-other k xs h.middle new h.back others.1 h.second)
 
+-- another link was closed
 pub closes-other : (k j : ℕ) (s new : State) (a : Trace) → ClosesLink j s a new → k ≢ j → SameLink k s new
 closes-other k j s new a h d = each_look-other k (steps_of j) s new a (d, (d, (d, (d, (d, (d, (d, (d, (d, tt))))))))) h
 
 -- Opening
 
--- a place before the end of a list keeps what stands there
+-- the places of this link's sides are below twice the number of links
 within-pairs : (k n : ℕ) (e : SideId) → k < n → e.link ≡ k → number e < 2 * n
 within-pairs k n e below here = omega (arith, below, here, half-below e.side)
 
+-- what stood at them is still there where more stands behind
+kept-place : {A : Type 0} (k n : ℕ) (xs ys : List A) (d : A) (e : SideId) → length xs ≡ 2 * n → k < n → e.link ≡ k →
+    slice_index_or (xs ++ ys) (number e) d ≡ slice_index_or xs (number e) d
+kept-place k n xs ys d e many below here = get_or_append_left xs ys d (number e) (omega (arith, many, within-pairs k n e below here))
+
+-- a link was opened, and this one stood before it
 pub opens-other : (k : ℕ) (s new : State) (a : Trace) → OpensOne s a new → HasPairs s → k < s.plain.opened → SameLink k s new
-opens-other k s new a h pairs below = subst (SameLink k s) (sym h.1.state) (record {
-  settings = refl;
-  side = λ e here. get_or_append_left s.plain.sides _ no_side (number e) (omega (arith, pairs.sides, within-pairs k s.plain.opened e below here));
-  flow = λ e here. get_or_append_left s.plain.flows _ no_flow (number e) (omega (arith, pairs.flows, within-pairs k s.plain.opened e below here));
-  lane = λ e here. get_or_append_left s.lanes _ no_lane (number e) (omega (arith, pairs.lanes, within-pairs k s.plain.opened e below here));
-})
+opens-other k s new a h pairs below =
+    let n : ℕ = s.plain.opened in
+    subst (SameLink k s) (sym h.1.state) (record {
+      settings = refl;
+      side = λ e here. kept-place k n s.plain.sides _ no_side e pairs.sides below here;
+      flow = λ e here. kept-place k n s.plain.flows _ no_flow e pairs.flows below here;
+      lane = λ e here. kept-place k n s.lanes _ no_lane e pairs.lanes below here;
+    })
 
 -- A turn begins
 
+-- the time and the number of turns belong to no link
 pub turned-same : (k ms : ℕ) (s : State) → SameLink k s (with_plain (turned_to ms s.plain) s)
 turned-same k ms s = record { settings = refl; side = λ e h. refl; flow = λ e h. refl; lane = λ e h. refl }
+
+-- What was found of a link is still so
+
+-- the same is there to be passed, and a round makes the same of it
+round-same : (k : ℕ) (s new : State) → SameLink k s new → (e : SideId) → e.link ≡ k → round_from new e (passage_at new e) ≡
+    round_from s e (passage_at s e)
+round-same k s new h e here =
+    let own = h.side e here in
+    let far = h.side (peer e) here in
+    let flow = h.flow e here in
+    let lane = h.lane e here in
+    let settings = h.settings in
+    cc
+
+passage-same : (k : ℕ) (s new : State) → SameLink k s new → (e : SideId) → e.link ≡ k → passage_at new e ≡ passage_at s e
+passage-same k s new h e here =
+    let own = h.side e here in
+    let far = h.side (peer e) here in
+    let flow = h.flow e here in
+    let lane = h.lane e here in
+    cc
+
+-- its sides want the same
+pub wants-same : (k : ℕ) (s new : State) → SameLink k s new → (e : SideId) → e.link ≡ k → (d : Dir) → wants new e d ≡ wants s e d
+wants-same k s new h e here dir.Read =
+    let own = h.side e here in
+    let far = h.side (peer e) here in
+    let lane = h.lane e here in
+    cc
+wants-same k s new h e here dir.Write =
+    let own = h.side e here in
+    let lane = h.lane (peer e) here in
+    cc
+
+-- a side of it lives as before
+pub open-same : (k : ℕ) (s new : State) → SameLink k s new → is_open new k ≡ is_open s k
+open-same k s new h = let own = h.side (in_side k) refl in let far = h.side (out_side k) refl in cc
+
+-- its counts have come as far
+pub far-same : (k : ℕ) (s new : State) → SameLink k s new → is_far new k ≡ is_far s k
+far-same k s new h =
+    let a = h.flow (in_side k) refl in
+    let b = h.flow (out_side k) refl in
+    let c = h.lane (in_side k) refl in
+    let d = h.lane (out_side k) refl in
+    cc
+
+-- the same steps of closing are called for, with the same entries
+entry-same : (k : ℕ) (s new : State) → SameLink k s new → (step : Closing) → link_of_step step ≡ k →
+    closing_entry new (steps.close_step step) ≡ closing_entry s (steps.close_step step)
+entry-same k s new h (closing.Faulty e) here =
+    let own = h.side e here in
+    let flow = h.flow e here in
+    let back = h.flow (peer e) here in
+    let freed : freed_entry new.plain e ≡ freed_entry s.plain e = λ i why. entry.Freed e why (flow i).moved (back i).given in
+    ap (λ (x : PlainSide). if x.live then option_map (freed_entry new.plain e) (fault x) else None) own
+    ∙ ap (λ (f : Cause → Entry). if (side_at s.plain e).live then option_map f (fault (side_at s.plain e)) else None) freed
+entry-same k s new h (closing.EndWriting e) here =
+    let own = h.side e here in
+    let far = h.side (peer e) here in
+    let flow = h.flow (peer e) here in
+    let lane = h.lane (peer e) here in
+    cc
+entry-same k s new h (closing.BothDone j) here =
+    let own = h.side (in_side j) here in
+    let far = h.side (out_side j) here in
+    let flow = h.flow (in_side j) here in
+    let back = h.flow (out_side j) here in
+    cc
+entry-same k s new h (closing.PeerGone e) here =
+    let own = h.side e here in
+    let far = h.side (peer e) here in
+    let flow = h.flow e here in
+    let back = h.flow (peer e) here in
+    let lane = h.lane (peer e) here in
+    cc
+entry-same k s new h (closing.Shut e) here = let own = h.side e here in cc
+
+-- passing has nothing to do there still
+pub still-same : (k : ℕ) (s new : State) → SameLink k s new → IsStill s k → IsStill new k
+still-same k s new h still = (one (in_side k) refl still.0, one (out_side k) refl still.1)
+  where
+    one : (e : SideId) → e.link ≡ k → IsStillFrom s e → IsStillFrom new e
+    one e here x = round-same k s new h e here ∙ x ∙ sym (passage-same k s new h e here)
+
+-- what holds of each by recursion holds of each by its place
+all_from : {X : Type 0} (P : X → Type 0) (xs : List X) → AllByRecursion P xs → All P xs
+all_from P [] h i d lt = absurd (omega arith)
+all_from P (x ∷ xs) h zero d lt = h.0
+all_from P (x ∷ xs) h (suc i) d lt = all_from P xs h.1 i d (omega arith)
+
+steps-here : (k : ℕ) → All (λ step. link_of_step step ≡ k) (steps_of k)
+steps-here k =
+    all_from (λ step. link_of_step step ≡ k) (steps_of k) (refl, (refl, (refl, (refl, (refl, (refl, (refl, (refl, (refl, tt)))))))))
+
+-- closing has nothing to do there still
+pub settled-same : (k : ℕ) (s new : State) → SameLink k s new → IsSettled s k → IsSettled new k
+settled-same k s new h settled i d lt =
+    ap is_some (entry-same k s new h (slice_index_or (steps_of k) i d) (steps-here k i d lt)) ∙ settled i d lt
