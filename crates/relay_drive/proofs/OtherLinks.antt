@@ -1,10 +1,11 @@
 -- What each step of a turn leaves of every other link than the one that it is about, and what was found of a link is still so where
 -- the link is the same.
-use Rattle.std.proofs.Common.{◌≡◌, ◌≢◌, ℕ, ◌+◌, ◌*◌, ◌<◌, Bool, true, false, ◌&&◌, nat_le, nat_lt, if◌then◌else◌, List, [], ◌∷◌, ◌++◌, length, refl, sym, ◌∙◌, ap, subst, arith, zero, suc, ◌-◌, None}
 use Rattle.std.specs.Prelude.{MatchBool, is_some, slice_index_or, option_map}
 use Rattle.std.specs.List.{AllByRecursion, All}
+use Rattle.std.proofs.Common.{◌≡◌, ◌≢◌, ℕ, ◌+◌, ◌*◌, ◌<◌, Bool, true, false, ◌&&◌, nat_le, nat_lt, if◌then◌else◌, List, [], ◌∷◌, ◌++◌, length, refl, sym, ◌∙◌, ap, subst, arith, zero, suc, ◌-◌, None}
 use Rattle.std.proofs.lemmas.List.{get_or-set_other, get_or_append_left}
 use Rattle.token_bucket.specs.declared.limit.Dir.TheVariants as dir
+use Rattle.token_bucket.specs.declared.limit.Dir.{Dir}
 use Rattle.ev_types.specs.declared.side.SideId.{SideId}
 use Rattle.ev_types.specs.declared.answer.ConnAnswer.{ConnAnswer}
 use Rattle.ev_types.specs.declared.answer.ConnAnswer.TheVariants as conn
@@ -16,6 +17,9 @@ use Rattle.ev_types.specs.declared.why.Why.{Why}
 use Rattle.ev_types.specs.declared.why.Why.TheVariants as why
 use Rattle.ev_types.specs.Sides.{number, peer}
 use Rattle.ev_types.specs.Trace.{Trace}
+use Rattle.ev_types.specs.declared.why.Cause.{Cause}
+use Rattle.ev_types.specs.declared.entry.Entry.{Entry}
+use Rattle.ev_types.specs.declared.entry.Entry.TheVariants as entry
 use Rattle.ev_port.specs.declared.port.Want.{Want}
 use Rattle.relay_model.specs.Flow.{Flow, no_flow}
 use Rattle.relay_model.specs.Settings.{Settings}
@@ -35,6 +39,7 @@ use Rattle.relay_state.specs.Passing.{with_bad, plain_passed, with_passage, Pass
 use Rattle.relay_state.specs.Rooms.{wants, input_length, output_length, read_room, write_room}
 use Rattle.relay_state.specs.Serving.{raise_read, raise_write, after_conn, with_got, after_got, after_read, flow_given, with_taken, after_took, after_write}
 use Rattle.relay_state.specs.Closing.{in_side, out_side, closing_entry, closed, freed}
+use Rattle.relay_state.specs.Counting.{is_open}
 use Rattle.relay_core.specs.declared.close.Closing.{Closing}
 use Rattle.relay_core.specs.declared.close.Closing.TheVariants as closing
 use Rattle.relay_core.specs.Steps as steps
@@ -46,11 +51,6 @@ use Rattle.relay_drive.specs.ClosePhase.{Closes, LooksAt, ClosesLink}
 use Rattle.relay_drive.specs.Calls.{Reads, Writes}
 use Rattle.relay_drive.specs.PollPhase.{OpensOne}
 use Rattle.relay_drive.specs.Links.{SameLink, HasPairs, IsStillFrom, IsStill, IsSettled, is_far}
-use Rattle.token_bucket.specs.declared.limit.Dir.{Dir}
-use Rattle.ev_types.specs.declared.why.Cause.{Cause}
-use Rattle.ev_types.specs.declared.entry.Entry.{Entry}
-use Rattle.ev_types.specs.declared.entry.Entry.TheVariants as entry
-use Rattle.relay_state.specs.Counting.{is_open}
 
 -- where nothing changed, and where one change stands behind another
 pub same_link : (k : ℕ) (s : State) → SameLink k s s
