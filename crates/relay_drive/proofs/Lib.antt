@@ -18,3 +18,5 @@ pub mod MeantTurn
 pub mod WentLemmas
 pub mod OtherLinks
 pub mod LinkParts
+pub mod LooksLemmas
+pub mod TableLemmas

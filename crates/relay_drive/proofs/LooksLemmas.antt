@@ -1,17 +1,21 @@
 -- What is kept of the links stays right, step by step: a step changes one link, and that one is looked at again.
-use Rattle.std.proofs.Common.{◌≡◌, ◌≢◌, ℕ, ◌+◌, ◌<◌, ◌≤◌, Bool, true, false, ◌==◌, if◌then◌else◌, refl, sym, ◌∙◌, ap, subst, arith}
+use Rattle.std.proofs.Common.{◌≡◌, ◌≢◌, ℕ, ◌+◌, ◌<◌, ◌≤◌, Bool, true, false, ◌==◌, if◌then◌else◌, [], refl, sym, ◌∙◌, ap, subst, arith}
 use Rattle.std.proofs.lemmas.Bool.{eqb-true, eqb-false}
 use Rattle.token_bucket.specs.declared.limit.Dir.TheVariants as dir
 use Rattle.ev_types.specs.declared.side.SideId.{SideId}
 use Rattle.ev_port.specs.Table.{WantsValue}
-use Rattle.number_set.specs.NumberSet.{NumberSetValue}
+use Rattle.number_set.specs.Numbers.{NumberSetValue}
 use Rattle.relay_state.specs.State.{State}
 use Rattle.relay_state.specs.Counting.{is_open}
 use Rattle.relay_state.specs.Closing.{in_side, out_side}
 use Rattle.relay_drive.specs.declared.looks.Looks.{Looks}
 use Rattle.relay_drive.specs.Links.{SameLink, HasPairs, IsStill, IsSettled}
 use Rattle.relay_drive.specs.Looks.{HoldsBeside, IsGone, IsNear, IsKept, IsNamed, IsNamedRight, TouchedBut, Touched, TouchedAll, IsCovered, ClosingNoted, KeepsNames}
-use Rattle.relay_drive.proofs.OtherLinks.{same_link, still-same, settled-same, wants-same, open-same, far-same}
+use Rattle.ev_types.specs.Trace.{Trace}
+use Rattle.ev_port.specs.declared.port.Want.{Want}
+use Rattle.relay_drive.specs.Phases.{ServesSide, PassesLink, ClosesLink}
+use Rattle.relay_drive.proofs.OtherLinks.{same_link, serves-other, passes-other, closes-other}
+use Rattle.relay_drive.proofs.LinkParts.{still-same, settled-same, wants-same, open-same, far-same}
 
 -- by whether two numbers are the same
 by_same : {A : Type 0} (n k : ℕ) → (n ≡ k → n == k ≡ true → A) → (n ≢ k → n == k ≡ false → A) → A
@@ -178,3 +182,15 @@ names-covered l l' s s' o c = λ table h. record {
   named = beside (IsNamedRight table) l.want l'.want s.plain.opened true s s' c.want.has (λ e. no_false e) (opened-before s s' o)
       (λ j e lt p. named-same table j s s' (o.old j lt) p) h.named;
 }
+
+-- Steps at one link
+
+pub at-served : (w : Want) (s new : State) (a : Trace) → new.plain.opened ≡ s.plain.opened → ServesSide w s a new →
+    AtLink w.side.link s new
+at-served w s new a opened h = record { others = λ j e. serves-other j w s new a h e; opened = opened }
+
+pub at-passed : (k : ℕ) (s new : State) → new.plain.opened ≡ s.plain.opened → PassesLink k s [] new → AtLink k s new
+at-passed k s new opened h = record { others = λ j e. passes-other j k s new [] h e; opened = opened }
+
+pub at-closed : (k : ℕ) (s new : State) (a : Trace) → new.plain.opened ≡ s.plain.opened → ClosesLink k s a new → AtLink k s new
+at-closed k s new a opened h = record { others = λ j e. closes-other j k s new a h e; opened = opened }

@@ -7,7 +7,7 @@ use Rattle.ev_types.specs.Sides.{number}
 use Rattle.ev_types.specs.Trace.{Trace}
 use Rattle.ev_port.specs.declared.port.Want.{Want}
 use Rattle.ev_port.specs.Table.{WantsValue, is_marked}
-use Rattle.number_set.specs.NumberSet.{NumberSetValue}
+use Rattle.number_set.specs.Numbers.{NumberSetValue}
 use Rattle.relay_state.specs.State.{State}
 use Rattle.relay_state.specs.Rooms.{wants}
 use Rattle.relay_state.specs.Counting.{is_open}
