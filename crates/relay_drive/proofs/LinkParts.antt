@@ -28,6 +28,7 @@ use Rattle.relay_drive.specs.PassPhase.{PassesSide, PassesLink}
 use Rattle.relay_drive.specs.ServePhase.{ReadsSide, WritesSide, ConnectsSide, ServesSide}
 use Rattle.relay_drive.specs.ClosePhase.{Closes, LooksAt, ClosesLink}
 use Rattle.relay_drive.specs.Links.{HasPairs, IsStillFrom, IsStill, IsUncalled, IsSettled, is_far_from, is_far}
+pub use Rattle.relay_drive.proofs.OtherLinks.{wants-same, open-same, far-same, still-same, settled-same}
 use Rattle.relay_drive.proofs.EachLemmas.{nothing_then, then_as, each_push, links_from-push}
 
 -- Links for which there is nothing to do

@@ -310,24 +310,24 @@ passage-same k s new h e here =
     cc
 
 -- its sides want the same
-pub wants-same : (k : ℕ) (s new : State) → SameLink k s new → (e : SideId) → e.link ≡ k → (d : Dir) → wants new e d ≡ wants s e d
-wants-same k s new h e here dir.Read =
+pub wants-same : {k : ℕ} {s new : State} → SameLink k s new → (e : SideId) → e.link ≡ k → (d : Dir) → wants new e d ≡ wants s e d
+wants-same h e here dir.Read =
     let own = h.side e here in
     let far = h.side (peer e) here in
     let lane = h.lane e here in
     cc
-wants-same k s new h e here dir.Write =
+wants-same h e here dir.Write =
     let own = h.side e here in
     let lane = h.lane (peer e) here in
     cc
 
 -- a side of it lives as before
-pub open-same : (k : ℕ) (s new : State) → SameLink k s new → is_open new k ≡ is_open s k
-open-same k s new h = let own = h.side (in_side k) refl in let far = h.side (out_side k) refl in cc
+pub open-same : {k : ℕ} {s new : State} → SameLink k s new → is_open new k ≡ is_open s k
+open-same {k = k} h = let own = h.side (in_side k) refl in let far = h.side (out_side k) refl in cc
 
 -- its counts have come as far
-pub far-same : (k : ℕ) (s new : State) → SameLink k s new → is_far new k ≡ is_far s k
-far-same k s new h =
+pub far-same : {k : ℕ} {s new : State} → SameLink k s new → is_far new k ≡ is_far s k
+far-same {k = k} h =
     let a = h.flow (in_side k) refl in
     let b = h.flow (out_side k) refl in
     let c = h.lane (in_side k) refl in
@@ -366,8 +366,8 @@ entry-same k s new h (closing.PeerGone e) here =
 entry-same k s new h (closing.Shut e) here = let own = h.side e here in cc
 
 -- passing has nothing to do there still
-pub still-same : (k : ℕ) (s new : State) → SameLink k s new → IsStill s k → IsStill new k
-still-same k s new h still = (one (in_side k) refl still.0, one (out_side k) refl still.1)
+pub still-same : {k : ℕ} {s new : State} → SameLink k s new → IsStill s k → IsStill new k
+still-same {k = k} {s = s} {new = new} h still = (one (in_side k) refl still.0, one (out_side k) refl still.1)
   where
     one : (e : SideId) → e.link ≡ k → IsStillFrom s e → IsStillFrom new e
     one e here x = round-same k s new h e here ∙ x ∙ sym (passage-same k s new h e here)
@@ -383,6 +383,6 @@ steps-here k =
     all_from (λ step. link_of_step step ≡ k) (steps_of k) (refl, (refl, (refl, (refl, (refl, (refl, (refl, (refl, (refl, tt)))))))))
 
 -- closing has nothing to do there still
-pub settled-same : (k : ℕ) (s new : State) → SameLink k s new → IsSettled s k → IsSettled new k
-settled-same k s new h settled i d lt =
+pub settled-same : {k : ℕ} {s new : State} → SameLink k s new → IsSettled s k → IsSettled new k
+settled-same {k = k} {s = s} {new = new} h settled i d lt =
     ap is_some (entry-same k s new h (slice_index_or (steps_of k) i d) (steps-here k i d lt)) ∙ settled i d lt
