@@ -155,6 +155,17 @@ whole_passes old mid new e before after T E (Err a) is h put = (
   put ∙ (λ j. with_plain (change_side (peer e) (with_bad (h.3 j)) (h.2 j).plain) (h.2 j)),
 )
 
+-- Nothing changes where nothing did at the side, and the other side's bad place stays.
+pub whole_still : (old mid new : State) (e : SideId) (before after : Option ℕ) → before ≡ (side_at old.plain (peer e)).bad →
+    (mid ≡ old) × (after ≡ before) × (round_from old e (passage_with old e before) ≡ passage_with old e before) →
+    new ≡ with_plain (change_side (peer e) (with_bad after) mid.plain) mid →
+    (new ≡ old) × (round_from old e (passage_at old e) ≡ passage_at old e)
+whole_still old mid new e before after is h put = (
+  put ∙ (λ j. with_plain (change_side (peer e) (with_bad (h.1 j)) (h.0 j).plain) (h.0 j))
+      ∙ ap (λ p. with_plain p old) (keeps_bad old.plain (peer e) before is),
+  subst (λ b. round_from old e (passage_with old e b) ≡ passage_with old e b) is h.2,
+)
+
 -- a side whose link opens is sound
 pub new_sound : (time : ℕ) (untimed connected : Bool) (m : Marks) (t : Timeouts) (x : PlainSide) → (untimed ≡ true → t ≡ no_timeouts) →
     x ≡ (let y = new_side usual time 0 In connected in record y { marks = m; timeouts = t }) → IsSoundSide time untimed x
@@ -397,51 +408,63 @@ module _ (v : RelayValue) (r : Inside) (is : relay_of r ≡ v) (sound : IsSound 
 
   -- the direction that begins at the side was passed, or some rounds of it were made
 
-  pub half_passes : (y : SideState) (T : Type 0) (E : Type 0) (result : Result T E) (mark hold : ℕ) (to_live : Bool)
-      (before after : Option ℕ) →
-      mark ≡ read_mark v.state.plain e → hold ≡ hold_mark v.state.settings v.state.plain (peer e) →
-      to_live ≡ is_live v.state.plain (peer e) →
-      plain_side y ≡ with_bad y.bad (plain_side x) →
-      MatchResult result (λ _. Passed (pass_round mark hold x.flags.ended x.flags.live to_live) (passage_of x before) (passage_of y after))
-      (λ _. SomeRounds (pass_round mark hold x.flags.ended x.flags.live to_live) (passage_of x before) (passage_of y after)) →
-      MatchResult result (λ _. HalfPassed v.state e before (state_with r (slice_set r.sides.items i y)) after)
-      (λ _. HalfPartlyPassed v.state e before (state_with r (slice_set r.sides.items i y)) after)
-  half_passes y T E result mark hold to_live before after mark_is hold_is live_is same = go result
-    where
-      f : Passage → Passage
-      f = pass_round mark hold x.flags.ended x.flags.live to_live
+  module _ (y : SideState) (mark hold : ℕ) (to_live : Bool) (before after : Option ℕ) (mark_is : mark ≡ read_mark v.state.plain e)
+      (hold_is : hold ≡ hold_mark v.state.settings v.state.plain (peer e)) (live_is : to_live ≡ is_live v.state.plain (peer e)) where
+    abbrev f : Passage → Passage
+    f = pass_round mark hold x.flags.ended x.flags.live to_live
 
-      f_is : f ≡ round_from v.state e
-      f_is = λ j. pass_round (mark_is j) (hold_is j) (sym side_seen j).ended (sym side_seen j).live (live_is j)
+    f_is : pass_round mark hold x.flags.ended x.flags.live to_live ≡ round_from v.state e
+    f_is = λ j. pass_round (mark_is j) (hold_is j) (sym side_seen j).ended (sym side_seen j).live (live_is j)
 
-      seen_inside : passage_of x before ≡ passage_with s e before
-      seen_inside =
-          let a = ap (λ (z : PlainSide). z.bad) (sym side_inside) in
-          λ j. record { flow = sym flow_inside j; lane = sym lane_inside j; from_bad = a j; to_bad = before }
+    seen_inside : passage_of x before ≡ passage_with s e before
+    seen_inside =
+        let a = ap (λ (z : PlainSide). z.bad) (sym side_inside) in
+        λ j. record { flow = sym flow_inside j; lane = sym lane_inside j; from_bad = a j; to_bad = before }
 
-      seen_is : passage_of x before ≡ passage_with v.state e before
-      seen_is = seen_inside ∙ ap (λ (z : RelayValue). passage_with z.state e before) is
+    seen_is : passage_of x before ≡ passage_with v.state e before
+    seen_is = seen_inside ∙ ap (λ (z : RelayValue). passage_with z.state e before) is
 
-      put_is : state_with r (slice_set r.sides.items i y) ≡ with_half e (passage_of y after) v.state
-      put_is = carried y (with_half e (passage_of y after))
-          (changed y (with_bad y.bad) (λ _. flow_of_side y) (λ _. lane_of y) same refl refl)
+    pub half_passes : (T : Type 0) (E : Type 0) (result : Result T E) → plain_side y ≡ with_bad y.bad (plain_side x) →
+        MatchResult result (λ _. Passed (pass_round mark hold x.flags.ended x.flags.live to_live) (passage_of x before) (passage_of y after))
+        (λ _. SomeRounds (pass_round mark hold x.flags.ended x.flags.live to_live) (passage_of x before) (passage_of y after)) →
+        MatchResult result (λ _. HalfPassed v.state e before (state_with r (slice_set r.sides.items i y)) after)
+        (λ _. HalfPartlyPassed v.state e before (state_with r (slice_set r.sides.items i y)) after)
+    half_passes T E result same = go result
+      where
+        put_is : state_with r (slice_set r.sides.items i y) ≡ with_half e (passage_of y after) v.state
+        put_is = carried y (with_half e (passage_of y after))
+            (changed y (with_bad y.bad) (λ _. flow_of_side y) (λ _. lane_of y) same refl refl)
 
-      go : (a : Result T E) →
-          MatchResult a (λ _. Passed f (passage_of x before) (passage_of y after))
-          (λ _. SomeRounds f (passage_of x before) (passage_of y after)) →
-          MatchResult a (λ _. HalfPassed v.state e before (state_with r (slice_set r.sides.items i y)) after)
-          (λ _. HalfPartlyPassed v.state e before (state_with r (slice_set r.sides.items i y)) after)
-      go (Ok a) h = (
-        passage_of y after,
-        subst (λ g. Passed g (passage_with v.state e before) (passage_of y after)) f_is
-            (subst (λ z. Passed f z (passage_of y after)) seen_is h),
-        put_is,
-        refl,
-      )
-      go (Err a) h = (
-        passage_of y after,
-        subst (λ g. SomeRounds g (passage_with v.state e before) (passage_of y after)) f_is
-            (subst (λ z. SomeRounds f z (passage_of y after)) seen_is h),
-        put_is,
-        refl,
-      )
+        go : (a : Result T E) →
+            MatchResult a (λ _. Passed f (passage_of x before) (passage_of y after))
+            (λ _. SomeRounds f (passage_of x before) (passage_of y after)) →
+            MatchResult a (λ _. HalfPassed v.state e before (state_with r (slice_set r.sides.items i y)) after)
+            (λ _. HalfPartlyPassed v.state e before (state_with r (slice_set r.sides.items i y)) after)
+        go (Ok a) h = (
+          passage_of y after,
+          subst (λ g. Passed g (passage_with v.state e before) (passage_of y after)) f_is
+              (subst (λ z. Passed f z (passage_of y after)) seen_is h),
+          put_is,
+          refl,
+        )
+        go (Err a) h = (
+          passage_of y after,
+          subst (λ g. SomeRounds g (passage_with v.state e before) (passage_of y after)) f_is
+              (subst (λ z. SomeRounds f z (passage_of y after)) seen_is h),
+          put_is,
+          refl,
+        )
+
+    -- or nothing changed, and one round more changes nothing
+    pub half_still : plain_side y ≡ with_bad y.bad (plain_side x) → passage_of y after ≡ passage_of x before →
+        pass_round mark hold x.flags.ended x.flags.live to_live (passage_of x before) ≡ passage_of x before →
+        (state_with r (slice_set r.sides.items i y) ≡ v.state) × (after ≡ before)
+        × (round_from v.state e (passage_with v.state e before) ≡ passage_with v.state e before)
+    half_still same kept still =
+        let bad = ap (λ (z : Passage). z.from_bad) kept in (
+          carried y (λ z. z) (changed y (λ g. g) (λ f. f) (λ l. l) (same ∙ ap (λ b. with_bad b (plain_side x)) bad)
+              (ap (λ (z : Passage). z.flow) kept) (ap (λ (z : Passage). z.lane) kept) ∙ put_same-is s e),
+          ap (λ (z : Passage). z.to_bad) kept,
+          subst (λ g. g (passage_with v.state e before) ≡ passage_with v.state e before) f_is
+              (subst (λ z. f z ≡ z) seen_is still),
+        )

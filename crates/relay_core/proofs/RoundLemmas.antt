@@ -300,25 +300,126 @@ held_then hold x y z (inr p) (inl q) k =
     inr (subst (λ (w : Passage). weight hold w < weight hold x) (sym q) p.0, λ e. p.1 (sym k ∙ ap (λ r. r.held) e))
 held_then hold x y z (inr p) (inr q) k = inr (omega (arith, p.0, q.0), λ e. p.1 (sym k ∙ ap (λ r. r.held) e))
 
-pub round_falls : (mark hold : ℕ) (ended from_live to_live : Bool) (x : Passage) → IsTold x →
-    Rounds hold x (pass_round mark hold ended from_live to_live x)
-round_falls mark hold ended true false x told = inl refl
-round_falls mark hold ended false false x told = inl refl
-round_falls mark hold ended false true x told =
-    held_then hold x (hold_part hold x) (write_part hold false (hold_part hold x)) (held_turns hold x)
-    (write_steps hold false (hold_part hold x) (record { read = told.read; write = told.write }))
-    (write_keeps hold false (hold_part hold x))
-round_falls mark hold ended true true x told =
+-- Where the direction may be given on, a round is what being held makes, and then parts that leave all as it is, or count.
+round_steps : (mark hold : ℕ) (ended from_live : Bool) (x : Passage) → IsTold x →
+    Steps hold (hold_part hold x) (pass_round mark hold ended from_live true x)
+round_steps mark hold ended false x told =
+    write_steps hold false (hold_part hold x) (record { read = told.read; write = told.write })
+round_steps mark hold ended true x told =
     let a : Passage = hold_part hold x in
     let b : Passage = read_part mark ended a in
     let c : Passage = move_part b in
     let d : Passage = write_part hold true c in
     let at : IsTold (hold_part hold x) = record { read = told.read; write = told.write } in
     let bt : IsTold (read_part mark ended (hold_part hold x)) = read_told hold mark ended a at in
-    held_then hold x a d (held_turns hold x)
-    (then_steps hold a b d (read_steps hold mark ended a at)
-    (then_steps hold b c d (move_steps hold b) (write_steps hold true c (move_told hold b bt))))
-    (write_keeps hold true c ∙ move_keeps hold b)
+    then_steps hold a b d (read_steps hold mark ended a at)
+    (then_steps hold b c d (move_steps hold b) (write_steps hold true c (move_told hold b bt)))
+
+pub round_falls : (mark hold : ℕ) (ended from_live to_live : Bool) (x : Passage) → IsTold x →
+    Rounds hold x (pass_round mark hold ended from_live to_live x)
+round_falls mark hold ended true false x told = inl refl
+round_falls mark hold ended false false x told = inl refl
+round_falls mark hold ended false true x told =
+    held_then hold x (hold_part hold x) (write_part hold false (hold_part hold x)) (held_turns hold x)
+    (round_steps mark hold ended false x told) (write_keeps hold false (hold_part hold x))
+round_falls mark hold ended true true x told =
+    let b : Passage = read_part mark ended (hold_part hold x) in
+    let c : Passage = move_part b in
+    held_then hold x (hold_part hold x) (write_part hold true c) (held_turns hold x)
+    (round_steps mark hold ended true x told) (write_keeps hold true c ∙ move_keeps hold b)
+
+-- where what the code compares is the same, all is
+pub round_over : (mark hold : ℕ) (ended from_live to_live : Bool) (x y : Passage) → IsTold x →
+    y ≡ pass_round mark hold ended from_live to_live x → reached_of y ≡ reached_of x → y ≡ x
+round_over mark hold ended from_live to_live x y told once same =
+    elim (round_falls mark hold ended from_live to_live x told) [
+      | inl is ↦ once ∙ is
+      | inr falls ↦ absurd (falls.1 (ap reached_of (sym once) ∙ same))
+    ]
+
+-- Rounds don't come back to what the code compared before.
+
+-- more was counted, or what is held is another and stays so while nothing is counted
+abbrev pub Went : ℕ → Passage → Passage → Type 0
+Went hold x y =
+    (counted (reached_of x) < counted (reached_of y))
+    ⊎ ((counted (reached_of y) ≡ counted (reached_of x)) × (y.flow.held ≢ x.flow.held) × (hold_part hold y ≡ y))
+
+pub went-apart : (hold : ℕ) (x y : Passage) → Went hold x y → reached_of y ≢ reached_of x
+went-apart hold x y (inl p) =
+    λ e. absurd (let c : counted (reached_of y) ≡ counted (reached_of x) = ap counted e in omega (arith, c, p))
+went-apart hold x y (inr p) = λ e. p.1 (ap (λ r. r.held) e)
+
+held_again : (hold : ℕ) (x : Passage) → hold_part hold (hold_part hold x) ≡ hold_part hold x
+held_again hold x = let same = again x.flow.held (full hold x) (low hold x) in let f = x.flow in λ i. record x { flow = record f { held = same i } }
+  where
+    again : (h p q : Bool) → kept_back (kept_back h p q) p q ≡ kept_back h p q
+    again h true q = refl
+    again h false true = refl
+    again h false false = refl
+
+module _ (mark hold : ℕ) (ended from_live to_live : Bool) where
+  abbrev round : Passage → Passage
+  round = pass_round mark hold ended from_live to_live
+
+  -- a round changes nothing, or only what is held, or it counts
+  round_counts : (x : Passage) → IsTold x →
+      (pass_round mark hold ended from_live to_live x ≡ x) ⊎ ((pass_round mark hold ended from_live to_live x ≡ hold_part hold x)
+      ⊎ (counted (reached_of x) < counted (reached_of (pass_round mark hold ended from_live to_live x))))
+  round_counts x told = go from_live to_live
+    where
+      go : (f t : Bool) → (pass_round mark hold ended f t x ≡ x) ⊎ ((pass_round mark hold ended f t x ≡ hold_part hold x)
+          ⊎ (counted (reached_of x) < counted (reached_of (pass_round mark hold ended f t x))))
+      go true false = inl refl
+      go false false = inl refl
+      go f true =
+          elim (round_steps mark hold ended f x told) [
+            | inl same ↦ inr (inl same)
+            | inr on ↦ inr (inr on.1)
+          ]
+
+  went_first : (x : Passage) → IsTold x → reached_of (pass_round mark hold ended from_live to_live x) ≢ reached_of x →
+      Went hold x (pass_round mark hold ended from_live to_live x)
+  went_first x told differs =
+      elim (round_counts x told) [
+        | inl same ↦ absurd (differs (ap reached_of same))
+        | inr (inl same) ↦ inr (
+          ap (λ z. counted (reached_of z)) same,
+          λ e. differs (ap reached_of same ∙ (
+              let k = sym (ap (λ (z : Passage). z.flow.held) same) ∙ e in
+              let r = reached_of x in λ i. record r { held = k i })),
+          ap (hold_part hold) same ∙ held_again hold x ∙ sym same,
+        )
+        | inr (inr on) ↦ inl on
+      ]
+
+  went_more : (x y : Passage) → IsTold y → Went hold x y → reached_of (pass_round mark hold ended from_live to_live y) ≢ reached_of y →
+      Went hold x (pass_round mark hold ended from_live to_live y)
+  went_more x y told went differs =
+      elim (round_counts y told) [
+        | inl same ↦ absurd (differs (ap reached_of same))
+        | inr (inl same) ↦ elim went [
+          | inl p ↦ inl (let k = ap (λ z. counted (reached_of z)) same in omega (arith, p, k))
+          | inr p ↦ absurd (differs (ap reached_of (same ∙ p.2)))
+        ]
+        | inr (inr on) ↦ elim went [
+          | inl p ↦ inl (omega (arith, p, on))
+          | inr p ↦ inl (omega (arith, p.0, on))
+        ]
+      ]
+
+  -- one round more, behind some that changed something or none
+  pub went_next : (changed : Bool) (x y z : Passage) → (changed ≡ false → y ≡ x) → (changed ≡ true → Went hold x y) → IsTold y →
+      z ≡ pass_round mark hold ended from_live to_live y → reached_of z ≢ reached_of y → Went hold x z
+  went_next changed x y z still went told once differs =
+      subst (Went hold x) (sym once) (go changed still went)
+    where
+      apart : reached_of (pass_round mark hold ended from_live to_live y) ≢ reached_of y
+      apart = λ e. differs (ap reached_of once ∙ e)
+
+      go : (b : Bool) → (b ≡ false → y ≡ x) → (b ≡ true → Went hold x y) → Went hold x (pass_round mark hold ended from_live to_live y)
+      go false h k = subst (λ w. Went hold w (pass_round mark hold ended from_live to_live y)) (h refl) (went_first y told apart)
+      go true h k = went_more x y told (k refl) apart
 
 -- a round after so many
 pub rounds-suc : (n : ℕ) (f : Passage → Passage) (x : Passage) → rounds (suc n) f x ≡ f (rounds n f x)

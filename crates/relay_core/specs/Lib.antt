@@ -7,3 +7,5 @@ pub mod RelayValue
 pub mod RelayView
 pub mod Waits
 pub mod Steps
+pub mod Far
+pub mod Pairs

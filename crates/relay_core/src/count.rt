@@ -1,6 +1,7 @@
 // What the relay counts.
 ghost use Rattle.std.specs.Prelude.{◌≡◌, ◌-◌, ◌^◌, ◌<◌, ◌≤◌, min, IsTrue, Some, None, if◌then◌else◌, nat_lt};
 ghost use Rattle.relay_state.specs.Counting.{read_of, moved_of, given_of, link_state, link_count, is_open, open_below, buffered_at, buffered_below, is_spent};
+ghost use Rattle.relay_core.specs.Far.{is_far_from, is_far};
 
 use crate::relay::Relay;
 use crate::side::SideState;
@@ -118,7 +119,10 @@ impl Relay {
         count
     }
 
-    fn is_open(&self, link: u32) -> bool
+    /// Whether a side of the link is live. Constant; takes no memory.
+    ///
+    /// Own.
+    pub fn is_open(&self, link: u32) -> bool
         requires { link < self.now.state.plain.opened }
         ensures { result ≡ is_open self.now.state link }
     {
@@ -155,6 +159,37 @@ impl Relay {
         }
         let from = &self.sides[side.peer().number()];
         (own.input_len() as u64).saturating_add(from.output_len() as u64)
+    }
+
+    /// How many turns were begun. Constant; takes no memory.
+    ///
+    /// Own.
+    pub fn turns(&self) -> u64
+        ensures { result ≡ self.now.state.plain.turn }
+    {
+        self.turns
+    }
+
+    fn is_far_from(&self, side: SideId) -> bool
+        requires { side.link < self.now.state.plain.opened }
+        ensures { result ≡ is_far_from self.now.state side }
+    {
+        self.sides[side.number()].is_spent()
+    }
+
+    /// Whether a count of the link has come to 2^62, in either direction: bytes read, used or made by a filter, moved or given.
+    /// Freed sides count too. Constant; takes no memory.
+    ///
+    /// Own.
+    pub fn is_far(&self, link: u32) -> bool
+        requires { link < self.now.state.plain.opened }
+        ensures { result ≡ is_far self.now.state link }
+    {
+        let near = SideId {
+            link,
+            side: Side::In,
+        };
+        self.is_far_from(near) || self.is_far_from(near.peer())
     }
 
     /// Whether a count has come to 2^62: turns, or bytes read from an end, used or made by a filter, moved or given.

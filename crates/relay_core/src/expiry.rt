@@ -1,7 +1,8 @@
 // What time brings: the start of a turn, and for how long a poll may wait. A side that is idle for as long as one of its
 // timeouts expires. Where the settings have no timeouts, no side is looked at.
-ghost use Rattle.std.specs.Prelude.{◌≡◌, ◌^◌, ◌<◌, min, max, fold, IsTrue};
+ghost use Rattle.std.specs.Prelude.{◌≡◌, ◌^◌, ◌<◌, ◌↔◌, min, max, fold, IsTrue};
 ghost use Rattle.std.specs.List.{list_any, flat_map};
+ghost use Rattle.relay_model.specs.Settings.{no_timeouts};
 ghost use Rattle.relay_model.specs.Plain.{side_at, change_side, all_sides};
 ghost use Rattle.relay_model.specs.Reasons.{raise, happened, timeout_flag};
 ghost use Rattle.relay_model.specs.Moments.{is_timed, active_at, both_ways, timers_taken, has_run_out, expire};
@@ -155,7 +156,9 @@ impl Relay {
 
     /// The time is held against all sides, in number order.
     fn look_at_sides(&mut self)
-        ensures { self.new.state ≡ fold side_timed self.old.state (all_sides self.old.state.plain) }
+        ensures state { self.new.state ≡ fold side_timed self.old.state (all_sides self.old.state.plain) }
+        ensures still { self.old.state.settings.in_timeouts ≡ no_timeouts → self.old.state.settings.out_timeouts ≡ no_timeouts
+            → self.new.state ≡ self.old.state }
     {
         if self.untimed {
             return;
@@ -176,18 +179,34 @@ impl Relay {
         ensures time { result ≡ max self.old.state.plain.time (min reading (2 ^ 62)) }
         ensures state { self.new.state
             ≡ with_plain (timers_taken self.old.state.settings (turned_to result self.old.state.plain)) self.old.state }
+        ensures plain { self.new.state ≡ with_plain (turned_to result self.old.state.plain) self.old.state }
     {
         self.turns += 1;
         self.time = self.time.max(reading.min(LAST_TIME));
         self.time
     }
 
+    /// Whether the settings have no timeout. Then a turn begins with its time alone, and a poll waits for ever. Constant; takes no
+    /// memory.
+    ///
+    /// Own.
+    pub fn is_untimed(&self) -> bool
+        ensures { IsTrue result ↔ ((self.now.state.settings.in_timeouts ≡ no_timeouts) × (self.now.state.settings.out_timeouts ≡ no_timeouts)) }
+    {
+        self.untimed
+    }
+
     /// A turn begins. A reading of the clock becomes the time, cut at 2^62 and unless the time is greater. Answers the time.
-    /// Constant where no timeout is set, else linear in the number of links.
+    /// Where no timeout is set, nothing but the time and the number of turns changes. Takes no memory; constant where no timeout is
+    /// set, else linear in the number of links.
+    ///
+    /// Own.
     pub fn begin(&mut self, reading: u64) -> u64
         requires turns { self.old.state.plain.turn < 2 ^ 62 }
         ensures time { result ≡ max self.old.state.plain.time (min reading (2 ^ 62)) }
         ensures state { self.new.state ≡ begun self.old.state result }
+        ensures still { self.old.state.settings.in_timeouts ≡ no_timeouts → self.old.state.settings.out_timeouts ≡ no_timeouts
+            → self.new.state ≡ with_plain (turned_to result self.old.state.plain) self.old.state }
     {
         let time = self.turn_to(reading);
         self.look_at_sides();

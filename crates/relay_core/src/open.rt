@@ -1,6 +1,7 @@
 // Opening links.
 ghost use Rattle.std.specs.Prelude.{◌≡◌, ◌<◌, ◌≤◌, nat_lt, OnOk};
 ghost use Rattle.relay_state.specs.Opening.{after_opened};
+ghost use Rattle.relay_core.specs.Pairs.{HasPairs};
 
 use crate::relay::Relay;
 use crate::side::SideState;
@@ -8,9 +9,12 @@ use ev_types::NoMemory;
 use relay_settings::Settings;
 
 impl Relay {
-    /// How many links were opened.
+    /// How many links were opened. The relay keeps two sides and two directions for each of them. Constant; takes no memory.
+    ///
+    /// Own.
     pub fn opened(&self) -> u32
-        ensures { result ≡ self.now.state.plain.opened }
+        ensures count { result ≡ self.now.state.plain.opened }
+        ensures pairs { HasPairs self.now.state }
     {
         self.opened
     }

@@ -1,7 +1,7 @@
 // Passing a direction: rounds until one changes nothing. A round has its room before it begins, so that want of memory
 // leaves whole rounds. Where a pass moves nothing each queue without a byte gives its room up, so that an idle link holds none.
-ghost use Rattle.std.specs.Prelude.{◌≡◌, ◌<◌, length, OnOk, MatchResult, IsTrue, ◌↔◌, is_some};
-ghost use Rattle.std.specs.Prelude.{◌≤◌};
+ghost use Rattle.std.specs.Prelude.{◌≡◌, ◌≢◌, ◌<◌, length, OnOk, MatchResult, IsTrue, ◌↔◌, is_some};
+ghost use Rattle.std.specs.Prelude.{◌≤◌, true, false};
 ghost use Rattle.relay_model.specs.Filter.{or_else};
 ghost use Rattle.relay_state.specs.Passage.{hold_part, read_part, move_part, write_part, pass_round, Passed, SomeRounds};
 ghost use Rattle.relay_core.specs.SideView.{plain_side, passage_of, reached_of};
@@ -231,7 +231,7 @@ impl SideState {
         }
     }
 
-    /// Rounds until one changes nothing.
+    /// Rounds until one changes nothing. It answers whether one before did.
     fn make_rounds(
         &mut self,
         mark: u64,
@@ -240,19 +240,23 @@ impl SideState {
         from_live: bool,
         to_live: bool,
         to_bad: &mut Option<u64>,
-    ) -> Result<(), NoMemory>
+    ) -> Result<bool, NoMemory>
         ensures side { plain_side self.new ≡ with_bad self.new.bad (plain_side self.old) }
         ensures passage { MatchResult result
             (λ _. Passed (pass_round mark hold ended from_live to_live) (passage_of self.old to_bad.old) (passage_of self.new to_bad.new))
             (λ _. SomeRounds (pass_round mark hold ended from_live to_live) (passage_of self.old to_bad.old) (passage_of self.new to_bad.new)) }
+        ensures still { result ≡ Ok false → passage_of self.new to_bad.new ≡ passage_of self.old to_bad.old }
+        ensures apart { result ≡ Ok true → reached_of (passage_of self.new to_bad.new) ≢ reached_of (passage_of self.old to_bad.old) }
     {
+        let mut changed = false;
         loop {
             self.reserve_round(mark, hold)?;
             let before = self.reached(*to_bad);
             self.make_round(mark, hold, ended, from_live, to_live, to_bad);
             if is_same(self.reached(*to_bad), before) {
-                return Ok(());
+                return Ok(changed);
             }
+            changed = true;
         }
     }
 
@@ -281,8 +285,8 @@ impl SideState {
         }
     }
 
-    /// Rounds until one changes nothing. Where the first one did so, no buffer without a byte has room then, and there is none beside
-    /// the buffers: a direction in which bytes move keeps its room for the next ones.
+    /// Rounds until one changes nothing. It answers whether one before did. Where none did, no buffer without a byte has room then, and
+    /// there is none beside the buffers: a direction in which bytes move keeps its room for the next ones.
     pub(crate) fn pass(
         &mut self,
         alloc: Global,
@@ -290,30 +294,32 @@ impl SideState {
         hold: u64,
         to_live: bool,
         to_bad: &mut Option<u64>,
-    ) -> Result<(), NoMemory>
+    ) -> Result<bool, NoMemory>
         ensures side { plain_side self.new ≡ with_bad self.new.bad (plain_side self.old) }
         ensures passage { MatchResult result
             (λ _. Passed (pass_round mark hold self.old.flags.ended self.old.flags.live to_live) (passage_of self.old to_bad.old) (passage_of self.new to_bad.new))
             (λ _. SomeRounds (pass_round mark hold self.old.flags.ended self.old.flags.live to_live) (passage_of self.old to_bad.old) (passage_of self.new to_bad.new)) }
-        ensures rooms { OnOk result (reached_of (passage_of self.new to_bad.new) ≡ reached_of (passage_of self.old to_bad.old) → HasNoIdleRoom self.new) }
+        ensures still { result ≡ Ok false → (passage_of self.new to_bad.new ≡ passage_of self.old to_bad.old)
+            × (pass_round mark hold self.old.flags.ended self.old.flags.live to_live (passage_of self.old to_bad.old) ≡ passage_of self.old to_bad.old) }
+        ensures apart { result ≡ Ok true → reached_of (passage_of self.new to_bad.new) ≢ reached_of (passage_of self.old to_bad.old) }
+        ensures rooms { result ≡ Ok false → HasNoIdleRoom self.new }
     {
         let flags = self.flags;
-        let before = self.reached(*to_bad);
-        self.make_rounds(mark, hold, flags.ended, flags.live, to_live, to_bad)?;
-        if is_same(self.reached(*to_bad), before) {
-            self.give_up_rooms(alloc);
-        } else {
+        let changed = self.make_rounds(mark, hold, flags.ended, flags.live, to_live, to_bad)?;
+        if changed {
             self.hand_room_back();
+        } else {
+            self.give_up_rooms(alloc);
         }
-        Ok(())
+        Ok(changed)
     }
 }
 
 impl Relay {
     ghost use Rattle.relay_model.specs.Plain.{side_at, change_side};
     ghost use Rattle.relay_state.specs.State.{with_plain};
-    ghost use Rattle.relay_state.specs.Passing.{with_bad, PassedFrom, PartlyPassed};
-    ghost use Rattle.relay_core.specs.HalfPassed.{HalfPassed, HalfPartlyPassed};
+    ghost use Rattle.relay_state.specs.Passing.{with_bad, passage_at, round_from, PassedFrom, PartlyPassed};
+    ghost use Rattle.relay_core.specs.HalfPassed.{passage_with, HalfPassed, HalfPartlyPassed};
 
     /// The first bad place that a filter of the side met.
     fn bad(&self, side: SideId) -> Option<u64>
@@ -331,12 +337,15 @@ impl Relay {
         own.bad = place;
     }
 
-    /// Passes the direction that begins at the side, but for the bad place of the peer, which is handed back.
-    fn pass_half(&mut self, from: SideId, to_bad: &mut Option<u64>) -> Result<(), NoMemory>
+    /// Passes the direction that begins at the side, but for the bad place of the peer, which is handed back. It answers whether
+    /// anything changed.
+    fn pass_half(&mut self, from: SideId, to_bad: &mut Option<u64>) -> Result<bool, NoMemory>
         requires { from.link < self.old.state.plain.opened }
-        ensures { MatchResult result
+        ensures passed { MatchResult result
             (λ _. HalfPassed self.old.state from to_bad.old self.new.state to_bad.new)
             (λ _. HalfPartlyPassed self.old.state from to_bad.old self.new.state to_bad.new) }
+        ensures still { result ≡ Ok false → (self.new.state ≡ self.old.state) × (to_bad.new ≡ to_bad.old)
+            × (round_from self.old.state from (passage_with self.old.state from to_bad.old) ≡ passage_with self.old.state from to_bad.old) }
     {
         let mark = self.read_mark(from);
         let hold = self.hold_mark(from.peer());
@@ -346,13 +355,19 @@ impl Relay {
         own.pass(alloc, mark, hold, to_live, to_bad)
     }
 
-    /// Passes the direction that begins at the side: rounds until one changes nothing. Want of memory comes between two
-    /// rounds. After a pass that ended no buffer of the direction that has no byte holds memory.
-    pub fn pass(&mut self, from: SideId) -> Result<(), NoMemory>
+    /// Passes the direction that begins at the side: rounds until one changes nothing. It answers whether one before did, and where
+    /// none did, passing again changes nothing either, until something else does. Want of memory comes between two rounds. A round
+    /// costs no more than the bytes that it moves; after a pass that changed nothing no buffer of the direction that has no byte
+    /// holds memory.
+    ///
+    /// Own.
+    pub fn pass(&mut self, from: SideId) -> Result<bool, NoMemory>
         requires { from.link < self.old.state.plain.opened }
-        ensures { MatchResult result
+        ensures passed { MatchResult result
             (λ _. PassedFrom self.old.state from self.new.state)
             (λ _. PartlyPassed self.old.state from self.new.state) }
+        ensures still { result ≡ Ok false → (self.new.state ≡ self.old.state)
+            × (round_from self.old.state from (passage_at self.old.state from) ≡ passage_at self.old.state from) }
     {
         let mut to_bad = self.bad(from.peer());
         let result = self.pass_half(from, &mut to_bad);

@@ -42,7 +42,8 @@ fn get(relay: &mut Relay, side: SideId, bytes: &[u8]) -> Result<(), NoMemory> {
 /// They are read, and the direction is passed.
 fn read(relay: &mut Relay, side: SideId, bytes: &[u8]) -> Result<(), NoMemory> {
     get(relay, side, bytes)?;
-    pass(relay, side)
+    pass(relay, side)?;
+    Ok(())
 }
 
 /// How many bytes may be read from an end.
@@ -61,11 +62,20 @@ fn turn(relay: &mut Relay, reading: u64) -> Option<u64> {
     relay.poll_timeout()
 }
 
-fn pass(relay: &mut Relay, side: SideId) -> Result<(), NoMemory> {
+/// Passes a direction. It answers whether anything changed.
+fn pass(relay: &mut Relay, side: SideId) -> Result<bool, NoMemory> {
     if side.link >= relay.opened() {
-        return Ok(());
+        return Ok(false);
     }
     relay.pass(side)
+}
+
+/// Whether a link is open, and whether a count of it has come far.
+fn seen(relay: &Relay, link: u32) -> (bool, bool) {
+    if link >= relay.opened() {
+        return (false, false);
+    }
+    (relay.is_open(link), relay.is_far(link))
 }
 
 /// How many bytes are offered to an end, of which it takes at most so many.
@@ -118,7 +128,9 @@ fn a_link_passes_bytes_and_ends(rt: HostRuntime) -> Result<(), Fail> {
     assert_eq!(rt; relay.begin(7), 7);
     assert_eq!(rt; relay.time(), 7);
     assert_eq!(rt; relay.poll_timeout(), None);
+    assert_eq!(rt; (relay.turns(), relay.is_untimed()), (1, true));
     open(&mut relay, true)?;
+    assert_eq!(rt; seen(&relay, 0), (true, false));
     read(&mut relay, IN, b"hello")?;
     assert_eq!(rt; relay.buffered(), 5);
     assert_eq!(rt; give(&mut relay, OUT, 2), 5);
@@ -137,7 +149,22 @@ fn a_link_passes_bytes_and_ends(rt: HostRuntime) -> Result<(), Fail> {
     assert_eq!(rt; relay.link(0), Some(done));
     assert_eq!(rt; relay.link(1), None);
     assert_eq!(rt; (relay.opened(), relay.open_links()), (1, 0));
+    assert_eq!(rt; seen(&relay, 0), (false, false));
     assert!(rt; !relay.is_spent());
+    Ok(())
+}
+
+#[test]
+fn passing_tells_whether_anything_changed(rt: HostRuntime) -> Result<(), Fail> {
+    let mut relay = Relay::new(rt.alloc(), Settings::usual());
+    open(&mut relay, true)?;
+    for piece in [b"one".as_slice(), b"two", b""] {
+        get(&mut relay, IN, piece)?;
+        for changed in [true, false] {
+            assert_eq!(rt; pass(&mut relay, IN)?, changed);
+        }
+        assert!(rt; !pass(&mut relay, OUT)?);
+    }
     Ok(())
 }
 

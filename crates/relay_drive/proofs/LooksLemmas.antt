@@ -10,12 +10,13 @@ use Rattle.relay_state.specs.Counting.{is_open}
 use Rattle.relay_state.specs.Closing.{in_side, out_side}
 use Rattle.relay_drive.specs.declared.looks.Looks.{Looks}
 use Rattle.relay_drive.specs.Links.{SameLink, HasPairs, IsStill, IsSettled}
-use Rattle.relay_drive.specs.Looks.{HoldsBeside, IsGone, IsNear, IsKept, IsNamed, IsNamedRight, TouchedBut, Touched, TouchedAll, IsCovered, ClosingNoted, KeepsNames}
+use Rattle.relay_drive.specs.Looks.{HoldsBeside, IsGone, IsNear, IsKept, IsNamed, IsNamedRight, TouchedBut, Touched, TouchedAll, IsCovered, ClosingNoted, IsUntold, KeepsNames}
 use Rattle.ev_types.specs.Trace.{Trace}
 use Rattle.ev_port.specs.declared.port.Want.{Want}
-use Rattle.relay_drive.specs.Phases.{ServesSide, PassesLink, ClosesLink}
+use Rattle.relay_drive.specs.Steps.{Each}
+use Rattle.relay_drive.specs.Phases.{ServesSide, PassesLink, ClosesLink, links_from}
 use Rattle.relay_drive.proofs.OtherLinks.{same_link, serves-other, passes-other, closes-other}
-use Rattle.relay_drive.proofs.LinkParts.{still-same, settled-same, wants-same, open-same, far-same}
+use Rattle.relay_drive.proofs.LinkParts.{still-same, settled-same, wants-same, open-same, far-same, still-passes, settled-closes, each-skips}
 
 -- by whether two numbers are the same
 by_same : {A : Type 0} (n k : ℕ) → (n ≡ k → n == k ≡ true → A) → (n ≢ k → n == k ≡ false → A) → A
@@ -194,3 +195,19 @@ at-passed k s new opened h = record { others = λ j e. passes-other j k s new []
 
 pub at-closed : (k : ℕ) (s new : State) (a : Trace) → new.plain.opened ≡ s.plain.opened → ClosesLink k s a new → AtLink k s new
 at-closed k s new a opened h = record { others = λ j e. closes-other j k s new a h e; opened = opened }
+
+-- Links between two that are looked at
+
+-- passing left out the links that are not in the set
+pub passes-up : (l : Looks) (s0 s : State) (from to : ℕ) → from ≤ to → to ≤ s.plain.opened → IsUntold l.pass from to → IsKept l s →
+    Each PassesLink (links_from 0 from) s0 [] s → Each PassesLink (links_from 0 to) s0 [] s
+passes-up l s0 s from to le within untold kept h =
+    each-skips PassesLink from to s0 s [] le
+    (λ k a b. still-passes k s (kept.still k (omega (arith, b, within)) (untold k a b))) h
+
+-- and closing did
+pub closes-up : (l : Looks) (s0 s : State) (a : Trace) (from to : ℕ) → from ≤ to → to ≤ s.plain.opened → IsUntold l.close from to → IsKept l s →
+    Each ClosesLink (links_from 0 from) s0 a s → Each ClosesLink (links_from 0 to) s0 a s
+closes-up l s0 s a from to le within untold kept h =
+    each-skips ClosesLink from to s0 s a le
+    (λ k b d. settled-closes k s (kept.settled k (omega (arith, d, within)) (untold k b d))) h

@@ -5,8 +5,8 @@ use Rattle.relay_core.specs.RelayValue.{RelayValue}
 use Rattle.relay_core.proofs.TimeLemmas.{sides_timed-none, sides_from-more}
 use Rattle.relay_core.proofs.relay.Relay.look_at_sides.Goals as goal
 
-pub returns-then-self : goal.returns-then-self
-returns-then-self c =
+pub returns-then-self-clause-state : goal.returns-then-self-clause-state
+returns-then-self-clause-state c =
     subst (λ (z : RelayValue). z.state ≡ fold side_timed z.state (all_sides z.state.plain)) c.self.view_is
     (sym (sides_timed-none c.self.inside c.self.invariant c.if-self.true))
 

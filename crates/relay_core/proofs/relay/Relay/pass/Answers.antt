@@ -2,15 +2,24 @@ use Rattle.std.proofs.Common.{ap, ◌∙◌}
 use Rattle.relay_model.specs.Plain.{side_at, change_side}
 use Rattle.relay_state.specs.State.{with_plain}
 use Rattle.relay_state.specs.Passing.{with_bad}
-use Rattle.relay_core.proofs.RelayLemmas.{whole_passes}
+use Rattle.relay_core.proofs.RelayLemmas.{whole_passes, whole_still}
 use Rattle.relay_core.proofs.relay.Relay.pass.Goals as goal
 
-pub returns : goal.returns
-returns c =
+pub returns-clause-passed : goal.returns-clause-passed
+returns-clause-passed c =
     let old = c.args.self.now.state in
     let mid = c.pass_half-result.new.self.state in
     whole_passes old mid c.set_bad.new.self.state c.args.from c.bad-to_bad.result c.pass_half-result.new.to_bad _ _
     c.pass_half-result.result
     (c.bad-to_bad.ensures ∙ ap (λ e. (side_at old.plain e).bad) c.peer.ensures)
-    c.pass_half-result.ensures
+    c.pass_half-result.ensures.passed
+    (c.set_bad.ensures ∙ ap (λ e. with_plain (change_side e (with_bad c.pass_half-result.new.to_bad) mid.plain) mid) c.peer-2.ensures)
+
+pub returns-clause-still : goal.returns-clause-still
+returns-clause-still c = λ h.
+    let old = c.args.self.now.state in
+    let mid = c.pass_half-result.new.self.state in
+    whole_still old mid c.set_bad.new.self.state c.args.from c.bad-to_bad.result c.pass_half-result.new.to_bad
+    (c.bad-to_bad.ensures ∙ ap (λ e. (side_at old.plain e).bad) c.peer.ensures)
+    (c.pass_half-result.ensures.still h)
     (c.set_bad.ensures ∙ ap (λ e. with_plain (change_side e (with_bad c.pass_half-result.new.to_bad) mid.plain) mid) c.peer-2.ensures)
