@@ -14,8 +14,8 @@ use Rattle.relay_drive.specs.Looks.{HoldsBeside, IsGone, IsNear, IsKept, IsNamed
 use Rattle.ev_types.specs.Trace.{Trace}
 use Rattle.ev_port.specs.declared.port.Want.{Want}
 use Rattle.relay_drive.specs.Steps.{Each}
-use Rattle.relay_drive.specs.Phases.{ServesSide, PassesLink, ClosesLink, links_from}
-use Rattle.relay_drive.proofs.OtherLinks.{same_link, serves-other, passes-other, closes-other}
+use Rattle.relay_drive.specs.Phases.{OpensWhere, ServesSide, PassesLink, ClosesLink, links_from}
+use Rattle.relay_drive.proofs.OtherLinks.{same_link, serves-other, passes-other, closes-other, opens-other}
 use Rattle.relay_drive.proofs.LinkParts.{still-same, settled-same, wants-same, open-same, far-same, still-passes, settled-closes, each-skips}
 
 -- by whether two numbers are the same
@@ -211,3 +211,35 @@ pub closes-up : (l : Looks) (s0 s : State) (a : Trace) (from to : ℕ) → from 
 closes-up l s0 s a from to le within untold kept h =
     each-skips ClosesLink from to s0 s a le
     (λ k b d. settled-closes k s (kept.settled k (omega (arith, d, within)) (untold k b d))) h
+
+-- A link was opened, or there was none.
+pub opens-at-most : (more : Bool) (s new : State) (a : Trace) → HasPairs s → OpensWhere more s a new → OpensAtMost s new
+opens-at-most true s new a pairs h =
+    let count : new.plain.opened ≡ s.plain.opened + 1 = ap (λ (z : State). z.plain.opened) h.1.state in
+    record {
+      least = omega (arith, count);
+      most = omega (arith, count);
+      old = λ j lt. opens-other j s new a h pairs lt;
+    }
+opens-at-most false s new a pairs h =
+    let count : new.plain.opened ≡ s.plain.opened = ap (λ (z : State). z.plain.opened) h.1 in
+    record {
+      least = omega (arith, count);
+      most = omega (arith, count);
+      old = λ j lt. subst (SameLink j s) (sym h.1) (same_link j s);
+    }
+
+-- What closing came to at a link is noted.
+
+pub closing-keeps : (l l' : Looks) (k : ℕ) (s s' : State) (any : Bool) → AtLink k s s' →
+    (any ≡ false → (s' ≡ s) × IsSettled s k) → ClosingNoted s' k any l l' → IsKept l s → IsKept l' s'
+closing-keeps l l' k s s' false at none t h =
+    let same = none refl in
+    subst (IsKept l') (sym same.0) (kept-closed l l' k s same.1 (subst (λ z. ClosingNoted z k false l l') same.0 t) h)
+closing-keeps l l' k s s' true at none t h = kept-but l l' k s s' (is_open s' k) at (λ e. e) t h
+
+pub closing-names : (l l' : Looks) (k : ℕ) (s s' : State) (any : Bool) → AtLink k s s' →
+    (any ≡ false → (s' ≡ s) × IsSettled s k) → ClosingNoted s' k any l l' → KeepsNames l s l' s'
+closing-names l l' k s s' false at none t =
+    subst (KeepsNames l s l') (sym (none refl).0) (names-beside l l' s t.3)
+closing-names l l' k s s' true at none t = names-but l l' k s s' (is_open s' k) at t
