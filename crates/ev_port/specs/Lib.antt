@@ -9,3 +9,6 @@ pub mod Counting
 pub mod Memory
 pub mod MemoryView
 pub mod Silent
+pub mod Table
+pub mod TableCode
+pub mod TableView

@@ -9,6 +9,7 @@ mod port;
 mod scribe;
 mod standard;
 mod stream;
+mod table;
 
 pub use ev_types::{Addr, ConnAnswer, ReadAnswer, WriteAnswer};
 pub use memory::{MemSink, MemSource};
@@ -17,6 +18,7 @@ pub use port::{Accepted, Polled, Port, Started, Want};
 pub use scribe::Scribe;
 pub use standard::{StdSink, StdSource};
 pub use stream::{Given, Sink, Source, Taken};
+pub use table::WantTable;
 
 #[cfg(test)]
 mod tests;

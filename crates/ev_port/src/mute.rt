@@ -3,7 +3,7 @@ ghost use Rattle.std.specs.Prelude.{◌≡◌, ◌≤◌, ◌<◌, ◌+◌, ◌^
 ghost use Rattle.ev_types.specs.Trace.{bytes_beside};
 ghost use Rattle.ev_types.specs.Growth.{Grew};
 
-use crate::Scribe;
+use crate::{Scribe, WantTable};
 use ev_types::{Entry, NoMemory};
 
 /// Keeps nothing and tells nothing. It has room for every number of entries and bytes that can be asked for, and
@@ -38,4 +38,6 @@ impl Scribe for Mute {
     }
 
     fn put(&mut self, _entry: Entry, _bytes: &[u8]) {}
+
+    fn put_wants(&mut self, _wants: &WantTable) {}
 }

@@ -8,8 +8,10 @@ ghost use Rattle.ev_port.specs.Faults.{Faults, FaultsStay, EndFaults, PollFaults
 ghost use Rattle.ev_port.specs.EndSteps.{EndsWent, AllWent, PortStays, no_step};
 ghost use Rattle.ev_port.specs.Calls.{Ticked, ClockRead, is_failed_start, StartedAt, is_failed_accept, accept_events, accept_step, AcceptedLink, IsUnheard};
 ghost use Rattle.ev_port.specs.Polling.{is_failed_poll, opens_accepting, AllMarked, poll_events, poll_step, PolledWith};
+ghost use Rattle.ev_port.specs.Table.{RowsStay, TablePolled};
 ghost use Rattle.ev_port.specs.Ends.{is_failed_conn, conn_step, conn_events, ReadWithin, is_failed_read, read_step, read_events, WriteWithin, is_failed_write, write_step, write_events, close_write_events, close_events, close_write_step, close_step};
 
+use crate::WantTable;
 use ev_types::{Addr, ConnAnswer, ReadAnswer, SideId, WriteAnswer};
 
 /// What came of starting a port.
@@ -105,6 +107,27 @@ pub trait Port {
 
         // Where it was asked for links and is ready for none, no link waits.
         ensures waiting { accept ≡ true → result ≡ Polled.Ready false → NothingWaits (vouches self.new) none_waits };
+
+    /// Polls for all wants of a table, which lists those that were marked. This body lists all wants, polls for them and keeps
+    /// the marked ones; a port that keeps which ends are ready can do it without a look at each want. Takes no memory but
+    /// what the port's poll takes.
+    fn poll_table(&mut self, wants: &mut WantTable, accept: bool, timeout: Option<u64>) -> Polled
+        ensures rows { RowsStay wants.old wants.new }
+        ensures asked { opens_accepting result ≡ true → accept ≡ true }
+        ensures cause { PollFaults (faults self.old) (faults self.new) (is_failed_poll result) }
+        ensures told { PolledWith (told self.old) (told self.new) accept timeout result }
+
+        // What was marked, listed, counted and vouched for.
+        ensures went { TablePolled wants.old wants.new timeout result (ends self.old) (ends self.new) (vouches self.old) (vouches self.new) }
+
+        // Where it was asked for links and is ready for none, no link waits.
+        ensures waiting { accept ≡ true → result ≡ Polled.Ready false → NothingWaits (vouches self.new) none_waits }
+    {
+        wants.name_all();
+        let polled = self.poll(&mut wants.list, accept, timeout);
+        wants.keep_marked();
+        polled
+    }
 
     /// Takes a waiting connection as the In end of this link, and makes its Out end.
     fn accept(&mut self, link: u32) -> Accepted

@@ -4,10 +4,12 @@
 
 mod due;
 mod idle;
+mod links;
 mod passing;
 
 use due::rounds_of_due;
 use idle::idle_bevs;
+use links::idle_turns;
 use passing::{copied, passed};
 use script_text::filter_named;
 use std::alloc::Global;
@@ -19,6 +21,9 @@ const LITTLE: u32 = 16;
 
 const MUCH: u32 = 65_536;
 
+/// Over how many links turns are made in which nothing comes.
+const IDLE_LINKS: u32 = 1_024;
+
 fn main(rt: HostRuntime) -> anyhow::Result<()> {
     let alloc = rt.alloc();
     let words = env::args(&rt)?.skip(1).collect::<Vec<String>>(alloc)?;
@@ -26,7 +31,7 @@ fn main(rt: HostRuntime) -> anyhow::Result<()> {
         Some(word) => one(&rt, alloc, word.as_str(), MUCH),
         None => {
             for word in [
-                "copy", "none", "to-crlf", "to-lf", "hex-out", "hex-in", "due", "idle",
+                "copy", "none", "to-crlf", "to-lf", "hex-out", "hex-in", "due", "idle", "links",
             ] {
                 one(&rt, alloc, word, LITTLE)?;
             }
@@ -41,6 +46,7 @@ fn one(rt: &impl Print, alloc: Global, word: &str, amount: u32) -> anyhow::Resul
         "copy" => copied(alloc, amount)?,
         "due" => rounds_of_due(alloc, 10_000, amount / 16)?,
         "idle" => idle_bevs(alloc, amount)?,
+        "links" => idle_turns(alloc, IDLE_LINKS, amount)?,
         _ => match filter_named(word.as_bytes()) {
             Some(kind) => passed(alloc, kind, amount)?,
             None => 0,

@@ -16,3 +16,7 @@ pub mod BoundLaws
 pub mod MeantServing
 pub mod MeantTurn
 pub mod WentLemmas
+pub mod OtherLinks
+pub mod LinkParts
+pub mod LooksLemmas
+pub mod TableLemmas

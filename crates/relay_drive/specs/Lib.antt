@@ -3,11 +3,13 @@ pub mod Calls
 pub mod PollPhase
 pub mod ServePhase
 pub mod PassPhase
+pub mod Links
 pub mod ClosePhase
 pub mod Phases
 pub mod Known
 pub mod Advances
 pub mod DriveValue
+pub mod Looks
 pub mod DriveView
 pub mod DriveStands
 pub mod Moves

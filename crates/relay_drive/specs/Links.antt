@@ -4,6 +4,7 @@ use Rattle.std.specs.Prelude.{◌≡◌, ℕ, false, is_some}
 use Rattle.std.specs.List.{All}
 use Rattle.ev_types.specs.declared.side.SideId.{SideId}
 use Rattle.relay_model.specs.Plain.{side_at, flow_at}
+use Rattle.relay_core.specs.declared.close.Closing.{Closing}
 pub use Rattle.relay_core.specs.Far.{is_far_from, is_far}
 pub use Rattle.relay_core.specs.Pairs.{HasPairs}
 use Rattle.relay_core.specs.Steps as steps
@@ -27,6 +28,10 @@ IsStillFrom s e = round_from s e (passage_at s e) ≡ passage_at s e
 abbrev pub IsStill : State → ℕ → Type 0
 IsStill s k = IsStillFrom s (in_side k) × IsStillFrom s (out_side k)
 
+-- this step of closing is not called for
+abbrev pub IsUncalled : State → Closing → Type 0
+IsUncalled s step = is_some (closing_entry s (steps.close_step step)) ≡ false
+
 -- closing has nothing to do at this link
 abbrev pub IsSettled : State → ℕ → Type 0
-IsSettled s k = All (λ step. is_some (closing_entry s (steps.close_step step)) ≡ false) (steps_of k)
+IsSettled s k = All (IsUncalled s) (steps_of k)

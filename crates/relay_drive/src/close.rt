@@ -1,5 +1,5 @@
 // Closing what is to be closed of each link.
-ghost use Rattle.std.specs.Prelude.{◌≡◌, ◌+◌, ◌<◌, ◌≤◌, [], ◌∷◌, length};
+ghost use Rattle.std.specs.Prelude.{◌≡◌, ◌×◌, ◌+◌, ◌<◌, ◌≤◌, false, [], ◌∷◌, length, Ok, OnOk};
 ghost use Rattle.ev_types.specs.Growth.{Grew};
 ghost use Rattle.ev_port.specs.Vouching.{LongerBy};
 ghost use Rattle.ev_types.specs.declared.entry.Entry.{Entry as EntryValue};
@@ -11,13 +11,16 @@ ghost use Rattle.relay_model.specs.Close.{freed_entry};
 ghost use Rattle.relay_core.specs.Steps.{link_of_step};
 ghost use Rattle.relay_drive.specs.Steps.{Nothing};
 ghost use Rattle.relay_drive.specs.Phases.{closing_events, told_events, told_step, Closes, LooksAt, ClosesLink, CutClosingLink, ForAllLinks, CutForAllLinks};
+ghost use Rattle.relay_drive.specs.Links.{IsUncalled, IsSettled};
+ghost use Rattle.relay_drive.specs.Looks.{IsKept, KeepsNames, HasPlace, ClosingNoted};
 ghost use Rattle.relay_drive.specs.Moves.{Does, OnlyForMemory};
 
 use crate::fault::DriveFault;
+use crate::looks::{Looks, next_link};
 use crate::run::{Run, put};
 use ev_port::{Port, Scribe};
 use ev_types::{Cause, Entry, Side, SideId};
-use relay_core::Closing;
+use relay_core::{Closing, Relay};
 
 /// The most entries that one step of closing puts.
 const MOST_ENTRIES: usize = 2;
@@ -86,61 +89,110 @@ fn put_closing<S: Scribe>(run: &mut Run, step: Closing, scribe: &mut S)
     }
 }
 
-/// Makes a step of closing, where it is called for.
+/// Makes a step of closing, where it is called for. It answers whether it was.
 fn close_step<P: Port, S: Scribe>(
     run: &mut Run,
     step: Closing,
     port: &mut P,
     scribe: &mut S,
-) -> Result<(), DriveFault>
+) -> Result<bool, DriveFault>
     requires { link_of_step step < run.old.relay.state.plain.opened }
     ensures went { Does P.Port S.Scribe result (λ _. LooksAt step) Nothing
         (run.old, port.old, scribe.old) (run.new, port.new, scribe.new) }
+    ensures called { result ≡ Ok false → (run.new.relay.state ≡ run.old.relay.state) × IsUncalled run.old.relay.state step }
     ensures kept { run.new.relay.state.plain.opened ≡ run.old.relay.state.plain.opened }
     ensures cause { OnlyForMemory result }
 {
     if !run.relay.calls_for(step) {
-        return Ok(());
+        return Ok(false);
     }
     scribe.reserve(MOST_ENTRIES, 0)?;
     tell(step, port);
     put_closing(run, step, scribe);
     run.relay.close(step);
-    Ok(())
+    Ok(true)
 }
 
-/// Closes what is to be closed of one link.
+/// Closes what is to be closed of one link. It answers whether anything was.
 fn close_link<P: Port, S: Scribe>(
     run: &mut Run,
     link: u32,
     port: &mut P,
     scribe: &mut S,
-) -> Result<(), DriveFault>
+) -> Result<bool, DriveFault>
     requires { link < run.old.relay.state.plain.opened }
     ensures went { Does P.Port S.Scribe result (λ _. ClosesLink link) (CutClosingLink link)
         (run.old, port.old, scribe.old) (run.new, port.new, scribe.new) }
+    ensures settled { result ≡ Ok false → (run.new.relay.state ≡ run.old.relay.state) × IsSettled run.old.relay.state link }
     ensures kept { run.new.relay.state.plain.opened ≡ run.old.relay.state.plain.opened }
     ensures cause { OnlyForMemory result }
 {
+    let mut any = false;
     let steps = Closing::of(link);
     for step in steps.iter() {
-        close_step(run, *step, port, scribe)?;
+        if close_step(run, *step, port, scribe)? {
+            any = true;
+        }
     }
+    Ok(any)
+}
+
+/// Notes what closing came to at a link.
+fn note_closing(relay: &Relay, looks: &mut Looks, link: u32, any: bool)
+    requires opened { link < relay.now.state.plain.opened }
+    requires places { HasPlace link looks.old }
+    ensures { ClosingNoted relay.now.state link any looks.old looks.new }
+{
+    if !any {
+        looks.close.remove(link as usize);
+        return;
+    }
+    looks.touch(link);
+    if !relay.is_open(link) {
+        looks.open.remove(link as usize);
+    }
+}
+
+/// Closes what is to be closed of one link. Where nothing was, nothing will be before something changes there.
+fn close_next<P: Port, S: Scribe>(
+    run: &mut Run,
+    looks: &mut Looks,
+    link: u32,
+    port: &mut P,
+    scribe: &mut S,
+) -> Result<(), DriveFault>
+    requires opened { link < run.old.relay.state.plain.opened }
+    requires kept { IsKept looks.old run.old.relay.state }
+    ensures went { Does P.Port S.Scribe result (λ _. ClosesLink link) (CutClosingLink link)
+        (run.old, port.old, scribe.old) (run.new, port.new, scribe.new) }
+    ensures opened { run.new.relay.state.plain.opened ≡ run.old.relay.state.plain.opened }
+    ensures cause { OnlyForMemory result }
+    ensures kept { OnOk result (IsKept looks.new run.new.relay.state) }
+    ensures names { OnOk result (KeepsNames looks.old run.old.relay.state looks.new run.new.relay.state) }
+{
+    let any = close_link(run, link, port, scribe)?;
+    note_closing(&run.relay, looks, link, any);
     Ok(())
 }
 
 /// Closes what is to be closed of all links, in their order.
 pub(crate) fn close<P: Port, S: Scribe>(
     run: &mut Run,
+    looks: &mut Looks,
     port: &mut P,
     scribe: &mut S,
 ) -> Result<(), DriveFault>
+    requires { IsKept looks.old run.old.relay.state }
     ensures went { Does P.Port S.Scribe result (λ _. ForAllLinks ClosesLink) (CutForAllLinks ClosesLink CutClosingLink)
         (run.old, port.old, scribe.old) (run.new, port.new, scribe.new) }
     ensures cause { OnlyForMemory result }
+    ensures kept { OnOk result (IsKept looks.new run.new.relay.state) }
+    ensures names { OnOk result (KeepsNames looks.old run.old.relay.state looks.new run.new.relay.state) }
 {
-    for link in 0..run.relay.opened() {
-        close_link(run, link, port, scribe)?;
+    let mut from = 0;
+    while let Some(link) = next_link(&looks.close, from, run.relay.opened()) {
+        close_next(run, looks, link, port, scribe)?;
+        from = link + 1;
     }
     Ok(())
 }

@@ -10,9 +10,10 @@ ghost use Rattle.relay_drive.specs.DriveStands.{turn_answer_of, StandsBetween};
 ghost use Rattle.relay_steps.specs.Meaning.{LeftFor};
 
 use crate::fault::{DriveFault, TurnEnd};
+use crate::looks::{Looks, next_link};
 use crate::run::Run;
 use crate::turn::next_turn;
-use ev_port::{Port, Scribe};
+use ev_port::{Port, Scribe, WantTable};
 use relay_core::{LinkCount, Relay, Settings};
 use std::alloc::Global;
 use std::marker::Model;
@@ -25,8 +26,9 @@ const MOST_READ: usize = 16_384;
 /// Own; its turn follows libevent's "Working with an event loop".
 #[derive(Drop)]
 pub struct Drive {
-    alloc: Global,
     run: Run,
+    looks: Looks,
+    wants: WantTable,
     inbox: Vec<u8>,
     refusal: Option<DriveFault>,
 }
@@ -36,11 +38,11 @@ impl Model for Drive {
 
     ghost Value = { DriveValue };
 
-    ghost use Rattle.relay_drive.specs.DriveView.{drive_of, HasInbox};
+    ghost use Rattle.relay_drive.specs.DriveView.{drive_of, IsSound};
 
     ghost view = { drive_of };
 
-    ghost invariant = { HasInbox };
+    ghost invariant = { IsSound };
 }
 
 impl Drive {
@@ -52,11 +54,12 @@ impl Drive {
             return Err(DriveFault::Memory);
         };
         Ok(Drive {
-            alloc,
             run: Run {
                 relay: Relay::new(alloc, settings),
                 entries: 0,
             },
+            looks: Looks::new(alloc),
+            wants: WantTable::new(alloc),
             inbox,
             refusal: None,
         })
@@ -91,7 +94,15 @@ impl Drive {
         if let Some(fault) = self.refusal {
             return Err(fault);
         }
-        match next_turn(&mut self.run, self.alloc, &mut self.inbox, port, scribe) {
+        let ended = next_turn(
+            &mut self.run,
+            &mut self.looks,
+            &mut self.wants,
+            &mut self.inbox,
+            port,
+            scribe,
+        );
+        match ended {
             Ok(()) => Ok(TurnEnd::Went),
             Err(fault) => {
                 self.refusal = Some(fault);
@@ -107,7 +118,24 @@ impl Drive {
         self.run.relay.opened()
     }
 
-    /// How many links have a live side.
+    /// Whether a link has a live side. Before a refusal it looks at few links, whatever their number; takes no memory.
+    pub fn has_open_links(&self) -> bool
+        ensures { result ≡ nat_lt 0 (open_below self.now.state self.now.state.plain.opened) }
+    {
+        if self.refusal.is_some() {
+            return self.run.relay.open_links() > 0;
+        }
+        let mut from = 0;
+        while let Some(link) = next_link(&self.looks.open, from, self.run.relay.opened()) {
+            if self.run.relay.is_open(link) {
+                return true;
+            }
+            from = link + 1;
+        }
+        false
+    }
+
+    /// How many links have a live side. Takes no memory; linear in the number of links.
     pub fn open_links(&self) -> u32
         ensures { result ≡ open_below self.now.state self.now.state.plain.opened }
     {

@@ -11,6 +11,7 @@ mod bounds;
 mod close;
 mod drive;
 mod fault;
+mod looks;
 mod pass;
 mod poll;
 mod run;

@@ -1,18 +1,22 @@
-// Passing both directions of each link.
-ghost use Rattle.std.specs.Prelude.{◌≡◌, ◌<◌, [], MatchResult};
+// Passing both directions of each link at which passing may have something to do.
+ghost use Rattle.std.specs.Prelude.{◌≡◌, ◌×◌, ◌<◌, false, [], MatchResult, OnOk, Ok};
+ghost use Rattle.relay_drive.specs.Looks.{IsKept, KeepsNames};
+ghost use Rattle.relay_drive.specs.Links.{IsStill};
 ghost use Rattle.relay_drive.specs.Moves.{OnlyForMemory};
 ghost use Rattle.relay_drive.specs.Phases.{PassesLink, CutPassingLink, ForAllLinks, CutForAllLinks};
 
 use crate::fault::DriveFault;
+use crate::looks::{Looks, next_link};
 use ev_types::{Side, SideId};
 use relay_core::Relay;
 
-/// Passes the directions of a link, that from In first.
-fn pass_link(relay: &mut Relay, link: u32) -> Result<(), DriveFault>
+/// Passes the directions of a link, that from In first. It answers whether anything changed.
+fn pass_link(relay: &mut Relay, link: u32) -> Result<bool, DriveFault>
     requires { link < relay.old.state.plain.opened }
     ensures went { MatchResult result
         (λ _. PassesLink link relay.old.state [] relay.new.state)
         (λ _. CutPassingLink link relay.old.state [] relay.new.state) }
+    ensures still { result ≡ Ok false → (relay.new.state ≡ relay.old.state) × IsStill relay.old.state link }
     ensures kept { relay.new.state.plain.opened ≡ relay.old.state.plain.opened }
     ensures time { relay.new.state.plain.time ≡ relay.old.state.plain.time }
     ensures settings { relay.new.state.settings ≡ relay.old.state.settings }
@@ -22,23 +26,50 @@ fn pass_link(relay: &mut Relay, link: u32) -> Result<(), DriveFault>
         link,
         side: Side::In,
     };
-    relay.pass(near)?;
-    relay.pass(near.peer())?;
+    let first = relay.pass(near)?;
+    let second = relay.pass(near.peer())?;
+    Ok(first || second)
+}
+
+/// Passes the directions of a link. Where nothing changed, nothing will before something else does.
+fn pass_next(relay: &mut Relay, looks: &mut Looks, link: u32) -> Result<(), DriveFault>
+    requires opened { link < relay.old.state.plain.opened }
+    requires kept { IsKept looks.old relay.old.state }
+    ensures went { MatchResult result
+        (λ _. PassesLink link relay.old.state [] relay.new.state)
+        (λ _. CutPassingLink link relay.old.state [] relay.new.state) }
+    ensures opened { relay.new.state.plain.opened ≡ relay.old.state.plain.opened }
+    ensures time { relay.new.state.plain.time ≡ relay.old.state.plain.time }
+    ensures settings { relay.new.state.settings ≡ relay.old.state.settings }
+    ensures cause { OnlyForMemory result }
+    ensures kept { OnOk result (IsKept looks.new relay.new.state) }
+    ensures names { OnOk result (KeepsNames looks.old relay.old.state looks.new relay.new.state) }
+{
+    if pass_link(relay, link)? {
+        looks.touch(link);
+    } else {
+        looks.pass.remove(link as usize);
+    }
     Ok(())
 }
 
 /// Passes the directions of all links, in their order.
-pub(crate) fn pass(relay: &mut Relay) -> Result<(), DriveFault>
+pub(crate) fn pass(relay: &mut Relay, looks: &mut Looks) -> Result<(), DriveFault>
+    requires { IsKept looks.old relay.old.state }
     ensures went { MatchResult result
         (λ _. ForAllLinks PassesLink relay.old.state [] relay.new.state)
         (λ _. CutForAllLinks PassesLink CutPassingLink relay.old.state [] relay.new.state) }
-    ensures kept { relay.new.state.plain.opened ≡ relay.old.state.plain.opened }
+    ensures opened { relay.new.state.plain.opened ≡ relay.old.state.plain.opened }
     ensures time { relay.new.state.plain.time ≡ relay.old.state.plain.time }
     ensures settings { relay.new.state.settings ≡ relay.old.state.settings }
     ensures cause { OnlyForMemory result }
+    ensures kept { OnOk result (IsKept looks.new relay.new.state) }
+    ensures names { OnOk result (KeepsNames looks.old relay.old.state looks.new relay.new.state) }
 {
-    for link in 0..relay.opened() {
-        pass_link(relay, link)?;
+    let mut from = 0;
+    while let Some(link) = next_link(&looks.pass, from, relay.opened()) {
+        pass_next(relay, looks, link)?;
+        from = link + 1;
     }
     Ok(())
 }

@@ -1,78 +1,74 @@
 // Polling: what the sides want, and what the port marks of that.
-ghost use Rattle.std.specs.Prelude.{◌≡◌, ◌+◌, ◌<◌, ◌≤◌, ◌++◌, ◌∷◌, [], false, if◌then◌else◌, length, MatchResult, OnOk, IfOk};
+ghost use Rattle.std.specs.Prelude.{◌≡◌, ◌+◌, ◌<◌, ◌≤◌, ◌∷◌, [], false, length, MatchResult, OnOk};
 ghost use Rattle.ev_types.specs.Growth.{Grew};
 ghost use Rattle.ev_port.specs.Counting.{counted};
-ghost use Rattle.ev_port.specs.Polling.{want_events, ready_events};
-ghost use Rattle.relay_drive.specs.declared.fault.DriveFault.TheVariants.{Memory};
-ghost use Rattle.relay_drive.specs.Phases.{wants_of, wanted, Polls, CutPoll, PollsAndAccepts, CutPolling, AllOpened};
+ghost use Rattle.ev_port.specs.Polling.{ready_events};
+ghost use Rattle.ev_port.specs.Table.{named};
+ghost use Rattle.relay_drive.specs.Phases.{wanted, CutPoll, CutPolling, AllOpened};
 ghost use Rattle.relay_drive.specs.Known.{Point, begun_if};
+ghost use Rattle.relay_drive.specs.Looks.{IsKept, IsNamed, IsNamedRight, OthersNamed, SameBesideWants, PollsListed, PollsAndAcceptsListed};
 ghost use Rattle.relay_drive.specs.Moves.{Moves, GetsTo, OnlyForMemory};
 
 use crate::accept::accept;
 use crate::fault::DriveFault;
+use crate::looks::{Looks, next_link};
 use crate::run::{Run, put};
-use ev_port::{Polled, Port, Scribe, Want};
+use ev_port::{Polled, Port, Scribe, Want, WantTable};
 use ev_types::{Entry, Side, SideId};
 use relay_core::Relay;
-use std::alloc::Global;
 
-/// Puts a side behind the wanted ones, if it wants anything.
-fn push_want(relay: &Relay, wants: &mut Vec<Want>, side: SideId) -> Result<(), DriveFault>
-    requires { side.link < relay.now.state.plain.opened }
-    ensures wanted { OnOk result (wants.new.items ≡ wants.old.items ++ wants_of relay.now.state side) }
-    ensures opened { OnOk result (AllOpened wants.old.items relay.now.state.plain.opened → AllOpened wants.new.items relay.now.state.plain.opened) }
+/// The table says of a side what it wants now.
+fn name_side(relay: &Relay, wants: &mut WantTable, side: SideId)
+    requires opened { side.link < relay.now.state.plain.opened }
+    requires there { side.link < wants.old.links }
+    ensures { NamedSide relay.now.state side wants.old wants.new }
+{
+    wants.set(side, relay.wants_read(side), relay.wants_write(side));
+}
+
+/// And of both sides of a link.
+fn name_link(relay: &Relay, wants: &mut WantTable, link: u32)
+    requires opened { link < relay.now.state.plain.opened }
+    requires there { link < wants.old.links }
+    ensures { NamedLink relay.now.state link wants.old wants.new }
+{
+    let near = SideId {
+        link,
+        side: Side::In,
+    };
+    name_side(relay, wants, near);
+    name_side(relay, wants, near.peer());
+}
+
+/// Makes a place in the table for each opened link.
+fn lengthen(relay: &Relay, wants: &mut WantTable) -> Result<(), DriveFault>
+    requires { wants.old.links ≤ relay.now.state.plain.opened }
+    ensures links { OnOk result (wants.new.links ≡ relay.now.state.plain.opened) }
+    ensures rows { OnOk result (OldRowsStay wants.old wants.new) }
     ensures cause { OnlyForMemory result }
 {
-    let read = relay.wants_read(side);
-    let write = relay.wants_write(side);
-    if read || write {
-        let want = Want {
-            side,
-            read,
-            write,
-            can_read: false,
-            can_write: false,
-        };
-        if wants.push(want).is_err() {
-            return Err(DriveFault::Memory);
-        }
+    for _ in wants.links()..relay.opened() {
+        wants.push_link()?;
     }
     Ok(())
 }
 
-/// What the sides want, in their order.
-fn wanted(relay: &Relay, alloc: Global) -> Result<Vec<Want>, DriveFault>
-    ensures wanted { IfOk result (λ wants. wants.items ≡ wanted relay.now.state) }
-    ensures opened { IfOk result (λ wants. AllOpened wants.items relay.now.state.plain.opened) }
+/// The table says what the sides want. Only the links are looked at of which it may not be right.
+fn name_wants(relay: &Relay, looks: &mut Looks, wants: &mut WantTable) -> Result<(), DriveFault>
+    requires { IsNamed looks.old wants.old relay.now.state }
+    ensures named { OnOk result (named wants.new ≡ wanted relay.now.state) }
+    ensures right { OnOk result (IsNamed looks.new wants.new relay.now.state) }
+    ensures same { SameBesideWants looks.old looks.new }
     ensures cause { OnlyForMemory result }
 {
-    let mut wants = Vec::new(alloc);
-    for link in 0..relay.opened() {
-        let near = SideId {
-            link,
-            side: Side::In,
-        };
-        push_want(relay, &mut wants, near)?;
-        push_want(relay, &mut wants, near.peer())?;
+    lengthen(relay, wants)?;
+    let mut from = 0;
+    while let Some(link) = next_link(&looks.want, from, relay.opened()) {
+        name_link(relay, wants, link);
+        looks.want.remove(link as usize);
+        from = link + 1;
     }
-    Ok(wants)
-}
-
-/// Names the wants, in room that was made before.
-fn put_wants<S: Scribe>(entries: &mut u64, scribe: &mut S, wants: &[Want])
-    requires { length wants.now ≤ S.spare_entries scribe.old }
-    ensures counted { counted entries.new 0 ≡ counted entries.old (length (want_events wants.now)) }
-    ensures list { Grew (S.trace scribe.old) (S.trace scribe.new) (want_events wants.now) }
-    ensures room { S.spare_entries scribe.old ≤ S.spare_entries scribe.new + length wants.now }
-{
-    for want in wants {
-        let entry = Entry::Want {
-            side: want.side,
-            read: want.read,
-            write: want.write,
-        };
-        put(entries, scribe, entry, &[]);
-    }
+    Ok(())
 }
 
 /// Names what was marked of a want, in room that was made before.
@@ -103,31 +99,34 @@ fn put_marks<S: Scribe>(entries: &mut u64, scribe: &mut S, wants: &[Want])
     }
 }
 
-/// Polls for these wants, and for links where more are allowed. It answers whether links are ready.
+/// Polls for the wants of the table, and for links where more are allowed. It answers whether links are ready; the table lists the
+/// wants that were marked.
 fn ask_poll<P: Port, S: Scribe>(
     run: &mut Run,
-    wants: &mut [Want],
+    wants: &mut WantTable,
     port: &mut P,
     scribe: &mut S,
 ) -> Result<bool, DriveFault>
-    requires { wants.old ≡ wanted run.old.relay.state }
+    requires { named wants.old ≡ wanted run.old.relay.state }
     ensures went { MatchResult result
-        (λ accept. Moves P.Port S.Scribe Point.Begun (begun_if accept) false (Polls wants.new accept)
+        (λ accept. Moves P.Port S.Scribe Point.Begun (begun_if accept) false (PollsListed wants.new.list accept)
         (run.old, port.old, scribe.old) (run.new, port.new, scribe.new))
         (λ fault. Moves P.Port S.Scribe Point.Begun Point.Accepting false (CutPoll fault)
         (run.old, port.old, scribe.old) (run.new, port.new, scribe.new)) }
     ensures kept { run.new.relay ≡ run.old.relay }
-    ensures opened { AllOpened wants.old run.old.relay.state.plain.opened → AllOpened wants.new run.old.relay.state.plain.opened }
+    ensures rows { OnOk result (SameRows wants.old wants.new) }
+    ensures opened { OnOk result (AllOpened wants.new.list wants.old.links) }
 {
-    let entries = wants.len().saturating_mul(2).saturating_add(2);
-    scribe.reserve(entries, 0)?;
+    let count = wants.count();
+    scribe.reserve(count.saturating_mul(2).saturating_add(2), 0)?;
     let can_open = run.relay.can_open();
     let timeout = run.relay.poll_timeout();
     put(&mut run.entries, scribe, Entry::Poll { timeout }, &[]);
-    put_wants(&mut run.entries, scribe, wants);
-    match port.poll(wants, can_open, timeout) {
+    scribe.put_wants(wants);
+    run.entries = run.entries.saturating_add(count as u64);
+    match port.poll_table(wants, can_open, timeout) {
         Polled::Ready { accept } => {
-            put_marks(&mut run.entries, scribe, wants);
+            put_marks(&mut run.entries, scribe, wants.list());
             Ok(accept)
         }
         Polled::Failed => {
@@ -137,22 +136,26 @@ fn ask_poll<P: Port, S: Scribe>(
     }
 }
 
-/// Polls, and accepts the links that are ready. It answers the wants with their marks.
+/// Polls, and accepts the links that are ready. The table lists the wants that were marked.
 pub(crate) fn poll<P: Port, S: Scribe>(
     run: &mut Run,
-    alloc: Global,
+    looks: &mut Looks,
+    wants: &mut WantTable,
     port: &mut P,
     scribe: &mut S,
-) -> Result<Vec<Want>, DriveFault>
-    ensures went { GetsTo P.Port S.Scribe result Point.Begun Point.Accepted (λ wants. PollsAndAccepts wants.items) CutPolling
+) -> Result<(), DriveFault>
+    requires kept { IsKept looks.old run.old.relay.state }
+    requires named { IsNamed looks.old wants.old run.old.relay.state }
+    ensures went { GetsTo P.Port S.Scribe result Point.Begun Point.Accepted (λ _. PollsAndAcceptsListed wants.new.list) CutPolling
         (run.old, port.old, scribe.old) (run.new, port.new, scribe.new) }
-    ensures opened { IfOk result (λ wants. AllOpened wants.items run.new.relay.state.plain.opened) }
+    ensures opened { OnOk result (AllOpened wants.new.list run.new.relay.state.plain.opened) }
+    ensures kept { OnOk result (IsKept looks.new run.new.relay.state) }
+    ensures named { OnOk result (IsNamed looks.new wants.new run.new.relay.state) }
 {
-    let mut wants = wanted(&run.relay, alloc)?;
-    let ready = ask_poll(run, &mut wants, port, scribe)?;
+    name_wants(&run.relay, looks, wants)?;
+    let ready = ask_poll(run, wants, port, scribe)?;
     if !ready {
-        return Ok(wants);
+        return Ok(());
     }
-    accept(run, port, scribe)?;
-    Ok(wants)
+    accept(run, looks, port, scribe)
 }

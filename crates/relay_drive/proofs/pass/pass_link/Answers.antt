@@ -1,11 +1,11 @@
-use Rattle.std.proofs.Common.{[], ◌∷◌, refl, subst}
+use Rattle.std.proofs.Common.{◌≡◌, true, false, [], ◌∷◌, ◌||◌, refl, sym, ◌∙◌, subst}
 use Rattle.std.proofs.lemmas.Result.{err_from_is_err_and}
 use Rattle.relay_state.specs.Passing.{PartlyPassed}
 use Rattle.relay_state.specs.Closing.{in_side, out_side}
 use Rattle.relay_drive.proofs.pass.pass_link.Goals as goal
 
-pub returns-in_err-pass-clause-went : goal.returns-in_err-pass-clause-went
-returns-in_err-pass-clause-went c =
+pub returns-in_err-first-clause-went : goal.returns-in_err-first-clause-went
+returns-in_err-first-clause-went c =
     let p = err_from_is_err_and c.from_residual.result c.from_residual.ensures.1 in
     let k = c.args.link in
     rw (p.1) (record {
@@ -18,14 +18,14 @@ returns-in_err-pass-clause-went c =
         front = [];
         back = [];
         first = (refl, refl);
-        second = (refl, c.in_err-pass.ensures);
+        second = (refl, c.in_err-first.ensures.passed);
         joined = refl;
       };
     })
 
-pub returns-in_err-pass-2-clause-went : goal.returns-in_err-pass-2-clause-went
-returns-in_err-pass-2-clause-went c =
-    let p = err_from_is_err_and c.from_residual-in_err-pass-2.result c.from_residual-in_err-pass-2.ensures.1 in
+pub returns-in_err-second-clause-went : goal.returns-in_err-second-clause-went
+returns-in_err-second-clause-went c =
+    let p = err_from_is_err_and c.from_residual-in_err-second.result c.from_residual-in_err-second.ensures.1 in
     let k = c.args.link in
     let mid = c.pass.new.self.state in
     rw (p.1) (record {
@@ -37,8 +37,15 @@ returns-in_err-pass-2-clause-went c =
         middle = mid;
         front = [];
         back = [];
-        first = record { middle = mid; front = []; back = []; first = (refl, c.in_ok-pass.ensures); second = (refl, refl); joined = refl };
-        second = (refl, subst (λ e. PartlyPassed mid e c.pass-2.new.self.state) c.peer.ensures c.in_err-pass-2.ensures);
+        first = record {
+          middle = mid;
+          front = [];
+          back = [];
+          first = (refl, c.in_ok-first.ensures.passed);
+          second = (refl, refl);
+          joined = refl;
+        };
+        second = (refl, subst (λ e. PartlyPassed mid e c.pass-2.new.self.state) c.peer.ensures c.in_err-second.ensures.passed);
         joined = refl;
       };
     })

@@ -1,0 +1,35 @@
+// Turns of a relay over links that are idle.
+
+use ev_port::Mute;
+use ev_types::TurnLine;
+use relay_drive::{Drive, Settings};
+use script_port::ScriptPort;
+use script_text::Script;
+use std::alloc::Global;
+
+/// So many links open, and then so many turns are made in which nothing comes and nobody listens; how many turns were made.
+pub fn idle_turns(alloc: Global, links: u32, turns: u32) -> anyhow::Result<u64> {
+    let settings = Settings {
+        links,
+        ..Settings::usual()
+    };
+    let mut port = ScriptPort::new(alloc, opening(alloc, settings, links)?)?;
+    let mut drive = Drive::new(alloc, settings)?;
+    let mut made = 0u64;
+    for _ in 0..turns {
+        drive.turn(&mut port, &mut Mute::new())?;
+        made = made.saturating_add(1);
+    }
+    Ok(made)
+}
+
+/// A script of one turn, in which all links come.
+fn opening(alloc: Global, settings: Settings, links: u32) -> anyhow::Result<Script> {
+    let mut lines = Vec::new(alloc);
+    for _ in 0..links {
+        lines.push(TurnLine::NewLink { wait: false })?;
+    }
+    let mut turns = Vec::new(alloc);
+    turns.push((0, lines))?;
+    Ok(Script { settings, turns })
+}

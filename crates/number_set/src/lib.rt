@@ -1,0 +1,11 @@
+//! Sets of numbers below a length that grows, kept as bits. What the numbers stand for is left to others.
+#![tactic(auto)]
+
+mod bits;
+mod set;
+mod words;
+
+pub use set::NumberSet;
+
+#[cfg(test)]
+mod tests;

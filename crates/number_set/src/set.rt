@@ -1,0 +1,193 @@
+// A set of the numbers below a length, and the walks from member to member, up and down.
+ghost use Rattle.std.specs.Prelude.{◌≡◌, ℕ, ◌+◌, ◌<◌, ◌==◌, Bool, true, false, IfSome, OnOk, OnErr, if◌then◌else◌};
+ghost use Rattle.number_set.specs.Next.{in_either, IsNext, IsPrevious};
+
+use crate::words::{fill_words, has_bit, make_room, next_bit, previous_bit, put_bit};
+use std::alloc::{AllocError, Global};
+use std::marker::Model;
+
+/// A set of numbers below a length that grows. It takes one bit for each number below the length,
+/// and to go from member to member skips 64 absent numbers at a time.
+///
+/// Own.
+#[derive(Drop)]
+pub struct NumberSet {
+    words: Vec<u64>,
+    len: usize,
+}
+
+impl Model for NumberSet {
+    ghost use Rattle.number_set.specs.Numbers.{NumberSetValue};
+    ghost use Rattle.number_set.specs.Code.{number_set_code};
+
+    ghost Value = { NumberSetValue };
+
+    ghost coded = { number_set_code };
+
+    ghost use Rattle.number_set.specs.Words.{value_of, IsKept};
+
+    ghost view = { λ a. value_of a.words.items a.len };
+
+    ghost invariant = { λ a. IsKept a.words.items a.len };
+}
+
+impl NumberSet {
+    /// A set of length 0, without a member. Takes no memory; constant cost.
+    ///
+    /// Own.
+    pub fn new(alloc: Global) -> NumberSet
+        ensures len { result.len ≡ 0 }
+        ensures members { (n : ℕ) → result.has n ≡ false }
+    {
+        NumberSet {
+            words: Vec::new(alloc),
+            len: 0,
+        }
+    }
+
+    /// The length: the numbers below it can be members. Takes no memory; constant cost.
+    ///
+    /// Own.
+    pub fn len(&self) -> usize
+        ensures { result ≡ self.now.len }
+    {
+        self.len
+    }
+
+    /// Makes the set longer by one, and the new last number a member or not. Takes memory for one
+    /// number of 64, and constant cost but for that. Out of memory, and at 2^64 - 1 numbers, the set
+    /// is as it was.
+    ///
+    /// Own.
+    pub fn push(&mut self, member: bool) -> Result<(), AllocError>
+        ensures len { OnOk result (self.new.len ≡ self.old.len + 1) }
+        ensures members { OnOk result
+            ((n : ℕ) → self.new.has n ≡ (if n == self.old.len then member else self.old.has n)) }
+        ensures err { OnErr result (self.new ≡ self.old) }
+    {
+        let number = self.len;
+        if number == usize::MAX {
+            return Err(AllocError);
+        }
+        make_room(&mut self.words, number)?;
+        put_bit(&mut self.words, number, member);
+        self.len = number + 1;
+        Ok(())
+    }
+
+    /// Makes a number below the length a member, which it may be already. Takes no memory; constant
+    /// cost.
+    ///
+    /// Own.
+    pub fn insert(&mut self, number: usize)
+        requires { number < self.old.len }
+        ensures len { self.new.len ≡ self.old.len }
+        ensures members { (n : ℕ) → self.new.has n ≡ (if n == number then true else self.old.has n) }
+    {
+        put_bit(&mut self.words, number, true);
+    }
+
+    /// Makes a number no member, which it may be already: one from the length on never is one. Takes
+    /// no memory; constant cost.
+    ///
+    /// Own.
+    pub fn remove(&mut self, number: usize)
+        ensures len { self.new.len ≡ self.old.len }
+        ensures members { (n : ℕ) → self.new.has n ≡ (if n == number then false else self.old.has n) }
+    {
+        if number < self.len {
+            put_bit(&mut self.words, number, false);
+        }
+    }
+
+    /// Makes all numbers below the length members. Takes no memory; linear in the length, 64 numbers
+    /// at a time.
+    ///
+    /// Own.
+    pub fn fill(&mut self)
+        ensures len { self.new.len ≡ self.old.len }
+        ensures members { (n : ℕ) → n < self.old.len → self.new.has n ≡ true }
+    {
+        fill_words(&mut self.words, self.len);
+    }
+
+    /// Whether the number is a member: one from the length on never is one. Takes no memory; constant
+    /// cost.
+    ///
+    /// Own.
+    pub fn contains(&self, number: usize) -> bool
+        ensures { result ≡ self.now.has number }
+    {
+        has_bit(&self.words, number)
+    }
+
+    /// The least member from a number on, that number included, or None where there is none. Takes no
+    /// memory; linear in the length that is passed over, 64 numbers at a time.
+    ///
+    /// Own.
+    pub fn next(&self, from: usize) -> Option<usize>
+        ensures next { IsNext self.now.has from result }
+        ensures within { IfSome result (λ n. n < self.now.len) }
+    {
+        next_bit(&self.words, &self.words, &self.words, &self.words, from)
+    }
+
+    /// The greatest member below a number, or None where there is none. Takes no memory; linear in
+    /// the length that is passed over, 64 numbers at a time.
+    ///
+    /// Own.
+    pub fn previous(&self, before: usize) -> Option<usize>
+        ensures previous { IsPrevious self.now.has before result }
+        ensures within { IfSome result (λ n. n < self.now.len) }
+    {
+        previous_bit(&self.words, &self.words, &self.words, &self.words, before)
+    }
+
+    /// The least number from a number on, that number included, that is in both sets of `a` or in
+    /// both sets of `b`, or None where there is none. The sets may have different lengths. Takes no
+    /// memory; linear in the length that is passed over, 64 numbers at a time.
+    ///
+    /// Own.
+    pub fn next_in_either(
+        a: (&NumberSet, &NumberSet),
+        b: (&NumberSet, &NumberSet),
+        from: usize,
+    ) -> Option<usize>
+        ensures { IsNext
+            (in_either a.entry.0.now.has a.entry.1.now.has b.entry.0.now.has b.entry.1.now.has) from result }
+    {
+        let (first, second) = a;
+        let (third, fourth) = b;
+        next_bit(
+            &first.words,
+            &second.words,
+            &third.words,
+            &fourth.words,
+            from,
+        )
+    }
+
+    /// The greatest number below a number that is in both sets of `a` or in both sets of `b`, or None
+    /// where there is none. The sets may have different lengths. Takes no memory; linear in the length
+    /// that is passed over, 64 numbers at a time.
+    ///
+    /// Own.
+    pub fn previous_in_either(
+        a: (&NumberSet, &NumberSet),
+        b: (&NumberSet, &NumberSet),
+        before: usize,
+    ) -> Option<usize>
+        ensures { IsPrevious
+            (in_either a.entry.0.now.has a.entry.1.now.has b.entry.0.now.has b.entry.1.now.has) before result }
+    {
+        let (first, second) = a;
+        let (third, fourth) = b;
+        previous_bit(
+            &first.words,
+            &second.words,
+            &third.words,
+            &fourth.words,
+            before,
+        )
+    }
+}

@@ -1,0 +1,213 @@
+-- What is kept of the links stays right, step by step: a step changes one link, and that one is looked at again.
+use Rattle.std.proofs.Common.{◌≡◌, ◌≢◌, ℕ, ◌+◌, ◌<◌, ◌≤◌, Bool, true, false, ◌==◌, if◌then◌else◌, [], refl, sym, ◌∙◌, ap, subst, arith}
+use Rattle.std.proofs.lemmas.Bool.{eqb-true, eqb-false}
+use Rattle.token_bucket.specs.declared.limit.Dir.TheVariants as dir
+use Rattle.ev_types.specs.declared.side.SideId.{SideId}
+use Rattle.ev_port.specs.Table.{WantsValue}
+use Rattle.number_set.specs.Numbers.{NumberSetValue}
+use Rattle.relay_state.specs.State.{State}
+use Rattle.relay_state.specs.Counting.{is_open}
+use Rattle.relay_state.specs.Closing.{in_side, out_side}
+use Rattle.relay_drive.specs.declared.looks.Looks.{Looks}
+use Rattle.relay_drive.specs.Links.{SameLink, HasPairs, IsStill, IsSettled}
+use Rattle.relay_drive.specs.Looks.{HoldsBeside, IsGone, IsNear, IsKept, IsNamed, IsNamedRight, TouchedBut, Touched, TouchedAll, IsCovered, ClosingNoted, IsUntold, KeepsNames}
+use Rattle.ev_types.specs.Trace.{Trace}
+use Rattle.ev_port.specs.declared.port.Want.{Want}
+use Rattle.relay_drive.specs.Steps.{Each}
+use Rattle.relay_drive.specs.Phases.{ServesSide, PassesLink, ClosesLink, links_from}
+use Rattle.relay_drive.proofs.OtherLinks.{same_link, serves-other, passes-other, closes-other}
+use Rattle.relay_drive.proofs.LinkParts.{still-same, settled-same, wants-same, open-same, far-same, still-passes, settled-closes, each-skips}
+
+-- by whether two numbers are the same
+by_same : {A : Type 0} (n k : ℕ) → (n ≡ k → n == k ≡ true → A) → (n ≢ k → n == k ≡ false → A) → A
+by_same {A = A} n k yes no = go (n == k) refl
+  where
+    go : (b : Bool) → n == k ≡ b → A
+    go true e = yes (eqb-true n k e) e
+    go false e = no (eqb-false n k e) e
+
+-- What holds of the links beside a set still does, where the set changed at one link alone, and so did the state.
+beside : (P : State → ℕ → Type 0) (old new : NumberSetValue) (k : ℕ) (b : Bool) (s s' : State) →
+    ((n : ℕ) → new.has n ≡ (if n == k then b else old.has n)) → (b ≡ false → k < s'.plain.opened → P s' k) →
+    ((j : ℕ) → j ≢ k → j < s'.plain.opened → j < s.plain.opened) → ((j : ℕ) → j ≢ k → j < s.plain.opened → P s j → P s' j) →
+    HoldsBeside old P s → HoldsBeside new P s'
+beside P old new k b s s' has own opened others h = λ n lt out.
+    by_same n k
+    (λ e t. subst (P s') (sym e)
+    (own (sym (has n ∙ ap (λ z. if z then b else old.has n) t) ∙ out) (subst (λ m. m < s'.plain.opened) e lt)))
+    (λ e t. others n e (opened n e lt)
+    (h n (opened n e lt) (sym (has n ∙ ap (λ z. if z then b else old.has n) t) ∙ out)))
+
+-- a step at one link leaves the others, and the number of links
+pub record AtLink (k : ℕ) (s new : State) : Type 0 where
+  pub others : (j : ℕ) → j ≢ k → SameLink j s new
+  pub opened : new.plain.opened ≡ s.plain.opened
+
+no_false : {A : Type 0} → true ≡ false → A
+no_false h = absurd (cc)
+
+gone-same : (k : ℕ) (s new : State) → SameLink k s new → IsGone s k → IsGone new k
+gone-same k s new same h = open-same same ∙ h
+
+-- what the table says of a link is still right
+named-same : (t : WantsValue) (k : ℕ) (s new : State) → SameLink k s new → IsNamedRight t s k → IsNamedRight t new k
+named-same t k s new same h = (
+  h.0,
+  (h.1.0 ∙ sym (wants-same same (in_side k) refl dir.Read), h.1.1 ∙ sym (wants-same same (in_side k) refl dir.Write)),
+  (h.2.0 ∙ sym (wants-same same (out_side k) refl dir.Read), h.2.1 ∙ sym (wants-same same (out_side k) refl dir.Write)),
+  far-same same ∙ h.3,
+)
+
+-- A step at one link, behind which this link is looked at, and is among the open ones where it is open
+pub kept-but : (l l' : Looks) (k : ℕ) (s s' : State) (b : Bool) → AtLink k s s' → (b ≡ false → IsGone s' k) → TouchedBut b k l l' →
+    IsKept l s → IsKept l' s'
+kept-but l l' k s s' b at gone t h =
+    let opened = λ (j : ℕ) (e : j ≢ k) (lt : j < s'.plain.opened). subst (λ m. j < m) at.opened lt in
+    record {
+      pass_covers = omega (arith, at.opened, t.pass_len, h.pass_covers);
+      close_covers = omega (arith, at.opened, t.close_len, h.close_covers);
+      want_covers = omega (arith, at.opened, t.want_len, h.want_covers);
+      open_covers = omega (arith, at.opened, t.open_len, h.open_covers);
+      still = beside IsStill l.pass l'.pass k true s s' t.pass (λ e. no_false e) opened (λ j e lt p. still-same (at.others j e) p) h.still;
+      settled = beside IsSettled l.close l'.close k true s s' t.close (λ e. no_false e) opened
+          (λ j e lt p. settled-same (at.others j e) p) h.settled;
+      gone = beside IsGone l.open l'.open k b s s' t.open (λ e lt. gone e) opened (λ j e lt p. gone-same j s s' (at.others j e) p) h.gone;
+    }
+
+pub names-but : (l l' : Looks) (k : ℕ) (s s' : State) (b : Bool) → AtLink k s s' → TouchedBut b k l l' → KeepsNames l s l' s'
+names-but l l' k s s' b at t = λ table h. record {
+  links = omega (arith, at.opened, h.links);
+  named = beside (IsNamedRight table) l.want l'.want k true s s' t.want (λ e. no_false e)
+      (λ j e lt. subst (λ m. j < m) at.opened lt) (λ j e lt p. named-same table j s s' (at.others j e) p) h.named;
+}
+
+-- nothing changed, and a link was found at which passing has nothing to do
+pub kept-passed : (l l' : Looks) (k : ℕ) (s : State) → IsStill s k → l'.pass.len ≡ l.pass.len →
+    ((n : ℕ) → l'.pass.has n ≡ (if n == k then false else l.pass.has n)) → l'.close ≡ l.close → l'.want ≡ l.want → l'.open ≡ l.open →
+    IsKept l s → IsKept l' s
+kept-passed l l' k s still len has close want open h = record {
+  pass_covers = omega (arith, len, h.pass_covers);
+  close_covers = subst (λ (z : NumberSetValue). s.plain.opened ≤ z.len) (sym close) h.close_covers;
+  want_covers = subst (λ (z : NumberSetValue). s.plain.opened ≤ z.len) (sym want) h.want_covers;
+  open_covers = subst (λ (z : NumberSetValue). s.plain.opened ≤ z.len) (sym open) h.open_covers;
+  still = beside IsStill l.pass l'.pass k false s s has (λ e lt. still) (λ j e lt. lt) (λ j e lt p. p) h.still;
+  settled = subst (λ z. HoldsBeside z IsSettled s) (sym close) h.settled;
+  gone = subst (λ z. HoldsBeside z IsGone s) (sym open) h.gone;
+}
+
+-- or at which closing has
+pub kept-closed : (l l' : Looks) (k : ℕ) (s : State) → IsSettled s k → ClosingNoted s k false l l' → IsKept l s → IsKept l' s
+kept-closed l l' k s settled t h = record {
+  pass_covers = subst (λ (z : NumberSetValue). s.plain.opened ≤ z.len) (sym t.2) h.pass_covers;
+  close_covers = let len = t.0 in omega (arith, len, h.close_covers);
+  want_covers = subst (λ (z : NumberSetValue). s.plain.opened ≤ z.len) (sym t.3) h.want_covers;
+  open_covers = subst (λ (z : NumberSetValue). s.plain.opened ≤ z.len) (sym t.4) h.open_covers;
+  still = subst (λ z. HoldsBeside z IsStill s) (sym t.2) h.still;
+  settled = beside IsSettled l.close l'.close k false s s t.1 (λ e lt. settled) (λ j e lt. lt) (λ j e lt p. p) h.settled;
+  gone = subst (λ z. HoldsBeside z IsGone s) (sym t.4) h.gone;
+}
+
+-- what the table says depends on the set of wants to be looked at alone
+pub names-beside : (l l' : Looks) (s : State) → l'.want ≡ l.want → KeepsNames l s l' s
+names-beside l l' s want = λ table h. record {
+  links = h.links;
+  named = subst (λ z. HoldsBeside z (IsNamedRight table) s) (sym want) h.named;
+}
+
+-- all links are looked at
+beside-all : (P : State → ℕ → Type 0) (old new : NumberSetValue) (s : State) → s.plain.opened ≤ old.len →
+    ((n : ℕ) → n < old.len → new.has n ≡ true) → HoldsBeside new P s
+beside-all P old new s covers all = λ n lt out. no_false (sym (all n (omega (arith, lt, covers))) ∙ out)
+
+pub kept-all : (l l' : Looks) (s s' : State) → s'.plain.opened ≡ s.plain.opened → TouchedAll l l' → IsKept l s → IsKept l' s'
+kept-all l l' s s' opened t h = record {
+  pass_covers = omega (arith, opened, t.pass_len, h.pass_covers);
+  close_covers = omega (arith, opened, t.close_len, h.close_covers);
+  want_covers = omega (arith, opened, t.want_len, h.want_covers);
+  open_covers = omega (arith, opened, t.open_len, h.open_covers);
+  still = beside-all IsStill l.pass l'.pass s' (omega (arith, opened, h.pass_covers)) t.pass;
+  settled = beside-all IsSettled l.close l'.close s' (omega (arith, opened, h.close_covers)) t.close;
+  gone = beside-all IsGone l.open l'.open s' (omega (arith, opened, h.open_covers)) t.open;
+}
+
+pub names-all : (l l' : Looks) (s s' : State) → s'.plain.opened ≡ s.plain.opened → TouchedAll l l' → IsKept l s → KeepsNames l s l' s'
+names-all l l' s s' opened t k = λ table h. record {
+  links = omega (arith, opened, h.links);
+  named = beside-all (IsNamedRight table) l.want l'.want s' (omega (arith, opened, k.want_covers)) t.want;
+}
+
+-- no link changed
+pub kept-same : (l : Looks) (s s' : State) → s'.plain.opened ≡ s.plain.opened → ((j : ℕ) → SameLink j s s') → IsKept l s → IsKept l s'
+kept-same l s s' opened same h = record {
+  pass_covers = omega (arith, opened, h.pass_covers);
+  close_covers = omega (arith, opened, h.close_covers);
+  want_covers = omega (arith, opened, h.want_covers);
+  open_covers = omega (arith, opened, h.open_covers);
+  still = λ n lt out. still-same (same n) (h.still n (subst (λ m. n < m) opened lt) out);
+  settled = λ n lt out. settled-same (same n) (h.settled n (subst (λ m. n < m) opened lt) out);
+  gone = λ n lt out. gone-same n s s' (same n) (h.gone n (subst (λ m. n < m) opened lt) out);
+}
+
+pub names-same : (l : Looks) (s s' : State) → s'.plain.opened ≡ s.plain.opened → ((j : ℕ) → SameLink j s s') → KeepsNames l s l s'
+names-same l s s' opened same = λ table h. record {
+  links = omega (arith, opened, h.links);
+  named = λ n lt out. named-same table n s s' (same n) (h.named n (subst (λ m. n < m) opened lt) out);
+}
+
+-- The next link got its places, and was opened or not.
+pub record OpensAtMost (s new : State) : Type 0 where
+  pub least : s.plain.opened ≤ new.plain.opened
+  pub most : new.plain.opened ≤ s.plain.opened + 1
+  pub old : (j : ℕ) → j < s.plain.opened → SameLink j s new
+
+opened-before : (s s' : State) → OpensAtMost s s' → (j : ℕ) → j ≢ s.plain.opened → j < s'.plain.opened → j < s.plain.opened
+opened-before s s' o j e lt = omega (arith, e, lt, o.most)
+
+pub kept-covered : (l l' : Looks) (s s' : State) → OpensAtMost s s' → IsCovered s.plain.opened l l' → IsKept l s → IsKept l' s'
+kept-covered l l' s s' o c h = record {
+  pass_covers = omega (arith, o.most, c.pass.room);
+  close_covers = omega (arith, o.most, c.close.room);
+  want_covers = omega (arith, o.most, c.want.room);
+  open_covers = omega (arith, o.most, c.open.room);
+  still = beside IsStill l.pass l'.pass s.plain.opened true s s' c.pass.has (λ e. no_false e) (opened-before s s' o)
+      (λ j e lt p. still-same (o.old j lt) p) h.still;
+  settled = beside IsSettled l.close l'.close s.plain.opened true s s' c.close.has (λ e. no_false e) (opened-before s s' o)
+      (λ j e lt p. settled-same (o.old j lt) p) h.settled;
+  gone = beside IsGone l.open l'.open s.plain.opened true s s' c.open.has (λ e. no_false e) (opened-before s s' o)
+      (λ j e lt p. gone-same j s s' (o.old j lt) p) h.gone;
+}
+
+pub names-covered : (l l' : Looks) (s s' : State) → OpensAtMost s s' → IsCovered s.plain.opened l l' → KeepsNames l s l' s'
+names-covered l l' s s' o c = λ table h. record {
+  links = omega (arith, o.least, h.links);
+  named = beside (IsNamedRight table) l.want l'.want s.plain.opened true s s' c.want.has (λ e. no_false e) (opened-before s s' o)
+      (λ j e lt p. named-same table j s s' (o.old j lt) p) h.named;
+}
+
+-- Steps at one link
+
+pub at-served : (w : Want) (s new : State) (a : Trace) → new.plain.opened ≡ s.plain.opened → ServesSide w s a new →
+    AtLink w.side.link s new
+at-served w s new a opened h = record { others = λ j e. serves-other j w s new a h e; opened = opened }
+
+pub at-passed : (k : ℕ) (s new : State) → new.plain.opened ≡ s.plain.opened → PassesLink k s [] new → AtLink k s new
+at-passed k s new opened h = record { others = λ j e. passes-other j k s new [] h e; opened = opened }
+
+pub at-closed : (k : ℕ) (s new : State) (a : Trace) → new.plain.opened ≡ s.plain.opened → ClosesLink k s a new → AtLink k s new
+at-closed k s new a opened h = record { others = λ j e. closes-other j k s new a h e; opened = opened }
+
+-- Links between two that are looked at
+
+-- passing left out the links that are not in the set
+pub passes-up : (l : Looks) (s0 s : State) (from to : ℕ) → from ≤ to → to ≤ s.plain.opened → IsUntold l.pass from to → IsKept l s →
+    Each PassesLink (links_from 0 from) s0 [] s → Each PassesLink (links_from 0 to) s0 [] s
+passes-up l s0 s from to le within untold kept h =
+    each-skips PassesLink from to s0 s [] le
+    (λ k a b. still-passes k s (kept.still k (omega (arith, b, within)) (untold k a b))) h
+
+-- and closing did
+pub closes-up : (l : Looks) (s0 s : State) (a : Trace) (from to : ℕ) → from ≤ to → to ≤ s.plain.opened → IsUntold l.close from to → IsKept l s →
+    Each ClosesLink (links_from 0 from) s0 a s → Each ClosesLink (links_from 0 to) s0 a s
+closes-up l s0 s a from to le within untold kept h =
+    each-skips ClosesLink from to s0 s a le
+    (λ k b d. settled-closes k s (kept.settled k (omega (arith, d, within)) (untold k b d))) h

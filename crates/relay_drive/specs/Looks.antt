@@ -1,0 +1,139 @@
+-- What a drive keeps of its links from turn to turn: at which of them passing and closing have something to do, which are open, and
+-- of which sides the table of wants must be looked at. A set may hold too much, and never too little.
+use Rattle.std.specs.Prelude.{◌≡◌, ◌≢◌, ℕ, ◌*◌, ◌<◌, ◌≤◌, Bool, true, false, ◌==◌, if◌then◌else◌, List, filter}
+use Rattle.token_bucket.specs.declared.limit.Dir.TheVariants as dir
+use Rattle.ev_types.specs.declared.side.SideId.{SideId}
+use Rattle.ev_types.specs.Sides.{number}
+use Rattle.ev_types.specs.Trace.{Trace}
+use Rattle.ev_port.specs.declared.port.Want.{Want}
+use Rattle.ev_port.specs.Table.{WantsValue, is_marked}
+use Rattle.number_set.specs.Numbers.{NumberSetValue}
+use Rattle.relay_state.specs.State.{State}
+use Rattle.relay_state.specs.Rooms.{wants}
+use Rattle.relay_state.specs.Counting.{is_open}
+use Rattle.relay_state.specs.Closing.{in_side, out_side}
+use Rattle.relay_drive.specs.declared.looks.Looks.{Looks}
+use Rattle.relay_drive.specs.Links.{IsStill, IsSettled, is_far}
+use Rattle.relay_drive.specs.Steps.{Then}
+use Rattle.relay_drive.specs.PollPhase.{Polls, AcceptsWhere}
+
+-- what is so of each opened link that is not in a set
+abbrev pub HoldsBeside : NumberSetValue → (State → ℕ → Type 0) → State → Type 0
+HoldsBeside set P s = (k : ℕ) → k < s.plain.opened → set.has k ≡ false → P s k
+
+-- no count of this link has come far
+abbrev pub IsNear : State → ℕ → Type 0
+IsNear s k = is_far s k ≡ false
+
+-- this link is not open
+abbrev pub IsGone : State → ℕ → Type 0
+IsGone s k = is_open s k ≡ false
+
+-- Passing and closing have nothing to do at the links that are not in their sets, and none of them is open that is not among those.
+pub record IsKept (l : Looks) (s : State) : Type 0 where
+  pub pass_covers : s.plain.opened ≤ l.pass.len
+  pub close_covers : s.plain.opened ≤ l.close.len
+  pub want_covers : s.plain.opened ≤ l.want.len
+  pub open_covers : s.plain.opened ≤ l.open.len
+  pub still : HoldsBeside l.pass IsStill s
+  pub settled : HoldsBeside l.close IsSettled s
+  pub gone : HoldsBeside l.open IsGone s
+
+-- the table says of this side what it wants
+abbrev pub SaysOf : WantsValue → State → SideId → Type 0
+SaysOf t s e = (t.reads (number e) ≡ wants s e dir.Read) × (t.writes (number e) ≡ wants s e dir.Write)
+
+-- the table has this link, says what its sides want, and no count of it has come far
+abbrev pub IsNamedRight : WantsValue → State → ℕ → Type 0
+IsNamedRight t s k = (k < t.links) × SaysOf t s (in_side k) × SaysOf t s (out_side k) × (is_far s k ≡ false)
+
+-- so it is for each link that is not to be looked at
+pub record IsNamed (l : Looks) (t : WantsValue) (s : State) : Type 0 where
+  pub links : t.links ≤ s.plain.opened
+  pub named : HoldsBeside l.want (IsNamedRight t) s
+
+-- A link is in all sets, but perhaps in that of open links, and of every other link they say what they said.
+pub record TouchedBut (opened : Bool) (k : ℕ) (old new : Looks) : Type 0 where
+  pub pass_len : new.pass.len ≡ old.pass.len
+  pub close_len : new.close.len ≡ old.close.len
+  pub want_len : new.want.len ≡ old.want.len
+  pub open_len : new.open.len ≡ old.open.len
+  pub pass : (n : ℕ) → new.pass.has n ≡ (if n == k then true else old.pass.has n)
+  pub close : (n : ℕ) → new.close.has n ≡ (if n == k then true else old.close.has n)
+  pub want : (n : ℕ) → new.want.has n ≡ (if n == k then true else old.want.has n)
+  pub open : (n : ℕ) → new.open.has n ≡ (if n == k then opened else old.open.has n)
+
+-- a link is in all sets
+abbrev pub Touched : ℕ → Looks → Looks → Type 0
+Touched k old new = TouchedBut true k old new
+
+-- each set has a place for this link
+abbrev pub HasPlace : ℕ → Looks → Type 0
+HasPlace k l = (k < l.pass.len) × (k < l.close.len) × (k < l.want.len) × (k < l.open.len)
+
+-- Where closing found nothing to do at a link, it isn't looked at again; else all is looked at, and it is among the open ones where it is open.
+abbrev pub ClosingNoted : State → ℕ → Bool → Looks → Looks → Type 0
+ClosingNoted s k false old new = (new.close.len ≡ old.close.len) × ((n : ℕ) → new.close.has n ≡ (if n == k then false else old.close.has n))
+    × (new.pass ≡ old.pass) × (new.want ≡ old.want) × (new.open ≡ old.open)
+ClosingNoted s k true old new = TouchedBut (is_open s k) k old new
+
+-- no link of the set is one from a number up to another
+abbrev pub IsUntold : NumberSetValue → ℕ → ℕ → Type 0
+IsUntold set from to = (k : ℕ) → from ≤ k → k < to → set.has k ≡ false
+
+-- The set has a place for this link, which is in it; it is no shorter, and of every other link it says what it said.
+pub record Covers (k : ℕ) (old new : NumberSetValue) : Type 0 where
+  pub room : k < new.len
+  pub len : old.len ≤ new.len
+  pub has : (n : ℕ) → new.has n ≡ (if n == k then true else old.has n)
+
+-- so does each set
+pub record IsCovered (k : ℕ) (old new : Looks) : Type 0 where
+  pub pass : Covers k old.pass new.pass
+  pub close : Covers k old.close new.close
+  pub want : Covers k old.want new.want
+  pub open : Covers k old.open new.open
+
+-- all links with a place are in all sets
+pub record TouchedAll (old new : Looks) : Type 0 where
+  pub pass_len : new.pass.len ≡ old.pass.len
+  pub close_len : new.close.len ≡ old.close.len
+  pub want_len : new.want.len ≡ old.want.len
+  pub open_len : new.open.len ≡ old.open.len
+  pub pass : (n : ℕ) → n < old.pass.len → new.pass.has n ≡ true
+  pub close : (n : ℕ) → n < old.close.len → new.close.has n ≡ true
+  pub want : (n : ℕ) → n < old.want.len → new.want.has n ≡ true
+  pub open : (n : ℕ) → n < old.open.len → new.open.has n ≡ true
+
+-- only the set of wants to be looked at may have changed, and it is as long
+abbrev pub SameBesideWants : Looks → Looks → Type 0
+SameBesideWants old new = (new.pass ≡ old.pass) × (new.close ≡ old.close) × (new.open ≡ old.open) × (new.want.len ≡ old.want.len)
+
+-- Of one side the table says what it wants, and of every other one what it said.
+pub record NamedSide (s : State) (e : SideId) (old new : WantsValue) : Type 0 where
+  pub links : new.links ≡ old.links
+  pub own : SaysOf new s e
+  pub others : (n : ℕ) → n ≢ number e → (new.reads n ≡ old.reads n) × (new.writes n ≡ old.writes n)
+
+-- of both sides of a link
+pub record NamedLink (s : State) (k : ℕ) (old new : WantsValue) : Type 0 where
+  pub links : new.links ≡ old.links
+  pub near : SaysOf new s (in_side k)
+  pub far : SaysOf new s (out_side k)
+  pub others : (e : SideId) → e.link ≢ k → (new.reads (number e) ≡ old.reads (number e)) × (new.writes (number e) ≡ old.writes (number e))
+
+-- the table is no shorter, and says what it said of each link that it had
+pub record OldRowsStay (old new : WantsValue) : Type 0 where
+  pub links : old.links ≤ new.links
+  pub rows : (n : ℕ) → n < 2 * old.links → (new.reads n ≡ old.reads n) × (new.writes n ≡ old.writes n)
+
+-- What was kept is kept, of every table too: from a state and the sets that stood for it to another state and its sets.
+abbrev pub KeepsNames : Looks → State → Looks → State → Type 0
+KeepsNames old s new s' = (t : WantsValue) → IsNamed old t s → IsNamed new t s'
+
+-- the poll, of which the list has the wants that were marked
+abbrev pub PollsListed : List Want → Bool → State → Trace → State → Type 0
+PollsListed list accept s a new = (marked : List Want) × (list ≡ filter is_marked marked) × Polls marked accept s a new
+
+abbrev pub PollsAndAcceptsListed : List Want → State → Trace → State → Type 0
+PollsAndAcceptsListed list s a new = (ready : Bool) × Then (PollsListed list ready) (AcceptsWhere ready) s a new
