@@ -1,2 +1,3 @@
 pub mod RingText
 pub mod Program
+pub mod RingWants

@@ -1,11 +1,14 @@
 // The last entries of a run, to be shown where it ends with a fault of its port.
-ghost use Rattle.std.specs.Prelude.{◌≡◌, ◌≤◌, ◌<◌, ◌∷◌, [], ◌++◌, None, IfOk, IsOk, OnOk, length};
+ghost use Rattle.std.specs.Prelude.{◌≡◌, ◌≤◌, ◌<◌, ◌∷◌, [], ◌++◌, None, IfOk, IsOk, OnOk, length, map};
 ghost use Rattle.ev_types.specs.Growth.{Grew};
+ghost use Rattle.ev_port.specs.Polling.{want_events};
+ghost use Rattle.ev_port.specs.Table.{named};
 ghost use Rattle.circular_buffer.specs.Buffer.{keep_last};
 ghost use Rattle.evrelay.specs.RingText.{counted_line, moved_line, ring_text};
+ghost use Rattle.evrelay.specs.RingWants.{want_entry, StartsLast};
 
 use circular_buffer::HeapCircularBuffer;
-use ev_port::Scribe;
+use ev_port::{Scribe, Want, WantTable};
 use ev_types::{Entry, NoMemory, ReadAnswer, Side, SideId, WriteAnswer};
 use script_text::{make_room, put_entry};
 use std::alloc::Global;
@@ -123,4 +126,46 @@ impl Scribe for Ring {
     {
         self.entries.push_back(entry);
     }
+
+    // Only the last wants are looked at: those before them would be overwritten.
+    fn put_wants(&mut self, wants: &WantTable)
+        ensures kept { self.new.entries.items ≡ keep_last self.old.entries.capacity (self.old.entries.items ++ map want_entry (named wants.now)) }
+        ensures capacity { self.new.entries.capacity ≡ self.old.entries.capacity }
+
+        // What every scribe says.
+        ensures trace { Grew None None (want_events (named wants.now)) }
+        ensures entries { 2 ^ 64 ≤ 2 ^ 64 + length (named wants.now) }
+        ensures bytes { 2 ^ 64 ≤ 2 ^ 64 }
+    {
+        let mut from = start_of_last(wants, self.entries.capacity());
+        while let Some(want) = wants.next_wanted(from) {
+            self.entries.push_back(want_entry(want));
+            from = want.side.number() + 1;
+        }
+    }
+}
+
+/// The entry of a want.
+fn want_entry(want: Want) -> Entry
+    ensures { result ≡ want_entry want }
+{
+    Entry::Want {
+        side: want.side,
+        read: want.read,
+        write: want.write,
+    }
+}
+
+/// The number of the side from which on the last so many wants of the table stand, or all of them, where they are no more.
+fn start_of_last(wants: &WantTable, most: usize) -> usize
+    ensures { StartsLast wants.now most result }
+{
+    let mut from = 2 * wants.links() as usize;
+    for _ in 0..most {
+        match wants.previous_wanted(from) {
+            Some(want) => from = want.side.number(),
+            None => return from,
+        }
+    }
+    from
 }

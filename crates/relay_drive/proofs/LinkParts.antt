@@ -1,19 +1,26 @@
 -- A step for which there is nothing to do may be left out, and what the counts of all links say of those of one.
-use Rattle.std.proofs.Common.{◌≡◌, ℕ, ◌+◌, ◌*◌, ◌<◌, Bool, true, false, nat_le, if◌then◌else◌, List, [], ◌∷◌, ◌++◌, length, refl, sym, ◌∙◌, ap, subst, arith, zero, suc, ◌-◌, ◌≤◌, ◌^◌, ◌||◌, filter, inl, inr, append-nil, append_assoc, length-append}
 use Rattle.std.specs.Prelude.{MatchBool, slice_index_or, ◌⊎◌}
 use Rattle.std.specs.List.{All, list_any}
+use Rattle.std.proofs.Common.{◌≡◌, ℕ, ◌+◌, ◌*◌, ◌<◌, Bool, true, false, nat_le, if◌then◌else◌, List, [], ◌∷◌, ◌++◌, length, refl, sym, ◌∙◌, ap, subst, arith, zero, suc, ◌-◌, ◌≤◌, ◌^◌, ◌||◌, filter, inl, inr, append-nil, append_assoc, length-append}
 use Rattle.std.proofs.lemmas.List.{set-get_or}
+use Rattle.std.proofs.lemmas.Bool.{or_cases, or_parts, or_from, or_left, or_right}
+use Rattle.std.proofs.lemmas.Bool.Decides.{eqb_tells}
+use Rattle.std.proofs.lemmas.List.Folds.{list_any_at}
 use Rattle.ev_types.specs.declared.side.SideId.{SideId}
 use Rattle.ev_types.specs.Sides.{number, peer}
 use Rattle.ev_types.specs.Trace.{Trace}
+use Rattle.ev_types.specs.declared.entry.Entry.TheVariants as entry
+use Rattle.ev_types.specs.declared.side.Side.{Side}
+use Rattle.ev_types.specs.declared.side.Side.TheVariants.{In, Out}
 use Rattle.ev_port.specs.declared.port.Want.{Want}
+use Rattle.ev_port.specs.Polling.{ready_events}
 use Rattle.relay_model.specs.Flow.{no_flow}
-use Rattle.relay_model.specs.Plain as plain
 use Rattle.relay_model.specs.Plain.{no_side, flow_at}
 use Rattle.relay_model.specs.Rooms.{is_connecting}
 use Rattle.relay_state.specs.State.{State, no_lane, lane_at}
 use Rattle.relay_state.specs.Passing.{with_passage, passage_at}
-use Rattle.relay_state.specs.Closing.{in_side, out_side, closed}
+use Rattle.relay_state.specs.Closing.{in_side, out_side}
+use Rattle.relay_state.specs.Counting.{is_open, open_below, has_flown_far, has_read_far, is_spent}
 use Rattle.relay_core.specs.declared.close.Closing.{Closing}
 use Rattle.relay_core.specs.Steps.{steps_of}
 use Rattle.relay_drive.specs.Steps.{Nothing, Then, Each, CutAt, links_from}
@@ -21,14 +28,7 @@ use Rattle.relay_drive.specs.PassPhase.{PassesSide, PassesLink}
 use Rattle.relay_drive.specs.ServePhase.{ReadsSide, WritesSide, ConnectsSide, ServesSide}
 use Rattle.relay_drive.specs.ClosePhase.{Closes, LooksAt, ClosesLink}
 use Rattle.relay_drive.specs.Links.{HasPairs, IsStillFrom, IsStill, IsUncalled, IsSettled, is_far_from, is_far}
-use Rattle.std.proofs.lemmas.Bool.{or_cases, or_parts, or_from, or_left, or_right}
-use Rattle.std.proofs.lemmas.Bool.Decides.{eqb_tells}
-use Rattle.std.proofs.lemmas.List.Folds.{list_any_at}
-use Rattle.ev_types.specs.declared.entry.Entry.TheVariants as entry
-use Rattle.ev_types.specs.declared.side.Side.{Side}
-use Rattle.ev_types.specs.declared.side.Side.TheVariants.{In, Out}
-use Rattle.ev_port.specs.Polling.{ready_events}
-use Rattle.relay_state.specs.Counting.{is_open, open_below, has_flown_far, has_read_far, is_spent}
+pub use Rattle.relay_drive.proofs.OtherLinks.{wants-same, open-same, far-same, still-same, settled-same}
 use Rattle.relay_drive.proofs.EachLemmas.{nothing_then, then_as, each_push, links_from-push}
 
 -- Links for which there is nothing to do

@@ -1,10 +1,11 @@
 -- What each step of a turn leaves of every other link than the one that it is about, and what was found of a link is still so where
 -- the link is the same.
-use Rattle.std.proofs.Common.{◌≡◌, ◌≢◌, ℕ, ◌+◌, ◌*◌, ◌<◌, Bool, true, false, ◌&&◌, nat_le, nat_lt, if◌then◌else◌, List, [], ◌∷◌, ◌++◌, length, refl, sym, ◌∙◌, ap, subst, arith, zero, suc, ◌-◌, None}
 use Rattle.std.specs.Prelude.{MatchBool, is_some, slice_index_or, option_map}
 use Rattle.std.specs.List.{AllByRecursion, All}
+use Rattle.std.proofs.Common.{◌≡◌, ◌≢◌, ℕ, ◌+◌, ◌*◌, ◌<◌, Bool, true, false, ◌&&◌, nat_le, nat_lt, if◌then◌else◌, List, [], ◌∷◌, ◌++◌, length, refl, sym, ◌∙◌, ap, subst, arith, zero, suc, ◌-◌, None}
 use Rattle.std.proofs.lemmas.List.{get_or-set_other, get_or_append_left}
 use Rattle.token_bucket.specs.declared.limit.Dir.TheVariants as dir
+use Rattle.token_bucket.specs.declared.limit.Dir.{Dir}
 use Rattle.ev_types.specs.declared.side.SideId.{SideId}
 use Rattle.ev_types.specs.declared.answer.ConnAnswer.{ConnAnswer}
 use Rattle.ev_types.specs.declared.answer.ConnAnswer.TheVariants as conn
@@ -16,6 +17,9 @@ use Rattle.ev_types.specs.declared.why.Why.{Why}
 use Rattle.ev_types.specs.declared.why.Why.TheVariants as why
 use Rattle.ev_types.specs.Sides.{number, peer}
 use Rattle.ev_types.specs.Trace.{Trace}
+use Rattle.ev_types.specs.declared.why.Cause.{Cause}
+use Rattle.ev_types.specs.declared.entry.Entry.{Entry}
+use Rattle.ev_types.specs.declared.entry.Entry.TheVariants as entry
 use Rattle.ev_port.specs.declared.port.Want.{Want}
 use Rattle.relay_model.specs.Flow.{Flow, no_flow}
 use Rattle.relay_model.specs.Settings.{Settings}
@@ -35,6 +39,7 @@ use Rattle.relay_state.specs.Passing.{with_bad, plain_passed, with_passage, Pass
 use Rattle.relay_state.specs.Rooms.{wants, input_length, output_length, read_room, write_room}
 use Rattle.relay_state.specs.Serving.{raise_read, raise_write, after_conn, with_got, after_got, after_read, flow_given, with_taken, after_took, after_write}
 use Rattle.relay_state.specs.Closing.{in_side, out_side, closing_entry, closed, freed}
+use Rattle.relay_state.specs.Counting.{is_open}
 use Rattle.relay_core.specs.declared.close.Closing.{Closing}
 use Rattle.relay_core.specs.declared.close.Closing.TheVariants as closing
 use Rattle.relay_core.specs.Steps as steps
@@ -46,11 +51,6 @@ use Rattle.relay_drive.specs.ClosePhase.{Closes, LooksAt, ClosesLink}
 use Rattle.relay_drive.specs.Calls.{Reads, Writes}
 use Rattle.relay_drive.specs.PollPhase.{OpensOne}
 use Rattle.relay_drive.specs.Links.{SameLink, HasPairs, IsStillFrom, IsStill, IsSettled, is_far}
-use Rattle.token_bucket.specs.declared.limit.Dir.{Dir}
-use Rattle.ev_types.specs.declared.why.Cause.{Cause}
-use Rattle.ev_types.specs.declared.entry.Entry.{Entry}
-use Rattle.ev_types.specs.declared.entry.Entry.TheVariants as entry
-use Rattle.relay_state.specs.Counting.{is_open}
 
 -- where nothing changed, and where one change stands behind another
 pub same_link : (k : ℕ) (s : State) → SameLink k s s
@@ -310,24 +310,24 @@ passage-same k s new h e here =
     cc
 
 -- its sides want the same
-pub wants-same : (k : ℕ) (s new : State) → SameLink k s new → (e : SideId) → e.link ≡ k → (d : Dir) → wants new e d ≡ wants s e d
-wants-same k s new h e here dir.Read =
+pub wants-same : {k : ℕ} {s new : State} → SameLink k s new → (e : SideId) → e.link ≡ k → (d : Dir) → wants new e d ≡ wants s e d
+wants-same h e here dir.Read =
     let own = h.side e here in
     let far = h.side (peer e) here in
     let lane = h.lane e here in
     cc
-wants-same k s new h e here dir.Write =
+wants-same h e here dir.Write =
     let own = h.side e here in
     let lane = h.lane (peer e) here in
     cc
 
 -- a side of it lives as before
-pub open-same : (k : ℕ) (s new : State) → SameLink k s new → is_open new k ≡ is_open s k
-open-same k s new h = let own = h.side (in_side k) refl in let far = h.side (out_side k) refl in cc
+pub open-same : {k : ℕ} {s new : State} → SameLink k s new → is_open new k ≡ is_open s k
+open-same {k = k} h = let own = h.side (in_side k) refl in let far = h.side (out_side k) refl in cc
 
 -- its counts have come as far
-pub far-same : (k : ℕ) (s new : State) → SameLink k s new → is_far new k ≡ is_far s k
-far-same k s new h =
+pub far-same : {k : ℕ} {s new : State} → SameLink k s new → is_far new k ≡ is_far s k
+far-same {k = k} h =
     let a = h.flow (in_side k) refl in
     let b = h.flow (out_side k) refl in
     let c = h.lane (in_side k) refl in
@@ -366,8 +366,8 @@ entry-same k s new h (closing.PeerGone e) here =
 entry-same k s new h (closing.Shut e) here = let own = h.side e here in cc
 
 -- passing has nothing to do there still
-pub still-same : (k : ℕ) (s new : State) → SameLink k s new → IsStill s k → IsStill new k
-still-same k s new h still = (one (in_side k) refl still.0, one (out_side k) refl still.1)
+pub still-same : {k : ℕ} {s new : State} → SameLink k s new → IsStill s k → IsStill new k
+still-same {k = k} {s = s} {new = new} h still = (one (in_side k) refl still.0, one (out_side k) refl still.1)
   where
     one : (e : SideId) → e.link ≡ k → IsStillFrom s e → IsStillFrom new e
     one e here x = round-same k s new h e here ∙ x ∙ sym (passage-same k s new h e here)
@@ -383,6 +383,6 @@ steps-here k =
     all_from (λ step. link_of_step step ≡ k) (steps_of k) (refl, (refl, (refl, (refl, (refl, (refl, (refl, (refl, (refl, tt)))))))))
 
 -- closing has nothing to do there still
-pub settled-same : (k : ℕ) (s new : State) → SameLink k s new → IsSettled s k → IsSettled new k
-settled-same k s new h settled i d lt =
+pub settled-same : {k : ℕ} {s new : State} → SameLink k s new → IsSettled s k → IsSettled new k
+settled-same {k = k} {s = s} {new = new} h settled i d lt =
     ap is_some (entry-same k s new h (slice_index_or (steps_of k) i d) (steps-here k i d lt)) ∙ settled i d lt

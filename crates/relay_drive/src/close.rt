@@ -1,5 +1,5 @@
 // Closing what is to be closed of each link.
-ghost use Rattle.std.specs.Prelude.{◌≡◌, ◌×◌, ◌+◌, ◌<◌, ◌≤◌, false, [], ◌∷◌, length, Ok, OnOk};
+ghost use Rattle.std.specs.Prelude.{◌≡◌, ◌+◌, ◌<◌, ◌≤◌, false, [], ◌∷◌, length, Ok, OnOk};
 ghost use Rattle.ev_types.specs.Growth.{Grew};
 ghost use Rattle.ev_port.specs.Vouching.{LongerBy};
 ghost use Rattle.ev_types.specs.declared.entry.Entry.{Entry as EntryValue};

@@ -1,5 +1,5 @@
 // Passing both directions of each link at which passing may have something to do.
-ghost use Rattle.std.specs.Prelude.{◌≡◌, ◌×◌, ◌<◌, false, [], MatchResult, OnOk, Ok};
+ghost use Rattle.std.specs.Prelude.{◌≡◌, ◌<◌, false, [], MatchResult, OnOk, Ok};
 ghost use Rattle.relay_drive.specs.Looks.{IsKept, KeepsNames};
 ghost use Rattle.relay_drive.specs.Links.{IsStill};
 ghost use Rattle.relay_drive.specs.Moves.{OnlyForMemory};

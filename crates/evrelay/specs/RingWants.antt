@@ -1,0 +1,16 @@
+-- What the ring keeps of a table of wants.
+use Rattle.std.specs.Prelude.{◌≡◌, ◌⊎◌, ℕ, ◌*◌, ◌≤◌, List, [], ◌++◌, length}
+use Rattle.ev_types.specs.declared.entry.Entry.{Entry}
+use Rattle.ev_types.specs.declared.entry.Entry.TheVariants as entry
+use Rattle.ev_port.specs.declared.port.Want.{Want}
+use Rattle.ev_port.specs.Table.{WantsValue, named_before, named}
+
+abbrev pub want_entry : Want → Entry
+want_entry w = entry.Want w.side w.read w.write
+
+-- From this number of a side on stand the last wants: as many as are asked for at least, or all.
+pub record StartsLast (t : WantsValue) (most from : ℕ) : Type 0 where
+  pub rest : List Want
+  pub within : from ≤ 2 * t.links
+  pub split : named t ≡ named_before t from ++ rest
+  pub many : (named_before t from ≡ []) ⊎ (most ≤ length rest)
