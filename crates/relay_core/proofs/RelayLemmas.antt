@@ -454,7 +454,8 @@ module _ (v : RelayValue) (r : Inside) (is : relay_of r ≡ v) (sound : IsSound 
     seen_is = seen_inside ∙ ap (λ (z : RelayValue). passage_with z.state e before) is
 
     pub half_passes : (T : Type 0) (E : Type 0) (result : Result T E) → plain_side y ≡ with_bad y.bad (plain_side x) →
-        MatchResult result (λ _. Passed (pass_round mark hold x.flags.ended x.flags.live to_live) (passage_of x before) (passage_of y after))
+        MatchResult result
+        (λ _. Passed (pass_round mark hold x.flags.ended x.flags.live to_live) (passage_of x before) (passage_of y after))
         (λ _. SomeRounds (pass_round mark hold x.flags.ended x.flags.live to_live) (passage_of x before) (passage_of y after)) →
         MatchResult result (λ _. HalfPassed v.state e before (state_with r (slice_set r.sides.items i y)) after)
         (λ _. HalfPartlyPassed v.state e before (state_with r (slice_set r.sides.items i y)) after)
