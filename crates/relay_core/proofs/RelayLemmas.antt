@@ -24,7 +24,7 @@ use Rattle.relay_state.specs.Passing.{passage_at, with_bad, with_passage, round_
 use Rattle.relay_state.specs.Rooms.{input_length, output_length}
 use Rattle.relay_state.specs.Serving.{raise_read, raise_write, with_got, after_got}
 use Rattle.relay_core.specs.RelayValue.{RelayValue, spare_read}
-use Rattle.relay_core.specs.SideView.{plain_side, flow_of_side, lane_of, passage_of, read_mark_of}
+use Rattle.relay_core.specs.SideView.{plain_side, flow_of_side, lane_of, passage_of, reached_of, read_mark_of}
 use Rattle.relay_core.specs.SideRooms.{spare_of}
 use Rattle.relay_core.specs.SettingsView.{model_timeouts}
 use Rattle.relay_core.specs.HalfPassed.{passage_with, with_half, HalfPassed, HalfPartlyPassed}
@@ -165,6 +165,20 @@ whole_still old mid new e before after is h put = (
       ∙ ap (λ p. with_plain p old) (keeps_bad old.plain (peer e) before is),
   subst (λ b. round_from old e (passage_with old e b) ≡ passage_with old e b) is h.2,
 )
+
+-- Something changes where it did at the side, or where the other side's bad place did.
+pub whole_apart : (old mid new : State) (e : SideId) (before after : Option ℕ) → before ≡ (side_at old.plain (peer e)).bad →
+    passage_with mid e after ≢ passage_with old e before → new ≡ with_plain (change_side (peer e) (with_bad after) mid.plain) mid →
+    (side_at new.plain (peer e)).bad ≡ after → new ≢ old
+whole_apart old mid new e before after is differs put told = λ h.
+    let all = sym put ∙ h in
+    let flow : flow_at mid.plain e ≡ flow_at old.plain e = ap (λ (s : State). flow_at s.plain e) all in
+    let lane : lane_at mid e ≡ lane_at old e = ap (λ (s : State). lane_at s e) all in
+    let other = get_or-set_other mid.plain.sides (number (peer e)) (number e) (with_bad after (side_at mid.plain (peer e))) no_side
+    (λ same. peer-apart e (sym same)) in
+    let from = sym (ap (λ (x : PlainSide). x.bad) other) ∙ ap (λ (s : State). (side_at s.plain e).bad) all in
+    let to = sym told ∙ ap (λ (s : State). (side_at s.plain (peer e)).bad) h ∙ sym is in
+    differs (λ j. record { flow = flow j; lane = lane j; from_bad = from j; to_bad = to j })
 
 -- a side whose link opens is sound
 pub new_sound : (time : ℕ) (untimed connected : Bool) (m : Marks) (t : Timeouts) (x : PlainSide) → (untimed ≡ true → t ≡ no_timeouts) →
@@ -322,12 +336,27 @@ module _ (v : RelayValue) (r : Inside) (is : relay_of r ≡ v) (sound : IsSound 
       ap (λ (z : RelayValue). spare_read z e) (sym is)
       ∙ get_or-map spare_of r.sides.items (number e) x 0 in_range ∙ ap spare_of found
 
+  -- what is seen of it at its number
+  seen_put : {A : Type 0} (f : SideState → A) (none : A) (y : SideState) →
+      slice_index_or (map f (slice_set r.sides.items i y)) (number e) none ≡ f y
+  seen_put f none y =
+      ap (λ ss. get_or ss (number e) none) (map-set f r.sides.items i y ∙ ap (λ n. slice_set (map f r.sides.items) n (f y)) i_is)
+      ∙ get_or-set_same (map f r.sides.items) (number e) (f y) none
+      (subst (λ n. number e < n) (sym (length-map r.sides.items f)) in_range)
+
   pub spare_put : (y : SideState) → slice_index_or (map spare_of (slice_set r.sides.items i y)) (number e) 0 ≡ spare_of y
-  spare_put y =
-      ap (λ ss. get_or ss (number e) 0) (map-set spare_of r.sides.items i y
-      ∙ ap (λ n. slice_set (map spare_of r.sides.items) n (spare_of y)) i_is)
-      ∙ get_or-set_same (map spare_of r.sides.items) (number e) (spare_of y) 0
-      (subst (λ n. number e < n) (sym (length-map r.sides.items spare_of)) in_range)
+  spare_put y = seen_put spare_of 0 y
+
+  pub side_put : (y : SideState) → side_at (state_with r (slice_set r.sides.items i y)).plain e ≡ plain_side y
+  side_put y = seen_put plain_side no_side y
+
+  -- and of the direction that begins there
+  passage_put : (y : SideState) (to : Option ℕ) → passage_with (state_with r (slice_set r.sides.items i y)) e to ≡ passage_of y to
+  passage_put y to =
+      let flow = seen_put flow_of_side no_flow y in
+      let lane = seen_put lane_of no_lane y in
+      let bad = ap (λ (z : PlainSide). z.bad) (side_put y) in
+      λ j. record { flow = flow j; lane = lane j; from_bad = bad j; to_bad = to }
 
   -- bytes were got
 
@@ -425,7 +454,8 @@ module _ (v : RelayValue) (r : Inside) (is : relay_of r ≡ v) (sound : IsSound 
     seen_is = seen_inside ∙ ap (λ (z : RelayValue). passage_with z.state e before) is
 
     pub half_passes : (T : Type 0) (E : Type 0) (result : Result T E) → plain_side y ≡ with_bad y.bad (plain_side x) →
-        MatchResult result (λ _. Passed (pass_round mark hold x.flags.ended x.flags.live to_live) (passage_of x before) (passage_of y after))
+        MatchResult result
+        (λ _. Passed (pass_round mark hold x.flags.ended x.flags.live to_live) (passage_of x before) (passage_of y after))
         (λ _. SomeRounds (pass_round mark hold x.flags.ended x.flags.live to_live) (passage_of x before) (passage_of y after)) →
         MatchResult result (λ _. HalfPassed v.state e before (state_with r (slice_set r.sides.items i y)) after)
         (λ _. HalfPartlyPassed v.state e before (state_with r (slice_set r.sides.items i y)) after)
@@ -468,3 +498,8 @@ module _ (v : RelayValue) (r : Inside) (is : relay_of r ≡ v) (sound : IsSound 
           subst (λ g. g (passage_with v.state e before) ≡ passage_with v.state e before) f_is
               (subst (λ z. f z ≡ z) seen_is still),
         )
+
+    -- or something changed that the code compares
+    pub half_apart : reached_of (passage_of y after) ≢ reached_of (passage_of x before) →
+        passage_with (state_with r (slice_set r.sides.items i y)) e after ≢ passage_with v.state e before
+    half_apart differs = λ h. differs (ap reached_of (sym (passage_put y after) ∙ h ∙ sym seen_is))

@@ -351,7 +351,10 @@ went-apart hold x y (inl p) =
 went-apart hold x y (inr p) = λ e. p.1 (ap (λ r. r.held) e)
 
 held_again : (hold : ℕ) (x : Passage) → hold_part hold (hold_part hold x) ≡ hold_part hold x
-held_again hold x = let same = again x.flow.held (full hold x) (low hold x) in let f = x.flow in λ i. record x { flow = record f { held = same i } }
+held_again hold x =
+    let same = again x.flow.held (full hold x) (low hold x) in
+    let f = x.flow in
+    λ i. record x { flow = record f { held = same i } }
   where
     again : (h p q : Bool) → kept_back (kept_back h p q) p q ≡ kept_back h p q
     again h true q = refl

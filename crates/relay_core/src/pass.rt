@@ -331,7 +331,8 @@ impl Relay {
 
     fn set_bad(&mut self, side: SideId, place: Option<u64>)
         requires { side.link < self.old.state.plain.opened }
-        ensures { self.new.state ≡ with_plain (change_side side (with_bad place) self.old.state.plain) self.old.state }
+        ensures state { self.new.state ≡ with_plain (change_side side (with_bad place) self.old.state.plain) self.old.state }
+        ensures told { (side_at self.new.state.plain side).bad ≡ place }
     {
         let own = &mut self.sides[side.number()];
         own.bad = place;
@@ -346,6 +347,7 @@ impl Relay {
             (λ _. HalfPartlyPassed self.old.state from to_bad.old self.new.state to_bad.new) }
         ensures still { result ≡ Ok false → (self.new.state ≡ self.old.state) × (to_bad.new ≡ to_bad.old)
             × (round_from self.old.state from (passage_with self.old.state from to_bad.old) ≡ passage_with self.old.state from to_bad.old) }
+        ensures apart { result ≡ Ok true → passage_with self.new.state from to_bad.new ≢ passage_with self.old.state from to_bad.old }
     {
         let mark = self.read_mark(from);
         let hold = self.hold_mark(from.peer());
@@ -355,10 +357,10 @@ impl Relay {
         own.pass(alloc, mark, hold, to_live, to_bad)
     }
 
-    /// Passes the direction that begins at the side: rounds until one changes nothing. It answers whether one before did, and where
-    /// none did, passing again changes nothing either, until something else does. Want of memory comes between two rounds. A round
-    /// costs no more than the bytes that it moves; after a pass that changed nothing no buffer of the direction that has no byte
-    /// holds memory.
+    /// Passes the direction that begins at the side: rounds until one changes nothing. It answers whether the state changed; where it
+    /// did not, a round changes nothing either until another call does. Takes memory for what a round may make; want of it comes between
+    /// two rounds. Linear in the bytes that wait in the direction; constant where none does. Where nothing changed, no buffer of the
+    /// direction that has no byte holds memory.
     ///
     /// Own.
     pub fn pass(&mut self, from: SideId) -> Result<bool, NoMemory>
@@ -368,6 +370,7 @@ impl Relay {
             (λ _. PartlyPassed self.old.state from self.new.state) }
         ensures still { result ≡ Ok false → (self.new.state ≡ self.old.state)
             × (round_from self.old.state from (passage_at self.old.state from) ≡ passage_at self.old.state from) }
+        ensures apart { result ≡ Ok true → self.new.state ≢ self.old.state }
     {
         let mut to_bad = self.bad(from.peer());
         let result = self.pass_half(from, &mut to_bad);

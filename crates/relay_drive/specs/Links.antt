@@ -1,16 +1,16 @@
 -- What of the state belongs to one link, and when a link has nothing to be done. A step of a turn changes what belongs to one link
 -- alone, so that what was found of another one is still so.
-use Rattle.std.specs.Prelude.{◌≡◌, ℕ, ◌+◌, ◌*◌, ◌<◌, Bool, false, ◌||◌, length, is_some}
+use Rattle.std.specs.Prelude.{◌≡◌, ℕ, false, is_some}
 use Rattle.std.specs.List.{All}
 use Rattle.ev_types.specs.declared.side.SideId.{SideId}
-use Rattle.relay_model.specs.Settings.{Timeouts, no_timeouts}
 use Rattle.relay_model.specs.Plain.{side_at, flow_at}
 use Rattle.relay_core.specs.declared.close.Closing.{Closing}
+pub use Rattle.relay_core.specs.Far.{is_far_from, is_far}
+pub use Rattle.relay_core.specs.Pairs.{HasPairs}
 use Rattle.relay_core.specs.Steps as steps
 use Rattle.relay_core.specs.Steps.{steps_of}
 use Rattle.relay_state.specs.State.{State, lane_at}
 use Rattle.relay_state.specs.Passing.{passage_at, round_from}
-use Rattle.relay_state.specs.Counting.{has_flown_far, has_read_far}
 use Rattle.relay_state.specs.Closing.{in_side, out_side, closing_entry}
 
 -- what belongs to this link is as it was, and the settings
@@ -35,17 +35,3 @@ IsUncalled s step = is_some (closing_entry s (steps.close_step step)) ≡ false
 -- closing has nothing to do at this link
 abbrev pub IsSettled : State → ℕ → Type 0
 IsSettled s k = All (IsUncalled s) (steps_of k)
-
--- a count of the direction that begins at this side has come to 2^62
-abbrev pub is_far_from : State → SideId → Bool
-is_far_from s e = has_flown_far (flow_at s.plain e) || has_read_far (lane_at s e)
-
--- a count of this link has come to 2^62
-abbrev pub is_far : State → ℕ → Bool
-is_far s k = is_far_from s (in_side k) || is_far_from s (out_side k)
-
--- there are two sides and two directions for each link
-pub record HasPairs (s : State) : Type 0 where
-  pub sides : length s.plain.sides ≡ 2 * s.plain.opened
-  pub flows : length s.plain.flows ≡ 2 * s.plain.opened
-  pub lanes : length s.lanes ≡ 2 * s.plain.opened

@@ -1,8 +1,8 @@
-use Rattle.std.proofs.Common.{ap, ◌∙◌}
+use Rattle.std.proofs.Common.{sym, ap, ◌∙◌}
 use Rattle.relay_model.specs.Plain.{side_at, change_side}
 use Rattle.relay_state.specs.State.{with_plain}
 use Rattle.relay_state.specs.Passing.{with_bad}
-use Rattle.relay_core.proofs.RelayLemmas.{whole_passes, whole_still}
+use Rattle.relay_core.proofs.RelayLemmas.{whole_passes, whole_still, whole_apart}
 use Rattle.relay_core.proofs.relay.Relay.pass.Goals as goal
 
 pub returns-clause-passed : goal.returns-clause-passed
@@ -13,7 +13,7 @@ returns-clause-passed c =
     c.pass_half-result.result
     (c.bad-to_bad.ensures ∙ ap (λ e. (side_at old.plain e).bad) c.peer.ensures)
     c.pass_half-result.ensures.passed
-    (c.set_bad.ensures ∙ ap (λ e. with_plain (change_side e (with_bad c.pass_half-result.new.to_bad) mid.plain) mid) c.peer-2.ensures)
+    (c.set_bad.ensures.state ∙ ap (λ e. with_plain (change_side e (with_bad c.pass_half-result.new.to_bad) mid.plain) mid) c.peer-2.ensures)
 
 pub returns-clause-still : goal.returns-clause-still
 returns-clause-still c = λ h.
@@ -22,4 +22,15 @@ returns-clause-still c = λ h.
     whole_still old mid c.set_bad.new.self.state c.args.from c.bad-to_bad.result c.pass_half-result.new.to_bad
     (c.bad-to_bad.ensures ∙ ap (λ e. (side_at old.plain e).bad) c.peer.ensures)
     (c.pass_half-result.ensures.still h)
-    (c.set_bad.ensures ∙ ap (λ e. with_plain (change_side e (with_bad c.pass_half-result.new.to_bad) mid.plain) mid) c.peer-2.ensures)
+    (c.set_bad.ensures.state ∙ ap (λ e. with_plain (change_side e (with_bad c.pass_half-result.new.to_bad) mid.plain) mid) c.peer-2.ensures)
+
+pub returns-clause-apart : goal.returns-clause-apart
+returns-clause-apart c = λ h.
+    let old = c.args.self.now.state in
+    let mid = c.pass_half-result.new.self.state in
+    let new = c.set_bad.new.self.state in
+    whole_apart old mid new c.args.from c.bad-to_bad.result c.pass_half-result.new.to_bad
+    (c.bad-to_bad.ensures ∙ ap (λ e. (side_at old.plain e).bad) c.peer.ensures)
+    (c.pass_half-result.ensures.apart h)
+    (c.set_bad.ensures.state ∙ ap (λ e. with_plain (change_side e (with_bad c.pass_half-result.new.to_bad) mid.plain) mid) c.peer-2.ensures)
+    (ap (λ e. (side_at new.plain e).bad) (sym c.peer-2.ensures) ∙ c.set_bad.ensures.told)

@@ -1,6 +1,7 @@
-use Rattle.std.proofs.Common.{refl}
+use Rattle.std.proofs.Common.{refl, ap}
+use Rattle.relay_model.specs.Plain.{PlainSide}
 use Rattle.relay_state.specs.Passing.{with_bad}
-use Rattle.relay_core.proofs.RelayLemmas.{still_sound, changed_side}
+use Rattle.relay_core.proofs.RelayLemmas.{still_sound, changed_side, side_put}
 use Rattle.relay_core.proofs.relay.Relay.set_bad.Goals as goal
 
 pub invariant_of-self : goal.invariant_of-self
@@ -9,8 +10,14 @@ invariant_of-self c =
     c.index_mut-own.result.now c.index_mut-own.ensures.value _
     (with_bad c.args.place) (λ k. k) refl
 
-pub returns : goal.returns
-returns c =
+pub returns-clause-state : goal.returns-clause-state
+returns-clause-state c =
     changed_side c.args.self.now c.self.inside c.self.view_is c.self.invariant c.args.side c.requires c.number.result c.number.ensures
     c.index_mut-own.result.now c.index_mut-own.ensures.value _
     (with_bad c.args.place) refl refl refl
+
+pub returns-clause-told : goal.returns-clause-told
+returns-clause-told c =
+    ap (λ (x : PlainSide). x.bad)
+    (side_put c.args.self.now c.self.inside c.self.view_is c.self.invariant c.args.side c.requires c.number.result c.number.ensures
+    c.index_mut-own.result.now c.index_mut-own.ensures.value _)
