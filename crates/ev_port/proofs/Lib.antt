@@ -1,2 +1,3 @@
 pub mod StepLemmas
 pub mod NamedLemmas
+pub mod MarkLemmas
