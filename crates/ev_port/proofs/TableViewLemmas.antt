@@ -3,16 +3,19 @@ use Rattle.std.proofs.Common.{◌≡◌, ◌≢◌, ◌∙◌, ℕ, zero, suc, �
 use Rattle.std.specs.Prelude.{is_some, nat_lt, OnErr, vec_capacity}
 use Rattle.std.specs.List.{list_any}
 use Rattle.std.proofs.Math.Path.{fun_ext}
-use Rattle.std.proofs.lemmas.Bool.{cases_lt, lt-ltb, ne_eqb, eq-eqb, cases_eq}
-use Rattle.ev_types.specs.Sides.{number}
+use Rattle.std.proofs.lemmas.Bool.{cases_lt, lt-ltb, ne_eqb, or_from}
+use Rattle.ev_types.specs.declared.side.Side.{Side}
+use Rattle.ev_types.specs.declared.side.Side.TheVariants.{In, Out}
+use Rattle.ev_types.specs.declared.side.SideId.{SideId}
+use Rattle.ev_types.specs.Sides.{half, number}
 use Rattle.number_set.specs.Next.{in_either, IsNext, IsLeast, IsPrevious, IsGreatest}
 use Rattle.number_set.specs.Numbers.{NumberSetValue}
 use Rattle.ev_port.specs.declared.port.Want.{Want}
 use Rattle.ev_port.specs.declared.table.WantTable.TheInside.{Inside}
-use Rattle.ev_port.specs.Table.{WantsValue, row_by, row, wants_some, is_ready_by, rows_before, named, NextWant, PreviousWant, IsNextWanted, IsPreviousWanted}
+use Rattle.ev_port.specs.Table.{WantsValue, side_of, row_by, row, wants_some, is_ready_by, rows_before, named, NextWant, PreviousWant, IsNextWanted, IsPreviousWanted}
 use Rattle.ev_port.specs.TableCode.{same_table}
 use Rattle.ev_port.specs.TableView.{below, table_of, IsTable}
-use Rattle.ev_port.proofs.NamedLemmas.{one_if, length-named_more, length-named_le, length-named_below, length-named_changed}
+use Rattle.ev_port.proofs.NamedLemmas.{one_if, named-same, named-skip, length-named_more, length-named_le, length-named_below, length-named_changed}
 use Rattle.ev_port.proofs.MarkLemmas.{either-within, ready-none, ready-some, next-none, next-some, previous-none, previous-some}
 
 -- flags that end there are those below the end
@@ -25,6 +28,51 @@ below-same end flags none = fun_ext (λ n. elim (cases_lt n end) as (λ _. below
   none_of : (b : Bool) → (b && false) ≡ false
   none_of true = refl
   none_of false = refl
+
+-- two tables that keep the same show the same
+pub shown-same : (a b : Inside) → b.links ≡ a.links → ((n : ℕ) → b.read.has n ≡ a.read.has n) → ((n : ℕ) → b.write.has n ≡ a.write.has n)
+    → b.list.items ≡ a.list.items → table_of b ≡ table_of a
+shown-same a b links read write list =
+    let r = fun_ext read in
+    let w = fun_ext write in
+    same_table (table_of b) (table_of a) links (λ i. below (2 * links i) (r i)) (λ i. below (2 * links i) (w i)) list
+
+pub on_err : {T E P : Type 0} (r : Result T E) → P → OnErr r P
+on_err (Ok x) p = tt
+on_err (Err e) p = p
+
+row-same : (r w p q : ℕ → Bool) (n : ℕ) → p n ≡ r n → q n ≡ w n → row_by p q n ≡ row_by r w n
+row-same r w p q n a b = λ i. record { side = side_of n; read = a i; write = b i; can_read = false; can_write = false }
+
+-- a flag at another number stays
+pub flag-other : (n at : ℕ) (x y : Bool) → n ≢ at → (if n == at then x else y) ≡ y
+flag-other n at x y h = ap (λ b. if b then x else y) (ne_eqb n at h)
+
+-- one row was changed, and counted anew
+pub recounted : (r w p q : ℕ → Bool) (at end count again : ℕ) (did does : Bool) → at < end → count ≡ length (rows_before r w end)
+    → ((k : ℕ) → k ≢ at → p k ≡ r k) → ((k : ℕ) → k ≢ at → q k ≡ w k)
+    → did ≡ wants_some (row_by r w at) → does ≡ wants_some (row_by p q at) → again + cond did 1 0 ≡ count + cond does 1 0
+    → again ≡ length (rows_before p q end)
+recounted r w p q at end count again did does l c reads writes was is moved =
+    let m = length-named_changed r w p q at end l (λ k h. row-same r w p q k (reads k h) (writes k h)) in
+    let a = ap one_if was in
+    let b = ap one_if is in
+    omega (arith, m, a, b, moved, c)
+
+-- the rows of one link more, whose sides want nothing
+pub lengthened : (r w p q : ℕ → Bool) (links : ℕ) → ((n : ℕ) → p n ≡ r n) → ((n : ℕ) → q n ≡ w n)
+    → ((n : ℕ) → 2 * links ≤ n → r n ≡ false) → ((n : ℕ) → 2 * links ≤ n → w n ≡ false)
+    → rows_before p q (2 * (links + 1)) ≡ rows_before r w (2 * links)
+lengthened r w p q links reads writes none_read none_write =
+    named-same r w p q (2 * (links + 1)) (λ k l. row-same r w p q k (reads k) (writes k))
+    ∙ named-skip r w (2 * links) (2 * (links + 1)) (omega arith) (λ k a b. or_from (r k) (w k) (none_read k a) (none_write k a))
+
+half-le : (s : Side) → half s ≤ 1
+half-le In = omega arith
+half-le Out = omega arith
+
+pub number-within : (e : SideId) (links : ℕ) → e.link < links → number e < 2 * links
+number-within e links l = let h = half-le e.side in omega (arith, l, h)
 
 module _ (a : Inside) (kept : IsTable a) where
   pub reads-shown : (table_of a).reads ≡ a.read.has
