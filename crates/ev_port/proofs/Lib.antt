@@ -1,2 +1,5 @@
 pub mod StepLemmas
 pub mod NamedLemmas
+pub mod MarkLemmas
+pub mod TableViewLemmas
+pub mod PutLemmas
