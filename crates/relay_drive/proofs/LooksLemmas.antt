@@ -67,11 +67,11 @@ kept-but l l' k s s' b at gone t h =
       pass_covers = omega (arith, at.opened, t.pass_len, h.pass_covers);
       close_covers = omega (arith, at.opened, t.close_len, h.close_covers);
       want_covers = omega (arith, at.opened, t.want_len, h.want_covers);
-      open_covers = omega (arith, at.opened, t.open_len, h.open_covers);
+      live_covers = omega (arith, at.opened, t.live_len, h.live_covers);
       still = beside IsStill l.pass l'.pass k true s s' t.pass (λ e. no_false e) opened (λ j e lt p. still-same (at.others j e) p) h.still;
       settled = beside IsSettled l.close l'.close k true s s' t.close (λ e. no_false e) opened
           (λ j e lt p. settled-same (at.others j e) p) h.settled;
-      gone = beside IsGone l.open l'.open k b s s' t.open (λ e lt. gone e) opened (λ j e lt p. gone-same j s s' (at.others j e) p) h.gone;
+      gone = beside IsGone l.live l'.live k b s s' t.live (λ e lt. gone e) opened (λ j e lt p. gone-same j s s' (at.others j e) p) h.gone;
     }
 
 pub names-but : (l l' : Looks) (k : ℕ) (s s' : State) (b : Bool) → AtLink k s s' → TouchedBut b k l l' → KeepsNames l s l' s'
@@ -83,16 +83,16 @@ names-but l l' k s s' b at t = λ table h. record {
 
 -- nothing changed, and a link was found at which passing has nothing to do
 pub kept-passed : (l l' : Looks) (k : ℕ) (s : State) → IsStill s k → l'.pass.len ≡ l.pass.len →
-    ((n : ℕ) → l'.pass.has n ≡ (if n == k then false else l.pass.has n)) → l'.close ≡ l.close → l'.want ≡ l.want → l'.open ≡ l.open →
+    ((n : ℕ) → l'.pass.has n ≡ (if n == k then false else l.pass.has n)) → l'.close ≡ l.close → l'.want ≡ l.want → l'.live ≡ l.live →
     IsKept l s → IsKept l' s
-kept-passed l l' k s still len has close want open h = record {
+kept-passed l l' k s still len has close want live h = record {
   pass_covers = omega (arith, len, h.pass_covers);
   close_covers = subst (λ (z : NumberSetValue). s.plain.opened ≤ z.len) (sym close) h.close_covers;
   want_covers = subst (λ (z : NumberSetValue). s.plain.opened ≤ z.len) (sym want) h.want_covers;
-  open_covers = subst (λ (z : NumberSetValue). s.plain.opened ≤ z.len) (sym open) h.open_covers;
+  live_covers = subst (λ (z : NumberSetValue). s.plain.opened ≤ z.len) (sym live) h.live_covers;
   still = beside IsStill l.pass l'.pass k false s s has (λ e lt. still) (λ j e lt. lt) (λ j e lt p. p) h.still;
   settled = subst (λ z. HoldsBeside z IsSettled s) (sym close) h.settled;
-  gone = subst (λ z. HoldsBeside z IsGone s) (sym open) h.gone;
+  gone = subst (λ z. HoldsBeside z IsGone s) (sym live) h.gone;
 }
 
 -- or at which closing has
@@ -101,7 +101,7 @@ kept-closed l l' k s settled t h = record {
   pass_covers = subst (λ (z : NumberSetValue). s.plain.opened ≤ z.len) (sym t.2) h.pass_covers;
   close_covers = let len = t.0 in omega (arith, len, h.close_covers);
   want_covers = subst (λ (z : NumberSetValue). s.plain.opened ≤ z.len) (sym t.3) h.want_covers;
-  open_covers = subst (λ (z : NumberSetValue). s.plain.opened ≤ z.len) (sym t.4) h.open_covers;
+  live_covers = subst (λ (z : NumberSetValue). s.plain.opened ≤ z.len) (sym t.4) h.live_covers;
   still = subst (λ z. HoldsBeside z IsStill s) (sym t.2) h.still;
   settled = beside IsSettled l.close l'.close k false s s t.1 (λ e lt. settled) (λ j e lt. lt) (λ j e lt p. p) h.settled;
   gone = subst (λ z. HoldsBeside z IsGone s) (sym t.4) h.gone;
@@ -124,10 +124,10 @@ kept-all l l' s s' opened t h = record {
   pass_covers = omega (arith, opened, t.pass_len, h.pass_covers);
   close_covers = omega (arith, opened, t.close_len, h.close_covers);
   want_covers = omega (arith, opened, t.want_len, h.want_covers);
-  open_covers = omega (arith, opened, t.open_len, h.open_covers);
+  live_covers = omega (arith, opened, t.live_len, h.live_covers);
   still = beside-all IsStill l.pass l'.pass s' (omega (arith, opened, h.pass_covers)) t.pass;
   settled = beside-all IsSettled l.close l'.close s' (omega (arith, opened, h.close_covers)) t.close;
-  gone = beside-all IsGone l.open l'.open s' (omega (arith, opened, h.open_covers)) t.open;
+  gone = beside-all IsGone l.live l'.live s' (omega (arith, opened, h.live_covers)) t.live;
 }
 
 pub names-all : (l l' : Looks) (s s' : State) → s'.plain.opened ≡ s.plain.opened → TouchedAll l l' → IsKept l s → KeepsNames l s l' s'
@@ -142,7 +142,7 @@ kept-same l s s' opened same h = record {
   pass_covers = omega (arith, opened, h.pass_covers);
   close_covers = omega (arith, opened, h.close_covers);
   want_covers = omega (arith, opened, h.want_covers);
-  open_covers = omega (arith, opened, h.open_covers);
+  live_covers = omega (arith, opened, h.live_covers);
   still = λ n lt out. still-same (same n) (h.still n (subst (λ m. n < m) opened lt) out);
   settled = λ n lt out. settled-same (same n) (h.settled n (subst (λ m. n < m) opened lt) out);
   gone = λ n lt out. gone-same n s s' (same n) (h.gone n (subst (λ m. n < m) opened lt) out);
@@ -168,12 +168,12 @@ kept-covered l l' s s' o c h = record {
   pass_covers = omega (arith, o.most, c.pass.room);
   close_covers = omega (arith, o.most, c.close.room);
   want_covers = omega (arith, o.most, c.want.room);
-  open_covers = omega (arith, o.most, c.open.room);
+  live_covers = omega (arith, o.most, c.live.room);
   still = beside IsStill l.pass l'.pass s.plain.opened true s s' c.pass.has (λ e. no_false e) (opened-before s s' o)
       (λ j e lt p. still-same (o.old j lt) p) h.still;
   settled = beside IsSettled l.close l'.close s.plain.opened true s s' c.close.has (λ e. no_false e) (opened-before s s' o)
       (λ j e lt p. settled-same (o.old j lt) p) h.settled;
-  gone = beside IsGone l.open l'.open s.plain.opened true s s' c.open.has (λ e. no_false e) (opened-before s s' o)
+  gone = beside IsGone l.live l'.live s.plain.opened true s s' c.live.has (λ e. no_false e) (opened-before s s' o)
       (λ j e lt p. gone-same j s s' (o.old j lt) p) h.gone;
 }
 

@@ -34,10 +34,10 @@ pub record IsKept (l : Looks) (s : State) : Type 0 where
   pub pass_covers : s.plain.opened ≤ l.pass.len
   pub close_covers : s.plain.opened ≤ l.close.len
   pub want_covers : s.plain.opened ≤ l.want.len
-  pub open_covers : s.plain.opened ≤ l.open.len
+  pub live_covers : s.plain.opened ≤ l.live.len
   pub still : HoldsBeside l.pass IsStill s
   pub settled : HoldsBeside l.close IsSettled s
-  pub gone : HoldsBeside l.open IsGone s
+  pub gone : HoldsBeside l.live IsGone s
 
 -- the table says of this side what it wants
 abbrev pub SaysOf : WantsValue → State → SideId → Type 0
@@ -57,11 +57,11 @@ pub record TouchedBut (opened : Bool) (k : ℕ) (old new : Looks) : Type 0 where
   pub pass_len : new.pass.len ≡ old.pass.len
   pub close_len : new.close.len ≡ old.close.len
   pub want_len : new.want.len ≡ old.want.len
-  pub open_len : new.open.len ≡ old.open.len
+  pub live_len : new.live.len ≡ old.live.len
   pub pass : (n : ℕ) → new.pass.has n ≡ (if n == k then true else old.pass.has n)
   pub close : (n : ℕ) → new.close.has n ≡ (if n == k then true else old.close.has n)
   pub want : (n : ℕ) → new.want.has n ≡ (if n == k then true else old.want.has n)
-  pub open : (n : ℕ) → new.open.has n ≡ (if n == k then opened else old.open.has n)
+  pub live : (n : ℕ) → new.live.has n ≡ (if n == k then opened else old.live.has n)
 
 -- a link is in all sets
 abbrev pub Touched : ℕ → Looks → Looks → Type 0
@@ -69,12 +69,12 @@ Touched k old new = TouchedBut true k old new
 
 -- each set has a place for this link
 abbrev pub HasPlace : ℕ → Looks → Type 0
-HasPlace k l = (k < l.pass.len) × (k < l.close.len) × (k < l.want.len) × (k < l.open.len)
+HasPlace k l = (k < l.pass.len) × (k < l.close.len) × (k < l.want.len) × (k < l.live.len)
 
 -- Where closing found nothing to do at a link, it isn't looked at again; else all is looked at, and it is among the open ones where it is open.
 abbrev pub ClosingNoted : State → ℕ → Bool → Looks → Looks → Type 0
 ClosingNoted s k false old new = (new.close.len ≡ old.close.len) × ((n : ℕ) → new.close.has n ≡ (if n == k then false else old.close.has n))
-    × (new.pass ≡ old.pass) × (new.want ≡ old.want) × (new.open ≡ old.open)
+    × (new.pass ≡ old.pass) × (new.want ≡ old.want) × (new.live ≡ old.live)
 ClosingNoted s k true old new = TouchedBut (is_open s k) k old new
 
 -- no link of the set is one from a number up to another
@@ -92,22 +92,22 @@ pub record IsCovered (k : ℕ) (old new : Looks) : Type 0 where
   pub pass : Covers k old.pass new.pass
   pub close : Covers k old.close new.close
   pub want : Covers k old.want new.want
-  pub open : Covers k old.open new.open
+  pub live : Covers k old.live new.live
 
 -- all links with a place are in all sets
 pub record TouchedAll (old new : Looks) : Type 0 where
   pub pass_len : new.pass.len ≡ old.pass.len
   pub close_len : new.close.len ≡ old.close.len
   pub want_len : new.want.len ≡ old.want.len
-  pub open_len : new.open.len ≡ old.open.len
+  pub live_len : new.live.len ≡ old.live.len
   pub pass : (n : ℕ) → n < old.pass.len → new.pass.has n ≡ true
   pub close : (n : ℕ) → n < old.close.len → new.close.has n ≡ true
   pub want : (n : ℕ) → n < old.want.len → new.want.has n ≡ true
-  pub open : (n : ℕ) → n < old.open.len → new.open.has n ≡ true
+  pub live : (n : ℕ) → n < old.live.len → new.live.has n ≡ true
 
 -- only the set of wants to be looked at may have changed, and it is as long
 abbrev pub SameBesideWants : Looks → Looks → Type 0
-SameBesideWants old new = (new.pass ≡ old.pass) × (new.close ≡ old.close) × (new.open ≡ old.open) × (new.want.len ≡ old.want.len)
+SameBesideWants old new = (new.pass ≡ old.pass) × (new.close ≡ old.close) × (new.live ≡ old.live) × (new.want.len ≡ old.want.len)
 
 -- Of one side the table says what it wants, and of every other one what it said.
 pub record NamedSide (s : State) (e : SideId) (old new : WantsValue) : Type 0 where

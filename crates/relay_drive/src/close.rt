@@ -149,7 +149,7 @@ fn note_closing(relay: &Relay, looks: &mut Looks, link: u32, any: bool)
     }
     looks.touch(link);
     if !relay.is_open(link) {
-        looks.open.remove(link as usize);
+        looks.live.remove(link as usize);
     }
 }
 

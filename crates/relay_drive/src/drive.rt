@@ -126,7 +126,7 @@ impl Drive {
             return self.run.relay.open_links() > 0;
         }
         let mut from = 0;
-        while let Some(link) = next_link(&self.looks.open, from, self.run.relay.opened()) {
+        while let Some(link) = next_link(&self.looks.live, from, self.run.relay.opened()) {
             if self.run.relay.is_open(link) {
                 return true;
             }

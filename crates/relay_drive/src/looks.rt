@@ -8,14 +8,14 @@ use crate::fault::DriveFault;
 use number_set::NumberSet;
 use std::alloc::Global;
 
-/// The links at which passing and closing may have something to do, those that may be open, and those of which the table of wants
+/// The links at which passing and closing may have something to do, those that may have a live side, and those of which the table of wants
 /// may not be right. A link that isn't in a set was looked at, and nothing changed there since.
 #[derive(Drop)]
 pub(crate) struct Looks {
     pub(crate) pass: NumberSet,
     pub(crate) close: NumberSet,
     pub(crate) want: NumberSet,
-    pub(crate) open: NumberSet,
+    pub(crate) live: NumberSet,
 }
 
 /// The first of the opened links from `from` on that is in the set.
@@ -53,13 +53,13 @@ impl Looks {
         ensures pass { result.pass.len ≡ 0 }
         ensures close { result.close.len ≡ 0 }
         ensures want { result.want.len ≡ 0 }
-        ensures open { result.open.len ≡ 0 }
+        ensures live { result.live.len ≡ 0 }
     {
         Looks {
             pass: NumberSet::new(alloc),
             close: NumberSet::new(alloc),
             want: NumberSet::new(alloc),
-            open: NumberSet::new(alloc),
+            live: NumberSet::new(alloc),
         }
     }
 
@@ -68,14 +68,14 @@ impl Looks {
         requires pass { link ≤ self.old.pass.len }
         requires close { link ≤ self.old.close.len }
         requires want { link ≤ self.old.want.len }
-        requires open { link ≤ self.old.open.len }
+        requires live { link ≤ self.old.live.len }
         ensures covered { OnOk result (IsCovered link self.old self.new) }
         ensures cause { OnlyForMemory result }
     {
         cover(&mut self.pass, link)?;
         cover(&mut self.close, link)?;
         cover(&mut self.want, link)?;
-        cover(&mut self.open, link)
+        cover(&mut self.live, link)
     }
 
     /// Something changed at this link. Takes no memory; constant.
@@ -83,13 +83,13 @@ impl Looks {
         requires pass { link < self.old.pass.len }
         requires close { link < self.old.close.len }
         requires want { link < self.old.want.len }
-        requires open { link < self.old.open.len }
+        requires live { link < self.old.live.len }
         ensures { Touched link self.old self.new }
     {
         self.pass.insert(link as usize);
         self.close.insert(link as usize);
         self.want.insert(link as usize);
-        self.open.insert(link as usize);
+        self.live.insert(link as usize);
     }
 
     /// Something may have changed at every link. Takes no memory; linear in the number of links.
@@ -99,6 +99,6 @@ impl Looks {
         self.pass.fill();
         self.close.fill();
         self.want.fill();
-        self.open.fill();
+        self.live.fill();
     }
 }

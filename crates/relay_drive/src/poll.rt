@@ -3,10 +3,10 @@ ghost use Rattle.std.specs.Prelude.{◌≡◌, ◌+◌, ◌<◌, ◌≤◌, ◌�
 ghost use Rattle.ev_types.specs.Growth.{Grew};
 ghost use Rattle.ev_port.specs.Counting.{counted};
 ghost use Rattle.ev_port.specs.Polling.{ready_events};
-ghost use Rattle.ev_port.specs.Table.{named};
+ghost use Rattle.ev_port.specs.Table.{named, RowsStay};
 ghost use Rattle.relay_drive.specs.Phases.{wanted, CutPoll, CutPolling, AllOpened};
 ghost use Rattle.relay_drive.specs.Known.{Point, begun_if};
-ghost use Rattle.relay_drive.specs.Looks.{IsKept, IsNamed, IsNamedRight, OthersNamed, SameBesideWants, PollsListed, PollsAndAcceptsListed};
+ghost use Rattle.relay_drive.specs.Looks.{IsKept, IsNamed, NamedSide, NamedLink, OldRowsStay, SameBesideWants, PollsListed, PollsAndAcceptsListed};
 ghost use Rattle.relay_drive.specs.Moves.{Moves, GetsTo, OnlyForMemory};
 
 use crate::accept::accept;
@@ -114,7 +114,7 @@ fn ask_poll<P: Port, S: Scribe>(
         (λ fault. Moves P.Port S.Scribe Point.Begun Point.Accepting false (CutPoll fault)
         (run.old, port.old, scribe.old) (run.new, port.new, scribe.new)) }
     ensures kept { run.new.relay ≡ run.old.relay }
-    ensures rows { OnOk result (SameRows wants.old wants.new) }
+    ensures rows { OnOk result (RowsStay wants.old wants.new) }
     ensures opened { OnOk result (AllOpened wants.new.list wants.old.links) }
 {
     let count = wants.count();
