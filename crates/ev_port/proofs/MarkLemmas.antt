@@ -90,7 +90,7 @@ pub marked-found : (r w : ℕ → Bool) (x y : NumberSetValue) (from n : ℕ) �
 marked-found r w x y from n h =
     marked-some r w x y n (sym (either-marked r w x y n) ∙ h.passes)
     ∙ ap (λ ws. ws ++ marked_by x y (row_by r w n) ∷ []) (stays_between (marked_before r w x y) from n h.reached
-        (λ k a b. marked-none r w x y k (sym (either-marked r w x y k) ∙ h.none_before k a b)))
+    (λ k a b. marked-none r w x y k (sym (either-marked r w x y k) ∙ h.none_before k a b)))
 
 pub marked-all : (r w : ℕ → Bool) (x y : NumberSetValue) (from to : ℕ) → from ≤ to → ((k : ℕ) → from ≤ k → in_either r x.has w y.has k ≡ false)
     → marked_before r w x y to ≡ marked_before r w x y from
@@ -120,7 +120,7 @@ any-some : (p : Want → Bool) (r w : ℕ → Bool) (at n : ℕ) → at < n → 
 any-some p r w at zero l a b = absurd (omega (arith, l))
 any-some p r w at (suc n) l a b = any-more p r w n ∙ elim (cases_eq at n) [
   | inl e ↦ or_right (list_any p (rows_before r w n)) _
-        (ap (λ k. list_any p (filter wants_some (row_by r w k ∷ []))) (sym e) ∙ one-any p (row_by r w at) true a ∙ ap (λ q. q || false) b)
+      (ap (λ k. list_any p (filter wants_some (row_by r w k ∷ []))) (sym e) ∙ one-any p (row_by r w at) true a ∙ ap (λ q. q || false) b)
   | inr e ↦ or_left (list_any p (rows_before r w n)) _ (any-some p r w at n (omega (arith, l, e)) a b)
 ]
 
@@ -171,7 +171,7 @@ module _ (t : WantsValue) where
         within = omega (arith, e, below);
         named =
             named-skip t.reads t.writes (n + 1) before (omega (arith, first))
-                (λ k a b. sym (either-same t.reads t.writes k) ∙ h.none_after k (omega (arith, a)) b)
+            (λ k a b. sym (either-same t.reads t.writes k) ∙ h.none_after k (omega (arith, a)) b)
             ∙ named-some t.reads t.writes n (sym (either-same t.reads t.writes n) ∙ h.passes)
             ∙ ap (λ m. named_before t m ++ row t n ∷ []) (sym e);
       }
