@@ -1,5 +1,5 @@
 -- The wants of a table put one by one, and where the wants that a poll lists come from.
-use Rattle.std.proofs.Common.{◌≡◌, ◌∙◌, ℕ, zero, suc, ◌+◌, ◌-◌, ◌*◌, ◌/◌, ◌<◌, ◌≤◌, Bool, true, false, cond, List, [], ◌∷◌, ◌++◌, length, get_or, Option, Some, None, refl, sym, ap, subst, arith, append_assoc, length-append}
+use Rattle.std.proofs.Common.{◌≡◌, ◌∙◌, ℕ, zero, suc, ◌+◌, ◌-◌, ◌*◌, ◌/◌, ◌<◌, ◌≤◌, Bool, true, false, cond, List, [], ◌∷◌, ◌++◌, length, Option, Some, None, refl, sym, ap, subst, arith, append_assoc, length-append}
 use Rattle.std.specs.Prelude.{filter, slice_index_or}
 use Rattle.std.specs.List.{All}
 use Rattle.std.proofs.lemmas.List.Elements.{All-append, All-cons, All-filter, All-nil}
@@ -71,5 +71,6 @@ pub listed-opened : {Plan : Type 0} (old new : WantsValue) (timeout : Option ℕ
 listed-opened old new timeout result told told' by by' p =
     let marked : All (IsOpened old) p.marked = λ i d l.
     let within : i < length (named old) = let m = p.many in omega (arith, l, m) in
-    subst (λ (e : SideId). e.link < old.links) (sym (p.marks i d within).side) (named-opened old (2 * old.links) (omega arith) i d within) in
+    subst (λ (e : SideId). e.link < old.links) (sym (p.marks i d within).side)
+    (named-opened old (2 * old.links) (omega arith) i d within) in
     subst (All (IsOpened old)) (sym p.list) (All-filter is_marked (IsOpened old) p.marked marked)

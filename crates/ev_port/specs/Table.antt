@@ -62,7 +62,10 @@ is_ready_by readable writable w = (w.read && readable.has (number w.side)) || (w
 
 -- the want with a mark at what can be done
 abbrev pub marked_by : NumberSetValue → NumberSetValue → Want → Want
-marked_by readable writable w = record w { can_read = w.read && readable.has (number w.side); can_write = w.write && writable.has (number w.side) }
+marked_by readable writable w = record w {
+  can_read = w.read && readable.has (number w.side);
+  can_write = w.write && writable.has (number w.side);
+}
 
 -- the want is that of the first side from a number on that wants something
 pub record NextWant (t : WantsValue) (from : ℕ) (w : Want) : Type 0 where

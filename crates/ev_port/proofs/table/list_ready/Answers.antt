@@ -1,4 +1,4 @@
-use Rattle.std.proofs.Common.{◌≡◌, ◌∙◌, ◌<◌, sym, arith, true}
+use Rattle.std.proofs.Common.{◌∙◌, sym, arith}
 use Rattle.std.proofs.lemmas.Grind.{common_steps}
 use Rattle.ev_port.proofs.MarkLemmas.{either-within, marked-all, marked-found}
 use Rattle.ev_port.proofs.table.list_ready.Goals as goal

@@ -1,4 +1,4 @@
-use Rattle.std.proofs.Common.{◌≡◌, ◌≢◌, ◌∙◌, ℕ, ◌+◌, ◌*◌, ◌<◌, ◌≤◌, length, ap, sym, refl, arith}
+use Rattle.std.proofs.Common.{◌∙◌, length, ap, sym, refl, arith}
 use Rattle.ev_port.specs.declared.table.WantTable.TheInside.{Inside}
 use Rattle.ev_port.proofs.TableViewLemmas.{lengthened, on_err, shown-same}
 use Rattle.ev_port.proofs.table.WantTable.push_link.Goals as goal
@@ -28,7 +28,8 @@ invariant_of-self-2 c =
     let read_long = c.in_ok-lengthen.ensures.long in
     let write_long = c.in_ok-lengthen-2.ensures.long in
     let room = c.in_ok-reserve.ensures.ok in
-    let rows = ap length (lengthened a.read.has a.write.has c.lengthen.new.set.has c.lengthen-2.new.set.has a.links c.lengthen.ensures.members
+    let rows = ap length (lengthened a.read.has a.write.has c.lengthen.new.set.has c.lengthen-2.new.set.has a.links
+    c.lengthen.ensures.members
     c.lengthen-2.ensures.members kept.read_end kept.write_end) in
     record {
       read_long = omega (arith, read_long);

@@ -1,5 +1,4 @@
 use Rattle.std.proofs.Common.{◌≡◌, ◌≢◌, ◌∙◌, ℕ, ◌*◌, ◌<◌, ◌≤◌, ap, sym, subst, arith}
-use Rattle.ev_types.specs.Sides.{number}
 use Rattle.ev_port.specs.Table.{WantsValue}
 use Rattle.ev_port.proofs.TableViewLemmas.{counted-few, counted-some, flag-other, number-within, recounted}
 use Rattle.ev_port.proofs.table.WantTable.set.Goals as goal
