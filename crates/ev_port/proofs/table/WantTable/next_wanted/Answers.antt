@@ -16,5 +16,5 @@ row_of-requires c =
 
 pub returns : goal.returns
 returns c =
-    next-some_shown c.self.inside c.self.invariant c.args.self.now c.self.view_is c.args.from c.in_ok-number.number c.in_ok-number.ensures.next
-    c.row_of.result c.row_of.ensures
+    next-some_shown c.self.inside c.self.invariant c.args.self.now c.self.view_is c.args.from c.in_ok-number.number
+    c.in_ok-number.ensures.next c.row_of.result c.row_of.ensures
