@@ -1,5 +1,5 @@
 -- The wants of a table put one by one, and where the wants that a poll lists come from.
-use Rattle.std.proofs.Common.{◌≡◌, ◌∙◌, ℕ, zero, suc, ◌+◌, ◌-◌, ◌*◌, ◌/◌, ◌<◌, ◌≤◌, Bool, true, false, cond, List, [], ◌∷◌, ◌++◌, length, get_or, Option, Some, None, refl, sym, ap, subst, arith, append_assoc, length-append}
+use Rattle.std.proofs.Common.{◌≡◌, ◌∙◌, ℕ, zero, suc, ◌+◌, ◌-◌, ◌*◌, ◌/◌, ◌<◌, ◌≤◌, Bool, true, false, cond, List, [], ◌∷◌, ◌++◌, length, Option, Some, None, refl, sym, ap, subst, arith, append_assoc, length-append}
 use Rattle.std.specs.Prelude.{filter, slice_index_or}
 use Rattle.std.specs.List.{All}
 use Rattle.std.proofs.lemmas.List.Elements.{All-append, All-cons, All-filter, All-nil}
@@ -21,8 +21,8 @@ grew_twice None b c xs ys p q = tt
 grew_twice (Some u) None c xs ys p q = absurd (cc)
 grew_twice (Some u) (Some v) c xs ys p q = q ∙ ap Some (ap (λ z. z ++ ys) (some p) ∙ append_assoc u xs ys)
   where
-  some : {x y : Trace} → ◌≡◌ {A = Option Trace} (Some x) (Some y) → x ≡ y
-  some h = cc
+    some : {x y : Trace} → ◌≡◌ {A = Option Trace} (Some x) (Some y) → x ≡ y
+    some h = cc
 
 events_push : (ws : List Want) (w : Want) → want_events (ws ++ w ∷ []) ≡ want_events ws ++ (entry.Want w.side w.read w.write, []) ∷ []
 events_push [] w = refl
@@ -62,14 +62,16 @@ named-opened t zero l = All-nil (IsOpened t)
 named-opened t (suc n) l =
     let below : n / 2 < t.links = omega (arith, l) in
     All-append (IsOpened t) (named_before t n) (filter wants_some (row t n ∷ [])) (named-opened t n (omega (arith, l)))
-        (one-opened t (row t n) (wants_some (row t n)) below)
+    (one-opened t (row t n) (wants_some (row t n)) below)
 
 -- what a poll lists belongs to links that have rows
-pub listed-opened : {Plan : Type 0} (old new : WantsValue) (timeout : Option ℕ) (result : Polled) (told told' : SideId → EndTold)
-    (by by' : Plan → Trace → Type 0) → TablePolled old new timeout result told told' by by'
+pub listed-opened : {Plan : Type 0} {old new : WantsValue} {timeout : Option ℕ} {result : Polled} {told told' : SideId → EndTold}
+    {vouches vouches' : Plan → Trace → Type 0} → TablePolled old new timeout result told told' vouches vouches'
     → (i : ℕ) (d : Want) → i < length new.list → (slice_index_or new.list i d).side.link < old.links
-listed-opened old new timeout result told told' by by' p =
-    let marked : All (IsOpened old) p.marked = λ i d l.
-        let within : i < length (named old) = let m = p.many in omega (arith, l, m) in
-        subst (λ (e : SideId). e.link < old.links) (sym (p.marks i d within).side) (named-opened old (2 * old.links) (omega arith) i d within) in
+listed-opened {Plan} {old} {new} {timeout} {result} {told} {told'} {vouches} {vouches'} p =
+    let marked : All (IsOpened old) p.marked =
+    λ i d l.
+    let within : i < length (named old) = let m = p.many in omega (arith, l, m) in
+    subst (λ (e : SideId). e.link < old.links) (sym (p.marks i d within).side)
+    (named-opened old (2 * old.links) (omega arith) i d within) in
     subst (All (IsOpened old)) (sym p.list) (All-filter is_marked (IsOpened old) p.marked marked)

@@ -119,7 +119,7 @@ pub empty_kept : IsKept [] 0
 empty_kept = record {
   enough = omega arith;
   tight = omega arith;
-  few = omega arith;
+  fits = omega arith;
   none_past = λ n past. has_number_past [] n (omega arith);
 }
 
@@ -129,7 +129,7 @@ pub filled_kept : (words full : List ℕ) (len : ℕ) → IsKept words len → l
 filled_kept words full len kept same numbers = record {
   enough = omega arith;
   tight = omega arith;
-  few = omega arith;
+  fits = omega arith;
   none_past = λ n past.
       elim (cases_lt n (64 * length words)) [
         | inl within ↦ numbers n within ∙ le-ltb n len past

@@ -1,5 +1,5 @@
 // A set of the numbers below a length, and the walks from member to member, up and down.
-ghost use Rattle.std.specs.Prelude.{◌≡◌, ℕ, ◌+◌, ◌<◌, ◌==◌, Bool, true, false, IfSome, OnOk, OnErr, if◌then◌else◌};
+ghost use Rattle.std.specs.Prelude.{◌≡◌, ℕ, ◌+◌, ◌^◌, ◌<◌, ◌==◌, Bool, true, false, IfSome, OnOk, OnErr, if◌then◌else◌};
 ghost use Rattle.number_set.specs.Next.{in_either, IsNext, IsPrevious};
 
 use crate::words::{fill_words, has_number, make_room, next_number, previous_number, put_number};
@@ -121,13 +121,15 @@ impl NumberSet {
         has_number(&self.words, number)
     }
 
-    /// The least member from a number on, that number included, or None where there is none. Takes no
-    /// memory; linear in the length that is passed over, 64 numbers at a time.
+    /// The least member from a number on, that number included, or None where there is none. It can be
+    /// asked again from the number after it. Takes no memory; linear in the length that is passed over,
+    /// 64 numbers at a time.
     ///
     /// Own.
     pub fn next(&self, from: usize) -> Option<usize>
         ensures next { IsNext self.now.has from result }
         ensures within { IfSome result (λ n. n < self.now.len) }
+        ensures small { IfSome result (λ n. n + 1 < 2 ^ 64) }
     {
         next_number(&self.words, &self.words, &self.words, &self.words, from)
     }
@@ -144,8 +146,9 @@ impl NumberSet {
     }
 
     /// The least number from a number on, that number included, that is in both sets of `a` or in
-    /// both sets of `b`, or None where there is none. The sets may have different lengths. Takes no
-    /// memory; linear in the length that is passed over, 64 numbers at a time.
+    /// both sets of `b`, or None where there is none. The sets may have different lengths. It can be
+    /// asked again from the number after it. Takes no memory; linear in the length that is passed over,
+    /// 64 numbers at a time.
     ///
     /// Own.
     pub fn next_in_either(
@@ -153,8 +156,9 @@ impl NumberSet {
         b: (&NumberSet, &NumberSet),
         from: usize,
     ) -> Option<usize>
-        ensures { IsNext
-            (in_either a.entry.0.now.has a.entry.1.now.has b.entry.0.now.has b.entry.1.now.has) from result }
+        ensures next { IsNext (in_either a.entry.0.now.has a.entry.1.now.has
+            b.entry.0.now.has b.entry.1.now.has) from result }
+        ensures small { IfSome result (λ n. n + 1 < 2 ^ 64) }
     {
         let (first, second) = a;
         let (third, fourth) = b;
@@ -177,8 +181,8 @@ impl NumberSet {
         b: (&NumberSet, &NumberSet),
         before: usize,
     ) -> Option<usize>
-        ensures { IsPrevious
-            (in_either a.entry.0.now.has a.entry.1.now.has b.entry.0.now.has b.entry.1.now.has) before result }
+        ensures { IsPrevious (in_either a.entry.0.now.has a.entry.1.now.has
+            b.entry.0.now.has b.entry.1.now.has) before result }
     {
         let (first, second) = a;
         let (third, fourth) = b;
