@@ -1,7 +1,9 @@
 -- What is done for each of a list, step by step.
 use Rattle.std.proofs.Common.{◌≡◌, ℕ, zero, suc, ◌+◌, ◌-◌, ◌<◌, false, List, [], ◌∷◌, ◌++◌, length, take, drop, get_or, Option, refl, sym, ◌∙◌, ap, subst, arith, append_assoc, append-nil, drop-cons, add-one}
 use Rattle.std.proofs.Math.Seq.{take-suc}
+use Rattle.std.specs.List.{All}
 use Rattle.std.proofs.lemmas.List.{take-append-drop}
+use Rattle.std.proofs.lemmas.List.Elements.{All-push}
 use Rattle.ev_types.specs.Trace.{Trace}
 use Rattle.ev_port.specs.Faults.{Faults}
 use Rattle.relay_state.specs.State.{State}
@@ -70,6 +72,11 @@ each_push R (y ∷ ys) x h =
 
 pub taken_next : {X : Type 0} (xs : List X) (i : ℕ) (d : X) → i < length xs → take (i + 1) xs ≡ take i xs ++ get_or xs i d ∷ []
 taken_next xs i d h = rw add-one (take-suc xs i d h)
+
+-- what holds of the first of a list and of the next one
+pub all_taken : {X : Type 0} (P : X → Type 0) (xs : List X) (i : ℕ) (d : X) → i < length xs → All P (take i xs) → P (get_or xs i d) →
+    All P (take (i + 1) xs)
+all_taken P xs i d h all one = subst (All P) (sym (taken_next xs i d h)) (All-push P (take i xs) (get_or xs i d) all one)
 
 pub goes_next : {Plan : Type 0} →
     {X : Type 0} (R : X → State → Trace → State → Type 0) {old mid new : Run} {l m n : Option Trace} {v w x : Known Plan}

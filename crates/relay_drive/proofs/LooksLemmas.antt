@@ -20,11 +20,11 @@ use Rattle.relay_drive.proofs.LinkParts.{still-same, settled-same, wants-same, o
 
 -- by whether two numbers are the same
 by_same : {A : Type 0} (n k : ℕ) → (n ≡ k → n == k ≡ true → A) → (n ≢ k → n == k ≡ false → A) → A
-by_same {A = A} n k yes no = go (n == k) refl
+by_same {A = A} n k same apart = go (n == k) refl
   where
     go : (b : Bool) → n == k ≡ b → A
-    go true e = yes (eqb-true n k e) e
-    go false e = no (eqb-false n k e) e
+    go true e = same (eqb-true n k e) e
+    go false e = apart (eqb-false n k e) e
 
 -- What holds of the links beside a set still does, where the set changed at one link alone, and so did the state.
 beside : (P : State → ℕ → Type 0) (old new : NumberSetValue) (k : ℕ) (b : Bool) (s s' : State) →

@@ -1,6 +1,8 @@
 -- The entries of a poll, and what sides want.
 use Rattle.std.proofs.Common.{◌≡◌, inl, inr, ℕ, zero, suc, ◌+◌, Bool, true, false, ◌||◌, List, [], ◌∷◌, ◌++◌, length, take, if◌then◌else◌, Option, refl, sym, ◌∙◌, ap, subst, arith, append_assoc, append-nil}
+use Rattle.std.specs.Prelude.{◌≤◌, filter}
 use Rattle.std.proofs.lemmas.List.Folds.{list_any-append}
+use Rattle.ev_port.specs.Table.{is_marked}
 use Rattle.stream_words.specs.Faults.{Counted}
 use mathlib.Core.Logic.{◌⊎◌}
 use Rattle.ev_types.specs.declared.side.SideId.{SideId}
@@ -137,3 +139,18 @@ written_back n new rest e = ap (λ m. take m (new ++ rest)) e ∙ take_front new
     take_front : {X : Type 0} (xs ys : List X) → take (length xs) (xs ++ ys) ≡ xs
     take_front [] ys = refl
     take_front (x ∷ xs) ys = ap (λ z. x ∷ z) (take_front xs ys)
+
+-- a want has one entry
+pub length-want_events : (ws : List Want) → length (want_events ws) ≡ length ws
+length-want_events [] = refl
+length-want_events (w ∷ ws) = let rest = length-want_events ws in omega (arith, rest)
+
+-- no more are marked than there are
+pub length-marked : (ws : List Want) → length (filter is_marked ws) ≤ length ws
+length-marked [] = omega arith
+length-marked (w ∷ ws) = go (is_marked w) (length-marked ws)
+  where
+    go : (b : Bool) → length (filter is_marked ws) ≤ length ws →
+        length (if b then w ∷ filter is_marked ws else filter is_marked ws) ≤ length (w ∷ ws)
+    go true h = omega (arith, h)
+    go false h = omega (arith, h)

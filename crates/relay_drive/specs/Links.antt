@@ -3,6 +3,7 @@
 use Rattle.std.specs.Prelude.{◌≡◌, ℕ, false, is_some}
 use Rattle.std.specs.List.{All}
 use Rattle.ev_types.specs.declared.side.SideId.{SideId}
+use Rattle.relay_model.specs.Settings.{no_timeouts}
 use Rattle.relay_model.specs.Plain.{side_at, flow_at}
 use Rattle.relay_core.specs.declared.close.Closing.{Closing}
 pub use Rattle.relay_core.specs.Far.{is_far_from, is_far}
@@ -19,6 +20,10 @@ pub record SameLink (k : ℕ) (s new : State) : Type 0 where
   pub side : (e : SideId) → e.link ≡ k → side_at new.plain e ≡ side_at s.plain e
   pub flow : (e : SideId) → e.link ≡ k → flow_at new.plain e ≡ flow_at s.plain e
   pub lane : (e : SideId) → e.link ≡ k → lane_at new e ≡ lane_at s e
+
+-- no side gets a timeout as its link opens
+abbrev pub IsUntimed : State → Type 0
+IsUntimed s = (s.settings.in_timeouts ≡ no_timeouts) × (s.settings.out_timeouts ≡ no_timeouts)
 
 -- a round of the direction that begins at this side changes nothing
 abbrev pub IsStillFrom : State → SideId → Type 0

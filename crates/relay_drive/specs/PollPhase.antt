@@ -1,5 +1,5 @@
 -- The poll, and accepting, as relations of the relay's state; and where they can be cut off.
-use Rattle.std.specs.Prelude.{◌≡◌, ◌⊎◌, ℕ, zero, suc, ◌<◌, ◌≤◌, Bool, true, false, ◌||◌, nat_lt, List, [], ◌∷◌, ◌++◌, length, filter, MatchBool}
+use Rattle.std.specs.Prelude.{◌≡◌, ◌⊎◌, ℕ, zero, suc, ◌<◌, ◌≤◌, Bool, true, false, nat_lt, List, [], ◌∷◌, ◌++◌, length, filter, MatchBool}
 use Rattle.token_bucket.specs.declared.limit.Dir.TheVariants as dir
 use Rattle.ev_types.specs.declared.side.SideId.{SideId}
 use Rattle.ev_types.specs.Trace.{Trace}
@@ -15,15 +15,13 @@ use Rattle.relay_drive.specs.declared.fault.DriveFault.TheVariants as fault
 use Rattle.relay_drive.specs.Steps.{Nothing, Then}
 use Rattle.relay_drive.specs.Calls.{Opens}
 use Rattle.relay_drive.specs.Steps.{links_from}
+pub use Rattle.ev_port.specs.Table.{wants_some}
 
 -- Polling
 
 -- what a side wants, with no mark yet
 abbrev pub want_of : State → SideId → Want
 want_of s e = record { side = e; read = wants s e dir.Read; write = wants s e dir.Write; can_read = false; can_write = false }
-
-abbrev pub wants_some : Want → Bool
-wants_some w = w.read || w.write
 
 -- a side is wanted where it wants something
 abbrev pub wants_of : State → SideId → List Want

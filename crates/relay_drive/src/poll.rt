@@ -1,5 +1,5 @@
 // Polling: what the sides want, and what the port marks of that.
-ghost use Rattle.std.specs.Prelude.{◌≡◌, ◌+◌, ◌<◌, ◌≤◌, ◌∷◌, [], false, length, MatchResult, OnOk};
+ghost use Rattle.std.specs.Prelude.{◌≡◌, ◌+◌, ◌*◌, ◌<◌, ◌≤◌, ◌∷◌, [], false, length, MatchResult, OnOk};
 ghost use Rattle.ev_types.specs.Growth.{Grew};
 ghost use Rattle.ev_port.specs.Counting.{counted};
 ghost use Rattle.ev_port.specs.Polling.{ready_events};
@@ -99,6 +99,13 @@ fn put_marks<S: Scribe>(entries: &mut u64, scribe: &mut S, wants: &[Want])
     }
 }
 
+/// For how many entries there must be room: a want and a mark of each side, and two.
+fn most_entries(wants: &WantTable) -> usize
+    ensures { 2 * length (named wants.now) + 2 ≤ result }
+{
+    4 * wants.links() as usize + 2
+}
+
 /// Polls for the wants of the table, and for links where more are allowed. It answers whether links are ready; the table lists the
 /// wants that were marked.
 fn ask_poll<P: Port, S: Scribe>(
@@ -118,7 +125,7 @@ fn ask_poll<P: Port, S: Scribe>(
     ensures opened { OnOk result (AllOpened wants.new.list wants.old.links) }
 {
     let count = wants.count();
-    scribe.reserve(count.saturating_mul(2).saturating_add(2), 0)?;
+    scribe.reserve(most_entries(wants), 0)?;
     let can_open = run.relay.can_open();
     let timeout = run.relay.poll_timeout();
     put(&mut run.entries, scribe, Entry::Poll { timeout }, &[]);

@@ -1,11 +1,12 @@
 // One turn: its phases in their order. What time brings is done as the relay begins the turn. There is no hook yet, so that the phase of
 // dispatch has nothing to do.
-ghost use Rattle.std.specs.Prelude.{◌≡◌, ◌<◌, ◌^◌, ◌||◌, true, false, nat_le, length, Err, MatchResult, OnOk};
+ghost use Rattle.std.specs.Prelude.{◌≡◌, ℕ, ◌<◌, ◌^◌, ◌||◌, true, false, nat_le, length, Err, MatchResult, OnOk};
 ghost use Rattle.relay_state.specs.Counting.{is_spent};
 ghost use Rattle.relay_drive.specs.declared.fault.DriveFault.TheVariants.{Spent};
 ghost use Rattle.relay_drive.specs.Steps.{Nothing};
 ghost use Rattle.relay_drive.specs.Phases.{Turns, CutTurn, TicksOnce};
 ghost use Rattle.relay_drive.specs.Known.{Point};
+ghost use Rattle.relay_drive.specs.Links.{SameLink, IsUntimed};
 ghost use Rattle.relay_drive.specs.Looks.{HoldsBeside, IsNear, IsKept, IsNamed, KeepsNames};
 ghost use Rattle.relay_drive.specs.Moves.{Moves, GetsTo, OnlyForMemory};
 
@@ -22,6 +23,28 @@ use relay_core::Relay;
 
 /// The number of entries at which a trace is too long for another turn.
 const SPENT: u64 = 1 << 62;
+
+/// Reads the port's clock once.
+fn read_clock<P: Port, S: Scribe>(
+    run: &mut Run,
+    port: &mut P,
+    scribe: &mut S,
+) -> Result<(), DriveFault>
+    requires turns { run.old.relay.state.plain.turn < 2 ^ 62 }
+    ensures went { MatchResult result
+        (λ _. Moves P.Port S.Scribe Point.Between Point.Begun false TicksOnce
+        (run.old, port.old, scribe.old) (run.new, port.new, scribe.new))
+        (λ _. Moves P.Port S.Scribe Point.Between Point.Between false Nothing
+        (run.old, port.old, scribe.old) (run.new, port.new, scribe.new)) }
+    ensures opened { OnOk result (run.new.relay.state.plain.opened ≡ run.old.relay.state.plain.opened) }
+    ensures still { OnOk result (IsUntimed run.old.relay.state → (k : ℕ) → SameLink k run.old.relay.state run.new.relay.state) }
+    ensures cause { OnlyForMemory result }
+{
+    scribe.reserve(1, 0)?;
+    let ms = run.relay.begin(port.now());
+    put(&mut run.entries, scribe, Entry::Turn { ms }, &[]);
+    Ok(())
+}
 
 /// Reads the port's clock once. Where a side may have a timeout, every link is to be looked at then.
 fn clock<P: Port, S: Scribe>(
@@ -41,9 +64,7 @@ fn clock<P: Port, S: Scribe>(
     ensures kept { OnOk result (IsKept looks.new run.new.relay.state) }
     ensures names { OnOk result (KeepsNames looks.old run.old.relay.state looks.new run.new.relay.state) }
 {
-    scribe.reserve(1, 0)?;
-    let ms = run.relay.begin(port.now());
-    put(&mut run.entries, scribe, Entry::Turn { ms }, &[]);
+    read_clock(run, port, scribe)?;
     if !run.relay.is_untimed() {
         looks.touch_all();
     }

@@ -19,7 +19,7 @@ returns-in-Link-clause-went g c =
     let s = c.args.run.now.relay.state in
     let connected = c.in-Link.connected in
     let events : Trace = (entry.Opened s.plain.opened connected, []) ∷ [] in
-    let number = c.opened-link.ensures ∙ ap (λ (z : State). z.plain.opened) c.reserve_link.ensures.state in
+    let number = c.opened-link.ensures.count ∙ ap (λ (z : State). z.plain.opened) c.reserve_link.ensures.state in
     let state = c.open.ensures ∙ ap (λ (z : State). after_opened z connected) c.reserve_link.ensures.state in
     goes_by l0 (g.S.Scribe.trace c.put.new.scribe) (g.P.Port.faults c.args.port.now) (g.P.Port.faults c.accept.new.self) events
     (connected, record { allowed = c.requires; entries = refl; state = state }) (ap (λ (z : State). z.settings) state)

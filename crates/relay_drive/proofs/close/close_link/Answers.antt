@@ -1,4 +1,4 @@
-use Rattle.std.proofs.Common.{◌<◌, List, length, get_or, sym, ◌∙◌, ap, subst}
+use Rattle.std.proofs.Common.{◌≡◌, ◌<◌, false, List, length, get_or, Ok, sym, ◌∙◌, ap, subst}
 use Rattle.std.proofs.lemmas.Result.{err_from_is_err_and}
 use Rattle.relay_core.specs.declared.close.Closing.{Closing}
 use Rattle.relay_core.specs.declared.close.Closing.TheVariants.{BothDone}
@@ -6,8 +6,10 @@ use Rattle.relay_core.specs.Steps.{link_of_step, steps_of}
 use Rattle.relay_drive.specs.Steps.{Nothing}
 use Rattle.relay_drive.specs.Phases.{LooksAt}
 use Rattle.relay_drive.proofs.ClosingLemmas.{closing_link}
-use Rattle.relay_drive.proofs.EachLemmas.{goes_next, goes_cut}
+use Rattle.relay_drive.specs.Links.{IsUncalled}
+use Rattle.relay_drive.proofs.EachLemmas.{goes_next, goes_cut, all_taken}
 use Rattle.relay_drive.proofs.close.close_link.Goals as goal
+use Rattle.relay_drive.proofs.close.close_link.Goals.{then-branch, else-branch}
 
 pub close_step-requires : goal.close_step-requires
 close_step-requires g c =
@@ -28,5 +30,19 @@ pub loop-step-preserved : goal.loop-step-preserved
 loop-step-preserved g c = record {
   went = goes_next LooksAt (steps_of c.args.link) c.loop-step.step-index _ c.loop-step-test.true
       c.loop-step.invariant.went (rw (c.of-steps.ensures.steps) at c.in_ok-close_step.ensures.went);
+  uncalled = elim c.if-branch.branch [
+    | then-branch w ↦ (λ none. absurd (let e = w.any-is in cc))
+    | else-branch w ↦ (λ none. let before = c.loop-step.invariant.uncalled (sym w.any-is ∙ none) in
+        let step = c.in_ok-close_step.ensures.called (ap Ok w.if-branch.false) in (
+          step.0 ∙ before.0,
+          all_taken (IsUncalled c.args.run.now.relay.state) (steps_of c.args.link) c.loop-step.step-index (BothDone 0) c.loop-step-test.true
+          before.1
+          (subst (λ s. IsUncalled s (get_or (steps_of c.args.link) c.loop-step.step-index (BothDone 0))) before.0
+          (rw (c.of-steps.ensures.steps) at step.1)),
+        ))
+  ];
   kept = c.in_ok-close_step.ensures.kept ∙ c.loop-step.invariant.kept;
 }
+
+pub returns-clause-settled : goal.returns-clause-settled
+returns-clause-settled g c = ?

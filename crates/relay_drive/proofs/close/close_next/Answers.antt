@@ -1,4 +1,4 @@
-use Rattle.std.proofs.Common.{◌≡◌, Bool, true, false, refl, sym, ◌∙◌, ap, subst}
+use Rattle.std.proofs.Common.{◌≡◌, Bool, true, false, Ok, refl, sym, ◌∙◌, ap, subst}
 use Rattle.relay_state.specs.State.{State}
 use Rattle.relay_drive.specs.Links.{IsSettled}
 use Rattle.relay_drive.specs.Looks.{IsKept, KeepsNames, ClosingNoted}
@@ -11,7 +11,7 @@ returns-clause-kept g c =
     let s = c.args.run.now.relay.state in
     let new = c.close_link.new.run.relay.state in
     closing-keeps c.args.looks.now c.note_closing.new.looks c.args.link s new c.in_ok-any.any
-    (at-closed c.args.link s new went.added c.in_ok-any.ensures.kept went.does) (λ e. c.in_ok-any.ensures.settled e) c.note_closing.ensures
+    (at-closed c.args.link s new went.added c.in_ok-any.ensures.kept went.does) (λ e. c.in_ok-any.ensures.settled (ap Ok e)) c.note_closing.ensures
     c.requires.kept
 
 pub returns-clause-names : goal.returns-clause-names
@@ -20,4 +20,4 @@ returns-clause-names g c =
     let s = c.args.run.now.relay.state in
     let new = c.close_link.new.run.relay.state in
     closing-names c.args.looks.now c.note_closing.new.looks c.args.link s new c.in_ok-any.any
-    (at-closed c.args.link s new went.added c.in_ok-any.ensures.kept went.does) (λ e. c.in_ok-any.ensures.settled e) c.note_closing.ensures
+    (at-closed c.args.link s new went.added c.in_ok-any.ensures.kept went.does) (λ e. c.in_ok-any.ensures.settled (ap Ok e)) c.note_closing.ensures

@@ -1,43 +1,30 @@
-use Rattle.std.proofs.Common.{◌≡◌, ℕ, ◌^◌, [], ◌∷◌, max, min, refl, sym, ◌∙◌, ap, arith}
-use Rattle.ev_types.specs.declared.entry.Entry.TheVariants as entry
-use Rattle.ev_types.specs.Trace.{Trace}
-use Rattle.relay_state.specs.State.{State}
-use Rattle.relay_state.specs.Time.{begun}
-use Rattle.relay_steps.proofs.FrameLemmas.{frame-begun}
-use Rattle.relay_drive.proofs.GoesLemmas.{Grew-join, goes_by, goes_nowhere}
-use Rattle.relay_drive.proofs.HeardLemmas.{Heard-quiet}
-use Rattle.ev_port.specs.EndSteps.{no_step}
-use Rattle.relay_drive.proofs.CalmLemmas.{fits_turned}
-use Rattle.relay_drive.proofs.TiedLemmas.{all_ends}
-use Rattle.relay_drive.proofs.KnownLemmas.{known_begun}
-use Rattle.std.proofs.lemmas.Result.{err_from_is_err_and}
+use Rattle.std.proofs.Common.{◌≡◌, true, false, refl, sym, ◌∙◌, ap, subst}
+use Rattle.relay_model.specs.Settings.{Settings}
+use Rattle.relay_drive.proofs.LooksLemmas.{kept-all, names-all, kept-same, names-same}
 use Rattle.relay_drive.proofs.turn.clock.Goals as goal
 
-pub returns-clause-went : goal.returns-clause-went
-returns-clause-went g c =
-    let s = c.args.run.now.relay.state in
-    let reading = c.now.result in
-    let ms : ℕ = max s.plain.time (min reading (2 ^ 62)) in
-    let time : c.begin-ms.result ≡ ms = c.begin-ms.ensures.time in
-    let events : Trace = (entry.Turn ms, []) ∷ [] in
-    let state : c.begin-ms.new.self.state ≡ begun s ms = c.begin-ms.ensures.state ∙ ap (begun s) time in
-    let l0 = g.S.Scribe.trace c.args.scribe.now in
-    goes_by l0 (g.S.Scribe.trace c.put.new.scribe) (g.P.Port.faults c.args.port.now) (g.P.Port.faults c.now.new.self) events
-    (reading, record { entries = refl; state = state }) (ap (λ (z : State). z.settings) state ∙ (frame-begun s ms).settings)
-    (let n = c.put.ensures.counted in
-    omega (arith, n))
-    (Grew-join l0 (g.S.Scribe.trace c.reserve.new.self) (g.S.Scribe.trace c.put.new.scribe) [] events c.reserve.ensures.trace
-    (rw (time) at c.put.ensures.list))
-    (λ t. fits_turned t s c.begin-ms.new.self.state ms reading refl state)
-    (λ t fits. known_begun s.settings (g.P.Port.vouches c.args.port.now) (g.P.Port.vouches c.now.new.self) g.P.Port.none_waits
-    (g.P.Port.told c.args.port.now) (g.P.Port.told c.now.new.self) (g.P.Port.ends c.args.port.now)
-    (g.P.Port.ends c.now.new.self) t reading ms
-    (ap (λ n. max n (min reading (2 ^ 62))) (sym fits.time)) (ap (λ n. max n (min reading (2 ^ 62))) (sym fits.last)) c.now.ensures.vouched
-    (all_ends (g.P.Port.ends c.args.port.now) (g.P.Port.ends c.now.new.self) (λ e. no_step) events (λ e. refl) c.now.ensures.ends)
-    c.now.ensures.told)
-    (Heard-quiet (g.P.Port.faults c.args.port.now) (g.P.Port.faults c.now.new.self) events c.now.ensures.cause (λ x. refl) refl)
+pub returns-then-not-is_untimed-clause-kept : goal.returns-then-not-is_untimed-clause-kept
+returns-then-not-is_untimed-clause-kept g c =
+    kept-all c.args.looks.now c.touch_all.new.self c.args.run.now.relay.state c.read_clock.new.run.relay.state c.in_ok-read_clock.ensures.opened
+    c.touch_all.ensures c.requires.kept
 
-pub returns-in_err-reserve-clause-went : goal.returns-in_err-reserve-clause-went
-returns-in_err-reserve-clause-went g c =
-    let p = err_from_is_err_and c.from_residual.result c.from_residual.ensures.1 in
-    rw (p.1) (goes_nowhere refl refl c.reserve.ensures.trace (λ s t x k. k))
+pub returns-then-not-is_untimed-clause-names : goal.returns-then-not-is_untimed-clause-names
+returns-then-not-is_untimed-clause-names g c =
+    names-all c.args.looks.now c.touch_all.new.self c.args.run.now.relay.state c.read_clock.new.run.relay.state c.in_ok-read_clock.ensures.opened
+    c.touch_all.ensures c.requires.kept
+
+pub returns-else-not-is_untimed-clause-kept : goal.returns-else-not-is_untimed-clause-kept
+returns-else-not-is_untimed-clause-kept g c =
+    let done = c.in_ok-read_clock.ensures in
+    let untimed = c.is_untimed.ensures.0 c.if-not-is_untimed.false in
+    kept-same c.args.looks.now c.args.run.now.relay.state c.read_clock.new.run.relay.state done.opened
+    (done.still (sym (ap (λ (g : Settings). g.in_timeouts) done.went.settings) ∙ untimed.0,
+    sym (ap (λ (g : Settings). g.out_timeouts) done.went.settings) ∙ untimed.1)) c.requires.kept
+
+pub returns-else-not-is_untimed-clause-names : goal.returns-else-not-is_untimed-clause-names
+returns-else-not-is_untimed-clause-names g c =
+    let done = c.in_ok-read_clock.ensures in
+    let untimed = c.is_untimed.ensures.0 c.if-not-is_untimed.false in
+    names-same c.args.looks.now c.args.run.now.relay.state c.read_clock.new.run.relay.state done.opened
+    (done.still (sym (ap (λ (g : Settings). g.in_timeouts) done.went.settings) ∙ untimed.0,
+    sym (ap (λ (g : Settings). g.out_timeouts) done.went.settings) ∙ untimed.1))
