@@ -1,2 +1,4 @@
 pub mod StepLemmas
 pub mod NamedLemmas
+pub mod MarkLemmas
+pub mod TableViewLemmas

@@ -54,20 +54,22 @@ named-none r w n h = ap (rows_before r w) (add-one n) ∙ ap (λ ws. rows_before
 pub named-some : (r w : ℕ → Bool) (n : ℕ) → wants_some (row_by r w n) ≡ true → rows_before r w (n + 1) ≡ rows_before r w n ++ row_by r w n ∷ []
 named-some r w n h = ap (rows_before r w) (add-one n) ∙ ap (λ ws. rows_before r w n ++ ws) (one (row_by r w n) true h)
 
--- sides that want nothing add nothing
-skipped : (r w : ℕ → Bool) (from more : ℕ) → ((k : ℕ) → from ≤ k → k < from + more → wants_some (row_by r w k) ≡ false)
-    → rows_before r w (from + more) ≡ rows_before r w from
-skipped r w from zero h = let e : from + 0 ≡ from = omega arith in ap (rows_before r w) e
-skipped r w from (suc more) h =
+-- a list by numbers that stays over some steps
+stays_over : (f : ℕ → List Want) (from more : ℕ) → ((k : ℕ) → from ≤ k → k < from + more → f (k + 1) ≡ f k) → f (from + more) ≡ f from
+stays_over f from zero h = let e : from + 0 ≡ from = omega arith in ap f e
+stays_over f from (suc more) h =
     let e : from + suc more ≡ (from + more) + 1 = omega arith in
-    ap (rows_before r w) e ∙ named-none r w (from + more) (h (from + more) (omega arith) (omega arith))
-    ∙ skipped r w from more (λ k l m. h k l (omega (arith, m)))
+    ap f e ∙ h (from + more) (omega arith) (omega arith) ∙ stays_over f from more (λ k l m. h k l (omega (arith, m)))
 
+pub stays_between : (f : ℕ → List Want) (from to : ℕ) → from ≤ to → ((k : ℕ) → from ≤ k → k < to → f (k + 1) ≡ f k) → f to ≡ f from
+stays_between f from to l h =
+    let e : from + (to - from) ≡ to = omega arith in
+    ap f (sym e) ∙ stays_over f from (to - from) (λ k a b. h k a (omega (arith, b, e)))
+
+-- sides that want nothing add nothing
 pub named-skip : (r w : ℕ → Bool) (from to : ℕ) → from ≤ to → ((k : ℕ) → from ≤ k → k < to → wants_some (row_by r w k) ≡ false)
     → rows_before r w to ≡ rows_before r w from
-named-skip r w from to l h =
-    let e : from + (to - from) ≡ to = omega arith in
-    ap (rows_before r w) (sym e) ∙ skipped r w from (to - from) (λ k a b. h k a (omega (arith, b, e)))
+named-skip r w from to l h = stays_between (rows_before r w) from to l (λ k a b. named-none r w k (h k a b))
 
 -- the wants of two tables whose first rows are alike
 pub named-same : (r w p q : ℕ → Bool) (n : ℕ) → ((k : ℕ) → k < n → row_by p q k ≡ row_by r w k) → rows_before p q n ≡ rows_before r w n

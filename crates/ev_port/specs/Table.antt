@@ -58,7 +58,7 @@ pub record RowsStay (old new : WantsValue) : Type 0 where
 
 -- the want is for something that can be done, by the numbers of the sides that can be read and written
 abbrev pub is_ready_by : NumberSetValue → NumberSetValue → Want → Bool
-is_ready_by readable writable w = w.read && readable.has (number w.side) || w.write && writable.has (number w.side)
+is_ready_by readable writable w = (w.read && readable.has (number w.side)) || (w.write && writable.has (number w.side))
 
 -- the want with a mark at what can be done
 abbrev pub marked_by : NumberSetValue → NumberSetValue → Want → Want

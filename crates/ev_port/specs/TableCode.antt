@@ -45,7 +45,7 @@ answers end flags = map flags (range_with_len 0 end)
 abbrev told : ℕ → List Bool → ℕ → Bool
 told end bs n = nat_lt n end && slice_index_or bs n false
 
-told_past : (end : ℕ) (bs : List Bool) → NoneFrom end (told end bs)
+pub told_past : (end : ℕ) (bs : List Bool) → NoneFrom end (told end bs)
 told_past end bs n past = and_left _ _ (le-ltb n end past)
 
 told-answers : (end : ℕ) (flags : ℕ → Bool) → NoneFrom end flags → told end (answers end flags) ≡ flags
@@ -79,7 +79,7 @@ want_of p = record {
   can_write = p.1.1.1.1.1;
 }
 
-want_of-parts_of : (w : Want) → want_of (parts_of w) ≡ w
+pub want_of-parts_of : (w : Want) → want_of (parts_of w) ≡ w
 want_of-parts_of w = ap (λ s. record w { side = record { link = w.side.link; side = s } }) (side_told-same_side w.side.side)
 
 abbrev want_code : Coded Want
@@ -103,7 +103,7 @@ table_of_parts p = record {
   writes_end = told_past (2 * p.0) p.1.1.0;
 }
 
-table_of_parts-table_parts : (t : WantsValue) → table_of_parts (table_parts t) ≡ t
+pub table_of_parts-table_parts : (t : WantsValue) → table_of_parts (table_parts t) ≡ t
 table_of_parts-table_parts t =
     same_table (table_of_parts (table_parts t)) t refl (told-answers (2 * t.links) t.reads t.reads_end)
     (told-answers (2 * t.links) t.writes t.writes_end) refl

@@ -1,5 +1,5 @@
 -- How a table keeps what it shows.
-use Rattle.std.specs.Prelude.{◌≡◌, ℕ, ◌*◌, ◌≤◌, Bool, false, ◌&&◌, nat_lt, length, vec_capacity}
+use Rattle.std.specs.Prelude.{◌≡◌, ℕ, ◌*◌, ◌^◌, ◌<◌, ◌≤◌, Bool, false, ◌&&◌, nat_lt, length, vec_capacity}
 use Rattle.std.proofs.lemmas.Bool.{and_left, le-ltb}
 use Rattle.ev_port.specs.declared.table.WantTable.TheInside.{Inside}
 use Rattle.ev_port.specs.Table.{WantsValue, rows_before}
@@ -26,3 +26,4 @@ pub record IsTable (a : Inside) : Type 0 where
   pub write_end : (n : ℕ) → 2 * a.links ≤ n → a.write.has n ≡ false
   pub counted : a.count ≡ length (rows_before a.read.has a.write.has (2 * a.links))
   pub room : 2 * a.links ≤ vec_capacity a.list
+  pub few : a.links < 2 ^ 32

@@ -3,7 +3,7 @@
 ghost use Rattle.std.specs.Prelude.{◌≡◌, ℕ, ◌+◌, ◌*◌, ◌<◌, ◌≤◌, ◌^◌, ◌==◌, ◌||◌, ◌++◌, ◌∷◌, [], true, false, cond, if◌then◌else◌, length, map, filter, vec_len, vec_capacity, OnOk, OnErr};
 ghost use Rattle.std.specs.List.{list_any};
 ghost use Rattle.ev_types.specs.Sides.{number};
-ghost use Rattle.ev_port.specs.Table.{side_of, row_by, rows_before, named, is_marked, is_ready_by, marked_by, RowsStay, IsNextWanted, IsPreviousWanted};
+ghost use Rattle.ev_port.specs.Table.{side_of, row_by, rows_before, named, wants_some, is_marked, is_ready_by, marked_by, RowsStay, IsNextWanted, IsPreviousWanted};
 
 use crate::Want;
 use ev_types::{NoMemory, Side, SideId};
@@ -101,6 +101,12 @@ fn put(set: &mut NumberSet, number: usize, member: bool)
     } else {
         set.remove(number);
     }
+}
+
+fn has_want(read: &NumberSet, write: &NumberSet, number: usize) -> bool
+    ensures { result ≡ wants_some (row_by read.now.has write.now.has number) }
+{
+    read.contains(number) || write.contains(number)
 }
 
 // How many want something, once one did or not and now does or not.
@@ -217,10 +223,11 @@ impl WantTable {
         ensures list { self.new.list ≡ self.old.list }
     {
         let number = side.number();
-        let did = self.read.contains(number) || self.write.contains(number);
+        let did = has_want(&self.read, &self.write, number);
         put(&mut self.read, number, read);
         put(&mut self.write, number, write);
-        self.count = recount(self.count, did, read || write);
+        let does = has_want(&self.read, &self.write, number);
+        self.count = recount(self.count, did, does);
     }
 
     /// How many sides want something. Constant cost.

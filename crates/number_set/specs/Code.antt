@@ -1,8 +1,8 @@
 -- That values of sets can be told apart: two are equal where length and members are, and a list of answers gives one back.
-use Rattle.std.specs.Prelude.{◌≡◌, ℕ, ◌<◌, ◌≤◌, Bool, false, List, length, map}
+use Rattle.std.specs.Prelude.{◌≡◌, ℕ, ◌≤◌, Bool, false, List, length, map}
 use Rattle.std.specs.List.{range_with_len, slice_index_or}
 use Rattle.std.specs.Coded.{Coded, code_by, coded_bool, coded_list}
-use Rattle.std.proofs.Common.{◌⊎◌, inl, inr, ◌∙◌, sym, ap, zero-add}
+use Rattle.std.proofs.Common.{inl, inr, ◌∙◌, sym, ap, zero-add}
 use Rattle.std.proofs.Math.Path.{fun_ext, subst₂}
 use Rattle.std.proofs.Math.Bool.{Bool-set}
 use Rattle.std.proofs.lemmas.Bool.{cases_lt}

@@ -1,5 +1,5 @@
 -- How a set is kept: as words of 64 bits, the number n at the bit n % 64 of the word n / 64.
-use Rattle.std.specs.Prelude.{◌≡◌, ℕ, ◌+◌, ◌*◌, ◌/◌, ◌%◌, ◌<◌, ◌≤◌, ◌==◌, nat_lt, Bool, false, ◌&&◌, List, length, slice_index}
+use Rattle.std.specs.Prelude.{◌≡◌, ℕ, ◌+◌, ◌*◌, ◌/◌, ◌%◌, ◌^◌, ◌<◌, ◌≤◌, ◌==◌, nat_lt, Bool, false, ◌&&◌, List, length, slice_index}
 use Rattle.std.specs.Int.{bit_at}
 use Rattle.std.proofs.lemmas.Bool.{and_left, le-ltb}
 use Rattle.number_set.specs.Numbers.{NumberSetValue}
@@ -20,8 +20,10 @@ value_of words len = record {
   absent = λ n past. and_left _ _ (le-ltb n len past);
 }
 
--- there is a bit for each number below the length and no word more, and no number from the length on is in the words
+-- there is a bit for each number below the length and no word more, so few words that the number of each bit fits 64 bits, and no
+-- number from the length on is in the words
 pub record IsKept (words : List ℕ) (len : ℕ) : Type 0 where
   pub enough : len ≤ 64 * length words
   pub tight : 64 * length words < len + 64
+  pub few : length words ≤ 2 ^ 58
   pub none_past : (n : ℕ) → len ≤ n → has_number words n ≡ false

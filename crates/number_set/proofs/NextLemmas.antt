@@ -1,0 +1,89 @@
+-- Walks from word to word, for the nearest number that passes a test.
+use Rattle.std.proofs.Common.{◌≡◌, inl, inr, ◌∙◌, sym, ap, ap₂, refl, ℕ, ◌+◌, ◌-◌, ◌*◌, ◌<◌, ◌≤◌, Bool, false, ◌&&◌, ◌||◌, List, get_or, bit_and, bit_or, Option, Some, None, arith}
+use Rattle.std.proofs.lemmas.Bool.{cases_lt}
+use Rattle.number_set.specs.Next.{in_either, IsLeast, IsGreatest, IsNext, IsPrevious}
+use Rattle.number_set.specs.Words.{is_set, has_number}
+use Rattle.number_set.proofs.BitLemmas.{is_set_and, is_set_or}
+use Rattle.number_set.proofs.WordLemmas.{has_number_at}
+
+-- the nearest number for a test is that for another test with the same answers
+pub IsNext-same : (p q : ℕ → Bool) (from : ℕ) (result : Option ℕ) → ((n : ℕ) → p n ≡ q n) → IsNext p from result → IsNext q from result
+IsNext-same p q from None same none = λ i reached. sym (same i) ∙ none i reached
+IsNext-same p q from (Some n) same least = record {
+  reached = least.reached;
+  passes = sym (same n) ∙ least.passes;
+  none_before = λ i reached below. sym (same i) ∙ least.none_before i reached below;
+}
+
+pub IsPrevious-same : (p q : ℕ → Bool) (before : ℕ) (result : Option ℕ) → ((n : ℕ) → p n ≡ q n) → IsPrevious p before result →
+    IsPrevious q before result
+IsPrevious-same p q before None same none = λ i below. sym (same i) ∙ none i below
+IsPrevious-same p q before (Some n) same greatest = record {
+  below = greatest.below;
+  passes = sym (same n) ∙ greatest.passes;
+  none_after = λ i after below. sym (same i) ∙ greatest.none_after i after below;
+}
+
+-- the bits of one word of four sets are the numbers that are in the first two or in the last two
+pub either-bits : (first second third fourth : List ℕ) (at a b c d : ℕ) → a ≡ get_or first at 0 → b ≡ get_or second at 0 → c ≡
+    get_or third at 0 → d ≡ get_or fourth at 0 → (k : ℕ) → k < 64 → is_set (bit_or (bit_and a b) (bit_and c d)) k ≡ in_either
+    (has_number first) (has_number second) (has_number third) (has_number fourth) (64 * at + k)
+either-bits first second third fourth at a b c d a_is b_is c_is d_is k within =
+    let n = 64 * at + k in
+    let bit = λ (words : List ℕ) (w : ℕ) (is : w ≡ get_or words at 0).
+    ap (λ v. is_set v k) is ∙ sym (has_number_at words n at k refl within) in
+    is_set_or _ _ k ∙
+    ap₂ (λ x y. x || y) (is_set_and a b k ∙ ap₂ (λ x y. x && y) (bit first a a_is) (bit second b b_is))
+    (is_set_and c d k ∙ ap₂ (λ x y. x && y) (bit third c c_is) (bit fourth d d_is))
+
+module _ (p : ℕ → Bool) (word at : ℕ) (bits : (k : ℕ) → k < 64 → is_set word k ≡ p (64 * at + k)) where
+  -- the answer at a number of the word
+  bit_of : (i k : ℕ) → 64 * at + k ≡ i → k < 64 → p i ≡ is_set word k
+  bit_of i k is within = ap p (sym is) ∙ sym (bits k within)
+
+  -- the least number, where nothing before the word passes and a bit of it does
+  pub least_in_word : (from place bit : ℕ) → from ≤ 64 * at + place → ((i : ℕ) → from ≤ i → i < 64 * at + place → p i ≡ false) → bit < 64
+      → IsLeast (is_set word) place bit → IsLeast p from (64 * at + bit)
+  least_in_word from place bit begun so_far within least = record {
+    reached = omega arith;
+    passes = sym (bits bit within) ∙ least.passes;
+    none_before = λ i reached below.
+        elim (cases_lt i (64 * at + place)) [
+          | inl before ↦ so_far i reached before
+          | inr after ↦ bit_of i (i - 64 * at) (omega arith) (omega arith) ∙ least.none_before (i - 64 * at) (omega arith) (omega arith)
+        ];
+  }
+
+  -- no number of the word passes either
+  pub none_in_word : (from place : ℕ) → ((i : ℕ) → from ≤ i → i < 64 * at + place → p i ≡ false) → ((k : ℕ) → place ≤ k → is_set
+      word k ≡ false) → (i : ℕ) → from ≤ i → i < 64 * (at + 1) → p i ≡ false
+  none_in_word from place so_far none i reached below =
+      elim (cases_lt i (64 * at + place)) [
+        | inl before ↦ so_far i reached before
+        | inr after ↦ bit_of i (i - 64 * at) (omega arith) (omega arith) ∙ none (i - 64 * at) (omega arith)
+      ]
+
+  -- the greatest number, where nothing behind the word passes and a bit of it does
+  pub greatest_in_word : (before place bit : ℕ) → 64 * at + place ≤ before → place ≤ 64 → ((i : ℕ) → 64 * at + place ≤ i → i < before → p i ≡ false)
+      → IsGreatest (is_set word) place bit → IsGreatest p before (64 * at + bit)
+  greatest_in_word before place bit begun small so_far greatest =
+      let below = greatest.below in
+      record {
+        below = omega arith;
+        passes = sym (bits bit (omega arith)) ∙ greatest.passes;
+        none_after = λ i after under.
+            elim (cases_lt i (64 * at + place)) [
+              | inl inside ↦
+                  bit_of i (i - 64 * at) (omega arith) (omega arith) ∙ greatest.none_after (i - 64 * at) (omega arith) (omega arith)
+              | inr behind ↦ so_far i behind under
+            ];
+      }
+
+  -- no number of the word passes below its place
+  pub none_below_in_word : (before place : ℕ) → place ≤ 64 → ((i : ℕ) → 64 * at + place ≤ i → i < before → p i ≡ false) → ((k : ℕ) → k < place → is_set
+      word k ≡ false) → (i : ℕ) → 64 * at ≤ i → i < before → p i ≡ false
+  none_below_in_word before place small so_far none i from under =
+      elim (cases_lt i (64 * at + place)) [
+        | inl inside ↦ bit_of i (i - 64 * at) (omega arith) (omega arith) ∙ none (i - 64 * at) (omega arith)
+        | inr behind ↦ so_far i behind under
+      ]

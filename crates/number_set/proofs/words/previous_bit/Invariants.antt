@@ -1,0 +1,13 @@
+use Rattle.std.proofs.Common.{◌≡◌, ℕ, ◌+◌, ◌*◌, ◌<◌, ◌≤◌, false}
+use Rattle.number_set.specs.Next.{in_either}
+use Rattle.number_set.specs.Words.{has_number}
+use Rattle.number_set.proofs.words.previous_bit.Given as goal
+
+abbrev pub invariant-loop-bit : goal.invariant-loop-bit
+invariant-loop-bit l =
+    (l.place ≤ 64) × (64 * l.at + l.place ≤ l.before)
+    × ((i : ℕ) → 64 * l.at + l.place ≤ i → i < l.before
+    → in_either (has_number l.first) (has_number l.second) (has_number l.third) (has_number l.fourth) i ≡ false)
+
+abbrev pub decreases-loop-bit : goal.decreases-loop-bit
+decreases-loop-bit l = l.at
