@@ -1,6 +1,6 @@
 -- What a poll of a table marks: by the sets of the numbers that are ready it is what the ends tell, and it is a poll of a port
 -- that tells nothing.
-use Rattle.std.proofs.Common.{◌≡◌, ◌∙◌, ℕ, ◌<◌, ◌&&◌, ◌||◌, Bool, List, [], ◌∷◌, Option, None, map, ap, sym, refl, get_or, rules}
+use Rattle.std.proofs.Common.{◌≡◌, ◌∙◌, ℕ, ◌&&◌, ◌||◌, Bool, List, [], ◌∷◌, Option, None, map, sym, refl, get_or, rules}
 use Rattle.std.specs.Prelude.{filter, ⊤}
 use Rattle.std.proofs.Math.Path.{fun_ext}
 use Rattle.std.proofs.lemmas.List.{get_or-map, length-map}
@@ -10,10 +10,9 @@ use Rattle.ev_port.specs.declared.port.Polled.{Polled}
 use Rattle.ev_port.specs.declared.port.Polled.TheVariants as polled
 use Rattle.ev_port.specs.declared.port.Want.{Want}
 use Rattle.ev_port.specs.EndSteps.{AllWent}
-use Rattle.ev_port.specs.Polling.{IsMarked, AllMarked, poll_events, poll_step}
+use Rattle.ev_port.specs.Polling.{IsMarked, AllMarked, poll_step}
 use Rattle.ev_port.specs.Silent.{silent_end}
 use Rattle.ev_port.specs.Table.{WantsValue, TablePolled, is_marked, is_ready_by, marked_by, named}
-use Rattle.ev_port.specs.Vouching.{LongerBy}
 use Rattle.number_set.specs.Numbers.{NumberSetValue}
 use Rattle.mio_port.specs.declared.end.End.{End}
 use Rattle.mio_port.specs.EndPlaces.{is_read_ready, is_write_ready, wants_ready, marked, unmarked}
