@@ -2,3 +2,4 @@ pub mod StepLemmas
 pub mod NamedLemmas
 pub mod MarkLemmas
 pub mod TableViewLemmas
+pub mod PutLemmas

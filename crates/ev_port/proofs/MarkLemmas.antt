@@ -1,5 +1,5 @@
 -- The walks over a table, from one side that wants something or can do it to the next.
-use Rattle.std.proofs.Common.{◌≡◌, ◌≢◌, ◌∙◌, ℕ, zero, suc, ◌+◌, ◌*◌, ◌<◌, ◌≤◌, min, Bool, true, false, cond, ◌&&◌, ◌||◌, List, [], ◌∷◌, ◌++◌, map, refl, sym, ap, subst, arith, inl, inr, add-one, append-nil}
+use Rattle.std.proofs.Common.{◌≡◌, ◌∙◌, ℕ, zero, suc, ◌+◌, ◌*◌, ◌<◌, ◌≤◌, min, Bool, true, false, cond, ◌&&◌, ◌||◌, List, [], ◌∷◌, ◌++◌, map, refl, sym, ap, arith, inl, inr, add-one, append-nil}
 use Rattle.std.specs.Prelude.{filter}
 use Rattle.std.specs.List.{list_any}
 use Rattle.std.proofs.lemmas.Bool.{cases_Bool, cases_eq, and_parts, or_cases, or_left, or_right, or_from, both_ways}
@@ -10,8 +10,8 @@ use Rattle.ev_types.specs.Sides.{number}
 use Rattle.number_set.specs.Next.{in_either, IsLeast, IsGreatest}
 use Rattle.number_set.specs.Numbers.{NumberSetValue}
 use Rattle.ev_port.specs.declared.port.Want.{Want}
-use Rattle.ev_port.specs.Table.{WantsValue, side_of, row_by, row, wants_some, is_marked, is_ready_by, marked_by, rows_before, named_before, named, NextWant, PreviousWant}
-use Rattle.ev_port.proofs.NamedLemmas.{number-side_of, named-none, named-some, named-skip, stays_between}
+use Rattle.ev_port.specs.Table.{WantsValue, row_by, row, wants_some, is_marked, is_ready_by, marked_by, rows_before, named_before, named, NextWant, PreviousWant}
+use Rattle.ev_port.proofs.NamedLemmas.{number-side_of, named-some, named-skip, stays_between}
 
 -- What a number in both sets of one side says of its row
 
@@ -42,12 +42,14 @@ marked-wants x y w h = elim (or_cases (w.read && x.has (number w.side)) (w.write
 
 -- From want to want
 
-pub rows-found : (r w : ℕ → Bool) (from n : ℕ) → IsLeast (in_either r r w w) from n → rows_before r w (n + 1) ≡ rows_before r w from ++ row_by r w n ∷ []
+pub rows-found : (r w : ℕ → Bool) (from n : ℕ) → IsLeast (in_either r r w w) from n
+    → rows_before r w (n + 1) ≡ rows_before r w from ++ row_by r w n ∷ []
 rows-found r w from n h =
     named-some r w n (sym (either-same r w n) ∙ h.passes)
     ∙ ap (λ ws. ws ++ row_by r w n ∷ []) (named-skip r w from n h.reached (λ k a b. sym (either-same r w k) ∙ h.none_before k a b))
 
-pub rows-all : (r w : ℕ → Bool) (from to : ℕ) → from ≤ to → ((k : ℕ) → from ≤ k → in_either r r w w k ≡ false) → rows_before r w to ≡ rows_before r w from
+pub rows-all : (r w : ℕ → Bool) (from to : ℕ) → from ≤ to → ((k : ℕ) → from ≤ k → in_either r r w w k ≡ false)
+    → rows_before r w to ≡ rows_before r w from
 rows-all r w from to l h = named-skip r w from to l (λ k a b. sym (either-same r w k) ∙ h k a)
 
 -- From mark to mark
@@ -90,9 +92,10 @@ pub marked-found : (r w : ℕ → Bool) (x y : NumberSetValue) (from n : ℕ) �
 marked-found r w x y from n h =
     marked-some r w x y n (sym (either-marked r w x y n) ∙ h.passes)
     ∙ ap (λ ws. ws ++ marked_by x y (row_by r w n) ∷ []) (stays_between (marked_before r w x y) from n h.reached
-        (λ k a b. marked-none r w x y k (sym (either-marked r w x y k) ∙ h.none_before k a b)))
+    (λ k a b. marked-none r w x y k (sym (either-marked r w x y k) ∙ h.none_before k a b)))
 
-pub marked-all : (r w : ℕ → Bool) (x y : NumberSetValue) (from to : ℕ) → from ≤ to → ((k : ℕ) → from ≤ k → in_either r x.has w y.has k ≡ false)
+pub marked-all : (r w : ℕ → Bool) (x y : NumberSetValue) (from to : ℕ) → from ≤ to
+    → ((k : ℕ) → from ≤ k → in_either r x.has w y.has k ≡ false)
     → marked_before r w x y to ≡ marked_before r w x y from
 marked-all r w x y from to l h =
     stays_between (marked_before r w x y) from to l (λ k a b. marked-none r w x y k (sym (either-marked r w x y k) ∙ h k a))
@@ -107,7 +110,8 @@ any-more : (p : Want → Bool) (r w : ℕ → Bool) (n : ℕ) → list_any p (ro
     ≡ (list_any p (rows_before r w n) || list_any p (filter wants_some (row_by r w n ∷ [])))
 any-more p r w n = list_any-append p (rows_before r w n) (filter wants_some (row_by r w n ∷ []))
 
-any-none : (p : Want → Bool) (r w : ℕ → Bool) (n : ℕ) → ((k : ℕ) → k < n → p (row_by r w k) ≡ false) → list_any p (rows_before r w n) ≡ false
+any-none : (p : Want → Bool) (r w : ℕ → Bool) (n : ℕ) → ((k : ℕ) → k < n → p (row_by r w k) ≡ false)
+    → list_any p (rows_before r w n) ≡ false
 any-none p r w zero h = refl
 any-none p r w (suc n) h = any-more p r w n ∙ or_from _ _ (any-none p r w n (λ k l. h k (omega (arith, l))))
     (elim (cases_Bool (wants_some (row_by r w n))) [
@@ -120,7 +124,7 @@ any-some : (p : Want → Bool) (r w : ℕ → Bool) (at n : ℕ) → at < n → 
 any-some p r w at zero l a b = absurd (omega (arith, l))
 any-some p r w at (suc n) l a b = any-more p r w n ∙ elim (cases_eq at n) [
   | inl e ↦ or_right (list_any p (rows_before r w n)) _
-        (ap (λ k. list_any p (filter wants_some (row_by r w k ∷ []))) (sym e) ∙ one-any p (row_by r w at) true a ∙ ap (λ q. q || false) b)
+      (ap (λ k. list_any p (filter wants_some (row_by r w k ∷ []))) (sym e) ∙ one-any p (row_by r w at) true a ∙ ap (λ q. q || false) b)
   | inr e ↦ or_left (list_any p (rows_before r w n)) _ (any-some p r w at n (omega (arith, l, e)) a b)
 ]
 
@@ -145,7 +149,10 @@ module _ (t : WantsValue) where
 
   pub next-none : (from : ℕ) → ((k : ℕ) → from ≤ k → some_wants k ≡ false) → named t ≡ named_before t (min from (2 * t.links))
   next-none from h = rows-all t.reads t.writes (min from (2 * t.links)) (2 * t.links) (omega arith)
-      (λ k a. elim (cases_Bool (some_wants k)) [ inl b ↦ absurd (let l = within k b in both_ways (some_wants k) (h k (omega (arith, a, l))) b) | inr b ↦ b ])
+      (λ k a. elim (cases_Bool (some_wants k)) [
+        | inl b ↦ absurd (let l = within k b in both_ways (some_wants k) (h k (omega (arith, a, l))) b)
+        | inr b ↦ b
+      ])
 
   pub next-some : (from n : ℕ) → IsLeast some_wants from n → NextWant t from (row t n)
   next-some from n h =
@@ -171,7 +178,7 @@ module _ (t : WantsValue) where
         within = omega (arith, e, below);
         named =
             named-skip t.reads t.writes (n + 1) before (omega (arith, first))
-                (λ k a b. sym (either-same t.reads t.writes k) ∙ h.none_after k (omega (arith, a)) b)
+            (λ k a b. sym (either-same t.reads t.writes k) ∙ h.none_after k (omega (arith, a)) b)
             ∙ named-some t.reads t.writes n (sym (either-same t.reads t.writes n) ∙ h.passes)
             ∙ ap (λ m. named_before t m ++ row t n ∷ []) (sym e);
       }

@@ -1,5 +1,5 @@
 -- The wants of a table by the numbers of their sides.
-use Rattle.std.proofs.Common.{◌≡◌, ◌≢◌, ◌∙◌, ℕ, zero, suc, ◌+◌, ◌-◌, ◌*◌, ◌/◌, ◌%◌, ◌==◌, ◌<◌, ◌≤◌, min, length, Bool, true, false, cond, ◌&&◌, ◌||◌, if◌then◌else◌, List, [], ◌∷◌, ◌++◌, refl, sym, ap, subst, arith, inl, inr, add-one, append-nil, append_assoc, length-append}
+use Rattle.std.proofs.Common.{◌≡◌, ◌≢◌, ◌∙◌, ℕ, zero, suc, ◌+◌, ◌-◌, ◌*◌, ◌/◌, ◌%◌, ◌==◌, ◌<◌, ◌≤◌, length, Bool, true, false, cond, if◌then◌else◌, List, [], ◌∷◌, ◌++◌, refl, sym, ap, subst, arith, inl, inr, add-one, append-nil, append_assoc, length-append}
 use Rattle.std.specs.Prelude.{filter}
 use Rattle.std.proofs.lemmas.Bool.{cases_eq}
 use Rattle.std.proofs.lemmas.Bool.Decides.{eqb_tells}
@@ -40,18 +40,19 @@ side_of-half link Out = sided (2 * link + 1) link false (omega arith) (elim (eqb
 pub side_of-number : (e : SideId) → side_of (number e) ≡ e
 side_of-number e = side_of-half e.link e.side
 
-pub number-apart : (a b : SideId) → number a ≡ number b → a ≡ b
-number-apart a b h = sym (side_of-number a) ∙ ap side_of h ∙ side_of-number b
-
 -- One side more
 
 one : (x : Want) (b : Bool) → wants_some x ≡ b → filter wants_some (x ∷ []) ≡ cond b (x ∷ []) []
 one x b h = ap (λ q. cond q (x ∷ []) []) h
 
 pub named-none : (r w : ℕ → Bool) (n : ℕ) → wants_some (row_by r w n) ≡ false → rows_before r w (n + 1) ≡ rows_before r w n
-named-none r w n h = ap (rows_before r w) (add-one n) ∙ ap (λ ws. rows_before r w n ++ ws) (one (row_by r w n) false h) ∙ append-nil (rows_before r w n)
+named-none r w n h =
+    ap (rows_before r w) (add-one n)
+    ∙ ap (λ ws. rows_before r w n ++ ws) (one (row_by r w n) false h)
+    ∙ append-nil (rows_before r w n)
 
-pub named-some : (r w : ℕ → Bool) (n : ℕ) → wants_some (row_by r w n) ≡ true → rows_before r w (n + 1) ≡ rows_before r w n ++ row_by r w n ∷ []
+pub named-some : (r w : ℕ → Bool) (n : ℕ) → wants_some (row_by r w n) ≡ true
+    → rows_before r w (n + 1) ≡ rows_before r w n ++ row_by r w n ∷ []
 named-some r w n h = ap (rows_before r w) (add-one n) ∙ ap (λ ws. rows_before r w n ++ ws) (one (row_by r w n) true h)
 
 -- a list by numbers that stays over some steps
@@ -88,11 +89,16 @@ length-one : (b : Bool) (x : Want) → length (cond b (x ∷ []) []) ≡ one_if 
 length-one true x = refl
 length-one false x = refl
 
-pub length-named_more : (r w : ℕ → Bool) (n : ℕ) → length (rows_before r w (suc n)) ≡ length (rows_before r w n) + one_if (wants_some (row_by r w n))
-length-named_more r w n = length-append (rows_before r w n) _ ∙ ap (λ k. length (rows_before r w n) + k) (length-one (wants_some (row_by r w n)) (row_by r w n))
+pub length-named_more : (r w : ℕ → Bool) (n : ℕ)
+    → length (rows_before r w (suc n)) ≡ length (rows_before r w n) + one_if (wants_some (row_by r w n))
+length-named_more r w n =
+    length-append (rows_before r w n) _
+    ∙ ap (λ k. length (rows_before r w n) + k) (length-one (wants_some (row_by r w n)) (row_by r w n))
 
 pub length-named_le : (r w : ℕ → Bool) (n more : ℕ) → length (rows_before r w n) ≤ length (rows_before r w (n + more))
-length-named_le r w n zero = let e : n + 0 ≡ n = omega arith in subst (λ k. length (rows_before r w n) ≤ length (rows_before r w k)) (sym e) (omega arith)
+length-named_le r w n zero =
+    let e : n + 0 ≡ n = omega arith in
+    subst (λ k. length (rows_before r w n) ≤ length (rows_before r w k)) (sym e) (omega arith)
 length-named_le r w n (suc more) =
     let e : n + suc more ≡ suc (n + more) = omega arith in
     let s = length-named_le r w n more in
@@ -106,7 +112,10 @@ one_if-le false = omega arith
 pub length-named_below : (r w : ℕ → Bool) (n : ℕ) → length (rows_before r w n) ≤ n
 length-named_below r w zero = omega arith
 length-named_below r w (suc n) =
-    let s = length-named_below r w n in let m = length-named_more r w n in let o = one_if-le (wants_some (row_by r w n)) in omega (arith, s, m, o)
+    let s = length-named_below r w n in
+    let m = length-named_more r w n in
+    let o = one_if-le (wants_some (row_by r w n)) in
+    omega (arith, s, m, o)
 
 -- where one row differs, the numbers differ by that row
 pub length-named_changed : (r w p q : ℕ → Bool) (at n : ℕ) → at < n → ((k : ℕ) → k ≢ at → row_by p q k ≡ row_by r w k)
@@ -135,8 +144,20 @@ row-side : (r w : ℕ → Bool) (n : ℕ) (e : SideId) → side_of n ≡ e
 row-side r w n e h = λ i. record { side = h i; read = r n; write = w n; can_read = false; can_write = false }
 
 pub named-link : (t : WantsValue) (k : ℕ) → named_before t (2 * (k + 1)) ≡ named_before t (2 * k) ++ (
-    filter wants_some (record { side = record { link = k; side = In }; read = t.reads (2 * k); write = t.writes (2 * k); can_read = false; can_write = false } ∷ [])
-    ++ filter wants_some (record { side = record { link = k; side = Out }; read = t.reads (2 * k + 1); write = t.writes (2 * k + 1); can_read = false; can_write = false } ∷ []))
+    filter wants_some (record {
+      side = record { link = k; side = In };
+      read = t.reads (2 * k);
+      write = t.writes (2 * k);
+      can_read = false;
+      can_write = false;
+    } ∷ [])
+    ++ filter wants_some (record {
+      side = record { link = k; side = Out };
+      read = t.reads (2 * k + 1);
+      write = t.writes (2 * k + 1);
+      can_read = false;
+      can_write = false;
+    } ∷ []))
 named-link t k =
     let e : 2 * (k + 1) ≡ suc (suc (2 * k)) = omega arith in
     let z : 2 * k ≡ 2 * k + 0 = omega arith in

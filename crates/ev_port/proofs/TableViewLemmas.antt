@@ -1,6 +1,6 @@
 -- What a table shows, by the sets that it keeps.
-use Rattle.std.proofs.Common.{◌≡◌, ◌≢◌, ◌∙◌, ℕ, zero, suc, ◌+◌, ◌-◌, ◌*◌, ◌^◌, ◌<◌, ◌≤◌, ◌==◌, length, Bool, true, false, cond, ◌&&◌, ◌||◌, if◌then◌else◌, List, [], ◌∷◌, ◌++◌, Option, Some, None, Result, Ok, Err, refl, sym, ap, subst, arith, inl, inr}
-use Rattle.std.specs.Prelude.{is_some, nat_lt, OnErr, vec_capacity}
+use Rattle.std.proofs.Common.{◌≡◌, ◌≢◌, ◌∙◌, ℕ, suc, ◌+◌, ◌-◌, ◌*◌, ◌^◌, ◌<◌, ◌≤◌, ◌==◌, length, Bool, true, false, cond, ◌&&◌, if◌then◌else◌, Option, Some, None, Result, Ok, Err, refl, sym, ap, subst, arith, inl, inr}
+use Rattle.std.specs.Prelude.{is_some, nat_lt, OnErr}
 use Rattle.std.specs.List.{list_any}
 use Rattle.std.proofs.Math.Path.{fun_ext}
 use Rattle.std.proofs.lemmas.Bool.{cases_lt, lt-ltb, ne_eqb, or_from}
@@ -8,7 +8,7 @@ use Rattle.ev_types.specs.declared.side.Side.{Side}
 use Rattle.ev_types.specs.declared.side.Side.TheVariants.{In, Out}
 use Rattle.ev_types.specs.declared.side.SideId.{SideId}
 use Rattle.ev_types.specs.Sides.{half, number}
-use Rattle.number_set.specs.Next.{in_either, IsNext, IsLeast, IsPrevious, IsGreatest}
+use Rattle.number_set.specs.Next.{in_either, IsNext, IsLeast, IsGreatest}
 use Rattle.number_set.specs.Numbers.{NumberSetValue}
 use Rattle.ev_port.specs.declared.port.Want.{Want}
 use Rattle.ev_port.specs.declared.table.WantTable.TheInside.{Inside}
@@ -25,9 +25,9 @@ below-same end flags none = fun_ext (λ n. elim (cases_lt n end) as (λ _. below
   | inr past ↦ (let e = none n past in ap (λ b. nat_lt n end && b) e ∙ none_of (nat_lt n end) ∙ sym e)
 ])
   where
-  none_of : (b : Bool) → (b && false) ≡ false
-  none_of true = refl
-  none_of false = refl
+    none_of : (b : Bool) → (b && false) ≡ false
+    none_of true = refl
+    none_of false = refl
 
 -- two tables that keep the same show the same
 pub shown-same : (a b : Inside) → b.links ≡ a.links → ((n : ℕ) → b.read.has n ≡ a.read.has n) → ((n : ℕ) → b.write.has n ≡ a.write.has n)
@@ -99,27 +99,29 @@ module _ (a : Inside) (kept : IsTable a) where
   pub kept-within : (x y : NumberSetValue) (n : ℕ) → in_either a.read.has x.has a.write.has y.has n ≡ true → n < 2 * a.links
   kept-within x y n h = either-within a.read.has x.has a.write.has y.has (2 * a.links) n (kept.read_end n) (kept.write_end n) h
 
-  pub next-none_shown : (t : WantsValue) → table_of a ≡ t → (from : ℕ) → ((k : ℕ) → from ≤ k → kept_wants k ≡ false) → IsNextWanted t from None
+  pub next-none_shown : (t : WantsValue) → table_of a ≡ t → (from : ℕ) → ((k : ℕ) → from ≤ k → kept_wants k ≡ false)
+      → IsNextWanted t from None
   next-none_shown t e from h =
       subst (λ u. IsNextWanted u from None) e (next-none (table_of a) from (λ k l. ap (λ (p : ℕ → Bool). p k) shown_wants ∙ h k l))
 
-  pub next-some_shown : (t : WantsValue) → table_of a ≡ t → (from n : ℕ) → IsLeast kept_wants from n → (w : Want) → w ≡ row_by a.read.has a.write.has n
+  pub next-some_shown : (t : WantsValue) → table_of a ≡ t → (from n : ℕ) → IsLeast kept_wants from n → (w : Want)
+      → w ≡ row_by a.read.has a.write.has n
       → NextWant t from w
   next-some_shown t e from n h w is =
       subst (λ u. NextWant u from w) e (subst (λ x. NextWant (table_of a) from x) (shown_row n ∙ sym is)
-          (next-some (table_of a) from n (subst (λ p. IsLeast p from n) (sym shown_wants) h)))
+      (next-some (table_of a) from n (subst (λ p. IsLeast p from n) (sym shown_wants) h)))
 
   pub previous-none_shown : (t : WantsValue) → table_of a ≡ t → (before : ℕ) → ((k : ℕ) → k < before → kept_wants k ≡ false)
       → IsPreviousWanted t before None
   previous-none_shown t e before h =
       subst (λ u. IsPreviousWanted u before None) e
-          (previous-none (table_of a) before (λ k l. ap (λ (p : ℕ → Bool). p k) shown_wants ∙ h k l))
+      (previous-none (table_of a) before (λ k l. ap (λ (p : ℕ → Bool). p k) shown_wants ∙ h k l))
 
   pub previous-some_shown : (t : WantsValue) → table_of a ≡ t → (before n : ℕ) → IsGreatest kept_wants before n → (w : Want)
       → w ≡ row_by a.read.has a.write.has n → PreviousWant t before w
   previous-some_shown t e before n h w is =
       subst (λ u. PreviousWant u before w) e (subst (λ x. PreviousWant (table_of a) before x) (shown_row n ∙ sym is)
-          (previous-some (table_of a) before n (subst (λ p. IsGreatest p before n) (sym shown_wants) h)))
+      (previous-some (table_of a) before n (subst (λ p. IsGreatest p before n) (sym shown_wants) h)))
 
   ready-inside : (x y : NumberSetValue) (o : Option ℕ) → IsNext (in_either a.read.has x.has a.write.has y.has) 0 o
       → is_some o ≡ list_any (is_ready_by x y) (rows_before a.read.has a.write.has (2 * a.links))

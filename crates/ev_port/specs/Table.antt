@@ -62,7 +62,10 @@ is_ready_by readable writable w = (w.read && readable.has (number w.side)) || (w
 
 -- the want with a mark at what can be done
 abbrev pub marked_by : NumberSetValue → NumberSetValue → Want → Want
-marked_by readable writable w = record w { can_read = w.read && readable.has (number w.side); can_write = w.write && writable.has (number w.side) }
+marked_by readable writable w = record w {
+  can_read = w.read && readable.has (number w.side);
+  can_write = w.write && writable.has (number w.side);
+}
 
 -- the want is that of the first side from a number on that wants something
 pub record NextWant (t : WantsValue) (from : ℕ) (w : Want) : Type 0 where
@@ -86,10 +89,10 @@ IsPreviousWanted t before None = named_before t before ≡ []
 
 -- A poll of all wants of a table. Some of them were marked, and the table lists those that have a mark.
 pub record TablePolled {Plan : Type 0} (old new : WantsValue) (timeout : Option ℕ) (result : Polled) (told told' : SideId → EndTold)
-    (by by' : Plan → Trace → Type 0) : Type 0 where
+    (vouches vouches' : Plan → Trace → Type 0) : Type 0 where
   pub marked : List Want  -- the wants with their marks
   pub marks : AllMarked (named old) marked
   pub many : length marked ≡ length (named old)
   pub list : new.list ≡ filter is_marked marked
   pub ends : AllWent told told' (poll_step marked result)
-  pub vouched : LongerBy by by' (poll_events timeout marked result)
+  pub vouched : LongerBy vouches vouches' (poll_events timeout marked result)

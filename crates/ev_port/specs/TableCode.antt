@@ -1,9 +1,9 @@
 -- That values of tables can be told apart: two are equal where their rows and lists are, and lists of answers give one back.
-use Rattle.std.specs.Prelude.{◌≡◌, ℕ, ◌*◌, ◌<◌, ◌≤◌, Bool, true, false, ◌&&◌, List, length, map, nat_lt, if◌then◌else◌, refl}
+use Rattle.std.specs.Prelude.{◌≡◌, ℕ, ◌*◌, ◌≤◌, Bool, false, ◌&&◌, List, map, nat_lt, if◌then◌else◌, refl}
 use Rattle.std.specs.List.{range_with_len, slice_index_or}
 use Rattle.std.specs.Coded.{Coded, code_by, coded_ℕ, coded_bool, coded_list, coded×}
 use Rattle.std.proofs.Common.{inl, inr, ◌∙◌, sym, ap, subst, zero-add}
-use Rattle.std.proofs.Math.Path.{fun_ext, subst₂}
+use Rattle.std.proofs.Math.Path.{fun_ext}
 use Rattle.std.proofs.Math.Bool.{Bool-set}
 use Rattle.std.proofs.lemmas.Bool.{and_left, cases_lt, le-ltb, lt-ltb}
 use Rattle.std.proofs.lemmas.List.FromFn.{get_or-map-range_with_len}

@@ -118,7 +118,8 @@ pub trait Port {
         ensures told { PolledWith (told self.old) (told self.new) accept timeout result }
 
         // What was marked, listed, counted and vouched for.
-        ensures went { TablePolled wants.old wants.new timeout result (ends self.old) (ends self.new) (vouches self.old) (vouches self.new) }
+        ensures went { TablePolled wants.old wants.new timeout result (ends self.old) (ends self.new)
+            (vouches self.old) (vouches self.new) }
 
         // Where it was asked for links and is ready for none, no link waits.
         ensures waiting { accept ≡ true → result ≡ Polled.Ready false → NothingWaits (vouches self.new) none_waits }

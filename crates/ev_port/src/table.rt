@@ -12,7 +12,7 @@ use std::alloc::{AllocError, Global};
 use std::marker::Model;
 
 /// What each side wants of the next poll, as rows that are changed one by one, and the list of the wants that the last poll
-/// marked. Two bits a side, and room for a want a side in the list.
+/// marked. It keeps two bits for each side, and room for each side in the list.
 ///
 /// Own.
 #[derive(Drop)]
@@ -179,7 +179,7 @@ impl WantTable {
         }
     }
 
-    /// How many links have rows. Constant cost.
+    /// How many links have rows. Takes no memory; constant cost.
     ///
     /// Own.
     pub fn links(&self) -> u32
@@ -188,8 +188,8 @@ impl WantTable {
         self.links
     }
 
-    /// Adds a link, whose sides want nothing. It may take memory, and costs by the number of sides where the list or the sets
-    /// move. Out of memory, and at 2^32 - 1 links, the table is as it was.
+    /// Adds a link, whose sides want nothing. It may take memory; constant cost, but for the links at which the list or a set
+    /// moves. Out of memory, and at 2^32 - 1 links, the table is as it was.
     ///
     /// Own.
     pub fn push_link(&mut self) -> Result<(), NoMemory>
@@ -230,7 +230,7 @@ impl WantTable {
         self.count = recount(self.count, did, does);
     }
 
-    /// How many sides want something. Constant cost.
+    /// How many sides want something. Takes no memory; constant cost.
     ///
     /// Own.
     pub fn count(&self) -> usize
@@ -239,7 +239,7 @@ impl WantTable {
         self.count
     }
 
-    /// The wants that the last poll marked, in the order of their sides.
+    /// The wants that the last poll marked, in the order of their sides. Takes no memory; constant cost.
     ///
     /// Own.
     pub fn list(&self) -> &[Want]
@@ -248,7 +248,8 @@ impl WantTable {
         &self.list
     }
 
-    /// Lists all wants, without marks. Takes no memory; costs by the number of wants, and of sides by 64.
+    /// Lists all wants, without marks. Takes no memory; linear in the wants, and in the sides, of which it passes over 64 at a
+    /// time.
     ///
     /// Own.
     pub fn name_all(&mut self)
@@ -259,7 +260,7 @@ impl WantTable {
         list_rows(&mut self.list, &self.read, &self.write, sides);
     }
 
-    /// Takes the wants without a mark from the list. Takes no memory; costs by the length of the list.
+    /// Takes the wants without a mark out of the list. Takes no memory; linear in the list.
     ///
     /// Own.
     pub(crate) fn keep_marked(&mut self)
@@ -269,8 +270,8 @@ impl WantTable {
         self.list.retain(|want| want.can_read || want.can_write);
     }
 
-    /// Whether something that is wanted can be done, by the numbers of the sides that can be read and written. Takes no memory;
-    /// costs by the number of sides by 64 up to the first.
+    /// Whether something that is wanted can be done, by the numbers of the sides that can be read and of those that can be
+    /// written. Takes no memory; linear in the sides before the first, of which it passes over 64 at a time.
     ///
     /// Own.
     pub fn is_any_ready(&self, readable: &NumberSet, writable: &NumberSet) -> bool
@@ -279,8 +280,8 @@ impl WantTable {
         NumberSet::next_in_either((&self.read, readable), (&self.write, writable), 0).is_some()
     }
 
-    /// Lists the wants for what can be done, with their marks, by the numbers of the sides that can be read and written. Takes
-    /// no memory; costs by the length of the list, and by the number of sides by 64.
+    /// Lists the wants for what can be done, with their marks, by the numbers of the sides that can be read and of those that
+    /// can be written. Takes no memory; linear in the marked wants, and in the sides, of which it passes over 64 at a time.
     ///
     /// Own.
     pub fn mark_ready(&mut self, readable: &NumberSet, writable: &NumberSet)
@@ -306,8 +307,8 @@ impl WantTable {
         self.list.clear();
     }
 
-    /// The want of the first side that wants something, from a number on. Takes no memory; costs by the number of sides by 64
-    /// that are passed over.
+    /// The want of the first side that wants something, from a number on, or None where no such side does. Takes no memory;
+    /// linear in the sides that it passes over, 64 at a time.
     ///
     /// Own.
     pub fn next_wanted(&self, from: usize) -> Option<Want>
@@ -321,8 +322,8 @@ impl WantTable {
         Some(row_of(&self.read, &self.write, number))
     }
 
-    /// The want of the last side that wants something, before a number. Takes no memory; costs by the number of sides by 64
-    /// that are passed over.
+    /// The want of the last side that wants something, before a number, or None where no such side does. Takes no memory;
+    /// linear in the sides that it passes over, 64 at a time.
     ///
     /// Own.
     pub fn previous_wanted(&self, before: usize) -> Option<Want>

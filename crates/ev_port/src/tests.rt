@@ -1,5 +1,6 @@
 // What no clause says: that calls succeed, and that the rules are the ones that are meant.
 mod standard;
+mod table;
 
 use crate::{Given, MemSink, MemSource, Mute, Scribe, Sink, Source, Taken};
 use ev_types::Entry;

@@ -1,4 +1,4 @@
-use Rattle.std.proofs.Common.{◌≡◌, ◌∙◌, ◌<◌, sym, arith, true}
+use Rattle.std.proofs.Common.{◌∙◌, sym, arith}
 use Rattle.std.proofs.lemmas.Grind.{common_steps}
 use Rattle.ev_port.proofs.MarkLemmas.{either-within, marked-all, marked-found}
 use Rattle.ev_port.proofs.table.list_ready.Goals as goal
@@ -23,4 +23,4 @@ pub returns-clause-list : goal.returns-clause-list
 returns-clause-list c =
     c.loop-number.invariant.list
     ∙ sym (marked-all c.args.rows.0.now.has c.args.rows.1.now.has c.args.ready.0.now c.args.ready.1.now c.loop-number.from c.args.sides
-        c.loop-number.invariant.within c.in_default.ensures)
+    c.loop-number.invariant.within c.in_default.ensures)

@@ -1,4 +1,4 @@
-use Rattle.std.proofs.Common.{◌≡◌, ◌∙◌, ◌<◌, sym, arith, true}
+use Rattle.std.proofs.Common.{◌∙◌, sym, arith}
 use Rattle.std.proofs.lemmas.Grind.{common_steps}
 use Rattle.ev_port.proofs.MarkLemmas.{either-within, rows-all, rows-found}
 use Rattle.ev_port.proofs.table.list_rows.Goals as goal
@@ -20,4 +20,5 @@ loop-number-preserved c =
 pub returns-clause-list : goal.returns-clause-list
 returns-clause-list c =
     c.loop-number.invariant.list
-    ∙ sym (rows-all c.args.read.now.has c.args.write.now.has c.loop-number.from c.args.sides c.loop-number.invariant.within c.in_default.ensures)
+    ∙ sym (rows-all c.args.read.now.has c.args.write.now.has c.loop-number.from c.args.sides
+    c.loop-number.invariant.within c.in_default.ensures)

@@ -4,7 +4,8 @@ use Rattle.ev_port.proofs.table.WantTable.next_wanted.Goals as goal
 
 pub returns-in_err-number : goal.returns-in_err-number
 returns-in_err-number c =
-    rw c.from_residual.ensures (next-none_shown c.self.inside c.self.invariant c.args.self.now c.self.view_is c.args.from c.in_err-number.ensures)
+    rw c.from_residual.ensures
+    (next-none_shown c.self.inside c.self.invariant c.args.self.now c.self.view_is c.args.from c.in_err-number.ensures)
 
 pub row_of-requires : goal.row_of-requires
 row_of-requires c =
@@ -16,4 +17,4 @@ row_of-requires c =
 pub returns : goal.returns
 returns c =
     next-some_shown c.self.inside c.self.invariant c.args.self.now c.self.view_is c.args.from c.in_ok-number.number c.in_ok-number.ensures
-        c.row_of.result c.row_of.ensures
+    c.row_of.result c.row_of.ensures

@@ -5,7 +5,7 @@ use Rattle.ev_port.proofs.table.WantTable.previous_wanted.Goals as goal
 pub returns-in_err-number : goal.returns-in_err-number
 returns-in_err-number c =
     rw c.from_residual.ensures
-        (previous-none_shown c.self.inside c.self.invariant c.args.self.now c.self.view_is c.args.before c.in_err-number.ensures)
+    (previous-none_shown c.self.inside c.self.invariant c.args.self.now c.self.view_is c.args.before c.in_err-number.ensures)
 
 pub row_of-requires : goal.row_of-requires
 row_of-requires c =
@@ -17,4 +17,4 @@ row_of-requires c =
 pub returns : goal.returns
 returns c =
     previous-some_shown c.self.inside c.self.invariant c.args.self.now c.self.view_is c.args.before c.in_ok-number.number
-        c.in_ok-number.ensures c.row_of.result c.row_of.ensures
+    c.in_ok-number.ensures c.row_of.result c.row_of.ensures

@@ -1,5 +1,4 @@
 use Rattle.std.proofs.Common.{◌≡◌, ◌≢◌, ◌∙◌, ℕ, ◌*◌, ◌<◌, ◌≤◌, ap, sym, subst, arith}
-use Rattle.ev_types.specs.Sides.{number}
 use Rattle.ev_port.specs.Table.{WantsValue}
 use Rattle.ev_port.proofs.TableViewLemmas.{counted-few, counted-some, flag-other, number-within, recounted}
 use Rattle.ev_port.proofs.table.WantTable.set.Goals as goal
@@ -9,7 +8,7 @@ recount-self-inside-requires-clause-there c =
     let a = c.self.inside in
     let links = ap (λ (t : WantsValue). t.links) c.self.view_is in
     let within = subst (λ n. n < 2 * a.links) (sym c.number-number.ensures)
-        (number-within c.args.side a.links (subst (λ n. c.args.side.link < n) (sym links) c.requires)) in
+    (number-within c.args.side a.links (subst (λ n. c.args.side.link < n) (sym links) c.requires)) in
     λ did. counted-some a c.self.invariant c.number-number.result within (sym c.has_want-did.ensures ∙ did)
 
 pub recount-self-inside-requires-clause-few : goal.recount-self-inside-requires-clause-few
@@ -22,7 +21,7 @@ invariant_of-self c =
     let n = c.number-number.result in
     let links = ap (λ (t : WantsValue). t.links) c.self.view_is in
     let within = subst (λ n. n < 2 * a.links) (sym c.number-number.ensures)
-        (number-within c.args.side a.links (subst (λ n. c.args.side.link < n) (sym links) c.requires)) in
+    (number-within c.args.side a.links (subst (λ n. c.args.side.link < n) (sym links) c.requires)) in
     let reads = λ (k : ℕ) (h : k ≢ n). c.put.ensures.members k ∙ flag-other k n c.args.read (a.read.has k) h in
     let writes = λ (k : ℕ) (h : k ≢ n). c.put-2.ensures.members k ∙ flag-other k n c.args.write (a.write.has k) h in
     let past = λ (k : ℕ) (l : 2 * a.links ≤ k) (e : k ≡ n). let z : ⊥ = omega (arith, l, e, within) in z in
