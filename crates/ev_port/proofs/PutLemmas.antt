@@ -65,11 +65,12 @@ named-opened t (suc n) l =
     (one-opened t (row t n) (wants_some (row t n)) below)
 
 -- what a poll lists belongs to links that have rows
-pub listed-opened : {Plan : Type 0} (old new : WantsValue) (timeout : Option ℕ) (result : Polled) (told told' : SideId → EndTold)
-    (by by' : Plan → Trace → Type 0) → TablePolled old new timeout result told told' by by'
+pub listed-opened : {Plan : Type 0} {old new : WantsValue} {timeout : Option ℕ} {result : Polled} {told told' : SideId → EndTold}
+    {vouches vouches' : Plan → Trace → Type 0} → TablePolled old new timeout result told told' vouches vouches'
     → (i : ℕ) (d : Want) → i < length new.list → (slice_index_or new.list i d).side.link < old.links
-listed-opened old new timeout result told told' by by' p =
-    let marked : All (IsOpened old) p.marked = λ i d l.
+listed-opened {Plan} {old} {new} {timeout} {result} {told} {told'} {vouches} {vouches'} p =
+    let marked : All (IsOpened old) p.marked =
+    λ i d l.
     let within : i < length (named old) = let m = p.many in omega (arith, l, m) in
     subst (λ (e : SideId). e.link < old.links) (sym (p.marks i d within).side)
     (named-opened old (2 * old.links) (omega arith) i d within) in

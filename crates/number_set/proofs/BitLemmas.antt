@@ -47,7 +47,8 @@ bit_at_shr word place k i e = ap (λ n. n % 2) (shr-shr word place k) ∙ ap (bi
 -- where a shift leaves nothing, no bit is set from its place on
 pub lowest_none : (word place : ℕ) → word / 2 ^ place ≡ 0 → (i : ℕ) → place ≤ i → is_set word i ≡ false
 lowest_none word place none i past =
-    is_set_from word i 0 (sym (bit_at_shr word place (i - place) i (omega arith)) ∙ ap (λ n. bit_at n (i - place)) none ∙ bit_at-zero (i - place))
+    let k = i - place in
+    is_set_from word i 0 (sym (bit_at_shr word place k i (omega arith)) ∙ ap (λ n. bit_at n k) none ∙ bit_at-zero k)
 
 -- the lowest bit of a shifted word stands at the least place from there on whose bit is set
 pub lowest_some : (word place : ℕ) → 0 < word / 2 ^ place → word < 2 ^ 64 → IsLeast (is_set word) place

@@ -36,54 +36,52 @@ either-bits first second third fourth at a b c d a_is b_is c_is d_is k within =
     ap₂ (λ x y. x || y) (is_set_and a b k ∙ ap₂ (λ x y. x && y) (bit first a a_is) (bit second b b_is))
     (is_set_and c d k ∙ ap₂ (λ x y. x && y) (bit third c c_is) (bit fourth d d_is))
 
+-- no number from the low one on and below the high one passes the test
+abbrev pub NoneBetween : (ℕ → Bool) → ℕ → ℕ → Type 0
+NoneBetween p low high = (i : ℕ) → low ≤ i → i < high → p i ≡ false
+
 module _ (p : ℕ → Bool) (word at : ℕ) (bits : (k : ℕ) → k < 64 → is_set word k ≡ p (64 * at + k)) where
   -- the answer at a number of the word
   bit_of : (i k : ℕ) → 64 * at + k ≡ i → k < 64 → p i ≡ is_set word k
   bit_of i k is within = ap p (sym is) ∙ sym (bits k within)
 
-  -- the least number, where nothing before the word passes and a bit of it does
-  pub least_in_word : (from place bit : ℕ) → from ≤ 64 * at + place → ((i : ℕ) → from ≤ i → i < 64 * at + place → p i ≡ false) → bit < 64
+  -- what does not pass below a place of the word, and no bit from there up to a higher one, is all that comes before
+  pub none_up : (from place high : ℕ) → NoneBetween p from (64 * at + place) → NoneBetween (is_set word) place high → high ≤ 64 →
+      NoneBetween p from (64 * at + high)
+  none_up from place high so_far none small i reached below =
+      let k = i - 64 * at in
+      elim (cases_lt i (64 * at + place)) [
+        | inl before ↦ so_far i reached before
+        | inr after ↦ bit_of i k (omega arith) (omega arith) ∙ none k (omega arith) (omega arith)
+      ]
+
+  -- what does not pass from a place of the word on, and no bit below it down to a lower one, is all that comes after
+  pub none_down : (before place low : ℕ) → NoneBetween p (64 * at + place) before → NoneBetween (is_set word) low place → place ≤ 64 →
+      NoneBetween p (64 * at + low) before
+  none_down before place low so_far none small i reached below =
+      let k = i - 64 * at in
+      elim (cases_lt i (64 * at + place)) [
+        | inl inside ↦ bit_of i k (omega arith) (omega arith) ∙ none k (omega arith) (omega arith)
+        | inr behind ↦ so_far i behind below
+      ]
+
+  -- the least number, where none below a place of the word passes, is that of the least bit from there on
+  pub least_in_word : (from place bit : ℕ) → from ≤ 64 * at + place → NoneBetween p from (64 * at + place) → bit < 64
       → IsLeast (is_set word) place bit → IsLeast p from (64 * at + bit)
   least_in_word from place bit begun so_far within least = record {
     reached = omega arith;
     passes = sym (bits bit within) ∙ least.passes;
-    none_before = λ i reached below.
-        elim (cases_lt i (64 * at + place)) [
-          | inl before ↦ so_far i reached before
-          | inr after ↦ bit_of i (i - 64 * at) (omega arith) (omega arith) ∙ least.none_before (i - 64 * at) (omega arith) (omega arith)
-        ];
+    none_before = none_up from place bit so_far least.none_before (omega arith);
   }
 
-  -- no number of the word passes either
-  pub none_in_word : (from place : ℕ) → ((i : ℕ) → from ≤ i → i < 64 * at + place → p i ≡ false) → ((k : ℕ) → place ≤ k → is_set
-      word k ≡ false) → (i : ℕ) → from ≤ i → i < 64 * (at + 1) → p i ≡ false
-  none_in_word from place so_far none i reached below =
-      elim (cases_lt i (64 * at + place)) [
-        | inl before ↦ so_far i reached before
-        | inr after ↦ bit_of i (i - 64 * at) (omega arith) (omega arith) ∙ none (i - 64 * at) (omega arith)
-      ]
-
-  -- the greatest number, where nothing behind the word passes and a bit of it does
-  pub greatest_in_word : (before place bit : ℕ) → 64 * at + place ≤ before → place ≤ 64 → ((i : ℕ) → 64 * at + place ≤ i → i < before → p i ≡ false)
+  -- the greatest number, where none from a place of the word on passes, is that of the greatest bit below it
+  pub greatest_in_word : (before place bit : ℕ) → 64 * at + place ≤ before → NoneBetween p (64 * at + place) before → place ≤ 64
       → IsGreatest (is_set word) place bit → IsGreatest p before (64 * at + bit)
-  greatest_in_word before place bit begun small so_far greatest =
+  greatest_in_word before place bit begun so_far small greatest =
       let below = greatest.below in
+      let none = none_down before place (bit + 1) so_far (λ k after inside. greatest.none_after k (omega arith) inside) small in
       record {
         below = omega arith;
         passes = sym (bits bit (omega arith)) ∙ greatest.passes;
-        none_after = λ i after under.
-            elim (cases_lt i (64 * at + place)) [
-              | inl inside ↦
-                  bit_of i (i - 64 * at) (omega arith) (omega arith) ∙ greatest.none_after (i - 64 * at) (omega arith) (omega arith)
-              | inr behind ↦ so_far i behind under
-            ];
+        none_after = λ i after inside. none i (omega arith) inside;
       }
-
-  -- no number of the word passes below its place
-  pub none_below_in_word : (before place : ℕ) → place ≤ 64 → ((i : ℕ) → 64 * at + place ≤ i → i < before → p i ≡ false) → ((k : ℕ) → k < place → is_set
-      word k ≡ false) → (i : ℕ) → 64 * at ≤ i → i < before → p i ≡ false
-  none_below_in_word before place small so_far none i from under =
-      elim (cases_lt i (64 * at + place)) [
-        | inl inside ↦ bit_of i (i - 64 * at) (omega arith) (omega arith) ∙ none (i - 64 * at) (omega arith)
-        | inr behind ↦ so_far i behind under
-      ]

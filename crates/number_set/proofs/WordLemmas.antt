@@ -96,7 +96,8 @@ fill-numbers words at v len within bits so_far n below =
     ]
 
 -- in both of two lists of words, no number is from the shorter one's end on
-both_past : (words others : List ℕ) (n : ℕ) → 64 * min (length words) (length others) ≤ n → (has_number words n && has_number others n) ≡ false
+both_past : (words others : List ℕ) (n : ℕ) → 64 * min (length words) (length others) ≤ n
+    → (has_number words n && has_number others n) ≡ false
 both_past words others n past =
     elim (cases_lt n (64 * length words)) [
       | inl within ↦ and_right _ _ (has_number_past others n (omega arith))
@@ -108,13 +109,19 @@ or_none x y p q = rw (p, q) refl
 
 -- in two pairs of words, no number is from the longer pair's end on
 pub either_past : (first second third fourth : List ℕ) (n : ℕ) → 64 * min (length first) (length second) ≤ n
-    → 64 * min (length third) (length fourth) ≤ n → in_either (has_number first) (has_number second) (has_number third) (has_number fourth) n ≡ false
+    → 64 * min (length third) (length fourth) ≤ n
+    → in_either (has_number first) (has_number second) (has_number third) (has_number fourth) n ≡ false
 either_past first second third fourth n past past_others =
     or_none _ _ (both_past first second n past) (both_past third fourth n past_others)
 
 -- no words keep the set of length 0
 pub empty_kept : IsKept [] 0
-empty_kept = record { enough = omega arith; tight = omega arith; few = omega arith; none_past = λ n past. has_number_past [] n (omega arith) }
+empty_kept = record {
+  enough = omega arith;
+  tight = omega arith;
+  fits = omega arith;
+  none_past = λ n past. has_number_past [] n (omega arith);
+}
 
 -- as many words, with all numbers below the length and no other, keep a set of that length
 pub filled_kept : (words full : List ℕ) (len : ℕ) → IsKept words len → length full ≡ length words → ((n : ℕ) → n < 64 * length words →
@@ -122,7 +129,7 @@ pub filled_kept : (words full : List ℕ) (len : ℕ) → IsKept words len → l
 filled_kept words full len kept same numbers = record {
   enough = omega arith;
   tight = omega arith;
-  few = omega arith;
+  fits = omega arith;
   none_past = λ n past.
       elim (cases_lt n (64 * length words)) [
         | inl within ↦ numbers n within ∙ le-ltb n len past

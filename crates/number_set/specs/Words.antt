@@ -20,10 +20,10 @@ value_of words len = record {
   absent = λ n past. and_left _ _ (le-ltb n len past);
 }
 
--- there is a bit for each number below the length and no word more, so few words that the number of each bit fits 64 bits, and no
--- number from the length on is in the words
+-- there is a bit for each number below the length and no word more, the length fits 64 bits, and no number from the length on is
+-- in the words
 pub record IsKept (words : List ℕ) (len : ℕ) : Type 0 where
   pub enough : len ≤ 64 * length words
   pub tight : 64 * length words < len + 64
-  pub few : length words ≤ 2 ^ 58
+  pub fits : len < 2 ^ 64
   pub none_past : (n : ℕ) → len ≤ n → has_number words n ≡ false

@@ -1,8 +1,8 @@
 // A set of the numbers below a length, and the walks from member to member, up and down.
-ghost use Rattle.std.specs.Prelude.{◌≡◌, ℕ, ◌+◌, ◌<◌, ◌==◌, Bool, true, false, IfSome, OnOk, OnErr, if◌then◌else◌};
+ghost use Rattle.std.specs.Prelude.{◌≡◌, ℕ, ◌+◌, ◌^◌, ◌<◌, ◌==◌, Bool, true, false, IfSome, OnOk, OnErr, if◌then◌else◌};
 ghost use Rattle.number_set.specs.Next.{in_either, IsNext, IsPrevious};
 
-use crate::words::{fill_words, has_bit, make_room, next_bit, previous_bit, put_bit};
+use crate::words::{fill_words, has_number, make_room, next_number, previous_number, put_number};
 use std::alloc::{AllocError, Global};
 use std::marker::Model;
 
@@ -54,9 +54,9 @@ impl NumberSet {
         self.len
     }
 
-    /// Makes the set longer by one, and the new last number a member or not. Takes memory for one
-    /// number of 64, and constant cost but for that. Out of memory, and at 2^64 - 1 numbers, the set
-    /// is as it was.
+    /// Makes the set longer by one, and its new last number a member or not. Takes memory at most once
+    /// in 64 calls; constant cost where it takes none. Out of memory, and at a length of 2^64 - 1, it is
+    /// refused, and the set is as it was.
     ///
     /// Own.
     pub fn push(&mut self, member: bool) -> Result<(), AllocError>
@@ -70,7 +70,7 @@ impl NumberSet {
             return Err(AllocError);
         }
         make_room(&mut self.words, number)?;
-        put_bit(&mut self.words, number, member);
+        put_number(&mut self.words, number, member);
         self.len = number + 1;
         Ok(())
     }
@@ -84,7 +84,7 @@ impl NumberSet {
         ensures len { self.new.len ≡ self.old.len }
         ensures members { (n : ℕ) → self.new.has n ≡ (if n == number then true else self.old.has n) }
     {
-        put_bit(&mut self.words, number, true);
+        put_number(&mut self.words, number, true);
     }
 
     /// Makes a number no member, which it may be already: one from the length on never is one. Takes
@@ -96,7 +96,7 @@ impl NumberSet {
         ensures members { (n : ℕ) → self.new.has n ≡ (if n == number then false else self.old.has n) }
     {
         if number < self.len {
-            put_bit(&mut self.words, number, false);
+            put_number(&mut self.words, number, false);
         }
     }
 
@@ -118,18 +118,20 @@ impl NumberSet {
     pub fn contains(&self, number: usize) -> bool
         ensures { result ≡ self.now.has number }
     {
-        has_bit(&self.words, number)
+        has_number(&self.words, number)
     }
 
-    /// The least member from a number on, that number included, or None where there is none. Takes no
-    /// memory; linear in the length that is passed over, 64 numbers at a time.
+    /// The least member from a number on, that number included, or None where there is none. It can be
+    /// asked again from the number after it. Takes no memory; linear in the length that is passed over,
+    /// 64 numbers at a time.
     ///
     /// Own.
     pub fn next(&self, from: usize) -> Option<usize>
         ensures next { IsNext self.now.has from result }
         ensures within { IfSome result (λ n. n < self.now.len) }
+        ensures small { IfSome result (λ n. n + 1 < 2 ^ 64) }
     {
-        next_bit(&self.words, &self.words, &self.words, &self.words, from)
+        next_number(&self.words, &self.words, &self.words, &self.words, from)
     }
 
     /// The greatest member below a number, or None where there is none. Takes no memory; linear in
@@ -140,12 +142,13 @@ impl NumberSet {
         ensures previous { IsPrevious self.now.has before result }
         ensures within { IfSome result (λ n. n < self.now.len) }
     {
-        previous_bit(&self.words, &self.words, &self.words, &self.words, before)
+        previous_number(&self.words, &self.words, &self.words, &self.words, before)
     }
 
     /// The least number from a number on, that number included, that is in both sets of `a` or in
-    /// both sets of `b`, or None where there is none. The sets may have different lengths. Takes no
-    /// memory; linear in the length that is passed over, 64 numbers at a time.
+    /// both sets of `b`, or None where there is none. The sets may have different lengths. It can be
+    /// asked again from the number after it. Takes no memory; linear in the length that is passed over,
+    /// 64 numbers at a time.
     ///
     /// Own.
     pub fn next_in_either(
@@ -153,12 +156,13 @@ impl NumberSet {
         b: (&NumberSet, &NumberSet),
         from: usize,
     ) -> Option<usize>
-        ensures { IsNext
-            (in_either a.entry.0.now.has a.entry.1.now.has b.entry.0.now.has b.entry.1.now.has) from result }
+        ensures next { IsNext (in_either a.entry.0.now.has a.entry.1.now.has
+            b.entry.0.now.has b.entry.1.now.has) from result }
+        ensures small { IfSome result (λ n. n + 1 < 2 ^ 64) }
     {
         let (first, second) = a;
         let (third, fourth) = b;
-        next_bit(
+        next_number(
             &first.words,
             &second.words,
             &third.words,
@@ -177,12 +181,12 @@ impl NumberSet {
         b: (&NumberSet, &NumberSet),
         before: usize,
     ) -> Option<usize>
-        ensures { IsPrevious
-            (in_either a.entry.0.now.has a.entry.1.now.has b.entry.0.now.has b.entry.1.now.has) before result }
+        ensures { IsPrevious (in_either a.entry.0.now.has a.entry.1.now.has
+            b.entry.0.now.has b.entry.1.now.has) before result }
     {
         let (first, second) = a;
         let (third, fourth) = b;
-        previous_bit(
+        previous_number(
             &first.words,
             &second.words,
             &third.words,

@@ -14,14 +14,14 @@ fn word_at(words: &[u64], at: usize) -> u64
 }
 
 /// Whether the number is in the words.
-pub(crate) fn has_bit(words: &[u64], number: usize) -> bool
+pub(crate) fn has_number(words: &[u64], number: usize) -> bool
     ensures { result ≡ has_number words.now number }
 {
     (word_at(words, number / WORD) >> (number % WORD)) & 1 == 1
 }
 
 /// Puts the number into the words, or takes it out of them.
-pub(crate) fn put_bit(words: &mut Vec<u64>, number: usize, member: bool)
+pub(crate) fn put_number(words: &mut Vec<u64>, number: usize, member: bool)
     requires { number < 64 * vec_len words.old }
     ensures len { vec_len words.new ≡ vec_len words.old }
     ensures numbers { (n : ℕ) → has_number words.new.items n
@@ -37,7 +37,8 @@ pub(crate) fn make_room(words: &mut Vec<u64>, number: usize) -> Result<(), Alloc
     requires tight { 64 * vec_len words.old < number + 64 }
     ensures enough { OnOk result (number < 64 * vec_len words.new) }
     ensures tight { OnOk result (64 * vec_len words.new ≤ number + 64) }
-    ensures numbers { OnOk result ((n : ℕ) → has_number words.new.items n ≡ has_number words.old.items n) }
+    ensures numbers { OnOk result
+        ((n : ℕ) → has_number words.new.items n ≡ has_number words.old.items n) }
     ensures err { OnErr result (words.new.items ≡ words.old.items) }
 {
     if number / WORD >= words.len() {
@@ -57,18 +58,18 @@ pub(crate) fn fill_words(words: &mut Vec<u64>, len: usize)
     }
 }
 
-// The numbers of one word that are in the first two or in the last two.
+// A word of the numbers that are in the first two or in the last two.
 fn either_at(first: &[u64], second: &[u64], third: &[u64], fourth: &[u64], at: usize) -> u64
-    ensures { (k : ℕ) → k < WORD → is_set result k
-        ≡ in_either (has_number first.now) (has_number second.now) (has_number third.now) (has_number fourth.now) (64 * at + k) }
+    ensures { (k : ℕ) → k < WORD → is_set result k ≡ in_either (has_number first.now)
+        (has_number second.now) (has_number third.now) (has_number fourth.now) (64 * at + k) }
 {
     (word_at(first, at) & word_at(second, at)) | (word_at(third, at) & word_at(fourth, at))
 }
 
 // From this word on no number is in the first two or in the last two.
 fn end_of_either(first: &[u64], second: &[u64], third: &[u64], fourth: &[u64]) -> usize
-    ensures none { (n : ℕ) → 64 * result ≤ n → in_either (has_number first.now) (has_number second.now)
-        (has_number third.now) (has_number fourth.now) n ≡ false }
+    ensures none { (n : ℕ) → 64 * result ≤ n → in_either (has_number first.now)
+        (has_number second.now) (has_number third.now) (has_number fourth.now) n ≡ false }
     ensures small { length first.now ≤ 2 ^ 58 → length third.now ≤ 2 ^ 58 → result ≤ 2 ^ 58 }
 {
     let both = first.len().min(second.len());
@@ -77,7 +78,7 @@ fn end_of_either(first: &[u64], second: &[u64], third: &[u64], fourth: &[u64]) -
 }
 
 /// The least number from a number on that is in the first two or in the last two.
-pub(crate) fn next_bit(
+pub(crate) fn next_number(
     first: &[u64],
     second: &[u64],
     third: &[u64],
@@ -86,8 +87,8 @@ pub(crate) fn next_bit(
 ) -> Option<usize>
     requires first { length first.now ≤ 2 ^ 58 }
     requires third { length third.now ≤ 2 ^ 58 }
-    ensures { IsNext (in_either (has_number first.now) (has_number second.now)
-        (has_number third.now) (has_number fourth.now)) from result }
+    ensures { IsNext (in_either (has_number first.now)
+        (has_number second.now) (has_number third.now) (has_number fourth.now)) from result }
 {
     let end = end_of_either(first, second, third, fourth);
     let mut at = from / WORD;
@@ -103,15 +104,15 @@ pub(crate) fn next_bit(
 }
 
 /// The greatest number below a number that is in the first two or in the last two.
-pub(crate) fn previous_bit(
+pub(crate) fn previous_number(
     first: &[u64],
     second: &[u64],
     third: &[u64],
     fourth: &[u64],
     before: usize,
 ) -> Option<usize>
-    ensures { IsPrevious (in_either (has_number first.now) (has_number second.now)
-        (has_number third.now) (has_number fourth.now)) before result }
+    ensures { IsPrevious (in_either (has_number first.now)
+        (has_number second.now) (has_number third.now) (has_number fourth.now)) before result }
 {
     let end = end_of_either(first, second, third, fourth);
     let mut at = end.min(before / WORD);

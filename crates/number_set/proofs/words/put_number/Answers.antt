@@ -1,6 +1,6 @@
 use Rattle.std.proofs.Common.{arith}
 use Rattle.number_set.proofs.WordLemmas.{put-numbers}
-use Rattle.number_set.proofs.words.put_bit.Goals as goal
+use Rattle.number_set.proofs.words.put_number.Goals as goal
 
 pub returns-clause-numbers : goal.returns-clause-numbers
 returns-clause-numbers c =

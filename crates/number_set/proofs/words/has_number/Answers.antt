@@ -2,7 +2,7 @@ use Rattle.std.proofs.Common.{◌∙◌, sym, ap, ◌==◌, ◌%◌, ◌/◌, ar
 use Rattle.std.proofs.lemmas.Nat.Bits.{shr_and_one}
 use Rattle.number_set.specs.Words.{is_set}
 use Rattle.number_set.proofs.WordLemmas.{has_number_at}
-use Rattle.number_set.proofs.words.has_bit.Goals as goal
+use Rattle.number_set.proofs.words.has_number.Goals as goal
 
 pub returns : goal.returns
 returns c =

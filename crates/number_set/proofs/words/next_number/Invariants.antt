@@ -1,7 +1,7 @@
 use Rattle.std.proofs.Common.{◌≡◌, ℕ, ◌+◌, ◌-◌, ◌*◌, ◌<◌, ◌≤◌, false}
 use Rattle.number_set.specs.Next.{in_either}
 use Rattle.number_set.specs.Words.{has_number}
-use Rattle.number_set.proofs.words.next_bit.Given as goal
+use Rattle.number_set.proofs.words.next_number.Given as goal
 
 abbrev pub invariant-loop-at : goal.invariant-loop-at
 invariant-loop-at l =
