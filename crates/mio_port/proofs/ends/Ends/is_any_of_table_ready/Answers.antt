@@ -7,5 +7,5 @@ use Rattle.mio_port.proofs.ends.Ends.is_any_of_table_ready.Goals as goal
 pub returns : goal.returns
 returns c =
     let ends = c.args.self.now in
-    c.is_any_ready.ensures
-    ∙ ap (λ can. list_any can (named c.args.wants.now)) (is_ready_by-ends ends.ends.items ends.readable ends.writable ends.reads ends.writes)
+    let same = is_ready_by-ends ends.ends.items ends.readable ends.writable ends.reads ends.writes in
+    c.is_any_ready.ensures ∙ ap (λ can. list_any can (named c.args.wants.now)) same

@@ -7,5 +7,5 @@ use Rattle.mio_port.proofs.ends.Ends.mark_table.Goals as goal
 pub returns-clause-list : goal.returns-clause-list
 returns-clause-list c =
     let ends = c.args.self.now in
-    c.mark_ready.ensures.list
-    ∙ ap (λ mark. filter is_marked (map mark (named c.args.wants.now))) (marked_by-ends ends.ends.items ends.readable ends.writable ends.reads ends.writes)
+    let same = marked_by-ends ends.ends.items ends.readable ends.writable ends.reads ends.writes in
+    c.mark_ready.ensures.list ∙ ap (λ mark. filter is_marked (map mark (named c.args.wants.now))) same
