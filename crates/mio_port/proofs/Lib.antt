@@ -1,1 +1,2 @@
 pub mod WantMarkLemmas
+pub mod TableMarkLemmas

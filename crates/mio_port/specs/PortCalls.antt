@@ -1,6 +1,6 @@
 -- What each call of the port says beyond what every port says: which ends stand where, and what is answered for one that
 -- isn't there.
-use Rattle.std.specs.Prelude.{◌≡◌, ◌≢◌, ℕ, ◌+◌, ◌*◌, ⊤, Bool, true, false, ◌&&◌, List, map, Option, Some, None, Result, Ok, Err, is_some, MatchOption, slice_index_or}
+use Rattle.std.specs.Prelude.{◌≡◌, ◌≢◌, ℕ, ◌+◌, ◌*◌, ⊤, Bool, true, false, ◌&&◌, List, [], map, filter, Option, Some, None, Result, Ok, Err, is_some, MatchOption, slice_index_or}
 use Rattle.ev_types.specs.declared.addr.Addr.{Addr}
 use Rattle.ev_port.specs.declared.port.Accepted.{Accepted}
 use Rattle.ev_port.specs.declared.port.Accepted.TheVariants as accepted
@@ -9,6 +9,7 @@ use Rattle.ev_port.specs.declared.port.Polled.TheVariants as polled
 use Rattle.ev_port.specs.declared.port.Started.{Started}
 use Rattle.ev_port.specs.declared.port.Started.TheVariants as started
 use Rattle.ev_port.specs.declared.port.Want.{Want}
+use Rattle.ev_port.specs.Table.{WantsValue, is_marked, named}
 use Rattle.mio_port.specs.declared.door.Door.{Door}
 use Rattle.mio_port.specs.declared.door.Miss.{Miss}
 use Rattle.mio_port.specs.declared.end.End.{End}
@@ -29,6 +30,11 @@ Listens d to started.NoMemory = d.listener ≡ None
 abbrev pub Marked : List (Option End) → List Want → List Want → Polled → Type 0
 Marked ends old new (polled.Ready accept) = new ≡ map (marked ends) old
 Marked ends old new polled.Failed = new ≡ map unmarked old
+
+-- what a poll of a table listed: what was wanted and is ready, with its marks, or nothing where it failed
+abbrev pub MarkedTable : List (Option End) → WantsValue → WantsValue → Polled → Type 0
+MarkedTable ends old new (polled.Ready accept) = new.list ≡ filter is_marked (map (marked ends) (named old))
+MarkedTable ends old new polled.Failed = new.list ≡ []
 
 -- links are accepted where that was asked and the listener can be
 abbrev pub Accepts : Door → Bool → Polled → Type 0

@@ -1,26 +1,36 @@
-// The ends of all links, by their numbers. An end stays once it is made, and its count of faults with it.
-ghost use Rattle.std.specs.Prelude.{◌≡◌, ◌<◌, ◌+◌, ◌*◌, [], length, map, OnOk, false, true, option_map};
+// The ends of all links, by their numbers, and the numbers of those that are ready. An end stays once it is made, and its
+// count of faults with it.
+ghost use Rattle.std.specs.Prelude.{◌≡◌, ◌<◌, ◌≤◌, ◌==◌, ◌+◌, ◌*◌, ℕ, [], None, length, map, filter, slice_index_or, vec_len, OnOk, false, true, option_map, if◌then◌else◌};
 ghost use Rattle.std.specs.List.{list_any};
 ghost use Rattle.stream_words.specs.Faults.{Counted};
+ghost use Rattle.ev_port.specs.Table.{RowsStay, is_marked, named};
 ghost use Rattle.ev_port.specs.Ends.{ReadWithin, is_failed_read, WriteWithin, is_failed_write, is_failed_conn};
 ghost use Rattle.ev_types.specs.Sides.{number};
 ghost use Rattle.mio_port.specs.EndAnswers.{connection_of, connection_at, ReadBy, WrittenBy, CheckedBy};
 ghost use Rattle.mio_port.specs.PortCalls.{OthersStay};
 ghost use Rattle.mio_port.specs.OneEnd.{noticed_end, closed_end};
-ghost use Rattle.mio_port.specs.EndPlaces.{faults_of, CountsStay, CountsAt, PlacesStay, PlaceWent, holds, is_made, can_read, can_write, wants_ready, marked, unmarked};
+ghost use Rattle.mio_port.specs.EndPlaces.{faults_of, CountsStay, CountsAt, PlacesStay, PlaceWent, holds, is_made, is_read_ready, is_write_ready, can_read, can_write, wants_ready, marked, unmarked};
 
 use crate::end::End;
-use ev_port::Want;
+use ev_port::{Want, WantTable};
 use ev_types::{ConnAnswer, ReadAnswer, Side, SideId, WriteAnswer};
 use mio::event::Event;
+use number_set::NumberSet;
 use std::alloc::{AllocError, Global};
 
-/// The ends of all links: each link's In end at twice its number, and its Out end behind it.
+/// The ends of all links: each link's In end at twice its number, and its Out end behind it. Beside them stand the numbers
+/// of the ends that are ready for reading, and of those that are ready for writing, so that a poll need not look at an end.
 ///
 /// Own.
 #[derive(Drop)]
 pub(crate) struct Ends {
     ends: Vec<Option<End>>,
+    readable: NumberSet,
+    writable: NumberSet,
+    ghost reads: { (n : ℕ) → readable.has n ≡ is_read_ready (slice_index_or ends.items n None) },
+    ghost writes: { (n : ℕ) → writable.has n ≡ is_write_ready (slice_index_or ends.items n None) },
+    ghost read_room: { vec_len ends ≤ readable.len },
+    ghost write_room: { vec_len ends ≤ writable.len },
 }
 
 pub(crate) fn in_end(link: u32) -> SideId
@@ -93,12 +103,60 @@ fn close_at(place: &mut Option<End>)
     }
 }
 
+// The sets of the numbers that are ready
+
+// Room for the numbers below this one. None of them is put in. Where memory is wanting the members stay as well.
+fn make_longer(set: &mut NumberSet, needed: usize) -> Result<(), AllocError>
+    ensures members { (n : ℕ) → set.new.has n ≡ set.old.has n }
+    ensures longer { set.old.len ≤ set.new.len }
+    ensures enough { OnOk result (needed ≤ set.new.len) }
+{
+    for _number in set.len()..needed {
+        set.push(false)?;
+    }
+    Ok(())
+}
+
+// Puts a number into the set or takes it out.
+fn set_to(set: &mut NumberSet, number: usize, is_in: bool)
+    requires { number < set.old.len }
+    ensures len { set.new.len ≡ set.old.len }
+    ensures members { (n : ℕ) → set.new.has n ≡ (if n == number then is_in else set.old.has n) }
+{
+    if is_in {
+        set.insert(number);
+    } else {
+        set.remove(number);
+    }
+}
+
+// An end may have changed: each set has its number where the end is ready now.
+fn keep_up(ends: &[Option<End>], number: usize, readable: &mut NumberSet, writable: &mut NumberSet)
+    requires read_room { number < readable.old.len }
+    requires write_room { number < writable.old.len }
+    ensures read_len { readable.new.len ≡ readable.old.len }
+    ensures write_len { writable.new.len ≡ writable.old.len }
+    ensures reads { (n : ℕ) → readable.new.has n
+        ≡ (if n == number then is_read_ready (slice_index_or ends.now number None) else readable.old.has n) }
+    ensures writes { (n : ℕ) → writable.new.has n
+        ≡ (if n == number then is_write_ready (slice_index_or ends.now number None) else writable.old.has n) }
+{
+    let (can_read, can_write) = match ends.get(number) {
+        Some(Some(end)) => (end.is_read_ready(), end.is_write_ready()),
+        _ => (false, false),
+    };
+    set_to(readable, number, can_read);
+    set_to(writable, number, can_write);
+}
+
 impl Ends {
     pub(crate) fn new(alloc: Global) -> Ends
         ensures { result.ends.items ≡ [] }
     {
         Ends {
             ends: Vec::new(alloc),
+            readable: NumberSet::new(alloc),
+            writable: NumberSet::new(alloc),
         }
     }
 
@@ -123,6 +181,8 @@ impl Ends {
     {
         let needed = out_end(link).number() + 1;
         let missing = needed.saturating_sub(self.ends.len());
+        make_longer(&mut self.readable, needed)?;
+        make_longer(&mut self.writable, needed)?;
         self.ends.reserve(missing)?;
         for _place in 0..missing {
             self.ends.push_reserved(None);
@@ -140,8 +200,12 @@ impl Ends {
         ensures made { holds self.new.ends.items link ≡ true }
         ensures others { OthersStay self.old.ends.items self.new.ends.items link }
     {
-        self.ends[in_end(link).number()] = Some(inside);
-        self.ends[out_end(link).number()] = Some(outside);
+        let near = in_end(link).number();
+        let far = out_end(link).number();
+        self.ends[near] = Some(inside);
+        keep_up(&self.ends, near, &mut self.readable, &mut self.writable);
+        self.ends[far] = Some(outside);
+        keep_up(&self.ends, far, &mut self.readable, &mut self.writable);
     }
 
     /// What the kernel reported of the end with this number. Of an end that isn't there it tells nothing.
@@ -151,21 +215,20 @@ impl Ends {
     {
         if let Some(place) = self.ends.get_mut(number) {
             notice_at(place, event);
+            keep_up(&self.ends, number, &mut self.readable, &mut self.writable);
         }
     }
 
     fn can_read(&self, want: Want) -> bool
         ensures { result ≡ can_read self.now.ends.items want }
     {
-        want.read
-            && matches!(self.ends.get(want.side.number()), Some(Some(end)) if end.is_read_ready())
+        want.read && self.readable.contains(want.side.number())
     }
 
     fn can_write(&self, want: Want) -> bool
         ensures { result ≡ can_write self.now.ends.items want }
     {
-        want.write
-            && matches!(self.ends.get(want.side.number()), Some(Some(end)) if end.is_write_ready())
+        want.write && self.writable.contains(want.side.number())
     }
 
     /// Something that is wanted can be done.
@@ -186,6 +249,21 @@ impl Ends {
         }
     }
 
+    /// Something that a table wants can be done. Only the sets are looked at, 64 numbers at a time.
+    pub(crate) fn is_any_of_table_ready(&self, wants: &WantTable) -> bool
+        ensures { result ≡ list_any (wants_ready self.now.ends.items) (named wants.now) }
+    {
+        wants.is_any_ready(&self.readable, &self.writable)
+    }
+
+    /// Lists in a table what it wants and can be done, with the marks, and nothing else. Only the sets are looked at.
+    pub(crate) fn mark_table(&self, wants: &mut WantTable)
+        ensures rows { RowsStay wants.old wants.new }
+        ensures list { wants.new.list ≡ filter is_marked (map (marked self.now.ends.items) (named wants.old)) }
+    {
+        wants.mark_ready(&self.readable, &self.writable);
+    }
+
     fn marked(&self, want: Want) -> Want
         ensures { result ≡ marked self.now.ends.items want }
     {
@@ -202,10 +280,13 @@ impl Ends {
         ensures cause { CountsAt self.old.ends.items self.new.ends.items side (is_failed_read result) }
         ensures by { ReadBy (connection_at self.old.ends.items side) result }
     {
-        match self.ends.get_mut(side.number()) {
-            Some(place) => read_at(place, into),
-            None => ReadAnswer::NotYet,
-        }
+        let number = side.number();
+        let Some(place) = self.ends.get_mut(number) else {
+            return ReadAnswer::NotYet;
+        };
+        let answer = read_at(place, into);
+        keep_up(&self.ends, number, &mut self.readable, &mut self.writable);
+        answer
     }
 
     pub(crate) fn write(&mut self, side: SideId, from: &[u8]) -> WriteAnswer
@@ -214,20 +295,26 @@ impl Ends {
         ensures cause { CountsAt self.old.ends.items self.new.ends.items side (is_failed_write result) }
         ensures by { WrittenBy (connection_at self.old.ends.items side) result }
     {
-        match self.ends.get_mut(side.number()) {
-            Some(place) => write_at(place, from),
-            None => WriteAnswer::NotYet,
-        }
+        let number = side.number();
+        let Some(place) = self.ends.get_mut(number) else {
+            return WriteAnswer::NotYet;
+        };
+        let answer = write_at(place, from);
+        keep_up(&self.ends, number, &mut self.readable, &mut self.writable);
+        answer
     }
 
     pub(crate) fn check(&mut self, side: SideId) -> ConnAnswer
         ensures cause { CountsAt self.old.ends.items self.new.ends.items side (is_failed_conn result) }
         ensures by { CheckedBy (connection_at self.old.ends.items side) result }
     {
-        match self.ends.get_mut(side.number()) {
-            Some(place) => check_at(place),
-            None => ConnAnswer::Pending,
-        }
+        let number = side.number();
+        let Some(place) = self.ends.get_mut(number) else {
+            return ConnAnswer::Pending;
+        };
+        let answer = check_at(place);
+        keep_up(&self.ends, number, &mut self.readable, &mut self.writable);
+        answer
     }
 
     pub(crate) fn close_write(&self, side: SideId) {
@@ -240,9 +327,12 @@ impl Ends {
         ensures counts { CountsStay self.old.ends.items self.new.ends.items }
         ensures went { PlaceWent self.old.ends.items self.new.ends.items (number side) closed_end }
     {
-        if let Some(place) = self.ends.get_mut(side.number()) {
-            close_at(place);
-        }
+        let number = side.number();
+        let Some(place) = self.ends.get_mut(number) else {
+            return;
+        };
+        close_at(place);
+        keep_up(&self.ends, number, &mut self.readable, &mut self.writable);
     }
 }
 

@@ -8,11 +8,12 @@ ghost use Rattle.ev_port.specs.EndSteps.{EndsWent, AllWent, PortStays, no_step};
 ghost use Rattle.ev_port.specs.Faults.{FaultsStay, EndFaults, PollFaults, ListenerFaults};
 ghost use Rattle.ev_port.specs.Calls.{Ticked, ClockRead, is_failed_start, StartedAt, is_failed_accept, accept_events, accept_step, AcceptedLink};
 ghost use Rattle.ev_port.specs.Polling.{is_failed_poll, opens_accepting, AllMarked, poll_events, poll_step, PolledWith};
+ghost use Rattle.ev_port.specs.Table.{RowsStay, TablePolled};
 ghost use Rattle.ev_port.specs.Ends.{is_failed_conn, conn_step, conn_events, ReadWithin, is_failed_read, read_step, read_events, WriteWithin, is_failed_write, write_step, write_events, close_write_events, close_events, close_write_step, close_step};
 ghost use Rattle.mio_port.specs.EndAnswers.{connection_at, ReadBy, WrittenBy, CheckedBy};
 ghost use Rattle.mio_port.specs.OneEnd.{closed_end};
 ghost use Rattle.mio_port.specs.EndPlaces.{PlacesStay, PlaceWent};
-ghost use Rattle.mio_port.specs.PortCalls.{Listens, Marked, Accepts, MadeLink, HasNoFault, IsNoLink};
+ghost use Rattle.mio_port.specs.PortCalls.{Listens, Marked, MarkedTable, Accepts, MadeLink, HasNoFault, IsNoLink};
 ghost use Rattle.mio_port.specs.PortFaults.{IsFaultless, mio_faults, vouches_nothing, waits_untold};
 
 use crate::clock::SteadyClock;
@@ -20,7 +21,9 @@ use crate::door::{Door, Miss, miss_of, socket_addr};
 use crate::end::End;
 use crate::ends::{Ends, in_end, out_end, unmark};
 use crate::kernel::{Kernel, cut_to};
-use ev_port::{Accepted, Addr, ConnAnswer, Polled, Port, ReadAnswer, Started, Want, WriteAnswer};
+use ev_port::{
+    Accepted, Addr, ConnAnswer, Polled, Port, ReadAnswer, Started, Want, WantTable, WriteAnswer,
+};
 use ev_types::SideId;
 use std::alloc::AllocGlobal;
 use std::io;
@@ -36,9 +39,10 @@ const SCARCE_PAUSE: u64 = 100;
 ///
 /// Each socket is watched for both ways from the moment it is made, and each end keeps a bit a way that says that it is
 /// ready. A report of the kernel sets the bit, an error or a hang-up sets both, and a call that finds the way blocked
-/// clears it, as does a read or a write that came short. So a call of `poll` makes at most one call of the system, whatever
-/// is wanted; and none where something wanted is ready already, but at each 16th such poll, so that nothing waits for ever
-/// behind an end that is always ready.
+/// clears it, as does a read or a write that came short. So a poll makes at most one call of the system, whatever is wanted;
+/// and none where something wanted is ready already, but at each 16th such poll, so that nothing waits for ever behind an
+/// end that is always ready. The numbers of the ends whose bit is set stand in a set a way, so that a poll finds what is
+/// ready without a look at the ends.
 ///
 /// Its clauses are those of every port. It tells nothing of the bytes and vouches for no trace, since no clause can say
 /// what a socket gives. Its counts of faults are real: one for polling, one for the listener and one an end, each of 64
@@ -50,8 +54,9 @@ const SCARCE_PAUSE: u64 = 100;
 ///
 /// Only `start` and `accept` take memory: `start` a table of reports, `accept` the places of the link's ends and of those
 /// of lower numbers that weren't made. No memory is given back before the port goes, and a number is never used again. Each
-/// call takes constant time, but `poll`, which is linear in the wants and the reports, and `accept`, which is so over a
-/// run of links that are numbered in turn.
+/// call takes constant time, but `poll`, which is linear in the wants and the reports, `poll_table`, which is linear in the
+/// reports and in the wants that it marks, and looks at a word for each 64 numbers of sides, and `accept`, which is so over
+/// a run of links that are numbered in turn.
 ///
 /// Own, over mio's `Poll`, `TcpListener` and `TcpStream`; libevent has it as event2/event.h, `EV_ET`, and event2/listener.h.
 /// Differs: a listener that found no descriptor is left alone for a while, where libevent's reports the error each time.
@@ -112,20 +117,53 @@ impl<'a, R: Net + Clock + AllocGlobal> MioPort<'a, R> {
         ensures asked { Accepts self.new.door accept result }
         ensures cause { PollFaults (mio_faults self.old) (mio_faults self.new) (is_failed_poll result) }
     {
+        let is_any = self.ends.is_any_ready(wants);
+        let polled = self.wait(is_any, accept, timeout);
+        match polled {
+            Polled::Ready { .. } => self.ends.mark(wants),
+            Polled::Failed => unmark(wants),
+        }
+        polled
+    }
+
+    // A poll of a table, with what it lists.
+    fn table_ready_for(
+        &mut self,
+        wants: &mut WantTable,
+        accept: bool,
+        timeout: Option<u64>,
+    ) -> Polled
+        ensures marked { MarkedTable self.new.ends.ends.items wants.old wants.new result }
+        ensures rows { RowsStay wants.old wants.new }
+        ensures asked { Accepts self.new.door accept result }
+        ensures cause { PollFaults (mio_faults self.old) (mio_faults self.new) (is_failed_poll result) }
+    {
+        let is_any = self.ends.is_any_of_table_ready(wants);
+        let polled = self.wait(is_any, accept, timeout);
+        match polled {
+            Polled::Ready { .. } => self.ends.mark_table(wants),
+            Polled::Failed => wants.unmark(),
+        }
+        polled
+    }
+
+    // What every poll does before anything is marked, and its answer. It doesn't wait where something wanted is ready.
+    fn wait(&mut self, is_any_ready: bool, accept: bool, timeout: Option<u64>) -> Polled
+        ensures asked { Accepts self.new.door accept result }
+        ensures cause { PollFaults (mio_faults self.old) (mio_faults self.new) (is_failed_poll result) }
+    {
         let pause = self.pause_left();
-        let is_any = accept && self.door.is_open() || self.ends.is_any_ready(wants);
+        let is_any = is_any_ready || accept && self.door.is_open();
         let most = if accept {
             cut_to(timeout, pause)
         } else {
             timeout
         };
         if !self.look(is_any, most) {
-            unmark(wants);
             self.polling_faults = self.polling_faults.saturating_add(1);
             return Polled::Failed;
         }
         self.pause_left();
-        self.ends.mark(wants);
         Polled::Ready {
             accept: accept && self.door.is_open(),
         }
@@ -239,6 +277,8 @@ fn outside<R: Net>(rt: &R, kernel: &mut Kernel, target: Option<SocketAddr>, numb
 /// - `poll` is `Failed`, at the count of polling, before the first start and where the kernel refuses to wait; then nothing
 ///   is marked. A wait that a signal interrupts is ready for nothing. A timeout is in milliseconds, `None` is for ever, and
 ///   more than 24 days are cut to that.
+/// - `poll_table` marks what `poll` would mark of the same wants, and waits as long. It doesn't go over the wants: it joins
+///   the table's sets of numbers and the port's, so what is wanted and isn't ready costs one word in 64 numbers.
 /// - `accept` makes both ends with `TCP_NODELAY`. The Out end is never connected yet: its check decides, also where its
 ///   connection couldn't be begun. `NoMemory` comes before anything is accepted. `NotYet` comes for a link that was
 ///   accepted before, where none waits, where one went before it was taken, and where the system is short of
@@ -312,6 +352,21 @@ impl<'a, R: Net + Clock + AllocGlobal> Port for MioPort<'a, R> {
         ensures waiting { accept ≡ true → result ≡ Polled.Ready false → NothingWaits (vouches_nothing self.new) waits_untold }
     {
         self.ready_for(wants, accept, timeout)
+    }
+
+    fn poll_table(&mut self, wants: &mut WantTable, accept: bool, timeout: Option<u64>) -> Polled
+        ensures marks { MarkedTable self.new.ends.ends.items wants.old wants.new result }
+        ensures accepts { Accepts self.new.door accept result }
+
+        // What every port says.
+        ensures rows { RowsStay wants.old wants.new }
+        ensures asked { opens_accepting result ≡ true → accept ≡ true }
+        ensures cause { PollFaults (mio_faults self.old) (mio_faults self.new) (is_failed_poll result) }
+        ensures told { PolledWith silent_port silent_port accept timeout result }
+        ensures went { TablePolled wants.old wants.new timeout result silent_end silent_end (vouches_nothing self.old) (vouches_nothing self.new) }
+        ensures waiting { accept ≡ true → result ≡ Polled.Ready false → NothingWaits (vouches_nothing self.new) waits_untold }
+    {
+        self.table_ready_for(wants, accept, timeout)
     }
 
     fn accept(&mut self, link: u32) -> Accepted

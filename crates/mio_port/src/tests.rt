@@ -2,7 +2,9 @@
 // suffice.
 use crate::MioPort;
 use crate::door::{addr_of, socket_addr};
-use ev_port::{Accepted, Addr, ConnAnswer, Polled, Port, ReadAnswer, Started, Want, WriteAnswer};
+use ev_port::{
+    Accepted, Addr, ConnAnswer, Polled, Port, ReadAnswer, Started, Want, WantTable, WriteAnswer,
+};
 use ev_types::{Side, SideId};
 use std::io::{Read, Write};
 use std::net::{Ipv4Addr, Shutdown, SocketAddr};
@@ -252,6 +254,32 @@ fn a_ready_end_does_not_hide_a_new_link(rt: HostRuntime) -> Result<(), Fail> {
         }
     }
     panic!(rt; "the second link was not seen")
+}
+
+#[test]
+fn a_table_poll_marks_what_a_poll_of_a_list_marks(rt: HostRuntime) -> Result<(), Fail> {
+    let mut port = MioPort::new(&rt);
+    let mut table = WantTable::new(rt.alloc());
+    table.push_link()?;
+    table.set(IN, true, false);
+    table.set(OUT, true, true);
+    assert_eq!(rt; port.poll_table(&mut table, true, None), Polled::Failed);
+    assert!(rt; table.list().is_empty());
+
+    let (mut near, _far) = joined(&rt, &mut port)?;
+    near.write_all(b"x")?;
+    assert!(rt; is_marked(&mut port, to_read(IN)));
+    for count in [2usize, 1] {
+        let mut wants = [want(OUT, true, true), to_read(IN)];
+        let polled = port.poll(&mut wants, false, None);
+        assert_eq!(rt; port.poll_table(&mut table, false, None), polled);
+        assert_eq!(rt; table.list().len(), count);
+        for want in table.list() {
+            assert!(rt; wants.contains(want));
+        }
+        port.read(IN, &mut [0; 2]);
+    }
+    Ok(())
 }
 
 #[test]

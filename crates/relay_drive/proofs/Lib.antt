@@ -19,4 +19,5 @@ pub mod WentLemmas
 pub mod OtherLinks
 pub mod LinkParts
 pub mod LooksLemmas
+pub mod NearLemmas
 pub mod TableLemmas

@@ -19,7 +19,7 @@ use Rattle.relay_drive.proofs.OtherLinks.{same_link, serves-other, passes-other,
 use Rattle.relay_drive.proofs.LinkParts.{still-same, settled-same, wants-same, open-same, far-same, still-passes, settled-closes, each-skips}
 
 -- by whether two numbers are the same
-by_same : {A : Type 0} (n k : ℕ) → (n ≡ k → n == k ≡ true → A) → (n ≢ k → n == k ≡ false → A) → A
+pub by_same : {A : Type 0} (n k : ℕ) → (n ≡ k → n == k ≡ true → A) → (n ≢ k → n == k ≡ false → A) → A
 by_same {A = A} n k same apart = go (n == k) refl
   where
     go : (b : Bool) → n == k ≡ b → A

@@ -1,5 +1,5 @@
 -- A table that says of each side what it wants names exactly the wanted sides.
-use Rattle.std.proofs.Common.{◌≡◌, ℕ, zero, suc, ◌+◌, ◌*◌, ◌<◌, ◌≤◌, false, List, [], ◌∷◌, ◌++◌, length, filter, refl, sym, ◌∙◌, ap, subst, arith}
+use Rattle.std.proofs.Common.{◌≡◌, ◌≢◌, ℕ, zero, suc, ◌+◌, ◌*◌, ◌<◌, ◌≤◌, ◌==◌, if◌then◌else◌, false, List, [], ◌∷◌, ◌++◌, length, filter, refl, sym, ◌∙◌, ap, subst, arith}
 use Rattle.ev_types.specs.declared.side.SideId.{SideId}
 use Rattle.ev_types.specs.Sides.{number}
 use Rattle.ev_port.specs.declared.port.Want.{Want}
@@ -8,21 +8,25 @@ use Rattle.ev_port.proofs.NamedLemmas.{named-link}
 use Rattle.relay_state.specs.State.{State}
 use Rattle.relay_state.specs.Closing.{in_side, out_side}
 use Rattle.relay_drive.specs.Phases.{want_of, wants_some, wants_of, wants_of_link, wants_of_links, wanted, links_from}
-use Rattle.relay_drive.specs.Looks.{SaysOf}
+use Rattle.number_set.specs.Numbers.{NumberSetValue}
+use Rattle.relay_drive.specs.Looks.{HoldsBeside, IsNear, SaysOf, IsNamedRight, NamedLink, OldRowsStay}
+use Rattle.relay_drive.proofs.LooksLemmas.{by_same}
 use Rattle.relay_drive.proofs.EachLemmas.{links_from-push}
 use Rattle.relay_drive.proofs.PollLemmas.{wants_of_links-push}
 
--- what the table says of a side, as a want without marks
-abbrev said : WantsValue → SideId → Want
-said t e = record { side = e; read = t.reads (number e); write = t.writes (number e); can_read = false; can_write = false }
+-- a want by the number of its side
+abbrev said : WantsValue → SideId → ℕ → Want
+said t e n = record { side = e; read = t.reads n; write = t.writes n; can_read = false; can_write = false }
 
-said-is : (t : WantsValue) (s : State) (e : SideId) → SaysOf t s e → said t e ≡ want_of s e
-said-is t s e h = λ i. record { side = e; read = h.0 i; write = h.1 i; can_read = false; can_write = false }
+said-is : (t : WantsValue) (s : State) (e : SideId) (n : ℕ) → n ≡ number e → SaysOf t s e → said t e n ≡ want_of s e
+said-is t s e n same h =
+    ap (said t e) same ∙ (λ i. record { side = e; read = h.0 i; write = h.1 i; can_read = false; can_write = false })
 
 link-named : (t : WantsValue) (s : State) (k : ℕ) → SaysOf t s (in_side k) → SaysOf t s (out_side k) →
-    filter wants_some (said t (in_side k) ∷ []) ++ filter wants_some (said t (out_side k) ∷ []) ≡ wants_of_link s k
+    filter wants_some (said t (in_side k) (2 * k) ∷ []) ++ filter wants_some (said t (out_side k) (2 * k + 1) ∷ []) ≡ wants_of_link s k
 link-named t s k near far = λ i.
-    filter wants_some (said-is t s (in_side k) near i ∷ []) ++ filter wants_some (said-is t s (out_side k) far i ∷ [])
+    filter wants_some (said-is t s (in_side k) (2 * k) (omega arith) near i ∷ [])
+    ++ filter wants_some (said-is t s (out_side k) (2 * k + 1) (omega arith) far i ∷ [])
 
 -- what the table says of all sides of the first links
 links-named : (t : WantsValue) (s : State) (n : ℕ) → ((k : ℕ) → k < n → SaysOf t s (in_side k) × SaysOf t s (out_side k)) →
@@ -32,7 +36,7 @@ links-named t s (suc n) h =
     let one : suc n ≡ n + 1 = omega arith in
     let here = h n (omega arith) in
     ap (λ m. named_before t (2 * m)) one ∙ named-link t n
-    ∙ ap (λ xs. xs ++ (filter wants_some (said t (in_side n) ∷ []) ++ filter wants_some (said t (out_side n) ∷ [])))
+    ∙ ap (λ xs. xs ++ (filter wants_some (said t (in_side n) (2 * n) ∷ []) ++ filter wants_some (said t (out_side n) (2 * n + 1) ∷ [])))
     (links-named t s n (λ k lt. h k (omega (arith, lt))))
     ∙ ap (λ xs. wants_of_links s (links_from 0 n) ++ xs) (link-named t s n here.0 here.1)
     ∙ sym (wants_of_links-push s (links_from 0 n) n) ∙ ap (wants_of_links s) (sym (links_from-push n) ∙ ap (links_from 0) (sym one))
@@ -40,3 +44,34 @@ links-named t s (suc n) h =
 pub named-wanted : (t : WantsValue) (s : State) → t.links ≡ s.plain.opened →
     ((k : ℕ) → k < s.plain.opened → SaysOf t s (in_side k) × SaysOf t s (out_side k)) → named t ≡ wanted s
 named-wanted t s e h = ap (λ n. named_before t (2 * n)) e ∙ links-named t s s.plain.opened h
+
+-- a side that is not of this link has another number than both of its sides
+others-say : (t new : WantsValue) (s : State) (k : ℕ) (e : SideId) → NamedLink s k t new → e.link ≢ k → SaysOf t s e → SaysOf new s e
+others-say t new s k e n other h = let o = n.others e other in (o.0 ∙ h.0, o.1 ∙ h.1)
+
+-- one link more is named right, and out of the set
+pub named-next : (t new : WantsValue) (set left : NumberSetValue) (s : State) (k : ℕ) → k < t.links → NamedLink s k t new →
+    ((n : ℕ) → left.has n ≡ (if n == k then false else set.has n)) → IsNear s k → HoldsBeside set (IsNamedRight t) s →
+    HoldsBeside left (IsNamedRight new) s
+named-next t new set left s k within n has near h = λ j lt out.
+    by_same j k
+    (λ e test. subst (IsNamedRight new s) (sym e) (subst (λ m. k < m) (sym n.links) within, n.near, n.far, near))
+    (λ e test. let before = h j lt (sym (has j ∙ ap (λ z. if z then false else set.has j) test) ∙ out) in (
+      subst (λ m. j < m) (sym n.links) before.0,
+      others-say t new s k (in_side j) n e before.1,
+      others-say t new s k (out_side j) n e before.2,
+      before.3,
+    ))
+
+-- more rows stand behind the old ones
+pub named-lengthened : (t new : WantsValue) (set : NumberSetValue) (s : State) → OldRowsStay t new → HoldsBeside set (IsNamedRight t) s →
+    HoldsBeside set (IsNamedRight new) s
+named-lengthened t new set s r h = λ k lt out.
+    let before = h k lt out in
+    let near = r.rows (number (in_side k)) (omega (arith, before.0)) in
+    let far = r.rows (number (out_side k)) (omega (arith, before.0)) in (
+      omega (arith, before.0, r.links),
+      (near.0 ∙ before.1.0, near.1 ∙ before.1.1),
+      (far.0 ∙ before.2.0, far.1 ∙ before.2.1),
+      before.3,
+    )

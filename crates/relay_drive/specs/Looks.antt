@@ -25,6 +25,10 @@ HoldsBeside set P s = (k : ℕ) → k < s.plain.opened → set.has k ≡ false �
 abbrev pub IsNear : State → ℕ → Type 0
 IsNear s k = is_far s k ≡ false
 
+-- and of no link
+abbrev pub AreNear : State → Type 0
+AreNear s = (k : ℕ) → k < s.plain.opened → IsNear s k
+
 -- this link is not open
 abbrev pub IsGone : State → ℕ → Type 0
 IsGone s k = is_open s k ≡ false

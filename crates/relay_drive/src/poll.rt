@@ -6,7 +6,7 @@ ghost use Rattle.ev_port.specs.Polling.{ready_events};
 ghost use Rattle.ev_port.specs.Table.{named, RowsStay};
 ghost use Rattle.relay_drive.specs.Phases.{wanted, CutPoll, CutPolling, AllOpened};
 ghost use Rattle.relay_drive.specs.Known.{Point, begun_if};
-ghost use Rattle.relay_drive.specs.Looks.{IsKept, IsNamed, NamedSide, NamedLink, OldRowsStay, SameBesideWants, PollsListed, PollsAndAcceptsListed};
+ghost use Rattle.relay_drive.specs.Looks.{IsKept, IsNamed, AreNear, NamedSide, NamedLink, OldRowsStay, SameBesideWants, PollsListed, PollsAndAcceptsListed};
 ghost use Rattle.relay_drive.specs.Moves.{Moves, GetsTo, OnlyForMemory};
 
 use crate::accept::accept;
@@ -55,7 +55,8 @@ fn lengthen(relay: &Relay, wants: &mut WantTable) -> Result<(), DriveFault>
 
 /// The table says what the sides want. Only the links are looked at of which it may not be right.
 fn name_wants(relay: &Relay, looks: &mut Looks, wants: &mut WantTable) -> Result<(), DriveFault>
-    requires { IsNamed looks.old wants.old relay.now.state }
+    requires named { IsNamed looks.old wants.old relay.now.state }
+    requires near { AreNear relay.now.state }
     ensures named { OnOk result (named wants.new ≡ wanted relay.now.state) }
     ensures right { OnOk result (IsNamed looks.new wants.new relay.now.state) }
     ensures same { SameBesideWants looks.old looks.new }
@@ -153,6 +154,7 @@ pub(crate) fn poll<P: Port, S: Scribe>(
 ) -> Result<(), DriveFault>
     requires kept { IsKept looks.old run.old.relay.state }
     requires named { IsNamed looks.old wants.old run.old.relay.state }
+    requires near { AreNear run.old.relay.state }
     ensures went { GetsTo P.Port S.Scribe result Point.Begun Point.Accepted (λ _. PollsAndAcceptsListed wants.new.list) CutPolling
         (run.old, port.old, scribe.old) (run.new, port.new, scribe.new) }
     ensures opened { OnOk result (AllOpened wants.new.list run.new.relay.state.plain.opened) }

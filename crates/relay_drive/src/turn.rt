@@ -7,7 +7,7 @@ ghost use Rattle.relay_drive.specs.Steps.{Nothing};
 ghost use Rattle.relay_drive.specs.Phases.{Turns, CutTurn, TicksOnce};
 ghost use Rattle.relay_drive.specs.Known.{Point};
 ghost use Rattle.relay_drive.specs.Links.{SameLink, IsUntimed};
-ghost use Rattle.relay_drive.specs.Looks.{HoldsBeside, IsNear, IsKept, IsNamed, KeepsNames};
+ghost use Rattle.relay_drive.specs.Looks.{HoldsBeside, IsNear, AreNear, IsKept, IsNamed, KeepsNames};
 ghost use Rattle.relay_drive.specs.Moves.{Moves, GetsTo, OnlyForMemory};
 
 use crate::close::close;
@@ -38,6 +38,7 @@ fn read_clock<P: Port, S: Scribe>(
         (run.old, port.old, scribe.old) (run.new, port.new, scribe.new)) }
     ensures opened { OnOk result (run.new.relay.state.plain.opened ≡ run.old.relay.state.plain.opened) }
     ensures still { OnOk result (IsUntimed run.old.relay.state → (k : ℕ) → SameLink k run.old.relay.state run.new.relay.state) }
+    ensures near { OnOk result (AreNear run.old.relay.state → AreNear run.new.relay.state) }
     ensures cause { OnlyForMemory result }
 {
     scribe.reserve(1, 0)?;
@@ -63,6 +64,7 @@ fn clock<P: Port, S: Scribe>(
     ensures cause { OnlyForMemory result }
     ensures kept { OnOk result (IsKept looks.new run.new.relay.state) }
     ensures names { OnOk result (KeepsNames looks.old run.old.relay.state looks.new run.new.relay.state) }
+    ensures near { OnOk result (AreNear run.old.relay.state → AreNear run.new.relay.state) }
 {
     read_clock(run, port, scribe)?;
     if !run.relay.is_untimed() {
@@ -84,6 +86,7 @@ fn turn<P: Port, S: Scribe>(
     requires turns { run.old.relay.state.plain.turn < 2 ^ 62 }
     requires kept { IsKept looks.old run.old.relay.state }
     requires named { IsNamed looks.old wants.old run.old.relay.state }
+    requires near { AreNear run.old.relay.state }
     ensures went { GetsTo P.Port S.Scribe result Point.Between Point.Accepted (λ _. Turns) CutTurn
         (run.old, port.old, scribe.old) (run.new, port.new, scribe.new) }
     ensures kept { OnOk result (IsKept looks.new run.new.relay.state) }
@@ -99,7 +102,8 @@ fn turn<P: Port, S: Scribe>(
 /// Whether a count of the relay has come to 2^62. Only the links are looked at where something changed.
 fn is_spent(relay: &Relay, looks: &Looks) -> bool
     requires { HoldsBeside looks.now.want IsNear relay.now.state }
-    ensures { result ≡ is_spent relay.now.state }
+    ensures spent { result ≡ is_spent relay.now.state }
+    ensures near { result ≡ false → AreNear relay.now.state }
 {
     if relay.turns() >= SPENT {
         return true;

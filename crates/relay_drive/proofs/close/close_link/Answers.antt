@@ -1,4 +1,4 @@
-use Rattle.std.proofs.Common.{◌≡◌, ◌<◌, false, List, length, get_or, Ok, sym, ◌∙◌, ap, subst}
+use Rattle.std.proofs.Common.{◌≡◌, ◌<◌, false, List, length, take, get_or, Ok, sym, ◌∙◌, ap, subst}
 use Rattle.std.proofs.lemmas.Result.{err_from_is_err_and}
 use Rattle.relay_core.specs.declared.close.Closing.{Closing}
 use Rattle.relay_core.specs.declared.close.Closing.TheVariants.{BothDone}
@@ -6,6 +6,7 @@ use Rattle.relay_core.specs.Steps.{link_of_step, steps_of}
 use Rattle.relay_drive.specs.Steps.{Nothing}
 use Rattle.relay_drive.specs.Phases.{LooksAt}
 use Rattle.relay_drive.proofs.ClosingLemmas.{closing_link}
+use Rattle.std.specs.List.{All}
 use Rattle.relay_drive.specs.Links.{IsUncalled}
 use Rattle.relay_drive.proofs.EachLemmas.{goes_next, goes_cut, all_taken}
 use Rattle.relay_drive.proofs.close.close_link.Goals as goal
@@ -35,9 +36,9 @@ loop-step-preserved g c = record {
     | else-branch w ↦ (λ none. let before = c.loop-step.invariant.uncalled (sym w.any-is ∙ none) in
         let step = c.in_ok-close_step.ensures.called (ap Ok w.if-branch.false) in (
           step.0 ∙ before.0,
-          all_taken (IsUncalled c.args.run.now.relay.state) (steps_of c.args.link) c.loop-step.step-index (BothDone 0) c.loop-step-test.true
+          all_taken (IsUncalled c.args.run.now.relay.state) (steps_of c.args.link) c.loop-step.step-index _ c.loop-step-test.true
           before.1
-          (subst (λ s. IsUncalled s (get_or (steps_of c.args.link) c.loop-step.step-index (BothDone 0))) before.0
+          (subst (λ s. IsUncalled s (get_or (steps_of c.args.link) c.loop-step.step-index _)) before.0
           (rw (c.of-steps.ensures.steps) at step.1)),
         ))
   ];
@@ -45,4 +46,8 @@ loop-step-preserved g c = record {
 }
 
 pub returns-clause-settled : goal.returns-clause-settled
-returns-clause-settled g c = ?
+returns-clause-settled g c = λ h.
+    let none : c.loop-step.any ≡ false = cc in
+    let all : c.loop-step.step-index ≡ 9 = omega arith in
+    let done = c.loop-step.invariant.uncalled none in
+    (done.0, subst (λ i. All (IsUncalled c.args.run.now.relay.state) (take i (steps_of c.args.link))) all done.1)
