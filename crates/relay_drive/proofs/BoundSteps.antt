@@ -13,7 +13,7 @@ use Rattle.ev_types.specs.declared.entry.Entry.{Entry}
 use Rattle.ev_types.specs.declared.entry.Entry.TheVariants as entry
 use Rattle.ev_types.specs.Trace.{Trace}
 use Rattle.ev_port.specs.declared.port.Want.{Want}
-use Rattle.ev_port.specs.Ends.{ReadWithin, WriteWithin, got_bytes, write_events}
+use Rattle.ev_port.specs.Ends.{ReadWithin, got_bytes, write_events}
 use Rattle.ev_port.specs.Polling.{want_events, ready_events}
 use Rattle.relay_model.specs.Settings.{Settings}
 use Rattle.relay_model.specs.Plain.{side_at}
@@ -24,9 +24,7 @@ use Rattle.relay_core.specs.declared.close.Closing.TheVariants as closing
 use Rattle.relay_core.specs.Steps.{steps_of, close_step, after_closing, entry_events}
 use Rattle.relay_state.specs.State.{State}
 use Rattle.relay_state.specs.Rooms.{read_room, input_length, wants, write_room, offer}
-use Rattle.relay_state.specs.Serving.{after_conn, after_read, after_write}
 use Rattle.relay_state.specs.Closing.{in_side, out_side, closing_entry, closed}
-use Rattle.relay_state.specs.Opening.{new_lane}
 use Rattle.relay_steps.proofs.FrameLemmas.{Frame, frame-then, frame-conn, frame-read, frame-write, frame-passed, frame-closed, frame-begun, push-within}
 use Rattle.relay_drive.specs.Steps.{Nothing, Then, Each}
 use Rattle.relay_drive.specs.Calls.{Ticks, Checks, Writes}

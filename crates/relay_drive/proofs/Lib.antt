@@ -21,3 +21,4 @@ pub mod LinkParts
 pub mod LooksLemmas
 pub mod NearLemmas
 pub mod TableLemmas
+pub mod ListedLemmas

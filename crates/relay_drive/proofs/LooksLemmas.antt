@@ -1,16 +1,18 @@
 -- What is kept of the links stays right, step by step: a step changes one link, and that one is looked at again.
 use Rattle.std.proofs.Common.{◌≡◌, ◌≢◌, ℕ, ◌+◌, ◌<◌, ◌≤◌, Bool, true, false, ◌==◌, if◌then◌else◌, [], refl, sym, ◌∙◌, ap, subst, arith}
-use Rattle.std.proofs.lemmas.Bool.{eqb-true, eqb-false}
+use Rattle.std.proofs.Common.{inl, inr}
+use Rattle.std.proofs.lemmas.Bool.{eqb-true, eqb-false, eq-eqb, cases_lt}
 use Rattle.token_bucket.specs.declared.limit.Dir.TheVariants as dir
 use Rattle.ev_types.specs.declared.side.SideId.{SideId}
-use Rattle.ev_port.specs.Table.{WantsValue}
+use Rattle.ev_types.specs.Sides.{number}
+use Rattle.ev_port.specs.Table.{WantsValue, RowsStay}
 use Rattle.number_set.specs.Numbers.{NumberSetValue}
 use Rattle.relay_state.specs.State.{State}
 use Rattle.relay_state.specs.Counting.{is_open}
 use Rattle.relay_state.specs.Closing.{in_side, out_side}
 use Rattle.relay_drive.specs.declared.looks.Looks.{Looks}
 use Rattle.relay_drive.specs.Links.{SameLink, HasPairs, IsStill, IsSettled}
-use Rattle.relay_drive.specs.Looks.{HoldsBeside, IsGone, IsNear, IsKept, IsNamed, IsNamedRight, TouchedBut, Touched, TouchedAll, IsCovered, ClosingNoted, IsUntold, KeepsNames}
+use Rattle.relay_drive.specs.Looks.{HoldsBeside, IsGone, IsKept, IsNamed, IsNamedRight, TouchedBut, TouchedAll, IsCovered, ClosingNoted, IsUntold, SameBesideWants, SaysOf, KeepsNames}
 use Rattle.ev_types.specs.Trace.{Trace}
 use Rattle.ev_port.specs.declared.port.Want.{Want}
 use Rattle.relay_drive.specs.Steps.{Each}
@@ -243,3 +245,54 @@ pub closing-names : (l l' : Looks) (k : ℕ) (s s' : State) (any : Bool) → AtL
 closing-names l l' k s s' false at none t =
     subst (KeepsNames l s l') (sym (none refl).0) (names-beside l l' s t.3)
 closing-names l l' k s s' true at none t = names-but l l' k s s' (is_open s' k) at t
+
+-- Going up over numbers
+
+-- what holds of the numbers below one, and of those from there to another, holds of all below the other
+pub up-all : (P : ℕ → Type 0) (from to : ℕ) → ((k : ℕ) → k < from → P k) → ((k : ℕ) → from ≤ k → k < to → P k) → (k : ℕ) → k < to → P k
+up-all P from to below between = λ k lt. elim (cases_lt k from) [ inl less ↦ below k less | inr more ↦ between k more lt ]
+
+-- what holds of the numbers below one, of those from there to another, and of that one, holds of all up to it
+pub up-next : (P : ℕ → Type 0) (from to : ℕ) → ((k : ℕ) → k < from → P k) → ((k : ℕ) → from ≤ k → k < to → P k) → P to → (k : ℕ) →
+    k < to + 1 → P k
+up-next P from to below between own = λ k lt.
+    by_same k to (λ e t. subst P (sym e) own) (λ e t. up-all P from to below between k (omega (arith, lt, e)))
+
+cleared : (b x : Bool) → x ≡ false → (if b then false else x) ≡ false
+cleared true x h = refl
+cleared false x h = h
+
+-- a link was taken out of the set, and none before it was in it
+pub untold-next : (set left : NumberSetValue) (from k : ℕ) → ((n : ℕ) → left.has n ≡ (if n == k then false else set.has n)) →
+    IsUntold set 0 from → IsUntold set from k → IsUntold left 0 (k + 1)
+untold-next set left from k has before between = λ n a b.
+    up-next (λ j. left.has j ≡ false) from k (λ j lt. has j ∙ cleared (j == k) (set.has j) (before j (omega arith) lt))
+    (λ j le lt. has j ∙ cleared (j == k) (set.has j) (between j le lt))
+    (has k ∙ ap (λ z. if z then false else set.has k) (eq-eqb k k refl)) n b
+
+-- the sets but that of wants stay, and so does what they say
+pub kept-beside_wants : (l l' : Looks) (s : State) → SameBesideWants l l' → IsKept l s → IsKept l' s
+kept-beside_wants l l' s same h = record {
+  pass_covers = subst (λ (z : NumberSetValue). s.plain.opened ≤ z.len) (sym same.0) h.pass_covers;
+  close_covers = subst (λ (z : NumberSetValue). s.plain.opened ≤ z.len) (sym same.1) h.close_covers;
+  want_covers = let len = same.3 in omega (arith, len, h.want_covers);
+  live_covers = subst (λ (z : NumberSetValue). s.plain.opened ≤ z.len) (sym same.2) h.live_covers;
+  still = subst (λ z. HoldsBeside z IsStill s) (sym same.0) h.still;
+  settled = subst (λ z. HoldsBeside z IsSettled s) (sym same.1) h.settled;
+  gone = subst (λ z. HoldsBeside z IsGone s) (sym same.2) h.gone;
+}
+
+-- a table with the same rows says the same
+pub named-rows : (l : Looks) (t new : WantsValue) (s : State) → RowsStay t new → IsNamed l t s → IsNamed l new s
+named-rows l t new s r h = record {
+  links = subst (λ n. n ≤ s.plain.opened) (sym r.links) h.links;
+  named = λ k lt out. let right = h.named k lt out in (
+    subst (λ n. k < n) (sym r.links) right.0,
+    says t new s r (in_side k) right.1,
+    says t new s r (out_side k) right.2,
+    right.3,
+  );
+}
+  where
+    says : (t new : WantsValue) (s : State) → RowsStay t new → (e : SideId) → SaysOf t s e → SaysOf new s e
+    says t new s r e x = (ap (λ f. f (number e)) r.reads ∙ x.0, ap (λ f. f (number e)) r.writes ∙ x.1)

@@ -1,9 +1,8 @@
 -- Serving a side, passing a direction and looking at a step of closing keep what the relay stands for.
-use Rattle.std.proofs.Common.{◌≡◌, ◌≢◌, inl, inr, ℕ, zero, suc, ◌+◌, ◌<◌, ◌≤◌, Bool, true, false, ◌&&◌, ◌||◌, if◌then◌else◌, List, [], ◌∷◌, ◌++◌, length, map, refl, sym, ◌∙◌, ap, subst, arith, append_assoc, append-nil, length-take-le}
+use Rattle.std.proofs.Common.{◌≡◌, ◌≢◌, inl, inr, ℕ, zero, suc, ◌+◌, ◌<◌, ◌≤◌, Bool, true, false, ◌||◌, if◌then◌else◌, List, [], ◌∷◌, ◌++◌, length, map, refl, sym, ◌∙◌, ap, subst, arith, append_assoc, append-nil, length-take-le}
 use Rattle.std.specs.Prelude.{nat_lt, MatchBool, Option, Some, None, is_some, option_map}
 use Rattle.ev_types.specs.declared.side.SideId.{SideId}
 use Rattle.ev_types.specs.declared.answer.ConnAnswer.{ConnAnswer}
-use Rattle.ev_types.specs.declared.answer.ConnAnswer.TheVariants as conn
 use Rattle.ev_types.specs.declared.answer.ReadAnswer.{ReadAnswer}
 use Rattle.ev_types.specs.declared.answer.ReadAnswer.TheVariants as read
 use Rattle.ev_types.specs.declared.answer.WriteAnswer.{WriteAnswer}
@@ -30,7 +29,7 @@ use Rattle.relay_state.specs.Rooms.{read_room, write_room, offer, wants}
 use Rattle.relay_state.specs.Closing.{in_side, out_side, closing_entry, closed}
 use Rattle.relay_core.specs.Steps.{link_of_step, steps_of, close_step, after_closing, entry_events}
 use Rattle.relay_drive.specs.Steps.{Nothing, Then}
-use Rattle.relay_drive.specs.Calls.{Checks, Reads, Writes, after_conn, after_read, after_write, is_memory}
+use Rattle.relay_drive.specs.Calls.{Checks, Reads, Writes, is_memory}
 use Rattle.relay_drive.specs.Phases.{links_from, ReadsSide, WritesSide, ConnectsSide, ReadsWithRoom, ServesSide, CutServing, PassesSide, CutPassing, PassesLink, CutPassingLink, closing_events, Closes, LooksAt, ClosesLink, CutClosingLink}
 use Rattle.relay_steps.specs.Meaning.{StandsFor, LeftFor}
 use Rattle.relay_steps.proofs.FrameLemmas.{frame-conn, frame-read, frame-write, frame-passed}

@@ -1,5 +1,5 @@
 -- Polling, accepting and the whole turn keep what the relay stands for.
-use Rattle.std.proofs.Common.{◌≡◌, inl, inr, ℕ, zero, suc, ◌+◌, ◌^◌, ◌<◌, ◌≤◌, Bool, true, false, ◌||◌, if◌then◌else◌, List, [], ◌∷◌, ◌++◌, length, map, filter, min, max, None, refl, sym, ◌∙◌, ap, subst, arith, append_assoc, append-nil}
+use Rattle.std.proofs.Common.{◌≡◌, inl, inr, ℕ, zero, suc, ◌+◌, ◌^◌, ◌<◌, ◌≤◌, Bool, true, false, ◌||◌, if◌then◌else◌, List, [], ◌∷◌, ◌++◌, length, map, filter, min, max, refl, sym, ◌∙◌, ap, subst, arith, append_assoc, append-nil}
 use Rattle.ev_types.specs.declared.side.SideId.{SideId}
 use Rattle.ev_types.specs.declared.entry.Entry.TheVariants as entry
 use Rattle.ev_types.specs.Trace.{Trace}
@@ -22,7 +22,7 @@ use Rattle.relay_drive.specs.Phases.CutTurn.{before, in_poll, in_serving, in_pas
 use Rattle.relay_drive.specs.Phases.{links_from, want_of, wants_of, wants_of_links, wanted, Polls, PollFails, OpensSome, AcceptsMore, AcceptsWhere, PollsAndAccepts, CutPolling, ServesSide, CutServing, PassesLink, CutPassingLink, ForAllLinks, CutForAllLinks, ClosesLink, CutClosingLink, Turns, CutTurn}
 use Rattle.relay_steps.specs.Meaning.{StandsFor, LeftFor}
 use Rattle.relay_state.specs.Rooms as state
-use Rattle.relay_state.specs.Time.{begun, poll_timeout}
+use Rattle.relay_state.specs.Time.{poll_timeout}
 use Rattle.relay_model.proofs.QuietLemmas.{state_is_told}
 use Rattle.relay_steps.proofs.TimeSteps.{turn-stands}
 use Rattle.relay_steps.proofs.PollSteps.{named, marks_of, MarkedWithin, poll-stands, poll_failed-stands, accepted-stands, served-stands, passed_all-stands, closed_all-stands}

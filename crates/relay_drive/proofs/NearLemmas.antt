@@ -1,23 +1,25 @@
 -- What counts have come to as a turn begins: what time brings changes no count of a link.
-use Rattle.std.proofs.Common.{◌≡◌, ℕ, ◌<◌, Bool, true, false, not, ◌||◌, ◌&&◌, if◌then◌else◌, List, [], ◌∷◌, fold, refl, ◌∙◌, ap, subst}
+use Rattle.std.proofs.Common.{◌≡◌, ℕ, ◌<◌, Bool, true, false, not, ◌||◌, ◌&&◌, if◌then◌else◌, List, [], ◌∷◌, fold, refl, ◌∙◌, subst}
 use Rattle.token_bucket.specs.declared.limit.Dir.{Dir}
 use Rattle.ev_types.specs.declared.side.SideId.{SideId}
 use Rattle.ev_types.specs.Sides.{number}
 use Rattle.ev_types.specs.declared.why.Why.{Why}
-use Rattle.relay_model.specs.Plain.{Plain, side_at, flow_at, change_side, is_live, all_sides}
-use Rattle.relay_model.specs.Flow.{Flow, no_flow}
+use Rattle.ev_types.specs.declared.why.Why.TheVariants as why
+use Rattle.relay_model.specs.Settings.{Settings}
+use Rattle.relay_model.specs.Plain.{Plain, Timer, side_at, change_side, is_live, all_sides}
+use Rattle.relay_model.specs.Flow.{no_flow}
 use Rattle.relay_model.specs.Due.{with_reason}
 use Rattle.relay_model.specs.Reasons.{has_hook, raise, happened, timeout_flag}
-use Rattle.relay_model.specs.Moments.{is_timed, active_at, both_ways, timers_taken, has_run_out, expire}
+use Rattle.relay_model.specs.Moments.{is_timed, active_at, both_ways, by_deadline, timers_taken, has_run_out, expire}
 use Rattle.relay_model.specs.Turn.{turned_to}
-use Rattle.std.specs.Prelude.{slice_index_or}
-use Rattle.relay_state.specs.State.{State, Lane, no_lane, lane_at, with_plain}
+use Rattle.std.specs.Prelude.{slice_index_or, filter, nat_le, nat_lt}
+use Rattle.relay_state.specs.State.{State, no_lane, with_plain}
 use Rattle.relay_state.specs.Rooms.{wants}
 use Rattle.relay_state.specs.Closing.{in_side, out_side}
 use Rattle.relay_state.specs.Counting.{has_flown_far, has_read_far}
 use Rattle.relay_state.specs.Time.{timed, side_timed, begun}
 use Rattle.relay_steps.proofs.FrameLemmas.{frame-begun}
-use Rattle.relay_drive.specs.Links.{is_far_from, is_far}
+use Rattle.relay_drive.specs.Links.{is_far_from}
 use Rattle.relay_drive.specs.Looks.{AreNear}
 
 -- what was counted of each direction is as it was
@@ -54,10 +56,27 @@ counts-fold : {A : Type 0} (f : State → A → State) → ((z : State) (x : A) 
 counts-fold f each s [] = same-counts s
 counts-fold f each s (x ∷ xs) = counts-then (each s x) (counts-fold f each (f s x) xs)
 
+-- timers that are taken change no count
+taken-flows : (g : Settings) (ms : ℕ) (p : Plain) → (timers_taken g (turned_to ms p)).flows ≡ p.flows
+taken-flows g ms p =
+    let q : Plain = turned_to ms p in
+    go (record q { timers = filter (λ x. nat_lt ms x.deadline) q.timers }) (by_deadline (filter (λ x. nat_le x.deadline ms) q.timers))
+  where
+    raised : (z : Plain) (x : Timer) → (raise g x.side why.Timer z).flows ≡ z.flows
+    raised z x = by_hook (has_hook g x.side && is_live z x.side)
+      where
+        by_hook : (b : Bool) → (if b then record z { due = with_reason x.side why.Timer z.due } else z).flows ≡ z.flows
+        by_hook true = refl
+        by_hook false = refl
+
+    go : (z : Plain) (xs : List Timer) → (fold (λ y x. raise g x.side why.Timer y) z xs).flows ≡ z.flows
+    go z [] = refl
+    go z (x ∷ xs) = go (raise g x.side why.Timer z) xs ∙ raised z x
+
 counts-begun : (s : State) (ms : ℕ) → SameCounts s (begun s ms)
 counts-begun s ms =
     let at_time : State = with_plain (timers_taken s.settings (turned_to ms s.plain)) s in
-    let here : SameCounts s at_time = record { flows = ?; lanes = refl } in
+    let here : SameCounts s at_time = record { flows = taken-flows s.settings ms s.plain; lanes = refl } in
     counts-then here (counts-fold side_timed (λ z e. counts-fold (timed e) (λ y d. counts-timed y e d) z both_ways) at_time
     (all_sides at_time.plain))
 

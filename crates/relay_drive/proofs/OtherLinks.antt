@@ -2,7 +2,7 @@
 -- the link is the same.
 use Rattle.std.specs.Prelude.{MatchBool, is_some, slice_index_or, option_map}
 use Rattle.std.specs.List.{AllByRecursion, All}
-use Rattle.std.proofs.Common.{◌≡◌, ◌≢◌, ℕ, ◌+◌, ◌*◌, ◌<◌, Bool, true, false, ◌&&◌, nat_le, nat_lt, if◌then◌else◌, List, [], ◌∷◌, ◌++◌, length, refl, sym, ◌∙◌, ap, subst, arith, zero, suc, ◌-◌, None}
+use Rattle.std.proofs.Common.{◌≡◌, ◌≢◌, ℕ, ◌*◌, ◌<◌, Bool, true, false, ◌&&◌, nat_le, nat_lt, if◌then◌else◌, List, [], ◌∷◌, ◌++◌, length, refl, sym, ◌∙◌, ap, subst, arith, zero, suc, None}
 use Rattle.std.proofs.lemmas.List.{get_or-set_other, get_or_append_left}
 use Rattle.token_bucket.specs.declared.limit.Dir.TheVariants as dir
 use Rattle.token_bucket.specs.declared.limit.Dir.{Dir}
@@ -38,7 +38,7 @@ use Rattle.relay_state.specs.Passage.{Passage}
 use Rattle.relay_state.specs.Passing.{with_bad, plain_passed, with_passage, PassedFrom, read_run, passage_at, round_from}
 use Rattle.relay_state.specs.Rooms.{wants, input_length, output_length, read_room, write_room}
 use Rattle.relay_state.specs.Serving.{raise_read, raise_write, after_conn, with_got, after_got, after_read, flow_given, with_taken, after_took, after_write}
-use Rattle.relay_state.specs.Closing.{in_side, out_side, closing_entry, closed, freed}
+use Rattle.relay_state.specs.Closing.{in_side, out_side, closing_entry, freed}
 use Rattle.relay_state.specs.Counting.{is_open}
 use Rattle.relay_core.specs.declared.close.Closing.{Closing}
 use Rattle.relay_core.specs.declared.close.Closing.TheVariants as closing

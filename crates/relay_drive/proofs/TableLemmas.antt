@@ -1,5 +1,5 @@
 -- A table that says of each side what it wants names exactly the wanted sides.
-use Rattle.std.proofs.Common.{◌≡◌, ◌≢◌, ℕ, zero, suc, ◌+◌, ◌*◌, ◌<◌, ◌≤◌, ◌==◌, if◌then◌else◌, false, List, [], ◌∷◌, ◌++◌, length, filter, refl, sym, ◌∙◌, ap, subst, arith}
+use Rattle.std.proofs.Common.{◌≡◌, ◌≢◌, ℕ, zero, suc, ◌+◌, ◌*◌, ◌<◌, ◌==◌, if◌then◌else◌, false, [], ◌∷◌, ◌++◌, filter, refl, sym, ◌∙◌, ap, subst, arith}
 use Rattle.ev_types.specs.declared.side.SideId.{SideId}
 use Rattle.ev_types.specs.Sides.{number}
 use Rattle.ev_port.specs.declared.port.Want.{Want}
@@ -7,7 +7,7 @@ use Rattle.ev_port.specs.Table.{WantsValue, named_before, named}
 use Rattle.ev_port.proofs.NamedLemmas.{named-link}
 use Rattle.relay_state.specs.State.{State}
 use Rattle.relay_state.specs.Closing.{in_side, out_side}
-use Rattle.relay_drive.specs.Phases.{want_of, wants_some, wants_of, wants_of_link, wants_of_links, wanted, links_from}
+use Rattle.relay_drive.specs.Phases.{want_of, wants_some, wants_of_link, wants_of_links, wanted, links_from}
 use Rattle.number_set.specs.Numbers.{NumberSetValue}
 use Rattle.relay_drive.specs.Looks.{HoldsBeside, IsNear, SaysOf, IsNamedRight, NamedLink, OldRowsStay}
 use Rattle.relay_drive.proofs.LooksLemmas.{by_same}

@@ -166,5 +166,6 @@ pub(crate) fn poll<P: Port, S: Scribe>(
     if !ready {
         return Ok(());
     }
-    accept(run, looks, port, scribe)
+    accept(run, looks, port, scribe)?;
+    Ok(())
 }

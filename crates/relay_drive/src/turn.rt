@@ -96,7 +96,8 @@ fn turn<P: Port, S: Scribe>(
     poll(run, looks, wants, port, scribe)?;
     serve(run, looks, wants.list(), inbox, port, scribe)?;
     pass(&mut run.relay, looks)?;
-    close(run, looks, port, scribe)
+    close(run, looks, port, scribe)?;
+    Ok(())
 }
 
 /// Whether a count of the relay has come to 2^62. Only the links are looked at where something changed.

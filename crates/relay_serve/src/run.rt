@@ -26,7 +26,7 @@ fn make_turns<R: Wait, P: Port, S: Scribe>(
     ensures { TurnsGo P.Port S.Scribe result (drive.old, port.old, scribe.old) (drive.new, port.new, scribe.new) }
 {
     for _ in rt.forever() {
-        if drive.opened() == settings.links && drive.open_links() == 0 {
+        if drive.opened() == settings.links && !drive.has_open_links() {
             return Ok(());
         }
         if let Err(fault) = drive.turn(port, scribe) {

@@ -1,4 +1,4 @@
-use Rattle.std.proofs.Common.{◌≡◌, true, false, refl, sym, ◌∙◌, ap, subst}
+use Rattle.std.proofs.Common.{subst}
 use Rattle.std.proofs.lemmas.Result.{MatchResult-weaker}
 use Rattle.relay_drive.specs.Looks.{IsCovered}
 use Rattle.relay_drive.proofs.LooksLemmas.{opens-at-most, kept-covered, names-covered}

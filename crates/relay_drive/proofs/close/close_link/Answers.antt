@@ -1,7 +1,8 @@
-use Rattle.std.proofs.Common.{◌≡◌, ◌<◌, false, List, length, take, get_or, Ok, sym, ◌∙◌, ap, subst}
+use Rattle.std.proofs.Common.{◌≡◌, ◌<◌, false, List, length, take, get_or, Ok, sym, ◌∙◌, ap, subst, arith}
 use Rattle.std.proofs.lemmas.Result.{err_from_is_err_and}
+use Rattle.ev_types.specs.declared.side.Side.TheVariants.{In}
 use Rattle.relay_core.specs.declared.close.Closing.{Closing}
-use Rattle.relay_core.specs.declared.close.Closing.TheVariants.{BothDone}
+use Rattle.relay_core.specs.declared.close.Closing.TheVariants.{BothDone, Faulty}
 use Rattle.relay_core.specs.Steps.{link_of_step, steps_of}
 use Rattle.relay_drive.specs.Steps.{Nothing}
 use Rattle.relay_drive.specs.Phases.{LooksAt}
@@ -27,6 +28,10 @@ returns-in_err-close_step-clause-went g c =
     rw (p.1) (goes_cut LooksAt (λ _. Nothing) (steps_of c.args.link) c.loop-step.step-index (BothDone 0) c.loop-step-test.true
     c.loop-step.invariant.went c.in_err-close_step.ensures.went)
 
+-- what stands for a step beyond the list
+abbrev first_step : Closing
+first_step = Faulty (record { link = 0; side = In })
+
 pub loop-step-preserved : goal.loop-step-preserved
 loop-step-preserved g c = record {
   went = goes_next LooksAt (steps_of c.args.link) c.loop-step.step-index _ c.loop-step-test.true
@@ -36,10 +41,10 @@ loop-step-preserved g c = record {
     | else-branch w ↦ (λ none. let before = c.loop-step.invariant.uncalled (sym w.any-is ∙ none) in
         let step = c.in_ok-close_step.ensures.called (ap Ok w.if-branch.false) in (
           step.0 ∙ before.0,
-          all_taken (IsUncalled c.args.run.now.relay.state) (steps_of c.args.link) c.loop-step.step-index _ c.loop-step-test.true
-          before.1
-          (subst (λ s. IsUncalled s (get_or (steps_of c.args.link) c.loop-step.step-index _)) before.0
-          (rw (c.of-steps.ensures.steps) at step.1)),
+          all_taken (IsUncalled c.args.run.now.relay.state) (steps_of c.args.link) c.loop-step.step-index first_step c.loop-step-test.true
+              before.1
+              (subst (λ s. IsUncalled s (get_or (steps_of c.args.link) c.loop-step.step-index first_step)) before.0
+              (rw (c.of-steps.ensures.steps) at step.1)),
         ))
   ];
   kept = c.in_ok-close_step.ensures.kept ∙ c.loop-step.invariant.kept;

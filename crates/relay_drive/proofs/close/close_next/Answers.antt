@@ -1,7 +1,4 @@
-use Rattle.std.proofs.Common.{◌≡◌, Bool, true, false, Ok, refl, sym, ◌∙◌, ap, subst}
-use Rattle.relay_state.specs.State.{State}
-use Rattle.relay_drive.specs.Links.{IsSettled}
-use Rattle.relay_drive.specs.Looks.{IsKept, KeepsNames, ClosingNoted}
+use Rattle.std.proofs.Common.{Ok, ap}
 use Rattle.relay_drive.proofs.LooksLemmas.{at-closed, closing-keeps, closing-names}
 use Rattle.relay_drive.proofs.close.close_next.Goals as goal
 

@@ -1,4 +1,4 @@
-use Rattle.std.proofs.Common.{◌≡◌, true, false, [], ◌∷◌, ◌||◌, refl, sym, ◌∙◌, subst}
+use Rattle.std.proofs.Common.{[], ◌∷◌, refl, subst}
 use Rattle.std.proofs.lemmas.Result.{err_from_is_err_and}
 use Rattle.relay_state.specs.Passing.{PartlyPassed}
 use Rattle.relay_state.specs.Closing.{in_side, out_side}

@@ -1,4 +1,4 @@
-use Rattle.std.proofs.Common.{◌≡◌, ℕ, ◌<◌, ◌≤◌, ◌+◌, ◌*◌, List, [], ◌∷◌, ◌++◌, length, filter, refl, sym, ◌∙◌, ap, subst, arith, length-append, nat_lt}
+use Rattle.std.proofs.Common.{◌≡◌, ◌+◌, List, [], ◌∷◌, ◌++◌, length, refl, sym, ◌∙◌, ap, subst, arith, length-append, nat_lt}
 use Rattle.ev_types.specs.declared.entry.Entry.TheVariants as entry
 use Rattle.ev_types.specs.Trace.{Trace}
 use Rattle.ev_types.specs.Growth.{Grew}
@@ -7,7 +7,7 @@ use Rattle.ev_port.specs.declared.port.Polled.TheVariants as polled
 use Rattle.ev_port.specs.declared.port.Want.{Want}
 use Rattle.ev_port.specs.Counting.{counted}
 use Rattle.ev_port.specs.Polling.{want_events, ready_events, poll_events, poll_step}
-use Rattle.ev_port.specs.Table.{named, is_marked}
+use Rattle.ev_port.specs.Table.{named}
 use Rattle.ev_port.proofs.PutLemmas.{listed-opened}
 use Rattle.relay_drive.proofs.GoesLemmas.{Grew-join, goes_some, goes_nowhere}
 use Rattle.relay_drive.specs.Known.{IsInStep}
@@ -44,14 +44,17 @@ returns-in-Ready-clause-went g c =
     let many = length-want_events ws in
     let readies = ap length listed in
     goes_some l0 (g.S.Scribe.trace c.put_marks.new.scribe) (g.P.Port.faults c.args.port.now) (g.P.Port.faults c.poll_table.new.self)
-    events (poll_still timeout ms (polled.Ready c.in-Ready.accept))
-    (ms, told.went.list, record {
-      marks = rw (c.requires) at told.went.marks;
-      many = told.went.many ∙ ap length c.requires;
-      asked = λ h. sym c.can_open-can_open.ensures ∙ told.asked h;
-      entries = ap (λ o. poll_events o ms (polled.Ready c.in-Ready.accept)) c.poll_timeout-timeout.ensures;
-      state = refl;
-    }) (same s s refl)
+    events (poll_still timeout ms (polled.Ready c.in-Ready.accept)) (
+      ms,
+      told.went.list,
+      record {
+        marks = rw (c.requires) at told.went.marks;
+        many = told.went.many ∙ ap length c.requires;
+        asked = λ h. sym c.can_open-can_open.ensures ∙ told.asked h;
+        entries = ap (λ o. poll_events o ms (polled.Ready c.in-Ready.accept)) c.poll_timeout-timeout.ensures;
+        state = refl;
+      },
+    ) (same s s refl)
     (counted_three c.args.run.now.entries c.put.new.entries c.saturating_add-run.result c.put_marks.new.entries 1
     (length (want_events ws)) (length (ready_events ms)) c.put.ensures.counted
     (omega (arith, c.saturating_add-run.ensures, c.count-count.ensures, many)) (omega (arith, c.put_marks.ensures.counted, readies))
@@ -125,8 +128,16 @@ pub put_marks-requires : goal.put_marks-requires
 put_marks-requires g c =
     let listed = ap length (c.list.ensures ∙ c.in-Ready.ensures.went.list) in
     let few = length-marked c.in-Ready.ensures.went.marked in
-    omega (arith, listed, few, c.in-Ready.ensures.went.many, c.put_wants.ensures.entries, c.most_entries.ensures,
-    c.in_ok-reserve.ensures.entries, c.put.ensures.room)
+    omega (
+      arith,
+      listed,
+      few,
+      c.in-Ready.ensures.went.many,
+      c.put_wants.ensures.entries,
+      c.most_entries.ensures,
+      c.in_ok-reserve.ensures.entries,
+      c.put.ensures.room,
+    )
 
 pub put-requires-in-Failed-clause-room : goal.put-requires-in-Failed-clause-room
 put-requires-in-Failed-clause-room g c =

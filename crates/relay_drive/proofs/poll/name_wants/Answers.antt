@@ -1,4 +1,5 @@
-use Rattle.std.proofs.Common.{◌≡◌, ℕ, ◌<◌, ◌≤◌, ◌+◌, refl, sym, ◌∙◌, ap, subst, arith}
+use Rattle.std.proofs.Common.{◌≡◌, false, ◌<◌, refl, ◌∙◌, arith}
+use Rattle.relay_drive.proofs.LooksLemmas.{up-all, untold-next}
 use Rattle.relay_drive.proofs.TableLemmas.{named-wanted, named-next, named-lengthened}
 use Rattle.relay_drive.proofs.poll.name_wants.Goals as goal
 
@@ -25,11 +26,13 @@ loop-link-preserved c =
           c.name_link.ensures c.remove.ensures.members (c.requires.near k lt) inv.named;
       same = (inv.same.0, inv.same.1, inv.same.2, c.remove.ensures.len ∙ inv.same.3);
       within = omega (arith, lt);
-      past = ?;
+      past = untold-next c.loop-link.looks.want c.remove.new.self c.loop-link.from k c.remove.ensures.members inv.past found.3;
     }
 
 pub returns-clause-named : goal.returns-clause-named
 returns-clause-named c =
     let inv = c.loop-link.invariant in
     let s = c.args.relay.now.state in
-    named-wanted c.loop-link.wants s inv.links (λ k lt. let right = inv.named k lt ? in (right.1, right.2))
+    let out = up-all (λ k. c.loop-link.looks.want.has k ≡ false) c.loop-link.from s.plain.opened (λ k lt. inv.past k (omega arith) lt)
+    (λ k le lt. c.in_default.ensures k le (omega (arith, lt, c.opened.ensures.count))) in
+    named-wanted c.loop-link.wants s inv.links (λ k lt. let right = inv.named k lt (out k lt) in (right.1, right.2))

@@ -1,4 +1,4 @@
-use Rattle.relay_drive.proofs.LooksLemmas.{AtLink, at-served, kept-but, names-but}
+use Rattle.relay_drive.proofs.LooksLemmas.{at-served, kept-but, names-but}
 use Rattle.std.proofs.Common.{true}
 use Rattle.relay_drive.proofs.serve.serve_next.Goals as goal
 

@@ -1,14 +1,31 @@
-use Rattle.std.proofs.Common.{◌≡◌, ℕ, ◌<◌, ◌≤◌, ◌+◌, ◌^◌, true, false, refl, sym, ◌∙◌, ap, subst, arith, nat_le}
-use Rattle.std.proofs.lemmas.Bool.{cases_lt}
-use Rattle.relay_drive.specs.Links.{is_far}
-use Rattle.relay_drive.proofs.LinkParts.{not-spent, spent-link}
+use Rattle.std.proofs.Common.{◌<◌, ◌^◌, sym, arith}
+use Rattle.std.proofs.lemmas.Bool.{lt-leb}
+use Rattle.relay_drive.specs.Looks.{IsNear}
+use Rattle.relay_drive.proofs.LinkParts.{not-spent}
+use Rattle.relay_drive.proofs.LooksLemmas.{up-next, up-all}
 use Rattle.relay_drive.proofs.turn.is_spent.Goals as goal
 
 pub loop-link-preserved : goal.loop-link-preserved
-loop-link-preserved c = ?
-
-pub returns-clause-spent : goal.returns-clause-spent
-returns-clause-spent c = ?
+loop-link-preserved c =
+    let s = c.args.relay.now.state in
+    let k = c.in-Some.link in
+    let found = c.in-Some.ensures in
+    let lt : k < s.plain.opened = omega (arith, found.1, c.opened.ensures.count) in
+    record {
+      near = up-next (IsNear s) c.loop-link.from k c.loop-link.invariant.near (λ j le less. c.requires j (omega (arith, less, lt)) (found.3 j le less))
+          (sym c.if-is_far.ensures);
+      within = omega (arith, lt);
+    }
 
 pub returns-clause-near : goal.returns-clause-near
-returns-clause-near c = ?
+returns-clause-near c = λ _.
+    let s = c.args.relay.now.state in
+    up-all (IsNear s) c.loop-link.from s.plain.opened c.loop-link.invariant.near
+    (λ j le less. c.requires j less (c.in_default.ensures j le (omega (arith, less, c.opened.ensures.count))))
+
+pub returns-clause-spent : goal.returns-clause-spent
+returns-clause-spent c =
+    let s = c.args.relay.now.state in
+    let near = up-all (IsNear s) c.loop-link.from s.plain.opened c.loop-link.invariant.near
+    (λ j le less. c.requires j less (c.in_default.ensures j le (omega (arith, less, c.opened.ensures.count)))) in
+    sym (not-spent s c.opened.ensures.pairs (lt-leb (2 ^ 62) s.plain.turn (let turns = c.turns.ensures in let few = c.if-turns-ge-SPENT.false in omega (arith, turns, few))) near)

@@ -1,4 +1,4 @@
-use Rattle.std.proofs.Common.{◌≡◌, ℕ, ◌<◌, ◌≤◌, arith, refl, sym, ap, subst}
+use Rattle.std.proofs.Common.{◌≡◌, arith, ap}
 use Rattle.relay_state.specs.State.{State}
 use Rattle.relay_drive.proofs.drive.Drive.new.Goals as goal
 

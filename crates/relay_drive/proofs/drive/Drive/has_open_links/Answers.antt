@@ -1,0 +1,35 @@
+use Rattle.std.proofs.Common.{◌≡◌, ◌<◌, false, nat_lt, Option, Some, None, refl, sym, ◌∙◌, ap, arith}
+use Rattle.std.specs.Prelude.{is_some}
+use Rattle.std.proofs.lemmas.Bool.{lt-ltb}
+use Rattle.relay_state.specs.State.{State}
+use Rattle.relay_state.specs.Counting.{is_open, open_below}
+use Rattle.relay_drive.specs.declared.fault.DriveFault.{DriveFault}
+use Rattle.relay_drive.specs.DriveValue.{DriveValue}
+use Rattle.relay_drive.proofs.LinkParts.{none-open, some-open}
+use Rattle.relay_drive.proofs.LooksLemmas.{up-all}
+use Rattle.relay_drive.proofs.drive.Drive.has_open_links.Goals as goal
+
+none_of : (x : Option DriveFault) → is_some x ≡ false → x ≡ None
+none_of None h = refl
+none_of (Some f) h = absurd (cc)
+
+pub returns-then-is_open : goal.returns-then-is_open
+returns-then-is_open c =
+    let s = c.args.self.now.state in
+    let same : c.self.inside.run.relay.state ≡ s = ap (λ (d : DriveValue). d.state) c.self.view_is in
+    let opened = ap (λ (z : State). z.plain.opened) same in
+    let k = c.in-Some.link in
+    let lt : k < s.plain.opened = let found = c.in-Some.ensures in omega (arith, found.1, c.opened.ensures.count, opened) in
+    sym (lt-ltb 0 (open_below s s.plain.opened)
+    (some-open s s.plain.opened k lt (ap (λ z. is_open z k) (sym same) ∙ sym c.if-is_open.ensures)))
+
+pub returns : goal.returns
+returns c =
+    let s = c.args.self.now.state in
+    let same : c.self.inside.run.relay.state ≡ s = ap (λ (d : DriveValue). d.state) c.self.view_is in
+    let opened = ap (λ (z : State). z.plain.opened) same in
+    let kept = c.self.invariant.kept (none_of c.self.inside.refusal (sym c.if-is_some.ensures)) in
+    let none = up-all (λ k. is_open s k ≡ false) c.loop-link.from s.plain.opened c.loop-link.invariant.none
+    (λ k le lt. ap (λ z. is_open z k) (sym same)
+    ∙ kept.gone k (omega (arith, lt, opened)) (c.in_default.ensures k le (omega (arith, lt, c.opened.ensures.count, opened)))) in
+    sym (ap (nat_lt 0) (none-open s s.plain.opened none))
