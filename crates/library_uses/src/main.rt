@@ -7,6 +7,7 @@ mod deadlines;
 mod due;
 mod filters;
 mod lines;
+mod numbers;
 mod own_port;
 mod queues;
 
@@ -22,6 +23,7 @@ fn main(rt: HostRuntime) -> anyhow::Result<()> {
     bufferevents::back_pressure(&rt, alloc)?;
     filters::line_ends(&rt, alloc)?;
     due::joined_reasons(&rt, alloc)?;
+    numbers::busy_jobs(&rt, alloc)?;
     own_port::one_call(&rt, alloc)?;
     Ok(())
 }

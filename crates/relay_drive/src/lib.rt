@@ -2,7 +2,7 @@
 //! rule on bytes stands here.
 //!
 //! A turn has seven phases: clock, time, poll, serve, dispatch, pass and close. Time and dispatch have nothing to do
-//! yet: nothing is timed, and there is no hook.
+//! yet: nothing is timed, and there is no hook. A link at which nothing is to be done is left alone.
 #![tactic(auto)]
 
 mod accept;
