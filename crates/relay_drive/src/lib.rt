@@ -1,8 +1,8 @@
 //! The order of a turn: the port's calls, the changes of the relay that they lead to, and the entries of the trace. No
 //! rule on bytes stands here.
 //!
-//! A turn has seven phases: clock, time, poll, serve, dispatch, pass and close. Time and dispatch have nothing to do
-//! yet: nothing is timed, and there is no hook. A link at which nothing is to be done is left alone.
+//! A turn has seven phases: clock, time, poll, serve, dispatch, pass and close. There is no hook yet, so that dispatch has
+//! nothing to do. A link at which nothing is to be done is left alone.
 #![tactic(auto)]
 
 mod accept;
