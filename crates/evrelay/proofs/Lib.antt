@@ -1,2 +1,4 @@
+pub mod KeepLastLemmas
 pub mod RingLemmas
+pub mod RingWantsLemmas
 pub mod ProgramLemmas

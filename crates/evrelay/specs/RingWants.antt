@@ -8,9 +8,10 @@ use Rattle.ev_port.specs.Table.{WantsValue, named_before, named}
 abbrev pub want_entry : Want → Entry
 want_entry w = entry.Want w.side w.read w.write
 
--- From this number of a side on stand the last wants: as many as are asked for at least, or all.
+-- From this number of a side on stand the last wants: as many as are asked for, or all, where they are no more.
 pub record StartsLast (t : WantsValue) (most from : ℕ) : Type 0 where
   pub rest : List Want
   pub within : from ≤ 2 * t.links
   pub split : named t ≡ named_before t from ++ rest
+  pub few : length rest ≤ most
   pub many : (named_before t from ≡ []) ⊎ (most ≤ length rest)
