@@ -1,5 +1,6 @@
 #!/usr/bin/env bash
-# How fast filters pass bytes beside a plain copy, what an idle bufferevent holds, and what due callbacks of 10,000 owners cost.
+# How fast filters pass bytes beside a plain copy, what an idle bufferevent holds, what due callbacks of 10,000 owners cost, and
+# what an idle link costs a turn over a script that brings nothing, where nobody listens.
 # Build first: cd crates/layer_bench && rt run. Usage: bench/layers.sh [PROGRAM]
 set -u
 cd "$(dirname "$0")/.." || exit 1
@@ -22,3 +23,7 @@ awk -v a="$little" -v b="$much" 'BEGIN { printf "an idle bufferevent: %.0f bytes
 # 4,096 rounds in which each of 10,000 owners becomes due twice and is called twice
 read -r seconds _ < <(measured due)
 awk -v s="$seconds" 'BEGIN { printf "due callbacks, 10,000 owners: %.0f ns a reason\n", s * 1e9 / (4096 * 20000) }'
+
+# 65,536 turns over 1,024 links
+read -r seconds _ < <(measured links)
+awk -v s="$seconds" 'BEGIN { printf "an idle link: %.1f ns a turn\n", s * 1e9 / (65536 * 1024) }'
