@@ -51,6 +51,19 @@ fn port_of(alloc: Global, script: &str) -> Result<ScriptPort, Fail> {
     Ok(ScriptPort::new(alloc, read_script(alloc, script.as_bytes())?)?)
 }
 
+/// Such a run over a port of this script. The port is let go at one place, since each such place carries a proof of all that it owns.
+fn played<R: Wait + AllocGlobal>(
+    rt: &R,
+    links: &str,
+    script: &str,
+    failing_write: u64,
+) -> Result<Ended, Fail> {
+    let mut port = port_of(rt.alloc(), script)?;
+    let ended = came_to(rt, links, &mut port, failing_write);
+    drop(port);
+    ended
+}
+
 /// Both ways end by themselves.
 const BOTH_WAYS: &str =
     "at 0\nopen\nat 1\nr 0 in 474554\neof 0 in\nw 0 in all\nw 0 out all\nat 2\nr 0 out 323030\neof 0 out\nat 3\n";
@@ -90,8 +103,7 @@ const RUNS: [(&str, &str, u8, &str, &str); 5] = [
 #[test]
 fn runs_come_to_their_reports(rt: HostRuntime) -> Result<(), Fail> {
     for (script, links, number, report, said) in RUNS {
-        let mut port = port_of(rt.alloc(), script)?;
-        let run = came_to(&rt, links, &mut port, 0)?;
+        let run = played(&rt, links, script, 0)?;
         assert_eq!(rt; run.number, number, "{script}");
         assert_eq!(rt; run.report.as_slice(), report.as_bytes(), "{script}");
         assert_eq!(rt; run.said.as_slice(), said.as_bytes(), "{script}");
@@ -147,8 +159,7 @@ fn a_fault_of_the_port_shows_the_last_entries(rt: HostRuntime) -> Result<(), Fai
 
 #[test]
 fn a_report_that_is_cut_off_is_told(rt: HostRuntime) -> Result<(), Fail> {
-    let mut port = port_of(rt.alloc(), BOTH_WAYS)?;
-    let run = came_to(&rt, "1", &mut port, 2)?;
+    let run = played(&rt, "1", BOTH_WAYS, 2)?;
     assert_eq!(rt; run.number, 4);
     assert_eq!(rt; run.report.as_slice(), b"link ".as_slice());
     assert_eq!(rt; run.said.as_slice(), b"write fault\n".as_slice());
