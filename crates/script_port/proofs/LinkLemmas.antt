@@ -1,19 +1,19 @@
 -- What a call on one end makes of all links.
-use Rattle.std.proofs.Common.{◌≡◌, ℕ, ◌+◌, ◌-◌, ◌^◌, ◌<◌, Bool, List, [], ◌++◌, length, get_or, set, map, take, drop, Option, Some, refl, sym, ap, subst, ◌∙◌}
+use Rattle.std.proofs.Common.{◌≡◌, ℕ, ◌+◌, ◌-◌, ◌^◌, ◌<◌, Bool, false, List, [], ◌∷◌, ◌++◌, length, get_or, set, map, take, drop, Option, Some, refl, sym, ap, subst, ◌∙◌, arith}
 use Rattle.std.specs.Prelude.{slice_get, option_map}
 use Rattle.std.specs.Option.{option_map_or}
 use Rattle.ev_types.specs.declared.side.SideId.{SideId}
 use Rattle.ev_types.specs.declared.answer.WriteAnswer.{WriteAnswer}
 use Rattle.ev_types.specs.declared.answer.WriteAnswer.TheVariants as write
 use Rattle.ev_types.specs.Sides.{number}
-use Rattle.std.proofs.lemmas.List.{get_or_default}
+use Rattle.std.proofs.lemmas.List.{get_or_default, get_or_at, drop_more, length-map, length-take}
 use Rattle.std.proofs.lemmas.List.Edits.{map_over_more}
 use Rattle.ev_port.specs.declared.port.Want.{Want}
 use Rattle.script_port.specs.ScriptState.{EndState, EndKept, LinksState}
 use Rattle.script_port.specs.ScriptKept.{Wrote}
-use Rattle.script_port.specs.ScriptEnds.{after_write, write_answer}
-use Rattle.script_port.specs.ScriptLinks.{at_end, taken_at, write_answer_at, WroteAt}
-use Rattle.script_port.proofs.ListLemmas.{changed_set, same_set, part_read, slice_get-changed_same}
+use Rattle.script_port.specs.ScriptEnds.{after_write, write_answer, can_read, can_write, is_spurred, wanted}
+use Rattle.script_port.specs.ScriptLinks.{at_end, marked, after_wants, taken_at, write_answer_at, WroteAt}
+use Rattle.script_port.proofs.ListLemmas.{changed_set, same_set, part_read, slice_get-changed_same, told-changed}
 
 abbrev states : List EndKept → List EndState
 states es = map (λ e. e.state) es
@@ -88,3 +88,32 @@ pub marks_more : (f : Want → Want) (xs ys : List Want) (i : ℕ) (d r : Want) 
     (take i xs) ++ drop i xs → r ≡ f (get_or ys i d) → set ys i r ≡ map f (take (i + 1) xs) ++ drop (i + 1) xs
 marks_more f xs ys i d r within also so_far e =
     ap (set ys i) e ∙ map_over_more f xs ys i (get_or ys i d) within so_far (get_or_default ys i d (get_or ys i d) also)
+
+-- counting a want leaves what is marked
+pub marked-wanted : (l : LinksState) (e : SideId) (v w : Want) → marked (at_end e (wanted v) l) w ≡ marked l w
+marked-wanted l e v w =
+    let reads = told-changed can_read (wanted v) (λ s. refl) false l.ends (number e) (number w.side) in
+    let writes = told-changed can_write (wanted v) (λ s. refl) false l.ends (number e) (number w.side) in
+    let spurs = told-changed (is_spurred l.turn) (wanted v) (λ s. refl) false l.ends (number e) (number w.side) in
+    rw (reads, writes, spurs)
+
+-- one more want is counted with its marks
+pub wanted_more : (f : Want → Want) (xs ys : List Want) (i : ℕ) (d r : Want) (l next whole : LinksState) →
+    ((w : Want) → (f w).side ≡ w.side) → i < length xs → ys ≡ map f (take i xs) ++ drop i xs → r ≡ f (get_or ys i d) → next ≡ at_end
+    (get_or ys i d).side (wanted r) l → after_wants (map f (drop i xs)) l ≡ whole → after_wants (map f (drop (i + 1) xs)) next ≡ whole
+wanted_more f xs ys i d r l next whole sided within so_far e after h =
+    let x = get_or xs i d in
+    let front = map f (take i xs) in
+    let long : length front ≡ i = length-map (take i xs) f ∙ omega (arith, length-take i xs) in
+    let parts : ys ≡ front ++ x ∷ drop (i + 1) xs = so_far ∙ ap (λ z. front ++ z) (drop_more xs i d within) in
+    let read : get_or ys i d ≡ x = ap (λ z. get_or z i d) parts ∙ get_or_at front _ _ d i long in
+    let marks : r ≡ f x = e ∙ ap f read in
+    let named : (get_or ys i d).side ≡ (f x).side = ap (λ w. w.side) read ∙ sym (sided x) in
+    let moved : next ≡ at_end (f x).side (wanted (f x)) l = after ∙ ap (λ n. at_end n (wanted r) l) named
+    ∙ ap (λ w. at_end (f x).side (wanted w) l) marks in
+    ap (after_wants (map f (drop (i + 1) xs))) moved ∙ ap (λ z. after_wants (map f z) l) (sym (drop_more xs i d within)) ∙ h
+
+-- a want that was marked by one rule is marked by another that marks alike
+pub marked_alike : (f g : Want → Want) → ((w : Want) → f w ≡ g w) → (ys : List Want) (i : ℕ) (d r : Want) → r ≡ f (get_or ys i d) → r ≡
+    g (get_or ys i d)
+marked_alike f g alike ys i d r e = e ∙ alike (get_or ys i d)

@@ -1,6 +1,7 @@
 -- A list with one element changed.
 use Rattle.std.proofs.Common.{◌≡◌, ◌≢◌, ℕ, zero, suc, ◌<◌, ◌≤◌, List, [], ◌∷◌, length, get_or, set, map, refl, sym, ap, ◌∙◌, arith, Some, None}
 use Rattle.std.specs.Prelude.{slice_get, option_map}
+use Rattle.std.specs.Option.{option_map_or}
 use Rattle.script_port.specs.ScriptLinks.{changed}
 
 -- writing an element whose part is the changed part of the one before changes the list of parts
@@ -86,3 +87,12 @@ slice_get-changed_other f (s ∷ ss) zero zero h = absurd (h refl)
 slice_get-changed_other f (s ∷ ss) zero (suc j) h = refl
 slice_get-changed_other f (s ∷ ss) (suc k) zero h = refl
 slice_get-changed_other f (s ∷ ss) (suc k) (suc j) h = slice_get-changed_other f ss k j (λ e. h (ap suc e))
+
+-- a change that leaves what is told of an element leaves what is told of the n-th
+pub told-changed : {S A : Type 0} (p : S → A) (f : S → S) → ((s : S) → p (f s) ≡ p s) → (d : A) (ss : List S) (k n : ℕ) →
+    option_map_or p (slice_get (changed k f ss) n) d ≡ option_map_or p (slice_get ss n) d
+told-changed p f same d [] k n = refl
+told-changed p f same d (s ∷ ss) zero zero = same s
+told-changed p f same d (s ∷ ss) zero (suc n) = refl
+told-changed p f same d (s ∷ ss) (suc k) zero = refl
+told-changed p f same d (s ∷ ss) (suc k) (suc n) = told-changed p f same d ss k n

@@ -82,6 +82,13 @@ same_turn _ _ = false
 abbrev pub is_spurred : Option ℕ → EndState → Bool
 is_spurred turn s = same_turn turn s.spurred
 
+-- what is wanted of it and can be done is marked, or, where all is marked in this turn, what is wanted
+abbrev pub end_marked : Option ℕ → EndState → Want → Want
+end_marked turn s w = record w {
+  can_read = w.read && (can_read s || is_spurred turn s);
+  can_write = w.write && (can_write s || is_spurred turn s);
+}
+
 -- the least of the room and the pending bytes; with none pending a failure, or else the end, where it stands
 abbrev pub read_answer : EndState → ℕ → ReadAnswer
 read_answer s room =

@@ -2,7 +2,7 @@
 // and lets fail, and what calls on it were made. Which line and which call comes to it is not its own.
 ghost use Rattle.std.specs.Prelude.{◌≡◌, ◌<◌, ◌++◌, [], length, take, drop, if◌then◌else◌, IfOk, OnErr, OnOk, IsOk};
 ghost use Rattle.ev_port.specs.Ends.{got_bytes};
-ghost use Rattle.script_port.specs.ScriptEnds.{new_end, allowed, decided, can_read, can_write, same_turn, is_spurred, read_answer, after_read, conn_answer, after_check, accepted, after_close_write, after_close, wanted};
+ghost use Rattle.script_port.specs.ScriptEnds.{new_end, allowed, decided, can_read, can_write, same_turn, is_spurred, end_marked, read_answer, after_read, conn_answer, after_check, accepted, after_close_write, after_close, wanted};
 ghost use Rattle.script_port.specs.FailedCalls.{failed_read, failed_write, failed_check};
 ghost use Rattle.script_port.specs.ScriptKept.{kept_after_line, Wrote};
 ghost use Rattle.relay_model.specs.Scripted.{decided_answer};
@@ -98,13 +98,13 @@ impl ScriptEnd {
         self.came += count.min(self.bytes.len() - self.came);
     }
 
-    pub fn can_read(&self) -> bool
+    fn can_read(&self) -> bool
         ensures { result ≡ can_read self.now.state }
     {
         self.given < self.came || self.read_fails || self.eof
     }
 
-    pub fn can_write(&self) -> bool
+    fn can_write(&self) -> bool
         ensures { result ≡ can_write self.now.state }
     {
         if self.wait && !self.tally.connected {
@@ -115,10 +115,26 @@ impl ScriptEnd {
     }
 
     /// Whether in this turn all that is wanted of it is marked.
-    pub fn is_spurred(&self, turn: Option<usize>) -> bool
+    fn is_spurred(&self, turn: Option<usize>) -> bool
         ensures { result ≡ is_spurred turn self.now.state }
     {
         is_same_turn(turn, self.spurred)
+    }
+
+    /// A poll is given this want: what of it can be done, or is to be marked in this turn, is marked, and the want is counted
+    /// with its marks.
+    pub fn poll(&mut self, turn: Option<usize>, want: Want) -> Want
+        ensures marks { result ≡ end_marked turn self.old.state want }
+        ensures after { self.new ≡ record self.old { state = wanted result self.old.state } }
+    {
+        let all = self.is_spurred(turn);
+        let want = Want {
+            can_read: want.read && (self.can_read() || all),
+            can_write: want.write && (self.can_write() || all),
+            ..want
+        };
+        self.count_want(&want);
+        want
     }
 
     /// A poll was given this want, and left its marks.

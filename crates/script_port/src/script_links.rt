@@ -3,7 +3,7 @@
 ghost use Rattle.std.specs.Prelude.{◌≡◌, ◌<◌, ◌==◌, ◌++◌, ◌∷◌, [], length, take, drop, map, not, IfOk, OnOk, Option, None, true, false};
 ghost use Rattle.ev_port.specs.Ends.{got_bytes};
 ghost use Rattle.script_port.specs.ScriptEnds.{after_read, after_check, after_close_write, after_close, accepted, wanted};
-ghost use Rattle.script_port.specs.ScriptLinks.{at_end, out_end, links_of, entered, can_read_at, can_write_at, is_spurred_at, marked, unmarked, after_wants, accept_answer, accept_first, read_answer_at, pending_at, WroteAt, conn_answer_at};
+ghost use Rattle.script_port.specs.ScriptLinks.{at_end, out_end, links_of, entered, marked, unmarked, after_wants, accept_answer, accept_first, read_answer_at, pending_at, WroteAt, conn_answer_at};
 ghost use Rattle.script_port.specs.FailedCalls.{failed_read, failed_write, failed_check};
 ghost use Rattle.script_port.specs.KeptLines.{kept_line};
 ghost use Rattle.script_port.specs.ScriptKept.{line_at, links_after_line, links_after_lines, with_links, with_bytes, with_all_bytes, TookWaiting};
@@ -273,47 +273,15 @@ impl ScriptLinks {
         }
     }
 
-    fn can_read(&self, end: SideId) -> bool
-        ensures { result ≡ can_read_at self.now.state end }
+    fn poll_want(&mut self, want: Want) -> Want
+        ensures marks { result ≡ marked self.old.state want }
+        ensures after { self.new ≡ record self.old { state = at_end want.side (wanted result) self.old.state } }
     {
-        let number = end.number();
+        let number = want.side.number();
         if number < self.ends.len() {
-            self.ends[number].can_read()
+            self.ends[number].poll(self.turn, want)
         } else {
-            false
-        }
-    }
-
-    fn can_write(&self, end: SideId) -> bool
-        ensures { result ≡ can_write_at self.now.state end }
-    {
-        let number = end.number();
-        if number < self.ends.len() {
-            self.ends[number].can_write()
-        } else {
-            false
-        }
-    }
-
-    fn is_spurred(&self, end: SideId) -> bool
-        ensures { result ≡ is_spurred_at self.now.state end }
-    {
-        let number = end.number();
-        if number < self.ends.len() {
-            self.ends[number].is_spurred(self.turn)
-        } else {
-            false
-        }
-    }
-
-    fn mark_want(&self, want: Want) -> Want
-        ensures { result ≡ marked self.now.state want }
-    {
-        let all = self.is_spurred(want.side);
-        Want {
-            can_read: want.read && (self.can_read(want.side) || all),
-            can_write: want.write && (self.can_write(want.side) || all),
-            ..want
+            unmarked(want)
         }
     }
 
@@ -324,12 +292,14 @@ impl ScriptLinks {
         self.poll_fails
     }
 
-    /// Marks what is wanted and can be done, or is to be marked in this turn.
-    pub fn mark(&self, wants: &mut [Want])
-        ensures { wants.new ≡ map (λ w. marked self.now.state w) wants.old }
+    /// A poll that does not fail is given these wants: what can be done, or is to be marked in this turn, is marked, and the
+    /// wants are counted with their marks.
+    pub fn poll(&mut self, wants: &mut [Want])
+        ensures marks { wants.new ≡ map (λ w. marked self.old.state w) wants.old }
+        ensures after { self.new ≡ record self.old { state = after_wants wants.new self.old.state } }
     {
         for want in wants.iter_mut() {
-            *want = self.mark_want(*want);
+            *want = self.poll_want(*want);
         }
     }
 

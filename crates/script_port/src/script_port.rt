@@ -95,8 +95,7 @@ impl ScriptPort {
             return Polled::Failed;
         }
         let ready = accept & self.links.has_waiting();
-        self.links.mark(wants);
-        self.links.count_wants(wants);
+        self.links.poll(wants);
         self.tally.count_poll(accept, timeout, ready);
         Polled::Ready { accept: ready }
     }
