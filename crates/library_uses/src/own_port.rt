@@ -135,8 +135,15 @@ pub fn one_call(rt: &impl Print, alloc: Global) -> anyhow::Result<()> {
         turns: 0,
     };
     let mut drive = Drive::new(alloc, Settings::usual())?;
+    let answer = four_turns(rt, &mut drive, &mut port);
+    drop(drive);
+    answer
+}
+
+// The drive is lent, so that it is let go at one place.
+fn four_turns(rt: &impl Print, drive: &mut Drive, port: &mut OneCall) -> anyhow::Result<()> {
     for turn in 1..5u32 {
-        drive.turn(&mut port, &mut Mute::new())?;
+        drive.turn(port, &mut Mute::new())?;
         println!(rt;
             "turn {turn}: {} open, {} bytes wait, {} were heard",
             drive.open_links(),
