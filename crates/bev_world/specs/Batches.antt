@@ -1,0 +1,8 @@
+-- The batch that runs.
+use Rattle.std.specs.Prelude.{Bool, true, false, if◌then◌else◌, [], ◌++◌}
+use Rattle.deferred_cb.specs.DueCalls.{all_calls}
+use Rattle.bev_world.specs.WorldValue.{WorldValue}
+
+-- A batch begins: what is pending is the batch, unless the one before was cut off; then its rest is the batch.
+abbrev pub batch_begun : WorldValue → WorldValue
+batch_begun w = if w.cut then record w { cut = false } else record w { pending = []; batch = all_calls w.pending }

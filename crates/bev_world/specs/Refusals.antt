@@ -1,0 +1,59 @@
+-- Which refusal of a call on a world holds, the first first. Want of memory comes after all of them.
+use Rattle.std.specs.Prelude.{ℕ, ◌+◌, ◌-◌, ◌^◌, ◌==◌, ◌&&◌, nat_lt, Bool, true, false, if◌then◌else◌, Option, Some, None, length, min}
+use Rattle.std.specs.Option.{option_or}
+use Rattle.bev_core.specs.declared.fault.BevFault.{BevFault}
+use Rattle.bev_core.specs.declared.fault.BevFault.TheVariants as bev
+use Rattle.bev_world.specs.declared.fault.WorldFault.{WorldFault}
+use Rattle.bev_world.specs.declared.fault.WorldFault.TheVariants as fault
+use Rattle.bev_world.specs.declared.slot.Kind.{Kind}
+use Rattle.bev_world.specs.declared.slot.Kind.TheVariants as kind
+use Rattle.bev_world.specs.WorldValue.{WorldValue, slot_at, bev_at, is_live}
+
+-- the refusal of a bufferevent is the world's
+abbrev pub of_bev : BevFault → WorldFault
+of_bev bev.Memory = fault.Memory
+of_bev bev.NotLive = fault.NotLive
+of_bev bev.TooManyRefs = fault.TooManyRefs
+of_bev bev.Spent = fault.Spent
+
+-- it is unknown, or was freed
+abbrev pub live_refusal : WorldValue → ℕ → Option WorldFault
+live_refusal w n = if is_live w n then None else Some fault.NotLive
+
+abbrev pub is_socket : Kind → Bool
+is_socket kind.Socket = true
+is_socket (kind.Half other) = false
+is_socket (kind.Filter under) = false
+
+abbrev pub is_filter : Kind → Bool
+is_filter kind.Socket = false
+is_filter (kind.Half other) = false
+is_filter (kind.Filter under) = true
+
+-- a live one is no socket
+abbrev pub socket_refusal : WorldValue → ℕ → Option WorldFault
+socket_refusal w n =
+    option_or (live_refusal w n) (if is_socket (slot_at w n).kind then None else Some fault.NotSocket)
+
+-- so many more bufferevents need numbers
+abbrev pub ids_refusal : WorldValue → ℕ → Option WorldFault
+ids_refusal w more = if nat_lt (length w.slots + more) (2 ^ 32) then None else Some fault.IdsSpent
+
+-- a live one has a filter over it
+abbrev pub taken_refusal : WorldValue → ℕ → Option WorldFault
+taken_refusal w n = option_or (live_refusal w n) (if (slot_at w n).taken then Some fault.Taken else None)
+
+-- one reference more doesn't fit a u32
+abbrev pub incref_refusal : WorldValue → ℕ → Option WorldFault
+incref_refusal w n = option_or (live_refusal w n) (if (bev_at w n).refs == 2 ^ 32 - 1 then Some fault.TooManyRefs else None)
+
+-- it is unknown, or a freed one without a reference
+abbrev pub decref_refusal : WorldValue → ℕ → Option WorldFault
+decref_refusal w n = if (bev_at w n).refs == 0 then Some fault.NotLive else None
+
+-- so many more bytes of an input have no length that fits a usize
+abbrev pub input_refusal : WorldValue → ℕ → ℕ → Option WorldFault
+input_refusal w n more = if nat_lt (length (bev_at w n).input.bytes + more) (2 ^ 64) then None else Some fault.Spent
+
+abbrev pub output_refusal : WorldValue → ℕ → ℕ → Option WorldFault
+output_refusal w n more = if nat_lt (length (bev_at w n).output.bytes + more) (2 ^ 64) then None else Some fault.Spent

@@ -1,0 +1,37 @@
+// The batch that runs, call by call.
+ghost use Rattle.std.specs.Prelude.{◌≡◌, ◌<◌, ◌++◌, [], length, true, false, IfNone};
+ghost use Rattle.std.specs.Option.{option_to_list};
+ghost use Rattle.bev_world.specs.Batches.{batch_begun};
+
+use super::World;
+use ev_types::Why;
+
+impl World {
+    /// Makes the pending reasons the batch, unless one was cut off: then its rest is the batch.
+    pub(crate) fn begin_batch(&mut self)
+        requires { self.old.cut ≡ false → self.old.batch ≡ [] }
+        ensures { self.new ≡ batch_begun self.old }
+    {
+        if self.cut {
+            self.cut = false;
+            return;
+        }
+        self.due.begin();
+    }
+
+    /// Takes the next call of the batch, or None where the batch is used up.
+    pub(crate) fn next_call(&mut self) -> Option<(u64, Why)>
+        ensures next { self.old.batch ≡ option_to_list result ++ self.new.batch }
+        ensures used_up { IfNone result (self.old.batch ≡ []) }
+        ensures others { self.new ≡ record self.old { batch = self.new.batch } }
+    {
+        self.due.take_turn()
+    }
+
+    /// The batch was cut off by want of memory.
+    pub(crate) fn cut_batch(&mut self)
+        ensures { self.new ≡ record self.old { cut = true } }
+    {
+        self.cut = true;
+    }
+}
