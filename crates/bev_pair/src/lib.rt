@@ -5,7 +5,7 @@ mod fault;
 mod passing;
 
 pub use fault::PairFault;
-pub use passing::{flush_event, transfer};
+pub use passing::{count, flush_event, transfer};
 
 #[cfg(test)]
 mod tests;

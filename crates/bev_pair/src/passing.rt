@@ -48,8 +48,11 @@ pub fn flush_event(mode: Mode) -> Option<Flags>
     }
 }
 
-// How many bytes go.
-fn count(writer: &BevState, reader: &BevState, mode: Mode) -> usize
+/// How many bytes `transfer` moves, by the plain values of both halves, whether they are live or not. Takes no memory; constant
+/// cost.
+///
+/// Own.
+pub fn count(writer: &BevState, reader: &BevState, mode: Mode) -> usize
     ensures { result ≡ count_of writer.now reader.now mode }
 {
     let output = writer.output as usize;
