@@ -39,9 +39,10 @@ socket_refusal w n =
 abbrev pub ids_refusal : WorldValue → ℕ → Option WorldFault
 ids_refusal w more = if nat_lt (length w.slots + more) (2 ^ 32) then None else Some fault.IdsSpent
 
--- a live one has a filter over it
-abbrev pub taken_refusal : WorldValue → ℕ → Option WorldFault
-taken_refusal w n = option_or (live_refusal w n) (if (slot_at w n).taken then Some fault.Taken else None)
+-- a filter can't be made over it: it isn't live, there are no more numbers, or it has one
+abbrev pub filter_refusal : WorldValue → ℕ → Option WorldFault
+filter_refusal w n =
+    option_or (live_refusal w n) (option_or (ids_refusal w 1) (if (slot_at w n).taken then Some fault.Taken else None))
 
 -- one reference more doesn't fit a u32
 abbrev pub incref_refusal : WorldValue → ℕ → Option WorldFault
@@ -51,9 +52,10 @@ incref_refusal w n = option_or (live_refusal w n) (if (bev_at w n).refs == 2 ^ 3
 abbrev pub decref_refusal : WorldValue → ℕ → Option WorldFault
 decref_refusal w n = if (bev_at w n).refs == 0 then Some fault.NotLive else None
 
--- so many more bytes of an input have no length that fits a usize
-abbrev pub input_refusal : WorldValue → ℕ → ℕ → Option WorldFault
-input_refusal w n more = if nat_lt (length (bev_at w n).input.bytes + more) (2 ^ 64) then None else Some fault.Spent
+-- so many more bytes than a length make one that doesn't fit a usize
+abbrev pub length_fault : ℕ → ℕ → Option WorldFault
+length_fault len more = if nat_lt (len + more) (2 ^ 64) then None else Some fault.Spent
 
-abbrev pub output_refusal : WorldValue → ℕ → ℕ → Option WorldFault
-output_refusal w n more = if nat_lt (length (bev_at w n).output.bytes + more) (2 ^ 64) then None else Some fault.Spent
+-- a live one is no socket, or its input gets too long
+abbrev pub feed_refusal : WorldValue → ℕ → ℕ → Option WorldFault
+feed_refusal w n more = option_or (socket_refusal w n) (length_fault (length (bev_at w n).input.bytes) more)

@@ -1,10 +1,11 @@
 -- What contracts see of a world: its bufferevents by their numbers, and the reasons for which callbacks are due.
-use Rattle.std.specs.Prelude.{ℕ, Bool, true, false, not, ◌&&◌, nat_lt, if◌then◌else◌, List, Option, length, slice_index_or, slice_set}
+use Rattle.std.specs.Prelude.{ℕ, ◌+◌, [], ◌∷◌, ◌++◌, Bool, true, false, not, ◌&&◌, nat_lt, if◌then◌else◌, List, Option, length, slice_index_or, slice_set}
 use Rattle.token_bucket.specs.declared.limit.Dir.{Dir}
 use Rattle.token_bucket.specs.declared.limit.Dir.TheVariants.{Read, Write}
 use Rattle.ev_types.specs.declared.filter.FilterKind.{FilterKind}
 use Rattle.ev_types.specs.declared.filter.FilterKind.TheVariants as filter
 use Rattle.ev_types.specs.declared.why.Why.{Why}
+use Rattle.ev_types.specs.declared.why.Why.TheVariants as why
 use Rattle.relay_model.specs.FilterStep.{begun}
 use Rattle.deferred_cb.specs.DueCalls.{Entry, Call, with_reason}
 use Rattle.bev_core.specs.BevValue.{BevValue, new_bev}
@@ -61,6 +62,28 @@ with_slot w n s = record w { slots = slice_set w.slots n s }
 -- the bufferevent of one slot is another
 abbrev pub with_bev : WorldValue → ℕ → BevValue → WorldValue
 with_bev w n b = with_slot w n (record (slot_at w n) { bev = b })
+
+-- more slots come behind the others
+abbrev pub with_new : List Slot → WorldValue → WorldValue
+with_new new w = record w { slots = w.slots ++ new }
+
+-- both halves of a pair, of which the first has this number
+abbrev pub pair_slots : ℕ → List Slot
+pair_slots n = new_slot (kind.Half (n + 1)) filter.None filter.None ∷ new_slot (kind.Half n) filter.None filter.None ∷ []
+
+-- a filter was made over it
+abbrev pub with_taken : WorldValue → ℕ → WorldValue
+with_taken w n = with_slot w n (record (slot_at w n) { taken = true })
+
+-- the room of an input is other
+abbrev pub with_input_room : WorldValue → ℕ → ℕ → ℕ → WorldValue
+with_input_room w n room spare =
+    with_slot w n (record (slot_at w n) { room = room; bev = record (bev_at w n) { input = record (bev_at w n).input { spare = spare } } })
+
+-- the reason of a direction
+abbrev pub reason_of : Dir → Why
+reason_of Read = why.Read
+reason_of Write = why.Write
 
 -- a reason is due for a bufferevent, in the next batch
 abbrev pub raised : WorldValue → ℕ → Why → WorldValue

@@ -1,5 +1,5 @@
 // The boxes of callbacks, which stand outside of the world, and the run of a batch.
-ghost use Rattle.std.specs.Prelude.{◌≡◌, ◌×◌, ◌≤◌, ◌<◌, ◌+◌, ◌++◌, ◌∷◌, [], length, vec_len, slice_index_or, slice_set, true, false, None, Some, OnOk, OnErr, ⊤, MatchOption, if◌then◌else◌};
+ghost use Rattle.std.specs.Prelude.{◌≡◌, ◌≤◌, ◌<◌, ◌+◌, ◌++◌, ◌∷◌, [], length, vec_len, slice_index_or, slice_set, true, false, None, Some, OnOk, OnErr, ⊤, MatchOption, if◌then◌else◌};
 ghost use Rattle.bev_world.specs.WorldValue.{is_live};
 ghost use Rattle.bev_world.specs.Runs.{Ran};
 

@@ -4,7 +4,7 @@
 // 1. A freed bufferevent stays freed, and keeps its number and its plain values.
 // 2. The other half of a half is another bufferevent, and what is under a filter was made before it.
 // 3. There is room for a pending entry of every bufferevent, so that no reason is lost.
-ghost use Rattle.std.specs.Prelude.{◌≡◌, ◌×◌, ◌≤◌, ◌<◌, ◌+◌, ◌-◌, ◌^◌, ◌++◌, ◌∷◌, ◌==◌, [], length, drop, take, min, true, false, Some, None, OnOk, OnErr, IfOk, IfSome, if◌then◌else◌, nat_lt};
+ghost use Rattle.std.specs.Prelude.{◌≡◌, ◌≤◌, ◌<◌, ◌+◌, ◌-◌, ◌^◌, ◌++◌, ◌∷◌, ◌==◌, [], length, drop, take, min, true, false, Some, None, OnOk, OnErr, IfOk, IfSome, if◌then◌else◌, nat_lt};
 ghost use Rattle.std.specs.Bool.{then_some};
 ghost use Rattle.evbuf_chain.specs.Answers.{AnswersOr, fault_of};
 ghost use Rattle.bev_core.specs.BevValue.{state_of};
@@ -13,11 +13,12 @@ ghost use Rattle.bev_world.specs.Refusals.{live_refusal};
 ghost use Rattle.bev_world.specs.Went.{Went};
 ghost use Rattle.bev_world.specs.WorldValue.{slot_at, bev_at, is_live, raised, raised_if, room_at};
 
-mod bytes;
 mod events;
 mod flags;
 mod frees;
+mod halves;
 mod made;
+mod sockets;
 mod turns;
 
 use crate::fault::WorldFault;

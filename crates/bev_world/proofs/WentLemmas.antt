@@ -1,0 +1,149 @@
+-- What no call on a world does, for calls in a row.
+use Rattle.std.proofs.Common.{◌≡◌, ◌≢◌, ℕ, ◌+◌, ◌≤◌, ◌<◌, Bool, true, false, not, ◌&&◌, if◌then◌else◌, List, [], ◌∷◌, length, refl, sym, ◌∙◌, ap, subst, arith, inl, inr}
+use Rattle.std.specs.Prelude.{filter, slice_index_or, slice_set, nat_eq, nat_lt}
+use Rattle.std.proofs.lemmas.List.{get_or-set_same, get_or-set_other, get_or_default, length-set}
+use Rattle.std.proofs.lemmas.Bool.Decides.{eqb_tells}
+use Rattle.token_bucket.specs.declared.limit.Dir.{Dir}
+use Rattle.token_bucket.specs.declared.limit.Dir.TheVariants.{Read, Write}
+use Rattle.bev_core.specs.BevValue.{BevValue}
+use Rattle.bev_core.specs.Steps.{with_enabled, with_marks, touched, ended_at, failed_at}
+use Rattle.ev_types.specs.declared.why.Why.{Why}
+use Rattle.deferred_cb.specs.DueCalls.{Call}
+use Rattle.bev_world.specs.declared.slot.Slot.{Slot}
+use Rattle.bev_world.specs.WorldValue.{WorldValue, no_slot, slot_at, is_freed, with_slot, raised, raised_if}
+use Rattle.bev_world.specs.Went.{Went, went_away}
+
+and-not : (b : Bool) → (b && not b) ≡ false
+and-not true = refl
+and-not false = refl
+
+all-stay : (p : Call → Bool) → ((c : Call) → p c ≡ true) → (cs : List Call) → filter p cs ≡ cs
+all-stay p all [] = refl
+all-stay p all (c ∷ cs) = ap (λ b. if b then c ∷ filter p cs else filter p cs) (all c) ∙ ap (λ z. c ∷ z) (all-stay p all cs)
+
+pub went_none : (w : WorldValue) → Went w w
+went_none w = record {
+  known = omega arith;
+  kinds = λ n lt. refl;
+  freed = λ n h. h;
+  batch = sym (all-stay (λ call. not (went_away w w call.0)) (λ c. ap not (and-not (is_freed w c.0))) w.batch);
+  cut = refl;
+}
+
+-- nothing was freed: the same numbers with the same kinds, and freed as before
+pub went_same : (old new : WorldValue) → length new.slots ≡ length old.slots → ((n : ℕ) → (slot_at new n).kind ≡ (slot_at old n).kind) →
+    ((n : ℕ) → (slot_at new n).bev.live ≡ (slot_at old n).bev.live) → new.batch ≡ old.batch → new.cut ≡ old.cut → Went old new
+went_same old new many kinds lives batch cut = record {
+  known = omega (arith, many);
+  kinds = λ n lt. kinds n;
+  freed = λ n h. same n ∙ h;
+  batch = batch ∙ sym (all-stay (λ call. not (went_away old new call.0)) (λ c. ap not (stays c.0)) old.batch);
+  cut = cut;
+}
+  where
+    same : (n : ℕ) → is_freed new n ≡ is_freed old n
+    same n = (let k = many in let l = lives n in λ i. nat_lt n (k i) && not (l i))
+
+    stays : (n : ℕ) → went_away old new n ≡ false
+    stays n = ap (λ b. b && not (is_freed old n)) (same n) ∙ and-not (is_freed old n)
+
+-- one slot is another, with the same kind, and live as before
+pub went_set : (w : WorldValue) (n : ℕ) (s : Slot) → n < length w.slots → s.kind ≡ (slot_at w n).kind →
+    s.bev.live ≡ (slot_at w n).bev.live → Went w (with_slot w n s)
+went_set w n s within kind live =
+    went_same w (with_slot w n s) (length-set w.slots n s) (λ m. part (λ z. z.kind) kind m) (λ m. part (λ z. z.bev.live) live m) refl refl
+  where
+    part : {A : Type 0} (f : Slot → A) → f s ≡ f (slot_at w n) → (m : ℕ) → f (slot_at (with_slot w n s) m) ≡ f (slot_at w m)
+    part f same m = elim (eqb_tells m n) [
+      | inl here ↦
+        ap (λ k. f (slice_index_or (slice_set w.slots n s) k no_slot)) here.1 ∙ ap f (get_or-set_same w.slots n s no_slot within) ∙ same
+        ∙ ap (λ k. f (slot_at w k)) (sym here.1)
+      | inr apart ↦ ap f (get_or-set_other w.slots n m s no_slot apart.1)
+    ]
+
+-- two in a row
+pub went_then : (a b c : WorldValue) → Went a b → Went b c → Went a c
+went_then a b c first next = record {
+  known = let x = first.known in let y = next.known in omega (arith, x, y);
+  kinds = λ n lt. next.kinds n (let x = first.known in omega (arith, x, lt)) ∙ first.kinds n lt;
+  freed = λ n h. next.freed n (first.freed n h);
+  batch = next.batch ∙ ap (filter (λ call. not (went_away b c call.0))) first.batch ∙ both a.batch;
+  cut = next.cut ∙ first.cut;
+}
+  where
+    -- freed in a stays so in b, and freed in b stays so in c
+    stays : (x y z : Bool) → (x ≡ true → y ≡ true) → (y ≡ true → z ≡ true) →
+        (if not (y && not x) then not (z && not y) else false) ≡ not (z && not x)
+    stays true true true p q = refl
+    stays true true false p q = absurd (let k = q refl in cc)
+    stays true false z p q = absurd (let k = p refl in cc)
+    stays false true true p q = refl
+    stays false true false p q = absurd (let k = q refl in cc)
+    stays false false z p q = refl
+
+    both : (cs : List Call) →
+        filter (λ call. not (went_away b c call.0)) (filter (λ call. not (went_away a b call.0)) cs) ≡ filter (λ call. not (went_away a c call.0)) cs
+    both [] = refl
+    both (d ∷ cs) =
+        one (both cs) (not (went_away a b d.0))
+        (stays (is_freed a d.0) (is_freed b d.0) (is_freed c d.0) (first.freed d.0) (next.freed d.0))
+      where
+        later : Call → Bool
+        later call = not (went_away b c call.0)
+
+        mid : List Call
+        mid = filter (λ call. not (went_away a b call.0)) cs
+
+        last : List Call
+        last = filter (λ call. not (went_away a c call.0)) cs
+
+        one : filter later mid ≡ last → (t : Bool) → (if t then later d else false) ≡ not (went_away a c d.0) →
+            filter later (if t then d ∷ mid else mid) ≡ (if not (went_away a c d.0) then d ∷ last else last)
+        one rest true e =
+            ap (λ t. if t then d ∷ filter later mid else filter later mid) e
+            ∙ ap (λ z. if not (went_away a c d.0) then d ∷ z else z) rest
+        one rest false e = rest ∙ ap (λ t. if t then d ∷ last else last) e
+
+-- reasons that become due change nothing of that
+pub went_raised : (a b : WorldValue) (n : ℕ) (y : Why) → Went a b → Went a (raised b n y)
+went_raised a b n y h = record { known = h.known; kinds = h.kinds; freed = h.freed; batch = h.batch; cut = h.cut }
+
+pub went_raised_if : (due : Bool) (a b : WorldValue) (n : ℕ) (y : Why) → Went a b → Went a (raised_if due b n y)
+went_raised_if true a b n y h = went_raised a b n y h
+went_raised_if false a b n y h = h
+
+-- what is read of a slot that is there
+pub read_slot : (w : WorldValue) (n : ℕ) (d s : Slot) → n < length w.slots → s ≡ slice_index_or w.slots n d → s ≡ slot_at w n
+read_slot w n d s within is = is ∙ get_or_default w.slots n d no_slot within
+
+-- the bufferevent of one slot is another, and live as before
+pub went_bev : (w : WorldValue) (n : ℕ) (d s : Slot) (b : BevValue) → n < length w.slots → s ≡ slice_index_or w.slots n d →
+    b.live ≡ s.bev.live → Went w (with_slot w n (record s { bev = b }))
+went_bev w n d s b within is live =
+    let read = read_slot w n d s within is in
+    went_set w n (record s { bev = b }) within (ap (λ z. z.kind) read) (live ∙ ap (λ z. z.bev.live) read)
+
+-- the same with another room
+pub went_room : (w : WorldValue) (n : ℕ) (d s : Slot) (b : BevValue) (room : ℕ) → n < length w.slots → s ≡ slice_index_or w.slots n d →
+    b.live ≡ s.bev.live → Went w (with_slot w n (record s { bev = b; room = room }))
+went_room w n d s b room within is live =
+    let read = read_slot w n d s within is in
+    went_set w n (record s { bev = b; room = room }) within (ap (λ z. z.kind) read) (live ∙ ap (λ z. z.bev.live) read)
+
+pub live_enabled : (b : BevValue) (dir : Dir) (on : Bool) → (with_enabled b dir on).live ≡ b.live
+live_enabled b Read on = refl
+live_enabled b Write on = refl
+
+pub live_marks : (b : BevValue) (dir : Dir) (low high : ℕ) → (with_marks b dir low high).live ≡ b.live
+live_marks b Read low high = refl
+live_marks b Write low high = refl
+
+pub live_touched : (b : BevValue) (dir : Dir) (moment : ℕ) → (touched b dir moment).live ≡ b.live
+live_touched b Read moment = refl
+live_touched b Write moment = refl
+
+pub live_ended : (b : BevValue) (dir : Dir) → (ended_at b dir).live ≡ b.live
+live_ended b dir = live_enabled b dir false
+
+pub live_failed : (b : BevValue) (dir : Dir) → (failed_at b dir).live ≡ b.live
+live_failed b dir = live_enabled b dir false
