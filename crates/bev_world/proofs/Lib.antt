@@ -1,3 +1,6 @@
+pub mod Calls
+pub mod Hearing
 pub mod HoldsLemmas
 pub mod RoomLemmas
+pub mod Taken
 pub mod WentLemmas

@@ -1,6 +1,7 @@
 pub mod Batches
 pub mod Frees
 pub mod Halves
+pub mod Heard
 pub mod Moved
 pub mod Refusals
 pub mod Runs

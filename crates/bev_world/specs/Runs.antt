@@ -1,9 +1,13 @@
 -- The run of a batch: which calls are started, in which order, and what becomes of the boxes that are called.
-use Rattle.std.specs.Prelude.{◌≡◌, ℕ, Bool, true, false, not, ◌&&◌, if◌then◌else◌, List, [], ◌∷◌, ◌++◌, ◌-◌, ◌^◌, min, count_by, Result, Ok, Err, slice_index_or, slice_set, Option, option_map, Some, None, is_some}
+use Rattle.std.specs.Prelude.{◌≡◌, length, ℕ, Bool, true, false, ◌&&◌, if◌then◌else◌, List, [], ◌∷◌, ◌++◌, ◌-◌, ◌^◌, min, count_by, Result, Ok, Err, slice_index_or, slice_set, Option, option_map, Some, None, is_some}
+use Rattle.std.specs.Bool.{MatchBool}
+use Rattle.std.specs.declared.alloc.Global.{Global}
+use Rattle.std.specs.declared.dyn_box.DynBox.{DynBox}
 use Rattle.ev_types.specs.declared.why.Why.{Why}
 use Rattle.deferred_cb.specs.DueCalls.{Call}
 use Rattle.bev_world.specs.declared.fault.WorldFault.{WorldFault}
 use Rattle.bev_world.specs.declared.fault.WorldFault.TheVariants.{Memory}
+use Rattle.bev_world.specs.declared.roster.Roster.{Roster}
 use Rattle.bev_world.specs.Batches.{batch_begun}
 use Rattle.bev_world.specs.WorldValue.{WorldValue, is_live}
 use Rattle.bev_world.specs.Went.{Went}
@@ -18,9 +22,21 @@ pub record Served (H : Type 0) : Type 0 where
   pub serving : List (Option H)
   pub retired : List (Option H)
 
+-- a world with the boxes of a roster
+abbrev pub served : {X : Type 0} {F : X → Type 0} → WorldValue → Roster X F → Served (DynBox X Global F)
+served w r = record { world = w; serving = r.serving.items; retired = r.retired.items }
+
+-- a roster has as many slots for boxes that serve as for those that were taken out for good
+abbrev pub IsLevel : {X : Type 0} {F : X → Type 0} → Roster X F → Type 0
+IsLevel r = length r.retired.items ≡ length r.serving.items
+
+-- the box of this number
+abbrev pub box_at : {H : Type 0} → List (Option H) → ℕ → Option H
+box_at boxes n = slice_index_or boxes n None
+
 -- is there a box in the slot of this number
 abbrev pub has_box : {H : Type 0} → List (Option H) → ℕ → Bool
-has_box boxes n = is_some (slice_index_or boxes n None)
+has_box boxes n = is_some (box_at boxes n)
 
 -- a call is started where its bufferevent is live and has a box
 abbrev pub is_started : {H : Type 0} → Served H → Call → Bool
@@ -35,22 +51,33 @@ taken_out s rest = record s { world = record s.world { batch = rest } }
 pub record Called {H : Type 0} (heard : H → Option (List Why)) (ok : Bool) (call : Call) (s new : Served H) : Type 0 where
   pub was : H
   pub box : H
-  pub there : slice_index_or s.serving call.0 None ≡ Some was
+  pub there : box_at s.serving call.0 ≡ Some was
   pub went : Went s.world new.world
   pub hears : ok ≡ true → heard box ≡ told_more (heard was) (call.1 ∷ [])
   pub serving : new.serving ≡ slice_set s.serving call.0 (if is_live new.world call.0 then Some box else None)
   pub retired : new.retired ≡ (if is_live new.world call.0 then s.retired else slice_set s.retired call.0 (Some box))
 
+-- a call that is out of the batch was started where it is to be, and else nothing was done
+abbrev pub Done : {H : Type 0} → (H → Option (List Why)) → Call → Served H → Served H → Type 0
+Done heard call s new = MatchBool (is_started s call) (Called heard true call s new) (new ≡ s)
+
+-- A call that is out of the batch was started, and its box wanted memory: the batch is cut off behind that call.
+pub record DoneShort {H : Type 0} (heard : H → Option (List Why)) (call : Call) (s new : Served H) : Type 0 where
+  pub left : Served H
+  pub start : is_started s call ≡ true
+  pub called : Called heard false call s left
+  pub cut : new ≡ record left { world = record left.world { cut = true } }
+
 -- the first call of the batch was taken, and started where it is to be
 pub record Took {H : Type 0} (heard : H → Option (List Why)) (call : Call) (s new : Served H) : Type 0 where
   pub rest : List Call
   pub first : s.world.batch ≡ call ∷ rest
-  pub done : if is_started s call then Called heard true call (taken_out s rest) new else (new ≡ taken_out s rest)
+  pub done : Done heard call (taken_out s rest) new
 
 -- Calls of the batch were taken one after the other. Each stands beside whether it was started.
 abbrev pub TookAll : {H : Type 0} → (H → Option (List Why)) → List (Call × Bool) → Served H → Served H → Type 0
 TookAll heard [] s new = new ≡ s
-TookAll heard (c ∷ cs) s new = (mid : Served H) × (c.1 ≡ is_started s c.0) × Took heard c.0 s mid × TookAll heard cs mid new
+TookAll {H = H} heard (c ∷ cs) s new = (mid : Served H) × (c.1 ≡ is_started s c.0) × Took heard c.0 s mid × TookAll heard cs mid new
 
 -- how many of them were started
 abbrev pub started : List (Call × Bool) → ℕ
@@ -69,12 +96,9 @@ pub record RanShort {H : Type 0} (heard : H → Option (List Why)) (s new : Serv
   pub last : Call
   pub rest : List Call
   pub mid : Served H
-  pub left : Served H
   pub took : TookAll heard calls (record s { world = batch_begun s.world }) mid
   pub first : mid.world.batch ≡ last ∷ rest
-  pub start : is_started mid last ≡ true
-  pub called : Called heard false last (taken_out mid rest) left
-  pub cut : new ≡ record left { world = record left.world { cut = true } }
+  pub short : DoneShort heard last (taken_out mid rest) new
 
 -- the run of a batch, by its answer
 abbrev pub Ran : {H : Type 0} → (H → Option (List Why)) → Result ℕ WorldFault → Served H → Served H → Type 0

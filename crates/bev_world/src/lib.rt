@@ -11,7 +11,7 @@ pub use bev_core::{BevState, Dir};
 pub use callback::Callback;
 pub use ev_types::{BevId, FilterKind, Flags, Mode, Why};
 pub use fault::WorldFault;
-pub use roster::Roster;
+pub use roster::{Roster, run_due};
 pub use stream_filters::Step;
 pub use world::World;
 

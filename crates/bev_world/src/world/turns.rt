@@ -1,10 +1,12 @@
 // The batch that runs, call by call.
 ghost use Rattle.std.specs.Prelude.{◌≡◌, ◌<◌, ◌++◌, [], length, true, false, IfNone};
+ghost use Rattle.std.specs.Bool.{then_some};
 ghost use Rattle.std.specs.Option.{option_to_list};
 ghost use Rattle.bev_world.specs.Batches.{batch_begun};
+ghost use Rattle.bev_world.specs.WorldValue.{is_live};
 
 use super::World;
-use ev_types::Why;
+use ev_types::{BevId, Why};
 
 impl World {
     /// Makes the pending reasons the batch, unless one was cut off: then its rest is the batch.
@@ -26,6 +28,16 @@ impl World {
         ensures others { self.new ≡ record self.old { batch = self.new.batch } }
     {
         self.due.take_turn()
+    }
+
+    /// The identifier of an owner whose bufferevent is live.
+    pub(crate) fn live_id(&self, owner: u64) -> Option<BevId>
+        ensures { result ≡ then_some (is_live self.now owner) (record { 0 = owner }) }
+    {
+        match self.slots.get(owner as usize) {
+            Some(slot) if slot.bev.state().live => Some(BevId(owner as u32)),
+            _ => None,
+        }
     }
 
     /// The batch was cut off by want of memory.
