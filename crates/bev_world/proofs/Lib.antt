@@ -1,4 +1,5 @@
 pub mod Calls
+pub mod FreeLemmas
 pub mod Hearing
 pub mod HoldsLemmas
 pub mod RoomLemmas

@@ -1,14 +1,15 @@
 -- What no call on a world does, for calls in a row.
-use Rattle.std.proofs.Common.{◌≡◌, ◌≢◌, ℕ, ◌+◌, ◌≤◌, ◌<◌, Bool, true, false, not, ◌&&◌, if◌then◌else◌, List, [], ◌∷◌, length, refl, sym, ◌∙◌, ap, subst, arith, inl, inr}
+use Rattle.std.proofs.Common.{◌≡◌, ◌≢◌, ℕ, zero, suc, ◌+◌, ◌-◌, ◌≤◌, ◌<◌, Bool, true, false, not, ◌&&◌, if◌then◌else◌, List, [], ◌∷◌, ◌++◌, length, refl, sym, ◌∙◌, ap, subst, arith, inl, inr}
 use Rattle.std.specs.Prelude.{filter, slice_index_or, slice_set, nat_eq, nat_lt}
-use Rattle.std.proofs.lemmas.List.{get_or-set_same, get_or-set_other, get_or_default, length-set}
-use Rattle.std.proofs.lemmas.Bool.Decides.{eqb_tells}
+use Rattle.std.proofs.lemmas.List.{get_or-set_same, get_or-set_other, get_or_default, get_or_append_left, get_or-append-add, length-set, length-append}
+use Rattle.std.proofs.lemmas.Bool.{and_right}
+use Rattle.std.proofs.lemmas.Bool.Decides.{eqb_tells, leb_tells}
 use Rattle.token_bucket.specs.declared.limit.Dir.{Dir}
 use Rattle.token_bucket.specs.declared.limit.Dir.TheVariants.{Read, Write}
 use Rattle.bev_core.specs.BevValue.{BevValue}
 use Rattle.bev_core.specs.Steps.{with_enabled, with_marks, touched, ended_at, failed_at}
 use Rattle.ev_types.specs.declared.why.Why.{Why}
-use Rattle.deferred_cb.specs.DueCalls.{Call}
+use Rattle.deferred_cb.specs.DueCalls.{Entry, Call}
 use Rattle.bev_world.specs.declared.slot.Slot.{Slot}
 use Rattle.bev_world.specs.WorldValue.{WorldValue, no_slot, slot_at, is_freed, with_slot, raised, raised_if}
 use Rattle.bev_world.specs.Went.{Went, went_away}
@@ -130,6 +131,18 @@ went_room w n d s b room within is live =
     let read = read_slot w n d s within is in
     went_set w n (record s { bev = b; room = room }) within (ap (λ z. z.kind) read) (live ∙ ap (λ z. z.bev.live) read)
 
+-- one slot is another, with the same kind, and live as what was read there
+pub went_slot : (w : WorldValue) (n : ℕ) (d x s : Slot) → n < length w.slots → x ≡ slice_index_or w.slots n d → s.kind ≡ x.kind →
+    s.bev.live ≡ x.bev.live → Went w (with_slot w n s)
+went_slot w n d x s within is kind live =
+    let read = read_slot w n d x within is in
+    went_set w n s within (kind ∙ ap (λ z. z.kind) read) (live ∙ ap (λ z. z.bev.live) read)
+
+-- a filter was made over it
+pub went_taken : (w : WorldValue) (n : ℕ) (d s : Slot) → n < length w.slots → s ≡ slice_index_or w.slots n d →
+    Went w (with_slot w n (record s { taken = true }))
+went_taken w n d s within is = went_slot w n d s (record s { taken = true }) within is refl refl
+
 pub live_enabled : (b : BevValue) (dir : Dir) (on : Bool) → (with_enabled b dir on).live ≡ b.live
 live_enabled b Read on = refl
 live_enabled b Write on = refl
@@ -147,3 +160,74 @@ live_ended b dir = live_enabled b dir false
 
 pub live_failed : (b : BevValue) (dir : Dir) → (failed_at b dir).live ≡ b.live
 live_failed b dir = live_enabled b dir false
+
+-- reasons that wait are other
+pub went_due : (w : WorldValue) (es : List Entry) (cs : List Call) → cs ≡ w.batch → Went w (record w { pending = es; batch = cs })
+went_due w es cs same = went_same w (record w { pending = es; batch = cs }) refl (λ n. refl) (λ n. refl) same refl
+
+-- slots of live bufferevents come behind the others
+pub went_new : (w : WorldValue) (new : List Slot) (es : List Entry) (cs : List Call) →
+    ((k : ℕ) → k < length new → (slice_index_or new k no_slot).bev.live ≡ true) → cs ≡ w.batch →
+    Went w (record w { slots = w.slots ++ new; pending = es; batch = cs })
+went_new w new es cs lives same = record {
+  known = let e = length-append w.slots new in omega (arith, e);
+  kinds = λ n lt. ap (λ s. s.kind) (get_or_append_left w.slots new no_slot n lt);
+  freed = λ n h. same_there n (made n h) ∙ h;
+  batch = same ∙ sym (all-stay (λ call. not (went_away w grown call.0)) (λ c. none c.0) w.batch);
+  cut = refl;
+}
+  where
+    grown : WorldValue
+    grown = record w { slots = w.slots ++ new; pending = es; batch = cs }
+
+    is_below : (n c : ℕ) → n < c → nat_lt n c ≡ true
+    is_below n c h = elim (leb_tells (suc n) c) [
+      | inl less ↦ less.0
+      | inr past ↦ absurd (omega (arith, h, past.1))
+    ]
+
+    made : (n : ℕ) → is_freed w n ≡ true → n < length w.slots
+    made n h = elim (leb_tells (suc n) (length w.slots)) [
+      | inl less ↦ less.1
+      | inr past ↦ absurd (let k = sym (ap (λ b. b && not (slot_at w n).bev.live) past.0) ∙ h in cc)
+    ]
+
+    same_there : (n : ℕ) → n < length w.slots → is_freed grown n ≡ is_freed w n
+    same_there n h =
+        let long = length-append w.slots new in
+        let a = is_below n (length (w.slots ++ new)) (omega (arith, h, long)) ∙ sym (is_below n (length w.slots) h) in
+        let b = ap (λ s. not s.bev.live) (get_or_append_left w.slots new no_slot n h) in
+        (λ i. a i && b i)
+
+    -- one behind the others is not freed
+    behind : (k : ℕ) → is_freed grown (length w.slots + k) ≡ false
+    behind k = elim (leb_tells (suc k) (length new)) [
+      | inl less ↦
+        ap (λ s. nat_lt (length w.slots + k) (length (w.slots ++ new)) && not s.bev.live) (get_or-append-add w.slots new k no_slot)
+        ∙ ap (λ b. nat_lt (length w.slots + k) (length (w.slots ++ new)) && not b) (lives k less.1)
+        ∙ and_right (nat_lt (length w.slots + k) (length (w.slots ++ new))) false refl
+      | inr past ↦ far past.1
+    ]
+      where
+        far : length new < suc k → is_freed grown (length w.slots + k) ≡ false
+        far h = elim (leb_tells (suc (length w.slots + k)) (length (w.slots ++ new))) [
+          | inl less ↦ absurd (let long = length-append w.slots new in omega (arith, h, less.1, long))
+          | inr past ↦ ap (λ b. b && not (slot_at grown (length w.slots + k)).bev.live) past.0
+        ]
+
+    none : (n : ℕ) → not (went_away w grown n) ≡ true
+    none n = elim (leb_tells (suc n) (length w.slots)) [
+      | inl less ↦ ap (λ b. not (b && not (is_freed w n))) (same_there n less.1) ∙ ap not (and-not (is_freed w n))
+      | inr past ↦ let at : n ≡ length w.slots + (n - length w.slots) = omega (arith, past.1) in
+        ap (λ m. not (is_freed grown m && not (is_freed w n))) at ∙ ap (λ b. not (b && not (is_freed w n))) (behind (n - length w.slots))
+    ]
+
+pub lives_one : (s : Slot) → s.bev.live ≡ true → (k : ℕ) → k < length (s ∷ []) → (slice_index_or (s ∷ []) k no_slot).bev.live ≡ true
+lives_one s h zero lt = h
+lives_one s h (suc k) lt = absurd (omega arith)
+
+pub lives_two : (s t : Slot) → s.bev.live ≡ true → t.bev.live ≡ true → (k : ℕ) → k < length (s ∷ t ∷ []) →
+    (slice_index_or (s ∷ t ∷ []) k no_slot).bev.live ≡ true
+lives_two s t h j zero lt = h
+lives_two s t h j (suc zero) lt = j
+lives_two s t h j (suc (suc k)) lt = absurd (omega arith)

@@ -1,5 +1,5 @@
 -- How a world keeps what it shows.
-use Rattle.std.specs.Prelude.{◌≡◌, ◌≢◌, ◌≤◌, ◌<◌, ◌+◌, ◌^◌, ℕ, zero, suc, if◌then◌else◌, Bool, ⊤, List, length, slice_index_or}
+use Rattle.std.specs.Prelude.{◌≡◌, ◌≢◌, ◌≤◌, ◌<◌, ◌+◌, ◌^◌, ℕ, zero, suc, if◌then◌else◌, Bool, true, ⊤, List, length, slice_index_or}
 use Rattle.deferred_cb.specs.DueCalls.{Entry, has_entry}
 use Rattle.bev_world.specs.WorldValue.{WorldValue, no_slot}
 use Rattle.bev_world.specs.declared.slot.Kind.{Kind}
@@ -25,6 +25,12 @@ IsJoined count n (kind.Filter under) = under < n
 pub record IsSlot (count n : ℕ) (s : Slot) : Type 0 where
   pub joined : IsJoined count n s.kind
   pub room : s.room ≤ s.bev.input.spare
+
+-- a slot that comes to so many, at this number: a live one without sure room
+pub record IsNew (count n : ℕ) (s : Slot) : Type 0 where
+  pub joined : IsJoined count n s.kind
+  pub live : s.bev.live ≡ true
+  pub room : s.room ≡ 0
 
 -- Every bufferevent without a pending entry has room for one: so many entries more can be made.
 pub record Holds (slots : List Slot) (pending : List Entry) (spare : ℕ) : Type 0 where

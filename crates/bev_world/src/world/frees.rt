@@ -1,10 +1,10 @@
 // The free of a bufferevent, and of those under it.
 ghost use Rattle.std.specs.Prelude.{◌≡◌, ◌<◌, ◌+◌, true, None, OnOk, OnErr, IfSome, if◌then◌else◌, length};
 ghost use Rattle.evbuf_chain.specs.Answers.{fault_of};
-ghost use Rattle.bev_world.specs.Frees.{freed_one, freed_from, under_of};
+ghost use Rattle.bev_world.specs.Frees.{Frees, freed_one, live_under};
 ghost use Rattle.bev_world.specs.Refusals.{live_refusal};
 ghost use Rattle.bev_world.specs.Went.{Went};
-ghost use Rattle.bev_world.specs.WorldValue.{slot_at, is_live};
+ghost use Rattle.bev_world.specs.WorldValue.{is_live};
 
 use super::World;
 use crate::fault::WorldFault;
@@ -20,7 +20,7 @@ impl World {
     /// Differs: no other half is told.
     pub fn free(&mut self, id: BevId) -> Result<(), WorldFault>
         ensures answer { fault_of result ≡ live_refusal self.old id.0 }
-        ensures ok { OnOk result (self.new ≡ freed_from (id.0 + 1) self.old id.0) }
+        ensures ok { OnOk result (Frees id.0 self.old self.new) }
         ensures err { OnErr result (self.new ≡ self.old) }
         ensures went { Went self.old self.new }
     {
@@ -31,23 +31,30 @@ impl World {
         Ok(())
     }
 
-    // Frees one bufferevent alone, and answers which one lies under it.
+    // Frees a live bufferevent alone, and answers which live one lies under it.
     fn free_one(&mut self, at: usize) -> Option<usize>
-        requires { at < length self.old.slots }
-        ensures under { result ≡ (if is_live self.old at then under_of (slot_at self.old at).kind else None) }
+        requires there { at < length self.old.slots }
+        requires live { is_live self.old at ≡ true }
+        ensures after { self.new ≡ freed_one self.old at }
+        ensures next { result ≡ live_under self.new at }
         ensures lower { IfSome result (λ under. under < at) }
-        ensures after { self.new ≡ (if is_live self.old at then freed_one self.old at else self.old) }
     {
         let slot = &mut self.slots[at];
-        if slot.bev.free().is_err() {
-            return None;
-        }
+        slot.bev.free().unwrap();
         slot.room = 0;
-        let kind = slot.kind;
         self.due.forget(at as u64);
-        match kind {
-            Kind::Filter(under) => Some(under as usize),
-            Kind::Socket | Kind::Half(_) => None,
+        self.live_under(at)
+    }
+
+    // The bufferevent under a filter, where it is live.
+    fn live_under(&self, at: usize) -> Option<usize>
+        requires { at < length self.now.slots }
+        ensures under { result ≡ live_under self.now at }
+        ensures lower { IfSome result (λ under. under < at) }
+    {
+        match self.slots[at].kind {
+            Kind::Filter(under) if self.is_live(BevId(under)) => Some(under as usize),
+            _ => None,
         }
     }
 }

@@ -1,5 +1,7 @@
 // How bufferevents are made, each under the next number.
-ghost use Rattle.std.specs.Prelude.{◌≡◌, ◌≤◌, ◌<◌, ◌+◌, ◌^◌, ◌++◌, ◌∷◌, [], length, true, Some, None, OnOk, OnErr, IfOk};
+ghost use Rattle.std.specs.Prelude.{◌≡◌, ◌≤◌, ◌<◌, ◌+◌, ◌^◌, ◌++◌, ◌∷◌, [], length, true, Some, None, OnOk, OnErr, IfOk, MatchOption, ⊤};
+ghost use Rattle.std.specs.Option.{option_to_list};
+ghost use Rattle.bev_world.specs.WorldView.{IsNew};
 ghost use Rattle.evbuf_chain.specs.Answers.{AnswersOr, fault_of};
 ghost use Rattle.ev_types.specs.declared.filter.FilterKind.TheVariants as filter_of;
 ghost use Rattle.bev_world.specs.declared.slot.Kind.TheVariants as kind_of;
@@ -32,8 +34,7 @@ impl World {
             FilterKind::None,
             FilterKind::None,
         )?;
-        self.due.reserve(self.slots.len() + 1)?;
-        self.slots.push(slot)?;
+        self.add(slot, None)?;
         Ok(BevId(number))
     }
 
@@ -53,10 +54,7 @@ impl World {
         let (no, none) = (FilterKind::None, FilterKind::None);
         let one = Slot::new(self.alloc, Kind::Half(second), no, none)?;
         let other = Slot::new(self.alloc, Kind::Half(first), no, none)?;
-        self.due.reserve(self.slots.len() + 2)?;
-        self.slots.reserve(2)?;
-        self.slots.push(one).unwrap();
-        self.slots.push(other).unwrap();
+        self.add(one, Some(other))?;
         Ok((BevId(first), BevId(second)))
     }
 
@@ -74,7 +72,7 @@ impl World {
     ) -> Result<BevId, WorldFault>
         ensures answer { AnswersOr Memory result (filter_refusal self.old under.0) }
         ensures id { IfOk result (λ id. id.0 ≡ length self.old.slots) }
-        ensures ok { OnOk result (self.new ≡ with_new (new_slot (kind_of.Filter under.0) input output ∷ []) (with_taken self.old under.0)) }
+        ensures ok { OnOk result (self.new ≡ with_taken (with_new (new_slot (kind_of.Filter under.0) input output ∷ []) self.old) under.0) }
         ensures err { OnErr result (self.new ≡ self.old) }
         ensures went { Went self.old self.new }
     {
@@ -84,10 +82,28 @@ impl World {
             return Err(WorldFault::Taken);
         }
         let slot = Slot::new(self.alloc, Kind::Filter(under.0), input, output)?;
-        self.due.reserve(self.slots.len() + 1)?;
-        self.slots.push(slot)?;
+        self.add(slot, None)?;
         self.slots[at].taken = true;
         Ok(BevId(number))
+    }
+
+    // Puts one slot or two behind the others, with room for what is due at them.
+    fn add(&mut self, slot: Slot, other: Option<Slot>) -> Result<(), WorldFault>
+        requires few { length self.old.slots + length (slot ∷ option_to_list other) < 2 ^ 32 }
+        requires fits { IsNew (length self.old.slots + length (slot ∷ option_to_list other)) (length self.old.slots) slot }
+        requires other_fits { MatchOption other ⊤ (λ s. IsNew (length self.old.slots + 2) (length self.old.slots + 1) s) }
+        ensures answer { AnswersOr Memory result None }
+        ensures ok { OnOk result (self.new ≡ with_new (slot ∷ option_to_list other) self.old) }
+        ensures err { OnErr result (self.new ≡ self.old) }
+        ensures went { Went self.old self.new }
+    {
+        self.due.reserve(self.slots.len() + 2)?;
+        self.slots.reserve(2)?;
+        self.slots.push(slot).unwrap();
+        if let Some(other) = other {
+            self.slots.push(other).unwrap();
+        }
+        Ok(())
     }
 
     // The next number, where so many are left.
