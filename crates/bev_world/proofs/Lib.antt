@@ -1,5 +1,6 @@
 pub mod Calls
 pub mod FreeLemmas
+pub mod HalvesLemmas
 pub mod Hearing
 pub mod HoldsLemmas
 pub mod RoomLemmas

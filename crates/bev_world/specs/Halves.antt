@@ -42,6 +42,11 @@ appended w n bytes spare = with_bev w n (record (bev_at w n) { output = more (be
 abbrev pub shortened : WorldValue → ℕ → ℕ → ℕ → WorldValue
 shortened w n count spare = with_bev w n (record (bev_at w n) { input = less (bev_at w n).input count spare })
 
+-- what is spare in an input is other
+abbrev pub with_spare : WorldValue → ℕ → ℕ → WorldValue
+with_spare w n spare =
+    with_bev w n (record (bev_at w n) { input = record (bev_at w n).input { spare = spare } })
+
 -- how many bytes the pair lets go on once so many more are in the output
 abbrev pub count_with : WorldValue → ℕ → ℕ → ℕ → ℕ
 count_with w from to more =
@@ -71,8 +76,7 @@ TakenFrom (Some other) w n count new =
 -- what is spare in the input of the other half may be more, and nothing else is other
 abbrev pub Roomier : Option ℕ → WorldValue → WorldValue → Type 0
 Roomier None w new = new ≡ w
-Roomier (Some other) w new =
-    new ≡ with_bev w other (record (bev_at w other) { input = record (bev_at w other).input { spare = (bev_at new other).input.spare } })
+Roomier (Some other) w new = new ≡ with_spare w other (bev_at new other).input.spare
 
 -- the output of a half, or what goes on to the input of the other, would get too long
 abbrev pub half_refusal : WorldValue → ℕ → ℕ → ℕ → Option WorldFault

@@ -1,8 +1,10 @@
 pub mod Batches
 pub mod Frees
+pub mod Filters
 pub mod Halves
 pub mod Heard
 pub mod Moved
+pub mod Passed
 pub mod Refusals
 pub mod Runs
 pub mod Went

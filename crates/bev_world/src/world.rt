@@ -15,8 +15,10 @@ ghost use Rattle.bev_world.specs.WorldValue.{slot_at, bev_at, is_live, raised, r
 
 mod events;
 mod flags;
+mod filters;
 mod frees;
 mod halves;
+mod inputs;
 mod made;
 mod sockets;
 mod turns;

@@ -1,8 +1,9 @@
 // Bytes that are written to a bufferevent and taken from it, and what then goes from one half of a pair to the other.
-ghost use Rattle.std.specs.Prelude.{◌≡◌, ◌≢◌, ◌≤◌, ◌<◌, ◌+◌, ◌^◌, ◌++◌, true, None, Some, length, min, take, drop, OnOk, OnErr, IfOk, IfSome};
+ghost use Rattle.std.specs.Prelude.{◌≡◌, ◌≢◌, ◌≤◌, ◌<◌, ◌++◌, ◌&&◌, nat_lt, true, None, Some, length, min, take, drop, OnOk, OnErr, IfOk, IfSome};
 ghost use Rattle.evbuf_chain.specs.Answers.{AnswersOr, fault_of};
+ghost use Rattle.bev_core.specs.BevValue.{reaches_low};
 ghost use Rattle.bev_world.specs.declared.fault.WorldFault.TheVariants.{Memory};
-ghost use Rattle.bev_world.specs.Halves.{WrittenTo, TakenFrom, Roomier, passed_on, shortened, other_half, count_with, count_without, half_refusal, back_refusal, write_refusal, take_refusal};
+ghost use Rattle.bev_world.specs.Halves.{WrittenTo, TakenFrom, Roomier, with_spare, passed_on, appended, shortened, other_half, count_with, count_without, half_refusal, back_refusal, write_refusal, take_refusal};
 ghost use Rattle.bev_world.specs.Refusals.{length_fault};
 ghost use Rattle.bev_world.specs.Went.{Went};
 ghost use Rattle.bev_world.specs.WorldValue.{bev_at, is_live};
@@ -34,7 +35,7 @@ impl World {
         let at = self.find(id)?;
         match self.other_half(at) {
             Some(other) => self.write_half(at, other, bytes),
-            None => Ok(self.slots[at].bev.write(bytes)?),
+            None => self.write_at(at, bytes),
         }
     }
 
@@ -71,20 +72,15 @@ impl World {
         ensures ok { OnOk result (WrittenTo (Some other) self.old at bytes.now self.new) }
         ensures err { OnErr result (Roomier (Some other) self.old self.new) }
     {
-        let blank = Bev::new(self.alloc)?;
         let n = self.count_after_write(at, other, bytes.len())?;
-        self.slots[other].bev.reserve_input(n)?;
-        self.slots[at].bev.write(bytes)?;
+        let blank = self.blank()?;
+        self.reserve_at(other, n)?;
+        self.write_at(at, bytes)?;
         self.pass_on(blank, at, other, n);
         Ok(())
     }
 
-    fn take_half(
-        &mut self,
-        at: usize,
-        other: usize,
-        into: &mut [u8],
-    ) -> Result<usize, WorldFault>
+    fn take_half(&mut self, at: usize, other: usize, into: &mut [u8]) -> Result<usize, WorldFault>
         requires there { at < length self.old.slots }
         requires other_there { other < length self.old.slots }
         requires apart { at ≢ other }
@@ -97,9 +93,9 @@ impl World {
         ensures err { OnErr result (self.new ≡ self.old) }
         ensures into_err { OnErr result (into.new ≡ into.old) }
     {
-        let blank = Bev::new(self.alloc)?;
         let n = self.count_after_take(at, other, into.len())?;
-        self.slots[at].bev.reserve_input(n)?;
+        let blank = self.blank()?;
+        self.reserve_at(at, n)?;
         let taken = self.take_first(at, into);
         self.pass_on(blank, other, at, n);
         Ok(taken)
@@ -118,12 +114,7 @@ impl World {
     }
 
     // How many bytes go on once so many were written.
-    fn count_after_write(
-        &self,
-        at: usize,
-        other: usize,
-        more: usize,
-    ) -> Result<usize, WorldFault>
+    fn count_after_write(&self, at: usize, other: usize, more: usize) -> Result<usize, WorldFault>
         requires there { at < length self.now.slots }
         requires other_there { other < length self.now.slots }
         ensures answer { fault_of result ≡ half_refusal self.now at other more }
@@ -148,6 +139,36 @@ impl World {
         reader.input -= reader.input.min(most as u64);
         let n = count(&writer, &reader, Mode::Normal);
         fits(reader.input as usize, n)
+    }
+
+    // What lies in a slot while its bufferevent is out.
+    fn blank(&self) -> Result<Bev, WorldFault>
+        ensures { AnswersOr Memory result None }
+    {
+        Ok(Bev::new(self.alloc)?)
+    }
+
+    // Makes room for n more bytes in an input.
+    fn reserve_at(&mut self, at: usize, n: usize) -> Result<(), WorldFault>
+        requires there { at < length self.old.slots }
+        requires live { is_live self.old at ≡ true }
+        ensures answer { AnswersOr Memory result None }
+        ensures stays { self.new ≡ with_spare self.old at (bev_at self.new at).input.spare }
+        ensures room { OnOk result (n ≤ (bev_at self.new at).input.spare) }
+        ensures err { OnErr result (self.new ≡ self.old) }
+    {
+        Ok(self.slots[at].bev.reserve_input(n)?)
+    }
+
+    // Copies bytes to the end of an output.
+    fn write_at(&mut self, at: usize, bytes: &[u8]) -> Result<(), WorldFault>
+        requires there { at < length self.old.slots }
+        requires live { is_live self.old at ≡ true }
+        ensures answer { AnswersOr Memory result (length_fault (length (bev_at self.old at).output.bytes) (length bytes.now)) }
+        ensures ok { OnOk result (self.new ≡ appended self.old at bytes.now (bev_at self.new at).output.spare) }
+        ensures err { OnErr result (self.new ≡ self.old) }
+    {
+        Ok(self.slots[at].bev.write(bytes)?)
     }
 
     // Moves out the first bytes of an input.
@@ -176,13 +197,20 @@ impl World {
         let reader = &mut self.slots[to];
         reader.bev.push_input(writer.front_output(n));
         reader.room = reader.room.saturating_sub(n);
-        let reads = n > 0 && reader.bev.reaches_low(Dir::Read);
+        let reads = is_due(&reader.bev, n, Dir::Read);
         writer.drain_output(n);
-        let writes = n > 0 && writer.reaches_low(Dir::Write);
+        let writes = is_due(&writer, n, Dir::Write);
         self.slots[from].bev = writer;
         self.raise_if(reads, to, Why::Read);
         self.raise_if(writes, from, Why::Write);
     }
+}
+
+// Bytes moved, and the length calls for the callback.
+fn is_due(bev: &Bev, n: usize, dir: Dir) -> bool
+    ensures { result ≡ (nat_lt 0 n && reaches_low bev.now dir) }
+{
+    n > 0 && bev.reaches_low(dir)
 }
 
 // So many more bytes than a length, where that fits.
