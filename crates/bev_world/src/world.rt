@@ -15,7 +15,6 @@ ghost use Rattle.bev_world.specs.WorldValue.{slot_at, bev_at, is_live, raised, r
 
 mod events;
 mod flags;
-mod filters;
 mod frees;
 mod halves;
 mod inputs;
