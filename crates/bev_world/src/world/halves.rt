@@ -1,7 +1,7 @@
 // Bytes that are written to a bufferevent and taken from it, and what then goes from one half of a pair to the other.
 ghost use Rattle.std.specs.Prelude.{◌≡◌, ◌≢◌, ◌≤◌, ◌<◌, ◌++◌, ◌&&◌, nat_lt, true, None, Some, length, min, take, drop, OnOk, OnErr, IfOk, IfSome};
 ghost use Rattle.evbuf_chain.specs.Answers.{AnswersOr, fault_of};
-ghost use Rattle.bev_core.specs.BevValue.{reaches_low};
+ghost use Rattle.bev_core.specs.BevValue.{new_bev, reaches_low};
 ghost use Rattle.bev_world.specs.declared.fault.WorldFault.TheVariants.{Memory};
 ghost use Rattle.bev_world.specs.Halves.{WrittenTo, TakenFrom, Roomier, with_spare, passed_on, appended, shortened, other_half, count_with, count_without, half_refusal, back_refusal, write_refusal, take_refusal};
 ghost use Rattle.bev_world.specs.Refusals.{length_fault};
@@ -141,9 +141,10 @@ impl World {
         fits(reader.input as usize, n)
     }
 
-    // What lies in a slot while its bufferevent is out.
-    fn blank(&self) -> Result<Bev, WorldFault>
-        ensures { AnswersOr Memory result None }
+    // A new bufferevent, which stands beside the world.
+    pub(super) fn blank(&self) -> Result<Bev, WorldFault>
+        ensures answer { AnswersOr Memory result None }
+        ensures bev { IfOk result (λ bev. bev ≡ new_bev) }
     {
         Ok(Bev::new(self.alloc)?)
     }

@@ -3,6 +3,7 @@ ghost use Rattle.std.specs.Prelude.{◌≡◌, ◌≢◌, ◌≤◌, ◌<◌, �
 ghost use Rattle.evbuf_chain.specs.Answers.{AnswersOr, fault_of};
 ghost use Rattle.bev_world.specs.declared.fault.WorldFault.TheVariants.{Memory};
 ghost use Rattle.bev_world.specs.Passed.{moved_input, move_refusal};
+ghost use Rattle.bev_world.specs.Halves.{appended, shortened};
 ghost use Rattle.bev_world.specs.Refusals.{length_fault};
 ghost use Rattle.bev_world.specs.Went.{Went};
 ghost use Rattle.bev_world.specs.WorldValue.{bev_at, is_live};
@@ -41,11 +42,34 @@ impl World {
         ensures err { OnErr result (self.new ≡ self.old) }
         ensures went { Went self.old self.new }
     {
-        let mut copy = Bev::new(self.alloc)?;
+        let mut copy = self.blank()?;
         copy.write(self.slots[from].bev.front_input(n))?;
-        let _moved = copy.pass_output(&mut self.slots[to].bev, n)?;
-        self.slots[from].bev.drain_input(n);
+        self.append_all(to, copy, n)?;
+        self.drop_first(from, n);
         Ok(())
+    }
+
+    // The whole output of a bufferevent that stands beside goes to the end of an output.
+    fn append_all(&mut self, at: usize, mut copy: Bev, n: usize) -> Result<(), WorldFault>
+        requires there { at < length self.old.slots }
+        requires all { n ≡ length copy.output.bytes }
+        requires fits { length (bev_at self.old at).output.bytes + n < 2 ^ 64 }
+        ensures answer { AnswersOr Memory result None }
+        ensures ok { OnOk result (self.new ≡ appended self.old at copy.output.bytes (bev_at self.new at).output.spare) }
+        ensures err { OnErr result (self.new ≡ self.old) }
+        ensures went { Went self.old self.new }
+    {
+        let _moved = copy.pass_output(&mut self.slots[at].bev, n)?;
+        Ok(())
+    }
+
+    // Drops the first n bytes of an input.
+    fn drop_first(&mut self, at: usize, n: usize)
+        requires { at < length self.old.slots }
+        ensures after { self.new ≡ shortened self.old at n (bev_at self.new at).input.spare }
+        ensures went { Went self.old self.new }
+    {
+        self.slots[at].bev.drain_input(n);
     }
 
     // How many bytes there are to move, where the output takes so many more.
