@@ -198,7 +198,7 @@ room-forgot c n es spare next room kept = by_had (has_entry n es) refl
         had_more m had = elim (eqb_tells m n) [
           | inl same ↦ ap (λ z. has_entry z es) same.1 ∙ had ∙ sym (ap (λ b. b || has_entry m (without n es)) same.0)
           | inr apart ↦
-            sym (ap (λ b. b || has_entry m (without n es)) apart.0 ∙ has-without m n es ∙ ap (λ b. not b && has_entry m es) apart.0)
+              sym (ap (λ b. b || has_entry m (without n es)) apart.0 ∙ has-without m n es ∙ ap (λ b. not b && has_entry m es) apart.0)
         ]
     by_had false none =
         let same = lacking-alike (λ m. has_entry m (without n es)) (λ m. has_entry m es) (λ m. still m none) c in
@@ -207,7 +207,7 @@ room-forgot c n es spare next room kept = by_had (has_entry n es) refl
         still : (m : ℕ) → has_entry n es ≡ false → has_entry m (without n es) ≡ has_entry m es
         still m none = elim (eqb_tells m n) [
           | inl same ↦
-            has-without m n es ∙ ap (λ b. not b && has_entry m es) same.0 ∙ sym (ap (λ z. has_entry z es) same.1 ∙ none)
+              has-without m n es ∙ ap (λ b. not b && has_entry m es) same.0 ∙ sym (ap (λ z. has_entry z es) same.1 ∙ none)
           | inr apart ↦ has-without m n es ∙ ap (λ b. not b && has_entry m es) apart.0
         ]
 

@@ -57,8 +57,8 @@ went_set w n s within kind live =
     part : {A : Type 0} (f : Slot → A) → f s ≡ f (slot_at w n) → (m : ℕ) → f (slot_at (with_slot w n s) m) ≡ f (slot_at w m)
     part f same m = elim (eqb_tells m n) [
       | inl here ↦
-        ap (λ k. f (slice_index_or (slice_set w.slots n s) k no_slot)) here.1 ∙ ap f (get_or-set_same w.slots n s no_slot within) ∙ same
-        ∙ ap (λ k. f (slot_at w k)) (sym here.1)
+          ap (λ k. f (slice_index_or (slice_set w.slots n s) k no_slot)) here.1 ∙ ap f (get_or-set_same w.slots n s no_slot within) ∙ same
+          ∙ ap (λ k. f (slot_at w k)) (sym here.1)
       | inr apart ↦ ap f (get_or-set_other w.slots n m s no_slot apart.1)
     ]
 
@@ -203,9 +203,9 @@ went_new w new es cs lives same = record {
     behind : (k : ℕ) → is_freed grown (length w.slots + k) ≡ false
     behind k = elim (leb_tells (suc k) (length new)) [
       | inl less ↦
-        ap (λ s. nat_lt (length w.slots + k) (length (w.slots ++ new)) && not s.bev.live) (get_or-append-add w.slots new k no_slot)
-        ∙ ap (λ b. nat_lt (length w.slots + k) (length (w.slots ++ new)) && not b) (lives k less.1)
-        ∙ and_right (nat_lt (length w.slots + k) (length (w.slots ++ new))) false refl
+          ap (λ s. nat_lt (length w.slots + k) (length (w.slots ++ new)) && not s.bev.live) (get_or-append-add w.slots new k no_slot)
+          ∙ ap (λ b. nat_lt (length w.slots + k) (length (w.slots ++ new)) && not b) (lives k less.1)
+          ∙ and_right (nat_lt (length w.slots + k) (length (w.slots ++ new))) false refl
       | inr past ↦ far past.1
     ]
       where
@@ -219,7 +219,7 @@ went_new w new es cs lives same = record {
     none n = elim (leb_tells (suc n) (length w.slots)) [
       | inl less ↦ ap (λ b. not (b && not (is_freed w n))) (same_there n less.1) ∙ ap not (and-not (is_freed w n))
       | inr past ↦ let at : n ≡ length w.slots + (n - length w.slots) = omega (arith, past.1) in
-        ap (λ m. not (is_freed grown m && not (is_freed w n))) at ∙ ap (λ b. not (b && not (is_freed w n))) (behind (n - length w.slots))
+          ap (λ m. not (is_freed grown m && not (is_freed w n))) at ∙ ap (λ b. not (b && not (is_freed w n))) (behind (n - length w.slots))
     ]
 
 pub lives_one : (s : Slot) → s.bev.live ≡ true → (k : ℕ) → k < length (s ∷ []) → (slice_index_or (s ∷ []) k no_slot).bev.live ≡ true

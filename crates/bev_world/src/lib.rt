@@ -9,7 +9,7 @@ mod world;
 
 pub use bev_core::{BevState, Dir};
 pub use callback::Callback;
-pub use ev_types::{BevId, FilterKind, Flags, Mode, Why};
+pub use ev_types::{BevId, FilterKind, Flags, Mode, NoMemory, Why};
 pub use fault::WorldFault;
 pub use roster::{Roster, run_due};
 pub use stream_filters::Step;

@@ -1,5 +1,5 @@
 // The boxes of callbacks, which stand outside of the world, and the run of a batch.
-ghost use Rattle.std.specs.Prelude.{◌≡◌, ◌≢◌, ◌≤◌, ◌<◌, ℕ, ◌∷◌, [], length, vec_capacity, slice_set, true, false, None, Some, IfOk, IfErr, OnOk, OnErr, ⊤, MatchOption, is_ok, max, if◌then◌else◌};
+ghost use Rattle.std.specs.Prelude.{◌≡◌, ◌≢◌, ◌||◌, ◌≤◌, ◌<◌, ℕ, ◌∷◌, [], length, vec_capacity, slice_set, true, false, None, Some, IfOk, IfErr, OnOk, OnErr, ⊤, MatchOption, is_ok, max, if◌then◌else◌};
 ghost use Rattle.bev_world.specs.WorldValue.{is_live};
 ghost use Rattle.bev_world.specs.Heard.{HeardRun};
 ghost use Rattle.bev_world.specs.Runs.{Ran, Called, Done, DoneShort, IsLevel, served, box_at, has_box, is_started, told_more};
@@ -36,20 +36,29 @@ impl Roster {
         }
     }
 
-    /// Gives a bufferevent its box, which has heard nothing. Refused for want of memory; then each number has the box that it had.
+    /// Whether a bufferevent was given a box, in its slot or taken out for good. Takes no memory; constant cost.
+    ///
+    /// Own.
+    pub fn is_given(&self, id: BevId) -> bool
+        ensures { result ≡ (has_box self.now.serving.items id.0 || has_box self.now.retired.items id.0) }
+    {
+        has_box(&self.serving, id) || has_box(&self.retired, id)
+    }
+
+    /// Gives a bufferevent its box, which has heard nothing. It is asked that it was given none. Refused for want of memory; then each number has the box that it had.
     /// The cost is in the number of the bufferevent, where it is the greatest so far, and else constant.
     ///
     /// Own.
     pub fn give(&mut self, id: BevId, call: Box<dyn Callback>) -> Result<(), NoMemory>
-        requires fresh { box_at self.old.serving.items id.0 ≡ None }
-        requires unused { box_at self.old.retired.items id.0 ≡ None }
+        requires fresh { has_box self.old.serving.items id.0 ≡ false }
+        requires unused { has_box self.old.retired.items id.0 ≡ false }
         requires unheard { MatchOption (heard call) ⊤ (λ xs. xs ≡ []) }
         requires kept { IsLevel self.old }
         ensures kept { IsLevel self.new }
         ensures given { OnOk result (box_at self.new.serving.items id.0 ≡ Some call) }
         ensures others { (n : ℕ) → n ≢ id.0 → box_at self.new.serving.items n ≡ box_at self.old.serving.items n }
         ensures retired { (n : ℕ) → box_at self.new.retired.items n ≡ box_at self.old.retired.items n }
-        ensures refused { OnErr result (box_at self.new.serving.items id.0 ≡ None) }
+        ensures refused { OnErr result (box_at self.new.serving.items id.0 ≡ box_at self.old.serving.items id.0) }
     {
         let at = id.0 as usize;
         reserve_slots(&mut self.serving, at + 1)?;

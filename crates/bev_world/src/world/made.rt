@@ -28,12 +28,7 @@ impl World {
         ensures went { Went self.old self.new }
     {
         let number = self.next_number(1)?;
-        let slot = Slot::new(
-            self.alloc,
-            Kind::Socket,
-            FilterKind::None,
-            FilterKind::None,
-        )?;
+        let slot = Slot::new(self.alloc, Kind::Socket, FilterKind::None, FilterKind::None)?;
         self.add(slot, None)?;
         Ok(BevId(number))
     }
