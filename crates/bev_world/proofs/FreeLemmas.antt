@@ -1,16 +1,16 @@
 -- The free of a bufferevent, and of those under it.
-use Rattle.std.proofs.Common.{◌≡◌, ◌≢◌, ℕ, zero, suc, ◌<◌, ◌≤◌, Bool, true, false, not, ◌&&◌, if◌then◌else◌, List, [], ◌∷◌, ◌++◌, length, Option, Some, None, refl, sym, ◌∙◌, ap, subst, arith, inl, inr}
-use Rattle.std.specs.Prelude.{IfSome, filter, slice_index_or, slice_set, nat_eq, nat_lt}
+use Rattle.std.proofs.Common.{◌≡◌, ◌≢◌, ℕ, zero, suc, ◌<◌, Bool, true, false, not, ◌&&◌, if◌then◌else◌, List, [], ◌∷◌, ◌++◌, length, Option, Some, None, refl, sym, ◌∙◌, ap, subst, arith, inl, inr}
+use Rattle.std.specs.Prelude.{IfSome, filter, slice_index_or, nat_eq, nat_lt}
 use Rattle.std.proofs.lemmas.List.{get_or-set_same, get_or-set_other, length-set}
 use Rattle.std.proofs.lemmas.Bool.Decides.{eqb_tells, leb_tells}
-use Rattle.deferred_cb.specs.DueCalls.{Call, without_calls}
+use Rattle.deferred_cb.specs.DueCalls.{Call}
 use Rattle.bev_core.specs.Steps.{freed}
 use Rattle.bev_world.specs.declared.slot.Kind.{Kind}
 use Rattle.bev_world.specs.declared.slot.Kind.TheVariants as kind
 use Rattle.bev_world.specs.declared.slot.Slot.{Slot}
 use Rattle.bev_world.specs.WorldValue.{WorldValue, no_slot, slot_at, bev_at, is_live, is_freed}
 use Rattle.bev_world.specs.Went.{Went, went_away}
-use Rattle.bev_world.specs.Frees.{live_below, live_under, freed_one, FreesTo, Frees}
+use Rattle.bev_world.specs.Frees.{live_below, live_under, freed_one, FreesTo}
 use Rattle.bev_world.proofs.WentLemmas.{went_none, went_then}
 
 -- one more is freed

@@ -1,4 +1,5 @@
 pub mod Calls
+pub mod FiltersLemmas
 pub mod FreeLemmas
 pub mod HalvesLemmas
 pub mod Hearing

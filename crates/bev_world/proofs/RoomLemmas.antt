@@ -1,9 +1,9 @@
 -- Room for a pending entry of every bufferevent.
-use Rattle.std.proofs.Common.{◌≡◌, ◌≢◌, ℕ, zero, suc, ◌+◌, ◌≤◌, ◌<◌, Bool, true, false, not, ◌&&◌, ◌||◌, if◌then◌else◌, List, [], ◌∷◌, length, refl, sym, ◌∙◌, ap, subst, arith, inl, inr}
+use Rattle.std.proofs.Common.{◌≡◌, ◌≢◌, ℕ, zero, suc, ◌+◌, ◌≤◌, ◌<◌, Bool, true, false, not, ◌&&◌, ◌||◌, if◌then◌else◌, List, [], ◌∷◌, length, refl, sym, ◌∙◌, ap, arith, inl, inr}
 use Rattle.std.specs.Prelude.{nat_eq}
 use Rattle.std.proofs.lemmas.Bool.Decides.{eqb_tells, leb_tells, nat_tests}
 use Rattle.ev_types.specs.declared.why.Why.{Why}
-use Rattle.deferred_cb.specs.DueCalls.{Entry, no_reasons, joined, with_reason, has_entry, without}
+use Rattle.deferred_cb.specs.DueCalls.{Entry, joined, with_reason, has_entry, without}
 use Rattle.bev_world.specs.WorldView.{lacking}
 
 or-twice : (x y : Bool) → (x || y) ≡ (x || (x || y))

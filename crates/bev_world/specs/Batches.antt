@@ -1,5 +1,5 @@
 -- The batch that runs.
-use Rattle.std.specs.Prelude.{Bool, true, false, if◌then◌else◌, [], ◌++◌}
+use Rattle.std.specs.Prelude.{false, if◌then◌else◌, []}
 use Rattle.deferred_cb.specs.DueCalls.{all_calls}
 use Rattle.bev_world.specs.WorldValue.{WorldValue}
 

@@ -1,12 +1,11 @@
 -- Bytes that go through the filters of a filter bufferevent.
-use Rattle.std.specs.Prelude.{◌≡◌, ℕ, ◌&&◌, nat_lt, if◌then◌else◌, Bool, true, false, [], length, Option, Some, None, Result, Ok, Err, ⊤}
+use Rattle.std.specs.Prelude.{◌≡◌, ℕ, ◌&&◌, nat_lt, if◌then◌else◌, true, [], length, Option, Some, None, Result, Ok, Err, ⊤}
 use Rattle.std.specs.Option.{option_or}
 use Rattle.token_bucket.specs.declared.limit.Dir.{Dir}
 use Rattle.token_bucket.specs.declared.limit.Dir.TheVariants.{Read, Write}
 use Rattle.ev_types.specs.declared.why.Why.TheVariants as why
 use Rattle.ev_types.specs.declared.filter.Mode.{Mode}
 use Rattle.ev_types.specs.declared.filter.Mode.TheVariants.{Finished}
-use Rattle.relay_model.specs.Conserved.{Running}
 use Rattle.stream_filters.specs.declared.stream_filter.Step.{Step}
 use Rattle.stream_filters.specs.StepAnswers.{is_spent}
 use Rattle.bev_core.specs.BevValue.{reaches_low}
@@ -18,7 +17,7 @@ use Rattle.bev_world.specs.declared.fault.WorldFault.TheVariants as fault
 use Rattle.bev_world.specs.declared.slot.Kind.{Kind}
 use Rattle.bev_world.specs.declared.slot.Kind.TheVariants as kind
 use Rattle.bev_world.specs.Refusals.{live_refusal}
-use Rattle.bev_world.specs.WorldValue.{WorldValue, slot_at, bev_at, is_live, with_slot, with_bev, raised_if}
+use Rattle.bev_world.specs.WorldValue.{WorldValue, slot_at, bev_at, with_slot, with_bev, raised_if}
 
 -- the bufferevent under a filter
 abbrev pub under_of : Kind → Option ℕ

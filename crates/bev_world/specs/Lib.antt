@@ -1,5 +1,6 @@
 pub mod Batches
 pub mod Frees
+pub mod FilterSlots
 pub mod Filters
 pub mod Halves
 pub mod Heard

@@ -1,14 +1,12 @@
 -- What bytes that come and go leave of a world. The last arguments are what is spare in buffers afterwards.
-use Rattle.std.specs.Prelude.{ℕ, ◌-◌, ◌&&◌, ◌==◌, if◌then◌else◌, nat_lt, List, length, take}
+use Rattle.std.specs.Prelude.{ℕ, ◌-◌, ◌&&◌, nat_lt, List, length}
 use Rattle.token_bucket.specs.declared.limit.Dir.TheVariants.{Read, Write}
 use Rattle.ev_types.specs.declared.why.Why.TheVariants as why
-use Rattle.ev_types.specs.declared.filter.Mode.TheVariants.{Normal}
-use Rattle.bev_core.specs.BevValue.{BevValue, reaches_low}
-use Rattle.bev_core.specs.Steps.{more, less, touched}
+use Rattle.bev_core.specs.BevValue.{reaches_low}
+use Rattle.bev_core.specs.Steps.{more, touched}
 use Rattle.bev_socket.specs.Results.{written}
-use Rattle.bev_pair.specs.Transfer.{moved_by}
 use Rattle.bev_world.specs.declared.slot.Slot.{Slot}
-use Rattle.bev_world.specs.WorldValue.{WorldValue, slot_at, bev_at, is_live, with_slot, with_bev, raised_if}
+use Rattle.bev_world.specs.WorldValue.{WorldValue, slot_at, bev_at, with_slot, with_bev, raised_if}
 
 -- bytes were read into the input at a moment, in the room that it was sure to have, as far as that goes
 abbrev pub fed_slot : Slot → List ℕ → ℕ → ℕ → Slot

@@ -1,5 +1,5 @@
 -- Which refusal of a call on a world holds, the first first. Want of memory comes after all of them.
-use Rattle.std.specs.Prelude.{ℕ, ◌+◌, ◌-◌, ◌^◌, ◌==◌, ◌&&◌, nat_lt, Bool, true, false, if◌then◌else◌, Option, Some, None, length, min}
+use Rattle.std.specs.Prelude.{ℕ, ◌+◌, ◌-◌, ◌^◌, ◌==◌, nat_lt, Bool, true, false, if◌then◌else◌, Option, Some, None, length}
 use Rattle.std.specs.Option.{option_or}
 use Rattle.bev_core.specs.declared.fault.BevFault.{BevFault}
 use Rattle.bev_core.specs.declared.fault.BevFault.TheVariants as bev

@@ -1,5 +1,6 @@
 // What the boxes of callbacks do to a world, and that each call answers. Helpers without clauses keep what a test has to know
 // small.
+ghost use Rattle.std.specs.Prelude.{◌≡◌, ⊤, [], MatchOption};
 ghost use Rattle.bev_world.specs.Runs.{IsLevel};
 
 use super::*;
@@ -30,29 +31,28 @@ impl Callback for Freeing {
     }
 }
 
-/// A box for a bufferevent that was given none.
-fn seat(
-    alloc: Global,
-    roster: &mut Roster,
-    id: BevId,
-    frees: [BevId; 2],
-    notes: BevId,
-    mark: u8,
-) -> Result<(), NoMemory>
-    requires { IsLevel roster.old }
-    ensures { IsLevel roster.new }
+fn box_of(alloc: Global, frees: [BevId; 2], notes: BevId, mark: u8) -> Freeing
+    ensures { result.heard.items ≡ [] }
 {
-    if roster.is_given(id) {
-        return Ok(());
-    }
-    let call = Freeing {
+    Freeing {
         heard: Vec::new(alloc),
         first: frees[0],
         second: frees[1],
         notes,
         mark,
-    };
-    roster.give(id, Box::new(alloc, call)?)
+    }
+}
+
+/// Gives a bufferevent its box, where it was given none.
+fn seat(roster: &mut Roster, id: BevId, call: Box<dyn Callback>) -> Result<(), NoMemory>
+    requires kept { IsLevel roster.old }
+    requires unheard { MatchOption (heard call) ⊤ (λ xs. xs ≡ []) }
+    ensures { IsLevel roster.new }
+{
+    if roster.is_given(id) {
+        return Ok(());
+    }
+    roster.give(id, call)
 }
 
 fn output(world: &World, id: BevId) -> [u8; 4] {
@@ -68,9 +68,12 @@ fn a_box_frees_itself_and_another_that_is_due(rt: HostRuntime) -> Result<(), Fai
     let notes = world.new_socket()?;
     let (one, two) = (world.new_socket()?, world.new_socket()?);
     let three = world.new_socket()?;
-    seat(rt.alloc(), &mut roster, one, [one, three], notes, b'1')?;
-    seat(rt.alloc(), &mut roster, two, [one, one], notes, b'2')?;
-    seat(rt.alloc(), &mut roster, three, [one, one], notes, b'3')?;
+    let first = box_of(rt.alloc(), [one, three], notes, b'1');
+    let second = box_of(rt.alloc(), [one, one], notes, b'2');
+    let third = box_of(rt.alloc(), [one, one], notes, b'3');
+    seat(&mut roster, one, Box::new(rt.alloc(), first)?)?;
+    seat(&mut roster, two, Box::new(rt.alloc(), second)?)?;
+    seat(&mut roster, three, Box::new(rt.alloc(), third)?)?;
     for id in [one, two, three] {
         world.trigger(id, Dir::Read)?;
     }
@@ -108,5 +111,27 @@ fn bytes_go_from_half_to_half(rt: HostRuntime) -> Result<(), Fail> {
     assert_eq!(rt; into, *b"01");
     assert_eq!(rt; output(&world, a), *b"....");
     assert_eq!(rt; world.feed(a, b"x", 0), Err(WorldFault::NotSocket));
+    Ok(())
+}
+
+#[test]
+fn bytes_go_through_a_filter(rt: HostRuntime) -> Result<(), Fail> {
+    let mut world = World::new(rt.alloc());
+    let under = world.new_socket()?;
+    let over = world.new_filter(under, FilterKind::HexOut, FilterKind::None)?;
+    world.feed(under, b"Jo", 0)?;
+    assert_eq!(rt;
+        world.pass(over, Dir::Read, 8, Mode::Normal),
+        Ok(Step {
+            used: 2,
+            finished: false
+        })
+    );
+    assert_eq!(rt;
+        world.new_filter(under, FilterKind::None, FilterKind::None),
+        Err(WorldFault::Taken)
+    );
+    world.free(over)?;
+    assert!(rt; !world.is_live(under));
     Ok(())
 }

@@ -14,6 +14,7 @@ ghost use Rattle.bev_world.specs.Went.{Went};
 ghost use Rattle.bev_world.specs.WorldValue.{slot_at, bev_at, is_live, raised, raised_if, room_at};
 
 mod events;
+mod filters;
 mod flags;
 mod frees;
 mod halves;

@@ -1,6 +1,5 @@
-use Rattle.std.proofs.Common.{◌++◌, ◌∷◌, [], ◌≡◌, arith, length, ap, sym, subst, refl, ◌∙◌, List, append_assoc}
+use Rattle.std.proofs.Common.{◌++◌, ◌∷◌, [], ◌≡◌, arith, ap, sym, subst, ◌∙◌, List, append_assoc}
 use Rattle.bev_world.specs.declared.slot.Slot.{Slot}
-use Rattle.bev_world.specs.WorldValue.{WorldValue}
 use Rattle.bev_world.specs.WorldView.{world_of, Holds}
 use Rattle.bev_world.proofs.HoldsLemmas.{holds_one, holds_two, pushed}
 use Rattle.bev_world.proofs.WentLemmas.{went_due, went_new, lives_one, lives_two}

@@ -1,7 +1,4 @@
-use Rattle.std.proofs.Common.{◌++◌, ◌∷◌, [], ◌≡◌, ◌∙◌, sym, ap, subst, ℕ, true, Some, Option}
-use Rattle.bev_world.specs.WorldValue.{WorldValue, is_live}
-use Rattle.bev_world.specs.Frees.{FreesTo}
-use Rattle.bev_world.proofs.FreeLemmas.{frees_more, frees_then, went_frees, live_next}
+use Rattle.bev_world.proofs.FreeLemmas.{frees_then, went_frees}
 use Rattle.bev_world.proofs.WentLemmas.{went_none}
 use Rattle.bev_world.proofs.world.World.free.Goals as goal
 

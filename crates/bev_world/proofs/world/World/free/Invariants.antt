@@ -1,4 +1,4 @@
-use Rattle.std.proofs.Common.{◌≡◌, ◌<◌, ◌+◌, ℕ, true, List, length, Option, Some, None, IfSome}
+use Rattle.std.proofs.Common.{◌≡◌, ◌+◌, ℕ, true, List, Some, IfSome}
 use Rattle.std.specs.Option.{option_map_or}
 use Rattle.bev_world.specs.WorldValue.{is_live}
 use Rattle.bev_world.specs.Frees.{FreesTo}

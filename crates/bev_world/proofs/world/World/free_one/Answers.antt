@@ -1,4 +1,4 @@
-use Rattle.std.proofs.Common.{arith, length, ap, refl, ◌∙◌}
+use Rattle.std.proofs.Common.{arith, length, ap, refl}
 use Rattle.bev_world.specs.WorldValue.{WorldValue}
 use Rattle.bev_world.proofs.HoldsLemmas.{holds-forgot, holds-with}
 use Rattle.bev_world.proofs.world.World.free_one.Goals as goal

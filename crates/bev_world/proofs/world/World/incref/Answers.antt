@@ -1,4 +1,4 @@
-use Rattle.std.proofs.Common.{arith, length, ap, refl, ◌∙◌}
+use Rattle.std.proofs.Common.{arith, length, ap}
 use Rattle.bev_world.specs.WorldValue.{WorldValue}
 use Rattle.bev_world.specs.WorldView.{world_of}
 use Rattle.bev_world.proofs.WentLemmas.{went_none, went_bev}

@@ -1,4 +1,4 @@
-use Rattle.std.proofs.Common.{arith, length, ap, ◌<◌}
+use Rattle.std.proofs.Common.{arith, length, ap}
 use Rattle.bev_world.specs.WorldValue.{WorldValue}
 use Rattle.bev_world.proofs.RoomLemmas.{room-there}
 use Rattle.bev_world.proofs.HoldsLemmas.{holds-raised}

@@ -1,4 +1,4 @@
-use Rattle.std.proofs.Common.{arith, length, ap, refl, ◌∙◌}
+use Rattle.std.proofs.Common.{arith, length, ap, ◌∙◌}
 use Rattle.ev_types.specs.declared.why.Why.TheVariants.{Event}
 use Rattle.bev_world.specs.WorldValue.{WorldValue}
 use Rattle.bev_world.specs.WorldView.{world_of}

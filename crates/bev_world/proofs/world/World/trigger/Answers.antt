@@ -1,6 +1,3 @@
-use Rattle.std.proofs.Common.{arith, length, ap, refl, ◌∙◌}
-use Rattle.bev_world.specs.WorldValue.{WorldValue}
-use Rattle.bev_world.specs.WorldView.{world_of}
 use Rattle.bev_world.proofs.WentLemmas.{went_none, went_raised_if}
 use Rattle.bev_world.proofs.world.World.trigger.Goals as goal
 
