@@ -12,6 +12,7 @@ use Rattle.ev_types.specs.declared.why.Why.{Why}
 use Rattle.deferred_cb.specs.DueCalls.{Entry, Call}
 use Rattle.bev_world.specs.declared.slot.Slot.{Slot}
 use Rattle.bev_world.specs.WorldValue.{WorldValue, no_slot, slot_at, is_freed, with_slot, raised, raised_if}
+use Rattle.bev_world.specs.Batches.{IsIdle}
 use Rattle.bev_world.specs.Went.{Went, went_away}
 
 and-not : (b : Bool) → (b && not b) ≡ false
@@ -231,3 +232,7 @@ pub lives_two : (s t : Slot) → s.bev.live ≡ true → t.bev.live ≡ true →
 lives_two s t h j zero lt = h
 lives_two s t h j (suc zero) lt = j
 lives_two s t h j (suc (suc k)) lt = absurd (omega arith)
+
+-- where no batch ran none does
+pub went_idle : (a b : WorldValue) → Went a b → IsIdle a → IsIdle b
+went_idle a b h idle = λ whole. h.batch ∙ ap (filter (λ call. not (went_away a b call.0))) (idle (sym h.cut ∙ whole))

@@ -1,6 +1,7 @@
 // The boxes of callbacks, which stand outside of the world, and the run of a batch.
 ghost use Rattle.std.specs.Prelude.{◌≡◌, ◌≢◌, ◌||◌, ◌≤◌, ◌<◌, ℕ, ◌∷◌, [], length, vec_capacity, slice_set, true, false, None, Some, IfOk, IfErr, OnOk, OnErr, ⊤, MatchOption, is_ok, max, if◌then◌else◌};
 ghost use Rattle.bev_world.specs.WorldValue.{is_live};
+ghost use Rattle.bev_world.specs.Batches.{IsIdle};
 ghost use Rattle.bev_world.specs.Heard.{HeardRun};
 ghost use Rattle.bev_world.specs.Runs.{Ran, Called, Done, DoneShort, IsLevel, served, box_at, has_box, is_started, told_more};
 ghost use Rattle.bev_world.specs.Went.{Went};
@@ -190,11 +191,11 @@ fn serve_call(
 /// Differs: a callback that is freed while it waits is not called.
 pub fn run_due(world: &mut World, roster: &mut Roster) -> Result<u32, WorldFault>
     requires kept { IsLevel roster.old }
-    requires idle { world.old.cut ≡ false → world.old.batch ≡ [] }
+    requires idle { IsIdle world.old }
     ensures ran { Ran (λ b. heard b) result (served world.old roster.old) (served world.new roster.new) }
     ensures hooked { HeardRun (λ b. heard b) result (served world.old roster.old) (served world.new roster.new) }
     ensures kept { IsLevel roster.new }
-    ensures idle { world.new.cut ≡ false → world.new.batch ≡ [] }
+    ensures idle { IsIdle world.new }
     ensures known { length world.old.slots ≤ length world.new.slots }
 {
     world.begin_batch();

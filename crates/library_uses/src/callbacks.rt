@@ -1,5 +1,6 @@
 // Callbacks that act on the world: one sends back what it reads, one frees its neighbour.
 ghost use Rattle.std.specs.Prelude.{◌≡◌, None, MatchOption, ⊤, []};
+ghost use Rattle.bev_world.specs.Batches.{IsIdle};
 ghost use Rattle.bev_world.specs.Runs.{IsLevel};
 ghost use Rattle.bev_world.specs.Went.{Went};
 
@@ -69,25 +70,57 @@ fn seat(roster: &mut Roster, id: BevId, call: Box<dyn Callback>) -> Result<(), N
 
 /// An echo, and a bufferevent that is freed while its callback is due.
 pub fn callbacks_that_free(rt: &impl Print, alloc: Global) -> anyhow::Result<()> {
+    let echo = Box::new(alloc, Echo)?;
+    let other_echo = Box::new(alloc, Echo)?;
+    let jealous = Box::new(
+        alloc,
+        Jealous {
+            neighbour: BevId(2),
+        },
+    )?;
     let mut world = World::new(alloc);
     let mut roster = Roster::new(alloc);
-    let (client, neighbour) = (world.new_socket()?, world.new_socket()?);
-    let jealous = world.new_socket()?;
-    seat(&mut roster, client, Box::new(alloc, Echo)?)?;
-    seat(
-        &mut roster,
-        jealous,
-        Box::new(alloc, Jealous { neighbour })?,
-    )?;
-    seat(&mut roster, neighbour, Box::new(alloc, Echo)?)?;
+    let answer = one_run(rt, &mut world, &mut roster, echo, other_echo, jealous);
+    drop(roster);
+    drop(world);
+    answer
+}
 
-    world.feed(client, b"hello", 1000)?;
-    world.feed(jealous, b"!", 1000)?;
-    world.feed(neighbour, b"?", 1000)?;
-    let calls = run_due(&mut world, &mut roster)?;
+// The world and the boxes are lent, so that they are let go at one place.
+fn one_run(
+    rt: &impl Print,
+    world: &mut World,
+    roster: &mut Roster,
+    echo: Box<dyn Callback>,
+    other_echo: Box<dyn Callback>,
+    jealous: Box<dyn Callback>,
+) -> anyhow::Result<()>
+    requires kept { IsLevel roster.old }
+    requires idle { IsIdle world.old }
+    requires echo { MatchOption (heard echo) ⊤ (λ xs. xs ≡ []) }
+    requires other_echo { MatchOption (heard other_echo) ⊤ (λ xs. xs ≡ []) }
+    requires jealous { MatchOption (heard jealous) ⊤ (λ xs. xs ≡ []) }
+{
+    let client = fed(world, b"hello")?;
+    let before = fed(world, b"!")?;
+    let neighbour = fed(world, b"?")?;
+    seat(roster, client, echo)?;
+    seat(roster, before, jealous)?;
+    seat(roster, neighbour, other_echo)?;
+    let calls = run_due(world, roster)?;
     let mut sent = *b"hello";
     let count = world.peek_output(client, &mut sent);
     println!(rt; "{calls} calls of 3 reasons, {count} bytes are sent back")?;
     println!(rt; "the neighbour is live: {}", world.is_live(neighbour))?;
     Ok(())
+}
+
+// A socket that brought bytes.
+fn fed(world: &mut World, bytes: &[u8]) -> Result<BevId, WorldFault>
+    requires { IsIdle world.old }
+    ensures { IsIdle world.new }
+{
+    let id = world.new_socket()?;
+    world.feed(id, bytes, 1000)?;
+    Ok(id)
 }

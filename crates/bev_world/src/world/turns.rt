@@ -2,7 +2,7 @@
 ghost use Rattle.std.specs.Prelude.{◌≡◌, ◌<◌, ◌++◌, [], length, true, false, IfNone};
 ghost use Rattle.std.specs.Bool.{then_some};
 ghost use Rattle.std.specs.Option.{option_to_list};
-ghost use Rattle.bev_world.specs.Batches.{batch_begun};
+ghost use Rattle.bev_world.specs.Batches.{IsIdle, batch_begun};
 ghost use Rattle.bev_world.specs.WorldValue.{is_live};
 
 use super::World;
@@ -11,7 +11,7 @@ use ev_types::{BevId, Why};
 impl World {
     /// Makes the pending reasons the batch, unless one was cut off: then its rest is the batch.
     pub(crate) fn begin_batch(&mut self)
-        requires { self.old.cut ≡ false → self.old.batch ≡ [] }
+        requires { IsIdle self.old }
         ensures { self.new ≡ batch_begun self.old }
     {
         if self.cut {
