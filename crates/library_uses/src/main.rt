@@ -3,6 +3,7 @@
 
 mod base;
 mod bufferevents;
+mod callbacks;
 mod deadlines;
 mod due;
 mod filters;
@@ -23,6 +24,7 @@ fn main(rt: HostRuntime) -> anyhow::Result<()> {
     bufferevents::back_pressure(&rt, alloc)?;
     filters::line_ends(&rt, alloc)?;
     due::joined_reasons(&rt, alloc)?;
+    callbacks::callbacks_that_free(&rt, alloc)?;
     numbers::busy_jobs(&rt, alloc)?;
     own_port::one_call(&rt, alloc)?;
     Ok(())

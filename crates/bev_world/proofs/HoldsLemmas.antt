@@ -1,0 +1,158 @@
+-- What a world keeps: one slot that is another, one more slot, and reasons that come and go.
+use Rattle.std.proofs.Common.{◌≡◌, ◌≢◌, ℕ, zero, suc, ◌+◌, ◌-◌, ◌^◌, ◌≤◌, ◌<◌, true, false, if◌then◌else◌, List, [], ◌∷◌, ◌++◌, length, refl, sym, ◌∙◌, ap, subst, arith, inl, inr, length-append}
+use Rattle.std.specs.Prelude.{◌⊎◌}
+use Rattle.std.specs.Prelude.{slice_index_or, slice_set, nat_eq, leb, Result, Ok, is_ok}
+use Rattle.std.proofs.lemmas.List.{get_or-set_same, get_or-set_other, get_or_default, get_or_append_left, get_or-append-add, length-set}
+use Rattle.std.proofs.lemmas.Bool.Decides.{eqb_tells, leb_tells}
+use Rattle.ev_types.specs.declared.why.Why.{Why}
+use Rattle.deferred_cb.specs.DueCalls.{Entry, with_reason, has_entry, without}
+use Rattle.bev_world.specs.declared.slot.Kind.{Kind}
+use Rattle.bev_world.specs.declared.slot.Kind.TheVariants as kind
+use Rattle.bev_world.specs.declared.slot.Slot.{Slot}
+use Rattle.bev_world.specs.WorldValue.{no_slot}
+use Rattle.bev_world.specs.WorldView.{IsSlot, IsNew, IsJoined, Holds, lacking}
+use Rattle.bev_world.proofs.RoomLemmas.{room-raised, room-forgot, room-begun, lacking-at-most}
+
+-- one slot is another
+pub holds-set : (ss : List Slot) (es : List Entry) (spare n : ℕ) (s : Slot) → Holds ss es spare → n < length ss → IsSlot (length ss) n s →
+    Holds (slice_set ss n s) es spare
+holds-set ss es spare n s h within fits = record {
+  few = subst (λ c. c < 2 ^ 32) (sym many) h.few;
+  room = subst (λ c. lacking c (λ m. has_entry m es) ≤ spare) (sym many) h.room;
+  each = λ m lt. at m (subst (λ c. m < c) many lt) (eqb_tells m n);
+}
+  where
+    many : length (slice_set ss n s) ≡ length ss
+    many = length-set ss n s
+
+    at : (m : ℕ) → m < length ss → ((nat_eq m n ≡ true) × (m ≡ n)) ⊎ ((nat_eq m n ≡ false) × (m ≢ n)) →
+        IsSlot (length (slice_set ss n s)) m (slice_index_or (slice_set ss n s) m no_slot)
+    at m lt (inl same) =
+        subst (λ c. IsSlot c m (slice_index_or (slice_set ss n s) m no_slot)) (sym many)
+        (subst (λ k. IsSlot (length ss) k (slice_index_or (slice_set ss n s) k no_slot)) (sym same.1)
+        (subst (IsSlot (length ss) n) (sym (get_or-set_same ss n s no_slot within)) fits))
+    at m lt (inr apart) =
+        subst (λ c. IsSlot c m (slice_index_or (slice_set ss n s) m no_slot)) (sym many)
+        (subst (IsSlot (length ss) m) (sym (get_or-set_other ss n m s no_slot apart.1)) (h.each m lt))
+
+-- a reason became due
+pub holds-raised : (ss : List Slot) (es next : List Entry) (spare left n : ℕ) (y : Why) → Holds ss es spare → n < length ss →
+    next ≡ with_reason n y es → length next + left ≡ length es + spare → Holds ss next left
+holds-raised ss es next spare left n y h within is kept = record {
+  few = h.few;
+  room = subst (λ z. lacking (length ss) (λ m. has_entry m z) ≤ left) (sym is)
+      (room-raised (length ss) n y es spare left within h.room (subst (λ z. length z + left ≡ length es + spare) is kept));
+  each = h.each;
+}
+
+-- what was due for one was forgotten
+pub holds-forgot : (ss : List Slot) (es next : List Entry) (spare left n : ℕ) → Holds ss es spare → next ≡ without n es →
+    length next + left ≡ length es + spare → Holds ss next left
+holds-forgot ss es next spare left n h is kept = record {
+  few = h.few;
+  room = subst (λ z. lacking (length ss) (λ m. has_entry m z) ≤ left) (sym is)
+      (room-forgot (length ss) n es spare left h.room (subst (λ z. length z + left ≡ length es + spare) is kept));
+  each = h.each;
+}
+
+-- a batch began
+pub holds-begun : (ss : List Slot) (es next : List Entry) (spare left : ℕ) → Holds ss es spare → next ≡ [] → left ≡ length es + spare →
+    Holds ss next left
+holds-begun ss es next spare left h is kept = record {
+  few = h.few;
+  room = subst (λ z. lacking (length ss) (λ m. has_entry m z) ≤ left) (sym is)
+      (subst (λ k. lacking (length ss) (λ m. has_entry m []) ≤ k) (sym kept) (room-begun (length ss) es spare h.room));
+  each = h.each;
+}
+
+-- a slot that is read fits
+pub fits-read : (ss : List Slot) (es : List Entry) (spare n : ℕ) (d x : Slot) → Holds ss es spare → n < length ss →
+    x ≡ slice_index_or ss n d → IsSlot (length ss) n x
+fits-read ss es spare n d x h within is =
+    subst (IsSlot (length ss) n) (sym (is ∙ get_or_default ss n d no_slot within)) (h.each n within)
+
+-- another slot fits there, with the same kind and enough room
+pub fits-with : (count n : ℕ) (x s : Slot) → IsSlot count n x → s.kind ≡ x.kind → s.room ≤ s.bev.input.spare → IsSlot count n s
+fits-with count n x s h kind room = record {
+  joined = subst (λ k. IsJoined count n k) (sym kind) h.joined;
+  room = room;
+}
+
+-- one slot is another with the same kind and enough room
+pub holds-with : (ss : List Slot) (es : List Entry) (spare n : ℕ) (d x s : Slot) → Holds ss es spare → n < length ss →
+    x ≡ slice_index_or ss n d → s.kind ≡ x.kind → s.room ≤ s.bev.input.spare → Holds (slice_set ss n s) es spare
+holds-with ss es spare n d x s h within is kind room =
+    holds-set ss es spare n s h within (fits-with (length ss) n x s (fits-read ss es spare n d x h within is) kind room)
+
+-- Slots come behind the others
+
+-- one slot of so many fits among more
+fits-more : (count more n : ℕ) (s : Slot) → count ≤ more → IsSlot count n s → IsSlot more n s
+fits-more count more n s le h = record { joined = joined s.kind h.joined; room = h.room }
+  where
+    joined : (k : Kind) → IsJoined count n k → IsJoined more n k
+    joined kind.Socket j = j
+    joined (kind.Half other) j = (let lt = j.0 in omega (arith, lt, le), j.1)
+    joined (kind.Filter under) j = j
+
+fits-new : (count n : ℕ) (s : Slot) → IsNew count n s → IsSlot count n s
+fits-new count n s h = record { joined = h.joined; room = let r = h.room in omega (arith, r) }
+
+-- one or two come behind the others
+pub holds-new : (ss new : List Slot) (es : List Entry) (spare : ℕ) → ((n : ℕ) → n < length ss → IsSlot (length ss) n (slice_index_or ss n no_slot)) →
+    length ss + length new < 2 ^ 32 → length ss + length new ≤ spare →
+    ((k : ℕ) → k < length new → IsNew (length ss + length new) (length ss + k) (slice_index_or new k no_slot)) → Holds (ss ++ new) es spare
+holds-new ss new es spare each few room fits = record {
+  few = subst (λ c. c < 2 ^ 32) (sym long) few;
+  room =
+      let most = lacking-at-most (λ m. has_entry m es) (length (ss ++ new)) in
+      omega (arith, most, long, room);
+  each = λ n lt. subst (λ c. IsSlot c n (slice_index_or (ss ++ new) n no_slot)) (sym long) (at n (omega (arith, lt, long)) (leb_tells (suc n) (length ss)));
+}
+  where
+    long : length (ss ++ new) ≡ length ss + length new
+    long = length-append ss new
+
+    at : (n : ℕ) → n < length ss + length new →
+        ((leb (suc n) (length ss) ≡ true) × (suc n ≤ length ss)) ⊎ ((leb (suc n) (length ss) ≡ false) × (length ss < suc n)) →
+        IsSlot (length ss + length new) n (slice_index_or (ss ++ new) n no_slot)
+    at n lt (inl less) =
+        subst (IsSlot (length ss + length new) n) (sym (get_or_append_left ss new no_slot n less.1))
+        (fits-more (length ss) (length ss + length new) n (slice_index_or ss n no_slot) (omega arith) (each n less.1))
+    at n lt (inr past) =
+        let k = n - length ss in
+        let place : length ss + k ≡ n = omega (arith, past.1) in
+        subst (λ m. IsSlot (length ss + length new) m (slice_index_or (ss ++ new) m no_slot)) place
+        (subst (IsSlot (length ss + length new) (length ss + k)) (sym (get_or-append-add ss new k no_slot))
+        (fits-new (length ss + length new) (length ss + k) (slice_index_or new k no_slot) (fits k (omega (arith, lt, past.1)))))
+
+pub holds_one : (ss : List Slot) (es : List Entry) (spare : ℕ) (s : Slot) →
+    ((n : ℕ) → n < length ss → IsSlot (length ss) n (slice_index_or ss n no_slot)) → length ss + 1 < 2 ^ 32 → length ss + 1 ≤ spare →
+    IsNew (length ss + 1) (length ss) s → Holds (ss ++ s ∷ []) es spare
+holds_one ss es spare s each few room fits = holds-new ss (s ∷ []) es spare each few room at
+  where
+    at : (k : ℕ) → k < length (s ∷ []) → IsNew (length ss + length (s ∷ [])) (length ss + k) (slice_index_or (s ∷ []) k no_slot)
+    at zero lt = subst (λ n. IsNew (length ss + 1) n s) (omega arith) fits
+    at (suc k) lt = absurd (omega arith)
+
+pub holds_two : (ss : List Slot) (es : List Entry) (spare : ℕ) (s t : Slot) →
+    ((n : ℕ) → n < length ss → IsSlot (length ss) n (slice_index_or ss n no_slot)) → length ss + 2 < 2 ^ 32 → length ss + 2 ≤ spare →
+    IsNew (length ss + 2) (length ss) s → IsNew (length ss + 2) (length ss + 1) t → Holds (ss ++ s ∷ t ∷ []) es spare
+holds_two ss es spare s t each few room fits more = holds-new ss (s ∷ t ∷ []) es spare each few room at
+  where
+    at : (k : ℕ) → k < length (s ∷ t ∷ []) →
+        IsNew (length ss + length (s ∷ t ∷ [])) (length ss + k) (slice_index_or (s ∷ t ∷ []) k no_slot)
+    at zero lt = subst (λ n. IsNew (length ss + 2) n s) (omega arith) fits
+    at (suc zero) lt = more
+    at (suc (suc k)) lt = absurd (omega arith)
+
+-- a push that did not fail
+pub pushed : {T E : Type 0} (old new : List Slot) (s : Slot) (r : Result T E) (x : T) → new ≡ (if is_ok r then old ++ s ∷ [] else old) →
+    r ≡ Ok x → new ≡ old ++ s ∷ []
+pushed old new s r x e ok = e ∙ ap (λ z. if is_ok z then old ++ s ∷ [] else old) ok
+
+-- a filter was made over one
+pub holds_taken : (ss : List Slot) (es : List Entry) (spare n : ℕ) (d x : Slot) → Holds ss es spare → n < length ss →
+    x ≡ slice_index_or ss n d → Holds (slice_set ss n (record x { taken = true })) es spare
+holds_taken ss es spare n d x h within is =
+    holds-with ss es spare n d x (record x { taken = true }) h within is refl (fits-read ss es spare n d x h within is).room

@@ -1,0 +1,9 @@
+pub mod Calls
+pub mod FiltersLemmas
+pub mod FreeLemmas
+pub mod HalvesLemmas
+pub mod Hearing
+pub mod HoldsLemmas
+pub mod RoomLemmas
+pub mod Taken
+pub mod WentLemmas

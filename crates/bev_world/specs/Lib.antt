@@ -1,0 +1,13 @@
+pub mod Batches
+pub mod Frees
+pub mod FilterSlots
+pub mod Filters
+pub mod Halves
+pub mod Heard
+pub mod Moved
+pub mod Passed
+pub mod Refusals
+pub mod Runs
+pub mod Went
+pub mod WorldValue
+pub mod WorldView

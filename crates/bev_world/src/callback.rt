@@ -1,0 +1,27 @@
+// What is called of a bufferevent.
+ghost use Rattle.std.specs.Prelude.{◌≡◌, ◌∷◌, [], true, OnOk};
+ghost use Rattle.bev_world.specs.WorldValue.{is_live};
+ghost use Rattle.bev_world.specs.Went.{Went};
+ghost use Rattle.bev_world.specs.Runs.{told_more};
+
+use crate::world::World;
+use ev_types::{BevId, NoMemory, Why};
+
+/// A callback of a bufferevent. It is lent the whole world, and may free any bufferevent in it, its own included.
+///
+/// Libevent: event2/bufferevent.h, `bufferevent_setcb`; "Bufferevents: concepts and basics".
+/// Differs: one callback for all reasons.
+pub trait Callback: Drop {
+    ghost use Rattle.std.specs.Prelude.{List, Option};
+    ghost use Rattle.ev_types.specs.declared.why.Why.{Why};
+
+    /// The reasons that it was called with, where it tells.
+    ghost heard: { Self → Option (List Why) };
+
+    /// Called for one reason. It calls the world as it likes; refused for want of memory, the batch ends here, and the next run
+    /// goes on with its rest.
+    fn call(&mut self, world: &mut World, id: BevId, why: Why) -> Result<(), NoMemory>
+        requires live { is_live world.old id.0 ≡ true }
+        ensures went { Went world.old world.new }
+        ensures heard { OnOk result (heard self.new ≡ told_more (heard self.old) (why ∷ [])) };
+}

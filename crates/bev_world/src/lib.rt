@@ -1,0 +1,19 @@
+//! Bufferevents by identifier, with boxed callbacks that may free any of them. No link, no port.
+#![tactic(auto)]
+
+mod callback;
+mod fault;
+mod roster;
+mod slot;
+mod world;
+
+pub use bev_core::{BevState, Dir};
+pub use callback::Callback;
+pub use ev_types::{BevId, FilterKind, Flags, Mode, NoMemory, Why};
+pub use fault::WorldFault;
+pub use roster::{Roster, run_due};
+pub use stream_filters::Step;
+pub use world::World;
+
+#[cfg(test)]
+mod tests;

@@ -1,0 +1,115 @@
+// How bufferevents are made, each under the next number.
+ghost use Rattle.std.specs.Prelude.{◌≡◌, ◌≤◌, ◌<◌, ◌+◌, ◌^◌, ◌++◌, ◌∷◌, [], length, true, Some, None, OnOk, OnErr, IfOk, MatchOption, ⊤};
+ghost use Rattle.std.specs.Option.{option_to_list};
+ghost use Rattle.bev_world.specs.WorldView.{IsNew};
+ghost use Rattle.evbuf_chain.specs.Answers.{AnswersOr, fault_of};
+ghost use Rattle.ev_types.specs.declared.filter.FilterKind.TheVariants as filter_of;
+ghost use Rattle.bev_world.specs.declared.slot.Kind.TheVariants as kind_of;
+ghost use Rattle.bev_world.specs.declared.fault.WorldFault.TheVariants.{Memory};
+ghost use Rattle.bev_world.specs.Refusals.{ids_refusal, filter_refusal};
+ghost use Rattle.bev_world.specs.Went.{Went};
+ghost use Rattle.bev_world.specs.WorldValue.{new_slot, pair_slots, with_new, with_taken};
+
+use super::World;
+use crate::fault::WorldFault;
+use crate::slot::{Kind, Slot};
+use ev_types::{BevId, FilterKind};
+
+impl World {
+    /// Makes a bufferevent of a socket, live and without bytes: writing is enabled and reading is not. IdsSpent comes where
+    /// 2^32 - 1 identifiers are used. Takes memory; constant cost, but where the world's room grows.
+    ///
+    /// Libevent: event2/bufferevent.h, `bufferevent_socket_new`; "Bufferevents: concepts and basics".
+    pub fn new_socket(&mut self) -> Result<BevId, WorldFault>
+        ensures answer { AnswersOr Memory result (ids_refusal self.old 1) }
+        ensures id { IfOk result (λ id. id.0 ≡ length self.old.slots) }
+        ensures ok { OnOk result (self.new ≡ with_new (new_slot kind_of.Socket filter_of.None filter_of.None ∷ []) self.old) }
+        ensures err { OnErr result (self.new ≡ self.old) }
+        ensures went { Went self.old self.new }
+    {
+        let number = self.next_number(1)?;
+        let slot = Slot::new(self.alloc, Kind::Socket, FilterKind::None, FilterKind::None)?;
+        self.add(slot, None)?;
+        Ok(BevId(number))
+    }
+
+    /// Makes both halves of a pair, each as `new_socket` does. IdsSpent comes where fewer than two identifiers are left. Takes
+    /// memory, as `new_socket`.
+    ///
+    /// Libevent: event2/bufferevent.h, `bufferevent_pair_new`; "Bufferevents: advanced topics".
+    pub fn new_pair(&mut self) -> Result<(BevId, BevId), WorldFault>
+        ensures answer { AnswersOr Memory result (ids_refusal self.old 2) }
+        ensures id { IfOk result (λ ids. (ids.0.0 ≡ length self.old.slots) × (ids.1.0 ≡ length self.old.slots + 1)) }
+        ensures ok { OnOk result (self.new ≡ with_new (pair_slots (length self.old.slots)) self.old) }
+        ensures err { OnErr result (self.new ≡ self.old) }
+        ensures went { Went self.old self.new }
+    {
+        let first = self.next_number(2)?;
+        let second = first + 1;
+        let (no, none) = (FilterKind::None, FilterKind::None);
+        let one = Slot::new(self.alloc, Kind::Half(second), no, none)?;
+        let other = Slot::new(self.alloc, Kind::Half(first), no, none)?;
+        self.add(one, Some(other))?;
+        Ok((BevId(first), BevId(second)))
+    }
+
+    /// Makes a filter over a live bufferevent that has none yet, as `new_socket` does, with the filters of what is read and of what
+    /// is written. Its free frees the one under it too. NotLive comes first, then IdsSpent as of `new_socket`, then Taken. Takes
+    /// memory, as `new_socket`.
+    ///
+    /// Libevent: event2/bufferevent.h, `bufferevent_filter_new`; "Bufferevents: advanced topics", filters.
+    /// Differs: `BEV_OPT_CLOSE_ON_FREE` is always set.
+    pub fn new_filter(
+        &mut self,
+        under: BevId,
+        input: FilterKind,
+        output: FilterKind,
+    ) -> Result<BevId, WorldFault>
+        ensures answer { AnswersOr Memory result (filter_refusal self.old under.0) }
+        ensures id { IfOk result (λ id. id.0 ≡ length self.old.slots) }
+        ensures ok { OnOk result (self.new ≡ with_taken (with_new (new_slot (kind_of.Filter under.0) input output ∷ []) self.old) under.0) }
+        ensures err { OnErr result (self.new ≡ self.old) }
+        ensures went { Went self.old self.new }
+    {
+        let at = self.find(under)?;
+        let number = self.next_number(1)?;
+        if self.slots[at].taken {
+            return Err(WorldFault::Taken);
+        }
+        let slot = Slot::new(self.alloc, Kind::Filter(under.0), input, output)?;
+        self.add(slot, None)?;
+        self.slots[at].taken = true;
+        Ok(BevId(number))
+    }
+
+    // Puts one slot or two behind the others, with room for what is due at them.
+    fn add(&mut self, slot: Slot, other: Option<Slot>) -> Result<(), WorldFault>
+        requires few { length self.old.slots + length (slot ∷ option_to_list other) < 2 ^ 32 }
+        requires fits { IsNew (length self.old.slots + length (slot ∷ option_to_list other)) (length self.old.slots) slot }
+        requires other_fits { MatchOption other ⊤ (λ s. IsNew (length self.old.slots + 2) (length self.old.slots + 1) s) }
+        ensures answer { AnswersOr Memory result None }
+        ensures ok { OnOk result (self.new ≡ with_new (slot ∷ option_to_list other) self.old) }
+        ensures err { OnErr result (self.new ≡ self.old) }
+        ensures went { Went self.old self.new }
+    {
+        self.due.reserve(self.slots.len() + 2)?;
+        self.slots.reserve(2)?;
+        self.slots.push(slot).unwrap();
+        if let Some(other) = other {
+            self.slots.push(other).unwrap();
+        }
+        Ok(())
+    }
+
+    // The next number, where so many are left.
+    fn next_number(&self, more: u32) -> Result<u32, WorldFault>
+        ensures answer { fault_of result ≡ ids_refusal self.now more }
+        ensures number { IfOk result (λ n. n ≡ length self.now.slots) }
+    {
+        let number = self.slots.len() as u32;
+        if u32::MAX - number < more {
+            return Err(WorldFault::IdsSpent);
+        }
+        Ok(number)
+    }
+}
