@@ -65,6 +65,16 @@ lowest_some word place some fits =
           is_set_from word i 0 (sym (bit_at_shr word place (i - place) i (omega arith)) ∙ first.2 (i - place) (omega arith));
     }
 
+-- the lowest bit of a word stands at the least place whose bit is set
+pub lowest_of : (word : ℕ) → 0 < word → word < 2 ^ 64 → IsLeast (is_set word) 0 (trailing_zeros w64 word)
+lowest_of word some fits =
+    let first = bit_at-trailing_zeros w64 word some fits in
+    record {
+      reached = omega arith;
+      passes = is_set_from word _ 1 first.1;
+      none_before = λ i from below. is_set_from word i 0 (first.2 i below);
+    }
+
 -- a bit that is set in a word stands below the width
 pub set_within : (word k : ℕ) → word < 2 ^ 64 → is_set word k ≡ true → k < 64
 set_within word k fits set =

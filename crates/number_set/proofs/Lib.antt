@@ -1,3 +1,4 @@
 pub mod BitLemmas
 pub mod WordLemmas
 pub mod NextLemmas
+pub mod WalkLemmas

@@ -1,14 +1,15 @@
 -- That values of sets can be told apart: two are equal where length and members are, and a list of answers gives one back.
 use Rattle.std.specs.Prelude.{◌≡◌, ℕ, ◌≤◌, Bool, false, List, length, map}
 use Rattle.std.specs.List.{range_with_len, slice_index_or}
-use Rattle.std.specs.Coded.{Coded, code_by, coded_bool, coded_list}
-use Rattle.std.proofs.Common.{inl, inr, ◌∙◌, sym, ap, zero-add}
+use Rattle.std.specs.Coded.{Coded, code_by, coded_bool, coded_list, coded_ℕ, coded×}
+use Rattle.std.proofs.Common.{inl, inr, ◌∙◌, sym, ap, refl, zero-add}
 use Rattle.std.proofs.Math.Path.{fun_ext, subst₂}
 use Rattle.std.proofs.Math.Bool.{Bool-set}
 use Rattle.std.proofs.lemmas.Bool.{cases_lt}
 use Rattle.std.proofs.lemmas.List.{get_or_past}
 use Rattle.std.proofs.lemmas.List.FromFn.{length-map-range_with_len, get_or-map-range_with_len}
 use Rattle.number_set.specs.Numbers.{NumberSetValue}
+use Rattle.number_set.specs.Walks.{WalkValue}
 
 -- no number from a length on is a member
 abbrev NoneFrom : ℕ → (ℕ → Bool) → Type 0
@@ -47,3 +48,12 @@ told-answers s =
 -- how a set is stored where values have to be told apart: as the list of its answers
 abbrev pub number_set_code : Coded NumberSetValue
 number_set_code = code_by (List Bool) (coded_list coded_bool) answers told told-answers
+
+-- how a walk is stored: as its four sets and its number
+abbrev pub walk_code : Coded WalkValue
+walk_code =
+    code_by (NumberSetValue × (NumberSetValue × (NumberSetValue × (NumberSetValue × ℕ))))
+    (coded× number_set_code (coded× number_set_code (coded× number_set_code (coded× number_set_code coded_ℕ))))
+    (λ w. (w.first, (w.second, (w.third, (w.fourth, w.from)))))
+    (λ p. record { first = p.0; second = p.1.0; third = p.1.1.0; fourth = p.1.1.1.0; from = p.1.1.1.1 })
+    (λ _. refl)

@@ -1,7 +1,7 @@
 // One word of 64 bits: a bit is written, and the nearest bit that is set is looked for.
-ghost use Rattle.std.specs.Prelude.{◌≡◌, ◌≢◌, ℕ, ◌<◌, ◌≤◌, ◌==◌, nat_lt, IfSome};
+ghost use Rattle.std.specs.Prelude.{◌≡◌, ◌≢◌, ℕ, ◌<◌, ◌≤◌, ◌==◌, nat_lt, false, IfSome, if◌then◌else◌};
 ghost use Rattle.std.specs.Int.{bit_at};
-ghost use Rattle.number_set.specs.Next.{IsNext, IsPrevious};
+ghost use Rattle.number_set.specs.Next.{IsLeast, IsNext, IsPrevious};
 ghost use Rattle.number_set.specs.Words.{is_set};
 
 /// The bits of a word.
@@ -57,4 +57,15 @@ pub(crate) fn highest_below(word: u64, place: usize) -> Option<usize>
     } else {
         Some(WORD - 1 - below.leading_zeros() as usize)
     }
+}
+
+/// The least place whose bit is set, and the word without that bit.
+pub(crate) fn without_lowest(word: u64) -> (usize, u64)
+    requires { 0 < word }
+    ensures least { IsLeast (is_set word) 0 result.0 }
+    ensures within { result.0 < WORD }
+    ensures rest { (k : ℕ) → k < WORD → is_set result.1 k ≡ (if k == result.0 then false else is_set word k) }
+{
+    let place = word.trailing_zeros() as usize;
+    (place, with_bit(word, place, false))
 }

@@ -3,9 +3,11 @@
 
 mod bits;
 mod set;
+mod walk;
 mod words;
 
 pub use set::NumberSet;
+pub use walk::Walk;
 
 #[cfg(test)]
 mod tests;

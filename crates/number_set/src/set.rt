@@ -1,8 +1,14 @@
 // A set of the numbers below a length, and the walks from member to member, up and down.
-ghost use Rattle.std.specs.Prelude.{◌≡◌, ℕ, ◌+◌, ◌^◌, ◌<◌, ◌==◌, Bool, true, false, IfSome, OnOk, OnErr, if◌then◌else◌};
+ghost use Rattle.std.specs.Prelude.{◌≡◌, ℕ, ◌+◌, ◌*◌, ◌^◌, ◌<◌, ◌≤◌, ◌==◌, Bool, true, false, IfSome, MatchOption, OnOk, OnErr, if◌then◌else◌};
 ghost use Rattle.number_set.specs.Next.{in_either, IsNext, IsPrevious};
+ghost use Rattle.number_set.specs.Walks.{IsNextWord};
+ghost use Rattle.number_set.specs.Words.{is_set};
 
-use crate::words::{fill_words, has_number, make_room, next_number, previous_number, put_number};
+use crate::walk::Walk;
+use crate::words::{
+    either_at, fill_words, has_number, make_room, next_number, next_word, previous_number,
+    put_number,
+};
 use std::alloc::{AllocError, Global};
 use std::marker::Model;
 
@@ -100,6 +106,36 @@ impl NumberSet {
         }
     }
 
+    /// Makes a number below the length a member or not. Takes no memory; constant cost.
+    ///
+    /// Own.
+    pub fn put(&mut self, number: usize, member: bool)
+        requires { number < self.old.len }
+        ensures len { self.new.len ≡ self.old.len }
+        ensures members { (n : ℕ) → self.new.has n ≡ (if n == number then member else self.old.has n) }
+    {
+        if member {
+            self.insert(number);
+        } else {
+            self.remove(number);
+        }
+    }
+
+    /// Makes the set at least so long, with no new member. Takes memory where it is shorter; linear in what is added. Out of
+    /// memory some of it may be added.
+    ///
+    /// Own.
+    pub fn lengthen(&mut self, len: usize) -> Result<(), AllocError>
+        ensures long { OnOk result (len ≤ self.new.len) }
+        ensures no_shorter { self.old.len ≤ self.new.len }
+        ensures members { (n : ℕ) → self.new.has n ≡ self.old.has n }
+    {
+        while self.len() < len {
+            self.push(false)?;
+        }
+        Ok(())
+    }
+
     /// Makes all numbers below the length members. Takes no memory; linear in the length, 64 numbers
     /// at a time.
     ///
@@ -192,6 +228,55 @@ impl NumberSet {
             &third.words,
             &fourth.words,
             before,
+        )
+    }
+
+    /// A walk upwards over the numbers that are in both sets of `a` or in both sets of `b`, from 0 on. The sets may have
+    /// different lengths. Takes no memory; constant cost.
+    ///
+    /// Own.
+    pub fn walk_either<'a>(
+        a: (&'a NumberSet, &'a NumberSet),
+        b: (&'a NumberSet, &'a NumberSet),
+    ) -> Walk<'a>
+        ensures { result ≡ record { first = a.entry.0.now; second = a.entry.1.now; third = b.entry.0.now; fourth = b.entry.1.now; from = 0 } }
+    {
+        Walk::over(a, b)
+    }
+
+    /// The word at a place of the numbers that are in both sets of `a` or in both sets of `b`.
+    pub(crate) fn word_in_either(
+        a: (&NumberSet, &NumberSet),
+        b: (&NumberSet, &NumberSet),
+        at: usize,
+    ) -> u64
+        ensures fits { (n : ℕ) → in_either a.entry.0.now.has a.entry.1.now.has b.entry.0.now.has b.entry.1.now.has n ≡ true → n + 1 < 2 ^ 64 }
+        ensures bits { (k : ℕ) → k < 64 → is_set result k
+            ≡ in_either a.entry.0.now.has a.entry.1.now.has b.entry.0.now.has b.entry.1.now.has (64 * at + k) }
+    {
+        let (first, second) = a;
+        let (third, fourth) = b;
+        either_at(&first.words, &second.words, &third.words, &fourth.words, at)
+    }
+
+    /// The first word from a place on that has a number in both sets of `a` or in both sets of `b`, with its place.
+    pub(crate) fn next_word(
+        a: (&NumberSet, &NumberSet),
+        b: (&NumberSet, &NumberSet),
+        from: usize,
+    ) -> Option<(usize, u64)>
+        ensures { MatchOption result
+            ((n : ℕ) → 64 * from ≤ n → in_either a.entry.0.now.has a.entry.1.now.has b.entry.0.now.has b.entry.1.now.has n ≡ false)
+            (λ found. IsNextWord (in_either a.entry.0.now.has a.entry.1.now.has b.entry.0.now.has b.entry.1.now.has) from found.0 found.1) }
+    {
+        let (first, second) = a;
+        let (third, fourth) = b;
+        next_word(
+            &first.words,
+            &second.words,
+            &third.words,
+            &fourth.words,
+            from,
         )
     }
 }

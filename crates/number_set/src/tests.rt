@@ -95,6 +95,13 @@ fn sets_of_different_lengths_are_looked_through_together(rt: HostRuntime) -> Res
     let [one, two, three, four] = lists.as_slice() else {
         return Ok(());
     };
+    let mut walk = NumberSet::walk_either((first, second), (third, fourth));
+    let mut from = 0;
+    for _ in 0..ASKED {
+        let next = walk.next();
+        assert_eq!(rt; next, next_in([one, two, three, four], from));
+        from = next.map_or(from, |number| number + 1);
+    }
     for number in 0..ASKED {
         let next = NumberSet::next_in_either((first, second), (third, fourth), number);
         assert_eq!(rt; next, next_in([one, two, three, four], number));

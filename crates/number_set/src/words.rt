@@ -1,6 +1,7 @@
 // A set as words of 64 bits, the number n at the bit n % 64 of the word n / 64.
-ghost use Rattle.std.specs.Prelude.{◌≡◌, ℕ, ◌+◌, ◌*◌, ◌/◌, ◌<◌, ◌≤◌, ◌==◌, ◌^◌, nat_lt, Bool, false, OnOk, OnErr, slice_index, length, vec_len, if◌then◌else◌};
+ghost use Rattle.std.specs.Prelude.{◌≡◌, ℕ, ◌+◌, ◌*◌, ◌/◌, ◌<◌, ◌≤◌, ◌==◌, ◌^◌, nat_lt, Bool, false, OnOk, OnErr, slice_index, length, vec_len, MatchOption, if◌then◌else◌};
 ghost use Rattle.number_set.specs.Next.{in_either, IsNext, IsPrevious};
+ghost use Rattle.number_set.specs.Walks.{IsNextWord};
 ghost use Rattle.number_set.specs.Words.{has_number, is_set};
 
 use crate::bits::{WORD, bits_below, highest_below, lowest_from, with_bit};
@@ -58,8 +59,14 @@ pub(crate) fn fill_words(words: &mut Vec<u64>, len: usize)
     }
 }
 
-// A word of the numbers that are in the first two or in the last two.
-fn either_at(first: &[u64], second: &[u64], third: &[u64], fourth: &[u64], at: usize) -> u64
+/// A word of the numbers that are in the first two or in the last two.
+pub(crate) fn either_at(
+    first: &[u64],
+    second: &[u64],
+    third: &[u64],
+    fourth: &[u64],
+    at: usize,
+) -> u64
     ensures { (k : ℕ) → k < WORD → is_set result k ≡ in_either (has_number first.now)
         (has_number second.now) (has_number third.now) (has_number fourth.now) (64 * at + k) }
 {
@@ -99,6 +106,33 @@ pub(crate) fn next_number(
         }
         at += 1;
         place = 0;
+    }
+    None
+}
+
+/// The first word from a place on that has a number of the first two or of the last two, with its place.
+pub(crate) fn next_word(
+    first: &[u64],
+    second: &[u64],
+    third: &[u64],
+    fourth: &[u64],
+    from: usize,
+) -> Option<(usize, u64)>
+    requires first { length first.now ≤ 2 ^ 58 }
+    requires third { length third.now ≤ 2 ^ 58 }
+    ensures { MatchOption result
+        ((n : ℕ) → 64 * from ≤ n → in_either (has_number first.now) (has_number second.now) (has_number third.now) (has_number fourth.now) n ≡ false)
+        (λ found. IsNextWord (in_either (has_number first.now) (has_number second.now) (has_number third.now) (has_number fourth.now))
+        from found.0 found.1) }
+{
+    let end = end_of_either(first, second, third, fourth);
+    let mut at = from;
+    while at < end {
+        let word = either_at(first, second, third, fourth, at);
+        if word != 0 {
+            return Some((at, word));
+        }
+        at += 1;
     }
     None
 }
