@@ -1,5 +1,5 @@
 -- The walks over a table, from one side that wants something or can do it to the next.
-use Rattle.std.proofs.Common.{◌≡◌, ◌∙◌, ℕ, zero, suc, ◌+◌, ◌*◌, ◌<◌, ◌≤◌, min, Bool, true, false, cond, ◌&&◌, ◌||◌, List, [], ◌∷◌, ◌++◌, map, refl, sym, ap, arith, inl, inr, add-one, append-nil}
+use Rattle.std.proofs.Common.{◌≡◌, ◌∙◌, ℕ, zero, suc, ◌+◌, ◌*◌, ◌<◌, ◌≤◌, min, Bool, true, false, cond, ◌&&◌, ◌||◌, List, [], ◌∷◌, ◌++◌, map, length, refl, sym, ap, subst, arith, inl, inr, add-one, append-nil}
 use Rattle.std.specs.Prelude.{filter}
 use Rattle.std.specs.List.{list_any}
 use Rattle.std.proofs.lemmas.Bool.{cases_Bool, cases_eq, and_parts, or_cases, or_left, or_right, or_from, both_ways}
@@ -9,7 +9,9 @@ use Rattle.std.proofs.lemmas.List.Folds.{list_any-append}
 use Rattle.ev_types.specs.Sides.{number}
 use Rattle.number_set.specs.Next.{in_either, IsLeast, IsGreatest}
 use Rattle.number_set.specs.Numbers.{NumberSetValue}
+use Rattle.number_set.specs.Walks.{WalkValue, walked}
 use Rattle.ev_port.specs.declared.port.Want.{Want}
+use Rattle.ev_port.specs.Marking.{marks_by, after_marks}
 use Rattle.ev_port.specs.Table.{WantsValue, row_by, row, wants_some, is_marked, is_ready_by, marked_by, rows_before, named_before, named, NextWant, PreviousWant}
 use Rattle.ev_port.proofs.NamedLemmas.{number-side_of, named-some, named-skip, stays_between}
 
@@ -51,6 +53,44 @@ rows-found r w from n h =
 pub rows-all : (r w : ℕ → Bool) (from to : ℕ) → from ≤ to → ((k : ℕ) → from ≤ k → in_either r r w w k ≡ false)
     → rows_before r w to ≡ rows_before r w from
 rows-all r w from to l h = named-skip r w from to l (λ k a b. sym (either-same r w k) ∙ h k a)
+
+-- The walk over two sets, from where it stands on
+abbrev pub walk_at : (first second third fourth : NumberSetValue) → ℕ → WalkValue
+walk_at first second third fourth from = record { first = first; second = second; third = third; fourth = fourth; from = from }
+
+pub walk-next : (v : WalkValue) (a b c d : NumberSetValue) (from n : ℕ) → v ≡ walk_at a b c d from → IsLeast (walked v) v.from n
+    → IsLeast (in_either a.has b.has c.has d.has) from n
+walk-next v a b c d from n same h = subst (λ u. IsLeast (walked u) u.from n) same h
+
+pub walk-end : (v : WalkValue) (a b c d : NumberSetValue) (from : ℕ) → v ≡ walk_at a b c d from
+    → ((k : ℕ) → v.from ≤ k → walked v k ≡ false) → (k : ℕ) → from ≤ k → in_either a.has b.has c.has d.has k ≡ false
+walk-end v a b c d from same h = subst (λ u. (k : ℕ) → u.from ≤ k → walked u k ≡ false) same h
+
+pub walk-from : (v u : WalkValue) (n : ℕ) → u ≡ record v { from = n + 1 } → u.from ≡ n + 1
+walk-from v u n behind = ap (λ (x : WalkValue). x.from) behind
+
+pub walk-behind : (v u : WalkValue) (a b c d : NumberSetValue) (n : ℕ) → v ≡ walk_at a b c d v.from → u ≡ record v { from = n + 1 }
+    → u ≡ walk_at a b c d u.from
+walk-behind v u a b c d n same behind =
+    behind ∙ ap (λ (x : WalkValue). record x { from = n + 1 }) same ∙ ap (walk_at a b c d) (sym (walk-from v u n behind))
+
+-- One want more
+
+pub marks-more : {M : Type 0} (marked : M → Want → Want) (after : M → Want → M) (m : M) (ws : List Want) (w : Want)
+    → marks_by marked after m (ws ++ w ∷ []) ≡ marks_by marked after m ws ++ marked (after_marks after m ws) w ∷ []
+marks-more marked after m [] w = refl
+marks-more marked after m (x ∷ ws) w = ap (λ ms. marked m x ∷ ms) (marks-more marked after (after m x) ws w)
+
+pub after-more : {M : Type 0} (after : M → Want → M) (m : M) (ws : List Want) (w : Want)
+    → after_marks after m (ws ++ w ∷ []) ≡ after (after_marks after m ws) w
+after-more after m [] w = refl
+after-more after m (x ∷ ws) w = after-more after (after m x) ws w
+
+pub length-one : (p : Want → Bool) (w : Want) → length (filter p (w ∷ [])) ≤ 1
+length-one p w = elim (cases_Bool (p w)) [
+  | inl b ↦ (let e = ap (λ q. length (cond q (w ∷ []) [])) b in omega (arith, e))
+  | inr b ↦ (let e = ap (λ q. length (cond q (w ∷ []) [])) b in omega (arith, e))
+]
 
 -- From mark to mark
 

@@ -12,3 +12,4 @@ pub mod Silent
 pub mod Table
 pub mod TableCode
 pub mod TableView
+pub mod Marking

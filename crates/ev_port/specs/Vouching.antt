@@ -1,6 +1,6 @@
 -- How what a port vouches for goes on, and when no link waits by it. It vouches for traces as answered by a plan of its own, which
 -- stays.
-use Rattle.std.specs.Prelude.{◌≡◌, Bool, true, false, []}
+use Rattle.std.specs.Prelude.{◌≡◌, Bool, true, false}
 use Rattle.std.specs.List.{list_any}
 use Rattle.ev_types.specs.declared.entry.Entry.TheVariants as entry
 use Rattle.ev_types.specs.Growth.{Longer}

@@ -3,6 +3,7 @@
 //! toolchain's streams, and a scribe that keeps nothing. There is no port here, and no socket.
 #![tactic(auto)]
 
+mod mark_want;
 mod memory;
 mod mute;
 mod port;
@@ -12,6 +13,7 @@ mod stream;
 mod table;
 
 pub use ev_types::{Addr, ConnAnswer, ReadAnswer, WriteAnswer};
+pub use mark_want::MarkWant;
 pub use memory::{MemSink, MemSource};
 pub use mute::Mute;
 pub use port::{Accepted, Polled, Port, Started, Want};

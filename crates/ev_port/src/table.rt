@@ -3,12 +3,13 @@
 ghost use Rattle.std.specs.Prelude.{◌≡◌, ℕ, ◌+◌, ◌*◌, ◌<◌, ◌≤◌, ◌^◌, ◌==◌, ◌||◌, ◌++◌, ◌∷◌, [], true, false, cond, if◌then◌else◌, length, map, filter, vec_len, vec_capacity, OnOk, OnErr};
 ghost use Rattle.std.specs.List.{list_any};
 ghost use Rattle.ev_types.specs.Sides.{number};
+ghost use Rattle.ev_port.specs.Marking.{marks_by, after_marks};
 ghost use Rattle.ev_port.specs.Table.{side_of, row_by, rows_before, named, wants_some, is_marked, is_ready_by, marked_by, RowsStay, IsNextWanted, IsPreviousWanted};
 
-use crate::Want;
+use crate::{MarkWant, Want};
 use ev_types::{NoMemory, Side, SideId};
 use number_set::NumberSet;
-use std::alloc::{AllocError, Global};
+use std::alloc::Global;
 use std::marker::Model;
 
 /// What each side wants of the next poll, as rows that are changed one by one, and the list of the wants that the last poll
@@ -79,30 +80,6 @@ fn marked_row(
     }
 }
 
-// Makes a set long enough. Its members stay.
-fn lengthen(set: &mut NumberSet, len: usize) -> Result<(), AllocError>
-    ensures long { OnOk result (len ≤ set.new.len) }
-    ensures no_shorter { set.old.len ≤ set.new.len }
-    ensures members { (n : ℕ) → set.new.has n ≡ set.old.has n }
-{
-    while set.len() < len {
-        set.push(false)?;
-    }
-    Ok(())
-}
-
-fn put(set: &mut NumberSet, number: usize, member: bool)
-    requires { number < set.old.len }
-    ensures len { set.new.len ≡ set.old.len }
-    ensures members { (n : ℕ) → set.new.has n ≡ (if n == number then member else set.old.has n) }
-{
-    if member {
-        set.insert(number);
-    } else {
-        set.remove(number);
-    }
-}
-
 fn has_want(read: &NumberSet, write: &NumberSet, number: usize) -> bool
     ensures { result ≡ wants_some (row_by read.now.has write.now.has number) }
 {
@@ -132,10 +109,44 @@ fn list_rows(list: &mut Vec<Want>, read: &NumberSet, write: &NumberSet, sides: u
     ensures room { vec_capacity list.old ≤ vec_capacity list.new }
 {
     list.clear();
-    let mut from = 0;
-    while let Some(number) = NumberSet::next_in_either((read, read), (write, write), from) {
+    let mut walk = NumberSet::walk_either((read, read), (write, write));
+    while let Some(number) = walk.next() {
         list.push(row_of(read, write, number)).unwrap();
-        from = number + 1;
+    }
+}
+
+// Lists a want if it has a mark.
+fn put_marked(list: &mut Vec<Want>, want: Want)
+    requires { vec_len list.old < vec_capacity list.old }
+    ensures list { list.new.items ≡ list.old.items ++ filter is_marked (want ∷ []) }
+    ensures room { vec_capacity list.old ≤ vec_capacity list.new }
+{
+    if want.can_read || want.can_write {
+        list.push(want).unwrap();
+    }
+}
+
+// Marks all rows that want something one by one, and lists those with a mark.
+fn mark_rows<M: MarkWant>(
+    list: &mut Vec<Want>,
+    read: &NumberSet,
+    write: &NumberSet,
+    sides: usize,
+    marker: &mut M,
+)
+    requires few { sides ≤ 2 ^ 33 }
+    requires room { sides ≤ vec_capacity list.old }
+    requires reads { (n : ℕ) → sides ≤ n → read.now.has n ≡ false }
+    requires writes { (n : ℕ) → sides ≤ n → write.now.has n ≡ false }
+    ensures list { list.new.items
+        ≡ filter is_marked (marks_by M.marked M.after marker.old (rows_before read.now.has write.now.has sides)) }
+    ensures after { marker.new ≡ after_marks M.after marker.old (rows_before read.now.has write.now.has sides) }
+    ensures room { vec_capacity list.old ≤ vec_capacity list.new }
+{
+    list.clear();
+    let mut walk = NumberSet::walk_either((read, read), (write, write));
+    while let Some(number) = walk.next() {
+        put_marked(list, marker.mark(row_of(read, write, number)));
     }
 }
 
@@ -155,10 +166,9 @@ fn list_ready(
     ensures room { vec_capacity list.old ≤ vec_capacity list.new }
 {
     list.clear();
-    let mut from = 0;
-    while let Some(number) = NumberSet::next_in_either((rows.0, ready.0), (rows.1, ready.1), from) {
+    let mut walk = NumberSet::walk_either((rows.0, ready.0), (rows.1, ready.1));
+    while let Some(number) = walk.next() {
         list.push(marked_row(rows, ready, number)).unwrap();
-        from = number + 1;
     }
 }
 
@@ -205,8 +215,8 @@ impl WantTable {
             return Err(NoMemory);
         }
         let sides = 2 * (self.links as usize) + 2;
-        lengthen(&mut self.read, sides)?;
-        lengthen(&mut self.write, sides)?;
+        self.read.lengthen(sides)?;
+        self.write.lengthen(sides)?;
         self.list.reserve(sides)?;
         self.links += 1;
         Ok(())
@@ -224,8 +234,8 @@ impl WantTable {
     {
         let number = side.number();
         let did = has_want(&self.read, &self.write, number);
-        put(&mut self.read, number, read);
-        put(&mut self.write, number, write);
+        self.read.put(number, read);
+        self.write.put(number, write);
         let does = has_want(&self.read, &self.write, number);
         self.count = recount(self.count, did, does);
     }
@@ -295,6 +305,19 @@ impl WantTable {
             (readable, writable),
             sides,
         );
+    }
+
+    /// Has each want marked, in the order of their sides, and lists those with a mark. Takes no memory; linear in the wants,
+    /// and in the sides, of which it passes over 64 at a time.
+    ///
+    /// Own.
+    pub fn mark_each<M: MarkWant>(&mut self, marker: &mut M)
+        ensures rows { RowsStay self.old self.new }
+        ensures list { self.new.list ≡ filter is_marked (marks_by M.marked M.after marker.old (named self.old)) }
+        ensures after { marker.new ≡ after_marks M.after marker.old (named self.old) }
+    {
+        let sides = 2 * (self.links as usize);
+        mark_rows(&mut self.list, &self.read, &self.write, sides, marker);
     }
 
     /// Empties the list. Takes no memory; constant cost.

@@ -105,31 +105,6 @@ fn close_at(place: &mut Option<End>)
 
 // The sets of the numbers that are ready
 
-// Room for the numbers below this one. None of them is put in. Where memory is wanting the members stay as well.
-fn make_longer(set: &mut NumberSet, needed: usize) -> Result<(), AllocError>
-    ensures members { (n : ℕ) → set.new.has n ≡ set.old.has n }
-    ensures longer { set.old.len ≤ set.new.len }
-    ensures enough { OnOk result (needed ≤ set.new.len) }
-{
-    for _number in set.len()..needed {
-        set.push(false)?;
-    }
-    Ok(())
-}
-
-// Puts a number into the set or takes it out.
-fn set_to(set: &mut NumberSet, number: usize, is_in: bool)
-    requires { number < set.old.len }
-    ensures len { set.new.len ≡ set.old.len }
-    ensures members { (n : ℕ) → set.new.has n ≡ (if n == number then is_in else set.old.has n) }
-{
-    if is_in {
-        set.insert(number);
-    } else {
-        set.remove(number);
-    }
-}
-
 // An end may have changed: each set has its number where the end is ready now.
 fn keep_up(ends: &[Option<End>], number: usize, readable: &mut NumberSet, writable: &mut NumberSet)
     requires read_room { number < readable.old.len }
@@ -145,8 +120,8 @@ fn keep_up(ends: &[Option<End>], number: usize, readable: &mut NumberSet, writab
         Some(Some(end)) => (end.is_read_ready(), end.is_write_ready()),
         _ => (false, false),
     };
-    set_to(readable, number, can_read);
-    set_to(writable, number, can_write);
+    readable.put(number, can_read);
+    writable.put(number, can_write);
 }
 
 impl Ends {
@@ -181,8 +156,8 @@ impl Ends {
     {
         let needed = out_end(link).number() + 1;
         let missing = needed.saturating_sub(self.ends.len());
-        make_longer(&mut self.readable, needed)?;
-        make_longer(&mut self.writable, needed)?;
+        self.readable.lengthen(needed)?;
+        self.writable.lengthen(needed)?;
         self.ends.reserve(missing)?;
         for _place in 0..missing {
             self.ends.push_reserved(None);

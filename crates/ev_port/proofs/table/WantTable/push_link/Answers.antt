@@ -5,19 +5,19 @@ use Rattle.ev_port.proofs.table.WantTable.push_link.Goals as goal
 
 pub returns-in_err-lengthen-clause-refused : goal.returns-in_err-lengthen-clause-refused
 returns-in_err-lengthen-clause-refused c =
-    let b : Inside = record c.self.inside { read = c.lengthen.new.set } in
+    let b : Inside = record c.self.inside { read = c.lengthen.new.self } in
     on_err c.from_residual.result
     (shown-same c.self.inside b refl c.lengthen.ensures.members (λ n. refl) refl ∙ c.self.view_is)
 
 pub returns-in_err-lengthen-2-clause-refused : goal.returns-in_err-lengthen-2-clause-refused
 returns-in_err-lengthen-2-clause-refused c =
-    let b : Inside = record c.self.inside { read = c.lengthen.new.set; write = c.lengthen-2.new.set } in
+    let b : Inside = record c.self.inside { read = c.lengthen.new.self; write = c.lengthen-2.new.self } in
     on_err c.from_residual-in_err-lengthen-2.result
     (shown-same c.self.inside b refl c.lengthen.ensures.members c.lengthen-2.ensures.members refl ∙ c.self.view_is)
 
 pub returns-in_err-reserve-clause-refused : goal.returns-in_err-reserve-clause-refused
 returns-in_err-reserve-clause-refused c =
-    let b : Inside = record c.self.inside { read = c.lengthen.new.set; write = c.lengthen-2.new.set; list = c.reserve.new.self } in
+    let b : Inside = record c.self.inside { read = c.lengthen.new.self; write = c.lengthen-2.new.self; list = c.reserve.new.self } in
     on_err c.from_residual-in_err-reserve.result
     (shown-same c.self.inside b refl c.lengthen.ensures.members c.lengthen-2.ensures.members c.reserve.ensures.items ∙ c.self.view_is)
 
@@ -28,7 +28,7 @@ invariant_of-self-2 c =
     let read_long = c.in_ok-lengthen.ensures.long in
     let write_long = c.in_ok-lengthen-2.ensures.long in
     let room = c.in_ok-reserve.ensures.ok in
-    let rows = ap length (lengthened a.read.has a.write.has c.lengthen.new.set.has c.lengthen-2.new.set.has a.links
+    let rows = ap length (lengthened a.read.has a.write.has c.lengthen.new.self.has c.lengthen-2.new.self.has a.links
     c.lengthen.ensures.members
     c.lengthen-2.ensures.members kept.read_end kept.write_end) in
     record {

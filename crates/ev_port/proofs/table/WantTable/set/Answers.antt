@@ -32,7 +32,7 @@ invariant_of-self c =
       write_long = omega (arith, write_long, c.put-2.ensures.len);
       read_end = λ k l. reads k (past k l) ∙ kept.read_end k l;
       write_end = λ k l. writes k (past k l) ∙ kept.write_end k l;
-      counted = recounted a.read.has a.write.has c.put.new.set.has c.put-2.new.set.has n (2 * a.links) a.count c.recount-self-inside.result
+      counted = recounted a.read.has a.write.has c.put.new.self.has c.put-2.new.self.has n (2 * a.links) a.count c.recount-self-inside.result
           c.has_want-did.result c.has_want-does.result within kept.counted reads writes c.has_want-did.ensures c.has_want-does.ensures
           c.recount-self-inside.ensures;
       room = kept.room;
