@@ -1,7 +1,8 @@
 -- What a call on one end makes of all links.
-use Rattle.std.proofs.Common.{◌≡◌, ℕ, ◌+◌, ◌-◌, ◌^◌, ◌<◌, Bool, false, List, [], ◌∷◌, ◌++◌, length, get_or, set, map, take, drop, Option, Some, refl, sym, ap, subst, ◌∙◌, arith}
+use Rattle.std.proofs.Common.{◌≡◌, ℕ, ◌+◌, ◌-◌, ◌^◌, ◌<◌, Bool, true, false, if◌then◌else◌, List, [], ◌∷◌, ◌++◌, length, get_or, set, map, take, drop, Option, Some, refl, sym, ap, subst, ◌∙◌, arith}
 use Rattle.std.specs.Prelude.{slice_get, option_map}
 use Rattle.std.specs.Option.{option_map_or}
+use Rattle.std.proofs.Math.Path.{fun_ext}
 use Rattle.ev_types.specs.declared.side.SideId.{SideId}
 use Rattle.ev_types.specs.declared.answer.WriteAnswer.{WriteAnswer}
 use Rattle.ev_types.specs.declared.answer.WriteAnswer.TheVariants as write
@@ -9,10 +10,12 @@ use Rattle.ev_types.specs.Sides.{number}
 use Rattle.std.proofs.lemmas.List.{get_or_default, get_or_at, drop_more, length-map, length-take}
 use Rattle.std.proofs.lemmas.List.Edits.{map_over_more}
 use Rattle.ev_port.specs.declared.port.Want.{Want}
-use Rattle.script_port.specs.ScriptState.{EndState, EndKept, LinksState}
+use Rattle.ev_port.specs.Marking.{marks_by, after_marks}
+use Rattle.script_port.specs.ScriptState.{EndState, EndKept, LinksKept, LinksState}
 use Rattle.script_port.specs.ScriptKept.{Wrote}
 use Rattle.script_port.specs.ScriptEnds.{after_write, write_answer, can_read, can_write, is_spurred, wanted}
-use Rattle.script_port.specs.ScriptLinks.{at_end, marked, after_wants, taken_at, write_answer_at, WroteAt}
+use Rattle.script_port.specs.ScriptLinks.{at_end, marked, unmarked, polled, after_wants, taken_at, write_answer_at, WroteAt}
+use Rattle.script_port.specs.ScriptPort.{poll_marks}
 use Rattle.script_port.proofs.ListLemmas.{changed_set, same_set, part_read, slice_get-changed_same, told-changed}
 
 abbrev states : List EndKept → List EndState
@@ -96,6 +99,55 @@ marked-wanted l e v w =
     let writes = told-changed can_write (wanted v) (λ s. refl) false l.ends (number e) (number w.side) in
     let spurs = told-changed (is_spurred l.turn) (wanted v) (λ s. refl) false l.ends (number e) (number w.side) in
     rw (reads, writes, spurs)
+
+-- a poll that fails or not marks as before, too
+pub polled-wanted : (l : LinksState) (e : SideId) (v w : Want) → polled (at_end e (wanted v) l) w ≡ polled l w
+polled-wanted l e v w = ap (λ (m : Want). if l.poll_fails then unmarked w else m) (marked-wanted l e v w)
+
+polled-side : (l : LinksState) (w : Want) → (polled l w).side ≡ w.side
+polled-side l w = by_line l.poll_fails
+  where
+    by_line : (b : Bool) → (if b then unmarked w else marked l w).side ≡ w.side
+    by_line true = refl
+    by_line false = refl
+
+marks-polled : (l : LinksState) (ws : List Want) → map (λ w. polled l w) ws ≡ poll_marks l ws
+marks-polled l ws = by_line l.poll_fails
+  where
+    by_line : (b : Bool) → map (λ w. if b then unmarked w else marked l w) ws ≡ (if b then map unmarked ws else map (λ w. marked l w) ws)
+    by_line true = refl
+    by_line false = refl
+
+-- Wants that are marked one by one
+
+abbrev mark_one : LinksKept → Want → Want
+mark_one k w = polled k.state w
+
+abbrev after_one : LinksKept → Want → LinksKept
+after_one k w = record k { state = at_end w.side (wanted (polled k.state w)) k.state }
+
+marks-kept : (ws : List Want) (k : LinksKept) → marks_by mark_one after_one k ws ≡ map (λ w. polled k.state w) ws
+marks-kept [] k = refl
+marks-kept (w ∷ ws) k =
+    ap (λ ms. polled k.state w ∷ ms) (marks-kept ws (after_one k w)
+    ∙ ap (λ (f : Want → Want). map f ws) (fun_ext (λ x. polled-wanted k.state w.side (polled k.state w) x)))
+
+after-kept : (ws : List Want) (k : LinksKept)
+    → after_marks after_one k ws ≡ record k { state = after_wants (map (λ w. polled k.state w) ws) k.state }
+after-kept [] k = refl
+after-kept (w ∷ ws) k =
+    after-kept ws (after_one k w)
+    ∙ ap (λ (f : Want → Want). record k { state = after_wants (map f ws) (at_end w.side (wanted (polled k.state w)) k.state) })
+    (fun_ext (λ x. polled-wanted k.state w.side (polled k.state w) x))
+    ∙ ap (λ e. record k { state = after_wants (map (λ x. polled k.state x) ws) (at_end e (wanted (polled k.state w)) k.state) })
+    (sym (polled-side k.state w))
+
+pub table-marks : (ws : List Want) (k : LinksKept) → marks_by mark_one after_one k ws ≡ poll_marks k.state ws
+table-marks ws k = marks-kept ws k ∙ marks-polled k.state ws
+
+pub table-after : (ws : List Want) (k : LinksKept)
+    → after_marks after_one k ws ≡ record k { state = after_wants (poll_marks k.state ws) k.state }
+table-after ws k = after-kept ws k ∙ ap (λ ms. record k { state = after_wants ms k.state }) (marks-polled k.state ws)
 
 -- one more want is counted with its marks
 pub wanted_more : (f : Want → Want) (xs ys : List Want) (i : ℕ) (d r : Want) (l next whole : LinksState) →

@@ -1,14 +1,15 @@
 -- What the polls of a script port tell of its ends.
-use Rattle.std.proofs.Common.{◌≡◌, ℕ, ◌+◌, ◌-◌, ◌^◌, ◌<◌, min, Bool, true, false, ◌&&◌, cond, if◌then◌else◌, List, [], ◌∷◌, map, Option, Some, None, refl, sym, ap, subst, ◌∙◌, arith, inl, inr}
+use Rattle.std.proofs.Common.{◌≡◌, ℕ, ◌+◌, ◌-◌, ◌^◌, ◌<◌, min, Bool, true, false, ◌&&◌, cond, if◌then◌else◌, List, [], ◌∷◌, map, length, get_or, Option, Some, None, refl, sym, ap, subst, ◌∙◌, arith, inl, inr}
 use Rattle.std.specs.Prelude.{slice_get, option_map, count_by}
-use Rattle.std.proofs.lemmas.Bool.{cases_Bool}
+use Rattle.std.proofs.lemmas.Bool.{and_parts, cases_Bool}
+use Rattle.std.proofs.lemmas.List.{get_or-map, length-map}
 use Rattle.std.proofs.lemmas.List.Sums.{sum_by-cons}
 use Rattle.ev_types.specs.declared.side.SideId.{SideId}
 use Rattle.ev_types.specs.Sides.{number, same_end}
 use Rattle.ev_port.specs.declared.port.Want.{Want}
 use Rattle.ev_port.specs.declared.port.Polled.TheVariants as polled
 use Rattle.ev_port.specs.EndSteps.{EndStep, no_step, EndWent, AllWent}
-use Rattle.ev_port.specs.Polling.{poll_step}
+use Rattle.ev_port.specs.Polling.{AllMarked, IsMarked, poll_step}
 use Rattle.ev_port.specs.Counting.{counted}
 use Rattle.script_port.specs.ScriptState.{EndState, LinksState, PortState}
 use Rattle.script_port.specs.EndTallies.{once}
@@ -200,3 +201,27 @@ answer_ends p ws accept = by_line p.links.poll_fails
 pub poll_went : (p : PortState) (ws marks : List Want) (accept : Bool) (answer : Polled) → marks ≡ poll_marks p.links ws → answer ≡
     poll_answer p accept → AllWent (ends_told p.links) (ends_told (after_wants marks p.links)) (poll_step marks answer)
 poll_went p ws marks accept answer m a = rw (m, a) (answer_ends p ws accept)
+
+-- each want is marked as a poll may mark it
+pub polled_all : (l : LinksState) (ws : List Want) → AllMarked ws (poll_marks l ws)
+polled_all l ws k d within = by_line l.poll_fails
+  where
+    each : (f : Want → Want) → ((w : Want) → IsMarked w (f w)) → IsMarked (get_or ws k d) (get_or (map f ws) k d)
+    each f one = subst (λ w. IsMarked (get_or ws k d) w) (sym (get_or-map f ws k d d within)) (one (get_or ws k d))
+
+    by_line : (b : Bool) → IsMarked (get_or ws k d) (get_or (if b then map unmarked ws else map (λ w. marked l w) ws) k d)
+    by_line true = each unmarked (λ w. record { side = refl; read = refl; write = refl; can_read = λ h. absurd (cc); can_write = λ h. absurd (cc) })
+    by_line false = each (λ w. marked l w) (λ w. record {
+      side = refl;
+      read = refl;
+      write = refl;
+      can_read = λ h. (and_parts w.read _ h).0;
+      can_write = λ h. (and_parts w.write _ h).0;
+    })
+
+pub polled_many : (l : LinksState) (ws : List Want) → length (poll_marks l ws) ≡ length ws
+polled_many l ws = by_line l.poll_fails
+  where
+    by_line : (b : Bool) → length (if b then map unmarked ws else map (λ w. marked l w) ws) ≡ length ws
+    by_line true = length-map ws unmarked
+    by_line false = length-map ws (λ w. marked l w)

@@ -1,6 +1,6 @@
 -- What the lines of a script and the calls of a port make of the links of the script. A line or a call that names an
 -- end of no such link changes nothing.
-use Rattle.std.specs.Prelude.{◌≡◌, ◌≢◌, ℕ, ◌-◌, ◌^◌, ◌<◌, length, zero, suc, Bool, true, false, ◌&&◌, ◌||◌, not, List, [], ◌∷◌, ◌++◌, Option, None, slice_get}
+use Rattle.std.specs.Prelude.{◌≡◌, ◌≢◌, ℕ, ◌-◌, ◌^◌, ◌<◌, length, zero, suc, Bool, true, false, ◌&&◌, ◌||◌, not, if◌then◌else◌, List, [], ◌∷◌, ◌++◌, Option, None, slice_get}
 use Rattle.std.specs.Option.{option_map_or}
 use Rattle.ev_types.specs.declared.side.SideId.{SideId}
 use Rattle.ev_types.specs.declared.side.Side.TheVariants.{In, Out}
@@ -94,6 +94,10 @@ marked l w = record w {
 -- a poll that fails marks nothing
 abbrev pub unmarked : Want → Want
 unmarked w = record w { can_read = false; can_write = false }
+
+-- the want as a poll leaves it
+abbrev pub polled : LinksState → Want → Want
+polled l w = if l.poll_fails then unmarked w else marked l w
 
 -- a poll was given these wants, with their marks
 abbrev pub after_wants : List Want → LinksState → LinksState

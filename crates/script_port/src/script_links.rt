@@ -1,16 +1,18 @@
 // The links of a script port with their ends, by the number of the side. What the script brings in is known from the
 // beginning, so that its lines take no memory.
-ghost use Rattle.std.specs.Prelude.{◌≡◌, ◌<◌, ◌==◌, ◌++◌, ◌∷◌, [], length, take, drop, map, not, IfOk, OnOk, Option, None, true, false};
+ghost use Rattle.std.specs.Prelude.{◌≡◌, ◌<◌, ◌==◌, ◌++◌, ◌∷◌, [], length, take, drop, map, filter, not, IfOk, OnOk, Option, None, true, false, if◌then◌else◌};
 ghost use Rattle.ev_port.specs.Ends.{got_bytes};
+ghost use Rattle.ev_port.specs.Table.{RowsStay, is_marked, named};
 ghost use Rattle.script_port.specs.ScriptEnds.{after_read, after_check, after_close_write, after_close, accepted, wanted};
-ghost use Rattle.script_port.specs.ScriptLinks.{at_end, out_end, links_of, entered, marked, unmarked, after_wants, accept_answer, accept_first, read_answer_at, pending_at, WroteAt, conn_answer_at};
+ghost use Rattle.script_port.specs.ScriptLinks.{at_end, out_end, links_of, entered, marked, unmarked, polled, after_wants, accept_answer, accept_first, read_answer_at, pending_at, WroteAt, conn_answer_at};
+ghost use Rattle.script_port.specs.ScriptPort.{poll_marks};
 ghost use Rattle.script_port.specs.FailedCalls.{failed_read, failed_write, failed_check};
 ghost use Rattle.script_port.specs.KeptLines.{kept_line};
 ghost use Rattle.script_port.specs.ScriptKept.{line_at, links_after_line, links_after_lines, with_links, with_bytes, with_all_bytes, TookWaiting};
 
 use crate::kept_line::{EndLine, KeptLine};
 use crate::script_end::ScriptEnd;
-use ev_port::{Accepted, Want};
+use ev_port::{Accepted, MarkWant, Want, WantTable};
 use ev_types::{ConnAnswer, NoMemory, ReadAnswer, Side, SideId, TurnLine, WriteAnswer};
 use std::alloc::Global;
 use std::marker::Model;
@@ -285,6 +287,18 @@ impl ScriptLinks {
         }
     }
 
+    fn mark_want(&mut self, want: Want) -> Want
+        ensures marks { result ≡ polled self.old.state want }
+        ensures after { self.new ≡ record self.old { state = at_end want.side (wanted result) self.old.state } }
+    {
+        if !self.poll_fails {
+            return self.poll_want(want);
+        }
+        let want = unmarked(want);
+        self.count_want(&want);
+        want
+    }
+
     /// Whether the poll fails in the running turn.
     pub fn poll_fails(&self) -> bool
         ensures { result ≡ self.now.state.poll_fails }
@@ -301,6 +315,15 @@ impl ScriptLinks {
         for want in wants.iter_mut() {
             *want = self.poll_want(*want);
         }
+    }
+
+    /// As `poll`, of all wants of a table, and where the poll fails nothing is marked. The table lists the wants with a mark.
+    pub fn poll_table(&mut self, wants: &mut WantTable)
+        ensures rows { RowsStay wants.old wants.new }
+        ensures list { wants.new.list ≡ filter is_marked (poll_marks self.old.state (named wants.old)) }
+        ensures after { self.new ≡ record self.old { state = after_wants (poll_marks self.old.state (named wants.old)) self.old.state } }
+    {
+        wants.mark_each(self);
     }
 
     /// Whether a link waits to be accepted.
@@ -341,6 +364,20 @@ impl ScriptLinks {
                 Accepted::Link { connected }
             }
         }
+    }
+}
+
+/// A want is marked as the running turn has it, and counted with its marks.
+impl MarkWant for ScriptLinks {
+    ghost use Rattle.script_port.specs.ScriptLinks.{polled, at_end};
+    ghost use Rattle.script_port.specs.ScriptEnds.{wanted};
+
+    ghost marked = { λ l w. polled l.state w };
+
+    ghost after = { λ l w. record l { state = at_end w.side (wanted (polled l.state w)) l.state } };
+
+    fn mark(&mut self, want: Want) -> Want {
+        self.mark_want(want)
     }
 }
 

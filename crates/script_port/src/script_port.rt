@@ -1,12 +1,13 @@
 // A port that answers by a script. Each reading of the clock begins the script's next turn and applies its lines; every
 // other call is answered from what the lines so far left. It waits for nothing, fails where the script says so, and keeps
 // all that it is told and all that it took.
-ghost use Rattle.std.specs.Prelude.{◌≡◌, ◌<◌, [], true, false, length, take, drop, map, IfOk};
+ghost use Rattle.std.specs.Prelude.{◌≡◌, ◌<◌, [], true, false, length, take, drop, map, filter, IfOk};
 ghost use Rattle.ev_port.specs.Vouching.{LongerBy, NothingWaits};
 ghost use Rattle.ev_port.specs.EndSteps.{EndsWent, AllWent, PortStays, no_step};
 ghost use Rattle.ev_port.specs.Faults.{FaultsStay, EndFaults, PollFaults, ListenerFaults};
 ghost use Rattle.ev_port.specs.Calls.{Ticked, ClockRead, is_failed_start, StartedAt, is_failed_accept, accept_events, accept_step, AcceptedLink};
 ghost use Rattle.ev_port.specs.Polling.{is_failed_poll, opens_accepting, AllMarked, poll_events, poll_step, PolledWith};
+ghost use Rattle.ev_port.specs.Table.{RowsStay, TablePolled, is_marked, named};
 ghost use Rattle.ev_port.specs.Ends.{is_failed_conn, conn_step, conn_events, ReadWithin, is_failed_read, got_bytes, read_step, read_events, WriteWithin, is_failed_write, write_step, write_events, close_write_events, close_events, close_write_step, close_step};
 ghost use Rattle.script_port.specs.ScriptEnds.{after_read, after_check, after_close_write, after_close};
 ghost use Rattle.script_port.specs.FailedCalls.{failed_read, failed_write, failed_check};
@@ -18,7 +19,7 @@ ghost use Rattle.script_port.specs.ScriptVouched.{NoneWaits, ScriptVouches};
 use crate::port_tally::PortTally;
 use crate::script_links::{ScriptLinks, unmark};
 use crate::script_turns::ScriptTurns;
-use ev_port::{Accepted, Polled, Port, Started, Want};
+use ev_port::{Accepted, Polled, Port, Started, Want, WantTable};
 use ev_types::{Addr, ConnAnswer, NoMemory, ReadAnswer, SideId, WriteAnswer};
 use script_text::Script;
 use std::alloc::Global;
@@ -96,6 +97,24 @@ impl ScriptPort {
         }
         let ready = accept & self.links.has_waiting();
         self.links.poll(wants);
+        self.tally.count_poll(accept, timeout, ready);
+        Polled::Ready { accept: ready }
+    }
+
+    fn answer_table(&mut self, wants: &mut WantTable, accept: bool, timeout: Option<u64>) -> Polled
+        ensures answer { result ≡ poll_answer self.old accept }
+        ensures rows { RowsStay wants.old wants.new }
+        ensures list { wants.new.list ≡ filter is_marked (poll_marks self.old.links (named wants.old)) }
+        ensures after { self.new ≡ after_poll self.old (poll_marks self.old.links (named wants.old)) accept timeout (poll_answer self.old accept) }
+    {
+        let fails = self.links.poll_fails();
+        let ready = accept & self.links.has_waiting();
+        self.links.poll_table(wants);
+        if fails {
+            self.tally.count_poll(accept, timeout, false);
+            self.tally.count_poll_fault();
+            return Polled::Failed;
+        }
         self.tally.count_poll(accept, timeout, ready);
         Polled::Ready { accept: ready }
     }
@@ -203,6 +222,24 @@ impl Port for ScriptPort {
         ensures waiting { accept ≡ true → result ≡ Polled.Ready false → NothingWaits (ScriptVouches self.new) NoneWaits }
     {
         self.answer_poll(wants, accept, timeout)
+    }
+
+    /// It looks at each want once.
+    fn poll_table(&mut self, wants: &mut WantTable, accept: bool, timeout: Option<u64>) -> Polled
+        ensures answer { result ≡ poll_answer self.old accept }
+        ensures list { wants.new.list ≡ filter is_marked (poll_marks self.old.links (named wants.old)) }
+        ensures after { self.new ≡ after_poll self.old (poll_marks self.old.links (named wants.old)) accept timeout (poll_answer self.old accept) }
+
+        // What every port says.
+        ensures rows { RowsStay wants.old wants.new }
+        ensures asked { opens_accepting result ≡ true → accept ≡ true }
+        ensures cause { PollFaults (script_faults self.old) (script_faults self.new) (is_failed_poll result) }
+        ensures told { PolledWith (port_told self.old) (port_told self.new) accept timeout result }
+        ensures went { TablePolled wants.old wants.new timeout result (ends_told self.old.links) (ends_told self.new.links)
+            (ScriptVouches self.old) (ScriptVouches self.new) }
+        ensures waiting { accept ≡ true → result ≡ Polled.Ready false → NothingWaits (ScriptVouches self.new) NoneWaits }
+    {
+        self.answer_table(wants, accept, timeout)
     }
 
     fn accept(&mut self, link: u32) -> Accepted
