@@ -1,7 +1,7 @@
 -- The bits of one word: what a mask, a shift and a pair of words make of them, and where the nearest set bit is.
 use Rattle.std.proofs.Common.{◌≡◌, inl, inr, ◌∙◌, sym, ap, refl, ℕ, suc, ◌+◌, ◌-◌, ◌*◌, ◌/◌, ◌%◌, ◌^◌, ◌<◌, ◌≤◌, min, max, Bool, true, false, ◌&&◌, ◌||◌, ◌==◌, nat_lt, bit_and, bit_or, w64, arith}
 use Rattle.std.specs.Int.{bit_at, trailing_zeros}
-use Rattle.std.proofs.lemmas.Bool.{cases_lt, lt-ltb, le-ltb, ltb-true, and_parts}
+use Rattle.std.proofs.lemmas.Bool.{cases_lt, lt-ltb, le-ltb, ltb-true, and_parts, both_ways}
 use Rattle.std.proofs.lemmas.Bool.Decides.{nat_tests}
 use Rattle.std.proofs.lemmas.Nat.{shr-shr, shr_le, leading_top, le-div, div_below, pow_pos}
 use Rattle.std.proofs.lemmas.Nat.Bits.{bit_at-lt, bit_at-zero, bit_at_and, bit_at_or, bit_at_ones, bit_at_ones_above, bit_at_above, bit_at-trailing_zeros}
@@ -82,6 +82,12 @@ set_within word k fits set =
       | inl within ↦ within
       | inr past ↦ absurd (cc (is_set_from word k 0 (bit_at_above word 64 k fits past)))
     ]
+
+-- a word that isn't 0 has a bit
+pub some_bit : (word : ℕ) → 0 < word → word < 2 ^ 64 → ((i : ℕ) → i < 64 → is_set word i ≡ false) → ⊥
+some_bit word some fits none =
+    let least = lowest_of word some fits in
+    both_ways _ (none _ (set_within word _ fits least.passes)) least.passes
 
 twice : (j n : ℕ) → n < 2 ^ suc j → n < 2 * 2 ^ j
 twice j n h = omega (arith, pow-suc 2 j)

@@ -115,12 +115,12 @@ either_past first second third fourth n past past_others =
     or_none _ _ (both_past first second n past) (both_past third fourth n past_others)
 
 -- no words keep the set of length 0
-pub empty_kept : IsKept [] 0
-empty_kept = record {
+pub empty_kept_at : (words : List ℕ) → length words ≡ 0 → IsKept words 0
+empty_kept_at words none = record {
   enough = omega arith;
-  tight = omega arith;
+  tight = omega (arith, none);
   fits = omega arith;
-  none_past = λ n past. has_number_past [] n (omega arith);
+  none_past = λ n past. has_number_past words n (omega (arith, none));
 }
 
 -- as many words, with all numbers below the length and no other, keep a set of that length

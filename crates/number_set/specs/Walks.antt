@@ -28,3 +28,11 @@ pub record IsNextWord (p : ℕ → Bool) (from at word : ℕ) : Type 0 where
   pub some : 0 < word
   pub bits : (k : ℕ) → k < 64 → is_set word k ≡ p (64 * at + k)
   pub none_before : (n : ℕ) → 64 * from ≤ n → n < 64 * at → p n ≡ false
+
+-- the word is the last before a place with a number that passes the test, and stands at `at`
+pub record IsPreviousWord (p : ℕ → Bool) (before at word : ℕ) : Type 0 where
+  pub below : at < before
+  pub small : at < 2 ^ 58
+  pub some : 0 < word
+  pub bits : (k : ℕ) → k < 64 → is_set word k ≡ p (64 * at + k)
+  pub none_after : (n : ℕ) → 64 * at + 64 ≤ n → n < 64 * before → p n ≡ false

@@ -27,3 +27,9 @@ pub record IsKept (words : List ℕ) (len : ℕ) : Type 0 where
   pub tight : 64 * length words < len + 64
   pub fits : len < 2 ^ 64
   pub none_past : (n : ℕ) → len ≤ n → has_number words n ≡ false
+
+-- the places of the words that aren't 0, as a set in words of its own, which has room for the place of each word
+pub record AreTops (words tops : List ℕ) : Type 0 where
+  pub enough : length words ≤ 64 * length tops
+  pub few : 64 * length tops ≤ length words + 64
+  pub places : (k : ℕ) → has_number tops k ≡ nat_lt 0 (slice_index words k)

@@ -2,6 +2,7 @@
 #![tactic(auto)]
 
 mod bits;
+mod levels;
 mod set;
 mod walk;
 mod words;

@@ -4,11 +4,9 @@ ghost use Rattle.number_set.specs.Next.{in_either, IsNext, IsPrevious};
 ghost use Rattle.number_set.specs.Walks.{IsNextWord};
 ghost use Rattle.number_set.specs.Words.{is_set};
 
+use crate::levels::Levels;
 use crate::walk::Walk;
-use crate::words::{
-    either_at, fill_words, has_number, make_room, next_number, next_word, previous_number,
-    put_number,
-};
+use crate::words::has_number;
 use std::alloc::{AllocError, Global};
 use std::marker::Model;
 
@@ -18,7 +16,7 @@ use std::marker::Model;
 /// Own.
 #[derive(Drop)]
 pub struct NumberSet {
-    words: Vec<u64>,
+    levels: Levels,
     len: usize,
 }
 
@@ -32,9 +30,9 @@ impl Model for NumberSet {
 
     ghost use Rattle.number_set.specs.Words.{value_of, IsKept};
 
-    ghost view = { λ a. value_of a.words.items a.len };
+    ghost view = { λ a. value_of a.levels.words.items a.len };
 
-    ghost invariant = { λ a. IsKept a.words.items a.len };
+    ghost invariant = { λ a. IsKept a.levels.words.items a.len };
 }
 
 impl NumberSet {
@@ -46,7 +44,7 @@ impl NumberSet {
         ensures members { (n : ℕ) → result.has n ≡ false }
     {
         NumberSet {
-            words: Vec::new(alloc),
+            levels: Levels::new(alloc),
             len: 0,
         }
     }
@@ -75,8 +73,8 @@ impl NumberSet {
         if number == usize::MAX {
             return Err(AllocError);
         }
-        make_room(&mut self.words, number)?;
-        put_number(&mut self.words, number, member);
+        self.levels.make_room(number)?;
+        self.levels.put(number, member);
         self.len = number + 1;
         Ok(())
     }
@@ -90,7 +88,7 @@ impl NumberSet {
         ensures len { self.new.len ≡ self.old.len }
         ensures members { (n : ℕ) → self.new.has n ≡ (if n == number then true else self.old.has n) }
     {
-        put_number(&mut self.words, number, true);
+        self.levels.put(number, true);
     }
 
     /// Makes a number no member, which it may be already: one from the length on never is one. Takes
@@ -102,7 +100,7 @@ impl NumberSet {
         ensures members { (n : ℕ) → self.new.has n ≡ (if n == number then false else self.old.has n) }
     {
         if number < self.len {
-            put_number(&mut self.words, number, false);
+            self.levels.put(number, false);
         }
     }
 
@@ -144,7 +142,7 @@ impl NumberSet {
         ensures len { self.new.len ≡ self.old.len }
         ensures members { (n : ℕ) → n < self.old.len → self.new.has n ≡ true }
     {
-        fill_words(&mut self.words, self.len);
+        self.levels.fill(self.len);
     }
 
     /// Whether the number is a member: one from the length on never is one. Takes no memory; constant
@@ -154,12 +152,12 @@ impl NumberSet {
     pub fn contains(&self, number: usize) -> bool
         ensures { result ≡ self.now.has number }
     {
-        has_number(&self.words, number)
+        has_number(&self.levels.words, number)
     }
 
     /// The least member from a number on, that number included, or None where there is none. It can be
     /// asked again from the number after it. Takes no memory; linear in the length that is passed over,
-    /// 64 numbers at a time.
+    /// 4,096 numbers at a time where none is a member.
     ///
     /// Own.
     pub fn next(&self, from: usize) -> Option<usize>
@@ -167,24 +165,26 @@ impl NumberSet {
         ensures within { IfSome result (λ n. n < self.now.len) }
         ensures small { IfSome result (λ n. n + 1 < 2 ^ 64) }
     {
-        next_number(&self.words, &self.words, &self.words, &self.words, from)
+        let own = &self.levels;
+        Levels::next((own, own), (own, own), from)
     }
 
     /// The greatest member below a number, or None where there is none. Takes no memory; linear in
-    /// the length that is passed over, 64 numbers at a time.
+    /// the length that is passed over, 4,096 numbers at a time where none is a member.
     ///
     /// Own.
     pub fn previous(&self, before: usize) -> Option<usize>
         ensures previous { IsPrevious self.now.has before result }
         ensures within { IfSome result (λ n. n < self.now.len) }
     {
-        previous_number(&self.words, &self.words, &self.words, &self.words, before)
+        let own = &self.levels;
+        Levels::previous((own, own), (own, own), before)
     }
 
     /// The least number from a number on, that number included, that is in both sets of `a` or in
     /// both sets of `b`, or None where there is none. The sets may have different lengths. It can be
     /// asked again from the number after it. Takes no memory; linear in the length that is passed over,
-    /// 64 numbers at a time.
+    /// 4,096 numbers at a time where none is a member.
     ///
     /// Own.
     pub fn next_in_either(
@@ -198,18 +198,16 @@ impl NumberSet {
     {
         let (first, second) = a;
         let (third, fourth) = b;
-        next_number(
-            &first.words,
-            &second.words,
-            &third.words,
-            &fourth.words,
+        Levels::next(
+            (&first.levels, &second.levels),
+            (&third.levels, &fourth.levels),
             from,
         )
     }
 
     /// The greatest number below a number that is in both sets of `a` or in both sets of `b`, or None
     /// where there is none. The sets may have different lengths. Takes no memory; linear in the length
-    /// that is passed over, 64 numbers at a time.
+    /// that is passed over, 4,096 numbers at a time where none is a member.
     ///
     /// Own.
     pub fn previous_in_either(
@@ -222,11 +220,9 @@ impl NumberSet {
     {
         let (first, second) = a;
         let (third, fourth) = b;
-        previous_number(
-            &first.words,
-            &second.words,
-            &third.words,
-            &fourth.words,
+        Levels::previous(
+            (&first.levels, &second.levels),
+            (&third.levels, &fourth.levels),
             before,
         )
     }
@@ -256,7 +252,11 @@ impl NumberSet {
     {
         let (first, second) = a;
         let (third, fourth) = b;
-        either_at(&first.words, &second.words, &third.words, &fourth.words, at)
+        Levels::either_at(
+            (&first.levels, &second.levels),
+            (&third.levels, &fourth.levels),
+            at,
+        )
     }
 
     /// The first word from a place on that has a number in both sets of `a` or in both sets of `b`, with its place.
@@ -271,11 +271,9 @@ impl NumberSet {
     {
         let (first, second) = a;
         let (third, fourth) = b;
-        next_word(
-            &first.words,
-            &second.words,
-            &third.words,
-            &fourth.words,
+        Levels::next_word(
+            (&first.levels, &second.levels),
+            (&third.levels, &fourth.levels),
             from,
         )
     }

@@ -110,3 +110,34 @@ fn sets_of_different_lengths_are_looked_through_together(rt: HostRuntime) -> Res
     }
     Ok(())
 }
+
+// Members of a long set, each far behind the one before it or right behind it.
+const FAR: [usize; 7] = [0, 63, 4_095, 4_096, 8_191, 9_998, 9_999];
+
+#[test]
+fn a_long_set_is_walked_from_member_to_member(rt: HostRuntime) -> Result<(), Fail> {
+    let mut set = NumberSet::new(rt.alloc());
+    set.lengthen(10_000)?;
+    for number in FAR {
+        if number < set.len() {
+            set.insert(number);
+        }
+    }
+    for [before, after] in [
+        [0, 63],
+        [63, 4_095],
+        [4_095, 4_096],
+        [4_096, 8_191],
+        [8_191, 9_998],
+        [9_998, 9_999],
+    ] {
+        assert_eq!(rt; set.next(before + 1), Some(after));
+        assert_eq!(rt; set.previous(after), Some(before));
+    }
+    assert_eq!(rt; (set.next(10_000), set.previous(0)), (None, None));
+    for number in FAR {
+        set.remove(number);
+    }
+    assert_eq!(rt; (set.next(0), set.previous(10_000)), (None, None));
+    Ok(())
+}

@@ -75,7 +75,7 @@ impl<'a> Walk<'a> {
     }
 
     /// The next number, or None where there is none more. Takes no memory; constant cost, and linear in the length that is
-    /// passed over, 64 numbers at a time.
+    /// passed over, 4,096 numbers at a time where none is a member.
     ///
     /// Own.
     pub fn next(&mut self) -> Option<usize>

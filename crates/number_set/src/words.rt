@@ -1,7 +1,6 @@
 // A set as words of 64 bits, the number n at the bit n % 64 of the word n / 64.
-ghost use Rattle.std.specs.Prelude.{◌≡◌, ℕ, ◌+◌, ◌*◌, ◌/◌, ◌<◌, ◌≤◌, ◌==◌, ◌^◌, nat_lt, Bool, false, OnOk, OnErr, slice_index, length, vec_len, MatchOption, if◌then◌else◌};
+ghost use Rattle.std.specs.Prelude.{◌≡◌, ◌≢◌, ℕ, ◌+◌, ◌*◌, ◌/◌, ◌<◌, ◌≤◌, ◌==◌, ◌^◌, nat_lt, Bool, false, OnOk, OnErr, slice_index, length, vec_len, if◌then◌else◌};
 ghost use Rattle.number_set.specs.Next.{in_either, IsNext, IsPrevious};
-ghost use Rattle.number_set.specs.Walks.{IsNextWord};
 ghost use Rattle.number_set.specs.Words.{has_number, is_set};
 
 use crate::bits::{WORD, bits_below, highest_below, lowest_from, with_bit};
@@ -27,6 +26,7 @@ pub(crate) fn put_number(words: &mut Vec<u64>, number: usize, member: bool)
     ensures len { vec_len words.new ≡ vec_len words.old }
     ensures numbers { (n : ℕ) → has_number words.new.items n
         ≡ (if n == number then member else has_number words.old.items n) }
+    ensures words { (k : ℕ) → k ≢ number / 64 → slice_index words.new.items k ≡ slice_index words.old.items k }
 {
     let at = number / WORD;
     words[at] = with_bit(words[at], number % WORD, member);
@@ -40,6 +40,7 @@ pub(crate) fn make_room(words: &mut Vec<u64>, number: usize) -> Result<(), Alloc
     ensures tight { OnOk result (64 * vec_len words.new ≤ number + 64) }
     ensures numbers { OnOk result
         ((n : ℕ) → has_number words.new.items n ≡ has_number words.old.items n) }
+    ensures words { OnOk result ((k : ℕ) → slice_index words.new.items k ≡ slice_index words.old.items k) }
     ensures err { OnErr result (words.new.items ≡ words.old.items) }
 {
     if number / WORD >= words.len() {
@@ -50,7 +51,7 @@ pub(crate) fn make_room(words: &mut Vec<u64>, number: usize) -> Result<(), Alloc
 
 /// Puts all numbers below a length into the words, and takes all others out.
 pub(crate) fn fill_words(words: &mut Vec<u64>, len: usize)
-    requires { 64 * vec_len words.old < len + 64 }
+    requires { 64 * vec_len words.old ≤ len + 64 }
     ensures len { vec_len words.new ≡ vec_len words.old }
     ensures numbers { (n : ℕ) → n < 64 * vec_len words.old → has_number words.new.items n ≡ nat_lt n len }
 {
@@ -106,33 +107,6 @@ pub(crate) fn next_number(
         }
         at += 1;
         place = 0;
-    }
-    None
-}
-
-/// The first word from a place on that has a number of the first two or of the last two, with its place.
-pub(crate) fn next_word(
-    first: &[u64],
-    second: &[u64],
-    third: &[u64],
-    fourth: &[u64],
-    from: usize,
-) -> Option<(usize, u64)>
-    requires first { length first.now ≤ 2 ^ 58 }
-    requires third { length third.now ≤ 2 ^ 58 }
-    ensures { MatchOption result
-        ((n : ℕ) → 64 * from ≤ n → in_either (has_number first.now) (has_number second.now) (has_number third.now) (has_number fourth.now) n ≡ false)
-        (λ found. IsNextWord (in_either (has_number first.now) (has_number second.now) (has_number third.now) (has_number fourth.now))
-        from found.0 found.1) }
-{
-    let end = end_of_either(first, second, third, fourth);
-    let mut at = from;
-    while at < end {
-        let word = either_at(first, second, third, fourth, at);
-        if word != 0 {
-            return Some((at, word));
-        }
-        at += 1;
     }
     None
 }
