@@ -1,5 +1,5 @@
 // A set of the numbers below a length, and the walks from member to member, up and down.
-ghost use Rattle.std.specs.Prelude.{◌≡◌, ℕ, ◌+◌, ◌*◌, ◌^◌, ◌<◌, ◌≤◌, ◌==◌, Bool, true, false, IfSome, MatchOption, OnOk, OnErr, if◌then◌else◌};
+ghost use Rattle.std.specs.Prelude.{◌≡◌, ℕ, ◌+◌, ◌*◌, ◌^◌, ◌<◌, ◌≤◌, ◌==◌, Bool, true, false, IfSome, MatchOption, OnOk, OnErr, IsOk, max, if◌then◌else◌};
 ghost use Rattle.number_set.specs.Next.{in_either, IsNext, IsPrevious};
 ghost use Rattle.number_set.specs.Walks.{IsNextWord};
 ghost use Rattle.number_set.specs.Words.{is_set};
@@ -119,13 +119,16 @@ impl NumberSet {
         }
     }
 
-    /// Makes the set at least so long, with no new member. Takes memory where it is shorter; linear in what is added. Out of
-    /// memory some of it may be added.
+    /// Makes a shorter set so long, with no new member, and leaves one that is as long or longer. Takes memory where it is
+    /// shorter; linear in what is added. Out of memory some of it may be added.
     ///
     /// Own.
     pub fn lengthen(&mut self, len: usize) -> Result<(), AllocError>
         ensures long { OnOk result (len ≤ self.new.len) }
         ensures no_shorter { self.old.len ≤ self.new.len }
+        ensures no_longer { self.new.len ≤ max self.old.len len }
+        ensures exact { OnOk result (self.new.len ≡ max self.old.len len) }
+        ensures already { len ≤ self.old.len → IsOk result }
         ensures members { (n : ℕ) → self.new.has n ≡ self.old.has n }
     {
         while self.len() < len {
