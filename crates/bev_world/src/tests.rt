@@ -1,7 +1,9 @@
-// What the boxes of callbacks do to a world, and that each call answers. The worlds are lent, so that each is let go at one place.
-ghost use Rattle.std.specs.Prelude.{◌≡◌, ⊤, [], MatchOption};
+// What the boxes of callbacks do to a world, what passes a filter, and that each call answers. The worlds are lent, so that each is let go at one place.
+ghost use Rattle.std.specs.Prelude.{◌≡◌, ⊤, [], false, None, IfOk, MatchOption};
 ghost use Rattle.bev_world.specs.Batches.{IsIdle};
+ghost use Rattle.bev_world.specs.Halves.{other_half};
 ghost use Rattle.bev_world.specs.Runs.{IsLevel};
+ghost use Rattle.bev_world.specs.WorldValue.{slot_at};
 
 use super::*;
 use std::alloc::Global;
@@ -142,6 +144,76 @@ fn filtered(world: &mut World) -> Result<Result<BevId, WorldFault>, WorldFault> 
     Ok(world.new_filter(under, FilterKind::None, FilterKind::None))
 }
 
+fn input(world: &World, id: BevId) -> [u8; 4] {
+    let mut into = *b"....";
+    let _count = world.peek(id, &mut into);
+    into
+}
+
+/// A filter over a new socket, with what is sure of it for a `write` and a first step.
+fn over_socket(
+    world: &mut World,
+    input: FilterKind,
+    output: FilterKind,
+) -> Result<(BevId, BevId), WorldFault>
+    ensures reading { IfOk result (λ ids. (slot_at world.new ids.1.0).read_filter.finished ≡ false) }
+    ensures writing { IfOk result (λ ids. (slot_at world.new ids.1.0).write_filter.finished ≡ false) }
+    ensures no_half { IfOk result (λ ids. other_half world.new ids.1.0 ≡ None) }
+{
+    let under = world.new_socket()?;
+    let over = world.new_filter(under, input, output)?;
+    Ok((under, over))
+}
+
+/// A step of a filter that isn't finished.
+fn pass_once(
+    world: &mut World,
+    over: BevId,
+    dir: Dir,
+    limit: usize,
+    mode: Mode,
+) -> Result<Step, WorldFault>
+    requires reading { (slot_at world.old over.0).read_filter.finished ≡ false }
+    requires writing { (slot_at world.old over.0).write_filter.finished ≡ false }
+{
+    world.pass(over, dir, limit, mode)
+}
+
+/// The answer of a step, the first bytes where they come to, and those where they came from.
+type Passage = (Result<Step, WorldFault>, [u8; 4], [u8; 4]);
+
+/// What a socket brought goes up through a filter.
+fn read_through(
+    world: &mut World,
+    kind: FilterKind,
+    bytes: &[u8],
+    limit: usize,
+    mode: Mode,
+) -> Result<Passage, WorldFault> {
+    let (under, over) = over_socket(world, kind, FilterKind::None)?;
+    world.feed(under, bytes, 5)?;
+    let answer = pass_once(world, over, Dir::Read, limit, mode);
+    Ok((answer, input(world, over), input(world, under)))
+}
+
+/// What is written goes down through a filter.
+fn written_through(
+    world: &mut World,
+    kind: FilterKind,
+    bytes: &[u8],
+    limit: usize,
+    mode: Mode,
+) -> Result<Passage, WorldFault> {
+    let (under, over) = over_socket(world, FilterKind::None, kind)?;
+    world.write(over, bytes)?;
+    let answer = pass_once(world, over, Dir::Write, limit, mode);
+    Ok((answer, output(world, under), output(world, over)))
+}
+
+const fn went(used: usize, finished: bool) -> Result<Step, WorldFault> {
+    Ok(Step { used, finished })
+}
+
 /// Identifiers as they are made: for notes, and three that are due.
 const NOTES: BevId = BevId(0);
 
@@ -173,5 +245,23 @@ fn each_call_answers(rt: HostRuntime) -> Result<(), Fail> {
     assert_eq!(rt; brought, Ok((*b"abc.", 2)));
     assert_eq!(rt; halved, Ok((2, *b"01", *b"....")));
     assert_eq!(rt; filtered, Ok(Err(WorldFault::Taken)));
+    Ok(())
+}
+
+#[test]
+fn bytes_pass_a_filter_up_and_down(rt: HostRuntime) -> Result<(), Fail> {
+    let mut world = World::new(rt.alloc());
+    let (last, more) = (Mode::Finished, Mode::Normal);
+    let lines = read_through(&mut world, FilterKind::ToCrlf, b"a\nb", 8, last);
+    let cut = read_through(&mut world, FilterKind::ToCrlf, b"\n\n\n", 3, more);
+    let bad = read_through(&mut world, FilterKind::HexIn, b"414g", 8, more);
+    let hex = written_through(&mut world, FilterKind::HexOut, b"hi", 8, last);
+    let bent = written_through(&mut world, FilterKind::HexIn, b"414", 8, last);
+    drop(world);
+    assert_eq!(rt; lines, Ok((went(3, true), *b"a\r\nb", *b"....")));
+    assert_eq!(rt; cut, Ok((went(2, false), *b"\r\n\r\n", *b"\n...")));
+    assert_eq!(rt; bad, Ok((Err(WorldFault::Filter(3)), *b"A...", *b"g...")));
+    assert_eq!(rt; hex, Ok((went(2, true), *b"6869", *b"....")));
+    assert_eq!(rt; bent, Ok((Err(WorldFault::Filter(3)), *b"A...", *b"....")));
     Ok(())
 }
