@@ -5,7 +5,7 @@ ghost use Rattle.ev_types.specs.declared.status.Status.TheVariants.{BadScript, S
 ghost use Rattle.stream_words.specs.Faults.{Rose};
 ghost use Rattle.stream_words.specs.Streams.{TookOn};
 ghost use Rattle.run_end.specs.EndStatus.{complaint, status_number};
-ghost use Rattle.run_end.specs.Complains.{Complains};
+ghost use Rattle.run_end.specs.Complains.{Complains, TookPart};
 
 use crate::output::{WriteFailed, write_text};
 use crate::status::process_status;
@@ -16,6 +16,8 @@ use itoa::Buffer;
 /// Writes the line of a status, which is nothing of a run that went well. Takes no memory.
 pub fn complain<E: Sink>(errors: &mut E, status: Status) -> Result<(), WriteFailed>
     ensures whole { OnOk result (TookOn (E.taken errors.old) (E.taken errors.new) (complaint status)) }
+    ensures calm { OnOk result (E.faults errors.new ≡ E.faults errors.old) }
+    ensures prefix { OnErr result (TookPart (E.taken errors.old) (E.taken errors.new) (complaint status)) }
     ensures fault { OnErr result (Rose (E.faults errors.old) (E.faults errors.new)) }
 {
     match status {
@@ -35,6 +37,8 @@ pub fn complain<E: Sink>(errors: &mut E, status: Status) -> Result<(), WriteFail
 
 fn complain_of_line<E: Sink>(errors: &mut E, line: u32) -> Result<(), WriteFailed>
     ensures whole { OnOk result (TookOn (E.taken errors.old) (E.taken errors.new) (complaint (BadScript line))) }
+    ensures calm { OnOk result (E.faults errors.new ≡ E.faults errors.old) }
+    ensures prefix { OnErr result (TookPart (E.taken errors.old) (E.taken errors.new) (complaint (BadScript line))) }
     ensures fault { OnErr result (Rose (E.faults errors.old) (E.faults errors.new)) }
 {
     write_number(errors, "bad script: line ", line)?;
@@ -43,6 +47,8 @@ fn complain_of_line<E: Sink>(errors: &mut E, line: u32) -> Result<(), WriteFaile
 
 fn complain_of_stop<E: Sink>(errors: &mut E, link: u32, turn: u32) -> Result<(), WriteFailed>
     ensures whole { OnOk result (TookOn (E.taken errors.old) (E.taken errors.new) (complaint (Stopped link turn))) }
+    ensures calm { OnOk result (E.faults errors.new ≡ E.faults errors.old) }
+    ensures prefix { OnErr result (TookPart (E.taken errors.old) (E.taken errors.new) (complaint (Stopped link turn))) }
     ensures fault { OnErr result (Rose (E.faults errors.old) (E.faults errors.new)) }
 {
     write_number(errors, "stopped: link ", link)?;
@@ -54,6 +60,7 @@ fn complain_of_stop<E: Sink>(errors: &mut E, link: u32, turn: u32) -> Result<(),
 fn write_number<E: Sink>(errors: &mut E, text: &str, number: u32) -> Result<(), WriteFailed>
     ensures whole { OnOk result (TookOn (E.taken errors.old) (E.taken errors.new) (text.now ++ decimal number)) }
     ensures calm { OnOk result (E.faults errors.new ≡ E.faults errors.old) }
+    ensures prefix { OnErr result (TookPart (E.taken errors.old) (E.taken errors.new) (text.now ++ decimal number)) }
     ensures fault { OnErr result (Rose (E.faults errors.old) (E.faults errors.new)) }
 {
     let mut buffer = Buffer::new();
