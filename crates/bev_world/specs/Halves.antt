@@ -1,5 +1,5 @@
 -- Bytes that are written to a bufferevent and taken from it, and what then goes from one half of a pair to the other.
-use Rattle.std.specs.Prelude.{◌≡◌, ℕ, ◌+◌, ◌-◌, ◌&&◌, min, if◌then◌else◌, nat_lt, List, length, take, Option, Some, None}
+use Rattle.std.specs.Prelude.{◌≡◌, ℕ, ◌+◌, ◌-◌, ◌&&◌, ◌≤◌, min, if◌then◌else◌, nat_lt, List, length, take, Option, Some, None}
 use Rattle.std.specs.Option.{option_or}
 use Rattle.token_bucket.specs.declared.limit.Dir.TheVariants.{Read, Write}
 use Rattle.ev_types.specs.declared.why.Why.TheVariants as why
@@ -76,7 +76,8 @@ TakenFrom (Some other) w n count new =
 -- what is spare in the input of the other half may be more, and nothing else is other
 abbrev pub Roomier : Option ℕ → WorldValue → WorldValue → Type 0
 Roomier None w new = new ≡ w
-Roomier (Some other) w new = new ≡ with_spare w other (bev_at new other).input.spare
+Roomier (Some other) w new =
+    (new ≡ with_spare w other (bev_at new other).input.spare) × ((bev_at w other).input.spare ≤ (bev_at new other).input.spare)
 
 -- the output of a half, or what goes on to the input of the other, would get too long
 abbrev pub half_refusal : WorldValue → ℕ → ℕ → ℕ → Option WorldFault

@@ -156,6 +156,7 @@ impl World {
         ensures answer { AnswersOr Memory result None }
         ensures stays { self.new ≡ with_spare self.old at (bev_at self.new at).input.spare }
         ensures room { OnOk result (n ≤ (bev_at self.new at).input.spare) }
+        ensures kept { (bev_at self.old at).input.spare ≤ (bev_at self.new at).input.spare }
         ensures err { OnErr result (self.new ≡ self.old) }
     {
         Ok(self.slots[at].bev.reserve_input(n)?)

@@ -14,7 +14,7 @@ returns-in-Some-clause-went c =
     let found = c.in-Some.ensures.there in
     either-way c.write_half.result c.write_half.ensures.ok c.write_half.ensures.err
     (λ is. went_wrote w new c.in_ok-at.at c.in-Some.other c.args.bytes.now found.1 there found.0 is)
-    (λ is. went_spared w new c.in-Some.other _ found.0 is)
+    (λ is. went_spared w new c.in-Some.other _ found.0 is.0)
 
 pub returns-in-None-clause-went : goal.returns-in-None-clause-went
 returns-in-None-clause-went c =
