@@ -1,2 +1,3 @@
 pub mod WantMarkLemmas
 pub mod TableMarkLemmas
+pub mod HeardLemmas

@@ -1,5 +1,5 @@
 -- The listener: when it can be asked for a link, and after each call on it.
-use Rattle.std.specs.Prelude.{ℕ, Bool, true, false, ◌&&◌, nat_le, is_none, Option, Some, None, if◌then◌else◌}
+use Rattle.std.specs.Prelude.{◌≡◌, ℕ, Bool, true, false, ◌&&◌, nat_le, is_none, Option, Some, None, if◌then◌else◌}
 use Rattle.std.specs.declared.io.ErrorKind.{ErrorKind}
 use Rattle.std.specs.declared.io.ErrorKind.TheVariants as kind
 use Rattle.std.specs.declared.net.socket_addr.SocketAddr.TheVariants.{V4, V6}
@@ -7,7 +7,7 @@ use Rattle.std.specs.Net.Addr.{ipv4_octets}
 use Rattle.std.specs.Net.Socket.{v4_ip, v4_port}
 use Rattle.std.specs.declared.net.socket_addr.SocketAddr.{SocketAddr}
 use Rattle.mio.specs.declared.net.listener.TcpListener.{TcpListener}
-use Rattle.ev_port.specs.Counting.{risen_if}
+use Rattle.ev_port.specs.Counting.{counted, risen_if}
 use Rattle.ev_types.specs.declared.addr.Addr.{Addr}
 use Rattle.mio_port.specs.declared.door.Miss.{Miss}
 use Rattle.mio_port.specs.declared.door.Miss.TheVariants as miss
@@ -36,6 +36,23 @@ after_time d time = record d { paused_to = pause_after d.paused_to time }
 -- it met one more fault
 abbrev pub faulty_door : Door → Door
 faulty_door d = record d { faults = risen_if true d.faults }
+
+-- paused for 100 milliseconds from this time on
+abbrev pub paused_door : Door → ℕ → Door
+paused_door d time = record d { paused_to = Some (counted time 100) }
+
+-- it was asked for a link at this time and gave none: it isn't ready where none waits, and paused where the system is short
+abbrev pub missed_door : Door → Miss → ℕ → Door
+missed_door d miss.NoneWaits time = record d { ready = false }
+missed_door d miss.Again time = d
+missed_door d miss.Scarce time = paused_door d time
+missed_door d miss.Failed time = faulty_door d
+
+-- a poll that ended at this time ends a pause that is over, and may tell that a link waits
+pub record DoorHeard (old new : Door) (time : ℕ) : Type 0 where
+  pub rest : new ≡ record old { ready = new.ready; paused_to = new.paused_to }
+  pub ready : old.ready ≡ true → new.ready ≡ true
+  pub paused : new.paused_to ≡ pause_after old.paused_to time
 
 -- what an error of an accept says: none waits, another may wait, the system is short of something, or it failed
 abbrev pub miss_of_kind : ErrorKind → Bool → Miss

@@ -7,4 +7,6 @@ pub mod Door
 pub mod Waiting
 pub mod PortFaults
 pub mod EndAnswers
+pub mod EndLeft
 pub mod PortCalls
+pub mod PollLeft

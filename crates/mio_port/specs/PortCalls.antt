@@ -1,6 +1,6 @@
 -- What each call of the port says beyond what every port says: which ends stand where, and what is answered for one that
 -- isn't there.
-use Rattle.std.specs.Prelude.{◌≡◌, ◌≢◌, ℕ, ◌+◌, ◌*◌, ⊤, Bool, true, false, ◌&&◌, List, [], map, filter, Option, Some, None, Result, Ok, Err, is_some, MatchOption, slice_index_or}
+use Rattle.std.specs.Prelude.{◌≡◌, ◌≢◌, ◌⊎◌, ℕ, ◌+◌, ◌*◌, ⊤, Bool, true, false, ◌&&◌, List, [], map, filter, Option, Some, None, Result, Ok, Err, is_some, MatchOption, slice_index_or}
 use Rattle.ev_types.specs.declared.addr.Addr.{Addr}
 use Rattle.ev_port.specs.declared.port.Accepted.{Accepted}
 use Rattle.ev_port.specs.declared.port.Accepted.TheVariants as accepted
@@ -12,8 +12,9 @@ use Rattle.ev_port.specs.declared.port.Want.{Want}
 use Rattle.ev_port.specs.Table.{WantsValue, is_marked, named}
 use Rattle.mio_port.specs.declared.door.Door.{Door}
 use Rattle.mio_port.specs.declared.door.Miss.{Miss}
+use Rattle.mio_port.specs.declared.door.Miss.TheVariants as miss
 use Rattle.mio_port.specs.declared.end.End.{End}
-use Rattle.mio_port.specs.Door.{addr_of, is_open}
+use Rattle.mio_port.specs.Door.{addr_of, is_open, faulty_door, paused_door}
 use Rattle.mio_port.specs.EndPlaces.{PlacesStay, holds, marked, unmarked}
 
 -- Starting
@@ -54,6 +55,20 @@ MadeLink old new link (accepted.Link connected) =
 MadeLink old new link accepted.NotYet = PlacesStay old new
 MadeLink old new link accepted.Failed = PlacesStay old new
 MadeLink old new link accepted.NoMemory = PlacesStay old new
+
+-- what is answered where no link was made
+abbrev pub missed_answer : Miss → Accepted
+missed_answer miss.NoneWaits = accepted.NotYet
+missed_answer miss.Again = accepted.NotYet
+missed_answer miss.Scarce = accepted.NotYet
+missed_answer miss.Failed = accepted.Failed
+
+-- The listener behind an accept: only one that found none may leave it not ready, or paused from this time on.
+abbrev pub DoorAsked : Door → Door → ℕ → Accepted → Type 0
+DoorAsked old new time (accepted.Link connected) = new ≡ old
+DoorAsked old new time accepted.NotYet = (new ≡ old) ⊎ ((new ≡ record old { ready = false }) ⊎ (new ≡ paused_door old time))
+DoorAsked old new time accepted.Failed = new ≡ faulty_door old
+DoorAsked old new time accepted.NoMemory = new ≡ old
 
 -- two ends that were just made met no fault
 abbrev pub HasNoFault : Result (End × End) Miss → Type 0

@@ -5,6 +5,7 @@ ghost use Rattle.ev_port.specs.Ends.{ReadWithin, is_failed_read, WriteWithin, is
 ghost use Rattle.mio.specs.Event as event;
 ghost use Rattle.mio_port.specs.Attempts.{AttemptBy, CheckBy, check_of, read_answer, write_answer, check_answer};
 ghost use Rattle.mio_port.specs.EndAnswers.{ReadBy, WrittenBy, CheckedBy};
+ghost use Rattle.mio_port.specs.EndLeft.{ReadLeft, WriteLeft, CheckLeft};
 ghost use Rattle.mio_port.specs.OneEnd.{fresh, read_end, written_end, checked_end, noticed_end, closed_end};
 
 use crate::attempt::{Attempt, attempt_of};
@@ -165,6 +166,7 @@ impl End {
         ensures cause { Counted self.old.faults self.new.faults (is_failed_read result) }
         ensures other_way { self.new.write_ready ≡ self.old.write_ready }
         ensures by { ReadBy (Some self.old.connection) result }
+        ensures left { ReadLeft (length into.old) result self.old self.new }
     {
         let attempt = self.connection.read(into);
         self.take_read(attempt, into.len())
@@ -201,6 +203,7 @@ impl End {
         ensures cause { Counted self.old.faults self.new.faults (is_failed_write result) }
         ensures other_way { self.new.read_ready ≡ self.old.read_ready }
         ensures by { WrittenBy (Some self.old.connection) result }
+        ensures left { WriteLeft (length from.now) result self.old self.new }
     {
         let attempt = self.connection.write(from);
         self.take_write(attempt, from.len())
@@ -231,6 +234,7 @@ impl End {
         ensures cause { Counted self.old.faults self.new.faults (is_failed_conn result) }
         ensures other_way { self.new.read_ready ≡ self.old.read_ready }
         ensures by { CheckedBy (Some self.old.connection) result }
+        ensures left { CheckLeft result self.old self.new }
         ensures failed { result ≡ ConnAnswer.Failed → self.new.connection ≡ Connection.Refused }
     {
         let check = self.connection.check();

@@ -1,12 +1,13 @@
 // The ends of all links, by their numbers, and the numbers of those that are ready. An end stays once it is made, and its
 // count of faults with it.
-ghost use Rattle.std.specs.Prelude.{◌≡◌, ◌<◌, ◌≤◌, ◌==◌, ◌+◌, ◌*◌, ℕ, [], None, length, map, filter, slice_index_or, vec_len, OnOk, false, true, option_map, if◌then◌else◌};
+ghost use Rattle.std.specs.Prelude.{◌≡◌, ◌<◌, ◌≤◌, ◌==◌, ◌+◌, ◌*◌, ℕ, [], None, Some, length, map, filter, slice_index_or, vec_len, OnOk, false, true, option_map, if◌then◌else◌};
 ghost use Rattle.std.specs.List.{list_any};
 ghost use Rattle.stream_words.specs.Faults.{Counted};
 ghost use Rattle.ev_port.specs.Table.{RowsStay, is_marked, named};
 ghost use Rattle.ev_port.specs.Ends.{ReadWithin, is_failed_read, WriteWithin, is_failed_write, is_failed_conn};
 ghost use Rattle.ev_types.specs.Sides.{number};
 ghost use Rattle.mio_port.specs.EndAnswers.{connection_of, connection_at, ReadBy, WrittenBy, CheckedBy};
+ghost use Rattle.mio_port.specs.EndLeft.{LeftAt, PlaceLeft, ReadLeft, WriteLeft, CheckLeft};
 ghost use Rattle.mio_port.specs.PortCalls.{OthersStay};
 ghost use Rattle.mio_port.specs.OneEnd.{noticed_end, closed_end};
 ghost use Rattle.mio_port.specs.EndPlaces.{faults_of, CountsStay, CountsAt, PlacesStay, PlaceWent, holds, is_made, is_read_ready, is_write_ready, can_read, can_write, wants_ready, marked, unmarked};
@@ -58,6 +59,7 @@ fn read_at(place: &mut Option<End>, into: &mut [u8]) -> ReadAnswer
     ensures within { ReadWithin result (length into.new) }
     ensures cause { Counted (faults_of place.old) (faults_of place.new) (is_failed_read result) }
     ensures by { ReadBy (connection_of place.old) result }
+    ensures left { LeftAt (ReadLeft (length into.old) result) place.old place.new }
 {
     match place {
         Some(end) => end.read(into),
@@ -70,6 +72,7 @@ fn write_at(place: &mut Option<End>, from: &[u8]) -> WriteAnswer
     ensures within { WriteWithin result (length from.now) }
     ensures cause { Counted (faults_of place.old) (faults_of place.new) (is_failed_write result) }
     ensures by { WrittenBy (connection_of place.old) result }
+    ensures left { LeftAt (WriteLeft (length from.now) result) place.old place.new }
 {
     match place {
         Some(end) => end.write(from),
@@ -80,6 +83,7 @@ fn write_at(place: &mut Option<End>, from: &[u8]) -> WriteAnswer
 fn check_at(place: &mut Option<End>) -> ConnAnswer
     ensures cause { Counted (faults_of place.old) (faults_of place.new) (is_failed_conn result) }
     ensures by { CheckedBy (connection_of place.old) result }
+    ensures left { LeftAt (CheckLeft result) place.old place.new }
 {
     match place {
         Some(end) => end.check(),
@@ -174,6 +178,8 @@ impl Ends {
         ensures counts { CountsStay self.old.ends.items self.new.ends.items }
         ensures made { holds self.new.ends.items link ≡ true }
         ensures others { OthersStay self.old.ends.items self.new.ends.items link }
+        ensures near { slice_index_or self.new.ends.items (2 * link) None ≡ Some inside }
+        ensures far { slice_index_or self.new.ends.items (2 * link + 1) None ≡ Some outside }
     {
         let near = in_end(link).number();
         let far = out_end(link).number();
@@ -254,6 +260,7 @@ impl Ends {
         ensures within { ReadWithin result (length into.new) }
         ensures cause { CountsAt self.old.ends.items self.new.ends.items side (is_failed_read result) }
         ensures by { ReadBy (connection_at self.old.ends.items side) result }
+        ensures left { PlaceLeft self.old.ends.items self.new.ends.items (number side) (ReadLeft (length into.old) result) }
     {
         let number = side.number();
         let Some(place) = self.ends.get_mut(number) else {
@@ -269,6 +276,7 @@ impl Ends {
         ensures within { WriteWithin result (length from.now) }
         ensures cause { CountsAt self.old.ends.items self.new.ends.items side (is_failed_write result) }
         ensures by { WrittenBy (connection_at self.old.ends.items side) result }
+        ensures left { PlaceLeft self.old.ends.items self.new.ends.items (number side) (WriteLeft (length from.now) result) }
     {
         let number = side.number();
         let Some(place) = self.ends.get_mut(number) else {
@@ -282,6 +290,7 @@ impl Ends {
     pub(crate) fn check(&mut self, side: SideId) -> ConnAnswer
         ensures cause { CountsAt self.old.ends.items self.new.ends.items side (is_failed_conn result) }
         ensures by { CheckedBy (connection_at self.old.ends.items side) result }
+        ensures left { PlaceLeft self.old.ends.items self.new.ends.items (number side) (CheckLeft result) }
     {
         let number = side.number();
         let Some(place) = self.ends.get_mut(number) else {

@@ -1,6 +1,7 @@
 // The kernel's reports: what is watched, how often it is asked, and what it told.
 ghost use Rattle.std.specs.Prelude.{◌≡◌, ◌<◌, true, false, is_some, IfOk, OnOk};
 ghost use Rattle.mio_port.specs.OneEnd.{fresh};
+ghost use Rattle.mio_port.specs.EndLeft.{AllHeard};
 ghost use Rattle.mio_port.specs.EndPlaces.{CountsStay};
 ghost use Rattle.mio_port.specs.Waiting.{looks_after, is_due, cut_to};
 
@@ -112,6 +113,9 @@ impl Kernel {
     pub(crate) fn tell(&self, ends: &mut Ends, door: &mut Door)
         ensures ends { CountsStay ends.old.ends.items ends.new.ends.items }
         ensures door { door.new.faults ≡ door.old.faults }
+        ensures heard { AllHeard ends.old.ends.items ends.new.ends.items }
+        ensures listener { door.new ≡ record door.old { ready = door.new.ready } }
+        ensures waits { door.old.ready ≡ true → door.new.ready ≡ true }
     {
         for event in &self.events {
             if event.token() == LISTENER {

@@ -1,6 +1,6 @@
 // The port over real sockets. Its parts keep the ends, the listener, the kernel's reports and the clock; here stands what
 // each call of a port does with them, and which count of faults it raises.
-ghost use Rattle.std.specs.Prelude.{◌≡◌, ◌<◌, ◌≤◌, ⊤, [], true, false, length, is_some, is_none, None, MatchResult};
+ghost use Rattle.std.specs.Prelude.{◌≡◌, ◌<◌, ◌≤◌, ◌-◌, ⊤, [], true, false, length, is_some, is_none, None, option_map, MatchResult};
 ghost use Rattle.ev_types.specs.Sides.{number};
 ghost use Rattle.ev_port.specs.Silent.{silent_port, silent_end};
 ghost use Rattle.ev_port.specs.Vouching.{LongerBy, NothingWaits};
@@ -11,9 +11,12 @@ ghost use Rattle.ev_port.specs.Polling.{is_failed_poll, opens_accepting, AllMark
 ghost use Rattle.ev_port.specs.Table.{RowsStay, TablePolled};
 ghost use Rattle.ev_port.specs.Ends.{is_failed_conn, conn_step, conn_events, ReadWithin, is_failed_read, read_step, read_events, WriteWithin, is_failed_write, write_step, write_events, close_write_events, close_events, close_write_step, close_step};
 ghost use Rattle.mio_port.specs.EndAnswers.{connection_at, ReadBy, WrittenBy, CheckedBy};
+ghost use Rattle.mio_port.specs.Door.{after_time, missed_door, paused_door, shut_door};
+ghost use Rattle.mio_port.specs.EndLeft.{AllHeard, CheckLeft, IsNewOut, IsNewPair, NewEnds, PlaceLeft, ReadLeft, WriteLeft};
 ghost use Rattle.mio_port.specs.OneEnd.{closed_end};
 ghost use Rattle.mio_port.specs.EndPlaces.{PlacesStay, PlaceWent};
-ghost use Rattle.mio_port.specs.PortCalls.{Listens, Marked, MarkedTable, Accepts, MadeLink, HasNoFault, IsNoLink};
+ghost use Rattle.mio_port.specs.PollLeft.{PollLeft};
+ghost use Rattle.mio_port.specs.PortCalls.{Listens, Marked, MarkedTable, Accepts, MadeLink, HasNoFault, IsNoLink, DoorAsked, missed_answer};
 ghost use Rattle.mio_port.specs.PortFaults.{IsFaultless, mio_faults, vouches_nothing, waits_untold};
 
 use crate::clock::SteadyClock;
@@ -74,7 +77,11 @@ impl<'a, R: Net + Clock + AllocGlobal> MioPort<'a, R> {
     /// A port that listens nowhere, has no end and met no fault. It makes no socket and takes no memory. Its clock begins
     /// here.
     pub fn new(rt: &'a R) -> MioPort<'a, R>
-        ensures { IsFaultless (mio_faults result) }
+        ensures faultless { IsFaultless (mio_faults result) }
+        ensures listener { result.door ≡ shut_door 0 }
+        ensures ends { result.ends.ends.items ≡ [] }
+        ensures kernel { result.kernel ≡ None }
+        ensures clock { result.clock.last ≡ 0 }
     {
         MioPort {
             rt,
@@ -99,6 +106,9 @@ impl<'a, R: Net + Clock + AllocGlobal> MioPort<'a, R> {
         ensures polling { self.new.polling_faults ≡ self.old.polling_faults }
         ensures ends { self.new.ends ≡ self.old.ends }
         ensures listens { MatchResult result (λ _. Listens self.new.door to Started.Started) (λ _. Listens self.new.door to Started.Failed) }
+        ensures quiet { self.new.door.ready ≡ false }
+        ensures unpaused { self.new.door.paused_to ≡ None }
+        ensures clock { self.new.clock ≡ self.old.clock }
     {
         self.door.shut();
         let kernel = match self.kernel.take() {
@@ -114,6 +124,7 @@ impl<'a, R: Net + Clock + AllocGlobal> MioPort<'a, R> {
     // A poll, with what it marks.
     fn ready_for(&mut self, wants: &mut [Want], accept: bool, timeout: Option<u64>) -> Polled
         ensures marked { Marked self.new.ends.ends.items wants.old wants.new result }
+        ensures left { PollLeft self.old self.new result }
         ensures asked { Accepts self.new.door accept result }
         ensures cause { PollFaults (mio_faults self.old) (mio_faults self.new) (is_failed_poll result) }
     {
@@ -134,6 +145,7 @@ impl<'a, R: Net + Clock + AllocGlobal> MioPort<'a, R> {
         timeout: Option<u64>,
     ) -> Polled
         ensures marked { MarkedTable self.new.ends.ends.items wants.old wants.new result }
+        ensures left { PollLeft self.old self.new result }
         ensures rows { RowsStay wants.old wants.new }
         ensures asked { Accepts self.new.door accept result }
         ensures cause { PollFaults (mio_faults self.old) (mio_faults self.new) (is_failed_poll result) }
@@ -149,6 +161,7 @@ impl<'a, R: Net + Clock + AllocGlobal> MioPort<'a, R> {
 
     // What every poll does before anything is marked, and its answer. It doesn't wait where something wanted is ready.
     fn wait(&mut self, is_any_ready: bool, accept: bool, timeout: Option<u64>) -> Polled
+        ensures left { PollLeft self.old self.new result }
         ensures asked { Accepts self.new.door accept result }
         ensures cause { PollFaults (mio_faults self.old) (mio_faults self.new) (is_failed_poll result) }
     {
@@ -171,7 +184,12 @@ impl<'a, R: Net + Clock + AllocGlobal> MioPort<'a, R> {
 
     // Whether the kernel could be asked, if it was.
     fn look(&mut self, is_any: bool, timeout: Option<u64>) -> bool
-        ensures { FaultsStay (mio_faults self.old) (mio_faults self.new) }
+        ensures cause { FaultsStay (mio_faults self.old) (mio_faults self.new) }
+        ensures heard { AllHeard self.old.ends.ends.items self.new.ends.ends.items }
+        ensures listener { self.new.door ≡ record self.old.door { ready = self.new.door.ready } }
+        ensures waits { self.old.door.ready ≡ true → self.new.door.ready ≡ true }
+        ensures clock { self.new.clock ≡ self.old.clock }
+        ensures unstarted { is_none self.old.kernel ≡ true → result ≡ false }
     {
         let Some(kernel) = &mut self.kernel else {
             return false;
@@ -188,6 +206,10 @@ impl<'a, R: Net + Clock + AllocGlobal> MioPort<'a, R> {
 
     // Ends a pause that is over, and gives what is left of one that isn't.
     fn pause_left(&mut self) -> Option<u64>
+        ensures listener { self.new.door ≡ after_time self.old.door self.new.clock.last }
+        ensures left { result ≡ option_map (λ to. to - self.new.clock.last) self.new.door.paused_to }
+        ensures steady { self.old.clock.last ≤ self.new.clock.last }
+        ensures kernel { self.new.kernel ≡ self.old.kernel }
         ensures faults { self.new.door.faults ≡ self.old.door.faults }
         ensures polling { self.new.polling_faults ≡ self.old.polling_faults }
         ensures ends { self.new.ends ≡ self.old.ends }
@@ -202,7 +224,8 @@ impl<'a, R: Net + Clock + AllocGlobal> MioPort<'a, R> {
     fn pause(&mut self)
         ensures faults { self.new.door.faults ≡ self.old.door.faults }
         ensures polling { self.new.polling_faults ≡ self.old.polling_faults }
-        ensures paused { is_some self.new.door.paused_to ≡ true }
+        ensures paused { self.new.door ≡ paused_door self.old.door self.new.clock.last }
+        ensures steady { self.old.clock.last ≤ self.new.clock.last }
         ensures ends { self.new.ends ≡ self.old.ends }
     {
         let time = self.clock.read(self.rt);
@@ -212,6 +235,8 @@ impl<'a, R: Net + Clock + AllocGlobal> MioPort<'a, R> {
     // Asks for a connection only while a descriptor is kept for its other end.
     fn pair(&mut self, link: u32) -> Result<(End, End), Miss>
         ensures pair { HasNoFault result }
+        ensures made { IsNewPair result }
+        ensures clock { self.new.clock ≡ self.old.clock }
         ensures ends { self.new.ends ≡ self.old.ends }
         ensures door { self.new.door ≡ self.old.door }
         ensures polling { self.new.polling_faults ≡ self.old.polling_faults }
@@ -237,6 +262,9 @@ impl<'a, R: Net + Clock + AllocGlobal> MioPort<'a, R> {
     fn refuse(&mut self, why: Miss) -> Accepted
         ensures cause { ListenerFaults (mio_faults self.old) (mio_faults self.new) (is_failed_accept result) }
         ensures none { IsNoLink result }
+        ensures answer { result ≡ missed_answer why }
+        ensures listener { self.new.door ≡ missed_door self.old.door why self.new.clock.last }
+        ensures steady { self.old.clock.last ≤ self.new.clock.last }
         ensures ends { self.new.ends ≡ self.old.ends }
     {
         match why {
@@ -254,7 +282,8 @@ impl<'a, R: Net + Clock + AllocGlobal> MioPort<'a, R> {
 
 // A connection to the target that is begun, or an end that was refused.
 fn outside<R: Net>(rt: &R, kernel: &mut Kernel, target: Option<SocketAddr>, number: usize) -> End
-    ensures { result.faults ≡ 0 }
+    ensures faultless { result.faults ≡ 0 }
+    ensures made { IsNewOut result }
 {
     let Some(target) = target else {
         return End::refused();
@@ -306,7 +335,10 @@ impl<'a, R: Net + Clock + AllocGlobal> Port for MioPort<'a, R> {
 
     fn start(&mut self, listen: Addr, to: Addr) -> Started
         ensures listens { Listens self.new.door to result }
+        ensures quiet { self.new.door.ready ≡ false }
+        ensures unpaused { self.new.door.paused_to ≡ None }
         ensures stays { self.new.ends ≡ self.old.ends }
+        ensures clock { self.new.clock ≡ self.old.clock }
 
         // What every port says.
         ensures cause { ListenerFaults (mio_faults self.old) (mio_faults self.new) (is_failed_start result) }
@@ -327,6 +359,7 @@ impl<'a, R: Net + Clock + AllocGlobal> Port for MioPort<'a, R> {
     fn now(&mut self) -> u64
         ensures steady { self.old.clock.last ≤ result }
         ensures kept { self.new.clock.last ≡ result }
+        ensures others { self.new ≡ record self.old { clock = self.new.clock } }
         ensures stays { self.new.ends ≡ self.old.ends }
 
         // What every port says.
@@ -341,6 +374,7 @@ impl<'a, R: Net + Clock + AllocGlobal> Port for MioPort<'a, R> {
     fn poll(&mut self, wants: &mut [Want], accept: bool, timeout: Option<u64>) -> Polled
         ensures marks { Marked self.new.ends.ends.items wants.old wants.new result }
         ensures accepts { Accepts self.new.door accept result }
+        ensures left { PollLeft self.old self.new result }
 
         // What every port says.
         ensures marked { AllMarked wants.old wants.new }
@@ -357,6 +391,7 @@ impl<'a, R: Net + Clock + AllocGlobal> Port for MioPort<'a, R> {
     fn poll_table(&mut self, wants: &mut WantTable, accept: bool, timeout: Option<u64>) -> Polled
         ensures marks { MarkedTable self.new.ends.ends.items wants.old wants.new result }
         ensures accepts { Accepts self.new.door accept result }
+        ensures left { PollLeft self.old self.new result }
 
         // What every port says.
         ensures rows { RowsStay wants.old wants.new }
@@ -371,6 +406,9 @@ impl<'a, R: Net + Clock + AllocGlobal> Port for MioPort<'a, R> {
 
     fn accept(&mut self, link: u32) -> Accepted
         ensures made { MadeLink self.old.ends.ends.items self.new.ends.ends.items link result }
+        ensures ends_made { NewEnds self.new.ends.ends.items link result }
+        ensures listener { DoorAsked self.old.door self.new.door self.new.clock.last result }
+        ensures steady { self.old.clock.last ≤ self.new.clock.last }
 
         // What every port says.
         ensures cause { ListenerFaults (mio_faults self.old) (mio_faults self.new) (is_failed_accept result) }
@@ -396,6 +434,8 @@ impl<'a, R: Net + Clock + AllocGlobal> Port for MioPort<'a, R> {
 
     fn connect_state(&mut self, end: SideId) -> ConnAnswer
         ensures by { CheckedBy (connection_at self.old.ends.ends.items end) result }
+        ensures left { PlaceLeft self.old.ends.ends.items self.new.ends.ends.items (number end) (CheckLeft result) }
+        ensures others { self.new ≡ record self.old { ends = self.new.ends } }
 
         // What every port says.
         ensures cause { EndFaults (mio_faults self.old) (mio_faults self.new) end (is_failed_conn result) }
@@ -409,6 +449,8 @@ impl<'a, R: Net + Clock + AllocGlobal> Port for MioPort<'a, R> {
     fn read(&mut self, end: SideId, into: &mut [u8]) -> ReadAnswer
         requires { 0 < length into.old }
         ensures by { ReadBy (connection_at self.old.ends.ends.items end) result }
+        ensures left { PlaceLeft self.old.ends.ends.items self.new.ends.ends.items (number end) (ReadLeft (length into.old) result) }
+        ensures others { self.new ≡ record self.old { ends = self.new.ends } }
 
         // What every port says.
         ensures within { ReadWithin result (length into.new) }
@@ -423,6 +465,8 @@ impl<'a, R: Net + Clock + AllocGlobal> Port for MioPort<'a, R> {
     fn write(&mut self, end: SideId, from: &[u8]) -> WriteAnswer
         requires { 0 < length from.now }
         ensures by { WrittenBy (connection_at self.old.ends.ends.items end) result }
+        ensures left { PlaceLeft self.old.ends.ends.items self.new.ends.ends.items (number end) (WriteLeft (length from.now) result) }
+        ensures others { self.new ≡ record self.old { ends = self.new.ends } }
 
         // What every port says.
         ensures within { WriteWithin result (length from.now) }
@@ -449,6 +493,7 @@ impl<'a, R: Net + Clock + AllocGlobal> Port for MioPort<'a, R> {
     fn close(&mut self, end: SideId)
         ensures gone { PlaceWent self.old.ends.ends.items self.new.ends.ends.items (number end) closed_end }
         ensures pause { self.new.door.paused_to ≡ None }
+        ensures others { self.new ≡ record self.old { ends = self.new.ends; door = record self.old.door { paused_to = None } } }
 
         // What every port says.
         ensures cause { FaultsStay (mio_faults self.old) (mio_faults self.new) }

@@ -1,10 +1,14 @@
-use Rattle.std.proofs.Common.{◌≡◌}
+use Rattle.std.proofs.Common.{◌≡◌, true}
+use Rattle.mio_port.specs.EndLeft.{AllHeard}
 use Rattle.mio_port.specs.EndPlaces.{CountsStay}
 use Rattle.mio_port.proofs.kernel.Kernel.tell.Given as goal
 
--- no report raises a count
+-- no report raises a count, or takes anything from an end or from the listener
 abbrev pub invariant-loop-event : goal.invariant-loop-event
 invariant-loop-event l = record {
   ends : CountsStay l.initial.ends.ends.items l.ends.ends.items;
   door : l.door.faults ≡ l.initial.door.faults;
+  heard : AllHeard l.initial.ends.ends.items l.ends.ends.items;
+  listener : l.door ≡ record l.initial.door { ready = l.door.ready };
+  waits : l.initial.door.ready ≡ true → l.door.ready ≡ true;
 }
