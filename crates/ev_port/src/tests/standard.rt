@@ -7,8 +7,8 @@ use std::io::{Error, ErrorKind, Read, Result, Write};
 /// How many calls are interrupted before each one that is answered.
 const INTERRUPTIONS: u32 = 1_000;
 
-/// Interrupts so many calls in a row, and answers the next one. The first answer moves at most two bytes, the second
-/// fails, and every other moves none.
+/// Interrupts so many calls in a row, and answers the next one. The first answer moves at most two bytes, and so does the third;
+/// the second fails, and every other moves none.
 #[derive(Drop)]
 struct Shaky {
     interrupted: u32,
@@ -33,7 +33,7 @@ impl Shaky {
         self.interrupted = 0;
         self.answers = self.answers.saturating_add(1);
         match self.answers {
-            1 => Ok(room.min(2)),
+            1 | 3 => Ok(room.min(2)),
             2 => Err(Error::from(ErrorKind::BrokenPipe)),
             _ => Ok(0),
         }
@@ -61,7 +61,7 @@ impl Write for Shaky {
 fn an_interrupted_read_is_made_again_and_again(rt: HostRuntime) {
     let mut source = StdSource::new(Shaky::new());
     let mut into = [0; 3];
-    for answer in [Taken::Got(2), Taken::Failed, Taken::Ended] {
+    for answer in [Taken::Got(2), Taken::Failed, Taken::Got(2), Taken::Ended] {
         assert_eq!(rt; source.read(&mut into), answer);
     }
     assert_eq!(rt; into, [7; 3]);
@@ -70,7 +70,7 @@ fn an_interrupted_read_is_made_again_and_again(rt: HostRuntime) {
 #[test]
 fn an_interrupted_write_is_made_again_and_again(rt: HostRuntime) {
     let mut sink = StdSink::new(Shaky::new());
-    for answer in [Given::Took(2), Given::Failed, Given::Failed] {
+    for answer in [Given::Took(2), Given::Failed, Given::Took(2), Given::Failed] {
         assert_eq!(rt; sink.write(b"abc"), answer);
     }
 }
