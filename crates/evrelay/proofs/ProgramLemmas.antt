@@ -1,15 +1,41 @@
--- What the program says where it ended before anything was done.
-use Rattle.std.proofs.Common.{◌⊎◌, inl, inr, ℕ, List, [], Option, Result, Ok, Err, IfOk}
-use Rattle.ev_types.specs.declared.status.Status.TheVariants as status
-use Rattle.run_end.specs.Complains.{Complains}
-use Rattle.evrelay.specs.Program.{Says}
+-- What the program says of its end, from what its writes came to.
+use Rattle.std.proofs.Common.{◌≡◌, ◌⊎◌, inl, inr, ℕ, true, if◌then◌else◌, List, [], ◌++◌, Option, subst, sym, ◌∙◌, ap}
+use Rattle.ev_types.specs.declared.entry.Entry.{Entry}
+use Rattle.ev_types.specs.declared.status.Status.{Status}
+use Rattle.stream_words.specs.Faults.{Rose}
+use Rattle.stream_words.specs.Streams.{TookOn}
+use Rattle.stream_words.proofs.StreamLemmas.{TookOn-join}
+use Rattle.run_end.specs.Complains.{Complains, TookPart}
+use Rattle.run_end.specs.EndStatus.{complaint}
+use Rattle.run_end.proofs.ComplaintLemmas.{part-first, part-second}
+use Rattle.evrelay.specs.Program.{shows, said, Says}
+use Rattle.evrelay.specs.RingText.{ring_text}
 
-pub if-ok : {A E : Type 0} (P : A → Type 0) (r : Result A E) → ((x : A) → P x) → IfOk r P
-if-ok P (Ok x) f = f x
-if-ok P (Err e) f = tt
+-- the lines of the entries stand in front of that of the status
+said-shown : (ended : Status) (es : List Entry) → shows ended ≡ true → ring_text es ++ complaint ended ≡ said ended es
+said-shown ended es shown = ap (λ b. (if b then ring_text es else []) ++ complaint ended) (sym shown)
 
--- the line alone is said where no entry is shown
-pub says-memory : (told now_told : Option (List ℕ)) (faults now_faults : ℕ) → Complains status.Memory told now_told faults now_faults →
-    Says status.Memory [] told now_told faults now_faults
-says-memory told now_told faults now_faults (inl h) = inl h
-says-memory told now_told faults now_faults (inr h) = inr (inr h)
+-- the lines were cut off
+pub says-cut : (ended : Status) (es : List Entry) (a b : Option (List ℕ)) (f g : ℕ) → shows ended ≡ true → TookPart a b (ring_text es) → Rose f g
+    → Says ended es a b f g
+says-cut ended es a b f g shown part rose =
+    inr (inl (subst (λ text. TookPart a b text) (said-shown ended es shown) (part-first a b (ring_text es) (complaint ended) part), rose))
+
+-- behind the lines, or where memory was wanting for them, the line of the status followed
+pub says-behind : (ended : Status) (es : List Entry) (a b c : Option (List ℕ)) (f m g : ℕ) → shows ended ≡ true
+    → TookOn a b (ring_text es) ⊎ (b ≡ a) → m ≡ f → Complains ended b c m g → Says ended es a c f g
+says-behind ended es a b c f m g shown (inl lines) calm (inl (line, still)) =
+    inl (subst (λ text. TookOn a c text) (said-shown ended es shown) (TookOn-join a b c (ring_text es) (complaint ended) lines line), still ∙ calm)
+says-behind ended es a b c f m g shown (inl lines) calm (inr (part, rose)) =
+    inr (inl (
+      subst (λ text. TookPart a c text) (said-shown ended es shown) (part-second a b c (ring_text es) (complaint ended) lines part),
+      subst (λ n. Rose n g) calm rose,
+    ))
+says-behind ended es a b c f m g shown (inr same) calm line =
+    inr (inr (subst (λ n. Complains ended a c n g) calm (subst (λ told. Complains ended told c m g) same line)))
+
+-- a sink that is as it was has taken nothing
+pub told-of : {K : Type 0} (taken : K → Option (List ℕ)) (old new : K) (text : List ℕ) → TookOn (taken old) (taken new) text ⊎ (new ≡ old)
+    → TookOn (taken old) (taken new) text ⊎ (taken new ≡ taken old)
+told-of taken old new text (inl h) = inl h
+told-of taken old new text (inr same) = inr (ap taken same)

@@ -1,12 +1,14 @@
 -- What the program says on standard error, and what it did, by the status with which it ended.
-use Rattle.std.specs.Prelude.{◌⊎◌, ℕ, Bool, true, false, if◌then◌else◌, List, [], ◌++◌, Option, None}
+use Rattle.std.specs.Prelude.{◌≡◌, ◌≢◌, ◌⊎◌, ℕ, Bool, true, false, if◌then◌else◌, List, [], ◌++◌, Option, None}
 use Rattle.ev_types.specs.declared.entry.Entry.{Entry}
 use Rattle.ev_types.specs.declared.status.Status.{Status}
 use Rattle.ev_types.specs.declared.status.Status.TheVariants as status
 use Rattle.stream_words.specs.Faults.{Rose}
 use Rattle.stream_words.specs.Streams.{TookOn}
 use Rattle.ev_port.specs.declared.port.Port as port
+use Rattle.ev_port.specs.declared.stream.Sink as sink
 use Rattle.relay_serve.specs.Seen.{Seen}
+use Rattle.run_end.specs.Complains.{Complains, TookPart}
 use Rattle.run_end.specs.EndStatus.{complaint}
 use Rattle.evrelay.specs.RingText.{ring_text}
 
@@ -24,7 +26,14 @@ shows ended = false
 abbrev pub said : Status → List Entry → List ℕ
 said ended entries = (if shows ended then ring_text entries else []) ++ complaint ended
 
--- That was said; or the line alone, where memory was wanting for the others; or the sink failed.
+-- That was said whole by a sink that did not fail, or in part by one that failed; or the line alone was, where memory was wanting for
+-- the others.
 abbrev pub Says : Status → List Entry → Option (List ℕ) → Option (List ℕ) → ℕ → ℕ → Type 0
 Says ended entries told now_told faults now_faults =
-    TookOn told now_told (said ended entries) ⊎ TookOn told now_told (complaint ended) ⊎ Rose faults now_faults
+    (TookOn told now_told (said ended entries) × (now_faults ≡ faults))
+    ⊎ (TookPart told now_told (said ended entries) × Rose faults now_faults)
+    ⊎ Complains ended told now_told faults now_faults
+
+-- Nothing was written of a report where memory ran out, and the sink failed only where the program ends for it.
+abbrev pub LeavesSink : {K : Type 0} → sink.Ghosts K → Status → K → K → Type 0
+LeavesSink g ended old new = (ended ≡ status.Memory → new ≡ old) × (ended ≢ status.WriteFault → g.faults new ≡ g.faults old)

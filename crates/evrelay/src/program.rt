@@ -2,6 +2,7 @@
 ghost use Rattle.std.specs.Prelude.{◌≡◌, ◌⊎◌, List, map, string_bytes, IfOk, IfErr, OnOk, OnErr};
 ghost use Rattle.ev_types.specs.declared.entry.Entry.{Entry};
 ghost use Rattle.ev_types.specs.declared.status.Status.{Status};
+ghost use Rattle.run_end.specs.Complains.{Complains, TookPart};
 ghost use Rattle.run_end.specs.EndStatus.{status_number, words_status};
 ghost use Rattle.relay_words.specs.ServeGrammar.{serve_words_of};
 ghost use Rattle.relay_serve.specs.Seen.{drained};
@@ -9,7 +10,7 @@ ghost use Rattle.relay_serve.specs.Served.{DidWith};
 ghost use Rattle.stream_words.specs.Faults.{Rose};
 ghost use Rattle.stream_words.specs.Streams.{TookOn};
 ghost use Rattle.evrelay.specs.RingText.{ring_text};
-ghost use Rattle.evrelay.specs.Program.{untold, shows, Says};
+ghost use Rattle.evrelay.specs.Program.{untold, shows, Says, LeavesSink};
 
 use crate::ring::Ring;
 use ev_port::{Port, Sink};
@@ -18,25 +19,6 @@ use relay_serve::serve;
 use run_end::{BadWords, WriteFailed, finish, process_status, write_text};
 use std::alloc::Global;
 use std::sync::Wait;
-
-/// Serves as its words say. Nothing is done where the words can't be read.
-fn serve_by<R: Wait, P: Port, K: Sink>(
-    rt: &R,
-    alloc: Global,
-    words: Result<Vec<String>, BadWords>,
-    port: &mut P,
-    ring: &mut Ring,
-    sink: &mut K,
-) -> Status
-    ensures served { IfOk words (λ all. DidWith (serve_words_of (map string_bytes all.items)) result
-        (untold P.Port port.old) (untold P.Port port.new) (drained K.Sink sink.old) (drained K.Sink sink.new)) }
-    ensures refused { IfErr words (λ bad. (result ≡ words_status bad) × (port.new ≡ port.old) × (sink.new ≡ sink.old)) }
-{
-    match words {
-        Ok(words) => serve(rt, alloc, &words, port, ring, sink),
-        Err(bad) => bad.status(),
-    }
-}
 
 /// Whether the last entries are shown after such an end.
 fn shows(ended: Status) -> bool
@@ -52,6 +34,7 @@ fn shows(ended: Status) -> bool
 fn show<E: Sink>(alloc: Global, errors: &mut E, ring: &Ring) -> Result<(), WriteFailed>
     ensures shown { OnOk result (TookOn (E.taken errors.old) (E.taken errors.new) (ring_text ring.now.entries.items) ⊎ (errors.new ≡ errors.old)) }
     ensures calm { OnOk result (E.faults errors.new ≡ E.faults errors.old) }
+    ensures prefix { OnErr result (TookPart (E.taken errors.old) (E.taken errors.new) (ring_text ring.now.entries.items)) }
     ensures fault { OnErr result (Rose (E.faults errors.old) (E.faults errors.new)) }
 {
     match ring.text(alloc) {
@@ -66,14 +49,38 @@ fn say<E: Sink>(alloc: Global, errors: &mut E, ended: Status, ring: &Ring) -> u8
     ensures number { result ≡ status_number ended }
     ensures said { Says ended ring.now.entries.items (E.taken errors.old) (E.taken errors.new) (E.faults errors.old) (E.faults errors.new) }
 {
-    if shows(ended) && show(alloc, errors, ring).is_err() {
-        return process_status(ended);
+    if !shows(ended) {
+        return finish(errors, ended);
     }
-    finish(errors, ended)
+    match show(alloc, errors, ring) {
+        Ok(()) => finish(errors, ended),
+        Err(_) => process_status(ended),
+    }
+}
+
+/// Relays as these words say, and says how that ended, where there is memory for the ring.
+fn relay_by<R: Wait, P: Port, K: Sink, E: Sink>(
+    rt: &R,
+    alloc: Global,
+    words: &[String],
+    port: &mut P,
+    sink: &mut K,
+    errors: &mut E,
+) -> u8
+    ensures served { (ended : Status) × (result ≡ status_number ended)
+        × DidWith (serve_words_of (map string_bytes words.now)) ended (untold P.Port port.old) (untold P.Port port.new) (drained K.Sink sink.old) (drained K.Sink sink.new)
+        × LeavesSink K.Sink ended sink.old sink.new
+        × ((entries : List Entry) × Says ended entries (E.taken errors.old) (E.taken errors.new) (E.faults errors.old) (E.faults errors.new)) }
+{
+    let Ok(mut ring) = Ring::new(alloc) else {
+        return finish(errors, Status::Memory);
+    };
+    let ended = serve(rt, alloc, words, port, &mut ring, sink);
+    say(alloc, errors, ended, &ring)
 }
 
 /// Relays as its words say, says on the last sink how that ended, and answers the status of the process. The words are those after
-/// the program's name, or why they can't be read. It may never return.
+/// the program's name, or why they can't be read: then that is said, and nothing else is done. It may never return.
 ///
 /// Own.
 pub fn relay_program<R: Wait, P: Port, K: Sink, E: Sink>(
@@ -86,12 +93,14 @@ pub fn relay_program<R: Wait, P: Port, K: Sink, E: Sink>(
 ) -> u8
     ensures served { IfOk words (λ all. (ended : Status) × (result ≡ status_number ended)
         × DidWith (serve_words_of (map string_bytes all.items)) ended (untold P.Port port.old) (untold P.Port port.new) (drained K.Sink sink.old) (drained K.Sink sink.new)
+        × LeavesSink K.Sink ended sink.old sink.new
         × ((entries : List Entry) × Says ended entries (E.taken errors.old) (E.taken errors.new) (E.faults errors.old) (E.faults errors.new))) }
-    ensures refused { IfErr words (λ bad. (port.new ≡ port.old) × (sink.new ≡ sink.old)) }
+    ensures refused { IfErr words (λ bad. (result ≡ status_number (words_status bad))
+        × Complains (words_status bad) (E.taken errors.old) (E.taken errors.new) (E.faults errors.old) (E.faults errors.new)
+        × (port.new ≡ port.old) × (sink.new ≡ sink.old)) }
 {
-    let Ok(mut ring) = Ring::new(alloc) else {
-        return finish(errors, Status::Memory);
-    };
-    let ended = serve_by(rt, alloc, words, port, &mut ring, sink);
-    say(alloc, errors, ended, &ring)
+    match words {
+        Ok(words) => relay_by(rt, alloc, &words, port, sink, errors),
+        Err(bad) => finish(errors, bad.status()),
+    }
 }

@@ -1,5 +1,5 @@
-use Rattle.std.proofs.Common.{◌≡◌, ◌<◌, ◌+◌, ◌++◌, length, take, sym, ◌∙◌, ap, arith}
-use Rattle.evrelay.specs.RingText.{counted_line, ring_text}
+use Rattle.std.proofs.Common.{◌<◌, ◌++◌, length, sym, ◌∙◌, ap, arith}
+use Rattle.evrelay.specs.RingText.{counted_line}
 use Rattle.evrelay.proofs.RingLemmas.{ring_text-next, none-within}
 use Rattle.evrelay.proofs.ring.Ring.text.Goals as goal
 use Rattle.evrelay.proofs.ring.Ring.text.Goals.{in-Some+in_ok-put_counted, in_default}
