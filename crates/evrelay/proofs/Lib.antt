@@ -2,3 +2,4 @@ pub mod KeepLastLemmas
 pub mod RingLemmas
 pub mod RingWantsLemmas
 pub mod ProgramLemmas
+pub mod RingKeptLemmas

@@ -1,5 +1,6 @@
 -- What the program says on standard error, and what it did, by the status with which it ended.
-use Rattle.std.specs.Prelude.{◌≡◌, ◌≢◌, ◌⊎◌, ℕ, Bool, true, false, if◌then◌else◌, List, [], ◌++◌, Option, None}
+use Rattle.std.specs.Prelude.{◌≡◌, ◌≢◌, ◌⊎◌, ℕ, Bool, true, false, if◌then◌else◌, List, [], ◌++◌, Option, Some}
+use Rattle.ev_types.specs.Trace.{Trace}
 use Rattle.ev_types.specs.declared.entry.Entry.{Entry}
 use Rattle.ev_types.specs.declared.status.Status.{Status}
 use Rattle.ev_types.specs.declared.status.Status.TheVariants as status
@@ -12,9 +13,9 @@ use Rattle.run_end.specs.Complains.{Complains, TookPart}
 use Rattle.run_end.specs.EndStatus.{complaint}
 use Rattle.evrelay.specs.RingText.{ring_text}
 
--- what is seen of a run whose scribe tells nothing
-abbrev pub untold : {P : Type 0} → port.Ghosts P → P → Seen
-untold g p = record { log = None; told = g.told p; ends = g.ends p; faults = g.faults p }
+-- what is seen of a run of which this trace was told
+abbrev pub seen_by : {P : Type 0} → port.Ghosts P → P → Trace → Seen
+seen_by g p t = record { log = Some t; told = g.told p; ends = g.ends p; faults = g.faults p }
 
 -- after which faults the last entries are shown: those of the port
 abbrev pub shows : Status → Bool

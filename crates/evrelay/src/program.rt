@@ -1,6 +1,6 @@
 // All of the program but its words, its port and its streams: how the process ends, and what it says.
-ghost use Rattle.std.specs.Prelude.{◌≡◌, ◌⊎◌, List, map, string_bytes, IfOk, IfErr, OnOk, OnErr};
-ghost use Rattle.ev_types.specs.declared.entry.Entry.{Entry};
+ghost use Rattle.std.specs.Prelude.{◌≡◌, ◌⊎◌, [], map, string_bytes, IfOk, IfErr, OnOk, OnErr};
+ghost use Rattle.ev_types.specs.Trace.{Trace};
 ghost use Rattle.ev_types.specs.declared.status.Status.{Status};
 ghost use Rattle.run_end.specs.Complains.{Complains, TookPart};
 ghost use Rattle.run_end.specs.EndStatus.{status_number, words_status};
@@ -10,7 +10,8 @@ ghost use Rattle.relay_serve.specs.Served.{DidWith};
 ghost use Rattle.stream_words.specs.Faults.{Rose};
 ghost use Rattle.stream_words.specs.Streams.{TookOn};
 ghost use Rattle.evrelay.specs.RingText.{ring_text};
-ghost use Rattle.evrelay.specs.Program.{untold, shows, Says, LeavesSink};
+ghost use Rattle.evrelay.specs.Program.{seen_by, shows, Says, LeavesSink};
+ghost use Rattle.evrelay.specs.RingWants.{last_entries};
 
 use crate::ring::Ring;
 use ev_port::{Port, Sink};
@@ -67,10 +68,10 @@ fn relay_by<R: Wait, P: Port, K: Sink, E: Sink>(
     sink: &mut K,
     errors: &mut E,
 ) -> u8
-    ensures served { (ended : Status) × (result ≡ status_number ended)
-        × DidWith (serve_words_of (map string_bytes words.now)) ended (untold P.Port port.old) (untold P.Port port.new) (drained K.Sink sink.old) (drained K.Sink sink.new)
+    ensures served { (ended : Status) × (trace : Trace) × (result ≡ status_number ended)
+        × DidWith (serve_words_of (map string_bytes words.now)) ended (seen_by P.Port port.old []) (seen_by P.Port port.new trace) (drained K.Sink sink.old) (drained K.Sink sink.new)
         × LeavesSink K.Sink ended sink.old sink.new
-        × ((entries : List Entry) × Says ended entries (E.taken errors.old) (E.taken errors.new) (E.faults errors.old) (E.faults errors.new)) }
+        × Says ended (last_entries trace) (E.taken errors.old) (E.taken errors.new) (E.faults errors.old) (E.faults errors.new) }
 {
     let Ok(mut ring) = Ring::new(alloc) else {
         return finish(errors, Status::Memory);
@@ -91,10 +92,10 @@ pub fn relay_program<R: Wait, P: Port, K: Sink, E: Sink>(
     sink: &mut K,
     errors: &mut E,
 ) -> u8
-    ensures served { IfOk words (λ all. (ended : Status) × (result ≡ status_number ended)
-        × DidWith (serve_words_of (map string_bytes all.items)) ended (untold P.Port port.old) (untold P.Port port.new) (drained K.Sink sink.old) (drained K.Sink sink.new)
+    ensures served { IfOk words (λ all. (ended : Status) × (trace : Trace) × (result ≡ status_number ended)
+        × DidWith (serve_words_of (map string_bytes all.items)) ended (seen_by P.Port port.old []) (seen_by P.Port port.new trace) (drained K.Sink sink.old) (drained K.Sink sink.new)
         × LeavesSink K.Sink ended sink.old sink.new
-        × ((entries : List Entry) × Says ended entries (E.taken errors.old) (E.taken errors.new) (E.faults errors.old) (E.faults errors.new))) }
+        × Says ended (last_entries trace) (E.taken errors.old) (E.taken errors.new) (E.faults errors.old) (E.faults errors.new)) }
     ensures refused { IfErr words (λ bad. (result ≡ status_number (words_status bad))
         × Complains (words_status bad) (E.taken errors.old) (E.taken errors.new) (E.faults errors.old) (E.faults errors.new)
         × (port.new ≡ port.old) × (sink.new ≡ sink.old)) }

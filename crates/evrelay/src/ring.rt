@@ -1,36 +1,42 @@
 // The last entries of a run, to be shown where it ends with a fault of its port.
-ghost use Rattle.std.specs.Prelude.{◌≡◌, ◌≤◌, ◌<◌, ◌∷◌, [], ◌++◌, None, IfOk, IsOk, OnOk, length, map};
+ghost use Rattle.std.specs.Prelude.{◌≡◌, ◌≤◌, ◌<◌, ◌∷◌, [], ◌++◌, Some, IfOk, IsOk, OnOk, length, map};
 ghost use Rattle.ev_types.specs.Growth.{Grew};
 ghost use Rattle.ev_port.specs.Polling.{want_events};
 ghost use Rattle.ev_port.specs.Table.{named};
 ghost use Rattle.circular_buffer.specs.Buffer.{keep_last};
 ghost use Rattle.evrelay.specs.RingText.{counted_line, moved_line, ring_text};
-ghost use Rattle.evrelay.specs.RingWants.{want_entry, StartsLast};
+ghost use Rattle.evrelay.specs.RingWants.{last_entries, want_entry, StartsLast};
 
 use circular_buffer::HeapCircularBuffer;
 use ev_port::{Scribe, Want, WantTable};
 use ev_types::{Entry, NoMemory, ReadAnswer, Side, SideId, WriteAnswer};
 use script_text::{make_room, put_entry};
 use std::alloc::Global;
+use text_scribe::{Step, TraceLog};
 
 /// How many entries are kept.
 const KEPT: usize = 64;
 
-/// A scribe that keeps the last 64 entries of a run, without their bytes. All its room is made at once.
+/// A scribe that keeps the last 64 entries of a run, without their bytes. All its room is made at once. Clauses see the whole trace,
+/// which is kept nowhere.
 ///
 /// Own.
 #[derive(Drop)]
 pub struct Ring {
     entries: HeapCircularBuffer<Entry>,
+    told: TraceLog,
+    ghost capacity: { entries.capacity ≡ 64 },
+    ghost kept: { entries.items ≡ last_entries told.trace },
 }
 
 impl Ring {
     /// A ring of no entry. It is refused for want of memory alone.
     pub fn new(alloc: Global) -> Result<Ring, NoMemory>
-        ensures { IfOk result (λ ring. (ring.entries.items ≡ []) × (ring.entries.capacity ≡ 64)) }
+        ensures { IfOk result (λ ring. ring.told.trace ≡ []) }
     {
         Ok(Ring {
             entries: HeapCircularBuffer::with_capacity(alloc, KEPT)?,
+            told: TraceLog::new(),
         })
     }
 
@@ -93,11 +99,11 @@ fn put_moved(
     Ok(())
 }
 
-/// It tells nothing, and has room for every number of entries and bytes that can be asked for.
+/// It tells the trace, and has room for every number of entries and bytes that can be asked for.
 impl Scribe for Ring {
     ghost use Rattle.std.specs.Prelude.{◌^◌, ◌+◌};
 
-    ghost trace = { λ _. None };
+    ghost trace = { λ r. Some r.told.trace };
 
     ghost spare_entries = { λ _. 2 ^ 64 };
 
@@ -108,40 +114,47 @@ impl Scribe for Ring {
         ensures same { self.new ≡ self.old }
 
         // What every scribe says.
-        ensures trace { Grew None None [] }
+        ensures trace { Grew (Some self.old.told.trace) (Some self.new.told.trace) [] }
         ensures entries { OnOk result (entries ≤ 2 ^ 64) }
         ensures bytes { OnOk result (bytes ≤ 2 ^ 64) }
     {
         Ok(())
     }
 
-    fn put(&mut self, entry: Entry, _bytes: &[u8])
-        ensures kept { self.new.entries.items ≡ keep_last self.old.entries.capacity (self.old.entries.items ++ entry ∷ []) }
-        ensures capacity { self.new.entries.capacity ≡ self.old.entries.capacity }
+    fn put(&mut self, entry: Entry, bytes: &[u8])
+        ensures told { self.new.told.trace ≡ self.old.told.trace ++ (entry, bytes.now) ∷ [] }
 
         // What every scribe says.
-        ensures trace { Grew None None ((entry, _bytes.now) ∷ []) }
+        ensures trace { Grew (Some self.old.told.trace) (Some self.new.told.trace) ((entry, bytes.now) ∷ []) }
         ensures entries { 2 ^ 64 ≤ 2 ^ 64 + 1 }
-        ensures bytes { 2 ^ 64 ≤ 2 ^ 64 + length _bytes.now }
+        ensures bytes { 2 ^ 64 ≤ 2 ^ 64 + length bytes.now }
     {
         self.entries.push_back(entry);
+        self.told = self.told.then(&Step { entry, bytes });
     }
 
-    // Only the last wants are looked at: those before them would be overwritten.
     fn put_wants(&mut self, wants: &WantTable)
-        ensures kept { self.new.entries.items ≡ keep_last self.old.entries.capacity (self.old.entries.items ++ map want_entry (named wants.now)) }
-        ensures capacity { self.new.entries.capacity ≡ self.old.entries.capacity }
+        ensures told { self.new.told.trace ≡ self.old.told.trace ++ want_events (named wants.now) }
 
         // What every scribe says.
-        ensures trace { Grew None None (want_events (named wants.now)) }
+        ensures trace { Grew (Some self.old.told.trace) (Some self.new.told.trace) (want_events (named wants.now)) }
         ensures entries { 2 ^ 64 ≤ 2 ^ 64 + length (named wants.now) }
         ensures bytes { 2 ^ 64 ≤ 2 ^ 64 }
     {
-        let mut from = start_of_last(wants, self.entries.capacity());
-        while let Some(want) = wants.next_wanted(from) {
-            self.entries.push_back(want_entry(want));
-            from = want.side.number() + 1;
-        }
+        put_last(&mut self.entries, wants);
+        self.told = self.told.then_wants(wants);
+    }
+}
+
+/// Puts the wants of a table. Only the last are looked at: those before them would be overwritten.
+fn put_last(entries: &mut HeapCircularBuffer<Entry>, wants: &WantTable)
+    ensures kept { entries.new.items ≡ keep_last entries.old.capacity (entries.old.items ++ map want_entry (named wants.now)) }
+    ensures capacity { entries.new.capacity ≡ entries.old.capacity }
+{
+    let mut from = start_of_last(wants, entries.capacity());
+    while let Some(want) = wants.next_wanted(from) {
+        entries.push_back(want_entry(want));
+        from = want.side.number() + 1;
     }
 }
 

@@ -4,6 +4,7 @@
 mod log;
 mod scribe;
 
+pub use log::{Step, TraceLog};
 pub use scribe::TextScribe;
 
 #[cfg(test)]

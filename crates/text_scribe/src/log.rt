@@ -1,8 +1,11 @@
-// The trace that a text stands for. It exists only in proofs.
+// The trace that a scribe was told. It exists only in proofs.
 ghost use Rattle.std.specs.Prelude.{◌≡◌, [], ◌∷◌, ◌++◌};
 ghost use Rattle.std.specs.Borrow.{ftrue};
 ghost use Rattle.ev_types.specs.Trace.{Trace};
+ghost use Rattle.ev_port.specs.Polling.{want_events};
+ghost use Rattle.ev_port.specs.Table.{named};
 
+use ev_port::WantTable;
 use ev_types::Entry;
 use std::marker::Model;
 
@@ -10,7 +13,7 @@ use std::marker::Model;
 ///
 /// Own.
 #[derive(Drop)]
-pub(crate) struct TraceLog {
+pub struct TraceLog {
     ghost trace: { Trace },
 }
 
@@ -22,20 +25,35 @@ impl Model for TraceLog {
 ///
 /// Own.
 #[derive(Clone, Copy, Drop)]
-pub(crate) struct Step<'a> {
+pub struct Step<'a> {
     pub entry: Entry,
     pub bytes: &'a [u8],
 }
 
 impl TraceLog {
-    pub(crate) fn new() -> TraceLog
+    /// Of no entry.
+    ///
+    /// Own.
+    pub fn new() -> TraceLog
         ensures { result.trace ≡ [] }
     {
         TraceLog {}
     }
 
-    pub(crate) fn then(&self, _step: &Step<'_>) -> TraceLog
+    /// With a step behind it.
+    ///
+    /// Own.
+    pub fn then(&self, _step: &Step<'_>) -> TraceLog
         ensures { result.trace ≡ self.now.trace ++ (_step.now.entry, _step.now.bytes.now) ∷ [] }
+    {
+        TraceLog {}
+    }
+
+    /// With an entry for each want of a table behind it.
+    ///
+    /// Own.
+    pub fn then_wants(&self, _wants: &WantTable) -> TraceLog
+        ensures { result.trace ≡ self.now.trace ++ want_events (named _wants.now) }
     {
         TraceLog {}
     }

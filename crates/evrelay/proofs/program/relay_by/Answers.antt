@@ -1,10 +1,13 @@
-use Rattle.std.proofs.Common.{map, string_bytes, refl, inr, []}
+use Rattle.std.proofs.Common.{List, map, string_bytes, refl, inr, [], subst}
+use Rattle.ev_types.specs.Trace.{Trace}
+use Rattle.ev_types.specs.declared.entry.Entry.{Entry}
 use Rattle.ev_types.specs.declared.status.Status.TheVariants as status
 use Rattle.relay_words.specs.ServeGrammar.{serve_words_of}
 use Rattle.relay_words.specs.declared.fault.WordsFault.TheVariants as words
 use Rattle.relay_serve.specs.Seen.{drained}
+use Rattle.relay_serve.specs.Served.{DidWith}
 use Rattle.relay_serve.proofs.EndLemmas.{words-ended}
-use Rattle.evrelay.specs.Program.{untold}
+use Rattle.evrelay.specs.Program.{seen_by, Says}
 use Rattle.evrelay.proofs.program.relay_by.Goals as goal
 
 -- There is no memory for the ring, and nothing was done.
@@ -12,10 +15,35 @@ pub returns-in_default : goal.returns-in_default
 returns-in_default g c = record {
   served = (
     status.Memory,
+    [],
     c.finish.ensures.number,
-    words-ended (serve_words_of (map string_bytes c.args.words.now)) words.Memory (untold g.P.Port c.args.port.now)
+    words-ended (serve_words_of (map string_bytes c.args.words.now)) words.Memory (seen_by g.P.Port c.args.port.now [])
         (drained g.K.Sink c.args.sink.now) (λ e. absurd (cc)),
     ((λ e. refl), (λ e. refl)),
-    ([], inr (inr c.finish.ensures.line)),
+    inr (inr c.finish.ensures.line),
   );
 }
+
+-- The ring began with no entry, and what it shows are the last entries of the trace that it was told.
+pub returns : goal.returns
+returns g c =
+    let port = g.P.Port in
+    let ended = c.serve-ended.result in
+    let ring = c.serve-ended.new.scribe in
+    let route = serve_words_of (map string_bytes c.args.words.now) in
+    let before = drained g.K.Sink c.args.sink.now in
+    let after = drained g.K.Sink c.serve-ended.new.sink in
+    let taken = g.E.Sink.taken in
+    let faults = g.E.Sink.faults in
+    record {
+      served = (
+        ended,
+        ring.told.trace,
+        c.say.ensures.number,
+        subst (λ (t : Trace). DidWith route ended (seen_by port c.args.port.now t) (seen_by port c.serve-ended.new.port ring.told.trace) before after)
+            c.in-Ok.ensures c.serve-ended.ensures.did,
+        (c.serve-ended.ensures.unwritten, c.serve-ended.ensures.write_calm),
+        subst (λ (es : List Entry). Says ended es (taken c.args.errors.now) (taken c.say.new.errors) (faults c.args.errors.now) (faults c.say.new.errors))
+            ring.kept c.say.ensures.said,
+      );
+    }

@@ -1,16 +1,13 @@
-use Rattle.std.proofs.Common.{subst}
-use Rattle.evrelay.specs.RingWants.{StartsLast}
-use Rattle.evrelay.proofs.RingWantsLemmas.{put-more, put-all}
+use Rattle.ev_port.specs.Table.{named}
+use Rattle.std.proofs.Common.{map}
+use Rattle.evrelay.specs.RingWants.{want_entry}
+use Rattle.ev_port.specs.Polling.{want_events}
+use Rattle.evrelay.proofs.RingKeptLemmas.{kept-more, wants-entries}
 use Rattle.evrelay.proofs.ring.RingScribe.put_wants.Goals as goal
 
-pub loop-want-preserved : goal.loop-want-preserved
-loop-want-preserved c =
-    put-more c.args.wants.now c.start_of_last-from.result c.loop-want.from c.number-from.result c.args.self.now.entries c.loop-want.self.entries
-    c.push_back.new.self c.in-Some.want c.want_entry.result c.loop-want.invariant c.in-Some.ensures c.number-from.ensures c.want_entry.ensures
-    c.push_back.ensures.items
-
-pub returns-clause-kept : goal.returns-clause-kept
-returns-clause-kept c =
-    put-all c.args.wants.now c.start_of_last-from.result c.loop-want.from c.args.self.now.entries c.loop-want.self.entries c.loop-want.invariant
-    (subst (λ n. StartsLast c.args.wants.now n c.start_of_last-from.result) c.capacity.ensures.capacity c.start_of_last-from.ensures)
-    c.in_default.ensures
+pub invariant_of-self-clause-kept : goal.invariant_of-self-clause-kept
+invariant_of-self-clause-kept c =
+    kept-more c.args.self.now.entries.capacity c.args.self.now.entries.items c.put_last.new.entries.items
+    (map want_entry (named c.args.wants.now)) c.args.self.now.told.trace (want_events (named c.args.wants.now))
+    c.then_wants-self.result.trace c.args.self.now.capacity c.args.self.now.kept c.put_last.ensures.kept
+    (wants-entries (named c.args.wants.now)) c.then_wants-self.ensures
