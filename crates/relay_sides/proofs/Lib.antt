@@ -1,0 +1,4 @@
+pub mod StepLemmas
+pub mod RoundLemmas
+pub mod PassageLemmas
+pub mod SidesLemmas

@@ -1,0 +1,9 @@
+use Rattle.std.proofs.Common.{refl, true}
+use Rattle.relay_sides.proofs.SidesLemmas.{changed_side}
+use Rattle.relay_sides.proofs.sides.Sides.end_writing.Goals as goal
+
+pub returns : goal.returns
+returns c =
+    changed_side c.args.self.now c.self.inside c.self.view_is c.self.invariant c.args.side c.requires c.number.result c.number.ensures
+    c.index_mut-own.result.now c.index_mut-own.ensures.value _
+    (λ x. record x { write_ended = true }) refl refl refl

@@ -1,0 +1,9 @@
+pub mod SettingsView
+pub mod StepRoom
+pub mod SideView
+pub mod SideRooms
+pub mod Links
+pub mod HalfPassed
+pub mod SidesValue
+pub mod SidesView
+pub mod Pairs

@@ -1,0 +1,150 @@
+-- The sides and the directions of all links that were opened, and what changes of them.
+use Rattle.std.specs.Prelude.{◌≡◌, ℕ, ◌+◌, Bool, true, false, ◌==◌, ◌&&◌, ◌||◌, List, [], ◌∷◌, ◌++◌, length, slice_index_or, slice_set, Option, None}
+use Rattle.std.specs.List.{list_any}
+use Rattle.token_bucket.specs.declared.limit.Dir.TheVariants as dir
+use Rattle.ev_types.specs.declared.side.Side.TheVariants.{In}
+use Rattle.ev_types.specs.declared.filter.FilterKind.{FilterKind}
+use Rattle.ev_types.specs.declared.side.SideId.{SideId}
+use Rattle.ev_types.specs.Sides.{number, peer}
+use Rattle.relay_model.specs.Settings.{usual}
+use Rattle.relay_model.specs.Plain.{PlainSide, no_side, new_side}
+use Rattle.relay_model.specs.Flow.{Flow, no_flow}
+use Rattle.relay_model.specs.FilterStep.{begun}
+use Rattle.relay_model.specs.Rooms.{most_at_once, mark_or}
+use Rattle.relay_model.specs.Moments.{active_at}
+use Rattle.relay_state.specs.State.{Lane, no_lane, lane_got, lane_taken, lane_left, lane_lost}
+use Rattle.relay_state.specs.Serving.{flow_given}
+use Rattle.relay_state.specs.Passage.{Passage, read_part, pass_round, SomeRounds, Passed}
+use Rattle.relay_state.specs.Passing.{with_bad}
+use Rattle.relay_state.specs.Counting.{has_flown_far, has_read_far}
+use Rattle.relay_sides.specs.SettingsView.{model_marks, model_timeouts}
+use Rattle.relay_sides.specs.declared.opening.NewSide.{NewSide}
+
+-- How many links were opened. Sides stand by their numbers, and so do the flows and lanes of directions, each at the side that it
+-- begins at.
+pub record Links : Type 0 where
+  pub opened : ℕ
+  pub sides : List PlainSide
+  pub flows : List Flow
+  pub lanes : List Lane
+
+abbrev pub no_links : Links
+no_links = record { opened = 0; sides = []; flows = []; lanes = [] }
+
+abbrev pub side_at : Links → SideId → PlainSide
+side_at k e = slice_index_or k.sides (number e) no_side
+
+abbrev pub flow_at : Links → SideId → Flow
+flow_at k e = slice_index_or k.flows (number e) no_flow
+
+abbrev pub lane_at : Links → SideId → Lane
+lane_at k e = slice_index_or k.lanes (number e) no_lane
+
+abbrev pub put_side : SideId → PlainSide → Links → Links
+put_side e x k = record k { sides = slice_set k.sides (number e) x }
+
+abbrev pub put_flow : SideId → Flow → Links → Links
+put_flow e f k = record k { flows = slice_set k.flows (number e) f }
+
+abbrev pub put_lane : SideId → Lane → Links → Links
+put_lane e l k = record k { lanes = slice_set k.lanes (number e) l }
+
+-- one side is changed
+abbrev pub change_side : SideId → (PlainSide → PlainSide) → Links → Links
+change_side e change k = put_side e (change (side_at k e)) k
+
+-- the flow of the direction that begins at a side is changed
+abbrev pub change_flow : SideId → (Flow → Flow) → Links → Links
+change_flow e change k = put_flow e (change (flow_at k e)) k
+
+-- a side as its link opens, at a time
+abbrev pub opening_side : ℕ → NewSide → PlainSide
+opening_side time n =
+    let x = new_side usual time 0 In n.connected in record x { marks = model_marks n.marks; timeouts = model_timeouts n.timeouts }
+
+-- a direction of a new link, with these filters
+abbrev pub fresh_lane : FilterKind → FilterKind → Lane
+fresh_lane reader writer = record no_lane { reader = begun reader; writer = begun writer }
+
+-- The next link has these two sides. The direction from a side has the read filter of that side and the write filter of the other.
+abbrev pub with_link : ℕ → NewSide → NewSide → Links → Links
+with_link time near far k = record {
+  opened = k.opened + 1;
+  sides = k.sides ++ opening_side time near ∷ opening_side time far ∷ [];
+  flows = k.flows ++ no_flow ∷ no_flow ∷ [];
+  lanes = k.lanes ++ fresh_lane near.read far.write ∷ fresh_lane far.read near.write ∷ [];
+}
+
+-- Passing
+
+-- the direction that begins at a side
+abbrev pub passage_at : Links → SideId → Passage
+passage_at k e = record {
+  flow = flow_at k e;
+  lane = lane_at k e;
+  from_bad = (side_at k e).bad;
+  to_bad = (side_at k (peer e)).bad;
+}
+
+-- this is the direction that begins at a side
+abbrev pub with_passage : SideId → Passage → Links → Links
+with_passage e x k =
+    put_lane e x.lane (change_side (peer e) (with_bad x.to_bad) (change_side e (with_bad x.from_bad) (put_flow e x.flow k)))
+
+-- how long the input of a side gets, and how many bytes that wait for a side hold the direction to it, where so many do in the run
+abbrev pub read_mark : Links → SideId → ℕ
+read_mark k e = mark_or (side_at k e).marks.read_high most_at_once
+
+abbrev pub hold_mark : ℕ → Links → SideId → ℕ
+hold_mark hold k e = mark_or (side_at k e).marks.write_high hold
+
+-- the round of the direction that begins at a side
+abbrev pub round_from : ℕ → Links → SideId → Passage → Passage
+round_from hold k e =
+    pass_round (read_mark k e) (hold_mark hold k (peer e)) (side_at k e).ended (side_at k e).live (side_at k (peer e)).live
+
+-- the direction from a side was passed, and nothing else changed
+abbrev pub PassedFrom : ℕ → Links → SideId → Links → Type 0
+PassedFrom hold old e new = (x : Passage) × Passed (round_from hold old e) (passage_at old e) x × (new ≡ with_passage e x old)
+
+-- some rounds of it were made, and nothing else changed
+abbrev pub PartlyPassed : ℕ → Links → SideId → Links → Type 0
+PartlyPassed hold old e new = (x : Passage) × SomeRounds (round_from hold old e) (passage_at old e) x × (new ≡ with_passage e x old)
+
+-- Serving
+
+-- Bytes that were read at a time stand behind the raw input, and then the read filter runs.
+abbrev pub with_got : ℕ → SideId → List ℕ → Links → Links
+with_got time e bytes k = put_lane e (lane_got bytes (lane_at k e)) (change_side e (active_at time dir.Read) k)
+
+abbrev pub after_got : ℕ → SideId → List ℕ → Links → Links
+after_got time e bytes k =
+    let j : Links = with_got time e bytes k in with_passage e (read_part (read_mark j e) false (passage_at j e)) j
+
+-- At a time the side's end took the first bytes that wait for it.
+abbrev pub after_took : ℕ → SideId → ℕ → Links → Links
+after_took time e n k =
+    put_lane (peer e) (lane_taken n (lane_at k (peer e)))
+    (change_side e (active_at time dir.Write) (change_flow (peer e) (flow_given n) k))
+
+-- The side is freed: of the direction that begins at it what was not moved is dropped, and of the one that ends at it what waits.
+abbrev pub freed : SideId → Links → Links
+freed e k =
+    let own : Links = put_lane e (lane_left (lane_at k e)) (change_side e (λ x. record x { live = false; group = None }) k) in
+    put_lane (peer e) (lane_lost (lane_at own (peer e))) own
+
+-- Counting
+
+-- all bytes of the direction that begins at a side were given, and no more will come
+abbrev pub is_complete : Links → SideId → Bool
+is_complete k from =
+    let b = (lane_at k from).buffers in
+    (side_at k from).ended && (flow_at k from).write_done
+    && length b.raw_input == 0 && length b.input == 0 && length b.output == 0 && length b.raw_output == 0
+
+-- a count of the direction that begins at a side has come far, and of any direction
+abbrev pub is_far_from : Links → SideId → Bool
+is_far_from k e = has_flown_far (flow_at k e) || has_read_far (lane_at k e)
+
+abbrev pub any_is_far : Links → Bool
+any_is_far k = list_any has_flown_far k.flows || list_any has_read_far k.lanes

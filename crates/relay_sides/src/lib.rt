@@ -1,0 +1,24 @@
+//! The sides of all links, and the directions between them: flags, marks, timeouts, the bytes on their way with their filters, and
+//! what is counted of them. Each call changes what it is told to; when one is called for, and in which order, is said above.
+//!
+//! A contract sees the lists of `specs/Links.antt`; `specs/SidesView.antt` says how the code keeps them.
+#![tactic(auto)]
+
+mod activity;
+mod counts;
+mod ends;
+mod flags;
+mod opening;
+mod pass;
+mod serve;
+mod side;
+mod sides;
+mod step;
+
+pub use counts::{Counts, SPENT};
+pub use flags::SideFlags;
+pub use opening::NewSide;
+pub use relay_settings::{Marks, Timeouts};
+pub use side::MOST_AT_ONCE;
+pub use sides::Sides;
+pub use token_bucket::Dir;
