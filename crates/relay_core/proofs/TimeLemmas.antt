@@ -1,7 +1,6 @@
 -- Where nothing is timed, a turn begins with nothing but its time, and a poll waits for ever. Looking at sides opens no link.
 use Rattle.std.proofs.Common.{◌≡◌, ℕ, zero, suc, ◌+◌, ◌<◌, ◌-◌, Bool, true, false, ◌&&◌, ◌||◌, nat_le, not, if◌then◌else◌, List, [], ◌∷◌, ◌++◌, map, slice_index_or, Some, None, option_map, refl, sym, ◌∙◌, ap, arith, fold}
-use Rattle.std.proofs.lemmas.List.Elements.{All-head, All-tail}
-use Rattle.std.specs.List.{All, list_any, flat_map}
+use Rattle.std.specs.List.{list_any, flat_map}
 use Rattle.token_bucket.specs.declared.limit.Dir.{Dir}
 use Rattle.token_bucket.specs.declared.limit.Dir.TheVariants as dir
 use Rattle.ev_types.specs.declared.side.Side.TheVariants.{In, Out}
@@ -14,12 +13,12 @@ use Rattle.relay_model.specs.Reasons.{has_hook, raise, happened, timeout_flag}
 use Rattle.relay_model.specs.Due.{with_reason}
 use Rattle.relay_model.specs.Moments.{timeout_of, last_activity, is_timed, active_at, both_ways, moment_where, earliest, has_run_out, expire}
 use Rattle.relay_state.specs.State.{State, with_plain}
+use Rattle.relay_state.specs.Closing.{in_side, out_side}
 use Rattle.relay_state.specs.Rooms.{wants}
 use Rattle.relay_state.specs.Time.{expiry, poll_timeout, timed, side_timed}
-use Rattle.relay_core.specs.SideView.{plain_side}
 use Rattle.relay_core.specs.RelayView.{state_with, IsSound, IsSoundSide}
 use Rattle.relay_core.specs.declared.relay.Relay.TheInside.{Inside}
-use Rattle.relay_core.specs.declared.side.SideState.{SideState}
+use Rattle.relay_core.proofs.RelayLemmas.{sound_at}
 
 no_timeout : (d : Dir) (x : PlainSide) → x.timeouts ≡ no_timeouts → is_timed x d ≡ false
 no_timeout d x h = ap (λ t. is_timed (record x { timeouts = t }) d) h ∙ go d x.live
@@ -35,19 +34,10 @@ pub record IsUntimed (s : State) : Type 0 where
   pub timeouts : (e : SideId) → (side_at s.plain e).timeouts ≡ no_timeouts
   pub expired : (e : SideId) → (side_at s.plain e).expired ≡ false
 
--- what is so of each side of the relay, and of none, is so of the side at a number
-all_at : (P : PlainSide → Type 0) → P no_side → (xs : List SideState) → All (λ x. P (plain_side x)) xs → (n : ℕ) →
-    P (slice_index_or (map plain_side xs) n no_side)
-all_at P none [] all zero = none
-all_at P none [] all (suc n) = none
-all_at P none (x ∷ xs) all zero = All-head (λ z. P (plain_side z)) x xs all
-all_at P none (x ∷ xs) all (suc n) = all_at P none xs (All-tail (λ z. P (plain_side z)) x xs all) n
-
-pub untimed_seen : (r : Inside) → IsSound r → r.untimed ≡ true → IsUntimed (state_with r r.sides.items)
+pub untimed_seen : (r : Inside) → IsSound r → r.untimed ≡ true → IsUntimed (state_with r r.sides.links)
 untimed_seen r sound h =
-    let none : IsSoundSide r.time r.untimed no_side = (omega arith, omega arith, λ e. (refl, refl)) in
-    let at : (n : ℕ) → IsSoundSide r.time r.untimed (slice_index_or (map plain_side r.sides.items) n no_side) =
-    all_at (IsSoundSide r.time r.untimed) none r.sides.items sound.sides in
+    let at : (n : ℕ) → IsSoundSide r.time r.untimed (slice_index_or r.sides.links.sides n no_side) =
+    sound_at r.time r.untimed r.sides.links.sides sound.sides in
     record { timeouts = λ e. ((at (number e)).2 h).0; expired = λ e. ((at (number e)).2 h).1 }
 
 module _ (s : State) (u : IsUntimed s) where
@@ -92,18 +82,18 @@ module _ (s : State) (u : IsUntimed s) where
       go false = refl
 
 -- nothing presses, and there is no moment to wake up for
-pub poll_timeout-none : (r : Inside) → IsSound r → r.untimed ≡ true → poll_timeout (state_with r r.sides.items) ≡ None
+pub poll_timeout-none : (r : Inside) → IsSound r → r.untimed ≡ true → poll_timeout (state_with r r.sides.links) ≡ None
 poll_timeout-none r sound h =
-    let s : State = state_with r r.sides.items in
+    let s : State = state_with r r.sides.links in
     let u = untimed_seen r sound h in
     (λ i. if none_expired s u (all_sides s.plain) i then Some 0
     else option_map (λ moment. moment - s.plain.time) (earliest (expiries-none s u (all_sides s.plain) i)))
 
 -- no side changes as it is looked at
 pub sides_timed-none : (r : Inside) → IsSound r → r.untimed ≡ true →
-    fold side_timed (state_with r r.sides.items) (all_sides (state_with r r.sides.items).plain) ≡ state_with r r.sides.items
+    fold side_timed (state_with r r.sides.links) (all_sides (state_with r r.sides.links).plain) ≡ state_with r r.sides.links
 sides_timed-none r sound h =
-    let s : State = state_with r r.sides.items in all_timed-none s (untimed_seen r sound h) (all_sides s.plain)
+    let s : State = state_with r r.sides.links in all_timed-none s (untimed_seen r sound h) (all_sides s.plain)
 
 -- no link is opened
 
@@ -152,10 +142,21 @@ pub sides_from-more : (k n : ℕ) → k < n →
     sides_from k (n - k) ≡ (record { link = k; side = In }) ∷ (record { link = k; side = Out }) ∷ sides_from (k + 1) (n - (k + 1))
 sides_from-more k n h = let a : n - k ≡ suc (n - (k + 1)) = omega (arith, h) in ap (sides_from k) a
 
--- where both sides of a link have not, one has where one of those behind has
-pub any-more : (p : SideId → Bool) (k n : ℕ) → k < n →
-    p (record { link = k; side = In }) ≡ false → p (record { link = k; side = Out }) ≡ false →
+-- Where a side of a link has, one of the link and of those behind has; where none has, one has where one of those behind has.
+pub any-here : (p : SideId → Bool) (k n : ℕ) → k < n → (p (in_side k) || p (out_side k)) ≡ true → list_any p (sides_from k (n - k)) ≡ true
+any-here p k n h here = ap (list_any p) (sides_from-more k n h) ∙ go (p (in_side k)) (p (out_side k)) here
+  where
+    go : (a b : Bool) → (a || b) ≡ true → (a || (b || list_any p (sides_from (k + 1) (n - (k + 1))))) ≡ true
+    go true b e = refl
+    go false true e = refl
+    go false false e = absurd (let wrong : false ≡ true = e in cc)
+
+pub any-more : (p : SideId → Bool) (k n : ℕ) → k < n → (p (in_side k) || p (out_side k)) ≡ false →
     list_any p (sides_from k (n - k)) ≡ list_any p (sides_from (k + 1) (n - (k + 1)))
-any-more p k n h near far =
-    let rest : Bool = list_any p (sides_from (k + 1) (n - (k + 1))) in
-    ap (list_any p) (sides_from-more k n h) ∙ (λ i. near i || (far i || rest))
+any-more p k n h none = ap (list_any p) (sides_from-more k n h) ∙ go (p (in_side k)) (p (out_side k)) none
+  where
+    go : (a b : Bool) → (a || b) ≡ false →
+        (a || (b || list_any p (sides_from (k + 1) (n - (k + 1))))) ≡ list_any p (sides_from (k + 1) (n - (k + 1)))
+    go true b e = absurd (let wrong : true ≡ false = e in cc)
+    go false true e = absurd (let wrong : true ≡ false = e in cc)
+    go false false e = refl

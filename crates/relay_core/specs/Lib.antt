@@ -1,8 +1,4 @@
 pub mod SettingsView
-pub mod StepRoom
-pub mod SideView
-pub mod SideRooms
-pub mod HalfPassed
 pub mod RelayValue
 pub mod RelayView
 pub mod Waits

@@ -1,15 +1,10 @@
 -- What contracts see of the settings as the code keeps them: no limits, groups and hooks, and all else as it was set.
+use Rattle.std.specs.Prelude.{Bool, true}
 use Rattle.relay_model.specs.Settings as model
 use Rattle.relay_model.specs.Settings.{usual}
-use Rattle.relay_settings.specs.declared.settings.Marks.{Marks}
-use Rattle.relay_settings.specs.declared.settings.Timeouts.{Timeouts}
 use Rattle.relay_settings.specs.declared.settings.Settings.{Settings}
-
-abbrev pub model_marks : Marks → model.Marks
-model_marks m = record { read_low = m.read_low; read_high = m.read_high; write_low = m.write_low; write_high = m.write_high }
-
-abbrev pub model_timeouts : Timeouts → model.Timeouts
-model_timeouts t = record { read_ms = t.read_ms; write_ms = t.write_ms }
+use Rattle.relay_sides.specs.SettingsView.{model_marks, model_timeouts}
+use Rattle.relay_sides.specs.declared.opening.NewSide.{NewSide}
 
 abbrev pub model_settings : Settings → model.Settings
 model_settings g = record usual {
@@ -24,3 +19,11 @@ model_settings g = record usual {
   out_timeouts = model_timeouts g.out_timeouts;
   links = g.links;
 }
+
+-- what the sides of the next link get; the end of the In side is connected
+abbrev pub near_of : Settings → NewSide
+near_of g = record { marks = g.in_marks; timeouts = g.in_timeouts; read = g.in_read; write = g.in_write; connected = true }
+
+abbrev pub far_of : Settings → Bool → NewSide
+far_of g connected =
+    record { marks = g.out_marks; timeouts = g.out_timeouts; read = g.out_read; write = g.out_write; connected = connected }

@@ -8,11 +8,7 @@ ghost use Rattle.relay_state.specs.Closing.{is_complete, closing_entry, freed};
 ghost use Rattle.relay_core.specs.Steps.{steps_of, link_of_step, close_step, after_closing};
 
 use crate::relay::Relay;
-use crate::side::SideState;
 use ev_types::{Cause, Side, SideId};
-use evbuf_chain::ByteQueue;
-use std::alloc::Global;
-use stream_filters::StreamFilter;
 
 /// A step of closing a link.
 ///
@@ -56,33 +52,6 @@ impl Closing {
     }
 }
 
-impl SideState {
-    ghost use Rattle.std.specs.Prelude.{false};
-    ghost use Rattle.relay_core.specs.SideView.{plain_side, flow_of_side, lane_of};
-
-    /// The side is freed: what was read from it and not moved is dropped.
-    fn drop_input(&mut self, alloc: Global)
-        ensures side { plain_side self.new ≡ (let x = plain_side self.old in record x { live = false }) }
-        ensures flow { flow_of_side self.new ≡ flow_of_side self.old }
-        ensures lane { lane_of self.new ≡ lane_left (lane_of self.old) }
-    {
-        self.flags.live = false;
-        self.readable = 0;
-        self.raw_input = ByteQueue::new(alloc);
-        self.input = ByteQueue::new(alloc);
-    }
-
-    /// The peer is freed: what waits to be given to it is dropped.
-    fn drop_output(&mut self, alloc: Global)
-        ensures side { plain_side self.new ≡ plain_side self.old }
-        ensures flow { flow_of_side self.new ≡ flow_of_side self.old }
-        ensures lane { lane_of self.new ≡ lane_lost (lane_of self.old) }
-    {
-        self.output = ByteQueue::new(alloc);
-        self.raw_output = ByteQueue::new(alloc);
-    }
-}
-
 impl Relay {
     ghost use Rattle.std.specs.Prelude.{◌==◌};
     ghost use Rattle.ev_types.specs.Sides.{peer};
@@ -93,21 +62,14 @@ impl Relay {
         requires { side.link < self.now.state.plain.opened }
         ensures { result ≡ is_complete self.now.state (peer side) }
     {
-        let from = &self.sides[side.peer().number()];
-        from.flags.ended
-            && from.writer.is_finished()
-            && from.raw_input.len() == 0
-            && from.input.len() == 0
-            && from.output.len() == 0
-            && from.raw_output.len() == 0
+        self.sides.is_complete(side.peer())
     }
 
     fn is_nothing_waiting(&self, side: SideId) -> bool
         requires { side.link < self.now.state.plain.opened }
         ensures { result ≡ output_length self.now.state side == 0 }
     {
-        let from = &self.sides[side.peer().number()];
-        from.output_len() == 0
+        self.sides.output_len(side) == 0
     }
 
     /// Why the side is to be freed, where it is faulty.
@@ -115,14 +77,7 @@ impl Relay {
         requires { side.link < self.now.state.plain.opened }
         ensures { result ≡ fault (side_at self.now.state.plain side) }
     {
-        let own = &self.sides[side.number()];
-        if own.flags.failed {
-            Some(Cause::Failed)
-        } else if own.flags.expired {
-            Some(Cause::Timeout)
-        } else {
-            own.bad.map(Cause::Filter)
-        }
+        self.sides.fault(side)
     }
 
     /// Whether there is anything to do at a step of closing.
@@ -165,32 +120,12 @@ impl Relay {
         }
     }
 
-    fn drop_input(&mut self, side: SideId)
-        requires { side.link < self.old.state.plain.opened }
-        ensures { self.new.state ≡ with_lane side (lane_left (lane_at self.old.state side))
-            (with_plain (plain.freed side self.old.state.plain) self.old.state) }
-    {
-        let alloc = self.alloc;
-        let own = &mut self.sides[side.number()];
-        own.drop_input(alloc);
-    }
-
-    fn drop_output(&mut self, from: SideId)
-        requires { from.link < self.old.state.plain.opened }
-        ensures { self.new.state ≡ with_lane from (lane_lost (lane_at self.old.state from)) self.old.state }
-    {
-        let alloc = self.alloc;
-        let own = &mut self.sides[from.number()];
-        own.drop_output(alloc);
-    }
-
     /// The side is freed: what was read from it and not moved, and what waits to be given to it, is dropped.
     fn free(&mut self, side: SideId)
         requires { side.link < self.old.state.plain.opened }
         ensures { self.new.state ≡ freed side self.old.state }
     {
-        self.drop_input(side);
-        self.drop_output(side.peer());
+        self.sides.free(side);
     }
 
     fn end_writing(&mut self, side: SideId)
@@ -198,8 +133,7 @@ impl Relay {
         ensures { self.new.state
             ≡ with_plain (change_side side (λ x. record x { write_ended = true }) self.old.state.plain) self.old.state }
     {
-        let own = &mut self.sides[side.number()];
-        own.flags.write_ended = true;
+        self.sides.end_writing(side);
     }
 
     /// The end of the side is closed.
@@ -207,8 +141,7 @@ impl Relay {
         requires { side.link < self.old.state.plain.opened }
         ensures { self.new.state ≡ with_plain (change_side side (λ x. record x { closed = true }) self.old.state.plain) self.old.state }
     {
-        let own = &mut self.sides[side.number()];
-        own.flags.closed = true;
+        self.sides.shut(side);
     }
 
     /// Makes the change of a step of closing. Takes no memory.

@@ -4,49 +4,8 @@ ghost use Rattle.relay_state.specs.Counting.{read_of, moved_of, given_of, link_s
 ghost use Rattle.relay_core.specs.Far.{is_far_from, is_far};
 
 use crate::relay::Relay;
-use crate::side::SideState;
 use ev_types::{LinkCount, LinkState, Side, SideId};
-use stream_filters::StreamFilter;
-
-/// A count of the relay that has come so far lets a run end.
-pub(crate) const SPENT: u64 = 1 << 62;
-
-/// What was counted of a side, in bytes: what was read from its end, what was moved from its input to its peer's
-/// output, and what its own end took.
-///
-/// Own.
-#[derive(Clone, Copy, Debug, PartialEq, Eq)]
-pub struct Counts {
-    pub read: u64,
-    pub moved: u64,
-    pub given: u64,
-}
-
-impl SideState {
-    ghost use Rattle.std.specs.Prelude.{◌||◌};
-    ghost use Rattle.std.specs.List.{list_any};
-    ghost use Rattle.relay_state.specs.Counting.{has_flown_far, has_read_far};
-    ghost use Rattle.relay_core.specs.SideView.{flow_of_side, lane_of};
-
-    fn is_spent(&self) -> bool
-        ensures { result ≡ has_flown_far (flow_of_side self.now) || has_read_far (lane_of self.now) }
-    {
-        self.reader.used() >= SPENT
-            || self.moved >= SPENT
-            || self.writer.used() >= SPENT
-            || self.given >= SPENT
-            || self.read >= SPENT
-            || self.read_made >= SPENT
-            || self.write_made >= SPENT
-    }
-
-    /// Whether a count of some side has come far.
-    fn any_is_spent(sides: &[SideState]) -> bool
-        ensures { result ≡ list_any (λ s. has_flown_far (flow_of_side s) || has_read_far (lane_of s)) sides.now }
-    {
-        sides.iter().any(|side| side.is_spent())
-    }
-}
+use relay_sides::{Counts, SPENT};
 
 impl Relay {
     /// What was counted of a side, freed or not.
@@ -56,20 +15,14 @@ impl Relay {
         ensures moved { result.moved ≡ moved_of self.now.state side }
         ensures given { result.given ≡ given_of self.now.state side }
     {
-        let own = &self.sides[side.number()];
-        let from = &self.sides[side.peer().number()];
-        Counts {
-            read: own.read,
-            moved: own.moved,
-            given: from.given,
-        }
+        self.sides.counts(side)
     }
 
     /// What a link came to. None exactly from the number of opened links on.
     pub fn link(&self, link: u32) -> Option<LinkCount>
         ensures { result ≡ (if nat_lt link self.now.state.plain.opened then Some (link_count self.now.state link) else None) }
     {
-        if link >= self.opened {
+        if link >= self.sides.opened() {
             return None;
         }
         let near = SideId {
@@ -111,7 +64,7 @@ impl Relay {
         ensures { result ≡ open_below self.now.state self.now.state.plain.opened }
     {
         let mut count = 0;
-        for link in 0..self.opened {
+        for link in 0..self.sides.opened() {
             if self.is_open(link) {
                 count += 1;
             }
@@ -138,7 +91,7 @@ impl Relay {
         ensures { result ≡ min (buffered_below self.now.state self.now.state.plain.opened) (2 ^ 64 - 1) }
     {
         let mut total: u64 = 0;
-        for link in 0..self.opened {
+        for link in 0..self.sides.opened() {
             let near = SideId {
                 link,
                 side: Side::In,
@@ -153,12 +106,11 @@ impl Relay {
         requires { side.link < self.now.state.plain.opened }
         ensures { result ≡ min (buffered_at self.now.state side) (2 ^ 64 - 1) }
     {
-        let own = &self.sides[side.number()];
-        if !own.flags.live {
+        if !self.flags(side).live {
             return 0;
         }
-        let from = &self.sides[side.peer().number()];
-        (own.input_len() as u64).saturating_add(from.output_len() as u64)
+        let input = self.sides.input_len(side) as u64;
+        input.saturating_add(self.sides.output_len(side) as u64)
     }
 
     /// How many turns were begun. Constant; takes no memory.
@@ -174,7 +126,7 @@ impl Relay {
         requires { side.link < self.now.state.plain.opened }
         ensures { result ≡ is_far_from self.now.state side }
     {
-        self.sides[side.number()].is_spent()
+        self.sides.is_far_from(side)
     }
 
     /// Whether a count of the link has come to 2^62, in either direction: bytes read, used or made by a filter, moved or given.
@@ -196,6 +148,6 @@ impl Relay {
     pub fn is_spent(&self) -> bool
         ensures { result ≡ is_spent self.now.state }
     {
-        self.turns >= SPENT || SideState::any_is_spent(&self.sides)
+        self.turns >= SPENT || self.sides.any_is_far()
     }
 }

@@ -1,6 +1,6 @@
 // What time brings: the start of a turn, and for how long a poll may wait. A side that is idle for as long as one of its
 // timeouts expires. Where the settings have no timeouts, no side is looked at.
-ghost use Rattle.std.specs.Prelude.{◌≡◌, ◌^◌, ◌<◌, ◌↔◌, min, max, fold, IsTrue};
+ghost use Rattle.std.specs.Prelude.{◌≡◌, ◌^◌, ◌<◌, ◌↔◌, ◌||◌, min, max, fold, IsTrue};
 ghost use Rattle.std.specs.List.{list_any, flat_map};
 ghost use Rattle.relay_model.specs.Settings.{no_timeouts};
 ghost use Rattle.relay_model.specs.Plain.{side_at, change_side, all_sides};
@@ -8,14 +8,14 @@ ghost use Rattle.relay_model.specs.Reasons.{raise, happened, timeout_flag};
 ghost use Rattle.relay_model.specs.Moments.{is_timed, active_at, both_ways, timers_taken, has_run_out, expire};
 ghost use Rattle.relay_model.specs.Turn.{turned_to};
 ghost use Rattle.relay_state.specs.State.{with_plain};
+ghost use Rattle.relay_state.specs.Closing.{in_side, out_side};
 ghost use Rattle.relay_state.specs.Rooms.{wants};
 ghost use Rattle.relay_state.specs.Time.{expiry, timed, side_timed, begun, poll_timeout};
 ghost use Rattle.relay_core.specs.Waits.{earlier, wait_until, is_expired, expiries};
 
 use crate::relay::Relay;
-use crate::side::SideState;
 use ev_types::{Side, SideId};
-use token_bucket::Dir;
+use relay_sides::Dir;
 
 /// No turn's time is greater: 2^62 milliseconds.
 pub(crate) const LAST_TIME: u64 = 1 << 62;
@@ -31,63 +31,13 @@ fn earlier(a: Option<u64>, b: Option<u64>) -> Option<u64>
     }
 }
 
-impl SideState {
-    ghost use Rattle.std.specs.Prelude.{◌-◌};
-    ghost use Rattle.relay_model.specs.Moments.{timeout_of, last_activity};
-    ghost use Rattle.relay_core.specs.SideView.{plain_side, flow_of_side, lane_of};
-
-    fn timeout(&self, dir: Dir) -> u64
-        ensures { result ≡ timeout_of (plain_side self.now) dir }
-    {
-        match dir {
-            Dir::Read => self.timeouts.read_ms,
-            Dir::Write => self.timeouts.write_ms,
-        }
-    }
-
-    /// For how long the direction was idle.
-    fn idle_time(&self, dir: Dir, time: u64) -> u64
-        ensures { result ≡ time - last_activity (plain_side self.now) dir }
-    {
-        match dir {
-            Dir::Read => time.saturating_sub(self.last_read),
-            Dir::Write => time.saturating_sub(self.last_write),
-        }
-    }
-
-    fn be_active(&mut self, dir: Dir, time: u64)
-        ensures side { plain_side self.new ≡ active_at time dir (plain_side self.old) }
-        ensures flow { flow_of_side self.new ≡ flow_of_side self.old }
-        ensures lane { lane_of self.new ≡ lane_of self.old }
-    {
-        match dir {
-            Dir::Read => self.last_read = time,
-            Dir::Write => self.last_write = time,
-        }
-    }
-
-    /// The direction is disabled, and the side is to be freed for it.
-    fn expire(&mut self, dir: Dir)
-        ensures side { plain_side self.new ≡ expire dir (plain_side self.old) }
-        ensures flow { flow_of_side self.new ≡ flow_of_side self.old }
-        ensures lane { lane_of self.new ≡ lane_of self.old }
-    {
-        match dir {
-            Dir::Read => self.flags.reads = false,
-            Dir::Write => self.flags.writes = false,
-        }
-        self.flags.expired = true;
-    }
-}
-
 impl Relay {
     /// Whether the side is live and has a timeout for the direction.
     fn is_timed(&self, side: SideId, dir: Dir) -> bool
         requires { side.link < self.now.state.plain.opened }
         ensures { result ≡ is_timed (side_at self.now.state.plain side) dir }
     {
-        let own = &self.sides[side.number()];
-        own.flags.live && own.timeout(dir) >= 1
+        self.flags(side).live && self.sides.timeout(side, dir) >= 1
     }
 
     fn wants(&self, side: SideId, dir: Dir) -> bool
@@ -105,8 +55,7 @@ impl Relay {
         requires { side.link < self.now.state.plain.opened }
         ensures { result ≡ has_run_out (side_at self.now.state.plain side) dir self.now.state.plain.time }
     {
-        let own = &self.sides[side.number()];
-        own.idle_time(dir, self.time) >= own.timeout(dir)
+        self.sides.idle_time(side, dir, self.time) >= self.sides.timeout(side, dir)
     }
 
     fn be_active(&mut self, side: SideId, dir: Dir)
@@ -114,9 +63,7 @@ impl Relay {
         ensures { self.new.state
             ≡ with_plain (change_side side (active_at self.old.state.plain.time dir) self.old.state.plain) self.old.state }
     {
-        let time = self.time;
-        let own = &mut self.sides[side.number()];
-        own.be_active(dir, time);
+        self.sides.be_active(side, dir, self.time);
     }
 
     fn expire(&mut self, side: SideId, dir: Dir)
@@ -125,8 +72,7 @@ impl Relay {
         ensures { self.new.state ≡ with_plain (raise self.old.state.settings side (happened dir timeout_flag)
             (change_side side (expire dir) self.old.state.plain)) self.old.state }
     {
-        let own = &mut self.sides[side.number()];
-        own.expire(dir);
+        self.sides.expire(side, dir);
     }
 
     /// The time is held against one direction of a side.
@@ -163,7 +109,7 @@ impl Relay {
         if self.untimed {
             return;
         }
-        for link in 0..self.opened {
+        for link in 0..self.sides.opened() {
             let near = SideId {
                 link,
                 side: Side::In,
@@ -217,16 +163,23 @@ impl Relay {
     fn any_is_expired(&self) -> bool
         ensures { result ≡ list_any (is_expired self.now.state) (all_sides self.now.state.plain) }
     {
-        for link in 0..self.opened {
-            let near = SideId {
-                link,
-                side: Side::In,
-            };
-            if self.is_expired(near) || self.is_expired(near.peer()) {
+        for link in 0..self.sides.opened() {
+            if self.link_is_expired(link) {
                 return true;
             }
         }
         false
+    }
+
+    fn link_is_expired(&self, link: u32) -> bool
+        requires { link < self.now.state.plain.opened }
+        ensures { result ≡ (is_expired self.now.state (in_side link) || is_expired self.now.state (out_side link)) }
+    {
+        let near = SideId {
+            link,
+            side: Side::In,
+        };
+        self.is_expired(near) || self.is_expired(near.peer())
     }
 
     fn is_expired(&self, side: SideId) -> bool
@@ -245,9 +198,8 @@ impl Relay {
         if !self.is_timed(side, dir) || !self.wants(side, dir) {
             return None;
         }
-        let own = &self.sides[side.number()];
-        let idle = own.idle_time(dir, self.time);
-        Some(own.timeout(dir).saturating_sub(idle))
+        let idle = self.sides.idle_time(side, dir, self.time);
+        Some(self.sides.timeout(side, dir).saturating_sub(idle))
     }
 
     fn wait_at(&self, side: SideId) -> Option<u64>
@@ -265,7 +217,7 @@ impl Relay {
         ensures { result ≡ wait_until self.now.state.plain.time (expiries self.now.state (all_sides self.now.state.plain)) }
     {
         let mut least = None;
-        for link in 0..self.opened {
+        for link in 0..self.sides.opened() {
             let near = SideId {
                 link,
                 side: Side::In,

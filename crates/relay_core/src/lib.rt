@@ -8,21 +8,17 @@
 mod close;
 mod count;
 mod expiry;
-mod flags;
 mod open;
 mod pass;
 mod relay;
 mod room;
 mod serve;
-mod side;
-mod step;
 
 pub use close::Closing;
-pub use count::Counts;
 pub use ev_types::LinkCount;
-pub use flags::SideFlags;
 pub use relay::Relay;
 pub use relay_settings::{Marks, Settings, Timeouts};
+pub use relay_sides::{Counts, SideFlags};
 
 #[cfg(test)]
 mod tests;

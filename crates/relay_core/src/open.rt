@@ -2,11 +2,12 @@
 ghost use Rattle.std.specs.Prelude.{◌≡◌, ◌<◌, ◌≤◌, nat_lt, OnOk};
 ghost use Rattle.relay_state.specs.Opening.{after_opened};
 ghost use Rattle.relay_core.specs.Pairs.{HasPairs};
+ghost use Rattle.relay_core.specs.SettingsView.{near_of, far_of};
 
 use crate::relay::Relay;
-use crate::side::SideState;
 use ev_types::NoMemory;
 use relay_settings::Settings;
+use relay_sides::NewSide;
 
 impl Relay {
     /// How many links were opened. The relay keeps two sides and two directions for each of them. Constant; takes no memory.
@@ -16,14 +17,14 @@ impl Relay {
         ensures count { result ≡ self.now.state.plain.opened }
         ensures pairs { HasPairs self.now.state }
     {
-        self.opened
+        self.sides.opened()
     }
 
     /// Whether fewer links were opened than the settings allow.
     pub fn can_open(&self) -> bool
         ensures { result ≡ nat_lt self.now.state.plain.opened self.now.state.settings.links }
     {
-        self.opened < self.settings.links
+        self.sides.opened() < self.settings.links
     }
 
     /// Makes room for one link more.
@@ -31,8 +32,7 @@ impl Relay {
         ensures state { self.new.state ≡ self.old.state }
         ensures room { OnOk result (0 < self.new.spare_links) }
     {
-        self.sides.reserve(2)?;
-        Ok(())
+        self.sides.reserve_link()
     }
 
     /// Opens the next link, in room that was made before. Its In end is connected; whether its Out end is, is told.
@@ -41,25 +41,35 @@ impl Relay {
         requires room { 0 < self.old.spare_links }
         ensures { self.new.state ≡ after_opened self.old.state connected }
     {
-        let alloc = self.alloc;
-        let time = self.time;
-        let Settings {
-            in_read,
-            in_write,
-            out_read,
-            out_write,
-            in_marks,
-            out_marks,
-            in_timeouts,
-            out_timeouts,
-            ..
-        } = self.settings;
-        let inward = (in_read, out_write);
-        let outward = (out_read, in_write);
-        let near = SideState::new(alloc, in_marks, in_timeouts, inward, true, time);
-        let far = SideState::new(alloc, out_marks, out_timeouts, outward, connected, time);
-        self.sides.push(near).unwrap();
-        self.sides.push(far).unwrap();
-        self.opened += 1;
+        let settings = self.settings;
+        let near = near_side(&settings);
+        let far = far_side(&settings, connected);
+        self.sides.open(near, far, self.time);
+    }
+}
+
+/// What the In side of the next link gets. Its end is connected.
+fn near_side(settings: &Settings) -> NewSide
+    ensures { result ≡ near_of settings.now }
+{
+    NewSide {
+        marks: settings.in_marks,
+        timeouts: settings.in_timeouts,
+        read: settings.in_read,
+        write: settings.in_write,
+        connected: true,
+    }
+}
+
+/// What its Out side gets.
+fn far_side(settings: &Settings, connected: bool) -> NewSide
+    ensures { result ≡ far_of settings.now connected }
+{
+    NewSide {
+        marks: settings.out_marks,
+        timeouts: settings.out_timeouts,
+        read: settings.out_read,
+        write: settings.out_write,
+        connected,
     }
 }

@@ -4,8 +4,8 @@ ghost use Rattle.relay_settings.specs.Usual.{no_timeouts};
 ghost use Rattle.relay_state.specs.State.{new_state};
 ghost use Rattle.relay_core.specs.SettingsView.{model_settings};
 
-use crate::side::SideState;
 use relay_settings::{Settings, Timeouts};
+use relay_sides::Sides;
 use std::alloc::Global;
 use std::marker::Model;
 
@@ -15,13 +15,11 @@ use std::marker::Model;
 /// Own; it does what libevent's sample le-proxy does.
 #[derive(Drop)]
 pub struct Relay {
-    pub(crate) alloc: Global,
     pub(crate) settings: Settings,
     pub(crate) untimed: bool,
     pub(crate) time: u64,
     pub(crate) turns: u64,
-    pub(crate) opened: u32,
-    pub(crate) sides: Vec<SideState>,
+    pub(crate) sides: Sides,
 }
 
 impl Model for Relay {
@@ -49,13 +47,11 @@ impl Relay {
         ensures { result.state ≡ new_state (model_settings settings) }
     {
         Relay {
-            alloc,
             settings,
             untimed: is_untimed(&settings),
             time: 0,
             turns: 0,
-            opened: 0,
-            sides: Vec::new(alloc),
+            sides: Sides::new(alloc),
         }
     }
 

@@ -4,12 +4,11 @@ ghost use Rattle.token_bucket.specs.declared.limit.Dir.TheVariants.{Read, Write}
 ghost use Rattle.relay_model.specs.Plain.{side_at};
 ghost use Rattle.relay_model.specs.Rooms.{read_mark, hold_mark, may_read, may_write};
 ghost use Rattle.relay_state.specs.Rooms.{read_room, write_room, offer as offer_of, wants};
-ghost use Rattle.relay_core.specs.SideView.{flags_of};
+ghost use Rattle.relay_sides.specs.SideView.{flags_of};
 
-use crate::flags::SideFlags;
 use crate::relay::Relay;
-use crate::side::MOST_AT_ONCE;
 use ev_types::SideId;
+use relay_sides::{MOST_AT_ONCE, SideFlags};
 
 impl Relay {
     /// What is so of the side.
@@ -17,7 +16,7 @@ impl Relay {
         requires { side.link < self.now.state.plain.opened }
         ensures { result ≡ flags_of (side_at self.now.state.plain side) }
     {
-        self.sides[side.number()].flags
+        self.sides.flags(side)
     }
 
     fn may_read(&self, side: SideId) -> bool
@@ -37,22 +36,6 @@ impl Relay {
         flags.live && !flags.connecting && flags.writes && !flags.failed && !flags.write_ended
     }
 
-    /// The length of the side's input at which reading stops.
-    pub(crate) fn read_mark(&self, side: SideId) -> u64
-        requires { side.link < self.now.state.plain.opened }
-        ensures { result ≡ read_mark self.now.state.plain side }
-    {
-        self.sides[side.number()].read_mark()
-    }
-
-    /// How many bytes that wait for the side's end hold the direction to it.
-    pub(crate) fn hold_mark(&self, side: SideId) -> u64
-        requires { side.link < self.now.state.plain.opened }
-        ensures { result ≡ hold_mark self.now.state.settings self.now.state.plain side }
-    {
-        self.sides[side.number()].hold_mark(self.settings.hold)
-    }
-
     /// How many bytes may be read from the side's end now, at most 16,384.
     pub fn read_room(&self, side: SideId) -> usize
         requires { side.link < self.now.state.plain.opened }
@@ -61,9 +44,9 @@ impl Relay {
         if !self.may_read(side) {
             return 0;
         }
-        let own = &self.sides[side.number()];
-        let mark = own.read_mark() as usize;
-        mark.saturating_sub(own.input_len()).min(MOST_AT_ONCE)
+        let mark = self.sides.read_mark(side) as usize;
+        mark.saturating_sub(self.sides.input_len(side))
+            .min(MOST_AT_ONCE)
     }
 
     /// How many bytes may be given to the side's end now, at most 16,384.
@@ -74,8 +57,7 @@ impl Relay {
         if !self.may_write(side) {
             return 0;
         }
-        let from = &self.sides[side.peer().number()];
-        from.raw_output.len().min(MOST_AT_ONCE)
+        self.sides.waiting_for(side).len().min(MOST_AT_ONCE)
     }
 
     /// The bytes that are given to the side's end now: as many as there is room for.
@@ -84,8 +66,7 @@ impl Relay {
         ensures { result.now ≡ offer_of self.now.state side }
     {
         let room = self.write_room(side);
-        let from = &self.sides[side.peer().number()];
-        let (offer, _) = from.raw_output.as_slice().split_at(room);
+        let (offer, _) = self.sides.waiting_for(side).split_at(room);
         offer
     }
 

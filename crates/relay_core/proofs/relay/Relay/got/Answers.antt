@@ -1,26 +1,20 @@
-use Rattle.std.proofs.Common.{arith, ◌≤◌, length, subst}
+use Rattle.std.proofs.Common.{arith, refl, sym, ◌∙◌, ap}
 use Rattle.token_bucket.specs.declared.limit.Dir.TheVariants as dir
 use Rattle.relay_model.specs.Moments.{active_at}
-use Rattle.relay_state.specs.Passing.{with_bad}
-use Rattle.relay_core.proofs.RelayLemmas.{still_sound, got_is, spare_seen}
+use Rattle.relay_state.specs.Passing.{read_run}
+use Rattle.relay_state.specs.Serving.{with_got}
+use Rattle.relay_sides.specs.Links as links
+use Rattle.relay_core.proofs.RelayLemmas.{got_sound, carried, raise_read-none, no_hook}
 use Rattle.relay_core.proofs.relay.Relay.got.Goals as goal
 
 pub invariant_of-self : goal.invariant_of-self
-invariant_of-self c =
-    still_sound c.args.self.now c.self.inside c.self.view_is c.self.invariant c.args.side c.requires.opened
-    c.number.result c.number.ensures
-    c.index_mut-own.result.now c.index_mut-own.ensures.value c.got.new.self
-    (λ x. with_bad c.got.new.self.bad (active_at c.self.inside.time dir.Read x)) (λ k. (omega arith, k.1, k.2)) c.got.ensures.side
-
-pub got-requires-clause-room : goal.got-requires-clause-room
-got-requires-clause-room c =
-    subst (λ n. length c.args.bytes.now ≤ n)
-    (spare_seen c.args.self.now c.self.inside c.self.view_is c.self.invariant c.args.side c.requires.opened
-    c.number.result c.number.ensures c.index_mut-own.result.now c.index_mut-own.ensures.value)
-    c.requires.room
+invariant_of-self c = got_sound _ _ _ _ _ _ c.args.side c.args.bytes.now c.self.invariant c.got.ensures
 
 pub returns : goal.returns
 returns c =
-    got_is c.args.self.now c.self.inside c.self.view_is c.self.invariant c.args.side c.requires.opened
-    c.number.result c.number.ensures c.index_mut-own.result.now c.index_mut-own.ensures.value c.got.new.self
-    c.args.bytes.now c.got.ensures.side c.got.ensures.passage
+    let r = c.self.inside in
+    let v = c.args.self.now in
+    let e = c.args.side in
+    let bytes = c.args.bytes.now in
+    carried v r c.self.view_is c.got.new.self.links (links.after_got r.time e bytes) (λ s. read_run e (with_got s e bytes)) c.got.ensures refl
+    ∙ sym (raise_read-none e (read_run e (with_got v.state e bytes)) (no_hook v r c.self.view_is e))

@@ -16,7 +16,7 @@ loop-link-preserved c =
     let k = c.loop-link.link in
     let n = c.args.self.now.state.plain.opened in
     let rest = sides_from (k + 1) (n - (k + 1)) in
-    let same : c.self.inside.opened ≡ n = ap (λ (z : RelayValue). z.state.plain.opened) c.self.view_is in
+    let same : c.self.inside.sides.links.opened ≡ n = ap (λ (z : RelayValue). z.state.plain.opened) c.self.view_is in
     let both = c.look_at_side-in-loop-link.ensures.state ∙ (λ i. side_timed (c.look_at_side.ensures.state i) (c.peer.ensures i)) in
     record {
       opened = c.look_at_side-in-loop-link.ensures.opened ∙ c.look_at_side.ensures.opened ∙ c.loop-link.invariant.opened;

@@ -1,11 +1,11 @@
-use Rattle.std.proofs.Common.{◌≡◌, length, ap, sym, subst}
+use Rattle.std.proofs.Common.{◌≡◌, ap, sym, subst}
 use Rattle.std.specs.List.{All}
 use Rattle.std.proofs.lemmas.List.Elements.{All-nil}
 use Rattle.relay_model.specs.Settings as model
 use Rattle.relay_settings.specs.declared.settings.Timeouts.{Timeouts}
 use Rattle.relay_settings.specs.Usual.{no_timeouts}
-use Rattle.relay_core.specs.SettingsView.{model_timeouts}
-use Rattle.relay_core.specs.SideView.{plain_side}
+use Rattle.relay_sides.specs.Links.{Links}
+use Rattle.relay_sides.specs.SettingsView.{model_timeouts}
 use Rattle.relay_core.specs.RelayView.{IsSoundSide}
 use Rattle.relay_core.proofs.relay.Relay.new.Goals as goal
 
@@ -18,8 +18,7 @@ none_set t h =
 
 pub invariant_of-result : goal.invariant_of-result
 invariant_of-result c = record {
-  paired = ap length c.new.ensures.items;
   unset = λ e. (ap model_timeouts (c.is_untimed.ensures.0 e).0, ap model_timeouts (c.is_untimed.ensures.0 e).1);
   untimed_then = λ near far. c.is_untimed.ensures.1 (none_set c.args.settings.in_timeouts near, none_set c.args.settings.out_timeouts far);
-  sides = subst (All (λ x. IsSoundSide 0 c.is_untimed.result (plain_side x))) (sym c.new.ensures.items) (All-nil _);
+  sides = subst (λ (k : Links). All (IsSoundSide 0 c.is_untimed.result) k.sides) (sym c.new.ensures) (All-nil _);
 }

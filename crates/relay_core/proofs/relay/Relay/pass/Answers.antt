@@ -1,36 +1,17 @@
-use Rattle.std.proofs.Common.{sym, ap, ◌∙◌}
-use Rattle.relay_model.specs.Plain.{side_at, change_side}
-use Rattle.relay_state.specs.State.{with_plain}
-use Rattle.relay_state.specs.Passing.{with_bad}
-use Rattle.relay_core.proofs.RelayLemmas.{whole_passes, whole_still, whole_apart}
+use Rattle.relay_core.proofs.RelayLemmas.{passed_sound, state_passes, state_still, state_apart}
 use Rattle.relay_core.proofs.relay.Relay.pass.Goals as goal
+
+pub invariant_of-self : goal.invariant_of-self
+invariant_of-self c = passed_sound _ _ _ _ _ _ _ c.args.from _ _ c.pass.result c.self.invariant c.pass.ensures.passed
 
 pub returns-clause-passed : goal.returns-clause-passed
 returns-clause-passed c =
-    let old = c.args.self.now.state in
-    let mid = c.pass_half-result.new.self.state in
-    whole_passes old mid c.set_bad.new.self.state c.args.from c.bad-to_bad.result c.pass_half-result.new.to_bad _ _
-    c.pass_half-result.result
-    (c.bad-to_bad.ensures ∙ ap (λ e. (side_at old.plain e).bad) c.peer.ensures)
-    c.pass_half-result.ensures.passed
-    (c.set_bad.ensures.state ∙ ap (λ e. with_plain (change_side e (with_bad c.pass_half-result.new.to_bad) mid.plain) mid) c.peer-2.ensures)
+    state_passes c.args.self.now c.self.inside c.self.view_is c.pass.new.self.links c.args.from _ _ c.pass.result c.pass.ensures.passed
 
 pub returns-clause-still : goal.returns-clause-still
 returns-clause-still c = λ h.
-    let old = c.args.self.now.state in
-    let mid = c.pass_half-result.new.self.state in
-    whole_still old mid c.set_bad.new.self.state c.args.from c.bad-to_bad.result c.pass_half-result.new.to_bad
-    (c.bad-to_bad.ensures ∙ ap (λ e. (side_at old.plain e).bad) c.peer.ensures)
-    (c.pass_half-result.ensures.still h)
-    (c.set_bad.ensures.state ∙ ap (λ e. with_plain (change_side e (with_bad c.pass_half-result.new.to_bad) mid.plain) mid) c.peer-2.ensures)
+    state_still c.args.self.now c.self.inside c.self.view_is c.pass.new.self.links c.args.from (c.pass.ensures.still h)
 
 pub returns-clause-apart : goal.returns-clause-apart
 returns-clause-apart c = λ h.
-    let old = c.args.self.now.state in
-    let mid = c.pass_half-result.new.self.state in
-    let new = c.set_bad.new.self.state in
-    whole_apart old mid new c.args.from c.bad-to_bad.result c.pass_half-result.new.to_bad
-    (c.bad-to_bad.ensures ∙ ap (λ e. (side_at old.plain e).bad) c.peer.ensures)
-    (c.pass_half-result.ensures.apart h)
-    (c.set_bad.ensures.state ∙ ap (λ e. with_plain (change_side e (with_bad c.pass_half-result.new.to_bad) mid.plain) mid) c.peer-2.ensures)
-    (ap (λ e. (side_at new.plain e).bad) (sym c.peer-2.ensures) ∙ c.set_bad.ensures.told)
+    state_apart c.args.self.now c.self.inside c.self.view_is c.pass.new.self.links (c.pass.ensures.apart h)
