@@ -28,6 +28,16 @@ touched bev Write moment = record bev { last_write = moment }
 abbrev pub freed : BevValue → BevValue
 freed bev = record bev { live = false; input = nothing; output = nothing }
 
+-- the buffer of a direction: what is read passes inputs, what is written passes outputs
+abbrev pub held : BevValue → Dir → Held
+held bev Read = bev.input
+held bev Write = bev.output
+
+-- the buffer of a direction is another, and all else as it was
+abbrev pub with_held : BevValue → Dir → Held → BevValue
+with_held bev Read buf = record bev { input = buf }
+with_held bev Write buf = record bev { output = buf }
+
 -- bytes come in behind; the last argument is what is spare afterwards
 abbrev pub more : Held → List ℕ → ℕ → Held
 more held bytes left = record { bytes = held.bytes ++ bytes; spare = left }
@@ -47,6 +57,10 @@ given_up bev = record bev { input = without_room bev.input; output = without_roo
 -- bytes come into the input in room that was made before
 abbrev pub pushed : BevValue → List ℕ → BevValue
 pushed bev bytes = record bev { input = more bev.input bytes (bev.input.spare - length bytes) }
+
+-- bytes come into the output so
+abbrev pub pushed_output : BevValue → List ℕ → BevValue
+pushed_output bev bytes = record bev { output = more bev.output bytes (bev.output.spare - length bytes) }
 
 -- end of file was met in a direction
 abbrev pub ended_at : BevValue → Dir → BevValue

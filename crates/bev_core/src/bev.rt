@@ -1,14 +1,15 @@
 // A bufferevent: two buffers with flags, marks, timeouts and references. What moves bytes is left to the crates above.
 //
 // What a bufferevent keeps:
-// 1. After a free it has no byte, and each call that could change it is refused, before all else.
+// 1. After a free it has no byte, and each call that asks whether it is live is refused, before all else. The others say so, and
+//    what they are for: steps after a read or a write, and moves in room that was made.
 // 2. A refused call has changed nothing.
 // 3. Nobody else reaches its buffers, so the input is frozen at its end and the output at its front for all others.
 ghost use Rattle.std.specs.Prelude.{◌≡◌, ◌≤◌, ◌<◌, ◌+◌, ◌-◌, ◌^◌, ◌++◌, ◌==◌, [], length, drop, take, min, true, false, None, OnOk, OnErr, IfOk, if◌then◌else◌};
 ghost use Rattle.evbuf_chain.specs.Answers.{AnswersOr, fault_of};
 ghost use Rattle.bev_core.specs.BevValue.{new_bev, state_of, reaches_low};
 ghost use Rattle.bev_core.specs.Refusals.{live_refusal, length_refusal, write_refusal, add_refusal, incref_refusal, decref_refusal};
-ghost use Rattle.bev_core.specs.Steps.{with_enabled, with_marks, with_timeouts, touched, freed, more, less, pushed, given_up, ended_at, failed_at};
+ghost use Rattle.bev_core.specs.Steps.{with_enabled, with_marks, with_timeouts, touched, freed, held, with_held, more, less, pushed, pushed_output, given_up, ended_at, failed_at};
 ghost use Rattle.bev_core.specs.declared.fault.BevFault.TheVariants.{Memory};
 
 mod moves;
@@ -16,15 +17,10 @@ mod moves;
 use crate::fault::BevFault;
 use crate::own_buffer::OwnBuffer;
 use crate::state::BevState;
+use ev_types::NoMemory;
 use std::alloc::Global;
 use std::marker::Model;
 use token_bucket::Dir;
-
-/// The greatest mark, in bytes.
-pub const MAX_MARK: u64 = 1 << 24;
-
-/// The longest timeout, in milliseconds.
-pub const MAX_TIMEOUT_MS: u64 = 1 << 40;
 
 /// A bufferevent. Contracts see its plain values beside its input and its output, each as its bytes and how many more fit
 /// without taking memory.
@@ -163,12 +159,10 @@ impl Bev {
         Ok(())
     }
 
-    /// Sets both marks of a direction, in bytes. A high mark of 0 is none. Takes no memory; constant cost.
+    /// Sets both marks of a direction, in bytes. A high mark of 0 is none, and no mark is too high. Takes no memory; constant cost.
     ///
     /// Libevent: event2/bufferevent.h, `bufferevent_setwatermark`; "Bufferevents: concepts and basics".
     pub fn set_watermark(&mut self, dir: Dir, low: u64, high: u64) -> Result<(), BevFault>
-        requires low_within { low ≤ MAX_MARK }
-        requires high_within { high ≤ MAX_MARK }
         ensures answer { fault_of result ≡ live_refusal self.old }
         ensures ok { OnOk result (self.new ≡ with_marks self.old dir low high) }
         ensures err { OnErr result (self.new ≡ self.old) }
@@ -187,13 +181,11 @@ impl Bev {
         Ok(())
     }
 
-    /// Sets both timeouts, in milliseconds, and makes a moment the last activity of both directions. 0 is no timeout. Takes
-    /// no memory; constant cost.
+    /// Sets both timeouts, in milliseconds, and makes a moment the last activity of both directions. 0 is no timeout, and none is
+    /// too long. Takes no memory; constant cost.
     ///
     /// Libevent: event2/bufferevent.h, `bufferevent_set_timeouts`; "Bufferevents: concepts and basics".
     pub fn set_timeouts(&mut self, read_ms: u64, write_ms: u64, now: u64) -> Result<(), BevFault>
-        requires read_within { read_ms ≤ MAX_TIMEOUT_MS }
-        requires write_within { write_ms ≤ MAX_TIMEOUT_MS }
         ensures answer { fault_of result ≡ live_refusal self.old }
         ensures ok { OnOk result (self.new ≡ with_timeouts self.old read_ms write_ms now) }
         ensures err { OnErr result (self.new ≡ self.old) }
@@ -255,10 +247,39 @@ impl Bev {
         ensures err { OnErr result (self.new ≡ self.old) }
     {
         self.is_live()?;
+        self.discard();
+        Ok(())
+    }
+
+    /// Does what `free` does, whether it is live or not. Takes no memory; constant cost.
+    ///
+    /// Own.
+    pub fn discard(&mut self)
+        ensures { self.new ≡ freed self.old }
+    {
         self.live = false;
         self.input.empty();
         self.output.empty();
-        Ok(())
+    }
+
+    /// How many bytes the input holds. With the room that is spare they fit a usize. Takes no memory; constant cost.
+    ///
+    /// Libevent: event2/buffer.h, `evbuffer_get_length`; "Evbuffers".
+    pub fn input_len(&self) -> usize
+        ensures len { result ≡ length self.now.input.bytes }
+        ensures fits { length self.now.input.bytes + self.now.input.spare < 2 ^ 64 }
+    {
+        self.input.len()
+    }
+
+    /// How many bytes the output holds, as `input_len`.
+    ///
+    /// Libevent: event2/buffer.h, `evbuffer_get_length`; "Evbuffers".
+    pub fn output_len(&self) -> usize
+        ensures len { result ≡ length self.now.output.bytes }
+        ensures fits { length self.now.output.bytes + self.now.output.spare < 2 ^ 64 }
+    {
+        self.output.len()
     }
 
     /// Copies the first bytes of the input, as many as are there and fit, and answers how many. Takes no memory; linear in
@@ -358,6 +379,22 @@ impl Bev {
         Ok(())
     }
 
+    /// Makes room for at least n more bytes in the buffer of a direction, the input for reading and the output for writing, whether
+    /// it is live or not. Takes memory; linear in the length and n.
+    ///
+    /// Own.
+    pub fn make_room(&mut self, dir: Dir, n: usize) -> Result<(), NoMemory>
+        ensures stays { self.new ≡ with_held self.old dir (record (held self.old dir) { spare = (held self.new dir).spare }) }
+        ensures room { OnOk result (n ≤ (held self.new dir).spare) }
+        ensures kept { (held self.old dir).spare ≤ (held self.new dir).spare }
+        ensures err { OnErr result (self.new ≡ self.old) }
+    {
+        match dir {
+            Dir::Read => self.input.reserve(n),
+            Dir::Write => self.output.reserve(n),
+        }
+    }
+
     /// Copies bytes to the end of the input, in room that was made before. Takes no memory; linear in the length.
     ///
     /// Own.
@@ -366,6 +403,16 @@ impl Bev {
         ensures { self.new ≡ pushed self.old bytes.now }
     {
         self.input.push(bytes);
+    }
+
+    /// Copies bytes to the end of the output, as `push_input` to that of the input.
+    ///
+    /// Own.
+    pub fn push_output(&mut self, bytes: &[u8])
+        requires { length bytes.now ≤ self.old.output.spare }
+        ensures { self.new ≡ pushed_output self.old bytes.now }
+    {
+        self.output.push(bytes);
     }
 
     /// Takes off the first n bytes of the input, or all where there are fewer. Takes no memory.

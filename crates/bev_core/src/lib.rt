@@ -7,7 +7,7 @@ mod fault;
 mod own_buffer;
 mod state;
 
-pub use bev::{Bev, MAX_MARK, MAX_TIMEOUT_MS};
+pub use bev::Bev;
 pub use event::{EOF, ERROR, READING, TIMEOUT, WRITING};
 pub use fault::BevFault;
 pub use state::BevState;

@@ -3,6 +3,7 @@
 ghost use Rattle.std.specs.Prelude.{◌≡◌, ◌≤◌, ◌<◌, ◌+◌, ◌-◌, ◌^◌, ◌++◌, ◌==◌, [], length, drop, take, min, None, OnOk, OnErr, IfOk, if◌then◌else◌};
 ghost use Rattle.evbuf_chain.specs.Answers.{AnswersOr, fault_of};
 ghost use Rattle.bev_core.specs.BevValue.{Held, nothing};
+ghost use Rattle.bev_core.specs.Moves.{GoesInto};
 ghost use Rattle.bev_core.specs.Refusals.{length_refusal};
 ghost use Rattle.bev_core.specs.Steps.{more, less, without_room};
 ghost use Rattle.bev_core.specs.declared.fault.BevFault.TheVariants.{Memory};
@@ -135,17 +136,27 @@ impl OwnBuffer {
         ensures to_err { OnErr result (to.new ≡ to.old) }
         ensures exchanged { length self.old.bytes ≤ n → to.old.bytes ≡ [] → fault_of result ≡ None }
     {
-        if self.len() <= n && to.len() == 0 {
-            let moved = self.len();
-            mem::swap(&mut self.buf, &mut to.buf);
-            return Ok(moved);
+        let moved = n.min(self.len());
+        if self.len() > n || to.len() > 0 {
+            to.fits(moved)?;
+            to.reserve(moved)?;
         }
-        let n = n.min(self.len());
-        to.fits(n)?;
-        to.reserve(n)?;
+        self.hand_front(n, to);
+        Ok(moved)
+    }
+
+    /// The same in room that was made before, where not all go into an empty one. Takes no memory.
+    pub(crate) fn hand_front(&mut self, n: usize, to: &mut OwnBuffer)
+        requires { GoesInto n self.old to.old }
+        ensures left { self.new ≡ less self.old n self.new.spare }
+        ensures given { to.new ≡ more to.old (take n self.old.bytes) to.new.spare }
+    {
+        if self.len() <= n && to.len() == 0 {
+            mem::swap(&mut self.buf, &mut to.buf);
+            return;
+        }
         to.push(self.front(n));
         self.drain(n);
-        Ok(n)
     }
 
     // Whether so many more bytes leave a length that fits a usize.

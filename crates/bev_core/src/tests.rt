@@ -132,3 +132,63 @@ fn input_goes_to_the_end_of_another_input_or_output(rt: HostRuntime) -> Result<(
     assert_eq!(rt; output(&to), b"z".as_slice());
     Ok(())
 }
+
+/// Copies bytes to the end of the output in room that it makes.
+fn push(bev: &mut Bev, bytes: &[u8]) -> Result<usize, BevFault> {
+    bev.make_room(Dir::Write, bytes.len())?;
+    bev.push_output(bytes);
+    Ok(bev.output_len())
+}
+
+/// Hands on the input in room that it makes.
+fn hand_input(from: &mut Bev, to: &mut Bev, n: usize) -> Result<usize, BevFault> {
+    to.make_room(Dir::Read, n)?;
+    from.hand_input(to, n);
+    Ok(to.input_len())
+}
+
+/// Hands on the output in room that it makes.
+fn hand_output(from: &mut Bev, to: &mut Bev, n: usize) -> Result<usize, BevFault> {
+    to.make_room(Dir::Write, n)?;
+    from.hand_output(to, n);
+    Ok(to.output_len())
+}
+
+fn exchange(from: &mut Bev, to: &mut Bev) {
+    from.exchange_input(to);
+}
+
+fn discard(bev: &mut Bev) {
+    bev.discard();
+}
+
+#[test]
+fn bytes_go_into_room_that_was_made(rt: HostRuntime) -> Result<(), Fail> {
+    let mut from = with_input(rt.alloc())?;
+    let mut to = Bev::new(rt.alloc())?;
+    assert_eq!(rt; push(&mut from, b"ab"), Ok(2));
+    assert_eq!(rt; push(&mut from, b"cde"), Ok(5));
+    assert_eq!(rt; hand_input(&mut from, &mut to, 1), Ok(1));
+    assert_eq!(rt; hand_output(&mut from, &mut to, 9), Ok(5));
+    exchange(&mut from, &mut to);
+    assert_eq!(rt;
+        (input(&from), input(&to)),
+        (b"abcde".as_slice(), b"x".as_slice())
+    );
+    assert_eq!(rt; output(&to), b"yz".as_slice());
+    Ok(())
+}
+
+#[test]
+fn a_freed_one_is_discarded_too(rt: HostRuntime) -> Result<(), Fail> {
+    let mut bev = with_output(rt.alloc(), b"ab")?;
+    discard(&mut bev);
+    assert_eq!(rt; (state(&bev).live, output(&bev)), (false, b"".as_slice()));
+    assert_eq!(rt; push(&mut bev, b"c"), Ok(1));
+    discard(&mut bev);
+    assert_eq!(rt;
+        (free(&mut bev), output(&bev)),
+        (Err(BevFault::NotLive), b"".as_slice())
+    );
+    Ok(())
+}
