@@ -1,26 +1,15 @@
 -- Bytes that go through a filter from a buffer of one bufferevent to the buffer of the same direction of another.
 use Rattle.std.specs.Prelude.{◌≡◌, ℕ, Bool, true, false, Option, Some, Result, Ok, Err, length}
 use Rattle.token_bucket.specs.declared.limit.Dir.{Dir}
-use Rattle.token_bucket.specs.declared.limit.Dir.TheVariants.{Read, Write}
 use Rattle.ev_types.specs.declared.filter.Mode.{Mode}
 use Rattle.relay_model.specs.Conserved.{Running}
 use Rattle.relay_model.specs.FilterStep.{Stepped, stepped}
 use Rattle.stream_filters.specs.declared.stream_filter.Step.{Step}
 use Rattle.stream_filters.specs.StepAnswers.{is_last, WentOn}
-use Rattle.bev_core.specs.BevValue.{Held, BevValue}
-use Rattle.bev_core.specs.Steps.{more, less}
+use Rattle.bev_core.specs.BevValue.{BevValue}
+use Rattle.bev_core.specs.Steps.{held, with_held, more, less}
 use Rattle.bev_filter.specs.declared.fault.PassFault.{PassFault}
 use Rattle.bev_filter.specs.declared.fault.PassFault.TheVariants.{Memory, Filter, Spent}
-
--- the buffer of a direction: what is read passes inputs, what is written passes outputs
-abbrev pub held : BevValue → Dir → Held
-held bev Read = bev.input
-held bev Write = bev.output
-
--- the buffer of a direction is another, and all else as it was
-abbrev pub with_held : BevValue → Dir → Held → BevValue
-with_held bev Read buf = record bev { input = buf }
-with_held bev Write buf = record bev { output = buf }
 
 -- the bufferevent that bytes leave, the one to which they come, and the filter
 pub record Crossing : Type 0 where
@@ -28,9 +17,13 @@ pub record Crossing : Type 0 where
   pub to : BevValue
   pub filter : Running
 
--- the filter's step over all bytes of the source, with the target's length under the limit
+-- the filter's step over all bytes of the source, with the target's length under the limit, where the stream ends behind them or not
+abbrev pub stepping : Dir → Crossing → ℕ → Bool → Stepped
+stepping dir p limit over = stepped p.filter over limit (length (held p.to dir).bytes) (held p.from dir).bytes
+
+-- the same, by the mode
 abbrev pub passing : Dir → Crossing → ℕ → Mode → Stepped
-passing dir p limit mode = stepped p.filter (is_last mode) limit (length (held p.to dir).bytes) (held p.from dir).bytes
+passing dir p limit mode = stepping dir p limit (is_last mode)
 
 -- The step was made: the bytes that it used have left the source, and what it made of them stands at the end of the target.
 -- Nothing else changed but what is spare in the two.

@@ -5,10 +5,12 @@
 mod buffers;
 mod fault;
 mod passing;
+mod step;
 
 pub use bev_core::Bev;
 pub use fault::PassFault;
 pub use passing::{process_input, process_output};
+pub use step::{reserve_step, step_reserved};
 pub use stream_filters::{AnyFilter, FilterKind, Mode, Step};
 
 #[cfg(test)]

@@ -4,7 +4,8 @@ ghost use Rattle.ev_types.specs.declared.filter.FilterKind.TheVariants as kind_o
 ghost use Rattle.ev_types.specs.declared.filter.Mode.TheVariants as mode_of;
 ghost use Rattle.token_bucket.specs.declared.limit.Dir.TheVariants as dir_of;
 ghost use Rattle.stream_filters.specs.StepAnswers.{is_spent};
-ghost use Rattle.bev_filter.specs.Passing.{held, Passes, says_spent};
+ghost use Rattle.bev_core.specs.Steps.{held};
+ghost use Rattle.bev_filter.specs.Passing.{Passes, says_spent};
 
 use crate::buffers::{add, bytes, drain, hand_over, len};
 use crate::fault::PassFault;

@@ -1,0 +1,137 @@
+// A filter's step from one bufferevent to another in room that was made before, which is never refused. Bytes that a filter hands on as
+// they are move with their buffer where that can be; what another filter makes is made beside the buffers and pushed.
+ghost use Rattle.std.specs.Prelude.{◌≡◌, ◌+◌, ◌≤◌, ◌<◌, ◌^◌, length, OnOk, IfOk, vec_capacity};
+ghost use Rattle.ev_types.specs.declared.filter.FilterKind.TheVariants as kind_of;
+ghost use Rattle.stream_filters.specs.StepAnswers.{most_by_step};
+ghost use Rattle.bev_core.specs.Steps.{held, with_held};
+ghost use Rattle.bev_filter.specs.Passing.{Crossed, stepping};
+ghost use Rattle.bev_filter.specs.StepRoom.{hands_on, HasStepRoom, MovesInto};
+
+use crate::buffers::{bytes, drain, hand_in_room, len, push};
+use bev_core::{Bev, Dir};
+use ev_types::{FilterKind, NoMemory};
+use std::vec::Vec;
+use stream_filters::{AnyFilter, most_step};
+
+/// Makes room for a step of a filter of this kind that is offered `count` bytes: in the buffer of the direction to which they go, and
+/// beside it where the filter makes bytes; what stands in `beside` is dropped then. Whether the bufferevent is live is not looked at.
+/// Answers how many bytes the step makes at most.
+///
+/// Refused for want of memory, and where what it makes could not be counted in a u64 behind the `made` bytes that were made before.
+/// Takes no memory where all bytes go as they are into an empty buffer, and else for that most; linear in what the buffer holds.
+///
+/// Own.
+pub fn reserve_step(
+    kind: FilterKind,
+    count: usize,
+    to: &mut Bev,
+    dir: Dir,
+    beside: &mut Vec<u8>,
+    limit: usize,
+    made: u64,
+) -> Result<usize, NoMemory>
+    ensures stays { to.new ≡ with_held to.old dir (record (held to.old dir) { spare = (held to.new dir).spare }) }
+    ensures spare { (held to.old dir).spare ≤ (held to.new dir).spare }
+    ensures beside { vec_capacity beside.old ≤ vec_capacity beside.new }
+    ensures room { OnOk result (HasStepRoom kind count (length (held to.new dir).bytes) limit (held to.new dir).spare (vec_capacity beside.new) made) }
+    ensures most { IfOk result (λ most. most ≡ most_by_step kind count (length (held to.new dir).bytes) limit) }
+{
+    let held = len(to, dir);
+    let most = most_step(kind, count, held, limit);
+    if most as u64 >= u64::MAX - made {
+        return Err(NoMemory);
+    }
+    let hands_on = hands_on(kind);
+    if hands_on && held == 0 && count <= limit {
+        return Ok(most);
+    }
+    to.make_room(dir, most)?;
+    if !hands_on {
+        beside.clear();
+        beside.reserve(most)?;
+    }
+    Ok(most)
+}
+
+/// The step of a filter from the buffer of a direction of one bufferevent to that of another, as far as the limit allows and as
+/// `process_input` makes it, in room that `reserve_step` made for as many bytes as there are or for more. `over` says that the stream
+/// ends behind the source. A filter that is finished or has stopped does nothing. Whether the two are live is not looked at. Answers
+/// how many bytes were made by then, of which `made` were made before.
+///
+/// Asked that the bytes that the filter used and those of the source are no more than a u64 counts. Takes no memory, and is never
+/// refused; constant where all bytes go as they are into an empty buffer, and else linear in the source.
+///
+/// Own.
+pub fn step_reserved(
+    from: &mut Bev,
+    to: &mut Bev,
+    dir: Dir,
+    filter: &mut AnyFilter,
+    limit: usize,
+    over: bool,
+    beside: &mut Vec<u8>,
+    made: u64,
+) -> u64
+    requires counted { filter.old.used + length (held from.old dir).bytes < 2 ^ 64 }
+    requires room { HasStepRoom filter.old.kind (length (held from.old dir).bytes) (length (held to.old dir).bytes) limit (held to.old dir).spare (vec_capacity beside.old) made }
+    ensures crossed { Crossed dir (stepping dir (record { from = from.old; to = to.old; filter = filter.old }) limit over) (record { from = from.old; to = to.old; filter = filter.old }) (record { from = from.new; to = to.new; filter = filter.new }) }
+    ensures made { result ≡ made + length (stepping dir (record { from = from.old; to = to.old; filter = filter.old }) limit over).made }
+    ensures beside { vec_capacity beside.old ≤ vec_capacity beside.new }
+{
+    match filter.kind() {
+        FilterKind::None => made + hand_step(from, to, dir, filter, limit, over) as u64,
+        _ => made + make_step(from, to, dir, filter, limit, over, beside) as u64,
+    }
+}
+
+/// Whether a filter gives every byte as it is.
+fn hands_on(kind: FilterKind) -> bool
+    ensures { result ≡ hands_on kind }
+{
+    kind == FilterKind::None
+}
+
+/// The step of a filter that hands its bytes on. It answers how many.
+fn hand_step(
+    from: &mut Bev,
+    to: &mut Bev,
+    dir: Dir,
+    filter: &mut AnyFilter,
+    limit: usize,
+    over: bool,
+) -> usize
+    requires kind { filter.old.kind ≡ kind_of.None }
+    requires counted { filter.old.used + length (held from.old dir).bytes < 2 ^ 64 }
+    requires room { MovesInto (length (held from.old dir).bytes) (held to.old dir) limit }
+    ensures crossed { Crossed dir (stepping dir (record { from = from.old; to = to.old; filter = filter.old }) limit over) (record { from = from.old; to = to.old; filter = filter.old }) (record { from = from.new; to = to.new; filter = filter.new }) }
+    ensures made { result ≡ length (stepping dir (record { from = from.old; to = to.old; filter = filter.old }) limit over).made }
+{
+    let used = filter.hand_on(bytes(from, dir), len(to, dir), limit, over);
+    hand_in_room(from, to, dir, used);
+    used
+}
+
+/// The step of any filter. It answers how many bytes it made.
+fn make_step(
+    from: &mut Bev,
+    to: &mut Bev,
+    dir: Dir,
+    filter: &mut AnyFilter,
+    limit: usize,
+    over: bool,
+    beside: &mut Vec<u8>,
+) -> usize
+    requires counted { filter.old.used + length (held from.old dir).bytes < 2 ^ 64 }
+    requires room { most_by_step filter.old.kind (length (held from.old dir).bytes) (length (held to.old dir).bytes) limit ≤ (held to.old dir).spare }
+    requires beside { most_by_step filter.old.kind (length (held from.old dir).bytes) (length (held to.old dir).bytes) limit ≤ vec_capacity beside.old }
+    ensures crossed { Crossed dir (stepping dir (record { from = from.old; to = to.old; filter = filter.old }) limit over) (record { from = from.old; to = to.old; filter = filter.old }) (record { from = from.new; to = to.new; filter = filter.new }) }
+    ensures made { result ≡ length (stepping dir (record { from = from.old; to = to.old; filter = filter.old }) limit over).made }
+    ensures beside { vec_capacity beside.old ≤ vec_capacity beside.new }
+{
+    beside.clear();
+    let room = limit.saturating_sub(len(to, dir));
+    let used = filter.make(bytes(from, dir), beside, room, over);
+    push(to, dir, beside);
+    drain(from, dir, used);
+    beside.len()
+}
