@@ -3,7 +3,10 @@ use Rattle.std.specs.Prelude.{◌≡◌, ◌+◌, ◌≤◌, ◌<◌, ◌^◌, �
 use Rattle.ev_types.specs.declared.filter.FilterKind.{FilterKind}
 use Rattle.ev_types.specs.declared.filter.FilterKind.TheVariants as kind
 use Rattle.stream_filters.specs.StepAnswers.{most_by_step}
+use Rattle.token_bucket.specs.declared.limit.Dir.{Dir}
 use Rattle.bev_core.specs.BevValue.{Held}
+use Rattle.bev_core.specs.Steps.{held}
+use Rattle.bev_filter.specs.Passing.{Crossing}
 
 -- gives a filter every byte as it is
 abbrev pub hands_on : FilterKind → Bool
@@ -28,3 +31,12 @@ pub record HasStepRoom (k : FilterKind) (count held limit spare beside made : �
 abbrev pub MovesInto : ℕ → Held → ℕ → Type 0
 MovesInto count to limit =
     goes_whole kind.None count (length to.bytes) limit ≡ false → most_by_step kind.None count (length to.bytes) limit ≤ to.spare
+
+-- there is room for the step over all bytes of the source
+abbrev pub HasRoomFor : Dir → Crossing → ℕ → ℕ → ℕ → Type 0
+HasRoomFor dir p limit beside made =
+    HasStepRoom p.filter.kind (length (held p.from dir).bytes) (length (held p.to dir).bytes) limit (held p.to dir).spare beside made
+
+-- the bytes that the filter used and those of the source are no more than a u64 counts
+abbrev pub IsCounted : Dir → Crossing → Type 0
+IsCounted dir p = p.filter.used + length (held p.from dir).bytes < 2 ^ 64

@@ -5,7 +5,7 @@ ghost use Rattle.ev_types.specs.declared.filter.FilterKind.TheVariants as kind_o
 ghost use Rattle.stream_filters.specs.StepAnswers.{most_by_step};
 ghost use Rattle.bev_core.specs.Steps.{held, with_held};
 ghost use Rattle.bev_filter.specs.Passing.{Crossed, stepping};
-ghost use Rattle.bev_filter.specs.StepRoom.{hands_on, HasStepRoom, MovesInto};
+ghost use Rattle.bev_filter.specs.StepRoom.{hands_on, HasStepRoom, HasRoomFor, IsCounted, MovesInto};
 
 use crate::buffers::{bytes, drain, hand_in_room, len, push};
 use bev_core::{Bev, Dir};
@@ -72,8 +72,8 @@ pub fn step_reserved(
     beside: &mut Vec<u8>,
     made: u64,
 ) -> u64
-    requires counted { filter.old.used + length (held from.old dir).bytes < 2 ^ 64 }
-    requires room { HasStepRoom filter.old.kind (length (held from.old dir).bytes) (length (held to.old dir).bytes) limit (held to.old dir).spare (vec_capacity beside.old) made }
+    requires counted { IsCounted dir (record { from = from.old; to = to.old; filter = filter.old }) }
+    requires room { HasRoomFor dir (record { from = from.old; to = to.old; filter = filter.old }) limit (vec_capacity beside.old) made }
     ensures crossed { Crossed dir (stepping dir (record { from = from.old; to = to.old; filter = filter.old }) limit over) (record { from = from.old; to = to.old; filter = filter.old }) (record { from = from.new; to = to.new; filter = filter.new }) }
     ensures made { result ≡ made + length (stepping dir (record { from = from.old; to = to.old; filter = filter.old }) limit over).made }
     ensures beside { vec_capacity beside.old ≤ vec_capacity beside.new }
@@ -101,7 +101,7 @@ fn hand_step(
     over: bool,
 ) -> usize
     requires kind { filter.old.kind ≡ kind_of.None }
-    requires counted { filter.old.used + length (held from.old dir).bytes < 2 ^ 64 }
+    requires counted { IsCounted dir (record { from = from.old; to = to.old; filter = filter.old }) }
     requires room { MovesInto (length (held from.old dir).bytes) (held to.old dir) limit }
     ensures crossed { Crossed dir (stepping dir (record { from = from.old; to = to.old; filter = filter.old }) limit over) (record { from = from.old; to = to.old; filter = filter.old }) (record { from = from.new; to = to.new; filter = filter.new }) }
     ensures made { result ≡ length (stepping dir (record { from = from.old; to = to.old; filter = filter.old }) limit over).made }
@@ -121,7 +121,7 @@ fn make_step(
     over: bool,
     beside: &mut Vec<u8>,
 ) -> usize
-    requires counted { filter.old.used + length (held from.old dir).bytes < 2 ^ 64 }
+    requires counted { IsCounted dir (record { from = from.old; to = to.old; filter = filter.old }) }
     requires room { most_by_step filter.old.kind (length (held from.old dir).bytes) (length (held to.old dir).bytes) limit ≤ (held to.old dir).spare }
     requires beside { most_by_step filter.old.kind (length (held from.old dir).bytes) (length (held to.old dir).bytes) limit ≤ vec_capacity beside.old }
     ensures crossed { Crossed dir (stepping dir (record { from = from.old; to = to.old; filter = filter.old }) limit over) (record { from = from.old; to = to.old; filter = filter.old }) (record { from = from.new; to = to.new; filter = filter.new }) }

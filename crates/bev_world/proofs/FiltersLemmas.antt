@@ -65,7 +65,7 @@ pub record Stays (old new : Slot) : Type 0 where
 stays-same : (old new : Slot) → new ≡ old → Stays old new
 stays-same old new is = subst (λ s. Stays old s) (sym is) (record { kind = refl; live = refl; room = λ le. le })
 
-crossed-stays : (dir : Dir) (s : Stepped) (lower over l o : Slot) (after : Crossing) → Crossed dir s (slots_crossing dir lower over) after →
+pub crossed-stays : (dir : Dir) (s : Stepped) (lower over l o : Slot) (after : Crossing) → Crossed dir s (slots_crossing dir lower over) after →
     l ≡ lower_after dir lower after → o ≡ over_after dir over after → Stays lower l × Stays over o
 crossed-stays Read s lower over l o after c l_is o_is = (
   record {

@@ -1,3 +1,4 @@
+pub mod ByNumberLemmas
 pub mod Calls
 pub mod FiltersLemmas
 pub mod FreeLemmas

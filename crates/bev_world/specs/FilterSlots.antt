@@ -7,9 +7,10 @@ use Rattle.ev_types.specs.declared.filter.Mode.TheVariants.{Finished}
 use Rattle.stream_filters.specs.declared.stream_filter.Step.{Step}
 use Rattle.stream_filters.specs.StepAnswers.{is_spent}
 use Rattle.bev_core.specs.BevValue.{reaches_low}
+use Rattle.bev_core.specs.Steps.{held}
 use Rattle.bev_filter.specs.declared.fault.PassFault.{PassFault}
 use Rattle.bev_filter.specs.declared.fault.PassFault.TheVariants as pass
-use Rattle.bev_filter.specs.Passing.{Crossing, Passes, held}
+use Rattle.bev_filter.specs.Passing.{Crossing, Passes}
 use Rattle.bev_world.specs.declared.fault.WorldFault.{WorldFault}
 use Rattle.bev_world.specs.declared.fault.WorldFault.TheVariants as fault
 use Rattle.bev_world.specs.declared.slot.Slot.{Slot}

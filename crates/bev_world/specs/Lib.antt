@@ -1,4 +1,5 @@
 pub mod Batches
+pub mod ByNumber
 pub mod Frees
 pub mod FilterSlots
 pub mod Filters

@@ -7,12 +7,12 @@ mod roster;
 mod slot;
 mod world;
 
-pub use bev_core::{BevState, Dir};
+pub use bev_core::{Bev, BevState, Dir};
 pub use callback::Callback;
 pub use ev_types::{BevId, FilterKind, Flags, Mode, NoMemory, Why};
 pub use fault::WorldFault;
 pub use roster::{Roster, run_due};
-pub use stream_filters::Step;
+pub use stream_filters::{AnyFilter, Step};
 pub use world::World;
 
 #[cfg(test)]

@@ -13,6 +13,7 @@ ghost use Rattle.bev_world.specs.Refusals.{live_refusal};
 ghost use Rattle.bev_world.specs.Went.{Went};
 ghost use Rattle.bev_world.specs.WorldValue.{slot_at, bev_at, is_live, raised, raised_if, room_at};
 
+mod by_number;
 mod events;
 mod filters;
 mod flags;

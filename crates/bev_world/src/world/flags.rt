@@ -9,7 +9,7 @@ ghost use Rattle.bev_world.specs.WorldValue.{slot_at, bev_at, is_live, with_bev,
 
 use super::World;
 use crate::fault::WorldFault;
-use bev_core::{Dir, MAX_MARK, MAX_TIMEOUT_MS};
+use bev_core::Dir;
 use ev_types::BevId;
 
 impl World {
@@ -42,7 +42,7 @@ impl World {
         Ok(())
     }
 
-    /// Sets both marks of a direction, in bytes. A high mark of 0 is none. Takes no memory; constant cost.
+    /// Sets both marks of a direction, in bytes. A high mark of 0 is none, and no mark is too high. Takes no memory; constant cost.
     ///
     /// Libevent: event2/bufferevent.h, `bufferevent_setwatermark`; "Bufferevents: concepts and basics".
     pub fn set_watermark(
@@ -52,8 +52,6 @@ impl World {
         low: u64,
         high: u64,
     ) -> Result<(), WorldFault>
-        requires low_within { low ≤ MAX_MARK }
-        requires high_within { high ≤ MAX_MARK }
         ensures answer { fault_of result ≡ live_refusal self.old id.0 }
         ensures ok { OnOk result (self.new ≡ with_bev self.old id.0 (with_marks (bev_at self.old id.0) dir low high)) }
         ensures err { OnErr result (self.new ≡ self.old) }
@@ -64,8 +62,8 @@ impl World {
         Ok(())
     }
 
-    /// Sets both timeouts, in milliseconds, and makes a moment the last activity of both directions. 0 is no timeout. Takes no
-    /// memory; constant cost.
+    /// Sets both timeouts, in milliseconds, and makes a moment the last activity of both directions. 0 is no timeout, and
+    /// none is too long. Takes no memory; constant cost.
     ///
     /// Libevent: event2/bufferevent.h, `bufferevent_set_timeouts`; "Bufferevents: concepts and basics".
     pub fn set_timeouts(
@@ -75,8 +73,6 @@ impl World {
         write_ms: u64,
         now: u64,
     ) -> Result<(), WorldFault>
-        requires read_within { read_ms ≤ MAX_TIMEOUT_MS }
-        requires write_within { write_ms ≤ MAX_TIMEOUT_MS }
         ensures answer { fault_of result ≡ live_refusal self.old id.0 }
         ensures ok { OnOk result (self.new ≡ with_bev self.old id.0 (with_timeouts (bev_at self.old id.0) read_ms write_ms now)) }
         ensures err { OnErr result (self.new ≡ self.old) }

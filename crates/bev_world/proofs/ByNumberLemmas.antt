@@ -1,0 +1,121 @@
+-- Two slots of a list that are written, each in its own part of it: which they were, and what a world keeps and shows then.
+use Rattle.std.proofs.Common.{◌≡◌, ℕ, ◌+◌, ◌<◌, Bool, List, ◌++◌, length, Some, refl, sym, ◌∙◌, ap, subst, arith, length-append}
+use Rattle.std.specs.Prelude.{slice_index_or, slice_set}
+use Rattle.std.proofs.lemmas.List.{get_or_default, get_or_append_left, get_or-append-add, get_or-set_other, length-set, set-append_left, set-append_right}
+use Rattle.std.proofs.lemmas.Option.{none-some, same_Some}
+use Rattle.token_bucket.specs.declared.limit.Dir.{Dir}
+use Rattle.token_bucket.specs.declared.limit.Dir.TheVariants.{Read, Write}
+use Rattle.bev_filter.specs.Passing.{Crossing, Crossed, stepping}
+use Rattle.deferred_cb.specs.DueCalls.{Entry}
+use Rattle.bev_world.specs.declared.slot.Kind.{Kind}
+use Rattle.bev_world.specs.declared.slot.Kind.TheVariants as kind
+use Rattle.bev_world.specs.declared.slot.Slot.{Slot}
+use Rattle.bev_world.specs.WorldValue.{WorldValue, no_slot, slot_at}
+use Rattle.bev_world.specs.WorldView.{IsJoined, Holds}
+use Rattle.bev_world.specs.Filters.{crossing, under_of}
+use Rattle.bev_world.specs.FilterSlots.{slots_crossing}
+use Rattle.bev_world.specs.ByNumber.{SlotsWent}
+use Rattle.bev_world.proofs.FiltersLemmas.{Stays, crossed-stays}
+use Rattle.bev_world.proofs.HoldsLemmas.{holds-with}
+
+-- Lists
+
+-- what is read in the part in front, and what is read first in the part behind
+pub read-front : (xs f b : List Slot) (n : ℕ) (d : Slot) → xs ≡ f ++ b → n < length f → slice_index_or f n d ≡ slice_index_or xs n no_slot
+read-front xs f b n d parts within =
+    get_or_default f n d no_slot within ∙ sym (get_or_append_left f b no_slot n within)
+    ∙ ap (λ ys. slice_index_or ys n no_slot) (sym parts)
+
+pub read-back : (xs f b : List Slot) (at : ℕ) (d : Slot) → xs ≡ f ++ b → length f ≡ at → at < length xs →
+    slice_index_or b 0 d ≡ slice_index_or xs at no_slot
+read-back xs f b at d parts long there =
+    get_or_default b 0 d no_slot some ∙ sym (get_or-append-add f b 0 no_slot)
+    ∙ ap (λ n. slice_index_or (f ++ b) n no_slot) place ∙ ap (λ ys. slice_index_or ys at no_slot) (sym parts)
+  where
+    place : length f + 0 ≡ at
+    place = omega (arith, long)
+
+    some : 0 < length b
+    some = let all = ap length parts ∙ length-append f b in omega (arith, all, long, there)
+
+-- both were written
+pub both-set : (xs f b : List Slot) (at under : ℕ) (l o : Slot) → xs ≡ f ++ b → length f ≡ at → under < at →
+    slice_set f under l ++ slice_set b 0 o ≡ slice_set (slice_set xs under l) at o
+both-set xs f b at under l o parts long below =
+    sym (ap (λ ys. slice_set (slice_set ys under l) at o) parts
+    ∙ ap (λ ys. slice_set ys at o) (set-append_left f b under l (omega (arith, long, below)))
+    ∙ set-append_right (slice_set f under l) b at at o (length-set f under l ∙ long) (omega arith)
+    ∙ ap (λ k. slice_set f under l ++ slice_set b k o) (omega arith))
+
+-- Steps
+
+-- what is under a filter was made before it
+pub joined-below : (count n : ℕ) (k : Kind) (under : ℕ) → IsJoined count n k → under_of k ≡ Some under → under < n
+joined-below count n kind.Socket under j e = absurd (none-some under e)
+joined-below count n (kind.Half other) under j e = absurd (none-some under e)
+joined-below count n (kind.Filter below) under j e = let same = same_Some below under e in omega (arith, same, j)
+
+-- a step between two slots of a list, which is then another
+pub record StepIn (dir : Dir) (limit : ℕ) (over : Bool) (at under : ℕ) (xs ys : List Slot) : Type 0 where
+  pub there : at < length xs
+  pub below : under < at
+  pub went : SlotsWent dir limit over (slice_index_or xs under no_slot) (slice_index_or xs at no_slot) (slice_index_or ys under no_slot) (slice_index_or ys at no_slot)
+  pub slots : ys ≡ slice_set (slice_set xs under (slice_index_or ys under no_slot)) at (slice_index_or ys at no_slot)
+
+pub step-in : (dir : Dir) (limit : ℕ) (over : Bool) (at under : ℕ) (xs lent ys : List Slot) → lent ≡ xs → at < length xs → under < at →
+    SlotsWent dir limit over (slice_index_or lent under no_slot) (slice_index_or lent at no_slot) (slice_index_or ys under no_slot) (slice_index_or ys at no_slot) →
+    ys ≡ slice_set (slice_set lent under (slice_index_or ys under no_slot)) at (slice_index_or ys at no_slot) →
+    StepIn dir limit over at under xs ys
+step-in dir limit over at under xs lent ys same there below went slots = record {
+  there = there;
+  below = below;
+  went = subst (λ zs. SlotsWent dir limit over (slice_index_or zs under no_slot) (slice_index_or zs at no_slot) (slice_index_or ys under no_slot) (slice_index_or ys at no_slot)) same went;
+  slots = subst (λ zs. ys ≡ slice_set (slice_set zs under (slice_index_or ys under no_slot)) at (slice_index_or ys at no_slot)) same slots;
+}
+
+-- what the slots exchange is what the world's bufferevents do
+slots-crossing : (v : WorldValue) (d : Dir) (at under : ℕ) → slots_crossing d (slot_at v under) (slot_at v at) ≡ crossing v d at under
+slots-crossing v Read at under = refl
+slots-crossing v Write at under = refl
+
+module _ (dir : Dir) (limit : ℕ) (over : Bool) (at under : ℕ) (w : WorldValue) (ys : List Slot)
+    (s : StepIn dir limit over at under w.slots ys) where
+  abbrev lower : Slot
+  lower = slot_at w under
+
+  abbrev upper : Slot
+  upper = slot_at w at
+
+  abbrev l : Slot
+  l = slice_index_or ys under no_slot
+
+  abbrev u : Slot
+  u = slice_index_or ys at no_slot
+
+  stays : Stays lower l × Stays upper u
+  stays = crossed-stays dir (stepping dir (slots_crossing dir lower upper) limit over) lower upper l u (slots_crossing dir l u)
+      s.went.crossed s.went.lower_is s.went.upper_is
+
+  under_there : under < length w.slots
+  under_there = let a = s.there in let b = s.below in omega (arith, a, b)
+
+  there_then : at < length (slice_set w.slots under l)
+  there_then = subst (λ c. at < c) (sym (length-set w.slots under l)) s.there
+
+  upper_then : slice_index_or (slice_set w.slots under l) at no_slot ≡ upper
+  upper_then = get_or-set_other w.slots under at l no_slot (λ e. absurd (let b = s.below in omega (arith, e, b)))
+
+  pub holds-stepped : (es : List Entry) (spare : ℕ) → Holds w.slots es spare → Holds ys es spare
+  holds-stepped es spare h = subst (λ zs. Holds zs es spare) (sym s.slots)
+      (holds-with (slice_set w.slots under l) es spare at no_slot upper u
+      (holds-with w.slots es spare under no_slot lower l h under_there refl stays.0.kind (stays.0.room (h.each under under_there).room))
+      there_then (sym upper_then) stays.1.kind (stays.1.room (h.each at s.there).room))
+
+  pub crossed-stepped : (new : WorldValue) → new ≡ record w { slots = ys } →
+      Crossed dir (stepping dir (crossing w dir at under) limit over) (crossing w dir at under) (crossing new dir at under)
+  crossed-stepped new is =
+      let after : slots_crossing dir l u ≡ crossing new dir at under =
+      slots-crossing (record w { slots = ys }) dir at under ∙ ap (λ v. crossing v dir at under) (sym is) in
+      subst (λ (p : Crossing). Crossed dir (stepping dir p limit over) p (crossing new dir at under)) (slots-crossing w dir at under)
+      (subst (λ (p : Crossing). Crossed dir (stepping dir (slots_crossing dir lower upper) limit over) (slots_crossing dir lower upper) p) after
+      s.went.crossed)

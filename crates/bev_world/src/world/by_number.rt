@@ -1,0 +1,339 @@
+// Calls for one who keeps track himself of what is live, and says by himself what is due. They ask for a known number, look at no
+// liveness, and make nothing due. Those that copy or move bytes have room that was made before, so that none is refused then.
+ghost use Rattle.std.specs.Prelude.{◌≡◌, ◌≢◌, ◌≤◌, ◌<◌, ◌+◌, [], false, Some, length, slice_index_or, slice_set, OnOk, OnErr, IfOk, vec_capacity};
+ghost use Rattle.stream_filters.specs.StepAnswers.{most_by_step};
+ghost use Rattle.bev_core.specs.Steps.{held, with_enabled, touched, less, ended_at, failed_at};
+ghost use Rattle.bev_filter.specs.Passing.{Crossed, stepping};
+ghost use Rattle.bev_filter.specs.StepRoom.{HasStepRoom, HasRoomFor, IsCounted};
+ghost use Rattle.bev_world.specs.ByNumber.{filter_of, with_spare_in, brought, roomless, dropped, target_of, crossed_at, SlotsWent, with_output, without_input, exchanged};
+ghost use Rattle.bev_world.specs.FilterSlots.{slots_crossing};
+ghost use Rattle.bev_world.specs.Filters.{crossing, under_of};
+ghost use Rattle.bev_world.specs.WorldValue.{no_slot, slot_at, bev_at, with_bev};
+
+use super::World;
+use crate::slot::Slot;
+use bev_core::{Bev, Dir};
+use bev_filter::{reserve_step, step_reserved};
+use ev_types::NoMemory;
+use stream_filters::AnyFilter;
+
+impl World {
+    /// How many bufferevents were made; their numbers are those below. Takes no memory; constant cost.
+    ///
+    /// Own.
+    pub fn count(&self) -> usize
+        ensures { result ≡ length self.now.slots }
+    {
+        self.slots.len()
+    }
+
+    /// The bufferevent of a number, a freed one too. Takes no memory; constant cost.
+    ///
+    /// Own.
+    pub fn bev(&self, at: usize) -> &Bev
+        requires { at < length self.now.slots }
+        ensures { result.now ≡ bev_at self.now at }
+    {
+        &self.slots[at].bev
+    }
+
+    /// The filter of a direction. One that is no filter bufferevent has filters that give every byte as it is. Takes no memory; constant
+    /// cost.
+    ///
+    /// Own.
+    pub fn filter(&self, at: usize, dir: Dir) -> &AnyFilter
+        requires { at < length self.now.slots }
+        ensures { result.now ≡ filter_of (slot_at self.now at) dir }
+    {
+        let slot = &self.slots[at];
+        match dir {
+            Dir::Read => &slot.read_filter,
+            Dir::Write => &slot.write_filter,
+        }
+    }
+
+    /// Disables a direction in which end of file was met, and sets the mark `ended`. Takes no memory; constant cost.
+    ///
+    /// Own.
+    pub fn end_at(&mut self, at: usize, dir: Dir)
+        requires { at < length self.old.slots }
+        ensures { self.new ≡ with_bev self.old at (ended_at (bev_at self.old at) dir) }
+    {
+        self.slots[at].bev.end(dir);
+    }
+
+    /// Disables a direction in which an error was met, and sets the mark `failed`. Takes no memory; constant cost.
+    ///
+    /// Own.
+    pub fn fail_at(&mut self, at: usize, dir: Dir)
+        requires { at < length self.old.slots }
+        ensures { self.new ≡ with_bev self.old at (failed_at (bev_at self.old at) dir) }
+    {
+        self.slots[at].bev.fail(dir);
+    }
+
+    /// Disables a direction in which a timeout expired. Takes no memory; constant cost.
+    ///
+    /// Own.
+    pub fn expire_at(&mut self, at: usize, dir: Dir)
+        requires { at < length self.old.slots }
+        ensures { self.new ≡ with_bev self.old at (with_enabled (bev_at self.old at) dir false) }
+    {
+        self.slots[at].bev.expire(dir);
+    }
+
+    /// Makes a moment, in milliseconds, the last activity of a direction. Takes no memory; constant cost.
+    ///
+    /// Own.
+    pub fn touch_at(&mut self, at: usize, dir: Dir, now: u64)
+        requires { at < length self.old.slots }
+        ensures { self.new ≡ with_bev self.old at (touched (bev_at self.old at) dir now) }
+    {
+        self.slots[at].bev.moved_at(dir, now);
+    }
+
+    /// Makes room for at least n more bytes in the buffer of a direction, the input for reading and the output for writing. A `feed` is not
+    /// sure to find it: that counts what `reserve_input` made alone. Takes memory; linear in the length and n.
+    ///
+    /// Own.
+    pub fn make_room_at(&mut self, at: usize, dir: Dir, n: usize) -> Result<(), NoMemory>
+        requires { at < length self.old.slots }
+        ensures stays { self.new ≡ with_bev self.old at (with_spare_in (bev_at self.old at) dir (held (bev_at self.new at) dir).spare) }
+        ensures room { OnOk result (n ≤ (held (bev_at self.new at) dir).spare) }
+        ensures kept { (held (bev_at self.old at) dir).spare ≤ (held (bev_at self.new at) dir).spare }
+        ensures err { OnErr result (self.new ≡ self.old) }
+    {
+        self.slots[at].bev.make_room(dir, n)
+    }
+
+    /// Copies bytes that were read to the end of the input, in room that was made before, and makes the moment the last activity of
+    /// reading. Takes no memory; linear in the length.
+    ///
+    /// Own.
+    pub fn bring_at(&mut self, at: usize, bytes: &[u8], now: u64)
+        requires there { at < length self.old.slots }
+        requires room { length bytes.now ≤ (bev_at self.old at).input.spare }
+        ensures { self.new ≡ brought self.old at bytes.now now }
+    {
+        let slot = &mut self.slots[at];
+        slot.bev.push_input(bytes);
+        slot.bev.moved_at(Dir::Read, now);
+        slot.room = slot.room.saturating_sub(bytes.len());
+    }
+
+    /// Takes off the first n bytes of the output, or all where there are fewer. Takes no memory.
+    ///
+    /// Own.
+    pub fn drain_at(&mut self, at: usize, n: usize)
+        requires { at < length self.old.slots }
+        ensures bytes { self.new ≡ with_bev self.old at (record (bev_at self.old at) { output = less (bev_at self.old at).output n (bev_at self.new at).output.spare }) }
+        ensures spare { (bev_at self.old at).output.spare ≤ (bev_at self.new at).output.spare }
+    {
+        self.slots[at].bev.drain_output(n);
+    }
+
+    /// Frees the room of each of its buffers without a byte. Takes no memory; constant cost.
+    ///
+    /// Own.
+    pub fn give_up_at(&mut self, at: usize)
+        requires { at < length self.old.slots }
+        ensures { self.new ≡ roomless self.old at }
+    {
+        let slot = &mut self.slots[at];
+        slot.bev.give_up();
+        slot.room = 0;
+    }
+
+    /// Frees it alone, as `free` does, also where it was freed before: not the one under a filter, and what is due for it stays due until
+    /// a batch passes over it. Takes no memory; constant cost.
+    ///
+    /// Own.
+    pub fn drop_at(&mut self, at: usize)
+        requires { at < length self.old.slots }
+        ensures { self.new ≡ dropped self.old at }
+    {
+        let slot = &mut self.slots[at];
+        slot.bev.discard();
+        slot.room = 0;
+    }
+
+    /// Moves the whole input of one to the empty output of another, by exchange. Takes no memory; constant cost.
+    ///
+    /// Own.
+    pub fn move_at(&mut self, from: usize, to: usize)
+        requires there { from < length self.old.slots }
+        requires to_there { to < length self.old.slots }
+        requires apart { from ≢ to }
+        requires empty { (bev_at self.old to).output.bytes ≡ [] }
+        ensures { self.new ≡ exchanged self.old from to }
+    {
+        exchange_slots(&mut self.slots, from, to);
+    }
+
+    /// Makes room for a step of a filter bufferevent that is offered `count` bytes, as `reserve_step` of bev_filter does: for reading in its
+    /// own input, for writing in the output of the one under it. Answers how many bytes the step makes at most.
+    ///
+    /// Own.
+    pub fn reserve_step_at(
+        &mut self,
+        at: usize,
+        under: usize,
+        dir: Dir,
+        count: usize,
+        beside: &mut Vec<u8>,
+        limit: usize,
+        made: u64,
+    ) -> Result<usize, NoMemory>
+        requires there { at < length self.old.slots }
+        requires below { under_of (slot_at self.old at).kind ≡ Some under }
+        ensures stays { self.new ≡ with_bev self.old (target_of dir at under) (with_spare_in (bev_at self.old (target_of dir at under)) dir (held (bev_at self.new (target_of dir at under)) dir).spare) }
+        ensures spare { (held (bev_at self.old (target_of dir at under)) dir).spare ≤ (held (bev_at self.new (target_of dir at under)) dir).spare }
+        ensures beside { vec_capacity beside.old ≤ vec_capacity beside.new }
+        ensures room { OnOk result (HasStepRoom (filter_of (slot_at self.old at) dir).kind count (length (held (bev_at self.new (target_of dir at under)) dir).bytes) limit (held (bev_at self.new (target_of dir at under)) dir).spare (vec_capacity beside.new) made) }
+        ensures most { IfOk result (λ most. most ≡ most_by_step (filter_of (slot_at self.old at) dir).kind count (length (held (bev_at self.new (target_of dir at under)) dir).bytes) limit) }
+    {
+        let kind = self.filter(at, dir).kind();
+        let to = match dir {
+            Dir::Read => at,
+            Dir::Write => under,
+        };
+        reserve_step(
+            kind,
+            count,
+            &mut self.slots[to].bev,
+            dir,
+            beside,
+            limit,
+            made,
+        )
+    }
+
+    /// The step of a filter bufferevent, as `step_reserved` of bev_filter makes it, in room that was made before: what is read goes from the
+    /// input of the one under it to its own input, what is written from its own output to the output of the one under it. No input to
+    /// which bytes came or from which they went is sure to have room any more. Answers how many bytes were made by then, of which `made`
+    /// were made before. Takes no memory, and is never refused.
+    ///
+    /// Own.
+    pub fn step_at(
+        &mut self,
+        at: usize,
+        under: usize,
+        dir: Dir,
+        limit: usize,
+        over: bool,
+        beside: &mut Vec<u8>,
+        made: u64,
+    ) -> u64
+        requires there { at < length self.old.slots }
+        requires below { under_of (slot_at self.old at).kind ≡ Some under }
+        requires counted { IsCounted dir (crossing self.old dir at under) }
+        requires room { HasRoomFor dir (crossing self.old dir at under) limit (vec_capacity beside.old) made }
+        ensures crossed { Crossed dir (stepping dir (crossing self.old dir at under) limit over) (crossing self.old dir at under) (crossing self.new dir at under) }
+        ensures world { self.new ≡ crossed_at self.old dir at under (crossing self.new dir at under) }
+        ensures made { result ≡ made + length (stepping dir (crossing self.old dir at under) limit over).made }
+        ensures beside { vec_capacity beside.old ≤ vec_capacity beside.new }
+    {
+        step_slots(&mut self.slots, at, under, dir, limit, over, beside, made)
+    }
+}
+
+// The input of one slot of a list and the output of another are exchanged.
+fn exchange_slots(slots: &mut [Slot], from: usize, to: usize)
+    requires there { from < length slots.old }
+    requires to_there { to < length slots.old }
+    requires apart { from ≢ to }
+    ensures { slots.new ≡ slice_set (slice_set slots.old to (with_output (slice_index_or slots.old from no_slot) (slice_index_or slots.old to no_slot))) from (without_input (slice_index_or slots.old from no_slot) (slice_index_or slots.old to no_slot)) }
+{
+    if from < to {
+        let (front, back) = slots.split_at_mut(to);
+        exchange(&mut front[from], &mut back[0]);
+    } else {
+        let (front, back) = slots.split_at_mut(from);
+        exchange(&mut back[0], &mut front[to]);
+    }
+}
+
+// The input of the one and the output of the other are exchanged.
+fn exchange(from: &mut Slot, to: &mut Slot)
+    ensures input { from.new ≡ without_input from.old to.old }
+    ensures output { to.new ≡ with_output from.old to.old }
+{
+    from.bev.exchange_input(&mut to.bev);
+    from.room = 0;
+}
+
+// A step between two slots of a list.
+fn step_slots(
+    slots: &mut [Slot],
+    at: usize,
+    under: usize,
+    dir: Dir,
+    limit: usize,
+    over: bool,
+    beside: &mut Vec<u8>,
+    made: u64,
+) -> u64
+    requires there { at < length slots.old }
+    requires below { under < at }
+    requires counted { IsCounted dir (slots_crossing dir (slice_index_or slots.old under no_slot) (slice_index_or slots.old at no_slot)) }
+    requires room { HasRoomFor dir (slots_crossing dir (slice_index_or slots.old under no_slot) (slice_index_or slots.old at no_slot)) limit (vec_capacity beside.old) made }
+    ensures went { SlotsWent dir limit over (slice_index_or slots.old under no_slot) (slice_index_or slots.old at no_slot) (slice_index_or slots.new under no_slot) (slice_index_or slots.new at no_slot) }
+    ensures slots { slots.new ≡ slice_set (slice_set slots.old under (slice_index_or slots.new under no_slot)) at (slice_index_or slots.new at no_slot) }
+    ensures made { result ≡ made + length (stepping dir (slots_crossing dir (slice_index_or slots.old under no_slot) (slice_index_or slots.old at no_slot)) limit over).made }
+    ensures beside { vec_capacity beside.old ≤ vec_capacity beside.new }
+{
+    let (front, back) = slots.split_at_mut(at);
+    step_between(
+        &mut front[under],
+        &mut back[0],
+        dir,
+        limit,
+        over,
+        beside,
+        made,
+    )
+}
+
+// A step between the slot under a filter and its own.
+fn step_between(
+    lower: &mut Slot,
+    upper: &mut Slot,
+    dir: Dir,
+    limit: usize,
+    over: bool,
+    beside: &mut Vec<u8>,
+    made: u64,
+) -> u64
+    requires counted { IsCounted dir (slots_crossing dir lower.old upper.old) }
+    requires room { HasRoomFor dir (slots_crossing dir lower.old upper.old) limit (vec_capacity beside.old) made }
+    ensures went { SlotsWent dir limit over lower.old upper.old lower.new upper.new }
+    ensures made { result ≡ made + length (stepping dir (slots_crossing dir lower.old upper.old) limit over).made }
+    ensures beside { vec_capacity beside.old ≤ vec_capacity beside.new }
+{
+    match dir {
+        Dir::Read => {
+            lower.room = 0;
+            upper.room = 0;
+            step_reserved(
+                &mut lower.bev,
+                &mut upper.bev,
+                dir,
+                &mut upper.read_filter,
+                limit,
+                over,
+                beside,
+                made,
+            )
+        }
+        Dir::Write => step_reserved(
+            &mut upper.bev,
+            &mut lower.bev,
+            dir,
+            &mut upper.write_filter,
+            limit,
+            over,
+            beside,
+            made,
+        ),
+    }
+}
