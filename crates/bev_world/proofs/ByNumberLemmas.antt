@@ -1,7 +1,7 @@
 -- Two slots of a list that are written, each in its own part of it: which they were, and what a world keeps and shows then.
 use Rattle.std.proofs.Common.{◌≡◌, ℕ, ◌+◌, ◌<◌, Bool, List, ◌++◌, length, Some, refl, sym, ◌∙◌, ap, subst, arith, length-append}
 use Rattle.std.specs.Prelude.{slice_index_or, slice_set}
-use Rattle.std.proofs.lemmas.List.{get_or_default, get_or_append_left, get_or-append-add, get_or-set_other, length-set, set-append_left, set-append_right}
+use Rattle.std.proofs.lemmas.List.{get_or_default, get_or_append_left, get_or-append-add, get_or-set_same, get_or-set_other, length-set, set-append_left, set-append_right}
 use Rattle.std.proofs.lemmas.Option.{none-some, same_Some}
 use Rattle.token_bucket.specs.declared.limit.Dir.{Dir}
 use Rattle.token_bucket.specs.declared.limit.Dir.TheVariants.{Read, Write}
@@ -10,11 +10,11 @@ use Rattle.deferred_cb.specs.DueCalls.{Entry}
 use Rattle.bev_world.specs.declared.slot.Kind.{Kind}
 use Rattle.bev_world.specs.declared.slot.Kind.TheVariants as kind
 use Rattle.bev_world.specs.declared.slot.Slot.{Slot}
-use Rattle.bev_world.specs.WorldValue.{WorldValue, no_slot, slot_at}
+use Rattle.bev_world.specs.WorldValue.{WorldValue, no_slot, slot_at, bev_at, with_bev}
 use Rattle.bev_world.specs.WorldView.{IsJoined, Holds}
 use Rattle.bev_world.specs.Filters.{crossing, under_of}
 use Rattle.bev_world.specs.FilterSlots.{slots_crossing}
-use Rattle.bev_world.specs.ByNumber.{SlotsWent}
+use Rattle.bev_world.specs.ByNumber.{SlotsWent, filter_of, with_spare_in, target_of}
 use Rattle.bev_world.proofs.FiltersLemmas.{Stays, crossed-stays}
 use Rattle.bev_world.proofs.HoldsLemmas.{holds-with}
 
@@ -119,3 +119,31 @@ module _ (dir : Dir) (limit : ℕ) (over : Bool) (at under : ℕ) (w : WorldValu
       subst (λ (p : Crossing). Crossed dir (stepping dir p limit over) p (crossing new dir at under)) (slots-crossing w dir at under)
       (subst (λ (p : Crossing). Crossed dir (stepping dir (slots_crossing dir lower upper) limit over) (slots_crossing dir lower upper) p) after
       s.went.crossed)
+
+-- Room
+
+-- what a crossing shows by the slots of both
+pub to-target : (v : WorldValue) (d : Dir) (at under : ℕ) → (crossing v d at under).to ≡ bev_at v (target_of d at under)
+to-target v Read at under = refl
+to-target v Write at under = refl
+
+pub filter-there : (v : WorldValue) (d : Dir) (at under : ℕ) → (crossing v d at under).filter ≡ filter_of (slot_at v at) d
+filter-there v Read at under = refl
+filter-there v Write at under = refl
+
+-- more room in the target is all that changed of the crossing
+pub crossing-roomier : (d : Dir) (w new : WorldValue) (at under spare : ℕ) → at < length w.slots → under < at →
+    new ≡ with_bev w (target_of d at under) (with_spare_in (bev_at w (target_of d at under)) d spare) →
+    crossing new d at under ≡ record (crossing w d at under) { to = with_spare_in (crossing w d at under).to d spare }
+crossing-roomier Read w new at under spare there below is =
+    let s : Slot = record (slot_at w at) { bev = with_spare_in (bev_at w at) Read spare } in
+    let lower = ap (λ (z : Slot). z.bev) (get_or-set_other w.slots at under s no_slot (λ e. absurd (omega (arith, e, below)))) in
+    let upper = get_or-set_same w.slots at s no_slot there in
+    ap (λ v. crossing v Read at under) is
+    ∙ (λ i. record { from = lower i; to = (upper i).bev; filter = (upper i).read_filter })
+crossing-roomier Write w new at under spare there below is =
+    let s : Slot = record (slot_at w under) { bev = with_spare_in (bev_at w under) Write spare } in
+    let lower = ap (λ (z : Slot). z.bev) (get_or-set_same w.slots under s no_slot (omega (arith, there, below))) in
+    let upper = get_or-set_other w.slots under at s no_slot (λ e. absurd (omega (arith, e, below))) in
+    ap (λ v. crossing v Write at under) is
+    ∙ (λ i. record { from = (upper i).bev; to = lower i; filter = (upper i).write_filter })

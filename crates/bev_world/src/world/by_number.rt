@@ -1,6 +1,6 @@
 // Calls for one who keeps track himself of what is live, and says by himself what is due. They ask for a known number, look at no
 // liveness, and make nothing due. Those that copy or move bytes have room that was made before, so that none is refused then.
-ghost use Rattle.std.specs.Prelude.{◌≡◌, ◌≢◌, ◌≤◌, ◌<◌, ◌+◌, [], false, Some, length, slice_index_or, slice_set, OnOk, OnErr, IfOk, vec_capacity};
+ghost use Rattle.std.specs.Prelude.{◌≡◌, ◌≢◌, ◌≤◌, ◌<◌, ◌+◌, [], false, Some, length, slice_index_or, slice_set, OnOk, OnErr, IfOk, IfSome, vec_capacity};
 ghost use Rattle.stream_filters.specs.StepAnswers.{most_by_step};
 ghost use Rattle.bev_core.specs.Steps.{held, with_enabled, touched, less, ended_at, failed_at};
 ghost use Rattle.bev_filter.specs.Passing.{Crossed, stepping};
@@ -11,7 +11,7 @@ ghost use Rattle.bev_world.specs.Filters.{crossing, under_of};
 ghost use Rattle.bev_world.specs.WorldValue.{no_slot, slot_at, bev_at, with_bev};
 
 use super::World;
-use crate::slot::Slot;
+use crate::slot::{Kind, Slot};
 use bev_core::{Bev, Dir};
 use bev_filter::{reserve_step, step_reserved};
 use ev_types::NoMemory;
@@ -49,6 +49,20 @@ impl World {
         match dir {
             Dir::Read => &slot.read_filter,
             Dir::Write => &slot.write_filter,
+        }
+    }
+
+    /// The number of the one under a filter, or None where it is no filter. Takes no memory; constant cost.
+    ///
+    /// Own.
+    pub fn under(&self, at: usize) -> Option<usize>
+        requires { at < length self.now.slots }
+        ensures under { result ≡ under_of (slot_at self.now at).kind }
+        ensures below { IfSome result (λ under. under < at) }
+    {
+        match self.slots[at].kind {
+            Kind::Filter(under) => Some(under as usize),
+            Kind::Socket | Kind::Half(_) => None,
         }
     }
 
@@ -186,6 +200,30 @@ impl World {
     ) -> Result<usize, NoMemory>
         requires there { at < length self.old.slots }
         requires below { under_of (slot_at self.old at).kind ≡ Some under }
+        ensures stays { self.new ≡ with_bev self.old (target_of dir at under) (with_spare_in (bev_at self.old (target_of dir at under)) dir (held (crossing self.new dir at under).to dir).spare) }
+        ensures crossing { crossing self.new dir at under ≡ record (crossing self.old dir at under) { to = with_spare_in (crossing self.old dir at under).to dir (held (crossing self.new dir at under).to dir).spare } }
+        ensures spare { (held (crossing self.old dir at under).to dir).spare ≤ (held (crossing self.new dir at under).to dir).spare }
+        ensures beside { vec_capacity beside.old ≤ vec_capacity beside.new }
+        ensures room { OnOk result (HasStepRoom (crossing self.new dir at under).filter.kind count (length (held (crossing self.new dir at under).to dir).bytes) limit (held (crossing self.new dir at under).to dir).spare (vec_capacity beside.new) made) }
+        ensures most { IfOk result (λ most. most ≡ most_by_step (crossing self.new dir at under).filter.kind count (length (held (crossing self.new dir at under).to dir).bytes) limit) }
+    {
+        self.reserve_target(at, under, dir, count, beside, limit, made)
+    }
+
+    // The same, said of the one whose buffer gets the room.
+    fn reserve_target(
+        &mut self,
+        at: usize,
+        under: usize,
+        dir: Dir,
+        count: usize,
+        beside: &mut Vec<u8>,
+        limit: usize,
+        made: u64,
+    ) -> Result<usize, NoMemory>
+        requires there { at < length self.old.slots }
+        requires below { under_of (slot_at self.old at).kind ≡ Some under }
+        ensures below { under < at }
         ensures stays { self.new ≡ with_bev self.old (target_of dir at under) (with_spare_in (bev_at self.old (target_of dir at under)) dir (held (bev_at self.new (target_of dir at under)) dir).spare) }
         ensures spare { (held (bev_at self.old (target_of dir at under)) dir).spare ≤ (held (bev_at self.new (target_of dir at under)) dir).spare }
         ensures beside { vec_capacity beside.old ≤ vec_capacity beside.new }
