@@ -8,7 +8,7 @@ use Rattle.bev_core.specs.Steps.{held, with_held, touched, freed, pushed, given_
 use Rattle.bev_filter.specs.Passing.{Crossing, Crossed, stepping}
 use Rattle.bev_world.specs.declared.slot.Slot.{Slot}
 use Rattle.bev_world.specs.FilterSlots.{slots_crossing, lower_after, over_after}
-use Rattle.bev_world.specs.WorldValue.{WorldValue, slot_at, bev_at, with_slot, with_bev}
+use Rattle.bev_world.specs.WorldValue.{WorldValue, slot_at, bev_at, with_slot}
 
 -- the filter of a direction
 abbrev pub filter_of : Slot → Dir → Running

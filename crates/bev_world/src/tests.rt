@@ -8,6 +8,7 @@ ghost use Rattle.bev_world.specs.WorldValue.{slot_at};
 use super::*;
 use std::alloc::Global;
 use std::test::Fail;
+use stream_filters::StreamFilter;
 
 /// Frees two bufferevents, and notes in the output of a third that it was called.
 #[derive(Drop)]
@@ -263,5 +264,200 @@ fn bytes_pass_a_filter_up_and_down(rt: HostRuntime) -> Result<(), Fail> {
     assert_eq!(rt; bad, Ok((Err(WorldFault::Filter(3)), *b"A...", *b"g...")));
     assert_eq!(rt; hex, Ok((went(2, true), *b"6869", *b"....")));
     assert_eq!(rt; bent, Ok((Err(WorldFault::Filter(3)), *b"A...", *b"....")));
+    Ok(())
+}
+
+/// Brings bytes to a bufferevent in room that it makes.
+fn bring(world: &mut World, at: usize, bytes: &[u8]) -> Result<(), NoMemory> {
+    if at >= world.count() {
+        return Err(NoMemory);
+    }
+    world.make_room_at(at, Dir::Read, bytes.len())?;
+    world.bring_at(at, bytes, 7);
+    Ok(())
+}
+
+/// A step of a filter in room that it makes, where the count of bytes goes on from 10.
+fn step(
+    world: &mut World,
+    at: usize,
+    dir: Dir,
+    limit: usize,
+    beside: &mut Vec<u8>,
+) -> Result<u64, NoMemory> {
+    if at >= world.count() {
+        return Err(NoMemory);
+    }
+    let Some(under) = world.under(at) else {
+        return Err(NoMemory);
+    };
+    let count = match dir {
+        Dir::Read => world.bev(under).input_len(),
+        Dir::Write => world.bev(at).output_len(),
+    };
+    if world.filter(at, dir).used() > u64::MAX - count as u64 {
+        return Err(NoMemory);
+    }
+    world.reserve_step_at(at, under, dir, count, beside, limit, 10)?;
+    Ok(world.step_at(at, under, dir, limit, true, beside, 10))
+}
+
+/// Moves an input to an output.
+fn move_on(world: &mut World, from: usize, to: usize) -> Result<(), NoMemory> {
+    if from >= world.count() || to >= world.count() || from == to {
+        return Err(NoMemory);
+    }
+    if world.bev(to).output_len() > 0 {
+        return Err(NoMemory);
+    }
+    world.move_at(from, to);
+    Ok(())
+}
+
+/// What is left of the output once its first byte was taken.
+fn drain(world: &mut World, at: usize) -> Result<[u8; 4], NoMemory> {
+    if at >= world.count() {
+        return Err(NoMemory);
+    }
+    world.drain_at(at, 1);
+    Ok(output(world, BevId(at as u32)))
+}
+
+/// What a socket brought goes up through a filter, and on to the other side and down through its filter; how many bytes were made by
+/// then, up and down, and what is left of the last output once its first byte was taken.
+fn relayed(
+    world: &mut World,
+    beside: &mut Vec<u8>,
+    up: FilterKind,
+    down: FilterKind,
+    bytes: &[u8],
+    limit: usize,
+) -> Result<(u64, u64, [u8; 4]), WorldFault> {
+    let (socket, side) = over_socket(world, up, FilterKind::None)?;
+    let (other_socket, other) = over_socket(world, FilterKind::None, down)?;
+    bring(world, socket.0 as usize, bytes)?;
+    let read = step(world, side.0 as usize, Dir::Read, limit, beside)?;
+    move_on(world, side.0 as usize, other.0 as usize)?;
+    let written = step(world, other.0 as usize, Dir::Write, limit, beside)?;
+    Ok((read, written, drain(world, other_socket.0 as usize)?))
+}
+
+#[test]
+fn bytes_go_from_side_to_side_by_number(rt: HostRuntime) -> Result<(), Fail> {
+    let cases = [
+        (
+            FilterKind::None,
+            FilterKind::None,
+            "abc",
+            9,
+            13,
+            13,
+            b"bc..",
+        ),
+        (
+            FilterKind::None,
+            FilterKind::HexOut,
+            "ab",
+            9,
+            12,
+            14,
+            b"162.",
+        ),
+        (
+            FilterKind::HexIn,
+            FilterKind::None,
+            "4142",
+            1,
+            11,
+            11,
+            b"....",
+        ),
+        (
+            FilterKind::ToLf,
+            FilterKind::ToCrlf,
+            "\r\na",
+            9,
+            12,
+            13,
+            b"\na..",
+        ),
+        (
+            FilterKind::HexIn,
+            FilterKind::HexOut,
+            "4g",
+            9,
+            10,
+            10,
+            b"....",
+        ),
+    ];
+    let mut beside = Vec::new(rt.alloc());
+    for (up, down, bytes, limit, read, written, left) in cases {
+        let mut world = World::new(rt.alloc());
+        let answer = relayed(&mut world, &mut beside, up, down, bytes.as_bytes(), limit);
+        drop(world);
+        assert_eq!(rt;
+            answer,
+            Ok((read, written, *left)),
+            "{up:?} {down:?} {bytes:?}"
+        );
+    }
+    Ok(())
+}
+
+/// The plain values of a socket after each step that by its number is made of it.
+fn stepped(world: &mut World) -> Result<[BevState; 4], WorldFault> {
+    let id = world.new_socket()?;
+    world.enable(id, Dir::Read)?;
+    bring(world, id.0 as usize, b"ab")?;
+    let brought = state_at(world, id)?;
+    Ok([
+        brought,
+        after(world, id, 0)?,
+        after(world, id, 1)?,
+        after(world, id, 2)?,
+    ])
+}
+
+fn state_at(world: &World, id: BevId) -> Result<BevState, WorldFault> {
+    world.state(id).ok_or(WorldFault::NotLive)
+}
+
+/// A step, and the values after it.
+fn after(world: &mut World, id: BevId, step: u8) -> Result<BevState, WorldFault> {
+    let at = id.0 as usize;
+    if at >= world.count() {
+        return Err(WorldFault::NotLive);
+    }
+    match step {
+        0 => world.expire_at(at, Dir::Read),
+        1 => world.end_at(at, Dir::Write),
+        _ => world.drop_at(at),
+    }
+    state_at(world, id)
+}
+
+#[test]
+fn steps_by_number_look_at_no_liveness(rt: HostRuntime) -> Result<(), Fail> {
+    let mut world = World::new(rt.alloc());
+    let states = stepped(&mut world);
+    drop(world);
+    let [brought, expired, ended, dropped] = states?;
+    assert_eq!(rt;
+        (brought.input, brought.last_read, brought.reading),
+        (2, 7, true)
+    );
+    assert_eq!(rt;
+        (expired.reading, expired.writing, expired.ended),
+        (false, true, false)
+    );
+    assert_eq!(rt;
+        (ended.writing, ended.ended, ended.failed),
+        (false, true, false)
+    );
+    assert_eq!(rt;
+        (dropped.live, dropped.input, dropped.last_read),
+        (false, 0, 7)
+    );
     Ok(())
 }

@@ -1,4 +1,4 @@
-use Rattle.std.proofs.Common.{◌≡◌, ◌≢◌, ◌<◌, sym, ◌∙◌, length, slice_set, arith}
+use Rattle.std.proofs.Common.{◌<◌, ◌∙◌, slice_set, arith}
 use Rattle.std.proofs.lemmas.List.{set_comm}
 use Rattle.bev_world.specs.ByNumber.{with_output, without_input}
 use Rattle.bev_world.proofs.ByNumberLemmas.{read-front, read-back, both-set}

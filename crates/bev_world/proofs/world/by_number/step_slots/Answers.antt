@@ -1,4 +1,4 @@
-use Rattle.std.proofs.Common.{◌≡◌, ◌+◌, ◌∙◌, length, subst, arith}
+use Rattle.std.proofs.Common.{◌+◌, ◌∙◌, length, arith}
 use Rattle.bev_filter.specs.Passing.{stepping}
 use Rattle.bev_world.specs.FilterSlots.{slots_crossing}
 use Rattle.bev_world.proofs.ByNumberLemmas.{read-front, read-back}
