@@ -1,6 +1,6 @@
 -- Entries and their calls.
-use Rattle.std.proofs.Common.{◌≡◌, ℕ, zero, suc, ◌+◌, ◌≤◌, take, append-nil, subst, Bool, true, false, not, ◌||◌, if◌then◌else◌, List, [], ◌∷◌, ◌++◌, length, Option, Some, None, is_some, refl, sym, ◌∙◌, ap, arith, append_assoc}
-use Rattle.std.specs.Prelude.{nat_eq, ◌≢◌, Result, Ok, Err, OnOk}
+use Rattle.std.proofs.Common.{◌≡◌, ℕ, zero, suc, ◌+◌, ◌≤◌, take, subst, Bool, true, false, not, ◌||◌, if◌then◌else◌, List, [], ◌∷◌, ◌++◌, length, Option, Some, None, is_some, refl, sym, ◌∙◌, ap, arith}
+use Rattle.std.specs.Prelude.{nat_eq, ◌≢◌, Result, Ok, Err, OnOk, is_ok}
 use Rattle.std.specs.Map.{lookup, set_value, keys_of}
 use Rattle.std.specs.List.{slice_get, AllByRecursion, IsDistinct}
 use Rattle.std.proofs.lemmas.Map.Keys.{IsDistinct-head, IsDistinct-tail}
@@ -8,7 +8,7 @@ use Rattle.std.proofs.lemmas.Bool.Decides.{nat_tests}
 use Rattle.ev_types.specs.declared.why.Why.{Why}
 use Rattle.indexmap.specs.IndexMap.{insert_entry}
 use Rattle.deferred_cb.specs.declared.reasons.Reasons.{Reasons}
-use Rattle.deferred_cb.specs.DueCalls.{Entry, Call, no_reasons, joined, with_reason, has_entry, without, all_calls, calls_of}
+use Rattle.deferred_cb.specs.DueCalls.{Entry, no_reasons, joined, with_reason, has_entry, without}
 
 pub has_entry-lookup : (owner : ℕ) (es : List Entry) → has_entry owner es ≡ is_some (lookup (nat_eq owner) es)
 has_entry-lookup owner [] = refl
@@ -65,25 +65,8 @@ pub on_ok : {T E P : Type 0} (r : Result T E) (x : T) → r ≡ Ok x → OnOk r 
 on_ok (Ok y) x e p = p
 on_ok (Err f) x e p = absurd (cc)
 
--- a chain of calls put one behind another
-pub put-five : (calls a b d f g : List Call) → ((((calls ++ a) ++ b) ++ d) ++ f) ++ g ≡ calls ++ ((((a ++ b) ++ d) ++ f) ++ g)
-put-five calls a b d f g = simp append_assoc
-
 some_same : (x e : Entry) → Some x ≡ Some e → x ≡ e
 some_same x e k = cc
-
--- the calls of one entry more
-pub all_calls-more : (es : List Entry) (at : ℕ) (e : Entry) → slice_get es at ≡ Some e →
-    all_calls (take (at + 1) es) ≡ all_calls (take at es) ++ calls_of e
-all_calls-more es at e h = ap (λ n. all_calls (take n es)) (let s : at + 1 ≡ suc at = omega arith in s) ∙ go es at h
-  where
-    same : (x : Entry) → Some x ≡ Some e → x ≡ e
-    same x k = cc
-
-    go : (es : List Entry) (at : ℕ) → slice_get es at ≡ Some e → all_calls (take (suc at) es) ≡ all_calls (take at es) ++ calls_of e
-    go [] at k = absurd (cc)
-    go (x ∷ xs) zero k = append-nil (calls_of x) ∙ ap calls_of (same x k)
-    go (x ∷ xs) (suc n) k = ap (λ z. calls_of x ++ z) (go xs n k) ∙ sym (append_assoc (calls_of x) (all_calls (take n xs)) (calls_of e))
 
 -- one entry more without those of an owner
 pub without-more : (owner : ℕ) (es : List Entry) (at : ℕ) (e : Entry) → slice_get es at ≡ Some e →
@@ -165,3 +148,18 @@ eq-flips x y = grind (arith, nat_tests)
 pub none-of : {T : Type 0} (o : Option T) → false ≡ is_some o → o ≡ None
 none-of None h = refl
 none-of (Some x) h = absurd (cc)
+
+-- the next entry of a list comes behind those before it
+pub take-more : (es : List Entry) (at : ℕ) (e : Entry) → slice_get es at ≡ Some e → take (at + 1) es ≡ take at es ++ e ∷ []
+take-more es at e h = ap (λ n. take n es) (let s : at + 1 ≡ suc at = omega arith in s) ∙ go es at h
+  where
+    go : (es : List Entry) (at : ℕ) → slice_get es at ≡ Some e → take (suc at) es ≡ take at es ++ e ∷ []
+    go [] at k = absurd (cc)
+    go (x ∷ xs) zero k = ap (λ (z : Entry). z ∷ []) (some_same x e k)
+    go (x ∷ xs) (suc n) k = ap (λ z. x ∷ z) (go xs n k)
+
+-- what a call that was Ok put behind the others is there
+pub pushed : {T E : Type 0} (old new : List Entry) (e : Entry) (r : Result T E) (x : T) →
+    new ≡ (if is_ok r then old ++ e ∷ [] else old) → r ≡ Ok x → new ≡ old ++ e ∷ []
+pushed old new e (Ok y) x h k = h
+pushed old new e (Err f) x h k = absurd (cc)

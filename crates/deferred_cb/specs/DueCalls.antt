@@ -1,6 +1,6 @@
 -- The entries of owners whose callbacks are due, and the calls that they come to. An owner is a number, so that these words
 -- serve any owners; the words of a relay's sides are its own.
-use Rattle.std.specs.Prelude.{ℕ, Bool, true, false, not, if◌then◌else◌, List, [], ◌∷◌, ◌++◌, filter, Option, Some, None, bit_or, nat_eq, option_map}
+use Rattle.std.specs.Prelude.{ℕ, Bool, true, false, not, if◌then◌else◌, List, [], ◌∷◌, ◌++◌, filter, Option, Some, None, bit_or, nat_eq, option_map, is_some, ◌||◌}
 use Rattle.std.specs.List.{flat_map, list_any}
 use Rattle.std.specs.Bool.{then_some}
 use Rattle.ev_types.specs.declared.why.Why.{Why}
@@ -23,6 +23,10 @@ no_reasons = record { connected = false; read = false; write = false; event = No
 abbrev pub joined_flags : Option Flags → Flags → Option Flags
 joined_flags None flags = Some flags
 joined_flags (Some before) flags = Some (record { 0 = bit_or before.0 flags.0 })
+
+-- is there a reason
+abbrev pub has_reason : Reasons → Bool
+has_reason r = (((r.connected || r.read) || r.write) || is_some r.event) || r.timer
 
 -- the reasons with one more
 abbrev pub joined : Reasons → Why → Reasons

@@ -1,17 +1,18 @@
 // The callbacks that are due, by owner.
 ghost use Rattle.std.specs.Prelude.{◌≡◌, ◌+◌, ◌*◌, ◌≤◌, ◌<◌, ◌++◌, ◌∷◌, ◌&&◌, ◌==◌, [], not, if◌then◌else◌, None, true, false, length, OnOk, OnErr, IfNone, nat_eq};
-ghost use Rattle.std.specs.VecDeque.{deque_len, deque_capacity};
+ghost use Rattle.std.specs.VecDeque.{deque_capacity};
+ghost use Rattle.std.specs.List.{IsDistinct};
+ghost use Rattle.std.specs.Map.{keys_of};
 ghost use Rattle.std.specs.Option.{option_to_list};
 ghost use Rattle.indexmap.specs.IndexMap.{spare as spare_of, get};
 ghost use Rattle.deferred_cb.specs.DueCalls.{with_reason, has_entry, without, without_calls, all_calls};
 
-use crate::reasons::{MOST_REASONS, Reasons};
+use crate::reasons::Reasons;
 use ev_types::{NoMemory, Why};
 use indexmap::IndexMap;
 use std::alloc::Global;
 use std::collections::VecDeque;
 use std::marker::Model;
-use std::mem;
 
 /// The callbacks that are due. An owner has at most one pending entry, with joined reasons, at the place where it first became
 /// due. A batch is what was pending when it began; its calls are taken one by one, while new reasons become pending for the
@@ -23,8 +24,9 @@ use std::mem;
 pub struct Due {
     pending: IndexMap<u64, Reasons>,
     /// Empty between calls.
-    moving: IndexMap<u64, Reasons>,
-    batch: VecDeque<(u64, Why)>,
+    moving: VecDeque<(u64, Reasons)>,
+    /// What is left of the batch; each entry has a reason.
+    batch: VecDeque<(u64, Reasons)>,
     spare: usize,
 }
 
@@ -47,7 +49,7 @@ impl Due {
     {
         Due {
             pending: IndexMap::new(alloc),
-            moving: IndexMap::new(alloc),
+            moving: VecDeque::new(alloc),
             batch: VecDeque::new(alloc),
             spare: 0,
         }
@@ -68,7 +70,12 @@ impl Due {
         ensures pending { self.new.pending ≡ self.old.pending }
         ensures spare { self.new.spare ≡ self.old.spare }
     {
-        self.batch.pop_front()
+        let (owner, mut reasons) = self.batch.pop_front()?;
+        let why = reasons.take_first();
+        if !reasons.is_empty() {
+            self.batch.push_front((owner, reasons)).unwrap();
+        }
+        Some((owner, why))
     }
 
     /// A reason becomes due for an owner. It joins the owner's pending entry where it has one, and else makes a new one behind
@@ -87,14 +94,14 @@ impl Due {
         self.spare -= 1;
     }
 
-    /// Drops what is pending for an owner, and its calls in the batch. Takes no memory; the cost is in the number of calls
-    /// of the batch, and in the number of entries where the owner has one.
+    /// Drops what is pending for an owner, and its calls in the batch. Takes no memory; the cost is in the number of
+    /// entries of the batch, and in the number of entries where the owner has one.
     pub fn forget(&mut self, owner: u64)
         ensures pending { self.new.pending ≡ without owner self.old.pending }
         ensures batch { self.new.batch ≡ without_calls owner self.old.batch }
         ensures spare { length self.new.pending + self.new.spare ≡ length self.old.pending + self.old.spare }
     {
-        forget_calls(&mut self.batch, owner);
+        forget_left(&mut self.batch, owner);
         if self.pending.contains_key(&owner) {
             let before = self.pending.len();
             forget_entry(&mut self.pending, &mut self.moving, owner);
@@ -115,10 +122,9 @@ impl Due {
             return Ok(());
         }
         let all = self.pending.len().checked_add(owners).ok_or(NoMemory)?;
-        let calls = all.checked_mul(MOST_REASONS).ok_or(NoMemory)?;
         self.pending.reserve(owners)?;
         self.moving.reserve(all)?;
-        self.batch.reserve(calls)?;
+        self.batch.reserve(all)?;
         self.spare = owners;
         Ok(())
     }
@@ -131,48 +137,50 @@ impl Due {
         ensures batch { self.new.batch ≡ all_calls self.old.pending }
         ensures spare { self.new.spare ≡ length self.old.pending + self.old.spare }
     {
-        put_all_calls(&self.pending, &mut self.batch);
+        put_all(&self.pending, &mut self.batch);
         self.spare += self.pending.len();
         self.pending.clear();
     }
 }
 
-/// Drops the calls of an owner.
-fn forget_calls(calls: &mut VecDeque<(u64, Why)>, owner: u64)
-    ensures calls { calls.new.items ≡ without_calls owner calls.old.items }
-    ensures capacity { deque_capacity calls.old ≤ deque_capacity calls.new }
+/// Drops the entry of an owner from what is left of a batch.
+fn forget_left(batch: &mut VecDeque<(u64, Reasons)>, owner: u64)
+    ensures others { batch.new.items ≡ without owner batch.old.items }
+    ensures capacity { deque_capacity batch.old ≤ deque_capacity batch.new }
 {
-    calls.retain(|call| call.0 != owner);
+    batch.retain(|entry| entry.0 != owner);
 }
 
-/// Drops the entry of an owner, by moving the others to a map that has room for them; that map is empty again then.
+/// Drops the entry of an owner: all are moved to an empty list, and those of others back into the map, which is empty then.
 fn forget_entry(
     entries: &mut IndexMap<u64, Reasons>,
-    moving: &mut IndexMap<u64, Reasons>,
+    moving: &mut VecDeque<(u64, Reasons)>,
     owner: u64,
 )
-    requires empty { moving.old.entries ≡ [] }
-    requires room { length entries.old.entries ≤ spare_of moving.old }
+    requires empty { moving.old.items ≡ [] }
+    requires room { length entries.old.entries ≤ deque_capacity moving.old }
     ensures others { entries.new.entries ≡ without owner entries.old.entries }
-    ensures kept { spare_of moving.old ≤ length entries.new.entries + spare_of entries.new }
-    ensures emptied { moving.new.entries ≡ [] }
-    ensures left { length entries.old.entries + spare_of entries.old ≤ spare_of moving.new }
+    ensures kept { length entries.old.entries + spare_of entries.old ≤ length entries.new.entries + spare_of entries.new }
+    ensures emptied { moving.new.items ≡ [] }
+    ensures capacity { deque_capacity moving.old ≤ deque_capacity moving.new }
 {
-    move_others(entries, owner, moving);
-    mem::swap(entries, moving);
+    put_all(entries, moving);
+    entries.clear();
+    put_others(moving, owner, entries);
     moving.clear();
 }
 
 /// Puts the entries of other owners into an empty map.
-fn move_others(entries: &IndexMap<u64, Reasons>, owner: u64, others: &mut IndexMap<u64, Reasons>)
+fn put_others(entries: &VecDeque<(u64, Reasons)>, owner: u64, others: &mut IndexMap<u64, Reasons>)
+    requires distinct { IsDistinct nat_eq (keys_of entries.now.items) }
     requires empty { others.old.entries ≡ [] }
-    requires room { length entries.now.entries ≤ spare_of others.old }
-    ensures entries { others.new.entries ≡ without owner entries.now.entries }
+    requires room { length entries.now.items ≤ spare_of others.old }
+    ensures entries { others.new.entries ≡ without owner entries.now.items }
     ensures kept { spare_of others.old ≤ length others.new.entries + spare_of others.new }
 {
     for at in 0..entries.len() {
-        let (key, reasons) = entries.get_index(at).unwrap();
-        put_other(owner, *key, *reasons, others);
+        let (key, reasons) = entries[at];
+        put_other(owner, key, reasons, others);
     }
 }
 
@@ -189,14 +197,16 @@ fn put_other(owner: u64, key: u64, reasons: Reasons, others: &mut IndexMap<u64, 
     }
 }
 
-/// Puts the calls of all entries behind the others.
-fn put_all_calls(entries: &IndexMap<u64, Reasons>, calls: &mut VecDeque<(u64, Why)>)
-    requires { deque_len calls.old + 5 * length entries.now.entries ≤ deque_capacity calls.old }
-    ensures items { calls.new.items ≡ calls.old.items ++ all_calls entries.now.entries }
-    ensures capacity { deque_capacity calls.old ≤ deque_capacity calls.new }
+/// Puts all entries into an empty list.
+fn put_all(entries: &IndexMap<u64, Reasons>, list: &mut VecDeque<(u64, Reasons)>)
+    requires empty { list.old.items ≡ [] }
+    requires room { length entries.now.entries ≤ deque_capacity list.old }
+    ensures items { list.new.items ≡ entries.now.entries }
+    ensures distinct { IsDistinct nat_eq (keys_of list.new.items) }
+    ensures capacity { deque_capacity list.old ≤ deque_capacity list.new }
 {
     for at in 0..entries.len() {
         let (owner, reasons) = entries.get_index(at).unwrap();
-        reasons.put_calls(*owner, calls);
+        list.push_back((*owner, *reasons)).unwrap();
     }
 }

@@ -1,14 +1,8 @@
 // The reasons of one pending entry.
-ghost use Rattle.std.specs.Prelude.{◌≡◌, ◌+◌, ◌≤◌, ◌<◌, ◌++◌, option_map};
-ghost use Rattle.ev_types.specs.declared.why.Why.TheVariants as why_of;
-ghost use Rattle.deferred_cb.specs.DueCalls.{call_for};
-ghost use Rattle.std.specs.VecDeque.{deque_len, deque_capacity};
+ghost use Rattle.std.specs.Prelude.{◌≡◌, ℕ, ◌∷◌, not, true};
 
 use ev_types::{Flags, Why};
-use std::collections::VecDeque;
-
-/// How many reasons an entry has at most.
-pub(crate) const MOST_REASONS: usize = 5;
+use std::mem;
 
 /// The reasons for which an owner's callback is due, those of events joined.
 ///
@@ -23,7 +17,7 @@ pub struct Reasons {
 }
 
 impl Reasons {
-    ghost use Rattle.deferred_cb.specs.DueCalls.{no_reasons, joined, calls_of};
+    ghost use Rattle.deferred_cb.specs.DueCalls.{no_reasons, joined, has_reason, calls_of};
 
     /// One reason alone.
     pub(crate) fn of(why: Why) -> Reasons
@@ -56,39 +50,31 @@ impl Reasons {
         }
     }
 
-    /// Puts the owner's calls behind the others, in the order of the reasons.
-    pub(crate) fn put_calls(&self, owner: u64, calls: &mut VecDeque<(u64, Why)>)
-        requires { deque_len calls.old + MOST_REASONS ≤ deque_capacity calls.old }
-        ensures items { calls.new.items ≡ calls.old.items ++ calls_of (owner, self.now) }
-        ensures len { deque_len calls.new ≤ deque_len calls.old + MOST_REASONS }
-        ensures capacity { deque_capacity calls.old ≤ deque_capacity calls.new }
+    /// Whether no reason is left.
+    pub(crate) fn is_empty(&self) -> bool
+        ensures { result ≡ not (has_reason self.now) }
     {
-        put_call(owner, self.connected.then_some(Why::Connected), calls);
-        put_call(owner, self.read.then_some(Why::Read), calls);
-        put_call(owner, self.write.then_some(Why::Write), calls);
-        put_call(owner, event_reason(self.event), calls);
-        put_call(owner, self.timer.then_some(Why::Timer), calls);
+        !(self.connected || self.read || self.write || self.event.is_some() || self.timer)
     }
-}
 
-/// Puts the owner's call for a reason behind the others, where there is one.
-fn put_call(owner: u64, why: Option<Why>, calls: &mut VecDeque<(u64, Why)>)
-    requires { deque_len calls.old < deque_capacity calls.old }
-    ensures items { calls.new.items ≡ calls.old.items ++ call_for owner why }
-    ensures len { deque_len calls.new ≤ deque_len calls.old + 1 }
-    ensures capacity { deque_capacity calls.old ≤ deque_capacity calls.new }
-{
-    if let Some(why) = why {
-        calls.push_back((owner, why)).unwrap();
-    }
-}
-
-/// The reason that joined flags of events are.
-fn event_reason(event: Option<Flags>) -> Option<Why>
-    ensures { result ≡ option_map why_of.Event event }
-{
-    match event {
-        Some(flags) => Some(Why::Event(flags)),
-        None => None,
+    /// Takes the first reason, in the order in which the calls of an owner come.
+    pub(crate) fn take_first(&mut self) -> Why
+        requires { has_reason self.old ≡ true }
+        ensures { (owner : ℕ) → calls_of (owner, self.old) ≡ (owner, result) ∷ calls_of (owner, self.new) }
+    {
+        if mem::take(&mut self.connected) {
+            return Why::Connected;
+        }
+        if mem::take(&mut self.read) {
+            return Why::Read;
+        }
+        if mem::take(&mut self.write) {
+            return Why::Write;
+        }
+        if let Some(flags) = self.event.take() {
+            return Why::Event(flags);
+        }
+        self.timer = false;
+        Why::Timer
     }
 }

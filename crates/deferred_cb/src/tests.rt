@@ -62,3 +62,25 @@ fn a_forgotten_owner_is_not_called(rt: HostRuntime) -> Result<(), Fail> {
     assert!(rt; due.is_empty());
     Ok(())
 }
+
+#[test]
+fn owners_keep_their_order_where_one_is_forgotten(rt: HostRuntime) -> Result<(), Fail> {
+    let mut due = Due::new(rt.alloc());
+    for (owner, why) in RAISED {
+        raise(&mut due, owner, why)?;
+    }
+    due.forget(3);
+    raise(&mut due, 3, Why::Timer)?;
+    assert!(rt; due.take_turn().is_none());
+    due.begin();
+    for call in [
+        (7, Why::Read),
+        (7, Why::Timer),
+        (9, Why::Write),
+        (3, Why::Timer),
+    ] {
+        assert_eq!(rt; due.take_turn(), Some(call));
+    }
+    assert!(rt; due.is_empty());
+    Ok(())
+}

@@ -1,9 +1,12 @@
-use Rattle.std.proofs.Common.{◌≡◌, sym, ◌∙◌, ap, is_some, List, length, false, arith}
+use Rattle.std.proofs.Common.{◌≡◌, sym, subst, ◌∙◌, ap, is_some, List, length, false, arith, rules}
 use Rattle.std.specs.Prelude.{nat_eq}
 use Rattle.std.specs.Map.{set_value}
+use Rattle.std.proofs.lemmas.Map.{length-set_value}
 use Rattle.indexmap.specs.IndexMap.{insert_entry, spare as spare_of}
 use Rattle.deferred_cb.specs.DueCalls.{Entry, with_reason, has_entry}
 use Rattle.deferred_cb.specs.DueValue.{DueValue}
+use Rattle.deferred_cb.specs.DueView.{HaveReasons}
+use Rattle.deferred_cb.proofs.CallLemmas.{have-with_reason}
 use Rattle.deferred_cb.proofs.EntryLemmas.{has_entry-lookup, insert-absent, set-present, length-with_new, on_ok}
 use Rattle.deferred_cb.proofs.due.Due.schedule.Goals as goal
 
@@ -15,6 +18,25 @@ returns-in-Some-clause-pending c =
     ∙ (λ i. set_value (nat_eq c.args.owner) es (c.join.ensures i))
     ∙ set-present c.args.owner c.args.why es c.in-Some.reasons.now (sym c.in-Some.ensures.value)
     ∙ ap (with_reason c.args.owner c.args.why) pending
+
+pub invariant_of-self : goal.invariant_of-self
+invariant_of-self c =
+    let es : List Entry = c.self.inside.pending.entries in
+    let v = c.self.invariant in
+    let holds = c.get_mut.follows.holds c.join.new.self in
+    let same : length (c.get_mut.follows.lender c.join.new.self).entries ≡ length es =
+    ap length holds.0 ∙ length-set_value (nat_eq c.args.owner) es _ in
+    let entries = holds.0
+    ∙ (λ i. set_value (nat_eq c.args.owner) es (c.join.ensures i))
+    ∙ set-present c.args.owner c.args.why es c.in-Some.reasons.now (sym c.in-Some.ensures.value) in
+    record {
+      pending = search rules;
+      moving = v.moving;
+      moved = omega (arith, same, v.moved);
+      batch = omega (arith, same, v.batch);
+      due = subst HaveReasons (sym entries) (have-with_reason c.args.owner c.args.why es v.due);
+      left = v.left;
+    }
 
 pub unwrap-requires : goal.unwrap-requires
 unwrap-requires c =
@@ -64,7 +86,9 @@ invariant_of-self-2 c =
       pending = omega (arith, same, v.pending, c.insert.ensures.spare, some, spare);
       moving = v.moving;
       moved = omega (arith, longer, v.moved, some, spare);
-      calls = omega (arith, longer, v.calls, some, spare);
+      batch = omega (arith, longer, v.batch, some, spare);
+      due = subst HaveReasons (sym entries) (have-with_reason c.args.owner c.args.why es v.due);
+      left = v.left;
     }
 
 pub returns-clause-spare : goal.returns-clause-spare
