@@ -59,15 +59,24 @@ impl Model for Bev {
 }
 
 impl Bev {
-    /// A live bufferevent without bytes: writing is enabled and reading is not, and there are no marks, timeouts and
-    /// references. Takes memory; constant cost.
+    /// A live bufferevent, as `fresh` makes it. Takes no memory; constant cost.
     ///
     /// Libevent: event2/bufferevent.h, `bufferevent_socket_new`; "Bufferevents: concepts and basics".
     pub fn new(alloc: Global) -> Result<Bev, BevFault>
         ensures answer { AnswersOr Memory result None }
         ensures bev { IfOk result (λ bev. bev ≡ new_bev) }
     {
-        Ok(Bev {
+        Ok(Bev::fresh(alloc))
+    }
+
+    /// A live bufferevent without bytes: writing is enabled and reading is not, and there are no marks, timeouts and
+    /// references. Takes no memory; constant cost.
+    ///
+    /// Libevent: event2/bufferevent.h, `bufferevent_socket_new`; "Bufferevents: concepts and basics".
+    pub fn fresh(alloc: Global) -> Bev
+        ensures { result ≡ new_bev }
+    {
+        Bev {
             live: true,
             reading: false,
             writing: true,
@@ -84,7 +93,7 @@ impl Bev {
             last_write: 0,
             input: OwnBuffer::new(alloc),
             output: OwnBuffer::new(alloc),
-        })
+        }
     }
 
     /// Its plain values. A freed one answers too. Takes no memory; constant cost.
