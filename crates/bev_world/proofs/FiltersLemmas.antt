@@ -168,8 +168,8 @@ module _ (dir : Dir) (limit : ℕ) (mode : Mode) (at under : ℕ) (r : Result St
   over_then : slice_index_or (slice_set w.slots under l) at no_slot ≡ over
   over_then = get_or-set_other w.slots under at l no_slot (λ e. absurd (let b = s.below in omega (arith, e, b)))
 
-  pub holds-step : (es : List Entry) (spare : ℕ) → Holds w.slots es spare → Holds ys es spare
-  holds-step es spare h = subst (λ zs. Holds zs es spare) (sym s.slots)
+  pub holds-step : {more cap : ℕ} (es : List Entry) (spare : ℕ) → Holds w.slots es spare more cap → Holds ys es spare more cap
+  holds-step {more} {cap} es spare h = subst (λ zs. Holds zs es spare more cap) (sym s.slots)
       (holds-with (slice_set w.slots under l) es spare at no_slot over o
       (holds-with w.slots es spare under no_slot lower l h under_there refl stays.0.kind (stays.0.room (h.each under under_there).room))
       there_then (sym over_then) stays.1.kind (stays.1.room (h.each at s.there).room))

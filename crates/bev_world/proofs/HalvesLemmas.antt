@@ -161,9 +161,9 @@ module _ (xs : List Slot) (from to n : ℕ) (f t l : Slot) (blank into left : Be
       ap (λ (s : Slot). slice_set (slice_set (slice_set xs from (record f { bev = blank })) to (record t { bev = into; room = room })) from (record s { bev = left })) p.lay
       ∙ put-back xs from to (record f { bev = blank }) (record t { bev = into; room = room }) (record f { bev = left }) p.apart
 
-  pub holds-passing : (es : List Entry) (spare : ℕ) → Holds xs es spare →
-      Holds (slice_set (slice_set (slice_set xs from (record f { bev = blank })) to (record t { bev = into; room = room })) from (record l { bev = left })) es spare
-  holds-passing es spare h = subst (λ ss. Holds ss es spare) (sym slots-back) second
+  pub holds-passing : {more cap : ℕ} (es : List Entry) (spare : ℕ) → Holds xs es spare more cap →
+      Holds (slice_set (slice_set (slice_set xs from (record f { bev = blank })) to (record t { bev = into; room = room })) from (record l { bev = left })) es spare more cap
+  holds-passing {more} {cap} es spare h = subst (λ ss. Holds ss es spare more cap) (sym slots-back) second
     where
       F : Slot
       F = record f { bev = left }
@@ -184,14 +184,14 @@ module _ (xs : List Slot) (from to n : ℕ) (f t l : Slot) (blank into left : Be
       into_spare =
           ap (λ (b : BevValue). b.input.spare) p.into_is ∙ ap (λ k. t.bev.input.spare - k) (length-take n f.bev.output.bytes)
 
-      first : Holds (slice_set xs from F) es spare
+      first : Holds (slice_set xs from F) es spare more cap
       first = holds-set xs es spare from F h p.from_there
           (fits-with (length xs) from f F fits_from refl (let r = fits_from.room in omega (arith, r, left_spare)))
 
       fits_later : IsSlot (length (slice_set xs from F)) to t
       fits_later = subst (λ c. IsSlot c to t) (sym (length-set xs from F)) fits_to
 
-      second : Holds (slice_set (slice_set xs from F) to T) es spare
+      second : Holds (slice_set (slice_set xs from F) to T) es spare more cap
       second = holds-set (slice_set xs from F) es spare to T first (subst (λ c. to < c) (sym (length-set xs from F)) p.to_there)
           (fits-with (length (slice_set xs from F)) to t T fits_later refl
           (let r = fits_to.room in let e = p.room_is in omega (arith, r, e, into_spare)))

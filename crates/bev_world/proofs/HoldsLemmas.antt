@@ -11,14 +11,16 @@ use Rattle.bev_world.specs.declared.slot.Kind.TheVariants as kind
 use Rattle.bev_world.specs.declared.slot.Slot.{Slot}
 use Rattle.bev_world.specs.WorldValue.{no_slot}
 use Rattle.bev_world.specs.WorldView.{IsSlot, IsNew, IsJoined, Holds, lacking}
-use Rattle.bev_world.proofs.RoomLemmas.{room-raised, room-forgot, room-begun, lacking-at-most}
+use Rattle.bev_world.proofs.RoomLemmas.{room-raised, room-forgot, room-begun, lacking-at-most, lacking-longer}
 
 -- one slot is another
-pub holds-set : (ss : List Slot) (es : List Entry) (spare n : ℕ) (s : Slot) → Holds ss es spare → n < length ss → IsSlot (length ss) n s →
-    Holds (slice_set ss n s) es spare
-holds-set ss es spare n s h within fits = record {
+pub holds-set : {more cap : ℕ} (ss : List Slot) (es : List Entry) (spare n : ℕ) (s : Slot) →
+    Holds ss es spare more cap → n < length ss → IsSlot (length ss) n s →
+    Holds (slice_set ss n s) es spare more cap
+holds-set {more} {cap} ss es spare n s h within fits = record {
   few = subst (λ c. c < 2 ^ 32) (sym many) h.few;
-  room = subst (λ c. lacking c (λ m. has_entry m es) ≤ spare) (sym many) h.room;
+  room = subst (λ c. lacking c (λ m. has_entry m es) + more ≤ spare) (sym many) h.room;
+  fits = subst (λ c. c + more ≤ cap) (sym many) h.fits;
   each = λ m lt. at m (subst (λ c. m < c) many lt) (eqb_tells m n);
 }
   where
@@ -36,38 +38,43 @@ holds-set ss es spare n s h within fits = record {
         (subst (IsSlot (length ss) m) (sym (get_or-set_other ss n m s no_slot apart.1)) (h.each m lt))
 
 -- a reason became due
-pub holds-raised : (ss : List Slot) (es next : List Entry) (spare left n : ℕ) (y : Why) → Holds ss es spare → n < length ss →
-    next ≡ with_reason n y es → length next + left ≡ length es + spare → Holds ss next left
-holds-raised ss es next spare left n y h within is kept = record {
+pub holds-raised : {more cap : ℕ} (ss : List Slot) (es next : List Entry) (spare left n : ℕ) (y : Why) →
+    Holds ss es spare more cap → n < length ss → next ≡ with_reason n y es → length next + left ≡ length es + spare → Holds ss next left more cap
+holds-raised {more} {cap} ss es next spare left n y h within is kept = record {
   few = h.few;
-  room = subst (λ z. lacking (length ss) (λ m. has_entry m z) ≤ left) (sym is)
-      (room-raised (length ss) n y es spare left within h.room (subst (λ z. length z + left ≡ length es + spare) is kept));
+  room = subst (λ z. lacking (length ss) (λ m. has_entry m z) + more ≤ left) (sym is)
+      (room-raised more (length ss) n y es spare left within h.room (subst (λ z. length z + left ≡ length es + spare) is kept));
+  fits = h.fits;
   each = h.each;
 }
 
 -- what was due for one was forgotten
-pub holds-forgot : (ss : List Slot) (es next : List Entry) (spare left n : ℕ) → Holds ss es spare → next ≡ without n es →
-    length next + left ≡ length es + spare → Holds ss next left
-holds-forgot ss es next spare left n h is kept = record {
+pub holds-forgot : {more cap : ℕ} (ss : List Slot) (es next : List Entry) (spare left n : ℕ) →
+    Holds ss es spare more cap → next ≡ without n es →
+    length next + left ≡ length es + spare → Holds ss next left more cap
+holds-forgot {more} {cap} ss es next spare left n h is kept = record {
   few = h.few;
-  room = subst (λ z. lacking (length ss) (λ m. has_entry m z) ≤ left) (sym is)
-      (room-forgot (length ss) n es spare left h.room (subst (λ z. length z + left ≡ length es + spare) is kept));
+  room = subst (λ z. lacking (length ss) (λ m. has_entry m z) + more ≤ left) (sym is)
+      (room-forgot more (length ss) n es spare left h.room (subst (λ z. length z + left ≡ length es + spare) is kept));
+  fits = h.fits;
   each = h.each;
 }
 
 -- a batch began
-pub holds-begun : (ss : List Slot) (es next : List Entry) (spare left : ℕ) → Holds ss es spare → next ≡ [] → left ≡ length es + spare →
-    Holds ss next left
-holds-begun ss es next spare left h is kept = record {
+pub holds-begun : {more cap : ℕ} (ss : List Slot) (es next : List Entry) (spare left : ℕ) →
+    Holds ss es spare more cap → next ≡ [] → left ≡ length es + spare →
+    Holds ss next left more cap
+holds-begun {more} {cap} ss es next spare left h is kept = record {
   few = h.few;
-  room = subst (λ z. lacking (length ss) (λ m. has_entry m z) ≤ left) (sym is)
-      (subst (λ k. lacking (length ss) (λ m. has_entry m []) ≤ k) (sym kept) (room-begun (length ss) es spare h.room));
+  room = subst (λ z. lacking (length ss) (λ m. has_entry m z) + more ≤ left) (sym is)
+      (subst (λ k. lacking (length ss) (λ m. has_entry m []) + more ≤ k) (sym kept) (room-begun more (length ss) es spare h.room));
+  fits = h.fits;
   each = h.each;
 }
 
 -- a slot that is read fits
-pub fits-read : (ss : List Slot) (es : List Entry) (spare n : ℕ) (d x : Slot) → Holds ss es spare → n < length ss →
-    x ≡ slice_index_or ss n d → IsSlot (length ss) n x
+pub fits-read : {more cap : ℕ} (ss : List Slot) (es : List Entry) (spare n : ℕ) (d x : Slot) →
+    Holds ss es spare more cap → n < length ss → x ≡ slice_index_or ss n d → IsSlot (length ss) n x
 fits-read ss es spare n d x h within is =
     subst (IsSlot (length ss) n) (sym (is ∙ get_or_default ss n d no_slot within)) (h.each n within)
 
@@ -79,10 +86,20 @@ fits-with count n x s h kind room = record {
 }
 
 -- one slot is another with the same kind and enough room
-pub holds-with : (ss : List Slot) (es : List Entry) (spare n : ℕ) (d x s : Slot) → Holds ss es spare → n < length ss →
-    x ≡ slice_index_or ss n d → s.kind ≡ x.kind → s.room ≤ s.bev.input.spare → Holds (slice_set ss n s) es spare
+pub holds-with : {more cap : ℕ} (ss : List Slot) (es : List Entry) (spare n : ℕ) (d x s : Slot) →
+    Holds ss es spare more cap → n < length ss → x ≡ slice_index_or ss n d → s.kind ≡ x.kind → s.room ≤ s.bev.input.spare → Holds (slice_set ss n s) es spare more cap
 holds-with ss es spare n d x s h within is kind room =
     holds-set ss es spare n s h within (fits-with (length ss) n x s (fits-read ss es spare n d x h within is) kind room)
+
+-- there is room for so many bufferevents more, and for an entry of each
+pub holds-room : {was held : ℕ} (ss : List Slot) (es next : List Entry) (spare free more cap : ℕ) → Holds ss es spare was held →
+    length ss + more ≤ free → length ss + more ≤ cap → Holds ss next free more cap
+holds-room ss es next spare free more cap h entries slots = record {
+  few = h.few;
+  room = let most = lacking-at-most (λ m. has_entry m next) (length ss) in omega (arith, most, entries);
+  fits = slots;
+  each = h.each;
+}
 
 -- Slots come behind the others
 
@@ -99,14 +116,18 @@ fits-new : (count n : ℕ) (s : Slot) → IsNew count n s → IsSlot count n s
 fits-new count n s h = record { joined = h.joined; room = let r = h.room in omega (arith, r) }
 
 -- one or two come behind the others
-pub holds-new : (ss new : List Slot) (es : List Entry) (spare : ℕ) → ((n : ℕ) → n < length ss → IsSlot (length ss) n (slice_index_or ss n no_slot)) →
-    length ss + length new < 2 ^ 32 → length ss + length new ≤ spare →
-    ((k : ℕ) → k < length new → IsNew (length ss + length new) (length ss + k) (slice_index_or new k no_slot)) → Holds (ss ++ new) es spare
-holds-new ss new es spare each few room fits = record {
+pub holds-new : (ss new : List Slot) (es : List Entry) (spare more cap : ℕ) →
+    ((n : ℕ) → n < length ss → IsSlot (length ss) n (slice_index_or ss n no_slot)) → length ss + length new < 2 ^ 32 → (lacking (length ss) (λ m. has_entry m es) + length new) + more ≤ spare →
+    (length ss + length new) + more ≤ cap →
+    ((k : ℕ) → k < length new → IsNew (length ss + length new) (length ss + k) (slice_index_or new k no_slot)) →
+    Holds (ss ++ new) es spare more cap
+holds-new ss new es spare more cap each few room big fits = record {
   few = subst (λ c. c < 2 ^ 32) (sym long) few;
   room =
-      let most = lacking-at-most (λ m. has_entry m es) (length (ss ++ new)) in
-      omega (arith, most, long, room);
+      let most = lacking-longer (λ m. has_entry m es) (length ss) (length new) in
+      let whole = ap (λ c. lacking c (λ m. has_entry m es)) long in
+      omega (arith, most, whole, room);
+  fits = omega (arith, long, big);
   each = λ n lt. subst (λ c. IsSlot c n (slice_index_or (ss ++ new) n no_slot)) (sym long) (at n (omega (arith, lt, long)) (leb_tells (suc n) (length ss)));
 }
   where
@@ -126,24 +147,26 @@ holds-new ss new es spare each few room fits = record {
         (subst (IsSlot (length ss + length new) (length ss + k)) (sym (get_or-append-add ss new k no_slot))
         (fits-new (length ss + length new) (length ss + k) (slice_index_or new k no_slot) (fits k (omega (arith, lt, past.1)))))
 
-pub holds_one : (ss : List Slot) (es : List Entry) (spare : ℕ) (s : Slot) →
-    ((n : ℕ) → n < length ss → IsSlot (length ss) n (slice_index_or ss n no_slot)) → length ss + 1 < 2 ^ 32 → length ss + 1 ≤ spare →
-    IsNew (length ss + 1) (length ss) s → Holds (ss ++ s ∷ []) es spare
-holds_one ss es spare s each few room fits = holds-new ss (s ∷ []) es spare each few room at
+pub holds_one : (ss : List Slot) (es : List Entry) (spare more cap : ℕ) (s : Slot) →
+    ((n : ℕ) → n < length ss → IsSlot (length ss) n (slice_index_or ss n no_slot)) → length ss + 1 < 2 ^ 32 →
+    (lacking (length ss) (λ m. has_entry m es) + 1) + more ≤ spare → (length ss + 1) + more ≤ cap →
+    IsNew (length ss + 1) (length ss) s → Holds (ss ++ s ∷ []) es spare more cap
+holds_one ss es spare more cap s each few room big fits = holds-new ss (s ∷ []) es spare more cap each few room big at
   where
     at : (k : ℕ) → k < length (s ∷ []) → IsNew (length ss + length (s ∷ [])) (length ss + k) (slice_index_or (s ∷ []) k no_slot)
     at zero lt = subst (λ n. IsNew (length ss + 1) n s) (omega arith) fits
     at (suc k) lt = absurd (omega arith)
 
-pub holds_two : (ss : List Slot) (es : List Entry) (spare : ℕ) (s t : Slot) →
-    ((n : ℕ) → n < length ss → IsSlot (length ss) n (slice_index_or ss n no_slot)) → length ss + 2 < 2 ^ 32 → length ss + 2 ≤ spare →
-    IsNew (length ss + 2) (length ss) s → IsNew (length ss + 2) (length ss + 1) t → Holds (ss ++ s ∷ t ∷ []) es spare
-holds_two ss es spare s t each few room fits more = holds-new ss (s ∷ t ∷ []) es spare each few room at
+pub holds_two : (ss : List Slot) (es : List Entry) (spare more cap : ℕ) (s t : Slot) →
+    ((n : ℕ) → n < length ss → IsSlot (length ss) n (slice_index_or ss n no_slot)) → length ss + 2 < 2 ^ 32 →
+    (lacking (length ss) (λ m. has_entry m es) + 2) + more ≤ spare → (length ss + 2) + more ≤ cap →
+    IsNew (length ss + 2) (length ss) s → IsNew (length ss + 2) (length ss + 1) t → Holds (ss ++ s ∷ t ∷ []) es spare more cap
+holds_two ss es spare more cap s t each few room big fits other = holds-new ss (s ∷ t ∷ []) es spare more cap each few room big at
   where
     at : (k : ℕ) → k < length (s ∷ t ∷ []) →
         IsNew (length ss + length (s ∷ t ∷ [])) (length ss + k) (slice_index_or (s ∷ t ∷ []) k no_slot)
     at zero lt = subst (λ n. IsNew (length ss + 2) n s) (omega arith) fits
-    at (suc zero) lt = more
+    at (suc zero) lt = other
     at (suc (suc k)) lt = absurd (omega arith)
 
 -- a push that did not fail
@@ -152,7 +175,8 @@ pub pushed : {T E : Type 0} (old new : List Slot) (s : Slot) (r : Result T E) (x
 pushed old new s r x e ok = e ∙ ap (λ z. if is_ok z then old ++ s ∷ [] else old) ok
 
 -- a filter was made over one
-pub holds_taken : (ss : List Slot) (es : List Entry) (spare n : ℕ) (d x : Slot) → Holds ss es spare → n < length ss →
-    x ≡ slice_index_or ss n d → Holds (slice_set ss n (record x { taken = true })) es spare
+pub holds_taken : {more cap : ℕ} (ss : List Slot) (es : List Entry) (spare n : ℕ) (d x : Slot) →
+    Holds ss es spare more cap → n < length ss → x ≡ slice_index_or ss n d →
+    Holds (slice_set ss n (record x { taken = true })) es spare more cap
 holds_taken ss es spare n d x h within is =
     holds-with ss es spare n d x (record x { taken = true }) h within is refl (fits-read ss es spare n d x h within is).room

@@ -83,6 +83,19 @@ lacking-at-most is_so (suc c) = by_so (is_so c) (lacking-at-most is_so c)
     by_so true h = omega (arith, h)
     by_so false h = omega (arith, h)
 
+-- so many numbers more lack no more than all of them
+pub lacking-longer : (is_so : ℕ → Bool) (c n : ℕ) → lacking (c + n) is_so ≤ lacking c is_so + n
+lacking-longer is_so c zero = let e = ap (λ k. lacking k is_so) (let z : c + 0 ≡ c = omega arith in z) in omega (arith, e)
+lacking-longer is_so c (suc n) =
+    let e = ap (λ k. lacking k is_so) (let z : c + suc n ≡ suc (c + n) = omega arith in z) in
+    let one = by_so (is_so (c + n)) (lacking-longer is_so c n) in
+    omega (arith, e, one)
+  where
+    by_so : (b : Bool) → lacking (c + n) is_so ≤ lacking c is_so + n →
+        lacking (c + n) is_so + (if b then 0 else 1) ≤ lacking c is_so + suc n
+    by_so true h = omega (arith, h)
+    by_so false h = omega (arith, h)
+
 -- the same numbers are so
 pub lacking-alike : (a b : ℕ → Bool) → ((m : ℕ) → a m ≡ b m) → (c : ℕ) → lacking c a ≡ lacking c b
 lacking-alike a b same zero = refl
@@ -166,29 +179,29 @@ length-without-had n (e ∷ es) = go (nat_eq n e.0) (length-without-had n es)
 
 -- Room for entries
 
-pub room-raised : (c n : ℕ) (y : Why) (es : List Entry) (spare next : ℕ) → n < c → lacking c (λ m. has_entry m es) ≤ spare →
-    length (with_reason n y es) + next ≡ length es + spare → lacking c (λ m. has_entry m (with_reason n y es)) ≤ next
-room-raised c n y es spare next within room kept =
+pub room-raised : (more c n : ℕ) (y : Why) (es : List Entry) (spare next : ℕ) → n < c → lacking c (λ m. has_entry m es) + more ≤ spare →
+    length (with_reason n y es) + next ≡ length es + spare → lacking c (λ m. has_entry m (with_reason n y es)) + more ≤ next
+room-raised more c n y es spare next within room kept =
     let one = more-within (λ m. has_entry m es) (λ m. has_entry m (with_reason n y es)) n (λ m. has-with m n y es) c within in
     let long = length-with n y es in
     omega (arith, one, long, room, kept)
 
 -- whoever has no entry has room for one
-pub room-there : (c n : ℕ) (es : List Entry) (spare : ℕ) → n < c → lacking c (λ m. has_entry m es) ≤ spare → has_entry n es ≡ false →
+pub room-there : (more c n : ℕ) (es : List Entry) (spare : ℕ) → n < c → lacking c (λ m. has_entry m es) + more ≤ spare → has_entry n es ≡ false →
     0 < spare
-room-there c n es spare within room none =
+room-there more c n es spare within room none =
     let one = more-within (λ m. has_entry m es) (λ m. nat_eq m n || has_entry m es) n (λ m. refl) c within in
     let this : ◌≡◌ {A = ℕ} (if has_entry n es then 0 else 1) 1 = ap (λ b. if b then 0 else 1) none in
     omega (arith, one, this, room)
 
-pub room-forgot : (c n : ℕ) (es : List Entry) (spare next : ℕ) → lacking c (λ m. has_entry m es) ≤ spare →
-    length (without n es) + next ≡ length es + spare → lacking c (λ m. has_entry m (without n es)) ≤ next
-room-forgot c n es spare next room kept = by_had (has_entry n es) refl
+pub room-forgot : (more c n : ℕ) (es : List Entry) (spare next : ℕ) → lacking c (λ m. has_entry m es) + more ≤ spare →
+    length (without n es) + next ≡ length es + spare → lacking c (λ m. has_entry m (without n es)) + more ≤ next
+room-forgot more c n es spare next room kept = by_had (has_entry n es) refl
   where
     short : length (without n es) + (if has_entry n es then 1 else 0) ≤ length es
     short = length-without-had n es
 
-    by_had : (b : Bool) → has_entry n es ≡ b → lacking c (λ m. has_entry m (without n es)) ≤ next
+    by_had : (b : Bool) → has_entry n es ≡ b → lacking c (λ m. has_entry m (without n es)) + more ≤ next
     by_had true had =
         let most = more-at-most (λ m. has_entry m (without n es)) (λ m. has_entry m es) n (λ m. had_more m had) c in
         let one : ◌≡◌ {A = ℕ} (if has_entry n es then 1 else 0) 1 = ap (λ b. if b then 1 else 0) had in
@@ -219,9 +232,9 @@ all-or-lacking c (e ∷ es) =
     let most = more-at-most (λ m. has_entry m es) (λ m. has_entry m (e ∷ es)) e.0 (λ m. refl) c in
     omega (arith, rest, most)
 
-pub room-begun : (c : ℕ) (es : List Entry) (spare : ℕ) → lacking c (λ m. has_entry m es) ≤ spare →
-    lacking c (λ m. has_entry m []) ≤ length es + spare
-room-begun c es spare room =
+pub room-begun : (more c : ℕ) (es : List Entry) (spare : ℕ) → lacking c (λ m. has_entry m es) + more ≤ spare →
+    lacking c (λ m. has_entry m []) + more ≤ length es + spare
+room-begun more c es spare room =
     let all = all-or-lacking c es in
     let none = lacking-none c in
     omega (arith, all, none, room)

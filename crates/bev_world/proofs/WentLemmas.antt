@@ -163,14 +163,15 @@ pub live_failed : (b : BevValue) (dir : Dir) → (failed_at b dir).live ≡ b.li
 live_failed b dir = live_enabled b dir false
 
 -- reasons that wait are other
-pub went_due : (w : WorldValue) (es : List Entry) (cs : List Call) → cs ≡ w.batch → Went w (record w { pending = es; batch = cs })
-went_due w es cs same = went_same w (record w { pending = es; batch = cs }) refl (λ n. refl) (λ n. refl) same refl
+pub went_due : (w : WorldValue) (es : List Entry) (cs : List Call) (room : ℕ) → cs ≡ w.batch →
+    Went w (record w { pending = es; batch = cs; spare = room })
+went_due w es cs room same = went_same w (record w { pending = es; batch = cs; spare = room }) refl (λ n. refl) (λ n. refl) same refl
 
 -- slots of live bufferevents come behind the others
-pub went_new : (w : WorldValue) (new : List Slot) (es : List Entry) (cs : List Call) →
+pub went_new : (w : WorldValue) (new : List Slot) (es : List Entry) (cs : List Call) (room : ℕ) →
     ((k : ℕ) → k < length new → (slice_index_or new k no_slot).bev.live ≡ true) → cs ≡ w.batch →
-    Went w (record w { slots = w.slots ++ new; pending = es; batch = cs })
-went_new w new es cs lives same = record {
+    Went w (record w { slots = w.slots ++ new; pending = es; batch = cs; spare = room })
+went_new w new es cs room lives same = record {
   known = let e = length-append w.slots new in omega (arith, e);
   kinds = λ n lt. ap (λ s. s.kind) (get_or_append_left w.slots new no_slot n lt);
   freed = λ n h. same_there n (made n h) ∙ h;
@@ -179,7 +180,7 @@ went_new w new es cs lives same = record {
 }
   where
     grown : WorldValue
-    grown = record w { slots = w.slots ++ new; pending = es; batch = cs }
+    grown = record w { slots = w.slots ++ new; pending = es; batch = cs; spare = room }
 
     is_below : (n c : ℕ) → n < c → nat_lt n c ≡ true
     is_below n c h = elim (leb_tells (suc n) c) [

@@ -1,5 +1,5 @@
 -- What contracts see of a world: its bufferevents by their numbers, and the reasons for which callbacks are due.
-use Rattle.std.specs.Prelude.{ℕ, ◌+◌, [], ◌∷◌, ◌++◌, Bool, true, false, not, ◌&&◌, nat_lt, if◌then◌else◌, List, Option, length, slice_index_or, slice_set}
+use Rattle.std.specs.Prelude.{ℕ, ◌+◌, ◌-◌, max, [], ◌∷◌, ◌++◌, Bool, true, false, not, ◌&&◌, nat_lt, if◌then◌else◌, List, Option, length, slice_index_or, slice_set}
 use Rattle.token_bucket.specs.declared.limit.Dir.{Dir}
 use Rattle.token_bucket.specs.declared.limit.Dir.TheVariants.{Read, Write}
 use Rattle.ev_types.specs.declared.filter.FilterKind.{FilterKind}
@@ -15,12 +15,13 @@ use Rattle.bev_world.specs.declared.slot.Kind.TheVariants as kind
 use Rattle.bev_world.specs.declared.slot.Slot.{Slot}
 
 -- The bufferevents at their numbers, freed ones among them; the reasons that wait for the next batch; what is left of the batch
--- that runs; and whether that batch was cut off by want of memory.
+-- that runs; whether that batch was cut off by want of memory; and how many bufferevents more are made without taking memory.
 pub record WorldValue : Type 0 where
   pub slots : List Slot
   pub pending : List Entry
   pub batch : List Call
   pub cut : Bool
+  pub spare : ℕ
 
 -- a new bufferevent that this carries, with filters of these kinds
 abbrev pub new_slot : Kind → FilterKind → FilterKind → Slot
@@ -63,9 +64,13 @@ with_slot w n s = record w { slots = slice_set w.slots n s }
 abbrev pub with_bev : WorldValue → ℕ → BevValue → WorldValue
 with_bev w n b = with_slot w n (record (slot_at w n) { bev = b })
 
--- more slots come behind the others
+-- more slots come behind the others, into the room that there is
 abbrev pub with_new : List Slot → WorldValue → WorldValue
-with_new new w = record w { slots = w.slots ++ new }
+with_new new w = record w { slots = w.slots ++ new; spare = w.spare - length new }
+
+-- there is room for so many bufferevents more, or for as many as before where that is more
+abbrev pub with_room : ℕ → WorldValue → WorldValue
+with_room more w = record w { spare = max w.spare more }
 
 -- both halves of a pair, of which the first has this number
 abbrev pub pair_slots : ℕ → List Slot

@@ -1,5 +1,5 @@
 -- How a world keeps what it shows.
-use Rattle.std.specs.Prelude.{◌≡◌, ◌≢◌, ◌≤◌, ◌<◌, ◌+◌, ◌^◌, ℕ, zero, suc, if◌then◌else◌, Bool, true, ⊤, List, length, slice_index_or}
+use Rattle.std.specs.Prelude.{◌≡◌, ◌≢◌, ◌≤◌, ◌<◌, ◌+◌, ◌^◌, ℕ, zero, suc, if◌then◌else◌, Bool, true, ⊤, List, length, slice_index_or, vec_capacity}
 use Rattle.deferred_cb.specs.DueCalls.{Entry, has_entry}
 use Rattle.bev_world.specs.WorldValue.{WorldValue, no_slot}
 use Rattle.bev_world.specs.declared.slot.Kind.{Kind}
@@ -8,7 +8,7 @@ use Rattle.bev_world.specs.declared.slot.Slot.{Slot}
 use Rattle.bev_world.specs.declared.world.World.TheInside as world
 
 abbrev pub world_of : world.Inside → WorldValue
-world_of w = record { slots = w.slots.items; pending = w.due.pending; batch = w.due.batch; cut = w.cut }
+world_of w = record { slots = w.slots.items; pending = w.due.pending; batch = w.due.batch; cut = w.cut; spare = w.spare }
 
 -- how many of the first n numbers are not so
 abbrev pub lacking : ℕ → (ℕ → Bool) → ℕ
@@ -32,11 +32,13 @@ pub record IsNew (count n : ℕ) (s : Slot) : Type 0 where
   pub live : s.bev.live ≡ true
   pub room : s.room ≡ 0
 
--- Every bufferevent without a pending entry has room for one: so many entries more can be made.
-pub record Holds (slots : List Slot) (pending : List Entry) (spare : ℕ) : Type 0 where
+-- So many entries more can be made as `free` says. Every bufferevent without a pending entry has room for one, and so have so many
+-- bufferevents more, which their slots have room for.
+pub record Holds (slots : List Slot) (pending : List Entry) (free more capacity : ℕ) : Type 0 where
   pub few : length slots < 2 ^ 32
-  pub room : lacking (length slots) (λ n. has_entry n pending) ≤ spare
+  pub room : lacking (length slots) (λ n. has_entry n pending) + more ≤ free
+  pub fits : length slots + more ≤ capacity
   pub each : (n : ℕ) → n < length slots → IsSlot (length slots) n (slice_index_or slots n no_slot)
 
 abbrev pub IsWorld : world.Inside → Type 0
-IsWorld w = Holds w.slots.items w.due.pending w.due.spare
+IsWorld w = Holds w.slots.items w.due.pending w.due.spare w.spare (vec_capacity w.slots)

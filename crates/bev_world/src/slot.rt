@@ -1,10 +1,8 @@
 // One bufferevent of a world.
-ghost use Rattle.std.specs.Prelude.{◌≡◌, None, IfOk};
-ghost use Rattle.evbuf_chain.specs.Answers.{AnswersOr};
-ghost use Rattle.bev_core.specs.declared.fault.BevFault.TheVariants.{Memory};
+ghost use Rattle.std.specs.Prelude.{◌≡◌};
 ghost use Rattle.bev_world.specs.WorldValue.{new_slot};
 
-use bev_core::{Bev, BevFault};
+use bev_core::Bev;
 use ev_types::FilterKind;
 use std::alloc::Global;
 use stream_filters::AnyFilter;
@@ -37,22 +35,16 @@ pub struct Slot {
 
 impl Slot {
     /// A new bufferevent with filters of these kinds.
-    pub(crate) fn new(
-        alloc: Global,
-        kind: Kind,
-        input: FilterKind,
-        output: FilterKind,
-    ) -> Result<Slot, BevFault>
-        ensures answer { AnswersOr Memory result None }
-        ensures slot { IfOk result (λ slot. slot ≡ new_slot kind input output) }
+    pub(crate) fn new(alloc: Global, kind: Kind, input: FilterKind, output: FilterKind) -> Slot
+        ensures { result ≡ new_slot kind input output }
     {
-        Ok(Slot {
-            bev: Bev::new(alloc)?,
+        Slot {
+            bev: Bev::fresh(alloc),
             kind,
             taken: false,
             room: 0,
             read_filter: AnyFilter::new(input),
             write_filter: AnyFilter::new(output),
-        })
+        }
     }
 }

@@ -120,6 +120,7 @@ fn output(world: &World, id: BevId) -> [u8; 4] {
 
 /// What a socket brought goes back to its output.
 fn brought(world: &mut World) -> Result<([u8; 4], u64), WorldFault> {
+    world.reserve(1)?;
     let id = world.new_socket()?;
     world.reserve_input(id, 3)?;
     world.feed(id, b"abc", 5)?;

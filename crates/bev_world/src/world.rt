@@ -4,6 +4,7 @@
 // 1. A freed bufferevent stays freed, and keeps its number and its plain values.
 // 2. The other half of a half is another bufferevent, and what is under a filter was made before it.
 // 3. There is room for a pending entry of every bufferevent, so that no reason is lost.
+// 4. There is room for `spare` bufferevents more and for an entry of each, so that making them takes no memory.
 ghost use Rattle.std.specs.Prelude.{◌≡◌, ◌≤◌, ◌<◌, ◌+◌, ◌-◌, ◌^◌, ◌++◌, ◌∷◌, ◌==◌, [], length, drop, take, min, true, false, Some, None, OnOk, OnErr, IfOk, IfSome, if◌then◌else◌, nat_lt};
 ghost use Rattle.std.specs.Bool.{then_some};
 ghost use Rattle.evbuf_chain.specs.Answers.{AnswersOr, fault_of};
@@ -46,6 +47,8 @@ pub struct World {
     slots: Vec<Slot>,
     due: Due,
     cut: bool,
+    /// How many bufferevents more there is room for, at least.
+    spare: usize,
 }
 
 impl Model for World {
@@ -65,13 +68,14 @@ impl World {
     ///
     /// Own.
     pub fn new(alloc: Global) -> World
-        ensures { result ≡ record { slots = []; pending = []; batch = []; cut = false } }
+        ensures { result ≡ record { slots = []; pending = []; batch = []; cut = false; spare = 0 } }
     {
         World {
             alloc,
             slots: Vec::new(alloc),
             due: Due::new(alloc),
             cut: false,
+            spare: 0,
         }
     }
 

@@ -1,6 +1,5 @@
 // How bufferevents are made, each under the next number.
-ghost use Rattle.std.specs.Prelude.{◌≡◌, ◌≤◌, ◌<◌, ◌+◌, ◌^◌, ◌++◌, ◌∷◌, [], length, true, Some, None, OnOk, OnErr, IfOk, MatchOption, ⊤};
-ghost use Rattle.std.specs.Option.{option_to_list};
+ghost use Rattle.std.specs.Prelude.{◌≡◌, ◌≤◌, ◌<◌, ◌+◌, ◌^◌, ◌∷◌, [], length, None, OnOk, OnErr, IfOk, IsOk};
 ghost use Rattle.bev_world.specs.WorldView.{IsNew};
 ghost use Rattle.evbuf_chain.specs.Answers.{AnswersOr, fault_of};
 ghost use Rattle.ev_types.specs.declared.filter.FilterKind.TheVariants as filter_of;
@@ -8,28 +7,51 @@ ghost use Rattle.bev_world.specs.declared.slot.Kind.TheVariants as kind_of;
 ghost use Rattle.bev_world.specs.declared.fault.WorldFault.TheVariants.{Memory};
 ghost use Rattle.bev_world.specs.Refusals.{ids_refusal, filter_refusal};
 ghost use Rattle.bev_world.specs.Went.{Went};
-ghost use Rattle.bev_world.specs.WorldValue.{new_slot, pair_slots, with_new, with_taken};
+ghost use Rattle.bev_world.specs.WorldValue.{new_slot, pair_slots, with_new, with_room, with_taken};
 
 use super::World;
 use crate::fault::WorldFault;
 use crate::slot::{Kind, Slot};
-use ev_types::{BevId, FilterKind};
+use ev_types::{BevId, FilterKind, NoMemory};
 
 impl World {
+    /// Makes room for so many bufferevents more and for what is due at them, so that the calls that make them can't want memory.
+    /// Refused for want of memory; then nothing has changed. The cost is in the number of bufferevents where it takes memory, and
+    /// else constant.
+    ///
+    /// Own.
+    pub fn reserve(&mut self, more: usize) -> Result<(), NoMemory>
+        ensures sure { more ≤ self.old.spare → IsOk result }
+        ensures ok { OnOk result (self.new ≡ with_room more self.old) }
+        ensures err { OnErr result (self.new ≡ self.old) }
+        ensures went { Went self.old self.new }
+    {
+        if more <= self.spare {
+            return Ok(());
+        }
+        let all = self.slots.len().checked_add(more).ok_or(NoMemory)?;
+        self.due.reserve(all)?;
+        self.slots.reserve(more)?;
+        self.spare = more;
+        Ok(())
+    }
+
     /// Makes a bufferevent of a socket, live and without bytes: writing is enabled and reading is not. IdsSpent comes where
-    /// 2^32 - 1 identifiers are used. Takes memory; constant cost, but where the world's room grows.
+    /// 2^32 - 1 identifiers are used. Takes memory where the world has no room, which `reserve` makes, and none else; constant
+    /// cost, but where that room grows.
     ///
     /// Libevent: event2/bufferevent.h, `bufferevent_socket_new`; "Bufferevents: concepts and basics".
     pub fn new_socket(&mut self) -> Result<BevId, WorldFault>
         ensures answer { AnswersOr Memory result (ids_refusal self.old 1) }
+        ensures sure { 1 ≤ self.old.spare → fault_of result ≡ ids_refusal self.old 1 }
         ensures id { IfOk result (λ id. id.0 ≡ length self.old.slots) }
         ensures ok { OnOk result (self.new ≡ with_new (new_slot kind_of.Socket filter_of.None filter_of.None ∷ []) self.old) }
         ensures err { OnErr result (self.new ≡ self.old) }
         ensures went { Went self.old self.new }
     {
         let number = self.next_number(1)?;
-        let slot = Slot::new(self.alloc, Kind::Socket, FilterKind::None, FilterKind::None)?;
-        self.add(slot, None)?;
+        let slot = Slot::new(self.alloc, Kind::Socket, FilterKind::None, FilterKind::None);
+        self.add(slot)?;
         Ok(BevId(number))
     }
 
@@ -39,6 +61,7 @@ impl World {
     /// Libevent: event2/bufferevent.h, `bufferevent_pair_new`; "Bufferevents: advanced topics".
     pub fn new_pair(&mut self) -> Result<(BevId, BevId), WorldFault>
         ensures answer { AnswersOr Memory result (ids_refusal self.old 2) }
+        ensures sure { 2 ≤ self.old.spare → fault_of result ≡ ids_refusal self.old 2 }
         ensures id { IfOk result (λ ids. (ids.0.0 ≡ length self.old.slots) × (ids.1.0 ≡ length self.old.slots + 1)) }
         ensures ok { OnOk result (self.new ≡ with_new (pair_slots (length self.old.slots)) self.old) }
         ensures err { OnErr result (self.new ≡ self.old) }
@@ -47,9 +70,9 @@ impl World {
         let first = self.next_number(2)?;
         let second = first + 1;
         let (no, none) = (FilterKind::None, FilterKind::None);
-        let one = Slot::new(self.alloc, Kind::Half(second), no, none)?;
-        let other = Slot::new(self.alloc, Kind::Half(first), no, none)?;
-        self.add(one, Some(other))?;
+        let one = Slot::new(self.alloc, Kind::Half(second), no, none);
+        let other = Slot::new(self.alloc, Kind::Half(first), no, none);
+        self.add_two(one, other)?;
         Ok((BevId(first), BevId(second)))
     }
 
@@ -66,6 +89,7 @@ impl World {
         output: FilterKind,
     ) -> Result<BevId, WorldFault>
         ensures answer { AnswersOr Memory result (filter_refusal self.old under.0) }
+        ensures sure { 1 ≤ self.old.spare → fault_of result ≡ filter_refusal self.old under.0 }
         ensures id { IfOk result (λ id. id.0 ≡ length self.old.slots) }
         ensures ok { OnOk result (self.new ≡ with_taken (with_new (new_slot (kind_of.Filter under.0) input output ∷ []) self.old) under.0) }
         ensures err { OnErr result (self.new ≡ self.old) }
@@ -76,28 +100,43 @@ impl World {
         if self.slots[at].taken {
             return Err(WorldFault::Taken);
         }
-        let slot = Slot::new(self.alloc, Kind::Filter(under.0), input, output)?;
-        self.add(slot, None)?;
+        let slot = Slot::new(self.alloc, Kind::Filter(under.0), input, output);
+        self.add(slot)?;
         self.slots[at].taken = true;
         Ok(BevId(number))
     }
 
-    // Puts one slot or two behind the others, with room for what is due at them.
-    fn add(&mut self, slot: Slot, other: Option<Slot>) -> Result<(), WorldFault>
-        requires few { length self.old.slots + length (slot ∷ option_to_list other) < 2 ^ 32 }
-        requires fits { IsNew (length self.old.slots + length (slot ∷ option_to_list other)) (length self.old.slots) slot }
-        requires other_fits { MatchOption other ⊤ (λ s. IsNew (length self.old.slots + 2) (length self.old.slots + 1) s) }
+    // Puts one slot behind the others, with room for what is due at it.
+    fn add(&mut self, slot: Slot) -> Result<(), WorldFault>
+        requires few { length self.old.slots + 1 < 2 ^ 32 }
+        requires fits { IsNew (length self.old.slots + 1) (length self.old.slots) slot }
         ensures answer { AnswersOr Memory result None }
-        ensures ok { OnOk result (self.new ≡ with_new (slot ∷ option_to_list other) self.old) }
+        ensures sure { 1 ≤ self.old.spare → fault_of result ≡ None }
+        ensures ok { OnOk result (self.new ≡ with_new (slot ∷ []) self.old) }
         ensures err { OnErr result (self.new ≡ self.old) }
         ensures went { Went self.old self.new }
     {
-        self.due.reserve(self.slots.len() + 2)?;
-        self.slots.reserve(2)?;
+        self.reserve(1)?;
         self.slots.push(slot).unwrap();
-        if let Some(other) = other {
-            self.slots.push(other).unwrap();
-        }
+        self.spare -= 1;
+        Ok(())
+    }
+
+    // Puts two slots behind the others, as `add`.
+    fn add_two(&mut self, slot: Slot, other: Slot) -> Result<(), WorldFault>
+        requires few { length self.old.slots + 2 < 2 ^ 32 }
+        requires fits { IsNew (length self.old.slots + 2) (length self.old.slots) slot }
+        requires other_fits { IsNew (length self.old.slots + 2) (length self.old.slots + 1) other }
+        ensures answer { AnswersOr Memory result None }
+        ensures sure { 2 ≤ self.old.spare → fault_of result ≡ None }
+        ensures ok { OnOk result (self.new ≡ with_new (slot ∷ other ∷ []) self.old) }
+        ensures err { OnErr result (self.new ≡ self.old) }
+        ensures went { Went self.old self.new }
+    {
+        self.reserve(2)?;
+        self.slots.push(slot).unwrap();
+        self.slots.push(other).unwrap();
+        self.spare -= 2;
         Ok(())
     }
 

@@ -14,9 +14,6 @@ returns-in_err-number-clause-went c = went_none _
 pub returns-then-index-clause-went : goal.returns-then-index-clause-went
 returns-then-index-clause-went c = went_none _
 
-pub returns-in_err-slot-clause-went : goal.returns-in_err-slot-clause-went
-returns-in_err-slot-clause-went c = went_none _
-
 pub invariant_of-self : goal.invariant_of-self
 invariant_of-self c =
     let known = c.add.ensures.went.known in

@@ -1,4 +1,4 @@
-use Rattle.std.proofs.Common.{◌≡◌, List, length, ap, sym, ◌∙◌, subst, arith}
+use Rattle.std.proofs.Common.{◌≡◌, List, length, ap, sym, ◌∙◌, subst, arith, vec_capacity}
 use Rattle.std.proofs.lemmas.List.{with_items_is}
 use Rattle.bev_world.specs.declared.slot.Slot.{Slot}
 use Rattle.bev_world.specs.Filters.{PassedOr}
@@ -19,7 +19,7 @@ invariant_of-self c =
     slots-step c.args.dir c.args.limit c.args.mode c.args.at c.args.under c.pass_slots-answer.result.0 w.slots c.deref_mut.result.now ys
     c.pass_slots-answer.result.1 c.deref_mut.ensures.value (omega (arith, c.requires.there, many)) c.requires.below
     c.pass_slots-answer.ensures.passed c.pass_slots-answer.ensures.slots in
-    subst (λ zs. Holds zs c.self.inside.due.pending c.self.inside.due.spare) (sym whole)
+    subst (λ zs. Holds zs c.self.inside.due.pending c.self.inside.due.spare c.self.inside.spare (vec_capacity c.self.inside.slots)) (sym whole)
     (holds-step c.args.dir c.args.limit c.args.mode c.args.at c.args.under c.pass_slots-answer.result.0 w ys c.pass_slots-answer.result.1 s
     c.self.inside.due.pending c.self.inside.due.spare c.self.invariant)
 

@@ -7,7 +7,7 @@ use Rattle.bev_world.proofs.world.World.raise.Goals as goal
 pub schedule-requires : goal.schedule-requires
 schedule-requires c = λ none.
     let many = ap (λ (v : WorldValue). length v.slots) c.self.view_is in
-    room-there (length c.self.inside.slots.items) c.args.at c.self.inside.due.pending c.self.inside.due.spare
+    room-there _ (length c.self.inside.slots.items) c.args.at c.self.inside.due.pending c.self.inside.due.spare
     (omega (arith, c.requires, many)) c.self.invariant.room none
 
 pub invariant_of-self : goal.invariant_of-self
