@@ -105,10 +105,10 @@ module _ (dir : Dir) (limit : ℕ) (over : Bool) (at under : ℕ) (w : WorldValu
   upper_then : slice_index_or (slice_set w.slots under l) at no_slot ≡ upper
   upper_then = get_or-set_other w.slots under at l no_slot (λ e. absurd (let b = s.below in omega (arith, e, b)))
 
-  pub holds-stepped : (es : List Entry) (spare : ℕ) → Holds w.slots es spare → Holds ys es spare
-  holds-stepped es spare h = subst (λ zs. Holds zs es spare) (sym s.slots)
-      (holds-with (slice_set w.slots under l) es spare at no_slot upper u
-      (holds-with w.slots es spare under no_slot lower l h under_there refl stays.0.kind (stays.0.room (h.each under under_there).room))
+  pub holds-stepped : (es : List Entry) (free more cap : ℕ) → Holds w.slots es free more cap → Holds ys es free more cap
+  holds-stepped es free more cap h = subst (λ zs. Holds zs es free more cap) (sym s.slots)
+      (holds-with (slice_set w.slots under l) es free at no_slot upper u
+      (holds-with w.slots es free under no_slot lower l h under_there refl stays.0.kind (stays.0.room (h.each under under_there).room))
       there_then (sym upper_then) stays.1.kind (stays.1.room (h.each at s.there).room))
 
   pub crossed-stepped : (new : WorldValue) → new ≡ record w { slots = ys } →

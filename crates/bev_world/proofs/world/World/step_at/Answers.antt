@@ -1,4 +1,4 @@
-use Rattle.std.proofs.Common.{◌<◌, List, length, ap, sym, ◌∙◌, subst, arith}
+use Rattle.std.proofs.Common.{◌<◌, List, length, vec_capacity, ap, sym, ◌∙◌, subst, arith}
 use Rattle.std.proofs.lemmas.List.{with_items_is}
 use Rattle.std.specs.Vec.{with_items}
 use Rattle.bev_filter.specs.Passing.{Crossed, stepping}
@@ -24,9 +24,9 @@ invariant_of-self c =
     let s : StepIn c.args.dir c.args.limit c.args.over c.args.at c.args.under w.slots ys =
     step-in c.args.dir c.args.limit c.args.over c.args.at c.args.under w.slots c.deref_mut.result.now ys c.deref_mut.ensures.value
     there below c.step_slots.ensures.went c.step_slots.ensures.slots in
-    subst (λ zs. Holds zs c.self.inside.due.pending c.self.inside.due.spare) (sym whole)
+    subst (λ zs. Holds zs c.self.inside.due.pending c.self.inside.due.spare c.self.inside.spare (vec_capacity c.self.inside.slots)) (sym whole)
     (holds-stepped c.args.dir c.args.limit c.args.over c.args.at c.args.under w ys s c.self.inside.due.pending c.self.inside.due.spare
-    c.self.invariant)
+    c.self.inside.spare (vec_capacity c.self.inside.slots) c.self.invariant)
 
 pub returns-clause-crossed : goal.returns-clause-crossed
 returns-clause-crossed c =
