@@ -9,15 +9,15 @@ ghost use Rattle.std.specs.Prelude.{◌≡◌, ◌≤◌, ◌<◌, ◌+◌, ◌-
 ghost use Rattle.evbuf_chain.specs.Answers.{AnswersOr, fault_of};
 ghost use Rattle.bev_core.specs.BevValue.{new_bev, state_of, reaches_low};
 ghost use Rattle.bev_core.specs.Refusals.{live_refusal, length_refusal, write_refusal, add_refusal, incref_refusal, decref_refusal};
-ghost use Rattle.bev_core.specs.Steps.{with_enabled, with_marks, with_timeouts, touched, freed, held, with_held, more, less, pushed, pushed_output, given_up, ended_at, failed_at};
+ghost use Rattle.bev_core.specs.Steps.{with_enabled, with_marks, with_timeouts, touched, freed, more, less, given_up, ended_at, failed_at};
 ghost use Rattle.bev_core.specs.declared.fault.BevFault.TheVariants.{Memory};
 
 mod moves;
+mod room;
 
 use crate::fault::BevFault;
 use crate::own_buffer::OwnBuffer;
 use crate::state::BevState;
-use ev_types::NoMemory;
 use std::alloc::Global;
 use std::marker::Model;
 use token_bucket::Dir;
@@ -371,57 +371,6 @@ impl Bev {
         let n = self.input.copy_out(into);
         self.input.drain(n);
         Ok(n)
-    }
-
-    /// Makes room for at least n more bytes in the input. Takes memory; linear in the length and n.
-    ///
-    /// Own.
-    pub fn reserve_input(&mut self, n: usize) -> Result<(), BevFault>
-        ensures answer { AnswersOr Memory result (live_refusal self.old) }
-        ensures stays { self.new ≡ record self.old { input = record self.old.input { spare = self.new.input.spare } } }
-        ensures room { OnOk result (n ≤ self.new.input.spare) }
-        ensures kept { self.old.input.spare ≤ self.new.input.spare }
-        ensures err { OnErr result (self.new ≡ self.old) }
-    {
-        self.is_live()?;
-        self.input.reserve(n)?;
-        Ok(())
-    }
-
-    /// Makes room for at least n more bytes in the buffer of a direction, the input for reading and the output for writing, whether
-    /// it is live or not. Takes memory; linear in the length and n.
-    ///
-    /// Own.
-    pub fn make_room(&mut self, dir: Dir, n: usize) -> Result<(), NoMemory>
-        ensures stays { self.new ≡ with_held self.old dir (record (held self.old dir) { spare = (held self.new dir).spare }) }
-        ensures room { OnOk result (n ≤ (held self.new dir).spare) }
-        ensures kept { (held self.old dir).spare ≤ (held self.new dir).spare }
-        ensures err { OnErr result (self.new ≡ self.old) }
-    {
-        match dir {
-            Dir::Read => self.input.reserve(n),
-            Dir::Write => self.output.reserve(n),
-        }
-    }
-
-    /// Copies bytes to the end of the input, in room that was made before. Takes no memory; linear in the length.
-    ///
-    /// Own.
-    pub fn push_input(&mut self, bytes: &[u8])
-        requires { length bytes.now ≤ self.old.input.spare }
-        ensures { self.new ≡ pushed self.old bytes.now }
-    {
-        self.input.push(bytes);
-    }
-
-    /// Copies bytes to the end of the output, as `push_input` to that of the input.
-    ///
-    /// Own.
-    pub fn push_output(&mut self, bytes: &[u8])
-        requires { length bytes.now ≤ self.old.output.spare }
-        ensures { self.new ≡ pushed_output self.old bytes.now }
-    {
-        self.output.push(bytes);
     }
 
     /// Takes off the first n bytes of the input, or all where there are fewer. Takes no memory.

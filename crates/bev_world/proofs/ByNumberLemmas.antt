@@ -59,18 +59,22 @@ joined-below count n (kind.Filter below) under j e = let same = same_Some below 
 pub record StepIn (dir : Dir) (limit : ℕ) (over : Bool) (at under : ℕ) (xs ys : List Slot) : Type 0 where
   pub there : at < length xs
   pub below : under < at
-  pub went : SlotsWent dir limit over (slice_index_or xs under no_slot) (slice_index_or xs at no_slot) (slice_index_or ys under no_slot) (slice_index_or ys at no_slot)
+  pub went : SlotsWent dir limit over (slice_index_or xs under no_slot) (slice_index_or xs at no_slot)
+      (slice_index_or ys under no_slot) (slice_index_or ys at no_slot)
   pub slots : ys ≡ slice_set (slice_set xs under (slice_index_or ys under no_slot)) at (slice_index_or ys at no_slot)
 
 pub step-in : (dir : Dir) (limit : ℕ) (over : Bool) (at under : ℕ) (xs lent ys : List Slot) → lent ≡ xs → at < length xs → under < at →
-    SlotsWent dir limit over (slice_index_or lent under no_slot) (slice_index_or lent at no_slot) (slice_index_or ys under no_slot) (slice_index_or ys at no_slot) →
+    SlotsWent dir limit over (slice_index_or lent under no_slot) (slice_index_or lent at no_slot)
+    (slice_index_or ys under no_slot) (slice_index_or ys at no_slot) →
     ys ≡ slice_set (slice_set lent under (slice_index_or ys under no_slot)) at (slice_index_or ys at no_slot) →
     StepIn dir limit over at under xs ys
 step-in dir limit over at under xs lent ys same there below went slots = record {
   there = there;
   below = below;
-  went = subst (λ zs. SlotsWent dir limit over (slice_index_or zs under no_slot) (slice_index_or zs at no_slot) (slice_index_or ys under no_slot) (slice_index_or ys at no_slot)) same went;
-  slots = subst (λ zs. ys ≡ slice_set (slice_set zs under (slice_index_or ys under no_slot)) at (slice_index_or ys at no_slot)) same slots;
+  went = subst (λ zs. SlotsWent dir limit over (slice_index_or zs under no_slot) (slice_index_or zs at no_slot)
+      (slice_index_or ys under no_slot) (slice_index_or ys at no_slot)) same went;
+  slots = subst (λ zs. ys ≡ slice_set (slice_set zs under (slice_index_or ys under no_slot)) at (slice_index_or ys at no_slot)) same
+      slots;
 }
 
 -- what the slots exchange is what the world's bufferevents do
@@ -117,8 +121,8 @@ module _ (dir : Dir) (limit : ℕ) (over : Bool) (at under : ℕ) (w : WorldValu
       let after : slots_crossing dir l u ≡ crossing new dir at under =
       slots-crossing (record w { slots = ys }) dir at under ∙ ap (λ v. crossing v dir at under) (sym is) in
       subst (λ (p : Crossing). Crossed dir (stepping dir p limit over) p (crossing new dir at under)) (slots-crossing w dir at under)
-      (subst (λ (p : Crossing). Crossed dir (stepping dir (slots_crossing dir lower upper) limit over) (slots_crossing dir lower upper) p) after
-      s.went.crossed)
+      (subst (λ (p : Crossing). Crossed dir (stepping dir (slots_crossing dir lower upper) limit over) (slots_crossing dir lower upper) p)
+      after s.went.crossed)
 
 -- Room
 

@@ -1,6 +1,6 @@
 // Calls for one who keeps track himself of what is live, and says by himself what is due. They ask for a known number, look at no
 // liveness, and make nothing due. Those that copy or move bytes have room that was made before, so that none is refused then.
-ghost use Rattle.std.specs.Prelude.{◌≡◌, ◌≢◌, ◌≤◌, ◌<◌, ◌+◌, [], false, Some, length, slice_index_or, slice_set, OnOk, OnErr, IfOk, IfSome, vec_capacity};
+ghost use Rattle.std.specs.Prelude.{◌≡◌, ◌≢◌, ◌≤◌, ◌<◌, ◌+◌, ◌^◌, [], false, Some, length, slice_index_or, slice_set, OnOk, OnErr, IfOk, IfSome, vec_capacity};
 ghost use Rattle.stream_filters.specs.StepAnswers.{most_by_step};
 ghost use Rattle.bev_core.specs.Steps.{held, with_enabled, touched, less, ended_at, failed_at};
 ghost use Rattle.bev_filter.specs.Passing.{Crossed, stepping};
@@ -22,7 +22,8 @@ impl World {
     ///
     /// Own.
     pub fn count(&self) -> usize
-        ensures { result ≡ length self.now.slots }
+        ensures count { result ≡ length self.now.slots }
+        ensures few { result < 2 ^ 32 }
     {
         self.slots.len()
     }

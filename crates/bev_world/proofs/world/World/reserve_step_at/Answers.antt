@@ -30,8 +30,8 @@ returns-clause-crossing c =
     let is = c.reserve_target.ensures.stays
     ∙ ap (λ (b : BevValue). with_bev w (target_of c.args.dir c.args.at c.args.under)
     (with_spare_in (bev_at w (target_of c.args.dir c.args.at c.args.under)) c.args.dir (held b c.args.dir).spare)) (sym t) in
-    let same = crossing-roomier c.args.dir w new c.args.at c.args.under (held (crossing new c.args.dir c.args.at c.args.under).to c.args.dir).spare
-    c.requires.there c.reserve_target.ensures.below is in
+    let same = crossing-roomier c.args.dir w new c.args.at c.args.under
+    (held (crossing new c.args.dir c.args.at c.args.under).to c.args.dir).spare c.requires.there c.reserve_target.ensures.below is in
     same
 
 pub returns-clause-spare : goal.returns-clause-spare
@@ -40,7 +40,8 @@ returns-clause-spare c =
     let new = c.reserve_target.new.self in
     let t = to-target new c.args.dir c.args.at c.args.under in
     let u = to-target w c.args.dir c.args.at c.args.under in
-    subst (λ (b : BevValue). (held b c.args.dir).spare ≤ (held (crossing new c.args.dir c.args.at c.args.under).to c.args.dir).spare) (sym u)
+    subst (λ (b : BevValue). (held b c.args.dir).spare ≤ (held (crossing new c.args.dir c.args.at c.args.under).to c.args.dir).spare)
+    (sym u)
     (subst (λ (b : BevValue). (held (bev_at w (target_of c.args.dir c.args.at c.args.under)) c.args.dir).spare ≤ (held b c.args.dir).spare)
     (sym t) c.reserve_target.ensures.spare)
 
@@ -52,15 +53,17 @@ returns-clause-room c =
     let is = c.reserve_target.ensures.stays
     ∙ ap (λ (b : BevValue). with_bev w (target_of c.args.dir c.args.at c.args.under)
     (with_spare_in (bev_at w (target_of c.args.dir c.args.at c.args.under)) c.args.dir (held b c.args.dir).spare)) (sym t) in
-    let same = crossing-roomier c.args.dir w new c.args.at c.args.under (held (crossing new c.args.dir c.args.at c.args.under).to c.args.dir).spare
-    c.requires.there c.reserve_target.ensures.below is in
+    let same = crossing-roomier c.args.dir w new c.args.at c.args.under
+    (held (crossing new c.args.dir c.args.at c.args.under).to c.args.dir).spare c.requires.there c.reserve_target.ensures.below is in
     let kind : (crossing new c.args.dir c.args.at c.args.under).filter.kind ≡ (filter_of (slot_at w c.args.at) c.args.dir).kind =
     ap (λ (p : Crossing). p.filter.kind) same ∙ ap (λ (x : Running). x.kind) (filter-there w c.args.dir c.args.at c.args.under) in
     subst (λ (k : FilterKind). OnOk c.reserve_target.result (HasStepRoom k c.args.count
     (length (held (crossing new c.args.dir c.args.at c.args.under).to c.args.dir).bytes) c.args.limit
-    (held (crossing new c.args.dir c.args.at c.args.under).to c.args.dir).spare (vec_capacity c.reserve_target.new.beside) c.args.made)) (sym kind)
+    (held (crossing new c.args.dir c.args.at c.args.under).to c.args.dir).spare (vec_capacity c.reserve_target.new.beside) c.args.made))
+    (sym kind)
     (subst (λ (b : BevValue). OnOk c.reserve_target.result (HasStepRoom (filter_of (slot_at w c.args.at) c.args.dir).kind c.args.count
-    (length (held b c.args.dir).bytes) c.args.limit (held b c.args.dir).spare (vec_capacity c.reserve_target.new.beside) c.args.made)) (sym t)
+    (length (held b c.args.dir).bytes) c.args.limit (held b c.args.dir).spare (vec_capacity c.reserve_target.new.beside) c.args.made))
+    (sym t)
     c.reserve_target.ensures.room)
 
 pub returns-clause-most : goal.returns-clause-most
@@ -71,8 +74,8 @@ returns-clause-most c =
     let is = c.reserve_target.ensures.stays
     ∙ ap (λ (b : BevValue). with_bev w (target_of c.args.dir c.args.at c.args.under)
     (with_spare_in (bev_at w (target_of c.args.dir c.args.at c.args.under)) c.args.dir (held b c.args.dir).spare)) (sym t) in
-    let same = crossing-roomier c.args.dir w new c.args.at c.args.under (held (crossing new c.args.dir c.args.at c.args.under).to c.args.dir).spare
-    c.requires.there c.reserve_target.ensures.below is in
+    let same = crossing-roomier c.args.dir w new c.args.at c.args.under
+    (held (crossing new c.args.dir c.args.at c.args.under).to c.args.dir).spare c.requires.there c.reserve_target.ensures.below is in
     let kind : (crossing new c.args.dir c.args.at c.args.under).filter.kind ≡ (filter_of (slot_at w c.args.at) c.args.dir).kind =
     ap (λ (p : Crossing). p.filter.kind) same ∙ ap (λ (x : Running). x.kind) (filter-there w c.args.dir c.args.at c.args.under) in
     subst (λ (k : FilterKind). IfOk c.reserve_target.result (λ most. most ≡ most_by_step k c.args.count

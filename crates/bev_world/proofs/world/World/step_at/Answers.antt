@@ -43,6 +43,6 @@ returns-clause-crossed c =
     step-in c.args.dir c.args.limit c.args.over c.args.at c.args.under w.slots c.deref_mut.result.now ys c.deref_mut.ensures.value
     there below c.step_slots.ensures.went c.step_slots.ensures.slots in
     let new : WorldValue = record w { slots = (with_items c.self.inside.slots ys).items } in
-    subst (λ (v : WorldValue). Crossed c.args.dir (stepping c.args.dir (crossing v c.args.dir c.args.at c.args.under) c.args.limit c.args.over)
-    (crossing v c.args.dir c.args.at c.args.under) (crossing new c.args.dir c.args.at c.args.under)) c.self.view_is
+    subst (λ (v : WorldValue). Crossed c.args.dir
+    (stepping c.args.dir (crossing v c.args.dir c.args.at c.args.under) c.args.limit c.args.over) (crossing v c.args.dir c.args.at c.args.under) (crossing new c.args.dir c.args.at c.args.under)) c.self.view_is
     (crossed-stepped c.args.dir c.args.limit c.args.over c.args.at c.args.under w ys s new (ap (λ zs. record w { slots = zs }) whole))

@@ -1,0 +1,64 @@
+// Room that is made in a buffer before, and bytes that come into it.
+ghost use Rattle.std.specs.Prelude.{◌≡◌, ◌≤◌, length, OnOk, OnErr};
+ghost use Rattle.evbuf_chain.specs.Answers.{AnswersOr};
+ghost use Rattle.bev_core.specs.Refusals.{live_refusal};
+ghost use Rattle.bev_core.specs.Steps.{held, with_held, pushed, pushed_output};
+ghost use Rattle.bev_core.specs.declared.fault.BevFault.TheVariants.{Memory};
+
+use super::Bev;
+use crate::fault::BevFault;
+use ev_types::NoMemory;
+use token_bucket::Dir;
+
+impl Bev {
+    /// Makes room for at least n more bytes in the input. Takes memory; linear in the length and n.
+    ///
+    /// Own.
+    pub fn reserve_input(&mut self, n: usize) -> Result<(), BevFault>
+        ensures answer { AnswersOr Memory result (live_refusal self.old) }
+        ensures stays { self.new ≡ record self.old { input = record self.old.input { spare = self.new.input.spare } } }
+        ensures room { OnOk result (n ≤ self.new.input.spare) }
+        ensures kept { self.old.input.spare ≤ self.new.input.spare }
+        ensures err { OnErr result (self.new ≡ self.old) }
+    {
+        self.is_live()?;
+        self.input.reserve(n)?;
+        Ok(())
+    }
+
+    /// Makes room for at least n more bytes in the buffer of a direction, the input for reading and the output for writing, whether
+    /// it is live or not. Takes memory; linear in the length and n.
+    ///
+    /// Own.
+    pub fn make_room(&mut self, dir: Dir, n: usize) -> Result<(), NoMemory>
+        ensures stays { self.new ≡ with_held self.old dir (record (held self.old dir) { spare = (held self.new dir).spare }) }
+        ensures room { OnOk result (n ≤ (held self.new dir).spare) }
+        ensures kept { (held self.old dir).spare ≤ (held self.new dir).spare }
+        ensures err { OnErr result (self.new ≡ self.old) }
+    {
+        match dir {
+            Dir::Read => self.input.reserve(n),
+            Dir::Write => self.output.reserve(n),
+        }
+    }
+
+    /// Copies bytes to the end of the input, in room that was made before. Takes no memory; linear in the length.
+    ///
+    /// Own.
+    pub fn push_input(&mut self, bytes: &[u8])
+        requires { length bytes.now ≤ self.old.input.spare }
+        ensures { self.new ≡ pushed self.old bytes.now }
+    {
+        self.input.push(bytes);
+    }
+
+    /// Copies bytes to the end of the output, as `push_input` to that of the input.
+    ///
+    /// Own.
+    pub fn push_output(&mut self, bytes: &[u8])
+        requires { length bytes.now ≤ self.old.output.spare }
+        ensures { self.new ≡ pushed_output self.old bytes.now }
+    {
+        self.output.push(bytes);
+    }
+}
