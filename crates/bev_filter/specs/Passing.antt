@@ -1,5 +1,5 @@
 -- Bytes that go through a filter from a buffer of one bufferevent to the buffer of the same direction of another.
-use Rattle.std.specs.Prelude.{◌≡◌, ℕ, Bool, true, false, Option, Some, Result, Ok, Err, length}
+use Rattle.std.specs.Prelude.{◌≡◌, ℕ, Bool, true, false, Some, Result, Ok, Err, length}
 use Rattle.token_bucket.specs.declared.limit.Dir.{Dir}
 use Rattle.ev_types.specs.declared.filter.Mode.{Mode}
 use Rattle.relay_model.specs.Conserved.{Running}

@@ -1,4 +1,4 @@
-use Rattle.std.proofs.Common.{◌≡◌, ◌-◌, ◌∙◌, ap, sym, subst, length, Some, Ok, Err}
+use Rattle.std.proofs.Common.{◌-◌, ◌∙◌, ap, subst, Ok, Err}
 use Rattle.relay_model.specs.FilterStep.{Stepped}
 use Rattle.stream_filters.specs.StepAnswers.{Answers}
 use Rattle.stream_filters.specs.declared.fault.FilterFault.{FilterFault}
