@@ -136,3 +136,9 @@ pub went_frees : (first : Option ℕ) (ns : List ℕ) (w : WorldValue) (next : O
     Went w new
 went_frees first [] w next new h = subst (Went w) (sym h.1) (went_none w)
 went_frees first (n ∷ ns) w next new h = went_then w (freed_one w n) new (went_freed w n h.1) (went_frees _ ns (freed_one w n) next new h.2)
+
+-- a free changes nothing of the room for more
+pub spare_frees : (first : Option ℕ) (ns : List ℕ) (w : WorldValue) (next : Option ℕ) (new : WorldValue) → FreesTo first ns w next new →
+    new.spare ≡ w.spare
+spare_frees first [] w next new h = ap (λ (v : WorldValue). v.spare) h.1
+spare_frees first (n ∷ ns) w next new h = spare_frees _ ns (freed_one w n) next new h.2

@@ -237,3 +237,8 @@ lives_two s t h j (suc (suc k)) lt = absurd (omega arith)
 -- where no batch ran none does
 pub went_idle : (a b : WorldValue) → Went a b → IsIdle a → IsIdle b
 went_idle a b h idle = λ whole. h.batch ∙ ap (filter (λ call. not (went_away a b call.0))) (idle (sym h.cut ∙ whole))
+
+-- a reason that becomes due changes nothing of the room for more
+pub spare-raised_if : (due : Bool) (w new : WorldValue) (n : ℕ) (y : Why) → new ≡ raised_if due w n y → new.spare ≡ w.spare
+spare-raised_if true w new n y h = ap (λ (v : WorldValue). v.spare) h
+spare-raised_if false w new n y h = ap (λ (v : WorldValue). v.spare) h

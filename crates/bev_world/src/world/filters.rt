@@ -41,6 +41,7 @@ impl World {
         requires open { is_live self.old id.0 ≡ true → IsOpen (under_of (slot_at self.old id.0).kind) self.old dir id.0 mode }
         ensures answer { AnswersPass result (pass_refusal self.old dir id.0) }
         ensures passed { PassedAt (under_of (slot_at self.old id.0).kind) dir limit mode id.0 result self.old self.new }
+        ensures spare { self.new.spare ≡ self.old.spare }
         ensures went { Went self.old self.new }
     {
         let at = self.find(id)?;
@@ -75,6 +76,7 @@ impl World {
         requires open { IsOpen (Some under) self.old dir at mode }
         ensures answer { AnswersPass result (spent_refusal (crossing self.old dir at under) dir) }
         ensures passed { PassedOr dir limit mode at under result self.old self.new }
+        ensures spare { self.new.spare ≡ self.old.spare }
         ensures went { Went self.old self.new }
     {
         let (answer, due) = pass_slots(&mut self.slots, at, under, dir, limit, mode);

@@ -21,6 +21,7 @@ impl World {
     pub fn free(&mut self, id: BevId) -> Result<(), WorldFault>
         ensures answer { fault_of result ≡ live_refusal self.old id.0 }
         ensures ok { OnOk result (Frees id.0 self.old self.new) }
+        ensures spare { self.new.spare ≡ self.old.spare }
         ensures err { OnErr result (self.new ≡ self.old) }
         ensures went { Went self.old self.new }
     {

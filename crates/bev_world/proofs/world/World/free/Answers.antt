@@ -1,4 +1,4 @@
-use Rattle.bev_world.proofs.FreeLemmas.{frees_then, went_frees}
+use Rattle.bev_world.proofs.FreeLemmas.{frees_then, spare_frees, went_frees}
 use Rattle.bev_world.proofs.WentLemmas.{went_none}
 use Rattle.bev_world.proofs.world.World.free.Goals as goal
 
@@ -13,3 +13,6 @@ loop-next-preserved c =
 
 pub returns-clause-went : goal.returns-clause-went
 returns-clause-went c = went_frees _ _ _ _ _ c.loop-next.invariant.frees
+
+pub returns-clause-spare : goal.returns-clause-spare
+returns-clause-spare c = spare_frees _ _ _ _ _ c.loop-next.invariant.frees

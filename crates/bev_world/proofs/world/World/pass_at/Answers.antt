@@ -5,6 +5,7 @@ use Rattle.bev_world.specs.Filters.{PassedOr}
 use Rattle.bev_world.specs.Went.{Went}
 use Rattle.bev_world.specs.WorldValue.{WorldValue, raised_if, reason_of}
 use Rattle.bev_world.specs.WorldView.{world_of, Holds}
+use Rattle.bev_world.proofs.WentLemmas.{spare-raised_if}
 use Rattle.bev_world.proofs.FiltersLemmas.{SlotsStep, slots-step, step-long, holds-step, went-step, passed-step}
 use Rattle.bev_world.proofs.world.World.pass_at.Goals as goal
 
@@ -59,3 +60,15 @@ returns-clause-went c =
     ∙ (let y = c.reason_of.ensures in λ i. raised_if c.pass_slots-answer.result.1 (record w { slots = whole i }) c.args.at (y i)) in
     subst (λ v. Went v new) c.self.view_is
     (went-step c.args.dir c.args.limit c.args.mode c.args.at c.args.under c.pass_slots-answer.result.0 w ys c.pass_slots-answer.result.1 s new is)
+
+pub returns-clause-spare : goal.returns-clause-spare
+returns-clause-spare c =
+    let w : WorldValue = world_of c.self.inside in
+    let whole = with_items_is c.self.inside.slots c.pass_slots-answer.new.slots
+    (step-long c.deref_mut.result.now c.pass_slots-answer.new.slots c.args.at c.args.under c.pass_slots-answer.ensures.slots
+    ∙ c.deref_mut.ensures.len) in
+    spare-raised_if c.pass_slots-answer.result.1 (record w { slots = c.pass_slots-answer.new.slots }) c.raise_if.new.self c.args.at
+    (reason_of c.args.dir)
+    (c.raise_if.ensures
+    ∙ (let y = c.reason_of.ensures in λ i. raised_if c.pass_slots-answer.result.1 (record w { slots = whole i }) c.args.at (y i)))
+    ∙ ap (λ (v : WorldValue). v.spare) c.self.view_is
