@@ -8,13 +8,9 @@ use Rattle.relay_model.specs.FilterStep.{Stepped}
 use Rattle.relay_state.specs.State.{lane_moved}
 use Rattle.relay_state.specs.Passage.{Passage, rounds, hold_part, read_step, read_by, read_part, move_part, write_step, written_by, write_part, has_moved_all, pass_round}
 use Rattle.relay_sides.specs.declared.pass.Reached.{Reached}
-use Rattle.relay_sides.specs.SideView.{reached_of}
+use Rattle.relay_sides.specs.Links.{IsTold}
+use Rattle.relay_sides.specs.Reach.{reached_of}
 use Rattle.relay_sides.proofs.StepLemmas.{bit, bit-le, idle, GoesOn, step-within, step-goes}
-
--- the counts tell of a finished filter what the filter tells
-pub record IsTold (x : Passage) : Type 0 where
-  pub read : x.flow.read_done ≡ x.lane.reader.finished
-  pub write : x.flow.write_done ≡ x.lane.writer.finished
 
 -- The weight of a direction. A byte weighs more the farther it has to go, and a filter may make two of it; a filter that is not finished
 -- may make one more. What may yet be told weighs 1, and so does a direction that is not held. A held one weighs 2 where it is about to

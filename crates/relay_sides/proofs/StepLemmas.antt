@@ -12,7 +12,7 @@ use Rattle.relay_model.specs.FilterStep.{count_of, run_of, after_bytes, stop_pla
 use Rattle.relay_model.proofs.FilterRunLemmas.{run-within}
 use Rattle.relay_model.proofs.FilterFitLemmas.{adds-two, end-one}
 use Rattle.stream_filters.specs.StepAnswers.{most_by_step}
-use Rattle.relay_sides.specs.StepRoom.{hands_on, goes_whole, HasStepRoom}
+use Rattle.bev_filter.specs.StepRoom.{hands_on, goes_whole, HasStepRoom}
 use Rattle.stream_filters.proofs.ShiftLemmas.{step-shift}
 
 -- 1 for what is so

@@ -1,9 +1,11 @@
 pub mod SettingsView
-pub mod StepRoom
+pub mod Table
+pub mod Bevs
 pub mod SideView
-pub mod SideRooms
 pub mod Links
-pub mod HalfPassed
+pub mod Reach
+pub mod Opening
+pub mod Rooms
 pub mod SidesValue
 pub mod SidesView
 pub mod Pairs

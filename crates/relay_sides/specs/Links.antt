@@ -1,5 +1,5 @@
 -- The sides and the directions of all links that were opened, and what changes of them.
-use Rattle.std.specs.Prelude.{◌≡◌, ℕ, ◌+◌, Bool, true, false, ◌==◌, ◌&&◌, ◌||◌, List, [], ◌∷◌, ◌++◌, length, slice_index_or, slice_set, Option, None}
+use Rattle.std.specs.Prelude.{◌≡◌, ℕ, ◌+◌, Bool, false, ◌==◌, ◌&&◌, ◌||◌, List, [], ◌∷◌, ◌++◌, length, slice_index_or, slice_set, None}
 use Rattle.std.specs.List.{list_any}
 use Rattle.token_bucket.specs.declared.limit.Dir.TheVariants as dir
 use Rattle.ev_types.specs.declared.side.Side.TheVariants.{In}
@@ -12,7 +12,7 @@ use Rattle.relay_model.specs.Flow.{Flow, no_flow}
 use Rattle.relay_model.specs.FilterStep.{begun}
 use Rattle.relay_model.specs.Rooms.{most_at_once, mark_or}
 use Rattle.relay_model.specs.Moments.{active_at}
-use Rattle.relay_state.specs.State.{Lane, no_lane, lane_got, lane_taken, lane_left, lane_lost}
+use Rattle.relay_state.specs.State.{Lane, no_lane, lane_got, lane_moved, lane_taken, lane_left, lane_lost}
 use Rattle.relay_state.specs.Serving.{flow_given}
 use Rattle.relay_state.specs.Passage.{Passage, read_part, pass_round, SomeRounds, Passed}
 use Rattle.relay_state.specs.Passing.{with_bad}
@@ -91,6 +91,12 @@ abbrev pub with_passage : SideId → Passage → Links → Links
 with_passage e x k =
     put_lane e x.lane (change_side (peer e) (with_bad x.to_bad) (change_side e (with_bad x.from_bad) (put_flow e x.flow k)))
 
+-- its input goes whole to its output
+abbrev pub moved : Passage → Passage
+moved x =
+    let f = x.flow in
+    record x { flow = record f { moved = f.moved + length x.lane.buffers.input }; lane = lane_moved x.lane }
+
 -- how long the input of a side gets, and how many bytes that wait for a side hold the direction to it, where so many do in the run
 abbrev pub read_mark : Links → SideId → ℕ
 read_mark k e = mark_or (side_at k e).marks.read_high most_at_once
@@ -110,6 +116,11 @@ PassedFrom hold old e new = (x : Passage) × Passed (round_from hold old e) (pas
 -- some rounds of it were made, and nothing else changed
 abbrev pub PartlyPassed : ℕ → Links → SideId → Links → Type 0
 PartlyPassed hold old e new = (x : Passage) × SomeRounds (round_from hold old e) (passage_at old e) x × (new ≡ with_passage e x old)
+
+-- whether each filter of a direction is finished is told twice
+pub record IsTold (x : Passage) : Type 0 where
+  pub read : x.flow.read_done ≡ x.lane.reader.finished
+  pub write : x.flow.write_done ≡ x.lane.writer.finished
 
 -- Serving
 
@@ -135,12 +146,15 @@ freed e k =
 
 -- Counting
 
--- all bytes of the direction that begins at a side were given, and no more will come
-abbrev pub is_complete : Links → SideId → Bool
-is_complete k from =
+-- no byte of the direction that begins at a side is on its way
+abbrev pub is_empty : Links → SideId → Bool
+is_empty k from =
     let b = (lane_at k from).buffers in
-    (side_at k from).ended && (flow_at k from).write_done
-    && length b.raw_input == 0 && length b.input == 0 && length b.output == 0 && length b.raw_output == 0
+    length b.raw_input == 0 && length b.input == 0 && length b.output == 0 && length b.raw_output == 0
+
+-- all bytes of it were given, and no more will come
+abbrev pub is_complete : Links → SideId → Bool
+is_complete k from = (side_at k from).ended && (flow_at k from).write_done && is_empty k from
 
 -- a count of the direction that begins at a side has come far, and of any direction
 abbrev pub is_far_from : Links → SideId → Bool

@@ -1,14 +1,13 @@
--- What contracts see of a side as the code keeps it: the side, and the direction that begins at it.
-use Rattle.std.specs.Prelude.{ℕ, Bool, true, false, not, Option, None, is_some}
+-- What contracts see of a side, and of the direction that begins at it: the bufferevents of the two sides, and what is kept beside them.
+use Rattle.std.specs.Prelude.{ℕ, Bool, true, false, not, List, None, slice_index_or}
 use Rattle.relay_model.specs.Plain.{PlainSide}
-use Rattle.relay_model.specs.Rooms.{most_at_once, mark_or}
 use Rattle.relay_model.specs.Flow.{Flow}
 use Rattle.relay_model.specs.Conserved.{Buffers}
 use Rattle.relay_state.specs.State.{Lane}
-use Rattle.relay_state.specs.Passage.{Passage}
-use Rattle.relay_sides.specs.SettingsView.{model_marks, model_timeouts}
+use Rattle.bev_core.specs.BevValue.{BevValue}
+use Rattle.bev_world.specs.declared.slot.Slot.{Slot}
+use Rattle.relay_sides.specs.Bevs.{Bevs, bevs_at, twin}
 use Rattle.relay_sides.specs.declared.flags.SideFlags.{SideFlags}
-use Rattle.relay_sides.specs.declared.pass.Reached.{Reached}
 use Rattle.relay_sides.specs.declared.side.SideState.{SideState}
 
 -- the flags of a side
@@ -25,91 +24,85 @@ flags_of x = record {
   closed = x.closed;
 }
 
--- those of a side whose link opens
-abbrev pub opening_flags : Bool → SideFlags
-opening_flags connected = record {
-  live = true;
+-- what is kept of a side whose end is connected or not, before anything was counted
+abbrev pub new_state : Bool → SideState
+new_state connected = record {
   connecting = not connected;
-  reads = true;
-  writes = true;
-  ended = false;
-  failed = false;
   expired = false;
   write_ended = false;
   closed = false;
+  held = false;
+  bad = None;
+  read = 0;
+  read_made = 0;
+  moved = 0;
+  write_made = 0;
+  given = 0;
 }
 
+abbrev pub state_at : List SideState → ℕ → SideState
+state_at sides n = slice_index_or sides n (new_state true)
+
 -- No side has a limit, a group or a reference.
-abbrev pub plain_side : SideState → PlainSide
-plain_side s = record {
-  live = s.flags.live;
-  connecting = s.flags.connecting;
-  reads = s.flags.reads;
-  writes = s.flags.writes;
-  ended = s.flags.ended;
-  failed = s.flags.failed;
-  expired = s.flags.expired;
+abbrev pub plain_side : BevValue → SideState → PlainSide
+plain_side b s = record {
+  live = b.live;
+  connecting = s.connecting;
+  reads = b.reading;
+  writes = b.writing;
+  ended = b.ended;
+  failed = b.failed;
+  expired = s.expired;
   bad = s.bad;
-  write_ended = s.flags.write_ended;
-  closed = s.flags.closed;
-  marks = model_marks s.marks;
-  timeouts = model_timeouts s.timeouts;
-  last_read = s.last_read;
-  last_write = s.last_write;
+  write_ended = s.write_ended;
+  closed = s.closed;
+  marks = record { read_low = b.read_low; read_high = b.read_high; write_low = b.write_low; write_high = b.write_high };
+  timeouts = record { read_ms = b.read_ms; write_ms = b.write_ms };
+  last_read = b.last_read;
+  last_write = b.last_write;
   limit = None;
   group = None;
   references = 0;
 }
 
--- how far the direction has come
-abbrev pub flow_of_side : SideState → Flow
-flow_of_side s = record {
-  used = s.reader.used;
+-- how far the direction has come, from a side to the other
+abbrev pub flow_of : Bevs → Bevs → SideState → Flow
+flow_of from to s = record {
+  used = from.upper.read_filter.used;
   moved = s.moved;
-  turned = s.writer.used;
+  turned = to.upper.write_filter.used;
   given = s.given;
-  read_done = s.reader.finished;
-  write_done = s.writer.finished;
+  read_done = from.upper.read_filter.finished;
+  write_done = to.upper.write_filter.finished;
   held = s.held;
 }
 
-abbrev pub buffers_of : SideState → Buffers
-buffers_of s = record {
-  raw_input = s.raw_input.items;
-  input = s.input.items;
-  output = s.output.items;
-  raw_output = s.raw_output.items;
+-- Its bytes pass the input of the bufferevent of its end, that of the filter over it, and then the output of the other side's filter
+-- and that of the bufferevent under it.
+abbrev pub buffers_of : Bevs → Bevs → Buffers
+buffers_of from to = record {
+  raw_input = from.lower.bev.input.bytes;
+  input = from.upper.bev.input.bytes;
+  output = to.upper.bev.output.bytes;
+  raw_output = to.lower.bev.output.bytes;
 }
 
-abbrev pub lane_of : SideState → Lane
-lane_of s = record {
-  buffers = buffers_of s;
-  reader = s.reader;
-  writer = s.writer;
+abbrev pub lane_of : Bevs → Bevs → SideState → Lane
+lane_of from to s = record {
+  buffers = buffers_of from to;
+  reader = from.upper.read_filter;
+  writer = to.upper.write_filter;
   read = s.read;
   read_made = s.read_made;
   write_made = s.write_made;
 }
 
--- the direction, where the side at which it ends has this bad place
-abbrev pub passage_of : SideState → Option ℕ → Passage
-passage_of s to = record { flow = flow_of_side s; lane = lane_of s; from_bad = s.bad; to_bad = to }
+-- a side by its number, and the direction that begins there
+abbrev pub plain_at : List Slot → List SideState → ℕ → PlainSide
+plain_at slots sides n = plain_side (bevs_at slots n).lower.bev (state_at sides n)
 
--- what a round may change, as the code compares it
-abbrev pub reached_of : Passage → Reached
-reached_of x = record {
-  reader = record { used = x.flow.used; finished = x.flow.read_done; stopped = is_some x.lane.reader.stopped };
-  writer = record { used = x.flow.turned; finished = x.flow.write_done; stopped = is_some x.lane.writer.stopped };
-  moved = x.flow.moved;
-  held = x.flow.held;
-  from_bad = is_some x.from_bad;
-  to_bad = is_some x.to_bad;
-}
+abbrev pub flow_at : List Slot → List SideState → ℕ → Flow
+flow_at slots sides n = flow_of (bevs_at slots n) (bevs_at slots (twin n)) (state_at sides n)
 
--- the length of the input at which reading stops
-abbrev pub read_mark_of : SideState → ℕ
-read_mark_of s = mark_or s.marks.read_high most_at_once
-
--- how many bytes that wait for its end hold the direction to it, where so many do in the run
-abbrev pub hold_mark_of : ℕ → SideState → ℕ
-hold_mark_of hold s = mark_or s.marks.write_high hold
+abbrev pub lane_at : List Slot → List SideState → ℕ → Lane
+lane_at slots sides n = lane_of (bevs_at slots n) (bevs_at slots (twin n)) (state_at sides n)

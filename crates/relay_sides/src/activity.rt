@@ -2,57 +2,11 @@
 ghost use Rattle.std.specs.Prelude.{◌≡◌, ◌<◌, ◌-◌};
 ghost use Rattle.relay_model.specs.Moments.{timeout_of, last_activity, active_at, expire};
 ghost use Rattle.relay_sides.specs.Links.{side_at, change_side};
-ghost use Rattle.relay_sides.specs.SideView.{plain_side, flow_of_side, lane_of};
 
-use crate::side::SideState;
+use crate::side::lower;
 use crate::sides::Sides;
+use bev_core::Dir;
 use ev_types::SideId;
-use token_bucket::Dir;
-
-impl SideState {
-    fn timeout(&self, dir: Dir) -> u64
-        ensures { result ≡ timeout_of (plain_side self.now) dir }
-    {
-        match dir {
-            Dir::Read => self.timeouts.read_ms,
-            Dir::Write => self.timeouts.write_ms,
-        }
-    }
-
-    /// For how long the direction was idle.
-    fn idle_time(&self, dir: Dir, time: u64) -> u64
-        ensures { result ≡ time - last_activity (plain_side self.now) dir }
-    {
-        match dir {
-            Dir::Read => time.saturating_sub(self.last_read),
-            Dir::Write => time.saturating_sub(self.last_write),
-        }
-    }
-
-    fn be_active(&mut self, dir: Dir, time: u64)
-        ensures side { plain_side self.new ≡ active_at time dir (plain_side self.old) }
-        ensures flow { flow_of_side self.new ≡ flow_of_side self.old }
-        ensures lane { lane_of self.new ≡ lane_of self.old }
-    {
-        match dir {
-            Dir::Read => self.last_read = time,
-            Dir::Write => self.last_write = time,
-        }
-    }
-
-    /// The direction is disabled, and the side is to be freed for it.
-    fn expire(&mut self, dir: Dir)
-        ensures side { plain_side self.new ≡ expire dir (plain_side self.old) }
-        ensures flow { flow_of_side self.new ≡ flow_of_side self.old }
-        ensures lane { lane_of self.new ≡ lane_of self.old }
-    {
-        match dir {
-            Dir::Read => self.flags.reads = false,
-            Dir::Write => self.flags.writes = false,
-        }
-        self.flags.expired = true;
-    }
-}
 
 impl Sides {
     /// The timeout of a direction, in milliseconds; 0 is none. Constant; takes no memory.
@@ -62,7 +16,11 @@ impl Sides {
         requires { side.link < self.now.links.opened }
         ensures { result ≡ timeout_of (side_at self.now.links side) dir }
     {
-        self.sides[side.number()].timeout(dir)
+        let bev = self.world.bev(lower(side)).state();
+        match dir {
+            Dir::Read => bev.read_ms,
+            Dir::Write => bev.write_ms,
+        }
     }
 
     /// For how many milliseconds the direction was idle at a time; 0 where it was active later. Constant; takes no memory.
@@ -72,7 +30,11 @@ impl Sides {
         requires { side.link < self.now.links.opened }
         ensures { result ≡ time - last_activity (side_at self.now.links side) dir }
     {
-        self.sides[side.number()].idle_time(dir, time)
+        let bev = self.world.bev(lower(side)).state();
+        match dir {
+            Dir::Read => time.saturating_sub(bev.last_read),
+            Dir::Write => time.saturating_sub(bev.last_write),
+        }
     }
 
     /// The direction was active at a time. Constant; takes no memory.
@@ -82,8 +44,8 @@ impl Sides {
         requires { side.link < self.old.links.opened }
         ensures { self.new.links ≡ change_side side (active_at time dir) self.old.links }
     {
-        let own = &mut self.sides[side.number()];
-        own.be_active(dir, time);
+        self.readable = 0;
+        self.world.touch_at(lower(side), dir, time);
     }
 
     /// A timeout of the side has passed in a direction, which is disabled. Constant; takes no memory.
@@ -93,7 +55,9 @@ impl Sides {
         requires { side.link < self.old.links.opened }
         ensures { self.new.links ≡ change_side side (expire dir) self.old.links }
     {
+        self.readable = 0;
+        self.world.expire_at(lower(side), dir);
         let own = &mut self.sides[side.number()];
-        own.expire(dir);
+        own.expired = true;
     }
 }

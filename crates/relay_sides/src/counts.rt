@@ -1,14 +1,13 @@
 // What is counted of the sides.
 ghost use Rattle.std.specs.Prelude.{◌≡◌, ◌<◌, ◌||◌};
-ghost use Rattle.std.specs.List.{list_any};
 ghost use Rattle.ev_types.specs.Sides.{peer};
-ghost use Rattle.relay_state.specs.Counting.{has_flown_far, has_read_far};
+ghost use Rattle.relay_state.specs.Closing.{in_side, out_side};
 ghost use Rattle.relay_sides.specs.Links.{lane_at, flow_at, is_far_from, any_is_far};
-ghost use Rattle.relay_sides.specs.SideView.{flow_of_side, lane_of};
 
-use crate::side::SideState;
+use crate::side::upper;
 use crate::sides::Sides;
-use ev_types::SideId;
+use bev_core::Dir;
+use ev_types::{Side, SideId};
 use stream_filters::StreamFilter;
 
 /// A count that has come so far lets a run end.
@@ -23,27 +22,6 @@ pub struct Counts {
     pub read: u64,
     pub moved: u64,
     pub given: u64,
-}
-
-impl SideState {
-    fn is_spent(&self) -> bool
-        ensures { result ≡ has_flown_far (flow_of_side self.now) || has_read_far (lane_of self.now) }
-    {
-        self.reader.used() >= SPENT
-            || self.moved >= SPENT
-            || self.writer.used() >= SPENT
-            || self.given >= SPENT
-            || self.read >= SPENT
-            || self.read_made >= SPENT
-            || self.write_made >= SPENT
-    }
-
-    /// Whether a count of some side has come far.
-    fn any_is_spent(sides: &[SideState]) -> bool
-        ensures { result ≡ list_any (λ s. has_flown_far (flow_of_side s) || has_read_far (lane_of s)) sides.now }
-    {
-        sides.iter().any(|side| side.is_spent())
-    }
 }
 
 impl Sides {
@@ -73,7 +51,16 @@ impl Sides {
         requires { side.link < self.now.links.opened }
         ensures { result ≡ is_far_from self.now.links side }
     {
-        self.sides[side.number()].is_spent()
+        let own = &self.sides[side.number()];
+        let reader = self.world.filter(upper(side), Dir::Read);
+        let writer = self.world.filter(upper(side.peer()), Dir::Write);
+        reader.used() >= SPENT
+            || own.moved >= SPENT
+            || writer.used() >= SPENT
+            || own.given >= SPENT
+            || own.read >= SPENT
+            || own.read_made >= SPENT
+            || own.write_made >= SPENT
     }
 
     /// Whether a count of any direction has. Linear in the number of sides; takes no memory.
@@ -82,6 +69,22 @@ impl Sides {
     pub fn any_is_far(&self) -> bool
         ensures { result ≡ any_is_far self.now.links }
     {
-        SideState::any_is_spent(&self.sides)
+        for link in 0..self.opened {
+            if self.is_far(link) {
+                return true;
+            }
+        }
+        false
+    }
+
+    fn is_far(&self, link: u32) -> bool
+        requires { link < self.now.links.opened }
+        ensures { result ≡ (is_far_from self.now.links (in_side link) || is_far_from self.now.links (out_side link)) }
+    {
+        let near = SideId {
+            link,
+            side: Side::In,
+        };
+        self.is_far_from(near) || self.is_far_from(near.peer())
     }
 }

@@ -1,6 +1,4 @@
 // What is so of a side.
-ghost use Rattle.relay_sides.specs.SideView.{opening_flags};
-ghost use Rattle.std.specs.Prelude.{◌≡◌};
 
 /// What is so of a side. A side that failed or expired is freed when its link is closed.
 ///
@@ -25,23 +23,4 @@ pub struct SideFlags {
     pub write_ended: bool,
     /// Its end was closed.
     pub closed: bool,
-}
-
-impl SideFlags {
-    /// Those of a side whose link opens.
-    pub(crate) fn at_opening(connected: bool) -> SideFlags
-        ensures { result ≡ opening_flags connected }
-    {
-        SideFlags {
-            live: true,
-            connecting: !connected,
-            reads: true,
-            writes: true,
-            ended: false,
-            failed: false,
-            expired: false,
-            write_ended: false,
-            closed: false,
-        }
-    }
 }

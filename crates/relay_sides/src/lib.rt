@@ -13,12 +13,11 @@ mod pass;
 mod serve;
 mod side;
 mod sides;
-mod step;
 
+pub use bev_core::Dir;
 pub use counts::{Counts, SPENT};
 pub use flags::SideFlags;
 pub use opening::NewSide;
 pub use relay_settings::{Marks, Timeouts};
 pub use side::MOST_AT_ONCE;
 pub use sides::Sides;
-pub use token_bucket::Dir;

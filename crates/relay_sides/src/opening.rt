@@ -1,5 +1,13 @@
-// What a side is opened with.
-use ev_types::FilterKind;
+// Opening links.
+ghost use Rattle.std.specs.Prelude.{◌≡◌, ◌≤◌, ◌<◌, ◌+◌, ◌-◌, ◌^◌, ◌++◌, length, OnOk};
+ghost use Rattle.relay_sides.specs.Links.{with_link};
+ghost use Rattle.relay_sides.specs.Opening.{side_slots};
+
+use crate::side::SideState;
+use crate::sides::Sides;
+use bev_core::Dir;
+use bev_world::World;
+use ev_types::{FilterKind, NoMemory};
 use relay_settings::{Marks, Timeouts};
 
 /// What a side gets as its link opens: its marks and timeouts, its two filters, and whether its end is connected.
@@ -14,4 +22,66 @@ pub struct NewSide {
     /// What is given to its end goes through it.
     pub write: FilterKind,
     pub connected: bool,
+}
+
+/// How many links can be opened: each has four bufferevents, and their numbers are below 2^32 - 1.
+const MOST_LINKS: u32 = (1 << 30) - 1;
+
+impl Sides {
+    /// Makes room for one link more. It is also refused where 2^30 - 1 links were opened. Takes memory; constant, but where the room
+    /// grows.
+    ///
+    /// Own.
+    pub fn reserve_link(&mut self) -> Result<(), NoMemory>
+        ensures links { self.new.links ≡ self.old.links }
+        ensures room { OnOk result (0 < self.new.spare_links) }
+    {
+        if self.opened >= MOST_LINKS {
+            return Err(NoMemory);
+        }
+        self.sides.reserve(2)?;
+        self.world.reserve(4)
+    }
+
+    /// Opens the next link at a time, with its In and its Out side, in room that was made before. Takes no memory; constant.
+    ///
+    /// Own.
+    pub fn open(&mut self, near: NewSide, far: NewSide, time: u64)
+        requires { 0 < self.old.spare_links }
+        ensures { self.new.links ≡ with_link time near far self.old.links }
+    {
+        let near_state = SideState::new(near.connected);
+        let far_state = SideState::new(far.connected);
+        add_bevs(&mut self.world, near, time);
+        add_bevs(&mut self.world, far, time);
+        self.sides.push(near_state).unwrap();
+        self.sides.push(far_state).unwrap();
+        self.opened += 1;
+    }
+}
+
+/// Makes the two bufferevents of a side, in room that was made before: that of its end, and a filter over it.
+fn add_bevs(world: &mut World, side: NewSide, time: u64)
+    requires room { 2 ≤ world.old.spare }
+    requires numbers { length world.old.slots + 2 < 2 ^ 32 }
+    ensures slots { world.new.slots ≡ world.old.slots ++ side_slots time side (length world.old.slots) }
+    ensures spare { world.new.spare ≡ world.old.spare - 2 }
+{
+    let id = world.new_socket().unwrap();
+    let Marks {
+        read_low,
+        read_high,
+        write_low,
+        write_high,
+    } = side.marks;
+    let Timeouts { read_ms, write_ms } = side.timeouts;
+    world.enable(id, Dir::Read).unwrap();
+    world
+        .set_watermark(id, Dir::Read, read_low, read_high)
+        .unwrap();
+    world
+        .set_watermark(id, Dir::Write, write_low, write_high)
+        .unwrap();
+    world.set_timeouts(id, read_ms, write_ms, time).unwrap();
+    let _over = world.new_filter(id, side.read, side.write).unwrap();
 }

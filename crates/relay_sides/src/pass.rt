@@ -1,19 +1,17 @@
 // Passing a direction: rounds until one changes nothing. A round has its room before it begins, so that want of memory
-// leaves whole rounds. Where a pass moves nothing each queue without a byte gives its room up, so that an idle link holds none.
-ghost use Rattle.std.specs.Prelude.{◌≡◌, ◌≢◌, ◌<◌, length, OnOk, MatchResult, IsTrue, ◌↔◌, is_some};
-ghost use Rattle.std.specs.Prelude.{◌≤◌, true, false};
+// leaves whole rounds. Where a pass moves nothing each buffer without a byte gives its room up, so that an idle link holds none.
+ghost use Rattle.std.specs.Prelude.{◌≡◌, ◌≢◌, ◌≤◌, ◌<◌, ◌+◌, ◌==◌, ◌&&◌, length, OnOk, IfOk, MatchResult, IsTrue, ◌↔◌, is_some, true, false, ◌/◌, nat_le, if◌then◌else◌};
 ghost use Rattle.relay_model.specs.Filter.{or_else};
-ghost use Rattle.relay_state.specs.Passage.{hold_part, read_part, move_part, write_part, pass_round, Passed, SomeRounds};
-ghost use Rattle.relay_sides.specs.SideView.{plain_side, passage_of, reached_of};
-ghost use Rattle.relay_sides.specs.SideRooms.{HasInputRoom, HasOutputRoom, most_offered, SameEnd, IsLean, HasNoIdleRoom};
+ghost use Rattle.relay_state.specs.Passage.{hold_part, read_part, move_part, write_part, write_step, written_by, has_moved_all, Passed, SomeRounds};
+ghost use Rattle.relay_sides.specs.Links.{lane_at, flow_at, moved, passage_at, with_passage, IsTold, round_from, PassedFrom, PartlyPassed};
+ghost use Rattle.relay_sides.specs.Pairs.{HasPairs};
+ghost use Rattle.relay_sides.specs.Rooms.{HasInputRoom, HasOutputRoom, input_room, raw_output_room, most_input, most_offered, KeepsStartRoom, KeepsEndRoom};
+ghost use Rattle.relay_sides.specs.Reach.{reached_of, round_by};
 
-use crate::side::SideState;
+use crate::side::{lower, upper};
 use crate::sides::Sides;
-use crate::step::{reserve_step, step_over};
+use bev_core::Dir;
 use ev_types::{NoMemory, SideId};
-use evbuf_chain::ByteQueue;
-use std::alloc::Global;
-use std::mem::swap;
 use stream_filters::{AnyFilter, StreamFilter};
 
 /// How far a filter came.
@@ -34,6 +32,17 @@ pub(crate) struct Reached {
     held: bool,
     from_bad: bool,
     to_bad: bool,
+}
+
+/// What a round goes by: the mark at which reading stops and the one at which the direction is held, whether the side that it begins
+/// at has ended, and which of its two sides live.
+#[derive(Clone, Copy)]
+pub(crate) struct Terms {
+    mark: u64,
+    hold: u64,
+    ended: bool,
+    from_live: bool,
+    to_live: bool,
 }
 
 /// How far this filter came.
@@ -64,321 +73,297 @@ fn first_place(before: Option<u64>, next: Option<u64>) -> Option<u64>
     }
 }
 
-/// Gives up the room of a queue that has no byte. Takes no memory; constant.
-fn give_up(queue: &mut ByteQueue, alloc: Global)
-    ensures items { queue.new.items ≡ queue.old.items }
-    ensures room { IsLean queue.new }
+/// Whether a direction is held for whose end so many bytes wait: from the hold mark on, and until half of it is left.
+fn is_held(waiting: u64, hold: u64, held: bool) -> bool
+    ensures { result ≡ (if nat_le hold waiting then true else (if nat_le waiting (hold / 2) then false else held)) }
 {
-    if queue.len() == 0 {
-        *queue = ByteQueue::new(alloc);
-    }
+    waiting >= hold || (held && waiting > hold / 2)
 }
 
-impl SideState {
-    ghost use Rattle.std.specs.Prelude.{◌==◌, ◌&&◌, ◌+◌};
-    ghost use Rattle.relay_state.specs.Passing.{with_bad};
-
-    /// How far the direction has come, where the side at which it ends has this bad place.
-    fn reached(&self, to_bad: Option<u64>) -> Reached
-        ensures { result ≡ reached_of (passage_of self.now to_bad) }
+impl Sides {
+    /// How far the direction from the side has come.
+    fn reached(&self, from: SideId) -> Reached
+        requires { from.link < self.now.links.opened }
+        ensures reached { result ≡ reached_of (passage_at self.now.links from) }
+        ensures told { IsTold (passage_at self.now.links from) }
+        ensures pairs { HasPairs self.now.links }
     {
+        let own = &self.sides[from.number()];
+        let other = &self.sides[from.peer().number()];
         Reached {
-            reader: reach_of(&self.reader),
-            writer: reach_of(&self.writer),
-            moved: self.moved,
-            held: self.held,
-            from_bad: self.bad.is_some(),
-            to_bad: to_bad.is_some(),
+            reader: reach_of(self.world.filter(upper(from), Dir::Read)),
+            writer: reach_of(self.world.filter(upper(from.peer()), Dir::Write)),
+            moved: own.moved,
+            held: own.held,
+            from_bad: own.bad.is_some(),
+            to_bad: other.bad.is_some(),
         }
     }
 
-    /// Makes room for what a round may make, and for no more than waits, however great the marks are. It is also refused where
-    /// that could not be counted.
-    fn reserve_round(&mut self, mark: u64, hold: u64) -> Result<(), NoMemory>
-        ensures side { plain_side self.new ≡ plain_side self.old }
-        ensures passage { passage_of self.new ≡ passage_of self.old }
-        ensures input { OnOk result (HasInputRoom mark self.new) }
-        ensures raw_output { OnOk result (HasOutputRoom hold (most_offered mark self.new) self.new) }
+    /// Makes room for the read filter's step, and answers how many bytes it makes at most.
+    fn reserve_input(&mut self, from: SideId, mark: u64) -> Result<usize, NoMemory>
+        requires { from.link < self.old.links.opened }
+        ensures links { self.new.links ≡ self.old.links }
+        ensures room { OnOk result (HasInputRoom mark self.new.links self.new.rooms from) }
+        ensures most { IfOk result (λ most. most ≡ most_input mark self.new.links from) }
     {
         self.readable = 0;
-        let most = reserve_step(
-            self.reader.kind(),
-            self.raw_input.len(),
-            &mut self.input,
+        let count = self.raw_input_len(from);
+        let made = self.sides[from.number()].read_made;
+        self.world.reserve_step_at(
+            upper(from),
+            lower(from),
+            Dir::Read,
+            count,
             &mut self.beside,
             mark as usize,
-            self.read_made,
-        )?;
-        let offered = most + self.input.len() + self.output.len();
-        reserve_step(
-            self.writer.kind(),
-            offered,
-            &mut self.raw_output,
+            made,
+        )
+    }
+
+    /// Makes room for a step of the write filter at the end of the direction over so many bytes.
+    fn reserve_output(&mut self, from: SideId, hold: u64, count: usize) -> Result<(), NoMemory>
+        requires { from.link < self.old.links.opened }
+        ensures links { self.new.links ≡ self.old.links }
+        ensures room { OnOk result (HasOutputRoom hold count self.new.links self.new.rooms from) }
+        ensures kept { KeepsStartRoom from self.old.rooms self.new.rooms }
+    {
+        self.readable = 0;
+        let to = from.peer();
+        let made = self.sides[from.number()].write_made;
+        self.world.reserve_step_at(
+            upper(to),
+            lower(to),
+            Dir::Write,
+            count,
             &mut self.beside,
             hold as usize,
-            self.write_made,
+            made,
         )?;
         Ok(())
     }
 
-    /// The direction becomes held at the hold mark, and is no more held at half of it.
-    fn hold_back(&mut self, hold: u64)
-        ensures passage { passage_of self.new ≡ (λ to. hold_part hold (passage_of self.old to)) }
-        ensures same { self.new ≡ record self.old { held = self.new.held } }
+    /// How many bytes the write filter may be offered, once the read filter made so many.
+    fn offered(&self, from: SideId, mark: u64, most: usize) -> usize
+        requires opened { from.link < self.now.links.opened }
+        requires most { most ≡ most_input mark self.now.links from }
+        requires room { HasInputRoom mark self.now.links self.now.rooms from }
+        ensures { result ≡ most_offered mark self.now.links from }
     {
-        let waiting = self.raw_output.len() as u64;
-        if waiting >= hold {
-            self.held = true;
-        } else if waiting <= hold / 2 {
-            self.held = false;
-        }
+        // what waits is no more than what was made, so that the sum can be counted
+        let _made = self.sides[from.number()].read_made;
+        most + self.own_input_len(from) + self.own_output_len(from)
+    }
+
+    /// Makes room for what a round may make, and for no more than waits, however great the marks are. It is also refused where
+    /// that could not be counted.
+    fn reserve_round(&mut self, from: SideId, terms: Terms) -> Result<(), NoMemory>
+        requires { from.link < self.old.links.opened }
+        ensures links { self.new.links ≡ self.old.links }
+        ensures input { OnOk result (HasInputRoom terms.mark self.new.links self.new.rooms from) }
+        ensures raw_output { OnOk result (HasOutputRoom terms.hold (most_offered terms.mark self.new.links from) self.new.links self.new.rooms from) }
+    {
+        let most = self.reserve_input(from, terms.mark)?;
+        let offered = self.offered(from, terms.mark, most);
+        self.reserve_output(from, terms.hold, offered)
+    }
+
+    /// The direction becomes held at the hold mark, and is no more held at half of it.
+    fn hold_back(&mut self, from: SideId, hold: u64)
+        requires { from.link < self.old.links.opened }
+        ensures links { self.new.links ≡ with_passage from (hold_part hold (passage_at self.old.links from)) self.old.links }
+        ensures rooms { self.new.rooms ≡ self.old.rooms }
+        ensures pairs { HasPairs self.old.links }
+    {
+        let waiting = self.raw_output_len(from) as u64;
+        self.readable = 0;
+        let own = &mut self.sides[from.number()];
+        own.held = is_held(waiting, hold, own.held);
     }
 
     /// The read filter makes a step, until the input reaches the read mark.
-    pub(crate) fn run_read_filter(&mut self, mark: u64, ended: bool)
-        requires { HasInputRoom mark self.old }
-        ensures side { plain_side self.new ≡ with_bad self.new.bad (plain_side self.old) }
-        ensures passage { passage_of self.new ≡ (λ to. read_part mark ended (passage_of self.old to)) }
-        ensures most { length self.new.input.items + length self.new.output.items ≤ most_offered mark self.old }
-        ensures same { SameEnd self.old self.new }
+    pub(crate) fn run_read_filter(&mut self, from: SideId, mark: u64, ended: bool)
+        requires opened { from.link < self.old.links.opened }
+        requires room { HasInputRoom mark self.old.links self.old.rooms from }
+        ensures links { self.new.links ≡ with_passage from (read_part mark ended (passage_at self.old.links from)) self.old.links }
+        ensures rooms { KeepsEndRoom from self.old.rooms self.new.rooms }
     {
         self.readable = 0;
+        let own = &mut self.sides[from.number()];
         // what was used and what is offered are no more than this, so that they can be counted
-        let _most = self.read;
-        self.read_made = step_over(
-            &mut self.reader,
-            &mut self.raw_input,
-            &mut self.input,
-            &mut self.beside,
+        let _most = own.read;
+        own.read_made = self.world.step_at(
+            upper(from),
+            lower(from),
+            Dir::Read,
             mark as usize,
             ended,
-            self.read_made,
+            &mut self.beside,
+            own.read_made,
         );
-        self.bad = first_place(self.bad, self.reader.stopped());
+        own.bad = first_place(own.bad, self.world.filter(upper(from), Dir::Read).stopped());
     }
 
     /// The input goes whole to an empty output, unless the direction is held.
-    fn move_input(&mut self)
-        ensures side { plain_side self.new ≡ plain_side self.old }
-        ensures passage { passage_of self.new ≡ (λ to. move_part (passage_of self.old to)) }
-        ensures most { length self.new.output.items ≤ length self.old.input.items + length self.old.output.items }
-        ensures same { SameEnd self.old self.new }
+    fn move_input(&mut self, from: SideId)
+        requires { from.link < self.old.links.opened }
+        ensures links { self.new.links ≡ with_passage from (move_part (passage_at self.old.links from)) self.old.links }
+        ensures rooms { KeepsEndRoom from self.old.rooms self.new.rooms }
     {
-        if !self.held && self.output.len() == 0 {
-            self.readable = 0;
-            self.moved += self.input.len() as u64;
-            swap(&mut self.input, &mut self.output);
+        if !self.is_held(from) && self.own_output_len(from) == 0 {
+            self.move_whole(from);
         }
+    }
+
+    /// Whether the direction is held.
+    fn is_held(&self, from: SideId) -> bool
+        requires { from.link < self.now.links.opened }
+        ensures { result ≡ (flow_at self.now.links from).held }
+    {
+        self.sides[from.number()].held
+    }
+
+    /// The input goes whole to the output.
+    fn move_whole(&mut self, from: SideId)
+        requires opened { from.link < self.old.links.opened }
+        requires empty { length (lane_at self.old.links from).buffers.output ≡ 0 }
+        ensures links { self.new.links ≡ with_passage from (moved (passage_at self.old.links from)) self.old.links }
+        ensures rooms { KeepsEndRoom from self.old.rooms self.new.rooms }
+    {
+        let count = self.own_input_len(from) as u64;
+        self.readable = 0;
+        self.world.move_at(upper(from), upper(from.peer()));
+        let own = &mut self.sides[from.number()];
+        // no more can be moved than was made
+        let _most = own.read_made;
+        own.moved += count;
+    }
+
+    /// Whether the read filter of the side is finished.
+    fn is_read_done(&self, from: SideId) -> bool
+        requires { from.link < self.now.links.opened }
+        ensures { result ≡ (flow_at self.now.links from).read_done }
+    {
+        self.world.filter(upper(from), Dir::Read).is_finished()
     }
 
     /// Whether the write filter may finish: all that will ever come was moved.
-    fn may_finish(&self, may_end: bool) -> bool
-        ensures { result ≡ (may_end && (self.now.reader.finished && length self.now.input.items == 0)) }
+    fn may_finish(&self, from: SideId, may_end: bool) -> bool
+        requires { from.link < self.now.links.opened }
+        ensures { result ≡ (may_end && has_moved_all (passage_at self.now.links from)) }
     {
-        may_end && self.reader.is_finished() && self.input.len() == 0
+        may_end && self.is_read_done(from) && self.own_input_len(from) == 0
     }
 
     /// The write filter makes a step, until the raw output reaches the hold mark, unless the direction is held.
-    fn run_write_filter(&mut self, hold: u64, may_end: bool, to_bad: &mut Option<u64>)
-        requires { HasOutputRoom hold (length self.old.output.items) self.old }
-        ensures side { plain_side self.new ≡ plain_side self.old }
-        ensures passage { passage_of self.new to_bad.new ≡ write_part hold may_end (passage_of self.old to_bad.old) }
+    fn run_write_filter(&mut self, from: SideId, hold: u64, may_end: bool)
+        requires opened { from.link < self.old.links.opened }
+        requires room { HasOutputRoom hold (length (lane_at self.old.links from).buffers.output) self.old.links self.old.rooms from }
+        ensures { self.new.links ≡ with_passage from (write_part hold may_end (passage_at self.old.links from)) self.old.links }
     {
-        if self.held {
-            return;
+        if !self.is_held(from) {
+            let over = self.may_finish(from, may_end);
+            self.write(from, hold, over);
         }
+    }
+
+    /// The write filter makes a step, over the end or not.
+    fn write(&mut self, from: SideId, hold: u64, over: bool)
+        requires opened { from.link < self.old.links.opened }
+        requires room { HasOutputRoom hold (length (lane_at self.old.links from).buffers.output) self.old.links self.old.rooms from }
+        ensures { self.new.links ≡ with_passage from
+            (written_by (write_step hold over (lane_at self.old.links from)) (passage_at self.old.links from)) self.old.links }
+    {
         self.readable = 0;
+        let to = from.peer();
+        let own = &mut self.sides[from.number()];
         // what was used and what is offered are no more than this, so that they can be counted
-        let _most = self.moved;
-        let over = self.may_finish(may_end);
-        self.write_made = step_over(
-            &mut self.writer,
-            &mut self.output,
-            &mut self.raw_output,
-            &mut self.beside,
+        let _most = own.moved;
+        own.write_made = self.world.step_at(
+            upper(to),
+            lower(to),
+            Dir::Write,
             hold as usize,
             over,
-            self.write_made,
+            &mut self.beside,
+            own.write_made,
         );
-        *to_bad = first_place(*to_bad, self.writer.stopped());
+        let stopped = self.world.filter(upper(to), Dir::Write).stopped();
+        let other = &mut self.sides[to.number()];
+        other.bad = first_place(other.bad, stopped);
     }
 
     /// One round, in room that was made before.
-    fn make_round(
-        &mut self,
-        mark: u64,
-        hold: u64,
-        ended: bool,
-        from_live: bool,
-        to_live: bool,
-        to_bad: &mut Option<u64>,
-    )
-        requires input { HasInputRoom mark self.old }
-        requires raw_output { HasOutputRoom hold (most_offered mark self.old) self.old }
-        ensures side { plain_side self.new ≡ with_bad self.new.bad (plain_side self.old) }
-        ensures passage { passage_of self.new to_bad.new ≡ pass_round mark hold ended from_live to_live (passage_of self.old to_bad.old) }
+    fn make_round(&mut self, from: SideId, terms: Terms)
+        requires opened { from.link < self.old.links.opened }
+        requires input { HasInputRoom terms.mark self.old.links self.old.rooms from }
+        requires raw_output { HasOutputRoom terms.hold (most_offered terms.mark self.old.links from) self.old.links self.old.rooms from }
+        ensures { self.new.links ≡ with_passage from (round_by terms (passage_at self.old.links from)) self.old.links }
     {
-        if !to_live {
+        if !terms.to_live {
             return;
         }
-        self.hold_back(hold);
-        if from_live {
-            self.run_read_filter(mark, ended);
-            self.move_input();
-            self.run_write_filter(hold, true, to_bad);
+        self.hold_back(from, terms.hold);
+        if terms.from_live {
+            self.run_read_filter(from, terms.mark, terms.ended);
+            self.move_input(from);
+            self.run_write_filter(from, terms.hold, true);
         } else {
-            self.run_write_filter(hold, false, to_bad);
+            self.run_write_filter(from, terms.hold, false);
         }
     }
 
     /// Rounds until one changes nothing. It answers whether one before did.
-    fn make_rounds(
-        &mut self,
-        mark: u64,
-        hold: u64,
-        ended: bool,
-        from_live: bool,
-        to_live: bool,
-        to_bad: &mut Option<u64>,
-    ) -> Result<bool, NoMemory>
-        ensures side { plain_side self.new ≡ with_bad self.new.bad (plain_side self.old) }
+    fn make_rounds(&mut self, from: SideId, terms: Terms) -> Result<bool, NoMemory>
+        requires { from.link < self.old.links.opened }
+        ensures frame { self.new.links ≡ with_passage from (passage_at self.new.links from) self.old.links }
         ensures passage { MatchResult result
-            (λ _. Passed (pass_round mark hold ended from_live to_live) (passage_of self.old to_bad.old) (passage_of self.new to_bad.new))
-            (λ _. SomeRounds (pass_round mark hold ended from_live to_live) (passage_of self.old to_bad.old) (passage_of self.new to_bad.new)) }
-        ensures still { result ≡ Ok false → passage_of self.new to_bad.new ≡ passage_of self.old to_bad.old }
-        ensures apart { result ≡ Ok true → reached_of (passage_of self.new to_bad.new) ≢ reached_of (passage_of self.old to_bad.old) }
+            (λ _. Passed (round_by terms) (passage_at self.old.links from) (passage_at self.new.links from))
+            (λ _. SomeRounds (round_by terms) (passage_at self.old.links from) (passage_at self.new.links from)) }
+        ensures still { result ≡ Ok false → passage_at self.new.links from ≡ passage_at self.old.links from }
+        ensures apart { result ≡ Ok true → reached_of (passage_at self.new.links from) ≢ reached_of (passage_at self.old.links from) }
     {
         let mut changed = false;
         loop {
-            self.reserve_round(mark, hold)?;
-            let before = self.reached(*to_bad);
-            self.make_round(mark, hold, ended, from_live, to_live, to_bad);
-            if is_same(self.reached(*to_bad), before) {
+            self.reserve_round(from, terms)?;
+            let before = self.reached(from);
+            self.make_round(from, terms);
+            if is_same(self.reached(from), before) {
                 return Ok(changed);
             }
             changed = true;
         }
     }
 
-    /// Gives up the room of each of the four buffers that has no byte, and the room beside them.
-    fn give_up_rooms(&mut self, alloc: Global)
-        ensures side { plain_side self.new ≡ plain_side self.old }
-        ensures passage { passage_of self.new ≡ passage_of self.old }
-        ensures rooms { HasNoIdleRoom self.new }
+    /// Gives up the room of each of the four buffers that has no byte.
+    fn give_up_rooms(&mut self, from: SideId)
+        requires { from.link < self.old.links.opened }
+        ensures links { self.new.links ≡ self.old.links }
+        ensures input { length (lane_at self.new.links from).buffers.input ≡ 0 → input_room self.new.rooms from ≡ 0 }
+        ensures raw_output { length (lane_at self.new.links from).buffers.raw_output ≡ 0 → raw_output_room self.new.rooms from ≡ 0 }
     {
         self.readable = 0;
-        self.beside = Vec::new(alloc);
-        give_up(&mut self.raw_input, alloc);
-        give_up(&mut self.input, alloc);
-        give_up(&mut self.output, alloc);
-        give_up(&mut self.raw_output, alloc);
+        let to = from.peer();
+        self.world.give_up_at(lower(from));
+        self.world.give_up_at(upper(from));
+        self.world.give_up_at(upper(to));
+        self.world.give_up_at(lower(to));
     }
 
-    /// Room that a pass left behind the moved bytes goes where the next read needs it.
-    fn hand_room_back(&mut self)
-        ensures side { plain_side self.new ≡ plain_side self.old }
-        ensures passage { passage_of self.new ≡ passage_of self.old }
+    /// What a round of the direction goes by.
+    fn terms(&self, from: SideId, hold: u64) -> Terms
+        requires { from.link < self.now.links.opened }
+        ensures { round_by result ≡ round_from hold self.now.links from }
     {
-        if self.raw_input.len() == 0 && self.output.len() == 0 {
-            self.readable = 0;
-            swap(&mut self.raw_input, &mut self.output);
+        let to = from.peer();
+        let flags = self.flags(from);
+        Terms {
+            mark: self.read_mark(from),
+            hold: self.hold_mark(to, hold),
+            ended: flags.ended,
+            from_live: flags.live,
+            to_live: self.flags(to).live,
         }
-    }
-
-    /// Rounds until one changes nothing. It answers whether one before did. Where none did, no buffer without a byte has room then, and
-    /// there is none beside the buffers: a direction in which bytes move keeps its room for the next ones.
-    pub(crate) fn pass(
-        &mut self,
-        alloc: Global,
-        mark: u64,
-        hold: u64,
-        to_live: bool,
-        to_bad: &mut Option<u64>,
-    ) -> Result<bool, NoMemory>
-        ensures side { plain_side self.new ≡ with_bad self.new.bad (plain_side self.old) }
-        ensures passage { MatchResult result
-            (λ _. Passed (pass_round mark hold self.old.flags.ended self.old.flags.live to_live) (passage_of self.old to_bad.old) (passage_of self.new to_bad.new))
-            (λ _. SomeRounds (pass_round mark hold self.old.flags.ended self.old.flags.live to_live) (passage_of self.old to_bad.old) (passage_of self.new to_bad.new)) }
-        ensures still { result ≡ Ok false → (passage_of self.new to_bad.new ≡ passage_of self.old to_bad.old)
-            × (pass_round mark hold self.old.flags.ended self.old.flags.live to_live (passage_of self.old to_bad.old) ≡ passage_of self.old to_bad.old) }
-        ensures apart { result ≡ Ok true → reached_of (passage_of self.new to_bad.new) ≢ reached_of (passage_of self.old to_bad.old) }
-        ensures rooms { result ≡ Ok false → HasNoIdleRoom self.new }
-    {
-        let flags = self.flags;
-        let changed = self.make_rounds(mark, hold, flags.ended, flags.live, to_live, to_bad)?;
-        if changed {
-            self.hand_room_back();
-        } else {
-            self.give_up_rooms(alloc);
-        }
-        Ok(changed)
-    }
-}
-
-impl Sides {
-    ghost use Rattle.relay_sides.specs.Links.{side_at, change_side, passage_at, read_mark, hold_mark, round_from, PassedFrom, PartlyPassed};
-    ghost use Rattle.relay_state.specs.Passing.{with_bad};
-    ghost use Rattle.relay_sides.specs.HalfPassed.{passage_with, HalfPassed, HalfPartlyPassed};
-
-    /// The length of the side's input at which reading stops. Constant; takes no memory.
-    ///
-    /// Own; libevent has none where no mark is set.
-    pub fn read_mark(&self, side: SideId) -> u64
-        requires { side.link < self.now.links.opened }
-        ensures { result ≡ read_mark self.now.links side }
-    {
-        self.sides[side.number()].read_mark()
-    }
-
-    /// How many bytes that wait for the side's end hold the direction to it, where so many do in the run. Constant; takes no memory.
-    ///
-    /// Own; libevent's sample le-proxy holds by its write high mark.
-    pub fn hold_mark(&self, side: SideId, hold: u64) -> u64
-        requires { side.link < self.now.links.opened }
-        ensures { result ≡ hold_mark hold self.now.links side }
-    {
-        self.sides[side.number()].hold_mark(hold)
-    }
-
-    /// The first bad place that a filter of the side met.
-    fn bad(&self, side: SideId) -> Option<u64>
-        requires { side.link < self.now.links.opened }
-        ensures { result ≡ (side_at self.now.links side).bad }
-    {
-        self.sides[side.number()].bad
-    }
-
-    fn set_bad(&mut self, side: SideId, place: Option<u64>)
-        requires { side.link < self.old.links.opened }
-        ensures links { self.new.links ≡ change_side side (with_bad place) self.old.links }
-        ensures told { (side_at self.new.links side).bad ≡ place }
-    {
-        let own = &mut self.sides[side.number()];
-        own.bad = place;
-    }
-
-    /// Passes the direction that begins at the side, but for the bad place of the peer, which is handed back. It answers whether
-    /// anything changed.
-    fn pass_half(
-        &mut self,
-        from: SideId,
-        hold: u64,
-        to_bad: &mut Option<u64>,
-    ) -> Result<bool, NoMemory>
-        requires { from.link < self.old.links.opened }
-        ensures passed { MatchResult result
-            (λ _. HalfPassed hold self.old.links from to_bad.old self.new.links to_bad.new)
-            (λ _. HalfPartlyPassed hold self.old.links from to_bad.old self.new.links to_bad.new) }
-        ensures still { result ≡ Ok false → (self.new.links ≡ self.old.links) × (to_bad.new ≡ to_bad.old)
-            × (round_from hold self.old.links from (passage_with self.old.links from to_bad.old) ≡ passage_with self.old.links from to_bad.old) }
-        ensures apart { result ≡ Ok true → passage_with self.new.links from to_bad.new ≢ passage_with self.old.links from to_bad.old }
-    {
-        let mark = self.read_mark(from);
-        let hold = self.hold_mark(from.peer(), hold);
-        let to_live = self.flags(from.peer()).live;
-        let alloc = self.alloc;
-        let own = &mut self.sides[from.number()];
-        own.pass(alloc, mark, hold, to_live, to_bad)
     }
 
     /// Passes the direction that begins at the side: rounds until one changes nothing, with this hold mark where the side that it ends
@@ -396,9 +381,11 @@ impl Sides {
             × (round_from hold self.old.links from (passage_at self.old.links from) ≡ passage_at self.old.links from) }
         ensures apart { result ≡ Ok true → self.new.links ≢ self.old.links }
     {
-        let mut to_bad = self.bad(from.peer());
-        let result = self.pass_half(from, hold, &mut to_bad);
-        self.set_bad(from.peer(), to_bad);
-        result
+        let terms = self.terms(from, hold);
+        let changed = self.make_rounds(from, terms)?;
+        if !changed {
+            self.give_up_rooms(from);
+        }
+        Ok(changed)
     }
 }

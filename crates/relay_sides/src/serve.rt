@@ -2,112 +2,16 @@
 ghost use Rattle.std.specs.Prelude.{◌≡◌, ◌+◌, ◌-◌, ◌^◌, ◌<◌, ◌≤◌, true, false, OnOk, length, min};
 ghost use Rattle.token_bucket.specs.declared.limit.Dir.TheVariants.{Read, Write};
 ghost use Rattle.ev_types.specs.Sides.{peer};
-ghost use Rattle.relay_model.specs.Moments.{active_at};
-ghost use Rattle.relay_state.specs.State.{lane_taken};
-ghost use Rattle.relay_state.specs.Serving.{flow_given};
-ghost use Rattle.relay_sides.specs.Links.{lane_at, change_side, change_flow, put_lane, after_got, after_took};
+ghost use Rattle.relay_sides.specs.Links.{lane_at, change_side, with_got, after_got, after_took, read_mark};
+ghost use Rattle.relay_sides.specs.Rooms.{HasInputRoom};
 ghost use Rattle.relay_sides.specs.SidesValue.{spare_read};
 
-use crate::side::SideState;
+use crate::side::{lower, upper};
 use crate::sides::Sides;
-use crate::step::reserve_step;
+use bev_core::Dir;
 use ev_types::{NoMemory, SideId};
-use token_bucket::Dir;
-
-impl SideState {
-    ghost use Rattle.std.specs.Prelude.{false};
-    ghost use Rattle.relay_state.specs.State.{lane_got};
-    ghost use Rattle.relay_state.specs.Passage.{Passage, read_part};
-    ghost use Rattle.relay_state.specs.Passing.{with_bad};
-    ghost use Rattle.relay_sides.specs.SideView.{plain_side, flow_of_side, lane_of, passage_of, read_mark_of};
-    ghost use Rattle.relay_sides.specs.SideRooms.{spare_of};
-
-    /// Makes room for a read of so many bytes, and for no more than can come then, however great the mark is. It is also refused
-    /// where they, or what the read filter makes of them, could not be counted.
-    fn reserve_read(&mut self, room: usize) -> Result<(), NoMemory>
-        ensures side { plain_side self.new ≡ plain_side self.old }
-        ensures passage { passage_of self.new ≡ passage_of self.old }
-        ensures room { OnOk result (room ≤ spare_of self.new) }
-    {
-        if room as u64 > u64::MAX - self.read {
-            return Err(NoMemory);
-        }
-        self.readable = 0;
-        let mark = self.read_mark() as usize;
-        reserve_step(
-            self.reader.kind(),
-            self.raw_input.len() + room,
-            &mut self.input,
-            &mut self.beside,
-            mark,
-            self.read_made,
-        )?;
-        self.raw_input.reserve(room)?;
-        self.readable = room;
-        Ok(())
-    }
-
-    /// Bytes that were read at a time, in room that was made before.
-    fn got(&mut self, bytes: &[u8], time: u64)
-        requires some { 0 < length bytes.now }
-        requires room { length bytes.now ≤ spare_of self.old }
-        ensures side { plain_side self.new ≡ with_bad self.new.bad (active_at time Read (plain_side self.old)) }
-        ensures passage { passage_of self.new
-            ≡ (λ to. (let x = passage_of self.old to in read_part (read_mark_of self.old) false (record x { lane = lane_got bytes.now x.lane }))) }
-    {
-        let mark = self.read_mark();
-        self.readable = 0;
-        self.last_read = time;
-        self.read += bytes.len() as u64;
-        self.raw_input.push(bytes);
-        self.run_read_filter(mark, false);
-    }
-
-    /// The peer's end took the first bytes of the raw output.
-    fn took(&mut self, count: usize)
-        requires { count ≤ length self.old.raw_output.items }
-        ensures side { plain_side self.new ≡ plain_side self.old }
-        ensures flow { flow_of_side self.new ≡ flow_given count (flow_of_side self.old) }
-        ensures lane { lane_of self.new ≡ lane_taken count (lane_of self.old) }
-    {
-        // no more can be given than was made
-        let _most = self.write_made;
-        self.raw_output.drop_front(count);
-        self.given += count as u64;
-    }
-}
 
 impl Sides {
-    /// How many bytes were read from the side's end and not moved yet, or 2^64 - 1 where that is more. Constant; takes no memory.
-    ///
-    /// Libevent: event2/bufferevent.h, `bufferevent_get_input`; it is the input of two bufferevents together.
-    pub fn input_len(&self, side: SideId) -> usize
-        requires { side.link < self.now.links.opened }
-        ensures { result ≡ min (length (lane_at self.now.links side).buffers.raw_input + length (lane_at self.now.links side).buffers.input) (2 ^ 64 - 1) }
-    {
-        self.sides[side.number()].input_len()
-    }
-
-    /// How many bytes were moved to the side and not given to its end yet, or 2^64 - 1 where that is more. Constant; takes no memory.
-    ///
-    /// Libevent: event2/bufferevent.h, `bufferevent_get_output`; it is the output of two bufferevents together.
-    pub fn output_len(&self, side: SideId) -> usize
-        requires { side.link < self.now.links.opened }
-        ensures { result ≡ min (length (lane_at self.now.links (peer side)).buffers.output + length (lane_at self.now.links (peer side)).buffers.raw_output) (2 ^ 64 - 1) }
-    {
-        self.sides[side.peer().number()].output_len()
-    }
-
-    /// The bytes that wait to be given to the side's end. Constant; takes no memory.
-    ///
-    /// Own.
-    pub fn waiting_for(&self, side: SideId) -> &[u8]
-        requires { side.link < self.now.links.opened }
-        ensures { result.now ≡ (lane_at self.now.links (peer side)).buffers.raw_output }
-    {
-        self.sides[side.peer().number()].raw_output.as_slice()
-    }
-
     /// Makes room for a read of so many bytes from the side's end, and for what its read filter makes of them. It is also refused
     /// where they could not be counted. Takes memory, for no more than can come; linear in the length where it does.
     ///
@@ -117,8 +21,42 @@ impl Sides {
         ensures links { self.new.links ≡ self.old.links }
         ensures room { OnOk result (room ≤ spare_read self.new side) }
     {
+        let own = &self.sides[side.number()];
+        let read = own.read;
+        let made = own.read_made;
+        if room as u64 > u64::MAX - read {
+            return Err(NoMemory);
+        }
+        self.readable = 0;
+        let mark = self.read_mark(side) as usize;
+        let count = self.raw_input_len(side) + room;
+        self.world.reserve_step_at(
+            upper(side),
+            lower(side),
+            Dir::Read,
+            count,
+            &mut self.beside,
+            mark,
+            made,
+        )?;
+        self.world.make_room_at(lower(side), Dir::Read, room)?;
+        self.ready = side.number();
+        self.readable = room;
+        Ok(())
+    }
+
+    /// They stand behind the raw input.
+    fn bring(&mut self, side: SideId, bytes: &[u8], time: u64)
+        requires opened { side.link < self.old.links.opened }
+        requires some { 0 < length bytes.now }
+        requires room { length bytes.now ≤ spare_read self.old side }
+        ensures links { self.new.links ≡ with_got time side bytes.now self.old.links }
+        ensures room { HasInputRoom (read_mark self.old.links side) self.new.links self.new.rooms side }
+    {
+        self.readable = 0;
+        self.world.bring_at(lower(side), bytes, time);
         let own = &mut self.sides[side.number()];
-        own.reserve_read(room)
+        own.read += bytes.len() as u64;
     }
 
     /// Bytes were read from the side's end at a time, in room that was made before; then its read filter runs. Takes no memory;
@@ -131,8 +69,9 @@ impl Sides {
         requires room { length bytes.now ≤ spare_read self.old side }
         ensures { self.new.links ≡ after_got time side bytes.now self.old.links }
     {
-        let own = &mut self.sides[side.number()];
-        own.got(bytes, time);
+        let mark = self.read_mark(side);
+        self.bring(side, bytes, time);
+        self.run_read_filter(side, mark, false);
     }
 
     /// A read was answered with the end. Constant; takes no memory.
@@ -142,9 +81,8 @@ impl Sides {
         requires { side.link < self.old.links.opened }
         ensures { self.new.links ≡ change_side side (λ x. record x { ended = true; reads = false }) self.old.links }
     {
-        let own = &mut self.sides[side.number()];
-        own.flags.ended = true;
-        own.flags.reads = false;
+        self.readable = 0;
+        self.world.end_at(lower(side), Dir::Read);
     }
 
     /// A read failed. Constant; takes no memory.
@@ -154,9 +92,8 @@ impl Sides {
         requires { side.link < self.old.links.opened }
         ensures { self.new.links ≡ change_side side (λ x. record x { failed = true; reads = false }) self.old.links }
     {
-        let own = &mut self.sides[side.number()];
-        own.flags.failed = true;
-        own.flags.reads = false;
+        self.readable = 0;
+        self.world.fail_at(lower(side), Dir::Read);
     }
 
     /// A write failed, or a connect check, as `read_failed`.
@@ -166,9 +103,8 @@ impl Sides {
         requires { side.link < self.old.links.opened }
         ensures { self.new.links ≡ change_side side (λ x. record x { failed = true; writes = false }) self.old.links }
     {
-        let own = &mut self.sides[side.number()];
-        own.flags.failed = true;
-        own.flags.writes = false;
+        self.readable = 0;
+        self.world.fail_at(lower(side), Dir::Write);
     }
 
     /// The side's end is connected. Constant; takes no memory.
@@ -178,19 +114,9 @@ impl Sides {
         requires { side.link < self.old.links.opened }
         ensures { self.new.links ≡ change_side side (λ x. record x { connecting = false }) self.old.links }
     {
+        self.readable = 0;
         let own = &mut self.sides[side.number()];
-        own.flags.connecting = false;
-    }
-
-    /// The first bytes of a direction's raw output were taken.
-    fn took_from(&mut self, from: SideId, count: usize)
-        requires opened { from.link < self.old.links.opened }
-        requires within { count ≤ length (lane_at self.old.links from).buffers.raw_output }
-        ensures links { self.new.links ≡ put_lane from (lane_taken count (lane_at self.old.links from)) (change_flow from (flow_given count) self.old.links) }
-        ensures opened { self.new.links.opened ≡ self.old.links.opened }
-    {
-        let own = &mut self.sides[from.number()];
-        own.took(count);
+        own.connecting = false;
     }
 
     /// At a time the side's end took the first bytes that wait for it. Takes no memory; linear in their number, over many calls.
@@ -201,7 +127,12 @@ impl Sides {
         requires within { count ≤ length (lane_at self.old.links (peer side)).buffers.raw_output }
         ensures { self.new.links ≡ after_took time side count self.old.links }
     {
-        self.took_from(side.peer(), count);
-        self.be_active(side, Dir::Write, time);
+        self.readable = 0;
+        self.world.drain_at(lower(side), count);
+        self.world.touch_at(lower(side), Dir::Write, time);
+        let from = &mut self.sides[side.peer().number()];
+        // no more can be given than was made
+        let _most = from.write_made;
+        from.given += count as u64;
     }
 }

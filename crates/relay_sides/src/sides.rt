@@ -1,25 +1,34 @@
 // The sides of all links, two for each, with the directions between them.
-ghost use Rattle.std.specs.Prelude.{◌≡◌, ◌<◌, ◌+◌, ◌^◌, OnOk};
-ghost use Rattle.relay_sides.specs.Links.{no_links, side_at, with_link};
+ghost use Rattle.std.specs.Prelude.{◌≡◌, ◌≤◌, ◌<◌, ◌+◌, ◌-◌, ◌*◌, ◌^◌, ◌++◌, ◌∷◌, [], length, min, OnOk, true, vec_capacity, vec_len};
+ghost use Rattle.relay_sides.specs.Links.{Links, no_links, side_at, lane_at, flow_at, read_mark, hold_mark};
+ghost use Rattle.ev_types.specs.Sides.{peer};
 ghost use Rattle.relay_sides.specs.SideView.{flags_of};
 ghost use Rattle.relay_sides.specs.Pairs.{HasPairs};
 
 use crate::flags::SideFlags;
-use crate::opening::NewSide;
-use crate::side::SideState;
-use ev_types::{NoMemory, SideId};
+use crate::side::{MOST_AT_ONCE, SideState, lower, mark_or, upper};
+use bev_world::World;
+use ev_types::SideId;
 use std::alloc::Global;
 use std::marker::Model;
 
 /// The sides of all links that were opened, and the directions between them. Calls on a side ask that its link was opened. None
 /// looks at the clock, or decides whether it is called for.
 ///
-/// Own; it keeps what libevent's sample le-proxy keeps in bufferevents.
+/// A side is two bufferevents of a world: that of its end, and a filter over it. Their numbers are 2 n and 2 n + 1 for the side of
+/// number n, where sides are numbered with In of each link before its Out.
+///
+/// Own; libevent's sample le-proxy keeps a bufferevent for each of the two ends.
 #[derive(Drop)]
 pub struct Sides {
-    pub(crate) alloc: Global,
     pub(crate) opened: u32,
+    pub(crate) world: World,
     pub(crate) sides: Vec<SideState>,
+    /// What a filter makes is made here first.
+    pub(crate) beside: Vec<u8>,
+    /// The number of the side for which there is room for a read, and for how many bytes.
+    pub(crate) ready: usize,
+    pub(crate) readable: usize,
 }
 
 impl Model for Sides {
@@ -27,11 +36,11 @@ impl Model for Sides {
 
     ghost Value = { SidesValue };
 
-    ghost use Rattle.relay_sides.specs.SidesView.{sides_of, IsPaired};
+    ghost use Rattle.relay_sides.specs.SidesView.{sides_of, AreSides};
 
     ghost view = { sides_of };
 
-    ghost invariant = { IsPaired };
+    ghost invariant = { AreSides };
 }
 
 impl Sides {
@@ -42,9 +51,12 @@ impl Sides {
         ensures { result.links ≡ no_links }
     {
         Sides {
-            alloc,
             opened: 0,
+            world: World::new(alloc),
             sides: Vec::new(alloc),
+            beside: Vec::new(alloc),
+            ready: 0,
+            readable: 0,
         }
     }
 
@@ -58,33 +70,6 @@ impl Sides {
         self.opened
     }
 
-    /// Makes room for one link more. Takes memory; constant, but where the room grows.
-    ///
-    /// Own.
-    pub fn reserve_link(&mut self) -> Result<(), NoMemory>
-        ensures links { self.new.links ≡ self.old.links }
-        ensures room { OnOk result (0 < self.new.spare_links) }
-    {
-        self.sides.reserve(2)?;
-        Ok(())
-    }
-
-    /// Opens the next link at a time, with its In and its Out side, in room that was made before. Takes no memory; constant.
-    ///
-    /// Own.
-    pub fn open(&mut self, near: NewSide, far: NewSide, time: u64)
-        requires few { self.old.links.opened + 1 < 2 ^ 32 }
-        requires room { 0 < self.old.spare_links }
-        ensures { self.new.links ≡ with_link time near far self.old.links }
-    {
-        let alloc = self.alloc;
-        let own = SideState::new(alloc, near, far.write, time);
-        let other = SideState::new(alloc, far, near.write, time);
-        self.sides.push(own).unwrap();
-        self.sides.push(other).unwrap();
-        self.opened += 1;
-    }
-
     /// What is so of the side. Constant; takes no memory.
     ///
     /// Own.
@@ -92,6 +77,106 @@ impl Sides {
         requires { side.link < self.now.links.opened }
         ensures { result ≡ flags_of (side_at self.now.links side) }
     {
-        self.sides[side.number()].flags
+        let bev = self.world.bev(lower(side)).state();
+        let own = &self.sides[side.number()];
+        SideFlags {
+            live: bev.live,
+            connecting: own.connecting,
+            reads: bev.reading,
+            writes: bev.writing,
+            ended: bev.ended,
+            failed: bev.failed,
+            expired: own.expired,
+            write_ended: own.write_ended,
+            closed: own.closed,
+        }
+    }
+
+    /// The length of the side's input at which reading stops. Constant; takes no memory.
+    ///
+    /// Own; libevent has none where no mark is set.
+    pub fn read_mark(&self, side: SideId) -> u64
+        requires { side.link < self.now.links.opened }
+        ensures { result ≡ read_mark self.now.links side }
+    {
+        let bev = self.world.bev(lower(side)).state();
+        mark_or(bev.read_high, MOST_AT_ONCE as u64)
+    }
+
+    /// How many bytes that wait for the side's end hold the direction to it, where so many do in the run. Constant; takes no memory.
+    ///
+    /// Own; libevent's sample le-proxy holds by its write high mark.
+    pub fn hold_mark(&self, side: SideId, hold: u64) -> u64
+        requires { side.link < self.now.links.opened }
+        ensures { result ≡ hold_mark hold self.now.links side }
+    {
+        let bev = self.world.bev(lower(side)).state();
+        mark_or(bev.write_high, hold)
+    }
+
+    /// How many bytes of the direction from the side are in its raw input.
+    pub(crate) fn raw_input_len(&self, from: SideId) -> usize
+        requires { from.link < self.now.links.opened }
+        ensures { result ≡ length (lane_at self.now.links from).buffers.raw_input }
+    {
+        self.world.bev(lower(from)).input_len()
+    }
+
+    /// And in its input.
+    pub(crate) fn own_input_len(&self, from: SideId) -> usize
+        requires { from.link < self.now.links.opened }
+        ensures { result ≡ length (lane_at self.now.links from).buffers.input }
+    {
+        self.world.bev(upper(from)).input_len()
+    }
+
+    /// And in its output.
+    pub(crate) fn own_output_len(&self, from: SideId) -> usize
+        requires { from.link < self.now.links.opened }
+        ensures { result ≡ length (lane_at self.now.links from).buffers.output }
+    {
+        self.world.bev(upper(from.peer())).output_len()
+    }
+
+    /// And in its raw output.
+    pub(crate) fn raw_output_len(&self, from: SideId) -> usize
+        requires { from.link < self.now.links.opened }
+        ensures { result ≡ length (lane_at self.now.links from).buffers.raw_output }
+    {
+        self.world.bev(lower(from.peer())).output_len()
+    }
+
+    /// How many bytes were read from the side's end and not moved yet, or 2^64 - 1 where that is more. Constant; takes no memory.
+    ///
+    /// Libevent: event2/bufferevent.h, `bufferevent_get_input`; it is the input of two bufferevents together.
+    pub fn input_len(&self, side: SideId) -> usize
+        requires { side.link < self.now.links.opened }
+        ensures { result ≡ min (length (lane_at self.now.links side).buffers.raw_input + length (lane_at self.now.links side).buffers.input) (2 ^ 64 - 1) }
+    {
+        self.raw_input_len(side)
+            .saturating_add(self.own_input_len(side))
+    }
+
+    /// How many bytes were moved to the side and not given to its end yet, or 2^64 - 1 where that is more. Constant; takes no memory.
+    ///
+    /// Libevent: event2/bufferevent.h, `bufferevent_get_output`; it is the output of two bufferevents together.
+    pub fn output_len(&self, side: SideId) -> usize
+        requires { side.link < self.now.links.opened }
+        ensures { result ≡ min (length (lane_at self.now.links (peer side)).buffers.output + length (lane_at self.now.links (peer side)).buffers.raw_output) (2 ^ 64 - 1) }
+    {
+        let from = side.peer();
+        self.own_output_len(from)
+            .saturating_add(self.raw_output_len(from))
+    }
+
+    /// The bytes that wait to be given to the side's end. Constant; takes no memory.
+    ///
+    /// Own.
+    pub fn waiting_for(&self, side: SideId) -> &[u8]
+        requires { side.link < self.now.links.opened }
+        ensures { result.now ≡ (lane_at self.now.links (peer side)).buffers.raw_output }
+    {
+        let bev = self.world.bev(lower(side));
+        bev.front_output(bev.output_len())
     }
 }

@@ -1,34 +1,51 @@
-use Rattle.std.proofs.Common.{sym, ap, ◌∙◌}
-use Rattle.relay_state.specs.Passing.{with_bad}
-use Rattle.relay_sides.specs.Links.{side_at, change_side}
-use Rattle.relay_sides.proofs.SidesLemmas.{whole_passes, whole_still, whole_apart}
+use Rattle.std.proofs.Common.{◌≡◌, ap, sym, subst, ◌∙◌, MatchResult}
+use Rattle.std.proofs.lemmas.Result.{err_from_is_err_and}
+use Rattle.relay_state.specs.Passage.{Passage, Passed, SomeRounds}
+use Rattle.relay_sides.specs.Links.{passage_at, with_passage, round_from, PassedFrom, PartlyPassed}
+use Rattle.relay_sides.proofs.LinksLemmas.{with_same}
 use Rattle.relay_sides.proofs.sides.Sides.pass.Goals as goal
 
-pub returns-clause-passed : goal.returns-clause-passed
-returns-clause-passed c =
+pub returns-in_err-changed-clause-passed : goal.returns-in_err-changed-clause-passed
+returns-in_err-changed-clause-passed c =
+    let e = c.args.from in
     let old = c.args.self.now.links in
-    let mid = c.pass_half-result.new.self.links in
-    whole_passes c.args.hold old mid c.set_bad.new.self.links c.args.from c.bad-to_bad.result c.pass_half-result.new.to_bad _ _
-    c.pass_half-result.result (c.bad-to_bad.ensures ∙ ap (λ e. (side_at old e).bad) c.peer.ensures)
-    c.pass_half-result.ensures.passed
-    (c.set_bad.ensures.links ∙ ap (λ e. change_side e (with_bad c.pass_half-result.new.to_bad) mid) c.peer-2.ensures)
+    let new = c.make_rounds.new.self.links in
+    let p = err_from_is_err_and c.from_residual.result c.from_residual.ensures.1 in
+    subst (λ r. MatchResult r (λ _. PassedFrom c.args.hold old e new) (λ _. PartlyPassed c.args.hold old e new)) (sym p.1) (
+      passage_at new e,
+      subst (λ (f : Passage → Passage). SomeRounds f (passage_at old e) (passage_at new e)) c.terms-terms.ensures c.in_err-changed.ensures.passage,
+      c.in_err-changed.ensures.frame,
+    )
 
-pub returns-clause-still : goal.returns-clause-still
-returns-clause-still c = λ h.
+pub returns-then-not-changed-clause-passed : goal.returns-then-not-changed-clause-passed
+returns-then-not-changed-clause-passed c =
+    let e = c.args.from in
     let old = c.args.self.now.links in
-    let mid = c.pass_half-result.new.self.links in
-    whole_still c.args.hold old mid c.set_bad.new.self.links c.args.from c.bad-to_bad.result c.pass_half-result.new.to_bad
-    (c.bad-to_bad.ensures ∙ ap (λ e. (side_at old e).bad) c.peer.ensures)
-    (c.pass_half-result.ensures.still h)
-    (c.set_bad.ensures.links ∙ ap (λ e. change_side e (with_bad c.pass_half-result.new.to_bad) mid) c.peer-2.ensures)
+    let mid = c.make_rounds.new.self.links in (
+      passage_at mid e,
+      subst (λ (f : Passage → Passage). Passed f (passage_at old e) (passage_at mid e)) c.terms-terms.ensures c.in_ok-changed.ensures.passage,
+      c.give_up_rooms.ensures.links ∙ c.in_ok-changed.ensures.frame,
+    )
 
-pub returns-clause-apart : goal.returns-clause-apart
-returns-clause-apart c = λ h.
+-- A round over what was not changed is the last one.
+pub returns-then-not-changed-clause-still : goal.returns-then-not-changed-clause-still
+returns-then-not-changed-clause-still c = λ h.
+    let e = c.args.from in
     let old = c.args.self.now.links in
-    let mid = c.pass_half-result.new.self.links in
-    let new = c.set_bad.new.self.links in
-    whole_apart old mid new c.args.from c.bad-to_bad.result c.pass_half-result.new.to_bad
-    (c.bad-to_bad.ensures ∙ ap (λ e. (side_at old e).bad) c.peer.ensures)
-    (c.pass_half-result.ensures.apart h)
-    (c.set_bad.ensures.links ∙ ap (λ e. change_side e (with_bad c.pass_half-result.new.to_bad) mid) c.peer-2.ensures)
-    (ap (λ e. (side_at new e).bad) (sym c.peer-2.ensures) ∙ c.set_bad.ensures.told)
+    let mid = c.make_rounds.new.self.links in
+    let same = c.in_ok-changed.ensures.still h in
+    let passed = subst (λ (f : Passage → Passage). Passed f (passage_at old e) (passage_at mid e)) c.terms-terms.ensures
+    c.in_ok-changed.ensures.passage in (
+      c.give_up_rooms.ensures.links ∙ c.in_ok-changed.ensures.frame ∙ ap (λ x. with_passage e x old) same ∙ with_same old e,
+      subst (λ x. round_from c.args.hold old e x ≡ x) same passed.2,
+    )
+
+pub returns-else-not-changed-clause-passed : goal.returns-else-not-changed-clause-passed
+returns-else-not-changed-clause-passed c =
+    let e = c.args.from in
+    let old = c.args.self.now.links in
+    let new = c.make_rounds.new.self.links in (
+      passage_at new e,
+      subst (λ (f : Passage → Passage). Passed f (passage_at old e) (passage_at new e)) c.terms-terms.ensures c.in_ok-changed.ensures.passage,
+      c.in_ok-changed.ensures.frame,
+    )

@@ -1,0 +1,334 @@
+-- What opening a link adds: four bufferevents, and two states beside them.
+use Rattle.std.proofs.Common.{◌≡◌, ◌≢◌, ℕ, suc, ◌+◌, ◌-◌, ◌*◌, ◌<◌, ◌≤◌, Bool, true, false, ◌==◌, nat_lt, if◌then◌else◌, List, [], ◌∷◌, ◌++◌, length, slice_index_or, slice_set, vec_capacity, Result, Ok, Err, refl, sym, ◌∙◌, ap, subst, arith, eqb-true, ltb-true, ltb-false, length-append}
+use Rattle.std.specs.Global.{Vec}
+use Rattle.std.specs.Result.{IfOk, OnOk, OnErr, is_ok}
+use Rattle.std.proofs.lemmas.Bool.{eqb-false}
+use Rattle.std.proofs.lemmas.List.{get_or-append-add, get_or_append_left, get_or_past, append_assoc}
+use Rattle.std.proofs.Math.Seq.{get_or-append_seam, set-append_seam}
+use Rattle.token_bucket.specs.declared.limit.Dir.TheVariants.{Read, Write}
+use Rattle.ev_types.specs.declared.filter.FilterKind.TheVariants.{None}
+use Rattle.bev_core.specs.BevValue.{BevValue}
+use Rattle.bev_core.specs.Steps.{with_enabled, with_marks, with_timeouts}
+use Rattle.bev_world.specs.WorldValue.{WorldValue, no_slot, new_slot, bev_at, with_slot, with_bev, with_new, with_taken, with_room}
+use Rattle.bev_world.specs.declared.slot.Slot.{Slot}
+use Rattle.bev_world.specs.declared.slot.Kind.TheVariants.{Socket, Filter}
+use Rattle.relay_model.specs.Flow.{Flow, no_flow}
+use Rattle.relay_state.specs.State.{Lane}
+use Rattle.relay_sides.specs.Bevs.{Bevs, bevs_at, lower_of, upper_of, twin}
+use Rattle.relay_sides.specs.Table.{tabulate}
+use Rattle.relay_sides.specs.Links.{opening_side, fresh_lane, with_link}
+use Rattle.relay_sides.specs.Opening.{side_slots}
+use Rattle.relay_sides.specs.SideView.{new_state, state_at, plain_side, plain_at, flow_of, flow_at, lane_of, lane_at}
+use Rattle.relay_sides.specs.SidesView.{links_of, IsCounted, CanRead, AreSides}
+use Rattle.relay_sides.specs.declared.side.SideState.{SideState}
+use Rattle.relay_sides.specs.declared.sides.Sides.TheInside.{Inside}
+use Rattle.relay_sides.specs.declared.opening.NewSide.{NewSide}
+use Rattle.relay_sides.proofs.TableLemmas.{tabulate-more}
+
+-- what holds of a result that there is
+
+pub when_ok : {T E : Type 0} (P : Type 0) (r : Result T E) (x : T) → r ≡ Ok x → OnOk r P → P
+when_ok P r x e h = subst (λ z. OnOk z P) e h
+
+pub known_ok : {T E : Type 0} (P : T → Type 0) (r : Result T E) (x : T) → r ≡ Ok x → IfOk r P → P x
+known_ok P r x e h = subst (λ z. IfOk z P) e h
+
+-- room that is made changes no slot
+pub slots_reserved : {T E : Type 0} (more : ℕ) (w new : WorldValue) (r : Result T E) → OnOk r (new ≡ with_room more w) →
+    OnErr r (new ≡ w) → new.slots ≡ w.slots
+slots_reserved more w new (Ok x) a b = ap (λ (z : WorldValue). z.slots) a
+slots_reserved more w new (Err d) a b = ap (λ (z : WorldValue). z.slots) b
+
+-- The two bufferevents of a side
+
+module _ (w0 : WorldValue) where
+  abbrev place : ℕ
+  place = length w0.slots
+
+  -- one slot more
+  abbrev one_more : Slot → WorldValue
+  one_more s = record w0 { slots = w0.slots ++ s ∷ []; spare = w0.spare - 1 }
+
+  one_changed : (s : Slot) (f : BevValue → BevValue) →
+      with_bev (one_more s) place (f (bev_at (one_more s) place)) ≡ one_more (record s { bev = f s.bev })
+  one_changed s f =
+      let at = get_or-append_seam w0.slots s [] no_slot in
+      (λ i. with_slot (one_more s) place (let x : Slot = at i in record x { bev = f x.bev }))
+      ∙ ap (λ (xs : List Slot). record w0 { slots = xs; spare = w0.spare - 1 })
+      (set-append_seam w0.slots s [] (record s { bev = f s.bev }))
+
+  next : (w w' : WorldValue) (n : ℕ) (s : Slot) (f : BevValue → BevValue) → n ≡ place → w ≡ one_more s →
+      w' ≡ with_bev w n (f (bev_at w n)) → w' ≡ one_more (record s { bev = f s.bev })
+  next w w' n s f h e g = g ∙ (λ i. with_bev (e i) (h i) (f (bev_at (e i) (h i)))) ∙ one_changed s f
+
+  taken_behind : (s x : Slot) →
+      (with_taken (with_new (x ∷ []) (one_more s)) place).slots ≡ w0.slots ++ (record s { taken = true }) ∷ x ∷ []
+  taken_behind s x =
+      let all = append_assoc w0.slots (s ∷ []) (x ∷ []) in
+      let at = get_or-append_seam w0.slots s (x ∷ []) no_slot in
+      ap (λ (xs : List Slot). slice_set xs place (let y : Slot = slice_index_or xs place no_slot in record y { taken = true })) all
+      ∙ (λ i. slice_set (w0.slots ++ s ∷ x ∷ []) place (let y : Slot = at i in record y { taken = true }))
+      ∙ set-append_seam w0.slots s (x ∷ []) (record s { taken = true })
+
+  pub bevs_added : (w1 w2 w3 w4 w5 w6 : WorldValue) (time : ℕ) (side : NewSide) (n : ℕ) → n ≡ length w0.slots →
+      w1 ≡ with_new (new_slot Socket None None ∷ []) w0 →
+      w2 ≡ with_bev w1 n (with_enabled (bev_at w1 n) Read true) →
+      w3 ≡ with_bev w2 n (with_marks (bev_at w2 n) Read side.marks.read_low side.marks.read_high) →
+      w4 ≡ with_bev w3 n (with_marks (bev_at w3 n) Write side.marks.write_low side.marks.write_high) →
+      w5 ≡ with_bev w4 n (with_timeouts (bev_at w4 n) side.timeouts.read_ms side.timeouts.write_ms time) →
+      w6 ≡ with_taken (with_new (new_slot (Filter n) side.read side.write ∷ []) w5) n →
+      w6.slots ≡ w0.slots ++ side_slots time side (length w0.slots)
+  bevs_added w1 w2 w3 w4 w5 w6 time side n h e1 e2 e3 e4 e5 e6 =
+      let s1 : Slot = new_slot Socket None None in
+      let f2 : BevValue → BevValue = λ b. with_enabled b Read true in
+      let f3 : BevValue → BevValue = λ b. with_marks b Read side.marks.read_low side.marks.read_high in
+      let f4 : BevValue → BevValue = λ b. with_marks b Write side.marks.write_low side.marks.write_high in
+      let f5 : BevValue → BevValue = λ b. with_timeouts b side.timeouts.read_ms side.timeouts.write_ms time in
+      let s2 : Slot = record s1 { bev = f2 s1.bev } in
+      let s3 : Slot = record s2 { bev = f3 s2.bev } in
+      let s4 : Slot = record s3 { bev = f4 s3.bev } in
+      let s5 : Slot = record s4 { bev = f5 s4.bev } in
+      let g2 = next w1 w2 n s1 f2 h e1 e2 in
+      let g3 = next w2 w3 n s2 f3 h g2 e3 in
+      let g4 = next w3 w4 n s3 f4 h g3 e4 in
+      let g5 = next w4 w5 n s4 f5 h g4 e5 in
+      ap (λ (w : WorldValue). w.slots) e6
+      ∙ (λ i. (with_taken (with_new (new_slot (Filter (h i)) side.read side.write ∷ []) (g5 i)) (h i)).slots)
+      ∙ taken_behind s5 (new_slot (Filter place) side.read side.write)
+
+-- The next link
+
+module _ (o : ℕ) (S : List Slot) (K : List SideState) (slots : length S ≡ 4 * o) (sides : length K ≡ 2 * o)
+    (time : ℕ) (near far : NewSide) where
+  -- its bufferevents, and what is kept of its sides
+  abbrev pub more_slots : List Slot
+  more_slots = side_slots time near (4 * o) ++ side_slots time far (4 * o + 2)
+
+  abbrev pub more_sides : List SideState
+  more_sides = new_state near.connected ∷ new_state far.connected ∷ []
+
+  abbrev S3 : List Slot
+  S3 = S ++ more_slots
+
+  abbrev K3 : List SideState
+  K3 = K ++ more_sides
+
+  abbrev near_bevs : Bevs
+  near_bevs = record { lower = slice_index_or more_slots 0 no_slot; upper = slice_index_or more_slots 1 no_slot }
+
+  abbrev far_bevs : Bevs
+  far_bevs = record { lower = slice_index_or more_slots 2 no_slot; upper = slice_index_or more_slots 3 no_slot }
+
+  bevs_old : (m : ℕ) → m < 2 * o → bevs_at S3 m ≡ bevs_at S m
+  bevs_old m h =
+      let a = get_or_append_left S more_slots no_slot (lower_of m) (omega (arith, h, slots)) in
+      let b = get_or_append_left S more_slots no_slot (upper_of m) (omega (arith, h, slots)) in
+      λ i. record { lower = a i; upper = b i }
+
+  state_old : (m : ℕ) → m < 2 * o → state_at K3 m ≡ state_at K m
+  state_old m h = get_or_append_left K more_sides (new_state true) m (omega (arith, h, sides))
+
+  slot_new : (j k : ℕ) → k ≡ length S + j → slice_index_or S3 k no_slot ≡ slice_index_or more_slots j no_slot
+  slot_new j k e = ap (λ n. slice_index_or S3 n no_slot) e ∙ get_or-append-add S more_slots j no_slot
+
+  state_new : (j k : ℕ) → k ≡ length K + j → state_at K3 k ≡ state_at more_sides j
+  state_new j k e = ap (state_at K3) e ∙ get_or-append-add K more_sides j (new_state true)
+
+  bevs_near : bevs_at S3 (2 * o) ≡ near_bevs
+  bevs_near =
+      let a = slot_new 0 (lower_of (2 * o)) (omega (arith, slots)) in
+      let b = slot_new 1 (upper_of (2 * o)) (omega (arith, slots)) in
+      λ i. record { lower = a i; upper = b i }
+
+  bevs_far : bevs_at S3 (2 * o + 1) ≡ far_bevs
+  bevs_far =
+      let a = slot_new 2 (lower_of (2 * o + 1)) (omega (arith, slots)) in
+      let b = slot_new 3 (upper_of (2 * o + 1)) (omega (arith, slots)) in
+      λ i. record { lower = a i; upper = b i }
+
+  state_near : state_at K3 (2 * o) ≡ new_state near.connected
+  state_near = state_new 0 (2 * o) (omega (arith, sides))
+
+  state_far : state_at K3 (2 * o + 1) ≡ new_state far.connected
+  state_far = state_new 1 (2 * o + 1) (omega (arith, sides))
+
+  twin_near : twin (2 * o) ≡ 2 * o + 1
+  twin_near = omega arith
+
+  twin_far : twin (2 * o + 1) ≡ 2 * o
+  twin_far = omega arith
+
+  twin_old : (m : ℕ) → m < 2 * o → twin m < 2 * o
+  twin_old m h = omega (arith, h)
+
+  flow_old : (m : ℕ) → m < 2 * o → flow_at S3 K3 m ≡ flow_at S K m
+  flow_old m h = λ i. flow_of (bevs_old m h i) (bevs_old (twin m) (twin_old m h) i) (state_old m h i)
+
+  lane_old : (m : ℕ) → m < 2 * o → lane_at S3 K3 m ≡ lane_at S K m
+  lane_old m h = λ i. lane_of (bevs_old m h i) (bevs_old (twin m) (twin_old m h) i) (state_old m h i)
+
+  other_near : bevs_at S3 (twin (2 * o)) ≡ far_bevs
+  other_near = ap (bevs_at S3) twin_near ∙ bevs_far
+
+  other_far : bevs_at S3 (twin (2 * o + 1)) ≡ near_bevs
+  other_far = ap (bevs_at S3) twin_far ∙ bevs_near
+
+  flow_near : flow_at S3 K3 (2 * o) ≡ no_flow
+  flow_near = λ i. flow_of (bevs_near i) (other_near i) (state_near i)
+
+  flow_far : flow_at S3 K3 (2 * o + 1) ≡ no_flow
+  flow_far = λ i. flow_of (bevs_far i) (other_far i) (state_far i)
+
+  lane_near : lane_at S3 K3 (2 * o) ≡ fresh_lane near.read far.write
+  lane_near = λ i. lane_of (bevs_near i) (other_near i) (state_near i)
+
+  lane_far : lane_at S3 K3 (2 * o + 1) ≡ fresh_lane far.read near.write
+  lane_far = λ i. lane_of (bevs_far i) (other_far i) (state_far i)
+
+  side_near : plain_at S3 K3 (2 * o) ≡ opening_side time near
+  side_near = λ i. plain_side (bevs_near i).lower.bev (state_near i)
+
+  side_far : plain_at S3 K3 (2 * o + 1) ≡ opening_side time far
+  side_far = λ i. plain_side (bevs_far i).lower.bev (state_far i)
+
+  two_more : 2 * (o + 1) ≡ suc (suc (2 * o))
+  two_more = omega arith
+
+  last_one : suc (2 * o) ≡ 2 * o + 1
+  last_one = omega arith
+
+  more : {A : Type 0} (f g : ℕ → A) (a b : A) → ((m : ℕ) → m < 2 * o → g m ≡ f m) → g (2 * o) ≡ a → g (2 * o + 1) ≡ b →
+      tabulate g (2 * (o + 1)) ≡ tabulate f (2 * o) ++ a ∷ b ∷ []
+  more f g a b old p q =
+      ap (tabulate g) two_more ∙ tabulate-more f g (2 * o) old
+      ∙ (λ i. tabulate f (2 * o) ++ p i ∷ (ap g last_one ∙ q) i ∷ [])
+
+  pub links_more : links_of (o + 1) S3 K3 ≡ with_link time near far (links_of o S K)
+  links_more =
+      let x = more (plain_at S K) (plain_at S3 K3) (opening_side time near) (opening_side time far)
+      (λ m h. λ i. plain_side (bevs_old m h i).lower.bev (state_old m h i)) side_near side_far in
+      let f = more (flow_at S K) (flow_at S3 K3) no_flow no_flow flow_old flow_near flow_far in
+      let l = more (lane_at S K) (lane_at S3 K3) (fresh_lane near.read far.write) (fresh_lane far.read near.write) lane_old lane_near lane_far in
+      λ i. record { opened = o + 1; sides = x i; flows = f i; lanes = l i }
+
+  -- which of three a number is
+  by_place : (P : ℕ → Type 0) → ((m : ℕ) → m < 2 * o → P m) → P (2 * o) → P (2 * o + 1) → (m : ℕ) → m < 2 * (o + 1) → P m
+  by_place P old a b m h = go (m == 2 * o) refl
+    where
+      rest : m ≢ 2 * o → (t : Bool) → (m == 2 * o + 1) ≡ t → P m
+      rest d true e = subst P (sym (eqb-true m (2 * o + 1) e)) b
+      rest d false e = old m (omega (arith, h, d, eqb-false m (2 * o + 1) e))
+
+      go : (t : Bool) → (m == 2 * o) ≡ t → P m
+      go true e = subst P (sym (eqb-true m (2 * o) e)) a
+      go false e = rest (eqb-false m (2 * o) e) (m == 2 * o + 1) refl
+
+  pub filters_more : ((m : ℕ) → m < 2 * o → (bevs_at S m).upper.kind ≡ Filter (lower_of m)) →
+      (m : ℕ) → m < 2 * (o + 1) → (bevs_at S3 m).upper.kind ≡ Filter (lower_of m)
+  filters_more all =
+      let a : 4 * o ≡ lower_of (2 * o) = omega arith in
+      let b : 4 * o + 2 ≡ lower_of (2 * o + 1) = omega arith in
+      by_place (λ m. (bevs_at S3 m).upper.kind ≡ Filter (lower_of m))
+      (λ m h. ap (λ (x : Bevs). x.upper.kind) (bevs_old m h) ∙ all m h)
+      (ap (λ (x : Bevs). x.upper.kind) bevs_near ∙ ap Filter a) (ap (λ (x : Bevs). x.upper.kind) bevs_far ∙ ap Filter b)
+
+  none_counted : (l : Lane) → length l.buffers.raw_input ≡ 0 → length l.buffers.input ≡ 0 → length l.buffers.output ≡ 0 →
+      length l.buffers.raw_output ≡ 0 → IsCounted no_flow l
+  none_counted l a b d e = record {
+    used = omega (arith, a);
+    moved = omega (arith, b);
+    turned = omega (arith, d);
+    given = omega (arith, e);
+  }
+
+  counted_as : (m : ℕ) (f : Flow) (l : Lane) → flow_at S3 K3 m ≡ f → lane_at S3 K3 m ≡ l → IsCounted f l →
+      IsCounted (flow_at S3 K3 m) (lane_at S3 K3 m)
+  counted_as m f l p q k = subst (λ (y : Lane). IsCounted (flow_at S3 K3 m) y) (sym q) (subst (λ (x : Flow). IsCounted x l) (sym p) k)
+
+  pub counted_more : ((m : ℕ) → m < 2 * o → IsCounted (flow_at S K m) (lane_at S K m)) →
+      (m : ℕ) → m < 2 * (o + 1) → IsCounted (flow_at S3 K3 m) (lane_at S3 K3 m)
+  counted_more all =
+      by_place (λ m. IsCounted (flow_at S3 K3 m) (lane_at S3 K3 m))
+      (λ m h. counted_as m (flow_at S K m) (lane_at S K m) (flow_old m h) (lane_old m h) (all m h))
+      (counted_as (2 * o) no_flow (fresh_lane near.read far.write) flow_near lane_near
+      (none_counted (fresh_lane near.read far.write) refl refl refl refl))
+      (counted_as (2 * o + 1) no_flow (fresh_lane far.read near.write) flow_far lane_far
+      (none_counted (fresh_lane far.read near.write) refl refl refl refl))
+
+  -- room was made only for a read of a side that there is
+  pub read_more : (ready beside count : ℕ) → 0 < count → CanRead (bevs_at S ready) (state_at K ready) beside count →
+      CanRead (bevs_at S3 ready) (state_at K3 ready) beside count
+  read_more ready beside count some can = go (nat_lt ready (2 * o)) refl
+    where
+      go : (t : Bool) → nat_lt ready (2 * o) ≡ t → CanRead (bevs_at S3 ready) (state_at K3 ready) beside count
+      go true e =
+          let h : ready < 2 * o = ltb-true ready (2 * o) e in
+          subst (λ (x : SideState). CanRead (bevs_at S3 ready) x beside count) (sym (state_old ready h))
+          (subst (λ (x : Bevs). CanRead x (state_at K ready) beside count) (sym (bevs_old ready h)) can)
+      go false e =
+          let h : 2 * o ≤ ready = ltb-false ready (2 * o) e in
+          let none : (bevs_at S ready).lower.bev.input.spare ≡ 0 =
+          ap (λ (x : Slot). x.bev.input.spare) (get_or_past S (lower_of ready) no_slot (omega (arith, h, slots))) in
+          absurd (omega (arith, some, none, can.kept))
+
+-- What the code keeps stays sound where its slots, its states and the rest are as they were.
+pub sound_kept : (r : Inside) (w : WorldValue) (k : Vec SideState) → w.slots ≡ r.world.slots → k.items ≡ r.sides.items → AreSides r →
+    AreSides (record r { world = w; sides = k })
+sound_kept r w k a b sound = record {
+  slots = ap length a ∙ sound.slots;
+  sides = ap length b ∙ sound.sides;
+  filters = λ n h. ap (λ (S : List Slot). (bevs_at S n).upper.kind) a ∙ sound.filters n h;
+  counted = λ n h.
+      subst (λ (K : List SideState). IsCounted (flow_at w.slots K n) (lane_at w.slots K n)) (sym b)
+      (subst (λ (S : List Slot). IsCounted (flow_at S r.sides.items n) (lane_at S r.sides.items n)) (sym a) (sound.counted n h));
+  read_room = λ h.
+      subst (λ (K : List SideState). CanRead (bevs_at w.slots r.ready) (state_at K r.ready) (vec_capacity r.beside) r.readable) (sym b)
+      (subst (λ (S : List Slot). CanRead (bevs_at S r.ready) (state_at r.sides.items r.ready) (vec_capacity r.beside) r.readable) (sym a)
+      (sound.read_room h));
+}
+
+-- and so it does where a link was opened
+pub sound_more : (r : Inside) (w : WorldValue) (k : Vec SideState) (time : ℕ) (near far : NewSide) (sound : AreSides r) →
+    w.slots ≡ r.world.slots ++ more_slots r.opened r.world.slots r.sides.items sound.slots sound.sides time near far →
+    k.items ≡ r.sides.items ++ more_sides r.opened r.world.slots r.sides.items sound.slots sound.sides time near far →
+    AreSides (record r { opened = r.opened + 1; world = w; sides = k })
+sound_more r w k time near far sound a b =
+    let S : List Slot = r.world.slots in
+    let K : List SideState = r.sides.items in
+    let more = more_slots r.opened S K sound.slots sound.sides time near far in
+    let states = more_sides r.opened S K sound.slots sound.sides time near far in
+    record {
+      slots = ap length a ∙ length-append S more ∙ (let h : length S + 4 ≡ 4 * (r.opened + 1) = omega (arith, sound.slots) in h);
+      sides = ap length b ∙ length-append K states ∙ (let h : length K + 2 ≡ 2 * (r.opened + 1) = omega (arith, sound.sides) in h);
+      filters = λ n h.
+          ap (λ (S : List Slot). (bevs_at S n).upper.kind) a
+          ∙ filters_more r.opened S K sound.slots sound.sides time near far sound.filters n h;
+      counted = λ n h.
+          subst (λ (K : List SideState). IsCounted (flow_at w.slots K n) (lane_at w.slots K n)) (sym b)
+          (subst (λ (S : List Slot). IsCounted (flow_at S (K ++ states) n) (lane_at S (K ++ states) n)) (sym a)
+          (counted_more r.opened S K sound.slots sound.sides time near far sound.counted n h));
+      read_room = λ h.
+          subst (λ (K : List SideState). CanRead (bevs_at w.slots r.ready) (state_at K r.ready) (vec_capacity r.beside) r.readable) (sym b)
+          (subst (λ (S : List Slot). CanRead (bevs_at S r.ready) (state_at (K ++ states) r.ready) (vec_capacity r.beside) r.readable) (sym a)
+          (read_more r.opened S K sound.slots sound.sides time near far r.ready (vec_capacity r.beside) r.readable h (sound.read_room h)));
+    }
+
+-- the two sides' bufferevents together
+pub slots_joined : (S S1 S2 : List Slot) (o time : ℕ) (near far : NewSide) → length S ≡ 4 * o →
+    S1 ≡ S ++ side_slots time near (length S) → S2 ≡ S1 ++ side_slots time far (length S1) →
+    S2 ≡ S ++ (side_slots time near (4 * o) ++ side_slots time far (4 * o + 2))
+slots_joined S S1 S2 o time near far h a b =
+    let n : length S1 ≡ 4 * o + 2 = ap length a ∙ length-append S (side_slots time near (length S)) ∙ ap (λ k. k + 2) h in
+    b ∙ (λ i. (a ∙ ap (λ k. S ++ side_slots time near k) h) i ++ side_slots time far (n i))
+    ∙ append_assoc S (side_slots time near (4 * o)) (side_slots time far (4 * o + 2))
+
+-- what was pushed stands behind the others
+pub pushed : {T E : Type 0} (r : Result T E) (x : T) (K K1 : List SideState) (s : SideState) → r ≡ Ok x →
+    K1 ≡ (if is_ok r then K ++ s ∷ [] else K) → K1 ≡ K ++ s ∷ []
+pushed r x K K1 s e h = h ∙ ap (λ z. if is_ok z then K ++ s ∷ [] else K) e
+
+-- what is kept of the two sides together
+pub states_joined : (K K1 K2 : List SideState) (a b x y : SideState) → a ≡ x → b ≡ y → K1 ≡ K ++ a ∷ [] → K2 ≡ K1 ++ b ∷ [] →
+    K2 ≡ K ++ x ∷ y ∷ []
+states_joined K K1 K2 a b x y p q h k =
+    k ∙ (λ i. h i ++ b ∷ []) ∙ append_assoc K (a ∷ []) (b ∷ []) ∙ (λ i. K ++ p i ∷ q i ∷ [])

@@ -1,0 +1,72 @@
+use Rattle.std.proofs.Common.{ℕ, ◌-◌, ◌<◌, ◌≤◌, length, sym, ap, subst, arith}
+use Rattle.token_bucket.specs.declared.limit.Dir.TheVariants.{Read}
+use Rattle.ev_types.specs.Sides.{number}
+use Rattle.bev_core.specs.Steps.{touched, pushed}
+use Rattle.bev_world.specs.WorldValue.{bev_at}
+use Rattle.relay_sides.proofs.BevsLemmas.{number-lt}
+use Rattle.relay_sides.proofs.SidesLemmas.{here, state_found}
+use Rattle.relay_sides.proofs.ServeLemmas.{lower_changed, state_changed, can_read, state_brought, brought-links, brought-sound, brought-room}
+use Rattle.relay_sides.proofs.sides.Sides.bring.Goals as goal
+
+pub bring_at-requires-clause-room : goal.bring_at-requires-clause-room
+bring_at-requires-clause-room c =
+    let r = c.self.inside in
+    let can = can_read c.args.self.now r c.self.view_is c.args.side c.requires.opened c.self.invariant (length c.args.bytes.now)
+    c.requires.some c.requires.room in
+    subst (λ (z : ℕ). length c.args.bytes.now ≤ (bev_at r.world z).input.spare) (sym c.lower.ensures) can.kept
+
+pub overflow_add-own : goal.overflow_add-own
+overflow_add-own c =
+    let r = c.self.inside in
+    let e = c.args.side in
+    let can = can_read c.args.self.now r c.self.view_is e c.requires.opened c.self.invariant (length c.args.bytes.now)
+    c.requires.some c.requires.room in
+    let lt = number-lt e r.opened (here c.args.self.now r c.self.view_is e c.requires.opened) in
+    let s = state_found r.sides.items (number e) c.number.result c.index_mut-own.result.now c.number.ensures c.index_mut-own.ensures.value
+    (omega (arith, lt, c.self.invariant.sides)) in
+    omega (arith, can.counted, ap (λ z. z.read) s)
+
+pub invariant_of-self : goal.invariant_of-self
+invariant_of-self c =
+    let r = c.self.inside in
+    let e = c.args.side in
+    let lt = number-lt e r.opened (here c.args.self.now r c.self.view_is e c.requires.opened) in
+    let lt2 : number e < length r.sides.items = omega (arith, lt, c.self.invariant.sides) in
+    let x = state_found r.sides.items (number e) c.number.result c.index_mut-own.result.now c.number.ensures c.index_mut-own.ensures.value lt2 in
+    let p = lower_changed r.world c.bring_at.new.self (number e) c.lower.result
+    (λ s. record s { bev = touched (pushed s.bev c.args.bytes.now) Read c.args.time; room = s.room - length c.args.bytes.now })
+    c.lower.ensures (omega (arith, lt, c.self.invariant.slots)) c.bring_at.ensures in
+    let q = state_changed r.sides.items (number e) c.number.result (state_brought c.args.bytes.now) _ c.number.ensures lt2
+    (ap (state_brought c.args.bytes.now) x) in
+    let s = brought-sound c.args.self.now r c.self.view_is e c.requires.opened c.self.invariant c.args.bytes.now c.args.time _ _ p q in
+    record { slots = s.slots; sides = s.sides; filters = s.filters; counted = s.counted; read_room = λ h. absurd (omega (arith, h)) }
+
+pub returns-clause-links : goal.returns-clause-links
+returns-clause-links c =
+    let r = c.self.inside in
+    let e = c.args.side in
+    let lt = number-lt e r.opened (here c.args.self.now r c.self.view_is e c.requires.opened) in
+    let lt2 : number e < length r.sides.items = omega (arith, lt, c.self.invariant.sides) in
+    let x = state_found r.sides.items (number e) c.number.result c.index_mut-own.result.now c.number.ensures c.index_mut-own.ensures.value lt2 in
+    let p = lower_changed r.world c.bring_at.new.self (number e) c.lower.result
+    (λ s. record s { bev = touched (pushed s.bev c.args.bytes.now) Read c.args.time; room = s.room - length c.args.bytes.now })
+    c.lower.ensures (omega (arith, lt, c.self.invariant.slots)) c.bring_at.ensures in
+    let q = state_changed r.sides.items (number e) c.number.result (state_brought c.args.bytes.now) _ c.number.ensures lt2
+    (ap (state_brought c.args.bytes.now) x) in
+    brought-links c.args.self.now r c.self.view_is e c.requires.opened c.self.invariant c.args.bytes.now c.args.time _ _ p q
+
+pub returns-clause-room : goal.returns-clause-room
+returns-clause-room c =
+    let r = c.self.inside in
+    let e = c.args.side in
+    let lt = number-lt e r.opened (here c.args.self.now r c.self.view_is e c.requires.opened) in
+    let lt2 : number e < length r.sides.items = omega (arith, lt, c.self.invariant.sides) in
+    let x = state_found r.sides.items (number e) c.number.result c.index_mut-own.result.now c.number.ensures c.index_mut-own.ensures.value lt2 in
+    let p = lower_changed r.world c.bring_at.new.self (number e) c.lower.result
+    (λ s. record s { bev = touched (pushed s.bev c.args.bytes.now) Read c.args.time; room = s.room - length c.args.bytes.now })
+    c.lower.ensures (omega (arith, lt, c.self.invariant.slots)) c.bring_at.ensures in
+    let q = state_changed r.sides.items (number e) c.number.result (state_brought c.args.bytes.now) _ c.number.ensures lt2
+    (ap (state_brought c.args.bytes.now) x) in
+    let can = can_read c.args.self.now r c.self.view_is e c.requires.opened c.self.invariant (length c.args.bytes.now)
+    c.requires.some c.requires.room in
+    brought-room c.args.self.now r c.self.view_is e c.requires.opened c.self.invariant c.args.bytes.now c.args.time _ _ p q can

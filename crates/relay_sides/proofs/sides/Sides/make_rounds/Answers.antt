@@ -1,0 +1,151 @@
+use Rattle.std.proofs.Common.{◌≡◌, suc, ◌<◌, true, false, inl, inr, sym, ◌∙◌, ap, subst, refl}
+use Rattle.ev_types.specs.declared.side.SideId.{SideId}
+use Rattle.relay_state.specs.Passage.{Passage}
+use Rattle.relay_sides.specs.Links.{Links, passage_at, with_passage}
+use Rattle.relay_sides.specs.Pairs.{HasPairs}
+use Rattle.relay_sides.specs.Reach.{reached_of, round_by}
+use Rattle.relay_sides.proofs.LinksLemmas.{passage_put, with_twice}
+use Rattle.relay_sides.proofs.RoundLemmas.{weight, round_falls, round_over, rounds-suc, Went, went-apart, went_next}
+use Rattle.relay_sides.proofs.RoundParts.{pairs_back}
+use Rattle.relay_sides.proofs.sides.Sides.make_rounds.Goals as goal
+
+-- the link is open all along
+rounds_open : (old l m : Links) (e : SideId) (x : Passage) → l ≡ with_passage e x old → m ≡ l → e.link < old.opened → e.link < m.opened
+rounds_open old l m e x frame same h = subst (λ n. e.link < n) (sym (ap (λ (z : Links). z.opened) (same ∙ frame))) h
+
+made_once : (m n : Links) (e : SideId) → HasPairs m → e.link < m.opened → (x : Passage) → n ≡ with_passage e x m → passage_at n e ≡ x
+made_once m n e pairs opened x is = ap (λ (z : Links). passage_at z e) is ∙ passage_put m e pairs opened x
+
+framed : (old l m n : Links) (e : SideId) → l ≡ with_passage e (passage_at l e) old → m ≡ l → HasPairs m → e.link < old.opened →
+    (x : Passage) → n ≡ with_passage e x m → passage_at n e ≡ x → n ≡ with_passage e (passage_at n e) old
+framed old l m n e frame same pairs opened x is once =
+    let there : m ≡ with_passage e (passage_at l e) old = same ∙ frame in
+    is ∙ ap (with_passage e x) there
+    ∙ with_twice old e (pairs_back old m e (passage_at l e) there pairs) opened (passage_at l e) x
+    ∙ ap (λ z. with_passage e z old) (sym once)
+
+pub returns-then-is_same-clause-frame : goal.returns-then-is_same-clause-frame
+returns-then-is_same-clause-frame c =
+    let t = c.args.terms in
+    let e = c.args.from in
+    let old = c.args.self.now.links in
+    let l = c.loop-self.self.links in
+    let m = c.reserve_round.new.self.links in
+    let n = c.make_round.new.self.links in
+    let begun = c.in_ok-reserve_round.ensures.links in
+    let pairs = c.reached-before.ensures.pairs in
+    let opened = rounds_open old l m e (passage_at l e) c.loop-self.invariant.frame begun c.requires in
+    let once = made_once m n e pairs opened (round_by t (passage_at m e)) c.make_round.ensures in
+    let from : passage_at m e ≡ passage_at l e = ap (λ (z : Links). passage_at z e) begun in
+    framed old l m n e c.loop-self.invariant.frame begun pairs c.requires (round_by t (passage_at m e)) c.make_round.ensures once
+
+pub returns-then-is_same-clause-passage : goal.returns-then-is_same-clause-passage
+returns-then-is_same-clause-passage c =
+    let t = c.args.terms in
+    let e = c.args.from in
+    let old = c.args.self.now.links in
+    let l = c.loop-self.self.links in
+    let m = c.reserve_round.new.self.links in
+    let n = c.make_round.new.self.links in
+    let begun = c.in_ok-reserve_round.ensures.links in
+    let pairs = c.reached-before.ensures.pairs in
+    let opened = rounds_open old l m e (passage_at l e) c.loop-self.invariant.frame begun c.requires in
+    let once = made_once m n e pairs opened (round_by t (passage_at m e)) c.make_round.ensures in
+    let from : passage_at m e ≡ passage_at l e = ap (λ (z : Links). passage_at z e) begun in
+    let still : passage_at n e ≡ passage_at m e =
+    round_over t.mark t.hold t.ended t.from_live t.to_live (passage_at m e) (passage_at n e) c.reached-before.ensures.told once
+    (sym c.reached.ensures.reached ∙ c.if-is_same.ensures.0 refl ∙ c.reached-before.ensures.reached) in
+    let some = c.loop-self.invariant.some in (
+      some.0,
+      still ∙ from ∙ some.1,
+      ap (round_by t) still ∙ sym once,
+    )
+
+-- the last round changed nothing
+pub returns-then-is_same-clause-still : goal.returns-then-is_same-clause-still
+returns-then-is_same-clause-still c = λ h.
+    let t = c.args.terms in
+    let e = c.args.from in
+    let old = c.args.self.now.links in
+    let l = c.loop-self.self.links in
+    let m = c.reserve_round.new.self.links in
+    let n = c.make_round.new.self.links in
+    let begun = c.in_ok-reserve_round.ensures.links in
+    let pairs = c.reached-before.ensures.pairs in
+    let opened = rounds_open old l m e (passage_at l e) c.loop-self.invariant.frame begun c.requires in
+    let once = made_once m n e pairs opened (round_by t (passage_at m e)) c.make_round.ensures in
+    let from : passage_at m e ≡ passage_at l e = ap (λ (z : Links). passage_at z e) begun in
+    let still : passage_at n e ≡ passage_at m e =
+    round_over t.mark t.hold t.ended t.from_live t.to_live (passage_at m e) (passage_at n e) c.reached-before.ensures.told once
+    (sym c.reached.ensures.reached ∙ c.if-is_same.ensures.0 refl ∙ c.reached-before.ensures.reached) in
+    let none : c.loop-self.changed ≡ false = cc in
+    still ∙ from ∙ c.loop-self.invariant.still none
+
+pub returns-then-is_same-clause-apart : goal.returns-then-is_same-clause-apart
+returns-then-is_same-clause-apart c = λ h.
+    let t = c.args.terms in
+    let e = c.args.from in
+    let old = c.args.self.now.links in
+    let l = c.loop-self.self.links in
+    let m = c.reserve_round.new.self.links in
+    let n = c.make_round.new.self.links in
+    let begun = c.in_ok-reserve_round.ensures.links in
+    let pairs = c.reached-before.ensures.pairs in
+    let opened = rounds_open old l m e (passage_at l e) c.loop-self.invariant.frame begun c.requires in
+    let once = made_once m n e pairs opened (round_by t (passage_at m e)) c.make_round.ensures in
+    let from : passage_at m e ≡ passage_at l e = ap (λ (z : Links). passage_at z e) begun in
+    let some : c.loop-self.changed ≡ true = cc in
+    λ eq. went-apart t.hold (passage_at old e) (passage_at l e) (c.loop-self.invariant.went some)
+    (ap reached_of (sym from)
+    ∙ sym (sym c.reached.ensures.reached ∙ c.if-is_same.ensures.0 refl ∙ c.reached-before.ensures.reached) ∙ eq)
+
+pub loop-self-smaller : goal.loop-self-smaller
+loop-self-smaller c =
+    let t = c.args.terms in
+    let e = c.args.from in
+    let old = c.args.self.now.links in
+    let l = c.loop-self.self.links in
+    let m = c.reserve_round.new.self.links in
+    let n = c.make_round.new.self.links in
+    let begun = c.in_ok-reserve_round.ensures.links in
+    let pairs = c.reached-before.ensures.pairs in
+    let opened = rounds_open old l m e (passage_at l e) c.loop-self.invariant.frame begun c.requires in
+    let once = made_once m n e pairs opened (round_by t (passage_at m e)) c.make_round.ensures in
+    let from : passage_at m e ≡ passage_at l e = ap (λ (z : Links). passage_at z e) begun in
+    let h = t.hold in
+    elim (round_falls t.mark h t.ended t.from_live t.to_live (passage_at m e) c.reached-before.ensures.told) [
+      | inl same ↦ absurd (
+          let counts = c.reached.ensures.reached ∙ ap reached_of (once ∙ same) ∙ sym c.reached-before.ensures.reached in
+          let w : false ≡ true = c.if-is_same.ensures.1 counts in cc)
+      | inr falls ↦ subst (λ k. weight h (passage_at n e) < k) (ap (weight h) from)
+          (subst (λ k. k < weight h (passage_at m e)) (sym (ap (weight h) once)) falls.0)
+    ]
+
+pub loop-self-preserved : goal.loop-self-preserved
+loop-self-preserved c =
+    let t = c.args.terms in
+    let e = c.args.from in
+    let old = c.args.self.now.links in
+    let l = c.loop-self.self.links in
+    let m = c.reserve_round.new.self.links in
+    let n = c.make_round.new.self.links in
+    let begun = c.in_ok-reserve_round.ensures.links in
+    let pairs = c.reached-before.ensures.pairs in
+    let opened = rounds_open old l m e (passage_at l e) c.loop-self.invariant.frame begun c.requires in
+    let once = made_once m n e pairs opened (round_by t (passage_at m e)) c.make_round.ensures in
+    let from : passage_at m e ≡ passage_at l e = ap (λ (z : Links). passage_at z e) begun in
+    let some = c.loop-self.invariant.some in
+    record {
+      frame = framed old l m n e c.loop-self.invariant.frame begun pairs c.requires (round_by t (passage_at m e)) c.make_round.ensures once;
+      some = (
+        suc some.0,
+        once ∙ ap (round_by t) (from ∙ some.1) ∙ sym (rounds-suc some.0 (round_by t) (passage_at old e)),
+      );
+      still = λ eq. absurd (let wrong : true ≡ false = eq in cc);
+      went = λ _. went_next t.mark t.hold t.ended t.from_live t.to_live c.loop-self.changed
+          (passage_at old e) (passage_at m e) (passage_at n e)
+          (λ eq. from ∙ c.loop-self.invariant.still eq)
+          (λ eq. subst (Went t.hold (passage_at old e)) (sym from) (c.loop-self.invariant.went eq))
+          c.reached-before.ensures.told once
+          (λ eq. absurd (let wrong : false ≡ true = c.if-is_same.ensures.1 (c.reached.ensures.reached ∙ eq ∙ sym c.reached-before.ensures.reached) in cc));
+    }

@@ -1,0 +1,16 @@
+use Rattle.std.proofs.Common.{length, ap, sym, ◌∙◌}
+use Rattle.ev_types.specs.Sides.{number}
+use Rattle.relay_state.specs.State.{Lane}
+use Rattle.bev_core.specs.BevValue.{BevValue}
+use Rattle.relay_sides.specs.Bevs.{lower_of, twin}
+use Rattle.relay_sides.proofs.SidesLemmas.{lane_seen, lower_found, peer_number}
+use Rattle.relay_sides.proofs.sides.Sides.raw_output_len.Goals as goal
+
+pub returns : goal.returns
+returns c =
+    let r = c.self.inside in
+    let e = c.args.from in
+    let b = lower_found r.world (twin (number e)) c.lower.result c.bev.result.now
+    (c.lower.ensures ∙ ap lower_of (peer_number e c.peer.result c.peer.ensures)) c.bev.ensures in
+    c.output_len.ensures.len ∙ ap (λ (x : BevValue). length x.output.bytes) b
+    ∙ ap (λ (l : Lane). length l.buffers.raw_output) (sym (lane_seen c.args.self.now r c.self.view_is e c.requires))

@@ -1,0 +1,27 @@
+-- The two bufferevents of a side whose link opens.
+use Rattle.std.specs.Prelude.{ℕ, true, List, [], ◌∷◌}
+use Rattle.ev_types.specs.declared.filter.FilterKind.TheVariants.{None}
+use Rattle.bev_core.specs.BevValue.{BevValue, new_bev}
+use Rattle.bev_world.specs.WorldValue.{new_slot}
+use Rattle.bev_world.specs.declared.slot.Slot.{Slot}
+use Rattle.bev_world.specs.declared.slot.Kind.TheVariants.{Socket, Filter}
+use Rattle.relay_sides.specs.declared.opening.NewSide.{NewSide}
+
+-- that of its end: both directions are enabled, and were active when the link opened
+abbrev pub opening_bev : ℕ → NewSide → BevValue
+opening_bev time side = record new_bev {
+  reading = true;
+  read_low = side.marks.read_low;
+  read_high = side.marks.read_high;
+  write_low = side.marks.write_low;
+  write_high = side.marks.write_high;
+  read_ms = side.timeouts.read_ms;
+  write_ms = side.timeouts.write_ms;
+  last_read = time;
+  last_write = time;
+}
+
+-- both, the first of which has this number; the second is a filter over it
+abbrev pub side_slots : ℕ → NewSide → ℕ → List Slot
+side_slots time side n =
+    record (new_slot Socket None None) { bev = opening_bev time side; taken = true } ∷ new_slot (Filter n) side.read side.write ∷ []
