@@ -21,3 +21,6 @@ pub use opening::NewSide;
 pub use relay_settings::{Marks, Timeouts};
 pub use side::MOST_AT_ONCE;
 pub use sides::Sides;
+
+#[cfg(test)]
+mod tests;
