@@ -21,7 +21,7 @@ use Rattle.relay_sides.specs.Bevs.{Bevs, bevs_at, lower_of, upper_of, twin}
 use Rattle.relay_sides.specs.Table.{tabulate}
 use Rattle.relay_sides.specs.Links as links
 use Rattle.relay_sides.specs.Links.{Links}
-use Rattle.relay_sides.specs.Rooms.{input_room, raw_output_room, HasInputRoom, HasOutputRoom}
+use Rattle.relay_sides.specs.Rooms.{output_room, raw_input_room, input_room, raw_output_room, HasInputRoom, HasOutputRoom}
 use Rattle.relay_sides.specs.SideView.{state_at, plain_at, flow_at, lane_at, plain_side}
 use Rattle.relay_sides.specs.SidesView.{links_of, rooms_of, AreSides, IsCounted}
 use Rattle.relay_sides.specs.declared.sides.Sides.TheInside.{Inside}
@@ -146,6 +146,12 @@ module _ (opened : ℕ) (S : List Slot) (K : List SideState) (e : SideId) (h : e
 
   pub input_room_is : (beside : ℕ) → input_room (rooms_of opened S beside) e ≡ (bevs_at S (number e)).upper.bev.input.spare
   input_room_is beside = get-tabulate (λ n. (bevs_at S n).upper.bev.input.spare) (2 * opened) (number e) 0 (number-lt e opened h)
+
+  pub raw_input_room_is : (beside : ℕ) → raw_input_room (rooms_of opened S beside) e ≡ (bevs_at S (number e)).lower.bev.input.spare
+  raw_input_room_is beside = get-tabulate (λ n. (bevs_at S n).lower.bev.input.spare) (2 * opened) (number e) 0 (number-lt e opened h)
+
+  pub output_room_is : (beside : ℕ) → output_room (rooms_of opened S beside) e ≡ (bevs_at S (twin (number e))).upper.bev.output.spare
+  output_room_is beside = get-tabulate (λ n. (bevs_at S (twin n)).upper.bev.output.spare) (2 * opened) (number e) 0 (number-lt e opened h)
 
   pub raw_output_room_is : (beside : ℕ) →
       raw_output_room (rooms_of opened S beside) e ≡ (bevs_at S (twin (number e))).lower.bev.output.spare
@@ -288,6 +294,32 @@ module _ (w0 w1 w2 w3 w4 : WorldValue) (n t l u u2 l2 : ℕ) (la : l ≡ lower_o
       let p2 = ap (λ (z : WorldValue). (bevs_at z.slots n).upper) (two ∙ ap (roomless w1) ua)
       ∙ ap (λ (z : Bevs). z.upper) (set_upper-same w1.slots n (record s2 { bev = given_up s2.bev; room = 0 }) (omega (arith, nt, q1.count))) in
       subst (λ (z : Slot). length z.bev.input.bytes ≡ 0 → z.bev.input.spare ≡ 0) (sym (p4 ∙ p3 ∙ p2)) (without-spare s2.bev.input)
+
+  pub gave_raw_input_up : n ≢ t → length (bevs_at w4.slots n).lower.bev.input.bytes ≡ 0 → (bevs_at w4.slots n).lower.bev.input.spare ≡ 0
+  gave_raw_input_up apart =
+      let s4 = slot_at w3 (lower_of t) in
+      let s3 = slot_at w2 (upper_of t) in
+      let s2 = slot_at w1 (upper_of n) in
+      let s1 = slot_at w0 (lower_of n) in
+      let p4 = ap (λ (z : WorldValue). (bevs_at z.slots n).lower) (four ∙ ap (roomless w3) lb)
+      ∙ ap (λ (z : Bevs). z.lower) (set_lower-other w3.slots t (record s4 { bev = given_up s4.bev; room = 0 }) n apart) in
+      let p3 = ap (λ (z : WorldValue). (bevs_at z.slots n).lower) (three ∙ ap (roomless w2) ub)
+      ∙ ap (λ (z : Bevs). z.lower) (set_upper-other w2.slots t (record s3 { bev = given_up s3.bev; room = 0 }) n apart) in
+      let p2 = ap (λ (z : WorldValue). (bevs_at z.slots n).lower) (two ∙ ap (roomless w1) ua)
+      ∙ ap (λ (z : Bevs). z.lower) (set_upper-same w1.slots n (record s2 { bev = given_up s2.bev; room = 0 }) (omega (arith, nt, q1.count))) in
+      let p1 = ap (λ (z : WorldValue). (bevs_at z.slots n).lower) (one ∙ ap (roomless w0) la)
+      ∙ ap (λ (z : Bevs). z.lower) (set_lower-same w0.slots n (record s1 { bev = given_up s1.bev; room = 0 }) (omega (arith, nt))) in
+      subst (λ (z : Slot). length z.bev.input.bytes ≡ 0 → z.bev.input.spare ≡ 0) (sym (p4 ∙ p3 ∙ p2 ∙ p1)) (without-spare s1.bev.input)
+
+  pub gave_output_up : length (bevs_at w4.slots t).upper.bev.output.bytes ≡ 0 → (bevs_at w4.slots t).upper.bev.output.spare ≡ 0
+  gave_output_up =
+      let s4 = slot_at w3 (lower_of t) in
+      let s3 = slot_at w2 (upper_of t) in
+      let p4 = ap (λ (z : WorldValue). (bevs_at z.slots t).upper) (four ∙ ap (roomless w3) lb)
+      ∙ ap (λ (z : Bevs). z.upper) (set_lower-same w3.slots t (record s4 { bev = given_up s4.bev; room = 0 }) in3) in
+      let p3 = ap (λ (z : WorldValue). (bevs_at z.slots t).upper) (three ∙ ap (roomless w2) ub)
+      ∙ ap (λ (z : Bevs). z.upper) (set_upper-same w2.slots t (record s3 { bev = given_up s3.bev; room = 0 }) (omega (arith, tt, q1.count, q2.count))) in
+      subst (λ (z : Slot). length z.bev.output.bytes ≡ 0 → z.bev.output.spare ≡ 0) (sym (p4 ∙ p3)) (without-spare s3.bev.output)
 
   pub gave_raw_output_up : length (bevs_at w4.slots t).lower.bev.output.bytes ≡ 0 → (bevs_at w4.slots t).lower.bev.output.spare ≡ 0
   gave_raw_output_up =

@@ -6,15 +6,22 @@ use Rattle.stream_filters.specs.StepAnswers.{most_by_step}
 use Rattle.bev_filter.specs.StepRoom.{HasStepRoom}
 use Rattle.relay_sides.specs.Links.{Links, lane_at}
 
--- By the side at which a direction begins: how many bytes more its input takes, and how many its raw output; and how many can be made
--- beside the buffers.
+-- By the side at which a direction begins: how many bytes more each of its buffers takes; and how many can be made beside the buffers.
 pub record Rooms : Type 0 where
+  pub raw_inputs : List ℕ
   pub inputs : List ℕ
+  pub outputs : List ℕ
   pub raw_outputs : List ℕ
   pub beside : ℕ
 
+abbrev pub raw_input_room : Rooms → SideId → ℕ
+raw_input_room r e = slice_index_or r.raw_inputs (number e) 0
+
 abbrev pub input_room : Rooms → SideId → ℕ
 input_room r e = slice_index_or r.inputs (number e) 0
+
+abbrev pub output_room : Rooms → SideId → ℕ
+output_room r e = slice_index_or r.outputs (number e) 0
 
 abbrev pub raw_output_room : Rooms → SideId → ℕ
 raw_output_room r e = slice_index_or r.raw_outputs (number e) 0
@@ -51,3 +58,10 @@ pub record KeepsStartRoom (e : SideId) (old new : Rooms) : Type 0 where
 pub record KeepsEndRoom (e : SideId) (old new : Rooms) : Type 0 where
   pub raw_output : raw_output_room new e ≡ raw_output_room old e
   pub beside : old.beside ≤ new.beside
+
+-- a buffer of a direction that has no byte has no room
+pub record HasNoIdleRoom (k : Links) (r : Rooms) (e : SideId) : Type 0 where
+  pub raw_input : length (lane_at k e).buffers.raw_input ≡ 0 → raw_input_room r e ≡ 0
+  pub input : length (lane_at k e).buffers.input ≡ 0 → input_room r e ≡ 0
+  pub output : length (lane_at k e).buffers.output ≡ 0 → output_room r e ≡ 0
+  pub raw_output : length (lane_at k e).buffers.raw_output ≡ 0 → raw_output_room r e ≡ 0

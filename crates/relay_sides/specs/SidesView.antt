@@ -26,7 +26,9 @@ links_of opened slots sides = record {
 
 abbrev pub rooms_of : ℕ → List Slot → ℕ → Rooms
 rooms_of opened slots beside = record {
+  raw_inputs = tabulate (λ n. (bevs_at slots n).lower.bev.input.spare) (2 * opened);
   inputs = tabulate (λ n. (bevs_at slots n).upper.bev.input.spare) (2 * opened);
+  outputs = tabulate (λ n. (bevs_at slots (twin n)).upper.bev.output.spare) (2 * opened);
   raw_outputs = tabulate (λ n. (bevs_at slots (twin n)).lower.bev.output.spare) (2 * opened);
   beside = beside;
 }

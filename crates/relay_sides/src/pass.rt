@@ -5,7 +5,7 @@ ghost use Rattle.relay_model.specs.Filter.{or_else};
 ghost use Rattle.relay_state.specs.Passage.{hold_part, read_part, move_part, write_part, write_step, written_by, has_moved_all, Passed, SomeRounds};
 ghost use Rattle.relay_sides.specs.Links.{lane_at, flow_at, moved, passage_at, with_passage, IsTold, round_from, PassedFrom, PartlyPassed};
 ghost use Rattle.relay_sides.specs.Pairs.{HasPairs};
-ghost use Rattle.relay_sides.specs.Rooms.{HasInputRoom, HasOutputRoom, input_room, raw_output_room, most_input, most_offered, KeepsStartRoom, KeepsEndRoom};
+ghost use Rattle.relay_sides.specs.Rooms.{HasInputRoom, HasOutputRoom, HasNoIdleRoom, most_input, most_offered, KeepsStartRoom, KeepsEndRoom};
 ghost use Rattle.relay_sides.specs.Reach.{reached_of, round_by};
 
 use crate::side::{lower, upper};
@@ -339,8 +339,7 @@ impl Sides {
     fn give_up_rooms(&mut self, from: SideId)
         requires { from.link < self.old.links.opened }
         ensures links { self.new.links ≡ self.old.links }
-        ensures input { length (lane_at self.new.links from).buffers.input ≡ 0 → input_room self.new.rooms from ≡ 0 }
-        ensures raw_output { length (lane_at self.new.links from).buffers.raw_output ≡ 0 → raw_output_room self.new.rooms from ≡ 0 }
+        ensures rooms { HasNoIdleRoom self.new.links self.new.rooms from }
     {
         self.readable = 0;
         let to = from.peer();
@@ -380,6 +379,7 @@ impl Sides {
         ensures still { result ≡ Ok false → (self.new.links ≡ self.old.links)
             × (round_from hold self.old.links from (passage_at self.old.links from) ≡ passage_at self.old.links from) }
         ensures apart { result ≡ Ok true → self.new.links ≢ self.old.links }
+        ensures rooms { result ≡ Ok false → HasNoIdleRoom self.new.links self.new.rooms from }
     {
         let terms = self.terms(from, hold);
         let changed = self.make_rounds(from, terms)?;
