@@ -349,6 +349,27 @@ impl Sides {
         self.world.give_up_at(lower(to));
     }
 
+    /// Room that a pass left behind the moved bytes goes where the next read needs it, so that two rooms go round in a direction.
+    fn hand_room_back(&mut self, from: SideId)
+        requires { from.link < self.old.links.opened }
+        ensures { self.new.links ≡ self.old.links }
+    {
+        if self.raw_input_len(from) == 0 && self.own_output_len(from) == 0 {
+            self.exchange_rooms(from);
+        }
+    }
+
+    /// The raw input and the output, which have no byte, exchange their rooms.
+    fn exchange_rooms(&mut self, from: SideId)
+        requires opened { from.link < self.old.links.opened }
+        requires raw_input { length (lane_at self.old.links from).buffers.raw_input ≡ 0 }
+        requires output { length (lane_at self.old.links from).buffers.output ≡ 0 }
+        ensures { self.new.links ≡ self.old.links }
+    {
+        self.readable = 0;
+        self.world.move_at(lower(from), upper(from.peer()));
+    }
+
     /// What a round of the direction goes by.
     fn terms(&self, from: SideId, hold: u64) -> Terms
         requires { from.link < self.now.links.opened }
@@ -383,7 +404,9 @@ impl Sides {
     {
         let terms = self.terms(from, hold);
         let changed = self.make_rounds(from, terms)?;
-        if !changed {
+        if changed {
+            self.hand_room_back(from);
+        } else {
             self.give_up_rooms(from);
         }
         Ok(changed)

@@ -17,8 +17,8 @@ returns-in_err-changed-clause-passed c =
       c.in_err-changed.ensures.frame,
     )
 
-pub returns-then-not-changed-clause-passed : goal.returns-then-not-changed-clause-passed
-returns-then-not-changed-clause-passed c =
+pub returns-else-changed-clause-passed : goal.returns-else-changed-clause-passed
+returns-else-changed-clause-passed c =
     let e = c.args.from in
     let old = c.args.self.now.links in
     let mid = c.make_rounds.new.self.links in (
@@ -28,8 +28,8 @@ returns-then-not-changed-clause-passed c =
     )
 
 -- A round over what was not changed is the last one.
-pub returns-then-not-changed-clause-still : goal.returns-then-not-changed-clause-still
-returns-then-not-changed-clause-still c = λ h.
+pub returns-else-changed-clause-still : goal.returns-else-changed-clause-still
+returns-else-changed-clause-still c = λ h.
     let e = c.args.from in
     let old = c.args.self.now.links in
     let mid = c.make_rounds.new.self.links in
@@ -40,12 +40,12 @@ returns-then-not-changed-clause-still c = λ h.
       subst (λ x. round_from c.args.hold old e x ≡ x) same passed.2,
     )
 
-pub returns-else-not-changed-clause-passed : goal.returns-else-not-changed-clause-passed
-returns-else-not-changed-clause-passed c =
+pub returns-then-changed-clause-passed : goal.returns-then-changed-clause-passed
+returns-then-changed-clause-passed c =
     let e = c.args.from in
     let old = c.args.self.now.links in
-    let new = c.make_rounds.new.self.links in (
-      passage_at new e,
-      subst (λ (f : Passage → Passage). Passed f (passage_at old e) (passage_at new e)) c.terms-terms.ensures c.in_ok-changed.ensures.passage,
-      c.in_ok-changed.ensures.frame,
+    let mid = c.make_rounds.new.self.links in (
+      passage_at mid e,
+      subst (λ (f : Passage → Passage). Passed f (passage_at old e) (passage_at mid e)) c.terms-terms.ensures c.in_ok-changed.ensures.passage,
+      c.hand_room_back.ensures ∙ c.in_ok-changed.ensures.frame,
     )
