@@ -79,3 +79,23 @@ state_of bev = record {
   last_write = bev.last_write;
   refs = bev.refs;
 }
+
+-- whether a direction is enabled
+abbrev pub is_enabled : BevValue → Dir → Bool
+is_enabled bev Read = bev.reading
+is_enabled bev Write = bev.writing
+
+-- the high mark of a direction
+abbrev pub high_mark : BevValue → Dir → ℕ
+high_mark bev Read = bev.read_high
+high_mark bev Write = bev.write_high
+
+-- the timeout of a direction, in milliseconds
+abbrev pub timeout : BevValue → Dir → ℕ
+timeout bev Read = bev.read_ms
+timeout bev Write = bev.write_ms
+
+-- the moment of the last activity of a direction, in milliseconds
+abbrev pub last_activity : BevValue → Dir → ℕ
+last_activity bev Read = bev.last_read
+last_activity bev Write = bev.last_write

@@ -13,6 +13,7 @@ ghost use Rattle.bev_core.specs.Steps.{with_enabled, with_marks, with_timeouts, 
 ghost use Rattle.bev_core.specs.declared.fault.BevFault.TheVariants.{Memory};
 
 mod moves;
+mod readers;
 mod room;
 
 use crate::fault::BevFault;
@@ -150,7 +151,7 @@ impl Bev {
         ensures ok { OnOk result (self.new ≡ with_enabled self.old dir true) }
         ensures err { OnErr result (self.new ≡ self.old) }
     {
-        self.is_live()?;
+        self.check_live()?;
         self.set_enabled(dir, true);
         Ok(())
     }
@@ -163,7 +164,7 @@ impl Bev {
         ensures ok { OnOk result (self.new ≡ with_enabled self.old dir false) }
         ensures err { OnErr result (self.new ≡ self.old) }
     {
-        self.is_live()?;
+        self.check_live()?;
         self.set_enabled(dir, false);
         Ok(())
     }
@@ -176,7 +177,7 @@ impl Bev {
         ensures ok { OnOk result (self.new ≡ with_marks self.old dir low high) }
         ensures err { OnErr result (self.new ≡ self.old) }
     {
-        self.is_live()?;
+        self.check_live()?;
         match dir {
             Dir::Read => {
                 self.read_low = low;
@@ -199,7 +200,7 @@ impl Bev {
         ensures ok { OnOk result (self.new ≡ with_timeouts self.old read_ms write_ms now) }
         ensures err { OnErr result (self.new ≡ self.old) }
     {
-        self.is_live()?;
+        self.check_live()?;
         self.read_ms = read_ms;
         self.write_ms = write_ms;
         self.last_read = now;
@@ -215,7 +216,7 @@ impl Bev {
         ensures ok { OnOk result (self.new ≡ touched self.old dir now) }
         ensures err { OnErr result (self.new ≡ self.old) }
     {
-        self.is_live()?;
+        self.check_live()?;
         self.moved_at(dir, now);
         Ok(())
     }
@@ -228,7 +229,7 @@ impl Bev {
         ensures ok { OnOk result (self.new ≡ record self.old { refs = self.old.refs + 1 }) }
         ensures err { OnErr result (self.new ≡ self.old) }
     {
-        self.is_live()?;
+        self.check_live()?;
         self.refs = self.refs.checked_add(1).ok_or(BevFault::TooManyRefs)?;
         Ok(())
     }
@@ -255,7 +256,7 @@ impl Bev {
         ensures ok { OnOk result (self.new ≡ freed self.old) }
         ensures err { OnErr result (self.new ≡ self.old) }
     {
-        self.is_live()?;
+        self.check_live()?;
         self.discard();
         Ok(())
     }
@@ -339,7 +340,7 @@ impl Bev {
         ensures ok { OnOk result (self.new ≡ record self.old { output = more self.old.output bytes.now self.new.output.spare }) }
         ensures err { OnErr result (self.new ≡ self.old) }
     {
-        self.is_live()?;
+        self.check_live()?;
         self.output.add(bytes)
     }
 
@@ -351,7 +352,7 @@ impl Bev {
         ensures ok { OnOk result (self.new ≡ record self.old { input = more self.old.input bytes.now self.new.input.spare }) }
         ensures err { OnErr result (self.new ≡ self.old) }
     {
-        self.is_live()?;
+        self.check_live()?;
         self.input.add(bytes)
     }
 
@@ -367,7 +368,7 @@ impl Bev {
         ensures err { OnErr result (self.new ≡ self.old) }
         ensures into_err { OnErr result (into.new ≡ into.old) }
     {
-        self.is_live()?;
+        self.check_live()?;
         let n = self.input.copy_out(into);
         self.input.drain(n);
         Ok(n)
@@ -453,8 +454,8 @@ impl Bev {
         }
     }
 
-    // It was not freed.
-    fn is_live(&self) -> Result<(), BevFault>
+    // Refused where it was freed.
+    fn check_live(&self) -> Result<(), BevFault>
         ensures { fault_of result ≡ live_refusal self.now }
     {
         if !self.live {

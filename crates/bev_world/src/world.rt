@@ -99,7 +99,7 @@ impl World {
         ensures { result ≡ is_live self.now id.0 }
     {
         match self.slots.get(id.0 as usize) {
-            Some(slot) => slot.bev.state().live,
+            Some(slot) => slot.bev.is_live(),
             None => false,
         }
     }
@@ -153,7 +153,7 @@ impl World {
         ensures found { IfOk result (λ n. (n ≡ id.0) × (n < length self.now.slots)) }
     {
         match self.slots.get(id.0 as usize) {
-            Some(slot) if slot.bev.state().live => Ok(id.0 as usize),
+            Some(slot) if slot.bev.is_live() => Ok(id.0 as usize),
             _ => Err(WorldFault::NotLive),
         }
     }

@@ -87,12 +87,12 @@ impl Relay {
     {
         match step {
             Closing::Faulty(side) => {
-                let live = self.flags(side).live;
+                let live = self.is_live(side);
                 live && self.fault(side).is_some()
             }
             Closing::EndWriting(side) => {
                 let flags = self.flags(side);
-                let peer_live = self.flags(side.peer()).live;
+                let peer_live = self.is_live(side.peer());
                 flags.live
                     && peer_live
                     && self.is_all_given(side)
@@ -110,7 +110,7 @@ impl Relay {
             }
             Closing::PeerGone(side) => {
                 let flags = self.flags(side);
-                let peer_live = self.flags(side.peer()).live;
+                let peer_live = self.is_live(side.peer());
                 flags.live && !peer_live && self.is_nothing_waiting(side)
             }
             Closing::Shut(side) => {

@@ -83,7 +83,7 @@ impl Relay {
             link,
             side: Side::In,
         };
-        self.flags(near).live || self.flags(near.peer()).live
+        self.is_live(near) || self.is_live(near.peer())
     }
 
     /// The number of bytes in all buffers of live sides, or 2^64 - 1 where that is more.
@@ -106,7 +106,7 @@ impl Relay {
         requires { side.link < self.now.state.plain.opened }
         ensures { result ≡ min (buffered_at self.now.state side) (2 ^ 64 - 1) }
     {
-        if !self.flags(side).live {
+        if !self.is_live(side) {
             return 0;
         }
         let input = self.sides.input_len(side) as u64;

@@ -37,7 +37,7 @@ impl Relay {
         requires { side.link < self.now.state.plain.opened }
         ensures { result ≡ is_timed (side_at self.now.state.plain side) dir }
     {
-        self.flags(side).live && self.sides.timeout(side, dir) >= 1
+        self.is_live(side) && self.sides.timeout(side, dir) >= 1
     }
 
     fn wants(&self, side: SideId, dir: Dir) -> bool

@@ -19,12 +19,20 @@ impl Relay {
         self.sides.flags(side)
     }
 
+    /// Whether the side was not freed.
+    pub(crate) fn is_live(&self, side: SideId) -> bool
+        requires { side.link < self.now.state.plain.opened }
+        ensures { result ≡ (side_at self.now.state.plain side).live }
+    {
+        self.sides.is_live(side)
+    }
+
     fn may_read(&self, side: SideId) -> bool
         requires { side.link < self.now.state.plain.opened }
         ensures { result ≡ may_read self.now.state.plain side }
     {
         let flags = self.flags(side);
-        let peer_live = self.flags(side.peer()).live;
+        let peer_live = self.is_live(side.peer());
         flags.live && !flags.connecting && flags.reads && !flags.ended && !flags.failed && peer_live
     }
 

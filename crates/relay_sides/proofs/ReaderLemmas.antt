@@ -3,20 +3,24 @@ use Rattle.std.proofs.Common.{◌≡◌, ◌≢◌, ℕ, zero, suc, ◌+◌, ◌
 use Rattle.std.proofs.lemmas.Bool.{eqb-false}
 use Rattle.std.specs.List.{list_any}
 use Rattle.token_bucket.specs.declared.limit.Dir.{Dir}
+use Rattle.token_bucket.specs.declared.limit.Dir.TheVariants as dir
 use Rattle.ev_types.specs.declared.side.SideId.{SideId}
 use Rattle.ev_types.specs.Sides.{number, peer}
 use Rattle.relay_model.specs.Conserved.{Running}
 use Rattle.relay_model.specs.Flow.{no_flow}
+use Rattle.relay_model.specs.Moments.{timeout_of, last_activity}
 use Rattle.relay_state.specs.State.{no_lane}
 use Rattle.relay_state.specs.Closing.{in_side, out_side}
 use Rattle.relay_state.specs.Counting.{has_flown_far, has_read_far}
+use Rattle.bev_core.specs.BevValue.{BevValue, timeout}
+use Rattle.bev_core.specs.BevValue as bev
 use Rattle.bev_world.specs.WorldValue.{WorldValue, slot_at}
 use Rattle.bev_world.specs.ByNumber.{filter_of}
 use Rattle.relay_sides.specs.Bevs.{bevs_at, upper_of, twin}
 use Rattle.relay_sides.specs.Links.{Links, is_far_from, any_is_far}
 use Rattle.relay_sides.specs.Pairs.{HasPairs}
 use Rattle.relay_sides.specs.SidesValue.{SidesValue}
-use Rattle.relay_sides.specs.SideView.{state_at}
+use Rattle.relay_sides.specs.SideView.{plain_side, state_at}
 use Rattle.relay_sides.specs.SidesView.{sides_of, AreSides}
 use Rattle.relay_sides.specs.declared.sides.Sides.TheInside.{Inside}
 use Rattle.relay_sides.specs.declared.side.SideState.{SideState}
@@ -43,6 +47,16 @@ module _ (v : SidesValue) (r : Inside) (is : sides_of r ≡ v) (sound : AreSides
       let at : i ≡ number (peer e) = h ∙ ap number q in
       state_found r.sides.items (number (peer e)) i x at g (omega (arith, lt, sound.sides))
       ∙ ap (state_at r.sides.items) (twin-number e)
+
+-- a side's timeouts and moments are those of the bufferevent of its end
+
+pub timeout_kept : (b : BevValue) (s : SideState) (d : Dir) → timeout b d ≡ timeout_of (plain_side b s) d
+timeout_kept b s dir.Read = refl
+timeout_kept b s dir.Write = refl
+
+pub activity_kept : (b : BevValue) (s : SideState) (d : Dir) → bev.last_activity b d ≡ last_activity (plain_side b s) d
+activity_kept b s dir.Read = refl
+activity_kept b s dir.Write = refl
 
 -- far counts
 

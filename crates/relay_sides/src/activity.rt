@@ -16,11 +16,7 @@ impl Sides {
         requires { side.link < self.now.links.opened }
         ensures { result ≡ timeout_of (side_at self.now.links side) dir }
     {
-        let bev = self.world.bev(lower(side)).state();
-        match dir {
-            Dir::Read => bev.read_ms,
-            Dir::Write => bev.write_ms,
-        }
+        self.world.bev(lower(side)).timeout(dir)
     }
 
     /// For how many milliseconds the direction was idle at a time; 0 where it was active later. Constant; takes no memory.
@@ -30,11 +26,7 @@ impl Sides {
         requires { side.link < self.now.links.opened }
         ensures { result ≡ time - last_activity (side_at self.now.links side) dir }
     {
-        let bev = self.world.bev(lower(side)).state();
-        match dir {
-            Dir::Read => time.saturating_sub(bev.last_read),
-            Dir::Write => time.saturating_sub(bev.last_write),
-        }
+        time.saturating_sub(self.world.bev(lower(side)).last_activity(dir))
     }
 
     /// The direction was active at a time. Constant; takes no memory.

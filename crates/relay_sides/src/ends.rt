@@ -17,7 +17,14 @@ impl Sides {
         requires { from.link < self.now.links.opened }
         ensures { result ≡ is_complete self.now.links from }
     {
-        self.flags(from).ended && self.is_write_done(from) && self.is_empty(from)
+        self.has_ended(from) && self.is_write_done(from) && self.is_empty(from)
+    }
+
+    fn has_ended(&self, side: SideId) -> bool
+        requires { side.link < self.now.links.opened }
+        ensures { result ≡ (side_at self.now.links side).ended }
+    {
+        self.world.bev(lower(side)).has_ended()
     }
 
     fn is_write_done(&self, from: SideId) -> bool

@@ -382,7 +382,7 @@ impl Sides {
             hold: self.hold_mark(to, hold),
             ended: flags.ended,
             from_live: flags.live,
-            to_live: self.flags(to).live,
+            to_live: self.is_live(to),
         }
     }
 

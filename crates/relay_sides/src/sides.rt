@@ -7,6 +7,7 @@ ghost use Rattle.relay_sides.specs.Pairs.{HasPairs};
 
 use crate::flags::SideFlags;
 use crate::side::{MOST_AT_ONCE, SideState, lower, mark_or, upper};
+use bev_core::Dir;
 use bev_world::World;
 use ev_types::SideId;
 use std::alloc::Global;
@@ -77,19 +78,29 @@ impl Sides {
         requires { side.link < self.now.links.opened }
         ensures { result ≡ flags_of (side_at self.now.links side) }
     {
-        let bev = self.world.bev(lower(side)).state();
+        let bev = self.world.bev(lower(side));
         let own = &self.sides[side.number()];
         SideFlags {
-            live: bev.live,
+            live: bev.is_live(),
             connecting: own.connecting,
-            reads: bev.reading,
-            writes: bev.writing,
-            ended: bev.ended,
-            failed: bev.failed,
+            reads: bev.is_enabled(Dir::Read),
+            writes: bev.is_enabled(Dir::Write),
+            ended: bev.has_ended(),
+            failed: bev.has_failed(),
             expired: own.expired,
             write_ended: own.write_ended,
             closed: own.closed,
         }
+    }
+
+    /// Whether the side was not freed. Constant; takes no memory.
+    ///
+    /// Own.
+    pub fn is_live(&self, side: SideId) -> bool
+        requires { side.link < self.now.links.opened }
+        ensures { result ≡ (side_at self.now.links side).live }
+    {
+        self.world.bev(lower(side)).is_live()
     }
 
     /// The length of the side's input at which reading stops. Constant; takes no memory.
@@ -99,8 +110,8 @@ impl Sides {
         requires { side.link < self.now.links.opened }
         ensures { result ≡ read_mark self.now.links side }
     {
-        let bev = self.world.bev(lower(side)).state();
-        mark_or(bev.read_high, MOST_AT_ONCE as u64)
+        let high = self.world.bev(lower(side)).high_mark(Dir::Read);
+        mark_or(high, MOST_AT_ONCE as u64)
     }
 
     /// How many bytes that wait for the side's end hold the direction to it, where so many do in the run. Constant; takes no memory.
@@ -110,8 +121,8 @@ impl Sides {
         requires { side.link < self.now.links.opened }
         ensures { result ≡ hold_mark hold self.now.links side }
     {
-        let bev = self.world.bev(lower(side)).state();
-        mark_or(bev.write_high, hold)
+        let high = self.world.bev(lower(side)).high_mark(Dir::Write);
+        mark_or(high, hold)
     }
 
     /// How many bytes of the direction from the side are in its raw input.

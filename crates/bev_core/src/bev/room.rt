@@ -21,7 +21,7 @@ impl Bev {
         ensures kept { self.old.input.spare ≤ self.new.input.spare }
         ensures err { OnErr result (self.new ≡ self.old) }
     {
-        self.is_live()?;
+        self.check_live()?;
         self.input.reserve(n)?;
         Ok(())
     }

@@ -35,7 +35,7 @@ impl World {
         ensures { result ≡ then_some (is_live self.now owner) (record { 0 = owner }) }
     {
         match self.slots.get(owner as usize) {
-            Some(slot) if slot.bev.state().live => Some(BevId(owner as u32)),
+            Some(slot) if slot.bev.is_live() => Some(BevId(owner as u32)),
             _ => None,
         }
     }

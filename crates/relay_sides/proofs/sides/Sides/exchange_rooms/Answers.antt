@@ -1,11 +1,11 @@
-use Rattle.std.proofs.Common.{◌≡◌, ◌≢◌, ℕ, ◌*◌, ◌<◌, List, [], length, slice_set, refl, sym, ◌∙◌, ap, subst, arith}
+use Rattle.std.proofs.Common.{◌≡◌, ◌≢◌, ℕ, ◌<◌, List, [], length, slice_set, refl, sym, ◌∙◌, ap, subst, arith}
 use Rattle.std.proofs.lemmas.List.{nil_from_length}
 use Rattle.ev_types.specs.Sides.{number, peer}
 use Rattle.relay_state.specs.State.{Lane}
 use Rattle.bev_world.specs.ByNumber.{with_output, without_input, exchanged}
 use Rattle.bev_world.specs.WorldValue.{WorldValue, slot_at, bev_at}
 use Rattle.bev_world.specs.declared.slot.Slot.{Slot}
-use Rattle.relay_sides.specs.Bevs.{Bevs, bevs_at, lower_of, upper_of, twin}
+use Rattle.relay_sides.specs.Bevs.{bevs_at, lower_of, upper_of, twin}
 use Rattle.relay_sides.specs.SidesValue.{SidesValue}
 use Rattle.relay_sides.proofs.BevsLemmas.{number-lt, twin-number, twin-apart, set_upper-other}
 use Rattle.relay_sides.proofs.ChangeLemmas.{left_of, right_of}

@@ -1,29 +1,21 @@
 use Rattle.std.proofs.Common.{◌-◌, ap, sym, ◌∙◌}
 use Rattle.ev_types.specs.Sides.{number}
-use Rattle.bev_core.specs.declared.state.BevState.{BevState}
-use Rattle.bev_core.specs.BevValue.{state_of}
 use Rattle.relay_model.specs.Moments.{last_activity}
-use Rattle.relay_sides.specs.Links.{side_at}
-use Rattle.relay_model.specs.Plain.{PlainSide}
+use Rattle.bev_core.specs.BevValue as bev
+use Rattle.relay_sides.specs.Bevs.{bevs_at}
+use Rattle.relay_sides.specs.SideView.{state_at}
+use Rattle.relay_sides.proofs.ReaderLemmas.{activity_kept}
 use Rattle.relay_sides.proofs.SidesLemmas.{side_seen, lower_found}
 use Rattle.relay_sides.proofs.sides.Sides.idle_time.Goals as goal
 
-pub returns-in-Read : goal.returns-in-Read
-returns-in-Read c =
+pub returns : goal.returns
+returns c =
     let r = c.self.inside in
     let e = c.args.side in
-    let b = c.state-bev.ensures
-    ∙ ap state_of (lower_found r.world (number e) c.lower.result c.bev.result.now c.lower.ensures c.bev.ensures) in
-    c.saturating_sub.ensures ∙ ap (λ (x : BevState). c.args.time - x.last_read) b
-    ∙ ap (λ (x : PlainSide). c.args.time - x.last_read) (sym (side_seen c.args.self.now r c.self.view_is e c.requires))
-    ∙ ap (λ d. c.args.time - last_activity (side_at c.args.self.now.links e) d) (sym c.in-Read.is)
-
-pub returns-in-Write : goal.returns-in-Write
-returns-in-Write c =
-    let r = c.self.inside in
-    let e = c.args.side in
-    let b = c.state-bev.ensures
-    ∙ ap state_of (lower_found r.world (number e) c.lower.result c.bev.result.now c.lower.ensures c.bev.ensures) in
-    c.saturating_sub-in-Write.ensures ∙ ap (λ (x : BevState). c.args.time - x.last_write) b
-    ∙ ap (λ (x : PlainSide). c.args.time - x.last_write) (sym (side_seen c.args.self.now r c.self.view_is e c.requires))
-    ∙ ap (λ d. c.args.time - last_activity (side_at c.args.self.now.links e) d) (sym c.in-Write.is)
+    let d = c.args.dir in
+    let b = lower_found r.world (number e) c.lower.result c.bev.result.now c.lower.ensures c.bev.ensures in
+    c.saturating_sub.ensures
+    ∙ ap (λ n. c.args.time - n) (c.last_activity.ensures
+    ∙ ap (λ x. bev.last_activity x d) b
+    ∙ activity_kept (bevs_at r.world.slots (number e)).lower.bev (state_at r.sides.items (number e)) d
+    ∙ ap (λ x. last_activity x d) (sym (side_seen c.args.self.now r c.self.view_is e c.requires)))
