@@ -109,14 +109,10 @@ impl Relay {
                 flags.live && far_flags.live && flags.write_ended && far_flags.write_ended
             }
             Closing::PeerGone(side) => {
-                let flags = self.flags(side);
                 let peer_live = self.is_live(side.peer());
-                flags.live && !peer_live && self.is_nothing_waiting(side)
+                self.is_live(side) && !peer_live && self.is_nothing_waiting(side)
             }
-            Closing::Shut(side) => {
-                let flags = self.flags(side);
-                !flags.live && !flags.closed
-            }
+            Closing::Shut(side) => { !self.is_live(side) && !self.flags(side).closed }
         }
     }
 

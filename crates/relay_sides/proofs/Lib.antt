@@ -13,6 +13,7 @@ pub mod LinkLemmas
 pub mod RoundParts
 pub mod StepLemmas
 pub mod RoundLemmas
+pub mod SettledLemmas
 pub mod ReaderLemmas
 pub mod OpenLemmas
 pub mod RoomLemmas

@@ -66,7 +66,7 @@ module _ (hold mark : ℕ) (over : Bool) (x : Passage) (told : IsTold x) where
   abbrev step : Stepped
   step = read_step mark over x.lane
 
-  read_idle : (y : Option ℕ) → or_else x.from_bad x.lane.reader.stopped ≡ y →
+  pub read_idle : (y : Option ℕ) → or_else x.from_bad x.lane.reader.stopped ≡ y →
       read_by (idle x.lane.reader) x ≡ record x { from_bad = y }
   read_idle y bad =
       let f = x.flow in
@@ -172,7 +172,7 @@ module _ (hold : ℕ) (x : Passage) where
 -- The write filter
 
 module _ (hold : ℕ) (over : Bool) (x : Passage) (told : IsTold x) where
-  write_idle : (y : Option ℕ) → or_else x.to_bad x.lane.writer.stopped ≡ y →
+  pub write_idle : (y : Option ℕ) → or_else x.to_bad x.lane.writer.stopped ≡ y →
       written_by (idle x.lane.writer) x ≡ record x { to_bad = y }
   write_idle y bad =
       let f = x.flow in

@@ -1,5 +1,6 @@
 -- How far a direction has come, as the code compares it, and its rounds, as the code makes them.
-use Rattle.std.specs.Prelude.{is_some}
+use Rattle.std.specs.Prelude.{Bool, not, ◌==◌, ◌&&◌, ◌||◌, nat_lt, length, is_some}
+use Rattle.relay_state.specs.State.{Lane}
 use Rattle.relay_state.specs.Passage.{Passage, pass_round}
 use Rattle.relay_sides.specs.declared.pass.Reached.{Reached}
 use Rattle.relay_sides.specs.declared.pass.Terms.{Terms}
@@ -18,3 +19,14 @@ reached_of x = record {
 -- the round that goes by these
 abbrev pub round_by : Terms → Passage → Passage
 round_by t = pass_round t.mark t.hold t.ended t.from_live t.to_live
+
+-- no byte waits before the end of a direction
+abbrev pub is_all_passed : Lane → Bool
+is_all_passed l = let b = l.buffers in length b.raw_input == 0 && length b.input == 0 && length b.output == 0
+
+-- There is nothing that a round could do: the direction isn't held and does not become so, its side has not ended, its filters run,
+-- and all bytes have come to its end.
+abbrev pub is_settled : Terms → Passage → Bool
+is_settled t x =
+    not t.ended && not x.flow.held && nat_lt (length x.lane.buffers.raw_output) t.hold && is_all_passed x.lane && not x.flow.read_done
+    && not (is_some x.lane.reader.stopped || is_some x.lane.writer.stopped)

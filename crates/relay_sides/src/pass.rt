@@ -1,12 +1,12 @@
 // Passing a direction: rounds until one changes nothing. A round has its room before it begins, so that want of memory
 // leaves whole rounds. Where a pass moves nothing each buffer without a byte gives its room up, so that an idle link holds none.
-ghost use Rattle.std.specs.Prelude.{◌≡◌, ◌≢◌, ◌≤◌, ◌<◌, ◌+◌, ◌==◌, ◌&&◌, length, OnOk, IfOk, MatchResult, IsTrue, ◌↔◌, is_some, true, false, ◌/◌, nat_le, if◌then◌else◌};
+ghost use Rattle.std.specs.Prelude.{◌≡◌, ◌≢◌, ◌≤◌, ◌<◌, ◌+◌, ◌==◌, ◌&&◌, ◌||◌, length, OnOk, IfOk, MatchResult, IsTrue, ◌↔◌, is_some, true, false, ◌/◌, nat_le, if◌then◌else◌};
 ghost use Rattle.relay_model.specs.Filter.{or_else};
 ghost use Rattle.relay_state.specs.Passage.{hold_part, read_part, move_part, write_part, write_step, written_by, has_moved_all, Passed, SomeRounds};
 ghost use Rattle.relay_sides.specs.Links.{lane_at, flow_at, moved, passage_at, with_passage, IsTold, round_from, PassedFrom, PartlyPassed};
 ghost use Rattle.relay_sides.specs.Pairs.{HasPairs};
 ghost use Rattle.relay_sides.specs.Rooms.{HasInputRoom, HasOutputRoom, HasNoIdleRoom, most_input, most_offered, KeepsStartRoom, KeepsEndRoom};
-ghost use Rattle.relay_sides.specs.Reach.{reached_of, round_by};
+ghost use Rattle.relay_sides.specs.Reach.{reached_of, round_by, is_all_passed, is_settled};
 
 use crate::side::{lower, upper};
 use crate::sides::Sides;
@@ -61,6 +61,13 @@ fn is_same(a: Reached, b: Reached) -> bool
     ensures { IsTrue result ↔ (a ≡ b) }
 {
     a == b
+}
+
+/// Whether one of two is so.
+fn is_either(a: bool, b: bool) -> bool
+    ensures { result ≡ (a || b) }
+{
+    a || b
 }
 
 /// The first of two bad places in time.
@@ -313,7 +320,44 @@ impl Sides {
         }
     }
 
-    /// Rounds until one changes nothing. It answers whether one before did.
+    /// Whether there is nothing that a round could do: the direction isn't held and does not become so, its side has not ended, its
+    /// filters run, and all bytes have come to its end. So of an idle direction no round is made, and of one whose bytes went through at
+    /// once no second one.
+    fn is_settled(&self, from: SideId, terms: Terms) -> bool
+        requires { from.link < self.now.links.opened }
+        ensures settled { result ≡ is_settled terms (passage_at self.now.links from) }
+        ensures told { result ≡ true → IsTold (passage_at self.now.links from) }
+    {
+        !terms.ended
+            && !self.is_held(from)
+            && (self.raw_output_len(from) as u64) < terms.hold
+            && self.is_all_passed(from)
+            && !self.is_read_done(from)
+            && !self.has_stopped(from)
+    }
+
+    /// Whether no byte waits before the end of the direction.
+    fn is_all_passed(&self, from: SideId) -> bool
+        requires { from.link < self.now.links.opened }
+        ensures { result ≡ is_all_passed (lane_at self.now.links from) }
+    {
+        self.raw_input_len(from) == 0
+            && self.own_input_len(from) == 0
+            && self.own_output_len(from) == 0
+    }
+
+    /// Whether a filter of the direction met a bad place.
+    fn has_stopped(&self, from: SideId) -> bool
+        requires { from.link < self.now.links.opened }
+        ensures stopped { result ≡ (is_some (lane_at self.now.links from).reader.stopped || is_some (lane_at self.now.links from).writer.stopped) }
+        ensures told { IsTold (passage_at self.now.links from) }
+    {
+        let reader = self.world.filter(upper(from), Dir::Read);
+        let writer = self.world.filter(upper(from.peer()), Dir::Write);
+        is_either(reader.stopped().is_some(), writer.stopped().is_some())
+    }
+
+    /// Rounds until one changes nothing, or there is nothing left that one could do. It answers whether one before did.
     fn make_rounds(&mut self, from: SideId, terms: Terms) -> Result<bool, NoMemory>
         requires { from.link < self.old.links.opened }
         ensures frame { self.new.links ≡ with_passage from (passage_at self.new.links from) self.old.links }
@@ -325,6 +369,9 @@ impl Sides {
     {
         let mut changed = false;
         loop {
+            if self.is_settled(from, terms) {
+                return Ok(changed);
+            }
             self.reserve_round(from, terms)?;
             let before = self.reached(from);
             self.make_round(from, terms);

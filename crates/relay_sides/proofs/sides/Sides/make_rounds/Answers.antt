@@ -7,6 +7,7 @@ use Rattle.relay_sides.specs.Reach.{reached_of, round_by}
 use Rattle.relay_sides.proofs.LinksLemmas.{passage_put, with_twice}
 use Rattle.relay_sides.proofs.RoundLemmas.{weight, round_falls, round_over, rounds-suc, Went, went-apart, went_next}
 use Rattle.relay_sides.proofs.RoundParts.{pairs_back}
+use Rattle.relay_sides.proofs.SettledLemmas.{settled_stays}
 use Rattle.relay_sides.proofs.sides.Sides.make_rounds.Goals as goal
 
 -- the link is open all along
@@ -24,38 +25,55 @@ framed old l m n e frame same pairs opened x is once =
     ∙ with_twice old e (pairs_back old m e (passage_at l e) there pairs) opened (passage_at l e) x
     ∙ ap (λ z. with_passage e z old) (sym once)
 
+-- where the direction is settled, nothing is made of it
+pub returns-then-is_settled-clause-passage : goal.returns-then-is_settled-clause-passage
+returns-then-is_settled-clause-passage c =
+    let some = c.loop-from.invariant.some in
+    let settled : c.is_settled.result ≡ true = cc in (
+      some.0,
+      some.1,
+      settled_stays c.args.terms (passage_at c.loop-from.self.links c.args.from) (c.is_settled.ensures.told settled)
+          (sym c.is_settled.ensures.settled ∙ settled),
+    )
+
+pub returns-then-is_settled-clause-apart : goal.returns-then-is_settled-clause-apart
+returns-then-is_settled-clause-apart c = λ h.
+    let some : c.loop-from.changed ≡ true = cc in
+    went-apart c.args.terms.hold (passage_at c.args.self.now.links c.args.from) (passage_at c.loop-from.self.links c.args.from)
+    (c.loop-from.invariant.went some)
+
 pub returns-then-is_same-clause-frame : goal.returns-then-is_same-clause-frame
 returns-then-is_same-clause-frame c =
     let t = c.args.terms in
     let e = c.args.from in
     let old = c.args.self.now.links in
-    let l = c.loop-self.self.links in
+    let l = c.loop-from.self.links in
     let m = c.reserve_round.new.self.links in
     let n = c.make_round.new.self.links in
     let begun = c.in_ok-reserve_round.ensures.links in
     let pairs = c.reached-before.ensures.pairs in
-    let opened = rounds_open old l m e (passage_at l e) c.loop-self.invariant.frame begun c.requires in
+    let opened = rounds_open old l m e (passage_at l e) c.loop-from.invariant.frame begun c.requires in
     let once = made_once m n e pairs opened (round_by t (passage_at m e)) c.make_round.ensures in
     let from : passage_at m e ≡ passage_at l e = ap (λ (z : Links). passage_at z e) begun in
-    framed old l m n e c.loop-self.invariant.frame begun pairs c.requires (round_by t (passage_at m e)) c.make_round.ensures once
+    framed old l m n e c.loop-from.invariant.frame begun pairs c.requires (round_by t (passage_at m e)) c.make_round.ensures once
 
 pub returns-then-is_same-clause-passage : goal.returns-then-is_same-clause-passage
 returns-then-is_same-clause-passage c =
     let t = c.args.terms in
     let e = c.args.from in
     let old = c.args.self.now.links in
-    let l = c.loop-self.self.links in
+    let l = c.loop-from.self.links in
     let m = c.reserve_round.new.self.links in
     let n = c.make_round.new.self.links in
     let begun = c.in_ok-reserve_round.ensures.links in
     let pairs = c.reached-before.ensures.pairs in
-    let opened = rounds_open old l m e (passage_at l e) c.loop-self.invariant.frame begun c.requires in
+    let opened = rounds_open old l m e (passage_at l e) c.loop-from.invariant.frame begun c.requires in
     let once = made_once m n e pairs opened (round_by t (passage_at m e)) c.make_round.ensures in
     let from : passage_at m e ≡ passage_at l e = ap (λ (z : Links). passage_at z e) begun in
     let still : passage_at n e ≡ passage_at m e =
     round_over t.mark t.hold t.ended t.from_live t.to_live (passage_at m e) (passage_at n e) c.reached-before.ensures.told once
     (sym c.reached.ensures.reached ∙ c.if-is_same.ensures.0 refl ∙ c.reached-before.ensures.reached) in
-    let some = c.loop-self.invariant.some in (
+    let some = c.loop-from.invariant.some in (
       some.0,
       still ∙ from ∙ some.1,
       ap (round_by t) still ∙ sym once,
@@ -67,49 +85,49 @@ returns-then-is_same-clause-still c = λ h.
     let t = c.args.terms in
     let e = c.args.from in
     let old = c.args.self.now.links in
-    let l = c.loop-self.self.links in
+    let l = c.loop-from.self.links in
     let m = c.reserve_round.new.self.links in
     let n = c.make_round.new.self.links in
     let begun = c.in_ok-reserve_round.ensures.links in
     let pairs = c.reached-before.ensures.pairs in
-    let opened = rounds_open old l m e (passage_at l e) c.loop-self.invariant.frame begun c.requires in
+    let opened = rounds_open old l m e (passage_at l e) c.loop-from.invariant.frame begun c.requires in
     let once = made_once m n e pairs opened (round_by t (passage_at m e)) c.make_round.ensures in
     let from : passage_at m e ≡ passage_at l e = ap (λ (z : Links). passage_at z e) begun in
     let still : passage_at n e ≡ passage_at m e =
     round_over t.mark t.hold t.ended t.from_live t.to_live (passage_at m e) (passage_at n e) c.reached-before.ensures.told once
     (sym c.reached.ensures.reached ∙ c.if-is_same.ensures.0 refl ∙ c.reached-before.ensures.reached) in
-    let none : c.loop-self.changed ≡ false = cc in
-    still ∙ from ∙ c.loop-self.invariant.still none
+    let none : c.loop-from.changed ≡ false = cc in
+    still ∙ from ∙ c.loop-from.invariant.still none
 
 pub returns-then-is_same-clause-apart : goal.returns-then-is_same-clause-apart
 returns-then-is_same-clause-apart c = λ h.
     let t = c.args.terms in
     let e = c.args.from in
     let old = c.args.self.now.links in
-    let l = c.loop-self.self.links in
+    let l = c.loop-from.self.links in
     let m = c.reserve_round.new.self.links in
     let n = c.make_round.new.self.links in
     let begun = c.in_ok-reserve_round.ensures.links in
     let pairs = c.reached-before.ensures.pairs in
-    let opened = rounds_open old l m e (passage_at l e) c.loop-self.invariant.frame begun c.requires in
+    let opened = rounds_open old l m e (passage_at l e) c.loop-from.invariant.frame begun c.requires in
     let once = made_once m n e pairs opened (round_by t (passage_at m e)) c.make_round.ensures in
     let from : passage_at m e ≡ passage_at l e = ap (λ (z : Links). passage_at z e) begun in
-    let some : c.loop-self.changed ≡ true = cc in
-    λ eq. went-apart t.hold (passage_at old e) (passage_at l e) (c.loop-self.invariant.went some)
+    let some : c.loop-from.changed ≡ true = cc in
+    λ eq. went-apart t.hold (passage_at old e) (passage_at l e) (c.loop-from.invariant.went some)
     (ap reached_of (sym from)
     ∙ sym (sym c.reached.ensures.reached ∙ c.if-is_same.ensures.0 refl ∙ c.reached-before.ensures.reached) ∙ eq)
 
-pub loop-self-smaller : goal.loop-self-smaller
-loop-self-smaller c =
+pub loop-from-smaller : goal.loop-from-smaller
+loop-from-smaller c =
     let t = c.args.terms in
     let e = c.args.from in
     let old = c.args.self.now.links in
-    let l = c.loop-self.self.links in
+    let l = c.loop-from.self.links in
     let m = c.reserve_round.new.self.links in
     let n = c.make_round.new.self.links in
     let begun = c.in_ok-reserve_round.ensures.links in
     let pairs = c.reached-before.ensures.pairs in
-    let opened = rounds_open old l m e (passage_at l e) c.loop-self.invariant.frame begun c.requires in
+    let opened = rounds_open old l m e (passage_at l e) c.loop-from.invariant.frame begun c.requires in
     let once = made_once m n e pairs opened (round_by t (passage_at m e)) c.make_round.ensures in
     let from : passage_at m e ≡ passage_at l e = ap (λ (z : Links). passage_at z e) begun in
     let h = t.hold in
@@ -121,31 +139,31 @@ loop-self-smaller c =
           (subst (λ k. k < weight h (passage_at m e)) (sym (ap (weight h) once)) falls.0)
     ]
 
-pub loop-self-preserved : goal.loop-self-preserved
-loop-self-preserved c =
+pub loop-from-preserved : goal.loop-from-preserved
+loop-from-preserved c =
     let t = c.args.terms in
     let e = c.args.from in
     let old = c.args.self.now.links in
-    let l = c.loop-self.self.links in
+    let l = c.loop-from.self.links in
     let m = c.reserve_round.new.self.links in
     let n = c.make_round.new.self.links in
     let begun = c.in_ok-reserve_round.ensures.links in
     let pairs = c.reached-before.ensures.pairs in
-    let opened = rounds_open old l m e (passage_at l e) c.loop-self.invariant.frame begun c.requires in
+    let opened = rounds_open old l m e (passage_at l e) c.loop-from.invariant.frame begun c.requires in
     let once = made_once m n e pairs opened (round_by t (passage_at m e)) c.make_round.ensures in
     let from : passage_at m e ≡ passage_at l e = ap (λ (z : Links). passage_at z e) begun in
-    let some = c.loop-self.invariant.some in
+    let some = c.loop-from.invariant.some in
     record {
-      frame = framed old l m n e c.loop-self.invariant.frame begun pairs c.requires (round_by t (passage_at m e)) c.make_round.ensures once;
+      frame = framed old l m n e c.loop-from.invariant.frame begun pairs c.requires (round_by t (passage_at m e)) c.make_round.ensures once;
       some = (
         suc some.0,
         once ∙ ap (round_by t) (from ∙ some.1) ∙ sym (rounds-suc some.0 (round_by t) (passage_at old e)),
       );
       still = λ eq. absurd (let wrong : true ≡ false = eq in cc);
-      went = λ _. went_next t.mark t.hold t.ended t.from_live t.to_live c.loop-self.changed
+      went = λ _. went_next t.mark t.hold t.ended t.from_live t.to_live c.loop-from.changed
           (passage_at old e) (passage_at m e) (passage_at n e)
-          (λ eq. from ∙ c.loop-self.invariant.still eq)
-          (λ eq. subst (Went t.hold (passage_at old e)) (sym from) (c.loop-self.invariant.went eq))
+          (λ eq. from ∙ c.loop-from.invariant.still eq)
+          (λ eq. subst (Went t.hold (passage_at old e)) (sym from) (c.loop-from.invariant.went eq))
           c.reached-before.ensures.told once
           (λ eq. absurd (let wrong : false ≡ true = c.if-is_same.ensures.1 (c.reached.ensures.reached ∙ eq ∙ sym c.reached-before.ensures.reached) in cc));
     }
