@@ -81,6 +81,32 @@ impl OwnBuffer {
         }
     }
 
+    /// Makes room for at least n more: where no memory is left for it, by exchange with an empty one that has room for all.
+    pub(crate) fn find_room(&mut self, n: usize, spare: &mut OwnBuffer)
+        requires room { length self.old.bytes + n ≤ spare.old.spare }
+        requires empty { spare.old.bytes ≡ [] }
+        ensures bytes { self.new.bytes ≡ self.old.bytes }
+        ensures room { n ≤ self.new.spare }
+        ensures empty { spare.new.bytes ≡ [] }
+    {
+        if self.reserve(n).is_err() {
+            self.take_room(spare);
+        }
+    }
+
+    /// Takes the room of an empty one for its bytes, and leaves its own to that.
+    fn take_room(&mut self, spare: &mut OwnBuffer)
+        requires room { length self.old.bytes ≤ spare.old.spare }
+        requires empty { spare.old.bytes ≡ [] }
+        ensures taken { self.new ≡ more nothing self.old.bytes (spare.old.spare - length self.old.bytes) }
+        ensures empty { spare.new.bytes ≡ [] }
+    {
+        let len = self.len();
+        spare.push(self.front(len));
+        mem::swap(&mut self.buf, &mut spare.buf);
+        spare.drain(len);
+    }
+
     /// Appends in room that was made before. Takes no memory.
     pub(crate) fn push(&mut self, bytes: &[u8])
         requires { length bytes.now ≤ self.old.spare }

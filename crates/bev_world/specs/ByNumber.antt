@@ -1,10 +1,10 @@
 -- What calls by number leave of a world.
-use Rattle.std.specs.Prelude.{◌≡◌, ℕ, ◌-◌, Bool, List, length}
+use Rattle.std.specs.Prelude.{◌≡◌, ℕ, Bool, List}
 use Rattle.token_bucket.specs.declared.limit.Dir.{Dir}
 use Rattle.token_bucket.specs.declared.limit.Dir.TheVariants.{Read, Write}
 use Rattle.relay_model.specs.Conserved.{Running}
 use Rattle.bev_core.specs.BevValue.{BevValue}
-use Rattle.bev_core.specs.Steps.{held, with_held, touched, freed, pushed, given_up}
+use Rattle.bev_core.specs.Steps.{held, with_held, touched, freed, more, given_up}
 use Rattle.bev_filter.specs.Passing.{Crossing, Crossed, stepping}
 use Rattle.bev_world.specs.declared.slot.Slot.{Slot}
 use Rattle.bev_world.specs.FilterSlots.{slots_crossing, lower_after, over_after}
@@ -19,12 +19,14 @@ filter_of s Write = s.write_filter
 abbrev pub with_spare_in : BevValue → Dir → ℕ → BevValue
 with_spare_in bev dir spare = with_held bev dir (record (held bev dir) { spare = spare })
 
--- Bytes came to the end of the input, and the moment is the last activity of reading. The room that the input is sure to have is used
--- up by as many.
-abbrev pub brought : WorldValue → ℕ → List ℕ → ℕ → WorldValue
-brought w n bytes moment =
-    with_slot w n
-    (record (slot_at w n) { bev = touched (pushed (bev_at w n) bytes) Read moment; room = (slot_at w n).room - length bytes })
+-- Bytes came to the end of a slot's input, behind which so much is spare then, and the moment is the last activity of reading. The input is
+-- sure of no room any more.
+abbrev pub slot_brought : List ℕ → ℕ → ℕ → Slot → Slot
+slot_brought bytes moment spare s =
+    record s { bev = touched (record s.bev { input = more s.bev.input bytes spare }) Read moment; room = 0 }
+
+abbrev pub brought : WorldValue → ℕ → List ℕ → ℕ → ℕ → WorldValue
+brought w n bytes moment spare = with_slot w n (slot_brought bytes moment spare (slot_at w n))
 
 -- the room of its buffers is freed, where they have no byte
 abbrev pub roomless : WorldValue → ℕ → WorldValue

@@ -7,7 +7,7 @@ mod roster;
 mod slot;
 mod world;
 
-pub use bev_core::{Bev, BevState, Dir};
+pub use bev_core::{Bev, BevState, Dir, SpareRoom};
 pub use callback::Callback;
 pub use ev_types::{BevId, FilterKind, Flags, Mode, NoMemory, Why};
 pub use fault::WorldFault;

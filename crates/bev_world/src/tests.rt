@@ -268,13 +268,16 @@ fn bytes_pass_a_filter_up_and_down(rt: HostRuntime) -> Result<(), Fail> {
     Ok(())
 }
 
-/// Brings bytes to a bufferevent in room that it makes.
+/// Brings bytes to a bufferevent, with room for its whole input made before.
 fn bring(world: &mut World, at: usize, bytes: &[u8]) -> Result<(), NoMemory> {
     if at >= world.count() {
         return Err(NoMemory);
     }
-    world.make_room_at(at, Dir::Read, bytes.len())?;
-    world.bring_at(at, bytes, 7);
+    let held = world.bev(at).input_len();
+    let all = held.checked_add(bytes.len()).ok_or(NoMemory)?;
+    let mut spare = SpareRoom::new(world.bev(at).allocator());
+    spare.reserve(all)?;
+    world.bring_at(at, bytes, 7, &mut spare);
     Ok(())
 }
 

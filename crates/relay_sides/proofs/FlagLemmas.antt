@@ -100,8 +100,8 @@ module _ (v : SidesValue) (r : Inside) (is : sides_of r ≡ v) (sound : AreSides
         (λ m d. ap (λ (z : Bevs). plain_side z.lower.bev (state_at K m)) (off m d))
         (ap (λ (z : Bevs). plain_side z.lower.bev (state_at K n)) at ∙ same lower.bev (state_at K n))
 
-    pub bev_sound : AreSides (record { opened = r.opened; world = w; sides = r.sides; beside = r.beside; ready = r.ready; readable = 0 })
-    bev_sound = are_sound r (record { opened = r.opened; world = w; sides = r.sides; beside = r.beside; ready = r.ready; readable = 0 })
+    pub bev_sound : AreSides (record r { world = w; readable = 0 })
+    bev_sound = are_sound r (record r { world = w; readable = 0 })
         sound refl refl (bev_lasting K refl) (counted-alike S w.slots K K (bev_alike K (λ m. refl)) (2 * r.opened) sound.counted)
 
     -- together with what is kept beside it

@@ -1,9 +1,9 @@
 -- What opening a link adds: four bufferevents, and two states beside them.
-use Rattle.std.proofs.Common.{◌≡◌, ◌≢◌, ℕ, suc, ◌+◌, ◌-◌, ◌*◌, ◌<◌, ◌≤◌, Bool, true, false, ◌==◌, nat_lt, if◌then◌else◌, List, [], ◌∷◌, ◌++◌, length, slice_index_or, slice_set, vec_capacity, Result, Ok, Err, refl, sym, ◌∙◌, ap, subst, arith, eqb-true, ltb-true, ltb-false, length-append}
+use Rattle.std.proofs.Common.{◌≡◌, ◌≢◌, ℕ, suc, ◌+◌, ◌-◌, ◌*◌, ◌<◌, Bool, true, false, ◌==◌, if◌then◌else◌, List, [], ◌∷◌, ◌++◌, length, slice_index_or, slice_set, vec_capacity, Result, Ok, Err, refl, sym, ◌∙◌, ap, subst, arith, eqb-true, length-append}
 use Rattle.std.specs.Global.{Vec}
 use Rattle.std.specs.Result.{IfOk, OnOk, OnErr, is_ok}
 use Rattle.std.proofs.lemmas.Bool.{eqb-false}
-use Rattle.std.proofs.lemmas.List.{get_or-append-add, get_or_append_left, get_or_past, append_assoc}
+use Rattle.std.proofs.lemmas.List.{get_or-append-add, get_or_append_left, append_assoc}
 use Rattle.std.proofs.Math.Seq.{get_or-append_seam, set-append_seam}
 use Rattle.token_bucket.specs.declared.limit.Dir.TheVariants.{Read, Write}
 use Rattle.ev_types.specs.declared.filter.FilterKind.TheVariants.{None}
@@ -255,21 +255,15 @@ module _ (o : ℕ) (S : List Slot) (K : List SideState) (slots : length S ≡ 4 
       (counted_as (2 * o + 1) no_flow (fresh_lane far.read near.write) flow_far lane_far
       (none_counted (fresh_lane far.read near.write) refl refl refl refl))
 
-  -- room was made only for a read of a side that there is
-  pub read_more : (ready beside count : ℕ) → 0 < count → CanRead (bevs_at S ready) (state_at K ready) beside count →
-      CanRead (bevs_at S3 ready) (state_at K3 ready) beside count
-  read_more ready beside count some can = go (nat_lt ready (2 * o)) refl
-    where
-      go : (t : Bool) → nat_lt ready (2 * o) ≡ t → CanRead (bevs_at S3 ready) (state_at K3 ready) beside count
-      go true e =
-          let h : ready < 2 * o = ltb-true ready (2 * o) e in
-          subst (λ (x : SideState). CanRead (bevs_at S3 ready) x beside count) (sym (state_old ready h))
-          (subst (λ (x : Bevs). CanRead x (state_at K ready) beside count) (sym (bevs_old ready h)) can)
-      go false e =
-          let h : 2 * o ≤ ready = ltb-false ready (2 * o) e in
-          let none : (bevs_at S ready).lower.bev.input.spare ≡ 0 =
-          ap (λ (x : Slot). x.bev.input.spare) (get_or_past S (lower_of ready) no_slot (omega (arith, h, slots))) in
-          absurd (omega (arith, some, none, can.kept))
+  -- room for a read of a side that there is stays
+  pub read_more : (ready beside spare count : ℕ) → (ready < 2 * o) × CanRead (bevs_at S ready) (state_at K ready) beside spare count →
+      (ready < 2 * (o + 1)) × CanRead (bevs_at S3 ready) (state_at K3 ready) beside spare count
+  read_more ready beside spare count can =
+      let h : ready < 2 * o = can.0 in (
+        omega (arith, h),
+        subst (λ (x : SideState). CanRead (bevs_at S3 ready) x beside spare count) (sym (state_old ready h))
+            (subst (λ (x : Bevs). CanRead x (state_at K ready) beside spare count) (sym (bevs_old ready h)) can.1),
+      )
 
 -- What the code keeps stays sound where its slots, its states and the rest are as they were.
 pub sound_kept : (r : Inside) (w : WorldValue) (k : Vec SideState) → w.slots ≡ r.world.slots → k.items ≡ r.sides.items → AreSides r →
@@ -281,10 +275,12 @@ sound_kept r w k a b sound = record {
   counted = λ n h.
       subst (λ (K : List SideState). IsCounted (flow_at w.slots K n) (lane_at w.slots K n)) (sym b)
       (subst (λ (S : List Slot). IsCounted (flow_at S r.sides.items n) (lane_at S r.sides.items n)) (sym a) (sound.counted n h));
-  read_room = λ h.
-      subst (λ (K : List SideState). CanRead (bevs_at w.slots r.ready) (state_at K r.ready) (vec_capacity r.beside) r.readable) (sym b)
-      (subst (λ (S : List Slot). CanRead (bevs_at S r.ready) (state_at r.sides.items r.ready) (vec_capacity r.beside) r.readable) (sym a)
-      (sound.read_room h));
+  read_room = λ h. (
+    (sound.read_room h).0,
+    subst (λ (K : List SideState). CanRead (bevs_at w.slots r.ready) (state_at K r.ready) (vec_capacity r.beside) r.spare r.readable) (sym b)
+        (subst (λ (S : List Slot). CanRead (bevs_at S r.ready) (state_at r.sides.items r.ready) (vec_capacity r.beside) r.spare r.readable)
+        (sym a) (sound.read_room h).1),
+  );
 }
 
 -- and so it does where a link was opened
@@ -308,9 +304,14 @@ sound_more r w k time near far sound a b =
           (subst (λ (S : List Slot). IsCounted (flow_at S (K ++ states) n) (lane_at S (K ++ states) n)) (sym a)
           (counted_more r.opened S K sound.slots sound.sides time near far sound.counted n h));
       read_room = λ h.
-          subst (λ (K : List SideState). CanRead (bevs_at w.slots r.ready) (state_at K r.ready) (vec_capacity r.beside) r.readable) (sym b)
-          (subst (λ (S : List Slot). CanRead (bevs_at S r.ready) (state_at (K ++ states) r.ready) (vec_capacity r.beside) r.readable) (sym a)
-          (read_more r.opened S K sound.slots sound.sides time near far r.ready (vec_capacity r.beside) r.readable h (sound.read_room h)));
+          let can = read_more r.opened S K sound.slots sound.sides time near far r.ready (vec_capacity r.beside) r.spare r.readable
+          (sound.read_room h) in (
+            can.0,
+            subst (λ (K : List SideState). CanRead (bevs_at w.slots r.ready) (state_at K r.ready) (vec_capacity r.beside) r.spare r.readable)
+                (sym b)
+                (subst (λ (S : List Slot). CanRead (bevs_at S r.ready) (state_at (K ++ states) r.ready) (vec_capacity r.beside) r.spare r.readable)
+                (sym a) can.1),
+          );
     }
 
 -- the two sides' bufferevents together

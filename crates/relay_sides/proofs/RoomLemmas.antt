@@ -122,16 +122,6 @@ lower_spared w w2 n at x a lt is =
     subst (λ (z : WorldValue). Quiet w.slots z.slots) (sym is2)
     (lower_quiet w.slots n (record s { bev = record b { output = record b.output { spare = x } } }) lt refl)
 
-pub lower_spared_in : (w w2 : WorldValue) (n at x : ℕ) → at ≡ lower_of n → lower_of n < length w.slots →
-    w2 ≡ with_bev w at (with_spare_in (bev_at w at) Read x) → Quiet w.slots w2.slots
-lower_spared_in w w2 n at x a lt is =
-    let is2 : w2 ≡ with_bev w (lower_of n) (with_spare_in (bev_at w (lower_of n)) Read x) =
-    is ∙ ap (λ k. with_bev w k (with_spare_in (bev_at w k) Read x)) a in
-    let b = bev_at w (lower_of n) in
-    let s = slot_at w (lower_of n) in
-    subst (λ (z : WorldValue). Quiet w.slots z.slots) (sym is2)
-    (lower_quiet w.slots n (record s { bev = record b { input = record b.input { spare = x } } }) lt refl)
-
 -- the filter stands over the bufferevent of its side's end
 pub stands_over : (w : WorldValue) (n at under : ℕ) → at ≡ upper_of n → under ≡ lower_of n →
     (bevs_at w.slots n).upper.kind ≡ Filter (lower_of n) → under_of (slot_at w at).kind ≡ Some under

@@ -1,5 +1,5 @@
 -- What bytes that came, bytes that were taken and a freed side change: one side's two bufferevents, and what is counted of a direction.
-use Rattle.std.proofs.Common.{◌≡◌, ◌≢◌, ℕ, ◌+◌, ◌-◌, ◌*◌, ◌<◌, ◌≤◌, Bool, true, false, ◌==◌, if◌then◌else◌, List, length, slice_set, None, refl, sym, ◌∙◌, ap, subst, arith, eqb-true, length-append, length-drop}
+use Rattle.std.proofs.Common.{◌≡◌, ◌≢◌, ℕ, ◌+◌, ◌*◌, ◌<◌, ◌≤◌, Bool, true, false, ◌==◌, if◌then◌else◌, List, length, slice_set, None, refl, sym, ◌∙◌, ap, subst, arith, eqb-true, length-append, length-drop}
 use Rattle.std.specs.Prelude.{vec_capacity}
 use Rattle.std.proofs.lemmas.Bool.{eqb-false}
 use Rattle.std.proofs.lemmas.List.{length-set, get_or-set_other}
@@ -13,8 +13,9 @@ use Rattle.relay_model.specs.Moments.{active_at}
 use Rattle.relay_state.specs.State.{Lane, no_lane, lane_got, lane_taken, lane_left, lane_lost}
 use Rattle.relay_state.specs.Serving.{flow_given}
 use Rattle.bev_core.specs.BevValue.{BevValue}
-use Rattle.bev_core.specs.Steps.{touched, pushed, less, freed}
+use Rattle.bev_core.specs.Steps.{less, freed}
 use Rattle.bev_filter.specs.StepRoom.{HasStepRoom}
+use Rattle.bev_world.specs.ByNumber.{slot_brought}
 use Rattle.bev_world.specs.WorldValue.{WorldValue, slot_at, with_slot}
 use Rattle.bev_world.specs.declared.slot.Slot.{Slot}
 use Rattle.relay_sides.specs.Bevs.{Bevs, bevs_at, lower_of, upper_of, twin}
@@ -89,7 +90,7 @@ state_changed K n i f y a lt is =
 -- there is room for a read of so many bytes
 pub can_read : (v : SidesValue) (r : Inside) → sides_of r ≡ v → (e : SideId) → e.link < v.links.opened → AreSides r → (count : ℕ) → 0 < count →
     count ≤ spare_read v e →
-    CanRead (bevs_at r.world.slots (number e)) (state_at r.sides.items (number e)) (vec_capacity r.beside) count
+    CanRead (bevs_at r.world.slots (number e)) (state_at r.sides.items (number e)) (vec_capacity r.beside) r.spare count
 can_read v r is e opened sound count some room =
     go (number e == r.ready) refl (omega (arith, room, ap (λ (z : SidesValue). spare_read z e) is, seen))
   where
@@ -97,9 +98,9 @@ can_read v r is e opened sound count some room =
     seen = get-tabulate (λ n. if n == r.ready then r.readable else 0) (2 * r.opened) (number e) 0
         (number-lt e r.opened (here v r is e opened))
 
-    fewer : CanRead (bevs_at r.world.slots (number e)) (state_at r.sides.items (number e)) (vec_capacity r.beside) r.readable →
+    fewer : CanRead (bevs_at r.world.slots (number e)) (state_at r.sides.items (number e)) (vec_capacity r.beside) r.spare r.readable →
         count ≤ r.readable →
-        CanRead (bevs_at r.world.slots (number e)) (state_at r.sides.items (number e)) (vec_capacity r.beside) count
+        CanRead (bevs_at r.world.slots (number e)) (state_at r.sides.items (number e)) (vec_capacity r.beside) r.spare count
     fewer can le =
         let b = bevs_at r.world.slots (number e) in
         let s = state_at r.sides.items (number e) in
@@ -112,24 +113,22 @@ can_read v r is e opened sound count some room =
         }
 
     go : (b : Bool) → (number e == r.ready) ≡ b → count ≤ (if b then r.readable else 0) →
-        CanRead (bevs_at r.world.slots (number e)) (state_at r.sides.items (number e)) (vec_capacity r.beside) count
+        CanRead (bevs_at r.world.slots (number e)) (state_at r.sides.items (number e)) (vec_capacity r.beside) r.spare count
     go true q le =
-        fewer (subst (λ (z : ℕ). CanRead (bevs_at r.world.slots z) (state_at r.sides.items z) (vec_capacity r.beside) r.readable)
-        (sym (eqb-true (number e) r.ready q)) (sound.read_room (omega (arith, some, le)))) le
+        fewer (subst (λ (z : ℕ). CanRead (bevs_at r.world.slots z) (state_at r.sides.items z) (vec_capacity r.beside) r.spare r.readable)
+        (sym (eqb-true (number e) r.ready q)) (sound.read_room (omega (arith, some, le))).1) le
     go false q le = absurd (omega (arith, some, le))
 
 -- bytes came
-abbrev pub bevs_brought : List ℕ → ℕ → Bevs → Bevs
-bevs_brought bytes time b =
-    let s = b.lower in
-    record b { lower = record s { bev = touched (pushed s.bev bytes) Read time; room = s.room - length bytes } }
+abbrev pub bevs_brought : List ℕ → ℕ → ℕ → Bevs → Bevs
+bevs_brought bytes time spare b = record b { lower = slot_brought bytes time spare b.lower }
 
 abbrev pub state_brought : List ℕ → SideState → SideState
 state_brought bytes s = record s { read = s.read + length bytes }
 
 module _ (v : SidesValue) (r : Inside) (is : sides_of r ≡ v) (e : SideId) (opened : e.link < v.links.opened) (sound : AreSides r)
-    (bytes : List ℕ) (time : ℕ) (S' : List Slot) (K' : List SideState)
-    (p : Changed (number e) (bevs_brought bytes time) r.world.slots S') (q : StateChanged (number e) (state_brought bytes) r.sides.items K') where
+    (bytes : List ℕ) (time spare : ℕ) (S' : List Slot) (K' : List SideState)
+    (p : Changed (number e) (bevs_brought bytes time spare) r.world.slots S') (q : StateChanged (number e) (state_brought bytes) r.sides.items K') where
   lt : number e < 2 * r.opened
   lt = number-lt e r.opened (here v r is e opened)
 
@@ -195,7 +194,7 @@ module _ (v : SidesValue) (r : Inside) (is : sides_of r ≡ v) (e : SideId) (ope
         })));
   }
 
-  pub brought-room : CanRead (bevs_at r.world.slots (number e)) (state_at r.sides.items (number e)) (vec_capacity r.beside) (length bytes) →
+  pub brought-room : CanRead (bevs_at r.world.slots (number e)) (state_at r.sides.items (number e)) (vec_capacity r.beside) r.spare (length bytes) →
       HasInputRoom (read_mark v.links e) (links_of r.opened S' K') (rooms_of r.opened S' (vec_capacity r.beside)) e
   brought-room can =
       let b = bevs_at r.world.slots (number e) in

@@ -53,10 +53,11 @@ pub record IsCounted (f : Flow) (l : Lane) : Type 0 where
   pub turned : f.turned + length l.buffers.output ≤ f.moved
   pub given : f.given + length l.buffers.raw_output ≤ l.write_made
 
--- so many bytes of a read can be kept and counted, and so can what the read filter makes of them and of the raw input
-pub record CanRead (b : Bevs) (s : SideState) (beside count : ℕ) : Type 0 where
+-- So many bytes of a read can be kept and counted, and so can what the read filter makes of them and of the raw input. The spare room is
+-- for the raw input with them.
+pub record CanRead (b : Bevs) (s : SideState) (beside spare count : ℕ) : Type 0 where
   pub counted : s.read + count < 2 ^ 64
-  pub kept : count ≤ b.lower.bev.input.spare
+  pub kept : length b.lower.bev.input.bytes + count ≤ spare
   pub step : HasStepRoom b.upper.read_filter.kind (length b.lower.bev.input.bytes + count) (length b.upper.bev.input.bytes)
       (mark_or b.lower.bev.read_high most_at_once) b.upper.bev.input.spare beside s.read_made
 
@@ -67,5 +68,5 @@ pub record AreSides (r : Inside) : Type 0 where
   pub filters : (n : ℕ) → n < 2 * r.opened → (bevs_at r.world.slots n).upper.kind ≡ Filter (lower_of n)
   pub counted : (n : ℕ) → n < 2 * r.opened →
       IsCounted (flow_at r.world.slots r.sides.items n) (lane_at r.world.slots r.sides.items n)
-  pub read_room : 0 < r.readable →
-      CanRead (bevs_at r.world.slots r.ready) (state_at r.sides.items r.ready) (vec_capacity r.beside) r.readable
+  pub read_room : 0 < r.readable → (r.ready < 2 * r.opened)
+      × CanRead (bevs_at r.world.slots r.ready) (state_at r.sides.items r.ready) (vec_capacity r.beside) r.spare r.readable

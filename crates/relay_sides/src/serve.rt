@@ -13,7 +13,8 @@ use ev_types::{NoMemory, SideId};
 
 impl Sides {
     /// Makes room for a read of so many bytes from the side's end, and for what its read filter makes of them. It is also refused
-    /// where they could not be counted. Takes memory, for no more than can come; linear in the length where it does.
+    /// where they could not be counted. The room for the read is one for all sides, so that it is made once: how many bytes come is not
+    /// known before. Takes memory, for no more than can come; linear in the length where it does.
     ///
     /// Own.
     pub fn reserve_read(&mut self, side: SideId, room: usize) -> Result<(), NoMemory>
@@ -39,13 +40,13 @@ impl Sides {
             mark,
             made,
         )?;
-        self.world.make_room_at(lower(side), Dir::Read, room)?;
+        self.spare.reserve(count)?;
         self.ready = side.number();
         self.readable = room;
         Ok(())
     }
 
-    /// They stand behind the raw input.
+    /// They stand behind the raw input, in room of just their length where that can be had.
     fn bring(&mut self, side: SideId, bytes: &[u8], time: u64)
         requires opened { side.link < self.old.links.opened }
         requires some { 0 < length bytes.now }
@@ -54,13 +55,14 @@ impl Sides {
         ensures room { HasInputRoom (read_mark self.old.links side) self.new.links self.new.rooms side }
     {
         self.readable = 0;
-        self.world.bring_at(lower(side), bytes, time);
+        self.world
+            .bring_at(lower(side), bytes, time, &mut self.spare);
         let own = &mut self.sides[side.number()];
         own.read += bytes.len() as u64;
     }
 
-    /// Bytes were read from the side's end at a time, in room that was made before; then its read filter runs. Takes no memory;
-    /// linear in the bytes.
+    /// Bytes were read from the side's end at a time, after room for them was made; then its read filter runs. Takes memory for them
+    /// where the raw input has less room, and is never refused; linear in the bytes.
     ///
     /// Libevent: event2/bufferevent.h, `bufferevent_data_cb`; "Bufferevents: concepts and basics".
     pub fn got(&mut self, side: SideId, bytes: &[u8], time: u64)

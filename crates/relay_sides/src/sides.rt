@@ -8,7 +8,7 @@ ghost use Rattle.relay_sides.specs.Pairs.{HasPairs};
 use crate::flags::SideFlags;
 use crate::side::{MOST_AT_ONCE, SideState, lower, mark_or, upper};
 use bev_core::Dir;
-use bev_world::World;
+use bev_world::{SpareRoom, World};
 use ev_types::SideId;
 use std::alloc::Global;
 use std::marker::Model;
@@ -27,6 +27,8 @@ pub struct Sides {
     pub(crate) sides: Vec<SideState>,
     /// What a filter makes is made here first.
     pub(crate) beside: Vec<u8>,
+    /// Where what is read goes if there is no other room for it.
+    pub(crate) spare: SpareRoom,
     /// The number of the side for which there is room for a read, and for how many bytes.
     pub(crate) ready: usize,
     pub(crate) readable: usize,
@@ -56,6 +58,7 @@ impl Sides {
             world: World::new(alloc),
             sides: Vec::new(alloc),
             beside: Vec::new(alloc),
+            spare: SpareRoom::new(alloc),
             ready: 0,
             readable: 0,
         }

@@ -1,12 +1,13 @@
 // Room that is made in a buffer before, and bytes that come into it.
-ghost use Rattle.std.specs.Prelude.{◌≡◌, ◌≤◌, length, OnOk, OnErr};
+ghost use Rattle.std.specs.Prelude.{◌≡◌, ◌≤◌, ◌+◌, length, OnOk, OnErr};
 ghost use Rattle.evbuf_chain.specs.Answers.{AnswersOr};
 ghost use Rattle.bev_core.specs.Refusals.{live_refusal};
-ghost use Rattle.bev_core.specs.Steps.{held, with_held, pushed, pushed_output};
+ghost use Rattle.bev_core.specs.Steps.{held, with_held, more, pushed, pushed_output};
 ghost use Rattle.bev_core.specs.declared.fault.BevFault.TheVariants.{Memory};
 
 use super::Bev;
 use crate::fault::BevFault;
+use crate::spare_room::SpareRoom;
 use ev_types::NoMemory;
 use token_bucket::Dir;
 
@@ -49,6 +50,19 @@ impl Bev {
         requires { length bytes.now ≤ self.old.input.spare }
         ensures { self.new ≡ pushed self.old bytes.now }
     {
+        self.input.push(bytes);
+    }
+
+    /// Copies bytes to the end of the input, whether it is live or not: in room that it makes, or where no memory is left for that in the
+    /// spare room, which becomes the input then. Takes memory where the input has less room, and is never refused; linear in the length
+    /// of the bytes, and in that of the input where room is made.
+    ///
+    /// Own.
+    pub fn bring_input(&mut self, bytes: &[u8], spare: &mut SpareRoom)
+        requires { length self.old.input.bytes + length bytes.now ≤ spare.old }
+        ensures { self.new ≡ record self.old { input = more self.old.input bytes.now self.new.input.spare } }
+    {
+        self.input.find_room(bytes.len(), &mut spare.buffer);
         self.input.push(bytes);
     }
 

@@ -12,7 +12,7 @@ ghost use Rattle.bev_world.specs.WorldValue.{no_slot, slot_at, bev_at, with_bev}
 
 use super::World;
 use crate::slot::{Kind, Slot};
-use bev_core::{Bev, Dir};
+use bev_core::{Bev, Dir, SpareRoom};
 use bev_filter::{reserve_step, step_reserved};
 use ev_types::NoMemory;
 use stream_filters::AnyFilter;
@@ -107,33 +107,20 @@ impl World {
         self.slots[at].bev.moved_at(dir, now);
     }
 
-    /// Makes room for at least n more bytes in the buffer of a direction, the input for reading and the output for writing. A `feed` is not
-    /// sure to find it: that counts what `reserve_input` made alone. Takes memory; linear in the length and n.
+    /// Copies bytes that were read to the end of the input, in room that it makes or takes, as `bring_input` of bev_core, and makes the
+    /// moment the last activity of reading. No `feed` is sure of room there any more. Takes memory where the input has less room, and is
+    /// never refused; linear in the length of the bytes, and in that of the input where room is made.
     ///
     /// Own.
-    pub fn make_room_at(&mut self, at: usize, dir: Dir, n: usize) -> Result<(), NoMemory>
-        requires { at < length self.old.slots }
-        ensures stays { self.new ≡ with_bev self.old at (with_spare_in (bev_at self.old at) dir (held (bev_at self.new at) dir).spare) }
-        ensures room { OnOk result (n ≤ (held (bev_at self.new at) dir).spare) }
-        ensures kept { (held (bev_at self.old at) dir).spare ≤ (held (bev_at self.new at) dir).spare }
-        ensures err { OnErr result (self.new ≡ self.old) }
-    {
-        self.slots[at].bev.make_room(dir, n)
-    }
-
-    /// Copies bytes that were read to the end of the input, in room that was made before, and makes the moment the last activity of
-    /// reading. Takes no memory; linear in the length.
-    ///
-    /// Own.
-    pub fn bring_at(&mut self, at: usize, bytes: &[u8], now: u64)
+    pub fn bring_at(&mut self, at: usize, bytes: &[u8], now: u64, spare: &mut SpareRoom)
         requires there { at < length self.old.slots }
-        requires room { length bytes.now ≤ (bev_at self.old at).input.spare }
-        ensures { self.new ≡ brought self.old at bytes.now now }
+        requires room { length (bev_at self.old at).input.bytes + length bytes.now ≤ spare.old }
+        ensures { self.new ≡ brought self.old at bytes.now now (bev_at self.new at).input.spare }
     {
         let slot = &mut self.slots[at];
-        slot.bev.push_input(bytes);
+        slot.bev.bring_input(bytes, spare);
         slot.bev.moved_at(Dir::Read, now);
-        slot.room = slot.room.saturating_sub(bytes.len());
+        slot.room = 0;
     }
 
     /// Takes off the first n bytes of the output, or all where there are fewer. Takes no memory.

@@ -1,7 +1,6 @@
-use Rattle.std.proofs.Common.{ℕ, ◌-◌, ◌<◌, ◌≤◌, length, sym, ap, subst, arith}
-use Rattle.token_bucket.specs.declared.limit.Dir.TheVariants.{Read}
+use Rattle.std.proofs.Common.{ℕ, ◌+◌, ◌<◌, ◌≤◌, length, sym, ap, subst, arith}
 use Rattle.ev_types.specs.Sides.{number}
-use Rattle.bev_core.specs.Steps.{touched, pushed}
+use Rattle.bev_world.specs.ByNumber.{slot_brought}
 use Rattle.bev_world.specs.WorldValue.{bev_at}
 use Rattle.relay_sides.proofs.BevsLemmas.{number-lt}
 use Rattle.relay_sides.proofs.SidesLemmas.{here, state_found}
@@ -13,7 +12,7 @@ bring_at-requires-clause-room c =
     let r = c.self.inside in
     let can = can_read c.args.self.now r c.self.view_is c.args.side c.requires.opened c.self.invariant (length c.args.bytes.now)
     c.requires.some c.requires.room in
-    subst (λ (z : ℕ). length c.args.bytes.now ≤ (bev_at r.world z).input.spare) (sym c.lower.ensures) can.kept
+    subst (λ (z : ℕ). length (bev_at r.world z).input.bytes + length c.args.bytes.now ≤ r.spare) (sym c.lower.ensures) can.kept
 
 pub overflow_add-own : goal.overflow_add-own
 overflow_add-own c =
@@ -34,11 +33,11 @@ invariant_of-self c =
     let lt2 : number e < length r.sides.items = omega (arith, lt, c.self.invariant.sides) in
     let x = state_found r.sides.items (number e) c.number.result c.index_mut-own.result.now c.number.ensures c.index_mut-own.ensures.value lt2 in
     let p = lower_changed r.world c.bring_at.new.self (number e) c.lower.result
-    (λ s. record s { bev = touched (pushed s.bev c.args.bytes.now) Read c.args.time; room = s.room - length c.args.bytes.now })
+    (slot_brought c.args.bytes.now c.args.time (bev_at c.bring_at.new.self c.lower.result).input.spare)
     c.lower.ensures (omega (arith, lt, c.self.invariant.slots)) c.bring_at.ensures in
     let q = state_changed r.sides.items (number e) c.number.result (state_brought c.args.bytes.now) _ c.number.ensures lt2
     (ap (state_brought c.args.bytes.now) x) in
-    let s = brought-sound c.args.self.now r c.self.view_is e c.requires.opened c.self.invariant c.args.bytes.now c.args.time _ _ p q in
+    let s = brought-sound c.args.self.now r c.self.view_is e c.requires.opened c.self.invariant c.args.bytes.now c.args.time _ _ _ p q in
     record { slots = s.slots; sides = s.sides; filters = s.filters; counted = s.counted; read_room = λ h. absurd (omega (arith, h)) }
 
 pub returns-clause-links : goal.returns-clause-links
@@ -49,11 +48,11 @@ returns-clause-links c =
     let lt2 : number e < length r.sides.items = omega (arith, lt, c.self.invariant.sides) in
     let x = state_found r.sides.items (number e) c.number.result c.index_mut-own.result.now c.number.ensures c.index_mut-own.ensures.value lt2 in
     let p = lower_changed r.world c.bring_at.new.self (number e) c.lower.result
-    (λ s. record s { bev = touched (pushed s.bev c.args.bytes.now) Read c.args.time; room = s.room - length c.args.bytes.now })
+    (slot_brought c.args.bytes.now c.args.time (bev_at c.bring_at.new.self c.lower.result).input.spare)
     c.lower.ensures (omega (arith, lt, c.self.invariant.slots)) c.bring_at.ensures in
     let q = state_changed r.sides.items (number e) c.number.result (state_brought c.args.bytes.now) _ c.number.ensures lt2
     (ap (state_brought c.args.bytes.now) x) in
-    brought-links c.args.self.now r c.self.view_is e c.requires.opened c.self.invariant c.args.bytes.now c.args.time _ _ p q
+    brought-links c.args.self.now r c.self.view_is e c.requires.opened c.self.invariant c.args.bytes.now c.args.time _ _ _ p q
 
 pub returns-clause-room : goal.returns-clause-room
 returns-clause-room c =
@@ -63,10 +62,10 @@ returns-clause-room c =
     let lt2 : number e < length r.sides.items = omega (arith, lt, c.self.invariant.sides) in
     let x = state_found r.sides.items (number e) c.number.result c.index_mut-own.result.now c.number.ensures c.index_mut-own.ensures.value lt2 in
     let p = lower_changed r.world c.bring_at.new.self (number e) c.lower.result
-    (λ s. record s { bev = touched (pushed s.bev c.args.bytes.now) Read c.args.time; room = s.room - length c.args.bytes.now })
+    (slot_brought c.args.bytes.now c.args.time (bev_at c.bring_at.new.self c.lower.result).input.spare)
     c.lower.ensures (omega (arith, lt, c.self.invariant.slots)) c.bring_at.ensures in
     let q = state_changed r.sides.items (number e) c.number.result (state_brought c.args.bytes.now) _ c.number.ensures lt2
     (ap (state_brought c.args.bytes.now) x) in
     let can = can_read c.args.self.now r c.self.view_is e c.requires.opened c.self.invariant (length c.args.bytes.now)
     c.requires.some c.requires.room in
-    brought-room c.args.self.now r c.self.view_is e c.requires.opened c.self.invariant c.args.bytes.now c.args.time _ _ p q can
+    brought-room c.args.self.now r c.self.view_is e c.requires.opened c.self.invariant c.args.bytes.now c.args.time _ _ _ p q can

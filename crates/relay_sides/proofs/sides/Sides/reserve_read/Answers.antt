@@ -1,11 +1,9 @@
-use Rattle.std.proofs.Common.{ℕ, ◌+◌, ◌*◌, ◌^◌, ◌<◌, ◌≤◌, length, refl, sym, ◌∙◌, ap, subst, arith}
+use Rattle.std.proofs.Common.{ℕ, ◌+◌, ◌*◌, ◌^◌, ◌<◌, length, refl, sym, ◌∙◌, ap, subst, arith}
 use Rattle.std.specs.Prelude.{vec_capacity}
-use Rattle.token_bucket.specs.declared.limit.Dir.TheVariants.{Read}
 use Rattle.ev_types.specs.Sides.{number}
 use Rattle.relay_model.specs.Plain.{PlainSide, no_side}
 use Rattle.relay_model.specs.Rooms.{most_at_once, mark_or}
 use Rattle.relay_state.specs.State.{Lane}
-use Rattle.bev_world.specs.ByNumber.{with_spare_in}
 use Rattle.bev_world.specs.WorldValue.{slot_at, bev_at}
 use Rattle.relay_sides.specs.Bevs.{bevs_at}
 use Rattle.relay_sides.specs.SidesValue.{SidesValue}
@@ -14,7 +12,7 @@ use Rattle.relay_sides.specs.SidesView.{CanRead}
 use Rattle.relay_sides.proofs.TableLemmas.{get-tabulate}
 use Rattle.relay_sides.proofs.BevsLemmas.{number-lt}
 use Rattle.relay_sides.proofs.SidesLemmas.{here, state_found}
-use Rattle.relay_sides.proofs.RoomLemmas.{Seen, then_quiet, quiet_links, quiet_sound, quiet_plain, upper_spared, lower_spared_in, lower_leaves_upper, lane_is, read_step_room, spare_here}
+use Rattle.relay_sides.proofs.RoomLemmas.{Seen, quiet_links, quiet_sound, quiet_plain, upper_spared, lane_is, read_step_room, spare_here}
 use Rattle.relay_sides.proofs.sides.Sides.reserve_read.Goals as goal
 
 pub overflow_add-count : goal.overflow_add-count
@@ -53,49 +51,37 @@ returns-in_err-reserve_step_at-clause-links c =
     (omega (arith, lt, c.self.invariant.slots)) c.reserve_step_at.ensures.stays in
     quiet_links r.world.slots w.slots r.sides.items q r.opened ∙ ap (λ (z : SidesValue). z.links) c.self.view_is
 
-pub invariant_of-self-in_err-make_room_at : goal.invariant_of-self-in_err-make_room_at
-invariant_of-self-in_err-make_room_at c =
+pub invariant_of-self-in_err-reserve : goal.invariant_of-self-in_err-reserve
+invariant_of-self-in_err-reserve c =
     let r = c.self.inside in
     let e = c.args.side in
     let w = c.reserve_step_at.new.self in
     let lt = number-lt e r.opened (here c.args.self.now r c.self.view_is e c.requires) in
     let q = upper_spared r.world w (number e) c.upper.result (bev_at w c.upper.result).input.spare c.upper.ensures
     (omega (arith, lt, c.self.invariant.slots)) c.reserve_step_at.ensures.stays in
-    let w2 = c.make_room_at.new.self in
-    let q2 = lower_spared_in w w2 (number e) c.lower-2.result (bev_at w2 c.lower-2.result).input.spare c.lower-2.ensures
-    (omega (arith, lt, q.count, c.self.invariant.slots)) c.make_room_at.ensures.stays in
-    let both = then_quiet r.world.slots w.slots w2.slots q q2 in
-    let s = quiet_sound r.world.slots w2.slots r.sides.items both r c.self.invariant refl refl in
+    let s = quiet_sound r.world.slots w.slots r.sides.items q r c.self.invariant refl refl in
     record { slots = s.slots; sides = s.sides; filters = s.filters; counted = s.counted; read_room = λ h. absurd (omega (arith, h)) }
 
-pub returns-in_err-make_room_at-clause-links : goal.returns-in_err-make_room_at-clause-links
-returns-in_err-make_room_at-clause-links c =
+pub returns-in_err-reserve-clause-links : goal.returns-in_err-reserve-clause-links
+returns-in_err-reserve-clause-links c =
     let r = c.self.inside in
     let e = c.args.side in
     let w = c.reserve_step_at.new.self in
     let lt = number-lt e r.opened (here c.args.self.now r c.self.view_is e c.requires) in
     let q = upper_spared r.world w (number e) c.upper.result (bev_at w c.upper.result).input.spare c.upper.ensures
     (omega (arith, lt, c.self.invariant.slots)) c.reserve_step_at.ensures.stays in
-    let w2 = c.make_room_at.new.self in
-    let q2 = lower_spared_in w w2 (number e) c.lower-2.result (bev_at w2 c.lower-2.result).input.spare c.lower-2.ensures
-    (omega (arith, lt, q.count, c.self.invariant.slots)) c.make_room_at.ensures.stays in
-    let both = then_quiet r.world.slots w.slots w2.slots q q2 in
-    quiet_links r.world.slots w2.slots r.sides.items both r.opened ∙ ap (λ (z : SidesValue). z.links) c.self.view_is
+    quiet_links r.world.slots w.slots r.sides.items q r.opened ∙ ap (λ (z : SidesValue). z.links) c.self.view_is
 
 pub invariant_of-self-3 : goal.invariant_of-self-3
 invariant_of-self-3 c =
     let r = c.self.inside in
     let e = c.args.side in
     let w = c.reserve_step_at.new.self in
-    let lt = number-lt e r.opened (here c.args.self.now r c.self.view_is e c.requires) in
+    let h0 = here c.args.self.now r c.self.view_is e c.requires in
+    let lt = number-lt e r.opened h0 in
     let q = upper_spared r.world w (number e) c.upper.result (bev_at w c.upper.result).input.spare c.upper.ensures
     (omega (arith, lt, c.self.invariant.slots)) c.reserve_step_at.ensures.stays in
-    let w2 = c.make_room_at.new.self in
-    let q2 = lower_spared_in w w2 (number e) c.lower-2.result (bev_at w2 c.lower-2.result).input.spare c.lower-2.ensures
-    (omega (arith, lt, q.count, c.self.invariant.slots)) c.make_room_at.ensures.stays in
-    let both = then_quiet r.world.slots w.slots w2.slots q q2 in
-    let h0 = here c.args.self.now r c.self.view_is e c.requires in
-    let s = quiet_sound r.world.slots w2.slots r.sides.items both r c.self.invariant refl refl in
+    let s = quiet_sound r.world.slots w.slots r.sides.items q r c.self.invariant refl refl in
     let x = state_found r.sides.items (number e) c.number.result c.index-own.result.now c.number.ensures c.index-own.ensures
     (omega (arith, lt, c.self.invariant.sides)) in
     let read = ap (λ z. z.read) x in
@@ -103,26 +89,26 @@ invariant_of-self-3 c =
     let fits : c.index-own.result.now.read < 2 ^ 64 = omega arith in
     let fits2 : c.args.room + c.index-own.result.now.read < 2 ^ 64 = omega (arith, left, fits) in
     let raw = c.raw_input_len.ensures ∙ ap (λ (l : Lane). length l.buffers.raw_input) (lane_is r.opened r.world.slots r.sides.items e h0)
-    ∙ ap (λ (z : Seen). length z.left.raw_input) (sym (both.seen (number e))) in
+    ∙ ap (λ (z : Seen). length z.left.raw_input) (sym (q.seen (number e))) in
     let own = get-tabulate (plain_at r.world.slots r.sides.items) (2 * r.opened) (number e) no_side lt in
     let mark = c.read_mark-mark.ensures ∙ ap (λ (z : PlainSide). mark_or z.marks.read_high most_at_once)
-    (own ∙ sym (quiet_plain r.world.slots w2.slots r.sides.items both (number e))) in
-    let upper = ap (slot_at w) c.upper.ensures
-    ∙ sym (lower_leaves_upper w w2 (number e) c.lower-2.result
-    (with_spare_in (bev_at w c.lower-2.result) Read (bev_at w2 c.lower-2.result).input.spare) c.lower-2.ensures
-    c.make_room_at.ensures.stays (number e)) in
-    let kept = subst (λ (z : ℕ). c.args.room ≤ (bev_at w2 z).input.spare) c.lower-2.ensures c.in_ok-make_room_at.ensures.room in
-    let step = read_step_room (slot_at w c.upper.result) (bevs_at w2.slots (number e)) (c.raw_input_len.result + c.args.room) c.args.room
+    (own ∙ sym (quiet_plain r.world.slots w.slots r.sides.items q (number e))) in
+    let step = read_step_room (slot_at w c.upper.result) (bevs_at w.slots (number e)) (c.raw_input_len.result + c.args.room) c.args.room
     c.read_mark-mark.result (vec_capacity c.reserve_step_at.new.beside) c.index-own.result.now.read_made
-    (state_at r.sides.items (number e)).read_made upper (ap (λ z. z + c.args.room) raw) mark (ap (λ z. z.read_made) x)
-    c.in_ok-reserve_step_at.ensures.room in
+    (state_at r.sides.items (number e)).read_made (ap (slot_at w) c.upper.ensures) (ap (λ z. z + c.args.room) raw) mark
+    (ap (λ z. z.read_made) x) c.in_ok-reserve_step_at.ensures.room in
+    let here_is = c.number-self-inside.ensures in
     record {
       slots = s.slots;
       sides = s.sides;
       filters = s.filters;
       counted = s.counted;
-      read_room = λ some. subst (λ (z : ℕ). CanRead (bevs_at w2.slots z) (state_at r.sides.items z) (vec_capacity c.reserve_step_at.new.beside)
-          c.args.room) (sym c.number-self-inside.ensures) (record { counted = omega (arith, fits2, read); kept = kept; step = step });
+      read_room = λ some. (
+        omega (arith, lt, here_is),
+        subst (λ (z : ℕ). CanRead (bevs_at w.slots z) (state_at r.sides.items z) (vec_capacity c.reserve_step_at.new.beside)
+            c.reserve.new.self c.args.room) (sym here_is)
+            (record { counted = omega (arith, fits2, read); kept = omega (arith, raw, c.in_ok-reserve.ensures.room); step = step }),
+      );
     }
 
 pub returns-clause-links : goal.returns-clause-links
@@ -133,11 +119,7 @@ returns-clause-links c =
     let lt = number-lt e r.opened (here c.args.self.now r c.self.view_is e c.requires) in
     let q = upper_spared r.world w (number e) c.upper.result (bev_at w c.upper.result).input.spare c.upper.ensures
     (omega (arith, lt, c.self.invariant.slots)) c.reserve_step_at.ensures.stays in
-    let w2 = c.make_room_at.new.self in
-    let q2 = lower_spared_in w w2 (number e) c.lower-2.result (bev_at w2 c.lower-2.result).input.spare c.lower-2.ensures
-    (omega (arith, lt, q.count, c.self.invariant.slots)) c.make_room_at.ensures.stays in
-    let both = then_quiet r.world.slots w.slots w2.slots q q2 in
-    quiet_links r.world.slots w2.slots r.sides.items both r.opened ∙ ap (λ (z : SidesValue). z.links) c.self.view_is
+    quiet_links r.world.slots w.slots r.sides.items q r.opened ∙ ap (λ (z : SidesValue). z.links) c.self.view_is
 
 pub returns-clause-room : goal.returns-clause-room
 returns-clause-room c =

@@ -1,0 +1,49 @@
+// Room for bytes that lies beside the bufferevents.
+ghost use Rattle.std.specs.Prelude.{◌≡◌, ◌≤◌, OnOk};
+
+use crate::own_buffer::OwnBuffer;
+use ev_types::NoMemory;
+use std::alloc::Global;
+use std::marker::Model;
+
+/// Room that many bufferevents share, and that is made before bytes come, so that none of them is refused: a bufferevent whose input has
+/// no room for them, and gets none, takes this for its input. Contracts see for how many bytes it is.
+///
+/// Own.
+#[derive(Drop)]
+pub struct SpareRoom {
+    pub(crate) buffer: OwnBuffer,
+}
+
+impl Model for SpareRoom {
+    ghost use Rattle.std.specs.Prelude.{◌≡◌, [], ℕ};
+
+    ghost Value = { ℕ };
+
+    ghost view = { λ room. room.buffer.spare };
+
+    ghost invariant = { λ room. room.buffer.bytes ≡ [] };
+}
+
+impl SpareRoom {
+    /// Room for no byte. Takes no memory; constant cost.
+    ///
+    /// Own.
+    pub fn new(alloc: Global) -> SpareRoom
+        ensures { result ≡ 0 }
+    {
+        SpareRoom {
+            buffer: OwnBuffer::new(alloc),
+        }
+    }
+
+    /// Makes it room for at least n bytes. Takes memory, linear in n, where it is for fewer.
+    ///
+    /// Own.
+    pub fn reserve(&mut self, n: usize) -> Result<(), NoMemory>
+        ensures room { OnOk result (n ≤ self.new) }
+        ensures kept { self.old ≤ self.new }
+    {
+        self.buffer.reserve(n)
+    }
+}
