@@ -1,6 +1,7 @@
 use Rattle.std.proofs.Common.{◌≡◌, ◌≢◌, ◌⊎◌, inl, inr, ◌≤◌, ◌<◌, ◌+◌, ◌*◌, ◌++◌, ℕ, length, Some, false, refl, ap, ◌∙◌, subst, arith}
 use Rattle.std.proofs.Common.{Result, Ok, Err, IfOk, IfErr}
 use Rattle.std.proofs.lemmas.List.{length-map}
+use Rattle.std.proofs.lemmas.Result.{err_from_is_err_and}
 use Rattle.std.specs.Prelude.{count_by}
 use Rattle.ev_types.specs.Trace.{Trace}
 use Rattle.script_text.specs.declared.script.Script.TheInside.{Inside}
@@ -180,3 +181,9 @@ returns-in-Err-clause-only_memory c =
     case_of refused cause (inl h) = h
     case_of refused (inl is) (inr h) = h.0 ∙ is
     case_of refused (inr is) (inr h) = absurd (h.1 is)
+
+-- No memory for the text is no memory.
+pub returns-in_err-written-clause-only_memory : goal.returns-in_err-written-clause-only_memory
+returns-in_err-written-clause-only_memory c =
+    let p = err_from_is_err_and c.from_residual-in_err-written.result c.from_residual-in_err-written.ensures.1 in
+    rw p.1 p.2
