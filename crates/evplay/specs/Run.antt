@@ -1,4 +1,16 @@
--- How the turns of a script end, as the answer of the last of them and as the status of the program.
+-- Runs of a script: when one may begin, and how its turns end, as the answer of the last of them and as the status of the program.
+use Rattle.std.specs.Prelude.{◌≡◌, ◌≤◌, ℕ, [], length, Result, Ok, Err}
+use Rattle.ev_types.specs.ScriptTurn.{lines_of}
+use Rattle.relay_settings.specs.declared.settings.Settings.{Settings}
+use Rattle.relay_core.specs.SettingsView.{model_settings}
+use Rattle.relay_drive.specs.declared.fault.DriveFault.{DriveFault}
+use Rattle.relay_drive.specs.declared.fault.DriveFault.TheVariants as fault
+use Rattle.relay_laws.specs.Spelling.{BringsFit, TimeoutsFit}
+use Rattle.relay_model.specs.Called.{NamesOpened}
+use Rattle.script_port.specs.ScriptPort.{new_port}
+use Rattle.script_port.specs.ScriptState.{PortState}
+use Rattle.script_port.specs.ScriptVouched.{ScriptVouches}
+use Rattle.script_text.specs.Script.{ScriptValue}
 use Rattle.ev_types.specs.declared.status.Status.{Status}
 use Rattle.ev_types.specs.declared.status.Status.TheVariants as status
 use Rattle.relay_model.specs.Answers.{TurnAnswer}
@@ -12,3 +24,24 @@ answer_of run_end.PollFailed = TurnAnswer.PollFault
 abbrev pub ended_as : RunEnd → Status
 ended_as run_end.Went = status.Ok
 ended_as run_end.PollFailed = status.PollFault
+
+-- a refused turn ends a run with a failed poll, or is the refusal of the run
+abbrev pub refused_by : DriveFault → Result RunEnd DriveFault
+refused_by fault.PollFault = Ok run_end.PollFailed
+refused_by other = Err other
+
+-- the script that a port plays under these settings
+abbrev pub script_over : Settings → PortState → ScriptValue
+script_over settings p = record { settings = settings; turns = p.turns }
+
+-- A run of so many turns may begin over a port: it plays a script of so many, none of which it has begun; the script names only links
+-- that it opens, and what it brings in and the timeouts can be counted.
+pub record MayRun (turns : ℕ) (settings : Settings) (p : PortState) : Type 0 where
+  pub many : turns ≡ length p.turns
+  pub few : length p.turns ≤ 20000
+  pub names : NamesOpened 0 (lines_of p.turns)
+  pub brings : BringsFit p.turns
+  pub links : settings.links ≡ 256
+  pub timeouts : TimeoutsFit (model_settings settings)
+  pub fresh : p ≡ new_port p.turns
+  pub vouched : ScriptVouches p p.turns []

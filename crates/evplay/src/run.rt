@@ -1,16 +1,18 @@
 // Makes the turns of a script over a port that answers by it, and gives the text of what happened.
-ghost use Rattle.std.specs.Prelude.{◌≡◌, ◌≢◌, ◌≤◌, ◌⊎◌, length, IfOk, IfErr};
-ghost use Rattle.relay_drive.specs.declared.fault.DriveFault.TheVariants.{Memory, PollFault};
+ghost use Rattle.std.specs.Prelude.{◌≡◌, ◌≤◌, ◌⊎◌, [], length, Ok, Err, IfOk, IfErr};
+ghost use Rattle.relay_drive.specs.declared.fault.DriveFault.TheVariants.{Memory};
+ghost use Rattle.relay_drive.specs.DriveValue.{new_drive};
 ghost use Rattle.relay_laws.specs.Spelling.{BringsFit, TimeoutsFit};
-ghost use Rattle.evplay.specs.Headline.{settings_of};
+ghost use Rattle.evplay.specs.Headline.{settings_of, IsRun};
 ghost use Rattle.ev_types.specs.ScriptTurn.{lines_of};
 ghost use Rattle.relay_model.specs.Called.{NamesOpened};
 ghost use Rattle.relay_laws.specs.Report.{lines_below};
 ghost use Rattle.evplay.specs.Play.{IsRunText, run_text};
-ghost use Rattle.evplay.specs.Run.{answer_of, ended_as};
+ghost use Rattle.evplay.specs.Run.{answer_of, ended_as, refused_by, script_over, MayRun};
 
 use ev_types::{NoMemory, Status};
 use relay_drive::{Drive, DriveFault};
+use relay_settings::Settings;
 use run_end::link_lines;
 use script_port::ScriptPort;
 use script_text::{Script, write_report};
@@ -53,31 +55,72 @@ pub fn run(alloc: Global, script: Script) -> Result<(Vec<u8>, RunEnd), DriveFaul
     let turns = script.turns.len();
     let settings = script.settings;
     let mut port = ScriptPort::new(alloc, script)?;
-    let mut scribe = TextScribe::new(alloc);
-    let mut drive = Drive::new(alloc, settings)?;
-    for _ in 0..turns {
-        if let Err(fault) = drive.turn(&mut port, &mut scribe) {
-            return cut_off(alloc, fault, scribe, &drive);
-        }
-    }
-    Ok((written(alloc, scribe, &drive)?, RunEnd::Went))
+    run_over(alloc, turns, &settings, &mut port)
 }
 
-/// What is written of a run whose last turn was refused: all so far after a failed poll, and else nothing.
-fn cut_off(
+/// The text of a run over a port that has not begun.
+fn run_over(
     alloc: Global,
-    fault: DriveFault,
+    turns: usize,
+    settings: &Settings,
+    port: &mut ScriptPort,
+) -> Result<(Vec<u8>, RunEnd), DriveFault>
+    requires { MayRun turns settings.now port.old }
+    ensures text { IfOk result (λ ran. IsRunText (script_over settings.now port.old) (answer_of ran.1) ran.0.items) }
+    ensures only_memory { IfErr result (λ fault. fault ≡ Memory) }
+{
+    let mut drive = Drive::new(alloc, *settings)?;
+    let mut scribe = TextScribe::new(alloc);
+    let ended = make_turns(turns, settings, &mut drive, port, &mut scribe);
+    text_of(alloc, ended, scribe, &drive)
+}
+
+/// Makes a turn for each of the script, or up to one whose poll fails.
+fn make_turns(
+    turns: usize,
+    settings: &Settings,
+    drive: &mut Drive,
+    port: &mut ScriptPort,
+    scribe: &mut TextScribe,
+) -> Result<RunEnd, DriveFault>
+    requires may_run { MayRun turns settings.now port.old }
+    requires new_drive { drive.old ≡ new_drive settings.now }
+    requires no_trace { scribe.old.trace ≡ [] }
+    ensures made { IfOk result (λ end. IsRun (script_over settings.now port.old) (answer_of end) scribe.new.trace
+        (lines_below drive.new.state drive.new.state.plain.opened)) }
+    ensures only_memory { IfErr result (λ fault. fault ≡ Memory) }
+{
+    for _ in 0..turns {
+        if let Err(fault) = drive.turn(port, scribe) {
+            return end_by(fault);
+        }
+    }
+    Ok(RunEnd::Went)
+}
+
+/// A run ends with a failed poll, and every other refusal of a turn is one of the run.
+fn end_by(fault: DriveFault) -> Result<RunEnd, DriveFault>
+    ensures { result ≡ refused_by fault }
+{
+    match fault {
+        DriveFault::PollFault => Ok(RunEnd::PollFailed),
+        DriveFault::Memory | DriveFault::OpenFault | DriveFault::Spent => Err(fault),
+    }
+}
+
+/// The text of a run that ended so, or why it was refused.
+fn text_of(
+    alloc: Global,
+    ended: Result<RunEnd, DriveFault>,
     scribe: TextScribe,
     drive: &Drive,
 ) -> Result<(Vec<u8>, RunEnd), DriveFault>
-    ensures poll_failed { IfOk result (λ ran. (fault ≡ PollFault) × (ran.1 ≡ RunEnd.PollFailed)) }
-    ensures text { IfOk result (λ ran. ran.0.items ≡ run_text scribe.trace (lines_below drive.now.state drive.now.state.plain.opened)) }
-    ensures refused { IfErr result (λ refused. (refused ≡ Memory) ⊎ ((refused ≡ fault) × (fault ≢ PollFault))) }
+    ensures text { IfOk result (λ ran. (ended ≡ Ok ran.1)
+        × (ran.0.items ≡ run_text scribe.trace (lines_below drive.now.state drive.now.state.plain.opened))) }
+    ensures refused { IfErr result (λ fault. (fault ≡ Memory) ⊎ (ended ≡ Err fault)) }
 {
-    match fault {
-        DriveFault::PollFault => Ok((written(alloc, scribe, drive)?, RunEnd::PollFailed)),
-        DriveFault::Memory | DriveFault::OpenFault | DriveFault::Spent => Err(fault),
-    }
+    let end = ended?;
+    Ok((written(alloc, scribe, drive)?, end))
 }
 
 /// The text of a trace, and of the report of the drive that made it.
