@@ -1,0 +1,34 @@
+use Rattle.std.proofs.Common.{◌≡◌, ◌⊎◌, inl, inr, ap, subst, Result, Ok, Err, IfOk, IfErr}
+use Rattle.relay_drive.specs.declared.fault.DriveFault.{DriveFault}
+use Rattle.relay_drive.specs.declared.fault.DriveFault.TheVariants as fault
+use Rattle.relay_laws.specs.Report.{lines_below}
+use Rattle.evplay.specs.declared.run.RunEnd.{RunEnd}
+use Rattle.evplay.specs.Headline.{IsRun}
+use Rattle.evplay.specs.Play.{IsRunText}
+use Rattle.evplay.specs.Run.{answer_of, script_over}
+use Rattle.evplay.proofs.run.run_over.Goals as goal
+
+-- What holds of an answer holds of the one that it is, and a fact of that gives one of what was made of it.
+ok-then : {A B E : Type 0} (P : A → Type 0) (Q R : B → Type 0) (of : B → A) (ended : Result A E) (r : Result B E) → IfOk ended P →
+    IfOk r (λ b. (ended ≡ Ok (of b)) × Q b) → ((b : B) → P (of b) → Q b → R b) → IfOk r R
+ok-then P Q R of ended (Ok b) p q f = f b (subst (λ z. IfOk z P) q.0 p) q.1
+ok-then P Q R of ended (Err e) p q f = tt
+
+err-then : {A B E : Type 0} (P : E → Type 0) (ended : Result A E) (r : Result B E) → IfErr ended P →
+    IfErr r (λ e. P e ⊎ (ended ≡ Err e)) → IfErr r P
+err-then P ended (Ok b) p q = tt
+err-then P ended (Err e) p (inl h) = h
+err-then P ended (Err e) p (inr h) = subst (λ z. IfErr z P) h p
+
+pub returns-clause-text : goal.returns-clause-text
+returns-clause-text c =
+    let script = script_over c.args.settings.now c.args.port.now in
+    let s = c.make_turns-ended.new.drive.state in
+    let t = c.make_turns-ended.new.scribe.trace in
+    ok-then (λ end. IsRun script (answer_of end) t (lines_below s s.plain.opened)) _ (λ ran. IsRunText script (answer_of ran.1) ran.0.items)
+    (λ ran. ran.1) c.make_turns-ended.result c.text_of.result c.make_turns-ended.ensures.made c.text_of.ensures.text
+    (λ ran made is. (t, lines_below s s.plain.opened, made, is))
+
+pub returns-clause-only_memory : goal.returns-clause-only_memory
+returns-clause-only_memory c =
+    err-then (λ f. f ≡ fault.Memory) c.make_turns-ended.result c.text_of.result c.make_turns-ended.ensures.only_memory c.text_of.ensures.refused
