@@ -24,7 +24,7 @@ use Rattle.relay_model.specs.Plain.{Plain, PlainSide, no_side, new_side, with_li
 use Rattle.relay_model.specs.Past.{Past, past}
 use Rattle.relay_model.specs.Rooms.{wants}
 use Rattle.relay_model.specs.Reasons.{raise, raise_read, raise_write, happened, end_flag, error_flag, timeout_flag}
-use Rattle.relay_model.specs.Moments.{is_timed, has_run_out, active_at, expire, by_deadline, both_ways, timers_taken, timed, side_timed, time_passed}
+use Rattle.relay_model.specs.Moments.{is_timed, has_run_out, active_at, expire, both_ways, timers_taken, timed, side_timed, time_passed}
 use Rattle.relay_model.specs.Round.{Part, read_run, write_run, do_part}
 use Rattle.relay_model.specs.Serve.{after_conn, after_read, after_got, after_write}
 use Rattle.relay_model.specs.Close.{CloseStep, closed_by}
@@ -113,7 +113,7 @@ module _ (g : Settings) (P : ℕ → SideId → Looks → Type 0) (k : IsKept g 
   holds-taken s h =
       holds-fold (λ state x. raise g x.side why.Timer state) (λ z x q. holds-raise x.side why.Timer z q)
       (record s { timers = filter (λ x. nat_lt s.time x.deadline) s.timers })
-      (by_deadline (filter (λ x. nat_le x.deadline s.time) s.timers)) h
+      ((filter (λ x. nat_le x.deadline s.time) s.timers)) h
 
   holds-passed : (p : Past) (s : Plain) → Holds s → Holds (time_passed g p s)
   holds-passed p s h =

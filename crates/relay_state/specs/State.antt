@@ -4,6 +4,7 @@ use Rattle.ev_types.specs.declared.filter.FilterKind.TheVariants as kind
 use Rattle.ev_types.specs.declared.side.SideId.{SideId}
 use Rattle.ev_types.specs.Sides.{number}
 use Rattle.relay_model.specs.Settings.{Settings}
+use Rattle.relay_model.specs.Due.{Reason}
 use Rattle.relay_model.specs.Plain.{Plain, nothing_yet}
 use Rattle.relay_model.specs.Conserved.{Buffers, Running, no_buffers}
 use Rattle.relay_model.specs.FilterStep.{Stepped, begun}
@@ -27,10 +28,11 @@ pub record State : Type 0 where
   pub settings : Settings
   pub plain : Plain
   pub lanes : List Lane
+  pub batch : List Reason  -- what this turn has still to fire
 
 -- before the first turn
 abbrev pub new_state : Settings → State
-new_state settings = record { settings = settings; plain = nothing_yet; lanes = [] }
+new_state settings = record { settings = settings; plain = nothing_yet; lanes = []; batch = [] }
 
 abbrev pub lane_at : State → SideId → Lane
 lane_at s e = slice_index_or s.lanes (number e) no_lane

@@ -18,7 +18,7 @@ use Rattle.relay_model.specs.Plain as plain
 use Rattle.relay_model.specs.Plain.{Plain, Timer, side_at, change_side, change_flow, is_live, all_sides}
 use Rattle.relay_model.specs.Due.{with_reason}
 use Rattle.relay_model.specs.Reasons.{has_hook, raise, happened, timeout_flag, end_flag, error_flag}
-use Rattle.relay_model.specs.Moments.{is_timed, active_at, both_ways, by_deadline, timers_taken, has_run_out, expire}
+use Rattle.relay_model.specs.Moments.{is_timed, active_at, both_ways, timers_taken, has_run_out, expire}
 use Rattle.relay_model.specs.Close.{CloseStep}
 use Rattle.relay_model.specs.Round.{Part, parts_of}
 use Rattle.relay_model.specs.Turn.{turned_to}
@@ -294,7 +294,7 @@ taken-frame : (g : Settings) (ms : ℕ) (p : Plain) →
     × ((timers_taken g (turned_to ms p)).turn ≡ p.turn + 1)
 taken-frame g ms p =
     let q : Plain = turned_to ms p in
-    go (record q { timers = filter (λ x. nat_lt ms x.deadline) q.timers }) (by_deadline (filter (λ x. nat_le x.deadline ms) q.timers))
+    go (record q { timers = filter (λ x. nat_lt ms x.deadline) q.timers }) ((filter (λ x. nat_le x.deadline ms) q.timers))
   where
     raised : (z : Plain) (x : Timer) → ((raise g x.side why.Timer z).opened ≡ z.opened) × ((raise g x.side why.Timer z).time ≡ z.time)
         × ((raise g x.side why.Timer z).turn ≡ z.turn)

@@ -4,7 +4,7 @@ pub mod SizeLemmas
 pub mod CountLemmas
 pub mod FrameLemmas
 pub mod WaitLemmas
-pub mod CalmLemmas
+pub mod RateLemmas
 pub mod RoomLemmas
 pub mod StandsLemmas
 pub mod TimeSteps
@@ -21,7 +21,14 @@ pub mod PassSteps
 pub mod StillSteps
 pub mod FreeSteps
 pub mod CloseSteps
+pub mod AskSteps
+pub mod FireSteps
+pub mod HookedLemmas
+pub mod DispatchSteps
 pub mod LaneSteps
 pub mod ServeSteps
 pub mod ReadSteps
 pub mod WriteSteps
+pub mod BucketLemmas
+pub mod RunSteps
+pub mod GaugeSteps

@@ -34,6 +34,7 @@ use Rattle.relay_state.specs.State.{State, no_lane, lane_at}
 use Rattle.relay_state.specs.Opening.{new_lane, after_opened}
 use Rattle.relay_steps.specs.Meaning.{LaneFits, StandsFor}
 use Rattle.relay_steps.proofs.EndLemmas.{IsSilent, SameTold, told-same, number-below}
+use Rattle.relay_steps.proofs.RateLemmas.{unset-link}
 use Rattle.relay_steps.proofs.FitLemmas.{Sight, sight, FitsSight, fits-seen, fits-same}
 
 silent-opened : (link : ℕ) (connected : Bool) (a : SideId) → IsSilent (entry.Opened link connected, []) a
@@ -213,4 +214,5 @@ opened-stands t s n marks connected k few lt =
       many = length-append s.lanes (new_lane g In Out ∷ new_lane g Out In ∷ []) ∙ (let a = k.many in omega arith);
       each = opened-fits t x s k connected;
       built = k.built;
+      unlimited = unset-link g k.built connected s.plain (kept g t (at x s.plain) k.reached).counts.shape.sides k.unlimited;
     }

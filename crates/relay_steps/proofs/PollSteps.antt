@@ -12,12 +12,15 @@ use Rattle.relay_model.specs.Plain.{sides_from}
 use Rattle.relay_model.specs.Rooms.{Want}
 use Rattle.relay_model.specs.Close.{closing_from}
 use Rattle.relay_model.specs.Stages.{Halt, Stage, at}
-use Rattle.relay_state.specs.State.{State}
+use Rattle.relay_model.specs.Turn.{Reaches}
+use Rattle.relay_model.proofs.AccountedLemmas.{silent_steps_keep_accounts}
+use Rattle.relay_state.specs.State.{State, lane_at}
+use Rattle.relay_state.specs.Asking.{dispatching}
+use Rattle.relay_steps.proofs.FitLemmas.{fits-same}
 use Rattle.relay_state.specs.Rooms.{wanted}
 use Rattle.relay_state.specs.Time.{poll_timeout}
 use Rattle.relay_steps.specs.Meaning.{StandsFor}
 use Rattle.relay_steps.proofs.EndLemmas.{IsSilent}
-use Rattle.relay_steps.proofs.CalmLemmas.{calm}
 use Rattle.relay_steps.proofs.RoomLemmas.{wanted-is, poll_timeout-is}
 use Rattle.relay_steps.proofs.StandsLemmas.{stands-told, stands-quiet}
 
@@ -148,15 +151,25 @@ pub accepted-stands : (t : Trace) (s : State) (n : ℕ) (marks : List Want) → 
     StandsFor t (Stage.Serving marks) s
 accepted-stands t s n marks k = stands-quiet t (Stage.Accepting n marks) (Stage.Serving marks) s k refl
 
--- No reason is due, so that nothing is fired.
+-- All that is due is to be fired.
 pub served-stands : (t : Trace) (s : State) → StandsFor t (Stage.Serving []) s →
+    StandsFor t (Stage.Dispatching (batch s.plain.due)) (dispatching s)
+served-stands t s k = record {
+  reached = Reaches.goes k.reached refl;
+  accounts =
+      silent_steps_keep_accounts s.settings t (at (Stage.Serving []) s.plain)
+      (at (Stage.Dispatching (batch s.plain.due)) (record (s.plain) { due = [] })) k.reached refl k.accounts;
+  many = k.many;
+  each = λ e lt.
+      fits-same s.settings t t s.plain (record (s.plain) { due = [] }) e (lane_at s e) (lane_at (dispatching s) e) refl refl (k.each e lt);
+  built = k.built;
+  unlimited = k.unlimited;
+}
+
+-- Nothing is left to fire.
+pub fired_all-stands : (t : Trace) (s : State) → StandsFor t (Stage.Dispatching []) s →
     StandsFor t (Stage.Passing [] (sides_from 0 s.plain.opened)) s
-served-stands t s k =
-    let due = (calm s.settings t (Stage.Serving []) s.plain k.built k.reached).0 in
-    let fired =
-    stands-quiet t (Stage.Serving []) (Stage.Dispatching []) s k
-    (λ i. at (Stage.Dispatching (batch (sym due i))) (record (s.plain) { due = due i })) in
-    stands-quiet t (Stage.Dispatching []) (Stage.Passing [] (sides_from 0 s.plain.opened)) s fired refl
+fired_all-stands t s k = stands-quiet t (Stage.Dispatching []) (Stage.Passing [] (sides_from 0 s.plain.opened)) s k refl
 
 pub passed_all-stands : (t : Trace) (s : State) → StandsFor t (Stage.Passing [] []) s →
     StandsFor t (Stage.Closing (closing_from 0 s.plain.opened)) s

@@ -36,6 +36,8 @@ use Rattle.relay_steps.proofs.EndLemmas.{same_end-apart, read-silent, ended-sile
 use Rattle.relay_steps.proofs.FitLemmas.{sight, FitsSight, seen-fits, fits-seen, lane-set, lane-set_other}
 use Rattle.relay_steps.proofs.PassSteps.{filtering-stands}
 use Rattle.relay_steps.proofs.LaneSteps.{fits-got, fits-ended}
+use Rattle.relay_model.proofs.Frames.{rates_of}
+use Rattle.relay_steps.proofs.RateLemmas.{rates-same}
 use Rattle.relay_steps.proofs.StillSteps.{IsStill, put-stands, still-same, still-event, still-raised, sight-of, one-fits, lane_in, in_lanes}
 use Rattle.relay_steps.proofs.ServeSteps.{if_true, some-may, one_or_more, mark, call-is, marks-are}
 
@@ -151,6 +153,7 @@ module _ (t : Trace) (s : State) (e : SideId) (r w : Bool) (ms : List Want) (k :
       many = length-set s.lanes (number e) new_lane ∙ k.many;
       each = one-fits t u marked s active lanes e k sight-rest (λ a h. lane-set_other s e a new_lane h) got-fits;
       built = k.built;
+      unlimited = rates-same p active (λ a. seen-change rates_of e a (active_at p.time dir.Read) p (λ x. refl)) k.unlimited;
     }
 
     got-stands :
@@ -168,7 +171,7 @@ module _ (t : Trace) (s : State) (e : SideId) (r w : Bool) (ms : List Want) (k :
       let u : Trace = t ++ x ∷ [] in
       let new : Plain = model.after_read g e read.Ended p in
       let change : PlainSide → PlainSide = λ z. record z { ended = true; reads = false } in
-      let still : IsStill t t p new = still-raised g t p e change (happened dir.Read end_flag) (λ z. refl) (λ z. refl) in
+      let still : IsStill t t p new = still-raised g t p e change (happened dir.Read end_flag) (λ z. refl) (λ z. refl) (λ z. refl) in
       let own : sight u new e ≡ record (sight t p e) { ended = true } =
       sight-of t u p new e (bytes_read e t) true (flow_at p e) (read-silent t x e refl)
       (has_ended-push e t x ∙ ap (λ b. has_ended e t || b) (same_end-refl e) ∙ or_true (has_ended e t)) (still.flow e)
@@ -191,6 +194,7 @@ module _ (t : Trace) (s : State) (e : SideId) (r w : Bool) (ms : List Want) (k :
         many = k.many ∙ ap (λ n. 2 * n) (sym still.opened);
         each = λ a h. each a (subst (λ n. a.link < n) still.opened h);
         built = k.built;
+        unlimited = rates-same p new still.rates k.unlimited;
       }
 
   -- a read with exactly the room of the side, whatever is answered
@@ -207,5 +211,5 @@ module _ (t : Trace) (s : State) (e : SideId) (r w : Bool) (ms : List Want) (k :
       put-stands t marked (Stage.Serving marks) s (model.after_read g e read.Failed p) (entry.Read e room read.Failed) bytes k
       (read-puts read.Failed bytes carries) tt
       (still-event t (entry.Read e room read.Failed, bytes) p (model.after_read g e read.Failed p)
-      (still-raised g t p e (λ x. record x { failed = true; reads = false }) (happened dir.Read error_flag) (λ z. refl) (λ z. refl))
+      (still-raised g t p e (λ x. record x { failed = true; reads = false }) (happened dir.Read error_flag) (λ z. refl) (λ z. refl) (λ z. refl))
       (λ a. refl) (λ a. refl))

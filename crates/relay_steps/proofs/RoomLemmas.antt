@@ -27,7 +27,6 @@ use Rattle.relay_state.specs.Rooms.{input_length, waiting_for, output_length, re
 use Rattle.relay_state.specs.Time.{expiry, moments, poll_timeout}
 use Rattle.relay_steps.specs.Meaning.{StandsFor}
 use Rattle.relay_steps.proofs.EndLemmas.{peer-peer}
-use Rattle.relay_steps.proofs.CalmLemmas.{unlimited}
 
 -- The lane that begins at a side holds exactly what the counts leave.
 abbrev pub HoldsLeft : Trace → State → SideId → Type 0
@@ -153,7 +152,7 @@ module _ (t : Trace) (s : State) (e : SideId) (k : SideFits t s e) where
 
 pub stands-fits : (t : Trace) (x : Stage) (s : State) (e : SideId) → StandsFor t x s → e.link < s.plain.opened → SideFits t s e
 stands-fits t x s e k lt =
-    let u = unlimited s.settings t x s.plain k.built k.reached e in
+    let u = k.unlimited e in
     record { own = (k.each e lt).holds.buffers; toward = (k.each (peer e) lt).holds.buffers; limit = u.0; group = u.1 }
 
 module _ (t : Trace) (x : Stage) (s : State) (e : SideId) (k : StandsFor t x s) (lt : e.link < s.plain.opened) where
@@ -235,7 +234,7 @@ module _ (t : Trace) (x : Stage) (s : State) (k : StandsFor t x s) where
       λ i. a i ++ (b i ++ [])
 
   no_gain : (e : SideId) → limit_gain Pa s.plain e (side_at s.plain e).limit ≡ []
-  no_gain e = ap (limit_gain Pa s.plain e) (unlimited ga t x s.plain k.built k.reached e).0
+  no_gain e = ap (limit_gain Pa s.plain e) (k.unlimited e).0
 
   pub moments-is : moments s ≡ moment.moments ga Pa s.plain
   moments-is =

@@ -24,6 +24,7 @@ use Rattle.relay_state.specs.State.{State, Lane, lane_at, with_plain}
 use Rattle.relay_steps.specs.Meaning.{LaneFits, StandsFor}
 use Rattle.relay_steps.proofs.EndLemmas.{SameTold, IsSilent, told-same}
 use Rattle.relay_steps.proofs.FitLemmas.{fits-same}
+use Rattle.relay_steps.proofs.RateLemmas.{rates-same}
 use Rattle.relay_steps.proofs.RoomLemmas.{SideFits}
 
 -- Two plain states with the same links and directions, and of each side the same but for enabling, activity and expiry.
@@ -121,6 +122,7 @@ stands-put t x z s q y k put took silent view = record {
       view-fits s.settings t (t ++ y ∷ []) s.plain q e (lane_at s e) (told-same t y e (silent e)) view
       (k.each e (subst (λ n. e.link < n) view.opened lt));
   built = k.built;
+  unlimited = rates-same s.plain q view.rates k.unlimited;
 }
 
 -- Only the stage changes.
@@ -138,4 +140,5 @@ stands-quiet t x z s k quiet = record {
   many = k.many;
   each = k.each;
   built = k.built;
+  unlimited = k.unlimited;
 }

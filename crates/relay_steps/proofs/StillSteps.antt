@@ -18,6 +18,7 @@ use Rattle.relay_model.specs.Turn.{Puts, Quietly, Reaches}
 use Rattle.relay_model.specs.TurnLaws.{ShapeIsTold}
 use Rattle.relay_model.specs.StepLaws.{AccountsFit, TookFirst}
 use Rattle.relay_model.specs.Reasons.{raise}
+use Rattle.relay_model.proofs.Frames.{rates_of}
 use Rattle.relay_model.proofs.KeepsLemmas.{raised}
 use Rattle.relay_model.proofs.PlainLemmas.{seen-change}
 use Rattle.relay_model.proofs.ReachLemmas.{shape-is_told}
@@ -26,6 +27,7 @@ use Rattle.relay_state.specs.State.{State, Lane, no_lane, lane_at, with_plain}
 use Rattle.relay_steps.specs.Meaning.{LaneFits, StandsFor}
 use Rattle.relay_steps.proofs.EndLemmas.{number-below, number-same, read-silent, ended-silent}
 use Rattle.relay_steps.proofs.FitLemmas.{sight, fits-same}
+use Rattle.relay_steps.proofs.RateLemmas.{rates-same}
 
 -- what lanes look at in the second trace and plain state is what they look at in the first
 pub record IsStill (t u : Trace) (p q : Plain) : Type 0 where
@@ -35,6 +37,7 @@ pub record IsStill (t u : Trace) (p q : Plain) : Type 0 where
   pub live : (a : SideId) → is_live q a ≡ is_live p a
   pub marked : (a : SideId) → is_some (side_at q a).bad ≡ is_some (side_at p a).bad
   pub flow : (a : SideId) → flow_at q a ≡ flow_at p a
+  pub rates : (a : SideId) → rates_of (side_at q a) ≡ rates_of (side_at p a)
 
 pub still-sight : (t u : Trace) (p q : Plain) (e : SideId) → IsStill t u p q → sight u q e ≡ sight t p e
 still-sight t u p q e k =
@@ -74,6 +77,7 @@ still-stands t u x y s q k still reached accounts = record {
       fits-same s.settings t u s.plain q e (lane_at s e) (lane_at s e) (still-sight t u s.plain q e still) refl
       (k.each e (subst (λ n. e.link < n) still.opened lt));
   built = k.built;
+  unlimited = rates-same s.plain q still.rates k.unlimited;
 }
 
 -- the model put an entry
@@ -92,6 +96,7 @@ quiet-stands t x y s k quiet = record {
   many = k.many;
   each = k.each;
   built = k.built;
+  unlimited = k.unlimited;
 }
 
 -- Which states are still
@@ -105,20 +110,23 @@ still-same t u p read ended = record {
   live = λ a. refl;
   marked = λ a. refl;
   flow = λ a. refl;
+  rates = λ a. refl;
 }
 
 -- a side was changed, and it lives and is marked as before
 pub still-changed : (t u : Trace) (p : Plain) (e : SideId) (change : PlainSide → PlainSide) →
     ((x : PlainSide) → (change x).live ≡ x.live) → ((x : PlainSide) → is_some (change x).bad ≡ is_some x.bad) →
+    ((x : PlainSide) → rates_of (change x) ≡ rates_of x) →
     ((a : SideId) → bytes_read a u ≡ bytes_read a t) → ((a : SideId) → has_ended a u ≡ has_ended a t) →
     IsStill t u p (change_side e change p)
-still-changed t u p e change live marked read ended = record {
+still-changed t u p e change live marked rates read ended = record {
   opened = refl;
   read = read;
   ended = ended;
   live = λ a. seen-change (λ x. x.live) e a change p live;
   marked = λ a. seen-change (λ x. is_some x.bad) e a change p marked;
   flow = λ a. refl;
+  rates = λ a. seen-change rates_of e a change p rates;
 }
 
 -- pending entries are others
@@ -130,6 +138,7 @@ still-due t u p q r k ds e = subst (IsStill t u p) (sym e) (record {
   live = k.live;
   marked = k.marked;
   flow = k.flow;
+  rates = k.rates;
 })
 
 -- an event tells of no read bytes and no end
@@ -142,16 +151,17 @@ still-event t x p q k read ended = record {
   live = k.live;
   marked = k.marked;
   flow = k.flow;
+  rates = k.rates;
 }
 
 -- a side was changed so, and a reason was raised
 pub still-raised : (g : Settings) (t : Trace) (p : Plain) (e : SideId) (change : PlainSide → PlainSide) (y : Why) →
     ((z : PlainSide) → (change z).live ≡ z.live) → ((z : PlainSide) → is_some (change z).bad ≡ is_some z.bad) →
-    IsStill t t p (raise g e y (change_side e change p))
-still-raised g t p e change y live marked =
+    ((z : PlainSide) → rates_of (change z) ≡ rates_of z) → IsStill t t p (raise g e y (change_side e change p))
+still-raised g t p e change y live marked rates =
     let q : Plain = change_side e change p in
     let k = raised g e y q in
-    still-due t t p q (raise g e y q) (still-changed t t p e change live marked (λ a. refl) (λ a. refl)) k.0 k.1
+    still-due t t p q (raise g e y q) (still-changed t t p e change live marked rates (λ a. refl) (λ a. refl)) k.0 k.1
 
 -- Steps that change what one lane looks at
 

@@ -16,7 +16,7 @@ use Rattle.relay_model.specs.Past.{Past, past}
 use Rattle.relay_model.specs.Rooms as rooms
 use Rattle.relay_model.specs.Reasons.{raise, happened, timeout_flag}
 use Rattle.relay_model.specs.Moments as model
-use Rattle.relay_model.specs.Moments.{is_timed, has_run_out, active_at, expire, both_ways, by_deadline, timers_taken, time_passed}
+use Rattle.relay_model.specs.Moments.{is_timed, has_run_out, active_at, expire, both_ways, timers_taken, time_passed}
 use Rattle.relay_model.specs.Stages.{Stage}
 use Rattle.relay_model.specs.Turn.{turned_to}
 use Rattle.relay_model.proofs.Frames.{active-rates, expire-rates}
@@ -57,7 +57,7 @@ module _ (g : Settings) (P : Past) where
       let later : Plain = record p { timers = filter (λ x. nat_lt p.time x.deadline) p.timers } in
       view-then p later _ (record { opened = refl; flows = refl; seen = λ e. refl; rates = λ e. refl })
       (view-fold {A = Timer} (λ state x. raise g x.side why.Timer state) (λ z x. view-raise g x.side why.Timer z) later
-      (by_deadline (filter (λ x. nat_le x.deadline p.time) p.timers)))
+      ((filter (λ x. nat_le x.deadline p.time) p.timers)))
 
   view-passed : (p : Plain) → SameView p (time_passed g P p)
   view-passed p =

@@ -29,6 +29,7 @@ use Rattle.relay_model.specs.Serve.{Call, call_for, CarriesTook}
 use Rattle.relay_model.specs.Stages.{Stage, at}
 use Rattle.relay_model.specs.StepLaws.{TookFirst}
 use Rattle.relay_model.specs.Turn.{Puts, Reaches}
+use Rattle.relay_model.proofs.Frames.{rates_of}
 use Rattle.relay_model.proofs.KeepsLemmas.{raised_write}
 use Rattle.relay_model.proofs.PlacedLemmas.{may_write-live}
 use Rattle.relay_model.proofs.PlainLemmas.{seen-change}
@@ -40,7 +41,7 @@ use Rattle.relay_steps.specs.Meaning.{LaneFits, StandsFor}
 use Rattle.relay_steps.proofs.EndLemmas.{peer-peer, read-silent, ended-silent}
 use Rattle.relay_steps.proofs.FitLemmas.{sight, FitsSight, seen-fits, fits-seen, fits-same}
 use Rattle.relay_steps.proofs.FitLemmas.{lane-set, lane-set_other, flow-put, flow-put_other}
-use Rattle.relay_steps.proofs.CalmLemmas.{unlimited}
+use Rattle.relay_steps.proofs.RateLemmas.{rates-same}
 use Rattle.relay_steps.proofs.RoomLemmas.{SideFits, waiting-is, output_length-fits}
 use Rattle.relay_steps.proofs.LaneSteps.{fits-taken}
 use Rattle.relay_steps.proofs.StillSteps.{IsStill, put-stands, still-same, still-sight, still-due, still-event, still-raised}
@@ -165,7 +166,7 @@ module _ (t : Trace) (s : State) (e : SideId) (w : Bool) (ms : List Want) (k : S
 
     side-fits : SideFits u (with_taken s e n) e
     side-fits =
-        let none = unlimited g t marked p k.built k.reached e in
+        let none = k.unlimited e in
         record {
           own = (took-fits e lt).holds.buffers;
           toward = (took-fits (peer e) lt).holds.buffers;
@@ -204,6 +205,9 @@ module _ (t : Trace) (s : State) (e : SideId) (w : Bool) (ms : List Want) (k : S
               fits-same g u u took (reasons.raise_write g P e took) a (lane_in lanes a) (lane_in lanes a)
               (still-sight u u took (reasons.raise_write g P e took) a still) refl (took-fits a (subst (λ m. a.link < m) still.opened h));
           built = k.built;
+          unlimited =
+              rates-same p (reasons.raise_write g P e took)
+              (λ a. still.rates a ∙ seen-change rates_of e a (active_at p.time dir.Write) given (λ x. refl)) k.unlimited;
         })
 
   -- a write of exactly what is offered to the side, whatever is answered but want of memory
@@ -218,7 +222,7 @@ module _ (t : Trace) (s : State) (e : SideId) (w : Bool) (ms : List Want) (k : S
       put-stands t marked (Stage.Serving ms) s (model.after_write g P e write.Failed p) (entry.Write e room write.Failed) [] k
       (write-puts write.Failed [] refl) tt
       (still-event t (entry.Write e room write.Failed, []) p (model.after_write g P e write.Failed p)
-      (still-raised g t p e (λ x. record x { failed = true; writes = false }) (happened dir.Write error_flag) (λ z. refl) (λ z. refl))
+      (still-raised g t p e (λ x. record x { failed = true; writes = false }) (happened dir.Write error_flag) (λ z. refl) (λ z. refl) (λ z. refl))
       (λ a. refl) (λ a. refl))
   write-stands write.NoMemory within done = absurd (done refl)
 
