@@ -1,5 +1,5 @@
 -- Hooks: what a turn fires, and what an ask changes.
-use Rattle.std.specs.Prelude.{◌≡◌, ◌⊎◌, ℕ, ◌+◌, ◌≤◌, zero, suc, Bool, true, false, List, [], ◌∷◌, ◌++◌, length, Option, Some, None}
+use Rattle.std.specs.Prelude.{◌≡◌, ◌⊎◌, ℕ, ◌+◌, ◌≤◌, zero, suc, Bool, true, false, List, [], ◌∷◌, ◌++◌, length, Option, Some, None, min, slice_set}
 use Rattle.std.specs.List.{list_any}
 use Rattle.token_bucket.specs.declared.limit.Dir.TheVariants as dir
 use Rattle.ev_types.specs.declared.side.SideId.{SideId}
@@ -12,11 +12,14 @@ use Rattle.ev_types.specs.declared.why.Cause.TheVariants as cause
 use Rattle.ev_types.specs.declared.why.Why.{Why}
 use Rattle.ev_types.specs.Trace.{Trace}
 use Rattle.relay_model.specs.Due.{Reason, batch}
-use Rattle.relay_model.specs.Plain.{is_live}
+use Rattle.relay_model.specs.Plain.{Standing, first_limit, side_at, change_side, is_live}
 use Rattle.relay_model.specs.Past.{Past}
 use Rattle.relay_model.specs.Asks.{done, refusal, may_lack, most_asks}
 use Rattle.relay_model.specs.Close.{freed_entry}
-use Rattle.relay_state.specs.State.{State, with_plain}
+use Rattle.relay_state.specs.State.{State, with_plain, gauge_at}
+use Rattle.relay_state.specs.Running.{held_at, gauge_set}
+use Rattle.ev_types.specs.Sides.{number}
+use Rattle.token_bucket.specs.declared.limit.LimitCfg.{LimitCfg}
 use Rattle.relay_state.specs.Serving.{raise_read, raise_write}
 use Rattle.relay_state.specs.Closing.{freed}
 
@@ -34,16 +37,31 @@ no_past = record { read = λ e. []; turns = λ e d. []; group_turns = λ n d. []
 
 -- what is not built yet
 abbrev pub is_rate : Act → Bool
-is_rate (act.Rate e cfg) = true
 is_rate (act.Join e n) = true
 is_rate (act.Leave e) = true
 is_rate _ = false
+
+-- The limit that stands once this one is asked for. Another one takes what the bucket holds with it, cut to the new burst.
+abbrev pub limit_now : State → SideId → Option Standing → Option LimitCfg → Option Standing
+limit_now s e was None = None
+limit_now s e None (Some cfg) = Some (first_limit s.plain.time s.plain.turn cfg)
+limit_now s e (Some was) (Some cfg) = Some (record {
+  cfg = cfg;
+  turn = s.plain.turn;
+  time = s.plain.time;
+  read_level = min (held_at was.cfg (gauge_at s e) dir.Read s.plain.time) cfg.read_burst;
+  write_level = min (held_at was.cfg (gauge_at s e) dir.Write s.plain.time) cfg.write_burst;
+})
 
 -- What an ask that is answered Ok changes. A trigger looks at the lengths of the buffers.
 abbrev pub asked : Act → State → State
 asked (act.Free e) s = freed e s
 asked (act.Trigger e dir.Read) s = raise_read e s
 asked (act.Trigger e dir.Write) s = raise_write e s
+asked (act.Rate e cfg) s =
+    record (with_plain (change_side e (λ x. record x { limit = limit_now s e x.limit cfg }) s.plain) s) {
+      gauges = slice_set s.gauges (number e) (gauge_set (side_at s.plain e).limit cfg s.plain.time (gauge_at s e));
+    }
 asked a s = with_plain (done s.settings no_past s.plain a) s
 
 -- and what stands in the trace of it, the hook of this side being the one that asks

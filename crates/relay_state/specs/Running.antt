@@ -1,9 +1,10 @@
 -- A bucket as one running number a direction: how many bytes it is short of full. It is never below nothing and has no least value, so
 -- that an overdrawn bucket needs no sign. What it holds is the burst less that.
-use Rattle.std.specs.Prelude.{◌≡◌, ℕ, ◌+◌, ◌-◌, ◌≤◌, ◌<◌, ◌*◌, min, List, [], ◌∷◌, ◌++◌, length, drop}
+use Rattle.std.specs.Prelude.{◌≡◌, Option, Some, None, ℕ, ◌+◌, ◌-◌, ◌≤◌, ◌<◌, ◌*◌, min, List, [], ◌∷◌, ◌++◌, length, drop}
 use Rattle.token_bucket.specs.declared.limit.Dir.{Dir}
 use Rattle.token_bucket.specs.declared.limit.Dir.TheVariants as dir
 use Rattle.token_bucket.specs.declared.limit.LimitCfg.{LimitCfg}
+use Rattle.relay_model.specs.Plain.{Standing, first_limit}
 use Rattle.relay_model.specs.Rates.{Limit, limit_of, ticks, Spell, Beat, spells}
 
 -- what a tick or more brings
@@ -76,3 +77,19 @@ next_gauge was cfg time x = record {
   read = cfg.read_burst - min (held_at was x dir.Read time) cfg.read_burst;
   write = cfg.write_burst - min (held_at was x dir.Write time) cfg.write_burst;
 }
+
+-- bytes are moved under a limit, or without one
+abbrev pub gauge_after : Option Standing → ℕ → Dir → ℕ → Gauge → Gauge
+gauge_after None time d n x = x
+gauge_after (Some y) time d n x = spent_by d n (brought y.cfg time x)
+
+-- the gauge of a side whose link opens
+abbrev pub gauge_begun : Option LimitCfg → ℕ → Gauge
+gauge_begun None time = no_gauge
+gauge_begun (Some cfg) time = first_gauge cfg time
+
+-- the gauge once another limit stands, or none
+abbrev pub gauge_set : Option Standing → Option LimitCfg → ℕ → Gauge → Gauge
+gauge_set was None time x = no_gauge
+gauge_set None (Some cfg) time x = first_gauge cfg time
+gauge_set (Some was) (Some cfg) time x = next_gauge was.cfg cfg time x

@@ -35,13 +35,18 @@ use Rattle.relay_state.specs.State.{State, lane_at, with_plain}
 use Rattle.relay_state.specs.Rooms.{input_length, output_length}
 use Rattle.relay_state.specs.Serving.{raise_read, raise_write}
 use Rattle.relay_state.specs.Closing.{freed}
+use Rattle.token_bucket.specs.declared.limit.LimitCfg.{LimitCfg}
+use Rattle.std.specs.Prelude.{slice_set}
+use Rattle.relay_state.specs.Running.{gauge_set}
+use Rattle.relay_state.specs.State.{gauge_at}
+use Rattle.relay_steps.proofs.RateSteps.{change-is, set-fits, set-gauged}
 use Rattle.relay_state.specs.Asking.{left_to_fire, no_past, is_rate, asked, ask_events}
 use Rattle.relay_steps.specs.Meaning.{LaneFits, StandsFor}
 use Rattle.relay_steps.proofs.EndLemmas.{read-silent, ended-silent, number-below}
 use Rattle.relay_steps.proofs.FitLemmas.{fits-same}
 use Rattle.relay_steps.proofs.RoomLemmas.{input_length-is, output_length-is}
 use Rattle.relay_steps.proofs.StillSteps.{IsStill, put-stands, quiet-stands, stands-shape, still-same, still-changed, still-due, still-event}
-use Rattle.relay_steps.proofs.FreeSteps.{freed-fits, freed-many, freed-unlimited}
+use Rattle.relay_steps.proofs.FreeSteps.{freed-fits, freed-many, freed-gauged}
 
 -- What is left to fire is looked at by nothing else.
 pub batch-stands : (t : Trace) (x : Stage) (s : State) (rs : List Reason) → StandsFor t x s → StandsFor t x (left_to_fire rs s)
@@ -51,7 +56,7 @@ batch-stands t x s rs k = record {
   many = k.many;
   each = λ e lt. fits-same s.settings t t s.plain s.plain e (lane_at s e) (lane_at (left_to_fire rs s) e) refl refl (k.each e lt);
   built = k.built;
-  unlimited = k.unlimited;
+  gauged = k.gauged;
 }
 
 -- a live side is of a link that was opened
@@ -72,7 +77,7 @@ fired-stands t s e y rs k live =
     let x : Event = (entry.Fired e y, []) in
     batch-stands (t ++ x ∷ []) (Stage.Firing (begun e) rs) s rs
     (put-stands t (Stage.Dispatching ((e, y) ∷ rs)) (Stage.Firing (begun e) rs) s s.plain (entry.Fired e y) [] k
-    (refl, live, refl, refl) tt (still-event t x s.plain s.plain (still-same t t s.plain (λ a. refl) (λ a. refl)) (λ a. refl) (λ a. refl)))
+    (refl, live, refl, refl) tt (still-event t x s.plain s.plain (still-same t t s.plain (λ a. refl) (λ a. refl) (λ a d. refl)) (λ a. refl) (λ a. refl) (λ a. (refl, refl))))
 
 -- A fire ends.
 pub fire_ends-stands : (t : Trace) (s : State) (x : Fire) (rs : List Reason) → StandsFor t (Stage.Firing x rs) s →
@@ -103,7 +108,7 @@ module _ (t : Trace) (s : State) (x : Fire) (rs : List Reason) (k : StandsFor t 
   refused-stands a r not_ok =
       put-stands t (Stage.Firing x rs) (after_ask (more x) rs a r) s p (entry.Asked x.side a r) [] k
       (refl, few, refl, p, subst (λ z. Answered z g P p a r p) (sym not_ok) (refl, refl), refl) tt
-      (still-event t (event a r) p p (still-same t t p (λ z. refl) (λ z. refl)) (λ z. refl) (λ z. refl))
+      (still-event t (event a r) p p (still-same t t p (λ z. refl) (λ z. refl) (λ a d. refl)) (λ z. refl) (λ z. refl) (λ a. (refl, refl)))
 
   -- So does one for which there was no memory.
   pub lacking-stands : (a : Act) → refusal g p a ≡ None → may_lack a ≡ true →
@@ -111,7 +116,7 @@ module _ (t : Trace) (s : State) (x : Fire) (rs : List Reason) (k : StandsFor t 
   lacking-stands a ok may =
       put-stands t (Stage.Firing x rs) (after_ask (more x) rs a ask.Memory) s p (entry.Asked x.side a ask.Memory) [] k
       (refl, few, refl, p, subst (λ z. Answered z g P p a ask.Memory p) (sym ok) (inr (refl, may, refl)), refl) tt
-      (still-event t (event a ask.Memory) p p (still-same t t p (λ z. refl) (λ z. refl)) (λ z. refl) (λ z. refl))
+      (still-event t (event a ask.Memory) p p (still-same t t p (λ z. refl) (λ z. refl) (λ a d. refl)) (λ z. refl) (λ z. refl) (λ a. (refl, refl)))
 
   -- what the model puts where nothing refuses the ask
   ok-puts : (a : Act) → refusal g p a ≡ None →
@@ -124,7 +129,7 @@ module _ (t : Trace) (s : State) (x : Fire) (rs : List Reason) (k : StandsFor t 
   still-asked a q ok is still =
       put-stands t (Stage.Firing x rs) (after_ask (more x) rs a ask.Ok) s q (entry.Asked x.side a ask.Ok) [] k
       (subst (λ z. Puts g t (Stage.Firing x rs) p (entry.Asked x.side a ask.Ok) [] (at (after_ask (more x) rs a ask.Ok) z)) is (ok-puts a ok))
-      tt (still-event t (event a ask.Ok) p q still (λ z. refl) (λ z. refl))
+      tt (still-event t (event a ask.Ok) p q still (λ z. refl) (λ z. refl) (λ a. (refl, refl)))
 
   side-asked : (a : Act) (e : SideId) (change : PlainSide → PlainSide) → refusal g p a ≡ None → done g P p a ≡ change_side e change p →
       ((z : PlainSide) → change z ≡ record z { reads = (change z).reads; writes = (change z).writes; marks = (change z).marks;
@@ -134,13 +139,13 @@ module _ (t : Trace) (s : State) (x : Fire) (rs : List Reason) (k : StandsFor t 
   side-asked a e change ok is only =
       still-asked a (change_side e change p) ok is
       (still-changed t t p e change (λ z. ap (λ (y : PlainSide). y.live) (only z)) (λ z. ap (λ (y : PlainSide). is_some y.bad) (only z))
-      (λ z. ap (λ (y : PlainSide). (y.limit, y.group)) (only z)) (λ z. refl) (λ z. refl))
+      (λ z. ap (λ (y : PlainSide). (y.limit, y.group)) (only z)) (λ z. refl) (λ z. refl) (λ a d. refl))
 
   timers-asked : (a : Act) (ts : List Timer) → refusal g p a ≡ None → done g P p a ≡ record p { timers = ts } →
       StandsFor (t ++ (entry.Asked x.side a ask.Ok, []) ∷ []) (after_ask (more x) rs a ask.Ok) (with_plain (record p { timers = ts }) s)
   timers-asked a ts ok is =
       still-asked a (record p { timers = ts }) ok is
-      (record { opened = refl; read = λ z. refl; ended = λ z. refl; live = λ z. refl; marked = λ z. refl; flow = λ z. refl; rates = λ z. refl })
+      (record { opened = refl; read = λ z. refl; ended = λ z. refl; live = λ z. refl; marked = λ z. refl; flow = λ z. refl; rates = λ z. refl; time = refl; spells = λ z d. refl })
 
   with_where : (b : Bool) (q : Plain) → (if b then with_plain q s else s) ≡ with_plain (if b then q else p) s
   with_where true q = refl
@@ -164,7 +169,7 @@ module _ (t : Trace) (s : State) (x : Fire) (rs : List Reason) (k : StandsFor t 
       (sym (input_length-is t (Stage.Firing x rs) s e k lt live)) in
       subst (StandsFor (t ++ event (act.Trigger e dir.Read) ask.Ok ∷ []) (Stage.Firing (more x) rs)) is
       (still-asked (act.Trigger e dir.Read) (reasons.raise_read g P e p) ok refl
-      (still-due t t p p (reasons.raise_read g P e p) (still-same t t p (λ z. refl) (λ z. refl)) r.0 r.1))
+      (still-due t t p p (reasons.raise_read g P e p) (still-same t t p (λ z. refl) (λ z. refl) (λ a d. refl)) r.0 r.1))
 
   write-asked : (e : SideId) → refusal g p (act.Trigger e dir.Write) ≡ None →
       StandsFor (t ++ (entry.Asked x.side (act.Trigger e dir.Write) ask.Ok, []) ∷ []) (after_ask (more x) rs (act.Trigger e dir.Write) ask.Ok)
@@ -180,7 +185,30 @@ module _ (t : Trace) (s : State) (x : Fire) (rs : List Reason) (k : StandsFor t 
       (sym (output_length-is t (Stage.Firing x rs) s e k lt live)) in
       subst (StandsFor (t ++ event (act.Trigger e dir.Write) ask.Ok ∷ []) (Stage.Firing (more x) rs)) is
       (still-asked (act.Trigger e dir.Write) (reasons.raise_write g P e p) ok refl
-      (still-due t t p p (reasons.raise_write g P e p) (still-same t t p (λ z. refl) (λ z. refl)) r.0 r.1))
+      (still-due t t p p (reasons.raise_write g P e p) (still-same t t p (λ z. refl) (λ z. refl) (λ a d. refl)) r.0 r.1))
+
+  -- a limit is set
+  rate-asked : (e : SideId) (cfg : Option LimitCfg) → refusal g p (act.Rate e cfg) ≡ None →
+      StandsFor (t ++ (entry.Asked x.side (act.Rate e cfg) ask.Ok, []) ∷ []) (after_ask (more x) rs (act.Rate e cfg) ask.Ok)
+      (asked (act.Rate e cfg) s)
+  rate-asked e cfg ok =
+      let a : Act = act.Rate e cfg in
+      let z : Stage = Stage.Firing x rs in
+      let lt = live-opened t z s e k (ask-lives a e ok refl) in
+      let q : Plain = done g P p a in
+      let gauges = slice_set s.gauges (number e) (gauge_set (side_at p e).limit cfg p.time (gauge_at s e)) in
+      subst (λ n. StandsFor (t ++ event a ask.Ok ∷ []) (after_ask (more x) rs a ask.Ok) (record (with_plain n s) { gauges = gauges }))
+      (sym (change-is t z s k e lt cfg))
+      (record {
+        reached = Reaches.puts (entry.Asked x.side a ask.Ok) [] k.reached (ok-puts a ok);
+        accounts =
+            entries_keep_accounts g t (at z p) (at (after_ask (more x) rs a ask.Ok) q) (entry.Asked x.side a ask.Ok) [] k.reached
+            (ok-puts a ok) tt k.accounts;
+        many = k.many;
+        each = set-fits t z s k e lt cfg (event a ask.Ok) (λ b. (refl, refl)) (λ b. refl) (λ b. refl);
+        built = k.built;
+        gauged = set-gauged t z s k e lt cfg (event a ask.Ok) (λ b. (refl, refl));
+      })
 
   -- Any side is freed, the running one, its peer, or one that is due later: the ask is recorded, and the free behind it.
   module _ (e : SideId) (ok : refusal s.settings s.plain (act.Free e) ≡ None) where
@@ -205,7 +233,7 @@ module _ (t : Trace) (s : State) (x : Fire) (rs : List Reason) (k : StandsFor t 
       many = freed-many t (Stage.Firing x rs) s e k lt;
       each = freed-fits t (Stage.Firing x rs) s e k lt (event (act.Free e) ask.Ok) (λ z. refl) (λ z. refl);
       built = k.built;
-      unlimited = freed-unlimited t (Stage.Firing x rs) s e k lt;
+      gauged = freed-gauged t (Stage.Firing x rs) s e k lt (event (act.Free e) ask.Ok) (λ a. (refl, refl));
     }
 
     pub free-stands :
@@ -216,7 +244,7 @@ module _ (t : Trace) (s : State) (x : Fire) (rs : List Reason) (k : StandsFor t 
         (append_assoc t (event (act.Free e) ask.Ok ∷ []) ((freed_entry s.plain e cause.Hook, []) ∷ []))
         (put-stands u freeing (Stage.Firing (more x) (without_reasons e rs)) (freed e s) q (freed_entry s.plain e cause.Hook) [] asked_for
         (refl, refl, refl) tt
-        (still-event u (freed_entry s.plain e cause.Hook, []) q q (still-same u u q (λ z. refl) (λ z. refl)) (λ z. refl) (λ z. refl)))
+        (still-event u (freed_entry s.plain e cause.Hook, []) q q (still-same u u q (λ z. refl) (λ z. refl) (λ a d. refl)) (λ z. refl) (λ z. refl) (λ a. (refl, refl))))
 
 -- the stage behind an ask and its entries, with what is left to fire then
 abbrev pub stage_after : Fire → List Reason → Act → AskAnswer → Stage
@@ -242,7 +270,7 @@ asked-stands t s x rs (act.Timeouts e read write) k few rate ok =
     side-asked t s x rs k few (act.Timeouts e read write) e
     (λ z. record z { timeouts = record { read_ms = read; write_ms = write }; last_read = s.plain.time; last_write = s.plain.time }) ok refl
     (λ z. refl)
-asked-stands t s x rs (act.Rate e cfg) k few rate ok = absurd (cc)
+asked-stands t s x rs (act.Rate e cfg) k few rate ok = rate-asked t s x rs k few e cfg ok
 asked-stands t s x rs (act.Join e n) k few rate ok = absurd (cc)
 asked-stands t s x rs (act.Leave e) k few rate ok = absurd (cc)
 asked-stands t s x rs (act.Trigger e dir.Read) k few rate ok = read-asked t s x rs k few e ok
@@ -257,4 +285,4 @@ asked-stands t s x rs (act.Incref e) k few rate ok =
 asked-stands t s x rs (act.Decref e) k few rate ok =
     side-asked t s x rs k few (act.Decref e) e (λ z. record z { references = z.references - 1 }) ok refl (λ z. refl)
 asked-stands t s x rs act.Stop k few rate ok =
-    still-asked t s x rs k few act.Stop s.plain ok refl (still-same t t s.plain (λ z. refl) (λ z. refl))
+    still-asked t s x rs k few act.Stop s.plain ok refl (still-same t t s.plain (λ z. refl) (λ z. refl) (λ a d. refl))

@@ -75,7 +75,7 @@ done-stage : (x : Fire) (s : State) (a : Act) → is_rate a ≡ false →
     stage_after x s.batch a ask.Ok ≡ Stage.Firing (fire_after x (a, ask.Ok)) (asked a s).batch
 done-stage x s (act.Free e) rate = ap (λ z. Stage.Firing z (without_reasons e s.batch)) (still_stopped x (act.Free e) ask.Ok refl)
 done-stage x s act.Stop rate = ap (λ z. Stage.Firing z s.batch) (now_stopped x)
-done-stage x s (act.Rate e cfg) rate = absurd (cc)
+done-stage x s (act.Rate e cfg) rate = ap (λ z. Stage.Firing z s.batch) (still_stopped x (act.Rate e cfg) ask.Ok refl)
 done-stage x s (act.Join e n) rate = absurd (cc)
 done-stage x s (act.Leave e) rate = absurd (cc)
 done-stage x s (act.Trigger e dir.Read) rate =

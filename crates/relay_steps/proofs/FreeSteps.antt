@@ -15,6 +15,9 @@ use Rattle.relay_model.specs.Trace.{read_by, ended_by}
 use Rattle.relay_model.specs.Stages.{Stage}
 use Rattle.relay_state.specs.State.{State, Lane, lane_at, with_plain, with_lane, lane_left, lane_lost}
 use Rattle.relay_state.specs.Closing.{freed, without_batch}
+use Rattle.relay_model.proofs.RatesTold.{freed-limit}
+use Rattle.relay_steps.specs.Gauges.{Gauged}
+use Rattle.relay_steps.proofs.RateLemmas.{Moveless, SameGauged, spells-none, gauged-same}
 use Rattle.relay_steps.specs.Meaning.{LaneFits, StandsFor}
 use Rattle.relay_steps.proofs.EndLemmas.{peer-peer, peer-apart, peer-moves, by_side, number-same, read-silent, ended-silent}
 use Rattle.relay_steps.proofs.FitLemmas.{Sight, sight, FitsSight, seen-fits, fits-seen, fits-same}
@@ -170,15 +173,21 @@ module _ (t : Trace) (x : Stage) (s : State) (e : SideId) (k : StandsFor t x s) 
         (λ own far h.
         fits-same g t u p q a (lane_at s a) (lane_at (freed e s) a) (sight-rest a own far) (lane-rest a own far) (k.each a h)) there
 
-  pub freed-unlimited : (a : SideId) → ((side_at q a).limit ≡ None) × ((side_at q a).group ≡ None)
-  freed-unlimited a = elim (eqb_tells (number a) (number e)) [
-    | inl here ↦
-        subst (λ z. ((side_at q z).limit ≡ None) × ((side_at q z).group ≡ None)) (sym (number-same a e here.1))
-        (ap (λ z. z.limit) freed-here ∙ (k.unlimited e).0, ap (λ z. z.group) freed-here)
-    | inr there ↦
-        let same = freed-there a (λ h. there.1 (ap number h)) in
-        (ap (λ z. z.limit) same ∙ (k.unlimited a).0, ap (λ z. z.group) same ∙ (k.unlimited a).1)
+  freed-group : (a : SideId) → (side_at q a).group ≡ None
+  freed-group a = elim (eqb_tells (number a) (number e)) [
+    | inl here ↦ subst (λ z. (side_at q z).group ≡ None) (sym (number-same a e here.1)) (ap (λ z. z.group) freed-here)
+    | inr there ↦ ap (λ z. z.group) (freed-there a (λ h. there.1 (ap number h))) ∙ k.gauged.group a
   ]
+
+  pub freed-gauged : (event : Event) → Moveless event → Gauged (t ++ event ∷ []) q s.gauges
+  freed-gauged event moves =
+      let same : SameGauged p (record q { sides = p.sides }) = record { opened = refl; time = refl; rates = λ a. refl } in
+      let past = gauged-same t (t ++ event ∷ []) p (record q { sides = p.sides }) s.gauges same (spells-none t event moves) k.gauged in
+      record {
+        many = past.many;
+        each = λ a y is d. past.each a y (sym (freed-limit e a p) ∙ is) d;
+        group = freed-group;
+      }
 
   pub freed-many : length (freed e s).lanes ≡ 2 * s.plain.opened
   freed-many =

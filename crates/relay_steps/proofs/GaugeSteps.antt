@@ -15,26 +15,9 @@ use Rattle.relay_model.specs.Rooms as model
 use Rattle.relay_model.specs.Asks.{next_limit}
 use Rattle.relay_model.specs.Rates.{Limit, limit_of, Spell, Beat, Begins, Moves, spells, moved_by, beat_of, side_spells, held_as_set, standing_level, level}
 use Rattle.relay_state.specs.Running.{refilled, short_after, Ascend, last_of, short_now, time_now, Gauge, short_of, short_at, held_at, brought, spent_by, first_gauge, next_gauge}
+use Rattle.relay_steps.specs.Gauges.{beats, short_by, BucketFits}
 use Rattle.relay_steps.proofs.BucketLemmas.{running-is_least, gain-join, ascend-le}
 use Rattle.relay_steps.proofs.RunSteps.{turn-step, move-step, none-step, drop-added, spells-moves, spells-begins, drop-begins, ascend-added, ascend-push, ascend-last, added}
-
--- what a trace is to a side's bucket
-abbrev pub beats : SideId → Dir → Trace → List Beat
-beats e d t = map (beat_of e d) t
-
--- how short a bucket under a limit is of full by the trace
-abbrev pub short_by : Standing → SideId → Dir → Trace → ℕ
-short_by y e d t = short_now (limit_of y.cfg d) y.time (held_as_set y d) y.turn (beats e d t)
-
--- One bucket of a side fits a trace: at the time it is as short of full as the trace says. Besides, its limit was set in a turn of the
--- trace with no more than its burst, and the turns since then ascend to the time.
-pub record BucketFits (t : Trace) (time : ℕ) (y : Standing) (e : SideId) (x : Gauge) (d : Dir) : Type 0 where
-  pub short : short_at y.cfg x d time ≡ short_by y e d t
-  pub turn : y.turn ≤ length (side_spells e d t)
-  pub held : held_as_set y d ≤ (limit_of y.cfg d).burst
-  pub ascend : Ascend y.time (drop y.turn (side_spells e d t)) time
-  pub ticks : 0 < (limit_of y.cfg d).tick
-  pub kept : x.time ≤ time
 
 -- What the bucket holds is what the model says.
 pub held-is : (t : Trace) (time : ℕ) (y : Standing) (e : SideId) (x : Gauge) (d : Dir) → BucketFits t time y e x d →
@@ -132,10 +115,10 @@ positive : (cfg : LimitCfg) (d : Dir) → 0 < (limit_of cfg d).tick
 positive cfg dir.Read = cfg.ticks
 positive cfg dir.Write = cfg.ticks
 
-nothing-since : (tick time : ℕ) → time / tick - time / tick ≡ 0
+pub nothing-since : (tick time : ℕ) → time / tick - time / tick ≡ 0
 nothing-since tick time = omega arith
 
-fresh-short : (l : Limit) (time short : ℕ) → refilled l time time short ≡ short
+pub fresh-short : (l : Limit) (time short : ℕ) → refilled l time time short ≡ short
 fresh-short l time short = let w = nothing-since l.tick time in let p = ap (λ q. l.rate * q) w in omega (arith, p)
 
 -- a limit that is set in the turn that runs, of which a bucket holds so much

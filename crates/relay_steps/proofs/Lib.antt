@@ -4,7 +4,13 @@ pub mod SizeLemmas
 pub mod CountLemmas
 pub mod FrameLemmas
 pub mod WaitLemmas
+pub mod BeforeLemmas
+pub mod BucketLemmas
+pub mod RunSteps
+pub mod GaugeSteps
+pub mod GroupLemmas
 pub mod RateLemmas
+pub mod MovedSteps
 pub mod RoomLemmas
 pub mod StandsLemmas
 pub mod TimeSteps
@@ -21,6 +27,7 @@ pub mod PassSteps
 pub mod StillSteps
 pub mod FreeSteps
 pub mod CloseSteps
+pub mod RateSteps
 pub mod AskSteps
 pub mod FireSteps
 pub mod HookedLemmas
@@ -29,6 +36,3 @@ pub mod LaneSteps
 pub mod ServeSteps
 pub mod ReadSteps
 pub mod WriteSteps
-pub mod BucketLemmas
-pub mod RunSteps
-pub mod GaugeSteps

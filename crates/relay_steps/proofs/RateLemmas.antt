@@ -1,40 +1,59 @@
--- Where no side has a limit or a group, none has one behind a step that leaves both as they were.
-use Rattle.std.proofs.Common.{◌≡◌, ◌*◌, Option, None, List, [], ◌∷◌, length, ◌∙◌, ap, inl, inr, refl}
-use Rattle.std.specs.Prelude.{Bool, option_map}
+-- Buckets go on fitting where limits, groups, the time and the turns of a trace are as they were, and as a link opens.
+use Rattle.std.proofs.Common.{◌≡◌, ◌≢◌, ℕ, ◌+◌, ◌*◌, ◌<◌, ◌≤◌, Option, Some, None, List, [], ◌∷◌, ◌++◌, length, length-append, refl, sym, ◌∙◌, ap, subst, arith, inl, inr}
+use Rattle.std.specs.Prelude.{Bool, true, false, option_map, map, slice_set}
 use Rattle.std.proofs.lemmas.Bool.Decides.{eqb_tells}
+use Rattle.std.proofs.lemmas.List.{map-append, length-set, get_or_past, get_or_append_left, get_or-append_right}
+use Rattle.token_bucket.specs.declared.limit.Dir.{Dir}
+use Rattle.token_bucket.specs.declared.limit.Dir.TheVariants as dir
+use Rattle.token_bucket.specs.declared.limit.LimitCfg.{LimitCfg}
 use Rattle.ev_types.specs.declared.side.Side.{Side}
 use Rattle.ev_types.specs.declared.side.Side.TheVariants.{In, Out}
 use Rattle.ev_types.specs.declared.side.SideId.{SideId}
-use Rattle.relay_model.specs.Settings.{Settings}
-use Rattle.relay_model.specs.Plain.{Plain, side_at, new_side, with_link, first_limit}
+use Rattle.ev_types.specs.Sides.{number, peer}
+use Rattle.ev_types.specs.Trace.{Event, Trace}
+use Rattle.relay_model.specs.Settings.{Settings, rate_set}
+use Rattle.relay_model.specs.Plain.{Plain, PlainSide, Standing, side_at, put_flow, change_side}
+use Rattle.relay_model.specs.Rates.{beat_of, Moves, side_spells, spells}
 use Rattle.relay_model.proofs.Frames.{rates_of}
-use Rattle.relay_model.proofs.PlainLemmas.{side_at-new, side_at-old, is_connected}
-use Rattle.relay_model.specs.Plain.{put_flow, change_side}
 use Rattle.relay_model.proofs.KeepsLemmas.{Keeps, Keeps-trans, Keeps-put, Keeps-flow}
-use Rattle.ev_types.specs.Sides.{peer}
 use Rattle.relay_state.specs.Passage.{Passage}
 use Rattle.relay_state.specs.Passing.{with_bad, plain_passed}
-use Rattle.relay_steps.specs.Meaning.{IsBuilt}
+use Rattle.relay_state.specs.Running.{Gauge}
+use Rattle.relay_state.specs.State.{gauge_in}
+use Rattle.relay_steps.specs.Gauges.{beats, BucketFits, Gauged}
+use Rattle.relay_steps.proofs.GaugeSteps.{bucket-same}
+use Rattle.relay_steps.proofs.RunSteps.{none-step}
 
-abbrev pub Unlimited : Plain → Type 0
-Unlimited p = (e : SideId) → ((side_at p e).limit ≡ None) × ((side_at p e).group ≡ None)
+-- an event by which nothing is moved at a side, and no turn begins
+abbrev pub Moveless : Event → Type 0
+Moveless v = (e : SideId) → (beat_of e dir.Read v ≡ Moves 0) × (beat_of e dir.Write v ≡ Moves 0)
 
-pub rates-same : (p q : Plain) → ((e : SideId) → rates_of (side_at q e) ≡ rates_of (side_at p e)) → Unlimited p → Unlimited q
-rates-same p q same h = λ e. (ap (λ z. z.0) (same e) ∙ (h e).0, ap (λ z. z.1) (same e) ∙ (h e).1)
+pub beat-none : (v : Event) → Moveless v → (e : SideId) (d : Dir) → beat_of e d v ≡ Moves 0
+beat-none v h e dir.Read = (h e).0
+beat-none v h e dir.Write = (h e).1
 
-module _ (g : Settings) (built : IsBuilt g) where
-  new-unset : (s : Plain) (x : Side) (connected : Bool) → rates_of (new_side g s.time s.turn x connected) ≡ (None, None)
-  new-unset s In connected = let a = built.in_rate in let b = built.in_group in λ i. (option_map (first_limit s.time s.turn) (a i), b i)
-  new-unset s Out connected = let a = built.out_rate in let b = built.out_group in λ i. (option_map (first_limit s.time s.turn) (a i), b i)
+pub spells-none : (t : Trace) (v : Event) → Moveless v → (e : SideId) (d : Dir) → side_spells e d (t ++ v ∷ []) ≡ side_spells e d t
+spells-none t v h e d =
+    ap spells (map-append (beat_of e d) t (v ∷ []) ∙ ap (λ z. beats e d t ++ z ∷ []) (beat-none v h e d)) ∙ none-step (beats e d t)
 
-  pub unset-link : (connected : Bool) (s : Plain) → length s.sides ≡ 2 * s.opened → Unlimited s → Unlimited (with_link g connected s)
-  unset-link connected s size h e = elim (eqb_tells s.opened e.link) [
-    | inl same ↦
-        let r = ap rates_of (side_at-new g connected s e size same.1) ∙ new-unset s e.side (is_connected e.side connected) in
-        (ap (λ z. z.0) r, ap (λ z. z.1) r)
-    | inr apart ↦
-        let r = ap rates_of (side_at-old g connected s e size apart.1) in (ap (λ z. z.0) r ∙ (h e).0, ap (λ z. z.1) r ∙ (h e).1)
-  ]
+-- where rates, links and the time are as they were
+pub record SameGauged (p q : Plain) : Type 0 where
+  pub opened : q.opened ≡ p.opened
+  pub time : q.time ≡ p.time
+  pub rates : (a : SideId) → rates_of (side_at q a) ≡ rates_of (side_at p a)
+
+pub gauged-same : (t u : Trace) (p q : Plain) (xs : List Gauge) → SameGauged p q →
+    ((e : SideId) (d : Dir) → side_spells e d u ≡ side_spells e d t) → Gauged t p xs → Gauged u q xs
+gauged-same t u p q xs same told k = record {
+  many = k.many ∙ ap (λ n. 2 * n) (sym same.opened);
+  each = λ e y is d.
+      subst (λ z. BucketFits u z y e (gauge_of e) d) (sym same.time)
+      (bucket-same t u p.time y e (gauge_of e) d (told e d) (k.each e y (sym (ap (λ z. z.0) (same.rates e)) ∙ is) d));
+  group = λ e. ap (λ z. z.1) (same.rates e) ∙ k.group e;
+}
+  where
+    gauge_of : SideId → Gauge
+    gauge_of e = gauge_in xs e
 
 -- passing leaves limits and groups
 pub passed-rates : (e : SideId) (x : Passage) (p : Plain) → Keeps rates_of p (plain_passed e x p)

@@ -64,7 +64,7 @@ drop-added n (suc zero) (x ∷ []) = refl
 drop-added n (suc (suc k)) (x ∷ []) = refl
 drop-added n (suc k) (x ∷ y ∷ xs) = drop-added n k (y ∷ xs)
 
-short-added : (l : Limit) (from short n : ℕ) (x : Spell) (xs : List Spell) → short_after l from short (added n (x ∷ xs)) ≡ short_after l from short (x ∷ xs) + n
+pub short-added : (l : Limit) (from short n : ℕ) (x : Spell) (xs : List Spell) → short_after l from short (added n (x ∷ xs)) ≡ short_after l from short (x ∷ xs) + n
 short-added l from short n x [] = omega arith
 short-added l from short n x (y ∷ xs) = short-added l x.time (refilled l from x.time short + x.moved) n y xs
 
@@ -74,7 +74,7 @@ some-left zero (x ∷ xs) h = (x, xs, refl)
 some-left (suc k) [] h = absurd (omega (arith, h))
 some-left (suc k) (x ∷ xs) h = some-left k xs (omega (arith, h))
 
-added-none : (xs : List Spell) → added 0 xs ≡ xs
+pub added-none : (xs : List Spell) → added 0 xs ≡ xs
 added-none [] = refl
 added-none (x ∷ []) = let e : x.moved + 0 ≡ x.moved = omega arith in λ i. record x { moved = e i } ∷ []
 added-none (x ∷ y ∷ xs) = ap (λ z. x ∷ z) (added-none (y ∷ xs))
