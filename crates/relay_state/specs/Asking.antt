@@ -35,11 +35,11 @@ left_to_fire rs s = record s { batch = rs }
 abbrev pub no_past : Past
 no_past = record { read = λ e. []; turns = λ e d. []; group_turns = λ n d. [] }
 
--- what is not built yet
-abbrev pub is_rate : Act → Bool
-is_rate (act.Join e n) = true
-is_rate (act.Leave e) = true
-is_rate _ = false
+-- an ask about groups, which no code of the relay answers yet
+abbrev pub is_of_group : Act → Bool
+is_of_group (act.Join e n) = true
+is_of_group (act.Leave e) = true
+is_of_group _ = false
 
 -- The limit that stands once this one is asked for. Another one takes what the bucket holds with it, cut to the new burst.
 abbrev pub limit_now : State → SideId → Option Standing → Option LimitCfg → Option Standing
@@ -81,7 +81,7 @@ Answered None s a answer new = ((answer ≡ ask.Ok) × (new ≡ asked a s)) ⊎ 
 
 -- one ask of the hook of a side, with its entries
 pub record AsksOne (me : SideId) (a : Act) (answer : AskAnswer) (s : State) (added : Trace) (new : State) : Type 0 where
-  pub built : is_rate a ≡ false
+  pub built : is_of_group a ≡ false
   pub answered : Answered (refusal s.settings s.plain a) s a answer new
   pub entries : added ≡ ask_events me s a answer
 

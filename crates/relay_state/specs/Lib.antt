@@ -9,4 +9,3 @@ pub mod Time
 pub mod Asking
 pub mod Counting
 pub mod Running
-pub mod RunningGroups

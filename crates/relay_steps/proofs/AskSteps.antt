@@ -40,7 +40,7 @@ use Rattle.std.specs.Prelude.{slice_set}
 use Rattle.relay_state.specs.Running.{gauge_set}
 use Rattle.relay_state.specs.State.{gauge_at}
 use Rattle.relay_steps.proofs.RateSteps.{change-is, set-fits, set-gauged}
-use Rattle.relay_state.specs.Asking.{left_to_fire, no_past, is_rate, asked, ask_events}
+use Rattle.relay_state.specs.Asking.{left_to_fire, no_past, is_of_group, asked, ask_events}
 use Rattle.relay_steps.specs.Meaning.{LaneFits, StandsFor}
 use Rattle.relay_steps.proofs.EndLemmas.{read-silent, ended-silent, number-below}
 use Rattle.relay_steps.proofs.FitLemmas.{fits-same}
@@ -253,7 +253,7 @@ stage_after x rs a r = after_ask (more x) rs a r
 
 -- One ask that nothing refuses, of any side: the relay goes on standing for the trace with its entries.
 pub asked-stands : (t : Trace) (s : State) (x : Fire) (rs : List Reason) (a : Act) → StandsFor t (Stage.Firing x rs) s → x.asks < most_asks →
-    is_rate a ≡ false → refusal s.settings s.plain a ≡ None →
+    is_of_group a ≡ false → refusal s.settings s.plain a ≡ None →
     StandsFor (t ++ ask_events x.side s a ask.Ok) (stage_after x rs a ask.Ok) (asked a s)
 asked-stands t s x rs (act.Free e) k few rate ok = free-stands t s x rs k few e ok
 asked-stands t s x rs (act.Enable e dir.Read) k few rate ok =

@@ -16,7 +16,7 @@ use Rattle.relay_model.specs.Stages.{Fire, Stage, begun, after_ask}
 use Rattle.relay_model.specs.Turn.{after_fire}
 use Rattle.relay_model.proofs.RatesTold.{refusal-not_ok}
 use Rattle.relay_state.specs.State.{State}
-use Rattle.relay_state.specs.Asking.{is_rate, asked, ask_events, left_to_fire, Answered, AsksOne, AsksAll, stops, Fires}
+use Rattle.relay_state.specs.Asking.{is_of_group, asked, ask_events, left_to_fire, Answered, AsksOne, AsksAll, stops, Fires}
 use Rattle.relay_steps.specs.Meaning.{StandsFor}
 use Rattle.relay_steps.proofs.AskSteps.{more, stage_after, refused-stands, lacking-stands, asked-stands, fired-stands, fire_ends-stands}
 
@@ -71,7 +71,7 @@ where_raised : (b : Bool) (s raised : State) → raised.batch ≡ s.batch → (i
 where_raised true s raised h = h
 where_raised false s raised h = refl
 
-done-stage : (x : Fire) (s : State) (a : Act) → is_rate a ≡ false →
+done-stage : (x : Fire) (s : State) (a : Act) → is_of_group a ≡ false →
     stage_after x s.batch a ask.Ok ≡ Stage.Firing (fire_after x (a, ask.Ok)) (asked a s).batch
 done-stage x s (act.Free e) rate = ap (λ z. Stage.Firing z (without_reasons e s.batch)) (still_stopped x (act.Free e) ask.Ok refl)
 done-stage x s act.Stop rate = ap (λ z. Stage.Firing z s.batch) (now_stopped x)

@@ -8,7 +8,6 @@ pub mod BeforeLemmas
 pub mod BucketLemmas
 pub mod RunSteps
 pub mod GaugeSteps
-pub mod GroupLemmas
 pub mod RateLemmas
 pub mod MovedSteps
 pub mod RoomLemmas
