@@ -93,7 +93,7 @@ module _ (g : Settings) (none : HasNoHooks g) where
       fold-due (side_timed g p) (λ x e. fold-due (timed g p e) (λ y d. timed-due p e y d) x both_ways) (timers_taken g s) (all_sides s)
       ∙ fold-due {X = Timer} (λ state x. raise g x.side why.Timer state) (λ z x. ap (λ v. v.due) (raise-none x.side why.Timer z))
       (record s { timers = filter (λ x. nat_lt s.time x.deadline) s.timers })
-      ((filter (λ x. nat_le x.deadline s.time) s.timers))
+      (filter (λ x. nat_le x.deadline s.time) s.timers)
 
 -- No hook runs.
 abbrev Idle : Stage → Type 0

@@ -108,7 +108,7 @@ expired-seen dir.Write x = refl
 pub timers_taken-keeps : {A : Type 0} (f : PlainSide → A) (g : Settings) (s : Plain) → Keeps f s (timers_taken g s)
 timers_taken-keeps f g s =
     let later : List Timer = filter (λ x. nat_lt s.time x.deadline) s.timers in
-    let come : List Timer = (filter (λ x. nat_le x.deadline s.time) s.timers) in
+    let come : List Timer = filter (λ x. nat_le x.deadline s.time) s.timers in
     Keeps-trans f s (record s { timers = later }) _ (Keeps-timers f s later)
     (Keeps-fold f (λ (state : Plain) (x : Timer). raise g x.side why.Timer state) (λ state x. Keeps-raise f g x.side why.Timer
     state) (record s { timers = later }) come)

@@ -376,7 +376,7 @@ Eased-fold g p s step h new (x ∷ xs) k = Eased-fold g p s step h (step new x) 
 Eased-timers : (g : Settings) (p : Past) (s : Plain) → Eased g p s (timers_taken g s)
 Eased-timers g p s =
     let later : List Timer = filter (λ x. nat_lt s.time x.deadline) s.timers in
-    let come : List Timer = (filter (λ x. nat_le x.deadline s.time) s.timers) in
+    let come : List Timer = filter (λ x. nat_le x.deadline s.time) s.timers in
     let begin : Eased g p s (record s { timers = later }) = record {
       keeps = Keeps-timers core s later;
       flows = refl;
