@@ -1,9 +1,8 @@
 -- Hooks: a reason is fired, the hook asks of any side, and what the relay stands for goes on.
-use Rattle.std.proofs.Common.{◌≡◌, ◌⊎◌, inl, inr, ◌+◌, ◌-◌, ◌<◌, ◌≤◌, ℕ, Bool, true, false, not, if◌then◌else◌, nat_le, List, [], ◌∷◌, ◌++◌, Option, Some, None, refl, sym, ◌∙◌, ap, subst, arith, append_assoc}
+use Rattle.std.proofs.Common.{◌≡◌, inl, inr, ◌+◌, ◌-◌, ◌<◌, Bool, true, false, not, if◌then◌else◌, nat_le, List, [], ◌∷◌, ◌++◌, Option, Some, None, refl, sym, ◌∙◌, ap, subst, arith, append_assoc}
 use Rattle.std.specs.Prelude.{is_some}
 use Rattle.std.proofs.lemmas.List.{get_or_past}
 use Rattle.std.proofs.lemmas.Bool.Decides.{leb_tells}
-use Rattle.token_bucket.specs.declared.limit.Dir.{Dir}
 use Rattle.token_bucket.specs.declared.limit.Dir.TheVariants as dir
 use Rattle.ev_types.specs.declared.side.SideId.{SideId}
 use Rattle.ev_types.specs.declared.act.Act.{Act}
@@ -14,10 +13,10 @@ use Rattle.ev_types.specs.declared.entry.Entry.TheVariants as entry
 use Rattle.ev_types.specs.declared.why.Cause.TheVariants as cause
 use Rattle.ev_types.specs.declared.why.Why.{Why}
 use Rattle.ev_types.specs.declared.why.Why.TheVariants as why
-use Rattle.ev_types.specs.Sides.{number, peer}
+use Rattle.ev_types.specs.Sides.{number}
 use Rattle.ev_types.specs.Trace.{Event, Trace}
 use Rattle.relay_model.specs.Settings.{Settings}
-use Rattle.relay_model.specs.Due.{Due, Reason, without_reasons}
+use Rattle.relay_model.specs.Due.{Reason, without_reasons}
 use Rattle.relay_model.specs.Plain as plain
 use Rattle.relay_model.specs.Plain.{Plain, PlainSide, no_side, side_at, is_live, change_side, without_timer, placed, Timer}
 use Rattle.relay_model.specs.Past.{Past, past}
@@ -32,7 +31,6 @@ use Rattle.relay_model.proofs.AccountedLemmas.{entries_keep_accounts}
 use Rattle.relay_model.proofs.KeepsLemmas.{raised_read, raised_write}
 use Rattle.relay_model.proofs.RatesTold.{ask-live, not-false}
 use Rattle.relay_state.specs.State.{State, lane_at, with_plain}
-use Rattle.relay_state.specs.Rooms.{input_length, output_length}
 use Rattle.relay_state.specs.Serving.{raise_read, raise_write}
 use Rattle.relay_state.specs.Closing.{freed}
 use Rattle.token_bucket.specs.declared.limit.LimitCfg.{LimitCfg}
@@ -40,9 +38,8 @@ use Rattle.std.specs.Prelude.{slice_set}
 use Rattle.relay_state.specs.Running.{gauge_set}
 use Rattle.relay_state.specs.State.{gauge_at}
 use Rattle.relay_steps.proofs.RateSteps.{change-is, set-fits, set-gauged}
-use Rattle.relay_state.specs.Asking.{left_to_fire, no_past, is_of_group, asked, ask_events}
-use Rattle.relay_steps.specs.Meaning.{LaneFits, StandsFor}
-use Rattle.relay_steps.proofs.EndLemmas.{read-silent, ended-silent, number-below}
+use Rattle.relay_state.specs.Asking.{left_to_fire, is_of_group, asked, ask_events}
+use Rattle.relay_steps.specs.Meaning.{StandsFor}
 use Rattle.relay_steps.proofs.FitLemmas.{fits-same}
 use Rattle.relay_steps.proofs.RoomLemmas.{input_length-is, output_length-is}
 use Rattle.relay_steps.proofs.StillSteps.{IsStill, put-stands, quiet-stands, stands-shape, still-same, still-changed, still-due, still-event}
@@ -132,9 +129,15 @@ module _ (t : Trace) (s : State) (x : Fire) (rs : List Reason) (k : StandsFor t 
       tt (still-event t (event a ask.Ok) p q still (λ z. refl) (λ z. refl) (λ a. (refl, refl)))
 
   side-asked : (a : Act) (e : SideId) (change : PlainSide → PlainSide) → refusal g p a ≡ None → done g P p a ≡ change_side e change p →
-      ((z : PlainSide) → change z ≡ record z { reads = (change z).reads; writes = (change z).writes; marks = (change z).marks;
-      timeouts = (change z).timeouts; last_read = (change z).last_read; last_write = (change z).last_write;
-      references = (change z).references }) →
+      ((z : PlainSide) → change z ≡ record z {
+        reads = (change z).reads;
+        writes = (change z).writes;
+        marks = (change z).marks;
+        timeouts = (change z).timeouts;
+        last_read = (change z).last_read;
+        last_write = (change z).last_write;
+        references = (change z).references;
+      }) →
       StandsFor (t ++ (entry.Asked x.side a ask.Ok, []) ∷ []) (after_ask (more x) rs a ask.Ok) (with_plain (change_side e change p) s)
   side-asked a e change ok is only =
       still-asked a (change_side e change p) ok is

@@ -1,10 +1,10 @@
 -- The running number of a bucket is the least over all turns.
-use Rattle.std.proofs.Common.{◌≡◌, ℕ, ◌+◌, ◌-◌, ◌*◌, ◌/◌, ◌<◌, ◌≤◌, min, List, [], ◌∷◌, ◌++◌, sum_by, refl, sym, ◌∙◌, ap, subst, arith}
+use Rattle.std.proofs.Common.{◌≡◌, ℕ, ◌+◌, ◌-◌, ◌*◌, ◌/◌, ◌<◌, ◌≤◌, min, List, [], ◌∷◌, sym, ◌∙◌, ap, arith}
 use Rattle.std.proofs.lemmas.List.Sums.{sum_by-cons}
 use Rattle.std.proofs.Math.Nat.{div-mul-le_self, mul-add}
 use Rattle.std.proofs.lemmas.Nat.{le-div}
 use Rattle.relay_model.specs.Rates.{Limit, ticks, Spell, moved_in, since_each, least_with, level}
-use Rattle.relay_state.specs.Running.{refilled, short_after, Ascend}
+use Rattle.relay_state.specs.Running.{short_after, Ascend}
 
 pub div-later : (a b k : ℕ) → 0 < k → a ≤ b → a / k ≤ b / k
 div-later a b k pos le = le-div (a / k) b k pos (let q = div-mul-le_self a k in omega (arith, q))

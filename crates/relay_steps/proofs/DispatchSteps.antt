@@ -1,5 +1,5 @@
 -- The phase in which hooks run: all that was due is fired, or a hook stops the run.
-use Rattle.std.proofs.Common.{◌≡◌, ℕ, zero, suc, true, false, [], ◌++◌, length, sym, ◌∙◌, ap, subst, append_assoc, append-nil}
+use Rattle.std.proofs.Common.{ℕ, zero, suc, true, false, [], ◌++◌, sym, ◌∙◌, ap, subst, append_assoc, append-nil}
 use Rattle.ev_types.specs.Trace.{Trace}
 use Rattle.relay_model.specs.Plain.{sides_from}
 use Rattle.relay_model.specs.Stages.{Halt, Stage}

@@ -1,5 +1,5 @@
 -- A fire, and all that a turn fires: the relay goes on standing, whatever the hooks ask.
-use Rattle.std.proofs.Common.{◌≡◌, ◌⊎◌, inl, inr, ◌+◌, ◌<◌, ◌≤◌, ℕ, Bool, true, false, ◌||◌, if◌then◌else◌, List, [], ◌∷◌, ◌++◌, length, Option, Some, None, refl, sym, ◌∙◌, ap, subst, arith, append_assoc, append-nil}
+use Rattle.std.proofs.Common.{◌≡◌, inl, inr, ◌+◌, ◌<◌, ◌≤◌, Bool, true, false, ◌||◌, if◌then◌else◌, List, [], ◌∷◌, ◌++◌, length, Option, Some, None, refl, sym, ◌∙◌, ap, subst, arith, append_assoc, append-nil}
 use Rattle.std.specs.List.{list_any}
 use Rattle.token_bucket.specs.declared.limit.Dir.TheVariants as dir
 use Rattle.ev_types.specs.declared.side.SideId.{SideId}
@@ -10,8 +10,7 @@ use Rattle.ev_types.specs.declared.answer.AskAnswer.TheVariants as ask
 use Rattle.ev_types.specs.declared.entry.Entry.TheVariants as entry
 use Rattle.ev_types.specs.Trace.{Trace}
 use Rattle.relay_model.specs.Due.{Reason, without_reasons}
-use Rattle.relay_model.specs.Plain.{is_live}
-use Rattle.relay_model.specs.Asks.{refusal, may_lack, most_asks}
+use Rattle.relay_model.specs.Asks.{refusal, most_asks}
 use Rattle.relay_model.specs.Stages.{Fire, Stage, begun, after_ask}
 use Rattle.relay_model.specs.Turn.{after_fire}
 use Rattle.relay_model.proofs.RatesTold.{refusal-not_ok}

@@ -1,5 +1,5 @@
 -- What is kept of a side's buckets, step by step, is what the model has by the least over all turns.
-use Rattle.std.proofs.Common.{◌≡◌, ℕ, suc, ◌+◌, ◌-◌, ◌*◌, ◌/◌, ◌<◌, ◌≤◌, Bool, true, false, min, List, [], ◌∷◌, ◌++◌, length, length-append, map, drop, Option, Some, None, refl, sym, ◌∙◌, ap, subst, arith}
+use Rattle.std.proofs.Common.{◌≡◌, ℕ, suc, ◌+◌, ◌-◌, ◌*◌, ◌/◌, ◌<◌, ◌≤◌, min, List, [], ◌∷◌, ◌++◌, length, length-append, drop, Option, Some, None, refl, sym, ◌∙◌, ap, subst, arith}
 use Rattle.std.specs.Prelude.{option_map}
 use Rattle.std.proofs.lemmas.List.{map-append, drop_all}
 use Rattle.token_bucket.specs.declared.limit.Dir.{Dir}
@@ -10,13 +10,13 @@ use Rattle.ev_types.specs.declared.entry.Entry.TheVariants as entry
 use Rattle.ev_types.specs.Trace.{Event, Trace}
 use Rattle.relay_model.specs.Settings.{Settings}
 use Rattle.relay_model.specs.Plain.{Plain, Standing, first_limit, side_at}
-use Rattle.relay_model.specs.Past.{Past, past}
+use Rattle.relay_model.specs.Past.{past}
 use Rattle.relay_model.specs.Rooms as model
 use Rattle.relay_model.specs.Asks.{next_limit}
-use Rattle.relay_model.specs.Rates.{Limit, limit_of, Spell, Beat, Begins, Moves, spells, moved_by, beat_of, side_spells, held_as_set, standing_level, level}
-use Rattle.relay_state.specs.Running.{refilled, short_after, Ascend, last_of, short_now, time_now, Gauge, short_of, short_at, held_at, brought, spent_by, first_gauge, next_gauge}
+use Rattle.relay_model.specs.Rates.{Limit, limit_of, Spell, Beat, Begins, Moves, spells, beat_of, side_spells, held_as_set, standing_level}
+use Rattle.relay_state.specs.Running.{refilled, short_after, Ascend, short_now, time_now, Gauge, short_of, short_at, held_at, spent_by, first_gauge, next_gauge}
 use Rattle.relay_steps.specs.Gauges.{beats, short_by, BucketFits}
-use Rattle.relay_steps.proofs.BucketLemmas.{running-is_least, gain-join, ascend-le}
+use Rattle.relay_steps.proofs.BucketLemmas.{running-is_least, gain-join}
 use Rattle.relay_steps.proofs.RunSteps.{turn-step, move-step, none-step, drop-added, spells-moves, spells-begins, drop-begins, ascend-added, ascend-push, ascend-last, added}
 
 -- What the bucket holds is what the model says.

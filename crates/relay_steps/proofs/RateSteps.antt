@@ -1,5 +1,5 @@
 -- A limit is set by a hook: the relay's standing is the model's, and all buckets fit.
-use Rattle.std.proofs.Common.{◌≡◌, ◌≢◌, ℕ, ◌<◌, ◌*◌, min, Option, Some, None, List, [], ◌∷◌, ◌++◌, length, refl, sym, ◌∙◌, ap, subst, arith, inl, inr}
+use Rattle.std.proofs.Common.{◌≡◌, ◌≢◌, ◌<◌, min, Option, Some, None, List, [], ◌∷◌, ◌++◌, length, refl, sym, ◌∙◌, ap, subst, arith, inl, inr}
 use Rattle.std.specs.Prelude.{is_some, slice_set, false}
 use Rattle.std.proofs.lemmas.Bool.Decides.{eqb_tells}
 use Rattle.std.proofs.lemmas.List.{length-set, get_or-set_same, get_or-set_other}
@@ -11,15 +11,15 @@ use Rattle.ev_types.specs.Sides.{number}
 use Rattle.ev_types.specs.Trace.{Event, Trace}
 use Rattle.relay_model.specs.Trace.{read_by, ended_by, bytes_read, has_ended}
 use Rattle.relay_model.specs.Settings.{Settings}
-use Rattle.relay_model.specs.Plain.{Plain, PlainSide, Standing, first_limit, side_at, flow_at, is_live, change_side}
+use Rattle.relay_model.specs.Plain.{Plain, PlainSide, Standing, first_limit, side_at, flow_at, change_side}
 use Rattle.relay_model.specs.Past.{Past, past}
 use Rattle.relay_model.specs.Asks.{limit_set, next_limit}
 use Rattle.relay_model.specs.Rates.{side_spells}
-use Rattle.relay_model.specs.Stages.{Stage, at}
+use Rattle.relay_model.specs.Stages.{Stage}
 use Rattle.relay_model.proofs.PlainLemmas.{seen-change}
 use Rattle.relay_model.proofs.SpellLemmas.{spells-count}
 use Rattle.relay_state.specs.State.{State, lane_at, gauge_in, gauge_at}
-use Rattle.relay_state.specs.Running.{Gauge, no_gauge, held_at, gauge_set}
+use Rattle.relay_state.specs.Running.{Gauge, no_gauge, gauge_set}
 use Rattle.relay_state.specs.Asking.{limit_now}
 use Rattle.relay_steps.specs.Gauges.{BucketFits, Gauged}
 use Rattle.relay_steps.specs.Meaning.{LaneFits, StandsFor}

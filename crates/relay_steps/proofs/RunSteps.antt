@@ -1,9 +1,8 @@
 -- The running number of a bucket, step by step.
-use Rattle.std.proofs.Common.{◌≡◌, ℕ, zero, suc, ◌+◌, ◌-◌, ◌*◌, ◌<◌, ◌≤◌, min, List, [], ◌∷◌, ◌++◌, length, drop, refl, sym, ◌∙◌, ap, subst, arith, length-append}
-use Rattle.std.proofs.lemmas.List.{drop-append-le, drop_all}
-use Rattle.relay_model.specs.Rates.{Limit, ticks, Spell, level, Beat, Begins, Moves, moved_first, spells}
+use Rattle.std.proofs.Common.{◌≡◌, ℕ, zero, suc, ◌+◌, ◌-◌, ◌<◌, ◌≤◌, List, [], ◌∷◌, ◌++◌, length, drop, refl, sym, ◌∙◌, ap, arith}
+use Rattle.std.proofs.lemmas.List.{drop-append-le}
+use Rattle.relay_model.specs.Rates.{Limit, Spell, Beat, Begins, Moves, moved_first, spells}
 use Rattle.relay_state.specs.Running.{refilled, short_after, last_of, short_now, time_now, Ascend}
-use Rattle.relay_steps.proofs.BucketLemmas.{running-is_least}
 
 pub short-append : (l : Limit) (from short : ℕ) (xs ys : List Spell) → short_after l from short (xs ++ ys) ≡ short_after l (last_of from xs) (short_after l from short xs) ys
 short-append l from short [] ys = refl
