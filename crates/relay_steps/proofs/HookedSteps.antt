@@ -149,11 +149,12 @@ module _ (g : Settings) where
         left = All-nil (ReasonOf g (with_link g connected p));
       })
   put-waits t (Serving (m ∷ ms)) p (entry.Conn side answer) bytes new size k h =
-      moved_to (Serving (m ∷ ms)) _ p (after_conn g side answer p) new h.3 (none-left (Serving (m ∷ ms)) _ p _ (wakes-conn g side answer p) refl k)
+      moved_to (Serving (m ∷ ms)) _ p (after_conn g side answer p) new h.3
+      (none-left (Serving (m ∷ ms)) _ p _ (wakes-conn g side answer p) refl k)
   put-waits t (Serving (m ∷ ms)) p (entry.Read side room answer) bytes new size k h =
       moved_to (Serving (m ∷ ms)) _ p (after_read g side answer p) new h.3
-      (none-left (Serving (m ∷ ms)) (after_reading side answer (marks_left p m ms)) p (after_read g side answer p) (wakes-was_read g side answer p)
-      (reading-left side answer (marks_left p m ms)) k)
+      (none-left (Serving (m ∷ ms)) (after_reading side answer (marks_left p m ms)) p (after_read g side answer p)
+      (wakes-was_read g side answer p) (reading-left side answer (marks_left p m ms)) k)
   put-waits t (Serving (m ∷ ms)) p (entry.Write side offered answer) bytes new size k h =
       moved_to (Serving (m ∷ ms)) _ p (after_write g (past g t) side answer p) new h.3
       (none-left (Serving (m ∷ ms)) _ p _ (wakes-written g (past g t) side answer p) refl k)
@@ -205,4 +206,4 @@ module _ (g : Settings) where
       put-waits u old.stage old.plain e bytes new (kept g u old r).counts.shape.sides (all-wait u old r) h
 
 pub waits_are_hooked : WaitsAreHooked
-waits_are_hooked t x s k = all-wait s.settings t (at x s.plain) k.reached
+waits_are_hooked = all-wait

@@ -8,9 +8,8 @@ use Rattle.relay_model.specs.Settings.{Settings}
 use Rattle.relay_model.specs.Due.{Due, Reason}
 use Rattle.relay_model.specs.Plain.{Plain, is_live}
 use Rattle.relay_model.specs.Reasons.{has_hook}
-use Rattle.relay_model.specs.Stages.{Stage, Dispatching, Firing, Freeing}
-use Rattle.relay_state.specs.State.{State}
-use Rattle.relay_steps.specs.Meaning.{StandsFor}
+use Rattle.relay_model.specs.Stages.{Stage, State, Dispatching, Firing, Freeing}
+use Rattle.relay_model.specs.Turn.{Reaches}
 
 -- a live side that has a hook
 abbrev pub IsHooked : Settings → Plain → SideId → Type 0
@@ -41,6 +40,6 @@ pub record Waits (g : Settings) (x : Stage) (p : Plain) : Type 0 where
   pub due : All (DueOf g p) p.due
   pub left : All (ReasonOf g p) (left_in x)
 
--- So it is wherever a relay stands.
+-- So it is in every state that a trace leads to.
 abbrev pub WaitsAreHooked : Type 0
-WaitsAreHooked = (t : Trace) (x : Stage) (s : State) → StandsFor t x s → Waits s.settings x s.plain
+WaitsAreHooked = (g : Settings) (t : Trace) (s : State) → Reaches g t s → Waits g s.stage s.plain
