@@ -10,6 +10,8 @@ use Rattle.relay_model.specs.Turn.{Reaches}
 use Rattle.relay_model.specs.Answers.{TurnAnswer, LeftAt}
 use Rattle.relay_model.specs.Stands.{AllAccounted}
 use Rattle.relay_model.specs.Totals.{opened}
+use Rattle.relay_model.proofs.SoFarLemmas.{buffers_are_within_so_far}
+use Rattle.relay_model.proofs.GroupBound.{rates-are_kept}
 use Rattle.relay_model.proofs.QuietLemmas.{legal_is_quiet}
 use Rattle.relay_model.proofs.CauseLemmas.{frees_have_causes}
 use Rattle.relay_model.proofs.StandsLawLemmas.{bytes_given_begin, closed_is_whole}
@@ -54,11 +56,14 @@ tells-below t x s k still (suc n) h =
 
 -- a relay that stands for a trace stood so
 pub stood-at : (g : Settings) (t : Trace) (x : Stage) (s : State) → s.settings ≡ g → StandsFor t x s → StoodAt g t x
-stood-at g t x s is k = record {
-  plain = s.plain;
-  reached = subst (λ z. Reaches z t (at x s.plain)) is k.reached;
-  accounted = subst (λ z. AllAccounted z t s.plain) is (means_conserved t x s k).conserved.accounted;
-}
+stood-at g t x s is k =
+    let reached : Reaches g t (at x s.plain) = subst (λ z. Reaches z t (at x s.plain)) is k.reached in
+    record {
+      plain = s.plain;
+      reached = reached;
+      accounted = subst (λ z. AllAccounted z t s.plain) is (means_conserved t x s k).conserved.accounted;
+      within = λ e lt. buffers_are_within_so_far g t (at x s.plain) e reached lt;
+    }
 
 -- A relay that stands for a trace at a stage at which a turn may answer so made that trace, and ended with this answer.
 pub relayed-of : (g : Settings) (answer : TurnAnswer) (t : Trace) (x : Stage) (s : State) → s.settings ≡ g → StandsFor t x s →
@@ -73,6 +78,7 @@ relayed-of g answer t x s is k left ends =
       turn_ends = ends;
       begins = λ e. bytes_given_begin g t s.plain stood.accounted e;
       whole = λ e. closed_is_whole g t s.plain stood.accounted e;
+      rates = rates-are_kept g t (at x s.plain, stood.reached);
       quiet = legal_is_quiet g t (at x s.plain, stood.reached);
       freed = λ before after e why moved given bytes split.
           frees_have_causes g t before after e why moved given bytes (at x s.plain, stood.reached) split;
