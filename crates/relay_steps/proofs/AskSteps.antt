@@ -74,7 +74,8 @@ fired-stands t s e y rs k live =
     let x : Event = (entry.Fired e y, []) in
     batch-stands (t ++ x ∷ []) (Stage.Firing (begun e) rs) s rs
     (put-stands t (Stage.Dispatching ((e, y) ∷ rs)) (Stage.Firing (begun e) rs) s s.plain (entry.Fired e y) [] k
-    (refl, live, refl, refl) tt (still-event t x s.plain s.plain (still-same t t s.plain (λ a. refl) (λ a. refl) (λ a d. refl)) (λ a. refl) (λ a. refl) (λ a. (refl, refl))))
+    (refl, live, refl, refl) tt (still-event t x s.plain s.plain (still-same t t s.plain (λ a. refl) (λ a. refl) (λ a d. refl))
+    (λ a. refl) (λ a. refl) (λ a. (refl, refl))))
 
 -- A fire ends.
 pub fire_ends-stands : (t : Trace) (s : State) (x : Fire) (rs : List Reason) → StandsFor t (Stage.Firing x rs) s →
@@ -113,7 +114,8 @@ module _ (t : Trace) (s : State) (x : Fire) (rs : List Reason) (k : StandsFor t 
   lacking-stands a ok may =
       put-stands t (Stage.Firing x rs) (after_ask (more x) rs a ask.Memory) s p (entry.Asked x.side a ask.Memory) [] k
       (refl, few, refl, p, subst (λ z. Answered z g P p a ask.Memory p) (sym ok) (inr (refl, may, refl)), refl) tt
-      (still-event t (event a ask.Memory) p p (still-same t t p (λ z. refl) (λ z. refl) (λ a d. refl)) (λ z. refl) (λ z. refl) (λ a. (refl, refl)))
+      (still-event t (event a ask.Memory) p p (still-same t t p (λ z. refl) (λ z. refl) (λ a d. refl)) (λ z. refl) (λ z. refl)
+      (λ a. (refl, refl)))
 
   -- what the model puts where nothing refuses the ask
   ok-puts : (a : Act) → refusal g p a ≡ None →
@@ -125,7 +127,8 @@ module _ (t : Trace) (s : State) (x : Fire) (rs : List Reason) (k : StandsFor t 
       StandsFor (t ++ (entry.Asked x.side a ask.Ok, []) ∷ []) (after_ask (more x) rs a ask.Ok) (with_plain q s)
   still-asked a q ok is still =
       put-stands t (Stage.Firing x rs) (after_ask (more x) rs a ask.Ok) s q (entry.Asked x.side a ask.Ok) [] k
-      (subst (λ z. Puts g t (Stage.Firing x rs) p (entry.Asked x.side a ask.Ok) [] (at (after_ask (more x) rs a ask.Ok) z)) is (ok-puts a ok))
+      (subst (λ z. Puts g t (Stage.Firing x rs) p (entry.Asked x.side a ask.Ok) [] (at (after_ask (more x) rs a ask.Ok) z)) is
+      (ok-puts a ok))
       tt (still-event t (event a ask.Ok) p q still (λ z. refl) (λ z. refl) (λ a. (refl, refl)))
 
   side-asked : (a : Act) (e : SideId) (change : PlainSide → PlainSide) → refusal g p a ≡ None → done g P p a ≡ change_side e change p →
@@ -148,7 +151,17 @@ module _ (t : Trace) (s : State) (x : Fire) (rs : List Reason) (k : StandsFor t 
       StandsFor (t ++ (entry.Asked x.side a ask.Ok, []) ∷ []) (after_ask (more x) rs a ask.Ok) (with_plain (record p { timers = ts }) s)
   timers-asked a ts ok is =
       still-asked a (record p { timers = ts }) ok is
-      (record { opened = refl; read = λ z. refl; ended = λ z. refl; live = λ z. refl; marked = λ z. refl; flow = λ z. refl; rates = λ z. refl; time = refl; spells = λ z d. refl })
+      (record {
+        opened = refl;
+        read = λ z. refl;
+        ended = λ z. refl;
+        live = λ z. refl;
+        marked = λ z. refl;
+        flow = λ z. refl;
+        rates = λ z. refl;
+        time = refl;
+        spells = λ z d. refl;
+      })
 
   with_where : (b : Bool) (q : Plain) → (if b then with_plain q s else s) ≡ with_plain (if b then q else p) s
   with_where true q = refl
@@ -175,7 +188,8 @@ module _ (t : Trace) (s : State) (x : Fire) (rs : List Reason) (k : StandsFor t 
       (still-due t t p p (reasons.raise_read g P e p) (still-same t t p (λ z. refl) (λ z. refl) (λ a d. refl)) r.0 r.1))
 
   write-asked : (e : SideId) → refusal g p (act.Trigger e dir.Write) ≡ None →
-      StandsFor (t ++ (entry.Asked x.side (act.Trigger e dir.Write) ask.Ok, []) ∷ []) (after_ask (more x) rs (act.Trigger e dir.Write) ask.Ok)
+      StandsFor (t ++ (entry.Asked x.side (act.Trigger e dir.Write) ask.Ok, []) ∷ [])
+      (after_ask (more x) rs (act.Trigger e dir.Write) ask.Ok)
       (raise_write e s)
   write-asked e ok =
       let live = ask-lives (act.Trigger e dir.Write) e ok refl in
@@ -247,7 +261,8 @@ module _ (t : Trace) (s : State) (x : Fire) (rs : List Reason) (k : StandsFor t 
         (append_assoc t (event (act.Free e) ask.Ok ∷ []) ((freed_entry s.plain e cause.Hook, []) ∷ []))
         (put-stands u freeing (Stage.Firing (more x) (without_reasons e rs)) (freed e s) q (freed_entry s.plain e cause.Hook) [] asked_for
         (refl, refl, refl) tt
-        (still-event u (freed_entry s.plain e cause.Hook, []) q q (still-same u u q (λ z. refl) (λ z. refl) (λ a d. refl)) (λ z. refl) (λ z. refl) (λ a. (refl, refl))))
+        (still-event u (freed_entry s.plain e cause.Hook, []) q q (still-same u u q (λ z. refl) (λ z. refl) (λ a d. refl)) (λ z. refl)
+        (λ z. refl) (λ a. (refl, refl))))
 
 -- the stage behind an ask and its entries, with what is left to fire then
 abbrev pub stage_after : Fire → List Reason → Act → AskAnswer → Stage
@@ -255,8 +270,8 @@ stage_after x rs (act.Free e) ask.Ok = Stage.Firing (more x) (without_reasons e 
 stage_after x rs a r = after_ask (more x) rs a r
 
 -- One ask that nothing refuses, of any side: the relay goes on standing for the trace with its entries.
-pub asked-stands : (t : Trace) (s : State) (x : Fire) (rs : List Reason) (a : Act) → StandsFor t (Stage.Firing x rs) s → x.asks < most_asks →
-    is_of_group a ≡ false → refusal s.settings s.plain a ≡ None →
+pub asked-stands : (t : Trace) (s : State) (x : Fire) (rs : List Reason) (a : Act) → StandsFor t (Stage.Firing x rs) s →
+    x.asks < most_asks → is_of_group a ≡ false → refusal s.settings s.plain a ≡ None →
     StandsFor (t ++ ask_events x.side s a ask.Ok) (stage_after x rs a ask.Ok) (asked a s)
 asked-stands t s x rs (act.Free e) k few rate ok = free-stands t s x rs k few e ok
 asked-stands t s x rs (act.Enable e dir.Read) k few rate ok =

@@ -76,7 +76,11 @@ each-same : (p q : Plain) (ws : List Want) → SameLimits p q → Each p ws → 
 each-same p q [] same h = tt
 each-same p q (w ∷ ws) same h =
     let there = h.0.0 in (
-      (omega (arith, there, same.opened), before-same p.turn q.turn (side_at p w.side).limit (side_at q w.side).limit same.turn (same.limits w.side) h.0.1),
+      (
+        omega (arith, there, same.opened),
+        before-same p.turn q.turn (side_at p w.side).limit (side_at q w.side).limit same.turn
+            (same.limits w.side) h.0.1,
+      ),
       each-same p q ws same h.1,
     )
 
@@ -94,7 +98,8 @@ there-append p (x ∷ xs) ys h k = (h.0, there-append p xs ys h.1 k)
 
 module _ (g : Settings) where
   -- a link opens: who was there is as it was
-  each-opened : (connected : Bool) (p : Plain) (ws : List Want) → length p.sides ≡ 2 * p.opened → Each p ws → Each (with_link g connected p) ws
+  each-opened : (connected : Bool) (p : Plain) (ws : List Want) → length p.sides ≡ 2 * p.opened → Each p ws →
+      Each (with_link g connected p) ws
   each-opened connected p [] size h = tt
   each-opened connected p (w ∷ ws) size h =
       let there = h.0.0 in
@@ -127,7 +132,8 @@ module _ (g : Settings) where
   begins-before ms t p begun a =
       let q : Plain = time_passed g (past g (t ++ (entry.Turn ms, []) ∷ [])) (turned_to ms p) in
       let same = by-frame (turned_to ms p) q (frame-time_passed g (past g (t ++ (entry.Turn ms, []) ∷ [])) (turned_to ms p)) in
-      before-same (p.turn + 1) q.turn (side_at p a).limit (side_at q a).limit same.turn (same.limits a) (later (side_at p a).limit (begun a))
+      before-same (p.turn + 1) q.turn (side_at p a).limit (side_at q a).limit same.turn (same.limits a)
+      (later (side_at p a).limit (begun a))
     where
       later : (o : Option Standing) → IsBegun p.turn o → IsBefore (p.turn + 1) o
       later None h = tt

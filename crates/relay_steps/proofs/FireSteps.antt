@@ -1,5 +1,5 @@
 -- A fire, and all that a turn fires: the relay goes on standing, whatever the hooks ask.
-use Rattle.std.proofs.Common.{◌≡◌, inl, inr, ◌+◌, ◌<◌, ◌≤◌, Bool, true, false, ◌||◌, if◌then◌else◌, List, [], ◌∷◌, ◌++◌, length, Option, Some, None, refl, sym, ◌∙◌, ap, subst, arith, append_assoc, append-nil}
+use Rattle.std.proofs.Common.{◌≡◌, inl, inr, ◌+◌, ◌≤◌, Bool, true, false, ◌||◌, if◌then◌else◌, List, [], ◌∷◌, ◌++◌, length, Option, Some, None, refl, sym, ◌∙◌, ap, subst, arith, append_assoc, append-nil}
 use Rattle.std.specs.List.{list_any}
 use Rattle.token_bucket.specs.declared.limit.Dir.TheVariants as dir
 use Rattle.ev_types.specs.declared.side.SideId.{SideId}
@@ -15,15 +15,13 @@ use Rattle.relay_model.specs.Stages.{Fire, Stage, begun, after_ask}
 use Rattle.relay_model.specs.Turn.{after_fire}
 use Rattle.relay_model.proofs.RatesTold.{refusal-not_ok}
 use Rattle.relay_state.specs.State.{State}
-use Rattle.relay_state.specs.Asking.{is_of_group, asked, ask_events, left_to_fire, Answered, AsksOne, AsksAll, stops, Fires}
+use Rattle.relay_state.specs.Asking.{is_of_group, asked, ask_events, left_to_fire, Answered, AsksAll, stops}
 use Rattle.relay_steps.specs.Meaning.{StandsFor}
+use Rattle.relay_steps.specs.HookLaws.{fire_after, AsksAreStoodFor, FiresAreStoodFor}
 use Rattle.relay_steps.proofs.AskSteps.{more, stage_after, refused-stands, lacking-stands, asked-stands, fired-stands, fire_ends-stands}
 
--- where a fire stands behind an ask
-abbrev pub fire_after : Fire → Act × AskAnswer → Fire
-fire_after x y = record x { asks = x.asks + 1; stopped = x.stopped || stops y }
-
-abbrev pub fire_behind : Fire → List (Act × AskAnswer) → Fire
+-- where a fire stands behind asks
+abbrev fire_behind : Fire → List (Act × AskAnswer) → Fire
 fire_behind x [] = x
 fire_behind x (y ∷ ys) = fire_behind (fire_after x y) ys
 
@@ -45,15 +43,15 @@ still_stopped x a r h = let q = sym (ap (λ b. x.stopped || b) h ∙ or-no x.sto
 now_stopped : (x : Fire) → record (more x) { stopped = true } ≡ fire_after x (act.Stop, ask.Ok)
 now_stopped x = let q = sym (or-yes x.stopped) in λ i. record x { asks = x.asks + 1; stopped = q i }
 
-pub behind-asks : (x : Fire) (ys : List (Act × AskAnswer)) → (fire_behind x ys).asks ≡ x.asks + length ys
+behind-asks : (x : Fire) (ys : List (Act × AskAnswer)) → (fire_behind x ys).asks ≡ x.asks + length ys
 behind-asks x [] = omega arith
 behind-asks x (y ∷ ys) = let h = behind-asks (fire_after x y) ys in omega (arith, h)
 
-pub behind-side : (x : Fire) (ys : List (Act × AskAnswer)) → (fire_behind x ys).side ≡ x.side
+behind-side : (x : Fire) (ys : List (Act × AskAnswer)) → (fire_behind x ys).side ≡ x.side
 behind-side x [] = refl
 behind-side x (y ∷ ys) = behind-side (fire_after x y) ys
 
-pub behind-stopped : (x : Fire) (ys : List (Act × AskAnswer)) → (fire_behind x ys).stopped ≡ (x.stopped || list_any stops ys)
+behind-stopped : (x : Fire) (ys : List (Act × AskAnswer)) → (fire_behind x ys).stopped ≡ (x.stopped || list_any stops ys)
 behind-stopped x [] = sym (or-no x.stopped)
 behind-stopped x (y ∷ ys) = behind-stopped (fire_after x y) ys ∙ or-join x.stopped (stops y) (list_any stops ys)
 
@@ -94,10 +92,8 @@ refused-entry me s (act.Free e) r h = refl
 refused-entry me s a r h = refl
 
 -- One ask, whatever it is and however it is answered: the relay goes on standing for the trace with its entries.
-pub one-stands : (t : Trace) (s new : State) (x : Fire) (a : Act) (r : AskAnswer) (added : Trace) →
-    StandsFor t (Stage.Firing x s.batch) s → x.asks < most_asks → AsksOne x.side a r s added new →
-    StandsFor (t ++ added) (Stage.Firing (fire_after x (a, r)) new.batch) new
-one-stands t s new x a r added k few h =
+pub asks_are_stood_for : AsksAreStoodFor
+asks_are_stood_for t s new x a r added k few h =
     subst (λ z. StandsFor (t ++ z) (Stage.Firing (fire_after x (a, r)) new.batch) new) (sym h.entries)
     (by_refusal (refusal s.settings s.plain a) refl h.answered)
   where
@@ -126,7 +122,7 @@ one-stands t s new x a r added k few h =
     ]
 
 -- Asks in a row.
-pub all-stand : (xs : List (Act × AskAnswer)) (t : Trace) (s new : State) (x : Fire) (added : Trace) →
+all-stand : (xs : List (Act × AskAnswer)) (t : Trace) (s new : State) (x : Fire) (added : Trace) →
     StandsFor t (Stage.Firing x s.batch) s → x.asks + length xs ≤ most_asks → AsksAll x.side xs s added new →
     StandsFor (t ++ added) (Stage.Firing (fire_behind x xs) new.batch) new
 all-stand [] t s new x added k few h =
@@ -136,15 +132,13 @@ all-stand (y ∷ ys) t s new x added k few h =
     let mid = h.0 in
     let front = h.1 in
     let back = h.2 in
-    let one = one-stands t s mid x y.0 y.1 front k (omega (arith, few)) h.3 in
+    let one = asks_are_stood_for t s mid x y.0 y.1 front k (omega (arith, few)) h.3 in
     subst (λ z. StandsFor z (Stage.Firing (fire_behind x (y ∷ ys)) new.batch) new) (append_assoc t front back ∙ ap (λ z. t ++ z) (sym h.5))
     (all-stand ys (t ++ front) mid new (fire_after x y) back one (omega (arith, few)) h.4)
 
 -- A reason is fired, and its hook asks what it asks; behind that the next is fired, or the run is over.
-pub fire-stands : (stopped : Bool) (t : Trace) (s new : State) (added : Trace) → StandsFor t (Stage.Dispatching s.batch) s →
-    (h : Fires stopped s added new) →
-    StandsFor (t ++ added) (after_fire (record { side = h.side; stopped = stopped; asks = length h.asks }) new.batch) new
-fire-stands stopped t s new added k h =
+pub fires_are_stood_for : FiresAreStoodFor
+fires_are_stood_for stopped t s new added k h =
     let e = h.side in
     let u : Trace = t ++ (entry.Fired e h.reason, []) ∷ [] in
     let start = fired-stands t s e h.reason h.rest (subst (λ z. StandsFor t (Stage.Dispatching z) s) h.first k) h.live in

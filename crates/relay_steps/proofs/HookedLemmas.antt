@@ -204,7 +204,8 @@ module _ (g : Settings) where
         wakes-then p ran (meets (peer e) place ran) (wakes-flow e step p) (wakes-meets (peer e) place ran)
 
     pub wakes-part : (e : SideId) (x : Part) (p : Plain) → Wakes g p (do_part g P e x p)
-    wakes-part e Part.Hold p = wakes-flow e (with_held (read_filter g p e) (write_filter g p (peer e)) (P.read e) (hold_mark g p (peer e))) p
+    wakes-part e Part.Hold p =
+        wakes-flow e (with_held (read_filter g p e) (write_filter g p (peer e)) (P.read e) (hold_mark g p (peer e))) p
     wakes-part e Part.Read p =
         let ran = read_run g P e (side_at p e).ended p in
         let step = with_read_done (read_filter g p e) (P.read e) (read_mark p e) (side_at p e).ended in
