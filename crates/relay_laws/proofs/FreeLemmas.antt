@@ -53,7 +53,8 @@ closed-unasked g p s c e ClosedKind.out_done = refl
 closed-unasked g p s c e (ClosedKind.peer_gone a b d) = refl
 closed-unasked g p s c e (ClosedKind.shut a b) = refl
 
-put-unasked : (g : Settings) (t : Trace) (s : Plain) (x : Stage) (y : Event) (new : State) → PutKind g t s x y new → Puts g t x s y.0 y.1 new →
+put-unasked : (g : Settings) (t : Trace) (s : Plain) (x : Stage) (y : Event) (new : State) → PutKind g t s x y new →
+    Puts g t x s y.0 y.1 new →
     Asleep g x s → is_of_hook y ≡ false
 put-unasked g t s x y new (PutKind.turned a b) put h = refl
 put-unasked g t s x y new PutKind.polled put h = refl

@@ -21,5 +21,6 @@ pub plainly_hands_on : PlainlyHandsOn
 plainly_hands_on g h e xs = record {
   passed = λ ended. passes-on (read_kind g e.side) (write_kind g (other e.side)) ended xs (read_kind-none g h e.side)
       (write_kind-none g h (other e.side));
-  whole = passes-whole (read_kind g e.side) (write_kind g (other e.side)) xs (read_kind-none g h e.side) (write_kind-none g h (other e.side));
+  whole =
+      passes-whole (read_kind g e.side) (write_kind g (other e.side)) xs (read_kind-none g h e.side) (write_kind-none g h (other e.side));
 }

@@ -227,7 +227,8 @@ module _ (g : Settings) (unset : HasNoFilters g) (t : Trace) where
   took-within write.Failed offered bytes c n h = absurd (cc)
   took-within write.NoMemory offered bytes c n h = absurd c
 
-  put-order : (s : Plain) (x : Stage) (y : Event) (new : State) → PutKind g t s x y new → AllInOrder t s → AllInOrder (t ++ y ∷ []) new.plain
+  put-order : (s : Plain) (x : Stage) (y : Event) (new : State) → PutKind g t s x y new → AllInOrder t s →
+      AllInOrder (t ++ y ∷ []) new.plain
   put-order s x y new (PutKind.turned {ms = ms} a b) h =
       order-event t y s new.plain (time-flows g (past g (t ++ (entry.Turn ms, []) ∷ [])) (turned_to ms s)) h
   put-order s x y new PutKind.polled h = order-event t y s s refl h

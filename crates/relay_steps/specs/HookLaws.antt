@@ -12,15 +12,15 @@ use Rattle.relay_state.specs.Asking.{AsksOne, stops, Fires, Dispatches, StopsAt}
 use Rattle.relay_steps.specs.Meaning.{StandsFor, LeftFor}
 
 -- where a fire stands behind an ask and its answer
-abbrev pub fire_after : Fire → Act × AskAnswer → Fire
-fire_after x y = record x { asks = x.asks + 1; stopped = x.stopped || stops y }
+abbrev pub fire_asked : Fire → Act × AskAnswer → Fire
+fire_asked x y = record x { asks = x.asks + 1; stopped = x.stopped || stops y }
 
 -- The hook that runs asks something of any side, and the relay stands for the trace with the entries of that ask, whatever it is but an
 -- ask about groups, and however it is answered.
 abbrev pub AsksAreStoodFor : Type 0
 AsksAreStoodFor = (t : Trace) (s new : State) (x : Fire) (a : Act) (answer : AskAnswer) (added : Trace) →
     StandsFor t (Firing x s.batch) s → x.asks < most_asks → AsksOne x.side a answer s added new →
-    StandsFor (t ++ added) (Firing (fire_after x (a, answer)) new.batch) new
+    StandsFor (t ++ added) (Firing (fire_asked x (a, answer)) new.batch) new
 
 -- A reason is fired, and its hook asks what it asks. Behind that the next reason is to be fired; or the run is over, where the hook
 -- stopped it.
