@@ -1,10 +1,10 @@
 -- A bucket as one running number a direction: how many bytes it is short of full. It is never below nothing and has no least value, so
 -- that an overdrawn bucket needs no sign. What it holds is the burst less that.
-use Rattle.std.specs.Prelude.{◌≡◌, Option, Some, None, ℕ, ◌+◌, ◌-◌, ◌≤◌, ◌<◌, ◌*◌, min, List, [], ◌∷◌, ◌++◌, length, drop}
+use Rattle.std.specs.Prelude.{◌≡◌, Option, Some, None, ℕ, ◌+◌, ◌-◌, ◌≤◌, ◌*◌, min, List, [], ◌∷◌, drop}
 use Rattle.token_bucket.specs.declared.limit.Dir.{Dir}
 use Rattle.token_bucket.specs.declared.limit.Dir.TheVariants as dir
 use Rattle.token_bucket.specs.declared.limit.LimitCfg.{LimitCfg}
-use Rattle.relay_model.specs.Plain.{Standing, first_limit}
+use Rattle.relay_model.specs.Plain.{Standing}
 use Rattle.relay_model.specs.Rates.{Limit, limit_of, ticks, Spell, Beat, spells}
 
 -- what a tick or more brings

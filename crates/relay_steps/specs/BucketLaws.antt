@@ -10,8 +10,9 @@ use Rattle.relay_state.specs.Running.{Ascend, short_after, held_at}
 use Rattle.relay_state.specs.State.{State, gauge_at}
 use Rattle.relay_steps.specs.Meaning.{StandsFor}
 
--- A bucket that held so much as its limit was set was short of full by the rest of its burst. Behind turns that ascend it is short by
--- what is moved, less what ticks bring, turn by turn; and what it holds then is the least over these turns.
+-- What a bucket holds is the least over the turns since its limit was set; it is also the burst less how short of full the bucket is, by
+-- one number that each turn lessens by what came and raises by what is moved. It held no more than its burst as the limit was set, and
+-- the turns don't fall in time.
 abbrev pub RunningIsLeast : Type 0
 RunningIsLeast = (l : Limit) (set_at held : ℕ) (later : List Spell) (time : ℕ) → 0 < l.tick → held ≤ l.burst →
     Ascend set_at later time → level l set_at held later time ≡ l.burst - short_after l set_at (l.burst - held) later
