@@ -10,7 +10,7 @@ use Rattle.relay_model.specs.Plain.{Plain, Timer, side_at, change_side, is_live,
 use Rattle.relay_model.specs.Flow.{no_flow}
 use Rattle.relay_model.specs.Due.{with_reason}
 use Rattle.relay_model.specs.Reasons.{has_hook, raise, happened, timeout_flag}
-use Rattle.relay_model.specs.Moments.{is_timed, active_at, both_ways, by_deadline, timers_taken, has_run_out, expire}
+use Rattle.relay_model.specs.Moments.{is_timed, active_at, both_ways, timers_taken, has_run_out, expire}
 use Rattle.relay_model.specs.Turn.{turned_to}
 use Rattle.std.specs.Prelude.{slice_index_or, filter, nat_le, nat_lt}
 use Rattle.relay_state.specs.State.{State, no_lane, with_plain}
@@ -60,7 +60,7 @@ counts-fold f each s (x ∷ xs) = counts-then (each s x) (counts-fold f each (f 
 taken-flows : (g : Settings) (ms : ℕ) (p : Plain) → (timers_taken g (turned_to ms p)).flows ≡ p.flows
 taken-flows g ms p =
     let q : Plain = turned_to ms p in
-    go (record q { timers = filter (λ x. nat_lt ms x.deadline) q.timers }) (by_deadline (filter (λ x. nat_le x.deadline ms) q.timers))
+    go (record q { timers = filter (λ x. nat_lt ms x.deadline) q.timers }) ((filter (λ x. nat_le x.deadline ms) q.timers))
   where
     raised : (z : Plain) (x : Timer) → (raise g x.side why.Timer z).flows ≡ z.flows
     raised z x = by_hook (has_hook g x.side && is_live z x.side)

@@ -24,16 +24,16 @@ use Rattle.relay_model.proofs.PassKeeps.{first_from-above, first_from-below}
 
 -- Runs of filters
 
-none_where : (o : Option ℕ) → is_some o ≡ false → o ≡ None
+pub none_where : (o : Option ℕ) → is_some o ≡ false → o ≡ None
 none_where None h = refl
 none_where (Some x) h = absurd (cc)
 
 -- a beginning that is one byte longer
-record OneMore (n : ℕ) (xs : List ℕ) : Type 0 where
-  byte : ℕ
-  is : take (n + 1) xs ≡ take n xs ++ byte ∷ []
+pub record OneMore (n : ℕ) (xs : List ℕ) : Type 0 where
+  pub byte : ℕ
+  pub is : take (n + 1) xs ≡ take n xs ++ byte ∷ []
 
-one-more : (n : ℕ) (xs : List ℕ) → n < length xs → OneMore n xs
+pub one-more : (n : ℕ) (xs : List ℕ) → n < length xs → OneMore n xs
 one-more n xs lt = go (drop n xs) refl
   where
     go : (ys : List ℕ) → drop n xs ≡ ys → OneMore n xs
@@ -73,7 +73,7 @@ run-bound k all gone limit most stop looks le n (suc left) fits h =
         next (omega (arith, size, two, plus, left_over, below, le))
 
 -- what an end adds is one byte, and none where no byte is held back
-end-most : (k : FilterKind) (xs : List ℕ) → length ((filter_of k).at_end xs) ≤ length ((filter_of k).before xs) + 1
+pub end-most : (k : FilterKind) (xs : List ℕ) → length ((filter_of k).at_end xs) ≤ length ((filter_of k).before xs) + 1
 end-most k xs =
     let a = ap length (at_end-adds k xs) in
     let b = length-append ((filter_of k).before xs) (end_adds k (last_of xs)) in

@@ -1,6 +1,6 @@
 -- How many bytes a direction may hold, by induction over the steps.
 use Rattle.std.proofs.Common.{◌≡◌, ℕ, ◌+◌, ◌*◌, ◌<◌, ◌≤◌, Bool, true, false, if◌then◌else◌, List, [], ◌∷◌, ◌++◌, length, take, ◌⊎◌, inl}
-use Rattle.std.proofs.Common.{inr, refl, sym, ◌∙◌, ap, subst, arith, slice_index_or, append-nil}
+use Rattle.std.proofs.Common.{inr, refl, sym, ◌∙◌, ap, subst, arith, slice_index_or, append-nil, append_assoc}
 use Rattle.std.specs.List.{list_any}
 use Rattle.std.proofs.lemmas.Bool.{cases_lt, or_parts}
 use Rattle.std.proofs.lemmas.List.{get_or_past, length-drop, length-take-le}
@@ -214,14 +214,23 @@ module _ (g : Settings) (most most_held : SideId → ℕ) where
       same ∙ get_or_past s.flows (number e) no_flow (omega (arith, size, number-ge e s.opened ge))
   new-flow t s y new e there size ge (inr k) = absurd (let l = there (peer e) (may_write-live s (peer e) k.may) in omega arith)
 
-  pub bounded : ((t : Trace) (s : State) → Reaches g t s → MarksBelow s.plain) → (t : Trace) (s : State) → Reaches g t s → AllBnd t s.plain
-  bounded below t s (Reaches.begins) z lt = absurd (omega arith)
-  bounded below t new (Reaches.goes {t = u} {s = old} r h) z lt =
-      quiet-bnd u old.plain old.stage new (quiet-silent g u old.stage old.plain new h).keeps.opened (below u old r) (fits g u old r)
-      (quiet-kind g u old.stage old.plain new h) (bounded below u old r) z lt
-  bounded below t new (Reaches.puts {t = u} {s = old} y bytes r h) z lt =
-      go (bounded below u old r z) (cases_lt z.link old.plain.opened)
+  -- It is enough that no mark is above it along this one run.
+  pub bounded-along : (all : Trace) → ((t : Trace) (s : State) (rest : Trace) → all ≡ t ++ rest → Reaches g t s → MarksBelow s.plain) →
+      (t : Trace) (s : State) (rest : Trace) → all ≡ t ++ rest → Reaches g t s → AllBnd t s.plain
+  bounded-along all below t s rest is (Reaches.begins) z lt = absurd (omega arith)
+  bounded-along all below t new rest is (Reaches.goes {t = u} {s = old} r h) z lt =
+      quiet-bnd u old.plain old.stage new (quiet-silent g u old.stage old.plain new h).keeps.opened (below u old rest is r)
+      (fits g u old r)
+      (quiet-kind g u old.stage old.plain new h) (bounded-along all below u old rest is r) z lt
+  bounded-along all below t new rest is (Reaches.puts {t = u} {s = old} y bytes r h) z lt =
+      go (bounded-along all below u old ((y, bytes) ∷ rest) earlier_is r z) (cases_lt z.link old.plain.opened)
     where
+      earlier_is : all ≡ u ++ (y, bytes) ∷ rest
+      earlier_is = is ∙ append_assoc u ((y, bytes) ∷ []) rest
+
+      marks_below : MarksBelow old.plain
+      marks_below = below u old ((y, bytes) ∷ rest) earlier_is r
+
       c : Kept g u old.stage old.plain
       c = kept g u old r
 
@@ -248,7 +257,7 @@ module _ (g : Settings) (most most_held : SideId → ℕ) where
       go earlier (inl was) =
           flow-bnd u (u ++ (y, bytes) ∷ []) old.plain (y, bytes) new.plain z
           (read-fits g u old.plain (y, bytes) z (flow_at old.plain z) (ended-is g u old.stage old.plain c z) case (fits g u old r z)) moves
-          (read-bnd u old.plain (y, bytes) z was (below u old r) (fits g u old r z) rooms case (earlier was))
+          (read-bnd u old.plain (y, bytes) z was marks_below (fits g u old r z) rooms case (earlier was))
       go earlier (inr ge) =
           subst (λ f. Bnd (u ++ (y, bytes) ∷ []) z f)
           (sym (new-flow u old.plain (y, bytes) new.plain z there c.counts.shape.flows ge moves))
@@ -258,6 +267,9 @@ module _ (g : Settings) (most most_held : SideId → ℕ) where
           ∙ (λ i. unread z u (c.counts.named z ge) i ++ new-read old.plain z (y, bytes) there ge case i)))
           (bounded-first (filter_of (read_kind g z.side)) (filter_of (write_kind g (peer z).side)) (most z) (most_held z)
           (every_filter (read_kind g z.side)).prefix (every_filter (write_kind g (peer z).side)).prefix))
+
+  pub bounded : ((t : Trace) (s : State) → Reaches g t s → MarksBelow s.plain) → (t : Trace) (s : State) → Reaches g t s → AllBnd t s.plain
+  bounded below t s r = bounded-along t (λ u x rest is h. below u x h) t s [] (sym (append-nil t)) r
 
 -- Bounds on counts are bounds on lengths.
 pub within : (r w : Filter) (xs : List ℕ) (ended : Bool) (mark hold : ℕ) (f : Flow) → Fits r w xs ended f →

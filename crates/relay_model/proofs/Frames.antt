@@ -27,7 +27,7 @@ use Rattle.relay_model.specs.Past.{Past}
 use Rattle.relay_model.specs.Rooms.{wants}
 use Rattle.relay_model.specs.Reasons.{raise, raise_read, raise_write, happened, end_flag, error_flag, timeout_flag}
 use Rattle.relay_model.specs.Asks.{Answered, done}
-use Rattle.relay_model.specs.Moments.{is_timed, has_run_out, expire, timers_taken, timed, side_timed, time_passed, by_deadline, both_ways, active_at}
+use Rattle.relay_model.specs.Moments.{is_timed, has_run_out, expire, timers_taken, timed, side_timed, time_passed, both_ways, active_at}
 use Rattle.relay_model.specs.Serve.{after_conn, after_read, after_write}
 use Rattle.relay_model.specs.Close.{CloseStep, closed_by}
 use Rattle.relay_model.specs.Stages.{Stage, State}
@@ -135,7 +135,7 @@ pub frame-time_passed : (g : Settings) (p : Past) (s : Plain) → SameFrame s (t
 frame-time_passed g p s =
     frame-then s (timers_taken g s) _
     (frame-then s (record s { timers = left }) _ (frame-waiting s left s.due)
-    (frame-fold {A = Timer} (λ state x. raise g x.side why.Timer state) (record s { timers = left }) (by_deadline taken)
+    (frame-fold {A = Timer} (λ state x. raise g x.side why.Timer state) (record s { timers = left }) taken
     (λ z x. frame-raise g x.side why.Timer z)))
     (frame-fold (side_timed g p) (timers_taken g s) (all_sides s) (λ z e. frame-fold (timed g p e) z both_ways (frame-timed g p e)))
   where

@@ -31,7 +31,7 @@ use Rattle.relay_model.specs.Rooms.{Want, wants, read_filter, read_mark}
 use Rattle.relay_model.specs.Pass.{with_used}
 use Rattle.relay_model.specs.Reasons.{raise, raise_read, raise_write, happened, end_flag, error_flag, timeout_flag}
 use Rattle.relay_model.specs.Moments.{active_at, is_timed, has_run_out, expire, timed, side_timed, timers_taken, time_passed}
-use Rattle.relay_model.specs.Moments.{by_deadline, both_ways}
+use Rattle.relay_model.specs.Moments.{both_ways}
 use Rattle.relay_model.specs.Round.{Part, do_part, read_run}
 use Rattle.relay_model.specs.Serve.{marks_left, after_conn, after_read, after_write, after_got}
 use Rattle.relay_model.specs.Close.{CloseStep, closed_by}
@@ -93,7 +93,7 @@ module _ (g : Settings) (none : HasNoHooks g) where
       fold-due (side_timed g p) (λ x e. fold-due (timed g p e) (λ y d. timed-due p e y d) x both_ways) (timers_taken g s) (all_sides s)
       ∙ fold-due {X = Timer} (λ state x. raise g x.side why.Timer state) (λ z x. ap (λ v. v.due) (raise-none x.side why.Timer z))
       (record s { timers = filter (λ x. nat_lt s.time x.deadline) s.timers })
-      (by_deadline (filter (λ x. nat_le x.deadline s.time) s.timers))
+      (filter (λ x. nat_le x.deadline s.time) s.timers)
 
 -- No hook runs.
 abbrev Idle : Stage → Type 0

@@ -7,8 +7,9 @@ use Rattle.std.proofs.Math.ListN.{drop_of_length-le}
 use Rattle.relay_model.specs.Filter.{Filter, met}
 use Rattle.relay_model.specs.Flow.{Flow, middle, raw_input, input, output, raw_output}
 use Rattle.relay_model.specs.Conserved.{all_moved}
-use Rattle.relay_model.specs.Pass.{first_from, read_stops, with_used, with_read_done, with_moved, with_held, write_stops, with_turned, with_write_done}
-use Rattle.relay_model.specs.PassLaws.{whole_round, PassingEnds}
+use Rattle.relay_model.specs.Pass.{first_from, read_stops, with_used, with_read_done, with_moved, with_held, write_stops, with_turned, with_write_done, read_place, write_place}
+use Rattle.relay_model.specs.Flow.{Fits}
+use Rattle.relay_model.specs.PassLaws.{whole_round}
 use Rattle.relay_model.proofs.PassKeeps.{first_from-above}
 
 -- a search that stays at its start has nothing to go over, or stops there
@@ -75,18 +76,18 @@ module _ (r w : Filter) (read : List ℕ) (ended : Bool) (mark hold : ℕ) (f : 
   after_3 field keeps keeps_turned keeps_moved = sym (of_both field _ (record f3 { moved = length (middle r read f3) }) f3 f3
       (keeps_moved f3 _) refl) ∙ after_4 field keeps keeps_turned
 
-  is_1 : f1 ≡ f
+  pub is_1 : f1 ≡ f
   is_1 = ap (λ b. record f { held = b }) (after_3 (λ x. x.held) (λ x b. refl) (λ x n. refl) (λ x n. refl))
 
   pub is_2 : f2 ≡ f
   is_2 = ap (λ n. record f1 { used = n }) (after_3 (λ x. x.used) (λ x b. refl) (λ x n. refl) (λ x n. refl)) ∙ ap
       (λ (x : Flow). record x { used = f.used }) is_1
 
-  is_3 : f3 ≡ f
+  pub is_3 : f3 ≡ f
   is_3 = ap (λ b. record f2 { read_done = b }) (after_3 (λ x. x.read_done) (λ x b. refl) (λ x n. refl) (λ x n. refl)) ∙ ap
       (λ (x : Flow). record x { read_done = f.read_done }) is_2
 
-  is_4 : f4 ≡ f
+  pub is_4 : f4 ≡ f
   is_4 =
       by_test _
       ∙ ap (λ n. record f3 { moved = n }) (after_4 (λ x. x.moved) (λ x b. refl) (λ x n. refl))
@@ -125,8 +126,15 @@ module _ (r w : Filter) (read : List ℕ) (ended : Bool) (mark hold : ℕ) (f : 
   pub still_turned : with_turned r w read hold f ≡ f
   still_turned = ap (with_turned r w read hold) (sym is_4) ∙ is_5
 
-pub passing_ends : PassingEnds
-passing_ends r w read ended mark hold f mark_some hold_some fits good_in good_out still = record { free = free; held = held }
+-- what passing leaves of the buffers
+pub record Emptied (r w : Filter) (read : List ℕ) (hold : ℕ) (f : Flow) : Type 0 where
+  pub free : f.held ≡ false → (raw_input read f ≡ []) × (input r read f ≡ []) × (output r read f ≡ [])
+  pub held : f.held ≡ true → hold / 2 < length (raw_output r w read f)
+
+pub passing_empties : (r w : Filter) (read : List ℕ) (ended : Bool) (mark hold : ℕ) (f : Flow) → 0 < mark → 0 < hold →
+    Fits r w read ended f → read_place r read mark ended f ≡ None → write_place r w read hold true f ≡ None →
+    whole_round r w read ended mark hold f ≡ f → Emptied r w read hold f
+passing_empties r w read ended mark hold f mark_some hold_some fits good_in good_out still = record { free = free; held = held }
   where
     full : ℕ
     full = length (raw_output r w read f)

@@ -47,7 +47,8 @@ use Rattle.relay_model.proofs.BadLemmas.{closed-flows, closed-reads}
 use Rattle.relay_model.proofs.BadSteps.{ended-is}
 use Rattle.relay_model.proofs.CauseLemmas.{faults_are_freed}
 use Rattle.relay_model.proofs.FirstMet.{meets-old, meets-marks, flow-same, part-old}
-use Rattle.relay_model.proofs.PassLemmas.{is_2, is_5, passing_ends}
+use Rattle.relay_model.proofs.PassLemmas.{is_2, is_5}
+use Rattle.relay_model.proofs.PassFinishes.{passing_ends}
 use Rattle.relay_model.proofs.FitsLemmas.{fits}
 
 -- Marks
@@ -217,6 +218,7 @@ record LeavesPassed (g : Settings) (t : Trace) (s : Plain) (u : Trace) (new : Pl
   bad : (z : SideId) → (z ≡ e) ⊎ (z ≡ peer e) → (side_at new z).bad ≡ None → (side_at s z).bad ≡ None
   read : bytes_read e u ≡ bytes_read e t
   flow : flow_at new e ≡ flow_at s e
+  ended : (side_at new e).ended ≡ (side_at s e).ended
   marks : (side_at new (peer e)).marks ≡ (side_at s (peer e)).marks
 
 leaves-passed : (g : Settings) (t : Trace) (s : Plain) (u : Trace) (new : Plain) (e : SideId) → LeavesPassed g t s u new e →
@@ -226,9 +228,11 @@ leaves-passed g t s u new e k h live peer_live none peer_none =
     (k.bad (peer e) (inr refl) peer_none) in
     let r = read_filter g s e in
     let w = write_filter g s (peer e) in
-    subst (λ xs. IsPassed r w xs (hold_mark g new (peer e)) (flow_at new e)) (sym k.read)
-    (subst (λ f. IsPassed r w (bytes_read e t) (hold_mark g new (peer e)) f) (sym k.flow)
-    (subst (λ (m : Marks). IsPassed r w (bytes_read e t) (mark_or m.write_high g.hold) (flow_at s e)) (sym k.marks) was))
+    subst (λ b. IsPassed r w (bytes_read e u) b (hold_mark g new (peer e)) (flow_at new e)) (sym k.ended)
+    (subst (λ xs. IsPassed r w xs (side_at s e).ended (hold_mark g new (peer e)) (flow_at new e)) (sym k.read)
+    (subst (λ f. IsPassed r w (bytes_read e t) (side_at s e).ended (hold_mark g new (peer e)) f) (sym k.flow)
+    (subst (λ (m : Marks). IsPassed r w (bytes_read e t) (side_at s e).ended (mark_or m.write_high g.hold) (flow_at s e)) (sym k.marks)
+    was)))
 
 -- What holds of the directions whose passing is done
 
@@ -274,6 +278,7 @@ part-leaves g t s e x z apart = record {
   bad = λ v o h. none-unless (side_at s v).bad (λ p q. let k = part-old g t s e x v p q in cc);
   read = refl;
   flow = part-other g (past g t) s e x z apart;
+  ended = ap (λ q. q.ended) (Keeps-side but_bad s (do_part g (past g t) e x s) z (do_part-keeps g (past g t) e x s));
   marks = part-marks g (past g t) s e x (peer z);
 }
 
@@ -288,7 +293,7 @@ side-here k left e same Out z =
     let is : o ≡ e = λ j. record { link = sym same j; side = sym z j } in
     or_right (same_end e (record { link = k; side = In })) _ (or_left (same_end e o) _ (ap (same_end e) is ∙ same_end-refl e))
 
-side-among : (k left : ℕ) (e : SideId) → k ≤ e.link → e.link < k + left → list_any (same_end e) (sides_from k left) ≡ true
+pub side-among : (k left : ℕ) (e : SideId) → k ≤ e.link → e.link < k + left → list_any (same_end e) (sides_from k left) ≡ true
 side-among k zero e h l = absurd (omega arith)
 side-among k (suc left) e h l = go (cases_order k e.link) (λ lt. side-among (k + 1) left e (omega arith) (omega arith))
   where
@@ -360,6 +365,19 @@ closed-marks (CloseStep.OutDone k) s z = freed-marks (record { link = k; side = 
 closed-marks (CloseStep.PeerGone e) s z = freed-marks e s z
 closed-marks (CloseStep.Shut e) s z = seen-change (λ v. v.marks) e z (λ x. record x { closed = true }) s (λ x. refl)
 
+freed-ended : (e : SideId) (s : Plain) (z : SideId) → (side_at (freed e s) z).ended ≡ (side_at s z).ended
+freed-ended e s z =
+    seen-change (λ v. v.ended) e z (λ x. record x { live = false; group = None })
+    (record s { timers = without_timer e s.timers; due = without_due e s.due }) (λ x. refl)
+
+closed-ended : (c : CloseStep) (s : Plain) (z : SideId) → (side_at (closed_by c s) z).ended ≡ (side_at s z).ended
+closed-ended (CloseStep.Faulty e) s z = freed-ended e s z
+closed-ended (CloseStep.EndWriting e) s z = seen-change (λ v. v.ended) e z (λ x. record x { write_ended = true }) s (λ x. refl)
+closed-ended (CloseStep.BothDone k) s z = freed-ended (record { link = k; side = In }) s z
+closed-ended (CloseStep.OutDone k) s z = freed-ended (record { link = k; side = Out }) s z
+closed-ended (CloseStep.PeerGone e) s z = freed-ended e s z
+closed-ended (CloseStep.Shut e) s z = seen-change (λ v. v.ended) e z (λ x. record x { closed = true }) s (λ x. refl)
+
 closed-leaves : (g : Settings) (t : Trace) (s : Plain) (c : CloseStep) (cs : List CloseStep) (y : Entry) (e : SideId) → e.link < s.opened →
     read_by e (y, []) ≡ [] → Effect g (Closing (c ∷ cs)) s (y, []) (Closing (steps_left c cs)) (closed_by c s) →
     LeavesPassed g t s (t ++ (y, []) ∷ []) (closed_by c s) e
@@ -369,6 +387,7 @@ closed-leaves g t s c cs y e lt none k = record {
   bad = λ z o h. sym (effect z o).bad ∙ h;
   read = bytes_read-push e t (y, []) ∙ ap (λ v. bytes_read e t ++ v) none ∙ append-nil (bytes_read e t);
   flow = ap (λ l. flow_at (record s { flows = l }) e) (closed-flows c s);
+  ended = closed-ended c s e;
   marks = closed-marks c s (peer e);
 }
   where

@@ -14,7 +14,7 @@ use Rattle.relay_model.specs.Past.{Past}
 use Rattle.relay_model.specs.Rooms.{wants}
 use Rattle.relay_model.specs.Reasons.{raise, happened, timeout_flag}
 use Rattle.relay_model.specs.Asks.{done, enabled}
-use Rattle.relay_model.specs.Moments.{timeout_of, last_activity, active_at, both_ways, by_deadline, timers_taken, timed, side_timed, time_passed}
+use Rattle.relay_model.specs.Moments.{timeout_of, last_activity, active_at, both_ways, timers_taken, timed, side_timed, time_passed}
 use Rattle.relay_model.specs.Round.{Part, meets, read_run, write_run, do_part}
 use Rattle.relay_model.specs.Serve.{after_got}
 use Rattle.relay_model.proofs.KeepsLemmas.{Keeps, raised_read, raised_write, Keeps-refl, Keeps-trans, Keeps-timers, Keeps-raise, Keeps-raise_read, Keeps-raise_write, Keeps-put, Keeps-flow, Keeps-fold}
@@ -108,7 +108,7 @@ expired-seen dir.Write x = refl
 pub timers_taken-keeps : {A : Type 0} (f : PlainSide → A) (g : Settings) (s : Plain) → Keeps f s (timers_taken g s)
 timers_taken-keeps f g s =
     let later : List Timer = filter (λ x. nat_lt s.time x.deadline) s.timers in
-    let come : List Timer = by_deadline (filter (λ x. nat_le x.deadline s.time) s.timers) in
+    let come : List Timer = filter (λ x. nat_le x.deadline s.time) s.timers in
     Keeps-trans f s (record s { timers = later }) _ (Keeps-timers f s later)
     (Keeps-fold f (λ (state : Plain) (x : Timer). raise g x.side why.Timer state) (λ state x. Keeps-raise f g x.side why.Timer
     state) (record s { timers = later }) come)

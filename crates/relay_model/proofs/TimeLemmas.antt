@@ -19,7 +19,7 @@ use Rattle.relay_model.specs.Past.{Past}
 use Rattle.relay_model.specs.Rooms.{most_at_once, mark_or, read_mark, input_length, raw_output_at, allowance, share_in, at_most, within_rates, may_read, may_write, is_connecting, wants}
 use Rattle.relay_model.specs.Reasons.{raise, happened, timeout_flag}
 use Rattle.relay_model.specs.Asks.{enabled}
-use Rattle.relay_model.specs.Moments.{timeout_of, last_activity, active_at, both_ways, by_deadline, timers_taken, timed, side_timed, time_passed}
+use Rattle.relay_model.specs.Moments.{timeout_of, last_activity, active_at, both_ways, timers_taken, timed, side_timed, time_passed}
 use Rattle.relay_model.proofs.EndLemmas.{same_end-eq}
 use Rattle.relay_model.proofs.KeepsLemmas.{Keeps, Keeps-refl, Keeps-trans, Keeps-side, Keeps-put, Keeps-timers, raised, change_side-other}
 
@@ -376,7 +376,7 @@ Eased-fold g p s step h new (x ∷ xs) k = Eased-fold g p s step h (step new x) 
 Eased-timers : (g : Settings) (p : Past) (s : Plain) → Eased g p s (timers_taken g s)
 Eased-timers g p s =
     let later : List Timer = filter (λ x. nat_lt s.time x.deadline) s.timers in
-    let come : List Timer = by_deadline (filter (λ x. nat_le x.deadline s.time) s.timers) in
+    let come : List Timer = filter (λ x. nat_le x.deadline s.time) s.timers in
     let begin : Eased g p s (record s { timers = later }) = record {
       keeps = Keeps-timers core s later;
       flows = refl;

@@ -271,7 +271,7 @@ part-moved g p s e Part.Move z h = go (same_end z e) refl
 part-moved g p s e Part.Write z h = inr (write-kept (λ f. f.moved) runs-moved g p e s z)
 part-moved g p s e Part.Drain z h = inr (write_run-kept (λ f. f.moved) runs-moved g p e s false z)
 
-quiet-given : (g : Settings) (t : Trace) (s : Plain) (x : Stage) (new : State) (z : SideId) → QuietKind g t s x new →
+pub quiet-given : (g : Settings) (t : Trace) (s : Plain) (x : Stage) (new : State) (z : SideId) → QuietKind g t s x new →
     (flow_at new.plain z).given ≡ (flow_at s z).given
 quiet-given g t s x new z (QuietKind.moved next a) = refl
 quiet-given g t s x new z (QuietKind.filtered {e = e}) = got-kept (λ f. f.given) runs-given g (past g t) e s z

@@ -17,14 +17,14 @@ use Rattle.ev_types.specs.declared.answer.WriteAnswer.TheVariants as write
 use Rattle.ev_types.specs.declared.entry.Entry.TheVariants as entry
 use Rattle.relay_model.specs.Settings.{Settings, usual, GroupSet}
 use Rattle.relay_model.specs.Due.{Due, with_reason, batch, event}
-use Rattle.relay_model.specs.Plain.{Plain, Timer, nothing_yet, with_link, flow_at, freed}
+use Rattle.relay_model.specs.Plain.{placed, Plain, Timer, nothing_yet, with_link, flow_at, freed}
 use Rattle.relay_model.specs.Rates.{Limit, Spell, level}
 use Rattle.relay_model.specs.Groups.{share_among, group_level}
 use Rattle.relay_model.specs.Past.{Past, past}
 use Rattle.relay_model.specs.Rooms.{read_room, write_room, wanted}
 use Rattle.relay_model.specs.Asks.{refusal, done}
 use Rattle.relay_model.specs.Plans.{Planned, acts_behind}
-use Rattle.relay_model.specs.Moments.{poll_timeout, time_passed, by_deadline}
+use Rattle.relay_model.specs.Moments.{poll_timeout, time_passed}
 use Rattle.relay_model.specs.Round.{round}
 use Rattle.relay_model.specs.Serve.{after_got, after_write}
 use Rattle.relay_model.specs.Close.{CloseStep, closing_entry}
@@ -257,7 +257,7 @@ timer-taken = refl
 abbrev timer : ℕ → ℕ → Timer
 timer k deadline = record { side = in_of k; deadline = deadline }
 
-timers-in_order : by_deadline (timer 0 9 ∷ timer 1 5 ∷ timer 2 9 ∷ timer 3 5 ∷ []) ≡ timer 1 5 ∷ timer 3 5 ∷ timer 0 9 ∷ timer 2 9 ∷ []
+timers-in_order : placed (timer 3 5) (placed (timer 2 9) (placed (timer 1 5) (placed (timer 0 9) []))) ≡ timer 1 5 ∷ timer 3 5 ∷ timer 0 9 ∷ timer 2 9 ∷ []
 timers-in_order = refl
 
 -- What is planned: the second line is for the second read, and nothing is no ask.

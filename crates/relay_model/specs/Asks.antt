@@ -9,7 +9,7 @@ use Rattle.ev_types.specs.declared.act.Act.TheVariants as act
 use Rattle.ev_types.specs.declared.answer.AskAnswer.{AskAnswer}
 use Rattle.ev_types.specs.declared.answer.AskAnswer.TheVariants as ask
 use Rattle.relay_model.specs.Settings.{Settings, Marks}
-use Rattle.relay_model.specs.Plain.{Plain, PlainSide, Standing, first_limit, side_at, change_side, is_live, freed, without_timer}
+use Rattle.relay_model.specs.Plain.{Plain, PlainSide, Standing, first_limit, side_at, change_side, is_live, freed, without_timer, placed}
 use Rattle.relay_model.specs.Rates.{standing_level}
 use Rattle.relay_model.specs.Past.{Past}
 use Rattle.relay_model.specs.Reasons.{raise_read, raise_write}
@@ -122,7 +122,7 @@ done g p s (act.Join e group) = change_side e (λ x. record x { group = Some gro
 done g p s (act.Leave e) = change_side e (λ x. record x { group = None }) s
 done g p s (act.Trigger e dir.Read) = raise_read g p e s
 done g p s (act.Trigger e dir.Write) = raise_write g p e s
-done g p s (act.Timer e delay) = record s { timers = without_timer e s.timers ++ record { side = e; deadline = s.time + delay } ∷ [] }
+done g p s (act.Timer e delay) = record s { timers = placed (record { side = e; deadline = s.time + delay }) (without_timer e s.timers) }
 done g p s (act.Cancel e) = record s { timers = without_timer e s.timers }
 done g p s (act.Incref e) = change_side e (λ x. record x { references = x.references + 1 }) s
 done g p s (act.Decref e) = change_side e (λ x. record x { references = x.references - 1 }) s

@@ -49,3 +49,5 @@ pub mod Passed
 pub mod Bounds
 pub mod Still
 pub mod StepLaws
+pub mod SoFar
+pub mod ClosingTurns

@@ -83,21 +83,12 @@ poll_timeout g p s = if is_pressing s then Some 0 else option_map (λ moment. mo
 
 -- The start of a turn
 
--- a timer among others that are in the order of their deadlines, behind those with an equal one
-abbrev pub placed : Timer → List Timer → List Timer
-placed x [] = x ∷ []
-placed x (y ∷ ys) = if nat_lt x.deadline y.deadline then x ∷ y ∷ ys else y ∷ placed x ys
-
--- in the order of deadlines, and of adding where those are equal
-abbrev pub by_deadline : List Timer → List Timer
-by_deadline timers = fold (λ sorted x. placed x sorted) [] timers
-
 -- The timers whose deadline has come are taken, and become reasons in their order.
 abbrev pub timers_taken : Settings → Plain → Plain
 timers_taken g s =
     fold (λ state x. raise g x.side why.Timer state)
     (record s { timers = filter (λ x. nat_lt s.time x.deadline) s.timers })
-    (by_deadline (filter (λ x. nat_le x.deadline s.time) s.timers))
+    (filter (λ x. nat_le x.deadline s.time) s.timers)
 
 abbrev pub has_run_out : PlainSide → Dir → ℕ → Bool
 has_run_out x d time = nat_le (timeout_of x d) (time - last_activity x d)

@@ -1,6 +1,6 @@
 -- The relay without its bytes: what it keeps of each side, each direction and each timer. The bytes are what the trace
 -- says; how the plain state goes on stands in Turn.
-use Rattle.std.specs.Prelude.{ℕ, zero, suc, ◌+◌, Bool, true, false, not, List, [], ◌∷◌, ◌++◌, filter, slice_index_or, slice_set, Option, None, option_map}
+use Rattle.std.specs.Prelude.{nat_lt, if◌then◌else◌, ℕ, zero, suc, ◌+◌, Bool, true, false, not, List, [], ◌∷◌, ◌++◌, filter, slice_index_or, slice_set, Option, None, option_map}
 use Rattle.ev_types.specs.declared.side.Side.{Side}
 use Rattle.ev_types.specs.declared.side.Side.TheVariants.{In, Out}
 use Rattle.ev_types.specs.declared.side.SideId.{SideId}
@@ -49,7 +49,7 @@ pub record Plain : Type 0 where
   pub opened : ℕ  -- how many links were opened
   pub sides : List PlainSide
   pub flows : List Flow
-  pub timers : List Timer  -- in the order of adding
+  pub timers : List Timer  -- in the order of their deadlines, and of adding where those are equal
   pub due : List Due  -- the pending entries
 
 abbrev pub nothing_yet : Plain
@@ -135,6 +135,11 @@ new_side g time turn side connected = record {
   group = group_set g side;
   references = 0;
 }
+
+-- a timer among others that are in the order of their deadlines, behind those with an equal one
+abbrev pub placed : Timer → List Timer → List Timer
+placed x [] = x ∷ []
+placed x (y ∷ ys) = if nat_lt x.deadline y.deadline then x ∷ y ∷ ys else y ∷ placed x ys
 
 -- the timers without that of a side
 abbrev pub without_timer : SideId → List Timer → List Timer

@@ -2,6 +2,7 @@
 ghost use Rattle.relay_model.specs.Bounds.{BuffersAreWithin, BuffersStayWithin};
 ghost use Rattle.relay_model.specs.Fitting.{CountsFit};
 ghost use Rattle.relay_model.specs.Passed.{AllIsPassed};
+ghost use Rattle.relay_model.specs.SoFar.{BuffersAreWithinSoFar};
 
 /// In every state that a trace leads to, no count of a direction passes what is there for it.
 pub fn counts_fit()
@@ -23,4 +24,10 @@ pub fn buffers_are_within()
 /// Whatever hooks ask, the buffers stay within the greatest marks that a side can come to have.
 pub fn buffers_stay_within()
     ensures { BuffersStayWithin }
+{}
+
+/// Whatever hooks ask, the buffers stay within the greatest read mark and the greatest hold mark that stood so far: those of the
+/// settings, and those that hooks asked for.
+pub fn buffers_are_within_so_far()
+    ensures { BuffersAreWithinSoFar }
 {}

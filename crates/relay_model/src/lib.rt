@@ -10,7 +10,9 @@ mod played_laws;
 mod step_laws;
 mod turn_laws;
 
-pub use buffer_laws::{all_is_passed, buffers_are_within, buffers_stay_within, counts_fit};
+pub use buffer_laws::{
+    all_is_passed, buffers_are_within, buffers_are_within_so_far, buffers_stay_within, counts_fit,
+};
 pub use filter_laws::{
     a_step_fits_its_target, a_step_is_the_function, cuts_agree, cuts_give_the_function, runs_join,
 };

@@ -1,11 +1,12 @@
 -- Closing a link: which steps are called for, what they put into the trace, and what they change.
-use Rattle.std.specs.Prelude.{ℕ, Bool, true, false, ◌==◌, ◌&&◌, not, List, [], ◌∷◌, length, Option, Some, None, option_map, is_some, if◌then◌else◌}
+use Rattle.std.specs.Prelude.{ℕ, Bool, ◌==◌, ◌&&◌, not, length, Option, Some, None, option_map, if◌then◌else◌}
 use Rattle.ev_types.specs.declared.side.Side.TheVariants.{In, Out}
 use Rattle.ev_types.specs.declared.side.SideId.{SideId}
 use Rattle.ev_types.specs.declared.entry.Entry.{Entry}
 use Rattle.ev_types.specs.declared.entry.Entry.TheVariants as entry
 use Rattle.ev_types.specs.declared.why.Cause.TheVariants as cause
 use Rattle.ev_types.specs.Sides.{peer}
+use Rattle.relay_model.specs.Due.{without_reasons}
 use Rattle.relay_model.specs.Plain as plain
 use Rattle.relay_model.specs.Plain.{side_at, flow_at, is_live}
 use Rattle.relay_model.specs.Close.{CloseStep, fault, freed_entry, entry_where, closed_by}
@@ -40,10 +41,14 @@ closing_entry s (CloseStep.PeerGone e) =
     entry_where (is_live s.plain e && not (is_live s.plain (peer e)) && output_length s e == 0) (freed_entry s.plain e cause.PeerGone)
 closing_entry s (CloseStep.Shut e) = entry_where (not (is_live s.plain e) && not (side_at s.plain e).closed) (entry.Close e)
 
+-- no reason of the side is fired any more
+abbrev pub without_batch : SideId → State → State
+without_batch e s = record s { batch = without_reasons e s.batch }
+
 -- The side is freed: of the direction that begins at it what was not moved is dropped, and of the one that ends at it what waits.
 abbrev pub freed : SideId → State → State
 freed e s =
-    let own : State = with_lane e (lane_left (lane_at s e)) (with_plain (plain.freed e s.plain) s) in
+    let own : State = with_lane e (lane_left (lane_at s e)) (with_plain (plain.freed e s.plain) (without_batch e s)) in
     with_lane (peer e) (lane_lost (lane_at own (peer e))) own
 
 -- what a step changes

@@ -6,4 +6,6 @@ pub mod Rooms
 pub mod Serving
 pub mod Closing
 pub mod Time
+pub mod Asking
 pub mod Counting
+pub mod Running

@@ -2,12 +2,13 @@
 use Rattle.std.specs.Prelude.{Bool, [], ◌∷◌, ◌++◌}
 use Rattle.ev_types.specs.declared.side.Side.{Side}
 use Rattle.ev_types.specs.declared.side.Side.TheVariants.{In, Out}
-use Rattle.relay_model.specs.Settings.{Settings}
+use Rattle.relay_model.specs.Settings.{Settings, rate_set}
 use Rattle.relay_model.specs.Plain.{with_link}
 use Rattle.relay_model.specs.Rooms.{read_kind, write_kind}
 use Rattle.relay_model.specs.Conserved.{no_buffers}
 use Rattle.relay_model.specs.FilterStep.{begun}
 use Rattle.relay_state.specs.State.{State, Lane}
+use Rattle.relay_state.specs.Running.{gauge_begun}
 
 -- a direction of a new link, from one side to the other
 abbrev pub new_lane : Settings → Side → Side → Lane
@@ -25,4 +26,5 @@ abbrev pub after_opened : State → Bool → State
 after_opened s connected = record s {
   plain = with_link s.settings connected s.plain;
   lanes = s.lanes ++ new_lane s.settings In Out ∷ new_lane s.settings Out In ∷ [];
+  gauges = s.gauges ++ gauge_begun (rate_set s.settings In) s.plain.time ∷ gauge_begun (rate_set s.settings Out) s.plain.time ∷ [];
 }

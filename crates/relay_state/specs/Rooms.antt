@@ -1,12 +1,13 @@
 -- How many bytes may be read from a side's end and given to it now, and what a side wants.
-use Rattle.std.specs.Prelude.{ℕ, ◌+◌, ◌-◌, Bool, ◌&&◌, ◌||◌, not, nat_le, if◌then◌else◌, List, length, min, take, filter, map}
+use Rattle.std.specs.Prelude.{ℕ, ◌+◌, ◌-◌, Bool, ◌&&◌, ◌||◌, not, nat_le, if◌then◌else◌, List, length, Option, option_map, min, take, filter, map}
 use Rattle.token_bucket.specs.declared.limit.Dir.{Dir}
 use Rattle.token_bucket.specs.declared.limit.Dir.TheVariants as dir
 use Rattle.ev_types.specs.declared.side.SideId.{SideId}
 use Rattle.ev_types.specs.Sides.{peer}
 use Rattle.relay_model.specs.Plain.{side_at, all_sides}
-use Rattle.relay_model.specs.Rooms.{Want, most_at_once, read_mark, may_read, may_write, is_connecting}
-use Rattle.relay_state.specs.State.{State, lane_at}
+use Rattle.relay_model.specs.Rooms.{Want, at_most, most_at_once, read_mark, may_read, may_write, is_connecting}
+use Rattle.relay_state.specs.State.{State, lane_at, gauge_at}
+use Rattle.relay_state.specs.Running.{held_at}
 
 -- what was read from a side and not moved to its peer yet
 abbrev pub input_length : State → SideId → ℕ
@@ -20,12 +21,16 @@ waiting_for s e = (lane_at s (peer e)).buffers.raw_output
 abbrev pub output_length : State → SideId → ℕ
 output_length s e = length (lane_at s (peer e)).buffers.output + length (waiting_for s e)
 
+-- what a side's own limit leaves it to move in a direction
+abbrev pub allowance : State → SideId → Dir → Option ℕ
+allowance s e d = option_map (λ y. held_at y.cfg (gauge_at s e) d s.plain.time) (side_at s.plain e).limit
+
 -- A read brings at most the most bytes of one read, and no more than the input is short of the read mark.
 abbrev pub read_room : State → SideId → ℕ
-read_room s e = if may_read s.plain e then min most_at_once (read_mark s.plain e - input_length s e) else 0
+read_room s e = if may_read s.plain e then at_most (allowance s e dir.Read) (min most_at_once (read_mark s.plain e - input_length s e)) else 0
 
 abbrev pub write_room : State → SideId → ℕ
-write_room s e = if may_write s.plain e then min most_at_once (length (waiting_for s e)) else 0
+write_room s e = if may_write s.plain e then at_most (allowance s e dir.Write) (min most_at_once (length (waiting_for s e))) else 0
 
 -- what is given to a side's end now
 abbrev pub offer : State → SideId → List ℕ

@@ -11,11 +11,11 @@ use Rattle.ev_types.specs.declared.answer.WriteAnswer.TheVariants as write
 use Rattle.ev_types.specs.declared.why.Why.TheVariants as why
 use Rattle.ev_types.specs.Sides.{peer}
 use Rattle.relay_model.specs.Flow.{Flow}
-use Rattle.relay_model.specs.Plain.{Plain, side_at, change_side, change_flow}
+use Rattle.relay_model.specs.Plain.{side_at, change_side, change_flow}
 use Rattle.relay_model.specs.Reasons.{raise}
 use Rattle.relay_model.specs.Moments.{active_at}
 use Rattle.relay_model.specs.Serve as model
-use Rattle.relay_state.specs.State.{State, Lane, lane_at, with_plain, with_lane, lane_got, lane_taken}
+use Rattle.relay_state.specs.State.{State, lane_at, gauges_after, with_plain, with_lane, lane_got, lane_taken}
 use Rattle.relay_state.specs.Passing.{read_run}
 use Rattle.relay_state.specs.Rooms.{input_length, output_length}
 
@@ -33,7 +33,9 @@ after_conn s e answer = with_plain (model.after_conn s.settings e answer s.plain
 -- bytes were got, and stand behind the raw input
 abbrev pub with_got : State → SideId → List ℕ → State
 with_got s e bytes =
-    with_lane e (lane_got bytes (lane_at s e)) (with_plain (model.after_read s.settings e (read.Got (length bytes)) s.plain) s)
+    record (with_lane e (lane_got bytes (lane_at s e)) (with_plain (model.after_read s.settings e (read.Got (length bytes)) s.plain) s)) {
+      gauges = gauges_after e dir.Read (length bytes) s;
+    }
 
 -- Then the read filter runs, and the low mark is looked at.
 abbrev pub after_got : State → SideId → List ℕ → State
@@ -53,8 +55,10 @@ flow_given n f = record f { given = f.given + n }
 -- a side's end took the first of the bytes that wait for it
 abbrev pub with_taken : State → SideId → ℕ → State
 with_taken s e n =
-    with_lane (peer e) (lane_taken n (lane_at s (peer e)))
-    (with_plain (change_side e (active_at s.plain.time dir.Write) (change_flow (peer e) (flow_given n) s.plain)) s)
+    record (with_lane (peer e) (lane_taken n (lane_at s (peer e)))
+    (with_plain (change_side e (active_at s.plain.time dir.Write) (change_flow (peer e) (flow_given n) s.plain)) s)) {
+      gauges = gauges_after e dir.Write n s;
+    }
 
 -- Then the low mark is looked at.
 abbrev pub after_took : State → SideId → ℕ → State

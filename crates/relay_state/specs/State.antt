@@ -1,12 +1,15 @@
 -- The state of the relay: what the model keeps of it, and beside each direction its bytes. The changes stand in the files behind.
 use Rattle.std.specs.Prelude.{ℕ, ◌+◌, List, [], ◌++◌, drop, length, slice_index_or, slice_set}
+use Rattle.token_bucket.specs.declared.limit.Dir.{Dir}
 use Rattle.ev_types.specs.declared.filter.FilterKind.TheVariants as kind
 use Rattle.ev_types.specs.declared.side.SideId.{SideId}
 use Rattle.ev_types.specs.Sides.{number}
 use Rattle.relay_model.specs.Settings.{Settings}
-use Rattle.relay_model.specs.Plain.{Plain, nothing_yet}
+use Rattle.relay_model.specs.Due.{Reason}
+use Rattle.relay_model.specs.Plain.{Plain, nothing_yet, side_at}
 use Rattle.relay_model.specs.Conserved.{Buffers, Running, no_buffers}
 use Rattle.relay_model.specs.FilterStep.{Stepped, begun}
+use Rattle.relay_state.specs.Running.{Gauge, no_gauge, gauge_after}
 
 -- What a direction keeps beside its counts: the bytes on their way, the two filters that run, and how many bytes were read at the
 -- side where it begins, made of them by the read filter, and made of those by the write filter.
@@ -22,15 +25,29 @@ pub record Lane : Type 0 where
 abbrev pub no_lane : Lane
 no_lane = record { buffers = no_buffers; reader = begun kind.None; writer = begun kind.None; read = 0; read_made = 0; write_made = 0 }
 
--- Sides, directions and timers are those of the model's plain state. A lane stands by the number of the side that it begins at.
+-- Sides, directions, timers and due entries are those of the model's plain state. A lane stands by the number of the side that it begins
+-- at.
 pub record State : Type 0 where
   pub settings : Settings
   pub plain : Plain
   pub lanes : List Lane
+  pub batch : List Reason  -- what this turn has still to fire
+  pub gauges : List Gauge  -- the buckets of each side, by number
 
 -- before the first turn
 abbrev pub new_state : Settings → State
-new_state settings = record { settings = settings; plain = nothing_yet; lanes = [] }
+new_state settings = record { settings = settings; plain = nothing_yet; lanes = []; batch = []; gauges = [] }
+
+-- the buckets of a side
+abbrev pub gauge_in : List Gauge → SideId → Gauge
+gauge_in xs e = slice_index_or xs (number e) no_gauge
+
+abbrev pub gauge_at : State → SideId → Gauge
+gauge_at s e = gauge_in s.gauges e
+
+-- bytes were moved at a side
+abbrev pub gauges_after : SideId → Dir → ℕ → State → List Gauge
+gauges_after e d n s = slice_set s.gauges (number e) (gauge_after (side_at s.plain e).limit s.plain.time d n (gauge_at s e))
 
 abbrev pub lane_at : State → SideId → Lane
 lane_at s e = slice_index_or s.lanes (number e) no_lane

@@ -1,13 +1,15 @@
 -- What time brings: the timeout of the poll, and what the start of a turn does.
-use Rattle.std.specs.Prelude.{ℕ, ◌+◌, ◌-◌, not, ◌&&◌, if◌then◌else◌, List, ◌++◌, map, fold, Option, Some, option_map}
-use Rattle.std.specs.List.{flat_map}
+use Rattle.std.specs.Prelude.{ℕ, ◌+◌, ◌-◌, not, ◌&&◌, if◌then◌else◌, List, [], ◌==◌, None, ◌++◌, map, fold, Option, Some, option_map}
+use Rattle.std.specs.List.{flat_map, list_any}
 use Rattle.token_bucket.specs.declared.limit.Dir.{Dir}
 use Rattle.ev_types.specs.declared.side.SideId.{SideId}
-use Rattle.relay_model.specs.Plain.{side_at, change_side, all_sides}
+use Rattle.relay_model.specs.Plain.{Standing, is_live, side_at, change_side, all_sides}
+use Rattle.relay_model.specs.Rates.{next_tick}
 use Rattle.relay_model.specs.Reasons.{raise, happened, timeout_flag}
 use Rattle.relay_model.specs.Moments.{timeout_of, last_activity, is_timed, active_at, both_ways, moment_where, earliest, is_pressing, timers_taken, has_run_out, expire}
 use Rattle.relay_model.specs.Turn.{turned_to}
-use Rattle.relay_state.specs.State.{State, with_plain}
+use Rattle.relay_state.specs.State.{State, with_plain, gauge_at}
+use Rattle.relay_state.specs.Running.{held_at}
 use Rattle.relay_state.specs.Rooms.{wants}
 
 -- when a side that wants a direction with a timeout expires
@@ -16,9 +18,19 @@ expiry s e d =
     let x = side_at s.plain e in
     moment_where (is_timed x d && wants s e d) (last_activity x d + timeout_of x d)
 
+-- when a bucket of a live side that holds nothing gains again
+abbrev pub limit_gain : State → SideId → Option Standing → List ℕ
+limit_gain s e None = []
+limit_gain s e (Some y) =
+    moment_where (is_live s.plain e && list_any (λ d. held_at y.cfg (gauge_at s e) d s.plain.time == 0) both_ways)
+    (next_tick y.cfg.tick_ms s.plain.time)
+
 -- the moments for which a poll wakes up
 abbrev pub moments : State → List ℕ
-moments s = map (λ x. x.deadline) s.plain.timers ++ flat_map (λ e. flat_map (expiry s e) both_ways) (all_sides s.plain)
+moments s =
+    map (λ x. x.deadline) s.plain.timers
+    ++ flat_map (λ e. flat_map (expiry s e) both_ways) (all_sides s.plain)
+    ++ flat_map (λ e. limit_gain s e (side_at s.plain e).limit) (all_sides s.plain)
 
 -- A poll doesn't wait where something is pressing. Else it waits for the earliest moment, and for ever where there is none.
 abbrev pub poll_timeout : State → Option ℕ

@@ -1,9 +1,9 @@
 -- A side is freed: each lane goes on fitting. Of the two lanes of the side, what belongs to it is dropped.
-use Rattle.std.proofs.Common.{◌≡◌, ◌≢◌, ◌*◌, ◌<◌, false, [], ◌∷◌, ◌++◌, length, None, refl, sym, ◌∙◌, ap, subst}
+use Rattle.std.proofs.Common.{◌≡◌, ◌≢◌, ◌*◌, ◌<◌, false, [], ◌∷◌, ◌++◌, length, None, inl, inr, refl, sym, ◌∙◌, ap, subst}
 use Rattle.std.specs.Prelude.{is_some}
 use Rattle.std.proofs.lemmas.List.{length-set}
+use Rattle.std.proofs.lemmas.Bool.Decides.{eqb_tells}
 use Rattle.ev_types.specs.declared.side.SideId.{SideId}
-use Rattle.ev_types.specs.declared.why.Cause.{Cause}
 use Rattle.ev_types.specs.Sides.{number, peer}
 use Rattle.ev_types.specs.Trace.{Event, Trace}
 use Rattle.relay_model.specs.Settings.{Settings}
@@ -11,12 +11,15 @@ use Rattle.relay_model.specs.Conserved.{Buffers}
 use Rattle.relay_model.specs.Due.{without_due}
 use Rattle.relay_model.specs.Plain as plain
 use Rattle.relay_model.specs.Plain.{Plain, PlainSide, side_at, is_live, without_timer}
-use Rattle.relay_model.specs.Close.{freed_entry}
+use Rattle.relay_model.specs.Trace.{read_by, ended_by}
 use Rattle.relay_model.specs.Stages.{Stage}
 use Rattle.relay_state.specs.State.{State, Lane, lane_at, with_plain, with_lane, lane_left, lane_lost}
-use Rattle.relay_state.specs.Closing.{freed}
+use Rattle.relay_state.specs.Closing.{freed, without_batch}
+use Rattle.relay_model.proofs.RatesTold.{freed-limit}
+use Rattle.relay_steps.specs.Gauges.{Gauged}
+use Rattle.relay_steps.proofs.RateLemmas.{Moveless, SameGauged, spells-none, gauged-same}
 use Rattle.relay_steps.specs.Meaning.{LaneFits, StandsFor}
-use Rattle.relay_steps.proofs.EndLemmas.{peer-peer, peer-apart, peer-moves, by_side, read-silent, ended-silent}
+use Rattle.relay_steps.proofs.EndLemmas.{peer-peer, peer-apart, peer-moves, by_side, number-same, read-silent, ended-silent}
 use Rattle.relay_steps.proofs.FitLemmas.{Sight, sight, FitsSight, seen-fits, fits-seen, fits-same}
 use Rattle.relay_steps.proofs.FitLemmas.{lane-set, lane-set_other, side-put, side-put_other}
 use Rattle.relay_steps.proofs.StillSteps.{in_sides, in_lanes}
@@ -76,36 +79,37 @@ module _ (t : Trace) (x : Stage) (s : State) (e : SideId) (k : StandsFor t x s) 
   freed-there : (a : SideId) → a ≢ e → side_at (plain.freed e s.plain) a ≡ side_at s.plain a
   freed-there a h = side-put_other cleared e a gone h
 
+  abbrev base : State
+  base = with_plain q (without_batch e s)
+
   abbrev own : State
-  own = with_lane e (lane_left (lane_at s e)) (with_plain q s)
+  own = with_lane e (lane_left (lane_at s e)) base
 
   lane-own : lane_at (freed e s) e ≡ lane_left (lane_at s e)
   lane-own =
       lane-set_other own (peer e) e (lane_lost (lane_at own (peer e))) (λ h. peer-apart e (sym h))
-      ∙ lane-set (with_plain q s) e (lane_left (lane_at s e)) (in_lanes t x s e k lt)
+      ∙ lane-set base e (lane_left (lane_at s e)) (in_lanes t x s e k lt)
 
   lane-far : lane_at (freed e s) (peer e) ≡ lane_lost (lane_at s (peer e))
   lane-far =
       lane-set own (peer e) (lane_lost (lane_at own (peer e)))
       (subst (λ n. number (peer e) < n) (sym (length-set s.lanes (number e) (lane_left (lane_at s e)))) (in_lanes t x s (peer e) k lt))
-      ∙ ap lane_lost (lane-set_other (with_plain q s) e (peer e) (lane_left (lane_at s e)) (peer-apart e))
+      ∙ ap lane_lost (lane-set_other base e (peer e) (lane_left (lane_at s e)) (peer-apart e))
 
   lane-rest : (a : SideId) → a ≢ e → a ≢ peer e → lane_at (freed e s) a ≡ lane_at s a
   lane-rest a h j =
       lane-set_other own (peer e) a (lane_lost (lane_at own (peer e))) j
-      ∙ lane-set_other (with_plain q s) e a (lane_left (lane_at s e)) h
+      ∙ lane-set_other base e a (lane_left (lane_at s e)) h
 
-  module _ (why : Cause) where
-    abbrev event : Event
-    event = (freed_entry s.plain e why, [])
-
+  -- behind any event that tells nothing of read bytes and ends
+  module _ (event : Event) (read : (a : SideId) → read_by a event ≡ []) (ended : (a : SideId) → ended_by a event ≡ false) where
     abbrev u : Trace
     u = t ++ event ∷ []
 
     sight-own : sight u q e ≡ record (sight t p e) { from_live = false }
     sight-own =
-        let a = read-silent t event e refl in
-        let b = ended-silent t event e refl in
+        let a = read-silent t event e (read e) in
+        let b = ended-silent t event e (ended e) in
         let c = freed-here in
         let d = freed-there (peer e) (peer-apart e) in
         λ i. record {
@@ -120,8 +124,8 @@ module _ (t : Trace) (x : Stage) (s : State) (e : SideId) (k : StandsFor t x s) 
 
     sight-far : sight u q (peer e) ≡ record (sight t p (peer e)) { to_live = false }
     sight-far =
-        let a = read-silent t event (peer e) refl in
-        let b = ended-silent t event (peer e) refl in
+        let a = read-silent t event (peer e) (read (peer e)) in
+        let b = ended-silent t event (peer e) (ended (peer e)) in
         let c = freed-there (peer e) (peer-apart e) in
         let d : side_at q (peer (peer e)) ≡ record (side_at p (peer (peer e))) { live = false; group = None } =
         subst (λ z. side_at q z ≡ record (side_at p z) { live = false; group = None }) (sym (peer-peer e)) freed-here in
@@ -137,8 +141,8 @@ module _ (t : Trace) (x : Stage) (s : State) (e : SideId) (k : StandsFor t x s) 
 
     sight-rest : (a : SideId) → a ≢ e → a ≢ peer e → sight u q a ≡ sight t p a
     sight-rest a h j =
-        let r = read-silent t event a refl in
-        let b = ended-silent t event a refl in
+        let r = read-silent t event a (read a) in
+        let b = ended-silent t event a (ended a) in
         let c = freed-there a h in
         let d = freed-there (peer a) (peer-moves a e j) in
         λ i. record {
@@ -168,6 +172,22 @@ module _ (t : Trace) (x : Stage) (s : State) (e : SideId) (k : StandsFor t x s) 
         (seen-fits g t p (peer e) (lane_at s (peer e)) (k.each (peer e) h))))
         (λ own far h.
         fits-same g t u p q a (lane_at s a) (lane_at (freed e s) a) (sight-rest a own far) (lane-rest a own far) (k.each a h)) there
+
+  freed-group : (a : SideId) → (side_at q a).group ≡ None
+  freed-group a = elim (eqb_tells (number a) (number e)) [
+    | inl here ↦ subst (λ z. (side_at q z).group ≡ None) (sym (number-same a e here.1)) (ap (λ z. z.group) freed-here)
+    | inr there ↦ ap (λ z. z.group) (freed-there a (λ h. there.1 (ap number h))) ∙ k.gauged.group a
+  ]
+
+  pub freed-gauged : (event : Event) → Moveless event → Gauged (t ++ event ∷ []) q s.gauges
+  freed-gauged event moves =
+      let same : SameGauged p (record q { sides = p.sides }) = record { opened = refl; time = refl; rates = λ a. refl } in
+      let past = gauged-same t (t ++ event ∷ []) p (record q { sides = p.sides }) s.gauges same (spells-none t event moves) k.gauged in
+      record {
+        many = past.many;
+        each = λ a y is d. past.each a y (sym (freed-limit e a p) ∙ is) d;
+        group = freed-group;
+      }
 
   pub freed-many : length (freed e s).lanes ≡ 2 * s.plain.opened
   freed-many =

@@ -4,7 +4,12 @@ pub mod SizeLemmas
 pub mod CountLemmas
 pub mod FrameLemmas
 pub mod WaitLemmas
-pub mod CalmLemmas
+pub mod BeforeLemmas
+pub mod BucketLemmas
+pub mod RunSteps
+pub mod GaugeSteps
+pub mod RateLemmas
+pub mod MovedSteps
 pub mod RoomLemmas
 pub mod StandsLemmas
 pub mod TimeSteps
@@ -21,6 +26,12 @@ pub mod PassSteps
 pub mod StillSteps
 pub mod FreeSteps
 pub mod CloseSteps
+pub mod RateSteps
+pub mod AskSteps
+pub mod FireSteps
+pub mod HookedLemmas
+pub mod HookedSteps
+pub mod DispatchSteps
 pub mod LaneSteps
 pub mod ServeSteps
 pub mod ReadSteps

@@ -1,5 +1,5 @@
 -- How a link is opened: its two lanes fit as nothing was told of its ends, whatever its filters are, and the other lanes go on fitting.
-use Rattle.std.proofs.Common.{◌≡◌, inl, inr, ℕ, ◌+◌, ◌*◌, ◌<◌, Bool, true, false, if◌then◌else◌, List, [], ◌∷◌, ◌++◌, length, drop, Option, Some, None, refl, sym, ◌∙◌, ap, subst, arith, slice_index_or, length-append}
+use Rattle.std.proofs.Common.{◌≢◌, ◌⊎◌, ◌≤◌, option_map, ◌≡◌, inl, inr, ℕ, ◌+◌, ◌*◌, ◌<◌, Bool, true, false, if◌then◌else◌, List, [], ◌∷◌, ◌++◌, length, drop, Option, Some, None, refl, sym, ◌∙◌, ap, subst, arith, slice_index_or, length-append}
 use Rattle.std.specs.Prelude.{is_some}
 use Rattle.std.specs.List.{list_any}
 use Rattle.std.proofs.lemmas.Bool.{or_parts}
@@ -34,6 +34,21 @@ use Rattle.relay_state.specs.State.{State, no_lane, lane_at}
 use Rattle.relay_state.specs.Opening.{new_lane, after_opened}
 use Rattle.relay_steps.specs.Meaning.{LaneFits, StandsFor}
 use Rattle.relay_steps.proofs.EndLemmas.{IsSilent, SameTold, told-same, number-below}
+use Rattle.relay_model.proofs.EndLemmas.{number-ge}
+use Rattle.relay_model.proofs.SpellLemmas.{spells-count}
+use Rattle.relay_model.proofs.ReachLemmas.{shape-is_told}
+use Rattle.relay_model.specs.Settings.{rate_set, group_set}
+use Rattle.relay_model.specs.Plain.{Standing, first_limit}
+use Rattle.relay_model.specs.Rates.{side_spells}
+use Rattle.token_bucket.specs.declared.limit.Dir.{Dir}
+use Rattle.token_bucket.specs.declared.limit.LimitCfg.{LimitCfg}
+use Rattle.std.proofs.lemmas.Bool.{cases_lt}
+use Rattle.std.proofs.lemmas.List.{get_or_past}
+use Rattle.relay_state.specs.Running.{Gauge, no_gauge, gauge_begun, first_gauge}
+use Rattle.relay_state.specs.State.{gauge_in, gauge_at}
+use Rattle.relay_steps.specs.Gauges.{BucketFits, Gauged}
+use Rattle.relay_steps.proofs.GaugeSteps.{bucket-silent, bucket-first}
+use Rattle.relay_steps.proofs.RateLemmas.{beat-none}
 use Rattle.relay_steps.proofs.FitLemmas.{Sight, sight, FitsSight, fits-seen, fits-same}
 
 silent-opened : (link : ℕ) (connected : Bool) (a : SideId) → IsSilent (entry.Opened link connected, []) a
@@ -116,6 +131,9 @@ at_front : {A : Type 0} (xs : List A) (a b d : A) (n : ℕ) (e : SideId) → len
     slice_index_or (xs ++ a ∷ b ∷ []) (number e) d ≡ slice_index_or xs (number e) d
 at_front xs a b d n e many lt = get_or_append_left xs (a ∷ b ∷ []) d (number e) (omega (arith, many, number-below e n lt))
 
+some_same : {A : Type 0} (a b : A) → Some a ≡ Some b → a ≡ b
+some_same a b h = cc
+
 module _ (t : Trace) (x : Stage) (s : State) (k : StandsFor t x s) (connected : Bool) where
   abbrev g : Settings
   g = s.settings
@@ -197,6 +215,72 @@ module _ (t : Trace) (x : Stage) (s : State) (k : StandsFor t x s) (connected : 
     | inr apart ↦ old-fits e (omega (arith, lt, apart.1))
   ]
 
+  -- the buckets of the new link, and those before
+  opened-gauged : Gauged u p' s'.gauges
+  opened-gauged = record {
+    many = length-append s.gauges (gauge_begun (rate_set g In) p.time ∷ gauge_begun (rate_set g Out) p.time ∷ [])
+        ∙ (let a = k.gauged.many in omega arith);
+    each = λ e y is d. elim (eqb_tells p.opened e.link) [
+      | inl here ↦ new-gauged e here.1 (rate_set g e.side) refl y is d
+      | inr apart ↦
+          subst (λ z. BucketFits u p.time y e z d) (sym (gauge-old e apart.1))
+          (bucket-silent t (entry.Opened p.opened connected, []) p.time y e (gauge_at s e) d
+          (beat-none (entry.Opened p.opened connected, []) (λ a. (refl, refl)) e d)
+          (k.gauged.each e y (sym (ap (λ z. z.limit) (side_at-old g connected p e counts.0 apart.1)) ∙ is) d))
+    ];
+    group = λ e. elim (eqb_tells p.opened e.link) [
+      | inl here ↦ ap (λ z. z.group) (side_at-new g connected p e counts.0 here.1) ∙ no_group e.side
+      | inr apart ↦ ap (λ z. z.group) (side_at-old g connected p e counts.0 apart.1) ∙ k.gauged.group e
+    ];
+  }
+    where
+      no_group : (z : Side) → group_set g z ≡ None
+      no_group In = k.built.in_group
+      no_group Out = k.built.out_group
+
+      first : Gauge
+      first = gauge_begun (rate_set g In) p.time
+
+      second : Gauge
+      second = gauge_begun (rate_set g Out) p.time
+
+      gauge-old : (e : SideId) → p.opened ≢ e.link → gauge_in (s.gauges ++ first ∷ second ∷ []) e ≡ gauge_at s e
+      gauge-old e apart = by_place (cases_lt e.link p.opened)
+        where
+          by_place : (e.link < p.opened) ⊎ (p.opened ≤ e.link) → gauge_in (s.gauges ++ first ∷ second ∷ []) e ≡ gauge_at s e
+          by_place (inl lt) = at_front s.gauges first second no_gauge p.opened e k.gauged.many lt
+          by_place (inr ge) =
+              let m = k.gauged.many in
+              let l = length-append s.gauges (first ∷ second ∷ []) in
+              let n = number-ge e (p.opened + 1) (omega (arith, ge, apart)) in
+              get_or_past (s.gauges ++ first ∷ second ∷ []) (number e) no_gauge (omega (arith, m, l, n))
+              ∙ sym (get_or_past s.gauges (number e) no_gauge (omega (arith, m, n)))
+
+      by_side : (z : Side) → pick z first second ≡ gauge_begun (rate_set g z) p.time
+      by_side In = refl
+      by_side Out = refl
+
+      turns : (e : SideId) (d : Dir) → p.turn ≡ length (side_spells e d t)
+      turns e d = (shape-is_told g t (at x p) k.reached).turn ∙ sym (spells-count e d t)
+
+      new-gauged : (e : SideId) → p.opened ≡ e.link → (o : Option LimitCfg) → rate_set g e.side ≡ o → (y : Standing) →
+          (side_at p' e).limit ≡ Some y → (d : Dir) → BucketFits u p.time y e (gauge_in (s.gauges ++ first ∷ second ∷ []) e) d
+      new-gauged e here None is y lim d =
+          let none : (side_at p' e).limit ≡ None =
+          ap (λ z. z.limit) (side_at-new g connected p e counts.0 here) ∙ ap (option_map (first_limit p.time p.turn)) is in
+          absurd (let bad : None ≡ Some y = sym none ∙ lim in cc)
+      new-gauged e here (Some cfg) is y lim d =
+          let some : (side_at p' e).limit ≡ Some (first_limit p.time p.turn cfg) =
+          ap (λ z. z.limit) (side_at-new g connected p e counts.0 here) ∙ ap (option_map (first_limit p.time p.turn)) is in
+          let whose : first_limit p.time p.turn cfg ≡ y = some_same (first_limit p.time p.turn cfg) y (sym some ∙ lim) in
+          let place : gauge_in (s.gauges ++ first ∷ second ∷ []) e ≡ first_gauge cfg p.time =
+          at_end s.gauges first second no_gauge p.opened e k.gauged.many here ∙ by_side e.side ∙ ap (λ o. gauge_begun o p.time) is in
+          subst (λ z. BucketFits u p.time z e (gauge_in (s.gauges ++ first ∷ second ∷ []) e) d) whose
+          (subst (λ z. BucketFits u p.time (first_limit p.time p.turn cfg) e z d) (sym place)
+          (bucket-silent t (entry.Opened p.opened connected, []) p.time (first_limit p.time p.turn cfg) e (first_gauge cfg p.time) d
+          (beat-none (entry.Opened p.opened connected, []) (λ a. (refl, refl)) e d)
+          (bucket-first t p.time p.turn cfg e d (turns e d))))
+
 -- The next link is opened.
 pub opened-stands : (t : Trace) (s : State) (n : ℕ) (marks : List Want) (connected : Bool) → StandsFor t (Stage.Accepting n marks) s →
     n < most_opened → s.plain.opened < s.settings.links →
@@ -213,4 +297,5 @@ opened-stands t s n marks connected k few lt =
       many = length-append s.lanes (new_lane g In Out ∷ new_lane g Out In ∷ []) ∙ (let a = k.many in omega arith);
       each = opened-fits t x s k connected;
       built = k.built;
+      gauged = opened-gauged t x s k connected;
     }

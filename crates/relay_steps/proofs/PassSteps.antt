@@ -20,7 +20,8 @@ use Rattle.relay_model.specs.Serve as model
 use Rattle.relay_model.specs.Stages.{Stage, at}
 use Rattle.relay_model.specs.Turn.{Reaches}
 use Rattle.relay_model.specs.StepLaws.{AccountsFit}
-use Rattle.relay_model.proofs.KeepsLemmas.{raised_read}
+use Rattle.relay_model.proofs.Frames.{rates_of}
+use Rattle.relay_model.proofs.KeepsLemmas.{raised_read, Keeps-side}
 use Rattle.relay_model.proofs.AccountedLemmas.{silent_steps_keep_accounts}
 use Rattle.relay_state.specs.State.{State, Lane, lane_at, with_plain}
 use Rattle.relay_state.specs.Passage.{Passage, read_part, rounds}
@@ -29,6 +30,7 @@ use Rattle.relay_state.specs.Serving.{raise_read}
 use Rattle.relay_steps.specs.Meaning.{LaneFits, StandsFor}
 use Rattle.relay_steps.proofs.EndLemmas.{number-below, by_side, peer-apart}
 use Rattle.relay_steps.proofs.FitLemmas.{sight, FitsSight, seen-fits, fits-seen, fits-same, lane-set, lane-set_other}
+use Rattle.relay_steps.proofs.RateLemmas.{gauged-same, passed-rates}
 use Rattle.relay_steps.proofs.PassedLemmas.{round_of, passed-other_flow, live-same, marks-rise, round-same}
 use Rattle.relay_steps.proofs.PassageLemmas.{PassageFits, read_run-is}
 use Rattle.relay_steps.proofs.PassRounds.{Rises, read-rises, rounds-rise, sides-told, flows-told, ended-told, near-inside, far-inside, Here, rounds-go, round-stays}
@@ -115,6 +117,10 @@ module _ (t : Trace) (x : Stage) (s : State) (h : StandsFor t x s) (e : SideId) 
       many = length-set s.lanes (number e) y.lane ∙ h.many;
       each = all-fit k;
       built = h.built;
+      gauged =
+          gauged-same t t s.plain (plain_passed e y s.plain) s.gauges
+          (record { opened = refl; time = refl; rates = λ a. Keeps-side rates_of s.plain _ a (passed-rates e y s.plain) }) (λ a d. refl)
+          h.gauged;
     }
 
 -- Passing
@@ -237,6 +243,13 @@ module _ (t : Trace) (e : SideId) (ms : List Want) (s : State) (lt : e.link < s.
         (fits-same g t t ran.plain (record (ran.plain) { due = dues.0 }) a (lane_at ran a) (lane_at ran a) refl refl
         (all-ran a (subst (λ n. a.link < n) opened inside)));
     built = h.built;
+    gauged =
+        gauged-same t t s.plain new s.gauges
+        (record {
+          opened = opened;
+          time = ap (λ z. z.time) new_is;
+          rates = λ a. ap (λ z. rates_of (side_at z a)) new_is ∙ Keeps-side rates_of s.plain _ a (passed-rates e y s.plain);
+        }) (λ a d. refl) h.gauged;
   }
     where
       dues : (ds : List Due) × (reasons.raise_read g P e ran.plain ≡ record (ran.plain) { due = ds })

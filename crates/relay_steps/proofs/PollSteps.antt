@@ -12,13 +12,17 @@ use Rattle.relay_model.specs.Plain.{sides_from}
 use Rattle.relay_model.specs.Rooms.{Want}
 use Rattle.relay_model.specs.Close.{closing_from}
 use Rattle.relay_model.specs.Stages.{Halt, Stage, at}
-use Rattle.relay_state.specs.State.{State}
+use Rattle.relay_model.specs.Turn.{Reaches}
+use Rattle.relay_model.proofs.AccountedLemmas.{silent_steps_keep_accounts}
+use Rattle.relay_state.specs.State.{State, lane_at}
+use Rattle.relay_state.specs.Asking.{dispatching}
+use Rattle.relay_steps.proofs.FitLemmas.{fits-same}
 use Rattle.relay_state.specs.Rooms.{wanted}
 use Rattle.relay_state.specs.Time.{poll_timeout}
 use Rattle.relay_steps.specs.Meaning.{StandsFor}
 use Rattle.relay_steps.proofs.EndLemmas.{IsSilent}
-use Rattle.relay_steps.proofs.CalmLemmas.{calm}
 use Rattle.relay_steps.proofs.RoomLemmas.{wanted-is, poll_timeout-is}
+use Rattle.relay_steps.proofs.RateLemmas.{gauged-same}
 use Rattle.relay_steps.proofs.StandsLemmas.{stands-told, stands-quiet}
 
 silent-poll : (timeout : Option ℕ) (a : SideId) → IsSilent (entry.Poll timeout, []) a
@@ -64,7 +68,7 @@ module _ (s : State) where
       subst (λ z. StandsFor z (Stage.Wanting []) s) (append_assoc t (x ∷ []) (want_events ws))
       (wants-go (t ++ x ∷ []) ws
       (stands-told t (Stage.Wanting (map named (w ∷ ws))) (Stage.Wanting (map named ws)) s x k
-      (refl, refl, refl) tt (silent-want w.side w.read w.write)))
+      (refl, refl, refl) tt (silent-want w.side w.read w.write) (λ a. (refl, refl))))
 
   abbrev ready : port.Want → Bool → Bool → Trace
   ready w a b = if a then (entry.Ready w.side true b, []) ∷ [] else (if b then (entry.Ready w.side false true, []) ∷ [] else [])
@@ -77,10 +81,10 @@ module _ (s : State) where
       StandsFor t (Stage.Marking (named w ∷ ws) marks) s → StandsFor (t ++ ready w a b) (Stage.Marking ws (marks ++ kept w a b [])) s
   ready-goes t w ws marks true b ra rb k =
       stands-told t (Stage.Marking (named w ∷ ws) marks) _ s (entry.Ready w.side true b, []) k
-      (refl, (λ z. ra refl, λ z. rb z, refl), refl, refl) tt (silent-ready w.side true b)
+      (refl, (λ z. ra refl, λ z. rb z, refl), refl, refl) tt (silent-ready w.side true b) (λ a. (refl, refl))
   ready-goes t w ws marks false true ra rb k =
       stands-told t (Stage.Marking (named w ∷ ws) marks) _ s (entry.Ready w.side false true, []) k
-      (refl, (λ z. absurd (cc), λ z. rb refl, refl), refl, refl) tt (silent-ready w.side false true)
+      (refl, (λ z. absurd (cc), λ z. rb refl, refl), refl, refl) tt (silent-ready w.side false true) (λ a. (refl, refl))
   ready-goes t w ws marks false false ra rb k =
       subst (λ z. StandsFor z (Stage.Marking ws (marks ++ [])) s) (sym (append-nil t))
       (stands-quiet t (Stage.Marking (named w ∷ ws) marks) _ s k (ap (λ z. at (Stage.Marking ws z) s.plain) (append-nil marks)))
@@ -112,7 +116,7 @@ named-go t s ws names k =
     wants-go s (t ++ x ∷ []) ws
     (stands-told t Stage.Polling (Stage.Wanting (map named ws)) s x k
     (poll_timeout-is t Stage.Polling s k, refl, ap (λ z. at (Stage.Wanting z) s.plain) (names ∙ wanted-is t Stage.Polling s k)) tt
-    (silent-poll (poll_timeout s)))
+    (silent-poll (poll_timeout s)) (λ a. (refl, refl)))
 
 poll-joined : (t : Trace) (x : Event) (a b : Trace) → ((t ++ x ∷ []) ++ a) ++ b ≡ t ++ (x ∷ (a ++ b))
 poll-joined t x a b = append_assoc (t ++ x ∷ []) a b ∙ append_assoc t (x ∷ []) (a ++ b)
@@ -140,7 +144,8 @@ poll_failed-stands t s ws names k =
     let y : Event = (entry.PollFailed, []) in
     let v : Trace = (t ++ x ∷ []) ++ want_events ws in
     subst (λ z. StandsFor z (Stage.Over Halt.PollFailed) s) (poll-joined t x (want_events ws) (y ∷ []))
-    (stands-told v (Stage.Wanting []) (Stage.Over Halt.PollFailed) s y (named-go t s ws names k) (refl, refl) tt silent-poll_failed)
+    (stands-told v (Stage.Wanting []) (Stage.Over Halt.PollFailed) s y (named-go t s ws names k) (refl, refl) tt silent-poll_failed
+    (λ a. (refl, refl)))
 
 -- From phase to phase
 
@@ -148,15 +153,28 @@ pub accepted-stands : (t : Trace) (s : State) (n : ℕ) (marks : List Want) → 
     StandsFor t (Stage.Serving marks) s
 accepted-stands t s n marks k = stands-quiet t (Stage.Accepting n marks) (Stage.Serving marks) s k refl
 
--- No reason is due, so that nothing is fired.
+-- All that is due is to be fired.
 pub served-stands : (t : Trace) (s : State) → StandsFor t (Stage.Serving []) s →
+    StandsFor t (Stage.Dispatching (batch s.plain.due)) (dispatching s)
+served-stands t s k = record {
+  reached = Reaches.goes k.reached refl;
+  accounts =
+      silent_steps_keep_accounts s.settings t (at (Stage.Serving []) s.plain)
+      (at (Stage.Dispatching (batch s.plain.due)) (record (s.plain) { due = [] })) k.reached refl k.accounts;
+  many = k.many;
+  each = λ e lt.
+      fits-same s.settings t t s.plain (record (s.plain) { due = [] }) e (lane_at s e) (lane_at (dispatching s) e) refl refl (k.each e lt);
+  built = k.built;
+  gauged =
+      gauged-same t t s.plain (record (s.plain) { due = [] }) s.gauges (record { opened = refl; time = refl; rates = λ a. refl })
+      (λ a d. refl)
+      k.gauged;
+}
+
+-- Nothing is left to fire.
+pub fired_all-stands : (t : Trace) (s : State) → StandsFor t (Stage.Dispatching []) s →
     StandsFor t (Stage.Passing [] (sides_from 0 s.plain.opened)) s
-served-stands t s k =
-    let due = (calm s.settings t (Stage.Serving []) s.plain k.built k.reached).0 in
-    let fired =
-    stands-quiet t (Stage.Serving []) (Stage.Dispatching []) s k
-    (λ i. at (Stage.Dispatching (batch (sym due i))) (record (s.plain) { due = due i })) in
-    stands-quiet t (Stage.Dispatching []) (Stage.Passing [] (sides_from 0 s.plain.opened)) s fired refl
+fired_all-stands t s k = stands-quiet t (Stage.Dispatching []) (Stage.Passing [] (sides_from 0 s.plain.opened)) s k refl
 
 pub passed_all-stands : (t : Trace) (s : State) → StandsFor t (Stage.Passing [] []) s →
     StandsFor t (Stage.Closing (closing_from 0 s.plain.opened)) s

@@ -1,5 +1,5 @@
 -- A marked side is read: the read is the one that the model calls for, and what its answer changes is what it changes there.
-use Rattle.std.proofs.Common.{◌≡◌, ◌≢◌, ℕ, ◌*◌, ◌-◌, ◌<◌, Bool, true, false, not, ◌||◌, nat_le, min}
+use Rattle.std.proofs.Common.{length, ◌≡◌, ◌≢◌, ℕ, ◌*◌, ◌-◌, ◌<◌, Bool, true, false, not, ◌||◌, nat_le, min}
 use Rattle.std.proofs.Common.{if◌then◌else◌, List, [], ◌∷◌, ◌++◌, slice_set}
 use Rattle.std.proofs.Common.{refl, sym, ◌∙◌, ap, subst}
 use Rattle.std.specs.Prelude.{nat_lt, is_some}
@@ -36,6 +36,14 @@ use Rattle.relay_steps.proofs.EndLemmas.{same_end-apart, read-silent, ended-sile
 use Rattle.relay_steps.proofs.FitLemmas.{sight, FitsSight, seen-fits, fits-seen, lane-set, lane-set_other}
 use Rattle.relay_steps.proofs.PassSteps.{filtering-stands}
 use Rattle.relay_steps.proofs.LaneSteps.{fits-got, fits-ended}
+use Rattle.relay_model.proofs.Frames.{rates_of}
+use Rattle.relay_steps.proofs.RateLemmas.{spells-none, gauged-same}
+use Rattle.relay_steps.proofs.MovedSteps.{MovesAt, moved-gauged}
+use Rattle.relay_steps.proofs.BeforeLemmas.{set-before}
+use Rattle.relay_model.specs.Rates.{Moves, beat_of}
+use Rattle.token_bucket.specs.declared.limit.Dir.{Dir}
+use Rattle.relay_model.specs.Rooms.{at_most}
+use Rattle.relay_state.specs.Rooms.{allowance}
 use Rattle.relay_steps.proofs.StillSteps.{IsStill, put-stands, still-same, still-event, still-raised, sight-of, one-fits, lane_in, in_lanes}
 use Rattle.relay_steps.proofs.ServeSteps.{if_true, some-may, one_or_more, mark, call-is, marks-are}
 
@@ -86,7 +94,9 @@ module _ (t : Trace) (s : State) (e : SideId) (r w : Bool) (ms : List Want) (k :
   )
 
   parts : MayRead p e
-  parts = may_read-parts p e (some-may (may_read p e) (min most_at_once (read_mark p e - input_length s e)) some)
+  parts =
+      may_read-parts p e
+      (some-may (may_read p e) (at_most (allowance s e dir.Read) (min most_at_once (read_mark p e - input_length s e))) some)
 
   -- the trace tells what the plain state has
   not_ended : has_ended e t ≡ false
@@ -132,6 +142,21 @@ module _ (t : Trace) (s : State) (e : SideId) (r w : Bool) (ms : List Want) (k :
     lane-own : lane_in lanes e ≡ new_lane
     lane-own = lane-set s e new_lane (in_lanes t marked s e k lt)
 
+    moves : MovesAt e dir.Read (length bytes) event
+    moves = record {
+      own = ap (λ b. Moves (if b then n else 0)) (same_end-refl e) ∙ ap Moves (sym carries.0);
+      across = across;
+      others = λ a h. others a h;
+    }
+      where
+        across : (f : Dir) → f ≢ dir.Read → beat_of e f event ≡ Moves 0
+        across dir.Read h = absurd (h refl)
+        across dir.Write h = refl
+
+        others : (a : SideId) → a ≢ e → (f : Dir) → beat_of a f event ≡ Moves 0
+        others a h dir.Read = ap (λ b. Moves (if b then n else 0)) (other_end e a h)
+        others a h dir.Write = refl
+
     got-fits : LaneFits g u active e (lane_in lanes e)
     got-fits =
         fits-seen g u active p e (lane_in lanes e)
@@ -151,6 +176,10 @@ module _ (t : Trace) (s : State) (e : SideId) (r w : Bool) (ms : List Want) (k :
       many = length-set s.lanes (number e) new_lane ∙ k.many;
       each = one-fits t u marked s active lanes e k sight-rest (λ a h. lane-set_other s e a new_lane h) got-fits;
       built = k.built;
+      gauged =
+          moved-gauged t event (length bytes) e dir.Read s moves active
+          (record { opened = refl; time = refl; rates = λ a. seen-change rates_of e a (active_at p.time dir.Read) p (λ x. refl) }) lt
+          (λ y is. set-before g t p (mark e r w) ms k.reached y is dir.Read) k.gauged;
     }
 
     got-stands :
@@ -168,7 +197,7 @@ module _ (t : Trace) (s : State) (e : SideId) (r w : Bool) (ms : List Want) (k :
       let u : Trace = t ++ x ∷ [] in
       let new : Plain = model.after_read g e read.Ended p in
       let change : PlainSide → PlainSide = λ z. record z { ended = true; reads = false } in
-      let still : IsStill t t p new = still-raised g t p e change (happened dir.Read end_flag) (λ z. refl) (λ z. refl) in
+      let still : IsStill t t p new = still-raised g t p e change (happened dir.Read end_flag) (λ z. refl) (λ z. refl) (λ z. refl) in
       let own : sight u new e ≡ record (sight t p e) { ended = true } =
       sight-of t u p new e (bytes_read e t) true (flow_at p e) (read-silent t x e refl)
       (has_ended-push e t x ∙ ap (λ b. has_ended e t || b) (same_end-refl e) ∙ or_true (has_ended e t)) (still.flow e)
@@ -191,6 +220,9 @@ module _ (t : Trace) (s : State) (e : SideId) (r w : Bool) (ms : List Want) (k :
         many = k.many ∙ ap (λ n. 2 * n) (sym still.opened);
         each = λ a h. each a (subst (λ n. a.link < n) still.opened h);
         built = k.built;
+        gauged =
+            gauged-same t u p new s.gauges (record { opened = still.opened; time = still.time; rates = still.rates })
+            (spells-none t x (λ a. (refl, refl))) k.gauged;
       }
 
   -- a read with exactly the room of the side, whatever is answered
@@ -202,10 +234,12 @@ module _ (t : Trace) (s : State) (e : SideId) (r w : Bool) (ms : List Want) (k :
       (sym carries) ended-stands
   read-stands read.NotYet bytes carries =
       put-stands t marked (Stage.Serving marks) s p (entry.Read e room read.NotYet) bytes k (read-puts read.NotYet bytes carries) tt
-      (still-event t (entry.Read e room read.NotYet, bytes) p p (still-same t t p (λ a. refl) (λ a. refl)) (λ a. refl) (λ a. refl))
+      (still-event t (entry.Read e room read.NotYet, bytes) p p (still-same t t p (λ a. refl) (λ a. refl) (λ a d. refl)) (λ a. refl)
+      (λ a. refl) (λ a. (refl, refl)))
   read-stands read.Failed bytes carries =
       put-stands t marked (Stage.Serving marks) s (model.after_read g e read.Failed p) (entry.Read e room read.Failed) bytes k
       (read-puts read.Failed bytes carries) tt
       (still-event t (entry.Read e room read.Failed, bytes) p (model.after_read g e read.Failed p)
-      (still-raised g t p e (λ x. record x { failed = true; reads = false }) (happened dir.Read error_flag) (λ z. refl) (λ z. refl))
-      (λ a. refl) (λ a. refl))
+      (still-raised g t p e (λ x. record x { failed = true; reads = false }) (happened dir.Read error_flag) (λ z. refl) (λ z. refl)
+      (λ z. refl))
+      (λ a. refl) (λ a. refl) (λ a. (refl, refl)))

@@ -1,6 +1,6 @@
--- Where the lanes hold exactly what the counts leave, and no side has a limit or a group, rooms, wants and the timeout of the poll are
+-- Where the lanes hold exactly what the counts leave, buckets fit, and no side has a group, rooms, wants and the timeout of the poll are
 -- the model's. The first lemmas look at two lanes and one side alone, so that they hold in the midst of a step too.
-use Rattle.std.proofs.Common.{◌≡◌, ℕ, zero, suc, ◌+◌, ◌-◌, ◌<◌, Bool, true, false, not, ◌&&◌, ◌||◌, nat_le, min, if◌then◌else◌, List, [], ◌∷◌, ◌++◌, length, map, filter, Option, Some, None, refl, sym, ◌∙◌, ap, arith, append-nil}
+use Rattle.std.proofs.Common.{◌≡◌, ℕ, zero, suc, ◌+◌, ◌-◌, ◌<◌, Bool, true, false, not, ◌&&◌, ◌||◌, ◌==◌, nat_le, min, if◌then◌else◌, List, [], ◌∷◌, ◌++◌, length, map, filter, Option, Some, None, refl, sym, ◌∙◌, ap, arith, append-nil}
 use Rattle.std.specs.Prelude.{option_map}
 use Rattle.std.specs.List.{flat_map}
 use Rattle.token_bucket.specs.declared.limit.Dir.{Dir}
@@ -15,19 +15,21 @@ use Rattle.relay_model.specs.Conserved.{Buffers, left}
 use Rattle.relay_model.specs.Settings.{Settings}
 use Rattle.relay_model.specs.Plain.{Plain, Standing, side_at, flow_at, is_live, sides_from, all_sides}
 use Rattle.relay_model.specs.Past.{Past, past}
-use Rattle.relay_model.specs.Rates.{standing_level}
+use Rattle.relay_model.specs.Rates.{next_tick, side_spells, standing_level}
 use Rattle.relay_model.specs.Rooms as model
 use Rattle.relay_model.specs.Rooms.{Want, read_filter, write_filter, share_in, at_most, within_rates, most_at_once, read_mark, may_read, may_write, is_connecting}
 use Rattle.relay_model.specs.Moments as moment
-use Rattle.relay_model.specs.Moments.{timeout_of, last_activity, is_timed, moment_where, both_ways, earliest, is_pressing, limit_gain, group_gains}
+use Rattle.relay_model.specs.Moments.{timeout_of, last_activity, is_timed, moment_where, both_ways, earliest, is_pressing, group_gains}
 use Rattle.relay_model.specs.Stages.{Stage}
-use Rattle.relay_model.proofs.PlainLemmas.{and-first, and-second}
-use Rattle.relay_state.specs.State.{State, lane_at}
-use Rattle.relay_state.specs.Rooms.{input_length, waiting_for, output_length, read_room, write_room, wants, want_of, wanted}
-use Rattle.relay_state.specs.Time.{expiry, moments, poll_timeout}
+use Rattle.relay_model.proofs.PlainLemmas.{and-first}
+use Rattle.relay_state.specs.State.{State, lane_at, gauge_at}
+use Rattle.relay_state.specs.Rooms.{allowance, input_length, waiting_for, output_length, read_room, write_room, wants, want_of, wanted}
+use Rattle.relay_state.specs.Time.{limit_gain, expiry, moments, poll_timeout}
+use Rattle.relay_steps.specs.Gauges.{Gauged}
 use Rattle.relay_steps.specs.Meaning.{StandsFor}
+use Rattle.relay_state.specs.Running.{held_at}
+use Rattle.relay_steps.proofs.GaugeSteps.{held-is}
 use Rattle.relay_steps.proofs.EndLemmas.{peer-peer}
-use Rattle.relay_steps.proofs.CalmLemmas.{unlimited}
 
 -- The lane that begins at a side holds exactly what the counts leave.
 abbrev pub HoldsLeft : Trace → State → SideId → Type 0
@@ -36,11 +38,11 @@ HoldsLeft t s e =
     ≡ left (read_filter s.settings s.plain e) (write_filter s.settings s.plain (peer e)) (bytes_read e t)
     (is_live s.plain e) (is_live s.plain (peer e)) (flow_at s.plain e)
 
--- So do the lanes from a side and to it, and it has neither a limit nor a group.
+-- So do the lanes from a side and to it, its buckets hold what the trace says, and it has no group.
 pub record SideFits (t : Trace) (s : State) (e : SideId) : Type 0 where
   pub own : HoldsLeft t s e
   pub toward : HoldsLeft t s (peer e)
-  pub limit : (side_at s.plain e).limit ≡ None
+  pub allowed : (d : Dir) → allowance s e d ≡ model.allowance (past s.settings t) s.plain e d
   pub group : (side_at s.plain e).group ≡ None
 
 -- A side that may be read lives, and so does its peer; one that may be written lives.
@@ -53,11 +55,6 @@ may_read-own p e h =
     (and-first (x.live && not x.connecting && x.reads) (not x.ended)
     (and-first (x.live && not x.connecting && x.reads && not x.ended) (not x.failed)
     (and-first (x.live && not x.connecting && x.reads && not x.ended && not x.failed) (side_at p (peer e)).live h))))
-
-pub may_read-peer : (p : Plain) (e : SideId) → may_read p e ≡ true → is_live p (peer e) ≡ true
-may_read-peer p e h =
-    let x = side_at p e in
-    and-second (x.live && not x.connecting && x.reads && not x.ended && not x.failed) (side_at p (peer e)).live h
 
 pub may_write-live : (p : Plain) (e : SideId) → may_write p e ≡ true → is_live p e ≡ true
 may_write-live p e h =
@@ -110,31 +107,31 @@ module _ (t : Trace) (s : State) (e : SideId) (k : SideFits t s e) where
 
   -- Rooms and wants
 
-  no_rates : (d : Dir) (n : ℕ) → within_rates g P p e d n ≡ n
-  no_rates d n =
+  limited : (d : Dir) (n : ℕ) → within_rates g P p e d n ≡ at_most (allowance s e d) n
+  limited d n =
       ap (λ z. at_most (share_in g P p d z) (at_most (model.allowance P p e d) n)) k.group
-      ∙ ap (λ (z : Option Standing). at_most (option_map (λ x. standing_level x d (P.turns e d) p.time) z) n) k.limit
+      ∙ ap (λ z. at_most z n) (sym (k.allowed d))
 
   pub read_room-fits : read_room s e ≡ model.read_room g P p e
   read_room-fits = by_test (may_read p e) refl
     where
       by_test : (b : Bool) → may_read p e ≡ b →
-          ◌≡◌ {A = ℕ} (if b then min most_at_once (read_mark p e - input_length s e) else 0)
+          ◌≡◌ {A = ℕ} (if b then at_most (allowance s e dir.Read) (min most_at_once (read_mark p e - input_length s e)) else 0)
           (if b then within_rates g P p e dir.Read (min most_at_once (read_mark p e - model.input_length g P p e)) else 0)
       by_test true b =
-          ap (λ n. min most_at_once (read_mark p e - n)) (input_length-fits (may_read-own p e b))
-          ∙ sym (no_rates dir.Read (min most_at_once (read_mark p e - model.input_length g P p e)))
+          ap (λ n. at_most (allowance s e dir.Read) (min most_at_once (read_mark p e - n))) (input_length-fits (may_read-own p e b))
+          ∙ sym (limited dir.Read (min most_at_once (read_mark p e - model.input_length g P p e)))
       by_test false b = refl
 
   pub write_room-fits : write_room s e ≡ model.write_room g P p e
   write_room-fits = by_test (may_write p e) refl
     where
       by_test : (b : Bool) → may_write p e ≡ b →
-          ◌≡◌ {A = ℕ} (if b then min most_at_once (length (waiting_for s e)) else 0)
+          ◌≡◌ {A = ℕ} (if b then at_most (allowance s e dir.Write) (min most_at_once (length (waiting_for s e))) else 0)
           (if b then within_rates g P p e dir.Write (min most_at_once (length (model.raw_output_at g P p e))) else 0)
       by_test true b =
-          ap (λ z. min most_at_once (length z)) (waiting-fits (may_write-live p e b))
-          ∙ sym (no_rates dir.Write (min most_at_once (length (model.raw_output_at g P p e))))
+          ap (λ z. at_most (allowance s e dir.Write) (min most_at_once (length z))) (waiting-fits (may_write-live p e b))
+          ∙ sym (limited dir.Write (min most_at_once (length (model.raw_output_at g P p e))))
       by_test false b = refl
 
   pub wants-fits : (d : Dir) → wants s e d ≡ model.wants g P p e d
@@ -151,10 +148,24 @@ module _ (t : Trace) (s : State) (e : SideId) (k : SideFits t s e) where
 
 -- Where the relay stands for a trace
 
+pub allowed-is : (t : Trace) (s : State) (e : SideId) → Gauged t s.plain s.gauges → (d : Dir) →
+    allowance s e d ≡ model.allowance (past s.settings t) s.plain e d
+allowed-is t s e k d = by_limit (side_at s.plain e).limit refl
+  where
+    by_limit : (o : Option Standing) → (side_at s.plain e).limit ≡ o →
+        option_map (λ y. held_at y.cfg (gauge_at s e) d s.plain.time) o
+        ≡ option_map (λ y. standing_level y d (side_spells e d t) s.plain.time) o
+    by_limit None is = refl
+    by_limit (Some y) is = ap Some (held-is t s.plain.time y e (gauge_at s e) d (k.each e y is d))
+
 pub stands-fits : (t : Trace) (x : Stage) (s : State) (e : SideId) → StandsFor t x s → e.link < s.plain.opened → SideFits t s e
 stands-fits t x s e k lt =
-    let u = unlimited s.settings t x s.plain k.built k.reached e in
-    record { own = (k.each e lt).holds.buffers; toward = (k.each (peer e) lt).holds.buffers; limit = u.0; group = u.1 }
+    record {
+      own = (k.each e lt).holds.buffers;
+      toward = (k.each (peer e) lt).holds.buffers;
+      allowed = allowed-is t s e k.gauged;
+      group = k.gauged.group e;
+    }
 
 module _ (t : Trace) (x : Stage) (s : State) (e : SideId) (k : StandsFor t x s) (lt : e.link < s.plain.opened) where
   abbrev gs : Settings
@@ -181,9 +192,6 @@ module _ (t : Trace) (x : Stage) (s : State) (e : SideId) (k : StandsFor t x s) 
   pub write_room-is : write_room s e ≡ model.write_room gs Ps s.plain e
   write_room-is = write_room-fits t s e fits
 
-  pub wants-is : (d : Dir) → wants s e d ≡ model.wants gs Ps s.plain e d
-  wants-is d = wants-fits t s e fits d
-
 -- All sides
 
 module _ {A : Type 0} (f h : SideId → A) where
@@ -209,10 +217,6 @@ module _ {A : Type 0} (f h : SideId → List A) where
       let c = flat-sides (k + 1) n (λ e l. same e (omega (arith, l))) in
       λ j. a j ++ (b j ++ c j)
 
-flat-none : {A : Type 0} (f : SideId → List A) → ((e : SideId) → f e ≡ []) → (es : List SideId) → flat_map f es ≡ []
-flat-none f none [] = refl
-flat-none f none (e ∷ es) = ap (λ z. z ++ flat_map f es) (none e) ∙ flat-none f none es
-
 module _ (t : Trace) (x : Stage) (s : State) (k : StandsFor t x s) where
   abbrev ga : Settings
   ga = s.settings
@@ -234,20 +238,29 @@ module _ (t : Trace) (x : Stage) (s : State) (k : StandsFor t x s) where
       let b = expiry-fits t s e q dir.Write in
       λ i. a i ++ (b i ++ [])
 
-  no_gain : (e : SideId) → limit_gain Pa s.plain e (side_at s.plain e).limit ≡ []
-  no_gain e = ap (limit_gain Pa s.plain e) (unlimited ga t x s.plain k.built k.reached e).0
+  gain-is : (e : SideId) (o : Option Standing) → (side_at s.plain e).limit ≡ o → limit_gain s e o ≡ moment.limit_gain Pa s.plain e o
+  gain-is e None is = refl
+  gain-is e (Some y) is =
+      let a = held-is t s.plain.time y e (gauge_at s e) dir.Read (k.gauged.each e y is dir.Read) in
+      let b = held-is t s.plain.time y e (gauge_at s e) dir.Write (k.gauged.each e y is dir.Write) in
+      λ i. moment_where (is_live s.plain e && (a i == 0 || (b i == 0 || false))) (next_tick y.cfg.tick_ms s.plain.time)
+
+  gains-are : flat_map (λ e. limit_gain s e (side_at s.plain e).limit) (all_sides s.plain)
+      ≡ flat_map (λ e. moment.limit_gain Pa s.plain e (side_at s.plain e).limit) (all_sides s.plain)
+  gains-are =
+      flat-sides (λ e. limit_gain s e (side_at s.plain e).limit) (λ e. moment.limit_gain Pa s.plain e (side_at s.plain e).limit)
+      0 s.plain.opened (λ e l. gain-is e (side_at s.plain e).limit refl)
 
   pub moments-is : moments s ≡ moment.moments ga Pa s.plain
   moments-is =
       let timers = map (λ z. z.deadline) s.plain.timers in
       let model_expiries = flat_map (λ e. flat_map (moment.expiry ga Pa s.plain e) both_ways) (all_sides s.plain) in
-      let gains = flat_map (λ e. limit_gain Pa s.plain e (side_at s.plain e).limit) (all_sides s.plain) in
-      ap (λ z. timers ++ z)
+      let gains = flat_map (λ e. moment.limit_gain Pa s.plain e (side_at s.plain e).limit) (all_sides s.plain) in
+      let own = flat_map (λ e. limit_gain s e (side_at s.plain e).limit) (all_sides s.plain) in
+      ap (λ z. (timers ++ z) ++ own)
       (flat-sides (λ e. flat_map (expiry s e) both_ways)
       (λ e. flat_map (moment.expiry ga Pa s.plain e) both_ways) 0 s.plain.opened both-fit)
-      ∙ sym (append-nil (timers ++ model_expiries))
-      ∙ ap (λ z. (timers ++ model_expiries) ++ z)
-      (sym (flat-none (λ e. limit_gain Pa s.plain e (side_at s.plain e).limit) no_gain (all_sides s.plain)))
+      ∙ ap (λ z. (timers ++ model_expiries) ++ z) gains-are
       ∙ sym (append-nil ((timers ++ model_expiries) ++ gains))
       ∙ ap (λ z. ((timers ++ model_expiries) ++ gains) ++ group_gains Pa s.plain 0 z) (sym k.built.groups)
 

@@ -10,6 +10,9 @@ use Rattle.relay_model.specs.Flow.{no_flow}
 use Rattle.relay_model.specs.Conserved.{left}
 use Rattle.relay_model.specs.Settings.{Settings}
 use Rattle.relay_model.specs.Plain.{Plain, PlainSide, side_at, flow_at, change_side}
+use Rattle.relay_model.specs.Past.{past}
+use Rattle.token_bucket.specs.declared.limit.Dir.{Dir}
+use Rattle.relay_model.specs.Rooms as model
 use Rattle.relay_model.specs.Rooms.{read_filter, write_filter}
 use Rattle.relay_model.specs.Reasons.{raise}
 use Rattle.relay_model.specs.Stages.{Stage, at}
@@ -20,10 +23,13 @@ use Rattle.relay_model.proofs.Frames.{rates_of}
 use Rattle.relay_model.proofs.KeepsLemmas.{raised}
 use Rattle.relay_model.proofs.PlainLemmas.{seen-change}
 use Rattle.relay_model.proofs.SeenLemmas.{but_expired}
+use Rattle.relay_state.specs.Rooms.{allowance}
 use Rattle.relay_state.specs.State.{State, Lane, lane_at, with_plain}
+use Rattle.relay_steps.specs.Gauges.{Gauged}
 use Rattle.relay_steps.specs.Meaning.{LaneFits, StandsFor}
 use Rattle.relay_steps.proofs.EndLemmas.{SameTold, IsSilent, told-same}
 use Rattle.relay_steps.proofs.FitLemmas.{fits-same}
+use Rattle.relay_steps.proofs.RateLemmas.{Moveless, spells-none, gauged-same}
 use Rattle.relay_steps.proofs.RoomLemmas.{SideFits}
 
 -- Two plain states with the same links and directions, and of each side the same but for enabling, activity and expiry.
@@ -88,11 +94,12 @@ view-fits g t u p q e l told view k =
 
 -- what rooms look at of a side stays
 pub view-side : (t u : Trace) (s : State) (p q : Plain) (e : SideId) → ((a : SideId) → SameTold t u a) → SameView p q →
+    ((d : Dir) → allowance (with_plain q s) e d ≡ model.allowance (past s.settings u) q e d) →
     SideFits t (with_plain p s) e → SideFits u (with_plain q s) e
-view-side t u s p q e told view k = record {
+view-side t u s p q e told view allowed k = record {
   own = k.own ∙ holds e;
   toward = k.toward ∙ holds (peer e);
-  limit = ap (λ z. z.0) (view.rates e) ∙ k.limit;
+  allowed = allowed;
   group = ap (λ z. z.1) (view.rates e) ∙ k.group;
 }
   where
@@ -112,8 +119,8 @@ view-side t u s p q e told view k = record {
 -- An entry that tells nothing of an end is put, and the plain state goes on with the same view.
 pub stands-put : (t : Trace) (x z : Stage) (s : State) (q : Plain) (y : Event) → StandsFor t x s →
     Puts s.settings t x s.plain y.0 y.1 (at z q) → TookFirst s.settings t s.plain y → ((a : SideId) → IsSilent y a) → SameView s.plain q →
-    StandsFor (t ++ y ∷ []) z (with_plain q s)
-stands-put t x z s q y k put took silent view = record {
+    Gauged (t ++ y ∷ []) q s.gauges → StandsFor (t ++ y ∷ []) z (with_plain q s)
+stands-put t x z s q y k put took silent view gauged = record {
   reached = Reaches.puts y.0 y.1 k.reached put;
   accounts = entries_keep_accounts s.settings t (at x s.plain) (at z q) y.0 y.1 k.reached put took k.accounts;
   many = k.many ∙ ap (λ n. 2 * n) (sym view.opened);
@@ -121,13 +128,17 @@ stands-put t x z s q y k put took silent view = record {
       view-fits s.settings t (t ++ y ∷ []) s.plain q e (lane_at s e) (told-same t y e (silent e)) view
       (k.each e (subst (λ n. e.link < n) view.opened lt));
   built = k.built;
+  gauged = gauged;
 }
 
 -- Only the stage changes.
 pub stands-told : (t : Trace) (x z : Stage) (s : State) (y : Event) → StandsFor t x s →
     Puts s.settings t x s.plain y.0 y.1 (at z s.plain) → TookFirst s.settings t s.plain y →
-    ((a : SideId) → IsSilent y a) → StandsFor (t ++ y ∷ []) z s
-stands-told t x z s y k put took silent = stands-put t x z s s.plain y k put took silent (view-same s.plain)
+    ((a : SideId) → IsSilent y a) → Moveless y → StandsFor (t ++ y ∷ []) z s
+stands-told t x z s y k put took silent moves =
+    stands-put t x z s s.plain y k put took silent (view-same s.plain)
+    (gauged-same t (t ++ y ∷ []) s.plain s.plain s.gauges (record { opened = refl; time = refl; rates = λ a. refl })
+    (spells-none t y moves) k.gauged)
 
 -- No entry is put, and only the stage changes.
 pub stands-quiet : (t : Trace) (x z : Stage) (s : State) → StandsFor t x s →
@@ -138,4 +149,5 @@ stands-quiet t x z s k quiet = record {
   many = k.many;
   each = k.each;
   built = k.built;
+  gauged = k.gauged;
 }

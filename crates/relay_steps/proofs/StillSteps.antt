@@ -18,14 +18,20 @@ use Rattle.relay_model.specs.Turn.{Puts, Quietly, Reaches}
 use Rattle.relay_model.specs.TurnLaws.{ShapeIsTold}
 use Rattle.relay_model.specs.StepLaws.{AccountsFit, TookFirst}
 use Rattle.relay_model.specs.Reasons.{raise}
+use Rattle.relay_model.proofs.Frames.{rates_of}
 use Rattle.relay_model.proofs.KeepsLemmas.{raised}
 use Rattle.relay_model.proofs.PlainLemmas.{seen-change}
 use Rattle.relay_model.proofs.ReachLemmas.{shape-is_told}
 use Rattle.relay_model.proofs.AccountedLemmas.{entries_keep_accounts}
 use Rattle.relay_state.specs.State.{State, Lane, no_lane, lane_at, with_plain}
+use Rattle.relay_state.specs.Running.{Gauge}
+use Rattle.relay_model.specs.Rates.{side_spells}
+use Rattle.token_bucket.specs.declared.limit.Dir.{Dir}
+use Rattle.relay_steps.specs.Gauges.{Gauged}
 use Rattle.relay_steps.specs.Meaning.{LaneFits, StandsFor}
 use Rattle.relay_steps.proofs.EndLemmas.{number-below, number-same, read-silent, ended-silent}
 use Rattle.relay_steps.proofs.FitLemmas.{sight, fits-same}
+use Rattle.relay_steps.proofs.RateLemmas.{Moveless, spells-none, gauged-same}
 
 -- what lanes look at in the second trace and plain state is what they look at in the first
 pub record IsStill (t u : Trace) (p q : Plain) : Type 0 where
@@ -35,6 +41,9 @@ pub record IsStill (t u : Trace) (p q : Plain) : Type 0 where
   pub live : (a : SideId) → is_live q a ≡ is_live p a
   pub marked : (a : SideId) → is_some (side_at q a).bad ≡ is_some (side_at p a).bad
   pub flow : (a : SideId) → flow_at q a ≡ flow_at p a
+  pub rates : (a : SideId) → rates_of (side_at q a) ≡ rates_of (side_at p a)
+  pub time : q.time ≡ p.time
+  pub spells : (a : SideId) (d : Dir) → side_spells a d u ≡ side_spells a d t
 
 pub still-sight : (t u : Trace) (p q : Plain) (e : SideId) → IsStill t u p q → sight u q e ≡ sight t p e
 still-sight t u p q e k =
@@ -63,6 +72,9 @@ pub in_lanes : (t : Trace) (x : Stage) (s : State) (e : SideId) → StandsFor t 
     number e < length s.lanes
 in_lanes t x s e k lt = let a = k.many in omega (arith, a, number-below e s.plain.opened lt)
 
+pub still-gauged : (t u : Trace) (p q : Plain) (xs : List Gauge) → IsStill t u p q → Gauged t p xs → Gauged u q xs
+still-gauged t u p q xs k h = gauged-same t u p q xs (record { opened = k.opened; time = k.time; rates = k.rates }) k.spells h
+
 -- the relay stands where the model came to, as lanes are still
 pub still-stands : (t u : Trace) (x y : Stage) (s : State) (q : Plain) → StandsFor t x s → IsStill t u s.plain q →
     Reaches s.settings u (at y q) → AccountsFit s.settings u q → StandsFor u y (with_plain q s)
@@ -74,6 +86,7 @@ still-stands t u x y s q k still reached accounts = record {
       fits-same s.settings t u s.plain q e (lane_at s e) (lane_at s e) (still-sight t u s.plain q e still) refl
       (k.each e (subst (λ n. e.link < n) still.opened lt));
   built = k.built;
+  gauged = still-gauged t u s.plain q s.gauges still k.gauged;
 }
 
 -- the model put an entry
@@ -92,33 +105,41 @@ quiet-stands t x y s k quiet = record {
   many = k.many;
   each = k.each;
   built = k.built;
+  gauged = k.gauged;
 }
 
 -- Which states are still
 
 pub still-same : (t u : Trace) (p : Plain) → ((a : SideId) → bytes_read a u ≡ bytes_read a t) →
-    ((a : SideId) → has_ended a u ≡ has_ended a t) → IsStill t u p p
-still-same t u p read ended = record {
+    ((a : SideId) → has_ended a u ≡ has_ended a t) → ((a : SideId) (d : Dir) → side_spells a d u ≡ side_spells a d t) → IsStill t u p p
+still-same t u p read ended spells = record {
   opened = refl;
   read = read;
   ended = ended;
   live = λ a. refl;
   marked = λ a. refl;
   flow = λ a. refl;
+  rates = λ a. refl;
+  time = refl;
+  spells = spells;
 }
 
 -- a side was changed, and it lives and is marked as before
 pub still-changed : (t u : Trace) (p : Plain) (e : SideId) (change : PlainSide → PlainSide) →
     ((x : PlainSide) → (change x).live ≡ x.live) → ((x : PlainSide) → is_some (change x).bad ≡ is_some x.bad) →
+    ((x : PlainSide) → rates_of (change x) ≡ rates_of x) →
     ((a : SideId) → bytes_read a u ≡ bytes_read a t) → ((a : SideId) → has_ended a u ≡ has_ended a t) →
-    IsStill t u p (change_side e change p)
-still-changed t u p e change live marked read ended = record {
+    ((a : SideId) (d : Dir) → side_spells a d u ≡ side_spells a d t) → IsStill t u p (change_side e change p)
+still-changed t u p e change live marked rates read ended spells = record {
   opened = refl;
   read = read;
   ended = ended;
   live = λ a. seen-change (λ x. x.live) e a change p live;
   marked = λ a. seen-change (λ x. is_some x.bad) e a change p marked;
   flow = λ a. refl;
+  rates = λ a. seen-change rates_of e a change p rates;
+  time = refl;
+  spells = spells;
 }
 
 -- pending entries are others
@@ -130,28 +151,34 @@ still-due t u p q r k ds e = subst (IsStill t u p) (sym e) (record {
   live = k.live;
   marked = k.marked;
   flow = k.flow;
+  rates = k.rates;
+  time = k.time;
+  spells = k.spells;
 })
 
 -- an event tells of no read bytes and no end
 pub still-event : (t : Trace) (x : Event) (p q : Plain) → IsStill t t p q → ((a : SideId) → read_by a x ≡ []) →
-    ((a : SideId) → ended_by a x ≡ false) → IsStill t (t ++ x ∷ []) p q
-still-event t x p q k read ended = record {
+    ((a : SideId) → ended_by a x ≡ false) → Moveless x → IsStill t (t ++ x ∷ []) p q
+still-event t x p q k read ended moves = record {
   opened = k.opened;
   read = λ a. read-silent t x a (read a);
   ended = λ a. ended-silent t x a (ended a);
   live = k.live;
   marked = k.marked;
   flow = k.flow;
+  rates = k.rates;
+  time = k.time;
+  spells = spells-none t x moves;
 }
 
 -- a side was changed so, and a reason was raised
 pub still-raised : (g : Settings) (t : Trace) (p : Plain) (e : SideId) (change : PlainSide → PlainSide) (y : Why) →
     ((z : PlainSide) → (change z).live ≡ z.live) → ((z : PlainSide) → is_some (change z).bad ≡ is_some z.bad) →
-    IsStill t t p (raise g e y (change_side e change p))
-still-raised g t p e change y live marked =
+    ((z : PlainSide) → rates_of (change z) ≡ rates_of z) → IsStill t t p (raise g e y (change_side e change p))
+still-raised g t p e change y live marked rates =
     let q : Plain = change_side e change p in
     let k = raised g e y q in
-    still-due t t p q (raise g e y q) (still-changed t t p e change live marked (λ a. refl) (λ a. refl)) k.0 k.1
+    still-due t t p q (raise g e y q) (still-changed t t p e change live marked rates (λ a. refl) (λ a. refl) (λ a d. refl)) k.0 k.1
 
 -- Steps that change what one lane looks at
 

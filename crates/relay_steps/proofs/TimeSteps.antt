@@ -16,7 +16,7 @@ use Rattle.relay_model.specs.Past.{Past, past}
 use Rattle.relay_model.specs.Rooms as rooms
 use Rattle.relay_model.specs.Reasons.{raise, happened, timeout_flag}
 use Rattle.relay_model.specs.Moments as model
-use Rattle.relay_model.specs.Moments.{is_timed, has_run_out, active_at, expire, both_ways, by_deadline, timers_taken, time_passed}
+use Rattle.relay_model.specs.Moments.{is_timed, has_run_out, active_at, expire, both_ways, timers_taken, time_passed}
 use Rattle.relay_model.specs.Stages.{Stage}
 use Rattle.relay_model.specs.Turn.{turned_to}
 use Rattle.relay_model.proofs.Frames.{active-rates, expire-rates}
@@ -25,7 +25,14 @@ use Rattle.relay_state.specs.State.{State, with_plain}
 use Rattle.relay_state.specs.Time.{timed, side_timed, begun}
 use Rattle.relay_steps.specs.Meaning.{StandsFor}
 use Rattle.relay_steps.proofs.EndLemmas.{IsSilent, told-same}
-use Rattle.relay_steps.proofs.RoomLemmas.{SideFits, wants-fits, stands-fits}
+use Rattle.std.specs.Prelude.{option_map, List, ◌*◌}
+use Rattle.relay_model.specs.Rates.{side_spells, standing_level}
+use Rattle.relay_model.proofs.Frames.{rates_of, frame-timed, frame-fold, frame-raise, frame-time_passed}
+use Rattle.relay_state.specs.Running.{Gauge, held_at}
+use Rattle.relay_state.specs.State.{gauge_in, gauge_at}
+use Rattle.relay_steps.specs.Gauges.{BucketFits, Gauged}
+use Rattle.relay_steps.proofs.GaugeSteps.{bucket-turn}
+use Rattle.relay_steps.proofs.RoomLemmas.{allowed-is, SideFits, wants-fits, stands-fits}
 use Rattle.relay_steps.proofs.StandsLemmas.{SameView, view-same, view-then, view-if, view-fold, view-change, view-raise, view-side, stands-put}
 
 -- What time leaves of the plain state
@@ -57,7 +64,7 @@ module _ (g : Settings) (P : Past) where
       let later : Plain = record p { timers = filter (λ x. nat_lt p.time x.deadline) p.timers } in
       view-then p later _ (record { opened = refl; flows = refl; seen = λ e. refl; rates = λ e. refl })
       (view-fold {A = Timer} (λ state x. raise g x.side why.Timer state) (λ z x. view-raise g x.side why.Timer z) later
-      (by_deadline (filter (λ x. nat_le x.deadline p.time) p.timers)))
+      ((filter (λ x. nat_le x.deadline p.time) p.timers)))
 
   view-passed : (p : Plain) → SameView p (time_passed g P p)
   view-passed p =
@@ -75,10 +82,15 @@ module _ (u : Trace) (s : State) where
   abbrev Fits : Plain → SideId → Type 0
   Fits p e = SideFits u (with_plain p s) e
 
-  fits-on : (p q : Plain) (e : SideId) → SameView p q → Fits p e → Fits q e
-  fits-on p q e view k =
+  fits-on : (p q : Plain) (e : SideId) → SameView p q → q.time ≡ p.time → Fits p e → Fits q e
+  fits-on p q e view time k =
       view-side u u s p q e (λ a. record { read = refl; given = refl; ended = refl; moved = refl; given_free = refl; closed = refl })
-      view k
+      view
+      (λ d. (λ i. option_map (λ y. held_at y.cfg (gauge_at s e) d (time i)) ((view.rates e i).0)) ∙ k.allowed d
+      ∙ sym (λ i. option_map (λ y. standing_level y d (side_spells e d u) (time i)) ((view.rates e i).0))) k
+
+  side-time : (p : Plain) (e : SideId) → (model.side_timed g P p e).time ≡ p.time
+  side-time p e = (frame-fold (model.timed g P e) p both_ways (λ z d. frame-timed g P e z d)).shape.time
 
   timed-is : (p : Plain) (e : SideId) (d : Dir) → Fits p e → timed e (with_plain p s) d ≡ with_plain (model.timed g P e p d) s
   timed-is p e d k =
@@ -102,7 +114,7 @@ module _ (u : Trace) (s : State) where
   side_timed-is p e k =
       let q = model.timed g P e p dir.Read in
       ap (λ z. timed e z dir.Write) (timed-is p e dir.Read k)
-      ∙ timed-is q e dir.Write (fits-on p q e (view-timed g P e p dir.Read) k)
+      ∙ timed-is q e dir.Write (fits-on p q e (view-timed g P e p dir.Read) (frame-timed g P e p dir.Read).shape.time k)
 
   sides_timed-is : (p : Plain) (k n : ℕ) → ((e : SideId) → e.link < k + n → Fits p e) →
       fold side_timed (with_plain p s) (sides_from k n) ≡ with_plain (fold (model.side_timed g P) p (sides_from k n)) s
@@ -115,16 +127,33 @@ module _ (u : Trace) (s : State) where
       let first = view-side_timed g P p i in
       let both = view-then p q r first (view-side_timed g P q o) in
       ap (λ z. fold side_timed (side_timed z o) (sides_from (k + 1) n)) (side_timed-is p i (h i (omega arith)))
-      ∙ ap (λ z. fold side_timed z (sides_from (k + 1) n)) (side_timed-is q o (fits-on p q o first (h o (omega arith))))
-      ∙ sides_timed-is r (k + 1) n (λ e l. fits-on p r e both (h e (omega (arith, l))))
+      ∙ ap (λ z. fold side_timed z (sides_from (k + 1) n)) (side_timed-is q o (fits-on p q o first (side-time p i) (h o (omega arith))))
+      ∙ sides_timed-is r (k + 1) n (λ e l. fits-on p r e both (side-time q o ∙ side-time p i) (h e (omega (arith, l))))
 
 silent-turn : (ms : ℕ) (a : SideId) → IsSilent (entry.Turn ms, []) a
 silent-turn ms a = record { read = refl; given = refl; ended = refl; moved = refl; given_free = refl; closed = refl }
 
+-- Buckets fit as a turn begins: what came since is worked out as they are looked at.
+turned-gauged : (t : Trace) (ms : ℕ) (p q : Plain) (xs : List Gauge) → p.time ≤ ms → q.opened ≡ p.opened → q.time ≡ ms →
+    ((a : SideId) → rates_of (side_at q a) ≡ rates_of (side_at p a)) → Gauged t p xs → Gauged (t ++ (entry.Turn ms, []) ∷ []) q xs
+turned-gauged t ms p q xs later opened time rates k = record {
+  many = k.many ∙ ap (λ n. 2 * n) (sym opened);
+  each = λ e y is d.
+      subst (λ z. BucketFits (t ++ (entry.Turn ms, []) ∷ []) z y e (gauge_in xs e) d) (sym time)
+      (bucket-turn t ms [] p.time y e (gauge_in xs e) d later (k.each e y (sym (ap (λ z. z.0) (rates e)) ∙ is) d));
+  group = λ e. ap (λ z. z.1) (rates e) ∙ k.group e;
+}
+
+taken-time : (g : Settings) (p : Plain) → (timers_taken g p).time ≡ p.time
+taken-time g p =
+    (frame-fold (λ state (x : Timer). raise g x.side why.Timer state)
+    (record p { timers = filter (λ x. nat_lt p.time x.deadline) p.timers })
+    (filter (λ x. nat_le x.deadline p.time) p.timers) (λ z x. frame-raise g x.side why.Timer z)).shape.time
+
 -- the relay makes of the time what the model makes of it
-pub begun-is : (t : Trace) (s : State) (ms : ℕ) → StandsFor t Stage.Between s →
+pub begun-is : (t : Trace) (s : State) (ms : ℕ) → StandsFor t Stage.Between s → s.plain.time ≤ ms →
     begun s ms ≡ with_plain (time_passed s.settings (past s.settings (t ++ (entry.Turn ms, []) ∷ [])) (turned_to ms s.plain)) s
-begun-is t s ms k =
+begun-is t s ms k from =
     let g = s.settings in
     let u : Trace = t ++ (entry.Turn ms, []) ∷ [] in
     let p : Plain = turned_to ms s.plain in
@@ -133,6 +162,7 @@ begun-is t s ms k =
     let view = view-then s.plain p q to_p (view-taken g (past g u) p) in
     sides_timed-is u s q 0 q.opened (λ e l.
     view-side t u s s.plain q e (λ a. told-same t (entry.Turn ms, []) a (silent-turn ms a)) view
+    (allowed-is u (with_plain q s) e (turned-gauged t ms s.plain q s.gauges from view.opened (taken-time g p) view.rates k.gauged))
     (stands-fits t Stage.Between s e k (omega (arith, l, view.opened))))
     ∙ ap (λ n. with_plain (fold (model.side_timed g (past g u)) q (sides_from 0 n)) s) view.opened
 
@@ -145,6 +175,8 @@ turn-stands t s ms k from until =
     let p : Plain = turned_to ms s.plain in
     let q : Plain = time_passed g (past g u) p in
     let to_p : SameView s.plain p = record { opened = refl; flows = refl; seen = λ e. refl; rates = λ e. refl } in
-    subst (StandsFor u Stage.Polling) (sym (begun-is t s ms k))
+    subst (StandsFor u Stage.Polling) (sym (begun-is t s ms k from))
     (stands-put t Stage.Between Stage.Polling s q (entry.Turn ms, []) k (from, until, refl, refl) tt (silent-turn ms)
-    (view-then s.plain p q to_p (view-passed g (past g u) p)))
+    (view-then s.plain p q to_p (view-passed g (past g u) p))
+    (let view = view-then s.plain p q to_p (view-passed g (past g u) p) in
+    turned-gauged t ms s.plain q s.gauges from view.opened (frame-time_passed g (past g u) p).shape.time view.rates k.gauged))

@@ -3,7 +3,7 @@
 use Rattle.std.proofs.Common.{◌≡◌, ◌≢◌, ℕ, ◌+◌, ◌*◌, ◌<◌, ◌≤◌, Bool, true, false, ◌&&◌, nat_le, min}
 use Rattle.std.proofs.Common.{if◌then◌else◌, List, [], ◌∷◌, ◌++◌, length, take, slice_set}
 use Rattle.std.proofs.Common.{refl, sym, ◌∙◌, ap, subst, arith, length-take-le, take-take}
-use Rattle.std.specs.Prelude.{nat_lt, is_some}
+use Rattle.std.specs.Prelude.{nat_lt, is_some, Option, Some, None}
 use Rattle.std.proofs.lemmas.List.{length-set}
 use Rattle.token_bucket.specs.declared.limit.Dir.TheVariants as dir
 use Rattle.ev_types.specs.declared.side.SideId.{SideId}
@@ -11,7 +11,8 @@ use Rattle.ev_types.specs.declared.answer.WriteAnswer.{WriteAnswer}
 use Rattle.ev_types.specs.declared.answer.WriteAnswer.TheVariants as write
 use Rattle.ev_types.specs.declared.why.Why.TheVariants as why
 use Rattle.ev_types.specs.declared.entry.Entry.TheVariants as entry
-use Rattle.ev_types.specs.Sides.{number, peer}
+use Rattle.ev_types.specs.Sides.{number, peer, same_end}
+use Rattle.relay_model.proofs.EndLemmas.{same_end-refl}
 use Rattle.ev_types.specs.Trace.{Event, Trace}
 use Rattle.ev_port.specs.Ends.{WriteWithin, took_bytes}
 use Rattle.relay_model.specs.Trace.{bytes_read, has_ended}
@@ -29,6 +30,7 @@ use Rattle.relay_model.specs.Serve.{Call, call_for, CarriesTook}
 use Rattle.relay_model.specs.Stages.{Stage, at}
 use Rattle.relay_model.specs.StepLaws.{TookFirst}
 use Rattle.relay_model.specs.Turn.{Puts, Reaches}
+use Rattle.relay_model.proofs.Frames.{rates_of}
 use Rattle.relay_model.proofs.KeepsLemmas.{raised_write}
 use Rattle.relay_model.proofs.PlacedLemmas.{may_write-live}
 use Rattle.relay_model.proofs.PlainLemmas.{seen-change}
@@ -37,13 +39,20 @@ use Rattle.relay_state.specs.State.{State, Lane, lane_at, with_plain, lane_taken
 use Rattle.relay_state.specs.Rooms.{waiting_for, output_length, write_room, offer}
 use Rattle.relay_state.specs.Serving.{flow_given, with_taken, after_took, after_write}
 use Rattle.relay_steps.specs.Meaning.{LaneFits, StandsFor}
-use Rattle.relay_steps.proofs.EndLemmas.{peer-peer, read-silent, ended-silent}
+use Rattle.relay_steps.proofs.EndLemmas.{same_end-apart, peer-peer, read-silent, ended-silent}
 use Rattle.relay_steps.proofs.FitLemmas.{sight, FitsSight, seen-fits, fits-seen, fits-same}
 use Rattle.relay_steps.proofs.FitLemmas.{lane-set, lane-set_other, flow-put, flow-put_other}
-use Rattle.relay_steps.proofs.CalmLemmas.{unlimited}
-use Rattle.relay_steps.proofs.RoomLemmas.{SideFits, waiting-is, output_length-fits}
+use Rattle.relay_steps.proofs.MovedSteps.{MovesAt, moved-gauged}
+use Rattle.relay_steps.proofs.BeforeLemmas.{set-before}
+use Rattle.relay_steps.specs.Gauges.{Gauged}
+use Rattle.relay_model.specs.Rates.{Moves, beat_of}
+use Rattle.token_bucket.specs.declared.limit.Dir.{Dir}
+use Rattle.relay_model.specs.Rooms.{at_most}
+use Rattle.relay_state.specs.State.{gauges_after}
+use Rattle.relay_state.specs.Rooms.{allowance}
+use Rattle.relay_steps.proofs.RoomLemmas.{allowed-is, SideFits, waiting-is, output_length-fits}
 use Rattle.relay_steps.proofs.LaneSteps.{fits-taken}
-use Rattle.relay_steps.proofs.StillSteps.{IsStill, put-stands, still-same, still-sight, still-due, still-event, still-raised}
+use Rattle.relay_steps.proofs.StillSteps.{IsStill, still-gauged, put-stands, still-same, still-sight, still-due, still-event, still-raised}
 use Rattle.relay_steps.proofs.StillSteps.{sight-of, one-fits, lane_in, in_flows, in_lanes}
 use Rattle.relay_steps.proofs.ServeSteps.{if_true, some-may, one_or_more, mark, call-is, marks-are}
 
@@ -51,6 +60,13 @@ use Rattle.relay_steps.proofs.ServeSteps.{if_true, some-may, one_or_more, mark, 
 with_where : (b : Bool) (q : Plain) (s : State) → (if b then with_plain q s else s) ≡ with_plain (if b then q else s.plain) s
 with_where true q s = refl
 with_where false q s = refl
+
+other_end : (e a : SideId) → a ≢ e → same_end e a ≡ false
+other_end e a h = same_end-apart e a (λ q. h (sym q))
+
+at_most-le : (o : Option ℕ) (n : ℕ) → at_most o n ≤ n
+at_most-le None n = omega arith
+at_most-le (Some m) n = omega arith
 
 module _ (t : Trace) (s : State) (e : SideId) (w : Bool) (ms : List Want) (k : StandsFor t (Stage.Serving (mark e false w ∷ ms)) s)
     (lt : e.link < s.plain.opened) (q : is_connecting s.plain e ≡ false) (l : w ≡ true) (some : nat_lt 0 (write_room s e) ≡ true) where
@@ -85,16 +101,17 @@ module _ (t : Trace) (s : State) (e : SideId) (w : Bool) (ms : List Want) (k : S
   )
 
   may : may_write p e ≡ true
-  may = some-may (may_write p e) (min most_at_once (length (waiting_for s e))) some
+  may = some-may (may_write p e) (at_most (allowance s e dir.Write) (min most_at_once (length (waiting_for s e)))) some
 
   live : is_live p e ≡ true
   live = may_write-live p e may
 
   room_le : write_room s e ≤ length (waiting_for s e)
   room_le =
-      let a : write_room s e ≡ min most_at_once (length (waiting_for s e)) =
-      ap (λ (b : Bool). if b then min most_at_once (length (waiting_for s e)) else 0) may in
-      omega (arith, a)
+      let a : write_room s e ≡ at_most (allowance s e dir.Write) (min most_at_once (length (waiting_for s e))) =
+      ap (λ (b : Bool). if b then at_most (allowance s e dir.Write) (min most_at_once (length (waiting_for s e))) else 0) may in
+      let b = at_most-le (allowance s e dir.Write) (min most_at_once (length (waiting_for s e))) in
+      omega (arith, a, b)
 
   -- its end took the first bytes of what was offered
   module _ (n : ℕ) (one : 1 ≤ n) (within : n ≤ write_room s e) where
@@ -163,14 +180,34 @@ module _ (t : Trace) (s : State) (e : SideId) (w : Bool) (ms : List Want) (k : S
     took-fits : (a : SideId) → a.link < s.plain.opened → LaneFits g u took a (lane_in lanes a)
     took-fits = one-fits t u marked s took lanes (peer e) k sight-rest (λ a h. lane-set_other s (peer e) a new_lane h) far-fits
 
+    moves : MovesAt e dir.Write n event
+    moves = record {
+      own = ap (λ b. Moves (if b then n else 0)) (same_end-refl e);
+      across = across;
+      others = λ a h. others a h;
+    }
+      where
+        across : (f : Dir) → f ≢ dir.Write → beat_of e f event ≡ Moves 0
+        across dir.Read h = refl
+        across dir.Write h = absurd (h refl)
+
+        others : (a : SideId) → a ≢ e → (f : Dir) → beat_of a f event ≡ Moves 0
+        others a h dir.Read = refl
+        others a h dir.Write = ap (λ b. Moves (if b then n else 0)) (other_end e a h)
+
+    took-gauged : Gauged u took (gauges_after e dir.Write n s)
+    took-gauged =
+        moved-gauged t event n e dir.Write s moves took
+        (record { opened = refl; time = refl; rates = λ a. seen-change rates_of e a (active_at p.time dir.Write) given (λ x. refl) }) lt
+        (λ y is. set-before g t p (mark e false w) ms k.reached y is dir.Write) k.gauged
+
     side-fits : SideFits u (with_taken s e n) e
     side-fits =
-        let none = unlimited g t marked p k.built k.reached e in
         record {
           own = (took-fits e lt).holds.buffers;
           toward = (took-fits (peer e) lt).holds.buffers;
-          limit = seen-change (λ x. x.limit) e e (active_at p.time dir.Write) given (λ x. refl) ∙ none.0;
-          group = seen-change (λ x. x.group) e e (active_at p.time dir.Write) given (λ x. refl) ∙ none.1;
+          allowed = allowed-is u (with_taken s e n) e took-gauged;
+          group = took-gauged.group e;
         }
 
     -- the low mark is looked at with the model's length
@@ -190,7 +227,7 @@ module _ (t : Trace) (s : State) (e : SideId) (w : Bool) (ms : List Want) (k : S
     still : IsStill u u took (reasons.raise_write g P e took)
     still =
         let r = raised_write g P e took in
-        still-due u u took took (reasons.raise_write g P e took) (still-same u u took (λ a. refl) (λ a. refl)) r.0 r.1
+        still-due u u took took (reasons.raise_write g P e took) (still-same u u took (λ a. refl) (λ a. refl) (λ a d. refl)) r.0 r.1
 
     took-stands : StandsFor u (Stage.Serving ms) (after_took s e n)
     took-stands =
@@ -204,6 +241,7 @@ module _ (t : Trace) (s : State) (e : SideId) (w : Bool) (ms : List Want) (k : S
               fits-same g u u took (reasons.raise_write g P e took) a (lane_in lanes a) (lane_in lanes a)
               (still-sight u u took (reasons.raise_write g P e took) a still) refl (took-fits a (subst (λ m. a.link < m) still.opened h));
           built = k.built;
+          gauged = still-gauged u u took (reasons.raise_write g P e took) (gauges_after e dir.Write n s) still took-gauged;
         })
 
   -- a write of exactly what is offered to the side, whatever is answered but want of memory
@@ -213,19 +251,22 @@ module _ (t : Trace) (s : State) (e : SideId) (w : Bool) (ms : List Want) (k : S
   write-stands (write.Took n) within done = took-stands n (let a = within.0 in omega arith) within.1
   write-stands write.NotYet within done =
       put-stands t marked (Stage.Serving ms) s p (entry.Write e room write.NotYet) [] k (write-puts write.NotYet [] refl) tt
-      (still-event t (entry.Write e room write.NotYet, []) p p (still-same t t p (λ a. refl) (λ a. refl)) (λ a. refl) (λ a. refl))
+      (still-event t (entry.Write e room write.NotYet, []) p p (still-same t t p (λ a. refl) (λ a. refl) (λ a d. refl)) (λ a. refl)
+      (λ a. refl) (λ a. (refl, refl)))
   write-stands write.Failed within done =
       put-stands t marked (Stage.Serving ms) s (model.after_write g P e write.Failed p) (entry.Write e room write.Failed) [] k
       (write-puts write.Failed [] refl) tt
       (still-event t (entry.Write e room write.Failed, []) p (model.after_write g P e write.Failed p)
-      (still-raised g t p e (λ x. record x { failed = true; writes = false }) (happened dir.Write error_flag) (λ z. refl) (λ z. refl))
-      (λ a. refl) (λ a. refl))
+      (still-raised g t p e (λ x. record x { failed = true; writes = false }) (happened dir.Write error_flag) (λ z. refl) (λ z. refl)
+      (λ z. refl))
+      (λ a. refl) (λ a. refl) (λ a. (refl, refl)))
   write-stands write.NoMemory within done = absurd (done refl)
 
 -- what is offered is as many bytes as may be written
 pub offer-length : (s : State) (e : SideId) → length (offer s e) ≡ write_room s e
 offer-length s e = length-take-le (write_room s e) (waiting_for s e) (by_test (may_write s.plain e))
   where
-    by_test : (b : Bool) → (if b then min most_at_once (length (waiting_for s e)) else 0) ≤ length (waiting_for s e)
-    by_test true = omega arith
+    by_test : (b : Bool) →
+        (if b then at_most (allowance s e dir.Write) (min most_at_once (length (waiting_for s e))) else 0) ≤ length (waiting_for s e)
+    by_test true = let b = at_most-le (allowance s e dir.Write) (min most_at_once (length (waiting_for s e))) in omega (arith, b)
     by_test false = omega arith

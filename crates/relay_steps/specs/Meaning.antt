@@ -14,12 +14,10 @@ use Rattle.relay_model.specs.Answers.{TurnAnswer, LeftAt}
 use Rattle.relay_model.specs.Stands.{DirectionHolds}
 use Rattle.relay_model.specs.StepLaws.{AccountsFit}
 use Rattle.relay_state.specs.State.{State, Lane, lane_at}
+use Rattle.relay_steps.specs.Gauges.{Gauged}
 
--- What the relay's code can't do yet: no side has a hook, a rate or a group.
+-- What the relay's code can't do yet: no side has a group.
 pub record IsBuilt (g : Settings) : Type 0 where
-  pub hooks : g.hooks ≡ []
-  pub in_rate : g.in_rate ≡ None
-  pub out_rate : g.out_rate ≡ None
   pub in_group : g.in_group ≡ None
   pub out_group : g.out_group ≡ None
   pub groups : g.groups ≡ []
@@ -42,6 +40,7 @@ pub record StandsFor (t : Trace) (x : Stage) (s : State) : Type 0 where
   pub many : length s.lanes ≡ 2 * s.plain.opened
   pub each : (e : SideId) → e.link < s.plain.opened → LaneFits s.settings t s.plain e (lane_at s e)
   pub built : IsBuilt s.settings
+  pub gauged : Gauged t s.plain s.gauges
 
 -- It stands so at a stage at which a turn may answer so.
 pub record LeftFor (answer : TurnAnswer) (t : Trace) (s : State) : Type 0 where

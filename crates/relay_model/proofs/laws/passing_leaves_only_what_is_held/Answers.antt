@@ -1,4 +1,4 @@
-use Rattle.relay_model.proofs.PassLemmas.{passing_ends}
+use Rattle.relay_model.proofs.PassFinishes.{passing_ends}
 use Rattle.relay_model.proofs.laws.passing_leaves_only_what_is_held.Goals as goal
 
 pub returns : goal.returns
