@@ -39,7 +39,8 @@ call-connect g t s m h =
 pub call-write : (g : Settings) (t : Trace) (s : Plain) (m : Want) (offered : ℕ) → call_for g (past g t) s m ≡ Call.AskWrite offered →
     nat_le 1 offered ≡ true
 call-write g t s m offered h =
-    go (is_connecting s m.side) m.write m.read (nat_le 1 (read_room g (past g t) s m.side)) (nat_le 1 (write_room g (past g t) s m.side)) refl h
+    go (is_connecting s m.side) m.write m.read (nat_le 1 (read_room g (past g t) s m.side))
+    (nat_le 1 (write_room g (past g t) s m.side)) refl h
   where
     go : (a b c d f : Bool) → nat_le 1 (write_room g (past g t) s m.side) ≡ f → (if a then (if b then Call.AskConnect else Call.Nothing)
         else (if c then (if d then Call.AskRead (read_room g (past g t) s m.side) else Call.Nothing)

@@ -1,5 +1,6 @@
 -- An end is connected once, after its link was opened, where no hook is set: by induction over the steps of a run.
-use Rattle.std.proofs.Common.{◌≡◌, ℕ, ◌+◌, ◌*◌, ◌<◌, ◌≤◌, Bool, true, false, if◌then◌else◌, List, [], ◌∷◌, length, count_by, inl, inr, refl, sym}
+use Rattle.std.proofs.Common.{◌≡◌, ℕ, ◌+◌, ◌*◌, ◌<◌, ◌≤◌, Bool, true, false, if◌then◌else◌, List, [], ◌∷◌, length, count_by, inl, inr}
+use Rattle.std.proofs.Common.{refl, sym}
 use Rattle.std.proofs.Common.{◌∙◌, ap, subst, arith}
 use Rattle.std.specs.Prelude.{nat_lt}
 use Rattle.std.proofs.lemmas.Bool.{cases_lt, lt-ltb, le-ltb, and_parts}
@@ -118,8 +119,9 @@ connected-told g t _ s (entry.Conn side answer) bytes new z size h k = absurd h
 connected-told g t _ s _ bytes new z size h k = absurd (cc)
 
 module _ (g : Settings) (none : HasNoHooks g) where
-  put-connects : (t : Trace) (s : State) → Reaches g t s → (y : Entry) (bytes : List ℕ) (new : State) → Puts g t s.stage s.plain y bytes new →
-      (z : SideId) → one_where (connected_by z (y, bytes)) + left_to_connect new.plain z ≤ left_to_connect s.plain z
+  put-connects : (t : Trace) (s : State) → Reaches g t s → (y : Entry) (bytes : List ℕ) (new : State) →
+      Puts g t s.stage s.plain y bytes new → (z : SideId) →
+      one_where (connected_by z (y, bytes)) + left_to_connect new.plain z ≤ left_to_connect s.plain z
   put-connects t s r y bytes new h z = go (connected_by z (y, bytes)) refl
     where
       size : length s.plain.sides ≡ 2 * s.plain.opened
@@ -145,9 +147,12 @@ module _ (g : Settings) (none : HasNoHooks g) where
           by_flag : z.link < s.plain.opened → (b : Bool) → (side_at s.plain z).connecting ≡ b →
               0 + left_to_connect new.plain z ≤ left_to_connect s.plain z
           by_flag lt true e =
-              let was = left_to_connect-opened s.plain z lt ∙ ap one_where e in let now = left_to_connect-most new.plain z in omega (arith, was, now)
+              let was = left_to_connect-opened s.plain z lt ∙ ap one_where e in
+              let now = left_to_connect-most new.plain z in
+              omega (arith, was, now)
           by_flag lt false e =
-              let stays = put-holds g (λ x. x.connecting ≡ false) decided-kept z t s.plain s.stage (y, bytes) new (asleep g t s none r) size lt
+              let stays = put-holds g (λ x. x.connecting ≡ false) decided-kept z t s.plain s.stage (y, bytes) new
+              (asleep g t s none r) size lt
               (put-kind g t s.stage s.plain y bytes new (kept g t s r).placed h) e in
               let grown = shape.opened in
               let now = left_to_connect-opened new.plain z (omega (arith, lt, grown)) ∙ ap one_where stays in

@@ -76,6 +76,7 @@ pub mod FilterStepLemmas
 pub mod FilterCutLemmas
 pub mod FilterFitLemmas
 mod QuietExamples
+mod DrainExamples
 pub mod AccountedLemmas
 pub mod PollLemmas
 pub mod FlowLemmas

@@ -1,5 +1,6 @@
 -- With no hooks no bucket of a side ever owes anything, by induction over the steps; so it holds a byte a tick later.
-use Rattle.std.proofs.Common.{◌≡◌, ℕ, zero, suc, ◌+◌, ◌*◌, ◌/◌, ◌≤◌, Bool, true, false, List, [], ◌∷◌, ◌++◌, length, map, drop, count_by, Option, Some}
+use Rattle.std.proofs.Common.{◌≡◌, ℕ, zero, suc, ◌+◌, ◌*◌, ◌/◌, ◌≤◌, Bool, true, false, List, [], ◌∷◌, ◌++◌, length, map, drop, count_by}
+use Rattle.std.proofs.Common.{Option, Some}
 use Rattle.std.proofs.Common.{None, ◌⊎◌, inl, inr, refl, sym, ◌∙◌, ap, subst, arith}
 use Rattle.std.specs.Prelude.{option_map, slice_index_or, nat_eq}
 use Rattle.std.proofs.lemmas.Bool.Decides.{eqb_tells}
@@ -137,7 +138,9 @@ module _ (e : SideId) (d : Dir) where
             omega (arith, a, b, c)
 
         Wanted : Type 0
-        Wanted = OwesAtMost (limit_of z.cfg d) 0 z.time (held_as_set z d) (drop z.turn (side_spells e d (t ++ (y, bytes) ∷ []))) new.plain.time
+        Wanted =
+            OwesAtMost (limit_of z.cfg d) 0 z.time (held_as_set z d) (drop z.turn (side_spells e d (t ++ (y, bytes) ∷ [])))
+            new.plain.time
 
         moves : is_turn (y, bytes) ≡ false → new.plain.time ≡ s.plain.time → Wanted
         moves turns still =
@@ -166,7 +169,8 @@ module _ (e : SideId) (d : Dir) where
             (sym (ap (λ u. drop z.turn (side_spells e d (t ++ (u, bytes) ∷ []))) v ∙ ap (drop z.turn) (side_spells-turn e d t ms bytes)
             ∙ drop-append-le z.turn (side_spells e d t) (beginning ms ∷ []) begun))
             (let now : new.plain.time ≡ ms = time ∙ ap (λ u. time_by s.plain.time (u, bytes)) v in
-            subst (λ k. OwesAtMost (limit_of z.cfg d) 0 z.time (held_as_set z d) (drop z.turn (side_spells e d t) ++ beginning ms ∷ []) k) (sym now)
+            subst (λ k. OwesAtMost (limit_of z.cfg d) 0 z.time (held_as_set z d) (drop z.turn (side_spells e d t) ++ beginning ms ∷ []) k)
+            (sym now)
             (begun-owes (limit_of z.cfg d) 0 s.plain.time ms (tick-later z.cfg s.plain.time ms (omega (arith, now, later))) z.time
             (held_as_set z d) (drop z.turn (side_spells e d t)) old))
 
@@ -175,8 +179,9 @@ module _ (e : SideId) (d : Dir) where
         by-turn false k = moves k (time ∙ same_time (y, bytes) s.plain.time k)
 
     -- an entry by which it is set, without hooks: the link opens
-    set-owing : (t : Trace) (s : State) (y : Event) (new : State) → length s.plain.sides ≡ 2 * s.plain.opened → s.plain.turn ≡ count_by is_turn t →
-        (x : Stage) → Asleep g x s.plain → PutKind g t s.plain x y new → sets_limit e y ≡ true → OwesNothing (t ++ y ∷ []) new.plain
+    set-owing : (t : Trace) (s : State) (y : Event) (new : State) → length s.plain.sides ≡ 2 * s.plain.opened →
+        s.plain.turn ≡ count_by is_turn t → (x : Stage) → Asleep g x s.plain → PutKind g t s.plain x y new → sets_limit e y ≡ true →
+        OwesNothing (t ++ y ∷ []) new.plain
     set-owing t s y new size turn x a (PutKind.opened {connected = connected}) sets z is =
         let link : s.plain.opened ≡ e.link = same-number s.plain.opened e.link sets in
         let set = new-limit s.plain connected size link z is in

@@ -1,4 +1,5 @@
-// Laws on links that are drained: none stands still while it is open, and a run adds few turns. Each is on a function whose contract it is.
+// Laws on links that are drained: none stands still while it is open, and a run adds few turns for it. Each is on a function whose
+// contract it is.
 ghost use Rattle.relay_model.specs.ClosingTurns.{ClosingTurnsGoOn, DrainsInMost, TwoClosingTurnsGoOn};
 ghost use Rattle.relay_model.specs.OpenLinks.{OpenLinkWants};
 ghost use Rattle.relay_model.specs.Standstill.{WillingTurnsGoOn};
