@@ -76,6 +76,7 @@ pub mod FilterStepLemmas
 pub mod FilterCutLemmas
 pub mod FilterFitLemmas
 mod QuietExamples
+mod DrainExamples
 pub mod AccountedLemmas
 pub mod PollLemmas
 pub mod FlowLemmas
@@ -84,7 +85,6 @@ pub mod PassedLemmas
 pub mod BoundLemmas
 pub mod HooklessLemmas
 pub mod BoundSteps
-pub mod MarkLemmas
 pub mod OneWayLemmas
 pub mod StillLemmas
 pub mod ClosingLemmas
@@ -96,15 +96,17 @@ pub mod AwakeLemmas
 pub mod OpenWants
 pub mod WorkLemmas
 pub mod PlainWants
+pub mod CalledEnds
 pub mod WillingLemmas
 pub mod RefillLemmas
-pub mod RefillGroups
-pub mod CoveredLemmas
-pub mod OwedLemmas
+pub mod SideDebtLemmas
+pub mod GroupDebtLemmas
 pub mod MovesLemmas
+pub mod ConnectLemmas
 pub mod MeasureLemmas
 pub mod FewTurns
 pub mod StandstillLemmas
 pub mod ClosingAnswers
 pub mod FineCalls
 pub mod ClosingGoes
+pub mod DrainLemmas

@@ -257,7 +257,8 @@ timer-taken = refl
 abbrev timer : ℕ → ℕ → Timer
 timer k deadline = record { side = in_of k; deadline = deadline }
 
-timers-in_order : placed (timer 3 5) (placed (timer 2 9) (placed (timer 1 5) (placed (timer 0 9) []))) ≡ timer 1 5 ∷ timer 3 5 ∷ timer 0 9 ∷ timer 2 9 ∷ []
+timers-in_order : placed (timer 3 5) (placed (timer 2 9) (placed (timer 1 5) (placed (timer 0 9) [])))
+    ≡ timer 1 5 ∷ timer 3 5 ∷ timer 0 9 ∷ timer 2 9 ∷ []
 timers-in_order = refl
 
 -- What is planned: the second line is for the second read, and nothing is no ask.

@@ -49,5 +49,8 @@ pub mod Passed
 pub mod Bounds
 pub mod Still
 pub mod StepLaws
-pub mod SoFar
+pub mod OpenLinks
+pub mod Standstill
+pub mod Refills
+pub mod Work
 pub mod ClosingTurns

@@ -1,16 +1,15 @@
 // Laws on what the four buffers of a direction hold, each on a function whose contract it is.
-ghost use Rattle.relay_model.specs.Bounds.{BuffersAreWithin, BuffersStayWithin};
+ghost use Rattle.relay_model.specs.Bounds.{BuffersAreWithin, BuffersAreWithinSoFar};
 ghost use Rattle.relay_model.specs.Fitting.{CountsFit};
 ghost use Rattle.relay_model.specs.Passed.{AllIsPassed};
-ghost use Rattle.relay_model.specs.SoFar.{BuffersAreWithinSoFar};
 
 /// In every state that a trace leads to, no count of a direction passes what is there for it.
 pub fn counts_fit()
     ensures { CountsFit }
 {}
 
-/// Between two turns, a direction between live sides that isn't held has its first three buffers empty, and a held one has
-/// more than half of the hold mark in its raw output.
+/// Between two turns, a direction between live sides that isn't held has its first three buffers empty, and where its source has
+/// ended both of its filters are finished; a held one has more than half of the hold mark in its raw output.
 pub fn all_is_passed()
     ensures { AllIsPassed }
 {}
@@ -21,13 +20,8 @@ pub fn buffers_are_within()
     ensures { BuffersAreWithin }
 {}
 
-/// Whatever hooks ask, the buffers stay within the greatest marks that a side can come to have.
-pub fn buffers_stay_within()
-    ensures { BuffersStayWithin }
-{}
-
-/// Whatever hooks ask, the buffers stay within the greatest read mark and the greatest hold mark that stood so far: those of the
-/// settings, and those that hooks asked for.
+/// Whatever hooks ask, the buffers stay within the greatest read mark and the greatest hold mark that their sides had so far: those
+/// of the settings, and those that hooks set.
 pub fn buffers_are_within_so_far()
     ensures { BuffersAreWithinSoFar }
 {}

@@ -42,8 +42,8 @@ pub fn rest_is_there_after_a_free()
     ensures { RestAfterFree }
 {}
 
-/// Once a round of passing changes nothing, a direction that isn't held has its first three buffers empty, and a held
-/// one has more than half of the hold mark in its raw output.
+/// Once a round of passing changes nothing, a direction that isn't held has its first three buffers empty, and behind the end of
+/// its source both of its filters are finished; a held one has more than half of the hold mark in its raw output.
 pub fn passing_leaves_only_what_is_held()
     ensures { PassingEnds }
 {}

@@ -3,15 +3,20 @@
 #![tactic(auto)]
 
 mod buffer_laws;
+mod closing_laws;
 mod filter_laws;
 mod laws;
 mod legal_laws;
 mod played_laws;
+mod refill_laws;
 mod step_laws;
 mod turn_laws;
+mod work_laws;
 
-pub use buffer_laws::{
-    all_is_passed, buffers_are_within, buffers_are_within_so_far, buffers_stay_within, counts_fit,
+pub use buffer_laws::{all_is_passed, buffers_are_within, buffers_are_within_so_far, counts_fit};
+pub use closing_laws::{
+    closing_turns_go_on, drains_in_most, open_link_wants, two_closing_turns_go_on,
+    willing_turns_go_on,
 };
 pub use filter_laws::{
     a_step_fits_its_target, a_step_is_the_function, cuts_agree, cuts_give_the_function, runs_join,
@@ -31,5 +36,12 @@ pub use played_laws::{
     answers_go_on, end_ties_join, nothing_is_tied, nothing_stands, polls_fail_as_scripted,
     what_comes_is_read,
 };
+pub use refill_laws::{
+    a_tick_brings_a_byte, groups_come_back, groups_owe_less, sides_come_back, sides_owe_nothing,
+    two_ticks_bring_so_much,
+};
 pub use step_laws::{entries_keep_accounts, nothing_is_accounted, silent_steps_keep_accounts};
 pub use turn_laws::{beginnings_are_legal, limits_are_kept, trace_tells_rates, trace_tells_shape};
+pub use work_laws::{
+    carrying_is_measured, moves_are_measured, moves_left_are_few, turns_are_few, work_falls,
+};

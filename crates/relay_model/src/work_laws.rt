@@ -1,0 +1,28 @@
+// Laws on how much is still to be done in a direction, each on a function whose contract it is.
+ghost use Rattle.relay_model.specs.Work.{CarryingIsMeasured, MovesAreMeasured, MovesLeftAreFew, TurnsAreFew, WorkFalls};
+
+/// Whatever hooks ask, no step makes work in a direction but a read, which makes four for a byte; each byte that is given takes one off.
+pub fn work_falls()
+    ensures { WorkFalls }
+{}
+
+/// In any part of a run the events that carry a direction on are at most what it has less of that, and five for each byte read.
+pub fn carrying_is_measured()
+    ensures { CarryingIsMeasured }
+{}
+
+/// What is left of moving on in a direction is at most four for each byte that it buffers, and five.
+pub fn moves_left_are_few()
+    ensures { MovesLeftAreFew }
+{}
+
+/// With no hooks the events of a part of a run that move on in some directions are at most what these have less of that, and five for
+/// each byte that was read.
+pub fn moves_are_measured()
+    ensures { MovesAreMeasured }
+{}
+
+/// Turns of which no two in a row pass without an event that moves on are few, by the bytes that were read and buffered.
+pub fn turns_are_few()
+    ensures { TurnsAreFew }
+{}
