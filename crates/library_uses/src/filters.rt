@@ -23,9 +23,16 @@ fn offer(
 fn passed(alloc: Global, text: &[u8]) -> anyhow::Result<(u64, usize)> {
     let mut under = Bev::new(alloc)?;
     let mut over = Bev::new(alloc)?;
+    let answer = pass(&mut under, &mut over, text);
+    drop(over);
+    drop(under);
+    answer
+}
+
+fn pass(under: &mut Bev, over: &mut Bev, text: &[u8]) -> anyhow::Result<(u64, usize)> {
     under.add_input(text)?;
     let mut filter = AnyFilter::new(FilterKind::ToLf);
-    let step = process_input(&mut under, &mut over, &mut filter, 6, Mode::Finished)?;
+    let step = process_input(under, over, &mut filter, 6, Mode::Finished)?;
     Ok((over.state().input, step.used))
 }
 
