@@ -230,7 +230,8 @@ fn make(filter: &mut AnyFilter, source: &[u8], target: &mut Vec<u8>) -> Option<(
 }
 
 /// What a filter that gives every byte as it is hands on up to a length of 3, and whether it is finished by the last byte.
-fn handed_on(filter: &mut AnyFilter) -> (usize, usize, bool) {
+fn handed_on() -> (usize, usize, bool) {
+    let mut filter = AnyFilter::new(FilterKind::None);
     let first = filter.hand_on(b"abc", 1, 3, true);
     let last = filter.hand_on(b"c", 0, 3, true);
     (first, last, filter.is_finished())
@@ -239,8 +240,5 @@ fn handed_on(filter: &mut AnyFilter) -> (usize, usize, bool) {
 #[test]
 fn a_step_in_room_is_the_step(rt: HostRuntime) {
     assert_eq!(rt; first_other_in_room(rt.alloc()), None);
-    assert_eq!(rt;
-        handed_on(&mut AnyFilter::new(FilterKind::None)),
-        (2, 1, true)
-    );
+    assert_eq!(rt; handed_on(), (2, 1, true));
 }
