@@ -1,0 +1,296 @@
+// Two bufferevents between which bytes move: each call that can want memory answers something else with ample memory, and worked
+// lives. Both are lent, so that each is let go at one place.
+
+use bev_core::{Bev, BevFault, Dir};
+use std::alloc::Global;
+use std::test::Fail;
+
+/// A call on a first bufferevent, or on it and a second, with its answer; or what is seen of them then.
+#[derive(Clone, Copy)]
+enum Act {
+    /// A call that succeeds.
+    Set(Setting),
+    Free(Result<(), BevFault>),
+    Incref(Result<(), BevFault>),
+    Decref(Result<(), BevFault>),
+    Discard,
+    /// Moves as many bytes, of which so many go.
+    Give(Dir, usize, usize),
+    Pass(Dir, usize, usize),
+    /// Copies bytes to the output in room that it makes, which is then so long.
+    Push(&'static [u8], usize),
+    /// Hands on so many bytes in room that it makes, by which the second's buffer is so long.
+    Hand(Dir, usize, usize),
+    Exchange,
+    Sees(View),
+}
+
+/// A call that changes values or bytes of the first bufferevent.
+#[derive(Clone, Copy)]
+enum Setting {
+    Write(&'static [u8]),
+    Add(&'static [u8]),
+    Enable(Dir),
+    Disable(Dir),
+    Marks(Dir, u64, u64),
+    Timeouts(u64, u64, u64),
+    Touch(Dir, u64),
+    Reserve(usize),
+}
+
+/// Values and bytes: those of a direction come before those of the other, and those of the first bufferevent are meant unless
+/// it says otherwise.
+#[derive(Clone, Copy)]
+enum View {
+    Enabled(bool, bool),
+    ReadMarks(u64, u64),
+    Timeouts(u64, u64),
+    Activity(u64, u64),
+    Live(bool),
+    Refs(u32),
+    OutputLength(u64),
+    Input(&'static [u8]),
+    Output(&'static [u8]),
+    OtherInput(&'static [u8]),
+    OtherOutput(&'static [u8]),
+}
+
+/// Whether a call answers as it says, or what is seen is as it says.
+fn answers(from: &mut Bev, to: &mut Bev, act: Act) -> bool {
+    match act {
+        Act::Set(setting) => set(from, setting) == Ok(()),
+        Act::Free(answer) => from.free() == answer,
+        Act::Incref(answer) => from.incref() == answer,
+        Act::Decref(answer) => give_back(from) == answer,
+        Act::Discard => discard(from),
+        Act::Give(dir, n, count) => give(from, to, dir, n) == Ok(count),
+        Act::Pass(dir, n, count) => pass(from, to, dir, n) == Ok(count),
+        Act::Push(bytes, len) => push(from, bytes) == Ok(len),
+        Act::Hand(dir, n, len) => hand(from, to, dir, n) == Ok(len),
+        Act::Exchange => exchange(from, to),
+        Act::Sees(view) => sees(from, to, view),
+    }
+}
+
+fn set(bev: &mut Bev, setting: Setting) -> Result<(), BevFault> {
+    match setting {
+        Setting::Write(bytes) => bev.write(bytes),
+        Setting::Add(bytes) => bev.add_input(bytes),
+        Setting::Enable(dir) => bev.enable(dir),
+        Setting::Disable(dir) => bev.disable(dir),
+        Setting::Marks(dir, low, high) => bev.set_watermark(dir, low, high),
+        Setting::Timeouts(read, write, now) => bev.set_timeouts(read, write, now),
+        Setting::Touch(dir, now) => bev.touch(dir, now),
+        Setting::Reserve(n) => bev.reserve_input(n),
+    }
+}
+
+fn sees(from: &Bev, to: &Bev, view: View) -> bool {
+    let state = from.state();
+    match view {
+        View::Enabled(read, write) => (state.reading, state.writing) == (read, write),
+        View::ReadMarks(low, high) => (state.read_low, state.read_high) == (low, high),
+        View::Timeouts(read, write) => (state.read_ms, state.write_ms) == (read, write),
+        View::Activity(read, write) => (state.last_read, state.last_write) == (read, write),
+        View::Live(live) => state.live == live,
+        View::Refs(refs) => state.refs == refs,
+        View::OutputLength(len) => state.output == len,
+        View::Input(bytes) => from.front_input(9) == bytes,
+        View::Output(bytes) => from.front_output(9) == bytes,
+        View::OtherInput(bytes) => to.front_input(9) == bytes,
+        View::OtherOutput(bytes) => to.front_output(9) == bytes,
+    }
+}
+
+fn give_back(bev: &mut Bev) -> Result<(), BevFault> {
+    if bev.state().refs == 0 {
+        return Err(BevFault::TooManyRefs);
+    }
+    bev.decref()
+}
+
+fn discard(bev: &mut Bev) -> bool {
+    bev.discard();
+    true
+}
+
+fn exchange(from: &mut Bev, to: &mut Bev) -> bool {
+    from.exchange_input(to);
+    true
+}
+
+fn give(from: &mut Bev, to: &mut Bev, dir: Dir, n: usize) -> Result<usize, BevFault> {
+    match dir {
+        Dir::Read => from.give_input(to, n),
+        Dir::Write => from.give_output(to, n),
+    }
+}
+
+fn pass(from: &mut Bev, to: &mut Bev, dir: Dir, n: usize) -> Result<usize, BevFault> {
+    match dir {
+        Dir::Read => from.pass_input(to, n),
+        Dir::Write => from.pass_output(to, n),
+    }
+}
+
+fn push(bev: &mut Bev, bytes: &[u8]) -> Result<usize, BevFault> {
+    bev.make_room(Dir::Write, bytes.len())?;
+    bev.push_output(bytes);
+    Ok(bev.output_len())
+}
+
+fn hand(from: &mut Bev, to: &mut Bev, dir: Dir, n: usize) -> Result<usize, BevFault> {
+    match dir {
+        Dir::Read => hand_input(from, to, n),
+        Dir::Write => hand_output(from, to, n),
+    }
+}
+
+fn hand_input(from: &mut Bev, to: &mut Bev, n: usize) -> Result<usize, BevFault> {
+    to.make_room(Dir::Read, n)?;
+    from.hand_input(to, n);
+    Ok(to.input_len())
+}
+
+fn hand_output(from: &mut Bev, to: &mut Bev, n: usize) -> Result<usize, BevFault> {
+    to.make_room(Dir::Write, n)?;
+    from.hand_output(to, n);
+    Ok(to.output_len())
+}
+
+/// The place of the first act that does not answer as it says.
+fn first_wrong(from: &mut Bev, to: &mut Bev, acts: &[Act]) -> Option<usize> {
+    for (place, act) in acts.iter().enumerate() {
+        if !answers(from, to, *act) {
+            return Some(place);
+        }
+    }
+    None
+}
+
+/// The same of new bufferevents, of which the second has these bytes in its input and in its output.
+fn plays(
+    alloc: Global,
+    acts: &[Act],
+    input: &[u8],
+    output: &[u8],
+) -> Result<Option<usize>, BevFault> {
+    let mut to = Bev::new(alloc)?;
+    let answer = plays_beside(&mut to, alloc, acts, input, output);
+    drop(to);
+    answer
+}
+
+fn plays_beside(
+    to: &mut Bev,
+    alloc: Global,
+    acts: &[Act],
+    input: &[u8],
+    output: &[u8],
+) -> Result<Option<usize>, BevFault> {
+    to.add_input(input)?;
+    to.write(output)?;
+    let mut from = Bev::new(alloc)?;
+    let answer = first_wrong(&mut from, to, acts);
+    drop(from);
+    Ok(answer)
+}
+
+const SETTINGS: &[Act] = &[
+    Act::Set(Setting::Write(b"ab")),
+    Act::Set(Setting::Enable(Dir::Read)),
+    Act::Set(Setting::Disable(Dir::Write)),
+    Act::Set(Setting::Marks(Dir::Read, 2, 5)),
+    Act::Set(Setting::Timeouts(100, 200, 7)),
+    Act::Set(Setting::Touch(Dir::Write, 9)),
+    Act::Set(Setting::Reserve(4)),
+    Act::Sees(View::Enabled(true, false)),
+    Act::Sees(View::ReadMarks(2, 5)),
+    Act::Sees(View::Timeouts(100, 200)),
+    Act::Sees(View::Activity(7, 9)),
+];
+
+#[test]
+fn each_setting_is_kept(rt: HostRuntime) -> Result<(), Fail> {
+    assert_eq!(rt; plays(rt.alloc(), SETTINGS, b"", b"")?, None);
+    Ok(())
+}
+
+const FREED: &[Act] = &[
+    Act::Set(Setting::Write(b"ab")),
+    Act::Incref(Ok(())),
+    Act::Free(Ok(())),
+    Act::Sees(View::OutputLength(0)),
+    Act::Incref(Err(BevFault::NotLive)),
+    Act::Decref(Ok(())),
+    Act::Sees(View::Refs(0)),
+];
+
+#[test]
+fn a_free_drops_the_bytes_and_keeps_the_references(rt: HostRuntime) -> Result<(), Fail> {
+    assert_eq!(rt; plays(rt.alloc(), FREED, b"", b"")?, None);
+    Ok(())
+}
+
+const OUTPUT_MOVES: &[Act] = &[
+    Act::Set(Setting::Write(b"abc")),
+    Act::Give(Dir::Write, 2, 2),
+    Act::Pass(Dir::Write, 1, 1),
+    Act::Sees(View::OtherInput(b"ab")),
+    Act::Sees(View::OtherOutput(b"xc")),
+];
+
+#[test]
+fn output_goes_to_the_end_of_another_input_or_output(rt: HostRuntime) -> Result<(), Fail> {
+    assert_eq!(rt; plays(rt.alloc(), OUTPUT_MOVES, b"", b"x")?, None);
+    Ok(())
+}
+
+const INPUT_MOVES: &[Act] = &[
+    Act::Set(Setting::Add(b"xyz")),
+    Act::Pass(Dir::Read, 2, 2),
+    Act::Give(Dir::Read, 9, 1),
+    Act::Sees(View::OtherInput(b"xyzxy")),
+    Act::Sees(View::OtherOutput(b"z")),
+];
+
+#[test]
+fn input_goes_to_the_end_of_another_input_or_output(rt: HostRuntime) -> Result<(), Fail> {
+    assert_eq!(rt; plays(rt.alloc(), INPUT_MOVES, b"xyz", b"")?, None);
+    Ok(())
+}
+
+const ROOM_IS_MADE: &[Act] = &[
+    Act::Set(Setting::Add(b"xyz")),
+    Act::Push(b"ab", 2),
+    Act::Push(b"cde", 5),
+    Act::Hand(Dir::Read, 1, 1),
+    Act::Hand(Dir::Write, 9, 5),
+    Act::Exchange,
+    Act::Sees(View::Input(b"abcde")),
+    Act::Sees(View::OtherInput(b"x")),
+    Act::Sees(View::OtherOutput(b"yz")),
+];
+
+#[test]
+fn bytes_go_into_room_that_was_made(rt: HostRuntime) -> Result<(), Fail> {
+    assert_eq!(rt; plays(rt.alloc(), ROOM_IS_MADE, b"", b"")?, None);
+    Ok(())
+}
+
+const DISCARDED: &[Act] = &[
+    Act::Set(Setting::Write(b"ab")),
+    Act::Discard,
+    Act::Sees(View::Live(false)),
+    Act::Sees(View::Output(b"")),
+    Act::Push(b"c", 1),
+    Act::Discard,
+    Act::Free(Err(BevFault::NotLive)),
+    Act::Sees(View::Output(b"")),
+];
+
+#[test]
+fn a_freed_one_is_discarded_too(rt: HostRuntime) -> Result<(), Fail> {
+    assert_eq!(rt; plays(rt.alloc(), DISCARDED, b"", b"")?, None);
+    Ok(())
+}

@@ -1,0 +1,450 @@
+// What passes the filters of a world, by identifier and by number, and that each call answers. The worlds are lent, so that each is let
+// go at one place.
+ghost use Rattle.std.specs.Prelude.{◌≡◌, false, None, IfOk};
+ghost use Rattle.bev_world.specs.Halves.{other_half};
+ghost use Rattle.bev_world.specs.WorldValue.{slot_at};
+
+use self::Answer::{Bad, Went};
+use bev_world::{BevId, Dir, FilterKind, Mode, NoMemory, SpareRoom, Step, World, WorldFault};
+use std::alloc::Global;
+use stream_filters::StreamFilter;
+
+/// The first bytes of an input.
+fn input(world: &World, id: BevId) -> [u8; 4] {
+    let mut into = *b"....";
+    let _count = world.peek(id, &mut into);
+    into
+}
+
+/// The first bytes of an output.
+fn output(world: &World, id: BevId) -> [u8; 4] {
+    let mut into = *b"....";
+    let _count = world.peek_output(id, &mut into);
+    into
+}
+
+/// What a socket brought goes back to its output.
+fn brought(world: &mut World) -> Result<([u8; 4], u64), WorldFault> {
+    world.reserve(1)?;
+    let id = world.new_socket()?;
+    world.reserve_input(id, 3)?;
+    world.feed(id, b"abc", 5)?;
+    world.move_input(id, id)?;
+    Ok((output(world, id), world.room(id, Dir::Write, None, Some(2))))
+}
+
+/// What goes from half to half, of which the other reads up to 3 bytes.
+fn halved(world: &mut World) -> Result<(usize, [u8; 2], [u8; 4]), WorldFault> {
+    let (a, b) = world.new_pair()?;
+    world.enable(b, Dir::Read)?;
+    world.set_watermark(b, Dir::Read, 0, 3)?;
+    world.write(a, b"01234")?;
+    let mut into = [0; 2];
+    let taken = world.take(b, &mut into)?;
+    Ok((taken, into, output(world, a)))
+}
+
+/// A filter over a socket, and what a second one over it is answered.
+fn filtered(world: &mut World) -> Result<Result<BevId, WorldFault>, WorldFault> {
+    let under = world.new_socket()?;
+    let _over = world.new_filter(under, FilterKind::HexOut, FilterKind::None)?;
+    Ok(world.new_filter(under, FilterKind::None, FilterKind::None))
+}
+
+#[test]
+fn each_call_answers(rt: HostRuntime) {
+    let mut world = World::new(rt.alloc());
+    let brought = brought(&mut world);
+    let halved = halved(&mut world);
+    let filtered = filtered(&mut world);
+    drop(world);
+    assert_eq!(rt; brought, Ok((*b"abc.", 2)));
+    assert_eq!(rt; halved, Ok((2, *b"01", *b"....")));
+    assert_eq!(rt; filtered, Ok(Err(WorldFault::Taken)));
+}
+
+/// A filter over a new socket, with what is sure of it for a `write` and a first step.
+fn over_socket(
+    world: &mut World,
+    input: FilterKind,
+    output: FilterKind,
+) -> Result<(BevId, BevId), WorldFault>
+    ensures reading { IfOk result (λ ids. (slot_at world.new ids.1.0).read_filter.finished ≡ false) }
+    ensures writing { IfOk result (λ ids. (slot_at world.new ids.1.0).write_filter.finished ≡ false) }
+    ensures no_half { IfOk result (λ ids. other_half world.new ids.1.0 ≡ None) }
+{
+    let under = world.new_socket()?;
+    let over = world.new_filter(under, input, output)?;
+    Ok((under, over))
+}
+
+/// A step of a filter that isn't finished.
+fn pass_once(
+    world: &mut World,
+    over: BevId,
+    dir: Dir,
+    limit: usize,
+    mode: Mode,
+) -> Result<Step, WorldFault>
+    requires reading { (slot_at world.old over.0).read_filter.finished ≡ false }
+    requires writing { (slot_at world.old over.0).write_filter.finished ≡ false }
+{
+    world.pass(over, dir, limit, mode)
+}
+
+/// The answer of a step, the first bytes where they come to, and those where they came from.
+type Passed = (Result<Step, WorldFault>, [u8; 4], [u8; 4]);
+
+/// What a socket brought goes up through a filter.
+fn read_through(
+    world: &mut World,
+    kind: FilterKind,
+    bytes: &[u8],
+    limit: usize,
+    mode: Mode,
+) -> Result<Passed, WorldFault> {
+    let (under, over) = over_socket(world, kind, FilterKind::None)?;
+    world.feed(under, bytes, 5)?;
+    let answer = pass_once(world, over, Dir::Read, limit, mode);
+    Ok((answer, input(world, over), input(world, under)))
+}
+
+/// What is written goes down through a filter.
+fn written_through(
+    world: &mut World,
+    kind: FilterKind,
+    bytes: &[u8],
+    limit: usize,
+    mode: Mode,
+) -> Result<Passed, WorldFault> {
+    let (under, over) = over_socket(world, FilterKind::None, kind)?;
+    world.write(over, bytes)?;
+    let answer = pass_once(world, over, Dir::Write, limit, mode);
+    Ok((answer, output(world, under), output(world, over)))
+}
+
+/// What a step answers: how many bytes it used and whether it finished, or the bad place.
+#[derive(Clone, Copy)]
+enum Answer {
+    Went(usize, bool),
+    Bad(u64),
+}
+
+fn answer_of(answer: Answer) -> Result<Step, WorldFault> {
+    match answer {
+        Went(used, finished) => Ok(Step { used, finished }),
+        Bad(place) => Err(WorldFault::Filter(place)),
+    }
+}
+
+/// Up or down, a filter, the bytes, the limit, the mode, what the step answers, and the first bytes where they come to and where they
+/// came from.
+type Passage = (
+    Dir,
+    FilterKind,
+    &'static [u8],
+    usize,
+    Mode,
+    Answer,
+    &'static [u8; 4],
+    &'static [u8; 4],
+);
+
+const UP: Dir = Dir::Read;
+
+const DOWN: Dir = Dir::Write;
+
+const LAST: Mode = Mode::Finished;
+
+const MORE: Mode = Mode::Normal;
+
+const TO_CRLF: FilterKind = FilterKind::ToCrlf;
+
+const TO_LF: FilterKind = FilterKind::ToLf;
+
+const HEX_IN: FilterKind = FilterKind::HexIn;
+
+const HEX_OUT: FilterKind = FilterKind::HexOut;
+
+const NONE: FilterKind = FilterKind::None;
+
+const PASSAGES: &[Passage] = &[
+    (
+        UP,
+        TO_CRLF,
+        b"a\nb",
+        8,
+        LAST,
+        Went(3, true),
+        b"a\r\nb",
+        b"....",
+    ),
+    (
+        UP,
+        TO_CRLF,
+        b"\n\n\n",
+        3,
+        MORE,
+        Went(2, false),
+        b"\r\n\r\n",
+        b"\n...",
+    ),
+    (UP, HEX_IN, b"414g", 8, MORE, Bad(3), b"A...", b"g..."),
+    (
+        DOWN,
+        HEX_OUT,
+        b"hi",
+        8,
+        LAST,
+        Went(2, true),
+        b"6869",
+        b"....",
+    ),
+    (DOWN, HEX_IN, b"414", 8, LAST, Bad(3), b"A...", b"...."),
+];
+
+fn passes(world: &mut World, passage: &Passage) -> bool {
+    let (dir, kind, bytes, limit, mode, answer, came, left) = *passage;
+    let passed = match dir {
+        Dir::Read => read_through(world, kind, bytes, limit, mode),
+        Dir::Write => written_through(world, kind, bytes, limit, mode),
+    };
+    passed == Ok((answer_of(answer), *came, *left))
+}
+
+/// The first passage that goes otherwise.
+fn first_wrong_passage(world: &mut World) -> Option<usize> {
+    for (place, passage) in PASSAGES.iter().enumerate() {
+        if !passes(world, passage) {
+            return Some(place);
+        }
+    }
+    None
+}
+
+#[test]
+fn bytes_pass_a_filter_up_and_down(rt: HostRuntime) {
+    let mut world = World::new(rt.alloc());
+    let wrong = first_wrong_passage(&mut world);
+    drop(world);
+    assert_eq!(rt; wrong, None);
+}
+
+/// Brings bytes to a bufferevent, with room for its whole input made before.
+fn bring(world: &mut World, at: usize, bytes: &[u8]) -> Result<(), NoMemory> {
+    if at >= world.count() {
+        return Err(NoMemory);
+    }
+    let held = world.bev(at).input_len();
+    let all = held.checked_add(bytes.len()).ok_or(NoMemory)?;
+    let mut spare = SpareRoom::new(world.bev(at).allocator());
+    spare.reserve(all)?;
+    world.bring_at(at, bytes, 7, &mut spare);
+    Ok(())
+}
+
+/// A step of a filter in room that it makes, where the count of bytes goes on from 10.
+fn step(
+    world: &mut World,
+    at: usize,
+    dir: Dir,
+    limit: usize,
+    beside: &mut Vec<u8>,
+) -> Result<u64, NoMemory> {
+    if at >= world.count() {
+        return Err(NoMemory);
+    }
+    let Some(under) = world.under(at) else {
+        return Err(NoMemory);
+    };
+    let count = match dir {
+        Dir::Read => world.bev(under).input_len(),
+        Dir::Write => world.bev(at).output_len(),
+    };
+    if world.filter(at, dir).used() > u64::MAX - count as u64 {
+        return Err(NoMemory);
+    }
+    world.reserve_step_at(at, under, dir, count, beside, limit, 10)?;
+    Ok(world.step_at(at, under, dir, limit, true, beside, 10))
+}
+
+/// Moves an input to an output.
+fn move_on(world: &mut World, from: usize, to: usize) -> Result<(), NoMemory> {
+    if from >= world.count() || to >= world.count() || from == to {
+        return Err(NoMemory);
+    }
+    if world.bev(to).output_len() > 0 {
+        return Err(NoMemory);
+    }
+    world.move_at(from, to);
+    Ok(())
+}
+
+/// What is left of the output once its first byte was taken.
+fn drain(world: &mut World, at: usize) -> Result<[u8; 4], NoMemory> {
+    if at >= world.count() {
+        return Err(NoMemory);
+    }
+    world.drain_at(at, 1);
+    Ok(output(world, BevId(at as u32)))
+}
+
+/// What a socket brought goes up through a filter, and on to the other side and down through its filter; how many bytes were made by
+/// then, up and down, and what is left of the last output once its first byte was taken.
+fn relayed(
+    world: &mut World,
+    beside: &mut Vec<u8>,
+    up: FilterKind,
+    down: FilterKind,
+    bytes: &[u8],
+    limit: usize,
+) -> Result<(u64, u64, [u8; 4]), WorldFault> {
+    let (socket, side) = over_socket(world, up, FilterKind::None)?;
+    let (other_socket, other) = over_socket(world, FilterKind::None, down)?;
+    bring(world, socket.0 as usize, bytes)?;
+    let read = step(world, side.0 as usize, Dir::Read, limit, beside)?;
+    move_on(world, side.0 as usize, other.0 as usize)?;
+    let written = step(world, other.0 as usize, Dir::Write, limit, beside)?;
+    Ok((read, written, drain(world, other_socket.0 as usize)?))
+}
+
+/// The filters up and down, the bytes, the limit of each step, how many bytes were made by then up and down, and what is left.
+type Way = (
+    FilterKind,
+    FilterKind,
+    &'static [u8],
+    usize,
+    u64,
+    u64,
+    &'static [u8; 4],
+);
+
+const WAYS: &[Way] = &[
+    (NONE, NONE, b"abc", 9, 13, 13, b"bc.."),
+    (NONE, HEX_OUT, b"ab", 9, 12, 14, b"162."),
+    (HEX_IN, NONE, b"4142", 1, 11, 11, b"...."),
+    (TO_LF, TO_CRLF, b"\r\na", 9, 12, 13, b"\na.."),
+    (HEX_IN, HEX_OUT, b"4g", 9, 10, 10, b"...."),
+];
+
+fn goes(alloc: Global, beside: &mut Vec<u8>, way: &Way) -> bool {
+    let (up, down, bytes, limit, read, written, left) = *way;
+    let mut world = World::new(alloc);
+    let answer = relayed(&mut world, beside, up, down, bytes, limit);
+    drop(world);
+    answer == Ok((read, written, *left))
+}
+
+/// The first way that bytes go otherwise.
+fn first_wrong_way(alloc: Global, beside: &mut Vec<u8>) -> Option<usize> {
+    for (place, way) in WAYS.iter().enumerate() {
+        if !goes(alloc, beside, way) {
+            return Some(place);
+        }
+    }
+    None
+}
+
+#[test]
+fn bytes_go_from_side_to_side_by_number(rt: HostRuntime) {
+    let mut beside = Vec::new(rt.alloc());
+    let wrong = first_wrong_way(rt.alloc(), &mut beside);
+    drop(beside);
+    assert_eq!(rt; wrong, None);
+}
+
+/// A step by number of a socket, or what is seen of it then.
+#[derive(Clone, Copy)]
+enum Act {
+    Brings(&'static [u8]),
+    Expires(Dir),
+    Ends(Dir),
+    Drops,
+    IsLive(bool),
+    /// Whether reading and writing are enabled.
+    Enabled(bool, bool),
+    /// Whether an end and an error were met.
+    Met(bool, bool),
+    /// The length of the input, and when it was last read.
+    Input(u64, u64),
+}
+
+/// Whether what is seen is as it says; a step is made.
+fn answers(world: &mut World, id: BevId, act: Act) -> bool {
+    let at = id.0 as usize;
+    let Some(state) = world.state(id) else {
+        return false;
+    };
+    match act {
+        Act::Brings(bytes) => bring(world, at, bytes).is_ok(),
+        Act::Expires(dir) => expire(world, at, dir),
+        Act::Ends(dir) => end(world, at, dir),
+        Act::Drops => free_alone(world, at),
+        Act::IsLive(live) => state.live == live,
+        Act::Enabled(read, write) => (state.reading, state.writing) == (read, write),
+        Act::Met(end, fault) => (state.ended, state.failed) == (end, fault),
+        Act::Input(length, now) => (state.input, state.last_read) == (length, now),
+    }
+}
+
+fn expire(world: &mut World, at: usize, dir: Dir) -> bool {
+    if at >= world.count() {
+        return false;
+    }
+    world.expire_at(at, dir);
+    true
+}
+
+fn end(world: &mut World, at: usize, dir: Dir) -> bool {
+    if at >= world.count() {
+        return false;
+    }
+    world.end_at(at, dir);
+    true
+}
+
+fn free_alone(world: &mut World, at: usize) -> bool {
+    if at >= world.count() {
+        return false;
+    }
+    world.drop_at(at);
+    true
+}
+
+const STEPS: &[Act] = &[
+    Act::Brings(b"ab"),
+    Act::Input(2, 7),
+    Act::Enabled(true, true),
+    Act::Expires(Dir::Read),
+    Act::Enabled(false, true),
+    Act::Met(false, false),
+    Act::Ends(Dir::Write),
+    Act::Enabled(false, false),
+    Act::Met(true, false),
+    Act::Drops,
+    Act::IsLive(false),
+    Act::Input(0, 7),
+    // a freed one is stepped too
+    Act::Brings(b"c"),
+    Act::Input(1, 7),
+];
+
+/// The place of the first step of a socket, or of what is seen of it, that is not as it says.
+fn first_wrong_step(world: &mut World) -> Result<Option<usize>, WorldFault> {
+    let id = world.new_socket()?;
+    world.enable(id, Dir::Read)?;
+    for (place, act) in STEPS.iter().enumerate() {
+        if !answers(world, id, *act) {
+            return Ok(Some(place));
+        }
+    }
+    Ok(None)
+}
+
+#[test]
+fn steps_by_number_look_at_no_liveness(rt: HostRuntime) {
+    let mut world = World::new(rt.alloc());
+    let wrong = first_wrong_step(&mut world);
+    drop(world);
+    assert_eq!(rt; wrong, Ok(None));
+}

@@ -1,0 +1,8 @@
+//! Tests of the relay's code below the drive: whole links with their calls in order, and the sides with their bytes. There is no code
+//! here but tests, over public calls.
+#![tactic(auto)]
+
+#[cfg(test)]
+mod links;
+#[cfg(test)]
+mod sides;
