@@ -1,8 +1,8 @@
-// Laws on links that are drained: none stands still while it is open, and a run adds few turns for it. Each is on a function whose
-// contract it is.
+// Laws on links that are drained, each on a function whose contract it is: while one is open something moves on, and a run adds few
+// turns for it.
 ghost use Rattle.relay_model.specs.ClosingTurns.{ClosingTurnsGoOn, DrainsInMost, TwoClosingTurnsGoOn};
 ghost use Rattle.relay_model.specs.OpenLinks.{OpenLinkWants};
-ghost use Rattle.relay_model.specs.Standstill.{WillingTurnsGoOn};
+ghost use Rattle.relay_model.specs.MovingOn.{WillingTurnsGoOn};
 
 /// Between two turns an open link wants something of the poll, but for limits and groups, while each free was of a side that was done.
 pub fn open_link_wants()
