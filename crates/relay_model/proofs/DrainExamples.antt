@@ -16,7 +16,7 @@ use Rattle.relay_model.specs.Flow.{no_flow}
 use Rattle.relay_model.specs.Settings.{usual}
 use Rattle.relay_model.specs.Plain.{Plain, nothing_yet, with_link, freed}
 use Rattle.relay_model.specs.OpenLinks.{open_link_count}
-use Rattle.relay_model.specs.Standstill.{moves_on}
+use Rattle.relay_model.specs.MovingOn.{moves_on}
 use Rattle.relay_model.specs.Work.{weight, moves_on_in}
 use Rattle.relay_model.specs.ClosingTurns.{unread_count, most_closing_turns, makes_one_more, scripted_links}
 
@@ -108,6 +108,6 @@ moves-not_other = refl
 moves-connected : list_any moves_on ((entry.Conn o conn.Pending, []) ∷ (entry.Conn o conn.Connected, []) ∷ []) ≡ true
 moves-connected = refl
 
-moves-not : list_any moves_on ((entry.Conn o conn.Pending, []) ∷ (entry.Read i 2 read.NotYet, []) ∷ (entry.Write o 2 write.NotYet, []) ∷ [])
-    ≡ false
+moves-not : list_any moves_on
+    ((entry.Conn o conn.Pending, []) ∷ (entry.Read i 2 read.NotYet, []) ∷ (entry.Write o 2 write.NotYet, []) ∷ []) ≡ false
 moves-not = refl

@@ -21,7 +21,7 @@ use Rattle.relay_model.specs.Groups.{level_at_end, suspended_in, is_suspended, m
 use Rattle.relay_model.specs.Stages.{State}
 use Rattle.relay_model.specs.Turn.{Reaches, Puts, begins}
 use Rattle.relay_model.specs.RatesKept.{is_turn, time_by, bytes_of, moved_among}
-use Rattle.relay_model.specs.Standstill.{with_turn}
+use Rattle.relay_model.specs.MovingOn.{with_turn}
 use Rattle.relay_model.specs.Refills.{OwesAtMost, beginning, GroupsOweLess, GroupsComeBack}
 use Rattle.relay_model.proofs.PastLemmas.{more_moved, spells-moves, beats_among-push, group_spells-turn}
 use Rattle.relay_model.proofs.QuietSteps.{kept-quietly}

@@ -105,7 +105,7 @@ pub mod MovesLemmas
 pub mod ConnectLemmas
 pub mod MeasureLemmas
 pub mod FewTurns
-pub mod StandstillLemmas
+pub mod MovingOnLemmas
 pub mod ClosingAnswers
 pub mod FineCalls
 pub mod ClosingGoes

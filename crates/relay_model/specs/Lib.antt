@@ -50,7 +50,7 @@ pub mod Bounds
 pub mod Still
 pub mod StepLaws
 pub mod OpenLinks
-pub mod Standstill
+pub mod MovingOn
 pub mod Refills
 pub mod Work
 pub mod ClosingTurns

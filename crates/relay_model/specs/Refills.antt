@@ -12,20 +12,21 @@ use Rattle.relay_model.specs.Groups.{group_spells, least_share, is_suspended}
 use Rattle.relay_model.specs.RatesKept.{is_turn, moved_among}
 use Rattle.relay_model.specs.Stages.{State}
 use Rattle.relay_model.specs.Turn.{Reaches}
-use Rattle.relay_model.specs.Standstill.{with_turn}
+use Rattle.relay_model.specs.MovingOn.{with_turn}
 
--- From each turn on, no more was moved by a time than a full bucket, what came since, and a debt.
+-- From each of some turns on, no more was moved by a time than a full bucket, what came since, and a debt.
 abbrev pub EachOwes : Limit → ℕ → ℕ → List Spell → Type 0
 EachOwes l debt time [] = ⊤
 EachOwes l debt time (x ∷ xs) = (moved_in (x ∷ xs) ≤ l.burst + l.rate * ticks l.tick x.time time + debt) × EachOwes l debt time xs
 
--- No turn begins in a later tick than that of a time.
+-- None of them began in a later tick than that of a time.
 abbrev pub EachBegan : Limit → ℕ → List Spell → Type 0
 EachBegan l time [] = ⊤
 EachBegan l time (x ∷ xs) = (x.time / l.tick ≤ time / l.tick) × EachBegan l time xs
 
--- What a bucket owes at a time is at most a debt: so much more was moved than it could give, from the moment on in which its limit was
--- set and it held so much, and from each turn behind that on. None of these moments is of a later tick than that time.
+-- A bucket owes at most a debt at a time. Since its limit was set, when it held so much, no more was moved than that, what came since,
+-- and the debt; and from each later turn on no more than a full bucket, what came since, and the debt. None of these moments lies in a
+-- later tick than that time.
 pub record OwesAtMost (l : Limit) (debt set_at held : ℕ) (later : List Spell) (time : ℕ) : Type 0 where
   pub first : moved_in later ≤ held + l.rate * ticks l.tick set_at time + debt
   pub each : EachOwes l debt time later
@@ -36,12 +37,13 @@ pub record OwesAtMost (l : Limit) (debt set_at held : ℕ) (later : List Spell) 
 abbrev pub beginning : ℕ → Spell
 beginning ms = record { time = ms; moved = 0 }
 
--- A bucket that owes nothing holds a byte as a turn begins a tick later.
+-- A bucket that owes nothing, whose rate and burst are not 0, holds a byte as a turn begins a tick later.
 abbrev pub TickBringsByte : Type 0
 TickBringsByte = (l : Limit) (set_at held : ℕ) (later : List Spell) (time ms : ℕ) → 1 ≤ l.rate → 1 ≤ l.burst →
     OwesAtMost l 0 set_at held later time → 1 ≤ ticks l.tick time ms → 1 ≤ level l set_at held (later ++ beginning ms ∷ []) ms
 
--- A bucket that owes less than so much holds that as the second of two turns begins, a tick before each, and nothing moved in the first.
+-- A bucket that owes less than so much, which is no more than its rate and its burst, holds that as the second of two turns begins: where
+-- a tick begins before each of them and nothing is moved in the first.
 abbrev pub TwoTicksBring : Type 0
 TwoTicksBring = (l : Limit) (much set_at held : ℕ) (later : List Spell) (time one two : ℕ) → 1 ≤ much → much ≤ l.rate →
     much ≤ l.burst → OwesAtMost l (much - 1) set_at held later time → 1 ≤ ticks l.tick time one → 1 ≤ ticks l.tick one two →

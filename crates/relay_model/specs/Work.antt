@@ -20,7 +20,7 @@ use Rattle.relay_model.specs.Stages.{State}
 use Rattle.relay_model.specs.Turn.{Reaches}
 use Rattle.relay_model.specs.Onward.{Leads}
 use Rattle.relay_model.specs.Totals.{connected_by}
-use Rattle.relay_model.specs.Standstill.{moves_on}
+use Rattle.relay_model.specs.MovingOn.{moves_on}
 
 -- Of one direction
 
@@ -64,8 +64,8 @@ carries_on e y = gets_by e y || gives_of e y || ended_by e y
 abbrev pub carrying_left : Settings → Trace → Plain → SideId → ℕ
 carrying_left g t s e = work_left g t s e + (if not (has_ended e t) then 1 else 0)
 
--- In a part of a run the events that carry a direction on are at most what it has less of that behind them, and five for each byte that
--- was read in it.
+-- In a part of a run so many events carry a direction on at most: by how much what is left of that fell, and five for each byte that was
+-- read in it.
 abbrev pub CarryingIsMeasured : Type 0
 CarryingIsMeasured = (g : Settings) (t part : Trace) (s new : State) (e : SideId) → Reaches g t s → Leads g t s (t ++ part) new →
     count_by (carries_on e) part + carrying_left g (t ++ part) new.plain e + 5 * length (bytes_read e t)
@@ -87,7 +87,7 @@ moves_left g t s e = carrying_left g t s e + left_to_connect s e
 abbrev pub buffered_from : Settings → Trace → Plain → SideId → ℕ
 buffered_from g t s e = input_length g (past g t) s e + output_length g (past g t) s (peer e)
 
--- That is at most four for each byte that it buffers, and five.
+-- What is left of moving on in a direction is at most four for each byte that it buffers, and five.
 abbrev pub MovesLeftAreFew : Type 0
 MovesLeftAreFew = (g : Settings) (t : Trace) (s : Plain) (e : SideId) → moves_left g t s e ≤ 4 * buffered_from g t s e + 5
 
@@ -109,8 +109,8 @@ all_read_count t es = sum_by (λ e. length (bytes_read e t)) es
 abbrev pub all_buffered_from : Settings → Trace → Plain → List SideId → ℕ
 all_buffered_from g t s es = sum_by (λ e. buffered_from g t s e) es
 
--- With no hooks, in a part of a run in which all that moves on does so in these directions, such events are at most what they have less
--- of that behind it, and five for each byte that was read in it.
+-- With no hooks, in a part of a run in which all that moves on does so in these directions, so many events move on at most: by how much
+-- what is left of that fell, and five for each byte that was read in it.
 abbrev pub MovesAreMeasured : Type 0
 MovesAreMeasured = (g : Settings) (t part : Trace) (s new : State) (es : List SideId) → HasNoHooks g → Reaches g t s →
     Leads g t s (t ++ part) new → MovesAreOf es part →
@@ -123,8 +123,8 @@ PairsMoveOn [] = ⊤
 PairsMoveOn (x ∷ []) = ⊤
 PairsMoveOn (x ∷ y ∷ turns) = ((list_any moves_on x || list_any moves_on y) ≡ true) × PairsMoveOn (y ∷ turns)
 
--- Such turns, where all that moves on does so in these directions, are at most 10 for each byte that was read in them, 8 for each byte
--- that the directions buffered before, 10 for each direction, and 1.
+-- With no hooks, such turns, where all that moves on does so in these directions, are at most 10 for each byte that was read in them, 8
+-- for each byte that the directions buffered before, 10 for each direction, and 1.
 abbrev pub TurnsAreFew : Type 0
 TurnsAreFew = (g : Settings) (t : Trace) (s : State) (turns : List Trace) (new : State) (es : List SideId) → HasNoHooks g → Reaches g t s →
     Leads g t s (t ++ flat_map (λ turn. turn) turns) new → MovesAreOf es (flat_map (λ turn. turn) turns) → PairsMoveOn turns →

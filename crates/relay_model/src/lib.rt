@@ -15,8 +15,8 @@ mod work_laws;
 
 pub use buffer_laws::{all_is_passed, buffers_are_within, buffers_are_within_so_far, counts_fit};
 pub use closing_laws::{
-    closing_turns_go_on, drains_in_most, open_link_wants, two_closing_turns_go_on,
-    willing_turns_go_on,
+    closing_turns_are_willing, closing_turns_go_on, drains_in_most, open_link_wants,
+    two_closing_turns_go_on, willing_turns_go_on,
 };
 pub use filter_laws::{
     a_step_fits_its_target, a_step_is_the_function, cuts_agree, cuts_give_the_function, runs_join,

@@ -6,7 +6,7 @@ pub fn work_falls()
     ensures { WorkFalls }
 {}
 
-/// In any part of a run the events that carry a direction on are at most what it has less of that, and five for each byte read.
+/// In any part of a run so many events carry a direction on at most: by how much what is left of that fell, and five for each byte read.
 pub fn carrying_is_measured()
     ensures { CarryingIsMeasured }
 {}
@@ -16,8 +16,8 @@ pub fn moves_left_are_few()
     ensures { MovesLeftAreFew }
 {}
 
-/// With no hooks the events of a part of a run that move on in some directions are at most what these have less of that, and five for
-/// each byte that was read.
+/// With no hooks, where all that moves on in a part of a run does so in some directions, so many events do at most: by how much what is
+/// left of that fell, and five for each byte read.
 pub fn moves_are_measured()
     ensures { MovesAreMeasured }
 {}

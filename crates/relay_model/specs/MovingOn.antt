@@ -1,5 +1,5 @@
--- When no turn passes in which nothing moves: what a port does that withholds nothing, what is asked of the settings and the clock, and
--- that something moves on then while a link is open.
+-- When something moves on in each turn while a link is open: what a port does that withholds nothing, and what is asked of the settings
+-- and of the clock.
 use Rattle.std.specs.Prelude.{◌≡◌, ℕ, ◌≤◌, Bool, true, false, ◌||◌, not, [], ◌∷◌, ◌++◌, Some, slice_get}
 use Rattle.std.specs.List.{list_any, list_all}
 use Rattle.token_bucket.specs.declared.limit.Dir.{Dir}
@@ -60,25 +60,31 @@ SideTicksPass g from to = (side : Side) (cfg : LimitCfg) → rate_set g side ≡
 abbrev pub GroupTicksPass : Settings → ℕ → ℕ → Type 0
 GroupTicksPass g from to = (n : ℕ) (x : GroupSet) → slice_get g.groups n ≡ Some x → 1 ≤ ticks x.cfg.tick_ms from to
 
--- no group of a side is suspended behind a trace
+-- no group that a side is in is suspended behind a trace
 abbrev pub NoneSuspended : Settings → Trace → Plain → Type 0
 NoneSuspended g t s = (e : SideId) (d : Dir) (n : ℕ) (x : GroupSet) → (side_at s e).group ≡ Some n → slice_get g.groups n ≡ Some x →
     is_suspended x d (group_spells g n d t) ≡ false
 
--- a trace with one turn more, at its end, that begins at a moment and has these entries behind that
+-- a trace with one turn more, which begins at a moment and has these entries behind its beginning
 abbrev pub with_turn : Trace → ℕ → Trace → Trace
 with_turn t ms part = t ++ (entry.Turn ms, []) ∷ part
 
--- One whole turn. From a state between two turns it begins at a moment, and has no other turn in it; it leads to a state between two
--- turns again.
+-- One whole turn: it begins at a moment from a state between two turns to which the trace leads, no other turn begins in it, and it leads
+-- to a state between two turns again.
 pub record IsWholeTurn (g : Settings) (t : Trace) (s : Plain) (ms : ℕ) (part : Trace) (after : Plain) : Type 0 where
   pub reached : Reaches g t (at Stage.Between s)
   pub leads : Leads g t (at Stage.Between s) (with_turn t ms part) (at Stage.Between after)
   pub one : list_any is_turn part ≡ false
 
--- A turn in which the port withholds nothing has an event that moves on. For that a link is open as it begins, and each free so far was
--- of a side that was done; a tick of each side's limit has begun since the turn before, and no group is suspended.
+-- Behind a trace a link is open, every direction is accounted for, and each free was of a side that was done.
+pub record IsDraining (g : Settings) (t : Trace) (s : Plain) : Type 0 where
+  pub some_open : 1 ≤ open_link_count s
+  pub accounted : AllAccounted g t s
+  pub frees : FreesAreDone t
+
+-- Where the settings don't hinder it, a turn in which the port withholds nothing has an event that moves on, while links are drained. For
+-- that a tick of each side's limit has begun since the turn before, and no group is suspended.
 abbrev pub WillingTurnsGoOn : Type 0
 WillingTurnsGoOn = (g : Settings) (t : Trace) (s : Plain) (ms : ℕ) (part : Trace) (after : Plain) → IsUnhindered g →
-    IsWholeTurn g t s ms part after → AllAccounted g t s → FreesAreDone t → 1 ≤ open_link_count s → SideTicksPass g s.time ms →
-    NoneSuspended g (with_turn t ms []) s → IsWilling part → list_any moves_on part ≡ true
+    IsWholeTurn g t s ms part after → IsDraining g t s → SideTicksPass g s.time ms → NoneSuspended g (with_turn t ms []) s →
+    IsWilling part → list_any moves_on part ≡ true
