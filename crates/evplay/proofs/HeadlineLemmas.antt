@@ -4,6 +4,7 @@ use Rattle.ev_types.specs.Trace.{Trace}
 use Rattle.script_text.specs.Script.{ScriptValue}
 use Rattle.script_text.proofs.TraceReadLemmas.{trace_of-trace_text}
 use Rattle.relay_model.specs.Settings as model
+use Rattle.relay_model.specs.Settings.{HasNoHooks}
 use Rattle.relay_settings.specs.declared.settings.Settings.{Settings}
 use Rattle.relay_model.specs.Stages.{Stage, at}
 use Rattle.relay_model.specs.Turn.{Reaches}
@@ -20,12 +21,16 @@ use Rattle.relay_laws.specs.Relayed.{StoodBetween}
 use Rattle.relay_laws.specs.Spelling.{TimeoutsFit, BringsFit}
 use Rattle.relay_laws.proofs.RelayedLemmas.{relayed-of}
 use Rattle.relay_model.proofs.PollLemmas.{polls_fail_as_scripted}
-use Rattle.relay_laws.proofs.SpellingLemmas.{reads_fit_as_scripted, stood_is_spellable}
+use Rattle.relay_laws.proofs.SpellingLemmas.{reads_fit_as_scripted, stood_is_spellable, asks-fit_hookless}
 use Rattle.evplay.specs.Headline.{IsRun, settings_of, script_run}
 
--- no hook, no rate and no group is set in what a script sets
+-- no group is set in what a script sets
 pub built : (g : Settings) → IsBuilt (model_settings g)
-built g = record { hooks = refl; in_rate = refl; out_rate = refl; in_group = refl; out_group = refl; groups = refl }
+built g = record { in_group = refl; out_group = refl; groups = refl }
+
+-- and no hook
+hookless : (g : Settings) → HasNoHooks (model_settings g)
+hookless g = record { none = refl }
 
 -- What is played with the usual settings is played with those of a script that sets no number of links: no others tell what a script
 -- answers, or how many links wait.
@@ -50,10 +55,12 @@ run-of script answer t x s usual_links timeouts is k left fit played ends =
     let reads = reads_fit_as_scripted script.turns (closing_step g) t fit played.answered in
     let left_at : LeftAt g answer x s.plain = subst (λ z. LeftAt z answer x s.plain) is left in
     let legal : EndsWith g answer t = (x, s.plain, reached, left_at) in
+    let asks = asks-fit_hookless g t (hookless script.settings) (at x s.plain, reached) in
     let links : s.settings.links ≡ 256 = ap (λ (z : model.Settings). z.links) is ∙ usual_links in
     record {
       relayed = relayed-of g answer t x s is k left ends;
       played = as-set script answer t usual_links played;
       polls = polls_fail_as_scripted g answer script.turns (closing_step g) t played.answered legal;
-      read_back = trace_of-trace_text t (stood_is_spellable t x s k (omega (arith, links)) (subst TimeoutsFit (sym is) timeouts) reads);
+      read_back =
+          trace_of-trace_text t (stood_is_spellable t x s k (omega (arith, links)) (subst TimeoutsFit (sym is) timeouts) asks reads);
     }

@@ -21,9 +21,10 @@ settings_of script = model_settings script.settings
 abbrev pub script_run : ScriptValue → Script
 script_run script = record { settings = settings_of script; plans = []; turns = script.turns }
 
--- A relay made this trace and its report, and ended with this answer: no byte was lost, made or changed, and each side was given a
--- prefix of what the filters make of what was read at the other. The trace is played from the script: its turns are the script's,
--- every answer in it is the script's, and every link that waits is accepted. Its text, read as a trace, is the same trace.
+-- A relay made this trace and its report, and ended with this answer: no byte was lost, made or changed, each side was given a prefix of
+-- what the filters make of what was read at the other, limits were kept, and wherever a turn ended buffers held no more than their marks
+-- allow. The trace is played from the script: its turns are the script's, every answer in it is the script's, and every link that waits
+-- is accepted. Its text, read as a trace, is the same trace.
 pub record IsRun (script : ScriptValue) (answer : TurnAnswer) (t : Trace) (links : List LinkCount) : Type 0 where
   pub relayed : IsRelayed (settings_of script) answer t links
   pub played : Plays (script_run script) 0 answer t

@@ -1,30 +1,37 @@
--- The relay's state as its links change, and what is so of each side: none has a hook, so that no reason becomes due.
-use Rattle.std.proofs.Common.{◌≡◌, ℕ, zero, suc, ◌+◌, Bool, true, false, Result, Ok, Err, MatchResult, ◌≤◌, ◌&&◌, nat_le, if◌then◌else◌, List, [], ◌∷◌, ◌++◌, slice_index_or, Option, ◌≢◌, refl, sym, ◌∙◌, ap, subst, arith}
+-- The relay's state as its links change, and what is so of each side: none has a hook, so that no reason becomes due, and none has a limit,
+-- so that rooms are what flags and marks leave, and no bucket changes.
+use Rattle.std.proofs.Common.{◌≡◌, ℕ, zero, suc, Bool, true, false, Result, Ok, Err, MatchResult, ◌&&◌, nat_le, if◌then◌else◌, List, [], ◌∷◌, slice_index_or, Option, None, option_map, ◌*◌, ◌-◌, min, length, length-append, ◌≢◌, refl, sym, ◌∙◌, ap, subst, arith}
 use Rattle.std.proofs.lemmas.List.Elements.{All-set, All-head, All-tail, All-nil, All-cons, All-append}
+use Rattle.std.proofs.lemmas.List.{set-get_or}
+use Rattle.std.specs.Prelude.{slice_set}
 use Rattle.std.specs.List.{All}
+use Rattle.token_bucket.specs.declared.limit.Dir.{Dir}
 use Rattle.token_bucket.specs.declared.limit.Dir.TheVariants as dir
 use Rattle.ev_types.specs.declared.side.SideId.{SideId}
 use Rattle.ev_types.specs.declared.why.Why.{Why}
 use Rattle.ev_types.specs.declared.why.Why.TheVariants as why
 use Rattle.ev_types.specs.Sides.{number, peer}
-use Rattle.relay_model.specs.Settings.{Settings, Timeouts, no_timeouts}
+use Rattle.relay_model.specs.Settings.{Settings, Timeouts}
 use Rattle.relay_model.specs.Due.{with_reason}
 use Rattle.relay_model.specs.Plain as plain
-use Rattle.relay_model.specs.Plain.{Plain, PlainSide, no_side, is_live}
+use Rattle.relay_model.specs.Plain.{Plain, PlainSide, Standing, no_side, is_live}
 use Rattle.relay_model.specs.Reasons.{has_hook, raise}
 use Rattle.relay_model.specs.Moments.{active_at}
-use Rattle.relay_state.specs.State.{State, with_plain}
+use Rattle.relay_model.specs.Rooms.{at_most, most_at_once, read_mark, may_read, may_write}
+use Rattle.relay_state.specs.Running.{no_gauge, gauge_after, held_at}
+use Rattle.relay_state.specs.State.{State, gauge_at, gauges_after, with_plain}
 use Rattle.relay_state.specs.Passage.{Passage, read_part}
 use Rattle.relay_state.specs.Passing as state
-use Rattle.relay_state.specs.Passing.{with_bad}
-use Rattle.relay_state.specs.Rooms.{input_length, output_length}
-use Rattle.relay_state.specs.Serving.{raise_read, raise_write}
+use Rattle.relay_state.specs.Passing.{with_bad, read_run}
+use Rattle.relay_state.specs.Rooms.{input_length, output_length, waiting_for, read_room, write_room}
+use Rattle.relay_state.specs.Serving.{raise_read, raise_write, with_got, after_got, with_taken, after_took}
 use Rattle.relay_sides.specs.Links as links
 use Rattle.relay_sides.specs.Links.{Links, change_side, opening_side, with_link}
 use Rattle.relay_sides.specs.SettingsView.{model_timeouts}
 use Rattle.relay_sides.specs.declared.opening.NewSide.{NewSide}
 use Rattle.relay_core.specs.RelayValue.{RelayValue}
-use Rattle.relay_core.specs.RelayView.{state_with, relay_of, AreSound, IsSoundSide}
+use Rattle.relay_core.specs.RelayView.{no_gauges, state_with, relay_of, AreSound, IsSound, IsSoundSide}
+use Rattle.relay_core.specs.Unlimited.{HasNoLimits}
 use Rattle.relay_core.specs.declared.relay.Relay.TheInside.{Inside}
 
 -- where no side has a hook, no reason becomes due
@@ -45,6 +52,33 @@ raise_write-none e s h = go (nat_le (output_length s e) (plain.side_at s.plain e
     go true = ap (λ p. with_plain p s) (raise-none s.settings e why.Write s.plain h)
     go false = refl
 
+-- where a side has no limit, what is moved there leaves all buckets
+gauges_after-none : (e : SideId) (d : Dir) (n : ℕ) (s : State) → (plain.side_at s.plain e).limit ≡ None → gauges_after e d n s ≡ s.gauges
+gauges_after-none e d n s none =
+    ap (λ (y : Option Standing). slice_set s.gauges (number e) (gauge_after y s.plain.time d n (gauge_at s e))) none
+    ∙ set-get_or s.gauges (number e) no_gauge
+
+-- and its rooms are what flags and marks leave
+pub read_room-none : (e : SideId) (s : State) → (plain.side_at s.plain e).limit ≡ None →
+    read_room s e ≡ (if may_read s.plain e then min most_at_once (read_mark s.plain e - input_length s e) else 0)
+read_room-none e s none =
+    let n : ℕ = min most_at_once (read_mark s.plain e - input_length s e) in
+    ap (λ (y : Option Standing).
+    if may_read s.plain e then at_most (option_map (λ z. held_at z.cfg (gauge_at s e) dir.Read s.plain.time) y) n else 0) none
+
+pub write_room-none : (e : SideId) (s : State) → (plain.side_at s.plain e).limit ≡ None →
+    write_room s e ≡ (if may_write s.plain e then min most_at_once (length (waiting_for s e)) else 0)
+write_room-none e s none =
+    let n : ℕ = min most_at_once (length (waiting_for s e)) in
+    ap (λ (y : Option Standing).
+    if may_write s.plain e then at_most (option_map (λ z. held_at z.cfg (gauge_at s e) dir.Write s.plain.time) y) n else 0) none
+
+-- two gauges stand for each link
+pub no_gauges-length : (n : ℕ) → length (no_gauges n) ≡ 2 * n
+no_gauges-length zero = refl
+no_gauges-length (suc n) =
+    let before = no_gauges-length n in omega (arith, before, length-append (no_gauges n) (no_gauge ∷ no_gauge ∷ []))
+
 -- what is so of each side
 
 -- of each side and of none
@@ -56,7 +90,7 @@ all_at P none (x ∷ xs) all (suc n) = all_at P none xs (All-tail P x xs all) n
 
 pub sound_at : (time : ℕ) (untimed : Bool) (xs : List PlainSide) → All (IsSoundSide time untimed) xs → (n : ℕ) →
     IsSoundSide time untimed (slice_index_or xs n no_side)
-sound_at time untimed xs all n = all_at (IsSoundSide time untimed) (omega arith, omega arith, λ e. (refl, refl)) xs all n
+sound_at time untimed xs all n = all_at (IsSoundSide time untimed) (omega arith, omega arith, λ e. (refl, refl), refl) xs all n
 
 module _ (near far : Timeouts) (time : ℕ) (untimed : Bool) where
   -- They are sound with one changed, where it stays sound.
@@ -90,15 +124,15 @@ module _ (near far : Timeouts) (time : ℕ) (untimed : Bool) where
   got_sound k j e bytes h is =
       let grown : Links = links.with_got time e bytes k in
       passage_sound grown j e (read_part (links.read_mark grown e) false (links.passage_at grown e))
-      (still_sound k grown e (active_at time dir.Read) h (λ z. (omega arith, z.1, z.2)) refl) is
+      (still_sound k grown e (active_at time dir.Read) h (λ z. (omega arith, z.1, z.2, z.3)) refl) is
 
   -- and with two more
   pub opened_sound : (k j : Links) (a b : NewSide) → AreSound near far time untimed k → j ≡ with_link time a b k →
       model_timeouts a.timeouts ≡ near → model_timeouts b.timeouts ≡ far → AreSound near far time untimed j
   opened_sound k j a b h is near_is far_is =
       let P : PlainSide → Type 0 = IsSoundSide time untimed in
-      let p : P (opening_side time a) = (omega arith, omega arith, λ e. (near_is ∙ (h.unset e).0, refl)) in
-      let q : P (opening_side time b) = (omega arith, omega arith, λ e. (far_is ∙ (h.unset e).1, refl)) in
+      let p : P (opening_side time a) = (omega arith, omega arith, λ e. (near_is ∙ (h.unset e).0, refl), refl) in
+      let q : P (opening_side time b) = (omega arith, omega arith, λ e. (far_is ∙ (h.unset e).1, refl), refl) in
       record {
         unset = h.unset;
         untimed_then = h.untimed_then;
@@ -107,9 +141,17 @@ module _ (near far : Timeouts) (time : ℕ) (untimed : Bool) where
             (All-cons P (opening_side time a) (opening_side time b ∷ []) p (All-cons P (opening_side time b) [] q (All-nil P))));
       }
 
+-- no side has a limit, as it is kept
+pub unlimited : (r : Inside) → IsSound r → HasNoLimits (state_with r r.sides.links)
+unlimited r sound e = (sound_at r.time r.untimed r.sides.links.sides sound.sides (number e)).3
+
 module _ (v : RelayValue) (r : Inside) (is : relay_of r ≡ v) where
   pub no_hook : (e : SideId) → has_hook v.state.settings e ≡ false
   no_hook e = ap (λ (z : RelayValue). has_hook z.state.settings e) (sym is)
+
+  -- and as it is seen
+  pub no_limits : IsSound r → HasNoLimits v.state
+  no_limits sound = subst (λ (z : RelayValue). HasNoLimits z.state) is (unlimited r sound)
 
   -- what is so of the state inside is so of the one that is seen
   pub carried : (k : Links) (h : Links → Links) (f : State → State) → k ≡ h r.sides.links →
@@ -122,6 +164,25 @@ module _ (v : RelayValue) (r : Inside) (is : relay_of r ≡ v) where
   changed_raising k e g reason a =
       carried k (change_side e g) (λ s. with_plain (plain.change_side e g s.plain) s) a refl
       ∙ ap (λ p. with_plain p v.state) (sym (raise-none v.state.settings e reason (plain.change_side e g v.state.plain) (no_hook e)))
+
+  -- bytes were got, or taken
+
+  pub got_none : (k : Links) (e : SideId) (bytes : List ℕ) → IsSound r → k ≡ links.after_got r.time e bytes r.sides.links →
+      state_with r k ≡ after_got v.state e bytes
+  got_none k e bytes sound a =
+      let s : State = state_with r r.sides.links in
+      let still = sym (gauges_after-none e dir.Read (length bytes) s (unlimited r sound e)) in
+      carried k (links.after_got r.time e bytes) (λ z. read_run e (with_got z e bytes)) a
+      (ap (λ xs. read_run e (record (with_got s e bytes) { gauges = xs })) still)
+      ∙ sym (raise_read-none e (read_run e (with_got v.state e bytes)) (no_hook e))
+
+  pub taken_none : (k : Links) (e : SideId) (n : ℕ) → IsSound r → k ≡ links.after_took r.time e n r.sides.links →
+      state_with r k ≡ after_took v.state e n
+  taken_none k e n sound a =
+      let s : State = state_with r r.sides.links in
+      let still = sym (gauges_after-none e dir.Write n s (unlimited r sound e)) in
+      carried k (links.after_took r.time e n) (λ z. with_taken z e n) a (ap (λ xs. record (with_taken s e n) { gauges = xs }) still)
+      ∙ sym (raise_write-none e (with_taken v.state e n) (no_hook e))
 
   -- passing
 

@@ -1,5 +1,6 @@
--- Where nothing is timed, a turn begins with nothing but its time, and a poll waits for ever. Looking at sides opens no link.
-use Rattle.std.proofs.Common.{◌≡◌, ℕ, zero, suc, ◌+◌, ◌<◌, ◌-◌, Bool, true, false, ◌&&◌, ◌||◌, nat_le, not, if◌then◌else◌, List, [], ◌∷◌, ◌++◌, map, slice_index_or, Some, None, option_map, refl, sym, ◌∙◌, ap, arith, fold}
+-- Where nothing is timed, a turn begins with nothing but its time, and a poll waits for ever. Where no side has a limit, it wakes up for
+-- timeouts alone. Looking at sides opens no link.
+use Rattle.std.proofs.Common.{◌≡◌, ℕ, suc, ◌+◌, ◌<◌, ◌-◌, Bool, true, false, ◌&&◌, ◌||◌, nat_le, not, if◌then◌else◌, List, [], ◌∷◌, ◌++◌, length, map, slice_index_or, Option, Some, None, option_map, refl, sym, ◌∙◌, ap, arith, fold, append-nil}
 use Rattle.std.specs.List.{list_any, flat_map}
 use Rattle.token_bucket.specs.declared.limit.Dir.{Dir}
 use Rattle.token_bucket.specs.declared.limit.Dir.TheVariants as dir
@@ -8,17 +9,19 @@ use Rattle.ev_types.specs.declared.side.SideId.{SideId}
 use Rattle.ev_types.specs.declared.why.Why.{Why}
 use Rattle.ev_types.specs.Sides.{number}
 use Rattle.relay_model.specs.Settings.{Settings, no_timeouts}
-use Rattle.relay_model.specs.Plain.{Plain, PlainSide, no_side, side_at, is_live, sides_from, all_sides, change_side}
+use Rattle.relay_model.specs.Plain.{Plain, PlainSide, Standing, Timer, no_side, side_at, is_live, sides_from, all_sides, change_side}
 use Rattle.relay_model.specs.Reasons.{has_hook, raise, happened, timeout_flag}
 use Rattle.relay_model.specs.Due.{with_reason}
 use Rattle.relay_model.specs.Moments.{timeout_of, last_activity, is_timed, active_at, both_ways, moment_where, earliest, has_run_out, expire}
 use Rattle.relay_state.specs.State.{State, with_plain}
 use Rattle.relay_state.specs.Closing.{in_side, out_side}
 use Rattle.relay_state.specs.Rooms.{wants}
-use Rattle.relay_state.specs.Time.{expiry, poll_timeout, timed, side_timed}
+use Rattle.relay_state.specs.Time.{expiry, limit_gain, moments, poll_timeout, timed, side_timed}
 use Rattle.relay_core.specs.RelayView.{state_with, IsSound, IsSoundSide}
+use Rattle.relay_core.specs.Unlimited.{HasNoLimits}
+use Rattle.relay_core.specs.Waits.{wait_until, is_expired, expiries}
 use Rattle.relay_core.specs.declared.relay.Relay.TheInside.{Inside}
-use Rattle.relay_core.proofs.RelayLemmas.{sound_at}
+use Rattle.relay_core.proofs.RelayLemmas.{sound_at, unlimited}
 
 no_timeout : (d : Dir) (x : PlainSide) → x.timeouts ≡ no_timeouts → is_timed x d ≡ false
 no_timeout d x h = ap (λ t. is_timed (record x { timeouts = t }) d) h ∙ go d x.live
@@ -81,13 +84,35 @@ module _ (s : State) (u : IsUntimed s) where
       go true = refl
       go false = refl
 
+-- no bucket is waited for where no side has a limit
+gains-none : (s : State) → HasNoLimits s → (es : List SideId) → flat_map (λ e. limit_gain s e (side_at s.plain e).limit) es ≡ []
+gains-none s none [] = refl
+gains-none s none (e ∷ es) =
+    ap (λ (y : Option Standing). limit_gain s e y ++ flat_map (λ e. limit_gain s e (side_at s.plain e).limit) es) (none e)
+    ∙ gains-none s none es
+
+-- and where no timer runs either, a poll wakes up for the sides' timeouts
+pub moments-none : (s : State) → s.plain.timers ≡ [] → HasNoLimits s → moments s ≡ expiries s (all_sides s.plain)
+moments-none s timers none =
+    let gains = gains-none s none (all_sides s.plain) in
+    (λ i. map (λ (x : Timer). x.deadline) (timers i) ++ expiries s (all_sides s.plain) ++ gains i)
+    ∙ append-nil (expiries s (all_sides s.plain))
+
+-- Where nothing presses either, a poll waits for the earliest of them.
+pub poll_timeout-waits : (s : State) → s.plain.timers ≡ [] → s.plain.due ≡ [] → HasNoLimits s →
+    list_any (is_expired s) (all_sides s.plain) ≡ false → poll_timeout s ≡ wait_until s.plain.time (expiries s (all_sides s.plain))
+poll_timeout-waits s timers due none live = λ i.
+    if nat_le 1 (length (due i)) || live i then Some 0
+    else option_map (λ moment. moment - s.plain.time) (earliest (moments-none s timers none i))
+
 -- nothing presses, and there is no moment to wake up for
 pub poll_timeout-none : (r : Inside) → IsSound r → r.untimed ≡ true → poll_timeout (state_with r r.sides.links) ≡ None
 poll_timeout-none r sound h =
     let s : State = state_with r r.sides.links in
     let u = untimed_seen r sound h in
+    let none = moments-none s refl (unlimited r sound) ∙ expiries-none s u (all_sides s.plain) in
     (λ i. if none_expired s u (all_sides s.plain) i then Some 0
-    else option_map (λ moment. moment - s.plain.time) (earliest (expiries-none s u (all_sides s.plain) i)))
+    else option_map (λ moment. moment - s.plain.time) (earliest (none i)))
 
 -- no side changes as it is looked at
 pub sides_timed-none : (r : Inside) → IsSound r → r.untimed ≡ true →
@@ -124,8 +149,8 @@ side_timed-opened s e = timed-opened (timed e s dir.Read) e dir.Write ∙ timed-
 
 pub active_sound : (time : ℕ) (none : Bool) (d : Dir) (x : PlainSide) → IsSoundSide time none x →
     IsSoundSide time none (active_at time d x)
-active_sound time none dir.Read x h = (omega arith, h.1, h.2)
-active_sound time none dir.Write x h = (h.0, omega arith, h.2)
+active_sound time none dir.Read x h = (omega arith, h.1, h.2, h.3)
+active_sound time none dir.Write x h = (h.0, omega arith, h.2, h.3)
 
 untimed_not : (d : Dir) (x : PlainSide) → is_timed x d ≡ true → x.timeouts ≡ no_timeouts → false ≡ true
 untimed_not d x is none = sym (no_timeout d x none) ∙ is
@@ -133,9 +158,9 @@ untimed_not d x is none = sym (no_timeout d x none) ∙ is
 pub expire_sound : (time : ℕ) (none : Bool) (d : Dir) (x : PlainSide) → is_timed x d ≡ true → IsSoundSide time none x →
     IsSoundSide time none (expire d x)
 expire_sound time none dir.Read x is h =
-    (h.0, h.1, λ e. absurd (let wrong : false ≡ true = untimed_not dir.Read x is (h.2 e).0 in cc))
+    (h.0, h.1, λ e. absurd (let wrong : false ≡ true = untimed_not dir.Read x is (h.2 e).0 in cc), h.3)
 expire_sound time none dir.Write x is h =
-    (h.0, h.1, λ e. absurd (let wrong : false ≡ true = untimed_not dir.Write x is (h.2 e).0 in cc))
+    (h.0, h.1, λ e. absurd (let wrong : false ≡ true = untimed_not dir.Write x is (h.2 e).0 in cc), h.3)
 
 -- the sides from a link on are those of it and of the links behind
 pub sides_from-more : (k n : ℕ) → k < n →

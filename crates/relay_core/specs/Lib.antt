@@ -5,3 +5,4 @@ pub mod Waits
 pub mod Steps
 pub mod Far
 pub mod Pairs
+pub mod Unlimited

@@ -1,14 +1,20 @@
--- How the relay keeps its state. There are no timers, and nothing is due.
-use Rattle.std.specs.Prelude.{◌≡◌, ℕ, ◌≤◌, Bool, true, false, []}
+-- How the relay keeps its state. There are no timers, nothing is due or left to fire, and no side has a limit.
+use Rattle.std.specs.Prelude.{◌≡◌, ℕ, zero, suc, ◌≤◌, Bool, true, false, List, [], ◌∷◌, ◌++◌, None}
 use Rattle.std.specs.List.{All}
 use Rattle.relay_model.specs.Settings.{Timeouts, no_timeouts}
 use Rattle.relay_model.specs.Plain.{PlainSide}
+use Rattle.relay_state.specs.Running.{Gauge, no_gauge}
 use Rattle.relay_state.specs.State.{State}
 use Rattle.relay_sides.specs.Links.{Links}
 use Rattle.relay_sides.specs.SettingsView.{model_timeouts}
 use Rattle.relay_core.specs.RelayValue.{RelayValue}
 use Rattle.relay_core.specs.SettingsView.{model_settings}
 use Rattle.relay_core.specs.declared.relay.Relay.TheInside.{Inside}
+
+-- what stands for the buckets of so many links, of which no side has a limit
+abbrev pub no_gauges : ℕ → List Gauge
+no_gauges zero = []
+no_gauges (suc n) = no_gauges n ++ no_gauge ∷ no_gauge ∷ []
 
 -- with these links
 abbrev pub state_with : Inside → Links → State
@@ -24,6 +30,8 @@ state_with r k = record {
     due = [];
   };
   lanes = k.lanes;
+  batch = [];
+  gauges = no_gauges k.opened;
 }
 
 abbrev pub relay_of : Inside → RelayValue
@@ -33,10 +41,12 @@ relay_of r = record {
   spare_reads = r.sides.spare_reads;
 }
 
--- What is so of a side: its activity is not ahead of the time, and where nothing is timed it has no timeouts, and none has passed.
+-- What is so of a side: its activity is not ahead of the time; where nothing is timed it has no timeouts, and none has passed; and it has
+-- no limit.
 abbrev pub IsSoundSide : ℕ → Bool → PlainSide → Type 0
 IsSoundSide time untimed x =
     (x.last_read ≤ time) × (x.last_write ≤ time) × (untimed ≡ true → (x.timeouts ≡ no_timeouts) × (x.expired ≡ false))
+    × (x.limit ≡ None)
 
 -- what is so of the sides, with the timeouts that the sides of the next link get
 pub record AreSound (near far : Timeouts) (time : ℕ) (untimed : Bool) (k : Links) : Type 0 where

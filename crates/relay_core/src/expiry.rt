@@ -11,6 +11,7 @@ ghost use Rattle.relay_state.specs.State.{with_plain};
 ghost use Rattle.relay_state.specs.Closing.{in_side, out_side};
 ghost use Rattle.relay_state.specs.Rooms.{wants};
 ghost use Rattle.relay_state.specs.Time.{expiry, timed, side_timed, begun, poll_timeout};
+ghost use Rattle.relay_core.specs.Unlimited.{HasNoLimits};
 ghost use Rattle.relay_core.specs.Waits.{earlier, wait_until, is_expired, expiries};
 
 use crate::relay::Relay;
@@ -126,6 +127,7 @@ impl Relay {
         ensures state { self.new.state
             ≡ with_plain (timers_taken self.old.state.settings (turned_to result self.old.state.plain)) self.old.state }
         ensures plain { self.new.state ≡ with_plain (turned_to result self.old.state.plain) self.old.state }
+        ensures unlimited { HasNoLimits self.old.state }
     {
         self.turns += 1;
         self.time = self.time.max(reading.min(LAST_TIME));
@@ -143,8 +145,8 @@ impl Relay {
     }
 
     /// A turn begins. A reading of the clock becomes the time, cut at 2^62 and unless the time is greater. Answers the time.
-    /// Where no timeout is set, nothing but the time and the number of turns changes. Takes no memory; constant where no timeout is
-    /// set, else linear in the number of links.
+    /// Where no timeout is set, nothing but the time and the number of turns changes. No side has a limit, so that what its end may move
+    /// doesn't grow with the time. Takes no memory; constant where no timeout is set, else linear in the number of links.
     ///
     /// Own.
     pub fn begin(&mut self, reading: u64) -> u64
@@ -153,6 +155,7 @@ impl Relay {
         ensures state { self.new.state ≡ begun self.old.state result }
         ensures still { self.old.state.settings.in_timeouts ≡ no_timeouts → self.old.state.settings.out_timeouts ≡ no_timeouts
             → self.new.state ≡ with_plain (turned_to result self.old.state.plain) self.old.state }
+        ensures unlimited { HasNoLimits self.old.state }
     {
         let time = self.turn_to(reading);
         self.look_at_sides();

@@ -142,6 +142,11 @@ outcome-bytes j k read f h =
 
 -- Parts of a trace
 
+-- of a place of a list
+pub all-at : {X : Type 0} (P : X → Type 0) (xs : List X) (y : X) (ys : List X) → All P (xs ++ y ∷ ys) → P y
+all-at P xs y ys h =
+    subst P (get_or-append-add xs (y ∷ ys) 0 y) (h (length xs + 0) y (omega (arith, length-append xs (y ∷ ys))))
+
 module _ (P : ℕ → Type 0) where
   -- of a part of a list
   pub all-part : (xs ys zs : List ℕ) → All P (xs ++ (ys ++ zs)) → All P ys

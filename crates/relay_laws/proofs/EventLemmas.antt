@@ -1,7 +1,8 @@
--- What each entry of a legal trace says where there are no hooks, rates and groups: its numbers are bounded by the number of links and
--- the most bytes of one call, a poll's timeout can be spelled, and exactly the bytes stand beside it that were got or taken.
+-- What each entry of a legal trace says: its numbers are bounded by the number of links and the most bytes of one call, a poll's timeout
+-- can be spelled, flags fit a byte, and exactly the bytes stand beside it that were got or taken.
 use Rattle.std.proofs.Common.{◌≡◌, ℕ, ◌-◌, ◌<◌, ◌≤◌, min, Bool, true, false, ◌&&◌, ◌||◌, nat_le, if◌then◌else◌, List, [], ◌∷◌, ◌++◌, length, map, Option, Some, None, inl, inr, refl, sym, ◌∙◌, ap, subst, arith}
-use Rattle.std.specs.Prelude.{⊤, filter}
+use Rattle.std.specs.Prelude.{⊤, filter, All}
+use Rattle.std.proofs.lemmas.List.Elements.{All-head}
 use Rattle.std.specs.List.{AllByRecursion}
 use Rattle.std.proofs.lemmas.Bool.{and_parts}
 use Rattle.token_bucket.specs.declared.limit.Dir.TheVariants as dir
@@ -16,13 +17,14 @@ use Rattle.ev_types.specs.Trace.{Event, Trace}
 use Rattle.ev_types.specs.Times.{latest}
 use Rattle.script_text.specs.TraceLaws.{IsEntry}
 use Rattle.relay_model.specs.Settings.{Settings}
+use Rattle.relay_model.specs.Due.{Reason}
 use Rattle.relay_model.specs.Plain.{Plain, side_at, all_sides}
 use Rattle.relay_model.specs.Past.{Past, past}
 use Rattle.relay_model.specs.Rooms.{Want, want_of, wanted, may_read, may_write, read_room, write_room, is_connecting, within_rates, at_most, share, allowance, most_at_once, read_mark, input_length, raw_output_at}
 use Rattle.relay_model.specs.Moments.{poll_timeout}
 use Rattle.relay_model.specs.Serve.{Call, call_for, CarriesGot, CarriesTook}
 use Rattle.relay_model.specs.Close.{CloseStep}
-use Rattle.relay_model.specs.Stages.{Stage, State, Between, Polling, Wanting, Marking, Accepting, Serving, Filtering, Dispatching, Firing, Freeing, Passing, Closing}
+use Rattle.relay_model.specs.Stages.{Stage, State, Between, Polling, Wanting, Marking, Accepting, Serving, Filtering, Dispatching, Firing, Freeing, Passing, Closing, Over, Halt}
 use Rattle.relay_model.specs.Turn.{after_reading, Puts, Quietly, Reaches, IsLegal}
 use Rattle.relay_model.specs.Told.{names}
 use Rattle.relay_model.proofs.EndLemmas.{same_end-refl}
@@ -30,8 +32,8 @@ use Rattle.relay_model.proofs.StepLemmas.{read-called, write-called, put-effect}
 use Rattle.relay_model.proofs.KindLemmas.{ClosedKind, closed-kind, PutKind, put-kind}
 use Rattle.relay_model.proofs.SplitLemmas.{reaches_split}
 use Rattle.relay_model.proofs.ToldLemmas.{kept}
-use Rattle.relay_steps.specs.Meaning.{IsBuilt}
-use Rattle.relay_steps.proofs.CalmLemmas.{IsCalm, all-calm}
+use Rattle.relay_steps.specs.ToFire.{FlagsFit, left_in, ReasonOf}
+use Rattle.relay_steps.proofs.HookedSteps.{waits_are_hooked}
 use Rattle.relay_laws.specs.Spelling.{TimeoutsFit}
 use Rattle.relay_laws.proofs.SettledLemmas.{in_connected}
 use Rattle.relay_laws.proofs.PollLemmas.{poll-spelled}
@@ -47,8 +49,8 @@ Says n (entry.Opened link connected, bytes) = (link < n) × (bytes ≡ [])
 Says n (entry.Conn side answer, bytes) = (side.link < n) × (side.side ≡ Out) × (bytes ≡ [])
 Says n (entry.Read side room answer, bytes) = (side.link < n) × (room ≤ most_at_once) × CarriesGot answer room bytes
 Says n (entry.Write side offered answer, bytes) = (side.link < n) × (offered ≤ most_at_once) × CarriesTook answer offered bytes
-Says n (entry.Fired side why, bytes) = ⊥
-Says n (entry.Asked side act answer, bytes) = ⊥
+Says n (entry.Fired side why, bytes) = (side.link < n) × FlagsFit why × (bytes ≡ [])
+Says n (entry.Asked side act answer, bytes) = (side.link < n) × (bytes ≡ [])
 Says n (entry.Freed side cause moved given, bytes) = (side.link < n) × (bytes ≡ [])
 Says n (entry.CloseWrite side, bytes) = (side.link < n) × (bytes ≡ [])
 Says n (entry.Close side, bytes) = (side.link < n) × (bytes ≡ [])
@@ -101,31 +103,34 @@ module _ (g : Settings) where
   put-some t s x y new PutKind.recorded put h = tt
   put-some t s x y new (PutKind.closed a) put h = tt
 
-  quiet-some : (t : Trace) (x : Stage) (s : Plain) (new : State) → Quietly g t x s new → IsCalm x → WantsSome x → WantsSome new.stage
-  quiet-some t (Wanting []) s new h c k = subst (λ z. WantsSome z.stage) (sym h) (wanted-some (past g t) s)
-  quiet-some t (Marking (w ∷ ws) marks) s new h c k = subst (λ z. WantsSome z.stage) (sym h) k.1
-  quiet-some t (Marking [] marks) s new h c k = subst (λ z. WantsSome z.stage) (sym h) tt
-  quiet-some t (Accepting n marks) s new h c k = subst (λ z. WantsSome z.stage) (sym h) tt
-  quiet-some t (Serving (m ∷ ms)) s new h c k = subst (λ z. WantsSome z.stage) (sym h.1) tt
-  quiet-some t (Filtering e ms) s new h c k = subst (λ z. WantsSome z.stage) (sym h) tt
-  quiet-some t (Serving []) s new h c k = subst (λ z. WantsSome z.stage) (sym h) tt
-  quiet-some t (Dispatching []) s new h c k = subst (λ z. WantsSome z.stage) (sym h) tt
-  quiet-some t (Passing [] (e ∷ es)) s new (inl h) c k = subst (λ z. WantsSome z.stage) (sym h.1) tt
-  quiet-some t (Passing [] (e ∷ es)) s new (inr h) c k = subst (λ z. WantsSome z.stage) (sym h) tt
-  quiet-some t (Passing (x ∷ xs) (e ∷ es)) s new h c k = subst (λ z. WantsSome z.stage) (sym h) tt
-  quiet-some t (Passing [] []) s new h c k = subst (λ z. WantsSome z.stage) (sym h) tt
-  quiet-some t (Closing (d ∷ ds)) s new h c k = subst (λ z. WantsSome z.stage) (sym h.1) tt
-  quiet-some t (Closing []) s new h c k = subst (λ z. WantsSome z.stage) (sym h) tt
-  quiet-some t (Firing x rs) s new h c k = absurd c
-  quiet-some t _ s new h c k = absurd h
+  fire-some : (b : Bool) (k : ℕ) (rs : List Reason) → WantsSome (if b then Over (Halt.StoppedBy k) else Dispatching rs)
+  fire-some true k rs = tt
+  fire-some false k rs = tt
 
-  wants_some : IsBuilt g → (t : Trace) (s : State) → Reaches g t s → WantsSome s.stage
-  wants_some built t s Reaches.begins = tt
-  wants_some built t new (Reaches.goes {t = u} {s = old} r h) =
-      quiet-some u old.stage old.plain new h (all-calm g built u old r).stage (wants_some built u old r)
-  wants_some built t new (Reaches.puts {t = u} {s = old} e bytes r h) =
+  quiet-some : (t : Trace) (x : Stage) (s : Plain) (new : State) → Quietly g t x s new → WantsSome x → WantsSome new.stage
+  quiet-some t (Wanting []) s new h k = subst (λ z. WantsSome z.stage) (sym h) (wanted-some (past g t) s)
+  quiet-some t (Marking (w ∷ ws) marks) s new h k = subst (λ z. WantsSome z.stage) (sym h) k.1
+  quiet-some t (Marking [] marks) s new h k = subst (λ z. WantsSome z.stage) (sym h) tt
+  quiet-some t (Accepting n marks) s new h k = subst (λ z. WantsSome z.stage) (sym h) tt
+  quiet-some t (Serving (m ∷ ms)) s new h k = subst (λ z. WantsSome z.stage) (sym h.1) tt
+  quiet-some t (Filtering e ms) s new h k = subst (λ z. WantsSome z.stage) (sym h) tt
+  quiet-some t (Serving []) s new h k = subst (λ z. WantsSome z.stage) (sym h) tt
+  quiet-some t (Dispatching []) s new h k = subst (λ z. WantsSome z.stage) (sym h) tt
+  quiet-some t (Passing [] (e ∷ es)) s new (inl h) k = subst (λ z. WantsSome z.stage) (sym h.1) tt
+  quiet-some t (Passing [] (e ∷ es)) s new (inr h) k = subst (λ z. WantsSome z.stage) (sym h) tt
+  quiet-some t (Passing (x ∷ xs) (e ∷ es)) s new h k = subst (λ z. WantsSome z.stage) (sym h) tt
+  quiet-some t (Passing [] []) s new h k = subst (λ z. WantsSome z.stage) (sym h) tt
+  quiet-some t (Closing (d ∷ ds)) s new h k = subst (λ z. WantsSome z.stage) (sym h.1) tt
+  quiet-some t (Closing []) s new h k = subst (λ z. WantsSome z.stage) (sym h) tt
+  quiet-some t (Firing x rs) s new h k = subst (λ z. WantsSome z.stage) (sym h) (fire-some x.stopped x.side.link rs)
+  quiet-some t _ s new h k = absurd h
+
+  wants_some : (t : Trace) (s : State) → Reaches g t s → WantsSome s.stage
+  wants_some t s Reaches.begins = tt
+  wants_some t new (Reaches.goes {t = u} {s = old} r h) = quiet-some u old.stage old.plain new h (wants_some u old r)
+  wants_some t new (Reaches.puts {t = u} {s = old} e bytes r h) =
       put-some u old.plain old.stage (e, bytes) new (put-kind g u old.stage old.plain e bytes new (kept g u old r).placed h) h
-      (wants_some built u old r)
+      (wants_some u old r)
 
   -- What is put says so
 
@@ -200,37 +205,39 @@ module _ (g : Settings) where
       closed-says c e (ClosedKind.peer_gone {z = z} a b d) named none = (named z (same_end-refl z), none)
       closed-says c e (ClosedKind.shut {z = z} a b) named none = (named z (same_end-refl z), none)
 
-      put-says : (x : Stage) (e : Entry) (new : State) → Puts g t x s e bytes new → Named e → IsCalm x → WantsSome x →
+      put-says : (x : Stage) (e : Entry) (new : State) → Puts g t x s e bytes new → Named e → All (ReasonOf g s) (left_in x) → WantsSome x →
           IsEntry (entry.Poll (poll_timeout g p s)) → Says g.links (e, bytes)
-      put-says Between (entry.Turn ms) new h named calm want poll = (h.1, h.2)
-      put-says Polling (entry.Poll timeout) new h named calm want poll = (subst (λ o. IsEntry (entry.Poll o)) (sym h.0) poll, h.1)
-      put-says (Wanting (w ∷ ws)) (entry.Want side r d) new h named calm want poll =
+      put-says Between (entry.Turn ms) new h named left want poll = (h.1, h.2)
+      put-says Polling (entry.Poll timeout) new h named left want poll = (subst (λ o. IsEntry (entry.Poll o)) (sym h.0) poll, h.1)
+      put-says (Wanting (w ∷ ws)) (entry.Want side r d) new h named left want poll =
           (named side (same_end-refl side), sym (ap some h.0) ∙ want.0, h.1)
-      put-says (Wanting []) entry.PollFailed new h named calm want poll = h.0
-      put-says (Marking (w ∷ ws) marks) (entry.Ready side r d) new h named calm want poll = (named side (same_end-refl side), h.1.2, h.2)
-      put-says (Accepting n marks) (entry.Opened link connected) new h named calm want poll = (h.2, h.3)
-      put-says (Serving (m ∷ ms)) (entry.Conn side answer) new h named calm want poll =
+      put-says (Wanting []) entry.PollFailed new h named left want poll = h.0
+      put-says (Marking (w ∷ ws) marks) (entry.Ready side r d) new h named left want poll = (named side (same_end-refl side), h.1.2, h.2)
+      put-says (Accepting n marks) (entry.Opened link connected) new h named left want poll = (h.2, h.3)
+      put-says (Serving (m ∷ ms)) (entry.Conn side answer) new h named left want poll =
           (named side (same_end-refl side), ap (λ z. z.side) h.0 ∙ asked-out m (asked-connecting m h.1), h.2)
-      put-says (Serving (m ∷ ms)) (entry.Read side room answer) new h named calm want poll =
+      put-says (Serving (m ∷ ms)) (entry.Read side room answer) new h named left want poll =
           let is = (read-called g p s m room h.1).is_room in
           (named side (same_end-refl side), subst (λ n. n ≤ most_at_once) (sym is) (read-most m.side), h.2)
-      put-says (Serving (m ∷ ms)) (entry.Write side offered answer) new h named calm want poll =
+      put-says (Serving (m ∷ ms)) (entry.Write side offered answer) new h named left want poll =
           let is = (write-called g p s m offered h.1).is_offered in
           (named side (same_end-refl side), subst (λ n. n ≤ most_at_once) (sym is) (write-most m.side), h.2)
-      put-says (Dispatching (r ∷ rs)) (entry.Fired side y) new h named calm want poll = absurd (let none : (r ∷ rs) ≡ [] = calm in cc)
-      put-says (Firing x rs) (entry.Asked side a answer) new h named calm want poll = absurd calm
-      put-says (Freeing gone x rs) e new h named calm want poll = absurd calm
-      put-says (Closing (c ∷ cs)) e new h named calm want poll = closed-says c e (closed-kind g p s c e h.0) named h.1
-      put-says _ e new h named calm want poll = absurd h
+      put-says (Dispatching (r ∷ rs)) (entry.Fired side y) new h named left want poll =
+          let own = All-head (ReasonOf g s) r rs left in
+          (named side (same_end-refl side), subst (λ z. FlagsFit z.1) h.0 own.1, h.2)
+      put-says (Firing x rs) (entry.Asked side a answer) new h named left want poll = (named side (same_end-refl side), h.2)
+      put-says (Freeing gone x rs) e new h named left want poll =
+          subst (λ z. Named z → Says g.links (z, bytes)) (sym h.0) (λ own. (own gone (same_end-refl gone), h.1)) named
+      put-says (Closing (c ∷ cs)) e new h named left want poll = closed-says c e (closed-kind g p s c e h.0) named h.1
+      put-says _ e new h named left want poll = absurd h
 
   -- Each entry of a legal trace says so.
-  pub all-say : IsBuilt g → TimeoutsFit g → (t : Trace) → IsLegal g t → (before after : Trace) (y : Event) → t ≡ before ++ y ∷ after →
+  pub all-say : TimeoutsFit g → (t : Trace) → IsLegal g t → (before after : Trace) (y : Event) → t ≡ before ++ y ∷ after →
       Says g.links y
-  all-say built fit t legal before after y is =
+  all-say fit t legal before after y is =
       let k = reaches_split g t legal.0 legal.1 before y after is in
       let c = kept g before k.old k.reached in
       let effect = put-effect g before k.old.stage k.old.plain y.0 y.1 k.new c.counts.shape.sides c.placed k.put in
-      put-says before k.old.plain y.1 (in_connected g built before k.old k.reached) k.old.stage y.0 k.new k.put
+      put-says before k.old.plain y.1 (in_connected g before k.old k.reached) k.old.stage y.0 k.new k.put
       (λ z n. let lt = effect.named z n in let le = c.counts.links in omega (arith, lt, le))
-      (all-calm g built before k.old k.reached).stage (wants_some built before k.old k.reached)
-      (poll-spelled g built fit before k.old k.reached)
+      (waits_are_hooked g before k.old k.reached).left (wants_some before k.old k.reached) (poll-spelled g fit before k.old k.reached)

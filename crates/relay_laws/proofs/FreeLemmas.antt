@@ -1,6 +1,7 @@
 -- Why sides are freed where there are no hooks, no timeouts and no filters.
 use Rattle.std.proofs.Common.{◌≡◌, ℕ, ◌-◌, ◌≤◌, Bool, true, false, List, [], ◌∷◌, ◌++◌, length, Some, None, inl, inr, refl, sym, ◌∙◌, ap, subst, arith, append_assoc, if◌then◌else◌, Option}
 use Rattle.std.specs.Prelude.{All, option_map}
+use Rattle.std.proofs.lemmas.List.Elements.{All-nil, All-push}
 use Rattle.token_bucket.specs.declared.limit.Dir.{Dir}
 use Rattle.token_bucket.specs.declared.limit.Dir.TheVariants as dir
 use Rattle.ev_types.specs.declared.side.SideId.{SideId}
@@ -19,34 +20,32 @@ use Rattle.ev_types.specs.Trace.{Event, Trace}
 use Rattle.relay_model.specs.Trace.{bytes_read, moved_at_free}
 use Rattle.relay_model.specs.Filter.{filter_of}
 use Rattle.relay_model.specs.Flow.{Flow, output}
-use Rattle.relay_model.specs.Settings.{Settings, no_timeouts}
+use Rattle.relay_model.specs.Settings.{Settings, HasNoHooks, no_timeouts}
 use Rattle.relay_model.specs.Plain.{Plain, PlainSide, side_at, flow_at}
 use Rattle.relay_model.specs.Past.{Past, past}
 use Rattle.relay_model.specs.Rooms.{read_kind, write_kind, output_at, output_length}
 use Rattle.relay_model.specs.Moments.{timeout_of}
 use Rattle.relay_model.specs.Close.{CloseStep, fault}
-use Rattle.relay_model.specs.Stages.{Stage, State, at, Between}
-use Rattle.relay_model.specs.Turn.{Reaches, IsLegal}
+use Rattle.relay_model.specs.Stages.{Stage, State, at, Between, Dispatching}
+use Rattle.relay_model.specs.Turn.{Puts, Reaches, IsLegal}
 use Rattle.relay_model.specs.Causes.{IsFirstBad, IsBadPlace, HasCause}
 use Rattle.relay_model.proofs.TotalLemmas.{frees_tell_totals}
 use Rattle.relay_model.proofs.CauseLemmas.{frees_have_causes}
 use Rattle.relay_model.proofs.QuietLemmas.{there}
-use Rattle.relay_model.proofs.KindLemmas.{ClosedKind, closed-kind, PutKind}
-use Rattle.relay_steps.specs.Meaning.{IsBuilt}
-use Rattle.relay_steps.proofs.CalmLemmas.{IsCalm, all-calm}
-use Rattle.relay_laws.specs.Frees.{IsPlainly, IsFreedFor, FreesAreFor}
+use Rattle.relay_model.proofs.KindLemmas.{ClosedKind, closed-kind, PutKind, put-kind}
+use Rattle.relay_model.proofs.ToldLemmas.{kept}
+use Rattle.relay_model.proofs.HooklessLemmas.{Asleep, asleep}
+use Rattle.relay_laws.specs.Plainly.{HasNoFilters}
+use Rattle.relay_laws.specs.Frees.{IsFreedFor, FreesAreFor, is_of_hook, NothingIsOfHooks}
 use Rattle.relay_laws.proofs.PlainlyLemmas.{read_kind-none, write_kind-none}
 use Rattle.relay_laws.proofs.PlainlyLemmas as plain
+use Rattle.relay_laws.proofs.ByteLemmas.{all-at}
 use Rattle.relay_laws.proofs.SettledLemmas.{untimed}
 use Rattle.relay_laws.proofs.OrderLemmas.{AllInOrder, raw_output_at-length, in_order}
 
--- No hook asks
+-- No hook runs
 
-abbrev pub is_ask : Event → Bool
-is_ask (entry.Asked side act answer, bytes) = true
-is_ask _ = false
-
-closed-unasked : (g : Settings) (p : Past) (s : Plain) (c : CloseStep) (e : Entry) → ClosedKind g p s c e → is_ask (e, []) ≡ false
+closed-unasked : (g : Settings) (p : Past) (s : Plain) (c : CloseStep) (e : Entry) → ClosedKind g p s c e → is_of_hook (e, []) ≡ false
 closed-unasked g p s c e (ClosedKind.faulty a b) = refl
 closed-unasked g p s c e (ClosedKind.write_ended a b) = refl
 closed-unasked g p s c e (ClosedKind.in_done a b d f) = refl
@@ -54,36 +53,45 @@ closed-unasked g p s c e ClosedKind.out_done = refl
 closed-unasked g p s c e (ClosedKind.peer_gone a b d) = refl
 closed-unasked g p s c e (ClosedKind.shut a b) = refl
 
-put-unasked : (g : Settings) (t : Trace) (s : Plain) (x : Stage) (y : Event) (new : State) → PutKind g t s x y new → IsCalm x →
-    is_ask y ≡ false
-put-unasked g t s x y new (PutKind.turned a b) h = refl
-put-unasked g t s x y new PutKind.polled h = refl
-put-unasked g t s x y new (PutKind.wanted a) h = refl
-put-unasked g t s x y new PutKind.poll_failed h = refl
-put-unasked g t s x y new (PutKind.readied a) h = refl
-put-unasked g t s x y new PutKind.opened h = refl
-put-unasked g t s x y new (PutKind.checked a) h = refl
-put-unasked g t s x y new (PutKind.was_read left a b) h = refl
-put-unasked g t s x y new (PutKind.written a b c) h = refl
-put-unasked g t s x y new (PutKind.fired a) h = refl
-put-unasked g t s x y new (PutKind.frees a same) h = absurd h
-put-unasked g t s x y new (PutKind.asked same k l) h = absurd h
-put-unasked g t s x y new PutKind.recorded h = refl
-put-unasked g t s x y new (PutKind.closed {c = c} {e = e} a) h = closed-unasked g (past g t) s c e (closed-kind g (past g t) s c e a)
+put-unasked : (g : Settings) (t : Trace) (s : Plain) (x : Stage) (y : Event) (new : State) → PutKind g t s x y new →
+    Puts g t x s y.0 y.1 new →
+    Asleep g x s → is_of_hook y ≡ false
+put-unasked g t s x y new (PutKind.turned a b) put h = refl
+put-unasked g t s x y new PutKind.polled put h = refl
+put-unasked g t s x y new (PutKind.wanted a) put h = refl
+put-unasked g t s x y new PutKind.poll_failed put h = refl
+put-unasked g t s x y new (PutKind.readied a) put h = refl
+put-unasked g t s x y new PutKind.opened put h = refl
+put-unasked g t s x y new (PutKind.checked a) put h = refl
+put-unasked g t s x y new (PutKind.was_read left a b) put h = refl
+put-unasked g t s x y new (PutKind.written a b c) put h = refl
+put-unasked g t s x y new (PutKind.fired {rs = rs} a) put h =
+    let none : rs ≡ [] = h.idle in absurd (subst (λ z. Puts g t (Dispatching z) s y.0 y.1 new) none put)
+put-unasked g t s x y new (PutKind.frees a same) put h = absurd h.idle
+put-unasked g t s x y new (PutKind.asked same k l) put h = absurd h.idle
+put-unasked g t s x y new PutKind.recorded put h = refl
+put-unasked g t s x y new (PutKind.closed {c = c} {e = e} a) put h = closed-unasked g (past g t) s c e (closed-kind g (past g t) s c e a)
 
-pub unasked : (g : Settings) → IsBuilt g → (t : Trace) → IsLegal g t → (before after : Trace) (y : Event) → t ≡ before ++ y ∷ after →
-    is_ask y ≡ false
-unasked g built t legal before after y is =
-    let k = there g t legal.0 legal.1 before y after is in
-    put-unasked g before k.old.plain k.old.stage y k.new k.kind (all-calm g built before k.old k.reached).stage
+all-unasked : (g : Settings) → HasNoHooks g → (t : Trace) (s : State) → Reaches g t s → All (λ y. is_of_hook y ≡ false) t
+all-unasked g none t s Reaches.begins = All-nil (λ y. is_of_hook y ≡ false)
+all-unasked g none t new (Reaches.goes {t = u} {s = old} r h) = all-unasked g none u old r
+all-unasked g none t new (Reaches.puts {t = u} {s = old} e bytes r h) =
+    let y : Event = (e, bytes) in
+    All-push (λ z. is_of_hook z ≡ false) u y (all-unasked g none u old r)
+    (put-unasked g u old.plain old.stage y new (put-kind g u old.stage old.plain e bytes new (kept g u old r).placed h) h
+    (asleep g u old none r))
+
+pub nothing_is_of_hooks : NothingIsOfHooks
+nothing_is_of_hooks g t none legal = all-unasked g none t legal.0 legal.1
 
 -- no free is asked for
-pub not_asked : (g : Settings) → IsBuilt g → (t : Trace) → IsLegal g t → (before early : Trace) (me : SideId) (a : Act) →
+not_asked : (g : Settings) → HasNoHooks g → (t : Trace) → IsLegal g t → (before early : Trace) (me : SideId) (a : Act) →
     (answer : AskAnswer) (y : Event) (after : Trace) → before ≡ early ++ (entry.Asked me a answer, []) ∷ [] → t ≡ before ++ y ∷ after → ⊥
-not_asked g built t legal before early me a answer y after split is =
+not_asked g none t legal before early me a answer y after split is =
     let asked : Event = (entry.Asked me a answer, []) in
     let whole = is ∙ ap (λ z. z ++ y ∷ after) split ∙ append_assoc early (asked ∷ []) (y ∷ after) in
-    let none = unasked g built t legal early (y ∷ after) asked whole in cc
+    let unasked = all-at (λ z. is_of_hook z ≡ false) early asked (y ∷ after)
+    (subst (All (λ z. is_of_hook z ≡ false)) whole (nothing_is_of_hooks g t none legal)) in cc
 
 -- No side times out, and no place is bad
 
@@ -95,13 +103,13 @@ no_first_bad : (k : FilterKind) (xs : List ℕ) (over : Bool) (place : ℕ) → 
 no_first_bad k xs over place e h =
     let none : (filter_of kind.None).bad_at_end xs ≡ Some place = ap (λ z. (filter_of z).bad_at_end xs) (sym e) ∙ h.at_end in cc
 
-no_bad_place : (g : Settings) → IsPlainly g → (t : Trace) (s : Plain) (e : SideId) (place : ℕ) → IsBadPlace g t s e place → ⊥
+no_bad_place : (g : Settings) → HasNoFilters g → (t : Trace) (s : Plain) (e : SideId) (place : ℕ) → IsBadPlace g t s e place → ⊥
 no_bad_place g unset t s e place (inl h) = no_first_bad (read_kind g e.side) _ _ place (read_kind-none g unset e.side) h
 no_bad_place g unset t s e place (inr h) = no_first_bad (write_kind g e.side) _ _ place (write_kind-none g unset e.side) h
 
 -- Nothing waits for a side whose peer is gone
 
-module _ (g : Settings) (unset : IsPlainly g) where
+module _ (g : Settings) (unset : HasNoFilters g) where
   output-taken : (t : Trace) (s : Plain) (e : SideId) → AllInOrder t s →
       length (output_at g (past g t) s e) ≡ (flow_at s (peer e)).moved - (flow_at s (peer e)).turned
   output-taken t s e h =
@@ -175,10 +183,10 @@ frees_are_for g t before after e why moved given bytes unset legal is =
     go cause.Failed is h = h.2
     go cause.PeerGone is h =
         let k = there g t legal.0 legal.1 before (entry.Freed e cause.PeerGone moved given, bytes) after is in
-        (h.0, gone-given g unset before k.old.plain k.old.stage _ k.new k.reached k.kind e moved given refl)
+        (h.0, gone-given g unset.filters before k.old.plain k.old.stage _ k.new k.reached k.kind e moved given refl)
     go cause.Hook is h =
-        not_asked g unset.built t legal before h.early h.me (act.Free e) ask.Ok (entry.Freed e cause.Hook moved given, bytes) after h.is is
+        not_asked g unset.hooks t legal before h.early h.me (act.Free e) ask.Ok (entry.Freed e cause.Hook moved given, bytes) after h.is is
     go cause.Timeout is h =
         let o = h.3 in
         untimely (side_at o.before e) o.dir (untimed g unset o.early (at Between o.before) o.reached e) o.overdue.has_timeout
-    go (cause.Filter place) is h = no_bad_place g unset before h.0 e place h.4
+    go (cause.Filter place) is h = no_bad_place g unset.filters before h.0 e place h.4

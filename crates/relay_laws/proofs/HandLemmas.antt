@@ -2,23 +2,12 @@
 use Rattle.std.proofs.Common.{◌≡◌, ℕ, Bool, true, false, List, refl}
 use Rattle.ev_types.specs.declared.filter.FilterKind.{FilterKind}
 use Rattle.ev_types.specs.declared.filter.FilterKind.TheVariants as kind
-use Rattle.ev_types.specs.declared.side.Side.{Side}
-use Rattle.ev_types.specs.declared.side.Side.TheVariants.{In, Out}
-use Rattle.ev_types.specs.declared.side.SideId.{SideId}
 use Rattle.ev_types.specs.Sides.{other}
 use Rattle.relay_model.specs.Filter.{filter_of}
 use Rattle.relay_model.specs.Flow as flow
-use Rattle.relay_model.specs.Settings.{Settings}
 use Rattle.relay_model.specs.Rooms.{read_kind, write_kind}
-use Rattle.relay_laws.specs.Plainly.{HasNoFilters, PlainlyHandsOn}
-
-reads-none : (g : Settings) → HasNoFilters g → (x : Side) → read_kind g x ≡ kind.None
-reads-none g h In = h.in_read
-reads-none g h Out = h.out_read
-
-writes-none : (g : Settings) → HasNoFilters g → (x : Side) → write_kind g x ≡ kind.None
-writes-none g h In = h.in_write
-writes-none g h Out = h.out_write
+use Rattle.relay_laws.specs.Plainly.{PlainlyHandsOn}
+use Rattle.relay_laws.proofs.PlainlyLemmas.{read_kind-none, write_kind-none}
 
 passes-on : (k l : FilterKind) (ended : Bool) (xs : List ℕ) → k ≡ kind.None → l ≡ kind.None →
     flow.passed (filter_of k) (filter_of l) ended xs ≡ xs
@@ -30,7 +19,8 @@ passes-whole k l xs p q = rw (p, q) refl
 
 pub plainly_hands_on : PlainlyHandsOn
 plainly_hands_on g h e xs = record {
-  passed = λ ended. passes-on (read_kind g e.side) (write_kind g (other e.side)) ended xs (reads-none g h e.side)
-      (writes-none g h (other e.side));
-  whole = passes-whole (read_kind g e.side) (write_kind g (other e.side)) xs (reads-none g h e.side) (writes-none g h (other e.side));
+  passed = λ ended. passes-on (read_kind g e.side) (write_kind g (other e.side)) ended xs (read_kind-none g h e.side)
+      (write_kind-none g h (other e.side));
+  whole =
+      passes-whole (read_kind g e.side) (write_kind g (other e.side)) xs (read_kind-none g h e.side) (write_kind-none g h (other e.side));
 }

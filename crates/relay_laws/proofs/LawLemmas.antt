@@ -1,5 +1,5 @@
 -- A relay that stands for a trace stands for it in the model.
-use Rattle.std.proofs.Common.{◌≡◌, ℕ, ◌<◌, false, List, [], ◌∷◌, ◌++◌, length, map, refl, sym, ◌∙◌, ap, subst, arith, if◌then◌else◌, length-take-le}
+use Rattle.std.proofs.Common.{◌≡◌, ℕ, ◌<◌, false, List, [], ◌∷◌, ◌++◌, length, map, Some, None, refl, sym, ◌∙◌, ap, subst, arith, if◌then◌else◌, length-take-le}
 use Rattle.std.specs.List.{flat_map, list_any}
 use Rattle.std.proofs.lemmas.Bool.{or_parts}
 use Rattle.std.proofs.lemmas.List.{get_or-map, length-map}
@@ -135,6 +135,11 @@ new_relay_stands g built = record {
   many = refl;
   each = λ e lt. absurd (omega (arith, lt));
   built = built;
+  gauged = record {
+    many = refl;
+    each = λ e y is d. absurd (let unset : None ≡ Some y = is in cc);
+    group = λ e. refl;
+  };
 }
 
 pub left_is_legal : LeftIsLegal

@@ -6,6 +6,7 @@ pub mod PlainlyLemmas
 pub mod UnderwayLemmas
 pub mod SideLemmas
 pub mod SettledLemmas
+pub mod TimerLemmas
 pub mod OrderLemmas
 pub mod FreeLemmas
 pub mod ByteLemmas

@@ -17,7 +17,7 @@ use Rattle.ev_types.specs.declared.why.Cause.TheVariants as cause
 use Rattle.ev_types.specs.declared.entry.Entry.TheVariants as entry
 use Rattle.ev_types.specs.Sides.{peer}
 use Rattle.ev_types.specs.Trace.{Event, Trace}
-use Rattle.script_text.specs.TraceLaws.{IsCause, IsEntry}
+use Rattle.script_text.specs.TraceLaws.{IsAct, IsCause, IsEntry}
 use Rattle.relay_model.specs.Trace.{told_moved_by, told_given_by, bytes_read, bytes_given}
 use Rattle.relay_model.specs.Filter.{is_hex, not_hex_from, or_else, odd_end, filter_of}
 use Rattle.relay_model.specs.Flow.{Flow, middle, outcome}
@@ -34,9 +34,10 @@ use Rattle.relay_state.specs.State.{State}
 use Rattle.relay_steps.specs.Meaning.{StandsFor}
 use Rattle.relay_steps.proofs.EndLemmas.{peer-peer}
 use Rattle.relay_steps.proofs.SizeLemmas.{middle-most, outcome-most}
-use Rattle.relay_laws.specs.Spelling.{ReadsFit}
+use Rattle.relay_steps.specs.ToFire.{FlagsFit}
+use Rattle.relay_laws.specs.Spelling.{AskFits, AsksFit, ReadsFit}
 use Rattle.relay_laws.proofs.EventLemmas.{Says}
-use Rattle.relay_laws.proofs.ByteLemmas.{IsByte, AllBytes, outcome-bytes, all-event, all-got, all-took}
+use Rattle.relay_laws.proofs.ByteLemmas.{IsByte, AllBytes, outcome-bytes, all-at, all-event, all-got, all-took}
 
 -- Bad places
 
@@ -87,14 +88,15 @@ FitsLine (entry.Write side offered (write.Took n), bytes) =
     (side.link < 2 ^ 32) × (offered < 2 ^ 64) × (length bytes ≡ n) × (1 ≤ n) × All (λ b. b < 256) bytes
 FitsLine (entry.Write side offered write.NoMemory, bytes) = ⊥
 FitsLine (entry.Write side offered answer, bytes) = (side.link < 2 ^ 32) × (offered < 2 ^ 64) × (bytes ≡ [])
-FitsLine (entry.Fired side why, bytes) = ⊥
-FitsLine (entry.Asked side act answer, bytes) = ⊥
+FitsLine (entry.Fired side why, bytes) = (side.link < 2 ^ 32) × FlagsFit why × (bytes ≡ [])
+FitsLine (entry.Asked side act answer, bytes) = (side.link < 2 ^ 32) × IsAct act × (bytes ≡ [])
 FitsLine (entry.Freed side why moved given, bytes) =
     (side.link < 2 ^ 32) × IsCause why × (moved < 2 ^ 64) × (given < 2 ^ 64) × (bytes ≡ [])
 FitsLine (entry.CloseWrite side, bytes) = (side.link < 2 ^ 32) × (bytes ≡ [])
 FitsLine (entry.Close side, bytes) = (side.link < 2 ^ 32) × (bytes ≡ [])
 
-module _ (t : Trace) (x : Stage) (s : State) (k : StandsFor t x s) (few : s.settings.links ≤ 2 ^ 32) (fit : ReadsFit t) where
+module _ (t : Trace) (x : Stage) (s : State) (k : StandsFor t x s) (few : s.settings.links ≤ 2 ^ 32) (asks : AsksFit t)
+    (fit : ReadsFit t) where
   legal : IsLegal s.settings t
   legal = (at x s.plain, k.reached)
 
@@ -231,8 +233,10 @@ module _ (t : Trace) (x : Stage) (s : State) (k : StandsFor t x s) (few : s.sett
   line-fits before after (entry.Conn side answer, bytes) is h = (below side.link h.0, h.1, h.2)
   line-fits before after (entry.Read side room answer, bytes) is h = read-fits before after side room answer bytes is h
   line-fits before after (entry.Write side offered answer, bytes) is h = write-fits before after side offered answer bytes is h
-  line-fits before after (entry.Fired side why, bytes) is h = absurd h
-  line-fits before after (entry.Asked side act answer, bytes) is h = absurd h
+  line-fits before after (entry.Fired side why, bytes) is h = (below side.link h.0, h.1, h.2)
+  line-fits before after (entry.Asked side act answer, bytes) is h =
+      let y : Event = (entry.Asked side act answer, bytes) in
+      (below side.link h.0, all-at AskFits before y after (subst AsksFit is asks), h.1)
   line-fits before after (entry.Freed side why moved given, bytes) is h = freed-fits before after side why moved given bytes is h
   line-fits before after (entry.CloseWrite side, bytes) is h = (below side.link h.0, h.1)
   line-fits before after (entry.Close side, bytes) is h = (below side.link h.0, h.1)

@@ -14,21 +14,22 @@ use Rattle.relay_model.specs.Trace.{write_closed_by, is_write_closed}
 use Rattle.relay_model.specs.Settings.{Settings}
 use Rattle.relay_model.specs.Plain.{Plain, side_at, is_live}
 use Rattle.relay_model.specs.Close.{CloseStep}
-use Rattle.relay_model.specs.Stages.{Stage, State as ModelState, at, Closing}
+use Rattle.relay_model.specs.Stages.{Stage, State as ModelState, at, Accepting, Freeing, Closing}
 use Rattle.relay_model.specs.Turn.{Reaches}
+use Rattle.relay_model.specs.Answers.{TurnAnswer, LeftAt}
 use Rattle.relay_model.specs.Told.{is_freed, is_freeing}
 use Rattle.relay_model.specs.Totals.{opened}
 use Rattle.relay_model.proofs.EndLemmas.{same_end-eq}
 use Rattle.relay_model.proofs.ToldLemmas.{Kept}
 use Rattle.relay_model.proofs.HeldLemmas.{DoneReady, held}
+use Rattle.relay_model.proofs.HooklessLemmas.{Asleep, asleep}
 use Rattle.relay_model.proofs.CauseLemmas.{frees_have_causes}
 use Rattle.relay_model.proofs.StandsLawLemmas.{closed_is_whole}
 use Rattle.relay_state.specs.State.{State}
 use Rattle.relay_state.specs.Closing.{in_side, out_side}
 use Rattle.relay_state.specs.Counting.{link_count, is_open, open_below}
 use Rattle.relay_steps.specs.Meaning.{StandsFor}
-use Rattle.relay_steps.proofs.CalmLemmas.{all-calm, calm-still}
-use Rattle.relay_laws.specs.Links.{done_by, is_done, lives_in, link_state_in, living_below, LinksAre, LinksAreTold, DoneIsWhole}
+use Rattle.relay_laws.specs.Links.{done_by, is_done, lives_in, link_state_in, living_below, LinksAre, AllRecorded, LinksAreTold, FreesAreRecordedAtOnce, DoneIsWhole}
 use Rattle.relay_laws.proofs.LawLemmas.{told, means_conserved}
 use Rattle.relay_laws.proofs.DoneOrder.{IsOutNext, Ended}
 use Rattle.relay_laws.proofs.DoneLemmas.{joined}
@@ -102,24 +103,58 @@ open-is : (li lo fi fo : Bool) → li ≡ not fi → lo ≡ not fo → (li || lo
 open-is li lo true fo a b = ap (λ z. z || lo) a ∙ b
 open-is li lo false fo a b = ap (λ z. z || lo) a
 
+-- Frees are recorded
+
+idle-recorded : (g : Settings) (x : Stage) (p : Plain) → Asleep g x p → AllRecorded x
+idle-recorded g (Freeing gone f rs) p h e = absurd h.idle
+idle-recorded g _ p h e = refl
+
+may_open-recorded : (g : Settings) (x : Stage) (p : Plain) → LeftAt g TurnAnswer.OpenFault x p → AllRecorded x
+may_open-recorded g (Accepting n marks) p h e = refl
+may_open-recorded g _ p h e = absurd h
+
+may_lack-recorded : (g : Settings) (x : Stage) (p : Plain) → LeftAt g TurnAnswer.Memory x p → AllRecorded x
+may_lack-recorded g (Freeing gone f rs) p h e = absurd h
+may_lack-recorded g _ p h e = refl
+
+-- wherever a turn may answer, every free is recorded
+pub left-recorded : (g : Settings) (answer : TurnAnswer) (x : Stage) (p : Plain) → LeftAt g answer x p → AllRecorded x
+left-recorded g TurnAnswer.Went x p h e = ap (λ z. is_freeing z e) h
+left-recorded g (TurnAnswer.Stopped link) x p h e = ap (λ z. is_freeing z e) h
+left-recorded g TurnAnswer.PollFault x p h e = ap (λ z. is_freeing z e) h
+left-recorded g TurnAnswer.OpenFault x p h e = may_open-recorded g x p h e
+left-recorded g TurnAnswer.Spent x p h e = ap (λ z. is_freeing z e) h
+left-recorded g TurnAnswer.Memory x p h e = may_lack-recorded g x p h e
+
+pub frees_are_recorded_at_once : FreesAreRecordedAtOnce
+frees_are_recorded_at_once t x s k = record {
+  left = λ answer left. left-recorded s.settings answer x s.plain left;
+  hookless = λ none. idle-recorded s.settings x s.plain (asleep s.settings t (at x s.plain) none k.reached);
+}
+
 module _ (t : Trace) (x : Stage) (s : State) (h : StandsFor t x s) where
+  all : Kept s.settings t x s.plain
+  all = told t x s h
+
+  pub links-told : s.plain.opened ≡ opened t
+  links-told = all.counts.shape.opened
+
+  closed-told : (e : SideId) → e.link < s.plain.opened → (side_at s.plain e).write_ended ≡ is_write_closed e t
+  closed-told e lt = (all.each e lt).write_ended
+
+  -- a side whose free is recorded doesn't live
+  pub freed-told : (e : SideId) → e.link < s.plain.opened → is_freed e t ≡ true → is_live s.plain e ≡ false
+  freed-told e lt freed = (all.each e lt).live ∙ ap (λ b. not (b || is_freeing x e)) freed
+
+module _ (t : Trace) (x : Stage) (s : State) (h : StandsFor t x s) (still : AllRecorded x) where
   abbrev p : Plain
   p = s.plain
 
   abbrev g : Settings
   g = s.settings
 
-  all : Kept g t x p
-  all = told t x s h
-
-  still : (e : SideId) → is_freeing x e ≡ false
-  still e = calm-still x e (all-calm g h.built t (at x p) h.reached).stage
-
   pub live-told : (e : SideId) → e.link < p.opened → is_live p e ≡ not (is_freed e t)
-  live-told e lt = (all.each e lt).live ∙ ap not (ap (λ z. is_freed e t || z) (still e) ∙ or-false (is_freed e t))
-
-  closed-told : (e : SideId) → e.link < p.opened → (side_at p e).write_ended ≡ is_write_closed e t
-  closed-told e lt = (all.each e lt).write_ended
+  live-told e lt = ((all t x s h).each e lt).live ∙ ap not (ap (λ z. is_freed e t || z) (still e) ∙ or-false (is_freed e t))
 
   both_done : (k : ℕ) → k < p.opened → is_freed (in_side k) t ≡ true → is_freed (out_side k) t ≡ true →
       ((side_at p (in_side k)).write_ended && (side_at p (out_side k)).write_ended) ≡ (is_done (in_side k) t && is_done (out_side k) t)
@@ -145,7 +180,7 @@ module _ (t : Trace) (x : Stage) (s : State) (h : StandsFor t x s) where
           let one = (and_parts (is_done (in_side k) t) (is_done (out_side k) t) d).0 in
           let closed = done-closed g t (at x p) h.reached (in_side k) one in
           and_from (side_at p (in_side k)).write_ended (side_at p (out_side k)).write_ended
-          (closed-told (in_side k) lt ∙ closed.0) (closed-told (out_side k) lt ∙ closed.1)
+          (closed-told t x s h (in_side k) lt ∙ closed.0) (closed-told t x s h (out_side k) lt ∙ closed.1)
 
   state-told : (k : ℕ) → k < p.opened → (link_count s k).state ≡ link_state_in t k
   state-told k lt =
@@ -163,18 +198,15 @@ module _ (t : Trace) (x : Stage) (s : State) (h : StandsFor t x s) where
       let one : is_open s n ≡ lives_in t n = open-is _ _ (is_freed (in_side n) t) (is_freed (out_side n) t) near far in
       ap (λ z. z + (if is_open s n then 1 else 0)) less ∙ ap (λ b. living_below t n + (if b then 1 else 0)) one
 
-  pub links-told : p.opened ≡ opened t
-  links-told = all.counts.shape.opened
-
   links-are : LinksAre t s
   links-are = record {
-    links = links-told;
-    each = λ k lt. state-told k (let o = links-told in omega (arith, o, lt));
-    living = living-told p.opened (omega arith) ∙ ap (living_below t) links-told;
+    links = links-told t x s h;
+    each = λ k lt. state-told k (let o = links-told t x s h in omega (arith, o, lt));
+    living = living-told p.opened (omega arith) ∙ ap (living_below t) (links-told t x s h);
   }
 
 pub links_are_told : LinksAreTold
-links_are_told t x s h = links-are t x s h
+links_are_told t x s h recorded = links-are t x s h recorded
 
 -- Links that are done
 

@@ -17,7 +17,7 @@ use Rattle.relay_model.specs.Filter.{Filter, filter_of}
 use Rattle.relay_model.specs.Flow.{Flow, no_flow, middle, output, raw_output}
 use Rattle.relay_model.specs.Conserved.{all_moved}
 use Rattle.relay_model.specs.Settings.{Settings}
-use Rattle.relay_model.specs.Plain.{Plain, side_at, flow_at, put_flow, change_side, change_flow, with_link}
+use Rattle.relay_model.specs.Plain.{Plain, side_at, flow_at, put_flow, change_side, change_flow, with_link, freed}
 use Rattle.relay_model.specs.Past.{Past, past}
 use Rattle.relay_model.specs.Rooms.{read_kind, read_filter, write_filter, may_write, write_room, within_rates, at_most, share, allowance, most_at_once, raw_output_at}
 use Rattle.relay_model.specs.Reasons.{happened, error_flag}
@@ -36,8 +36,7 @@ use Rattle.relay_model.proofs.TimeLemmas.{time-flows}
 use Rattle.relay_model.proofs.FireLemmas.{QuietKind, quiet-kind}
 use Rattle.relay_model.proofs.KindLemmas.{PutKind, put-kind}
 use Rattle.relay_model.proofs.ToldLemmas.{kept}
-use Rattle.relay_steps.proofs.CalmLemmas.{IsCalm, all-calm}
-use Rattle.relay_laws.specs.Frees.{IsPlainly}
+use Rattle.relay_laws.specs.Plainly.{HasNoFilters}
 use Rattle.relay_laws.proofs.PlainlyLemmas.{plainly, read_kind-none, write_kind-none, middle-length, raw_output-length}
 
 pub record InOrder (read : List ℕ) (f : Flow) : Type 0 where
@@ -137,7 +136,7 @@ order-flags : (read : List ℕ) (f : Flow) (held done write_done : Bool) → InO
     InOrder read (record f { held = held; read_done = done; write_done = write_done })
 order-flags read f held done write_done h = record { used = h.used; moved = h.moved; turned = h.turned; given = h.given }
 
-module _ (g : Settings) (unset : IsPlainly g) (t : Trace) where
+module _ (g : Settings) (unset : HasNoFilters g) (t : Trace) where
   abbrev p : Past
   p = past g t
 
@@ -228,28 +227,28 @@ module _ (g : Settings) (unset : IsPlainly g) (t : Trace) where
   took-within write.Failed offered bytes c n h = absurd (cc)
   took-within write.NoMemory offered bytes c n h = absurd c
 
-  put-order : (s : Plain) (x : Stage) (y : Event) (new : State) → PutKind g t s x y new → IsCalm x → AllInOrder t s →
+  put-order : (s : Plain) (x : Stage) (y : Event) (new : State) → PutKind g t s x y new → AllInOrder t s →
       AllInOrder (t ++ y ∷ []) new.plain
-  put-order s x y new (PutKind.turned {ms = ms} a b) c h =
+  put-order s x y new (PutKind.turned {ms = ms} a b) h =
       order-event t y s new.plain (time-flows g (past g (t ++ (entry.Turn ms, []) ∷ [])) (turned_to ms s)) h
-  put-order s x y new PutKind.polled c h = order-event t y s s refl h
-  put-order s x y new (PutKind.wanted a) c h = order-event t y s s refl h
-  put-order s x y new PutKind.poll_failed c h = order-event t y s s refl h
-  put-order s x y new (PutKind.readied a) c h = order-event t y s s refl h
-  put-order s x y new (PutKind.opened {connected = connected}) c h =
+  put-order s x y new PutKind.polled h = order-event t y s s refl h
+  put-order s x y new (PutKind.wanted a) h = order-event t y s s refl h
+  put-order s x y new PutKind.poll_failed h = order-event t y s s refl h
+  put-order s x y new (PutKind.readied a) h = order-event t y s s refl h
+  put-order s x y new (PutKind.opened {connected = connected}) h =
       order-event t y (with_link g connected s) (with_link g connected s) refl (order-link connected s h)
-  put-order s x y new (PutKind.checked {side = side} {answer = answer} a) c h =
+  put-order s x y new (PutKind.checked {side = side} {answer = answer} a) h =
       order-event t y s new.plain (conn-flows g side answer s) h
-  put-order s x y new (PutKind.was_read {side = side} {answer = answer} left a b) c h =
+  put-order s x y new (PutKind.was_read {side = side} {answer = answer} left a b) h =
       order-event t y s new.plain (read-flows g side answer s) h
-  put-order s x y new (PutKind.written {side = side} {offered = offered} {answer = answer} {bytes = bytes} a b d) c h =
+  put-order s x y new (PutKind.written {side = side} {offered = offered} {answer = answer} {bytes = bytes} a b d) h =
       order-event t y new.plain new.plain refl
       (order-write side answer s (λ n k. subst (λ z. n ≤ z) b (took-within answer offered bytes d n k)) h)
-  put-order s x y new (PutKind.fired a) c h = order-event t y s s refl h
-  put-order s x y new (PutKind.frees a same) c h = absurd c
-  put-order s x y new (PutKind.asked same k l) c h = absurd c
-  put-order s x y new PutKind.recorded c h = order-event t y s s refl h
-  put-order s x y new (PutKind.closed {c = z} a) c h = order-event t y s new.plain (closed-flows z s) h
+  put-order s x y new (PutKind.fired a) h = order-event t y s s refl h
+  put-order s x y new (PutKind.frees {gone = gone} a same) h = order-event t y s (freed gone s) refl h
+  put-order s x y new (PutKind.asked {after = after} same k l) h = order-event t y s after l h
+  put-order s x y new PutKind.recorded h = order-event t y s s refl h
+  put-order s x y new (PutKind.closed {c = z} a) h = order-event t y s new.plain (closed-flows z s) h
 
   quiet-order : (s : Plain) (x : Stage) (new : State) → QuietKind g t s x new → AllInOrder t s → AllInOrder t new.plain
   quiet-order s x new (QuietKind.moved next k) h = h
@@ -260,10 +259,10 @@ module _ (g : Settings) (unset : IsPlainly g) (t : Trace) where
   quiet-order s x new (QuietKind.looked k) h = h
   quiet-order s x new QuietKind.over h = h
 
-pub in_order : (g : Settings) → IsPlainly g → (t : Trace) (s : State) → Reaches g t s → AllInOrder t s.plain
+pub in_order : (g : Settings) → HasNoFilters g → (t : Trace) (s : State) → Reaches g t s → AllInOrder t s.plain
 in_order g h t s Reaches.begins = λ a. record { used = omega arith; moved = omega arith; turned = omega arith; given = omega arith }
 in_order g h t new (Reaches.goes {t = u} {s = old} r q) =
     quiet-order g h u old.plain old.stage new (quiet-kind g u old.stage old.plain new q) (in_order g h u old r)
 in_order g h t new (Reaches.puts {t = u} {s = old} e bytes r q) =
     put-order g h u old.plain old.stage (e, bytes) new (put-kind g u old.stage old.plain e bytes new (kept g u old r).placed q)
-    (all-calm g h.built u old r).stage (in_order g h u old r)
+    (in_order g h u old r)

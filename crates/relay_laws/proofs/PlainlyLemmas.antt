@@ -8,16 +8,16 @@ use Rattle.relay_model.specs.Filter.{Filter, filter_of}
 use Rattle.relay_model.specs.Flow.{Flow, Fits, middle, outcome, raw_input, input, output, raw_output}
 use Rattle.relay_model.specs.Settings.{Settings}
 use Rattle.relay_model.specs.Rooms.{read_kind, write_kind}
-use Rattle.relay_laws.specs.Frees.{IsPlainly}
+use Rattle.relay_laws.specs.Plainly.{HasNoFilters}
 
 abbrev pub plainly : Filter
 plainly = filter_of kind.None
 
-pub read_kind-none : (g : Settings) → IsPlainly g → (x : Side) → read_kind g x ≡ kind.None
+pub read_kind-none : (g : Settings) → HasNoFilters g → (x : Side) → read_kind g x ≡ kind.None
 read_kind-none g h In = h.in_read
 read_kind-none g h Out = h.out_read
 
-pub write_kind-none : (g : Settings) → IsPlainly g → (x : Side) → write_kind g x ≡ kind.None
+pub write_kind-none : (g : Settings) → HasNoFilters g → (x : Side) → write_kind g x ≡ kind.None
 write_kind-none g h In = h.in_write
 write_kind-none g h Out = h.out_write
 

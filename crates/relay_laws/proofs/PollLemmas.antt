@@ -1,5 +1,6 @@
--- No poll waits longer than the timeouts of the sides: there are no timers, limits and groups to wait for.
-use Rattle.std.proofs.Common.{ℕ, ◌+◌, ◌-◌, ◌^◌, ◌<◌, ◌≤◌, min, Bool, true, false, ◌&&◌, if◌then◌else◌, List, [], ◌∷◌, ◌++◌, map, Some, sym, ap, subst, arith}
+-- No poll waits longer than a number of 64 bits says: timeouts, delays and ticks are shorter.
+use Rattle.std.proofs.Common.{ℕ, ◌+◌, ◌-◌, ◌^◌, ◌<◌, ◌≤◌, min, Bool, true, false, ◌&&◌, if◌then◌else◌, List, [], ◌∷◌, ◌++◌, map, Option, Some, None, arith, ◌*◌, ◌/◌, ◌≡◌, suc, ap, ◌∙◌}
+use Rattle.std.proofs.Math.Nat.{div-mul-le_self, suc-mul}
 use Rattle.std.specs.Prelude.{option_map}
 use Rattle.std.specs.List.{AllByRecursion, flat_map}
 use Rattle.token_bucket.specs.declared.limit.Dir.{Dir}
@@ -8,18 +9,18 @@ use Rattle.ev_types.specs.declared.side.SideId.{SideId}
 use Rattle.ev_types.specs.declared.entry.Entry.TheVariants as entry
 use Rattle.ev_types.specs.Trace.{Trace}
 use Rattle.script_text.specs.TraceLaws.{IsEntry}
-use Rattle.relay_model.specs.Settings.{Settings}
-use Rattle.relay_model.specs.Plain.{Plain, side_at, all_sides}
-use Rattle.relay_model.specs.Rates.{least_with}
+use Rattle.token_bucket.specs.declared.limit.LimitCfg.{LimitCfg}
+use Rattle.relay_model.specs.Settings.{Settings, GroupSet}
+use Rattle.relay_model.specs.Plain.{Plain, Standing, Timer, side_at, all_sides}
+use Rattle.relay_model.specs.Rates.{least_with, next_tick}
 use Rattle.relay_model.specs.Past.{Past, past}
 use Rattle.relay_model.specs.Rooms.{wants}
 use Rattle.relay_model.specs.Moments.{timeout_of, last_activity, is_timed, moment_where, both_ways, expiry, limit_gain, group_gains, moments, earliest, is_pressing, poll_timeout}
 use Rattle.relay_model.specs.Stages.{State}
 use Rattle.relay_model.specs.Turn.{Reaches}
-use Rattle.relay_steps.specs.Meaning.{IsBuilt}
-use Rattle.relay_steps.proofs.CalmLemmas.{all-calm}
 use Rattle.relay_laws.specs.Spelling.{TimeoutsFit}
 use Rattle.relay_laws.proofs.SettledLemmas.{settled}
+use Rattle.relay_laws.proofs.TimerLemmas.{AllNear, timers-near}
 
 -- moments that are near a time
 abbrev AreNear : ℕ → List ℕ → Type 0
@@ -37,6 +38,20 @@ near-where : (n : ℕ) (b : Bool) (m : ℕ) → m < n + 2 ^ 64 → AreNear n (mo
 near-where n true m h = (h, tt)
 near-where n false m h = tt
 
+near-deadlines : (n : ℕ) (ts : List Timer) → AllNear n ts → AreNear n (map (λ x. x.deadline) ts)
+near-deadlines n [] h = tt
+near-deadlines n (x ∷ xs) h = (let a = h.0 in omega (arith, a), near-deadlines n xs h.1)
+
+-- a tick begins within the length of one
+tick-near : (cfg : LimitCfg) (time : ℕ) → next_tick cfg.tick_ms time < time + 2 ^ 64
+tick-near cfg time =
+    let q : ℕ = time / cfg.tick_ms in
+    let on : q + 1 ≡ suc q = omega arith in
+    let next : (q + 1) * cfg.tick_ms ≡ q * cfg.tick_ms + cfg.tick_ms = ap (λ n. n * cfg.tick_ms) on ∙ suc-mul q cfg.tick_ms in
+    let whole = div-mul-le_self time cfg.tick_ms in
+    let short = cfg.tick_within in
+    omega (arith, whole, next, short)
+
 least-below : (n : ℕ) (xs : List ℕ) → least_with n xs ≤ n
 least-below n [] = omega arith
 least-below n (x ∷ xs) = let h = least-below (min n x) xs in omega (arith, h)
@@ -45,7 +60,7 @@ near-spelled : (n : ℕ) (ms : List ℕ) → AreNear n ms → IsEntry (entry.Pol
 near-spelled n [] h = tt
 near-spelled n (x ∷ xs) h = let a = least-below x xs in let b = h.0 in omega (arith, a, b)
 
-module _ (g : Settings) (built : IsBuilt g) (fit : TimeoutsFit g) (t : Trace) (s : State) (r : Reaches g t s) where
+module _ (g : Settings) (fit : TimeoutsFit g) (t : Trace) (s : State) (r : Reaches g t s) where
   abbrev p : Plain
   p = s.plain
 
@@ -54,24 +69,29 @@ module _ (g : Settings) (built : IsBuilt g) (fit : TimeoutsFit g) (t : Trace) (s
 
   activity-near : (e : SideId) (d : Dir) → last_activity (side_at p e) d + timeout_of (side_at p e) d < p.time + 2 ^ 64
   activity-near e dir.Read =
-      let k = settled g built fit t s r e in let a = k.last_read in let b = k.read_ms in omega (arith, a, b)
+      let k = settled g fit t s r e in let a = k.last_read in let b = k.read_ms in omega (arith, a, b)
   activity-near e dir.Write =
-      let k = settled g built fit t s r e in let a = k.last_write in let b = k.write_ms in omega (arith, a, b)
+      let k = settled g fit t s r e in let a = k.last_write in let b = k.write_ms in omega (arith, a, b)
 
   expiry-near : (e : SideId) (d : Dir) → AreNear p.time (expiry g u p e d)
   expiry-near e d =
       near-where p.time (is_timed (side_at p e) d && wants g u p e d) (last_activity (side_at p e) d + timeout_of (side_at p e) d)
       (activity-near e d)
 
-  gain-near : (e : SideId) → AreNear p.time (limit_gain u p e (side_at p e).limit)
-  gain-near e = subst (λ o. AreNear p.time (limit_gain u p e o)) (sym (ap (λ z. z.0) ((all-calm g built t s r).unlimited e))) tt
+  gain-near : (e : SideId) (o : Option Standing) → AreNear p.time (limit_gain u p e o)
+  gain-near e None = tt
+  gain-near e (Some y) = near-where p.time _ (next_tick y.cfg.tick_ms p.time) (tick-near y.cfg p.time)
+
+  groups-near : (n : ℕ) (xs : List GroupSet) → AreNear p.time (group_gains u p n xs)
+  groups-near n [] = tt
+  groups-near n (x ∷ xs) =
+      near-append p.time (moment_where _ (next_tick x.cfg.tick_ms p.time)) (group_gains u p (n + 1) xs)
+      (near-where p.time _ (next_tick x.cfg.tick_ms p.time) (tick-near x.cfg p.time)) (groups-near (n + 1) xs)
 
   moments-near : AreNear p.time (moments g u p)
   moments-near =
-      let timers : AreNear p.time (map (λ x. x.deadline) p.timers) =
-      subst (λ z. AreNear p.time (map (λ x. x.deadline) z)) (sym (ap (λ z. z.0) (all-calm g built t s r).waiting)) tt in
-      let groups : AreNear p.time (group_gains u p 0 g.groups) =
-      subst (λ z. AreNear p.time (group_gains u p 0 z)) (sym built.groups) tt in
+      let timers = near-deadlines p.time p.timers (timers-near g t s r) in
+      let groups = groups-near 0 g.groups in
       let expiries = flat_map (λ e. flat_map (expiry g u p e) both_ways) (all_sides p) in
       let gains = flat_map (λ e. limit_gain u p e (side_at p e).limit) (all_sides p) in
       let deadlines = map (λ x. x.deadline) p.timers in
@@ -80,7 +100,7 @@ module _ (g : Settings) (built : IsBuilt g) (fit : TimeoutsFit g) (t : Trace) (s
       (near-append p.time deadlines expiries timers
       (near-flat p.time (λ e. flat_map (expiry g u p e) both_ways) (λ e. near-flat p.time (expiry g u p e) (expiry-near e) both_ways)
       (all_sides p)))
-      (near-flat p.time (λ e. limit_gain u p e (side_at p e).limit) gain-near (all_sides p)))
+      (near-flat p.time (λ e. limit_gain u p e (side_at p e).limit) (λ e. gain-near e (side_at p e).limit) (all_sides p)))
       groups
 
   pub poll-spelled : IsEntry (entry.Poll (poll_timeout g u p))

@@ -1,4 +1,4 @@
--- Where nothing is set, no side has a timeout; an In side is never connecting; no activity is later than the time.
+-- Where nothing is set, no side has a timeout; an In side is never connecting; no activity is later than the time, and timeouts fit.
 use Rattle.std.proofs.Common.{◌≡◌, ℕ, ◌^◌, ◌<◌, ◌≤◌, Bool, false, refl, arith}
 use Rattle.ev_types.specs.declared.side.Side.{Side}
 use Rattle.ev_types.specs.declared.side.Side.TheVariants.{In, Out}
@@ -9,7 +9,6 @@ use Rattle.relay_model.specs.Plain.{side_at, new_side}
 use Rattle.relay_model.specs.Stages.{State}
 use Rattle.relay_model.specs.Turn.{Reaches}
 use Rattle.relay_model.proofs.PlainLemmas.{is_connected}
-use Rattle.relay_steps.specs.Meaning.{IsBuilt}
 use Rattle.relay_laws.specs.Frees.{IsPlainly}
 use Rattle.relay_laws.specs.Spelling.{TimeoutsFit}
 use Rattle.relay_laws.proofs.SideLemmas.{Looks, looks, all-hold}
@@ -32,7 +31,8 @@ untimed g plainly t s r = all-hold g Untimed (record {
   was_read = λ n e x h. h;
   written = λ n e x h. h;
   connected = λ n e x h. h;
-}) plainly.built t s r
+  asked = λ n e x r w hooked a b h. absurd (hooked plainly.hooks);
+}) t s r
 
 -- In sides
 
@@ -44,16 +44,17 @@ new-connected : (g : Settings) (n turn : ℕ) (x : Side) (connected : Bool) → 
 new-connected g n turn In connected h = refl
 new-connected g n turn Out connected h = absurd (cc)
 
-pub in_connected : (g : Settings) → IsBuilt g → (t : Trace) (s : State) → Reaches g t s → (e : SideId) → e.side ≡ In →
+pub in_connected : (g : Settings) (t : Trace) (s : State) → Reaches g t s → (e : SideId) → e.side ≡ In →
     (side_at s.plain e).connecting ≡ false
-in_connected g built t s r = all-hold g InConnected (record {
+in_connected g t s r = all-hold g InConnected (record {
   later = λ n m e x le h. h;
   unopened = λ n e h. refl;
   fresh = λ n turn e connected h. new-connected g n turn e.side connected h;
   was_read = λ n e x h. h;
   written = λ n e x h. h;
   connected = λ n e x h i. refl;
-}) built t s r
+  asked = λ n e x r w hooked a b h. h;
+}) t s r
 
 -- Last activities and timeouts
 
@@ -70,9 +71,9 @@ new-settled g fit n turn e In connected =
 new-settled g fit n turn e Out connected =
     record { last_read = omega arith; last_write = omega arith; read_ms = fit.out_read; write_ms = fit.out_write }
 
-pub settled : (g : Settings) → IsBuilt g → TimeoutsFit g → (t : Trace) (s : State) → Reaches g t s → (e : SideId) →
+pub settled : (g : Settings) → TimeoutsFit g → (t : Trace) (s : State) → Reaches g t s → (e : SideId) →
     Settled s.plain.time e (looks (side_at s.plain e))
-settled g built fit t s r = all-hold g Settled (record {
+settled g fit t s r = all-hold g Settled (record {
   later = λ n m e x le h. record {
     last_read = let a = h.last_read in omega (arith, a, le);
     last_write = let a = h.last_write in omega (arith, a, le);
@@ -84,4 +85,6 @@ settled g built fit t s r = all-hold g Settled (record {
   was_read = λ n e x h. record { last_read = omega arith; last_write = h.last_write; read_ms = h.read_ms; write_ms = h.write_ms };
   written = λ n e x h. record { last_read = h.last_read; last_write = omega arith; read_ms = h.read_ms; write_ms = h.write_ms };
   connected = λ n e x h. record { last_read = h.last_read; last_write = h.last_write; read_ms = h.read_ms; write_ms = h.write_ms };
-}) built t s r
+  asked = λ n e x r w hooked a b h.
+      record { last_read = omega arith; last_write = omega arith; read_ms = omega (arith, a); write_ms = omega (arith, b) };
+}) t s r

@@ -1,13 +1,18 @@
--- What is so of every side where no hook asks, of its timeouts, its last activity and its connection: it is kept by each step, where it
--- is so of the sides of a new link, of one that was active just now or connected just now, and stays so in time. By induction over the
--- steps.
-use Rattle.std.proofs.Common.{◌≡◌, ℕ, ◌+◌, ◌*◌, ◌≤◌, Bool, true, false, not, nat_lt, nat_le, if◌then◌else◌, List, [], ◌∷◌, ◌++◌, length, fold, inl, inr, sym, subst}
+-- What is so of every side, of its timeouts, its last activity and its connection: it is kept by each step, where it is so of the sides
+-- of a new link, of one that was active just now or connected just now, and of one whose timeouts a hook just asked for, and stays so
+-- in time. By induction over the steps.
+use Rattle.std.proofs.Common.{◌≡◌, ℕ, ◌+◌, ◌*◌, ◌≤◌, Bool, true, false, not, nat_lt, nat_le, if◌then◌else◌, List, [], ◌∷◌, ◌++◌, length, fold, Option, Some, None, inl, inr, refl, sym, ap, subst}
 use Rattle.std.specs.Prelude.{filter}
+use Rattle.std.proofs.lemmas.Bool.{or_parts, ltb-false}
 use Rattle.std.proofs.lemmas.Bool.Decides.{eqb_tells}
 use Rattle.token_bucket.specs.declared.limit.Dir.{Dir}
 use Rattle.token_bucket.specs.declared.limit.Dir.TheVariants as dir
 use Rattle.ev_types.specs.declared.side.Side.TheVariants.{In, Out}
 use Rattle.ev_types.specs.declared.side.SideId.{SideId}
+use Rattle.ev_types.specs.declared.act.Act.{Act}
+use Rattle.ev_types.specs.declared.act.Act.TheVariants as act
+use Rattle.ev_types.specs.declared.answer.AskAnswer.{AskAnswer}
+use Rattle.ev_types.specs.declared.answer.AskAnswer.TheVariants as ask
 use Rattle.ev_types.specs.declared.answer.ConnAnswer.{ConnAnswer}
 use Rattle.ev_types.specs.declared.answer.ConnAnswer.TheVariants as conn
 use Rattle.ev_types.specs.declared.answer.ReadAnswer.{ReadAnswer}
@@ -19,25 +24,25 @@ use Rattle.ev_types.specs.declared.why.Why.TheVariants as why
 use Rattle.ev_types.specs.declared.entry.Entry.TheVariants as entry
 use Rattle.ev_types.specs.Sides.{peer}
 use Rattle.ev_types.specs.Trace.{Event, Trace}
-use Rattle.relay_model.specs.Settings.{Settings, Timeouts}
+use Rattle.relay_model.specs.Settings.{Settings, Timeouts, HasNoHooks}
 use Rattle.relay_model.specs.Plain.{Plain, PlainSide, no_side, new_side, with_link, side_at, put_side, change_side, change_flow, freed, all_sides}
 use Rattle.relay_model.specs.Past.{Past, past}
 use Rattle.relay_model.specs.Rooms.{wants}
 use Rattle.relay_model.specs.Reasons.{raise, raise_read, raise_write, happened, end_flag, error_flag, timeout_flag}
 use Rattle.relay_model.specs.Moments.{is_timed, has_run_out, active_at, expire, both_ways, timers_taken, timed, side_timed, time_passed}
+use Rattle.relay_model.specs.Asks.{most_ms, names_no_live, has_bad_value, names_no_group, has_too_many, refusal, enabled, done, Answered, Ask}
 use Rattle.relay_model.specs.Round.{Part, read_run, write_run, do_part}
 use Rattle.relay_model.specs.Serve.{after_conn, after_read, after_got, after_write}
 use Rattle.relay_model.specs.Close.{CloseStep, closed_by}
 use Rattle.relay_model.specs.Stages.{Stage, State}
-use Rattle.relay_model.specs.Turn.{turned_to, Reaches}
+use Rattle.relay_model.specs.Turn.{turned_to, Puts, Reaches}
 use Rattle.relay_model.proofs.PlainLemmas.{side_at-new, side_at-old, is_connected}
 use Rattle.relay_model.proofs.TimeLemmas.{put-cases}
 use Rattle.relay_model.proofs.KeepsLemmas.{raised, raised_read, raised_write}
 use Rattle.relay_model.proofs.FireLemmas.{QuietKind, quiet-kind}
 use Rattle.relay_model.proofs.KindLemmas.{PutKind, put-kind}
 use Rattle.relay_model.proofs.ToldLemmas.{kept}
-use Rattle.relay_steps.specs.Meaning.{IsBuilt}
-use Rattle.relay_steps.proofs.CalmLemmas.{IsCalm, all-calm}
+use Rattle.relay_model.proofs.HooklessLemmas.{Asleep, asleep}
 
 -- what is looked at of a side
 pub record Looks : Type 0 where
@@ -57,6 +62,19 @@ pub record IsKept (g : Settings) (P : ℕ → SideId → Looks → Type 0) : Typ
   pub was_read : (n : ℕ) (e : SideId) (x : Looks) → P n e x → P n e (record x { last_read = n })
   pub written : (n : ℕ) (e : SideId) (x : Looks) → P n e x → P n e (record x { last_write = n })
   pub connected : (n : ℕ) (e : SideId) (x : Looks) → P n e x → P n e (record x { connecting = false })
+  pub asked : (n : ℕ) (e : SideId) (x : Looks) (read write : ℕ) → (HasNoHooks g → ⊥) → read ≤ most_ms → write ≤ most_ms → P n e x →
+      P n e (record x { timeouts = record { read_ms = read; write_ms = write }; last_read = n; last_write = n })
+
+-- an ask that nothing refuses has no bad value
+pub fine-value : (g : Settings) (s : Plain) (a : Act) → refusal g s a ≡ None → has_bad_value s a ≡ false
+fine-value g s a h = go (names_no_live s a) (has_bad_value s a) (names_no_group g a) (has_too_many s a) h
+  where
+    go : (b c d e : Bool) → (if b then Some ask.NotLive
+        else (if c then Some ask.BadValue else (if d then Some ask.NoGroup else (if e then Some ask.TooManyRefs else None)))) ≡ None →
+        c ≡ false
+    go true c d e h = absurd (cc)
+    go false true d e h = absurd (cc)
+    go false false d e h = refl
 
 -- it holds of all sides
 abbrev pub HoldsOfAll : (ℕ → SideId → Looks → Type 0) → Plain → Type 0
@@ -190,25 +208,61 @@ module _ (g : Settings) (P : ℕ → SideId → Looks → Type 0) (k : IsKept g 
     | inr apart ↦ subst (λ z. P s.time e (looks z)) (sym (side_at-old g connected s e size apart.1)) (h e)
   ]
 
+  -- Asks
+
+  enables : (n : ℕ) (e : SideId) (d : Dir) (on : Bool) (x : PlainSide) → P n e (looks x) → P n e (looks (enabled d on x))
+  enables n e dir.Read on x h = h
+  enables n e dir.Write on x h = h
+
+  holds-done : (p : Past) (a : Act) (s : Plain) → (HasNoHooks g → ⊥) → has_bad_value s a ≡ false → Holds s → Holds (done g p s a)
+  holds-done p (act.Free e) s hooked fine h = holds-freed e s h
+  holds-done p (act.Enable e d) s hooked fine h = holds-put e _ s (enables s.time e d true (side_at s e) (h e)) h
+  holds-done p (act.Disable e d) s hooked fine h = holds-put e _ s (enables s.time e d false (side_at s e) (h e)) h
+  holds-done p (act.Marks e d low high) s hooked fine h = holds-put e _ s (h e) h
+  holds-done p (act.Timeouts e read write) s hooked fine h =
+      let small = or_parts (nat_lt most_ms read) (nat_lt most_ms write) fine in
+      holds-put e _ s
+      (k.asked s.time e (looks (side_at s e)) read write hooked (ltb-false most_ms read small.0) (ltb-false most_ms write small.1) (h e)) h
+  holds-done p (act.Rate e cfg) s hooked fine h = holds-put e _ s (h e) h
+  holds-done p (act.Join e n) s hooked fine h = holds-put e _ s (h e) h
+  holds-done p (act.Leave e) s hooked fine h = holds-put e _ s (h e) h
+  holds-done p (act.Trigger e dir.Read) s hooked fine h = holds-raise_read p e s h
+  holds-done p (act.Trigger e dir.Write) s hooked fine h = holds-raise_write p e s h
+  holds-done p (act.Timer e delay) s hooked fine h = h
+  holds-done p (act.Cancel e) s hooked fine h = h
+  holds-done p (act.Incref e) s hooked fine h = holds-put e _ s (h e) h
+  holds-done p (act.Decref e) s hooked fine h = holds-put e _ s (h e) h
+  holds-done p act.Stop s hooked fine h = h
+
+  holds-asked : (p : Past) (s : Plain) (a : Act) (answer : AskAnswer) (after : Plain) → (HasNoHooks g → ⊥) → Ask g p s a answer after →
+      Holds s → Holds after
+  holds-asked p s a answer after hooked q h = go (refusal g s a) refl q
+    where
+      go : (r : Option AskAnswer) → refusal g s a ≡ r → Answered r g p s a answer after → Holds after
+      go (Some refused) is z = subst Holds (sym z.1) h
+      go None is (inl z) = subst Holds (sym z.1) (holds-done p a s hooked (fine-value g s a is) h)
+      go None is (inr z) = subst Holds (sym z.2) h
+
   -- Steps
 
-  put-holds : (t : Trace) (s : Plain) (x : Stage) (y : Event) (new : State) → PutKind g t s x y new → IsCalm x →
-      length s.sides ≡ 2 * s.opened → Holds s → Holds new.plain
-  put-holds t s x y new (PutKind.turned {ms = ms} a b) c size h =
+  put-holds : (t : Trace) (s : Plain) (x : Stage) (y : Event) (new : State) → PutKind g t s x y new → Puts g t x s y.0 y.1 new →
+      (HasNoHooks g → Asleep g x s) → length s.sides ≡ 2 * s.opened → Holds s → Holds new.plain
+  put-holds t s x y new (PutKind.turned {ms = ms} a b) put idle size h =
       holds-passed (past g (t ++ (entry.Turn ms, []) ∷ [])) (turned_to ms s) (λ e. k.later s.time ms e (looks (side_at s e)) a (h e))
-  put-holds t s x y new PutKind.polled c size h = h
-  put-holds t s x y new (PutKind.wanted a) c size h = h
-  put-holds t s x y new PutKind.poll_failed c size h = h
-  put-holds t s x y new (PutKind.readied a) c size h = h
-  put-holds t s x y new (PutKind.opened {connected = connected}) c size h = holds-link connected s size h
-  put-holds t s x y new (PutKind.checked {side = side} {answer = answer} a) c size h = holds-conn side answer s h
-  put-holds t s x y new (PutKind.was_read {side = side} {answer = answer} left a b) c size h = holds-read side answer s h
-  put-holds t s x y new (PutKind.written {side = side} {answer = answer} a b d) c size h = holds-write (past g t) side answer s h
-  put-holds t s x y new (PutKind.fired a) c size h = h
-  put-holds t s x y new (PutKind.frees a same) c size h = absurd c
-  put-holds t s x y new (PutKind.asked same m l) c size h = absurd c
-  put-holds t s x y new PutKind.recorded c size h = h
-  put-holds t s x y new (PutKind.closed {c = z} a) c size h = holds-closed z s h
+  put-holds t s x y new PutKind.polled put idle size h = h
+  put-holds t s x y new (PutKind.wanted a) put idle size h = h
+  put-holds t s x y new PutKind.poll_failed put idle size h = h
+  put-holds t s x y new (PutKind.readied a) put idle size h = h
+  put-holds t s x y new (PutKind.opened {connected = connected}) put idle size h = holds-link connected s size h
+  put-holds t s x y new (PutKind.checked {side = side} {answer = answer} a) put idle size h = holds-conn side answer s h
+  put-holds t s x y new (PutKind.was_read {side = side} {answer = answer} left a b) put idle size h = holds-read side answer s h
+  put-holds t s x y new (PutKind.written {side = side} {answer = answer} a b d) put idle size h = holds-write (past g t) side answer s h
+  put-holds t s x y new (PutKind.fired a) put idle size h = h
+  put-holds t s x y new (PutKind.frees {gone = gone} a same) put idle size h = holds-freed gone s h
+  put-holds t s x y new (PutKind.asked {a = a} {answer = answer} same m l) put idle size h =
+      subst Holds (sym (ap (λ (z : State). z.plain) put.5)) (holds-asked (past g t) s a answer put.3 (λ none. (idle none).idle) put.4 h)
+  put-holds t s x y new PutKind.recorded put idle size h = h
+  put-holds t s x y new (PutKind.closed {c = z} a) put idle size h = holds-closed z s h
 
   quiet-holds : (t : Trace) (s : Plain) (x : Stage) (new : State) → QuietKind g t s x new → Holds s → Holds new.plain
   quiet-holds t s x new (QuietKind.moved next q) h = h
@@ -219,11 +273,11 @@ module _ (g : Settings) (P : ℕ → SideId → Looks → Type 0) (k : IsKept g 
   quiet-holds t s x new (QuietKind.looked q) h = h
   quiet-holds t s x new QuietKind.over h = h
 
-  pub all-hold : IsBuilt g → (t : Trace) (s : State) → Reaches g t s → Holds s.plain
-  all-hold built t s Reaches.begins = λ e. k.unopened 0 e
-  all-hold built t new (Reaches.goes {t = v} {s = old} r h) =
-      quiet-holds v old.plain old.stage new (quiet-kind g v old.stage old.plain new h) (all-hold built v old r)
-  all-hold built t new (Reaches.puts {t = v} {s = old} e bytes r h) =
+  pub all-hold : (t : Trace) (s : State) → Reaches g t s → Holds s.plain
+  all-hold t s Reaches.begins = λ e. k.unopened 0 e
+  all-hold t new (Reaches.goes {t = v} {s = old} r h) =
+      quiet-holds v old.plain old.stage new (quiet-kind g v old.stage old.plain new h) (all-hold v old r)
+  all-hold t new (Reaches.puts {t = v} {s = old} e bytes r h) =
       let c = kept g v old r in
-      put-holds v old.plain old.stage (e, bytes) new (put-kind g v old.stage old.plain e bytes new c.placed h)
-      (all-calm g built v old r).stage c.counts.shape.sides (all-hold built v old r)
+      put-holds v old.plain old.stage (e, bytes) new (put-kind g v old.stage old.plain e bytes new c.placed h) h
+      (λ none. asleep g v old none r) c.counts.shape.sides (all-hold v old r)

@@ -17,10 +17,11 @@ use Rattle.relay_state.specs.Closing.{in_side, out_side}
 use Rattle.relay_state.specs.Counting.{buffered_at, buffered_below}
 use Rattle.relay_steps.specs.Meaning.{StandsFor}
 use Rattle.relay_steps.proofs.EndLemmas.{peer-peer}
-use Rattle.relay_laws.specs.Frees.{IsPlainly}
+use Rattle.relay_laws.specs.Links.{AllRecorded}
+use Rattle.relay_laws.specs.Plainly.{HasNoFilters}
 use Rattle.relay_laws.specs.Underway.{not_moved, not_taken, underway_at, underway_below, not_given, UnderwayIs, BufferedIsUnderway}
 use Rattle.relay_laws.proofs.LawLemmas.{taken-length}
-use Rattle.relay_laws.proofs.LinkLemmas.{live-told, links-told}
+use Rattle.relay_laws.proofs.LinkLemmas.{live-told, freed-told, links-told}
 use Rattle.relay_laws.proofs.PlainlyLemmas.{read_kind-none, write_kind-none, plainly-held}
 
 module _ (t : Trace) (x : Stage) (s : State) (h : StandsFor t x s) where
@@ -80,7 +81,7 @@ module _ (t : Trace) (x : Stage) (s : State) (h : StandsFor t x s) where
       λ i. less i + near i + far i
 
   -- where filters hand bytes on as they are, a direction holds what was read and not given
-  direction-is : IsPlainly s.settings → (e : SideId) → not_moved t s e + not_taken t s (peer e) ≡ not_given t e
+  direction-is : HasNoFilters s.settings → (e : SideId) → not_moved t s e + not_taken t s (peer e) ≡ not_given t e
   direction-is plainly e =
       let f : Flow = flow_at p e in
       let read = bytes_read e t in
@@ -95,26 +96,26 @@ module _ (t : Trace) (x : Stage) (s : State) (h : StandsFor t x s) where
       let given = taken-length t x s h e in
       ap (λ z. not_moved t s e + z) far ∙ held ∙ ap (λ z. length read - z) (sym given)
 
-  both-are : IsPlainly s.settings → (link : ℕ) → link < p.opened → is_freed (in_side link) t ≡ false →
+  both-are : HasNoFilters s.settings → AllRecorded x → (link : ℕ) → link < p.opened → is_freed (in_side link) t ≡ false →
       is_freed (out_side link) t ≡ false →
       buffered_at s (in_side link) + buffered_at s (out_side link) ≡ not_given t (in_side link) + not_given t (out_side link)
-  both-are plainly link lt near far =
-      let a = holds-live (in_side link) lt (live-told t x s h (in_side link) lt ∙ ap not near) in
-      let b = holds-live (out_side link) lt (live-told t x s h (out_side link) lt ∙ ap not far) in
+  both-are plainly recorded link lt near far =
+      let a = holds-live (in_side link) lt (live-told t x s h recorded (in_side link) lt ∙ ap not near) in
+      let b = holds-live (out_side link) lt (live-told t x s h recorded (out_side link) lt ∙ ap not far) in
       let d = direction-is plainly (in_side link) in
       let e = direction-is plainly (out_side link) in
       omega (arith, a, b, d, e)
 
-  underway-is : UnderwayIs t s
+  underway-is : UnderwayIs t x s
   underway-is =
       let links = links-told t x s h in
       record {
         all = below-is p.opened (omega arith) ∙ ap (underway_below t s) links;
         each = λ e lt. each-is e (omega (arith, links, lt));
-        both = λ plainly link lt near far. both-are plainly link (omega (arith, links, lt)) near far;
+        both = λ plainly recorded link lt near far. both-are plainly recorded link (omega (arith, links, lt)) near far;
         gone = λ e lt freed.
             let here : e.link < p.opened = omega (arith, links, lt) in
-            holds-freed e (live-told t x s h e here ∙ ap not freed);
+            holds-freed e (freed-told t x s h e here freed);
       }
 
 pub buffered_is_underway : BufferedIsUnderway

@@ -11,8 +11,10 @@ use Rattle.ev_types.specs.Trace.{Event, Trace}
 use Rattle.relay_model.specs.Trace.{bytes_read, bytes_given}
 use Rattle.relay_model.specs.Flow.{passed_at_end}
 use Rattle.relay_model.specs.Rooms.{read_filter, write_filter}
+use Rattle.relay_model.specs.Settings.{HasNoHooks}
 use Rattle.relay_model.specs.Stages.{Stage}
-use Rattle.relay_model.specs.Told.{is_freed}
+use Rattle.relay_model.specs.Answers.{TurnAnswer, LeftAt}
+use Rattle.relay_model.specs.Told.{is_freed, is_freeing}
 use Rattle.relay_model.specs.Totals.{opened}
 use Rattle.relay_state.specs.State.{State}
 use Rattle.relay_state.specs.Closing.{in_side, out_side}
@@ -47,9 +49,22 @@ pub record LinksAre (t : Trace) (s : State) : Type 0 where
   pub each : (link : ℕ) → link < opened t → (link_count s link).state ≡ link_state_in t link
   pub living : open_below s s.plain.opened ≡ living_below t (opened t)
 
--- So it is of every trace for which the relay stands.
+-- No side was freed by a hook just now, so that its free is yet to be recorded.
+abbrev pub AllRecorded : Stage → Type 0
+AllRecorded x = (e : SideId) → is_freeing x e ≡ false
+
+-- So it is of every trace for which the relay stands, where all frees are recorded.
 abbrev pub LinksAreTold : Type 0
-LinksAreTold = (t : Trace) (x : Stage) (s : State) → StandsFor t x s → LinksAre t s
+LinksAreTold = (t : Trace) (x : Stage) (s : State) → StandsFor t x s → AllRecorded x → LinksAre t s
+
+-- All frees are recorded wherever a turn may answer; and where no side has a hook, everywhere.
+pub record FreesAreRecorded (t : Trace) (x : Stage) (s : State) : Type 0 where
+  pub left : (answer : TurnAnswer) → LeftAt s.settings answer x s.plain → AllRecorded x
+  pub hookless : HasNoHooks s.settings → AllRecorded x
+
+-- So it is wherever a relay stands.
+abbrev pub FreesAreRecordedAtOnce : Type 0
+FreesAreRecordedAtOnce = (t : Trace) (x : Stage) (s : State) → StandsFor t x s → FreesAreRecorded t x s
 
 -- what the filters of a direction make of all that was read where it begins, with their ends
 abbrev pub passed_from : Trace → State → SideId → List ℕ

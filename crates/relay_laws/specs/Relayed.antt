@@ -1,5 +1,5 @@
 -- What a program says of the trace of a relay's run, in the model's words and in plain ones.
-use Rattle.std.specs.Prelude.{◌≡◌, ℕ, suc, true, List, [], ◌∷◌, ◌++◌, length}
+use Rattle.std.specs.Prelude.{◌≡◌, ◌<◌, ℕ, suc, true, List, [], ◌∷◌, ◌++◌, length}
 use Rattle.ev_types.specs.declared.side.SideId.{SideId}
 use Rattle.ev_types.specs.declared.entry.Entry.TheVariants as entry
 use Rattle.ev_types.specs.declared.why.Cause.{Cause}
@@ -18,6 +18,9 @@ use Rattle.relay_model.specs.Stages.{Stage, at}
 use Rattle.relay_model.specs.Turn.{Reaches}
 use Rattle.relay_model.specs.Answers.{TurnAnswer, LeftAt}
 use Rattle.relay_model.specs.Stands.{AllAccounted}
+use Rattle.relay_model.specs.Bounds.{DirectionWithin}
+use Rattle.relay_model.specs.SoFar.{read_mark_so_far, hold_mark_so_far}
+use Rattle.relay_model.specs.RatesKept.{RatesKept}
 use Rattle.relay_model.specs.Quiet.{IsQuiet}
 use Rattle.relay_model.specs.Causes.{HasCause}
 use Rattle.relay_state.specs.Closing.{in_side, out_side}
@@ -47,11 +50,14 @@ abbrev pub handed_on_whole : Settings → Trace → SideId → List ℕ
 handed_on_whole g t e = passed_at_end (filter_of (read_kind g e.side)) (filter_of (write_kind g (peer e).side)) (bytes_read e t)
 
 -- A run stood so behind a trace: the trace leads to this state at this stage of a turn, and it accounts for every byte in
--- every direction of that state: none was lost, made or changed.
+-- every direction of that state: none was lost, made or changed. In each direction of an opened link the four buffers hold no more than
+-- the marks that stood so far allow.
 pub record StoodAt (g : Settings) (t : Trace) (x : Stage) : Type 0 where
   pub plain : Plain
   pub reached : Reaches g t (at x plain)
   pub accounted : AllAccounted g t plain
+  pub within : (e : SideId) → e.link < plain.opened →
+      DirectionWithin g t plain e (read_mark_so_far g e t) (hold_mark_so_far g (peer e) t)
 
 -- so it stood between two turns
 abbrev pub StoodBetween : Settings → Trace → Type 0
@@ -65,13 +71,15 @@ pub record EndedSo (g : Settings) (answer : TurnAnswer) (t : Trace) : Type 0 whe
 
 -- A relay made this trace, and ended with this answer: the trace is legal, and no byte in it was lost, made or changed: as it ends,
 -- and wherever a turn of it ends. Whatever happened, the bytes given to a side are a prefix of what the filters make of those read
--- from its peer; where writing was ended at a side, they are all of that. Behind the free of a side nothing is done with its end but
--- that it is closed, once; and each free has its cause. The report has a line for each opened link and tells of it.
+-- from its peer; where writing was ended at a side, they are all of that. No side and no group moved more than its limit lets through.
+-- Behind the free of a side nothing is done with its end but that it is closed, once; and each free has its cause. The report has a
+-- line for each opened link and tells of it.
 pub record IsRelayed (g : Settings) (answer : TurnAnswer) (t : Trace) (links : List LinkCount) : Type 0 where
   pub ended : EndedSo g answer t
   pub turn_ends : AtTurnEnds (StoodBetween g) t
   pub begins : (e : SideId) → IsPrefixOf (bytes_given (peer e) t) (handed_on g t e)
   pub whole : (e : SideId) → is_write_closed (peer e) t ≡ true → bytes_given (peer e) t ≡ handed_on_whole g t e
+  pub rates : RatesKept g t
   pub quiet : IsQuiet t
   pub freed : (before after : Trace) (e : SideId) (why : Cause) (moved given : ℕ) (bytes : List ℕ) →
       t ≡ before ++ (entry.Freed e why moved given, bytes) ∷ after → HasCause g before e why

@@ -1,9 +1,10 @@
 -- That the trace of a relay can be spelled as text and read back, as far as what was read fits.
-use Rattle.std.specs.Prelude.{ℕ, ◌+◌, ◌*◌, ◌^◌, ◌<◌, ◌≤◌, List, length, All}
+use Rattle.std.specs.Prelude.{ℕ, ◌+◌, ◌*◌, ◌^◌, ◌<◌, ◌≤◌, ⊤, List, length, All}
 use Rattle.std.specs.List.{flat_map}
 use Rattle.ev_types.specs.declared.side.SideId.{SideId}
-use Rattle.ev_types.specs.Trace.{Trace}
-use Rattle.script_text.specs.TraceLaws.{IsSpellable}
+use Rattle.ev_types.specs.declared.entry.Entry.TheVariants as entry
+use Rattle.ev_types.specs.Trace.{Event, Trace}
+use Rattle.script_text.specs.TraceLaws.{IsAct, IsSpellable}
 use Rattle.relay_model.specs.Trace.{bytes_read}
 use Rattle.relay_model.specs.Settings.{Settings}
 use Rattle.relay_model.specs.Stages.{Stage}
@@ -39,8 +40,17 @@ pub record TimeoutsFit (g : Settings) : Type 0 where
   pub out_read : g.out_timeouts.read_ms < 2 ^ 64
   pub out_write : g.out_timeouts.write_ms < 2 ^ 64
 
+-- the numbers of what a hook asks fit their types
+abbrev pub AskFits : Event → Type 0
+AskFits (entry.Asked me act answer, bytes) = IsAct act
+AskFits _ = ⊤
+
+-- So do those of all asks in a trace.
+abbrev pub AsksFit : Trace → Type 0
+AsksFit t = All AskFits t
+
 -- A trace for which a relay stands can be spelled as text and read back, where what was read fits, links are named by numbers
--- below 2^32, and timeouts fit.
+-- below 2^32, and timeouts and asks fit.
 abbrev pub StoodIsSpellable : Type 0
 StoodIsSpellable = (t : Trace) (x : Stage) (s : State) → StandsFor t x s → s.settings.links ≤ 2 ^ 32 → TimeoutsFit s.settings →
-    ReadsFit t → IsSpellable t
+    AsksFit t → ReadsFit t → IsSpellable t

@@ -14,7 +14,8 @@ use Rattle.relay_state.specs.State.{State}
 use Rattle.relay_state.specs.Closing.{in_side, out_side}
 use Rattle.relay_state.specs.Counting.{buffered_at, buffered_below}
 use Rattle.relay_steps.specs.Meaning.{StandsFor}
-use Rattle.relay_laws.specs.Frees.{IsPlainly}
+use Rattle.relay_laws.specs.Links.{AllRecorded}
+use Rattle.relay_laws.specs.Plainly.{HasNoFilters}
 
 -- what was read from a side's end and not used by its read filter, and what that made and was not moved
 abbrev pub not_moved : Trace → State → SideId → ℕ
@@ -44,15 +45,16 @@ underway_below t s (suc n) = underway_below t s n + underway_at t s (in_side n) 
 abbrev pub not_given : Trace → SideId → ℕ
 not_given t e = length (bytes_read e t) - length (bytes_given (peer e) t)
 
--- The buffers of live sides hold exactly what is under way; a side that was freed holds nothing. Where filters hand bytes on as they
--- are and both sides of a link live, that is what was read at either and not given to the other.
-pub record UnderwayIs (t : Trace) (s : State) : Type 0 where
+-- The buffers of live sides hold exactly what is under way; a side that was freed holds nothing. Where no filter is set, all frees are
+-- recorded and both sides of a link live, that is what was read at either and not given to the other.
+pub record UnderwayIs (t : Trace) (x : Stage) (s : State) : Type 0 where
   pub all : buffered_below s s.plain.opened ≡ underway_below t s (opened t)
   pub each : (e : SideId) → e.link < opened t → buffered_at s e ≡ underway_at t s e
-  pub both : IsPlainly s.settings → (link : ℕ) → link < opened t → is_freed (in_side link) t ≡ false → is_freed (out_side link) t ≡ false →
+  pub both : HasNoFilters s.settings → AllRecorded x → (link : ℕ) → link < opened t → is_freed (in_side link) t ≡ false →
+      is_freed (out_side link) t ≡ false →
       buffered_at s (in_side link) + buffered_at s (out_side link) ≡ not_given t (in_side link) + not_given t (out_side link)
   pub gone : (e : SideId) → e.link < opened t → is_freed e t ≡ true → buffered_at s e ≡ 0
 
 -- So it is of every trace for which the relay stands.
 abbrev pub BufferedIsUnderway : Type 0
-BufferedIsUnderway = (t : Trace) (x : Stage) (s : State) → StandsFor t x s → UnderwayIs t s
+BufferedIsUnderway = (t : Trace) (x : Stage) (s : State) → StandsFor t x s → UnderwayIs t x s

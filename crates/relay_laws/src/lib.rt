@@ -7,8 +7,8 @@ mod trace_laws;
 ghost use Rattle.relay_laws.specs.Laws.{CountsAreTold, LeftIsLegal, MeansConserved, NewRelayStands};
 
 pub use trace_laws::{
-    buffered_is_underway, done_is_whole, frees_are_for, links_are_told, plainly_hands_on,
-    reads_fit_as_scripted, stood_is_spellable,
+    buffered_is_underway, done_is_whole, frees_are_for, frees_are_recorded_at_once, links_are_told,
+    nothing_is_of_hooks, plainly_hands_on, reads_fit_as_scripted, stood_is_spellable,
 };
 
 /// Before the first turn a relay stands for the trace of no entries.

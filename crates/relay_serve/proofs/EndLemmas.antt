@@ -29,7 +29,7 @@ use Rattle.relay_steps.specs.Meaning.{StandsFor, LeftFor}
 use Rattle.relay_laws.specs.Report.{lines_below}
 use Rattle.relay_laws.specs.Relayed.{StoodBetween}
 use Rattle.relay_laws.proofs.LawLemmas.{new_relay_stands}
-use Rattle.relay_laws.proofs.LinkLemmas.{links_are_told}
+use Rattle.relay_laws.proofs.LinkLemmas.{links-told}
 use Rattle.relay_laws.proofs.RelayedLemmas.{relayed-of}
 use Rattle.relay_laws.proofs.TurnEndLemmas.{ends-none}
 use Rattle.relay_drive.specs.declared.fault.DriveFault.{DriveFault}
@@ -162,7 +162,7 @@ module _ (route : Route) (old mid new : Seen) (b : Begun route old mid false) wh
     (
       went-served s w,
       record {
-        all_opened = sym (links_are_told w.added Stage.Between s w.after).links ∙ all.all_opened
+        all_opened = sym (links-told w.added Stage.Between s w.after) ∙ all.all_opened
             ∙ ap (λ (z : Settings). z.links) w.settings;
         none_open = none-live s s.plain.opened all.none_open;
       },

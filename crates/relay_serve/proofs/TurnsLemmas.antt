@@ -28,9 +28,9 @@ use Rattle.run_end.proofs.TurnCountLemmas.{BeginsOnce}
 use Rattle.relay_serve.specs.Seen.{Seen}
 use Rattle.relay_serve.specs.Underway.{TurnsWent, TurnsCut}
 
--- no hook, no rate and no group is set in what words set
+-- no group is set in what words set
 pub built : (g : code.Settings) → IsBuilt (model_settings g)
-built g = record { hooks = refl; in_rate = refl; out_rate = refl; in_group = refl; out_group = refl; groups = refl }
+built g = record { in_group = refl; out_group = refl; groups = refl }
 
 -- a drive went so, and stands for what its turns put
 abbrev pub Standing : Settings → Seen → Seen → DriveValue → Type 0

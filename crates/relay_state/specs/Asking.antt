@@ -1,7 +1,8 @@
--- Hooks: what a turn fires, and what an ask changes.
-use Rattle.std.specs.Prelude.{◌≡◌, ◌⊎◌, ℕ, ◌+◌, ◌≤◌, zero, suc, Bool, true, false, List, [], ◌∷◌, ◌++◌, length, Option, Some, None, min, slice_set}
+-- Hooks: what a turn fires, and what an ask changes. No code of the relay fires one yet.
+use Rattle.std.specs.Prelude.{◌≡◌, ◌⊎◌, ℕ, ◌≤◌, zero, suc, Bool, true, false, List, [], ◌∷◌, ◌++◌, length, Option, Some, None, min, slice_set}
 use Rattle.std.specs.List.{list_any}
 use Rattle.token_bucket.specs.declared.limit.Dir.TheVariants as dir
+use Rattle.token_bucket.specs.declared.limit.LimitCfg.{LimitCfg}
 use Rattle.ev_types.specs.declared.side.SideId.{SideId}
 use Rattle.ev_types.specs.declared.act.Act.{Act}
 use Rattle.ev_types.specs.declared.act.Act.TheVariants as act
@@ -11,6 +12,7 @@ use Rattle.ev_types.specs.declared.entry.Entry.TheVariants as entry
 use Rattle.ev_types.specs.declared.why.Cause.TheVariants as cause
 use Rattle.ev_types.specs.declared.why.Why.{Why}
 use Rattle.ev_types.specs.Trace.{Trace}
+use Rattle.ev_types.specs.Sides.{number}
 use Rattle.relay_model.specs.Due.{Reason, batch}
 use Rattle.relay_model.specs.Plain.{Standing, first_limit, side_at, change_side, is_live}
 use Rattle.relay_model.specs.Past.{Past}
@@ -18,8 +20,6 @@ use Rattle.relay_model.specs.Asks.{done, refusal, may_lack, most_asks}
 use Rattle.relay_model.specs.Close.{freed_entry}
 use Rattle.relay_state.specs.State.{State, with_plain, gauge_at}
 use Rattle.relay_state.specs.Running.{held_at, gauge_set}
-use Rattle.ev_types.specs.Sides.{number}
-use Rattle.token_bucket.specs.declared.limit.LimitCfg.{LimitCfg}
 use Rattle.relay_state.specs.Serving.{raise_read, raise_write}
 use Rattle.relay_state.specs.Closing.{freed}
 
@@ -35,7 +35,7 @@ left_to_fire rs s = record s { batch = rs }
 abbrev pub no_past : Past
 no_past = record { read = λ e. []; turns = λ e d. []; group_turns = λ n d. [] }
 
--- an ask about groups, which no code of the relay answers yet
+-- an ask about groups, of which the state keeps nothing yet
 abbrev pub is_of_group : Act → Bool
 is_of_group (act.Join e n) = true
 is_of_group (act.Leave e) = true

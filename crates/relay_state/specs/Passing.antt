@@ -4,7 +4,7 @@ use Rattle.ev_types.specs.declared.side.SideId.{SideId}
 use Rattle.ev_types.specs.Sides.{peer}
 use Rattle.relay_model.specs.Plain.{Plain, PlainSide, side_at, flow_at, put_flow, change_side, is_live}
 use Rattle.relay_model.specs.Rooms.{read_mark, hold_mark}
-use Rattle.relay_state.specs.State.{State, Lane, lane_at, with_plain, with_lane}
+use Rattle.relay_state.specs.State.{State, lane_at, with_plain, with_lane}
 use Rattle.relay_state.specs.Passage.{Passage, read_part, pass_round, SomeRounds, Passed}
 
 -- the direction that begins at a side

@@ -1,10 +1,10 @@
 -- A bucket as one running number a direction: how many bytes it is short of full. It is never below nothing and has no least value, so
 -- that an overdrawn bucket needs no sign. What it holds is the burst less that.
-use Rattle.std.specs.Prelude.{◌≡◌, Option, Some, None, ℕ, ◌+◌, ◌-◌, ◌≤◌, ◌<◌, ◌*◌, min, List, [], ◌∷◌, ◌++◌, length, drop}
+use Rattle.std.specs.Prelude.{◌≡◌, Option, Some, None, ℕ, ◌+◌, ◌-◌, ◌≤◌, ◌*◌, min, List, [], ◌∷◌, drop}
 use Rattle.token_bucket.specs.declared.limit.Dir.{Dir}
 use Rattle.token_bucket.specs.declared.limit.Dir.TheVariants as dir
 use Rattle.token_bucket.specs.declared.limit.LimitCfg.{LimitCfg}
-use Rattle.relay_model.specs.Plain.{Standing, first_limit}
+use Rattle.relay_model.specs.Plain.{Standing}
 use Rattle.relay_model.specs.Rates.{Limit, limit_of, ticks, Spell, Beat, spells}
 
 -- what a tick or more brings
@@ -21,8 +21,9 @@ abbrev pub Ascend : ℕ → List Spell → ℕ → Type 0
 Ascend from [] time = from ≡ time
 Ascend from (x ∷ xs) time = (from ≤ x.time) × Ascend x.time xs time
 
--- What is kept of a bucket in one direction, step by step.
+-- What is kept of a bucket in one direction, step by step
 
+-- the time of the last of these turns, or this one where there are none
 abbrev pub last_of : ℕ → List Spell → ℕ
 last_of time [] = time
 last_of time (x ∷ xs) = last_of x.time xs
@@ -35,7 +36,6 @@ short_now l set_at held turn bs = short_after l set_at (l.burst - held) (drop tu
 abbrev pub time_now : ℕ → ℕ → List Beat → ℕ
 time_now set_at turn bs = last_of set_at (drop turn (spells bs))
 
-
 -- A side's two buckets: how short each is of full, as they were last brought up to date, and when that was. They are not touched as time
 -- goes on: what a bucket holds at a later time is told by what came since.
 pub record Gauge : Type 0 where
@@ -43,9 +43,11 @@ pub record Gauge : Type 0 where
   pub read : ℕ
   pub write : ℕ
 
+-- what stands for the buckets of a side without a limit
 abbrev pub no_gauge : Gauge
 no_gauge = record { time = 0; read = 0; write = 0 }
 
+-- how short a bucket was then
 abbrev pub short_of : Gauge → Dir → ℕ
 short_of x dir.Read = x.read
 short_of x dir.Write = x.write

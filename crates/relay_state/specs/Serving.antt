@@ -11,11 +11,11 @@ use Rattle.ev_types.specs.declared.answer.WriteAnswer.TheVariants as write
 use Rattle.ev_types.specs.declared.why.Why.TheVariants as why
 use Rattle.ev_types.specs.Sides.{peer}
 use Rattle.relay_model.specs.Flow.{Flow}
-use Rattle.relay_model.specs.Plain.{Plain, side_at, change_side, change_flow}
+use Rattle.relay_model.specs.Plain.{side_at, change_side, change_flow}
 use Rattle.relay_model.specs.Reasons.{raise}
 use Rattle.relay_model.specs.Moments.{active_at}
 use Rattle.relay_model.specs.Serve as model
-use Rattle.relay_state.specs.State.{State, Lane, lane_at, gauges_after, with_plain, with_lane, lane_got, lane_taken}
+use Rattle.relay_state.specs.State.{State, lane_at, gauges_after, with_plain, with_lane, lane_got, lane_taken}
 use Rattle.relay_state.specs.Passing.{read_run}
 use Rattle.relay_state.specs.Rooms.{input_length, output_length}
 

@@ -1,7 +1,6 @@
 -- The state of the relay: what the model keeps of it, and beside each direction its bytes. The changes stand in the files behind.
 use Rattle.std.specs.Prelude.{ℕ, ◌+◌, List, [], ◌++◌, drop, length, slice_index_or, slice_set}
 use Rattle.token_bucket.specs.declared.limit.Dir.{Dir}
-use Rattle.relay_state.specs.Running.{Gauge, no_gauge, gauge_after}
 use Rattle.ev_types.specs.declared.filter.FilterKind.TheVariants as kind
 use Rattle.ev_types.specs.declared.side.SideId.{SideId}
 use Rattle.ev_types.specs.Sides.{number}
@@ -10,6 +9,7 @@ use Rattle.relay_model.specs.Due.{Reason}
 use Rattle.relay_model.specs.Plain.{Plain, nothing_yet, side_at}
 use Rattle.relay_model.specs.Conserved.{Buffers, Running, no_buffers}
 use Rattle.relay_model.specs.FilterStep.{Stepped, begun}
+use Rattle.relay_state.specs.Running.{Gauge, no_gauge, gauge_after}
 
 -- What a direction keeps beside its counts: the bytes on their way, the two filters that run, and how many bytes were read at the
 -- side where it begins, made of them by the read filter, and made of those by the write filter.
@@ -25,7 +25,8 @@ pub record Lane : Type 0 where
 abbrev pub no_lane : Lane
 no_lane = record { buffers = no_buffers; reader = begun kind.None; writer = begun kind.None; read = 0; read_made = 0; write_made = 0 }
 
--- Sides, directions and timers are those of the model's plain state. A lane stands by the number of the side that it begins at.
+-- Sides, directions, timers and due entries are those of the model's plain state. A lane stands by the number of the side that it begins
+-- at.
 pub record State : Type 0 where
   pub settings : Settings
   pub plain : Plain
@@ -37,6 +38,7 @@ pub record State : Type 0 where
 abbrev pub new_state : Settings → State
 new_state settings = record { settings = settings; plain = nothing_yet; lanes = []; batch = []; gauges = [] }
 
+-- the buckets of a side
 abbrev pub gauge_in : List Gauge → SideId → Gauge
 gauge_in xs e = slice_index_or xs (number e) no_gauge
 

@@ -1,9 +1,8 @@
 -- Hooks: a reason is fired, the hook asks of any side, and what the relay stands for goes on.
-use Rattle.std.proofs.Common.{◌≡◌, ◌⊎◌, inl, inr, ◌+◌, ◌-◌, ◌<◌, ◌≤◌, ℕ, Bool, true, false, not, if◌then◌else◌, nat_le, List, [], ◌∷◌, ◌++◌, Option, Some, None, refl, sym, ◌∙◌, ap, subst, arith, append_assoc}
+use Rattle.std.proofs.Common.{◌≡◌, inl, inr, ◌+◌, ◌-◌, ◌<◌, Bool, true, false, not, if◌then◌else◌, nat_le, List, [], ◌∷◌, ◌++◌, Option, Some, None, refl, sym, ◌∙◌, ap, subst, arith, append_assoc}
 use Rattle.std.specs.Prelude.{is_some}
 use Rattle.std.proofs.lemmas.List.{get_or_past}
 use Rattle.std.proofs.lemmas.Bool.Decides.{leb_tells}
-use Rattle.token_bucket.specs.declared.limit.Dir.{Dir}
 use Rattle.token_bucket.specs.declared.limit.Dir.TheVariants as dir
 use Rattle.ev_types.specs.declared.side.SideId.{SideId}
 use Rattle.ev_types.specs.declared.act.Act.{Act}
@@ -14,10 +13,10 @@ use Rattle.ev_types.specs.declared.entry.Entry.TheVariants as entry
 use Rattle.ev_types.specs.declared.why.Cause.TheVariants as cause
 use Rattle.ev_types.specs.declared.why.Why.{Why}
 use Rattle.ev_types.specs.declared.why.Why.TheVariants as why
-use Rattle.ev_types.specs.Sides.{number, peer}
+use Rattle.ev_types.specs.Sides.{number}
 use Rattle.ev_types.specs.Trace.{Event, Trace}
 use Rattle.relay_model.specs.Settings.{Settings}
-use Rattle.relay_model.specs.Due.{Due, Reason, without_reasons}
+use Rattle.relay_model.specs.Due.{Reason, without_reasons}
 use Rattle.relay_model.specs.Plain as plain
 use Rattle.relay_model.specs.Plain.{Plain, PlainSide, no_side, side_at, is_live, change_side, without_timer, placed, Timer}
 use Rattle.relay_model.specs.Past.{Past, past}
@@ -32,7 +31,6 @@ use Rattle.relay_model.proofs.AccountedLemmas.{entries_keep_accounts}
 use Rattle.relay_model.proofs.KeepsLemmas.{raised_read, raised_write}
 use Rattle.relay_model.proofs.RatesTold.{ask-live, not-false}
 use Rattle.relay_state.specs.State.{State, lane_at, with_plain}
-use Rattle.relay_state.specs.Rooms.{input_length, output_length}
 use Rattle.relay_state.specs.Serving.{raise_read, raise_write}
 use Rattle.relay_state.specs.Closing.{freed}
 use Rattle.token_bucket.specs.declared.limit.LimitCfg.{LimitCfg}
@@ -40,9 +38,8 @@ use Rattle.std.specs.Prelude.{slice_set}
 use Rattle.relay_state.specs.Running.{gauge_set}
 use Rattle.relay_state.specs.State.{gauge_at}
 use Rattle.relay_steps.proofs.RateSteps.{change-is, set-fits, set-gauged}
-use Rattle.relay_state.specs.Asking.{left_to_fire, no_past, is_of_group, asked, ask_events}
-use Rattle.relay_steps.specs.Meaning.{LaneFits, StandsFor}
-use Rattle.relay_steps.proofs.EndLemmas.{read-silent, ended-silent, number-below}
+use Rattle.relay_state.specs.Asking.{left_to_fire, is_of_group, asked, ask_events}
+use Rattle.relay_steps.specs.Meaning.{StandsFor}
 use Rattle.relay_steps.proofs.FitLemmas.{fits-same}
 use Rattle.relay_steps.proofs.RoomLemmas.{input_length-is, output_length-is}
 use Rattle.relay_steps.proofs.StillSteps.{IsStill, put-stands, quiet-stands, stands-shape, still-same, still-changed, still-due, still-event}
@@ -77,7 +74,8 @@ fired-stands t s e y rs k live =
     let x : Event = (entry.Fired e y, []) in
     batch-stands (t ++ x ∷ []) (Stage.Firing (begun e) rs) s rs
     (put-stands t (Stage.Dispatching ((e, y) ∷ rs)) (Stage.Firing (begun e) rs) s s.plain (entry.Fired e y) [] k
-    (refl, live, refl, refl) tt (still-event t x s.plain s.plain (still-same t t s.plain (λ a. refl) (λ a. refl) (λ a d. refl)) (λ a. refl) (λ a. refl) (λ a. (refl, refl))))
+    (refl, live, refl, refl) tt (still-event t x s.plain s.plain (still-same t t s.plain (λ a. refl) (λ a. refl) (λ a d. refl))
+    (λ a. refl) (λ a. refl) (λ a. (refl, refl))))
 
 -- A fire ends.
 pub fire_ends-stands : (t : Trace) (s : State) (x : Fire) (rs : List Reason) → StandsFor t (Stage.Firing x rs) s →
@@ -116,7 +114,8 @@ module _ (t : Trace) (s : State) (x : Fire) (rs : List Reason) (k : StandsFor t 
   lacking-stands a ok may =
       put-stands t (Stage.Firing x rs) (after_ask (more x) rs a ask.Memory) s p (entry.Asked x.side a ask.Memory) [] k
       (refl, few, refl, p, subst (λ z. Answered z g P p a ask.Memory p) (sym ok) (inr (refl, may, refl)), refl) tt
-      (still-event t (event a ask.Memory) p p (still-same t t p (λ z. refl) (λ z. refl) (λ a d. refl)) (λ z. refl) (λ z. refl) (λ a. (refl, refl)))
+      (still-event t (event a ask.Memory) p p (still-same t t p (λ z. refl) (λ z. refl) (λ a d. refl)) (λ z. refl) (λ z. refl)
+      (λ a. (refl, refl)))
 
   -- what the model puts where nothing refuses the ask
   ok-puts : (a : Act) → refusal g p a ≡ None →
@@ -128,13 +127,20 @@ module _ (t : Trace) (s : State) (x : Fire) (rs : List Reason) (k : StandsFor t 
       StandsFor (t ++ (entry.Asked x.side a ask.Ok, []) ∷ []) (after_ask (more x) rs a ask.Ok) (with_plain q s)
   still-asked a q ok is still =
       put-stands t (Stage.Firing x rs) (after_ask (more x) rs a ask.Ok) s q (entry.Asked x.side a ask.Ok) [] k
-      (subst (λ z. Puts g t (Stage.Firing x rs) p (entry.Asked x.side a ask.Ok) [] (at (after_ask (more x) rs a ask.Ok) z)) is (ok-puts a ok))
+      (subst (λ z. Puts g t (Stage.Firing x rs) p (entry.Asked x.side a ask.Ok) [] (at (after_ask (more x) rs a ask.Ok) z)) is
+      (ok-puts a ok))
       tt (still-event t (event a ask.Ok) p q still (λ z. refl) (λ z. refl) (λ a. (refl, refl)))
 
   side-asked : (a : Act) (e : SideId) (change : PlainSide → PlainSide) → refusal g p a ≡ None → done g P p a ≡ change_side e change p →
-      ((z : PlainSide) → change z ≡ record z { reads = (change z).reads; writes = (change z).writes; marks = (change z).marks;
-      timeouts = (change z).timeouts; last_read = (change z).last_read; last_write = (change z).last_write;
-      references = (change z).references }) →
+      ((z : PlainSide) → change z ≡ record z {
+        reads = (change z).reads;
+        writes = (change z).writes;
+        marks = (change z).marks;
+        timeouts = (change z).timeouts;
+        last_read = (change z).last_read;
+        last_write = (change z).last_write;
+        references = (change z).references;
+      }) →
       StandsFor (t ++ (entry.Asked x.side a ask.Ok, []) ∷ []) (after_ask (more x) rs a ask.Ok) (with_plain (change_side e change p) s)
   side-asked a e change ok is only =
       still-asked a (change_side e change p) ok is
@@ -145,7 +151,17 @@ module _ (t : Trace) (s : State) (x : Fire) (rs : List Reason) (k : StandsFor t 
       StandsFor (t ++ (entry.Asked x.side a ask.Ok, []) ∷ []) (after_ask (more x) rs a ask.Ok) (with_plain (record p { timers = ts }) s)
   timers-asked a ts ok is =
       still-asked a (record p { timers = ts }) ok is
-      (record { opened = refl; read = λ z. refl; ended = λ z. refl; live = λ z. refl; marked = λ z. refl; flow = λ z. refl; rates = λ z. refl; time = refl; spells = λ z d. refl })
+      (record {
+        opened = refl;
+        read = λ z. refl;
+        ended = λ z. refl;
+        live = λ z. refl;
+        marked = λ z. refl;
+        flow = λ z. refl;
+        rates = λ z. refl;
+        time = refl;
+        spells = λ z d. refl;
+      })
 
   with_where : (b : Bool) (q : Plain) → (if b then with_plain q s else s) ≡ with_plain (if b then q else p) s
   with_where true q = refl
@@ -172,7 +188,8 @@ module _ (t : Trace) (s : State) (x : Fire) (rs : List Reason) (k : StandsFor t 
       (still-due t t p p (reasons.raise_read g P e p) (still-same t t p (λ z. refl) (λ z. refl) (λ a d. refl)) r.0 r.1))
 
   write-asked : (e : SideId) → refusal g p (act.Trigger e dir.Write) ≡ None →
-      StandsFor (t ++ (entry.Asked x.side (act.Trigger e dir.Write) ask.Ok, []) ∷ []) (after_ask (more x) rs (act.Trigger e dir.Write) ask.Ok)
+      StandsFor (t ++ (entry.Asked x.side (act.Trigger e dir.Write) ask.Ok, []) ∷ [])
+      (after_ask (more x) rs (act.Trigger e dir.Write) ask.Ok)
       (raise_write e s)
   write-asked e ok =
       let live = ask-lives (act.Trigger e dir.Write) e ok refl in
@@ -244,7 +261,8 @@ module _ (t : Trace) (s : State) (x : Fire) (rs : List Reason) (k : StandsFor t 
         (append_assoc t (event (act.Free e) ask.Ok ∷ []) ((freed_entry s.plain e cause.Hook, []) ∷ []))
         (put-stands u freeing (Stage.Firing (more x) (without_reasons e rs)) (freed e s) q (freed_entry s.plain e cause.Hook) [] asked_for
         (refl, refl, refl) tt
-        (still-event u (freed_entry s.plain e cause.Hook, []) q q (still-same u u q (λ z. refl) (λ z. refl) (λ a d. refl)) (λ z. refl) (λ z. refl) (λ a. (refl, refl))))
+        (still-event u (freed_entry s.plain e cause.Hook, []) q q (still-same u u q (λ z. refl) (λ z. refl) (λ a d. refl)) (λ z. refl)
+        (λ z. refl) (λ a. (refl, refl))))
 
 -- the stage behind an ask and its entries, with what is left to fire then
 abbrev pub stage_after : Fire → List Reason → Act → AskAnswer → Stage
@@ -252,8 +270,8 @@ stage_after x rs (act.Free e) ask.Ok = Stage.Firing (more x) (without_reasons e 
 stage_after x rs a r = after_ask (more x) rs a r
 
 -- One ask that nothing refuses, of any side: the relay goes on standing for the trace with its entries.
-pub asked-stands : (t : Trace) (s : State) (x : Fire) (rs : List Reason) (a : Act) → StandsFor t (Stage.Firing x rs) s → x.asks < most_asks →
-    is_of_group a ≡ false → refusal s.settings s.plain a ≡ None →
+pub asked-stands : (t : Trace) (s : State) (x : Fire) (rs : List Reason) (a : Act) → StandsFor t (Stage.Firing x rs) s →
+    x.asks < most_asks → is_of_group a ≡ false → refusal s.settings s.plain a ≡ None →
     StandsFor (t ++ ask_events x.side s a ask.Ok) (stage_after x rs a ask.Ok) (asked a s)
 asked-stands t s x rs (act.Free e) k few rate ok = free-stands t s x rs k few e ok
 asked-stands t s x rs (act.Enable e dir.Read) k few rate ok =

@@ -1,6 +1,6 @@
 -- A side that is served has a limit that was set before this turn: links are opened only after the wants of a turn were told, and hooks ask
 -- only once all marks were served. So what is moved falls into a turn that the bucket counts.
-use Rattle.std.proofs.Common.{◌≡◌, ◌≢◌, inl, inr, ℕ, ◌+◌, ◌*◌, ◌<◌, ◌≤◌, Bool, true, false, ◌&&◌, not, if◌then◌else◌, List, [], ◌∷◌, ◌++◌, length, Option, Some, None, refl, sym, ◌∙◌, ap, subst, arith}
+use Rattle.std.proofs.Common.{◌≡◌, ◌≢◌, inl, inr, ℕ, ◌+◌, ◌*◌, ◌<◌, Bool, true, false, ◌&&◌, not, if◌then◌else◌, List, [], ◌∷◌, ◌++◌, length, Option, Some, None, sym, ap, subst, arith}
 use Rattle.std.specs.Prelude.{⊤}
 use Rattle.std.specs.List.{AllByRecursion}
 use Rattle.token_bucket.specs.declared.limit.Dir.{Dir}
@@ -16,15 +16,15 @@ use Rattle.ev_types.specs.declared.entry.Entry.TheVariants as entry
 use Rattle.ev_types.specs.Trace.{Trace}
 use Rattle.relay_model.specs.Settings.{Settings}
 use Rattle.relay_model.specs.Due.{Reason}
-use Rattle.relay_model.specs.Plain.{Plain, Standing, side_at, with_link, is_live}
+use Rattle.relay_model.specs.Plain.{Plain, Standing, side_at, with_link}
 use Rattle.relay_model.specs.Past.{past}
 use Rattle.relay_model.specs.Rates.{side_spells}
 use Rattle.relay_model.specs.Rooms.{Want, wanted, is_connecting}
 use Rattle.relay_model.specs.Moments.{time_passed}
-use Rattle.relay_model.specs.Serve.{marks_left, after_conn, after_read, after_got, after_write}
+use Rattle.relay_model.specs.Serve.{marks_left, after_got}
 use Rattle.relay_model.specs.Stages.{Fire, Halt, Stage, State, at, Between, Polling, Wanting, Marking, Accepting, Serving, Filtering, Dispatching, Firing, Freeing, Passing, Closing, Over, after_ask}
-use Rattle.relay_model.specs.Turn.{turned_to, after_reading, after_fire, Puts, Quietly, Reaches}
-use Rattle.relay_model.proofs.Frames.{SameFrame, frame-same, frame-time_passed, frame-conn, frame-read, frame-write}
+use Rattle.relay_model.specs.Turn.{turned_to, after_reading, Puts, Quietly, Reaches}
+use Rattle.relay_model.proofs.Frames.{SameFrame, frame-time_passed, frame-conn, frame-read, frame-write}
 use Rattle.relay_model.proofs.QuietSteps.{KeptQuietly, kept-after_got}
 use Rattle.relay_model.proofs.PlainLemmas.{side_at-old}
 use Rattle.relay_model.proofs.PlacedLemmas.{AllLive, live-there, wanted-live}
@@ -75,9 +75,14 @@ before-same m n x y same is h = subst (λ z. IsBefore z y) (sym same) (subst (Is
 each-same : (p q : Plain) (ws : List Want) → SameLimits p q → Each p ws → Each q ws
 each-same p q [] same h = tt
 each-same p q (w ∷ ws) same h =
-    let there = h.0.0 in
-    ((omega (arith, there, same.opened), before-same p.turn q.turn (side_at p w.side).limit (side_at q w.side).limit same.turn (same.limits w.side) h.0.1),
-      each-same p q ws same h.1)
+    let there = h.0.0 in (
+      (
+        omega (arith, there, same.opened),
+        before-same p.turn q.turn (side_at p w.side).limit (side_at q w.side).limit same.turn
+            (same.limits w.side) h.0.1,
+      ),
+      each-same p q ws same h.1,
+    )
 
 each-both : (p : Plain) (ws : List Want) → AllBefore p → AllThere p ws → Each p ws
 each-both p [] all there = tt
@@ -93,13 +98,15 @@ there-append p (x ∷ xs) ys h k = (h.0, there-append p xs ys h.1 k)
 
 module _ (g : Settings) where
   -- a link opens: who was there is as it was
-  each-opened : (connected : Bool) (p : Plain) (ws : List Want) → length p.sides ≡ 2 * p.opened → Each p ws → Each (with_link g connected p) ws
+  each-opened : (connected : Bool) (p : Plain) (ws : List Want) → length p.sides ≡ 2 * p.opened → Each p ws →
+      Each (with_link g connected p) ws
   each-opened connected p [] size h = tt
   each-opened connected p (w ∷ ws) size h =
       let there = h.0.0 in
-      let apart : p.opened ≢ w.side.link = λ same. omega (arith, there, same) in
-      ((omega (arith, there), subst (λ z. IsBefore p.turn z.limit) (sym (side_at-old g connected p w.side size apart)) h.0.1),
-        each-opened connected p ws size h.1)
+      let apart : p.opened ≢ w.side.link = λ same. omega (arith, there, same) in (
+        (omega (arith, there), subst (λ z. IsBefore p.turn z.limit) (sym (side_at-old g connected p w.side size apart)) h.0.1),
+        each-opened connected p ws size h.1,
+      )
 
   each-left : (p : Plain) (m : Want) (ms : List Want) → Each p (m ∷ ms) → Each p (marks_left p m ms)
   each-left p m ms h = go (not (is_connecting p m.side) && m.read)
@@ -125,7 +132,8 @@ module _ (g : Settings) where
   begins-before ms t p begun a =
       let q : Plain = time_passed g (past g (t ++ (entry.Turn ms, []) ∷ [])) (turned_to ms p) in
       let same = by-frame (turned_to ms p) q (frame-time_passed g (past g (t ++ (entry.Turn ms, []) ∷ [])) (turned_to ms p)) in
-      before-same (p.turn + 1) q.turn (side_at p a).limit (side_at q a).limit same.turn (same.limits a) (later (side_at p a).limit (begun a))
+      before-same (p.turn + 1) q.turn (side_at p a).limit (side_at q a).limit same.turn (same.limits a)
+      (later (side_at p a).limit (begun a))
     where
       later : (o : Option Standing) → IsBegun p.turn o → IsBefore (p.turn + 1) o
       later None h = tt

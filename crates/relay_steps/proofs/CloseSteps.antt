@@ -107,15 +107,17 @@ module _ (t : Trace) (s : State) where
   kind-stands c cs y lt k called (ClosedKind.faulty {z = e} {why = why} a b) = free-stands c cs e why lt k called refl
   kind-stands c cs y lt k called (ClosedKind.write_ended {z = e} a b) =
       put-stands t (Stage.Closing (c ∷ cs)) (Stage.Closing cs) s (closed_by c s.plain) y [] k (called, refl, refl) tt
-      (still-changed t (t ++ (entry.CloseWrite e, []) ∷ []) s.plain e (λ x. record x { write_ended = true }) (λ x. refl) (λ x. refl) (λ x. refl)
-      (λ z. read-silent t (entry.CloseWrite e, []) z refl) (λ z. ended-silent t (entry.CloseWrite e, []) z refl) (spells-none t (entry.CloseWrite e, []) (λ a. (refl, refl))))
+      (still-changed t (t ++ (entry.CloseWrite e, []) ∷ []) s.plain e (λ x. record x { write_ended = true }) (λ x. refl) (λ x. refl)
+      (λ x. refl) (λ z. read-silent t (entry.CloseWrite e, []) z refl) (λ z. ended-silent t (entry.CloseWrite e, []) z refl)
+      (spells-none t (entry.CloseWrite e, []) (λ a. (refl, refl))))
   kind-stands c cs y lt k called (ClosedKind.in_done {k = n} a b d f) = free-stands c cs (in_side n) cause.Done lt k called refl
   kind-stands c cs y lt k called (ClosedKind.out_done {k = n}) = free-stands c cs (out_side n) cause.Done lt k called refl
   kind-stands c cs y lt k called (ClosedKind.peer_gone {z = e} a b d) = free-stands c cs e cause.PeerGone lt k called refl
   kind-stands c cs y lt k called (ClosedKind.shut {z = e} a b) =
       put-stands t (Stage.Closing (c ∷ cs)) (Stage.Closing cs) s (closed_by c s.plain) y [] k (called, refl, refl) tt
       (still-changed t (t ++ (entry.Close e, []) ∷ []) s.plain e (λ x. record x { closed = true }) (λ x. refl) (λ x. refl) (λ x. refl)
-      (λ z. read-silent t (entry.Close e, []) z refl) (λ z. ended-silent t (entry.Close e, []) z refl) (spells-none t (entry.Close e, []) (λ a. (refl, refl))))
+      (λ z. read-silent t (entry.Close e, []) z refl) (λ z. ended-silent t (entry.Close e, []) z refl)
+      (spells-none t (entry.Close e, []) (λ a. (refl, refl))))
 
 -- a step that is called for is done
 pub closed-stands : (t : Trace) (s : State) (c : CloseStep) (cs : List CloseStep) (y : Entry) → link_of c < s.plain.opened →

@@ -1,14 +1,13 @@
 -- The phase in which hooks run: all that was due is fired, or a hook stops the run.
-use Rattle.std.proofs.Common.{◌≡◌, ℕ, zero, suc, true, false, [], ◌++◌, length, sym, ◌∙◌, ap, subst, append_assoc, append-nil}
+use Rattle.std.proofs.Common.{ℕ, zero, suc, true, false, ◌++◌, sym, ◌∙◌, ap, subst, append_assoc, append-nil}
 use Rattle.ev_types.specs.Trace.{Trace}
-use Rattle.relay_model.specs.Plain.{sides_from}
 use Rattle.relay_model.specs.Stages.{Halt, Stage}
-use Rattle.relay_model.specs.Answers.{TurnAnswer}
 use Rattle.relay_state.specs.State.{State}
-use Rattle.relay_state.specs.Asking.{dispatching, FiresSome, Dispatches, StopsAt}
-use Rattle.relay_steps.specs.Meaning.{StandsFor, LeftFor}
+use Rattle.relay_state.specs.Asking.{dispatching, FiresSome}
+use Rattle.relay_steps.specs.Meaning.{StandsFor}
+use Rattle.relay_steps.specs.HookLaws.{DispatchesAreStoodFor, StopsAreLeft}
 use Rattle.relay_steps.proofs.PollSteps.{served-stands, fired_all-stands}
-use Rattle.relay_steps.proofs.FireSteps.{fire-stands}
+use Rattle.relay_steps.proofs.FireSteps.{fires_are_stood_for}
 
 some-stand : (n : ℕ) (t : Trace) (s new : State) (a : Trace) → StandsFor t (Stage.Dispatching s.batch) s → FiresSome n s a new →
     StandsFor (t ++ a) (Stage.Dispatching new.batch) new
@@ -21,21 +20,19 @@ some-stand (suc n) t s new a k h =
     let back = h.2 in
     let before = some-stand n t s mid front k h.3 in
     subst (λ z. StandsFor z (Stage.Dispatching new.batch) new) (append_assoc t front back ∙ ap (λ z. t ++ z) (sym h.5))
-    (fire-stands false (t ++ front) mid new back before h.4)
+    (fires_are_stood_for false (t ++ front) mid new back before h.4)
 
 -- behind serving, all that was due is fired, and passing follows
-pub dispatched-stands : (t : Trace) (s new : State) (a : Trace) → StandsFor t (Stage.Serving []) s → Dispatches s a new →
-    StandsFor (t ++ a) (Stage.Passing [] (sides_from 0 new.plain.opened)) new
-dispatched-stands t s new a k h =
-    fired_all-stands (t ++ a) new
-    (subst (λ z. StandsFor (t ++ a) (Stage.Dispatching z) new) h.over (some-stand h.many t (dispatching s) new a (served-stands t s k) h.fires))
+pub dispatches_are_stood_for : DispatchesAreStoodFor
+dispatches_are_stood_for t s new a k h =
+    let fired = some-stand h.many t (dispatching s) new a (served-stands t s k) h.fires in
+    fired_all-stands (t ++ a) new (subst (λ z. StandsFor (t ++ a) (Stage.Dispatching z) new) h.over fired)
 
 -- or the run ends with a hook of this link
-pub stopped-leaves : (link : ℕ) (t : Trace) (s new : State) (a : Trace) → StandsFor t (Stage.Serving []) s → StopsAt link s a new →
-    LeftFor (TurnAnswer.Stopped link) (t ++ a) new
-stopped-leaves link t s new a k h =
+pub stops_are_left : StopsAreLeft
+stops_are_left link t s new a k h =
     let before = some-stand h.many t (dispatching s) h.middle h.front (served-stands t s k) h.fires in
-    let last = fire-stands true (t ++ h.front) h.middle new h.back before h.last in
+    let last = fires_are_stood_for true (t ++ h.front) h.middle new h.back before h.last in
     record {
       stage = Stage.Over (Halt.StoppedBy h.last.side.link);
       stands = subst (λ z. StandsFor z (Stage.Over (Halt.StoppedBy h.last.side.link)) new)

@@ -7,7 +7,6 @@ use Rattle.ev_types.specs.declared.side.SideId.{SideId}
 use Rattle.ev_types.specs.Sides.{other, peer, half, number, same_end}
 use Rattle.ev_types.specs.Trace.{Event, Trace}
 use Rattle.relay_model.specs.Trace.{read_by, given_by, ended_by, told_moved_by, told_given_by, write_closed_by, bytes_read, bytes_given, has_ended, moved_at_free, given_at_free, is_write_closed}
-use Rattle.relay_model.specs.Stands.{IsUntold}
 use Rattle.relay_model.proofs.EndLemmas.{same_end-eq}
 use Rattle.relay_model.proofs.TraceLemmas.{bytes_read-push, bytes_given-push, moved_at_free-push, given_at_free-push, has_ended-push, is_write_closed-push}
 use Rattle.std.proofs.Math.Bool.{or-false}
@@ -44,9 +43,6 @@ peer-apart e h = differ e.side (ap (λ z. half z.side) h)
     differ : (s : Side) → half (other s) ≡ half s → ⊥
     differ In e = absurd (omega (arith, e))
     differ Out e = absurd (omega (arith, e))
-
-pub link-apart : (a b : SideId) → a.link ≢ b.link → a ≢ b
-link-apart a b h = λ e. h (ap (λ z. z.link) e)
 
 pub peer-moves : (a e : SideId) → a ≢ peer e → peer a ≢ e
 peer-moves a e h = λ k. h (sym (peer-peer a) ∙ ap peer k)
@@ -118,13 +114,3 @@ module _ (t : Trace) (x : Event) (e : SideId) where
     given_free = given_free-silent s.given_free;
     closed = closed-silent s.closed;
   }
-
-pub untold-same : (t u : Trace) (e : SideId) → SameTold t u e → IsUntold t e → IsUntold u e
-untold-same t u e s n = record {
-  read = s.read ∙ n.read;
-  given = s.given ∙ n.given;
-  ended = s.ended ∙ n.ended;
-  moved_at_free = s.moved ∙ n.moved_at_free;
-  given_at_free = s.given_free ∙ n.given_at_free;
-  write_closed = s.closed ∙ n.write_closed;
-}

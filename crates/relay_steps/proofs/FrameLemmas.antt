@@ -24,7 +24,7 @@ use Rattle.relay_model.specs.Round.{Part, parts_of}
 use Rattle.relay_model.specs.Turn.{turned_to}
 use Rattle.relay_state.specs.State.{State, Lane, no_lane, lane_at, with_plain, with_lane, lane_got, lane_moved, lane_taken, lane_left, lane_lost}
 use Rattle.relay_state.specs.Passage.{Passage, pass_part, pass_round, rounds}
-use Rattle.relay_state.specs.Passing.{passage_at, with_passage, round_from, PassedFrom, PartlyPassed, read_run}
+use Rattle.relay_state.specs.Passing.{passage_at, with_passage, round_from, PassedFrom, read_run}
 use Rattle.relay_state.specs.Rooms.{wants, input_length, output_length}
 use Rattle.relay_state.specs.Serving.{raise_read, raise_write, after_conn, with_got, after_got, after_read, with_taken, after_took, after_write}
 use Rattle.relay_state.specs.Closing.{closed, freed, in_side, out_side}
@@ -68,9 +68,6 @@ pub record Frame (s new : State) : Type 0 where
 
 pub frame-same : (s : State) → Frame s s
 frame-same s = record { settings = refl; opened = refl; time = refl; turn = refl; reads = λ n k. k }
-
-pub frame-is : (s new : State) → new ≡ s → Frame s new
-frame-is s new h = subst (Frame s) (sym h) (frame-same s)
 
 pub frame-then : (a b c : State) → Frame a b → Frame b c → Frame a c
 frame-then a b c f g = record {
@@ -185,11 +182,6 @@ from-read s e y = round-read _ _ _ _ _ y
 
 pub frame-passed : (s : State) (e : SideId) (new : State) → PassedFrom s e new → Frame s new
 frame-passed s e new h =
-    subst (Frame s) (sym h.2) (frame-passage s e h.0
-    (ap (λ (y : Passage). y.lane.read) h.1.1 ∙ rounds-read h.1.0 (round_from s e) (passage_at s e) (from-read s e)))
-
-pub frame-partly : (s : State) (e : SideId) (new : State) → PartlyPassed s e new → Frame s new
-frame-partly s e new h =
     subst (Frame s) (sym h.2) (frame-passage s e h.0
     (ap (λ (y : Passage). y.lane.read) h.1.1 ∙ rounds-read h.1.0 (round_from s e) (passage_at s e) (from-read s e)))
 

@@ -1,6 +1,5 @@
 -- What is kept of a side's buckets, step by step, is what the model has by the least over all turns.
-use Rattle.std.proofs.Common.{◌≡◌, ℕ, suc, ◌+◌, ◌-◌, ◌*◌, ◌/◌, ◌<◌, ◌≤◌, Bool, true, false, min, List, [], ◌∷◌, ◌++◌, length, length-append, map, drop, Option, Some, None, refl, sym, ◌∙◌, ap, subst, arith}
-use Rattle.std.specs.Prelude.{option_map}
+use Rattle.std.proofs.Common.{◌≡◌, ℕ, suc, ◌+◌, ◌-◌, ◌*◌, ◌/◌, ◌<◌, ◌≤◌, min, List, [], ◌∷◌, ◌++◌, length, length-append, drop, refl, sym, ◌∙◌, ap, subst, arith}
 use Rattle.std.proofs.lemmas.List.{map-append, drop_all}
 use Rattle.token_bucket.specs.declared.limit.Dir.{Dir}
 use Rattle.token_bucket.specs.declared.limit.Dir.TheVariants as dir
@@ -9,14 +8,15 @@ use Rattle.ev_types.specs.declared.side.SideId.{SideId}
 use Rattle.ev_types.specs.declared.entry.Entry.TheVariants as entry
 use Rattle.ev_types.specs.Trace.{Event, Trace}
 use Rattle.relay_model.specs.Settings.{Settings}
-use Rattle.relay_model.specs.Plain.{Plain, Standing, first_limit, side_at}
-use Rattle.relay_model.specs.Past.{Past, past}
-use Rattle.relay_model.specs.Rooms as model
+use Rattle.relay_model.specs.Plain.{Plain, Standing, first_limit}
+use Rattle.relay_model.specs.Past.{past}
 use Rattle.relay_model.specs.Asks.{next_limit}
-use Rattle.relay_model.specs.Rates.{Limit, limit_of, Spell, Beat, Begins, Moves, spells, moved_by, beat_of, side_spells, held_as_set, standing_level, level}
-use Rattle.relay_state.specs.Running.{refilled, short_after, Ascend, last_of, short_now, time_now, Gauge, short_of, short_at, held_at, brought, spent_by, first_gauge, next_gauge}
+use Rattle.relay_model.specs.Rates.{Limit, limit_of, Spell, Beat, Begins, Moves, spells, beat_of, side_spells, held_as_set, standing_level}
+use Rattle.relay_state.specs.Running.{refilled, short_after, Ascend, short_now, time_now, Gauge, short_of, short_at, held_at, spent_by, first_gauge, next_gauge}
 use Rattle.relay_steps.specs.Gauges.{beats, short_by, BucketFits}
-use Rattle.relay_steps.proofs.BucketLemmas.{running-is_least, gain-join, ascend-le}
+use Rattle.relay_state.specs.State.{gauge_at}
+use Rattle.relay_steps.specs.BucketLaws.{GaugesTellLevels}
+use Rattle.relay_steps.proofs.BucketLemmas.{running_is_least, gain-join}
 use Rattle.relay_steps.proofs.RunSteps.{turn-step, move-step, none-step, drop-added, spells-moves, spells-begins, drop-begins, ascend-added, ascend-push, ascend-last, added}
 
 -- What the bucket holds is what the model says.
@@ -24,7 +24,7 @@ pub held-is : (t : Trace) (time : ℕ) (y : Standing) (e : SideId) (x : Gauge) (
     held_at y.cfg x d time ≡ standing_level y d (side_spells e d t) time
 held-is t time y e x d k =
     ap (λ n. (limit_of y.cfg d).burst - n) k.short
-    ∙ sym (running-is_least (limit_of y.cfg d) y.time (held_as_set y d) (drop y.turn (side_spells e d t)) time k.ticks k.held k.ascend)
+    ∙ sym (running_is_least (limit_of y.cfg d) y.time (held_as_set y d) (drop y.turn (side_spells e d t)) time k.ticks k.held k.ascend)
 
 -- where the trace has the same turns for it
 pub bucket-same : (t u : Trace) (time : ℕ) (y : Standing) (e : SideId) (x : Gauge) (d : Dir) → side_spells e d u ≡ side_spells e d t →
@@ -51,7 +51,8 @@ pub bucket-turn : (t : Trace) (ms : ℕ) (bytes : List ℕ) (time : ℕ) (y : St
 bucket-turn t ms bytes time y e x d later k =
     let l : Limit = limit_of y.cfg d in
     let bs : List Beat = beats e d t in
-    let all : beats e d (t ++ (entry.Turn ms, bytes) ∷ []) ≡ bs ++ Begins ms ∷ [] = map-append (beat_of e d) t ((entry.Turn ms, bytes) ∷ []) in
+    let all : beats e d (t ++ (entry.Turn ms, bytes) ∷ []) ≡ bs ++ Begins ms ∷ [] =
+    map-append (beat_of e d) t ((entry.Turn ms, bytes) ∷ []) in
     let gain = gain-join l x.time time ms k.ticks k.kept later in
     let now : time_now y.time y.turn bs ≡ time = ascend-last y.time (drop y.turn (spells bs)) time k.ascend in
     let split : short_at y.cfg x d ms ≡ refilled l time ms (short_at y.cfg x d time) = omega (arith, gain) in
@@ -62,7 +63,11 @@ bucket-turn t ms bytes time y e x d later k =
           ∙ ap (λ z. refilled l z ms (short_by y e d t)) (sym now)
           ∙ sym (turn-step l y.time (held_as_set y d) y.turn bs ms k.turn)
           ∙ ap (short_now l y.time (held_as_set y d) y.turn) (sym all);
-      turn = (let n = ap length whole in let m = length-append (spells bs) (record { time = ms; moved = 0 } ∷ []) in let z = k.turn in omega (arith, n, m, z));
+      turn =
+          let n = ap length whole in
+          let m = length-append (spells bs) (record { time = ms; moved = 0 } ∷ []) in
+          let z = k.turn in
+          omega (arith, n, m, z);
       held = k.held;
       ascend = subst (λ z. Ascend y.time z ms) (sym (ap (drop y.turn) (ap spells all) ∙ drop-begins y.turn ms bs k.turn))
           (ascend-push y.time (drop y.turn (spells bs)) time ms later k.ascend);
@@ -102,8 +107,12 @@ bucket-moved t v n time y e x d moved before fresh k =
         let p = ap (λ q. l.rate * q) w in omega (arith, p)
 
     spending : (d : Dir) → short_at y.cfg (spent_by d n x) d time ≡ short_at y.cfg x d time + n
-    spending dir.Read = no-ticks (limit_of y.cfg dir.Read) x.time time fresh (x.read + n) ∙ ap (λ z. z + n) (sym (no-ticks (limit_of y.cfg dir.Read) x.time time fresh x.read))
-    spending dir.Write = no-ticks (limit_of y.cfg dir.Write) x.time time fresh (x.write + n) ∙ ap (λ z. z + n) (sym (no-ticks (limit_of y.cfg dir.Write) x.time time fresh x.write))
+    spending dir.Read =
+        no-ticks (limit_of y.cfg dir.Read) x.time time fresh (x.read + n)
+        ∙ ap (λ z. z + n) (sym (no-ticks (limit_of y.cfg dir.Read) x.time time fresh x.read))
+    spending dir.Write =
+        no-ticks (limit_of y.cfg dir.Write) x.time time fresh (x.write + n)
+        ∙ ap (λ z. z + n) (sym (no-ticks (limit_of y.cfg dir.Write) x.time time fresh x.write))
 
     spent-time : (d : Dir) → (spent_by d n x).time ≤ time
     spent-time dir.Read = omega (arith, fresh)
@@ -157,15 +166,6 @@ bucket-next g t s was cfg e x many k dir.Write =
     bucket-set t s.time (next_limit (past g t) s e was cfg) e (next_gauge was.cfg cfg s.time x) dir.Write refl (many dir.Write)
     (omega arith) refl (ap (λ n. cfg.write_burst - min n cfg.write_burst) (held-is t s.time was e x dir.Write (k dir.Write)))
 
--- The relay's allowance of a side is the model's.
-abbrev pub allowance : Plain → Gauge → SideId → Dir → Option ℕ
-allowance p x e d = option_map (λ y. held_at y.cfg x d p.time) (side_at p e).limit
-
-pub allowance-is : (g : Settings) (t : Trace) (p : Plain) (x : Gauge) (e : SideId) (d : Dir) →
-    ((y : Standing) → (side_at p e).limit ≡ Some y → BucketFits t p.time y e x d) → allowance p x e d ≡ model.allowance (past g t) p e d
-allowance-is g t p x e d k = by_limit (side_at p e).limit refl
-  where
-    by_limit : (o : Option Standing) → (side_at p e).limit ≡ o →
-        option_map (λ y. held_at y.cfg x d p.time) o ≡ option_map (λ y. standing_level y d (side_spells e d t) p.time) o
-    by_limit None is = refl
-    by_limit (Some y) is = ap Some (held-is t p.time y e x d (k y is))
+-- So it is where a relay stands.
+pub gauges_tell_levels : GaugesTellLevels
+gauges_tell_levels t x s k e y is d = held-is t s.plain.time y e (gauge_at s e) d (k.gauged.each e y is d)

@@ -30,6 +30,7 @@ pub mod RateSteps
 pub mod AskSteps
 pub mod FireSteps
 pub mod HookedLemmas
+pub mod HookedSteps
 pub mod DispatchSteps
 pub mod LaneSteps
 pub mod ServeSteps

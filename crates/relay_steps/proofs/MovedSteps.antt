@@ -1,5 +1,5 @@
 -- Bytes are moved at a side that is served: its bucket is spent, and all others go on as they were.
-use Rattle.std.proofs.Common.{◌≡◌, ◌≢◌, ℕ, ◌<◌, ◌≤◌, ◌*◌, Option, Some, None, List, [], ◌∷◌, ◌++◌, length, refl, sym, ◌∙◌, ap, subst, arith, inl, inr}
+use Rattle.std.proofs.Common.{◌≡◌, ◌≢◌, ℕ, ◌<◌, ◌*◌, Some, [], ◌∷◌, ◌++◌, length, refl, sym, ◌∙◌, ap, subst, arith, inl, inr}
 use Rattle.std.proofs.lemmas.Bool.Decides.{eqb_tells}
 use Rattle.std.proofs.lemmas.List.{length-set, get_or-set_same, get_or-set_other}
 use Rattle.token_bucket.specs.declared.limit.Dir.{Dir}
@@ -59,7 +59,8 @@ module _ (t : Trace) (v : Event) (n : ℕ) (e : SideId) (d : Dir) (s : State) (m
       BucketFits (t ++ v ∷ []) s.plain.time y e (spent_by d n (brought y.cfg s.plain.time x)) f
   fits-both f y x before k apart =
       fits-across (t ++ v ∷ []) s.plain.time y e (brought y.cfg s.plain.time x) d f n apart
-      (bucket-silent t v s.plain.time y e (brought y.cfg s.plain.time x) f (moves.across f apart) (fits-brought t s.plain.time y e x f (k f)))
+      (bucket-silent t v s.plain.time y e (brought y.cfg s.plain.time x) f (moves.across f apart)
+      (fits-brought t s.plain.time y e x f (k f)))
 
   either : (f : Dir) (y : Standing) (x : Gauge) → y.turn < length (side_spells e d t) → ((f : Dir) → BucketFits t s.plain.time y e x f) →
       BucketFits (t ++ v ∷ []) s.plain.time y e (spent_by d n (brought y.cfg s.plain.time x)) f

@@ -224,7 +224,8 @@ module _ (t : Trace) (x : Stage) (s : State) (k : StandsFor t x s) (connected : 
       | inl here ↦ new-gauged e here.1 (rate_set g e.side) refl y is d
       | inr apart ↦
           subst (λ z. BucketFits u p.time y e z d) (sym (gauge-old e apart.1))
-          (bucket-silent t (entry.Opened p.opened connected, []) p.time y e (gauge_at s e) d (beat-none (entry.Opened p.opened connected, []) (λ a. (refl, refl)) e d)
+          (bucket-silent t (entry.Opened p.opened connected, []) p.time y e (gauge_at s e) d
+          (beat-none (entry.Opened p.opened connected, []) (λ a. (refl, refl)) e d)
           (k.gauged.each e y (sym (ap (λ z. z.limit) (side_at-old g connected p e counts.0 apart.1)) ∙ is) d))
     ];
     group = λ e. elim (eqb_tells p.opened e.link) [

@@ -94,9 +94,6 @@ module _ (g : Settings) (t : Trace) (x : Stage) (p : Plain) (r : Reaches g t (at
   pub far-inside : number (peer e) < length p.sides
   far-inside = let a = number-below (peer e) p.opened lt in let s = sides-told in omega (arith, s, a)
 
-  pub flow-inside : number e < length p.flows
-  flow-inside = let a = number-below e p.opened lt in let s = flows-told in omega (arith, s, a)
-
 -- Part by part
 
 module _ (g : Settings) (t : Trace) (e : SideId) (es : List SideId) where

@@ -144,7 +144,8 @@ poll_failed-stands t s ws names k =
     let y : Event = (entry.PollFailed, []) in
     let v : Trace = (t ++ x ∷ []) ++ want_events ws in
     subst (λ z. StandsFor z (Stage.Over Halt.PollFailed) s) (poll-joined t x (want_events ws) (y ∷ []))
-    (stands-told v (Stage.Wanting []) (Stage.Over Halt.PollFailed) s y (named-go t s ws names k) (refl, refl) tt silent-poll_failed (λ a. (refl, refl)))
+    (stands-told v (Stage.Wanting []) (Stage.Over Halt.PollFailed) s y (named-go t s ws names k) (refl, refl) tt silent-poll_failed
+    (λ a. (refl, refl)))
 
 -- From phase to phase
 
@@ -165,7 +166,8 @@ served-stands t s k = record {
       fits-same s.settings t t s.plain (record (s.plain) { due = [] }) e (lane_at s e) (lane_at (dispatching s) e) refl refl (k.each e lt);
   built = k.built;
   gauged =
-      gauged-same t t s.plain (record (s.plain) { due = [] }) s.gauges (record { opened = refl; time = refl; rates = λ a. refl }) (λ a d. refl)
+      gauged-same t t s.plain (record (s.plain) { due = [] }) s.gauges (record { opened = refl; time = refl; rates = λ a. refl })
+      (λ a d. refl)
       k.gauged;
 }
 

@@ -1,18 +1,12 @@
 -- Buckets go on fitting where limits, groups, the time and the turns of a trace are as they were, and as a link opens.
-use Rattle.std.proofs.Common.{◌≡◌, ◌≢◌, ℕ, ◌+◌, ◌*◌, ◌<◌, ◌≤◌, Option, Some, None, List, [], ◌∷◌, ◌++◌, length, length-append, refl, sym, ◌∙◌, ap, subst, arith, inl, inr}
-use Rattle.std.specs.Prelude.{Bool, true, false, option_map, map, slice_set}
-use Rattle.std.proofs.lemmas.Bool.Decides.{eqb_tells}
-use Rattle.std.proofs.lemmas.List.{map-append, length-set, get_or_past, get_or_append_left, get_or-append_right}
+use Rattle.std.proofs.Common.{◌≡◌, ◌*◌, List, [], ◌∷◌, ◌++◌, refl, sym, ◌∙◌, ap, subst}
+use Rattle.std.proofs.lemmas.List.{map-append}
 use Rattle.token_bucket.specs.declared.limit.Dir.{Dir}
 use Rattle.token_bucket.specs.declared.limit.Dir.TheVariants as dir
-use Rattle.token_bucket.specs.declared.limit.LimitCfg.{LimitCfg}
-use Rattle.ev_types.specs.declared.side.Side.{Side}
-use Rattle.ev_types.specs.declared.side.Side.TheVariants.{In, Out}
 use Rattle.ev_types.specs.declared.side.SideId.{SideId}
-use Rattle.ev_types.specs.Sides.{number, peer}
+use Rattle.ev_types.specs.Sides.{peer}
 use Rattle.ev_types.specs.Trace.{Event, Trace}
-use Rattle.relay_model.specs.Settings.{Settings, rate_set}
-use Rattle.relay_model.specs.Plain.{Plain, PlainSide, Standing, side_at, put_flow, change_side}
+use Rattle.relay_model.specs.Plain.{Plain, side_at, put_flow, change_side}
 use Rattle.relay_model.specs.Rates.{beat_of, Moves, side_spells, spells}
 use Rattle.relay_model.proofs.Frames.{rates_of}
 use Rattle.relay_model.proofs.KeepsLemmas.{Keeps, Keeps-trans, Keeps-put, Keeps-flow}

@@ -1,5 +1,5 @@
 -- A limit is set by a hook: the relay's standing is the model's, and all buckets fit.
-use Rattle.std.proofs.Common.{◌≡◌, ◌≢◌, ℕ, ◌<◌, ◌*◌, min, Option, Some, None, List, [], ◌∷◌, ◌++◌, length, refl, sym, ◌∙◌, ap, subst, arith, inl, inr}
+use Rattle.std.proofs.Common.{◌≡◌, ◌≢◌, ◌<◌, min, Option, Some, None, List, [], ◌∷◌, ◌++◌, length, refl, sym, ◌∙◌, ap, subst, arith, inl, inr}
 use Rattle.std.specs.Prelude.{is_some, slice_set, false}
 use Rattle.std.proofs.lemmas.Bool.Decides.{eqb_tells}
 use Rattle.std.proofs.lemmas.List.{length-set, get_or-set_same, get_or-set_other}
@@ -11,15 +11,15 @@ use Rattle.ev_types.specs.Sides.{number}
 use Rattle.ev_types.specs.Trace.{Event, Trace}
 use Rattle.relay_model.specs.Trace.{read_by, ended_by, bytes_read, has_ended}
 use Rattle.relay_model.specs.Settings.{Settings}
-use Rattle.relay_model.specs.Plain.{Plain, PlainSide, Standing, first_limit, side_at, flow_at, is_live, change_side}
+use Rattle.relay_model.specs.Plain.{Plain, PlainSide, Standing, first_limit, side_at, flow_at, change_side}
 use Rattle.relay_model.specs.Past.{Past, past}
 use Rattle.relay_model.specs.Asks.{limit_set, next_limit}
 use Rattle.relay_model.specs.Rates.{side_spells}
-use Rattle.relay_model.specs.Stages.{Stage, at}
+use Rattle.relay_model.specs.Stages.{Stage}
 use Rattle.relay_model.proofs.PlainLemmas.{seen-change}
 use Rattle.relay_model.proofs.SpellLemmas.{spells-count}
 use Rattle.relay_state.specs.State.{State, lane_at, gauge_in, gauge_at}
-use Rattle.relay_state.specs.Running.{Gauge, no_gauge, held_at, gauge_set}
+use Rattle.relay_state.specs.Running.{Gauge, no_gauge, gauge_set}
 use Rattle.relay_state.specs.Asking.{limit_now}
 use Rattle.relay_steps.specs.Gauges.{BucketFits, Gauged}
 use Rattle.relay_steps.specs.Meaning.{LaneFits, StandsFor}
@@ -49,7 +49,8 @@ module _ (t : Trace) (x : Stage) (s : State) (k : StandsFor t x s) (e : SideId) 
   standing-is (Some was) (Some c) is =
       let a = held-is t p.time was e (gauge_at s e) dir.Read (k.gauged.each e was is dir.Read) in
       let b = held-is t p.time was e (gauge_at s e) dir.Write (k.gauged.each e was is dir.Write) in
-      λ i. Some (record { cfg = c; turn = p.turn; time = p.time; read_level = min (a i) c.read_burst; write_level = min (b i) c.write_burst })
+      λ i. Some
+      (record { cfg = c; turn = p.turn; time = p.time; read_level = min (a i) c.read_burst; write_level = min (b i) c.write_burst })
 
   pub change-is : change_side e (λ z. record z { limit = limit_now s e z.limit cfg }) p
       ≡ change_side e (λ z. record z { limit = limit_set P p e z.limit cfg }) p
@@ -73,8 +74,8 @@ module _ (t : Trace) (x : Stage) (s : State) (k : StandsFor t x s) (e : SideId) 
     turns : (d : Dir) → p.turn ≡ length (side_spells e d t)
     turns d = (stands-shape t x s k).turn ∙ sym (spells-count e d t)
 
-    own : (o : Option Standing) (c : Option LimitCfg) → (side_at p e).limit ≡ o → (y : Standing) → limit_set P p e o c ≡ Some y → (d : Dir) →
-        BucketFits u p.time y e (gauge_set o c p.time (gauge_at s e)) d
+    own : (o : Option Standing) (c : Option LimitCfg) → (side_at p e).limit ≡ o → (y : Standing) → limit_set P p e o c ≡ Some y →
+        (d : Dir) → BucketFits u p.time y e (gauge_set o c p.time (gauge_at s e)) d
     own o None is y set d = absurd (let bad : None ≡ Some y = set in cc)
     own None (Some c) is y set d =
         let one : first_limit p.time p.turn c ≡ y = same_some (first_limit p.time p.turn c) y set in
@@ -105,7 +106,8 @@ module _ (t : Trace) (x : Stage) (s : State) (k : StandsFor t x s) (e : SideId) 
             (own (side_at p e).limit cfg refl y (sym here ∙ ap (λ z. (side_at q z).limit) (sym one) ∙ is) d))
         | inr apart ↦
             let away : a ≢ e = λ h. apart.1 (ap number h) in
-            subst (λ z. BucketFits u p.time y a z d) (sym (get_or-set_other s.gauges (number e) (number a) after no_gauge (number-apart a e away)))
+            subst (λ z. BucketFits u p.time y a z d)
+            (sym (get_or-set_other s.gauges (number e) (number a) after no_gauge (number-apart a e away)))
             (bucket-silent t v p.time y a (gauge_at s a) d (beat-none v moves a d)
             (k.gauged.each a y
             (sym (ap (λ (z : PlainSide). z.limit)

@@ -94,7 +94,9 @@ module _ (t : Trace) (s : State) (e : SideId) (r w : Bool) (ms : List Want) (k :
   )
 
   parts : MayRead p e
-  parts = may_read-parts p e (some-may (may_read p e) (at_most (allowance s e dir.Read) (min most_at_once (read_mark p e - input_length s e))) some)
+  parts =
+      may_read-parts p e
+      (some-may (may_read p e) (at_most (allowance s e dir.Read) (min most_at_once (read_mark p e - input_length s e))) some)
 
   -- the trace tells what the plain state has
   not_ended : has_ended e t ≡ false
@@ -232,10 +234,12 @@ module _ (t : Trace) (s : State) (e : SideId) (r w : Bool) (ms : List Want) (k :
       (sym carries) ended-stands
   read-stands read.NotYet bytes carries =
       put-stands t marked (Stage.Serving marks) s p (entry.Read e room read.NotYet) bytes k (read-puts read.NotYet bytes carries) tt
-      (still-event t (entry.Read e room read.NotYet, bytes) p p (still-same t t p (λ a. refl) (λ a. refl) (λ a d. refl)) (λ a. refl) (λ a. refl) (λ a. (refl, refl)))
+      (still-event t (entry.Read e room read.NotYet, bytes) p p (still-same t t p (λ a. refl) (λ a. refl) (λ a d. refl)) (λ a. refl)
+      (λ a. refl) (λ a. (refl, refl)))
   read-stands read.Failed bytes carries =
       put-stands t marked (Stage.Serving marks) s (model.after_read g e read.Failed p) (entry.Read e room read.Failed) bytes k
       (read-puts read.Failed bytes carries) tt
       (still-event t (entry.Read e room read.Failed, bytes) p (model.after_read g e read.Failed p)
-      (still-raised g t p e (λ x. record x { failed = true; reads = false }) (happened dir.Read error_flag) (λ z. refl) (λ z. refl) (λ z. refl))
+      (still-raised g t p e (λ x. record x { failed = true; reads = false }) (happened dir.Read error_flag) (λ z. refl) (λ z. refl)
+      (λ z. refl))
       (λ a. refl) (λ a. refl) (λ a. (refl, refl)))

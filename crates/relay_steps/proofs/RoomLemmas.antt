@@ -15,19 +15,20 @@ use Rattle.relay_model.specs.Conserved.{Buffers, left}
 use Rattle.relay_model.specs.Settings.{Settings}
 use Rattle.relay_model.specs.Plain.{Plain, Standing, side_at, flow_at, is_live, sides_from, all_sides}
 use Rattle.relay_model.specs.Past.{Past, past}
-use Rattle.relay_model.specs.Rates.{next_tick}
+use Rattle.relay_model.specs.Rates.{next_tick, side_spells, standing_level}
 use Rattle.relay_model.specs.Rooms as model
 use Rattle.relay_model.specs.Rooms.{Want, read_filter, write_filter, share_in, at_most, within_rates, most_at_once, read_mark, may_read, may_write, is_connecting}
 use Rattle.relay_model.specs.Moments as moment
 use Rattle.relay_model.specs.Moments.{timeout_of, last_activity, is_timed, moment_where, both_ways, earliest, is_pressing, group_gains}
 use Rattle.relay_model.specs.Stages.{Stage}
-use Rattle.relay_model.proofs.PlainLemmas.{and-first, and-second}
+use Rattle.relay_model.proofs.PlainLemmas.{and-first}
 use Rattle.relay_state.specs.State.{State, lane_at, gauge_at}
 use Rattle.relay_state.specs.Rooms.{allowance, input_length, waiting_for, output_length, read_room, write_room, wants, want_of, wanted}
 use Rattle.relay_state.specs.Time.{limit_gain, expiry, moments, poll_timeout}
 use Rattle.relay_steps.specs.Gauges.{Gauged}
 use Rattle.relay_steps.specs.Meaning.{StandsFor}
-use Rattle.relay_steps.proofs.GaugeSteps.{held-is, allowance-is}
+use Rattle.relay_state.specs.Running.{held_at}
+use Rattle.relay_steps.proofs.GaugeSteps.{held-is}
 use Rattle.relay_steps.proofs.EndLemmas.{peer-peer}
 
 -- The lane that begins at a side holds exactly what the counts leave.
@@ -54,11 +55,6 @@ may_read-own p e h =
     (and-first (x.live && not x.connecting && x.reads) (not x.ended)
     (and-first (x.live && not x.connecting && x.reads && not x.ended) (not x.failed)
     (and-first (x.live && not x.connecting && x.reads && not x.ended && not x.failed) (side_at p (peer e)).live h))))
-
-pub may_read-peer : (p : Plain) (e : SideId) → may_read p e ≡ true → is_live p (peer e) ≡ true
-may_read-peer p e h =
-    let x = side_at p e in
-    and-second (x.live && not x.connecting && x.reads && not x.ended && not x.failed) (side_at p (peer e)).live h
 
 pub may_write-live : (p : Plain) (e : SideId) → may_write p e ≡ true → is_live p e ≡ true
 may_write-live p e h =
@@ -154,7 +150,13 @@ module _ (t : Trace) (s : State) (e : SideId) (k : SideFits t s e) where
 
 pub allowed-is : (t : Trace) (s : State) (e : SideId) → Gauged t s.plain s.gauges → (d : Dir) →
     allowance s e d ≡ model.allowance (past s.settings t) s.plain e d
-allowed-is t s e k d = allowance-is s.settings t s.plain (gauge_at s e) e d (λ y is. k.each e y is d)
+allowed-is t s e k d = by_limit (side_at s.plain e).limit refl
+  where
+    by_limit : (o : Option Standing) → (side_at s.plain e).limit ≡ o →
+        option_map (λ y. held_at y.cfg (gauge_at s e) d s.plain.time) o
+        ≡ option_map (λ y. standing_level y d (side_spells e d t) s.plain.time) o
+    by_limit None is = refl
+    by_limit (Some y) is = ap Some (held-is t s.plain.time y e (gauge_at s e) d (k.each e y is d))
 
 pub stands-fits : (t : Trace) (x : Stage) (s : State) (e : SideId) → StandsFor t x s → e.link < s.plain.opened → SideFits t s e
 stands-fits t x s e k lt =
@@ -189,9 +191,6 @@ module _ (t : Trace) (x : Stage) (s : State) (e : SideId) (k : StandsFor t x s) 
 
   pub write_room-is : write_room s e ≡ model.write_room gs Ps s.plain e
   write_room-is = write_room-fits t s e fits
-
-  pub wants-is : (d : Dir) → wants s e d ≡ model.wants gs Ps s.plain e d
-  wants-is d = wants-fits t s e fits d
 
 -- All sides
 

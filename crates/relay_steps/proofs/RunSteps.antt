@@ -1,17 +1,13 @@
 -- The running number of a bucket, step by step.
-use Rattle.std.proofs.Common.{◌≡◌, ℕ, zero, suc, ◌+◌, ◌-◌, ◌*◌, ◌<◌, ◌≤◌, min, List, [], ◌∷◌, ◌++◌, length, drop, refl, sym, ◌∙◌, ap, subst, arith, length-append}
-use Rattle.std.proofs.lemmas.List.{drop-append-le, drop_all}
-use Rattle.relay_model.specs.Rates.{Limit, ticks, Spell, level, Beat, Begins, Moves, moved_first, spells}
+use Rattle.std.proofs.Common.{◌≡◌, ℕ, zero, suc, ◌+◌, ◌-◌, ◌<◌, ◌≤◌, List, [], ◌∷◌, ◌++◌, length, drop, refl, sym, ◌∙◌, ap, arith}
+use Rattle.std.proofs.lemmas.List.{drop-append-le}
+use Rattle.relay_model.specs.Rates.{Limit, Spell, Beat, Begins, Moves, moved_first, spells}
 use Rattle.relay_state.specs.Running.{refilled, short_after, last_of, short_now, time_now, Ascend}
-use Rattle.relay_steps.proofs.BucketLemmas.{running-is_least}
 
-pub short-append : (l : Limit) (from short : ℕ) (xs ys : List Spell) → short_after l from short (xs ++ ys) ≡ short_after l (last_of from xs) (short_after l from short xs) ys
+pub short-append : (l : Limit) (from short : ℕ) (xs ys : List Spell) →
+    short_after l from short (xs ++ ys) ≡ short_after l (last_of from xs) (short_after l from short xs) ys
 short-append l from short [] ys = refl
 short-append l from short (x ∷ xs) ys = short-append l x.time (refilled l from x.time short + x.moved) xs ys
-
-last-append : (from : ℕ) (xs ys : List Spell) → last_of from (xs ++ ys) ≡ last_of (last_of from xs) ys
-last-append from [] ys = refl
-last-append from (x ∷ xs) ys = last-append x.time xs ys
 
 -- Spells
 
@@ -35,10 +31,13 @@ added n [] = []
 added n (x ∷ []) = record x { moved = x.moved + n } ∷ []
 added n (x ∷ y ∷ xs) = x ∷ added n (y ∷ xs)
 
-first-moves : (t n : ℕ) (bs : List Beat) → record { time = t; moved = moved_first (bs ++ Moves n ∷ []) } ∷ spells (bs ++ Moves n ∷ []) ≡ added n (record { time = t; moved = moved_first bs } ∷ spells bs)
+first-moves : (t n : ℕ) (bs : List Beat) →
+    record { time = t; moved = moved_first (bs ++ Moves n ∷ []) } ∷ spells (bs ++ Moves n ∷ [])
+    ≡ added n (record { time = t; moved = moved_first bs } ∷ spells bs)
 first-moves t n [] = let e : n + 0 ≡ 0 + n = omega arith in λ i. record { time = t; moved = e i } ∷ []
 first-moves t n (Begins u ∷ bs) = ap (λ z. record { time = t; moved = 0 } ∷ z) (first-moves u n bs)
-first-moves t n (Moves m ∷ bs) = let h = first-moves t n bs in shift (moved_first bs) (moved_first (bs ++ Moves n ∷ [])) (spells bs) (spells (bs ++ Moves n ∷ [])) h
+first-moves t n (Moves m ∷ bs) =
+    let h = first-moves t n bs in shift (moved_first bs) (moved_first (bs ++ Moves n ∷ [])) (spells bs) (spells (bs ++ Moves n ∷ [])) h
   where
     shift : (a b : ℕ) (xs ys : List Spell) → record { time = t; moved = b } ∷ ys ≡ added n (record { time = t; moved = a } ∷ xs) →
         record { time = t; moved = m + b } ∷ ys ≡ added n (record { time = t; moved = m + a } ∷ xs)
@@ -64,7 +63,8 @@ drop-added n (suc zero) (x ∷ []) = refl
 drop-added n (suc (suc k)) (x ∷ []) = refl
 drop-added n (suc k) (x ∷ y ∷ xs) = drop-added n k (y ∷ xs)
 
-pub short-added : (l : Limit) (from short n : ℕ) (x : Spell) (xs : List Spell) → short_after l from short (added n (x ∷ xs)) ≡ short_after l from short (x ∷ xs) + n
+pub short-added : (l : Limit) (from short n : ℕ) (x : Spell) (xs : List Spell) →
+    short_after l from short (added n (x ∷ xs)) ≡ short_after l from short (x ∷ xs) + n
 short-added l from short n x [] = omega arith
 short-added l from short n x (y ∷ xs) = short-added l x.time (refilled l from x.time short + x.moved) n y xs
 
@@ -108,7 +108,8 @@ ascend-added n from [] time h = h
 ascend-added n from (x ∷ []) time h = h
 ascend-added n from (x ∷ y ∷ xs) time h = (h.0, ascend-added n x.time (y ∷ xs) time h.1)
 
-pub ascend-push : (from : ℕ) (xs : List Spell) (time ms : ℕ) → time ≤ ms → Ascend from xs time → Ascend from (xs ++ record { time = ms; moved = 0 } ∷ []) ms
+pub ascend-push : (from : ℕ) (xs : List Spell) (time ms : ℕ) → time ≤ ms → Ascend from xs time →
+    Ascend from (xs ++ record { time = ms; moved = 0 } ∷ []) ms
 ascend-push from [] time ms le h = (omega (arith, le, h), refl)
 ascend-push from (x ∷ xs) time ms le h = (h.0, ascend-push x.time xs time ms le h.1)
 

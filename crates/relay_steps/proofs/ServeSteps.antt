@@ -124,12 +124,15 @@ module _ (t : Trace) (s : State) (e : SideId) (r w : Bool) (ms : List Want) (k :
   conn-still : (answer : ConnAnswer) → IsStill t (t ++ conn_events e answer) p (model.after_conn g e answer p)
   conn-still conn.Connected =
       still-event t (entry.Conn e conn.Connected, []) p (model.after_conn g e conn.Connected p)
-      (still-raised g t p e (λ x. record x { connecting = false }) why.Connected (λ z. refl) (λ z. refl) (λ z. refl)) (λ a. refl) (λ a. refl) (λ a. (refl, refl))
+      (still-raised g t p e (λ x. record x { connecting = false }) why.Connected (λ z. refl) (λ z. refl) (λ z. refl)) (λ a. refl)
+      (λ a. refl) (λ a. (refl, refl))
   conn-still conn.Pending =
-      still-event t (entry.Conn e conn.Pending, []) p p (still-same t t p (λ a. refl) (λ a. refl) (λ a d. refl)) (λ a. refl) (λ a. refl) (λ a. (refl, refl))
+      still-event t (entry.Conn e conn.Pending, []) p p (still-same t t p (λ a. refl) (λ a. refl) (λ a d. refl)) (λ a. refl) (λ a. refl)
+      (λ a. (refl, refl))
   conn-still conn.Failed =
       still-event t (entry.Conn e conn.Failed, []) p (model.after_conn g e conn.Failed p)
-      (still-raised g t p e (λ x. record x { failed = true; writes = false }) (happened dir.Write error_flag) (λ z. refl) (λ z. refl) (λ z. refl))
+      (still-raised g t p e (λ x. record x { failed = true; writes = false }) (happened dir.Write error_flag) (λ z. refl) (λ z. refl)
+      (λ z. refl))
       (λ a. refl) (λ a. refl) (λ a. (refl, refl))
 
   pub conn-stands : (answer : ConnAnswer) → is_connecting s.plain e ≡ true → w ≡ true →

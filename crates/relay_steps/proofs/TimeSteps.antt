@@ -146,7 +146,8 @@ turned-gauged t ms p q xs later opened time rates k = record {
 
 taken-time : (g : Settings) (p : Plain) → (timers_taken g p).time ≡ p.time
 taken-time g p =
-    (frame-fold (λ state (x : Timer). raise g x.side why.Timer state) (record p { timers = filter (λ x. nat_lt p.time x.deadline) p.timers })
+    (frame-fold (λ state (x : Timer). raise g x.side why.Timer state)
+    (record p { timers = filter (λ x. nat_lt p.time x.deadline) p.timers })
     (filter (λ x. nat_le x.deadline p.time) p.timers) (λ z x. frame-raise g x.side why.Timer z)).shape.time
 
 -- the relay makes of the time what the model makes of it

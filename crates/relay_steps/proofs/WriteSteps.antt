@@ -251,12 +251,14 @@ module _ (t : Trace) (s : State) (e : SideId) (w : Bool) (ms : List Want) (k : S
   write-stands (write.Took n) within done = took-stands n (let a = within.0 in omega arith) within.1
   write-stands write.NotYet within done =
       put-stands t marked (Stage.Serving ms) s p (entry.Write e room write.NotYet) [] k (write-puts write.NotYet [] refl) tt
-      (still-event t (entry.Write e room write.NotYet, []) p p (still-same t t p (λ a. refl) (λ a. refl) (λ a d. refl)) (λ a. refl) (λ a. refl) (λ a. (refl, refl)))
+      (still-event t (entry.Write e room write.NotYet, []) p p (still-same t t p (λ a. refl) (λ a. refl) (λ a d. refl)) (λ a. refl)
+      (λ a. refl) (λ a. (refl, refl)))
   write-stands write.Failed within done =
       put-stands t marked (Stage.Serving ms) s (model.after_write g P e write.Failed p) (entry.Write e room write.Failed) [] k
       (write-puts write.Failed [] refl) tt
       (still-event t (entry.Write e room write.Failed, []) p (model.after_write g P e write.Failed p)
-      (still-raised g t p e (λ x. record x { failed = true; writes = false }) (happened dir.Write error_flag) (λ z. refl) (λ z. refl) (λ z. refl))
+      (still-raised g t p e (λ x. record x { failed = true; writes = false }) (happened dir.Write error_flag) (λ z. refl) (λ z. refl)
+      (λ z. refl))
       (λ a. refl) (λ a. refl) (λ a. (refl, refl)))
   write-stands write.NoMemory within done = absurd (done refl)
 

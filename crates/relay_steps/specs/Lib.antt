@@ -1,2 +1,5 @@
 pub mod Gauges
 pub mod Meaning
+pub mod HookLaws
+pub mod ToFire
+pub mod BucketLaws
