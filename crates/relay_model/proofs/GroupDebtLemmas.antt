@@ -36,7 +36,7 @@ use Rattle.relay_model.proofs.RefillLemmas.{two_ticks_bring, begun-owes, moved-o
 use Rattle.relay_model.proofs.SideDebtLemmas.{more_moved-push, more_moved-none, last-view, turn-is}
 
 -- A group that holds the least share as the running turn begins, in which nothing was moved yet, isn't suspended.
-pub enough-frees : (x : GroupSet) (d : Dir) (xs : List Spell) (time : ℕ) → 1 ≤ least_share x →
+enough-frees : (x : GroupSet) (d : Dir) (xs : List Spell) (time : ℕ) → 1 ≤ least_share x →
     least_share x ≤ group_level x d (xs ++ beginning time ∷ []) time → is_suspended x d (xs ++ beginning time ∷ []) ≡ false
 enough-frees x d xs time some enough =
     ap (suspended_in x d all) count ∙ (λ i. none_left i || (suspended_in x d all n && enough_left i)) ∙ last (suspended_in x d all n)

@@ -47,6 +47,7 @@ pub mod Causes
 pub mod Fitting
 pub mod Passed
 pub mod Bounds
+pub mod SoFar
 pub mod Still
 pub mod StepLaws
 pub mod OpenLinks
