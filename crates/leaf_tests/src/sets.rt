@@ -174,17 +174,26 @@ fn first_wrong_find(sets: [&NumberSet; 4], lists: [&[bool]; 4]) -> Option<usize>
     None
 }
 
-/// Fills four sets, of different lengths; where a walk over them goes wrong, and where a search does.
-fn wrong_together(
+/// Fills four sets, of different lengths.
+fn fill_four(
     first: &mut Both,
     second: &mut Both,
     third: &mut Both,
     fourth: &mut Both,
-) -> Result<[Option<usize>; 2], AllocError> {
+) -> Result<(), AllocError> {
     fill(first, 200, 2)?;
     fill(second, 130, 3)?;
     fill(third, 65, 4)?;
-    fill(fourth, 250, 5)?;
+    fill(fourth, 250, 5)
+}
+
+/// Where a walk over four sets goes wrong, and where a search does.
+fn wrong_together(
+    first: &Both,
+    second: &Both,
+    third: &Both,
+    fourth: &Both,
+) -> [Option<usize>; 2] {
     let sets = [&first.set, &second.set, &third.set, &fourth.set];
     let lists = [
         first.list.as_slice(),
@@ -193,10 +202,10 @@ fn wrong_together(
         fourth.list.as_slice(),
     ];
     let mut walk = NumberSet::walk_either((&first.set, &second.set), (&third.set, &fourth.set));
-    Ok([
+    [
         first_wrong_step(&mut walk, lists),
         first_wrong_find(sets, lists),
-    ])
+    ]
 }
 
 #[test]
@@ -205,12 +214,13 @@ fn sets_of_different_lengths_are_looked_through_together(rt: HostRuntime) {
     let mut second = empty(rt.alloc());
     let mut third = empty(rt.alloc());
     let mut fourth = empty(rt.alloc());
-    let wrong = wrong_together(&mut first, &mut second, &mut third, &mut fourth);
+    let filled = fill_four(&mut first, &mut second, &mut third, &mut fourth);
+    let wrong = wrong_together(&first, &second, &third, &fourth);
     drop(fourth);
     drop(third);
     drop(second);
     drop(first);
-    assert_eq!(rt; wrong, Ok([None, None]));
+    assert_eq!(rt; (filled, wrong), (Ok(()), [None, None]));
 }
 
 /// Members of a long set, each far behind the one before it or right behind it.
