@@ -5,9 +5,11 @@
 #[cfg(test)]
 mod acts;
 #[cfg(test)]
-mod fail_port;
+mod failed_calls;
 #[cfg(test)]
-mod script_port;
+mod loopback;
+#[cfg(test)]
+mod scripts;
 #[cfg(test)]
 mod shortage;
 #[cfg(test)]
@@ -18,5 +20,3 @@ mod steps;
 mod streams;
 #[cfg(test)]
 mod tables;
-#[cfg(test)]
-mod world;

@@ -1,6 +1,6 @@
 // A listener that found the system short of descriptors. The test takes all that its process may have.
 use crate::acts::{ANY_PORT, Act, IN_0, first_other};
-use crate::world::{RealPort, client, has_link};
+use crate::loopback::{RealPort, client, has_link};
 use ev_port::{Accepted, Polled, Port, Started};
 use mio_port::MioPort;
 use std::net::{Ipv4Addr, SocketAddr, TcpListener};

@@ -2,8 +2,8 @@
 use crate::acts::{
     ANY_PORT, Act, BOTH, IN_0, NEITHER, OUT_0, READING, WRITING, Ways, first_other, want,
 };
+use crate::loopback::{MOST_WAIT, RealPort, World, accepts, client, is_marked, join, new_world};
 use crate::steps::{Step, empties, fills, first_other_step};
-use crate::world::{MOST_WAIT, RealPort, World, accepts, client, is_marked, join, world};
 use ev_port::{
     Accepted, Addr, ConnAnswer, Polled, Port, ReadAnswer, Started, WantTable, WriteAnswer,
 };
@@ -22,7 +22,7 @@ const WANTS_WRITE: (SideId, Ways, Ways) = (IN_0, WRITING, NEITHER);
 
 /// The first other step of a link between a client and a target.
 fn plays(rt: &HostRuntime, steps: &[Step]) -> Result<Option<usize>, Fail> {
-    let mut world = world(rt)?;
+    let mut world = new_world(rt)?;
     let other = first_other_step(&mut world, steps);
     drop(world);
     Ok(other?)
@@ -103,7 +103,7 @@ fn fills_and_empties(world: &mut World<'_>) -> Result<bool, Fail> {
 
 #[test]
 fn a_full_end_is_marked_again_once_its_peer_read(rt: HostRuntime) -> Result<(), Fail> {
-    let mut world = world(&rt)?;
+    let mut world = new_world(&rt)?;
     let went = fills_and_empties(&mut world);
     drop(world);
     assert!(rt; went?);
@@ -182,7 +182,7 @@ fn accepts_a_second(rt: &HostRuntime, port: &mut RealPort<'_>) -> Result<bool, F
 
 #[test]
 fn a_ready_end_does_not_hide_a_new_link(rt: HostRuntime) -> Result<(), Fail> {
-    let mut world = world(&rt)?;
+    let mut world = new_world(&rt)?;
     let accepted = accepts_a_second(&rt, &mut world.port);
     drop(world);
     assert!(rt; accepted?);

@@ -1,6 +1,6 @@
 // Steps of a client, a target and the port between them, and the first of a list that comes to something else.
 use crate::acts::{Act, Ways, first_other};
-use crate::world::{MOST_POLLS, RealPort, World, is_marked, says};
+use crate::loopback::{MOST_POLLS, RealPort, World, is_marked, says};
 use ev_port::{Port, WriteAnswer};
 use ev_types::SideId;
 use std::io;

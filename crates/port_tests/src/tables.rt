@@ -100,9 +100,10 @@ fn fill(table: &mut WantTable, writers: &[Side]) -> Result<(), Fail> {
             if link >= table.links() {
                 return Err(Fail::new("a link that was added has no row"));
             }
-            let row = row(SideId { link, side: half }, writers);
-            table.set(row.side, !row.read, true);
-            table.set(row.side, row.read, row.write);
+            let side = SideId { link, side: half };
+            let row = row(side, writers);
+            table.set(side, !row.read, true);
+            table.set(side, row.read, row.write);
         }
     }
     Ok(())

@@ -65,19 +65,21 @@ pub(crate) fn accepts(port: &mut RealPort<'_>, link: u32) -> bool {
 
 /// Whether an end reads these bytes up to its end.
 pub(crate) fn says(port: &mut RealPort<'_>, end: SideId, owed: &[u8]) -> bool {
-    let mut said = [0; 16];
-    let mut count = 0;
+    let mut buffer = [0; 16];
+    let mut left = owed;
     for _ in 0..MOST_POLLS {
         if !is_marked(port, end, READING) {
             return false;
         }
-        let (before, room) = said.split_at_mut(count);
-        if room.is_empty() {
-            return false;
-        }
-        match port.read(end, room) {
-            ReadAnswer::Got(more) => count += more,
-            ReadAnswer::Ended => return &*before == owed,
+        match port.read(end, &mut buffer) {
+            ReadAnswer::Got(count) => {
+                let (got, _) = buffer.split_at(count);
+                let Some(rest) = left.strip_prefix(got) else {
+                    return false;
+                };
+                left = rest;
+            }
+            ReadAnswer::Ended => return left.is_empty(),
             ReadAnswer::NotYet => {}
             ReadAnswer::Failed => return false,
         }
@@ -116,7 +118,7 @@ pub(crate) fn join(
 }
 
 /// The port and its link.
-pub(crate) fn world(rt: &HostRuntime) -> Result<World<'_>, Fail> {
+pub(crate) fn new_world(rt: &HostRuntime) -> Result<World<'_>, Fail> {
     let mut port = MioPort::new(rt);
     let (near, far) = join(rt, &mut port)?;
     Ok(World {
