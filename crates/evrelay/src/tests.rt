@@ -11,22 +11,10 @@ use std::test::Fail;
 
 mod sockets;
 
-/// What a run of the program came to: the status of the process, its report, and what it said on standard error.
-#[derive(Drop)]
-struct Ended {
-    number: u8,
-    report: Vec<u8>,
-    said: Vec<u8>,
-}
+/// What a run of the program is owed to come to: the status of the process, its report, and what it says on standard error.
+type Owed = (u8, &'static str, &'static str);
 
-/// A run with so many links over this port, where this write of the report fails, counted from 1; 0 is none.
-fn came_to<R: Wait + AllocGlobal, P: Port>(
-    rt: &R,
-    links: &str,
-    port: &mut P,
-    failing_write: u64,
-) -> Result<Ended, Fail> {
-    let alloc = rt.alloc();
+fn words(alloc: Global, links: &str) -> Result<Vec<String>, Fail> {
     let mut words = Vec::new(alloc);
     for word in [
         "--listen=127.0.0.1:8080",
@@ -37,31 +25,29 @@ fn came_to<R: Wait + AllocGlobal, P: Port>(
     ] {
         words.push(String::from_str(alloc, word)?)?;
     }
-    let mut sink = MemSink::new(alloc, 5, vec![in alloc; failing_write]?);
+    Ok(words)
+}
+
+/// Whether a run with so many links over this port comes to that, where this write of the report fails, counted from 1; 0 is none.
+fn comes_to<R: Wait + AllocGlobal, P: Port>(
+    rt: &R,
+    links: &str,
+    port: &mut P,
+    failing_write: u64,
+    owed: &Owed,
+) -> Result<bool, Fail> {
+    let alloc = rt.alloc();
+    let words = words(alloc, links)?;
+    let failing = vec![in alloc; failing_write]?;
+    let mut sink = MemSink::new(alloc, 5, failing);
     let mut errors = MemSink::new(alloc, 64, Vec::new(alloc));
     let number = relay_program(rt, alloc, Ok(words), port, &mut sink, &mut errors);
-    Ok(Ended {
-        number,
-        report: sink.bytes().to_vec(alloc)?,
-        said: errors.bytes().to_vec(alloc)?,
-    })
+    let (status, report, said) = owed;
+    Ok(number == *status && sink.bytes() == report.as_bytes() && errors.bytes() == said.as_bytes())
 }
 
 fn port_of(alloc: Global, script: &str) -> Result<ScriptPort, Fail> {
     Ok(ScriptPort::new(alloc, read_script(alloc, script.as_bytes())?)?)
-}
-
-/// Such a run over a port of this script. The port is let go at one place, since each such place carries a proof of all that it owns.
-fn played<R: Wait + AllocGlobal>(
-    rt: &R,
-    links: &str,
-    script: &str,
-    failing_write: u64,
-) -> Result<Ended, Fail> {
-    let mut port = port_of(rt.alloc(), script)?;
-    let ended = came_to(rt, links, &mut port, failing_write);
-    drop(port);
-    ended
 }
 
 /// Both ways end by themselves.
@@ -73,119 +59,144 @@ const ONE_GONE: &str =
     "at 0\nopen\nopen wait\neof 0 in\neof 0 out\nat 1\nr 1 in 61\nconn 1 fail\nat 2\n";
 
 /// Scripts, each with how many links are asked for, the status, the report and the line that it comes to.
-const RUNS: [(&str, &str, u8, &str, &str); 5] = [
+const RUNS: &[(&str, &str, Owed)] = &[
     (
         BOTH_WAYS,
         "1",
-        0,
-        "link 0 done in 3 3 out 3 3\ndone 1 open 0 gone 0\n",
-        "",
+        (0, "link 0 done in 3 3 out 3 3\ndone 1 open 0 gone 0\n", ""),
     ),
     (
         ONE_GONE,
         "2",
-        0,
-        "link 0 done in 0 0 out 0 0\nlink 1 gone in 1 0 out 0 0\ndone 1 open 0 gone 1\n",
-        "",
+        (
+            0,
+            "link 0 done in 0 0 out 0 0\nlink 1 gone in 1 0 out 0 0\ndone 1 open 0 gone 1\n",
+            "",
+        ),
     ),
     // The second link isn't asked for.
     (
         ONE_GONE,
         "1",
-        0,
-        "link 0 done in 0 0 out 0 0\ndone 1 open 0 gone 0\n",
-        "",
+        (0, "link 0 done in 0 0 out 0 0\ndone 1 open 0 gone 0\n", ""),
     ),
-    (BOTH_WAYS, "0", 1, "", "usage\n"),
-    (BOTH_WAYS, "65536", 1, "", "usage\n"),
+    (BOTH_WAYS, "0", (1, "", "usage\n")),
+    (BOTH_WAYS, "65536", (1, "", "usage\n")),
 ];
+
+/// The place of the first run that comes to something else.
+fn first_other_run<R: Wait + AllocGlobal>(rt: &R) -> Result<Option<usize>, Fail> {
+    for (place, (script, links, owed)) in RUNS.iter().enumerate() {
+        let mut port = port_of(rt.alloc(), script)?;
+        if !comes_to(rt, links, &mut port, 0, owed)? {
+            return Ok(Some(place));
+        }
+    }
+    Ok(None)
+}
 
 #[test]
 fn runs_come_to_their_reports(rt: HostRuntime) -> Result<(), Fail> {
-    for (script, links, number, report, said) in RUNS {
-        let run = played(&rt, links, script, 0)?;
-        assert_eq!(rt; run.number, number, "{script}");
-        assert_eq!(rt; run.report.as_slice(), report.as_bytes(), "{script}");
-        assert_eq!(rt; run.said.as_slice(), said.as_bytes(), "{script}");
-    }
+    assert_eq!(rt; first_other_run(&rt)?, None);
     Ok(())
 }
 
-/// Calls of the port that fail, each with its number, the status, the report and what is said.
-const FAULTS: [(PortCall, u64, u8, &str, &str); 4] = [
+/// Calls of the port that fail, each with its number and what the run comes to.
+const FAULTS: &[(PortCall, u64, Owed)] = &[
     (
         PortCall::Poll,
         1,
-        5,
-        "done 0 open 0 gone 0\n",
-        "turn 0\npoll none\npollfail\npoll fault\n",
+        (
+            5,
+            "done 0 open 0 gone 0\n",
+            "turn 0\npoll none\npollfail\npoll fault\n",
+        ),
     ),
     (
         PortCall::Poll,
         3,
-        5,
-        "link 0 open in 3 0 out 0 0\ndone 0 open 1 gone 0\n",
-        "turn 0\npoll none\nopen 0\nturn 1\npoll none\nwant 0 in r\nwant 0 out r\nready 0 in r\nread 0 in 16384 got 3\n\
-         turn 2\npoll none\nwant 0 in r\nwant 0 out rw\npollfail\npoll fault\n",
+        (
+            5,
+            "link 0 open in 3 0 out 0 0\ndone 0 open 1 gone 0\n",
+            "turn 0\npoll none\nopen 0\nturn 1\npoll none\nwant 0 in r\nwant 0 out r\nready 0 in r\nread 0 in 16384 got 3\n\
+             turn 2\npoll none\nwant 0 in r\nwant 0 out rw\npollfail\npoll fault\n",
+        ),
     ),
     (
         PortCall::Accept,
         1,
-        9,
-        "done 0 open 0 gone 0\n",
-        "turn 0\npoll none\nopen fault\n",
+        (
+            9,
+            "done 0 open 0 gone 0\n",
+            "turn 0\npoll none\nopen fault\n",
+        ),
     ),
     // A failed read frees its link, and the run goes well.
     (
         PortCall::Read,
         1,
-        0,
-        "link 0 gone in 0 0 out 0 0\ndone 0 open 0 gone 1\n",
-        "",
+        (0, "link 0 gone in 0 0 out 0 0\ndone 0 open 0 gone 1\n", ""),
     ),
 ];
 
+/// The place of the first fault after which a run comes to something else.
+fn first_other_fault<R: Wait + AllocGlobal>(rt: &R) -> Result<Option<usize>, Fail> {
+    for (place, (kind, call, owed)) in FAULTS.iter().enumerate() {
+        let mut port = FailPort::new(port_of(rt.alloc(), BOTH_WAYS)?, *kind, *call);
+        if !comes_to(rt, "1", &mut port, 0, owed)? {
+            return Ok(Some(place));
+        }
+    }
+    Ok(None)
+}
+
 #[test]
 fn a_fault_of_the_port_shows_the_last_entries(rt: HostRuntime) -> Result<(), Fail> {
-    for (kind, call, number, report, said) in FAULTS {
-        let mut port = FailPort::new(port_of(rt.alloc(), BOTH_WAYS)?, kind, call);
-        let run = came_to(&rt, "1", &mut port, 0)?;
-        assert_eq!(rt; run.number, number, "{said}");
-        assert_eq!(rt; run.report.as_slice(), report.as_bytes(), "{said}");
-        assert_eq!(rt; run.said.as_slice(), said.as_bytes(), "{said}");
-    }
+    assert_eq!(rt; first_other_fault(&rt)?, None);
     Ok(())
 }
 
 #[test]
 fn a_report_that_is_cut_off_is_told(rt: HostRuntime) -> Result<(), Fail> {
-    let run = played(&rt, "1", BOTH_WAYS, 2)?;
-    assert_eq!(rt; run.number, 4);
-    assert_eq!(rt; run.report.as_slice(), b"link ".as_slice());
-    assert_eq!(rt; run.said.as_slice(), b"write fault\n".as_slice());
+    let mut port = port_of(rt.alloc(), BOTH_WAYS)?;
+    let told = comes_to(&rt, "1", &mut port, 2, &(4, "link ", "write fault\n"));
+    drop(port);
+    assert!(rt; told?);
     Ok(())
 }
 
-#[test]
-fn the_ring_keeps_the_last_64_entries(rt: HostRuntime) -> Result<(), Fail> {
-    let mut ring = Ring::new(rt.alloc())?;
+const READ: Entry = Entry::Read {
+    side: SideId {
+        link: 7,
+        side: Side::Out,
+    },
+    room: 16_384,
+    answer: ReadAnswer::Got(2),
+};
+
+fn put_71(ring: &mut Ring) -> Result<(), Fail> {
     for ms in 0..70u64 {
         ring.reserve(1, 0)?;
         ring.put(Entry::Turn { ms }, &[]);
     }
     ring.reserve(1, 2)?;
-    let side = SideId {
-        link: 7,
-        side: Side::Out,
-    };
-    let entry = Entry::Read {
-        side,
-        room: 16_384,
-        answer: ReadAnswer::Got(2),
-    };
-    ring.put(entry, b"hi");
-    let text = ring.text(rt.alloc())?;
-    assert!(rt; text.starts_with(b"turn 7\nturn 8\n"));
-    assert!(rt; text.ends_with(b"turn 69\nread 7 out 16384 got 2\n"));
+    ring.put(READ, b"hi");
+    Ok(())
+}
+
+/// Whether the text of a ring of 71 entries begins with the eighth one and ends with the last.
+fn keeps_64(alloc: Global) -> Result<[bool; 2], Fail> {
+    let mut ring = Ring::new(alloc)?;
+    put_71(&mut ring)?;
+    let text = ring.text(alloc)?;
+    Ok([
+        text.starts_with(b"turn 7\nturn 8\n"),
+        text.ends_with(b"turn 69\nread 7 out 16384 got 2\n"),
+    ])
+}
+
+#[test]
+fn the_ring_keeps_the_last_64_entries(rt: HostRuntime) -> Result<(), Fail> {
+    assert_eq!(rt; keeps_64(rt.alloc())?, [true; 2]);
     Ok(())
 }
