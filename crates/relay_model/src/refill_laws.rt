@@ -26,7 +26,8 @@ pub fn groups_owe_less()
     ensures { GroupsOweLess }
 {}
 
-/// A group with a least share whose members moved nothing in a turn isn't suspended as the next one begins, a tick having begun before each.
+/// A group with a least share whose members moved nothing in a turn isn't suspended as the next one begins, a tick having begun before
+/// each.
 pub fn groups_come_back()
     ensures { GroupsComeBack }
 {}
