@@ -17,13 +17,13 @@ use Rattle.ev_port.specs.Ends.{ReadWithin, got_bytes, write_events}
 use Rattle.ev_port.specs.Polling.{want_events, ready_events}
 use Rattle.relay_model.specs.Settings.{Settings}
 use Rattle.relay_model.specs.Plain.{side_at}
-use Rattle.relay_model.specs.Rooms.{is_connecting, may_read, most_at_once, read_mark}
+use Rattle.relay_model.specs.Rooms.{at_most, is_connecting, may_read, most_at_once, read_mark}
 use Rattle.relay_model.specs.Close.{freed_entry, fault, CloseStep}
 use Rattle.relay_core.specs.declared.close.Closing.{Closing}
 use Rattle.relay_core.specs.declared.close.Closing.TheVariants as closing
 use Rattle.relay_core.specs.Steps.{steps_of, close_step, after_closing, entry_events}
 use Rattle.relay_state.specs.State.{State}
-use Rattle.relay_state.specs.Rooms.{read_room, input_length, wants, write_room, offer}
+use Rattle.relay_state.specs.Rooms.{allowance, read_room, input_length, wants, write_room, offer}
 use Rattle.relay_state.specs.Closing.{in_side, out_side, closing_entry, closed}
 use Rattle.relay_steps.proofs.FrameLemmas.{Frame, frame-then, frame-conn, frame-read, frame-write, frame-passed, frame-closed, frame-begun, push-within}
 use Rattle.relay_drive.specs.Steps.{Nothing, Then, Each}
@@ -219,11 +219,12 @@ module _ (links : ℕ) where
   got-most read.Failed into h = omega arith
 
   room-most : (s : State) (e : SideId) → read_room s e ≤ 16384
-  room-most s e = go (may_read s.plain e)
+  room-most s e = go (may_read s.plain e) (allowance s e dir.Read) (read_mark s.plain e - input_length s e)
     where
-      go : (b : Bool) → (if b then min most_at_once (read_mark s.plain e - input_length s e) else 0) ≤ 16384
-      go true = omega arith
-      go false = omega arith
+      go : (b : Bool) (left : Option ℕ) (n : ℕ) → (if b then at_most left (min most_at_once n) else 0) ≤ 16384
+      go true None n = omega arith
+      go true (Some m) n = omega arith
+      go false left n = omega arith
 
   reads : (e : SideId) (marked : Bool) → IsRaising 16384 (ReadsSide e marked)
   reads e marked n s new a w h = by_bool (marked && wants s e dir.Read) some none h

@@ -17,6 +17,7 @@ pub mod MeantServing
 pub mod MeantTurn
 pub mod WentLemmas
 pub mod OtherLinks
+pub mod UnhookedSteps
 pub mod LinkParts
 pub mod LooksLemmas
 pub mod NearLemmas

@@ -7,8 +7,10 @@ use Rattle.ev_port.specs.declared.port.Want.{Want}
 use Rattle.ev_port.specs.declared.port.Polled.TheVariants as polled
 use Rattle.ev_port.specs.Polling.{IsMarked, AllMarked, poll_events}
 use Rattle.relay_model.specs.Rooms as rooms
+use Rattle.relay_model.specs.Settings.{HasNoHooks}
+use Rattle.relay_model.specs.Due.{batch}
 use Rattle.relay_model.specs.Plain.{sides_from}
-use Rattle.relay_model.specs.Stages.{Halt, Stage}
+use Rattle.relay_model.specs.Stages.{Halt, Stage, at}
 use Rattle.relay_model.specs.Answers.{TurnAnswer}
 use Rattle.relay_state.specs.State.{State}
 use Rattle.relay_state.specs.Closing.{in_side, out_side}
@@ -24,10 +26,13 @@ use Rattle.relay_steps.specs.Meaning.{StandsFor, LeftFor}
 use Rattle.relay_state.specs.Rooms as state
 use Rattle.relay_state.specs.Time.{poll_timeout}
 use Rattle.relay_model.proofs.QuietLemmas.{state_is_told}
+use Rattle.relay_model.proofs.HooklessLemmas.{asleep}
+use Rattle.relay_steps.proofs.StandsLemmas.{stands-quiet}
 use Rattle.relay_steps.proofs.TimeSteps.{turn-stands}
-use Rattle.relay_steps.proofs.PollSteps.{named, marks_of, MarkedWithin, poll-stands, poll_failed-stands, accepted-stands, served-stands, passed_all-stands, closed_all-stands}
+use Rattle.relay_steps.proofs.PollSteps.{named, marks_of, MarkedWithin, poll-stands, poll_failed-stands, accepted-stands, fired_all-stands, passed_all-stands, closed_all-stands}
 use Rattle.relay_steps.proofs.OpenSteps.{opened-stands}
 use Rattle.relay_steps.proofs.FrameLemmas.{frame-begun}
+use Rattle.relay_drive.proofs.UnhookedSteps.{unhooked-served}
 use Rattle.relay_drive.proofs.MeantFolds.{StandsWith, Each_is, stands-nothing, all-keeps, cut-leaves}
 use Rattle.relay_drive.proofs.MeantServing.{left-stands, IsBelow, serving, serving-keeps, serving-cut, sides_of-links, link_below, links-below, passing_links, passing_links-keep, passing_links-cut, model_steps-links, closing_links, closing_links-keep, closing_links-cut}
 
@@ -210,10 +215,20 @@ accepting-leaves t s new a marked k h =
 
 -- From phase to phase
 
-served-pass : (n : ℕ) (t : Trace) (s : State) → StandsWith n t (Stage.Serving []) s →
+-- Where no side has a hook nothing is due, so that nothing is fired.
+not_fired : (t : Trace) (s : State) → HasNoHooks s.settings → StandsFor t (Stage.Serving []) s →
+    StandsFor t (Stage.Passing [] (sides_from 0 s.plain.opened)) s
+not_fired t s none k =
+    let due = (asleep s.settings t (at (Stage.Serving []) s.plain) none k.reached).due in
+    let fired =
+    stands-quiet t (Stage.Serving []) (Stage.Dispatching []) s k
+    (λ i. at (Stage.Dispatching (batch (sym due i))) (record (s.plain) { due = due i })) in
+    fired_all-stands t s fired
+
+served-pass : (n : ℕ) (t : Trace) (s : State) → HasNoHooks s.settings → StandsWith n t (Stage.Serving []) s →
     StandsWith s.plain.opened t (passing_links (links_from 0 s.plain.opened)) s
-served-pass n t s k = record {
-  stands = subst (λ es. StandsFor t (Stage.Passing [] es) s) (sym (sides_of-links 0 s.plain.opened)) (served-stands t s k.stands);
+served-pass n t s none k = record {
+  stands = subst (λ es. StandsFor t (Stage.Passing [] es) s) (sym (sides_of-links 0 s.plain.opened)) (not_fired t s none k.stands);
   opened = refl;
 }
 
@@ -244,12 +259,12 @@ closes-end n t s new a k h =
     (links_from 0 s.plain.opened) t s
     new a (all-below s.plain.opened) (passed-close n t s k) h).stands
 
-passes-all : (n : ℕ) (t : Trace) (s new : State) (a : Trace) → StandsWith n t (Stage.Serving []) s →
+passes-all : (n : ℕ) (t : Trace) (s new : State) (a : Trace) → HasNoHooks s.settings → StandsWith n t (Stage.Serving []) s →
     ForAllLinks PassesLink s a new → StandsWith s.plain.opened (t ++ a) (Stage.Passing [] []) new
-passes-all n t s new a k h =
+passes-all n t s new a none k h =
     all-keeps s.plain.opened (link_below s.plain.opened) passing_links PassesLink (passing_links-keep s.plain.opened)
     (links_from 0 s.plain.opened) t s
-    new a (all-below s.plain.opened) (served-pass n t s k) h
+    new a (all-below s.plain.opened) (served-pass n t s none k) h
 
 serves-all : (marked : List Want) (t : Trace) (s new : State) (a : Trace) → StandsWith s.plain.opened t (serving marked) s →
     Each_is (IsBelow s.plain.opened) marked → Each ServesSide marked s a new →
@@ -259,9 +274,9 @@ serves-all marked t s new a k below h = all-keeps s.plain.opened (IsBelow s.plai
     s new a below k h
 
 -- a whole turn: whatever trace the relay stood for before it, it stands for that trace with the turn's entries
-pub turn_keeps : (t : Trace) (s new : State) (a : Trace) → StandsFor t Stage.Between s → Turns s a new →
+pub turn_keeps : (t : Trace) (s new : State) (a : Trace) → HasNoHooks s.settings → StandsFor t Stage.Between s → Turns s a new →
     StandsFor (t ++ a) Stage.Between new
-turn_keeps t s new a k turn =
+turn_keeps t s new a none k turn =
     let marked = turn.1 in
     let h = turn.2 in
     let tick = tick-stands t s h.middle h.front turn.0 k h.first in
@@ -270,7 +285,9 @@ turn_keeps t s new a k turn =
     let v = p.second in
     let served = serves-all marked ((t ++ h.front) ++ p.front) p.middle v.middle v.front poll.0 poll.1 v.first in
     let q = v.second in
-    let passed = passes-all p.middle.plain.opened (((t ++ h.front) ++ p.front) ++ v.front) v.middle q.middle q.front served q.first in
+    let unhooked = unhooked-served turn.0 marked s h.middle p.middle v.middle h.front p.front v.front none h.first p.first v.first in
+    let passed = passes-all p.middle.plain.opened (((t ++ h.front) ++ p.front) ++ v.front) v.middle q.middle q.front unhooked served
+    q.first in
     let closed = closes-end v.middle.plain.opened ((((t ++ h.front) ++ p.front) ++ v.front) ++ q.front) q.middle new q.back passed
     q.second in
     (joined-stands Stage.Between new.plain.opened t h.front h.back a new h.joined
@@ -302,12 +319,12 @@ serving-leaves marked t s new a k below h =
     (LeftFor TurnAnswer.Memory)
     (serving-cut s.plain.opened) marked t s new a below k h
 
-passing-leaves : (n : ℕ) (t : Trace) (s new : State) (a : Trace) → StandsWith n t (Stage.Serving []) s →
+passing-leaves : (n : ℕ) (t : Trace) (s new : State) (a : Trace) → HasNoHooks s.settings → StandsWith n t (Stage.Serving []) s →
     CutForAllLinks PassesLink CutPassingLink s a new → LeftFor TurnAnswer.Memory (t ++ a) new
-passing-leaves n t s new a k h =
+passing-leaves n t s new a none k h =
     cut-leaves s.plain.opened (link_below s.plain.opened) passing_links PassesLink (passing_links-keep s.plain.opened) CutPassingLink
     (LeftFor TurnAnswer.Memory) (passing_links-cut s.plain.opened)
-    (links_from 0 s.plain.opened) t s new a (all-below s.plain.opened) (served-pass n t s k) h
+    (links_from 0 s.plain.opened) t s new a (all-below s.plain.opened) (served-pass n t s none k) h
 
 closing-leaves : (n : ℕ) (t : Trace) (s new : State) (a : Trace) → StandsWith n t (Stage.Passing [] []) s →
     CutForAllLinks ClosesLink CutClosingLink s a new → LeftFor TurnAnswer.Memory (t ++ a) new
@@ -317,40 +334,43 @@ closing-leaves n t s new a k h =
     (links_from 0 s.plain.opened) t s new a (all-below s.plain.opened) (passed-close n t s k) h
 
 -- A turn that is cut off leaves the relay standing for the longer trace, at a stage at which a turn may answer so.
-pub cut_turn_leaves : (f : DriveFault) (t : Trace) (s new : State) (a : Trace) → StandsFor t Stage.Between s → CutTurn f s a new →
-    LeftFor (turn_answer_of f) (t ++ a) new
-cut_turn_leaves f t s new a k (before h) =
+pub cut_turn_leaves : (f : DriveFault) (t : Trace) (s new : State) (a : Trace) → HasNoHooks s.settings → StandsFor t Stage.Between s →
+    CutTurn f s a new → LeftFor (turn_answer_of f) (t ++ a) new
+cut_turn_leaves f t s new a none k (before h) =
     left-stands s.plain.opened (t ++ a) Stage.Between new tt
     (stands-nothing s.plain.opened t Stage.Between s new a (record { stands = k; opened = refl }) h)
-cut_turn_leaves f t s new a k (in_poll reading h) =
+cut_turn_leaves f t s new a none k (in_poll reading h) =
     let tick = tick-stands t s h.middle h.front reading k h.first in
     joined-leaves (turn_answer_of f) t h.front h.back a new h.joined
     (polling-leaves f (t ++ h.front) h.middle new h.back (record { stands = tick.stands; opened = refl }) h.second)
-cut_turn_leaves f t s new a k (in_serving reading marked h) =
+cut_turn_leaves f t s new a none k (in_serving reading marked h) =
     let tick = tick-stands t s h.middle h.front reading k h.first in
     let p = h.second in
     let poll = accepts-stand marked (t ++ h.front) h.middle p.middle p.front tick.stands p.first in
     joined-leaves TurnAnswer.Memory t h.front h.back a new h.joined
     (joined-leaves TurnAnswer.Memory (t ++ h.front) p.front p.back h.back new p.joined
     (serving-leaves marked ((t ++ h.front) ++ p.front) p.middle new p.back poll.0 poll.1 p.second))
-cut_turn_leaves f t s new a k (in_passing reading marked h) =
+cut_turn_leaves f t s new a none k (in_passing reading marked h) =
     let tick = tick-stands t s h.middle h.front reading k h.first in
     let p = h.second in
     let poll = accepts-stand marked (t ++ h.front) h.middle p.middle p.front tick.stands p.first in
     let v = p.second in
     let served = serves-all marked ((t ++ h.front) ++ p.front) p.middle v.middle v.front poll.0 poll.1 v.first in
+    let unhooked = unhooked-served reading marked s h.middle p.middle v.middle h.front p.front v.front none h.first p.first v.first in
     joined-leaves TurnAnswer.Memory t h.front h.back a new h.joined
     (joined-leaves TurnAnswer.Memory (t ++ h.front) p.front p.back h.back new p.joined
     (joined-leaves TurnAnswer.Memory ((t ++ h.front) ++ p.front) v.front v.back p.back new v.joined
-    (passing-leaves p.middle.plain.opened (((t ++ h.front) ++ p.front) ++ v.front) v.middle new v.back served v.second)))
-cut_turn_leaves f t s new a k (in_closing reading marked h) =
+    (passing-leaves p.middle.plain.opened (((t ++ h.front) ++ p.front) ++ v.front) v.middle new v.back unhooked served v.second)))
+cut_turn_leaves f t s new a none k (in_closing reading marked h) =
     let tick = tick-stands t s h.middle h.front reading k h.first in
     let p = h.second in
     let poll = accepts-stand marked (t ++ h.front) h.middle p.middle p.front tick.stands p.first in
     let v = p.second in
     let served = serves-all marked ((t ++ h.front) ++ p.front) p.middle v.middle v.front poll.0 poll.1 v.first in
     let q = v.second in
-    let passed = passes-all p.middle.plain.opened (((t ++ h.front) ++ p.front) ++ v.front) v.middle q.middle q.front served q.first in
+    let unhooked = unhooked-served reading marked s h.middle p.middle v.middle h.front p.front v.front none h.first p.first v.first in
+    let passed = passes-all p.middle.plain.opened (((t ++ h.front) ++ p.front) ++ v.front) v.middle q.middle q.front unhooked served
+    q.first in
     joined-leaves TurnAnswer.Memory t h.front h.back a new h.joined
     (joined-leaves TurnAnswer.Memory (t ++ h.front) p.front p.back h.back new p.joined
     (joined-leaves TurnAnswer.Memory ((t ++ h.front) ++ p.front) v.front v.back p.back new v.joined

@@ -60,7 +60,7 @@ counts-fold f each s (x ∷ xs) = counts-then (each s x) (counts-fold f each (f 
 taken-flows : (g : Settings) (ms : ℕ) (p : Plain) → (timers_taken g (turned_to ms p)).flows ≡ p.flows
 taken-flows g ms p =
     let q : Plain = turned_to ms p in
-    go (record q { timers = filter (λ x. nat_lt ms x.deadline) q.timers }) ((filter (λ x. nat_le x.deadline ms) q.timers))
+    go (record q { timers = filter (λ x. nat_lt ms x.deadline) q.timers }) (filter (λ x. nat_le x.deadline ms) q.timers)
   where
     raised : (z : Plain) (x : Timer) → (raise g x.side why.Timer z).flows ≡ z.flows
     raised z x = by_hook (has_hook g x.side && is_live z x.side)

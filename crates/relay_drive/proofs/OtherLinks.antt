@@ -1,6 +1,6 @@
 -- What each step of a turn leaves of every other link than the one that it is about, and what was found of a link is still so where
 -- the link is the same.
-use Rattle.std.specs.Prelude.{MatchBool, is_some, slice_index_or, option_map}
+use Rattle.std.specs.Prelude.{MatchBool, is_some, slice_index_or, slice_set, Option, option_map}
 use Rattle.std.specs.List.{AllByRecursion, All}
 use Rattle.std.proofs.Common.{◌≡◌, ◌≢◌, ℕ, ◌*◌, ◌<◌, Bool, true, false, ◌&&◌, nat_le, nat_lt, if◌then◌else◌, List, [], ◌∷◌, ◌++◌, length, refl, sym, ◌∙◌, ap, subst, arith, zero, suc, None}
 use Rattle.std.proofs.lemmas.List.{get_or-set_other, get_or_append_left}
@@ -25,7 +25,7 @@ use Rattle.relay_model.specs.Flow.{Flow, no_flow}
 use Rattle.relay_model.specs.Settings.{Settings}
 use Rattle.relay_model.specs.Due.{with_reason}
 use Rattle.relay_model.specs.Plain as plain
-use Rattle.relay_model.specs.Plain.{Plain, PlainSide, no_side, side_at, flow_at, put_side, put_flow, change_side, change_flow, is_live}
+use Rattle.relay_model.specs.Plain.{Plain, PlainSide, Standing, no_side, side_at, flow_at, put_side, put_flow, change_side, change_flow, is_live}
 use Rattle.relay_model.specs.Reasons.{has_hook, raise, happened, end_flag, error_flag}
 use Rattle.relay_model.specs.Moments.{active_at}
 use Rattle.relay_model.specs.Rooms.{is_connecting}
@@ -33,17 +33,20 @@ use Rattle.relay_model.specs.Serve as model
 use Rattle.relay_model.specs.Close.{fault, freed_entry}
 use Rattle.relay_model.specs.Turn.{turned_to}
 use Rattle.relay_model.proofs.PlainLemmas.{half-below}
-use Rattle.relay_state.specs.State.{State, Lane, no_lane, lane_at, with_plain, with_lane, lane_left}
+use Rattle.relay_state.specs.Running.{Gauge, no_gauge, held_at}
+use Rattle.relay_state.specs.State.{State, Lane, no_lane, lane_at, gauge_at, with_plain, with_lane, lane_got, lane_taken, lane_left}
 use Rattle.relay_state.specs.Passage.{Passage}
 use Rattle.relay_state.specs.Passing.{with_bad, plain_passed, with_passage, PassedFrom, read_run, passage_at, round_from}
-use Rattle.relay_state.specs.Rooms.{wants, input_length, output_length, read_room, write_room}
+use Rattle.relay_state.specs.Rooms.{wants, allowance, input_length, output_length, read_room, write_room}
+use Rattle.relay_state.specs.Opening.{after_opened}
 use Rattle.relay_state.specs.Serving.{raise_read, raise_write, after_conn, with_got, after_got, after_read, flow_given, with_taken, after_took, after_write}
-use Rattle.relay_state.specs.Closing.{in_side, out_side, closing_entry, freed}
+use Rattle.relay_state.specs.Closing.{in_side, out_side, closing_entry, freed, without_batch}
 use Rattle.relay_state.specs.Counting.{is_open}
 use Rattle.relay_core.specs.declared.close.Closing.{Closing}
 use Rattle.relay_core.specs.declared.close.Closing.TheVariants as closing
 use Rattle.relay_core.specs.Steps as steps
 use Rattle.relay_core.specs.Steps.{steps_of, link_of_step, after_closing}
+use Rattle.relay_core.specs.Unlimited.{HasNoLimits}
 use Rattle.relay_drive.specs.Steps.{Nothing, Then, Each}
 use Rattle.relay_drive.specs.PassPhase.{PassesLink}
 use Rattle.relay_drive.specs.ServePhase.{ReadsSide, WritesSide, ConnectsSide, ServesSide}
@@ -54,7 +57,7 @@ use Rattle.relay_drive.specs.Links.{SameLink, HasPairs, IsStillFrom, IsStill, Is
 
 -- where nothing changed, and where one change stands behind another
 pub same_link : (k : ℕ) (s : State) → SameLink k s s
-same_link k s = record { settings = refl; side = λ e h. refl; flow = λ e h. refl; lane = λ e h. refl }
+same_link k s = record { settings = refl; side = λ e h. refl; flow = λ e h. refl; lane = λ e h. refl; allowed = λ e h d. refl }
 
 pub same_link-then : (k : ℕ) {s mid new : State} → SameLink k s mid → SameLink k mid new → SameLink k s new
 same_link-then k a b = record {
@@ -62,6 +65,7 @@ same_link-then k a b = record {
   side = λ e h. b.side e h ∙ a.side e h;
   flow = λ e h. b.flow e h ∙ a.flow e h;
   lane = λ e h. b.lane e h ∙ a.lane e h;
+  allowed = λ e h d. b.allowed e h d ∙ a.allowed e h d;
 }
 
 same_link-is : (k : ℕ) {s new : State} → new ≡ s → SameLink k s new
@@ -73,25 +77,37 @@ same_link-is k {s = s} h = subst (SameLink k s) (sym h) (same_link k s)
 numbers-apart : (k : ℕ) (e z : SideId) → k ≢ e.link → z.link ≡ k → number z ≢ number e
 numbers-apart k e z other here same = omega (arith, same, here, other, half-below e.side, half-below z.side)
 
--- the sides and directions of this link are as they were
+-- what the limit of a side leaves, by its limit, its bucket and the time
+abbrev left_by : Option Standing → Gauge → Dir → ℕ → Option ℕ
+left_by limit x d time = option_map (λ y. held_at y.cfg x d time) limit
+
+-- it is as it was where they are
+left-same : (s new : State) (e : SideId) (d : Dir) → side_at new.plain e ≡ side_at s.plain e → gauge_at new e ≡ gauge_at s e →
+    new.plain.time ≡ s.plain.time → allowance new e d ≡ allowance s e d
+left-same s new e d side gauge time = λ i. left_by (side i).limit (gauge i) d (time i)
+
+-- the sides and directions of this link are as they were, and the time
 record SameParts (k : ℕ) (p new : Plain) : Type 0 where
+  time : new.time ≡ p.time
   side : (e : SideId) → e.link ≡ k → side_at new e ≡ side_at p e
   flow : (e : SideId) → e.link ≡ k → flow_at new e ≡ flow_at p e
 
 parts-same : (k : ℕ) (p : Plain) → SameParts k p p
-parts-same k p = record { side = λ e h. refl; flow = λ e h. refl }
+parts-same k p = record { time = refl; side = λ e h. refl; flow = λ e h. refl }
 
 parts-then : (k : ℕ) {p mid new : Plain} → SameParts k p mid → SameParts k mid new → SameParts k p new
-parts-then k a b = record { side = λ e h. b.side e h ∙ a.side e h; flow = λ e h. b.flow e h ∙ a.flow e h }
+parts-then k a b = record { time = b.time ∙ a.time; side = λ e h. b.side e h ∙ a.side e h; flow = λ e h. b.flow e h ∙ a.flow e h }
 
 parts-side : (k : ℕ) (e : SideId) (x : PlainSide) (p : Plain) → k ≢ e.link → SameParts k p (put_side e x p)
 parts-side k e x p other = record {
+  time = refl;
   side = λ z h. get_or-set_other p.sides (number e) (number z) x no_side (numbers-apart k e z other h);
   flow = λ z h. refl;
 }
 
 parts-flow : (k : ℕ) (e : SideId) (x : Flow) (p : Plain) → k ≢ e.link → SameParts k p (put_flow e x p)
 parts-flow k e x p other = record {
+  time = refl;
   side = λ z h. refl;
   flow = λ z h. get_or-set_other p.flows (number e) (number z) x no_flow (numbers-apart k e z other h);
 }
@@ -100,11 +116,17 @@ parts-raise : (k : ℕ) (g : Settings) (e : SideId) (y : Why) {p new : Plain} �
 parts-raise k g e y {p = p} {new = new} h = go (has_hook g e && is_live new e)
   where
     go : (b : Bool) → SameParts k p (if b then record new { due = with_reason e y new.due } else new)
-    go true = record { side = h.side; flow = h.flow }
+    go true = record { time = h.time; side = h.side; flow = h.flow }
     go false = h
 
 by_parts : (k : ℕ) (s : State) (p : Plain) → SameParts k s.plain p → SameLink k s (with_plain p s)
-by_parts k s p h = record { settings = refl; side = h.side; flow = h.flow; lane = λ e z. refl }
+by_parts k s p h = record {
+  settings = refl;
+  side = h.side;
+  flow = h.flow;
+  lane = λ e z. refl;
+  allowed = λ e z d. left-same s (with_plain p s) e d (h.side e z) refl h.time;
+}
 
 by_lane : (k : ℕ) (s : State) (e : SideId) (l : Lane) → k ≢ e.link → SameLink k s (with_lane e l s)
 by_lane k s e l other = record {
@@ -112,7 +134,24 @@ by_lane k s e l other = record {
   side = λ z h. refl;
   flow = λ z h. refl;
   lane = λ z h. get_or-set_other s.lanes (number e) (number z) l no_lane (numbers-apart k e z other h);
+  allowed = λ z h d. refl;
 }
+
+-- the bucket of a side of another link was replaced
+by_gauge : (k : ℕ) (s : State) (e : SideId) (x : Gauge) → k ≢ e.link → SameLink k s (record s { gauges = slice_set s.gauges (number e) x })
+by_gauge k s e x other = record {
+  settings = refl;
+  side = λ z h. refl;
+  flow = λ z h. refl;
+  lane = λ z h. refl;
+  allowed = λ z h d.
+      left-same s (record s { gauges = slice_set s.gauges (number e) x }) z d refl
+      (get_or-set_other s.gauges (number e) (number z) x no_gauge (numbers-apart k e z other h)) refl;
+}
+
+-- what is left to fire belongs to no link
+by_batch : (k : ℕ) (s : State) (e : SideId) → SameLink k s (without_batch e s)
+by_batch k s e = record { settings = refl; side = λ z h. refl; flow = λ z h. refl; lane = λ z h. refl; allowed = λ z h d. refl }
 
 -- Passing
 
@@ -165,8 +204,10 @@ conn-other k s e conn.Failed other = raised-other k s e _ (happened dir.Write er
 got-other : (k : ℕ) (s : State) (e : SideId) (bytes : List ℕ) → k ≢ e.link → SameLink k s (after_got s e bytes)
 got-other k s e bytes other =
     let p : Plain = model.after_read s.settings e (read.Got (length bytes)) s.plain in
-    let got : SameLink k s (with_got s e bytes) = same_link-then k (by_parts k s p (parts-side k e _ s.plain other))
+    let put : State = with_lane e (lane_got bytes (lane_at s e)) (with_plain p s) in
+    let before : SameLink k s put = same_link-then k (by_parts k s p (parts-side k e _ s.plain other))
     (by_lane k (with_plain p s) e _ other) in
+    let got : SameLink k s (with_got s e bytes) = same_link-then k before (by_gauge k put e _ other) in
     same_link-then k got
     (same_link-then k (passage-other k (with_got s e bytes) e _ other) (raise_read-other k (read_run e (with_got s e bytes)) e))
 
@@ -183,7 +224,9 @@ took-other k s e n other =
     let q : Plain = change_side e (active_at s.plain.time dir.Write) p in
     let both : SameParts k s.plain q = parts-then k (parts-flow k (peer e) (flow_given n (flow_at s.plain (peer e))) s.plain other)
     (parts-side k e (active_at s.plain.time dir.Write (side_at p e)) p other) in
-    let taken : SameLink k s (with_taken s e n) = same_link-then k (by_parts k s q both) (by_lane k (with_plain q s) (peer e) _ other) in
+    let put : State = with_lane (peer e) (lane_taken n (lane_at s (peer e))) (with_plain q s) in
+    let before : SameLink k s put = same_link-then k (by_parts k s q both) (by_lane k (with_plain q s) (peer e) _ other) in
+    let taken : SameLink k s (with_taken s e n) = same_link-then k before (by_gauge k put e _ other) in
     same_link-then k taken (raise_write-other k (with_taken s e n) e)
 
 write-other : (k : ℕ) (s : State) (e : SideId) (answer : WriteAnswer) → k ≢ e.link → SameLink k s (after_write s e answer)
@@ -228,11 +271,12 @@ serves-other k w s new a h other = go (is_connecting s.plain w.side) h
 -- a side of another link was freed
 freed-other : (k : ℕ) (s : State) (e : SideId) → k ≢ e.link → SameLink k s (freed e s)
 freed-other k s e other =
+    let r : State = without_batch e s in
     let p : Plain = plain.freed e s.plain in
-    let side : SameParts k s.plain p = record { side = (parts-side k e _ s.plain other).side; flow = λ z h. refl } in
-    let own : State = with_lane e (lane_left (lane_at s e)) (with_plain p s) in
-    let first : SameLink k s own = same_link-then k (by_parts k s p side) (by_lane k (with_plain p s) e _ other) in
-    same_link-then k first (by_lane k own (peer e) _ other)
+    let side : SameParts k s.plain p = record { time = refl; side = (parts-side k e _ s.plain other).side; flow = λ z h. refl } in
+    let own : State = with_lane e (lane_left (lane_at s e)) (with_plain p r) in
+    let first : SameLink k r own = same_link-then k (by_parts k r p side) (by_lane k (with_plain p r) e _ other) in
+    same_link-then k (by_batch k s e) (same_link-then k first (by_lane k own (peer e) _ other))
 
 closing-other : (k : ℕ) (s : State) (step : Closing) → k ≢ link_of_step step → SameLink k s (after_closing s step)
 closing-other k s (closing.Faulty e) other = freed-other k s e other
@@ -275,18 +319,29 @@ kept-place k n xs ys d e many below here = get_or_append_left xs ys d (number e)
 pub opens-other : (k : ℕ) (s new : State) (a : Trace) → OpensOne s a new → HasPairs s → k < s.plain.opened → SameLink k s new
 opens-other k s new a h pairs below =
     let n : ℕ = s.plain.opened in
+    let new : State = after_opened s h.0 in
     subst (SameLink k s) (sym h.1.state) (record {
       settings = refl;
       side = λ e here. kept-place k n s.plain.sides _ no_side e pairs.sides below here;
       flow = λ e here. kept-place k n s.plain.flows _ no_flow e pairs.flows below here;
       lane = λ e here. kept-place k n s.lanes _ no_lane e pairs.lanes below here;
+      allowed = λ e here d.
+          left-same s new e d (kept-place k n s.plain.sides _ no_side e pairs.sides below here)
+          (kept-place k n s.gauges _ no_gauge e pairs.gauges below here) refl;
     })
 
 -- A turn begins
 
--- the time and the number of turns belong to no link
-pub turned-same : (k ms : ℕ) (s : State) → SameLink k s (with_plain (turned_to ms s.plain) s)
-turned-same k ms s = record { settings = refl; side = λ e h. refl; flow = λ e h. refl; lane = λ e h. refl }
+-- the time and the number of turns belong to no link, where no bucket is refilled as time goes on
+pub turned-same : (k ms : ℕ) (s : State) → HasNoLimits s → SameLink k s (with_plain (turned_to ms s.plain) s)
+turned-same k ms s none = record {
+  settings = refl;
+  side = λ e h. refl;
+  flow = λ e h. refl;
+  lane = λ e h. refl;
+  allowed = λ e h d.
+      ap (λ limit. left_by limit (gauge_at s e) d ms) (none e) ∙ sym (ap (λ limit. left_by limit (gauge_at s e) d s.plain.time) (none e));
+}
 
 -- What was found of a link is still so
 
@@ -315,10 +370,12 @@ wants-same h e here dir.Read =
     let own = h.side e here in
     let far = h.side (peer e) here in
     let lane = h.lane e here in
+    let allowed = h.allowed e here dir.Read in
     cc
 wants-same h e here dir.Write =
     let own = h.side e here in
     let lane = h.lane (peer e) here in
+    let allowed = h.allowed e here dir.Write in
     cc
 
 -- a side of it lives as before

@@ -2,6 +2,7 @@
 use Rattle.std.proofs.Common.{◌≡◌, Bool, ◌++◌, Option, sym, subst, arith, length-append}
 use Rattle.ev_types.specs.Trace.{Trace}
 use Rattle.ev_port.specs.Faults.{Faults}
+use Rattle.relay_model.specs.Settings.{HasNoHooks}
 use Rattle.relay_state.specs.State.{State}
 use Rattle.relay_drive.specs.declared.fault.DriveFault.{DriveFault}
 use Rattle.relay_drive.specs.declared.run.Run.{Run}
@@ -15,18 +16,18 @@ abbrev pub drive_value : Run → Option DriveFault → DriveValue
 drive_value run r = record { state = run.relay.state; entries = run.entries; refusal = r }
 
 pub went_of : {Plan : Type 0} → {R : State → Trace → State → Type 0} {After : Trace → State → Type 0} →
-    ((t : Trace) (s new : State) (a : Trace) → StandsBetween t s → R s a new → After (t ++ a) new) →
+    ((t : Trace) (s new : State) (a : Trace) → HasNoHooks s.settings → StandsBetween t s → R s a new → After (t ++ a) new) →
     {failed : Bool} {old new : DriveValue} {run run' : Run} {log log' : Option Trace} {v v' : Known Plan} {f f' : Faults}
-    (r r' : Option DriveFault) →
+    (r r' : Option DriveFault) → HasNoHooks run.relay.state.settings →
     old ≡ drive_value run r → new ≡ drive_value run' r' → Advances R failed run run' log log' v v' f f' →
     DriveWent R After failed old new log log' v v' f f'
 went_of {R = R} {After = After} law {failed = failed} {new = new} {run = run} {run' = run'} {log = log} {log' = log'} {v = v}
-    {v' = v'} {f = f} {f' = f'} r r' p q g =
+    {v' = v'} {f = f} {f' = f'} r r' none p q g =
     subst (λ z. DriveWent R After failed z new log log' v v' f f') (sym p)
     (subst (λ z. DriveWent R After failed (drive_value run r) z log log' v v' f f') (sym q) (record {
       added = g.added;
       does = g.does;
-      means = λ t k. law t run.relay.state run'.relay.state g.added k g.does;
+      means = λ t k. law t run.relay.state run'.relay.state g.added none k g.does;
       list = g.list;
       settings = g.settings;
       stands = λ t k. record {

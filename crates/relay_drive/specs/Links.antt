@@ -2,6 +2,7 @@
 -- alone, so that what was found of another one is still so.
 use Rattle.std.specs.Prelude.{◌≡◌, ℕ, false, is_some}
 use Rattle.std.specs.List.{All}
+use Rattle.token_bucket.specs.declared.limit.Dir.{Dir}
 use Rattle.ev_types.specs.declared.side.SideId.{SideId}
 use Rattle.relay_model.specs.Settings.{no_timeouts}
 use Rattle.relay_model.specs.Plain.{side_at, flow_at}
@@ -11,15 +12,17 @@ pub use Rattle.relay_core.specs.Pairs.{HasPairs}
 use Rattle.relay_core.specs.Steps as steps
 use Rattle.relay_core.specs.Steps.{steps_of}
 use Rattle.relay_state.specs.State.{State, lane_at}
+use Rattle.relay_state.specs.Rooms.{allowance}
 use Rattle.relay_state.specs.Passing.{passage_at, round_from}
 use Rattle.relay_state.specs.Closing.{in_side, out_side, closing_entry}
 
--- what belongs to this link is as it was, and the settings
+-- what belongs to this link is as it was, and the settings: also what the limits of its sides leave them to move
 pub record SameLink (k : ℕ) (s new : State) : Type 0 where
   pub settings : new.settings ≡ s.settings
   pub side : (e : SideId) → e.link ≡ k → side_at new.plain e ≡ side_at s.plain e
   pub flow : (e : SideId) → e.link ≡ k → flow_at new.plain e ≡ flow_at s.plain e
   pub lane : (e : SideId) → e.link ≡ k → lane_at new e ≡ lane_at s e
+  pub allowed : (e : SideId) → e.link ≡ k → (d : Dir) → allowance new e d ≡ allowance s e d
 
 -- no side gets a timeout as its link opens
 abbrev pub IsUntimed : State → Type 0

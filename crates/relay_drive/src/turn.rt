@@ -136,6 +136,7 @@ pub(crate) fn next_turn<P: Port, S: Scribe>(
     ensures went { nat_le (2 ^ 62) run.old.entries || is_spent run.old.relay.state ≡ false →
         GetsTo P.Port S.Scribe result Point.Between Point.Accepted (λ _. Turns) CutTurn
         (run.old, port.old, scribe.old) (run.new, port.new, scribe.new) }
+    ensures settings { run.new.relay.state.settings ≡ run.old.relay.state.settings }
     ensures kept { OnOk result (IsKept looks.new run.new.relay.state) }
     ensures named { OnOk result (IsNamed looks.new wants.new run.new.relay.state) }
 {

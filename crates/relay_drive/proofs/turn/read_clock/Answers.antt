@@ -54,7 +54,9 @@ returns-clause-opened g c =
 pub returns-clause-still : goal.returns-clause-still
 returns-clause-still g c =
     let s = c.args.run.now.relay.state in
-    λ untimed k. subst (SameLink k s) (sym (c.begin-ms.ensures.still untimed.0 untimed.1)) (turned-same k c.begin-ms.result s)
+    λ untimed k.
+    subst (SameLink k s) (sym (c.begin-ms.ensures.still untimed.0 untimed.1))
+    (turned-same k c.begin-ms.result s c.begin-ms.ensures.unlimited)
 
 pub returns-clause-near : goal.returns-clause-near
 returns-clause-near g c = λ near. subst AreNear (sym c.begin-ms.ensures.state) (near-begun c.args.run.now.relay.state c.begin-ms.result near)

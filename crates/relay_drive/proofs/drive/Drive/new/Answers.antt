@@ -7,6 +7,7 @@ invariant_of-result c =
     let none : c.new.result.state.plain.opened ≡ 0 = ap (λ (z : State). z.plain.opened) c.new.ensures in
     record {
       inbox = c.in-Ok.ensures.len;
+      unhooked = record { none = ap (λ (z : State). z.settings.hooks) c.new.ensures };
       kept = λ _. record {
         pass_covers = omega (arith, none);
         close_covers = omega (arith, none);
