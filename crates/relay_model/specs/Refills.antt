@@ -66,7 +66,8 @@ abbrev pub GroupsOweLess : Type 0
 GroupsOweLess = (g : Settings) (t : Trace) (s : State) (n : ℕ) (d : Dir) (x : GroupSet) → slice_get g.groups n ≡ Some x → Reaches g t s →
     OwesAtMost (limit_of x.cfg d) (least_share x - 1) 0 (limit_of x.cfg d).rate (group_spells g n d t) s.plain.time
 
--- So a group whose members moved nothing in a turn isn't suspended as the next one begins, where a tick began before each of the two.
+-- So a group whose least share isn't 0 and whose members moved nothing in a turn isn't suspended as the next one begins, where a tick
+-- began before each of the two.
 abbrev pub GroupsComeBack : Type 0
 GroupsComeBack = (g : Settings) (t : Trace) (s : State) (n : ℕ) (d : Dir) (x : GroupSet) (one : ℕ) (part : Trace) (two : ℕ) →
     slice_get g.groups n ≡ Some x → 1 ≤ least_share x → Reaches g t s → list_any is_turn part ≡ false →

@@ -1,7 +1,7 @@
 // Laws on what a bucket may owe and what ticks bring to it, each on a function whose contract it is.
 ghost use Rattle.relay_model.specs.Refills.{GroupsComeBack, GroupsOweLess, SidesComeBack, SidesOweNothing, TickBringsByte, TwoTicksBring};
 
-/// A bucket that owes nothing holds a byte one tick later.
+/// A bucket that owes nothing holds a byte as a turn begins a tick later.
 pub fn a_tick_brings_a_byte()
     ensures { TickBringsByte }
 {}
@@ -26,7 +26,8 @@ pub fn groups_owe_less()
     ensures { GroupsOweLess }
 {}
 
-/// A group whose members moved nothing in a turn isn't suspended as the next one begins, a tick having begun before each.
+/// A group with a least share whose members moved nothing in a turn isn't suspended as the next one begins, a tick having begun before
+/// each.
 pub fn groups_come_back()
     ensures { GroupsComeBack }
 {}

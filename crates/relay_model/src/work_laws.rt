@@ -22,7 +22,7 @@ pub fn moves_are_measured()
     ensures { MovesAreMeasured }
 {}
 
-/// Turns of which no two in a row pass without an event that moves on are few, by the bytes that were read and buffered.
+/// With no hooks, turns of which no two in a row pass without an event that moves on are few, by the bytes that were read and buffered.
 pub fn turns_are_few()
     ensures { TurnsAreFew }
 {}
