@@ -1,3 +1,5 @@
 pub mod WantMarkLemmas
 pub mod TableMarkLemmas
 pub mod HeardLemmas
+pub mod ReportLemmas
+pub mod LookLemmas

@@ -6,19 +6,19 @@ use Rattle.std.specs.declared.net.socket_addr.SocketAddr.TheVariants.{V4, V6}
 use Rattle.std.specs.Net.Addr.{ipv4_octets}
 use Rattle.std.specs.Net.Socket.{v4_ip, v4_port}
 use Rattle.std.specs.declared.net.socket_addr.SocketAddr.{SocketAddr}
-use Rattle.mio.specs.declared.net.listener.TcpListener.{TcpListener}
 use Rattle.ev_port.specs.Counting.{counted, risen_if}
 use Rattle.ev_types.specs.declared.addr.Addr.{Addr}
 use Rattle.mio_port.specs.declared.door.Miss.{Miss}
 use Rattle.mio_port.specs.declared.door.Miss.TheVariants as miss
 use Rattle.mio_port.specs.declared.door.Door.{Door}
+use Rattle.mio_port.specs.declared.door.Listener.{Listener}
 
 -- no listener, after so many faults
 abbrev pub shut_door : ℕ → Door
 shut_door faults = record { listener = None; target = None; ready = false; paused_to = None; faults = faults }
 
 -- a listener that was just made
-abbrev pub opened_door : TcpListener → SocketAddr → ℕ → Door
+abbrev pub opened_door : Listener → SocketAddr → ℕ → Door
 opened_door listener target faults =
     record { listener = Some listener; target = Some target; ready = false; paused_to = None; faults = faults }
 

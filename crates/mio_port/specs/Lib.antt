@@ -1,10 +1,13 @@
 pub mod Attempts
 pub mod Scarcity
 pub mod WholeMillis
+pub mod Clock
 pub mod OneEnd
 pub mod EndPlaces
 pub mod Door
 pub mod Waiting
+pub mod Reports
+pub mod Asking
 pub mod PortFaults
 pub mod EndAnswers
 pub mod EndLeft

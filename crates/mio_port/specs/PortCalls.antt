@@ -1,6 +1,6 @@
 -- What each call of the port says beyond what every port says: which ends stand where, and what is answered for one that
 -- isn't there.
-use Rattle.std.specs.Prelude.{◌≡◌, ◌≢◌, ◌⊎◌, ℕ, ◌+◌, ◌*◌, ⊤, Bool, true, false, ◌&&◌, List, [], map, filter, Option, Some, None, Result, Ok, Err, is_some, MatchOption, slice_index_or}
+use Rattle.std.specs.Prelude.{◌≡◌, ◌≢◌, ◌⊎◌, ℕ, ◌+◌, ◌*◌, ⊤, Bool, true, false, ◌&&◌, List, [], map, filter, Option, Some, None, Result, Ok, Err, MatchOption, slice_index_or}
 use Rattle.ev_types.specs.declared.addr.Addr.{Addr}
 use Rattle.ev_port.specs.declared.port.Accepted.{Accepted}
 use Rattle.ev_port.specs.declared.port.Accepted.TheVariants as accepted
@@ -19,11 +19,12 @@ use Rattle.mio_port.specs.EndPlaces.{PlacesStay, holds, marked, unmarked}
 
 -- Starting
 
--- a port that was started listens and has the target that it was given; any other listens nowhere
-abbrev pub Listens : Door → Addr → Started → Type 0
-Listens d to started.Started = (is_some d.listener ≡ true) × MatchOption d.target ⊥ (λ target. addr_of target ≡ Some to)
-Listens d to started.Failed = d.listener ≡ None
-Listens d to started.NoMemory = d.listener ≡ None
+-- a port that was started listens at the address that it was given, and has the target; any other listens nowhere
+abbrev pub Listens : Door → Addr → Addr → Started → Type 0
+Listens d at to started.Started =
+    MatchOption d.listener ⊥ (λ listener. addr_of listener.at ≡ Some at) × MatchOption d.target ⊥ (λ target. addr_of target ≡ Some to)
+Listens d at to started.Failed = d.listener ≡ None
+Listens d at to started.NoMemory = d.listener ≡ None
 
 -- Polling
 

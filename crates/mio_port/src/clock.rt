@@ -1,6 +1,7 @@
 // The port's clock: milliseconds of the system's steady clock since the port was made.
 ghost use Rattle.std.specs.Prelude.{◌≡◌, ◌≤◌};
 ghost use Rattle.mio_port.specs.WholeMillis.{millis_of};
+ghost use Rattle.mio_port.specs.Clock.{after_reading};
 
 use std::time::{Clock, Duration, Instant};
 
@@ -24,11 +25,20 @@ impl SteadyClock {
         }
     }
 
+    /// Reads the system's clock, and passes on to what it tells.
     pub(crate) fn read(&mut self, rt: &impl Clock) -> u64
         ensures steady { self.old.last ≤ result }
         ensures kept { self.new.last ≡ result }
     {
-        if let Ok(now) = Instant::now(rt) {
+        self.pass_to(Instant::now(rt).ok())
+    }
+
+    /// The system's clock told this, or could not be read.
+    fn pass_to(&mut self, reading: Option<Instant>) -> u64
+        ensures kept { self.new.last ≡ result }
+        ensures after { self.new ≡ after_reading self.old reading }
+    {
+        if let Some(now) = reading {
             let origin = self.origin.unwrap_or(now);
             self.origin = Some(origin);
             self.last = self.last.max(whole_millis(now.duration_since(origin)));

@@ -1,5 +1,5 @@
 // The listener, where its links are connected to, and when it can be asked for another link.
-ghost use Rattle.std.specs.Prelude.{◌≡◌, None, Some, is_none, true, false, Err};
+ghost use Rattle.std.specs.Prelude.{◌≡◌, None, Some, is_none, true, false, Err, IfOk};
 ghost use Rattle.std.specs.IoError.{error_kind, raw_os_error};
 ghost use Rattle.mio_port.specs.Scarcity.{is_scarce};
 ghost use Rattle.mio_port.specs.Door.{miss_of_kind, addr_of, shut_door, opened_door, is_open, after_time, faulty_door};
@@ -9,7 +9,16 @@ use ev_port::Addr;
 use mio::net::{TcpListener, TcpStream};
 use std::io;
 use std::io::ErrorKind;
-use std::net::{Ipv4Addr, SocketAddr};
+use std::net::{Ipv4Addr, Net, SocketAddr};
+
+/// A listener, and the address that it was told to listen at.
+///
+/// Own.
+#[derive(Drop)]
+pub(crate) struct Listener {
+    pub(crate) socket: TcpListener,
+    at: SocketAddr,
+}
 
 /// The listener and the target of its links. It is ready once the kernel told that a link waits, and until an accept finds
 /// none. It is paused, up to a time of the port's clock, where the system had no descriptor or no memory for a link.
@@ -17,7 +26,7 @@ use std::net::{Ipv4Addr, SocketAddr};
 /// Own.
 #[derive(Drop)]
 pub(crate) struct Door {
-    listener: Option<TcpListener>,
+    listener: Option<Listener>,
     target: Option<SocketAddr>,
     ready: bool,
     paused_to: Option<u64>,
@@ -66,6 +75,18 @@ pub(crate) fn addr_of(addr: SocketAddr) -> Option<Addr>
     }
 }
 
+impl Listener {
+    /// One that listens at this address.
+    pub(crate) fn bind<R: Net>(rt: &R, at: SocketAddr) -> io::Result<Listener>
+        ensures { IfOk result (λ made. made.at ≡ at) }
+    {
+        Ok(Listener {
+            socket: TcpListener::bind(rt, at)?,
+            at,
+        })
+    }
+}
+
 impl Door {
     pub(crate) fn new() -> Door
         ensures { result ≡ shut_door 0 }
@@ -89,7 +110,7 @@ impl Door {
         self.paused_to = None;
     }
 
-    pub(crate) fn open(&mut self, listener: TcpListener, target: SocketAddr)
+    pub(crate) fn open(&mut self, listener: Listener, target: SocketAddr)
         ensures { self.new ≡ opened_door listener target self.old.faults }
     {
         self.shut();
@@ -100,7 +121,7 @@ impl Door {
     pub(crate) fn local(&self) -> Option<Addr>
         ensures { is_none self.now.listener ≡ true → result ≡ None }
     {
-        addr_of(self.listener.as_ref()?.local_addr().ok()?)
+        addr_of(self.listener.as_ref()?.socket.local_addr().ok()?)
     }
 
     pub(crate) fn target(&self) -> Option<SocketAddr>
@@ -168,7 +189,7 @@ impl Door {
         let Some(listener) = &self.listener else {
             return Err(Miss::NoneWaits);
         };
-        match listener.accept() {
+        match listener.socket.accept() {
             Ok((stream, _from)) => Ok(stream),
             Err(error) => Err(miss_of(&error)),
         }

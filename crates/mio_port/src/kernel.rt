@@ -3,13 +3,15 @@ ghost use Rattle.std.specs.Prelude.{◌≡◌, ◌<◌, true, false, is_some, If
 ghost use Rattle.mio_port.specs.OneEnd.{fresh};
 ghost use Rattle.mio_port.specs.EndLeft.{AllHeard};
 ghost use Rattle.mio_port.specs.EndPlaces.{CountsStay};
-ghost use Rattle.mio_port.specs.Waiting.{looks_after, is_due, cut_to};
+ghost use Rattle.mio.specs.Events.{items};
+ghost use Rattle.mio_port.specs.Reports.{AsReported};
+ghost use Rattle.mio_port.specs.Waiting.{looks_after, is_due, longest_wait};
 
-use crate::door::Door;
+use crate::door::{Door, Listener};
 use crate::end::{Connection, End};
 use crate::ends::Ends;
 use crate::scarce::is_scarce;
-use mio::net::{TcpListener, TcpStream};
+use mio::net::TcpStream;
 use mio::{Events, Interest, Poll, Registry, Token};
 use std::alloc::{AllocGlobal, Global};
 use std::io;
@@ -25,7 +27,8 @@ pub(crate) const LOOK_EVERY: u32 = 16;
 // No end has this number.
 const LISTENER: Token = Token(usize::MAX);
 
-/// What is watched, how many polls went by since the kernel was last asked, and a descriptor that is kept for the second
+/// What is watched, how many polls went by since the kernel was last asked, how long the last wait was
+/// to last at most, and a descriptor that is kept for the second
 /// end of a link, whose first one may take the last.
 ///
 /// Own.
@@ -34,6 +37,7 @@ pub(crate) struct Kernel {
     poll: Poll,
     events: Events<Global>,
     skipped: u32,
+    most: Option<u64>,
     spare: Option<Registry>,
     ghost below: { skipped < 16 },
 }
@@ -45,16 +49,19 @@ impl Kernel {
             poll: Poll::new(rt)?,
             events,
             skipped: 0,
+            most: Some(0),
             spare: None,
         })
     }
 
-    /// A listener that is watched.
-    pub(crate) fn listen<R: Net>(&self, rt: &R, at: SocketAddr) -> io::Result<TcpListener> {
-        let mut listener = TcpListener::bind(rt, at)?;
+    /// A listener at this address that is watched.
+    pub(crate) fn listen<R: Net>(&self, rt: &R, at: SocketAddr) -> io::Result<Listener>
+        ensures { IfOk result (λ listener. listener.at ≡ at) }
+    {
+        let mut listener = Listener::bind(rt, at)?;
         self.poll
             .registry()
-            .register(&mut listener, LISTENER, Interest::READABLE)?;
+            .register(&mut listener.socket, LISTENER, Interest::READABLE)?;
         Ok(listener)
     }
 
@@ -95,6 +102,7 @@ impl Kernel {
     pub(crate) fn is_due(&mut self) -> bool
         ensures due { result ≡ is_due self.old.skipped }
         ensures counted { self.new.skipped ≡ looks_after self.old.skipped }
+        ensures same { self.new.most ≡ self.old.most }
     {
         self.skipped = (self.skipped + 1) % LOOK_EVERY;
         self.skipped == 0
@@ -102,9 +110,11 @@ impl Kernel {
 
     /// Waits for reports, at most so many milliseconds. An interrupted wait has none.
     pub(crate) fn wait(&mut self, timeout: Option<u64>) -> io::Result<()>
-        ensures { self.new.skipped ≡ 0 }
+        ensures skipped { self.new.skipped ≡ 0 }
+        ensures most { self.new.most ≡ timeout }
     {
         self.skipped = 0;
+        self.most = timeout;
         self.poll
             .poll(&mut self.events, timeout.map(Duration::from_millis))
     }
@@ -116,6 +126,9 @@ impl Kernel {
         ensures heard { AllHeard ends.old.ends.items ends.new.ends.items }
         ensures listener { door.new ≡ record door.old { ready = door.new.ready } }
         ensures waits { door.old.ready ≡ true → door.new.ready ≡ true }
+
+        // Exactly what they tell, in their order.
+        ensures told { AsReported (items self.now.events) ends.old.ends.items ends.new.ends.items door.old.ready door.new.ready }
     {
         for event in &self.events {
             if event.token() == LISTENER {
@@ -127,10 +140,22 @@ impl Kernel {
     }
 }
 
-/// A wait that ends with the pause at the latest, where there is one.
-pub(crate) fn cut_to(timeout: Option<u64>, pause: Option<u64>) -> Option<u64>
-    ensures { result ≡ cut_to timeout pause }
+/// How long a poll may wait: not at all where something that is asked for is ready, and else as long as it was told, but where links
+/// are asked for with the pause at the latest.
+pub(crate) fn longest_wait(
+    is_any: bool,
+    accept: bool,
+    timeout: Option<u64>,
+    pause: Option<u64>,
+) -> Option<u64>
+    ensures { result ≡ longest_wait is_any accept timeout pause }
 {
+    if is_any {
+        return Some(0);
+    }
+    if !accept {
+        return timeout;
+    }
     match (timeout, pause) {
         (Some(timeout), Some(pause)) => Some(timeout.min(pause)),
         (None, pause) => pause,

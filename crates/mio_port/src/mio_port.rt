@@ -1,6 +1,7 @@
 // The port over real sockets. Its parts keep the ends, the listener, the kernel's reports and the clock; here stands what
 // each call of a port does with them, and which count of faults it raises.
-ghost use Rattle.std.specs.Prelude.{◌≡◌, ◌<◌, ◌≤◌, ◌-◌, ⊤, [], true, false, length, is_some, is_none, None, option_map, MatchResult};
+ghost use Rattle.std.specs.Prelude.{◌≡◌, ◌<◌, ◌≤◌, ◌-◌, ⊤, [], true, false, length, is_none, None, option_map, MatchResult, ◌||◌, ◌&&◌};
+ghost use Rattle.std.specs.List.{list_any};
 ghost use Rattle.ev_types.specs.Sides.{number};
 ghost use Rattle.ev_port.specs.Silent.{silent_port, silent_end};
 ghost use Rattle.ev_port.specs.Vouching.{LongerBy, NothingWaits};
@@ -8,13 +9,14 @@ ghost use Rattle.ev_port.specs.EndSteps.{EndsWent, AllWent, PortStays, no_step};
 ghost use Rattle.ev_port.specs.Faults.{FaultsStay, EndFaults, PollFaults, ListenerFaults};
 ghost use Rattle.ev_port.specs.Calls.{Ticked, ClockRead, is_failed_start, StartedAt, is_failed_accept, accept_events, accept_step, AcceptedLink};
 ghost use Rattle.ev_port.specs.Polling.{is_failed_poll, opens_accepting, AllMarked, poll_events, poll_step, PolledWith};
-ghost use Rattle.ev_port.specs.Table.{RowsStay, TablePolled};
+ghost use Rattle.ev_port.specs.Table.{RowsStay, TablePolled, named};
 ghost use Rattle.ev_port.specs.Ends.{is_failed_conn, conn_step, conn_events, ReadWithin, is_failed_read, read_step, read_events, WriteWithin, is_failed_write, write_step, write_events, close_write_events, close_events, close_write_step, close_step};
 ghost use Rattle.mio_port.specs.EndAnswers.{connection_at, ReadBy, WrittenBy, CheckedBy};
-ghost use Rattle.mio_port.specs.Door.{after_time, missed_door, paused_door, shut_door};
+ghost use Rattle.mio_port.specs.Door.{after_time, is_open, missed_door, paused_door, shut_door};
 ghost use Rattle.mio_port.specs.EndLeft.{AllHeard, CheckLeft, IsNewOut, IsNewPair, NewEnds, PlaceLeft, ReadLeft, WriteLeft};
 ghost use Rattle.mio_port.specs.OneEnd.{closed_end};
-ghost use Rattle.mio_port.specs.EndPlaces.{PlacesStay, PlaceWent};
+ghost use Rattle.mio_port.specs.EndPlaces.{PlacesStay, PlaceWent, wants_ready};
+ghost use Rattle.mio_port.specs.Asking.{Looked, PollLooked};
 ghost use Rattle.mio_port.specs.PollLeft.{PollLeft};
 ghost use Rattle.mio_port.specs.PortCalls.{Listens, Marked, MarkedTable, Accepts, MadeLink, HasNoFault, IsNoLink, DoorAsked, missed_answer};
 ghost use Rattle.mio_port.specs.PortFaults.{IsFaultless, mio_faults, vouches_nothing, waits_untold};
@@ -23,7 +25,7 @@ use crate::clock::SteadyClock;
 use crate::door::{Door, Miss, miss_of, socket_addr};
 use crate::end::End;
 use crate::ends::{Ends, in_end, out_end, unmark};
-use crate::kernel::{Kernel, cut_to};
+use crate::kernel::{Kernel, longest_wait};
 use ev_port::{
     Accepted, Addr, ConnAnswer, Polled, Port, ReadAnswer, Started, Want, WantTable, WriteAnswer,
 };
@@ -105,7 +107,8 @@ impl<'a, R: Net + Clock + AllocGlobal> MioPort<'a, R> {
         ensures faults { self.new.door.faults ≡ self.old.door.faults }
         ensures polling { self.new.polling_faults ≡ self.old.polling_faults }
         ensures ends { self.new.ends ≡ self.old.ends }
-        ensures listens { MatchResult result (λ _. Listens self.new.door to Started.Started) (λ _. Listens self.new.door to Started.Failed) }
+        ensures listens { MatchResult result (λ _. Listens self.new.door at to Started.Started)
+            (λ _. Listens self.new.door at to Started.Failed) }
         ensures quiet { self.new.door.ready ≡ false }
         ensures unpaused { self.new.door.paused_to ≡ None }
         ensures clock { self.new.clock ≡ self.old.clock }
@@ -127,6 +130,7 @@ impl<'a, R: Net + Clock + AllocGlobal> MioPort<'a, R> {
         ensures left { PollLeft self.old self.new result }
         ensures asked { Accepts self.new.door accept result }
         ensures cause { PollFaults (mio_faults self.old) (mio_faults self.new) (is_failed_poll result) }
+        ensures looked { PollLooked (list_any (wants_ready self.old.ends.ends.items) wants.old) accept timeout self.old self.new result }
     {
         let is_any = self.ends.is_any_ready(wants);
         let polled = self.wait(is_any, accept, timeout);
@@ -149,6 +153,7 @@ impl<'a, R: Net + Clock + AllocGlobal> MioPort<'a, R> {
         ensures rows { RowsStay wants.old wants.new }
         ensures asked { Accepts self.new.door accept result }
         ensures cause { PollFaults (mio_faults self.old) (mio_faults self.new) (is_failed_poll result) }
+        ensures looked { PollLooked (list_any (wants_ready self.old.ends.ends.items) (named wants.old)) accept timeout self.old self.new result }
     {
         let is_any = self.ends.is_any_of_table_ready(wants);
         let polled = self.wait(is_any, accept, timeout);
@@ -159,20 +164,23 @@ impl<'a, R: Net + Clock + AllocGlobal> MioPort<'a, R> {
         polled
     }
 
+    // Something that is asked for can be done, at an end or at the listener.
+    fn is_any_asked(&self, is_any_ready: bool, accept: bool) -> bool
+        ensures { result ≡ (is_any_ready || (accept && is_open self.now.door)) }
+    {
+        is_any_ready || accept && self.door.is_open()
+    }
+
     // What every poll does before anything is marked, and its answer. It doesn't wait where something wanted is ready.
     fn wait(&mut self, is_any_ready: bool, accept: bool, timeout: Option<u64>) -> Polled
         ensures left { PollLeft self.old self.new result }
         ensures asked { Accepts self.new.door accept result }
         ensures cause { PollFaults (mio_faults self.old) (mio_faults self.new) (is_failed_poll result) }
+        ensures looked { PollLooked is_any_ready accept timeout self.old self.new result }
     {
         let pause = self.pause_left();
-        let is_any = is_any_ready || accept && self.door.is_open();
-        let most = if accept {
-            cut_to(timeout, pause)
-        } else {
-            timeout
-        };
-        if !self.look(is_any, most) {
+        let is_any = self.is_any_asked(is_any_ready, accept);
+        if !self.look(is_any, longest_wait(is_any, accept, timeout, pause)) {
             self.polling_faults = self.polling_faults.saturating_add(1);
             return Polled::Failed;
         }
@@ -183,13 +191,17 @@ impl<'a, R: Net + Clock + AllocGlobal> MioPort<'a, R> {
     }
 
     // Whether the kernel could be asked, if it was.
-    fn look(&mut self, is_any: bool, timeout: Option<u64>) -> bool
+    fn look(&mut self, is_any: bool, most: Option<u64>) -> bool
         ensures cause { FaultsStay (mio_faults self.old) (mio_faults self.new) }
         ensures heard { AllHeard self.old.ends.ends.items self.new.ends.ends.items }
         ensures listener { self.new.door ≡ record self.old.door { ready = self.new.door.ready } }
         ensures waits { self.old.door.ready ≡ true → self.new.door.ready ≡ true }
         ensures clock { self.new.clock ≡ self.old.clock }
         ensures unstarted { is_none self.old.kernel ≡ true → result ≡ false }
+
+        // Whether it was asked, for how long at most, and exactly what it told.
+        ensures looked { Looked is_any most self.old.kernel self.new.kernel self.old.ends.ends.items self.new.ends.ends.items
+            self.old.door.ready self.new.door.ready result }
     {
         let Some(kernel) = &mut self.kernel else {
             return false;
@@ -197,7 +209,7 @@ impl<'a, R: Net + Clock + AllocGlobal> MioPort<'a, R> {
         if is_any && !kernel.is_due() {
             return true;
         }
-        if kernel.wait(if is_any { Some(0) } else { timeout }).is_err() {
+        if kernel.wait(most).is_err() {
             return false;
         }
         kernel.tell(&mut self.ends, &mut self.door);
@@ -334,7 +346,7 @@ impl<'a, R: Net + Clock + AllocGlobal> Port for MioPort<'a, R> {
     ghost told = { λ _. silent_port };
 
     fn start(&mut self, listen: Addr, to: Addr) -> Started
-        ensures listens { Listens self.new.door to result }
+        ensures listens { Listens self.new.door listen to result }
         ensures quiet { self.new.door.ready ≡ false }
         ensures unpaused { self.new.door.paused_to ≡ None }
         ensures stays { self.new.ends ≡ self.old.ends }
@@ -375,6 +387,7 @@ impl<'a, R: Net + Clock + AllocGlobal> Port for MioPort<'a, R> {
         ensures marks { Marked self.new.ends.ends.items wants.old wants.new result }
         ensures accepts { Accepts self.new.door accept result }
         ensures left { PollLeft self.old self.new result }
+        ensures looked { PollLooked (list_any (wants_ready self.old.ends.ends.items) wants.old) accept timeout self.old self.new result }
 
         // What every port says.
         ensures marked { AllMarked wants.old wants.new }
@@ -392,6 +405,7 @@ impl<'a, R: Net + Clock + AllocGlobal> Port for MioPort<'a, R> {
         ensures marks { MarkedTable self.new.ends.ends.items wants.old wants.new result }
         ensures accepts { Accepts self.new.door accept result }
         ensures left { PollLeft self.old self.new result }
+        ensures looked { PollLooked (list_any (wants_ready self.old.ends.ends.items) (named wants.old)) accept timeout self.old self.new result }
 
         // What every port says.
         ensures rows { RowsStay wants.old wants.new }
