@@ -205,7 +205,8 @@ fn is_written(alloc: Global, entry: Entry, bytes: &[u8], owed: &[u8]) -> Result<
 
 fn is_read(alloc: Global, text: &[u8], entry: Entry, bytes: &[u8]) -> Result<bool, Fail> {
     let tape = read_trace(alloc, text)?;
-    Ok(tape.parts() == ([entry].as_slice(), bytes))
+    let (entries, kept) = tape.parts();
+    Ok(entries == [entry].as_slice() && kept == bytes)
 }
 
 /// The place of the first entry whose line is another, or is read as another.
@@ -219,11 +220,18 @@ fn first_other_entry(alloc: Global, rows: &[Row]) -> Result<Option<usize>, Fail>
     Ok(None)
 }
 
+/// The first other of each kind.
+fn first_of_each(alloc: Global) -> Result<[Option<usize>; 3], Fail> {
+    Ok([
+        first_other_entry(alloc, &polled())?,
+        first_other_entry(alloc, &called())?,
+        first_other_entry(alloc, &ended())?,
+    ])
+}
+
 #[test]
 fn each_entry_has_its_line(rt: HostRuntime) -> Result<(), Fail> {
-    assert_eq!(rt; first_other_entry(rt.alloc(), &polled())?, None);
-    assert_eq!(rt; first_other_entry(rt.alloc(), &called())?, None);
-    assert_eq!(rt; first_other_entry(rt.alloc(), &ended())?, None);
+    assert_eq!(rt; first_of_each(rt.alloc())?, [None; 3]);
     Ok(())
 }
 

@@ -3,8 +3,6 @@
 #![tactic(auto)]
 
 #[cfg(test)]
-mod base_scripts;
-#[cfg(test)]
 mod command_words;
 #[cfg(test)]
 mod entry_lines;
