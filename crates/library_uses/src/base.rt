@@ -7,6 +7,13 @@ use std::io::Print;
 /// A beat of 100 ms and a hangup signal, over three turns.
 pub fn a_beat_and_a_signal(rt: &impl Print, alloc: Global) -> anyhow::Result<()> {
     let mut base = Base::new(alloc, 2)?;
+    let answer = three_turns(rt, &mut base);
+    drop(base);
+    answer
+}
+
+// The base is lent, so that it is let go at one place.
+fn three_turns(rt: &impl Print, base: &mut Base) -> anyhow::Result<()> {
     let beat = base.new_event(true, None)?;
     let hangup = base.new_event(true, Some(1))?;
     base.add_event(beat, Some(100))?;

@@ -10,16 +10,24 @@ use std::io::Print;
 /// A server that takes at most 8 bytes before somebody reads them.
 pub fn back_pressure(rt: &impl Print, alloc: Global) -> anyhow::Result<()> {
     let mut server = Bev::new(alloc)?;
+    let mut client = Bev::new(alloc)?;
+    let answer = hello_world(rt, &mut server, &mut client);
+    drop(client);
+    drop(server);
+    answer
+}
+
+// Both ends are lent, so that they are let go at one place.
+fn hello_world(rt: &impl Print, server: &mut Bev, client: &mut Bev) -> anyhow::Result<()> {
     server.enable(Dir::Read)?;
     server.set_watermark(Dir::Read, 0, 8)?;
     server.reserve_input(5)?;
-    println!(rt; "room for {} bytes", room_read(&server, None, None))?;
-    took_read(&mut server, b"hello", 1000);
-    println!(rt; "room for {} bytes", room_read(&server, None, None))?;
+    println!(rt; "room for {} bytes", room_read(server, None, None))?;
+    took_read(server, b"hello", 1000);
+    println!(rt; "room for {} bytes", room_read(server, None, None))?;
 
-    let mut client = Bev::new(alloc)?;
     client.write(b" world")?;
-    let moved = transfer(&mut client, &mut server, Mode::Normal)?;
+    let moved = transfer(client, server, Mode::Normal)?;
     println!(rt;
         "{moved} bytes moved, {} wait at the client",
         client.state().output

@@ -7,6 +7,13 @@ use std::io::Print;
 /// Three jobs, of which one is cancelled and two are due at 120 ms.
 pub fn due_jobs(rt: &impl Print, alloc: Global) -> anyhow::Result<()> {
     let mut timers = Timers::new(alloc);
+    let answer = two_of_three(rt, &mut timers);
+    drop(timers);
+    answer
+}
+
+// The timers are lent, so that they are let go at one place.
+fn two_of_three(rt: &impl Print, timers: &mut Timers) -> anyhow::Result<()> {
     timers.add(100, 1)?;
     let backup = timers.add(110, 2)?;
     timers.add(120, 3)?;

@@ -11,6 +11,13 @@ pub fn joined_reasons(rt: &impl Print, alloc: Global) -> anyhow::Result<()> {
     due.schedule(7, Why::Timer);
     due.schedule(7, Why::Read);
     due.begin();
+    let answer = call_all(rt, &mut due);
+    drop(due);
+    answer
+}
+
+// What is due is lent, so that it is let go at one place.
+fn call_all(rt: &impl Print, due: &mut Due) -> anyhow::Result<()> {
     for _ in 0..4u32 {
         let Some((owner, why)) = due.take_turn() else {
             break;

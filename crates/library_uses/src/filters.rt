@@ -22,10 +22,17 @@ fn offer(
 /// What of a text passes into an input that takes 6 bytes: how many bytes it made, and of how many.
 fn passed(alloc: Global, text: &[u8]) -> anyhow::Result<(u64, usize)> {
     let mut under = Bev::new(alloc)?;
-    let mut over = Bev::new(alloc)?;
+    let answer = pass(alloc, &mut under, text);
+    drop(under);
+    answer
+}
+
+// The lower one is lent, so that it is let go at one place.
+fn pass(alloc: Global, under: &mut Bev, text: &[u8]) -> anyhow::Result<(u64, usize)> {
     under.add_input(text)?;
+    let mut over = Bev::new(alloc)?;
     let mut filter = AnyFilter::new(FilterKind::ToLf);
-    let step = process_input(&mut under, &mut over, &mut filter, 6, Mode::Finished)?;
+    let step = process_input(under, &mut over, &mut filter, 6, Mode::Finished)?;
     Ok((over.state().input, step.used))
 }
 
