@@ -17,6 +17,10 @@ pub fn back_pressure(rt: &impl Print, alloc: Global) -> anyhow::Result<()> {
     answer
 }
 
+<<<<<<< HEAD
+=======
+// Both ends are lent, so that they are let go at one place.
+>>>>>>> 26d589c00e56671ed96f7d440711b52d203aeeb3
 fn hello_world(rt: &impl Print, server: &mut Bev, client: &mut Bev) -> anyhow::Result<()> {
     server.enable(Dir::Read)?;
     server.set_watermark(Dir::Read, 0, 8)?;

@@ -12,6 +12,10 @@ pub fn due_jobs(rt: &impl Print, alloc: Global) -> anyhow::Result<()> {
     answer
 }
 
+<<<<<<< HEAD
+=======
+// The timers are lent, so that they are let go at one place.
+>>>>>>> 26d589c00e56671ed96f7d440711b52d203aeeb3
 fn two_of_three(rt: &impl Print, timers: &mut Timers) -> anyhow::Result<()> {
     timers.add(100, 1)?;
     let backup = timers.add(110, 2)?;

@@ -17,6 +17,13 @@ fn one_batch(rt: &impl Print, due: &mut Due) -> anyhow::Result<()> {
     due.schedule(7, Why::Timer);
     due.schedule(7, Why::Read);
     due.begin();
+    let answer = call_all(rt, &mut due);
+    drop(due);
+    answer
+}
+
+// What is due is lent, so that it is let go at one place.
+fn call_all(rt: &impl Print, due: &mut Due) -> anyhow::Result<()> {
     for _ in 0..4u32 {
         let Some((owner, why)) = due.take_turn() else {
             break;
