@@ -4,7 +4,7 @@ use event_base::Base;
 use std::alloc::Global;
 use std::io::Print;
 
-/// A beat of 100 ms and a hangup signal, over three turns. The base is lent, so that it is let go at one place.
+/// A beat of 100 ms and a hangup signal, over three turns.
 pub fn a_beat_and_a_signal(rt: &impl Print, alloc: Global) -> anyhow::Result<()> {
     let mut base = Base::new(alloc, 2)?;
     let answer = three_turns(rt, &mut base);
@@ -12,10 +12,7 @@ pub fn a_beat_and_a_signal(rt: &impl Print, alloc: Global) -> anyhow::Result<()>
     answer
 }
 
-<<<<<<< HEAD
-=======
 // The base is lent, so that it is let go at one place.
->>>>>>> 26d589c00e56671ed96f7d440711b52d203aeeb3
 fn three_turns(rt: &impl Print, base: &mut Base) -> anyhow::Result<()> {
     let beat = base.new_event(true, None)?;
     let hangup = base.new_event(true, Some(1))?;

@@ -7,7 +7,7 @@ use ev_types::Mode;
 use std::alloc::Global;
 use std::io::Print;
 
-/// A server that takes at most 8 bytes before somebody reads them. Both are lent, so that they are let go at one place.
+/// A server that takes at most 8 bytes before somebody reads them.
 pub fn back_pressure(rt: &impl Print, alloc: Global) -> anyhow::Result<()> {
     let mut server = Bev::new(alloc)?;
     let mut client = Bev::new(alloc)?;
@@ -17,10 +17,7 @@ pub fn back_pressure(rt: &impl Print, alloc: Global) -> anyhow::Result<()> {
     answer
 }
 
-<<<<<<< HEAD
-=======
 // Both ends are lent, so that they are let go at one place.
->>>>>>> 26d589c00e56671ed96f7d440711b52d203aeeb3
 fn hello_world(rt: &impl Print, server: &mut Bev, client: &mut Bev) -> anyhow::Result<()> {
     server.enable(Dir::Read)?;
     server.set_watermark(Dir::Read, 0, 8)?;

@@ -4,7 +4,7 @@ use min_timer::Timers;
 use std::alloc::Global;
 use std::io::Print;
 
-/// Three jobs, of which one is cancelled and two are due at 120 ms. The timers are lent, so that they are let go at one place.
+/// Three jobs, of which one is cancelled and two are due at 120 ms.
 pub fn due_jobs(rt: &impl Print, alloc: Global) -> anyhow::Result<()> {
     let mut timers = Timers::new(alloc);
     let answer = two_of_three(rt, &mut timers);
@@ -12,10 +12,7 @@ pub fn due_jobs(rt: &impl Print, alloc: Global) -> anyhow::Result<()> {
     answer
 }
 
-<<<<<<< HEAD
-=======
 // The timers are lent, so that they are let go at one place.
->>>>>>> 26d589c00e56671ed96f7d440711b52d203aeeb3
 fn two_of_three(rt: &impl Print, timers: &mut Timers) -> anyhow::Result<()> {
     timers.add(100, 1)?;
     let backup = timers.add(110, 2)?;

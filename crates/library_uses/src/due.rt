@@ -7,12 +7,6 @@ use std::io::Print;
 /// One owner, due by its timer, by bytes that came, and again while it is called.
 pub fn joined_reasons(rt: &impl Print, alloc: Global) -> anyhow::Result<()> {
     let mut due = Due::new(alloc);
-    let answer = one_batch(rt, &mut due);
-    drop(due);
-    answer
-}
-
-fn one_batch(rt: &impl Print, due: &mut Due) -> anyhow::Result<()> {
     due.reserve(1)?;
     due.schedule(7, Why::Timer);
     due.schedule(7, Why::Read);

@@ -22,31 +22,17 @@ fn offer(
 /// What of a text passes into an input that takes 6 bytes: how many bytes it made, and of how many.
 fn passed(alloc: Global, text: &[u8]) -> anyhow::Result<(u64, usize)> {
     let mut under = Bev::new(alloc)?;
-<<<<<<< HEAD
-    let mut over = Bev::new(alloc)?;
-    let answer = pass(&mut under, &mut over, text);
-    drop(over);
-=======
     let answer = pass(alloc, &mut under, text);
->>>>>>> 26d589c00e56671ed96f7d440711b52d203aeeb3
     drop(under);
     answer
 }
 
-<<<<<<< HEAD
-fn pass(under: &mut Bev, over: &mut Bev, text: &[u8]) -> anyhow::Result<(u64, usize)> {
-=======
 // The lower one is lent, so that it is let go at one place.
 fn pass(alloc: Global, under: &mut Bev, text: &[u8]) -> anyhow::Result<(u64, usize)> {
->>>>>>> 26d589c00e56671ed96f7d440711b52d203aeeb3
     under.add_input(text)?;
     let mut over = Bev::new(alloc)?;
     let mut filter = AnyFilter::new(FilterKind::ToLf);
-<<<<<<< HEAD
-    let step = process_input(under, over, &mut filter, 6, Mode::Finished)?;
-=======
     let step = process_input(under, &mut over, &mut filter, 6, Mode::Finished)?;
->>>>>>> 26d589c00e56671ed96f7d440711b52d203aeeb3
     Ok((over.state().input, step.used))
 }
 

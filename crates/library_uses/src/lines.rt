@@ -13,10 +13,7 @@ pub fn lines_that_came_in_pieces(rt: &impl Print, alloc: Global) -> anyhow::Resu
     answer
 }
 
-<<<<<<< HEAD
-=======
 // The buffer is lent, so that it is let go at one place.
->>>>>>> 26d589c00e56671ed96f7d440711b52d203aeeb3
 fn three_pieces(rt: &impl Print, alloc: Global, buf: &mut Evbuffer) -> anyhow::Result<()> {
     for piece in [&b"GET / HT"[..], b"TP/1.1\r", b"\nHost: here\r\n"] {
         buf.add(piece)?;

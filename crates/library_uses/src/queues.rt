@@ -12,10 +12,7 @@ pub fn most_urgent_first(rt: &impl Print, alloc: Global) -> anyhow::Result<()> {
     answer
 }
 
-<<<<<<< HEAD
-=======
 // The queues are lent, so that they are let go at one place.
->>>>>>> 26d589c00e56671ed96f7d440711b52d203aeeb3
 fn serve(rt: &impl Print, active: &mut Active) -> anyhow::Result<()> {
     active.activate(2, 70)?;
     active.activate(1, 80)?;
