@@ -27,6 +27,3 @@ pub use tape::Tape;
 pub use token_bucket::{Dir, LimitCfg};
 pub use turn_line::{ByteList, TurnLine};
 pub use why::{Cause, Flags, Why, WhyKind};
-
-#[cfg(test)]
-mod tests;

@@ -14,6 +14,3 @@ pub use callback::{Report, SizeCallback};
 pub use evbuffer::Evbuffer;
 pub use fault::BufFault;
 pub use place::Place;
-
-#[cfg(test)]
-mod tests;

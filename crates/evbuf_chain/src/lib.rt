@@ -13,6 +13,3 @@ pub use byte_queue::ByteQueue;
 pub use chain::Chain;
 pub use fault::ChainFault;
 pub use laws::tickets_are_handed_out_once;
-
-#[cfg(test)]
-mod tests;

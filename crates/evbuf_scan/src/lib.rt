@@ -10,6 +10,3 @@ pub use eol::Eol;
 pub use laws::places_are_first;
 pub use look::{search, search_eol};
 pub use take::{peek, readln};
-
-#[cfg(test)]
-mod tests;

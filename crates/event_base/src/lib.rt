@@ -12,6 +12,3 @@ pub use base::Base;
 pub use event::{READ, SIGNAL, TIMEOUT, WRITE};
 pub use fault::BaseFault;
 pub use prio_queue::MAX_PRIORITIES;
-
-#[cfg(test)]
-mod tests;

@@ -10,6 +10,3 @@ pub use fault::TimerFault;
 pub use key::TimerKey;
 pub use laws::{handles_are_new, handles_stay_gone};
 pub use timers::Timers;
-
-#[cfg(test)]
-mod tests;

@@ -9,6 +9,3 @@ mod words;
 
 pub use set::NumberSet;
 pub use walk::Walk;
-
-#[cfg(test)]
-mod tests;

@@ -6,6 +6,3 @@ mod fault;
 
 pub use active::{Active, MAX_PRIORITIES};
 pub use fault::PrioFault;
-
-#[cfg(test)]
-mod tests;

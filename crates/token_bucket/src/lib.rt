@@ -4,6 +4,3 @@
 mod limit;
 
 pub use limit::{Dir, LimitCfg, LimitFault, MAX_BURST, MAX_TICK_MS};
-
-#[cfg(test)]
-mod tests;
