@@ -508,35 +508,54 @@ fn goes(alloc: Global, run: &Run) -> bool {
         ..Settings::usual()
     };
     let mut relay = Relay::new(alloc, settings);
-    let mut given = Vec::new(alloc);
-    let faults = run_through(&mut relay, run, &mut given);
-    faults == Ok(run.faults) && given.as_slice() == run.given
+    gives(&mut relay, run) && (fault(&relay, IN), fault(&relay, OUT)) == run.faults
 }
 
-/// Opens a link and plays a run. Why either side is to be freed.
-fn run_through(
-    relay: &mut Relay,
-    run: &Run,
-    given: &mut Vec<u8>,
-) -> Result<(Option<Cause>, Option<Cause>), NoMemory> {
-    open(relay)?;
-    for piece in [run.first, run.second, b""] {
-        read(relay, IN, piece)?;
-        give_all(relay, given)?;
+/// Opens a link and plays a run. Whether Out is given what it should be, and no more.
+fn gives(relay: &mut Relay, run: &Run) -> bool {
+    if open(relay) != Ok(true) {
+        return false;
     }
-    Ok((fault(relay, IN), fault(relay, OUT)))
+    let mut rest = run.given;
+    for piece in [run.first, run.second, b""] {
+        let Ok(Some(behind)) = gives_piece(relay, piece, rest) else {
+            return false;
+        };
+        rest = behind;
+    }
+    rest.is_empty()
 }
 
-/// Gives Out what is offered to it, and passes on, a few times.
-fn give_all(relay: &mut Relay, into: &mut Vec<u8>) -> Result<(), NoMemory> {
+/// Some bytes are read at In, and Out is given what comes of them, a few times. What of these bytes stands behind those, where they
+/// begin so.
+fn gives_piece<'a>(
+    relay: &mut Relay,
+    piece: &[u8],
+    bytes: &'a [u8],
+) -> Result<Option<&'a [u8]>, NoMemory> {
+    read(relay, IN, piece)?;
+    let mut rest = bytes;
     for _ in 0..4 {
-        if OUT.link < relay.opened() {
-            into.extend_from_slice(relay.offer(OUT))?;
-        }
+        let Some(behind) = behind_offer(relay, rest) else {
+            return Ok(None);
+        };
+        rest = behind;
         give(relay, OUT, usize::MAX);
         pass(relay, IN)?;
     }
-    Ok(())
+    Ok(Some(rest))
+}
+
+fn behind_offer<'a>(relay: &Relay, bytes: &'a [u8]) -> Option<&'a [u8]> {
+    if OUT.link >= relay.opened() {
+        return None;
+    }
+    let offer = relay.offer(OUT);
+    let (front, behind) = bytes.split_at(offer.len().min(bytes.len()));
+    if front != offer {
+        return None;
+    }
+    Some(behind)
 }
 
 #[test]
