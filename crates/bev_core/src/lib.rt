@@ -14,6 +14,3 @@ pub use fault::BevFault;
 pub use spare_room::SpareRoom;
 pub use state::BevState;
 pub use token_bucket::Dir;
-
-#[cfg(test)]
-mod tests;

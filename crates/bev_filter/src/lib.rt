@@ -12,6 +12,3 @@ pub use fault::PassFault;
 pub use passing::{process_input, process_output};
 pub use step::{reserve_step, step_reserved};
 pub use stream_filters::{AnyFilter, FilterKind, Mode, Step};
-
-#[cfg(test)]
-mod tests;

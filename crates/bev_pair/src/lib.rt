@@ -6,6 +6,3 @@ mod passing;
 
 pub use fault::PairFault;
 pub use passing::{count, flush_event, transfer};
-
-#[cfg(test)]
-mod tests;

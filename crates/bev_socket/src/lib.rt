@@ -7,6 +7,3 @@ mod room;
 
 pub use result::{ended, failed, timed_out, took_read, took_write};
 pub use room::{MOST_AT_ONCE, READ_MARK, room_read, room_write};
-
-#[cfg(test)]
-mod tests;

@@ -14,6 +14,3 @@ pub use fault::WorldFault;
 pub use roster::{Roster, run_due};
 pub use stream_filters::{AnyFilter, Step};
 pub use world::World;
-
-#[cfg(test)]
-mod tests;

@@ -1,8 +1,5 @@
 // What passes the filters of a world, by identifier and by number, and that each call answers. The worlds are lent, so that each is let
 // go at one place.
-ghost use Rattle.std.specs.Prelude.{◌≡◌, false, None, IfOk};
-ghost use Rattle.bev_world.specs.Halves.{other_half};
-ghost use Rattle.bev_world.specs.WorldValue.{slot_at};
 
 use self::Answer::{Bad, Went};
 use bev_world::{BevId, Dir, FilterKind, Mode, NoMemory, SpareRoom, Step, World, WorldFault};
@@ -63,32 +60,29 @@ fn each_call_answers(rt: HostRuntime) {
     assert_eq!(rt; filtered, Ok(Err(WorldFault::Taken)));
 }
 
-/// A filter over a new socket, with what is sure of it for a `write` and a first step.
+/// A filter over a new socket.
 fn over_socket(
     world: &mut World,
     input: FilterKind,
     output: FilterKind,
-) -> Result<(BevId, BevId), WorldFault>
-    ensures reading { IfOk result (λ ids. (slot_at world.new ids.1.0).read_filter.finished ≡ false) }
-    ensures writing { IfOk result (λ ids. (slot_at world.new ids.1.0).write_filter.finished ≡ false) }
-    ensures no_half { IfOk result (λ ids. other_half world.new ids.1.0 ≡ None) }
-{
+) -> Result<(BevId, BevId), WorldFault> {
     let under = world.new_socket()?;
     let over = world.new_filter(under, input, output)?;
     Ok((under, over))
 }
 
 /// A step of a filter that isn't finished.
-fn pass_once(
+fn pass(
     world: &mut World,
     over: BevId,
     dir: Dir,
     limit: usize,
     mode: Mode,
-) -> Result<Step, WorldFault>
-    requires reading { (slot_at world.old over.0).read_filter.finished ≡ false }
-    requires writing { (slot_at world.old over.0).write_filter.finished ≡ false }
-{
+) -> Result<Step, WorldFault> {
+    let at = over.0 as usize;
+    if at >= world.count() || world.under(at).is_none() || world.filter(at, dir).is_finished() {
+        return Err(WorldFault::NoFilter);
+    }
     world.pass(over, dir, limit, mode)
 }
 
@@ -105,7 +99,7 @@ fn read_through(
 ) -> Result<Passed, WorldFault> {
     let (under, over) = over_socket(world, kind, FilterKind::None)?;
     world.feed(under, bytes, 5)?;
-    let answer = pass_once(world, over, Dir::Read, limit, mode);
+    let answer = pass(world, over, Dir::Read, limit, mode);
     Ok((answer, input(world, over), input(world, under)))
 }
 
@@ -119,7 +113,7 @@ fn written_through(
 ) -> Result<Passed, WorldFault> {
     let (under, over) = over_socket(world, FilterKind::None, kind)?;
     world.write(over, bytes)?;
-    let answer = pass_once(world, over, Dir::Write, limit, mode);
+    let answer = pass(world, over, Dir::Write, limit, mode);
     Ok((answer, output(world, under), output(world, over)))
 }
 

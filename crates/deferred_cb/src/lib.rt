@@ -9,6 +9,3 @@ mod reasons;
 pub use due::Due;
 pub use ev_types::{Flags, NoMemory, Why};
 pub use reasons::Reasons;
-
-#[cfg(test)]
-mod tests;

@@ -19,6 +19,3 @@ pub use ev_types::LinkCount;
 pub use relay::Relay;
 pub use relay_settings::{Marks, Settings, Timeouts};
 pub use relay_sides::{Counts, SideFlags};
-
-#[cfg(test)]
-mod tests;

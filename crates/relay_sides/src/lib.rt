@@ -21,6 +21,3 @@ pub use opening::NewSide;
 pub use relay_settings::{Marks, Timeouts};
 pub use side::MOST_AT_ONCE;
 pub use sides::Sides;
-
-#[cfg(test)]
-mod tests;

@@ -3,6 +3,10 @@
 #![tactic(auto)]
 
 #[cfg(test)]
+mod calls;
+#[cfg(test)]
 mod links;
+#[cfg(test)]
+mod runs;
 #[cfg(test)]
 mod sides;

@@ -1,18 +1,9 @@
 // Whole links, with the answers of the ends played by hand. The relay is lent, so that it is let go at one place.
 
-use ev_types::{Cause, FilterKind, LinkCount, LinkState, NoMemory, Side, SideId};
+use crate::calls::{IN, OUT, fault, get, give, open, pass, read};
+use ev_types::{Cause, FilterKind, LinkCount, LinkState, SideId};
 use relay_core::{Closing, Marks, Relay, Settings, Timeouts};
 use std::alloc::Global;
-
-const IN: SideId = SideId {
-    link: 0,
-    side: Side::In,
-};
-
-const OUT: SideId = SideId {
-    link: 0,
-    side: Side::Out,
-};
 
 /// A call on a relay with its answer, or what is seen of it then. The link of number 0 is meant.
 #[derive(Clone, Copy)]
@@ -104,63 +95,11 @@ fn turn(relay: &mut Relay, reading: u64) -> Option<u64> {
     relay.poll_timeout()
 }
 
-/// Opens a link, where one is allowed.
-fn open(relay: &mut Relay) -> Result<bool, NoMemory> {
-    relay.reserve_link()?;
-    if !relay.can_open() {
-        return Ok(false);
-    }
-    relay.open(true);
-    Ok(true)
-}
-
-fn get(relay: &mut Relay, side: SideId, bytes: &[u8]) -> Result<(), NoMemory> {
-    if side.link >= relay.opened() {
-        return Ok(());
-    }
-    relay.reserve_read(side, bytes.len())?;
-    if bytes.is_empty() {
-        relay.ended(side);
-    } else {
-        relay.got(side, bytes);
-    }
-    Ok(())
-}
-
-fn read(relay: &mut Relay, side: SideId, bytes: &[u8]) -> Result<(), NoMemory> {
-    get(relay, side, bytes)?;
-    pass(relay, side)?;
-    Ok(())
-}
-
-fn pass(relay: &mut Relay, side: SideId) -> Result<bool, NoMemory> {
-    if side.link >= relay.opened() {
-        return Ok(false);
-    }
-    relay.pass(side)
-}
-
-fn give(relay: &mut Relay, side: SideId, most: usize) -> usize {
-    if side.link >= relay.opened() {
-        return 0;
-    }
-    let offered = relay.offer(side).len();
-    relay.took(side, most.min(offered));
-    offered
-}
-
 fn fail(relay: &mut Relay, side: SideId) -> Option<Cause> {
     if side.link < relay.opened() {
         relay.read_failed(side);
     }
     fault(relay, side)
-}
-
-fn fault(relay: &Relay, side: SideId) -> Option<Cause> {
-    if side.link >= relay.opened() {
-        return None;
-    }
-    relay.fault(side)
 }
 
 fn room_of(relay: &Relay, side: SideId) -> usize {
@@ -413,133 +352,4 @@ fn the_first_bad_place_of_a_side_is_told(rt: HostRuntime) {
         ..Settings::usual()
     };
     assert_eq!(rt; plays(rt.alloc(), settings, BAD_PLACES), None);
-}
-
-/// A run of one direction: its filters, the hold mark, what is read at In in two pieces before its end, what is given to Out
-/// by then, and why either side is to be freed.
-#[derive(Clone, Copy)]
-struct Run {
-    in_read: FilterKind,
-    out_write: FilterKind,
-    hold: u64,
-    first: &'static [u8],
-    second: &'static [u8],
-    given: &'static [u8],
-    faults: (Option<Cause>, Option<Cause>),
-}
-
-/// The filters alone and together, and where each may stop.
-const RUNS: &[Run] = &[
-    Run {
-        in_read: FilterKind::ToCrlf,
-        out_write: FilterKind::None,
-        hold: 100,
-        first: b"a\nb\r",
-        second: b"\nc\n",
-        given: b"a\r\nb\r\nc\r\n",
-        faults: (None, None),
-    },
-    // a CR is held between two reads, and given at the end
-    Run {
-        in_read: FilterKind::None,
-        out_write: FilterKind::ToLf,
-        hold: 100,
-        first: b"a\r",
-        second: b"\nb\r",
-        given: b"a\nb\r",
-        faults: (None, None),
-    },
-    // the place counts from the first byte that was read
-    Run {
-        in_read: FilterKind::HexIn,
-        out_write: FilterKind::None,
-        hold: 100,
-        first: b"616",
-        second: b"2zz",
-        given: b"ab",
-        faults: (Some(Cause::Filter(4)), None),
-    },
-    // the write filter's bad place is that of the side it gives to
-    Run {
-        in_read: FilterKind::None,
-        out_write: FilterKind::HexIn,
-        hold: 100,
-        first: b"6",
-        second: b"g",
-        given: b"",
-        faults: (None, Some(Cause::Filter(1))),
-    },
-    // two digits a byte pass a mark of three
-    Run {
-        in_read: FilterKind::HexOut,
-        out_write: FilterKind::HexIn,
-        hold: 3,
-        first: b"\x01\xab\xff",
-        second: b"zyxw",
-        given: b"\x01\xab\xffzyxw",
-        faults: (None, None),
-    },
-    Run {
-        in_read: FilterKind::ToLf,
-        out_write: FilterKind::HexOut,
-        hold: 3,
-        first: b"\x01\r",
-        second: b"\n\xff",
-        given: b"010aff",
-        faults: (None, None),
-    },
-];
-
-/// The place of the first run whose bytes or faults are others.
-fn first_other(alloc: Global) -> Option<usize> {
-    for (place, run) in RUNS.iter().enumerate() {
-        if !goes(alloc, run) {
-            return Some(place);
-        }
-    }
-    None
-}
-
-fn goes(alloc: Global, run: &Run) -> bool {
-    let settings = Settings {
-        hold: run.hold,
-        in_read: run.in_read,
-        out_write: run.out_write,
-        ..Settings::usual()
-    };
-    let mut relay = Relay::new(alloc, settings);
-    let mut given = Vec::new(alloc);
-    let faults = run_through(&mut relay, run, &mut given);
-    faults == Ok(run.faults) && given.as_slice() == run.given
-}
-
-/// Opens a link and plays a run. Why either side is to be freed.
-fn run_through(
-    relay: &mut Relay,
-    run: &Run,
-    given: &mut Vec<u8>,
-) -> Result<(Option<Cause>, Option<Cause>), NoMemory> {
-    open(relay)?;
-    for piece in [run.first, run.second, b""] {
-        read(relay, IN, piece)?;
-        give_all(relay, given)?;
-    }
-    Ok((fault(relay, IN), fault(relay, OUT)))
-}
-
-/// Gives Out what is offered to it, and passes on, a few times.
-fn give_all(relay: &mut Relay, into: &mut Vec<u8>) -> Result<(), NoMemory> {
-    for _ in 0..4 {
-        if OUT.link < relay.opened() {
-            into.extend_from_slice(relay.offer(OUT))?;
-        }
-        give(relay, OUT, usize::MAX);
-        pass(relay, IN)?;
-    }
-    Ok(())
-}
-
-#[test]
-fn bytes_pass_through_the_filters_of_both_sides(rt: HostRuntime) {
-    assert_eq!(rt; first_other(rt.alloc()), None);
 }

@@ -18,6 +18,3 @@ pub use fault::FilterFault;
 pub use filters::{HexIn, HexOut, NoFilter, ToCrlf, ToLf};
 pub use step::most_step;
 pub use stream_filter::{Step, StreamFilter};
-
-#[cfg(test)]
-mod tests;

@@ -1,5 +1,0 @@
-use Rattle.bev_world.proofs.WentLemmas.{went_idle}
-use Rattle.bev_world.proofs.tests.socket.Goals as goal
-
-pub returns : goal.returns
-returns c = went_idle _ _ c.new_socket.ensures.went c.requires

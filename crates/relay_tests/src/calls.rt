@@ -1,0 +1,71 @@
+// Calls on a relay whose link of number 0 is played, at a side that is there.
+
+use ev_types::{Cause, NoMemory, Side, SideId};
+use relay_core::Relay;
+
+pub(crate) const IN: SideId = SideId {
+    link: 0,
+    side: Side::In,
+};
+
+pub(crate) const OUT: SideId = SideId {
+    link: 0,
+    side: Side::Out,
+};
+
+/// Opens a link whose target is connected, where one is allowed.
+pub(crate) fn open(relay: &mut Relay) -> Result<bool, NoMemory> {
+    relay.reserve_link()?;
+    if !relay.can_open() {
+        return Ok(false);
+    }
+    relay.open(true);
+    Ok(true)
+}
+
+/// Some bytes are read from an end, or its end where there are none.
+pub(crate) fn get(relay: &mut Relay, side: SideId, bytes: &[u8]) -> Result<(), NoMemory> {
+    if side.link >= relay.opened() {
+        return Ok(());
+    }
+    relay.reserve_read(side, bytes.len())?;
+    if bytes.is_empty() {
+        relay.ended(side);
+    } else {
+        relay.got(side, bytes);
+    }
+    Ok(())
+}
+
+/// Some bytes are read from an end, or its end where there are none, and the direction is passed.
+pub(crate) fn read(relay: &mut Relay, side: SideId, bytes: &[u8]) -> Result<(), NoMemory> {
+    get(relay, side, bytes)?;
+    pass(relay, side)?;
+    Ok(())
+}
+
+/// Passes a direction. It answers whether anything changed.
+pub(crate) fn pass(relay: &mut Relay, side: SideId) -> Result<bool, NoMemory> {
+    if side.link >= relay.opened() {
+        return Ok(false);
+    }
+    relay.pass(side)
+}
+
+/// How many bytes are offered to an end, of which it takes at most so many.
+pub(crate) fn give(relay: &mut Relay, side: SideId, most: usize) -> usize {
+    if side.link >= relay.opened() {
+        return 0;
+    }
+    let offered = relay.offer(side).len();
+    relay.took(side, most.min(offered));
+    offered
+}
+
+/// Why a side is to be freed.
+pub(crate) fn fault(relay: &Relay, side: SideId) -> Option<Cause> {
+    if side.link >= relay.opened() {
+        return None;
+    }
+    relay.fault(side)
+}
