@@ -15,6 +15,3 @@ mod stop;
 pub use command::{Act, Command, Delay};
 pub use play::{Played, play_base};
 pub use read::{BaseScript, read_base_script};
-
-#[cfg(test)]
-mod tests;

@@ -16,6 +16,3 @@ mod tell;
 pub use fault::ModeFault;
 pub use laws::scripts_are_never_spent;
 pub use play::play_buffers;
-
-#[cfg(test)]
-mod tests;

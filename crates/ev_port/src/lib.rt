@@ -21,6 +21,3 @@ pub use scribe::Scribe;
 pub use standard::{StdSink, StdSource};
 pub use stream::{Given, Sink, Source, Taken};
 pub use table::WantTable;
-
-#[cfg(test)]
-mod tests;

@@ -9,8 +9,6 @@ mod play;
 mod program;
 mod run;
 mod status;
-#[cfg(test)]
-mod tests;
 
 use ev_port::{StdSink, StdSource};
 use program::play_program;

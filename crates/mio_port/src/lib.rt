@@ -12,6 +12,3 @@ mod mio_port;
 mod scarce;
 
 pub use mio_port::MioPort;
-
-#[cfg(test)]
-mod tests;

@@ -523,6 +523,3 @@ impl<'a, R: Net + Clock + AllocGlobal> Port for MioPort<'a, R> {
 
     ghost unheard = { λ p e unheard plan t vouched. vouched };
 }
-
-#[cfg(test)]
-mod pauses;

@@ -9,6 +9,3 @@ mod player;
 mod step;
 
 pub use play::play_pairs;
-
-#[cfg(test)]
-mod tests;

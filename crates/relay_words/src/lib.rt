@@ -13,6 +13,3 @@ pub use fault::WordsFault;
 pub use mode::{Mode, mode_words};
 pub use relay_settings::Route;
 pub use serve::serve_words;
-
-#[cfg(test)]
-mod tests;

@@ -17,6 +17,3 @@ pub use laws::{
     lines_bring_bytes, reads_lose_nothing, spelled_scripts_name_opened_links, vouched_is_played,
 };
 pub use script_port::ScriptPort;
-
-#[cfg(test)]
-mod tests;

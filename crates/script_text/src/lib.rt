@@ -36,6 +36,3 @@ pub use words::{
     MAX_NUMBER, first_piece, hex_bytes, is_plain_text, is_word, number, told, words_of,
 };
 pub use write::{write_report, write_trace};
-
-#[cfg(test)]
-mod tests;

@@ -6,6 +6,3 @@ mod scribe;
 
 pub use log::{Step, TraceLog};
 pub use scribe::TextScribe;
-
-#[cfg(test)]
-mod tests;
