@@ -188,12 +188,7 @@ fn fill_four(
 }
 
 /// Where a walk over four sets goes wrong, and where a search does.
-fn wrong_together(
-    first: &Both,
-    second: &Both,
-    third: &Both,
-    fourth: &Both,
-) -> [Option<usize>; 2] {
+fn wrong_together(first: &Both, second: &Both, third: &Both, fourth: &Both) -> [Option<usize>; 2] {
     let sets = [&first.set, &second.set, &third.set, &fourth.set];
     let lists = [
         first.list.as_slice(),
