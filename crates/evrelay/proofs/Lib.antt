@@ -3,3 +3,4 @@ pub mod RingLemmas
 pub mod RingWantsLemmas
 pub mod ProgramLemmas
 pub mod RingKeptLemmas
+pub mod CarriedLemmas

@@ -1,3 +1,4 @@
 pub mod RingText
 pub mod Program
 pub mod RingWants
+pub mod Carried

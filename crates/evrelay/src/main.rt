@@ -1,6 +1,6 @@
 //! Relays between two addresses over real sockets.
 //!
-//! `relay_program` does all that the program does; `main` hands it the words, the port and the streams, and hands on its status.
+//! `relay_told` does all that the program does; `main` hands it the words, the port and the streams, and hands on its status.
 #![tactic(auto)]
 
 mod program;
@@ -10,15 +10,16 @@ mod tests;
 
 use ev_port::StdSink;
 use mio_port::MioPort;
-use program::relay_program;
+use program::relay_told;
 use run_end::program_words;
 use std::io;
 use std::process::ExitCode;
+use told_port::TellingPort;
 
 fn main(rt: HostRuntime) -> ExitCode {
     let words = program_words(&rt);
-    let mut port = MioPort::new(&rt);
+    let mut port = TellingPort::new(MioPort::new(&rt));
     let mut sink = StdSink::new(io::writer(&rt));
     let mut errors = StdSink::new(rt.stderr());
-    ExitCode::from(relay_program(&rt, rt.alloc(), words, &mut port, &mut sink, &mut errors))
+    ExitCode::from(relay_told(&rt, rt.alloc(), words, &mut port, &mut sink, &mut errors))
 }

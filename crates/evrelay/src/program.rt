@@ -1,17 +1,19 @@
 // All of the program but its words, its port and its streams: how the process ends, and what it says.
-ghost use Rattle.std.specs.Prelude.{◌≡◌, ◌⊎◌, [], map, string_bytes, IfOk, IfErr, OnOk, OnErr};
+ghost use Rattle.std.specs.Prelude.{◌≡◌, ◌⊎◌, ⊤, [], map, string_bytes, MatchOption, IfOk, IfErr, OnOk, OnErr};
 ghost use Rattle.ev_types.specs.Trace.{Trace};
 ghost use Rattle.ev_types.specs.declared.status.Status.{Status};
 ghost use Rattle.run_end.specs.Complains.{Complains, TookPart};
 ghost use Rattle.run_end.specs.EndStatus.{status_number, words_status};
 ghost use Rattle.relay_words.specs.ServeGrammar.{serve_words_of};
 ghost use Rattle.relay_serve.specs.Seen.{drained};
-ghost use Rattle.relay_serve.specs.Served.{DidWith};
+ghost use Rattle.relay_serve.specs.Served.{DidWith, settings_on};
 ghost use Rattle.stream_words.specs.Faults.{Rose};
 ghost use Rattle.stream_words.specs.Streams.{TookOn};
 ghost use Rattle.evrelay.specs.RingText.{ring_text};
 ghost use Rattle.evrelay.specs.Program.{seen_by, shows, Says, LeavesSink};
 ghost use Rattle.evrelay.specs.RingWants.{last_entries};
+ghost use Rattle.evrelay.specs.Carried.{Carried, IsPassedOn};
+ghost use Rattle.told_port.specs.Calls.{told_by, ends_by};
 
 use crate::ring::Ring;
 use ev_port::{Port, Sink};
@@ -20,6 +22,7 @@ use relay_serve::serve;
 use run_end::{BadWords, WriteFailed, finish, process_status, write_text};
 use std::alloc::Global;
 use std::sync::Wait;
+use told_port::TellingPort;
 
 /// Whether the last entries are shown after such an end.
 fn shows(ended: Status) -> bool
@@ -104,4 +107,32 @@ pub fn relay_program<R: Wait, P: Port, K: Sink, E: Sink>(
         Ok(words) => relay_by(rt, alloc, &words, port, sink, errors),
         Err(bad) => finish(errors, bad.status()),
     }
+}
+
+/// Does so over a port that tells and is new. So what is said of bytes is said of those that the reads of the port within gave and that
+/// its writes took: end by end they are those of the trace, and whatever happened, those taken at an end are a prefix of what the filters
+/// make of those given at its peer; where writing was ended there, they are all of that. It may never return.
+///
+/// Own.
+pub fn relay_told<R: Wait, P: Port, K: Sink, E: Sink>(
+    rt: &R,
+    alloc: Global,
+    words: Result<Vec<String>, BadWords>,
+    port: &mut TellingPort<P>,
+    sink: &mut K,
+    errors: &mut E,
+) -> u8
+    requires new { port.old.log.calls ≡ [] }
+    ensures served { IfOk words (λ all. (ended : Status) × (trace : Trace) × (result ≡ status_number ended)
+        × DidWith (serve_words_of (map string_bytes all.items)) ended (seen_by ⟦<TellingPort<P> as Port>⟧ port.old [])
+        (seen_by ⟦<TellingPort<P> as Port>⟧ port.new trace) (drained K.Sink sink.old) (drained K.Sink sink.new)
+        × LeavesSink K.Sink ended sink.old sink.new
+        × Says ended (last_entries trace) (E.taken errors.old) (E.taken errors.new) (E.faults errors.old) (E.faults errors.new)
+        × Carried trace (told_by port.new.log.calls) (ends_by port.new.log.calls)
+        × MatchOption (serve_words_of (map string_bytes all.items)) ⊤ (λ route. IsPassedOn (settings_on route) (ends_by port.new.log.calls))) }
+    ensures refused { IfErr words (λ bad. (result ≡ status_number (words_status bad))
+        × Complains (words_status bad) (E.taken errors.old) (E.taken errors.new) (E.faults errors.old) (E.faults errors.new)
+        × (port.new ≡ port.old) × (sink.new ≡ sink.old)) }
+{
+    relay_program(rt, alloc, words, port, sink, errors)
 }
