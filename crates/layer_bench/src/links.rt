@@ -14,10 +14,26 @@ pub fn idle_turns(alloc: Global, links: u32, turns: u32) -> anyhow::Result<u64> 
         ..Settings::usual()
     };
     let mut port = ScriptPort::new(alloc, opening(alloc, settings, links)?)?;
+    turns_over(alloc, settings, turns, &mut port)
+}
+
+/// Makes them with a drive of its own, over a port that is lent.
+fn turns_over(
+    alloc: Global,
+    settings: Settings,
+    turns: u32,
+    port: &mut ScriptPort,
+) -> anyhow::Result<u64> {
     let mut drive = Drive::new(alloc, settings)?;
+    let made = make_turns(turns, &mut drive, port);
+    drop(drive);
+    made
+}
+
+fn make_turns(turns: u32, drive: &mut Drive, port: &mut ScriptPort) -> anyhow::Result<u64> {
     let mut made = 0u64;
     for _ in 0..turns {
-        drive.turn(&mut port, &mut Mute::new())?;
+        drive.turn(port, &mut Mute::new())?;
         made = made.saturating_add(1);
     }
     Ok(made)
