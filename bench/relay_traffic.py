@@ -7,6 +7,8 @@ Stages, each over a relay of its own:
   traffic   some 200 links at once, random sizes and pieces, both ways, each half closed by itself
   reset     one link of many is reset in the middle; all others arrive whole
   refused   a target that refuses: the client is closed, and the relay goes on
+  address   it listens at the address that it was given and at no other, connects to that of the target, and waits without the processor
+  many      1,100 links, one after the other, each to the target, with bytes of its own both ways
   stopped   a reader that stops for seconds: memory stays within the hold mark, the processor is idle, then all arrives
   vanished  clients that vanish while bytes come for them
   short     links beyond the descriptors: each one in the end
@@ -31,6 +33,17 @@ def free_port():
         return s.getsockname()[1]
 
 
+def two_servers(one, two):
+    """Servers at two addresses and one port."""
+    for _ in range(100):
+        first = socket.create_server((one, 0))
+        try:
+            return first, socket.create_server((two, first.getsockname()[1]))
+        except OSError:
+            first.close()
+    fail('no port is free at two addresses')
+
+
 def is_listening(port):
     want = ':%04X' % port
     with open('/proc/net/tcp') as table:
@@ -40,9 +53,9 @@ def is_listening(port):
 class Relay:
     """A relay to a target's port, for so many links."""
 
-    def __init__(self, program, target, links, words=(), descriptors=None):
+    def __init__(self, program, target, links, words=(), descriptors=None, to='127.0.0.1'):
         self.port = free_port()
-        command = [program, '--listen', f'127.0.0.1:{self.port}', '--to', f'127.0.0.1:{target}', '--links', str(links), *words]
+        command = [program, '--listen', f'127.0.0.1:{self.port}', '--to', f'{to}:{target}', '--links', str(links), *words]
 
         def limit():
             if descriptors:
@@ -211,6 +224,51 @@ async def refused(program, rng, links):
     return f'{links} clients were closed'
 
 
+async def address(program, seconds):
+    """All of 127.0.0.0/8 is this machine, so a relay that listens or connects elsewhere is met there."""
+    owed, other = two_servers('127.0.0.3', '127.0.0.1')
+    other.settimeout(0)
+    relay = Relay(program, owed.getsockname()[1], 1, to='127.0.0.3')
+    used = relay.seconds()
+    await asyncio.sleep(seconds)
+    used = relay.seconds() - used
+    if used > .05 * seconds:
+        fail(f'a relay that nobody calls costs {used:.2f} s in {seconds} s')
+    try:
+        socket.create_connection(('127.0.0.2', relay.port), 1).close()
+        fail('the relay listens at another address')
+    except ConnectionRefusedError:
+        pass
+    reader, writer = await asyncio.open_connection('127.0.0.1', relay.port)
+    owed.settimeout(5)
+    peer, _ = await asyncio.to_thread(owed.accept)
+    try:
+        other.accept()
+        fail('the relay connects to another address')
+    except BlockingIOError:
+        pass
+    peer.sendall(b'here')
+    peer.close()
+    if await reader.read() != b'here':
+        fail('the bytes of the target did not come')
+    writer.close()
+    await asyncio.to_thread(relay.report)
+    return f'{used:.2f} s of {seconds} s'
+
+
+async def many(program, rng, links):
+    target = Target()
+    await target.start()
+    relay = Relay(program, target.port, links)
+    sums = []
+    for _ in range(links):
+        sums.append(await client(relay, *plan(target, rng, 2000), random.Random(rng.random())))
+    lines = told(await asyncio.to_thread(relay.report))
+    if lines != {'done': sorted((up, down, down, up) for up, down in sums)}:
+        fail('the report of many links tells other numbers')
+    return f'{links} links'
+
+
 async def stopped(program, rng, size, seconds, words):
     server = socket.create_server(('127.0.0.1', 0))
     server.setsockopt(socket.SOL_SOCKET, socket.SO_RCVBUF, 65536)
@@ -316,6 +374,8 @@ async def main():
         ('traffic', traffic(program, rng, 40 if quick else 200, 200_000 if quick else 2_000_000)),
         ('reset', reset(program, rng, 10 if quick else 60, 100_000 if quick else 1_000_000)),
         ('refused', refused(program, rng, 5)),
+        ('address', address(program, 1)),
+        ('many', many(program, rng, 1100)),
         ('stopped', stopped(program, rng, (8 if quick else 64) * MIB, 1 if quick else 5, ())),
         ('vanished', vanished(program, rng, 5 if quick else 40)),
         ('short', short(program, rng, 20 if quick else 60, 24 if quick else 60, 20_000)),
