@@ -241,7 +241,10 @@ async def address(program, seconds):
         pass
     reader, writer = await asyncio.open_connection('127.0.0.1', relay.port)
     owed.settimeout(5)
-    peer, _ = await asyncio.to_thread(owed.accept)
+    try:
+        peer, _ = await asyncio.to_thread(owed.accept)
+    except TimeoutError:
+        fail('the relay does not connect to the address that it was given')
     try:
         other.accept()
         fail('the relay connects to another address')
