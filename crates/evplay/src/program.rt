@@ -5,6 +5,7 @@ ghost use Rattle.run_end.specs.EndStatus.{status_number, words_status};
 ghost use Rattle.run_end.specs.Complains.{Complains};
 ghost use Rattle.relay_words.specs.ModeGrammar.{mode_of};
 ghost use Rattle.evplay.specs.Play.{DidWith};
+ghost use Rattle.evplay.specs.Causes.{HasCauses};
 
 use crate::play::play;
 use ev_port::{Sink, Source};
@@ -20,6 +21,7 @@ fn play_words<S: Source, K: Sink>(
     sink: &mut K,
 ) -> Status
     ensures played { IfOk words (λ all. DidWith (mode_of (map string_bytes all.items)) result (S.left source.old) (S.left source.new) (K.taken sink.old) (K.taken sink.new)) }
+    ensures causes { IfOk words (λ all. HasCauses S.Source K.Sink (mode_of (map string_bytes all.items)) result source.old source.new sink.old sink.new) }
     ensures refused { IfErr words (λ bad. (result ≡ words_status bad) × (source.new ≡ source.old) × (sink.new ≡ sink.old)) }
 {
     match words {
@@ -41,6 +43,7 @@ pub fn play_program<S: Source, K: Sink, E: Sink>(
 ) -> u8
     ensures played { IfOk words (λ all. (ended : Status) × (result ≡ status_number ended)
         × DidWith (mode_of (map string_bytes all.items)) ended (S.left source.old) (S.left source.new) (K.taken sink.old) (K.taken sink.new)
+        × HasCauses S.Source K.Sink (mode_of (map string_bytes all.items)) ended source.old source.new sink.old sink.new
         × Complains ended (E.taken errors.old) (E.taken errors.new) (E.faults errors.old) (E.faults errors.new)) }
     ensures refused { IfErr words (λ bad. (result ≡ status_number (words_status bad)) × (source.new ≡ source.old) × (sink.new ≡ sink.old)
         × Complains (words_status bad) (E.taken errors.old) (E.taken errors.new) (E.faults errors.old) (E.faults errors.new)) }
