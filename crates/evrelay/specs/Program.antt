@@ -38,3 +38,7 @@ Says ended entries told now_told faults now_faults =
 -- Nothing was written of a report where memory ran out, and the sink failed only where the program ends for it.
 abbrev pub LeavesSink : {K : Type 0} → sink.Ghosts K → Status → K → K → Type 0
 LeavesSink g ended old new = (ended ≡ status.Memory → new ≡ old) × (ended ≢ status.WriteFault → g.faults new ≡ g.faults old)
+
+-- Words that are not in the grammar leave the port and the sink of the report as they were.
+abbrev pub LeavesAll : {P K : Type 0} → Status → P → P → K → K → Type 0
+LeavesAll ended from to before after = ended ≡ status.Usage → (to ≡ from) × (after ≡ before)

@@ -10,7 +10,7 @@ ghost use Rattle.relay_serve.specs.Served.{DidWith, settings_on};
 ghost use Rattle.stream_words.specs.Faults.{Rose};
 ghost use Rattle.stream_words.specs.Streams.{TookOn};
 ghost use Rattle.evrelay.specs.RingText.{ring_text};
-ghost use Rattle.evrelay.specs.Program.{seen_by, shows, Says, LeavesSink};
+ghost use Rattle.evrelay.specs.Program.{seen_by, shows, Says, LeavesSink, LeavesAll};
 ghost use Rattle.evrelay.specs.RingWants.{last_entries};
 ghost use Rattle.evrelay.specs.Carried.{Carried, IsPassedOn};
 ghost use Rattle.told_port.specs.Calls.{told_by, ends_by};
@@ -74,7 +74,8 @@ fn relay_by<R: Wait, P: Port, K: Sink, E: Sink>(
     ensures served { (ended : Status) × (trace : Trace) × (result ≡ status_number ended)
         × DidWith (serve_words_of (map string_bytes words.now)) ended (seen_by P.Port port.old []) (seen_by P.Port port.new trace) (drained K.Sink sink.old) (drained K.Sink sink.new)
         × LeavesSink K.Sink ended sink.old sink.new
-        × Says ended (last_entries trace) (E.taken errors.old) (E.taken errors.new) (E.faults errors.old) (E.faults errors.new) }
+        × Says ended (last_entries trace) (E.taken errors.old) (E.taken errors.new) (E.faults errors.old) (E.faults errors.new)
+        × LeavesAll ended port.old port.new sink.old sink.new }
 {
     let Ok(mut ring) = Ring::new(alloc) else {
         return finish(errors, Status::Memory);
@@ -98,7 +99,8 @@ pub fn relay_program<R: Wait, P: Port, K: Sink, E: Sink>(
     ensures served { IfOk words (λ all. (ended : Status) × (trace : Trace) × (result ≡ status_number ended)
         × DidWith (serve_words_of (map string_bytes all.items)) ended (seen_by P.Port port.old []) (seen_by P.Port port.new trace) (drained K.Sink sink.old) (drained K.Sink sink.new)
         × LeavesSink K.Sink ended sink.old sink.new
-        × Says ended (last_entries trace) (E.taken errors.old) (E.taken errors.new) (E.faults errors.old) (E.faults errors.new)) }
+        × Says ended (last_entries trace) (E.taken errors.old) (E.taken errors.new) (E.faults errors.old) (E.faults errors.new)
+        × LeavesAll ended port.old port.new sink.old sink.new) }
     ensures refused { IfErr words (λ bad. (result ≡ status_number (words_status bad))
         × Complains (words_status bad) (E.taken errors.old) (E.taken errors.new) (E.faults errors.old) (E.faults errors.new)
         × (port.new ≡ port.old) × (sink.new ≡ sink.old)) }
@@ -128,6 +130,7 @@ pub fn relay_told<R: Wait, P: Port, K: Sink, E: Sink>(
         (seen_by ⟦<TellingPort<P> as Port>⟧ port.new trace) (drained K.Sink sink.old) (drained K.Sink sink.new)
         × LeavesSink K.Sink ended sink.old sink.new
         × Says ended (last_entries trace) (E.taken errors.old) (E.taken errors.new) (E.faults errors.old) (E.faults errors.new)
+        × LeavesAll ended port.old port.new sink.old sink.new
         × Carried trace (told_by port.new.log.calls) (ends_by port.new.log.calls)
         × MatchOption (serve_words_of (map string_bytes all.items)) ⊤ (λ route. IsPassedOn (settings_on route) (ends_by port.new.log.calls))) }
     ensures refused { IfErr words (λ bad. (result ≡ status_number (words_status bad))

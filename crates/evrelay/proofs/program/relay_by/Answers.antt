@@ -21,6 +21,7 @@ returns-in_default g c = record {
         (drained g.K.Sink c.args.sink.now) (λ e. absurd (cc)),
     ((λ e. refl), (λ e. refl)),
     inr (inr c.finish.ensures.line),
+    (λ e. absurd (cc)),
   );
 }
 
@@ -45,5 +46,6 @@ returns g c =
         (c.serve-ended.ensures.unwritten, c.serve-ended.ensures.write_calm),
         subst (λ (es : List Entry). Says ended es (taken c.args.errors.now) (taken c.say.new.errors) (faults c.args.errors.now) (faults c.say.new.errors))
             ring.kept c.say.ensures.said,
+        (λ e. let left = c.serve-ended.ensures.untouched e in (left.0, left.2)),
       );
     }

@@ -13,4 +13,4 @@ returns-clause-served g c =
       ends = λ e. ap (λ calls. ends_by calls e) c.requires.new;
       log = refl;
     }) refl _ k.0 _ _ k.3 in
-    (k.0, k.1, k.2, k.3, k.4, k.5, carried.0, carried.1))
+    (k.0, k.1, k.2, k.3, k.4, k.5, k.6, carried.0, carried.1))
