@@ -5,7 +5,7 @@ ghost use Rattle.run_end.specs.EndStatus.{status_number, words_status};
 ghost use Rattle.run_end.specs.Complains.{Complains};
 ghost use Rattle.relay_words.specs.ModeGrammar.{mode_of};
 ghost use Rattle.evplay.specs.Play.{DidWith};
-ghost use Rattle.evplay.specs.Causes.{HasCauses};
+ghost use Rattle.evplay.specs.PlayCauses.{HasCauses};
 
 use crate::play::play;
 use ev_port::{Sink, Source};

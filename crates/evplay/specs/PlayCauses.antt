@@ -11,7 +11,8 @@ use Rattle.relay_words.specs.declared.mode.Mode.{Mode}
 -- The words are looked at before all else; a fault is answered only where its count rose, and with every other answer the counts are as
 -- they were; too long is a text of which 2^24 + 1 bytes were read, and with every other answer no more than 2^24 were. What is not
 -- written wholly or in part is not written at all.
-pub record HasCauses {S K : Type 0} (g : source.Ghosts S) (h : sink.Ghosts K) (modes : Option Mode) (ended : Status) (old new : S) (from to : K) : Type 0 where
+pub record HasCauses {S K : Type 0} (g : source.Ghosts S) (h : sink.Ghosts K) (modes : Option Mode) (ended : Status)
+    (old new : S) (from to : K) : Type 0 where
   pub unread : ended ≡ status.Usage → new ≡ old
   pub no_mode : modes ≡ None → new ≡ old
   pub unwritten : ended ≢ status.Ok → ended ≢ status.PollFault → ended ≢ status.Spent → ended ≢ status.WriteFault → to ≡ from
