@@ -1,6 +1,5 @@
 -- No callback adds to what the batch of a turn owes, and each fire takes one from it.
-use Rattle.std.proofs.Common.{◌≡◌, ap, refl, ℕ, ◌+◌, ◌-◌, ◌<◌, ◌≤◌, ◌&&◌, ◌==◌, Bool, true, false, cond, max, nat_lt, nat_le, List, []}
-use Rattle.std.proofs.Common.{◌∷◌, length, get_or, set, sum_by, arith, Option, Some, None, option_and_then, slice_get, Ok, Err}
+use Rattle.std.proofs.Common.{◌≡◌, ap, refl, ℕ, ◌+◌, ◌-◌, ◌<◌, ◌≤◌, ◌&&◌, ◌==◌, Bool, true, false, cond, max, nat_lt, nat_le, List, [], ◌∷◌, length, get_or, set, sum_by, arith, Option, Some, None, option_and_then, slice_get, Ok, Err}
 use Rattle.std.specs.Option.{option_map_or}
 use Rattle.std.proofs.lemmas.List.Sums.{sum_by-set}
 use Rattle.std.proofs.lemmas.Option.{get_or_from_slice_get, slice_get_within}
@@ -13,8 +12,8 @@ use Rattle.event_base.specs.Base.{BaseValue}
 use Rattle.event_base.specs.Events.{one_less, added, deleted, activated, joined, not_by_timeout, has_timed_out, is_active}
 use Rattle.event_base.specs.declared.event.Timeout.{Timeout}
 use Rattle.event_base.specs.Calls as call
-use Rattle.base_mode.specs.declared.command.Act.{Act}
-use Rattle.base_mode.specs.declared.command.Act.TheVariants as act
+use Rattle.base_mode.specs.declared.command.Reaction.{Reaction}
+use Rattle.base_mode.specs.declared.command.Reaction.TheVariants as act
 use Rattle.base_mode.specs.Run.{number_of, act_step, kept, after_acts}
 use Rattle.base_mode.specs.Turned.{owed_by, owed, IsClosed}
 
@@ -95,7 +94,7 @@ activated-weight first end priority flag next (Some a) behind =
     (λ b. cond b (max (a.count + 0) 1) 0 + 0 ≤ cond b (max a.count 1) 0) [ true ↦ omega arith | false ↦ omega arith ]
 
 -- the call of an act
-act_step-falls : (b : BaseValue) (names : List ℕ) (what : Act) (next : BaseValue) → IsClosed b → act_step b names what ≡ Ok next →
+act_step-falls : (b : BaseValue) (names : List ℕ) (what : Reaction) (next : BaseValue) → IsClosed b → act_step b names what ≡ Ok next →
     Falls 0 b next
 act_step-falls b names (act.Delete event) next closed is =
     let found = at_found (slice_get b.events (number_of event names))
@@ -152,7 +151,7 @@ both_steps None on y is = cc
 both_steps (Some x) on y is = (x, refl, is)
 
 -- all that a callback does
-pub after_acts-falls : (b : BaseValue) (names : List ℕ) (acts : List Act) (next : BaseValue) → IsClosed b →
+pub after_acts-falls : (b : BaseValue) (names : List ℕ) (acts : List Reaction) (next : BaseValue) → IsClosed b →
     after_acts b names acts ≡ Some next → Falls 0 b next
 after_acts-falls b names [] next closed is = let same : b ≡ next = cc in rw (← same) (Falls-refl b closed)
 after_acts-falls b names (what ∷ more) next closed is =

@@ -2,8 +2,8 @@
 use Rattle.std.specs.Prelude.{ℕ, ◌^◌, List, [], ◌∷◌, ◌==◌, codes, Bool, true, false, if◌then◌else◌, nat_le, Option, Some, None, option_map, option_and_then}
 use Rattle.std.specs.Str.{bytes_eq}
 use Rattle.script_text.specs.Numbers.{number_within}
-use Rattle.base_mode.specs.declared.command.Act.{Act}
-use Rattle.base_mode.specs.declared.command.Act.TheVariants as act
+use Rattle.base_mode.specs.declared.command.Reaction.{Reaction}
+use Rattle.base_mode.specs.declared.command.Reaction.TheVariants as act
 use Rattle.base_mode.specs.declared.command.Command.TheVariants as command
 use Rattle.base_mode.specs.declared.line.Keyword.{Keyword}
 use Rattle.base_mode.specs.declared.line.Keyword.TheVariants as key
@@ -46,7 +46,7 @@ abbrev pub persists : List ℕ → Option Bool
 persists word = if bytes_eq word (codes "persist") then Some true else (if bytes_eq word (codes "once") then Some false else None)
 
 -- what a callback does, by its words
-abbrev pub act_of : List (List ℕ) → Option Act
+abbrev pub act_of : List (List ℕ) → Option Reaction
 act_of (what ∷ []) = if bytes_eq what (codes "break") then Some act.Break else (if bytes_eq what (codes "exit") then Some act.Exit else None)
 act_of (what ∷ event ∷ []) =
     option_and_then (λ e. if bytes_eq what (codes "del") then Some (act.Delete e) else (if bytes_eq what (codes "active") then Some (act.Activate e) else None)) (event_of event)

@@ -8,8 +8,8 @@ use Rattle.event_base.specs.declared.fault.BaseFault.{BaseFault}
 use Rattle.event_base.specs.declared.fault.BaseFault.TheVariants as fault
 use Rattle.event_base.specs.Base.{BaseValue}
 use Rattle.event_base.specs.Calls as call
-use Rattle.base_mode.specs.declared.command.Act.{Act}
-use Rattle.base_mode.specs.declared.command.Act.TheVariants as act
+use Rattle.base_mode.specs.declared.command.Reaction.{Reaction}
+use Rattle.base_mode.specs.declared.command.Reaction.TheVariants as act
 use Rattle.base_mode.specs.declared.command.Command.{Command}
 use Rattle.base_mode.specs.declared.command.Command.TheVariants.{On}
 use Rattle.base_mode.specs.Order.{made}
@@ -68,16 +68,16 @@ kept old (Err fault.Spent) = None
 kept old (Err why) = Some old
 
 -- what a line tells the callback of an event to do at a fire of this number
-abbrev pub act_for : ℕ → ℕ → Command → Option Act
+abbrev pub act_for : ℕ → ℕ → Command → Option Reaction
 act_for event nth (On e k what) = if e == event && k == nth then Some what else None
 act_for event nth _ = None
 
 -- what the callback of an event does at a fire of this number, in the order of the lines
-abbrev pub acts_at : ℕ → ℕ → List Command → List Act
+abbrev pub acts_at : ℕ → ℕ → List Command → List Reaction
 acts_at event nth before = filter_map (act_for event nth) before
 
 -- the call of an act, where the events that were made have these names
-abbrev pub act_step : BaseValue → List ℕ → Act → call.Step
+abbrev pub act_step : BaseValue → List ℕ → Reaction → call.Step
 act_step b names (act.Delete event) = call.del_event b (number_of event names)
 act_step b names (act.Add event delay) = call.add_event b (number_of event names) (Some delay)
 act_step b names (act.Activate event) = call.activate b (number_of event names) 2
@@ -85,7 +85,7 @@ act_step b names act.Break = Ok (call.loop_break b)
 act_step b names act.Exit = Ok (call.loop_exit b)
 
 -- the base after some acts
-abbrev pub after_acts : BaseValue → List ℕ → List Act → Option BaseValue
+abbrev pub after_acts : BaseValue → List ℕ → List Reaction → Option BaseValue
 after_acts b names [] = Some b
 after_acts b names (what ∷ more) = option_and_then (λ next. after_acts next names more) (kept b (act_step b names what))
 

@@ -3,7 +3,7 @@ ghost use Rattle.std.specs.Prelude.{◌≡◌, ◌<◌, ◌^◌, ◌==◌, lengt
 ghost use Rattle.base_mode.specs.Run.{number_of, act_step, kept, after_acts};
 ghost use Rattle.base_mode.specs.Stops.{IsStop, passed_on};
 
-use crate::command::Act;
+use crate::command::Reaction;
 use crate::halt::Halt;
 use event_base::{Base, BaseFault, READ};
 
@@ -26,22 +26,22 @@ fn place_of(names: &[u32], event: u32) -> Option<usize>
 }
 
 /// Makes the call of an act. Its answer is dropped, unless a number is spent or memory ran out.
-fn perform(base: &mut Base, names: &[u32], act: &Act) -> Result<(), Halt>
+fn perform(base: &mut Base, names: &[u32], act: &Reaction) -> Result<(), Halt>
     requires { length names.now < 2 ^ 32 }
     ensures ok { OnOk result (kept base.old (act_step base.old names.now act.now) ≡ Some base.new) }
     ensures err { IfErr result (λ fault. IsStop fault (kept base.old (act_step base.old names.now act.now))) }
 {
     match act {
-        Act::Delete(event) => passed(base.del_event(number_in(names, *event))),
-        Act::Add(event, delay) => {
+        Reaction::Delete(event) => passed(base.del_event(number_in(names, *event))),
+        Reaction::Add(event, delay) => {
             passed(base.add_event(number_in(names, *event), Some(delay.ms())))
         }
-        Act::Activate(event) => passed(base.activate(number_in(names, *event), READ)),
-        Act::Break => {
+        Reaction::Activate(event) => passed(base.activate(number_in(names, *event), READ)),
+        Reaction::Break => {
             base.loop_break();
             Ok(())
         }
-        Act::Exit => {
+        Reaction::Exit => {
             base.loop_exit();
             Ok(())
         }
@@ -60,7 +60,7 @@ fn passed(outcome: Result<(), BaseFault>) -> Result<(), Halt>
 }
 
 /// Makes the calls of some acts, in their order. Takes memory.
-pub fn perform_all(base: &mut Base, names: &[u32], acts: &[Act]) -> Result<(), Halt>
+pub fn perform_all(base: &mut Base, names: &[u32], acts: &[Reaction]) -> Result<(), Halt>
     requires { length names.now < 2 ^ 32 }
     ensures ok { OnOk result (after_acts base.old names.now acts.now ≡ Some base.new) }
     ensures err { IfErr result (λ fault. IsStop fault (after_acts base.old names.now acts.now)) }

@@ -43,7 +43,7 @@ impl Delay {
 ///
 /// Own.
 #[derive(Drop)]
-pub enum Act {
+pub enum Reaction {
     /// Deletes the event of this name.
     Delete(u32),
     /// Adds the event, with a timeout.
@@ -54,17 +54,17 @@ pub enum Act {
     Exit,
 }
 
-impl Act {
+impl Reaction {
     /// The same act once more. Takes no memory.
-    pub fn again(&self) -> Act
+    pub fn again(&self) -> Reaction
         ensures { result ≡ self.now }
     {
         match self {
-            Act::Delete(event) => Act::Delete(*event),
-            Act::Add(event, delay) => Act::Add(*event, Delay::new(delay.ms())),
-            Act::Activate(event) => Act::Activate(*event),
-            Act::Break => Act::Break,
-            Act::Exit => Act::Exit,
+            Reaction::Delete(event) => Reaction::Delete(*event),
+            Reaction::Add(event, delay) => Reaction::Add(*event, Delay::new(delay.ms())),
+            Reaction::Activate(event) => Reaction::Activate(*event),
+            Reaction::Break => Reaction::Break,
+            Reaction::Exit => Reaction::Exit,
         }
     }
 }
@@ -83,7 +83,7 @@ pub enum Command {
     /// A signal comes so many times.
     Signal(u32, u32),
     /// At the fire of the event with this number, counted from 1, its callback does this too.
-    On(u32, u64, Act),
+    On(u32, u64, Reaction),
     /// A turn at this moment, in milliseconds.
     Turn(u64),
 }

@@ -2,7 +2,7 @@
 ghost use Rattle.std.specs.Prelude.{◌≡◌, ◌∷◌, ◌<◌, ◌^◌, [], map};
 ghost use Rattle.base_mode.specs.Grammar.{keyword_of, event_of, delay_of, ranged, persists, act_of, is_comment, said, said_by};
 
-use crate::command::{Act, Command, Delay};
+use crate::command::{Reaction, Command, Delay};
 use script_text::{MAX_NUMBER, is_word, number};
 
 /// The greatest name of an event.
@@ -115,7 +115,7 @@ fn read_event(word: &[u8]) -> Option<u32>
     read_ranged(word, 0, MAX_EVENT)
 }
 
-fn read_act(words: &[&[u8]]) -> Option<Act>
+fn read_act(words: &[&[u8]]) -> Option<Reaction>
     ensures { result ≡ act_of (map (λ w. w.now) words.now) }
 {
     match words {
@@ -126,39 +126,39 @@ fn read_act(words: &[&[u8]]) -> Option<Act>
     }
 }
 
-fn plain_act(what: &[u8]) -> Option<Act>
+fn plain_act(what: &[u8]) -> Option<Reaction>
     ensures { result ≡ act_of (what.now ∷ []) }
 {
     if is_word(what, "break") {
-        Some(Act::Break)
+        Some(Reaction::Break)
     } else if is_word(what, "exit") {
-        Some(Act::Exit)
+        Some(Reaction::Exit)
     } else {
         None
     }
 }
 
-fn event_act(what: &[u8], event: &[u8]) -> Option<Act>
+fn event_act(what: &[u8], event: &[u8]) -> Option<Reaction>
     ensures { result ≡ act_of (what.now ∷ event.now ∷ []) }
 {
     let event = read_event(event)?;
     if is_word(what, "del") {
-        Some(Act::Delete(event))
+        Some(Reaction::Delete(event))
     } else if is_word(what, "active") {
-        Some(Act::Activate(event))
+        Some(Reaction::Activate(event))
     } else {
         None
     }
 }
 
-fn add_act(what: &[u8], event: &[u8], ms: &[u8]) -> Option<Act>
+fn add_act(what: &[u8], event: &[u8], ms: &[u8]) -> Option<Reaction>
     ensures { result ≡ act_of (what.now ∷ event.now ∷ ms.now ∷ []) }
 {
     if !is_word(what, "add") {
         return None;
     }
     let event = read_event(event)?;
-    Some(Act::Add(event, read_delay(ms)?))
+    Some(Reaction::Add(event, read_delay(ms)?))
 }
 
 /// What a line with these words says. Takes no memory.

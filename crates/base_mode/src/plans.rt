@@ -3,7 +3,7 @@ ghost use Rattle.std.specs.Prelude.{◌≡◌, ◌++◌, ◌∷◌, [], ◌==◌
 ghost use Rattle.base_mode.specs.Plans.{listed, acts_of};
 ghost use Rattle.base_mode.specs.Run.{acts_at};
 
-use crate::command::{Act, Command};
+use crate::command::{Reaction, Command};
 use ev_types::NoMemory;
 use std::alloc::Global;
 use std::collections::BTreeMap;
@@ -11,10 +11,10 @@ use std::collections::BTreeMap;
 /// The acts of one event, by the numbers of its fires, counted from 1.
 ///
 /// Own.
-pub type Plan = BTreeMap<u64, Vec<Act>>;
+pub type Plan = BTreeMap<u64, Vec<Reaction>>;
 
 /// Adds an act to those at a fire of this number. Takes memory.
-fn plan(alloc: Global, plan: &mut Plan, nth: u64, act: Act) -> Result<(), NoMemory>
+fn plan(alloc: Global, plan: &mut Plan, nth: u64, act: Reaction) -> Result<(), NoMemory>
     ensures { OnOk result ((k : ℕ) → listed plan.new k ≡ listed plan.old k ++ (if nth == k then act ∷ [] else [])) }
 {
     match plan.get_mut(&nth) {
@@ -34,7 +34,7 @@ fn tell(
     plans: &mut BTreeMap<u32, Plan>,
     event: u32,
     nth: u64,
-    act: Act,
+    act: Reaction,
 ) -> Result<(), NoMemory>
     ensures { OnOk result ((e k : ℕ) → acts_of plans.new e k
         ≡ acts_of plans.old e k ++ (if event == e && nth == k then act ∷ [] else [])) }
@@ -61,7 +61,7 @@ pub fn note(alloc: Global, plans: &mut BTreeMap<u32, Plan>, line: &Command) -> R
 }
 
 /// The acts of the event of a name at a fire of this number. Takes no memory.
-pub fn acts(plans: &BTreeMap<u32, Plan>, event: u32, nth: u64) -> &[Act]
+pub fn acts(plans: &BTreeMap<u32, Plan>, event: u32, nth: u64) -> &[Reaction]
     ensures { result.now ≡ acts_of plans.now event nth }
 {
     match plans.get(&event) {
@@ -71,7 +71,7 @@ pub fn acts(plans: &BTreeMap<u32, Plan>, event: u32, nth: u64) -> &[Act]
 }
 
 /// The acts at a fire of this number.
-fn listed(plan: &Plan, nth: u64) -> &[Act]
+fn listed(plan: &Plan, nth: u64) -> &[Reaction]
     ensures { result.now ≡ listed plan.now nth }
 {
     match plan.get(&nth) {

@@ -2,8 +2,8 @@
 use Rattle.std.proofs.Common.{◌≡◌, ℕ, ◌-◌, List, [], ◌++◌, length, Bool, ap, ◌∙◌}
 use Rattle.token_bucket.specs.declared.limit.Dir.{Dir}
 use Rattle.ev_types.specs.declared.filter.Mode.{Mode}
-use Rattle.relay_model.specs.Conserved.{Running}
-use Rattle.relay_model.specs.FilterStep.{Stepped, stepped}
+use Rattle.filter_model.specs.Running.{Running}
+use Rattle.filter_model.specs.FilterStep.{Stepped, stepped}
 use Rattle.stream_filters.specs.StepAnswers.{is_last, WasMade}
 use Rattle.stream_filters.proofs.ShiftLemmas.{step-shift}
 use Rattle.bev_core.specs.BevValue.{BevValue}

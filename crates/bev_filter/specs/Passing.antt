@@ -2,8 +2,8 @@
 use Rattle.std.specs.Prelude.{◌≡◌, ℕ, Bool, true, false, Some, Result, Ok, Err, length}
 use Rattle.token_bucket.specs.declared.limit.Dir.{Dir}
 use Rattle.ev_types.specs.declared.filter.Mode.{Mode}
-use Rattle.relay_model.specs.Conserved.{Running}
-use Rattle.relay_model.specs.FilterStep.{Stepped, stepped}
+use Rattle.filter_model.specs.Running.{Running}
+use Rattle.filter_model.specs.FilterStep.{Stepped, stepped}
 use Rattle.stream_filters.specs.declared.stream_filter.Step.{Step}
 use Rattle.stream_filters.specs.StepAnswers.{is_last, WentOn}
 use Rattle.bev_core.specs.BevValue.{BevValue}

@@ -1,9 +1,8 @@
 // What the results of reads and writes, and timeouts, make of a bufferevent.
-ghost use Rattle.std.specs.Prelude.{◌≡◌, ◌≤◌, ◌<◌, ◌+◌, ◌&&◌, nat_lt, length};
+ghost use Rattle.std.specs.Prelude.{◌≡◌, ◌≤◌, ◌<◌, ◌+◌, ◌&&◌, nat_lt, length, false};
 ghost use Rattle.bev_core.specs.BevValue.{reaches_low};
 ghost use Rattle.bev_core.specs.Steps.{with_enabled, touched, less, pushed, ended_at, failed_at};
 ghost use Rattle.bev_socket.specs.Results.{read, written, event_flags};
-ghost use Rattle.std.specs.Prelude.{false};
 ghost use Rattle.token_bucket.specs.declared.limit.Dir.TheVariants as dir;
 
 use crate::event::direction_flag;

@@ -5,7 +5,7 @@ use Rattle.std.proofs.lemmas.List.{get_or-set_same, get_or-set_other, length-set
 use Rattle.token_bucket.specs.declared.limit.Dir.{Dir}
 use Rattle.token_bucket.specs.declared.limit.Dir.TheVariants.{Read, Write}
 use Rattle.ev_types.specs.declared.filter.Mode.{Mode}
-use Rattle.relay_model.specs.FilterStep.{Stepped}
+use Rattle.filter_model.specs.FilterStep.{Stepped}
 use Rattle.stream_filters.specs.declared.stream_filter.Step.{Step}
 use Rattle.bev_filter.specs.declared.fault.PassFault.{PassFault}
 use Rattle.bev_filter.specs.declared.fault.PassFault.TheVariants as pass

@@ -2,7 +2,7 @@
 use Rattle.std.specs.Prelude.{◌≡◌, ℕ, Bool, List}
 use Rattle.token_bucket.specs.declared.limit.Dir.{Dir}
 use Rattle.token_bucket.specs.declared.limit.Dir.TheVariants.{Read, Write}
-use Rattle.relay_model.specs.Conserved.{Running}
+use Rattle.filter_model.specs.Running.{Running}
 use Rattle.bev_core.specs.BevValue.{BevValue}
 use Rattle.bev_core.specs.Steps.{held, with_held, touched, freed, more, given_up}
 use Rattle.bev_filter.specs.Passing.{Crossing, Crossed, stepping}

@@ -6,7 +6,7 @@ use Rattle.ev_types.specs.declared.filter.FilterKind.{FilterKind}
 use Rattle.ev_types.specs.declared.filter.FilterKind.TheVariants as filter
 use Rattle.ev_types.specs.declared.why.Why.{Why}
 use Rattle.ev_types.specs.declared.why.Why.TheVariants as why
-use Rattle.relay_model.specs.FilterStep.{begun}
+use Rattle.filter_model.specs.FilterStep.{begun}
 use Rattle.deferred_cb.specs.DueCalls.{Entry, Call, with_reason}
 use Rattle.bev_core.specs.BevValue.{BevValue, new_bev}
 use Rattle.bev_socket.specs.Rooms.{read_room, write_room}

@@ -1,6 +1,5 @@
 -- How much all buffers of a script hold after its lines.
-use Rattle.std.proofs.Common.{◌≡◌, ◌≢◌, ◌≤◌, ◌+◌, ◌*◌, ◌^◌, ℕ, zero, suc, Bool, true, false, cond, Option, Some, None, Ok, Err, List, []}
-use Rattle.std.proofs.Common.{◌∷◌, length, take, set, refl, sym, ap, ◌∙◌, arith, length-append, length-drop}
+use Rattle.std.proofs.Common.{◌≡◌, ◌≢◌, ◌≤◌, ◌+◌, ◌*◌, ◌^◌, ℕ, zero, suc, Bool, true, false, cond, Option, Some, None, Ok, Err, List, [], ◌∷◌, length, take, set, refl, sym, ap, ◌∙◌, arith, length-append, length-drop}
 use Rattle.std.specs.Prelude.{option_map, option_and_then, IsSomeAnd, IfErr, min, Result}
 use Rattle.std.proofs.lemmas.List.{get_or-set_other, length-take}
 use Rattle.script_text.specs.Pieces.{lines}
@@ -10,16 +9,15 @@ use Rattle.evbuf.specs.Steps.{new_buffer, after_giving, after_taking, after_taki
 use Rattle.buffers_mode.specs.declared.answer.Answer.{Answer}
 use Rattle.buffers_mode.specs.declared.answer.Answer.TheVariants.{Done, Count}
 use Rattle.buffers_mode.specs.declared.line.Op.{Op}
-use Rattle.buffers_mode.specs.declared.line.Ask.{Ask}
-use Rattle.buffers_mode.specs.declared.line.Ask.TheVariants as ask
+use Rattle.buffers_mode.specs.declared.line.BufferAsk.{BufferAsk}
+use Rattle.buffers_mode.specs.declared.line.BufferAsk.TheVariants as ask
 use Rattle.buffers_mode.specs.declared.line.Line.{Line}
 use Rattle.buffers_mode.specs.declared.fault.ModeFault.{ModeFault}
 use Rattle.buffers_mode.specs.declared.fault.ModeFault.TheVariants.{Memory, BadLine, Spent}
 use Rattle.buffers_mode.specs.Steps.{with_callbacks}
 use Rattle.buffers_mode.specs.Played.{Step, own_step}
 use Rattle.buffers_mode.specs.Spelled.{script_of}
-use Rattle.buffers_mode.specs.Run.{Run, fresh_run, own_at, add_buffer_step, remove_buffer_step, on_buffers, ask_step, after_reports}
-use Rattle.buffers_mode.specs.Run.{after_released, all_reported, reports_after, after_answer, line_played, lines_played}
+use Rattle.buffers_mode.specs.Run.{Run, fresh_run, own_at, add_buffer_step, remove_buffer_step, on_buffers, ask_step, after_reports, after_released, all_reported, reports_after, after_answer, line_played, lines_played}
 use Rattle.buffers_mode.specs.Text.{answers_to, answered, answers_of, EndsFor}
 use Rattle.buffers_mode.proofs.FewLemmas.{BringsFew, AsksFew, AllFew, AreFew, lines_read-few, length-pieces}
 use Rattle.buffers_mode.proofs.GrowthLemmas.{weight, total, StepsTo, goes_on-moves, moves-apart, unless-steps, own_step-steps}
@@ -113,7 +111,7 @@ on_buffers-steps run most None steps = absurd steps
 on_buffers-steps run most (Some taken) steps = steps
 
 -- A line takes the buffers on by at most one line's worth, before they report.
-ask_step-steps : (run : Run) (b : ℕ) (asked : Ask) → AsksFew asked → run_total run + 32768 ≤ 2 ^ 39 →
+ask_step-steps : (run : Run) (b : ℕ) (asked : BufferAsk) → AsksFew asked → run_total run + 32768 ≤ 2 ^ 39 →
     StepsTo run_total (run_total run + 32768) (ask_step run b asked)
 ask_step-steps run b (ask.Own asked) few room =
     on_buffers-steps run (run_total run + 32768) (own_at run.buffers b asked) (own_at-steps run.buffers b asked few room)

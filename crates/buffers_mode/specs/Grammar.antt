@@ -10,8 +10,8 @@ use Rattle.buffers_mode.specs.declared.keyword.Keyword.{Keyword}
 use Rattle.buffers_mode.specs.declared.keyword.Keyword.TheVariants as keyword
 use Rattle.buffers_mode.specs.declared.line.Op.{Op}
 use Rattle.buffers_mode.specs.declared.line.Op.TheVariants as op
-use Rattle.buffers_mode.specs.declared.line.Ask.{Ask}
-use Rattle.buffers_mode.specs.declared.line.Ask.TheVariants as ask
+use Rattle.buffers_mode.specs.declared.line.BufferAsk.{BufferAsk}
+use Rattle.buffers_mode.specs.declared.line.BufferAsk.TheVariants as ask
 use Rattle.buffers_mode.specs.declared.line.Line.{Line}
 use Rattle.buffers_mode.specs.Keywords.{keyword_of}
 
@@ -86,7 +86,7 @@ op_by kind (a ∷ b ∷ []) = two_op kind a b
 op_by kind (a ∷ b ∷ c ∷ more) = None
 
 -- what a line of a kind asks, by the words behind the buffer's number
-abbrev pub ask_by : Keyword → List (List ℕ) → Option Ask
+abbrev pub ask_by : Keyword → List (List ℕ) → Option BufferAsk
 ask_by keyword.AddBuffer (from ∷ []) = option_map (λ b. ask.AddBuffer b) (buffer_of from)
 ask_by keyword.RemoveBuffer (to ∷ count ∷ []) = option_and_then (λ b. option_map (λ n. ask.RemoveBuffer b n) (count_of count)) (buffer_of to)
 ask_by keyword.Defer (switch ∷ []) = option_map (λ on. ask.Defer on) (switch_of switch)
@@ -101,7 +101,7 @@ said (first ∷ number ∷ more) =
     option_and_then (λ kind. option_and_then (λ b. option_map (λ asked. record { buffer = b; ask = asked }) (ask_by kind more)) (buffer_of number)) (keyword_of first)
 
 -- the further buffers that a line names are there
-abbrev pub AskNames : Ask → Type 0
+abbrev pub AskNames : BufferAsk → Type 0
 AskNames (ask.Own asked) = Unit {0}
 AskNames (ask.AddBuffer from) = from < 16
 AskNames (ask.RemoveBuffer to n) = to < 16

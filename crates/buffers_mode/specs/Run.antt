@@ -7,8 +7,8 @@ use Rattle.evbuf.specs.Moves.{buffer_at, move_all_refusal, move_some_refusal}
 use Rattle.buffers_mode.specs.declared.answer.Answer.{Answer}
 use Rattle.buffers_mode.specs.declared.answer.Answer.TheVariants.{Done, Count}
 use Rattle.buffers_mode.specs.declared.line.Op.{Op}
-use Rattle.buffers_mode.specs.declared.line.Ask.{Ask}
-use Rattle.buffers_mode.specs.declared.line.Ask.TheVariants.{Own, AddBuffer, RemoveBuffer, Defer, Reports}
+use Rattle.buffers_mode.specs.declared.line.BufferAsk.{BufferAsk}
+use Rattle.buffers_mode.specs.declared.line.BufferAsk.TheVariants.{Own, AddBuffer, RemoveBuffer, Defer, Reports}
 use Rattle.buffers_mode.specs.declared.line.Line.{Line}
 use Rattle.buffers_mode.specs.Answers.{answer_words, report_words, released_words}
 use Rattle.evbuf.specs.Steps.{new_buffer, after_taking, after_taking_all, after_giving, after_giving_all}
@@ -50,7 +50,7 @@ abbrev pub on_buffers : Run → Step (List Evbuffered) → Step Run
 on_buffers run step = option_map (λ taken. (taken.0, record run { buffers = taken.1 })) step
 
 -- what a line is answered, and what it leaves, before anything is reported or released
-abbrev pub ask_step : Run → ℕ → Ask → Step Run
+abbrev pub ask_step : Run → ℕ → BufferAsk → Step Run
 ask_step run b (Own op) = on_buffers run (own_at run.buffers b op)
 ask_step run b (AddBuffer from) = on_buffers run (add_buffer_step run.buffers b from)
 ask_step run b (RemoveBuffer to n) = on_buffers run (remove_buffer_step run.buffers b to n)
@@ -58,7 +58,7 @@ ask_step run b (Defer on) = Some (Done, record run { deferred = slice_set run.de
 ask_step run b Reports = Some (Done, run)
 
 -- Does the line ask for the reports of its buffer?
-abbrev pub asks_reports : Ask → Bool
+abbrev pub asks_reports : BufferAsk → Bool
 asks_reports Reports = true
 asks_reports _ = false
 

@@ -49,7 +49,7 @@ pub(crate) enum Op {
 ///
 /// Own.
 #[derive(Drop)]
-pub(crate) enum Ask {
+pub(crate) enum BufferAsk {
     Own(Op),
     /// The buffer whose bytes are moved to the end of this one.
     AddBuffer(usize),
@@ -66,7 +66,7 @@ pub(crate) enum Ask {
 #[derive(Drop)]
 pub(crate) struct Line {
     pub(crate) buffer: usize,
-    pub(crate) ask: Ask,
+    pub(crate) ask: BufferAsk,
 }
 
 fn read_buffer(word: &[u8]) -> Option<usize>
@@ -157,24 +157,24 @@ pub(crate) fn line_of(alloc: Global, words: &[&[u8]]) -> Result<Option<Line>, No
 }
 
 /// What a line of a kind asks by the words behind its buffer.
-fn ask_of(alloc: Global, keyword: Keyword, words: &[&[u8]]) -> Result<Option<Ask>, NoMemory>
+fn ask_of(alloc: Global, keyword: Keyword, words: &[&[u8]]) -> Result<Option<BufferAsk>, NoMemory>
     ensures value { IfOk result (λ ask. ask ≡ ask_by keyword (map (λ w. w.now) words.now)) }
     ensures within { IfOk result (λ ask. IfSome ask AskNames) }
 {
     match (keyword, words) {
-        (Keyword::AddBuffer, [from]) => Ok(read_buffer(from).map(Ask::AddBuffer)),
+        (Keyword::AddBuffer, [from]) => Ok(read_buffer(from).map(BufferAsk::AddBuffer)),
         (Keyword::RemoveBuffer, [to, count]) => Ok(remove_buffer_ask(to, count)),
-        (Keyword::Defer, [switch]) => Ok(read_switch(switch).map(Ask::Defer)),
-        (Keyword::Reports, []) => Ok(Some(Ask::Reports)),
-        _ => Ok(op_of(alloc, keyword, words)?.map(Ask::Own)),
+        (Keyword::Defer, [switch]) => Ok(read_switch(switch).map(BufferAsk::Defer)),
+        (Keyword::Reports, []) => Ok(Some(BufferAsk::Reports)),
+        _ => Ok(op_of(alloc, keyword, words)?.map(BufferAsk::Own)),
     }
 }
 
-fn remove_buffer_ask(to: &[u8], count: &[u8]) -> Option<Ask>
+fn remove_buffer_ask(to: &[u8], count: &[u8]) -> Option<BufferAsk>
     ensures value { result ≡ ask_by Keyword.RemoveBuffer (to.now ∷ count.now ∷ []) }
     ensures within { IfSome result AskNames }
 {
-    Some(Ask::RemoveBuffer(read_buffer(to)?, read_count(count)?))
+    Some(BufferAsk::RemoveBuffer(read_buffer(to)?, read_count(count)?))
 }
 
 /// The same of what is asked of one buffer alone.

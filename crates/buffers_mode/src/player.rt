@@ -11,7 +11,7 @@ ghost use Rattle.script_text.specs.Lines.{line_of};
 
 use crate::ModeFault;
 use crate::answer::{Answer, answer_text};
-use crate::line::{Ask, Line};
+use crate::line::{BufferAsk, Line};
 use crate::moves::{add_buffer, own_step, remove_buffer};
 use crate::tell::{tell_released, tell_reports};
 use ev_types::NoMemory;
@@ -74,20 +74,20 @@ impl Player {
     }
 
     /// Does what a line asks.
-    fn ask(&mut self, b: usize, ask: &Ask) -> Result<Answer, ModeFault>
+    fn ask(&mut self, b: usize, ask: &BufferAsk) -> Result<Answer, ModeFault>
         requires there { b < BUFFERS }
         requires names { AskNames ask.now }
         ensures { Took result self.new (ask_step self.old b ask.now) }
     {
         match ask {
-            Ask::Own(op) => own_step(self.alloc, &mut self.buffers, b, op),
-            Ask::AddBuffer(from) => add_buffer(&mut self.buffers, b, *from),
-            Ask::RemoveBuffer(to, n) => remove_buffer(&mut self.buffers, b, *to, *n),
-            Ask::Defer(on) => {
+            BufferAsk::Own(op) => own_step(self.alloc, &mut self.buffers, b, op),
+            BufferAsk::AddBuffer(from) => add_buffer(&mut self.buffers, b, *from),
+            BufferAsk::RemoveBuffer(to, n) => remove_buffer(&mut self.buffers, b, *to, *n),
+            BufferAsk::Defer(on) => {
                 self.deferred[b] = *on;
                 Ok(Answer::Done)
             }
-            Ask::Reports => Ok(Answer::Done),
+            BufferAsk::Reports => Ok(Answer::Done),
         }
     }
 
@@ -162,8 +162,8 @@ impl Player {
 }
 
 /// Does the line ask for the reports of its buffer?
-fn asks_reports(ask: &Ask) -> bool
+fn asks_reports(ask: &BufferAsk) -> bool
     ensures { result ≡ asks_reports ask.now }
 {
-    matches!(ask, Ask::Reports)
+    matches!(ask, BufferAsk::Reports)
 }

@@ -1,5 +1,7 @@
+pub mod StreamLemmas
 pub mod StepLemmas
 pub mod NamedLemmas
 pub mod MarkLemmas
 pub mod TableViewLemmas
 pub mod PutLemmas
+pub mod Walks

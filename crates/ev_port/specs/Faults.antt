@@ -1,6 +1,6 @@
 -- Which call of a port is counted as which kind of fault, and that no other call is.
 use Rattle.std.specs.Prelude.{◌≡◌, ◌≢◌, ℕ, Bool}
-use Rattle.stream_words.specs.Faults.{Counted}
+use Rattle.ev_port.specs.FaultCounts.{Counted}
 use Rattle.ev_types.specs.declared.side.SideId.{SideId}
 
 -- how often each kind of fault was met

@@ -1,3 +1,5 @@
+pub mod FaultCounts
+pub mod StreamBytes
 pub mod Stream
 pub mod EndSteps
 pub mod Faults

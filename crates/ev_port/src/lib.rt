@@ -3,6 +3,7 @@
 //! toolchain's streams, and a scribe that keeps nothing. There is no port here, and no socket.
 #![tactic(auto)]
 
+mod log;
 mod mark_want;
 mod memory;
 mod mute;
@@ -10,9 +11,11 @@ mod port;
 mod scribe;
 mod standard;
 mod stream;
+mod stream_laws;
 mod table;
 
 pub use ev_types::{Addr, ConnAnswer, ReadAnswer, WriteAnswer};
+pub use log::{LogStep, TraceLog};
 pub use mark_want::MarkWant;
 pub use memory::{MemSink, MemSource};
 pub use mute::Mute;
@@ -20,4 +23,5 @@ pub use port::{Accepted, Polled, Port, Started, Want};
 pub use scribe::Scribe;
 pub use standard::{StdSink, StdSource};
 pub use stream::{Given, Sink, Source, Taken};
+pub use stream_laws::{given_joins, taken_joins};
 pub use table::WantTable;

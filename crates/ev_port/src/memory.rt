@@ -1,7 +1,7 @@
 // A source and a sink over memory, for tests: they tell their bytes, and their calls fail by a list.
 ghost use Rattle.std.specs.Prelude.{◌≡◌, ◌≢◌, ◌≤◌, ◌<◌, ◌+◌, ◌++◌, [], true, false, drop, length, min, IfSome, if◌then◌else◌};
-ghost use Rattle.stream_words.specs.Faults.{Counted};
-ghost use Rattle.stream_words.specs.Streams.{Gave, TookOn};
+ghost use Rattle.ev_port.specs.FaultCounts.{Counted};
+ghost use Rattle.ev_port.specs.StreamBytes.{Gave, TookOn};
 ghost use Rattle.ev_port.specs.Stream.{bytes_got, GotWithin, is_read_fault, bytes_taken, TookWithin, is_write_fault};
 ghost use Rattle.ev_port.specs.Counting.{counted};
 ghost use Rattle.ev_port.specs.Memory.{is_failing, source_answer, source_after};

@@ -1,7 +1,7 @@
 // Where text comes from, and where it goes. A fault is told only where a count rose.
 ghost use Rattle.std.specs.Prelude.{◌≡◌, ◌<◌, ℕ, List, [], Option, length, IfSome};
-ghost use Rattle.stream_words.specs.Faults.{Counted};
-ghost use Rattle.stream_words.specs.Streams.{Gave, TookOn};
+ghost use Rattle.ev_port.specs.FaultCounts.{Counted};
+ghost use Rattle.ev_port.specs.StreamBytes.{Gave, TookOn};
 ghost use Rattle.ev_port.specs.Stream.{bytes_got, GotWithin, is_read_fault, bytes_taken, TookWithin, is_write_fault};
 
 /// What one read of a source gave. `Got` carries how many bytes, at least 1.

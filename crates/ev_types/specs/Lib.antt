@@ -6,3 +6,4 @@ pub mod Growth
 pub mod ScriptTurn
 pub mod Times
 pub mod Told
+pub mod Usual

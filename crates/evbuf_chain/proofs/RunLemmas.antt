@@ -1,7 +1,6 @@
 -- The marks of a list of references, piece by piece.
-use Rattle.std.proofs.Common.{◌≡◌, ℕ, zero, suc, ◌+◌, ◌-◌, ◌<◌, ◌≤◌, List, [], ◌∷◌, ◌++◌, length, take, drop, refl, ap, sym, ◌∙◌, append_assoc, arith, Option, None, is_some, ◌==◌, if◌then◌else◌, true, false, length-append, subst}
+use Rattle.std.proofs.Common.{◌≡◌, ℕ, zero, suc, ◌+◌, ◌-◌, ◌<◌, ◌≤◌, List, [], ◌∷◌, ◌++◌, length, take, drop, refl, ap, sym, ◌∙◌, append_assoc, arith, Option, None, is_some, ◌==◌, if◌then◌else◌, true, false, length-append, subst, get_or, append-nil}
 use Rattle.std.proofs.lemmas.List.{length-replicate, replicate-append-replicate, take-replicate, drop-replicate}
-use Rattle.std.proofs.Common.{get_or, append-nil}
 use Rattle.std.proofs.lemmas.Grind.{common_steps}
 use Rattle.evbuf_chain.specs.Mark.{Marks, Mark, unmarked, reference_marks, ended_tickets, uncut_marks, AreWhole}
 use Rattle.evbuf_chain.specs.declared.run.Run.{Run}

@@ -1,7 +1,7 @@
 -- Over a port whose listener never fails, a turn is refused for want of memory or for a failed poll alone.
 use Rattle.std.proofs.Common.{◌≡◌, ℕ, refl, arith, inl, inr, ◌⊎◌}
 use Rattle.ev_types.specs.Trace.{Trace}
-use Rattle.stream_words.specs.Faults.{Rose}
+use Rattle.ev_port.specs.FaultCounts.{Rose}
 use Rattle.ev_port.specs.Faults.{Faults}
 use Rattle.relay_state.specs.State.{State}
 use Rattle.relay_drive.specs.declared.fault.DriveFault.{DriveFault}

@@ -5,7 +5,7 @@ use Rattle.script_text.specs.Script.{ScriptValue}
 use Rattle.script_text.proofs.TraceReadLemmas.{trace_of-trace_text}
 use Rattle.relay_model.specs.Settings as model
 use Rattle.relay_model.specs.Settings.{HasNoHooks}
-use Rattle.relay_settings.specs.declared.settings.Settings.{Settings}
+use Rattle.ev_types.specs.declared.settings.Settings.{Settings}
 use Rattle.relay_model.specs.Stages.{Stage, at}
 use Rattle.relay_model.specs.Turn.{Reaches}
 use Rattle.relay_model.specs.Answers.{TurnAnswer, LeftAt, EndsWith}

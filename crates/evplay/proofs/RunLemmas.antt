@@ -20,7 +20,7 @@ use Rattle.relay_drive.specs.Known.{known, Point, Question}
 use Rattle.evplay.proofs.HeadlineLemmas.{run-of}
 use Rattle.evplay.proofs.OrderLemmas.{opens-in-order}
 use Rattle.evplay.proofs.PlayedLemmas.{vouched_played}
-use Rattle.run_end.proofs.TurnCountLemmas.{begun-is}
+use Rattle.program_end.proofs.TurnCountLemmas.{begun-is}
 use Rattle.relay_laws.specs.TurnEnds.{AtTurnEnds}
 use Rattle.relay_laws.specs.Relayed.{StoodBetween}
 use Rattle.evplay.specs.Headline.{IsRun, settings_of}

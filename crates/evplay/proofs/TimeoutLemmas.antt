@@ -1,6 +1,5 @@
 -- The timeouts that a script sets are numbers of 64 bits.
-use Rattle.std.proofs.Common.{◌≡◌, ◌≤◌, ◌<◌, ◌^◌, ℕ, Bool, true, false, ◌&&◌, List, [], ◌∷◌, ◌++◌, length, codes, Option, Some, None, Ok}
-use Rattle.std.proofs.Common.{refl, subst, arith, if◌then◌else◌}
+use Rattle.std.proofs.Common.{◌≡◌, ◌≤◌, ◌<◌, ◌^◌, ℕ, Bool, true, false, ◌&&◌, List, [], ◌∷◌, ◌++◌, length, codes, Option, Some, None, Ok, refl, subst, arith, if◌then◌else◌}
 use Rattle.std.specs.Prelude.{nat_lt, IfSome, option_map, option_and_then, unwrap_or}
 use Rattle.token_bucket.specs.declared.limit.Dir.TheVariants.{Read, Write}
 use Rattle.ev_types.specs.declared.filter.FilterKind.{FilterKind}
@@ -9,9 +8,9 @@ use Rattle.ev_types.specs.declared.side.Side.TheVariants.{In, Out}
 use Rattle.std.specs.Str.{bytes_eq}
 use Rattle.ev_types.specs.ScriptTurn.{lines_of}
 use Rattle.ev_types.specs.declared.turn_line.TurnLine.TheVariants as turn
-use Rattle.relay_settings.specs.Usual.{no_timeouts}
-use Rattle.relay_settings.specs.declared.settings.Marks.{Marks}
-use Rattle.relay_settings.specs.declared.settings.Timeouts.{Timeouts}
+use Rattle.ev_types.specs.Usual.{no_timeouts}
+use Rattle.ev_types.specs.declared.settings.Marks.{Marks}
+use Rattle.ev_types.specs.declared.settings.Timeouts.{Timeouts}
 use Rattle.script_text.specs.declared.line.Keyword.{Keyword}
 use Rattle.script_text.specs.declared.line.Keyword.TheVariants as keyword
 use Rattle.script_text.specs.declared.line.Line.{Line}
@@ -26,8 +25,7 @@ use Rattle.script_text.specs.Given.{once, with_setting}
 use Rattle.script_text.specs.Pieces.{lines}
 use Rattle.script_text.specs.Numbers.{number_within, bytes_of}
 use Rattle.script_text.specs.FilterNames.{filter_kind_of}
-use Rattle.script_text.specs.Grammar.{keyword_of, link_of, end_of, made_of, more_of, of_end, hold_of, side_marks_of, side_of}
-use Rattle.script_text.specs.Grammar.{side_timeouts_of, set_by, setting_name_of, said_by, is_comment, said}
+use Rattle.script_text.specs.Grammar.{keyword_of, link_of, end_of, made_of, more_of, of_end, hold_of, side_marks_of, side_of, side_timeouts_of, set_by, setting_name_of, said_by, is_comment, said}
 use Rattle.script_text.specs.Order.{may_follow, with_line, extended}
 use Rattle.script_text.specs.Spelled.{no_line, script_of}
 use Rattle.script_text.proofs.LawLemmas.{script_of-read, decimal-number_within}

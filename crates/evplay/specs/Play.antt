@@ -3,7 +3,7 @@ use Rattle.std.specs.Prelude.{◌≡◌, ◌<◌, ◌⊎◌, ℕ, ◌^◌, ◌-�
 use Rattle.ev_types.specs.declared.status.Status.{Status}
 use Rattle.ev_types.specs.declared.status.Status.TheVariants as status
 use Rattle.ev_types.specs.Trace.{Trace}
-use Rattle.stream_words.specs.Streams.{GaveAll, TookOn}
+use Rattle.ev_port.specs.StreamBytes.{GaveAll, TookOn}
 use Rattle.ev_types.specs.declared.status.LinkCount.{LinkCount}
 use Rattle.script_text.specs.Script.{ScriptValue}
 use Rattle.script_text.specs.Spelled.{script_of}
@@ -14,8 +14,8 @@ use Rattle.buffers_mode.specs.Text.{answers_of}
 use Rattle.base_mode.specs.Turned as base
 use Rattle.base_mode.specs.Spelled as base_script
 use Rattle.pairs_mode.specs.Run as pairs
-use Rattle.relay_words.specs.declared.mode.Mode.{Mode}
-use Rattle.relay_words.specs.declared.mode.Mode.TheVariants as mode
+use Rattle.command_words.specs.declared.mode.ScriptKind.{ScriptKind}
+use Rattle.command_words.specs.declared.mode.ScriptKind.TheVariants as mode
 use Rattle.evplay.specs.Headline.{IsRun}
 
 -- the text of a trace, and the report behind it
@@ -33,7 +33,7 @@ Runs source answer text = (script : ScriptValue) × (script_of source ≡ Ok scr
 -- What a script of this kind comes to: this text, and this status once it is written. A run of the relay ends well or with a
 -- failed poll. A script of buffers, of a base or of pairs comes to the answers of its lines; where a number of the base is
 -- spent, to those before.
-abbrev pub ComesTo : Mode → List ℕ → Status → List ℕ → Type 0
+abbrev pub ComesTo : ScriptKind → List ℕ → Status → List ℕ → Type 0
 ComesTo mode.Relay source status.Ok text = Runs source TurnAnswer.Went text
 ComesTo mode.Relay source status.PollFault text = Runs source TurnAnswer.PollFault text
 ComesTo mode.Buffers source status.Ok text = answers_of source ≡ Ok (Some text)
@@ -43,39 +43,39 @@ ComesTo mode.Pairs source status.Ok text = pairs.answers_of source ≡ Ok text
 ComesTo _ source _ text = ⊥
 
 -- the first line of a source text that is not in the grammar of the mode has this number
-abbrev pub IsFirstBad : Mode → List ℕ → ℕ → Type 0
+abbrev pub IsFirstBad : ScriptKind → List ℕ → ℕ → Type 0
 IsFirstBad mode.Relay source line = script_of source ≡ Err line
 IsFirstBad mode.Buffers source line = answers_of source ≡ Err line
 IsFirstBad mode.Base source line = base_script.script_of source ≡ Err line
 IsFirstBad mode.Pairs source line = pairs.answers_of source ≡ Err line
 
 -- The line is told of a text that has this one as its first bad line. A number above 2^32 - 1 is told as that number.
-abbrev pub TellsBad : Mode → List ℕ → ℕ → Type 0
+abbrev pub TellsBad : ScriptKind → List ℕ → ℕ → Type 0
 TellsBad m source told = (line : ℕ) × IsFirstBad m source line × (told ≡ min line (2 ^ 32 - 1))
 
 -- Why a text comes to nothing: it is no script, or memory ran out.
-abbrev pub Refuses : Mode → List ℕ → Status → Type 0
+abbrev pub Refuses : ScriptKind → List ℕ → Status → Type 0
 Refuses m source (status.BadScript told) = TellsBad m source told
 Refuses m source status.Memory = ⊤
 Refuses m source _ = ⊥
 
 -- The source gave a whole text, and the sink took the whole text that it comes to.
-abbrev pub PlayedAll : Mode → Status → Option (List ℕ) → Option (List ℕ) → Option (List ℕ) → Option (List ℕ) → Type 0
+abbrev pub PlayedAll : ScriptKind → Status → Option (List ℕ) → Option (List ℕ) → Option (List ℕ) → Option (List ℕ) → Type 0
 PlayedAll m ended left now_left taken now_taken =
     (source : List ℕ) × (text : List ℕ) × GaveAll left now_left source × ComesTo m source ended text × TookOn taken now_taken text
 
 -- the same, but the sink took the first n bytes of the text, and not all
-abbrev pub PlayedPart : Mode → Option (List ℕ) → Option (List ℕ) → Option (List ℕ) → Option (List ℕ) → Type 0
+abbrev pub PlayedPart : ScriptKind → Option (List ℕ) → Option (List ℕ) → Option (List ℕ) → Option (List ℕ) → Type 0
 PlayedPart m left now_left taken now_taken =
     (source : List ℕ) × (text : List ℕ) × (ended : Status) × (n : ℕ) × GaveAll left now_left source × ComesTo m source ended text
     × (n < length text) × TookOn taken now_taken (take n text)
 
 -- the source gave a whole text whose first bad line is told
-abbrev pub GaveBad : Mode → Option (List ℕ) → Option (List ℕ) → ℕ → Type 0
+abbrev pub GaveBad : ScriptKind → Option (List ℕ) → Option (List ℕ) → ℕ → Type 0
 GaveBad m left now_left told = (source : List ℕ) × GaveAll left now_left source × TellsBad m source told
 
 -- What a call did, by the mode that its words ask for and by its status. Three statuses never come, and Spent of a base alone.
-abbrev pub Did : Mode → Status → Option (List ℕ) → Option (List ℕ) → Option (List ℕ) → Option (List ℕ) → Type 0
+abbrev pub Did : ScriptKind → Status → Option (List ℕ) → Option (List ℕ) → Option (List ℕ) → Option (List ℕ) → Type 0
 Did m status.Ok left now_left taken now_taken = PlayedAll m status.Ok left now_left taken now_taken
 Did m status.PollFault left now_left taken now_taken = PlayedAll m status.PollFault left now_left taken now_taken
 Did m status.WriteFault left now_left taken now_taken = PlayedPart m left now_left taken now_taken
@@ -89,6 +89,6 @@ Did m status.OpenFault left now_left taken now_taken = ⊥
 Did m status.Spent left now_left taken now_taken = PlayedAll m status.Spent left now_left taken now_taken
 
 -- Words that ask for no mode are refused, or memory ran out while they were read. What a call did with the others.
-abbrev pub DidWith : Option Mode → Status → Option (List ℕ) → Option (List ℕ) → Option (List ℕ) → Option (List ℕ) → Type 0
+abbrev pub DidWith : Option ScriptKind → Status → Option (List ℕ) → Option (List ℕ) → Option (List ℕ) → Option (List ℕ) → Type 0
 DidWith None ended left now_left taken now_taken = (ended ≡ status.Usage) ⊎ (ended ≡ status.Memory)
 DidWith (Some m) ended left now_left taken now_taken = Did m ended left now_left taken now_taken

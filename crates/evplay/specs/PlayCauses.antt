@@ -2,16 +2,16 @@
 use Rattle.std.specs.Prelude.{◌≡◌, ◌≢◌, ◌+◌, ◌^◌, Option, None}
 use Rattle.ev_types.specs.declared.status.Status.{Status}
 use Rattle.ev_types.specs.declared.status.Status.TheVariants as status
-use Rattle.stream_words.specs.Faults.{Rose}
-use Rattle.stream_words.specs.Streams.{GaveAtMost, GaveCount}
+use Rattle.ev_port.specs.FaultCounts.{Rose}
+use Rattle.ev_port.specs.StreamBytes.{GaveAtMost, GaveCount}
 use Rattle.ev_port.specs.declared.stream.Sink as sink
 use Rattle.ev_port.specs.declared.stream.Source as source
-use Rattle.relay_words.specs.declared.mode.Mode.{Mode}
+use Rattle.command_words.specs.declared.mode.ScriptKind.{ScriptKind}
 
 -- The words are looked at before all else; a fault is answered only where its count rose, and with every other answer the counts are as
 -- they were; too long is a text of which 2^24 + 1 bytes were read, and with every other answer no more than 2^24 were. What is not
 -- written wholly or in part is not written at all.
-pub record HasCauses {S K : Type 0} (g : source.Ghosts S) (h : sink.Ghosts K) (modes : Option Mode) (ended : Status)
+pub record HasCauses {S K : Type 0} (g : source.Ghosts S) (h : sink.Ghosts K) (modes : Option ScriptKind) (ended : Status)
     (old new : S) (from to : K) : Type 0 where
   pub unread : ended ≡ status.Usage → new ≡ old
   pub no_mode : modes ≡ None → new ≡ old

@@ -1,7 +1,7 @@
 -- Runs of a script: when one may begin, and how its turns end, as the answer of the last of them and as the status of the program.
 use Rattle.std.specs.Prelude.{◌≡◌, ◌≤◌, ℕ, [], length, Result, Ok, Err}
 use Rattle.ev_types.specs.ScriptTurn.{lines_of}
-use Rattle.relay_settings.specs.declared.settings.Settings.{Settings}
+use Rattle.ev_types.specs.declared.settings.Settings.{Settings}
 use Rattle.relay_core.specs.SettingsView.{model_settings}
 use Rattle.relay_drive.specs.declared.fault.DriveFault.{DriveFault}
 use Rattle.relay_drive.specs.declared.fault.DriveFault.TheVariants as fault

@@ -1,7 +1,7 @@
 // Reads a source to its end.
 ghost use Rattle.std.specs.Prelude.{◌≡◌, ◌≤◌, ◌+◌, ◌^◌, length, IfOk, IsErrOf};
-ghost use Rattle.stream_words.specs.Faults.{Rose};
-ghost use Rattle.stream_words.specs.Streams.{GaveAll, GaveCount, GaveAtMost};
+ghost use Rattle.ev_port.specs.FaultCounts.{Rose};
+ghost use Rattle.ev_port.specs.StreamBytes.{GaveAll, GaveCount, GaveAtMost};
 
 use ev_port::{Source, Taken};
 use std::alloc::Global;

@@ -12,7 +12,7 @@ mod status;
 
 use ev_port::{StdSink, StdSource};
 use program::play_program;
-use run_end::program_words;
+use command_words::program_words;
 use std::io;
 use std::process::ExitCode;
 

@@ -1,6 +1,6 @@
 // What a script comes to, by its mode: the text that is to be written, and how the program ends once it is.
 ghost use Rattle.std.specs.Prelude.{◌≤◌, ◌^◌, length, IfOk, IfErr};
-ghost use Rattle.relay_words.specs.declared.mode.Mode.TheVariants.{Relay, Buffers, Base, Pairs};
+ghost use Rattle.command_words.specs.declared.mode.ScriptKind.TheVariants.{Relay, Buffers, Base, Pairs};
 ghost use Rattle.evplay.specs.Play.{ComesTo, Refuses};
 
 use crate::run::run;
@@ -9,8 +9,8 @@ use base_mode::play_base;
 use buffers_mode::play_buffers;
 use ev_types::Status;
 use pairs_mode::play_pairs;
-use relay_words::Mode;
-use run_end::fault_status;
+use command_words::ScriptKind;
+use program_end::fault_status;
 use script_text::read_script;
 use std::alloc::Global;
 
@@ -25,16 +25,16 @@ pub struct Outcome {
 
 /// What the script of a text of at most 2^24 bytes comes to. A text that is no script of the mode is refused with its
 /// first bad line.
-pub fn outcome_of(alloc: Global, mode: Mode, text: &[u8]) -> Result<Outcome, Status>
+pub fn outcome_of(alloc: Global, mode: ScriptKind, text: &[u8]) -> Result<Outcome, Status>
     requires { length text.now ≤ 2 ^ 24 }
     ensures comes_to { IfOk result (λ outcome. ComesTo mode text.now outcome.status outcome.text.items) }
     ensures refused { IfErr result (λ status. Refuses mode text.now status) }
 {
     match mode {
-        Mode::Relay => relay(alloc, text),
-        Mode::Buffers => buffers(alloc, text),
-        Mode::Base => base(alloc, text),
-        Mode::Pairs => pairs(alloc, text),
+        ScriptKind::Relay => relay(alloc, text),
+        ScriptKind::Buffers => buffers(alloc, text),
+        ScriptKind::Base => base(alloc, text),
+        ScriptKind::Pairs => pairs(alloc, text),
     }
 }
 

@@ -1,16 +1,16 @@
 // All that the program does, as one call: words, source, script, what it comes to, sink, in this order.
 ghost use Rattle.std.specs.Prelude.{◌≡◌, ◌≢◌, ◌+◌, ◌^◌, None, map, string_bytes};
-ghost use Rattle.stream_words.specs.Faults.{Rose};
-ghost use Rattle.stream_words.specs.Streams.{GaveCount, GaveAtMost};
-ghost use Rattle.relay_words.specs.ModeGrammar.{mode_of};
+ghost use Rattle.ev_port.specs.FaultCounts.{Rose};
+ghost use Rattle.ev_port.specs.StreamBytes.{GaveCount, GaveAtMost};
+ghost use Rattle.command_words.specs.ModeGrammar.{mode_of};
 ghost use Rattle.evplay.specs.Play.{DidWith};
 
 use crate::input::{ReadStop, read_text};
 use crate::outcome::outcome_of;
 use ev_port::{Sink, Source};
 use ev_types::Status;
-use relay_words::mode_words;
-use run_end::write_text;
+use command_words::mode_words;
+use program_end::write_text;
 use std::alloc::Global;
 
 /// Plays the script that a source spells, and writes what it comes to to a sink. It always returns. The words are

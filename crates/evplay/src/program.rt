@@ -1,16 +1,18 @@
 // All of the program but its words and streams: how the process ends, and what it says.
 ghost use Rattle.std.specs.Prelude.{◌≡◌, map, string_bytes, IfOk, IfErr};
 ghost use Rattle.ev_types.specs.declared.status.Status.{Status};
-ghost use Rattle.run_end.specs.EndStatus.{status_number, words_status};
-ghost use Rattle.run_end.specs.Complains.{Complains};
-ghost use Rattle.relay_words.specs.ModeGrammar.{mode_of};
+ghost use Rattle.program_end.specs.EndStatus.{status_number};
+ghost use Rattle.command_words.specs.WordsStatus.{words_status};
+ghost use Rattle.program_end.specs.Complains.{Complains};
+ghost use Rattle.command_words.specs.ModeGrammar.{mode_of};
 ghost use Rattle.evplay.specs.Play.{DidWith};
 ghost use Rattle.evplay.specs.PlayCauses.{HasCauses};
 
 use crate::play::play;
 use ev_port::{Sink, Source};
 use ev_types::Status;
-use run_end::{BadWords, finish};
+use command_words::BadWords;
+use program_end::finish;
 use std::alloc::Global;
 
 /// Plays as its words say. Nothing is read or written where the words can't be read.

@@ -12,8 +12,8 @@ ghost use Rattle.evplay.specs.Run.{answer_of, ended_as, refused_by, script_over,
 
 use ev_types::{NoMemory, Status};
 use relay_drive::{Drive, DriveFault};
-use relay_settings::Settings;
-use run_end::link_lines;
+use ev_types::Settings;
+use program_end::link_lines;
 use script_port::ScriptPort;
 use script_text::{Script, write_report};
 use std::alloc::Global;

@@ -11,14 +11,14 @@ use Rattle.ev_types.specs.Told.{EndTold, PortTold, Adds, Raises, Counts, Stays}
 use Rattle.ev_types.specs.Trace.{Trace}
 use Rattle.relay_laws.specs.Relayed.{IsRelayed}
 use Rattle.relay_model.specs.Answers.{TurnAnswer}
-use Rattle.relay_model.specs.Filter.{filter_of}
-use Rattle.relay_model.specs.FilterLaws.{IsPrefixOf}
+use Rattle.filter_model.specs.Filter.{filter_of}
+use Rattle.filter_model.specs.FilterLaws.{IsPrefixOf}
 use Rattle.relay_model.specs.Flow.{passed, passed_at_end}
 use Rattle.relay_model.specs.Rooms.{read_kind, write_kind}
 use Rattle.relay_model.specs.Settings.{Settings}
 use Rattle.relay_model.specs.Totals.{opened}
 use Rattle.relay_model.specs.Trace.{is_write_closed}
-use Rattle.relay_settings.specs.declared.route.Route.{Route}
+use Rattle.ev_types.specs.declared.route.Route.{Route}
 use Rattle.relay_serve.specs.Seen.{Seen, Drained}
 use Rattle.relay_serve.specs.Served.{IsServed, EndedAs, RanOut, Did, DidWith, settings_on}
 use Rattle.told_port.specs.Calls.{first_told, first_end}

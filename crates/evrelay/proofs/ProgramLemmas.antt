@@ -2,12 +2,12 @@
 use Rattle.std.proofs.Common.{◌≡◌, ◌⊎◌, inl, inr, ℕ, true, if◌then◌else◌, List, [], ◌++◌, Option, subst, sym, ◌∙◌, ap}
 use Rattle.ev_types.specs.declared.entry.Entry.{Entry}
 use Rattle.ev_types.specs.declared.status.Status.{Status}
-use Rattle.stream_words.specs.Faults.{Rose}
-use Rattle.stream_words.specs.Streams.{TookOn}
-use Rattle.stream_words.proofs.StreamLemmas.{TookOn-join}
-use Rattle.run_end.specs.Complains.{Complains, TookPart}
-use Rattle.run_end.specs.EndStatus.{complaint}
-use Rattle.run_end.proofs.ComplaintLemmas.{part-first, part-second}
+use Rattle.ev_port.specs.FaultCounts.{Rose}
+use Rattle.ev_port.specs.StreamBytes.{TookOn}
+use Rattle.ev_port.proofs.StreamLemmas.{TookOn-join}
+use Rattle.program_end.specs.Complains.{Complains, TookPart}
+use Rattle.program_end.specs.EndStatus.{complaint}
+use Rattle.program_end.proofs.ComplaintLemmas.{part-first, part-second}
 use Rattle.evrelay.specs.Program.{shows, said, Says}
 use Rattle.evrelay.specs.RingText.{ring_text}
 

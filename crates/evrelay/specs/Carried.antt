@@ -5,8 +5,8 @@ use Rattle.ev_types.specs.Sides.{peer}
 use Rattle.ev_types.specs.Told.{EndTold, PortTold}
 use Rattle.ev_types.specs.Trace.{Trace}
 use Rattle.relay_model.specs.Trace.{bytes_read, bytes_given, has_ended, is_write_closed}
-use Rattle.relay_model.specs.Filter.{filter_of}
-use Rattle.relay_model.specs.FilterLaws.{IsPrefixOf}
+use Rattle.filter_model.specs.Filter.{filter_of}
+use Rattle.filter_model.specs.FilterLaws.{IsPrefixOf}
 use Rattle.relay_model.specs.Flow.{passed, passed_at_end}
 use Rattle.relay_model.specs.Rooms.{read_kind, write_kind}
 use Rattle.relay_model.specs.Settings.{Settings}

@@ -4,13 +4,13 @@ use Rattle.ev_types.specs.Trace.{Trace}
 use Rattle.ev_types.specs.declared.entry.Entry.{Entry}
 use Rattle.ev_types.specs.declared.status.Status.{Status}
 use Rattle.ev_types.specs.declared.status.Status.TheVariants as status
-use Rattle.stream_words.specs.Faults.{Rose}
-use Rattle.stream_words.specs.Streams.{TookOn}
+use Rattle.ev_port.specs.FaultCounts.{Rose}
+use Rattle.ev_port.specs.StreamBytes.{TookOn}
 use Rattle.ev_port.specs.declared.port.Port as port
 use Rattle.ev_port.specs.declared.stream.Sink as sink
 use Rattle.relay_serve.specs.Seen.{Seen}
-use Rattle.run_end.specs.Complains.{Complains, TookPart}
-use Rattle.run_end.specs.EndStatus.{complaint}
+use Rattle.program_end.specs.Complains.{Complains, TookPart}
+use Rattle.program_end.specs.EndStatus.{complaint}
 use Rattle.evrelay.specs.RingText.{ring_text}
 
 -- what is seen of a run of which this trace was told

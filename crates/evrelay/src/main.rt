@@ -11,7 +11,7 @@ mod tests;
 use ev_port::StdSink;
 use mio_port::MioPort;
 use program::relay_told;
-use run_end::program_words;
+use command_words::program_words;
 use std::io;
 use std::process::ExitCode;
 use told_port::TellingPort;

@@ -8,11 +8,10 @@ ghost use Rattle.evrelay.specs.RingText.{counted_line, moved_line, ring_text};
 ghost use Rattle.evrelay.specs.RingWants.{last_entries, want_entry, StartsLast};
 
 use circular_buffer::HeapCircularBuffer;
-use ev_port::{Scribe, Want, WantTable};
+use ev_port::{LogStep, Scribe, TraceLog, Want, WantTable};
 use ev_types::{Entry, NoMemory, ReadAnswer, Side, SideId, WriteAnswer};
 use script_text::{make_room, put_entry};
 use std::alloc::Global;
-use text_scribe::{Step, TraceLog};
 
 /// How many entries are kept.
 const KEPT: usize = 64;
@@ -130,7 +129,7 @@ impl Scribe for Ring {
         ensures bytes { 2 ^ 64 ≤ 2 ^ 64 + length bytes.now }
     {
         self.entries.push_back(entry);
-        self.told = self.told.then(&Step { entry, bytes });
+        self.told = self.told.then(&LogStep { entry, bytes });
     }
 
     fn put_wants(&mut self, wants: &WantTable)

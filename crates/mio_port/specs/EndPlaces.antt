@@ -1,6 +1,6 @@
 -- The counts of faults of all ends, and which wants the ends are ready for.
 use Rattle.std.specs.Prelude.{◌≡◌, ◌≢◌, ℕ, Bool, true, false, ◌&&◌, ◌||◌, List, Option, Some, None, slice_index_or, option_map}
-use Rattle.stream_words.specs.Faults.{Counted}
+use Rattle.ev_port.specs.FaultCounts.{Counted}
 use Rattle.ev_types.specs.declared.side.Side.TheVariants.{In, Out}
 use Rattle.ev_types.specs.declared.side.SideId.{SideId}
 use Rattle.ev_types.specs.Sides.{number}

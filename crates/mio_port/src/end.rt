@@ -1,6 +1,6 @@
 // One end: its connection, what the kernel told of it, and its count of faults.
 ghost use Rattle.std.specs.Prelude.{◌≡◌, ◌<◌, length, false, true, Some};
-ghost use Rattle.stream_words.specs.Faults.{Counted};
+ghost use Rattle.ev_port.specs.FaultCounts.{Counted};
 ghost use Rattle.ev_port.specs.Ends.{ReadWithin, is_failed_read, WriteWithin, is_failed_write, is_failed_conn};
 ghost use Rattle.mio.specs.Event as event;
 ghost use Rattle.mio_port.specs.Attempts.{AttemptBy, CheckBy, check_of, read_answer, write_answer, check_answer};

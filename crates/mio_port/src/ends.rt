@@ -2,7 +2,7 @@
 // count of faults with it.
 ghost use Rattle.std.specs.Prelude.{◌≡◌, ◌<◌, ◌≤◌, ◌==◌, ◌+◌, ◌*◌, ℕ, [], None, Some, length, map, filter, slice_index_or, vec_len, OnOk, false, true, option_map, if◌then◌else◌};
 ghost use Rattle.std.specs.List.{list_any};
-ghost use Rattle.stream_words.specs.Faults.{Counted};
+ghost use Rattle.ev_port.specs.FaultCounts.{Counted};
 ghost use Rattle.ev_port.specs.Table.{RowsStay, is_marked, named};
 ghost use Rattle.ev_port.specs.Ends.{ReadWithin, is_failed_read, WriteWithin, is_failed_write, is_failed_conn};
 ghost use Rattle.ev_types.specs.Sides.{number};

@@ -8,8 +8,8 @@ use Rattle.ev_types.specs.declared.filter.Mode.TheVariants as mode
 use Rattle.script_text.specs.Numbers.{number_within, bytes_of}
 use Rattle.pairs_mode.specs.declared.half.Half.{Half}
 use Rattle.pairs_mode.specs.declared.half.Half.TheVariants.{A, B}
-use Rattle.pairs_mode.specs.declared.line.Ask.{Ask}
-use Rattle.pairs_mode.specs.declared.line.Ask.TheVariants as ask
+use Rattle.pairs_mode.specs.declared.line.PairAsk.{PairAsk}
+use Rattle.pairs_mode.specs.declared.line.PairAsk.TheVariants as ask
 use Rattle.pairs_mode.specs.declared.line.Line.{Line}
 
 abbrev pub half_of : List ℕ → Option Half
@@ -34,7 +34,7 @@ abbrev pub mark_of : List ℕ → Option ℕ
 mark_of word = number_within (2 ^ 24) word
 
 -- what a line asks that has one word behind the half
-abbrev pub one_ask : List ℕ → List ℕ → Option Ask
+abbrev pub one_ask : List ℕ → List ℕ → Option PairAsk
 one_ask first word =
     if bytes_eq first (codes "write") then option_map (λ bytes. ask.Write bytes) (bytes_of word)
     else (if bytes_eq first (codes "drain") then option_map (λ n. ask.Drain n) (count_of word)
@@ -45,7 +45,7 @@ one_ask first word =
     else None)))))
 
 -- what a line asks by its first word and those behind the half
-abbrev pub ask_by : List ℕ → List (List ℕ) → Option Ask
+abbrev pub ask_by : List ℕ → List (List ℕ) → Option PairAsk
 ask_by first [] = if bytes_eq first (codes "free") then Some ask.Free else None
 ask_by first (word ∷ []) = one_ask first word
 ask_by first (word ∷ another ∷ more) = None
@@ -58,7 +58,7 @@ said (first ∷ word ∷ more) =
     option_and_then (λ of_half. option_map (λ asked. record { half = of_half; ask = asked }) (ask_by first more)) (half_of word)
 
 -- a mark that is set is at most 2^24
-abbrev pub IsAskWithin : Ask → Type 0
+abbrev pub IsAskWithin : PairAsk → Type 0
 IsAskWithin (ask.Write bytes) = Unit {0}
 IsAskWithin (ask.Drain n) = Unit {0}
 IsAskWithin (ask.Enable d) = Unit {0}

@@ -6,8 +6,8 @@ use Rattle.ev_types.specs.declared.filter.Mode.{Mode}
 use Rattle.ev_types.specs.declared.filter.Mode.TheVariants as mode
 use Rattle.bev_core.specs.BevValue.{BevValue}
 use Rattle.bev_pair.specs.Transfer.{up_to}
-use Rattle.pairs_mode.specs.declared.line.Ask.{Ask}
-use Rattle.pairs_mode.specs.declared.line.Ask.TheVariants as ask
+use Rattle.pairs_mode.specs.declared.line.PairAsk.{PairAsk}
+use Rattle.pairs_mode.specs.declared.line.PairAsk.TheVariants as ask
 use Rattle.pairs_mode.specs.declared.answer.Refusal.{Refusal}
 use Rattle.pairs_mode.specs.declared.answer.Refusal.TheVariants.{NotLive, NoPartner}
 
@@ -59,7 +59,7 @@ flushed mode.Flush half other = passed (length half.output) half other
 flushed mode.Finished half other = passed (length half.output) half other
 
 -- what a line does to its half and the other one, where it isn't refused
-abbrev pub asked : Ask → HalfValue → HalfValue → Halves
+abbrev pub asked : PairAsk → HalfValue → HalfValue → Halves
 asked (ask.Write bytes) half other = (record half { output = half.output ++ bytes }, other)
 asked (ask.Drain n) half other = (record half { input = drop n half.input }, other)
 asked (ask.Enable d) half other = (with_enabled half d true, other)
@@ -69,16 +69,16 @@ asked (ask.Flush m) half other = flushed m half other
 asked ask.Free half other = (record half { live = false; input = []; output = [] }, other)
 
 -- a flush other than normal has no partner where the other half is freed
-abbrev pub partner_refusal : Ask → HalfValue → Option Refusal
+abbrev pub partner_refusal : PairAsk → HalfValue → Option Refusal
 partner_refusal (ask.Flush mode.Flush) other = if other.live then None else Some NoPartner
 partner_refusal (ask.Flush mode.Finished) other = if other.live then None else Some NoPartner
 partner_refusal _ other = None
 
 -- why a line is refused: its half is freed, or there is no partner
-abbrev pub refusal_of : Ask → HalfValue → HalfValue → Option Refusal
+abbrev pub refusal_of : PairAsk → HalfValue → HalfValue → Option Refusal
 refusal_of asked half other = if half.live then partner_refusal asked other else Some NotLive
 
 -- whether a line raises end of file at the other half, where it isn't refused
-abbrev pub raises_end : Ask → Bool
+abbrev pub raises_end : PairAsk → Bool
 raises_end (ask.Flush mode.Finished) = true
 raises_end _ = false

@@ -9,7 +9,7 @@ use Rattle.pairs_mode.specs.Grammar.{said}
 use Rattle.pairs_mode.specs.declared.answer.Refusal.{Refusal}
 use Rattle.pairs_mode.specs.declared.half.Half.{Half}
 use Rattle.pairs_mode.specs.declared.half.Half.TheVariants.{A, B}
-use Rattle.pairs_mode.specs.declared.line.Ask.{Ask}
+use Rattle.pairs_mode.specs.declared.line.PairAsk.{PairAsk}
 use Rattle.pairs_mode.specs.declared.line.Line.{Line}
 
 -- the two halves, and the text that was written
@@ -31,12 +31,12 @@ abbrev pub with_halves : Run → HalfValue → HalfValue → Run
 with_halves run first second = record run { a = first; b = second }
 
 -- why a line is refused, if it is
-abbrev pub refused_by : Run → Half → Ask → Option Refusal
+abbrev pub refused_by : Run → Half → PairAsk → Option Refusal
 refused_by run A ask = refusal_of ask run.a run.b
 refused_by run B ask = refusal_of ask run.b run.a
 
 -- a line does what it asks
-abbrev pub done_by : Run → Half → Ask → Run
+abbrev pub done_by : Run → Half → PairAsk → Run
 done_by run A ask = let halves = asked ask run.a run.b in with_halves run halves.0 halves.1
 done_by run B ask = let halves = asked ask run.b run.a in with_halves run halves.1 halves.0
 
@@ -48,7 +48,7 @@ settled run =
     with_halves run back.1 back.0
 
 -- what a line leaves; a refused one moves nothing
-abbrev pub after_ask : Run → Half → Ask → Option Refusal → Run
+abbrev pub after_ask : Run → Half → PairAsk → Option Refusal → Run
 after_ask run of_half ask None = settled (done_by run of_half ask)
 after_ask run of_half ask (Some refusal) = run
 
@@ -58,7 +58,7 @@ other_half A = B
 other_half B = A
 
 -- the half at which a line raised end of file, if it did
-abbrev pub end_at : Half → Ask → Option Refusal → Option Half
+abbrev pub end_at : Half → PairAsk → Option Refusal → Option Half
 end_at of_half ask None = if raises_end ask then Some (other_half of_half) else None
 end_at of_half ask (Some refusal) = None
 

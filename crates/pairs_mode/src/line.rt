@@ -18,7 +18,7 @@ const MAX_MARK: u64 = 1 << 24;
 ///
 /// Own.
 #[derive(Drop)]
-pub(crate) enum Ask {
+pub(crate) enum PairAsk {
     Write(ByteList),
     /// How many bytes leave its input.
     Drain(usize),
@@ -36,7 +36,7 @@ pub(crate) enum Ask {
 #[derive(Drop)]
 pub(crate) struct Line {
     pub(crate) half: Half,
-    pub(crate) ask: Ask,
+    pub(crate) ask: PairAsk,
 }
 
 fn read_half(word: &[u8]) -> Option<Half>
@@ -108,41 +108,41 @@ pub(crate) fn line_of(alloc: Global, words: &[&[u8]]) -> Result<Option<Line>, No
 }
 
 /// What a line asks by its first word and those behind the half.
-fn ask_of(alloc: Global, first: &[u8], more: &[&[u8]]) -> Result<Option<Ask>, NoMemory>
+fn ask_of(alloc: Global, first: &[u8], more: &[&[u8]]) -> Result<Option<PairAsk>, NoMemory>
     ensures value { IfOk result (λ ask. ask ≡ ask_by first.now (map (λ w. w.now) more.now)) }
     ensures within { IfOk result (λ ask. IfSome ask IsAskWithin) }
 {
     match more {
-        [] => Ok(is_word(first, "free").then_some(Ask::Free)),
+        [] => Ok(is_word(first, "free").then_some(PairAsk::Free)),
         [word] => one_word_ask(alloc, first, word),
         _ => Ok(None),
     }
 }
 
-fn one_word_ask(alloc: Global, first: &[u8], word: &[u8]) -> Result<Option<Ask>, NoMemory>
+fn one_word_ask(alloc: Global, first: &[u8], word: &[u8]) -> Result<Option<PairAsk>, NoMemory>
     ensures value { IfOk result (λ ask. ask ≡ one_ask first.now word.now) }
     ensures within { IfOk result (λ ask. IfSome ask IsAskWithin) }
 {
     if is_word(first, "write") {
         read_write(alloc, word)
     } else if is_word(first, "drain") {
-        Ok(read_count(word).map(Ask::Drain))
+        Ok(read_count(word).map(PairAsk::Drain))
     } else if is_word(first, "enable") {
-        Ok(read_dir(word).map(Ask::Enable))
+        Ok(read_dir(word).map(PairAsk::Enable))
     } else if is_word(first, "disable") {
-        Ok(read_dir(word).map(Ask::Disable))
+        Ok(read_dir(word).map(PairAsk::Disable))
     } else if is_word(first, "high") {
-        Ok(read_mark(word).map(Ask::High))
+        Ok(read_mark(word).map(PairAsk::High))
     } else if is_word(first, "flush") {
-        Ok(read_mode(word).map(Ask::Flush))
+        Ok(read_mode(word).map(PairAsk::Flush))
     } else {
         Ok(None)
     }
 }
 
-fn read_write(alloc: Global, word: &[u8]) -> Result<Option<Ask>, NoMemory>
-    ensures value { IfOk result (λ ask. ask ≡ option_map (λ bytes. Ask.Write bytes) (bytes_of word.now)) }
+fn read_write(alloc: Global, word: &[u8]) -> Result<Option<PairAsk>, NoMemory>
+    ensures value { IfOk result (λ ask. ask ≡ option_map (λ bytes. PairAsk.Write bytes) (bytes_of word.now)) }
     ensures within { IfOk result (λ ask. IfSome ask IsAskWithin) }
 {
-    Ok(hex_bytes(alloc, word)?.map(|bytes| Ask::Write(ByteList { bytes })))
+    Ok(hex_bytes(alloc, word)?.map(|bytes| PairAsk::Write(ByteList { bytes })))
 }

@@ -5,7 +5,7 @@ ghost use Rattle.pairs_mode.specs.Run.{fresh_run, refused_by, done_by, settled, 
 
 use crate::answer::{Refusal, answer_text, end_text, lengths_text};
 use crate::half::Half;
-use crate::line::{Ask, Line};
+use crate::line::{PairAsk, Line};
 use crate::step::{raises_end, refusal_of, settle, take_step};
 use bev_core::Bev;
 use ev_types::NoMemory;
@@ -61,7 +61,7 @@ impl Player {
     }
 
     // Why a line is refused, if it is.
-    fn refused_by(&self, half: Half, ask: &Ask) -> Option<Refusal>
+    fn refused_by(&self, half: Half, ask: &PairAsk) -> Option<Refusal>
         ensures { result ≡ refused_by self.now half ask.now }
     {
         match half {
@@ -71,7 +71,7 @@ impl Player {
     }
 
     // Does what a line asks, and moves the bytes that go of themselves after it. A refused line does nothing.
-    fn ask(&mut self, half: Half, ask: &Ask, refusal: Option<Refusal>) -> Result<(), NoMemory>
+    fn ask(&mut self, half: Half, ask: &PairAsk, refusal: Option<Refusal>) -> Result<(), NoMemory>
         requires within { IsAskWithin ask.now }
         requires refusal { refusal ≡ refused_by self.old half ask.now }
         ensures { OnOk result (self.new ≡ after_ask self.old half ask.now refusal) }
@@ -83,7 +83,7 @@ impl Player {
         self.settle()
     }
 
-    fn do_step(&mut self, half: Half, ask: &Ask) -> Result<(), NoMemory>
+    fn do_step(&mut self, half: Half, ask: &PairAsk) -> Result<(), NoMemory>
         requires within { IsAskWithin ask.now }
         requires open { refused_by self.old half ask.now ≡ None }
         ensures { OnOk result (self.new ≡ done_by self.old half ask.now) }
@@ -131,7 +131,7 @@ impl Player {
 }
 
 // The half at which a line raised end of file, if it did.
-fn end_at(half: Half, ask: &Ask, refusal: Option<Refusal>) -> Option<Half>
+fn end_at(half: Half, ask: &PairAsk, refusal: Option<Refusal>) -> Option<Half>
     ensures { result ≡ end_at half ask.now refusal }
 {
     match refusal {

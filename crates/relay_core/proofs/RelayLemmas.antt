@@ -11,7 +11,8 @@ use Rattle.ev_types.specs.declared.side.SideId.{SideId}
 use Rattle.ev_types.specs.declared.why.Why.{Why}
 use Rattle.ev_types.specs.declared.why.Why.TheVariants as why
 use Rattle.ev_types.specs.Sides.{number, peer}
-use Rattle.relay_model.specs.Settings.{Settings, Timeouts}
+use Rattle.relay_model.specs.Settings.{Settings}
+use Rattle.ev_types.specs.declared.settings.Timeouts.{Timeouts}
 use Rattle.relay_model.specs.Due.{with_reason}
 use Rattle.relay_model.specs.Plain as plain
 use Rattle.relay_model.specs.Plain.{Plain, PlainSide, Standing, no_side, is_live}

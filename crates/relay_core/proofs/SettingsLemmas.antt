@@ -1,7 +1,7 @@
 -- The settings of a run of which nothing was said are the model's.
 use Rattle.std.proofs.Common.{◌≡◌, refl}
 use Rattle.relay_model.specs.Settings as model
-use Rattle.relay_settings.specs.Usual.{usual}
+use Rattle.ev_types.specs.Usual.{usual}
 use Rattle.relay_core.specs.SettingsView.{model_settings}
 
 pub usual_settings : model_settings usual ≡ model.usual

@@ -1,7 +1,8 @@
 -- How the relay keeps its state. There are no timers, nothing is due or left to fire, and no side has a limit.
 use Rattle.std.specs.Prelude.{◌≡◌, ℕ, zero, suc, ◌≤◌, Bool, true, false, List, [], ◌∷◌, ◌++◌, None}
 use Rattle.std.specs.List.{All}
-use Rattle.relay_model.specs.Settings.{Timeouts, no_timeouts}
+use Rattle.ev_types.specs.Usual.{no_timeouts}
+use Rattle.ev_types.specs.declared.settings.Timeouts.{Timeouts}
 use Rattle.relay_model.specs.Plain.{PlainSide}
 use Rattle.relay_state.specs.Running.{Gauge, no_gauge}
 use Rattle.relay_state.specs.State.{State}

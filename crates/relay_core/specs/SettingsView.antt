@@ -2,7 +2,7 @@
 use Rattle.std.specs.Prelude.{Bool, true}
 use Rattle.relay_model.specs.Settings as model
 use Rattle.relay_model.specs.Settings.{usual}
-use Rattle.relay_settings.specs.declared.settings.Settings.{Settings}
+use Rattle.ev_types.specs.declared.settings.Settings.{Settings}
 use Rattle.relay_sides.specs.SettingsView.{model_marks, model_timeouts}
 use Rattle.relay_sides.specs.declared.opening.NewSide.{NewSide}
 

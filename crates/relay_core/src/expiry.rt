@@ -2,7 +2,7 @@
 // timeouts expires. Where the settings have no timeouts, no side is looked at.
 ghost use Rattle.std.specs.Prelude.{◌≡◌, ◌^◌, ◌<◌, ◌↔◌, ◌||◌, min, max, fold, IsTrue};
 ghost use Rattle.std.specs.List.{list_any, flat_map};
-ghost use Rattle.relay_model.specs.Settings.{no_timeouts};
+ghost use Rattle.ev_types.specs.Usual.{no_timeouts};
 ghost use Rattle.relay_model.specs.Plain.{side_at, change_side, all_sides};
 ghost use Rattle.relay_model.specs.Reasons.{raise, happened, timeout_flag};
 ghost use Rattle.relay_model.specs.Moments.{is_timed, active_at, both_ways, timers_taken, has_run_out, expire};

@@ -17,5 +17,5 @@ mod serve;
 pub use close::Closing;
 pub use ev_types::LinkCount;
 pub use relay::Relay;
-pub use relay_settings::{Marks, Settings, Timeouts};
+pub use ev_types::{Marks, Settings, Timeouts};
 pub use relay_sides::{Counts, SideFlags};

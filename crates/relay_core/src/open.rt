@@ -6,7 +6,7 @@ ghost use Rattle.relay_core.specs.SettingsView.{near_of, far_of};
 
 use crate::relay::Relay;
 use ev_types::NoMemory;
-use relay_settings::Settings;
+use ev_types::Settings;
 use relay_sides::NewSide;
 
 impl Relay {

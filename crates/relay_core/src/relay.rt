@@ -1,10 +1,10 @@
 // The relay's state.
 ghost use Rattle.std.specs.Prelude.{◌≡◌, ◌↔◌, IsTrue};
-ghost use Rattle.relay_settings.specs.Usual.{no_timeouts};
+ghost use Rattle.ev_types.specs.Usual.{no_timeouts};
 ghost use Rattle.relay_state.specs.State.{new_state};
 ghost use Rattle.relay_core.specs.SettingsView.{model_settings};
 
-use relay_settings::{Settings, Timeouts};
+use ev_types::{Settings, Timeouts};
 use relay_sides::Sides;
 use std::alloc::Global;
 use std::marker::Model;

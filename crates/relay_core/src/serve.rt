@@ -1,6 +1,5 @@
 // What the results of reads, writes and connect checks change.
-ghost use Rattle.std.specs.Prelude.{◌≡◌, ◌+◌, ◌^◌, ◌<◌, ◌≤◌, OnOk, length};
-ghost use Rattle.std.specs.Prelude.{[]};
+ghost use Rattle.std.specs.Prelude.{◌≡◌, ◌+◌, ◌^◌, ◌<◌, ◌≤◌, OnOk, length, []};
 ghost use Rattle.token_bucket.specs.declared.limit.Dir.TheVariants.{Read, Write};
 ghost use Rattle.ev_types.specs.declared.answer.ConnAnswer.TheVariants.{Connected};
 ghost use Rattle.ev_types.specs.declared.answer.ReadAnswer.TheVariants.{Ended, Failed};

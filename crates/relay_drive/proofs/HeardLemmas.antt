@@ -2,7 +2,7 @@
 use Rattle.std.specs.List.{list_all}
 use Rattle.relay_model.specs.Plays.{is_served}
 use Rattle.std.proofs.Common.{◌≡◌, ℕ, Bool, true, false, ◌&&◌, ◌||◌, List, [], ◌∷◌, length, Option, refl, sym, subst, arith}
-use Rattle.stream_words.specs.Faults.{Counted}
+use Rattle.ev_port.specs.FaultCounts.{Counted}
 use Rattle.ev_types.specs.declared.side.SideId.{SideId}
 use Rattle.ev_types.specs.declared.answer.ConnAnswer.{ConnAnswer}
 use Rattle.ev_types.specs.declared.answer.ConnAnswer.TheVariants as conn

@@ -3,7 +3,7 @@ use Rattle.std.proofs.Common.{◌≡◌, inl, inr, ℕ, zero, suc, ◌+◌, Bool
 use Rattle.std.specs.Prelude.{◌≤◌, filter}
 use Rattle.std.proofs.lemmas.List.Folds.{list_any-append}
 use Rattle.ev_port.specs.Table.{is_marked}
-use Rattle.stream_words.specs.Faults.{Counted}
+use Rattle.ev_port.specs.FaultCounts.{Counted}
 use mathlib.Core.Logic.{◌⊎◌}
 use Rattle.ev_types.specs.declared.side.SideId.{SideId}
 use Rattle.ev_types.specs.declared.entry.Entry.TheVariants as entry

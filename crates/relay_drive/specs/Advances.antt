@@ -2,7 +2,7 @@
 -- faults are counted.
 use Rattle.std.specs.Prelude.{◌≡◌, Bool, true, false, ◌++◌, length, Option}
 use Rattle.std.specs.List.{list_any}
-use Rattle.stream_words.specs.Faults.{Counted}
+use Rattle.ev_port.specs.FaultCounts.{Counted}
 use Rattle.ev_types.specs.declared.side.SideId.{SideId}
 use Rattle.ev_types.specs.declared.entry.Entry.TheVariants as entry
 use Rattle.ev_types.specs.Trace.{Event, Trace}

@@ -1,6 +1,6 @@
 -- What contracts see of a drive.
 use Rattle.std.specs.Prelude.{ℕ, ◌^◌, Bool, ◌||◌, nat_le, Option, Some, None, Result, Ok, Err}
-use Rattle.relay_settings.specs.declared.settings.Settings.{Settings}
+use Rattle.ev_types.specs.declared.settings.Settings.{Settings}
 use Rattle.relay_core.specs.SettingsView.{model_settings}
 use Rattle.relay_state.specs.State.{State, new_state}
 use Rattle.relay_state.specs.Counting.{is_spent}

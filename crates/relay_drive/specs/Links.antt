@@ -4,7 +4,7 @@ use Rattle.std.specs.Prelude.{◌≡◌, ℕ, false, is_some}
 use Rattle.std.specs.List.{All}
 use Rattle.token_bucket.specs.declared.limit.Dir.{Dir}
 use Rattle.ev_types.specs.declared.side.SideId.{SideId}
-use Rattle.relay_model.specs.Settings.{no_timeouts}
+use Rattle.ev_types.specs.Usual.{no_timeouts}
 use Rattle.relay_model.specs.Plain.{side_at, flow_at}
 use Rattle.relay_core.specs.declared.close.Closing.{Closing}
 pub use Rattle.relay_core.specs.Far.{is_far_from, is_far}

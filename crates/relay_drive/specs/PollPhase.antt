@@ -12,9 +12,8 @@ use Rattle.relay_state.specs.Time.{poll_timeout}
 use Rattle.relay_state.specs.Closing.{in_side, out_side}
 use Rattle.relay_drive.specs.declared.fault.DriveFault.{DriveFault}
 use Rattle.relay_drive.specs.declared.fault.DriveFault.TheVariants as fault
-use Rattle.relay_drive.specs.Steps.{Nothing, Then}
+use Rattle.relay_drive.specs.Steps.{Nothing, Then, links_from}
 use Rattle.relay_drive.specs.Calls.{Opens}
-use Rattle.relay_drive.specs.Steps.{links_from}
 pub use Rattle.ev_port.specs.Table.{wants_some}
 
 -- Polling

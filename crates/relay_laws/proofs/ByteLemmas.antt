@@ -14,7 +14,7 @@ use Rattle.ev_types.specs.declared.answer.WriteAnswer.TheVariants as write
 use Rattle.ev_types.specs.declared.entry.Entry.TheVariants as entry
 use Rattle.ev_types.specs.Trace.{Event, Trace}
 use Rattle.relay_model.specs.Trace.{read_by, given_by, bytes_read, bytes_given}
-use Rattle.relay_model.specs.Filter.{CR, LF, crlf_after, to_lf, last_cr, hex_digit, hex_out, is_within, is_hex, hex_value, hex_in, filter_of}
+use Rattle.filter_model.specs.Filter.{CR, LF, crlf_after, to_lf, last_cr, hex_digit, hex_out, is_within, is_hex, hex_value, hex_in, filter_of}
 use Rattle.relay_model.specs.Flow.{Flow, middle, outcome}
 use Rattle.relay_model.proofs.EndLemmas.{same_end-refl}
 

@@ -18,9 +18,10 @@ use Rattle.ev_types.specs.declared.entry.Entry.TheVariants as entry
 use Rattle.ev_types.specs.Sides.{peer}
 use Rattle.ev_types.specs.Trace.{Event, Trace}
 use Rattle.relay_model.specs.Trace.{bytes_read, moved_at_free}
-use Rattle.relay_model.specs.Filter.{filter_of}
+use Rattle.filter_model.specs.Filter.{filter_of}
 use Rattle.relay_model.specs.Flow.{Flow, output}
-use Rattle.relay_model.specs.Settings.{Settings, HasNoHooks, no_timeouts}
+use Rattle.relay_model.specs.Settings.{Settings, HasNoHooks}
+use Rattle.ev_types.specs.Usual.{no_timeouts}
 use Rattle.relay_model.specs.Plain.{Plain, PlainSide, side_at, flow_at}
 use Rattle.relay_model.specs.Past.{Past, past}
 use Rattle.relay_model.specs.Rooms.{read_kind, write_kind, output_at, output_length}

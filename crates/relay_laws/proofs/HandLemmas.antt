@@ -3,7 +3,7 @@ use Rattle.std.proofs.Common.{◌≡◌, ℕ, Bool, true, false, List, refl}
 use Rattle.ev_types.specs.declared.filter.FilterKind.{FilterKind}
 use Rattle.ev_types.specs.declared.filter.FilterKind.TheVariants as kind
 use Rattle.ev_types.specs.Sides.{other}
-use Rattle.relay_model.specs.Filter.{filter_of}
+use Rattle.filter_model.specs.Filter.{filter_of}
 use Rattle.relay_model.specs.Flow as flow
 use Rattle.relay_model.specs.Rooms.{read_kind, write_kind}
 use Rattle.relay_laws.specs.Plainly.{PlainlyHandsOn}

@@ -19,7 +19,7 @@ use Rattle.ev_types.specs.Sides.{peer}
 use Rattle.ev_types.specs.Trace.{Event, Trace}
 use Rattle.script_text.specs.TraceLaws.{IsAct, IsCause, IsEntry}
 use Rattle.relay_model.specs.Trace.{told_moved_by, told_given_by, bytes_read, bytes_given}
-use Rattle.relay_model.specs.Filter.{is_hex, not_hex_from, or_else, odd_end, filter_of}
+use Rattle.filter_model.specs.Filter.{is_hex, not_hex_from, or_else, odd_end, filter_of}
 use Rattle.relay_model.specs.Flow.{Flow, middle, outcome}
 use Rattle.relay_model.specs.Plain.{Plain, flow_at}
 use Rattle.relay_model.specs.Rooms.{most_at_once, read_kind, write_kind, read_filter, write_filter}

@@ -13,7 +13,7 @@ use Rattle.ev_types.specs.declared.entry.Entry.TheVariants as entry
 use Rattle.ev_types.specs.Sides.{number, peer, same_end}
 use Rattle.ev_types.specs.Trace.{Event, Trace}
 use Rattle.relay_model.specs.Trace.{read_by, bytes_read}
-use Rattle.relay_model.specs.Filter.{Filter, filter_of}
+use Rattle.filter_model.specs.Filter.{Filter, filter_of}
 use Rattle.relay_model.specs.Flow.{Flow, no_flow, middle, output, raw_output}
 use Rattle.relay_model.specs.Conserved.{all_moved}
 use Rattle.relay_model.specs.Settings.{Settings}
@@ -22,7 +22,8 @@ use Rattle.relay_model.specs.Past.{Past, past}
 use Rattle.relay_model.specs.Rooms.{read_kind, read_filter, write_filter, may_write, write_room, within_rates, at_most, share, allowance, most_at_once, raw_output_at}
 use Rattle.relay_model.specs.Reasons.{happened, error_flag}
 use Rattle.relay_model.specs.Moments.{active_at}
-use Rattle.relay_model.specs.Pass.{first_from, is_over, read_stops, with_used, with_moved, write_stops, with_turned, with_write_done}
+use Rattle.relay_model.specs.Pass.{read_stops, with_used, with_moved, write_stops, with_turned, with_write_done}
+use Rattle.filter_model.specs.Stopping.{first_from, is_over}
 use Rattle.relay_model.specs.Round.{Part, read_run, write_run, do_part}
 use Rattle.relay_model.specs.Serve.{CarriesTook, after_got, after_write}
 use Rattle.relay_model.specs.Stages.{Stage, State}

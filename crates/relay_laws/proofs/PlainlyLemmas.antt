@@ -4,7 +4,7 @@ use Rattle.ev_types.specs.declared.side.Side.{Side}
 use Rattle.ev_types.specs.declared.side.Side.TheVariants.{In, Out}
 use Rattle.ev_types.specs.declared.filter.FilterKind.{FilterKind}
 use Rattle.ev_types.specs.declared.filter.FilterKind.TheVariants as kind
-use Rattle.relay_model.specs.Filter.{Filter, filter_of}
+use Rattle.filter_model.specs.Filter.{Filter, filter_of}
 use Rattle.relay_model.specs.Flow.{Flow, Fits, middle, outcome, raw_input, input, output, raw_output}
 use Rattle.relay_model.specs.Settings.{Settings}
 use Rattle.relay_model.specs.Rooms.{read_kind, write_kind}

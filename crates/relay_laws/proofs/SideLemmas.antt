@@ -24,7 +24,8 @@ use Rattle.ev_types.specs.declared.why.Why.TheVariants as why
 use Rattle.ev_types.specs.declared.entry.Entry.TheVariants as entry
 use Rattle.ev_types.specs.Sides.{peer}
 use Rattle.ev_types.specs.Trace.{Event, Trace}
-use Rattle.relay_model.specs.Settings.{Settings, Timeouts, HasNoHooks}
+use Rattle.relay_model.specs.Settings.{Settings, HasNoHooks}
+use Rattle.ev_types.specs.declared.settings.Timeouts.{Timeouts}
 use Rattle.relay_model.specs.Plain.{Plain, PlainSide, no_side, new_side, with_link, side_at, put_side, change_side, change_flow, freed, all_sides}
 use Rattle.relay_model.specs.Past.{Past, past}
 use Rattle.relay_model.specs.Rooms.{wants}

@@ -4,7 +4,7 @@ use Rattle.ev_types.specs.declared.side.SideId.{SideId}
 use Rattle.ev_types.specs.Sides.{peer}
 use Rattle.ev_types.specs.Trace.{Trace}
 use Rattle.relay_model.specs.Trace.{bytes_read, has_ended}
-use Rattle.relay_model.specs.Filter.{Filter}
+use Rattle.filter_model.specs.Filter.{Filter}
 use Rattle.relay_model.specs.Flow.{Flow, raw_input, input, output, raw_output}
 use Rattle.relay_model.specs.Conserved.{Buffers}
 use Rattle.relay_model.specs.Plain.{Plain, flow_at, is_live}

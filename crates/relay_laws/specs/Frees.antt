@@ -7,7 +7,8 @@ use Rattle.ev_types.specs.declared.entry.Entry.TheVariants as entry
 use Rattle.ev_types.specs.Sides.{peer}
 use Rattle.ev_types.specs.Trace.{Event, Trace}
 use Rattle.relay_model.specs.Trace.{is_write_closed, moved_at_free}
-use Rattle.relay_model.specs.Settings.{Settings, HasNoHooks, no_timeouts}
+use Rattle.relay_model.specs.Settings.{Settings, HasNoHooks}
+use Rattle.ev_types.specs.Usual.{no_timeouts}
 use Rattle.relay_model.specs.Turn.{IsLegal}
 use Rattle.relay_model.specs.Told.{is_freed, failed_by}
 use Rattle.relay_model.specs.Causes.{InThisTurn}

@@ -3,7 +3,7 @@ use Rattle.std.specs.Prelude.{◌≡◌, ℕ, Bool, List}
 use Rattle.ev_types.specs.declared.filter.FilterKind.TheVariants as kind
 use Rattle.ev_types.specs.declared.side.SideId.{SideId}
 use Rattle.ev_types.specs.Sides.{peer}
-use Rattle.relay_model.specs.Filter.{filter_of}
+use Rattle.filter_model.specs.Filter.{filter_of}
 use Rattle.relay_model.specs.Flow as flow
 use Rattle.relay_model.specs.Settings.{Settings}
 use Rattle.relay_model.specs.Rooms.{read_kind, write_kind}

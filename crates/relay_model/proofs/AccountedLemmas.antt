@@ -16,8 +16,8 @@ use Rattle.ev_types.specs.Trace.{Event, Trace}
 use Rattle.token_bucket.specs.declared.limit.Dir.TheVariants as dir
 use Rattle.relay_model.specs.Settings.{Settings}
 use Rattle.relay_model.specs.Trace.{read_by, given_by, ended_by, write_closed_by, told_moved_by, told_given_by, bytes_read, bytes_given, has_ended, moved_at_free, given_at_free, is_write_closed}
-use Rattle.relay_model.specs.Filter.{Filter, filter_of}
-use Rattle.relay_model.specs.FilterLaws.{PrefixLaw}
+use Rattle.filter_model.specs.Filter.{Filter, filter_of}
+use Rattle.filter_model.specs.FilterLaws.{PrefixLaw}
 use Rattle.relay_model.specs.Flow.{Flow, no_flow, raw_output}
 use Rattle.relay_model.specs.Conserved.{Accounted, IsComplete}
 use Rattle.relay_model.specs.Reasons.{happened, error_flag}
@@ -34,7 +34,7 @@ use Rattle.relay_model.specs.Turn.{turned_to}
 use Rattle.relay_model.specs.Told.{is_freed}
 use Rattle.relay_model.specs.StepLaws.{TookFirst, SilentStepsKeepAccounts, EntriesKeepAccounts, NothingIsAccounted}
 use Rattle.relay_model.proofs.EndLemmas.{same_end-eq, same_end-refl, number-apart, number-eq, number-lt, peer-peer}
-use Rattle.relay_model.proofs.EveryFilter.{every_filter}
+use Rattle.filter_model.proofs.EveryFilter.{every_filter}
 use Rattle.relay_model.proofs.KeepsLemmas.{raised, raised_read, raised_write}
 use Rattle.relay_model.proofs.PlacedLemmas.{may_read-parts, may_write-live, live-there}
 use Rattle.relay_model.proofs.TimeLemmas.{time-flows}

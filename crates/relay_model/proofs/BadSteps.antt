@@ -1,41 +1,38 @@
 -- Silent steps and bad places, and what both leave of the place that a side keeps.
 use Rattle.std.proofs.Common.{◌≡◌, ℕ, ◌<◌, ◌≤◌, Bool, true, false, ◌&&◌, ◌||◌, ◌==◌, if◌then◌else◌, List, [], ◌∷◌, ◌++◌, length, Option, Some, None, ◌⊎◌, inl, inr, refl, sym, ◌∙◌, ap, subst, arith, slice_index_or, take, ◌-◌}
-use Rattle.std.proofs.lemmas.Bool.{and_parts}
+use Rattle.std.proofs.lemmas.Bool.{and_parts, cases_lt}
 use Rattle.ev_types.specs.declared.side.SideId.{SideId}
 use Rattle.ev_types.specs.Sides.{same_end, peer, number}
 use Rattle.ev_types.specs.Trace.{Event, Trace}
 use Rattle.relay_model.specs.Settings.{Settings}
 use Rattle.relay_model.specs.Trace.{ended_by, bytes_read, has_ended}
 use Rattle.relay_model.specs.Due.{Due}
-use Rattle.relay_model.specs.Flow.{Flow, no_flow}
+use Rattle.relay_model.specs.Flow.{Flow, no_flow, middle, input, raw_output}
 use Rattle.relay_model.specs.Plain.{Plain, PlainSide, no_side, side_at, flow_at, put_flow, put_side, is_live}
 use Rattle.relay_model.specs.Past.{past}
 use Rattle.relay_model.specs.Rooms.{read_kind, write_kind, read_filter, write_filter, read_mark, hold_mark}
 use Rattle.relay_model.specs.Stages.{Stage, State, at}
 use Rattle.relay_model.specs.Turn.{Reaches}
 use Rattle.relay_model.specs.Told.{names}
-use Rattle.relay_model.proofs.EndLemmas.{same_end-eq}
+use Rattle.relay_model.proofs.EndLemmas.{same_end-eq, number-ge, number-apart, peer-peer}
 use Rattle.relay_model.proofs.KeepsLemmas.{raised_read}
 use Rattle.relay_model.proofs.EffectLemmas.{Effect}
 use Rattle.relay_model.proofs.PlacedLemmas.{live-there}
-use Rattle.relay_model.specs.Round.{Part, do_part}
+use Rattle.relay_model.specs.Round.{Part, do_part, meets, read_run, write_run}
 use Rattle.relay_model.proofs.FireLemmas.{QuietKind, quiet-kind}
 use Rattle.relay_model.proofs.ToldLemmas.{Kept, kept, none_of, ended-names}
 use Rattle.relay_model.specs.Causes.{IsFirstBad, moved_to, IsBadPlace}
-use Rattle.std.proofs.lemmas.Bool.{cases_lt}
 use Rattle.std.specs.Prelude.{nat_lt, nat_eq}
 use Rattle.relay_model.proofs.TimeLemmas.{put-cases}
 use Rattle.relay_model.proofs.GrownLemmas.{moved_list, FlowOk, IsBadIn, bad-grew, bad-met, Grown, grown-same, stations, grown-counts, grown-used, grown-done, grown-moved}
 use Rattle.relay_model.proofs.BadLemmas.{Goes, AllFit, put-goes}
 use Rattle.std.proofs.lemmas.List.{get_or_past, set_past, get_or-set_same, get_or-set_other}
-use Rattle.relay_model.specs.FilterLaws.{BadLaw, IsFilter}
-use Rattle.relay_model.proofs.EndLemmas.{number-ge, number-apart, peer-peer}
-use Rattle.relay_model.proofs.EveryFilter.{every_filter}
-use Rattle.relay_model.specs.Pass.{first_from, write_stops, is_over, with_used, read_place, with_read_done, with_turned, write_place, with_write_done, with_held}
-use Rattle.relay_model.specs.Round.{meets, read_run, write_run}
+use Rattle.filter_model.specs.FilterLaws.{BadLaw, IsFilter}
+use Rattle.filter_model.proofs.EveryFilter.{every_filter}
+use Rattle.relay_model.specs.Pass.{write_stops, with_used, read_place, with_read_done, with_turned, write_place, with_write_done, with_held}
+use Rattle.filter_model.specs.Stopping.{first_from, is_over}
 use Rattle.relay_model.specs.Conserved.{all_moved}
-use Rattle.relay_model.specs.Flow.{middle, input, raw_output}
-use Rattle.relay_model.specs.Filter.{Filter, met, or_else}
+use Rattle.filter_model.specs.Filter.{Filter, met, or_else}
 use Rattle.relay_model.proofs.StepLemmas.{put-effect}
 use Rattle.relay_model.proofs.KindLemmas.{PutKind, put-kind}
 

@@ -1,25 +1,24 @@
 -- How many bytes the buffers of a direction hold after each step of it.
-use Rattle.std.proofs.Common.{◌≡◌, ℕ, zero, suc, ◌+◌, ◌-◌, ◌<◌, ◌≤◌, Bool, true, false, ◌==◌, ◌&&◌, ◌||◌, not, if◌then◌else◌, List, []}
-use Rattle.std.proofs.Common.{◌∷◌, ◌++◌, length, take, drop, Option, Some, None, is_none, refl, sym, ◌∙◌, ap, subst, arith}
-use Rattle.std.proofs.Common.{length-append, eqb-true}
+use Rattle.std.proofs.Common.{◌≡◌, ℕ, zero, suc, ◌+◌, ◌-◌, ◌<◌, ◌≤◌, Bool, true, false, ◌==◌, ◌&&◌, ◌||◌, not, if◌then◌else◌, List, [], ◌∷◌, ◌++◌, length, take, drop, Option, Some, None, is_none, refl, sym, ◌∙◌, ap, subst, arith, length-append, eqb-true}
 use Rattle.std.specs.Prelude.{nat_lt, nat_le, is_some, bytes_eq}
 use Rattle.std.proofs.lemmas.Bool.{and_parts, or_parts, leb-false, ltb-true}
 use Rattle.std.proofs.lemmas.List.{length-drop, length-take-le, take_all}
 use Rattle.std.proofs.lemmas.Slice.Eq.{bytes_eq-Decides}
 use Rattle.std.proofs.Math.Seq.{take-add}
 use Rattle.ev_types.specs.declared.filter.FilterKind.{FilterKind}
-use Rattle.relay_model.specs.Filter.{Filter, filter_of, holds}
-use Rattle.relay_model.specs.FilterLaws.{PrefixLaw, last_of, more, more_at_end}
-use Rattle.relay_model.specs.FilterRun.{adds, end_adds}
+use Rattle.filter_model.specs.Filter.{Filter, filter_of, holds}
+use Rattle.filter_model.specs.FilterLaws.{PrefixLaw, last_of, more, more_at_end}
+use Rattle.filter_model.specs.FilterRun.{adds, end_adds}
 use Rattle.relay_model.specs.Flow.{Flow, Fits, no_flow, middle, outcome, raw_input, input, output, raw_output}
 use Rattle.relay_model.specs.Conserved.{all_moved}
-use Rattle.relay_model.specs.Pass.{first_from, is_over, read_stops, with_used, with_read_done, with_moved, with_held, write_stops}
-use Rattle.relay_model.specs.Pass.{with_turned, with_write_done}
-use Rattle.relay_model.proofs.EveryFilter.{every_filter}
+use Rattle.relay_model.specs.Pass.{read_stops, with_used, with_read_done, with_moved, with_held, write_stops, with_turned, with_write_done}
+use Rattle.filter_model.specs.Stopping.{first_from, is_over}
+use Rattle.filter_model.proofs.EveryFilter.{every_filter}
 use Rattle.relay_model.proofs.FlowSteps.{middle-used, middle-finished, middle-got, outcome-grown}
-use Rattle.relay_model.proofs.FilterRunLemmas.{before-push, LooksAt, read-looks, write-looks}
-use Rattle.relay_model.proofs.FilterFitLemmas.{adds-two, end-one}
-use Rattle.relay_model.proofs.FilterEndLemmas.{at_end-adds}
+use Rattle.filter_model.proofs.FilterRunLemmas.{before-push, LooksAt}
+use Rattle.relay_model.proofs.LookLemmas.{read-looks, write-looks}
+use Rattle.filter_model.proofs.FilterFitLemmas.{adds-two, end-one}
+use Rattle.filter_model.proofs.FilterEndLemmas.{at_end-adds}
 use Rattle.relay_model.proofs.PassKeeps.{first_from-above, first_from-below}
 
 -- Runs of filters

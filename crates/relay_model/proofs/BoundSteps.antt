@@ -1,6 +1,5 @@
 -- How many bytes a direction may hold, by induction over the steps.
-use Rattle.std.proofs.Common.{◌≡◌, ℕ, ◌+◌, ◌*◌, ◌<◌, ◌≤◌, Bool, true, false, if◌then◌else◌, List, [], ◌∷◌, ◌++◌, length, take, ◌⊎◌, inl}
-use Rattle.std.proofs.Common.{inr, refl, sym, ◌∙◌, ap, subst, arith, slice_index_or, append-nil, append_assoc}
+use Rattle.std.proofs.Common.{◌≡◌, ℕ, ◌+◌, ◌*◌, ◌<◌, ◌≤◌, Bool, true, false, if◌then◌else◌, List, [], ◌∷◌, ◌++◌, length, take, ◌⊎◌, inl, inr, refl, sym, ◌∙◌, ap, subst, arith, slice_index_or, append-nil, append_assoc}
 use Rattle.std.specs.List.{list_any}
 use Rattle.std.proofs.lemmas.Bool.{cases_lt, or_parts}
 use Rattle.std.proofs.lemmas.List.{get_or_past, length-drop, length-take-le}
@@ -12,8 +11,9 @@ use Rattle.ev_types.specs.declared.entry.Entry.TheVariants as entry
 use Rattle.ev_types.specs.Sides.{peer, number}
 use Rattle.ev_types.specs.Trace.{Event, Trace}
 use Rattle.relay_model.specs.Trace.{read_by, bytes_read, has_ended}
-use Rattle.relay_model.specs.Settings.{Settings, Marks, HasNoHooks, marks_set}
-use Rattle.relay_model.specs.Filter.{Filter, filter_of}
+use Rattle.relay_model.specs.Settings.{Settings, HasNoHooks, marks_set}
+use Rattle.ev_types.specs.declared.settings.Marks.{Marks}
+use Rattle.filter_model.specs.Filter.{Filter, filter_of}
 use Rattle.relay_model.specs.Flow.{Flow, Fits, no_flow, middle, raw_input, input, output, outcome, raw_output}
 use Rattle.relay_model.specs.Plain.{Plain, side_at, flow_at, change_flow, is_live}
 use Rattle.relay_model.specs.Past.{past}
@@ -26,7 +26,7 @@ use Rattle.relay_model.specs.Turn.{Puts, Reaches}
 use Rattle.relay_model.specs.Told.{names}
 use Rattle.relay_model.specs.Bounds.{BuffersWithin, DirectionWithin, BuffersAreWithin}
 use Rattle.relay_model.proofs.EndLemmas.{number-eq, number-ge, same_end-refl}
-use Rattle.relay_model.proofs.EveryFilter.{every_filter}
+use Rattle.filter_model.proofs.EveryFilter.{every_filter}
 use Rattle.relay_model.proofs.KeepsLemmas.{raised_read}
 use Rattle.relay_model.proofs.PlacedLemmas.{may_read-parts, may_write-live, live-there}
 use Rattle.relay_model.proofs.PlainLemmas.{flow_at-change}
@@ -39,8 +39,7 @@ use Rattle.relay_model.proofs.StageLemmas.{quiet-silent}
 use Rattle.relay_model.proofs.BadSteps.{ended-is}
 use Rattle.relay_model.proofs.FlowLemmas.{read_room-below, Takes, put-flow, ReadCase, put-read}
 use Rattle.relay_model.proofs.FitsLemmas.{Fit, AllFits, read_run-fits, write_run-fits, read-fits, fits}
-use Rattle.relay_model.proofs.BoundLemmas.{Bounded, bounded-first, used-bounded, read_done-bounded, moved-bounded, held-bounded}
-use Rattle.relay_model.proofs.BoundLemmas.{turned-bounded, write_done-bounded, given-bounded, got-bounded}
+use Rattle.relay_model.proofs.BoundLemmas.{Bounded, bounded-first, used-bounded, read_done-bounded, moved-bounded, held-bounded, turned-bounded, write_done-bounded, given-bounded, got-bounded}
 use Rattle.relay_model.proofs.HooklessLemmas.{asleep}
 
 -- Rooms of reads

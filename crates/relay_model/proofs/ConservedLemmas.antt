@@ -4,12 +4,12 @@ use Rattle.std.proofs.lemmas.List.{append-nil, take-append-drop, take-take}
 use Rattle.std.proofs.lemmas.List.Elements.{All-contains}
 use Rattle.std.proofs.Math.Seq.{take-length}
 use Rattle.relay_model.specs.Trace.{moved_at_free}
-use Rattle.relay_model.specs.Filter.{Filter}
-use Rattle.relay_model.specs.FilterLaws.{IsPrefixOf, PrefixLaw, more, more_at_end}
+use Rattle.filter_model.specs.Filter.{Filter}
+use Rattle.filter_model.specs.FilterLaws.{IsPrefixOf, PrefixLaw, more, more_at_end}
 use Rattle.relay_model.specs.Flow.{Flow, Fits, middle, outcome, input, output, raw_output, passed}
 use Rattle.relay_model.specs.Conserved.{left}
 use Rattle.relay_model.specs.ConservedLaws.{GivenBegins, AllIsThere, RestAfterFree, adds, ends_well, write_adds}
-use Rattle.relay_model.proofs.ListLemmas.{IsPrefixOf-append, IsPrefixOf-rest, IsPrefixOf-trans}
+use Rattle.filter_model.proofs.ListLemmas.{IsPrefixOf-append, IsPrefixOf-rest, IsPrefixOf-trans}
 
 -- what a filter made and what it adds is what it makes of all
 pub before-more : (f : Filter) → PrefixLaw f → (xs ys : List ℕ) → f.before xs ++ more f xs ys ≡ f.before (xs ++ ys)

@@ -9,8 +9,8 @@ use Rattle.ev_types.specs.declared.side.SideId.{SideId}
 use Rattle.ev_types.specs.Sides.{peer}
 use Rattle.ev_types.specs.Trace.{Trace}
 use Rattle.relay_model.specs.Trace.{moved_at_free, given_at_free, is_write_closed}
-use Rattle.relay_model.specs.Filter.{Filter}
-use Rattle.relay_model.specs.FilterLaws.{PrefixLaw}
+use Rattle.filter_model.specs.Filter.{Filter}
+use Rattle.filter_model.specs.FilterLaws.{PrefixLaw}
 use Rattle.relay_model.specs.Flow.{Flow, no_flow, middle, outcome, raw_input, input, raw_output}
 use Rattle.relay_model.specs.Conserved.{Accounted, IsComplete}
 use Rattle.relay_model.proofs.FlowSteps.{middle-used, middle-finished, middle-got, middle-done, outcome-grown, outcome-turned, outcome-finished, outcome-done}

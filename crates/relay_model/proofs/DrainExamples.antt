@@ -11,7 +11,7 @@ use Rattle.ev_types.specs.declared.entry.Entry.TheVariants as entry
 use Rattle.ev_types.specs.declared.turn_line.TurnLine.TheVariants as line
 use Rattle.ev_types.specs.ScriptTurn.{ScriptTurn}
 use Rattle.ev_types.specs.Trace.{Trace}
-use Rattle.relay_model.specs.Filter.{filter_of}
+use Rattle.filter_model.specs.Filter.{filter_of}
 use Rattle.relay_model.specs.Flow.{no_flow}
 use Rattle.relay_model.specs.Settings.{usual}
 use Rattle.relay_model.specs.Plain.{Plain, nothing_yet, with_link, freed}

@@ -10,10 +10,11 @@ use Rattle.ev_types.specs.declared.entry.Entry.TheVariants as entry
 use Rattle.ev_types.specs.declared.filter.FilterKind.TheVariants as kind
 use Rattle.ev_types.specs.Trace.{Trace}
 use Rattle.relay_model.specs.Trace.{bytes_read, bytes_given, has_ended, moved_at_free, given_at_free, is_write_closed}
-use Rattle.relay_model.specs.Filter.{Filter, filter_of, holds, met}
-use Rattle.relay_model.specs.FilterLaws.{more, more_at_end}
+use Rattle.filter_model.specs.Filter.{Filter, filter_of, holds, met}
+use Rattle.filter_model.specs.FilterLaws.{more, more_at_end}
 use Rattle.relay_model.specs.Flow.{Flow, no_flow, middle, output, passed_at_end, passed}
-use Rattle.relay_model.specs.Conserved.{Accounted, Holds, Running, no_buffers, left}
+use Rattle.relay_model.specs.Conserved.{Accounted, Holds, no_buffers, left}
+use Rattle.filter_model.specs.Running.{Running}
 
 abbrev crlf : Filter
 crlf = filter_of kind.ToCrlf

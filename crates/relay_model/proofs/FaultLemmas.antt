@@ -1,9 +1,8 @@
 -- Faults of sides, and that closing looks for each of them.
 use Rattle.std.proofs.Common.{◌≡◌, ℕ, zero, suc, ◌+◌, ◌<◌, ◌≤◌, Bool, true, false, ◌||◌, not, if◌then◌else◌, List, [], ◌∷◌, Option, Some, None, ◌⊎◌, inl, inr, refl, sym, ◌∙◌, ap, arith}
-use Rattle.std.specs.Prelude.{option_map}
-use Rattle.std.specs.Prelude.{⊤}
+use Rattle.std.specs.Prelude.{option_map, ⊤, is_some}
 use Rattle.std.specs.List.{list_any}
-use Rattle.std.proofs.lemmas.Bool.{and_parts, or_parts, or_left, or_right, not-true}
+use Rattle.std.proofs.lemmas.Bool.{and_parts, or_parts, or_left, or_right, not-true, cases_order}
 use Rattle.ev_types.specs.declared.side.Side.{Side}
 use Rattle.ev_types.specs.declared.side.Side.TheVariants.{In, Out}
 use Rattle.ev_types.specs.declared.side.SideId.{SideId}
@@ -23,8 +22,6 @@ use Rattle.relay_model.proofs.SeenLemmas.{Seen, seen}
 use Rattle.relay_model.proofs.EffectLemmas.{SideEffect, or_no}
 use Rattle.std.proofs.lemmas.List.Folds.{list_any-append}
 use Rattle.relay_model.proofs.FireLemmas.{is_open_stage}
-use Rattle.std.proofs.lemmas.Bool.{cases_order}
-use Rattle.std.specs.Prelude.{is_some}
 use Rattle.relay_model.proofs.KindLemmas.{ClosedKind}
 
 -- Faults

@@ -1,8 +1,8 @@
 -- Which side is faulty at a place of a trace, and why, by induction over the steps.
 use Rattle.std.proofs.Common.{◌≡◌, ℕ, ◌<◌, ◌≤◌, Bool, true, false, ◌||◌, if◌then◌else◌, [], ◌∷◌, ◌++◌, Option, Some, None, ◌⊎◌, inl, inr, refl, sym, ◌∙◌, ap, subst, arith, append_assoc}
-use Rattle.std.specs.Prelude.{option_map}
+use Rattle.std.specs.Prelude.{option_map, is_some}
 use Rattle.std.specs.List.{list_any}
-use Rattle.std.proofs.lemmas.Bool.{or_from, or_left, or_right}
+use Rattle.std.proofs.lemmas.Bool.{or_from, or_left, or_right, cases_lt, or_cases}
 use Rattle.ev_types.specs.declared.side.Side.TheVariants.{In}
 use Rattle.ev_types.specs.declared.side.SideId.{SideId}
 use Rattle.ev_types.specs.declared.why.Cause.{Cause}
@@ -26,8 +26,6 @@ use Rattle.relay_model.proofs.FireLemmas.{QuietKind, quiet-kind, reading-open}
 use Rattle.relay_model.proofs.ToldLemmas.{kept, list_any-push}
 use Rattle.relay_model.proofs.StageLemmas.{Silent, quiet-silent, closed-opened}
 use Rattle.relay_model.specs.Causes.{InThisTurn, TimedOut}
-use Rattle.std.proofs.lemmas.Bool.{cases_lt, or_cases}
-use Rattle.std.specs.Prelude.{is_some}
 use Rattle.relay_model.proofs.TimeLemmas.{IsLate, time-expired}
 use Rattle.relay_model.proofs.StepLemmas.{put-effect}
 use Rattle.relay_model.proofs.FaultLemmas.{is_faulty, not-faulty, looks_at, FaultsAwait, open-awaits, looked-for, closed-fails, rest, steps-looked, old-faulty, was-live}

@@ -1,6 +1,5 @@
 -- The place that a side keeps is the first that one of its filters met, by induction over the steps.
-use Rattle.std.proofs.Common.{◌≡◌, ℕ, ◌+◌, ◌*◌, ◌<◌, ◌≤◌, Bool, true, false, ◌&&◌, ◌||◌, ◌==◌, not, if◌then◌else◌, List, [], ◌∷◌, ◌++◌}
-use Rattle.std.proofs.Common.{length, take, Option, Some, None, is_none, ◌⊎◌, inl, inr, refl, sym, ◌∙◌, ap, subst, arith, eqb-true}
+use Rattle.std.proofs.Common.{◌≡◌, ℕ, ◌+◌, ◌*◌, ◌<◌, ◌≤◌, Bool, true, false, ◌&&◌, ◌||◌, ◌==◌, not, if◌then◌else◌, List, [], ◌∷◌, ◌++◌, length, take, Option, Some, None, is_none, ◌⊎◌, inl, inr, refl, sym, ◌∙◌, ap, subst, arith, eqb-true}
 use Rattle.std.specs.Prelude.{nat_lt}
 use Rattle.std.proofs.lemmas.Bool.{and_parts, cases_lt, ltb-true}
 use Rattle.std.proofs.lemmas.List.{get_or-set_same, length-set, take_all}
@@ -9,13 +8,14 @@ use Rattle.ev_types.specs.Sides.{peer, number}
 use Rattle.ev_types.specs.Trace.{Trace}
 use Rattle.relay_model.specs.Trace.{bytes_read, has_ended}
 use Rattle.relay_model.specs.Settings.{Settings}
-use Rattle.relay_model.specs.Filter.{Filter, met, or_else, holds}
+use Rattle.filter_model.specs.Filter.{Filter, met, or_else, holds}
 use Rattle.relay_model.specs.Flow.{Flow, no_flow, middle, input, raw_output}
 use Rattle.relay_model.specs.Conserved.{all_moved}
 use Rattle.relay_model.specs.Plain.{Plain, PlainSide, side_at, flow_at, put_flow, put_side, is_live}
 use Rattle.relay_model.specs.Past.{past}
 use Rattle.relay_model.specs.Rooms.{read_filter, write_filter, read_mark, hold_mark}
-use Rattle.relay_model.specs.Pass.{is_over, with_used, read_place, with_read_done, with_turned, write_place, with_write_done}
+use Rattle.relay_model.specs.Pass.{with_used, read_place, with_read_done, with_turned, write_place, with_write_done}
+use Rattle.filter_model.specs.Stopping.{is_over}
 use Rattle.relay_model.specs.Round.{Part, do_part, meets, read_run, write_run}
 use Rattle.relay_model.specs.Stages.{Stage, State}
 use Rattle.relay_model.specs.Turn.{Reaches}

@@ -1,14 +1,13 @@
 -- The counts of every direction fit, by induction over the steps.
-use Rattle.std.proofs.Common.{◌≡◌, ℕ, ◌≤◌, Bool, true, false, ◌||◌, if◌then◌else◌, List, [], ◌∷◌, ◌++◌, length, take, ◌⊎◌, inl, inr}
-use Rattle.std.proofs.Common.{refl, sym, ◌∙◌, ap, subst, arith, slice_index_or, append-nil}
+use Rattle.std.proofs.Common.{◌≡◌, ℕ, ◌≤◌, Bool, true, false, ◌||◌, if◌then◌else◌, List, [], ◌∷◌, ◌++◌, length, take, ◌⊎◌, inl, inr, refl, sym, ◌∙◌, ap, subst, arith, slice_index_or, append-nil}
 use Rattle.std.proofs.lemmas.Bool.{not-true}
 use Rattle.ev_types.specs.declared.side.SideId.{SideId}
 use Rattle.ev_types.specs.Sides.{peer, number}
 use Rattle.ev_types.specs.Trace.{Event, Trace}
 use Rattle.relay_model.specs.Trace.{bytes_read, has_ended}
 use Rattle.relay_model.specs.Settings.{Settings}
-use Rattle.relay_model.specs.Filter.{Filter, filter_of}
-use Rattle.relay_model.specs.FilterLaws.{PrefixLaw}
+use Rattle.filter_model.specs.Filter.{Filter, filter_of}
+use Rattle.filter_model.specs.FilterLaws.{PrefixLaw}
 use Rattle.relay_model.specs.Flow.{Flow, Fits, no_flow, outcome, raw_output}
 use Rattle.relay_model.specs.Conserved.{Accounted}
 use Rattle.relay_model.specs.Plain.{Plain, side_at, flow_at, change_flow}
@@ -20,7 +19,7 @@ use Rattle.relay_model.specs.Stages.{Stage, State}
 use Rattle.relay_model.specs.Turn.{Reaches}
 use Rattle.relay_model.specs.Fitting.{CountsFit}
 use Rattle.relay_model.proofs.EndLemmas.{number-eq, peer-peer, same_end-refl}
-use Rattle.relay_model.proofs.EveryFilter.{every_filter}
+use Rattle.filter_model.proofs.EveryFilter.{every_filter}
 use Rattle.relay_model.proofs.KeepsLemmas.{raised_read}
 use Rattle.relay_model.proofs.PlacedLemmas.{may_read-parts}
 use Rattle.relay_model.proofs.PlainLemmas.{flow_at-change}

@@ -3,8 +3,8 @@
 use Rattle.std.proofs.Common.{◌≡◌, ℕ, ◌+◌, ◌≤◌, Bool, true, false, if◌then◌else◌, List, [], ◌++◌, length, take, drop, sym, ◌∙◌, ap, arith}
 use Rattle.std.proofs.lemmas.List.{append-nil, take-take, take-append-le, drop-append-le, drop-drop, length-take-le}
 use Rattle.std.proofs.Math.Seq.{take-add}
-use Rattle.relay_model.specs.Filter.{Filter}
-use Rattle.relay_model.specs.FilterLaws.{PrefixLaw, more, more_at_end}
+use Rattle.filter_model.specs.Filter.{Filter}
+use Rattle.filter_model.specs.FilterLaws.{PrefixLaw, more, more_at_end}
 use Rattle.relay_model.specs.Flow.{Flow, Fits, no_flow, middle, outcome, raw_input, input, output, raw_output}
 use Rattle.relay_model.specs.Conserved.{left, no_buffers}
 use Rattle.relay_model.proofs.ConservedLemmas.{before-more, before-more_at_end}

@@ -3,13 +3,14 @@ use Rattle.std.proofs.Common.{◌≡◌, ℕ, zero, suc, ◌+◌, ◌-◌, ◌�
 use Rattle.std.specs.Prelude.{nat_eq, nat_lt}
 use Rattle.std.proofs.lemmas.Bool.{and_parts, and_from, eq-eqb, eqb-true}
 use Rattle.std.proofs.lemmas.List.{append-nil, take-append-drop, take-append-le, take_all, take-take}
-use Rattle.relay_model.specs.Filter.{Filter, met}
-use Rattle.relay_model.specs.FilterLaws.{IsPrefixOf, PrefixLaw, BadLaw, IsFilter}
+use Rattle.filter_model.specs.Filter.{Filter, met}
+use Rattle.filter_model.specs.FilterLaws.{IsPrefixOf, PrefixLaw, BadLaw, IsFilter}
 use Rattle.relay_model.specs.Flow.{Flow, middle, input, output}
 use Rattle.relay_model.specs.Conserved.{all_moved}
-use Rattle.relay_model.specs.Pass.{first_from, read_stops, with_used, is_over, with_read_done, with_moved}
-use Rattle.relay_model.proofs.ListLemmas.{IsPrefixOf-rest}
-use Rattle.relay_model.proofs.MetLemmas.{bad-of_take}
+use Rattle.relay_model.specs.Pass.{read_stops, with_used, with_read_done, with_moved}
+use Rattle.filter_model.specs.Stopping.{first_from, is_over}
+use Rattle.filter_model.proofs.ListLemmas.{IsPrefixOf-rest}
+use Rattle.filter_model.proofs.MetLemmas.{bad-of_take}
 
 -- what was moved
 abbrev pub moved_list : Filter → List ℕ → Flow → List ℕ

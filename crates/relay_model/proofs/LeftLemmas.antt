@@ -16,7 +16,6 @@ use Rattle.relay_model.specs.Rooms.{output_length}
 use Rattle.relay_model.specs.Close.{CloseStep, closing_of, closing_from, freed_entry, entry_where, closing_entry, is_complete}
 use Rattle.relay_model.specs.Stages.{Stage, State, Between, Closing}
 use Rattle.relay_model.proofs.EndLemmas.{peer-peer, same_end-eq, same_end-refl}
-use Rattle.std.proofs.lemmas.Bool.{and_from}
 use Rattle.std.proofs.lemmas.List.Folds.{list_any-append}
 use Rattle.relay_model.proofs.FireLemmas.{is_open_stage, QuietKind}
 use Rattle.relay_model.proofs.FaultLemmas.{rest}

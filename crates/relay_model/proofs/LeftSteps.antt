@@ -21,7 +21,6 @@ use Rattle.relay_model.proofs.EndLemmas.{peer-peer, same_end-eq, same_end-refl}
 use Rattle.relay_model.proofs.KeepsLemmas.{Keeps, Keeps-side, Keeps-put}
 use Rattle.relay_model.proofs.SeenLemmas.{Seen, seen}
 use Rattle.relay_model.proofs.EffectLemmas.{SideEffect, Effect, or_no}
-use Rattle.std.proofs.lemmas.Bool.{and_from}
 use Rattle.relay_model.proofs.FireLemmas.{quiet-kind, reading-open}
 use Rattle.relay_model.proofs.ToldLemmas.{kept}
 use Rattle.relay_model.proofs.StageLemmas.{closed-opened}

@@ -1,16 +1,10 @@
 pub mod TurnExamples
 pub mod TraceLemmas
-pub mod ListLemmas
-pub mod FilterLemmas
-pub mod HexLemmas
-pub mod EveryFilter
-pub mod SwitchedLemmas
 pub mod ConservedLemmas
-pub mod MetLemmas
 pub mod FlowSteps
 pub mod ConservedSteps
-pub mod RunningLemmas
 pub mod PassKeeps
+pub mod LookLemmas
 pub mod PassLemmas
 pub mod StandsLemmas
 pub mod StandsLawLemmas
@@ -70,11 +64,6 @@ pub mod FirstMet
 pub mod LeftLemmas
 pub mod LeftSteps
 pub mod NextLemmas
-pub mod FilterRunLemmas
-pub mod FilterEndLemmas
-pub mod FilterStepLemmas
-pub mod FilterCutLemmas
-pub mod FilterFitLemmas
 mod QuietExamples
 mod DrainExamples
 pub mod AccountedLemmas

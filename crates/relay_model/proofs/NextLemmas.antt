@@ -1,6 +1,6 @@
 -- What a hook frees is recorded next.
 use Rattle.ev_types.specs.declared.why.Cause.TheVariants as cause
-use Rattle.relay_model.specs.Stages.{Wanting, Marking, Serving, Dispatching, Firing, Freeing, Closing}
+use Rattle.relay_model.specs.Stages.{Wanting, Marking, Serving, Dispatching, Firing, Freeing, Closing, Stage, State}
 use Rattle.ev_types.specs.Sides.{peer}
 use Rattle.relay_model.proofs.StageLemmas.{quiet-silent}
 use Rattle.std.proofs.Common.{◌≡◌, ℕ, true, List, [], ◌∷◌, ◌++◌, ◌⊎◌, inl, inr, refl, sym, ◌∙◌, ap, subst, append_assoc}
@@ -14,7 +14,6 @@ use Rattle.relay_model.specs.Settings.{Settings}
 use Rattle.relay_model.specs.Plain.{flow_at, Plain}
 use Rattle.relay_model.specs.Past.{Past, past}
 use Rattle.relay_model.specs.Close.{CloseStep}
-use Rattle.relay_model.specs.Stages.{Stage, State}
 use Rattle.relay_model.specs.Turn.{Puts, Reaches}
 use Rattle.relay_model.specs.Told.{is_freeing}
 use Rattle.relay_model.proofs.EndLemmas.{same_end-eq, same_end-refl}

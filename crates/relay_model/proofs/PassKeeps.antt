@@ -5,11 +5,12 @@ use Rattle.std.proofs.lemmas.List.{length-drop}
 use Rattle.ev_types.specs.declared.side.SideId.{SideId}
 use Rattle.ev_types.specs.Trace.{Trace}
 use Rattle.relay_model.specs.Trace.{moved_at_free}
-use Rattle.relay_model.specs.Filter.{Filter, holds}
-use Rattle.relay_model.specs.FilterLaws.{PrefixLaw}
+use Rattle.filter_model.specs.Filter.{Filter, holds}
+use Rattle.filter_model.specs.FilterLaws.{PrefixLaw}
 use Rattle.relay_model.specs.Flow.{Flow, middle, input, output, raw_output}
 use Rattle.relay_model.specs.Conserved.{Accounted, StandsStill, all_moved}
-use Rattle.relay_model.specs.Pass.{first_from, is_over, read_stops, with_used, with_read_done, with_moved, with_held, write_stops, with_turned, with_write_done}
+use Rattle.relay_model.specs.Pass.{read_stops, with_used, with_read_done, with_moved, with_held, write_stops, with_turned, with_write_done}
+use Rattle.filter_model.specs.Stopping.{first_from, is_over}
 use Rattle.relay_model.proofs.ConservedSteps.{accounted-used, accounted-read_done, accounted-moved, accounted-turned, accounted-write_done, accounted-held}
 
 -- a search from n on stops between n and its end

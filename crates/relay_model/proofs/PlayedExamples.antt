@@ -17,7 +17,7 @@ use Rattle.relay_model.specs.Answers.{TurnAnswer}
 use Rattle.ev_types.specs.declared.turn_line.TurnLine.TheVariants as line
 use Rattle.ev_types.specs.ScriptTurn.{ScriptTurn}
 use Rattle.relay_model.specs.Script.{Script}
-use Rattle.relay_model.specs.Plays.{Step, TookAll, Plays}
+use Rattle.relay_model.specs.Plays.{PlayStep, TookAll, Plays}
 use Rattle.relay_model.proofs.PlayedLemmas.{always_took, is_empty}
 
 abbrev pub i : SideId
@@ -53,11 +53,11 @@ hi_trace =
     (entry.Ready i true false) ∷ plain (entry.Ready o false true)
     ∷ plain (entry.Read i 16384 read.Ended) ∷ (entry.Write o 2 (write.Took 2), hi) ∷ plain (entry.CloseWrite o) ∷ []
 
-abbrev hi_steps : List Step
+abbrev hi_steps : List PlayStep
 hi_steps =
-    Step.Now ∷ Step.Poll None [] ∷ Step.Accept
-    ∷ Step.Now ∷ Step.Poll None (want i true false ∷ want o true false ∷ []) ∷ Step.Read i 16384
-    ∷ Step.Now ∷ Step.Poll None (want i true false ∷ want o true true ∷ []) ∷ Step.Read i 16384 ∷ Step.Write o hi ∷ Step.Own
+    PlayStep.Now ∷ PlayStep.Poll None [] ∷ PlayStep.Accept
+    ∷ PlayStep.Now ∷ PlayStep.Poll None (want i true false ∷ want o true false ∷ []) ∷ PlayStep.Read i 16384
+    ∷ PlayStep.Now ∷ PlayStep.Poll None (want i true false ∷ want o true true ∷ []) ∷ PlayStep.Read i 16384 ∷ PlayStep.Write o hi ∷ PlayStep.Own
     (entry.CloseWrite o) ∷ []
 
 hi-is_played : Plays hi_script 0 TurnAnswer.Went hi_trace
@@ -91,15 +91,15 @@ both_trace =
     ∷ (entry.Write i 3 (write.Took 3), ok) ∷ plain (entry.Read o 16384 read.Ended) ∷ plain (entry.CloseWrite i)
     ∷ plain (entry.Freed i cause.Done 3 3) ∷ plain (entry.Freed o cause.Done 3 3) ∷ plain (entry.Close i) ∷ plain (entry.Close o) ∷ []
 
-abbrev both_steps : List Step
+abbrev both_steps : List PlayStep
 both_steps =
-    Step.Now ∷ Step.Poll None [] ∷ Step.Accept
-    ∷ Step.Now ∷ Step.Poll None (want i true false ∷ want o true false ∷ []) ∷ Step.Read i 16384
-    ∷ Step.Now ∷ Step.Poll None (want i true false ∷ want o true true ∷ []) ∷ Step.Read i 16384 ∷ Step.Read o 16384 ∷ Step.Write o
-    get ∷ Step.Own (entry.CloseWrite o)
-    ∷ Step.Now ∷ Step.Poll None (want i false true ∷ want o true false ∷ []) ∷ Step.Write i ok ∷ Step.Read o 16384 ∷ Step.Own
+    PlayStep.Now ∷ PlayStep.Poll None [] ∷ PlayStep.Accept
+    ∷ PlayStep.Now ∷ PlayStep.Poll None (want i true false ∷ want o true false ∷ []) ∷ PlayStep.Read i 16384
+    ∷ PlayStep.Now ∷ PlayStep.Poll None (want i true false ∷ want o true true ∷ []) ∷ PlayStep.Read i 16384 ∷ PlayStep.Read o 16384 ∷ PlayStep.Write o
+    get ∷ PlayStep.Own (entry.CloseWrite o)
+    ∷ PlayStep.Now ∷ PlayStep.Poll None (want i false true ∷ want o true false ∷ []) ∷ PlayStep.Write i ok ∷ PlayStep.Read o 16384 ∷ PlayStep.Own
     (entry.CloseWrite i)
-    ∷ Step.Own (entry.Freed i cause.Done 3 3) ∷ Step.Own (entry.Freed o cause.Done 3 3) ∷ Step.Own (entry.Close i) ∷ Step.Own
+    ∷ PlayStep.Own (entry.Freed i cause.Done 3 3) ∷ PlayStep.Own (entry.Freed o cause.Done 3 3) ∷ PlayStep.Own (entry.Close i) ∷ PlayStep.Own
     (entry.Close o) ∷ []
 
 both-is_played : Plays both_script 0 TurnAnswer.Went both_trace
@@ -122,11 +122,11 @@ failed_trace =
     ∷ (entry.Read i 16384 (read.Got 1), 97 ∷ []) ∷ plain (entry.Conn o conn.Failed)
     ∷ plain (entry.Freed o cause.Failed 0 0) ∷ plain (entry.Freed i cause.PeerGone 1 0) ∷ plain (entry.Close i) ∷ plain (entry.Close o) ∷ []
 
-abbrev failed_steps : List Step
+abbrev failed_steps : List PlayStep
 failed_steps =
-    Step.Now ∷ Step.Poll None [] ∷ Step.Accept
-    ∷ Step.Now ∷ Step.Poll None (want i true false ∷ want o false true ∷ []) ∷ Step.Read i 16384 ∷ Step.Check o
-    ∷ Step.Own (entry.Freed o cause.Failed 0 0) ∷ Step.Own (entry.Freed i cause.PeerGone 1 0) ∷ Step.Own (entry.Close i) ∷ Step.Own
+    PlayStep.Now ∷ PlayStep.Poll None [] ∷ PlayStep.Accept
+    ∷ PlayStep.Now ∷ PlayStep.Poll None (want i true false ∷ want o false true ∷ []) ∷ PlayStep.Read i 16384 ∷ PlayStep.Check o
+    ∷ PlayStep.Own (entry.Freed o cause.Failed 0 0) ∷ PlayStep.Own (entry.Freed i cause.PeerGone 1 0) ∷ PlayStep.Own (entry.Close i) ∷ PlayStep.Own
     (entry.Close o) ∷ []
 
 failed-is_played : Plays failed_script 0 TurnAnswer.Went failed_trace
@@ -150,7 +150,7 @@ waits (inr (inl many)) = omega (arith, many)
 waits (inr (inr all)) = omega (arith, all)
 
 memory-may_want : Plays one_link 0 TurnAnswer.Memory idle
-memory-may_want = record { answered = (Step.Now ∷ Step.Poll None [] ∷ [], refl); took_all = (inl refl, (tt, tt)); turns = omega arith }
+memory-may_want = record { answered = (PlayStep.Now ∷ PlayStep.Poll None [] ∷ [], refl); took_all = (inl refl, (tt, tt)); turns = omega arith }
 
 a_waiting_link_is_opened : Plays one_link 0 TurnAnswer.Went idle → ⊥
 a_waiting_link_is_opened p = waits p.turns.1

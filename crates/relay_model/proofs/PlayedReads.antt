@@ -12,15 +12,15 @@ use Rattle.ev_types.specs.declared.entry.Entry.TheVariants as entry
 use Rattle.ev_types.specs.Sides.{same_end}
 use Rattle.ev_types.specs.Trace.{Event, Trace}
 use Rattle.relay_model.specs.Trace.{bytes_read}
-use Rattle.relay_model.specs.FilterLaws.{IsPrefixOf}
+use Rattle.filter_model.specs.FilterLaws.{IsPrefixOf}
 use Rattle.relay_model.specs.Rooms.{Want}
 use Rattle.relay_model.specs.RatesKept.{is_turn}
 use Rattle.relay_model.specs.Lines.{brings}
 use Rattle.ev_types.specs.ScriptTurn.{ScriptTurn}
 use Rattle.relay_model.specs.Totals.{opened}
 use Rattle.relay_model.specs.Scripted.{pending, waiting, poll_fails, marks, reads_fail, is_ended}
-use Rattle.relay_model.specs.Plays.{Step, want_events, ready_events, accepted, own_events, events, IsAnswered, ReadsWhatComes}
-use Rattle.relay_model.proofs.ListLemmas.{IsPrefixOf-append, IsPrefixOf-rest, IsPrefixOf-trans}
+use Rattle.relay_model.specs.Plays.{PlayStep, want_events, ready_events, accepted, own_events, events, IsAnswered, ReadsWhatComes}
+use Rattle.filter_model.proofs.ListLemmas.{IsPrefixOf-append, IsPrefixOf-rest, IsPrefixOf-trans}
 use Rattle.relay_model.proofs.TraceLemmas.{bytes_read-append}
 use Rattle.relay_model.proofs.EndLemmas.{same_end-eq}
 
@@ -127,18 +127,18 @@ module _ (e : SideId) where
     read_of s room [] false false false h = same_both (same_end s e) (take room []) (take-nil room)
     read_of s room (x ∷ xs) false fail end h = absurd (grind arith)
 
-    fits-read : (t : Trace) (s : SideId) (room : ℕ) → Fits t → Fits (t ++ events turns closing_by t (Step.Read s room))
+    fits-read : (t : Trace) (s : SideId) (room : ℕ) → Fits t → Fits (t ++ events turns closing_by t (PlayStep.Read s room))
     fits-read t s room fits = go (same_end s e) refl
       where
-        whole : bytes_read e (events turns closing_by t (Step.Read s room)) ≡ (if same_end s e then take room (pending turns t s) else [])
+        whole : bytes_read e (events turns closing_by t (PlayStep.Read s room)) ≡ (if same_end s e then take room (pending turns t s) else [])
         whole = read_of s room (pending turns t s) (nat_le 1 (length (pending turns t s))) (reads_fail turns t s) (is_ended turns t s) refl
 
-        go : (c : Bool) → same_end s e ≡ c → Fits (t ++ events turns closing_by t (Step.Read s room))
-        go false h = fits-silent t (events turns closing_by t (Step.Read s room))
+        go : (c : Bool) → same_end s e ≡ c → Fits (t ++ events turns closing_by t (PlayStep.Read s room))
+        go false h = fits-silent t (events turns closing_by t (PlayStep.Read s room))
             (record { reads = whole ∙ ap (λ c. if c then take room (pending turns t s) else []) h; turns = refl }) fits
         go true h =
             let gone = bytes_read e t in
-            let u = events turns closing_by t (Step.Read s room) in
+            let u = events turns closing_by t (PlayStep.Read s room) in
             let all = came (count_by is_turn t) in
             let rest = drop (length gone) all in
             let own : pending turns t s ≡ rest = ap (λ z. pending turns t z) (same_end-eq s e h) in
@@ -154,21 +154,21 @@ module _ (e : SideId) where
             subst (λ z. IsPrefixOf z (came (count_by is_turn (t ++ u)))) (sym now)
             (subst (λ n. IsPrefixOf (gone ++ take room rest) (came n)) (sym count) fit)
 
-    fits-step : (t : Trace) (x : Step) → Fits t → Fits (t ++ events turns closing_by t x)
-    fits-step t Step.Now fits = fits-turn t _ fits
-    fits-step t (Step.Poll timeout wants) fits =
+    fits-step : (t : Trace) (x : PlayStep) → Fits t → Fits (t ++ events turns closing_by t x)
+    fits-step t PlayStep.Now fits = fits-turn t _ fits
+    fits-step t (PlayStep.Poll timeout wants) fits =
         let end = (if poll_fails turns t then (entry.PollFailed, []) ∷ [] else ready_events (marks turns t wants)) in
         fits-silent t ((entry.Poll timeout, []) ∷ (want_events wants ++ end))
         (silent-cons (entry.Poll timeout, []) (want_events wants ++ end) (record { reads = refl; turns = refl })
         (silent-append (want_events wants) end (silent-wants wants) (silent-polled (poll_fails turns t) (marks turns t wants)))) fits
-    fits-step t Step.Accept fits = fits-silent t (accepted (opened t) (waiting turns t)) (silent-accepted (opened t) (waiting turns t)) fits
-    fits-step t (Step.Check s) fits = fits-silent t (events turns closing_by t (Step.Check s)) (record { reads = refl; turns = refl }) fits
-    fits-step t (Step.Read s room) fits = fits-read t s room fits
-    fits-step t (Step.Write s offered) fits = fits-silent t (events turns closing_by t (Step.Write s offered))
+    fits-step t PlayStep.Accept fits = fits-silent t (accepted (opened t) (waiting turns t)) (silent-accepted (opened t) (waiting turns t)) fits
+    fits-step t (PlayStep.Check s) fits = fits-silent t (events turns closing_by t (PlayStep.Check s)) (record { reads = refl; turns = refl }) fits
+    fits-step t (PlayStep.Read s room) fits = fits-read t s room fits
+    fits-step t (PlayStep.Write s offered) fits = fits-silent t (events turns closing_by t (PlayStep.Write s offered))
         (record { reads = refl; turns = refl }) fits
-    fits-step t (Step.Own x) fits = fits-silent t (own_events x) (silent-own x) fits
+    fits-step t (PlayStep.Own x) fits = fits-silent t (own_events x) (silent-own x) fits
 
-    fits-steps : (xs : List Step) (t : Trace) → Fits t → Fits (fold (λ z x. z ++ events turns closing_by z x) t xs)
+    fits-steps : (xs : List PlayStep) (t : Trace) → Fits t → Fits (fold (λ z x. z ++ events turns closing_by z x) t xs)
     fits-steps [] t fits = fits
     fits-steps (x ∷ xs) t fits = fits-steps xs (t ++ events turns closing_by t x) (fits-step t x fits)
 

@@ -27,7 +27,7 @@ use Rattle.relay_model.specs.Lines.{fails_poll}
 use Rattle.ev_types.specs.ScriptTurn.{ScriptTurn}
 use Rattle.relay_model.specs.Scripted.{waiting, poll_fails, marks}
 use Rattle.relay_model.specs.Totals.{opened}
-use Rattle.relay_model.specs.Plays.{Step, want_events, ready_events, accepted, own_events, events}
+use Rattle.relay_model.specs.Plays.{PlayStep, want_events, ready_events, accepted, own_events, events}
 use Rattle.relay_model.proofs.KindLemmas.{ClosedKind, closed-kind, PutKind, put-kind}
 use Rattle.relay_model.proofs.QuietLemmas.{there}
 use Rattle.relay_model.proofs.ToldLemmas.{kept}
@@ -202,7 +202,7 @@ module _ (turns : List ScriptTurn) where
       subst (λ p. Known p (count_by is_turn (t ++ u))) (sym a) (subst (λ n. Known (poll_in t) n) (sym b) known)
 
   module _ (closing_by : ℕ) (g : Settings) (whole : Trace) (legal : IsLegal g whole) where
-    abbrev put : Trace → Step → Trace
+    abbrev put : Trace → PlayStep → Trace
     put t x = t ++ events turns closing_by t x
 
     known-turn : (t rest : Trace) (ms : ℕ) → whole ≡ t ++ (entry.Turn ms, []) ∷ rest → KnownOf t → KnownOf (t ++ (entry.Turn ms, []) ∷ [])
@@ -247,28 +247,28 @@ module _ (turns : List ScriptTurn) where
         subst KnownOf (append_assoc (t ++ y ∷ []) (want_events ws) (ready_events marked) ∙ append_assoc t (y ∷ [])
         (want_events ws ++ ready_events marked)) third
 
-    known-step : (t rest : Trace) (x : Step) → whole ≡ put t x ++ rest → KnownOf t → KnownOf (put t x)
-    known-step t rest Step.Now is known =
-        known-turn t rest _ (is ∙ append_assoc t (events turns closing_by t Step.Now) rest) known
-    known-step t rest (Step.Poll timeout ws) is known =
+    known-step : (t rest : Trace) (x : PlayStep) → whole ≡ put t x ++ rest → KnownOf t → KnownOf (put t x)
+    known-step t rest PlayStep.Now is known =
+        known-turn t rest _ (is ∙ append_assoc t (events turns closing_by t PlayStep.Now) rest) known
+    known-step t rest (PlayStep.Poll timeout ws) is known =
         let more = want_events ws ++ outcome (poll_fails turns t) (marks turns t ws) in
         let y : Event = (entry.Poll timeout, []) in
         let awaited : poll_in t ≡ Poll.Awaited = behind g whole t y (more ++ rest) legal (is ∙ append_assoc t (y ∷ more) rest) in
         known-outcome t timeout ws (marks turns t ws) (subst (λ p. Known p (count_by is_turn t)) awaited known) (poll_fails turns t) refl
-    known-step t rest Step.Accept is known = known-still t _ (still-accepted (opened t) (waiting turns t)) known
-    known-step t rest (Step.Check e) is known = known-still t _ (record { poll = λ p. refl; turns = refl }) known
-    known-step t rest (Step.Read e room) is known = known-still t _ (record { poll = λ p. refl; turns = refl }) known
-    known-step t rest (Step.Write e offered) is known = known-still t _ (record { poll = λ p. refl; turns = refl }) known
-    known-step t rest (Step.Own x) is known = known-still t _ (still-own x) known
+    known-step t rest PlayStep.Accept is known = known-still t _ (still-accepted (opened t) (waiting turns t)) known
+    known-step t rest (PlayStep.Check e) is known = known-still t _ (record { poll = λ p. refl; turns = refl }) known
+    known-step t rest (PlayStep.Read e room) is known = known-still t _ (record { poll = λ p. refl; turns = refl }) known
+    known-step t rest (PlayStep.Write e offered) is known = known-still t _ (record { poll = λ p. refl; turns = refl }) known
+    known-step t rest (PlayStep.Own x) is known = known-still t _ (still-own x) known
 
     -- further steps put something behind
-    goes_on : (xs : List Step) (t : Trace) → (rest : Trace) × (fold put t xs ≡ t ++ rest)
+    goes_on : (xs : List PlayStep) (t : Trace) → (rest : Trace) × (fold put t xs ≡ t ++ rest)
     goes_on [] t = ([], sym (append-nil t))
     goes_on (x ∷ xs) t =
         let k = goes_on xs (put t x) in
         (events turns closing_by t x ++ k.0, k.1 ∙ append_assoc t (events turns closing_by t x) k.0)
 
-    known-steps : (xs : List Step) (t : Trace) → whole ≡ fold put t xs → KnownOf t → KnownOf whole
+    known-steps : (xs : List PlayStep) (t : Trace) → whole ≡ fold put t xs → KnownOf t → KnownOf whole
     known-steps [] t is known = subst KnownOf (sym is) known
     known-steps (x ∷ xs) t is known =
         let k = goes_on xs (put t x) in

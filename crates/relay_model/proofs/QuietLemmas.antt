@@ -16,11 +16,10 @@ use Rattle.relay_model.specs.Close.{CloseStep}
 use Rattle.relay_model.specs.Stages.{Stage, State}
 use Rattle.ev_types.specs.Times.{latest}
 use Rattle.relay_model.specs.Turn.{Reaches}
-use Rattle.relay_model.specs.Told.{freed_by, is_freed, end_closed_by, is_freeing}
+use Rattle.relay_model.specs.Told.{freed_by, is_freed, end_closed_by, is_freeing, StateIsTold, TimeRises, LinksInOrder}
 use Rattle.relay_model.proofs.EndLemmas.{same_end-eq, same_end-refl}
 use Rattle.relay_model.proofs.PlacedLemmas.{Placed, may_read-parts, may_write-live, link_of}
 use Rattle.relay_model.specs.Quiet.{starts_at, asked_by, is_within_fire, behind_fire, LegalIsQuiet}
-use Rattle.relay_model.specs.Told.{StateIsTold, TimeRises, LinksInOrder}
 use Rattle.std.proofs.lemmas.List.Sums.{sum_by-append}
 use Rattle.std.proofs.lemmas.List.Folds.{list_any-append}
 use Rattle.relay_model.proofs.SplitLemmas.{reaches_split, none_from_splits}

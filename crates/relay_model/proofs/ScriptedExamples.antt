@@ -21,7 +21,7 @@ use Rattle.ev_types.specs.ScriptTurn.{ScriptTurn}
 use Rattle.relay_model.specs.Script.{Script, closing_step, run_settings, plan_of}
 use Rattle.relay_model.specs.Hooked.{heard_in, asked_in}
 use Rattle.relay_model.specs.Polls.{fails_among}
-use Rattle.relay_model.specs.Plays.{Step, trace_of}
+use Rattle.relay_model.specs.Plays.{PlayStep, trace_of}
 
 abbrev i : SideId
 i = record { link = 0; side = In }
@@ -35,20 +35,20 @@ want e r w = record { side = e; read = r; write = w }
 abbrev plain : Entry → Event
 plain x = (x, [])
 
-abbrev played : List ScriptTurn → List Step → Trace
+abbrev played : List ScriptTurn → List PlayStep → Trace
 played turns steps = trace_of turns 1000 steps
 
 -- one turn of these lines, and closing turns behind it
-abbrev once : List TurnLine → List Step → Trace
-once lines steps = played ((0, lines) ∷ []) (Step.Now ∷ steps)
+abbrev once : List TurnLine → List PlayStep → Trace
+once lines steps = played ((0, lines) ∷ []) (PlayStep.Now ∷ steps)
 
 -- The clock may fall, and the time stays. Closing turns go on from the last reading.
-clock-goes_on : played ((5000, []) ∷ (1000, []) ∷ []) (Step.Now ∷ Step.Now ∷ Step.Now ∷ Step.Now ∷ Step.Now ∷ Step.Now ∷ [])
+clock-goes_on : played ((5000, []) ∷ (1000, []) ∷ []) (PlayStep.Now ∷ PlayStep.Now ∷ PlayStep.Now ∷ PlayStep.Now ∷ PlayStep.Now ∷ PlayStep.Now ∷ [])
     ≡ plain (entry.Turn 5000) ∷ plain (entry.Turn 5000) ∷ plain (entry.Turn 5000) ∷ plain (entry.Turn 5000) ∷ plain
     (entry.Turn 5000) ∷ plain (entry.Turn 5000) ∷ []
 clock-goes_on = refl
 
-clock-passes_at_last : played ((2500, []) ∷ (1000, []) ∷ []) (Step.Now ∷ Step.Now ∷ Step.Now ∷ Step.Now ∷ [])
+clock-passes_at_last : played ((2500, []) ∷ (1000, []) ∷ []) (PlayStep.Now ∷ PlayStep.Now ∷ PlayStep.Now ∷ PlayStep.Now ∷ [])
     ≡ plain (entry.Turn 2500) ∷ plain (entry.Turn 2500) ∷ plain (entry.Turn 2500) ∷ plain (entry.Turn 3000) ∷ []
 clock-passes_at_last = refl
 
@@ -56,43 +56,43 @@ clock-step : closing_step usual ≡ 1000
 clock-step = refl
 
 -- Links are taken in their order, and none where none waits.
-links-in_order : once (line.NewLink false ∷ line.NewLink true ∷ []) (Step.Accept ∷ Step.Accept ∷ Step.Accept ∷ [])
+links-in_order : once (line.NewLink false ∷ line.NewLink true ∷ []) (PlayStep.Accept ∷ PlayStep.Accept ∷ PlayStep.Accept ∷ [])
     ≡ plain (entry.Turn 0) ∷ plain (entry.Opened 0 true) ∷ plain (entry.Opened 1 false) ∷ []
 links-in_order = refl
 
 -- A read gives what is pending, and then fails or is ended.
 reads-in_parts : once (line.NewLink false ∷ line.Pending i (1 ∷ 2 ∷ []) ∷ line.Pending o (7 ∷ []) ∷ line.Pending i (3 ∷ []) ∷
-    line.Eof i ∷ []) (Step.Read i 2 ∷ Step.Read i 2 ∷ Step.Read i 2 ∷ Step.Read o 2 ∷ Step.Read o 2 ∷ [])
+    line.Eof i ∷ []) (PlayStep.Read i 2 ∷ PlayStep.Read i 2 ∷ PlayStep.Read i 2 ∷ PlayStep.Read o 2 ∷ PlayStep.Read o 2 ∷ [])
     ≡ plain (entry.Turn 0) ∷ (entry.Read i 2 (read.Got 2), 1 ∷ 2 ∷ []) ∷ (entry.Read i 2 (read.Got 1), 3 ∷ []) ∷ plain
     (entry.Read i 2 read.Ended)
     ∷ (entry.Read o 2 (read.Got 1), 7 ∷ []) ∷ plain (entry.Read o 2 read.NotYet) ∷ []
 reads-in_parts = refl
 
-reads-fail_first : once (line.Pending i (1 ∷ []) ∷ line.Eof i ∷ line.ReadFail i ∷ []) (Step.Read i 2 ∷ Step.Read i 2 ∷ [])
+reads-fail_first : once (line.Pending i (1 ∷ []) ∷ line.Eof i ∷ line.ReadFail i ∷ []) (PlayStep.Read i 2 ∷ PlayStep.Read i 2 ∷ [])
     ≡ plain (entry.Turn 0) ∷ (entry.Read i 2 (read.Got 1), 1 ∷ []) ∷ plain (entry.Read i 2 read.Failed) ∷ []
 reads-fail_first = refl
 
 -- A write takes what it may, and then fails or waits. A closing turn takes everything.
 writes-in_parts : once (line.Take o (Some 1) ∷ line.Take o (Some 2) ∷ line.Take i (Some 1) ∷ line.WriteFail o ∷ [])
-    (Step.Write o (1 ∷ 2 ∷ []) ∷ Step.Write o (3 ∷ 4 ∷ []) ∷ Step.Write o (4 ∷ []) ∷ Step.Write i (5 ∷ []) ∷ Step.Write i (6 ∷ [])
-    ∷ Step.Now ∷ Step.Write o (4 ∷ []) ∷ Step.Write i (6 ∷ []) ∷ [])
+    (PlayStep.Write o (1 ∷ 2 ∷ []) ∷ PlayStep.Write o (3 ∷ 4 ∷ []) ∷ PlayStep.Write o (4 ∷ []) ∷ PlayStep.Write i (5 ∷ []) ∷ PlayStep.Write i (6 ∷ [])
+    ∷ PlayStep.Now ∷ PlayStep.Write o (4 ∷ []) ∷ PlayStep.Write i (6 ∷ []) ∷ [])
     ≡ plain (entry.Turn 0) ∷ (entry.Write o 2 (write.Took 2), 1 ∷ 2 ∷ []) ∷ (entry.Write o 2 (write.Took 1), 3 ∷ []) ∷ plain
     (entry.Write o 1 write.Failed)
     ∷ (entry.Write i 1 (write.Took 1), 5 ∷ []) ∷ plain (entry.Write i 1 write.NotYet)
     ∷ plain (entry.Turn 1000) ∷ (entry.Write o 1 (write.Took 1), 4 ∷ []) ∷ (entry.Write i 1 (write.Took 1), 6 ∷ []) ∷ []
 writes-in_parts = refl
 
-writes-any_number : once (line.Take o None ∷ []) (Step.Write o (1 ∷ 2 ∷ []) ∷ []) ≡ plain (entry.Turn 0) ∷
+writes-any_number : once (line.Take o None ∷ []) (PlayStep.Write o (1 ∷ 2 ∷ []) ∷ []) ≡ plain (entry.Turn 0) ∷
     (entry.Write o 2 (write.Took 2), 1 ∷ 2 ∷ []) ∷ []
 writes-any_number = refl
 
 -- An undecided end waits for the first decision, which a closing turn brings.
 check-decided : once (line.NewLink true ∷ line.NewLink true ∷ line.Conn 1 true ∷ line.Conn 0 false ∷ line.Conn 0 true ∷ [])
-    (Step.Check o ∷ Step.Check (record { link = 1; side = Out }) ∷ [])
+    (PlayStep.Check o ∷ PlayStep.Check (record { link = 1; side = Out }) ∷ [])
     ≡ plain (entry.Turn 0) ∷ plain (entry.Conn o conn.Failed) ∷ plain (entry.Conn (record { link = 1; side = Out }) conn.Connected) ∷ []
 check-decided = refl
 
-check-closing : once (line.NewLink true ∷ []) (Step.Check o ∷ Step.Now ∷ Step.Check o ∷ []) ≡ plain (entry.Turn 0) ∷ plain
+check-closing : once (line.NewLink true ∷ []) (PlayStep.Check o ∷ PlayStep.Now ∷ PlayStep.Check o ∷ []) ≡ plain (entry.Turn 0) ∷ plain
     (entry.Conn o conn.Pending) ∷ plain (entry.Turn 1000) ∷ plain (entry.Conn o conn.Connected) ∷ []
 check-closing = refl
 
@@ -101,7 +101,7 @@ abbrev wants_all : List Want
 wants_all = want i true true ∷ want o true true ∷ []
 
 abbrev polled : List TurnLine → Trace
-polled lines = once lines (Step.Poll (Some 9) wants_all ∷ [])
+polled lines = once lines (PlayStep.Poll (Some 9) wants_all ∷ [])
 
 abbrev poll_then : Trace → Trace
 poll_then marks = plain (entry.Turn 0) ∷ plain (entry.Poll (Some 9)) ∷ plain (entry.Want i true true) ∷ plain
@@ -128,14 +128,14 @@ poll-undecided = refl
 poll-decided : polled (line.NewLink true ∷ line.Conn 0 false ∷ []) ≡ poll_then (plain (entry.Ready o false true) ∷ [])
 poll-decided = refl
 
-poll-connected : once (line.NewLink true ∷ line.Conn 0 true ∷ []) (Step.Check o ∷ Step.Poll None (want o false true ∷ []) ∷ [])
+poll-connected : once (line.NewLink true ∷ line.Conn 0 true ∷ []) (PlayStep.Check o ∷ PlayStep.Poll None (want o false true ∷ []) ∷ [])
     ≡ plain (entry.Turn 0) ∷ plain (entry.Conn o conn.Connected) ∷ plain (entry.Poll None) ∷ plain (entry.Want o false true) ∷ []
 poll-connected = refl
 
 poll-all_of_an_end : polled (line.NewLink true ∷ line.Spur o ∷ []) ≡ poll_then (plain (entry.Ready o true true) ∷ [])
 poll-all_of_an_end = refl
 
-poll-all_in_its_turn : once (line.NewLink true ∷ line.Spur i ∷ line.PollFail ∷ []) (Step.Now ∷ Step.Poll None
+poll-all_in_its_turn : once (line.NewLink true ∷ line.Spur i ∷ line.PollFail ∷ []) (PlayStep.Now ∷ PlayStep.Poll None
     (want i true false ∷ want o false true ∷ []) ∷ [])
     ≡ plain (entry.Turn 0) ∷ plain (entry.Turn 1000) ∷ plain (entry.Poll None) ∷ plain (entry.Want i true false) ∷ plain
     (entry.Want o false true) ∷ plain (entry.Ready o false true) ∷ []

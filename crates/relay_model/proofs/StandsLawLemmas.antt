@@ -4,14 +4,14 @@ use Rattle.std.specs.Prelude.{nat_lt}
 use Rattle.std.proofs.lemmas.Bool.{ltb-true, ltb-false}
 use Rattle.ev_types.specs.Sides.{peer}
 use Rattle.relay_model.specs.Trace.{bytes_read, bytes_given, has_ended}
-use Rattle.relay_model.specs.FilterLaws.{IsPrefixOf}
+use Rattle.filter_model.specs.FilterLaws.{IsPrefixOf}
 use Rattle.relay_model.specs.Flow.{passed}
 use Rattle.relay_model.specs.Conserved as direction
 use Rattle.relay_model.specs.Plain.{flow_at, is_live}
 use Rattle.relay_model.specs.Rooms.{read_kind, write_kind, read_filter, write_filter}
 use Rattle.relay_model.specs.Stands.{buffers_at, runnings_at}
 use Rattle.relay_model.specs.StandsLaws.{BytesGivenBegin, ClosedIsWhole, BuffersHoldTheRest, FreeAccountsForTheRest}
-use Rattle.relay_model.proofs.EveryFilter.{every_filter}
+use Rattle.filter_model.proofs.EveryFilter.{every_filter}
 use Rattle.relay_model.proofs.ConservedLemmas.{given_begins, all_is_there, rest_after_free}
 
 -- a link is opened or not

@@ -1,6 +1,5 @@
 -- What stands still behind the free of a side, by induction over the steps.
-use Rattle.std.proofs.Common.{◌≡◌, ℕ, suc, ◌-◌, ◌<◌, ◌≤◌, Bool, true, false, ◌||◌, not, if◌then◌else◌, List, [], ◌∷◌, ◌++◌, ◌⊎◌, inl}
-use Rattle.std.proofs.Common.{inr, refl, sym, ◌∙◌, ap, subst, arith, slice_index_or}
+use Rattle.std.proofs.Common.{◌≡◌, ℕ, suc, ◌-◌, ◌<◌, ◌≤◌, Bool, true, false, ◌||◌, not, if◌then◌else◌, List, [], ◌∷◌, ◌++◌, ◌⊎◌, inl, inr, refl, sym, ◌∙◌, ap, subst, arith, slice_index_or}
 use Rattle.std.specs.Prelude.{All}
 use Rattle.std.proofs.lemmas.Bool.{cases_lt}
 use Rattle.ev_types.specs.declared.side.SideId.{SideId}
@@ -9,13 +8,14 @@ use Rattle.ev_types.specs.Sides.{same_end, peer, number}
 use Rattle.ev_types.specs.Trace.{Event, Trace}
 use Rattle.relay_model.specs.Trace.{bytes_read, moved_at_free}
 use Rattle.relay_model.specs.Settings.{Settings}
-use Rattle.relay_model.specs.Filter.{Filter}
+use Rattle.filter_model.specs.Filter.{Filter}
 use Rattle.relay_model.specs.Flow.{Flow, no_flow}
 use Rattle.relay_model.specs.Conserved.{StandsStill}
 use Rattle.relay_model.specs.Plain.{Plain, side_at, flow_at, is_live}
 use Rattle.relay_model.specs.Past.{past}
 use Rattle.relay_model.specs.Rooms.{read_filter, write_filter, read_mark, hold_mark}
-use Rattle.relay_model.specs.Pass.{first_from, with_used, with_held, write_stops, with_turned}
+use Rattle.relay_model.specs.Pass.{with_used, with_held, write_stops, with_turned}
+use Rattle.filter_model.specs.Stopping.{first_from}
 use Rattle.relay_model.specs.Round.{Part, do_part, read_run}
 use Rattle.relay_model.specs.Stages.{Stage, State}
 use Rattle.relay_model.specs.Turn.{Reaches}

@@ -11,7 +11,9 @@ use Rattle.ev_types.specs.declared.why.Why.{Why}
 use Rattle.ev_types.specs.declared.why.Why.TheVariants as why
 use Rattle.relay_model.specs.Due.{Due}
 use Rattle.ev_types.specs.Sides.{peer, same_end, number}
-use Rattle.relay_model.specs.Settings.{Settings, Marks, Timeouts}
+use Rattle.relay_model.specs.Settings.{Settings}
+use Rattle.ev_types.specs.declared.settings.Timeouts.{Timeouts}
+use Rattle.ev_types.specs.declared.settings.Marks.{Marks}
 use Rattle.relay_model.specs.Plain.{Plain, PlainSide, no_side, Standing, Timer, side_at, put_side, change_side, is_live, all_sides}
 use Rattle.relay_model.specs.Rates.{standing_level}
 use Rattle.relay_model.specs.Groups.{same_group, members, share_among}

@@ -36,9 +36,10 @@ use Rattle.std.proofs.lemmas.List.Elements.{All-append}
 use Rattle.relay_model.proofs.TraceLemmas.{moved_at_free-push, given_at_free-push}
 use Rattle.relay_model.proofs.BadLemmas.{default-same, conn-flows, read-flows, closed-flows, set-seen, put-stations}
 use Rattle.std.proofs.lemmas.List.{get_or-set_other}
-use Rattle.relay_model.specs.Pass.{first_from, write_stops, is_over, with_used, with_read_done, with_turned, with_write_done, with_held, with_moved}
+use Rattle.relay_model.specs.Pass.{write_stops, with_used, with_read_done, with_turned, with_write_done, with_held, with_moved}
+use Rattle.filter_model.specs.Stopping.{first_from, is_over}
 use Rattle.relay_model.specs.Conserved.{all_moved}
-use Rattle.relay_model.specs.Filter.{Filter}
+use Rattle.filter_model.specs.Filter.{Filter}
 use Rattle.std.specs.List.{AllByRecursion}
 use Rattle.ev_types.specs.declared.side.Side.TheVariants.{In, Out}
 use Rattle.relay_model.proofs.SeenLemmas.{but_bad, do_part-keeps}

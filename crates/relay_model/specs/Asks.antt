@@ -1,6 +1,5 @@
 -- What a hook may ask while it runs: when an ask is refused, and what it changes where it isn't.
-use Rattle.std.specs.Prelude.{◌≡◌, ◌⊎◌, ℕ, ◌+◌, ◌-◌, ◌^◌, ◌≤◌, min, Bool, true, false, ◌==◌, ◌&&◌, ◌||◌, not, nat_lt, nat_le}
-use Rattle.std.specs.Prelude.{if◌then◌else◌, List, [], ◌∷◌, length, Option, Some, None, is_none}
+use Rattle.std.specs.Prelude.{◌≡◌, ◌⊎◌, ℕ, ◌+◌, ◌-◌, ◌^◌, ◌≤◌, min, Bool, true, false, ◌==◌, ◌&&◌, ◌||◌, not, nat_lt, nat_le, if◌then◌else◌, List, [], ◌∷◌, length, Option, Some, None, is_none}
 use Rattle.token_bucket.specs.declared.limit.Dir.{Dir}
 use Rattle.token_bucket.specs.declared.limit.Dir.TheVariants as dir
 use Rattle.token_bucket.specs.declared.limit.LimitCfg.{LimitCfg}
@@ -9,7 +8,8 @@ use Rattle.ev_types.specs.declared.act.Act.{Act}
 use Rattle.ev_types.specs.declared.act.Act.TheVariants as act
 use Rattle.ev_types.specs.declared.answer.AskAnswer.{AskAnswer}
 use Rattle.ev_types.specs.declared.answer.AskAnswer.TheVariants as ask
-use Rattle.relay_model.specs.Settings.{Settings, Marks}
+use Rattle.relay_model.specs.Settings.{Settings}
+use Rattle.ev_types.specs.declared.settings.Marks.{Marks}
 use Rattle.relay_model.specs.Plain.{Plain, PlainSide, Standing, first_limit, side_at, change_side, is_live, freed, without_timer, placed}
 use Rattle.relay_model.specs.Rates.{standing_level}
 use Rattle.relay_model.specs.Past.{Past}

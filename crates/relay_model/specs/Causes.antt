@@ -1,6 +1,5 @@
 -- Why a side is freed, told from what stands before its free and from the state in which it is freed.
-use Rattle.std.specs.Prelude.{◌≡◌, ◌⊎◌, ℕ, ◌-◌, ◌<◌, ◌≤◌, Bool, true, false, ◌&&◌, nat_lt, List, [], ◌∷◌, ◌++◌, length, take, Some}
-use Rattle.std.specs.Prelude.{None, is_some}
+use Rattle.std.specs.Prelude.{◌≡◌, ◌⊎◌, ℕ, ◌-◌, ◌<◌, ◌≤◌, Bool, true, false, ◌&&◌, nat_lt, List, [], ◌∷◌, ◌++◌, length, take, Some, None, is_some}
 use Rattle.std.specs.List.{list_any}
 use Rattle.token_bucket.specs.declared.limit.Dir.{Dir}
 use Rattle.ev_types.specs.declared.side.Side.{Side}
@@ -15,7 +14,7 @@ use Rattle.ev_types.specs.declared.entry.Entry.TheVariants as entry
 use Rattle.ev_types.specs.Sides.{peer}
 use Rattle.ev_types.specs.Trace.{Event, Trace}
 use Rattle.relay_model.specs.Trace.{bytes_read, has_ended, is_write_closed}
-use Rattle.relay_model.specs.Filter.{Filter, met}
+use Rattle.filter_model.specs.Filter.{Filter, met}
 use Rattle.relay_model.specs.Flow.{middle}
 use Rattle.relay_model.specs.Conserved.{all_moved}
 use Rattle.relay_model.specs.Settings.{Settings}

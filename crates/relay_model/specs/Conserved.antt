@@ -7,8 +7,8 @@ use Rattle.ev_types.specs.declared.side.SideId.{SideId}
 use Rattle.ev_types.specs.Sides.{peer}
 use Rattle.ev_types.specs.Trace.{Trace}
 use Rattle.relay_model.specs.Trace.{moved_at_free, given_at_free, is_write_closed}
-use Rattle.relay_model.specs.Filter.{Filter, met}
-use Rattle.relay_model.specs.FilterLaws.{last_of}
+use Rattle.filter_model.specs.Filter.{Filter, met}
+use Rattle.filter_model.specs.FilterLaws.{last_of}
 use Rattle.relay_model.specs.Flow.{Flow, Fits, middle, outcome, raw_input, input, output, raw_output, passed_at_end}
 
 -- nothing waits and no filter will make more: what was given is all that the direction makes at the end
@@ -56,27 +56,6 @@ left r w read from_live to_live f = record {
   output = if to_live then output r read f else [];
   raw_output = if to_live then raw_output r w read f else [];
 }
-
--- all that a running filter knows
-pub record Running : Type 0 where
-  pub kind : FilterKind
-  pub since : ℕ  -- the place of the input at which it began
-  pub used : ℕ  -- bytes of the input before the next that it will use
-  pub last : Option ℕ  -- the last byte that it used, none if it used none
-  pub finished : Bool
-  pub stopped : Option ℕ  -- the bad place at which it stopped
-
--- A filter of that name runs and used the first so many bytes of xs, none of them bad; `over` tells whether no more will
--- come, `done` whether it is finished. Where it has stopped, it did so at the place that is met there.
-pub record StandsAt (name : FilterKind) (f : Filter) (xs : List ℕ) (count : ℕ) (over done : Bool) (x : Running) : Type 0 where
-  pub kind : x.kind ≡ name
-  pub since : x.since ≡ f.since
-  pub begun : f.since ≤ count
-  pub used : x.used ≡ count
-  pub good : f.bad (take count xs) ≡ None
-  pub last : x.last ≡ last_of (drop f.since (take count xs))
-  pub finished : x.finished ≡ done
-  pub stopped : MatchOption x.stopped ⊤ (λ place. met f xs count over true ≡ Some place)
 
 -- the read filter has made all that it will ever make, and all of it was moved
 abbrev pub all_moved : Filter → List ℕ → Flow → Bool

@@ -4,10 +4,11 @@ use Rattle.ev_types.specs.declared.filter.FilterKind.{FilterKind}
 use Rattle.ev_types.specs.declared.side.SideId.{SideId}
 use Rattle.ev_types.specs.Trace.{Trace}
 use Rattle.relay_model.specs.Trace.{moved_at_free}
-use Rattle.relay_model.specs.Filter.{Filter}
-use Rattle.relay_model.specs.FilterLaws.{IsPrefixOf, IsFilter, LookAlike, more, more_at_end}
+use Rattle.filter_model.specs.Filter.{Filter}
+use Rattle.filter_model.specs.FilterLaws.{IsPrefixOf, IsFilter, LookAlike, more, more_at_end}
 use Rattle.relay_model.specs.Flow.{Flow, middle, output, raw_output, passed}
-use Rattle.relay_model.specs.Conserved.{Accounted, Holds, StandsAt, Buffers, Running}
+use Rattle.relay_model.specs.Conserved.{Accounted, Holds, Buffers}
+use Rattle.filter_model.specs.Running.{StandsAt, Running}
 
 -- What was given begins what the filters make of all that was read: before the side has ended without their ends, from then
 -- on with them.
@@ -48,8 +49,3 @@ RestAfterFree = (r w : Filter) (t : Trace) (from : SideId) (read taken : List �
     IsFilter r → IsFilter w → Accounted r w t from read taken ended f → Contains (moved_at_free from t) moved → f.write_done ≡ false →
     taken ++ (raw_output r w read f ++ more w (take f.turned (middle r read f)) (output r read f))
     ≡ w.before (take moved (if ended then r.at_end read else r.before read))
-
--- Two inputs at which one running filter could stand look alike to it: so what it will make of the bytes to come is known.
-abbrev pub RunningIsKnown : Type 0
-RunningIsKnown = (name : FilterKind) (f : Filter) (xs zs : List ℕ) (m n : ℕ) (over done over' done' : Bool) (x : Running) → m ≤ length xs → n ≤ length zs →
-    StandsAt name f xs m over done x → StandsAt name f zs n over' done' x → LookAlike f (take m xs) (take n zs)

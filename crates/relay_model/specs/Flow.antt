@@ -1,6 +1,6 @@
 -- How far a direction has come: one list, what was read, and four places in it. What the four buffers hold follows.
 use Rattle.std.specs.Prelude.{◌≡◌, ℕ, ◌≤◌, Bool, true, false, if◌then◌else◌, List, length, take, drop, None, is_none}
-use Rattle.relay_model.specs.Filter.{Filter}
+use Rattle.filter_model.specs.Filter.{Filter}
 
 -- The counts of a direction and its flags. A filter that is finished makes no more; a held direction gives nothing to
 -- the write filter.

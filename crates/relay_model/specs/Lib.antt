@@ -1,7 +1,4 @@
 pub mod Trace
-pub mod Filter
-pub mod FilterLaws
-pub mod Switched
 pub mod Flow
 pub mod Conserved
 pub mod ConservedLaws
@@ -18,9 +15,6 @@ pub mod Plans
 pub mod Moments
 pub mod Pass
 pub mod PassLaws
-pub mod FilterRun
-pub mod FilterStep
-pub mod FilterCuts
 pub mod Round
 pub mod Serve
 pub mod Close

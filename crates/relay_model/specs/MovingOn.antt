@@ -11,7 +11,8 @@ use Rattle.ev_types.specs.declared.answer.ReadAnswer.TheVariants as read
 use Rattle.ev_types.specs.declared.answer.WriteAnswer.TheVariants as write
 use Rattle.ev_types.specs.declared.entry.Entry.TheVariants as entry
 use Rattle.ev_types.specs.Trace.{Event, Trace}
-use Rattle.relay_model.specs.Settings.{Settings, GroupSet, HoldsSome, HasNoHooks, no_timeouts, rate_set}
+use Rattle.relay_model.specs.Settings.{Settings, GroupSet, HoldsSome, HasNoHooks, rate_set}
+use Rattle.ev_types.specs.Usual.{no_timeouts}
 use Rattle.relay_model.specs.Plain.{Plain, side_at}
 use Rattle.relay_model.specs.Rates.{ticks}
 use Rattle.relay_model.specs.Groups.{group_spells, is_suspended}

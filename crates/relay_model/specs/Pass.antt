@@ -2,18 +2,9 @@
 -- all that was read where it begins. A part looks at how much the four buffers hold, and never at a byte but to know a
 -- bad one.
 use Rattle.std.specs.Prelude.{ℕ, zero, suc, ◌+◌, ◌-◌, ◌/◌, Bool, true, false, ◌==◌, ◌&&◌, ◌||◌, not, nat_lt, nat_le, if◌then◌else◌, List, length, take, Option, None, is_some, is_none}
-use Rattle.relay_model.specs.Filter.{Filter, holds, met}
+use Rattle.filter_model.specs.Filter.{Filter, holds, met}
 use Rattle.relay_model.specs.Flow.{Flow, middle, input, output, raw_output}
 use Rattle.relay_model.specs.Conserved.{all_moved}
-
--- the first number from n on at which the test holds, or n + left where none of so many does
-abbrev pub first_from : (ℕ → Bool) → ℕ → ℕ → ℕ
-first_from stop n zero = n
-first_from stop n (suc left) = if stop n then n else first_from stop (n + 1) left
-
--- A filter is finished at a good end, where it holds nothing back or its target has room.
-abbrev pub is_over : Filter → List ℕ → Bool → Bool
-is_over f xs room = is_none (f.bad_at_end xs) && (not (holds f xs) || room)
 
 module _ (r : Filter) (read : List ℕ) where
   -- Must the read filter stop at a place? The input is at the read mark, or the next byte is bad.

@@ -1,6 +1,6 @@
 -- What passing leaves of a direction between two live sides, once a round changes nothing.
 use Rattle.std.specs.Prelude.{◌≡◌, ℕ, ◌/◌, ◌<◌, Bool, true, false, List, [], length, None}
-use Rattle.relay_model.specs.Filter.{Filter}
+use Rattle.filter_model.specs.Filter.{Filter}
 use Rattle.relay_model.specs.Flow.{Flow, Fits, raw_input, input, output, raw_output}
 use Rattle.relay_model.specs.Pass.{with_held, with_used, with_read_done, with_moved, with_turned, with_write_done, read_place, write_place}
 

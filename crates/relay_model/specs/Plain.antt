@@ -1,14 +1,16 @@
 -- The relay without its bytes: what it keeps of each side, each direction and each timer. The bytes are what the trace
 -- says; how the plain state goes on stands in Turn.
-use Rattle.std.specs.Prelude.{nat_lt, if◌then◌else◌, ℕ, zero, suc, ◌+◌, Bool, true, false, not, List, [], ◌∷◌, ◌++◌, filter}
-use Rattle.std.specs.Prelude.{slice_index_or, slice_set, Option, None, option_map}
+use Rattle.std.specs.Prelude.{nat_lt, if◌then◌else◌, ℕ, zero, suc, ◌+◌, Bool, true, false, not, List, [], ◌∷◌, ◌++◌, filter, slice_index_or, slice_set, Option, None, option_map}
 use Rattle.ev_types.specs.declared.side.Side.{Side}
 use Rattle.ev_types.specs.declared.side.Side.TheVariants.{In, Out}
 use Rattle.ev_types.specs.declared.side.SideId.{SideId}
 use Rattle.ev_types.specs.Sides.{number, same_end}
 use Rattle.token_bucket.specs.declared.limit.LimitCfg.{LimitCfg}
 use Rattle.relay_model.specs.Flow.{Flow, no_flow}
-use Rattle.relay_model.specs.Settings.{Settings, Marks, Timeouts, no_marks, no_timeouts, rate_set, group_set, marks_set, timeouts_set}
+use Rattle.relay_model.specs.Settings.{Settings, rate_set, group_set, marks_set, timeouts_set}
+use Rattle.ev_types.specs.Usual.{no_marks, no_timeouts}
+use Rattle.ev_types.specs.declared.settings.Timeouts.{Timeouts}
+use Rattle.ev_types.specs.declared.settings.Marks.{Marks}
 use Rattle.relay_model.specs.Due.{Due, without_due}
 
 -- A limit of a side, with the moment in which it was set, and what either bucket held then.

@@ -18,14 +18,14 @@ use Rattle.ev_types.specs.ScriptTurn.{ScriptTurn}
 use Rattle.relay_model.specs.Script.{Script, closing_step}
 use Rattle.relay_model.specs.Scripted.{reading, begun, lines, waiting, pending, poll_fails, marks, conn_answer, read_answer, write_answer}
 
-pub data Step : Type 0 where
-  Now : Step  -- the clock is read
-  Poll : Option ℕ → List Want → Step  -- with this timeout and these wants
-  Accept : Step
-  Check : SideId → Step  -- an end is asked for its state
-  Read : SideId → ℕ → Step  -- with this room
-  Write : SideId → List ℕ → Step  -- with these bytes
-  Own : Entry → Step  -- what no port answers: fires, asks and frees, and ends of writing and of ends
+pub data PlayStep : Type 0 where
+  Now : PlayStep  -- the clock is read
+  Poll : Option ℕ → List Want → PlayStep  -- with this timeout and these wants
+  Accept : PlayStep
+  Check : SideId → PlayStep  -- an end is asked for its state
+  Read : SideId → ℕ → PlayStep  -- with this room
+  Write : SideId → List ℕ → PlayStep  -- with these bytes
+  Own : Entry → PlayStep  -- what no port answers: fires, asks and frees, and ends of writing and of ends
 
 abbrev pub want_events : List Want → Trace
 want_events ws = map (λ w. (entry.Want w.side w.read w.write, [])) ws
@@ -47,25 +47,25 @@ own_events (entry.Close side) = (entry.Close side, []) ∷ []
 own_events _ = []
 
 -- what a step puts behind a trace
-abbrev pub events : List ScriptTurn → ℕ → Trace → Step → Trace
-events turns closing_by t Step.Now = (entry.Turn (turn_time t (reading turns closing_by (begun turns t))), []) ∷ []
-events turns closing_by t (Step.Poll timeout wants) =
+abbrev pub events : List ScriptTurn → ℕ → Trace → PlayStep → Trace
+events turns closing_by t PlayStep.Now = (entry.Turn (turn_time t (reading turns closing_by (begun turns t))), []) ∷ []
+events turns closing_by t (PlayStep.Poll timeout wants) =
     (entry.Poll timeout, []) ∷ want_events wants
     ++ (if poll_fails turns t then (entry.PollFailed, []) ∷ [] else ready_events (marks turns t wants))
-events turns closing_by t Step.Accept = accepted (opened t) (waiting turns t)
-events turns closing_by t (Step.Check e) = (entry.Conn e (conn_answer turns t e), []) ∷ []
-events turns closing_by t (Step.Read e room) = (entry.Read e room (read_answer turns t e room).0, (read_answer turns t e room).1) ∷ []
-events turns closing_by t (Step.Write e offered) =
+events turns closing_by t PlayStep.Accept = accepted (opened t) (waiting turns t)
+events turns closing_by t (PlayStep.Check e) = (entry.Conn e (conn_answer turns t e), []) ∷ []
+events turns closing_by t (PlayStep.Read e room) = (entry.Read e room (read_answer turns t e room).0, (read_answer turns t e room).1) ∷ []
+events turns closing_by t (PlayStep.Write e offered) =
     (entry.Write e (length offered) (write_answer turns t e offered).0, (write_answer turns t e offered).1) ∷ []
-events turns closing_by t (Step.Own x) = own_events x
+events turns closing_by t (PlayStep.Own x) = own_events x
 
 -- the trace of a list of steps
-abbrev pub trace_of : List ScriptTurn → ℕ → List Step → Trace
+abbrev pub trace_of : List ScriptTurn → ℕ → List PlayStep → Trace
 trace_of turns closing_by steps = fold (λ t x. t ++ events turns closing_by t x) [] steps
 
 -- Every answer in a trace is the script's.
 abbrev pub IsAnswered : List ScriptTurn → ℕ → Trace → Type 0
-IsAnswered turns closing_by t = (steps : List Step) × (t ≡ trace_of turns closing_by steps)
+IsAnswered turns closing_by t = (steps : List PlayStep) × (t ≡ trace_of turns closing_by steps)
 
 -- No link waits; or as many were opened as a turn may open, or as may be opened in all.
 abbrev pub AllTaken : (Trace → Type 0) → ℕ → Trace → Type 0
@@ -114,7 +114,7 @@ pub record Plays (script : Script) (closing : ℕ) (answer : TurnAnswer) (t : Tr
 -- What a script answers to one step more, it answers.
 abbrev pub AnswersGoOn : Type 0
 AnswersGoOn = (turns : List ScriptTurn) (closing_by : ℕ) (t : Trace) → IsAnswered turns closing_by t →
-    (x : Step) → IsAnswered turns closing_by (t ++ events turns closing_by t x)
+    (x : PlayStep) → IsAnswered turns closing_by (t ++ events turns closing_by t x)
 
 -- Wherever every answer is a script's, what was read from an end and what is pending there is what the script brought in.
 abbrev pub ReadsWhatComes : Type 0

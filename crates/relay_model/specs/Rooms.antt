@@ -8,7 +8,7 @@ use Rattle.ev_types.specs.declared.side.Side.TheVariants.{In, Out}
 use Rattle.ev_types.specs.declared.side.SideId.{SideId}
 use Rattle.ev_types.specs.declared.filter.FilterKind.{FilterKind}
 use Rattle.ev_types.specs.Sides.{peer}
-use Rattle.relay_model.specs.Filter.{Filter, filter_of}
+use Rattle.filter_model.specs.Filter.{Filter, filter_of}
 use Rattle.relay_model.specs.Flow.{raw_input, input, output, raw_output}
 use Rattle.relay_model.specs.Settings.{Settings}
 use Rattle.relay_model.specs.Plain.{Plain, side_at, flow_at, all_sides}

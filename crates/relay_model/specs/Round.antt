@@ -4,7 +4,7 @@
 use Rattle.std.specs.Prelude.{ℕ, Bool, true, false, List, [], ◌∷◌, fold, Option}
 use Rattle.ev_types.specs.declared.side.SideId.{SideId}
 use Rattle.ev_types.specs.Sides.{peer}
-use Rattle.relay_model.specs.Filter.{Filter, or_else}
+use Rattle.filter_model.specs.Filter.{Filter, or_else}
 use Rattle.relay_model.specs.Settings.{Settings}
 use Rattle.relay_model.specs.Plain.{Plain, side_at, flow_at, change_side, change_flow, is_live}
 use Rattle.relay_model.specs.Past.{Past}

@@ -4,20 +4,11 @@ use Rattle.ev_types.specs.declared.side.Side.{Side}
 use Rattle.ev_types.specs.declared.side.Side.TheVariants.{In, Out}
 use Rattle.ev_types.specs.declared.side.SideId.{SideId}
 use Rattle.ev_types.specs.declared.filter.FilterKind.{FilterKind}
+use Rattle.ev_types.specs.declared.settings.Marks.{Marks}
+use Rattle.ev_types.specs.declared.settings.Timeouts.{Timeouts}
+use Rattle.ev_types.specs.Usual.{no_marks, no_timeouts}
 use Rattle.ev_types.specs.declared.filter.FilterKind.TheVariants as kind
 use Rattle.token_bucket.specs.declared.limit.LimitCfg.{LimitCfg}
-
--- Marks of a side, in bytes. A high mark of 0 is none.
-pub record Marks : Type 0 where
-  pub read_low : ℕ
-  pub read_high : ℕ
-  pub write_low : ℕ
-  pub write_high : ℕ
-
--- Timeouts of a side, in milliseconds. 0 is none.
-pub record Timeouts : Type 0 where
-  pub read_ms : ℕ
-  pub write_ms : ℕ
 
 -- a group: the limit that its members share, and the least share of one of them
 pub record GroupSet : Type 0 where
@@ -41,12 +32,6 @@ pub record Settings : Type 0 where
   pub out_timeouts : Timeouts
   pub links : ℕ  -- the greatest number of links
   pub hooks : List SideId  -- the sides with a hook
-
-abbrev pub no_marks : Marks
-no_marks = record { read_low = 0; read_high = 0; write_low = 0; write_high = 0 }
-
-abbrev pub no_timeouts : Timeouts
-no_timeouts = record { read_ms = 0; write_ms = 0 }
 
 -- no filters, limits, groups, marks, timeouts and hooks; 524,288 bytes are held, and 256 links may come
 abbrev pub usual : Settings

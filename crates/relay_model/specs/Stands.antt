@@ -6,7 +6,8 @@ use Rattle.ev_types.specs.Sides.{number, peer}
 use Rattle.ev_types.specs.Trace.{Trace}
 use Rattle.relay_model.specs.Trace.{bytes_read, bytes_given, has_ended, moved_at_free, given_at_free, is_write_closed}
 use Rattle.relay_model.specs.Conserved as direction
-use Rattle.relay_model.specs.Conserved.{Buffers, Running}
+use Rattle.relay_model.specs.Conserved.{Buffers}
+use Rattle.filter_model.specs.Running.{Running}
 use Rattle.relay_model.specs.Settings.{Settings}
 use Rattle.relay_model.specs.Plain.{Plain, nothing_yet, side_at, flow_at, is_live}
 use Rattle.relay_model.specs.Rooms.{read_kind, write_kind, read_filter, write_filter}

@@ -4,7 +4,7 @@ use Rattle.ev_types.specs.declared.side.SideId.{SideId}
 use Rattle.ev_types.specs.Sides.{peer}
 use Rattle.ev_types.specs.Trace.{Trace}
 use Rattle.relay_model.specs.Trace.{bytes_read, bytes_given, has_ended, moved_at_free, is_write_closed}
-use Rattle.relay_model.specs.FilterLaws.{IsPrefixOf, more}
+use Rattle.filter_model.specs.FilterLaws.{IsPrefixOf, more}
 use Rattle.relay_model.specs.Flow.{middle, output, raw_output, passed, passed_at_end}
 use Rattle.relay_model.specs.ConservedLaws.{write_adds}
 use Rattle.relay_model.specs.Settings.{Settings}

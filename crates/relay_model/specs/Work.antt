@@ -1,7 +1,6 @@
 -- How much is still to be done in a direction. No step makes it more but a read, and each event that moves on takes of it: so turns that
 -- move on are few.
-use Rattle.std.specs.Prelude.{◌≡◌, ℕ, ◌+◌, ◌*◌, ◌≤◌, Bool, true, false, ◌||◌, not, nat_lt, if◌then◌else◌, ⊤, List, [], ◌∷◌, ◌++◌, length}
-use Rattle.std.specs.Prelude.{sum_by, count_by}
+use Rattle.std.specs.Prelude.{◌≡◌, ℕ, ◌+◌, ◌*◌, ◌≤◌, Bool, true, false, ◌||◌, not, nat_lt, if◌then◌else◌, ⊤, List, [], ◌∷◌, ◌++◌, length, sum_by, count_by}
 use Rattle.std.specs.List.{flat_map, list_any, list_all}
 use Rattle.ev_types.specs.declared.side.SideId.{SideId}
 use Rattle.ev_types.specs.declared.answer.ReadAnswer.TheVariants as read
@@ -10,7 +9,7 @@ use Rattle.ev_types.specs.declared.entry.Entry.TheVariants as entry
 use Rattle.ev_types.specs.Sides.{peer, same_end}
 use Rattle.ev_types.specs.Trace.{Event, Trace}
 use Rattle.relay_model.specs.Trace.{ended_by, bytes_read, has_ended}
-use Rattle.relay_model.specs.Filter.{Filter}
+use Rattle.filter_model.specs.Filter.{Filter}
 use Rattle.relay_model.specs.Flow.{Flow, raw_input, input, output, raw_output}
 use Rattle.relay_model.specs.Settings.{Settings, HasNoHooks}
 use Rattle.relay_model.specs.Plain.{Plain, side_at, flow_at}

@@ -1,31 +1,6 @@
 // The laws that the definitions obey, each on a function whose contract it is.
-ghost use Rattle.ev_types.specs.declared.filter.FilterKind.{FilterKind};
-ghost use Rattle.relay_model.specs.ConservedLaws.{AllIsThere, GivenBegins, RestAfterFree, RunningIsKnown};
-ghost use Rattle.relay_model.specs.Filter.{filter_of};
-ghost use Rattle.relay_model.specs.FilterLaws.{IsFilter, MetIsBad};
+ghost use Rattle.relay_model.specs.ConservedLaws.{AllIsThere, GivenBegins, RestAfterFree};
 ghost use Rattle.relay_model.specs.PassLaws.{PassingEnds};
-ghost use Rattle.relay_model.specs.Switched.{SwitchedIsFilter};
-
-/// Each of the five filters never takes output back, stops before a bad place, and is known while it runs by how many
-/// bytes it used and the last of them.
-pub fn every_filter_is_lawful()
-    ensures { (k : FilterKind) → IsFilter (filter_of k) }
-{}
-
-/// A filter that is another one from a place of its input on obeys the same laws.
-pub fn a_switched_filter_is_lawful()
-    ensures { SwitchedIsFilter }
-{}
-
-/// What a running filter knows of its input is all that it needs: whatever the input was, it goes on in the same way.
-pub fn a_running_filter_is_known()
-    ensures { RunningIsKnown }
-{}
-
-/// The place that a filter meets is bad, and the first that is.
-pub fn what_is_met_is_bad()
-    ensures { MetIsBad }
-{}
 
 /// Whatever happens, the bytes given to an end begin what the filters make of the bytes read from its peer.
 pub fn given_begins_the_whole()

@@ -4,7 +4,6 @@
 
 mod buffer_laws;
 mod closing_laws;
-mod filter_laws;
 mod laws;
 mod legal_laws;
 mod played_laws;
@@ -18,14 +17,9 @@ pub use closing_laws::{
     closing_turns_are_willing, closing_turns_go_on, drains_in_most, open_link_wants,
     two_closing_turns_go_on, willing_turns_go_on,
 };
-pub use filter_laws::{
-    a_step_fits_its_target, a_step_is_the_function, cuts_agree, cuts_give_the_function, runs_join,
-};
 pub use laws::{
-    a_running_filter_is_known, a_switched_filter_is_lawful, all_is_there, every_filter_is_lawful,
-    given_begins_the_whole, passing_leaves_only_what_is_held, rest_is_there_after_a_free,
-    what_is_met_is_bad,
-};
+    all_is_there, given_begins_the_whole, passing_leaves_only_what_is_held, rest_is_there_after_a_free,
+    };
 pub use legal_laws::{
     all_on_one_way, asked_frees_are_next, closing_frees_faulty, failed_are_freed_so,
     faults_are_answered, faults_are_freed, faulty_are_freed, freed_are_still, freed_stand_still,

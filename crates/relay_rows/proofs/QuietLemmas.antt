@@ -8,7 +8,7 @@ use Rattle.ev_types.specs.declared.side.SideId.{SideId}
 use Rattle.ev_types.specs.declared.entry.Entry.{Entry}
 use Rattle.ev_types.specs.Sides.{peer, number}
 use Rattle.ev_types.specs.Trace.{Trace}
-use Rattle.relay_model.specs.Filter.{or_else}
+use Rattle.filter_model.specs.Filter.{or_else}
 use Rattle.relay_model.specs.Flow.{Flow, no_flow}
 use Rattle.relay_model.specs.Settings.{Settings}
 use Rattle.relay_model.specs.Plain.{Plain, PlainSide, no_side, side_at, flow_at, put_side, put_flow, change_flow}

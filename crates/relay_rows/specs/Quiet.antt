@@ -10,7 +10,7 @@ use Rattle.relay_model.specs.Plain.{Plain, side_at, flow_at, all_sides}
 use Rattle.relay_model.specs.Past.{Past, past}
 use Rattle.relay_model.specs.Rooms.{wanted, read_mark}
 use Rattle.relay_model.specs.Pass.{with_held, with_used, read_place, with_read_done, with_moved, with_turned, write_place, with_write_done}
-use Rattle.relay_model.specs.Filter.{or_else}
+use Rattle.filter_model.specs.Filter.{or_else}
 use Rattle.relay_model.specs.Round.{Part, round_parts, do_part, filter_in, filter_out, hold_of}
 use Rattle.relay_model.specs.Serve.{call_for, marks_left, after_got}
 use Rattle.relay_model.specs.Close.{closing_from, closing_entry}

@@ -10,7 +10,7 @@ use Rattle.ev_types.specs.declared.status.Status.{Status}
 use Rattle.ev_types.specs.declared.status.Status.TheVariants as status
 use Rattle.ev_types.specs.Growth.{Grew}
 use Rattle.ev_types.specs.Trace.{Event, Trace}
-use Rattle.stream_words.specs.Streams.{TookOn}
+use Rattle.ev_port.specs.StreamBytes.{TookOn}
 use Rattle.ev_port.specs.Calls.{StartedAt}
 use Rattle.ev_port.specs.EndSteps.{AllWent, no_step}
 use Rattle.ev_port.specs.Faults.{ListenerFaults}
@@ -21,7 +21,7 @@ use Rattle.relay_model.specs.Settings.{Settings}
 use Rattle.relay_model.specs.Stages.{Stage}
 use Rattle.relay_model.proofs.TiedLemmas.{nothing_is_tied}
 use Rattle.relay_model.proofs.PollLemmas.{Poll, poll_by, poll_at, poll_is_told}
-use Rattle.relay_settings.specs.declared.route.Route.{Route}
+use Rattle.ev_types.specs.declared.route.Route.{Route}
 use Rattle.relay_state.specs.State.{State, new_state}
 use Rattle.relay_state.specs.Closing.{in_side, out_side}
 use Rattle.relay_state.specs.Counting.{link_count, link_state, is_open, open_below}
@@ -38,10 +38,10 @@ use Rattle.relay_drive.specs.Advances.{Heard, is_poll_failed, has_poll_failed}
 use Rattle.relay_drive.specs.DriveStands.{StandsBetween}
 use Rattle.relay_drive.proofs.GoesLemmas.{Grew-none, Heard-join}
 use Rattle.relay_drive.proofs.HeardLemmas.{Heard-open}
-use Rattle.run_end.specs.EndStatus.{status_of}
-use Rattle.relay_words.specs.WordsStatus.{status_of_words}
-use Rattle.relay_words.specs.declared.fault.WordsFault.{WordsFault}
-use Rattle.relay_words.specs.declared.fault.WordsFault.TheVariants as words
+use Rattle.program_end.specs.EndStatus.{status_of}
+use Rattle.command_words.specs.WordsStatus.{status_of_words}
+use Rattle.command_words.specs.declared.fault.WordsFault.{WordsFault}
+use Rattle.command_words.specs.declared.fault.WordsFault.TheVariants as words
 use Rattle.relay_serve.specs.Seen.{Seen, Drained}
 use Rattle.relay_serve.specs.Served.{settings_on, BeganSo, IsServed, EndedAs, ReportedAll, RanOut, Did, DidWith}
 use Rattle.relay_serve.specs.Underway.{TurnsWent, TurnsCut, IsServedOut, RanTo, Reported, ended_as}

@@ -8,7 +8,7 @@ use Rattle.relay_model.specs.Settings.{Settings}
 use Rattle.relay_model.specs.Stages.{Stage}
 use Rattle.relay_model.specs.Tied.{IsTied}
 use Rattle.relay_model.proofs.TiedLemmas.{nothing_is_tied}
-use Rattle.relay_settings.specs.declared.settings.Settings as code
+use Rattle.ev_types.specs.declared.settings.Settings as code
 use Rattle.relay_core.specs.SettingsView.{model_settings}
 use Rattle.relay_state.specs.State.{State}
 use Rattle.relay_steps.specs.Meaning.{IsBuilt, LeftFor}
@@ -24,7 +24,7 @@ use Rattle.relay_drive.specs.DriveValue.{DriveValue, new_drive, is_worn}
 use Rattle.relay_drive.specs.Known.{Question}
 use Rattle.relay_drive.specs.Phases.{CutTurn, in_poll, CutPolling, is_open_fault}
 use Rattle.relay_drive.proofs.GoesLemmas.{Grew-none, Grew-join, Heard-none, Heard-join}
-use Rattle.run_end.proofs.TurnCountLemmas.{BeginsOnce}
+use Rattle.program_end.proofs.TurnCountLemmas.{BeginsOnce}
 use Rattle.relay_serve.specs.Seen.{Seen}
 use Rattle.relay_serve.specs.Underway.{TurnsWent, TurnsCut}
 

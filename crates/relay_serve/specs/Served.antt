@@ -8,8 +8,8 @@ use Rattle.ev_types.specs.declared.status.Status.TheVariants as status
 use Rattle.ev_types.specs.Growth.{Grew}
 use Rattle.ev_types.specs.Told.{EndTold, PortTold}
 use Rattle.ev_types.specs.Trace.{Trace}
-use Rattle.stream_words.specs.Faults.{Rose}
-use Rattle.stream_words.specs.Streams.{TookOn}
+use Rattle.ev_port.specs.FaultCounts.{Rose}
+use Rattle.ev_port.specs.StreamBytes.{TookOn}
 use Rattle.ev_port.specs.Calls.{StartedAt}
 use Rattle.ev_port.specs.EndSteps.{AllWent, no_step}
 use Rattle.script_text.specs.ReportText.{report_text}
@@ -17,7 +17,7 @@ use Rattle.relay_model.specs.Answers.{TurnAnswer}
 use Rattle.relay_model.specs.Settings.{Settings}
 use Rattle.relay_model.specs.Tied.{IsTied}
 use Rattle.relay_model.specs.Totals.{opened}
-use Rattle.relay_settings.specs.declared.route.Route.{Route}
+use Rattle.ev_types.specs.declared.route.Route.{Route}
 use Rattle.relay_core.specs.SettingsView.{model_settings}
 use Rattle.relay_laws.specs.Relayed.{IsRelayed}
 use Rattle.relay_drive.specs.Advances.{Heard}

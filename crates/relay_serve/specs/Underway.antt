@@ -4,14 +4,14 @@ use Rattle.ev_types.specs.declared.status.Status.{Status}
 use Rattle.ev_types.specs.declared.status.Status.TheVariants as status
 use Rattle.ev_types.specs.Growth.{Grew}
 use Rattle.ev_types.specs.Trace.{Trace}
-use Rattle.stream_words.specs.Faults.{Rose}
-use Rattle.stream_words.specs.Streams.{TookOn}
+use Rattle.ev_port.specs.FaultCounts.{Rose}
+use Rattle.ev_port.specs.StreamBytes.{TookOn}
 use Rattle.ev_port.specs.declared.port.Port as port
 use Rattle.ev_port.specs.declared.scribe.Scribe as scribe
 use Rattle.relay_model.specs.Answers.{TurnAnswer}
 use Rattle.relay_model.specs.Settings.{Settings}
 use Rattle.relay_model.specs.Tied.{IsTied}
-use Rattle.relay_settings.specs.declared.route.Route.{Route}
+use Rattle.ev_types.specs.declared.route.Route.{Route}
 use Rattle.relay_state.specs.State.{State}
 use Rattle.relay_state.specs.Counting.{open_below}
 use Rattle.relay_steps.specs.Meaning.{LeftFor}
@@ -24,7 +24,7 @@ use Rattle.relay_drive.specs.Advances.{Heard}
 use Rattle.relay_drive.specs.DriveStands.{turn_answer_of, StandsBetween}
 use Rattle.relay_drive.specs.DriveValue.{DriveValue}
 use Rattle.relay_drive.specs.Phases.{is_open_fault}
-use Rattle.run_end.specs.EndStatus.{status_of}
+use Rattle.program_end.specs.EndStatus.{status_of}
 use Rattle.relay_serve.specs.Seen.{Seen, Drained, seen}
 use Rattle.relay_serve.specs.Served.{EndedAs, IsServed, IsWornOut}
 

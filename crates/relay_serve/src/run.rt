@@ -10,7 +10,7 @@ use crate::report::report;
 use ev_port::{Port, Scribe, Sink, Started};
 use ev_types::Status;
 use relay_drive::{Drive, DriveFault};
-use relay_settings::{Route, Settings};
+use ev_types::{Route, Settings};
 use std::alloc::Global;
 use std::sync::Wait;
 

@@ -1,14 +1,14 @@
 // All that a program does that relays over a port, as one call: words, port, turns, report.
 ghost use Rattle.std.specs.Prelude.{◌≡◌, ◌≢◌, map, string_bytes};
 ghost use Rattle.ev_types.specs.declared.status.Status.TheVariants.{Usage, Memory, WriteFault};
-ghost use Rattle.relay_words.specs.ServeGrammar.{serve_words_of};
+ghost use Rattle.command_words.specs.ServeGrammar.{serve_words_of};
 ghost use Rattle.relay_serve.specs.Seen.{seen, drained};
 ghost use Rattle.relay_serve.specs.Served.{DidWith};
 
 use crate::run::relay;
 use ev_port::{Port, Scribe, Sink};
 use ev_types::Status;
-use relay_words::serve_words;
+use command_words::serve_words;
 use std::alloc::Global;
 use std::sync::Wait;
 

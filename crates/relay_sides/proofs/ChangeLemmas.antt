@@ -4,7 +4,7 @@ use Rattle.std.proofs.Common.{◌≡◌, ◌≢◌, ℕ, ◌*◌, ◌<◌, Bool,
 use Rattle.std.proofs.lemmas.Bool.{eqb-false}
 use Rattle.std.proofs.lemmas.List.{get_or-set_same, get_or-set_other}
 use Rattle.relay_model.specs.Flow.{Flow}
-use Rattle.relay_model.specs.Conserved.{Running}
+use Rattle.filter_model.specs.Running.{Running}
 use Rattle.relay_state.specs.State.{Lane}
 use Rattle.bev_world.specs.declared.slot.Slot.{Slot}
 use Rattle.bev_world.specs.declared.slot.Kind.TheVariants.{Filter}

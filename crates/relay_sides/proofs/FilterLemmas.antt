@@ -3,9 +3,9 @@ use Rattle.std.proofs.Common.{◌≡◌, ◌≢◌, ℕ, ◌+◌, ◌<◌, Bool,
 use Rattle.std.proofs.lemmas.List.{length-set}
 use Rattle.token_bucket.specs.declared.limit.Dir.{Dir}
 use Rattle.token_bucket.specs.declared.limit.Dir.TheVariants.{Read, Write}
-use Rattle.relay_model.specs.Filter.{or_else}
-use Rattle.relay_model.specs.Conserved.{Running}
-use Rattle.relay_model.specs.FilterStep.{Stepped}
+use Rattle.filter_model.specs.Filter.{or_else}
+use Rattle.filter_model.specs.Running.{Running}
+use Rattle.filter_model.specs.FilterStep.{Stepped}
 use Rattle.relay_state.specs.Passage.{read_part, write_step, written_by}
 use Rattle.bev_core.specs.BevValue.{BevValue}
 use Rattle.bev_filter.specs.Passing.{Crossing, Crossed, stepping}

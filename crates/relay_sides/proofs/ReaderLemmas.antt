@@ -6,7 +6,7 @@ use Rattle.token_bucket.specs.declared.limit.Dir.{Dir}
 use Rattle.token_bucket.specs.declared.limit.Dir.TheVariants as dir
 use Rattle.ev_types.specs.declared.side.SideId.{SideId}
 use Rattle.ev_types.specs.Sides.{number, peer}
-use Rattle.relay_model.specs.Conserved.{Running}
+use Rattle.filter_model.specs.Running.{Running}
 use Rattle.relay_model.specs.Flow.{no_flow}
 use Rattle.relay_model.specs.Moments.{timeout_of, last_activity}
 use Rattle.relay_state.specs.State.{no_lane}

@@ -3,8 +3,8 @@ use Rattle.std.proofs.Common.{◌≡◌, ◌≢◌, inl, inr, ℕ, zero, suc, �
 use Rattle.std.specs.Prelude.{is_some}
 use Rattle.std.proofs.lemmas.List.{nil_from_length}
 use mathlib.Core.Logic.{◌⊎◌}
-use Rattle.relay_model.specs.Filter.{or_else}
-use Rattle.relay_model.specs.FilterStep.{Stepped}
+use Rattle.filter_model.specs.Filter.{or_else}
+use Rattle.filter_model.specs.FilterStep.{Stepped}
 use Rattle.relay_state.specs.State.{lane_moved}
 use Rattle.relay_state.specs.Passage.{Passage, rounds, hold_part, read_step, read_by, read_part, move_part, write_step, written_by, write_part, has_moved_all, pass_round}
 use Rattle.relay_sides.specs.declared.pass.Reached.{Reached}

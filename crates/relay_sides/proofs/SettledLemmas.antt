@@ -2,10 +2,10 @@
 use Rattle.std.proofs.Common.{◌≡◌, ℕ, suc, ◌+◌, ◌/◌, Bool, true, false, not, ◌||◌, ◌&&◌, ◌==◌, nat_le, if◌then◌else◌, List, [], length, Option, Some, None, refl, sym, ◌∙◌, ap, arith, eqb-true, leb-true}
 use Rattle.std.specs.Prelude.{nat_lt, is_some}
 use Rattle.std.proofs.lemmas.List.{nil_from_length}
-use Rattle.relay_model.specs.Filter.{or_else}
-use Rattle.relay_model.specs.Conserved.{Running}
-use Rattle.relay_model.specs.FilterRun.{nothing_ran}
-use Rattle.relay_model.specs.FilterStep.{after_bytes, ending, stepped}
+use Rattle.filter_model.specs.Filter.{or_else}
+use Rattle.filter_model.specs.Running.{Running}
+use Rattle.filter_model.specs.FilterRun.{nothing_ran}
+use Rattle.filter_model.specs.FilterStep.{after_bytes, ending, stepped}
 use Rattle.relay_state.specs.State.{lane_moved}
 use Rattle.relay_state.specs.Passage.{Passage, holds_back, hold_part, read_by, read_part, move_part, has_moved_all, written_by, write_step, write_part, pass_round}
 use Rattle.relay_sides.specs.Links.{IsTold}

@@ -6,11 +6,11 @@ use Rattle.std.proofs.lemmas.List.{nil_from_length}
 use mathlib.Core.Logic.{◌⊎◌}
 use Rattle.ev_types.specs.declared.filter.FilterKind.{FilterKind}
 use Rattle.ev_types.specs.declared.filter.FilterKind.TheVariants as kind
-use Rattle.relay_model.specs.Conserved.{Running}
-use Rattle.relay_model.specs.FilterRun.{Ran, goes_on, run, adds, is_bad_byte, end_adds}
-use Rattle.relay_model.specs.FilterStep.{count_of, run_of, after_bytes, stop_place, is_finished, Stepped, ending, stepped, most_made}
-use Rattle.relay_model.proofs.FilterRunLemmas.{run-within}
-use Rattle.relay_model.proofs.FilterFitLemmas.{adds-two, end-one}
+use Rattle.filter_model.specs.Running.{Running}
+use Rattle.filter_model.specs.FilterRun.{Ran, goes_on, run, adds, is_bad_byte, end_adds}
+use Rattle.filter_model.specs.FilterStep.{count_of, run_of, after_bytes, stop_place, is_finished, Stepped, ending, stepped, most_made}
+use Rattle.filter_model.proofs.FilterRunLemmas.{run-within}
+use Rattle.filter_model.proofs.FilterFitLemmas.{adds-two, end-one}
 use Rattle.stream_filters.specs.StepAnswers.{most_by_step}
 use Rattle.bev_filter.specs.StepRoom.{hands_on, goes_whole, HasStepRoom}
 use Rattle.stream_filters.proofs.ShiftLemmas.{step-shift}

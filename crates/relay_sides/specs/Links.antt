@@ -9,7 +9,7 @@ use Rattle.ev_types.specs.Sides.{number, peer}
 use Rattle.relay_model.specs.Settings.{usual}
 use Rattle.relay_model.specs.Plain.{PlainSide, no_side, new_side}
 use Rattle.relay_model.specs.Flow.{Flow, no_flow}
-use Rattle.relay_model.specs.FilterStep.{begun}
+use Rattle.filter_model.specs.FilterStep.{begun}
 use Rattle.relay_model.specs.Rooms.{most_at_once, mark_or}
 use Rattle.relay_model.specs.Moments.{active_at}
 use Rattle.relay_state.specs.State.{Lane, no_lane, lane_got, lane_moved, lane_taken, lane_left, lane_lost}

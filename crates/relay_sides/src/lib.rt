@@ -18,6 +18,6 @@ pub use bev_core::Dir;
 pub use counts::{Counts, SPENT};
 pub use flags::SideFlags;
 pub use opening::NewSide;
-pub use relay_settings::{Marks, Timeouts};
+pub use ev_types::{Marks, Timeouts};
 pub use side::MOST_AT_ONCE;
 pub use sides::Sides;

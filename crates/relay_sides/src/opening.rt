@@ -8,7 +8,7 @@ use crate::sides::Sides;
 use bev_core::Dir;
 use bev_world::World;
 use ev_types::{FilterKind, NoMemory};
-use relay_settings::{Marks, Timeouts};
+use ev_types::{Marks, Timeouts};
 
 /// What a side gets as its link opens: its marks and timeouts, its two filters, and whether its end is connected.
 ///

@@ -6,7 +6,7 @@ use Rattle.relay_model.specs.Settings.{Settings, rate_set}
 use Rattle.relay_model.specs.Plain.{with_link}
 use Rattle.relay_model.specs.Rooms.{read_kind, write_kind}
 use Rattle.relay_model.specs.Conserved.{no_buffers}
-use Rattle.relay_model.specs.FilterStep.{begun}
+use Rattle.filter_model.specs.FilterStep.{begun}
 use Rattle.relay_state.specs.State.{State, Lane}
 use Rattle.relay_state.specs.Running.{gauge_begun}
 

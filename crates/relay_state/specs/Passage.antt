@@ -1,9 +1,9 @@
 -- A direction as passing sees it, and what the parts of a round of passing do to it. Each filter makes one step of a round, over the
 -- buffers alone.
 use Rattle.std.specs.Prelude.{◌≡◌, ℕ, zero, suc, ◌+◌, ◌/◌, Bool, true, false, ◌==◌, ◌&&◌, not, nat_le, if◌then◌else◌, length, fold, Option}
-use Rattle.relay_model.specs.Filter.{or_else}
+use Rattle.filter_model.specs.Filter.{or_else}
 use Rattle.relay_model.specs.Flow.{Flow}
-use Rattle.relay_model.specs.FilterStep.{Stepped, stepped}
+use Rattle.filter_model.specs.FilterStep.{Stepped, stepped}
 use Rattle.relay_model.specs.Round.{Part, parts_of}
 use Rattle.relay_state.specs.State.{Lane, lane_turned, lane_moved, lane_written}
 

@@ -7,8 +7,9 @@ use Rattle.ev_types.specs.Sides.{number}
 use Rattle.relay_model.specs.Settings.{Settings}
 use Rattle.relay_model.specs.Due.{Reason}
 use Rattle.relay_model.specs.Plain.{Plain, nothing_yet, side_at}
-use Rattle.relay_model.specs.Conserved.{Buffers, Running, no_buffers}
-use Rattle.relay_model.specs.FilterStep.{Stepped, begun}
+use Rattle.relay_model.specs.Conserved.{Buffers, no_buffers}
+use Rattle.filter_model.specs.Running.{Running}
+use Rattle.filter_model.specs.FilterStep.{Stepped, begun}
 use Rattle.relay_state.specs.Running.{Gauge, no_gauge, gauge_after}
 
 -- What a direction keeps beside its counts: the bytes on their way, the two filters that run, and how many bytes were read at the

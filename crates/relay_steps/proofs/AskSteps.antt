@@ -1,6 +1,6 @@
 -- Hooks: a reason is fired, the hook asks of any side, and what the relay stands for goes on.
 use Rattle.std.proofs.Common.{◌≡◌, inl, inr, ◌+◌, ◌-◌, ◌<◌, Bool, true, false, not, if◌then◌else◌, nat_le, List, [], ◌∷◌, ◌++◌, Option, Some, None, refl, sym, ◌∙◌, ap, subst, arith, append_assoc}
-use Rattle.std.specs.Prelude.{is_some}
+use Rattle.std.specs.Prelude.{is_some, slice_set}
 use Rattle.std.proofs.lemmas.List.{get_or_past}
 use Rattle.std.proofs.lemmas.Bool.Decides.{leb_tells}
 use Rattle.token_bucket.specs.declared.limit.Dir.TheVariants as dir
@@ -30,13 +30,11 @@ use Rattle.relay_model.specs.Turn.{Reaches, Puts, after_fire}
 use Rattle.relay_model.proofs.AccountedLemmas.{entries_keep_accounts}
 use Rattle.relay_model.proofs.KeepsLemmas.{raised_read, raised_write}
 use Rattle.relay_model.proofs.RatesTold.{ask-live, not-false}
-use Rattle.relay_state.specs.State.{State, lane_at, with_plain}
+use Rattle.relay_state.specs.State.{State, lane_at, with_plain, gauge_at}
 use Rattle.relay_state.specs.Serving.{raise_read, raise_write}
 use Rattle.relay_state.specs.Closing.{freed}
 use Rattle.token_bucket.specs.declared.limit.LimitCfg.{LimitCfg}
-use Rattle.std.specs.Prelude.{slice_set}
 use Rattle.relay_state.specs.Running.{gauge_set}
-use Rattle.relay_state.specs.State.{gauge_at}
 use Rattle.relay_steps.proofs.RateSteps.{change-is, set-fits, set-gauged}
 use Rattle.relay_state.specs.Asking.{left_to_fire, is_of_group, asked, ask_events}
 use Rattle.relay_steps.specs.Meaning.{StandsFor}

@@ -1,6 +1,6 @@
 -- What waits to be fired is of a live side that has a hook, and its flags fit a byte: what each change of the plain state leaves of that.
 use Rattle.std.proofs.Common.{◌≡◌, ◌≢◌, ◌+◌, ◌-◌, ℕ, Bool, true, false, ◌&&◌, not, nat_le, nat_lt, if◌then◌else◌, List, [], ◌∷◌, ◌++◌, fold, Option, Some, None, refl, sym, ◌∙◌, ap, subst, arith}
-use Rattle.std.specs.Prelude.{filter}
+use Rattle.std.specs.Prelude.{filter, ◌^◌, ◌<◌, ◌≤◌, IfSome}
 use Rattle.std.specs.List.{All}
 use Rattle.std.proofs.lemmas.List.Elements.{All-nil, All-cons, All-head, All-tail, All-append}
 use Rattle.std.proofs.lemmas.Bool.{and_parts}
@@ -19,14 +19,14 @@ use Rattle.ev_types.specs.declared.why.Why.{Why}
 use Rattle.ev_types.specs.declared.why.Why.TheVariants as why
 use Rattle.ev_types.specs.Sides.{peer, same_end}
 use Rattle.relay_model.specs.Settings.{Settings}
-use Rattle.relay_model.specs.Due.{Due, Reason, with_reason, without_due, without_reasons, joined, nothing_due, reason_where, event_reason, reasons, event, batch}
+use Rattle.relay_model.specs.Due.{Due, Reason, with_reason, without_due, without_reasons, joined, nothing_due, reason_where, event_reason, reasons, event, batch, joined_flags}
 use Rattle.relay_model.specs.Flow.{Flow}
 use Rattle.relay_model.specs.Plain.{Plain, PlainSide, Timer, side_at, is_live, change_side, change_flow, freed, without_timer, placed, flow_at, all_sides}
 use Rattle.relay_model.specs.Past.{Past}
 use Rattle.relay_model.specs.Rooms.{wants, read_filter, write_filter, read_mark, hold_mark}
 use Rattle.relay_model.specs.Reasons.{has_hook, raise, raise_read, raise_write, happened, end_flag, error_flag, timeout_flag}
 use Rattle.relay_model.specs.Moments.{is_timed, has_run_out, active_at, expire, both_ways, timers_taken, timed, side_timed, time_passed}
-use Rattle.relay_model.specs.Filter.{or_else}
+use Rattle.filter_model.specs.Filter.{or_else}
 use Rattle.relay_model.specs.Pass.{with_used, read_place, with_turned, write_place, with_held, with_read_done, with_moved, with_write_done}
 use Rattle.relay_model.specs.Asks.{done, enabled, marked, limit_set}
 use Rattle.relay_model.specs.Round.{Part, meets, read_run, write_run, do_part}
@@ -34,9 +34,7 @@ use Rattle.relay_model.specs.Serve.{after_conn, after_read, after_got, after_wri
 use Rattle.relay_model.proofs.EndLemmas.{same_end-refl}
 use Rattle.relay_model.proofs.PlainLemmas.{seen-change}
 use Rattle.relay_steps.proofs.FitLemmas.{side-put_other}
-use Rattle.std.specs.Prelude.{◌^◌, ◌<◌, ◌≤◌, IfSome}
 use Rattle.std.proofs.lemmas.Nat.{or_of_8}
-use Rattle.relay_model.specs.Due.{joined_flags}
 use Rattle.relay_steps.specs.ToFire.{IsHooked, FlagsFit, DueOf, ReasonOf}
 
 -- A step that leaves who lives, and lets no other reason become due.

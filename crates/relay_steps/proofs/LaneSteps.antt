@@ -1,7 +1,6 @@
 -- What the answers of ends change of a lane: it goes on fitting as bytes are got at its beginning, as that ends, and as bytes are
 -- taken at its end.
-use Rattle.std.proofs.Common.{◌≡◌, ℕ, ◌+◌, ◌<◌, ◌≤◌, Bool, true, false, ◌&&◌, if◌then◌else◌, List, [], ◌++◌, length, take, drop}
-use Rattle.std.proofs.Common.{refl, sym, ◌∙◌, ap, subst, arith, length-append}
+use Rattle.std.proofs.Common.{◌≡◌, ℕ, ◌+◌, ◌<◌, ◌≤◌, Bool, true, false, ◌&&◌, if◌then◌else◌, List, [], ◌++◌, length, take, drop, refl, sym, ◌∙◌, ap, subst, arith, length-append}
 use Rattle.std.specs.Prelude.{⊤, nat_lt, nat_eq, Option, Some, None, MatchOption}
 use Rattle.std.proofs.lemmas.Bool.{ltb-true, lt-ltb}
 use Rattle.std.proofs.lemmas.List.{take-append-le}
@@ -9,10 +8,11 @@ use Rattle.ev_types.specs.declared.filter.FilterKind.{FilterKind}
 use Rattle.ev_types.specs.declared.side.SideId.{SideId}
 use Rattle.ev_types.specs.Sides.{peer}
 use Rattle.relay_model.specs.Settings.{Settings}
-use Rattle.relay_model.specs.Filter.{Filter, met}
-use Rattle.relay_model.specs.FilterLaws.{last_of}
+use Rattle.filter_model.specs.Filter.{Filter, met}
+use Rattle.filter_model.specs.FilterLaws.{last_of}
 use Rattle.relay_model.specs.Flow.{middle, raw_input, raw_output}
-use Rattle.relay_model.specs.Conserved.{Buffers, Running, StandsAt, left}
+use Rattle.relay_model.specs.Conserved.{Buffers, left}
+use Rattle.filter_model.specs.Running.{Running, StandsAt}
 use Rattle.relay_model.specs.Plain.{Plain}
 use Rattle.relay_model.specs.Rooms.{read_kind, write_kind, read_filter, write_filter}
 use Rattle.relay_model.proofs.FlowSteps.{middle-got, raw_input-got, raw_output-given}

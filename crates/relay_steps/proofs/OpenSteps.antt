@@ -2,9 +2,9 @@
 use Rattle.std.proofs.Common.{◌≢◌, ◌⊎◌, ◌≤◌, option_map, ◌≡◌, inl, inr, ℕ, ◌+◌, ◌*◌, ◌<◌, Bool, true, false, if◌then◌else◌, List, [], ◌∷◌, ◌++◌, length, drop, Option, Some, None, refl, sym, ◌∙◌, ap, subst, arith, slice_index_or, length-append}
 use Rattle.std.specs.Prelude.{is_some}
 use Rattle.std.specs.List.{list_any}
-use Rattle.std.proofs.lemmas.Bool.{or_parts}
+use Rattle.std.proofs.lemmas.Bool.{or_parts, cases_lt}
 use Rattle.std.proofs.lemmas.Bool.Decides.{eqb_tells}
-use Rattle.std.proofs.lemmas.List.{get_or_append_left, get_or-append-add}
+use Rattle.std.proofs.lemmas.List.{get_or_append_left, get_or-append-add, get_or_past}
 use Rattle.ev_types.specs.declared.side.Side.{Side}
 use Rattle.ev_types.specs.declared.side.Side.TheVariants.{In, Out}
 use Rattle.ev_types.specs.declared.side.SideId.{SideId}
@@ -14,38 +14,34 @@ use Rattle.ev_types.specs.declared.filter.FilterKind.{FilterKind}
 use Rattle.ev_types.specs.Sides.{other, peer, half, number}
 use Rattle.ev_types.specs.Trace.{Event, Trace}
 use Rattle.relay_model.specs.Trace.{read_by, ended_by, bytes_read}
-use Rattle.relay_model.specs.Filter.{Filter, filter_of}
-use Rattle.relay_model.specs.FilterLaws.{BadLaw, last_of}
-use Rattle.relay_model.specs.FilterStep.{begun}
+use Rattle.filter_model.specs.Filter.{Filter, filter_of}
+use Rattle.filter_model.specs.FilterLaws.{BadLaw, last_of}
+use Rattle.filter_model.specs.FilterStep.{begun}
 use Rattle.relay_model.specs.Flow.{no_flow}
-use Rattle.relay_model.specs.Conserved.{StandsAt, all_moved}
-use Rattle.relay_model.specs.Settings.{Settings}
-use Rattle.relay_model.specs.Plain.{Plain, with_link, side_at, flow_at}
+use Rattle.relay_model.specs.Conserved.{all_moved}
+use Rattle.filter_model.specs.Running.{StandsAt}
+use Rattle.relay_model.specs.Settings.{Settings, rate_set, group_set}
+use Rattle.relay_model.specs.Plain.{Plain, with_link, side_at, flow_at, Standing, first_limit}
 use Rattle.relay_model.specs.Rooms.{Want, read_kind, write_kind}
 use Rattle.relay_model.specs.Stages.{Stage, at}
 use Rattle.relay_model.specs.Told.{names}
 use Rattle.relay_model.specs.Turn.{Reaches, most_opened}
 use Rattle.relay_model.proofs.AccountedLemmas.{entries_keep_accounts}
-use Rattle.relay_model.proofs.EveryFilter.{every_filter, begins_with_input}
+use Rattle.filter_model.proofs.EveryFilter.{every_filter, begins_with_input}
 use Rattle.relay_model.proofs.FlowSteps.{left-first}
 use Rattle.relay_model.proofs.PlainLemmas.{side_at-new, side_at-old}
 use Rattle.relay_model.proofs.ToldLemmas.{kept, ended-names, none_of}
-use Rattle.relay_state.specs.State.{State, no_lane, lane_at}
+use Rattle.relay_state.specs.State.{State, no_lane, lane_at, gauge_in, gauge_at}
 use Rattle.relay_state.specs.Opening.{new_lane, after_opened}
 use Rattle.relay_steps.specs.Meaning.{LaneFits, StandsFor}
 use Rattle.relay_steps.proofs.EndLemmas.{IsSilent, SameTold, told-same, number-below}
 use Rattle.relay_model.proofs.EndLemmas.{number-ge}
 use Rattle.relay_model.proofs.SpellLemmas.{spells-count}
 use Rattle.relay_model.proofs.ReachLemmas.{shape-is_told}
-use Rattle.relay_model.specs.Settings.{rate_set, group_set}
-use Rattle.relay_model.specs.Plain.{Standing, first_limit}
 use Rattle.relay_model.specs.Rates.{side_spells}
 use Rattle.token_bucket.specs.declared.limit.Dir.{Dir}
 use Rattle.token_bucket.specs.declared.limit.LimitCfg.{LimitCfg}
-use Rattle.std.proofs.lemmas.Bool.{cases_lt}
-use Rattle.std.proofs.lemmas.List.{get_or_past}
 use Rattle.relay_state.specs.Running.{Gauge, no_gauge, gauge_begun, first_gauge}
-use Rattle.relay_state.specs.State.{gauge_in, gauge_at}
 use Rattle.relay_steps.specs.Gauges.{BucketFits, Gauged}
 use Rattle.relay_steps.proofs.GaugeSteps.{bucket-silent, bucket-first}
 use Rattle.relay_steps.proofs.RateLemmas.{beat-none}

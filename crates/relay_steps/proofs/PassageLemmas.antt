@@ -7,7 +7,7 @@ use Rattle.ev_types.specs.Sides.{number, peer}
 use Rattle.ev_types.specs.Trace.{Trace}
 use Rattle.relay_model.specs.Trace.{bytes_read, has_ended}
 use Rattle.relay_model.specs.Settings.{Settings}
-use Rattle.relay_model.specs.Filter.{Filter, or_else}
+use Rattle.filter_model.specs.Filter.{Filter, or_else}
 use Rattle.relay_model.specs.Flow.{Flow, Fits}
 use Rattle.relay_model.specs.Plain.{Plain, PlainSide, side_at, flow_at, put_side, put_flow, change_side, is_live}
 use Rattle.relay_model.specs.Past.{Past, past}

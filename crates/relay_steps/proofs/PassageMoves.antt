@@ -6,10 +6,11 @@ use Rattle.std.proofs.lemmas.Bool.Decides.{nat_tests}
 use Rattle.std.proofs.lemmas.List.{length-drop, length-take-le, take-take, take_all}
 use Rattle.std.proofs.Math.ListN.{drop_of_length-le}
 use Rattle.ev_types.specs.declared.filter.FilterKind.{FilterKind}
-use Rattle.relay_model.specs.Filter.{Filter, filter_of, met}
-use Rattle.relay_model.specs.FilterLaws.{last_of}
+use Rattle.filter_model.specs.Filter.{Filter, filter_of, met}
+use Rattle.filter_model.specs.FilterLaws.{last_of}
 use Rattle.relay_model.specs.Flow.{Flow, Fits, middle, outcome, input, output, raw_input, raw_output}
-use Rattle.relay_model.specs.Conserved.{StandsAt, Holds, left, all_moved}
+use Rattle.relay_model.specs.Conserved.{Holds, left, all_moved}
+use Rattle.filter_model.specs.Running.{StandsAt}
 use Rattle.relay_model.specs.Pass.{with_held, with_moved}
 use Rattle.relay_model.proofs.FlowSteps.{output-moved}
 use Rattle.relay_state.specs.State.{Lane}

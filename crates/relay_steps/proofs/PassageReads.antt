@@ -4,10 +4,11 @@ use Rattle.std.specs.Prelude.{nat_eq}
 use Rattle.std.proofs.lemmas.Bool.{and_parts}
 use Rattle.std.proofs.lemmas.List.{append-nil, take-append-le}
 use Rattle.ev_types.specs.declared.filter.FilterKind.{FilterKind}
-use Rattle.relay_model.specs.Filter.{Filter, filter_of, or_else}
+use Rattle.filter_model.specs.Filter.{Filter, filter_of, or_else}
 use Rattle.relay_model.specs.Flow.{Flow, Fits, middle, input, raw_input}
-use Rattle.relay_model.specs.Conserved.{StandsAt, all_moved}
-use Rattle.relay_model.specs.FilterStep.{Stepped, stepped}
+use Rattle.relay_model.specs.Conserved.{all_moved}
+use Rattle.filter_model.specs.Running.{StandsAt}
+use Rattle.filter_model.specs.FilterStep.{Stepped, stepped}
 use Rattle.relay_model.specs.Pass.{with_used, read_place, with_read_done}
 use Rattle.relay_model.proofs.FlowSteps.{raw_input-used, outcome-grown, input-grown, output-grown, raw_output-grown}
 use Rattle.relay_state.specs.Passage.{Passage, read_part, read_by}

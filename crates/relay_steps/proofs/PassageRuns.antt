@@ -4,13 +4,13 @@ use Rattle.std.specs.Prelude.{is_some, nat_le, nat_lt, ⊤, MatchOption}
 use Rattle.std.proofs.lemmas.Bool.{eqb-true}
 use Rattle.std.proofs.lemmas.Bool.Decides.{nat_tests}
 use Rattle.ev_types.specs.declared.filter.FilterKind.{FilterKind}
-use Rattle.relay_model.specs.Filter.{Filter, filter_of, met, holds, or_else}
-use Rattle.relay_model.specs.Conserved.{Running, StandsAt}
-use Rattle.relay_model.specs.Pass.{first_from, is_over}
-use Rattle.relay_model.specs.FilterStep.{Stepped, stepped, run_of, after_bytes, ending}
-use Rattle.relay_model.specs.FilterRun.{Ran}
-use Rattle.relay_model.specs.FilterCuts.{must_stop, IsStep}
-use Rattle.relay_model.proofs.FilterStepLemmas.{step_is_function}
+use Rattle.filter_model.specs.Filter.{Filter, filter_of, met, holds, or_else}
+use Rattle.filter_model.specs.Running.{Running, StandsAt}
+use Rattle.filter_model.specs.Stopping.{first_from, is_over}
+use Rattle.filter_model.specs.FilterStep.{Stepped, stepped, run_of, after_bytes, ending}
+use Rattle.filter_model.specs.FilterRun.{Ran}
+use Rattle.filter_model.specs.FilterCuts.{must_stop, IsStep}
+use Rattle.filter_model.proofs.FilterStepLemmas.{step_is_function}
 
 -- Places that are met, and the first of them in time
 

@@ -5,11 +5,12 @@ use Rattle.std.proofs.lemmas.Bool.{and_parts, eqb-true}
 use Rattle.std.proofs.lemmas.List.{length-drop, length-take-le, take-take, take_all}
 use Rattle.std.proofs.Math.Bool.{or-false}
 use Rattle.ev_types.specs.declared.filter.FilterKind.{FilterKind}
-use Rattle.relay_model.specs.Filter.{Filter, filter_of, or_else, met}
+use Rattle.filter_model.specs.Filter.{Filter, filter_of, or_else, met}
 use Rattle.relay_model.specs.Flow.{Flow, Fits, middle, outcome, input, output, raw_input, raw_output}
 use Rattle.relay_model.specs.Conserved.{all_moved}
-use Rattle.relay_model.specs.FilterStep.{Stepped, stepped}
-use Rattle.relay_model.specs.Pass.{first_from, is_over, write_stops, with_turned, write_place, with_write_done}
+use Rattle.filter_model.specs.FilterStep.{Stepped, stepped}
+use Rattle.relay_model.specs.Pass.{write_stops, with_turned, write_place, with_write_done}
+use Rattle.filter_model.specs.Stopping.{first_from, is_over}
 use Rattle.relay_model.proofs.FlowSteps.{output-turned, raw_output-turned}
 use Rattle.relay_state.specs.Passage.{Passage, write_part, written_by, has_moved_all}
 use Rattle.relay_steps.proofs.PassageRuns.{Turned, turned, stops_at, left_at, made_at, first_from-same, or_else-some, or_else-none}

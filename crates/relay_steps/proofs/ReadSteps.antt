@@ -1,7 +1,5 @@
 -- A marked side is read: the read is the one that the model calls for, and what its answer changes is what it changes there.
-use Rattle.std.proofs.Common.{length, ◌≡◌, ◌≢◌, ℕ, ◌*◌, ◌-◌, ◌<◌, Bool, true, false, not, ◌||◌, nat_le, min}
-use Rattle.std.proofs.Common.{if◌then◌else◌, List, [], ◌∷◌, ◌++◌, slice_set}
-use Rattle.std.proofs.Common.{refl, sym, ◌∙◌, ap, subst}
+use Rattle.std.proofs.Common.{length, ◌≡◌, ◌≢◌, ℕ, ◌*◌, ◌-◌, ◌<◌, Bool, true, false, not, ◌||◌, nat_le, min, if◌then◌else◌, List, [], ◌∷◌, ◌++◌, slice_set, refl, sym, ◌∙◌, ap, subst}
 use Rattle.std.specs.Prelude.{nat_lt, is_some}
 use Rattle.std.proofs.lemmas.List.{length-set}
 use Rattle.token_bucket.specs.declared.limit.Dir.TheVariants as dir
@@ -16,7 +14,7 @@ use Rattle.relay_model.specs.Settings.{Settings}
 use Rattle.relay_model.specs.Plain.{Plain, PlainSide, side_at, flow_at, is_live, change_side}
 use Rattle.relay_model.specs.Past.{Past, past}
 use Rattle.relay_model.specs.Moments.{active_at}
-use Rattle.relay_model.specs.Rooms.{Want, most_at_once, read_mark, may_read, is_connecting}
+use Rattle.relay_model.specs.Rooms.{Want, most_at_once, read_mark, may_read, is_connecting, at_most}
 use Rattle.relay_model.specs.Reasons.{happened, end_flag, error_flag}
 use Rattle.relay_model.specs.Serve as model
 use Rattle.relay_model.specs.Serve.{Call, call_for, CarriesGot}
@@ -29,7 +27,7 @@ use Rattle.relay_model.proofs.ToldLemmas.{kept}
 use Rattle.relay_model.proofs.TraceLemmas.{bytes_read-push, has_ended-push}
 use Rattle.relay_model.proofs.AccountedLemmas.{entries_keep_accounts}
 use Rattle.relay_state.specs.State.{State, Lane, lane_at, lane_got}
-use Rattle.relay_state.specs.Rooms.{input_length, read_room}
+use Rattle.relay_state.specs.Rooms.{input_length, read_room, allowance}
 use Rattle.relay_state.specs.Serving.{with_got, after_read}
 use Rattle.relay_steps.specs.Meaning.{LaneFits, StandsFor}
 use Rattle.relay_steps.proofs.EndLemmas.{same_end-apart, read-silent, ended-silent}
@@ -42,8 +40,6 @@ use Rattle.relay_steps.proofs.MovedSteps.{MovesAt, moved-gauged}
 use Rattle.relay_steps.proofs.BeforeLemmas.{set-before}
 use Rattle.relay_model.specs.Rates.{Moves, beat_of}
 use Rattle.token_bucket.specs.declared.limit.Dir.{Dir}
-use Rattle.relay_model.specs.Rooms.{at_most}
-use Rattle.relay_state.specs.Rooms.{allowance}
 use Rattle.relay_steps.proofs.StillSteps.{IsStill, put-stands, still-same, still-event, still-raised, sight-of, one-fits, lane_in, in_lanes}
 use Rattle.relay_steps.proofs.ServeSteps.{if_true, some-may, one_or_more, mark, call-is, marks-are}
 

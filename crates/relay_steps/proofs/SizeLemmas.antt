@@ -3,7 +3,7 @@ use Rattle.std.proofs.Common.{ℕ, suc, ◌+◌, ◌*◌, ◌≤◌, Bool, true,
 use Rattle.std.proofs.lemmas.List.{length-take}
 use Rattle.ev_types.specs.declared.filter.FilterKind.{FilterKind}
 use Rattle.ev_types.specs.declared.filter.FilterKind.TheVariants as kind
-use Rattle.relay_model.specs.Filter.{CR, LF, is_hex, hex_value, crlf_after, to_lf, last_cr, hex_out, hex_in, filter_of}
+use Rattle.filter_model.specs.Filter.{CR, LF, is_hex, hex_value, crlf_after, to_lf, last_cr, hex_out, hex_in, filter_of}
 use Rattle.relay_model.specs.Flow.{Flow, middle, outcome}
 
 crlf-most : (last : ℕ) (xs : List ℕ) → length (crlf_after last xs) ≤ 2 * length xs

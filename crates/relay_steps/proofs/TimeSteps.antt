@@ -1,7 +1,7 @@
 -- How a turn begins: each side is looked at in turn, and what the relay makes of it is what the model makes, since at every place what a
 -- side wants is the model's.
 use Rattle.std.proofs.Common.{◌≡◌, ℕ, zero, suc, ◌+◌, ◌<◌, ◌≤◌, Bool, true, false, not, if◌then◌else◌, [], ◌∷◌, ◌++◌, fold, filter, refl, sym, ◌∙◌, ap, subst, arith}
-use Rattle.std.specs.Prelude.{nat_le, nat_lt}
+use Rattle.std.specs.Prelude.{nat_le, nat_lt, option_map, List, ◌*◌}
 use Rattle.token_bucket.specs.declared.limit.Dir.{Dir}
 use Rattle.token_bucket.specs.declared.limit.Dir.TheVariants as dir
 use Rattle.ev_types.specs.declared.side.Side.TheVariants.{In, Out}
@@ -19,17 +19,14 @@ use Rattle.relay_model.specs.Moments as model
 use Rattle.relay_model.specs.Moments.{is_timed, has_run_out, active_at, expire, both_ways, timers_taken, time_passed}
 use Rattle.relay_model.specs.Stages.{Stage}
 use Rattle.relay_model.specs.Turn.{turned_to}
-use Rattle.relay_model.proofs.Frames.{active-rates, expire-rates}
+use Rattle.relay_model.proofs.Frames.{active-rates, expire-rates, rates_of, frame-timed, frame-fold, frame-raise, frame-time_passed}
 use Rattle.relay_model.proofs.SeenLemmas.{but_expired}
-use Rattle.relay_state.specs.State.{State, with_plain}
+use Rattle.relay_state.specs.State.{State, with_plain, gauge_in, gauge_at}
 use Rattle.relay_state.specs.Time.{timed, side_timed, begun}
 use Rattle.relay_steps.specs.Meaning.{StandsFor}
 use Rattle.relay_steps.proofs.EndLemmas.{IsSilent, told-same}
-use Rattle.std.specs.Prelude.{option_map, List, ◌*◌}
 use Rattle.relay_model.specs.Rates.{side_spells, standing_level}
-use Rattle.relay_model.proofs.Frames.{rates_of, frame-timed, frame-fold, frame-raise, frame-time_passed}
 use Rattle.relay_state.specs.Running.{Gauge, held_at}
-use Rattle.relay_state.specs.State.{gauge_in, gauge_at}
 use Rattle.relay_steps.specs.Gauges.{BucketFits, Gauged}
 use Rattle.relay_steps.proofs.GaugeSteps.{bucket-turn}
 use Rattle.relay_steps.proofs.RoomLemmas.{allowed-is, SideFits, wants-fits, stands-fits}

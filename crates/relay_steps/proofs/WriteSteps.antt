@@ -1,8 +1,6 @@
 -- A marked side is given what waits for it: the write is the one that the model calls for, and what its answer changes is what it
 -- changes there.
-use Rattle.std.proofs.Common.{◌≡◌, ◌≢◌, ℕ, ◌+◌, ◌*◌, ◌<◌, ◌≤◌, Bool, true, false, ◌&&◌, nat_le, min}
-use Rattle.std.proofs.Common.{if◌then◌else◌, List, [], ◌∷◌, ◌++◌, length, take, slice_set}
-use Rattle.std.proofs.Common.{refl, sym, ◌∙◌, ap, subst, arith, length-take-le, take-take}
+use Rattle.std.proofs.Common.{◌≡◌, ◌≢◌, ℕ, ◌+◌, ◌*◌, ◌<◌, ◌≤◌, Bool, true, false, ◌&&◌, nat_le, min, if◌then◌else◌, List, [], ◌∷◌, ◌++◌, length, take, slice_set, refl, sym, ◌∙◌, ap, subst, arith, length-take-le, take-take}
 use Rattle.std.specs.Prelude.{nat_lt, is_some, Option, Some, None}
 use Rattle.std.proofs.lemmas.List.{length-set}
 use Rattle.token_bucket.specs.declared.limit.Dir.TheVariants as dir
@@ -22,7 +20,7 @@ use Rattle.relay_model.specs.Plain.{Plain, side_at, flow_at, is_live, change_sid
 use Rattle.relay_model.specs.Past.{Past, past}
 use Rattle.relay_model.specs.Moments.{active_at}
 use Rattle.relay_model.specs.Rooms as rooms
-use Rattle.relay_model.specs.Rooms.{Want, most_at_once, read_filter, write_filter, may_write, is_connecting, raw_output_at}
+use Rattle.relay_model.specs.Rooms.{Want, most_at_once, read_filter, write_filter, may_write, is_connecting, raw_output_at, at_most}
 use Rattle.relay_model.specs.Reasons.{raise, happened, error_flag}
 use Rattle.relay_model.specs.Reasons as reasons
 use Rattle.relay_model.specs.Serve as model
@@ -35,25 +33,20 @@ use Rattle.relay_model.proofs.KeepsLemmas.{raised_write}
 use Rattle.relay_model.proofs.PlacedLemmas.{may_write-live}
 use Rattle.relay_model.proofs.PlainLemmas.{seen-change}
 use Rattle.relay_model.proofs.AccountedLemmas.{entries_keep_accounts}
-use Rattle.relay_state.specs.State.{State, Lane, lane_at, with_plain, lane_taken}
-use Rattle.relay_state.specs.Rooms.{waiting_for, output_length, write_room, offer}
+use Rattle.relay_state.specs.State.{State, Lane, lane_at, with_plain, lane_taken, gauges_after}
+use Rattle.relay_state.specs.Rooms.{waiting_for, output_length, write_room, offer, allowance}
 use Rattle.relay_state.specs.Serving.{flow_given, with_taken, after_took, after_write}
 use Rattle.relay_steps.specs.Meaning.{LaneFits, StandsFor}
 use Rattle.relay_steps.proofs.EndLemmas.{same_end-apart, peer-peer, read-silent, ended-silent}
-use Rattle.relay_steps.proofs.FitLemmas.{sight, FitsSight, seen-fits, fits-seen, fits-same}
-use Rattle.relay_steps.proofs.FitLemmas.{lane-set, lane-set_other, flow-put, flow-put_other}
+use Rattle.relay_steps.proofs.FitLemmas.{sight, FitsSight, seen-fits, fits-seen, fits-same, lane-set, lane-set_other, flow-put, flow-put_other}
 use Rattle.relay_steps.proofs.MovedSteps.{MovesAt, moved-gauged}
 use Rattle.relay_steps.proofs.BeforeLemmas.{set-before}
 use Rattle.relay_steps.specs.Gauges.{Gauged}
 use Rattle.relay_model.specs.Rates.{Moves, beat_of}
 use Rattle.token_bucket.specs.declared.limit.Dir.{Dir}
-use Rattle.relay_model.specs.Rooms.{at_most}
-use Rattle.relay_state.specs.State.{gauges_after}
-use Rattle.relay_state.specs.Rooms.{allowance}
 use Rattle.relay_steps.proofs.RoomLemmas.{allowed-is, SideFits, waiting-is, output_length-fits}
 use Rattle.relay_steps.proofs.LaneSteps.{fits-taken}
-use Rattle.relay_steps.proofs.StillSteps.{IsStill, still-gauged, put-stands, still-same, still-sight, still-due, still-event, still-raised}
-use Rattle.relay_steps.proofs.StillSteps.{sight-of, one-fits, lane_in, in_flows, in_lanes}
+use Rattle.relay_steps.proofs.StillSteps.{IsStill, still-gauged, put-stands, still-same, still-sight, still-due, still-event, still-raised, sight-of, one-fits, lane_in, in_flows, in_lanes}
 use Rattle.relay_steps.proofs.ServeSteps.{if_true, some-may, one_or_more, mark, call-is, marks-are}
 
 -- a plain state that is another one where a test holds

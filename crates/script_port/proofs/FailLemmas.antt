@@ -1,7 +1,7 @@
 -- Which calls of a port that fails at one call are counted as faults.
 use Rattle.std.proofs.Common.{◌≡◌, ◌≢◌, ℕ, Bool, true, false, if◌then◌else◌, List, Option, refl, sym, ap, subst, arith, inl, inr}
 use Rattle.std.proofs.lemmas.Bool.{and_parts}
-use Rattle.stream_words.specs.Faults.{Counted}
+use Rattle.ev_port.specs.FaultCounts.{Counted}
 use Rattle.ev_types.specs.declared.side.SideId.{SideId}
 use Rattle.ev_types.specs.Sides.{same_end}
 use Rattle.ev_port.specs.declared.port.Want.{Want}

@@ -196,12 +196,12 @@ module _ (turns : List ScriptTurn) (t : Trace) (asked : IsCalledFor turns t) (l 
 
   pub poll_is : (timeout : Option ℕ) (ws : List Want) (accept : Bool) (closing_by : ℕ) →
       poll_events timeout (poll_marks l ws) (if l.poll_fails then polled.Failed else polled.Ready accept) ≡ plays.events turns
-      closing_by t (plays.Step.Poll timeout (map wish ws))
+      closing_by t (plays.PlayStep.Poll timeout (map wish ws))
   poll_is timeout ws accept closing_by = by_line l.poll_fails refl
     where
       by_line : (b : Bool) → l.poll_fails ≡ b →
           poll_events timeout (if b then map unmarked ws else map (λ w. marked l w) ws) (if b then polled.Failed else polled.Ready
-          accept) ≡ plays.events turns closing_by t (plays.Step.Poll timeout (map wish ws))
+          accept) ≡ plays.events turns closing_by t (plays.PlayStep.Poll timeout (map wish ws))
       by_line true fails =
           let wants = wants_same (map unmarked ws) ∙ ap plays.want_events (wishes_kept unmarked (λ w. refl) ws) in
           (λ i. (entry.Poll timeout, []) ∷ (wants i ++ (entry.PollFailed, []) ∷ []))

@@ -68,7 +68,7 @@ module _ (p q : PortState) (turns : q.turns ≡ p.turns) (begun : q.begun ≡ p.
   count_same = let parts = sum_by-append (λ x. if is_turn x then 1 else 0) t u in omega (arith, parts, none)
 
   -- the port goes on by a step of the script
-  go_on : (x : plays.Step) → ((closing_by : ℕ) → u ≡ plays.events p.turns closing_by t x) → LinksStand
+  go_on : (x : plays.PlayStep) → ((closing_by : ℕ) → u ≡ plays.events p.turns closing_by t x) → LinksStand
       (links_of (lines_of p.turns)) (model.lines p.turns t) (t ++ u) q.links → RunsTurn (model.lines_now p.turns t) p.begun q.links
       → PortStands p t → PortStands q (t ++ u)
   go_on x is links runs stands = record {
@@ -103,7 +103,7 @@ no_entry p q turns begun links = λ t vouched.
 
 -- a call whose entries say nothing of ends and links
 quiet_call : (p q : PortState) (u : Trace) → q.turns ≡ p.turns → q.begun ≡ p.begun → Like p.links q.links → Quiet u →
-    ((t : Trace) → IsCalledFor p.turns t → PortStands p t → (x : plays.Step) × ((closing_by : ℕ) → u ≡ plays.events p.turns
+    ((t : Trace) → IsCalledFor p.turns t → PortStands p t → (x : plays.PlayStep) × ((closing_by : ℕ) → u ≡ plays.events p.turns
     closing_by t x)) → Longer (StandsIf p) (StandsIf q) u
 quiet_call p q u turns begun alike quiet step = λ t vouched asked.
     let before = called_before p.turns t u (subst (λ z. IsCalledFor z (t ++ u)) turns asked) in
@@ -121,18 +121,18 @@ pub close_write_stood : (p : PortState) (e : SideId) → Longer (StandsIf p)
 close_write_stood p e =
     quiet_call p (record p { links = at_end e after_close_write p.links }) (close_write_events e) refl refl
     (like-at_end e after_close_write p.links (λ s. counts_alone s (record s.tally { write_ended = true }) refl refl))
-    (quiet-close_write e) (λ t asked stands. (plays.Step.Own (entry.CloseWrite e), λ closing_by. refl))
+    (quiet-close_write e) (λ t asked stands. (plays.PlayStep.Own (entry.CloseWrite e), λ closing_by. refl))
 
 pub close_stood : (p : PortState) (e : SideId) → Longer (StandsIf p) (StandsIf (record p { links = at_end e after_close p.links }))
     (close_events e)
 close_stood p e =
     quiet_call p (record p { links = at_end e after_close p.links }) (close_events e) refl refl
     (like-at_end e after_close p.links (λ s. counts_alone s (record s.tally { closed = true }) refl refl))
-    (quiet-close e) (λ t asked stands. (plays.Step.Own (entry.Close e), λ closing_by. refl))
+    (quiet-close e) (λ t asked stands. (plays.PlayStep.Own (entry.Close e), λ closing_by. refl))
 
 unheard_stood : (p : PortState) (x : Entry) → IsUnheard x → Longer (StandsIf p) (StandsIf p) ((x, []) ∷ [])
 unheard_stood p x h = quiet_call p p ((x, []) ∷ []) refl refl (like p.links) (quiet-unheard x h)
-    (λ t asked stands. (plays.Step.Own x, λ closing_by. unheard_is x h))
+    (λ t asked stands. (plays.PlayStep.Own x, λ closing_by. unheard_is x h))
 
 -- a poll that was answered as the port answers
 answered_poll : (p : PortState) (ws : List Want) (tally : PortTally) (accept : Bool) (timeout : Option ℕ) →
@@ -143,7 +143,7 @@ answered_poll p ws tally accept timeout =
     quiet_call p (record p { links = after_wants marks p.links; tally = tally }) (poll_events timeout marks (poll_answer p accept))
     refl refl (like-wants marks p.links) (quiet-poll timeout marks (poll_answer p accept))
     (λ t asked stands. (
-      plays.Step.Poll timeout (map wish ws),
+      plays.PlayStep.Poll timeout (map wish ws),
       λ closing_by. poll_is p.turns t asked p.links p.begun stands.links
           stands.now timeout ws (poll_accepts p accept) closing_by,
     ))
@@ -165,7 +165,7 @@ check_stood p e = λ t vouched asked.
     let u = conn_events e (conn_answer_at p.links e) in
     let before = called_before p.turns t u asked in
     let stands = vouched before in
-    go_on p (record p { links = at_end e after_check p.links }) refl refl t u refl (plays.Step.Check e)
+    go_on p (record p { links = at_end e after_check p.links }) refl refl t u refl (plays.PlayStep.Check e)
     (λ closing_by. ap (λ (z : ConnAnswer). (entry.Conn e z, []) ∷ []) (sym (conn_is p.turns t before p.links stands.links e)))
     (check_stands (links_of (lines_of p.turns)) (model.lines p.turns t) t e p.links stands.links)
     (runs-at_end (model.lines_now p.turns t) p.begun e after_check p.links (λ s. refl) stands.now) stands
@@ -177,7 +177,7 @@ read_stood p e room = λ t vouched asked.
     let u : Trace = (entry.Read e room (read_answer_at p.links e room), take room (pending_at p.links e)) ∷ [] in
     let before = called_before p.turns t u asked in
     let stands = vouched before in
-    go_on p (record p { links = at_end e (λ s. after_read s room) p.links }) refl refl t u refl (plays.Step.Read e room)
+    go_on p (record p { links = at_end e (λ s. after_read s room) p.links }) refl refl t u refl (plays.PlayStep.Read e room)
     (λ closing_by. ap (λ (z : ReadAnswer × List ℕ). (entry.Read e room z.0, z.1) ∷ []) (sym
     (read_is p.turns t before p.links stands.links e room)))
     (read_stands (links_of (lines_of p.turns)) (model.lines p.turns t) t e room p.links stands.links)
@@ -214,7 +214,7 @@ took_stood p e from within = λ t vouched asked.
     ) ∷ [] in
     let before = called_before p.turns t u asked in
     let stands = vouched before in
-    go_on p (record p { links = at_end e (λ s. after_write s from) p.links }) refl refl t u refl (plays.Step.Write e from)
+    go_on p (record p { links = at_end e (λ s. after_write s from) p.links }) refl refl t u refl (plays.PlayStep.Write e from)
     (λ closing_by. ap (λ (z : WriteAnswer × List ℕ). (entry.Write e (length from) z.0, z.1) ∷ [])
     (sym (write_is p.turns t before p.links stands.links e from (takes_fits p e from within))))
     (write_stands (links_of (lines_of p.turns)) (model.lines p.turns t) t e from p.links within stands.links)
@@ -264,7 +264,7 @@ accept_by p link (wait ∷ later) is = λ t vouched asked.
       links = accept_first link (wait ∷ later) p.links;
       tally = accept_tally (accept_answer (wait ∷ later))
           p.tally;
-    }) refl refl t u refl plays.Step.Accept
+    }) refl refl t u refl plays.PlayStep.Accept
     (λ closing_by. ap (λ n. plays.accepted n (wait ∷ later)) number_is ∙ ap (plays.accepted (opened t)) (sym waiting))
     (accept_stands (links_of (lines_of p.turns)) (model.lines p.turns t) t p.links wait later link stands.links is)
     (runs-accept (model.lines_now p.turns t) p.begun link (wait ∷ later) p.links stands.now) stands
@@ -298,7 +298,7 @@ turn_begins p turn ms t next is stands =
       answered = λ closing_by.
           subst (λ z. plays.IsAnswered p.turns closing_by (t ++ (entry.Turn z, []) ∷ []))
           (ap (turn_time t) (moment_next (model.begun p.turns t) p.turns turn _ here) ∙ sym is)
-          (answers_go_on p.turns closing_by t (stands.answered closing_by) plays.Step.Now);
+          (answers_go_on p.turns closing_by t (stands.answered closing_by) plays.PlayStep.Now);
       begun = ap (λ n. n + 1) stands.begun ∙ sym count;
       links = subst (λ z. LinksStand waits z (t ++ u) (after_lines turn.1 running)) (sym lines)
           (lines_stand waits (model.lines p.turns t) (t ++ u) turn.1 running (entered_stands waits (model.lines p.turns t) (t ++ u)

@@ -5,7 +5,7 @@ use Rattle.ev_types.specs.declared.filter.FilterKind.TheVariants as kind
 use Rattle.ev_types.specs.declared.side.Side.TheVariants.{In, Out}
 use Rattle.ev_types.specs.declared.side.SideId.{SideId}
 use Rattle.ev_types.specs.declared.turn_line.TurnLine.TheVariants.{NewLink, Conn, Pending, Eof, ReadFail, Take, WriteFail, Spur, PollFail}
-use Rattle.relay_settings.specs.Usual.{no_marks, no_timeouts, usual}
+use Rattle.ev_types.specs.Usual.{no_marks, no_timeouts, usual}
 use Rattle.script_text.specs.Pieces.{lines, words}
 use Rattle.script_text.specs.Numbers.{number_within}
 use Rattle.script_text.specs.Spelled.{script_of}

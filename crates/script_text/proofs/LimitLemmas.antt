@@ -1,6 +1,5 @@
 -- The limit of five numbers is what `LimitCfg::new` makes of them.
-use Rattle.std.proofs.Common.{◌≡◌, ◌^◌, ℕ, Bool, true, false, Some, None, Result}
-use Rattle.std.proofs.Common.{Ok, Err, arith, refl, ap, sym, ◌∙◌, le-leb}
+use Rattle.std.proofs.Common.{◌≡◌, ◌^◌, ℕ, Bool, true, false, Some, None, Result, Ok, Err, arith, refl, ap, sym, ◌∙◌, le-leb}
 use Rattle.std.specs.Prelude.{IfOk}
 use Rattle.std.specs.Result.{result_ok}
 use Rattle.std.proofs.lemmas.Bool.Decides.{nat_tests}

@@ -2,8 +2,8 @@
 use Rattle.std.specs.Prelude.{Option, Some, None, unwrap_or}
 use Rattle.ev_types.specs.declared.side.Side.TheVariants.{In, Out}
 use Rattle.token_bucket.specs.declared.limit.Dir.TheVariants.{Read, Write}
-use Rattle.relay_settings.specs.declared.settings.Settings.{Settings}
-use Rattle.relay_settings.specs.Usual.{usual}
+use Rattle.ev_types.specs.declared.settings.Settings.{Settings}
+use Rattle.ev_types.specs.Usual.{usual}
 use Rattle.script_text.specs.declared.setting.Setting.{Setting}
 use Rattle.script_text.specs.declared.setting.Setting.TheVariants.{Hold, Filter, Marks, Timeouts}
 use Rattle.script_text.specs.declared.setting.Given.{Given}

@@ -1,21 +1,19 @@
 -- What a line says, by cases on its words. Which lines may stand behind which stands elsewhere.
-use Rattle.std.specs.Prelude.{ℕ, ◌^◌, ◌-◌, List, [], ◌∷◌, ◌==◌, codes, Bool, true, false, if◌then◌else◌, nat_lt}
-use Rattle.std.specs.Prelude.{Option, Some, None, option_map, option_and_then}
+use Rattle.std.specs.Prelude.{ℕ, ◌^◌, ◌-◌, List, [], ◌∷◌, ◌==◌, codes, Bool, true, false, if◌then◌else◌, nat_lt, Option, Some, None, option_map, option_and_then}
 use Rattle.std.specs.Str.{bytes_eq}
 use Rattle.ev_types.specs.declared.side.Side.{Side}
 use Rattle.ev_types.specs.declared.side.Side.TheVariants.{In, Out}
 use Rattle.ev_types.specs.declared.side.SideId.{SideId}
 use Rattle.token_bucket.specs.declared.limit.Dir.TheVariants.{Read, Write}
-use Rattle.relay_settings.specs.declared.settings.Marks.{Marks}
-use Rattle.relay_settings.specs.declared.settings.Timeouts.{Timeouts}
+use Rattle.ev_types.specs.declared.settings.Marks.{Marks}
+use Rattle.ev_types.specs.declared.settings.Timeouts.{Timeouts}
 use Rattle.script_text.specs.Numbers.{number_within, bytes_of}
 use Rattle.script_text.specs.FilterNames.{filter_kind_of}
 use Rattle.script_text.specs.ValueGrammar.{◌>>=◌}
 use Rattle.ev_types.specs.declared.turn_line.TurnLine.{TurnLine}
 use Rattle.ev_types.specs.declared.turn_line.TurnLine.TheVariants as turn
 use Rattle.script_text.specs.declared.line.Keyword.{Keyword}
-use Rattle.script_text.specs.declared.line.Keyword.TheVariants.{Set, At, Open, Conn, Pending, Eof, ReadFail, Take}
-use Rattle.script_text.specs.declared.line.Keyword.TheVariants.{WriteFail, Spur, PollFail}
+use Rattle.script_text.specs.declared.line.Keyword.TheVariants.{Set, At, Open, Conn, Pending, Eof, ReadFail, Take, WriteFail, Spur, PollFail}
 use Rattle.script_text.specs.declared.setting.Setting.{Setting}
 use Rattle.script_text.specs.declared.setting.Setting.TheVariants as setting
 use Rattle.script_text.specs.declared.setting.SettingName.{SettingName}

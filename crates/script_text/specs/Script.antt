@@ -1,7 +1,7 @@
 -- A script as plain values. How it is spelled stands elsewhere.
 use Rattle.std.specs.Prelude.{List}
 use Rattle.ev_types.specs.ScriptTurn.{ScriptTurn}
-use Rattle.relay_settings.specs.declared.settings.Settings.{Settings}
+use Rattle.ev_types.specs.declared.settings.Settings.{Settings}
 use Rattle.script_text.specs.declared.setting.Given.{Given}
 use Rattle.script_text.specs.Given.{settings_by}
 

@@ -27,7 +27,7 @@ pub use laws::{
     trace_refused_at_first_bad, written_is_read,
 };
 pub use read::read_script;
-pub use relay_settings::{Marks, Settings, Timeouts};
+pub use ev_types::{Marks, Settings, Timeouts};
 pub use room::{LINE_ROOM, make_room};
 pub use script::{Script, ScriptFault};
 pub use trace::read_trace;

@@ -4,7 +4,7 @@ ghost use Rattle.std.specs.Prelude.{◌≡◌};
 ghost use Rattle.script_text.specs.declared.script.ScriptFault.TheVariants.{Memory};
 
 use ev_types::{NoMemory, TurnLine};
-use relay_settings::Settings;
+use ev_types::Settings;
 use std::alloc::{AllocError, AllocFailed};
 use std::marker::Model;
 use thiserror::Error;

@@ -7,7 +7,7 @@ use crate::setting::{Setting, SettingName};
 use crate::value_words::{filter_named, read_side};
 use crate::words::{is_word, number};
 use ev_types::{Dir, Side};
-use relay_settings::{Marks, Timeouts};
+use ev_types::{Marks, Timeouts};
 
 /// The most bytes that a mark can have.
 const MAX_MARK: u64 = 1 << 24;

@@ -3,7 +3,7 @@ ghost use Rattle.std.specs.Prelude.{◌≡◌, Some, None, is_none, if◌then◌
 ghost use Rattle.script_text.specs.Given.{nothing_given, settings_by, with_setting};
 
 use ev_types::{Dir, FilterKind, Side};
-use relay_settings::{Marks, Settings, Timeouts};
+use ev_types::{Marks, Settings, Timeouts};
 
 /// Which setting a line names.
 ///

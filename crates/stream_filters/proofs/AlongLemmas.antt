@@ -7,9 +7,9 @@ use Rattle.std.proofs.lemmas.List.{length-drop, length-take-le, drop-drop}
 use Rattle.std.proofs.Math.Seq.{take-add}
 use Rattle.std.proofs.Math.ListN.{drop_of_length-le}
 use Rattle.ev_types.specs.declared.filter.FilterKind.{FilterKind}
-use Rattle.relay_model.specs.FilterRun.{Ran, nothing_ran, goes_on, run, adds, is_bad_byte}
-use Rattle.relay_model.specs.FilterCuts.{joined}
-use Rattle.relay_model.proofs.ListLemmas.{last_or-append}
+use Rattle.filter_model.specs.FilterRun.{Ran, nothing_ran, goes_on, run, adds, is_bad_byte}
+use Rattle.filter_model.specs.FilterCuts.{joined}
+use Rattle.filter_model.proofs.ListLemmas.{last_or-append}
 use Rattle.stream_filters.specs.declared.knowledge.Knowledge.{Knowledge}
 use Rattle.stream_filters.specs.Parts.{AppendsPart, HasRoom, RanOver}
 

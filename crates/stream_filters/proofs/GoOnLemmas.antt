@@ -2,10 +2,10 @@
 use Rattle.std.proofs.Common.{◌≡◌, ℕ, ◌+◌, ◌-◌, ◌≤◌, Bool, true, false, min, nat_le, leb-true, leb-false, refl, ◌||◌, ◌==◌, if◌then◌else◌, List, [], ◌++◌, length, take, Option, None, sym, ◌∙◌, ap, arith, append_assoc, length-append}
 use Rattle.std.specs.Prelude.{nat_lt, is_some, max}
 use Rattle.ev_types.specs.declared.filter.FilterKind.{FilterKind}
-use Rattle.relay_model.specs.Conserved.{Running}
-use Rattle.relay_model.specs.FilterRun.{Ran, run, end_adds}
-use Rattle.relay_model.specs.FilterStep.{run_of, after_bytes, stop_place, is_finished, Stepped, ending, stepped, most_made}
-use Rattle.relay_model.proofs.FilterFitLemmas.{step_fits}
+use Rattle.filter_model.specs.Running.{Running}
+use Rattle.filter_model.specs.FilterRun.{Ran, run, end_adds}
+use Rattle.filter_model.specs.FilterStep.{run_of, after_bytes, stop_place, is_finished, Stepped, ending, stepped, most_made}
+use Rattle.filter_model.proofs.FilterFitLemmas.{step_fits}
 use Rattle.stream_filters.specs.declared.knowledge.Knowledge.{Knowledge}
 use Rattle.stream_filters.specs.Knowledge.{running_of}
 use Rattle.stream_filters.specs.Parts.{HasRoom, RanOver}

@@ -5,9 +5,9 @@ use Rattle.std.specs.List.{last_or}
 use Rattle.std.proofs.lemmas.Bool.Decides.{nat_tests}
 use Rattle.std.proofs.lemmas.List.{length-take-le}
 use Rattle.ev_types.specs.declared.filter.FilterKind.TheVariants as kind
-use Rattle.relay_model.specs.Conserved.{Running}
-use Rattle.relay_model.specs.FilterRun.{Ran, goes_on, run}
-use Rattle.relay_model.specs.FilterStep.{run_of, after_bytes, Stepped, ending, stepped}
+use Rattle.filter_model.specs.Running.{Running}
+use Rattle.filter_model.specs.FilterRun.{Ran, goes_on, run}
+use Rattle.filter_model.specs.FilterStep.{run_of, after_bytes, Stepped, ending, stepped}
 use Rattle.stream_filters.specs.declared.knowledge.Knowledge.{Knowledge}
 use Rattle.stream_filters.specs.Knowledge.{running_of}
 

@@ -6,10 +6,10 @@ use Rattle.std.proofs.lemmas.Bool.Decides.{nat_tests}
 use Rattle.std.proofs.lemmas.List.{length-take-le, take_more}
 use Rattle.ev_types.specs.declared.filter.FilterKind.{FilterKind}
 use Rattle.ev_types.specs.declared.filter.FilterKind.TheVariants as kind
-use Rattle.relay_model.specs.Filter.{hex_out, hex_digit, is_hex, hex_value}
-use Rattle.relay_model.specs.FilterRun.{Ran, goes_on, run, adds, is_bad_byte}
-use Rattle.relay_model.specs.FilterCuts.{joined}
-use Rattle.relay_model.proofs.FilterLemmas.{hex_out-append}
+use Rattle.filter_model.specs.Filter.{hex_out, hex_digit, is_hex, hex_value}
+use Rattle.filter_model.specs.FilterRun.{Ran, goes_on, run, adds, is_bad_byte}
+use Rattle.filter_model.specs.FilterCuts.{joined}
+use Rattle.filter_model.proofs.FilterLemmas.{hex_out-append}
 use Rattle.stream_filters.specs.Parts.{AppendsPart, HasRoom}
 use Rattle.stream_filters.proofs.PlainLemmas.{IsPlain, run-plain}
 

@@ -7,9 +7,9 @@ use Rattle.std.proofs.lemmas.Bool.{eqb-true}
 use Rattle.std.proofs.lemmas.Bool.Decides.{nat_tests}
 use Rattle.ev_types.specs.declared.filter.FilterKind.{FilterKind}
 use Rattle.ev_types.specs.declared.filter.FilterKind.TheVariants as kind
-use Rattle.relay_model.specs.Filter.{CR, LF}
-use Rattle.relay_model.specs.FilterRun.{Ran, goes_on, run, adds, is_bad_byte, is_cr}
-use Rattle.relay_model.specs.FilterCuts.{joined}
+use Rattle.filter_model.specs.Filter.{CR, LF}
+use Rattle.filter_model.specs.FilterRun.{Ran, goes_on, run, adds, is_bad_byte, is_cr}
+use Rattle.filter_model.specs.FilterCuts.{joined}
 
 -- each byte is good and adds itself alone, behind the one before it
 pub data IsPlain (k : FilterKind) : Option ℕ → List ℕ → Type 0 where

@@ -3,9 +3,9 @@ use Rattle.std.proofs.Common.{◌≡◌, ℕ, ◌+◌, ◌-◌, Bool, true, fals
 use Rattle.std.specs.Prelude.{nat_le, nat_lt, is_some}
 use Rattle.std.proofs.lemmas.Bool.Decides.{nat_tests}
 use Rattle.ev_types.specs.declared.filter.FilterKind.{FilterKind}
-use Rattle.relay_model.specs.Conserved.{Running}
-use Rattle.relay_model.specs.FilterRun.{Ran, goes_on, run, adds, is_bad_byte}
-use Rattle.relay_model.specs.FilterStep.{count_of, after_bytes, Stepped, ending, stepped, most_made}
+use Rattle.filter_model.specs.Running.{Running}
+use Rattle.filter_model.specs.FilterRun.{Ran, goes_on, run, adds, is_bad_byte}
+use Rattle.filter_model.specs.FilterStep.{count_of, after_bytes, Stepped, ending, stepped, most_made}
 use Rattle.stream_filters.specs.StepAnswers.{most_by_step}
 
 le-shift : (limit n m : ℕ) → nat_le (limit - n) m ≡ nat_le limit (n + m)

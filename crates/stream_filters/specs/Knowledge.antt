@@ -3,8 +3,8 @@ use Rattle.std.specs.Prelude.{◌≡◌, ℕ, true, Option, All, ⊤}
 use Rattle.std.specs.Option.{option_to_list}
 use Rattle.ev_types.specs.declared.filter.FilterKind.{FilterKind}
 use Rattle.ev_types.specs.declared.filter.FilterKind.TheVariants as kind
-use Rattle.relay_model.specs.Filter.{is_hex}
-use Rattle.relay_model.specs.Conserved.{Running}
+use Rattle.filter_model.specs.Filter.{is_hex}
+use Rattle.filter_model.specs.Running.{Running}
 use Rattle.stream_filters.specs.declared.knowledge.Knowledge.{Knowledge}
 
 -- a filter of this kind that began with its input

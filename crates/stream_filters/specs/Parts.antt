@@ -2,8 +2,8 @@
 use Rattle.std.specs.Prelude.{◌≡◌, ℕ, ◌+◌, ◌≤◌, List, ◌++◌, length, take, drop, Option}
 use Rattle.std.specs.List.{last_or}
 use Rattle.ev_types.specs.declared.filter.FilterKind.{FilterKind}
-use Rattle.relay_model.specs.FilterRun.{run, nothing_ran}
-use Rattle.relay_model.specs.FilterCuts.{joined}
+use Rattle.filter_model.specs.FilterRun.{run, nothing_ran}
+use Rattle.filter_model.specs.FilterCuts.{joined}
 use Rattle.stream_filters.specs.declared.knowledge.Knowledge.{Knowledge}
 
 -- A run over src into a target that held `old` and now holds `new`: it begins with `used` bytes, of which it made what was

@@ -3,8 +3,8 @@ use Rattle.std.specs.Prelude.{◌≡◌, ℕ, ◌+◌, ◌-◌, min, nat_le, if�
 use Rattle.ev_types.specs.declared.filter.FilterKind.{FilterKind}
 use Rattle.ev_types.specs.declared.filter.Mode.{Mode}
 use Rattle.ev_types.specs.declared.filter.Mode.TheVariants as mode_of
-use Rattle.relay_model.specs.Conserved.{Running}
-use Rattle.relay_model.specs.FilterStep.{Stepped, most_made}
+use Rattle.filter_model.specs.Running.{Running}
+use Rattle.filter_model.specs.FilterStep.{Stepped, most_made}
 use Rattle.stream_filters.specs.declared.stream_filter.Step.{Step}
 use Rattle.stream_filters.specs.declared.fault.FilterFault.{FilterFault}
 use Rattle.stream_filters.specs.declared.fault.FilterFault.TheVariants.{Memory, BadByte, Spent}

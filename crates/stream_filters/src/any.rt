@@ -2,7 +2,7 @@
 ghost use Rattle.std.specs.Prelude.{◌≡◌, ◌≤◌, ◌<◌, ◌+◌, ◌^◌, true, [], length, take, min, vec_capacity, ◌-◌, ◌⊎◌};
 ghost use Rattle.ev_types.specs.declared.filter.FilterKind.TheVariants as kind_of;
 ghost use Rattle.ev_types.specs.declared.filter.Mode.TheVariants as mode_of;
-ghost use Rattle.relay_model.specs.FilterStep.{begun, stepped};
+ghost use Rattle.filter_model.specs.FilterStep.{begun, stepped};
 ghost use Rattle.stream_filters.specs.StepAnswers.{most_by_step, WasMade, AnswersInPlace, is_last, is_spent, says_spent};
 
 use crate::fault::FilterFault;
@@ -22,7 +22,7 @@ pub struct AnyFilter {
 }
 
 impl Model for AnyFilter {
-    ghost use Rattle.relay_model.specs.Conserved.{Running};
+    ghost use Rattle.filter_model.specs.Running.{Running};
     ghost use Rattle.stream_filters.specs.Knowledge.{running_of, IsDigitLast};
 
     ghost Value = { Running };

@@ -1,6 +1,6 @@
 // Hex digits.
 ghost use Rattle.std.specs.Prelude.{◌≡◌, ◌<◌, Some, None, IfSome, if◌then◌else◌};
-ghost use Rattle.relay_model.specs.Filter.{hex_digit as digit_of, is_hex, hex_value};
+ghost use Rattle.filter_model.specs.Filter.{hex_digit as digit_of, is_hex, hex_value};
 
 /// The lower-case digit of a number below 16.
 pub(crate) fn hex_digit(value: u8) -> u8

@@ -1,6 +1,6 @@
 // The five filters, each a type of its own. All stand on one step, by their kind.
 ghost use Rattle.std.specs.Prelude.{◌≡◌};
-ghost use Rattle.relay_model.specs.FilterStep.{begun};
+ghost use Rattle.filter_model.specs.FilterStep.{begun};
 ghost use Rattle.ev_types.specs.declared.filter.FilterKind.TheVariants as kind_of;
 
 use crate::fault::FilterFault;
@@ -19,7 +19,7 @@ pub struct NoFilter {
 }
 
 impl Model for NoFilter {
-    ghost use Rattle.relay_model.specs.Conserved.{Running};
+    ghost use Rattle.filter_model.specs.Running.{Running};
     ghost use Rattle.ev_types.specs.declared.filter.FilterKind.TheVariants as kind_of;
     ghost use Rattle.stream_filters.specs.Knowledge.{running_of};
 
@@ -70,7 +70,7 @@ pub struct ToCrlf {
 }
 
 impl Model for ToCrlf {
-    ghost use Rattle.relay_model.specs.Conserved.{Running};
+    ghost use Rattle.filter_model.specs.Running.{Running};
     ghost use Rattle.ev_types.specs.declared.filter.FilterKind.TheVariants as kind_of;
     ghost use Rattle.stream_filters.specs.Knowledge.{running_of};
 
@@ -121,7 +121,7 @@ pub struct ToLf {
 }
 
 impl Model for ToLf {
-    ghost use Rattle.relay_model.specs.Conserved.{Running};
+    ghost use Rattle.filter_model.specs.Running.{Running};
     ghost use Rattle.ev_types.specs.declared.filter.FilterKind.TheVariants as kind_of;
     ghost use Rattle.stream_filters.specs.Knowledge.{running_of};
 
@@ -172,7 +172,7 @@ pub struct HexOut {
 }
 
 impl Model for HexOut {
-    ghost use Rattle.relay_model.specs.Conserved.{Running};
+    ghost use Rattle.filter_model.specs.Running.{Running};
     ghost use Rattle.ev_types.specs.declared.filter.FilterKind.TheVariants as kind_of;
     ghost use Rattle.stream_filters.specs.Knowledge.{running_of};
 
@@ -224,7 +224,7 @@ pub struct HexIn {
 }
 
 impl Model for HexIn {
-    ghost use Rattle.relay_model.specs.Conserved.{Running};
+    ghost use Rattle.filter_model.specs.Running.{Running};
     ghost use Rattle.ev_types.specs.declared.filter.FilterKind.TheVariants as kind_of;
     ghost use Rattle.stream_filters.specs.Knowledge.{running_of, IsDigitLast};
 

@@ -3,8 +3,8 @@
 ghost use Rattle.std.specs.Prelude.{◌≡◌, ◌≢◌, ◌≤◌, ◌<◌, ◌+◌, ◌-◌, ◌*◌, ◌/◌, ◌++◌, [], ⊤, true, Some, length, take, drop, min, All, slice_index, unwrap_or, vec_len, vec_capacity};
 ghost use Rattle.std.specs.List.{last_or};
 ghost use Rattle.ev_types.specs.declared.filter.FilterKind.TheVariants as kind_of;
-ghost use Rattle.relay_model.specs.Filter.{hex_out, hex_value};
-ghost use Rattle.relay_model.specs.FilterRun.{adds};
+ghost use Rattle.filter_model.specs.Filter.{hex_out, hex_value};
+ghost use Rattle.filter_model.specs.FilterRun.{adds};
 ghost use Rattle.stream_filters.specs.Knowledge.{IsDigitLast};
 ghost use Rattle.stream_filters.specs.Parts.{AppendsPart, HasRoom};
 

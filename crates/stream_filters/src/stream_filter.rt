@@ -1,8 +1,8 @@
 // What a filter of a byte stream is.
 ghost use Rattle.std.specs.Prelude.{◌≡◌, true, [], length};
 ghost use Rattle.ev_types.specs.declared.filter.Mode.TheVariants as mode_of;
-ghost use Rattle.relay_model.specs.Conserved.{Running};
-ghost use Rattle.relay_model.specs.FilterStep.{stepped};
+ghost use Rattle.filter_model.specs.Running.{Running};
+ghost use Rattle.filter_model.specs.FilterStep.{stepped};
 ghost use Rattle.stream_filters.specs.StepAnswers.{Answers, is_last, is_spent, says_spent};
 
 use crate::fault::FilterFault;

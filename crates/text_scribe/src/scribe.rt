@@ -3,8 +3,7 @@ ghost use Rattle.std.specs.Prelude.{◌≡◌, ◌≤◌, ◌<◌, ◌+◌, [], 
 ghost use Rattle.ev_types.specs.Trace.{bytes_beside};
 ghost use Rattle.script_text.specs.TraceText.{trace_text};
 
-use crate::log::{Step, TraceLog};
-use ev_port::Scribe;
+use ev_port::{LogStep, Scribe, TraceLog};
 use ev_types::{Entry, NoMemory};
 use script_text::{make_room, put_entry};
 use std::alloc::Global;
@@ -75,6 +74,6 @@ impl Scribe for TextScribe {
         put_entry(&mut self.text, entry, bytes);
         self.entries -= 1;
         self.bytes -= bytes.len();
-        self.told = self.told.then(&Step { entry, bytes });
+        self.told = self.told.then(&LogStep { entry, bytes });
     }
 }

@@ -3,7 +3,6 @@
 #![tactic(auto)]
 
 #[cfg(test)]
-mod command_words;
 #[cfg(test)]
 mod entry_lines;
 #[cfg(test)]
@@ -16,3 +15,4 @@ mod script_lines;
 mod setting_lines;
 #[cfg(test)]
 mod traces;
+mod words;

@@ -1,5 +1,5 @@
 use Rattle.std.proofs.Common.{◌-◌, ◌∙◌, ap, subst, Ok, Err}
-use Rattle.relay_model.specs.FilterStep.{Stepped}
+use Rattle.filter_model.specs.FilterStep.{Stepped}
 use Rattle.stream_filters.specs.StepAnswers.{Answers}
 use Rattle.stream_filters.specs.declared.fault.FilterFault.{FilterFault}
 use Rattle.bev_filter.specs.Passing.{Crossing, passing}

@@ -1,5 +1,5 @@
 use Rattle.std.proofs.Common.{◌-◌, ◌∙◌, length, ap, refl, subst, arith}
-use Rattle.relay_model.specs.FilterStep.{Stepped}
+use Rattle.filter_model.specs.FilterStep.{Stepped}
 use Rattle.stream_filters.specs.StepAnswers.{WasMade}
 use Rattle.stream_filters.proofs.GoOnLemmas.{step-most}
 use Rattle.bev_core.specs.Steps.{held}

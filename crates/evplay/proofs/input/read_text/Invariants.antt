@@ -1,5 +1,5 @@
 use Rattle.std.proofs.Common.{◌≡◌, ◌≤◌, ◌+◌, ◌-◌, ◌^◌, vec_len}
-use Rattle.stream_words.specs.Streams.{Gave}
+use Rattle.ev_port.specs.StreamBytes.{Gave}
 use Rattle.evplay.proofs.input.read_text.Given as goal
 
 abbrev pub invariant-loop-buffer : goal.invariant-loop-buffer

@@ -1,5 +1,4 @@
-use Rattle.std.proofs.Common.{◌≡◌, ◌≢◌, ◌⊎◌, inl, inr, ◌≤◌, ◌<◌, ◌+◌, ◌*◌, ◌++◌, ℕ, length, Some, false, refl, ap, ◌∙◌, subst, arith}
-use Rattle.std.proofs.Common.{Result, Ok, Err, IfOk, IfErr}
+use Rattle.std.proofs.Common.{◌≡◌, ◌≢◌, ◌⊎◌, inl, inr, ◌≤◌, ◌<◌, ◌+◌, ◌*◌, ◌++◌, ℕ, length, Some, false, refl, ap, ◌∙◌, subst, arith, Result, Ok, Err, IfOk, IfErr}
 use Rattle.std.specs.Prelude.{count_by}
 use Rattle.ev_types.specs.Trace.{Trace}
 use Rattle.script_text.specs.Script.{ScriptValue}
@@ -24,7 +23,7 @@ use Rattle.relay_laws.proofs.RelayedLemmas.{stood-at}
 use Rattle.evplay.proofs.HeadlineLemmas.{built}
 use Rattle.evplay.proofs.RunLemmas.{went-run, failed-run}
 use Rattle.relay_laws.proofs.TurnEndLemmas.{ends-none, ends-grow}
-use Rattle.run_end.proofs.TurnCountLemmas.{turn-once, turn-first, cut-poll-once, cut-poll-first, count-append}
+use Rattle.program_end.proofs.TurnCountLemmas.{turn-once, turn-first, cut-poll-once, cut-poll-first, count-append}
 use Rattle.relay_laws.specs.Relayed.{StoodBetween}
 use Rattle.relay_laws.specs.Report.{lines_below}
 use Rattle.evplay.specs.declared.run.RunEnd.{RunEnd}

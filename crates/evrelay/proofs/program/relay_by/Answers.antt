@@ -2,8 +2,8 @@ use Rattle.std.proofs.Common.{List, map, string_bytes, refl, inr, [], subst}
 use Rattle.ev_types.specs.Trace.{Trace}
 use Rattle.ev_types.specs.declared.entry.Entry.{Entry}
 use Rattle.ev_types.specs.declared.status.Status.TheVariants as status
-use Rattle.relay_words.specs.ServeGrammar.{serve_words_of}
-use Rattle.relay_words.specs.declared.fault.WordsFault.TheVariants as words
+use Rattle.command_words.specs.ServeGrammar.{serve_words_of}
+use Rattle.command_words.specs.declared.fault.WordsFault.TheVariants as words
 use Rattle.relay_serve.specs.Seen.{drained}
 use Rattle.relay_serve.specs.Served.{DidWith}
 use Rattle.relay_serve.proofs.EndLemmas.{words-ended}

@@ -2,21 +2,18 @@ use Rattle.std.proofs.Common.{ℕ, refl}
 use Rattle.std.proofs.lemmas.Result.{err_from_is_err_and}
 use Rattle.ev_types.specs.Trace.{Trace}
 use Rattle.relay_state.specs.State.{State}
-use Rattle.relay_drive.specs.Steps.{Then}
+use Rattle.relay_drive.specs.Steps.{Then, Each, CutAt}
 use Rattle.relay_drive.specs.Calls.{Ticks}
-use Rattle.relay_drive.specs.Phases.{TicksOnce, ForAllLinks, CutForAllLinks, PassesLink, CutPassingLink, CutTurn}
+use Rattle.relay_drive.specs.Phases.{TicksOnce, ForAllLinks, CutForAllLinks, PassesLink, CutPassingLink, CutTurn, PollsAndAccepts, ServesSide, CutServing}
 use Rattle.relay_drive.proofs.GoesLemmas.{Known, goes_as, goes_knowing, goes_then, goes_within}
-use Rattle.std.specs.Prelude.{Bool, Option}
+use Rattle.std.specs.Prelude.{Bool, Option, List}
 use Rattle.ev_types.specs.declared.side.SideId.{SideId}
 use Rattle.ev_types.specs.Told.{EndTold, PortTold}
 use Rattle.ev_port.specs.Faults.{Faults}
 use Rattle.relay_drive.specs.declared.run.Run.{Run}
 use Rattle.relay_drive.specs.Known.{known, Point}
 use Rattle.relay_drive.specs.Advances.{Advances}
-use Rattle.std.specs.Prelude.{List}
 use Rattle.ev_port.specs.declared.port.Want.{Want}
-use Rattle.relay_drive.specs.Steps.{Each, CutAt}
-use Rattle.relay_drive.specs.Phases.{PollsAndAccepts, ServesSide, CutServing}
 use Rattle.relay_drive.specs.Looks.{PollsAndAcceptsListed}
 use Rattle.relay_drive.proofs.ListedLemmas.{served_all, served_cut}
 use Rattle.relay_drive.proofs.turn.turn.Goals as goal

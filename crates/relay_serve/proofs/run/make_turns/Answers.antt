@@ -3,7 +3,7 @@ use Rattle.relay_model.specs.Settings.{Settings}
 use Rattle.relay_core.specs.SettingsView.{model_settings}
 use Rattle.relay_drive.specs.DriveValue.{is_worn}
 use Rattle.relay_drive.specs.Known.{Question}
-use Rattle.run_end.proofs.TurnCountLemmas.{BeginsOnce, turn-first, turn-once, cut-begins}
+use Rattle.program_end.proofs.TurnCountLemmas.{BeginsOnce, turn-first, turn-once, cut-begins}
 use Rattle.relay_serve.specs.Seen.{Seen, seen}
 use Rattle.relay_serve.specs.Underway.{TurnsCut}
 use Rattle.relay_serve.proofs.TurnsLemmas.{stands-new, stands-next, turns-next, cut-spent, cut-else, tied-on, unworn, either, same-fault}

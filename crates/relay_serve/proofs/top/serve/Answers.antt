@@ -1,5 +1,5 @@
 use Rattle.std.proofs.Common.{map, string_bytes, sym, subst}
-use Rattle.relay_words.specs.ServeGrammar.{serve_words_of}
+use Rattle.command_words.specs.ServeGrammar.{serve_words_of}
 use Rattle.relay_serve.specs.Seen.{seen, drained}
 use Rattle.relay_serve.specs.Served.{DidWith}
 use Rattle.relay_serve.proofs.EndLemmas.{words-ended}

@@ -2,7 +2,7 @@ use Rattle.std.proofs.Common.{◌+◌, ◌*◌, ◌%◌, ◌++◌, ◌∷◌, []
 use Rattle.std.specs.Prelude.{slice_index, unwrap_or}
 use Rattle.std.proofs.lemmas.List.{append-nil}
 use Rattle.ev_types.specs.declared.filter.FilterKind.TheVariants as kind
-use Rattle.relay_model.specs.Filter.{hex_value}
+use Rattle.filter_model.specs.Filter.{hex_value}
 use Rattle.stream_filters.proofs.PlainLemmas.{differs}
 use Rattle.stream_filters.proofs.PartLemmas.{byte-part, digit-cases}
 use Rattle.stream_filters.proofs.parts.hex_in_part.Goals as goal

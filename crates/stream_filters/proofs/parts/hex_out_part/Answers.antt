@@ -1,5 +1,5 @@
 use Rattle.std.proofs.Common.{◌≡◌, ◌/◌, ◌%◌, ◌∷◌, [], slice_index, ◌++◌, ◌∙◌, sym, take, arith, append_assoc}
-use Rattle.relay_model.specs.Filter.{hex_out, hex_digit}
+use Rattle.filter_model.specs.Filter.{hex_out, hex_digit}
 use Rattle.stream_filters.proofs.PartLemmas.{hex_out-more}
 use Rattle.stream_filters.proofs.parts.hex_out_part.Goals as goal
 

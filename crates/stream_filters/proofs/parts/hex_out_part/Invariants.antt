@@ -1,5 +1,5 @@
 use Rattle.std.proofs.Common.{◌≡◌, ◌+◌, ◌*◌, ◌≤◌, ◌++◌, take, vec_len, vec_capacity}
-use Rattle.relay_model.specs.Filter.{hex_out}
+use Rattle.filter_model.specs.Filter.{hex_out}
 use Rattle.stream_filters.proofs.parts.hex_out_part.Given as goal
 
 abbrev pub invariant-loop-byte : goal.invariant-loop-byte

@@ -1,6 +1,6 @@
 use Rattle.std.proofs.Common.{◌≡◌, ◌++◌, ◌∙◌, ◌==◌, ap, length, arith, vec_capacity}
 use Rattle.std.specs.Prelude.{nat_lt}
-use Rattle.relay_model.specs.FilterStep.{stop_place, is_finished}
+use Rattle.filter_model.specs.FilterStep.{stop_place, is_finished}
 use Rattle.stream_filters.specs.Knowledge.{running_of}
 use Rattle.stream_filters.proofs.GoOnLemmas.{room-all, room-run, room-end, used-is, after-is, filled-is}
 use Rattle.stream_filters.proofs.step.run_on.Goals as goal

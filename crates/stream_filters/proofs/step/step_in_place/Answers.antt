@@ -3,7 +3,7 @@ use Rattle.std.specs.List.{last_or}
 use Rattle.std.proofs.lemmas.Bool.Decides.{nat_tests}
 use Rattle.std.specs.Prelude.{Ok}
 use Rattle.ev_types.specs.declared.filter.FilterKind.TheVariants as kind
-use Rattle.relay_model.specs.FilterStep.{Stepped}
+use Rattle.filter_model.specs.FilterStep.{Stepped}
 use Rattle.stream_filters.specs.declared.knowledge.Knowledge.{Knowledge}
 use Rattle.stream_filters.specs.Knowledge.{running_of}
 use Rattle.stream_filters.specs.StepAnswers.{AnswersInPlace, is_last}

@@ -1,6 +1,6 @@
 use Rattle.std.proofs.Common.{◌≡◌, ◌≤◌, ◌∙◌, length, ap, sym, subst, OnOk, IfOk, vec_capacity}
 use Rattle.ev_types.specs.declared.filter.FilterKind.{FilterKind}
-use Rattle.relay_model.specs.Conserved.{Running}
+use Rattle.filter_model.specs.Running.{Running}
 use Rattle.stream_filters.specs.StepAnswers.{most_by_step}
 use Rattle.bev_core.specs.BevValue.{BevValue}
 use Rattle.bev_core.specs.Steps.{held}

@@ -1,5 +1,5 @@
 use Rattle.std.proofs.Common.{◌≡◌, []}
-use Rattle.stream_words.specs.Streams.{TookOn}
+use Rattle.ev_port.specs.StreamBytes.{TookOn}
 use Rattle.ev_port.proofs.standard.StdSinkSink.write.Given as goal
 
 -- an interrupted write takes nothing and is no fault

@@ -1,5 +1,5 @@
 use Rattle.std.proofs.Common.{◌≡◌, []}
-use Rattle.stream_words.specs.Streams.{Gave}
+use Rattle.ev_port.specs.StreamBytes.{Gave}
 use Rattle.ev_port.proofs.standard.StdSourceSource.read.Given as goal
 
 -- an interrupted read gives nothing and is no fault

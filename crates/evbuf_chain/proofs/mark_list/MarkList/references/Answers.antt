@@ -1,7 +1,6 @@
 use Rattle.std.proofs.Common.{length, ap, sym, ◌∙◌, subst}
 use Rattle.evbuf_chain.specs.Inner.{Listed}
-use Rattle.evbuf_chain.specs.Mark.{ended_tickets}
-use Rattle.evbuf_chain.specs.Mark.{AreWhole}
+use Rattle.evbuf_chain.specs.Mark.{ended_tickets, AreWhole}
 use Rattle.evbuf_chain.proofs.RunLemmas.{length-ended_tickets-list, AreWhole-list}
 use Rattle.evbuf_chain.proofs.mark_list.MarkList.references.Goals as goal
 

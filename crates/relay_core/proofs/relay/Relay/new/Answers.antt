@@ -2,8 +2,8 @@ use Rattle.std.proofs.Common.{◌≡◌, ap, sym, subst}
 use Rattle.std.specs.List.{All}
 use Rattle.std.proofs.lemmas.List.Elements.{All-nil}
 use Rattle.relay_model.specs.Settings as model
-use Rattle.relay_settings.specs.declared.settings.Timeouts.{Timeouts}
-use Rattle.relay_settings.specs.Usual.{no_timeouts}
+use Rattle.ev_types.specs.declared.settings.Timeouts.{Timeouts}
+use Rattle.ev_types.specs.Usual.{no_timeouts}
 use Rattle.relay_sides.specs.Links.{Links}
 use Rattle.relay_sides.specs.SettingsView.{model_timeouts}
 use Rattle.relay_core.specs.RelayView.{IsSoundSide}

@@ -2,7 +2,7 @@ use Rattle.std.proofs.Common.{◌≡◌, ℕ, Bool, true, false, ◌||◌, nat_l
 use Rattle.std.proofs.lemmas.Bool.{le-leb, lt-leb}
 use Rattle.token_bucket.specs.declared.limit.Dir.TheVariants.{Read, Write}
 use Rattle.ev_types.specs.Sides.{number}
-use Rattle.relay_model.specs.Conserved.{Running}
+use Rattle.filter_model.specs.Running.{Running}
 use Rattle.relay_state.specs.Counting.{spent, has_flown_far, has_read_far}
 use Rattle.relay_sides.specs.Bevs.{upper_of, twin}
 use Rattle.relay_sides.specs.declared.side.SideState.{SideState}

@@ -1,7 +1,7 @@
 use Rattle.std.proofs.Common.{ap, sym, ◌∙◌}
 use Rattle.token_bucket.specs.declared.limit.Dir.TheVariants.{Read}
 use Rattle.ev_types.specs.Sides.{number}
-use Rattle.relay_model.specs.Conserved.{Running}
+use Rattle.filter_model.specs.Running.{Running}
 use Rattle.relay_model.specs.Flow.{Flow}
 use Rattle.relay_sides.proofs.SidesLemmas.{flow_seen}
 use Rattle.relay_sides.proofs.ReaderLemmas.{filter_found}

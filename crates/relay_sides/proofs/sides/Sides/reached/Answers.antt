@@ -1,7 +1,7 @@
 use Rattle.std.proofs.Common.{is_some, ap, sym, ◌∙◌}
 use Rattle.token_bucket.specs.declared.limit.Dir.TheVariants.{Read, Write}
 use Rattle.ev_types.specs.Sides.{number, peer}
-use Rattle.relay_model.specs.Conserved.{Running}
+use Rattle.filter_model.specs.Running.{Running}
 use Rattle.relay_model.specs.Flow.{Flow}
 use Rattle.relay_state.specs.State.{Lane}
 use Rattle.relay_sides.specs.Bevs.{upper_of, twin}

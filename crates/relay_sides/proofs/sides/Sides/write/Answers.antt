@@ -1,8 +1,8 @@
 use Rattle.std.proofs.Common.{length, refl, ap, sym, subst, ◌∙◌, vec_capacity, arith}
 use Rattle.token_bucket.specs.declared.limit.Dir.TheVariants.{Write}
 use Rattle.ev_types.specs.Sides.{number}
-use Rattle.relay_model.specs.Filter.{or_else}
-use Rattle.relay_model.specs.Conserved.{Running}
+use Rattle.filter_model.specs.Filter.{or_else}
+use Rattle.filter_model.specs.Running.{Running}
 use Rattle.relay_state.specs.State.{Lane}
 use Rattle.bev_filter.specs.StepRoom.{HasStepRoom}
 use Rattle.bev_world.specs.WorldValue.{slot_at}

@@ -1,12 +1,10 @@
-use Rattle.std.proofs.Common.{length}
+use Rattle.std.proofs.Common.{length, [], ◌∷◌, refl}
 use Rattle.script_port.specs.ScriptEnds.{after_read}
 use Rattle.script_port.specs.ScriptLinks.{at_end}
 use Rattle.script_port.proofs.CallLemmas.{still_brings, length-at_end, read_ends}
 use Rattle.script_port.specs.ScriptPortView.{port_state}
 use Rattle.script_port.proofs.ScriptVouchLemmas.{call_vouched, read_stood}
-use Rattle.std.proofs.Common.{[], ◌∷◌}
 use Rattle.ev_types.specs.declared.entry.Entry.TheVariants as entry
-use Rattle.std.proofs.Common.{refl}
 use Rattle.script_port.proofs.FaultLemmas.{read_faults}
 use Rattle.script_port.proofs.script_port.ScriptPortPort.read.Goals as goal
 

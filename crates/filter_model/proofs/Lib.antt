@@ -1,0 +1,12 @@
+pub mod ListLemmas
+pub mod FilterLemmas
+pub mod HexLemmas
+pub mod EveryFilter
+pub mod SwitchedLemmas
+pub mod MetLemmas
+pub mod RunningLemmas
+pub mod FilterRunLemmas
+pub mod FilterEndLemmas
+pub mod FilterStepLemmas
+pub mod FilterCutLemmas
+pub mod FilterFitLemmas

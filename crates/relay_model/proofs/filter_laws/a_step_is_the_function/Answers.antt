@@ -1,5 +1,0 @@
-use Rattle.relay_model.proofs.FilterStepLemmas.{step_is_function}
-use Rattle.relay_model.proofs.filter_laws.a_step_is_the_function.Goals as goal
-
-pub returns : goal.returns
-returns c = step_is_function

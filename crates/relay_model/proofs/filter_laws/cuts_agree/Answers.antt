@@ -1,5 +1,0 @@
-use Rattle.relay_model.proofs.FilterCutLemmas.{cuts_agree}
-use Rattle.relay_model.proofs.filter_laws.cuts_agree.Goals as goal
-
-pub returns : goal.returns
-returns c = cuts_agree

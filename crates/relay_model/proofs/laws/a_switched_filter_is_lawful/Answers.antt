@@ -1,5 +1,0 @@
-use Rattle.relay_model.proofs.SwitchedLemmas.{switched_is_filter}
-use Rattle.relay_model.proofs.laws.a_switched_filter_is_lawful.Goals as goal
-
-pub returns : goal.returns
-returns c = switched_is_filter
