@@ -1,4 +1,4 @@
-//! The names, flags and answers of the relay, the lines of a script, the entries of a trace, and the tape that keeps it.
+//! The names, flags, answers and settings of the relay, the lines of a script, the entries of a trace, and the tape that keeps it.
 //!
 //! These are values alone. What they mean for a run is said by the crates above.
 #![tactic(auto)]
@@ -9,6 +9,8 @@ mod answer;
 mod entry;
 mod filter;
 mod memory;
+mod route;
+mod settings;
 mod side;
 mod status;
 mod tape;
@@ -21,6 +23,8 @@ pub use answer::{AskAnswer, ConnAnswer, ReadAnswer, WriteAnswer};
 pub use entry::Entry;
 pub use filter::{FilterKind, Mode};
 pub use memory::NoMemory;
+pub use route::Route;
+pub use settings::{Marks, Settings, Timeouts};
 pub use side::{BevId, Side, SideId};
 pub use status::{LinkCount, LinkState, Status};
 pub use tape::Tape;

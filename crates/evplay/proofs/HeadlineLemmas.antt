@@ -4,7 +4,7 @@ use Rattle.ev_types.specs.Trace.{Trace}
 use Rattle.script_text.specs.Script.{ScriptValue}
 use Rattle.script_text.proofs.TraceReadLemmas.{trace_of-trace_text}
 use Rattle.relay_model.specs.Settings as model
-use Rattle.relay_model.specs.Settings.{HasNoHooks}
+use Rattle.relay_model.specs.Settings.{HasNoHooks, model_settings}
 use Rattle.ev_types.specs.declared.settings.Settings.{Settings}
 use Rattle.relay_model.specs.Stages.{Stage, at}
 use Rattle.relay_model.specs.Turn.{Reaches}
@@ -12,7 +12,6 @@ use Rattle.relay_model.specs.Answers.{TurnAnswer, LeftAt, EndsWith}
 use Rattle.relay_model.specs.Plays.{AlwaysTookAll, EndsPlayed, Plays}
 use Rattle.relay_model.specs.Script.{closing_step}
 use Rattle.script_port.specs.ScriptPlayed.{script_played}
-use Rattle.relay_core.specs.SettingsView.{model_settings}
 use Rattle.relay_state.specs.State.{State}
 use Rattle.relay_steps.specs.Meaning.{IsBuilt, StandsFor}
 use Rattle.relay_laws.specs.TurnEnds.{AtTurnEnds}

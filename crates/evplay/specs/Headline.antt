@@ -5,12 +5,11 @@ use Rattle.ev_types.specs.declared.status.LinkCount.{LinkCount}
 use Rattle.script_text.specs.Script.{ScriptValue}
 use Rattle.script_text.specs.TraceText.{trace_text}
 use Rattle.script_text.specs.TraceSpelled.{trace_of}
-use Rattle.relay_model.specs.Settings.{Settings}
+use Rattle.relay_model.specs.Settings.{Settings, model_settings}
 use Rattle.relay_model.specs.Answers.{TurnAnswer}
 use Rattle.relay_model.specs.Plays.{Plays}
 use Rattle.relay_model.specs.Script.{Script}
 use Rattle.relay_model.specs.Polls.{PollsFailed}
-use Rattle.relay_core.specs.SettingsView.{model_settings}
 use Rattle.relay_laws.specs.Relayed.{IsRelayed}
 
 -- the settings of a script's run: what its lines set, and else the usual ones

@@ -2,7 +2,7 @@
 use Rattle.std.specs.Prelude.{◌≡◌, ◌≤◌, ℕ, [], length, Result, Ok, Err}
 use Rattle.ev_types.specs.ScriptTurn.{lines_of}
 use Rattle.ev_types.specs.declared.settings.Settings.{Settings}
-use Rattle.relay_core.specs.SettingsView.{model_settings}
+use Rattle.relay_model.specs.Settings.{model_settings}
 use Rattle.relay_drive.specs.declared.fault.DriveFault.{DriveFault}
 use Rattle.relay_drive.specs.declared.fault.DriveFault.TheVariants as fault
 use Rattle.relay_laws.specs.Spelling.{BringsFit, TimeoutsFit}

@@ -28,7 +28,6 @@ use Rattle.relay_state.specs.Rooms.{input_length, output_length, waiting_for, re
 use Rattle.relay_state.specs.Serving.{raise_read, raise_write, with_got, after_got, with_taken, after_took}
 use Rattle.relay_sides.specs.Links as links
 use Rattle.relay_sides.specs.Links.{Links, change_side, opening_side, with_link}
-use Rattle.relay_sides.specs.SettingsView.{model_timeouts}
 use Rattle.relay_sides.specs.declared.opening.NewSide.{NewSide}
 use Rattle.relay_core.specs.RelayValue.{RelayValue}
 use Rattle.relay_core.specs.RelayView.{no_gauges, state_with, relay_of, AreSound, IsSound, IsSoundSide}
@@ -129,7 +128,7 @@ module _ (near far : Timeouts) (time : ℕ) (untimed : Bool) where
 
   -- and with two more
   pub opened_sound : (k j : Links) (a b : NewSide) → AreSound near far time untimed k → j ≡ with_link time a b k →
-      model_timeouts a.timeouts ≡ near → model_timeouts b.timeouts ≡ far → AreSound near far time untimed j
+      a.timeouts ≡ near → b.timeouts ≡ far → AreSound near far time untimed j
   opened_sound k j a b h is near_is far_is =
       let P : PlainSide → Type 0 = IsSoundSide time untimed in
       let p : P (opening_side time a) = (omega arith, omega arith, λ e. (near_is ∙ (h.unset e).0, refl), refl) in

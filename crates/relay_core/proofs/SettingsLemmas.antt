@@ -2,7 +2,7 @@
 use Rattle.std.proofs.Common.{◌≡◌, refl}
 use Rattle.relay_model.specs.Settings as model
 use Rattle.ev_types.specs.Usual.{usual}
-use Rattle.relay_core.specs.SettingsView.{model_settings}
+use Rattle.relay_model.specs.Settings.{model_settings}
 
 pub usual_settings : model_settings usual ≡ model.usual
 usual_settings = refl

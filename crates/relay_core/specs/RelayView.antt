@@ -7,9 +7,8 @@ use Rattle.relay_model.specs.Plain.{PlainSide}
 use Rattle.relay_state.specs.Running.{Gauge, no_gauge}
 use Rattle.relay_state.specs.State.{State}
 use Rattle.relay_sides.specs.Links.{Links}
-use Rattle.relay_sides.specs.SettingsView.{model_timeouts}
 use Rattle.relay_core.specs.RelayValue.{RelayValue}
-use Rattle.relay_core.specs.SettingsView.{model_settings}
+use Rattle.relay_model.specs.Settings.{model_settings}
 use Rattle.relay_core.specs.declared.relay.Relay.TheInside.{Inside}
 
 -- what stands for the buckets of so many links, of which no side has a limit
@@ -57,4 +56,4 @@ pub record AreSound (near far : Timeouts) (time : ℕ) (untimed : Bool) (k : Lin
   pub sides : All (IsSoundSide time untimed) k.sides
 
 abbrev pub IsSound : Inside → Type 0
-IsSound r = AreSound (model_timeouts r.settings.in_timeouts) (model_timeouts r.settings.out_timeouts) r.time r.untimed r.sides.links
+IsSound r = AreSound r.settings.in_timeouts r.settings.out_timeouts r.time r.untimed r.sides.links

@@ -2,7 +2,7 @@
 ghost use Rattle.std.specs.Prelude.{◌≡◌, ◌↔◌, IsTrue};
 ghost use Rattle.ev_types.specs.Usual.{no_timeouts};
 ghost use Rattle.relay_state.specs.State.{new_state};
-ghost use Rattle.relay_core.specs.SettingsView.{model_settings};
+ghost use Rattle.relay_model.specs.Settings.{model_settings};
 
 use ev_types::{Settings, Timeouts};
 use relay_sides::Sides;

@@ -1,7 +1,7 @@
 -- What contracts see of a drive.
 use Rattle.std.specs.Prelude.{ℕ, ◌^◌, Bool, ◌||◌, nat_le, Option, Some, None, Result, Ok, Err}
 use Rattle.ev_types.specs.declared.settings.Settings.{Settings}
-use Rattle.relay_core.specs.SettingsView.{model_settings}
+use Rattle.relay_model.specs.Settings.{model_settings}
 use Rattle.relay_state.specs.State.{State, new_state}
 use Rattle.relay_state.specs.Counting.{is_spent}
 use Rattle.relay_drive.specs.declared.fault.DriveFault.{DriveFault}

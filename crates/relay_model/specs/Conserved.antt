@@ -1,14 +1,14 @@
 -- What it is that no byte of a direction is lost, made or changed. The first record speaks of the trace and the counts, the
 -- second of the buffers and the running filters, which hold exactly what the counts leave. A direction goes from a side to
 -- its peer. What follows from these records stands in ConservedLaws.
-use Rattle.std.specs.Prelude.{◌≡◌, ℕ, ◌≤◌, Bool, true, if◌then◌else◌, ⊤, List, [], take, drop, Option, Some, None, MatchOption, All, length, nat_eq, ◌&&◌}
+use Rattle.std.specs.Prelude.{◌≡◌, ℕ, ◌≤◌, Bool, true, if◌then◌else◌, List, [], take, All, length, nat_eq, ◌&&◌}
 use Rattle.ev_types.specs.declared.filter.FilterKind.{FilterKind}
 use Rattle.ev_types.specs.declared.side.SideId.{SideId}
 use Rattle.ev_types.specs.Sides.{peer}
 use Rattle.ev_types.specs.Trace.{Trace}
 use Rattle.relay_model.specs.Trace.{moved_at_free, given_at_free, is_write_closed}
-use Rattle.filter_model.specs.Filter.{Filter, met}
-use Rattle.filter_model.specs.FilterLaws.{last_of}
+use Rattle.filter_model.specs.Filter.{Filter}
+use Rattle.filter_model.specs.Running.{Running, StandsAt}
 use Rattle.relay_model.specs.Flow.{Flow, Fits, middle, outcome, raw_input, input, output, raw_output, passed_at_end}
 
 -- nothing waits and no filter will make more: what was given is all that the direction makes at the end

@@ -2,7 +2,8 @@
 -- all that was read where it begins. A part looks at how much the four buffers hold, and never at a byte but to know a
 -- bad one.
 use Rattle.std.specs.Prelude.{ℕ, zero, suc, ◌+◌, ◌-◌, ◌/◌, Bool, true, false, ◌==◌, ◌&&◌, ◌||◌, not, nat_lt, nat_le, if◌then◌else◌, List, length, take, Option, None, is_some, is_none}
-use Rattle.filter_model.specs.Filter.{Filter, holds, met}
+use Rattle.filter_model.specs.Filter.{Filter, met}
+use Rattle.filter_model.specs.Stopping.{first_from, is_over}
 use Rattle.relay_model.specs.Flow.{Flow, middle, input, output, raw_output}
 use Rattle.relay_model.specs.Conserved.{all_moved}
 

@@ -6,8 +6,8 @@ use Rattle.ev_types.specs.declared.side.SideId.{SideId}
 use Rattle.ev_types.specs.declared.filter.FilterKind.{FilterKind}
 use Rattle.ev_types.specs.declared.settings.Marks.{Marks}
 use Rattle.ev_types.specs.declared.settings.Timeouts.{Timeouts}
-use Rattle.ev_types.specs.Usual.{no_marks, no_timeouts}
-use Rattle.ev_types.specs.declared.filter.FilterKind.TheVariants as kind
+use Rattle.ev_types.specs.declared.settings.Settings as code
+use Rattle.ev_types.specs.Usual.{usual as code_usual}
 use Rattle.token_bucket.specs.declared.limit.LimitCfg.{LimitCfg}
 
 -- a group: the limit that its members share, and the least share of one of them
@@ -33,26 +33,30 @@ pub record Settings : Type 0 where
   pub links : ℕ  -- the greatest number of links
   pub hooks : List SideId  -- the sides with a hook
 
--- no filters, limits, groups, marks, timeouts and hooks; 524,288 bytes are held, and 256 links may come
-abbrev pub usual : Settings
-usual = record {
-  hold = 524288;
-  in_read = kind.None;
-  in_write = kind.None;
-  out_read = kind.None;
-  out_write = kind.None;
+-- what a run is started with, and no limits, groups and hooks
+abbrev pub model_settings : code.Settings → Settings
+model_settings g = record {
+  hold = g.hold;
+  in_read = g.in_read;
+  in_write = g.in_write;
+  out_read = g.out_read;
+  out_write = g.out_write;
   in_rate = None;
   out_rate = None;
   groups = [];
   in_group = None;
   out_group = None;
-  in_marks = no_marks;
-  out_marks = no_marks;
-  in_timeouts = no_timeouts;
-  out_timeouts = no_timeouts;
-  links = 256;
+  in_marks = g.in_marks;
+  out_marks = g.out_marks;
+  in_timeouts = g.in_timeouts;
+  out_timeouts = g.out_timeouts;
+  links = g.links;
   hooks = [];
 }
+
+-- the settings of a run of which nothing was said
+abbrev pub usual : Settings
+usual = model_settings code_usual
 
 -- What a side gets of them as its link opens: its limit, its group, its marks and its timeouts.
 abbrev pub rate_set : Settings → Side → Option LimitCfg

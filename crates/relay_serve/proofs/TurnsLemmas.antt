@@ -4,12 +4,11 @@ use Rattle.std.specs.Prelude.{⊤}
 use Rattle.ev_types.specs.declared.side.SideId.{SideId}
 use Rattle.ev_types.specs.Told.{EndTold, PortTold}
 use Rattle.ev_types.specs.Trace.{Trace}
-use Rattle.relay_model.specs.Settings.{Settings}
+use Rattle.relay_model.specs.Settings.{Settings, model_settings}
 use Rattle.relay_model.specs.Stages.{Stage}
 use Rattle.relay_model.specs.Tied.{IsTied}
 use Rattle.relay_model.proofs.TiedLemmas.{nothing_is_tied}
 use Rattle.ev_types.specs.declared.settings.Settings as code
-use Rattle.relay_core.specs.SettingsView.{model_settings}
 use Rattle.relay_state.specs.State.{State}
 use Rattle.relay_steps.specs.Meaning.{IsBuilt, LeftFor}
 use Rattle.relay_laws.specs.Relayed.{StoodBetween}

@@ -14,11 +14,10 @@ use Rattle.ev_port.specs.Calls.{StartedAt}
 use Rattle.ev_port.specs.EndSteps.{AllWent, no_step}
 use Rattle.script_text.specs.ReportText.{report_text}
 use Rattle.relay_model.specs.Answers.{TurnAnswer}
-use Rattle.relay_model.specs.Settings.{Settings}
+use Rattle.relay_model.specs.Settings.{Settings, model_settings}
 use Rattle.relay_model.specs.Tied.{IsTied}
 use Rattle.relay_model.specs.Totals.{opened}
 use Rattle.ev_types.specs.declared.route.Route.{Route}
-use Rattle.relay_core.specs.SettingsView.{model_settings}
 use Rattle.relay_laws.specs.Relayed.{IsRelayed}
 use Rattle.relay_drive.specs.Advances.{Heard}
 use Rattle.relay_drive.specs.DriveStands.{DriveStands, StandsBetween}

@@ -1,4 +1,3 @@
-pub mod SettingsView
 pub mod Table
 pub mod Bevs
 pub mod SideView

@@ -17,7 +17,6 @@ use Rattle.relay_state.specs.Serving.{flow_given}
 use Rattle.relay_state.specs.Passage.{Passage, read_part, pass_round, SomeRounds, Passed}
 use Rattle.relay_state.specs.Passing.{with_bad}
 use Rattle.relay_state.specs.Counting.{has_flown_far, has_read_far}
-use Rattle.relay_sides.specs.SettingsView.{model_marks, model_timeouts}
 use Rattle.relay_sides.specs.declared.opening.NewSide.{NewSide}
 
 -- How many links were opened. Sides stand by their numbers, and so do the flows and lanes of directions, each at the side that it
@@ -60,7 +59,7 @@ change_flow e change k = put_flow e (change (flow_at k e)) k
 -- a side as its link opens, at a time
 abbrev pub opening_side : ℕ → NewSide → PlainSide
 opening_side time n =
-    let x = new_side usual time 0 In n.connected in record x { marks = model_marks n.marks; timeouts = model_timeouts n.timeouts }
+    let x = new_side usual time 0 In n.connected in record x { marks = n.marks; timeouts = n.timeouts }
 
 -- a direction of a new link, with these filters
 abbrev pub fresh_lane : FilterKind → FilterKind → Lane

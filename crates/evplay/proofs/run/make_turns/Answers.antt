@@ -3,11 +3,10 @@ use Rattle.std.specs.Prelude.{count_by}
 use Rattle.ev_types.specs.Trace.{Trace}
 use Rattle.script_text.specs.Script.{ScriptValue}
 use Rattle.script_port.specs.ScriptTold.{script_faults}
-use Rattle.relay_model.specs.Settings.{Settings}
+use Rattle.relay_model.specs.Settings.{Settings, model_settings}
 use Rattle.relay_model.specs.Stages.{Stage}
 use Rattle.relay_model.specs.Answers.{TurnAnswer}
 use Rattle.relay_model.specs.RatesKept.{is_turn}
-use Rattle.relay_core.specs.SettingsView.{model_settings}
 use Rattle.relay_steps.specs.Meaning.{StandsFor, LeftFor}
 use Rattle.relay_laws.proofs.LawLemmas.{new_relay_stands}
 use Rattle.relay_drive.specs.declared.fault.DriveFault.{DriveFault}

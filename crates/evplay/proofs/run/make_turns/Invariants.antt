@@ -8,7 +8,7 @@ use Rattle.relay_drive.specs.DriveStands.{DriveStands}
 use Rattle.relay_drive.specs.Bounds.{IsWithin, most_of_turn}
 use Rattle.relay_laws.specs.TurnEnds.{AtTurnEnds}
 use Rattle.relay_laws.specs.Relayed.{StoodBetween}
-use Rattle.relay_core.specs.SettingsView.{model_settings}
+use Rattle.relay_model.specs.Settings.{model_settings}
 use Rattle.evplay.proofs.RunLemmas.{PortKnown}
 use Rattle.evplay.proofs.run.make_turns.Given as goal
 

@@ -1,6 +1,5 @@
 use Rattle.std.proofs.Common.{◌≡◌, ◌++◌, false, refl}
-use Rattle.relay_model.specs.Settings.{Settings}
-use Rattle.relay_core.specs.SettingsView.{model_settings}
+use Rattle.relay_model.specs.Settings.{Settings, model_settings}
 use Rattle.relay_drive.specs.DriveValue.{is_worn}
 use Rattle.relay_drive.specs.Known.{Question}
 use Rattle.program_end.proofs.TurnCountLemmas.{BeginsOnce, turn-first, turn-once, cut-begins}

@@ -1,5 +1,5 @@
 use Rattle.std.proofs.Common.{◌≡◌, None, false}
-use Rattle.relay_core.specs.SettingsView.{model_settings}
+use Rattle.relay_model.specs.Settings.{model_settings}
 use Rattle.relay_drive.specs.DriveStands.{DriveStands, StandsBetween}
 use Rattle.relay_serve.specs.Seen.{seen}
 use Rattle.relay_serve.specs.Underway.{TurnsWent}
