@@ -22,7 +22,7 @@ impl Model for Delay {
 }
 
 impl Delay {
-    /// This many milliseconds.
+    /// This many milliseconds. Constant cost.
     pub fn new(ms: u64) -> Delay
         requires { ms ≤ 2 ^ 40 }
         ensures { result ≡ ms }
@@ -30,7 +30,7 @@ impl Delay {
         Delay { ms }
     }
 
-    /// How many milliseconds.
+    /// How many milliseconds. Constant cost.
     pub fn ms(&self) -> u64
         ensures same { result ≡ self.now }
         ensures within { result ≤ 2 ^ 40 }
@@ -55,7 +55,7 @@ pub enum Reaction {
 }
 
 impl Reaction {
-    /// The same act once more. Takes no memory.
+    /// The same act once more. Takes no memory; constant cost.
     pub fn again(&self) -> Reaction
         ensures { result ≡ self.now }
     {
@@ -89,7 +89,7 @@ pub enum Command {
 }
 
 impl Command {
-    /// The same line once more. Takes no memory.
+    /// The same line once more. Takes no memory; constant cost.
     pub fn again(&self) -> Command
         ensures { result ≡ self.now }
     {

@@ -22,7 +22,7 @@ pub struct Played {
 
 /// Reads a script, plays it on a base of its own, and answers the text of all answers. A text that has a line that is not
 /// in the grammar is refused for the first such line before any line is played. Takes memory for the script, for the base
-/// and for the text of the answers.
+/// and for the text of the answers. Reading is linear in the text; then each line costs what its calls of a base do.
 ///
 /// Own.
 pub fn play_base(alloc: Global, text: &[u8]) -> Result<Played, ScriptFault>

@@ -1,11 +1,10 @@
 -- How many bytes may be read and written at once.
 use Rattle.std.specs.Prelude.{ℕ, ◌-◌, ◌==◌, ◌&&◌, min, not, if◌then◌else◌, Option, Some, None, length}
 use Rattle.bev_core.specs.BevValue.{BevValue}
-use Rattle.bev_socket.specs.declared.room.TheConstants.{MOST_AT_ONCE, READ_MARK}
 
--- the length of an input from which on nothing is read: the high mark, where there is one
+-- the length of an input from which on nothing is read: the high mark, or 16,384 where there is none
 abbrev pub read_mark : ℕ → ℕ
-read_mark high = if high == 0 then READ_MARK else high
+read_mark high = if high == 0 then 16384 else high
 
 -- a number, and no more than another where there is one
 abbrev pub within : ℕ → Option ℕ → ℕ
@@ -17,7 +16,7 @@ within n None = n
 abbrev pub read_room : BevValue → Option ℕ → Option ℕ → ℕ
 read_room bev allowance share =
     if bev.live && bev.reading && not bev.ended && not bev.failed
-    then within (within (min (read_mark bev.read_high - length bev.input.bytes) MOST_AT_ONCE) allowance) share
+    then within (within (min (read_mark bev.read_high - length bev.input.bytes) 16384) allowance) share
     else 0
 
 -- Nothing may be written where it is freed, disabled for writing or failed. Else it is the output, and no more than 16,384, its
@@ -25,5 +24,5 @@ read_room bev allowance share =
 abbrev pub write_room : BevValue → Option ℕ → Option ℕ → ℕ
 write_room bev allowance share =
     if bev.live && bev.writing && not bev.failed
-    then within (within (min (length bev.output.bytes) MOST_AT_ONCE) allowance) share
+    then within (within (min (length bev.output.bytes) 16384) allowance) share
     else 0

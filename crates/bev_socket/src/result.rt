@@ -27,7 +27,7 @@ pub fn took_read(bev: &mut Bev, bytes: &[u8], now: u64) -> bool
 
 /// So many bytes of the output were written: they leave it, and the moment is the last activity of writing. Answers whether
 /// the write callback becomes due: bytes were taken, and without them the output is at most as long as its write low mark.
-/// Takes no memory.
+/// Takes no memory; linear in n, over many calls.
 ///
 /// Libevent: event2/bufferevent.h, `bufferevent_data_cb`; "Bufferevents: concepts and basics".
 pub fn took_write(bev: &mut Bev, n: usize, now: u64) -> bool

@@ -15,7 +15,7 @@ use std::alloc::Global;
 /// Reads a script, plays it on sixteen buffers that are empty and unfrozen, and answers the text of all answers. A text
 /// that has a line that is not in the grammar is refused for the first such line before any line is played. A text of
 /// at most 2^24 bytes is never spent. Takes memory for the script, for what the buffers keep and for the text of the
-/// answers.
+/// answers. Reading is linear in the text; then each line costs what its call of a buffer does.
 ///
 /// Own.
 pub fn play_buffers(alloc: Global, text: &[u8]) -> Result<Vec<u8>, ModeFault>

@@ -22,7 +22,7 @@ pub enum WordsFault {
 }
 
 impl WordsFault {
-    /// How a program ends with such words.
+    /// How a program ends with such words. Constant cost.
     pub fn status(self) -> Status
         ensures { result ≡ status_of_words self }
     {

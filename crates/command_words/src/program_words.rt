@@ -21,7 +21,7 @@ pub enum BadWords {
 }
 
 impl BadWords {
-    /// How the program ends with such words.
+    /// How the program ends with such words. Constant cost.
     pub fn status(self) -> Status
         ensures { result ≡ words_status self }
     {
@@ -40,7 +40,9 @@ impl From<AllocError> for BadWords {
     }
 }
 
-/// Why words can't be read, by the kind of the error that the system's call was answered.
+/// Why words can't be read, by the kind of the error that the system's call was answered. Constant cost.
+///
+/// Own.
 pub fn bad_words(kind: ErrorKind) -> BadWords
     ensures memory { result ≡ BadWords.Memory → kind ≡ OutOfMemory }
     ensures not_text { result ≡ BadWords.NotText → kind ≢ OutOfMemory }
@@ -51,7 +53,9 @@ pub fn bad_words(kind: ErrorKind) -> BadWords
     }
 }
 
-/// The words after the program's name.
+/// The words after the program's name. Takes memory for them; linear in their bytes.
+///
+/// Own.
 pub fn program_words<R: Env + AllocGlobal>(rt: &R) -> Result<Vec<String>, BadWords> {
     match env::args(rt) {
         Ok(args) => Ok(args.skip(1).collect(rt.alloc())?),

@@ -31,7 +31,7 @@ pub struct LogStep<'a> {
 }
 
 impl TraceLog {
-    /// Of no entry.
+    /// Of no entry. Constant cost.
     ///
     /// Own.
     pub fn new() -> TraceLog
@@ -40,7 +40,7 @@ impl TraceLog {
         TraceLog {}
     }
 
-    /// With a step behind it.
+    /// With a step behind it. Constant cost.
     ///
     /// Own.
     pub fn then(&self, _step: &LogStep<'_>) -> TraceLog
@@ -49,7 +49,7 @@ impl TraceLog {
         TraceLog {}
     }
 
-    /// With an entry for each want of a table behind it.
+    /// With an entry for each want of a table behind it. Constant cost.
     ///
     /// Own.
     pub fn then_wants(&self, _wants: &WantTable) -> TraceLog

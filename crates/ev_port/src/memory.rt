@@ -45,7 +45,8 @@ impl Model for MemSource {
 }
 
 impl MemSource {
-    /// A source of these bytes. The list has the numbers of the calls that fail, counted from 1.
+    /// A source of these bytes. The list has the numbers of the calls that fail, counted from 1. Takes no memory;
+    /// constant cost.
     pub fn new(bytes: Vec<u8>, failing: Vec<u64>) -> MemSource
         ensures { result ≡ record { left = bytes.items; failing = failing.items; calls = 0; faults = 0 } }
     {
@@ -123,7 +124,7 @@ impl Model for MemSink {
 
 impl MemSink {
     /// A sink with no bytes, of which one write takes at most so many. The list has the numbers of the calls that
-    /// fail, counted from 1. Takes no memory.
+    /// fail, counted from 1. Takes no memory; constant cost.
     pub fn new(alloc: Global, most: usize, failing: Vec<u64>) -> MemSink
         requires { 0 < most }
         ensures bytes { result.bytes ≡ [] }
@@ -141,7 +142,7 @@ impl MemSink {
         }
     }
 
-    /// The bytes that it took.
+    /// The bytes that it took. Takes no memory; constant cost.
     pub fn bytes(&self) -> &[u8]
         ensures { result.now ≡ self.now.bytes }
     {

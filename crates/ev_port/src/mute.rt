@@ -14,6 +14,7 @@ use ev_types::{Entry, NoMemory};
 pub struct Mute {}
 
 impl Mute {
+    /// A scribe that keeps nothing. Constant cost.
     pub fn new() -> Mute {
         Mute {}
     }

@@ -17,7 +17,7 @@ pub struct StdSource<R> {
 }
 
 impl<R: Read> StdSource<R> {
-    /// A source that reads from this reader, with no fault so far.
+    /// A source that reads from this reader, with no fault so far. Takes no memory; constant cost.
     pub fn new(reader: R) -> StdSource<R>
         ensures reader { result.reader ≡ reader }
         ensures faults { result.faults ≡ 0 }
@@ -59,7 +59,7 @@ pub struct StdSink<W> {
 }
 
 impl<W: Write> StdSink<W> {
-    /// A sink that writes to this writer, with no fault so far.
+    /// A sink that writes to this writer, with no fault so far. Takes no memory; constant cost.
     pub fn new(writer: W) -> StdSink<W>
         ensures writer { result.writer ≡ writer }
         ensures faults { result.faults ≡ 0 }

@@ -173,7 +173,7 @@ fn list_ready(
 }
 
 impl WantTable {
-    /// A table without a link, and with an empty list. Takes no memory.
+    /// A table without a link, and with an empty list. Takes no memory; constant cost.
     ///
     /// Own.
     pub fn new(alloc: Global) -> WantTable

@@ -84,7 +84,7 @@ pub enum Entry {
 }
 
 impl Entry {
-    /// How many bytes stand beside the entry.
+    /// How many bytes stand beside the entry. Constant cost.
     pub fn byte_count(&self) -> usize
         ensures { result ≡ bytes_beside self.now }
     {

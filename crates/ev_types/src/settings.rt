@@ -20,7 +20,7 @@ pub struct Marks {
 }
 
 impl Marks {
-    /// All 0.
+    /// All 0. Constant cost.
     pub fn none() -> Marks
         ensures { result ≡ no_marks }
     {
@@ -43,7 +43,7 @@ pub struct Timeouts {
 }
 
 impl Timeouts {
-    /// Both 0.
+    /// Both 0. Constant cost.
     pub fn none() -> Timeouts
         ensures { result ≡ no_timeouts }
     {
@@ -73,7 +73,7 @@ pub struct Settings {
 }
 
 impl Settings {
-    /// A hold mark of 524,288 bytes, no filters, no marks, no timeouts, and 256 links. Takes no memory.
+    /// A hold mark of 524,288 bytes, no filters, no marks, no timeouts, and 256 links. Takes no memory; constant cost.
     pub fn usual() -> Settings
         ensures { result ≡ usual }
     {

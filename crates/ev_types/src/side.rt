@@ -12,6 +12,7 @@ pub enum Side {
 }
 
 impl Side {
+    /// The other one. Constant cost.
     pub fn other(self) -> Side
         ensures { result ≡ other self }
     {
@@ -32,7 +33,7 @@ pub struct SideId {
 }
 
 impl SideId {
-    /// The other side of the same link.
+    /// The other side of the same link. Constant cost.
     pub fn peer(self) -> SideId
         ensures { result ≡ peer_of self }
     {
@@ -42,7 +43,7 @@ impl SideId {
         }
     }
 
-    /// The place of the side among all sides: In of each link before its Out.
+    /// The place of the side among all sides: In of each link before its Out. Constant cost.
     pub fn number(self) -> usize
         ensures { result ≡ number_of self }
     {

@@ -28,7 +28,7 @@ impl Model for Tape {
 }
 
 impl Tape {
-    /// A tape with no entry. Takes no memory.
+    /// A tape with no entry. Takes no memory; constant cost.
     pub fn new(alloc: Global) -> Tape
         ensures { result.trace ≡ [] }
     {
@@ -38,7 +38,7 @@ impl Tape {
         }
     }
 
-    /// The entries, and all their bytes one after another.
+    /// The entries, and all their bytes one after another. Constant cost.
     pub fn parts(&self) -> (&[Entry], &[u8])
         ensures trace { paired result.0.now result.1.now ≡ self.now.trace }
         ensures bytes { sum_by bytes_beside result.0.now ≡ length result.1.now }
@@ -46,7 +46,8 @@ impl Tape {
         (&self.entries, &self.bytes)
     }
 
-    /// Makes room for so many entries with so many bytes in all. After a refusal some of the room may be there.
+    /// Makes room for so many entries with so many bytes in all. After a refusal some of the room may be there. Constant
+    /// cost where there is room, else linear in what is on the tape.
     pub fn reserve(&mut self, entries: usize, bytes: usize) -> Result<(), NoMemory>
         ensures trace { self.new.trace ≡ self.old.trace }
         ensures entries { OnOk result (entries ≤ self.new.spare_entries) }
@@ -59,7 +60,7 @@ impl Tape {
         Ok(())
     }
 
-    /// Appends an entry with its bytes, in room that was made before. Takes no memory.
+    /// Appends an entry with its bytes, in room that was made before. Takes no memory; linear in the bytes.
     pub fn put(&mut self, entry: Entry, bytes: &[u8])
         requires room { 0 < self.old.spare_entries }
         requires bytes_room { length bytes.now ≤ self.old.spare_bytes }

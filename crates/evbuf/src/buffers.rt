@@ -32,7 +32,7 @@ impl Buffers {
     ghost use Rattle.std.specs.Borrow.{sem};
     ghost use Rattle.evbuf.specs.LendsBuffer.{LendsBuffer};
 
-    /// So many new buffers.
+    /// So many new buffers. Linear in n.
     pub fn new(alloc: Global, n: usize) -> Result<Buffers, BufFault>
         ensures answer { AnswersOr Memory result None }
         ensures buffers { IfOk result (λ buffers. buffers ≡ replicate n new_buffer) }
@@ -44,21 +44,21 @@ impl Buffers {
         Ok(Buffers { items })
     }
 
-    /// How many buffers there are. Takes no memory.
+    /// How many buffers there are. Takes no memory; constant cost.
     pub fn len(&self) -> usize
         ensures { result ≡ length self.now }
     {
         self.items.len()
     }
 
-    /// Whether there is no buffer. Takes no memory.
+    /// Whether there is no buffer. Takes no memory; constant cost.
     pub fn is_empty(&self) -> bool
         ensures { IsTrue result ↔ (length self.now ≡ 0) }
     {
         self.items.is_empty()
     }
 
-    /// The buffer of a number. Takes no memory.
+    /// The buffer of a number. Takes no memory; constant cost.
     pub fn at(&mut self, i: usize) -> &mut Evbuffer
         requires { i < length self.old }
         ensures* writes_back { sem 𝓛 (LendsBuffer self.entry i result) }
@@ -68,7 +68,7 @@ impl Buffers {
     }
 
     /// Moves all bytes of one buffer to the end of another, as `Evbuffer::add_buffer`. A buffer is not moved into itself;
-    /// whether its ends are frozen is tested before.
+    /// whether its ends are frozen is tested before. Costs what `Evbuffer::add_buffer` does.
     pub fn move_all(&mut self, to: usize, from: usize) -> Result<(), BufFault>
         requires to_there { to < length self.old }
         requires from_there { from < length self.old }
@@ -88,7 +88,7 @@ impl Buffers {
 
     /// Moves the first n bytes of a buffer, or all where there are fewer, to the end of another, as
     /// `Evbuffer::remove_buffer`, and answers how many. A buffer is not moved into itself; whether its ends are frozen is
-    /// tested before.
+    /// tested before. Costs what `Evbuffer::remove_buffer` does.
     pub fn move_some(&mut self, from: usize, to: usize, n: usize) -> Result<usize, BufFault>
         requires from_there { from < length self.old }
         requires to_there { to < length self.old }

@@ -27,7 +27,7 @@ use std::rc::RcSlice;
 /// Bytes in order, with ends that can be frozen and callbacks that are told how the length changed.
 ///
 /// Each call tests first whether an end is frozen, the target's end before the source's front, then whether a length
-/// or a number fits, and then wants memory.
+/// or a number fits, and then wants memory. A change of its bytes costs a step for each size callback, beside what the call costs.
 ///
 /// Libevent: event2/buffer.h, `evbuffer`; "Evbuffers".
 /// Differs: callbacks are numbers, whose reports are taken by the caller; frozen ends refuse also where there is
@@ -58,7 +58,7 @@ impl Evbuffer {
     ghost use Rattle.evbuf.specs.contracts.evbuffer.Evbuffer.{the_row};
     ghost use Rattle.evbuf.specs.Pullup.{AfterPullup, AfterPullupAll};
 
-    /// An empty buffer with no callback, frozen at no end. Takes no memory.
+    /// An empty buffer with no callback, frozen at no end. Takes no memory; constant cost.
     pub fn new(alloc: Global) -> Evbuffer
         ensures { result ≡ new_buffer }
     {
@@ -70,14 +70,14 @@ impl Evbuffer {
         }
     }
 
-    /// The allocator that the buffer was made with. Takes no memory.
+    /// The allocator that the buffer was made with. Takes no memory; constant cost.
     ///
     /// Own.
     pub fn allocator(&self) -> Global {
         self.chain.allocator()
     }
 
-    /// How many bytes there are. Takes no memory.
+    /// How many bytes there are. Takes no memory; constant cost.
     pub fn len(&self) -> usize
         ensures len { result ≡ length self.now.bytes }
         ensures fits { length self.now.bytes + self.now.spare < 2 ^ 64 }
@@ -98,7 +98,7 @@ impl Evbuffer {
     }
 
     /// Frees the room of a buffer without a byte, and does nothing where there is one. Takes no memory, and no frozen end
-    /// refuses it.
+    /// refuses it. Constant cost.
     ///
     /// Own.
     pub fn give_up(&mut self)
@@ -107,7 +107,8 @@ impl Evbuffer {
         self.chain.give_up();
     }
 
-    /// Makes room for at least n more bytes at the end. No frozen end refuses it.
+    /// Makes room for at least n more bytes at the end. No frozen end refuses it. Takes memory where there is less;
+    /// constant cost where there is room, else linear in the length.
     ///
     /// Libevent: event2/buffer.h, `evbuffer_expand`; "Evbuffers".
     pub fn reserve(&mut self, n: usize) -> Result<(), BufFault>
@@ -122,6 +123,7 @@ impl Evbuffer {
     }
 
     /// Copies bytes in at the end, in room that was made before. Takes no memory, and lowers what is spare by the length.
+    /// Linear in the bytes.
     pub fn push_reserved(&mut self, bytes: &[u8]) -> Result<(), BufFault>
         requires { length bytes.now ≤ self.old.spare }
         ensures answer { fault_of result ≡ end_refusal self.old }
@@ -135,7 +137,8 @@ impl Evbuffer {
         Ok(())
     }
 
-    /// Copies bytes in at the end. What is spare afterwards is left open.
+    /// Copies bytes in at the end. What is spare afterwards is left open. Takes memory where there is less room; linear
+    /// in the bytes, over many calls.
     ///
     /// Libevent: event2/buffer.h, `evbuffer_add`; "Evbuffers".
     pub fn add(&mut self, bytes: &[u8]) -> Result<(), BufFault>
@@ -150,7 +153,8 @@ impl Evbuffer {
         Ok(())
     }
 
-    /// Copies bytes in at the front. What is spare afterwards is left open.
+    /// Copies bytes in at the front. What is spare afterwards is left open. Takes memory where there is less room; linear
+    /// in the bytes, over many calls.
     ///
     /// Libevent: event2/buffer.h, `evbuffer_prepend`; "Evbuffers".
     pub fn prepend(&mut self, bytes: &[u8]) -> Result<(), BufFault>
@@ -166,7 +170,8 @@ impl Evbuffer {
     }
 
     /// Adds a reference to bytes at the end. Its ticket is released once, when the last of its bytes has left the buffer
-    /// that holds it or was copied by a pullup; at once where there is none. What is spare afterwards is left open.
+    /// that holds it or was copied by a pullup; at once where there is none. What is spare afterwards is left open. Takes
+    /// memory; linear in the bytes, which are copied.
     ///
     /// Libevent: event2/buffer.h, `evbuffer_add_reference`; "Evbuffers".
     /// Differs: a ticket stands in place of the cleanup function, and a reference of no bytes is released at once.
@@ -183,7 +188,7 @@ impl Evbuffer {
         Ok(())
     }
 
-    /// Takes off the first n bytes, or all where there are fewer. Takes no memory.
+    /// Takes off the first n bytes, or all where there are fewer. Takes no memory; linear in n, over many calls.
     ///
     /// Libevent: event2/buffer.h, `evbuffer_drain`; "Evbuffers".
     pub fn drain(&mut self, n: usize) -> Result<(), BufFault>
@@ -199,7 +204,8 @@ impl Evbuffer {
         Ok(())
     }
 
-    /// Moves out the first bytes, as many as are there and fit, and answers how many. Takes no memory.
+    /// Moves out the first bytes, as many as are there and fit, and answers how many. Takes no memory; linear in what it
+    /// moves, over many calls.
     ///
     /// Libevent: event2/buffer.h, `evbuffer_remove`; "Evbuffers".
     pub fn remove(&mut self, into: &mut [u8]) -> Result<usize, BufFault>
@@ -217,7 +223,8 @@ impl Evbuffer {
         Ok(n)
     }
 
-    /// Copies the bytes from a place on, as many as are there and fit, and answers how many. Takes no memory.
+    /// Copies the bytes from a place on, as many as are there and fit, and answers how many. Takes no memory; linear in
+    /// what it copies.
     ///
     /// Libevent: event2/buffer.h, `evbuffer_copyout_from`; "Evbuffers".
     /// Differs: a frozen front does not refuse it.
@@ -228,7 +235,7 @@ impl Evbuffer {
         self.chain.copy_out(from, into)
     }
 
-    /// The first n bytes, or all where there are fewer, as slices that joined are these bytes.
+    /// The first n bytes, or all where there are fewer, as slices that joined are these bytes. Constant cost.
     ///
     /// Libevent: event2/buffer.h, `evbuffer_peek`; "Evbuffers".
     pub fn extents(&self, n: usize) -> Result<SmallVec<&[u8], 8>, BufFault>
@@ -242,7 +249,7 @@ impl Evbuffer {
     }
 
     /// Moves all bytes of another buffer, with their marks, to the end. Both tell their callbacks. What is spare
-    /// afterwards is left open in both.
+    /// afterwards is left open in both. Takes memory where there is less room; linear in what it moves, over many calls.
     ///
     /// Libevent: event2/buffer.h, `evbuffer_add_buffer`; "Evbuffers".
     pub fn add_buffer(&mut self, from: &mut Evbuffer) -> Result<(), BufFault>
@@ -264,7 +271,8 @@ impl Evbuffer {
 
     /// Moves the first n bytes, or all where there are fewer, to the end of another buffer, and answers how many. Where
     /// a reference is cut its front part is copied, and the reference stays with the rest. Both tell their callbacks.
-    /// What is spare afterwards is left open in both.
+    /// What is spare afterwards is left open in both. Takes memory where there is less room; linear in what it moves,
+    /// over many calls.
     ///
     /// Libevent: event2/buffer.h, `evbuffer_remove_buffer`; "Evbuffers".
     pub fn remove_buffer(&mut self, to: &mut Evbuffer, n: usize) -> Result<usize, BufFault>
@@ -287,7 +295,7 @@ impl Evbuffer {
 
     /// Makes the first n bytes contiguous, in the buffer's own memory, and shows them; none where n is above the length.
     /// Every referenced byte among them is copied, so that the references that end there are released. No frozen end
-    /// refuses it.
+    /// refuses it. Linear in the references that end among these bytes, which lie in one piece already.
     ///
     /// Libevent: event2/buffer.h, `evbuffer_pullup`; "Evbuffers", "Rearranging the internal layout of an evbuffer".
     /// Differs: referenced bytes are copied also where they are contiguous already.
@@ -313,7 +321,7 @@ impl Evbuffer {
         Ok(front.unwrap())
     }
 
-    /// Whether an end is frozen. Takes no memory.
+    /// Whether an end is frozen. Takes no memory; constant cost.
     ///
     /// Own.
     pub fn is_frozen(&self, at: Place) -> bool
@@ -325,7 +333,7 @@ impl Evbuffer {
         }
     }
 
-    /// Freezes an end: at the end no byte comes in, at the front none comes in or leaves. Takes no memory.
+    /// Freezes an end: at the end no byte comes in, at the front none comes in or leaves. Takes no memory; constant cost.
     ///
     /// Libevent: event2/buffer.h, `evbuffer_freeze`; "Evbuffers".
     pub fn freeze(&mut self, at: Place)
@@ -334,7 +342,7 @@ impl Evbuffer {
         self.set_frozen(at, true);
     }
 
-    /// Ends the freezing of an end. Takes no memory.
+    /// Ends the freezing of an end. Takes no memory; constant cost.
     ///
     /// Libevent: event2/buffer.h, `evbuffer_unfreeze`; "Evbuffers".
     pub fn unfreeze(&mut self, at: Place)
@@ -344,7 +352,7 @@ impl Evbuffer {
     }
 
     /// Adds a size callback, enabled, and answers its number: from 0 on, and never used again in this buffer. Spent where
-    /// the next number would not fit a u32.
+    /// the next number would not fit a u32. Takes memory; constant cost, over many calls.
     ///
     /// Libevent: event2/buffer.h, `evbuffer_add_cb`; "Evbuffers".
     pub fn add_cb(&mut self) -> Result<u32, BufFault>
@@ -358,7 +366,7 @@ impl Evbuffer {
         Ok(number)
     }
 
-    /// Takes a callback out, with what it has summed. Takes no memory.
+    /// Takes a callback out, with what it has summed. Takes no memory; linear in the callbacks.
     ///
     /// Libevent: event2/buffer.h, `evbuffer_remove_cb_entry`; "Evbuffers".
     pub fn remove_cb(&mut self, cb: u32) -> Result<(), BufFault>
@@ -371,7 +379,8 @@ impl Evbuffer {
         Ok(())
     }
 
-    /// Enables or disables a callback. What it has summed stays, and is still reported. Takes no memory.
+    /// Enables or disables a callback. What it has summed stays, and is still reported. Takes no memory; linear in the
+    /// callbacks.
     ///
     /// Libevent: event2/buffer.h, `evbuffer_cb_set_flags`; "Evbuffers".
     /// Differs: a disabled callback reports what it has summed before.
@@ -385,7 +394,8 @@ impl Evbuffer {
         Ok(())
     }
 
-    /// The report of the newest callback of which a sum isn't 0, or none. Takes no memory.
+    /// The report of the newest callback of which a sum isn't 0, or none. Takes no memory; linear in the callbacks, all
+    /// reports after one change together.
     ///
     /// Own.
     pub fn take_report(&mut self) -> Option<Report>
@@ -395,7 +405,7 @@ impl Evbuffer {
         self.callbacks.take_report()
     }
 
-    /// The ticket that was released first and not taken yet, or none. Takes no memory.
+    /// The ticket that was released first and not taken yet, or none. Takes no memory; constant cost.
     ///
     /// Own.
     pub fn take_released(&mut self) -> Option<u64>

@@ -51,7 +51,7 @@ impl Chain {
     ghost use Rattle.evbuf_chain.specs.contracts.chain.Chain.{the_row};
     ghost use Rattle.evbuf_chain.specs.Buffered.{AfterPullup, PullupAnswer, IsPulledUp};
 
-    /// A chain with no byte. Takes no memory.
+    /// A chain with no byte. Takes no memory; constant cost.
     pub fn new(alloc: Global) -> Chain
         ensures bytes { result.bytes ≡ [] }
         ensures marks { result.marks ≡ [] }
@@ -64,14 +64,14 @@ impl Chain {
         }
     }
 
-    /// The allocator that the chain was made with. Takes no memory.
+    /// The allocator that the chain was made with. Takes no memory; constant cost.
     ///
     /// Own.
     pub fn allocator(&self) -> Global {
         self.bytes.allocator()
     }
 
-    /// How many bytes there are. Takes no memory.
+    /// How many bytes there are. Takes no memory; constant cost.
     pub fn len(&self) -> usize
         ensures len { result ≡ length self.now.bytes }
         ensures fits { length self.now.bytes + self.now.spare < 2 ^ 64 }
@@ -92,7 +92,7 @@ impl Chain {
         bytes
     }
 
-    /// Frees the room of a chain without a byte, and does nothing where there is one. Takes no memory.
+    /// Frees the room of a chain without a byte, and does nothing where there is one. Takes no memory; constant cost.
     ///
     /// Own.
     pub fn give_up(&mut self)
@@ -101,7 +101,8 @@ impl Chain {
         self.bytes.give_up();
     }
 
-    /// Makes room for at least n more bytes at the end.
+    /// Makes room for at least n more bytes at the end. Takes memory where there is less; constant cost where there is
+    /// room, else linear in the length.
     pub fn reserve(&mut self, n: usize) -> Result<(), ChainFault>
         ensures answer { AnswersOr Memory result None }
         ensures bytes { self.new.bytes ≡ self.old.bytes }
@@ -115,7 +116,7 @@ impl Chain {
         Ok(())
     }
 
-    /// Copies bytes in at the end, in room that was made before. Takes no memory.
+    /// Copies bytes in at the end, in room that was made before. Takes no memory; linear in the bytes.
     pub fn push_reserved(&mut self, bytes: &[u8])
         requires { length bytes.now ≤ self.old.spare }
         ensures bytes { self.new.bytes ≡ self.old.bytes ++ bytes.now }
@@ -129,7 +130,7 @@ impl Chain {
     }
 
     /// Copies bytes in at the end. Where the length would not fit a usize it is refused as Spent, before want of memory.
-    /// What is spare afterwards is left open.
+    /// What is spare afterwards is left open. Takes memory where there is less room; linear in the bytes, over many calls.
     pub fn push_copy(&mut self, bytes: &[u8]) -> Result<(), ChainFault>
         ensures answer { AnswersOr Memory result (length_refusal (length self.old.bytes + length bytes.now)) }
         ensures bytes { OnOk result (self.new.bytes ≡ self.old.bytes ++ bytes.now) }
@@ -144,7 +145,8 @@ impl Chain {
     }
 
     /// Adds a reference to bytes at the end, with the ticket by which its end is told. One of no bytes is released at
-    /// once. Refused as `push_copy`. What is spare afterwards is left open, and so is whether the bytes are shared.
+    /// once. Refused as `push_copy`. What is spare afterwards is left open, and so is whether the bytes are shared. Takes
+    /// memory; linear in the bytes, which are copied.
     ///
     /// Libevent: event2/buffer.h, `evbuffer_add_reference`; "Evbuffers".
     /// Differs: a reference of no bytes does not wait for the next change.
@@ -164,7 +166,8 @@ impl Chain {
         Ok(())
     }
 
-    /// Copies bytes in at the front. Refused as `push_copy`.
+    /// Copies bytes in at the front. Refused as `push_copy`. Takes memory where there is less room; linear in the bytes,
+    /// over many calls.
     pub fn prepend(&mut self, bytes: &[u8]) -> Result<(), ChainFault>
         ensures answer { AnswersOr Memory result (length_refusal (length self.old.bytes + length bytes.now)) }
         ensures bytes { OnOk result (self.new.bytes ≡ bytes.now ++ self.old.bytes) }
@@ -178,7 +181,7 @@ impl Chain {
         Ok(())
     }
 
-    /// Takes off the first n bytes, or all where there are fewer. Takes no memory.
+    /// Takes off the first n bytes, or all where there are fewer. Takes no memory; linear in n, over many calls.
     pub fn drain(&mut self, n: usize)
         ensures bytes { self.new.bytes ≡ drop n self.old.bytes }
         ensures marks { self.new.marks ≡ drop n self.old.marks }
@@ -190,7 +193,8 @@ impl Chain {
         made_marks::drop_front(&mut self.marks, n);
     }
 
-    /// Copies the bytes from a place on, as many as are there and fit, and answers how many. Takes no memory.
+    /// Copies the bytes from a place on, as many as are there and fit, and answers how many. Takes no memory; linear in
+    /// what it copies.
     pub fn copy_out(&self, from: usize, into: &mut [u8]) -> usize
         ensures count { result ≡ min (length into.old) (length self.now.bytes - from) }
         ensures copied { into.new ≡ take result (drop from self.now.bytes) ++ drop result into.old }
@@ -203,7 +207,7 @@ impl Chain {
         count
     }
 
-    /// The first n bytes, or all where there are fewer, as slices that joined are these bytes.
+    /// The first n bytes, or all where there are fewer, as slices that joined are these bytes. Constant cost.
     pub fn extents(&self, n: usize) -> Result<SmallVec<&[u8], 8>, ChainFault>
         ensures answer { AnswersOr Memory result None }
         ensures bytes { IfOk result (λ slices. joined slices.items ≡ take n self.now.bytes) }
@@ -214,7 +218,8 @@ impl Chain {
     }
 
     /// Makes the first n bytes contiguous, in the chain's own memory, and shows them; none where n is above the length.
-    /// Every referenced byte among them is copied, so that the references that end there are released.
+    /// Every referenced byte among them is copied, so that the references that end there are released. Linear in the
+    /// references that end among these bytes, which lie in one piece already.
     ///
     /// Libevent: event2/buffer.h, `evbuffer_pullup`; "Evbuffers", "Rearranging the internal layout of an evbuffer".
     /// Differs: referenced bytes are copied also where they are contiguous already.
@@ -240,7 +245,7 @@ impl Chain {
         made_marks::prepend_unmarked(&mut self.marks, n);
     }
 
-    /// The ticket that was released first and not taken yet, or none. Takes no memory.
+    /// The ticket that was released first and not taken yet, or none. Takes no memory; constant cost.
     pub fn take_released(&mut self) -> Option<u64>
         ensures bytes { self.new.bytes ≡ self.old.bytes }
         ensures marks { self.new.marks ≡ self.old.marks }
@@ -253,7 +258,8 @@ impl Chain {
 
     /// Moves the first n bytes, or all where there are fewer, to the end of another chain, and answers how many. Where a
     /// reference is cut, its front part is copied and the reference stays with the rest. Where the other chain's length
-    /// would not fit a usize it is refused as Spent, before want of memory. What is spare in either is left open.
+    /// would not fit a usize it is refused as Spent, before want of memory. What is spare in either is left open. Takes
+    /// memory where there is less room; linear in what it moves, over many calls.
     ///
     /// Libevent: event2/buffer.h, `evbuffer_remove_buffer`; "Evbuffers".
     pub fn split_front(&mut self, n: usize, to: &mut Chain) -> Result<usize, ChainFault>
@@ -282,7 +288,7 @@ impl Chain {
     }
 
     /// Moves all bytes of another chain, with their marks, to the end. Refused as `split_front`. What is spare in either is
-    /// left open.
+    /// left open. Costs what `split_front` does.
     ///
     /// Libevent: event2/buffer.h, `evbuffer_add_buffer`; "Evbuffers".
     pub fn append_all(&mut self, from: &mut Chain) -> Result<(), ChainFault>

@@ -28,7 +28,7 @@ fn window_at<'a>(buf: &Evbuffer, from: usize, window: &'a mut [u8]) -> &'a [u8]
 }
 
 /// The first place at or after `from` where a line end of the style stands, and how long it is from there on. None
-/// exactly where there is none. Takes no memory.
+/// exactly where there is none. Takes no memory; linear in the bytes that it looks at.
 ///
 /// Libevent: event2/buffer.h, `evbuffer_search_eol`; Evbuffers, "Searching within an evbuffer".
 pub fn search_eol(buf: &Evbuffer, style: Eol, from: usize) -> Option<(usize, usize)>
@@ -93,7 +93,8 @@ fn length_of_end(buf: &Evbuffer, style: Eol, place: usize) -> usize
 
 /// The first place at or after `from` where the needle stands. None exactly where there is none. An empty needle stands
 /// at each place that has a byte.
-/// Takes memory for a window of 4,096 bytes, or of twice the needle's length where that is more.
+/// Takes memory for a window of 4,096 bytes, or of twice the needle's length where that is more. Linear in the window and
+/// in the bytes that it looks at.
 ///
 /// Libevent: event2/buffer.h, `evbuffer_search`; Evbuffers, "Searching within an evbuffer".
 pub fn search(

@@ -22,7 +22,7 @@ fn first_bytes(alloc: Global, buf: &Evbuffer, n: usize) -> Result<Vec<u8>, Alloc
 }
 
 /// The first n bytes of a buffer, or all where there are fewer; they stay where they are. Takes memory for them. Frozen
-/// ends don't refuse it.
+/// ends don't refuse it. Linear in what it copies.
 ///
 /// Libevent: event2/buffer.h, `evbuffer_peek`; Evbuffers, "Inspecting data without copying it".
 /// Differs: the bytes are copied.
@@ -34,7 +34,8 @@ pub fn peek(alloc: Global, buf: &Evbuffer, n: usize) -> Result<Vec<u8>, NoMemory
 
 /// Takes the first line out of a buffer, with its end, and answers the line without its end. None exactly where no line
 /// end of the style stands in the buffer; then nothing is taken. Refused as FrozenFront first, also where there is no
-/// line, and then for want of memory for the line; a refused call has changed nothing.
+/// line, and then for want of memory for the line; a refused call has changed nothing. Linear in the line, or in the
+/// buffer where there is none.
 ///
 /// Libevent: event2/buffer.h, `evbuffer_readln`; Evbuffers, "Reading lines from a buffer".
 /// Differs: a size callback is told of the line and its end as one change.

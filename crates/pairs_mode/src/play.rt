@@ -12,7 +12,7 @@ use std::alloc::Global;
 /// Plays a script on the two halves of a new pair, and answers the text of all answers. A text that has a line that is not in the
 /// grammar is refused for the first such line, counted from 1; a number above 2^32 - 1 is told as that number. A length that would
 /// fit no usize is want of memory, since no memory holds so many bytes. Takes memory for the words of a line, for what the halves
-/// keep and for the text of the answers.
+/// keep and for the text of the answers. Reading is linear in the text; then each line costs what its call of a half does.
 ///
 /// Own.
 pub fn play_pairs(alloc: Global, text: &[u8]) -> Result<Vec<u8>, ScriptFault>

@@ -58,7 +58,7 @@ impl Active {
     }
 
     /// Puts the key at the end of the queue of this priority. A key that stands in any queue stays
-    /// where it is. Takes memory; looks through all keys that wait.
+    /// where it is. Takes memory; linear in the keys that wait.
     pub fn activate(&mut self, priority: u32, key: u64) -> Result<(), PrioFault>
         ensures bad { (result ≡ Err PrioFault.BadPriority) ↔ (length self.old ≤ priority) }
         ensures ok { OnOk result (self.new ≡ activated self.old priority key) }
@@ -95,8 +95,8 @@ impl Active {
         stands_in(self.queues.as_slice(), key)
     }
 
-    /// Takes the key out of its queue, and tells whether it stood in one. Takes no memory; looks
-    /// through all keys that wait.
+    /// Takes the key out of its queue, and tells whether it stood in one. Takes no memory; linear
+    /// in the keys that wait.
     pub fn remove(&mut self, key: u64) -> bool
         ensures told { result ≡ is_queued key self.old }
         ensures left { self.new ≡ without key self.old }

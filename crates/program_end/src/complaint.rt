@@ -13,7 +13,10 @@ use ev_port::Sink;
 use ev_types::Status;
 use itoa::Buffer;
 
-/// Writes the line of a status, which is nothing of a run that went well. Takes no memory.
+/// Writes the line of a status, which is nothing of a run that went well. Takes no memory; constant cost, but for what
+/// the sink costs.
+///
+/// Own.
 pub fn complain<E: Sink>(errors: &mut E, status: Status) -> Result<(), WriteFailed>
     ensures whole { OnOk result (TookOn (E.taken errors.old) (E.taken errors.new) (complaint status)) }
     ensures calm { OnOk result (E.faults errors.new ≡ E.faults errors.old) }
@@ -69,7 +72,9 @@ fn write_number<E: Sink>(errors: &mut E, text: &str, number: u32) -> Result<(), 
 }
 
 /// Says how the program ended, and answers the status of its process. Where the line can't be written, the status still
-/// tells. Takes no memory.
+/// tells. Takes no memory; costs what `complain` does.
+///
+/// Own.
 pub fn finish<E: Sink>(errors: &mut E, status: Status) -> u8
     ensures number { result ≡ status_number status }
     ensures line { Complains status (E.taken errors.old) (E.taken errors.new) (E.faults errors.old) (E.faults errors.new) }

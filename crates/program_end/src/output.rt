@@ -11,7 +11,10 @@ use thiserror::Error;
 #[error("the sink failed")]
 pub struct WriteFailed;
 
-/// Writes the whole text, or a prefix of it where the sink failed. Takes no memory.
+/// Writes the whole text, or a prefix of it where the sink failed. Takes no memory; linear in the text, beside what the
+/// sink costs.
+///
+/// Own.
 pub fn write_text<K: Sink>(sink: &mut K, text: &[u8]) -> Result<(), WriteFailed>
     ensures whole { OnOk result (TookOn (K.taken sink.old) (K.taken sink.new) text.now) }
     ensures calm { OnOk result (K.faults sink.new ≡ K.faults sink.old) }

@@ -5,7 +5,9 @@ ghost use Rattle.program_end.specs.EndStatus.{status_number, status_of};
 use ev_types::Status;
 use relay_drive::DriveFault;
 
-/// The status of the process: 0 to 10, in the order of the statuses.
+/// The status of the process: 0 to 10, in the order of the statuses. Constant cost.
+///
+/// Own.
 pub fn process_status(status: Status) -> u8
     ensures { result ≡ status_number status }
 {
@@ -24,7 +26,9 @@ pub fn process_status(status: Status) -> u8
     }
 }
 
-/// How the program ends where a turn was refused.
+/// How the program ends where a turn was refused. Constant cost.
+///
+/// Own.
 pub fn fault_status(fault: DriveFault) -> Status
     ensures { result ≡ status_of fault }
 {

@@ -46,7 +46,7 @@ impl Model for Drive {
 }
 
 impl Drive {
-    /// A drive with no link. It is refused only for want of memory.
+    /// A drive with no link. It is refused only for want of memory. Takes memory for the longest read; constant cost.
     pub fn new(alloc: Global, settings: Settings) -> Result<Drive, DriveFault>
         ensures { MatchResult result (λ drive. drive ≡ new_drive settings) (λ fault. fault ≡ Memory) }
     {
@@ -66,7 +66,9 @@ impl Drive {
     }
 
     /// Makes one turn. After a refusal every later turn is refused so, with no call of the port and no entry. A turn is
-    /// refused as spent where a count, or the number of entries, has come to 2^62 as it begins.
+    /// refused as spent where a count, or the number of entries, has come to 2^62 as it begins. Linear in the links at
+    /// which something is to be done and in what it moves, and it looks at a word for each 64 links; linear in all links
+    /// where a side may have a timeout.
     pub fn turn<P: Port, S: Scribe>(
         &mut self,
         port: &mut P,
@@ -111,7 +113,7 @@ impl Drive {
         }
     }
 
-    /// How many links were opened.
+    /// How many links were opened. Constant cost.
     pub fn opened(&self) -> u32
         ensures { result ≡ self.now.state.plain.opened }
     {
@@ -119,6 +121,7 @@ impl Drive {
     }
 
     /// Whether a link has a live side. Before a refusal it looks at few links, whatever their number; takes no memory.
+    /// Else the cost is linear in the links.
     pub fn has_open_links(&self) -> bool
         ensures { result ≡ nat_lt 0 (open_below self.now.state self.now.state.plain.opened) }
     {
@@ -142,7 +145,7 @@ impl Drive {
         self.run.relay.open_links()
     }
 
-    /// What a link came to. None exactly from the number of opened links on.
+    /// What a link came to. None exactly from the number of opened links on. Constant cost.
     pub fn link(&self, link: u32) -> Option<LinkCount>
         ensures { result ≡ (if nat_lt link self.now.state.plain.opened then Some (link_count self.now.state link) else None) }
     {

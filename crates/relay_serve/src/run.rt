@@ -57,7 +57,8 @@ fn run<R: Wait, P: Port, S: Scribe>(
 
 /// Relays over a port: starts it once, makes turns until so many links were opened as the settings allow and none is open, and writes
 /// the report. A failed start, a failed poll or accept, and counts that came to 2^62 end the run, and the report is written all the
-/// same; want of memory ends it with nothing written. It may never return.
+/// same; want of memory ends it with nothing written. It may never return. Between two turns constant cost until all
+/// links were opened.
 ///
 /// Own.
 pub fn relay<R: Wait, P: Port, S: Scribe, K: Sink>(

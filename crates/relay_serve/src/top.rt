@@ -14,7 +14,7 @@ use std::sync::Wait;
 
 /// Relays over a port as the words say, which are those after the program's name: it listens at one address, makes a connection to the
 /// other for each that comes, and makes turns until so many links were opened as the words ask for and none is open. Then the report
-/// is written. It may never return.
+/// is written. It may never return. Costs what `relay` does.
 ///
 /// Own; libevent's sample le-proxy is such a program.
 pub fn serve<R: Wait, P: Port, S: Scribe, K: Sink>(

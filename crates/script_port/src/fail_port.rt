@@ -70,7 +70,7 @@ pub struct FailPort {
 
 impl FailPort {
     /// The k-th call of this kind, counted from 1 and from here on, is answered `Failed` without asking the inner port,
-    /// so that nothing of what that would answer is lost. Where k is 0 no call fails. Takes no memory.
+    /// so that nothing of what that would answer is lost. Where k is 0 no call fails. Takes no memory; constant cost.
     pub fn new(inner: ScriptPort, kind: PortCall, k: u64) -> FailPort
         ensures { result ≡ record { inner = inner; kind = kind; plan = FailPlan.Left k } }
     {

@@ -11,7 +11,7 @@ use crate::push::{put_digits, put_end, put_last, put_last_number, put_number, pu
 use crate::value_text::{conn_text, marks_text, put_cause, put_why, side_text};
 use ev_types::{Act, AskAnswer, Cause, Entry, ReadAnswer, SideId, Why, WriteAnswer};
 
-/// Appends the line of an entry with the bytes beside it, and its LF. Takes no memory.
+/// Appends the line of an entry with the bytes beside it, and its LF. Takes no memory; linear in the bytes.
 ///
 /// Own.
 pub fn put_entry(text: &mut Vec<u8>, entry: Entry, beside: &[u8])

@@ -187,7 +187,8 @@ impl Reading {
 
 /// Reads a whole script. Empty lines, and lines whose first word begins with `#`, are skipped and counted. An empty
 /// text is a script with no turn. Takes memory for the script and for the words of a line. A text is refused at its
-/// first line that is not in the grammar, counted from 1; a number above 2^32 - 1 is told as that number.
+/// first line that is not in the grammar, counted from 1; a number above 2^32 - 1 is told as that number. Linear in the
+/// text.
 ///
 /// Own.
 pub fn read_script(alloc: Global, text: &[u8]) -> Result<Script, ScriptFault>

@@ -9,7 +9,8 @@ use ev_types::NoMemory;
 /// Own.
 pub const LINE_ROOM: usize = 192;
 
-/// Makes room behind a text for the lines of so many entries with so many bytes in all. The text stays as it is.
+/// Makes room behind a text for the lines of so many entries with so many bytes in all. The text stays as it is. Takes
+/// memory where there is less; constant cost where there is room, else linear in the text.
 ///
 /// Own.
 pub fn make_room(text: &mut Vec<u8>, entries: usize, bytes: usize) -> Result<(), NoMemory>

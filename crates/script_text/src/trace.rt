@@ -27,6 +27,7 @@ fn put_line(alloc: Global, tape: &mut Tape, line: &[u8]) -> Result<bool, NoMemor
 /// zero and hex digits are lower case. No line is skipped, so an empty one is bad. Numbers may be any of their field's
 /// type; those of a `rate` ask make a limit. Takes memory for the trace and for the words of a line. A text is
 /// refused at its first line that is no line of a trace, counted from 1; a number above 2^32 - 1 is told as that number.
+/// Linear in the text.
 ///
 /// Own.
 pub fn read_trace(alloc: Global, text: &[u8]) -> Result<Tape, ScriptFault>

@@ -30,7 +30,7 @@ fn place_of(text: &[u8], stop: u8) -> Option<usize>
 }
 
 /// The bytes before the first `stop`, and what is behind it. Without a `stop` these are the whole text and nothing;
-/// so of an empty text both are empty. Takes no memory.
+/// so of an empty text both are empty. Takes no memory; linear in the first piece.
 ///
 /// Own.
 pub fn first_piece(text: &[u8], stop: u8) -> (&[u8], &[u8])
@@ -49,7 +49,7 @@ pub fn first_piece(text: &[u8], stop: u8) -> (&[u8], &[u8])
 }
 
 /// The words of a line: what stands between its spaces. Spaces at the ends of the line, and several between two
-/// words, make no word; a line of spaces alone has none. Takes memory for the list of the words.
+/// words, make no word; a line of spaces alone has none. Takes memory for the list of the words. Linear in the line.
 ///
 /// Own.
 pub fn words_of<'a>(alloc: Global, line: &'a [u8]) -> Result<Vec<&'a [u8]>, NoMemory>
@@ -68,7 +68,7 @@ pub fn words_of<'a>(alloc: Global, line: &'a [u8]) -> Result<Vec<&'a [u8]>, NoMe
 }
 
 /// The number that a word of decimal digits spells, without a sign and without a leading zero. `None` for every other
-/// word, and for a number above `max`. Takes no memory.
+/// word, and for a number above `max`. Takes no memory; linear in the word.
 ///
 /// Own.
 pub fn number(word: &[u8], max: u64) -> Option<u64>
@@ -97,7 +97,7 @@ pub fn number(word: &[u8], max: u64) -> Option<u64>
 }
 
 /// The bytes that a word of hex digits of either case spells: an even number of digits, 2 to 65,536. `None` for every
-/// other word. Takes memory for the bytes.
+/// other word. Takes memory for the bytes. Linear in the digits.
 ///
 /// Own.
 pub fn hex_bytes(alloc: Global, word: &[u8]) -> Result<Option<Vec<u8>>, NoMemory>
@@ -122,7 +122,7 @@ pub fn is_plain_text(line: &[u8]) -> bool
     line.iter().all(|b| (b' '..=b'~').contains(b))
 }
 
-/// Whether the word is this text.
+/// Whether the word is this text. Takes no memory; linear in the word.
 ///
 /// Own.
 pub fn is_word(word: &[u8], text: &str) -> bool
@@ -131,7 +131,7 @@ pub fn is_word(word: &[u8], text: &str) -> bool
     word == text.as_bytes()
 }
 
-/// The number of a line as it is told: one above 2^32 - 1 as that number.
+/// The number of a line as it is told: one above 2^32 - 1 as that number. Constant cost.
 ///
 /// Own.
 pub fn told(line: usize) -> u32

@@ -11,7 +11,8 @@ use crate::room::make_room;
 use crate::value_text::state_text;
 use ev_types::{LinkCount, LinkState, NoMemory, Tape};
 
-/// Appends the text of a trace. After want of memory the text so far may stand behind what was there before.
+/// Appends the text of a trace. After want of memory the text so far may stand behind what was there before. Takes
+/// memory; linear in the trace.
 ///
 /// Own.
 pub fn write_trace(tape: &Tape, into: &mut Vec<u8>) -> Result<(), NoMemory>
@@ -30,7 +31,7 @@ pub fn write_trace(tape: &Tape, into: &mut Vec<u8>) -> Result<(), NoMemory>
 }
 
 /// Appends the report of some links, whose numbers are their places. After want of memory the text so far may stand
-/// behind what was there before.
+/// behind what was there before. Takes memory; linear in the links.
 ///
 /// Own.
 pub fn write_report(links: &[LinkCount], into: &mut Vec<u8>) -> Result<(), NoMemory>

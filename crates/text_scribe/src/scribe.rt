@@ -35,7 +35,7 @@ impl Model for TextScribe {
 }
 
 impl TextScribe {
-    /// A scribe of no entry. Takes no memory.
+    /// A scribe of no entry. Takes no memory; constant cost.
     pub fn new(alloc: Global) -> TextScribe
         ensures { result.trace ≡ [] }
     {

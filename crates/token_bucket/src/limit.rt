@@ -58,7 +58,7 @@ pub struct LimitCfg {
 }
 
 impl LimitCfg {
-    /// Rates and bursts are in bytes per tick, the tick in milliseconds. Takes no memory.
+    /// Rates and bursts are in bytes per tick, the tick in milliseconds. Takes no memory; constant cost.
     pub fn new(
         read_rate: u64,
         read_burst: u64,
@@ -97,35 +97,35 @@ impl LimitCfg {
         })
     }
 
-    /// Bytes that may be read per tick.
+    /// Bytes that may be read per tick. Constant cost.
     pub fn read_rate(&self) -> u64
         ensures { result ≡ self.now.read_rate }
     {
         self.read_rate
     }
 
-    /// The most bytes that may be read at once.
+    /// The most bytes that may be read at once. Constant cost.
     pub fn read_burst(&self) -> u64
         ensures { result ≡ self.now.read_burst }
     {
         self.read_burst
     }
 
-    /// Bytes that may be written per tick.
+    /// Bytes that may be written per tick. Constant cost.
     pub fn write_rate(&self) -> u64
         ensures { result ≡ self.now.write_rate }
     {
         self.write_rate
     }
 
-    /// The most bytes that may be written at once.
+    /// The most bytes that may be written at once. Constant cost.
     pub fn write_burst(&self) -> u64
         ensures { result ≡ self.now.write_burst }
     {
         self.write_burst
     }
 
-    /// The length of a tick in milliseconds.
+    /// The length of a tick in milliseconds. Constant cost.
     pub fn tick_ms(&self) -> u64
         ensures { result ≡ self.now.tick_ms }
     {

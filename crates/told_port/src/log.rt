@@ -21,7 +21,7 @@ impl Model for CallLog {
 }
 
 impl CallLog {
-    /// Of no call.
+    /// Of no call. Constant cost.
     ///
     /// Own.
     pub fn new() -> CallLog
@@ -30,7 +30,7 @@ impl CallLog {
         CallLog {}
     }
 
-    /// With a call more.
+    /// With a call more. Constant cost.
     ///
     /// Own.
     pub fn then(&self, _call: &CallWith<'_>) -> CallLog
@@ -39,7 +39,7 @@ impl CallLog {
         CallLog {}
     }
 
-    /// With a poll of a table more.
+    /// With a poll of a table more. Constant cost.
     ///
     /// Own.
     pub fn then_table(&self, _poll: &TablePoll<'_>) -> CallLog

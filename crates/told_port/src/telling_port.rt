@@ -26,7 +26,7 @@ pub struct TellingPort<P> {
 }
 
 impl<P: Port> TellingPort<P> {
-    /// Over this port. It tells that nothing was done yet, whatever was done with the inner port before.
+    /// Over this port. It tells that nothing was done yet, whatever was done with the inner port before. Constant cost.
     ///
     /// Own.
     pub fn new(inner: P) -> TellingPort<P>

@@ -123,7 +123,8 @@ impl World {
         slot.room = 0;
     }
 
-    /// Takes off the first n bytes of the output, or all where there are fewer. Takes no memory.
+    /// Takes off the first n bytes of the output, or all where there are fewer. Takes no memory; linear in n, over many
+    /// calls.
     ///
     /// Own.
     pub fn drain_at(&mut self, at: usize, n: usize)

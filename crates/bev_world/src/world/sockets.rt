@@ -36,7 +36,8 @@ impl World {
     }
 
     /// A socket took the first n bytes of the output: they leave it, the moment is the last activity of writing, and the reason of
-    /// writing becomes due where bytes were taken and the output is at most as long as its write low mark. Takes no memory.
+    /// writing becomes due where bytes were taken and the output is at most as long as its write low mark. Takes no
+    /// memory; linear in n, over many calls.
     ///
     /// Libevent: event2/bufferevent.h, `bufferevent_data_cb`; "Bufferevents: concepts and basics".
     pub fn took(&mut self, id: BevId, n: usize, now: u64) -> Result<(), WorldFault>
