@@ -17,7 +17,7 @@ use Rattle.event_base.specs.Fires.{is_past_numbers, is_set_again}
 use Rattle.base_mode.specs.Order.{made}
 use Rattle.base_mode.specs.Run.{RunValue, Outcome, Fired, fired, next_fired, called_back, after_call, after_fire, after_acts, acts_at, with_text, fired_text}
 use Rattle.base_mode.specs.Turned.{owed_by, IsClosed}
-use Rattle.base_mode.proofs.OwedLemmas.{Falls, Falls-then, Falls-refl, owed-set, weight-called, at_found, if-Ok, if-not-Ok, after_acts-falls}
+use Rattle.base_mode.proofs.OwedLemmas.{Falls, Falls-then, Falls-refl, owed-set, weight-called, fire_found, if-Ok, if-not-Ok, after_acts-falls}
 
 -- a batch has what was active as the turn began, and nothing that comes later
 ended-closed : (over : Bool) (next : ℕ) → cond over 0 next ≤ next
@@ -67,13 +67,14 @@ call-falls b number e (Some a) next closed is active batch goes =
 
 -- the next callback of the batch starts
 starts-falls : (b : BaseValue) (o : Option ℕ) (next : BaseValue) (fire : ℕ × ℕ) → IsClosed b → call.next_call b ≡ o
-    → option_map_or (λ number. call.at_event b number (λ e. option_map_or (call.call b number e) e.active (Ok b))) o (Ok b) ≡ Ok next
+    → option_map_or (λ number. option_map_or (λ e. option_map_or (call.call b number e) e.active (Ok b))
+    (slice_get b.events number) (Err base.NoEvent)) o (Ok b) ≡ Ok next
     → option_map_or (λ number. option_map_or (λ e. option_map (λ a. (number, a.flags)) e.active) (slice_get b.events number) None) o
     None ≡ Some fire
     → Falls 1 b next
 starts-falls b None next fire closed from goes fires = cc
 starts-falls b (Some number) next fire closed from goes fires =
-    let found = at_found (slice_get b.events number) (λ (e : Event). option_map_or (call.call b number e) e.active (Ok b)) next goes in
+    let found = fire_found (slice_get b.events number) (λ (e : Event). option_map_or (call.call b number e) e.active (Ok b)) next goes in
     let first = position-Some (is_first b) b.events number found.0 (next_call-event b.broken (next_event b) number from) in
     let here : get_or b.events number found.0 ≡ found.0 = get_or_from_slice_get b.events number found.0 found.0 found.1 in
     let passes : is_first b found.0 ≡ true = rw here at first.1 in

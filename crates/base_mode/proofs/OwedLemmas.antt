@@ -9,7 +9,7 @@ use Rattle.event_base.specs.declared.event.Activation.{Activation}
 use Rattle.event_base.specs.declared.fault.BaseFault.{BaseFault}
 use Rattle.event_base.specs.declared.fault.BaseFault.TheVariants as base
 use Rattle.event_base.specs.Base.{BaseValue}
-use Rattle.event_base.specs.Events.{one_less, added, deleted, activated, joined, not_by_timeout, has_timed_out, is_active}
+use Rattle.event_base.specs.Events.{one_less, added, deleted, activated, joined, not_by_timeout, has_timed_out, is_active, unless_freed}
 use Rattle.event_base.specs.declared.event.Timeout.{Timeout}
 use Rattle.event_base.specs.Calls as call
 use Rattle.base_mode.specs.declared.command.Reaction.{Reaction}
@@ -65,11 +65,22 @@ pub if-not-Ok : (t : Bool) (x b : BaseValue) (why : BaseFault) → cond {A = cal
 if-not-Ok true x b why is = cc
 if-not-Ok false x b why is = cc
 
--- a call on an event found it
-pub at_found : (o : Option Event) (step : Event → call.Step) (b : BaseValue) → option_map_or step o (Err base.NoEvent) ≡ Ok b
+-- the start of a callback found its event
+pub fire_found : (o : Option Event) (step : Event → call.Step) (b : BaseValue) → option_map_or step o (Err base.NoEvent) ≡ Ok b
+    → (e : Event) × (o ≡ Some e) × (step e ≡ Ok b)
+fire_found None step b is = cc
+fire_found (Some e) step b is = (e, refl, is)
+
+-- a call on an event found it, and not freed
+at_found : (o : Option Event) (step : Event → call.Step) (b : BaseValue) → option_map_or step (unless_freed o) (Err base.NoEvent) ≡ Ok b
     → (e : Event) × (o ≡ Some e) × (step e ≡ Ok b)
 at_found None step b is = cc
-at_found (Some e) step b is = (e, refl, is)
+at_found (Some e) step b is = split e.freed is
+  where
+    split : (t : Bool) → option_map_or step (cond t None (Some e)) (Err base.NoEvent) ≡ Ok b
+        → (x : Event) × (Some e ≡ Some x) × (step x ≡ Ok b)
+    split true h = cc
+    split false h = (e, refl, h)
 
 -- an event that is added with a timeout owes no more
 added-weight : (first end priority : ℕ) (active : Option Activation) →

@@ -17,9 +17,13 @@ use Rattle.event_base.specs.Turns.{time_at, wakes, timed_out, least, active_prio
 use Rattle.event_base.specs.Fires.{is_woken_by, hearing, signalled, overflows, is_past_numbers, is_set_again}
 use Rattle.event_base.specs.Rousing.{risen, wakers}
 use Rattle.event_base.specs.Tied.{moment_at, AreKept}
-use Rattle.event_base.specs.Calls.{Step, IsAnswer, at_event, with_event, call, next_call, next_fire, next_active, signal, begin_turn, ended, fit}
+use Rattle.event_base.specs.Calls.{Step, IsAnswer, with_event, call, next_call, next_fire, next_active, signal, begin_turn, ended, fit}
 use Rattle.event_base.proofs.SignalLemmas.{signalled-risen, hearing-wakers}
 use Rattle.event_base.proofs.TiedLemmas.{AreKept-set, AreKept-moment, AreKept-as, priority-within}
+
+-- the event that fires, and what is done to it
+abbrev at_fired : BaseValue → ℕ → (Event → Step) → Step
+at_fired b number step = option_map_or step (slice_get b.events number) (Err NoEvent)
 
 pub next_call-event : (b : BaseValue) (o : Option ℕ) → b.broken ≡ false → next_event b ≡ o → next_call b ≡ o
 next_call-event b o broken next = ap (λ x. cond x None (next_event b)) broken ∙ next
@@ -28,13 +32,13 @@ next_call-event b o broken next = ap (λ x. cond x None (next_event b)) broken �
 pub next_active-call : (b : BaseValue) (k : ℕ) (e : Event) (a : Activation) → b.broken ≡ false → next_event b ≡ Some k → slice_get
     b.events k ≡ Some e → e.active ≡ Some a → next_active b ≡ call b k e a
 next_active-call b k e a broken next is active =
-    ap (λ (o : Option ℕ). option_map_or (λ number. at_event b number (λ e. option_map_or (call b number e) e.active (Ok b))) o
+    ap (λ (o : Option ℕ). option_map_or (λ number. at_fired b number (λ e. option_map_or (call b number e) e.active (Ok b))) o
     (Ok b)) (next_call-event b (Some k) broken next)
     ∙ ap (λ (o : Option Event). option_map_or (λ (e : Event). option_map_or (call b k e) e.active (Ok b)) o (Err NoEvent)) is
     ∙ ap (λ (o : Option Activation). option_map_or (call b k e) o (Ok b)) active
 
 pub next_active-none : (b : BaseValue) → b.broken ≡ false → next_event b ≡ None → next_active b ≡ Ok b
-next_active-none b broken next = ap (λ (o : Option ℕ). option_map_or (λ number. at_event b number
+next_active-none b broken next = ap (λ (o : Option ℕ). option_map_or (λ number. at_fired b number
     (λ e. option_map_or (call b number e) e.active (Ok b))) o (Ok b)) (next_call-event b None broken next)
 
 pub next_fire-call : (b : BaseValue) (k : ℕ) (e : Event) (a : Activation) → b.broken ≡ false → next_event b ≡ Some k → slice_get

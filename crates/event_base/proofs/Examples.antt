@@ -1,6 +1,7 @@
 -- The definitions at worked runs, so that a wrong rule in them does not check.
 use Rattle.std.proofs.Common.{◌≡◌, ℕ, Bool, true, false, List, [], ◌∷◌, refl, Option, None, Some, Result, Ok, Err}
 use Rattle.event_base.specs.Base.{BaseValue}
+use Rattle.event_base.specs.Freeing.{free_event, is_pending}
 use Rattle.event_base.specs.Calls.{Step, new_base, new_event, set_priority, add_event, del_event, activate, signal, begin_turn, next_active, next_fire, poll_timeout, loop_break, loop_exit, ended}
 
 -- the base behind some calls in their order, unless one is refused
@@ -76,3 +77,12 @@ pub known_joined : (sees (run (new_base 1) ((λ b. new_event b false (Some 3)) �
     × (sees (run (new_base 1) ((λ b. new_event b false (Some 3)) ∷ adds 0 1 ∷ turn 1 ∷ (λ b. signal b 3 1) ∷ adds 0 4 ∷ [])) ≡ Some
     (None, Some 4))
 known_joined = (refl, refl, refl, refl)
+
+-- a freed event has no callback, and no call finds it; the others go on
+abbrev frees : Step
+frees = run (new_base 1) (persists ∷ once ∷ adds 0 5 ∷ adds 1 5 ∷ turn 5 ∷ (λ b. free_event b 0) ∷ [])
+
+pub known_freed : (sees frees ≡ Some (Some (1, 1), Some 0))
+    × (sees (elim frees [ Ok b ↦ run b (adds 0 1 ∷ []) | Err f ↦ Err f ]) ≡ None)
+    × (elim frees [ Ok b ↦ Some (is_pending b 1) | Err f ↦ None ] ≡ Some (Ok true))
+known_freed = (refl, refl, refl)

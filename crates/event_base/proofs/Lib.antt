@@ -8,3 +8,4 @@ mod TurnLemmas
 mod FireLemmas
 mod CallLemmas
 mod Examples
+mod RunLemmas

@@ -7,7 +7,7 @@ use Rattle.event_base.specs.declared.event.Activation.{Activation}
 use Rattle.event_base.specs.declared.fault.BaseFault.{BaseFault}
 use Rattle.event_base.specs.declared.fault.BaseFault.TheVariants.{Memory, BadPriority, NoEvent, IsActive, Spent}
 use Rattle.event_base.specs.Base.{BaseValue}
-use Rattle.event_base.specs.Events.{made, is_active, activated, added, deleted, called}
+use Rattle.event_base.specs.Events.{made, is_active, activated, added, deleted, unless_freed, called}
 use Rattle.event_base.specs.Turns.{time_at, wakes, timed_out, least, active_priority, deadline_of, next_event}
 use Rattle.event_base.specs.Fires.{is_woken_by, signalled, overflows, is_past_numbers, is_set_again}
 
@@ -48,9 +48,9 @@ new_event b persist signal =
     if nat_lt (length b.events) (2 ^ 32)
     then Ok (record b { events = b.events ++ made persist signal (b.priorities / 2) ∷ [] }) else Err Spent
 
--- what a call does to an event that was made
+-- what a call does to an event that was made and not freed
 abbrev pub at_event : BaseValue → ℕ → (Event → Step) → Step
-at_event b number step = option_map_or step (slice_get b.events number) (Err NoEvent)
+at_event b number step = option_map_or step (unless_freed (slice_get b.events number)) (Err NoEvent)
 
 -- the base with this event in the place of the one with its number
 abbrev pub with_event : BaseValue → ℕ → Event → BaseValue
@@ -134,7 +134,8 @@ next_fire b = option_map_or (λ number.
 
 -- the next callback of the batch starts, where there is one
 abbrev pub next_active : BaseValue → Step
-next_active b = option_map_or (λ number. at_event b number (λ e. option_map_or (call b number e) e.active (Ok b))) (next_call b) (Ok b)
+next_active b = option_map_or (λ number. option_map_or (λ e. option_map_or (call b number e) e.active (Ok b))
+    (slice_get b.events number) (Err NoEvent)) (next_call b) (Ok b)
 
 -- How long to wait for the next turn: not at all where an event is active, else until the least deadline.
 abbrev pub poll_timeout : BaseValue → Option ℕ

@@ -14,6 +14,7 @@ made persist signal priority = record {
   persist = persist;
   signal = signal;
   active = None;
+  freed = false;
 }
 
 abbrev pub is_active : Event → Bool
@@ -46,6 +47,15 @@ added (Some t) e = record e { pending = true; timeout = Some t; active = not_by_
 -- a deleted event is neither pending nor active, and no call of its callback is owed
 abbrev pub deleted : Event → Event
 deleted e = record e { pending = false; timeout = None; active = None }
+
+-- a freed event is a deleted one that no call finds any more
+abbrev pub freed_event : Event → Event
+freed_event e = record (deleted e) { freed = true }
+
+-- the event, unless it was freed
+abbrev pub unless_freed : Option Event → Option Event
+unless_freed None = None
+unless_freed (Some e) = if e.freed then None else Some e
 
 -- The deadline to which a timeout is set again as a callback starts with these flags: the delay after the scheduled
 -- moment where the timeout fired, and else after now; where that is before now, the delay after now.

@@ -9,6 +9,9 @@ pub mod Turns
 pub mod Fires
 pub mod Faults
 pub mod Calls
+pub mod Freeing
+pub mod Runs
+pub mod Laws
 pub mod Tied
 pub mod Rousing
 pub mod BaseView

@@ -2,12 +2,13 @@
 ghost use Rattle.std.specs.Prelude.{◌≡◌, true, ◌≤◌, ◌<◌, ◌+◌, ◌^◌, if◌then◌else◌, unwrap_or, length, Some, None, Ok, Err, IfOk, IfErr, OnOk, OnErr};
 ghost use Rattle.std.specs.Option.{ForSome};
 ghost use Rattle.event_base.specs.Calls.{IsAnswer, is_count, new_base, fit, new_event, set_priority, add_event, del_event, activate, signal, begin_turn, next_active, next_fire, poll_timeout, ended, loop_break, loop_exit};
+ghost use Rattle.event_base.specs.Freeing.{free_event, is_pending};
 ghost use Rattle.event_base.specs.Turns.{least, active_priority, next_event};
 ghost use Rattle.event_base.specs.Rousing.{risen, wakers, CanRise, AreApart};
 
 use crate::BaseFault;
 use crate::deadlines::Deadlines;
-use crate::event::{Event, SIGNAL, TIMEOUT, Timeout, event_at};
+use crate::event::{Event, SIGNAL, TIMEOUT, Timeout, event_at, live_event};
 use crate::ready::Ready;
 use crate::rousing::{any_overflows, hearing, raise_all, set_again, wakers, woken_at, woken_by};
 use std::alloc::Global;
@@ -100,7 +101,7 @@ impl Base {
         ensures refused { IfErr result (λ fault. set_priority self.old event priority ≡ Err fault) }
         ensures stays { OnErr result (self.new ≡ self.old) }
     {
-        let Some(kept) = event_at(&self.events, event as usize) else {
+        let Some(kept) = live_event(&self.events, event as usize) else {
             return Err(BaseFault::NoEvent);
         };
         if priority >= self.ready.priorities() {
@@ -137,7 +138,7 @@ impl Base {
         ensures refused { IfErr result (λ fault. add_event self.old event None ≡ Err fault) }
         ensures stays { OnErr result (self.new ≡ self.old) }
     {
-        let Some(kept) = event_at(&self.events, event as usize) else {
+        let Some(kept) = live_event(&self.events, event as usize) else {
             return Err(BaseFault::NoEvent);
         };
         self.events[event as usize] = kept.added();
@@ -151,7 +152,7 @@ impl Base {
         ensures refused { IfErr result (λ fault. IsAnswer fault (add_event self.old event (Some delay))) }
         ensures stays { OnErr result (self.new ≡ self.old) }
     {
-        let Some(kept) = event_at(&self.events, event as usize) else {
+        let Some(kept) = live_event(&self.events, event as usize) else {
             return Err(BaseFault::NoEvent);
         };
         let deadline = self.time + delay;
@@ -177,13 +178,47 @@ impl Base {
         ensures refused { IfErr result (λ fault. del_event self.old event ≡ Err fault) }
         ensures stays { OnErr result (self.new ≡ self.old) }
     {
-        let Some(kept) = event_at(&self.events, event as usize) else {
+        let Some(kept) = live_event(&self.events, event as usize) else {
             return Err(BaseFault::NoEvent);
         };
         self.deadlines.clear(event);
         self.ready.rest(event);
         self.events[event as usize] = kept.deleted();
         Ok(())
+    }
+
+    /// Frees an event: it is deleted, and from then on each call with its number answers NoEvent. The number is not given
+    /// again, and its record stays with the base. Takes no memory; linear in the number of deadlines or of active events at
+    /// worst.
+    ///
+    /// Libevent: event2/event.h, `event_free`; "Working with events".
+    /// Differs: an event is named by its number, so that a call on a freed one is refused.
+    pub fn free_event(&mut self, event: u32) -> Result<(), BaseFault>
+        ensures ok { OnOk result (free_event self.old event ≡ Ok self.new) }
+        ensures refused { IfErr result (λ fault. free_event self.old event ≡ Err fault) }
+        ensures stays { OnErr result (self.new ≡ self.old) }
+    {
+        let Some(kept) = live_event(&self.events, event as usize) else {
+            return Err(BaseFault::NoEvent);
+        };
+        self.deadlines.clear(event);
+        self.ready.rest(event);
+        self.events[event as usize] = kept.into_freed();
+        Ok(())
+    }
+
+    /// Is an event pending: was it added, and since then neither deleted nor, where it is not persistent, called? Takes no
+    /// memory; constant cost.
+    ///
+    /// Libevent: event2/event.h, `event_pending`; "Working with events".
+    /// Differs: an event that is active alone is not pending, and no flags are told.
+    pub fn is_pending(&self, event: u32) -> Result<bool, BaseFault>
+        ensures { result ≡ is_pending self.now event }
+    {
+        match live_event(&self.events, event as usize) {
+            Some(kept) => Ok(kept.pending),
+            None => Err(BaseFault::NoEvent),
+        }
     }
 
     /// Makes an event active with these flags, for one call of its callback. An event that is active already gets the flags
@@ -195,7 +230,7 @@ impl Base {
         ensures refused { IfErr result (λ fault. IsAnswer fault (activate self.old event what)) }
         ensures stays { OnErr result (self.new ≡ self.old) }
     {
-        let Some(kept) = event_at(&self.events, event as usize) else {
+        let Some(kept) = live_event(&self.events, event as usize) else {
             return Err(BaseFault::NoEvent);
         };
         if kept.needed() > u64::MAX - self.ready.next() {

@@ -1,7 +1,7 @@
 // What a base keeps of one event, and the flags of its callbacks.
 ghost use Rattle.std.specs.Prelude.{◌≡◌, ◌<◌, ◌≤◌, ◌+◌, ◌^◌, Some, None, nat_lt, nat_le, if◌then◌else◌, ◌&&◌, slice_get};
 ghost use Rattle.std.specs.Option.{ForSome};
-ghost use Rattle.event_base.specs.Events.{made, is_active, activated, added, deleted, again, next_deadline, one_less};
+ghost use Rattle.event_base.specs.Events.{made, is_active, activated, added, deleted, freed_event, unless_freed, again, next_deadline, one_less};
 ghost use Rattle.event_base.specs.Turns.{is_due, wakes};
 ghost use Rattle.event_base.specs.Fires.{hears, is_woken_by, overflows};
 ghost use Rattle.event_base.specs.Rousing.{needed};
@@ -70,7 +70,7 @@ pub struct Activation {
 }
 
 /// An event: whether it is pending and until when, its priority, whether it stays pending as its callback
-/// starts, its signal, and why it is active. An event that is not pending has no timeout.
+/// starts, its signal, why it is active, and whether it was freed. An event that is not pending has no timeout.
 ///
 /// Libevent: event2/event_struct.h, `event`; "Working with events".
 #[derive(Clone, Copy)]
@@ -81,6 +81,7 @@ pub struct Event {
     pub persist: bool,
     pub signal: Option<u32>,
     pub active: Option<Activation>,
+    pub freed: bool,
 }
 
 impl Event {
@@ -95,6 +96,7 @@ impl Event {
             persist,
             signal,
             active: None,
+            freed: false,
         }
     }
 
@@ -218,6 +220,16 @@ impl Event {
         }
     }
 
+    /// The event as it is freed.
+    pub fn into_freed(self) -> Event
+        ensures { result ≡ freed_event self }
+    {
+        Event {
+            freed: true,
+            ..self.deleted()
+        }
+    }
+
     /// The timeout that is set again as a callback of it starts.
     pub fn again(&self) -> Option<Timeout>
         ensures { result ≡ again self.now }
@@ -246,7 +258,18 @@ impl Event {
     }
 }
 
-/// The event with a number, where there is one.
+/// The event with a number, where one was made and not freed.
+pub fn live_event(events: &[Event], event: usize) -> Option<Event>
+    ensures live { result ≡ unless_freed (slice_get events.now event) }
+    ensures there { ForSome result (λ e. slice_get events.now event ≡ Some e) }
+{
+    match events.get(event) {
+        Some(kept) if !kept.freed => Some(*kept),
+        _ => None,
+    }
+}
+
+/// The event with a number, where one was made.
 pub fn event_at(events: &[Event], event: usize) -> Option<Event>
     ensures { result ≡ slice_get events.now event }
 {

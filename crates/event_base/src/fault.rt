@@ -17,7 +17,7 @@ pub enum BaseFault {
     /// The base has no queue of this priority, or no base has so many queues.
     #[error("no such priority")]
     BadPriority,
-    /// The event was not made on this base.
+    /// The event was not made on this base, or it was freed.
     #[error("no such event")]
     NoEvent,
     /// The priority of an active event stays.

@@ -5,7 +5,6 @@ ghost use Rattle.event_base.specs.Rising.{at};
 ghost use Rattle.event_base.specs.Ready.{IsFront, IsNext, IsLeast, CanWake, woken, CanAppend, appended_all, orders, priorities as priorities_of};
 ghost use Rattle.event_base.specs.Calls.{is_count};
 
-use crate::BaseFault;
 use prio_queue::{Active, PrioFault};
 use std::alloc::{AllocError, Global};
 use std::marker::Model;

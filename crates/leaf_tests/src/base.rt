@@ -1,8 +1,8 @@
 // Runs of an event base: calls in a row, each with what it answers.
 
 use Act::{
-    Activate, Add, AddFor, BeginTurn, DelEvent, Ended, LoopBreak, LoopExit, NewEvent, NextActive,
-    PollTimeout, SetPriority, Signal,
+    Activate, Add, AddFor, BeginTurn, DelEvent, Ended, FreeEvent, IsPending, LoopBreak, LoopExit,
+    NewEvent, NextActive, PollTimeout, SetPriority, Signal,
 };
 use Answer::{Done, Event, Fire, Holds, No, Refused, Wait};
 use event_base::{Base, BaseFault, READ, SIGNAL, TIMEOUT, WRITE};
@@ -16,6 +16,8 @@ enum Act {
     Add(u32),
     AddFor(u32, u64),
     DelEvent(u32),
+    FreeEvent(u32),
+    IsPending(u32),
     Activate(u32, u8),
     Signal(u32, u32),
     BeginTurn(u64),
@@ -50,6 +52,8 @@ fn play(base: &mut Base, act: Act) -> Result<Answer, BaseFault> {
         Add(event) => base.add_event(event, None)?,
         AddFor(event, timeout) => base.add_event(event, Some(timeout.min(LONGEST)))?,
         DelEvent(event) => base.del_event(event)?,
+        FreeEvent(event) => base.free_event(event)?,
+        IsPending(event) => return Ok(if base.is_pending(event)? { Holds } else { No }),
         Activate(event, flags) => base.activate(event, flags)?,
         Signal(number, count) => base.signal(number, count)?,
         BeginTurn(now) => base.begin_turn(now)?,
@@ -215,6 +219,63 @@ fn refusals_come_in_their_order(rt: HostRuntime) {
         assert_eq!(rt; refused, Err(BaseFault::BadPriority), "{priorities}");
     }
     assert_eq!(rt; first_wrong_of(rt.alloc(), 256, REFUSALS), Ok(None));
+}
+
+const FREED: &[Row] = &[
+    (NewEvent(true, Some(5)), Event(0)),
+    (NewEvent(false, None), Event(1)),
+    (AddFor(0, 10), Done),
+    (AddFor(1, 10), Done),
+    (Signal(5, 2), Done),
+    (BeginTurn(10), Done),
+    (NextActive, Fire(0, 9)),
+    (FreeEvent(0), Done),
+    (NextActive, Fire(1, 1)),
+    (NextActive, No),
+    (IsPending(0), Refused(BaseFault::NoEvent)),
+    (SetPriority(0, 0), Refused(BaseFault::NoEvent)),
+    (Add(0), Refused(BaseFault::NoEvent)),
+    (AddFor(0, 5), Refused(BaseFault::NoEvent)),
+    (DelEvent(0), Refused(BaseFault::NoEvent)),
+    (FreeEvent(0), Refused(BaseFault::NoEvent)),
+    (Activate(0, READ), Refused(BaseFault::NoEvent)),
+    (Signal(5, 1), Done),
+    (BeginTurn(1000), Done),
+    (NextActive, No),
+    (PollTimeout, No),
+    (NewEvent(false, Some(5)), Event(2)),
+];
+
+#[test]
+fn a_freed_event_is_gone_for_good(rt: HostRuntime) {
+    assert_eq!(rt; first_wrong_of(rt.alloc(), 1, FREED), Ok(None));
+}
+
+const PENDING: &[Row] = &[
+    (IsPending(0), Refused(BaseFault::NoEvent)),
+    (NewEvent(false, None), Event(0)),
+    (NewEvent(true, None), Event(1)),
+    (IsPending(0), No),
+    (Activate(0, READ), Done),
+    (IsPending(0), No),
+    (AddFor(0, 5), Done),
+    (Add(1), Done),
+    (IsPending(0), Holds),
+    (BeginTurn(5), Done),
+    (IsPending(0), Holds),
+    (NextActive, Fire(0, 3)),
+    (IsPending(0), No),
+    (Activate(1, READ), Done),
+    (BeginTurn(5), Done),
+    (NextActive, Fire(1, 2)),
+    (IsPending(1), Holds),
+    (DelEvent(1), Done),
+    (IsPending(1), No),
+];
+
+#[test]
+fn an_event_is_pending_from_its_adding_on(rt: HostRuntime) {
+    assert_eq!(rt; first_wrong_of(rt.alloc(), 1, PENDING), Ok(None));
 }
 
 const LATEST: &[Row] = &[

@@ -4,6 +4,7 @@
 mod base;
 mod bufferevents;
 mod callbacks;
+mod connections;
 mod deadlines;
 mod due;
 mod filters;
@@ -20,6 +21,7 @@ fn main(rt: HostRuntime) -> anyhow::Result<()> {
     deadlines::due_jobs(&rt, alloc)?;
     queues::most_urgent_first(&rt, alloc)?;
     base::a_beat_and_a_signal(&rt, alloc)?;
+    connections::idle_connections(&rt, alloc)?;
     lines::lines_that_came_in_pieces(&rt, alloc)?;
     bufferevents::back_pressure(&rt, alloc)?;
     filters::line_ends(&rt, alloc)?;

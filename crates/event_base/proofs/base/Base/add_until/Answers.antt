@@ -4,7 +4,7 @@ use Rattle.std.proofs.lemmas.Bool.{lt-ltb}
 use Rattle.event_base.specs.declared.event.Event.{Event}
 use Rattle.event_base.specs.declared.event.Activation.{Activation}
 use Rattle.event_base.specs.declared.event.Timeout.{Timeout}
-use Rattle.event_base.specs.Events.{added, is_active, not_by_timeout, has_timed_out}
+use Rattle.event_base.specs.Events.{added, unless_freed, is_active, not_by_timeout, has_timed_out}
 use Rattle.event_base.specs.Deadlines.{Moment, DeadlinesValue}
 use Rattle.event_base.specs.Ready.{ReadyValue}
 use Rattle.event_base.specs.Tied.{AreKept, place_of, moment_of}
@@ -49,7 +49,7 @@ kept_by events deadlines ready k last e t kept is = split (is_active (added (Som
 pub invariant_of-self-2 : goal.invariant_of-self-2
 invariant_of-self-2 c =
     let is : slice_get c.self.inside.events.items c.args.event ≡ Some c.in-Some.kept = sym
-    (c.in-Some.ensures ∙ ap (λ xs. slice_get xs c.args.event) c.deref.ensures.value) in
+    (ap (λ xs. slice_get xs c.args.event) c.deref.ensures.value) ∙ c.in-Some.ensures.there c.in-Some.kept refl in
     record {
       kept = rw (c.rest_unless.ensures, c.is_active.ensures, c.added_until-added.ensures, c.last-order.ensures, c.in_ok-set.ensures.ok)
           (kept_by c.self.inside.events.items c.self.inside.deadlines c.self.inside.ready c.args.event _ c.in-Some.kept _
@@ -59,8 +59,8 @@ invariant_of-self-2 c =
 
 pub returns-clause-ok : goal.returns-clause-ok
 returns-clause-ok c =
-    let is : slice_get c.self.inside.events.items c.args.event ≡ Some c.in-Some.kept = sym
-    (c.in-Some.ensures ∙ ap (λ xs. slice_get xs c.args.event) c.deref.ensures.value) in
+    let is : unless_freed (slice_get c.self.inside.events.items c.args.event) ≡ Some c.in-Some.kept = sym
+    (c.in-Some.ensures.live ∙ ap (λ xs. unless_freed (slice_get xs c.args.event)) c.deref.ensures.value) in
     rw (
       ← c.self.view_is,
       is,

@@ -1,0 +1,55 @@
+-- What holds over any calls on a base: of deleted and of freed events, and of persistent timers.
+use Rattle.std.specs.Prelude.{◌≡◌, ◌≢◌, ℕ, ◌+◌, ◌<◌, ◌≤◌, true, false, List, slice_get, Option, Some, Ok, Err}
+use Rattle.std.specs.List.{list_any}
+use Rattle.event_base.specs.declared.event.Event.{Event}
+use Rattle.event_base.specs.declared.event.Timeout.{Timeout}
+use Rattle.event_base.specs.declared.fault.BaseFault.TheVariants.{NoEvent}
+use Rattle.event_base.specs.Base.{BaseValue}
+use Rattle.event_base.specs.Events.{has_timed_out}
+use Rattle.event_base.specs.Calls.{set_priority, add_event, del_event, activate, next_active, next_fire}
+use Rattle.event_base.specs.Freeing.{free_event, is_pending}
+use Rattle.event_base.specs.Runs.{Call, Leads, rouses}
+
+-- no callback of the event is next
+abbrev pub IsQuiet : ℕ → BaseValue → Type 0
+IsQuiet k b = (flags : ℕ) → next_fire b ≢ Some (k, flags)
+
+-- A deleted event is not pending, and no callback of it is next, until it is added or made active by its number: no
+-- signal, no turn and no callback of another event rouses it.
+abbrev pub DeletedIsQuiet : Type 0
+DeletedIsQuiet = (before deleted last : BaseValue) (k : ℕ) (calls : List Call) → del_event before k ≡ Ok deleted
+    → Leads deleted calls last → list_any (rouses k) calls ≡ false → IsQuiet k last × (is_pending last k ≢ Ok true)
+
+-- no call finds the event
+pub record IsUnknown (k : ℕ) (b : BaseValue) : Type 0 where
+  pub set : (priority : ℕ) → set_priority b k priority ≡ Err NoEvent
+  pub added : (timeout : Option ℕ) → add_event b k timeout ≡ Err NoEvent
+  pub deleted : del_event b k ≡ Err NoEvent
+  pub freed : free_event b k ≡ Err NoEvent
+  pub activated : (what : ℕ) → activate b k what ≡ Err NoEvent
+  pub pending : is_pending b k ≡ Err NoEvent
+
+-- Whatever calls follow, a freed event has no callback more, and no call finds it.
+abbrev pub FreedIsGone : Type 0
+FreedIsGone = (before freed last : BaseValue) (k : ℕ) (calls : List Call) → free_event before k ≡ Ok freed
+    → Leads freed calls last → IsQuiet k last × IsUnknown k last
+
+-- To which timeout one is set again at a time, as a callback starts with these flags: a delay behind its deadline where it fired
+-- and that is not past, and else a delay after now. Its order number of adding is this one.
+pub record IsSetAgain (time number flags : ℕ) (old new : Timeout) : Type 0 where
+  pub beat : has_timed_out flags ≡ true → time ≤ old.deadline + old.delay → new.deadline ≡ old.deadline + old.delay
+  pub late : has_timed_out flags ≡ true → old.deadline + old.delay < time → new.deadline ≡ time + old.delay
+  pub early : has_timed_out flags ≡ false → new.deadline ≡ time + old.delay
+  pub delay : new.delay ≡ old.delay
+  pub order : new.order ≡ number
+
+-- the event is as pending as another, with this timeout
+abbrev pub Waits : Event → Timeout → Event → Type 0
+Waits e t after = (after.pending ≡ e.pending) × (after.timeout ≡ Some t)
+
+-- A persistent timer stays pending as its callback starts, and is set again behind all that were added.
+abbrev pub PersistentIsSetAgain : Type 0
+PersistentIsSetAgain = (b next : BaseValue) (k flags : ℕ) (e : Event) (t : Timeout) → next_fire b ≡ Some (k, flags)
+    → next_active b ≡ Ok next → slice_get b.events k ≡ Some e → e.persist ≡ true → e.timeout ≡ Some t
+    → (after : Event) × (u : Timeout) × (slice_get next.events k ≡ Some after) × Waits e u after
+        × IsSetAgain b.time (b.last_adding + 1) flags t u

@@ -1,0 +1,4 @@
+pub mod Numbered
+pub mod DueSides
+pub mod DueLaws
+pub mod TimerSides

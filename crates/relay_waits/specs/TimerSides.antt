@@ -1,0 +1,12 @@
+-- The timers that wait under a key, as the relay's model has them by side: the key is the side's number.
+use Rattle.std.specs.Prelude.{ℕ, List, map}
+use Rattle.min_timer.specs.declared.timers.Timer as by_number
+use Rattle.relay_model.specs.Plain.{Timer}
+use Rattle.relay_waits.specs.Numbered.{side_of}
+
+abbrev pub timer_of : by_number.Timer → Timer
+timer_of t = record { side = side_of t.key; deadline = t.deadline }
+
+-- the model's timers
+abbrev pub timers_of : List by_number.Timer → List Timer
+timers_of ts = map timer_of ts
