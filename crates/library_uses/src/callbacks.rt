@@ -1,14 +1,14 @@
-// Callbacks that act on the world: one sends back what it reads, one frees its neighbour.
+// Callbacks that act on the world: one sends back all that it reads and then frees itself, one frees its neighbour.
 ghost use Rattle.std.specs.Prelude.{◌≡◌, None, MatchOption, ⊤, []};
 ghost use Rattle.bev_world.specs.Batches.{IsIdle};
 ghost use Rattle.bev_world.specs.Runs.{IsLevel};
 ghost use Rattle.bev_world.specs.Went.{Went};
 
-use bev_world::{BevId, Callback, NoMemory, Roster, Why, World, WorldFault, run_due};
+use bev_world::{BevId, Callback, Dir, NoMemory, Roster, Why, World, WorldFault, run_due};
 use std::alloc::Global;
 use std::io::Print;
 
-/// Sends back what it reads, and frees itself at the end of the stream.
+/// Sends back what it reads, and frees itself once the stream has ended and all of it was given.
 #[derive(Drop)]
 struct Echo;
 
@@ -18,7 +18,7 @@ impl Callback for Echo {
     fn call(&mut self, world: &mut World, id: BevId, why: Why) -> Result<(), NoMemory> {
         match why {
             Why::Read => send_back(world, id),
-            Why::Event(_) => free(world, id),
+            Why::Write | Why::Event(_) => free_if_over(world, id),
             _ => Ok(()),
         }
     }
@@ -48,6 +48,17 @@ fn send_back(world: &mut World, id: BevId) -> Result<(), NoMemory>
     }
 }
 
+// It is over where the stream failed, or has ended and nothing waits to be given. What waits is given first: `took` makes the
+// reason of writing due, and that leads here again.
+fn free_if_over(world: &mut World, id: BevId) -> Result<(), NoMemory>
+    ensures { Went world.old world.new }
+{
+    match world.state(id) {
+        Some(state) if state.failed || state.ended && state.output == 0 => free(world, id),
+        _ => Ok(()),
+    }
+}
+
 // One that is gone already is as good as freed.
 fn free(world: &mut World, id: BevId) -> Result<(), NoMemory>
     ensures { Went world.old world.new }
@@ -68,7 +79,7 @@ fn seat(roster: &mut Roster, id: BevId, call: Box<dyn Callback>) -> Result<(), N
     roster.give(id, call)
 }
 
-/// An echo, and a bufferevent that is freed while its callback is due.
+/// An echo whose stream has ended, and a bufferevent that is freed while its callback is due.
 pub fn callbacks_that_free(rt: &impl Print, alloc: Global) -> anyhow::Result<()> {
     let echo = Box::new(alloc, Echo)?;
     let other_echo = Box::new(alloc, Echo)?;
@@ -102,6 +113,7 @@ fn one_run(
     requires jealous { MatchOption (heard jealous) ⊤ (λ xs. xs ≡ []) }
 {
     let client = fed(world, b"hello")?;
+    end(world, client)?;
     let before = fed(world, b"!")?;
     let neighbour = fed(world, b"?")?;
     seat(roster, client, echo)?;
@@ -110,9 +122,33 @@ fn one_run(
     let calls = run_due(world, roster)?;
     let mut sent = *b"hello";
     let count = world.peek_output(client, &mut sent);
-    println!(rt; "{calls} calls of 3 reasons, {count} bytes are sent back")?;
+    println!(rt; "{calls} calls of 4 reasons, {count} bytes are sent back")?;
     println!(rt; "the neighbour is live: {}", world.is_live(neighbour))?;
+    println!(rt; "the client is live: {}", world.is_live(client))?;
+    give(world, client, count)?;
+    let calls = run_due(world, roster)?;
+    println!(rt;
+        "{calls} call, the client is live: {}",
+        world.is_live(client)
+    )?;
     Ok(())
+}
+
+// The socket met the end of its stream.
+fn end(world: &mut World, id: BevId) -> Result<(), WorldFault>
+    requires { IsIdle world.old }
+    ensures { IsIdle world.new }
+{
+    world.ended(id, Dir::Read)?;
+    Ok(())
+}
+
+// The socket took so many bytes.
+fn give(world: &mut World, id: BevId, count: usize) -> Result<(), WorldFault>
+    requires { IsIdle world.old }
+    ensures { IsIdle world.new }
+{
+    world.took(id, count, 2000)
 }
 
 // A socket that brought bytes.
