@@ -2,8 +2,8 @@
 use Rattle.ev_types.specs.declared.status.Status.{Status}
 use Rattle.ev_types.specs.declared.status.Status.TheVariants as status
 use Rattle.command_words.specs.declared.fault.WordsFault.{WordsFault}
-use Rattle.command_words.specs.declared.program_words.BadWords.{BadWords}
-use Rattle.command_words.specs.declared.program_words.BadWords.TheVariants as words
+use Rattle.command_words.specs.declared.words.BadWords.{BadWords}
+use Rattle.command_words.specs.declared.words.BadWords.TheVariants as words
 use Rattle.command_words.specs.declared.fault.WordsFault.TheVariants.{Usage, Memory}
 
 abbrev pub status_of_words : WordsFault → Status

@@ -6,11 +6,11 @@ mod fault;
 mod mode;
 mod options;
 mod parse;
-mod program_words;
 mod serve;
 mod values;
+mod words;
 
 pub use fault::WordsFault;
 pub use mode::{ScriptKind, mode_words};
-pub use program_words::{BadWords, bad_words, program_words};
+pub use words::{BadWords, bad_words, program_words};
 pub use serve::serve_words;

@@ -3,7 +3,7 @@ use Rattle.std.proofs.Common.{◌≡◌, ℕ, ◌-◌, min, List, [], ◌∷◌,
 use Rattle.std.specs.List.{flat_map}
 use Rattle.token_bucket.specs.declared.limit.Dir.TheVariants as dir
 use Rattle.ev_types.specs.declared.side.SideId.{SideId}
-use Rattle.relay_model.specs.Rates.{least_with}
+use Rattle.token_bucket.specs.Spells.{least_with}
 use Rattle.relay_model.specs.Moments.{both_ways}
 use Rattle.relay_state.specs.State.{State}
 use Rattle.relay_state.specs.Time.{expiry}

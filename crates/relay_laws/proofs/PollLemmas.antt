@@ -12,7 +12,8 @@ use Rattle.script_text.specs.TraceLaws.{IsEntry}
 use Rattle.token_bucket.specs.declared.limit.LimitCfg.{LimitCfg}
 use Rattle.relay_model.specs.Settings.{Settings, GroupSet}
 use Rattle.relay_model.specs.Plain.{Plain, Standing, Timer, side_at, all_sides}
-use Rattle.relay_model.specs.Rates.{least_with, next_tick}
+use Rattle.relay_model.specs.Rates.{next_tick}
+use Rattle.token_bucket.specs.Spells.{least_with}
 use Rattle.relay_model.specs.Past.{Past, past}
 use Rattle.relay_model.specs.Rooms.{wants}
 use Rattle.relay_model.specs.Moments.{timeout_of, last_activity, is_timed, moment_where, both_ways, expiry, limit_gain, group_gains, moments, earliest, is_pressing, poll_timeout}

@@ -14,7 +14,8 @@ use Rattle.ev_types.specs.declared.entry.Entry.TheVariants as entry
 use Rattle.ev_types.specs.Trace.{Event, Trace}
 use Rattle.relay_model.specs.Settings.{Settings, GroupSet}
 use Rattle.relay_model.specs.Plain.{Plain, side_at}
-use Rattle.relay_model.specs.Rates.{limit_of, Moves}
+use Rattle.token_bucket.specs.Spells.{Moves}
+use Rattle.token_bucket.specs.Levels.{limit_of}
 use Rattle.relay_model.specs.Groups.{same_group, group_after, beat_among, beats_among, group_spells, least_share, group_level, members, is_suspended, share_among}
 use Rattle.relay_model.specs.Past.{past}
 use Rattle.relay_model.specs.Rooms.{share_in, share, allowance, at_most, within_rates, read_room, write_room, may_read, may_write}

@@ -13,7 +13,8 @@ use Rattle.ev_types.specs.declared.entry.Entry.{Entry}
 use Rattle.ev_types.specs.declared.entry.Entry.TheVariants as entry
 use Rattle.ev_types.specs.Trace.{Event, Trace}
 use Rattle.relay_model.specs.Settings.{Settings, GroupSet}
-use Rattle.relay_model.specs.Rates.{limit_of, ticks, Spell, Moves, spells}
+use Rattle.token_bucket.specs.Spells.{ticks, Spell, Moves, spells}
+use Rattle.token_bucket.specs.Levels.{limit_of}
 use Rattle.relay_model.specs.Groups.{beat_among, beats_among, group_spells, least_share, group_level, no_spell, level_at_start, level_at_end, suspended_in, is_suspended, members}
 use Rattle.relay_model.specs.Stages.{State}
 use Rattle.relay_model.specs.Turn.{Reaches, Puts, begins}

@@ -8,7 +8,8 @@ use Rattle.token_bucket.specs.declared.limit.Dir.{Dir}
 use Rattle.ev_types.specs.declared.entry.Entry.TheVariants as entry
 use Rattle.ev_types.specs.Trace.{Event, Trace}
 use Rattle.relay_model.specs.Settings.{Settings, GroupSet}
-use Rattle.relay_model.specs.Rates.{Limit, limit_of, ticks, Spell, moved_in, Beat, Begins, Moves, moved_first, spells}
+use Rattle.token_bucket.specs.Spells.{ticks, Spell, moved_in, Beat, Begins, Moves, moved_first, spells}
+use Rattle.token_bucket.specs.Levels.{Limit, limit_of}
 use Rattle.relay_model.specs.Groups.{beat_among, beats_among, group_spells, least_share, group_level, no_spell, level_at_end, suspended_in, is_suspended, share_among}
 use Rattle.relay_model.specs.RatesKept.{time_by, last_time, moved_among, most_moved}
 use Rattle.relay_model.proofs.SpellLemmas.{spells-apart, rest_spells, moved_in-rest, least-term}

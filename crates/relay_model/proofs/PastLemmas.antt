@@ -11,7 +11,8 @@ use Rattle.ev_types.specs.declared.entry.Entry.TheVariants as entry
 use Rattle.ev_types.specs.Trace.{Event, Trace}
 use Rattle.relay_model.specs.Settings.{Settings}
 use Rattle.relay_model.specs.Trace.{bytes_read, read_by}
-use Rattle.relay_model.specs.Rates.{Spell, Beat, Begins, Moves, moved_first, spells, beat_of, side_spells}
+use Rattle.relay_model.specs.Rates.{beat_of, side_spells}
+use Rattle.token_bucket.specs.Spells.{Spell, Beat, Begins, Moves, moved_first, spells}
 use Rattle.relay_model.specs.Groups.{group_after, same_group, beat_among, beats_among, group_spells}
 use Rattle.relay_model.specs.Past.{past}
 use Rattle.relay_model.proofs.TraceLemmas.{bytes_read-push}

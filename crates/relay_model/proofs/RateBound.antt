@@ -14,7 +14,8 @@ use Rattle.ev_types.specs.declared.entry.Entry.TheVariants as entry
 use Rattle.ev_types.specs.Trace.{Event, Trace}
 use Rattle.relay_model.specs.Settings.{Settings}
 use Rattle.relay_model.specs.Plain.{Plain, Standing, side_at}
-use Rattle.relay_model.specs.Rates.{limit_of, moved_by, standing_level, side_spells}
+use Rattle.relay_model.specs.Rates.{moved_by, standing_level, side_spells}
+use Rattle.token_bucket.specs.Levels.{limit_of}
 use Rattle.relay_model.specs.Stages.{State, start}
 use Rattle.relay_model.specs.Turn.{Puts, Quietly, Reaches, begins}
 use Rattle.relay_model.specs.RatesKept.{is_turn, time_by, last_time, is_rate_ask, limit_after, moved_over, most_moved}

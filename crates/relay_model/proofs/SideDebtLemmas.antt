@@ -15,7 +15,9 @@ use Rattle.ev_types.specs.Trace.{Event, Trace}
 use Rattle.relay_model.specs.Settings.{Settings, HasNoHooks, rate_set}
 use Rattle.relay_model.specs.Plain.{Plain, PlainSide, Standing, first_limit, no_side, with_link, side_at}
 use Rattle.relay_model.specs.Past.{past}
-use Rattle.relay_model.specs.Rates.{limit_of, Spell, Moves, spells, moved_by, beat_of, side_spells, held_as_set, level}
+use Rattle.relay_model.specs.Rates.{moved_by, beat_of, side_spells, held_as_set, level}
+use Rattle.token_bucket.specs.Spells.{Spell, Moves, spells}
+use Rattle.token_bucket.specs.Levels.{limit_of}
 use Rattle.relay_model.specs.Stages.{Stage, State}
 use Rattle.relay_model.specs.Turn.{Reaches, Puts}
 use Rattle.relay_model.specs.RatesKept.{is_turn, time_by}

@@ -8,7 +8,9 @@ use Rattle.ev_types.specs.declared.side.SideId.{SideId}
 use Rattle.ev_types.specs.declared.entry.Entry.TheVariants as entry
 use Rattle.ev_types.specs.Trace.{Event, Trace}
 use Rattle.relay_model.specs.Plain.{Standing}
-use Rattle.relay_model.specs.Rates.{Limit, limit_of, ticks, Spell, moved_in, since_each, least_with, level, Beat, Begins, Moves, moved_first, spells, moved_by, beat_of, side_spells, held_as_set, standing_level}
+use Rattle.relay_model.specs.Rates.{level, moved_by, beat_of, side_spells, held_as_set, standing_level}
+use Rattle.token_bucket.specs.Spells.{ticks, Spell, moved_in, since_each, least_with, Beat, Begins, Moves, moved_first, spells}
+use Rattle.token_bucket.specs.Levels.{Limit, limit_of}
 use Rattle.relay_model.specs.RatesKept.{is_turn, bytes_of, moved_over, most_moved}
 
 -- Cut before a turn

@@ -18,7 +18,9 @@ use Rattle.ev_types.specs.declared.entry.Entry.TheVariants as entry
 use Rattle.relay_model.specs.Settings.{Settings, usual, GroupSet}
 use Rattle.relay_model.specs.Due.{Due, with_reason, batch, event}
 use Rattle.relay_model.specs.Plain.{placed, Plain, Timer, nothing_yet, with_link, flow_at, freed}
-use Rattle.relay_model.specs.Rates.{Limit, Spell, level}
+use Rattle.relay_model.specs.Rates.{level}
+use Rattle.token_bucket.specs.Spells.{Spell}
+use Rattle.token_bucket.specs.Levels.{Limit}
 use Rattle.relay_model.specs.Groups.{share_among, group_level}
 use Rattle.relay_model.specs.Past.{Past, past}
 use Rattle.relay_model.specs.Rooms.{read_room, write_room, wanted}

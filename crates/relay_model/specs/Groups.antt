@@ -10,7 +10,9 @@ use Rattle.ev_types.specs.Sides.{same_end}
 use Rattle.ev_types.specs.Trace.{Event, Trace}
 use Rattle.relay_model.specs.Settings.{Settings, GroupSet, group_set}
 use Rattle.relay_model.specs.Plain.{Plain}
-use Rattle.relay_model.specs.Rates.{limit_of, Spell, level, Beat, Begins, Moves, spells, moved_by}
+use Rattle.relay_model.specs.Rates.{level, moved_by}
+use Rattle.token_bucket.specs.Spells.{Spell, Beat, Begins, Moves, spells}
+use Rattle.token_bucket.specs.Levels.{limit_of}
 
 -- Members
 

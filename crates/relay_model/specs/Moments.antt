@@ -7,7 +7,8 @@ use Rattle.ev_types.specs.declared.side.SideId.{SideId}
 use Rattle.ev_types.specs.declared.why.Why.TheVariants as why
 use Rattle.relay_model.specs.Settings.{Settings, GroupSet}
 use Rattle.relay_model.specs.Plain.{Plain, PlainSide, Standing, side_at, change_side, is_live, all_sides}
-use Rattle.relay_model.specs.Rates.{standing_level, next_tick, least_with}
+use Rattle.relay_model.specs.Rates.{standing_level, next_tick}
+use Rattle.token_bucket.specs.Spells.{least_with}
 use Rattle.relay_model.specs.Groups.{members, is_suspended}
 use Rattle.relay_model.specs.Past.{Past}
 use Rattle.relay_model.specs.Rooms.{wants}

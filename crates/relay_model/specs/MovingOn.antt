@@ -14,7 +14,7 @@ use Rattle.ev_types.specs.Trace.{Event, Trace}
 use Rattle.relay_model.specs.Settings.{Settings, GroupSet, HoldsSome, HasNoHooks, rate_set}
 use Rattle.ev_types.specs.Usual.{no_timeouts}
 use Rattle.relay_model.specs.Plain.{Plain, side_at}
-use Rattle.relay_model.specs.Rates.{ticks}
+use Rattle.token_bucket.specs.Spells.{ticks}
 use Rattle.relay_model.specs.Groups.{group_spells, is_suspended}
 use Rattle.relay_model.specs.RatesKept.{is_turn}
 use Rattle.relay_model.specs.Totals.{wants_read_by, wants_write_by, marks_read_by, marks_write_by}

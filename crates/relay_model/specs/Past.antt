@@ -6,7 +6,8 @@ use Rattle.ev_types.specs.declared.side.SideId.{SideId}
 use Rattle.ev_types.specs.Trace.{Trace}
 use Rattle.relay_model.specs.Trace.{bytes_read}
 use Rattle.relay_model.specs.Settings.{Settings}
-use Rattle.relay_model.specs.Rates.{Spell, side_spells}
+use Rattle.relay_model.specs.Rates.{side_spells}
+use Rattle.token_bucket.specs.Spells.{Spell}
 use Rattle.relay_model.specs.Groups.{group_spells}
 
 pub record Past : Type 0 where

@@ -10,7 +10,9 @@ use Rattle.ev_types.specs.declared.entry.Entry.TheVariants as entry
 use Rattle.ev_types.specs.Sides.{same_end}
 use Rattle.ev_types.specs.Trace.{Event, Trace}
 use Rattle.relay_model.specs.Settings.{Settings, GroupSet, rate_set}
-use Rattle.relay_model.specs.Rates.{Limit, limit_of, ticks, Beat, Begins, Moves, moved_by}
+use Rattle.relay_model.specs.Rates.{moved_by}
+use Rattle.token_bucket.specs.Spells.{ticks, Beat, Begins, Moves}
+use Rattle.token_bucket.specs.Levels.{Limit, limit_of}
 use Rattle.relay_model.specs.Groups.{beats_among, least_share}
 
 abbrev pub is_turn : Event → Bool

@@ -7,7 +7,9 @@ use Rattle.ev_types.specs.declared.side.SideId.{SideId}
 use Rattle.ev_types.specs.Trace.{Trace}
 use Rattle.relay_model.specs.Settings.{Settings, GroupSet, HasNoHooks}
 use Rattle.relay_model.specs.Plain.{Standing, side_at}
-use Rattle.relay_model.specs.Rates.{Limit, limit_of, ticks, Spell, moved_in, level, side_spells, held_as_set, standing_level}
+use Rattle.relay_model.specs.Rates.{level, side_spells, held_as_set, standing_level}
+use Rattle.token_bucket.specs.Spells.{ticks, Spell, moved_in}
+use Rattle.token_bucket.specs.Levels.{Limit, limit_of}
 use Rattle.relay_model.specs.Groups.{group_spells, least_share, is_suspended}
 use Rattle.relay_model.specs.RatesKept.{is_turn, moved_among}
 use Rattle.relay_model.specs.Stages.{State}

@@ -5,7 +5,8 @@ use Rattle.token_bucket.specs.declared.limit.Dir.{Dir}
 use Rattle.token_bucket.specs.declared.limit.Dir.TheVariants as dir
 use Rattle.token_bucket.specs.declared.limit.LimitCfg.{LimitCfg}
 use Rattle.relay_model.specs.Plain.{Standing}
-use Rattle.relay_model.specs.Rates.{Limit, limit_of, ticks, Spell, Beat, spells}
+use Rattle.token_bucket.specs.Spells.{ticks, Spell, Beat, spells}
+use Rattle.token_bucket.specs.Levels.{Limit, limit_of}
 
 -- what a tick or more brings
 abbrev pub refilled : Limit → ℕ → ℕ → ℕ → ℕ

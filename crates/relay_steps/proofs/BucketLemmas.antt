@@ -3,7 +3,8 @@ use Rattle.std.proofs.Common.{◌≡◌, ℕ, ◌+◌, ◌-◌, ◌*◌, ◌/◌
 use Rattle.std.proofs.lemmas.List.Sums.{sum_by-cons}
 use Rattle.std.proofs.Math.Nat.{div-mul-le_self, mul-add}
 use Rattle.std.proofs.lemmas.Nat.{le-div}
-use Rattle.relay_model.specs.Rates.{Limit, ticks, Spell, moved_in, since_each, least_with}
+use Rattle.token_bucket.specs.Spells.{ticks, Spell, moved_in, since_each, least_with}
+use Rattle.token_bucket.specs.Levels.{Limit}
 use Rattle.relay_state.specs.Running.{short_after, Ascend}
 use Rattle.relay_steps.specs.BucketLaws.{RunningIsLeast}
 

@@ -11,7 +11,9 @@ use Rattle.relay_model.specs.Settings.{Settings}
 use Rattle.relay_model.specs.Plain.{Plain, Standing, first_limit}
 use Rattle.relay_model.specs.Past.{past}
 use Rattle.relay_model.specs.Asks.{next_limit}
-use Rattle.relay_model.specs.Rates.{Limit, limit_of, Spell, Beat, Begins, Moves, spells, beat_of, side_spells, held_as_set, standing_level}
+use Rattle.relay_model.specs.Rates.{beat_of, side_spells, held_as_set, standing_level}
+use Rattle.token_bucket.specs.Spells.{Spell, Beat, Begins, Moves, spells}
+use Rattle.token_bucket.specs.Levels.{Limit, limit_of}
 use Rattle.relay_state.specs.Running.{refilled, short_after, Ascend, short_now, time_now, Gauge, short_of, short_at, held_at, spent_by, first_gauge, next_gauge}
 use Rattle.relay_steps.specs.Gauges.{beats, short_by, BucketFits}
 use Rattle.relay_state.specs.State.{gauge_at}

@@ -8,7 +8,9 @@ use Rattle.ev_types.specs.declared.side.SideId.{SideId}
 use Rattle.ev_types.specs.Sides.{number}
 use Rattle.ev_types.specs.Trace.{Event, Trace}
 use Rattle.relay_model.specs.Plain.{Plain, Standing, side_at}
-use Rattle.relay_model.specs.Rates.{limit_of, Moves, beat_of, side_spells}
+use Rattle.relay_model.specs.Rates.{beat_of, side_spells}
+use Rattle.token_bucket.specs.Spells.{Moves}
+use Rattle.token_bucket.specs.Levels.{limit_of}
 use Rattle.relay_state.specs.State.{State, gauge_in, gauge_at, gauges_after}
 use Rattle.relay_state.specs.Running.{Gauge, no_gauge, short_at, brought, spent_by, gauge_after}
 use Rattle.relay_steps.specs.Gauges.{BucketFits, Gauged}

@@ -7,7 +7,8 @@ use Rattle.ev_types.specs.declared.side.SideId.{SideId}
 use Rattle.ev_types.specs.Sides.{peer}
 use Rattle.ev_types.specs.Trace.{Event, Trace}
 use Rattle.relay_model.specs.Plain.{Plain, side_at, put_flow, change_side}
-use Rattle.relay_model.specs.Rates.{beat_of, Moves, side_spells, spells}
+use Rattle.relay_model.specs.Rates.{beat_of, side_spells}
+use Rattle.token_bucket.specs.Spells.{Moves, spells}
 use Rattle.relay_model.proofs.Frames.{rates_of}
 use Rattle.relay_model.proofs.KeepsLemmas.{Keeps, Keeps-trans, Keeps-put, Keeps-flow}
 use Rattle.relay_state.specs.Passage.{Passage}

@@ -38,7 +38,8 @@ use Rattle.relay_model.proofs.Frames.{rates_of}
 use Rattle.relay_steps.proofs.RateLemmas.{spells-none, gauged-same}
 use Rattle.relay_steps.proofs.MovedSteps.{MovesAt, moved-gauged}
 use Rattle.relay_steps.proofs.BeforeLemmas.{set-before}
-use Rattle.relay_model.specs.Rates.{Moves, beat_of}
+use Rattle.relay_model.specs.Rates.{beat_of}
+use Rattle.token_bucket.specs.Spells.{Moves}
 use Rattle.token_bucket.specs.declared.limit.Dir.{Dir}
 use Rattle.relay_steps.proofs.StillSteps.{IsStill, put-stands, still-same, still-event, still-raised, sight-of, one-fits, lane_in, in_lanes}
 use Rattle.relay_steps.proofs.ServeSteps.{if_true, some-may, one_or_more, mark, call-is, marks-are}

@@ -1,7 +1,8 @@
 -- The running number of a bucket, step by step.
 use Rattle.std.proofs.Common.{◌≡◌, ℕ, zero, suc, ◌+◌, ◌-◌, ◌<◌, ◌≤◌, List, [], ◌∷◌, ◌++◌, length, drop, refl, sym, ◌∙◌, ap, arith}
 use Rattle.std.proofs.lemmas.List.{drop-append-le}
-use Rattle.relay_model.specs.Rates.{Limit, Spell, Beat, Begins, Moves, moved_first, spells}
+use Rattle.token_bucket.specs.Spells.{Spell, Beat, Begins, Moves, moved_first, spells}
+use Rattle.token_bucket.specs.Levels.{Limit}
 use Rattle.relay_state.specs.Running.{refilled, short_after, last_of, short_now, time_now, Ascend}
 
 pub short-append : (l : Limit) (from short : ℕ) (xs ys : List Spell) →

@@ -42,7 +42,8 @@ use Rattle.relay_steps.proofs.FitLemmas.{sight, FitsSight, seen-fits, fits-seen,
 use Rattle.relay_steps.proofs.MovedSteps.{MovesAt, moved-gauged}
 use Rattle.relay_steps.proofs.BeforeLemmas.{set-before}
 use Rattle.relay_steps.specs.Gauges.{Gauged}
-use Rattle.relay_model.specs.Rates.{Moves, beat_of}
+use Rattle.relay_model.specs.Rates.{beat_of}
+use Rattle.token_bucket.specs.Spells.{Moves}
 use Rattle.token_bucket.specs.declared.limit.Dir.{Dir}
 use Rattle.relay_steps.proofs.RoomLemmas.{allowed-is, SideFits, waiting-is, output_length-fits}
 use Rattle.relay_steps.proofs.LaneSteps.{fits-taken}

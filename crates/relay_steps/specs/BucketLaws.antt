@@ -4,7 +4,9 @@ use Rattle.token_bucket.specs.declared.limit.Dir.{Dir}
 use Rattle.ev_types.specs.declared.side.SideId.{SideId}
 use Rattle.ev_types.specs.Trace.{Trace}
 use Rattle.relay_model.specs.Plain.{Standing, side_at}
-use Rattle.relay_model.specs.Rates.{Limit, Spell, level, side_spells, standing_level}
+use Rattle.relay_model.specs.Rates.{level, side_spells, standing_level}
+use Rattle.token_bucket.specs.Spells.{Spell}
+use Rattle.token_bucket.specs.Levels.{Limit}
 use Rattle.relay_model.specs.Stages.{Stage}
 use Rattle.relay_state.specs.Running.{Ascend, short_after, held_at}
 use Rattle.relay_state.specs.State.{State, gauge_at}

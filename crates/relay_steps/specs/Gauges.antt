@@ -4,7 +4,9 @@ use Rattle.token_bucket.specs.declared.limit.Dir.{Dir}
 use Rattle.ev_types.specs.declared.side.SideId.{SideId}
 use Rattle.ev_types.specs.Trace.{Trace}
 use Rattle.relay_model.specs.Plain.{Plain, Standing, side_at}
-use Rattle.relay_model.specs.Rates.{limit_of, Beat, beat_of, side_spells, held_as_set}
+use Rattle.relay_model.specs.Rates.{beat_of, side_spells, held_as_set}
+use Rattle.token_bucket.specs.Spells.{Beat}
+use Rattle.token_bucket.specs.Levels.{limit_of}
 use Rattle.relay_state.specs.Running.{Ascend, short_now, Gauge, short_at}
 use Rattle.relay_state.specs.State.{gauge_in}
 

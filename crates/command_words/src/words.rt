@@ -1,7 +1,7 @@
 // The words of a command line, as they come from the system.
 ghost use Rattle.std.specs.Prelude.{◌≡◌, ◌≢◌};
 ghost use Rattle.std.specs.declared.io.ErrorKind.TheVariants.{OutOfMemory};
-ghost use Rattle.command_words.specs.declared.program_words.BadWords.TheVariants.{Memory};
+ghost use Rattle.command_words.specs.declared.words.BadWords.TheVariants.{Memory};
 ghost use Rattle.command_words.specs.WordsStatus.{words_status};
 
 use ev_types::Status;

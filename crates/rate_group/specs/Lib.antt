@@ -1,0 +1,6 @@
+pub mod GroupLaws
+pub mod GroupList
+pub mod GroupValue
+pub mod GroupView
+pub mod Refusals
+pub mod Steps

@@ -1,0 +1,165 @@
+// Groups and their members. The invariants:
+// 1. each group counts its members;
+// 2. each member is in a group that was made.
+ghost use Rattle.std.specs.Prelude.{◌≡◌, ◌≤◌, ◌<◌, ◌+◌, ◌-◌, ◌^◌, [], length, map, slice_index, slice_index_or, slice_set, slice_get, IfOk, OnOk, OnErr};
+ghost use Rattle.std.specs.Option.{option_map, IsSomeAnd};
+
+use crate::fault::GroupFault;
+use crate::group::Group;
+use crate::group_list::{drop_member, move_member, refill_all, spend_at};
+use indexmap::IndexMap;
+use std::alloc::Global;
+use std::marker::Model;
+use token_bucket::{Dir, LimitCfg};
+
+/// Groups whose members share a limit. Groups have numbers from 0 in the order in which they were made; members are numbers of the
+/// caller's, each in at most one group. A group has one bucket, which keeps what it owes when its members leave.
+///
+/// Libevent: event2/bufferevent.h, `bufferevent_rate_limit_group`; "Bufferevents: advanced topics", setting rate limits on a group.
+/// Differs: a member may move its part of what is left and not the least share alone; a suspended group goes on at a refill; members
+/// have no order of their own, and none is drawn by chance.
+#[derive(Drop)]
+pub struct Groups {
+    groups: Vec<Group>,
+    members: IndexMap<u64, u32>,
+}
+
+impl Model for Groups {
+    ghost use Rattle.rate_group.specs.GroupValue.{GroupsValue};
+
+    ghost Value = { GroupsValue };
+
+    ghost use Rattle.rate_group.specs.GroupView.{groups_value, HasCounts};
+
+    ghost view = { groups_value };
+
+    ghost invariant = { HasCounts };
+}
+
+impl Groups {
+    ghost use Rattle.token_bucket.specs.Levels.{signed};
+    ghost use Rattle.token_bucket.specs.Limit.{fault_of};
+    ghost use Rattle.rate_group.specs.Steps.{with_group, joined, left, share_in, spent, all_refilled, lane_of};
+    ghost use Rattle.rate_group.specs.Refusals.{Refuses, new_group_refusal, join_refusal, change_refusal, leave_refusal};
+
+    /// No groups and no members. Takes no memory; the cost is constant.
+    pub fn new(alloc: Global) -> Groups
+        ensures { result ≡ record { groups = []; members = [] } }
+    {
+        Groups {
+            groups: Vec::new(alloc),
+            members: IndexMap::new(alloc),
+        }
+    }
+
+    /// Makes a group under a limit, at a moment in milliseconds, and answers its number. Its bucket starts at the rates. The share is
+    /// what each member may move at least while the group isn't suspended, lowered to the smaller rate; it is refused where it is 0.
+    /// The cost is constant, or in the number of groups where memory is taken.
+    ///
+    /// Libevent: `bufferevent_rate_limit_group_new`, `bufferevent_rate_limit_group_set_min_share`.
+    pub fn new_group(&mut self, cfg: LimitCfg, share: u64, now: u64) -> Result<u32, GroupFault>
+        ensures refused { Refuses result (new_group_refusal share self.old) }
+        ensures number { IfOk result (λ n. n ≡ length self.old.groups) }
+        ensures ok { OnOk result (self.new ≡ with_group cfg share now self.old) }
+        ensures err { OnErr result (self.new ≡ self.old) }
+    {
+        if share == 0 {
+            return Err(GroupFault::BadShare);
+        }
+        let number = self.groups.len();
+        if number > u32::MAX as usize {
+            return Err(GroupFault::Spent);
+        }
+        self.groups.push(Group::new(cfg, share, now))?;
+        Ok(number as u32)
+    }
+
+    /// Puts a member into a group. The cost is constant, or in the number of members where memory is taken.
+    ///
+    /// Libevent: `bufferevent_add_to_rate_limit_group`.
+    pub fn join(&mut self, group: u32, member: u64) -> Result<(), GroupFault>
+        ensures refused { Refuses result (join_refusal group member self.old) }
+        ensures ok { OnOk result (self.new ≡ joined group member self.old) }
+        ensures err { OnErr result (self.new ≡ self.old) }
+    {
+        if group as usize >= self.groups.len() {
+            return Err(GroupFault::NoGroup);
+        }
+        if self.members.contains_key(&member) {
+            return Err(GroupFault::AlreadyMember);
+        }
+        self.change(group, member)
+    }
+
+    /// Moves a member to a group, out of the one that it was in. Nothing changes for a member of that group; a member of none joins.
+    /// The cost is constant, or in the number of members where memory is taken.
+    pub fn change(&mut self, group: u32, member: u64) -> Result<(), GroupFault>
+        ensures refused { Refuses result (change_refusal group self.old) }
+        ensures ok { OnOk result (self.new ≡ joined group member self.old) }
+        ensures err { OnErr result (self.new ≡ self.old) }
+    {
+        if group as usize >= self.groups.len() {
+            return Err(GroupFault::NoGroup);
+        }
+        let before = self.members.insert(member, group)?;
+        let all = self.members.len();
+        move_member(&mut self.groups, before, group as usize, all as u64);
+        Ok(())
+    }
+
+    /// Takes a member out of its group. The group's bucket stays as it is. Takes no memory; the cost is in the number of members that
+    /// joined after it.
+    ///
+    /// Libevent: `bufferevent_remove_from_rate_limit_group`.
+    pub fn leave(&mut self, member: u64) -> Result<(), GroupFault>
+        ensures refused { fault_of result ≡ leave_refusal member self.old }
+        ensures ok { OnOk result (self.new ≡ left member self.old) }
+        ensures err { OnErr result (self.new ≡ self.old) }
+    {
+        let Some(group) = self.members.shift_remove(&member) else {
+            return Err(GroupFault::NotMember);
+        };
+        drop_member(&mut self.groups, group as usize);
+        Ok(())
+    }
+
+    /// What a member may move in a direction: 0 while its group is suspended, else the group's level divided by the number of members,
+    /// and no less than the least share. None exactly for no member. Takes no memory; the cost is constant.
+    pub fn share(&self, member: u64, dir: Dir) -> Option<u64>
+        ensures { result ≡ share_in member dir self.now }
+    {
+        let Some(group) = self.members.get(&member) else {
+            return None;
+        };
+        Some(self.groups[*group as usize].share(dir))
+    }
+
+    /// Takes n bytes that a member moved from its group's bucket. The group is suspended in the direction where nothing is left. It is
+    /// asked that n is at most the member's share. Takes no memory; the cost is constant.
+    pub fn spend(&mut self, member: u64, dir: Dir, n: u64)
+        requires { IsSomeAnd (share_in member dir self.old) (λ share. n ≤ share) }
+        ensures { self.new ≡ spent member dir n self.old }
+    {
+        let Some(group) = self.members.get(&member) else {
+            return;
+        };
+        let at = *group as usize;
+        spend_at(&mut self.groups, at, dir, n);
+    }
+
+    /// Adds to all groups what the ticks bring that began since their last refill, up to their bursts. A suspended direction that then
+    /// has the least share goes on. A moment before the last one brings nothing. Takes no memory; the cost is in the number of groups.
+    pub fn refill(&mut self, now: u64)
+        ensures { self.new ≡ all_refilled now self.old }
+    {
+        refill_all(&mut self.groups, now);
+    }
+
+    /// The bytes of a group in a direction, below 0 where members moved more than there was. None exactly for no group. Takes no memory;
+    /// the cost is constant.
+    pub fn level(&self, group: u32, dir: Dir) -> Option<i64>
+        ensures { result ≡ option_map (λ g. signed (lane_of g dir).level) (slice_get self.now.groups group) }
+    {
+        Some(self.groups.get(group as usize)?.level(dir))
+    }
+}

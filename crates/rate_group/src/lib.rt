@@ -1,0 +1,14 @@
+//! Groups that share a limit: who is a member, what each may move, and when a group is suspended. Members are numbers. Who moves
+//! next is left to the caller.
+#![tactic(auto)]
+
+mod fault;
+mod group;
+mod group_list;
+mod groups;
+mod laws;
+
+pub use fault::GroupFault;
+pub use groups::Groups;
+pub use laws::{group_keeps_rate, group_level_is_least};
+pub use token_bucket::{Dir, LimitCfg};
