@@ -10,7 +10,7 @@ use Rattle.ev_types.specs.Sides.{same_end, peer}
 use Rattle.ev_types.specs.Trace.{Event, Trace}
 use Rattle.relay_model.specs.Settings.{Settings}
 use Rattle.relay_model.specs.Trace.{read_by, bytes_read, ended_by, write_closed_by}
-use Rattle.relay_model.specs.Plain.{flow_at, Plain, side_at, is_live}
+use Rattle.relay_model.specs.Plain.{flow_at, Plain, side_at, is_live, freed}
 use Rattle.relay_model.specs.Past.{Past, past}
 use Rattle.relay_model.specs.Rooms.{raw_input_at, input_at, output_at, raw_output_at, output_length}
 use Rattle.relay_model.specs.Close.{CloseStep, closed_by, steps_left, is_complete}
@@ -34,40 +34,22 @@ use Rattle.relay_model.proofs.LeftLemmas.{Needs, Followed, Left, Lefts, open-lef
 
 -- What a step of closing leaves
 
+-- a free leaves whether sides are connecting
+freed-connecting : (e : SideId) (s : Plain) → Keeps (λ x. x.connecting) s (freed e s)
+freed-connecting e s = record {
+  time = refl;
+  turn = refl;
+  opened = refl;
+  flows = refl;
+  sides = (Keeps-put (λ x. x.connecting) e (record (side_at s e) { live = false; group = None }) s refl).sides;
+}
+
 closed-connecting : (c : CloseStep) (s : Plain) → Keeps (λ x. x.connecting) s (closed_by c s)
-closed-connecting (CloseStep.Faulty e) s = record {
-  time = refl;
-  turn = refl;
-  opened = refl;
-  flows = refl;
-  sides =
-      (Keeps-put (λ x. x.connecting) e (record (side_at s e) { live = false; group = None }) s refl).sides;
-}
+closed-connecting (CloseStep.Faulty e) s = freed-connecting e s
 closed-connecting (CloseStep.EndWriting e) s = Keeps-put (λ x. x.connecting) e _ s refl
-closed-connecting (CloseStep.BothDone k) s = record {
-  time = refl;
-  turn = refl;
-  opened = refl;
-  flows = refl;
-  sides =
-      (Keeps-put (λ x. x.connecting) (in_of k) (record (side_at s (in_of k)) { live = false; group = None }) s refl).sides;
-}
-closed-connecting (CloseStep.OutDone k) s = record {
-  time = refl;
-  turn = refl;
-  opened = refl;
-  flows = refl;
-  sides =
-      (Keeps-put (λ x. x.connecting) (out_of k) (record (side_at s (out_of k)) { live = false; group = None }) s refl).sides;
-}
-closed-connecting (CloseStep.PeerGone e) s = record {
-  time = refl;
-  turn = refl;
-  opened = refl;
-  flows = refl;
-  sides =
-      (Keeps-put (λ x. x.connecting) e (record (side_at s e) { live = false; group = None }) s refl).sides;
-}
+closed-connecting (CloseStep.BothDone k) s = freed-connecting (in_of k) s
+closed-connecting (CloseStep.OutDone k) s = freed-connecting (out_of k) s
+closed-connecting (CloseStep.PeerGone e) s = freed-connecting e s
 closed-connecting (CloseStep.Shut e) s = Keeps-put (λ x. x.connecting) e _ s refl
 
 -- the bytes that an end was read stay
