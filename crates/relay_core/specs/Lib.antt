@@ -6,3 +6,4 @@ pub mod Steps
 pub mod Far
 pub mod Pairs
 pub mod Unlimited
+pub mod Answered

@@ -57,45 +57,23 @@ impl Relay {
     ghost use Rattle.ev_types.specs.Sides.{peer};
     ghost use Rattle.relay_state.specs.Rooms.{output_length};
 
-    /// Whether the direction to the side has ended and all of it was given.
-    fn is_all_given(&self, side: SideId) -> bool
-        requires { side.link < self.now.state.plain.opened }
-        ensures { result ≡ is_complete self.now.state (peer side) }
-    {
-        self.sides.is_complete(side.peer())
-    }
-
-    fn is_nothing_waiting(&self, side: SideId) -> bool
-        requires { side.link < self.now.state.plain.opened }
-        ensures { result ≡ output_length self.now.state side == 0 }
-    {
-        self.sides.output_len(side) == 0
-    }
-
-    /// Why the side is to be freed, where it is faulty. Constant; takes no memory.
-    pub fn fault(&self, side: SideId) -> Option<Cause>
-        requires { side.link < self.now.state.plain.opened }
-        ensures { result ≡ fault (side_at self.now.state.plain side) }
-    {
-        self.sides.fault(side)
-    }
-
     /// Whether there is anything to do at a step of closing. Constant; takes no memory.
     pub fn calls_for(&self, step: Closing) -> bool
         requires { link_of_step step < self.now.state.plain.opened }
         ensures { result ≡ is_some (closing_entry self.now.state (close_step step)) }
     {
+        let sides = &self.sides;
         match step {
             Closing::Faulty(side) => {
-                let live = self.is_live(side);
-                live && self.fault(side).is_some()
+                let live = sides.is_live(side);
+                live && sides.fault(side).is_some()
             }
             Closing::EndWriting(side) => {
-                let flags = self.flags(side);
-                let peer_live = self.is_live(side.peer());
+                let flags = sides.flags(side);
+                let peer_live = sides.is_live(side.peer());
                 flags.live
                     && peer_live
-                    && self.is_all_given(side)
+                    && sides.is_complete(side.peer())
                     && !flags.connecting
                     && !flags.write_ended
             }
@@ -104,40 +82,16 @@ impl Relay {
                     link,
                     side: Side::In,
                 };
-                let flags = self.flags(near);
-                let far_flags = self.flags(near.peer());
+                let flags = sides.flags(near);
+                let far_flags = sides.flags(near.peer());
                 flags.live && far_flags.live && flags.write_ended && far_flags.write_ended
             }
             Closing::PeerGone(side) => {
-                let peer_live = self.is_live(side.peer());
-                self.is_live(side) && !peer_live && self.is_nothing_waiting(side)
+                let peer_live = sides.is_live(side.peer());
+                sides.is_live(side) && !peer_live && sides.output_len(side) == 0
             }
-            Closing::Shut(side) => { !self.is_live(side) && !self.flags(side).closed }
+            Closing::Shut(side) => { !sides.is_live(side) && !sides.flags(side).closed }
         }
-    }
-
-    /// The side is freed: what was read from it and not moved, and what waits to be given to it, is dropped.
-    fn free(&mut self, side: SideId)
-        requires { side.link < self.old.state.plain.opened }
-        ensures { self.new.state ≡ freed side self.old.state }
-    {
-        self.sides.free(side);
-    }
-
-    fn end_writing(&mut self, side: SideId)
-        requires { side.link < self.old.state.plain.opened }
-        ensures { self.new.state
-            ≡ with_plain (change_side side (λ x. record x { write_ended = true }) self.old.state.plain) self.old.state }
-    {
-        self.sides.end_writing(side);
-    }
-
-    /// The end of the side is closed.
-    fn shut(&mut self, side: SideId)
-        requires { side.link < self.old.state.plain.opened }
-        ensures { self.new.state ≡ with_plain (change_side side (λ x. record x { closed = true }) self.old.state.plain) self.old.state }
-    {
-        self.sides.shut(side);
     }
 
     /// Makes the change of a step of closing. Takes no memory; constant.
@@ -146,17 +100,17 @@ impl Relay {
         ensures { self.new.state ≡ after_closing self.old.state step }
     {
         match step {
-            Closing::Faulty(side) | Closing::PeerGone(side) => self.free(side),
-            Closing::EndWriting(side) => self.end_writing(side),
+            Closing::Faulty(side) | Closing::PeerGone(side) => self.sides.free(side),
+            Closing::EndWriting(side) => self.sides.end_writing(side),
             Closing::BothDone(link) => {
                 let near = SideId {
                     link,
                     side: Side::In,
                 };
-                self.free(near);
-                self.free(near.peer());
+                self.sides.free(near);
+                self.sides.free(near.peer());
             }
-            Closing::Shut(side) => self.shut(side),
+            Closing::Shut(side) => self.sides.shut(side),
         }
     }
 }

@@ -1,23 +1,12 @@
 // What the relay counts.
 ghost use Rattle.std.specs.Prelude.{◌≡◌, ◌-◌, ◌^◌, ◌<◌, ◌≤◌, min, IsTrue, Some, None, if◌then◌else◌, nat_lt};
-ghost use Rattle.relay_state.specs.Counting.{read_of, moved_of, given_of, link_state, link_count, is_open, open_below, buffered_at, buffered_below, is_spent};
-ghost use Rattle.relay_core.specs.Far.{is_far_from, is_far};
+ghost use Rattle.relay_state.specs.Counting.{link_state, link_count, is_open, open_below, buffered_at, buffered_below, is_spent};
 
 use crate::relay::Relay;
 use ev_types::{LinkCount, LinkState, Side, SideId};
-use relay_sides::{Counts, SPENT};
+use relay_sides::SPENT;
 
 impl Relay {
-    /// What was counted of a side, freed or not. Constant; takes no memory.
-    pub fn counts(&self, side: SideId) -> Counts
-        requires { side.link < self.now.state.plain.opened }
-        ensures read { result.read ≡ read_of self.now.state side }
-        ensures moved { result.moved ≡ moved_of self.now.state side }
-        ensures given { result.given ≡ given_of self.now.state side }
-    {
-        self.sides.counts(side)
-    }
-
     /// What a link came to. None exactly from the number of opened links on. Constant; takes no memory.
     pub fn link(&self, link: u32) -> Option<LinkCount>
         ensures { result ≡ (if nat_lt link self.now.state.plain.opened then Some (link_count self.now.state link) else None) }
@@ -29,8 +18,8 @@ impl Relay {
             link,
             side: Side::In,
         };
-        let near_counts = self.counts(near);
-        let far_counts = self.counts(near.peer());
+        let near_counts = self.sides.counts(near);
+        let far_counts = self.sides.counts(near.peer());
         Some(LinkCount {
             state: self.link_state(link),
             in_read: near_counts.read,
@@ -48,8 +37,8 @@ impl Relay {
             link,
             side: Side::In,
         };
-        let flags = self.flags(near);
-        let far_flags = self.flags(near.peer());
+        let flags = self.sides.flags(near);
+        let far_flags = self.sides.flags(near.peer());
         if flags.live || far_flags.live {
             LinkState::Live
         } else if flags.write_ended && far_flags.write_ended {
@@ -83,7 +72,7 @@ impl Relay {
             link,
             side: Side::In,
         };
-        self.is_live(near) || self.is_live(near.peer())
+        self.sides.is_live(near) || self.sides.is_live(near.peer())
     }
 
     /// The number of bytes in all buffers of live sides, or 2^64 - 1 where that is more. Linear in the links; takes no
@@ -107,7 +96,7 @@ impl Relay {
         requires { side.link < self.now.state.plain.opened }
         ensures { result ≡ min (buffered_at self.now.state side) (2 ^ 64 - 1) }
     {
-        if !self.is_live(side) {
+        if !self.sides.is_live(side) {
             return 0;
         }
         let input = self.sides.input_len(side) as u64;
@@ -121,28 +110,6 @@ impl Relay {
         ensures { result ≡ self.now.state.plain.turn }
     {
         self.turns
-    }
-
-    fn is_far_from(&self, side: SideId) -> bool
-        requires { side.link < self.now.state.plain.opened }
-        ensures { result ≡ is_far_from self.now.state side }
-    {
-        self.sides.is_far_from(side)
-    }
-
-    /// Whether a count of the link has come to 2^62, in either direction: bytes read, used or made by a filter, moved or given.
-    /// Freed sides count too. Constant; takes no memory.
-    ///
-    /// Own.
-    pub fn is_far(&self, link: u32) -> bool
-        requires { link < self.now.state.plain.opened }
-        ensures { result ≡ is_far self.now.state link }
-    {
-        let near = SideId {
-            link,
-            side: Side::In,
-        };
-        self.is_far_from(near) || self.is_far_from(near.peer())
     }
 
     /// Whether a count has come to 2^62: turns, or bytes read from an end, used or made by a filter, moved or given.

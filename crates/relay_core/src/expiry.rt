@@ -38,7 +38,7 @@ impl Relay {
         requires { side.link < self.now.state.plain.opened }
         ensures { result ≡ is_timed (side_at self.now.state.plain side) dir }
     {
-        self.is_live(side) && self.sides.timeout(side, dir) >= 1
+        self.sides.is_live(side) && self.sides.timeout(side, dir) >= 1
     }
 
     fn wants(&self, side: SideId, dir: Dir) -> bool
@@ -59,23 +59,6 @@ impl Relay {
         self.sides.idle_time(side, dir, self.time) >= self.sides.timeout(side, dir)
     }
 
-    fn be_active(&mut self, side: SideId, dir: Dir)
-        requires { side.link < self.old.state.plain.opened }
-        ensures { self.new.state
-            ≡ with_plain (change_side side (active_at self.old.state.plain.time dir) self.old.state.plain) self.old.state }
-    {
-        self.sides.be_active(side, dir, self.time);
-    }
-
-    fn expire(&mut self, side: SideId, dir: Dir)
-        requires opened { side.link < self.old.state.plain.opened }
-        requires timed { IsTrue (is_timed (side_at self.old.state.plain side) dir) }
-        ensures { self.new.state ≡ with_plain (raise self.old.state.settings side (happened dir timeout_flag)
-            (change_side side (expire dir) self.old.state.plain)) self.old.state }
-    {
-        self.sides.expire(side, dir);
-    }
-
     /// The time is held against one direction of a side.
     fn look_at(&mut self, side: SideId, dir: Dir)
         requires { side.link < self.old.state.plain.opened }
@@ -85,9 +68,9 @@ impl Relay {
             return;
         }
         if !self.wants(side, dir) {
-            self.be_active(side, dir);
+            self.sides.be_active(side, dir, self.time);
         } else if self.has_run_out(side, dir) {
-            self.expire(side, dir);
+            self.sides.expire(side, dir);
         }
     }
 
@@ -189,7 +172,7 @@ impl Relay {
         requires { side.link < self.now.state.plain.opened }
         ensures { result ≡ is_expired self.now.state side }
     {
-        let flags = self.flags(side);
+        let flags = self.sides.flags(side);
         flags.live && flags.expired
     }
 

@@ -18,4 +18,4 @@ pub use close::Closing;
 pub use ev_types::LinkCount;
 pub use relay::Relay;
 pub use ev_types::{Marks, Settings, Timeouts};
-pub use relay_sides::{Counts, SideFlags};
+pub use relay_sides::{Counts, SideFlags, Sides};

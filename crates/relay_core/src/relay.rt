@@ -55,6 +55,19 @@ impl Relay {
         }
     }
 
+    /// The sides of all links that were opened, and the directions between them, as the state has them: what is so of a side, why it is
+    /// faulty, and what was counted of it. Constant; takes no memory.
+    ///
+    /// Own.
+    pub fn sides(&self) -> &Sides
+        ensures opened { result.now.links.opened ≡ self.now.state.plain.opened }
+        ensures sides { result.now.links.sides ≡ self.now.state.plain.sides }
+        ensures flows { result.now.links.flows ≡ self.now.state.plain.flows }
+        ensures lanes { result.now.links.lanes ≡ self.now.state.lanes }
+    {
+        &self.sides
+    }
+
     /// Milliseconds. It never falls. Constant; takes no memory.
     pub fn time(&self) -> u64
         ensures { result ≡ self.now.state.plain.time }

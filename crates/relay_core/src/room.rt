@@ -1,38 +1,20 @@
 // How many bytes may be read from a side's end and given to it now, and what a side wants.
 ghost use Rattle.std.specs.Prelude.{◌≡◌, ◌<◌};
 ghost use Rattle.token_bucket.specs.declared.limit.Dir.TheVariants.{Read, Write};
-ghost use Rattle.relay_model.specs.Plain.{side_at};
 ghost use Rattle.relay_model.specs.Rooms.{read_mark, hold_mark, may_read, may_write};
 ghost use Rattle.relay_state.specs.Rooms.{read_room, write_room, offer as offer_of, wants};
-ghost use Rattle.relay_sides.specs.SideView.{flags_of};
 
 use crate::relay::Relay;
 use ev_types::SideId;
-use relay_sides::{MOST_AT_ONCE, SideFlags};
+use relay_sides::MOST_AT_ONCE;
 
 impl Relay {
-    /// What is so of the side. Constant; takes no memory.
-    pub fn flags(&self, side: SideId) -> SideFlags
-        requires { side.link < self.now.state.plain.opened }
-        ensures { result ≡ flags_of (side_at self.now.state.plain side) }
-    {
-        self.sides.flags(side)
-    }
-
-    /// Whether the side was not freed.
-    pub(crate) fn is_live(&self, side: SideId) -> bool
-        requires { side.link < self.now.state.plain.opened }
-        ensures { result ≡ (side_at self.now.state.plain side).live }
-    {
-        self.sides.is_live(side)
-    }
-
     fn may_read(&self, side: SideId) -> bool
         requires { side.link < self.now.state.plain.opened }
         ensures { result ≡ may_read self.now.state.plain side }
     {
-        let flags = self.flags(side);
-        let peer_live = self.is_live(side.peer());
+        let flags = self.sides.flags(side);
+        let peer_live = self.sides.is_live(side.peer());
         flags.live && !flags.connecting && flags.reads && !flags.ended && !flags.failed && peer_live
     }
 
@@ -40,7 +22,7 @@ impl Relay {
         requires { side.link < self.now.state.plain.opened }
         ensures { result ≡ may_write self.now.state.plain side }
     {
-        let flags = self.flags(side);
+        let flags = self.sides.flags(side);
         flags.live && !flags.connecting && flags.writes && !flags.failed && !flags.write_ended
     }
 
@@ -91,7 +73,7 @@ impl Relay {
         requires { side.link < self.now.state.plain.opened }
         ensures { result ≡ wants self.now.state side Write }
     {
-        let flags = self.flags(side);
+        let flags = self.sides.flags(side);
         self.write_room(side) > 0 || (flags.live && flags.connecting && !flags.failed)
     }
 }

@@ -1,17 +1,12 @@
-// What the results of reads, writes and connect checks change.
-ghost use Rattle.std.specs.Prelude.{◌≡◌, ◌+◌, ◌^◌, ◌<◌, ◌≤◌, OnOk, length, []};
-ghost use Rattle.token_bucket.specs.declared.limit.Dir.TheVariants.{Read, Write};
-ghost use Rattle.ev_types.specs.declared.answer.ConnAnswer.TheVariants.{Connected};
-ghost use Rattle.ev_types.specs.declared.answer.ReadAnswer.TheVariants.{Ended, Failed};
-ghost use Rattle.relay_model.specs.Plain.{change_side, change_flow};
-ghost use Rattle.relay_model.specs.Moments.{active_at};
-ghost use Rattle.relay_state.specs.State.{lane_at, with_plain, with_lane, lane_taken};
+// What the answers to reads, writes and connect checks change.
+ghost use Rattle.std.specs.Prelude.{◌≡◌, ◌<◌, ◌≤◌, OnOk, length};
 ghost use Rattle.relay_state.specs.Rooms.{waiting_for};
-ghost use Rattle.relay_state.specs.Serving.{flow_given, raise_write, after_got, after_read, after_took, after_write_failed, after_conn};
+ghost use Rattle.relay_state.specs.Serving.{after_read, after_write, after_conn};
+ghost use Rattle.relay_core.specs.Answered.{HasBytes, TakesAtMost};
 ghost use Rattle.relay_core.specs.RelayValue.{spare_read};
 
 use crate::relay::Relay;
-use ev_types::{NoMemory, SideId};
+use ev_types::{ConnAnswer, NoMemory, ReadAnswer, SideId, WriteAnswer};
 
 impl Relay {
     /// Makes room for a read of so many bytes from the side's end. It is also refused where they could not be counted.
@@ -24,55 +19,50 @@ impl Relay {
         self.sides.reserve_read(side, room)
     }
 
-    /// Bytes that were read from the side's end, in room that was made before. Takes memory where the raw input has less
-    /// room, and is never refused; linear in the bytes.
-    pub fn got(&mut self, side: SideId, bytes: &[u8])
+    /// A read of the side's end was answered, and brought these bytes, in room that was made before. Linear in their number; takes memory
+    /// for them alone.
+    ///
+    /// Own; libevent makes this change in the `readcb` of a socket bufferevent.
+    pub fn read_answered(&mut self, side: SideId, answer: ReadAnswer, bytes: &[u8])
         requires opened { side.link < self.old.state.plain.opened }
-        requires some { 0 < length bytes.now }
+        requires some { HasBytes answer bytes.now }
         requires room { length bytes.now ≤ spare_read self.old side }
-        ensures { self.new.state ≡ after_got self.old.state side bytes.now }
+        ensures { self.new.state ≡ after_read self.old.state side answer bytes.now }
     {
-        self.sides.got(side, bytes, self.time);
+        match answer {
+            ReadAnswer::Got(_) => self.sides.got(side, bytes, self.time),
+            ReadAnswer::Ended => self.sides.ended(side),
+            ReadAnswer::NotYet => {}
+            ReadAnswer::Failed => self.sides.read_failed(side),
+        }
     }
 
-    /// A read was answered with the end. Constant; takes no memory.
-    pub fn ended(&mut self, side: SideId)
-        requires { side.link < self.old.state.plain.opened }
-        ensures { self.new.state ≡ after_read self.old.state side Ended [] }
-    {
-        self.sides.ended(side);
-    }
-
-    /// A read failed. Constant; takes no memory.
-    pub fn read_failed(&mut self, side: SideId)
-        requires { side.link < self.old.state.plain.opened }
-        ensures { self.new.state ≡ after_read self.old.state side Failed [] }
-    {
-        self.sides.read_failed(side);
-    }
-
-    /// The side's end took the first bytes that wait for it. Takes no memory; linear in their number, over many calls.
-    pub fn took(&mut self, side: SideId, count: usize)
+    /// A write to the side's end was answered: it took some of the first bytes that wait for it, or failed. Takes no memory.
+    ///
+    /// Own; libevent makes this change in the `writecb` of a socket bufferevent.
+    pub fn write_answered(&mut self, side: SideId, answer: WriteAnswer)
         requires opened { side.link < self.old.state.plain.opened }
-        requires within { count ≤ length (waiting_for self.old.state side) }
-        ensures { self.new.state ≡ after_took self.old.state side count }
+        requires within { TakesAtMost (length (waiting_for self.old.state side)) answer }
+        ensures { self.new.state ≡ after_write self.old.state side answer }
     {
-        self.sides.took(side, count, self.time);
+        match answer {
+            WriteAnswer::Took(count) => self.sides.took(side, count, self.time),
+            WriteAnswer::Failed => self.sides.write_failed(side),
+            WriteAnswer::NotYet | WriteAnswer::NoMemory => {}
+        }
     }
 
-    /// A write failed, or a connect check. Constant; takes no memory.
-    pub fn write_failed(&mut self, side: SideId)
+    /// A connect check was answered. Takes no memory; constant.
+    ///
+    /// Own; libevent makes this change in the `writecb` of a socket bufferevent.
+    pub fn connect_answered(&mut self, side: SideId, answer: ConnAnswer)
         requires { side.link < self.old.state.plain.opened }
-        ensures { self.new.state ≡ after_write_failed self.old.state side }
+        ensures { self.new.state ≡ after_conn self.old.state side answer }
     {
-        self.sides.write_failed(side);
-    }
-
-    /// The side's end is connected. Constant; takes no memory.
-    pub fn connected(&mut self, side: SideId)
-        requires { side.link < self.old.state.plain.opened }
-        ensures { self.new.state ≡ after_conn self.old.state side Connected }
-    {
-        self.sides.connected(side);
+        match answer {
+            ConnAnswer::Connected => self.sides.connected(side),
+            ConnAnswer::Pending => {}
+            ConnAnswer::Failed => self.sides.write_failed(side),
+        }
     }
 }

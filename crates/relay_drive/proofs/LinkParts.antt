@@ -27,6 +27,8 @@ use Rattle.relay_drive.specs.Steps.{Nothing, Then, Each, CutAt, links_from}
 use Rattle.relay_drive.specs.PassPhase.{PassesSide, PassesLink}
 use Rattle.relay_drive.specs.ServePhase.{ReadsSide, WritesSide, ConnectsSide, ServesSide}
 use Rattle.relay_drive.specs.ClosePhase.{Closes, LooksAt, ClosesLink}
+use Rattle.relay_sides.specs.Links as links
+use Rattle.relay_sides.specs.Links.{Links}
 use Rattle.relay_drive.specs.Links.{HasPairs, IsStillFrom, IsStill, IsUncalled, IsSettled, is_far_from, is_far}
 pub use Rattle.relay_drive.proofs.OtherLinks.{wants-same, open-same, far-same, still-same, settled-same}
 use Rattle.relay_drive.proofs.EachLemmas.{nothing_then, then_as, each_push, links_from-push}
@@ -121,6 +123,11 @@ none-passes : {A : Type 0} (p : A → Bool) (xs : List A) (d : A) → ((i : ℕ)
 none-passes p [] d h = refl
 none-passes p (x ∷ xs) d h =
     ap (λ b. b || list_any p xs) (h 0 (omega arith)) ∙ none-passes p xs d (λ i lt. h (suc i) (omega (arith, lt)))
+
+-- a count of a link has come to 2^62 in the state where it has among the relay's sides
+pub far-seen : (s : State) (k : Links) (n : ℕ) → k.flows ≡ s.plain.flows → k.lanes ≡ s.lanes →
+    (links.is_far_from k (in_side n) || links.is_far_from k (out_side n)) ≡ is_far s n
+far-seen s k n flows lanes = λ i. is_far (record s { plain = record (s.plain) { flows = flows i }; lanes = lanes i }) n
 
 -- no count has come to 2^62 where that of the turns has not, and none of any link
 pub not-spent : (s : State) → HasPairs s → nat_le (2 ^ 62) s.plain.turn ≡ false → ((k : ℕ) → k < s.plain.opened → is_far s k ≡ false) →

@@ -1,14 +1,22 @@
--- What entries behind accepting leave: the counts of turns and links, and that no link waits.
-use Rattle.std.proofs.Common.{◌≡◌, true, false, ◌||◌, if◌then◌else◌, [], ◌∷◌, ◌++◌, count_by, refl, ◌∙◌, ap, arith}
+-- What entries behind accepting leave: the counts of turns and links, and that no link waits; and what a write takes.
+use Rattle.std.proofs.Common.{◌≡◌, true, false, ◌||◌, if◌then◌else◌, [], ◌∷◌, ◌++◌, length, count_by, refl, ◌∙◌, ap, arith}
 use Rattle.std.specs.List.{list_all, list_any}
 use Rattle.std.proofs.lemmas.Bool.{and_parts}
+use Rattle.std.proofs.lemmas.List.{length-take}
 use Rattle.std.proofs.lemmas.List.Sums.{sum_by-append}
+use Rattle.ev_types.specs.declared.side.SideId.{SideId}
+use Rattle.ev_types.specs.declared.answer.WriteAnswer.{WriteAnswer}
+use Rattle.ev_types.specs.declared.answer.WriteAnswer.TheVariants as write
 use Rattle.ev_types.specs.declared.entry.Entry.TheVariants as entry
 use Rattle.ev_types.specs.Trace.{Event, Trace}
 use Rattle.relay_model.specs.RatesKept.{is_turn}
 use Rattle.relay_model.specs.Totals.{opened, opened_in_turn}
 use Rattle.relay_model.specs.Plays.{is_served}
 use Rattle.ev_port.specs.Vouching.{tells_links, TellsNoLinks}
+use Rattle.ev_port.specs.Ends.{WriteWithin}
+use Rattle.relay_state.specs.State.{State}
+use Rattle.relay_state.specs.Rooms.{waiting_for, write_room, offer}
+use Rattle.relay_core.specs.Answered.{TakesAtMost}
 use Rattle.relay_drive.proofs.CalmLemmas.{Calm, calm_list, served_list, opened-append, in_turn-append}
 
 -- what is looked at of a trace, to know whether all was accepted
@@ -42,3 +50,14 @@ served-tell_none [] h = refl
 served-tell_none (x ∷ u) h =
     let parts = and_parts (is_served x) (list_all is_served u) h in
     ap (λ b. b || list_any tells_links u) (served-tells x parts.0) ∙ served-tell_none u parts.1
+
+-- what is offered is no more than waits, so that no more is taken
+pub taken-offered : (s : State) (e : SideId) (answer : WriteAnswer) → WriteWithin answer (length (offer s e)) →
+    TakesAtMost (length (waiting_for s e)) answer
+taken-offered s e (write.Took n) h =
+    let most = length-take (write_room s e) (waiting_for s e) in
+    let within = h.1 in
+    omega (arith, most, within)
+taken-offered s e write.NotYet h = tt
+taken-offered s e write.Failed h = tt
+taken-offered s e write.NoMemory h = tt

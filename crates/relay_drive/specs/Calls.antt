@@ -1,9 +1,8 @@
 -- What each call of the port, with its entry, does to the relay's state.
-use Rattle.std.specs.Prelude.{◌≡◌, ℕ, ◌^◌, ◌<◌, ⊤, Bool, true, false, List, [], ◌∷◌, length, min, max}
+use Rattle.std.specs.Prelude.{◌≡◌, ℕ, ◌^◌, ◌<◌, Bool, true, false, List, [], ◌∷◌, length, min, max}
 use Rattle.ev_types.specs.declared.side.SideId.{SideId}
 use Rattle.ev_types.specs.declared.answer.ConnAnswer.{ConnAnswer}
 use Rattle.ev_types.specs.declared.answer.ReadAnswer.{ReadAnswer}
-use Rattle.ev_types.specs.declared.answer.ReadAnswer.TheVariants as read
 use Rattle.ev_types.specs.declared.answer.WriteAnswer.{WriteAnswer}
 use Rattle.ev_types.specs.declared.answer.WriteAnswer.TheVariants as write
 use Rattle.ev_types.specs.declared.entry.Entry.TheVariants as entry
@@ -30,11 +29,6 @@ pub record Opens (connected : Bool) (s : State) (a : Trace) (new : State) : Type
 pub record Checks (e : SideId) (answer : ConnAnswer) (s : State) (a : Trace) (new : State) : Type 0 where
   pub entries : a ≡ conn_events e answer
   pub state : new ≡ after_conn s e answer
-
--- bytes come with the answer that tells of them
-abbrev pub HasBytes : ReadAnswer → List ℕ → Type 0
-HasBytes (read.Got n) bytes = 0 < length bytes
-HasBytes _ bytes = ⊤
 
 -- A side's end was read, which put bytes in front of a slice.
 pub record Reads (e : SideId) (answer : ReadAnswer) (into : List ℕ) (s : State) (a : Trace) (new : State) : Type 0 where

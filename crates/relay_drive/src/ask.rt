@@ -3,16 +3,14 @@ ghost use Rattle.std.specs.Prelude.{◌≡◌, ◌<◌, ◌≤◌, false, length
 ghost use Rattle.relay_state.specs.Rooms.{offer};
 ghost use Rattle.relay_drive.specs.declared.fault.DriveFault.TheVariants.{Memory};
 ghost use Rattle.relay_drive.specs.Steps.{Nothing};
-ghost use Rattle.relay_drive.specs.Calls.{Checks, Reads, Writes, HasBytes, is_memory, after_read, after_write, after_conn};
+ghost use Rattle.relay_drive.specs.Calls.{Checks, Reads, Writes, is_memory};
 ghost use Rattle.ev_port.specs.Ends.{ReadWithin, got_bytes, WriteWithin, took_bytes};
-ghost use Rattle.relay_core.specs.RelayValue.{spare_read};
 ghost use Rattle.relay_drive.specs.Moves.{Does, OnlyForMemory};
 
 use crate::fault::DriveFault;
 use crate::run::{Run, put};
 use ev_port::{Port, Scribe};
 use ev_types::{ConnAnswer, Entry, ReadAnswer, SideId, WriteAnswer};
-use relay_core::Relay;
 
 /// Reads from the side's end as many bytes as there are in `into`.
 pub(crate) fn ask_read<P: Port, S: Scribe>(
@@ -38,7 +36,7 @@ pub(crate) fn ask_read<P: Port, S: Scribe>(
     };
     let bytes = bytes_got(answer, into);
     put(&mut run.entries, scribe, entry, bytes);
-    note_read(&mut run.relay, side, answer, bytes);
+    run.relay.read_answered(side, answer, bytes);
     Ok(answer)
 }
 
@@ -53,21 +51,6 @@ fn bytes_got(answer: ReadAnswer, into: &[u8]) -> &[u8]
     };
     let (bytes, _) = into.split_at(count);
     bytes
-}
-
-/// Makes the change of a read, with room made before for its bytes.
-fn note_read(relay: &mut Relay, side: SideId, answer: ReadAnswer, bytes: &[u8])
-    requires opened { side.link < relay.old.state.plain.opened }
-    requires some { HasBytes answer bytes.now }
-    requires room { length bytes.now ≤ spare_read relay.old side }
-    ensures { relay.new.state ≡ after_read relay.old.state side answer bytes.now }
-{
-    match answer {
-        ReadAnswer::Got(_) => relay.got(side, bytes),
-        ReadAnswer::Ended => relay.ended(side),
-        ReadAnswer::NotYet => {}
-        ReadAnswer::Failed => relay.read_failed(side),
-    }
 }
 
 /// Gives the side's end what is offered to it now.
@@ -96,7 +79,7 @@ pub(crate) fn ask_write<P: Port, S: Scribe>(
         answer,
     };
     put(&mut run.entries, scribe, entry, bytes_taken(answer, offer));
-    note_write(&mut run.relay, side, answer);
+    run.relay.write_answered(side, answer);
     Ok(answer)
 }
 
@@ -122,19 +105,6 @@ fn bytes_taken(answer: WriteAnswer, offer: &[u8]) -> &[u8]
     bytes
 }
 
-/// Makes the change of a write.
-fn note_write(relay: &mut Relay, side: SideId, answer: WriteAnswer)
-    requires opened { side.link < relay.old.state.plain.opened }
-    requires within { WriteWithin answer (length (offer relay.old.state side)) }
-    ensures { relay.new.state ≡ after_write relay.old.state side answer }
-{
-    match answer {
-        WriteAnswer::Took(count) => relay.took(side, count),
-        WriteAnswer::Failed => relay.write_failed(side),
-        WriteAnswer::NotYet | WriteAnswer::NoMemory => {}
-    }
-}
-
 /// Asks whether the side's end is connected.
 pub(crate) fn ask_connect<P: Port, S: Scribe>(
     run: &mut Run,
@@ -150,18 +120,6 @@ pub(crate) fn ask_connect<P: Port, S: Scribe>(
     scribe.reserve(1, 0)?;
     let answer = port.connect_state(side);
     put(&mut run.entries, scribe, Entry::Conn { side, answer }, &[]);
-    note_conn(&mut run.relay, side, answer);
+    run.relay.connect_answered(side, answer);
     Ok(answer)
-}
-
-/// Makes the change of a connect check.
-fn note_conn(relay: &mut Relay, side: SideId, answer: ConnAnswer)
-    requires { side.link < relay.old.state.plain.opened }
-    ensures { relay.new.state ≡ after_conn relay.old.state side answer }
-{
-    match answer {
-        ConnAnswer::Connected => relay.connected(side),
-        ConnAnswer::Pending => {}
-        ConnAnswer::Failed => relay.write_failed(side),
-    }
 }

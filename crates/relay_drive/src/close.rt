@@ -34,7 +34,7 @@ fn put_freed<S: Scribe>(run: &mut Run, scribe: &mut S, side: SideId, cause: Caus
     ensures list { Grew (S.trace scribe.old) (S.trace scribe.new) ((freed_entry run.old.relay.state.plain side cause, []) ∷ []) }
     ensures room { S.spare_entries scribe.old ≤ S.spare_entries scribe.new + 1 }
 {
-    let counts = run.relay.counts(side);
+    let counts = run.relay.sides().counts(side);
     let entry = Entry::Freed {
         side,
         cause,
@@ -69,7 +69,7 @@ fn put_closing<S: Scribe>(run: &mut Run, step: Closing, scribe: &mut S)
 {
     match step {
         Closing::Faulty(side) => {
-            if let Some(cause) = run.relay.fault(side) {
+            if let Some(cause) = run.relay.sides().fault(side) {
                 put_freed(run, scribe, side, cause);
             }
         }

@@ -32,10 +32,10 @@ fn read_side<P: Port, S: Scribe>(
     if !want.can_read {
         return Ok(());
     }
-    if !run.relay.wants_read(want.side) {
+    let room = run.relay.read_room(want.side);
+    if room == 0 {
         return Ok(());
     }
-    let room = run.relay.read_room(want.side);
     let (into, _) = inbox.split_at_mut(room);
     ask_read(run, want.side, into, port, scribe)?;
     Ok(())
@@ -89,7 +89,7 @@ fn is_connecting(relay: &Relay, side: SideId) -> bool
     requires { side.link < relay.now.state.plain.opened }
     ensures { result ≡ is_connecting relay.now.state.plain side }
 {
-    let flags = relay.flags(side);
+    let flags = relay.sides().flags(side);
     flags.live && flags.connecting
 }
 

@@ -111,7 +111,7 @@ fn is_spent(relay: &Relay, looks: &Looks) -> bool
     }
     let mut from = 0;
     while let Some(link) = next_link(&looks.want, from, relay.opened()) {
-        if relay.is_far(link) {
+        if relay.sides().is_far(link) {
             return true;
         }
         from = link + 1;

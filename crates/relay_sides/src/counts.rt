@@ -47,7 +47,7 @@ impl Sides {
     /// takes no memory.
     ///
     /// Own.
-    pub fn is_far_from(&self, side: SideId) -> bool
+    fn is_far_from(&self, side: SideId) -> bool
         requires { side.link < self.now.links.opened }
         ensures { result ≡ is_far_from self.now.links side }
     {
@@ -77,7 +77,10 @@ impl Sides {
         false
     }
 
-    fn is_far(&self, link: u32) -> bool
+    /// Whether a count of the link has, in either direction. Freed sides count too. Constant; takes no memory.
+    ///
+    /// Own.
+    pub fn is_far(&self, link: u32) -> bool
         requires { link < self.now.links.opened }
         ensures { result ≡ (is_far_from self.now.links (in_side link) || is_far_from self.now.links (out_side link)) }
     {

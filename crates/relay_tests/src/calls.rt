@@ -1,6 +1,6 @@
 // Calls on a relay whose link of number 0 is played, at a side that is there.
 
-use ev_types::{Cause, NoMemory, Side, SideId};
+use ev_types::{Cause, NoMemory, ReadAnswer, Side, SideId, WriteAnswer};
 use relay_core::Relay;
 
 pub(crate) const IN: SideId = SideId {
@@ -30,9 +30,9 @@ pub(crate) fn get(relay: &mut Relay, side: SideId, bytes: &[u8]) -> Result<(), N
     }
     relay.reserve_read(side, bytes.len())?;
     if bytes.is_empty() {
-        relay.ended(side);
+        relay.read_answered(side, ReadAnswer::Ended, &[]);
     } else {
-        relay.got(side, bytes);
+        relay.read_answered(side, ReadAnswer::Got(bytes.len()), bytes);
     }
     Ok(())
 }
@@ -58,7 +58,7 @@ pub(crate) fn give(relay: &mut Relay, side: SideId, most: usize) -> usize {
         return 0;
     }
     let offered = relay.offer(side).len();
-    relay.took(side, most.min(offered));
+    relay.write_answered(side, WriteAnswer::Took(most.min(offered)));
     offered
 }
 
@@ -67,5 +67,5 @@ pub(crate) fn fault(relay: &Relay, side: SideId) -> Option<Cause> {
     if side.link >= relay.opened() {
         return None;
     }
-    relay.fault(side)
+    relay.sides().fault(side)
 }

@@ -1,7 +1,7 @@
 // Whole links, with the answers of the ends played by hand. The relay is lent, so that it is let go at one place.
 
 use crate::calls::{IN, OUT, fault, get, give, open, pass, read};
-use ev_types::{Cause, FilterKind, LinkCount, LinkState, SideId};
+use ev_types::{Cause, FilterKind, LinkCount, LinkState, ReadAnswer, SideId};
 use relay_core::{Closing, Marks, Relay, Settings, Timeouts};
 use std::alloc::Global;
 
@@ -97,7 +97,7 @@ fn turn(relay: &mut Relay, reading: u64) -> Option<u64> {
 
 fn fail(relay: &mut Relay, side: SideId) -> Option<Cause> {
     if side.link < relay.opened() {
-        relay.read_failed(side);
+        relay.read_answered(side, ReadAnswer::Failed, &[]);
     }
     fault(relay, side)
 }
@@ -113,7 +113,7 @@ fn seen(relay: &Relay) -> (bool, bool) {
     if relay.opened() == 0 {
         return (false, false);
     }
-    (relay.is_open(0), relay.is_far(0))
+    (relay.is_open(0), relay.sides().is_far(0))
 }
 
 fn close(relay: &mut Relay) -> bool {

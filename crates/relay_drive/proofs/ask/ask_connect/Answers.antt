@@ -18,8 +18,8 @@ returns-clause-went g c =
     let events = conn_events c.args.side answer in
     goes_once g.met.P.Port.waits_no_more l0 (g.S.Scribe.trace c.put.new.scribe) (g.P.Port.faults c.args.port.now)
     (g.P.Port.faults c.connect_state-answer.new.self) events refl
-    (record { entries = refl; state = c.note_conn.ensures })
-    (same_as c.args.run.now.relay.state c.note_conn.new.relay.state _ c.note_conn.ensures
+    (record { entries = refl; state = c.connect_answered.ensures })
+    (same_as c.args.run.now.relay.state c.connect_answered.new.self.state _ c.connect_answered.ensures
     (conn_same c.args.run.now.relay.state c.args.side answer)) c.put.ensures.counted
     (Grew-join l0 (g.S.Scribe.trace c.reserve.new.self) (g.S.Scribe.trace c.put.new.scribe) [] events c.reserve.ensures.trace
     c.put.ensures.list) c.connect_state-answer.ensures.vouched

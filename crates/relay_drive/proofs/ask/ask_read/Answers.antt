@@ -25,13 +25,13 @@ returns-clause-went g c =
     let answer = c.read-answer.result in
     let into = c.read-answer.new.into in
     let events = read_events c.args.side into answer in
-    let state : c.note_read.new.relay.state ≡ after_read old c.args.side answer (got_bytes answer into) =
-    c.note_read.ensures ∙ ap (λ (s : State). after_read s c.args.side answer c.bytes_got-bytes.result.now)
+    let state : c.read_answered.new.self.state ≡ after_read old c.args.side answer (got_bytes answer into) =
+    c.read_answered.ensures ∙ ap (λ (s : State). after_read s c.args.side answer c.bytes_got-bytes.result.now)
     c.reserve_read.ensures.state ∙ ap (after_read old c.args.side answer) c.bytes_got-bytes.ensures in
     goes_once g.met.P.Port.waits_no_more l0 (g.S.Scribe.trace c.put.new.scribe) (g.P.Port.faults c.args.port.now)
     (g.P.Port.faults c.read-answer.new.self) events refl
     (record { within = c.read-answer.ensures.within; entries = refl; state = state })
-    (same_as old c.note_read.new.relay.state _ state (read_same old c.args.side answer (got_bytes answer into))) c.put.ensures.counted
+    (same_as old c.read_answered.new.self.state _ state (read_same old c.args.side answer (got_bytes answer into))) c.put.ensures.counted
     (rw (← c.bytes_got-bytes.ensures)
     (Grew-join l0 (g.S.Scribe.trace c.reserve.new.self) (g.S.Scribe.trace c.put.new.scribe) [] _ c.reserve.ensures.trace
     c.put.ensures.list)) c.read-answer.ensures.vouched

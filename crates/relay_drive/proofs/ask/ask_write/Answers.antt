@@ -10,7 +10,12 @@ use Rattle.relay_drive.proofs.GoesLemmas.{Grew-join, goes_nowhere, goes_silent}
 use Rattle.relay_drive.proofs.HeardLemmas.{Heard-write, goes_once, write_same, same_as, no_write, no_write_ends, some_write, memory_is}
 use Rattle.relay_drive.proofs.TiedLemmas.{step_of, one_end, write_says}
 use Rattle.relay_drive.proofs.KnownLemmas.{known_served}
+use Rattle.relay_drive.proofs.TookLemmas.{taken-offered}
 use Rattle.relay_drive.proofs.ask.ask_write.Goals as goal
+
+pub write_answered-requires-clause-within : goal.write_answered-requires-clause-within
+write_answered-requires-clause-within g c =
+    taken-offered c.args.run.now.relay.state c.args.side c.write-answer.result (rw (c.offer-offer.ensures) at c.write-answer.ensures.within)
 
 pub returns-in_err-reserve-clause-went : goal.returns-in_err-reserve-clause-went
 returns-in_err-reserve-clause-went g c =
@@ -48,9 +53,9 @@ returns-clause-went g c =
       done = some;
       within = rw (c.offer-offer.ensures) at c.write-answer.ensures.within;
       entries = sym is;
-      state = c.note_write.ensures;
+      state = c.write_answered.ensures;
     })
-    (same_as old c.note_write.new.relay.state _ c.note_write.ensures (write_same old c.args.side answer)) c.put.ensures.counted
+    (same_as old c.write_answered.new.self.state _ c.write_answered.ensures (write_same old c.args.side answer)) c.put.ensures.counted
     (Grew-join l0 (g.S.Scribe.trace c.reserve.new.self) (g.S.Scribe.trace c.put.new.scribe) [] one c.reserve.ensures.trace
     (rw (c.bytes_taken.ensures, c.offer-offer.ensures) at c.put.ensures.list))
     (rw (c.offer-offer.ensures, is) at c.write-answer.ensures.vouched)

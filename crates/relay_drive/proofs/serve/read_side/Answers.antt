@@ -1,6 +1,6 @@
-use Rattle.std.proofs.Common.{◌≡◌, length, true, false, ◌&&◌, refl, sym, ◌∙◌, ap, subst}
+use Rattle.std.proofs.Common.{◌≡◌, ◌≢◌, ℕ, nat_le, arith, length, true, false, ◌&&◌, refl, sym, ◌∙◌, ap, subst}
 use Rattle.std.specs.Prelude.{MatchBool}
-use Rattle.std.proofs.lemmas.Bool.{not-true, not-false}
+use Rattle.std.proofs.lemmas.Bool.{not-true, not-false, le-leb}
 use Rattle.token_bucket.specs.declared.limit.Dir.TheVariants as dir
 use Rattle.ev_port.specs.Ends.{got_bytes}
 use Rattle.relay_state.specs.State.{State}
@@ -11,13 +11,16 @@ use Rattle.relay_drive.specs.Phases.{ReadsWithRoom}
 use Rattle.relay_drive.proofs.GoesLemmas.{Grew-none, goes_as, goes_nowhere}
 use Rattle.relay_drive.proofs.serve.read_side.Goals as goal
 
-pub returns-then-not-wants_read-clause-went : goal.returns-then-not-wants_read-clause-went
-returns-then-not-wants_read-clause-went g c =
+some_room : (n : ℕ) → n ≢ 0 → nat_le 1 n ≡ true
+some_room n h = le-leb 1 n (omega (arith, h))
+
+pub returns-then-room-eq0-clause-went : goal.returns-then-room-eq0-clause-went
+returns-then-room-eq0-clause-went g c =
     let s = c.args.run.now.relay.state in
     let e = c.args.want.side in
+    let none : read_room s e ≡ 0 = sym c.read_room-room.ensures ∙ c.if-room-eq0.true in
     let no : c.args.want.can_read && wants s e dir.Read ≡ false =
-    ap (λ b. b && wants s e dir.Read) (not-false c.args.want.can_read c.if-not-want.false) ∙ sym c.wants_read.ensures
-    ∙ c.if-not-wants_read.true in
+    ap (λ b. b && wants s e dir.Read) (not-false c.args.want.can_read c.if-not-want.false) ∙ ap (nat_le 1) none in
     goes_as (λ a p. subst (λ b. MatchBool b (ReadsWithRoom e s a s) (Nothing s a s)) (sym no) p)
     (goes_nowhere refl refl (Grew-none (g.S.Scribe.trace c.args.scribe.now)) (λ s t x k. k))
 
@@ -36,8 +39,8 @@ returns-clause-went g c =
     let e = c.args.want.side in
     let new = c.ask_read.new.run.relay.state in
     let yes : c.args.want.can_read && wants s e dir.Read ≡ true =
-    ap (λ b. b && wants s e dir.Read) (not-false c.args.want.can_read c.if-not-want.false) ∙ sym c.wants_read.ensures
-    ∙ c.if-not-wants_read.false in
+    ap (λ b. b && wants s e dir.Read) (not-false c.args.want.can_read c.if-not-want.false)
+    ∙ some_room (read_room s e) (λ none. c.if-room-eq0.false (c.read_room-room.ensures ∙ none)) in
     let most : length c.ask_read.new.into ≡ read_room s e = c.ask_read.auto.into ∙ c.split_at_mut-into.ensures.front_len
     ∙ c.read_room-room.ensures in
     goes_as (λ a p. subst (λ b. MatchBool b (ReadsWithRoom e s a new) (Nothing s a new)) (sym yes)

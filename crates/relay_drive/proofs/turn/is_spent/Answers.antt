@@ -1,7 +1,7 @@
-use Rattle.std.proofs.Common.{◌<◌, ◌^◌, sym, arith}
+use Rattle.std.proofs.Common.{◌<◌, ◌^◌, ◌∙◌, sym, arith}
 use Rattle.std.proofs.lemmas.Bool.{lt-leb}
 use Rattle.relay_drive.specs.Looks.{IsNear}
-use Rattle.relay_drive.proofs.LinkParts.{not-spent}
+use Rattle.relay_drive.proofs.LinkParts.{not-spent, far-seen}
 use Rattle.relay_drive.proofs.LooksLemmas.{up-next, up-all}
 use Rattle.relay_drive.proofs.turn.is_spent.Goals as goal
 
@@ -13,7 +13,7 @@ loop-link-preserved c =
     let lt : k < s.plain.opened = omega (arith, found.1, c.opened.ensures.count) in
     record {
       near = up-next (IsNear s) c.loop-link.from k c.loop-link.invariant.near (λ j le less. c.requires j (omega (arith, less, lt)) (found.3 j le less))
-          (sym c.if-is_far.ensures);
+          (sym (far-seen s _ k c.sides.ensures.flows c.sides.ensures.lanes) ∙ sym c.if-is_far.ensures);
       within = omega (arith, lt);
     }
 
