@@ -4,6 +4,10 @@
 #[cfg(test)]
 mod base;
 #[cfg(test)]
+mod buckets;
+#[cfg(test)]
+mod groups;
+#[cfg(test)]
 mod queues;
 #[cfg(test)]
 mod sets;

@@ -42,9 +42,9 @@ or-false true b h = absurd (cc)
 
 not_zero : (n : ℕ) → (n == 0) ≡ false → 0 < n
 not_zero n h = elim (eqb_tells n 0) [
-    | inl k ↦ absurd (let t = k.0 in let bad : true ≡ false = sym t ∙ h in cc)
-    | inr k ↦ by n k.1
-  ]
+  | inl k ↦ absurd (let t = k.0 in let bad : true ≡ false = sym t ∙ h in cc)
+  | inr k ↦ by n k.1
+]
   where
     by : (m : ℕ) → (m ≡ 0 → ⊥) → 0 < m
     by zero q = absurd (q refl)

@@ -35,16 +35,16 @@ count_at gs i d h = get_or-map (λ (g : Group). g.count) gs i d 0 h
 
 pub one_more : (cs : List ℕ) (n k : ℕ) → n < length cs → get_or (set cs n (get_or cs n 0 + 1)) k 0 ≡ get_or cs k 0 + one_at k n
 one_more cs n k h = elim (eqb_tells k n) [
-    | inl e ↦ (λ i. get_or (set cs n (get_or cs n 0 + 1)) (e.1 i) 0) ∙ get_or-set_same cs n (get_or cs n 0 + 1) 0 h
+  | inl e ↦ (λ i. get_or (set cs n (get_or cs n 0 + 1)) (e.1 i) 0) ∙ get_or-set_same cs n (get_or cs n 0 + 1) 0 h
       ∙ (λ i. get_or cs (sym e.1 i) 0 + cond (sym e.0 i) 1 0)
-    | inr e ↦ get_or-set_other cs n k (get_or cs n 0 + 1) 0 e.1 ∙ omega arith ∙ (λ i. get_or cs k 0 + cond (sym e.0 i) 1 0)
-  ]
+  | inr e ↦ get_or-set_other cs n k (get_or cs n 0 + 1) 0 e.1 ∙ omega arith ∙ (λ i. get_or cs k 0 + cond (sym e.0 i) 1 0)
+]
 
 pub one_less : (cs : List ℕ) (n k : ℕ) → n < length cs → 0 < get_or cs n 0 →
     get_or (set cs n (get_or cs n 0 - 1)) k 0 + one_at k n ≡ get_or cs k 0
 one_less cs n k h some = elim (eqb_tells k n) [
-    | inl e ↦ (λ i. get_or (set cs n (get_or cs n 0 - 1)) (e.1 i) 0 + cond (e.0 i) 1 0)
+  | inl e ↦ (λ i. get_or (set cs n (get_or cs n 0 - 1)) (e.1 i) 0 + cond (e.0 i) 1 0)
       ∙ ap (λ m. m + 1) (get_or-set_same cs n (get_or cs n 0 - 1) 0 h) ∙ omega (arith, some) ∙ (λ i. get_or cs (sym e.1 i) 0)
-    | inr e ↦ (λ i. get_or (set cs n (get_or cs n 0 - 1)) k 0 + cond (e.0 i) 1 0) ∙ omega arith
+  | inr e ↦ (λ i. get_or (set cs n (get_or cs n 0 - 1)) k 0 + cond (e.0 i) 1 0) ∙ omega arith
       ∙ get_or-set_other cs n k (get_or cs n 0 - 1) 0 e.1
-  ]
+]

@@ -23,7 +23,8 @@ count-cons : (k : ℕ) (e : Member) (es : List Member) → count_in k (e ∷ es)
 count-cons k e es = sum_by-cons (λ (x : Member). cond (nat_eq k x.1) 1 0) e es
 
 -- a member that joins, or that moves out of another group
-pub count-insert : (k m n : ℕ) (es : List Member) → count_in k (insert_entry nat_eq es m n) + one_of k (group_of m es) ≡ count_in k es + one_at k n
+pub count-insert : (k m n : ℕ) (es : List Member) →
+    count_in k (insert_entry nat_eq es m n) + one_of k (group_of m es) ≡ count_in k es + one_at k n
 count-insert k m n [] = let a = count-cons k (m, n) [] in omega (arith, a)
 count-insert k m n (e ∷ es) = by (count-insert k m n es) (nat_eq m e.0)
   where
@@ -192,7 +193,8 @@ share-read gs es m n d x h known within is =
     slice_get-map group_value gs n ∙ ap (option_map group_value) (slice_get_read gs (length gs) n x refl within is) in
     ap (λ k. Some (share_of (group_value x) d k)) count
     ∙ ap (λ (o : Option GroupValue). Some (option_map_or (λ g. share_of g d (count_in n es)) o 0)) (sym at)
-    ∙ ap (λ (o : Option ℕ). option_map (λ k. option_map_or (λ g. share_of g d (count_in k es)) (slice_get (group_values gs) k) 0) o) (sym known)
+    ∙ ap (λ (o : Option ℕ). option_map (λ k. option_map_or (λ g. share_of g d (count_in k es)) (slice_get (group_values gs) k) 0) o)
+    (sym known)
 
 -- what is within a member's share is within that of its group
 pub within-share : (gs : List Group) (es : List Member) (m n : ℕ) (d : Dir) (k : ℕ) → Counted gs es → group_of m es ≡ Some n →

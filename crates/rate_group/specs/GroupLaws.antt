@@ -36,7 +36,8 @@ abbrev pub WithinShares : Limit → ℕ → KeptLane → List Step → Type 0
 WithinShares l least x [] = ⊤
 WithinShares l least x (Refills now ∷ ss) = WithinShares l least (after_step l least x (Refills now)) ss
 WithinShares l least x (Spends count n ∷ ss) =
-    (n ≤ (if x.lane.suspended then 0 else max (held x.lane.level / count) least)) × WithinShares l least (after_step l least x (Spends count n)) ss
+    (n ≤ (if x.lane.suspended then 0 else max (held x.lane.level / count) least))
+    × WithinShares l least (after_step l least x (Spends count n)) ss
 
 -- the calls as a bucket sees them
 abbrev pub beat_of : Step → Beat
@@ -55,7 +56,7 @@ GroupLevelIsLeast = (cfg : LimitCfg) (d : Dir) (least made_at : ℕ) (ss : List 
     time / l.tick ≡ (after_steps l least (made_lane l made_at) ss).tick →
     held (after_steps l least (made_lane l made_at) ss).lane.level
     ≡ least_with (l.rate + l.rate * (time / l.tick - made_at / l.tick) - (moved_first (beats_of ss) + moved_in (spells (beats_of ss))))
-        (since_each l time (spells (beats_of ss)))
+    (since_each l time (spells (beats_of ss)))
 
 -- Over any stretch of calls, all members of a group together move at most one burst, what comes in the ticks that begin, and one byte less
 -- than the least share.

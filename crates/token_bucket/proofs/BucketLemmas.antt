@@ -67,7 +67,8 @@ least-step l from short at last m le = by (at - from) refl
 
 pub least-after : (l : Limit) (from short : ℕ) (bs : List Beat) (time : ℕ) →
     time / l.tick ≡ (after_beats l (kept_at l from short) bs).tick →
-    least_with (l.burst + l.rate * (time / l.tick - from) - (short + (moved_first bs + moved_in (spells bs)))) (since_each l time (spells bs))
+    least_with (l.burst + l.rate * (time / l.tick - from) - (short + (moved_first bs + moved_in (spells bs))))
+    (since_each l time (spells bs))
     ≡ held (after_beats l (kept_at l from short) bs).level
 least-after l from short [] time at =
     let none = none_comes l.rate (time / l.tick - from) (omega (arith, at)) in omega (arith, none)
@@ -76,7 +77,8 @@ least-after l from short (Moves n ∷ bs) time at =
 least-after l from short (Begins now ∷ bs) time at =
     let is = begins-is l from short now in
     let on : after_beats l (kept_at l from short) (Begins now ∷ bs)
-    ≡ after_beats l (kept_at l (max from (now / l.tick)) (short_after l (now / l.tick - from) short)) bs = ap (λ x. after_beats l x bs) is in
+    ≡ after_beats l (kept_at l (max from (now / l.tick)) (short_after l (now / l.tick - from) short)) bs =
+    ap (λ x. after_beats l x bs) is in
     let at_next = at ∙ ap (λ (x : Kept). x.tick) on in
     let grown = tick-grows l (kept_at l (max from (now / l.tick)) (short_after l (now / l.tick - from) short)) bs in
     let sum = sum_by-cons (λ (y : Spell). y.moved) (record { time = now; moved = moved_first bs }) (spells bs) in
@@ -85,7 +87,8 @@ least-after l from short (Begins now ∷ bs) time at =
     let m : ℕ = moved_first bs + moved_in (spells bs) in
     let step = least-step l from short (now / l.tick) (time / l.tick) m (omega (arith, grown, at_next)) in
     ap (λ z. least_with z (since_each l time (spells bs)))
-    ((λ i. min (l.burst + l.rate * (time / l.tick - from) - (short + front i)) (l.burst + l.rate * (time / l.tick - now / l.tick) - sum i)) ∙ step)
+    ((λ i. min (l.burst + l.rate * (time / l.tick - from) - (short + front i))
+    (l.burst + l.rate * (time / l.tick - now / l.tick) - sum i)) ∙ step)
     ∙ least-after l (max from (now / l.tick)) (short_after l (now / l.tick - from) short) bs time at_next
     ∙ ap (λ (x : Kept). held x.level) (sym on)
 
@@ -110,7 +113,8 @@ moved-short l from short (Begins now ∷ bs) =
     let split : last - from ≡ (now / l.tick - from) + (last - to) = omega (arith, grown) in
     let gain : l.rate * (last - from) ≡ l.rate * (now / l.tick - from) + l.rate * (last - to) =
     ap (λ z. l.rate * z) split ∙ mul-add l.rate (now / l.tick - from) (last - to) in
-    let all : short + moved_over bs ≤ (after_beats l (kept_at l to next) bs).level.short + l.rate * (last - from) = omega (arith, k, gain) in
+    let all : short + moved_over bs ≤ (after_beats l (kept_at l to next) bs).level.short + l.rate * (last - from) =
+    omega (arith, k, gain) in
     subst (λ (x : Kept). short + moved_over bs ≤ (after_beats l x bs).level.short + l.rate * ((after_beats l x bs).tick - from))
     (sym (begins-is l from short now)) all
 

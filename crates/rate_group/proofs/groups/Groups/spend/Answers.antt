@@ -23,7 +23,8 @@ pub spend_at-requires-clause-within : goal.spend_at-requires-clause-within
 spend_at-requires-clause-within c = λ g at.
     within-share c.self.inside.groups.items c.self.inside.members.entries c.args.member c.in-Some.group.now c.args.dir c.args.n
     c.self.invariant (sym c.in-Some.ensures.value)
-    (subst (λ (v : GroupsValue). IsSomeAnd (share_in c.args.member c.args.dir v) (λ share. c.args.n ≤ share)) (sym c.self.view_is) c.requires)
+    (subst (λ (v : GroupsValue). IsSomeAnd (share_in c.args.member c.args.dir v) (λ share. c.args.n ≤ share)) (sym c.self.view_is)
+    c.requires)
     g (ap (λ (z : List Group). slice_get z c.in-Some.group.now) (sym c.deref_mut.ensures.value) ∙ at)
 
 pub invariant_of-self : goal.invariant_of-self
