@@ -28,7 +28,7 @@ pub enum Closing {
 }
 
 impl Closing {
-    /// The steps of a link, in their order. Constant.
+    /// The steps of a link, in their order.
     pub fn of(link: u32) -> [Closing; 9]
         ensures steps { result ≡ steps_of link }
         ensures model { map close_step result ≡ closing_of link }
@@ -72,7 +72,7 @@ impl Relay {
         self.sides.output_len(side) == 0
     }
 
-    /// Why the side is to be freed, where it is faulty. Constant; takes no memory.
+    /// Why the side is to be freed, where it is faulty.
     pub fn fault(&self, side: SideId) -> Option<Cause>
         requires { side.link < self.now.state.plain.opened }
         ensures { result ≡ fault (side_at self.now.state.plain side) }
@@ -80,7 +80,7 @@ impl Relay {
         self.sides.fault(side)
     }
 
-    /// Whether there is anything to do at a step of closing. Constant; takes no memory.
+    /// Whether there is anything to do at a step of closing.
     pub fn calls_for(&self, step: Closing) -> bool
         requires { link_of_step step < self.now.state.plain.opened }
         ensures { result ≡ is_some (closing_entry self.now.state (close_step step)) }
@@ -140,7 +140,7 @@ impl Relay {
         self.sides.shut(side);
     }
 
-    /// Makes the change of a step of closing. Takes no memory; constant.
+    /// Makes the change of a step of closing. Takes no memory.
     pub fn close(&mut self, step: Closing)
         requires { link_of_step step < self.old.state.plain.opened }
         ensures { self.new.state ≡ after_closing self.old.state step }

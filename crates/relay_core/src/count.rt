@@ -8,7 +8,7 @@ use ev_types::{LinkCount, LinkState, Side, SideId};
 use relay_sides::{Counts, SPENT};
 
 impl Relay {
-    /// What was counted of a side, freed or not. Constant; takes no memory.
+    /// What was counted of a side, freed or not.
     pub fn counts(&self, side: SideId) -> Counts
         requires { side.link < self.now.state.plain.opened }
         ensures read { result.read ≡ read_of self.now.state side }
@@ -18,7 +18,7 @@ impl Relay {
         self.sides.counts(side)
     }
 
-    /// What a link came to. None exactly from the number of opened links on. Constant; takes no memory.
+    /// What a link came to. None exactly from the number of opened links on.
     pub fn link(&self, link: u32) -> Option<LinkCount>
         ensures { result ≡ (if nat_lt link self.now.state.plain.opened then Some (link_count self.now.state link) else None) }
     {
@@ -59,7 +59,7 @@ impl Relay {
         }
     }
 
-    /// How many links have a live side. Linear in the links; takes no memory.
+    /// How many links have a live side.
     pub fn open_links(&self) -> u32
         ensures { result ≡ open_below self.now.state self.now.state.plain.opened }
     {
@@ -86,8 +86,7 @@ impl Relay {
         self.is_live(near) || self.is_live(near.peer())
     }
 
-    /// The number of bytes in all buffers of live sides, or 2^64 - 1 where that is more. Linear in the links; takes no
-    /// memory.
+    /// The number of bytes in all buffers of live sides, or 2^64 - 1 where that is more.
     pub fn buffered(&self) -> u64
         ensures { result ≡ min (buffered_below self.now.state self.now.state.plain.opened) (2 ^ 64 - 1) }
     {
@@ -146,7 +145,6 @@ impl Relay {
     }
 
     /// Whether a count has come to 2^62: turns, or bytes read from an end, used or made by a filter, moved or given.
-    /// Linear in the links; takes no memory.
     pub fn is_spent(&self) -> bool
         ensures { result ≡ is_spent self.now.state }
     {

@@ -20,14 +20,14 @@ impl Relay {
         self.sides.opened()
     }
 
-    /// Whether fewer links were opened than the settings allow. Constant; takes no memory.
+    /// Whether fewer links were opened than the settings allow.
     pub fn can_open(&self) -> bool
         ensures { result ≡ nat_lt self.now.state.plain.opened self.now.state.settings.links }
     {
         self.sides.opened() < self.settings.links
     }
 
-    /// Makes room for one link more. Takes memory; constant, but where the room grows.
+    /// Makes room for one link more.
     pub fn reserve_link(&mut self) -> Result<(), NoMemory>
         ensures state { self.new.state ≡ self.old.state }
         ensures room { OnOk result (0 < self.new.spare_links) }
@@ -35,8 +35,7 @@ impl Relay {
         self.sides.reserve_link()
     }
 
-    /// Opens the next link, in room that was made before. Its In end is connected; whether its Out end is, is told. Takes
-    /// no memory; constant.
+    /// Opens the next link, in room that was made before. Its In end is connected; whether its Out end is, is told.
     pub fn open(&mut self, connected: bool)
         requires allowed { self.old.state.plain.opened < self.old.state.settings.links }
         requires room { 0 < self.old.spare_links }

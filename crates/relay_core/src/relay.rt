@@ -42,7 +42,7 @@ fn is_untimed(settings: &Settings) -> bool
 }
 
 impl Relay {
-    /// A relay with no link at time 0. Takes no memory; constant.
+    /// A relay with no link at time 0. Takes no memory.
     pub fn new(alloc: Global, settings: Settings) -> Relay
         ensures { result.state ≡ new_state (model_settings settings) }
     {
@@ -55,7 +55,7 @@ impl Relay {
         }
     }
 
-    /// Milliseconds. It never falls. Constant; takes no memory.
+    /// Milliseconds. It never falls.
     pub fn time(&self) -> u64
         ensures { result ≡ self.now.state.plain.time }
     {

@@ -11,7 +11,7 @@ use ev_types::SideId;
 use relay_sides::{MOST_AT_ONCE, SideFlags};
 
 impl Relay {
-    /// What is so of the side. Constant; takes no memory.
+    /// What is so of the side.
     pub fn flags(&self, side: SideId) -> SideFlags
         requires { side.link < self.now.state.plain.opened }
         ensures { result ≡ flags_of (side_at self.now.state.plain side) }
@@ -44,7 +44,7 @@ impl Relay {
         flags.live && !flags.connecting && flags.writes && !flags.failed && !flags.write_ended
     }
 
-    /// How many bytes may be read from the side's end now, at most 16,384. Constant; takes no memory.
+    /// How many bytes may be read from the side's end now, at most 16,384.
     pub fn read_room(&self, side: SideId) -> usize
         requires { side.link < self.now.state.plain.opened }
         ensures { result ≡ read_room self.now.state side }
@@ -57,7 +57,7 @@ impl Relay {
             .min(MOST_AT_ONCE)
     }
 
-    /// How many bytes may be given to the side's end now, at most 16,384. Constant; takes no memory.
+    /// How many bytes may be given to the side's end now, at most 16,384.
     pub fn write_room(&self, side: SideId) -> usize
         requires { side.link < self.now.state.plain.opened }
         ensures { result ≡ write_room self.now.state side }
@@ -68,7 +68,7 @@ impl Relay {
         self.sides.waiting_for(side).len().min(MOST_AT_ONCE)
     }
 
-    /// The bytes that are given to the side's end now: as many as there is room for. Constant; takes no memory.
+    /// The bytes that are given to the side's end now: as many as there is room for.
     pub fn offer(&self, side: SideId) -> &[u8]
         requires { side.link < self.now.state.plain.opened }
         ensures { result.now ≡ offer_of self.now.state side }
@@ -78,7 +78,7 @@ impl Relay {
         offer
     }
 
-    /// Whether the side wants to be read. Constant; takes no memory.
+    /// Whether the side wants to be read.
     pub fn wants_read(&self, side: SideId) -> bool
         requires { side.link < self.now.state.plain.opened }
         ensures { result ≡ wants self.now.state side Read }
@@ -86,7 +86,7 @@ impl Relay {
         self.read_room(side) > 0
     }
 
-    /// Whether the side wants to be written, or to be told that it is connected. Constant; takes no memory.
+    /// Whether the side wants to be written, or to be told that it is connected.
     pub fn wants_write(&self, side: SideId) -> bool
         requires { side.link < self.now.state.plain.opened }
         ensures { result ≡ wants self.now.state side Write }

@@ -15,7 +15,6 @@ use ev_types::{NoMemory, SideId};
 
 impl Relay {
     /// Makes room for a read of so many bytes from the side's end. It is also refused where they could not be counted.
-    /// Takes memory, for no more than can come; linear in the length where it does.
     pub fn reserve_read(&mut self, side: SideId, room: usize) -> Result<(), NoMemory>
         requires { side.link < self.old.state.plain.opened }
         ensures state { self.new.state ≡ self.old.state }
@@ -24,8 +23,7 @@ impl Relay {
         self.sides.reserve_read(side, room)
     }
 
-    /// Bytes that were read from the side's end, in room that was made before. Takes memory where the raw input has less
-    /// room, and is never refused; linear in the bytes.
+    /// Bytes that were read from the side's end, in room that was made before.
     pub fn got(&mut self, side: SideId, bytes: &[u8])
         requires opened { side.link < self.old.state.plain.opened }
         requires some { 0 < length bytes.now }
@@ -35,7 +33,7 @@ impl Relay {
         self.sides.got(side, bytes, self.time);
     }
 
-    /// A read was answered with the end. Constant; takes no memory.
+    /// A read was answered with the end.
     pub fn ended(&mut self, side: SideId)
         requires { side.link < self.old.state.plain.opened }
         ensures { self.new.state ≡ after_read self.old.state side Ended [] }
@@ -43,7 +41,7 @@ impl Relay {
         self.sides.ended(side);
     }
 
-    /// A read failed. Constant; takes no memory.
+    /// A read failed.
     pub fn read_failed(&mut self, side: SideId)
         requires { side.link < self.old.state.plain.opened }
         ensures { self.new.state ≡ after_read self.old.state side Failed [] }
@@ -51,7 +49,7 @@ impl Relay {
         self.sides.read_failed(side);
     }
 
-    /// The side's end took the first bytes that wait for it. Takes no memory; linear in their number, over many calls.
+    /// The side's end took the first bytes that wait for it.
     pub fn took(&mut self, side: SideId, count: usize)
         requires opened { side.link < self.old.state.plain.opened }
         requires within { count ≤ length (waiting_for self.old.state side) }
@@ -60,7 +58,7 @@ impl Relay {
         self.sides.took(side, count, self.time);
     }
 
-    /// A write failed, or a connect check. Constant; takes no memory.
+    /// A write failed, or a connect check.
     pub fn write_failed(&mut self, side: SideId)
         requires { side.link < self.old.state.plain.opened }
         ensures { self.new.state ≡ after_write_failed self.old.state side }
@@ -68,7 +66,7 @@ impl Relay {
         self.sides.write_failed(side);
     }
 
-    /// The side's end is connected. Constant; takes no memory.
+    /// The side's end is connected.
     pub fn connected(&mut self, side: SideId)
         requires { side.link < self.old.state.plain.opened }
         ensures { self.new.state ≡ after_conn self.old.state side Connected }
