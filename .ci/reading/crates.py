@@ -4,6 +4,7 @@ A crate that is listed has to be named in a file of the one that lists it. ARCHI
 once. Where the table's last column is headed "Stands on", it says what a crate stands on directly and through nothing else. In a drawing
 (a block of `text` with ten crates or more) no crate stands on one that is drawn above it.
 """
+import functools
 import re
 
 import tree
@@ -14,13 +15,32 @@ NAME = re.compile(r"`([a-z0-9_]+)`")
 DRAWING = re.compile(r"^```text\n(.*?)^```", re.MULTILINE | re.DOTALL)
 
 
-def unused():
-    for name, (at, listed) in tree.edges().items():
+def dead_edges():
+    """Each crate with what it lists and none of its files names."""
+    for name, (_, listed) in tree.edges().items():
         texts = [tree.text_of(path) for path, crate in tree.of_part("src", "specs", "proofs", "tests") if crate == name]
         for other in listed:
             use = re.compile(rf"\b(?:{other}::|use {other}\b|Rattle\.{other}\.)")
             if not any(use.search(text) for text in texts):
-                yield "crates.txt", at, f"{name} lists {other}, which none of its files names"
+                yield name, other
+
+
+def unused():
+    for name, other in dead_edges():
+        yield "crates.txt", tree.edges()[name][0], f"{name} lists {other}, which none of its files names"
+
+
+def lower():
+    """Drops from crates.txt what no file names."""
+    dead = {}
+    for name, other in dead_edges():
+        dead.setdefault(name, set()).add(other)
+    lines = list(tree.lines_of("crates.txt"))
+    for name, others in dead.items():
+        at, listed = tree.edges()[name]
+        head = lines[at - 1].partition(":")[0]
+        lines[at - 1] = f"{head}: {' '.join(other for other in listed if other not in others)}"
+    (tree.TOP / "crates.txt").write_text("\n".join(lines), encoding="utf-8")
 
 
 def rows():
@@ -73,18 +93,15 @@ def faults():
     yield from upside_down()
 
 
-def longest_chain():
-    """The longest way down, as crates from the top."""
-    best = {}
-    for name in tree.edges():
-        under = [best[other] for other in tree.edges()[name][1] if tree.own(other)]
-        best[name] = [name, *max(under, key=len, default=[])]
-    return max(best.values(), key=len)
+@functools.cache
+def chain_from(name):
+    """The longest way down from a crate, as crates from the top."""
+    return (name, *max((chain_from(other) for other in tree.edges()[name][1] if tree.own(other)), key=len, default=()))
 
 
 def counts():
     own = sum(len([other for other in listed if tree.own(other)]) for _, listed in tree.edges().values())
-    chain = longest_chain()
+    chain = max(map(chain_from, tree.edges()), key=len)
     yield "crates", len(tree.edges())
     yield "edges between them", own
     yield "edges that nothing else implies", sum(len(tree.reduced(name)) for name in tree.edges())

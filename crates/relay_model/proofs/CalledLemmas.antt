@@ -20,7 +20,8 @@ use Rattle.relay_model.specs.Causes.{IsCalledFor, PutFor, FreesAreCalledFor, Fai
 use Rattle.relay_model.proofs.PlacedLemmas.{live-there}
 use Rattle.relay_model.proofs.ToldLemmas.{kept}
 use Rattle.relay_model.proofs.HeldLemmas.{held}
-use Rattle.relay_model.proofs.KindLemmas.{ClosedKind, closed-kind, PutKind, put-kind}
+use Rattle.relay_model.proofs.KindLemmas.{ClosedKind, closed-kind, put-kind}
+use Rattle.relay_model.proofs.EntryKinds.{EndKind, end-kind}
 use Rattle.relay_model.proofs.SplitLemmas.{reaches_split}
 use Rattle.relay_model.proofs.CauseLemmas.{FaultCase, fault-case}
 use Rattle.relay_model.proofs.OrderLemmas.{ordered, faultless}
@@ -72,26 +73,14 @@ closed-called g t s c cs y r (ClosedKind.peer_gone {z = z} a b d) e why moved gi
     (subst (λ v. IsCalledFor g t x s z v) two (cs, refl, a, none, not-true (is_live s (peer z)) b, d))
 closed-called g t s c cs y r (ClosedKind.shut a b) e why moved given h = absurd (cc)
 
-put-called : (g : Settings) (t : Trace) (s : Plain) (x : Stage) (y : Event) (new : State) → Reaches g t (at x s) → PutKind g t s x y new →
+put-called : (g : Settings) (t : Trace) (s : Plain) (x : Stage) (y : Event) (new : State) → Reaches g t (at x s) → EndKind g t s x y new →
     (e : SideId) (why : Cause) (moved given : ℕ) → y.0 ≡ entry.Freed e why moved given → IsCalledFor g t x s e why
-put-called g t s x y new r (PutKind.turned a b) e why moved given h = absurd (cc)
-put-called g t s x y new r (PutKind.polled) e why moved given h = absurd (cc)
-put-called g t s x y new r (PutKind.wanted a) e why moved given h = absurd (cc)
-put-called g t s x y new r (PutKind.poll_failed) e why moved given h = absurd (cc)
-put-called g t s x y new r (PutKind.readied a) e why moved given h = absurd (cc)
-put-called g t s x y new r (PutKind.opened) e why moved given h = absurd (cc)
-put-called g t s x y new r (PutKind.checked a) e why moved given h = absurd (cc)
-put-called g t s x y new r (PutKind.was_read left a b) e why moved given h = absurd (cc)
-put-called g t s x y new r (PutKind.written a b c) e why moved given h = absurd (cc)
-put-called g t s x y new r (PutKind.fired a) e why moved given h = absurd (cc)
-put-called g t s x y new r (PutKind.frees a same) e why moved given h = absurd (cc)
-put-called g t s x y new r (PutKind.asked same m l) e why moved given h = absurd (cc)
-put-called g t s x y new r (PutKind.recorded {gone = gone} {x = f} {rs = rs}) e why moved given h =
+put-called g t s x y new r (EndKind.recorded {gone = gone} {x = f} {rs = rs}) e why moved given h =
     let one : gone ≡ e = cc in
     let two : cause.Hook ≡ why = cc in
     subst (λ v. IsCalledFor g t (Freeing gone f rs) s v why) one
     (subst (λ v. IsCalledFor g t (Freeing gone f rs) s gone v) two (f, rs, refl))
-put-called g t s x y new r (PutKind.closed {c = c} {cs = cs} {e = z} a) e why moved given h =
+put-called g t s x y new r (EndKind.closed {c = c} {cs = cs} {e = z} a) e why moved given h =
     closed-called g t s c cs z r (closed-kind g (past g t) s c z a) e why moved given h
 
 pub frees_are_called_for : FreesAreCalledFor
@@ -104,8 +93,9 @@ frees_are_called_for g t before after e why moved given bytes legal split =
       next = k.new;
       put = k.put;
       called = put-called g before k.old.plain k.old.stage (entry.Freed e why moved given, bytes) k.new k.reached
+          (end-kind g before k.old.plain k.old.stage (entry.Freed e why moved given, bytes) k.new
           (put-kind g before k.old.stage k.old.plain (entry.Freed e why moved given) bytes k.new
-          (kept g before k.old k.reached).placed k.put)
+          (kept g before k.old k.reached).placed k.put) refl)
           e why moved given refl;
     }
 

@@ -29,7 +29,8 @@ use Rattle.relay_model.proofs.FirstMet.{first-met}
 use Rattle.relay_model.proofs.OrderLemmas.{ordered, faultless}
 use Rattle.relay_model.proofs.QuietLemmas.{there}
 use Rattle.relay_model.proofs.FaultLemmas.{is_faulty, no-fault}
-use Rattle.relay_model.proofs.KindLemmas.{ClosedKind, closed-kind, PutKind}
+use Rattle.relay_model.proofs.KindLemmas.{ClosedKind, closed-kind}
+use Rattle.relay_model.proofs.EntryKinds.{EndKind, end-kind}
 
 -- the causes of a fault
 pub data FaultCase (x : PlainSide) : Cause → Type 0 where
@@ -144,32 +145,21 @@ closed-cause g t s c cs y r (ClosedKind.peer_gone {z = z} a b d) e why moved giv
     gone false h = absurd (cc)
 closed-cause g t s c cs y r (ClosedKind.shut a b) e why moved given h = absurd (cc)
 
-put-cause : (g : Settings) (t : Trace) (s : Plain) (x : Stage) (y : Event) (new : State) → Reaches g t (at x s) → PutKind g t s x y
+put-cause : (g : Settings) (t : Trace) (s : Plain) (x : Stage) (y : Event) (new : State) → Reaches g t (at x s) → EndKind g t s x y
     new → (e : SideId) (why : Cause) (moved given : ℕ) → y.0 ≡ entry.Freed e why moved given → HasCause g t e why
-put-cause g t s x y new r (PutKind.turned a b) e why moved given h = absurd (cc)
-put-cause g t s x y new r (PutKind.polled) e why moved given h = absurd (cc)
-put-cause g t s x y new r (PutKind.wanted a) e why moved given h = absurd (cc)
-put-cause g t s x y new r (PutKind.poll_failed) e why moved given h = absurd (cc)
-put-cause g t s x y new r (PutKind.readied a) e why moved given h = absurd (cc)
-put-cause g t s x y new r (PutKind.opened) e why moved given h = absurd (cc)
-put-cause g t s x y new r (PutKind.checked a) e why moved given h = absurd (cc)
-put-cause g t s x y new r (PutKind.was_read left a b) e why moved given h = absurd (cc)
-put-cause g t s x y new r (PutKind.written a b c) e why moved given h = absurd (cc)
-put-cause g t s x y new r (PutKind.fired a) e why moved given h = absurd (cc)
-put-cause g t s x y new r (PutKind.frees a same) e why moved given h = absurd (cc)
-put-cause g t s x y new r (PutKind.asked same m l) e why moved given h = absurd (cc)
-put-cause g t s x y new r (PutKind.recorded {gone = gone} {x = f} {rs = rs}) e why moved given h =
+put-cause g t s x y new r (EndKind.recorded {gone = gone} {x = f} {rs = rs}) e why moved given h =
     let one : gone ≡ e = cc in
     let two : cause.Hook ≡ why = cc in
     let k = (held g t (at (Freeing gone f rs) s) r).hook gone (same_end-refl gone) in
     subst (λ v. HasCause g t v why) one (subst (λ v. HasCause g t gone v) two (record { early = k.early; me = k.me; is = k.is }))
-put-cause g t s x y new r (PutKind.closed {c = c} {cs = cs} {e = z} a) e why moved given h = closed-cause g t s c cs z r
+put-cause g t s x y new r (EndKind.closed {c = c} {cs = cs} {e = z} a) e why moved given h = closed-cause g t s c cs z r
     (closed-kind g (past g t) s c z a) e why moved given h
 
 pub frees_have_causes : FreesHaveCauses
 frees_have_causes g t before after e why moved given bytes legal split =
     let k = there g t legal.0 legal.1 before (entry.Freed e why moved given, bytes) after split in
-    put-cause g before k.old.plain k.old.stage _ k.new k.reached k.kind e why moved given refl
+    put-cause g before k.old.plain k.old.stage _ k.new k.reached (end-kind g before k.old.plain k.old.stage _ k.new k.kind refl)
+        e why moved given refl
 
 pub faults_are_freed : FaultsAreFreed
 faults_are_freed g t s e r lt live = no-fault (side_at s e) (go (is_faulty (seen (side_at s e))) refl)

@@ -46,6 +46,7 @@ pub mod StageLemmas
 pub mod ToldLemmas
 pub mod SplitLemmas
 pub mod KindLemmas
+pub mod EntryKinds
 pub mod FireLemmas
 pub mod HeldLemmas
 pub mod QuietLemmas

@@ -27,6 +27,7 @@ use Rattle.relay_model.proofs.HeldLemmas.{Held, held, DoneReady, FirstReady, liv
 use Rattle.relay_model.proofs.FireLemmas.{InRun, Runs, any-split}
 use Rattle.relay_model.proofs.ToldLemmas.{Kept, kept, list_any-push}
 use Rattle.relay_model.proofs.KindLemmas.{ClosedKind, closed-kind, PutKind, put-kind}
+use Rattle.relay_model.proofs.EntryKinds.{is_ending, EndKind, end-kind, closes-ends, closed-ends, OpenKind, open-kind}
 
 pub state_is_told : StateIsTold
 state_is_told g t x s r = let k = kept g t (record { stage = x; plain = s }) r in (k.counts, k.each)
@@ -76,16 +77,7 @@ turn-put g t s x y new ms (PutKind.fired a) h = absurd (cc)
 turn-put g t s x y new ms (PutKind.frees a same) h = absurd (cc)
 turn-put g t s x y new ms (PutKind.asked same k l) h = absurd (cc)
 turn-put g t s x y new ms (PutKind.recorded) h = absurd (cc)
-turn-put g t s x y new ms (PutKind.closed {c = c} {e = e} a) h = absurd (closed-turn g (past g t) s c e ms
-    (closed-kind g (past g t) s c e a) h)
-  where
-    closed-turn : (g : Settings) (p : Past) (s : Plain) (c : CloseStep) (e : Entry) (ms : ℕ) → ClosedKind g p s c e → e ≡ entry.Turn ms → ⊥
-    closed-turn g p s c e ms (ClosedKind.faulty a b) h = cc
-    closed-turn g p s c e ms (ClosedKind.write_ended a b) h = cc
-    closed-turn g p s c e ms (ClosedKind.in_done a b d f) h = cc
-    closed-turn g p s c e ms (ClosedKind.out_done) h = cc
-    closed-turn g p s c e ms (ClosedKind.peer_gone a b d) h = cc
-    closed-turn g p s c e ms (ClosedKind.shut a b) h = cc
+turn-put g t s x y new ms (PutKind.closed {c = c} {e = e} a) h = absurd (closed-ends g (past g t) s c e a (ap is_ending h))
 
 pub time_rises : TimeRises
 time_rises g t before after s x ms bytes r h =
@@ -93,37 +85,15 @@ time_rises g t before after s x ms bytes r h =
     let p = turn-put g before k.old.plain k.old.stage _ k.new ms k.kind refl in
     (subst (λ n. n ≤ ms) k.kept.counts.shape.time p.0, p.1)
 
-link-put : (g : Settings) (t : Trace) (s : Plain) (x : Stage) (y : Event) (new : State) (link : ℕ) (connected : Bool) → PutKind g t
-    s x y new → y.0 ≡ entry.Opened link connected → link ≡ s.opened
-link-put g t s x y new link connected (PutKind.turned a b) h = absurd (cc)
-link-put g t s x y new link connected (PutKind.polled) h = absurd (cc)
-link-put g t s x y new link connected (PutKind.wanted a) h = absurd (cc)
-link-put g t s x y new link connected (PutKind.poll_failed) h = absurd (cc)
-link-put g t s x y new link connected (PutKind.readied a) h = absurd (cc)
-link-put g t s x y new link connected (PutKind.opened {connected = c}) h = cc
-link-put g t s x y new link connected (PutKind.checked a) h = absurd (cc)
-link-put g t s x y new link connected (PutKind.was_read left a b) h = absurd (cc)
-link-put g t s x y new link connected (PutKind.written a b c) h = absurd (cc)
-link-put g t s x y new link connected (PutKind.fired a) h = absurd (cc)
-link-put g t s x y new link connected (PutKind.frees a same) h = absurd (cc)
-link-put g t s x y new link connected (PutKind.asked same k l) h = absurd (cc)
-link-put g t s x y new link connected (PutKind.recorded) h = absurd (cc)
-link-put g t s x y new link connected (PutKind.closed {c = c} {e = e} a) h = absurd (closed-open g (past g t) s c e link connected
-    (closed-kind g (past g t) s c e a) h)
-  where
-    closed-open : (g : Settings) (p : Past) (s : Plain) (c : CloseStep) (e : Entry) (link : ℕ) (connected : Bool) → ClosedKind g p
-        s c e → e ≡ entry.Opened link connected → ⊥
-    closed-open g p s c e link connected (ClosedKind.faulty a b) h = cc
-    closed-open g p s c e link connected (ClosedKind.write_ended a b) h = cc
-    closed-open g p s c e link connected (ClosedKind.in_done a b d f) h = cc
-    closed-open g p s c e link connected (ClosedKind.out_done) h = cc
-    closed-open g p s c e link connected (ClosedKind.peer_gone a b d) h = cc
-    closed-open g p s c e link connected (ClosedKind.shut a b) h = cc
+link-put : (g : Settings) (s : Plain) (y : Event) (new : State) (link : ℕ) (connected : Bool) → OpenKind g s y new →
+    y.0 ≡ entry.Opened link connected → link ≡ s.opened
+link-put g s y new link connected (OpenKind.opens n {connected = c}) h = cc
 
 pub links_in_order : LinksInOrder
 links_in_order g t before after s x link connected bytes r h =
     let k = there g t (record { stage = x; plain = s }) r before (entry.Opened link connected, bytes) after h in
-    link-put g before k.old.plain k.old.stage _ k.new link connected k.kind refl ∙ k.kept.counts.shape.opened
+    link-put g k.old.plain _ k.new link connected (open-kind g before k.old.plain k.old.stage _ k.new k.kind refl) refl
+    ∙ k.kept.counts.shape.opened
 
 -- Quiet
 
@@ -177,22 +147,10 @@ starts-late g t y z k freed = go (starts_at z y) refl
     go true h = absurd (no (put-starts g t k.old.plain k.old.stage y k.new z k.held.ready k.kind h))
 
 -- an end is closed that was not closed before
-close-put : (g : Settings) (t : Trace) (s : Plain) (x : Stage) (y : Event) (new : State) (z : SideId) → Placed x s → PutKind g t s
+close-put : (g : Settings) (t : Trace) (s : Plain) (x : Stage) (y : Event) (new : State) (z : SideId) → Placed x s → EndKind g t s
     x y new → end_closed_by z y ≡ true → (z.link < s.opened) × ((side_at s z).closed ≡ false)
-close-put g t s x y new z placed (PutKind.turned a b) h = absurd (cc)
-close-put g t s x y new z placed (PutKind.polled) h = absurd (cc)
-close-put g t s x y new z placed (PutKind.wanted a) h = absurd (cc)
-close-put g t s x y new z placed (PutKind.poll_failed) h = absurd (cc)
-close-put g t s x y new z placed (PutKind.readied a) h = absurd (cc)
-close-put g t s x y new z placed (PutKind.opened) h = absurd (cc)
-close-put g t s x y new z placed (PutKind.checked a) h = absurd (cc)
-close-put g t s x y new z placed (PutKind.was_read left a b) h = absurd (cc)
-close-put g t s x y new z placed (PutKind.written a b c) h = absurd (cc)
-close-put g t s x y new z placed (PutKind.fired a) h = absurd (cc)
-close-put g t s x y new z placed (PutKind.frees a same) h = absurd (cc)
-close-put g t s x y new z placed (PutKind.asked same k l) h = absurd (cc)
-close-put g t s x y new z placed (PutKind.recorded) h = absurd (cc)
-close-put g t s x y new z placed (PutKind.closed {c = c} {e = e} a) h = closed-close g (past g t) s c e z placed.0
+close-put g t s x y new z placed (EndKind.recorded) h = absurd (cc)
+close-put g t s x y new z placed (EndKind.closed {c = c} {e = e} a) h = closed-close g (past g t) s c e z placed.0
     (closed-kind g (past g t) s c e a) h
   where
     closed-close : (g : Settings) (p : Past) (s : Plain) (c : CloseStep) (e : Entry) (z : SideId) → link_of c < s.opened →
@@ -209,7 +167,8 @@ close-put g t s x y new z placed (PutKind.closed {c = c} {e = e} a) h = closed-c
 close-once : (g : Settings) (t : Trace) (y : Event) (z : SideId) → There g t y → end_closed_by z y ≡ true → list_any
     (end_closed_by z) t ≡ false
 close-once g t y z k h =
-    let c = close-put g t k.old.plain k.old.stage y k.new z k.kept.placed k.kind h in
+    let c = close-put g t k.old.plain k.old.stage y k.new z k.kept.placed
+    (end-kind g t k.old.plain k.old.stage y k.new k.kind (closes-ends z y h)) h in
     sym (k.kept.each z c.0).closed ∙ c.1
 
 -- a count with one event before
@@ -260,17 +219,11 @@ ask-put g t s x y new z runs (PutKind.fired a) h = absurd (cc)
 ask-put g t s x y new z runs (PutKind.frees {x = f} a same) h = subst (λ v. InRun v t) (same_end-eq f.side z h) runs
 ask-put g t s x y new z runs (PutKind.asked {x = f} same k l) h = subst (λ v. InRun v t) (same_end-eq f.side z h) runs
 ask-put g t s x y new z runs (PutKind.recorded) h = absurd (cc)
-ask-put g t s x y new z runs (PutKind.closed {c = c} {e = e} a) h = absurd (closed-ask g (past g t) s c e z
-    (closed-kind g (past g t) s c e a) h)
+ask-put g t s x y new z runs (PutKind.closed {c = c} {e = e} a) h = absurd (closed-ends g (past g t) s c e a (other (e, []) h))
   where
-    closed-ask : (g : Settings) (p : Past) (s : Plain) (c : CloseStep) (e : Entry) (z : SideId) → ClosedKind g p s c e → asked_by z
-        (e, []) ≡ true → ⊥
-    closed-ask g p s c e z (ClosedKind.faulty a b) h = cc
-    closed-ask g p s c e z (ClosedKind.write_ended a b) h = cc
-    closed-ask g p s c e z (ClosedKind.in_done a b d f) h = cc
-    closed-ask g p s c e z (ClosedKind.out_done) h = cc
-    closed-ask g p s c e z (ClosedKind.peer_gone a b d) h = cc
-    closed-ask g p s c e z (ClosedKind.shut a b) h = cc
+    other : (y : Event) → asked_by z y ≡ true → is_ending y.0 ≡ false
+    other (entry.Asked side act answer, bytes) h = refl
+    other _ h = absurd (cc)
 
 -- where each event that passes stands in the leading run, none passes behind it
 behind-run : (p : Event → Bool) → ((y : Event) → p y ≡ true → is_within_fire y ≡ true) → (t : Trace) →
