@@ -1,5 +1,5 @@
 -- What a script that a text spells brings in at an end are bytes, at most half as many as the text has.
-use Rattle.std.proofs.Common.{◌≡◌, ◌≤◌, ◌<◌, ◌*◌, ◌^◌, ℕ, Bool, true, false, ◌&&◌, nat_lt, nat_le, if◌then◌else◌, List, [], ◌∷◌, ◌++◌, length, codes, Option, Some, None, Result, Ok, Err, refl, sym, ap, ◌∙◌, subst, arith, length-append, append_assoc, append-nil}
+use Rattle.std.proofs.Common.{◌≡◌, ◌≤◌, ◌<◌, ◌*◌, ◌^◌, ℕ, Bool, true, false, ◌&&◌, ◌||◌, not, nat_lt, nat_le, if◌then◌else◌, List, [], ◌∷◌, ◌++◌, length, codes, Option, Some, None, Result, Ok, Err, refl, sym, ap, ◌∙◌, subst, arith, length-append, append_assoc, append-nil}
 use Rattle.std.specs.Prelude.{All, IfSome, option_map, option_and_then}
 use Rattle.std.specs.List.{flat_map}
 use Rattle.std.specs.Result.{result_ok}
@@ -23,8 +23,12 @@ use Rattle.ev_types.specs.ScriptTurn.{ScriptTurn, lines_of}
 use Rattle.script_text.specs.Script.{ScriptValue, SoFar}
 use Rattle.script_text.specs.Pieces.{lines}
 use Rattle.script_text.specs.Numbers.{number_within, bytes_of}
-use Rattle.script_text.specs.Grammar.{keyword_of, link_of, end_of, made_of, more_of, of_end, setting_name_of, set_by, said_by, is_comment, said}
-use Rattle.script_text.specs.Order.{may_follow, with_line, extended}
+use Rattle.script_text.specs.Ends.{link_of, end_of}
+use Rattle.script_text.specs.Grammar.{keyword_of, made_of, more_of, of_end, setting_name_of, set_by, hooked_of, nth_of, planned_of, said_by, is_comment, said}
+use Rattle.script_text.specs.ValueGrammar.{why_kind_of}
+use Rattle.script_text.specs.ActGrammar.{planned_ask}
+use Rattle.script_text.specs.declared.plan.PlanItem.{PlanItem}
+use Rattle.script_text.specs.Order.{may_be_set, group_set, may_follow, with_line, extended}
 use Rattle.script_text.specs.Brought.{brought, all_brought}
 use Rattle.script_text.specs.Given.{with_setting}
 use Rattle.script_text.specs.declared.setting.Given.{Given}
@@ -93,6 +97,12 @@ said_by-bytes keyword.Take (link ∷ side ∷ count ∷ []) =
 said_by-bytes keyword.WriteFail (link ∷ side ∷ []) = some-map HasBytes (λ e. line.Within (turn.WriteFail e)) (λ e. tt) (end_of link side)
 said_by-bytes keyword.Spur (link ∷ side ∷ []) = some-map HasBytes (λ e. line.Within (turn.Spur e)) (λ e. tt) (end_of link side)
 said_by-bytes keyword.PollFail [] = tt
+said_by-bytes keyword.On (link ∷ side ∷ why ∷ nth ∷ act) =
+    some-then HasBytes _ (λ end.
+    some-then HasBytes _ (λ kind.
+    some-then HasBytes _ (λ n.
+    some-then HasBytes (λ ask. Some (line.Plan end (let item : PlanItem = record { why = kind; nth = n; act = ask } in item))) (λ ask. tt)
+    (planned_ask act)) (nth_of nth)) (why_kind_of why)) (hooked_of link side)
 said_by-bytes _ _ = tt
 
 said-bytes : (ws : List (List ℕ)) → IfSome (said ws) HasBytes
@@ -169,16 +179,24 @@ abbrev AllBytes : SoFar → Type 0
 AllBytes s = (e : SideId) → AreBytes (brought_in e (lines_of s.turns))
 
 extended-bytes : (s new : SoFar) (x : Line) → HasBytes x → AllBytes s → extended s x ≡ Some new → AllBytes new
-extended-bytes s new (line.Set setting) is all h = set_case (nat_lt 0 (length s.turns)) (with_setting s.given setting) h
+extended-bytes s new (line.Set setting) is all h =
+    set_case (nat_lt 0 (length s.turns) || not (may_be_set s.groups setting)) (with_setting s.given setting) h
   where
     set_case : (b : Bool) (o : Option Given) →
-        (if b then None else option_map (λ g. let z : SoFar = record { given = g; turns = s.turns } in z) o) ≡ Some new → AllBytes new
+        (if b then None else option_map (λ g. let z : SoFar = record s { given = g; groups = s.groups ++ group_set setting } in z)
+        o) ≡ Some new →
+        AllBytes new
     set_case true o k = none-some new k
     set_case false None k = none-some new k
     set_case false (Some g) k = subst AllBytes (some-is _ new k) all
+extended-bytes s new (line.Plan side item) is all h = plan_case (nat_lt 0 (length s.turns)) h
+  where
+    plan_case : (b : Bool) → (if b then None else Some (record s { plans = s.plans ++ (side, item) ∷ [] })) ≡ Some new → AllBytes new
+    plan_case true k = none-some new k
+    plan_case false k = subst AllBytes (some-is _ new k) all
 extended-bytes s new (line.At ms) is all h = at_case (nat_lt (length s.turns) 20000) h
   where
-    at_case : (b : Bool) → (if b then Some (record { given = s.given; turns = s.turns ++ (ms, []) ∷ [] }) else None) ≡ Some new →
+    at_case : (b : Bool) → (if b then Some (record s { turns = s.turns ++ (ms, []) ∷ [] }) else None) ≡ Some new →
         AllBytes new
     at_case true k = subst AllBytes (some-is _ new k) (λ e. subst (λ z. AreBytes (brought_in e z)) (sym (lines_of-turn s.turns ms)) (all e))
     at_case false k = none-some new k
@@ -186,7 +204,7 @@ extended-bytes s new line.Skipped is all h = subst AllBytes (some-is s new h) al
 extended-bytes s new (line.Within x) is all h = within_case (nat_lt 0 (length s.turns) && may_follow (lines_of s.turns) x) refl h
   where
     within_case : (b : Bool) → (nat_lt 0 (length s.turns) && may_follow (lines_of s.turns) x) ≡ b →
-        (if b then Some (record { given = s.given; turns = with_line s.turns x }) else None) ≡ Some new → AllBytes new
+        (if b then Some (record s { turns = with_line s.turns x }) else None) ≡ Some new → AllBytes new
     within_case true tests k =
         let both = and_parts (nat_lt 0 (length s.turns)) (may_follow (lines_of s.turns) x) tests in
         let longer = lines_of-with_line s.turns x (ltb-true 0 (length s.turns) both.0) in

@@ -1,5 +1,5 @@
 -- What each line that is said leaves holds of a whole script, as that it has at most 20,000 turns.
-use Rattle.std.proofs.Common.{◌≡◌, ◌≤◌, ◌+◌, ℕ, Bool, true, false, List, [], ◌∷◌, ◌++◌, length, Option, Some, None, Ok, refl, arith, subst, length-append, if◌then◌else◌, ◌&&◌}
+use Rattle.std.proofs.Common.{◌≡◌, ◌≤◌, ◌+◌, ℕ, Bool, true, false, List, [], ◌∷◌, ◌++◌, length, Option, Some, None, Ok, refl, arith, subst, length-append, if◌then◌else◌, ◌&&◌, ◌||◌, not}
 use Rattle.std.specs.Prelude.{nat_lt, option_map, option_and_then}
 use Rattle.std.specs.List.{list_all}
 use Rattle.std.proofs.lemmas.Bool.{ltb-true}
@@ -10,10 +10,10 @@ use Rattle.script_text.specs.declared.setting.Given.{Given}
 use Rattle.script_text.proofs.LawLemmas.{script_of-read}
 use Rattle.ev_types.specs.declared.turn_line.TurnLine.{TurnLine}
 use Rattle.script_text.specs.declared.line.Line.{Line}
-use Rattle.script_text.specs.declared.line.Line.TheVariants.{Set, At, Within, Skipped}
+use Rattle.script_text.specs.declared.line.Line.TheVariants.{Set, Plan, At, Within, Skipped}
 use Rattle.script_text.specs.Pieces.{lines, words}
 use Rattle.script_text.specs.Grammar.{said}
-use Rattle.script_text.specs.Order.{with_line, extended, may_follow}
+use Rattle.script_text.specs.Order.{may_be_set, group_set, with_line, extended, may_follow}
 use Rattle.script_text.specs.Spelled.{is_plain, line_read, lines_read, going_on, no_line, script_of}
 
 -- a line more leaves as many turns
@@ -30,25 +30,33 @@ none-some a h = absurd (cc h)
 
 -- where a line stands, there are few turns still
 few-extended : (s new : SoFar) (x : Line) → length s.turns ≤ 20000 → extended s x ≡ Some new → length new.turns ≤ 20000
-few-extended s new (Set setting) few h = set_case (nat_lt 0 (length s.turns)) (with_setting s.given setting) h
+few-extended s new (Set setting) few h =
+    set_case (nat_lt 0 (length s.turns) || not (may_be_set s.groups setting)) (with_setting s.given setting) h
   where
     set_case : (b : Bool) (o : Option Given) →
-        (if b then None else option_map (λ g. let z : SoFar = record { given = g; turns = s.turns } in z) o) ≡ Some new → length
-        new.turns ≤ 20000
+        (if b then None else option_map (λ g. let z : SoFar = record s { given = g; groups = s.groups ++ group_set setting } in z)
+        o) ≡ Some new →
+        length new.turns ≤ 20000
     set_case true o e = none-some new e
     set_case false None e = none-some new e
     set_case false (Some g) e = rw (← some-is _ new e) few
+few-extended s new (Plan side item) few h = plan_case (nat_lt 0 (length s.turns)) h
+  where
+    plan_case : (b : Bool) → (if b then None else Some (record s { plans = s.plans ++ (side, item) ∷ [] })) ≡ Some new →
+        length new.turns ≤ 20000
+    plan_case true e = none-some new e
+    plan_case false e = rw (← some-is _ new e) few
 few-extended s new (At ms) few h = at_case (nat_lt (length s.turns) 20000) refl h
   where
     at_case : (b : Bool) → nat_lt (length s.turns) 20000 ≡ b →
-        (if b then Some (record { given = s.given; turns = s.turns ++ (ms, []) ∷ [] }) else None) ≡ Some new → length new.turns ≤ 20000
+        (if b then Some (record s { turns = s.turns ++ (ms, []) ∷ [] }) else None) ≡ Some new → length new.turns ≤ 20000
     at_case true below e =
         rw (← some-is _ new e) (omega (arith, ltb-true (length s.turns) 20000 below, length-append s.turns ((ms, []) ∷ [])))
     at_case false below e = none-some new e
 few-extended s new Skipped few h = rw (← some-is s new h) few
 few-extended s new (Within x) few h = within_case (nat_lt 0 (length s.turns) && may_follow (lines_of s.turns) x) h
   where
-    within_case : (b : Bool) → (if b then Some (record { given = s.given; turns = with_line s.turns x }) else None) ≡ Some new →
+    within_case : (b : Bool) → (if b then Some (record s { turns = with_line s.turns x }) else None) ≡ Some new →
         length new.turns ≤ 20000
     within_case true e = rw (← some-is _ new e) (omega (arith, length-with_line s.turns x))
     within_case false e = none-some new e

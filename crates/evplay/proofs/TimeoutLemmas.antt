@@ -1,5 +1,5 @@
 -- The timeouts that a script sets are numbers of 64 bits.
-use Rattle.std.proofs.Common.{◌≡◌, ◌≤◌, ◌<◌, ◌^◌, ℕ, Bool, true, false, ◌&&◌, List, [], ◌∷◌, ◌++◌, length, codes, Option, Some, None, Ok, refl, subst, arith, if◌then◌else◌}
+use Rattle.std.proofs.Common.{◌≡◌, ◌≤◌, ◌<◌, ◌^◌, ℕ, Bool, true, false, ◌&&◌, ◌||◌, not, List, [], ◌∷◌, ◌++◌, length, codes, Option, Some, None, Ok, refl, subst, arith, if◌then◌else◌}
 use Rattle.std.specs.Prelude.{nat_lt, IfSome, option_map, option_and_then, unwrap_or}
 use Rattle.token_bucket.specs.declared.limit.Dir.TheVariants.{Read, Write}
 use Rattle.ev_types.specs.declared.filter.FilterKind.{FilterKind}
@@ -25,8 +25,15 @@ use Rattle.script_text.specs.Given.{once, with_setting}
 use Rattle.script_text.specs.Pieces.{lines}
 use Rattle.script_text.specs.Numbers.{number_within, bytes_of}
 use Rattle.script_text.specs.FilterNames.{filter_kind_of}
-use Rattle.script_text.specs.Grammar.{keyword_of, link_of, end_of, made_of, more_of, of_end, hold_of, side_marks_of, side_of, side_timeouts_of, set_by, setting_name_of, said_by, is_comment, said}
-use Rattle.script_text.specs.Order.{may_follow, with_line, extended}
+use Rattle.script_text.specs.Ends.{link_of, end_of, side_of}
+use Rattle.script_text.specs.Limits.{limit_said}
+use Rattle.script_text.specs.declared.limits.GroupSet.{GroupSet}
+use Rattle.script_text.specs.declared.plan.PlanItem.{PlanItem}
+use Rattle.script_text.specs.ValueGrammar.{why_kind_of}
+use Rattle.script_text.specs.ActGrammar.{planned_ask}
+use Rattle.token_bucket.specs.declared.limit.LimitCfg.{LimitCfg}
+use Rattle.script_text.specs.Grammar.{keyword_of, made_of, more_of, of_end, hold_of, side_marks_of, group_of, group_set_of, hooked_of, nth_of, side_timeouts_of, set_by, setting_name_of, said_by, is_comment, said}
+use Rattle.script_text.specs.Order.{may_be_set, group_set, may_follow, with_line, extended}
 use Rattle.script_text.specs.Spelled.{no_line, script_of}
 use Rattle.script_text.proofs.LawLemmas.{script_of-read, decimal-number_within}
 use Rattle.relay_laws.specs.Spelling.{TimeoutsFit}
@@ -85,6 +92,27 @@ set-short (name.Filter side dir) (filter ∷ []) = go (filter_kind_of filter)
     go : (o : Option FilterKind) → IfSome (option_map (λ s. line.Set s) (option_map (λ kind. setting.Filter side dir kind) o)) SetsShort
     go None = tt
     go (Some kind) = tt
+set-short name.Rate (side ∷ numbers) = go (side_of side) (limit_said numbers)
+  where
+    go : (a : Option Side) (b : Option LimitCfg) →
+        IfSome (option_map (λ s. line.Set s) (option_and_then (λ s. option_map (λ l. setting.Rate s l) b) a)) SetsShort
+    go None b = tt
+    go (Some s) None = tt
+    go (Some s) (Some l) = tt
+set-short name.Group (number ∷ rr ∷ rb ∷ wr ∷ wb ∷ tick ∷ share ∷ []) = go (group_of number) (group_set_of rr rb wr wb tick share)
+  where
+    go : (a : Option ℕ) (b : Option GroupSet) →
+        IfSome (option_map (λ s. line.Set s) (option_and_then (λ n. option_map (λ x. setting.Group n x) b) a)) SetsShort
+    go None b = tt
+    go (Some n) None = tt
+    go (Some n) (Some x) = tt
+set-short name.Member (side ∷ number ∷ []) = go (side_of side) (group_of number)
+  where
+    go : (a : Option Side) (b : Option ℕ) →
+        IfSome (option_map (λ s. line.Set s) (option_and_then (λ s. option_map (λ n. setting.Member s n) b) a)) SetsShort
+    go None b = tt
+    go (Some s) None = tt
+    go (Some s) (Some n) = tt
 set-short _ _ = tt
 
 within-short : {A : Type 0} (f : A → Line) → ((x : A) → SetsShort (f x)) → (o : Option A) → IfSome (option_map f o) SetsShort
@@ -120,6 +148,12 @@ said_by-short keyword.Take (link ∷ side ∷ count ∷ []) =
 said_by-short keyword.WriteFail (link ∷ side ∷ []) = within-short (λ e. line.Within (turn.WriteFail e)) (λ e. tt) (end_of link side)
 said_by-short keyword.Spur (link ∷ side ∷ []) = within-short (λ e. line.Within (turn.Spur e)) (λ e. tt) (end_of link side)
 said_by-short keyword.PollFail [] = tt
+said_by-short keyword.On (link ∷ side ∷ why ∷ nth ∷ act) =
+    then-short _ (λ end.
+    then-short _ (λ kind.
+    then-short _ (λ n.
+    then-short (λ ask. Some (line.Plan end (let item : PlanItem = record { why = kind; nth = n; act = ask } in item))) (λ ask. tt)
+    (planned_ask act)) (nth_of nth)) (why_kind_of why)) (hooked_of link side)
 said_by-short _ _ = tt
 
 said-short : (ws : List (List ℕ)) → IfSome (said ws) SetsShort
@@ -149,24 +183,41 @@ with-short g new (setting.Marks In m) is k h = once-short g.in_marks (record g {
 with-short g new (setting.Marks Out m) is k h = once-short g.out_marks (record g { out_marks = Some m }) new k h
 with-short g new (setting.Timeouts In t) is k h = once-short g.in_timeouts (record g { in_timeouts = Some t }) new (is, k.1) h
 with-short g new (setting.Timeouts Out t) is k h = once-short g.out_timeouts (record g { out_timeouts = Some t }) new (k.0, is) h
+with-short g new (setting.Rate In l) is k h =
+    once-short g.limits.in_rate (record g { limits = record g.limits { in_rate = Some l } }) new k h
+with-short g new (setting.Rate Out l) is k h =
+    once-short g.limits.out_rate (record g { limits = record g.limits { out_rate = Some l } }) new k h
+with-short g new (setting.Member In n) is k h =
+    once-short g.limits.in_group (record g { limits = record g.limits { in_group = Some n } }) new k h
+with-short g new (setting.Member Out n) is k h =
+    once-short g.limits.out_group (record g { limits = record g.limits { out_group = Some n } }) new k h
+with-short g new (setting.Group n x) is k h = subst GivenShort (some-is g new h) k
 
 extended-short : (s new : SoFar) (x : Line) → SetsShort x → AllShort s → extended s x ≡ Some new → AllShort new
-extended-short s new (line.Set setting) is k h = go (nat_lt 0 (length s.turns)) (with_setting s.given setting) refl h
+extended-short s new (line.Set setting) is k h =
+    go (nat_lt 0 (length s.turns) || not (may_be_set s.groups setting)) (with_setting s.given setting) refl h
   where
     go : (b : Bool) (o : Option Given) → with_setting s.given setting ≡ o →
-        (if b then None else option_map (λ g. let z : SoFar = record { given = g; turns = s.turns } in z) o) ≡ Some new → AllShort new
+        (if b then None else option_map (λ g. let z : SoFar = record s { given = g; groups = s.groups ++ group_set setting } in z)
+        o) ≡ Some new →
+        AllShort new
     go true o e p = none-some new p
     go false None e p = none-some new p
     go false (Some g) e p = subst AllShort (some-is _ new p) (with-short s.given g setting is k e)
+extended-short s new (line.Plan side item) is k h = go (nat_lt 0 (length s.turns)) h
+  where
+    go : (b : Bool) → (if b then None else Some (record s { plans = s.plans ++ (side, item) ∷ [] })) ≡ Some new → AllShort new
+    go true p = none-some new p
+    go false p = subst AllShort (some-is _ new p) k
 extended-short s new (line.At ms) is k h = go (nat_lt (length s.turns) 20000) h
   where
-    go : (b : Bool) → (if b then Some (record { given = s.given; turns = s.turns ++ (ms, []) ∷ [] }) else None) ≡ Some new → AllShort new
+    go : (b : Bool) → (if b then Some (record s { turns = s.turns ++ (ms, []) ∷ [] }) else None) ≡ Some new → AllShort new
     go true p = subst AllShort (some-is _ new p) k
     go false p = none-some new p
 extended-short s new line.Skipped is k h = subst AllShort (some-is s new h) k
 extended-short s new (line.Within x) is k h = go (nat_lt 0 (length s.turns) && may_follow (lines_of s.turns) x) h
   where
-    go : (b : Bool) → (if b then Some (record { given = s.given; turns = with_line s.turns x }) else None) ≡ Some new → AllShort new
+    go : (b : Bool) → (if b then Some (record s { turns = with_line s.turns x }) else None) ≡ Some new → AllShort new
     go true p = subst AllShort (some-is _ new p) k
     go false p = none-some new p
 

@@ -6,7 +6,7 @@ use Rattle.ev_types.specs.Trace.{Trace}
 use Rattle.ev_port.specs.StreamBytes.{GaveAll, TookOn}
 use Rattle.ev_types.specs.declared.status.LinkCount.{LinkCount}
 use Rattle.script_text.specs.Script.{ScriptValue}
-use Rattle.script_text.specs.Spelled.{script_of}
+use Rattle.script_text.specs.Runnable.{runnable_script_of}
 use Rattle.script_text.specs.TraceText.{trace_text}
 use Rattle.script_text.specs.ReportText.{report_text}
 use Rattle.relay_model.specs.Answers.{TurnAnswer}
@@ -26,9 +26,9 @@ run_text t links = trace_text t ++ report_text links
 abbrev pub IsRunText : ScriptValue → TurnAnswer → List ℕ → Type 0
 IsRunText script answer text = (t : Trace) × (links : List LinkCount) × IsRun script answer t links × (text ≡ run_text t links)
 
--- a source text spells a script of which this is the text of a run
+-- a source text spells a script, of which a run obeys each line, and this is the text of one
 abbrev pub Runs : List ℕ → TurnAnswer → List ℕ → Type 0
-Runs source answer text = (script : ScriptValue) × (script_of source ≡ Ok script) × IsRunText script answer text
+Runs source answer text = (script : ScriptValue) × (runnable_script_of source ≡ Ok script) × IsRunText script answer text
 
 -- What a script of this kind comes to: this text, and this status once it is written. A run of the relay ends well or with a
 -- failed poll. A script of buffers, of a base or of pairs comes to the answers of its lines; where a number of the base is
@@ -42,9 +42,10 @@ ComesTo mode.Base source status.Spent text = base.answers_of source ≡ Ok (text
 ComesTo mode.Pairs source status.Ok text = pairs.answers_of source ≡ Ok text
 ComesTo _ source _ text = ⊥
 
--- the first line of a source text that is not in the grammar of the mode has this number
+-- The first line of a source text that is not in the grammar of the mode has this number. In a script of links it may also be the first
+-- that no run obeys yet.
 abbrev pub IsFirstBad : ScriptKind → List ℕ → ℕ → Type 0
-IsFirstBad mode.Relay source line = script_of source ≡ Err line
+IsFirstBad mode.Relay source line = runnable_script_of source ≡ Err line
 IsFirstBad mode.Buffers source line = answers_of source ≡ Err line
 IsFirstBad mode.Base source line = base_script.script_of source ≡ Err line
 IsFirstBad mode.Pairs source line = pairs.answers_of source ≡ Err line

@@ -10,6 +10,7 @@ use Rattle.relay_model.specs.Called.{NamesOpened}
 use Rattle.script_port.specs.ScriptPort.{new_port}
 use Rattle.script_port.specs.ScriptState.{PortState}
 use Rattle.script_port.specs.ScriptVouched.{ScriptVouches}
+use Rattle.script_text.specs.Given.{no_limits}
 use Rattle.script_text.specs.Script.{ScriptValue}
 use Rattle.ev_types.specs.declared.status.Status.{Status}
 use Rattle.ev_types.specs.declared.status.Status.TheVariants as status
@@ -32,7 +33,7 @@ refused_by other = Err other
 
 -- the script that a port plays under these settings
 abbrev pub script_over : Settings → PortState → ScriptValue
-script_over settings p = record { settings = settings; turns = p.turns }
+script_over settings p = record { settings = settings; limits = no_limits; groups = []; plans = []; turns = p.turns }
 
 -- A run of so many turns may begin over a port: it plays a script of so many, none of which it has begun; the script names only links
 -- that it opens, and what it brings in and the timeouts can be counted.

@@ -11,7 +11,7 @@ use ev_types::Status;
 use pairs_mode::play_pairs;
 use command_words::ScriptKind;
 use program_end::fault_status;
-use script_text::read_script;
+use script_text::read_runnable_script;
 use std::alloc::Global;
 
 /// A text, and the status with which the program ends once it is written.
@@ -44,7 +44,7 @@ fn relay(alloc: Global, text: &[u8]) -> Result<Outcome, Status>
     ensures comes_to { IfOk result (λ outcome. ComesTo Relay text.now outcome.status outcome.text.items) }
     ensures refused { IfErr result (λ status. Refuses Relay text.now status) }
 {
-    let script = match read_script(alloc, text) {
+    let script = match read_runnable_script(alloc, text) {
         Ok(script) => script,
         Err(fault) => return Err(script_status(fault)),
     };

@@ -7,6 +7,7 @@ ghost use Rattle.evplay.specs.Headline.{settings_of, IsRun};
 ghost use Rattle.ev_types.specs.ScriptTurn.{lines_of};
 ghost use Rattle.relay_model.specs.Called.{NamesOpened};
 ghost use Rattle.relay_laws.specs.Report.{lines_below};
+ghost use Rattle.script_text.specs.Runnable.{IsRunnable};
 ghost use Rattle.evplay.specs.Play.{IsRunText, run_text};
 ghost use Rattle.evplay.specs.Run.{answer_of, ended_as, refused_by, script_over, MayRun};
 
@@ -49,6 +50,7 @@ pub fn run(alloc: Global, script: Script) -> Result<(Vec<u8>, RunEnd), DriveFaul
     requires brings { BringsFit script.turns }
     requires links { script.settings.links ≡ 256 }
     requires timeouts { TimeoutsFit (settings_of script) }
+    requires runnable { IsRunnable script }
     ensures text { IfOk result (λ ran. IsRunText script (answer_of ran.1) ran.0.items) }
     ensures only_memory { IfErr result (λ fault. fault ≡ Memory) }
 {

@@ -4,7 +4,7 @@ use ev_port::Mute;
 use ev_types::TurnLine;
 use relay_drive::{Drive, Settings};
 use script_port::ScriptPort;
-use script_text::Script;
+use script_text::{Limits, Script};
 use std::alloc::Global;
 
 /// So many links open, and then so many turns are made in which nothing comes and nobody listens; how many turns were made.
@@ -47,5 +47,11 @@ fn opening(alloc: Global, settings: Settings, links: u32) -> anyhow::Result<Scri
     }
     let mut turns = Vec::new(alloc);
     turns.push((0, lines))?;
-    Ok(Script { settings, turns })
+    Ok(Script {
+        settings,
+        limits: Limits::none(),
+        groups: Vec::new(alloc),
+        plans: Vec::new(alloc),
+        turns,
+    })
 }

@@ -1,5 +1,5 @@
 -- The lines of a script that a text spells name links that were opened before.
-use Rattle.std.proofs.Common.{◌≡◌, ℕ, zero, suc, ◌+◌, ◌^◌, ◌<◌, Bool, true, false, ◌&&◌, not, nat_lt, nat_le, if◌then◌else◌, List, [], ◌∷◌, ◌++◌, length, get_or, Option, Some, None, Result, Ok, Err, refl, sym, ap, subst, ◌∙◌, arith, append_assoc, append-nil, inl, inr}
+use Rattle.std.proofs.Common.{◌≡◌, ℕ, zero, suc, ◌+◌, ◌^◌, ◌<◌, Bool, true, false, ◌&&◌, ◌||◌, not, nat_lt, nat_le, if◌then◌else◌, List, [], ◌∷◌, ◌++◌, length, get_or, Option, Some, None, Result, Ok, Err, refl, sym, ap, subst, ◌∙◌, arith, append_assoc, append-nil, inl, inr}
 use Rattle.std.specs.Prelude.{option_and_then, option_map}
 use Rattle.std.specs.List.{list_all}
 use Rattle.std.proofs.lemmas.Bool.{and_parts}
@@ -16,7 +16,8 @@ use Rattle.script_text.specs.declared.setting.Given.{Given}
 use Rattle.script_text.specs.Script.{SoFar}
 use Rattle.script_text.specs.Pieces.{lines, words}
 use Rattle.script_text.specs.Grammar.{said}
-use Rattle.script_text.specs.Order.{opened_links, opened, is_ended, is_known, may_follow, with_line, extended}
+use Rattle.script_text.specs.declared.limits.GroupSet.{GroupSet}
+use Rattle.script_text.specs.Order.{opened_links, opened, is_ended, is_known, may_follow, with_line, may_be_set, group_set, extended}
 use Rattle.script_text.specs.Spelled.{is_plain, line_read, going_on, lines_read, no_line}
 use Rattle.script_text.proofs.LawLemmas.{script_of-read}
 use Rattle.script_port.specs.ScriptLinks.{links_of}
@@ -94,24 +95,35 @@ abbrev IsNamed : SoFar → Type 0
 IsNamed script = NamesOpened 0 (lines_of script.turns)
 
 -- a setting says nothing of a link
-set_named : (script new : SoFar) (late : Bool) (o : Option Given) →
-    ◌≡◌ {A = Option SoFar} (if late then None else option_map (λ g. record { given = g; turns = script.turns }) o) (Some new) →
-    IsNamed script → IsNamed new
-set_named script new true o h named = absurd (cc)
-set_named script new false None h named = absurd (cc)
-set_named script new false (Some g) h named = subst IsNamed (from_some (record { given = g; turns = script.turns }) new h) named
+set_named : (script new : SoFar) (more : List GroupSet) (late : Bool) (o : Option Given) →
+    ◌≡◌ {A = Option SoFar} (if late then None else option_map (λ g. record script { given = g; groups = script.groups ++ more }) o)
+    (Some new) → IsNamed script → IsNamed new
+set_named script new more true o h named = absurd (cc)
+set_named script new more false None h named = absurd (cc)
+set_named script new more false (Some g) h named =
+    subst IsNamed (from_some (record script { given = g; groups = script.groups ++ more }) new h) named
+
+-- nor does a plan
+plan_named : (script new longer : SoFar) (late : Bool) → lines_of longer.turns ≡ lines_of script.turns →
+    ◌≡◌ {A = Option SoFar} (if late then None else Some longer) (Some new) → IsNamed script → IsNamed new
+plan_named script new longer true same h named = absurd (cc)
+plan_named script new longer false same h named =
+    subst IsNamed (from_some longer new h) (subst (NamesOpened 0) (sym same) named)
 
 extended_named : (script new : SoFar) (what : Line) → extended script what ≡ Some new → IsNamed script → IsNamed new
 extended_named script new (text_line.Set setting) h named =
-    set_named script new (nat_lt 0 (length script.turns)) (with_setting script.given setting) h named
+    set_named script new (group_set setting) (nat_lt 0 (length script.turns) || not (may_be_set script.groups setting))
+    (with_setting script.given setting) h named
+extended_named script new (text_line.Plan side item) h named =
+    plan_named script new (record script { plans = script.plans ++ (side, item) ∷ [] }) (nat_lt 0 (length script.turns)) refl h named
 extended_named script new (text_line.At ms) h named =
-    let more : SoFar = record { given = script.given; turns = script.turns ++ (ms, []) ∷ [] } in
+    let more : SoFar = record script { turns = script.turns ++ (ms, []) ∷ [] } in
     let is : more ≡ new = (if_some (nat_lt (length script.turns) 20000) more new h).1 in
     let same : lines_of (script.turns ++ (ms, []) ∷ []) ≡ lines_of script.turns = flat_map-append (λ (turn : ScriptTurn). turn.1)
     script.turns ((ms, []) ∷ []) ∙ append-nil (lines_of script.turns) in
     subst IsNamed is (subst (NamesOpened 0) (sym same) named)
 extended_named script new (text_line.Within x) h named =
-    let more : SoFar = record { given = script.given; turns = with_line script.turns x } in
+    let more : SoFar = record script { turns = with_line script.turns x } in
     let parts = if_some (nat_lt 0 (length script.turns) && may_follow (lines_of script.turns) x) more new h in
     let tests = and_parts (nat_lt 0 (length script.turns)) (may_follow (lines_of script.turns) x) parts.0 in
     let some : 0 < length script.turns = tested 0 (length script.turns) tests.0 in

@@ -10,9 +10,10 @@ use Rattle.ev_types.specs.declared.act.Act.TheVariants as act
 use Rattle.script_text.specs.declared.act_words.Verb.{Verb}
 use Rattle.script_text.specs.declared.act_words.Verb.TheVariants as verb
 use Rattle.script_text.specs.Numbers.{number_within}
-use Rattle.script_text.specs.Grammar.{end_of}
+use Rattle.script_text.specs.Ends.{end_of}
 use Rattle.script_text.specs.ValueGrammar.{dir_of}
-use Rattle.script_text.specs.ActGrammar.{verb_of, ask_by, act_of, marks_ask, timeouts_ask, limit_said}
+use Rattle.script_text.specs.ActGrammar.{verb_of, ask_by, act_of, marks_ask, timeouts_ask}
+use Rattle.script_text.specs.Limits.{limit_said}
 use Rattle.script_text.specs.Lines.{side_word, dir_word}
 use Rattle.script_text.specs.ActLine.{limit_words, act_words}
 use Rattle.script_text.specs.TraceLaws.{IsWide, IsEnd, IsAct}

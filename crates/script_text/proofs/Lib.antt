@@ -4,6 +4,7 @@ pub mod TurnLemmas
 pub mod TallyLemmas
 pub mod LawLemmas
 pub mod SpelledLengthLemmas
+pub mod RunnableLemmas
 pub mod LimitLemmas
 pub mod ShapeLemmas
 pub mod BesideLemmas

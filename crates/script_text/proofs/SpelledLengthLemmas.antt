@@ -1,5 +1,5 @@
 -- How long a text is, next to the bytes that its lines bring in: two digits at least for each of them.
-use Rattle.std.proofs.Common.{◌≡◌, ◌≤◌, ◌+◌, ◌*◌, ◌^◌, ℕ, Bool, true, false, ◌&&◌, List, [], ◌∷◌, ◌++◌, length, codes, Option, Some, None, Result, Ok, Err, refl, ap, ◌∙◌, arith, inl, inr, ltb-true, filter}
+use Rattle.std.proofs.Common.{◌≡◌, ◌≤◌, ◌+◌, ◌*◌, ◌^◌, ℕ, Bool, true, false, ◌&&◌, ◌||◌, not, List, [], ◌∷◌, ◌++◌, length, codes, Option, Some, None, Result, Ok, Err, refl, ap, ◌∙◌, arith, inl, inr, ltb-true, filter}
 use Rattle.std.specs.Prelude.{IfSome, sum_by, nat_lt, nat_le, if◌then◌else◌, option_map, option_and_then}
 use Rattle.std.specs.List.{list_all}
 use Rattle.std.specs.Result.{result_ok}
@@ -23,9 +23,13 @@ use Rattle.script_text.specs.Given.{with_setting}
 use Rattle.script_text.specs.Script.{ScriptValue, SoFar}
 use Rattle.script_text.specs.Pieces.{begun, pieces, lines, words, is_filled}
 use Rattle.script_text.specs.Numbers.{number_within, bytes_of}
-use Rattle.script_text.specs.Grammar.{keyword_of, link_of, end_of, made_of, more_of, of_end, setting_name_of, set_by, said_by, is_comment, said}
+use Rattle.script_text.specs.Ends.{link_of, end_of}
+use Rattle.script_text.specs.Grammar.{keyword_of, made_of, more_of, of_end, setting_name_of, set_by, said_by, hooked_of, nth_of, planned_of, is_comment, said}
+use Rattle.script_text.specs.ValueGrammar.{why_kind_of}
+use Rattle.script_text.specs.ActGrammar.{planned_ask}
+use Rattle.script_text.specs.declared.plan.PlanItem.{PlanItem}
 use Rattle.script_text.specs.Brought.{brought, all_brought}
-use Rattle.script_text.specs.Order.{may_follow, with_line, extended}
+use Rattle.script_text.specs.Order.{may_be_set, group_set, may_follow, with_line, extended}
 use Rattle.script_text.specs.Spelled.{is_plain, line_read, going_on, lines_read, no_line, script_of}
 use Rattle.script_text.proofs.TurnLemmas.{lines_of-begun, lines_of-with_line}
 use Rattle.script_text.proofs.LawLemmas.{script_of-read}
@@ -108,6 +112,15 @@ of_end-small : (n : ℕ) (what : SideId → TurnLine) → ((e : SideId) → brou
 of_end-small n what none link side =
     some-map (IsSmall n) (λ e. line.Within (what e)) (λ e. omega (arith, none e)) (end_of link side)
 
+-- a plan brings in nothing
+planned-small : (n : ℕ) (link side why nth : List ℕ) (act : List (List ℕ)) → IfSome (planned_of link side why nth act) (IsSmall n)
+planned-small n link side why nth act =
+    some-then (IsSmall n) _ (λ end.
+    some-then (IsSmall n) _ (λ kind.
+    some-then (IsSmall n) _ (λ k.
+    some-then (IsSmall n) (λ ask. Some (line.Plan end (let item : PlanItem = record { why = kind; nth = k; act = ask } in item)))
+    (λ ask. omega arith) (planned_ask act)) (nth_of nth)) (why_kind_of why)) (hooked_of link side)
+
 -- what a line brings in is spelled in its words
 said_by-length : (k : Keyword) (ws : List (List ℕ)) → IfSome (said_by k ws) (IsSmall (letters ws))
 said_by-length keyword.Set (what ∷ more) =
@@ -139,6 +152,8 @@ said_by-length keyword.WriteFail (link ∷ side ∷ []) =
     of_end-small (letters (link ∷ side ∷ [])) (λ e. turn.WriteFail e) (λ e. refl) link side
 said_by-length keyword.Spur (link ∷ side ∷ []) = of_end-small (letters (link ∷ side ∷ [])) (λ e. turn.Spur e) (λ e. refl) link side
 said_by-length keyword.PollFail [] = omega arith
+said_by-length keyword.On (link ∷ side ∷ why ∷ nth ∷ act) =
+    planned-small (letters (link ∷ side ∷ why ∷ nth ∷ act)) link side why nth act
 said_by-length _ _ = tt
 
 said-length : (ws : List (List ℕ)) → IfSome (said ws) (IsSmall (letters ws))
@@ -164,17 +179,21 @@ extended-bytes : (so_far : SoFar) (x : Line) → IfSome (extended so_far x) (λ 
 extended-bytes so_far (line.Set setting) =
     let P : SoFar → Type 0 = λ longer. so_many longer ≡ so_many so_far + 0 in
     let same : so_many so_far ≡ so_many so_far + 0 = omega arith in
-    some-if P (nat_lt 0 (length so_far.turns)) None
-    (option_map (λ g. record { given = g; turns = so_far.turns }) (with_setting so_far.given setting)) tt
-    (some-map P (λ (g : Given). record { given = g; turns = so_far.turns }) (λ g. same) (with_setting so_far.given setting))
+    let longer : Given → SoFar = λ g. record so_far { given = g; groups = so_far.groups ++ group_set setting } in
+    some-if P (nat_lt 0 (length so_far.turns) || not (may_be_set so_far.groups setting)) None
+    (option_map longer (with_setting so_far.given setting)) tt (some-map P longer (λ g. same) (with_setting so_far.given setting))
+extended-bytes so_far (line.Plan side item) =
+    let longer : SoFar = record so_far { plans = so_far.plans ++ (side, item) ∷ [] } in
+    let same : so_many longer ≡ so_many so_far + 0 = omega arith in
+    some-if (λ longer. so_many longer ≡ so_many so_far + 0) (nat_lt 0 (length so_far.turns)) None (Some longer) tt same
 extended-bytes so_far (line.At ms) =
-    let longer : SoFar = record { given = so_far.given; turns = so_far.turns ++ (ms, []) ∷ [] } in
+    let longer : SoFar = record so_far { turns = so_far.turns ++ (ms, []) ∷ [] } in
     let same : so_many longer ≡ so_many so_far + 0 = omega (arith, ap all_brought (lines_of-begun so_far.turns ms)) in
     some-if (λ longer. so_many longer ≡ so_many so_far + 0) (nat_lt (length so_far.turns) 20000) (Some longer) None same tt
 extended-bytes so_far (line.Within x) = at_case (nat_lt 0 (length so_far.turns) && may_follow (lines_of so_far.turns) x) refl
   where
     longer : SoFar
-    longer = record { given = so_far.given; turns = with_line so_far.turns x }
+    longer = record so_far { turns = with_line so_far.turns x }
 
     at_case : (b : Bool) → (nat_lt 0 (length so_far.turns) && may_follow (lines_of so_far.turns) x) ≡ b →
         IfSome (if b then Some longer else None) (λ longer. so_many longer ≡ so_many so_far + brought x)

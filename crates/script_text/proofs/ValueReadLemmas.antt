@@ -20,7 +20,7 @@ use Rattle.ev_types.specs.declared.answer.ConnAnswer.TheVariants as conn
 use Rattle.ev_types.specs.declared.answer.AskAnswer.{AskAnswer}
 use Rattle.ev_types.specs.declared.answer.AskAnswer.TheVariants as answer
 use Rattle.script_text.specs.Numbers.{any_number}
-use Rattle.script_text.specs.Grammar.{side_of, link_of, end_of}
+use Rattle.script_text.specs.Ends.{side_of, link_of, end_of}
 use Rattle.script_text.specs.ValueGrammar.{dir_of, marks_of, conn_of, why_of, cause_of, ask_of, lower_bytes_of, is_no_capital}
 use Rattle.script_text.specs.Lines.{side_word, dir_word, marks_word, why_word, cause_word}
 use Rattle.script_text.specs.TraceText.{conn_word}

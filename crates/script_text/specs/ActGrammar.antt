@@ -1,15 +1,14 @@
 -- What the words of an ask say, by cases. They are those that a trace spells for it.
-use Rattle.std.specs.Prelude.{ℕ, ◌-◌, ◌^◌, List, [], ◌∷◌, codes, if◌then◌else◌, Option, Some, None, option_map}
+use Rattle.std.specs.Prelude.{ℕ, ◌-◌, ◌^◌, ◌&&◌, nat_le, Bool, true, false, List, [], ◌∷◌, codes, if◌then◌else◌, Option, Some, None, option_map}
 use Rattle.std.specs.Str.{bytes_eq}
-use Rattle.token_bucket.specs.declared.limit.LimitCfg.{LimitCfg}
 use Rattle.ev_types.specs.declared.side.SideId.{SideId}
 use Rattle.ev_types.specs.declared.act.Act.{Act}
 use Rattle.ev_types.specs.declared.act.Act.TheVariants as act
 use Rattle.script_text.specs.declared.act_words.Verb.{Verb}
 use Rattle.script_text.specs.declared.act_words.Verb.TheVariants as verb
-use Rattle.script_text.specs.Grammar.{end_of}
+use Rattle.script_text.specs.Ends.{end_of}
 use Rattle.script_text.specs.Numbers.{any_number}
-use Rattle.script_text.specs.Limits.{limit_of}
+use Rattle.script_text.specs.Limits.{limit_said}
 use Rattle.script_text.specs.ValueGrammar.{◌>>=◌, dir_of, only_dir, only_number}
 
 -- an ask of which no word more is said
@@ -31,17 +30,6 @@ timeouts_ask end (read ∷ write ∷ []) = do
   w ← any_number write
   Some (act.Timeouts end r w)
 timeouts_ask end _ = None
-
--- the limit of read rate, read burst, write rate, write burst and tick
-abbrev pub limit_said : List (List ℕ) → Option LimitCfg
-limit_said (rr ∷ rb ∷ wr ∷ wb ∷ tick ∷ []) = do
-  read_rate ← any_number rr
-  read_burst ← any_number rb
-  write_rate ← any_number wr
-  write_burst ← any_number wb
-  tick_ms ← any_number tick
-  limit_of read_rate read_burst write_rate write_burst tick_ms
-limit_said _ = None
 
 abbrev pub rate_ask : SideId → List (List ℕ) → Option Act
 rate_ask end (word ∷ []) = if bytes_eq word (codes "none") then Some (act.Rate end None) else None
@@ -91,3 +79,20 @@ act_of (word ∷ link ∷ side ∷ more) = do
   end ← end_of link side
   ask_by name end more
 act_of _ = None
+
+-- numbers of an ask of a script are at most 2^62; those of a limit, and of links and groups, have ranges of their own
+abbrev pub is_written : Act → Bool
+is_written (act.Marks end dir low high) = nat_le low (2 ^ 62) && nat_le high (2 ^ 62)
+is_written (act.Timeouts end read write) = nat_le read (2 ^ 62) && nat_le write (2 ^ 62)
+is_written (act.Timer end ms) = nat_le ms (2 ^ 62)
+is_written _ = true
+
+-- is it the word that asks nothing
+abbrev pub is_nop : List (List ℕ) → Bool
+is_nop (word ∷ []) = bytes_eq word (codes "nop")
+is_nop _ = false
+
+-- what is planned: an ask, or nothing
+abbrev pub planned_ask : List (List ℕ) → Option (Option Act)
+planned_ask ws =
+    if is_nop ws then Some None else (act_of ws >>= (λ ask. if is_written ask then Some (Some ask) else None))

@@ -11,7 +11,7 @@ use Rattle.ev_types.specs.Trace.{Event}
 use Rattle.script_text.specs.declared.entry_words.EntryKind.{EntryKind}
 use Rattle.script_text.specs.declared.entry_words.EntryKind.TheVariants as kind
 use Rattle.script_text.specs.Numbers.{any_number}
-use Rattle.script_text.specs.Grammar.{link_of, end_of}
+use Rattle.script_text.specs.Ends.{link_of, end_of}
 use Rattle.script_text.specs.ValueGrammar.{◌>>=◌, lower_bytes_of, marks_of, conn_of, read_of, write_of, why_of, cause_of, ask_of}
 use Rattle.script_text.specs.ActGrammar.{act_of}
 

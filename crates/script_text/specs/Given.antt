@@ -5,8 +5,13 @@ use Rattle.token_bucket.specs.declared.limit.Dir.TheVariants.{Read, Write}
 use Rattle.ev_types.specs.declared.settings.Settings.{Settings}
 use Rattle.ev_types.specs.Usual.{usual}
 use Rattle.script_text.specs.declared.setting.Setting.{Setting}
-use Rattle.script_text.specs.declared.setting.Setting.TheVariants.{Hold, Filter, Marks, Timeouts}
+use Rattle.script_text.specs.declared.setting.Setting.TheVariants.{Hold, Filter, Marks, Timeouts, Rate, Group, Member}
+use Rattle.script_text.specs.declared.limits.Limits.{Limits}
 use Rattle.script_text.specs.declared.setting.Given.{Given}
+
+-- no side has a limit or a group
+abbrev pub no_limits : Limits
+no_limits = record { in_rate = None; out_rate = None; in_group = None; out_group = None }
 
 -- no line has set anything
 abbrev pub nothing_given : Given
@@ -20,6 +25,7 @@ nothing_given = record {
   out_marks = None;
   in_timeouts = None;
   out_timeouts = None;
+  limits = no_limits;
 }
 
 -- what is given with a line more, where that line's setting was not given before
@@ -27,8 +33,9 @@ abbrev pub once : {A : Type 0} → Option A → Given → Option Given
 once None longer = Some longer
 once (Some before) longer = None
 
--- What is given with this setting more. Each side has filters, marks and timeouts of its own, and a filter for each direction. A
--- setting that was given before is not given again.
+-- What is given with this setting more. Each side has filters, marks and timeouts of its own, and a filter for each direction. The
+-- sides of a name have one limit and are members of one group. A setting that was given before is not given again; a group has a number
+-- of its own, and stands in a list of its own.
 abbrev pub with_setting : Given → Setting → Option Given
 with_setting g (Hold bytes) = once g.hold (record g { hold = Some bytes })
 with_setting g (Filter In Read kind) = once g.in_read (record g { in_read = Some kind })
@@ -39,6 +46,11 @@ with_setting g (Marks In marks) = once g.in_marks (record g { in_marks = Some ma
 with_setting g (Marks Out marks) = once g.out_marks (record g { out_marks = Some marks })
 with_setting g (Timeouts In timeouts) = once g.in_timeouts (record g { in_timeouts = Some timeouts })
 with_setting g (Timeouts Out timeouts) = once g.out_timeouts (record g { out_timeouts = Some timeouts })
+with_setting g (Rate In limit) = once g.limits.in_rate (record g { limits = record g.limits { in_rate = Some limit } })
+with_setting g (Rate Out limit) = once g.limits.out_rate (record g { limits = record g.limits { out_rate = Some limit } })
+with_setting g (Member In group) = once g.limits.in_group (record g { limits = record g.limits { in_group = Some group } })
+with_setting g (Member Out group) = once g.limits.out_group (record g { limits = record g.limits { out_group = Some group } })
+with_setting g (Group number group) = Some g
 
 -- the settings of a run: what was given, and the usual ones where nothing was
 abbrev pub settings_by : Given → Settings

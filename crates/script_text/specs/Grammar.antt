@@ -9,11 +9,15 @@ use Rattle.ev_types.specs.declared.settings.Marks.{Marks}
 use Rattle.ev_types.specs.declared.settings.Timeouts.{Timeouts}
 use Rattle.script_text.specs.Numbers.{number_within, bytes_of}
 use Rattle.script_text.specs.FilterNames.{filter_kind_of}
-use Rattle.script_text.specs.ValueGrammar.{◌>>=◌}
+use Rattle.script_text.specs.Ends.{side_of, link_of, end_of}
+use Rattle.script_text.specs.Limits.{limit_said}
+use Rattle.script_text.specs.ActGrammar.{planned_ask}
+use Rattle.script_text.specs.ValueGrammar.{◌>>=◌, why_kind_of}
+use Rattle.script_text.specs.declared.limits.GroupSet.{GroupSet}
 use Rattle.ev_types.specs.declared.turn_line.TurnLine.{TurnLine}
 use Rattle.ev_types.specs.declared.turn_line.TurnLine.TheVariants as turn
 use Rattle.script_text.specs.declared.line.Keyword.{Keyword}
-use Rattle.script_text.specs.declared.line.Keyword.TheVariants.{Set, At, Open, Conn, Pending, Eof, ReadFail, Take, WriteFail, Spur, PollFail}
+use Rattle.script_text.specs.declared.line.Keyword.TheVariants.{Set, At, Open, Conn, Pending, Eof, ReadFail, Take, WriteFail, Spur, PollFail, On}
 use Rattle.script_text.specs.declared.setting.Setting.{Setting}
 use Rattle.script_text.specs.declared.setting.Setting.TheVariants as setting
 use Rattle.script_text.specs.declared.setting.SettingName.{SettingName}
@@ -35,17 +39,8 @@ keyword_of word =
     else (if bytes_eq word (codes "wfail") then Some WriteFail
     else (if bytes_eq word (codes "spur") then Some Spur
     else (if bytes_eq word (codes "pollfail") then Some PollFail
-    else None))))))))))
-
-abbrev pub side_of : List ℕ → Option Side
-side_of word = if bytes_eq word (codes "in") then Some In else (if bytes_eq word (codes "out") then Some Out else None)
-
-abbrev pub link_of : List ℕ → Option ℕ
-link_of word = number_within (2 ^ 32 - 1) word
-
--- the end that a link number and a side name
-abbrev pub end_of : List ℕ → List ℕ → Option SideId
-end_of link side = option_and_then (λ s. option_map (λ l. record { link = l; side = s }) (link_of link)) (side_of side)
+    else (if bytes_eq word (codes "on") then Some On
+    else None)))))))))))
 
 -- whether a connection is made
 abbrev pub made_of : List ℕ → Option Bool
@@ -69,7 +64,10 @@ setting_name_of word =
     else (if bytes_eq word (codes "in-write") then Some (name.Filter In Write)
     else (if bytes_eq word (codes "out-read") then Some (name.Filter Out Read)
     else (if bytes_eq word (codes "out-write") then Some (name.Filter Out Write)
-    else None))))))
+    else (if bytes_eq word (codes "rate") then Some name.Rate
+    else (if bytes_eq word (codes "group") then Some name.Group
+    else (if bytes_eq word (codes "member") then Some name.Member
+    else None)))))))))
 
 -- the hold mark, of 1 to 2^24 bytes
 abbrev pub hold_of : List ℕ → Option ℕ
@@ -91,6 +89,21 @@ side_timeouts_of read write = do
   w ← number_within (2 ^ 40) write
   Some (record { read_ms = r; write_ms = w })
 
+-- the number of a group: there are at most 64
+abbrev pub group_of : List ℕ → Option ℕ
+group_of word = number_within 63 word
+
+-- the least share of a member, 1 to 2^40 bytes
+abbrev pub share_of : List ℕ → Option ℕ
+share_of word = number_within (2 ^ 40) word >>= (λ n. if nat_lt 0 n then Some n else None)
+
+-- the group that five numbers of a limit and a share make
+abbrev pub group_set_of : List ℕ → List ℕ → List ℕ → List ℕ → List ℕ → List ℕ → Option GroupSet
+group_set_of rr rb wr wb tick share = do
+  cfg ← limit_said (rr ∷ rb ∷ wr ∷ wb ∷ tick ∷ [])
+  least ← share_of share
+  Some (record { cfg = cfg; share = least })
+
 -- what a line sets that names a setting, by the words behind the name
 abbrev pub set_by : SettingName → List (List ℕ) → Option Setting
 set_by name.Hold (bytes ∷ []) = option_map (λ n. setting.Hold n) (hold_of bytes)
@@ -99,7 +112,31 @@ set_by name.Marks (side ∷ rl ∷ rh ∷ wl ∷ wh ∷ []) =
 set_by name.Timeouts (side ∷ r ∷ w ∷ []) =
     side_of side >>= (λ s. option_map (λ timeouts. setting.Timeouts s timeouts) (side_timeouts_of r w))
 set_by (name.Filter side dir) (filter ∷ []) = option_map (λ kind. setting.Filter side dir kind) (filter_kind_of filter)
+set_by name.Rate (side ∷ numbers) = side_of side >>= (λ s. option_map (λ limit. setting.Rate s limit) (limit_said numbers))
+set_by name.Group (number ∷ rr ∷ rb ∷ wr ∷ wb ∷ tick ∷ share ∷ []) =
+    group_of number >>= (λ n. option_map (λ group. setting.Group n group) (group_set_of rr rb wr wb tick share))
+set_by name.Member (side ∷ number ∷ []) = side_of side >>= (λ s. option_map (λ n. setting.Member s n) (group_of number))
 set_by _ _ = None
+
+-- the side of a planned hook, opened or not: there are plans for the links 0 to 31
+abbrev pub hooked_of : List ℕ → List ℕ → Option SideId
+hooked_of link side = do
+  s ← side_of side
+  l ← number_within 31 link
+  Some (record { link = l; side = s })
+
+-- for which fire of its kind something is planned, counted from 1: 1 to 1,000,000
+abbrev pub nth_of : List ℕ → Option ℕ
+nth_of word = number_within 1000000 word >>= (λ n. if nat_lt 0 n then Some n else None)
+
+-- what is planned for the hook of a side
+abbrev pub planned_of : List ℕ → List ℕ → List ℕ → List ℕ → List (List ℕ) → Option Line
+planned_of link side why nth act = do
+  end ← hooked_of link side
+  kind ← why_kind_of why
+  n ← nth_of nth
+  ask ← planned_ask act
+  Some (line.Plan end (record { why = kind; nth = n; act = ask }))
 
 -- What a line of a kind says by its further words. A moment is at most 2^40 ms.
 abbrev pub said_by : Keyword → List (List ℕ) → Option Line
@@ -117,6 +154,7 @@ said_by Take (link ∷ side ∷ count ∷ []) = option_and_then (λ more. of_end
 said_by WriteFail (link ∷ side ∷ []) = of_end (λ e. turn.WriteFail e) link side
 said_by Spur (link ∷ side ∷ []) = of_end (λ e. turn.Spur e) link side
 said_by PollFail [] = Some (line.Within turn.PollFail)
+said_by On (link ∷ side ∷ why ∷ nth ∷ act) = planned_of link side why nth act
 said_by _ _ = None
 
 -- a word that begins a comment

@@ -4,10 +4,12 @@ pub mod ScriptView
 pub mod Pieces
 pub mod Numbers
 pub mod FilterNames
+pub mod Ends
 pub mod Grammar
 pub mod Order
 pub mod Brought
 pub mod Spelled
+pub mod Runnable
 pub mod Tally
 pub mod ReadingView
 pub mod Lines

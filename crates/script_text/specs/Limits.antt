@@ -1,8 +1,10 @@
--- The limit that five numbers make.
-use Rattle.std.specs.Prelude.{◌≡◌, ℕ, ◌^◌, ◌<◌, ◌≤◌, ◌&&◌, nat_lt, nat_le, Bool, true, false, Option, Some, None, refl}
+-- The limit that five numbers make, and that five words spell.
+use Rattle.std.specs.Prelude.{◌≡◌, ℕ, ◌^◌, ◌<◌, ◌≤◌, ◌&&◌, nat_lt, nat_le, Bool, true, false, List, [], ◌∷◌, Option, Some, None, refl}
 use Rattle.std.proofs.Common.{ltb-true, leb-true}
 use Rattle.std.proofs.lemmas.Bool.{and_parts}
 use Rattle.token_bucket.specs.declared.limit.LimitCfg.{LimitCfg}
+use Rattle.script_text.specs.Numbers.{any_number}
+use Rattle.script_text.specs.ValueGrammar.{◌>>=◌}
 
 -- Rates are above 0 and within their bursts, bursts within 2^40 bytes, and a tick is 1 to 2^20 ms long.
 pub record IsLimit (rr rb wr wb tick : ℕ) : Type 0 where
@@ -73,3 +75,14 @@ when false allowed = None
 abbrev pub limit_of : ℕ → ℕ → ℕ → ℕ → ℕ → Option LimitCfg
 limit_of rr rb wr wb tick =
     when (is_limit rr rb wr wb tick) (λ right. limit_with rr rb wr wb tick (limit_facts rr rb wr wb tick right))
+
+-- the limit that words spell, in the same order
+abbrev pub limit_said : List (List ℕ) → Option LimitCfg
+limit_said (rr ∷ rb ∷ wr ∷ wb ∷ tick ∷ []) = do
+  read_rate ← any_number rr
+  read_burst ← any_number rb
+  write_rate ← any_number wr
+  write_burst ← any_number wb
+  tick_ms ← any_number tick
+  limit_of read_rate read_burst write_rate write_burst tick_ms
+limit_said _ = None

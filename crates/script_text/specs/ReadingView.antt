@@ -10,7 +10,7 @@ use Rattle.script_text.specs.Tally.{IsTally}
 
 -- the script of the lines so far
 abbrev pub script_so_far : Inside → SoFar
-script_so_far r = record { given = r.given; turns = turn_values r.turns.items }
+script_so_far r = record { given = r.given; groups = r.groups.items; plans = r.plans.items; turns = turn_values r.turns.items }
 
 -- the lines so far, of all turns
 abbrev pub lines_so_far : Inside → List TurnLine

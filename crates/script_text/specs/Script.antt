@@ -2,19 +2,35 @@
 use Rattle.std.specs.Prelude.{List}
 use Rattle.ev_types.specs.ScriptTurn.{ScriptTurn}
 use Rattle.ev_types.specs.declared.settings.Settings.{Settings}
+use Rattle.ev_types.specs.declared.side.SideId.{SideId}
+use Rattle.script_text.specs.declared.limits.Limits.{Limits}
+use Rattle.script_text.specs.declared.limits.GroupSet.{GroupSet}
+use Rattle.script_text.specs.declared.plan.PlanItem.{PlanItem}
 use Rattle.script_text.specs.declared.setting.Given.{Given}
 use Rattle.script_text.specs.Given.{settings_by}
 
--- the settings that its lines give, and the turns in their order
+-- the settings and limits that its lines give, the groups by their numbers, what is planned for the hooks of sides, and the turns, in
+-- their order
 pub record ScriptValue : Type 0 where
   pub settings : Settings
+  pub limits : Limits
+  pub groups : List GroupSet
+  pub plans : List (SideId × PlanItem)
   pub turns : List ScriptTurn
 
--- a script of which some lines were read: what its `set` lines give so far, and its turns so far
+-- a script of which some lines were read: what its lines give so far
 pub record SoFar : Type 0 where
   pub given : Given
+  pub groups : List GroupSet
+  pub plans : List (SideId × PlanItem)
   pub turns : List ScriptTurn
 
 -- the script, where no line follows
 abbrev pub whole : SoFar → ScriptValue
-whole so_far = record { settings = settings_by so_far.given; turns = so_far.turns }
+whole so_far = record {
+  settings = settings_by so_far.given;
+  limits = so_far.given.limits;
+  groups = so_far.groups;
+  plans = so_far.plans;
+  turns = so_far.turns;
+}

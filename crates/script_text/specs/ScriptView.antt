@@ -1,4 +1,4 @@
--- How a script keeps its turns.
+-- How a script keeps its groups, plans and turns.
 use Rattle.std.specs.Prelude.{ℕ, List, map, Vec}
 use Rattle.std.specs.declared.alloc.Global.{Global}
 use Rattle.ev_types.specs.declared.turn_line.TurnLine.{TurnLine}
@@ -10,4 +10,10 @@ abbrev pub turn_values : List (ℕ × Vec TurnLine Global) → List ScriptTurn
 turn_values turns = map (λ turn. (turn.0, turn.1.items)) turns
 
 abbrev pub script_value : Inside → ScriptValue
-script_value s = record { settings = s.settings; turns = turn_values s.turns.items }
+script_value s = record {
+  settings = s.settings;
+  limits = s.limits;
+  groups = s.groups.items;
+  plans = s.plans.items;
+  turns = turn_values s.turns.items;
+}

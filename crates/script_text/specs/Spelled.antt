@@ -32,7 +32,7 @@ lines_read so_far before (line ∷ more) =
 
 -- a script of which no line was read
 abbrev pub no_line : SoFar
-no_line = record { given = nothing_given; turns = [] }
+no_line = record { given = nothing_given; groups = []; plans = []; turns = [] }
 
 -- the whole script, where no line follows, or the same number
 abbrev pub whole_of : Result SoFar ℕ → Result ScriptValue ℕ

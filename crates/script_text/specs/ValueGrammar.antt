@@ -8,6 +8,8 @@ use Rattle.token_bucket.specs.declared.limit.Dir.{Dir}
 use Rattle.token_bucket.specs.declared.limit.Dir.TheVariants as dir
 use Rattle.ev_types.specs.declared.why.Why.{Why}
 use Rattle.ev_types.specs.declared.why.Why.TheVariants as why
+use Rattle.ev_types.specs.declared.why.WhyKind.{WhyKind}
+use Rattle.ev_types.specs.declared.why.WhyKind.TheVariants as why_kind
 use Rattle.ev_types.specs.declared.why.Cause.{Cause}
 use Rattle.ev_types.specs.declared.why.Cause.TheVariants as cause
 use Rattle.ev_types.specs.declared.answer.ConnAnswer.{ConnAnswer}
@@ -97,6 +99,16 @@ why_of word =
     else (if bytes_eq word (codes "write") then Some why.Write
     else (if bytes_eq word (codes "timer") then Some why.Timer
     else event_of word)))
+
+-- a reason without its flags
+abbrev pub why_kind_of : List ℕ → Option WhyKind
+why_kind_of word =
+    if bytes_eq word (codes "connected") then Some why_kind.Connected
+    else (if bytes_eq word (codes "read") then Some why_kind.Read
+    else (if bytes_eq word (codes "write") then Some why_kind.Write
+    else (if bytes_eq word (codes "timer") then Some why_kind.Timer
+    else (if bytes_eq word (codes "event") then Some why_kind.Event
+    else None))))
 
 -- a cause; that of a filter has the place of its bad byte
 abbrev pub filter_of : List ℕ → Option Cause

@@ -1,11 +1,11 @@
-// Reads the words of an ask.
+// Reads the words of an ask, of a trace or of a script.
 ghost use Rattle.std.specs.Prelude.{◌≡◌, ◌^◌, ◌≤◌, map, IfSome};
 ghost use Rattle.script_text.specs.ValueGrammar.{only_dir, only_number};
-ghost use Rattle.script_text.specs.Limits.{limit_of};
-ghost use Rattle.script_text.specs.ActGrammar.{bare as bare_ask, marks_ask, timeouts_ask, limit_said, rate_ask, verb_of, ask_by, act_of};
+ghost use Rattle.script_text.specs.Limits.{limit_of, limit_said};
+ghost use Rattle.script_text.specs.ActGrammar.{bare as bare_ask, marks_ask, timeouts_ask, rate_ask, verb_of, ask_by, act_of, is_written, is_nop, planned_ask};
 
 use crate::value_words::{read_dir, read_end};
-use crate::words::{is_word, number};
+use crate::words::{MAX_NUMBER, is_word, number};
 use ev_types::{Act, Dir, LimitCfg, SideId};
 
 /// The greatest number that a group can have.
@@ -77,6 +77,38 @@ pub fn read_act(words: &[&[u8]]) -> Option<Act>
             ask_of_end(verb, end, more)
         }
         _ => None,
+    }
+}
+
+/// What these words of a script plan: an ask, or nothing.
+pub fn read_planned(words: &[&[u8]]) -> Option<Option<Act>>
+    ensures { result ≡ planned_ask (map (λ w. w.now) words.now) }
+{
+    if asks_nothing(words) {
+        return Some(None);
+    }
+    let act = read_act(words)?;
+    is_written(act).then_some(Some(act))
+}
+
+fn asks_nothing(words: &[&[u8]]) -> bool
+    ensures { result ≡ is_nop (map (λ w. w.now) words.now) }
+{
+    match words {
+        [word] => is_word(word, "nop"),
+        _ => false,
+    }
+}
+
+/// Are the numbers of an ask within those that a script may have?
+fn is_written(act: Act) -> bool
+    ensures { result ≡ is_written act }
+{
+    match act {
+        Act::Marks(_, _, low, high) => low <= MAX_NUMBER && high <= MAX_NUMBER,
+        Act::Timeouts(_, read, write) => read <= MAX_NUMBER && write <= MAX_NUMBER,
+        Act::Timer(_, ms) => ms <= MAX_NUMBER,
+        _ => true,
     }
 }
 
@@ -157,7 +189,7 @@ fn rate(end: SideId, more: &[&[u8]]) -> Option<Act>
 }
 
 /// The limit of read rate, read burst, write rate, write burst and tick.
-fn limit(words: &[&[u8]]) -> Option<LimitCfg>
+pub fn limit(words: &[&[u8]]) -> Option<LimitCfg>
     ensures { result ≡ limit_said (map (λ w. w.now) words.now) }
 {
     let [read_rate, read_burst, write_rate, write_burst, tick] = words else {

@@ -6,10 +6,13 @@ mod act_words;
 mod entry_text;
 mod entry_words;
 mod laws;
+mod limits;
 mod line;
+mod plan;
 mod push;
 mod read;
 mod room;
+mod runnable;
 mod script;
 mod set_words;
 mod setting;
@@ -26,9 +29,12 @@ pub use laws::{
     lines_are_parted, numbers_are_decimal, phrase_has_its_words, refused_at_first_bad,
     trace_refused_at_first_bad, written_is_read,
 };
+pub use limits::{GroupSet, Limits};
+pub use plan::PlanItem;
 pub use read::read_script;
 pub use ev_types::{Marks, Settings, Timeouts};
 pub use room::{LINE_ROOM, make_room};
+pub use runnable::read_runnable_script;
 pub use script::{Script, ScriptFault};
 pub use trace::read_trace;
 pub use value_words::filter_named;

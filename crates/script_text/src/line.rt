@@ -2,12 +2,13 @@
 ghost use Rattle.std.specs.Prelude.{◌≡◌, ◌∷◌, [], IfOk, map};
 ghost use Rattle.script_text.specs.Grammar.{keyword_of, made_of, more_of, is_comment, said, said_by};
 
+use crate::plan::{PlanItem, on_line};
 use crate::set_words::set_line;
 use crate::setting::Setting;
 use crate::value_words::{read_end, read_link};
 use crate::words::{hex_bytes, is_word, number};
 use crate::{ByteList, TurnLine};
-use ev_types::NoMemory;
+use ev_types::{NoMemory, SideId};
 use std::alloc::Global;
 
 /// The last moment of a script, in milliseconds.
@@ -32,6 +33,7 @@ pub enum Keyword {
     WriteFail,
     Spur,
     PollFail,
+    On,
 }
 
 /// What a line says.
@@ -41,6 +43,8 @@ pub enum Keyword {
 pub enum Line {
     /// The run is started with this.
     Set(Setting),
+    /// For the hook of this side something is planned.
+    Plan(SideId, PlanItem),
     /// A turn begins at this moment.
     At(u64),
     /// A line of the turn that began last.
@@ -74,6 +78,8 @@ fn read_keyword(word: &[u8]) -> Option<Keyword>
         Some(Keyword::Spur)
     } else if is_word(word, "pollfail") {
         Some(Keyword::PollFail)
+    } else if is_word(word, "on") {
+        Some(Keyword::On)
     } else {
         None
     }
@@ -139,6 +145,7 @@ fn line_by(alloc: Global, keyword: Keyword, more: &[&[u8]]) -> Result<Option<Lin
         Keyword::WriteFail => Ok(write_fail_line(more)),
         Keyword::Spur => Ok(spur_line(more)),
         Keyword::PollFail => Ok(poll_fail_line(more)),
+        Keyword::On => Ok(on_line(more)),
     }
 }
 

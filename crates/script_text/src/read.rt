@@ -3,11 +3,13 @@ ghost use Rattle.std.specs.Prelude.{◌≡◌, ◌≤◌, ◌<◌, ◌*◌, not,
 ghost use Rattle.ev_types.specs.Sides.{number};
 ghost use Rattle.ev_types.specs.ScriptTurn.{lines_of};
 ghost use Rattle.script_text.specs.Brought.{all_brought};
-ghost use Rattle.script_text.specs.Order.{extended, with_line, may_follow, is_known, is_undecided, is_ended};
+ghost use Rattle.script_text.specs.Order.{extended, may_be_set, with_line, may_follow, is_known, is_undecided, is_ended};
 ghost use Rattle.script_text.specs.Script.{whole};
 ghost use Rattle.script_text.specs.Spelled.{line_read, no_line, script_of, IsTold};
 
+use crate::limits::GroupSet;
 use crate::line::{Line, line_of};
+use crate::plan::PlanItem;
 use crate::setting::{Given, Setting};
 use crate::tally::{count_line, count_link, kept};
 use crate::words::{first_piece, is_plain_text, told, words_of};
@@ -28,6 +30,8 @@ const MAX_LINKS: usize = 256;
 #[derive(Drop)]
 pub struct Reading {
     given: Given,
+    groups: Vec<GroupSet>,
+    plans: Vec<(SideId, PlanItem)>,
     turns: Vec<(u64, Vec<TurnLine>)>,
     /// Whether the line that opened a link said wait.
     links: Vec<bool>,
@@ -54,6 +58,8 @@ impl Reading {
     {
         Reading {
             given: Given::nothing(),
+            groups: Vec::new(alloc),
+            plans: Vec::new(alloc),
             turns: Vec::new(alloc),
             links: Vec::new(alloc),
             ended: Vec::new(alloc),
@@ -81,7 +87,8 @@ impl Reading {
             ≡ extended self.old line) }
     {
         match line {
-            Line::Set(setting) => Ok(self.set(setting)),
+            Line::Set(setting) => self.set(setting),
+            Line::Plan(side, item) => self.plan(side, item),
             Line::At(ms) => self.begin_turn(alloc, ms),
             Line::Within(line) => {
                 if self.is_empty() || !self.may_follow(&line) {
@@ -101,10 +108,28 @@ impl Reading {
         self.turns.is_empty()
     }
 
-    fn set(&mut self, setting: Setting) -> bool
-        ensures { (if result then Some self.new else None) ≡ extended self.old (Line.Set setting) }
+    fn set(&mut self, setting: Setting) -> Result<bool, NoMemory>
+        ensures { IfOk result (λ fits. (if fits then Some self.new else None)
+            ≡ extended self.old (Line.Set setting)) }
     {
-        self.is_empty() && self.given.take(setting)
+        if !self.is_empty() || !may_be_set(&self.groups, setting) {
+            return Ok(false);
+        }
+        if let Setting::Group(_, group) = setting {
+            self.groups.push(group)?;
+        }
+        Ok(self.given.take(setting))
+    }
+
+    fn plan(&mut self, side: SideId, item: PlanItem) -> Result<bool, NoMemory>
+        ensures { IfOk result (λ fits. (if fits then Some self.new else None)
+            ≡ extended self.old (Line.Plan side item)) }
+    {
+        if !self.is_empty() {
+            return Ok(false);
+        }
+        self.plans.push((side, item))?;
+        Ok(true)
     }
 
     fn begin_turn(&mut self, alloc: Global, ms: u64) -> Result<bool, NoMemory>
@@ -162,6 +187,8 @@ impl Reading {
         requires follows { may_follow (lines_of self.old.turns) line ≡ true }
         ensures turns { OnOk result (self.new.turns ≡ with_line self.old.turns line) }
         ensures given { OnOk result (self.new.given ≡ self.old.given) }
+        ensures groups { OnOk result (self.new.groups ≡ self.old.groups) }
+        ensures plans { OnOk result (self.new.plans ≡ self.old.plans) }
     {
         let last = self.turns.len() - 1;
         self.links.reserve(1)?;
@@ -180,8 +207,22 @@ impl Reading {
     {
         Script {
             settings: self.given.settings(),
+            limits: self.given.limits,
+            groups: self.groups,
+            plans: self.plans,
             turns: self.turns,
         }
+    }
+}
+
+/// May this setting stand behind these groups?
+fn may_be_set(groups: &[GroupSet], setting: Setting) -> bool
+    ensures { result ≡ may_be_set groups.now setting }
+{
+    match setting {
+        Setting::Group(number, _) => number as usize == groups.len(),
+        Setting::Member(_, number) => (number as usize) < groups.len(),
+        _ => true,
     }
 }
 

@@ -3,18 +3,26 @@
 ghost use Rattle.std.specs.Prelude.{◌≡◌};
 ghost use Rattle.script_text.specs.declared.script.ScriptFault.TheVariants.{Memory};
 
-use ev_types::{NoMemory, TurnLine};
+use crate::limits::{GroupSet, Limits};
+use crate::plan::PlanItem;
+use ev_types::{NoMemory, SideId, TurnLine};
 use ev_types::Settings;
 use std::alloc::{AllocError, AllocFailed};
 use std::marker::Model;
 use thiserror::Error;
 
-/// A script: the settings of its run, and its turns, each with its moment in milliseconds and its lines.
+/// A script: the settings of its run, its limits and groups, what is planned for its hooks, and its turns, each with its moment in
+/// milliseconds and its lines.
 ///
 /// Own.
 #[derive(Drop)]
 pub struct Script {
     pub settings: Settings,
+    pub limits: Limits,
+    /// The groups, by their numbers.
+    pub groups: Vec<GroupSet>,
+    /// What is planned for the hooks of sides, in the order of its lines. A side of which nothing is planned has no hook.
+    pub plans: Vec<(SideId, PlanItem)>,
     pub turns: Vec<(u64, Vec<TurnLine>)>,
 }
 

@@ -1,7 +1,9 @@
 // Reads the words of a line that sets something.
 ghost use Rattle.std.specs.Prelude.{◌≡◌, map};
-ghost use Rattle.script_text.specs.Grammar.{hold_of, said_by, set_by, setting_name_of, side_marks_of, side_timeouts_of};
+ghost use Rattle.script_text.specs.Grammar.{group_of, group_set_of, hold_of, said_by, set_by, setting_name_of, share_of, side_marks_of, side_timeouts_of};
 
+use crate::act_words::limit;
+use crate::limits::GroupSet;
 use crate::line::{Keyword, Line};
 use crate::setting::{Setting, SettingName};
 use crate::value_words::{filter_named, read_side};
@@ -14,6 +16,12 @@ const MAX_MARK: u64 = 1 << 24;
 
 /// The longest timeout, in milliseconds.
 const MAX_TIMEOUT: u64 = 1 << 40;
+
+/// The greatest number of a group.
+const MAX_GROUP: u64 = 63;
+
+/// The greatest least share, in bytes.
+const MAX_SHARE: u64 = 1 << 40;
 
 fn read_name(word: &[u8]) -> Option<SettingName>
     ensures { result ≡ setting_name_of word.now }
@@ -32,6 +40,12 @@ fn read_name(word: &[u8]) -> Option<SettingName>
         Some(SettingName::Filter(Side::Out, Dir::Read))
     } else if is_word(word, "out-write") {
         Some(SettingName::Filter(Side::Out, Dir::Write))
+    } else if is_word(word, "rate") {
+        Some(SettingName::Rate)
+    } else if is_word(word, "group") {
+        Some(SettingName::Group)
+    } else if is_word(word, "member") {
+        Some(SettingName::Member)
     } else {
         None
     }
@@ -54,6 +68,9 @@ fn read_setting(name: SettingName, words: &[&[u8]]) -> Option<Setting>
         SettingName::Filter(side, dir) => set_filter(side, dir, words),
         SettingName::Marks => set_marks(words),
         SettingName::Timeouts => set_timeouts(words),
+        SettingName::Rate => set_rate(words),
+        SettingName::Group => set_group(words),
+        SettingName::Member => set_member(words),
     }
 }
 
@@ -132,4 +149,47 @@ fn read_timeouts(read: &[u8], write: &[u8]) -> Option<Timeouts>
     let read_ms = number(read, MAX_TIMEOUT)?;
     let write_ms = number(write, MAX_TIMEOUT)?;
     Some(Timeouts { read_ms, write_ms })
+}
+
+fn set_rate(words: &[&[u8]]) -> Option<Setting>
+    ensures { result ≡ set_by SettingName.Rate (map (λ w. w.now) words.now) }
+{
+    let (side, numbers) = words.split_first()?;
+    let side = read_side(side)?;
+    Some(Setting::Rate(side, limit(numbers)?))
+}
+
+fn set_group(words: &[&[u8]]) -> Option<Setting>
+    ensures { result ≡ set_by SettingName.Group (map (λ w. w.now) words.now) }
+{
+    let [number, rr, rb, wr, wb, tick, share] = words else {
+        return None;
+    };
+    let number = read_group(number)?;
+    let cfg = limit(&[*rr, *rb, *wr, *wb, *tick])?;
+    let share = read_share(share)?;
+    Some(Setting::Group(number, GroupSet { cfg, share }))
+}
+
+fn set_member(words: &[&[u8]]) -> Option<Setting>
+    ensures { result ≡ set_by SettingName.Member (map (λ w. w.now) words.now) }
+{
+    let [side, group] = words else {
+        return None;
+    };
+    let side = read_side(side)?;
+    Some(Setting::Member(side, read_group(group)?))
+}
+
+fn read_group(word: &[u8]) -> Option<u32>
+    ensures { result ≡ group_of word.now }
+{
+    Some(number(word, MAX_GROUP)? as u32)
+}
+
+fn read_share(word: &[u8]) -> Option<u64>
+    ensures { result ≡ share_of word.now }
+{
+    let bytes = number(word, MAX_SHARE)?;
+    (bytes > 0).then_some(bytes)
 }

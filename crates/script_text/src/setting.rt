@@ -2,7 +2,8 @@
 ghost use Rattle.std.specs.Prelude.{◌≡◌, Some, None, is_none, if◌then◌else◌};
 ghost use Rattle.script_text.specs.Given.{nothing_given, settings_by, with_setting};
 
-use ev_types::{Dir, FilterKind, Side};
+use crate::limits::{GroupSet, Limits};
+use ev_types::{Dir, FilterKind, LimitCfg, Side};
 use ev_types::{Marks, Settings, Timeouts};
 
 /// Which setting a line names.
@@ -15,6 +16,9 @@ pub enum SettingName {
     Filter(Side, Dir),
     Marks,
     Timeouts,
+    Rate,
+    Group,
+    Member,
 }
 
 /// What one line sets.
@@ -27,9 +31,15 @@ pub enum Setting {
     Filter(Side, Dir, FilterKind),
     Marks(Side, Marks),
     Timeouts(Side, Timeouts),
+    /// The limit of the sides of this name.
+    Rate(Side, LimitCfg),
+    /// A group, with its number.
+    Group(u32, GroupSet),
+    /// The sides of this name are members of the group with this number.
+    Member(Side, u32),
 }
 
-/// What the lines so far give; none where no line has set it.
+/// What the lines so far give; none where no line has set it. The groups are kept elsewhere.
 ///
 /// Own.
 #[derive(Clone, Copy)]
@@ -43,6 +53,7 @@ pub struct Given {
     pub out_marks: Option<Marks>,
     pub in_timeouts: Option<Timeouts>,
     pub out_timeouts: Option<Timeouts>,
+    pub limits: Limits,
 }
 
 impl Given {
@@ -60,10 +71,11 @@ impl Given {
             out_marks: None,
             in_timeouts: None,
             out_timeouts: None,
+            limits: Limits::none(),
         }
     }
 
-    /// Takes one setting more, and tells whether it was not given before.
+    /// Takes one setting more, and tells whether it was not given before. A group has a number of its own, so it never was.
     pub fn take(&mut self, setting: Setting) -> bool
         ensures { (if result then Some self.new else None) ≡ with_setting self.old setting }
     {
@@ -77,6 +89,11 @@ impl Given {
             Setting::Marks(Side::Out, marks) => give(&mut self.out_marks, marks),
             Setting::Timeouts(Side::In, timeouts) => give(&mut self.in_timeouts, timeouts),
             Setting::Timeouts(Side::Out, timeouts) => give(&mut self.out_timeouts, timeouts),
+            Setting::Rate(Side::In, limit) => give(&mut self.limits.in_rate, limit),
+            Setting::Rate(Side::Out, limit) => give(&mut self.limits.out_rate, limit),
+            Setting::Member(Side::In, group) => give(&mut self.limits.in_group, group),
+            Setting::Member(Side::Out, group) => give(&mut self.limits.out_group, group),
+            Setting::Group(..) => true,
         }
     }
 

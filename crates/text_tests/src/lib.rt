@@ -8,6 +8,8 @@ mod entry_lines;
 #[cfg(test)]
 mod limits;
 #[cfg(test)]
+mod plan_lines;
+#[cfg(test)]
 mod scribes;
 #[cfg(test)]
 mod script_lines;

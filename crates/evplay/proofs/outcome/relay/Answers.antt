@@ -5,16 +5,16 @@ use Rattle.evplay.proofs.TimeoutLemmas.{timeouts-fit}
 use Rattle.evplay.proofs.outcome.relay.Goals as goal
 
 pub run-requires-clause-few : goal.run-requires-clause-few
-run-requires-clause-few c = few-turns c.args.text.now c.in-Ok.script c.in-Ok.ensures.script
+run-requires-clause-few c = few-turns c.args.text.now c.in-Ok.script c.in-Ok.ensures.spelled
 
 pub run-requires-clause-names : goal.run-requires-clause-names
-run-requires-clause-names c = spelled_names_opened c.args.text.now c.in-Ok.script c.in-Ok.ensures.script
+run-requires-clause-names c = spelled_names_opened c.args.text.now c.in-Ok.script c.in-Ok.ensures.spelled
 
 pub run-requires-clause-brings : goal.run-requires-clause-brings
-run-requires-clause-brings c = brings-fit c.args.text.now c.in-Ok.script c.in-Ok.ensures.script c.requires c.in-Ok.ensures.bytes
+run-requires-clause-brings c = brings-fit c.args.text.now c.in-Ok.script c.in-Ok.ensures.spelled c.requires c.in-Ok.ensures.bytes
 
 pub run-requires-clause-links : goal.run-requires-clause-links
-run-requires-clause-links c = links-usual c.args.text.now c.in-Ok.script c.in-Ok.ensures.script
+run-requires-clause-links c = links-usual c.args.text.now c.in-Ok.script c.in-Ok.ensures.spelled
 
 pub run-requires-clause-timeouts : goal.run-requires-clause-timeouts
-run-requires-clause-timeouts c = timeouts-fit c.args.text.now c.in-Ok.script c.in-Ok.ensures.script
+run-requires-clause-timeouts c = timeouts-fit c.args.text.now c.in-Ok.script c.in-Ok.ensures.spelled

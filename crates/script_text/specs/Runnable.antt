@@ -1,0 +1,45 @@
+-- The lines of a script that no run obeys yet: those of limits, groups, members and plans. Until it does, a script is refused at the first
+-- of them.
+use Rattle.std.specs.Prelude.{◌≡◌, ℕ, ◌+◌, min, List, [], ◌∷◌, Bool, true, false, if◌then◌else◌, Option, Some, None, Result, Ok, Err}
+use Rattle.script_text.specs.declared.line.Line.{Line}
+use Rattle.script_text.specs.declared.line.Line.TheVariants.{Set, Plan}
+use Rattle.script_text.specs.declared.setting.Setting.TheVariants.{Rate, Group, Member}
+use Rattle.script_text.specs.Given.{no_limits}
+use Rattle.script_text.specs.Script.{ScriptValue}
+use Rattle.script_text.specs.Pieces.{lines, words}
+use Rattle.script_text.specs.Grammar.{said}
+use Rattle.script_text.specs.Spelled.{script_of}
+
+-- does a line say what no run obeys yet
+abbrev pub is_for_later : Line → Bool
+is_for_later (Set (Rate side limit)) = true
+is_for_later (Set (Group number group)) = true
+is_for_later (Set (Member side number)) = true
+is_for_later (Plan side item) = true
+is_for_later _ = false
+
+abbrev pub says_later : Option Line → Bool
+says_later None = false
+says_later (Some line) = is_for_later line
+
+-- the number of the first such line of some lines, counted from 1. So many lines stand before them.
+abbrev pub first_for_later : ℕ → List (List ℕ) → Option ℕ
+first_for_later before [] = None
+first_for_later before (line ∷ more) =
+    if says_later (said (words line)) then Some (before + 1) else first_for_later (before + 1) more
+
+-- what a text with this first such line comes to: it is refused there, or at a bad line before
+abbrev pub refused_at : Option ℕ → Result ScriptValue ℕ → Result ScriptValue ℕ
+refused_at None spelled = spelled
+refused_at (Some line) (Ok script) = Err line
+refused_at (Some line) (Err bad) = Err (min line bad)
+
+-- the script that a text spells, where a run obeys all its lines, or the number of the first that is bad or not obeyed yet
+abbrev pub runnable_script_of : List ℕ → Result ScriptValue ℕ
+runnable_script_of text = refused_at (first_for_later 0 (lines text)) (script_of text)
+
+-- a script with no limit, group, member and plan
+pub record IsRunnable (script : ScriptValue) : Type 0 where
+  pub limits : script.limits ≡ no_limits
+  pub groups : script.groups ≡ []
+  pub plans : script.plans ≡ []
