@@ -9,6 +9,8 @@ Stages, each over a relay of its own:
   refused   a target that refuses: the client is closed, and the relay goes on
   address   it listens at the address that it was given and at no other, connects to that of the target, and waits without the processor
   many      1,100 links, one after the other, each to the target, with bytes of its own both ways
+  halves    1 MiB each way, the second one sent only once the first one and its end came, in both orders
+  starved   with few descriptors it ends at once and says so, or it serves
   stopped   a reader that stops for seconds: memory stays within the hold mark, the processor is idle, then all arrives
   vanished  clients that vanish while bytes come for them
   short     links beyond the descriptors: each one in the end
@@ -31,6 +33,15 @@ def free_port():
     with socket.socket() as s:
         s.bind(('127.0.0.1', 0))
         return s.getsockname()[1]
+
+
+def refusing_port():
+    """A port at which nobody listens, below those that the system gives out by itself."""
+    for port in range(1, 1024):
+        with socket.socket() as s:
+            if s.connect_ex(('127.0.0.1', port)):
+                return port
+    fail('all low ports are taken')
 
 
 def two_servers(one, two):
@@ -208,7 +219,7 @@ async def reset(program, rng, links, most):
 
 
 async def refused(program, rng, links):
-    relay = Relay(program, free_port(), links)
+    relay = Relay(program, refusing_port(), links)
     for _ in range(links):
         reader, writer = await asyncio.open_connection('127.0.0.1', relay.port)
         try:
@@ -270,6 +281,64 @@ async def many(program, rng, links):
     if lines != {'done': sorted((up, down, down, up) for up, down in sums)}:
         fail('the report of many links tells other numbers')
     return f'{links} links'
+
+
+async def halves(program, rng, size):
+    """Each half is closed by itself, and the other one goes on behind that."""
+    for client_first in (True, False):
+        server = socket.create_server(('127.0.0.1', 0))
+        relay = Relay(program, server.getsockname()[1], 1)
+        near = await asyncio.open_connection('127.0.0.1', relay.port)
+        peer, _ = await asyncio.to_thread(server.accept)
+        far = await asyncio.open_connection(sock=peer)
+        ends = (near, far) if client_first else (far, near)
+        for (_, writer), (reader, _) in (ends, ends[::-1]):
+            data = rng.randbytes(size)
+            await asyncio.gather(send(writer, data, rng), take(reader, data, 'a half'))
+        for _, writer in ends:
+            writer.close()
+        if await asyncio.to_thread(relay.report) != [f'link 0 done in {size} {size} out {size} {size}', 'done 1 open 0 gone 0']:
+            fail('the report of two halves tells other numbers')
+    return f'{size / MIB:.0f} MiB each way, twice'
+
+
+async def starved(program):
+    """With each number of descriptors: an open fault, with its line, or a link that is served. The least that serves is told."""
+    least = None
+    for descriptors in range(4, 13):
+        server = socket.create_server(('127.0.0.1', 0))
+        port = free_port()
+        command = [program, '--listen', f'127.0.0.1:{port}', '--to', f'127.0.0.1:{server.getsockname()[1]}', '--links', '1']
+        limit = (descriptors, descriptors)
+        process = subprocess.Popen(command, stdout=subprocess.PIPE, stderr=subprocess.PIPE, stdin=subprocess.DEVNULL,
+                                   preexec_fn=lambda: resource.setrlimit(resource.RLIMIT_NOFILE, limit))
+        end = time.time() + 5
+        while process.poll() is None and not is_listening(port) and time.time() < end:
+            await asyncio.sleep(.01)
+        await asyncio.sleep(.1)
+        if process.poll() is None:
+            least = least or descriptors
+            near = socket.create_connection(('127.0.0.1', port))
+            near.sendall(b'hello')
+            server.settimeout(5)
+            try:
+                far, _ = await asyncio.to_thread(server.accept)
+            except TimeoutError:
+                fail(f'with {descriptors} descriptors it starts and serves nobody')
+            if await asyncio.to_thread(far.recv, 5, socket.MSG_WAITALL) != b'hello':
+                fail(f'with {descriptors} descriptors bytes are lost')
+            far.close()
+            near.close()
+            process.communicate(timeout=20)
+        elif least:
+            fail(f'it serves with {least} descriptors and not with {descriptors}')
+        else:
+            out, err = process.communicate()
+            if process.returncode != 9 or err != b'open fault\n' or out != b'done 0 open 0 gone 0\n':
+                fail(f'with {descriptors} descriptors it ends with {process.returncode}: {err.decode()}')
+    if not least:
+        fail('it serves with no number of descriptors')
+    return f'{least} descriptors serve, fewer are told'
 
 
 async def stopped(program, rng, size, seconds, words):
@@ -379,6 +448,8 @@ async def main():
         ('refused', refused(program, rng, 5)),
         ('address', address(program, 1)),
         ('many', many(program, rng, 1100)),
+        ('halves', halves(program, rng, MIB)),
+        ('starved', starved(program)),
         ('stopped', stopped(program, rng, (8 if quick else 64) * MIB, 1 if quick else 5, ())),
         ('vanished', vanished(program, rng, 5 if quick else 40)),
         ('short', short(program, rng, 20 if quick else 60, 24 if quick else 60, 20_000)),

@@ -3,7 +3,7 @@ use Rattle.std.proofs.Common.{◌≡◌, ◌∙◌, ◌≤◌, ℕ, Bool, true, 
 use Rattle.std.proofs.lemmas.Bool.{cases_eq}
 use Rattle.mio.specs.declared.event.event.Event.{Event}
 use Rattle.mio_port.specs.declared.end.End.{End}
-use Rattle.mio_port.specs.Door.{pause_after}
+use Rattle.mio_port.specs.Acceptor.{pause_after}
 use Rattle.mio_port.specs.EndLeft.{AllHeard, Heard, LeftAt}
 use Rattle.mio_port.specs.EndPlaces.{PlaceWent}
 use Rattle.mio_port.specs.OneEnd.{noticed_end}

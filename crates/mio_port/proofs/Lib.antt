@@ -1,3 +1,4 @@
+pub mod Walks
 pub mod WantMarkLemmas
 pub mod TableMarkLemmas
 pub mod HeardLemmas

@@ -3,11 +3,11 @@ use Rattle.std.specs.Prelude.{◌≡◌, ◌≤◌, ℕ, ◌-◌, Bool, true, fa
 use Rattle.mio.specs.Events.{items}
 use Rattle.ev_port.specs.declared.port.Polled.{Polled}
 use Rattle.ev_port.specs.Polling.{is_failed_poll}
-use Rattle.mio_port.specs.declared.door.Door.{Door}
+use Rattle.mio_port.specs.declared.acceptor.Acceptor.{Acceptor}
 use Rattle.mio_port.specs.declared.end.End.{End}
 use Rattle.mio_port.specs.declared.kernel.Kernel.{Kernel}
 use Rattle.mio_port.specs.declared.mio_port.MioPort.{MioPort}
-use Rattle.mio_port.specs.Door.{after_time, is_open}
+use Rattle.mio_port.specs.Acceptor.{after_time, is_open}
 use Rattle.mio_port.specs.Reports.{AsReported}
 use Rattle.mio_port.specs.Waiting.{looks_after, is_due, longest_wait}
 
@@ -41,7 +41,7 @@ Looked is_any most (Some was) now_kernel old new ready now_ready worked =
 pub record PollLooked {R : Type 0} (any_ready accept : Bool) (timeout : Option ℕ) (old new : MioPort R) (answer : Polled) : Type 0 where
   pub time : ℕ
   pub later : old.clock.last ≤ time
-  pub looked : let door : Door = after_time old.door time in
-      let is_any : Bool = any_ready || (accept && is_open door) in
-      Looked is_any (longest_wait is_any accept timeout (option_map (λ to. to - time) door.paused_to)) old.kernel new.kernel
-      old.ends.ends.items new.ends.ends.items old.door.ready new.door.ready (not (is_failed_poll answer))
+  pub looked : let acceptor : Acceptor = after_time old.acceptor time in
+      let is_any : Bool = any_ready || (accept && is_open acceptor) in
+      Looked is_any (longest_wait is_any accept timeout (option_map (λ to. to - time) acceptor.paused_to)) old.kernel new.kernel
+      old.ends.ends.items new.ends.ends.items old.acceptor.ready new.acceptor.ready (not (is_failed_poll answer))

@@ -15,8 +15,8 @@ use Rattle.mio_port.specs.declared.attempt.Attempt.{Attempt}
 use Rattle.mio_port.specs.declared.attempt.Attempt.TheVariants as attempt
 use Rattle.mio_port.specs.declared.end.Connection.{Connection}
 use Rattle.mio_port.specs.declared.end.Connection.TheVariants as connection
-use Rattle.mio_port.specs.declared.end.Check.{Check}
-use Rattle.mio_port.specs.declared.end.Check.TheVariants as check
+use Rattle.mio_port.specs.declared.check.Check.{Check}
+use Rattle.mio_port.specs.declared.check.Check.TheVariants as check
 
 -- an error that would have blocked, one that was interrupted, and any other
 abbrev pub attempt_of_kind : ErrorKind → Attempt

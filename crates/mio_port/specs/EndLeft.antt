@@ -1,6 +1,7 @@
 -- What a call leaves of the ends: what its answer tells of the end that it names, and all others as they were. A poll takes nothing
 -- from an end.
-use Rattle.std.specs.Prelude.{◌≡◌, ◌≢◌, ◌+◌, ◌*◌, ⊤, ℕ, Bool, true, false, ◌||◌, List, Option, Some, None, Result, Ok, Err, MatchOption, slice_index_or}
+use Rattle.std.specs.Prelude.{◌≡◌, ◌≢◌, ◌⊎◌, ◌+◌, ◌*◌, ⊤, ℕ, Bool, true, false, List, Option, Some, None, Result, Ok, Err, MatchOption, slice_index_or}
+use Rattle.std.specs.declared.net.socket_addr.SocketAddr.{SocketAddr}
 use Rattle.ev_types.specs.declared.answer.ConnAnswer.{ConnAnswer}
 use Rattle.ev_types.specs.declared.answer.ConnAnswer.TheVariants as conn
 use Rattle.ev_types.specs.declared.answer.ReadAnswer.{ReadAnswer}
@@ -9,41 +10,43 @@ use Rattle.ev_types.specs.declared.answer.WriteAnswer.{WriteAnswer}
 use Rattle.ev_types.specs.declared.answer.WriteAnswer.TheVariants as write
 use Rattle.ev_port.specs.declared.port.Accepted.{Accepted}
 use Rattle.ev_port.specs.declared.port.Accepted.TheVariants as accepted
+use Rattle.mio_port.specs.declared.acceptor.NoLink.{NoLink}
 use Rattle.mio_port.specs.declared.attempt.Attempt.TheVariants as attempt
-use Rattle.mio_port.specs.declared.door.Miss.{Miss}
+use Rattle.mio_port.specs.declared.check.Check.TheVariants as check
 use Rattle.mio_port.specs.declared.end.Connection.{Connection}
 use Rattle.mio_port.specs.declared.end.Connection.TheVariants as connection
 use Rattle.mio_port.specs.declared.end.End.{End}
-use Rattle.mio_port.specs.OneEnd.{faulty, fresh, read_end, written_end}
+use Rattle.mio_port.specs.declared.socket_call.SocketCall.TheVariants as call
+use Rattle.mio_port.specs.OneEnd.{faulty, fresh, read_end, written_end, checked_end}
+use Rattle.mio_port.specs.Sockets.{first_calls}
 
--- nothing changed but that the end may be ready for reading no more
-pub record MayBlockReads (old new : End) : Type 0 where
-  pub rest : new ≡ record old { read_ready = new.read_ready }
-  pub not_set : new.read_ready ≡ true → old.read_ready ≡ true
+-- One of these changes was made.
+abbrev pub OneOf : {T : Type 0} → T → T → T → T → Type 0
+OneOf one two three new = (new ≡ one) ⊎ ((new ≡ two) ⊎ (new ≡ three))
 
--- nothing changed but that the end may be ready for writing no more
-pub record MayBlockWrites (old new : End) : Type 0 where
-  pub rest : new ≡ record old { write_ready = new.write_ready }
-  pub not_set : new.write_ready ≡ true → old.write_ready ≡ true
+-- The end behind one read of its connection that left its room so, by the answer: one that filled the room leaves it ready. One that came
+-- to nothing would have blocked, was interrupted, or found no connection.
+abbrev pub ReadLeft : List ℕ → ReadAnswer → End → End → Type 0
+ReadLeft into (read.Got n) old new = new ≡ read_end old (attempt.Moved n) into
+ReadLeft into read.Ended old new = new ≡ read_end old (attempt.Moved 0) into
+ReadLeft into read.NotYet old new =
+    OneOf (read_end old attempt.WouldBlock into) (read_end old attempt.Interrupted into) (read_end old attempt.Absent into) new
+ReadLeft into read.Failed old new = new ≡ read_end old attempt.Failed into
 
--- the end behind a read with so much room, by its answer: one that filled the room leaves it ready
-abbrev pub ReadLeft : ℕ → ReadAnswer → End → End → Type 0
-ReadLeft room (read.Got n) old new = new ≡ read_end old (attempt.Moved n) room
-ReadLeft room read.Ended old new = new ≡ read_end old (attempt.Moved 0) room
-ReadLeft room read.NotYet old new = MayBlockReads old new
-ReadLeft room read.Failed old new = new ≡ faulty old
+-- The end behind one write of these bytes to its connection, by the answer: one that took them all leaves it ready. A write that took none
+-- failed.
+abbrev pub WriteLeft : List ℕ → WriteAnswer → End → End → Type 0
+WriteLeft from (write.Took n) old new = new ≡ written_end old (attempt.Moved n) from
+WriteLeft from write.NotYet old new =
+    OneOf (written_end old attempt.WouldBlock from) (written_end old attempt.Interrupted from) (written_end old attempt.Absent from) new
+WriteLeft from write.Failed old new =
+    (new ≡ written_end old (attempt.Moved 0) from) ⊎ (new ≡ written_end old attempt.Failed from)
+WriteLeft from write.NoMemory old new = ⊥
 
--- the end behind a write that was offered so many bytes: one that took them all leaves it ready
-abbrev pub WriteLeft : ℕ → WriteAnswer → End → End → Type 0
-WriteLeft offered (write.Took n) old new = new ≡ written_end old (attempt.Moved n) offered
-WriteLeft offered write.NotYet old new = MayBlockWrites old new
-WriteLeft offered write.Failed old new = new ≡ faulty old
-WriteLeft offered write.NoMemory old new = ⊥
-
--- the end behind a connect check: one that failed drops the socket
+-- The end behind one check of its connection, by the answer: one that failed drops the socket.
 abbrev pub CheckLeft : ConnAnswer → End → End → Type 0
-CheckLeft conn.Connected old new = new ≡ old
-CheckLeft conn.Pending old new = MayBlockWrites old new
+CheckLeft conn.Connected old new = new ≡ checked_end old check.Made
+CheckLeft conn.Pending old new = OneOf (checked_end old check.Early) (checked_end old check.Unsure) (checked_end old check.Absent) new
 CheckLeft conn.Failed old new = new ≡ record (faulty old) { connection = connection.Refused }
 
 -- what a poll may tell of an end: a ready bit is set, and none is cleared
@@ -69,38 +72,46 @@ AllHeard old new = (n : ℕ) → LeftAt Heard (slice_index_or old n None) (slice
 
 -- Ends that were just made
 
-abbrev pub has_socket : Connection → Bool
-has_socket (connection.Open stream) = true
-has_socket connection.Refused = false
-has_socket connection.Closed = false
-
 abbrev pub is_refused : Connection → Bool
-is_refused (connection.Open stream) = false
+is_refused (connection.Open socket) = false
 is_refused connection.Refused = true
 is_refused connection.Closed = false
 
--- the In end of a new link has the connection that came, and nothing was reported of it
-pub record IsNewIn (e : End) : Type 0 where
-  pub came : has_socket e.connection ≡ true
+-- it has a socket, which came to the listener and is reported under this number; nothing else was asked of it
+abbrev pub HasCome : ℕ → Connection → Type 0
+HasCome n (connection.Open socket) = socket.log.calls ≡ first_calls n call.Came
+HasCome n connection.Refused = ⊥
+HasCome n connection.Closed = ⊥
+
+-- it has a socket whose connection was begun to this address and which is reported under this number, or none could be begun
+abbrev pub IsBegun : ℕ → Option SocketAddr → Connection → Type 0
+IsBegun n target (connection.Open socket) = MatchOption target ⊥ (λ to. socket.log.calls ≡ first_calls n (call.Began to))
+IsBegun n target connection.Refused = ⊤
+IsBegun n target connection.Closed = ⊥
+
+-- the In end of a new link, by its number: the connection that came, of which nothing was reported
+pub record IsNewIn (n : ℕ) (e : End) : Type 0 where
+  pub came : HasCome n e.connection
   pub new : e ≡ fresh e.connection false
 
--- its Out end has a connection that was begun, or none could be begun and it stands ready for its check
-pub record IsNewOut (e : End) : Type 0 where
-  pub begun : (has_socket e.connection || is_refused e.connection) ≡ true
+-- its Out end: a connection to the target that was begun; or none could be begun, and it stands ready for its check
+pub record IsNewOut (n : ℕ) (target : Option SocketAddr) (e : End) : Type 0 where
+  pub begun : IsBegun n target e.connection
   pub new : e ≡ fresh e.connection (is_refused e.connection)
 
 -- an end stands at a place, and it is so
 abbrev pub StandsAt : List (Option End) → ℕ → (End → Type 0) → Type 0
 StandsAt ends n is = MatchOption (slice_index_or ends n None) ⊥ is
 
--- the ends of a link that was made stand in their places
-abbrev pub NewEnds : List (Option End) → ℕ → Accepted → Type 0
-NewEnds ends link (accepted.Link connected) = StandsAt ends (2 * link) IsNewIn × StandsAt ends (2 * link + 1) IsNewOut
-NewEnds ends link accepted.NotYet = ⊤
-NewEnds ends link accepted.Failed = ⊤
-NewEnds ends link accepted.NoMemory = ⊤
+-- the ends of a link that was made stand in their places, each reported under its number, and the Out end goes to the target
+abbrev pub NewEnds : List (Option End) → Option SocketAddr → ℕ → Accepted → Type 0
+NewEnds ends target link (accepted.Link connected) =
+    StandsAt ends (2 * link) (IsNewIn (2 * link)) × StandsAt ends (2 * link + 1) (IsNewOut (2 * link + 1) target)
+NewEnds ends target link accepted.NotYet = ⊤
+NewEnds ends target link accepted.Failed = ⊤
+NewEnds ends target link accepted.NoMemory = ⊤
 
 -- the two ends of a new link, In before Out
-abbrev pub IsNewPair : Result (End × End) Miss → Type 0
-IsNewPair (Ok ends) = IsNewIn ends.0 × IsNewOut ends.1
-IsNewPair (Err why) = ⊤
+abbrev pub IsNewPair : ℕ → Option SocketAddr → Result (End × End) NoLink → Type 0
+IsNewPair link target (Ok ends) = IsNewIn (2 * link) ends.0 × IsNewOut (2 * link + 1) target ends.1
+IsNewPair link target (Err why) = ⊤

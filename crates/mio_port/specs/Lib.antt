@@ -2,9 +2,11 @@ pub mod Attempts
 pub mod Scarcity
 pub mod WholeMillis
 pub mod Clock
+pub mod SocketCalls
+pub mod Sockets
 pub mod OneEnd
 pub mod EndPlaces
-pub mod Door
+pub mod Acceptor
 pub mod Waiting
 pub mod Reports
 pub mod Asking

@@ -1,15 +1,18 @@
 -- One end after each call: which ready bits it keeps, and when its count of faults rises.
-use Rattle.std.specs.Prelude.{ℕ, ◌==◌, Bool, true, false, not, ◌&&◌, ◌||◌, nat_lt, if◌then◌else◌}
+use Rattle.std.specs.Prelude.{ℕ, ◌==◌, Bool, true, false, not, ◌&&◌, ◌||◌, nat_lt, if◌then◌else◌, List, [], length}
 use Rattle.ev_port.specs.Counting.{risen_if}
 use Rattle.mio.specs.declared.event.event.Event.{Event}
 use Rattle.mio.specs.Event.{is_readable, is_writable, is_error, is_read_closed, is_write_closed}
 use Rattle.mio_port.specs.declared.attempt.Attempt.{Attempt}
 use Rattle.mio_port.specs.declared.attempt.Attempt.TheVariants as attempt
-use Rattle.mio_port.specs.declared.end.Check.{Check}
-use Rattle.mio_port.specs.declared.end.Check.TheVariants as check
+use Rattle.mio_port.specs.declared.check.Check.{Check}
+use Rattle.mio_port.specs.declared.check.Check.TheVariants as check
 use Rattle.mio_port.specs.declared.end.Connection.{Connection}
 use Rattle.mio_port.specs.declared.end.Connection.TheVariants as connection
 use Rattle.mio_port.specs.declared.end.End.{End}
+use Rattle.mio_port.specs.declared.socket_call.SocketCall.TheVariants as call
+use Rattle.mio_port.specs.SocketCalls.{CallMade}
+use Rattle.mio_port.specs.Sockets.{with_call}
 
 -- an end of which nothing was reported and that met no fault
 abbrev pub fresh : Connection → Bool → End
@@ -27,31 +30,56 @@ noticed_end e seen = record e {
 abbrev pub faulty : End → End
 faulty e = record e { faults = risen_if true e.faults }
 
+-- a connection of which one more call was made; where no socket is none can be
+abbrev pub told : Connection → CallMade → Connection
+told (connection.Open socket) x = connection.Open (with_call socket x)
+told connection.Refused x = connection.Refused
+told connection.Closed x = connection.Closed
+
+abbrev pub told_end : End → CallMade → End
+told_end e x = record e { connection = told e.connection x }
+
 -- a read that came short of its room, with no hang-up, and one that would block leave nothing to read
-abbrev pub read_end : End → Attempt → ℕ → End
-read_end e (attempt.Moved count) room = record e { read_ready = e.read_ready && (e.hung_up || not (nat_lt count room)) }
-read_end e attempt.WouldBlock room = record e { read_ready = false }
-read_end e attempt.Interrupted room = e
-read_end e attempt.Failed room = faulty e
-read_end e attempt.Absent room = e
+abbrev pub after_read : End → Attempt → ℕ → End
+after_read e (attempt.Moved count) room = record e { read_ready = e.read_ready && (e.hung_up || not (nat_lt count room)) }
+after_read e attempt.WouldBlock room = record e { read_ready = false }
+after_read e attempt.Interrupted room = e
+after_read e attempt.Failed room = faulty e
+after_read e attempt.Absent room = e
+
+-- one read was made, which left its room so
+abbrev pub read_end : End → Attempt → List ℕ → End
+read_end e a into = after_read (told_end e (call.Read a, into)) a (length into)
 
 -- a write that came short of what was offered, and one that would block leave no room to write
-abbrev pub written_end : End → Attempt → ℕ → End
-written_end e (attempt.Moved count) offered =
+abbrev pub after_write : End → Attempt → ℕ → End
+after_write e (attempt.Moved count) offered =
     if count == 0 then faulty e else record e { write_ready = e.write_ready && not (nat_lt count offered) }
-written_end e attempt.WouldBlock offered = record e { write_ready = false }
-written_end e attempt.Interrupted offered = e
-written_end e attempt.Failed offered = faulty e
-written_end e attempt.Absent offered = e
+after_write e attempt.WouldBlock offered = record e { write_ready = false }
+after_write e attempt.Interrupted offered = e
+after_write e attempt.Failed offered = faulty e
+after_write e attempt.Absent offered = e
+
+-- one write of these bytes was made
+abbrev pub written_end : End → Attempt → List ℕ → End
+written_end e a from = after_write (told_end e (call.Write a, from)) a (length from)
 
 -- an early check waits for the next report, and a failed one drops the socket
-abbrev pub checked_end : End → Check → End
-checked_end e check.Made = e
-checked_end e check.Early =
+abbrev pub after_check : End → Check → End
+after_check e check.Made = e
+after_check e check.Early =
     if e.hung_up then record (faulty e) { connection = connection.Refused } else record e { write_ready = false }
-checked_end e check.Unsure = e
-checked_end e check.Failed = record (faulty e) { connection = connection.Refused }
-checked_end e check.Absent = e
+after_check e check.Unsure = e
+after_check e check.Failed = record (faulty e) { connection = connection.Refused }
+after_check e check.Absent = e
+
+-- one check was made
+abbrev pub checked_end : End → Check → End
+checked_end e c = after_check (told_end e (call.Checked c, [])) c
+
+-- its writing was ended, once
+abbrev pub ended_end : End → End
+ended_end e = told_end e (call.EndedWriting, [])
 
 -- a closed end has no connection, and keeps its count
 abbrev pub closed_end : End → End

@@ -3,12 +3,12 @@ use Rattle.std.specs.Prelude.{◌≡◌, ◌≤◌, true, is_none}
 use Rattle.ev_port.specs.declared.port.Polled.{Polled}
 use Rattle.ev_port.specs.declared.port.Polled.TheVariants as polled
 use Rattle.mio_port.specs.declared.mio_port.MioPort.{MioPort}
-use Rattle.mio_port.specs.Door.{DoorHeard}
+use Rattle.mio_port.specs.Acceptor.{AcceptorHeard}
 use Rattle.mio_port.specs.EndLeft.{AllHeard}
 
 -- It takes nothing from an end and from the listener, but ends a pause that is over. It fails before the first start.
 pub record PollLeft {R : Type 0} (old new : MioPort R) (answer : Polled) : Type 0 where
   pub ends : AllHeard old.ends.ends.items new.ends.ends.items
-  pub listener : DoorHeard old.door new.door new.clock.last
+  pub listener : AcceptorHeard old.acceptor new.acceptor new.clock.last
   pub steady : old.clock.last ≤ new.clock.last
   pub unstarted : is_none old.kernel ≡ true → answer ≡ polled.Failed

@@ -10,17 +10,17 @@ use Rattle.ev_port.specs.declared.port.Started.{Started}
 use Rattle.ev_port.specs.declared.port.Started.TheVariants as started
 use Rattle.ev_port.specs.declared.port.Want.{Want}
 use Rattle.ev_port.specs.Table.{WantsValue, is_marked, named}
-use Rattle.mio_port.specs.declared.door.Door.{Door}
-use Rattle.mio_port.specs.declared.door.Miss.{Miss}
-use Rattle.mio_port.specs.declared.door.Miss.TheVariants as miss
+use Rattle.mio_port.specs.declared.acceptor.Acceptor.{Acceptor}
+use Rattle.mio_port.specs.declared.acceptor.NoLink.{NoLink}
+use Rattle.mio_port.specs.declared.acceptor.NoLink.TheVariants as no_link
 use Rattle.mio_port.specs.declared.end.End.{End}
-use Rattle.mio_port.specs.Door.{addr_of, is_open, faulty_door, paused_door}
+use Rattle.mio_port.specs.Acceptor.{addr_of, is_open, faulty_acceptor, paused_acceptor}
 use Rattle.mio_port.specs.EndPlaces.{PlacesStay, holds, marked, unmarked}
 
 -- Starting
 
 -- a port that was started listens at the address that it was given, and has the target; any other listens nowhere
-abbrev pub Listens : Door → Addr → Addr → Started → Type 0
+abbrev pub Listens : Acceptor → Addr → Addr → Started → Type 0
 Listens d at to started.Started =
     MatchOption d.listener ⊥ (λ listener. addr_of listener.at ≡ Some at) × MatchOption d.target ⊥ (λ target. addr_of target ≡ Some to)
 Listens d at to started.Failed = d.listener ≡ None
@@ -39,7 +39,7 @@ MarkedTable ends old new (polled.Ready accept) = new.list ≡ filter is_marked (
 MarkedTable ends old new polled.Failed = new.list ≡ []
 
 -- links are accepted where that was asked and the listener can be
-abbrev pub Accepts : Door → Bool → Polled → Type 0
+abbrev pub Accepts : Acceptor → Bool → Polled → Type 0
 Accepts d asked (polled.Ready accept) = accept ≡ (asked && is_open d)
 Accepts d asked polled.Failed = ⊤
 
@@ -58,21 +58,21 @@ MadeLink old new link accepted.Failed = PlacesStay old new
 MadeLink old new link accepted.NoMemory = PlacesStay old new
 
 -- what is answered where no link was made
-abbrev pub missed_answer : Miss → Accepted
-missed_answer miss.NoneWaits = accepted.NotYet
-missed_answer miss.Again = accepted.NotYet
-missed_answer miss.Scarce = accepted.NotYet
-missed_answer miss.Failed = accepted.Failed
+abbrev pub no_link_answer : NoLink → Accepted
+no_link_answer no_link.NoneWaits = accepted.NotYet
+no_link_answer no_link.Again = accepted.NotYet
+no_link_answer no_link.Scarce = accepted.NotYet
+no_link_answer no_link.Failed = accepted.Failed
 
 -- The listener behind an accept: only one that found none may leave it not ready, or paused from this time on.
-abbrev pub DoorAsked : Door → Door → ℕ → Accepted → Type 0
-DoorAsked old new time (accepted.Link connected) = new ≡ old
-DoorAsked old new time accepted.NotYet = (new ≡ old) ⊎ ((new ≡ record old { ready = false }) ⊎ (new ≡ paused_door old time))
-DoorAsked old new time accepted.Failed = new ≡ faulty_door old
-DoorAsked old new time accepted.NoMemory = new ≡ old
+abbrev pub AcceptorAsked : Acceptor → Acceptor → ℕ → Accepted → Type 0
+AcceptorAsked old new time (accepted.Link connected) = new ≡ old
+AcceptorAsked old new time accepted.NotYet = (new ≡ old) ⊎ ((new ≡ record old { ready = false }) ⊎ (new ≡ paused_acceptor old time))
+AcceptorAsked old new time accepted.Failed = new ≡ faulty_acceptor old
+AcceptorAsked old new time accepted.NoMemory = new ≡ old
 
 -- two ends that were just made met no fault
-abbrev pub HasNoFault : Result (End × End) Miss → Type 0
+abbrev pub HasNoFault : Result (End × End) NoLink → Type 0
 HasNoFault (Ok ends) = (ends.0.faults ≡ 0) × (ends.1.faults ≡ 0)
 HasNoFault (Err why) = ⊤
 

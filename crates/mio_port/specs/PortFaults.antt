@@ -8,7 +8,7 @@ use Rattle.mio_port.specs.EndPlaces.{end_faults}
 
 -- one count for polling, one for the listener and one for each end that was made
 abbrev pub mio_faults : {R : Type 0} → MioPort R → Faults
-mio_faults p = record { ends = end_faults p.ends.ends.items; polling = p.polling_faults; listener = p.door.faults }
+mio_faults p = record { ends = end_faults p.ends.ends.items; polling = p.polling_faults; listener = p.acceptor.faults }
 
 -- it answers by no plan that tells anything, and vouches for no trace
 abbrev pub vouches_nothing : {R : Type 0} → MioPort R → ⊤ → Trace → Type 0

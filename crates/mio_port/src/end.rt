@@ -1,41 +1,27 @@
 // One end: its connection, what the kernel told of it, and its count of faults.
-ghost use Rattle.std.specs.Prelude.{◌≡◌, ◌<◌, length, false, true, Some};
+ghost use Rattle.std.specs.Prelude.{◌≡◌, ◌<◌, length, false, true, Some, []};
 ghost use Rattle.ev_port.specs.FaultCounts.{Counted};
 ghost use Rattle.ev_port.specs.Ends.{ReadWithin, is_failed_read, WriteWithin, is_failed_write, is_failed_conn};
-ghost use Rattle.mio.specs.Event as event;
-ghost use Rattle.mio_port.specs.Attempts.{AttemptBy, CheckBy, check_of, read_answer, write_answer, check_answer};
+ghost use Rattle.mio_port.specs.Attempts.{AttemptBy, CheckBy, read_answer, write_answer, check_answer};
 ghost use Rattle.mio_port.specs.EndAnswers.{ReadBy, WrittenBy, CheckedBy};
 ghost use Rattle.mio_port.specs.EndLeft.{ReadLeft, WriteLeft, CheckLeft};
-ghost use Rattle.mio_port.specs.OneEnd.{fresh, read_end, written_end, checked_end, noticed_end, closed_end};
+ghost use Rattle.mio_port.specs.OneEnd.{fresh, told, after_read, after_write, after_check, noticed_end, ended_end, closed_end};
 
-use crate::attempt::{Attempt, attempt_of};
+use crate::attempt::Attempt;
+use crate::check::Check;
+use crate::socket::Socket;
+use crate::socket_call::SocketCall;
 use ev_types::{ConnAnswer, ReadAnswer, WriteAnswer};
 use mio::event::Event;
-use mio::net::TcpStream;
-use std::io;
-use std::io::{ErrorKind, Read, Write};
-use std::net::{Shutdown, SocketAddr};
 
 /// What an end reaches the outside by. `Refused` is a connection that could not be made, and `Closed` one that is gone.
 ///
 /// Own.
 #[derive(Drop)]
 pub(crate) enum Connection {
-    Open(TcpStream),
+    Open(Socket),
     Refused,
     Closed,
-}
-
-/// What a connect check found. `Early` is a connection that is still being made, `Unsure` a check that was interrupted.
-///
-/// Own.
-#[derive(Clone, Copy)]
-pub(crate) enum Check {
-    Made,
-    Early,
-    Unsure,
-    Failed,
-    Absent,
 }
 
 /// One end. The bits say that the kernel reported it ready for a way and that no call has found otherwise since; the end
@@ -52,71 +38,55 @@ pub(crate) struct End {
 }
 
 impl Connection {
-    fn read(&self, into: &mut [u8]) -> Attempt
-        ensures { AttemptBy self.now result (length into.new) }
+    fn read(&mut self, into: &mut [u8]) -> Attempt
+        ensures by { AttemptBy self.old result (length into.new) }
+        ensures told { self.new ≡ told self.old (SocketCall.Read result, into.new) }
     {
         match self {
-            Connection::Open(stream) => {
-                let mut reader = stream;
-                attempt_of(reader.read(into))
-            }
+            Connection::Open(socket) => socket.read(into),
             Connection::Refused => Attempt::Failed,
             Connection::Closed => Attempt::Absent,
         }
     }
 
-    fn write(&self, from: &[u8]) -> Attempt
-        ensures { AttemptBy self.now result (length from.now) }
+    fn write(&mut self, from: &[u8]) -> Attempt
+        ensures by { AttemptBy self.old result (length from.now) }
+        ensures told { self.new ≡ told self.old (SocketCall.Write result, from.now) }
     {
         match self {
-            Connection::Open(stream) => {
-                let mut writer = stream;
-                attempt_of(writer.write(from))
-            }
+            Connection::Open(socket) => socket.write(from),
             Connection::Refused => Attempt::Failed,
             Connection::Closed => Attempt::Absent,
         }
     }
 
-    fn check(&self) -> Check
-        ensures { CheckBy self.now result }
+    fn check(&mut self) -> Check
+        ensures by { CheckBy self.old result }
+        ensures told { self.new ≡ told self.old (SocketCall.Checked result, []) }
     {
         match self {
-            Connection::Open(stream) => check_of(stream.take_error(), stream.peer_addr()),
+            Connection::Open(socket) => socket.check(),
             Connection::Refused => Check::Failed,
             Connection::Closed => Check::Absent,
         }
     }
 
-    fn end_writing(&self) {
-        if let Connection::Open(stream) = self {
-            let _ignored = stream.shutdown(Shutdown::Write);
+    fn end_writing(&mut self)
+        ensures { self.new ≡ told self.old (SocketCall.EndedWriting, []) }
+    {
+        if let Connection::Open(socket) = self {
+            socket.end_writing();
         }
-    }
-}
-
-// An error that waits on the socket tells of a connection that failed; a peer's address tells of one that is made.
-fn check_of(error: io::Result<Option<io::Error>>, peer: io::Result<SocketAddr>) -> Check
-    ensures { result ≡ check_of error peer }
-{
-    match (error, peer) {
-        (Ok(None), Ok(_)) => Check::Made,
-        (Ok(None), Err(error)) => match error.kind() {
-            ErrorKind::NotConnected => Check::Early,
-            ErrorKind::Interrupted => Check::Unsure,
-            _ => Check::Failed,
-        },
-        _ => Check::Failed,
     }
 }
 
 impl End {
     /// An end that is connected or connecting. Nothing was reported of it yet.
-    pub(crate) fn open(stream: TcpStream) -> End
-        ensures { result ≡ fresh (Connection.Open stream) false }
+    pub(crate) fn open(socket: Socket) -> End
+        ensures { result ≡ fresh (Connection.Open socket) false }
     {
         End {
-            connection: Connection::Open(stream),
+            connection: Connection::Open(socket),
             read_ready: false,
             write_ready: false,
             hung_up: false,
@@ -166,7 +136,7 @@ impl End {
         ensures cause { Counted self.old.faults self.new.faults (is_failed_read result) }
         ensures other_way { self.new.write_ready ≡ self.old.write_ready }
         ensures by { ReadBy (Some self.old.connection) result }
-        ensures left { ReadLeft (length into.old) result self.old self.new }
+        ensures left { ReadLeft into.new result self.old self.new }
     {
         let attempt = self.connection.read(into);
         self.take_read(attempt, into.len())
@@ -174,7 +144,7 @@ impl End {
 
     fn take_read(&mut self, attempt: Attempt, room: usize) -> ReadAnswer
         ensures answer { result ≡ read_answer attempt }
-        ensures after { self.new ≡ read_end self.old attempt room }
+        ensures after { self.new ≡ after_read self.old attempt room }
     {
         match attempt {
             Attempt::Moved(count) => {
@@ -203,7 +173,7 @@ impl End {
         ensures cause { Counted self.old.faults self.new.faults (is_failed_write result) }
         ensures other_way { self.new.read_ready ≡ self.old.read_ready }
         ensures by { WrittenBy (Some self.old.connection) result }
-        ensures left { WriteLeft (length from.now) result self.old self.new }
+        ensures left { WriteLeft from.now result self.old self.new }
     {
         let attempt = self.connection.write(from);
         self.take_write(attempt, from.len())
@@ -211,7 +181,7 @@ impl End {
 
     fn take_write(&mut self, attempt: Attempt, offered: usize) -> WriteAnswer
         ensures answer { result ≡ write_answer attempt }
-        ensures after { self.new ≡ written_end self.old attempt offered }
+        ensures after { self.new ≡ after_write self.old attempt offered }
     {
         match attempt {
             Attempt::Moved(0) | Attempt::Failed => {
@@ -245,7 +215,7 @@ impl End {
     /// connected failed as well, since nothing more would be reported of it.
     fn take_check(&mut self, check: Check) -> ConnAnswer
         ensures answer { result ≡ check_answer self.old.hung_up check }
-        ensures after { self.new ≡ checked_end self.old check }
+        ensures after { self.new ≡ after_check self.old check }
     {
         match check {
             Check::Made => ConnAnswer::Connected,
@@ -262,7 +232,9 @@ impl End {
         }
     }
 
-    pub(crate) fn close_write(&self) {
+    pub(crate) fn close_write(&mut self)
+        ensures { self.new ≡ ended_end self.old }
+    {
         self.connection.end_writing();
     }
 

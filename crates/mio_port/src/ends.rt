@@ -9,7 +9,7 @@ ghost use Rattle.ev_types.specs.Sides.{number};
 ghost use Rattle.mio_port.specs.EndAnswers.{connection_of, connection_at, ReadBy, WrittenBy, CheckedBy};
 ghost use Rattle.mio_port.specs.EndLeft.{LeftAt, PlaceLeft, ReadLeft, WriteLeft, CheckLeft};
 ghost use Rattle.mio_port.specs.PortCalls.{OthersStay};
-ghost use Rattle.mio_port.specs.OneEnd.{noticed_end, closed_end};
+ghost use Rattle.mio_port.specs.OneEnd.{noticed_end, ended_end, closed_end};
 ghost use Rattle.mio_port.specs.EndPlaces.{faults_of, CountsStay, CountsAt, PlacesStay, PlaceWent, holds, is_made, is_read_ready, is_write_ready, can_read, can_write, wants_ready, marked, unmarked};
 
 use crate::end::End;
@@ -59,7 +59,7 @@ fn read_at(place: &mut Option<End>, into: &mut [u8]) -> ReadAnswer
     ensures within { ReadWithin result (length into.new) }
     ensures cause { Counted (faults_of place.old) (faults_of place.new) (is_failed_read result) }
     ensures by { ReadBy (connection_of place.old) result }
-    ensures left { LeftAt (ReadLeft (length into.old) result) place.old place.new }
+    ensures left { LeftAt (ReadLeft into.new result) place.old place.new }
 {
     match place {
         Some(end) => end.read(into),
@@ -72,7 +72,7 @@ fn write_at(place: &mut Option<End>, from: &[u8]) -> WriteAnswer
     ensures within { WriteWithin result (length from.now) }
     ensures cause { Counted (faults_of place.old) (faults_of place.new) (is_failed_write result) }
     ensures by { WrittenBy (connection_of place.old) result }
-    ensures left { LeftAt (WriteLeft (length from.now) result) place.old place.new }
+    ensures left { LeftAt (WriteLeft from.now result) place.old place.new }
 {
     match place {
         Some(end) => end.write(from),
@@ -96,6 +96,14 @@ fn notice_at(place: &mut Option<End>, event: &Event)
 {
     if let Some(end) = place {
         end.notice(event);
+    }
+}
+
+fn close_write_at(place: &mut Option<End>)
+    ensures { place.new ≡ option_map ended_end place.old }
+{
+    if let Some(end) = place {
+        end.close_write();
     }
 }
 
@@ -260,7 +268,7 @@ impl Ends {
         ensures within { ReadWithin result (length into.new) }
         ensures cause { CountsAt self.old.ends.items self.new.ends.items side (is_failed_read result) }
         ensures by { ReadBy (connection_at self.old.ends.items side) result }
-        ensures left { PlaceLeft self.old.ends.items self.new.ends.items (number side) (ReadLeft (length into.old) result) }
+        ensures left { PlaceLeft self.old.ends.items self.new.ends.items (number side) (ReadLeft into.new result) }
     {
         let number = side.number();
         let Some(place) = self.ends.get_mut(number) else {
@@ -276,7 +284,7 @@ impl Ends {
         ensures within { WriteWithin result (length from.now) }
         ensures cause { CountsAt self.old.ends.items self.new.ends.items side (is_failed_write result) }
         ensures by { WrittenBy (connection_at self.old.ends.items side) result }
-        ensures left { PlaceLeft self.old.ends.items self.new.ends.items (number side) (WriteLeft (length from.now) result) }
+        ensures left { PlaceLeft self.old.ends.items self.new.ends.items (number side) (WriteLeft from.now result) }
     {
         let number = side.number();
         let Some(place) = self.ends.get_mut(number) else {
@@ -301,10 +309,16 @@ impl Ends {
         answer
     }
 
-    pub(crate) fn close_write(&self, side: SideId) {
-        if let Some(Some(end)) = self.ends.get(side.number()) {
-            end.close_write();
-        }
+    pub(crate) fn close_write(&mut self, side: SideId)
+        ensures counts { CountsStay self.old.ends.items self.new.ends.items }
+        ensures went { PlaceWent self.old.ends.items self.new.ends.items (number side) ended_end }
+    {
+        let number = side.number();
+        let Some(place) = self.ends.get_mut(number) else {
+            return;
+        };
+        close_write_at(place);
+        keep_up(&self.ends, number, &mut self.readable, &mut self.writable);
     }
 
     pub(crate) fn close(&mut self, side: SideId)

@@ -1,17 +1,19 @@
 // The kernel's reports: what is watched, how often it is asked, and what it told.
-ghost use Rattle.std.specs.Prelude.{◌≡◌, ◌<◌, true, false, is_some, IfOk, OnOk};
+ghost use Rattle.std.specs.Prelude.{◌≡◌, ◌<◌, ◌∷◌, [], true, false, is_some, IfOk, OnOk};
 ghost use Rattle.mio_port.specs.OneEnd.{fresh};
 ghost use Rattle.mio_port.specs.EndLeft.{AllHeard};
 ghost use Rattle.mio_port.specs.EndPlaces.{CountsStay};
 ghost use Rattle.mio.specs.Events.{items};
 ghost use Rattle.mio_port.specs.Reports.{AsReported};
+ghost use Rattle.mio_port.specs.Sockets.{watched};
 ghost use Rattle.mio_port.specs.Waiting.{looks_after, is_due, longest_wait};
 
-use crate::door::{Door, Listener};
+use crate::acceptor::{Acceptor, Listener};
 use crate::end::{Connection, End};
 use crate::ends::Ends;
 use crate::scarce::is_scarce;
-use mio::net::TcpStream;
+use crate::socket::Socket;
+use crate::socket_call::SocketCall;
 use mio::{Events, Interest, Poll, Registry, Token};
 use std::alloc::{AllocGlobal, Global};
 use std::io;
@@ -66,15 +68,12 @@ impl Kernel {
     }
 
     /// An end that is watched both ways, under its number, and whose short writes aren't held back.
-    pub(crate) fn end(&self, mut stream: TcpStream, number: usize) -> io::Result<End>
-        ensures { IfOk result (λ end. end ≡ fresh (Connection.Open stream) false) }
+    pub(crate) fn end(&self, mut socket: Socket, number: usize) -> io::Result<End>
+        ensures { IfOk result (λ end. end ≡ fresh (Connection.Open (watched socket number)) false) }
     {
-        let _ignored = stream.set_nodelay(true);
-        let both_ways = Interest::READABLE | Interest::WRITABLE;
-        self.poll
-            .registry()
-            .register(&mut stream, Token(number), both_ways)?;
-        Ok(End::open(stream))
+        socket.undelay();
+        socket.watch(self.poll.registry(), number)?;
+        Ok(End::open(socket))
     }
 
     /// Sees that a descriptor is kept. It fails where the system has none.
@@ -87,12 +86,23 @@ impl Kernel {
         Ok(())
     }
 
+    /// Sees that there are descriptors for the two ends of a link, of which one is kept. It fails where the system has fewer.
+    pub(crate) fn keep_room(&mut self) -> io::Result<()>
+        ensures { OnOk result (is_some self.new.spare ≡ true) }
+    {
+        self.keep_spare()?;
+        let _room_for_the_first = self.poll.registry().try_clone()?;
+        Ok(())
+    }
+
     /// Begins a connection, by the descriptor that is kept where there is no other.
-    pub(crate) fn connect<R: Net>(&mut self, rt: &R, to: SocketAddr) -> io::Result<TcpStream> {
-        match TcpStream::connect(rt, to) {
+    pub(crate) fn connect<R: Net>(&mut self, rt: &R, to: SocketAddr) -> io::Result<Socket>
+        ensures { IfOk result (λ socket. socket.log.calls ≡ (SocketCall.Began to, []) ∷ []) }
+    {
+        match Socket::begun(rt, to) {
             Err(error) if is_scarce(&error) => {
                 self.spare = None;
-                TcpStream::connect(rt, to)
+                Socket::begun(rt, to)
             }
             begun => begun,
         }
@@ -120,19 +130,19 @@ impl Kernel {
     }
 
     /// Passes the reports of the last wait on.
-    pub(crate) fn tell(&self, ends: &mut Ends, door: &mut Door)
+    pub(crate) fn tell(&self, ends: &mut Ends, acceptor: &mut Acceptor)
         ensures ends { CountsStay ends.old.ends.items ends.new.ends.items }
-        ensures door { door.new.faults ≡ door.old.faults }
+        ensures acceptor { acceptor.new.faults ≡ acceptor.old.faults }
         ensures heard { AllHeard ends.old.ends.items ends.new.ends.items }
-        ensures listener { door.new ≡ record door.old { ready = door.new.ready } }
-        ensures waits { door.old.ready ≡ true → door.new.ready ≡ true }
+        ensures listener { acceptor.new ≡ record acceptor.old { ready = acceptor.new.ready } }
+        ensures waits { acceptor.old.ready ≡ true → acceptor.new.ready ≡ true }
 
         // Exactly what they tell, in their order.
-        ensures told { AsReported (items self.now.events) ends.old.ends.items ends.new.ends.items door.old.ready door.new.ready }
+        ensures told { AsReported (items self.now.events) ends.old.ends.items ends.new.ends.items acceptor.old.ready acceptor.new.ready }
     {
         for event in &self.events {
             if event.token() == LISTENER {
-                door.notice();
+                acceptor.notice();
             } else {
                 ends.notice(event.token().0, event);
             }

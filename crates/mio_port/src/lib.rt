@@ -2,13 +2,17 @@
 //! readiness in its polls. What a run makes of the answers stands above.
 #![tactic(auto)]
 
+mod acceptor;
 mod attempt;
+mod check;
 mod clock;
-mod door;
 mod end;
 mod ends;
 mod kernel;
 mod mio_port;
 mod scarce;
+mod socket;
+mod socket_call;
+mod socket_log;
 
 pub use mio_port::MioPort;

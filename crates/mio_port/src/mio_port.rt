@@ -1,6 +1,6 @@
 // The port over real sockets. Its parts keep the ends, the listener, the kernel's reports and the clock; here stands what
 // each call of a port does with them, and which count of faults it raises.
-ghost use Rattle.std.specs.Prelude.{◌≡◌, ◌<◌, ◌≤◌, ◌-◌, ⊤, [], true, false, length, is_none, None, option_map, MatchResult, ◌||◌, ◌&&◌};
+ghost use Rattle.std.specs.Prelude.{◌≡◌, ◌<◌, ◌≤◌, ⊤, [], true, false, length, is_none, None, MatchResult};
 ghost use Rattle.std.specs.List.{list_any};
 ghost use Rattle.ev_types.specs.Sides.{number};
 ghost use Rattle.ev_port.specs.Silent.{silent_port, silent_end};
@@ -12,20 +12,22 @@ ghost use Rattle.ev_port.specs.Polling.{is_failed_poll, opens_accepting, AllMark
 ghost use Rattle.ev_port.specs.Table.{RowsStay, TablePolled, named};
 ghost use Rattle.ev_port.specs.Ends.{is_failed_conn, conn_step, conn_events, ReadWithin, is_failed_read, read_step, read_events, WriteWithin, is_failed_write, write_step, write_events, close_write_events, close_events, close_write_step, close_step};
 ghost use Rattle.mio_port.specs.EndAnswers.{connection_at, ReadBy, WrittenBy, CheckedBy};
-ghost use Rattle.mio_port.specs.Door.{after_time, is_open, missed_door, paused_door, shut_door};
-ghost use Rattle.mio_port.specs.EndLeft.{AllHeard, CheckLeft, IsNewOut, IsNewPair, NewEnds, PlaceLeft, ReadLeft, WriteLeft};
-ghost use Rattle.mio_port.specs.OneEnd.{closed_end};
+ghost use Rattle.mio_port.specs.Acceptor.{shut_acceptor};
+ghost use Rattle.mio_port.specs.EndLeft.{CheckLeft, NewEnds, PlaceLeft, ReadLeft, WriteLeft};
+ghost use Rattle.mio_port.specs.OneEnd.{ended_end, closed_end};
 ghost use Rattle.mio_port.specs.EndPlaces.{PlacesStay, PlaceWent, wants_ready};
-ghost use Rattle.mio_port.specs.Asking.{Looked, PollLooked};
+ghost use Rattle.mio_port.specs.Asking.{PollLooked};
 ghost use Rattle.mio_port.specs.PollLeft.{PollLeft};
-ghost use Rattle.mio_port.specs.PortCalls.{Listens, Marked, MarkedTable, Accepts, MadeLink, HasNoFault, IsNoLink, DoorAsked, missed_answer};
+ghost use Rattle.mio_port.specs.PortCalls.{Listens, Marked, MarkedTable, Accepts, MadeLink, AcceptorAsked};
 ghost use Rattle.mio_port.specs.PortFaults.{IsFaultless, mio_faults, vouches_nothing, waits_untold};
 
+mod linking;
+mod polling;
+
+use crate::acceptor::{Acceptor, socket_addr};
 use crate::clock::SteadyClock;
-use crate::door::{Door, Miss, miss_of, socket_addr};
-use crate::end::End;
-use crate::ends::{Ends, in_end, out_end, unmark};
-use crate::kernel::{Kernel, longest_wait};
+use crate::ends::Ends;
+use crate::kernel::Kernel;
 use ev_port::{
     Accepted, Addr, ConnAnswer, Polled, Port, ReadAnswer, Started, Want, WantTable, WriteAnswer,
 };
@@ -33,12 +35,8 @@ use ev_types::SideId;
 use std::alloc::AllocGlobal;
 use std::io;
 use std::io::ErrorKind;
-use std::net::{Net, SocketAddr};
+use std::net::Net;
 use std::time::Clock;
-
-/// For so many milliseconds no link is asked for after the system had no descriptor or no memory for one, unless an end
-/// is closed sooner.
-const SCARCE_PAUSE: u64 = 100;
 
 /// A port over TCP sockets of IPv4, none of which ever blocks a call; only `poll` waits.
 ///
@@ -70,7 +68,7 @@ pub struct MioPort<'a, R> {
     rt: &'a R,
     clock: SteadyClock,
     kernel: Option<Kernel>,
-    door: Door,
+    acceptor: Acceptor,
     ends: Ends,
     polling_faults: u64,
 }
@@ -80,7 +78,7 @@ impl<'a, R: Net + Clock + AllocGlobal> MioPort<'a, R> {
     /// here.
     pub fn new(rt: &'a R) -> MioPort<'a, R>
         ensures faultless { IsFaultless (mio_faults result) }
-        ensures listener { result.door ≡ shut_door 0 }
+        ensures listener { result.acceptor ≡ shut_acceptor 0 }
         ensures ends { result.ends.ends.items ≡ [] }
         ensures kernel { result.kernel ≡ None }
         ensures clock { result.clock.last ≡ 0 }
@@ -89,7 +87,7 @@ impl<'a, R: Net + Clock + AllocGlobal> MioPort<'a, R> {
             rt,
             clock: SteadyClock::new(rt),
             kernel: None,
-            door: Door::new(),
+            acceptor: Acceptor::new(),
             ends: Ends::new(rt.alloc()),
             polling_faults: 0,
         }
@@ -97,221 +95,40 @@ impl<'a, R: Net + Clock + AllocGlobal> MioPort<'a, R> {
 
     /// Where it listens: after a start at port 0 the port that the system chose. `None` where it doesn't listen.
     pub fn local(&self) -> Option<Addr>
-        ensures { is_none self.now.door.listener ≡ true → result ≡ None }
+        ensures { is_none self.now.acceptor.listener ≡ true → result ≡ None }
     {
-        self.door.local()
+        self.acceptor.local()
     }
 
     // A first listener is closed before the second one is made.
     fn listen(&mut self, at: Addr, to: Addr) -> io::Result<()>
-        ensures faults { self.new.door.faults ≡ self.old.door.faults }
+        ensures faults { self.new.acceptor.faults ≡ self.old.acceptor.faults }
         ensures polling { self.new.polling_faults ≡ self.old.polling_faults }
         ensures ends { self.new.ends ≡ self.old.ends }
-        ensures listens { MatchResult result (λ _. Listens self.new.door at to Started.Started)
-            (λ _. Listens self.new.door at to Started.Failed) }
-        ensures quiet { self.new.door.ready ≡ false }
-        ensures unpaused { self.new.door.paused_to ≡ None }
+        ensures listens { MatchResult result (λ _. Listens self.new.acceptor at to Started.Started)
+            (λ _. Listens self.new.acceptor at to Started.Failed) }
+        ensures quiet { self.new.acceptor.ready ≡ false }
+        ensures unpaused { self.new.acceptor.paused_to ≡ None }
         ensures clock { self.new.clock ≡ self.old.clock }
     {
-        self.door.shut();
-        let kernel = match self.kernel.take() {
+        self.acceptor.shut();
+        let mut kernel = match self.kernel.take() {
             Some(kernel) => kernel,
             None => Kernel::new(self.rt)?,
         };
         let listener = kernel.listen(self.rt, socket_addr(at));
+        let room = kernel.keep_room();
         self.kernel = Some(kernel);
-        self.door.open(listener?, socket_addr(to));
+        room?;
+        self.acceptor.open(listener?, socket_addr(to));
         Ok(())
     }
-
-    // A poll, with what it marks.
-    fn ready_for(&mut self, wants: &mut [Want], accept: bool, timeout: Option<u64>) -> Polled
-        ensures marked { Marked self.new.ends.ends.items wants.old wants.new result }
-        ensures left { PollLeft self.old self.new result }
-        ensures asked { Accepts self.new.door accept result }
-        ensures cause { PollFaults (mio_faults self.old) (mio_faults self.new) (is_failed_poll result) }
-        ensures looked { PollLooked (list_any (wants_ready self.old.ends.ends.items) wants.old) accept timeout self.old self.new result }
-    {
-        let is_any = self.ends.is_any_ready(wants);
-        let polled = self.wait(is_any, accept, timeout);
-        match polled {
-            Polled::Ready { .. } => self.ends.mark(wants),
-            Polled::Failed => unmark(wants),
-        }
-        polled
-    }
-
-    // A poll of a table, with what it lists.
-    fn table_ready_for(
-        &mut self,
-        wants: &mut WantTable,
-        accept: bool,
-        timeout: Option<u64>,
-    ) -> Polled
-        ensures marked { MarkedTable self.new.ends.ends.items wants.old wants.new result }
-        ensures left { PollLeft self.old self.new result }
-        ensures rows { RowsStay wants.old wants.new }
-        ensures asked { Accepts self.new.door accept result }
-        ensures cause { PollFaults (mio_faults self.old) (mio_faults self.new) (is_failed_poll result) }
-        ensures looked { PollLooked (list_any (wants_ready self.old.ends.ends.items) (named wants.old)) accept timeout self.old self.new result }
-    {
-        let is_any = self.ends.is_any_of_table_ready(wants);
-        let polled = self.wait(is_any, accept, timeout);
-        match polled {
-            Polled::Ready { .. } => self.ends.mark_table(wants),
-            Polled::Failed => wants.unmark(),
-        }
-        polled
-    }
-
-    // Something that is asked for can be done, at an end or at the listener.
-    fn is_any_asked(&self, is_any_ready: bool, accept: bool) -> bool
-        ensures { result ≡ (is_any_ready || (accept && is_open self.now.door)) }
-    {
-        is_any_ready || accept && self.door.is_open()
-    }
-
-    // What every poll does before anything is marked, and its answer. It doesn't wait where something wanted is ready.
-    fn wait(&mut self, is_any_ready: bool, accept: bool, timeout: Option<u64>) -> Polled
-        ensures left { PollLeft self.old self.new result }
-        ensures asked { Accepts self.new.door accept result }
-        ensures cause { PollFaults (mio_faults self.old) (mio_faults self.new) (is_failed_poll result) }
-        ensures looked { PollLooked is_any_ready accept timeout self.old self.new result }
-    {
-        let pause = self.pause_left();
-        let is_any = self.is_any_asked(is_any_ready, accept);
-        if !self.look(is_any, longest_wait(is_any, accept, timeout, pause)) {
-            self.polling_faults = self.polling_faults.saturating_add(1);
-            return Polled::Failed;
-        }
-        self.pause_left();
-        Polled::Ready {
-            accept: accept && self.door.is_open(),
-        }
-    }
-
-    // Whether the kernel could be asked, if it was.
-    fn look(&mut self, is_any: bool, most: Option<u64>) -> bool
-        ensures cause { FaultsStay (mio_faults self.old) (mio_faults self.new) }
-        ensures heard { AllHeard self.old.ends.ends.items self.new.ends.ends.items }
-        ensures listener { self.new.door ≡ record self.old.door { ready = self.new.door.ready } }
-        ensures waits { self.old.door.ready ≡ true → self.new.door.ready ≡ true }
-        ensures clock { self.new.clock ≡ self.old.clock }
-        ensures unstarted { is_none self.old.kernel ≡ true → result ≡ false }
-
-        // Whether it was asked, for how long at most, and exactly what it told.
-        ensures looked { Looked is_any most self.old.kernel self.new.kernel self.old.ends.ends.items self.new.ends.ends.items
-            self.old.door.ready self.new.door.ready result }
-    {
-        let Some(kernel) = &mut self.kernel else {
-            return false;
-        };
-        if is_any && !kernel.is_due() {
-            return true;
-        }
-        if kernel.wait(most).is_err() {
-            return false;
-        }
-        kernel.tell(&mut self.ends, &mut self.door);
-        true
-    }
-
-    // Ends a pause that is over, and gives what is left of one that isn't.
-    fn pause_left(&mut self) -> Option<u64>
-        ensures listener { self.new.door ≡ after_time self.old.door self.new.clock.last }
-        ensures left { result ≡ option_map (λ to. to - self.new.clock.last) self.new.door.paused_to }
-        ensures steady { self.old.clock.last ≤ self.new.clock.last }
-        ensures kernel { self.new.kernel ≡ self.old.kernel }
-        ensures faults { self.new.door.faults ≡ self.old.door.faults }
-        ensures polling { self.new.polling_faults ≡ self.old.polling_faults }
-        ensures ends { self.new.ends ≡ self.old.ends }
-    {
-        let to = self.door.pause_end()?;
-        let time = self.clock.read(self.rt);
-        self.door.pass_time(time);
-        self.door.pause_end()?;
-        Some(to.saturating_sub(time))
-    }
-
-    fn pause(&mut self)
-        ensures faults { self.new.door.faults ≡ self.old.door.faults }
-        ensures polling { self.new.polling_faults ≡ self.old.polling_faults }
-        ensures paused { self.new.door ≡ paused_door self.old.door self.new.clock.last }
-        ensures steady { self.old.clock.last ≤ self.new.clock.last }
-        ensures ends { self.new.ends ≡ self.old.ends }
-    {
-        let time = self.clock.read(self.rt);
-        self.door.pause(time.saturating_add(SCARCE_PAUSE));
-    }
-
-    // Asks for a connection only while a descriptor is kept for its other end.
-    fn pair(&mut self, link: u32) -> Result<(End, End), Miss>
-        ensures pair { HasNoFault result }
-        ensures made { IsNewPair result }
-        ensures clock { self.new.clock ≡ self.old.clock }
-        ensures ends { self.new.ends ≡ self.old.ends }
-        ensures door { self.new.door ≡ self.old.door }
-        ensures polling { self.new.polling_faults ≡ self.old.polling_faults }
-    {
-        let Some(kernel) = &mut self.kernel else {
-            return Err(Miss::NoneWaits);
-        };
-        if let Err(error) = kernel.keep_spare() {
-            return Err(miss_of(&error));
-        }
-        let stream = self.door.ask()?;
-        let target = self.door.target();
-        match kernel.end(stream, in_end(link).number()) {
-            Ok(inside) => {
-                let number = out_end(link).number();
-                Ok((inside, outside(self.rt, kernel, target, number)))
-            }
-            Err(error) => Err(miss_of(&error)),
-        }
-    }
-
-    // No link is made.
-    fn refuse(&mut self, why: Miss) -> Accepted
-        ensures cause { ListenerFaults (mio_faults self.old) (mio_faults self.new) (is_failed_accept result) }
-        ensures none { IsNoLink result }
-        ensures answer { result ≡ missed_answer why }
-        ensures listener { self.new.door ≡ missed_door self.old.door why self.new.clock.last }
-        ensures steady { self.old.clock.last ≤ self.new.clock.last }
-        ensures ends { self.new.ends ≡ self.old.ends }
-    {
-        match why {
-            Miss::NoneWaits => self.door.ran_out(),
-            Miss::Again => {}
-            Miss::Scarce => self.pause(),
-            Miss::Failed => {
-                self.door.count_fault();
-                return Accepted::Failed;
-            }
-        }
-        Accepted::NotYet
-    }
-}
-
-// A connection to the target that is begun, or an end that was refused.
-fn outside<R: Net>(rt: &R, kernel: &mut Kernel, target: Option<SocketAddr>, number: usize) -> End
-    ensures faultless { result.faults ≡ 0 }
-    ensures made { IsNewOut result }
-{
-    let Some(target) = target else {
-        return End::refused();
-    };
-    let Ok(stream) = kernel.connect(rt, target) else {
-        return End::refused();
-    };
-    kernel
-        .end(stream, number)
-        .unwrap_or_else(|_error| End::refused())
 }
 
 /// What the trait leaves open, call by call:
 ///
 /// - `start` listens with `SO_REUSEADDR` and the longest queue that the system allows. It is `Failed`, at the listener's
-///   count, where the address can't be had, and `NoMemory` where the table of reports or the kernel finds none. A second
+///   count, where the address can't be had and where there are fewer descriptors than one link needs, and `NoMemory` where the table of reports or the kernel finds none. A second
 ///   start closes the first listener before it makes its own, and leaves the ends. After one that failed nothing listens.
 /// - `now` is in milliseconds since the port was made and never falls. Where the system's clock can't be read it is the
 ///   last reading.
@@ -346,9 +163,9 @@ impl<'a, R: Net + Clock + AllocGlobal> Port for MioPort<'a, R> {
     ghost told = { λ _. silent_port };
 
     fn start(&mut self, listen: Addr, to: Addr) -> Started
-        ensures listens { Listens self.new.door listen to result }
-        ensures quiet { self.new.door.ready ≡ false }
-        ensures unpaused { self.new.door.paused_to ≡ None }
+        ensures listens { Listens self.new.acceptor listen to result }
+        ensures quiet { self.new.acceptor.ready ≡ false }
+        ensures unpaused { self.new.acceptor.paused_to ≡ None }
         ensures stays { self.new.ends ≡ self.old.ends }
         ensures clock { self.new.clock ≡ self.old.clock }
 
@@ -362,7 +179,7 @@ impl<'a, R: Net + Clock + AllocGlobal> Port for MioPort<'a, R> {
             Ok(()) => Started::Started,
             Err(error) if error.kind() == ErrorKind::OutOfMemory => Started::NoMemory,
             Err(_) => {
-                self.door.count_fault();
+                self.acceptor.count_fault();
                 Started::Failed
             }
         }
@@ -385,7 +202,7 @@ impl<'a, R: Net + Clock + AllocGlobal> Port for MioPort<'a, R> {
 
     fn poll(&mut self, wants: &mut [Want], accept: bool, timeout: Option<u64>) -> Polled
         ensures marks { Marked self.new.ends.ends.items wants.old wants.new result }
-        ensures accepts { Accepts self.new.door accept result }
+        ensures accepts { Accepts self.new.acceptor accept result }
         ensures left { PollLeft self.old self.new result }
         ensures looked { PollLooked (list_any (wants_ready self.old.ends.ends.items) wants.old) accept timeout self.old self.new result }
 
@@ -403,7 +220,7 @@ impl<'a, R: Net + Clock + AllocGlobal> Port for MioPort<'a, R> {
 
     fn poll_table(&mut self, wants: &mut WantTable, accept: bool, timeout: Option<u64>) -> Polled
         ensures marks { MarkedTable self.new.ends.ends.items wants.old wants.new result }
-        ensures accepts { Accepts self.new.door accept result }
+        ensures accepts { Accepts self.new.acceptor accept result }
         ensures left { PollLeft self.old self.new result }
         ensures looked { PollLooked (list_any (wants_ready self.old.ends.ends.items) (named wants.old)) accept timeout self.old self.new result }
 
@@ -420,8 +237,8 @@ impl<'a, R: Net + Clock + AllocGlobal> Port for MioPort<'a, R> {
 
     fn accept(&mut self, link: u32) -> Accepted
         ensures made { MadeLink self.old.ends.ends.items self.new.ends.ends.items link result }
-        ensures ends_made { NewEnds self.new.ends.ends.items link result }
-        ensures listener { DoorAsked self.old.door self.new.door self.new.clock.last result }
+        ensures ends_made { NewEnds self.new.ends.ends.items self.old.acceptor.target link result }
+        ensures listener { AcceptorAsked self.old.acceptor self.new.acceptor self.new.clock.last result }
         ensures steady { self.old.clock.last ≤ self.new.clock.last }
 
         // What every port says.
@@ -463,7 +280,7 @@ impl<'a, R: Net + Clock + AllocGlobal> Port for MioPort<'a, R> {
     fn read(&mut self, end: SideId, into: &mut [u8]) -> ReadAnswer
         requires { 0 < length into.old }
         ensures by { ReadBy (connection_at self.old.ends.ends.items end) result }
-        ensures left { PlaceLeft self.old.ends.ends.items self.new.ends.ends.items (number end) (ReadLeft (length into.old) result) }
+        ensures left { PlaceLeft self.old.ends.ends.items self.new.ends.ends.items (number end) (ReadLeft into.new result) }
         ensures others { self.new ≡ record self.old { ends = self.new.ends } }
 
         // What every port says.
@@ -479,7 +296,7 @@ impl<'a, R: Net + Clock + AllocGlobal> Port for MioPort<'a, R> {
     fn write(&mut self, end: SideId, from: &[u8]) -> WriteAnswer
         requires { 0 < length from.now }
         ensures by { WrittenBy (connection_at self.old.ends.ends.items end) result }
-        ensures left { PlaceLeft self.old.ends.ends.items self.new.ends.ends.items (number end) (WriteLeft (length from.now) result) }
+        ensures left { PlaceLeft self.old.ends.ends.items self.new.ends.ends.items (number end) (WriteLeft from.now result) }
         ensures others { self.new ≡ record self.old { ends = self.new.ends } }
 
         // What every port says.
@@ -493,7 +310,8 @@ impl<'a, R: Net + Clock + AllocGlobal> Port for MioPort<'a, R> {
     }
 
     fn close_write(&mut self, end: SideId)
-        ensures same { self.new ≡ self.old }
+        ensures ended { PlaceWent self.old.ends.ends.items self.new.ends.ends.items (number end) ended_end }
+        ensures others { self.new ≡ record self.old { ends = self.new.ends } }
 
         // What every port says.
         ensures cause { FaultsStay (mio_faults self.old) (mio_faults self.new) }
@@ -506,8 +324,8 @@ impl<'a, R: Net + Clock + AllocGlobal> Port for MioPort<'a, R> {
 
     fn close(&mut self, end: SideId)
         ensures gone { PlaceWent self.old.ends.ends.items self.new.ends.ends.items (number end) closed_end }
-        ensures pause { self.new.door.paused_to ≡ None }
-        ensures others { self.new ≡ record self.old { ends = self.new.ends; door = record self.old.door { paused_to = None } } }
+        ensures pause { self.new.acceptor.paused_to ≡ None }
+        ensures others { self.new ≡ record self.old { ends = self.new.ends; acceptor = record self.old.acceptor { paused_to = None } } }
 
         // What every port says.
         ensures cause { FaultsStay (mio_faults self.old) (mio_faults self.new) }
@@ -516,7 +334,7 @@ impl<'a, R: Net + Clock + AllocGlobal> Port for MioPort<'a, R> {
         ensures vouched { LongerBy (vouches_nothing self.old) (vouches_nothing self.new) (close_events end) }
     {
         self.ends.close(end);
-        self.door.end_pause();
+        self.acceptor.end_pause();
     }
 
     ghost waits_no_more = { λ plan t u quiet waits. waits };

@@ -19,10 +19,10 @@ loop-event-preserved c =
     let other = ap (λ (t : Token). t.0 == 2 ^ 64 - 1) (sym c.token.ensures) ∙ sym c.if-eq.ensures in
     record {
       ends = λ n. notice.counts n ∙ was.ends n;
-      door = was.door;
+      acceptor = was.acceptor;
       heard = all_heard_more _ _ _ _ seen was.heard notice.went;
       listener = was.listener;
       waits = was.waits;
       told = tell-end (iter_rest c.loop-event.event-iterator) (iter_rest c.next.new.self) (items c.args.self.now.events) seen
-          c.args.ends.now.ends.items ends now_ends c.args.door.now.ready c.loop-event.door.ready c.in-Some.ensures.steps was.told other went;
+          c.args.ends.now.ends.items ends now_ends c.args.acceptor.now.ready c.loop-event.acceptor.ready c.in-Some.ensures.steps was.told other went;
     }

@@ -10,9 +10,9 @@ use Rattle.mio_port.proofs.kernel.Kernel.tell.Given as goal
 abbrev pub invariant-loop-event : goal.invariant-loop-event
 invariant-loop-event l = record {
   ends : CountsStay l.initial.ends.ends.items l.ends.ends.items;
-  door : l.door.faults ≡ l.initial.door.faults;
+  acceptor : l.acceptor.faults ≡ l.initial.acceptor.faults;
   heard : AllHeard l.initial.ends.ends.items l.ends.ends.items;
-  listener : l.door ≡ record l.initial.door { ready = l.door.ready };
-  waits : l.initial.door.ready ≡ true → l.door.ready ≡ true;
-  told : StillToTell (iter_rest l.event-iterator) (items l.self.events) l.initial.ends.ends.items l.ends.ends.items l.initial.door.ready l.door.ready;
+  listener : l.acceptor ≡ record l.initial.acceptor { ready = l.acceptor.ready };
+  waits : l.initial.acceptor.ready ≡ true → l.acceptor.ready ≡ true;
+  told : StillToTell (iter_rest l.event-iterator) (items l.self.events) l.initial.ends.ends.items l.ends.ends.items l.initial.acceptor.ready l.acceptor.ready;
 }

@@ -1,12 +1,14 @@
 // The listener, where its links are connected to, and when it can be asked for another link.
-ghost use Rattle.std.specs.Prelude.{◌≡◌, None, Some, is_none, true, false, Err, IfOk};
+ghost use Rattle.std.specs.Prelude.{◌≡◌, ◌∷◌, [], None, Some, is_none, true, false, Err, IfOk};
 ghost use Rattle.std.specs.IoError.{error_kind, raw_os_error};
 ghost use Rattle.mio_port.specs.Scarcity.{is_scarce};
-ghost use Rattle.mio_port.specs.Door.{miss_of_kind, addr_of, shut_door, opened_door, is_open, after_time, faulty_door};
+ghost use Rattle.mio_port.specs.Acceptor.{no_link_of_kind, addr_of, shut_acceptor, opened_acceptor, is_open, after_time, faulty_acceptor};
 
 use crate::scarce::is_scarce;
+use crate::socket::Socket;
+use crate::socket_call::SocketCall;
 use ev_port::Addr;
-use mio::net::{TcpListener, TcpStream};
+use mio::net::TcpListener;
 use std::io;
 use std::io::ErrorKind;
 use std::net::{Ipv4Addr, Net, SocketAddr};
@@ -25,7 +27,7 @@ pub(crate) struct Listener {
 ///
 /// Own.
 #[derive(Drop)]
-pub(crate) struct Door {
+pub(crate) struct Acceptor {
     listener: Option<Listener>,
     target: Option<SocketAddr>,
     ready: bool,
@@ -38,21 +40,21 @@ pub(crate) struct Door {
 ///
 /// Own.
 #[derive(Clone, Copy)]
-pub(crate) enum Miss {
+pub(crate) enum NoLink {
     NoneWaits,
     Again,
     Scarce,
     Failed,
 }
 
-pub(crate) fn miss_of(error: &io::Error) -> Miss
-    ensures { result ≡ miss_of_kind (error_kind error.now) (is_scarce (raw_os_error error.now)) }
+pub(crate) fn no_link_of(error: &io::Error) -> NoLink
+    ensures { result ≡ no_link_of_kind (error_kind error.now) (is_scarce (raw_os_error error.now)) }
 {
     match error.kind() {
-        ErrorKind::WouldBlock => Miss::NoneWaits,
-        ErrorKind::Interrupted | ErrorKind::ConnectionAborted => Miss::Again,
-        _ if is_scarce(error) => Miss::Scarce,
-        _ => Miss::Failed,
+        ErrorKind::WouldBlock => NoLink::NoneWaits,
+        ErrorKind::Interrupted | ErrorKind::ConnectionAborted => NoLink::Again,
+        _ if is_scarce(error) => NoLink::Scarce,
+        _ => NoLink::Failed,
     }
 }
 
@@ -87,11 +89,11 @@ impl Listener {
     }
 }
 
-impl Door {
-    pub(crate) fn new() -> Door
-        ensures { result ≡ shut_door 0 }
+impl Acceptor {
+    pub(crate) fn new() -> Acceptor
+        ensures { result ≡ shut_acceptor 0 }
     {
-        Door {
+        Acceptor {
             listener: None,
             target: None,
             ready: false,
@@ -102,7 +104,7 @@ impl Door {
 
     /// Drops the listener.
     pub(crate) fn shut(&mut self)
-        ensures { self.new ≡ shut_door self.old.faults }
+        ensures { self.new ≡ shut_acceptor self.old.faults }
     {
         self.listener = None;
         self.target = None;
@@ -111,7 +113,7 @@ impl Door {
     }
 
     pub(crate) fn open(&mut self, listener: Listener, target: SocketAddr)
-        ensures { self.new ≡ opened_door listener target self.old.faults }
+        ensures { self.new ≡ opened_acceptor listener target self.old.faults }
     {
         self.shut();
         self.listener = Some(listener);
@@ -177,21 +179,22 @@ impl Door {
     }
 
     pub(crate) fn count_fault(&mut self)
-        ensures { self.new ≡ faulty_door self.old }
+        ensures { self.new ≡ faulty_acceptor self.old }
     {
         self.faults = self.faults.saturating_add(1);
     }
 
     /// Asks for a connection. It changes nothing here.
-    pub(crate) fn ask(&self) -> Result<TcpStream, Miss>
-        ensures { is_none self.now.listener ≡ true → result ≡ Err Miss.NoneWaits }
+    pub(crate) fn ask(&self) -> Result<Socket, NoLink>
+        ensures none { is_none self.now.listener ≡ true → result ≡ Err NoLink.NoneWaits }
+        ensures came { IfOk result (λ socket. socket.log.calls ≡ (SocketCall.Came, []) ∷ []) }
     {
         let Some(listener) = &self.listener else {
-            return Err(Miss::NoneWaits);
+            return Err(NoLink::NoneWaits);
         };
-        match listener.socket.accept() {
-            Ok((stream, _from)) => Ok(stream),
-            Err(error) => Err(miss_of(&error)),
+        match Socket::came(&listener.socket) {
+            Ok(socket) => Ok(socket),
+            Err(error) => Err(no_link_of(&error)),
         }
     }
 }

@@ -8,21 +8,21 @@ use Rattle.std.specs.Net.Socket.{v4_ip, v4_port}
 use Rattle.std.specs.declared.net.socket_addr.SocketAddr.{SocketAddr}
 use Rattle.ev_port.specs.Counting.{counted, risen_if}
 use Rattle.ev_types.specs.declared.addr.Addr.{Addr}
-use Rattle.mio_port.specs.declared.door.Miss.{Miss}
-use Rattle.mio_port.specs.declared.door.Miss.TheVariants as miss
-use Rattle.mio_port.specs.declared.door.Door.{Door}
-use Rattle.mio_port.specs.declared.door.Listener.{Listener}
+use Rattle.mio_port.specs.declared.acceptor.NoLink.{NoLink}
+use Rattle.mio_port.specs.declared.acceptor.NoLink.TheVariants as no_link
+use Rattle.mio_port.specs.declared.acceptor.Acceptor.{Acceptor}
+use Rattle.mio_port.specs.declared.acceptor.Listener.{Listener}
 
 -- no listener, after so many faults
-abbrev pub shut_door : ℕ → Door
-shut_door faults = record { listener = None; target = None; ready = false; paused_to = None; faults = faults }
+abbrev pub shut_acceptor : ℕ → Acceptor
+shut_acceptor faults = record { listener = None; target = None; ready = false; paused_to = None; faults = faults }
 
 -- a listener that was just made
-abbrev pub opened_door : Listener → SocketAddr → ℕ → Door
-opened_door listener target faults =
+abbrev pub opened_acceptor : Listener → SocketAddr → ℕ → Acceptor
+opened_acceptor listener target faults =
     record { listener = Some listener; target = Some target; ready = false; paused_to = None; faults = faults }
 
-abbrev pub is_open : Door → Bool
+abbrev pub is_open : Acceptor → Bool
 is_open d = d.ready && is_none d.paused_to
 
 -- a pause that reached its end is over
@@ -30,36 +30,36 @@ abbrev pub pause_after : Option ℕ → ℕ → Option ℕ
 pause_after None time = None
 pause_after (Some to) time = if nat_le to time then None else Some to
 
-abbrev pub after_time : Door → ℕ → Door
+abbrev pub after_time : Acceptor → ℕ → Acceptor
 after_time d time = record d { paused_to = pause_after d.paused_to time }
 
 -- it met one more fault
-abbrev pub faulty_door : Door → Door
-faulty_door d = record d { faults = risen_if true d.faults }
+abbrev pub faulty_acceptor : Acceptor → Acceptor
+faulty_acceptor d = record d { faults = risen_if true d.faults }
 
 -- paused for 100 milliseconds from this time on
-abbrev pub paused_door : Door → ℕ → Door
-paused_door d time = record d { paused_to = Some (counted time 100) }
+abbrev pub paused_acceptor : Acceptor → ℕ → Acceptor
+paused_acceptor d time = record d { paused_to = Some (counted time 100) }
 
 -- it was asked for a link at this time and gave none: it isn't ready where none waits, and paused where the system is short
-abbrev pub missed_door : Door → Miss → ℕ → Door
-missed_door d miss.NoneWaits time = record d { ready = false }
-missed_door d miss.Again time = d
-missed_door d miss.Scarce time = paused_door d time
-missed_door d miss.Failed time = faulty_door d
+abbrev pub refused_acceptor : Acceptor → NoLink → ℕ → Acceptor
+refused_acceptor d no_link.NoneWaits time = record d { ready = false }
+refused_acceptor d no_link.Again time = d
+refused_acceptor d no_link.Scarce time = paused_acceptor d time
+refused_acceptor d no_link.Failed time = faulty_acceptor d
 
 -- a poll that ended at this time ends a pause that is over, and may tell that a link waits
-pub record DoorHeard (old new : Door) (time : ℕ) : Type 0 where
+pub record AcceptorHeard (old new : Acceptor) (time : ℕ) : Type 0 where
   pub rest : new ≡ record old { ready = new.ready; paused_to = new.paused_to }
   pub ready : old.ready ≡ true → new.ready ≡ true
   pub paused : new.paused_to ≡ pause_after old.paused_to time
 
 -- what an error of an accept says: none waits, another may wait, the system is short of something, or it failed
-abbrev pub miss_of_kind : ErrorKind → Bool → Miss
-miss_of_kind kind.WouldBlock scarce = miss.NoneWaits
-miss_of_kind kind.Interrupted scarce = miss.Again
-miss_of_kind kind.ConnectionAborted scarce = miss.Again
-miss_of_kind _ scarce = if scarce then miss.Scarce else miss.Failed
+abbrev pub no_link_of_kind : ErrorKind → Bool → NoLink
+no_link_of_kind kind.WouldBlock scarce = no_link.NoneWaits
+no_link_of_kind kind.Interrupted scarce = no_link.Again
+no_link_of_kind kind.ConnectionAborted scarce = no_link.Again
+no_link_of_kind _ scarce = if scarce then no_link.Scarce else no_link.Failed
 
 -- an IPv4 address with its port; no other address is told
 abbrev pub addr_of : SocketAddr → Option Addr

@@ -1,0 +1,100 @@
+// What an accept does but for what every port says of it: a connection that came, one to the target, and what is answered where
+// there is none.
+ghost use Rattle.std.specs.Prelude.{◌≡◌, ◌≤◌};
+ghost use Rattle.ev_port.specs.Faults.{ListenerFaults};
+ghost use Rattle.ev_port.specs.Calls.{is_failed_accept};
+ghost use Rattle.mio_port.specs.Acceptor.{refused_acceptor, paused_acceptor};
+ghost use Rattle.mio_port.specs.EndLeft.{IsNewOut, IsNewPair};
+ghost use Rattle.mio_port.specs.PortCalls.{HasNoFault, IsNoLink, no_link_answer};
+ghost use Rattle.mio_port.specs.PortFaults.{mio_faults};
+
+use super::MioPort;
+use crate::acceptor::{NoLink, no_link_of};
+use crate::end::End;
+use crate::ends::{in_end, out_end};
+use crate::kernel::Kernel;
+use ev_port::Accepted;
+use std::alloc::AllocGlobal;
+use std::net::{Net, SocketAddr};
+use std::time::Clock;
+
+/// For so many milliseconds no link is asked for after the system had no descriptor or no memory for one, unless an end
+/// is closed sooner.
+const SCARCE_PAUSE: u64 = 100;
+
+impl<R: Net + Clock + AllocGlobal> MioPort<'_, R> {
+    fn pause(&mut self)
+        ensures faults { self.new.acceptor.faults ≡ self.old.acceptor.faults }
+        ensures polling { self.new.polling_faults ≡ self.old.polling_faults }
+        ensures paused { self.new.acceptor ≡ paused_acceptor self.old.acceptor self.new.clock.last }
+        ensures steady { self.old.clock.last ≤ self.new.clock.last }
+        ensures ends { self.new.ends ≡ self.old.ends }
+    {
+        let time = self.clock.read(self.rt);
+        self.acceptor.pause(time.saturating_add(SCARCE_PAUSE));
+    }
+
+    // Asks for a connection only while a descriptor is kept for its other end.
+    pub(super) fn pair(&mut self, link: u32) -> Result<(End, End), NoLink>
+        ensures pair { HasNoFault result }
+        ensures made { IsNewPair link self.old.acceptor.target result }
+        ensures clock { self.new.clock ≡ self.old.clock }
+        ensures ends { self.new.ends ≡ self.old.ends }
+        ensures acceptor { self.new.acceptor ≡ self.old.acceptor }
+        ensures polling { self.new.polling_faults ≡ self.old.polling_faults }
+    {
+        let Some(kernel) = &mut self.kernel else {
+            return Err(NoLink::NoneWaits);
+        };
+        if let Err(error) = kernel.keep_spare() {
+            return Err(no_link_of(&error));
+        }
+        let socket = self.acceptor.ask()?;
+        let target = self.acceptor.target();
+        match kernel.end(socket, in_end(link).number()) {
+            Ok(inside) => {
+                let number = out_end(link).number();
+                Ok((inside, outside(self.rt, kernel, target, number)))
+            }
+            Err(error) => Err(no_link_of(&error)),
+        }
+    }
+
+    // No link is made.
+    pub(super) fn refuse(&mut self, why: NoLink) -> Accepted
+        ensures cause { ListenerFaults (mio_faults self.old) (mio_faults self.new) (is_failed_accept result) }
+        ensures none { IsNoLink result }
+        ensures answer { result ≡ no_link_answer why }
+        ensures listener { self.new.acceptor ≡ refused_acceptor self.old.acceptor why self.new.clock.last }
+        ensures steady { self.old.clock.last ≤ self.new.clock.last }
+        ensures ends { self.new.ends ≡ self.old.ends }
+    {
+        match why {
+            NoLink::NoneWaits => self.acceptor.ran_out(),
+            NoLink::Again => {}
+            NoLink::Scarce => self.pause(),
+            NoLink::Failed => {
+                self.acceptor.count_fault();
+                return Accepted::Failed;
+            }
+        }
+        Accepted::NotYet
+    }
+}
+
+// A connection to the target that is begun, or an end that was refused.
+fn outside<R: Net>(rt: &R, kernel: &mut Kernel, target: Option<SocketAddr>, number: usize) -> End
+    ensures faultless { result.faults ≡ 0 }
+    ensures made { IsNewOut number target result }
+{
+    let Some(target) = target else {
+        return End::refused();
+    };
+    let Ok(socket) = kernel.connect(rt, target) else {
+        return End::refused();
+    };
+    match kernel.end(socket, number) {
+        Ok(end) => end,
+        Err(_) => End::refused(),
+    }
+}
