@@ -1,5 +1,7 @@
 -- The definitions at worked runs, so that a wrong rule in them does not check.
 use Rattle.std.proofs.Common.{◌≡◌, ℕ, Bool, true, false, List, [], ◌∷◌, refl, Option, None, Some, Result, Ok, Err}
+use Rattle.event_base.specs.declared.fault.BaseFault.{BaseFault}
+use Rattle.event_base.specs.declared.fault.BaseFault.TheVariants.{NoEvent}
 use Rattle.event_base.specs.Base.{BaseValue}
 use Rattle.event_base.specs.Freeing.{free_event, is_pending}
 use Rattle.event_base.specs.Calls.{Step, new_base, new_event, set_priority, add_event, del_event, activate, signal, begin_turn, next_active, next_fire, poll_timeout, loop_break, loop_exit, ended}
@@ -82,7 +84,13 @@ known_joined = (refl, refl, refl, refl)
 abbrev frees : Step
 frees = run (new_base 1) (persists ∷ once ∷ adds 0 5 ∷ adds 1 5 ∷ turn 5 ∷ (λ b. free_event b 0) ∷ [])
 
+-- whether an event is pending after some calls
+abbrev tells : ℕ → Step → Option (Result Bool BaseFault)
+tells event (Ok b) = Some (is_pending b event)
+tells event (Err fault) = None
+
 pub known_freed : (sees frees ≡ Some (Some (1, 1), Some 0))
     × (sees (elim frees [ Ok b ↦ run b (adds 0 1 ∷ []) | Err f ↦ Err f ]) ≡ None)
-    × (elim frees [ Ok b ↦ Some (is_pending b 1) | Err f ↦ None ] ≡ Some (Ok true))
-known_freed = (refl, refl, refl)
+    × (tells 1 frees ≡ Some (Ok true))
+    × (tells 0 frees ≡ Some (Err NoEvent))
+known_freed = (refl, refl, refl, refl)

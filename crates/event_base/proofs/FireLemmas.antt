@@ -18,7 +18,7 @@ use Rattle.event_base.specs.Tied.{value_at, Mirrors, place_of, moment_of}
 use Rattle.event_base.proofs.RousingLemmas.{placed_at}
 use Rattle.event_base.proofs.TiedLemmas.{slice_get-within, slice_get-get_or}
 
-any_from : (p : Event → Bool) (xs : List Event) (k : ℕ) (x : Event) → slice_get xs k ≡ Some x → p x ≡ true → list_any p xs ≡ true
+pub any_from : (p : Event → Bool) (xs : List Event) (k : ℕ) (x : Event) → slice_get xs k ≡ Some x → p x ≡ true → list_any p xs ≡ true
 any_from p [] k x is h = cc is
 any_from p (y ∷ ys) zero x is h = (let same : y ≡ x = cc is in ap (λ b. b || list_any p ys) (ap p same ∙ h))
 any_from p (y ∷ ys) (suc k) x is h = ap (λ b. p y || b) (any_from p ys k x is h) ∙ either (p y)

@@ -9,3 +9,4 @@ mod FireLemmas
 mod CallLemmas
 mod Examples
 mod RunLemmas
+mod OrderLemmas

@@ -381,8 +381,7 @@ persistent-is_set_again b next k flags e t fires went there persists timed =
     let is : slice_get next.events k ≡ Some after = ap (λ (x : BaseValue). slice_get x.events k) (sym same) ∙ slice_get-set_same
     b.events k e after there in
     let waits : after.timeout ≡ Some u = ap (λ c. option_map (set_again b.time order a.flags) (cond c e.timeout None)) persists ∙ ap
-    (option_map (set_again b.time order a.flags)) timed in
-    (
+    (option_map (set_again b.time order a.flags)) timed in (
       after,
       u,
       is,

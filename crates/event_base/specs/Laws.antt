@@ -6,7 +6,9 @@ use Rattle.event_base.specs.declared.event.Timeout.{Timeout}
 use Rattle.event_base.specs.declared.fault.BaseFault.TheVariants.{NoEvent}
 use Rattle.event_base.specs.Base.{BaseValue}
 use Rattle.event_base.specs.Events.{has_timed_out}
-use Rattle.event_base.specs.Calls.{set_priority, add_event, del_event, activate, next_active, next_fire}
+use Rattle.event_base.specs.Calls.{set_priority, add_event, del_event, activate, begin_turn, next_active, next_fire}
+use Rattle.event_base.specs.Turns.{time_at, wakes, comes_before}
+use Rattle.event_base.specs.Tied.{value_at, place_of}
 use Rattle.event_base.specs.Freeing.{free_event, is_pending}
 use Rattle.event_base.specs.Runs.{Call, Leads, rouses}
 
@@ -52,4 +54,16 @@ abbrev pub PersistentIsSetAgain : Type 0
 PersistentIsSetAgain = (b next : BaseValue) (k flags : ℕ) (e : Event) (t : Timeout) → next_fire b ≡ Some (k, flags)
     → next_active b ≡ Ok next → slice_get b.events k ≡ Some e → e.persist ≡ true → e.timeout ≡ Some t
     → (after : Event) × (u : Timeout) × (slice_get next.events k ≡ Some after) × Waits e u after
-        × IsSetAgain b.time (b.last_adding + 1) flags t u
+    × IsSetAgain b.time (b.last_adding + 1) flags t u
+
+-- the place of an event among the active ones, its priority and its order number of activation, is that of another base
+abbrev pub KeepsPlace : ℕ → BaseValue → BaseValue → Type 0
+KeepsPlace k b c = value_at place_of c.events k ≡ value_at place_of b.events k
+
+-- Of two events of one priority that a turn makes active by their timeouts, the one with the earlier deadline, or of equal ones that
+-- was added before, has its call first: as long as both stand as that turn left them, the other's is not next.
+abbrev pub TimersFireInOrder : Type 0
+TimersFireInOrder = (b begun last : BaseValue) (now first second : ℕ) (e o : Event) (t u : Timeout) → begin_turn b now ≡ Ok begun
+    → slice_get b.events first ≡ Some e → wakes (time_at b.time now) e ≡ true → e.timeout ≡ Some t
+    → slice_get b.events second ≡ Some o → wakes (time_at b.time now) o ≡ true → o.timeout ≡ Some u
+    → comes_before t u ≡ true → e.priority ≡ o.priority → KeepsPlace first begun last → KeepsPlace second begun last → IsQuiet second last

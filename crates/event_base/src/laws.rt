@@ -1,5 +1,5 @@
 // What holds over any calls on a base, by what each call's clauses say.
-ghost use Rattle.event_base.specs.Laws.{DeletedIsQuiet, FreedIsGone, PersistentIsSetAgain};
+ghost use Rattle.event_base.specs.Laws.{DeletedIsQuiet, FreedIsGone, PersistentIsSetAgain, TimersFireInOrder};
 
 /// A deleted event has no callback until it is added or made active by its number.
 ///
@@ -20,4 +20,13 @@ pub fn freed_events_are_gone()
 /// Libevent: event2/event.h, `EV_PERSIST`.
 pub fn persistent_timers_are_set_again()
     ensures { PersistentIsSetAgain }
+{}
+
+/// Of two timers of one priority that are due in a turn the one with the earlier deadline has its call first, and of equal
+/// deadlines the one that was added before.
+///
+/// Libevent: event-internal.h, `timeheap`.
+/// Differs: equal deadlines keep the order of adding.
+pub fn timers_fire_in_order()
+    ensures { TimersFireInOrder }
 {}

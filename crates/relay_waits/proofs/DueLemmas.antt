@@ -1,5 +1,5 @@
 -- What is due by number, call by call.
-use Rattle.std.proofs.Common.{◌≡◌, ℕ, Bool, true, false, not, cond, List, [], ◌∷◌, ◌++◌, map, Option, Some, None, option_map, refl, sym, ◌∙◌, ap, subst}
+use Rattle.std.proofs.Common.{◌≡◌, ℕ, Bool, true, false, not, cond, List, [], ◌∷◌, ◌++◌, map, Option, Some, None, option_map, refl, sym, ◌∙◌, ap}
 use Rattle.std.specs.Prelude.{nat_eq, filter}
 use Rattle.std.specs.Bool.{then_some}
 use Rattle.std.specs.Option.{option_to_list}
@@ -12,10 +12,10 @@ use Rattle.ev_types.specs.Sides.{number, same_end}
 use Rattle.deferred_cb.specs.declared.reasons.Reasons.{Reasons}
 use Rattle.deferred_cb.specs.DueValue.{DueValue}
 use Rattle.deferred_cb.specs.DueCalls as by_number
-use Rattle.relay_model.specs.Due.{Due, Reason, nothing_due, joined, joined_flags, with_reason, without_due, without_reasons, reason_where, event_reason, reasons, batch}
+use Rattle.relay_model.specs.Due.{Due, Reason, nothing_due, joined, joined_flags, with_reason, reason_where, event_reason, reasons}
 use Rattle.relay_waits.specs.Numbered.{side_of}
 use Rattle.relay_waits.specs.DueSides.{due_of, dues, reason_of, left_to_call}
-use Rattle.relay_waits.specs.DueLaws.{ReasonsJoin, SidesAreForgotten, BatchesAreFired, DueCall, Does, MayLead, DoAll, LeadOn, seen, Waiting, DueIsTheModels}
+use Rattle.relay_waits.specs.DueLaws.{ReasonsJoin, SidesAreForgotten, BatchesAreFired, DueCall, Does, MayLead, seen, Waiting, DueIsTheModels}
 use Rattle.relay_waits.proofs.NumberLemmas.{same-number, side-of_number}
 
 flags-joined : (o : Option Flags) (f : Flags) → option_map (λ (g : Flags). g.0) (by_number.joined_flags o f) ≡
@@ -37,23 +37,26 @@ new-is e y = joined-is (number e) by_number.no_reasons y ∙ ap (λ s. joined (n
 
 pub reasons-join : ReasonsJoin
 reasons-join e y [] = ap (λ d. d ∷ []) (new-is e y)
-reasons-join e y (x ∷ xs) = split (nat_eq (number e) x.0) ∙ ap
+reasons-join e y (x ∷ xs) = split (reasons-join e y xs) (nat_eq (number e) x.0) ∙ ap
     (λ b. cond b (joined (due_of x) y ∷ dues xs) (due_of x ∷ with_reason e y (dues xs))) (sym (same-number e x.0))
   where
-    split : (b : Bool) → dues (cond b ((x.0, by_number.joined x.1 y) ∷ xs) (x ∷ by_number.with_reason (number e) y xs)) ≡
+    split : dues (by_number.with_reason (number e) y xs) ≡ with_reason e y (dues xs) → (b : Bool) →
+        dues (cond b ((x.0, by_number.joined x.1 y) ∷ xs) (x ∷ by_number.with_reason (number e) y xs)) ≡
         cond b (joined (due_of x) y ∷ dues xs) (due_of x ∷ with_reason e y (dues xs))
-    split true = ap (λ d. d ∷ dues xs) (joined-is x.0 x.1 y)
-    split false = ap (λ ds. due_of x ∷ ds) (reasons-join e y xs)
+    split rest true = ap (λ d. d ∷ dues xs) (joined-is x.0 x.1 y)
+    split rest false = ap (λ ds. due_of x ∷ ds) rest
 
 -- what passes a test stays, by number and by side
 filter-map : {A B : Type 0} (f : A → B) (p : A → Bool) (q : B → Bool) (xs : List A) → ((x : A) → q (f x) ≡ p x) →
     map f (filter p xs) ≡ filter q (map f xs)
 filter-map f p q [] same = refl
-filter-map {A} {B} f p q (x ∷ xs) same = split (p x) ∙ ap (λ b. cond b (f x ∷ filter q (map f xs)) (filter q (map f xs))) (sym (same x))
+filter-map {A} {B} f p q (x ∷ xs) same = split (filter-map f p q xs same) (p x) ∙ ap
+    (λ b. cond b (f x ∷ filter q (map f xs)) (filter q (map f xs))) (sym (same x))
   where
-    split : (b : Bool) → map f (cond b (x ∷ filter p xs) (filter p xs)) ≡ cond b (f x ∷ filter q (map f xs)) (filter q (map f xs))
-    split true = ap (λ ys. f x ∷ ys) (filter-map f p q xs same)
-    split false = filter-map f p q xs same
+    split : map f (filter p xs) ≡ filter q (map f xs) → (b : Bool) →
+        map f (cond b (x ∷ filter p xs) (filter p xs)) ≡ cond b (f x ∷ filter q (map f xs)) (filter q (map f xs))
+    split rest true = ap (λ ys. f x ∷ ys) rest
+    split rest false = rest
 
 pub sides-are_forgotten : SidesAreForgotten
 sides-are_forgotten e es calls = (
@@ -76,7 +79,8 @@ left-append : (xs ys : List by_number.Call) → left_to_call (xs ++ ys) ≡ left
 left-append xs ys = map-append reason_of xs ys
 
 -- two lists of calls, one behind the other
-both : (xs ys : List by_number.Call) (rs ts : List Reason) → left_to_call xs ≡ rs → left_to_call ys ≡ ts → left_to_call (xs ++ ys) ≡ rs ++ ts
+both : (xs ys : List by_number.Call) (rs ts : List Reason) → left_to_call xs ≡ rs → left_to_call ys ≡ ts →
+    left_to_call (xs ++ ys) ≡ rs ++ ts
 both xs ys rs ts f g = left-append xs ys ∙ (λ i. f i ++ g i)
 
 -- the calls of an entry

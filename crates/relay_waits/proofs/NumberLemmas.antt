@@ -1,12 +1,12 @@
 -- A side and its number name each other.
-use Rattle.std.proofs.Common.{◌≡◌, ◌≢◌, ℕ, ◌+◌, ◌*◌, ◌/◌, ◌==◌, Bool, true, false, ◌&&◌, cond, ⊎_elim, refl, sym, ◌∙◌, ap, subst, arith}
+use Rattle.std.proofs.Common.{◌≡◌, ℕ, ◌+◌, ◌*◌, ◌/◌, ◌==◌, Bool, true, false, ◌&&◌, cond, ⊎_elim, refl, sym, ◌∙◌, arith}
 use Rattle.std.specs.Prelude.{nat_eq}
 use Rattle.std.proofs.lemmas.Bool.{cases_eq, eq-eqb, ne_eqb, eqb-true}
 use Rattle.ev_types.specs.declared.side.Side.{Side}
 use Rattle.ev_types.specs.declared.side.Side.TheVariants.{In, Out}
 use Rattle.ev_types.specs.declared.side.SideId.{SideId}
 use Rattle.ev_types.specs.Sides.{half, number, same_side, same_end}
-use Rattle.relay_waits.specs.Numbered.{half_of, side_of}
+use Rattle.relay_waits.specs.Numbered.{side_of}
 
 -- two tests that hold together are one
 same-tests : (x y a b : ℕ) → (x ≡ y → a ≡ b) → (a ≡ b → x ≡ y) → (x == y) ≡ (a == b)
@@ -54,12 +54,15 @@ halves In l false h = (let yes = eq-eqb (2 * ((2 * l + 0) / 2)) (2 * l + 0) (ome
 halves Out l true h = (let bad = eqb-true (2 * ((2 * l + 1) / 2)) (2 * l + 1) h in absurd (omega (arith, bad)))
 halves Out l false h = refl
 
+abbrev named_side : ℕ → Side → SideId
+named_side l s = record { link = l; side = s }
+
 -- the side of a side's number is that side
 pub side-of_number : (e : SideId) → side_of (number e) ≡ e
 side-of_number e =
     let link : number e / 2 ≡ e.link = links e.side e.link in
     let half = halves e.side e.link (2 * (number e / 2) == number e) refl in
-    rw (link, half) refl
+    (λ i. named_side (link i) (half i))
   where
     links : (s : Side) (l : ℕ) → (2 * l + half s) / 2 ≡ l
     links In l = omega arith

@@ -1,5 +1,5 @@
 -- What is due by number is what the relay's model has due by side, call by call and over any calls.
-use Rattle.std.specs.Prelude.{◌≡◌, ℕ, List, [], ◌∷◌, ◌++◌, length, Option, None}
+use Rattle.std.specs.Prelude.{◌≡◌, List, [], ◌∷◌, ◌++◌, Option}
 use Rattle.std.specs.Option.{option_to_list}
 use Rattle.ev_types.specs.declared.side.SideId.{SideId}
 use Rattle.ev_types.specs.declared.why.Why.{Why}
@@ -7,7 +7,7 @@ use Rattle.ev_types.specs.Sides.{number}
 use Rattle.deferred_cb.specs.DueValue.{DueValue}
 use Rattle.deferred_cb.specs.DueCalls as by_number
 use Rattle.relay_model.specs.Due.{Due, Reason, with_reason, without_due, without_reasons, batch}
-use Rattle.relay_waits.specs.DueSides.{dues, reason_of, left_to_call}
+use Rattle.relay_waits.specs.DueSides.{dues, left_to_call}
 
 -- a reason that becomes due for a side's number becomes due for the side
 abbrev pub ReasonsJoin : Type 0

@@ -1,5 +1,5 @@
 -- The callbacks that are due by number, as the relay's model has them by side.
-use Rattle.std.specs.Prelude.{ℕ, List, map, option_map}
+use Rattle.std.specs.Prelude.{List, map, option_map}
 use Rattle.ev_types.specs.declared.why.Flags.{Flags}
 use Rattle.deferred_cb.specs.DueCalls as by_number
 use Rattle.relay_model.specs.Due.{Due, Reason}

@@ -2,3 +2,4 @@ pub mod Numbered
 pub mod DueSides
 pub mod DueLaws
 pub mod TimerSides
+pub mod TimerLaws

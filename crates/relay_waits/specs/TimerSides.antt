@@ -1,5 +1,5 @@
 -- The timers that wait under a key, as the relay's model has them by side: the key is the side's number.
-use Rattle.std.specs.Prelude.{ℕ, List, map}
+use Rattle.std.specs.Prelude.{List, map}
 use Rattle.min_timer.specs.declared.timers.Timer as by_number
 use Rattle.relay_model.specs.Plain.{Timer}
 use Rattle.relay_waits.specs.Numbered.{side_of}

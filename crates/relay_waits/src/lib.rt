@@ -3,7 +3,9 @@
 #![tactic(auto)]
 
 mod due_laws;
+mod timer_laws;
 
-pub use due_laws::{
-    batches_are_fired, due_is_the_models, reasons_join, sides_are_forgotten,
+pub use due_laws::{batches_are_fired, due_is_the_models, reasons_join, sides_are_forgotten};
+pub use timer_laws::{
+    due_timers_are_taken, first_is_earliest, timers_are_cancelled, timers_are_placed,
 };
