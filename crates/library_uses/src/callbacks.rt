@@ -125,12 +125,6 @@ fn one_run(
     println!(rt; "{calls} calls of 4 reasons, {count} bytes are sent back")?;
     println!(rt; "the neighbour is live: {}", world.is_live(neighbour))?;
     println!(rt; "the client is live: {}", world.is_live(client))?;
-    give(world, client, count)?;
-    let calls = run_due(world, roster)?;
-    println!(rt;
-        "{calls} call, the client is live: {}",
-        world.is_live(client)
-    )?;
     Ok(())
 }
 
@@ -141,14 +135,6 @@ fn end(world: &mut World, id: BevId) -> Result<(), WorldFault>
 {
     world.ended(id, Dir::Read)?;
     Ok(())
-}
-
-// The socket took so many bytes.
-fn give(world: &mut World, id: BevId, count: usize) -> Result<(), WorldFault>
-    requires { IsIdle world.old }
-    ensures { IsIdle world.new }
-{
-    world.took(id, count, 2000)
 }
 
 // A socket that brought bytes.
