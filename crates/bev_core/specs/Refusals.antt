@@ -1,7 +1,10 @@
 -- Which refusal of a call on a bufferevent holds, the first first. Want of memory comes after all of them.
 use Rattle.std.specs.Prelude.{ℕ, ◌+◌, ◌-◌, ◌^◌, ◌==◌, nat_lt, if◌then◌else◌, Option, Some, None, length}
 use Rattle.std.specs.Option.{option_or}
+use Rattle.token_bucket.specs.declared.limit.Dir.{Dir}
+use Rattle.token_bucket.specs.declared.limit.Dir.TheVariants.{Write}
 use Rattle.bev_core.specs.BevValue.{Held, BevValue}
+use Rattle.bev_core.specs.Steps.{held}
 use Rattle.bev_core.specs.declared.fault.BevFault.{BevFault}
 use Rattle.bev_core.specs.declared.fault.BevFault.TheVariants.{NotLive, TooManyRefs, Spent}
 
@@ -13,13 +16,13 @@ live_refusal bev = if bev.live then None else Some NotLive
 abbrev pub length_refusal : Held → ℕ → Option BevFault
 length_refusal held n = if nat_lt (length held.bytes + n) (2 ^ 64) then None else Some Spent
 
+-- bytes come into the buffer of a direction
+abbrev pub feed_refusal : BevValue → Dir → ℕ → Option BevFault
+feed_refusal bev dir n = option_or (live_refusal bev) (length_refusal (held bev dir) n)
+
 -- bytes come into the output
 abbrev pub write_refusal : BevValue → ℕ → Option BevFault
-write_refusal bev n = option_or (live_refusal bev) (length_refusal bev.output n)
-
--- bytes come into the input
-abbrev pub add_refusal : BevValue → ℕ → Option BevFault
-add_refusal bev n = option_or (live_refusal bev) (length_refusal bev.input n)
+write_refusal bev n = feed_refusal bev Write n
 
 -- one reference more doesn't fit a u32
 abbrev pub incref_refusal : BevValue → Option BevFault

@@ -54,13 +54,9 @@ without_room held = if length held.bytes == 0 then nothing else held
 abbrev pub given_up : BevValue → BevValue
 given_up bev = record bev { input = without_room bev.input; output = without_room bev.output }
 
--- bytes come into the input in room that was made before
-abbrev pub pushed : BevValue → List ℕ → BevValue
-pushed bev bytes = record bev { input = more bev.input bytes (bev.input.spare - length bytes) }
-
--- bytes come into the output so
-abbrev pub pushed_output : BevValue → List ℕ → BevValue
-pushed_output bev bytes = record bev { output = more bev.output bytes (bev.output.spare - length bytes) }
+-- bytes come into the buffer of a direction in room that was made before
+abbrev pub fed_reserved : BevValue → Dir → List ℕ → BevValue
+fed_reserved bev dir bytes = with_held bev dir (more (held bev dir) bytes ((held bev dir).spare - length bytes))
 
 -- end of file was met in a direction
 abbrev pub ended_at : BevValue → Dir → BevValue

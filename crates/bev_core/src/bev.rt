@@ -8,13 +8,14 @@
 ghost use Rattle.std.specs.Prelude.{◌≡◌, ◌≤◌, ◌<◌, ◌+◌, ◌-◌, ◌^◌, ◌++◌, ◌==◌, [], length, drop, take, min, true, false, None, OnOk, OnErr, IfOk, if◌then◌else◌};
 ghost use Rattle.evbuf_chain.specs.Answers.{AnswersOr, fault_of};
 ghost use Rattle.bev_core.specs.BevValue.{new_bev, state_of, reaches_low};
-ghost use Rattle.bev_core.specs.Refusals.{live_refusal, length_refusal, write_refusal, add_refusal, incref_refusal, decref_refusal};
-ghost use Rattle.bev_core.specs.Steps.{with_enabled, with_marks, with_timeouts, touched, freed, more, less, given_up, ended_at, failed_at};
+ghost use Rattle.bev_core.specs.Refusals.{live_refusal, length_refusal, write_refusal, feed_refusal, incref_refusal, decref_refusal};
+ghost use Rattle.bev_core.specs.Steps.{held, with_held, with_enabled, with_marks, with_timeouts, touched, freed, more, less, given_up, ended_at, failed_at};
 ghost use Rattle.bev_core.specs.declared.fault.BevFault.TheVariants.{Memory};
 
 mod moves;
 mod readers;
 mod room;
+mod steps;
 
 use crate::fault::BevFault;
 use crate::own_buffer::OwnBuffer;
@@ -178,16 +179,7 @@ impl Bev {
         ensures err { OnErr result (self.new ≡ self.old) }
     {
         self.check_live()?;
-        match dir {
-            Dir::Read => {
-                self.read_low = low;
-                self.read_high = high;
-            }
-            Dir::Write => {
-                self.write_low = low;
-                self.write_high = high;
-            }
-        }
+        self.set_marks(dir, low, high);
         Ok(())
     }
 
@@ -201,10 +193,7 @@ impl Bev {
         ensures err { OnErr result (self.new ≡ self.old) }
     {
         self.check_live()?;
-        self.read_ms = read_ms;
-        self.write_ms = write_ms;
-        self.last_read = now;
-        self.last_write = now;
+        self.start_timeouts(read_ms, write_ms, now);
         Ok(())
     }
 
@@ -272,24 +261,15 @@ impl Bev {
         self.output.empty();
     }
 
-    /// How many bytes the input holds. With the room that is spare they fit a usize. Takes no memory; constant cost.
+    /// How many bytes the buffer of a direction holds: the input for reading, the output for writing. With the room that is spare they
+    /// fit a usize. Takes no memory; constant cost.
     ///
     /// Libevent: event2/buffer.h, `evbuffer_get_length`; "Evbuffers".
-    pub fn input_len(&self) -> usize
-        ensures len { result ≡ length self.now.input.bytes }
-        ensures fits { length self.now.input.bytes + self.now.input.spare < 2 ^ 64 }
+    pub fn len(&self, dir: Dir) -> usize
+        ensures len { result ≡ length (held self.now dir).bytes }
+        ensures fits { length (held self.now dir).bytes + (held self.now dir).spare < 2 ^ 64 }
     {
-        self.input.len()
-    }
-
-    /// How many bytes the output holds, as `input_len`.
-    ///
-    /// Libevent: event2/buffer.h, `evbuffer_get_length`; "Evbuffers".
-    pub fn output_len(&self) -> usize
-        ensures len { result ≡ length self.now.output.bytes }
-        ensures fits { length self.now.output.bytes + self.now.output.spare < 2 ^ 64 }
-    {
-        self.output.len()
+        self.buffer(dir).len()
     }
 
     /// Copies the first bytes of the input, as many as are there and fit, and answers how many. Takes no memory; linear in
@@ -313,22 +293,13 @@ impl Bev {
         self.output.copy_out(into)
     }
 
-    /// The first n bytes of the input, or all where there are fewer, in one piece. Takes no memory; constant cost.
+    /// The first n bytes of the buffer of a direction, or all where there are fewer, in one piece. Takes no memory; constant cost.
     ///
     /// Own.
-    pub fn front_input(&self, n: usize) -> &[u8]
-        ensures { result.now ≡ take n self.now.input.bytes }
+    pub fn front(&self, dir: Dir, n: usize) -> &[u8]
+        ensures { result.now ≡ take n (held self.now dir).bytes }
     {
-        self.input.front(n)
-    }
-
-    /// The first n bytes of the output, as `front_input`.
-    ///
-    /// Own.
-    pub fn front_output(&self, n: usize) -> &[u8]
-        ensures { result.now ≡ take n self.now.output.bytes }
-    {
-        self.output.front(n)
+        self.buffer(dir).front(n)
     }
 
     /// Copies bytes to the end of the output. Spent comes where the length would not fit a usize. Takes memory; linear in
@@ -340,20 +311,22 @@ impl Bev {
         ensures ok { OnOk result (self.new ≡ record self.old { output = more self.old.output bytes.now self.new.output.spare }) }
         ensures err { OnErr result (self.new ≡ self.old) }
     {
-        self.check_live()?;
-        self.output.add(bytes)
+        self.feed(Dir::Write, bytes)
     }
 
-    /// Copies bytes to the end of the input, as `write` to that of the output.
+    /// Copies bytes to the end of the buffer of a direction, as `write` to that of the output.
     ///
     /// Own.
-    pub fn add_input(&mut self, bytes: &[u8]) -> Result<(), BevFault>
-        ensures answer { AnswersOr Memory result (add_refusal self.old (length bytes.now)) }
-        ensures ok { OnOk result (self.new ≡ record self.old { input = more self.old.input bytes.now self.new.input.spare }) }
+    pub fn feed(&mut self, dir: Dir, bytes: &[u8]) -> Result<(), BevFault>
+        ensures answer { AnswersOr Memory result (feed_refusal self.old dir (length bytes.now)) }
+        ensures ok { OnOk result (self.new ≡ with_held self.old dir (more (held self.old dir) bytes.now (held self.new dir).spare)) }
         ensures err { OnErr result (self.new ≡ self.old) }
     {
         self.check_live()?;
-        self.input.add(bytes)
+        match dir {
+            Dir::Read => self.input.feed(bytes),
+            Dir::Write => self.output.feed(bytes),
+        }
     }
 
     /// Moves out the first bytes of the input, as many as are there and fit, and answers how many. Takes no memory; linear in
@@ -374,24 +347,17 @@ impl Bev {
         Ok(n)
     }
 
-    /// Takes off the first n bytes of the input, or all where there are fewer. Takes no memory.
+    /// Takes off the first n bytes of the buffer of a direction, or all where there are fewer. Takes no memory.
     ///
-    /// Own.
-    pub fn drain_input(&mut self, n: usize)
-        ensures bytes { self.new ≡ record self.old { input = less self.old.input n self.new.input.spare } }
-        ensures spare { self.old.input.spare ≤ self.new.input.spare }
+    /// Libevent: event2/buffer.h, `evbuffer_drain`; "Evbuffers".
+    pub fn drain(&mut self, dir: Dir, n: usize)
+        ensures bytes { self.new ≡ with_held self.old dir (less (held self.old dir) n (held self.new dir).spare) }
+        ensures spare { (held self.old dir).spare ≤ (held self.new dir).spare }
     {
-        self.input.drain(n);
-    }
-
-    /// Takes off the first n bytes of the output, as `drain_input`.
-    ///
-    /// Own.
-    pub fn drain_output(&mut self, n: usize)
-        ensures bytes { self.new ≡ record self.old { output = less self.old.output n self.new.output.spare } }
-        ensures spare { self.old.output.spare ≤ self.new.output.spare }
-    {
-        self.output.drain(n);
+        match dir {
+            Dir::Read => self.input.drain(n),
+            Dir::Write => self.output.drain(n),
+        }
     }
 
     /// Frees the room of each buffer without a byte. Takes no memory; constant cost.
@@ -404,53 +370,13 @@ impl Bev {
         self.output.give_up();
     }
 
-    /// Disables a direction in which a timeout expired, whether it is live or not. Takes no memory; constant cost.
-    ///
-    /// Own.
-    pub fn expire(&mut self, dir: Dir)
-        ensures { self.new ≡ with_enabled self.old dir false }
-    {
-        self.set_enabled(dir, false);
-    }
-
-    /// Disables a direction in which end of file was met, and sets the mark `ended`, as `expire`.
-    ///
-    /// Own.
-    pub fn end(&mut self, dir: Dir)
-        ensures { self.new ≡ ended_at self.old dir }
-    {
-        self.set_enabled(dir, false);
-        self.ended = true;
-    }
-
-    /// Disables a direction in which an error was met, and sets the mark `failed`, as `expire`.
-    ///
-    /// Own.
-    pub fn fail(&mut self, dir: Dir)
-        ensures { self.new ≡ failed_at self.old dir }
-    {
-        self.set_enabled(dir, false);
-        self.failed = true;
-    }
-
-    /// Makes the moment at which bytes were moved the last activity of a direction, as `expire`.
-    ///
-    /// Own.
-    pub fn moved_at(&mut self, dir: Dir, now: u64)
-        ensures { self.new ≡ touched self.old dir now }
+    // The buffer of a direction.
+    fn buffer(&self, dir: Dir) -> &OwnBuffer
+        ensures { result.now ≡ held self.now dir }
     {
         match dir {
-            Dir::Read => self.last_read = now,
-            Dir::Write => self.last_write = now,
-        }
-    }
-
-    fn set_enabled(&mut self, dir: Dir, on: bool)
-        ensures { self.new ≡ with_enabled self.old dir on }
-    {
-        match dir {
-            Dir::Read => self.reading = on,
-            Dir::Write => self.writing = on,
+            Dir::Read => &self.input,
+            Dir::Write => &self.output,
         }
     }
 

@@ -102,13 +102,13 @@ impl OwnBuffer {
         ensures empty { spare.new.bytes ≡ [] }
     {
         let len = self.len();
-        spare.push(self.front(len));
+        spare.feed_reserved(self.front(len));
         mem::swap(&mut self.buf, &mut spare.buf);
         spare.drain(len);
     }
 
     /// Appends in room that was made before. Takes no memory.
-    pub(crate) fn push(&mut self, bytes: &[u8])
+    pub(crate) fn feed_reserved(&mut self, bytes: &[u8])
         requires { length bytes.now ≤ self.old.spare }
         ensures { self.new ≡ more self.old bytes.now (self.old.spare - length bytes.now) }
     {
@@ -140,14 +140,14 @@ impl OwnBuffer {
     }
 
     /// Appends, in room that it makes.
-    pub(crate) fn add(&mut self, bytes: &[u8]) -> Result<(), BevFault>
+    pub(crate) fn feed(&mut self, bytes: &[u8]) -> Result<(), BevFault>
         ensures answer { AnswersOr Memory result (length_refusal self.old (length bytes.now)) }
         ensures ok { OnOk result (self.new ≡ more self.old bytes.now self.new.spare) }
         ensures err { OnErr result (self.new ≡ self.old) }
     {
         self.fits(bytes.len())?;
         self.reserve(bytes.len())?;
-        self.push(bytes);
+        self.feed_reserved(bytes);
         Ok(())
     }
 
@@ -167,12 +167,12 @@ impl OwnBuffer {
             to.fits(moved)?;
             to.reserve(moved)?;
         }
-        self.hand_front(n, to);
+        self.move_in_room(n, to);
         Ok(moved)
     }
 
     /// The same in room that was made before, where not all go into an empty one. Takes no memory.
-    pub(crate) fn hand_front(&mut self, n: usize, to: &mut OwnBuffer)
+    pub(crate) fn move_in_room(&mut self, n: usize, to: &mut OwnBuffer)
         requires { GoesInto n self.old to.old }
         ensures left { self.new ≡ less self.old n self.new.spare }
         ensures given { to.new ≡ more to.old (take n self.old.bytes) to.new.spare }
@@ -181,7 +181,7 @@ impl OwnBuffer {
             mem::swap(&mut self.buf, &mut to.buf);
             return;
         }
-        to.push(self.front(n));
+        to.feed_reserved(self.front(n));
         self.drain(n);
     }
 

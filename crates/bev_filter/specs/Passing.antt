@@ -19,7 +19,7 @@ pub record Crossing : Type 0 where
 
 -- the filter's step over all bytes of the source, with the target's length under the limit, where the stream ends behind them or not
 abbrev pub stepping : Dir → Crossing → ℕ → Bool → Stepped
-stepping dir p limit over = stepped p.filter over limit (length (held p.to dir).bytes) (held p.from dir).bytes
+stepping dir p limit at_end = stepped p.filter at_end limit (length (held p.to dir).bytes) (held p.from dir).bytes
 
 -- the same, by the mode
 abbrev pub passing : Dir → Crossing → ℕ → Mode → Stepped

@@ -2,7 +2,6 @@
 //! other. When they go, and who hears of it, is left to the program.
 #![tactic(auto)]
 
-mod buffers;
 mod fault;
 mod passing;
 mod step;

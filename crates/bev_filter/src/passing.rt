@@ -7,7 +7,6 @@ ghost use Rattle.stream_filters.specs.StepAnswers.{is_spent};
 ghost use Rattle.bev_core.specs.Steps.{held};
 ghost use Rattle.bev_filter.specs.Passing.{Passes, says_spent};
 
-use crate::buffers::{add, bytes, drain, hand_over, len};
 use crate::fault::PassFault;
 use bev_core::{Bev, Dir};
 use std::vec::Vec;
@@ -97,15 +96,15 @@ fn pass_as_is(
     ensures spent { says_spent result ≡ is_spent filter.old (length (held from.old dir).bytes) }
 {
     let mut next = filter.copied();
-    let answer = next.step_in_place(bytes(from, dir), len(to, dir), limit, mode);
+    let answer = next.step_in_place(all_of(from, dir), to.len(dir), limit, mode);
     match answer {
         Ok(step) => {
-            hand_over(from, to, dir, step.used)?;
+            from.pass(dir, to, step.used)?;
             *filter = next;
             Ok(step)
         }
         Err(FilterFault::BadByte { used, place }) => {
-            hand_over(from, to, dir, used)?;
+            from.pass(dir, to, used)?;
             *filter = next;
             Err(PassFault::Filter(place))
         }
@@ -130,19 +129,19 @@ fn pass_made(
 {
     let mut next = filter.copied();
     let mut made = Vec::new(from.allocator());
-    let room = limit.saturating_sub(len(to, dir));
-    let answer = next.step(bytes(from, dir), &mut made, room, mode);
+    let room = limit.saturating_sub(to.len(dir));
+    let answer = next.step(all_of(from, dir), &mut made, room, mode);
     match answer {
         Ok(step) => {
-            add(to, dir, &made)?;
-            drain(from, dir, step.used);
+            to.feed(dir, &made)?;
+            from.drain(dir, step.used);
             *filter = next;
             Ok(step)
         }
         Err(fault) => match fault {
             FilterFault::BadByte { used, place } => {
-                add(to, dir, &made)?;
-                drain(from, dir, used);
+                to.feed(dir, &made)?;
+                from.drain(dir, used);
                 *filter = next;
                 Err(PassFault::Filter(place))
             }
@@ -150,4 +149,11 @@ fn pass_made(
             FilterFault::Spent => Err(PassFault::Spent),
         },
     }
+}
+
+/// All bytes of the buffer of a direction, in one piece.
+pub(crate) fn all_of(bev: &Bev, dir: Dir) -> &[u8]
+    ensures { result.now ≡ (held bev.now dir).bytes }
+{
+    bev.front(dir, bev.len(dir))
 }

@@ -7,7 +7,7 @@ ghost use Rattle.bev_core.specs.Steps.{held, with_held};
 ghost use Rattle.bev_filter.specs.Passing.{Crossed, stepping};
 ghost use Rattle.bev_filter.specs.StepRoom.{hands_on, HasStepRoom, HasRoomFor, IsCounted, MovesInto};
 
-use crate::buffers::{bytes, drain, hand_in_room, len, push};
+use crate::passing::all_of;
 use bev_core::{Bev, Dir};
 use ev_types::{FilterKind, NoMemory};
 use std::vec::Vec;
@@ -36,7 +36,7 @@ pub fn reserve_step(
     ensures room { OnOk result (HasStepRoom kind count (length (held to.new dir).bytes) limit (held to.new dir).spare (vec_capacity beside.new) made) }
     ensures most { IfOk result (λ most. most ≡ most_by_step kind count (length (held to.new dir).bytes) limit) }
 {
-    let held = len(to, dir);
+    let held = to.len(dir);
     let most = most_step(kind, count, held, limit);
     if most as u64 >= u64::MAX - made {
         return Err(NoMemory);
@@ -54,7 +54,7 @@ pub fn reserve_step(
 }
 
 /// The step of a filter from the buffer of a direction of one bufferevent to that of another, as far as the limit allows and as
-/// `process_input` makes it, in room that `reserve_step` made for as many bytes as there are or for more. `over` says that the stream
+/// `process_input` makes it, in room that `reserve_step` made for as many bytes as there are or for more. `at_end` says that the stream
 /// ends behind the source. A filter that is finished or has stopped does nothing. Whether the two are live is not looked at. Answers
 /// how many bytes were made by then, of which `made` were made before.
 ///
@@ -68,19 +68,19 @@ pub fn step_reserved(
     dir: Dir,
     filter: &mut AnyFilter,
     limit: usize,
-    over: bool,
+    at_end: bool,
     beside: &mut Vec<u8>,
     made: u64,
 ) -> u64
     requires counted { IsCounted dir (record { from = from.old; to = to.old; filter = filter.old }) }
     requires room { HasRoomFor dir (record { from = from.old; to = to.old; filter = filter.old }) limit (vec_capacity beside.old) made }
-    ensures crossed { Crossed dir (stepping dir (record { from = from.old; to = to.old; filter = filter.old }) limit over) (record { from = from.old; to = to.old; filter = filter.old }) (record { from = from.new; to = to.new; filter = filter.new }) }
-    ensures made { result ≡ made + length (stepping dir (record { from = from.old; to = to.old; filter = filter.old }) limit over).made }
+    ensures crossed { Crossed dir (stepping dir (record { from = from.old; to = to.old; filter = filter.old }) limit at_end) (record { from = from.old; to = to.old; filter = filter.old }) (record { from = from.new; to = to.new; filter = filter.new }) }
+    ensures made { result ≡ made + length (stepping dir (record { from = from.old; to = to.old; filter = filter.old }) limit at_end).made }
     ensures beside { vec_capacity beside.old ≤ vec_capacity beside.new }
 {
     match filter.kind() {
-        FilterKind::None => made + hand_step(from, to, dir, filter, limit, over) as u64,
-        _ => made + make_step(from, to, dir, filter, limit, over, beside) as u64,
+        FilterKind::None => made + hand_step(from, to, dir, filter, limit, at_end) as u64,
+        _ => made + make_step(from, to, dir, filter, limit, at_end, beside) as u64,
     }
 }
 
@@ -98,16 +98,16 @@ fn hand_step(
     dir: Dir,
     filter: &mut AnyFilter,
     limit: usize,
-    over: bool,
+    at_end: bool,
 ) -> usize
     requires kind { filter.old.kind ≡ kind_of.None }
     requires counted { IsCounted dir (record { from = from.old; to = to.old; filter = filter.old }) }
     requires room { MovesInto (length (held from.old dir).bytes) (held to.old dir) limit }
-    ensures crossed { Crossed dir (stepping dir (record { from = from.old; to = to.old; filter = filter.old }) limit over) (record { from = from.old; to = to.old; filter = filter.old }) (record { from = from.new; to = to.new; filter = filter.new }) }
-    ensures made { result ≡ length (stepping dir (record { from = from.old; to = to.old; filter = filter.old }) limit over).made }
+    ensures crossed { Crossed dir (stepping dir (record { from = from.old; to = to.old; filter = filter.old }) limit at_end) (record { from = from.old; to = to.old; filter = filter.old }) (record { from = from.new; to = to.new; filter = filter.new }) }
+    ensures made { result ≡ length (stepping dir (record { from = from.old; to = to.old; filter = filter.old }) limit at_end).made }
 {
-    let used = filter.hand_on(bytes(from, dir), len(to, dir), limit, over);
-    hand_in_room(from, to, dir, used);
+    let used = filter.hand_on(all_of(from, dir), to.len(dir), limit, at_end);
+    from.pass_in_room(dir, to, used);
     used
 }
 
@@ -118,20 +118,20 @@ fn make_step(
     dir: Dir,
     filter: &mut AnyFilter,
     limit: usize,
-    over: bool,
+    at_end: bool,
     beside: &mut Vec<u8>,
 ) -> usize
     requires counted { IsCounted dir (record { from = from.old; to = to.old; filter = filter.old }) }
     requires room { most_by_step filter.old.kind (length (held from.old dir).bytes) (length (held to.old dir).bytes) limit ≤ (held to.old dir).spare }
     requires beside { most_by_step filter.old.kind (length (held from.old dir).bytes) (length (held to.old dir).bytes) limit ≤ vec_capacity beside.old }
-    ensures crossed { Crossed dir (stepping dir (record { from = from.old; to = to.old; filter = filter.old }) limit over) (record { from = from.old; to = to.old; filter = filter.old }) (record { from = from.new; to = to.new; filter = filter.new }) }
-    ensures made { result ≡ length (stepping dir (record { from = from.old; to = to.old; filter = filter.old }) limit over).made }
+    ensures crossed { Crossed dir (stepping dir (record { from = from.old; to = to.old; filter = filter.old }) limit at_end) (record { from = from.old; to = to.old; filter = filter.old }) (record { from = from.new; to = to.new; filter = filter.new }) }
+    ensures made { result ≡ length (stepping dir (record { from = from.old; to = to.old; filter = filter.old }) limit at_end).made }
     ensures beside { vec_capacity beside.old ≤ vec_capacity beside.new }
 {
     beside.clear();
-    let room = limit.saturating_sub(len(to, dir));
-    let used = filter.make(bytes(from, dir), beside, room, over);
-    push(to, dir, beside);
-    drain(from, dir, used);
+    let room = limit.saturating_sub(to.len(dir));
+    let used = filter.make(all_of(from, dir), beside, room, at_end);
+    to.feed_reserved(dir, beside);
+    from.drain(dir, used);
     beside.len()
 }

@@ -1,12 +1,13 @@
 // The bytes that go from one half of a pair to the other.
 ghost use Rattle.std.specs.Prelude.{◌≡◌, ◌≤◌, min, length, [], None, OnOk, OnErr, IfOk, option_map};
 ghost use Rattle.evbuf_chain.specs.Answers.{AnswersOr, fault_of};
-ghost use Rattle.bev_core.specs.Moves.{OutputGoes};
+ghost use Rattle.token_bucket.specs.declared.limit.Dir.TheVariants as dir_of;
+ghost use Rattle.bev_core.specs.Moves.{BytesGo};
 ghost use Rattle.bev_pair.specs.Transfer.{moved_by, count_of, transfer_refusal, flush_flags};
 ghost use Rattle.bev_pair.specs.declared.fault.PairFault.TheVariants.{Memory};
 
 use crate::fault::PairFault;
-use bev_core::{Bev, BevFault, BevState, EOF, READING};
+use bev_core::{Bev, BevFault, BevState, Dir, EOF, READING};
 use ev_types::{Flags, Mode};
 
 /// Moves the first bytes of one half's output to the end of the other's input, and answers how many. In normal mode these are
@@ -20,7 +21,7 @@ use ev_types::{Flags, Mode};
 pub fn transfer(from: &mut Bev, to: &mut Bev, mode: Mode) -> Result<usize, PairFault>
     ensures answer { AnswersOr Memory result (transfer_refusal from.old to.old mode) }
     ensures count { IfOk result (λ moved. moved ≡ moved_by from.old to.old mode) }
-    ensures ok { OnOk result (OutputGoes (moved_by from.old to.old mode) from.old to.old from.new to.new) }
+    ensures ok { OnOk result (BytesGo (moved_by from.old to.old mode) dir_of.Write dir_of.Read from.old to.old from.new to.new) }
     ensures err { OnErr result (from.new ≡ from.old) }
     ensures to_err { OnErr result (to.new ≡ to.old) }
     ensures exchanged { transfer_refusal from.old to.old mode ≡ None → length from.old.output.bytes ≤ moved_by from.old to.old mode →
@@ -30,7 +31,7 @@ pub fn transfer(from: &mut Bev, to: &mut Bev, mode: Mode) -> Result<usize, PairF
     if !writer.live || !reader.live {
         return Err(PairFault::NoPartner);
     }
-    match from.give_output(to, count(&writer, &reader, mode)) {
+    match from.cross(Dir::Write, to, count(&writer, &reader, mode)) {
         Ok(moved) => Ok(moved),
         Err(BevFault::Spent) => Err(PairFault::Spent),
         Err(_) => Err(PairFault::Memory),

@@ -1,7 +1,7 @@
 // What the results of reads and writes, and timeouts, make of a bufferevent.
 ghost use Rattle.std.specs.Prelude.{◌≡◌, ◌≤◌, ◌<◌, ◌+◌, ◌&&◌, nat_lt, length, false};
 ghost use Rattle.bev_core.specs.BevValue.{reaches_low};
-ghost use Rattle.bev_core.specs.Steps.{with_enabled, touched, less, pushed, ended_at, failed_at};
+ghost use Rattle.bev_core.specs.Steps.{with_enabled, touched, less, ended_at, failed_at};
 ghost use Rattle.bev_socket.specs.Results.{read, written, event_flags};
 ghost use Rattle.token_bucket.specs.declared.limit.Dir.TheVariants as dir;
 
@@ -20,7 +20,7 @@ pub fn took_read(bev: &mut Bev, bytes: &[u8], now: u64) -> bool
     ensures after { bev.new ≡ read bev.old bytes.now now }
     ensures due { result ≡ (nat_lt 0 (length bytes.now) && reaches_low (read bev.old bytes.now now) dir.Read) }
 {
-    bev.push_input(bytes);
+    bev.feed_reserved(Dir::Read, bytes);
     bev.moved_at(Dir::Read, now);
     !bytes.is_empty() && bev.reaches_low(Dir::Read)
 }
@@ -36,7 +36,7 @@ pub fn took_write(bev: &mut Bev, n: usize, now: u64) -> bool
     ensures spare { bev.old.output.spare ≤ bev.new.output.spare }
     ensures due { result ≡ (nat_lt 0 n && reaches_low (written bev.old n now bev.new.output.spare) dir.Write) }
 {
-    bev.drain_output(n);
+    bev.drain(Dir::Write, n);
     bev.moved_at(Dir::Write, now);
     n > 0 && bev.reaches_low(Dir::Write)
 }

@@ -56,22 +56,22 @@ joined-below count n (kind.Half other) under j e = absurd (none-some under e)
 joined-below count n (kind.Filter below) under j e = let same = same_Some below under e in omega (arith, same, j)
 
 -- a step between two slots of a list, which is then another
-pub record StepIn (dir : Dir) (limit : ℕ) (over : Bool) (at under : ℕ) (xs ys : List Slot) : Type 0 where
+pub record StepIn (dir : Dir) (limit : ℕ) (at_end : Bool) (at under : ℕ) (xs ys : List Slot) : Type 0 where
   pub there : at < length xs
   pub below : under < at
-  pub went : SlotsWent dir limit over (slice_index_or xs under no_slot) (slice_index_or xs at no_slot)
+  pub went : SlotsWent dir limit at_end (slice_index_or xs under no_slot) (slice_index_or xs at no_slot)
       (slice_index_or ys under no_slot) (slice_index_or ys at no_slot)
   pub slots : ys ≡ slice_set (slice_set xs under (slice_index_or ys under no_slot)) at (slice_index_or ys at no_slot)
 
-pub step-in : (dir : Dir) (limit : ℕ) (over : Bool) (at under : ℕ) (xs lent ys : List Slot) → lent ≡ xs → at < length xs → under < at →
-    SlotsWent dir limit over (slice_index_or lent under no_slot) (slice_index_or lent at no_slot)
+pub step-in : (dir : Dir) (limit : ℕ) (at_end : Bool) (at under : ℕ) (xs lent ys : List Slot) → lent ≡ xs → at < length xs → under < at →
+    SlotsWent dir limit at_end (slice_index_or lent under no_slot) (slice_index_or lent at no_slot)
     (slice_index_or ys under no_slot) (slice_index_or ys at no_slot) →
     ys ≡ slice_set (slice_set lent under (slice_index_or ys under no_slot)) at (slice_index_or ys at no_slot) →
-    StepIn dir limit over at under xs ys
-step-in dir limit over at under xs lent ys same there below went slots = record {
+    StepIn dir limit at_end at under xs ys
+step-in dir limit at_end at under xs lent ys same there below went slots = record {
   there = there;
   below = below;
-  went = subst (λ zs. SlotsWent dir limit over (slice_index_or zs under no_slot) (slice_index_or zs at no_slot)
+  went = subst (λ zs. SlotsWent dir limit at_end (slice_index_or zs under no_slot) (slice_index_or zs at no_slot)
       (slice_index_or ys under no_slot) (slice_index_or ys at no_slot)) same went;
   slots = subst (λ zs. ys ≡ slice_set (slice_set zs under (slice_index_or ys under no_slot)) at (slice_index_or ys at no_slot)) same
       slots;
@@ -82,8 +82,8 @@ slots-crossing : (v : WorldValue) (d : Dir) (at under : ℕ) → slots_crossing 
 slots-crossing v Read at under = refl
 slots-crossing v Write at under = refl
 
-module _ (dir : Dir) (limit : ℕ) (over : Bool) (at under : ℕ) (w : WorldValue) (ys : List Slot)
-    (s : StepIn dir limit over at under w.slots ys) where
+module _ (dir : Dir) (limit : ℕ) (at_end : Bool) (at under : ℕ) (w : WorldValue) (ys : List Slot)
+    (s : StepIn dir limit at_end at under w.slots ys) where
   abbrev lower : Slot
   lower = slot_at w under
 
@@ -97,7 +97,7 @@ module _ (dir : Dir) (limit : ℕ) (over : Bool) (at under : ℕ) (w : WorldValu
   u = slice_index_or ys at no_slot
 
   stays : Stays lower l × Stays upper u
-  stays = crossed-stays dir (stepping dir (slots_crossing dir lower upper) limit over) lower upper l u (slots_crossing dir l u)
+  stays = crossed-stays dir (stepping dir (slots_crossing dir lower upper) limit at_end) lower upper l u (slots_crossing dir l u)
       s.went.crossed s.went.lower_is s.went.upper_is
 
   under_there : under < length w.slots
@@ -116,12 +116,12 @@ module _ (dir : Dir) (limit : ℕ) (over : Bool) (at under : ℕ) (w : WorldValu
       there_then (sym upper_then) stays.1.kind (stays.1.room (h.each at s.there).room))
 
   pub crossed-stepped : (new : WorldValue) → new ≡ record w { slots = ys } →
-      Crossed dir (stepping dir (crossing w dir at under) limit over) (crossing w dir at under) (crossing new dir at under)
+      Crossed dir (stepping dir (crossing w dir at under) limit at_end) (crossing w dir at under) (crossing new dir at under)
   crossed-stepped new is =
       let after : slots_crossing dir l u ≡ crossing new dir at under =
       slots-crossing (record w { slots = ys }) dir at under ∙ ap (λ v. crossing v dir at under) (sym is) in
-      subst (λ (p : Crossing). Crossed dir (stepping dir p limit over) p (crossing new dir at under)) (slots-crossing w dir at under)
-      (subst (λ (p : Crossing). Crossed dir (stepping dir (slots_crossing dir lower upper) limit over) (slots_crossing dir lower upper) p)
+      subst (λ (p : Crossing). Crossed dir (stepping dir p limit at_end) p (crossing new dir at under)) (slots-crossing w dir at under)
+      (subst (λ (p : Crossing). Crossed dir (stepping dir (slots_crossing dir lower upper) limit at_end) (slots_crossing dir lower upper) p)
       after s.went.crossed)
 
 -- Room

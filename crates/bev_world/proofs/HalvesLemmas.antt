@@ -6,7 +6,7 @@ use Rattle.token_bucket.specs.declared.limit.Dir.TheVariants.{Read, Write}
 use Rattle.ev_types.specs.declared.why.Why.{Why}
 use Rattle.ev_types.specs.declared.why.Why.TheVariants as why
 use Rattle.bev_core.specs.BevValue.{BevValue, reaches_low}
-use Rattle.bev_core.specs.Steps.{more, less, pushed}
+use Rattle.bev_core.specs.Steps.{more, less, fed_reserved}
 use Rattle.deferred_cb.specs.DueCalls.{Entry}
 use Rattle.bev_world.specs.declared.slot.Slot.{Slot}
 use Rattle.bev_world.specs.WorldValue.{WorldValue, no_slot, slot_at, bev_at, with_slot, raised_if}
@@ -128,7 +128,7 @@ pub record Passing (xs : List Slot) (from to n : ℕ) (f t l : Slot) (blank into
   pub was_from : f ≡ slice_index_or xs from no_slot
   pub was_to : t ≡ slice_index_or xs to no_slot
   pub lay : l ≡ record f { bev = blank }
-  pub into_is : into ≡ pushed t.bev (take n f.bev.output.bytes)
+  pub into_is : into ≡ fed_reserved t.bev Read (take n f.bev.output.bytes)
   pub left_is : left ≡ record f.bev { output = less f.bev.output n left.output.spare }
   pub room_is : room ≡ t.room - n
 
@@ -137,7 +137,7 @@ pub passing : (xs : List Slot) (from to n : ℕ) (d e g f t l : Slot) (blank tak
     from ≢ to → from < length xs → to < length xs → f ≡ slice_index_or xs from d →
     t ≡ slice_index_or (slice_set xs from (record f { bev = blank })) to e →
     l ≡ slice_index_or (slice_set (slice_set xs from (record f { bev = blank })) to (record t { bev = into; room = room })) from g →
-    taken ≡ f.bev → front ≡ take n taken.output.bytes → into ≡ pushed t.bev front →
+    taken ≡ f.bev → front ≡ take n taken.output.bytes → into ≡ fed_reserved t.bev Read front →
     left ≡ record taken { output = less taken.output n left.output.spare } → room ≡ t.room - n →
     Passing xs from to n f t l blank into left room
 passing xs from to n d e g f t l blank taken into left room front apart from_there to_there f_is t_is l_is taken_is front_is into_is left_is room_is =
@@ -148,7 +148,7 @@ passing xs from to n d e g f t l blank taken into left room front apart from_the
       was_from = f_is ∙ get_or_default xs from d no_slot from_there;
       was_to = other-there xs from to (record f { bev = blank }) e t (λ x. apart (sym x)) to_there t_is;
       lay = still-out xs from to (record f { bev = blank }) (record t { bev = into; room = room }) g l apart from_there l_is;
-      into_is = into_is ∙ ap (λ bytes. pushed t.bev bytes) (front_is ∙ ap (λ (b : BevValue). take n b.output.bytes) taken_is);
+      into_is = into_is ∙ ap (λ bytes. fed_reserved t.bev Read bytes) (front_is ∙ ap (λ (b : BevValue). take n b.output.bytes) taken_is);
       left_is = left_is ∙ ap (λ (b : BevValue). record b { output = less b.output n left.output.spare }) taken_is;
       room_is = room_is;
     }

@@ -21,12 +21,12 @@ with_spare_in bev dir spare = with_held bev dir (record (held bev dir) { spare =
 
 -- Bytes came to the end of a slot's input, behind which so much is spare then, and the moment is the last activity of reading. The input is
 -- sure of no room any more.
-abbrev pub slot_brought : List ℕ → ℕ → ℕ → Slot → Slot
-slot_brought bytes moment spare s =
+abbrev pub slot_fed : List ℕ → ℕ → ℕ → Slot → Slot
+slot_fed bytes moment spare s =
     record s { bev = touched (record s.bev { input = more s.bev.input bytes spare }) Read moment; room = 0 }
 
-abbrev pub brought : WorldValue → ℕ → List ℕ → ℕ → ℕ → WorldValue
-brought w n bytes moment spare = with_slot w n (slot_brought bytes moment spare (slot_at w n))
+abbrev pub fed_with_spare : WorldValue → ℕ → List ℕ → ℕ → ℕ → WorldValue
+fed_with_spare w n bytes moment spare = with_slot w n (slot_fed bytes moment spare (slot_at w n))
 
 -- the room of its buffers is freed, where they have no byte
 abbrev pub roomless : WorldValue → ℕ → WorldValue
@@ -47,18 +47,18 @@ crossed_at w dir n under p =
     with_slot (with_slot w under (lower_after dir (slot_at w under) p)) n (over_after dir (slot_at w n) p)
 
 -- the step between the slot under a filter and its own was made, and they are as it left them
-pub record SlotsWent (dir : Dir) (limit : ℕ) (over : Bool) (lower upper new_lower new_upper : Slot) : Type 0 where
-  pub crossed : Crossed dir (stepping dir (slots_crossing dir lower upper) limit over) (slots_crossing dir lower upper) (slots_crossing dir new_lower new_upper)
+pub record SlotsWent (dir : Dir) (limit : ℕ) (at_end : Bool) (lower upper new_lower new_upper : Slot) : Type 0 where
+  pub crossed : Crossed dir (stepping dir (slots_crossing dir lower upper) limit at_end) (slots_crossing dir lower upper) (slots_crossing dir new_lower new_upper)
   pub lower_is : new_lower ≡ lower_after dir lower (slots_crossing dir new_lower new_upper)
   pub upper_is : new_upper ≡ over_after dir upper (slots_crossing dir new_lower new_upper)
 
 -- the input of the one and the output of the other are exchanged
-abbrev pub without_input : Slot → Slot → Slot
-without_input from to = record from { bev = record from.bev { input = to.bev.output }; room = 0 }
+abbrev pub input_swapped : Slot → Slot → Slot
+input_swapped from to = record from { bev = record from.bev { input = to.bev.output }; room = 0 }
 
-abbrev pub with_output : Slot → Slot → Slot
-with_output from to = record to { bev = record to.bev { output = from.bev.input } }
+abbrev pub output_swapped : Slot → Slot → Slot
+output_swapped from to = record to { bev = record to.bev { output = from.bev.input } }
 
-abbrev pub exchanged : WorldValue → ℕ → ℕ → WorldValue
-exchanged w from to =
-    with_slot (with_slot w to (with_output (slot_at w from) (slot_at w to))) from (without_input (slot_at w from) (slot_at w to))
+abbrev pub swapped_across : WorldValue → ℕ → ℕ → WorldValue
+swapped_across w from to =
+    with_slot (with_slot w to (output_swapped (slot_at w from) (slot_at w to))) from (input_swapped (slot_at w from) (slot_at w to))

@@ -15,13 +15,13 @@ enum Act {
     Decref(Result<(), BevFault>),
     Discard,
     /// Moves as many bytes, of which so many go.
-    Give(Dir, usize, usize),
+    Cross(Dir, usize, usize),
     Pass(Dir, usize, usize),
-    /// Copies bytes to the output in room that it makes, which is then so long.
-    Push(&'static [u8], usize),
-    /// Hands on so many bytes in room that it makes, by which the second's buffer is so long.
-    Hand(Dir, usize, usize),
-    Exchange,
+    /// Copies bytes to a buffer in room that it makes, which is then so long.
+    FeedReserved(Dir, &'static [u8], usize),
+    /// Passes so many bytes in room that it makes, by which the second's buffer is so long.
+    PassInRoom(Dir, usize, usize),
+    SwapAcross(Dir),
     Sees(View),
 }
 
@@ -29,7 +29,7 @@ enum Act {
 #[derive(Clone, Copy)]
 enum Setting {
     Write(&'static [u8]),
-    Add(&'static [u8]),
+    Feed(Dir, &'static [u8]),
     Enable(Dir),
     Disable(Dir),
     Marks(Dir, u64, u64),
@@ -63,11 +63,11 @@ fn answers(from: &mut Bev, to: &mut Bev, act: Act) -> bool {
         Act::Incref(answer) => from.incref() == answer,
         Act::Decref(answer) => give_back(from) == answer,
         Act::Discard => discard(from),
-        Act::Give(dir, n, count) => give(from, to, dir, n) == Ok(count),
-        Act::Pass(dir, n, count) => pass(from, to, dir, n) == Ok(count),
-        Act::Push(bytes, len) => push(from, bytes) == Ok(len),
-        Act::Hand(dir, n, len) => hand(from, to, dir, n) == Ok(len),
-        Act::Exchange => exchange(from, to),
+        Act::Cross(dir, n, count) => from.cross(dir, to, n) == Ok(count),
+        Act::Pass(dir, n, count) => from.pass(dir, to, n) == Ok(count),
+        Act::FeedReserved(dir, bytes, len) => feed_reserved(from, dir, bytes) == Ok(len),
+        Act::PassInRoom(dir, n, len) => pass_in_room(from, dir, to, n) == Ok(len),
+        Act::SwapAcross(dir) => swap_across(from, dir, to),
         Act::Sees(view) => sees(from, to, view),
     }
 }
@@ -75,7 +75,7 @@ fn answers(from: &mut Bev, to: &mut Bev, act: Act) -> bool {
 fn set(bev: &mut Bev, setting: Setting) -> Result<(), BevFault> {
     match setting {
         Setting::Write(bytes) => bev.write(bytes),
-        Setting::Add(bytes) => bev.add_input(bytes),
+        Setting::Feed(dir, bytes) => bev.feed(dir, bytes),
         Setting::Enable(dir) => bev.enable(dir),
         Setting::Disable(dir) => bev.disable(dir),
         Setting::Marks(dir, low, high) => bev.set_watermark(dir, low, high),
@@ -95,10 +95,10 @@ fn sees(from: &Bev, to: &Bev, view: View) -> bool {
         View::Live(live) => state.live == live,
         View::Refs(refs) => state.refs == refs,
         View::OutputLength(len) => state.output == len,
-        View::Input(bytes) => from.front_input(9) == bytes,
-        View::Output(bytes) => from.front_output(9) == bytes,
-        View::OtherInput(bytes) => to.front_input(9) == bytes,
-        View::OtherOutput(bytes) => to.front_output(9) == bytes,
+        View::Input(bytes) => from.front(Dir::Read, 9) == bytes,
+        View::Output(bytes) => from.front(Dir::Write, 9) == bytes,
+        View::OtherInput(bytes) => to.front(Dir::Read, 9) == bytes,
+        View::OtherOutput(bytes) => to.front(Dir::Write, 9) == bytes,
     }
 }
 
@@ -114,48 +114,21 @@ fn discard(bev: &mut Bev) -> bool {
     true
 }
 
-fn exchange(from: &mut Bev, to: &mut Bev) -> bool {
-    from.exchange_input(to);
+fn swap_across(from: &mut Bev, dir: Dir, to: &mut Bev) -> bool {
+    from.swap_across(dir, to);
     true
 }
 
-fn give(from: &mut Bev, to: &mut Bev, dir: Dir, n: usize) -> Result<usize, BevFault> {
-    match dir {
-        Dir::Read => from.give_input(to, n),
-        Dir::Write => from.give_output(to, n),
-    }
+fn feed_reserved(bev: &mut Bev, dir: Dir, bytes: &[u8]) -> Result<usize, BevFault> {
+    bev.make_room(dir, bytes.len())?;
+    bev.feed_reserved(dir, bytes);
+    Ok(bev.len(dir))
 }
 
-fn pass(from: &mut Bev, to: &mut Bev, dir: Dir, n: usize) -> Result<usize, BevFault> {
-    match dir {
-        Dir::Read => from.pass_input(to, n),
-        Dir::Write => from.pass_output(to, n),
-    }
-}
-
-fn push(bev: &mut Bev, bytes: &[u8]) -> Result<usize, BevFault> {
-    bev.make_room(Dir::Write, bytes.len())?;
-    bev.push_output(bytes);
-    Ok(bev.output_len())
-}
-
-fn hand(from: &mut Bev, to: &mut Bev, dir: Dir, n: usize) -> Result<usize, BevFault> {
-    match dir {
-        Dir::Read => hand_input(from, to, n),
-        Dir::Write => hand_output(from, to, n),
-    }
-}
-
-fn hand_input(from: &mut Bev, to: &mut Bev, n: usize) -> Result<usize, BevFault> {
-    to.make_room(Dir::Read, n)?;
-    from.hand_input(to, n);
-    Ok(to.input_len())
-}
-
-fn hand_output(from: &mut Bev, to: &mut Bev, n: usize) -> Result<usize, BevFault> {
-    to.make_room(Dir::Write, n)?;
-    from.hand_output(to, n);
-    Ok(to.output_len())
+fn pass_in_room(from: &mut Bev, dir: Dir, to: &mut Bev, n: usize) -> Result<usize, BevFault> {
+    to.make_room(dir, n)?;
+    from.pass_in_room(dir, to, n);
+    Ok(to.len(dir))
 }
 
 /// The place of the first act that does not answer as it says.
@@ -188,7 +161,7 @@ fn plays_beside(
     input: &[u8],
     output: &[u8],
 ) -> Result<Option<usize>, BevFault> {
-    to.add_input(input)?;
+    to.feed(Dir::Read, input)?;
     to.write(output)?;
     let mut from = Bev::new(alloc)?;
     let answer = first_wrong(&mut from, to, acts);
@@ -234,7 +207,7 @@ fn a_free_drops_the_bytes_and_keeps_the_references(rt: HostRuntime) -> Result<()
 
 const OUTPUT_MOVES: &[Act] = &[
     Act::Set(Setting::Write(b"abc")),
-    Act::Give(Dir::Write, 2, 2),
+    Act::Cross(Dir::Write, 2, 2),
     Act::Pass(Dir::Write, 1, 1),
     Act::Sees(View::OtherInput(b"ab")),
     Act::Sees(View::OtherOutput(b"xc")),
@@ -247,9 +220,9 @@ fn output_goes_to_the_end_of_another_input_or_output(rt: HostRuntime) -> Result<
 }
 
 const INPUT_MOVES: &[Act] = &[
-    Act::Set(Setting::Add(b"xyz")),
+    Act::Set(Setting::Feed(Dir::Read, b"xyz")),
     Act::Pass(Dir::Read, 2, 2),
-    Act::Give(Dir::Read, 9, 1),
+    Act::Cross(Dir::Read, 9, 1),
     Act::Sees(View::OtherInput(b"xyzxy")),
     Act::Sees(View::OtherOutput(b"z")),
 ];
@@ -261,16 +234,33 @@ fn input_goes_to_the_end_of_another_input_or_output(rt: HostRuntime) -> Result<(
 }
 
 const ROOM_IS_MADE: &[Act] = &[
-    Act::Set(Setting::Add(b"xyz")),
-    Act::Push(b"ab", 2),
-    Act::Push(b"cde", 5),
-    Act::Hand(Dir::Read, 1, 1),
-    Act::Hand(Dir::Write, 9, 5),
-    Act::Exchange,
+    Act::Set(Setting::Feed(Dir::Read, b"xyz")),
+    Act::FeedReserved(Dir::Write, b"ab", 2),
+    Act::FeedReserved(Dir::Write, b"cde", 5),
+    Act::PassInRoom(Dir::Read, 1, 1),
+    Act::PassInRoom(Dir::Write, 9, 5),
+    Act::SwapAcross(Dir::Read),
     Act::Sees(View::Input(b"abcde")),
     Act::Sees(View::OtherInput(b"x")),
     Act::Sees(View::OtherOutput(b"yz")),
 ];
+
+const EITHER_DIRECTION: &[Act] = &[
+    Act::Set(Setting::Feed(Dir::Write, b"ab")),
+    Act::FeedReserved(Dir::Read, b"cd", 2),
+    Act::SwapAcross(Dir::Write),
+    Act::Sees(View::Output(b"x")),
+    Act::Sees(View::OtherInput(b"ab")),
+    Act::PassInRoom(Dir::Read, 1, 3),
+    Act::Sees(View::Input(b"d")),
+    Act::Sees(View::OtherInput(b"abc")),
+];
+
+#[test]
+fn each_call_does_the_same_in_the_other_direction(rt: HostRuntime) -> Result<(), Fail> {
+    assert_eq!(rt; plays(rt.alloc(), EITHER_DIRECTION, b"x", b"")?, None);
+    Ok(())
+}
 
 #[test]
 fn bytes_go_into_room_that_was_made(rt: HostRuntime) -> Result<(), Fail> {
@@ -283,7 +273,7 @@ const DISCARDED: &[Act] = &[
     Act::Discard,
     Act::Sees(View::Live(false)),
     Act::Sees(View::Output(b"")),
-    Act::Push(b"c", 1),
+    Act::FeedReserved(Dir::Write, b"c", 1),
     Act::Discard,
     Act::Free(Err(BevFault::NotLive)),
     Act::Sees(View::Output(b"")),

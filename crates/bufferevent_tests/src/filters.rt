@@ -55,16 +55,16 @@ fn passes(under: &mut Bev, over: &mut Bev, filter: &mut AnyFilter, row: Row) -> 
         Row::Up(first, last, limit, answer, made) => {
             pass_piece(under, over, filter, first, limit, Mode::Normal) == answer_of(Went(2, false))
                 && pass_piece(under, over, filter, last, limit, Mode::Finished) == answer_of(answer)
-                && over.front_input(9) == made.as_bytes()
+                && over.front(Dir::Read, 9) == made.as_bytes()
         }
         Row::Down(text, answer, made) => {
             pass_output(under, over, filter, text) == answer_of(answer)
-                && under.front_output(9) == made.as_bytes()
+                && under.front(Dir::Write, 9) == made.as_bytes()
         }
         Row::Steps(first, last, limit, count, left, made) => {
             steps(under, over, filter, first, last, limit) == Ok(count)
-                && under.front_input(9) == left.as_bytes()
-                && over.front_input(9) == made.as_bytes()
+                && under.front(Dir::Read, 9) == left.as_bytes()
+                && over.front(Dir::Read, 9) == made.as_bytes()
         }
     }
 }
@@ -78,7 +78,7 @@ fn pass_piece(
     limit: usize,
     mode: Mode,
 ) -> Result<Step, PassFault> {
-    under.add_input(piece.as_bytes())?;
+    under.feed(Dir::Read, piece.as_bytes())?;
     if filter.is_finished() || !under.state().live || !over.state().live {
         return Err(PassFault::Memory);
     }
@@ -123,7 +123,7 @@ fn step_piece(
     made: u64,
 ) -> Result<u64, NoMemory> {
     under.make_room(Dir::Read, piece.len())?;
-    under.push_input(piece.as_bytes());
+    under.feed_reserved(Dir::Read, piece.as_bytes());
     let mut beside = Vec::new(under.allocator());
     let answer = step_beside(under, over, filter, limit, last, &mut beside, made);
     drop(beside);
@@ -139,7 +139,7 @@ fn step_beside(
     beside: &mut Vec<u8>,
     made: u64,
 ) -> Result<u64, NoMemory> {
-    let count = under.input_len();
+    let count = under.len(Dir::Read);
     if filter.used() > u64::MAX - count as u64 {
         return Err(NoMemory);
     }

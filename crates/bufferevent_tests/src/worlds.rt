@@ -229,11 +229,11 @@ fn bring(world: &mut World, at: usize, bytes: &[u8]) -> Result<(), NoMemory> {
     if at >= world.count() {
         return Err(NoMemory);
     }
-    let held = world.bev(at).input_len();
+    let held = world.bev(at).len(Dir::Read);
     let all = held.checked_add(bytes.len()).ok_or(NoMemory)?;
     let mut spare = SpareRoom::new(world.bev(at).allocator());
     spare.reserve(all)?;
-    world.bring_at(at, bytes, 7, &mut spare);
+    world.feed_at(at, bytes, 7, &mut spare);
     Ok(())
 }
 
@@ -252,8 +252,8 @@ fn step(
         return Err(NoMemory);
     };
     let count = match dir {
-        Dir::Read => world.bev(under).input_len(),
-        Dir::Write => world.bev(at).output_len(),
+        Dir::Read => world.bev(under).len(Dir::Read),
+        Dir::Write => world.bev(at).len(Dir::Write),
     };
     if world.filter(at, dir).used() > u64::MAX - count as u64 {
         return Err(NoMemory);
@@ -267,7 +267,7 @@ fn move_on(world: &mut World, from: usize, to: usize) -> Result<(), NoMemory> {
     if from >= world.count() || to >= world.count() || from == to {
         return Err(NoMemory);
     }
-    if world.bev(to).output_len() > 0 {
+    if world.bev(to).len(Dir::Write) > 0 {
         return Err(NoMemory);
     }
     world.move_at(from, to);
@@ -353,6 +353,13 @@ enum Act {
     Brings(&'static [u8]),
     Expires(Dir),
     Ends(Dir),
+    Enables(Dir),
+    Disables(Dir),
+    Marks(Dir, u64, u64),
+    Timeouts(u64, u64, u64),
+    /// One reference more, or one less where there is one.
+    Holds,
+    LetsGo(bool),
     Drops,
     IsLive(bool),
     /// Whether reading and writing are enabled.
@@ -361,6 +368,11 @@ enum Act {
     Met(bool, bool),
     /// The length of the input, and when it was last read.
     Input(u64, u64),
+    /// The low and the high mark of reading, and those of writing.
+    MarksAre((u64, u64), (u64, u64)),
+    /// Both timeouts, and when each direction was last active.
+    TimesAre((u64, u64), (u64, u64)),
+    References(u32),
 }
 
 /// Whether what is seen is as it says; a step is made.
@@ -373,12 +385,75 @@ fn answers(world: &mut World, id: BevId, act: Act) -> bool {
         Act::Brings(bytes) => bring(world, at, bytes).is_ok(),
         Act::Expires(dir) => expire(world, at, dir),
         Act::Ends(dir) => end(world, at, dir),
+        Act::Enables(dir) => enable(world, at, dir),
+        Act::Disables(dir) => disable(world, at, dir),
+        Act::Marks(dir, low, high) => mark(world, at, dir, low, high),
+        Act::Timeouts(read, write, now) => set_timeouts(world, at, read, write, now),
+        Act::Holds => hold(world, at),
+        Act::LetsGo(some) => let_go(world, at) == some,
         Act::Drops => free_alone(world, at),
         Act::IsLive(live) => state.live == live,
         Act::Enabled(read, write) => (state.reading, state.writing) == (read, write),
         Act::Met(end, fault) => (state.ended, state.failed) == (end, fault),
         Act::Input(length, now) => (state.input, state.last_read) == (length, now),
+        Act::MarksAre(read, write) => {
+            (state.read_low, state.read_high) == read
+                && (state.write_low, state.write_high) == write
+        }
+        Act::TimesAre(timeouts, active) => {
+            (state.read_ms, state.write_ms) == timeouts
+                && (state.last_read, state.last_write) == active
+        }
+        Act::References(n) => state.refs == n,
     }
+}
+
+fn enable(world: &mut World, at: usize, dir: Dir) -> bool {
+    if at >= world.count() {
+        return false;
+    }
+    world.enable_at(at, dir);
+    true
+}
+
+fn disable(world: &mut World, at: usize, dir: Dir) -> bool {
+    if at >= world.count() {
+        return false;
+    }
+    world.disable_at(at, dir);
+    true
+}
+
+fn mark(world: &mut World, at: usize, dir: Dir, low: u64, high: u64) -> bool {
+    if at >= world.count() {
+        return false;
+    }
+    world.set_watermark_at(at, dir, low, high);
+    true
+}
+
+fn set_timeouts(world: &mut World, at: usize, read: u64, write: u64, now: u64) -> bool {
+    if at >= world.count() {
+        return false;
+    }
+    world.set_timeouts_at(at, read, write, now);
+    true
+}
+
+fn hold(world: &mut World, at: usize) -> bool {
+    if at >= world.count() || world.bev(at).references() == u32::MAX {
+        return false;
+    }
+    world.incref_at(at);
+    true
+}
+
+fn let_go(world: &mut World, at: usize) -> bool {
+    if at >= world.count() || world.bev(at).references() == 0 {
+        return false;
+    }
+    world.decref_at(at);
+    true
 }
 
 fn expire(world: &mut World, at: usize, dir: Dir) -> bool {
@@ -423,11 +498,38 @@ const STEPS: &[Act] = &[
     Act::Input(1, 7),
 ];
 
+const ASKS: &[Act] = &[
+    Act::Enabled(true, true),
+    Act::Disables(Dir::Write),
+    Act::Enabled(true, false),
+    Act::Disables(Dir::Read),
+    Act::Enables(Dir::Write),
+    Act::Enabled(false, true),
+    Act::Marks(Dir::Write, 3, 4),
+    Act::MarksAre((0, 0), (3, 4)),
+    Act::Marks(Dir::Read, 1, 2),
+    Act::MarksAre((1, 2), (3, 4)),
+    Act::Timeouts(100, 200, 9),
+    Act::TimesAre((100, 200), (9, 9)),
+    Act::Holds,
+    Act::Holds,
+    Act::References(2),
+    Act::LetsGo(true),
+    Act::Drops,
+    // a freed one keeps its values, and is asked too
+    Act::References(1),
+    Act::LetsGo(true),
+    Act::LetsGo(false),
+    Act::Marks(Dir::Read, 0, 8),
+    Act::MarksAre((0, 8), (3, 4)),
+    Act::Enabled(false, true),
+];
+
 /// The place of the first step of a socket, or of what is seen of it, that is not as it says.
-fn first_wrong_step(world: &mut World) -> Result<Option<usize>, WorldFault> {
+fn first_wrong_step(world: &mut World, steps: &[Act]) -> Result<Option<usize>, WorldFault> {
     let id = world.new_socket()?;
     world.enable(id, Dir::Read)?;
-    for (place, act) in STEPS.iter().enumerate() {
+    for (place, act) in steps.iter().enumerate() {
         if !answers(world, id, *act) {
             return Ok(Some(place));
         }
@@ -438,7 +540,9 @@ fn first_wrong_step(world: &mut World) -> Result<Option<usize>, WorldFault> {
 #[test]
 fn steps_by_number_look_at_no_liveness(rt: HostRuntime) {
     let mut world = World::new(rt.alloc());
-    let wrong = first_wrong_step(&mut world);
+    let wrong = first_wrong_step(&mut world, STEPS);
+    let wrong_ask = first_wrong_step(&mut world, ASKS);
     drop(world);
     assert_eq!(rt; wrong, Ok(None));
+    assert_eq!(rt; wrong_ask, Ok(None));
 }

@@ -1,6 +1,6 @@
 // Filters: line ends of a text in pieces, by a filter alone and between two bufferevents.
 
-use bev_core::Bev;
+use bev_core::{Bev, Dir};
 use bev_filter::process_input;
 use std::alloc::Global;
 use std::io::Print;
@@ -29,7 +29,7 @@ fn passed(alloc: Global, text: &[u8]) -> anyhow::Result<(u64, usize)> {
 
 // The lower one is lent, so that it is let go at one place.
 fn pass(alloc: Global, under: &mut Bev, text: &[u8]) -> anyhow::Result<(u64, usize)> {
-    under.add_input(text)?;
+    under.feed(Dir::Read, text)?;
     let mut over = Bev::new(alloc)?;
     let mut filter = AnyFilter::new(FilterKind::ToLf);
     let step = process_input(under, &mut over, &mut filter, 6, Mode::Finished)?;

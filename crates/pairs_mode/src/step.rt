@@ -39,7 +39,7 @@ pub(crate) fn take_step(half: &mut Bev, other: &mut Bev, ask: &PairAsk) -> Resul
     match ask {
         PairAsk::Write(list) => half.write(&list.bytes).map_err(|_| NoMemory),
         PairAsk::Drain(n) => {
-            half.drain_input(*n);
+            half.drain(Dir::Read, *n);
             Ok(())
         }
         PairAsk::Enable(dir) => half.enable(*dir).map_err(|_| NoMemory),

@@ -3,7 +3,7 @@ use Rattle.std.proofs.Common.{◌≡◌, ◌≢◌, ℕ, ◌+◌, ◌*◌, ◌<�
 use Rattle.std.proofs.lemmas.List.{length-set, nil_from_length}
 use Rattle.ev_types.specs.declared.side.SideId.{SideId}
 use Rattle.ev_types.specs.Sides.{number, peer}
-use Rattle.bev_world.specs.ByNumber.{with_output, without_input, exchanged}
+use Rattle.bev_world.specs.ByNumber.{output_swapped, input_swapped, swapped_across}
 use Rattle.bev_world.specs.WorldValue.{WorldValue, slot_at}
 use Rattle.bev_world.specs.declared.slot.Slot.{Slot}
 use Rattle.relay_sides.specs.Bevs.{Bevs, bevs_at, upper_of, twin}
@@ -23,7 +23,7 @@ use Rattle.relay_sides.proofs.LinkLemmas.{own_found, link_with}
 module _ (v : SidesValue) (r : Inside) (is : sides_of r ≡ v) (sound : AreSides r) (e : SideId) (opened : e.link < v.links.opened)
     (j : ℕ) (j_is : j ≡ number e) (x : SideState) (x_is : x ≡ get_or r.sides.items j x)
     (from to : ℕ) (from_is : from ≡ upper_of (number e)) (to_is : to ≡ upper_of (twin (number e)))
-    (w : WorldValue) (w_is : w ≡ exchanged r.world from to)
+    (w : WorldValue) (w_is : w ≡ swapped_across r.world from to)
     (empty : length (bevs_at r.world.slots (twin (number e))).upper.bev.output.bytes ≡ 0)
     (count : ℕ) (count_is : count ≡ length (bevs_at r.world.slots (number e)).upper.bev.input.bytes) where
   abbrev n : ℕ
@@ -45,10 +45,10 @@ module _ (v : SidesValue) (r : Inside) (is : sides_of r ≡ v) (sound : AreSides
   b = bevs_at r.world.slots (twin (number e))
 
   abbrev f : Bevs
-  f = record a { upper = without_input a.upper b.upper }
+  f = record a { upper = input_swapped a.upper b.upper }
 
   abbrev g : Bevs
-  g = record b { upper = with_output a.upper b.upper }
+  g = record b { upper = output_swapped a.upper b.upper }
 
   abbrev y : SideState
   y = record x { moved = x.moved + count }
@@ -66,7 +66,7 @@ module _ (v : SidesValue) (r : Inside) (is : sides_of r ≡ v) (sound : AreSides
   slots_are =
       ap (λ (z : WorldValue). z.slots) w_is
       ∙ (λ i. (let p = from_is i in let q = to_is i in
-      slice_set (slice_set S q (with_output (slot_at r.world p) (slot_at r.world q))) p (without_input (slot_at r.world p) (slot_at r.world q))))
+      slice_set (slice_set S q (output_swapped (slot_at r.world p) (slot_at r.world q))) p (input_swapped (slot_at r.world p) (slot_at r.world q))))
 
   n_there : upper_of n < length S
   n_there = upper_there v r is sound e opened

@@ -15,7 +15,7 @@ use Rattle.relay_state.specs.Serving.{flow_given}
 use Rattle.bev_core.specs.BevValue.{BevValue}
 use Rattle.bev_core.specs.Steps.{less, freed}
 use Rattle.bev_filter.specs.StepRoom.{HasStepRoom}
-use Rattle.bev_world.specs.ByNumber.{slot_brought}
+use Rattle.bev_world.specs.ByNumber.{slot_fed}
 use Rattle.bev_world.specs.WorldValue.{WorldValue, slot_at, with_slot}
 use Rattle.bev_world.specs.declared.slot.Slot.{Slot}
 use Rattle.relay_sides.specs.Bevs.{Bevs, bevs_at, lower_of, upper_of, twin}
@@ -121,7 +121,7 @@ can_read v r is e opened sound count some room =
 
 -- bytes came
 abbrev pub bevs_brought : List ℕ → ℕ → ℕ → Bevs → Bevs
-bevs_brought bytes time spare b = record b { lower = slot_brought bytes time spare b.lower }
+bevs_brought bytes time spare b = record b { lower = slot_fed bytes time spare b.lower }
 
 abbrev pub state_brought : List ℕ → SideState → SideState
 state_brought bytes s = record s { read = s.read + length bytes }

@@ -56,7 +56,7 @@ impl Sides {
     {
         self.readable = 0;
         self.world
-            .bring_at(lower(side), bytes, time, &mut self.spare);
+            .feed_at(lower(side), bytes, time, &mut self.spare);
         let own = &mut self.sides[side.number()];
         own.read += bytes.len() as u64;
     }

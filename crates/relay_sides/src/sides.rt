@@ -133,7 +133,7 @@ impl Sides {
         requires { from.link < self.now.links.opened }
         ensures { result ≡ length (lane_at self.now.links from).buffers.raw_input }
     {
-        self.world.bev(lower(from)).input_len()
+        self.world.bev(lower(from)).len(Dir::Read)
     }
 
     /// And in its input.
@@ -141,7 +141,7 @@ impl Sides {
         requires { from.link < self.now.links.opened }
         ensures { result ≡ length (lane_at self.now.links from).buffers.input }
     {
-        self.world.bev(upper(from)).input_len()
+        self.world.bev(upper(from)).len(Dir::Read)
     }
 
     /// And in its output.
@@ -149,7 +149,7 @@ impl Sides {
         requires { from.link < self.now.links.opened }
         ensures { result ≡ length (lane_at self.now.links from).buffers.output }
     {
-        self.world.bev(upper(from.peer())).output_len()
+        self.world.bev(upper(from.peer())).len(Dir::Write)
     }
 
     /// And in its raw output.
@@ -157,7 +157,7 @@ impl Sides {
         requires { from.link < self.now.links.opened }
         ensures { result ≡ length (lane_at self.now.links from).buffers.raw_output }
     {
-        self.world.bev(lower(from.peer())).output_len()
+        self.world.bev(lower(from.peer())).len(Dir::Write)
     }
 
     /// How many bytes were read from the side's end and not moved yet, or 2^64 - 1 where that is more. Constant; takes no memory.
@@ -191,6 +191,6 @@ impl Sides {
         ensures { result.now ≡ (lane_at self.now.links (peer side)).buffers.raw_output }
     {
         let bev = self.world.bev(lower(side));
-        bev.front_output(bev.output_len())
+        bev.front(Dir::Write, bev.len(Dir::Write))
     }
 }

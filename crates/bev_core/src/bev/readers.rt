@@ -46,6 +46,15 @@ impl Bev {
         self.failed
     }
 
+    /// How many references hold its name. Takes no memory; constant cost.
+    ///
+    /// Libevent: event2/bufferevent.h, `bufferevent_incref`; "Bufferevents: advanced topics".
+    pub fn references(&self) -> u32
+        ensures { result ≡ self.now.refs }
+    {
+        self.refs
+    }
+
     /// The high mark of a direction, in bytes; 0 is none. Takes no memory; constant cost.
     ///
     /// Libevent: event2/bufferevent.h, `bufferevent_getwatermark`; "Bufferevents: concepts and basics".

@@ -2,7 +2,7 @@
 ghost use Rattle.std.specs.Prelude.{◌≡◌, ◌≤◌, ◌+◌, length, OnOk, OnErr};
 ghost use Rattle.evbuf_chain.specs.Answers.{AnswersOr};
 ghost use Rattle.bev_core.specs.Refusals.{live_refusal};
-ghost use Rattle.bev_core.specs.Steps.{held, with_held, more, pushed, pushed_output};
+ghost use Rattle.bev_core.specs.Steps.{held, with_held, more, fed_reserved};
 ghost use Rattle.bev_core.specs.declared.fault.BevFault.TheVariants.{Memory};
 
 use super::Bev;
@@ -43,14 +43,18 @@ impl Bev {
         }
     }
 
-    /// Copies bytes to the end of the input, in room that was made before. Takes no memory; linear in the length.
+    /// Copies bytes to the end of the buffer of a direction, in room that was made before, whether it is live or not. Takes no memory;
+    /// linear in the length.
     ///
     /// Own.
-    pub fn push_input(&mut self, bytes: &[u8])
-        requires { length bytes.now ≤ self.old.input.spare }
-        ensures { self.new ≡ pushed self.old bytes.now }
+    pub fn feed_reserved(&mut self, dir: Dir, bytes: &[u8])
+        requires { length bytes.now ≤ (held self.old dir).spare }
+        ensures { self.new ≡ fed_reserved self.old dir bytes.now }
     {
-        self.input.push(bytes);
+        match dir {
+            Dir::Read => self.input.feed_reserved(bytes),
+            Dir::Write => self.output.feed_reserved(bytes),
+        }
     }
 
     /// Copies bytes to the end of the input, whether it is live or not: in room that it makes, or where no memory is left for that in the
@@ -58,21 +62,11 @@ impl Bev {
     /// of the bytes, and in that of the input where room is made.
     ///
     /// Own.
-    pub fn bring_input(&mut self, bytes: &[u8], spare: &mut SpareRoom)
+    pub fn feed_with_spare(&mut self, bytes: &[u8], spare: &mut SpareRoom)
         requires { length self.old.input.bytes + length bytes.now ≤ spare.old }
         ensures { self.new ≡ record self.old { input = more self.old.input bytes.now self.new.input.spare } }
     {
         self.input.find_room(bytes.len(), &mut spare.buffer);
-        self.input.push(bytes);
-    }
-
-    /// Copies bytes to the end of the output, as `push_input` to that of the input.
-    ///
-    /// Own.
-    pub fn push_output(&mut self, bytes: &[u8])
-        requires { length bytes.now ≤ self.old.output.spare }
-        ensures { self.new ≡ pushed_output self.old bytes.now }
-    {
-        self.output.push(bytes);
+        self.input.feed_reserved(bytes);
     }
 }

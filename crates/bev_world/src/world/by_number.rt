@@ -1,11 +1,11 @@
 // Calls for one who keeps track himself of what is live, and says by himself what is due. They ask for a known number, look at no
 // liveness, and make nothing due. Those that copy or move bytes have room that was made before, so that none is refused then.
-ghost use Rattle.std.specs.Prelude.{◌≡◌, ◌≢◌, ◌≤◌, ◌<◌, ◌+◌, ◌^◌, [], false, Some, length, slice_index_or, slice_set, OnOk, OnErr, IfOk, IfSome, vec_capacity};
+ghost use Rattle.std.specs.Prelude.{◌≡◌, ◌≢◌, ◌≤◌, ◌<◌, ◌+◌, ◌-◌, ◌^◌, [], true, false, Some, length, slice_index_or, slice_set, OnOk, OnErr, IfOk, IfSome, vec_capacity};
 ghost use Rattle.stream_filters.specs.StepAnswers.{most_by_step};
-ghost use Rattle.bev_core.specs.Steps.{held, with_enabled, touched, less, ended_at, failed_at};
+ghost use Rattle.bev_core.specs.Steps.{held, with_enabled, with_marks, with_timeouts, touched, less, ended_at, failed_at};
 ghost use Rattle.bev_filter.specs.Passing.{Crossed, stepping};
 ghost use Rattle.bev_filter.specs.StepRoom.{HasStepRoom, HasRoomFor, IsCounted};
-ghost use Rattle.bev_world.specs.ByNumber.{filter_of, with_spare_in, brought, roomless, dropped, target_of, crossed_at, SlotsWent, with_output, without_input, exchanged};
+ghost use Rattle.bev_world.specs.ByNumber.{filter_of, with_spare_in, fed_with_spare, roomless, dropped, target_of, crossed_at, SlotsWent, output_swapped, input_swapped, swapped_across};
 ghost use Rattle.bev_world.specs.FilterSlots.{slots_crossing};
 ghost use Rattle.bev_world.specs.Filters.{crossing, under_of};
 ghost use Rattle.bev_world.specs.WorldValue.{no_slot, slot_at, bev_at, with_bev};
@@ -107,18 +107,83 @@ impl World {
         self.slots[at].bev.moved_at(dir, now);
     }
 
-    /// Copies bytes that were read to the end of the input, in room that it makes or takes, as `bring_input` of bev_core, and makes the
+    /// Enables a direction. Takes no memory; constant cost.
+    ///
+    /// Libevent: event2/bufferevent.h, `bufferevent_enable`; "Bufferevents: concepts and basics".
+    pub fn enable_at(&mut self, at: usize, dir: Dir)
+        requires { at < length self.old.slots }
+        ensures { self.new ≡ with_bev self.old at (with_enabled (bev_at self.old at) dir true) }
+    {
+        self.slots[at].bev.set_enabled(dir, true);
+    }
+
+    /// Disables a direction. Takes no memory; constant cost.
+    ///
+    /// Libevent: event2/bufferevent.h, `bufferevent_disable`; "Bufferevents: concepts and basics".
+    pub fn disable_at(&mut self, at: usize, dir: Dir)
+        requires { at < length self.old.slots }
+        ensures { self.new ≡ with_bev self.old at (with_enabled (bev_at self.old at) dir false) }
+    {
+        self.slots[at].bev.set_enabled(dir, false);
+    }
+
+    /// Sets both marks of a direction, in bytes. A high mark of 0 is none. Takes no memory; constant cost.
+    ///
+    /// Libevent: event2/bufferevent.h, `bufferevent_setwatermark`; "Bufferevents: concepts and basics".
+    pub fn set_watermark_at(&mut self, at: usize, dir: Dir, low: u64, high: u64)
+        requires { at < length self.old.slots }
+        ensures { self.new ≡ with_bev self.old at (with_marks (bev_at self.old at) dir low high) }
+    {
+        self.slots[at].bev.set_marks(dir, low, high);
+    }
+
+    /// Sets both timeouts, in milliseconds, and makes a moment the last activity of both directions. 0 is no timeout. Takes no memory;
+    /// constant cost.
+    ///
+    /// Libevent: event2/bufferevent.h, `bufferevent_set_timeouts`; "Bufferevents: concepts and basics".
+    pub fn set_timeouts_at(&mut self, at: usize, read_ms: u64, write_ms: u64, now: u64)
+        requires { at < length self.old.slots }
+        ensures { self.new ≡ with_bev self.old at (with_timeouts (bev_at self.old at) read_ms write_ms now) }
+    {
+        self.slots[at].bev.start_timeouts(read_ms, write_ms, now);
+    }
+
+    /// One reference more. It is asked that there are fewer than 2^32 - 1, which `references` of the bufferevent tells. Takes no memory;
+    /// constant cost.
+    ///
+    /// Libevent: event2/bufferevent.h, `bufferevent_incref`; "Bufferevents: advanced topics".
+    pub fn incref_at(&mut self, at: usize)
+        requires there { at < length self.old.slots }
+        requires few { (bev_at self.old at).refs < 2 ^ 32 - 1 }
+        ensures { self.new ≡ with_bev self.old at (record (bev_at self.old at) { refs = (bev_at self.old at).refs + 1 }) }
+    {
+        self.slots[at].bev.add_reference();
+    }
+
+    /// One reference less, also of a freed one. It is asked that there is one. Takes no memory; constant cost.
+    ///
+    /// Libevent: event2/bufferevent.h, `bufferevent_decref`; "Bufferevents: advanced topics".
+    /// Differs: the last reference frees nothing.
+    pub fn decref_at(&mut self, at: usize)
+        requires there { at < length self.old.slots }
+        requires some { 0 < (bev_at self.old at).refs }
+        ensures { self.new ≡ with_bev self.old at (record (bev_at self.old at) { refs = (bev_at self.old at).refs - 1 }) }
+    {
+        self.slots[at].bev.drop_reference();
+    }
+
+    /// Copies bytes that were read to the end of the input, in room that it makes or takes, as `feed_with_spare` of bev_core, and makes the
     /// moment the last activity of reading. No `feed` is sure of room there any more. Takes memory where the input has less room, and is
     /// never refused; linear in the length of the bytes, and in that of the input where room is made.
     ///
     /// Own.
-    pub fn bring_at(&mut self, at: usize, bytes: &[u8], now: u64, spare: &mut SpareRoom)
+    pub fn feed_at(&mut self, at: usize, bytes: &[u8], now: u64, spare: &mut SpareRoom)
         requires there { at < length self.old.slots }
         requires room { length (bev_at self.old at).input.bytes + length bytes.now ≤ spare.old }
-        ensures { self.new ≡ brought self.old at bytes.now now (bev_at self.new at).input.spare }
+        ensures { self.new ≡ fed_with_spare self.old at bytes.now now (bev_at self.new at).input.spare }
     {
         let slot = &mut self.slots[at];
-        slot.bev.bring_input(bytes, spare);
+        slot.bev.feed_with_spare(bytes, spare);
         slot.bev.moved_at(Dir::Read, now);
         slot.room = 0;
     }
@@ -132,7 +197,7 @@ impl World {
         ensures bytes { self.new ≡ with_bev self.old at (record (bev_at self.old at) { output = less (bev_at self.old at).output n (bev_at self.new at).output.spare }) }
         ensures spare { (bev_at self.old at).output.spare ≤ (bev_at self.new at).output.spare }
     {
-        self.slots[at].bev.drain_output(n);
+        self.slots[at].bev.drain(Dir::Write, n);
     }
 
     /// Frees the room of each of its buffers without a byte. Takes no memory; constant cost.
@@ -168,9 +233,9 @@ impl World {
         requires to_there { to < length self.old.slots }
         requires apart { from ≢ to }
         requires empty { (bev_at self.old to).output.bytes ≡ [] }
-        ensures { self.new ≡ exchanged self.old from to }
+        ensures { self.new ≡ swapped_across self.old from to }
     {
-        exchange_slots(&mut self.slots, from, to);
+        swap_slots(&mut self.slots, from, to);
     }
 
     /// Makes room for a step of a filter bufferevent that is offered `count` bytes, as `reserve_step` of bev_filter does: for reading in its
@@ -247,7 +312,7 @@ impl World {
         under: usize,
         dir: Dir,
         limit: usize,
-        over: bool,
+        at_end: bool,
         beside: &mut Vec<u8>,
         made: u64,
     ) -> u64
@@ -255,37 +320,37 @@ impl World {
         requires below { under_of (slot_at self.old at).kind ≡ Some under }
         requires counted { IsCounted dir (crossing self.old dir at under) }
         requires room { HasRoomFor dir (crossing self.old dir at under) limit (vec_capacity beside.old) made }
-        ensures crossed { Crossed dir (stepping dir (crossing self.old dir at under) limit over) (crossing self.old dir at under) (crossing self.new dir at under) }
+        ensures crossed { Crossed dir (stepping dir (crossing self.old dir at under) limit at_end) (crossing self.old dir at under) (crossing self.new dir at under) }
         ensures world { self.new ≡ crossed_at self.old dir at under (crossing self.new dir at under) }
-        ensures made { result ≡ made + length (stepping dir (crossing self.old dir at under) limit over).made }
+        ensures made { result ≡ made + length (stepping dir (crossing self.old dir at under) limit at_end).made }
         ensures beside { vec_capacity beside.old ≤ vec_capacity beside.new }
     {
-        step_slots(&mut self.slots, at, under, dir, limit, over, beside, made)
+        step_slots(&mut self.slots, at, under, dir, limit, at_end, beside, made)
     }
 }
 
 // The input of one slot of a list and the output of another are exchanged.
-fn exchange_slots(slots: &mut [Slot], from: usize, to: usize)
+fn swap_slots(slots: &mut [Slot], from: usize, to: usize)
     requires there { from < length slots.old }
     requires to_there { to < length slots.old }
     requires apart { from ≢ to }
-    ensures { slots.new ≡ slice_set (slice_set slots.old to (with_output (slice_index_or slots.old from no_slot) (slice_index_or slots.old to no_slot))) from (without_input (slice_index_or slots.old from no_slot) (slice_index_or slots.old to no_slot)) }
+    ensures { slots.new ≡ slice_set (slice_set slots.old to (output_swapped (slice_index_or slots.old from no_slot) (slice_index_or slots.old to no_slot))) from (input_swapped (slice_index_or slots.old from no_slot) (slice_index_or slots.old to no_slot)) }
 {
     if from < to {
         let (front, back) = slots.split_at_mut(to);
-        exchange(&mut front[from], &mut back[0]);
+        swap_between(&mut front[from], &mut back[0]);
     } else {
         let (front, back) = slots.split_at_mut(from);
-        exchange(&mut back[0], &mut front[to]);
+        swap_between(&mut back[0], &mut front[to]);
     }
 }
 
 // The input of the one and the output of the other are exchanged.
-fn exchange(from: &mut Slot, to: &mut Slot)
-    ensures input { from.new ≡ without_input from.old to.old }
-    ensures output { to.new ≡ with_output from.old to.old }
+fn swap_between(from: &mut Slot, to: &mut Slot)
+    ensures input { from.new ≡ input_swapped from.old to.old }
+    ensures output { to.new ≡ output_swapped from.old to.old }
 {
-    from.bev.exchange_input(&mut to.bev);
+    from.bev.swap_across(Dir::Read, &mut to.bev);
     from.room = 0;
 }
 
@@ -296,7 +361,7 @@ fn step_slots(
     under: usize,
     dir: Dir,
     limit: usize,
-    over: bool,
+    at_end: bool,
     beside: &mut Vec<u8>,
     made: u64,
 ) -> u64
@@ -304,9 +369,9 @@ fn step_slots(
     requires below { under < at }
     requires counted { IsCounted dir (slots_crossing dir (slice_index_or slots.old under no_slot) (slice_index_or slots.old at no_slot)) }
     requires room { HasRoomFor dir (slots_crossing dir (slice_index_or slots.old under no_slot) (slice_index_or slots.old at no_slot)) limit (vec_capacity beside.old) made }
-    ensures went { SlotsWent dir limit over (slice_index_or slots.old under no_slot) (slice_index_or slots.old at no_slot) (slice_index_or slots.new under no_slot) (slice_index_or slots.new at no_slot) }
+    ensures went { SlotsWent dir limit at_end (slice_index_or slots.old under no_slot) (slice_index_or slots.old at no_slot) (slice_index_or slots.new under no_slot) (slice_index_or slots.new at no_slot) }
     ensures slots { slots.new ≡ slice_set (slice_set slots.old under (slice_index_or slots.new under no_slot)) at (slice_index_or slots.new at no_slot) }
-    ensures made { result ≡ made + length (stepping dir (slots_crossing dir (slice_index_or slots.old under no_slot) (slice_index_or slots.old at no_slot)) limit over).made }
+    ensures made { result ≡ made + length (stepping dir (slots_crossing dir (slice_index_or slots.old under no_slot) (slice_index_or slots.old at no_slot)) limit at_end).made }
     ensures beside { vec_capacity beside.old ≤ vec_capacity beside.new }
 {
     let (front, back) = slots.split_at_mut(at);
@@ -315,7 +380,7 @@ fn step_slots(
         &mut back[0],
         dir,
         limit,
-        over,
+        at_end,
         beside,
         made,
     )
@@ -327,14 +392,14 @@ fn step_between(
     upper: &mut Slot,
     dir: Dir,
     limit: usize,
-    over: bool,
+    at_end: bool,
     beside: &mut Vec<u8>,
     made: u64,
 ) -> u64
     requires counted { IsCounted dir (slots_crossing dir lower.old upper.old) }
     requires room { HasRoomFor dir (slots_crossing dir lower.old upper.old) limit (vec_capacity beside.old) made }
-    ensures went { SlotsWent dir limit over lower.old upper.old lower.new upper.new }
-    ensures made { result ≡ made + length (stepping dir (slots_crossing dir lower.old upper.old) limit over).made }
+    ensures went { SlotsWent dir limit at_end lower.old upper.old lower.new upper.new }
+    ensures made { result ≡ made + length (stepping dir (slots_crossing dir lower.old upper.old) limit at_end).made }
     ensures beside { vec_capacity beside.old ≤ vec_capacity beside.new }
 {
     match dir {
@@ -347,7 +412,7 @@ fn step_between(
                 dir,
                 &mut upper.read_filter,
                 limit,
-                over,
+                at_end,
                 beside,
                 made,
             )
@@ -358,7 +423,7 @@ fn step_between(
             dir,
             &mut upper.write_filter,
             limit,
-            over,
+            at_end,
             beside,
             made,
         ),

@@ -183,7 +183,7 @@ impl World {
     {
         let bev = &mut self.slots[at].bev;
         let n = bev.peek(into);
-        bev.drain_input(n);
+        bev.drain(Dir::Read, n);
         n
     }
 
@@ -197,10 +197,12 @@ impl World {
     {
         let mut writer = mem::replace(&mut self.slots[from].bev, blank);
         let reader = &mut self.slots[to];
-        reader.bev.push_input(writer.front_output(n));
+        reader
+            .bev
+            .feed_reserved(Dir::Read, writer.front(Dir::Write, n));
         reader.room = reader.room.saturating_sub(n);
         let reads = is_due(&reader.bev, n, Dir::Read);
-        writer.drain_output(n);
+        writer.drain(Dir::Write, n);
         let writes = is_due(&writer, n, Dir::Write);
         self.slots[from].bev = writer;
         self.raise_if(reads, to, Why::Read);

@@ -10,7 +10,7 @@ ghost use Rattle.bev_world.specs.WorldValue.{bev_at, is_live};
 
 use super::World;
 use crate::fault::WorldFault;
-use bev_core::Bev;
+use bev_core::{Bev, Dir};
 use ev_types::BevId;
 
 impl World {
@@ -43,7 +43,7 @@ impl World {
         ensures went { Went self.old self.new }
     {
         let mut copy = self.blank()?;
-        copy.write(self.slots[from].bev.front_input(n))?;
+        copy.write(self.slots[from].bev.front(Dir::Read, n))?;
         self.append_all(to, copy, n)?;
         self.drop_first(from, n);
         Ok(())
@@ -59,7 +59,7 @@ impl World {
         ensures err { OnErr result (self.new ≡ self.old) }
         ensures went { Went self.old self.new }
     {
-        let _moved = copy.pass_output(&mut self.slots[at].bev, n)?;
+        let _moved = copy.pass(Dir::Write, &mut self.slots[at].bev, n)?;
         Ok(())
     }
 
@@ -69,7 +69,7 @@ impl World {
         ensures after { self.new ≡ shortened self.old at n (bev_at self.new at).input.spare }
         ensures went { Went self.old self.new }
     {
-        self.slots[at].bev.drain_input(n);
+        self.slots[at].bev.drain(Dir::Read, n);
     }
 
     // How many bytes there are to move, where the output takes so many more.

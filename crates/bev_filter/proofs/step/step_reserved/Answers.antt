@@ -9,7 +9,7 @@ overflow_add-result c =
       arith,
       c.hand_step.ensures.made,
       c.requires.room.counted,
-      step-most c.args.filter.now c.args.over c.args.limit (length (held c.args.to.now c.args.dir).bytes)
+      step-most c.args.filter.now c.args.at_end c.args.limit (length (held c.args.to.now c.args.dir).bytes)
           (held c.args.from.now c.args.dir).bytes,
     )
 
@@ -19,6 +19,6 @@ overflow_add-result-in_default c =
       arith,
       c.make_step.ensures.made,
       c.requires.room.counted,
-      step-most c.args.filter.now c.args.over c.args.limit (length (held c.args.to.now c.args.dir).bytes)
+      step-most c.args.filter.now c.args.at_end c.args.limit (length (held c.args.to.now c.args.dir).bytes)
           (held c.args.from.now c.args.dir).bytes,
     )

@@ -20,4 +20,4 @@ returns-clause-made c =
     let y = read-back c.args.slots.now c.split_at_mut-front.result.0.now c.split_at_mut-front.result.1.now c.args.at c.index-back-0.result
     c.split_at_mut-front.ensures.value long c.requires.there in
     c.step_between.ensures.made
-    ∙ (λ i. c.args.made + length (stepping c.args.dir (slots_crossing c.args.dir (x i) (y i)) c.args.limit c.args.over).made)
+    ∙ (λ i. c.args.made + length (stepping c.args.dir (slots_crossing c.args.dir (x i) (y i)) c.args.limit c.args.at_end).made)

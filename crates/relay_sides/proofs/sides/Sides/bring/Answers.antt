@@ -1,14 +1,14 @@
 use Rattle.std.proofs.Common.{ℕ, ◌+◌, ◌<◌, ◌≤◌, length, sym, ap, subst, arith}
 use Rattle.ev_types.specs.Sides.{number}
-use Rattle.bev_world.specs.ByNumber.{slot_brought}
+use Rattle.bev_world.specs.ByNumber.{slot_fed}
 use Rattle.bev_world.specs.WorldValue.{bev_at}
 use Rattle.relay_sides.proofs.BevsLemmas.{number-lt}
 use Rattle.relay_sides.proofs.SidesLemmas.{here, state_found}
 use Rattle.relay_sides.proofs.ServeLemmas.{lower_changed, state_changed, can_read, state_brought, brought-links, brought-sound, brought-room}
 use Rattle.relay_sides.proofs.sides.Sides.bring.Goals as goal
 
-pub bring_at-requires-clause-room : goal.bring_at-requires-clause-room
-bring_at-requires-clause-room c =
+pub feed_at-requires-clause-room : goal.feed_at-requires-clause-room
+feed_at-requires-clause-room c =
     let r = c.self.inside in
     let can = can_read c.args.self.now r c.self.view_is c.args.side c.requires.opened c.self.invariant (length c.args.bytes.now)
     c.requires.some c.requires.room in
@@ -32,9 +32,9 @@ invariant_of-self c =
     let lt = number-lt e r.opened (here c.args.self.now r c.self.view_is e c.requires.opened) in
     let lt2 : number e < length r.sides.items = omega (arith, lt, c.self.invariant.sides) in
     let x = state_found r.sides.items (number e) c.number.result c.index_mut-own.result.now c.number.ensures c.index_mut-own.ensures.value lt2 in
-    let p = lower_changed r.world c.bring_at.new.self (number e) c.lower.result
-    (slot_brought c.args.bytes.now c.args.time (bev_at c.bring_at.new.self c.lower.result).input.spare)
-    c.lower.ensures (omega (arith, lt, c.self.invariant.slots)) c.bring_at.ensures in
+    let p = lower_changed r.world c.feed_at.new.self (number e) c.lower.result
+    (slot_fed c.args.bytes.now c.args.time (bev_at c.feed_at.new.self c.lower.result).input.spare)
+    c.lower.ensures (omega (arith, lt, c.self.invariant.slots)) c.feed_at.ensures in
     let q = state_changed r.sides.items (number e) c.number.result (state_brought c.args.bytes.now) _ c.number.ensures lt2
     (ap (state_brought c.args.bytes.now) x) in
     let s = brought-sound c.args.self.now r c.self.view_is e c.requires.opened c.self.invariant c.args.bytes.now c.args.time _ _ _ p q in
@@ -47,9 +47,9 @@ returns-clause-links c =
     let lt = number-lt e r.opened (here c.args.self.now r c.self.view_is e c.requires.opened) in
     let lt2 : number e < length r.sides.items = omega (arith, lt, c.self.invariant.sides) in
     let x = state_found r.sides.items (number e) c.number.result c.index_mut-own.result.now c.number.ensures c.index_mut-own.ensures.value lt2 in
-    let p = lower_changed r.world c.bring_at.new.self (number e) c.lower.result
-    (slot_brought c.args.bytes.now c.args.time (bev_at c.bring_at.new.self c.lower.result).input.spare)
-    c.lower.ensures (omega (arith, lt, c.self.invariant.slots)) c.bring_at.ensures in
+    let p = lower_changed r.world c.feed_at.new.self (number e) c.lower.result
+    (slot_fed c.args.bytes.now c.args.time (bev_at c.feed_at.new.self c.lower.result).input.spare)
+    c.lower.ensures (omega (arith, lt, c.self.invariant.slots)) c.feed_at.ensures in
     let q = state_changed r.sides.items (number e) c.number.result (state_brought c.args.bytes.now) _ c.number.ensures lt2
     (ap (state_brought c.args.bytes.now) x) in
     brought-links c.args.self.now r c.self.view_is e c.requires.opened c.self.invariant c.args.bytes.now c.args.time _ _ _ p q
@@ -61,9 +61,9 @@ returns-clause-room c =
     let lt = number-lt e r.opened (here c.args.self.now r c.self.view_is e c.requires.opened) in
     let lt2 : number e < length r.sides.items = omega (arith, lt, c.self.invariant.sides) in
     let x = state_found r.sides.items (number e) c.number.result c.index_mut-own.result.now c.number.ensures c.index_mut-own.ensures.value lt2 in
-    let p = lower_changed r.world c.bring_at.new.self (number e) c.lower.result
-    (slot_brought c.args.bytes.now c.args.time (bev_at c.bring_at.new.self c.lower.result).input.spare)
-    c.lower.ensures (omega (arith, lt, c.self.invariant.slots)) c.bring_at.ensures in
+    let p = lower_changed r.world c.feed_at.new.self (number e) c.lower.result
+    (slot_fed c.args.bytes.now c.args.time (bev_at c.feed_at.new.self c.lower.result).input.spare)
+    c.lower.ensures (omega (arith, lt, c.self.invariant.slots)) c.feed_at.ensures in
     let q = state_changed r.sides.items (number e) c.number.result (state_brought c.args.bytes.now) _ c.number.ensures lt2
     (ap (state_brought c.args.bytes.now) x) in
     let can = can_read c.args.self.now r c.self.view_is e c.requires.opened c.self.invariant (length c.args.bytes.now)

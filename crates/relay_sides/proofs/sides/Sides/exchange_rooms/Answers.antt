@@ -2,7 +2,7 @@ use Rattle.std.proofs.Common.{◌≡◌, ◌≢◌, ℕ, ◌<◌, List, [], leng
 use Rattle.std.proofs.lemmas.List.{nil_from_length}
 use Rattle.ev_types.specs.Sides.{number, peer}
 use Rattle.relay_state.specs.State.{Lane}
-use Rattle.bev_world.specs.ByNumber.{with_output, without_input, exchanged}
+use Rattle.bev_world.specs.ByNumber.{output_swapped, input_swapped, swapped_across}
 use Rattle.bev_world.specs.WorldValue.{WorldValue, slot_at, bev_at}
 use Rattle.bev_world.specs.declared.slot.Slot.{Slot}
 use Rattle.relay_sides.specs.Bevs.{bevs_at, lower_of, upper_of, twin}
@@ -16,18 +16,18 @@ use Rattle.relay_sides.proofs.sides.Sides.exchange_rooms.Goals as goal
 -- an input and an output without a byte are exchanged
 quiet_exchange : (w new : WorldValue) (n t from to : ℕ) → n ≢ t → from ≡ lower_of n → to ≡ upper_of t →
     lower_of n < length w.slots → upper_of t < length w.slots →
-    (bevs_at w.slots n).lower.bev.input.bytes ≡ [] → (bevs_at w.slots t).upper.bev.output.bytes ≡ [] → new ≡ exchanged w from to →
+    (bevs_at w.slots n).lower.bev.input.bytes ≡ [] → (bevs_at w.slots t).upper.bev.output.bytes ≡ [] → new ≡ swapped_across w from to →
     Quiet w.slots new.slots
 quiet_exchange w new n t from to apart from_is to_is in_n in_t input output is =
     let a : Slot = (bevs_at w.slots n).lower in
     let b : Slot = (bevs_at w.slots t).upper in
-    let up : Slot = with_output a b in
-    let lo : Slot = without_input a b in
+    let up : Slot = output_swapped a b in
+    let lo : Slot = input_swapped a b in
     let mid : List Slot = slice_set w.slots (upper_of t) up in
     let are : new.slots ≡ slice_set mid (lower_of n) lo =
     ap (λ (z : WorldValue). z.slots) is
     ∙ (λ i. (let p = from_is i in let q = to_is i in
-    slice_set (slice_set w.slots q (with_output (slot_at w p) (slot_at w q))) p (without_input (slot_at w p) (slot_at w q)))) in
+    slice_set (slice_set w.slots q (output_swapped (slot_at w p) (slot_at w q))) p (input_swapped (slot_at w p) (slot_at w q)))) in
     let here : bevs_at mid n ≡ bevs_at w.slots n = set_upper-other w.slots t up n apart in
     let first : Quiet w.slots mid = upper_quiet w.slots t up in_t
     (let z = bevs_at w.slots t in let s = seen_of z in

@@ -10,5 +10,5 @@ returns c =
     let r = c.self.inside in
     let e = c.args.from in
     let b = upper_found r.world (number e) c.upper.result c.bev.result.now c.upper.ensures c.bev.ensures in
-    c.input_len.ensures.len ∙ ap (λ (x : BevValue). length x.input.bytes) b
+    c.len.ensures.len ∙ ap (λ (x : BevValue). length x.input.bytes) b
     ∙ ap (λ (l : Lane). length l.buffers.input) (sym (lane_seen c.args.self.now r c.self.view_is e c.requires))

@@ -12,5 +12,5 @@ returns c =
     let e = c.args.from in
     let b = lower_found r.world (twin (number e)) c.lower.result c.bev.result.now
     (c.lower.ensures ∙ ap lower_of (peer_number e c.peer.result c.peer.ensures)) c.bev.ensures in
-    c.output_len.ensures.len ∙ ap (λ (x : BevValue). length x.output.bytes) b
+    c.len.ensures.len ∙ ap (λ (x : BevValue). length x.output.bytes) b
     ∙ ap (λ (l : Lane). length l.buffers.raw_output) (sym (lane_seen c.args.self.now r c.self.view_is e c.requires))

@@ -14,7 +14,7 @@ returns c =
     let e = c.args.side in
     let b = lower_found r.world (number e) c.lower.result c.bev-bev.result.now c.lower.ensures c.bev-bev.ensures in
     let back = ap twin (twin-number e) ∙ twin-twin (number e) in
-    c.front_output.ensures ∙ ap (λ n. take n c.bev-bev.result.now.output.bytes) c.output_len.ensures.len
+    c.front.ensures ∙ ap (λ n. take n c.bev-bev.result.now.output.bytes) c.len.ensures.len
     ∙ take-length c.bev-bev.result.now.output.bytes ∙ ap (λ (x : BevValue). x.output.bytes) b
     ∙ ap (λ n. (bevs_at r.world.slots n).lower.bev.output.bytes) (sym back)
     ∙ ap (λ (l : Lane). l.buffers.raw_output) (sym (lane_seen c.args.self.now r c.self.view_is (peer e) c.requires))

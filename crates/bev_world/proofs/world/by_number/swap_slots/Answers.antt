@@ -1,8 +1,8 @@
 use Rattle.std.proofs.Common.{◌<◌, ◌∙◌, slice_set, arith}
 use Rattle.std.proofs.lemmas.List.{set_comm}
-use Rattle.bev_world.specs.ByNumber.{with_output, without_input}
+use Rattle.bev_world.specs.ByNumber.{output_swapped, input_swapped}
 use Rattle.bev_world.proofs.ByNumberLemmas.{read-front, read-back, both-set}
-use Rattle.bev_world.proofs.world.by_number.exchange_slots.Goals as goal
+use Rattle.bev_world.proofs.world.by_number.swap_slots.Goals as goal
 
 pub returns-then-from-to : goal.returns-then-from-to
 returns-then-from-to c =
@@ -14,11 +14,11 @@ returns-then-from-to c =
     let before = c.if-from-to.true in
     let x = read-front xs f b c.args.from c.index-front-from.result parts (omega (arith, long, before)) in
     let y = read-back xs f b c.args.to c.index-back-0.result parts long c.requires.to_there in
-    both-set xs f b c.args.to c.args.from c.exchange.new.from c.exchange.new.to parts long before
-    ∙ set_comm xs c.args.from c.args.to c.exchange.new.from c.exchange.new.to c.requires.apart
-    ∙ (let i_is = c.exchange.ensures.input in let o_is = c.exchange.ensures.output in
+    both-set xs f b c.args.to c.args.from c.swap_between.new.from c.swap_between.new.to parts long before
+    ∙ set_comm xs c.args.from c.args.to c.swap_between.new.from c.swap_between.new.to c.requires.apart
+    ∙ (let i_is = c.swap_between.ensures.input in let o_is = c.swap_between.ensures.output in
     λ i. slice_set (slice_set xs c.args.to (o_is i)) c.args.from (i_is i))
-    ∙ (λ i. slice_set (slice_set xs c.args.to (with_output (x i) (y i))) c.args.from (without_input (x i) (y i)))
+    ∙ (λ i. slice_set (slice_set xs c.args.to (output_swapped (x i) (y i))) c.args.from (input_swapped (x i) (y i)))
 
 pub returns-else-from-to : goal.returns-else-from-to
 returns-else-from-to c =
@@ -30,7 +30,7 @@ returns-else-from-to c =
     let before : c.args.to < c.args.from = omega (arith, c.if-from-to.false, c.requires.apart) in
     let x = read-back xs f b c.args.from c.index-back-0-else-from-to.result parts long c.requires.there in
     let y = read-front xs f b c.args.to c.index-front-to.result parts (omega (arith, long, before)) in
-    both-set xs f b c.args.from c.args.to c.exchange-else-from-to.new.to c.exchange-else-from-to.new.from parts long before
-    ∙ (let i_is = c.exchange-else-from-to.ensures.input in let o_is = c.exchange-else-from-to.ensures.output in
+    both-set xs f b c.args.from c.args.to c.swap_between-else-from-to.new.to c.swap_between-else-from-to.new.from parts long before
+    ∙ (let i_is = c.swap_between-else-from-to.ensures.input in let o_is = c.swap_between-else-from-to.ensures.output in
     λ i. slice_set (slice_set xs c.args.to (o_is i)) c.args.from (i_is i))
-    ∙ (λ i. slice_set (slice_set xs c.args.to (with_output (x i) (y i))) c.args.from (without_input (x i) (y i)))
+    ∙ (λ i. slice_set (slice_set xs c.args.to (output_swapped (x i) (y i))) c.args.from (input_swapped (x i) (y i)))

@@ -1,6 +1,6 @@
 use Rattle.std.proofs.Common.{◌-◌, length, ◌∙◌}
 use Rattle.bev_core.proofs.OwnLemmas.{answered, end-open, own-added}
-use Rattle.bev_core.proofs.own_buffer.OwnBuffer.push.Goals as goal
+use Rattle.bev_core.proofs.own_buffer.OwnBuffer.feed_reserved.Goals as goal
 
 pub invariant_of-self : goal.invariant_of-self
 invariant_of-self c =
