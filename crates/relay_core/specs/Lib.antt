@@ -3,7 +3,6 @@ pub mod RelayValue
 pub mod RelayView
 pub mod Waits
 pub mod Steps
-pub mod Far
 pub mod Pairs
 pub mod Unlimited
 pub mod Answered

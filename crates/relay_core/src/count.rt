@@ -117,6 +117,6 @@ impl Relay {
     pub fn is_spent(&self) -> bool
         ensures { result ≡ is_spent self.now.state }
     {
-        self.turns >= SPENT || self.sides.any_is_far()
+        self.turns >= SPENT || self.sides.any_count_is_spent()
     }
 }

@@ -19,7 +19,7 @@ pub mod WentLemmas
 pub mod OtherLinks
 pub mod UnhookedSteps
 pub mod LinkParts
-pub mod LooksLemmas
-pub mod NearLemmas
+pub mod AgendaLemmas
+pub mod FewLemmas
 pub mod TableLemmas
 pub mod ListedLemmas

@@ -29,7 +29,7 @@ use Rattle.relay_drive.specs.ServePhase.{ReadsSide, WritesSide, ConnectsSide, Se
 use Rattle.relay_drive.specs.ClosePhase.{Closes, LooksAt, ClosesLink}
 use Rattle.relay_sides.specs.Links as links
 use Rattle.relay_sides.specs.Links.{Links}
-use Rattle.relay_drive.specs.Links.{HasPairs, IsStillFrom, IsStill, IsUncalled, IsSettled, is_far_from, is_far}
+use Rattle.relay_drive.specs.Links.{HasPairs, IsStillFrom, IsStill, IsUncalled, IsSettled, has_spent_count_from, has_spent_count}
 pub use Rattle.relay_drive.proofs.OtherLinks.{wants-same, open-same, far-same, still-same, settled-same}
 use Rattle.relay_drive.proofs.EachLemmas.{nothing_then, then_as, each_push, links_from-push}
 
@@ -99,13 +99,13 @@ each-skips R i j s new a le none h =
 -- Counts of all links
 
 -- where neither direction of a link is far, that from this side is not
-not-far : (s : State) (e : SideId) → is_far s e.link ≡ false → is_far_from s e ≡ false
+not-far : (s : State) (e : SideId) → has_spent_count s e.link ≡ false → has_spent_count_from s e ≡ false
 not-far s e h = on e.side
   where
-    both : (is_far_from s (in_side e.link) ≡ false) × (is_far_from s (out_side e.link) ≡ false)
-    both = or_parts (is_far_from s (in_side e.link)) (is_far_from s (out_side e.link)) h
+    both : (has_spent_count_from s (in_side e.link) ≡ false) × (has_spent_count_from s (out_side e.link) ≡ false)
+    both = or_parts (has_spent_count_from s (in_side e.link)) (has_spent_count_from s (out_side e.link)) h
 
-    on : (side : Side) → is_far_from s (record { link = e.link; side = side }) ≡ false
+    on : (side : Side) → has_spent_count_from s (record { link = e.link; side = side }) ≡ false
     on In = both.0
     on Out = both.1
 
@@ -125,12 +125,11 @@ none-passes p (x ∷ xs) d h =
     ap (λ b. b || list_any p xs) (h 0 (omega arith)) ∙ none-passes p xs d (λ i lt. h (suc i) (omega (arith, lt)))
 
 -- a count of a link has come to 2^62 in the state where it has among the relay's sides
-pub far-seen : (s : State) (k : Links) (n : ℕ) → k.flows ≡ s.plain.flows → k.lanes ≡ s.lanes →
-    (links.is_far_from k (in_side n) || links.is_far_from k (out_side n)) ≡ is_far s n
-far-seen s k n flows lanes = λ i. is_far (record s { plain = record (s.plain) { flows = flows i }; lanes = lanes i }) n
+pub spent-seen : (s : State) (k : Links) (n : ℕ) → k.flows ≡ s.plain.flows → k.lanes ≡ s.lanes → links.has_spent_count k n ≡ has_spent_count s n
+spent-seen s k n flows lanes = λ i. has_spent_count (record s { plain = record (s.plain) { flows = flows i }; lanes = lanes i }) n
 
 -- no count has come to 2^62 where that of the turns has not, and none of any link
-pub not-spent : (s : State) → HasPairs s → nat_le (2 ^ 62) s.plain.turn ≡ false → ((k : ℕ) → k < s.plain.opened → is_far s k ≡ false) →
+pub not-spent : (s : State) → HasPairs s → nat_le (2 ^ 62) s.plain.turn ≡ false → ((k : ℕ) → k < s.plain.opened → has_spent_count s k ≡ false) →
     is_spent s ≡ false
 not-spent s pairs turns h = or_from _ _ (or_from _ _ turns flows) lanes
   where
@@ -151,13 +150,13 @@ not-spent s pairs turns h = or_from _ _ (or_from _ _ turns flows) lanes
     lanes = none-passes has_read_far s.lanes no_lane (λ i lt. (one i (omega (arith, lt, pairs.lanes))).1)
 
 -- a count of one link that has come to 2^62 is one of them
-pub spent-link : (s : State) (k : ℕ) → HasPairs s → k < s.plain.opened → is_far s k ≡ true → is_spent s ≡ true
-spent-link s k pairs below h = elim (or_cases (is_far_from s (in_side k)) (is_far_from s (out_side k)) h) [
+pub spent-link : (s : State) (k : ℕ) → HasPairs s → k < s.plain.opened → has_spent_count s k ≡ true → is_spent s ≡ true
+spent-link s k pairs below h = elim (or_cases (has_spent_count_from s (in_side k)) (has_spent_count_from s (out_side k)) h) [
   | inl near ↦ from (in_side k) (omega (arith, below)) near
   | inr far ↦ from (out_side k) (omega (arith, below)) far
 ]
   where
-    from : (e : SideId) → number e < 2 * s.plain.opened → is_far_from s e ≡ true → is_spent s ≡ true
+    from : (e : SideId) → number e < 2 * s.plain.opened → has_spent_count_from s e ≡ true → is_spent s ≡ true
     from e lt x = elim (or_cases (has_flown_far (flow_at s.plain e)) (has_read_far (lane_at s e)) x) [
       | inl flown ↦ or_left _ _
           (or_right _ _ (list_any_at has_flown_far s.plain.flows (number e) no_flow (omega (arith, lt, pairs.flows)) flown))

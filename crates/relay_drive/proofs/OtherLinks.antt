@@ -53,7 +53,7 @@ use Rattle.relay_drive.specs.ServePhase.{ReadsSide, WritesSide, ConnectsSide, Se
 use Rattle.relay_drive.specs.ClosePhase.{Closes, LooksAt, ClosesLink}
 use Rattle.relay_drive.specs.Calls.{Reads, Writes}
 use Rattle.relay_drive.specs.PollPhase.{OpensOne}
-use Rattle.relay_drive.specs.Links.{SameLink, HasPairs, IsStillFrom, IsStill, IsSettled, is_far}
+use Rattle.relay_drive.specs.Links.{SameLink, HasPairs, IsStillFrom, IsStill, IsSettled, has_spent_count}
 
 -- where nothing changed, and where one change stands behind another
 pub same_link : (k : ℕ) (s : State) → SameLink k s s
@@ -383,7 +383,7 @@ pub open-same : {k : ℕ} {s new : State} → SameLink k s new → is_open new k
 open-same {k = k} h = let own = h.side (in_side k) refl in let far = h.side (out_side k) refl in cc
 
 -- its counts have come as far
-pub far-same : {k : ℕ} {s new : State} → SameLink k s new → is_far new k ≡ is_far s k
+pub far-same : {k : ℕ} {s new : State} → SameLink k s new → has_spent_count new k ≡ has_spent_count s k
 far-same {k = k} h =
     let a = h.flow (in_side k) refl in
     let b = h.flow (out_side k) refl in

@@ -9,8 +9,8 @@ use Rattle.relay_state.specs.State.{State}
 use Rattle.relay_state.specs.Closing.{in_side, out_side}
 use Rattle.relay_drive.specs.Phases.{want_of, wants_some, wants_of_link, wants_of_links, wanted, links_from}
 use Rattle.number_set.specs.Numbers.{NumberSetValue}
-use Rattle.relay_drive.specs.Looks.{HoldsBeside, IsNear, SaysOf, IsNamedRight, NamedLink, OldRowsStay}
-use Rattle.relay_drive.proofs.LooksLemmas.{by_same}
+use Rattle.relay_drive.specs.Agenda.{HoldsBeside, LinkCountsAreFew, SaysOf, IsNamedRight, NamedLink, OldRowsStay}
+use Rattle.relay_drive.proofs.AgendaLemmas.{by_same}
 use Rattle.relay_drive.proofs.EachLemmas.{links_from-push}
 use Rattle.relay_drive.proofs.PollLemmas.{wants_of_links-push}
 
@@ -51,7 +51,7 @@ others-say t new s k e n other h = let o = n.others e other in (o.0 ∙ h.0, o.1
 
 -- one link more is named right, and out of the set
 pub named-next : (t new : WantsValue) (set left : NumberSetValue) (s : State) (k : ℕ) → k < t.links → NamedLink s k t new →
-    ((n : ℕ) → left.has n ≡ (if n == k then false else set.has n)) → IsNear s k → HoldsBeside set (IsNamedRight t) s →
+    ((n : ℕ) → left.has n ≡ (if n == k then false else set.has n)) → LinkCountsAreFew s k → HoldsBeside set (IsNamedRight t) s →
     HoldsBeside left (IsNamedRight new) s
 named-next t new set left s k within n has near h = λ j lt out.
     by_same j k

@@ -3,7 +3,7 @@ use Rattle.std.specs.Prelude.{◌≡◌, vec_len, None}
 use Rattle.relay_drive.specs.declared.drive.Drive.TheInside.{Inside}
 use Rattle.relay_model.specs.Settings.{HasNoHooks}
 use Rattle.relay_drive.specs.DriveValue.{DriveValue}
-use Rattle.relay_drive.specs.Looks.{IsKept, IsNamed}
+use Rattle.relay_drive.specs.Agenda.{IsKept, IsNamed}
 
 abbrev pub drive_of : Inside → DriveValue
 drive_of d = record { state = d.run.relay.state; entries = d.run.entries; refusal = d.refusal }
@@ -13,5 +13,5 @@ drive_of d = record { state = d.run.relay.state; entries = d.run.entries; refusa
 pub record IsSound (d : Inside) : Type 0 where
   pub inbox : vec_len d.inbox ≡ 16384
   pub unhooked : HasNoHooks d.run.relay.state.settings
-  pub kept : d.refusal ≡ None → IsKept d.looks d.run.relay.state
-  pub named : d.refusal ≡ None → IsNamed d.looks d.wants d.run.relay.state
+  pub kept : d.refusal ≡ None → IsKept d.agenda d.run.relay.state
+  pub named : d.refusal ≡ None → IsNamed d.agenda d.wants d.run.relay.state

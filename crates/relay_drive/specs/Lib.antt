@@ -9,7 +9,7 @@ pub mod Phases
 pub mod Known
 pub mod Advances
 pub mod DriveValue
-pub mod Looks
+pub mod Agenda
 pub mod DriveView
 pub mod DriveStands
 pub mod Moves

@@ -7,7 +7,7 @@ use Rattle.ev_types.specs.declared.side.SideId.{SideId}
 use Rattle.ev_types.specs.Usual.{no_timeouts}
 use Rattle.relay_model.specs.Plain.{side_at, flow_at}
 use Rattle.relay_core.specs.declared.close.Closing.{Closing}
-pub use Rattle.relay_core.specs.Far.{is_far_from, is_far}
+pub use Rattle.relay_state.specs.Spent.{has_spent_count_from, has_spent_count}
 pub use Rattle.relay_core.specs.Pairs.{HasPairs}
 use Rattle.relay_core.specs.Steps as steps
 use Rattle.relay_core.specs.Steps.{steps_of}

@@ -4,11 +4,11 @@ ghost use Rattle.relay_drive.specs.declared.fault.DriveFault.TheVariants.{Memory
 ghost use Rattle.relay_drive.specs.Steps.{Nothing};
 ghost use Rattle.relay_drive.specs.Phases.{OpensWhere, AcceptsLinks, AcceptsMore, is_open_fault};
 ghost use Rattle.relay_drive.specs.Known.{Point, accepting_if};
-ghost use Rattle.relay_drive.specs.Looks.{IsKept, KeepsNames};
+ghost use Rattle.relay_drive.specs.Agenda.{IsKept, KeepsNames};
 ghost use Rattle.relay_drive.specs.Moves.{Moves, GetsTo, OnlyForMemoryOrListener};
 
+use crate::agenda::Agenda;
 use crate::fault::DriveFault;
-use crate::looks::Looks;
 use crate::run::{Run, put};
 use ev_port::{Accepted, Port, Scribe};
 use ev_types::Entry;
@@ -56,12 +56,12 @@ fn accept_one<P: Port, S: Scribe>(
 /// Accepts a link, if the port has one, with a place for it made before. It answers whether one was opened.
 fn accept_next<P: Port, S: Scribe>(
     run: &mut Run,
-    looks: &mut Looks,
+    agenda: &mut Agenda,
     port: &mut P,
     scribe: &mut S,
 ) -> Result<bool, DriveFault>
     requires allowed { run.old.relay.state.plain.opened < run.old.relay.state.settings.links }
-    requires kept { IsKept looks.old run.old.relay.state }
+    requires kept { IsKept agenda.old run.old.relay.state }
     ensures went { MatchResult result
         (λ more. Moves P.Port S.Scribe Point.Accepting (accepting_if more) false (OpensWhere more)
         (run.old, port.old, scribe.old) (run.new, port.new, scribe.new))
@@ -71,33 +71,33 @@ fn accept_next<P: Port, S: Scribe>(
         (λ more. run.new.relay.state.plain.opened ≡ run.old.relay.state.plain.opened + (if more then 1 else 0))
         (λ _. run.new.relay.state.plain.opened ≡ run.old.relay.state.plain.opened) }
     ensures cause { OnlyForMemoryOrListener result }
-    ensures kept { OnOk result (IsKept looks.new run.new.relay.state) }
-    ensures names { OnOk result (KeepsNames looks.old run.old.relay.state looks.new run.new.relay.state) }
+    ensures kept { OnOk result (IsKept agenda.new run.new.relay.state) }
+    ensures names { OnOk result (KeepsNames agenda.old run.old.relay.state agenda.new run.new.relay.state) }
 {
-    looks.cover(run.relay.opened())?;
+    agenda.cover(run.relay.opened())?;
     accept_one(run, port, scribe)
 }
 
 /// Accepts links until the port has none, 64 were opened or no more are allowed.
 pub(crate) fn accept<P: Port, S: Scribe>(
     run: &mut Run,
-    looks: &mut Looks,
+    agenda: &mut Agenda,
     port: &mut P,
     scribe: &mut S,
 ) -> Result<(), DriveFault>
-    requires { IsKept looks.old run.old.relay.state }
+    requires { IsKept agenda.old run.old.relay.state }
     ensures went { GetsTo P.Port S.Scribe result Point.Begun Point.Accepted (λ _. AcceptsLinks) (λ _. AcceptsMore)
         (run.old, port.old, scribe.old) (run.new, port.new, scribe.new) }
     ensures grown { run.old.relay.state.plain.opened ≤ run.new.relay.state.plain.opened }
     ensures cause { OnlyForMemoryOrListener result }
-    ensures kept { OnOk result (IsKept looks.new run.new.relay.state) }
-    ensures names { OnOk result (KeepsNames looks.old run.old.relay.state looks.new run.new.relay.state) }
+    ensures kept { OnOk result (IsKept agenda.new run.new.relay.state) }
+    ensures names { OnOk result (KeepsNames agenda.old run.old.relay.state agenda.new run.new.relay.state) }
 {
     for _ in 0..MOST_OPENED {
         if !run.relay.can_open() {
             return Ok(());
         }
-        if !accept_next(run, looks, port, scribe)? {
+        if !accept_next(run, agenda, port, scribe)? {
             return Ok(());
         }
     }

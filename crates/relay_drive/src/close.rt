@@ -12,11 +12,11 @@ ghost use Rattle.relay_core.specs.Steps.{link_of_step};
 ghost use Rattle.relay_drive.specs.Steps.{Nothing};
 ghost use Rattle.relay_drive.specs.Phases.{closing_events, told_events, told_step, Closes, LooksAt, ClosesLink, CutClosingLink, ForAllLinks, CutForAllLinks};
 ghost use Rattle.relay_drive.specs.Links.{IsUncalled, IsSettled};
-ghost use Rattle.relay_drive.specs.Looks.{IsKept, KeepsNames, HasPlace, ClosingNoted};
+ghost use Rattle.relay_drive.specs.Agenda.{IsKept, KeepsNames, HasPlace, ClosingNoted};
 ghost use Rattle.relay_drive.specs.Moves.{Does, OnlyForMemory};
 
+use crate::agenda::{Agenda, next_link};
 use crate::fault::DriveFault;
-use crate::looks::{Looks, next_link};
 use crate::run::{Run, put};
 use ev_port::{Port, Scribe};
 use ev_types::{Cause, Entry, Side, SideId};
@@ -138,60 +138,60 @@ fn close_link<P: Port, S: Scribe>(
 }
 
 /// Notes what closing came to at a link.
-fn note_closing(relay: &Relay, looks: &mut Looks, link: u32, any: bool)
+fn note_closing(relay: &Relay, agenda: &mut Agenda, link: u32, any: bool)
     requires opened { link < relay.now.state.plain.opened }
-    requires places { HasPlace link looks.old }
-    ensures { ClosingNoted relay.now.state link any looks.old looks.new }
+    requires places { HasPlace link agenda.old }
+    ensures { ClosingNoted relay.now.state link any agenda.old agenda.new }
 {
     if !any {
-        looks.close.remove(link as usize);
+        agenda.to_close.remove(link as usize);
         return;
     }
-    looks.touch(link);
+    agenda.touch(link);
     if !relay.is_open(link) {
-        looks.live.remove(link as usize);
+        agenda.maybe_open.remove(link as usize);
     }
 }
 
 /// Closes what is to be closed of one link. Where nothing was, nothing will be before something changes there.
 fn close_next<P: Port, S: Scribe>(
     run: &mut Run,
-    looks: &mut Looks,
+    agenda: &mut Agenda,
     link: u32,
     port: &mut P,
     scribe: &mut S,
 ) -> Result<(), DriveFault>
     requires opened { link < run.old.relay.state.plain.opened }
-    requires kept { IsKept looks.old run.old.relay.state }
+    requires kept { IsKept agenda.old run.old.relay.state }
     ensures went { Does P.Port S.Scribe result (λ _. ClosesLink link) (CutClosingLink link)
         (run.old, port.old, scribe.old) (run.new, port.new, scribe.new) }
     ensures opened { run.new.relay.state.plain.opened ≡ run.old.relay.state.plain.opened }
     ensures cause { OnlyForMemory result }
-    ensures kept { OnOk result (IsKept looks.new run.new.relay.state) }
-    ensures names { OnOk result (KeepsNames looks.old run.old.relay.state looks.new run.new.relay.state) }
+    ensures kept { OnOk result (IsKept agenda.new run.new.relay.state) }
+    ensures names { OnOk result (KeepsNames agenda.old run.old.relay.state agenda.new run.new.relay.state) }
 {
     let any = close_link(run, link, port, scribe)?;
-    note_closing(&run.relay, looks, link, any);
+    note_closing(&run.relay, agenda, link, any);
     Ok(())
 }
 
 /// Closes what is to be closed of all links, in their order.
 pub(crate) fn close<P: Port, S: Scribe>(
     run: &mut Run,
-    looks: &mut Looks,
+    agenda: &mut Agenda,
     port: &mut P,
     scribe: &mut S,
 ) -> Result<(), DriveFault>
-    requires { IsKept looks.old run.old.relay.state }
+    requires { IsKept agenda.old run.old.relay.state }
     ensures went { Does P.Port S.Scribe result (λ _. ForAllLinks ClosesLink) (CutForAllLinks ClosesLink CutClosingLink)
         (run.old, port.old, scribe.old) (run.new, port.new, scribe.new) }
     ensures cause { OnlyForMemory result }
-    ensures kept { OnOk result (IsKept looks.new run.new.relay.state) }
-    ensures names { OnOk result (KeepsNames looks.old run.old.relay.state looks.new run.new.relay.state) }
+    ensures kept { OnOk result (IsKept agenda.new run.new.relay.state) }
+    ensures names { OnOk result (KeepsNames agenda.old run.old.relay.state agenda.new run.new.relay.state) }
 {
     let mut from = 0;
-    while let Some(link) = next_link(&looks.close, from, run.relay.opened()) {
-        close_next(run, looks, link, port, scribe)?;
+    while let Some(link) = next_link(&agenda.to_close, from, run.relay.opened()) {
+        close_next(run, agenda, link, port, scribe)?;
         from = link + 1;
     }
     Ok(())

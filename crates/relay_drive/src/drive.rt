@@ -9,8 +9,8 @@ ghost use Rattle.relay_drive.specs.Moves.{TurnsTo};
 ghost use Rattle.relay_drive.specs.DriveStands.{turn_answer_of, StandsBetween};
 ghost use Rattle.relay_steps.specs.Meaning.{LeftFor};
 
+use crate::agenda::{Agenda, next_link};
 use crate::fault::{DriveFault, TurnEnd};
-use crate::looks::{Looks, next_link};
 use crate::run::Run;
 use crate::turn::next_turn;
 use ev_port::{Port, Scribe, WantTable};
@@ -27,7 +27,7 @@ const MOST_READ: usize = 16_384;
 #[derive(Drop)]
 pub struct Drive {
     run: Run,
-    looks: Looks,
+    agenda: Agenda,
     wants: WantTable,
     inbox: Vec<u8>,
     refusal: Option<DriveFault>,
@@ -58,7 +58,7 @@ impl Drive {
                 relay: Relay::new(alloc, settings),
                 entries: 0,
             },
-            looks: Looks::new(alloc),
+            agenda: Agenda::new(alloc),
             wants: WantTable::new(alloc),
             inbox,
             refusal: None,
@@ -98,7 +98,7 @@ impl Drive {
         }
         let ended = next_turn(
             &mut self.run,
-            &mut self.looks,
+            &mut self.agenda,
             &mut self.wants,
             &mut self.inbox,
             port,
@@ -129,7 +129,7 @@ impl Drive {
             return self.run.relay.open_links() > 0;
         }
         let mut from = 0;
-        while let Some(link) = next_link(&self.looks.live, from, self.run.relay.opened()) {
+        while let Some(link) = next_link(&self.agenda.maybe_open, from, self.run.relay.opened()) {
             if self.run.relay.is_open(link) {
                 return true;
             }

@@ -6,12 +6,12 @@
 #![tactic(auto)]
 
 mod accept;
+mod agenda;
 mod ask;
 mod bounds;
 mod close;
 mod drive;
 mod fault;
-mod looks;
 mod pass;
 mod poll;
 mod run;

@@ -1,12 +1,12 @@
 // Passing both directions of each link at which passing may have something to do.
 ghost use Rattle.std.specs.Prelude.{◌≡◌, ◌<◌, false, [], MatchResult, OnOk, Ok};
-ghost use Rattle.relay_drive.specs.Looks.{IsKept, KeepsNames};
+ghost use Rattle.relay_drive.specs.Agenda.{IsKept, KeepsNames};
 ghost use Rattle.relay_drive.specs.Links.{IsStill};
 ghost use Rattle.relay_drive.specs.Moves.{OnlyForMemory};
 ghost use Rattle.relay_drive.specs.Phases.{PassesLink, CutPassingLink, ForAllLinks, CutForAllLinks};
 
+use crate::agenda::{Agenda, next_link};
 use crate::fault::DriveFault;
-use crate::looks::{Looks, next_link};
 use ev_types::{Side, SideId};
 use relay_core::Relay;
 
@@ -32,9 +32,9 @@ fn pass_link(relay: &mut Relay, link: u32) -> Result<bool, DriveFault>
 }
 
 /// Passes the directions of a link. Where nothing changed, nothing will before something else does.
-fn pass_next(relay: &mut Relay, looks: &mut Looks, link: u32) -> Result<(), DriveFault>
+fn pass_next(relay: &mut Relay, agenda: &mut Agenda, link: u32) -> Result<(), DriveFault>
     requires opened { link < relay.old.state.plain.opened }
-    requires kept { IsKept looks.old relay.old.state }
+    requires kept { IsKept agenda.old relay.old.state }
     ensures went { MatchResult result
         (λ _. PassesLink link relay.old.state [] relay.new.state)
         (λ _. CutPassingLink link relay.old.state [] relay.new.state) }
@@ -42,20 +42,20 @@ fn pass_next(relay: &mut Relay, looks: &mut Looks, link: u32) -> Result<(), Driv
     ensures time { relay.new.state.plain.time ≡ relay.old.state.plain.time }
     ensures settings { relay.new.state.settings ≡ relay.old.state.settings }
     ensures cause { OnlyForMemory result }
-    ensures kept { OnOk result (IsKept looks.new relay.new.state) }
-    ensures names { OnOk result (KeepsNames looks.old relay.old.state looks.new relay.new.state) }
+    ensures kept { OnOk result (IsKept agenda.new relay.new.state) }
+    ensures names { OnOk result (KeepsNames agenda.old relay.old.state agenda.new relay.new.state) }
 {
     if pass_link(relay, link)? {
-        looks.touch(link);
+        agenda.touch(link);
     } else {
-        looks.pass.remove(link as usize);
+        agenda.to_pass.remove(link as usize);
     }
     Ok(())
 }
 
 /// Passes the directions of all links, in their order.
-pub(crate) fn pass(relay: &mut Relay, looks: &mut Looks) -> Result<(), DriveFault>
-    requires { IsKept looks.old relay.old.state }
+pub(crate) fn pass(relay: &mut Relay, agenda: &mut Agenda) -> Result<(), DriveFault>
+    requires { IsKept agenda.old relay.old.state }
     ensures went { MatchResult result
         (λ _. ForAllLinks PassesLink relay.old.state [] relay.new.state)
         (λ _. CutForAllLinks PassesLink CutPassingLink relay.old.state [] relay.new.state) }
@@ -63,12 +63,12 @@ pub(crate) fn pass(relay: &mut Relay, looks: &mut Looks) -> Result<(), DriveFaul
     ensures time { relay.new.state.plain.time ≡ relay.old.state.plain.time }
     ensures settings { relay.new.state.settings ≡ relay.old.state.settings }
     ensures cause { OnlyForMemory result }
-    ensures kept { OnOk result (IsKept looks.new relay.new.state) }
-    ensures names { OnOk result (KeepsNames looks.old relay.old.state looks.new relay.new.state) }
+    ensures kept { OnOk result (IsKept agenda.new relay.new.state) }
+    ensures names { OnOk result (KeepsNames agenda.old relay.old.state agenda.new relay.new.state) }
 {
     let mut from = 0;
-    while let Some(link) = next_link(&looks.pass, from, relay.opened()) {
-        pass_next(relay, looks, link)?;
+    while let Some(link) = next_link(&agenda.to_pass, from, relay.opened()) {
+        pass_next(relay, agenda, link)?;
         from = link + 1;
     }
     Ok(())

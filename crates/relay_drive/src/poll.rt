@@ -6,12 +6,12 @@ ghost use Rattle.ev_port.specs.Polling.{ready_events};
 ghost use Rattle.ev_port.specs.Table.{named, RowsStay};
 ghost use Rattle.relay_drive.specs.Phases.{wanted, CutPoll, CutPolling, AllOpened};
 ghost use Rattle.relay_drive.specs.Known.{Point, begun_if};
-ghost use Rattle.relay_drive.specs.Looks.{IsKept, IsNamed, AreNear, NamedSide, NamedLink, OldRowsStay, SameBesideWants, PollsListed, PollsAndAcceptsListed};
+ghost use Rattle.relay_drive.specs.Agenda.{IsKept, IsNamed, CountsAreFew, NamedSide, NamedLink, OldRowsStay, SameBesideWants, PollsListed, PollsAndAcceptsListed};
 ghost use Rattle.relay_drive.specs.Moves.{Moves, GetsTo, OnlyForMemory};
 
 use crate::accept::accept;
+use crate::agenda::{Agenda, next_link};
 use crate::fault::DriveFault;
-use crate::looks::{Looks, next_link};
 use crate::run::{Run, put};
 use ev_port::{Polled, Port, Scribe, Want, WantTable};
 use ev_types::{Entry, Side, SideId};
@@ -54,19 +54,19 @@ fn lengthen(relay: &Relay, wants: &mut WantTable) -> Result<(), DriveFault>
 }
 
 /// The table says what the sides want. Only the links are looked at of which it may not be right.
-fn name_wants(relay: &Relay, looks: &mut Looks, wants: &mut WantTable) -> Result<(), DriveFault>
-    requires named { IsNamed looks.old wants.old relay.now.state }
-    requires near { AreNear relay.now.state }
+fn name_wants(relay: &Relay, agenda: &mut Agenda, wants: &mut WantTable) -> Result<(), DriveFault>
+    requires named { IsNamed agenda.old wants.old relay.now.state }
+    requires few { CountsAreFew relay.now.state }
     ensures named { OnOk result (named wants.new ≡ wanted relay.now.state) }
-    ensures right { OnOk result (IsNamed looks.new wants.new relay.now.state) }
-    ensures same { SameBesideWants looks.old looks.new }
+    ensures right { OnOk result (IsNamed agenda.new wants.new relay.now.state) }
+    ensures same { SameBesideWants agenda.old agenda.new }
     ensures cause { OnlyForMemory result }
 {
     lengthen(relay, wants)?;
     let mut from = 0;
-    while let Some(link) = next_link(&looks.want, from, relay.opened()) {
+    while let Some(link) = next_link(&agenda.to_name, from, relay.opened()) {
         name_link(relay, wants, link);
-        looks.want.remove(link as usize);
+        agenda.to_name.remove(link as usize);
         from = link + 1;
     }
     Ok(())
@@ -147,25 +147,25 @@ fn ask_poll<P: Port, S: Scribe>(
 /// Polls, and accepts the links that are ready. The table lists the wants that were marked.
 pub(crate) fn poll<P: Port, S: Scribe>(
     run: &mut Run,
-    looks: &mut Looks,
+    agenda: &mut Agenda,
     wants: &mut WantTable,
     port: &mut P,
     scribe: &mut S,
 ) -> Result<(), DriveFault>
-    requires kept { IsKept looks.old run.old.relay.state }
-    requires named { IsNamed looks.old wants.old run.old.relay.state }
-    requires near { AreNear run.old.relay.state }
+    requires kept { IsKept agenda.old run.old.relay.state }
+    requires named { IsNamed agenda.old wants.old run.old.relay.state }
+    requires few { CountsAreFew run.old.relay.state }
     ensures went { GetsTo P.Port S.Scribe result Point.Begun Point.Accepted (λ _. PollsAndAcceptsListed wants.new.list) CutPolling
         (run.old, port.old, scribe.old) (run.new, port.new, scribe.new) }
     ensures opened { OnOk result (AllOpened wants.new.list run.new.relay.state.plain.opened) }
-    ensures kept { OnOk result (IsKept looks.new run.new.relay.state) }
-    ensures named { OnOk result (IsNamed looks.new wants.new run.new.relay.state) }
+    ensures kept { OnOk result (IsKept agenda.new run.new.relay.state) }
+    ensures named { OnOk result (IsNamed agenda.new wants.new run.new.relay.state) }
 {
-    name_wants(&run.relay, looks, wants)?;
+    name_wants(&run.relay, agenda, wants)?;
     let ready = ask_poll(run, wants, port, scribe)?;
     if !ready {
         return Ok(());
     }
-    accept(run, looks, port, scribe)?;
+    accept(run, agenda, port, scribe)?;
     Ok(())
 }

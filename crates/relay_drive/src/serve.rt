@@ -3,12 +3,12 @@ ghost use Rattle.std.specs.Prelude.{◌≡◌, ◌<◌, length, OnOk};
 ghost use Rattle.relay_drive.specs.Steps.{Nothing, Each, CutAt};
 ghost use Rattle.relay_drive.specs.Phases.{ReadsSide, WritesSide, ConnectsSide, ServesSide, CutServing, AllOpened};
 ghost use Rattle.relay_model.specs.Rooms.{is_connecting};
-ghost use Rattle.relay_drive.specs.Looks.{IsKept, KeepsNames};
+ghost use Rattle.relay_drive.specs.Agenda.{IsKept, KeepsNames};
 ghost use Rattle.relay_drive.specs.Moves.{Does, OnlyForMemory};
 
+use crate::agenda::Agenda;
 use crate::ask::{ask_connect, ask_read, ask_write};
 use crate::fault::DriveFault;
-use crate::looks::Looks;
 use crate::run::Run;
 use ev_port::{Port, Scribe, Want};
 use ev_types::SideId;
@@ -118,7 +118,7 @@ fn serve_side<P: Port, S: Scribe>(
 /// Serves one side, as it is marked. Something may have changed at its link.
 fn serve_next<P: Port, S: Scribe>(
     run: &mut Run,
-    looks: &mut Looks,
+    agenda: &mut Agenda,
     want: Want,
     inbox: &mut [u8],
     port: &mut P,
@@ -126,23 +126,23 @@ fn serve_next<P: Port, S: Scribe>(
 ) -> Result<(), DriveFault>
     requires opened { want.side.link < run.old.relay.state.plain.opened }
     requires inbox { length inbox.old ≡ 16384 }
-    requires kept { IsKept looks.old run.old.relay.state }
+    requires kept { IsKept agenda.old run.old.relay.state }
     ensures went { Does P.Port S.Scribe result (λ _. ServesSide want) (CutServing want)
         (run.old, port.old, scribe.old) (run.new, port.new, scribe.new) }
     ensures opened { run.new.relay.state.plain.opened ≡ run.old.relay.state.plain.opened }
     ensures cause { OnlyForMemory result }
-    ensures kept { OnOk result (IsKept looks.new run.new.relay.state) }
-    ensures names { OnOk result (KeepsNames looks.old run.old.relay.state looks.new run.new.relay.state) }
+    ensures kept { OnOk result (IsKept agenda.new run.new.relay.state) }
+    ensures names { OnOk result (KeepsNames agenda.old run.old.relay.state agenda.new run.new.relay.state) }
 {
     serve_side(run, want, inbox, port, scribe)?;
-    looks.touch(want.side.link);
+    agenda.touch(want.side.link);
     Ok(())
 }
 
 /// Serves the marked sides, in their order.
 pub(crate) fn serve<P: Port, S: Scribe>(
     run: &mut Run,
-    looks: &mut Looks,
+    agenda: &mut Agenda,
     wants: &[Want],
     inbox: &mut [u8],
     port: &mut P,
@@ -150,16 +150,16 @@ pub(crate) fn serve<P: Port, S: Scribe>(
 ) -> Result<(), DriveFault>
     requires opened { AllOpened wants.now run.old.relay.state.plain.opened }
     requires inbox { length inbox.old ≡ 16384 }
-    requires kept { IsKept looks.old run.old.relay.state }
+    requires kept { IsKept agenda.old run.old.relay.state }
     ensures went { Does P.Port S.Scribe result (λ _. Each ServesSide wants.now) (CutAt ServesSide CutServing wants.now)
         (run.old, port.old, scribe.old) (run.new, port.new, scribe.new) }
     ensures opened { run.new.relay.state.plain.opened ≡ run.old.relay.state.plain.opened }
     ensures cause { OnlyForMemory result }
-    ensures kept { OnOk result (IsKept looks.new run.new.relay.state) }
-    ensures names { OnOk result (KeepsNames looks.old run.old.relay.state looks.new run.new.relay.state) }
+    ensures kept { OnOk result (IsKept agenda.new run.new.relay.state) }
+    ensures names { OnOk result (KeepsNames agenda.old run.old.relay.state agenda.new run.new.relay.state) }
 {
     for want in wants {
-        serve_next(run, looks, *want, inbox, port, scribe)?;
+        serve_next(run, agenda, *want, inbox, port, scribe)?;
     }
     Ok(())
 }

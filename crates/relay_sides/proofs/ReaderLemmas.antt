@@ -17,7 +17,7 @@ use Rattle.bev_core.specs.BevValue as bev
 use Rattle.bev_world.specs.WorldValue.{WorldValue, slot_at}
 use Rattle.bev_world.specs.ByNumber.{filter_of}
 use Rattle.relay_sides.specs.Bevs.{bevs_at, upper_of, twin}
-use Rattle.relay_sides.specs.Links.{Links, is_far_from, any_is_far}
+use Rattle.relay_sides.specs.Links.{Links, has_spent_count_from, any_count_is_spent}
 use Rattle.relay_sides.specs.Pairs.{HasPairs}
 use Rattle.relay_sides.specs.SidesValue.{SidesValue}
 use Rattle.relay_sides.specs.SideView.{plain_side, state_at}
@@ -90,10 +90,10 @@ NoneFar k count = (n : ℕ) → n < count → far_of k n ≡ false
 
 module _ (k : Links) (pairs : HasPairs k) where
   -- one direction has
-  pub far_one : (n : ℕ) → n < 2 * k.opened → far_of k n ≡ true → any_is_far k ≡ true
+  pub far_one : (n : ℕ) → n < 2 * k.opened → far_of k n ≡ true → any_count_is_spent k ≡ true
   far_one n h is = go (has_flown_far (slice_index_or k.flows n no_flow)) refl
     where
-      go : (b : Bool) → has_flown_far (slice_index_or k.flows n no_flow) ≡ b → any_is_far k ≡ true
+      go : (b : Bool) → has_flown_far (slice_index_or k.flows n no_flow) ≡ b → any_count_is_spent k ≡ true
       go true e =
           ap (λ b. b || list_any has_read_far k.lanes)
           (any-one has_flown_far no_flow k.flows n (omega (arith, h, pairs.flows)) e)
@@ -104,7 +104,7 @@ module _ (k : Links) (pairs : HasPairs k) where
           ∙ or_true (list_any has_flown_far k.flows)
 
   -- none has
-  pub far_none : NoneFar k (2 * k.opened) → any_is_far k ≡ false
+  pub far_none : NoneFar k (2 * k.opened) → any_count_is_spent k ≡ false
   far_none h =
       let flows = any-none has_flown_far no_flow k.flows (λ n b.
       (both_not (has_flown_far (slice_index_or k.flows n no_flow)) (has_read_far (slice_index_or k.lanes n no_lane))
@@ -116,11 +116,11 @@ module _ (k : Links) (pairs : HasPairs k) where
 
 -- two more, both of which have not
 pub none_more : (k : Links) (link : ℕ) → NoneFar k (2 * link) →
-    (is_far_from k (in_side link) || is_far_from k (out_side link)) ≡ false → NoneFar k (2 * (link + 1))
+    (has_spent_count_from k (in_side link) || has_spent_count_from k (out_side link)) ≡ false → NoneFar k (2 * (link + 1))
 none_more k link before none n h = go (n == 2 * link) refl
   where
-    two : (is_far_from k (in_side link) ≡ false) × (is_far_from k (out_side link) ≡ false)
-    two = both_not (is_far_from k (in_side link)) (is_far_from k (out_side link)) none
+    two : (has_spent_count_from k (in_side link) ≡ false) × (has_spent_count_from k (out_side link) ≡ false)
+    two = both_not (has_spent_count_from k (in_side link)) (has_spent_count_from k (out_side link)) none
 
     at_in : 2 * link + 0 ≡ 2 * link
     at_in = omega arith
@@ -135,11 +135,11 @@ none_more k link before none n h = go (n == 2 * link) refl
 
 -- one of the two of a link has
 pub far_here : (k : Links) (pairs : HasPairs k) (link : ℕ) → link < k.opened →
-    (is_far_from k (in_side link) || is_far_from k (out_side link)) ≡ true → any_is_far k ≡ true
-far_here k pairs link h is = go (is_far_from k (in_side link)) refl
+    (has_spent_count_from k (in_side link) || has_spent_count_from k (out_side link)) ≡ true → any_count_is_spent k ≡ true
+far_here k pairs link h is = go (has_spent_count_from k (in_side link)) refl
   where
-    go : (b : Bool) → is_far_from k (in_side link) ≡ b → any_is_far k ≡ true
+    go : (b : Bool) → has_spent_count_from k (in_side link) ≡ b → any_count_is_spent k ≡ true
     go true e = far_one k pairs (number (in_side link)) (number-lt (in_side link) k.opened h) e
     go false e =
         far_one k pairs (number (out_side link)) (number-lt (out_side link) k.opened h)
-        (ap (λ b. b || is_far_from k (out_side link)) (sym e) ∙ is)
+        (ap (λ b. b || has_spent_count_from k (out_side link)) (sym e) ∙ is)

@@ -7,9 +7,9 @@ use Rattle.filter_model.specs.Filter.{or_else}
 use Rattle.filter_model.specs.FilterStep.{Stepped}
 use Rattle.relay_state.specs.State.{lane_moved}
 use Rattle.relay_state.specs.Passage.{Passage, rounds, hold_part, read_step, read_by, read_part, move_part, write_step, written_by, write_part, has_moved_all, pass_round}
-use Rattle.relay_sides.specs.declared.pass.Reached.{Reached}
+use Rattle.relay_sides.specs.declared.pass.RoundProgress.{RoundProgress}
 use Rattle.relay_sides.specs.Links.{IsTold}
-use Rattle.relay_sides.specs.Reach.{reached_of}
+use Rattle.relay_sides.specs.Progress.{progress_of}
 use Rattle.relay_sides.proofs.StepLemmas.{bit, bit-le, idle, GoesOn, step-within, step-goes}
 
 -- The weight of a direction. A byte weighs more the farther it has to go, and a filter may make two of it; a filter that is not finished
@@ -29,21 +29,21 @@ weight hold x =
     + held_weight hold x.flow.held (length x.lane.buffers.raw_output)
 
 -- what was counted of a direction
-abbrev pub counted : Reached → ℕ
+abbrev pub counted : RoundProgress → ℕ
 counted r =
     r.reader.used + r.moved + r.writer.used + bit r.reader.finished + bit r.writer.finished + bit r.reader.stopped + bit r.writer.stopped
     + bit r.from_bad + bit r.to_bad
 
 -- a part of a round leaves all as it is, or counts and brings the weight down
 abbrev Steps : ℕ → Passage → Passage → Type 0
-Steps hold x y = (y ≡ x) ⊎ ((weight hold y < weight hold x) × (counted (reached_of x) < counted (reached_of y)))
+Steps hold x y = (y ≡ x) ⊎ ((weight hold y < weight hold x) × (counted (progress_of x) < counted (progress_of y)))
 
 then_steps : (hold : ℕ) (x y z : Passage) → Steps hold x y → Steps hold y z → Steps hold x z
 then_steps hold x y z (inl p) (inl q) = inl (q ∙ p)
 then_steps hold x y z (inl p) (inr q) =
-    inr (subst (λ (w : Passage). (weight hold z < weight hold w) × (counted (reached_of w) < counted (reached_of z))) p q)
+    inr (subst (λ (w : Passage). (weight hold z < weight hold w) × (counted (progress_of w) < counted (progress_of z))) p q)
 then_steps hold x y z (inr p) (inl q) =
-    inr (subst (λ (w : Passage). (weight hold w < weight hold x) × (counted (reached_of x) < counted (reached_of w))) (sym q) p)
+    inr (subst (λ (w : Passage). (weight hold w < weight hold x) × (counted (progress_of x) < counted (progress_of w))) (sym q) p)
 then_steps hold x y z (inr p) (inr q) = inr (omega (arith, p.0, q.0), omega (arith, p.1, q.1))
 
 none_or_some : (n : ℕ) → (n ≡ 0) ⊎ (0 < n)
@@ -285,13 +285,13 @@ module _ (hold : ℕ) (x : Passage) where
 
 -- a round leaves all as it is, or changes what the code compares and brings the weight down
 abbrev pub Rounds : ℕ → Passage → Passage → Type 0
-Rounds hold x y = (y ≡ x) ⊎ ((weight hold y < weight hold x) × (reached_of y ≢ reached_of x))
+Rounds hold x y = (y ≡ x) ⊎ ((weight hold y < weight hold x) × (progress_of y ≢ progress_of x))
 
 held_then : (hold : ℕ) (x y z : Passage) → Turns hold x y → Steps hold y z → z.flow.held ≡ y.flow.held → Rounds hold x z
 held_then hold x y z (inl p) (inl q) k = inl (q ∙ p)
 held_then hold x y z (inl p) (inr q) k =
-    let s = subst (λ (w : Passage). (weight hold z < weight hold w) × (counted (reached_of w) < counted (reached_of z))) p q in
-    inr (s.0, λ e. absurd (let c : counted (reached_of z) ≡ counted (reached_of x) = ap counted e in omega (arith, c, s.1)))
+    let s = subst (λ (w : Passage). (weight hold z < weight hold w) × (counted (progress_of w) < counted (progress_of z))) p q in
+    inr (s.0, λ e. absurd (let c : counted (progress_of z) ≡ counted (progress_of x) = ap counted e in omega (arith, c, s.1)))
 held_then hold x y z (inr p) (inl q) k =
     inr (subst (λ (w : Passage). weight hold w < weight hold x) (sym q) p.0, λ e. p.1 (sym k ∙ ap (λ r. r.held) e))
 held_then hold x y z (inr p) (inr q) k = inr (omega (arith, p.0, q.0), λ e. p.1 (sym k ∙ ap (λ r. r.held) e))
@@ -326,11 +326,11 @@ round_falls mark hold ended true true x told =
 
 -- where what the code compares is the same, all is
 pub round_over : (mark hold : ℕ) (ended from_live to_live : Bool) (x y : Passage) → IsTold x →
-    y ≡ pass_round mark hold ended from_live to_live x → reached_of y ≡ reached_of x → y ≡ x
+    y ≡ pass_round mark hold ended from_live to_live x → progress_of y ≡ progress_of x → y ≡ x
 round_over mark hold ended from_live to_live x y told once same =
     elim (round_falls mark hold ended from_live to_live x told) [
       | inl is ↦ once ∙ is
-      | inr falls ↦ absurd (falls.1 (ap reached_of (sym once) ∙ same))
+      | inr falls ↦ absurd (falls.1 (ap progress_of (sym once) ∙ same))
     ]
 
 -- Rounds don't come back to what the code compared before.
@@ -338,12 +338,12 @@ round_over mark hold ended from_live to_live x y told once same =
 -- more was counted, or what is held is another and stays so while nothing is counted
 abbrev pub Went : ℕ → Passage → Passage → Type 0
 Went hold x y =
-    (counted (reached_of x) < counted (reached_of y))
-    ⊎ ((counted (reached_of y) ≡ counted (reached_of x)) × (y.flow.held ≢ x.flow.held) × (hold_part hold y ≡ y))
+    (counted (progress_of x) < counted (progress_of y))
+    ⊎ ((counted (progress_of y) ≡ counted (progress_of x)) × (y.flow.held ≢ x.flow.held) × (hold_part hold y ≡ y))
 
-pub went-apart : (hold : ℕ) (x y : Passage) → Went hold x y → reached_of y ≢ reached_of x
+pub went-apart : (hold : ℕ) (x y : Passage) → Went hold x y → progress_of y ≢ progress_of x
 went-apart hold x y (inl p) =
-    λ e. absurd (let c : counted (reached_of y) ≡ counted (reached_of x) = ap counted e in omega (arith, c, p))
+    λ e. absurd (let c : counted (progress_of y) ≡ counted (progress_of x) = ap counted e in omega (arith, c, p))
 went-apart hold x y (inr p) = λ e. p.1 (ap (λ r. r.held) e)
 
 held_again : (hold : ℕ) (x : Passage) → hold_part hold (hold_part hold x) ≡ hold_part hold x
@@ -364,11 +364,11 @@ module _ (mark hold : ℕ) (ended from_live to_live : Bool) where
   -- a round changes nothing, or only what is held, or it counts
   round_counts : (x : Passage) → IsTold x →
       (pass_round mark hold ended from_live to_live x ≡ x) ⊎ ((pass_round mark hold ended from_live to_live x ≡ hold_part hold x)
-      ⊎ (counted (reached_of x) < counted (reached_of (pass_round mark hold ended from_live to_live x))))
+      ⊎ (counted (progress_of x) < counted (progress_of (pass_round mark hold ended from_live to_live x))))
   round_counts x told = go from_live to_live
     where
       go : (f t : Bool) → (pass_round mark hold ended f t x ≡ x) ⊎ ((pass_round mark hold ended f t x ≡ hold_part hold x)
-          ⊎ (counted (reached_of x) < counted (reached_of (pass_round mark hold ended f t x))))
+          ⊎ (counted (progress_of x) < counted (progress_of (pass_round mark hold ended f t x))))
       go true false = inl refl
       go false false = inl refl
       go f true =
@@ -377,29 +377,29 @@ module _ (mark hold : ℕ) (ended from_live to_live : Bool) where
             | inr on ↦ inr (inr on.1)
           ]
 
-  went_first : (x : Passage) → IsTold x → reached_of (pass_round mark hold ended from_live to_live x) ≢ reached_of x →
+  went_first : (x : Passage) → IsTold x → progress_of (pass_round mark hold ended from_live to_live x) ≢ progress_of x →
       Went hold x (pass_round mark hold ended from_live to_live x)
   went_first x told differs =
       elim (round_counts x told) [
-        | inl same ↦ absurd (differs (ap reached_of same))
+        | inl same ↦ absurd (differs (ap progress_of same))
         | inr (inl same) ↦ inr (
-          ap (λ z. counted (reached_of z)) same,
-          λ e. differs (ap reached_of same ∙ (
+          ap (λ z. counted (progress_of z)) same,
+          λ e. differs (ap progress_of same ∙ (
               let k = sym (ap (λ (z : Passage). z.flow.held) same) ∙ e in
-              let r = reached_of x in λ i. record r { held = k i })),
+              let r = progress_of x in λ i. record r { held = k i })),
           ap (hold_part hold) same ∙ held_again hold x ∙ sym same,
         )
         | inr (inr on) ↦ inl on
       ]
 
-  went_more : (x y : Passage) → IsTold y → Went hold x y → reached_of (pass_round mark hold ended from_live to_live y) ≢ reached_of y →
+  went_more : (x y : Passage) → IsTold y → Went hold x y → progress_of (pass_round mark hold ended from_live to_live y) ≢ progress_of y →
       Went hold x (pass_round mark hold ended from_live to_live y)
   went_more x y told went differs =
       elim (round_counts y told) [
-        | inl same ↦ absurd (differs (ap reached_of same))
+        | inl same ↦ absurd (differs (ap progress_of same))
         | inr (inl same) ↦ elim went [
-          | inl p ↦ inl (let k = ap (λ z. counted (reached_of z)) same in omega (arith, p, k))
-          | inr p ↦ absurd (differs (ap reached_of (same ∙ p.2)))
+          | inl p ↦ inl (let k = ap (λ z. counted (progress_of z)) same in omega (arith, p, k))
+          | inr p ↦ absurd (differs (ap progress_of (same ∙ p.2)))
         ]
         | inr (inr on) ↦ elim went [
           | inl p ↦ inl (omega (arith, p, on))
@@ -409,12 +409,12 @@ module _ (mark hold : ℕ) (ended from_live to_live : Bool) where
 
   -- one round more, behind some that changed something or none
   pub went_next : (changed : Bool) (x y z : Passage) → (changed ≡ false → y ≡ x) → (changed ≡ true → Went hold x y) → IsTold y →
-      z ≡ pass_round mark hold ended from_live to_live y → reached_of z ≢ reached_of y → Went hold x z
+      z ≡ pass_round mark hold ended from_live to_live y → progress_of z ≢ progress_of y → Went hold x z
   went_next changed x y z still went told once differs =
       subst (Went hold x) (sym once) (go changed still went)
     where
-      apart : reached_of (pass_round mark hold ended from_live to_live y) ≢ reached_of y
-      apart = λ e. differs (ap reached_of once ∙ e)
+      apart : progress_of (pass_round mark hold ended from_live to_live y) ≢ progress_of y
+      apart = λ e. differs (ap progress_of once ∙ e)
 
       go : (b : Bool) → (b ≡ false → y ≡ x) → (b ≡ true → Went hold x y) → Went hold x (pass_round mark hold ended from_live to_live y)
       go false h k = subst (λ w. Went hold w (pass_round mark hold ended from_live to_live y)) (h refl) (went_first y told apart)

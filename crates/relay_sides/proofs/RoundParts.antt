@@ -12,9 +12,9 @@ use Rattle.stream_filters.proofs.GoOnLemmas.{step-most}
 use Rattle.bev_filter.specs.StepRoom.{HasStepRoom}
 use Rattle.relay_sides.specs.Links.{Links, side_at, lane_at, passage_at, with_passage, moved}
 use Rattle.relay_sides.specs.Pairs.{HasPairs}
-use Rattle.relay_sides.specs.Reach.{round_by}
+use Rattle.relay_sides.specs.Progress.{round_by}
 use Rattle.relay_sides.specs.Rooms.{Rooms, input_room, raw_output_room, HasInputRoom, HasOutputRoom, most_offered, KeepsEndRoom}
-use Rattle.relay_sides.specs.declared.pass.Terms.{Terms}
+use Rattle.relay_sides.specs.declared.pass.RoundRules.{RoundRules}
 use Rattle.relay_sides.proofs.StepLemmas.{room-mono}
 use Rattle.relay_sides.proofs.LinksLemmas.{passage_put, lane_put, with_twice}
 
@@ -92,17 +92,17 @@ pub keeps_same : (e : SideId) (a b : Rooms) → b ≡ a → KeepsEndRoom e a b
 keeps_same e a b is = record { raw_output = ap (λ z. raw_output_room z e) is; beside = omega (arith, ap (λ (z : Rooms). z.beside) is) }
 
 -- the four parts of a round
-pub whole_round : (t : Terms) (x : Passage) → t.from_live ≡ true → t.to_live ≡ true →
+pub whole_round : (t : RoundRules) (x : Passage) → t.from_live ≡ true → t.to_live ≡ true →
     write_part t.hold true (move_part (read_part t.mark t.ended (hold_part t.hold x))) ≡ round_by t x
 whole_round t x from to = λ i. pass_round t.mark t.hold t.ended (sym from i) (sym to i) x
 
 -- the two where the side is freed that it begins at
-pub end_round : (t : Terms) (x : Passage) → t.from_live ≡ false → t.to_live ≡ true →
+pub end_round : (t : RoundRules) (x : Passage) → t.from_live ≡ false → t.to_live ≡ true →
     write_part t.hold false (hold_part t.hold x) ≡ round_by t x
 end_round t x from to = λ i. pass_round t.mark t.hold t.ended (sym from i) (sym to i) x
 
 -- and none where that is freed at which it ends
-pub no_round : (t : Terms) (x : Passage) → t.to_live ≡ false → x ≡ round_by t x
+pub no_round : (t : RoundRules) (x : Passage) → t.to_live ≡ false → x ≡ round_by t x
 no_round t x to = go t.from_live ∙ (λ i. pass_round t.mark t.hold t.ended t.from_live (sym to i) x)
   where
     go : (b : Bool) → x ≡ pass_round t.mark t.hold t.ended b false x

@@ -9,8 +9,8 @@ use Rattle.filter_model.specs.FilterStep.{after_bytes, ending, stepped}
 use Rattle.relay_state.specs.State.{lane_moved}
 use Rattle.relay_state.specs.Passage.{Passage, holds_back, hold_part, read_by, read_part, move_part, has_moved_all, written_by, write_step, write_part, pass_round}
 use Rattle.relay_sides.specs.Links.{IsTold}
-use Rattle.relay_sides.specs.Reach.{round_by, is_settled}
-use Rattle.relay_sides.specs.declared.pass.Terms.{Terms}
+use Rattle.relay_sides.specs.Progress.{round_by, is_settled}
+use Rattle.relay_sides.specs.declared.pass.RoundRules.{RoundRules}
 use Rattle.relay_sides.proofs.StepLemmas.{idle}
 use Rattle.relay_sides.proofs.RoundLemmas.{read_idle, write_idle}
 
@@ -40,7 +40,7 @@ or_else-none (Some x) = refl
 or_else-none None = refl
 
 -- what a settled direction is
-record Settled (t : Terms) (x : Passage) : Type 0 where
+record Settled (t : RoundRules) (x : Passage) : Type 0 where
   going : t.ended ≡ false
   free : x.flow.held ≡ false
   below : nat_le t.hold (length x.lane.buffers.raw_output) ≡ false
@@ -81,7 +81,7 @@ above m n h = go (nat_le n m) refl
     go true e = absurd (let less = leb-true (suc m) n h in let more = leb-true n m e in omega (arith, less, more))
     go false e = e
 
-settled_is : (t : Terms) (x : Passage) → is_settled t x ≡ true → Settled t x
+settled_is : (t : RoundRules) (x : Passage) → is_settled t x ≡ true → Settled t x
 settled_is t x h =
     let b = x.lane.buffers in
     let p5 = left _ _ h in
@@ -102,7 +102,7 @@ settled_is t x h =
       writer = two.1;
     }
 
-module _ (t : Terms) (x : Passage) (told : IsTold x) (is : Settled t x) where
+module _ (t : RoundRules) (x : Passage) (told : IsTold x) (is : Settled t x) where
   free_still : holds_back t.hold x ≡ x.flow.held
   free_still =
       (λ i. if is.below i then true else (if nat_le (length x.lane.buffers.raw_output) (t.hold / 2) then false else is.free i))
@@ -163,5 +163,5 @@ module _ (t : Terms) (x : Passage) (told : IsTold x) (is : Settled t x) where
           ap (λ y. write_part t.hold true (move_part (read_part t.mark t.ended y))) hold_still
           ∙ ap (λ y. write_part t.hold true (move_part y)) read_still ∙ ap (write_part t.hold true) move_still ∙ write_still true
 
-pub settled_stays : (t : Terms) (x : Passage) → IsTold x → is_settled t x ≡ true → round_by t x ≡ x
+pub settled_stays : (t : RoundRules) (x : Passage) → IsTold x → is_settled t x ≡ true → round_by t x ≡ x
 settled_stays t x told h = round_still t x told (settled_is t x h)

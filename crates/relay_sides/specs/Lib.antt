@@ -2,7 +2,7 @@ pub mod Table
 pub mod Bevs
 pub mod SideView
 pub mod Links
-pub mod Reach
+pub mod Progress
 pub mod Opening
 pub mod Rooms
 pub mod SidesValue

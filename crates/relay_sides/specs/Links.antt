@@ -16,6 +16,7 @@ use Rattle.relay_state.specs.State.{Lane, no_lane, lane_got, lane_moved, lane_ta
 use Rattle.relay_state.specs.Serving.{flow_given}
 use Rattle.relay_state.specs.Passage.{Passage, read_part, pass_round, SomeRounds, Passed}
 use Rattle.relay_state.specs.Passing.{with_bad}
+use Rattle.relay_state.specs.Closing.{in_side, out_side}
 use Rattle.relay_state.specs.Counting.{has_flown_far, has_read_far}
 use Rattle.relay_sides.specs.declared.opening.NewSide.{NewSide}
 
@@ -155,9 +156,12 @@ is_empty k from =
 abbrev pub is_complete : Links → SideId → Bool
 is_complete k from = (side_at k from).ended && (flow_at k from).write_done && is_empty k from
 
--- a count of the direction that begins at a side has come far, and of any direction
-abbrev pub is_far_from : Links → SideId → Bool
-is_far_from k e = has_flown_far (flow_at k e) || has_read_far (lane_at k e)
+-- a count of the direction that begins at a side has come to 2^62, one of a link, and one of any direction
+abbrev pub has_spent_count_from : Links → SideId → Bool
+has_spent_count_from k e = has_flown_far (flow_at k e) || has_read_far (lane_at k e)
 
-abbrev pub any_is_far : Links → Bool
-any_is_far k = list_any has_flown_far k.flows || list_any has_read_far k.lanes
+abbrev pub has_spent_count : Links → ℕ → Bool
+has_spent_count k link = has_spent_count_from k (in_side link) || has_spent_count_from k (out_side link)
+
+abbrev pub any_count_is_spent : Links → Bool
+any_count_is_spent k = list_any has_flown_far k.flows || list_any has_read_far k.lanes

@@ -1,8 +1,7 @@
 // What is counted of the sides.
-ghost use Rattle.std.specs.Prelude.{◌≡◌, ◌<◌, ◌||◌};
+ghost use Rattle.std.specs.Prelude.{◌≡◌, ◌<◌};
 ghost use Rattle.ev_types.specs.Sides.{peer};
-ghost use Rattle.relay_state.specs.Closing.{in_side, out_side};
-ghost use Rattle.relay_sides.specs.Links.{lane_at, flow_at, is_far_from, any_is_far};
+ghost use Rattle.relay_sides.specs.Links.{lane_at, flow_at, has_spent_count_from, has_spent_count, any_count_is_spent};
 
 use crate::side::upper;
 use crate::sides::Sides;
@@ -47,9 +46,9 @@ impl Sides {
     /// takes no memory.
     ///
     /// Own.
-    fn is_far_from(&self, side: SideId) -> bool
+    fn has_spent_count_from(&self, side: SideId) -> bool
         requires { side.link < self.now.links.opened }
-        ensures { result ≡ is_far_from self.now.links side }
+        ensures { result ≡ has_spent_count_from self.now.links side }
     {
         let own = &self.sides[side.number()];
         let reader = self.world.filter(upper(side), Dir::Read);
@@ -66,11 +65,11 @@ impl Sides {
     /// Whether a count of any direction has. Linear in the number of sides; takes no memory.
     ///
     /// Own.
-    pub fn any_is_far(&self) -> bool
-        ensures { result ≡ any_is_far self.now.links }
+    pub fn any_count_is_spent(&self) -> bool
+        ensures { result ≡ any_count_is_spent self.now.links }
     {
         for link in 0..self.opened {
-            if self.is_far(link) {
+            if self.has_spent_count(link) {
                 return true;
             }
         }
@@ -80,14 +79,14 @@ impl Sides {
     /// Whether a count of the link has, in either direction. Freed sides count too. Constant; takes no memory.
     ///
     /// Own.
-    pub fn is_far(&self, link: u32) -> bool
+    pub fn has_spent_count(&self, link: u32) -> bool
         requires { link < self.now.links.opened }
-        ensures { result ≡ (is_far_from self.now.links (in_side link) || is_far_from self.now.links (out_side link)) }
+        ensures { result ≡ has_spent_count self.now.links link }
     {
         let near = SideId {
             link,
             side: Side::In,
         };
-        self.is_far_from(near) || self.is_far_from(near.peer())
+        self.has_spent_count_from(near) || self.has_spent_count_from(near.peer())
     }
 }

@@ -6,7 +6,7 @@ ghost use Rattle.relay_state.specs.Passage.{hold_part, read_part, move_part, wri
 ghost use Rattle.relay_sides.specs.Links.{lane_at, flow_at, moved, passage_at, with_passage, IsTold, round_from, PassedFrom, PartlyPassed};
 ghost use Rattle.relay_sides.specs.Pairs.{HasPairs};
 ghost use Rattle.relay_sides.specs.Rooms.{HasInputRoom, HasOutputRoom, HasNoIdleRoom, most_input, most_offered, KeepsStartRoom, KeepsEndRoom};
-ghost use Rattle.relay_sides.specs.Reach.{reached_of, round_by, is_all_passed, is_settled};
+ghost use Rattle.relay_sides.specs.Progress.{progress_of, round_by, is_all_passed, is_settled};
 
 use crate::side::{lower, upper};
 use crate::sides::Sides;
@@ -16,7 +16,7 @@ use stream_filters::{AnyFilter, StreamFilter};
 
 /// How far a filter came.
 #[derive(Clone, Copy, PartialEq, Eq)]
-pub(crate) struct FilterReach {
+pub(crate) struct FilterProgress {
     used: u64,
     finished: bool,
     stopped: bool,
@@ -25,9 +25,9 @@ pub(crate) struct FilterReach {
 /// What a round may change: how far the two filters came, how many bytes were moved, whether the direction is held, and whether
 /// the sides at its two ends have a bad place.
 #[derive(Clone, Copy, PartialEq, Eq)]
-pub(crate) struct Reached {
-    reader: FilterReach,
-    writer: FilterReach,
+pub(crate) struct RoundProgress {
+    reader: FilterProgress,
+    writer: FilterProgress,
     moved: u64,
     held: bool,
     from_bad: bool,
@@ -37,7 +37,7 @@ pub(crate) struct Reached {
 /// What a round goes by: the mark at which reading stops and the one at which the direction is held, whether the side that it begins
 /// at has ended, and which of its two sides live.
 #[derive(Clone, Copy)]
-pub(crate) struct Terms {
+pub(crate) struct RoundRules {
     mark: u64,
     hold: u64,
     ended: bool,
@@ -46,10 +46,10 @@ pub(crate) struct Terms {
 }
 
 /// How far this filter came.
-fn reach_of(filter: &AnyFilter) -> FilterReach
+fn filter_progress(filter: &AnyFilter) -> FilterProgress
     ensures { result ≡ record { used = filter.now.used; finished = filter.now.finished; stopped = is_some filter.now.stopped } }
 {
-    FilterReach {
+    FilterProgress {
         used: filter.used(),
         finished: filter.is_finished(),
         stopped: filter.stopped().is_some(),
@@ -57,7 +57,7 @@ fn reach_of(filter: &AnyFilter) -> FilterReach
 }
 
 /// Whether nothing changed in between.
-fn is_same(a: Reached, b: Reached) -> bool
+fn is_same(a: RoundProgress, b: RoundProgress) -> bool
     ensures { IsTrue result ↔ (a ≡ b) }
 {
     a == b
@@ -89,17 +89,17 @@ fn is_held(waiting: u64, hold: u64, held: bool) -> bool
 
 impl Sides {
     /// How far the direction from the side has come.
-    fn reached(&self, from: SideId) -> Reached
+    fn progress(&self, from: SideId) -> RoundProgress
         requires { from.link < self.now.links.opened }
-        ensures reached { result ≡ reached_of (passage_at self.now.links from) }
+        ensures progress { result ≡ progress_of (passage_at self.now.links from) }
         ensures told { IsTold (passage_at self.now.links from) }
         ensures pairs { HasPairs self.now.links }
     {
         let own = &self.sides[from.number()];
         let other = &self.sides[from.peer().number()];
-        Reached {
-            reader: reach_of(self.world.filter(upper(from), Dir::Read)),
-            writer: reach_of(self.world.filter(upper(from.peer()), Dir::Write)),
+        RoundProgress {
+            reader: filter_progress(self.world.filter(upper(from), Dir::Read)),
+            writer: filter_progress(self.world.filter(upper(from.peer()), Dir::Write)),
             moved: own.moved,
             held: own.held,
             from_bad: own.bad.is_some(),
@@ -164,15 +164,15 @@ impl Sides {
 
     /// Makes room for what a round may make, and for no more than waits, however great the marks are. It is also refused where
     /// that could not be counted.
-    fn reserve_round(&mut self, from: SideId, terms: Terms) -> Result<(), NoMemory>
+    fn reserve_round(&mut self, from: SideId, round: RoundRules) -> Result<(), NoMemory>
         requires { from.link < self.old.links.opened }
         ensures links { self.new.links ≡ self.old.links }
-        ensures input { OnOk result (HasInputRoom terms.mark self.new.links self.new.rooms from) }
-        ensures raw_output { OnOk result (HasOutputRoom terms.hold (most_offered terms.mark self.new.links from) self.new.links self.new.rooms from) }
+        ensures input { OnOk result (HasInputRoom round.mark self.new.links self.new.rooms from) }
+        ensures raw_output { OnOk result (HasOutputRoom round.hold (most_offered round.mark self.new.links from) self.new.links self.new.rooms from) }
     {
-        let most = self.reserve_input(from, terms.mark)?;
-        let offered = self.offered(from, terms.mark, most);
-        self.reserve_output(from, terms.hold, offered)
+        let most = self.reserve_input(from, round.mark)?;
+        let offered = self.offered(from, round.mark, most);
+        self.reserve_output(from, round.hold, offered)
     }
 
     /// The direction becomes held at the hold mark, and is no more held at half of it.
@@ -301,36 +301,36 @@ impl Sides {
     }
 
     /// One round, in room that was made before.
-    fn make_round(&mut self, from: SideId, terms: Terms)
+    fn make_round(&mut self, from: SideId, round: RoundRules)
         requires opened { from.link < self.old.links.opened }
-        requires input { HasInputRoom terms.mark self.old.links self.old.rooms from }
-        requires raw_output { HasOutputRoom terms.hold (most_offered terms.mark self.old.links from) self.old.links self.old.rooms from }
-        ensures { self.new.links ≡ with_passage from (round_by terms (passage_at self.old.links from)) self.old.links }
+        requires input { HasInputRoom round.mark self.old.links self.old.rooms from }
+        requires raw_output { HasOutputRoom round.hold (most_offered round.mark self.old.links from) self.old.links self.old.rooms from }
+        ensures { self.new.links ≡ with_passage from (round_by round (passage_at self.old.links from)) self.old.links }
     {
-        if !terms.to_live {
+        if !round.to_live {
             return;
         }
-        self.hold_back(from, terms.hold);
-        if terms.from_live {
-            self.run_read_filter(from, terms.mark, terms.ended);
+        self.hold_back(from, round.hold);
+        if round.from_live {
+            self.run_read_filter(from, round.mark, round.ended);
             self.move_input(from);
-            self.run_write_filter(from, terms.hold, true);
+            self.run_write_filter(from, round.hold, true);
         } else {
-            self.run_write_filter(from, terms.hold, false);
+            self.run_write_filter(from, round.hold, false);
         }
     }
 
     /// Whether there is nothing that a round could do: the direction isn't held and does not become so, its side has not ended, its
     /// filters run, and all bytes have come to its end. So of an idle direction no round is made, and of one whose bytes went through at
     /// once no second one.
-    fn is_settled(&self, from: SideId, terms: Terms) -> bool
+    fn is_settled(&self, from: SideId, round: RoundRules) -> bool
         requires { from.link < self.now.links.opened }
-        ensures settled { result ≡ is_settled terms (passage_at self.now.links from) }
+        ensures settled { result ≡ is_settled round (passage_at self.now.links from) }
         ensures told { result ≡ true → IsTold (passage_at self.now.links from) }
     {
-        !terms.ended
+        !round.ended
             && !self.is_held(from)
-            && (self.raw_output_len(from) as u64) < terms.hold
+            && (self.raw_output_len(from) as u64) < round.hold
             && self.is_all_passed(from)
             && !self.is_read_done(from)
             && !self.has_stopped(from)
@@ -358,24 +358,24 @@ impl Sides {
     }
 
     /// Rounds until one changes nothing, or there is nothing left that one could do. It answers whether one before did.
-    fn make_rounds(&mut self, from: SideId, terms: Terms) -> Result<bool, NoMemory>
+    fn make_rounds(&mut self, from: SideId, round: RoundRules) -> Result<bool, NoMemory>
         requires { from.link < self.old.links.opened }
         ensures frame { self.new.links ≡ with_passage from (passage_at self.new.links from) self.old.links }
         ensures passage { MatchResult result
-            (λ _. Passed (round_by terms) (passage_at self.old.links from) (passage_at self.new.links from))
-            (λ _. SomeRounds (round_by terms) (passage_at self.old.links from) (passage_at self.new.links from)) }
+            (λ _. Passed (round_by round) (passage_at self.old.links from) (passage_at self.new.links from))
+            (λ _. SomeRounds (round_by round) (passage_at self.old.links from) (passage_at self.new.links from)) }
         ensures still { result ≡ Ok false → passage_at self.new.links from ≡ passage_at self.old.links from }
-        ensures apart { result ≡ Ok true → reached_of (passage_at self.new.links from) ≢ reached_of (passage_at self.old.links from) }
+        ensures apart { result ≡ Ok true → progress_of (passage_at self.new.links from) ≢ progress_of (passage_at self.old.links from) }
     {
         let mut changed = false;
         loop {
-            if self.is_settled(from, terms) {
+            if self.is_settled(from, round) {
                 return Ok(changed);
             }
-            self.reserve_round(from, terms)?;
-            let before = self.reached(from);
-            self.make_round(from, terms);
-            if is_same(self.reached(from), before) {
+            self.reserve_round(from, round)?;
+            let before = self.progress(from);
+            self.make_round(from, round);
+            if is_same(self.progress(from), before) {
                 return Ok(changed);
             }
             changed = true;
@@ -418,13 +418,13 @@ impl Sides {
     }
 
     /// What a round of the direction goes by.
-    fn terms(&self, from: SideId, hold: u64) -> Terms
+    fn round_rules(&self, from: SideId, hold: u64) -> RoundRules
         requires { from.link < self.now.links.opened }
         ensures { round_by result ≡ round_from hold self.now.links from }
     {
         let to = from.peer();
         let flags = self.flags(from);
-        Terms {
+        RoundRules {
             mark: self.read_mark(from),
             hold: self.hold_mark(to, hold),
             ended: flags.ended,
@@ -449,8 +449,8 @@ impl Sides {
         ensures apart { result ≡ Ok true → self.new.links ≢ self.old.links }
         ensures rooms { result ≡ Ok false → HasNoIdleRoom self.new.links self.new.rooms from }
     {
-        let terms = self.terms(from, hold);
-        let changed = self.make_rounds(from, terms)?;
+        let round = self.round_rules(from, hold);
+        let changed = self.make_rounds(from, round)?;
         if changed {
             self.hand_room_back(from);
         } else {

@@ -9,3 +9,4 @@ pub mod Time
 pub mod Asking
 pub mod Counting
 pub mod Running
+pub mod Spent

@@ -113,7 +113,7 @@ fn seen(relay: &Relay) -> (bool, bool) {
     if relay.opened() == 0 {
         return (false, false);
     }
-    (relay.is_open(0), relay.sides().is_far(0))
+    (relay.is_open(0), relay.sides().has_spent_count(0))
 }
 
 fn close(relay: &mut Relay) -> bool {

@@ -1,7 +1,7 @@
 use Rattle.std.proofs.Common.{◌≡◌, ◌+◌, ◌≤◌, false}
 use Rattle.relay_drive.specs.Phases.{OpensSome}
 use Rattle.relay_drive.specs.Known.{Point}
-use Rattle.relay_drive.specs.Looks.{IsKept, KeepsNames}
+use Rattle.relay_drive.specs.Agenda.{IsKept, KeepsNames}
 use Rattle.relay_drive.specs.Moves.{Moves}
 use Rattle.relay_drive.proofs.accept.accept.Given as goal
 
@@ -11,6 +11,6 @@ invariant-loop g l = record {
       (l.run, l.port, l.scribe);
   few : l.counter ≤ 64;
   grown : l.run.relay.state.plain.opened ≡ l.fn.run.relay.state.plain.opened + l.counter;
-  kept : IsKept l.looks l.run.relay.state;
-  names : KeepsNames l.fn.looks l.fn.run.relay.state l.looks l.run.relay.state;
+  kept : IsKept l.agenda l.run.relay.state;
+  names : KeepsNames l.fn.agenda l.fn.run.relay.state l.agenda l.run.relay.state;
 }

@@ -1,5 +1,5 @@
 use Rattle.std.proofs.Common.{Ok, ap}
-use Rattle.relay_drive.proofs.LooksLemmas.{at-closed, closing-keeps, closing-names}
+use Rattle.relay_drive.proofs.AgendaLemmas.{at-closed, closing-keeps, closing-names}
 use Rattle.relay_drive.proofs.close.close_next.Goals as goal
 
 pub returns-clause-kept : goal.returns-clause-kept
@@ -7,7 +7,7 @@ returns-clause-kept g c =
     let went = c.in_ok-any.ensures.went in
     let s = c.args.run.now.relay.state in
     let new = c.close_link.new.run.relay.state in
-    closing-keeps c.args.looks.now c.note_closing.new.looks c.args.link s new c.in_ok-any.any
+    closing-keeps c.args.agenda.now c.note_closing.new.agenda c.args.link s new c.in_ok-any.any
     (at-closed c.args.link s new went.added c.in_ok-any.ensures.kept went.does) (λ e. c.in_ok-any.ensures.settled (ap Ok e)) c.note_closing.ensures
     c.requires.kept
 
@@ -16,5 +16,5 @@ returns-clause-names g c =
     let went = c.in_ok-any.ensures.went in
     let s = c.args.run.now.relay.state in
     let new = c.close_link.new.run.relay.state in
-    closing-names c.args.looks.now c.note_closing.new.looks c.args.link s new c.in_ok-any.any
+    closing-names c.args.agenda.now c.note_closing.new.agenda c.args.link s new c.in_ok-any.any
     (at-closed c.args.link s new went.added c.in_ok-any.ensures.kept went.does) (λ e. c.in_ok-any.ensures.settled (ap Ok e)) c.note_closing.ensures

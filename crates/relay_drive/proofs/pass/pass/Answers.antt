@@ -3,7 +3,7 @@ use Rattle.std.proofs.lemmas.Result.{err_from_is_err_and}
 use Rattle.relay_drive.specs.Steps.{Each}
 use Rattle.relay_drive.specs.Phases.{PassesLink, links_from}
 use Rattle.relay_drive.proofs.EachLemmas.{each_push, links_from-push, links_next}
-use Rattle.relay_drive.proofs.LooksLemmas.{passes-up}
+use Rattle.relay_drive.proofs.AgendaLemmas.{passes-up}
 use Rattle.relay_drive.proofs.pass.pass.Goals as goal
 
 pub returns-in_err-pass_next-clause-went : goal.returns-in_err-pass_next-clause-went
@@ -23,7 +23,7 @@ returns-in_err-pass_next-clause-went c =
         middle = c.loop-link.relay.state;
         front = [];
         back = [];
-        first = passes-up c.loop-link.looks _ _ c.loop-link.from k found.0 (omega (arith, lt, inv.opened)) found.3 inv.kept inv.went;
+        first = passes-up c.loop-link.agenda _ _ c.loop-link.from k found.0 (omega (arith, lt, inv.opened)) found.3 inv.kept inv.went;
         second = c.in_err-pass_next.ensures.went;
         joined = refl;
       };
@@ -44,7 +44,7 @@ loop-link-preserved c =
             middle = c.loop-link.relay.state;
             front = [];
             back = [];
-            first = passes-up c.loop-link.looks _ _ c.loop-link.from k found.0 (omega (arith, lt, inv.opened)) found.3 inv.kept inv.went;
+            first = passes-up c.loop-link.agenda _ _ c.loop-link.from k found.0 (omega (arith, lt, inv.opened)) found.3 inv.kept inv.went;
             second = step.went;
             joined = refl;
           }));
@@ -61,5 +61,5 @@ returns-clause-went c =
     let inv = c.loop-link.invariant in
     let n = c.args.relay.now.state.plain.opened in
     let all = c.in_default.ensures in
-    passes-up c.loop-link.looks _ _ c.loop-link.from n inv.within (omega (arith, inv.opened))
+    passes-up c.loop-link.agenda _ _ c.loop-link.from n inv.within (omega (arith, inv.opened))
     (λ k a b. all k a (omega (arith, b, c.opened.ensures.count, inv.opened))) inv.kept inv.went

@@ -1,10 +1,10 @@
 use Rattle.std.proofs.Common.{true, false, refl, sym, subst, inl, inr}
 use Rattle.std.proofs.lemmas.Result.{err_from_is_err_and}
 use Rattle.relay_core.specs.RelayValue.{RelayValue}
-use Rattle.relay_drive.specs.Looks.{IsKept, IsNamed}
+use Rattle.relay_drive.specs.Agenda.{IsKept, IsNamed}
 use Rattle.relay_drive.proofs.GoesLemmas.{Grew-none, goes_as, goes_then, goes_nowhere}
 use Rattle.relay_drive.proofs.EachLemmas.{then_none}
-use Rattle.relay_drive.proofs.LooksLemmas.{kept-beside_wants, named-rows}
+use Rattle.relay_drive.proofs.AgendaLemmas.{kept-beside_wants, named-rows}
 use Rattle.relay_drive.proofs.ListedLemmas.{cut_listed}
 use Rattle.relay_drive.proofs.poll.poll.Goals as goal
 
@@ -21,19 +21,19 @@ returns-then-not-ready-clause-went g c =
 
 pub returns-then-not-ready-clause-kept : goal.returns-then-not-ready-clause-kept
 returns-then-not-ready-clause-kept g c =
-    subst (λ (r : RelayValue). IsKept c.name_wants.new.looks r.state) (sym c.in_ok-ready.ensures.kept)
-    (kept-beside_wants c.args.looks.now c.name_wants.new.looks c.args.run.now.relay.state c.in_ok-name_wants.ensures.same c.requires.kept)
+    subst (λ (r : RelayValue). IsKept c.name_wants.new.agenda r.state) (sym c.in_ok-ready.ensures.kept)
+    (kept-beside_wants c.args.agenda.now c.name_wants.new.agenda c.args.run.now.relay.state c.in_ok-name_wants.ensures.same c.requires.kept)
 
 pub returns-then-not-ready-clause-named : goal.returns-then-not-ready-clause-named
 returns-then-not-ready-clause-named g c =
-    subst (λ (r : RelayValue). IsNamed c.name_wants.new.looks c.ask_poll.new.wants r.state) (sym c.in_ok-ready.ensures.kept)
-    (named-rows c.name_wants.new.looks c.name_wants.new.wants c.ask_poll.new.wants c.args.run.now.relay.state c.in_ok-ready.ensures.rows
+    subst (λ (r : RelayValue). IsNamed c.name_wants.new.agenda c.ask_poll.new.wants r.state) (sym c.in_ok-ready.ensures.kept)
+    (named-rows c.name_wants.new.agenda c.name_wants.new.wants c.ask_poll.new.wants c.args.run.now.relay.state c.in_ok-ready.ensures.rows
     c.in_ok-name_wants.ensures.right)
 
 pub accept-requires : goal.accept-requires
 accept-requires g c =
-    subst (λ (r : RelayValue). IsKept c.name_wants.new.looks r.state) (sym c.in_ok-ready.ensures.kept)
-    (kept-beside_wants c.args.looks.now c.name_wants.new.looks c.args.run.now.relay.state c.in_ok-name_wants.ensures.same c.requires.kept)
+    subst (λ (r : RelayValue). IsKept c.name_wants.new.agenda r.state) (sym c.in_ok-ready.ensures.kept)
+    (kept-beside_wants c.args.agenda.now c.name_wants.new.agenda c.args.run.now.relay.state c.in_ok-name_wants.ensures.same c.requires.kept)
 
 pub returns-in_err-accept-clause-went : goal.returns-in_err-accept-clause-went
 returns-in_err-accept-clause-went g c =
@@ -51,6 +51,6 @@ returns-clause-went g c =
 pub returns-clause-named : goal.returns-clause-named
 returns-clause-named g c =
     c.in_ok-accept.ensures.names c.ask_poll.new.wants
-    (subst (λ (r : RelayValue). IsNamed c.name_wants.new.looks c.ask_poll.new.wants r.state) (sym c.in_ok-ready.ensures.kept)
-    (named-rows c.name_wants.new.looks c.name_wants.new.wants c.ask_poll.new.wants c.args.run.now.relay.state c.in_ok-ready.ensures.rows
+    (subst (λ (r : RelayValue). IsNamed c.name_wants.new.agenda c.ask_poll.new.wants r.state) (sym c.in_ok-ready.ensures.kept)
+    (named-rows c.name_wants.new.agenda c.name_wants.new.wants c.ask_poll.new.wants c.args.run.now.relay.state c.in_ok-ready.ensures.rows
     c.in_ok-name_wants.ensures.right))

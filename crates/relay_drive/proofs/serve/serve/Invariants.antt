@@ -2,7 +2,7 @@ use Rattle.std.proofs.Common.{◌≡◌, false, take}
 use Rattle.relay_drive.specs.Steps.{Each}
 use Rattle.relay_drive.specs.Phases.{ServesSide}
 use Rattle.relay_drive.specs.Known.{Point}
-use Rattle.relay_drive.specs.Looks.{IsKept, KeepsNames}
+use Rattle.relay_drive.specs.Agenda.{IsKept, KeepsNames}
 use Rattle.relay_drive.specs.Moves.{Moves}
 use Rattle.relay_drive.proofs.serve.serve.Given as goal
 
@@ -10,7 +10,7 @@ abbrev pub invariant-loop-want : goal.invariant-loop-want
 invariant-loop-want g l = record {
   went : Moves g.P.Port g.S.Scribe Point.Accepted Point.Accepted false (Each ServesSide (take l.want-index l.wants))
       (l.fn.run, l.fn.port, l.fn.scribe) (l.run, l.port, l.scribe);
-  kept : IsKept l.looks l.run.relay.state;
-  names : KeepsNames l.fn.looks l.fn.run.relay.state l.looks l.run.relay.state;
+  kept : IsKept l.agenda l.run.relay.state;
+  names : KeepsNames l.fn.agenda l.fn.run.relay.state l.agenda l.run.relay.state;
   opened : l.run.relay.state.plain.opened ≡ l.fn.run.relay.state.plain.opened;
 }

@@ -1,23 +1,23 @@
 use Rattle.std.proofs.Common.{sym, ◌∙◌, ap}
 use Rattle.relay_model.specs.Settings.{Settings}
-use Rattle.relay_drive.proofs.LooksLemmas.{kept-all, names-all, kept-same, names-same}
+use Rattle.relay_drive.proofs.AgendaLemmas.{kept-all, names-all, kept-same, names-same}
 use Rattle.relay_drive.proofs.turn.clock.Goals as goal
 
 pub returns-then-not-is_untimed-clause-kept : goal.returns-then-not-is_untimed-clause-kept
 returns-then-not-is_untimed-clause-kept g c =
-    kept-all c.args.looks.now c.touch_all.new.self c.args.run.now.relay.state c.read_clock.new.run.relay.state c.in_ok-read_clock.ensures.opened
+    kept-all c.args.agenda.now c.touch_all.new.self c.args.run.now.relay.state c.read_clock.new.run.relay.state c.in_ok-read_clock.ensures.opened
     c.touch_all.ensures c.requires.kept
 
 pub returns-then-not-is_untimed-clause-names : goal.returns-then-not-is_untimed-clause-names
 returns-then-not-is_untimed-clause-names g c =
-    names-all c.args.looks.now c.touch_all.new.self c.args.run.now.relay.state c.read_clock.new.run.relay.state c.in_ok-read_clock.ensures.opened
+    names-all c.args.agenda.now c.touch_all.new.self c.args.run.now.relay.state c.read_clock.new.run.relay.state c.in_ok-read_clock.ensures.opened
     c.touch_all.ensures c.requires.kept
 
 pub returns-else-not-is_untimed-clause-kept : goal.returns-else-not-is_untimed-clause-kept
 returns-else-not-is_untimed-clause-kept g c =
     let done = c.in_ok-read_clock.ensures in
     let untimed = c.is_untimed.ensures.0 c.if-not-is_untimed.false in
-    kept-same c.args.looks.now c.args.run.now.relay.state c.read_clock.new.run.relay.state done.opened
+    kept-same c.args.agenda.now c.args.run.now.relay.state c.read_clock.new.run.relay.state done.opened
     (done.still (
       sym (ap (λ (g : Settings). g.in_timeouts) done.went.settings) ∙ untimed.0,
       sym (ap (λ (g : Settings). g.out_timeouts) done.went.settings) ∙ untimed.1,
@@ -27,7 +27,7 @@ pub returns-else-not-is_untimed-clause-names : goal.returns-else-not-is_untimed-
 returns-else-not-is_untimed-clause-names g c =
     let done = c.in_ok-read_clock.ensures in
     let untimed = c.is_untimed.ensures.0 c.if-not-is_untimed.false in
-    names-same c.args.looks.now c.args.run.now.relay.state c.read_clock.new.run.relay.state done.opened
+    names-same c.args.agenda.now c.args.run.now.relay.state c.read_clock.new.run.relay.state done.opened
     (done.still (
       sym (ap (λ (g : Settings). g.in_timeouts) done.went.settings) ∙ untimed.0,
       sym (ap (λ (g : Settings). g.out_timeouts) done.went.settings) ∙ untimed.1,

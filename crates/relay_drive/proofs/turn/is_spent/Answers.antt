@@ -1,8 +1,8 @@
 use Rattle.std.proofs.Common.{◌<◌, ◌^◌, ◌∙◌, sym, arith}
 use Rattle.std.proofs.lemmas.Bool.{lt-leb}
-use Rattle.relay_drive.specs.Looks.{IsNear}
-use Rattle.relay_drive.proofs.LinkParts.{not-spent, far-seen}
-use Rattle.relay_drive.proofs.LooksLemmas.{up-next, up-all}
+use Rattle.relay_drive.specs.Agenda.{LinkCountsAreFew}
+use Rattle.relay_drive.proofs.LinkParts.{not-spent, spent-seen}
+use Rattle.relay_drive.proofs.AgendaLemmas.{up-next, up-all}
 use Rattle.relay_drive.proofs.turn.is_spent.Goals as goal
 
 pub loop-link-preserved : goal.loop-link-preserved
@@ -12,20 +12,20 @@ loop-link-preserved c =
     let found = c.in-Some.ensures in
     let lt : k < s.plain.opened = omega (arith, found.1, c.opened.ensures.count) in
     record {
-      near = up-next (IsNear s) c.loop-link.from k c.loop-link.invariant.near (λ j le less. c.requires j (omega (arith, less, lt)) (found.3 j le less))
-          (sym (far-seen s _ k c.sides.ensures.flows c.sides.ensures.lanes) ∙ sym c.if-is_far.ensures);
+      few = up-next (LinkCountsAreFew s) c.loop-link.from k c.loop-link.invariant.few (λ j le less. c.requires j (omega (arith, less, lt)) (found.3 j le less))
+          (sym (spent-seen s _ k c.sides.ensures.flows c.sides.ensures.lanes) ∙ sym c.if-has_spent_count.ensures);
       within = omega (arith, lt);
     }
 
-pub returns-clause-near : goal.returns-clause-near
-returns-clause-near c = λ _.
+pub returns-clause-few : goal.returns-clause-few
+returns-clause-few c = λ _.
     let s = c.args.relay.now.state in
-    up-all (IsNear s) c.loop-link.from s.plain.opened c.loop-link.invariant.near
+    up-all (LinkCountsAreFew s) c.loop-link.from s.plain.opened c.loop-link.invariant.few
     (λ j le less. c.requires j less (c.in_default.ensures j le (omega (arith, less, c.opened.ensures.count))))
 
 pub returns-clause-spent : goal.returns-clause-spent
 returns-clause-spent c =
     let s = c.args.relay.now.state in
-    let near = up-all (IsNear s) c.loop-link.from s.plain.opened c.loop-link.invariant.near
+    let links_few = up-all (LinkCountsAreFew s) c.loop-link.from s.plain.opened c.loop-link.invariant.few
     (λ j le less. c.requires j less (c.in_default.ensures j le (omega (arith, less, c.opened.ensures.count)))) in
-    sym (not-spent s c.opened.ensures.pairs (lt-leb (2 ^ 62) s.plain.turn (let turns = c.turns.ensures in let few = c.if-turns-ge-SPENT.false in omega (arith, turns, few))) near)
+    sym (not-spent s c.opened.ensures.pairs (lt-leb (2 ^ 62) s.plain.turn (let turns = c.turns.ensures in let few = c.if-turns-ge-SPENT.false in omega (arith, turns, few))) links_few)

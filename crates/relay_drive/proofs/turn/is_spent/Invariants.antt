@@ -1,10 +1,10 @@
 use Rattle.std.proofs.Common.{◌≡◌, ℕ, ◌-◌, ◌<◌, ◌≤◌, false}
-use Rattle.relay_drive.specs.Links.{is_far}
+use Rattle.relay_drive.specs.Links.{has_spent_count}
 use Rattle.relay_drive.proofs.turn.is_spent.Given as goal
 
 abbrev pub invariant-loop-link : goal.invariant-loop-link
 invariant-loop-link l = record {
-  near : (k : ℕ) → k < l.from → is_far l.relay.state k ≡ false;
+  few : (k : ℕ) → k < l.from → has_spent_count l.relay.state k ≡ false;
   within : l.from ≤ l.relay.state.plain.opened;
 }
 

@@ -5,9 +5,9 @@ use Rattle.relay_state.specs.State.{State}
 use Rattle.relay_state.specs.Time.{begun}
 use Rattle.relay_steps.proofs.FrameLemmas.{frame-begun}
 use Rattle.relay_drive.specs.Links.{SameLink}
-use Rattle.relay_drive.specs.Looks.{AreNear}
+use Rattle.relay_drive.specs.Agenda.{CountsAreFew}
 use Rattle.relay_drive.proofs.OtherLinks.{turned-same}
-use Rattle.relay_drive.proofs.NearLemmas.{near-begun}
+use Rattle.relay_drive.proofs.FewLemmas.{few-begun}
 use Rattle.relay_drive.proofs.GoesLemmas.{Grew-join, goes_by, goes_nowhere}
 use Rattle.relay_drive.proofs.HeardLemmas.{Heard-quiet}
 use Rattle.ev_port.specs.EndSteps.{no_step}
@@ -58,5 +58,5 @@ returns-clause-still g c =
     subst (SameLink k s) (sym (c.begin-ms.ensures.still untimed.0 untimed.1))
     (turned-same k c.begin-ms.result s c.begin-ms.ensures.unlimited)
 
-pub returns-clause-near : goal.returns-clause-near
-returns-clause-near g c = λ near. subst AreNear (sym c.begin-ms.ensures.state) (near-begun c.args.run.now.relay.state c.begin-ms.result near)
+pub returns-clause-few : goal.returns-clause-few
+returns-clause-few g c = λ few. subst CountsAreFew (sym c.begin-ms.ensures.state) (few-begun c.args.run.now.relay.state c.begin-ms.result few)

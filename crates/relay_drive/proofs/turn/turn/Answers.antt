@@ -14,7 +14,7 @@ use Rattle.relay_drive.specs.declared.run.Run.{Run}
 use Rattle.relay_drive.specs.Known.{known, Point}
 use Rattle.relay_drive.specs.Advances.{Advances}
 use Rattle.ev_port.specs.declared.port.Want.{Want}
-use Rattle.relay_drive.specs.Looks.{PollsAndAcceptsListed}
+use Rattle.relay_drive.specs.Agenda.{PollsAndAcceptsListed}
 use Rattle.relay_drive.proofs.ListedLemmas.{served_all, served_cut}
 use Rattle.relay_drive.proofs.turn.turn.Goals as goal
 

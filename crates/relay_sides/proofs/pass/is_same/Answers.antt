@@ -1,8 +1,8 @@
 use Rattle.std.proofs.Common.{◌≡◌, ℕ, Bool, true, false, ◌&&◌, ◌==◌, refl, sym, ◌∙◌, subst, eqb-true, arith}
 use Rattle.std.proofs.Math.Bool.{beq}
 use Rattle.std.proofs.lemmas.Bool.Decides.{nat_tests}
-use Rattle.relay_sides.specs.declared.pass.FilterReach.{FilterReach}
-use Rattle.relay_sides.specs.declared.pass.Reached.{Reached}
+use Rattle.relay_sides.specs.declared.pass.FilterProgress.{FilterProgress}
+use Rattle.relay_sides.specs.declared.pass.RoundProgress.{RoundProgress}
 use Rattle.relay_sides.proofs.pass.is_same.Goals as goal
 
 both : (a b : Bool) → (a && b) ≡ true → (a ≡ true) × (b ≡ true)
@@ -27,10 +27,10 @@ nat_same n = go (n == n) refl
     go true e = refl
     go false e = absurd (grind (arith, nat_tests, e))
 
-abbrev reach_eq : FilterReach → FilterReach → Bool
+abbrev reach_eq : FilterProgress → FilterProgress → Bool
 reach_eq a b = (a.used == b.used) && (beq a.finished b.finished && beq a.stopped b.stopped)
 
-same_reach : (a b : FilterReach) → reach_eq a b ≡ true → a ≡ b
+same_reach : (a b : FilterProgress) → reach_eq a b ≡ true → a ≡ b
 same_reach a b e =
     let p = both (a.used == b.used) (beq a.finished b.finished && beq a.stopped b.stopped) e in
     let q = both (beq a.finished b.finished) (beq a.stopped b.stopped) p.1 in
@@ -39,15 +39,15 @@ same_reach a b e =
     let stopped = same_bit a.stopped b.stopped q.1 in
     λ i. record { used = used i; finished = finished i; stopped = stopped i }
 
-reach_same : (a : FilterReach) → reach_eq a a ≡ true
+reach_same : (a : FilterProgress) → reach_eq a a ≡ true
 reach_same a = λ i. nat_same a.used i && (bit_same a.finished i && bit_same a.stopped i)
 
-abbrev reached_eq : Reached → Reached → Bool
+abbrev reached_eq : RoundProgress → RoundProgress → Bool
 reached_eq a b =
     reach_eq a.reader b.reader && (reach_eq a.writer b.writer
     && ((a.moved == b.moved) && (beq a.held b.held && (beq a.from_bad b.from_bad && beq a.to_bad b.to_bad))))
 
-same_reached : (a b : Reached) → reached_eq a b ≡ true → a ≡ b
+same_reached : (a b : RoundProgress) → reached_eq a b ≡ true → a ≡ b
 same_reached a b e =
     let p = both (reach_eq a.reader b.reader) (reach_eq a.writer b.writer
     && ((a.moved == b.moved) && (beq a.held b.held && (beq a.from_bad b.from_bad && beq a.to_bad b.to_bad)))) e in
@@ -71,7 +71,7 @@ same_reached a b e =
       to_bad = to_bad i;
     }
 
-reached_same : (a : Reached) → reached_eq a a ≡ true
+reached_same : (a : RoundProgress) → reached_eq a a ≡ true
 reached_same a =
     λ i. reach_same a.reader i && (reach_same a.writer i
     && (nat_same a.moved i && (bit_same a.held i && (bit_same a.from_bad i && bit_same a.to_bad i))))

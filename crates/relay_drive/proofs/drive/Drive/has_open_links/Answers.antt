@@ -6,7 +6,7 @@ use Rattle.relay_state.specs.Counting.{is_open, open_below}
 use Rattle.relay_drive.specs.declared.fault.DriveFault.{DriveFault}
 use Rattle.relay_drive.specs.DriveValue.{DriveValue}
 use Rattle.relay_drive.proofs.LinkParts.{none-open, some-open}
-use Rattle.relay_drive.proofs.LooksLemmas.{up-all}
+use Rattle.relay_drive.proofs.AgendaLemmas.{up-all}
 use Rattle.relay_drive.proofs.drive.Drive.has_open_links.Goals as goal
 
 none_of : (x : Option DriveFault) → is_some x ≡ false → x ≡ None

@@ -9,7 +9,7 @@ pub run_read_filter-requires-clause-room : goal.run_read_filter-requires-clause-
 run_read_filter-requires-clause-room c =
     let v = c.args.self.now in
     let e = c.args.from in
-    let t = c.args.terms in
+    let t = c.args.round in
     let w = c.hold_back.new.self in
     input_room_kept t.mark v.links w.links v.rooms w.rooms e
     (lane_then v.links w.links e c.hold_back.ensures.pairs c.requires.opened (hold_part t.hold (passage_at v.links e)) c.hold_back.ensures.links)
@@ -19,7 +19,7 @@ pub run_write_filter-requires-clause-room : goal.run_write_filter-requires-claus
 run_write_filter-requires-clause-room c =
     let v = c.args.self.now in
     let e = c.args.from in
-    let t = c.args.terms in
+    let t = c.args.round in
     let k = v.links in
     let x = passage_at k e in
     let pairs = c.hold_back.ensures.pairs in
@@ -37,17 +37,17 @@ run_write_filter-requires-clause-room c =
     (keeps_then e a.rooms b.rooms d.rooms c.run_read_filter.ensures.rooms c.move_input.ensures.rooms))
     c.requires.raw_output
 
-pub returns-then-not-terms : goal.returns-then-not-terms
-returns-then-not-terms c =
+pub returns-then-not-round : goal.returns-then-not-round
+returns-then-not-round c =
     let k = c.args.self.now.links in
     let e = c.args.from in
-    sym (with_same k e) ∙ ap (λ z. with_passage e z k) (no_round c.args.terms (passage_at k e) (not_so c.args.terms.to_live c.if-not-terms.true))
+    sym (with_same k e) ∙ ap (λ z. with_passage e z k) (no_round c.args.round (passage_at k e) (not_so c.args.round.to_live c.if-not-round.true))
 
-pub returns-then-terms : goal.returns-then-terms
-returns-then-terms c =
+pub returns-then-round : goal.returns-then-round
+returns-then-round c =
     let v = c.args.self.now in
     let e = c.args.from in
-    let t = c.args.terms in
+    let t = c.args.round in
     let k = v.links in
     let x = passage_at k e in
     let pairs = c.hold_back.ensures.pairs in
@@ -60,15 +60,15 @@ returns-then-terms c =
     second c.move_input.ensures.links in
     part_then k d.links c.run_write_filter.new.self.links e pairs c.requires.opened (move_part (read_part t.mark t.ended (hold_part t.hold x)))
     (write_part t.hold true) third c.run_write_filter.ensures
-    ∙ ap (λ z. with_passage e z k) (whole_round t x c.if-terms.true (so t.to_live c.if-not-terms.false))
+    ∙ ap (λ z. with_passage e z k) (whole_round t x c.if-round.true (so t.to_live c.if-not-round.false))
 
-pub returns-else-terms : goal.returns-else-terms
-returns-else-terms c =
+pub returns-else-round : goal.returns-else-round
+returns-else-round c =
     let v = c.args.self.now in
     let e = c.args.from in
-    let t = c.args.terms in
+    let t = c.args.round in
     let k = v.links in
     let x = passage_at k e in
-    part_then k c.hold_back.new.self.links c.run_write_filter-else-terms.new.self.links e c.hold_back.ensures.pairs c.requires.opened
-    (hold_part t.hold x) (write_part t.hold false) c.hold_back.ensures.links c.run_write_filter-else-terms.ensures
-    ∙ ap (λ z. with_passage e z k) (end_round t x c.if-terms.false (so t.to_live c.if-not-terms.false))
+    part_then k c.hold_back.new.self.links c.run_write_filter-else-round.new.self.links e c.hold_back.ensures.pairs c.requires.opened
+    (hold_part t.hold x) (write_part t.hold false) c.hold_back.ensures.links c.run_write_filter-else-round.ensures
+    ∙ ap (λ z. with_passage e z k) (end_round t x c.if-round.false (so t.to_live c.if-not-round.false))

@@ -3,7 +3,7 @@ use Rattle.ev_types.specs.declared.side.SideId.{SideId}
 use Rattle.relay_state.specs.Passage.{Passage}
 use Rattle.relay_sides.specs.Links.{Links, passage_at, with_passage}
 use Rattle.relay_sides.specs.Pairs.{HasPairs}
-use Rattle.relay_sides.specs.Reach.{reached_of, round_by}
+use Rattle.relay_sides.specs.Progress.{progress_of, round_by}
 use Rattle.relay_sides.proofs.LinksLemmas.{passage_put, with_twice}
 use Rattle.relay_sides.proofs.RoundLemmas.{weight, round_falls, round_over, rounds-suc, Went, went-apart, went_next}
 use Rattle.relay_sides.proofs.RoundParts.{pairs_back}
@@ -32,26 +32,26 @@ returns-then-is_settled-clause-passage c =
     let settled : c.is_settled.result ≡ true = cc in (
       some.0,
       some.1,
-      settled_stays c.args.terms (passage_at c.loop-from.self.links c.args.from) (c.is_settled.ensures.told settled)
+      settled_stays c.args.round (passage_at c.loop-from.self.links c.args.from) (c.is_settled.ensures.told settled)
           (sym c.is_settled.ensures.settled ∙ settled),
     )
 
 pub returns-then-is_settled-clause-apart : goal.returns-then-is_settled-clause-apart
 returns-then-is_settled-clause-apart c = λ h.
     let some : c.loop-from.changed ≡ true = cc in
-    went-apart c.args.terms.hold (passage_at c.args.self.now.links c.args.from) (passage_at c.loop-from.self.links c.args.from)
+    went-apart c.args.round.hold (passage_at c.args.self.now.links c.args.from) (passage_at c.loop-from.self.links c.args.from)
     (c.loop-from.invariant.went some)
 
 pub returns-then-is_same-clause-frame : goal.returns-then-is_same-clause-frame
 returns-then-is_same-clause-frame c =
-    let t = c.args.terms in
+    let t = c.args.round in
     let e = c.args.from in
     let old = c.args.self.now.links in
     let l = c.loop-from.self.links in
     let m = c.reserve_round.new.self.links in
     let n = c.make_round.new.self.links in
     let begun = c.in_ok-reserve_round.ensures.links in
-    let pairs = c.reached-before.ensures.pairs in
+    let pairs = c.progress-before.ensures.pairs in
     let opened = rounds_open old l m e (passage_at l e) c.loop-from.invariant.frame begun c.requires in
     let once = made_once m n e pairs opened (round_by t (passage_at m e)) c.make_round.ensures in
     let from : passage_at m e ≡ passage_at l e = ap (λ (z : Links). passage_at z e) begun in
@@ -59,20 +59,20 @@ returns-then-is_same-clause-frame c =
 
 pub returns-then-is_same-clause-passage : goal.returns-then-is_same-clause-passage
 returns-then-is_same-clause-passage c =
-    let t = c.args.terms in
+    let t = c.args.round in
     let e = c.args.from in
     let old = c.args.self.now.links in
     let l = c.loop-from.self.links in
     let m = c.reserve_round.new.self.links in
     let n = c.make_round.new.self.links in
     let begun = c.in_ok-reserve_round.ensures.links in
-    let pairs = c.reached-before.ensures.pairs in
+    let pairs = c.progress-before.ensures.pairs in
     let opened = rounds_open old l m e (passage_at l e) c.loop-from.invariant.frame begun c.requires in
     let once = made_once m n e pairs opened (round_by t (passage_at m e)) c.make_round.ensures in
     let from : passage_at m e ≡ passage_at l e = ap (λ (z : Links). passage_at z e) begun in
     let still : passage_at n e ≡ passage_at m e =
-    round_over t.mark t.hold t.ended t.from_live t.to_live (passage_at m e) (passage_at n e) c.reached-before.ensures.told once
-    (sym c.reached.ensures.reached ∙ c.if-is_same.ensures.0 refl ∙ c.reached-before.ensures.reached) in
+    round_over t.mark t.hold t.ended t.from_live t.to_live (passage_at m e) (passage_at n e) c.progress-before.ensures.told once
+    (sym c.progress.ensures.progress ∙ c.if-is_same.ensures.0 refl ∙ c.progress-before.ensures.progress) in
     let some = c.loop-from.invariant.some in (
       some.0,
       still ∙ from ∙ some.1,
@@ -82,58 +82,58 @@ returns-then-is_same-clause-passage c =
 -- the last round changed nothing
 pub returns-then-is_same-clause-still : goal.returns-then-is_same-clause-still
 returns-then-is_same-clause-still c = λ h.
-    let t = c.args.terms in
+    let t = c.args.round in
     let e = c.args.from in
     let old = c.args.self.now.links in
     let l = c.loop-from.self.links in
     let m = c.reserve_round.new.self.links in
     let n = c.make_round.new.self.links in
     let begun = c.in_ok-reserve_round.ensures.links in
-    let pairs = c.reached-before.ensures.pairs in
+    let pairs = c.progress-before.ensures.pairs in
     let opened = rounds_open old l m e (passage_at l e) c.loop-from.invariant.frame begun c.requires in
     let once = made_once m n e pairs opened (round_by t (passage_at m e)) c.make_round.ensures in
     let from : passage_at m e ≡ passage_at l e = ap (λ (z : Links). passage_at z e) begun in
     let still : passage_at n e ≡ passage_at m e =
-    round_over t.mark t.hold t.ended t.from_live t.to_live (passage_at m e) (passage_at n e) c.reached-before.ensures.told once
-    (sym c.reached.ensures.reached ∙ c.if-is_same.ensures.0 refl ∙ c.reached-before.ensures.reached) in
+    round_over t.mark t.hold t.ended t.from_live t.to_live (passage_at m e) (passage_at n e) c.progress-before.ensures.told once
+    (sym c.progress.ensures.progress ∙ c.if-is_same.ensures.0 refl ∙ c.progress-before.ensures.progress) in
     let none : c.loop-from.changed ≡ false = cc in
     still ∙ from ∙ c.loop-from.invariant.still none
 
 pub returns-then-is_same-clause-apart : goal.returns-then-is_same-clause-apart
 returns-then-is_same-clause-apart c = λ h.
-    let t = c.args.terms in
+    let t = c.args.round in
     let e = c.args.from in
     let old = c.args.self.now.links in
     let l = c.loop-from.self.links in
     let m = c.reserve_round.new.self.links in
     let n = c.make_round.new.self.links in
     let begun = c.in_ok-reserve_round.ensures.links in
-    let pairs = c.reached-before.ensures.pairs in
+    let pairs = c.progress-before.ensures.pairs in
     let opened = rounds_open old l m e (passage_at l e) c.loop-from.invariant.frame begun c.requires in
     let once = made_once m n e pairs opened (round_by t (passage_at m e)) c.make_round.ensures in
     let from : passage_at m e ≡ passage_at l e = ap (λ (z : Links). passage_at z e) begun in
     let some : c.loop-from.changed ≡ true = cc in
     λ eq. went-apart t.hold (passage_at old e) (passage_at l e) (c.loop-from.invariant.went some)
-    (ap reached_of (sym from)
-    ∙ sym (sym c.reached.ensures.reached ∙ c.if-is_same.ensures.0 refl ∙ c.reached-before.ensures.reached) ∙ eq)
+    (ap progress_of (sym from)
+    ∙ sym (sym c.progress.ensures.progress ∙ c.if-is_same.ensures.0 refl ∙ c.progress-before.ensures.progress) ∙ eq)
 
 pub loop-from-smaller : goal.loop-from-smaller
 loop-from-smaller c =
-    let t = c.args.terms in
+    let t = c.args.round in
     let e = c.args.from in
     let old = c.args.self.now.links in
     let l = c.loop-from.self.links in
     let m = c.reserve_round.new.self.links in
     let n = c.make_round.new.self.links in
     let begun = c.in_ok-reserve_round.ensures.links in
-    let pairs = c.reached-before.ensures.pairs in
+    let pairs = c.progress-before.ensures.pairs in
     let opened = rounds_open old l m e (passage_at l e) c.loop-from.invariant.frame begun c.requires in
     let once = made_once m n e pairs opened (round_by t (passage_at m e)) c.make_round.ensures in
     let from : passage_at m e ≡ passage_at l e = ap (λ (z : Links). passage_at z e) begun in
     let h = t.hold in
-    elim (round_falls t.mark h t.ended t.from_live t.to_live (passage_at m e) c.reached-before.ensures.told) [
+    elim (round_falls t.mark h t.ended t.from_live t.to_live (passage_at m e) c.progress-before.ensures.told) [
       | inl same ↦ absurd (
-          let counts = c.reached.ensures.reached ∙ ap reached_of (once ∙ same) ∙ sym c.reached-before.ensures.reached in
+          let counts = c.progress.ensures.progress ∙ ap progress_of (once ∙ same) ∙ sym c.progress-before.ensures.progress in
           let w : false ≡ true = c.if-is_same.ensures.1 counts in cc)
       | inr falls ↦ subst (λ k. weight h (passage_at n e) < k) (ap (weight h) from)
           (subst (λ k. k < weight h (passage_at m e)) (sym (ap (weight h) once)) falls.0)
@@ -141,14 +141,14 @@ loop-from-smaller c =
 
 pub loop-from-preserved : goal.loop-from-preserved
 loop-from-preserved c =
-    let t = c.args.terms in
+    let t = c.args.round in
     let e = c.args.from in
     let old = c.args.self.now.links in
     let l = c.loop-from.self.links in
     let m = c.reserve_round.new.self.links in
     let n = c.make_round.new.self.links in
     let begun = c.in_ok-reserve_round.ensures.links in
-    let pairs = c.reached-before.ensures.pairs in
+    let pairs = c.progress-before.ensures.pairs in
     let opened = rounds_open old l m e (passage_at l e) c.loop-from.invariant.frame begun c.requires in
     let once = made_once m n e pairs opened (round_by t (passage_at m e)) c.make_round.ensures in
     let from : passage_at m e ≡ passage_at l e = ap (λ (z : Links). passage_at z e) begun in
@@ -164,6 +164,6 @@ loop-from-preserved c =
           (passage_at old e) (passage_at m e) (passage_at n e)
           (λ eq. from ∙ c.loop-from.invariant.still eq)
           (λ eq. subst (Went t.hold (passage_at old e)) (sym from) (c.loop-from.invariant.went eq))
-          c.reached-before.ensures.told once
-          (λ eq. absurd (let wrong : false ≡ true = c.if-is_same.ensures.1 (c.reached.ensures.reached ∙ eq ∙ sym c.reached-before.ensures.reached) in cc));
+          c.progress-before.ensures.told once
+          (λ eq. absurd (let wrong : false ≡ true = c.if-is_same.ensures.1 (c.progress.ensures.progress ∙ eq ∙ sym c.progress-before.ensures.progress) in cc));
     }

@@ -13,7 +13,7 @@ returns-in_err-changed-clause-passed c =
     let p = err_from_is_err_and c.from_residual.result c.from_residual.ensures.1 in
     subst (λ r. MatchResult r (λ _. PassedFrom c.args.hold old e new) (λ _. PartlyPassed c.args.hold old e new)) (sym p.1) (
       passage_at new e,
-      subst (λ (f : Passage → Passage). SomeRounds f (passage_at old e) (passage_at new e)) c.terms-terms.ensures c.in_err-changed.ensures.passage,
+      subst (λ (f : Passage → Passage). SomeRounds f (passage_at old e) (passage_at new e)) c.round_rules-round.ensures c.in_err-changed.ensures.passage,
       c.in_err-changed.ensures.frame,
     )
 
@@ -23,7 +23,7 @@ returns-else-changed-clause-passed c =
     let old = c.args.self.now.links in
     let mid = c.make_rounds.new.self.links in (
       passage_at mid e,
-      subst (λ (f : Passage → Passage). Passed f (passage_at old e) (passage_at mid e)) c.terms-terms.ensures c.in_ok-changed.ensures.passage,
+      subst (λ (f : Passage → Passage). Passed f (passage_at old e) (passage_at mid e)) c.round_rules-round.ensures c.in_ok-changed.ensures.passage,
       c.give_up_rooms.ensures.links ∙ c.in_ok-changed.ensures.frame,
     )
 
@@ -34,7 +34,7 @@ returns-else-changed-clause-still c = λ h.
     let old = c.args.self.now.links in
     let mid = c.make_rounds.new.self.links in
     let same = c.in_ok-changed.ensures.still h in
-    let passed = subst (λ (f : Passage → Passage). Passed f (passage_at old e) (passage_at mid e)) c.terms-terms.ensures
+    let passed = subst (λ (f : Passage → Passage). Passed f (passage_at old e) (passage_at mid e)) c.round_rules-round.ensures
     c.in_ok-changed.ensures.passage in (
       c.give_up_rooms.ensures.links ∙ c.in_ok-changed.ensures.frame ∙ ap (λ x. with_passage e x old) same ∙ with_same old e,
       subst (λ x. round_from c.args.hold old e x ≡ x) same passed.2,
@@ -46,6 +46,6 @@ returns-then-changed-clause-passed c =
     let old = c.args.self.now.links in
     let mid = c.make_rounds.new.self.links in (
       passage_at mid e,
-      subst (λ (f : Passage → Passage). Passed f (passage_at old e) (passage_at mid e)) c.terms-terms.ensures c.in_ok-changed.ensures.passage,
+      subst (λ (f : Passage → Passage). Passed f (passage_at old e) (passage_at mid e)) c.round_rules-round.ensures c.in_ok-changed.ensures.passage,
       c.hand_room_back.ensures ∙ c.in_ok-changed.ensures.frame,
     )

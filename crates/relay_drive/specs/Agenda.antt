@@ -12,8 +12,8 @@ use Rattle.relay_state.specs.State.{State}
 use Rattle.relay_state.specs.Rooms.{wants}
 use Rattle.relay_state.specs.Counting.{is_open}
 use Rattle.relay_state.specs.Closing.{in_side, out_side}
-use Rattle.relay_drive.specs.declared.looks.Looks.{Looks}
-use Rattle.relay_drive.specs.Links.{IsStill, IsSettled, is_far}
+use Rattle.relay_drive.specs.declared.agenda.Agenda.{Agenda}
+use Rattle.relay_drive.specs.Links.{IsStill, IsSettled, has_spent_count}
 use Rattle.relay_drive.specs.Steps.{Then}
 use Rattle.relay_drive.specs.PollPhase.{Polls, AcceptsWhere}
 
@@ -22,26 +22,26 @@ abbrev pub HoldsBeside : NumberSetValue → (State → ℕ → Type 0) → State
 HoldsBeside set P s = (k : ℕ) → k < s.plain.opened → set.has k ≡ false → P s k
 
 -- no count of this link has come far
-abbrev pub IsNear : State → ℕ → Type 0
-IsNear s k = is_far s k ≡ false
+abbrev pub LinkCountsAreFew : State → ℕ → Type 0
+LinkCountsAreFew s k = has_spent_count s k ≡ false
 
 -- and of no link
-abbrev pub AreNear : State → Type 0
-AreNear s = (k : ℕ) → k < s.plain.opened → IsNear s k
+abbrev pub CountsAreFew : State → Type 0
+CountsAreFew s = (k : ℕ) → k < s.plain.opened → LinkCountsAreFew s k
 
 -- this link is not open
 abbrev pub IsGone : State → ℕ → Type 0
 IsGone s k = is_open s k ≡ false
 
 -- Passing and closing have nothing to do at the links that are not in their sets, and none of them is open that is not among those.
-pub record IsKept (l : Looks) (s : State) : Type 0 where
-  pub pass_covers : s.plain.opened ≤ l.pass.len
-  pub close_covers : s.plain.opened ≤ l.close.len
-  pub want_covers : s.plain.opened ≤ l.want.len
-  pub live_covers : s.plain.opened ≤ l.live.len
-  pub still : HoldsBeside l.pass IsStill s
-  pub settled : HoldsBeside l.close IsSettled s
-  pub gone : HoldsBeside l.live IsGone s
+pub record IsKept (l : Agenda) (s : State) : Type 0 where
+  pub pass_covers : s.plain.opened ≤ l.to_pass.len
+  pub close_covers : s.plain.opened ≤ l.to_close.len
+  pub want_covers : s.plain.opened ≤ l.to_name.len
+  pub live_covers : s.plain.opened ≤ l.maybe_open.len
+  pub still : HoldsBeside l.to_pass IsStill s
+  pub settled : HoldsBeside l.to_close IsSettled s
+  pub gone : HoldsBeside l.maybe_open IsGone s
 
 -- the table says of this side what it wants
 abbrev pub SaysOf : WantsValue → State → SideId → Type 0
@@ -49,36 +49,36 @@ SaysOf t s e = (t.reads (number e) ≡ wants s e dir.Read) × (t.writes (number 
 
 -- the table has this link, says what its sides want, and no count of it has come far
 abbrev pub IsNamedRight : WantsValue → State → ℕ → Type 0
-IsNamedRight t s k = (k < t.links) × SaysOf t s (in_side k) × SaysOf t s (out_side k) × (is_far s k ≡ false)
+IsNamedRight t s k = (k < t.links) × SaysOf t s (in_side k) × SaysOf t s (out_side k) × (has_spent_count s k ≡ false)
 
 -- so it is for each link that is not to be looked at
-pub record IsNamed (l : Looks) (t : WantsValue) (s : State) : Type 0 where
+pub record IsNamed (l : Agenda) (t : WantsValue) (s : State) : Type 0 where
   pub links : t.links ≤ s.plain.opened
-  pub named : HoldsBeside l.want (IsNamedRight t) s
+  pub named : HoldsBeside l.to_name (IsNamedRight t) s
 
 -- A link is in all sets, but perhaps in that of open links, and of every other link they say what they said.
-pub record TouchedBut (opened : Bool) (k : ℕ) (old new : Looks) : Type 0 where
-  pub pass_len : new.pass.len ≡ old.pass.len
-  pub close_len : new.close.len ≡ old.close.len
-  pub want_len : new.want.len ≡ old.want.len
-  pub live_len : new.live.len ≡ old.live.len
-  pub pass : (n : ℕ) → new.pass.has n ≡ (if n == k then true else old.pass.has n)
-  pub close : (n : ℕ) → new.close.has n ≡ (if n == k then true else old.close.has n)
-  pub want : (n : ℕ) → new.want.has n ≡ (if n == k then true else old.want.has n)
-  pub live : (n : ℕ) → new.live.has n ≡ (if n == k then opened else old.live.has n)
+pub record TouchedBut (opened : Bool) (k : ℕ) (old new : Agenda) : Type 0 where
+  pub pass_len : new.to_pass.len ≡ old.to_pass.len
+  pub close_len : new.to_close.len ≡ old.to_close.len
+  pub want_len : new.to_name.len ≡ old.to_name.len
+  pub live_len : new.maybe_open.len ≡ old.maybe_open.len
+  pub to_pass : (n : ℕ) → new.to_pass.has n ≡ (if n == k then true else old.to_pass.has n)
+  pub to_close : (n : ℕ) → new.to_close.has n ≡ (if n == k then true else old.to_close.has n)
+  pub to_name : (n : ℕ) → new.to_name.has n ≡ (if n == k then true else old.to_name.has n)
+  pub maybe_open : (n : ℕ) → new.maybe_open.has n ≡ (if n == k then opened else old.maybe_open.has n)
 
 -- a link is in all sets
-abbrev pub Touched : ℕ → Looks → Looks → Type 0
+abbrev pub Touched : ℕ → Agenda → Agenda → Type 0
 Touched k old new = TouchedBut true k old new
 
 -- each set has a place for this link
-abbrev pub HasPlace : ℕ → Looks → Type 0
-HasPlace k l = (k < l.pass.len) × (k < l.close.len) × (k < l.want.len) × (k < l.live.len)
+abbrev pub HasPlace : ℕ → Agenda → Type 0
+HasPlace k l = (k < l.to_pass.len) × (k < l.to_close.len) × (k < l.to_name.len) × (k < l.maybe_open.len)
 
 -- Where closing found nothing to do at a link, it isn't looked at again; else all is looked at, and it is among the open ones where it is open.
-abbrev pub ClosingNoted : State → ℕ → Bool → Looks → Looks → Type 0
-ClosingNoted s k false old new = (new.close.len ≡ old.close.len) × ((n : ℕ) → new.close.has n ≡ (if n == k then false else old.close.has n))
-    × (new.pass ≡ old.pass) × (new.want ≡ old.want) × (new.live ≡ old.live)
+abbrev pub ClosingNoted : State → ℕ → Bool → Agenda → Agenda → Type 0
+ClosingNoted s k false old new = (new.to_close.len ≡ old.to_close.len) × ((n : ℕ) → new.to_close.has n ≡ (if n == k then false else old.to_close.has n))
+    × (new.to_pass ≡ old.to_pass) × (new.to_name ≡ old.to_name) × (new.maybe_open ≡ old.maybe_open)
 ClosingNoted s k true old new = TouchedBut (is_open s k) k old new
 
 -- no link of the set is one from a number up to another
@@ -92,26 +92,26 @@ pub record Covers (k : ℕ) (old new : NumberSetValue) : Type 0 where
   pub has : (n : ℕ) → new.has n ≡ (if n == k then true else old.has n)
 
 -- so does each set
-pub record IsCovered (k : ℕ) (old new : Looks) : Type 0 where
-  pub pass : Covers k old.pass new.pass
-  pub close : Covers k old.close new.close
-  pub want : Covers k old.want new.want
-  pub live : Covers k old.live new.live
+pub record IsCovered (k : ℕ) (old new : Agenda) : Type 0 where
+  pub to_pass : Covers k old.to_pass new.to_pass
+  pub to_close : Covers k old.to_close new.to_close
+  pub to_name : Covers k old.to_name new.to_name
+  pub maybe_open : Covers k old.maybe_open new.maybe_open
 
 -- all links with a place are in all sets
-pub record TouchedAll (old new : Looks) : Type 0 where
-  pub pass_len : new.pass.len ≡ old.pass.len
-  pub close_len : new.close.len ≡ old.close.len
-  pub want_len : new.want.len ≡ old.want.len
-  pub live_len : new.live.len ≡ old.live.len
-  pub pass : (n : ℕ) → n < old.pass.len → new.pass.has n ≡ true
-  pub close : (n : ℕ) → n < old.close.len → new.close.has n ≡ true
-  pub want : (n : ℕ) → n < old.want.len → new.want.has n ≡ true
-  pub live : (n : ℕ) → n < old.live.len → new.live.has n ≡ true
+pub record TouchedAll (old new : Agenda) : Type 0 where
+  pub pass_len : new.to_pass.len ≡ old.to_pass.len
+  pub close_len : new.to_close.len ≡ old.to_close.len
+  pub want_len : new.to_name.len ≡ old.to_name.len
+  pub live_len : new.maybe_open.len ≡ old.maybe_open.len
+  pub to_pass : (n : ℕ) → n < old.to_pass.len → new.to_pass.has n ≡ true
+  pub to_close : (n : ℕ) → n < old.to_close.len → new.to_close.has n ≡ true
+  pub to_name : (n : ℕ) → n < old.to_name.len → new.to_name.has n ≡ true
+  pub maybe_open : (n : ℕ) → n < old.maybe_open.len → new.maybe_open.has n ≡ true
 
 -- only the set of wants to be looked at may have changed, and it is as long
-abbrev pub SameBesideWants : Looks → Looks → Type 0
-SameBesideWants old new = (new.pass ≡ old.pass) × (new.close ≡ old.close) × (new.live ≡ old.live) × (new.want.len ≡ old.want.len)
+abbrev pub SameBesideWants : Agenda → Agenda → Type 0
+SameBesideWants old new = (new.to_pass ≡ old.to_pass) × (new.to_close ≡ old.to_close) × (new.maybe_open ≡ old.maybe_open) × (new.to_name.len ≡ old.to_name.len)
 
 -- Of one side the table says what it wants, and of every other one what it said.
 pub record NamedSide (s : State) (e : SideId) (old new : WantsValue) : Type 0 where
@@ -132,7 +132,7 @@ pub record OldRowsStay (old new : WantsValue) : Type 0 where
   pub rows : (n : ℕ) → n < 2 * old.links → (new.reads n ≡ old.reads n) × (new.writes n ≡ old.writes n)
 
 -- What was kept is kept, of every table too: from a state and the sets that stood for it to another state and its sets.
-abbrev pub KeepsNames : Looks → State → Looks → State → Type 0
+abbrev pub KeepsNames : Agenda → State → Agenda → State → Type 0
 KeepsNames old s new s' = (t : WantsValue) → IsNamed old t s → IsNamed new t s'
 
 -- the poll, of which the list has the wants that were marked

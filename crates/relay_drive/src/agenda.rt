@@ -1,7 +1,7 @@
 // At which links a turn has something to look at. A link at which nothing was found to do is left alone until something changes there, so
 // that it costs a turn nothing.
 ghost use Rattle.std.specs.Prelude.{◌≡◌, ◌<◌, ◌≤◌, true, false, MatchOption, OnOk};
-ghost use Rattle.relay_drive.specs.Looks.{Touched, TouchedAll, Covers, IsCovered, IsUntold};
+ghost use Rattle.relay_drive.specs.Agenda.{Touched, TouchedAll, Covers, IsCovered, IsUntold};
 ghost use Rattle.relay_drive.specs.Moves.{OnlyForMemory};
 
 use crate::fault::DriveFault;
@@ -11,11 +11,11 @@ use std::alloc::Global;
 /// The links at which passing and closing may have something to do, those that may have a live side, and those of which the table of wants
 /// may not be right. A link that isn't in a set was looked at, and nothing changed there since.
 #[derive(Drop)]
-pub(crate) struct Looks {
-    pub(crate) pass: NumberSet,
-    pub(crate) close: NumberSet,
-    pub(crate) want: NumberSet,
-    pub(crate) live: NumberSet,
+pub(crate) struct Agenda {
+    pub(crate) to_pass: NumberSet,
+    pub(crate) to_close: NumberSet,
+    pub(crate) to_name: NumberSet,
+    pub(crate) maybe_open: NumberSet,
 }
 
 /// The first of the opened links from `from` on that is in the set.
@@ -47,58 +47,58 @@ fn cover(set: &mut NumberSet, link: u32) -> Result<(), DriveFault>
     Ok(())
 }
 
-impl Looks {
+impl Agenda {
     /// No link has a place. Takes no memory.
-    pub(crate) fn new(alloc: Global) -> Looks
-        ensures pass { result.pass.len ≡ 0 }
-        ensures close { result.close.len ≡ 0 }
-        ensures want { result.want.len ≡ 0 }
-        ensures live { result.live.len ≡ 0 }
+    pub(crate) fn new(alloc: Global) -> Agenda
+        ensures pass { result.to_pass.len ≡ 0 }
+        ensures close { result.to_close.len ≡ 0 }
+        ensures want { result.to_name.len ≡ 0 }
+        ensures live { result.maybe_open.len ≡ 0 }
     {
-        Looks {
-            pass: NumberSet::new(alloc),
-            close: NumberSet::new(alloc),
-            want: NumberSet::new(alloc),
-            live: NumberSet::new(alloc),
+        Agenda {
+            to_pass: NumberSet::new(alloc),
+            to_close: NumberSet::new(alloc),
+            to_name: NumberSet::new(alloc),
+            maybe_open: NumberSet::new(alloc),
         }
     }
 
     /// Makes a place for the next link, which is in each set then.
     pub(crate) fn cover(&mut self, link: u32) -> Result<(), DriveFault>
-        requires pass { link ≤ self.old.pass.len }
-        requires close { link ≤ self.old.close.len }
-        requires want { link ≤ self.old.want.len }
-        requires live { link ≤ self.old.live.len }
+        requires pass { link ≤ self.old.to_pass.len }
+        requires close { link ≤ self.old.to_close.len }
+        requires want { link ≤ self.old.to_name.len }
+        requires live { link ≤ self.old.maybe_open.len }
         ensures covered { OnOk result (IsCovered link self.old self.new) }
         ensures cause { OnlyForMemory result }
     {
-        cover(&mut self.pass, link)?;
-        cover(&mut self.close, link)?;
-        cover(&mut self.want, link)?;
-        cover(&mut self.live, link)
+        cover(&mut self.to_pass, link)?;
+        cover(&mut self.to_close, link)?;
+        cover(&mut self.to_name, link)?;
+        cover(&mut self.maybe_open, link)
     }
 
     /// Something changed at this link. Takes no memory; constant.
     pub(crate) fn touch(&mut self, link: u32)
-        requires pass { link < self.old.pass.len }
-        requires close { link < self.old.close.len }
-        requires want { link < self.old.want.len }
-        requires live { link < self.old.live.len }
+        requires pass { link < self.old.to_pass.len }
+        requires close { link < self.old.to_close.len }
+        requires want { link < self.old.to_name.len }
+        requires live { link < self.old.maybe_open.len }
         ensures { Touched link self.old self.new }
     {
-        self.pass.insert(link as usize);
-        self.close.insert(link as usize);
-        self.want.insert(link as usize);
-        self.live.insert(link as usize);
+        self.to_pass.insert(link as usize);
+        self.to_close.insert(link as usize);
+        self.to_name.insert(link as usize);
+        self.maybe_open.insert(link as usize);
     }
 
     /// Something may have changed at every link. Takes no memory; linear in the number of links.
     pub(crate) fn touch_all(&mut self)
         ensures { TouchedAll self.old self.new }
     {
-        self.pass.fill();
-        self.close.fill();
-        self.want.fill();
-        self.live.fill();
+        self.to_pass.fill();
+        self.to_close.fill();
+        self.to_name.fill();
+        self.maybe_open.fill();
     }
 }

@@ -5,19 +5,19 @@ use Rattle.filter_model.specs.Running.{Running}
 use Rattle.relay_model.specs.Flow.{Flow}
 use Rattle.relay_state.specs.State.{Lane}
 use Rattle.relay_sides.specs.Bevs.{upper_of, twin}
-use Rattle.relay_sides.specs.Reach.{reached_of}
+use Rattle.relay_sides.specs.Progress.{progress_of}
 use Rattle.relay_sides.specs.SideView.{plain_at}
-use Rattle.relay_sides.specs.declared.pass.FilterReach.{FilterReach}
+use Rattle.relay_sides.specs.declared.pass.FilterProgress.{FilterProgress}
 use Rattle.relay_sides.proofs.BevsLemmas.{twin-number}
 use Rattle.relay_sides.proofs.SidesLemmas.{pairs_seen, side_seen, flow_seen, lane_seen, peer_number}
 use Rattle.relay_sides.proofs.ReaderLemmas.{own_state, peer_state, filter_found}
-use Rattle.relay_sides.proofs.sides.Sides.reached.Goals as goal
+use Rattle.relay_sides.proofs.sides.Sides.progress.Goals as goal
 
-abbrev reach : Running → FilterReach
+abbrev reach : Running → FilterProgress
 reach f = record { used = f.used; finished = f.finished; stopped = is_some f.stopped }
 
-pub returns-clause-reached : goal.returns-clause-reached
-returns-clause-reached c =
+pub returns-clause-progress : goal.returns-clause-progress
+returns-clause-progress c =
     let v = c.args.self.now in
     let r = c.self.inside in
     let e = c.args.from in
@@ -26,9 +26,9 @@ returns-clause-reached c =
     c.index-own.ensures in
     let o = peer_state v r c.self.view_is c.self.invariant e c.requires c.peer.result c.number-2.result c.index-other.result.now
     c.peer.ensures c.number-2.ensures c.index-other.ensures in
-    let reader = c.reach_of.ensures
+    let reader = c.filter_progress.ensures
     ∙ ap reach (filter_found r.world n c.upper.result c.filter.result.now Read c.upper.ensures c.filter.ensures) in
-    let writer = c.reach_of-2.ensures
+    let writer = c.filter_progress-2.ensures
     ∙ ap reach (filter_found r.world (twin n) c.upper-2.result c.filter-2.result.now Write
     (c.upper-2.ensures ∙ ap upper_of (peer_number e c.peer-2.result c.peer-2.ensures)) c.filter-2.ensures) in
     let from_bad = c.is_some.ensures ∙ (λ i. is_some (s i).bad) in
@@ -45,7 +45,7 @@ returns-clause-reached c =
       from_bad = from_bad i;
       to_bad = to_bad i;
     })
-    ∙ (λ i. reached_of (record { flow = sym f i; lane = sym l i; from_bad = (sym a i).bad; to_bad = (sym b i).bad }))
+    ∙ (λ i. progress_of (record { flow = sym f i; lane = sym l i; from_bad = (sym a i).bad; to_bad = (sym b i).bad }))
 
 pub returns-clause-told : goal.returns-clause-told
 returns-clause-told c =

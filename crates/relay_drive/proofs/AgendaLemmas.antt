@@ -9,9 +9,9 @@ use Rattle.number_set.specs.Numbers.{NumberSetValue}
 use Rattle.relay_state.specs.State.{State}
 use Rattle.relay_state.specs.Counting.{is_open}
 use Rattle.relay_state.specs.Closing.{in_side, out_side}
-use Rattle.relay_drive.specs.declared.looks.Looks.{Looks}
+use Rattle.relay_drive.specs.declared.agenda.Agenda.{Agenda}
 use Rattle.relay_drive.specs.Links.{SameLink, HasPairs, IsStill, IsSettled}
-use Rattle.relay_drive.specs.Looks.{HoldsBeside, IsGone, IsKept, IsNamed, IsNamedRight, TouchedBut, TouchedAll, IsCovered, ClosingNoted, IsUntold, SameBesideWants, SaysOf, KeepsNames}
+use Rattle.relay_drive.specs.Agenda.{HoldsBeside, IsGone, IsKept, IsNamed, IsNamedRight, TouchedBut, TouchedAll, IsCovered, ClosingNoted, IsUntold, SameBesideWants, SaysOf, KeepsNames}
 use Rattle.ev_types.specs.Trace.{Trace}
 use Rattle.ev_port.specs.declared.port.Want.{Want}
 use Rattle.relay_drive.specs.Steps.{Each}
@@ -60,7 +60,7 @@ named-same t k s new same h = (
 )
 
 -- A step at one link, behind which this link is looked at, and is among the open ones where it is open
-pub kept-but : (l l' : Looks) (k : ℕ) (s s' : State) (b : Bool) → AtLink k s s' → (b ≡ false → IsGone s' k) → TouchedBut b k l l' →
+pub kept-but : (l l' : Agenda) (k : ℕ) (s s' : State) (b : Bool) → AtLink k s s' → (b ≡ false → IsGone s' k) → TouchedBut b k l l' →
     IsKept l s → IsKept l' s'
 kept-but l l' k s s' b at gone t h =
     let opened = λ (j : ℕ) (e : j ≢ k) (lt : j < s'.plain.opened). subst (λ m. j < m) at.opened lt in
@@ -69,47 +69,47 @@ kept-but l l' k s s' b at gone t h =
       close_covers = omega (arith, at.opened, t.close_len, h.close_covers);
       want_covers = omega (arith, at.opened, t.want_len, h.want_covers);
       live_covers = omega (arith, at.opened, t.live_len, h.live_covers);
-      still = beside IsStill l.pass l'.pass k true s s' t.pass (λ e. no_false e) opened (λ j e lt p. still-same (at.others j e) p) h.still;
-      settled = beside IsSettled l.close l'.close k true s s' t.close (λ e. no_false e) opened
+      still = beside IsStill l.to_pass l'.to_pass k true s s' t.to_pass (λ e. no_false e) opened (λ j e lt p. still-same (at.others j e) p) h.still;
+      settled = beside IsSettled l.to_close l'.to_close k true s s' t.to_close (λ e. no_false e) opened
           (λ j e lt p. settled-same (at.others j e) p) h.settled;
-      gone = beside IsGone l.live l'.live k b s s' t.live (λ e lt. gone e) opened (λ j e lt p. gone-same j s s' (at.others j e) p) h.gone;
+      gone = beside IsGone l.maybe_open l'.maybe_open k b s s' t.maybe_open (λ e lt. gone e) opened (λ j e lt p. gone-same j s s' (at.others j e) p) h.gone;
     }
 
-pub names-but : (l l' : Looks) (k : ℕ) (s s' : State) (b : Bool) → AtLink k s s' → TouchedBut b k l l' → KeepsNames l s l' s'
+pub names-but : (l l' : Agenda) (k : ℕ) (s s' : State) (b : Bool) → AtLink k s s' → TouchedBut b k l l' → KeepsNames l s l' s'
 names-but l l' k s s' b at t = λ table h. record {
   links = omega (arith, at.opened, h.links);
-  named = beside (IsNamedRight table) l.want l'.want k true s s' t.want (λ e. no_false e)
+  named = beside (IsNamedRight table) l.to_name l'.to_name k true s s' t.to_name (λ e. no_false e)
       (λ j e lt. subst (λ m. j < m) at.opened lt) (λ j e lt p. named-same table j s s' (at.others j e) p) h.named;
 }
 
 -- nothing changed, and a link was found at which passing has nothing to do
-pub kept-passed : (l l' : Looks) (k : ℕ) (s : State) → IsStill s k → l'.pass.len ≡ l.pass.len →
-    ((n : ℕ) → l'.pass.has n ≡ (if n == k then false else l.pass.has n)) → l'.close ≡ l.close → l'.want ≡ l.want → l'.live ≡ l.live →
+pub kept-passed : (l l' : Agenda) (k : ℕ) (s : State) → IsStill s k → l'.to_pass.len ≡ l.to_pass.len →
+    ((n : ℕ) → l'.to_pass.has n ≡ (if n == k then false else l.to_pass.has n)) → l'.to_close ≡ l.to_close → l'.to_name ≡ l.to_name → l'.maybe_open ≡ l.maybe_open →
     IsKept l s → IsKept l' s
 kept-passed l l' k s still len has close want live h = record {
   pass_covers = omega (arith, len, h.pass_covers);
   close_covers = subst (λ (z : NumberSetValue). s.plain.opened ≤ z.len) (sym close) h.close_covers;
   want_covers = subst (λ (z : NumberSetValue). s.plain.opened ≤ z.len) (sym want) h.want_covers;
   live_covers = subst (λ (z : NumberSetValue). s.plain.opened ≤ z.len) (sym live) h.live_covers;
-  still = beside IsStill l.pass l'.pass k false s s has (λ e lt. still) (λ j e lt. lt) (λ j e lt p. p) h.still;
+  still = beside IsStill l.to_pass l'.to_pass k false s s has (λ e lt. still) (λ j e lt. lt) (λ j e lt p. p) h.still;
   settled = subst (λ z. HoldsBeside z IsSettled s) (sym close) h.settled;
   gone = subst (λ z. HoldsBeside z IsGone s) (sym live) h.gone;
 }
 
 -- or at which closing has
-pub kept-closed : (l l' : Looks) (k : ℕ) (s : State) → IsSettled s k → ClosingNoted s k false l l' → IsKept l s → IsKept l' s
+pub kept-closed : (l l' : Agenda) (k : ℕ) (s : State) → IsSettled s k → ClosingNoted s k false l l' → IsKept l s → IsKept l' s
 kept-closed l l' k s settled t h = record {
   pass_covers = subst (λ (z : NumberSetValue). s.plain.opened ≤ z.len) (sym t.2) h.pass_covers;
   close_covers = let len = t.0 in omega (arith, len, h.close_covers);
   want_covers = subst (λ (z : NumberSetValue). s.plain.opened ≤ z.len) (sym t.3) h.want_covers;
   live_covers = subst (λ (z : NumberSetValue). s.plain.opened ≤ z.len) (sym t.4) h.live_covers;
   still = subst (λ z. HoldsBeside z IsStill s) (sym t.2) h.still;
-  settled = beside IsSettled l.close l'.close k false s s t.1 (λ e lt. settled) (λ j e lt. lt) (λ j e lt p. p) h.settled;
+  settled = beside IsSettled l.to_close l'.to_close k false s s t.1 (λ e lt. settled) (λ j e lt. lt) (λ j e lt p. p) h.settled;
   gone = subst (λ z. HoldsBeside z IsGone s) (sym t.4) h.gone;
 }
 
 -- what the table says depends on the set of wants to be looked at alone
-pub names-beside : (l l' : Looks) (s : State) → l'.want ≡ l.want → KeepsNames l s l' s
+pub names-beside : (l l' : Agenda) (s : State) → l'.to_name ≡ l.to_name → KeepsNames l s l' s
 names-beside l l' s want = λ table h. record {
   links = h.links;
   named = subst (λ z. HoldsBeside z (IsNamedRight table) s) (sym want) h.named;
@@ -120,25 +120,25 @@ beside-all : (P : State → ℕ → Type 0) (old new : NumberSetValue) (s : Stat
     ((n : ℕ) → n < old.len → new.has n ≡ true) → HoldsBeside new P s
 beside-all P old new s covers all = λ n lt out. no_false (sym (all n (omega (arith, lt, covers))) ∙ out)
 
-pub kept-all : (l l' : Looks) (s s' : State) → s'.plain.opened ≡ s.plain.opened → TouchedAll l l' → IsKept l s → IsKept l' s'
+pub kept-all : (l l' : Agenda) (s s' : State) → s'.plain.opened ≡ s.plain.opened → TouchedAll l l' → IsKept l s → IsKept l' s'
 kept-all l l' s s' opened t h = record {
   pass_covers = omega (arith, opened, t.pass_len, h.pass_covers);
   close_covers = omega (arith, opened, t.close_len, h.close_covers);
   want_covers = omega (arith, opened, t.want_len, h.want_covers);
   live_covers = omega (arith, opened, t.live_len, h.live_covers);
-  still = beside-all IsStill l.pass l'.pass s' (omega (arith, opened, h.pass_covers)) t.pass;
-  settled = beside-all IsSettled l.close l'.close s' (omega (arith, opened, h.close_covers)) t.close;
-  gone = beside-all IsGone l.live l'.live s' (omega (arith, opened, h.live_covers)) t.live;
+  still = beside-all IsStill l.to_pass l'.to_pass s' (omega (arith, opened, h.pass_covers)) t.to_pass;
+  settled = beside-all IsSettled l.to_close l'.to_close s' (omega (arith, opened, h.close_covers)) t.to_close;
+  gone = beside-all IsGone l.maybe_open l'.maybe_open s' (omega (arith, opened, h.live_covers)) t.maybe_open;
 }
 
-pub names-all : (l l' : Looks) (s s' : State) → s'.plain.opened ≡ s.plain.opened → TouchedAll l l' → IsKept l s → KeepsNames l s l' s'
+pub names-all : (l l' : Agenda) (s s' : State) → s'.plain.opened ≡ s.plain.opened → TouchedAll l l' → IsKept l s → KeepsNames l s l' s'
 names-all l l' s s' opened t k = λ table h. record {
   links = omega (arith, opened, h.links);
-  named = beside-all (IsNamedRight table) l.want l'.want s' (omega (arith, opened, k.want_covers)) t.want;
+  named = beside-all (IsNamedRight table) l.to_name l'.to_name s' (omega (arith, opened, k.want_covers)) t.to_name;
 }
 
 -- no link changed
-pub kept-same : (l : Looks) (s s' : State) → s'.plain.opened ≡ s.plain.opened → ((j : ℕ) → SameLink j s s') → IsKept l s → IsKept l s'
+pub kept-same : (l : Agenda) (s s' : State) → s'.plain.opened ≡ s.plain.opened → ((j : ℕ) → SameLink j s s') → IsKept l s → IsKept l s'
 kept-same l s s' opened same h = record {
   pass_covers = omega (arith, opened, h.pass_covers);
   close_covers = omega (arith, opened, h.close_covers);
@@ -149,7 +149,7 @@ kept-same l s s' opened same h = record {
   gone = λ n lt out. gone-same n s s' (same n) (h.gone n (subst (λ m. n < m) opened lt) out);
 }
 
-pub names-same : (l : Looks) (s s' : State) → s'.plain.opened ≡ s.plain.opened → ((j : ℕ) → SameLink j s s') → KeepsNames l s l s'
+pub names-same : (l : Agenda) (s s' : State) → s'.plain.opened ≡ s.plain.opened → ((j : ℕ) → SameLink j s s') → KeepsNames l s l s'
 names-same l s s' opened same = λ table h. record {
   links = omega (arith, opened, h.links);
   named = λ n lt out. named-same table n s s' (same n) (h.named n (subst (λ m. n < m) opened lt) out);
@@ -164,24 +164,24 @@ pub record OpensAtMost (s new : State) : Type 0 where
 opened-before : (s s' : State) → OpensAtMost s s' → (j : ℕ) → j ≢ s.plain.opened → j < s'.plain.opened → j < s.plain.opened
 opened-before s s' o j e lt = omega (arith, e, lt, o.most)
 
-pub kept-covered : (l l' : Looks) (s s' : State) → OpensAtMost s s' → IsCovered s.plain.opened l l' → IsKept l s → IsKept l' s'
+pub kept-covered : (l l' : Agenda) (s s' : State) → OpensAtMost s s' → IsCovered s.plain.opened l l' → IsKept l s → IsKept l' s'
 kept-covered l l' s s' o c h = record {
-  pass_covers = omega (arith, o.most, c.pass.room);
-  close_covers = omega (arith, o.most, c.close.room);
-  want_covers = omega (arith, o.most, c.want.room);
-  live_covers = omega (arith, o.most, c.live.room);
-  still = beside IsStill l.pass l'.pass s.plain.opened true s s' c.pass.has (λ e. no_false e) (opened-before s s' o)
+  pass_covers = omega (arith, o.most, c.to_pass.room);
+  close_covers = omega (arith, o.most, c.to_close.room);
+  want_covers = omega (arith, o.most, c.to_name.room);
+  live_covers = omega (arith, o.most, c.maybe_open.room);
+  still = beside IsStill l.to_pass l'.to_pass s.plain.opened true s s' c.to_pass.has (λ e. no_false e) (opened-before s s' o)
       (λ j e lt p. still-same (o.old j lt) p) h.still;
-  settled = beside IsSettled l.close l'.close s.plain.opened true s s' c.close.has (λ e. no_false e) (opened-before s s' o)
+  settled = beside IsSettled l.to_close l'.to_close s.plain.opened true s s' c.to_close.has (λ e. no_false e) (opened-before s s' o)
       (λ j e lt p. settled-same (o.old j lt) p) h.settled;
-  gone = beside IsGone l.live l'.live s.plain.opened true s s' c.live.has (λ e. no_false e) (opened-before s s' o)
+  gone = beside IsGone l.maybe_open l'.maybe_open s.plain.opened true s s' c.maybe_open.has (λ e. no_false e) (opened-before s s' o)
       (λ j e lt p. gone-same j s s' (o.old j lt) p) h.gone;
 }
 
-pub names-covered : (l l' : Looks) (s s' : State) → OpensAtMost s s' → IsCovered s.plain.opened l l' → KeepsNames l s l' s'
+pub names-covered : (l l' : Agenda) (s s' : State) → OpensAtMost s s' → IsCovered s.plain.opened l l' → KeepsNames l s l' s'
 names-covered l l' s s' o c = λ table h. record {
   links = omega (arith, o.least, h.links);
-  named = beside (IsNamedRight table) l.want l'.want s.plain.opened true s s' c.want.has (λ e. no_false e) (opened-before s s' o)
+  named = beside (IsNamedRight table) l.to_name l'.to_name s.plain.opened true s s' c.to_name.has (λ e. no_false e) (opened-before s s' o)
       (λ j e lt p. named-same table j s s' (o.old j lt) p) h.named;
 }
 
@@ -200,14 +200,14 @@ at-closed k s new a opened h = record { others = λ j e. closes-other j k s new 
 -- Links between two that are looked at
 
 -- passing left out the links that are not in the set
-pub passes-up : (l : Looks) (s0 s : State) (from to : ℕ) → from ≤ to → to ≤ s.plain.opened → IsUntold l.pass from to → IsKept l s →
+pub passes-up : (l : Agenda) (s0 s : State) (from to : ℕ) → from ≤ to → to ≤ s.plain.opened → IsUntold l.to_pass from to → IsKept l s →
     Each PassesLink (links_from 0 from) s0 [] s → Each PassesLink (links_from 0 to) s0 [] s
 passes-up l s0 s from to le within untold kept h =
     each-skips PassesLink from to s0 s [] le
     (λ k a b. still-passes k s (kept.still k (omega (arith, b, within)) (untold k a b))) h
 
 -- and closing did
-pub closes-up : (l : Looks) (s0 s : State) (a : Trace) (from to : ℕ) → from ≤ to → to ≤ s.plain.opened → IsUntold l.close from to → IsKept l s →
+pub closes-up : (l : Agenda) (s0 s : State) (a : Trace) (from to : ℕ) → from ≤ to → to ≤ s.plain.opened → IsUntold l.to_close from to → IsKept l s →
     Each ClosesLink (links_from 0 from) s0 a s → Each ClosesLink (links_from 0 to) s0 a s
 closes-up l s0 s a from to le within untold kept h =
     each-skips ClosesLink from to s0 s a le
@@ -232,14 +232,14 @@ opens-at-most false s new a pairs h =
 
 -- What closing came to at a link is noted.
 
-pub closing-keeps : (l l' : Looks) (k : ℕ) (s s' : State) (any : Bool) → AtLink k s s' →
+pub closing-keeps : (l l' : Agenda) (k : ℕ) (s s' : State) (any : Bool) → AtLink k s s' →
     (any ≡ false → (s' ≡ s) × IsSettled s k) → ClosingNoted s' k any l l' → IsKept l s → IsKept l' s'
 closing-keeps l l' k s s' false at none t h =
     let same = none refl in
     subst (IsKept l') (sym same.0) (kept-closed l l' k s same.1 (subst (λ z. ClosingNoted z k false l l') same.0 t) h)
 closing-keeps l l' k s s' true at none t h = kept-but l l' k s s' (is_open s' k) at (λ e. e) t h
 
-pub closing-names : (l l' : Looks) (k : ℕ) (s s' : State) (any : Bool) → AtLink k s s' →
+pub closing-names : (l l' : Agenda) (k : ℕ) (s s' : State) (any : Bool) → AtLink k s s' →
     (any ≡ false → (s' ≡ s) × IsSettled s k) → ClosingNoted s' k any l l' → KeepsNames l s l' s'
 closing-names l l' k s s' false at none t =
     subst (KeepsNames l s l') (sym (none refl).0) (names-beside l l' s t.3)
@@ -270,7 +270,7 @@ untold-next set left from k has before between = λ n a b.
     (has k ∙ ap (λ z. if z then false else set.has k) (eq-eqb k k refl)) n b
 
 -- the sets but that of wants stay, and so does what they say
-pub kept-beside_wants : (l l' : Looks) (s : State) → SameBesideWants l l' → IsKept l s → IsKept l' s
+pub kept-beside_wants : (l l' : Agenda) (s : State) → SameBesideWants l l' → IsKept l s → IsKept l' s
 kept-beside_wants l l' s same h = record {
   pass_covers = subst (λ (z : NumberSetValue). s.plain.opened ≤ z.len) (sym same.0) h.pass_covers;
   close_covers = subst (λ (z : NumberSetValue). s.plain.opened ≤ z.len) (sym same.1) h.close_covers;
@@ -282,7 +282,7 @@ kept-beside_wants l l' s same h = record {
 }
 
 -- a table with the same rows says the same
-pub named-rows : (l : Looks) (t new : WantsValue) (s : State) → RowsStay t new → IsNamed l t s → IsNamed l new s
+pub named-rows : (l : Agenda) (t new : WantsValue) (s : State) → RowsStay t new → IsNamed l t s → IsNamed l new s
 named-rows l t new s r h = record {
   links = subst (λ n. n ≤ s.plain.opened) (sym r.links) h.links;
   named = λ k lt out. let right = h.named k lt out in (

@@ -19,8 +19,8 @@ use Rattle.relay_state.specs.Closing.{in_side, out_side}
 use Rattle.relay_state.specs.Counting.{has_flown_far, has_read_far}
 use Rattle.relay_state.specs.Time.{timed, side_timed, begun}
 use Rattle.relay_steps.proofs.FrameLemmas.{frame-begun}
-use Rattle.relay_drive.specs.Links.{is_far_from}
-use Rattle.relay_drive.specs.Looks.{AreNear}
+use Rattle.relay_drive.specs.Links.{has_spent_count_from}
+use Rattle.relay_drive.specs.Agenda.{CountsAreFew}
 
 -- what was counted of each direction is as it was
 record SameCounts (s new : State) : Type 0 where
@@ -80,13 +80,13 @@ counts-begun s ms =
     counts-then here (counts-fold side_timed (λ z e. counts-fold (timed e) (λ y d. counts-timed y e d) z both_ways) at_time
     (all_sides at_time.plain))
 
-far-from : (s new : State) (e : SideId) → SameCounts s new → is_far_from new e ≡ is_far_from s e
+far-from : (s new : State) (e : SideId) → SameCounts s new → has_spent_count_from new e ≡ has_spent_count_from s e
 far-from s new e h = λ i.
     has_flown_far (slice_index_or (h.flows i) (number e) no_flow) || has_read_far (slice_index_or (h.lanes i) (number e) no_lane)
 
 -- no count has come far as a turn begins where none had
-pub near-begun : (s : State) (ms : ℕ) → AreNear s → AreNear (begun s ms)
-near-begun s ms h = λ k lt.
+pub few-begun : (s : State) (ms : ℕ) → CountsAreFew s → CountsAreFew (begun s ms)
+few-begun s ms h = λ k lt.
     let same = counts-begun s ms in
     (λ i. far-from s (begun s ms) (in_side k) same i || far-from s (begun s ms) (out_side k) same i)
     ∙ h k (subst (λ m. k < m) (frame-begun s ms).opened lt)

@@ -2,12 +2,12 @@
 use Rattle.std.specs.Prelude.{Bool, not, ◌==◌, ◌&&◌, ◌||◌, nat_lt, length, is_some}
 use Rattle.relay_state.specs.State.{Lane}
 use Rattle.relay_state.specs.Passage.{Passage, pass_round}
-use Rattle.relay_sides.specs.declared.pass.Reached.{Reached}
-use Rattle.relay_sides.specs.declared.pass.Terms.{Terms}
+use Rattle.relay_sides.specs.declared.pass.RoundProgress.{RoundProgress}
+use Rattle.relay_sides.specs.declared.pass.RoundRules.{RoundRules}
 
 -- what a round may change
-abbrev pub reached_of : Passage → Reached
-reached_of x = record {
+abbrev pub progress_of : Passage → RoundProgress
+progress_of x = record {
   reader = record { used = x.flow.used; finished = x.flow.read_done; stopped = is_some x.lane.reader.stopped };
   writer = record { used = x.flow.turned; finished = x.flow.write_done; stopped = is_some x.lane.writer.stopped };
   moved = x.flow.moved;
@@ -17,7 +17,7 @@ reached_of x = record {
 }
 
 -- the round that goes by these
-abbrev pub round_by : Terms → Passage → Passage
+abbrev pub round_by : RoundRules → Passage → Passage
 round_by t = pass_round t.mark t.hold t.ended t.from_live t.to_live
 
 -- no byte waits before the end of a direction
@@ -26,7 +26,7 @@ is_all_passed l = let b = l.buffers in length b.raw_input == 0 && length b.input
 
 -- There is nothing that a round could do: the direction isn't held and does not become so, its side has not ended, its filters run,
 -- and all bytes have come to its end.
-abbrev pub is_settled : Terms → Passage → Bool
+abbrev pub is_settled : RoundRules → Passage → Bool
 is_settled t x =
     not t.ended && not x.flow.held && nat_lt (length x.lane.buffers.raw_output) t.hold && is_all_passed x.lane && not x.flow.read_done
     && not (is_some x.lane.reader.stopped || is_some x.lane.writer.stopped)
