@@ -13,7 +13,7 @@ loop-link-preserved c =
     let lt : k < s.plain.opened = omega (arith, found.1, c.opened.ensures.count) in
     record {
       few = up-next (LinkCountsAreFew s) c.loop-link.from k c.loop-link.invariant.few (λ j le less. c.requires j (omega (arith, less, lt)) (found.3 j le less))
-          (sym (spent-seen s _ k c.sides.ensures.flows c.sides.ensures.lanes) ∙ sym c.if-has_spent_count.ensures);
+          (sym (spent-seen s c.sides.result.now.links k c.sides.ensures.flows c.sides.ensures.lanes) ∙ sym c.if-has_spent_count.ensures);
       within = omega (arith, lt);
     }
 
