@@ -17,7 +17,7 @@ use Rattle.event_base.specs.Events.{is_active, activated}
 use Rattle.event_base.specs.Turns.{time_at, is_due, wakes, comes_before, wakes_before, timed_out, in_batch, made_earlier, is_first, next_event}
 use Rattle.event_base.specs.Tied.{value_at, place_of}
 use Rattle.event_base.specs.Calls.{fit, next_call, next_fire}
-use Rattle.event_base.specs.Laws.{KeepsPlace, IsQuiet, TimersFireInOrder}
+use Rattle.event_base.specs.BaseLaws.{KeepsPlace, HasNoCallback, TimersFireInOrder}
 use Rattle.event_base.proofs.FireLemmas.{any_from}
 use Rattle.event_base.proofs.RunLemmas.{if-Ok, firing}
 

@@ -15,8 +15,8 @@ use Rattle.event_base.specs.Turns.{time_at, wakes, timed_out}
 use Rattle.event_base.specs.Fires.{hears, is_woken_by, signalled, overflows, is_past_numbers}
 use Rattle.event_base.specs.Calls.{Step, fit, with_event, add_event, call, next_call, next_fire, next_active, loop_break, loop_exit}
 use Rattle.event_base.specs.Freeing.{is_pending}
-use Rattle.event_base.specs.Laws.{IsQuiet, IsUnknown, DeletedIsQuiet, FreedIsGone, IsSetAgain, PersistentIsSetAgain}
-use Rattle.event_base.specs.Runs.{Call, done, Leads, rouses}
+use Rattle.event_base.specs.BaseLaws.{HasNoCallback, IsUnknown, DeletedIsQuiet, FreedIsGone, IsSetAgain, PersistentIsSetAgain}
+use Rattle.event_base.specs.CallsInARow.{BaseCall, done, LeadsTo, rouses}
 use Rattle.event_base.proofs.TiedLemmas.{slice_get-set_same, slice_get-set_other, slice_get-within, slice_get-push}
 use Rattle.event_base.proofs.CallLemmas.{called_base}
 
@@ -128,9 +128,9 @@ roused gone k event (inl other) q live e one is_live rests = (let yes : (event =
 roused gone k event (inr g) q live e one is_live rests = (let was = rests.freed g in cc)
 
 -- an event that rests goes on resting over a call that doesn't rouse it, and a freed one over any call
-pub rests-done : (gone : Bool) (k : ℕ) (c : Call) (b next : BaseValue) → (rouses k c ≡ false) ⊎ (gone ≡ true) → done c b ≡ Ok next →
+pub rests-done : (gone : Bool) (k : ℕ) (c : BaseCall) (b next : BaseValue) → (rouses k c ≡ false) ⊎ (gone ≡ true) → done c b ≡ Ok next →
     RestsAt gone k b.events → RestsAt gone k next.events
-rests-done gone k (Call.NewEvent persist number) b next may is r =
+rests-done gone k (BaseCall.NewEvent persist number) b next may is r =
     let new = made persist number _ in
     let same : record b { events = b.events ++ new ∷ [] } ≡ next = if-Ok (nat_lt (length b.events) (2 ^ 32))
     (record b { events = b.events ++ new ∷ [] }) next Spent is in
@@ -140,7 +140,7 @@ rests-done gone k (Call.NewEvent persist number) b next may is r =
           ∙ r.there;
       rests = r.rests;
     })
-rests-done gone k (Call.SetPriority event priority) b next may is r =
+rests-done gone k (BaseCall.SetPriority event priority) b next may is r =
     let f = found (slice_get b.events event) _ next is in
     let x : Event = record (f.event) { priority = priority } in
     let same : with_event b event x ≡ next = Ok-same (with_event b event x) next (if-not-Ok (is_active f.event)
@@ -152,19 +152,19 @@ rests-done gone k (Call.SetPriority event priority) b next may is r =
       active = ap (λ (y : Event). y.active) (sym one) ∙ rests.active;
       freed = λ g. ap (λ (y : Event). y.freed) (sym one) ∙ rests.freed g;
     })))
-rests-done gone k (Call.AddEvent event None) b next may is r =
+rests-done gone k (BaseCall.AddEvent event None) b next may is r =
     let f = found (slice_get b.events event) _ next is in
     let same : with_event b event (added None f.event) ≡ next = Ok-same _ next f.goes in
     subst (λ (y : BaseValue). RestsAt gone k y.events) same (rests-set gone k event b.events (added None f.event) r
     (λ e there rests q. absurd (roused gone k event may q f.event e (cc (there, f.there)) f.live rests)))
-rests-done gone k (Call.AddEvent event (Some delay)) b next may is r =
+rests-done gone k (BaseCall.AddEvent event (Some delay)) b next may is r =
     let f = found (slice_get b.events event) _ next is in
     let timeout : Timeout = record { deadline = b.time + delay; delay = delay; order = b.last_adding + 1 } in
     let then : BaseValue = record (with_event b event (added (Some timeout) f.event)) { last_adding = b.last_adding + 1 } in
     let same : then ≡ next = if-Ok (fit b.last_adding 1) then next Spent f.goes in
     subst (λ (y : BaseValue). RestsAt gone k y.events) same (rests-set gone k event b.events (added (Some timeout) f.event) r
     (λ e there rests q. absurd (roused gone k event may q f.event e (cc (there, f.there)) f.live rests)))
-rests-done gone k (Call.DelEvent event) b next may is r =
+rests-done gone k (BaseCall.DelEvent event) b next may is r =
     let f = found (slice_get b.events event) _ next is in
     let same : with_event b event (deleted f.event) ≡ next = Ok-same _ next f.goes in
     subst (λ (y : BaseValue). RestsAt gone k y.events) same (rests-set gone k event b.events (deleted f.event) r
@@ -174,7 +174,7 @@ rests-done gone k (Call.DelEvent event) b next may is r =
       active = refl;
       freed = λ g. ap (λ (x : Event). x.freed) (sym one) ∙ rests.freed g;
     })))
-rests-done gone k (Call.FreeEvent event) b next may is r =
+rests-done gone k (BaseCall.FreeEvent event) b next may is r =
     let f = found (slice_get b.events event) _ next is in
     let same : with_event b event (freed_event f.event) ≡ next = Ok-same _ next f.goes in
     subst (λ (y : BaseValue). RestsAt gone k y.events) same (rests-set gone k event b.events (freed_event f.event) r
@@ -184,7 +184,7 @@ rests-done gone k (Call.FreeEvent event) b next may is r =
       active = refl;
       freed = λ g. refl;
     }))
-rests-done gone k (Call.Activate event what) b next may is r =
+rests-done gone k (BaseCall.Activate event what) b next may is r =
     let f = found (slice_get b.events event) _ next is in
     let woken = cond (is_active f.event) 0 1 in
     let x = activated what b.next_activation 1 0 f.event in
@@ -192,7 +192,7 @@ rests-done gone k (Call.Activate event what) b next may is r =
     let same : then ≡ next = if-Ok (fit b.next_activation woken) then next Spent f.goes in
     subst (λ (y : BaseValue). RestsAt gone k y.events) same (rests-set gone k event b.events x r
     (λ e there rests q. absurd (roused gone k event may q f.event e (cc (there, f.there)) f.live rests)))
-rests-done gone k (Call.Signal number count) b next may is r = split (count == 0) refl
+rests-done gone k (BaseCall.Signal number count) b next may is r = split (count == 0) refl
   where
     woken : ℕ
     woken = count_by (is_woken_by number) b.events
@@ -214,7 +214,7 @@ rests-done gone k (Call.Signal number count) b next may is r = split (count == 0
           there = signalled-still number count b.events b.next_activation k r.event r.there r.rests.pending;
           rests = r.rests;
         })
-rests-done gone k (Call.BeginTurn now) b next may is r =
+rests-done gone k (BaseCall.BeginTurn now) b next may is r =
     let time = time_at b.time now in
     let events = map (timed_out time b.next_activation b.events) b.events in
     let same = if-Ok (fit b.next_activation (count_by (wakes time) b.events)) _ next Spent is in
@@ -225,15 +225,15 @@ rests-done gone k (Call.BeginTurn now) b next may is r =
           ∙ ap Some (timed_out-still time b.next_activation b.events r.event r.rests.timeout);
       rests = r.rests;
     })
-rests-done gone k Call.NextActive b next may is r = next-rests gone k b next (next_call b) r is
-rests-done gone k Call.LoopBreak b next may is r =
+rests-done gone k BaseCall.NextActive b next may is r = next-rests gone k b next (next_call b) r is
+rests-done gone k BaseCall.LoopBreak b next may is r =
     (let same = Ok-same (loop_break b) next is in subst (λ (y : BaseValue). RestsAt gone k y.events) same r)
-rests-done gone k Call.LoopExit b next may is r =
+rests-done gone k BaseCall.LoopExit b next may is r =
     (let same = Ok-same (loop_exit b) next is in subst (λ (y : BaseValue). RestsAt gone k y.events) same r)
 
 -- none of the calls rouses it, or it was freed
-pub rests-led : (gone : Bool) (k : ℕ) (calls : List Call) (b last : BaseValue) → (list_any (rouses k) calls ≡ false) ⊎ (gone ≡ true)
-    → Leads b calls last → RestsAt gone k b.events → RestsAt gone k last.events
+pub rests-led : (gone : Bool) (k : ℕ) (calls : List BaseCall) (b last : BaseValue) → (list_any (rouses k) calls ≡ false) ⊎ (gone ≡ true)
+    → LeadsTo b calls last → RestsAt gone k b.events → RestsAt gone k last.events
 rests-led gone k [] b last may led r = subst (λ (x : BaseValue). RestsAt gone k x.events) led r
 rests-led gone k (c ∷ cs) b last may led r =
     rests-led gone k cs led.0 last (⊎_elim (λ h. inl (or_parts (rouses k c) (list_any (rouses k) cs) h).1) (λ g. inr g) may) led.2
@@ -281,7 +281,7 @@ firing b k flags is = at_call (next_call b) refl is
     at_call None is_next h = cc
     at_call (Some j) is_next h = at_event j (slice_get b.events j) is_next refl h
 
-rests-quiet : (gone : Bool) (k : ℕ) (b : BaseValue) → RestsAt gone k b.events → IsQuiet k b
+rests-quiet : (gone : Bool) (k : ℕ) (b : BaseValue) → RestsAt gone k b.events → HasNoCallback k b
 rests-quiet gone k b r flags is =
     let f = firing b k flags is in
     let none = r.rests.active in

@@ -10,8 +10,8 @@ pub mod Fires
 pub mod Faults
 pub mod Calls
 pub mod Freeing
-pub mod Runs
-pub mod Laws
+pub mod CallsInARow
+pub mod BaseLaws
 pub mod Tied
 pub mod Rousing
 pub mod BaseView

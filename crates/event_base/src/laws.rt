@@ -1,5 +1,5 @@
 // What holds over any calls on a base, by what each call's clauses say.
-ghost use Rattle.event_base.specs.Laws.{DeletedIsQuiet, FreedIsGone, PersistentIsSetAgain, TimersFireInOrder};
+ghost use Rattle.event_base.specs.BaseLaws.{DeletedIsQuiet, FreedIsGone, PersistentIsSetAgain, TimersFireInOrder};
 
 /// A deleted event has no callback until it is added or made active by its number.
 ///

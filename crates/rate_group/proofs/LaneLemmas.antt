@@ -14,14 +14,14 @@ use Rattle.token_bucket.specs.BucketLaws.{Kept, after_beat, after_beats, kept_at
 use Rattle.token_bucket.proofs.BucketLemmas.{level-is_least, moved-short, refilled-is, short_after}
 use Rattle.rate_group.specs.GroupValue.{Lane}
 use Rattle.rate_group.specs.Steps.{lane_less, lane_refilled, first_lane, least_of}
-use Rattle.rate_group.specs.GroupLaws.{Step, Refills, Spends, KeptLane, after_step, after_steps, made_lane, WithinShares, beat_of, beats_of, GroupLevelIsLeast, GroupKeepsRate}
+use Rattle.rate_group.specs.GroupLaws.{GroupCall, Refills, Spends, KeptLane, after_step, after_steps, made_lane, WithinShares, beat_of_call, beats_of, GroupLevelIsLeast, GroupKeepsRate}
 
 -- as a bucket keeps it
 abbrev pub bucket_of : KeptLane → Kept
 bucket_of x = record { tick = x.tick; level = x.lane.level }
 
 -- a direction of a group has the level of a bucket with the same calls
-pub lane-follows : (l : Limit) (least : ℕ) (x : KeptLane) (ss : List Step) →
+pub lane-follows : (l : Limit) (least : ℕ) (x : KeptLane) (ss : List GroupCall) →
     bucket_of (after_steps l least x ss) ≡ after_beats l (bucket_of x) (beats_of ss)
 lane-follows l least x [] = refl
 lane-follows l least x (Refills now ∷ ss) = lane-follows l least (after_step l least x (Refills now)) ss
@@ -109,7 +109,7 @@ refilled-owes l least n x some h = record {
         omega (arith, k, q, some)
 
 -- over lists of calls
-pub steps-owe : (l : Limit) (least : ℕ) (x : KeptLane) (ss : List Step) → 0 < least → Owes l least x.lane → WithinShares l least x ss →
+pub steps-owe : (l : Limit) (least : ℕ) (x : KeptLane) (ss : List GroupCall) → 0 < least → Owes l least x.lane → WithinShares l least x ss →
     Owes l least (after_steps l least x ss).lane
 steps-owe l least x [] some h w = h
 steps-owe l least x (Refills now ∷ ss) some h w =
@@ -117,7 +117,7 @@ steps-owe l least x (Refills now ∷ ss) some h w =
 steps-owe l least x (Spends count n ∷ ss) some h w =
     steps-owe l least (after_step l least x (Spends count n)) ss some (less-owes l least count n x.lane some h w.0) w.1
 
-shares-split : (l : Limit) (least : ℕ) (x : KeptLane) (before ss : List Step) → WithinShares l least x (before ++ ss) →
+shares-split : (l : Limit) (least : ℕ) (x : KeptLane) (before ss : List GroupCall) → WithinShares l least x (before ++ ss) →
     WithinShares l least x before × WithinShares l least (after_steps l least x before) ss
 shares-split l least x [] ss w = (tt, w)
 shares-split l least x (Refills now ∷ before) ss w = shares-split l least (after_step l least x (Refills now)) before ss w
@@ -126,7 +126,7 @@ shares-split l least x (Spends count n ∷ before) ss w =
     ((w.0, k.0), k.1)
 
 -- what is moved from a state that owes less than the least share
-stretch : (l : Limit) (least : ℕ) (x : KeptLane) (ss : List Step) → 0 < least → Owes l least x.lane → WithinShares l least x ss →
+stretch : (l : Limit) (least : ℕ) (x : KeptLane) (ss : List GroupCall) → 0 < least → Owes l least x.lane → WithinShares l least x ss →
     moved_over (beats_of ss) ≤ l.burst + l.rate * ((after_steps l least x ss).tick - x.tick) + (least - 1)
 stretch l least x ss some h w =
     let follows = lane-follows l least x ss in

@@ -13,9 +13,9 @@ use Rattle.deferred_cb.specs.declared.reasons.Reasons.{Reasons}
 use Rattle.deferred_cb.specs.DueValue.{DueValue}
 use Rattle.deferred_cb.specs.DueCalls as by_number
 use Rattle.relay_model.specs.Due.{Due, Reason, nothing_due, joined, joined_flags, with_reason, reason_where, event_reason, reasons}
-use Rattle.relay_waits.specs.Numbered.{side_of}
-use Rattle.relay_waits.specs.DueSides.{due_of, dues, reason_of, left_to_call}
-use Rattle.relay_waits.specs.DueLaws.{ReasonsJoin, SidesAreForgotten, BatchesAreFired, DueCall, Does, MayLead, seen, Waiting, DueIsTheModels}
+use Rattle.relay_waits.specs.Numbered.{side_numbered}
+use Rattle.relay_waits.specs.DueSides.{due_of, dues, reason_of_call, left_to_call}
+use Rattle.relay_waits.specs.DueLaws.{ReasonsJoin, SidesAreForgotten, BatchesAreFired, DueCall, DoesCall, MayLead, seen_by_side, Waiting, DueIsTheModels}
 use Rattle.relay_waits.proofs.NumberLemmas.{same-number, side-of_number}
 
 flags-joined : (o : Option Flags) (f : Flags) → option_map (λ (g : Flags). g.0) (by_number.joined_flags o f) ≡
@@ -62,21 +62,21 @@ pub sides-are_forgotten : SidesAreForgotten
 sides-are_forgotten e es calls = (
   filter-map due_of (λ (x : by_number.Entry). not (nat_eq (number e) x.0)) (λ (d : Due). not (same_end d.side e)) es
       (λ x. ap not (same-number e x.0)),
-  filter-map reason_of (λ (x : by_number.Call). not (nat_eq (number e) x.0)) (λ (r : Reason). not (same_end r.0 e)) calls
+  filter-map reason_of_call (λ (x : by_number.Call). not (nat_eq (number e) x.0)) (λ (r : Reason). not (same_end r.0 e)) calls
       (λ x. ap not (same-number e x.0)),
 )
 
-one-reason : (n : ℕ) (y : Why) (b : Bool) → left_to_call (by_number.call_for n (then_some b y)) ≡ reason_where b (side_of n) y
+one-reason : (n : ℕ) (y : Why) (b : Bool) → left_to_call (by_number.call_for n (then_some b y)) ≡ reason_where b (side_numbered n) y
 one-reason n y true = refl
 one-reason n y false = refl
 
 one-event : (n : ℕ) (o : Option Flags) → left_to_call (by_number.call_for n (option_map why.Event o)) ≡
-    event_reason (side_of n) (option_map (λ (f : Flags). f.0) o)
+    event_reason (side_numbered n) (option_map (λ (f : Flags). f.0) o)
 one-event n None = refl
 one-event n (Some f) = refl
 
 left-append : (xs ys : List by_number.Call) → left_to_call (xs ++ ys) ≡ left_to_call xs ++ left_to_call ys
-left-append xs ys = map-append reason_of xs ys
+left-append xs ys = map-append reason_of_call xs ys
 
 -- two lists of calls, one behind the other
 both : (xs ys : List by_number.Call) (rs ts : List Reason) → left_to_call xs ≡ rs → left_to_call ys ≡ ts →
@@ -103,7 +103,7 @@ of_parts : {d e : List Due} {r s : List Reason} → d ≡ e → r ≡ s → wait
 of_parts f g = (λ i. waits (f i) (g i))
 
 -- a call by number is one of the model
-leads : (c : DueCall) (old new : DueValue) → Does c old new → MayLead c (seen old) (seen new)
+leads : (c : DueCall) (old new : DueValue) → DoesCall c old new → MayLead c (seen_by_side old) (seen_by_side new)
 leads (DueCall.Scheduled e y) old new does = of_parts (ap dues does.0 ∙ reasons-join e y old.pending) (ap left_to_call does.1)
 leads (DueCall.Forgot e) old new does =
     let gone = sides-are_forgotten e old.pending old.batch in
@@ -113,5 +113,5 @@ leads (DueCall.TookTurn answer) old new does =
     (ap dues does.0, ap left_to_call does.1 ∙ left-append (option_to_list answer) new.batch)
 
 pub due-is_the_models : DueIsTheModels
-due-is_the_models [] old new led = ap seen led
-due-is_the_models (c ∷ cs) old new led = (seen led.0, leads c old led.0 led.1, due-is_the_models cs led.0 new led.2)
+due-is_the_models [] old new led = ap seen_by_side led
+due-is_the_models (c ∷ cs) old new led = (seen_by_side led.0, leads c old led.0 led.1, due-is_the_models cs led.0 new led.2)

@@ -6,7 +6,7 @@ use Rattle.ev_types.specs.declared.side.Side.{Side}
 use Rattle.ev_types.specs.declared.side.Side.TheVariants.{In, Out}
 use Rattle.ev_types.specs.declared.side.SideId.{SideId}
 use Rattle.ev_types.specs.Sides.{half, number, same_side, same_end}
-use Rattle.relay_waits.specs.Numbered.{side_of}
+use Rattle.relay_waits.specs.Numbered.{side_numbered}
 
 -- two tests that hold together are one
 same-tests : (x y a b : ℕ) → (x ≡ y → a ≡ b) → (a ≡ b → x ≡ y) → (x == y) ≡ (a == b)
@@ -45,7 +45,7 @@ named l n Out false h =
     odd q = (let yes = eq-eqb (2 * (n / 2)) n q in cc)
 
 -- a side has this number exactly where it is the side of the number
-pub same-number : (e : SideId) (n : ℕ) → same_end (side_of n) e ≡ nat_eq (number e) n
+pub same-number : (e : SideId) (n : ℕ) → same_end (side_numbered n) e ≡ nat_eq (number e) n
 same-number e n = named e.link n e.side (2 * (n / 2) == n) refl
 
 halves : (s : Side) (l : ℕ) (even : Bool) → (2 * ((2 * l + half s) / 2) == 2 * l + half s) ≡ even → cond even In Out ≡ s
@@ -58,7 +58,7 @@ abbrev named_side : ℕ → Side → SideId
 named_side l s = record { link = l; side = s }
 
 -- the side of a side's number is that side
-pub side-of_number : (e : SideId) → side_of (number e) ≡ e
+pub side-of_number : (e : SideId) → side_numbered (number e) ≡ e
 side-of_number e =
     let link : number e / 2 ≡ e.link = links e.side e.link in
     let half = halves e.side e.link (2 * (number e / 2) == number e) refl in

@@ -11,24 +11,24 @@ use Rattle.min_timer.specs.declared.timers.Timer as by_number
 use Rattle.min_timer.specs.Queue.{is_timer_of, without, with_timer, after_due, due_keys}
 use Rattle.relay_model.specs.Plain.{Timer, placed, without_timer}
 use Rattle.relay_model.specs.Rates.{least_with}
-use Rattle.relay_waits.specs.Numbered.{side_of}
-use Rattle.relay_waits.specs.TimerSides.{timer_of, timers_of}
-use Rattle.relay_waits.specs.TimerLaws.{TimersArePlaced, IsHandleOf, HasNone, TimersAreCancelled, Rises, after_all_due, DueTimersAreTaken, DueAreTheModels, RisingStays, FirstIsEarliest}
+use Rattle.relay_waits.specs.Numbered.{side_numbered}
+use Rattle.relay_waits.specs.TimerSides.{timer_of_side, timers_of}
+use Rattle.relay_waits.specs.TimerLaws.{TimersArePlaced, IsHandleOf, HasNone, TimersAreCancelled, DeadlinesRise, after_all_due, DueTimersAreTaken, DueAreTheModels, RisingStays, FirstIsEarliest}
 use Rattle.relay_waits.proofs.NumberLemmas.{same-number}
 
 pub timers-are_placed : TimersArePlaced
 timers-are_placed t [] = refl
 timers-are_placed t (x ∷ xs) = split (timers-are_placed t xs) (nat_lt t.deadline x.deadline)
   where
-    split : timers_of (with_timer t xs) ≡ placed (timer_of t) (timers_of xs) → (b : Bool) →
+    split : timers_of (with_timer t xs) ≡ placed (timer_of_side t) (timers_of xs) → (b : Bool) →
         timers_of (cond b (t ∷ x ∷ xs) (x ∷ with_timer t xs)) ≡
-        cond b (timer_of t ∷ timer_of x ∷ timers_of xs) (timer_of x ∷ placed (timer_of t) (timers_of xs))
+        cond b (timer_of_side t ∷ timer_of_side x ∷ timers_of xs) (timer_of_side x ∷ placed (timer_of_side t) (timers_of xs))
     split rest true = refl
-    split rest false = ap (λ ys. timer_of x ∷ ys) rest
+    split rest false = ap (λ ys. timer_of_side x ∷ ys) rest
 
 -- a timer stays by its handle exactly where it stays by its side
 stays : (handle : TimerKey) (e : SideId) (t : by_number.Timer) → is_timer_of handle t ≡ nat_eq (number e) t.key →
-    not (same_end (side_of t.key) e) ≡ not (is_timer_of handle t)
+    not (same_end (side_numbered t.key) e) ≡ not (is_timer_of handle t)
 stays handle e t is = ap not (same-number e t.key ∙ sym is)
 
 cancelled : (handle : TimerKey) (e : SideId) (ts : List by_number.Timer) → IsHandleOf handle e ts →
@@ -36,21 +36,21 @@ cancelled : (handle : TimerKey) (e : SideId) (ts : List by_number.Timer) → IsH
 cancelled handle e [] is = refl
 cancelled handle e (t ∷ ts) is =
     split (cancelled handle e ts (All-tail (λ t. is_timer_of handle t ≡ nat_eq (number e) t.key) t ts is)) (not (is_timer_of handle t)) ∙ ap
-    (λ b. cond b (timer_of t ∷ without_timer e (timers_of ts)) (without_timer e (timers_of ts)))
+    (λ b. cond b (timer_of_side t ∷ without_timer e (timers_of ts)) (without_timer e (timers_of ts)))
     (sym (stays handle e t (All-head (λ t. is_timer_of handle t ≡ nat_eq (number e) t.key) t ts is)))
   where
     split : timers_of (without handle ts) ≡ without_timer e (timers_of ts) → (b : Bool) →
         timers_of (cond b (t ∷ without handle ts) (without handle ts)) ≡
-        cond b (timer_of t ∷ without_timer e (timers_of ts)) (without_timer e (timers_of ts))
-    split rest true = ap (λ ys. timer_of t ∷ ys) rest
+        cond b (timer_of_side t ∷ without_timer e (timers_of ts)) (without_timer e (timers_of ts))
+    split rest true = ap (λ ys. timer_of_side t ∷ ys) rest
     split rest false = rest
 
 none-of : (e : SideId) (ts : List by_number.Timer) → HasNone e ts → without_timer e (timers_of ts) ≡ timers_of ts
 none-of e [] none = refl
 none-of e (t ∷ ts) none =
-    ap (λ b. cond (not b) (timer_of t ∷ without_timer e (timers_of ts)) (without_timer e (timers_of ts)))
+    ap (λ b. cond (not b) (timer_of_side t ∷ without_timer e (timers_of ts)) (without_timer e (timers_of ts)))
     (same-number e t.key ∙ All-head (λ (t : by_number.Timer). nat_eq (number e) t.key ≡ false) t ts none)
-    ∙ ap (λ ys. timer_of t ∷ ys) (none-of e ts (All-tail (λ (t : by_number.Timer). nat_eq (number e) t.key ≡ false) t ts none))
+    ∙ ap (λ ys. timer_of_side t ∷ ys) (none-of e ts (All-tail (λ (t : by_number.Timer). nat_eq (number e) t.key ≡ false) t ts none))
 
 pub timers-are_cancelled : TimersAreCancelled
 timers-are_cancelled = record { one = cancelled; none = none-of }
@@ -64,10 +64,10 @@ none-due now d (t ∷ ts) late all =
     let low = all.0 in
     let later : nat_lt now t.deadline ≡ true = lt-ltb now t.deadline (omega (arith, late, low)) in
     let not_due = lt-leb t.deadline now (omega (arith, late, low)) in (
-      ap (λ b. cond b (timer_of t ∷ filter (λ x. nat_le x.deadline now) (timers_of ts)) (filter (λ x. nat_le x.deadline now)
+      ap (λ b. cond b (timer_of_side t ∷ filter (λ x. nat_le x.deadline now) (timers_of ts)) (filter (λ x. nat_le x.deadline now)
           (timers_of ts))) not_due ∙ rest.0,
-      ap (λ b. cond b (timer_of t ∷ filter (λ x. nat_lt now x.deadline) (timers_of ts)) (filter (λ x. nat_lt now x.deadline)
-          (timers_of ts))) later ∙ ap (λ ys. timer_of t ∷ ys) rest.1,
+      ap (λ b. cond b (timer_of_side t ∷ filter (λ x. nat_lt now x.deadline) (timers_of ts)) (filter (λ x. nat_lt now x.deadline)
+          (timers_of ts))) later ∙ ap (λ ys. timer_of_side t ∷ ys) rest.1,
     )
 
 pub due-are_the_models : DueAreTheModels
@@ -75,10 +75,10 @@ due-are_the_models now [] rises = record { taken = refl; left = refl; over = λ 
 due-are_the_models now (t ∷ ts) rises = split (due-are_the_models now ts rises.1) (nat_le t.deadline now) refl
   where
     due : Bool → List Timer
-    due b = cond b (timer_of t ∷ filter (λ x. nat_le x.deadline now) (timers_of ts)) (filter (λ x. nat_le x.deadline now) (timers_of ts))
+    due b = cond b (timer_of_side t ∷ filter (λ x. nat_le x.deadline now) (timers_of ts)) (filter (λ x. nat_le x.deadline now) (timers_of ts))
 
     later : Bool → List Timer
-    later b = cond b (timer_of t ∷ filter (λ x. nat_lt now x.deadline) (timers_of ts)) (filter (λ x. nat_lt now x.deadline)
+    later b = cond b (timer_of_side t ∷ filter (λ x. nat_lt now x.deadline) (timers_of ts)) (filter (λ x. nat_lt now x.deadline)
         (timers_of ts))
 
     split : DueTimersAreTaken now ts → (b : Bool) → nat_le t.deadline now ≡ b → DueTimersAreTaken now (t ∷ ts)
@@ -86,8 +86,8 @@ due-are_the_models now (t ∷ ts) rises = split (due-are_the_models now ts rises
         let le = leb-true t.deadline now h in
         let not_later : nat_lt now t.deadline ≡ false = le-ltb now t.deadline le in
         record {
-          taken = ap (λ b. map side_of (cond b (t.key ∷ due_keys now ts) [])) h
-              ∙ ap (λ ys. side_of t.key ∷ ys) rest.taken
+          taken = ap (λ b. map side_numbered (cond b (t.key ∷ due_keys now ts) [])) h
+              ∙ ap (λ ys. side_numbered t.key ∷ ys) rest.taken
               ∙ ap (λ b. map (λ x. x.side) (due b)) (sym h);
           left = ap (λ b. timers_of (cond b (after_all_due now ts) (t ∷ ts))) h ∙ rest.left ∙ ap later (sym not_later);
           over = λ none. absurd (
@@ -98,10 +98,10 @@ due-are_the_models now (t ∷ ts) rises = split (due-are_the_models now ts rises
         let none = none-due now t.deadline ts (leb-false t.deadline now h) rises.0 in
         let is_later : nat_lt now t.deadline ≡ true = lt-ltb now t.deadline (leb-false t.deadline now h) in
         record {
-          taken = ap (λ b. map side_of (cond b (t.key ∷ due_keys now ts) [])) h
+          taken = ap (λ b. map side_numbered (cond b (t.key ∷ due_keys now ts) [])) h
               ∙ sym (ap (λ b. map (λ x. x.side) (due b)) h ∙ ap (λ ys. map (λ x. x.side) ys) none.0);
           left = ap (λ b. timers_of (cond b (after_all_due now ts) (t ∷ ts))) h
-              ∙ sym (ap later is_later ∙ ap (λ ys. timer_of t ∷ ys) none.1);
+              ∙ sym (ap later is_later ∙ ap (λ ys. timer_of_side t ∷ ys) none.1);
           over = λ _. ap (λ b. cond b (after_all_due now ts) (t ∷ ts)) h;
           next = ap (λ b. after_all_due now (cond b ts (t ∷ ts))) h;
         }
@@ -122,11 +122,11 @@ all-lower : (c d : ℕ) (ts : List by_number.Timer) → c ≤ d → AllByRecursi
 all-lower c d [] le all = tt
 all-lower c d (t ∷ ts) le all = (let here = all.0 in (omega (arith, le, here), all-lower c d ts le all.1))
 
-rises-placed : (t : by_number.Timer) (ts : List by_number.Timer) → Rises ts → Rises (with_timer t ts)
+rises-placed : (t : by_number.Timer) (ts : List by_number.Timer) → DeadlinesRise ts → DeadlinesRise (with_timer t ts)
 rises-placed t [] rises = (tt, tt)
 rises-placed t (x ∷ xs) rises = split (rises-placed t xs rises.1) (nat_lt t.deadline x.deadline) refl
   where
-    split : Rises (with_timer t xs) → (b : Bool) → nat_lt t.deadline x.deadline ≡ b → Rises (cond b (t ∷ x ∷ xs) (x ∷ with_timer t xs))
+    split : DeadlinesRise (with_timer t xs) → (b : Bool) → nat_lt t.deadline x.deadline ≡ b → DeadlinesRise (cond b (t ∷ x ∷ xs) (x ∷ with_timer t xs))
     split rest true h =
         let lt = ltb-true t.deadline x.deadline h in
         ((omega (arith, lt), all-lower t.deadline x.deadline xs (omega (arith, lt)) rises.0), rises)
@@ -142,19 +142,19 @@ all-without d handle (t ∷ ts) all = split (all-without d handle ts all.1) (not
     split rest true = (all.0, rest)
     split rest false = rest
 
-rises-cancelled : (handle : TimerKey) (ts : List by_number.Timer) → Rises ts → Rises (without handle ts)
+rises-cancelled : (handle : TimerKey) (ts : List by_number.Timer) → DeadlinesRise ts → DeadlinesRise (without handle ts)
 rises-cancelled handle [] rises = tt
 rises-cancelled handle (t ∷ ts) rises = split (rises-cancelled handle ts rises.1) (not (is_timer_of handle t))
   where
-    split : Rises (without handle ts) → (b : Bool) → Rises (cond b (t ∷ without handle ts) (without handle ts))
+    split : DeadlinesRise (without handle ts) → (b : Bool) → DeadlinesRise (cond b (t ∷ without handle ts) (without handle ts))
     split rest true = (all-without t.deadline handle ts rises.0, rest)
     split rest false = rest
 
-rises-taken : (now : ℕ) (ts : List by_number.Timer) → Rises ts → Rises (after_due now ts)
+rises-taken : (now : ℕ) (ts : List by_number.Timer) → DeadlinesRise ts → DeadlinesRise (after_due now ts)
 rises-taken now [] rises = tt
 rises-taken now (t ∷ ts) rises = split (nat_le t.deadline now)
   where
-    split : (b : Bool) → Rises (cond b ts (t ∷ ts))
+    split : (b : Bool) → DeadlinesRise (cond b ts (t ∷ ts))
     split true = rises.1
     split false = rises
 

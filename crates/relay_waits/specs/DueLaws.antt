@@ -31,12 +31,12 @@ pub data DueCall : Type 0 where
   TookTurn : Option by_number.Call → DueCall  -- with its answer
 
 -- What a call does to what is due by number: these are its clauses.
-abbrev pub Does : DueCall → DueValue → DueValue → Type 0
-Does (DueCall.Scheduled e y) old new = (new.pending ≡ by_number.with_reason (number e) y old.pending) × (new.batch ≡ old.batch)
-Does (DueCall.Forgot e) old new =
+abbrev pub DoesCall : DueCall → DueValue → DueValue → Type 0
+DoesCall (DueCall.Scheduled e y) old new = (new.pending ≡ by_number.with_reason (number e) y old.pending) × (new.batch ≡ old.batch)
+DoesCall (DueCall.Forgot e) old new =
     (new.pending ≡ by_number.without (number e) old.pending) × (new.batch ≡ by_number.without_calls (number e) old.batch)
-Does DueCall.Began old new = (new.pending ≡ []) × (new.batch ≡ by_number.all_calls old.pending)
-Does (DueCall.TookTurn answer) old new = (new.pending ≡ old.pending) × (old.batch ≡ option_to_list answer ++ new.batch)
+DoesCall DueCall.Began old new = (new.pending ≡ []) × (new.batch ≡ by_number.all_calls old.pending)
+DoesCall (DueCall.TookTurn answer) old new = (new.pending ≡ old.pending) × (old.batch ≡ option_to_list answer ++ new.batch)
 
 -- the model's pending entries and what it has to fire
 pub record Waiting : Type 0 where
@@ -44,8 +44,8 @@ pub record Waiting : Type 0 where
   pub left : List Reason
 
 -- what the model sees
-abbrev pub seen : DueValue → Waiting
-seen d = record { due = dues d.pending; left = left_to_call d.batch }
+abbrev pub seen_by_side : DueValue → Waiting
+seen_by_side d = record { due = dues d.pending; left = left_to_call d.batch }
 
 -- What a call does in the model
 abbrev pub MayLead : DueCall → Waiting → Waiting → Type 0
@@ -57,7 +57,7 @@ MayLead (DueCall.TookTurn answer) old new = (new.due ≡ old.due) × (old.left �
 -- calls in a row, by number and in the model
 abbrev pub DoAll : List DueCall → DueValue → DueValue → Type 0
 DoAll [] old new = old ≡ new
-DoAll (c ∷ cs) old new = (mid : DueValue) × Does c old mid × DoAll cs mid new
+DoAll (c ∷ cs) old new = (mid : DueValue) × DoesCall c old mid × DoAll cs mid new
 
 abbrev pub LeadOn : List DueCall → Waiting → Waiting → Type 0
 LeadOn [] old new = old ≡ new
@@ -65,4 +65,4 @@ LeadOn (c ∷ cs) old new = (mid : Waiting) × MayLead c old mid × LeadOn cs mi
 
 -- Whatever calls are made, what is pending and what the batch has left is what the model has due and has to fire.
 abbrev pub DueIsTheModels : Type 0
-DueIsTheModels = (calls : List DueCall) (old new : DueValue) → DoAll calls old new → LeadOn calls (seen old) (seen new)
+DueIsTheModels = (calls : List DueCall) (old new : DueValue) → DoAll calls old new → LeadOn calls (seen_by_side old) (seen_by_side new)

@@ -10,17 +10,17 @@ use Rattle.event_base.specs.Calls.{set_priority, add_event, del_event, activate,
 use Rattle.event_base.specs.Turns.{time_at, wakes, comes_before}
 use Rattle.event_base.specs.Tied.{value_at, place_of}
 use Rattle.event_base.specs.Freeing.{free_event, is_pending}
-use Rattle.event_base.specs.Runs.{Call, Leads, rouses}
+use Rattle.event_base.specs.CallsInARow.{BaseCall, LeadsTo, rouses}
 
 -- no callback of the event is next
-abbrev pub IsQuiet : ℕ → BaseValue → Type 0
-IsQuiet k b = (flags : ℕ) → next_fire b ≢ Some (k, flags)
+abbrev pub HasNoCallback : ℕ → BaseValue → Type 0
+HasNoCallback k b = (flags : ℕ) → next_fire b ≢ Some (k, flags)
 
 -- A deleted event is not pending, and no callback of it is next, until it is added or made active by its number: no
 -- signal, no turn and no callback of another event rouses it.
 abbrev pub DeletedIsQuiet : Type 0
-DeletedIsQuiet = (before deleted last : BaseValue) (k : ℕ) (calls : List Call) → del_event before k ≡ Ok deleted
-    → Leads deleted calls last → list_any (rouses k) calls ≡ false → IsQuiet k last × (is_pending last k ≢ Ok true)
+DeletedIsQuiet = (before deleted last : BaseValue) (k : ℕ) (calls : List BaseCall) → del_event before k ≡ Ok deleted
+    → LeadsTo deleted calls last → list_any (rouses k) calls ≡ false → HasNoCallback k last × (is_pending last k ≢ Ok true)
 
 -- no call finds the event
 pub record IsUnknown (k : ℕ) (b : BaseValue) : Type 0 where
@@ -33,8 +33,8 @@ pub record IsUnknown (k : ℕ) (b : BaseValue) : Type 0 where
 
 -- Whatever calls follow, a freed event has no callback more, and no call finds it.
 abbrev pub FreedIsGone : Type 0
-FreedIsGone = (before freed last : BaseValue) (k : ℕ) (calls : List Call) → free_event before k ≡ Ok freed
-    → Leads freed calls last → IsQuiet k last × IsUnknown k last
+FreedIsGone = (before freed last : BaseValue) (k : ℕ) (calls : List BaseCall) → free_event before k ≡ Ok freed
+    → LeadsTo freed calls last → HasNoCallback k last × IsUnknown k last
 
 -- To which timeout one is set again at a time, as a callback starts with these flags: a delay behind its deadline where it fired
 -- and that is not past, and else a delay after now. Its order number of adding is this one.
@@ -46,14 +46,14 @@ pub record IsSetAgain (time number flags : ℕ) (old new : Timeout) : Type 0 whe
   pub order : new.order ≡ number
 
 -- the event is as pending as another, with this timeout
-abbrev pub Waits : Event → Timeout → Event → Type 0
-Waits e t after = (after.pending ≡ e.pending) × (after.timeout ≡ Some t)
+abbrev pub WaitsAgain : Event → Timeout → Event → Type 0
+WaitsAgain e t after = (after.pending ≡ e.pending) × (after.timeout ≡ Some t)
 
 -- A persistent timer stays pending as its callback starts, and is set again behind all that were added.
 abbrev pub PersistentIsSetAgain : Type 0
 PersistentIsSetAgain = (b next : BaseValue) (k flags : ℕ) (e : Event) (t : Timeout) → next_fire b ≡ Some (k, flags)
     → next_active b ≡ Ok next → slice_get b.events k ≡ Some e → e.persist ≡ true → e.timeout ≡ Some t
-    → (after : Event) × (u : Timeout) × (slice_get next.events k ≡ Some after) × Waits e u after
+    → (after : Event) × (u : Timeout) × (slice_get next.events k ≡ Some after) × WaitsAgain e u after
     × IsSetAgain b.time (b.last_adding + 1) flags t u
 
 -- the place of an event among the active ones, its priority and its order number of activation, is that of another base
@@ -66,4 +66,4 @@ abbrev pub TimersFireInOrder : Type 0
 TimersFireInOrder = (b begun last : BaseValue) (now first second : ℕ) (e o : Event) (t u : Timeout) → begin_turn b now ≡ Ok begun
     → slice_get b.events first ≡ Some e → wakes (time_at b.time now) e ≡ true → e.timeout ≡ Some t
     → slice_get b.events second ≡ Some o → wakes (time_at b.time now) o ≡ true → o.timeout ≡ Some u
-    → comes_before t u ≡ true → e.priority ≡ o.priority → KeepsPlace first begun last → KeepsPlace second begun last → IsQuiet second last
+    → comes_before t u ≡ true → e.priority ≡ o.priority → KeepsPlace first begun last → KeepsPlace second begun last → HasNoCallback second last
