@@ -347,7 +347,8 @@ impl Bev {
         Ok(n)
     }
 
-    /// Takes off the first n bytes of the buffer of a direction, or all where there are fewer. Takes no memory.
+    /// Takes off the first n bytes of the buffer of a direction, or all where there are fewer. Takes no memory; linear in what is taken off
+    /// at worst.
     ///
     /// Libevent: event2/buffer.h, `evbuffer_drain`; "Evbuffers".
     pub fn drain(&mut self, dir: Dir, n: usize)

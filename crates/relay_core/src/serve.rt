@@ -37,7 +37,8 @@ impl Relay {
         }
     }
 
-    /// A write to the side's end was answered: it took some of the first bytes that wait for it, or failed. Takes no memory.
+    /// A write to the side's end was answered: it took some of the first bytes that wait for it, or failed. Takes no memory; linear in
+    /// what was taken, over many calls.
     ///
     /// Own; libevent makes this change in the `writecb` of a socket bufferevent.
     pub fn write_answered(&mut self, side: SideId, answer: WriteAnswer)

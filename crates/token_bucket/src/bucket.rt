@@ -28,7 +28,7 @@ impl Bucket {
     ghost use Rattle.token_bucket.specs.Buckets.{level_of, ticks_since, with_less};
     ghost use Rattle.token_bucket.specs.declared.limit.Dir.TheVariants as direction;
 
-    /// The bucket of a limit that is set for the first time, at a moment in milliseconds.
+    /// The bucket of a limit that is set for the first time, at a moment in milliseconds. Constant.
     pub fn start(cfg: &LimitCfg, now: u64) -> Bucket
         ensures tick { result.tick ≡ now / cfg.now.tick_ms }
         ensures read { result.read ≡ at_rate (limit_of cfg.now direction.Read) }
@@ -42,7 +42,7 @@ impl Bucket {
     }
 
     /// Adds what the ticks bring that began since the bucket's tick, up to the burst. Nothing changes where none began. The limit is
-    /// the one under which the bucket was started or last changed; another one counts as changed then, where a tick began.
+    /// the one under which the bucket was started or last changed; another one counts as changed then, where a tick began. Constant.
     pub fn refill(&mut self, cfg: &LimitCfg, now: u64)
         ensures tick { self.new.tick ≡ max self.old.tick (now / cfg.now.tick_ms) }
         ensures read { self.new.read ≡ refilled (limit_of cfg.now direction.Read) (ticks_since self.old cfg.now now) self.old.read }
@@ -61,7 +61,7 @@ impl Bucket {
     }
 
     /// Puts the bucket under another limit: a level above the new burst is cut to it, a lower one stays as it is, and ticks count from
-    /// that of the moment.
+    /// that of the moment. Constant.
     pub fn change(&mut self, cfg: &LimitCfg, now: u64)
         ensures tick { self.new.tick ≡ now / cfg.now.tick_ms }
         ensures read { self.new.read ≡ with_ticks (limit_of cfg.now direction.Read) 0 self.old.read }
@@ -72,7 +72,7 @@ impl Bucket {
         self.write.take_burst(cfg.write_burst(), 0);
     }
 
-    /// The bytes of a direction, below 0 where more was moved than there was.
+    /// The bytes of a direction, below 0 where more was moved than there was. Constant.
     pub fn level(&self, dir: Dir) -> i64
         ensures { result ≡ signed (level_of self.now dir) }
     {
@@ -82,7 +82,7 @@ impl Bucket {
         }
     }
 
-    /// The bytes that may be moved in a direction: the level, or 0 where it is below 0.
+    /// The bytes that may be moved in a direction: the level, or 0 where it is below 0. Constant.
     pub fn allowance(&self, dir: Dir) -> u64
         ensures { result ≡ held (level_of self.now dir) }
     {
@@ -93,7 +93,7 @@ impl Bucket {
     }
 
     /// Takes n bytes that were moved in a direction. More than the allowance may be taken; it is asked that the level stays at least
-    /// -2^40.
+    /// -2^40. Constant.
     pub fn spend(&mut self, dir: Dir, n: u64)
         requires { (level_of self.old dir).short + n ≤ (level_of self.old dir).burst + 2 ^ 40 }
         ensures tick { self.new.tick ≡ self.old.tick }
