@@ -32,7 +32,8 @@ use Rattle.script_text.specs.declared.plan.PlanItem.{PlanItem}
 use Rattle.script_text.specs.ValueGrammar.{why_kind_of}
 use Rattle.script_text.specs.ActGrammar.{planned_ask}
 use Rattle.token_bucket.specs.declared.limit.LimitCfg.{LimitCfg}
-use Rattle.script_text.specs.Grammar.{keyword_of, made_of, more_of, of_end, hold_of, side_marks_of, group_of, group_set_of, hooked_of, nth_of, side_timeouts_of, set_by, setting_name_of, said_by, is_comment, said}
+use Rattle.script_text.specs.Grammar.{keyword_of, made_of, more_of, of_end, hold_of, side_marks_of, side_timeouts_of, set_by, setting_name_of, said_by, is_comment, said}
+use Rattle.script_text.specs.GroupsAndPlans.{group_of, group_set_of, hooked_of, nth_of}
 use Rattle.script_text.specs.Order.{may_be_set, group_set, may_follow, with_line, extended}
 use Rattle.script_text.specs.Spelled.{no_line, script_of}
 use Rattle.script_text.proofs.LawLemmas.{script_of-read, decimal-number_within}

@@ -6,6 +6,7 @@ use Rattle.ev_types.specs.declared.side.Side.TheVariants.{In, Out}
 use Rattle.ev_types.specs.declared.side.SideId.{SideId}
 use Rattle.ev_types.specs.declared.turn_line.TurnLine.TheVariants.{NewLink, Conn, Pending, Eof, ReadFail, Take, WriteFail, Spur, PollFail}
 use Rattle.ev_types.specs.Usual.{no_marks, no_timeouts, usual}
+use Rattle.script_text.specs.Given.{no_limits}
 use Rattle.script_text.specs.Pieces.{lines, words}
 use Rattle.script_text.specs.Numbers.{number_within}
 use Rattle.script_text.specs.Spelled.{script_of}
@@ -40,6 +41,9 @@ pub known_script : script_of
     "eof 0 in" ∷ []))
     ≡ Ok (record {
       settings = usual;
+      limits = no_limits;
+      groups = [];
+      plans = [];
       turns = (5, NewLink false ∷ Take out_end None ∷ Pending in_end (97 ∷ 255 ∷ []) ∷ []) ∷ (3, Eof in_end ∷ []) ∷ [];
     })
 unfolding decode_pairs
@@ -50,6 +54,9 @@ pub known_faults : script_of
     "wfail 0 in" ∷ codes "spur 0 out" ∷ codes "pollfail" ∷ []))
     ≡ Ok (record {
       settings = usual;
+      limits = no_limits;
+      groups = [];
+      plans = [];
       turns = (
         0,
         NewLink true ∷ Conn 0 false ∷ Conn 0 true ∷ ReadFail out_end ∷ Take in_end
@@ -75,6 +82,9 @@ pub known_settings : script_of
         out_timeouts = no_timeouts;
         links = 256;
       };
+      limits = no_limits;
+      groups = [];
+      plans = [];
       turns = (5, []) ∷ [];
     })
 known_settings = refl

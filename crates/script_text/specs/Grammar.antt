@@ -11,9 +11,8 @@ use Rattle.script_text.specs.Numbers.{number_within, bytes_of}
 use Rattle.script_text.specs.FilterNames.{filter_kind_of}
 use Rattle.script_text.specs.Ends.{side_of, link_of, end_of}
 use Rattle.script_text.specs.Limits.{limit_said}
-use Rattle.script_text.specs.ActGrammar.{planned_ask}
-use Rattle.script_text.specs.ValueGrammar.{◌>>=◌, why_kind_of}
-use Rattle.script_text.specs.declared.limits.GroupSet.{GroupSet}
+use Rattle.script_text.specs.GroupsAndPlans.{group_of, group_set_of, planned_of}
+use Rattle.script_text.specs.ValueGrammar.{◌>>=◌}
 use Rattle.ev_types.specs.declared.turn_line.TurnLine.{TurnLine}
 use Rattle.ev_types.specs.declared.turn_line.TurnLine.TheVariants as turn
 use Rattle.script_text.specs.declared.line.Keyword.{Keyword}
@@ -89,21 +88,6 @@ side_timeouts_of read write = do
   w ← number_within (2 ^ 40) write
   Some (record { read_ms = r; write_ms = w })
 
--- the number of a group: there are at most 64
-abbrev pub group_of : List ℕ → Option ℕ
-group_of word = number_within 63 word
-
--- the least share of a member, 1 to 2^40 bytes
-abbrev pub share_of : List ℕ → Option ℕ
-share_of word = number_within (2 ^ 40) word >>= (λ n. if nat_lt 0 n then Some n else None)
-
--- the group that five numbers of a limit and a share make
-abbrev pub group_set_of : List ℕ → List ℕ → List ℕ → List ℕ → List ℕ → List ℕ → Option GroupSet
-group_set_of rr rb wr wb tick share = do
-  cfg ← limit_said (rr ∷ rb ∷ wr ∷ wb ∷ tick ∷ [])
-  least ← share_of share
-  Some (record { cfg = cfg; share = least })
-
 -- what a line sets that names a setting, by the words behind the name
 abbrev pub set_by : SettingName → List (List ℕ) → Option Setting
 set_by name.Hold (bytes ∷ []) = option_map (λ n. setting.Hold n) (hold_of bytes)
@@ -117,26 +101,6 @@ set_by name.Group (number ∷ rr ∷ rb ∷ wr ∷ wb ∷ tick ∷ share ∷ [])
     group_of number >>= (λ n. option_map (λ group. setting.Group n group) (group_set_of rr rb wr wb tick share))
 set_by name.Member (side ∷ number ∷ []) = side_of side >>= (λ s. option_map (λ n. setting.Member s n) (group_of number))
 set_by _ _ = None
-
--- the side of a planned hook, opened or not: there are plans for the links 0 to 31
-abbrev pub hooked_of : List ℕ → List ℕ → Option SideId
-hooked_of link side = do
-  s ← side_of side
-  l ← number_within 31 link
-  Some (record { link = l; side = s })
-
--- for which fire of its kind something is planned, counted from 1: 1 to 1,000,000
-abbrev pub nth_of : List ℕ → Option ℕ
-nth_of word = number_within 1000000 word >>= (λ n. if nat_lt 0 n then Some n else None)
-
--- what is planned for the hook of a side
-abbrev pub planned_of : List ℕ → List ℕ → List ℕ → List ℕ → List (List ℕ) → Option Line
-planned_of link side why nth act = do
-  end ← hooked_of link side
-  kind ← why_kind_of why
-  n ← nth_of nth
-  ask ← planned_ask act
-  Some (line.Plan end (record { why = kind; nth = n; act = ask }))
 
 -- What a line of a kind says by its further words. A moment is at most 2^40 ms.
 abbrev pub said_by : Keyword → List (List ℕ) → Option Line

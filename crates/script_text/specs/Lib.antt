@@ -5,6 +5,7 @@ pub mod Pieces
 pub mod Numbers
 pub mod FilterNames
 pub mod Ends
+pub mod GroupsAndPlans
 pub mod Grammar
 pub mod Order
 pub mod Brought

@@ -1,7 +1,8 @@
 // What a script plans for the hooks of its sides, and the words of such a line.
 ghost use Rattle.std.specs.Prelude.{◌≡◌, map};
 ghost use Rattle.script_text.specs.ValueGrammar.{why_kind_of};
-ghost use Rattle.script_text.specs.Grammar.{hooked_of, nth_of, said_by};
+ghost use Rattle.script_text.specs.Grammar.{said_by};
+ghost use Rattle.script_text.specs.GroupsAndPlans.{hooked_of, nth_of};
 
 use crate::act_words::read_planned;
 use crate::line::{Keyword, Line};

@@ -1,6 +1,7 @@
 // Reads the words of a line that sets something.
 ghost use Rattle.std.specs.Prelude.{◌≡◌, map};
-ghost use Rattle.script_text.specs.Grammar.{group_of, group_set_of, hold_of, said_by, set_by, setting_name_of, share_of, side_marks_of, side_timeouts_of};
+ghost use Rattle.script_text.specs.Grammar.{hold_of, said_by, set_by, setting_name_of, side_marks_of, side_timeouts_of};
+ghost use Rattle.script_text.specs.GroupsAndPlans.{group_of, group_set_of, share_of};
 
 use crate::act_words::limit;
 use crate::limits::GroupSet;
