@@ -12,6 +12,6 @@ mod read;
 mod run;
 mod stop;
 
-pub use command::{Reaction, Command, Delay};
+pub use command::{Command, Delay, Reaction};
 pub use play::{Played, play_base};
 pub use read::{BaseScript, read_base_script};

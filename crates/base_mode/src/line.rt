@@ -2,7 +2,7 @@
 ghost use Rattle.std.specs.Prelude.{◌≡◌, ◌∷◌, ◌<◌, ◌^◌, [], map};
 ghost use Rattle.base_mode.specs.Grammar.{keyword_of, event_of, delay_of, ranged, persists, act_of, is_comment, said, said_by};
 
-use crate::command::{Reaction, Command, Delay};
+use crate::command::{Command, Delay, Reaction};
 use script_text::{MAX_NUMBER, is_word, number};
 
 /// The greatest name of an event.

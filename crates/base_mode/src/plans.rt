@@ -3,7 +3,7 @@ ghost use Rattle.std.specs.Prelude.{◌≡◌, ◌++◌, ◌∷◌, [], ◌==◌
 ghost use Rattle.base_mode.specs.Plans.{listed, acts_of};
 ghost use Rattle.base_mode.specs.Run.{acts_at};
 
-use crate::command::{Reaction, Command};
+use crate::command::{Command, Reaction};
 use ev_types::NoMemory;
 use std::alloc::Global;
 use std::collections::BTreeMap;

@@ -12,5 +12,5 @@ mod words;
 
 pub use fault::WordsFault;
 pub use mode::{ScriptKind, mode_words};
-pub use words::{BadWords, bad_words, program_words};
 pub use serve::serve_words;
+pub use words::{BadWords, bad_words, program_words};

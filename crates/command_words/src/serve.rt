@@ -11,8 +11,7 @@ use crate::fault::WordsFault;
 use crate::options::serve_options;
 use crate::values::{read_addr, read_positive};
 use clap::ArgMatches;
-use ev_types::FilterKind;
-use ev_types::{Route, Settings};
+use ev_types::{FilterKind, Route, Settings};
 use script_text::filter_named;
 use std::alloc::Global;
 

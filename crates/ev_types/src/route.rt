@@ -1,6 +1,6 @@
 // Where a run over a port listens, and to where it connects.
-use crate::settings::Settings;
 use crate::addr::Addr;
+use crate::settings::Settings;
 
 /// Where a run over a port listens, to where it connects for each link, and with which settings. As many links are opened as these
 /// allow.

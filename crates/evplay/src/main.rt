@@ -10,9 +10,9 @@ mod program;
 mod run;
 mod status;
 
+use command_words::program_words;
 use ev_port::{StdSink, StdSource};
 use program::play_program;
-use command_words::program_words;
 use std::io;
 use std::process::ExitCode;
 

@@ -7,9 +7,9 @@ ghost use Rattle.evplay.specs.Play.{DidWith};
 
 use crate::input::{ReadStop, read_text};
 use crate::outcome::outcome_of;
+use command_words::mode_words;
 use ev_port::{Sink, Source};
 use ev_types::Status;
-use command_words::mode_words;
 use program_end::write_text;
 use std::alloc::Global;
 

@@ -9,9 +9,9 @@ ghost use Rattle.evplay.specs.Play.{DidWith};
 ghost use Rattle.evplay.specs.PlayCauses.{HasCauses};
 
 use crate::play::play;
+use command_words::BadWords;
 use ev_port::{Sink, Source};
 use ev_types::Status;
-use command_words::BadWords;
 use program_end::finish;
 use std::alloc::Global;
 

@@ -11,10 +11,9 @@ ghost use Rattle.script_text.specs.Runnable.{IsRunnable};
 ghost use Rattle.evplay.specs.Play.{IsRunText, run_text};
 ghost use Rattle.evplay.specs.Run.{answer_of, ended_as, refused_by, script_over, MayRun};
 
-use ev_types::{NoMemory, Status};
-use relay_drive::{Drive, DriveFault};
-use ev_types::Settings;
+use ev_types::{NoMemory, Settings, Status};
 use program_end::link_lines;
+use relay_drive::{Drive, DriveFault};
 use script_port::ScriptPort;
 use script_text::{Script, write_report};
 use std::alloc::Global;

@@ -8,10 +8,10 @@ mod ring;
 #[cfg(test)]
 mod tests;
 
+use command_words::program_words;
 use ev_port::StdSink;
 use mio_port::MioPort;
 use program::relay_told;
-use command_words::program_words;
 use std::io;
 use std::process::ExitCode;
 use told_port::TellingPort;

@@ -17,11 +17,11 @@ ghost use Rattle.evrelay.specs.Carried.{Carried, IsPassedOn};
 ghost use Rattle.told_port.specs.Calls.{told_by, ends_by};
 
 use crate::ring::Ring;
+use command_words::BadWords;
 use ev_port::{Port, Sink};
 use ev_types::Status;
-use relay_serve::serve;
-use command_words::BadWords;
 use program_end::{WriteFailed, finish, process_status, write_text};
+use relay_serve::serve;
 use std::alloc::Global;
 use std::sync::Wait;
 use told_port::TellingPort;

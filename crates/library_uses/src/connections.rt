@@ -27,7 +27,10 @@ fn close_idle_ones<R: Print + Clock>(rt: &R, base: &mut Base) -> anyhow::Result<
         one_turn(rt, base, start)?;
     }
     for event in 0..3u32 {
-        println!(rt; "connection {event} is pending: {:?}", base.is_pending(event))?;
+        println!(rt;
+            "connection {event} is pending: {:?}",
+            base.is_pending(event)
+        )?;
     }
     Ok(())
 }

@@ -5,7 +5,7 @@ ghost use Rattle.pairs_mode.specs.Run.{fresh_run, refused_by, done_by, settled, 
 
 use crate::answer::{Refusal, answer_text, end_text, lengths_text};
 use crate::half::Half;
-use crate::line::{PairAsk, Line};
+use crate::line::{Line, PairAsk};
 use crate::step::{raises_end, refusal_of, settle, take_step};
 use bev_core::Bev;
 use ev_types::NoMemory;

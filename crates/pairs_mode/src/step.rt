@@ -17,7 +17,9 @@ pub(crate) fn refusal_of(ask: &PairAsk, half: &Bev, other: &Bev) -> Option<Refus
         return Some(Refusal::NotLive);
     }
     match ask {
-        PairAsk::Flush(Mode::Flush | Mode::Finished) if !other.state().live => Some(Refusal::NoPartner),
+        PairAsk::Flush(Mode::Flush | Mode::Finished) if !other.state().live => Some(
+            Refusal::NoPartner,
+        ),
         _ => None,
     }
 }

@@ -15,7 +15,6 @@ mod room;
 mod serve;
 
 pub use close::Closing;
-pub use ev_types::LinkCount;
+pub use ev_types::{LinkCount, Marks, Settings, Timeouts};
 pub use relay::Relay;
-pub use ev_types::{Marks, Settings, Timeouts};
 pub use relay_sides::{Counts, SideFlags, Sides};

@@ -5,8 +5,7 @@ ghost use Rattle.relay_core.specs.Pairs.{HasPairs};
 ghost use Rattle.relay_core.specs.SettingsView.{near_of, far_of};
 
 use crate::relay::Relay;
-use ev_types::NoMemory;
-use ev_types::Settings;
+use ev_types::{NoMemory, Settings};
 use relay_sides::NewSide;
 
 impl Relay {

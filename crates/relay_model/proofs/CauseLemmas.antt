@@ -159,7 +159,7 @@ pub frees_have_causes : FreesHaveCauses
 frees_have_causes g t before after e why moved given bytes legal split =
     let k = there g t legal.0 legal.1 before (entry.Freed e why moved given, bytes) after split in
     put-cause g before k.old.plain k.old.stage _ k.new k.reached (end-kind g before k.old.plain k.old.stage _ k.new k.kind refl)
-        e why moved given refl
+    e why moved given refl
 
 pub faults_are_freed : FaultsAreFreed
 faults_are_freed g t s e r lt live = no-fault (side_at s e) (go (is_faulty (seen (side_at s e))) refl)

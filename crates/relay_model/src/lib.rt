@@ -18,8 +18,9 @@ pub use closing_laws::{
     two_closing_turns_go_on, willing_turns_go_on,
 };
 pub use laws::{
-    all_is_there, given_begins_the_whole, passing_leaves_only_what_is_held, rest_is_there_after_a_free,
-    };
+    all_is_there, given_begins_the_whole, passing_leaves_only_what_is_held,
+    rest_is_there_after_a_free,
+};
 pub use legal_laws::{
     all_on_one_way, asked_frees_are_next, closing_frees_faulty, failed_are_freed_so,
     faults_are_answered, faults_are_freed, faulty_are_freed, freed_are_still, freed_stand_still,

@@ -8,8 +8,8 @@ ghost use Rattle.relay_serve.specs.Underway.{Reported, ended_as};
 
 use ev_port::Sink;
 use ev_types::{NoMemory, Status};
-use relay_drive::{Drive, DriveFault};
 use program_end::{fault_status, link_lines, write_text};
+use relay_drive::{Drive, DriveFault};
 use script_text::write_report;
 use std::alloc::Global;
 

@@ -8,9 +8,8 @@ ghost use Rattle.relay_serve.specs.Underway.{TurnsGo, RanTo, ended_as};
 
 use crate::report::report;
 use ev_port::{Port, Scribe, Sink, Started};
-use ev_types::Status;
+use ev_types::{Route, Settings, Status};
 use relay_drive::{Drive, DriveFault};
-use ev_types::{Route, Settings};
 use std::alloc::Global;
 use std::sync::Wait;
 

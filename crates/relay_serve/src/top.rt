@@ -6,9 +6,9 @@ ghost use Rattle.relay_serve.specs.Seen.{seen, drained};
 ghost use Rattle.relay_serve.specs.Served.{DidWith};
 
 use crate::run::relay;
+use command_words::serve_words;
 use ev_port::{Port, Scribe, Sink};
 use ev_types::Status;
-use command_words::serve_words;
 use std::alloc::Global;
 use std::sync::Wait;
 

@@ -16,8 +16,8 @@ mod sides;
 
 pub use bev_core::Dir;
 pub use counts::{Counts, SPENT};
+pub use ev_types::{Marks, Timeouts};
 pub use flags::SideFlags;
 pub use opening::NewSide;
-pub use ev_types::{Marks, Timeouts};
 pub use side::MOST_AT_ONCE;
 pub use sides::Sides;

@@ -7,8 +7,7 @@ use crate::side::SideState;
 use crate::sides::Sides;
 use bev_core::Dir;
 use bev_world::World;
-use ev_types::{FilterKind, NoMemory};
-use ev_types::{Marks, Timeouts};
+use ev_types::{FilterKind, Marks, NoMemory, Timeouts};
 
 /// What a side gets as its link opens: its marks and timeouts, its two filters, and whether its end is connected.
 ///

@@ -5,8 +5,7 @@ ghost use Rattle.script_text.specs.declared.script.ScriptFault.TheVariants.{Memo
 
 use crate::limits::{GroupSet, Limits};
 use crate::plan::PlanItem;
-use ev_types::{NoMemory, SideId, TurnLine};
-use ev_types::Settings;
+use ev_types::{NoMemory, Settings, SideId, TurnLine};
 use std::alloc::{AllocError, AllocFailed};
 use std::marker::Model;
 use thiserror::Error;

@@ -9,8 +9,7 @@ use crate::line::{Keyword, Line};
 use crate::setting::{Setting, SettingName};
 use crate::value_words::{filter_named, read_side};
 use crate::words::{is_word, number};
-use ev_types::{Dir, Side};
-use ev_types::{Marks, Timeouts};
+use ev_types::{Dir, Marks, Side, Timeouts};
 
 /// The most bytes that a mark can have.
 const MAX_MARK: u64 = 1 << 24;

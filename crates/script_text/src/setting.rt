@@ -3,8 +3,7 @@ ghost use Rattle.std.specs.Prelude.{◌≡◌, Some, None, is_none, if◌then◌
 ghost use Rattle.script_text.specs.Given.{nothing_given, settings_by, with_setting};
 
 use crate::limits::{GroupSet, Limits};
-use ev_types::{Dir, FilterKind, LimitCfg, Side};
-use ev_types::{Marks, Settings, Timeouts};
+use ev_types::{Dir, FilterKind, LimitCfg, Marks, Settings, Side, Timeouts};
 
 /// Which setting a line names.
 ///
