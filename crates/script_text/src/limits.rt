@@ -17,7 +17,7 @@ pub struct Limits {
 }
 
 impl Limits {
-    /// No limit and no group. Takes no memory.
+    /// No limit and no group. Takes no memory; constant.
     pub fn none() -> Limits
         ensures { result ≡ no_limits }
     {
