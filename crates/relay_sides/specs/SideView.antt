@@ -43,7 +43,7 @@ new_state connected = record {
 abbrev pub state_at : List SideState → ℕ → SideState
 state_at sides n = slice_index_or sides n (new_state true)
 
--- No side has a limit, a group or a reference.
+-- No side has a limit or a group.
 abbrev pub plain_side : BevValue → SideState → PlainSide
 plain_side b s = record {
   live = b.live;
@@ -62,7 +62,7 @@ plain_side b s = record {
   last_write = b.last_write;
   limit = None;
   group = None;
-  references = 0;
+  references = b.refs;
 }
 
 -- how far the direction has come, from a side to the other

@@ -5,6 +5,7 @@
 #![tactic(auto)]
 
 mod activity;
+mod asks;
 mod counts;
 mod ends;
 mod flags;
