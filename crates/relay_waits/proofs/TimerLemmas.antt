@@ -10,7 +10,7 @@ use Rattle.min_timer.specs.declared.key.TimerKey.{TimerKey}
 use Rattle.min_timer.specs.declared.timers.Timer as by_number
 use Rattle.min_timer.specs.Queue.{is_timer_of, without, with_timer, after_due, due_keys}
 use Rattle.relay_model.specs.Plain.{Timer, placed, without_timer}
-use Rattle.relay_model.specs.Rates.{least_with}
+use Rattle.token_bucket.specs.Spells.{least_with}
 use Rattle.relay_waits.specs.Numbered.{side_numbered}
 use Rattle.relay_waits.specs.TimerSides.{timer_of_side, timers_of}
 use Rattle.relay_waits.specs.TimerLaws.{TimersArePlaced, IsHandleOf, HasNone, TimersAreCancelled, DeadlinesRise, after_all_due, DueTimersAreTaken, DueAreTheModels, RisingStays, FirstIsEarliest}
