@@ -8,6 +8,7 @@ mod connections;
 mod deadlines;
 mod due;
 mod filters;
+mod limits;
 mod lines;
 mod numbers;
 mod own_port;
@@ -22,6 +23,7 @@ fn main(rt: HostRuntime) -> anyhow::Result<()> {
     queues::most_urgent_first(&rt, alloc)?;
     base::a_beat_and_a_signal(&rt, alloc)?;
     connections::idle_connections(&rt, alloc)?;
+    limits::two_clients(&rt, alloc)?;
     lines::lines_that_came_in_pieces(&rt, alloc)?;
     bufferevents::back_pressure(&rt, alloc)?;
     filters::line_ends(&rt, alloc)?;
