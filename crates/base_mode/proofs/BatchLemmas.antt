@@ -1,5 +1,6 @@
 -- A fire takes one from what the batch of a turn owes.
-use Rattle.std.proofs.Common.{◌≡◌, ap, refl, ℕ, ◌+◌, ◌^◌, ◌≤◌, ◌&&◌, ◌==◌, not, Bool, true, false, cond, nat_lt, length, count_by, get_or, arith, Option, Some, None, option_map, slice_get, slice_index, slice_set, Ok, Err}
+use Rattle.std.proofs.Common.{◌≡◌, ap, refl, ℕ, ◌+◌, ◌^◌, ◌≤◌, ◌&&◌, ◌==◌, not, Bool, true, false, cond, nat_lt, length, count_by, get_or}
+use Rattle.std.proofs.Common.{arith, Option, Some, None, option_map, slice_get, slice_index, slice_set, Ok, Err}
 use Rattle.std.specs.Option.{option_map_or}
 use Rattle.std.specs.List.{list_any}
 use Rattle.std.proofs.lemmas.Bool.{and_parts}
@@ -15,9 +16,11 @@ use Rattle.event_base.specs.Events.{called}
 use Rattle.event_base.specs.Calls as call
 use Rattle.event_base.specs.Fires.{is_past_numbers, is_set_again}
 use Rattle.base_mode.specs.Order.{made}
-use Rattle.base_mode.specs.Run.{RunValue, Outcome, Fired, fired, next_fired, called_back, after_call, after_fire, after_acts, acts_at, with_text, fired_text}
+use Rattle.base_mode.specs.Run.{RunValue, Outcome, Fired, fired, next_fired, called_back, after_call, after_fire, after_acts, acts_at}
+use Rattle.base_mode.specs.Run.{with_text, fired_text}
 use Rattle.base_mode.specs.Turned.{owed_by, IsClosed}
-use Rattle.base_mode.proofs.OwedLemmas.{Falls, Falls-then, Falls-refl, owed-set, weight-called, fire_found, if-Ok, if-not-Ok, after_acts-falls}
+use Rattle.base_mode.proofs.OwedLemmas.{Falls, Falls-then, Falls-refl, owed-set, weight-called, fire_found, if-Ok, if-not-Ok}
+use Rattle.base_mode.proofs.OwedLemmas.{after_acts-falls}
 
 -- a batch has what was active as the turn began, and nothing that comes later
 ended-closed : (over : Bool) (next : ℕ) → cond over 0 next ≤ next

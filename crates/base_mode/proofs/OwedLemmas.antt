@@ -1,5 +1,6 @@
 -- No callback adds to what the batch of a turn owes, and each fire takes one from it.
-use Rattle.std.proofs.Common.{◌≡◌, ap, refl, ℕ, ◌+◌, ◌-◌, ◌<◌, ◌≤◌, ◌&&◌, ◌==◌, Bool, true, false, cond, max, nat_lt, nat_le, List, [], ◌∷◌, length, get_or, set, sum_by, arith, Option, Some, None, option_and_then, slice_get, Ok, Err}
+use Rattle.std.proofs.Common.{◌≡◌, ap, refl, ℕ, ◌+◌, ◌-◌, ◌<◌, ◌≤◌, ◌&&◌, ◌==◌, Bool, true, false, cond, max, nat_lt, nat_le, List, [], ◌∷◌}
+use Rattle.std.proofs.Common.{length, get_or, set, sum_by, arith, Option, Some, None, option_and_then, slice_get, Ok, Err}
 use Rattle.std.specs.Option.{option_map_or}
 use Rattle.std.proofs.lemmas.List.Sums.{sum_by-set}
 use Rattle.std.proofs.lemmas.Option.{get_or_from_slice_get, slice_get_within}

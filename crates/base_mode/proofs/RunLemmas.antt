@@ -1,5 +1,6 @@
 -- Steps of a run, put together.
-use Rattle.std.proofs.Common.{◌≡◌, sym, ap, refl, ℕ, ◌+◌, ◌≤◌, ◌==◌, ◌++◌, not, Bool, true, false, cond, nat_lt, ltb-false, List, [], ◌∷◌, length, arith, Some, None, MatchOption, Result, Ok, Err, OnOk, OnErr, IfErr}
+use Rattle.std.proofs.Common.{◌≡◌, sym, ap, refl, ℕ, ◌+◌, ◌≤◌, ◌==◌, ◌++◌, not, Bool, true, false, cond, nat_lt, ltb-false, List, [], ◌∷◌}
+use Rattle.std.proofs.Common.{length, arith, Some, None, MatchOption, Result, Ok, Err, OnOk, OnErr, IfErr}
 use Rattle.std.specs.List.{prefix_len, position_or_len, position}
 use Rattle.event_base.specs.declared.fault.BaseFault.{BaseFault}
 use Rattle.event_base.specs.declared.fault.BaseFault.TheVariants as base

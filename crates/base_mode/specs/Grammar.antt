@@ -1,5 +1,6 @@
 -- What a line says, by cases on its words. Which lines may stand behind which stands elsewhere.
-use Rattle.std.specs.Prelude.{ℕ, ◌^◌, List, [], ◌∷◌, ◌==◌, codes, Bool, true, false, if◌then◌else◌, nat_le, Option, Some, None, option_map, option_and_then}
+use Rattle.std.specs.Prelude.{ℕ, ◌^◌, List, [], ◌∷◌, ◌==◌, codes, Bool, true, false, if◌then◌else◌, nat_le, Option, Some, None, option_map}
+use Rattle.std.specs.Prelude.{option_and_then}
 use Rattle.std.specs.Str.{bytes_eq}
 use Rattle.script_text.specs.Numbers.{number_within}
 use Rattle.base_mode.specs.declared.command.Reaction.{Reaction}

@@ -1,5 +1,6 @@
 -- What a base answers to a script: each line as a step, with the text that it adds.
-use Rattle.std.specs.Prelude.{ℕ, ◌+◌, ◌^◌, ◌==◌, ◌&&◌, if◌then◌else◌, List, [], ◌∷◌, ◌++◌, codes, nat_lt, slice_set, slice_index, Option, Some, None, option_and_then, length, Result, Ok, Err}
+use Rattle.std.specs.Prelude.{ℕ, ◌+◌, ◌^◌, ◌==◌, ◌&&◌, if◌then◌else◌, List, [], ◌∷◌, ◌++◌, codes, nat_lt, slice_set, slice_index, Option}
+use Rattle.std.specs.Prelude.{Some, None, option_and_then, length, Result, Ok, Err}
 use Rattle.std.specs.List.{filter_map, position_or_len}
 use Rattle.std.specs.Fmt.{decimal}
 use Rattle.hex.specs.Hex.{encode_lower}

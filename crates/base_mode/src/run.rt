@@ -4,7 +4,8 @@ ghost use Rattle.std.specs.Option.{ForSome};
 ghost use Rattle.event_base.specs.Calls as call;
 ghost use Rattle.base_mode.specs.Order.{made};
 ghost use Rattle.base_mode.specs.Run.{number_of, answered, called_back, next_fired};
-ghost use Rattle.base_mode.specs.Turned.{IsClosed, whole_batch, begun, turn_ended, turned, obeyed, new_fires, recorded, run, all_run, start};
+ghost use Rattle.base_mode.specs.Turned.{IsClosed, whole_batch, begun, turn_ended, turned, obeyed, new_fires, recorded, run, all_run};
+ghost use Rattle.base_mode.specs.Turned.{start};
 ghost use Rattle.base_mode.specs.Stops.{Went, HasFired, HasRun, IsAnswered};
 
 use crate::acts::{number_in, perform_all};

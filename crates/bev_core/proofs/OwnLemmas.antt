@@ -1,5 +1,6 @@
 -- A buffer that nobody else reaches stays one as bytes come in and leave.
-use Rattle.std.proofs.Common.{◌≡◌, ℕ, List, ◌++◌, length, take, drop, map, min, ap, sym, ◌∙◌, append-nil, if◌then◌else◌, Some, None, Result, Ok, Err, OnOk, length-append, length-drop, subst, is_some, true, false}
+use Rattle.std.proofs.Common.{◌≡◌, ℕ, List, ◌++◌, length, take, drop, map, min, ap, sym, ◌∙◌, append-nil, if◌then◌else◌, Some, None, Result}
+use Rattle.std.proofs.Common.{Ok, Err, OnOk, length-append, length-drop, subst, is_some, true, false}
 use Rattle.std.proofs.lemmas.List.{replicate-append-replicate, drop-replicate}
 use Rattle.evbuf_chain.specs.Answers.{fault_of}
 use Rattle.evbuf_chain.specs.Mark.{unmarked, ended_tickets}

@@ -1,5 +1,6 @@
 -- One bufferevent taken out of its slot, another changed, and the first put back; and what goes from one half of a pair to the other.
-use Rattle.std.proofs.Common.{◌≡◌, ◌≢◌, ℕ, ◌-◌, ◌<◌, Bool, true, false, ◌&&◌, List, Some, length, take, min, refl, sym, ◌∙◌, ap, subst, arith, Result, Ok, Err, OnOk, OnErr, IfOk, length-take}
+use Rattle.std.proofs.Common.{◌≡◌, ◌≢◌, ℕ, ◌-◌, ◌<◌, Bool, true, false, ◌&&◌, List, Some, length, take, min, refl, sym, ◌∙◌, ap, subst}
+use Rattle.std.proofs.Common.{arith, Result, Ok, Err, OnOk, OnErr, IfOk, length-take}
 use Rattle.std.specs.Prelude.{slice_index_or, slice_set, nat_lt}
 use Rattle.std.proofs.lemmas.List.{get_or-set_same, get_or-set_other, get_or_default, length-set, set-set, set_comm}
 use Rattle.token_bucket.specs.declared.limit.Dir.TheVariants.{Read, Write}

@@ -1,5 +1,6 @@
 -- What the boxes of callbacks heard of a run.
-use Rattle.std.specs.Prelude.{◌≡◌, ◌≢◌, ◌&&◌, ℕ, Bool, nat_eq, if◌then◌else◌, List, [], ◌∷◌, Option, None, MatchOption, IsSomeAnd, Result, Ok, Err}
+use Rattle.std.specs.Prelude.{◌≡◌, ◌≢◌, ◌&&◌, ℕ, Bool, nat_eq, if◌then◌else◌, List, [], ◌∷◌, Option, None, MatchOption, IsSomeAnd, Result}
+use Rattle.std.specs.Prelude.{Ok, Err}
 use Rattle.std.specs.List.{flat_map}
 use Rattle.std.specs.Option.{option_or}
 use Rattle.ev_types.specs.declared.why.Why.{Why}

@@ -1,5 +1,6 @@
 -- The run of a batch: which calls are started, in which order, and what becomes of the boxes that are called.
-use Rattle.std.specs.Prelude.{◌≡◌, length, ℕ, Bool, true, false, ◌&&◌, if◌then◌else◌, List, [], ◌∷◌, ◌++◌, ◌-◌, ◌^◌, min, count_by, Result, Ok, Err, slice_index_or, slice_set, Option, option_map, Some, None, is_some}
+use Rattle.std.specs.Prelude.{◌≡◌, length, ℕ, Bool, true, false, ◌&&◌, if◌then◌else◌, List, [], ◌∷◌, ◌++◌, ◌-◌, ◌^◌, min, count_by, Result}
+use Rattle.std.specs.Prelude.{Ok, Err, slice_index_or, slice_set, Option, option_map, Some, None, is_some}
 use Rattle.std.specs.Bool.{MatchBool}
 use Rattle.std.specs.declared.alloc.Global.{Global}
 use Rattle.std.specs.declared.dyn_box.DynBox.{DynBox}

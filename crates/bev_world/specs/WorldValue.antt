@@ -1,5 +1,6 @@
 -- What contracts see of a world: its bufferevents by their numbers, and the reasons for which callbacks are due.
-use Rattle.std.specs.Prelude.{ℕ, ◌+◌, ◌-◌, max, [], ◌∷◌, ◌++◌, Bool, true, false, not, ◌&&◌, nat_lt, if◌then◌else◌, List, Option, length, slice_index_or, slice_set}
+use Rattle.std.specs.Prelude.{ℕ, ◌+◌, ◌-◌, max, [], ◌∷◌, ◌++◌, Bool, true, false, not, ◌&&◌, nat_lt, if◌then◌else◌, List, Option, length}
+use Rattle.std.specs.Prelude.{slice_index_or, slice_set}
 use Rattle.token_bucket.specs.declared.limit.Dir.{Dir}
 use Rattle.token_bucket.specs.declared.limit.Dir.TheVariants.{Read, Write}
 use Rattle.ev_types.specs.declared.filter.FilterKind.{FilterKind}

@@ -1,5 +1,6 @@
 -- How a world keeps what it shows.
-use Rattle.std.specs.Prelude.{◌≡◌, ◌≢◌, ◌≤◌, ◌<◌, ◌+◌, ◌^◌, ℕ, zero, suc, if◌then◌else◌, Bool, true, ⊤, List, length, slice_index_or, vec_capacity}
+use Rattle.std.specs.Prelude.{◌≡◌, ◌≢◌, ◌≤◌, ◌<◌, ◌+◌, ◌^◌, ℕ, zero, suc, if◌then◌else◌, Bool, true, ⊤, List, length, slice_index_or}
+use Rattle.std.specs.Prelude.{vec_capacity}
 use Rattle.deferred_cb.specs.DueCalls.{Entry, has_entry}
 use Rattle.bev_world.specs.WorldValue.{WorldValue, no_slot}
 use Rattle.bev_world.specs.declared.slot.Kind.{Kind}

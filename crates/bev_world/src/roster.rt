@@ -1,5 +1,6 @@
 // The boxes of callbacks, which stand outside of the world, and the run of a batch.
-ghost use Rattle.std.specs.Prelude.{◌≡◌, ◌≢◌, ◌||◌, ◌≤◌, ◌<◌, ℕ, ◌∷◌, [], length, vec_capacity, slice_set, true, false, None, Some, IfOk, IfErr, OnOk, OnErr, ⊤, MatchOption, is_ok, max, if◌then◌else◌};
+ghost use Rattle.std.specs.Prelude.{◌≡◌, ◌≢◌, ◌||◌, ◌≤◌, ◌<◌, ℕ, ◌∷◌, [], length, vec_capacity, slice_set, true, false, None, Some, IfOk};
+ghost use Rattle.std.specs.Prelude.{IfErr, OnOk, OnErr, ⊤, MatchOption, is_ok, max, if◌then◌else◌};
 ghost use Rattle.bev_world.specs.WorldValue.{is_live};
 ghost use Rattle.bev_world.specs.Batches.{IsIdle};
 ghost use Rattle.bev_world.specs.Heard.{HeardRun};

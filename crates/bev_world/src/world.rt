@@ -5,7 +5,8 @@
 // 2. The other half of a half is another bufferevent, and what is under a filter was made before it.
 // 3. There is room for a pending entry of every bufferevent, so that no reason is lost.
 // 4. There is room for `spare` bufferevents more and for an entry of each, so that making them takes no memory.
-ghost use Rattle.std.specs.Prelude.{◌≡◌, ◌≤◌, ◌<◌, ◌+◌, ◌-◌, ◌^◌, ◌++◌, ◌∷◌, ◌==◌, [], length, drop, take, min, true, false, Some, None, OnOk, OnErr, IfOk, IfSome, if◌then◌else◌, nat_lt};
+ghost use Rattle.std.specs.Prelude.{◌≡◌, ◌≤◌, ◌<◌, ◌+◌, ◌-◌, ◌^◌, ◌++◌, ◌∷◌, ◌==◌, [], length, drop, take, min, true, false, Some, None};
+ghost use Rattle.std.specs.Prelude.{OnOk, OnErr, IfOk, IfSome, if◌then◌else◌, nat_lt};
 ghost use Rattle.std.specs.Bool.{then_some};
 ghost use Rattle.evbuf_chain.specs.Answers.{AnswersOr, fault_of};
 ghost use Rattle.bev_core.specs.BevValue.{state_of};

@@ -1,5 +1,6 @@
 -- How many lines a text has, and how many bytes a line brings.
-use Rattle.std.proofs.Common.{◌≡◌, ◌≤◌, ◌+◌, ℕ, true, false, ◌&&◌, cond, leb, leb-true, eqb, Option, Some, None, Ok, Err, List, [], ◌∷◌, ◌++◌, length, refl, arith}
+use Rattle.std.proofs.Common.{◌≡◌, ◌≤◌, ◌+◌, ℕ, true, false, ◌&&◌, cond, leb, leb-true, eqb, Option, Some, None, Ok, Err, List, [], ◌∷◌}
+use Rattle.std.proofs.Common.{◌++◌, length, refl, arith}
 use Rattle.std.specs.Prelude.{IfSome, option_map, option_and_then}
 use Rattle.std.specs.List.{list_all}
 use Rattle.std.specs.Result.{result_ok}
@@ -11,7 +12,8 @@ use Rattle.script_text.specs.Pieces.{begun, pieces, words}
 use Rattle.script_text.specs.Numbers.{bytes_of}
 use Rattle.script_text.specs.Spelled.{is_plain}
 use Rattle.buffers_mode.specs.Keywords.{keyword_of}
-use Rattle.buffers_mode.specs.Grammar.{buffer_of, count_of, callback_of, from_of, place_of, style_of, switch_of, plain_op, one_op, two_op, op_by, ask_by, said}
+use Rattle.buffers_mode.specs.Grammar.{buffer_of, count_of, callback_of, from_of, place_of, style_of, switch_of, plain_op, one_op, two_op}
+use Rattle.buffers_mode.specs.Grammar.{op_by, ask_by, said}
 use Rattle.buffers_mode.specs.Spelled.{is_skipped, with_line, going_on, lines_read}
 use Rattle.buffers_mode.specs.declared.keyword.Keyword.{Keyword}
 use Rattle.buffers_mode.specs.declared.keyword.Keyword.TheVariants as keyword

@@ -1,5 +1,6 @@
 -- How much the buffers of a script hold after a line.
-use Rattle.std.proofs.Common.{◌≡◌, ◌<◌, ◌≤◌, ◌+◌, ◌*◌, ◌^◌, ℕ, Bool, true, false, cond, ltb, eqb, Option, Some, None, List, [], ◌∷◌, ◌++◌, length, take, refl, arith, inl, inr, length-append, length-drop}
+use Rattle.std.proofs.Common.{◌≡◌, ◌<◌, ◌≤◌, ◌+◌, ◌*◌, ◌^◌, ℕ, Bool, true, false, cond, ltb, eqb, Option, Some, None, List, [], ◌∷◌, ◌++◌}
+use Rattle.std.proofs.Common.{length, take, refl, arith, inl, inr, length-append, length-drop}
 use Rattle.std.specs.Prelude.{IsSomeAnd, min}
 use Rattle.std.specs.Option.{option_or}
 use Rattle.std.proofs.lemmas.Bool.{lt-ltb}
@@ -7,7 +8,8 @@ use Rattle.std.proofs.lemmas.Bool.Decides.{eqb_tells}
 use Rattle.evbuf.specs.Evbuffered.{Evbuffered}
 use Rattle.evbuf.specs.Callbacks.{Callbacks, new_callback, without, with_enabled, has_callback}
 use Rattle.evbuf.specs.Moves.{buffer_at, moves_refusal}
-use Rattle.evbuf.specs.Refusals.{end_refusal, front_refusal, length_refusal, add_refusal, prepend_refusal, move_refusal, same_refusal, callback_refusal, number_refusal}
+use Rattle.evbuf.specs.Refusals.{end_refusal, front_refusal, length_refusal, add_refusal, prepend_refusal, move_refusal, same_refusal}
+use Rattle.evbuf.specs.Refusals.{callback_refusal, number_refusal}
 use Rattle.evbuf.specs.Steps.{with_frozen, after_add, after_prepend, after_reference, after_drain, pulled_up}
 use Rattle.evbuf.specs.declared.fault.BufFault.{BufFault}
 use Rattle.evbuf.specs.declared.fault.BufFault.TheVariants as fault

@@ -1,5 +1,6 @@
 -- How much all buffers of a script hold after its lines.
-use Rattle.std.proofs.Common.{◌≡◌, ◌≢◌, ◌≤◌, ◌+◌, ◌*◌, ◌^◌, ℕ, zero, suc, Bool, true, false, cond, Option, Some, None, Ok, Err, List, [], ◌∷◌, length, take, set, refl, sym, ap, ◌∙◌, arith, length-append, length-drop}
+use Rattle.std.proofs.Common.{◌≡◌, ◌≢◌, ◌≤◌, ◌+◌, ◌*◌, ◌^◌, ℕ, zero, suc, Bool, true, false, cond, Option, Some, None, Ok, Err, List, []}
+use Rattle.std.proofs.Common.{◌∷◌, length, take, set, refl, sym, ap, ◌∙◌, arith, length-append, length-drop}
 use Rattle.std.specs.Prelude.{option_map, option_and_then, IsSomeAnd, IfErr, min, Result}
 use Rattle.std.proofs.lemmas.List.{get_or-set_other, length-take}
 use Rattle.script_text.specs.Pieces.{lines}
@@ -17,7 +18,8 @@ use Rattle.buffers_mode.specs.declared.fault.ModeFault.TheVariants.{Memory, BadL
 use Rattle.buffers_mode.specs.Steps.{with_callbacks}
 use Rattle.buffers_mode.specs.Played.{Step, own_step}
 use Rattle.buffers_mode.specs.Spelled.{script_of}
-use Rattle.buffers_mode.specs.Run.{Run, fresh_run, own_at, add_buffer_step, remove_buffer_step, on_buffers, ask_step, after_reports, after_released, all_reported, reports_after, after_answer, line_played, lines_played}
+use Rattle.buffers_mode.specs.Run.{Run, fresh_run, own_at, add_buffer_step, remove_buffer_step, on_buffers, ask_step, after_reports}
+use Rattle.buffers_mode.specs.Run.{after_released, all_reported, reports_after, after_answer, line_played, lines_played}
 use Rattle.buffers_mode.specs.Text.{answers_to, answered, answers_of, EndsFor}
 use Rattle.buffers_mode.proofs.FewLemmas.{BringsFew, AsksFew, AllFew, AreFew, lines_read-few, length-pieces}
 use Rattle.buffers_mode.proofs.GrowthLemmas.{weight, total, StepsTo, goes_on-moves, moves-apart, unless-steps, own_step-steps}

@@ -1,5 +1,6 @@
 -- Buffers by number, as answers show them.
-use Rattle.std.proofs.Common.{◌≡◌, ℕ, zero, suc, Bool, Option, Some, None, Ok, Err, List, [], ◌∷◌, ◌++◌, length, set, map, refl, sym, ap, ◌∙◌}
+use Rattle.std.proofs.Common.{◌≡◌, ℕ, zero, suc, Bool, Option, Some, None, Ok, Err, List, [], ◌∷◌, ◌++◌, length, set, map, refl, sym, ap}
+use Rattle.std.proofs.Common.{◌∙◌}
 use Rattle.std.specs.Prelude.{option_map, Result, min, OnOk}
 use Rattle.std.proofs.lemmas.List.{map-set}
 use Rattle.evbuf.specs.Evbuffered.{Evbuffered}
@@ -13,7 +14,8 @@ use Rattle.buffers_mode.specs.declared.fault.ModeFault.{ModeFault}
 use Rattle.buffers_mode.specs.declared.fault.ModeFault.TheVariants.{Memory, BadLine, Spent}
 use Rattle.buffers_mode.specs.Steps.{shown, with_callbacks}
 use Rattle.buffers_mode.specs.Played.{Step, Took, own_step, unless}
-use Rattle.buffers_mode.specs.Run.{Run, own_at, add_buffer_step, remove_buffer_step, reported_by, released_by, report_lines, all_reported, released_lines, without_released}
+use Rattle.buffers_mode.specs.Run.{Run, own_at, add_buffer_step, remove_buffer_step, reported_by, released_by, report_lines, all_reported}
+use Rattle.buffers_mode.specs.Run.{released_lines, without_released}
 
 -- the parts of a run
 abbrev pub run_of : List Evbuffered → List Bool → List ℕ → Run

@@ -1,11 +1,13 @@
 -- How buffers tell what waits in them, one after another.
-use Rattle.std.proofs.Common.{◌≡◌, ◌<◌, ◌≤◌, ◌+◌, ℕ, Bool, true, false, List, [], ◌∷◌, ◌++◌, length, take, drop, set, refl, ap, ◌∙◌, arith, append_assoc}
+use Rattle.std.proofs.Common.{◌≡◌, ◌<◌, ◌≤◌, ◌+◌, ℕ, Bool, true, false, List, [], ◌∷◌, ◌++◌, length, take, drop, set, refl, ap, ◌∙◌, arith}
+use Rattle.std.proofs.Common.{append_assoc}
 use Rattle.std.proofs.lemmas.List.{drop_more, take_more, take_more_set, drop-set-lt, take_all, drop_all, append-nil}
 use Rattle.evbuf.specs.Evbuffered.{Evbuffered}
 use Rattle.evbuf.specs.Moves.{buffer_at}
 use Rattle.evbuf.specs.Steps.{new_buffer}
 use Rattle.buffers_mode.specs.Steps.{with_callbacks}
-use Rattle.buffers_mode.specs.Run.{Run, report_lines, all_reported, reported_by, reports_text, after_reports, released_lines, released_text, without_released, after_released, released_by}
+use Rattle.buffers_mode.specs.Run.{Run, report_lines, all_reported, reported_by, reports_text, after_reports, released_lines, released_text}
+use Rattle.buffers_mode.specs.Run.{without_released, after_released, released_by}
 
 run_same : (run : Run) (bufs bufs' : List Evbuffered) (text text' : List ℕ) → bufs ≡ bufs' → text ≡ text' →
     let one : Run = record run { buffers = bufs; text = text } in let other : Run =

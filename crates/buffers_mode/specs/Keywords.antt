@@ -3,7 +3,9 @@ use Rattle.std.specs.Prelude.{ℕ, List, codes, if◌then◌else◌, Option, Som
 use Rattle.std.specs.Option.{option_or}
 use Rattle.std.specs.Str.{bytes_eq}
 use Rattle.buffers_mode.specs.declared.keyword.Keyword.{Keyword}
-use Rattle.buffers_mode.specs.declared.keyword.Keyword.TheVariants.{Add, Prepend, AddReference, Drain, Remove, AddBuffer, RemoveBuffer, Pullup, PullupAll, Search, SearchEol, Readln, Peek, Len, Freeze, Unfreeze, AddCb, RemoveCb, EnableCb, DisableCb, Defer, Reports}
+use Rattle.buffers_mode.specs.declared.keyword.Keyword.TheVariants.{Add, Prepend, AddReference, Drain, Remove, AddBuffer, RemoveBuffer}
+use Rattle.buffers_mode.specs.declared.keyword.Keyword.TheVariants.{Pullup, PullupAll, Search, SearchEol, Readln, Peek, Len, Freeze}
+use Rattle.buffers_mode.specs.declared.keyword.Keyword.TheVariants.{Unfreeze, AddCb, RemoveCb, EnableCb, DisableCb, Defer, Reports}
 
 -- the kinds of lines that bring, take or move bytes
 abbrev pub change_keyword : List ℕ → Option Keyword

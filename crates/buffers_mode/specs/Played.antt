@@ -1,5 +1,6 @@
 -- What each line is answered, and what it leaves of the buffer that it names.
-use Rattle.std.specs.Prelude.{◌≡◌, ⊤, ℕ, ◌+◌, min, nat_lt, if◌then◌else◌, true, false, Option, Some, None, option_map, [], ◌∷◌, ◌++◌, length, take, Result, Ok, Err}
+use Rattle.std.specs.Prelude.{◌≡◌, ⊤, ℕ, ◌+◌, min, nat_lt, if◌then◌else◌, true, false, Option, Some, None, option_map, [], ◌∷◌, ◌++◌}
+use Rattle.std.specs.Prelude.{length, take, Result, Ok, Err}
 use Rattle.evbuf.specs.Evbuffered.{Evbuffered}
 use Rattle.evbuf.specs.Callbacks.{new_callback, without, with_enabled}
 use Rattle.evbuf.specs.Refusals.{add_refusal, prepend_refusal, front_refusal, callback_refusal, number_refusal}

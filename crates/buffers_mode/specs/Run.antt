@@ -1,5 +1,7 @@
 -- A script as it is played on sixteen buffers.
-use Rattle.std.specs.Prelude.{ℕ, ◌+◌, ◌==◌, ◌&&◌, ◌||◌, min, if◌then◌else◌, Bool, true, false, not, Option, Some, option_map, option_and_then, List, [], ◌∷◌, ◌++◌, length, replicate, map, filter, reverse, flat_map, slice_index_or, slice_set}
+use Rattle.std.specs.Prelude.{ℕ, ◌+◌, ◌==◌, ◌&&◌, ◌||◌, min, if◌then◌else◌, Bool, true, false, not, Option, Some, option_map}
+use Rattle.std.specs.Prelude.{option_and_then, List, [], ◌∷◌, ◌++◌, length, replicate, map, filter, reverse, flat_map, slice_index_or}
+use Rattle.std.specs.Prelude.{slice_set}
 use Rattle.script_text.specs.Lines.{line_of}
 use Rattle.evbuf.specs.Evbuffered.{Evbuffered}
 use Rattle.evbuf.specs.Callbacks.{Callbacks, waits, report_of, reported}

@@ -1,7 +1,8 @@
 // What one line of a script asks, whatever stands before it. Running it is left to others.
 ghost use Rattle.std.specs.Prelude.{◌≡◌, ◌<◌, ◌∷◌, [], IfOk, IfSome, map};
 ghost use Rattle.script_text.specs.Numbers.{bytes_of};
-ghost use Rattle.buffers_mode.specs.Grammar.{buffer_of, count_of, callback_of, from_of, place_of, style_of, switch_of, plain_op, one_op, two_op, op_by, ask_by, said, AskNames, NamesBuffers};
+ghost use Rattle.buffers_mode.specs.Grammar.{buffer_of, count_of, callback_of, from_of, place_of, style_of, switch_of, plain_op, one_op};
+ghost use Rattle.buffers_mode.specs.Grammar.{two_op, op_by, ask_by, said, AskNames, NamesBuffers};
 
 use crate::keyword::{Keyword, read_keyword};
 use ev_types::NoMemory;

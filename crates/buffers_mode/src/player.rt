@@ -6,7 +6,8 @@ ghost use Rattle.std.specs.Prelude.{◌≡◌, ◌≤◌, ◌<◌, ◌++◌, ◌
 ghost use Rattle.buffers_mode.specs.Answers.{answer_words};
 ghost use Rattle.buffers_mode.specs.Grammar.{AskNames, NamesBuffers};
 ghost use Rattle.buffers_mode.specs.Played.{Took, Went};
-ghost use Rattle.buffers_mode.specs.Run.{fresh_run, ask_step, asks_reports, reports_after, after_reports_run, after_released_run, reported_by, released_by, line_played};
+ghost use Rattle.buffers_mode.specs.Run.{fresh_run, ask_step, asks_reports, reports_after, after_reports_run, after_released_run};
+ghost use Rattle.buffers_mode.specs.Run.{reported_by, released_by, line_played};
 ghost use Rattle.script_text.specs.Lines.{line_of};
 
 use crate::ModeFault;

@@ -1,5 +1,6 @@
 -- What clap makes of all the words: the options that the words give, each known and none given twice.
-use Rattle.std.proofs.Common.{◌≡◌, ◌∙◌, ◌&&◌, ◌||◌, Bool, cond, true, false, not, refl, sym, ap, List, [], ◌∷◌, ◌++◌, map, Option, Some, None, is_some, option_map, inl, inr, true≢false}
+use Rattle.std.proofs.Common.{◌≡◌, ◌∙◌, ◌&&◌, ◌||◌, Bool, cond, true, false, not, refl, sym, ap, List, [], ◌∷◌, ◌++◌, map, Option, Some}
+use Rattle.std.proofs.Common.{None, is_some, option_map, inl, inr, true≢false}
 use Rattle.std.specs.Prelude.{◌⊎◌, option_and_then}
 use Rattle.std.specs.List.{fold, list_any}
 use Rattle.clap.specs.Kinds.{Kinds, or_else}
@@ -11,7 +12,9 @@ use Rattle.clap.specs.declared.error.kind.ErrorKind.TheVariants as kind
 use Rattle.command_words.specs.Options.{Chosen, Named, and_then, options_in, has_hyphen, is_bare, has_name, value_for}
 use Rattle.command_words.proofs.OptionRules.{built_rule, has_row-given, has_name-required_of, required_of, row, with_values-new}
 use Rattle.command_words.proofs.WordViews.{AreTexts, IsLong, IsPlain, IsShort, word_view}
-use Rattle.command_words.proofs.ClapTurns.{built_shape, held_at, id-known, turn-known, turn-missing, turn-missing_short, turn-missing_unknown, turn-short, turn-stray, turn-unknown, turn-value, walk_at, walked-attached, walked-named, walked-value, with_value}
+use Rattle.command_words.proofs.ClapTurns.{built_shape, held_at, id-known, turn-known, turn-missing, turn-missing_short}
+use Rattle.command_words.proofs.ClapTurns.{turn-missing_unknown, turn-short, turn-stray, turn-unknown, turn-value, walk_at, walked-attached}
+use Rattle.command_words.proofs.ClapTurns.{walked-named, walked-value, with_value}
 
 abbrev pub is_nil : Kinds → Bool
 is_nil [] = true

@@ -6,7 +6,8 @@ use Rattle.clap.specs.Simple.{Shape, entered, new_shape}
 use Rattle.clap.specs.Walk.{Held, Rule, Text, Waiting, Walk, arg_by_id, arg_by_long, idle, option, reacted, settled, walked}
 use Rattle.clap.specs.declared.error.kind.ErrorKind.TheVariants as kind
 use Rattle.command_words.specs.Options.{Chosen, Named}
-use Rattle.command_words.proofs.OptionRules.{arg_by_id-named, arg_by_index-named, arg_by_long-named, arg_by_short-named, built_rule, required_of, row, same_as_itself}
+use Rattle.command_words.proofs.OptionRules.{arg_by_id-named, arg_by_index-named, arg_by_long-named, arg_by_short-named, built_rule}
+use Rattle.command_words.proofs.OptionRules.{required_of, row, same_as_itself}
 use Rattle.command_words.proofs.WordViews.{IsLong, IsPlain, IsShort}
 
 -- the command as clap builds it

@@ -1,5 +1,6 @@
 -- Clap finds no fault in the words exactly where they are one word without a hyphen.
-use Rattle.std.proofs.Common.{◌≡◌, ◌≢◌, ◌∙◌, ◌==◌, ◌||◌, Bool, true, false, refl, sym, ap, ap₂, List, [], ◌∷◌, None, is_some, true≢false, codes, inl, inr}
+use Rattle.std.proofs.Common.{◌≡◌, ◌≢◌, ◌∙◌, ◌==◌, ◌||◌, Bool, true, false, refl, sym, ap, ap₂, List, [], ◌∷◌, None, is_some, true≢false}
+use Rattle.std.proofs.Common.{codes, inl, inr}
 use Rattle.std.specs.Prelude.{◌⊎◌, option_and_then}
 use Rattle.std.specs.List.{list_any}
 use Rattle.clap.specs.Kinds.{Kinds}

@@ -1,5 +1,6 @@
 -- The three kinds of words, as clap and the grammar see them: one that begins with two hyphens, one that begins with one, and others.
-use Rattle.std.proofs.Common.{◌≡◌, ◌<◌, ◌==◌, ◌&&◌, ℕ, Bool, cond, true, false, refl, ap, arith, List, [], ◌∷◌, length, Option, Some, None, true≢false, option_map, inl, inr, chars, encode_utf8_all, IsUtf8, slice_get, map, String, string_bytes}
+use Rattle.std.proofs.Common.{◌≡◌, ◌<◌, ◌==◌, ◌&&◌, ℕ, Bool, cond, true, false, refl, ap, arith, List, [], ◌∷◌, length, Option, Some, None}
+use Rattle.std.proofs.Common.{true≢false, option_map, inl, inr, chars, encode_utf8_all, IsUtf8, slice_get, map, String, string_bytes}
 use Rattle.std.specs.Prelude.{◌⊎◌}
 use Rattle.std.specs.List.{list_any, before_first, after_first}
 use Rattle.std.specs.Str.{bytes_eq}

@@ -1,6 +1,7 @@
 -- Options that words give: `--name=value` is one word, `--name` and its value are two. Which names there are, and what a value
 -- means, is left to each program.
-use Rattle.std.specs.Prelude.{ℕ, List, [], ◌∷◌, ◌++◌, ◌==◌, ◌&&◌, ◌||◌, not, codes, Bool, true, false, if◌then◌else◌, Option, Some, None, is_some, option_map, find}
+use Rattle.std.specs.Prelude.{ℕ, List, [], ◌∷◌, ◌++◌, ◌==◌, ◌&&◌, ◌||◌, not, codes, Bool, true, false, if◌then◌else◌, Option, Some, None}
+use Rattle.std.specs.Prelude.{is_some, option_map, find}
 use Rattle.std.specs.Option.{option_map_or}
 use Rattle.std.specs.List.{list_all, list_any, before_first}
 use Rattle.std.specs.Str.{bytes_eq}

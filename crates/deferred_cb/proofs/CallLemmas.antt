@@ -1,5 +1,6 @@
 -- The reasons of entries, and the calls that they come to.
-use Rattle.std.proofs.Common.{◌≡◌, ℕ, ◌<◌, ◌≤◌, Bool, true, false, not, if◌then◌else◌, List, [], ◌∷◌, ◌++◌, length, Option, Some, None, refl, sym, ◌∙◌, ap, arith}
+use Rattle.std.proofs.Common.{◌≡◌, ℕ, ◌<◌, ◌≤◌, Bool, true, false, not, if◌then◌else◌, List, [], ◌∷◌, ◌++◌, length, Option, Some, None}
+use Rattle.std.proofs.Common.{refl, sym, ◌∙◌, ap, arith}
 use Rattle.std.specs.Prelude.{◌==◌, ◌||◌, nat_eq, is_some, option_map}
 use Rattle.std.specs.Bool.{then_some}
 use Rattle.std.proofs.lemmas.Bool.Decides.{nat_tests}
@@ -8,7 +9,8 @@ use Rattle.ev_types.specs.declared.why.Why.{Why}
 use Rattle.ev_types.specs.declared.why.Why.TheVariants as why
 use Rattle.ev_types.specs.declared.why.Flags.{Flags}
 use Rattle.deferred_cb.specs.declared.reasons.Reasons.{Reasons}
-use Rattle.deferred_cb.specs.DueCalls.{Entry, Call, joined, joined_flags, has_reason, with_reason, without, without_calls, call_for, calls_of, all_calls}
+use Rattle.deferred_cb.specs.DueCalls.{Entry, Call, joined, joined_flags, has_reason, with_reason, without, without_calls, call_for}
+use Rattle.deferred_cb.specs.DueCalls.{calls_of, all_calls}
 use Rattle.deferred_cb.specs.DueView.{HaveReasons}
 
 or_true : (b : Bool) → (b || true) ≡ true

@@ -1,5 +1,6 @@
 -- Entries and their calls.
-use Rattle.std.proofs.Common.{◌≡◌, ℕ, zero, suc, ◌+◌, ◌≤◌, take, subst, Bool, true, false, not, ◌||◌, if◌then◌else◌, List, [], ◌∷◌, ◌++◌, length, Option, Some, None, is_some, refl, sym, ◌∙◌, ap, arith}
+use Rattle.std.proofs.Common.{◌≡◌, ℕ, zero, suc, ◌+◌, ◌≤◌, take, subst, Bool, true, false, not, ◌||◌, if◌then◌else◌, List, [], ◌∷◌, ◌++◌}
+use Rattle.std.proofs.Common.{length, Option, Some, None, is_some, refl, sym, ◌∙◌, ap, arith}
 use Rattle.std.specs.Prelude.{nat_eq, ◌≢◌, Result, Ok, Err, OnOk, is_ok}
 use Rattle.std.specs.Map.{lookup, set_value, keys_of}
 use Rattle.std.specs.List.{slice_get, AllByRecursion, IsDistinct}

@@ -1,6 +1,7 @@
 -- The entries of owners whose callbacks are due, and the calls that they come to. An owner is a number, so that these words
 -- serve any owners; the words of a relay's sides are its own.
-use Rattle.std.specs.Prelude.{ℕ, Bool, true, false, not, if◌then◌else◌, List, [], ◌∷◌, ◌++◌, filter, Option, Some, None, bit_or, nat_eq, option_map, is_some, ◌||◌}
+use Rattle.std.specs.Prelude.{ℕ, Bool, true, false, not, if◌then◌else◌, List, [], ◌∷◌, ◌++◌, filter, Option, Some, None, bit_or, nat_eq}
+use Rattle.std.specs.Prelude.{option_map, is_some, ◌||◌}
 use Rattle.std.specs.List.{flat_map, list_any}
 use Rattle.std.specs.Bool.{then_some}
 use Rattle.ev_types.specs.declared.why.Why.{Why}

@@ -1,5 +1,6 @@
 // The callbacks that are due, by owner.
-ghost use Rattle.std.specs.Prelude.{◌≡◌, ◌+◌, ◌*◌, ◌≤◌, ◌<◌, ◌++◌, ◌∷◌, ◌&&◌, ◌==◌, [], not, if◌then◌else◌, None, true, false, length, OnOk, OnErr, IfNone, nat_eq};
+ghost use Rattle.std.specs.Prelude.{◌≡◌, ◌+◌, ◌*◌, ◌≤◌, ◌<◌, ◌++◌, ◌∷◌, ◌&&◌, ◌==◌, [], not, if◌then◌else◌, None, true, false, length};
+ghost use Rattle.std.specs.Prelude.{OnOk, OnErr, IfNone, nat_eq};
 ghost use Rattle.std.specs.VecDeque.{deque_capacity};
 ghost use Rattle.std.specs.List.{IsDistinct};
 ghost use Rattle.std.specs.Map.{keys_of};

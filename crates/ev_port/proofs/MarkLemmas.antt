@@ -1,5 +1,6 @@
 -- The walks over a table, from one side that wants something or can do it to the next.
-use Rattle.std.proofs.Common.{◌≡◌, ◌∙◌, ℕ, zero, suc, ◌+◌, ◌*◌, ◌<◌, ◌≤◌, min, Bool, true, false, cond, ◌&&◌, ◌||◌, List, [], ◌∷◌, ◌++◌, map, length, refl, sym, ap, subst, arith, inl, inr, add-one, append-nil}
+use Rattle.std.proofs.Common.{◌≡◌, ◌∙◌, ℕ, zero, suc, ◌+◌, ◌*◌, ◌<◌, ◌≤◌, min, Bool, true, false, cond, ◌&&◌, ◌||◌, List, [], ◌∷◌, ◌++◌}
+use Rattle.std.proofs.Common.{map, length, refl, sym, ap, subst, arith, inl, inr, add-one, append-nil}
 use Rattle.std.specs.Prelude.{filter}
 use Rattle.std.specs.List.{list_any}
 use Rattle.std.proofs.lemmas.Bool.{cases_Bool, cases_eq, and_parts, or_cases, or_left, or_right, or_from, both_ways}
@@ -12,7 +13,8 @@ use Rattle.number_set.specs.Numbers.{NumberSetValue}
 use Rattle.number_set.specs.Walks.{WalkValue, walked}
 use Rattle.ev_port.specs.declared.port.Want.{Want}
 use Rattle.ev_port.specs.Marking.{marks_by, after_marks}
-use Rattle.ev_port.specs.Table.{WantsValue, row_by, row, wants_some, is_marked, is_ready_by, marked_by, rows_before, named_before, named, NextWant, PreviousWant}
+use Rattle.ev_port.specs.Table.{WantsValue, row_by, row, wants_some, is_marked, is_ready_by, marked_by, rows_before, named_before, named}
+use Rattle.ev_port.specs.Table.{NextWant, PreviousWant}
 use Rattle.ev_port.proofs.NamedLemmas.{number-side_of, named-some, named-skip, stays_between}
 
 -- What a number in both sets of one side says of its row

@@ -1,5 +1,6 @@
 -- Streams over no call and over several calls.
-use Rattle.std.proofs.Common.{◌≡◌, ◌≤◌, ℕ, List, [], ◌++◌, length, Option, Some, None, refl, sym, ap, ◌∙◌, arith, append_assoc, append-nil, length-append, IfSome}
+use Rattle.std.proofs.Common.{◌≡◌, ◌≤◌, ℕ, List, [], ◌++◌, length, Option, Some, None, refl, sym, ap, ◌∙◌, arith, append_assoc, append-nil}
+use Rattle.std.proofs.Common.{length-append, IfSome}
 use Rattle.ev_port.specs.StreamBytes.{Gave, TookOn, GaveAll, GaveCount, GaveAtMost}
 
 -- with no call nothing was given

@@ -1,5 +1,6 @@
 -- What a table shows, by the sets that it keeps.
-use Rattle.std.proofs.Common.{◌≡◌, ◌≢◌, ◌∙◌, ℕ, suc, ◌+◌, ◌-◌, ◌*◌, ◌^◌, ◌<◌, ◌≤◌, ◌==◌, length, Bool, true, false, cond, ◌&&◌, if◌then◌else◌, Option, Some, None, Result, Ok, Err, refl, sym, ap, subst, arith, inl, inr}
+use Rattle.std.proofs.Common.{◌≡◌, ◌≢◌, ◌∙◌, ℕ, suc, ◌+◌, ◌-◌, ◌*◌, ◌^◌, ◌<◌, ◌≤◌, ◌==◌, length, Bool, true, false, cond, ◌&&◌}
+use Rattle.std.proofs.Common.{if◌then◌else◌, Option, Some, None, Result, Ok, Err, refl, sym, ap, subst, arith, inl, inr}
 use Rattle.std.specs.Prelude.{is_some, nat_lt, OnErr}
 use Rattle.std.specs.List.{list_any}
 use Rattle.std.proofs.Math.Path.{fun_ext}
@@ -12,10 +13,12 @@ use Rattle.number_set.specs.Next.{in_either, IsNext, IsLeast, IsGreatest}
 use Rattle.number_set.specs.Numbers.{NumberSetValue}
 use Rattle.ev_port.specs.declared.port.Want.{Want}
 use Rattle.ev_port.specs.declared.table.WantTable.TheInside.{Inside}
-use Rattle.ev_port.specs.Table.{WantsValue, side_of, row_by, row, wants_some, is_ready_by, rows_before, named, NextWant, PreviousWant, IsNextWanted, IsPreviousWanted}
+use Rattle.ev_port.specs.Table.{WantsValue, side_of, row_by, row, wants_some, is_ready_by, rows_before, named, NextWant, PreviousWant}
+use Rattle.ev_port.specs.Table.{IsNextWanted, IsPreviousWanted}
 use Rattle.ev_port.specs.TableCode.{same_table}
 use Rattle.ev_port.specs.TableView.{below, table_of, IsTable}
-use Rattle.ev_port.proofs.NamedLemmas.{one_if, named-same, named-skip, length-named_more, length-named_le, length-named_below, length-named_changed}
+use Rattle.ev_port.proofs.NamedLemmas.{one_if, named-same, named-skip, length-named_more, length-named_le, length-named_below}
+use Rattle.ev_port.proofs.NamedLemmas.{length-named_changed}
 use Rattle.ev_port.proofs.MarkLemmas.{either-within, ready-none, ready-some, next-none, next-some, previous-none, previous-some}
 
 -- flags that end there are those below the end

@@ -6,10 +6,13 @@ ghost use Rattle.ev_types.specs.declared.side.SideId.{SideId};
 ghost use Rattle.ev_types.specs.Told.{EndTold, PortTold};
 ghost use Rattle.ev_port.specs.Faults.{Faults, FaultsStay, EndFaults, PollFaults, ListenerFaults};
 ghost use Rattle.ev_port.specs.EndSteps.{EndsWent, AllWent, PortStays, no_step};
-ghost use Rattle.ev_port.specs.Calls.{Ticked, ClockRead, is_failed_start, StartedAt, is_failed_accept, accept_events, accept_step, AcceptedLink, IsUnheard};
+ghost use Rattle.ev_port.specs.Calls.{Ticked, ClockRead, is_failed_start, StartedAt, is_failed_accept, accept_events, accept_step};
+ghost use Rattle.ev_port.specs.Calls.{AcceptedLink, IsUnheard};
 ghost use Rattle.ev_port.specs.Polling.{is_failed_poll, opens_accepting, AllMarked, poll_events, poll_step, PolledWith};
 ghost use Rattle.ev_port.specs.Table.{RowsStay, TablePolled};
-ghost use Rattle.ev_port.specs.Ends.{is_failed_conn, conn_step, conn_events, ReadWithin, is_failed_read, read_step, read_events, WriteWithin, is_failed_write, write_step, write_events, close_write_events, close_events, close_write_step, close_step};
+ghost use Rattle.ev_port.specs.Ends.{is_failed_conn, conn_step, conn_events, ReadWithin, is_failed_read, read_step, read_events};
+ghost use Rattle.ev_port.specs.Ends.{WriteWithin, is_failed_write, write_step, write_events, close_write_events, close_events};
+ghost use Rattle.ev_port.specs.Ends.{close_write_step, close_step};
 
 use crate::WantTable;
 use ev_types::{Addr, ConnAnswer, ReadAnswer, SideId, WriteAnswer};

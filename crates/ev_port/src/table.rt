@@ -1,10 +1,12 @@
 // A table of what each side wants, which lives on between polls and is kept up by changes, and the list of what the last
 // poll marked. What is ready is left to the port.
-ghost use Rattle.std.specs.Prelude.{◌≡◌, ℕ, ◌+◌, ◌*◌, ◌<◌, ◌≤◌, ◌^◌, ◌==◌, ◌||◌, ◌++◌, ◌∷◌, [], true, false, cond, if◌then◌else◌, length, map, filter, vec_len, vec_capacity, OnOk, OnErr};
+ghost use Rattle.std.specs.Prelude.{◌≡◌, ℕ, ◌+◌, ◌*◌, ◌<◌, ◌≤◌, ◌^◌, ◌==◌, ◌||◌, ◌++◌, ◌∷◌, [], true, false, cond, if◌then◌else◌, length};
+ghost use Rattle.std.specs.Prelude.{map, filter, vec_len, vec_capacity, OnOk, OnErr};
 ghost use Rattle.std.specs.List.{list_any};
 ghost use Rattle.ev_types.specs.Sides.{number};
 ghost use Rattle.ev_port.specs.Marking.{marks_by, after_marks};
-ghost use Rattle.ev_port.specs.Table.{side_of, row_by, rows_before, named, wants_some, is_marked, is_ready_by, marked_by, RowsStay, IsNextWanted, IsPreviousWanted};
+ghost use Rattle.ev_port.specs.Table.{side_of, row_by, rows_before, named, wants_some, is_marked, is_ready_by, marked_by, RowsStay};
+ghost use Rattle.ev_port.specs.Table.{IsNextWanted, IsPreviousWanted};
 
 use crate::{MarkWant, Want};
 use ev_types::{NoMemory, Side, SideId};

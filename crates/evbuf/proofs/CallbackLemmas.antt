@@ -1,5 +1,6 @@
 -- The newest callback that has a report to make, and callbacks that are changed one after another.
-use Rattle.std.proofs.Common.{◌≡◌, ℕ, zero, suc, ◌+◌, ◌<◌, List, [], ◌∷◌, ◌++◌, length, take, drop, set, get_or, map, refl, ap, sym, ◌∙◌, arith, Option, Some, None, is_some, Bool, true, false, if◌then◌else◌, add-one, length-append, length-drop}
+use Rattle.std.proofs.Common.{◌≡◌, ℕ, zero, suc, ◌+◌, ◌<◌, List, [], ◌∷◌, ◌++◌, length, take, drop, set, get_or, map, refl, ap, sym, ◌∙◌}
+use Rattle.std.proofs.Common.{arith, Option, Some, None, is_some, Bool, true, false, if◌then◌else◌, add-one, length-append, length-drop}
 use Rattle.std.proofs.lemmas.List.{length-map, length-take}
 use Rattle.std.specs.Option.{option_or}
 use Rattle.evbuf.specs.declared.callback.SizeCallback.{SizeCallback}

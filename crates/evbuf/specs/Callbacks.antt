@@ -1,5 +1,6 @@
 -- The size callbacks of a buffer: what each has summed, and whose report comes next.
-use Rattle.std.specs.Prelude.{ℕ, ◌+◌, ◌-◌, ◌^◌, ◌==◌, ◌&&◌, min, nat_lt, if◌then◌else◌, Bool, true, Option, Some, None, is_some, List, [], ◌∷◌, map, filter, not}
+use Rattle.std.specs.Prelude.{ℕ, ◌+◌, ◌-◌, ◌^◌, ◌==◌, ◌&&◌, min, nat_lt, if◌then◌else◌, Bool, true, Option, Some, None, is_some, List, []}
+use Rattle.std.specs.Prelude.{◌∷◌, map, filter, not}
 use Rattle.std.specs.List.{list_any}
 use Rattle.std.specs.Option.{option_or}
 use Rattle.evbuf.specs.declared.callback.SizeCallback.{SizeCallback}

@@ -1,6 +1,8 @@
 // The size callbacks of a buffer, in the order of their numbers. When the buffer changes is left to the buffer.
-ghost use Rattle.std.specs.Prelude.{◌≡◌, ◌≤◌, ◌<◌, ◌+◌, ◌^◌, ◌++◌, ◌∷◌, [], length, None, OnOk, OnErr, IfOk, IfErr, option_map, map, drop, vec_len, MatchOption, slice_index_or, IsTrue, true, is_some};
-ghost use Rattle.evbuf.specs.Callbacks.{all_after_change, after_change, new_callback, has_callback, without, with_enabled, enabled_at, report_of, newest_waiting, after_report, waits};
+ghost use Rattle.std.specs.Prelude.{◌≡◌, ◌≤◌, ◌<◌, ◌+◌, ◌^◌, ◌++◌, ◌∷◌, [], length, None, OnOk, OnErr, IfOk, IfErr, option_map, map, drop};
+ghost use Rattle.std.specs.Prelude.{vec_len, MatchOption, slice_index_or, IsTrue, true, is_some};
+ghost use Rattle.evbuf.specs.Callbacks.{all_after_change, after_change, new_callback, has_callback, without, with_enabled, enabled_at};
+ghost use Rattle.evbuf.specs.Callbacks.{report_of, newest_waiting, after_report, waits};
 ghost use Rattle.evbuf_chain.specs.Answers.{fault_of};
 
 use crate::callback::{Report, SizeCallback};

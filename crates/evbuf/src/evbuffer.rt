@@ -4,13 +4,16 @@
 // 1. Bytes come in only where the end that they come in at isn't frozen, and leave only where the front isn't.
 // 2. Each change of the bytes is told to each callback that is enabled, once, in the same call.
 // 3. A number of a callback is not used again.
-ghost use Rattle.std.specs.Prelude.{◌≡◌, ◌≤◌, ◌+◌, ◌-◌, ◌^◌, ◌<◌, ◌++◌, ◌∷◌, [], length, drop, take, min, true, false, OnOk, OnErr, IfOk, IfSome, IfNone, None, Some, option_map};
+ghost use Rattle.std.specs.Prelude.{◌≡◌, ◌≤◌, ◌+◌, ◌-◌, ◌^◌, ◌<◌, ◌++◌, ◌∷◌, [], length, drop, take, min, true, false, OnOk, OnErr, IfOk};
+ghost use Rattle.std.specs.Prelude.{IfSome, IfNone, None, Some, option_map};
 ghost use Rattle.evbuf_chain.specs.Answers.{AnswersOr, fault_of};
 ghost use Rattle.evbuf_chain.specs.Buffered.{joined, PullupAnswer};
 ghost use Rattle.evbuf_chain.specs.Mark.{AreWhole};
 ghost use Rattle.evbuf.specs.Callbacks.{new_callback, without, with_enabled, report_of, newest_waiting, after_report};
-ghost use Rattle.evbuf.specs.Steps.{new_buffer, after_add, after_prepend, after_reference, after_drain, after_giving, after_taking, after_giving_all, after_taking_all, with_frozen, is_frozen, given_up};
-ghost use Rattle.evbuf.specs.Refusals.{end_refusal, front_refusal, add_refusal, prepend_refusal, move_refusal, same_refusal, callback_refusal, number_refusal};
+ghost use Rattle.evbuf.specs.Steps.{new_buffer, after_add, after_prepend, after_reference, after_drain, after_giving, after_taking};
+ghost use Rattle.evbuf.specs.Steps.{after_giving_all, after_taking_all, with_frozen, is_frozen, given_up};
+ghost use Rattle.evbuf.specs.Refusals.{end_refusal, front_refusal, add_refusal, prepend_refusal, move_refusal, same_refusal};
+ghost use Rattle.evbuf.specs.Refusals.{callback_refusal, number_refusal};
 ghost use Rattle.evbuf.specs.declared.fault.BufFault.TheVariants.{Memory};
 ghost use Rattle.std.specs.Rc.{rc_slice_items};
 

@@ -1,6 +1,7 @@
 // The size callbacks of a buffer. Their list is made with the first one, so that a buffer without any keeps a pointer.
 ghost use Rattle.std.specs.Prelude.{◌≡◌, ◌≤◌, ◌+◌, ◌^◌, ◌++◌, ◌∷◌, [], OnOk, OnErr, option_map, MatchOption};
-ghost use Rattle.evbuf.specs.Callbacks.{all_after_change, new_callback, has_callback, without, with_enabled, report_of, newest_waiting, after_report};
+ghost use Rattle.evbuf.specs.Callbacks.{all_after_change, new_callback, has_callback, without, with_enabled, report_of, newest_waiting};
+ghost use Rattle.evbuf.specs.Callbacks.{after_report};
 
 use crate::callback::Report;
 use crate::callback_list::CallbackList;

@@ -1,11 +1,14 @@
 -- The marks of a list of references, piece by piece.
-use Rattle.std.proofs.Common.{◌≡◌, ℕ, zero, suc, ◌+◌, ◌-◌, ◌<◌, ◌≤◌, List, [], ◌∷◌, ◌++◌, length, take, drop, refl, ap, sym, ◌∙◌, append_assoc, arith, Option, None, is_some, ◌==◌, if◌then◌else◌, true, false, length-append, subst, get_or, append-nil}
+use Rattle.std.proofs.Common.{◌≡◌, ℕ, zero, suc, ◌+◌, ◌-◌, ◌<◌, ◌≤◌, List, [], ◌∷◌, ◌++◌, length, take, drop, refl, ap, sym, ◌∙◌}
+use Rattle.std.proofs.Common.{append_assoc, arith, Option, None, is_some, ◌==◌, if◌then◌else◌, true, false, length-append, subst, get_or}
+use Rattle.std.proofs.Common.{append-nil}
 use Rattle.std.proofs.lemmas.List.{length-replicate, replicate-append-replicate, take-replicate, drop-replicate}
 use Rattle.std.proofs.lemmas.Grind.{common_steps}
 use Rattle.evbuf_chain.specs.Mark.{Marks, Mark, unmarked, reference_marks, ended_tickets, uncut_marks, AreWhole}
 use Rattle.evbuf_chain.specs.declared.run.Run.{Run}
 use Rattle.evbuf_chain.specs.Views.{run_marks}
-use Rattle.evbuf_chain.proofs.MarkLemmas.{length-reference_marks, ended_tickets-unmarked, ended_tickets-reference, uncut_marks-unmarked, uncut_marks-reference, take-front, drop-front, ended_tickets-cut, uncut_marks-cut, drop-cut}
+use Rattle.evbuf_chain.proofs.MarkLemmas.{length-reference_marks, ended_tickets-unmarked, ended_tickets-reference, uncut_marks-unmarked}
+use Rattle.evbuf_chain.proofs.MarkLemmas.{uncut_marks-reference, take-front, drop-front, ended_tickets-cut, uncut_marks-cut, drop-cut}
 
 pub run_marks-append : (runs more : List Run) (behind : Marks)
     → run_marks (runs ++ more) behind ≡ run_marks runs (run_marks more behind)

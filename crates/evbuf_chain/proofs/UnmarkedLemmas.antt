@@ -1,5 +1,6 @@
 -- The marks of bytes of which none has one.
-use Rattle.std.proofs.Common.{◌≡◌, ℕ, zero, suc, ◌+◌, ◌-◌, ◌≤◌, List, [], ◌++◌, length, take, drop, refl, ap, sym, ◌∙◌, arith, Option, Some, None, is_some, true, ◌<◌, ◌^◌, append-nil, length-append, length-drop, min}
+use Rattle.std.proofs.Common.{◌≡◌, ℕ, zero, suc, ◌+◌, ◌-◌, ◌≤◌, List, [], ◌++◌, length, take, drop, refl, ap, sym, ◌∙◌, arith, Option, Some}
+use Rattle.std.proofs.Common.{None, is_some, true, ◌<◌, ◌^◌, append-nil, length-append, length-drop, min}
 use Rattle.std.proofs.lemmas.List.{replicate-append-replicate, take-replicate, drop-replicate}
 use Rattle.std.specs.Prelude.{Box}
 use Rattle.std.specs.Box.{box_value}

@@ -4,7 +4,8 @@
 // 1. Each byte has a mark or none. A reference's marks stand in a row and run down to its last byte.
 // 2. Bytes come in behind or in front, and leave at the front alone.
 // 3. A ticket is released when the last mark of its reference goes, or as it comes in where the reference has no bytes.
-ghost use Rattle.std.specs.Prelude.{◌≡◌, ◌≤◌, ◌<◌, ◌+◌, ◌-◌, ◌^◌, ◌++◌, ◌∷◌, ◌==◌, ◌↔◌, [], length, drop, take, min, nat_lt, OnOk, OnErr, IfOk, IfSome, IfNone, None, if◌then◌else◌};
+ghost use Rattle.std.specs.Prelude.{◌≡◌, ◌≤◌, ◌<◌, ◌+◌, ◌-◌, ◌^◌, ◌++◌, ◌∷◌, ◌==◌, ◌↔◌, [], length, drop, take, min, nat_lt, OnOk, OnErr};
+ghost use Rattle.std.specs.Prelude.{IfOk, IfSome, IfNone, None, if◌then◌else◌};
 ghost use Rattle.evbuf_chain.specs.Answers.{AnswersOr, fault_of};
 ghost use Rattle.evbuf_chain.specs.Mark.{unmarked, reference_marks, ended_tickets, uncut_marks, AreWhole};
 ghost use Rattle.evbuf_chain.specs.Buffered.{length_refusal, joined, given_up};

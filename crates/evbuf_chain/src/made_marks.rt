@@ -1,6 +1,7 @@
 // The marks of a chain, of which a list is made only with the first reference. Until then no byte has a mark, and a
 // chain keeps a pointer for them. Clauses speak of any number of bytes, since the bytes are the chain's.
-ghost use Rattle.std.specs.Prelude.{◌≡◌, ℕ, ◌≤◌, ◌<◌, ◌+◌, ◌-◌, ◌^◌, ◌++◌, ◌∷◌, ◌==◌, [], if◌then◌else◌, length, take, drop, OnOk, IfNone, IfSome, true, is_some};
+ghost use Rattle.std.specs.Prelude.{◌≡◌, ℕ, ◌≤◌, ◌<◌, ◌+◌, ◌-◌, ◌^◌, ◌++◌, ◌∷◌, ◌==◌, [], if◌then◌else◌, length, take, drop, OnOk, IfNone};
+ghost use Rattle.std.specs.Prelude.{IfSome, true, is_some};
 ghost use Rattle.evbuf_chain.specs.Mark.{unmarked, reference_marks, ended_tickets, AreWhole};
 ghost use Rattle.evbuf_chain.specs.Made.{marks_of, released_of, room_of, MarksMoved};
 

@@ -1,5 +1,6 @@
 -- What of some bytes decides whether a line end stands at their front, and how long it is.
-use Rattle.std.proofs.Common.{◌≡◌, ◌<◌, ◌≤◌, ◌+◌, ℕ, zero, suc, Bool, true, false, cond, eqb, ltb, ◌||◌, ◌&&◌, List, [], ◌∷◌, ◌++◌, length, take, drop, refl, sym, ap, ◌∙◌, arith, rules, tests}
+use Rattle.std.proofs.Common.{◌≡◌, ◌<◌, ◌≤◌, ◌+◌, ℕ, zero, suc, Bool, true, false, cond, eqb, ltb, ◌||◌, ◌&&◌, List, [], ◌∷◌, ◌++◌, length}
+use Rattle.std.proofs.Common.{take, drop, refl, sym, ap, ◌∙◌, arith, rules, tests}
 use Rattle.evbuf_scan.specs.declared.eol.Eol.{Eol}
 use Rattle.evbuf_scan.specs.declared.eol.Eol.TheVariants.{Any, Crlf, CrlfStrict, Lf, Nul}
 use Rattle.evbuf_scan.specs.Ends.{is_cr_or_lf, run_length, end_length, is_bounded, is_end}

@@ -1,5 +1,7 @@
 -- The first place of some bytes that passes a test, and how it is found in a window of them.
-use Rattle.std.proofs.Common.{◌≡◌, ◌<◌, ◌≤◌, ◌+◌, ◌-◌, ℕ, zero, suc, Bool, true, false, cond, Option, Some, None, List, [], ◌∷◌, ◌++◌, length, drop, refl, sym, ap, subst, ◌∙◌, arith, add-zero, length-drop, drop-drop, get_or, take, length-take, take-append-drop}
+use Rattle.std.proofs.Common.{◌≡◌, ◌<◌, ◌≤◌, ◌+◌, ◌-◌, ℕ, zero, suc, Bool, true, false, cond, Option, Some, None, List, [], ◌∷◌, ◌++◌}
+use Rattle.std.proofs.Common.{length, drop, refl, sym, ap, subst, ◌∙◌, arith, add-zero, length-drop, drop-drop, get_or, take, length-take}
+use Rattle.std.proofs.Common.{take-append-drop}
 use Rattle.std.proofs.lemmas.List.{drop_more, take_all}
 use Rattle.std.specs.Prelude.{option_map}
 use Rattle.evbuf_scan.specs.Place.{first_place, place_from, PassesAt, IsFirstPlace}

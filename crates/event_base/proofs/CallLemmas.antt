@@ -1,5 +1,7 @@
 -- What a call does, where what decides it is known.
-use Rattle.std.proofs.Common.{◌≡◌, ℕ, ◌<◌, ◌≤◌, ◌^◌, ◌+◌, ◌-◌, Bool, true, false, not, ◌&&◌, cond, List, [], map, length, set, slice_get, nat_lt, nat_le, Option, Some, None, is_some, unwrap_or, option_map, Result, Ok, Err, OnOk, IfErr, refl, sym, ◌∙◌, ap, subst, count_by, arith}
+use Rattle.std.proofs.Common.{◌≡◌, ℕ, ◌<◌, ◌≤◌, ◌^◌, ◌+◌, ◌-◌, Bool, true, false, not, ◌&&◌, cond, List, [], map, length, set, slice_get}
+use Rattle.std.proofs.Common.{nat_lt, nat_le, Option, Some, None, is_some, unwrap_or, option_map, Result, Ok, Err, OnOk, IfErr, refl, sym}
+use Rattle.std.proofs.Common.{◌∙◌, ap, subst, count_by, arith}
 use Rattle.std.proofs.lemmas.Bool.{lt-ltb, ne_eqb}
 use Rattle.std.specs.Option.{option_map_or}
 use Rattle.std.specs.List.{list_any}

@@ -1,6 +1,9 @@
 -- The timers and the handles beside them: what becomes of both as an event gets a deadline or loses it.
-use Rattle.std.proofs.Common.{◌≡◌, ◌≢◌, ℕ, ◌+◌, ◌-◌, ◌<◌, ◌≤◌, ◌==◌, ◌&&◌, nat_eq, nat_lt, nat_le, Bool, true, false, not, if◌then◌else◌, cond, List, [], ◌∷◌, ◌++◌, length, map, set, get_or, Option, Some, None, option_map, refl, sym, ◌∙◌, ap, subst, ⊎_elim, filter, All, arith, rules}
-use Rattle.std.proofs.lemmas.Bool.{cases_eq, cases_lt, cases_Bool, eq-eqb, ne_eqb, lt-ltb, le-ltb, ltb-true, ltb-false, leb-true, leb-false, le-leb, lt-leb, and_right, not-true, true≢false}
+use Rattle.std.proofs.Common.{◌≡◌, ◌≢◌, ℕ, ◌+◌, ◌-◌, ◌<◌, ◌≤◌, ◌==◌, ◌&&◌, nat_eq, nat_lt, nat_le, Bool, true, false, not, if◌then◌else◌}
+use Rattle.std.proofs.Common.{cond, List, [], ◌∷◌, ◌++◌, length, map, set, get_or, Option, Some, None, option_map, refl, sym, ◌∙◌, ap}
+use Rattle.std.proofs.Common.{subst, ⊎_elim, filter, All, arith, rules}
+use Rattle.std.proofs.lemmas.Bool.{cases_eq, cases_lt, cases_Bool, eq-eqb, ne_eqb, lt-ltb, le-ltb, ltb-true, ltb-false, leb-true, leb-false}
+use Rattle.std.proofs.lemmas.Bool.{le-leb, lt-leb, and_right, not-true, true≢false}
 use Rattle.std.proofs.lemmas.Grind.{common_steps}
 use Rattle.std.proofs.lemmas.List.{get_or-set_same, get_or-set_other, map-set, set-set, length-map, length-set, set-get_or}
 use Rattle.std.proofs.lemmas.List.Elements.{All-nil, All-cons, All-head, All-tail, All-weaker}
@@ -14,7 +17,8 @@ use Rattle.event_base.specs.Rising.{at, but, with, IsLeading, Rises}
 use Rattle.event_base.specs.Ready.{IsLeast}
 use Rattle.event_base.specs.Deadlines.{Moment, DeadlinesValue, IsSooner, deadlines, if_due, due_at, IsDueOrder}
 use Rattle.event_base.specs.DeadlinesView.{moment, moments, kept, IsTimed}
-use Rattle.event_base.proofs.RisingLemmas.{but-same, but-other, but-some, but-none, but-with, but_with-same, with-same, with-other, Rises-same, Rises-without}
+use Rattle.event_base.proofs.RisingLemmas.{but-same, but-other, but-some, but-none, but-with, but_with-same, with-same, with-other}
+use Rattle.event_base.proofs.RisingLemmas.{Rises-same, Rises-without}
 use Rattle.event_base.proofs.ReadyLemmas.{at-set_none, at-set_some}
 
 -- the key of a timer

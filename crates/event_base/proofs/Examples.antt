@@ -4,7 +4,8 @@ use Rattle.event_base.specs.declared.fault.BaseFault.{BaseFault}
 use Rattle.event_base.specs.declared.fault.BaseFault.TheVariants.{NoEvent}
 use Rattle.event_base.specs.Base.{BaseValue}
 use Rattle.event_base.specs.Freeing.{free_event, is_pending}
-use Rattle.event_base.specs.Calls.{Step, new_base, new_event, set_priority, add_event, del_event, activate, signal, begin_turn, next_active, next_fire, poll_timeout, loop_break, loop_exit, ended}
+use Rattle.event_base.specs.Calls.{Step, new_base, new_event, set_priority, add_event, del_event, activate, signal, begin_turn, next_active}
+use Rattle.event_base.specs.Calls.{next_fire, poll_timeout, loop_break, loop_exit, ended}
 
 -- the base behind some calls in their order, unless one is refused
 abbrev run : BaseValue → List (BaseValue → Step) → Step

@@ -1,6 +1,9 @@
 -- The next fire, the most urgent priority and the least deadline, as the queues and the timers tell them.
-use Rattle.std.proofs.Common.{◌≡◌, ◌≢◌, ℕ, ◌+◌, ◌-◌, ◌<◌, ◌≤◌, ◌==◌, zero, suc, min, nat_eq, nat_lt, nat_le, Bool, true, false, not, ◌||◌, ◌&&◌, cond, List, [], ◌∷◌, ◌++◌, length, set, get_or, slice_get, Option, Some, None, option_map, is_some, refl, sym, ◌∙◌, ap, subst, ⊎_elim, unwrap_or, arith, rules}
-use Rattle.std.proofs.lemmas.Bool.{cases_eq, cases_Bool, cases_lt, eq-eqb, ne_eqb, eqb-true, lt-ltb, le-ltb, ltb-true, and_left, and_right, and_parts, and_from, true≢false}
+use Rattle.std.proofs.Common.{◌≡◌, ◌≢◌, ℕ, ◌+◌, ◌-◌, ◌<◌, ◌≤◌, ◌==◌, zero, suc, min, nat_eq, nat_lt, nat_le, Bool, true, false, not, ◌||◌}
+use Rattle.std.proofs.Common.{◌&&◌, cond, List, [], ◌∷◌, ◌++◌, length, set, get_or, slice_get, Option, Some, None, option_map, is_some}
+use Rattle.std.proofs.Common.{refl, sym, ◌∙◌, ap, subst, ⊎_elim, unwrap_or, arith, rules}
+use Rattle.std.proofs.lemmas.Bool.{cases_eq, cases_Bool, cases_lt, eq-eqb, ne_eqb, eqb-true, lt-ltb, le-ltb, ltb-true, and_left, and_right}
+use Rattle.std.proofs.lemmas.Bool.{and_parts, and_from, true≢false}
 use Rattle.std.proofs.lemmas.List.Sums.{position_or_len_is}
 use Rattle.std.specs.List.{list_any, position, position_or_len}
 use Rattle.std.specs.Option.{option_map_or, option_and_then}

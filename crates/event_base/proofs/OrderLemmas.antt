@@ -1,5 +1,7 @@
 -- Timers that a turn makes active have their calls in the order of their timeouts.
-use Rattle.std.proofs.Common.{◌≡◌, ◌≢◌, ℕ, ◌+◌, ◌<◌, ◌≤◌, ◌==◌, zero, suc, nat_eq, nat_lt, nat_le, Bool, true, false, not, ◌&&◌, ◌||◌, cond, List, [], ◌∷◌, length, map, get_or, slice_get, Option, Some, None, option_map, is_some, Ok, Err, refl, sym, ◌∙◌, ap, subst, count_by, arith}
+use Rattle.std.proofs.Common.{◌≡◌, ◌≢◌, ℕ, ◌+◌, ◌<◌, ◌≤◌, ◌==◌, zero, suc, nat_eq, nat_lt, nat_le, Bool, true, false, not, ◌&&◌, ◌||◌, cond}
+use Rattle.std.proofs.Common.{List, [], ◌∷◌, length, map, get_or, slice_get, Option, Some, None, option_map, is_some, Ok, Err, refl, sym}
+use Rattle.std.proofs.Common.{◌∙◌, ap, subst, count_by, arith}
 use Rattle.std.proofs.lemmas.Bool.{lt-ltb, ltb-true, and_parts, and_from}
 use Rattle.std.proofs.lemmas.Bool.Decides.{nat_tests}
 use Rattle.std.proofs.lemmas.List.Sums.{sum_by-cons}
@@ -14,7 +16,8 @@ use Rattle.event_base.specs.declared.ready.Place.{Place}
 use Rattle.event_base.specs.declared.fault.BaseFault.TheVariants.{Spent}
 use Rattle.event_base.specs.Base.{BaseValue}
 use Rattle.event_base.specs.Events.{is_active, activated}
-use Rattle.event_base.specs.Turns.{time_at, is_due, wakes, comes_before, wakes_before, timed_out, in_batch, made_earlier, is_first, next_event}
+use Rattle.event_base.specs.Turns.{time_at, is_due, wakes, comes_before, wakes_before, timed_out, in_batch, made_earlier, is_first}
+use Rattle.event_base.specs.Turns.{next_event}
 use Rattle.event_base.specs.Tied.{value_at, place_of}
 use Rattle.event_base.specs.Calls.{fit, next_call, next_fire}
 use Rattle.event_base.specs.BaseLaws.{KeepsPlace, HasNoCallback, TimersFireInOrder}

@@ -1,16 +1,20 @@
 -- The queues and the places beside them: what becomes of both as an event becomes active or inactive.
-use Rattle.std.proofs.Common.{◌≡◌, ◌≢◌, ℕ, ◌+◌, ◌-◌, ◌<◌, ◌≤◌, ◌==◌, nat_eq, Bool, true, false, not, if◌then◌else◌, cond, List, [], ◌∷◌, ◌++◌, length, set, get_or, Option, Some, None, option_map, refl, sym, ◌∙◌, ap, subst, ⊎_elim, filter, slice_get, nat_lt, zero, suc, take, drop, add-zero, arith, rules}
+use Rattle.std.proofs.Common.{◌≡◌, ◌≢◌, ℕ, ◌+◌, ◌-◌, ◌<◌, ◌≤◌, ◌==◌, nat_eq, Bool, true, false, not, if◌then◌else◌, cond, List, [], ◌∷◌}
+use Rattle.std.proofs.Common.{◌++◌, length, set, get_or, Option, Some, None, option_map, refl, sym, ◌∙◌, ap, subst, ⊎_elim, filter}
+use Rattle.std.proofs.Common.{slice_get, nat_lt, zero, suc, take, drop, add-zero, arith, rules}
 use Rattle.std.proofs.lemmas.Bool.{cases_eq, cases_lt, eq-eqb, ne_eqb, lt-ltb, le-ltb, ltb-false}
 use Rattle.std.proofs.lemmas.List.Sums.{fails_before_first, passes_at_first}
 use Rattle.std.specs.List.{list_any, position, position_or_len}
 use Rattle.std.proofs.lemmas.Grind.{common_steps}
-use Rattle.std.proofs.lemmas.List.{get_or-set_same, get_or-set_other, get_or_past, length-set, set-set, set-get_or, length_push, take-append-le, take_all, take_more}
+use Rattle.std.proofs.lemmas.List.{get_or-set_same, get_or-set_other, get_or_past, length-set, set-set, set-get_or, length_push}
+use Rattle.std.proofs.lemmas.List.{take-append-le, take_all, take_more}
 use Rattle.std.proofs.Math.ListN.{get_or-map}
 use Rattle.prio_queue.specs.Queues.{queue_of, without, first_key, first_filled, appended, without_last, popped, is_queued}
 use Rattle.event_base.specs.declared.ready.Place.{Place}
 use Rattle.event_base.specs.declared.ready.Waking.{Waking}
 use Rattle.event_base.specs.Rising.{at, but, with, IsLeading, Rises}
-use Rattle.event_base.specs.Ready.{order_in, orders, priorities, IsFront, IsNext, IsLeast, woken, CanWake, appended_all, CanAppend, IsPlaced}
+use Rattle.event_base.specs.Ready.{order_in, orders, priorities, IsFront, IsNext, IsLeast, woken, CanWake, appended_all, CanAppend}
+use Rattle.event_base.specs.Ready.{IsPlaced}
 use Rattle.event_base.proofs.RisingLemmas.{but-same, but-other, but-some, Rises-same, Rises-without, Rises-push, Rises-absent}
 
 -- a place that was taken out of a list is no longer there, and the others are

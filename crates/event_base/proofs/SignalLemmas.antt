@@ -1,5 +1,7 @@
 -- The events that hear a signal, one after another.
-use Rattle.std.proofs.Common.{◌≡◌, ◌≢◌, ℕ, ◌+◌, ◌<◌, ◌≤◌, ◌^◌, ◌==◌, nat_eq, nat_lt, Bool, true, false, not, ◌||◌, ◌&&◌, cond, List, [], ◌∷◌, ◌++◌, length, set, get_or, Option, Some, None, is_some, refl, sym, ◌∙◌, ap, subst, ⊎_elim, count_by, add-zero, add-one, append_assoc, arith, rules}
+use Rattle.std.proofs.Common.{◌≡◌, ◌≢◌, ℕ, ◌+◌, ◌<◌, ◌≤◌, ◌^◌, ◌==◌, nat_eq, nat_lt, Bool, true, false, not, ◌||◌, ◌&&◌, cond, List, []}
+use Rattle.std.proofs.Common.{◌∷◌, ◌++◌, length, set, get_or, Option, Some, None, is_some, refl, sym, ◌∙◌, ap, subst, ⊎_elim, count_by}
+use Rattle.std.proofs.Common.{add-zero, add-one, append_assoc, arith, rules}
 use Rattle.std.proofs.lemmas.Bool.{cases_eq, cases_Bool, ne_eqb, not-false, ltb-true, and_left, and_right}
 use Rattle.std.proofs.lemmas.List.{append-nil, get_or_at, length_push, length-append}
 use Rattle.std.proofs.Math.Seq.{set-append_seam}

@@ -1,7 +1,8 @@
 -- Calls on a base in a row: what each makes of it, and to which base they lead.
 use Rattle.std.specs.Prelude.{◌≡◌, ℕ, ◌==◌, Bool, true, false, List, [], ◌∷◌, Option, Ok}
 use Rattle.event_base.specs.Base.{BaseValue}
-use Rattle.event_base.specs.Calls.{Step, new_event, set_priority, add_event, del_event, activate, signal, begin_turn, next_active, loop_break, loop_exit}
+use Rattle.event_base.specs.Calls.{Step, new_event, set_priority, add_event, del_event, activate, signal, begin_turn, next_active}
+use Rattle.event_base.specs.Calls.{loop_break, loop_exit}
 use Rattle.event_base.specs.Freeing.{free_event}
 
 -- a call that changes a base

@@ -1,5 +1,6 @@
 -- What becomes of one event as it is made, added, deleted, made active and called.
-use Rattle.std.specs.Prelude.{ℕ, ◌+◌, ◌-◌, ◌==◌, ◌&&◌, Bool, true, false, if◌then◌else◌, nat_lt, nat_le, Option, Some, None, is_some, bit_and, bit_or}
+use Rattle.std.specs.Prelude.{ℕ, ◌+◌, ◌-◌, ◌==◌, ◌&&◌, Bool, true, false, if◌then◌else◌, nat_lt, nat_le, Option, Some, None, is_some}
+use Rattle.std.specs.Prelude.{bit_and, bit_or}
 use Rattle.std.specs.Option.{option_map, option_map_or}
 use Rattle.event_base.specs.declared.event.Event.{Event}
 use Rattle.event_base.specs.declared.event.Timeout.{Timeout}

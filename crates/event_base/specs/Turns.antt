@@ -1,5 +1,6 @@
 -- What a turn makes active, and which events its batch has.
-use Rattle.std.specs.Prelude.{ℕ, ◌+◌, ◌^◌, ◌==◌, ◌&&◌, ◌||◌, not, Bool, true, false, if◌then◌else◌, nat_lt, nat_le, max, min, List, [], ◌∷◌, map, count_by, position, Option, Some, None, unwrap_or}
+use Rattle.std.specs.Prelude.{ℕ, ◌+◌, ◌^◌, ◌==◌, ◌&&◌, ◌||◌, not, Bool, true, false, if◌then◌else◌, nat_lt, nat_le, max, min, List, [], ◌∷◌}
+use Rattle.std.specs.Prelude.{map, count_by, position, Option, Some, None, unwrap_or}
 use Rattle.std.specs.List.{list_any}
 use Rattle.std.specs.Option.{option_map_or}
 use Rattle.event_base.specs.declared.event.Event.{Event}

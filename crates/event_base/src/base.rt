@@ -1,7 +1,9 @@
 // A base, and what is done to its events one by one.
-ghost use Rattle.std.specs.Prelude.{◌≡◌, true, ◌≤◌, ◌<◌, ◌+◌, ◌^◌, if◌then◌else◌, unwrap_or, length, Some, None, Ok, Err, IfOk, IfErr, OnOk, OnErr};
+ghost use Rattle.std.specs.Prelude.{◌≡◌, true, ◌≤◌, ◌<◌, ◌+◌, ◌^◌, if◌then◌else◌, unwrap_or, length, Some, None, Ok, Err, IfOk, IfErr};
+ghost use Rattle.std.specs.Prelude.{OnOk, OnErr};
 ghost use Rattle.std.specs.Option.{ForSome};
-ghost use Rattle.event_base.specs.Calls.{IsAnswer, is_count, new_base, fit, new_event, set_priority, add_event, del_event, activate, signal, begin_turn, next_active, next_fire, poll_timeout, ended, loop_break, loop_exit};
+ghost use Rattle.event_base.specs.Calls.{IsAnswer, is_count, new_base, fit, new_event, set_priority, add_event, del_event, activate};
+ghost use Rattle.event_base.specs.Calls.{signal, begin_turn, next_active, next_fire, poll_timeout, ended, loop_break, loop_exit};
 ghost use Rattle.event_base.specs.Freeing.{free_event, is_pending};
 ghost use Rattle.event_base.specs.Turns.{least, active_priority, next_event};
 ghost use Rattle.event_base.specs.Rousing.{risen, wakers, CanRise, AreApart};

@@ -1,5 +1,6 @@
 // The deadlines of events: a timer for each event that has one. What a deadline means stands elsewhere.
-ghost use Rattle.std.specs.Prelude.{◌≡◌, ◌≤◌, ◌<◌, ◌+◌, ◌^◌, ℕ, [], Ok, Err, Some, None, length, slice_set, IfOk, IfErr, OnOk, OnErr, if◌then◌else◌, nat_lt};
+ghost use Rattle.std.specs.Prelude.{◌≡◌, ◌≤◌, ◌<◌, ◌+◌, ◌^◌, ℕ, [], Ok, Err, Some, None, length, slice_set, IfOk, IfErr, OnOk, OnErr};
+ghost use Rattle.std.specs.Prelude.{if◌then◌else◌, nat_lt};
 ghost use Rattle.event_base.specs.Rising.{at};
 ghost use Rattle.event_base.specs.Ready.{IsLeast};
 ghost use Rattle.event_base.specs.Deadlines.{IsDueOrder, deadlines};

@@ -1,7 +1,8 @@
 // What a base keeps of one event, and the flags of its callbacks.
 ghost use Rattle.std.specs.Prelude.{◌≡◌, ◌<◌, ◌≤◌, ◌+◌, ◌^◌, Some, None, nat_lt, nat_le, if◌then◌else◌, ◌&&◌, slice_get};
 ghost use Rattle.std.specs.Option.{ForSome};
-ghost use Rattle.event_base.specs.Events.{made, is_active, activated, added, deleted, freed_event, unless_freed, again, next_deadline, one_less};
+ghost use Rattle.event_base.specs.Events.{made, is_active, activated, added, deleted, freed_event, unless_freed, again, next_deadline};
+ghost use Rattle.event_base.specs.Events.{one_less};
 ghost use Rattle.event_base.specs.Turns.{is_due, wakes};
 ghost use Rattle.event_base.specs.Fires.{hears, is_woken_by, overflows};
 ghost use Rattle.event_base.specs.Rousing.{needed};

@@ -1,8 +1,10 @@
 // Which events are active: a queue for each priority, and the place of each event. Why an event is active, and what its
 // callback changes, stands elsewhere.
-ghost use Rattle.std.specs.Prelude.{◌≡◌, ◌≤◌, ◌<◌, ◌+◌, ◌^◌, ℕ, List, [], Ok, Err, Some, None, true, length, slice_set, IfOk, IfErr, OnOk, OnErr, if◌then◌else◌};
+ghost use Rattle.std.specs.Prelude.{◌≡◌, ◌≤◌, ◌<◌, ◌+◌, ◌^◌, ℕ, List, [], Ok, Err, Some, None, true, length, slice_set, IfOk, IfErr, OnOk};
+ghost use Rattle.std.specs.Prelude.{OnErr, if◌then◌else◌};
 ghost use Rattle.event_base.specs.Rising.{at};
-ghost use Rattle.event_base.specs.Ready.{IsFront, IsNext, IsLeast, CanWake, woken, CanAppend, appended_all, orders, priorities as priorities_of};
+ghost use Rattle.event_base.specs.Ready.{IsFront, IsNext, IsLeast, CanWake, woken, CanAppend, appended_all, orders};
+ghost use Rattle.event_base.specs.Ready.{priorities as priorities_of};
 ghost use Rattle.event_base.specs.Calls.{is_count};
 
 use prio_queue::{Active, PrioFault};

@@ -1,5 +1,6 @@
 // Events that get a flag one after another.
-ghost use Rattle.std.specs.Prelude.{◌≡◌, ◌<◌, ◌≤◌, ◌+◌, ◌^◌, false, if◌then◌else◌, IfOk, IfErr, OnOk, OnErr, All, length, slice_set, count_by};
+ghost use Rattle.std.specs.Prelude.{◌≡◌, ◌<◌, ◌≤◌, ◌+◌, ◌^◌, false, if◌then◌else◌, IfOk, IfErr, OnOk, OnErr, All, length, slice_set};
+ghost use Rattle.std.specs.Prelude.{count_by};
 ghost use Rattle.std.specs.Option.{option_map};
 ghost use Rattle.event_base.specs.Events.{again, set_again};
 ghost use Rattle.event_base.specs.Tied.{moment_at};

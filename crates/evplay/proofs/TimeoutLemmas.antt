@@ -1,5 +1,6 @@
 -- The timeouts that a script sets are numbers of 64 bits.
-use Rattle.std.proofs.Common.{◌≡◌, ◌≤◌, ◌<◌, ◌^◌, ℕ, Bool, true, false, ◌&&◌, ◌||◌, not, List, [], ◌∷◌, ◌++◌, length, codes, Option, Some, None, Ok, refl, subst, arith, if◌then◌else◌}
+use Rattle.std.proofs.Common.{◌≡◌, ◌≤◌, ◌<◌, ◌^◌, ℕ, Bool, true, false, ◌&&◌, ◌||◌, not, List, [], ◌∷◌, ◌++◌, length, codes, Option, Some}
+use Rattle.std.proofs.Common.{None, Ok, refl, subst, arith, if◌then◌else◌}
 use Rattle.std.specs.Prelude.{nat_lt, IfSome, option_map, option_and_then, unwrap_or}
 use Rattle.token_bucket.specs.declared.limit.Dir.TheVariants.{Read, Write}
 use Rattle.ev_types.specs.declared.filter.FilterKind.{FilterKind}
@@ -32,7 +33,8 @@ use Rattle.script_text.specs.declared.plan.PlanItem.{PlanItem}
 use Rattle.script_text.specs.ValueGrammar.{why_kind_of}
 use Rattle.script_text.specs.ActGrammar.{planned_ask}
 use Rattle.token_bucket.specs.declared.limit.LimitCfg.{LimitCfg}
-use Rattle.script_text.specs.Grammar.{keyword_of, made_of, more_of, of_end, hold_of, side_marks_of, side_timeouts_of, set_by, setting_name_of, said_by, is_comment, said}
+use Rattle.script_text.specs.Grammar.{keyword_of, made_of, more_of, of_end, hold_of, side_marks_of, side_timeouts_of, set_by}
+use Rattle.script_text.specs.Grammar.{setting_name_of, said_by, is_comment, said}
 use Rattle.script_text.specs.GroupsAndPlans.{group_of, group_set_of, hooked_of, nth_of}
 use Rattle.script_text.specs.Order.{may_be_set, group_set, may_follow, with_line, extended}
 use Rattle.script_text.specs.Spelled.{no_line, script_of}

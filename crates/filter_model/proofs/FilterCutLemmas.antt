@@ -1,5 +1,7 @@
 -- However an input is cut into steps, they make the definition's function of it.
-use Rattle.std.proofs.Common.{◌≡◌, ℕ, suc, ◌+◌, ◌-◌, ◌<◌, ◌≤◌, Bool, true, false, not, ◌==◌, ◌&&◌, ◌||◌, if◌then◌else◌, List, [], ◌∷◌, ◌++◌, length, take, drop, Option, Some, None, is_none, refl, sym, ◌∙◌, ap, subst, arith, append_assoc, append-nil, length-append}
+use Rattle.std.proofs.Common.{◌≡◌, ℕ, suc, ◌+◌, ◌-◌, ◌<◌, ◌≤◌, Bool, true, false, not, ◌==◌, ◌&&◌, ◌||◌, if◌then◌else◌, List, [], ◌∷◌, ◌++◌}
+use Rattle.std.proofs.Common.{length, take, drop, Option, Some, None, is_none, refl, sym, ◌∙◌, ap, subst, arith, append_assoc, append-nil}
+use Rattle.std.proofs.Common.{length-append}
 use Rattle.std.specs.Prelude.{is_some, nat_le, nat_lt, ⊤, MatchOption}
 use Rattle.std.specs.List.{last_or}
 use Rattle.std.proofs.lemmas.Bool.{eqb-true, and_parts, leb-true}
@@ -10,7 +12,8 @@ use Rattle.filter_model.specs.Filter.{Filter, filter_of, met, holds}
 use Rattle.filter_model.specs.FilterLaws.{IsMetPlace, last_of}
 use Rattle.filter_model.specs.FilterRun.{Ran, nothing_ran, run, goes_on, adds, is_bad_byte}
 use Rattle.filter_model.specs.FilterStep.{begun, run_of, after_bytes, Stepped, ending, stepped}
-use Rattle.filter_model.specs.FilterCuts.{target_length, IsStep, Cut, cut_step, after_cuts, made_by, GivesFunction, CutsGiveFunction, CutsAgree, joined, RunsJoin}
+use Rattle.filter_model.specs.FilterCuts.{target_length, IsStep, Cut, cut_step, after_cuts, made_by, GivesFunction, CutsGiveFunction}
+use Rattle.filter_model.specs.FilterCuts.{CutsAgree, joined, RunsJoin}
 use Rattle.filter_model.specs.Running.{Running, StandsAt}
 use Rattle.filter_model.specs.Stopping.{is_over}
 use Rattle.filter_model.proofs.EveryFilter.{every_filter, begins_with_input}

@@ -1,6 +1,7 @@
 -- What steps of a running filter come to: the definition's function of the whole input, however it is cut and whatever the
 -- limits are.
-use Rattle.std.specs.Prelude.{◌≡◌, ℕ, ◌+◌, ◌-◌, ◌≤◌, Bool, true, false, ◌==◌, ◌&&◌, ◌||◌, nat_lt, nat_le, if◌then◌else◌, List, [], ◌∷◌, ◌++◌, length, take, drop, max, Option, Some, None, is_some}
+use Rattle.std.specs.Prelude.{◌≡◌, ℕ, ◌+◌, ◌-◌, ◌≤◌, Bool, true, false, ◌==◌, ◌&&◌, ◌||◌, nat_lt, nat_le, if◌then◌else◌, List, [], ◌∷◌}
+use Rattle.std.specs.Prelude.{◌++◌, length, take, drop, max, Option, Some, None, is_some}
 use Rattle.std.specs.List.{last_or}
 use Rattle.ev_types.specs.declared.filter.FilterKind.{FilterKind}
 use Rattle.filter_model.specs.Filter.{Filter, filter_of, met}

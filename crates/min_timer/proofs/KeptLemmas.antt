@@ -1,5 +1,6 @@
 -- What the timers keep, after each call that changes them.
-use Rattle.std.proofs.Common.{◌≡◌, ◌∙◌, sym, ap, ℕ, ◌+◌, ◌<◌, ◌≤◌, true, false, not, List, ◌∷◌, length, get_or, arith, subst, Option, Some, None, OnSome, count_by, is_some}
+use Rattle.std.proofs.Common.{◌≡◌, ◌∙◌, sym, ap, ℕ, ◌+◌, ◌<◌, ◌≤◌, true, false, not, List, ◌∷◌, length, get_or, arith, subst, Option, Some}
+use Rattle.std.proofs.Common.{None, OnSome, count_by, is_some}
 use Rattle.std.proofs.lemmas.Bool.{and_from, eq-eqb, not-true}
 use Rattle.std.proofs.lemmas.List.Elements.{All-weaker, All-filter, All-tail, filter_passes}
 use Rattle.std.proofs.lemmas.List.Kept.{AllPairs-filter}

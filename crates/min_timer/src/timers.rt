@@ -74,7 +74,8 @@ impl Model for Timers {
 }
 
 impl Timers {
-    ghost use Rattle.min_timer.specs.Queue.{number_of, is_timer_of, timer_of, without, with_timer, first_deadline, first_due, after_due, due_keys};
+    ghost use Rattle.min_timer.specs.Queue.{number_of, is_timer_of, timer_of, without, with_timer, first_deadline, first_due, after_due};
+    ghost use Rattle.min_timer.specs.Queue.{due_keys};
 
     /// No timers. Takes no memory; constant cost.
     pub fn new(alloc: Global) -> Timers

@@ -1,5 +1,6 @@
 -- What a poll tells of the ends takes nothing from them, report by report; and a pause that was looked at twice.
-use Rattle.std.proofs.Common.{◌≡◌, ◌∙◌, ◌≤◌, ℕ, Bool, true, ◌||◌, List, Option, Some, None, option_map, get_or, inl, inr, refl, ap, subst, sym, arith, rules}
+use Rattle.std.proofs.Common.{◌≡◌, ◌∙◌, ◌≤◌, ℕ, Bool, true, ◌||◌, List, Option, Some, None, option_map, get_or, inl, inr, refl, ap, subst}
+use Rattle.std.proofs.Common.{sym, arith, rules}
 use Rattle.std.proofs.lemmas.Bool.{cases_eq}
 use Rattle.mio.specs.declared.event.event.Event.{Event}
 use Rattle.mio_port.specs.declared.end.End.{End}

@@ -1,5 +1,6 @@
 -- What reports tell, one more of them at a time.
-use Rattle.std.proofs.Common.{◌≡◌, ◌≢◌, ◌∙◌, ℕ, ◌==◌, Bool, true, false, ◌||◌, List, [], ◌∷◌, Option, None, option_map, get_or, length, arith, inl, inr, refl, sym, ap, subst, eq-eqb, eqb-true}
+use Rattle.std.proofs.Common.{◌≡◌, ◌≢◌, ◌∙◌, ℕ, ◌==◌, Bool, true, false, ◌||◌, List, [], ◌∷◌, Option, None, option_map, get_or, length}
+use Rattle.std.proofs.Common.{arith, inl, inr, refl, sym, ap, subst, eq-eqb, eqb-true}
 use Rattle.std.specs.List.{fold}
 use Rattle.std.proofs.lemmas.Bool.{cases_eq}
 use Rattle.mio.specs.declared.event.event.Event.{Event}

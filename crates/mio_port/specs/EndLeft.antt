@@ -1,6 +1,7 @@
 -- What a call leaves of the ends: what its answer tells of the end that it names, and all others as they were. A poll takes nothing
 -- from an end.
-use Rattle.std.specs.Prelude.{◌≡◌, ◌≢◌, ◌⊎◌, ◌+◌, ◌*◌, ⊤, ℕ, Bool, true, false, List, Option, Some, None, Result, Ok, Err, MatchOption, slice_index_or}
+use Rattle.std.specs.Prelude.{◌≡◌, ◌≢◌, ◌⊎◌, ◌+◌, ◌*◌, ⊤, ℕ, Bool, true, false, List, Option, Some, None, Result, Ok, Err, MatchOption}
+use Rattle.std.specs.Prelude.{slice_index_or}
 use Rattle.std.specs.declared.net.socket_addr.SocketAddr.{SocketAddr}
 use Rattle.ev_types.specs.declared.answer.ConnAnswer.{ConnAnswer}
 use Rattle.ev_types.specs.declared.answer.ConnAnswer.TheVariants as conn

@@ -1,6 +1,7 @@
 // The ends of all links, by their numbers, and the numbers of those that are ready. An end stays once it is made, and its
 // count of faults with it.
-ghost use Rattle.std.specs.Prelude.{◌≡◌, ◌<◌, ◌≤◌, ◌==◌, ◌+◌, ◌*◌, ℕ, [], None, Some, length, map, filter, slice_index_or, vec_len, OnOk, false, true, option_map, if◌then◌else◌};
+ghost use Rattle.std.specs.Prelude.{◌≡◌, ◌<◌, ◌≤◌, ◌==◌, ◌+◌, ◌*◌, ℕ, [], None, Some, length, map, filter, slice_index_or, vec_len, OnOk};
+ghost use Rattle.std.specs.Prelude.{false, true, option_map, if◌then◌else◌};
 ghost use Rattle.std.specs.List.{list_any};
 ghost use Rattle.ev_port.specs.FaultCounts.{Counted};
 ghost use Rattle.ev_port.specs.Table.{RowsStay, is_marked, named};
@@ -10,7 +11,8 @@ ghost use Rattle.mio_port.specs.EndAnswers.{connection_of, connection_at, ReadBy
 ghost use Rattle.mio_port.specs.EndLeft.{LeftAt, PlaceLeft, ReadLeft, WriteLeft, CheckLeft};
 ghost use Rattle.mio_port.specs.PortCalls.{OthersStay};
 ghost use Rattle.mio_port.specs.OneEnd.{noticed_end, ended_end, closed_end};
-ghost use Rattle.mio_port.specs.EndPlaces.{faults_of, CountsStay, CountsAt, PlacesStay, PlaceWent, holds, is_made, is_read_ready, is_write_ready, can_read, can_write, wants_ready, marked, unmarked};
+ghost use Rattle.mio_port.specs.EndPlaces.{faults_of, CountsStay, CountsAt, PlacesStay, PlaceWent, holds, is_made, is_read_ready};
+ghost use Rattle.mio_port.specs.EndPlaces.{is_write_ready, can_read, can_write, wants_ready, marked, unmarked};
 
 use crate::end::End;
 use ev_port::{Want, WantTable};

@@ -1,5 +1,6 @@
 -- Walks from word to word, for the nearest number that passes a test.
-use Rattle.std.proofs.Common.{◌≡◌, inl, inr, ◌∙◌, sym, ap, ap₂, refl, ℕ, ◌+◌, ◌-◌, ◌*◌, ◌<◌, ◌≤◌, Bool, false, ◌&&◌, ◌||◌, List, get_or, bit_and, bit_or, Option, Some, None, arith}
+use Rattle.std.proofs.Common.{◌≡◌, inl, inr, ◌∙◌, sym, ap, ap₂, refl, ℕ, ◌+◌, ◌-◌, ◌*◌, ◌<◌, ◌≤◌, Bool, false, ◌&&◌, ◌||◌, List, get_or}
+use Rattle.std.proofs.Common.{bit_and, bit_or, Option, Some, None, arith}
 use Rattle.std.proofs.lemmas.Bool.{cases_lt}
 use Rattle.number_set.specs.Next.{in_either, IsLeast, IsGreatest, IsNext, IsPrevious}
 use Rattle.number_set.specs.Words.{is_set, has_number}

@@ -1,6 +1,7 @@
 // Words of numbers beside a set of the places of those that aren't 0, so that a walk passes over 64 words without a number at a
 // time.
-ghost use Rattle.std.specs.Prelude.{◌≡◌, ℕ, ◌+◌, ◌*◌, ◌^◌, ◌<◌, ◌≤◌, ◌==◌, nat_lt, Bool, false, length, vec_len, MatchOption, OnOk, OnErr, if◌then◌else◌};
+ghost use Rattle.std.specs.Prelude.{◌≡◌, ℕ, ◌+◌, ◌*◌, ◌^◌, ◌<◌, ◌≤◌, ◌==◌, nat_lt, Bool, false, length, vec_len, MatchOption, OnOk, OnErr};
+ghost use Rattle.std.specs.Prelude.{if◌then◌else◌};
 ghost use Rattle.number_set.specs.Next.{in_either, IsNext, IsPrevious};
 ghost use Rattle.number_set.specs.Walks.{IsNextWord, IsPreviousWord};
 ghost use Rattle.number_set.specs.Words.{AreTops, has_number, is_set};

@@ -1,5 +1,6 @@
 // A set of the numbers below a length, and the walks from member to member, up and down.
-ghost use Rattle.std.specs.Prelude.{◌≡◌, ℕ, ◌+◌, ◌*◌, ◌^◌, ◌<◌, ◌≤◌, ◌==◌, Bool, true, false, IfSome, MatchOption, OnOk, OnErr, IsOk, max, if◌then◌else◌};
+ghost use Rattle.std.specs.Prelude.{◌≡◌, ℕ, ◌+◌, ◌*◌, ◌^◌, ◌<◌, ◌≤◌, ◌==◌, Bool, true, false, IfSome, MatchOption, OnOk, OnErr, IsOk, max};
+ghost use Rattle.std.specs.Prelude.{if◌then◌else◌};
 ghost use Rattle.number_set.specs.Next.{in_either, IsNext, IsPrevious};
 ghost use Rattle.number_set.specs.Walks.{IsNextWord};
 ghost use Rattle.number_set.specs.Words.{is_set};

@@ -1,5 +1,6 @@
 // A set as words of 64 bits, the number n at the bit n % 64 of the word n / 64.
-ghost use Rattle.std.specs.Prelude.{◌≡◌, ◌≢◌, ℕ, ◌+◌, ◌*◌, ◌/◌, ◌<◌, ◌≤◌, ◌==◌, ◌^◌, nat_lt, Bool, false, OnOk, OnErr, slice_index, length, vec_len, if◌then◌else◌};
+ghost use Rattle.std.specs.Prelude.{◌≡◌, ◌≢◌, ℕ, ◌+◌, ◌*◌, ◌/◌, ◌<◌, ◌≤◌, ◌==◌, ◌^◌, nat_lt, Bool, false, OnOk, OnErr, slice_index, length};
+ghost use Rattle.std.specs.Prelude.{vec_len, if◌then◌else◌};
 ghost use Rattle.number_set.specs.Next.{in_either, IsNext, IsPrevious};
 ghost use Rattle.number_set.specs.Words.{has_number, is_set};
 

@@ -1,5 +1,6 @@
 -- What a contract sees of the active queues: for each priority, from 0 on, the list of the keys that wait.
-use Rattle.std.specs.Prelude.{ℕ, ◌-◌, ◌==◌, ◌&&◌, Bool, not, nat_lt, nat_le, if◌then◌else◌, List, [], ◌∷◌, ◌++◌, length, map, filter, position, drop, take, Option, slice_get, slice_set}
+use Rattle.std.specs.Prelude.{ℕ, ◌-◌, ◌==◌, ◌&&◌, Bool, not, nat_lt, nat_le, if◌then◌else◌, List, [], ◌∷◌, ◌++◌, length, map, filter}
+use Rattle.std.specs.Prelude.{position, drop, take, Option, slice_get, slice_set}
 use Rattle.std.specs.List.{list_any, slice_index_or}
 
 -- there can be so many priorities: 1 to 256

@@ -1,7 +1,9 @@
 // The active queues: one list of keys for each priority. A key that is activated while it waits stays where it is.
-ghost use Rattle.std.specs.Prelude.{◌≡◌, ◌≤◌, ◌↔◌, ◌==◌, [], IsTrue, IfOk, OnOk, OnErr, false, replicate, not, length, filter, position, nat_lt};
+ghost use Rattle.std.specs.Prelude.{◌≡◌, ◌≤◌, ◌↔◌, ◌==◌, [], IsTrue, IfOk, OnOk, OnErr, false, replicate, not, length, filter, position};
+ghost use Rattle.std.specs.Prelude.{nat_lt};
 ghost use Rattle.std.specs.List.{list_any};
-ghost use Rattle.prio_queue.specs.Queues.{queue_of, is_queued, activated, appended, last_key, without_last, without, popped, first_key, first_filled, is_count};
+ghost use Rattle.prio_queue.specs.Queues.{queue_of, is_queued, activated, appended, last_key, without_last, without, popped, first_key};
+ghost use Rattle.prio_queue.specs.Queues.{first_filled, is_count};
 
 use crate::fault::PrioFault;
 use std::alloc::Global;

@@ -1,6 +1,7 @@
 -- A turn of the relay puts one entry that begins a turn: its clock puts it, and no other step does. So does a turn that is cut off, unless
 -- it puts nothing.
-use Rattle.std.proofs.Common.{◌≡◌, ℕ, zero, suc, ◌+◌, Bool, true, false, ◌&&◌, nat_lt, if◌then◌else◌, List, [], ◌∷◌, ◌++◌, refl, ◌∙◌, ap, arith, count_by, inl, inr, ◌⊎◌}
+use Rattle.std.proofs.Common.{◌≡◌, ℕ, zero, suc, ◌+◌, Bool, true, false, ◌&&◌, nat_lt, if◌then◌else◌, List, [], ◌∷◌, ◌++◌, refl, ◌∙◌, ap}
+use Rattle.std.proofs.Common.{arith, count_by, inl, inr, ◌⊎◌}
 use Rattle.std.specs.Prelude.{MatchBool, Option, Some, None, is_some, option_map}
 use Rattle.std.proofs.lemmas.List.Sums.{sum_by-append}
 use Rattle.ev_types.specs.declared.side.SideId.{SideId}
@@ -27,7 +28,10 @@ use Rattle.ev_types.specs.ScriptTurn.{ScriptTurn}
 use Rattle.relay_model.specs.Scripted.{begun}
 use Rattle.relay_drive.specs.Steps.{Nothing, Then, Each, CutAt}
 use Rattle.relay_drive.specs.Calls.{Ticks}
-use Rattle.relay_drive.specs.Phases.{links_from, Polls, OpensOne, OpensSome, AcceptsWhere, PollsAndAccepts, ReadsSide, WritesSide, ConnectsSide, ServesSide, PassesSide, PassesLink, ForAllLinks, closing_events, LooksAt, ClosesLink, Turns, CutTurn, before, in_poll, in_serving, in_passing, in_closing, CutPoll, CutAccepting, CutPolling, AcceptsMore, CutServing, CutPassing, CutPassingLink, CutClosingLink, CutForAllLinks}
+use Rattle.relay_drive.specs.Phases.{links_from, Polls, OpensOne, OpensSome, AcceptsWhere, PollsAndAccepts, ReadsSide, WritesSide}
+use Rattle.relay_drive.specs.Phases.{ConnectsSide, ServesSide, PassesSide, PassesLink, ForAllLinks, closing_events, LooksAt, ClosesLink}
+use Rattle.relay_drive.specs.Phases.{Turns, CutTurn, before, in_poll, in_serving, in_passing, in_closing, CutPoll, CutAccepting, CutPolling}
+use Rattle.relay_drive.specs.Phases.{AcceptsMore, CutServing, CutPassing, CutPassingLink, CutClosingLink, CutForAllLinks}
 use Rattle.relay_drive.specs.declared.fault.DriveFault.{DriveFault}
 use Rattle.relay_drive.specs.declared.fault.DriveFault.TheVariants as fault
 use Rattle.relay_laws.specs.TurnEnds.{begins_turn}

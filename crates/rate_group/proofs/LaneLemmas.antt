@@ -1,5 +1,6 @@
 -- One direction of a group over lists of calls.
-use Rattle.std.proofs.Common.{◌≡◌, ◌∙◌, inl, inr, ℕ, zero, suc, ◌+◌, ◌-◌, ◌*◌, ◌/◌, ◌<◌, ◌≤◌, Bool, true, false, ◌||◌, ◌&&◌, cond, min, List, [], ◌∷◌, ◌++◌, refl, sym, ap, subst, arith}
+use Rattle.std.proofs.Common.{◌≡◌, ◌∙◌, inl, inr, ℕ, zero, suc, ◌+◌, ◌-◌, ◌*◌, ◌/◌, ◌<◌, ◌≤◌, Bool, true, false, ◌||◌, ◌&&◌, cond, min}
+use Rattle.std.proofs.Common.{List, [], ◌∷◌, ◌++◌, refl, sym, ap, subst, arith}
 use Rattle.std.specs.Prelude.{max, nat_lt, ◌==◌, if◌then◌else◌}
 use Rattle.std.proofs.Math.Nat.{div-le_self}
 use Rattle.std.proofs.lemmas.Bool.{ltb-false}
@@ -14,7 +15,8 @@ use Rattle.token_bucket.specs.BucketLaws.{Kept, after_beat, after_beats, kept_at
 use Rattle.token_bucket.proofs.BucketLemmas.{level-is_least, moved-short, refilled-is, short_after}
 use Rattle.rate_group.specs.GroupValue.{Lane}
 use Rattle.rate_group.specs.Steps.{lane_less, lane_refilled, first_lane, least_of}
-use Rattle.rate_group.specs.GroupLaws.{GroupCall, Refills, Spends, KeptLane, after_step, after_steps, made_lane, WithinShares, beat_of_call, beats_of, GroupLevelIsLeast, GroupKeepsRate}
+use Rattle.rate_group.specs.GroupLaws.{GroupCall, Refills, Spends, KeptLane, after_step, after_steps, made_lane, WithinShares, beat_of_call}
+use Rattle.rate_group.specs.GroupLaws.{beats_of, GroupLevelIsLeast, GroupKeepsRate}
 
 -- as a bucket keeps it
 abbrev pub bucket_of : KeptLane → Kept

@@ -1,5 +1,6 @@
 -- Members that come and go, and how many each group has.
-use Rattle.std.proofs.Common.{◌≡◌, ◌∙◌, inl, inr, ℕ, zero, suc, ◌+◌, ◌-◌, ◌<◌, ◌≤◌, Bool, true, false, cond, List, [], ◌∷◌, length, set, get_or, Option, Some, None, refl, sym, ap, subst, arith, nat_eq, sum_by, length-append}
+use Rattle.std.proofs.Common.{◌≡◌, ◌∙◌, inl, inr, ℕ, zero, suc, ◌+◌, ◌-◌, ◌<◌, ◌≤◌, Bool, true, false, cond, List, [], ◌∷◌, length, set}
+use Rattle.std.proofs.Common.{get_or, Option, Some, None, refl, sym, ap, subst, arith, nat_eq, sum_by, length-append}
 use Rattle.std.specs.Prelude.{◌++◌, slice_get}
 use Rattle.std.specs.Option.{option_map, option_map_or, IsSomeAnd}
 use Rattle.std.proofs.lemmas.List.{length-map, length-set}

@@ -1,5 +1,6 @@
 -- How the code keeps one group, and a list of them.
-use Rattle.std.specs.Prelude.{◌≡◌, ℕ, ◌+◌, ◌<◌, ◌≤◌, List, map, length, slice_get, slice_index_or, nat_eq, if◌then◌else◌, Option, Some, None}
+use Rattle.std.specs.Prelude.{◌≡◌, ℕ, ◌+◌, ◌<◌, ◌≤◌, List, map, length, slice_get, slice_index_or, nat_eq, if◌then◌else◌, Option, Some}
+use Rattle.std.specs.Prelude.{None}
 use Rattle.std.specs.List.{AllByRecursion}
 use Rattle.token_bucket.specs.declared.limit.Dir.{Dir}
 use Rattle.rate_group.specs.declared.group.Group.{Group}

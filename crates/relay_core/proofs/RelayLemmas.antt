@@ -1,6 +1,8 @@
 -- The relay's state as its links change, and what is so of each side: none has a hook, so that no reason becomes due, and none has a limit,
 -- so that rooms are what flags and marks leave, and no bucket changes.
-use Rattle.std.proofs.Common.{◌≡◌, ℕ, zero, suc, Bool, true, false, Result, Ok, Err, MatchResult, ◌&&◌, nat_le, if◌then◌else◌, List, [], ◌∷◌, slice_index_or, Option, None, option_map, ◌*◌, ◌-◌, min, length, length-append, ◌≢◌, refl, sym, ◌∙◌, ap, subst, arith}
+use Rattle.std.proofs.Common.{◌≡◌, ℕ, zero, suc, Bool, true, false, Result, Ok, Err, MatchResult, ◌&&◌, nat_le, if◌then◌else◌, List, []}
+use Rattle.std.proofs.Common.{◌∷◌, slice_index_or, Option, None, option_map, ◌*◌, ◌-◌, min, length, length-append, ◌≢◌, refl, sym, ◌∙◌, ap}
+use Rattle.std.proofs.Common.{subst, arith}
 use Rattle.std.proofs.lemmas.List.Elements.{All-set, All-head, All-tail, All-nil, All-cons, All-append}
 use Rattle.std.proofs.lemmas.List.{set-get_or}
 use Rattle.std.specs.Prelude.{slice_set}

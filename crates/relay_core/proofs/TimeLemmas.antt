@@ -1,6 +1,7 @@
 -- Where nothing is timed, a turn begins with nothing but its time, and a poll waits for ever. Where no side has a limit, it wakes up for
 -- timeouts alone. Looking at sides opens no link.
-use Rattle.std.proofs.Common.{◌≡◌, ℕ, suc, ◌+◌, ◌<◌, ◌-◌, Bool, true, false, ◌&&◌, ◌||◌, nat_le, not, if◌then◌else◌, List, [], ◌∷◌, ◌++◌, length, map, slice_index_or, Option, Some, None, option_map, refl, sym, ◌∙◌, ap, arith, fold, append-nil}
+use Rattle.std.proofs.Common.{◌≡◌, ℕ, suc, ◌+◌, ◌<◌, ◌-◌, Bool, true, false, ◌&&◌, ◌||◌, nat_le, not, if◌then◌else◌, List, [], ◌∷◌, ◌++◌}
+use Rattle.std.proofs.Common.{length, map, slice_index_or, Option, Some, None, option_map, refl, sym, ◌∙◌, ap, arith, fold, append-nil}
 use Rattle.std.specs.List.{list_any, flat_map}
 use Rattle.token_bucket.specs.declared.limit.Dir.{Dir}
 use Rattle.token_bucket.specs.declared.limit.Dir.TheVariants as dir
@@ -13,7 +14,8 @@ use Rattle.ev_types.specs.Usual.{no_timeouts}
 use Rattle.relay_model.specs.Plain.{Plain, PlainSide, Standing, Timer, no_side, side_at, is_live, sides_from, all_sides, change_side}
 use Rattle.relay_model.specs.Reasons.{has_hook, raise, happened, timeout_flag}
 use Rattle.relay_model.specs.Due.{with_reason}
-use Rattle.relay_model.specs.Moments.{timeout_of, last_activity, is_timed, active_at, both_ways, moment_where, earliest, has_run_out, expire}
+use Rattle.relay_model.specs.Moments.{timeout_of, last_activity, is_timed, active_at, both_ways, moment_where, earliest, has_run_out}
+use Rattle.relay_model.specs.Moments.{expire}
 use Rattle.relay_state.specs.State.{State, with_plain}
 use Rattle.relay_state.specs.Closing.{in_side, out_side}
 use Rattle.relay_state.specs.Rooms.{wants}

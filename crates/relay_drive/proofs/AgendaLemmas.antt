@@ -1,5 +1,6 @@
 -- What is kept of the links stays right, step by step: a step changes one link, and that one is looked at again.
-use Rattle.std.proofs.Common.{◌≡◌, ◌≢◌, ℕ, ◌+◌, ◌<◌, ◌≤◌, Bool, true, false, ◌==◌, if◌then◌else◌, [], refl, sym, ◌∙◌, ap, subst, arith, inl, inr}
+use Rattle.std.proofs.Common.{◌≡◌, ◌≢◌, ℕ, ◌+◌, ◌<◌, ◌≤◌, Bool, true, false, ◌==◌, if◌then◌else◌, [], refl, sym, ◌∙◌, ap, subst, arith, inl}
+use Rattle.std.proofs.Common.{inr}
 use Rattle.std.proofs.lemmas.Bool.{eqb-true, eqb-false, eq-eqb, cases_lt}
 use Rattle.token_bucket.specs.declared.limit.Dir.TheVariants as dir
 use Rattle.ev_types.specs.declared.side.SideId.{SideId}
@@ -11,13 +12,15 @@ use Rattle.relay_state.specs.Counting.{is_open}
 use Rattle.relay_state.specs.Closing.{in_side, out_side}
 use Rattle.relay_drive.specs.declared.agenda.Agenda.{Agenda}
 use Rattle.relay_drive.specs.Links.{SameLink, HasPairs, IsStill, IsSettled}
-use Rattle.relay_drive.specs.Agenda.{HoldsBeside, IsGone, IsKept, IsNamed, IsNamedRight, TouchedBut, TouchedAll, IsCovered, ClosingNoted, IsUntold, SameBesideWants, SaysOf, KeepsNames}
+use Rattle.relay_drive.specs.Agenda.{HoldsBeside, IsGone, IsKept, IsNamed, IsNamedRight, TouchedBut, TouchedAll, IsCovered, ClosingNoted}
+use Rattle.relay_drive.specs.Agenda.{IsUntold, SameBesideWants, SaysOf, KeepsNames}
 use Rattle.ev_types.specs.Trace.{Trace}
 use Rattle.ev_port.specs.declared.port.Want.{Want}
 use Rattle.relay_drive.specs.Steps.{Each}
 use Rattle.relay_drive.specs.Phases.{OpensWhere, ServesSide, PassesLink, ClosesLink, links_from}
 use Rattle.relay_drive.proofs.OtherLinks.{same_link, serves-other, passes-other, closes-other, opens-other}
-use Rattle.relay_drive.proofs.LinkParts.{still-same, settled-same, wants-same, open-same, far-same, still-passes, settled-closes, each-skips}
+use Rattle.relay_drive.proofs.LinkParts.{still-same, settled-same, wants-same, open-same, far-same, still-passes, settled-closes}
+use Rattle.relay_drive.proofs.LinkParts.{each-skips}
 
 -- by whether two numbers are the same
 pub by_same : {A : Type 0} (n k : ℕ) → (n ≡ k → n == k ≡ true → A) → (n ≢ k → n == k ≡ false → A) → A

@@ -1,5 +1,6 @@
 -- Each step of a turn, and the turn: by how much it raises the bound of what is read, and how many entries it puts.
-use Rattle.std.proofs.Common.{◌≡◌, ℕ, zero, suc, ◌+◌, ◌-◌, ◌*◌, ◌≤◌, Bool, true, false, ◌&&◌, nat_lt, min, max, if◌then◌else◌, List, [], ◌∷◌, ◌++◌, length, refl, sym, ◌∙◌, ap, subst, arith, length-append}
+use Rattle.std.proofs.Common.{◌≡◌, ℕ, zero, suc, ◌+◌, ◌-◌, ◌*◌, ◌≤◌, Bool, true, false, ◌&&◌, nat_lt, min, max, if◌then◌else◌, List, []}
+use Rattle.std.proofs.Common.{◌∷◌, ◌++◌, length, refl, sym, ◌∙◌, ap, subst, arith, length-append}
 use Rattle.std.specs.Prelude.{MatchBool, ◌^◌, is_some, Option, Some, None, option_map}
 use Rattle.std.proofs.lemmas.List.{length-take}
 use Rattle.token_bucket.specs.declared.limit.Dir.TheVariants as dir
@@ -25,10 +26,13 @@ use Rattle.relay_core.specs.Steps.{steps_of, close_step, after_closing, entry_ev
 use Rattle.relay_state.specs.State.{State}
 use Rattle.relay_state.specs.Rooms.{allowance, read_room, input_length, wants, write_room, offer}
 use Rattle.relay_state.specs.Closing.{in_side, out_side, closing_entry, closed}
-use Rattle.relay_steps.proofs.FrameLemmas.{Frame, frame-then, frame-conn, frame-read, frame-write, frame-passed, frame-closed, frame-begun, push-within}
+use Rattle.relay_steps.proofs.FrameLemmas.{Frame, frame-then, frame-conn, frame-read, frame-write, frame-passed, frame-closed, frame-begun}
+use Rattle.relay_steps.proofs.FrameLemmas.{push-within}
 use Rattle.relay_drive.specs.Steps.{Nothing, Then, Each}
 use Rattle.relay_drive.specs.Calls.{Ticks, Checks, Writes}
-use Rattle.relay_drive.specs.Phases.{links_from, want_of, wants_some, wants_of, wants_of_link, wants_of_links, wanted, Polls, OpensOne, OpensSome, AcceptsWhere, PollsAndAccepts, ReadsWithRoom, ReadsSide, WritesSide, ConnectsSide, ServesSide, PassesSide, PassesLink, ForAllLinks, closing_events, Closes, LooksAt, ClosesLink, Turns}
+use Rattle.relay_drive.specs.Phases.{links_from, want_of, wants_some, wants_of, wants_of_link, wants_of_links, wanted, Polls, OpensOne}
+use Rattle.relay_drive.specs.Phases.{OpensSome, AcceptsWhere, PollsAndAccepts, ReadsWithRoom, ReadsSide, WritesSide, ConnectsSide}
+use Rattle.relay_drive.specs.Phases.{ServesSide, PassesSide, PassesLink, ForAllLinks, closing_events, Closes, LooksAt, ClosesLink, Turns}
 use Rattle.relay_drive.specs.Bounds.{StateIsWithin, most_of_turn}
 
 -- what a step does: the bound rises by at most k, at most k entries are put, and the settings stay

@@ -1,5 +1,6 @@
 -- Entries that begin no turn, poll nothing and open no link say nothing of the whole port.
-use Rattle.std.proofs.Common.{◌≡◌, ℕ, ◌+◌, Bool, true, false, List, [], ◌∷◌, ◌++◌, max, min, ◌^◌, Option, Some, refl, sym, ◌∙◌, ap, subst, arith, append-nil, count_by, if◌then◌else◌}
+use Rattle.std.proofs.Common.{◌≡◌, ℕ, ◌+◌, Bool, true, false, List, [], ◌∷◌, ◌++◌, max, min, ◌^◌, Option, Some, refl, sym, ◌∙◌, ap, subst}
+use Rattle.std.proofs.Common.{arith, append-nil, count_by, if◌then◌else◌}
 use Rattle.std.specs.Prelude.{fold, unwrap_or}
 use Rattle.std.specs.List.{list_all, last_or}
 use Rattle.std.proofs.lemmas.Bool.{and_parts}
@@ -8,7 +9,8 @@ use Rattle.std.proofs.lemmas.Grind.{flat_map-append}
 use Rattle.ev_types.specs.declared.entry.Entry.TheVariants as entry
 use Rattle.ev_types.specs.Trace.{Event, Trace}
 use Rattle.relay_model.specs.RatesKept.{is_turn}
-use Rattle.relay_model.specs.Totals.{is_opened, opened, opened_by, opened_in_turn, times, time_of_turn, timeout_by, last_timeout, polls_that_accept}
+use Rattle.relay_model.specs.Totals.{is_opened, opened, opened_by, opened_in_turn, times, time_of_turn, timeout_by, last_timeout}
+use Rattle.relay_model.specs.Totals.{polls_that_accept}
 use Rattle.relay_model.specs.Plays.{is_served}
 use Rattle.ev_types.specs.Times.{greatest_time}
 use Rattle.relay_state.specs.State.{State}

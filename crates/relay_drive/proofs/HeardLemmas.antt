@@ -18,7 +18,8 @@ use Rattle.ev_port.specs.Vouching.{LongerBy}
 use Rattle.ev_port.specs.Faults.{Faults, EndFaults, FaultsStay, ListenerFaults}
 use Rattle.ev_types.specs.Told.{EndTold, PortTold}
 use Rattle.ev_port.specs.EndSteps.{EndsWent, AllWent, PortStays}
-use Rattle.ev_port.specs.Ends.{is_failed_conn, conn_events, is_failed_read, read_events, is_failed_write, write_step, write_events, took_bytes}
+use Rattle.ev_port.specs.Ends.{is_failed_conn, conn_events, is_failed_read, read_events, is_failed_write, write_step, write_events}
+use Rattle.ev_port.specs.Ends.{took_bytes}
 use Rattle.ev_port.specs.Counting.{counted}
 use Rattle.relay_state.specs.State.{State}
 use Rattle.relay_steps.proofs.FrameLemmas.{frame-conn, frame-read, frame-write}

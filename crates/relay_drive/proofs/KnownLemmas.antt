@@ -1,5 +1,6 @@
 -- How what is known of a port goes on with each call.
-use Rattle.std.proofs.Common.{◌≡◌, ◌⊎◌, inl, inr, ℕ, ◌≤◌, Bool, true, false, ◌||◌, not, List, [], ◌∷◌, ◌++◌, max, min, ◌^◌, if◌then◌else◌, Option, Some, None, refl, sym, ◌∙◌, ap, subst, arith, append-nil, nat_lt}
+use Rattle.std.proofs.Common.{◌≡◌, ◌⊎◌, inl, inr, ℕ, ◌≤◌, Bool, true, false, ◌||◌, not, List, [], ◌∷◌, ◌++◌, max, min, ◌^◌, if◌then◌else◌}
+use Rattle.std.proofs.Common.{Option, Some, None, refl, sym, ◌∙◌, ap, subst, arith, append-nil, nat_lt}
 use Rattle.std.specs.Prelude.{⊤, MatchOption, IsSome, fold, unwrap_or}
 use Rattle.std.specs.List.{list_any, list_all, last_or}
 use Rattle.std.proofs.lemmas.Bool.{and_parts, ltb-false}

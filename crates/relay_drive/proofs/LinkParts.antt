@@ -1,7 +1,8 @@
 -- A step for which there is nothing to do may be left out, and what the counts of all links say of those of one.
 use Rattle.std.specs.Prelude.{MatchBool, slice_index_or, ◌⊎◌}
 use Rattle.std.specs.List.{All, list_any}
-use Rattle.std.proofs.Common.{◌≡◌, ℕ, ◌+◌, ◌*◌, ◌<◌, Bool, true, false, nat_le, if◌then◌else◌, List, [], ◌∷◌, ◌++◌, length, refl, sym, ◌∙◌, ap, subst, arith, zero, suc, ◌-◌, ◌≤◌, ◌^◌, ◌||◌, filter, inl, inr, append-nil, append_assoc, length-append}
+use Rattle.std.proofs.Common.{◌≡◌, ℕ, ◌+◌, ◌*◌, ◌<◌, Bool, true, false, nat_le, if◌then◌else◌, List, [], ◌∷◌, ◌++◌, length, refl, sym, ◌∙◌}
+use Rattle.std.proofs.Common.{ap, subst, arith, zero, suc, ◌-◌, ◌≤◌, ◌^◌, ◌||◌, filter, inl, inr, append-nil, append_assoc, length-append}
 use Rattle.std.proofs.lemmas.List.{set-get_or}
 use Rattle.std.proofs.lemmas.Bool.{or_cases, or_parts, or_from, or_left, or_right}
 use Rattle.std.proofs.lemmas.Bool.Decides.{eqb_tells}

@@ -1,5 +1,6 @@
 -- Serving a side, passing a direction and looking at a step of closing keep what the relay stands for.
-use Rattle.std.proofs.Common.{◌≡◌, ◌≢◌, inl, inr, ℕ, zero, suc, ◌+◌, ◌<◌, ◌≤◌, Bool, true, false, ◌||◌, if◌then◌else◌, List, [], ◌∷◌, ◌++◌, length, map, refl, sym, ◌∙◌, ap, subst, arith, append_assoc, append-nil, length-take-le}
+use Rattle.std.proofs.Common.{◌≡◌, ◌≢◌, inl, inr, ℕ, zero, suc, ◌+◌, ◌<◌, ◌≤◌, Bool, true, false, ◌||◌, if◌then◌else◌, List, [], ◌∷◌, ◌++◌}
+use Rattle.std.proofs.Common.{length, map, refl, sym, ◌∙◌, ap, subst, arith, append_assoc, append-nil, length-take-le}
 use Rattle.std.specs.Prelude.{nat_lt, MatchBool, Option, Some, None, is_some, option_map}
 use Rattle.ev_types.specs.declared.side.SideId.{SideId}
 use Rattle.ev_types.specs.declared.answer.ConnAnswer.{ConnAnswer}
@@ -30,7 +31,8 @@ use Rattle.relay_state.specs.Closing.{in_side, out_side, closing_entry, closed}
 use Rattle.relay_core.specs.Steps.{link_of_step, steps_of, close_step, after_closing, entry_events}
 use Rattle.relay_drive.specs.Steps.{Nothing, Then}
 use Rattle.relay_drive.specs.Calls.{Checks, Reads, Writes, is_memory}
-use Rattle.relay_drive.specs.Phases.{links_from, ReadsSide, WritesSide, ConnectsSide, ReadsWithRoom, ServesSide, CutServing, PassesSide, CutPassing, PassesLink, CutPassingLink, closing_events, Closes, LooksAt, ClosesLink, CutClosingLink}
+use Rattle.relay_drive.specs.Phases.{links_from, ReadsSide, WritesSide, ConnectsSide, ReadsWithRoom, ServesSide, CutServing, PassesSide}
+use Rattle.relay_drive.specs.Phases.{CutPassing, PassesLink, CutPassingLink, closing_events, Closes, LooksAt, ClosesLink, CutClosingLink}
 use Rattle.relay_steps.specs.Meaning.{StandsFor, LeftFor}
 use Rattle.relay_steps.proofs.FrameLemmas.{frame-conn, frame-read, frame-write, frame-passed}
 use Rattle.relay_steps.proofs.ServeSteps.{mark, one_or_more, conn-stands, waiting-skipped, read-skipped, write-skipped}

@@ -1,5 +1,6 @@
 -- Polling, accepting and the whole turn keep what the relay stands for.
-use Rattle.std.proofs.Common.{◌≡◌, inl, inr, ℕ, zero, suc, ◌+◌, ◌^◌, ◌<◌, ◌≤◌, Bool, true, false, ◌||◌, if◌then◌else◌, List, [], ◌∷◌, ◌++◌, length, map, filter, min, max, refl, sym, ◌∙◌, ap, subst, arith, append_assoc, append-nil}
+use Rattle.std.proofs.Common.{◌≡◌, inl, inr, ℕ, zero, suc, ◌+◌, ◌^◌, ◌<◌, ◌≤◌, Bool, true, false, ◌||◌, if◌then◌else◌, List, [], ◌∷◌, ◌++◌}
+use Rattle.std.proofs.Common.{length, map, filter, min, max, refl, sym, ◌∙◌, ap, subst, arith, append_assoc, append-nil}
 use Rattle.ev_types.specs.declared.side.SideId.{SideId}
 use Rattle.ev_types.specs.declared.entry.Entry.TheVariants as entry
 use Rattle.ev_types.specs.Trace.{Trace}
@@ -21,7 +22,9 @@ use Rattle.relay_drive.specs.Steps.{Then, Each, CutAt}
 use Rattle.relay_drive.specs.Calls.{Ticks}
 use Rattle.relay_drive.specs.DriveStands.{turn_answer_of}
 use Rattle.relay_drive.specs.Phases.CutTurn.{before, in_poll, in_serving, in_passing, in_closing}
-use Rattle.relay_drive.specs.Phases.{links_from, want_of, wants_of, wants_of_links, wanted, Polls, PollFails, OpensSome, AcceptsMore, AcceptsWhere, PollsAndAccepts, CutPolling, ServesSide, CutServing, PassesLink, CutPassingLink, ForAllLinks, CutForAllLinks, ClosesLink, CutClosingLink, Turns, CutTurn}
+use Rattle.relay_drive.specs.Phases.{links_from, want_of, wants_of, wants_of_links, wanted, Polls, PollFails, OpensSome, AcceptsMore}
+use Rattle.relay_drive.specs.Phases.{AcceptsWhere, PollsAndAccepts, CutPolling, ServesSide, CutServing, PassesLink, CutPassingLink}
+use Rattle.relay_drive.specs.Phases.{ForAllLinks, CutForAllLinks, ClosesLink, CutClosingLink, Turns, CutTurn}
 use Rattle.relay_steps.specs.Meaning.{StandsFor, LeftFor}
 use Rattle.relay_state.specs.Rooms as state
 use Rattle.relay_state.specs.Time.{poll_timeout}
@@ -29,12 +32,15 @@ use Rattle.relay_model.proofs.QuietLemmas.{state_is_told}
 use Rattle.relay_model.proofs.HooklessLemmas.{asleep}
 use Rattle.relay_steps.proofs.StandsLemmas.{stands-quiet}
 use Rattle.relay_steps.proofs.TimeSteps.{turn-stands}
-use Rattle.relay_steps.proofs.PollSteps.{named, marks_of, MarkedWithin, poll-stands, poll_failed-stands, accepted-stands, fired_all-stands, passed_all-stands, closed_all-stands}
+use Rattle.relay_steps.proofs.PollSteps.{named, marks_of, MarkedWithin, poll-stands, poll_failed-stands, accepted-stands, fired_all-stands}
+use Rattle.relay_steps.proofs.PollSteps.{passed_all-stands, closed_all-stands}
 use Rattle.relay_steps.proofs.OpenSteps.{opened-stands}
 use Rattle.relay_steps.proofs.FrameLemmas.{frame-begun}
 use Rattle.relay_drive.proofs.UnhookedSteps.{unhooked-served}
 use Rattle.relay_drive.proofs.MeantFolds.{StandsWith, Each_is, stands-nothing, all-keeps, cut-leaves}
-use Rattle.relay_drive.proofs.MeantServing.{left-stands, IsBelow, serving, serving-keeps, serving-cut, sides_of-links, link_below, links-below, passing_links, passing_links-keep, passing_links-cut, model_steps-links, closing_links, closing_links-keep, closing_links-cut}
+use Rattle.relay_drive.proofs.MeantServing.{left-stands, IsBelow, serving, serving-keeps, serving-cut, sides_of-links, link_below}
+use Rattle.relay_drive.proofs.MeantServing.{links-below, passing_links, passing_links-keep, passing_links-cut, model_steps-links}
+use Rattle.relay_drive.proofs.MeantServing.{closing_links, closing_links-keep, closing_links-cut}
 
 -- The clock
 

@@ -2,7 +2,8 @@
 -- the link is the same.
 use Rattle.std.specs.Prelude.{MatchBool, is_some, slice_index_or, slice_set, Option, option_map}
 use Rattle.std.specs.List.{AllByRecursion, All}
-use Rattle.std.proofs.Common.{◌≡◌, ◌≢◌, ℕ, ◌*◌, ◌<◌, Bool, true, false, ◌&&◌, nat_le, nat_lt, if◌then◌else◌, List, [], ◌∷◌, ◌++◌, length, refl, sym, ◌∙◌, ap, subst, arith, zero, suc, None}
+use Rattle.std.proofs.Common.{◌≡◌, ◌≢◌, ℕ, ◌*◌, ◌<◌, Bool, true, false, ◌&&◌, nat_le, nat_lt, if◌then◌else◌, List, [], ◌∷◌, ◌++◌, length}
+use Rattle.std.proofs.Common.{refl, sym, ◌∙◌, ap, subst, arith, zero, suc, None}
 use Rattle.std.proofs.lemmas.List.{get_or-set_other, get_or_append_left}
 use Rattle.token_bucket.specs.declared.limit.Dir.TheVariants as dir
 use Rattle.token_bucket.specs.declared.limit.Dir.{Dir}
@@ -25,7 +26,8 @@ use Rattle.relay_model.specs.Flow.{Flow, no_flow}
 use Rattle.relay_model.specs.Settings.{Settings}
 use Rattle.relay_model.specs.Due.{with_reason}
 use Rattle.relay_model.specs.Plain as plain
-use Rattle.relay_model.specs.Plain.{Plain, PlainSide, Standing, no_side, side_at, flow_at, put_side, put_flow, change_side, change_flow, is_live}
+use Rattle.relay_model.specs.Plain.{Plain, PlainSide, Standing, no_side, side_at, flow_at, put_side, put_flow, change_side, change_flow}
+use Rattle.relay_model.specs.Plain.{is_live}
 use Rattle.relay_model.specs.Reasons.{has_hook, raise, happened, end_flag, error_flag}
 use Rattle.relay_model.specs.Moments.{active_at}
 use Rattle.relay_model.specs.Rooms.{is_connecting}
@@ -39,7 +41,8 @@ use Rattle.relay_state.specs.Passage.{Passage}
 use Rattle.relay_state.specs.Passing.{with_bad, plain_passed, with_passage, PassedFrom, read_run, passage_at, round_from}
 use Rattle.relay_state.specs.Rooms.{wants, allowance, input_length, output_length, read_room, write_room}
 use Rattle.relay_state.specs.Opening.{after_opened}
-use Rattle.relay_state.specs.Serving.{raise_read, raise_write, after_conn, with_got, after_got, after_read, flow_given, with_taken, after_took, after_write}
+use Rattle.relay_state.specs.Serving.{raise_read, raise_write, after_conn, with_got, after_got, after_read, flow_given, with_taken}
+use Rattle.relay_state.specs.Serving.{after_took, after_write}
 use Rattle.relay_state.specs.Closing.{in_side, out_side, closing_entry, freed, without_batch}
 use Rattle.relay_state.specs.Counting.{is_open}
 use Rattle.relay_core.specs.declared.close.Closing.{Closing}

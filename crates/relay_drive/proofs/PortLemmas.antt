@@ -1,5 +1,6 @@
 -- What each call of a port tells of the whole port is what its entries say.
-use Rattle.std.proofs.Common.{◌≡◌, ℕ, ◌+◌, Bool, false, List, [], ◌∷◌, ◌++◌, max, min, if◌then◌else◌, Option, Some, None, refl, sym, ◌∙◌, ap, subst, arith, append-nil, nat_lt, length, zero-add, length-append}
+use Rattle.std.proofs.Common.{◌≡◌, ℕ, ◌+◌, Bool, false, List, [], ◌∷◌, ◌++◌, max, min, if◌then◌else◌, Option, Some, None, refl, sym, ◌∙◌}
+use Rattle.std.proofs.Common.{ap, subst, arith, append-nil, nat_lt, length, zero-add, length-append}
 use Rattle.std.specs.Prelude.{⊤, MatchOption, IsSome, IsSomeAnd, is_some, unwrap_or}
 use Rattle.std.specs.List.{last_or}
 use Rattle.ev_types.specs.declared.entry.Entry.TheVariants as entry

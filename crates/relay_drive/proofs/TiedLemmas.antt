@@ -1,5 +1,6 @@
 -- What each call of a port tells of an end is what its entries say of it.
-use Rattle.std.proofs.Common.{◌≡◌, ℕ, ◌+◌, Bool, true, false, ◌&&◌, ◌||◌, ◌==◌, List, [], ◌∷◌, ◌++◌, length, if◌then◌else◌, refl, sym, ◌∙◌, ap, subst, arith, append-nil, zero-add, take, Option, count_by, eqb-true, eq-eqb}
+use Rattle.std.proofs.Common.{◌≡◌, ℕ, ◌+◌, Bool, true, false, ◌&&◌, ◌||◌, ◌==◌, List, [], ◌∷◌, ◌++◌, length, if◌then◌else◌, refl, sym, ◌∙◌}
+use Rattle.std.proofs.Common.{ap, subst, arith, append-nil, zero-add, take, Option, count_by, eqb-true, eq-eqb}
 use Rattle.std.specs.Prelude.{sum_by}
 use Rattle.std.specs.List.{list_all}
 use Rattle.std.proofs.Math.Bool.{or-false}
@@ -18,7 +19,8 @@ use Rattle.ev_types.specs.declared.entry.Entry.TheVariants as entry
 use Rattle.ev_types.specs.Sides.{same_side, same_end}
 use Rattle.ev_types.specs.Trace.{Event, Trace}
 use Rattle.relay_model.specs.Trace.{bytes_read, bytes_given, has_ended, is_write_closed}
-use Rattle.relay_model.specs.Totals.{is_read_of, is_write_of, is_check_of, room_by, offered_by, wants_read_by, wants_write_by, marks_read_by, marks_write_by, comes_connected, is_made_connected, is_connected, is_closed}
+use Rattle.relay_model.specs.Totals.{is_read_of, is_write_of, is_check_of, room_by, offered_by, wants_read_by, wants_write_by}
+use Rattle.relay_model.specs.Totals.{marks_read_by, marks_write_by, comes_connected, is_made_connected, is_connected, is_closed}
 use Rattle.relay_model.specs.Tied.{EndTied}
 use Rattle.ev_types.specs.Told.{EndTold}
 use Rattle.ev_port.specs.EndSteps.{EndStep, no_step, EndWent, EndsWent, AllWent}
@@ -29,7 +31,8 @@ use Rattle.ev_port.specs.declared.port.Polled.{Polled}
 use Rattle.ev_port.specs.declared.port.Polled.TheVariants as polled
 use Rattle.ev_port.specs.Polling.{want_events, ready_events, poll_events, poll_step}
 use Rattle.ev_port.specs.Calls.{accept_events, accept_step}
-use Rattle.ev_port.specs.Ends.{conn_step, conn_events, read_step, read_events, write_step, write_events, close_write_step, close_write_events, close_step, close_events}
+use Rattle.ev_port.specs.Ends.{conn_step, conn_events, read_step, read_events, write_step, write_events, close_write_step}
+use Rattle.ev_port.specs.Ends.{close_write_events, close_step, close_events}
 use Rattle.relay_drive.proofs.EndNames.{same_end-true, same_end-false}
 
 -- what entries say of an end, as one step

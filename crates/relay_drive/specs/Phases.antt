@@ -8,7 +8,9 @@ use Rattle.relay_drive.specs.declared.fault.DriveFault.TheVariants as fault
 use Rattle.relay_drive.specs.Steps.{Nothing, Then, Each, CutAt}
 use Rattle.relay_drive.specs.Calls.{Ticks}
 pub use Rattle.relay_drive.specs.Steps.{links_from}
-pub use Rattle.relay_drive.specs.PollPhase.{want_of, wants_some, wants_of, wants_of_link, wants_of_links, wanted, can_open, Polls, PollFails, CutPoll, OpensOne, OpensWhere, OpensSome, AcceptsLinks, AcceptsMore, AcceptsWhere, PollsAndAccepts, CutAccepting, CutPolling}
+pub use Rattle.relay_drive.specs.PollPhase.{want_of, wants_some, wants_of, wants_of_link, wants_of_links, wanted, can_open, Polls}
+pub use Rattle.relay_drive.specs.PollPhase.{PollFails, CutPoll, OpensOne, OpensWhere, OpensSome, AcceptsLinks, AcceptsMore, AcceptsWhere}
+pub use Rattle.relay_drive.specs.PollPhase.{PollsAndAccepts, CutAccepting, CutPolling}
 pub use Rattle.relay_drive.specs.ServePhase.{ReadsWithRoom, ReadsSide, WritesSide, ConnectsSide, ServesSide, CutServing, AllOpened}
 pub use Rattle.relay_drive.specs.PassPhase.{PassesSide, CutPassing, PassesLink, CutPassingLink, ForAllLinks, CutForAllLinks}
 pub use Rattle.relay_drive.specs.ClosePhase.{told_events, told_step, Closes, LooksAt, ClosesLink, CutClosingLink}

@@ -1,5 +1,6 @@
 -- What filters make of bytes are bytes, and bytes that stand in a part of a trace stand in the whole.
-use Rattle.std.proofs.Common.{◌≡◌, ℕ, ◌+◌, ◌-◌, ◌*◌, ◌/◌, ◌%◌, ◌<◌, ◌≤◌, Bool, true, false, ◌==◌, ◌&&◌, ◌||◌, not, nat_lt, nat_le, if◌then◌else◌, List, [], ◌∷◌, ◌++◌, length, take, inl, inr, refl, ◌∙◌, ap, subst, arith, length-append}
+use Rattle.std.proofs.Common.{◌≡◌, ℕ, ◌+◌, ◌-◌, ◌*◌, ◌/◌, ◌%◌, ◌<◌, ◌≤◌, Bool, true, false, ◌==◌, ◌&&◌, ◌||◌, not, nat_lt, nat_le}
+use Rattle.std.proofs.Common.{if◌then◌else◌, List, [], ◌∷◌, ◌++◌, length, take, inl, inr, refl, ◌∙◌, ap, subst, arith, length-append}
 use Rattle.std.specs.Prelude.{All}
 use Rattle.std.specs.List.{flat_map}
 use Rattle.std.proofs.lemmas.Bool.{and_parts, or_cases, leb-true}
@@ -14,7 +15,8 @@ use Rattle.ev_types.specs.declared.answer.WriteAnswer.TheVariants as write
 use Rattle.ev_types.specs.declared.entry.Entry.TheVariants as entry
 use Rattle.ev_types.specs.Trace.{Event, Trace}
 use Rattle.relay_model.specs.Trace.{read_by, given_by, bytes_read, bytes_given}
-use Rattle.filter_model.specs.Filter.{CR, LF, crlf_after, to_lf, last_cr, hex_digit, hex_out, is_within, is_hex, hex_value, hex_in, filter_of}
+use Rattle.filter_model.specs.Filter.{CR, LF, crlf_after, to_lf, last_cr, hex_digit, hex_out, is_within, is_hex, hex_value, hex_in}
+use Rattle.filter_model.specs.Filter.{filter_of}
 use Rattle.relay_model.specs.Flow.{Flow, middle, outcome}
 use Rattle.relay_model.proofs.EndLemmas.{same_end-refl}
 

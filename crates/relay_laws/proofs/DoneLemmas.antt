@@ -1,5 +1,6 @@
 -- Where writing was ended at both sides of a link, closing frees both as done, and nothing comes between: the entries, and all steps.
-use Rattle.std.proofs.Common.{◌≡◌, ℕ, ◌<◌, ◌≤◌, Bool, true, false, ◌&&◌, ◌||◌, not, List, [], ◌∷◌, ◌++◌, Some, ◌⊎◌, inl, inr, refl, sym, ◌∙◌, ap, subst, arith}
+use Rattle.std.proofs.Common.{◌≡◌, ℕ, ◌<◌, ◌≤◌, Bool, true, false, ◌&&◌, ◌||◌, not, List, [], ◌∷◌, ◌++◌, Some, ◌⊎◌, inl, inr, refl, sym}
+use Rattle.std.proofs.Common.{◌∙◌, ap, subst, arith}
 use Rattle.std.proofs.lemmas.Bool.{and_from, and_parts, or_cases, or_from, or_left, or_right, cases_lt}
 use Rattle.ev_types.specs.declared.side.SideId.{SideId}
 use Rattle.ev_types.specs.declared.entry.Entry.{Entry}
@@ -24,7 +25,8 @@ use Rattle.relay_model.proofs.LeftLemmas.{in_of, out_of, in-or-out}
 use Rattle.relay_model.proofs.FireLemmas.{reading-open}
 use Rattle.relay_model.proofs.ToldLemmas.{kept, list_any-push}
 use Rattle.relay_laws.specs.Links.{done_by, is_done}
-use Rattle.relay_laws.proofs.DoneOrder.{JoinsNext, Ordered, OrderedAt, left-ordered, open-ordered, IsJoining, IsOutNext, Ended, joining, half_done, all_done, Joined, quiet-joined}
+use Rattle.relay_laws.proofs.DoneOrder.{JoinsNext, Ordered, OrderedAt, left-ordered, open-ordered, IsJoining, IsOutNext, Ended, joining}
+use Rattle.relay_laws.proofs.DoneOrder.{half_done, all_done, Joined, quiet-joined}
 
 -- Entries
 

@@ -1,6 +1,7 @@
 -- What each entry of a legal trace says: its numbers are bounded by the number of links and the most bytes of one call, a poll's timeout
 -- can be spelled, flags fit a byte, and exactly the bytes stand beside it that were got or taken.
-use Rattle.std.proofs.Common.{◌≡◌, ℕ, ◌-◌, ◌<◌, ◌≤◌, min, Bool, true, false, ◌&&◌, ◌||◌, nat_le, if◌then◌else◌, List, [], ◌∷◌, ◌++◌, length, map, Option, Some, None, inl, inr, refl, sym, ◌∙◌, ap, subst, arith}
+use Rattle.std.proofs.Common.{◌≡◌, ℕ, ◌-◌, ◌<◌, ◌≤◌, min, Bool, true, false, ◌&&◌, ◌||◌, nat_le, if◌then◌else◌, List, [], ◌∷◌, ◌++◌, length}
+use Rattle.std.proofs.Common.{map, Option, Some, None, inl, inr, refl, sym, ◌∙◌, ap, subst, arith}
 use Rattle.std.specs.Prelude.{⊤, filter, All}
 use Rattle.std.proofs.lemmas.List.Elements.{All-head}
 use Rattle.std.specs.List.{AllByRecursion}
@@ -20,11 +21,13 @@ use Rattle.relay_model.specs.Settings.{Settings}
 use Rattle.relay_model.specs.Due.{Reason}
 use Rattle.relay_model.specs.Plain.{Plain, side_at, all_sides}
 use Rattle.relay_model.specs.Past.{Past, past}
-use Rattle.relay_model.specs.Rooms.{Want, want_of, wanted, may_read, may_write, read_room, write_room, is_connecting, within_rates, at_most, share, allowance, most_at_once, read_mark, input_length, raw_output_at}
+use Rattle.relay_model.specs.Rooms.{Want, want_of, wanted, may_read, may_write, read_room, write_room, is_connecting, within_rates, at_most}
+use Rattle.relay_model.specs.Rooms.{share, allowance, most_at_once, read_mark, input_length, raw_output_at}
 use Rattle.relay_model.specs.Moments.{poll_timeout}
 use Rattle.relay_model.specs.Serve.{Call, call_for, CarriesGot, CarriesTook}
 use Rattle.relay_model.specs.Close.{CloseStep}
-use Rattle.relay_model.specs.Stages.{Stage, State, Between, Polling, Wanting, Marking, Accepting, Serving, Filtering, Dispatching, Firing, Freeing, Passing, Closing, Over, Halt}
+use Rattle.relay_model.specs.Stages.{Stage, State, Between, Polling, Wanting, Marking, Accepting, Serving, Filtering, Dispatching, Firing}
+use Rattle.relay_model.specs.Stages.{Freeing, Passing, Closing, Over, Halt}
 use Rattle.relay_model.specs.Turn.{after_reading, Puts, Quietly, Reaches, IsLegal}
 use Rattle.relay_model.specs.Told.{names}
 use Rattle.relay_model.proofs.EndLemmas.{same_end-refl}

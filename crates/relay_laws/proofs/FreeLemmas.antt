@@ -1,5 +1,6 @@
 -- Why sides are freed where there are no hooks, no timeouts and no filters.
-use Rattle.std.proofs.Common.{◌≡◌, ℕ, ◌-◌, ◌≤◌, Bool, true, false, List, [], ◌∷◌, ◌++◌, length, Some, None, inl, inr, refl, sym, ◌∙◌, ap, subst, arith, append_assoc, if◌then◌else◌, Option}
+use Rattle.std.proofs.Common.{◌≡◌, ℕ, ◌-◌, ◌≤◌, Bool, true, false, List, [], ◌∷◌, ◌++◌, length, Some, None, inl, inr, refl, sym, ◌∙◌, ap}
+use Rattle.std.proofs.Common.{subst, arith, append_assoc, if◌then◌else◌, Option}
 use Rattle.std.specs.Prelude.{All, option_map}
 use Rattle.std.proofs.lemmas.List.Elements.{All-nil, All-push}
 use Rattle.token_bucket.specs.declared.limit.Dir.{Dir}

@@ -1,5 +1,6 @@
 -- What a link came to is what the frees of a trace tell.
-use Rattle.std.proofs.Common.{◌≡◌, ℕ, zero, suc, ◌+◌, ◌<◌, ◌≤◌, Bool, true, false, ◌&&◌, ◌||◌, not, if◌then◌else◌, [], ◌∷◌, ◌++◌, refl, sym, ◌∙◌, ap, arith}
+use Rattle.std.proofs.Common.{◌≡◌, ℕ, zero, suc, ◌+◌, ◌<◌, ◌≤◌, Bool, true, false, ◌&&◌, ◌||◌, not, if◌then◌else◌, [], ◌∷◌, ◌++◌, refl, sym}
+use Rattle.std.proofs.Common.{◌∙◌, ap, arith}
 use Rattle.std.specs.List.{list_any}
 use Rattle.std.proofs.lemmas.Bool.{and_from, and_parts, or_left}
 use Rattle.std.proofs.lemmas.List.Folds.{list_any-append}
@@ -29,7 +30,8 @@ use Rattle.relay_state.specs.State.{State}
 use Rattle.relay_state.specs.Closing.{in_side, out_side}
 use Rattle.relay_state.specs.Counting.{link_count, is_open, open_below}
 use Rattle.relay_steps.specs.Meaning.{StandsFor}
-use Rattle.relay_laws.specs.Links.{done_by, is_done, lives_in, link_state_in, living_below, LinksAre, AllRecorded, LinksAreTold, FreesAreRecordedAtOnce, DoneIsWhole}
+use Rattle.relay_laws.specs.Links.{done_by, is_done, lives_in, link_state_in, living_below, LinksAre, AllRecorded, LinksAreTold}
+use Rattle.relay_laws.specs.Links.{FreesAreRecordedAtOnce, DoneIsWhole}
 use Rattle.relay_laws.proofs.LawLemmas.{told, means_conserved}
 use Rattle.relay_laws.proofs.DoneOrder.{IsOutNext, Ended}
 use Rattle.relay_laws.proofs.DoneLemmas.{joined}

@@ -1,6 +1,7 @@
 -- Where filters hand bytes on as they are, the four counts of a direction stay in order over what was read: by induction over the steps
 -- of a legal trace.
-use Rattle.std.proofs.Common.{◌≡◌, ℕ, zero, suc, ◌+◌, ◌-◌, ◌≤◌, min, Bool, true, false, ◌&&◌, ◌||◌, ◌==◌, not, if◌then◌else◌, List, [], ◌∷◌, ◌++◌, length, Option, None, Some, refl, sym, ◌∙◌, ap, subst, arith, slice_index_or, length-append}
+use Rattle.std.proofs.Common.{◌≡◌, ℕ, zero, suc, ◌+◌, ◌-◌, ◌≤◌, min, Bool, true, false, ◌&&◌, ◌||◌, ◌==◌, not, if◌then◌else◌, List, [], ◌∷◌}
+use Rattle.std.proofs.Common.{◌++◌, length, Option, None, Some, refl, sym, ◌∙◌, ap, subst, arith, slice_index_or, length-append}
 use Rattle.std.specs.Prelude.{slice_set, nat_lt}
 use Rattle.std.proofs.lemmas.List.{get_or-set_other}
 use Rattle.token_bucket.specs.declared.limit.Dir.TheVariants as dir
@@ -19,7 +20,8 @@ use Rattle.relay_model.specs.Conserved.{all_moved}
 use Rattle.relay_model.specs.Settings.{Settings}
 use Rattle.relay_model.specs.Plain.{Plain, side_at, flow_at, put_flow, change_side, change_flow, with_link, freed}
 use Rattle.relay_model.specs.Past.{Past, past}
-use Rattle.relay_model.specs.Rooms.{read_kind, read_filter, write_filter, may_write, write_room, within_rates, at_most, share, allowance, most_at_once, raw_output_at}
+use Rattle.relay_model.specs.Rooms.{read_kind, read_filter, write_filter, may_write, write_room, within_rates, at_most, share, allowance}
+use Rattle.relay_model.specs.Rooms.{most_at_once, raw_output_at}
 use Rattle.relay_model.specs.Reasons.{happened, error_flag}
 use Rattle.relay_model.specs.Moments.{active_at}
 use Rattle.relay_model.specs.Pass.{read_stops, with_used, with_moved, write_stops, with_turned, with_write_done}

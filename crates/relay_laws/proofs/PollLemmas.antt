@@ -1,5 +1,6 @@
 -- No poll waits longer than a number of 64 bits says: timeouts, delays and ticks are shorter.
-use Rattle.std.proofs.Common.{ℕ, ◌+◌, ◌-◌, ◌^◌, ◌<◌, ◌≤◌, min, Bool, true, false, ◌&&◌, if◌then◌else◌, List, [], ◌∷◌, ◌++◌, map, Option, Some, None, arith, ◌*◌, ◌/◌, ◌≡◌, suc, ap, ◌∙◌}
+use Rattle.std.proofs.Common.{ℕ, ◌+◌, ◌-◌, ◌^◌, ◌<◌, ◌≤◌, min, Bool, true, false, ◌&&◌, if◌then◌else◌, List, [], ◌∷◌, ◌++◌, map, Option}
+use Rattle.std.proofs.Common.{Some, None, arith, ◌*◌, ◌/◌, ◌≡◌, suc, ap, ◌∙◌}
 use Rattle.std.proofs.Math.Nat.{div-mul-le_self, suc-mul}
 use Rattle.std.specs.Prelude.{option_map}
 use Rattle.std.specs.List.{AllByRecursion, flat_map}
@@ -16,7 +17,8 @@ use Rattle.relay_model.specs.Rates.{next_tick}
 use Rattle.token_bucket.specs.Spells.{least_with}
 use Rattle.relay_model.specs.Past.{Past, past}
 use Rattle.relay_model.specs.Rooms.{wants}
-use Rattle.relay_model.specs.Moments.{timeout_of, last_activity, is_timed, moment_where, both_ways, expiry, limit_gain, group_gains, moments, earliest, is_pressing, poll_timeout}
+use Rattle.relay_model.specs.Moments.{timeout_of, last_activity, is_timed, moment_where, both_ways, expiry, limit_gain, group_gains}
+use Rattle.relay_model.specs.Moments.{moments, earliest, is_pressing, poll_timeout}
 use Rattle.relay_model.specs.Stages.{State}
 use Rattle.relay_model.specs.Turn.{Reaches}
 use Rattle.relay_laws.specs.Spelling.{TimeoutsFit}

@@ -1,7 +1,8 @@
 -- What is so of every side, of its timeouts, its last activity and its connection: it is kept by each step, where it is so of the sides
 -- of a new link, of one that was active just now or connected just now, and of one whose timeouts a hook just asked for, and stays so
 -- in time. By induction over the steps.
-use Rattle.std.proofs.Common.{◌≡◌, ℕ, ◌+◌, ◌*◌, ◌≤◌, Bool, true, false, not, nat_lt, nat_le, if◌then◌else◌, List, [], ◌∷◌, ◌++◌, length, fold, Option, Some, None, inl, inr, refl, sym, ap, subst}
+use Rattle.std.proofs.Common.{◌≡◌, ℕ, ◌+◌, ◌*◌, ◌≤◌, Bool, true, false, not, nat_lt, nat_le, if◌then◌else◌, List, [], ◌∷◌, ◌++◌, length}
+use Rattle.std.proofs.Common.{fold, Option, Some, None, inl, inr, refl, sym, ap, subst}
 use Rattle.std.specs.Prelude.{filter}
 use Rattle.std.proofs.lemmas.Bool.{or_parts, ltb-false}
 use Rattle.std.proofs.lemmas.Bool.Decides.{eqb_tells}
@@ -26,12 +27,14 @@ use Rattle.ev_types.specs.Sides.{peer}
 use Rattle.ev_types.specs.Trace.{Event, Trace}
 use Rattle.relay_model.specs.Settings.{Settings, HasNoHooks}
 use Rattle.ev_types.specs.declared.settings.Timeouts.{Timeouts}
-use Rattle.relay_model.specs.Plain.{Plain, PlainSide, no_side, new_side, with_link, side_at, put_side, change_side, change_flow, freed, all_sides}
+use Rattle.relay_model.specs.Plain.{Plain, PlainSide, no_side, new_side, with_link, side_at, put_side, change_side, change_flow, freed}
+use Rattle.relay_model.specs.Plain.{all_sides}
 use Rattle.relay_model.specs.Past.{Past, past}
 use Rattle.relay_model.specs.Rooms.{wants}
 use Rattle.relay_model.specs.Reasons.{raise, raise_read, raise_write, happened, end_flag, error_flag, timeout_flag}
 use Rattle.relay_model.specs.Moments.{is_timed, has_run_out, active_at, expire, both_ways, timers_taken, timed, side_timed, time_passed}
-use Rattle.relay_model.specs.Asks.{most_ms, names_no_live, has_bad_value, names_no_group, has_too_many, refusal, enabled, done, Answered, Ask}
+use Rattle.relay_model.specs.Asks.{most_ms, names_no_live, has_bad_value, names_no_group, has_too_many, refusal, enabled, done, Answered}
+use Rattle.relay_model.specs.Asks.{Ask}
 use Rattle.relay_model.specs.Round.{Part, read_run, write_run, do_part}
 use Rattle.relay_model.specs.Serve.{after_conn, after_read, after_got, after_write}
 use Rattle.relay_model.specs.Close.{CloseStep, closed_by}

@@ -1,5 +1,6 @@
 -- What holds wherever a turn ends in a trace, and at its end, holds wherever one ends in the trace with one turn more.
-use Rattle.std.proofs.Common.{◌≡◌, ℕ, ◌+◌, ◌⊎◌, inl, inr, true, [], ◌∷◌, ◌++◌, refl, sym, ◌∙◌, ap, subst, arith, count_by, if◌then◌else◌, append-nil}
+use Rattle.std.proofs.Common.{◌≡◌, ℕ, ◌+◌, ◌⊎◌, inl, inr, true, [], ◌∷◌, ◌++◌, refl, sym, ◌∙◌, ap, subst, arith, count_by, if◌then◌else◌}
+use Rattle.std.proofs.Common.{append-nil}
 use Rattle.ev_types.specs.Trace.{Event, Trace}
 use Rattle.relay_model.specs.RatesKept.{is_turn}
 use Rattle.std.proofs.lemmas.List.Sums.{sum_by-append, sum_by-cons}

@@ -1,6 +1,7 @@
 -- Each step of a turn keeps each direction accounted for, whatever the settings and the filters are: a silent step, and an entry,
 -- as far as what a write took is the first of what waited.
-use Rattle.std.proofs.Common.{◌≡◌, ℕ, zero, suc, ◌+◌, ◌*◌, ◌<◌, ◌≤◌, Bool, true, false, ◌&&◌, ◌||◌, ◌==◌, not, if◌then◌else◌, List, [], ◌∷◌, ◌++◌, length, take, ◌⊎◌, inl, inr, refl, sym, ◌∙◌, ap, subst, arith, slice_index_or, append-nil}
+use Rattle.std.proofs.Common.{◌≡◌, ℕ, zero, suc, ◌+◌, ◌*◌, ◌<◌, ◌≤◌, Bool, true, false, ◌&&◌, ◌||◌, ◌==◌, not, if◌then◌else◌, List, [], ◌∷◌}
+use Rattle.std.proofs.Common.{◌++◌, length, take, ◌⊎◌, inl, inr, refl, sym, ◌∙◌, ap, subst, arith, slice_index_or, append-nil}
 use Rattle.std.specs.Prelude.{slice_set, All}
 use Rattle.std.proofs.lemmas.Bool.{and_parts, eqb-true}
 use Rattle.std.proofs.lemmas.List.{length-take, nil_from_length, get_or-set_same}
@@ -15,7 +16,8 @@ use Rattle.ev_types.specs.Sides.{same_end, peer, number}
 use Rattle.ev_types.specs.Trace.{Event, Trace}
 use Rattle.token_bucket.specs.declared.limit.Dir.TheVariants as dir
 use Rattle.relay_model.specs.Settings.{Settings}
-use Rattle.relay_model.specs.Trace.{read_by, given_by, ended_by, write_closed_by, told_moved_by, told_given_by, bytes_read, bytes_given, has_ended, moved_at_free, given_at_free, is_write_closed}
+use Rattle.relay_model.specs.Trace.{read_by, given_by, ended_by, write_closed_by, told_moved_by, told_given_by, bytes_read, bytes_given}
+use Rattle.relay_model.specs.Trace.{has_ended, moved_at_free, given_at_free, is_write_closed}
 use Rattle.filter_model.specs.Filter.{Filter, filter_of}
 use Rattle.filter_model.specs.FilterLaws.{PrefixLaw}
 use Rattle.relay_model.specs.Flow.{Flow, no_flow, raw_output}
@@ -23,7 +25,8 @@ use Rattle.relay_model.specs.Conserved.{Accounted, IsComplete}
 use Rattle.relay_model.specs.Reasons.{happened, error_flag}
 use Rattle.relay_model.specs.Plain.{Plain, side_at, flow_at, change_side, change_flow, is_live}
 use Rattle.relay_model.specs.Past.{past}
-use Rattle.relay_model.specs.Rooms.{read_kind, write_kind, read_filter, write_filter, read_mark, hold_mark, raw_input_at, input_at, output_at}
+use Rattle.relay_model.specs.Rooms.{read_kind, write_kind, read_filter, write_filter, read_mark, hold_mark, raw_input_at, input_at}
+use Rattle.relay_model.specs.Rooms.{output_at}
 use Rattle.relay_model.specs.Pass.{with_held, with_used, with_read_done, with_moved, with_turned, with_write_done}
 use Rattle.relay_model.specs.Moments.{active_at}
 use Rattle.relay_model.specs.Serve.{after_write, CarriesTook}
@@ -38,7 +41,8 @@ use Rattle.filter_model.proofs.EveryFilter.{every_filter}
 use Rattle.relay_model.proofs.KeepsLemmas.{raised, raised_read, raised_write}
 use Rattle.relay_model.proofs.PlacedLemmas.{may_read-parts, may_write-live, live-there}
 use Rattle.relay_model.proofs.TimeLemmas.{time-flows}
-use Rattle.relay_model.proofs.TraceLemmas.{bytes_read-push, bytes_given-push, moved_at_free-push, given_at_free-push, has_ended-push, is_write_closed-push}
+use Rattle.relay_model.proofs.TraceLemmas.{bytes_read-push, bytes_given-push, moved_at_free-push, given_at_free-push, has_ended-push}
+use Rattle.relay_model.proofs.TraceLemmas.{is_write_closed-push}
 use Rattle.relay_model.proofs.KindLemmas.{ClosedKind, closed-kind, PutKind, put-kind}
 use Rattle.relay_model.proofs.FireLemmas.{QuietKind, quiet-kind}
 use Rattle.relay_model.proofs.ToldLemmas.{kept}
@@ -46,7 +50,8 @@ use Rattle.relay_model.proofs.BadLemmas.{default-same, conn-flows, read-flows, c
 use Rattle.relay_model.proofs.BadSteps.{ended-is}
 use Rattle.relay_model.proofs.HeldLemmas.{live-unfreed}
 use Rattle.relay_model.proofs.TotalLemmas.{NeedsLive, PartsLive, parts-live, moved-untold, given-untold, put-told}
-use Rattle.relay_model.proofs.ConservedSteps.{accounted-first, accounted-told, accounted-got, accounted-ended, accounted-given, complete-finished}
+use Rattle.relay_model.proofs.ConservedSteps.{accounted-first, accounted-told, accounted-got, accounted-ended, accounted-given}
+use Rattle.relay_model.proofs.ConservedSteps.{complete-finished}
 use Rattle.relay_model.proofs.PassKeeps.{used-keeps, read_done-keeps, moved-keeps, held-keeps, turned-keeps, write_done-keeps}
 
 -- the direction that begins at a side, with these counts

@@ -1,5 +1,6 @@
 -- Silent steps and bad places, and what both leave of the place that a side keeps.
-use Rattle.std.proofs.Common.{◌≡◌, ℕ, ◌<◌, ◌≤◌, Bool, true, false, ◌&&◌, ◌||◌, ◌==◌, if◌then◌else◌, List, [], ◌∷◌, ◌++◌, length, Option, Some, None, ◌⊎◌, inl, inr, refl, sym, ◌∙◌, ap, subst, arith, slice_index_or, take, ◌-◌}
+use Rattle.std.proofs.Common.{◌≡◌, ℕ, ◌<◌, ◌≤◌, Bool, true, false, ◌&&◌, ◌||◌, ◌==◌, if◌then◌else◌, List, [], ◌∷◌, ◌++◌, length, Option}
+use Rattle.std.proofs.Common.{Some, None, ◌⊎◌, inl, inr, refl, sym, ◌∙◌, ap, subst, arith, slice_index_or, take, ◌-◌}
 use Rattle.std.proofs.lemmas.Bool.{and_parts, cases_lt}
 use Rattle.ev_types.specs.declared.side.SideId.{SideId}
 use Rattle.ev_types.specs.Sides.{same_end, peer, number}
@@ -24,7 +25,8 @@ use Rattle.relay_model.proofs.ToldLemmas.{Kept, kept, none_of, ended-names}
 use Rattle.relay_model.specs.Causes.{IsFirstBad, moved_to, IsBadPlace}
 use Rattle.std.specs.Prelude.{nat_lt, nat_eq}
 use Rattle.relay_model.proofs.TimeLemmas.{put-cases}
-use Rattle.relay_model.proofs.GrownLemmas.{moved_list, FlowOk, IsBadIn, bad-grew, bad-met, Grown, grown-same, stations, grown-counts, grown-used, grown-done, grown-moved}
+use Rattle.relay_model.proofs.GrownLemmas.{moved_list, FlowOk, IsBadIn, bad-grew, bad-met, Grown, grown-same, stations, grown-counts}
+use Rattle.relay_model.proofs.GrownLemmas.{grown-used, grown-done, grown-moved}
 use Rattle.relay_model.proofs.BadLemmas.{Goes, AllFit, put-goes}
 use Rattle.std.proofs.lemmas.List.{get_or_past, set_past, get_or-set_same, get_or-set_other}
 use Rattle.filter_model.specs.FilterLaws.{BadLaw, IsFilter}

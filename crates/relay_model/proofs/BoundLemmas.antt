@@ -1,5 +1,7 @@
 -- How many bytes the buffers of a direction hold after each step of it.
-use Rattle.std.proofs.Common.{◌≡◌, ℕ, zero, suc, ◌+◌, ◌-◌, ◌<◌, ◌≤◌, Bool, true, false, ◌==◌, ◌&&◌, ◌||◌, not, if◌then◌else◌, List, [], ◌∷◌, ◌++◌, length, take, drop, Option, Some, None, is_none, refl, sym, ◌∙◌, ap, subst, arith, length-append, eqb-true}
+use Rattle.std.proofs.Common.{◌≡◌, ℕ, zero, suc, ◌+◌, ◌-◌, ◌<◌, ◌≤◌, Bool, true, false, ◌==◌, ◌&&◌, ◌||◌, not, if◌then◌else◌, List, [], ◌∷◌}
+use Rattle.std.proofs.Common.{◌++◌, length, take, drop, Option, Some, None, is_none, refl, sym, ◌∙◌, ap, subst, arith, length-append}
+use Rattle.std.proofs.Common.{eqb-true}
 use Rattle.std.specs.Prelude.{nat_lt, nat_le, is_some, bytes_eq}
 use Rattle.std.proofs.lemmas.Bool.{and_parts, or_parts, leb-false, ltb-true}
 use Rattle.std.proofs.lemmas.List.{length-drop, length-take-le, take_all}

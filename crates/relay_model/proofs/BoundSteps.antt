@@ -1,5 +1,6 @@
 -- How many bytes a direction may hold, by induction over the steps.
-use Rattle.std.proofs.Common.{◌≡◌, ℕ, ◌+◌, ◌*◌, ◌<◌, ◌≤◌, Bool, true, false, if◌then◌else◌, List, [], ◌∷◌, ◌++◌, length, take, ◌⊎◌, inl, inr, refl, sym, ◌∙◌, ap, subst, arith, slice_index_or, append-nil, append_assoc}
+use Rattle.std.proofs.Common.{◌≡◌, ℕ, ◌+◌, ◌*◌, ◌<◌, ◌≤◌, Bool, true, false, if◌then◌else◌, List, [], ◌∷◌, ◌++◌, length, take, ◌⊎◌, inl}
+use Rattle.std.proofs.Common.{inr, refl, sym, ◌∙◌, ap, subst, arith, slice_index_or, append-nil, append_assoc}
 use Rattle.std.specs.List.{list_any}
 use Rattle.std.proofs.lemmas.Bool.{cases_lt, or_parts}
 use Rattle.std.proofs.lemmas.List.{get_or_past, length-drop, length-take-le}
@@ -39,7 +40,8 @@ use Rattle.relay_model.proofs.StageLemmas.{quiet-silent}
 use Rattle.relay_model.proofs.BadSteps.{ended-is}
 use Rattle.relay_model.proofs.FlowLemmas.{read_room-below, Takes, put-flow, ReadCase, put-read}
 use Rattle.relay_model.proofs.FitsLemmas.{Fit, AllFits, read_run-fits, write_run-fits, read-fits, fits}
-use Rattle.relay_model.proofs.BoundLemmas.{Bounded, bounded-first, used-bounded, read_done-bounded, moved-bounded, held-bounded, turned-bounded, write_done-bounded, given-bounded, got-bounded}
+use Rattle.relay_model.proofs.BoundLemmas.{Bounded, bounded-first, used-bounded, read_done-bounded, moved-bounded, held-bounded}
+use Rattle.relay_model.proofs.BoundLemmas.{turned-bounded, write_done-bounded, given-bounded, got-bounded}
 use Rattle.relay_model.proofs.HooklessLemmas.{asleep}
 
 -- Rooms of reads

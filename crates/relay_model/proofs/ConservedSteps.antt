@@ -1,5 +1,6 @@
 -- Each step of a direction keeps it accounted for.
-use Rattle.std.proofs.Common.{◌≡◌, ℕ, ◌+◌, ◌<◌, ◌≤◌, Bool, true, false, if◌then◌else◌, List, [], ◌++◌, length, take, drop, None, is_none, refl, sym, ◌∙◌, ap, subst, arith, length-append}
+use Rattle.std.proofs.Common.{◌≡◌, ℕ, ◌+◌, ◌<◌, ◌≤◌, Bool, true, false, if◌then◌else◌, List, [], ◌++◌, length, take, drop, None, is_none}
+use Rattle.std.proofs.Common.{refl, sym, ◌∙◌, ap, subst, arith, length-append}
 use Rattle.std.specs.Prelude.{All}
 use Rattle.std.proofs.lemmas.List.{append-nil, take-append-drop, take-append-le, length-drop, length-take-le}
 use Rattle.std.proofs.lemmas.List.Elements.{All-append}
@@ -13,7 +14,8 @@ use Rattle.filter_model.specs.Filter.{Filter}
 use Rattle.filter_model.specs.FilterLaws.{PrefixLaw}
 use Rattle.relay_model.specs.Flow.{Flow, no_flow, middle, outcome, raw_input, input, raw_output}
 use Rattle.relay_model.specs.Conserved.{Accounted, IsComplete}
-use Rattle.relay_model.proofs.FlowSteps.{middle-used, middle-finished, middle-got, middle-done, outcome-grown, outcome-turned, outcome-finished, outcome-done}
+use Rattle.relay_model.proofs.FlowSteps.{middle-used, middle-finished, middle-got, middle-done, outcome-grown, outcome-turned}
+use Rattle.relay_model.proofs.FlowSteps.{outcome-finished, outcome-done}
 
 -- a longer list has room for what the shorter had
 longer : (n : ℕ) (xs ys z : List ℕ) → n ≤ length xs → ys ≡ xs ++ z → n ≤ length ys

@@ -1,5 +1,6 @@
 -- Which side is faulty at a place of a trace, and why, by induction over the steps.
-use Rattle.std.proofs.Common.{◌≡◌, ℕ, ◌<◌, ◌≤◌, Bool, true, false, ◌||◌, if◌then◌else◌, [], ◌∷◌, ◌++◌, Option, Some, None, ◌⊎◌, inl, inr, refl, sym, ◌∙◌, ap, subst, arith, append_assoc}
+use Rattle.std.proofs.Common.{◌≡◌, ℕ, ◌<◌, ◌≤◌, Bool, true, false, ◌||◌, if◌then◌else◌, [], ◌∷◌, ◌++◌, Option, Some, None, ◌⊎◌, inl, inr}
+use Rattle.std.proofs.Common.{refl, sym, ◌∙◌, ap, subst, arith, append_assoc}
 use Rattle.std.specs.Prelude.{option_map, is_some}
 use Rattle.std.specs.List.{list_any}
 use Rattle.std.proofs.lemmas.Bool.{or_from, or_left, or_right, cases_lt, or_cases}
@@ -28,7 +29,8 @@ use Rattle.relay_model.proofs.StageLemmas.{Silent, quiet-silent, closed-opened}
 use Rattle.relay_model.specs.Causes.{InThisTurn, TimedOut}
 use Rattle.relay_model.proofs.TimeLemmas.{IsLate, time-expired}
 use Rattle.relay_model.proofs.StepLemmas.{put-effect}
-use Rattle.relay_model.proofs.FaultLemmas.{is_faulty, not-faulty, looks_at, FaultsAwait, open-awaits, looked-for, closed-fails, rest, steps-looked, old-faulty, was-live}
+use Rattle.relay_model.proofs.FaultLemmas.{is_faulty, not-faulty, looks_at, FaultsAwait, open-awaits, looked-for, closed-fails, rest}
+use Rattle.relay_model.proofs.FaultLemmas.{steps-looked, old-faulty, was-live}
 use Rattle.relay_model.proofs.KindLemmas.{closed-kind, PutKind, put-kind}
 
 -- Closing looks for each faulty side

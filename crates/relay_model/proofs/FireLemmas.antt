@@ -1,5 +1,6 @@
 -- What holds at the stages of a fire and of closing, by induction over the steps.
-use Rattle.std.proofs.Common.{◌≡◌, ℕ, Bool, true, false, ◌&&◌, ◌||◌, if◌then◌else◌, List, [], ◌∷◌, ◌++◌, None, ◌⊎◌, inl, inr, refl, sym, ◌∙◌, ap, subst}
+use Rattle.std.proofs.Common.{◌≡◌, ℕ, Bool, true, false, ◌&&◌, ◌||◌, if◌then◌else◌, List, [], ◌∷◌, ◌++◌, None, ◌⊎◌, inl, inr, refl, sym}
+use Rattle.std.proofs.Common.{◌∙◌, ap, subst}
 use Rattle.std.specs.Prelude.{⊤}
 use Rattle.std.specs.List.{list_any, list_all}
 use Rattle.std.proofs.lemmas.Bool.{and_from, or_left, or_right}
@@ -17,7 +18,8 @@ use Rattle.relay_model.specs.Past.{past}
 use Rattle.relay_model.specs.Rooms.{Want, wanted}
 use Rattle.relay_model.specs.Serve.{marks_left, after_got}
 use Rattle.relay_model.specs.Close.{CloseStep, closing_from, closing_entry}
-use Rattle.relay_model.specs.Stages.{Stage, State, at, Between, Wanting, Marking, Accepting, Serving, Filtering, Dispatching, Firing, Freeing, Passing, Closing, Over, Halt}
+use Rattle.relay_model.specs.Stages.{Stage, State, at, Between, Wanting, Marking, Accepting, Serving, Filtering, Dispatching, Firing}
+use Rattle.relay_model.specs.Stages.{Freeing, Passing, Closing, Over, Halt}
 use Rattle.relay_model.specs.Turn.{after_reading, after_fire, Quietly}
 use Rattle.relay_model.specs.Told.{freed_by, is_freed}
 use Rattle.relay_model.specs.Round.{Part, do_part, round_parts}

@@ -1,5 +1,6 @@
 -- What an entry does to the counts of a direction and to what was read where it begins.
-use Rattle.std.proofs.Common.{◌≡◌, ℕ, ◌+◌, ◌-◌, ◌≤◌, Bool, true, false, if◌then◌else◌, List, [], ◌∷◌, ◌++◌, length, Option, Some, None, ◌⊎◌, inl, inr, refl, sym, ◌∙◌, ap, subst, arith, slice_index_or, min}
+use Rattle.std.proofs.Common.{◌≡◌, ℕ, ◌+◌, ◌-◌, ◌≤◌, Bool, true, false, if◌then◌else◌, List, [], ◌∷◌, ◌++◌, length, Option, Some, None, ◌⊎◌}
+use Rattle.std.proofs.Common.{inl, inr, refl, sym, ◌∙◌, ap, subst, arith, slice_index_or, min}
 use Rattle.token_bucket.specs.declared.limit.Dir.TheVariants as dir
 use Rattle.ev_types.specs.declared.side.SideId.{SideId}
 use Rattle.ev_types.specs.declared.answer.ReadAnswer.{ReadAnswer}
@@ -16,7 +17,8 @@ use Rattle.relay_model.specs.Flow.{Flow, no_flow}
 use Rattle.relay_model.specs.Plain.{Plain, flow_at, change_side, change_flow}
 use Rattle.relay_model.specs.Past.{Past, past}
 use Rattle.relay_model.specs.Reasons.{happened, error_flag}
-use Rattle.relay_model.specs.Rooms.{may_read, may_write, write_room, read_room, within_rates, at_most, share, allowance, raw_output_at, read_mark, input_length, most_at_once}
+use Rattle.relay_model.specs.Rooms.{may_read, may_write, write_room, read_room, within_rates, at_most, share, allowance, raw_output_at}
+use Rattle.relay_model.specs.Rooms.{read_mark, input_length, most_at_once}
 use Rattle.relay_model.specs.Moments.{active_at}
 use Rattle.relay_model.specs.Serve.{after_write, CarriesGot, CarriesTook}
 use Rattle.relay_model.specs.Close.{CloseStep}

@@ -1,6 +1,7 @@
 -- What steps leave of the plain state: its shape always but where a turn begins or a link opens, and the limits and
 -- groups of sides but where a hook asks for others or a side is freed.
-use Rattle.std.proofs.Common.{◌≡◌, inl, inr, ℕ, ◌+◌, Bool, true, false, if◌then◌else◌, List, [], ◌∷◌, length, Option, Some, None, fold, filter, refl, sym, ◌∙◌, subst}
+use Rattle.std.proofs.Common.{◌≡◌, inl, inr, ℕ, ◌+◌, Bool, true, false, if◌then◌else◌, List, [], ◌∷◌, length, Option, Some, None, fold}
+use Rattle.std.proofs.Common.{filter, refl, sym, ◌∙◌, subst}
 use Rattle.std.specs.Prelude.{nat_le, nat_lt, not}
 use Rattle.std.proofs.lemmas.List.{length-set}
 use Rattle.token_bucket.specs.declared.limit.Dir.{Dir}
@@ -22,7 +23,8 @@ use Rattle.ev_types.specs.Sides.{number, peer}
 use Rattle.relay_model.specs.Flow.{Flow}
 use Rattle.relay_model.specs.Settings.{Settings}
 use Rattle.relay_model.specs.Due.{Due, with_reason, without_due}
-use Rattle.relay_model.specs.Plain.{Plain, PlainSide, Standing, Timer, side_at, flow_at, put_side, change_side, change_flow, all_sides, freed, without_timer}
+use Rattle.relay_model.specs.Plain.{Plain, PlainSide, Standing, Timer, side_at, flow_at, put_side, change_side, change_flow, all_sides}
+use Rattle.relay_model.specs.Plain.{freed, without_timer}
 use Rattle.relay_model.specs.Past.{Past}
 use Rattle.relay_model.specs.Rooms.{wants}
 use Rattle.relay_model.specs.Reasons.{raise, raise_read, raise_write, happened, end_flag, error_flag, timeout_flag}

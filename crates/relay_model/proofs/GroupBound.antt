@@ -1,5 +1,6 @@
 -- Groups keep to their limits in every legal trace, and with them all limits are kept.
-use Rattle.std.proofs.Common.{◌≡◌, ◌⊎◌, inl, inr, ℕ, ◌+◌, ◌-◌, ◌≤◌, min, max, Bool, true, false, if◌then◌else◌, List, [], ◌∷◌, ◌++◌, length, Option, Some, None, option_map, sum_by, refl, sym, ◌∙◌, ap, subst, arith}
+use Rattle.std.proofs.Common.{◌≡◌, ◌⊎◌, inl, inr, ℕ, ◌+◌, ◌-◌, ◌≤◌, min, max, Bool, true, false, if◌then◌else◌, List, [], ◌∷◌, ◌++◌, length}
+use Rattle.std.proofs.Common.{Option, Some, None, option_map, sum_by, refl, sym, ◌∙◌, ap, subst, arith}
 use Rattle.std.specs.Prelude.{slice_get}
 use Rattle.std.proofs.lemmas.Bool.{eqb-true}
 use Rattle.std.proofs.lemmas.List.{append_assoc}
@@ -16,7 +17,8 @@ use Rattle.relay_model.specs.Settings.{Settings, GroupSet}
 use Rattle.relay_model.specs.Plain.{Plain, side_at}
 use Rattle.token_bucket.specs.Spells.{Moves}
 use Rattle.token_bucket.specs.Levels.{limit_of}
-use Rattle.relay_model.specs.Groups.{same_group, group_after, beat_among, beats_among, group_spells, least_share, group_level, members, is_suspended, share_among}
+use Rattle.relay_model.specs.Groups.{same_group, group_after, beat_among, beats_among, group_spells, least_share, group_level, members}
+use Rattle.relay_model.specs.Groups.{is_suspended, share_among}
 use Rattle.relay_model.specs.Past.{past}
 use Rattle.relay_model.specs.Rooms.{share_in, share, allowance, at_most, within_rates, read_room, write_room, may_read, may_write}
 use Rattle.relay_model.specs.Serve.{CarriesGot, CarriesTook}

@@ -1,5 +1,6 @@
 -- What members of a group move is at most their share, and what the share leaves of the group's bucket.
-use Rattle.std.proofs.Common.{◌≡◌, ◌⊎◌, inl, inr, ℕ, suc, ◌+◌, ◌-◌, ◌*◌, ◌/◌, ◌≤◌, max, Bool, true, false, if◌then◌else◌, List, [], ◌∷◌, ◌++◌, length, fold, refl, sym, ◌∙◌, ap, subst, arith}
+use Rattle.std.proofs.Common.{◌≡◌, ◌⊎◌, inl, inr, ℕ, suc, ◌+◌, ◌-◌, ◌*◌, ◌/◌, ◌≤◌, max, Bool, true, false, if◌then◌else◌, List, [], ◌∷◌}
+use Rattle.std.proofs.Common.{◌++◌, length, fold, refl, sym, ◌∙◌, ap, subst, arith}
 use Rattle.std.specs.Prelude.{nat_eq, ◌||◌, slice_index_or}
 use Rattle.std.proofs.lemmas.Bool.Decides.{eqb_tells}
 use Rattle.std.proofs.lemmas.List.{append-nil, append_assoc, take_all, length-append}
@@ -10,7 +11,8 @@ use Rattle.ev_types.specs.Trace.{Event, Trace}
 use Rattle.relay_model.specs.Settings.{Settings, GroupSet}
 use Rattle.token_bucket.specs.Spells.{ticks, Spell, moved_in, Beat, Begins, Moves, moved_first, spells}
 use Rattle.token_bucket.specs.Levels.{Limit, limit_of}
-use Rattle.relay_model.specs.Groups.{beat_among, beats_among, group_spells, least_share, group_level, no_spell, level_at_end, suspended_in, is_suspended, share_among}
+use Rattle.relay_model.specs.Groups.{beat_among, beats_among, group_spells, least_share, group_level, no_spell, level_at_end, suspended_in}
+use Rattle.relay_model.specs.Groups.{is_suspended, share_among}
 use Rattle.relay_model.specs.RatesKept.{time_by, last_time, moved_among, most_moved}
 use Rattle.relay_model.proofs.SpellLemmas.{spells-apart, rest_spells, moved_in-rest, least-term}
 

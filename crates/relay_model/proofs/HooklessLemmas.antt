@@ -1,5 +1,6 @@
 -- With no hooks nothing is asked, so that the marks of each side stay those of the settings, by induction over the steps.
-use Rattle.std.proofs.Common.{◌≡◌, ℕ, ◌+◌, ◌*◌, ◌<◌, ◌≤◌, Bool, true, false, ◌&&◌, if◌then◌else◌, List, [], ◌∷◌, ◌++◌, length, fold, filter, ◌⊎◌, inl, inr, refl, sym, ◌∙◌, ap, subst, arith, slice_index_or}
+use Rattle.std.proofs.Common.{◌≡◌, ℕ, ◌+◌, ◌*◌, ◌<◌, ◌≤◌, Bool, true, false, ◌&&◌, if◌then◌else◌, List, [], ◌∷◌, ◌++◌, length, fold, filter}
+use Rattle.std.proofs.Common.{◌⊎◌, inl, inr, refl, sym, ◌∙◌, ap, subst, arith, slice_index_or}
 use Rattle.std.specs.Prelude.{⊤, nat_le, nat_lt, not}
 use Rattle.std.specs.List.{list_any}
 use Rattle.std.proofs.lemmas.Bool.{cases_lt}
@@ -23,7 +24,8 @@ use Rattle.ev_types.specs.Sides.{same_end, number, half, peer}
 use Rattle.ev_types.specs.Trace.{Event, Trace}
 use Rattle.relay_model.specs.Settings.{Settings, HasNoHooks, marks_set}
 use Rattle.relay_model.specs.Due.{Due, batch, with_reason}
-use Rattle.relay_model.specs.Plain.{Plain, PlainSide, Timer, no_side, new_side, with_link, side_at, flow_at, put_flow, change_side, change_flow, is_live, all_sides}
+use Rattle.relay_model.specs.Plain.{Plain, PlainSide, Timer, no_side, new_side, with_link, side_at, flow_at, put_flow, change_side}
+use Rattle.relay_model.specs.Plain.{change_flow, is_live, all_sides}
 use Rattle.relay_model.specs.Past.{Past, past}
 use Rattle.relay_model.specs.Rooms.{Want, wants, read_filter, read_mark}
 use Rattle.relay_model.specs.Pass.{with_used}
@@ -32,7 +34,8 @@ use Rattle.relay_model.specs.Moments.{active_at, is_timed, has_run_out, expire, 
 use Rattle.relay_model.specs.Round.{Part, do_part, read_run}
 use Rattle.relay_model.specs.Serve.{marks_left, after_conn, after_read, after_write, after_got}
 use Rattle.relay_model.specs.Close.{CloseStep, closed_by}
-use Rattle.relay_model.specs.Stages.{Stage, State, Between, Polling, Wanting, Marking, Accepting, Serving, Filtering, Dispatching, Firing, Freeing, Passing, Closing}
+use Rattle.relay_model.specs.Stages.{Stage, State, Between, Polling, Wanting, Marking, Accepting, Serving, Filtering, Dispatching, Firing}
+use Rattle.relay_model.specs.Stages.{Freeing, Passing, Closing}
 use Rattle.relay_model.specs.Turn.{turned_to, after_reading, Quietly, Puts, Reaches}
 use Rattle.relay_model.proofs.EndLemmas.{number-lt}
 use Rattle.relay_model.proofs.PlainLemmas.{seen-change}

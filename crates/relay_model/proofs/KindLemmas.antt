@@ -1,5 +1,6 @@
 -- The kinds of entries that may be put, each with what is known where it is, and of silent steps.
-use Rattle.std.proofs.Common.{◌≡◌, ℕ, ◌+◌, ◌≤◌, Bool, true, ◌&&◌, not, ◌==◌, List, [], ◌∷◌, ◌++◌, Option, Some, ◌⊎◌, inl, inr, refl, sym, ◌∙◌, ap, subst}
+use Rattle.std.proofs.Common.{◌≡◌, ℕ, ◌+◌, ◌≤◌, Bool, true, ◌&&◌, not, ◌==◌, List, [], ◌∷◌, ◌++◌, Option, Some, ◌⊎◌, inl, inr, refl, sym}
+use Rattle.std.proofs.Common.{◌∙◌, ap, subst}
 use Rattle.std.proofs.lemmas.Bool.{and_parts, eqb-true}
 use Rattle.ev_types.specs.declared.side.Side.TheVariants.{In, Out}
 use Rattle.ev_types.specs.declared.side.SideId.{SideId}
@@ -25,7 +26,8 @@ use Rattle.relay_model.specs.Rooms.{Want, may_read, may_write, write_room, outpu
 use Rattle.relay_model.specs.Moments.{time_passed}
 use Rattle.relay_model.specs.Serve.{marks_left, after_conn, after_read, after_write, CarriesTook, CarriesGot}
 use Rattle.relay_model.specs.Close.{CloseStep, fault, freed_entry, closing_entry, closed_by, steps_left, is_complete}
-use Rattle.relay_model.specs.Stages.{Stage, Fire, State, at, Between, Polling, Wanting, Marking, Accepting, Serving, Dispatching, Firing, Freeing, Closing, Over, Halt, begun, after_ask}
+use Rattle.relay_model.specs.Stages.{Stage, Fire, State, at, Between, Polling, Wanting, Marking, Accepting, Serving, Dispatching, Firing}
+use Rattle.relay_model.specs.Stages.{Freeing, Closing, Over, Halt, begun, after_ask}
 use Rattle.ev_types.specs.Times.{latest}
 use Rattle.relay_model.specs.Turn.{turned_to, after_reading, Puts}
 use Rattle.relay_model.proofs.KeepsLemmas.{Keeps}

@@ -1,6 +1,7 @@
 -- What a step of closing leaves of what is still to be looked at, by induction over the steps.
 use Rattle.relay_model.proofs.TraceLemmas.{bytes_read-push}
-use Rattle.std.proofs.Common.{◌≡◌, ℕ, zero, suc, ◌<◌, ◌≤◌, Bool, true, false, ◌&&◌, ◌||◌, not, ◌==◌, List, [], ◌∷◌, ◌++◌, length, None, ◌⊎◌, inl, inr, refl, sym, ◌∙◌, ap, subst, arith}
+use Rattle.std.proofs.Common.{◌≡◌, ℕ, zero, suc, ◌<◌, ◌≤◌, Bool, true, false, ◌&&◌, ◌||◌, not, ◌==◌, List, [], ◌∷◌, ◌++◌, length, None, ◌⊎◌}
+use Rattle.std.proofs.Common.{inl, inr, refl, sym, ◌∙◌, ap, subst, arith}
 use Rattle.std.specs.List.{list_any}
 use Rattle.std.proofs.lemmas.Bool.{and_from, or_parts, or_from, or_right, eqb-true, not-true, or_cases}
 use Rattle.std.proofs.lemmas.List.{append-nil}
@@ -30,7 +31,8 @@ use Rattle.relay_model.proofs.StepLemmas.{put-effect}
 use Rattle.relay_model.proofs.FaultLemmas.{rest, was-live}
 use Rattle.relay_model.proofs.KindLemmas.{ClosedKind, closed-kind, PutKind, put-kind}
 use Rattle.relay_model.proofs.BadLemmas.{closed-flows}
-use Rattle.relay_model.proofs.LeftLemmas.{Needs, Followed, Left, Lefts, open-left, quiet-left, in-or-out, in_of, out_of, shuts, leaves, ends, joins, Has}
+use Rattle.relay_model.proofs.LeftLemmas.{Needs, Followed, Left, Lefts, open-left, quiet-left, in-or-out, in_of, out_of, shuts, leaves}
+use Rattle.relay_model.proofs.LeftLemmas.{ends, joins, Has}
 
 -- What a step of closing leaves
 

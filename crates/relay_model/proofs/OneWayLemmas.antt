@@ -1,5 +1,6 @@
 -- Of two states to which a trace leads, one leads to the other with no entry, by induction over the trace.
-use Rattle.std.proofs.Common.{◌≡◌, ℕ, zero, suc, ◌+◌, ◌≤◌, Bool, true, false, if◌then◌else◌, List, [], ◌∷◌, ◌++◌, length, fold, Option, Some, None, ◌⊎◌, inl, inr, refl, sym, ◌∙◌, ap, subst, arith, length-append}
+use Rattle.std.proofs.Common.{◌≡◌, ℕ, zero, suc, ◌+◌, ◌≤◌, Bool, true, false, if◌then◌else◌, List, [], ◌∷◌, ◌++◌, length, fold, Option}
+use Rattle.std.proofs.Common.{Some, None, ◌⊎◌, inl, inr, refl, sym, ◌∙◌, ap, subst, arith, length-append}
 use Rattle.std.specs.Prelude.{⊤}
 use Rattle.ev_types.specs.declared.side.SideId.{SideId}
 use Rattle.ev_types.specs.declared.act.Act.{Act}
@@ -17,7 +18,8 @@ use Rattle.relay_model.specs.Asks.{Ask, Answered, refusal}
 use Rattle.relay_model.specs.Round.{Part, do_part, round_parts, round}
 use Rattle.relay_model.specs.Serve.{Call}
 use Rattle.relay_model.specs.Close.{CloseStep}
-use Rattle.relay_model.specs.Stages.{Stage, State, at, start, after_ask, Between, Polling, Wanting, Marking, Accepting, Serving, Filtering, Dispatching, Firing, Freeing, Passing, Closing, Over, Halt}
+use Rattle.relay_model.specs.Stages.{Stage, State, at, start, after_ask, Between, Polling, Wanting, Marking, Accepting, Serving, Filtering}
+use Rattle.relay_model.specs.Stages.{Dispatching, Firing, Freeing, Passing, Closing, Over, Halt}
 use Rattle.relay_model.specs.Turn.{after_fire, Quietly, Puts, Reaches}
 use Rattle.relay_model.specs.Onward.{Leads, AllOnOneWay}
 use Rattle.relay_model.proofs.KindLemmas.{ClosedKind, closed-kind}

@@ -1,5 +1,6 @@
 -- Each part of a round of passing keeps a direction accounted for.
-use Rattle.std.proofs.Common.{◌≡◌, ℕ, zero, suc, ◌+◌, ◌-◌, ◌≤◌, Bool, true, false, ◌==◌, ◌&&◌, ◌||◌, not, if◌then◌else◌, List, [], length, take, Option, Some, None, is_none, refl, subst, arith, eqb-true}
+use Rattle.std.proofs.Common.{◌≡◌, ℕ, zero, suc, ◌+◌, ◌-◌, ◌≤◌, Bool, true, false, ◌==◌, ◌&&◌, ◌||◌, not, if◌then◌else◌, List, [], length}
+use Rattle.std.proofs.Common.{take, Option, Some, None, is_none, refl, subst, arith, eqb-true}
 use Rattle.std.specs.Prelude.{nat_lt, nat_le, is_some}
 use Rattle.std.proofs.lemmas.List.{length-drop}
 use Rattle.ev_types.specs.declared.side.SideId.{SideId}
@@ -11,7 +12,8 @@ use Rattle.relay_model.specs.Flow.{Flow, middle, input, output, raw_output}
 use Rattle.relay_model.specs.Conserved.{Accounted, StandsStill, all_moved}
 use Rattle.relay_model.specs.Pass.{read_stops, with_used, with_read_done, with_moved, with_held, write_stops, with_turned, with_write_done}
 use Rattle.filter_model.specs.Stopping.{first_from, is_over}
-use Rattle.relay_model.proofs.ConservedSteps.{accounted-used, accounted-read_done, accounted-moved, accounted-turned, accounted-write_done, accounted-held}
+use Rattle.relay_model.proofs.ConservedSteps.{accounted-used, accounted-read_done, accounted-moved, accounted-turned, accounted-write_done}
+use Rattle.relay_model.proofs.ConservedSteps.{accounted-held}
 
 -- a search from n on stops between n and its end
 pub first_from-above : (stop : ℕ → Bool) (n left : ℕ) → n ≤ first_from stop n left

@@ -1,5 +1,6 @@
 -- What passing leaves. Each part of a round sets one count or one flag, so where a round changes nothing no part does.
-use Rattle.std.proofs.Common.{◌≡◌, ℕ, zero, suc, ◌+◌, ◌-◌, ◌/◌, ◌<◌, ◌≤◌, Bool, true, false, ◌==◌, ◌&&◌, ◌||◌, not, if◌then◌else◌, ◌⊎◌, inl, inr, List, [], length, take, None, refl, sym, ◌∙◌, ap, arith, eq-eqb}
+use Rattle.std.proofs.Common.{◌≡◌, ℕ, zero, suc, ◌+◌, ◌-◌, ◌/◌, ◌<◌, ◌≤◌, Bool, true, false, ◌==◌, ◌&&◌, ◌||◌, not, if◌then◌else◌, ◌⊎◌, inl}
+use Rattle.std.proofs.Common.{inr, List, [], length, take, None, refl, sym, ◌∙◌, ap, arith, eq-eqb}
 use Rattle.std.specs.Prelude.{nat_lt, nat_le, is_some}
 use Rattle.std.proofs.lemmas.Bool.{leb-true, leb-false, lt-ltb, ltb-true, ltb-false}
 use Rattle.std.proofs.lemmas.List.{take-take, length-take-le}
@@ -7,7 +8,8 @@ use Rattle.std.proofs.Math.ListN.{drop_of_length-le}
 use Rattle.filter_model.specs.Filter.{Filter, met}
 use Rattle.relay_model.specs.Flow.{Flow, middle, raw_input, input, output, raw_output, Fits}
 use Rattle.relay_model.specs.Conserved.{all_moved}
-use Rattle.relay_model.specs.Pass.{read_stops, with_used, with_read_done, with_moved, with_held, write_stops, with_turned, with_write_done, read_place, write_place}
+use Rattle.relay_model.specs.Pass.{read_stops, with_used, with_read_done, with_moved, with_held, write_stops, with_turned, with_write_done}
+use Rattle.relay_model.specs.Pass.{read_place, write_place}
 use Rattle.filter_model.specs.Stopping.{first_from}
 use Rattle.relay_model.specs.PassLaws.{whole_round}
 use Rattle.relay_model.proofs.PassKeeps.{first_from-above}

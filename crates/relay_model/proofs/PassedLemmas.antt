@@ -1,5 +1,6 @@
 -- What passing leaves stays until the turn is over, by induction over the steps.
-use Rattle.std.proofs.Common.{◌≡◌, ℕ, zero, suc, ◌+◌, ◌*◌, ◌<◌, ◌≤◌, Bool, true, false, ◌==◌, if◌then◌else◌, List, [], ◌∷◌, ◌++◌, length, fold, Option, Some, None, ◌⊎◌, inl, inr, refl, sym, ◌∙◌, ap, subst, arith, append-nil}
+use Rattle.std.proofs.Common.{◌≡◌, ℕ, zero, suc, ◌+◌, ◌*◌, ◌<◌, ◌≤◌, Bool, true, false, ◌==◌, if◌then◌else◌, List, [], ◌∷◌, ◌++◌, length}
+use Rattle.std.proofs.Common.{fold, Option, Some, None, ◌⊎◌, inl, inr, refl, sym, ◌∙◌, ap, subst, arith, append-nil}
 use Rattle.std.specs.Prelude.{⊤, option_map}
 use Rattle.std.specs.List.{list_any}
 use Rattle.std.proofs.lemmas.Bool.{or_parts, or_from, or_left, or_right, cases_order}
@@ -29,7 +30,8 @@ use Rattle.relay_model.specs.Passed.{DirectionPassed, AllIsPassed}
 use Rattle.relay_model.specs.Round.{Part, parts_of, do_part, meets, read_run, write_run, round}
 use Rattle.relay_model.specs.Serve.{after_read}
 use Rattle.relay_model.specs.Close.{CloseStep, closed_by, steps_left, fault}
-use Rattle.relay_model.specs.Stages.{Stage, State, at, Between, Wanting, Marking, Accepting, Serving, Filtering, Dispatching, Firing, Passing, Closing, Over, Halt}
+use Rattle.relay_model.specs.Stages.{Stage, State, at, Between, Wanting, Marking, Accepting, Serving, Filtering, Dispatching, Firing}
+use Rattle.relay_model.specs.Stages.{Passing, Closing, Over, Halt}
 use Rattle.relay_model.specs.Turn.{Quietly, Reaches, after_reading}
 use Rattle.relay_model.proofs.EndLemmas.{same_end-eq, same_end-refl, number-apart}
 use Rattle.relay_model.proofs.KeepsLemmas.{Keeps-side, change_side-same}

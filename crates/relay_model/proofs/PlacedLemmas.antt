@@ -1,5 +1,6 @@
 -- What the stage of a turn names is there: links that were opened, and live sides where they must be.
-use Rattle.std.proofs.Common.{◌≡◌, ℕ, zero, suc, ◌+◌, ◌-◌, ◌*◌, ◌<◌, ◌≤◌, min, Bool, true, false, ◌&&◌, ◌||◌, not, if◌then◌else◌, List, [], ◌∷◌, length, ◌⊎◌, inl, inr, refl, ap, arith, map}
+use Rattle.std.proofs.Common.{◌≡◌, ℕ, zero, suc, ◌+◌, ◌-◌, ◌*◌, ◌<◌, ◌≤◌, min, Bool, true, false, ◌&&◌, ◌||◌, not, if◌then◌else◌, List, []}
+use Rattle.std.proofs.Common.{◌∷◌, length, ◌⊎◌, inl, inr, refl, ap, arith, map}
 use Rattle.std.specs.Prelude.{⊤, nat_le, filter}
 use Rattle.std.specs.List.{AllByRecursion}
 use Rattle.std.proofs.lemmas.Bool.{and_parts, or_cases, cases_lt}
@@ -11,7 +12,8 @@ use Rattle.ev_types.specs.Sides.{number, peer}
 use Rattle.relay_model.specs.Settings.{Settings}
 use Rattle.relay_model.specs.Plain.{Plain, no_side, side_at, is_live, all_sides}
 use Rattle.relay_model.specs.Past.{Past}
-use Rattle.relay_model.specs.Rooms.{Want, want_of, wanted, wants, may_read, may_write, read_room, write_room, is_connecting, within_rates, read_mark, input_length, raw_output_at, most_at_once}
+use Rattle.relay_model.specs.Rooms.{Want, want_of, wanted, wants, may_read, may_write, read_room, write_room, is_connecting, within_rates}
+use Rattle.relay_model.specs.Rooms.{read_mark, input_length, raw_output_at, most_at_once}
 use Rattle.relay_model.specs.Close.{CloseStep, closing_from}
 use Rattle.relay_model.specs.Stages.{Stage, Wanting, Marking, Firing, Freeing, Closing}
 use Rattle.relay_model.proofs.EndLemmas.{number-ge}

@@ -1,5 +1,6 @@
 -- A turn's poll fails exactly where the script says so, and nothing follows it: by induction over the steps of a run.
-use Rattle.std.proofs.Common.{◌≡◌, ℕ, ◌+◌, ◌-◌, Bool, true, false, ◌||◌, if◌then◌else◌, List, [], ◌∷◌, ◌++◌, take, drop, fold, count_by, refl, sym, ◌∙◌, ap, subst, arith, append_assoc, Option, inl, inr}
+use Rattle.std.proofs.Common.{◌≡◌, ℕ, ◌+◌, ◌-◌, Bool, true, false, ◌||◌, if◌then◌else◌, List, [], ◌∷◌, ◌++◌, take, drop, fold, count_by}
+use Rattle.std.proofs.Common.{refl, sym, ◌∙◌, ap, subst, arith, append_assoc, Option, inl, inr}
 use Rattle.std.specs.Prelude.{⊤}
 use Rattle.std.specs.List.{flat_map, list_any}
 use Rattle.std.proofs.lemmas.Bool.{or_parts, or_from}
@@ -20,7 +21,8 @@ use Rattle.relay_model.specs.Past.{Past, past}
 use Rattle.relay_model.specs.Rooms.{Want}
 use Rattle.relay_model.specs.RatesKept.{is_turn}
 use Rattle.relay_model.specs.Close.{CloseStep}
-use Rattle.relay_model.specs.Stages.{Stage, Halt, State, at, Polling, Wanting, Marking, Accepting, Serving, Filtering, Dispatching, Firing, Passing, Closing, Over}
+use Rattle.relay_model.specs.Stages.{Stage, Halt, State, at, Polling, Wanting, Marking, Accepting, Serving, Filtering, Dispatching, Firing}
+use Rattle.relay_model.specs.Stages.{Passing, Closing, Over}
 use Rattle.relay_model.specs.Turn.{after_reading, Quietly, Reaches, IsLegal}
 use Rattle.relay_model.specs.Answers.{TurnAnswer, LeftAt}
 use Rattle.relay_model.specs.Lines.{fails_poll}

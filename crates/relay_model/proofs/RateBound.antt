@@ -1,5 +1,6 @@
 -- Sides keep to their limits in every legal trace.
-use Rattle.std.proofs.Common.{◌≡◌, ◌≢◌, inl, inr, ℕ, ◌+◌, ◌-◌, ◌*◌, ◌/◌, ◌<◌, ◌≤◌, Bool, true, false, cond, List, [], ◌∷◌, ◌++◌, Option, Some, None, count_by, refl, sym, ◌∙◌, ap, subst, arith}
+use Rattle.std.proofs.Common.{◌≡◌, ◌≢◌, inl, inr, ℕ, ◌+◌, ◌-◌, ◌*◌, ◌/◌, ◌<◌, ◌≤◌, Bool, true, false, cond, List, [], ◌∷◌, ◌++◌, Option}
+use Rattle.std.proofs.Common.{Some, None, count_by, refl, sym, ◌∙◌, ap, subst, arith}
 use Rattle.std.proofs.Math.Nat.{div-mul-le_self, mul-le-mul_left}
 use Rattle.std.proofs.lemmas.Nat.{le-div}
 use Rattle.std.proofs.lemmas.Bool.Decides.{eqb_tells}
@@ -26,7 +27,8 @@ use Rattle.relay_model.proofs.Shapes.{one_where, one_where-not}
 use Rattle.relay_model.proofs.ReachLemmas.{reaches-holds, last_time-push, count-push}
 use Rattle.relay_model.proofs.RatesTold.{cfg_of, IsBegun, sets_limit}
 use Rattle.relay_model.proofs.RatesLaw.{Rated, rated-goes, rated-puts, rated, rates-puts}
-use Rattle.relay_model.proofs.RateSteps.{puts-within, puts-later, sets-none, was_asked, asked_by, is_late, late-quietly, late-puts, late-moves_none}
+use Rattle.relay_model.proofs.RateSteps.{puts-within, puts-later, sets-none, was_asked, asked_by, is_late, late-quietly, late-puts}
+use Rattle.relay_model.proofs.RateSteps.{late-moves_none}
 
 abbrev pub turn_at : ℕ → Event
 turn_at ms = (entry.Turn ms, [])

@@ -1,5 +1,6 @@
 -- The trace tells the limit and the group of each side.
-use Rattle.std.proofs.Common.{◌≡◌, inl, inr, ℕ, ◌+◌, ◌*◌, ◌≤◌, Bool, true, false, if◌then◌else◌, List, [], ◌∷◌, ◌++◌, length, Option, Some, None, option_map, refl, sym, ◌∙◌, ap, subst, arith}
+use Rattle.std.proofs.Common.{◌≡◌, inl, inr, ℕ, ◌+◌, ◌*◌, ◌≤◌, Bool, true, false, if◌then◌else◌, List, [], ◌∷◌, ◌++◌, length, Option, Some}
+use Rattle.std.proofs.Common.{None, option_map, refl, sym, ◌∙◌, ap, subst, arith}
 use Rattle.std.specs.Prelude.{⊤}
 use Rattle.ev_types.specs.declared.side.Side.TheVariants.{In, Out}
 use Rattle.ev_types.specs.declared.side.SideId.{SideId}
@@ -31,7 +32,8 @@ use Rattle.relay_model.proofs.QuietSteps.{kept-quietly}
 use Rattle.relay_model.proofs.Frames.{frame-same, frame-change, frame-time_passed, frame-conn, frame-read, frame-write}
 use Rattle.relay_model.proofs.Shapes.{shape-puts}
 use Rattle.relay_model.proofs.ReachLemmas.{reaches-holds, shape-begins, shape-goes, shape-put}
-use Rattle.relay_model.proofs.RatesTold.{cfg_of, refusal-not_ok, IsBegun, RatesBy, IsNeutral, rates-neutral, freed-group, rates-freed, rates-opened, rates-answered, limit_after-push, group_after-push}
+use Rattle.relay_model.proofs.RatesTold.{cfg_of, refusal-not_ok, IsBegun, RatesBy, IsNeutral, rates-neutral, freed-group, rates-freed}
+use Rattle.relay_model.proofs.RatesTold.{rates-opened, rates-answered, limit_after-push, group_after-push}
 
 -- where a free is to be recorded, the freed side is in no group
 abbrev pub StageFits : Stage → Plain → Type 0

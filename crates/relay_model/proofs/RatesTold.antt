@@ -1,5 +1,6 @@
 -- The limit and the group of each side, step by step, against what the trace tells.
-use Rattle.std.proofs.Common.{◌≡◌, ◌≢◌, inl, inr, ℕ, ◌+◌, ◌-◌, ◌*◌, ◌≤◌, Bool, true, false, not, if◌then◌else◌, List, [], ◌∷◌, ◌++◌, length, Option, Some, None, option_map, refl, sym, ◌∙◌, ap, subst, arith}
+use Rattle.std.proofs.Common.{◌≡◌, ◌≢◌, inl, inr, ℕ, ◌+◌, ◌-◌, ◌*◌, ◌≤◌, Bool, true, false, not, if◌then◌else◌, List, [], ◌∷◌, ◌++◌, length}
+use Rattle.std.proofs.Common.{Option, Some, None, option_map, refl, sym, ◌∙◌, ap, subst, arith}
 use Rattle.std.specs.Prelude.{nat_eq, nat_lt, slice_index_or, ⊤}
 use Rattle.std.proofs.lemmas.Bool.{ltb-true, ltb-false}
 use Rattle.std.proofs.lemmas.Bool.Decides.{eqb_tells}
@@ -18,12 +19,14 @@ use Rattle.ev_types.specs.Sides.{number, same_end}
 use Rattle.ev_types.specs.Trace.{Event, Trace}
 use Rattle.relay_model.specs.Settings.{Settings, rate_set, group_set}
 use Rattle.relay_model.specs.Due.{without_due}
-use Rattle.relay_model.specs.Plain.{Plain, PlainSide, Standing, first_limit, no_side, with_link, side_at, is_live, change_side, freed, without_timer}
+use Rattle.relay_model.specs.Plain.{Plain, PlainSide, Standing, first_limit, no_side, with_link, side_at, is_live, change_side, freed}
+use Rattle.relay_model.specs.Plain.{without_timer}
 use Rattle.relay_model.specs.Groups.{group_by, group_after}
 use Rattle.relay_model.specs.Past.{Past}
 use Rattle.relay_model.specs.Asks.{Answered, refusal, names_no_live, limit_set, enabled, marked, done}
 use Rattle.relay_model.specs.RatesKept.{limit_by, limit_after, is_rate_ask}
-use Rattle.relay_model.proofs.PlainLemmas.{seen-change, side_at-change, side_at-same, side_at-other, side_at-new, side_at-old, live-within, same_end-number}
+use Rattle.relay_model.proofs.PlainLemmas.{seen-change, side_at-change, side_at-same, side_at-other, side_at-new, side_at-old, live-within}
+use Rattle.relay_model.proofs.PlainLemmas.{same_end-number}
 use Rattle.relay_model.proofs.Frames.{SameFrame, rates_of, frame-same, frame-change, frame-waiting, frame-raise_read, frame-raise_write}
 
 pub limit_after-push : (g : Settings) (e : SideId) (t : Trace) (x : Event) → limit_after g e (t ++ x ∷ []) ≡ limit_by g e

@@ -17,7 +17,8 @@ use Rattle.relay_model.specs.Asks.{done, enabled}
 use Rattle.relay_model.specs.Moments.{timeout_of, last_activity, active_at, both_ways, timers_taken, timed, side_timed, time_passed}
 use Rattle.relay_model.specs.Round.{Part, meets, read_run, write_run, do_part}
 use Rattle.relay_model.specs.Serve.{after_got}
-use Rattle.relay_model.proofs.KeepsLemmas.{Keeps, raised_read, raised_write, Keeps-refl, Keeps-trans, Keeps-timers, Keeps-raise, Keeps-raise_read, Keeps-raise_write, Keeps-put, Keeps-flow, Keeps-fold}
+use Rattle.relay_model.proofs.KeepsLemmas.{Keeps, raised_read, raised_write, Keeps-refl, Keeps-trans, Keeps-timers, Keeps-raise}
+use Rattle.relay_model.proofs.KeepsLemmas.{Keeps-raise_read, Keeps-raise_write, Keeps-put, Keeps-flow, Keeps-fold}
 
 pub record Seen : Type 0 where
   pub live : Bool

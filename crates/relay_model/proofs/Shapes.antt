@@ -15,7 +15,8 @@ use Rattle.relay_model.specs.Turn.{Puts, turned_to}
 use Rattle.relay_model.specs.RatesKept.{is_turn, time_by}
 use Rattle.relay_model.specs.Totals.{is_opened}
 use Rattle.relay_model.proofs.ClosingEntries.{closing-closes, closes-still, closes-opens_none, still-no_turn, still-no_time}
-use Rattle.relay_model.proofs.Frames.{SameShape, shape-same, shape-answered, shape-closed, frame-time_passed, frame-conn, frame-read, frame-write}
+use Rattle.relay_model.proofs.Frames.{SameShape, shape-same, shape-answered, shape-closed, frame-time_passed, frame-conn, frame-read}
+use Rattle.relay_model.proofs.Frames.{frame-write}
 
 -- one more where the test holds
 abbrev pub one_where : Bool → ℕ

@@ -1,5 +1,6 @@
 -- Spells of a trace that is cut before a turn, and the terms of a bucket's level.
-use Rattle.std.proofs.Common.{◌≡◌, ℕ, ◌+◌, ◌-◌, ◌*◌, ◌≤◌, min, List, [], ◌∷◌, ◌++◌, length, map, drop, sum_by, count_by, refl, sym, ◌∙◌, ap, subst, cond, arith}
+use Rattle.std.proofs.Common.{◌≡◌, ℕ, ◌+◌, ◌-◌, ◌*◌, ◌≤◌, min, List, [], ◌∷◌, ◌++◌, length, map, drop, sum_by, count_by, refl, sym, ◌∙◌, ap}
+use Rattle.std.proofs.Common.{subst, cond, arith}
 use Rattle.std.proofs.lemmas.List.{map-append, drop-append-le}
 use Rattle.std.proofs.lemmas.List.Sums.{sum_by-cons}
 use Rattle.token_bucket.specs.declared.limit.Dir.{Dir}

@@ -1,5 +1,6 @@
 -- Silent steps leave all but bad places, and what each next stage names is there.
-use Rattle.std.proofs.Common.{◌≡◌, ℕ, ◌+◌, ◌*◌, ◌<◌, Bool, true, false, if◌then◌else◌, List, [], ◌∷◌, length, None, ◌⊎◌, inl, inr, refl, sym, ap, subst, arith}
+use Rattle.std.proofs.Common.{◌≡◌, ℕ, ◌+◌, ◌*◌, ◌<◌, Bool, true, false, if◌then◌else◌, List, [], ◌∷◌, length, None, ◌⊎◌, inl, inr, refl}
+use Rattle.std.proofs.Common.{sym, ap, subst, arith}
 use Rattle.ev_types.specs.declared.side.SideId.{SideId}
 use Rattle.ev_types.specs.declared.act.Act.{Act}
 use Rattle.ev_types.specs.declared.act.Act.TheVariants as act
@@ -17,7 +18,8 @@ use Rattle.relay_model.specs.Past.{Past, past}
 use Rattle.relay_model.specs.Rooms.{Want}
 use Rattle.relay_model.specs.Asks.{Ask}
 use Rattle.relay_model.specs.Close.{CloseStep, closed_by, steps_left}
-use Rattle.relay_model.specs.Stages.{Stage, Fire, State, Between, Polling, Wanting, Marking, Accepting, Serving, Filtering, Dispatching, Firing, Freeing, Passing, Closing, Over, Halt, after_ask}
+use Rattle.relay_model.specs.Stages.{Stage, Fire, State, Between, Polling, Wanting, Marking, Accepting, Serving, Filtering, Dispatching}
+use Rattle.relay_model.specs.Stages.{Firing, Freeing, Passing, Closing, Over, Halt, after_ask}
 use Rattle.relay_model.specs.Turn.{after_reading, Puts, Quietly}
 use Rattle.relay_model.specs.Told.{is_freeing}
 use Rattle.relay_model.proofs.KeepsLemmas.{Keeps, Keeps-refl, Keeps-due, change_side-same}

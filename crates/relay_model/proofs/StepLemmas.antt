@@ -1,5 +1,6 @@
 -- Each step of a turn: what it leaves or changes of what closing looks at, and what the next stage names.
-use Rattle.std.proofs.Common.{◌≡◌, ℕ, ◌*◌, ◌<◌, Bool, true, false, ◌&&◌, if◌then◌else◌, List, [], ◌∷◌, ◌++◌, length, refl, sym, ◌∙◌, ap, subst, arith}
+use Rattle.std.proofs.Common.{◌≡◌, ℕ, ◌*◌, ◌<◌, Bool, true, false, ◌&&◌, if◌then◌else◌, List, [], ◌∷◌, ◌++◌, length, refl, sym, ◌∙◌, ap}
+use Rattle.std.proofs.Common.{subst, arith}
 use Rattle.std.specs.Prelude.{nat_le}
 use Rattle.ev_types.specs.declared.side.SideId.{SideId}
 use Rattle.ev_types.specs.declared.answer.ReadAnswer.{ReadAnswer}
@@ -13,7 +14,8 @@ use Rattle.relay_model.specs.Plain.{Plain, is_live}
 use Rattle.relay_model.specs.Past.{Past, past}
 use Rattle.relay_model.specs.Rooms.{Want, is_connecting, may_read, may_write, read_room, write_room}
 use Rattle.relay_model.specs.Serve.{Call, call_for}
-use Rattle.relay_model.specs.Stages.{Stage, State, Between, Polling, Wanting, Marking, Accepting, Serving, Dispatching, Firing, Freeing, Closing}
+use Rattle.relay_model.specs.Stages.{Stage, State, Between, Polling, Wanting, Marking, Accepting, Serving, Dispatching, Firing, Freeing}
+use Rattle.relay_model.specs.Stages.{Closing}
 use Rattle.relay_model.specs.Turn.{after_reading, Puts}
 use Rattle.relay_model.specs.Told.{names, is_freeing}
 use Rattle.relay_model.proofs.KeepsLemmas.{Keeps-refl}

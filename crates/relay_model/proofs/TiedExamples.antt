@@ -2,7 +2,9 @@
 use Rattle.std.proofs.Common.{◌≡◌, ◌⊎◌, ℕ, ◌≤◌, ◌-◌, ◌^◌, true, false, [], ◌∷◌, Some, None, count_by, sum_by, inl, inr, refl, arith}
 use Rattle.ev_types.specs.declared.entry.Entry.TheVariants as entry
 use Rattle.relay_model.specs.Settings.{Settings, usual}
-use Rattle.relay_model.specs.Totals.{is_read_of, is_write_of, is_check_of, room_by, offered_by, wants_read_by, wants_write_by, marks_read_by, marks_write_by, is_made_connected, is_connected, is_closed, opened, opened_in_turn, times, last_timeout, polls_that_accept}
+use Rattle.relay_model.specs.Totals.{is_read_of, is_write_of, is_check_of, room_by, offered_by, wants_read_by, wants_write_by}
+use Rattle.relay_model.specs.Totals.{marks_read_by, marks_write_by, is_made_connected, is_connected, is_closed, opened, opened_in_turn}
+use Rattle.relay_model.specs.Totals.{times, last_timeout, polls_that_accept}
 use Rattle.ev_types.specs.Told.{Counts, PortTold}
 use Rattle.relay_model.specs.Tied.{TellsReading, ClosedAfterTurn}
 use Rattle.relay_model.proofs.PlayedExamples.{i, o, both_trace, failed_trace}

@@ -1,5 +1,6 @@
 -- What an end tells over two traces in a row.
-use Rattle.std.proofs.Common.{◌≡◌, ℕ, ◌+◌, ◌-◌, ◌^◌, ◌<◌, Bool, true, false, ◌||◌, List, [], ◌∷◌, ◌++◌, Option, Some, None, refl, sym, ◌∙◌, ap, subst, append_assoc, arith, cond, count_by}
+use Rattle.std.proofs.Common.{◌≡◌, ℕ, ◌+◌, ◌-◌, ◌^◌, ◌<◌, Bool, true, false, ◌||◌, List, [], ◌∷◌, ◌++◌, Option, Some, None, refl, sym, ◌∙◌}
+use Rattle.std.proofs.Common.{ap, subst, append_assoc, arith, cond, count_by}
 use Rattle.std.specs.Prelude.{⊤, MatchOption, ◌&&◌, nat_lt, if◌then◌else◌, max, min, unwrap_or}
 use Rattle.std.proofs.lemmas.List.{append-nil}
 use Rattle.std.proofs.lemmas.Grind.{flat_map-append}
@@ -9,7 +10,9 @@ use Rattle.std.specs.List.{flat_map, list_any, sum_by, last_or}
 use Rattle.ev_types.specs.declared.side.SideId.{SideId}
 use Rattle.ev_types.specs.Trace.{Event, Trace}
 use Rattle.relay_model.specs.Trace.{read_by, given_by, ended_by, write_closed_by}
-use Rattle.relay_model.specs.Totals.{is_read_of, is_write_of, is_check_of, room_by, offered_by, wants_read_by, wants_write_by, marks_read_by, marks_write_by, made_connected_by, connected_by, closed_by, last_timeout, polls_that_accept, opened, is_opened, is_poll}
+use Rattle.relay_model.specs.Totals.{is_read_of, is_write_of, is_check_of, room_by, offered_by, wants_read_by, wants_write_by}
+use Rattle.relay_model.specs.Totals.{marks_read_by, marks_write_by, made_connected_by, connected_by, closed_by, last_timeout}
+use Rattle.relay_model.specs.Totals.{polls_that_accept, opened, is_opened, is_poll}
 use Rattle.ev_types.specs.Times.{latest}
 use Rattle.ev_types.specs.Told.{Adds, Raises, Counts, EndTold}
 use Rattle.relay_model.specs.Tied.{TellsReading, LastFollows, EndTied, EndTiesJoin, NothingIsTied}

@@ -1,5 +1,6 @@
 -- Which sides expire as a turn begins: those that are wanted and were not active for as long as their timeout then.
-use Rattle.std.proofs.Common.{◌≡◌, ℕ, ◌+◌, ◌-◌, ◌<◌, ◌≤◌, min, Bool, true, false, ◌&&◌, ◌||◌, not, if◌then◌else◌, List, [], ◌∷◌, Option, Some, None, ◌⊎◌, inl, inr, refl, sym, ◌∙◌, ap, subst, arith, length, map, fold, count_by}
+use Rattle.std.proofs.Common.{◌≡◌, ℕ, ◌+◌, ◌-◌, ◌<◌, ◌≤◌, min, Bool, true, false, ◌&&◌, ◌||◌, not, if◌then◌else◌, List, [], ◌∷◌, Option}
+use Rattle.std.proofs.Common.{Some, None, ◌⊎◌, inl, inr, refl, sym, ◌∙◌, ap, subst, arith, length, map, fold, count_by}
 use Rattle.std.specs.Prelude.{nat_le, nat_lt, filter, slice_index_or, option_map, slice_get}
 use Rattle.std.proofs.lemmas.Bool.{and_parts, or_right, leb-true, not-false, cases_lt}
 use Rattle.std.proofs.lemmas.List.{get_or-set_same, set_past}
@@ -18,7 +19,8 @@ use Rattle.relay_model.specs.Plain.{Plain, PlainSide, no_side, Standing, Timer, 
 use Rattle.relay_model.specs.Rates.{standing_level}
 use Rattle.relay_model.specs.Groups.{same_group, members, share_among}
 use Rattle.relay_model.specs.Past.{Past}
-use Rattle.relay_model.specs.Rooms.{most_at_once, mark_or, read_mark, input_length, raw_output_at, allowance, share_in, at_most, within_rates, may_read, may_write, is_connecting, wants}
+use Rattle.relay_model.specs.Rooms.{most_at_once, mark_or, read_mark, input_length, raw_output_at, allowance, share_in, at_most}
+use Rattle.relay_model.specs.Rooms.{within_rates, may_read, may_write, is_connecting, wants}
 use Rattle.relay_model.specs.Reasons.{raise, happened, timeout_flag}
 use Rattle.relay_model.specs.Asks.{enabled}
 use Rattle.relay_model.specs.Moments.{timeout_of, last_activity, active_at, both_ways, timers_taken, timed, side_timed, time_passed}

@@ -1,5 +1,6 @@
 -- What the free of a side tells stays so, by induction over the steps.
-use Rattle.std.proofs.Common.{◌≡◌, ℕ, zero, suc, ◌+◌, Bool, true, false, ◌||◌, if◌then◌else◌, List, [], ◌∷◌, ◌++◌, refl, sym, ◌∙◌, ap, subst, slice_index_or, ◌&&◌, ◌==◌, length, ◌⊎◌, inl, inr, arith, ◌-◌, not}
+use Rattle.std.proofs.Common.{◌≡◌, ℕ, zero, suc, ◌+◌, Bool, true, false, ◌||◌, if◌then◌else◌, List, [], ◌∷◌, ◌++◌, refl, sym, ◌∙◌, ap}
+use Rattle.std.proofs.Common.{subst, slice_index_or, ◌&&◌, ◌==◌, length, ◌⊎◌, inl, inr, arith, ◌-◌, not}
 use Rattle.std.proofs.lemmas.Bool.{or_parts, or_from}
 use Rattle.ev_types.specs.declared.side.SideId.{SideId}
 use Rattle.ev_types.specs.declared.answer.ReadAnswer.{ReadAnswer}
@@ -16,7 +17,8 @@ use Rattle.relay_model.specs.Past.{Past, past}
 use Rattle.relay_model.specs.Rooms.{read_filter, write_filter, read_mark, hold_mark, Want}
 use Rattle.relay_model.specs.Serve.{after_write, after_got}
 use Rattle.relay_model.specs.Close.{CloseStep}
-use Rattle.relay_model.specs.Stages.{Stage, State, Wanting, Marking, Accepting, Serving, Filtering, Dispatching, Firing, Passing, Closing, Over, Halt}
+use Rattle.relay_model.specs.Stages.{Stage, State, Wanting, Marking, Accepting, Serving, Filtering, Dispatching, Firing, Passing, Closing}
+use Rattle.relay_model.specs.Stages.{Over, Halt}
 use Rattle.relay_model.specs.Turn.{Quietly, turned_to, Reaches, after_reading}
 use Rattle.relay_model.proofs.EndLemmas.{same_end-eq, number-apart, peer-peer, same_end-refl}
 use Rattle.relay_model.proofs.KeepsLemmas.{Keeps-side, raised, raised_write, raised_read}

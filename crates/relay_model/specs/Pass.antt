@@ -1,7 +1,8 @@
 -- The parts of a round of passing, on the counts of one direction. Its read filter is r and its write filter w; read is
 -- all that was read where it begins. A part looks at how much the four buffers hold, and never at a byte but to know a
 -- bad one.
-use Rattle.std.specs.Prelude.{ℕ, zero, suc, ◌+◌, ◌-◌, ◌/◌, Bool, true, false, ◌==◌, ◌&&◌, ◌||◌, not, nat_lt, nat_le, if◌then◌else◌, List, length, take, Option, None, is_some, is_none}
+use Rattle.std.specs.Prelude.{ℕ, zero, suc, ◌+◌, ◌-◌, ◌/◌, Bool, true, false, ◌==◌, ◌&&◌, ◌||◌, not, nat_lt, nat_le, if◌then◌else◌, List}
+use Rattle.std.specs.Prelude.{length, take, Option, None, is_some, is_none}
 use Rattle.filter_model.specs.Filter.{Filter, met}
 use Rattle.filter_model.specs.Stopping.{first_from, is_over}
 use Rattle.relay_model.specs.Flow.{Flow, middle, input, output, raw_output}

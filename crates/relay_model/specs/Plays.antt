@@ -1,6 +1,7 @@
 -- Which traces a run over a script has. A run is a list of steps: calls on a port, and what the relay does by itself. What
 -- the script answers to the steps is a trace; that the relay calls for these steps is said by Turn.
-use Rattle.std.specs.Prelude.{◌≡◌, ◌⊎◌, ℕ, ◌+◌, ◌<◌, ◌≤◌, ⊤, Bool, true, false, ◌&&◌, not, if◌then◌else◌, List, [], ◌∷◌, ◌++◌, length, map, fold, Option, MatchBool}
+use Rattle.std.specs.Prelude.{◌≡◌, ◌⊎◌, ℕ, ◌+◌, ◌<◌, ◌≤◌, ⊤, Bool, true, false, ◌&&◌, not, if◌then◌else◌, List, [], ◌∷◌, ◌++◌, length, map}
+use Rattle.std.specs.Prelude.{fold, Option, MatchBool}
 use Rattle.std.specs.List.{flat_map, list_any, list_all}
 use Rattle.ev_types.specs.declared.side.SideId.{SideId}
 use Rattle.ev_types.specs.declared.entry.Entry.{Entry}

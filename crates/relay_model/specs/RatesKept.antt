@@ -1,6 +1,7 @@
 -- What limits promise: from the start of any turn to any place of any later turn, no more is moved than one burst and
 -- what comes in the ticks between. Stated on the trace alone.
-use Rattle.std.specs.Prelude.{◌≡◌, ℕ, ◌+◌, ◌-◌, ◌*◌, ◌≤◌, Bool, true, false, ◌==◌, if◌then◌else◌, [], ◌∷◌, ◌++◌, fold, sum_by, count_by, Option, Some, None, slice_get}
+use Rattle.std.specs.Prelude.{◌≡◌, ℕ, ◌+◌, ◌-◌, ◌*◌, ◌≤◌, Bool, true, false, ◌==◌, if◌then◌else◌, [], ◌∷◌, ◌++◌, fold, sum_by, count_by}
+use Rattle.std.specs.Prelude.{Option, Some, None, slice_get}
 use Rattle.token_bucket.specs.declared.limit.Dir.{Dir}
 use Rattle.token_bucket.specs.declared.limit.LimitCfg.{LimitCfg}
 use Rattle.ev_types.specs.declared.side.SideId.{SideId}

@@ -1,6 +1,7 @@
 -- What a port answers by a script, over two lists: the lines of the turns so far, and the trace so far. Behind the turns of
 -- the script come closing turns, in which every end takes everything and is connected.
-use Rattle.std.specs.Prelude.{ℕ, ◌+◌, ◌-◌, ◌*◌, min, Bool, true, false, ◌&&◌, ◌||◌, not, nat_lt, nat_le, if◌then◌else◌, List, [], ◌∷◌, length, take, drop, map, filter, sum_by, count_by, Option, Some, None, is_some, unwrap_or, slice_index_or}
+use Rattle.std.specs.Prelude.{ℕ, ◌+◌, ◌-◌, ◌*◌, min, Bool, true, false, ◌&&◌, ◌||◌, not, nat_lt, nat_le, if◌then◌else◌, List, [], ◌∷◌}
+use Rattle.std.specs.Prelude.{length, take, drop, map, filter, sum_by, count_by, Option, Some, None, is_some, unwrap_or, slice_index_or}
 use Rattle.std.specs.List.{flat_map, list_any, last_or}
 use Rattle.ev_types.specs.declared.side.Side.{Side}
 use Rattle.ev_types.specs.declared.side.Side.TheVariants.{In, Out}

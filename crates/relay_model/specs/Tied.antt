@@ -1,6 +1,7 @@
 -- When a port is tied to a trace: what it tells now is what it told as the run began, and what the trace adds. Each meaning
 -- is told or not by itself; what was told as the run began is told still, but for a number that came to 2^64 - 1.
-use Rattle.std.specs.Prelude.{◌≡◌, ◌⊎◌, ℕ, ◌≤◌, min, max, ⊤, true, List, [], ◌∷◌, ◌++◌, length, count_by, sum_by, Option, Some, MatchOption, IsSome, IsSomeAnd}
+use Rattle.std.specs.Prelude.{◌≡◌, ◌⊎◌, ℕ, ◌≤◌, min, max, ⊤, true, List, [], ◌∷◌, ◌++◌, length, count_by, sum_by, Option, Some, MatchOption}
+use Rattle.std.specs.Prelude.{IsSome, IsSomeAnd}
 use Rattle.ev_types.specs.declared.side.SideId.{SideId}
 use Rattle.ev_types.specs.Trace.{Trace}
 use Rattle.relay_model.specs.Trace.{bytes_read, bytes_given, has_ended, is_write_closed}
@@ -8,7 +9,9 @@ use Rattle.relay_model.specs.Settings.{Settings}
 use Rattle.ev_types.specs.Times.{latest}
 use Rattle.ev_types.specs.Told.{EndTold, PortTold, Adds, Raises, Counts, Stays}
 use Rattle.relay_model.specs.Turn.{most_opened}
-use Rattle.relay_model.specs.Totals.{is_read_of, is_write_of, is_check_of, room_by, offered_by, wants_read_by, wants_write_by, marks_read_by, marks_write_by, is_made_connected, is_connected, is_closed, opened, opened_in_turn, times, last_timeout, polls_that_accept}
+use Rattle.relay_model.specs.Totals.{is_read_of, is_write_of, is_check_of, room_by, offered_by, wants_read_by, wants_write_by}
+use Rattle.relay_model.specs.Totals.{marks_read_by, marks_write_by, is_made_connected, is_connected, is_closed, opened, opened_in_turn}
+use Rattle.relay_model.specs.Totals.{times, last_timeout, polls_that_accept}
 
 -- The last reading
 

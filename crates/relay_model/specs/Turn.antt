@@ -19,7 +19,8 @@ use Rattle.relay_model.specs.Moments.{poll_timeout, time_passed}
 use Rattle.relay_model.specs.Round.{round_parts, do_part, round}
 use Rattle.relay_model.specs.Serve.{Call, call_for, marks_left, CarriesGot, CarriesTook, after_conn, after_read, after_got, after_write}
 use Rattle.relay_model.specs.Close.{closing_from, freed_entry, closing_entry, closed_by, steps_left}
-use Rattle.relay_model.specs.Stages.{Fire, Halt, Stage, Between, Polling, Wanting, Marking, Accepting, Serving, Filtering, Dispatching, Firing, Freeing, Passing, Closing, Over, State, at, start, begun, after_ask}
+use Rattle.relay_model.specs.Stages.{Fire, Halt, Stage, Between, Polling, Wanting, Marking, Accepting, Serving, Filtering, Dispatching}
+use Rattle.relay_model.specs.Stages.{Firing, Freeing, Passing, Closing, Over, State, at, start, begun, after_ask}
 
 -- the most links that are opened in one turn
 abbrev pub most_opened : ℕ

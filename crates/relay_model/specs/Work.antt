@@ -1,6 +1,7 @@
 -- How much is still to be done in a direction. No step makes it more but a read, and each event that moves on takes of it: so turns that
 -- move on are few.
-use Rattle.std.specs.Prelude.{◌≡◌, ℕ, ◌+◌, ◌*◌, ◌≤◌, Bool, true, false, ◌||◌, not, nat_lt, if◌then◌else◌, ⊤, List, [], ◌∷◌, ◌++◌, length, sum_by, count_by}
+use Rattle.std.specs.Prelude.{◌≡◌, ℕ, ◌+◌, ◌*◌, ◌≤◌, Bool, true, false, ◌||◌, not, nat_lt, if◌then◌else◌, ⊤, List, [], ◌∷◌, ◌++◌, length}
+use Rattle.std.specs.Prelude.{sum_by, count_by}
 use Rattle.std.specs.List.{flat_map, list_any, list_all}
 use Rattle.ev_types.specs.declared.side.SideId.{SideId}
 use Rattle.ev_types.specs.declared.answer.ReadAnswer.TheVariants as read

@@ -1,5 +1,6 @@
 // The laws that every legal trace obeys, each on a function whose contract it is.
-ghost use Rattle.relay_model.specs.Causes.{AskedFreesAreNext, ClosingFreesFaulty, FailedAreFreedSo, FaultsAreAnswered, FaultsAreFreed, FaultyAreFreed, FreesAreCalledFor, FreesHaveCauses, NothingIsLeft, PlacesAreFirst};
+ghost use Rattle.relay_model.specs.Causes.{AskedFreesAreNext, ClosingFreesFaulty, FailedAreFreedSo, FaultsAreAnswered, FaultsAreFreed};
+ghost use Rattle.relay_model.specs.Causes.{FaultyAreFreed, FreesAreCalledFor, FreesHaveCauses, NothingIsLeft, PlacesAreFirst};
 ghost use Rattle.relay_model.specs.Onward.{AllOnOneWay};
 ghost use Rattle.relay_model.specs.Quiet.{LegalIsQuiet};
 ghost use Rattle.relay_model.specs.Still.{FreedAreStill, FreedStandStill};

@@ -2,7 +2,9 @@
 use Rattle.std.specs.Prelude.{refl}
 use Rattle.relay_rows.specs.HookRows.{hook_in}
 use Rattle.relay_rows.specs.Laws.{Goes}
-use Rattle.relay_rows.specs.AskRows.{no_end_behind_a_free, hook_in_and_hex_out, end_and_fault_told, connected_and_written, two_timeouts_joined, low_mark_reached, writing_disabled_for_a_turn, asks_refused, triggered, limit_asked_for, hook_and_low_mark_in, hook_and_timeouts_out, two_hooks}
+use Rattle.relay_rows.specs.AskRows.{no_end_behind_a_free, hook_in_and_hex_out, end_and_fault_told, connected_and_written}
+use Rattle.relay_rows.specs.AskRows.{two_timeouts_joined, low_mark_reached, writing_disabled_for_a_turn, asks_refused, triggered}
+use Rattle.relay_rows.specs.AskRows.{limit_asked_for, hook_and_low_mark_in, hook_and_timeouts_out, two_hooks}
 use Rattle.relay_rows.proofs.AcceptLemmas.{rests-went}
 
 pub end_and_fault_told-goes : Goes two_hooks end_and_fault_told

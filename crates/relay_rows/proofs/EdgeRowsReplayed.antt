@@ -2,7 +2,10 @@
 use Rattle.std.specs.Prelude.{refl}
 use Rattle.relay_model.specs.Settings.{usual}
 use Rattle.relay_rows.specs.Laws.{Goes}
-use Rattle.relay_rows.specs.EdgeRows.{read_filter_stops_at_the_mark, hex_in_marked_at_six, bad_byte_while_held, hex_out_held_at_four, writing_is_activity, rest_given_after_a_free, both_end_at_once, ended_before_it_connects, nothing_was_ready, bad_byte_behind_the_mark, connects_too_late, failed_and_expired, hex_out_held_at_one, read_timeout_out, write_timeout_out}
+use Rattle.relay_rows.specs.EdgeRows.{read_filter_stops_at_the_mark, hex_in_marked_at_six, bad_byte_while_held, hex_out_held_at_four}
+use Rattle.relay_rows.specs.EdgeRows.{writing_is_activity, rest_given_after_a_free, both_end_at_once, ended_before_it_connects}
+use Rattle.relay_rows.specs.EdgeRows.{nothing_was_ready, bad_byte_behind_the_mark, connects_too_late, failed_and_expired}
+use Rattle.relay_rows.specs.EdgeRows.{hex_out_held_at_one, read_timeout_out, write_timeout_out}
 use Rattle.relay_rows.proofs.AcceptLemmas.{rests-went}
 
 pub rest_given_after_a_free-goes : Goes usual rest_given_after_a_free

@@ -1,7 +1,8 @@
 -- Each run with filters or marks is accepted.
 use Rattle.std.specs.Prelude.{refl}
 use Rattle.relay_rows.specs.Laws.{Goes}
-use Rattle.relay_rows.specs.FilterRows.{held_and_drained, line_end_in_two_reads, held_to_the_end, line_ends_added, line_end_kept, odd_digit, no_digit, held_back, read_mark_reached, crlf_out, five_at_once, held_at_four, hex_in, lf_in}
+use Rattle.relay_rows.specs.FilterRows.{held_and_drained, line_end_in_two_reads, held_to_the_end, line_ends_added, line_end_kept, odd_digit}
+use Rattle.relay_rows.specs.FilterRows.{no_digit, held_back, read_mark_reached, crlf_out, five_at_once, held_at_four, hex_in, lf_in}
 use Rattle.relay_rows.proofs.AcceptLemmas.{rests-went}
 
 pub line_end_in_two_reads-goes : Goes lf_in line_end_in_two_reads

@@ -1,7 +1,8 @@
 -- Each run with hooks or timeouts is accepted.
 use Rattle.std.specs.Prelude.{refl}
 use Rattle.relay_rows.specs.Laws.{Goes, IsStoppedBy}
-use Rattle.relay_rows.specs.HookRows.{reading_is_activity, held_byte_dropped, frees_another_link, frees_the_peer_twice, read_timeout, timer_fires, hook_stops, hook_and_lf_in, hook_in, three_hooks, timeout_in}
+use Rattle.relay_rows.specs.HookRows.{reading_is_activity, held_byte_dropped, frees_another_link, frees_the_peer_twice, read_timeout}
+use Rattle.relay_rows.specs.HookRows.{timer_fires, hook_stops, hook_and_lf_in, hook_in, three_hooks, timeout_in}
 use Rattle.relay_rows.proofs.AcceptLemmas.{rests-went, rests-stopped}
 
 pub held_byte_dropped-goes : Goes hook_and_lf_in held_byte_dropped

@@ -1,7 +1,8 @@
 -- Each run of marks and of what is enabled is accepted.
 use Rattle.std.specs.Prelude.{refl}
 use Rattle.relay_rows.specs.Laws.{Goes}
-use Rattle.relay_rows.specs.MarkRows.{marks_asked_for, write_low_mark_reached, timers_in_order, enabled_behind_the_end, reading_disabled, hook_and_low_mark_out, hook_at_in, hooks_of_two_links}
+use Rattle.relay_rows.specs.MarkRows.{marks_asked_for, write_low_mark_reached, timers_in_order, enabled_behind_the_end, reading_disabled}
+use Rattle.relay_rows.specs.MarkRows.{hook_and_low_mark_out, hook_at_in, hooks_of_two_links}
 use Rattle.relay_rows.proofs.AcceptLemmas.{rests-went}
 
 pub marks_asked_for-goes : Goes hook_at_in marks_asked_for

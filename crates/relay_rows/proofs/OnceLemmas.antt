@@ -1,5 +1,6 @@
 -- An entry can be put at one place only of those that the relay goes through between two entries.
-use Rattle.std.proofs.Common.{◌≡◌, inl, inr, ℕ, zero, suc, ◌+◌, ◌≤◌, Bool, true, false, if◌then◌else◌, List, [], ◌∷◌, Some, None, refl, sym, ap, subst, arith, lit≤}
+use Rattle.std.proofs.Common.{◌≡◌, inl, inr, ℕ, zero, suc, ◌+◌, ◌≤◌, Bool, true, false, if◌then◌else◌, List, [], ◌∷◌, Some, None, refl, sym}
+use Rattle.std.proofs.Common.{ap, subst, arith, lit≤}
 use Rattle.ev_types.specs.declared.side.SideId.{SideId}
 use Rattle.ev_types.specs.declared.answer.ReadAnswer.{ReadAnswer}
 use Rattle.ev_types.specs.declared.answer.ReadAnswer.TheVariants as read
@@ -18,10 +19,12 @@ use Rattle.relay_model.specs.Past.{past}
 use Rattle.relay_model.specs.Rooms.{Want}
 use Rattle.relay_model.specs.Serve.{Call, call_for}
 use Rattle.relay_model.specs.Close.{closing_entry}
-use Rattle.relay_model.specs.Stages.{Fire, Halt, Stage, Between, Polling, Wanting, Marking, Accepting, Serving, Filtering, Dispatching, Firing, Freeing, Passing, Closing, Over, State, at, after_ask}
+use Rattle.relay_model.specs.Stages.{Fire, Halt, Stage, Between, Polling, Wanting, Marking, Accepting, Serving, Filtering, Dispatching}
+use Rattle.relay_model.specs.Stages.{Firing, Freeing, Passing, Closing, Over, State, at, after_ask}
 use Rattle.relay_model.specs.Turn.{Puts, Quietly, after_reading}
 use Rattle.relay_rows.specs.Laws.{Ahead}
-use Rattle.relay_rows.proofs.OrderLemmas.{rank, ahead-rank, fired-rank, no_closing, no_freeing, poll_failed-rank, opened-rank, asked-rank, Rise, rise-weaken, wanted-rise}
+use Rattle.relay_rows.proofs.OrderLemmas.{rank, ahead-rank, fired-rank, no_closing, no_freeing, poll_failed-rank, opened-rank, asked-rank}
+use Rattle.relay_rows.proofs.OrderLemmas.{Rise, rise-weaken, wanted-rise}
 
 -- the sides of which marks may still be set
 abbrev pub unmarked : Stage → List Want

@@ -1,7 +1,8 @@
 -- The order of stages between two entries. The relay goes through them in one direction, and an entry can be put at one
 -- place of them only.
 use Rattle.std.specs.Prelude.{filter, map}
-use Rattle.std.proofs.Common.{◌≡◌, inl, inr, ℕ, zero, suc, ◌+◌, ◌*◌, ◌≤◌, Bool, true, false, ◌||◌, if◌then◌else◌, List, [], ◌∷◌, Some, refl, sym, ap, subst, arith, lit≤}
+use Rattle.std.proofs.Common.{◌≡◌, inl, inr, ℕ, zero, suc, ◌+◌, ◌*◌, ◌≤◌, Bool, true, false, ◌||◌, if◌then◌else◌, List, [], ◌∷◌, Some, refl}
+use Rattle.std.proofs.Common.{sym, ap, subst, arith, lit≤}
 use Rattle.ev_types.specs.declared.side.SideId.{SideId}
 use Rattle.ev_types.specs.declared.act.Act.{Act}
 use Rattle.ev_types.specs.declared.answer.AskAnswer.{AskAnswer}
@@ -16,7 +17,8 @@ use Rattle.relay_model.specs.Plain.{Plain, sides_from, all_sides}
 use Rattle.relay_model.specs.Past.{Past, past}
 use Rattle.relay_model.specs.Rooms.{Want, want_of, wanted}
 use Rattle.relay_model.specs.Close.{CloseStep, freed_entry, closing_entry}
-use Rattle.relay_model.specs.Stages.{Fire, Halt, Stage, Between, Polling, Wanting, Marking, Accepting, Serving, Filtering, Dispatching, Firing, Freeing, Passing, Closing, Over, State, at}
+use Rattle.relay_model.specs.Stages.{Fire, Halt, Stage, Between, Polling, Wanting, Marking, Accepting, Serving, Filtering, Dispatching}
+use Rattle.relay_model.specs.Stages.{Firing, Freeing, Passing, Closing, Over, State, at}
 use Rattle.relay_model.specs.Turn.{Puts, Quietly, after_fire}
 use Rattle.relay_rows.specs.Laws.{Ahead}
 use Rattle.relay_rows.proofs.PutConverse.{is_closing, closing_entry-is}

@@ -2,7 +2,8 @@
 use Rattle.std.specs.Prelude.{refl}
 use Rattle.relay_model.specs.Settings.{usual}
 use Rattle.relay_rows.specs.Laws.{Goes, FailsToPoll}
-use Rattle.relay_rows.specs.PlainRows.{bytes_then_end, nothing_may_be_written, byte_by_byte, write_that_fails, request_and_answer, connect_that_fails, drained_at_the_end, time_stands_still, poll_that_fails}
+use Rattle.relay_rows.specs.PlainRows.{bytes_then_end, nothing_may_be_written, byte_by_byte, write_that_fails, request_and_answer}
+use Rattle.relay_rows.specs.PlainRows.{connect_that_fails, drained_at_the_end, time_stands_still, poll_that_fails}
 use Rattle.relay_rows.proofs.AcceptLemmas.{rests-went, rests-failed}
 
 pub bytes_then_end-goes : Goes usual bytes_then_end

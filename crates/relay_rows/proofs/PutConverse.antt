@@ -1,5 +1,6 @@
 -- What the relation lets be put, the replay puts.
-use Rattle.std.proofs.Common.{◌≡◌, inl, inr, ℕ, ◌+◌, ◌≤◌, Bool, true, false, ◌==◌, ◌&&◌, ◌||◌, not, nat_le, if◌then◌else◌, List, [], ◌∷◌, length, Option, Some, None, option_map, refl, sym, ap, ◌∙◌, eq-eqb, le-leb, lt-ltb}
+use Rattle.std.proofs.Common.{◌≡◌, inl, inr, ℕ, ◌+◌, ◌≤◌, Bool, true, false, ◌==◌, ◌&&◌, ◌||◌, not, nat_le, if◌then◌else◌, List, [], ◌∷◌}
+use Rattle.std.proofs.Common.{length, Option, Some, None, option_map, refl, sym, ap, ◌∙◌, eq-eqb, le-leb, lt-ltb}
 use Rattle.std.proofs.lemmas.Bool.{and_from}
 use Rattle.ev_types.specs.declared.side.Side.{Side}
 use Rattle.ev_types.specs.declared.side.Side.TheVariants.{In, Out}
@@ -27,11 +28,13 @@ use Rattle.relay_model.specs.Asks.{most_asks, refusal, may_lack, Answered}
 use Rattle.relay_model.specs.Moments.{poll_timeout}
 use Rattle.relay_model.specs.Serve.{Call, call_for, CarriesGot, CarriesTook}
 use Rattle.relay_model.specs.Close.{CloseStep, freed_entry, closing_entry, closed_by, steps_left}
-use Rattle.relay_model.specs.Stages.{Fire, Stage, Between, Polling, Wanting, Marking, Accepting, Serving, Dispatching, Firing, Freeing, Closing, State, at, after_ask}
+use Rattle.relay_model.specs.Stages.{Fire, Stage, Between, Polling, Wanting, Marking, Accepting, Serving, Dispatching, Firing, Freeing}
+use Rattle.relay_model.specs.Stages.{Closing, State, at, after_ask}
 use Rattle.ev_types.specs.Times.{latest}
 use Rattle.relay_model.specs.Turn.{most_opened, IsPartOf, Puts}
 use Rattle.relay_rows.specs.Same.{is_empty, same_flag, same_number, same_cause, same_why, same_answer, same_end_of}
-use Rattle.relay_rows.specs.Put.{provided, asks_connect, asks_read, asks_write, is_count_of, carries_got, carries_took, is_part_of, answered, put}
+use Rattle.relay_rows.specs.Put.{provided, asks_connect, asks_read, asks_write, is_count_of, carries_got, carries_took, is_part_of}
+use Rattle.relay_rows.specs.Put.{answered, put}
 
 pub provided-from : {X : Type 0} (test : Bool) (x new : X) → test ≡ true → new ≡ x → provided test x ≡ Some new
 provided-from true x new h e = ap Some (sym e)

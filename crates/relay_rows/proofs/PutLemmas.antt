@@ -1,5 +1,6 @@
 -- What the replay puts, the relation lets be put.
-use Rattle.std.proofs.Common.{◌≡◌, inl, inr, ℕ, ◌+◌, ◌≤◌, Bool, true, false, ◌==◌, ◌&&◌, ◌||◌, not, nat_lt, nat_le, if◌then◌else◌, List, [], ◌∷◌, ◌++◌, length, Option, Some, None, option_map, IsTrue, refl, ap, eqb-true, leb-true, ltb-true}
+use Rattle.std.proofs.Common.{◌≡◌, inl, inr, ℕ, ◌+◌, ◌≤◌, Bool, true, false, ◌==◌, ◌&&◌, ◌||◌, not, nat_lt, nat_le, if◌then◌else◌, List, []}
+use Rattle.std.proofs.Common.{◌∷◌, ◌++◌, length, Option, Some, None, option_map, IsTrue, refl, ap, eqb-true, leb-true, ltb-true}
 use Rattle.std.proofs.lemmas.Bool.{and_parts}
 use Rattle.ev_types.specs.declared.side.SideId.{SideId}
 use Rattle.ev_types.specs.declared.answer.ConnAnswer.{ConnAnswer}
@@ -25,12 +26,15 @@ use Rattle.relay_model.specs.Asks.{most_asks, refusal, may_lack, Answered, Ask}
 use Rattle.relay_model.specs.Moments.{poll_timeout, time_passed}
 use Rattle.relay_model.specs.Serve.{Call, call_for, marks_left, CarriesGot, CarriesTook, after_conn, after_read, after_write}
 use Rattle.relay_model.specs.Close.{CloseStep, freed_entry, closing_entry, closed_by, steps_left}
-use Rattle.relay_model.specs.Stages.{Fire, Halt, Stage, Between, Polling, Wanting, Marking, Accepting, Serving, Dispatching, Firing, Freeing, Closing, Over, State, at, begun, after_ask}
+use Rattle.relay_model.specs.Stages.{Fire, Halt, Stage, Between, Polling, Wanting, Marking, Accepting, Serving, Dispatching, Firing}
+use Rattle.relay_model.specs.Stages.{Freeing, Closing, Over, State, at, begun, after_ask}
 use Rattle.ev_types.specs.Times.{latest}
 use Rattle.relay_model.specs.Turn.{most_opened, turned_to, after_reading, IsPartOf, Puts}
 use Rattle.relay_rows.specs.Same.{is_empty, same_flag, same_number, same_why, same_answer, same_end_of}
-use Rattle.relay_rows.specs.Put.{provided, asks_connect, asks_read, asks_write, asks_nothing, is_count_of, carries_got, carries_took, is_part_of, answered, put}
-use Rattle.relay_rows.proofs.SameLemmas.{is_empty-is, same_flag-is, same_number-is, same_end-is, same_why-is, same_answer-is, same_end_of-is}
+use Rattle.relay_rows.specs.Put.{provided, asks_connect, asks_read, asks_write, asks_nothing, is_count_of, carries_got, carries_took}
+use Rattle.relay_rows.specs.Put.{is_part_of, answered, put}
+use Rattle.relay_rows.proofs.SameLemmas.{is_empty-is, same_flag-is, same_number-is, same_end-is, same_why-is, same_answer-is}
+use Rattle.relay_rows.proofs.SameLemmas.{same_end_of-is}
 
 pub provided-is : {X : Type 0} (test : Bool) (x new : X) → provided test x ≡ Some new → (test ≡ true) × (new ≡ x)
 provided-is true x new h = (refl, cc)

@@ -1,7 +1,8 @@
 -- A silent step of the replay is one of the relation.
 use Rattle.std.specs.Prelude.{fold}
 use Rattle.std.specs.List.{list_all}
-use Rattle.std.proofs.Common.{◌≡◌, ◌⊎◌, inl, inr, ℕ, Bool, true, false, ◌&&◌, if◌then◌else◌, is_none, List, [], ◌∷◌, Option, Some, None, refl, ap, ◌∙◌}
+use Rattle.std.proofs.Common.{◌≡◌, ◌⊎◌, inl, inr, ℕ, Bool, true, false, ◌&&◌, if◌then◌else◌, is_none, List, [], ◌∷◌, Option, Some, None}
+use Rattle.std.proofs.Common.{refl, ap, ◌∙◌}
 use Rattle.std.proofs.lemmas.Bool.{and_parts}
 use Rattle.std.proofs.lemmas.List.{set-get_or}
 use Rattle.ev_types.specs.declared.side.SideId.{SideId}
@@ -18,7 +19,8 @@ use Rattle.relay_model.specs.Pass.{with_held, with_used, read_place, with_read_d
 use Rattle.relay_model.specs.Round.{Part, meets, filter_in, filter_out, hold_of, read_run, write_run, do_part, round_parts, round}
 use Rattle.relay_model.specs.Serve.{call_for, marks_left}
 use Rattle.relay_model.specs.Close.{closing_entry}
-use Rattle.relay_model.specs.Stages.{Stage, Wanting, Marking, Accepting, Serving, Filtering, Dispatching, Firing, Passing, Closing, State, at}
+use Rattle.relay_model.specs.Stages.{Stage, Wanting, Marking, Accepting, Serving, Filtering, Dispatching, Firing, Passing, Closing, State}
+use Rattle.relay_model.specs.Stages.{at}
 use Rattle.relay_model.specs.Turn.{Quietly}
 use Rattle.relay_rows.specs.Same.{same_flow}
 use Rattle.relay_rows.specs.Put.{asks_nothing}

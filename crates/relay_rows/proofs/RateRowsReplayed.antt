@@ -1,7 +1,8 @@
 -- Each run with limits is accepted.
 use Rattle.std.specs.Prelude.{refl}
 use Rattle.relay_rows.specs.Laws.{Goes}
-use Rattle.relay_rows.specs.RateRows.{share_lowered_to_the_rate, group_of_ten, written_in_ticks, limited_out, suspended_for_two_ticks, small_group, read_in_ticks, shared_by_three, limited_in, one_group}
+use Rattle.relay_rows.specs.RateRows.{share_lowered_to_the_rate, group_of_ten, written_in_ticks, limited_out, suspended_for_two_ticks}
+use Rattle.relay_rows.specs.RateRows.{small_group, read_in_ticks, shared_by_three, limited_in, one_group}
 use Rattle.relay_rows.proofs.AcceptLemmas.{rests-went}
 
 pub read_in_ticks-goes : Goes limited_in read_in_ticks

@@ -2,7 +2,9 @@
 use Rattle.std.specs.Prelude.{refl}
 use Rattle.relay_rows.specs.HookRows.{hook_in}
 use Rattle.relay_rows.specs.Laws.{Goes, IsStoppedBy}
-use Rattle.relay_rows.specs.ReasonRows.{suspended_without_members, hook_of_a_member, reasons_in_order, first_due_first_fired, asks_behind_a_stop, forgotten_with_the_side, timer_replaced_and_cancelled, timeout_asked_for, group_joined_and_left, limit_changed, hook_and_group, hook_and_limit, hook_out, two_links}
+use Rattle.relay_rows.specs.ReasonRows.{suspended_without_members, hook_of_a_member, reasons_in_order, first_due_first_fired}
+use Rattle.relay_rows.specs.ReasonRows.{asks_behind_a_stop, forgotten_with_the_side, timer_replaced_and_cancelled, timeout_asked_for}
+use Rattle.relay_rows.specs.ReasonRows.{group_joined_and_left, limit_changed, hook_and_group, hook_and_limit, hook_out, two_links}
 use Rattle.relay_rows.proofs.AcceptLemmas.{rests-went, rests-stopped}
 
 pub reasons_in_order-goes : Goes hook_out reasons_in_order

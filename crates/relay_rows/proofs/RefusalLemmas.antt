@@ -2,7 +2,8 @@
 -- steps, and puts an event where the replay puts it.
 use Rattle.std.specs.Prelude.{fold}
 use Rattle.std.specs.List.{list_all}
-use Rattle.std.proofs.Common.{◌≡◌, ◌⊎◌, inl, inr, ℕ, zero, suc, ◌≤◌, Bool, true, false, if◌then◌else◌, is_none, List, [], ◌∷◌, Option, Some, None, refl, sym, ap, ◌∙◌, subst, arith}
+use Rattle.std.proofs.Common.{◌≡◌, ◌⊎◌, inl, inr, ℕ, zero, suc, ◌≤◌, Bool, true, false, if◌then◌else◌, is_none, List, [], ◌∷◌, Option, Some}
+use Rattle.std.proofs.Common.{None, refl, sym, ap, ◌∙◌, subst, arith}
 use Rattle.std.proofs.lemmas.Bool.{and_parts}
 use Rattle.ev_types.specs.declared.side.SideId.{SideId}
 use Rattle.ev_types.specs.declared.entry.Entry.{Entry}
@@ -13,7 +14,8 @@ use Rattle.relay_model.specs.Past.{past}
 use Rattle.relay_model.specs.Round.{Part, do_part, round_parts, round}
 use Rattle.relay_model.specs.Serve.{Call, call_for, marks_left}
 use Rattle.relay_model.specs.Close.{closing_entry}
-use Rattle.relay_model.specs.Stages.{Stage, Wanting, Marking, Accepting, Serving, Filtering, Dispatching, Firing, Passing, Closing, State, at}
+use Rattle.relay_model.specs.Stages.{Stage, Wanting, Marking, Accepting, Serving, Filtering, Dispatching, Firing, Passing, Closing, State}
+use Rattle.relay_model.specs.Stages.{at}
 use Rattle.relay_model.specs.Turn.{Puts, Quietly}
 use Rattle.relay_rows.specs.Put.{put, asks_nothing}
 use Rattle.relay_rows.specs.Quiet.{leaves, is_passed, quiet}

@@ -1,7 +1,11 @@
 -- Each wrong event at an edge is refused.
 use Rattle.std.specs.Prelude.{refl}
 use Rattle.relay_rows.specs.Wrong.{IsWrong}
-use Rattle.relay_rows.specs.WrongEdges.{link_past_the_64th, link_past_the_last, time_past_the_last, nothing_got, more_than_the_room, ended_side_wanted, written_as_it_connects, writing_ended_while_connecting, held_byte_forgotten, held_byte_given, bad_byte_met_without_room, filled_above_half, wanted_at_the_read_mark, wanted_with_an_empty_bucket, read_while_suspended, fired_below_the_low_mark, timeouts_told_apart, fired_in_the_turn_of_its_ask}
+use Rattle.relay_rows.specs.WrongEdges.{link_past_the_64th, link_past_the_last, time_past_the_last, nothing_got, more_than_the_room}
+use Rattle.relay_rows.specs.WrongEdges.{ended_side_wanted, written_as_it_connects, writing_ended_while_connecting, held_byte_forgotten}
+use Rattle.relay_rows.specs.WrongEdges.{held_byte_given, bad_byte_met_without_room, filled_above_half, wanted_at_the_read_mark}
+use Rattle.relay_rows.specs.WrongEdges.{wanted_with_an_empty_bucket, read_while_suspended, fired_below_the_low_mark, timeouts_told_apart}
+use Rattle.relay_rows.specs.WrongEdges.{fired_in_the_turn_of_its_ask}
 use Rattle.relay_rows.proofs.IllegalLemmas.{refuses-is}
 
 pub ended_side_wanted-is_wrong : IsWrong ended_side_wanted

@@ -1,7 +1,11 @@
 -- Each wrong event is refused.
 use Rattle.std.specs.Prelude.{refl}
 use Rattle.relay_rows.specs.Wrong.{IsWrong}
-use Rattle.relay_rows.specs.WrongRows.{time_falls, turn_after_a_failed_poll, turn_within_a_turn, link_out_of_order, want_left_out, mark_not_wanted, read_with_a_wrong_room, read_without_a_mark, write_offers_too_little, wait_too_long, writing_ended_early, peer_gone_without_cause, done_too_early, output_of_a_freed_side_dropped, freed_twice, live_end_closed, wrong_cause, fired_on_a_freed_side, write_reason_above_the_low_mark, fired_without_a_reason, fire_after_a_stop, asked_by_another, refused_without_cause, one_ask_too_many}
+use Rattle.relay_rows.specs.WrongRows.{time_falls, turn_after_a_failed_poll, turn_within_a_turn, link_out_of_order, want_left_out}
+use Rattle.relay_rows.specs.WrongRows.{mark_not_wanted, read_with_a_wrong_room, read_without_a_mark, write_offers_too_little, wait_too_long}
+use Rattle.relay_rows.specs.WrongRows.{writing_ended_early, peer_gone_without_cause, done_too_early, output_of_a_freed_side_dropped}
+use Rattle.relay_rows.specs.WrongRows.{freed_twice, live_end_closed, wrong_cause, fired_on_a_freed_side, write_reason_above_the_low_mark}
+use Rattle.relay_rows.specs.WrongRows.{fired_without_a_reason, fire_after_a_stop, asked_by_another, refused_without_cause, one_ask_too_many}
 use Rattle.relay_rows.proofs.IllegalLemmas.{refuses-is}
 
 pub time_falls-is_wrong : IsWrong time_falls

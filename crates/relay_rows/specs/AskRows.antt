@@ -9,7 +9,8 @@ use Rattle.ev_types.specs.declared.why.Why.TheVariants as why
 use Rattle.ev_types.specs.Trace.{Trace}
 use Rattle.relay_model.specs.Settings.{Settings, usual}
 use Rattle.relay_model.specs.Due.{event}
-use Rattle.relay_rows.specs.RowWords.{in_of, out_of, turn, poll, poll_for, wants_read, wants_write, wants_both, can_read, can_write, opens, opens_waiting, connects, connect_waits, gets, ends, takes, write_fails, fires, asks, frees, closes}
+use Rattle.relay_rows.specs.RowWords.{in_of, out_of, turn, poll, poll_for, wants_read, wants_write, wants_both, can_read, can_write, opens}
+use Rattle.relay_rows.specs.RowWords.{opens_waiting, connects, connect_waits, gets, ends, takes, write_fails, fires, asks, frees, closes}
 use Rattle.relay_rows.specs.RateRows.{letters, ten_a_second}
 
 abbrev pub two_hooks : Settings

@@ -4,7 +4,9 @@ use Rattle.ev_types.specs.declared.filter.FilterKind.TheVariants as kind
 use Rattle.ev_types.specs.declared.why.Cause.TheVariants as cause
 use Rattle.ev_types.specs.Trace.{Trace}
 use Rattle.relay_model.specs.Settings.{Settings, usual}
-use Rattle.relay_rows.specs.RowWords.{in_of, out_of, turn, poll, poll_for, wants_read, wants_write, wants_both, can_read, can_write, opens, opens_waiting, connects, connect_waits, gets, ends, ends_writing, write_fails, read_waits, read_fails, takes, write_waits, frees, closes}
+use Rattle.relay_rows.specs.RowWords.{in_of, out_of, turn, poll, poll_for, wants_read, wants_write, wants_both, can_read, can_write, opens}
+use Rattle.relay_rows.specs.RowWords.{opens_waiting, connects, connect_waits, gets, ends, ends_writing, write_fails, read_waits, read_fails}
+use Rattle.relay_rows.specs.RowWords.{takes, write_waits, frees, closes}
 
 -- In fails in the turn behind its bytes. They are given still, and only then is Out freed.
 abbrev pub rest_given_after_a_free : Trace

@@ -4,7 +4,8 @@ use Rattle.ev_types.specs.declared.filter.FilterKind.TheVariants as kind
 use Rattle.ev_types.specs.declared.why.Cause.TheVariants as cause
 use Rattle.ev_types.specs.Trace.{Trace}
 use Rattle.relay_model.specs.Settings.{Settings, usual}
-use Rattle.relay_rows.specs.RowWords.{in_of, out_of, turn, poll, wants_read, wants_write, wants_both, can_read, can_write, opens, gets, ends, read_fails, takes, frees, ends_writing, closes}
+use Rattle.relay_rows.specs.RowWords.{in_of, out_of, turn, poll, wants_read, wants_write, wants_both, can_read, can_write, opens, gets}
+use Rattle.relay_rows.specs.RowWords.{ends, read_fails, takes, frees, ends_writing, closes}
 
 abbrev pub lf_in : Settings
 lf_in = record usual { in_read = kind.ToLf }

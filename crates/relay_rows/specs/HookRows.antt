@@ -7,7 +7,8 @@ use Rattle.ev_types.specs.declared.why.Cause.TheVariants as cause
 use Rattle.ev_types.specs.declared.why.Why.TheVariants as why
 use Rattle.ev_types.specs.Trace.{Trace}
 use Rattle.relay_model.specs.Settings.{Settings, usual}
-use Rattle.relay_rows.specs.RowWords.{in_of, out_of, turn, poll, poll_for, wants_read, wants_both, can_read, opens, gets, fires, asks, frees, closes}
+use Rattle.relay_rows.specs.RowWords.{in_of, out_of, turn, poll, poll_for, wants_read, wants_both, can_read, opens, gets, fires, asks}
+use Rattle.relay_rows.specs.RowWords.{frees, closes}
 
 abbrev pub hook_in : Settings
 hook_in = record usual { hooks = in_of 0 ∷ [] }

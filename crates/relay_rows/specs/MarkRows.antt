@@ -8,7 +8,8 @@ use Rattle.ev_types.specs.declared.why.Why.TheVariants as why
 use Rattle.ev_types.specs.Trace.{Trace}
 use Rattle.relay_model.specs.Settings.{Settings, usual}
 use Rattle.relay_model.specs.Due.{event}
-use Rattle.relay_rows.specs.RowWords.{in_of, out_of, turn, poll, poll_for, wants_read, wants_both, can_read, can_write, opens, gets, ends, takes, fires, asks, ends_writing}
+use Rattle.relay_rows.specs.RowWords.{in_of, out_of, turn, poll, poll_for, wants_read, wants_both, can_read, can_write, opens, gets, ends}
+use Rattle.relay_rows.specs.RowWords.{takes, fires, asks, ends_writing}
 
 -- A hook sets both read marks of its side, 2 and 5, and the hold mark of the other, 3. One byte at In tells nothing, the
 -- room is what is left below 5, and the direction is held until one byte or none is left of three.

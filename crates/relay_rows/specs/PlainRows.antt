@@ -2,7 +2,9 @@
 use Rattle.std.specs.Prelude.{[], ◌∷◌}
 use Rattle.ev_types.specs.declared.why.Cause.TheVariants as cause
 use Rattle.ev_types.specs.Trace.{Trace}
-use Rattle.relay_rows.specs.RowWords.{in_of, out_of, turn, poll, poll_failed, wants_read, wants_write, wants_both, can_read, can_write, can_both, opens, opens_waiting, connect_fails, gets, ends, takes, write_fails, frees, ends_writing, closes}
+use Rattle.relay_rows.specs.RowWords.{in_of, out_of, turn, poll, poll_failed, wants_read, wants_write, wants_both, can_read, can_write}
+use Rattle.relay_rows.specs.RowWords.{can_both, opens, opens_waiting, connect_fails, gets, ends, takes, write_fails, frees, ends_writing}
+use Rattle.relay_rows.specs.RowWords.{closes}
 
 -- Two bytes come and the end with them. They are given in the next turn, and writing is ended behind them.
 abbrev pub bytes_then_end : Trace

@@ -1,6 +1,7 @@
 -- The state after an entry, where the entry may be put next. The cases are those of the relation on traces, each with
 -- its condition as a test.
-use Rattle.std.specs.Prelude.{ℕ, ◌+◌, Bool, true, false, ◌==◌, ◌&&◌, ◌||◌, not, nat_lt, nat_le, if◌then◌else◌, List, [], ◌∷◌, ◌++◌, length, Option, Some, None, option_map}
+use Rattle.std.specs.Prelude.{ℕ, ◌+◌, Bool, true, false, ◌==◌, ◌&&◌, ◌||◌, not, nat_lt, nat_le, if◌then◌else◌, List, [], ◌∷◌, ◌++◌, length}
+use Rattle.std.specs.Prelude.{Option, Some, None, option_map}
 use Rattle.ev_types.specs.declared.answer.ReadAnswer.{ReadAnswer}
 use Rattle.ev_types.specs.declared.answer.ReadAnswer.TheVariants as read
 use Rattle.ev_types.specs.declared.answer.WriteAnswer.{WriteAnswer}
@@ -21,7 +22,8 @@ use Rattle.relay_model.specs.Asks.{most_asks, refusal, done, may_lack}
 use Rattle.relay_model.specs.Moments.{poll_timeout, time_passed}
 use Rattle.relay_model.specs.Serve.{Call, call_for, marks_left, after_conn, after_read, after_write}
 use Rattle.relay_model.specs.Close.{freed_entry, closing_entry, closed_by, steps_left}
-use Rattle.relay_model.specs.Stages.{Halt, Stage, Between, Polling, Wanting, Marking, Accepting, Serving, Dispatching, Firing, Freeing, Closing, Over, State, at, begun, after_ask}
+use Rattle.relay_model.specs.Stages.{Halt, Stage, Between, Polling, Wanting, Marking, Accepting, Serving, Dispatching, Firing, Freeing}
+use Rattle.relay_model.specs.Stages.{Closing, Over, State, at, begun, after_ask}
 use Rattle.ev_types.specs.Times.{latest}
 use Rattle.relay_model.specs.Turn.{most_opened, turned_to, after_reading}
 use Rattle.relay_rows.specs.Same.{is_empty, same_flag, same_number, same_why, same_answer, same_end_of}

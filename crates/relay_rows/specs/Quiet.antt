@@ -14,7 +14,8 @@ use Rattle.filter_model.specs.Filter.{or_else}
 use Rattle.relay_model.specs.Round.{Part, round_parts, do_part, filter_in, filter_out, hold_of}
 use Rattle.relay_model.specs.Serve.{call_for, marks_left, after_got}
 use Rattle.relay_model.specs.Close.{closing_from, closing_entry}
-use Rattle.relay_model.specs.Stages.{Stage, Between, Wanting, Marking, Accepting, Serving, Filtering, Dispatching, Firing, Passing, Closing, State, at}
+use Rattle.relay_model.specs.Stages.{Stage, Between, Wanting, Marking, Accepting, Serving, Filtering, Dispatching, Firing, Passing, Closing}
+use Rattle.relay_model.specs.Stages.{State, at}
 use Rattle.relay_model.specs.Turn.{after_fire}
 use Rattle.relay_rows.specs.Same.{same_number, same_flow}
 use Rattle.relay_rows.specs.Put.{provided, asks_nothing}

@@ -8,7 +8,8 @@ use Rattle.ev_types.specs.declared.why.Cause.TheVariants as cause
 use Rattle.ev_types.specs.declared.why.Why.TheVariants as why
 use Rattle.ev_types.specs.Trace.{Trace}
 use Rattle.relay_model.specs.Settings.{Settings, usual}
-use Rattle.relay_rows.specs.RowWords.{in_of, out_of, turn, poll, poll_for, wants_read, wants_both, can_read, can_both, opens, gets, takes, fires, asks, frees, closes}
+use Rattle.relay_rows.specs.RowWords.{in_of, out_of, turn, poll, poll_for, wants_read, wants_both, can_read, can_both, opens, gets, takes}
+use Rattle.relay_rows.specs.RowWords.{fires, asks, frees, closes}
 use Rattle.relay_rows.specs.RateRows.{letters, ten_a_second, hundred_a_second}
 
 abbrev pub hook_out : Settings

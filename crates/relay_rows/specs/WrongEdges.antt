@@ -8,7 +8,8 @@ use Rattle.token_bucket.specs.declared.limit.Dir.TheVariants as dir
 use Rattle.ev_types.specs.Trace.{Trace}
 use Rattle.relay_model.specs.Settings.{usual}
 use Rattle.relay_model.specs.Due.{event}
-use Rattle.relay_rows.specs.RowWords.{in_of, out_of, turn, poll, poll_for, wants_read, wants_write, wants_both, can_read, can_write, opens, opens_waiting, connects, gets, ends, takes, fires, asks, frees, ends_writing}
+use Rattle.relay_rows.specs.RowWords.{in_of, out_of, turn, poll, poll_for, wants_read, wants_write, wants_both, can_read, can_write, opens}
+use Rattle.relay_rows.specs.RowWords.{opens_waiting, connects, gets, ends, takes, fires, asks, frees, ends_writing}
 use Rattle.relay_rows.specs.FilterRows.{lf_in, held_at_four, five_at_once}
 use Rattle.relay_rows.specs.HookRows.{hook_in}
 use Rattle.relay_rows.specs.RateRows.{letters, limited_in, one_group}

@@ -6,7 +6,8 @@ use Rattle.ev_types.specs.declared.why.Cause.TheVariants as cause
 use Rattle.ev_types.specs.declared.why.Why.TheVariants as why
 use Rattle.ev_types.specs.Trace.{Event, Trace}
 use Rattle.relay_model.specs.Settings.{Settings, usual}
-use Rattle.relay_rows.specs.RowWords.{in_of, out_of, turn, poll, poll_for, poll_failed, wants_read, wants_both, can_read, can_write, opens, gets, ends, takes, write_fails, fires, asks, frees, ends_writing, closes}
+use Rattle.relay_rows.specs.RowWords.{in_of, out_of, turn, poll, poll_for, poll_failed, wants_read, wants_both, can_read, can_write, opens}
+use Rattle.relay_rows.specs.RowWords.{gets, ends, takes, write_fails, fires, asks, frees, ends_writing, closes}
 use Rattle.relay_rows.specs.Wrong.{Wrong, wrong}
 use Rattle.relay_rows.specs.HookRows.{hook_in, three_hooks, timeout_in}
 

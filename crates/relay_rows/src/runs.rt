@@ -1,14 +1,27 @@
 // Worked runs: each is replayed, and the relation lets it end as told.
 ghost use Rattle.relay_model.specs.Settings.{usual};
 ghost use Rattle.relay_rows.specs.Laws.{Goes, IsStoppedBy, FailsToPoll};
-ghost use Rattle.relay_rows.specs.PlainRows.{bytes_then_end, nothing_may_be_written, byte_by_byte, write_that_fails, request_and_answer, connect_that_fails, drained_at_the_end, time_stands_still, poll_that_fails};
-ghost use Rattle.relay_rows.specs.FilterRows.{held_and_drained, line_end_in_two_reads, held_to_the_end, line_ends_added, line_end_kept, odd_digit, no_digit, held_back, read_mark_reached, crlf_out, five_at_once, held_at_four, hex_in, lf_in};
-ghost use Rattle.relay_rows.specs.HookRows.{reading_is_activity, held_byte_dropped, frees_another_link, frees_the_peer_twice, read_timeout, timer_fires, hook_stops, hook_and_lf_in, hook_in, three_hooks, timeout_in};
-ghost use Rattle.relay_rows.specs.EdgeRows.{read_filter_stops_at_the_mark, hex_in_marked_at_six, bad_byte_while_held, hex_out_held_at_four, writing_is_activity, rest_given_after_a_free, both_end_at_once, ended_before_it_connects, nothing_was_ready, bad_byte_behind_the_mark, connects_too_late, failed_and_expired, hex_out_held_at_one, read_timeout_out, write_timeout_out};
-ghost use Rattle.relay_rows.specs.ReasonRows.{suspended_without_members, hook_of_a_member, reasons_in_order, first_due_first_fired, asks_behind_a_stop, forgotten_with_the_side, timer_replaced_and_cancelled, timeout_asked_for, group_joined_and_left, limit_changed, hook_and_group, hook_and_limit, hook_out, two_links};
-ghost use Rattle.relay_rows.specs.AskRows.{no_end_behind_a_free, hook_in_and_hex_out, end_and_fault_told, connected_and_written, two_timeouts_joined, low_mark_reached, writing_disabled_for_a_turn, asks_refused, triggered, limit_asked_for, hook_and_low_mark_in, hook_and_timeouts_out, two_hooks};
-ghost use Rattle.relay_rows.specs.MarkRows.{marks_asked_for, write_low_mark_reached, timers_in_order, enabled_behind_the_end, reading_disabled, hook_and_low_mark_out, hook_at_in, hooks_of_two_links};
-ghost use Rattle.relay_rows.specs.RateRows.{share_lowered_to_the_rate, group_of_ten, written_in_ticks, limited_out, suspended_for_two_ticks, small_group, read_in_ticks, shared_by_three, limited_in, one_group};
+ghost use Rattle.relay_rows.specs.PlainRows.{bytes_then_end, nothing_may_be_written, byte_by_byte, write_that_fails, request_and_answer};
+ghost use Rattle.relay_rows.specs.PlainRows.{connect_that_fails, drained_at_the_end, time_stands_still, poll_that_fails};
+ghost use Rattle.relay_rows.specs.FilterRows.{held_and_drained, line_end_in_two_reads, held_to_the_end, line_ends_added, line_end_kept};
+ghost use Rattle.relay_rows.specs.FilterRows.{odd_digit, no_digit, held_back, read_mark_reached, crlf_out, five_at_once, held_at_four};
+ghost use Rattle.relay_rows.specs.FilterRows.{hex_in, lf_in};
+ghost use Rattle.relay_rows.specs.HookRows.{reading_is_activity, held_byte_dropped, frees_another_link, frees_the_peer_twice, read_timeout};
+ghost use Rattle.relay_rows.specs.HookRows.{timer_fires, hook_stops, hook_and_lf_in, hook_in, three_hooks, timeout_in};
+ghost use Rattle.relay_rows.specs.EdgeRows.{read_filter_stops_at_the_mark, hex_in_marked_at_six, bad_byte_while_held, hex_out_held_at_four};
+ghost use Rattle.relay_rows.specs.EdgeRows.{writing_is_activity, rest_given_after_a_free, both_end_at_once, ended_before_it_connects};
+ghost use Rattle.relay_rows.specs.EdgeRows.{nothing_was_ready, bad_byte_behind_the_mark, connects_too_late, failed_and_expired};
+ghost use Rattle.relay_rows.specs.EdgeRows.{hex_out_held_at_one, read_timeout_out, write_timeout_out};
+ghost use Rattle.relay_rows.specs.ReasonRows.{suspended_without_members, hook_of_a_member, reasons_in_order, first_due_first_fired};
+ghost use Rattle.relay_rows.specs.ReasonRows.{asks_behind_a_stop, forgotten_with_the_side, timer_replaced_and_cancelled, timeout_asked_for};
+ghost use Rattle.relay_rows.specs.ReasonRows.{group_joined_and_left, limit_changed, hook_and_group, hook_and_limit, hook_out, two_links};
+ghost use Rattle.relay_rows.specs.AskRows.{no_end_behind_a_free, hook_in_and_hex_out, end_and_fault_told, connected_and_written};
+ghost use Rattle.relay_rows.specs.AskRows.{two_timeouts_joined, low_mark_reached, writing_disabled_for_a_turn, asks_refused, triggered};
+ghost use Rattle.relay_rows.specs.AskRows.{limit_asked_for, hook_and_low_mark_in, hook_and_timeouts_out, two_hooks};
+ghost use Rattle.relay_rows.specs.MarkRows.{marks_asked_for, write_low_mark_reached, timers_in_order, enabled_behind_the_end};
+ghost use Rattle.relay_rows.specs.MarkRows.{reading_disabled, hook_and_low_mark_out, hook_at_in, hooks_of_two_links};
+ghost use Rattle.relay_rows.specs.RateRows.{share_lowered_to_the_rate, group_of_ten, written_in_ticks, limited_out};
+ghost use Rattle.relay_rows.specs.RateRows.{suspended_for_two_ticks, small_group, read_in_ticks, shared_by_three, limited_in, one_group};
 
 /// Runs without filters, marks, limits and hooks.
 ///

@@ -1,7 +1,16 @@
 // Small changes of worked runs: what stands before the changed event is legal, and with it no more.
 ghost use Rattle.relay_rows.specs.Wrong.{IsWrong};
-ghost use Rattle.relay_rows.specs.WrongRows.{time_falls, turn_after_a_failed_poll, turn_within_a_turn, link_out_of_order, want_left_out, mark_not_wanted, read_with_a_wrong_room, read_without_a_mark, write_offers_too_little, wait_too_long, writing_ended_early, peer_gone_without_cause, done_too_early, output_of_a_freed_side_dropped, freed_twice, live_end_closed, wrong_cause, fired_on_a_freed_side, write_reason_above_the_low_mark, fired_without_a_reason, fire_after_a_stop, asked_by_another, refused_without_cause, one_ask_too_many};
-ghost use Rattle.relay_rows.specs.WrongEdges.{link_past_the_64th, link_past_the_last, time_past_the_last, nothing_got, more_than_the_room, ended_side_wanted, written_as_it_connects, writing_ended_while_connecting, held_byte_forgotten, held_byte_given, bad_byte_met_without_room, filled_above_half, wanted_at_the_read_mark, wanted_with_an_empty_bucket, read_while_suspended, fired_below_the_low_mark, timeouts_told_apart, fired_in_the_turn_of_its_ask};
+ghost use Rattle.relay_rows.specs.WrongRows.{time_falls, turn_after_a_failed_poll, turn_within_a_turn, link_out_of_order, want_left_out};
+ghost use Rattle.relay_rows.specs.WrongRows.{mark_not_wanted, read_with_a_wrong_room, read_without_a_mark, write_offers_too_little};
+ghost use Rattle.relay_rows.specs.WrongRows.{wait_too_long, writing_ended_early, peer_gone_without_cause, done_too_early};
+ghost use Rattle.relay_rows.specs.WrongRows.{output_of_a_freed_side_dropped, freed_twice, live_end_closed, wrong_cause};
+ghost use Rattle.relay_rows.specs.WrongRows.{fired_on_a_freed_side, write_reason_above_the_low_mark, fired_without_a_reason};
+ghost use Rattle.relay_rows.specs.WrongRows.{fire_after_a_stop, asked_by_another, refused_without_cause, one_ask_too_many};
+ghost use Rattle.relay_rows.specs.WrongEdges.{link_past_the_64th, link_past_the_last, time_past_the_last, nothing_got, more_than_the_room};
+ghost use Rattle.relay_rows.specs.WrongEdges.{ended_side_wanted, written_as_it_connects, writing_ended_while_connecting};
+ghost use Rattle.relay_rows.specs.WrongEdges.{held_byte_forgotten, held_byte_given, bad_byte_met_without_room, filled_above_half};
+ghost use Rattle.relay_rows.specs.WrongEdges.{wanted_at_the_read_mark, wanted_with_an_empty_bucket, read_while_suspended};
+ghost use Rattle.relay_rows.specs.WrongEdges.{fired_below_the_low_mark, timeouts_told_apart, fired_in_the_turn_of_its_ask};
 
 /// Turns that come at a wrong time, and a link that is opened out of order.
 ///

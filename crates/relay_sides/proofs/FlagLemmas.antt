@@ -15,7 +15,8 @@ use Rattle.relay_sides.specs.SidesView.{links_of, sides_of, AreSides, IsCounted}
 use Rattle.relay_sides.specs.declared.sides.Sides.TheInside.{Inside}
 use Rattle.relay_sides.specs.declared.side.SideState.{SideState}
 use Rattle.relay_sides.proofs.BevsLemmas.{number-lt, set_lower-other, set_lower-same}
-use Rattle.relay_sides.proofs.ChangeLemmas.{left_of, right_of, counted_of, everywhere, set_state-other, set_state-same, Alike, Lasting, counted-alike, filters-last}
+use Rattle.relay_sides.proofs.ChangeLemmas.{left_of, right_of, counted_of, everywhere, set_state-other, set_state-same, Alike, Lasting}
+use Rattle.relay_sides.proofs.ChangeLemmas.{counted-alike, filters-last}
 use Rattle.relay_sides.proofs.SidesLemmas.{here, state_found, side_changed}
 
 -- What is so of the sides stays so with these bufferevents and this beside them, where there is no room for a read.

@@ -1,5 +1,6 @@
 -- Changes of which nothing is seen: room is made in the bufferevents of a side, or is given up.
-use Rattle.std.proofs.Common.{◌≡◌, ◌≢◌, ℕ, ◌+◌, ◌*◌, ◌<◌, ◌≤◌, Bool, true, false, ◌==◌, if◌then◌else◌, List, length, slice_index_or, slice_set, Some, refl, sym, ◌∙◌, ap, subst, arith, eqb-true}
+use Rattle.std.proofs.Common.{◌≡◌, ◌≢◌, ℕ, ◌+◌, ◌*◌, ◌<◌, ◌≤◌, Bool, true, false, ◌==◌, if◌then◌else◌, List, length, slice_index_or}
+use Rattle.std.proofs.Common.{slice_set, Some, refl, sym, ◌∙◌, ap, subst, arith, eqb-true}
 use Rattle.std.proofs.lemmas.Bool.{eqb-false}
 use Rattle.std.proofs.lemmas.List.{length-set, nil_from_length, get_or-set_other}
 use Rattle.token_bucket.specs.declared.limit.Dir.TheVariants.{Read, Write}
@@ -28,7 +29,8 @@ use Rattle.relay_sides.specs.declared.sides.Sides.TheInside.{Inside}
 use Rattle.relay_sides.specs.declared.side.SideState.{SideState}
 use Rattle.relay_sides.proofs.TableLemmas.{get-tabulate}
 use Rattle.relay_sides.proofs.BevsLemmas.{number-lt, set_lower-other, set_lower-same, set_upper-other, set_upper-same}
-use Rattle.relay_sides.proofs.ChangeLemmas.{Left, Right, left_of, right_of, everywhere, Alike, Lasting, links-alike, counted-alike, filters-last}
+use Rattle.relay_sides.proofs.ChangeLemmas.{Left, Right, left_of, right_of, everywhere, Alike, Lasting, links-alike, counted-alike}
+use Rattle.relay_sides.proofs.ChangeLemmas.{filters-last}
 
 -- what is seen of a side's two bufferevents
 pub record Seen : Type 0 where

@@ -1,12 +1,15 @@
 -- Rounds of passing: a round changes nothing, or it changes what the code compares and brings a weight down. So passing comes to an end.
-use Rattle.std.proofs.Common.{◌≡◌, ◌≢◌, inl, inr, ℕ, zero, suc, ◌+◌, ◌-◌, ◌*◌, ◌/◌, ◌<◌, ◌≤◌, Bool, true, false, not, ◌&&◌, ◌==◌, nat_le, if◌then◌else◌, [], ◌++◌, length, Option, Some, None, refl, sym, ◌∙◌, ap, subst, arith, append-nil, length-drop, length-append, eqb-true}
+use Rattle.std.proofs.Common.{◌≡◌, ◌≢◌, inl, inr, ℕ, zero, suc, ◌+◌, ◌-◌, ◌*◌, ◌/◌, ◌<◌, ◌≤◌, Bool, true, false, not, ◌&&◌, ◌==◌, nat_le}
+use Rattle.std.proofs.Common.{if◌then◌else◌, [], ◌++◌, length, Option, Some, None, refl, sym, ◌∙◌, ap, subst, arith, append-nil}
+use Rattle.std.proofs.Common.{length-drop, length-append, eqb-true}
 use Rattle.std.specs.Prelude.{is_some}
 use Rattle.std.proofs.lemmas.List.{nil_from_length}
 use mathlib.Core.Logic.{◌⊎◌}
 use Rattle.filter_model.specs.Filter.{or_else}
 use Rattle.filter_model.specs.FilterStep.{Stepped}
 use Rattle.relay_state.specs.State.{lane_moved}
-use Rattle.relay_state.specs.Passage.{Passage, rounds, hold_part, read_step, read_by, read_part, move_part, write_step, written_by, write_part, has_moved_all, pass_round}
+use Rattle.relay_state.specs.Passage.{Passage, rounds, hold_part, read_step, read_by, read_part, move_part, write_step, written_by}
+use Rattle.relay_state.specs.Passage.{write_part, has_moved_all, pass_round}
 use Rattle.relay_sides.specs.declared.pass.RoundProgress.{RoundProgress}
 use Rattle.relay_sides.specs.Links.{IsTold}
 use Rattle.relay_sides.specs.Progress.{progress_of}

@@ -1,5 +1,6 @@
 -- What bytes that came, bytes that were taken and a freed side change: one side's two bufferevents, and what is counted of a direction.
-use Rattle.std.proofs.Common.{◌≡◌, ◌≢◌, ℕ, ◌+◌, ◌*◌, ◌<◌, ◌≤◌, Bool, true, false, ◌==◌, if◌then◌else◌, List, length, slice_set, None, refl, sym, ◌∙◌, ap, subst, arith, eqb-true, length-append, length-drop}
+use Rattle.std.proofs.Common.{◌≡◌, ◌≢◌, ℕ, ◌+◌, ◌*◌, ◌<◌, ◌≤◌, Bool, true, false, ◌==◌, if◌then◌else◌, List, length, slice_set, None, refl}
+use Rattle.std.proofs.Common.{sym, ◌∙◌, ap, subst, arith, eqb-true, length-append, length-drop}
 use Rattle.std.specs.Prelude.{vec_capacity}
 use Rattle.std.proofs.lemmas.Bool.{eqb-false}
 use Rattle.std.proofs.lemmas.List.{length-set, get_or-set_other}
@@ -28,8 +29,10 @@ use Rattle.relay_sides.specs.SidesView.{links_of, rooms_of, sides_of, AreSides, 
 use Rattle.relay_sides.specs.declared.sides.Sides.TheInside.{Inside}
 use Rattle.relay_sides.specs.declared.side.SideState.{SideState}
 use Rattle.relay_sides.proofs.TableLemmas.{get-tabulate, tabulate-same, tabulate-set, tabulate-two}
-use Rattle.relay_sides.proofs.BevsLemmas.{number-lt, twin-number, twin-twin, twin-apart, peer-apart, set_lower-other, set_lower-same, set_upper-other, set_upper-same}
-use Rattle.relay_sides.proofs.ChangeLemmas.{left_of, right_of, counted_of, everywhere, set_state-other, set_state-same, Apart, flow-apart, lane-apart, counted-apart, filters-last}
+use Rattle.relay_sides.proofs.BevsLemmas.{number-lt, twin-number, twin-twin, twin-apart, peer-apart, set_lower-other, set_lower-same}
+use Rattle.relay_sides.proofs.BevsLemmas.{set_upper-other, set_upper-same}
+use Rattle.relay_sides.proofs.ChangeLemmas.{left_of, right_of, counted_of, everywhere, set_state-other, set_state-same, Apart, flow-apart}
+use Rattle.relay_sides.proofs.ChangeLemmas.{lane-apart, counted-apart, filters-last}
 use Rattle.relay_sides.proofs.SidesLemmas.{here, side_seen, lane_seen}
 use Rattle.relay_sides.proofs.StepLemmas.{room-mono}
 use Rattle.relay_sides.proofs.RoomLemmas.{Sound, lane_is, has_input_room}

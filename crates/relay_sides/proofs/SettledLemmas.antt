@@ -1,5 +1,6 @@
 -- Where there is nothing that a round could do, it changes nothing.
-use Rattle.std.proofs.Common.{◌≡◌, ℕ, suc, ◌+◌, ◌/◌, Bool, true, false, not, ◌||◌, ◌&&◌, ◌==◌, nat_le, if◌then◌else◌, List, [], length, Option, Some, None, refl, sym, ◌∙◌, ap, arith, eqb-true, leb-true}
+use Rattle.std.proofs.Common.{◌≡◌, ℕ, suc, ◌+◌, ◌/◌, Bool, true, false, not, ◌||◌, ◌&&◌, ◌==◌, nat_le, if◌then◌else◌, List, [], length}
+use Rattle.std.proofs.Common.{Option, Some, None, refl, sym, ◌∙◌, ap, arith, eqb-true, leb-true}
 use Rattle.std.specs.Prelude.{nat_lt, is_some}
 use Rattle.std.proofs.lemmas.List.{nil_from_length}
 use Rattle.filter_model.specs.Filter.{or_else}
@@ -7,7 +8,8 @@ use Rattle.filter_model.specs.Running.{Running}
 use Rattle.filter_model.specs.FilterRun.{nothing_ran}
 use Rattle.filter_model.specs.FilterStep.{after_bytes, ending, stepped}
 use Rattle.relay_state.specs.State.{lane_moved}
-use Rattle.relay_state.specs.Passage.{Passage, holds_back, hold_part, read_by, read_part, move_part, has_moved_all, written_by, write_step, write_part, pass_round}
+use Rattle.relay_state.specs.Passage.{Passage, holds_back, hold_part, read_by, read_part, move_part, has_moved_all, written_by, write_step}
+use Rattle.relay_state.specs.Passage.{write_part, pass_round}
 use Rattle.relay_sides.specs.Links.{IsTold}
 use Rattle.relay_sides.specs.Progress.{round_by, is_settled}
 use Rattle.relay_sides.specs.declared.pass.RoundRules.{RoundRules}

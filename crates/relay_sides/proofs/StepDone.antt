@@ -21,7 +21,9 @@ use Rattle.relay_sides.proofs.SidesLemmas.{here, state_found}
 use Rattle.relay_sides.proofs.FlagLemmas.{upper_there, state_there}
 use Rattle.relay_sides.proofs.PartLemmas.{Link, passage_by, unflawed, part_links, part_counted}
 use Rattle.relay_sides.proofs.LinkLemmas.{own_found, link_with}
-use Rattle.relay_sides.proofs.FilterLemmas.{Went, read_bevs, read-other, read-same, read-long, read-kinds, read-right, read-unflawed, read-made, read-counted, write_bevs, write-other, write-same, write-long, write-kinds, write-left, write-unflawed, write-made, write-counted}
+use Rattle.relay_sides.proofs.FilterLemmas.{Went, read_bevs, read-other, read-same, read-long, read-kinds, read-right, read-unflawed}
+use Rattle.relay_sides.proofs.FilterLemmas.{read-made, read-counted, write_bevs, write-other, write-same, write-long, write-kinds}
+use Rattle.relay_sides.proofs.FilterLemmas.{write-left, write-unflawed, write-made, write-counted}
 
 module _ (v : SidesValue) (r : Inside) (is : sides_of r ≡ v) (sound : AreSides r) (e : SideId) (opened : e.link < v.links.opened)
     (j : ℕ) (j_is : j ≡ number e) (x : SideState) (x_is : x ≡ get_or r.sides.items j x) where

@@ -1,5 +1,6 @@
 -- How the sides are kept: by two bufferevents each in a world, and what is kept beside them.
-use Rattle.std.specs.Prelude.{◌≡◌, ◌≤◌, ◌<◌, ◌+◌, ◌-◌, ◌*◌, ◌/◌, ◌^◌, ◌==◌, if◌then◌else◌, ℕ, List, length, min, nat_lt, vec_len, vec_capacity}
+use Rattle.std.specs.Prelude.{◌≡◌, ◌≤◌, ◌<◌, ◌+◌, ◌-◌, ◌*◌, ◌/◌, ◌^◌, ◌==◌, if◌then◌else◌, ℕ, List, length, min, nat_lt, vec_len}
+use Rattle.std.specs.Prelude.{vec_capacity}
 use Rattle.relay_model.specs.Flow.{Flow}
 use Rattle.relay_model.specs.Rooms.{most_at_once, mark_or}
 use Rattle.relay_state.specs.State.{Lane}

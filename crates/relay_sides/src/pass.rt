@@ -1,11 +1,14 @@
 // Passing a direction: rounds until one changes nothing. A round has its room before it begins, so that want of memory
 // leaves whole rounds. Where a pass moves nothing each buffer without a byte gives its room up, so that an idle link holds none.
-ghost use Rattle.std.specs.Prelude.{◌≡◌, ◌≢◌, ◌≤◌, ◌<◌, ◌+◌, ◌==◌, ◌&&◌, ◌||◌, length, OnOk, IfOk, MatchResult, IsTrue, ◌↔◌, is_some, true, false, ◌/◌, nat_le, if◌then◌else◌};
+ghost use Rattle.std.specs.Prelude.{◌≡◌, ◌≢◌, ◌≤◌, ◌<◌, ◌+◌, ◌==◌, ◌&&◌, ◌||◌, length, OnOk, IfOk, MatchResult, IsTrue, ◌↔◌, is_some, true};
+ghost use Rattle.std.specs.Prelude.{false, ◌/◌, nat_le, if◌then◌else◌};
 ghost use Rattle.filter_model.specs.Filter.{or_else};
-ghost use Rattle.relay_state.specs.Passage.{hold_part, read_part, move_part, write_part, write_step, written_by, has_moved_all, Passed, SomeRounds};
+ghost use Rattle.relay_state.specs.Passage.{hold_part, read_part, move_part, write_part, write_step, written_by, has_moved_all, Passed};
+ghost use Rattle.relay_state.specs.Passage.{SomeRounds};
 ghost use Rattle.relay_sides.specs.Links.{lane_at, flow_at, moved, passage_at, with_passage, IsTold, round_from, PassedFrom, PartlyPassed};
 ghost use Rattle.relay_sides.specs.Pairs.{HasPairs};
-ghost use Rattle.relay_sides.specs.Rooms.{HasInputRoom, HasOutputRoom, HasNoIdleRoom, most_input, most_offered, KeepsStartRoom, KeepsEndRoom};
+ghost use Rattle.relay_sides.specs.Rooms.{HasInputRoom, HasOutputRoom, HasNoIdleRoom, most_input, most_offered, KeepsStartRoom};
+ghost use Rattle.relay_sides.specs.Rooms.{KeepsEndRoom};
 ghost use Rattle.relay_sides.specs.Progress.{progress_of, round_by, is_all_passed, is_settled};
 
 use crate::side::{lower, upper};

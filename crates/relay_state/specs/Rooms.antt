@@ -1,5 +1,6 @@
 -- How many bytes may be read from a side's end and given to it now, and what a side wants.
-use Rattle.std.specs.Prelude.{ℕ, ◌+◌, ◌-◌, Bool, ◌&&◌, ◌||◌, not, nat_le, if◌then◌else◌, List, length, Option, option_map, min, take, filter, map}
+use Rattle.std.specs.Prelude.{ℕ, ◌+◌, ◌-◌, Bool, ◌&&◌, ◌||◌, not, nat_le, if◌then◌else◌, List, length, Option, option_map, min, take}
+use Rattle.std.specs.Prelude.{filter, map}
 use Rattle.token_bucket.specs.declared.limit.Dir.{Dir}
 use Rattle.token_bucket.specs.declared.limit.Dir.TheVariants as dir
 use Rattle.ev_types.specs.declared.side.SideId.{SideId}

@@ -6,7 +6,8 @@ use Rattle.ev_types.specs.declared.side.SideId.{SideId}
 use Rattle.relay_model.specs.Plain.{Standing, is_live, side_at, change_side, all_sides}
 use Rattle.relay_model.specs.Rates.{next_tick}
 use Rattle.relay_model.specs.Reasons.{raise, happened, timeout_flag}
-use Rattle.relay_model.specs.Moments.{timeout_of, last_activity, is_timed, active_at, both_ways, moment_where, earliest, is_pressing, timers_taken, has_run_out, expire}
+use Rattle.relay_model.specs.Moments.{timeout_of, last_activity, is_timed, active_at, both_ways, moment_where, earliest, is_pressing}
+use Rattle.relay_model.specs.Moments.{timers_taken, has_run_out, expire}
 use Rattle.relay_model.specs.Turn.{turned_to}
 use Rattle.relay_state.specs.State.{State, with_plain, gauge_at}
 use Rattle.relay_state.specs.Running.{held_at}

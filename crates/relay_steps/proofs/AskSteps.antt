@@ -1,5 +1,6 @@
 -- Hooks: a reason is fired, the hook asks of any side, and what the relay stands for goes on.
-use Rattle.std.proofs.Common.{◌≡◌, inl, inr, ◌+◌, ◌-◌, ◌<◌, Bool, true, false, not, if◌then◌else◌, nat_le, List, [], ◌∷◌, ◌++◌, Option, Some, None, refl, sym, ◌∙◌, ap, subst, arith, append_assoc}
+use Rattle.std.proofs.Common.{◌≡◌, inl, inr, ◌+◌, ◌-◌, ◌<◌, Bool, true, false, not, if◌then◌else◌, nat_le, List, [], ◌∷◌, ◌++◌, Option}
+use Rattle.std.proofs.Common.{Some, None, refl, sym, ◌∙◌, ap, subst, arith, append_assoc}
 use Rattle.std.specs.Prelude.{is_some, slice_set}
 use Rattle.std.proofs.lemmas.List.{get_or_past}
 use Rattle.std.proofs.lemmas.Bool.Decides.{leb_tells}
@@ -40,7 +41,8 @@ use Rattle.relay_state.specs.Asking.{left_to_fire, is_of_group, asked, ask_event
 use Rattle.relay_steps.specs.Meaning.{StandsFor}
 use Rattle.relay_steps.proofs.FitLemmas.{fits-same}
 use Rattle.relay_steps.proofs.RoomLemmas.{input_length-is, output_length-is}
-use Rattle.relay_steps.proofs.StillSteps.{IsStill, put-stands, quiet-stands, stands-shape, still-same, still-changed, still-due, still-event}
+use Rattle.relay_steps.proofs.StillSteps.{IsStill, put-stands, quiet-stands, stands-shape, still-same, still-changed, still-due}
+use Rattle.relay_steps.proofs.StillSteps.{still-event}
 use Rattle.relay_steps.proofs.FreeSteps.{freed-fits, freed-many, freed-gauged}
 
 -- What is left to fire is looked at by nothing else.

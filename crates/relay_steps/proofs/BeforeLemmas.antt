@@ -1,6 +1,7 @@
 -- A side that is served has a limit that was set before this turn: links are opened only after the wants of a turn were told, and hooks ask
 -- only once all marks were served. So what is moved falls into a turn that the bucket counts.
-use Rattle.std.proofs.Common.{◌≡◌, ◌≢◌, inl, inr, ℕ, ◌+◌, ◌*◌, ◌<◌, Bool, true, false, ◌&&◌, not, if◌then◌else◌, List, [], ◌∷◌, ◌++◌, length, Option, Some, None, sym, ap, subst, arith}
+use Rattle.std.proofs.Common.{◌≡◌, ◌≢◌, inl, inr, ℕ, ◌+◌, ◌*◌, ◌<◌, Bool, true, false, ◌&&◌, not, if◌then◌else◌, List, [], ◌∷◌, ◌++◌}
+use Rattle.std.proofs.Common.{length, Option, Some, None, sym, ap, subst, arith}
 use Rattle.std.specs.Prelude.{⊤}
 use Rattle.std.specs.List.{AllByRecursion}
 use Rattle.token_bucket.specs.declared.limit.Dir.{Dir}
@@ -22,7 +23,8 @@ use Rattle.relay_model.specs.Rates.{side_spells}
 use Rattle.relay_model.specs.Rooms.{Want, wanted, is_connecting}
 use Rattle.relay_model.specs.Moments.{time_passed}
 use Rattle.relay_model.specs.Serve.{marks_left, after_got}
-use Rattle.relay_model.specs.Stages.{Fire, Halt, Stage, State, at, Between, Polling, Wanting, Marking, Accepting, Serving, Filtering, Dispatching, Firing, Freeing, Passing, Closing, Over, after_ask}
+use Rattle.relay_model.specs.Stages.{Fire, Halt, Stage, State, at, Between, Polling, Wanting, Marking, Accepting, Serving, Filtering}
+use Rattle.relay_model.specs.Stages.{Dispatching, Firing, Freeing, Passing, Closing, Over, after_ask}
 use Rattle.relay_model.specs.Turn.{turned_to, after_reading, Puts, Quietly, Reaches}
 use Rattle.relay_model.proofs.Frames.{SameFrame, frame-time_passed, frame-conn, frame-read, frame-write}
 use Rattle.relay_model.proofs.QuietSteps.{KeptQuietly, kept-after_got}

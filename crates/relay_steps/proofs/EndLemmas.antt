@@ -1,14 +1,17 @@
 -- Sides and their numbers, and what one event at the end of a trace tells of an end.
-use Rattle.std.proofs.Common.{◌≡◌, ◌≢◌, inl, inr, ℕ, ◌*◌, ◌<◌, ◌≤◌, Bool, true, false, ◌||◌, [], ◌∷◌, ◌++◌, refl, sym, ◌∙◌, ap, subst, arith, append-nil}
+use Rattle.std.proofs.Common.{◌≡◌, ◌≢◌, inl, inr, ℕ, ◌*◌, ◌<◌, ◌≤◌, Bool, true, false, ◌||◌, [], ◌∷◌, ◌++◌, refl, sym, ◌∙◌, ap, subst}
+use Rattle.std.proofs.Common.{arith, append-nil}
 use Rattle.std.proofs.lemmas.Bool.Decides.{eqb_tells}
 use Rattle.ev_types.specs.declared.side.Side.{Side}
 use Rattle.ev_types.specs.declared.side.Side.TheVariants.{In, Out}
 use Rattle.ev_types.specs.declared.side.SideId.{SideId}
 use Rattle.ev_types.specs.Sides.{other, peer, half, number, same_end}
 use Rattle.ev_types.specs.Trace.{Event, Trace}
-use Rattle.relay_model.specs.Trace.{read_by, given_by, ended_by, told_moved_by, told_given_by, write_closed_by, bytes_read, bytes_given, has_ended, moved_at_free, given_at_free, is_write_closed}
+use Rattle.relay_model.specs.Trace.{read_by, given_by, ended_by, told_moved_by, told_given_by, write_closed_by, bytes_read, bytes_given}
+use Rattle.relay_model.specs.Trace.{has_ended, moved_at_free, given_at_free, is_write_closed}
 use Rattle.relay_model.proofs.EndLemmas.{same_end-eq}
-use Rattle.relay_model.proofs.TraceLemmas.{bytes_read-push, bytes_given-push, moved_at_free-push, given_at_free-push, has_ended-push, is_write_closed-push}
+use Rattle.relay_model.proofs.TraceLemmas.{bytes_read-push, bytes_given-push, moved_at_free-push, given_at_free-push, has_ended-push}
+use Rattle.relay_model.proofs.TraceLemmas.{is_write_closed-push}
 use Rattle.std.proofs.Math.Bool.{or-false}
 
 pub number-same : (a b : SideId) → number a ≡ number b → a ≡ b

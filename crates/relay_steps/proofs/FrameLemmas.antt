@@ -1,6 +1,7 @@
 -- What every step of a turn but opening leaves: the settings, the number of links, and what bounds the reads; and the time and the
 -- number of turns but as a turn begins.
-use Rattle.std.proofs.Common.{◌≡◌, ℕ, zero, suc, ◌+◌, ◌≤◌, Bool, true, false, not, ◌&&◌, ◌==◌, nat_le, nat_lt, filter, if◌then◌else◌, List, [], ◌∷◌, ◌++◌, length, get_or, set, fold, refl, sym, ◌∙◌, ap, subst, arith}
+use Rattle.std.proofs.Common.{◌≡◌, ℕ, zero, suc, ◌+◌, ◌≤◌, Bool, true, false, not, ◌&&◌, ◌==◌, nat_le, nat_lt, filter, if◌then◌else◌, List}
+use Rattle.std.proofs.Common.{[], ◌∷◌, ◌++◌, length, get_or, set, fold, refl, sym, ◌∙◌, ap, subst, arith}
 use Rattle.token_bucket.specs.declared.limit.Dir.{Dir}
 use Rattle.token_bucket.specs.declared.limit.Dir.TheVariants as dir
 use Rattle.ev_types.specs.declared.side.SideId.{SideId}
@@ -22,11 +23,13 @@ use Rattle.relay_model.specs.Moments.{is_timed, active_at, both_ways, timers_tak
 use Rattle.relay_model.specs.Close.{CloseStep}
 use Rattle.relay_model.specs.Round.{Part, parts_of}
 use Rattle.relay_model.specs.Turn.{turned_to}
-use Rattle.relay_state.specs.State.{State, Lane, no_lane, lane_at, with_plain, with_lane, lane_got, lane_moved, lane_taken, lane_left, lane_lost}
+use Rattle.relay_state.specs.State.{State, Lane, no_lane, lane_at, with_plain, with_lane, lane_got, lane_moved, lane_taken, lane_left}
+use Rattle.relay_state.specs.State.{lane_lost}
 use Rattle.relay_state.specs.Passage.{Passage, pass_part, pass_round, rounds}
 use Rattle.relay_state.specs.Passing.{passage_at, with_passage, round_from, PassedFrom, read_run}
 use Rattle.relay_state.specs.Rooms.{wants, input_length, output_length}
-use Rattle.relay_state.specs.Serving.{raise_read, raise_write, after_conn, with_got, after_got, after_read, with_taken, after_took, after_write}
+use Rattle.relay_state.specs.Serving.{raise_read, raise_write, after_conn, with_got, after_got, after_read, with_taken, after_took}
+use Rattle.relay_state.specs.Serving.{after_write}
 use Rattle.relay_state.specs.Closing.{closed, freed, in_side, out_side}
 use Rattle.relay_state.specs.Time.{timed, side_timed, begun}
 

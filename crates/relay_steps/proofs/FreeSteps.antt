@@ -20,7 +20,8 @@ use Rattle.relay_steps.specs.Gauges.{Gauged}
 use Rattle.relay_steps.proofs.RateLemmas.{Moveless, SameGauged, spells-none, gauged-same}
 use Rattle.relay_steps.specs.Meaning.{LaneFits, StandsFor}
 use Rattle.relay_steps.proofs.EndLemmas.{peer-peer, peer-apart, peer-moves, by_side, number-same, read-silent, ended-silent}
-use Rattle.relay_steps.proofs.FitLemmas.{Sight, sight, FitsSight, seen-fits, fits-seen, fits-same, lane-set, lane-set_other, side-put, side-put_other}
+use Rattle.relay_steps.proofs.FitLemmas.{Sight, sight, FitsSight, seen-fits, fits-seen, fits-same, lane-set, lane-set_other, side-put}
+use Rattle.relay_steps.proofs.FitLemmas.{side-put_other}
 use Rattle.relay_steps.proofs.StillSteps.{in_sides, in_lanes}
 
 -- the side is freed that a lane begins at

@@ -1,5 +1,6 @@
 -- What is kept of a side's buckets, step by step, is what the model has by the least over all turns.
-use Rattle.std.proofs.Common.{◌≡◌, ℕ, suc, ◌+◌, ◌-◌, ◌*◌, ◌/◌, ◌<◌, ◌≤◌, min, List, [], ◌∷◌, ◌++◌, length, length-append, drop, refl, sym, ◌∙◌, ap, subst, arith}
+use Rattle.std.proofs.Common.{◌≡◌, ℕ, suc, ◌+◌, ◌-◌, ◌*◌, ◌/◌, ◌<◌, ◌≤◌, min, List, [], ◌∷◌, ◌++◌, length, length-append, drop, refl, sym}
+use Rattle.std.proofs.Common.{◌∙◌, ap, subst, arith}
 use Rattle.std.proofs.lemmas.List.{map-append, drop_all}
 use Rattle.token_bucket.specs.declared.limit.Dir.{Dir}
 use Rattle.token_bucket.specs.declared.limit.Dir.TheVariants as dir
@@ -14,12 +15,14 @@ use Rattle.relay_model.specs.Asks.{next_limit}
 use Rattle.relay_model.specs.Rates.{beat_of, side_spells, held_as_set, standing_level}
 use Rattle.token_bucket.specs.Spells.{Spell, Beat, Begins, Moves, spells}
 use Rattle.token_bucket.specs.Levels.{Limit, limit_of}
-use Rattle.relay_state.specs.Running.{refilled, short_after, Ascend, short_now, time_now, Gauge, short_of, short_at, held_at, spent_by, first_gauge, next_gauge}
+use Rattle.relay_state.specs.Running.{refilled, short_after, Ascend, short_now, time_now, Gauge, short_of, short_at, held_at, spent_by}
+use Rattle.relay_state.specs.Running.{first_gauge, next_gauge}
 use Rattle.relay_steps.specs.Gauges.{beats, short_by, BucketFits}
 use Rattle.relay_state.specs.State.{gauge_at}
 use Rattle.relay_steps.specs.BucketLaws.{GaugesTellLevels}
 use Rattle.relay_steps.proofs.BucketLemmas.{running_is_least, gain-join}
-use Rattle.relay_steps.proofs.RunSteps.{turn-step, move-step, none-step, drop-added, spells-moves, spells-begins, drop-begins, ascend-added, ascend-push, ascend-last, added}
+use Rattle.relay_steps.proofs.RunSteps.{turn-step, move-step, none-step, drop-added, spells-moves, spells-begins, drop-begins, ascend-added}
+use Rattle.relay_steps.proofs.RunSteps.{ascend-push, ascend-last, added}
 
 -- What the bucket holds is what the model says.
 pub held-is : (t : Trace) (time : ℕ) (y : Standing) (e : SideId) (x : Gauge) (d : Dir) → BucketFits t time y e x d →

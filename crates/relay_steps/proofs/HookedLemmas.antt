@@ -1,5 +1,6 @@
 -- What waits to be fired is of a live side that has a hook, and its flags fit a byte: what each change of the plain state leaves of that.
-use Rattle.std.proofs.Common.{◌≡◌, ◌≢◌, ◌+◌, ◌-◌, ℕ, Bool, true, false, ◌&&◌, not, nat_le, nat_lt, if◌then◌else◌, List, [], ◌∷◌, ◌++◌, fold, Option, Some, None, refl, sym, ◌∙◌, ap, subst, arith}
+use Rattle.std.proofs.Common.{◌≡◌, ◌≢◌, ◌+◌, ◌-◌, ℕ, Bool, true, false, ◌&&◌, not, nat_le, nat_lt, if◌then◌else◌, List, [], ◌∷◌, ◌++◌, fold}
+use Rattle.std.proofs.Common.{Option, Some, None, refl, sym, ◌∙◌, ap, subst, arith}
 use Rattle.std.specs.Prelude.{filter, ◌^◌, ◌<◌, ◌≤◌, IfSome}
 use Rattle.std.specs.List.{All}
 use Rattle.std.proofs.lemmas.List.Elements.{All-nil, All-cons, All-head, All-tail, All-append}
@@ -19,9 +20,11 @@ use Rattle.ev_types.specs.declared.why.Why.{Why}
 use Rattle.ev_types.specs.declared.why.Why.TheVariants as why
 use Rattle.ev_types.specs.Sides.{peer, same_end}
 use Rattle.relay_model.specs.Settings.{Settings}
-use Rattle.relay_model.specs.Due.{Due, Reason, with_reason, without_due, without_reasons, joined, nothing_due, reason_where, event_reason, reasons, event, batch, joined_flags}
+use Rattle.relay_model.specs.Due.{Due, Reason, with_reason, without_due, without_reasons, joined, nothing_due, reason_where, event_reason}
+use Rattle.relay_model.specs.Due.{reasons, event, batch, joined_flags}
 use Rattle.relay_model.specs.Flow.{Flow}
-use Rattle.relay_model.specs.Plain.{Plain, PlainSide, Timer, side_at, is_live, change_side, change_flow, freed, without_timer, placed, flow_at, all_sides}
+use Rattle.relay_model.specs.Plain.{Plain, PlainSide, Timer, side_at, is_live, change_side, change_flow, freed, without_timer, placed}
+use Rattle.relay_model.specs.Plain.{flow_at, all_sides}
 use Rattle.relay_model.specs.Past.{Past}
 use Rattle.relay_model.specs.Rooms.{wants, read_filter, write_filter, read_mark, hold_mark}
 use Rattle.relay_model.specs.Reasons.{has_hook, raise, raise_read, raise_write, happened, end_flag, error_flag, timeout_flag}

@@ -1,5 +1,6 @@
 -- What waits to be fired is of a live side that has a hook, and its flags fit a byte, in every state: by induction over the steps.
-use Rattle.std.proofs.Common.{◌≡◌, ◌+◌, ◌*◌, inl, inr, ℕ, Bool, true, false, if◌then◌else◌, List, [], ◌∷◌, ◌++◌, length, Option, Some, None, refl, sym, ◌∙◌, ap, subst, arith}
+use Rattle.std.proofs.Common.{◌≡◌, ◌+◌, ◌*◌, inl, inr, ℕ, Bool, true, false, if◌then◌else◌, List, [], ◌∷◌, ◌++◌, length, Option, Some, None}
+use Rattle.std.proofs.Common.{refl, sym, ◌∙◌, ap, subst, arith}
 use Rattle.std.specs.List.{All}
 use Rattle.std.proofs.lemmas.List.Elements.{All-nil, All-tail}
 use Rattle.ev_types.specs.declared.side.SideId.{SideId}
@@ -23,7 +24,8 @@ use Rattle.relay_model.specs.Asks.{Answered, refusal, done}
 use Rattle.relay_model.specs.Round.{do_part}
 use Rattle.relay_model.specs.Serve.{marks_left, after_conn, after_read, after_got, after_write}
 use Rattle.relay_model.specs.Close.{CloseStep, closed_by, steps_left}
-use Rattle.relay_model.specs.Stages.{Fire, Halt, Stage, begun, start, State, at, Between, Polling, Wanting, Marking, Accepting, Serving, Filtering, Dispatching, Firing, Freeing, Passing, Closing, Over, after_ask}
+use Rattle.relay_model.specs.Stages.{Fire, Halt, Stage, begun, start, State, at, Between, Polling, Wanting, Marking, Accepting, Serving}
+use Rattle.relay_model.specs.Stages.{Filtering, Dispatching, Firing, Freeing, Passing, Closing, Over, after_ask}
 use Rattle.relay_model.specs.Turn.{turned_to, after_reading, after_fire, Puts, Quietly, Reaches}
 use Rattle.relay_model.proofs.PlainLemmas.{side_at-old}
 use Rattle.std.proofs.lemmas.List.{get_or_past}
@@ -32,7 +34,9 @@ use Rattle.ev_types.specs.declared.side.Side.TheVariants.{In, Out}
 use Rattle.relay_model.proofs.RatesTold.{refusal-not_ok}
 use Rattle.relay_model.proofs.ToldLemmas.{kept}
 use Rattle.relay_steps.specs.ToFire.{IsHooked, DueOf, ReasonOf, left_in, Waits, WaitsAreHooked}
-use Rattle.relay_steps.proofs.HookedLemmas.{Wakes, is_free, all-left, wakes-same, wakes-then, wakes-change, wakes-passed, wakes-part, wakes-got, wakes-written, wakes-conn, wakes-was_read, wakes-done, freed-dues, freed-reasons, batch-all}
+use Rattle.relay_steps.proofs.HookedLemmas.{Wakes, is_free, all-left, wakes-same, wakes-then, wakes-change, wakes-passed, wakes-part}
+use Rattle.relay_steps.proofs.HookedLemmas.{wakes-got, wakes-written, wakes-conn, wakes-was_read, wakes-done, freed-dues, freed-reasons}
+use Rattle.relay_steps.proofs.HookedLemmas.{batch-all}
 
 module _ (g : Settings) where
   -- Stages

@@ -1,5 +1,6 @@
 -- A direction is passed, or some rounds of it are made, or a read filter runs over what was got: the relay goes on standing for its trace.
-use Rattle.std.proofs.Common.{◌≡◌, ◌≢◌, ℕ, ◌+◌, ◌*◌, ◌<◌, Bool, true, false, if◌then◌else◌, List, [], ◌∷◌, length, inl, refl, sym, ◌∙◌, ap, subst, arith}
+use Rattle.std.proofs.Common.{◌≡◌, ◌≢◌, ℕ, ◌+◌, ◌*◌, ◌<◌, Bool, true, false, if◌then◌else◌, List, [], ◌∷◌, length, inl, refl, sym, ◌∙◌, ap}
+use Rattle.std.proofs.Common.{subst, arith}
 use Rattle.std.specs.Prelude.{is_some, nat_le}
 use Rattle.std.proofs.lemmas.List.{length-set}
 use Rattle.ev_types.specs.declared.side.SideId.{SideId}
@@ -33,7 +34,8 @@ use Rattle.relay_steps.proofs.FitLemmas.{sight, FitsSight, seen-fits, fits-seen,
 use Rattle.relay_steps.proofs.RateLemmas.{gauged-same, passed-rates}
 use Rattle.relay_steps.proofs.PassedLemmas.{round_of, passed-other_flow, live-same, marks-rise, round-same}
 use Rattle.relay_steps.proofs.PassageLemmas.{PassageFits, read_run-is}
-use Rattle.relay_steps.proofs.PassRounds.{Rises, read-rises, rounds-rise, sides-told, flows-told, ended-told, near-inside, far-inside, Here, rounds-go, round-stays}
+use Rattle.relay_steps.proofs.PassRounds.{Rises, read-rises, rounds-rise, sides-told, flows-told, ended-told, near-inside, far-inside, Here}
+use Rattle.relay_steps.proofs.PassRounds.{rounds-go, round-stays}
 
 -- a lane goes on fitting where all that it looks at is as before, but that a side may be marked now
 pub fits-risen : (g : Settings) (t u : Trace) (p q : Plain) (e : SideId) (l m : Lane) →

@@ -1,5 +1,6 @@
 -- A marked side is read: the read is the one that the model calls for, and what its answer changes is what it changes there.
-use Rattle.std.proofs.Common.{length, ◌≡◌, ◌≢◌, ℕ, ◌*◌, ◌-◌, ◌<◌, Bool, true, false, not, ◌||◌, nat_le, min, if◌then◌else◌, List, [], ◌∷◌, ◌++◌, slice_set, refl, sym, ◌∙◌, ap, subst}
+use Rattle.std.proofs.Common.{length, ◌≡◌, ◌≢◌, ℕ, ◌*◌, ◌-◌, ◌<◌, Bool, true, false, not, ◌||◌, nat_le, min, if◌then◌else◌, List, [], ◌∷◌}
+use Rattle.std.proofs.Common.{◌++◌, slice_set, refl, sym, ◌∙◌, ap, subst}
 use Rattle.std.specs.Prelude.{nat_lt, is_some}
 use Rattle.std.proofs.lemmas.List.{length-set}
 use Rattle.token_bucket.specs.declared.limit.Dir.TheVariants as dir

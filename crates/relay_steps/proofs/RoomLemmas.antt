@@ -1,6 +1,7 @@
 -- Where the lanes hold exactly what the counts leave, buckets fit, and no side has a group, rooms, wants and the timeout of the poll are
 -- the model's. The first lemmas look at two lanes and one side alone, so that they hold in the midst of a step too.
-use Rattle.std.proofs.Common.{◌≡◌, ℕ, zero, suc, ◌+◌, ◌-◌, ◌<◌, Bool, true, false, not, ◌&&◌, ◌||◌, ◌==◌, nat_le, min, if◌then◌else◌, List, [], ◌∷◌, ◌++◌, length, map, filter, Option, Some, None, refl, sym, ◌∙◌, ap, arith, append-nil}
+use Rattle.std.proofs.Common.{◌≡◌, ℕ, zero, suc, ◌+◌, ◌-◌, ◌<◌, Bool, true, false, not, ◌&&◌, ◌||◌, ◌==◌, nat_le, min, if◌then◌else◌, List}
+use Rattle.std.proofs.Common.{[], ◌∷◌, ◌++◌, length, map, filter, Option, Some, None, refl, sym, ◌∙◌, ap, arith, append-nil}
 use Rattle.std.specs.Prelude.{option_map}
 use Rattle.std.specs.List.{flat_map}
 use Rattle.token_bucket.specs.declared.limit.Dir.{Dir}
@@ -17,7 +18,8 @@ use Rattle.relay_model.specs.Plain.{Plain, Standing, side_at, flow_at, is_live, 
 use Rattle.relay_model.specs.Past.{Past, past}
 use Rattle.relay_model.specs.Rates.{next_tick, side_spells, standing_level}
 use Rattle.relay_model.specs.Rooms as model
-use Rattle.relay_model.specs.Rooms.{Want, read_filter, write_filter, share_in, at_most, within_rates, most_at_once, read_mark, may_read, may_write, is_connecting}
+use Rattle.relay_model.specs.Rooms.{Want, read_filter, write_filter, share_in, at_most, within_rates, most_at_once, read_mark, may_read}
+use Rattle.relay_model.specs.Rooms.{may_write, is_connecting}
 use Rattle.relay_model.specs.Moments as moment
 use Rattle.relay_model.specs.Moments.{timeout_of, last_activity, is_timed, moment_where, both_ways, earliest, is_pressing, group_gains}
 use Rattle.relay_model.specs.Stages.{Stage}

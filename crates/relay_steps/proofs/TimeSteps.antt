@@ -1,6 +1,7 @@
 -- How a turn begins: each side is looked at in turn, and what the relay makes of it is what the model makes, since at every place what a
 -- side wants is the model's.
-use Rattle.std.proofs.Common.{◌≡◌, ℕ, zero, suc, ◌+◌, ◌<◌, ◌≤◌, Bool, true, false, not, if◌then◌else◌, [], ◌∷◌, ◌++◌, fold, filter, refl, sym, ◌∙◌, ap, subst, arith}
+use Rattle.std.proofs.Common.{◌≡◌, ℕ, zero, suc, ◌+◌, ◌<◌, ◌≤◌, Bool, true, false, not, if◌then◌else◌, [], ◌∷◌, ◌++◌, fold, filter, refl}
+use Rattle.std.proofs.Common.{sym, ◌∙◌, ap, subst, arith}
 use Rattle.std.specs.Prelude.{nat_le, nat_lt, option_map, List, ◌*◌}
 use Rattle.token_bucket.specs.declared.limit.Dir.{Dir}
 use Rattle.token_bucket.specs.declared.limit.Dir.TheVariants as dir
@@ -30,7 +31,8 @@ use Rattle.relay_state.specs.Running.{Gauge, held_at}
 use Rattle.relay_steps.specs.Gauges.{BucketFits, Gauged}
 use Rattle.relay_steps.proofs.GaugeSteps.{bucket-turn}
 use Rattle.relay_steps.proofs.RoomLemmas.{allowed-is, SideFits, wants-fits, stands-fits}
-use Rattle.relay_steps.proofs.StandsLemmas.{SameView, view-same, view-then, view-if, view-fold, view-change, view-raise, view-side, stands-put}
+use Rattle.relay_steps.proofs.StandsLemmas.{SameView, view-same, view-then, view-if, view-fold, view-change, view-raise, view-side}
+use Rattle.relay_steps.proofs.StandsLemmas.{stands-put}
 
 -- What time leaves of the plain state
 

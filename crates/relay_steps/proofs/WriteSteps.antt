@@ -1,6 +1,7 @@
 -- A marked side is given what waits for it: the write is the one that the model calls for, and what its answer changes is what it
 -- changes there.
-use Rattle.std.proofs.Common.{◌≡◌, ◌≢◌, ℕ, ◌+◌, ◌*◌, ◌<◌, ◌≤◌, Bool, true, false, ◌&&◌, nat_le, min, if◌then◌else◌, List, [], ◌∷◌, ◌++◌, length, take, slice_set, refl, sym, ◌∙◌, ap, subst, arith, length-take-le, take-take}
+use Rattle.std.proofs.Common.{◌≡◌, ◌≢◌, ℕ, ◌+◌, ◌*◌, ◌<◌, ◌≤◌, Bool, true, false, ◌&&◌, nat_le, min, if◌then◌else◌, List, [], ◌∷◌, ◌++◌}
+use Rattle.std.proofs.Common.{length, take, slice_set, refl, sym, ◌∙◌, ap, subst, arith, length-take-le, take-take}
 use Rattle.std.specs.Prelude.{nat_lt, is_some, Option, Some, None}
 use Rattle.std.proofs.lemmas.List.{length-set}
 use Rattle.token_bucket.specs.declared.limit.Dir.TheVariants as dir
@@ -38,7 +39,8 @@ use Rattle.relay_state.specs.Rooms.{waiting_for, output_length, write_room, offe
 use Rattle.relay_state.specs.Serving.{flow_given, with_taken, after_took, after_write}
 use Rattle.relay_steps.specs.Meaning.{LaneFits, StandsFor}
 use Rattle.relay_steps.proofs.EndLemmas.{same_end-apart, peer-peer, read-silent, ended-silent}
-use Rattle.relay_steps.proofs.FitLemmas.{sight, FitsSight, seen-fits, fits-seen, fits-same, lane-set, lane-set_other, flow-put, flow-put_other}
+use Rattle.relay_steps.proofs.FitLemmas.{sight, FitsSight, seen-fits, fits-seen, fits-same, lane-set, lane-set_other, flow-put}
+use Rattle.relay_steps.proofs.FitLemmas.{flow-put_other}
 use Rattle.relay_steps.proofs.MovedSteps.{MovesAt, moved-gauged}
 use Rattle.relay_steps.proofs.BeforeLemmas.{set-before}
 use Rattle.relay_steps.specs.Gauges.{Gauged}
@@ -47,7 +49,8 @@ use Rattle.token_bucket.specs.Spells.{Moves}
 use Rattle.token_bucket.specs.declared.limit.Dir.{Dir}
 use Rattle.relay_steps.proofs.RoomLemmas.{allowed-is, SideFits, waiting-is, output_length-fits}
 use Rattle.relay_steps.proofs.LaneSteps.{fits-taken}
-use Rattle.relay_steps.proofs.StillSteps.{IsStill, still-gauged, put-stands, still-same, still-sight, still-due, still-event, still-raised, sight-of, one-fits, lane_in, in_flows, in_lanes}
+use Rattle.relay_steps.proofs.StillSteps.{IsStill, still-gauged, put-stands, still-same, still-sight, still-due, still-event, still-raised}
+use Rattle.relay_steps.proofs.StillSteps.{sight-of, one-fits, lane_in, in_flows, in_lanes}
 use Rattle.relay_steps.proofs.ServeSteps.{if_true, some-may, one_or_more, mark, call-is, marks-are}
 
 -- a plain state that is another one where a test holds

@@ -1,5 +1,6 @@
 -- What is due by number, call by call.
-use Rattle.std.proofs.Common.{◌≡◌, ℕ, Bool, true, false, not, cond, List, [], ◌∷◌, ◌++◌, map, Option, Some, None, option_map, refl, sym, ◌∙◌, ap}
+use Rattle.std.proofs.Common.{◌≡◌, ℕ, Bool, true, false, not, cond, List, [], ◌∷◌, ◌++◌, map, Option, Some, None, option_map, refl, sym}
+use Rattle.std.proofs.Common.{◌∙◌, ap}
 use Rattle.std.specs.Prelude.{nat_eq, filter}
 use Rattle.std.specs.Bool.{then_some}
 use Rattle.std.specs.Option.{option_to_list}
@@ -15,7 +16,8 @@ use Rattle.deferred_cb.specs.DueCalls as by_number
 use Rattle.relay_model.specs.Due.{Due, Reason, nothing_due, joined, joined_flags, with_reason, reason_where, event_reason, reasons}
 use Rattle.relay_waits.specs.Numbered.{side_numbered}
 use Rattle.relay_waits.specs.DueSides.{due_of, dues, reason_of_call, left_to_call}
-use Rattle.relay_waits.specs.DueLaws.{ReasonsJoin, SidesAreForgotten, BatchesAreFired, DueCall, DoesCall, MayLead, seen_by_side, Waiting, DueIsTheModels}
+use Rattle.relay_waits.specs.DueLaws.{ReasonsJoin, SidesAreForgotten, BatchesAreFired, DueCall, DoesCall, MayLead, seen_by_side, Waiting}
+use Rattle.relay_waits.specs.DueLaws.{DueIsTheModels}
 use Rattle.relay_waits.proofs.NumberLemmas.{same-number, side-of_number}
 
 flags-joined : (o : Option Flags) (f : Flags) → option_map (λ (g : Flags). g.0) (by_number.joined_flags o f) ≡

@@ -1,5 +1,6 @@
 -- The timers that wait by number, call by call.
-use Rattle.std.proofs.Common.{◌≡◌, ℕ, ◌<◌, ◌≤◌, min, Bool, true, false, not, cond, nat_le, nat_lt, List, [], ◌∷◌, map, Some, None, refl, sym, ◌∙◌, ap, arith}
+use Rattle.std.proofs.Common.{◌≡◌, ℕ, ◌<◌, ◌≤◌, min, Bool, true, false, not, cond, nat_le, nat_lt, List, [], ◌∷◌, map, Some, None, refl}
+use Rattle.std.proofs.Common.{sym, ◌∙◌, ap, arith}
 use Rattle.std.specs.Prelude.{nat_eq, filter}
 use Rattle.std.specs.List.{AllByRecursion}
 use Rattle.std.proofs.lemmas.Bool.{leb-true, leb-false, lt-leb, ltb-true, ltb-false, lt-ltb, le-ltb}
@@ -13,7 +14,8 @@ use Rattle.relay_model.specs.Plain.{Timer, placed, without_timer}
 use Rattle.token_bucket.specs.Spells.{least_with}
 use Rattle.relay_waits.specs.Numbered.{side_numbered}
 use Rattle.relay_waits.specs.TimerSides.{timer_of_side, timers_of}
-use Rattle.relay_waits.specs.TimerLaws.{TimersArePlaced, IsHandleOf, HasNone, TimersAreCancelled, DeadlinesRise, after_all_due, DueTimersAreTaken, DueAreTheModels, RisingStays, FirstIsEarliest}
+use Rattle.relay_waits.specs.TimerLaws.{TimersArePlaced, IsHandleOf, HasNone, TimersAreCancelled, DeadlinesRise, after_all_due}
+use Rattle.relay_waits.specs.TimerLaws.{DueTimersAreTaken, DueAreTheModels, RisingStays, FirstIsEarliest}
 use Rattle.relay_waits.proofs.NumberLemmas.{same-number}
 
 pub timers-are_placed : TimersArePlaced

@@ -1,5 +1,6 @@
 -- What the calls of a script port tell of its ends.
-use Rattle.std.proofs.Common.{◌≡◌, ◌≢◌, ℕ, Bool, true, false, ◌&&◌, ◌||◌, not, List, [], ◌∷◌, ◌++◌, length, take, drop, Option, Some, None, refl, sym, ap, subst, ◌∙◌, arith, append-nil, inl, inr}
+use Rattle.std.proofs.Common.{◌≡◌, ◌≢◌, ℕ, Bool, true, false, ◌&&◌, ◌||◌, not, List, [], ◌∷◌, ◌++◌, length, take, drop, Option, Some, None}
+use Rattle.std.proofs.Common.{refl, sym, ap, subst, ◌∙◌, arith, append-nil, inl, inr}
 use Rattle.std.specs.Prelude.{slice_get, option_map}
 use Rattle.std.specs.Option.{option_map_or}
 use Rattle.std.proofs.lemmas.Bool.{cases_Bool}
@@ -18,12 +19,15 @@ use Rattle.ev_types.specs.declared.turn_line.TurnLine.TheVariants as line
 use Rattle.ev_port.specs.declared.port.Want.{Want}
 use Rattle.ev_port.specs.EndSteps.{EndStep, no_step, EndWent, EndsWent, AllWent}
 use Rattle.ev_port.specs.Calls.{accept_step}
-use Rattle.ev_port.specs.Ends.{conn_step, is_failed_conn, read_step, is_failed_read, is_ended, got_bytes, write_step, is_failed_write, took_bytes, close_write_step, close_step}
+use Rattle.ev_port.specs.Ends.{conn_step, is_failed_conn, read_step, is_failed_read, is_ended, got_bytes, write_step, is_failed_write}
+use Rattle.ev_port.specs.Ends.{took_bytes, close_write_step, close_step}
 use Rattle.script_port.specs.ScriptState.{EndState, LinksState, LinksKept, PortState}
 use Rattle.script_port.specs.EndTallies.{with_read, with_write, with_check, with_fault}
-use Rattle.script_port.specs.ScriptEnds.{end_after_line, read_answer, after_read, taken_of, left_to_take, write_answer, after_write, conn_answer, after_check, accepted, after_close_write, after_close, wanted}
+use Rattle.script_port.specs.ScriptEnds.{end_after_line, read_answer, after_read, taken_of, left_to_take, write_answer, after_write}
+use Rattle.script_port.specs.ScriptEnds.{conn_answer, after_check, accepted, after_close_write, after_close, wanted}
 use Rattle.script_port.specs.FailedCalls.{failed_read, failed_write, failed_check}
-use Rattle.script_port.specs.ScriptLinks.{changed, at_end, out_end, end_of, after_line, after_lines, entered, after_wants, accept_answer, accept_first, read_answer_at, pending_at, write_answer_at, WroteAt, conn_answer_at}
+use Rattle.script_port.specs.ScriptLinks.{changed, at_end, out_end, end_of, after_line, after_lines, entered, after_wants, accept_answer}
+use Rattle.script_port.specs.ScriptLinks.{accept_first, read_answer_at, pending_at, write_answer_at, WroteAt, conn_answer_at}
 use Rattle.script_port.specs.ScriptKept.{Brings}
 use Rattle.script_port.specs.ScriptPort.{begin_turn}
 use Rattle.script_port.specs.ScriptTold.{told_of_end, nothing_told, ends_told}

@@ -14,7 +14,8 @@ use Rattle.ev_port.specs.Counting.{counted}
 use Rattle.script_port.specs.ScriptState.{EndState, PortState}
 use Rattle.script_port.specs.ScriptPort.{failed_poll}
 use Rattle.script_port.specs.ScriptTold.{script_faults}
-use Rattle.script_port.specs.FailPort.{same_call, is_last, one_less, is_failing, after_call, passed, failed_at, end_failed, poll_failed, fail_faults}
+use Rattle.script_port.specs.FailPort.{same_call, is_last, one_less, is_failing, after_call, passed, failed_at, end_failed, poll_failed}
+use Rattle.script_port.specs.FailPort.{fail_faults}
 use Rattle.script_port.proofs.ToldLemmas.{other_number, same_end_tells}
 use Rattle.script_port.proofs.FaultLemmas.{faults_at, faults-at_end, faults-wants}
 use Rattle.script_port.proofs.ScriptTraceLemmas.{same_self}

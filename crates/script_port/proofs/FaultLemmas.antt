@@ -1,5 +1,6 @@
 -- Which calls of a script port are counted as faults.
-use Rattle.std.proofs.Common.{◌≡◌, ℕ, suc, ◌-◌, ◌^◌, Bool, true, false, List, [], ◌∷◌, length, Option, Some, None, refl, ap, ◌∙◌, arith, inl, inr}
+use Rattle.std.proofs.Common.{◌≡◌, ℕ, suc, ◌-◌, ◌^◌, Bool, true, false, List, [], ◌∷◌, length, Option, Some, None, refl, ap, ◌∙◌, arith}
+use Rattle.std.proofs.Common.{inl, inr}
 use Rattle.std.specs.Prelude.{slice_get, option_map}
 use Rattle.std.specs.Option.{option_map_or}
 use Rattle.std.proofs.lemmas.Bool.Decides.{leb_tells}
@@ -24,8 +25,10 @@ use Rattle.ev_port.specs.Calls.{is_failed_accept}
 use Rattle.ev_port.specs.Polling.{is_failed_poll}
 use Rattle.ev_port.specs.Ends.{is_failed_conn, is_failed_read, is_failed_write}
 use Rattle.script_port.specs.ScriptState.{EndState, LinksState, PortState}
-use Rattle.script_port.specs.ScriptEnds.{end_after_line, read_answer, after_read, write_answer, after_write, conn_answer, after_check, accepted, wanted}
-use Rattle.script_port.specs.ScriptLinks.{end_of, at_end, out_end, entered, after_wants, accept_answer, accept_first, read_answer_at, write_answer_at, WroteAt, conn_answer_at}
+use Rattle.script_port.specs.ScriptEnds.{end_after_line, read_answer, after_read, write_answer, after_write, conn_answer, after_check}
+use Rattle.script_port.specs.ScriptEnds.{accepted, wanted}
+use Rattle.script_port.specs.ScriptLinks.{end_of, at_end, out_end, entered, after_wants, accept_answer, accept_first, read_answer_at}
+use Rattle.script_port.specs.ScriptLinks.{write_answer_at, WroteAt, conn_answer_at}
 use Rattle.script_port.specs.ScriptPort.{begin_turn, poll_answer, after_poll, accept_tally}
 use Rattle.script_port.specs.ScriptTold.{script_faults}
 use Rattle.script_port.proofs.ListLemmas.{slice_get-changed_same, slice_get-changed_other}

@@ -1,5 +1,7 @@
 -- Where reads, writes, connect checks and accepts leave the ends of a script port.
-use Rattle.std.proofs.Common.{◌≡◌, ◌⊎◌, ℕ, ◌+◌, ◌-◌, ◌^◌, ◌<◌, ◌≤◌, min, Bool, true, false, ◌==◌, ◌&&◌, ◌||◌, not, if◌then◌else◌, List, [], ◌∷◌, ◌++◌, length, take, drop, Option, Some, None, refl, sym, ap, subst, ◌∙◌, arith, append-nil, length-append, length-drop, length-take, inl, inr}
+use Rattle.std.proofs.Common.{◌≡◌, ◌⊎◌, ℕ, ◌+◌, ◌-◌, ◌^◌, ◌<◌, ◌≤◌, min, Bool, true, false, ◌==◌, ◌&&◌, ◌||◌, not, if◌then◌else◌, List, []}
+use Rattle.std.proofs.Common.{◌∷◌, ◌++◌, length, take, drop, Option, Some, None, refl, sym, ap, subst, ◌∙◌, arith, append-nil}
+use Rattle.std.proofs.Common.{length-append, length-drop, length-take, inl, inr}
 use Rattle.std.specs.Prelude.{sum_by, option_map}
 use Rattle.std.specs.Option.{option_map_or}
 use Rattle.std.specs.List.{flat_map, list_any}
@@ -27,8 +29,10 @@ use Rattle.relay_model.specs.Lines.{links_by, allows, allows_all}
 use Rattle.ev_port.specs.Ends as ends
 use Rattle.ev_port.specs.Ends.{took_bytes}
 use Rattle.script_port.specs.ScriptState.{EndState, LinksState}
-use Rattle.script_port.specs.ScriptEnds.{read_answer, after_read, taken_of, left_to_take, write_answer, after_write, conn_answer, after_check, accepted}
-use Rattle.script_port.specs.ScriptLinks.{end_of, at_end, taken_at, read_answer_at, pending_at, write_answer_at, conn_answer_at, accept_first}
+use Rattle.script_port.specs.ScriptEnds.{read_answer, after_read, taken_of, left_to_take, write_answer, after_write, conn_answer}
+use Rattle.script_port.specs.ScriptEnds.{after_check, accepted}
+use Rattle.script_port.specs.ScriptLinks.{end_of, at_end, taken_at, read_answer_at, pending_at, write_answer_at, conn_answer_at}
+use Rattle.script_port.specs.ScriptLinks.{accept_first}
 use Rattle.script_port.specs.ScriptVouched.{TakesOn, MayTake, EndStands, LinksStand}
 use Rattle.relay_model.proofs.EndLemmas.{same_end-eq}
 use Rattle.script_port.proofs.ListLemmas.{slice_get-changed_same, slice_get-changed_other}

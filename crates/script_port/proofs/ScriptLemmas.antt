@@ -1,5 +1,6 @@
 -- What is to open and to come is just what the lines that are left bring.
-use Rattle.std.proofs.Common.{◌≡◌, ◌≢◌, ℕ, zero, suc, ◌+◌, ◌<◌, ◌≤◌, Bool, false, List, [], ◌∷◌, ◌++◌, length, get_or, take, drop, map, Option, refl, sym, ap, ◌∙◌, arith, append_assoc, append-nil, inl, inr}
+use Rattle.std.proofs.Common.{◌≡◌, ◌≢◌, ℕ, zero, suc, ◌+◌, ◌<◌, ◌≤◌, Bool, false, List, [], ◌∷◌, ◌++◌, length, get_or, take, drop, map}
+use Rattle.std.proofs.Common.{Option, refl, sym, ap, ◌∙◌, arith, append_assoc, append-nil, inl, inr}
 use Rattle.std.proofs.lemmas.Bool.{cases_eq, cases_lt, eq-eqb}
 use Rattle.std.proofs.lemmas.Bool.Decides.{eqb_tells}
 use Rattle.std.proofs.lemmas.List.{take_at, drop_at, drop_more, drop_all}
@@ -12,9 +13,11 @@ use Rattle.script_port.specs.ScriptEnds.{end_after_line, new_end}
 use Rattle.script_port.specs.ScriptLinks.{changed, at_end, out_end, after_line, after_lines, links_of, new_ends}
 use Rattle.script_port.specs.declared.kept_line.EndLine.TheVariants as at
 use Rattle.script_port.specs.KeptLines.{kept_line}
-use Rattle.script_port.specs.ScriptKept.{state_after_line, kept_at, links_after_line, links_after_lines, no_bytes, with_links, with_bytes, with_all_bytes, line_bytes, bytes_of, Brings}
+use Rattle.script_port.specs.ScriptKept.{state_after_line, kept_at, links_after_line, links_after_lines, no_bytes, with_links, with_bytes}
+use Rattle.script_port.specs.ScriptKept.{with_all_bytes, line_bytes, bytes_of, Brings}
 use Rattle.ev_types.specs.ScriptTurn.{lines_of}
-use Rattle.script_port.proofs.ListLemmas.{length-changed, get_or-changed_same, get_or-changed_other, changed_agree, changed_none, changed_beyond}
+use Rattle.script_port.proofs.ListLemmas.{length-changed, get_or-changed_same, get_or-changed_other, changed_agree, changed_none}
+use Rattle.script_port.proofs.ListLemmas.{changed_beyond}
 
 pub bytes_here : (side : SideId) (bytes : List ℕ) (k : ℕ) → k ≡ number side → line_bytes k (line.Pending side bytes) ≡ bytes
 bytes_here side bytes k e = let t = eq-eqb (number side) k (sym e) in rw t

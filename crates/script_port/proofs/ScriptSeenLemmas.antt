@@ -1,5 +1,7 @@
 -- Behind a trace that is called for, what the script says of each end and of the links is what the script port has there.
-use Rattle.std.proofs.Common.{◌≡◌, ℕ, zero, suc, ◌+◌, ◌-◌, ◌^◌, ◌<◌, ◌≤◌, Bool, true, false, ◌==◌, ◌&&◌, ◌||◌, not, nat_le, if◌then◌else◌, List, [], ◌∷◌, ◌++◌, length, get_or, take, drop, Option, Some, None, refl, sym, ap, subst, ◌∙◌, arith, append_assoc, length-append, inl, inr}
+use Rattle.std.proofs.Common.{◌≡◌, ℕ, zero, suc, ◌+◌, ◌-◌, ◌^◌, ◌<◌, ◌≤◌, Bool, true, false, ◌==◌, ◌&&◌, ◌||◌, not, nat_le, if◌then◌else◌}
+use Rattle.std.proofs.Common.{List, [], ◌∷◌, ◌++◌, length, get_or, take, drop, Option, Some, None, refl, sym, ap, subst, ◌∙◌, arith}
+use Rattle.std.proofs.Common.{append_assoc, length-append, inl, inr}
 use Rattle.std.specs.Prelude.{sum_by, is_some}
 use Rattle.std.specs.Option.{option_map_or}
 use Rattle.std.specs.List.{flat_map, list_any}
@@ -29,7 +31,8 @@ use Rattle.relay_model.specs.Scripted as model
 use Rattle.ev_port.specs.Ends.{took_bytes}
 use Rattle.script_port.specs.ScriptState.{EndState, LinksState}
 use Rattle.script_port.specs.ScriptEnds.{read_answer, can_read, can_write, is_spurred, taken_of, write_answer, conn_answer}
-use Rattle.script_port.specs.ScriptLinks.{end_of, links_of, read_answer_at, pending_at, can_read_at, can_write_at, is_spurred_at, write_answer_at, conn_answer_at}
+use Rattle.script_port.specs.ScriptLinks.{end_of, links_of, read_answer_at, pending_at, can_read_at, can_write_at, is_spurred_at}
+use Rattle.script_port.specs.ScriptLinks.{write_answer_at, conn_answer_at}
 use Rattle.relay_model.specs.Called.{NamesOpened, OpensInOrder, IsCalledFor}
 use Rattle.script_port.specs.ScriptVouched.{decided_at, EndStands, LinksStand}
 use Rattle.script_port.specs.ScriptNow.{RunsTurn}

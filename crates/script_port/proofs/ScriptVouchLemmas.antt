@@ -1,5 +1,7 @@
 -- With each call a script port vouches for the longer trace.
-use Rattle.std.proofs.Common.{◌≡◌, ℕ, zero, suc, ◌+◌, ◌-◌, ◌*◌, ◌^◌, ◌<◌, ◌≤◌, Bool, true, false, not, if◌then◌else◌, List, [], ◌∷◌, ◌++◌, length, get_or, take, drop, map, Option, Some, None, refl, sym, ap, subst, ◌∙◌, arith, append_assoc, append-nil, length-append, length-take-le}
+use Rattle.std.proofs.Common.{◌≡◌, ℕ, zero, suc, ◌+◌, ◌-◌, ◌*◌, ◌^◌, ◌<◌, ◌≤◌, Bool, true, false, not, if◌then◌else◌, List, [], ◌∷◌, ◌++◌}
+use Rattle.std.proofs.Common.{length, get_or, take, drop, map, Option, Some, None, refl, sym, ap, subst, ◌∙◌, arith, append_assoc}
+use Rattle.std.proofs.Common.{append-nil, length-append, length-take-le}
 use Rattle.std.specs.Prelude.{count_by, slice_get, option_map}
 use Rattle.std.specs.Option.{option_map_or}
 use Rattle.std.specs.List.{flat_map}
@@ -35,8 +37,10 @@ use Rattle.ev_port.specs.Ends.{conn_events, write_events, close_write_events, cl
 use Rattle.ev_port.specs.Vouching.{LongerBy}
 use Rattle.script_port.specs.ScriptState.{EndState, LinksState, PortState}
 use Rattle.script_port.specs.ScriptEnds.{new_end, after_read, taken_of, after_write, after_check, after_close_write, after_close}
-use Rattle.script_port.specs.ScriptLinks.{end_of, at_end, new_ends, links_of, taken_at, entered, after_wants, accept_answer, accept_first, read_answer_at, pending_at, write_answer_at, WroteAt, conn_answer_at, after_lines}
-use Rattle.script_port.specs.ScriptPort.{new_port, next_turn, clock_answer, begin_turn, count_reading, after_now, after_start, poll_accepts, poll_answer, poll_marks, accept_tally, after_accept}
+use Rattle.script_port.specs.ScriptLinks.{end_of, at_end, new_ends, links_of, taken_at, entered, after_wants, accept_answer, accept_first}
+use Rattle.script_port.specs.ScriptLinks.{read_answer_at, pending_at, write_answer_at, WroteAt, conn_answer_at, after_lines}
+use Rattle.script_port.specs.ScriptPort.{new_port, next_turn, clock_answer, begin_turn, count_reading, after_now, after_start, poll_accepts}
+use Rattle.script_port.specs.ScriptPort.{poll_answer, poll_marks, accept_tally, after_accept}
 use Rattle.script_port.specs.ScriptNow.{RunsTurn}
 use Rattle.relay_model.specs.Called.{IsCalledFor}
 use Rattle.script_port.specs.ScriptVouched.{decided_at, EndStands, LinksStand, PortStands, AreUnheard, ScriptVouches}
@@ -47,7 +51,8 @@ use Rattle.script_port.proofs.ScriptTraceLemmas.{Like, like, counts_alone, like-
 use Rattle.script_port.proofs.ScriptEntryLemmas.{read_stands, check_stands, write_stands, accept_stands}
 use Rattle.script_port.proofs.ScriptSeenLemmas.{read_is, write_is, conn_is}
 use Rattle.script_port.proofs.ScriptNowLemmas.{runs-like, runs-at_end, runs-accept, runs-entered, runs-lines}
-use Rattle.script_port.proofs.ScriptQuietLemmas.{Quiet, quiet-close_write, quiet-close, quiet-unheard, unheard_is, quiet-poll, wish, poll_is, silent-turn}
+use Rattle.script_port.proofs.ScriptQuietLemmas.{Quiet, quiet-close_write, quiet-close, quiet-unheard, unheard_is, quiet-poll, wish}
+use Rattle.script_port.proofs.ScriptQuietLemmas.{poll_is, silent-turn}
 
 -- behind a trace that is called for, the port stands
 abbrev pub StandsIf : PortState → Trace → Type 0

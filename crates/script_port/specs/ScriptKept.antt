@@ -1,6 +1,7 @@
 -- How the links of a script port keep what the script has yet to bring: the links to open, and the bytes of each end,
 -- of which a line says no more than how many come in now.
-use Rattle.std.specs.Prelude.{◌≡◌, ◌≢◌, ℕ, ◌-◌, ◌^◌, ◌==◌, length, take, drop, Bool, true, if◌then◌else◌, List, [], ◌∷◌, ◌++◌, slice_index_or, ◌<◌, Option, Some, None}
+use Rattle.std.specs.Prelude.{◌≡◌, ◌≢◌, ℕ, ◌-◌, ◌^◌, ◌==◌, length, take, drop, Bool, true, if◌then◌else◌, List, [], ◌∷◌, ◌++◌}
+use Rattle.std.specs.Prelude.{slice_index_or, ◌<◌, Option, Some, None}
 use Rattle.std.specs.List.{flat_map}
 use Rattle.ev_types.specs.declared.side.SideId.{SideId}
 use Rattle.ev_types.specs.Sides.{number}

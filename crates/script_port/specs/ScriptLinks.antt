@@ -1,6 +1,7 @@
 -- What the lines of a script and the calls of a port make of the links of the script. A line or a call that names an
 -- end of no such link changes nothing.
-use Rattle.std.specs.Prelude.{◌≡◌, ◌≢◌, ℕ, ◌-◌, ◌^◌, ◌<◌, length, zero, suc, Bool, true, false, ◌&&◌, ◌||◌, not, if◌then◌else◌, List, [], ◌∷◌, ◌++◌, Option, None, slice_get}
+use Rattle.std.specs.Prelude.{◌≡◌, ◌≢◌, ℕ, ◌-◌, ◌^◌, ◌<◌, length, zero, suc, Bool, true, false, ◌&&◌, ◌||◌, not, if◌then◌else◌, List, []}
+use Rattle.std.specs.Prelude.{◌∷◌, ◌++◌, Option, None, slice_get}
 use Rattle.std.specs.Option.{option_map_or}
 use Rattle.ev_types.specs.declared.side.SideId.{SideId}
 use Rattle.ev_types.specs.declared.side.Side.TheVariants.{In, Out}
@@ -17,7 +18,8 @@ use Rattle.ev_port.specs.declared.port.Accepted.{Accepted}
 use Rattle.ev_port.specs.declared.port.Accepted.TheVariants as answer
 use Rattle.ev_port.specs.declared.port.Want.{Want}
 use Rattle.script_port.specs.ScriptState.{EndState, LinksState}
-use Rattle.script_port.specs.ScriptEnds.{new_end, end_after_line, can_read, can_write, is_spurred, read_answer, write_answer, after_write, conn_answer, accepted, wanted}
+use Rattle.script_port.specs.ScriptEnds.{new_end, end_after_line, can_read, can_write, is_spurred, read_answer, write_answer, after_write}
+use Rattle.script_port.specs.ScriptEnds.{conn_answer, accepted, wanted}
 
 -- the list with the k-th of its elements changed, where it has one
 abbrev pub changed : {S : Type 0} → ℕ → (S → S) → List S → List S

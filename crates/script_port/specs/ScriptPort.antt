@@ -13,7 +13,8 @@ use Rattle.ev_port.specs.Counting.{counted, risen_if}
 use Rattle.ev_port.specs.Polling.{is_failed_poll, opens_accepting}
 use Rattle.script_port.specs.EndTallies.{once}
 use Rattle.script_port.specs.ScriptState.{LinksState, PortState}
-use Rattle.script_port.specs.ScriptLinks.{links_of, new_links, after_lines, entered, marked, unmarked, after_wants, accept_answer, accept_first}
+use Rattle.script_port.specs.ScriptLinks.{links_of, new_links, after_lines, entered, marked, unmarked, after_wants, accept_answer}
+use Rattle.script_port.specs.ScriptLinks.{accept_first}
 
 abbrev pub no_port_calls : PortTally
 no_port_calls = record {

@@ -2,7 +2,9 @@
 // and lets fail, and what calls on it were made. Which line and which call comes to it is not its own.
 ghost use Rattle.std.specs.Prelude.{◌≡◌, ◌<◌, ◌++◌, [], length, take, drop, if◌then◌else◌, IfOk, OnErr, OnOk, IsOk};
 ghost use Rattle.ev_port.specs.Ends.{got_bytes};
-ghost use Rattle.script_port.specs.ScriptEnds.{new_end, allowed, decided, can_read, can_write, same_turn, is_spurred, end_marked, read_answer, after_read, conn_answer, after_check, accepted, after_close_write, after_close, wanted};
+ghost use Rattle.script_port.specs.ScriptEnds.{new_end, allowed, decided, can_read, can_write, same_turn, is_spurred, end_marked};
+ghost use Rattle.script_port.specs.ScriptEnds.{read_answer, after_read, conn_answer, after_check, accepted, after_close_write, after_close};
+ghost use Rattle.script_port.specs.ScriptEnds.{wanted};
 ghost use Rattle.script_port.specs.FailedCalls.{failed_read, failed_write, failed_check};
 ghost use Rattle.script_port.specs.ScriptKept.{kept_after_line, Wrote};
 ghost use Rattle.relay_model.specs.Scripted.{decided_answer};

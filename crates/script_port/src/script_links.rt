@@ -1,14 +1,17 @@
 // The links of a script port with their ends, by the number of the side. What the script brings in is known from the
 // beginning, so that its lines take no memory.
-ghost use Rattle.std.specs.Prelude.{◌≡◌, ◌<◌, ◌==◌, ◌++◌, ◌∷◌, [], length, take, drop, map, filter, not, IfOk, OnOk, Option, None, true, false, if◌then◌else◌};
+ghost use Rattle.std.specs.Prelude.{◌≡◌, ◌<◌, ◌==◌, ◌++◌, ◌∷◌, [], length, take, drop, map, filter, not, IfOk, OnOk, Option, None, true};
+ghost use Rattle.std.specs.Prelude.{false, if◌then◌else◌};
 ghost use Rattle.ev_port.specs.Ends.{got_bytes};
 ghost use Rattle.ev_port.specs.Table.{RowsStay, is_marked, named};
 ghost use Rattle.script_port.specs.ScriptEnds.{after_read, after_check, after_close_write, after_close, accepted, wanted};
-ghost use Rattle.script_port.specs.ScriptLinks.{at_end, out_end, links_of, entered, marked, unmarked, polled, after_wants, accept_answer, accept_first, read_answer_at, pending_at, WroteAt, conn_answer_at};
+ghost use Rattle.script_port.specs.ScriptLinks.{at_end, out_end, links_of, entered, marked, unmarked, polled, after_wants, accept_answer};
+ghost use Rattle.script_port.specs.ScriptLinks.{accept_first, read_answer_at, pending_at, WroteAt, conn_answer_at};
 ghost use Rattle.script_port.specs.ScriptPort.{poll_marks};
 ghost use Rattle.script_port.specs.FailedCalls.{failed_read, failed_write, failed_check};
 ghost use Rattle.script_port.specs.KeptLines.{kept_line};
-ghost use Rattle.script_port.specs.ScriptKept.{line_at, links_after_line, links_after_lines, with_links, with_bytes, with_all_bytes, TookWaiting};
+ghost use Rattle.script_port.specs.ScriptKept.{line_at, links_after_line, links_after_lines, with_links, with_bytes, with_all_bytes};
+ghost use Rattle.script_port.specs.ScriptKept.{TookWaiting};
 
 use crate::kept_line::{EndLine, KeptLine};
 use crate::script_end::ScriptEnd;

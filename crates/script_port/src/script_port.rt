@@ -5,14 +5,18 @@ ghost use Rattle.std.specs.Prelude.{◌≡◌, ◌<◌, [], true, false, length,
 ghost use Rattle.ev_port.specs.Vouching.{LongerBy, NothingWaits};
 ghost use Rattle.ev_port.specs.EndSteps.{EndsWent, AllWent, PortStays, no_step};
 ghost use Rattle.ev_port.specs.Faults.{FaultsStay, EndFaults, PollFaults, ListenerFaults};
-ghost use Rattle.ev_port.specs.Calls.{Ticked, ClockRead, is_failed_start, StartedAt, is_failed_accept, accept_events, accept_step, AcceptedLink};
+ghost use Rattle.ev_port.specs.Calls.{Ticked, ClockRead, is_failed_start, StartedAt, is_failed_accept, accept_events, accept_step};
+ghost use Rattle.ev_port.specs.Calls.{AcceptedLink};
 ghost use Rattle.ev_port.specs.Polling.{is_failed_poll, opens_accepting, AllMarked, poll_events, poll_step, PolledWith};
 ghost use Rattle.ev_port.specs.Table.{RowsStay, TablePolled, is_marked, named};
-ghost use Rattle.ev_port.specs.Ends.{is_failed_conn, conn_step, conn_events, ReadWithin, is_failed_read, got_bytes, read_step, read_events, WriteWithin, is_failed_write, write_step, write_events, close_write_events, close_events, close_write_step, close_step};
+ghost use Rattle.ev_port.specs.Ends.{is_failed_conn, conn_step, conn_events, ReadWithin, is_failed_read, got_bytes, read_step, read_events};
+ghost use Rattle.ev_port.specs.Ends.{WriteWithin, is_failed_write, write_step, write_events, close_write_events, close_events};
+ghost use Rattle.ev_port.specs.Ends.{close_write_step, close_step};
 ghost use Rattle.script_port.specs.ScriptEnds.{after_read, after_check, after_close_write, after_close};
 ghost use Rattle.script_port.specs.FailedCalls.{failed_read, failed_write, failed_check};
 ghost use Rattle.script_port.specs.ScriptLinks.{at_end, unmarked, accept_answer, read_answer_at, pending_at, WroteAt, conn_answer_at};
-ghost use Rattle.script_port.specs.ScriptPort.{new_port, next_turn, begin_turn, clock_answer, after_now, after_start, poll_answer, poll_marks, after_poll, failed_poll, accept_tally, after_accept};
+ghost use Rattle.script_port.specs.ScriptPort.{new_port, next_turn, begin_turn, clock_answer, after_now, after_start, poll_answer};
+ghost use Rattle.script_port.specs.ScriptPort.{poll_marks, after_poll, failed_poll, accept_tally, after_accept};
 ghost use Rattle.script_port.specs.ScriptTold.{ends_told, port_told, script_faults};
 ghost use Rattle.script_port.specs.ScriptVouched.{NoneWaits, ScriptVouches};
 

@@ -1,5 +1,6 @@
 -- An entry is what its line says.
-use Rattle.std.proofs.Common.{◌≡◌, ◌<◌, ◌^◌, ◌||◌, ℕ, true, false, Bool, List, [], ◌∷◌, ◌++◌, length, take, get_or, refl, ap, sym, ◌∙◌, arith, codes, Option, Some, None, length-append}
+use Rattle.std.proofs.Common.{◌≡◌, ◌<◌, ◌^◌, ◌||◌, ℕ, true, false, Bool, List, [], ◌∷◌, ◌++◌, length, take, get_or, refl, ap, sym, ◌∙◌}
+use Rattle.std.proofs.Common.{arith, codes, Option, Some, None, length-append}
 use Rattle.std.specs.Prelude.{option_map, option_and_then}
 use Rattle.std.specs.Fmt.{decimal}
 use Rattle.std.specs.Str.{bytes_eq, all_ascii_digits}
@@ -17,7 +18,8 @@ use Rattle.ev_types.specs.declared.act.Act.{Act}
 use Rattle.ev_types.specs.declared.answer.ReadAnswer.TheVariants as read
 use Rattle.ev_types.specs.declared.answer.WriteAnswer.TheVariants as write
 use Rattle.ev_types.specs.declared.entry.Entry.{Entry}
-use Rattle.ev_types.specs.declared.entry.Entry.TheVariants.{Turn, Poll, Want, Ready, PollFailed, Opened, Conn, Read, Write, Fired, Asked, Freed, CloseWrite, Close}
+use Rattle.ev_types.specs.declared.entry.Entry.TheVariants.{Turn, Poll, Want, Ready, PollFailed, Opened, Conn, Read, Write, Fired, Asked}
+use Rattle.ev_types.specs.declared.entry.Entry.TheVariants.{Freed, CloseWrite, Close}
 use Rattle.ev_types.specs.Trace.{Event}
 use Rattle.script_text.specs.Lines.{side_word, marks_word, why_word, cause_word}
 use Rattle.script_text.specs.ActLine.{act_words, ask_word}
@@ -30,7 +32,8 @@ use Rattle.ev_types.specs.declared.why.Why.{Why}
 use Rattle.ev_types.specs.declared.why.Cause.{Cause}
 use Rattle.script_text.specs.EntryGrammar.{event_said, asked_by, last_and_front, end_and_number_of}
 use Rattle.script_text.specs.TraceLaws.{IsWide, IsEnd, IsOut, IsWhy, IsCause, IsAct, IsEntry, StandBeside, AreBytes}
-use Rattle.script_text.proofs.ValueReadLemmas.{any_number-decimal, link_of-decimal, end_of-words, marks_of-word, conn_of-word, ask_of-word, why_of-word, cause_of-word, lower_bytes_of-encode_lower}
+use Rattle.script_text.proofs.ValueReadLemmas.{any_number-decimal, link_of-decimal, end_of-words, marks_of-word, conn_of-word, ask_of-word}
+use Rattle.script_text.proofs.ValueReadLemmas.{why_of-word, cause_of-word, lower_bytes_of-encode_lower}
 use Rattle.script_text.proofs.ActReadLemmas.{act_of-words}
 
 -- the words of an entry's line, with those of an ask one by one

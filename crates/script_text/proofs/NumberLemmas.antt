@@ -1,5 +1,6 @@
 -- A number as its digits are read, one after another.
-use Rattle.std.proofs.Common.{◌≡◌, ◌≢◌, ◌<◌, ◌≤◌, ◌+◌, ◌-◌, ◌*◌, ℕ, true, false, ◌&&◌, List, [], ◌∷◌, drop, length, get_or, refl, arith, inl, inr, cond, leb, Some, None, rules, tests}
+use Rattle.std.proofs.Common.{◌≡◌, ◌≢◌, ◌<◌, ◌≤◌, ◌+◌, ◌-◌, ◌*◌, ℕ, true, false, ◌&&◌, List, [], ◌∷◌, drop, length, get_or, refl, arith}
+use Rattle.std.proofs.Common.{inl, inr, cond, leb, Some, None, rules, tests}
 use Rattle.std.specs.List.{fold}
 use Rattle.std.specs.Str.{all_ascii_digits}
 use Rattle.std.proofs.lemmas.Bool.Decides.{eqb_tells}

@@ -1,5 +1,6 @@
 -- Where the first piece of a text ends.
-use Rattle.std.proofs.Common.{Some, None, ltb, ltb-true, ltb-false, cond, true, false, ◌≡◌, ◌<◌, ◌≤◌, ◌+◌, ℕ, List, [], ◌∷◌, take, drop, length, refl, arith, one-add, add-one, eqb, inl, inr}
+use Rattle.std.proofs.Common.{Some, None, ltb, ltb-true, ltb-false, cond, true, false, ◌≡◌, ◌<◌, ◌≤◌, ◌+◌, ℕ, List, [], ◌∷◌, take, drop}
+use Rattle.std.proofs.Common.{length, refl, arith, one-add, add-one, eqb, inl, inr}
 use Rattle.std.specs.List.{position_or_len, position}
 use Rattle.std.proofs.lemmas.Bool.Decides.{eqb_tells}
 use Rattle.script_text.specs.Pieces.{pieces}

@@ -1,5 +1,6 @@
 -- A text none of whose lines is for later spells a script with no limit, group, member and plan.
-use Rattle.std.proofs.Common.{◌≡◌, ◌+◌, arith, Bool, true, false, ◌||◌, not, List, [], ◌∷◌, ◌++◌, length, Option, Some, None, Result, Ok, Err, refl, ap, sym, subst, ◌∙◌, if◌then◌else◌, ◌&&◌}
+use Rattle.std.proofs.Common.{◌≡◌, ◌+◌, arith, Bool, true, false, ◌||◌, not, List, [], ◌∷◌, ◌++◌, length, Option, Some, None, Result, Ok}
+use Rattle.std.proofs.Common.{Err, refl, ap, sym, subst, ◌∙◌, if◌then◌else◌, ◌&&◌}
 use Rattle.std.specs.Prelude.{ℕ, ◌^◌, ◌-◌, min, nat_lt, IfOk, option_map, option_and_then}
 use Rattle.std.specs.List.{list_all}
 use Rattle.token_bucket.specs.declared.limit.Dir.TheVariants.{Read, Write}

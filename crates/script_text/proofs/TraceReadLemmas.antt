@@ -1,5 +1,6 @@
 -- A trace is what its text says.
-use Rattle.std.proofs.Common.{◌≡◌, ◌<◌, ◌+◌, ◌^◌, ℕ, true, false, lit<, List, [], ◌∷◌, ◌++◌, length, map, refl, ap, sym, ◌∙◌, arith, codes, Option, Some, None, Ok, Err, zero, suc, get_or, ◌-◌, append_assoc, append-nil, length-append}
+use Rattle.std.proofs.Common.{◌≡◌, ◌<◌, ◌+◌, ◌^◌, ℕ, true, false, lit<, List, [], ◌∷◌, ◌++◌, length, map, refl, ap, sym, ◌∙◌, arith, codes}
+use Rattle.std.proofs.Common.{Option, Some, None, Ok, Err, zero, suc, get_or, ◌-◌, append_assoc, append-nil, length-append}
 use Rattle.std.specs.Prelude.{option_map, IsSome}
 use Rattle.std.specs.Fmt.{decimal}
 use Rattle.hex.specs.Hex.{encode_lower}
@@ -9,7 +10,8 @@ use Rattle.ev_types.specs.declared.act.Act.TheVariants as act
 use Rattle.ev_types.specs.declared.answer.ReadAnswer.TheVariants as read
 use Rattle.ev_types.specs.declared.answer.WriteAnswer.TheVariants as write
 use Rattle.ev_types.specs.declared.entry.Entry.{Entry}
-use Rattle.ev_types.specs.declared.entry.Entry.TheVariants.{Turn, Poll, Want, Ready, PollFailed, Opened, Conn, Read, Write, Fired, Asked, Freed, CloseWrite, Close}
+use Rattle.ev_types.specs.declared.entry.Entry.TheVariants.{Turn, Poll, Want, Ready, PollFailed, Opened, Conn, Read, Write, Fired, Asked}
+use Rattle.ev_types.specs.declared.entry.Entry.TheVariants.{Freed, CloseWrite, Close}
 use Rattle.ev_types.specs.Trace.{Trace, Event}
 use Rattle.script_text.specs.Pieces.{lines, words}
 use Rattle.script_text.specs.Lines.{phrase, side_word, marks_word, why_word, cause_word}
@@ -21,8 +23,10 @@ use Rattle.script_text.specs.TraceSpelled.{trace_line_read, trace_lines_read, tr
 use Rattle.script_text.specs.Laws.{AllLack, with_ends}
 use Rattle.script_text.specs.TraceLaws.{IsWide, IsEnd, IsEntry, StandBeside, AreBytes, IsSpellable, IsFirstBadLine}
 use Rattle.script_text.proofs.LawLemmas.{lines-with_ends, words-phrase}
-use Rattle.script_text.proofs.SolidLemmas.{Solid, AreSolid, AreSolid-append, AreWords-solid, Lacks-phrase, line_of-phrase, Solid-decimal, Solid-encode_lower}
-use Rattle.script_text.proofs.ValueReadLemmas.{computed, Solid-marks_word, Solid-conn_word, Solid-ask_word, Solid-why_word, Solid-cause_word}
+use Rattle.script_text.proofs.SolidLemmas.{Solid, AreSolid, AreSolid-append, AreWords-solid, Lacks-phrase, line_of-phrase, Solid-decimal}
+use Rattle.script_text.proofs.SolidLemmas.{Solid-encode_lower}
+use Rattle.script_text.proofs.ValueReadLemmas.{computed, Solid-marks_word, Solid-conn_word, Solid-ask_word, Solid-why_word}
+use Rattle.script_text.proofs.ValueReadLemmas.{Solid-cause_word}
 use Rattle.script_text.proofs.ActReadLemmas.{AreSolid-end, AreSolid-act_words}
 use Rattle.script_text.proofs.EntryReadLemmas.{flat_words, event_said-words}
 

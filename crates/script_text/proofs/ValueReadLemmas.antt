@@ -1,5 +1,6 @@
 -- Each value is what its word says, and its word is one.
-use Rattle.std.proofs.Common.{◌≡◌, ◌<◌, ◌≤◌, ◌-◌, ◌^◌, ℕ, zero, suc, slice_index, Bool, true, false, ◌||◌, le-leb, lit<, List, [], ◌∷◌, length, refl, ap, ◌∙◌, arith, codes, Option, Some}
+use Rattle.std.proofs.Common.{◌≡◌, ◌<◌, ◌≤◌, ◌-◌, ◌^◌, ℕ, zero, suc, slice_index, Bool, true, false, ◌||◌, le-leb, lit<, List, [], ◌∷◌}
+use Rattle.std.proofs.Common.{length, refl, ap, ◌∙◌, arith, codes, Option, Some}
 use Rattle.std.specs.Prelude.{option_map, option_and_then}
 use Rattle.std.specs.List.{list_all}
 use Rattle.std.specs.Fmt.{decimal}

@@ -3,7 +3,8 @@ use Rattle.std.specs.Prelude.{ℕ, List, [], ◌∷◌, codes, Option, Some, Non
 use Rattle.std.specs.Fmt.{decimal}
 use Rattle.token_bucket.specs.declared.limit.LimitCfg.{LimitCfg}
 use Rattle.ev_types.specs.declared.act.Act.{Act}
-use Rattle.ev_types.specs.declared.act.Act.TheVariants.{Free, Enable, Disable, Marks, Timeouts, Rate, Join, Leave, Trigger, Timer, Cancel, Incref, Decref, Stop}
+use Rattle.ev_types.specs.declared.act.Act.TheVariants.{Free, Enable, Disable, Marks, Timeouts, Rate, Join, Leave, Trigger, Timer, Cancel}
+use Rattle.ev_types.specs.declared.act.Act.TheVariants.{Incref, Decref, Stop}
 use Rattle.ev_types.specs.declared.answer.AskAnswer.{AskAnswer}
 use Rattle.ev_types.specs.declared.answer.AskAnswer.TheVariants as answer
 use Rattle.script_text.specs.Lines.{side_word, dir_word}

@@ -1,5 +1,6 @@
 -- What a line of a trace says, by cases on its words: an entry with the bytes beside it.
-use Rattle.std.specs.Prelude.{ℕ, List, [], ◌∷◌, codes, length, take, slice_index_or, true, false, if◌then◌else◌, Option, Some, None, option_map}
+use Rattle.std.specs.Prelude.{ℕ, List, [], ◌∷◌, codes, length, take, slice_index_or, true, false, if◌then◌else◌, Option, Some, None}
+use Rattle.std.specs.Prelude.{option_map}
 use Rattle.std.specs.Str.{bytes_eq}
 use Rattle.ev_types.specs.declared.side.Side.TheVariants.{Out}
 use Rattle.ev_types.specs.declared.side.SideId.{SideId}

@@ -1,5 +1,6 @@
 -- What a line says, by cases on its words. Which lines may stand behind which stands elsewhere.
-use Rattle.std.specs.Prelude.{ℕ, ◌^◌, ◌-◌, List, [], ◌∷◌, ◌==◌, codes, Bool, true, false, if◌then◌else◌, nat_lt, Option, Some, None, option_map, option_and_then}
+use Rattle.std.specs.Prelude.{ℕ, ◌^◌, ◌-◌, List, [], ◌∷◌, ◌==◌, codes, Bool, true, false, if◌then◌else◌, nat_lt, Option, Some, None}
+use Rattle.std.specs.Prelude.{option_map, option_and_then}
 use Rattle.std.specs.Str.{bytes_eq}
 use Rattle.ev_types.specs.declared.side.Side.{Side}
 use Rattle.ev_types.specs.declared.side.Side.TheVariants.{In, Out}
@@ -16,7 +17,8 @@ use Rattle.script_text.specs.ValueGrammar.{◌>>=◌}
 use Rattle.ev_types.specs.declared.turn_line.TurnLine.{TurnLine}
 use Rattle.ev_types.specs.declared.turn_line.TurnLine.TheVariants as turn
 use Rattle.script_text.specs.declared.line.Keyword.{Keyword}
-use Rattle.script_text.specs.declared.line.Keyword.TheVariants.{Set, At, Open, Conn, Pending, Eof, ReadFail, Take, WriteFail, Spur, PollFail, On}
+use Rattle.script_text.specs.declared.line.Keyword.TheVariants.{Set, At, Open, Conn, Pending, Eof, ReadFail, Take, WriteFail, Spur}
+use Rattle.script_text.specs.declared.line.Keyword.TheVariants.{PollFail, On}
 use Rattle.script_text.specs.declared.setting.Setting.{Setting}
 use Rattle.script_text.specs.declared.setting.Setting.TheVariants as setting
 use Rattle.script_text.specs.declared.setting.SettingName.{SettingName}

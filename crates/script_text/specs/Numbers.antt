@@ -1,5 +1,6 @@
 -- The numbers and the bytes that a word spells.
-use Rattle.std.specs.Prelude.{ℕ, ◌+◌, ◌-◌, ◌*◌, ◌^◌, List, [], ◌∷◌, ◌==◌, ◌&&◌, not, Bool, false, if◌then◌else◌, nat_le, length, fold, Option, Some, None}
+use Rattle.std.specs.Prelude.{ℕ, ◌+◌, ◌-◌, ◌*◌, ◌^◌, List, [], ◌∷◌, ◌==◌, ◌&&◌, not, Bool, false, if◌then◌else◌, nat_le, length, fold}
+use Rattle.std.specs.Prelude.{Option, Some, None}
 use Rattle.std.specs.Result.{result_ok}
 use Rattle.std.specs.Str.{all_ascii_digits}
 use Rattle.hex.specs.Hex.{decode_of}

@@ -1,5 +1,6 @@
 -- Which line may stand behind which: what the lines so far say of links and ends, and what they leave room for.
-use Rattle.std.specs.Prelude.{ℕ, List, [], ◌∷◌, ◌++◌, ◌==◌, ◌&&◌, ◌||◌, not, Bool, true, false, if◌then◌else◌, nat_lt, length, slice_index_or, Option, Some, None, option_map}
+use Rattle.std.specs.Prelude.{ℕ, List, [], ◌∷◌, ◌++◌, ◌==◌, ◌&&◌, ◌||◌, not, Bool, true, false, if◌then◌else◌, nat_lt, length}
+use Rattle.std.specs.Prelude.{slice_index_or, Option, Some, None, option_map}
 use Rattle.std.specs.List.{list_any, flat_map}
 use Rattle.ev_types.specs.Sides.{number}
 use Rattle.ev_types.specs.declared.side.SideId.{SideId}

@@ -1,5 +1,6 @@
 -- The script that a text spells, or the first line that is not in the grammar.
-use Rattle.std.specs.Prelude.{◌≡◌, ℕ, ◌+◌, ◌-◌, ◌^◌, ⊤, min, List, [], ◌∷◌, ◌&&◌, Bool, if◌then◌else◌, nat_le, Option, Some, None, option_and_then, Result, Ok, Err}
+use Rattle.std.specs.Prelude.{◌≡◌, ℕ, ◌+◌, ◌-◌, ◌^◌, ⊤, min, List, [], ◌∷◌, ◌&&◌, Bool, if◌then◌else◌, nat_le, Option, Some, None}
+use Rattle.std.specs.Prelude.{option_and_then, Result, Ok, Err}
 use Rattle.std.specs.List.{list_all}
 use Rattle.script_text.specs.Given.{nothing_given}
 use Rattle.script_text.specs.Script.{ScriptValue, SoFar, whole}

@@ -9,7 +9,8 @@ use Rattle.ev_types.specs.declared.answer.ReadAnswer.TheVariants as read
 use Rattle.ev_types.specs.declared.answer.WriteAnswer.{WriteAnswer}
 use Rattle.ev_types.specs.declared.answer.WriteAnswer.TheVariants as write
 use Rattle.ev_types.specs.declared.entry.Entry.{Entry}
-use Rattle.ev_types.specs.declared.entry.Entry.TheVariants.{Turn, Poll, Want, Ready, PollFailed, Opened, Conn, Read, Write, Fired, Asked, Freed, CloseWrite, Close}
+use Rattle.ev_types.specs.declared.entry.Entry.TheVariants.{Turn, Poll, Want, Ready, PollFailed, Opened, Conn, Read, Write, Fired, Asked}
+use Rattle.ev_types.specs.declared.entry.Entry.TheVariants.{Freed, CloseWrite, Close}
 use Rattle.ev_types.specs.Trace.{Trace}
 use Rattle.script_text.specs.Lines.{phrase, line_of, side_word, marks_word, why_word, cause_word}
 use Rattle.script_text.specs.ActLine.{act_words, ask_word}

@@ -1,5 +1,6 @@
 -- What single words of a trace say, by cases. They are those that a trace spells for its values.
-use Rattle.std.specs.Prelude.{ℕ, List, [], ◌∷◌, ◌&&◌, not, codes, length, take, drop, Bool, true, false, if◌then◌else◌, nat_le, Option, Some, None, option_and_then}
+use Rattle.std.specs.Prelude.{ℕ, List, [], ◌∷◌, ◌&&◌, not, codes, length, take, drop, Bool, true, false, if◌then◌else◌, nat_le, Option}
+use Rattle.std.specs.Prelude.{Some, None, option_and_then}
 use Rattle.std.specs.List.{list_all}
 use Rattle.std.specs.Result.{result_ok}
 use Rattle.std.specs.Str.{bytes_eq}

@@ -2,7 +2,8 @@
 ghost use Rattle.std.specs.Prelude.{◌≡◌, ◌^◌, ◌≤◌, map, IfSome};
 ghost use Rattle.script_text.specs.ValueGrammar.{only_dir, only_number};
 ghost use Rattle.script_text.specs.Limits.{limit_of, limit_said};
-ghost use Rattle.script_text.specs.ActGrammar.{bare as bare_ask, marks_ask, timeouts_ask, rate_ask, verb_of, ask_by, act_of, is_written, is_nop, planned_ask};
+ghost use Rattle.script_text.specs.ActGrammar.{bare as bare_ask, marks_ask, timeouts_ask, rate_ask, verb_of, ask_by, act_of, is_written};
+ghost use Rattle.script_text.specs.ActGrammar.{is_nop, planned_ask};
 
 use crate::value_words::{read_dir, read_end};
 use crate::words::{MAX_NUMBER, is_word, number};

@@ -1,6 +1,9 @@
 // Reads a line of a trace: an entry with the bytes beside it.
 ghost use Rattle.std.specs.Prelude.{◌≡◌, ◌∷◌, [], IfOk, map, option_map};
-ghost use Rattle.script_text.specs.EntryGrammar.{kind_of, turn_said, poll_said, want_said, ready_said, poll_failed_said, opened_said, conn_said, end_and_number_of, got_said, read_said, took_said, write_said, fired_said, last_and_front, asked_by, asked_said, freed_said, close_write_said, close_said, alone as alone_of, event_by, event_said};
+ghost use Rattle.script_text.specs.EntryGrammar.{kind_of, turn_said, poll_said, want_said, ready_said, poll_failed_said, opened_said};
+ghost use Rattle.script_text.specs.EntryGrammar.{conn_said, end_and_number_of, got_said, read_said, took_said, write_said, fired_said};
+ghost use Rattle.script_text.specs.EntryGrammar.{last_and_front, asked_by, asked_said, freed_said, close_write_said, close_said};
+ghost use Rattle.script_text.specs.EntryGrammar.{alone as alone_of, event_by, event_said};
 
 use crate::ByteList;
 use crate::act_words::read_act;

@@ -2,7 +2,8 @@
 ghost use Rattle.std.specs.Prelude.{◌≡◌, IfOk, option_map};
 ghost use Rattle.script_text.specs.FilterNames.{filter_kind_of};
 ghost use Rattle.script_text.specs.Ends.{side_of, link_of, end_of};
-ghost use Rattle.script_text.specs.ValueGrammar.{dir_of, lower_bytes_of, is_no_capital, rest_behind, marks_of, conn_of, read_of, write_of, event_of, why_of, filter_of, cause_of, ask_of};
+ghost use Rattle.script_text.specs.ValueGrammar.{dir_of, lower_bytes_of, is_no_capital, rest_behind, marks_of, conn_of, read_of, write_of};
+ghost use Rattle.script_text.specs.ValueGrammar.{event_of, why_of, filter_of, cause_of, ask_of};
 ghost use Rattle.std.specs.List.{list_all};
 
 use crate::words::{is_word, number};

@@ -1,5 +1,6 @@
 -- A step that runs, and then stops or finishes or neither.
-use Rattle.std.proofs.Common.{◌≡◌, ℕ, ◌+◌, ◌-◌, ◌≤◌, Bool, true, false, min, nat_le, leb-true, leb-false, refl, ◌||◌, ◌==◌, if◌then◌else◌, List, [], ◌++◌, length, take, Option, None, sym, ◌∙◌, ap, arith, append_assoc, length-append}
+use Rattle.std.proofs.Common.{◌≡◌, ℕ, ◌+◌, ◌-◌, ◌≤◌, Bool, true, false, min, nat_le, leb-true, leb-false, refl, ◌||◌, ◌==◌, if◌then◌else◌}
+use Rattle.std.proofs.Common.{List, [], ◌++◌, length, take, Option, None, sym, ◌∙◌, ap, arith, append_assoc, length-append}
 use Rattle.std.specs.Prelude.{nat_lt, is_some, max}
 use Rattle.ev_types.specs.declared.filter.FilterKind.{FilterKind}
 use Rattle.filter_model.specs.Running.{Running}

@@ -1,5 +1,6 @@
 -- How a step of a filter answers.
-use Rattle.std.specs.Prelude.{◌≡◌, ℕ, ◌+◌, ◌-◌, min, nat_le, if◌then◌else◌, ◌^◌, Bool, true, false, not, ◌&&◌, ◌||◌, nat_lt, List, ◌++◌, take, Some, None, is_some, Result, Ok, Err}
+use Rattle.std.specs.Prelude.{◌≡◌, ℕ, ◌+◌, ◌-◌, min, nat_le, if◌then◌else◌, ◌^◌, Bool, true, false, not, ◌&&◌, ◌||◌, nat_lt, List, ◌++◌}
+use Rattle.std.specs.Prelude.{take, Some, None, is_some, Result, Ok, Err}
 use Rattle.ev_types.specs.declared.filter.FilterKind.{FilterKind}
 use Rattle.ev_types.specs.declared.filter.Mode.{Mode}
 use Rattle.ev_types.specs.declared.filter.Mode.TheVariants as mode_of

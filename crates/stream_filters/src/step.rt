@@ -1,9 +1,11 @@
 // One step of a running filter of any kind: its run, part by part, and its end.
-ghost use Rattle.std.specs.Prelude.{◌≡◌, ◌≤◌, ◌<◌, ◌+◌, ◌^◌, ◌++◌, ◌==◌, [], ⊤, true, false, if◌then◌else◌, nat_lt, ℕ, max, None, length, take, drop, min, OnOk, OnErr, vec_len, vec_capacity, ◌-◌, ◌⊎◌};
+ghost use Rattle.std.specs.Prelude.{◌≡◌, ◌≤◌, ◌<◌, ◌+◌, ◌^◌, ◌++◌, ◌==◌, [], ⊤, true, false, if◌then◌else◌, nat_lt, ℕ, max, None, length};
+ghost use Rattle.std.specs.Prelude.{take, drop, min, OnOk, OnErr, vec_len, vec_capacity, ◌-◌, ◌⊎◌};
 ghost use Rattle.ev_types.specs.declared.filter.FilterKind.TheVariants as kind_of;
 ghost use Rattle.ev_types.specs.declared.filter.Mode.TheVariants as mode_of;
 ghost use Rattle.filter_model.specs.FilterRun.{is_end_bad as end_is_bad, holds_byte as byte_is_held, end_adds};
-ghost use Rattle.filter_model.specs.FilterStep.{stepped, ending, stop_place as place_of_stop, is_finished, after_bytes, most_made as most_of};
+ghost use Rattle.filter_model.specs.FilterStep.{stepped, ending, stop_place as place_of_stop, is_finished, after_bytes};
+ghost use Rattle.filter_model.specs.FilterStep.{most_made as most_of};
 ghost use Rattle.stream_filters.specs.Knowledge.{running_of, IsDigitLast};
 ghost use Rattle.stream_filters.specs.Parts.{HasRoom, RanOver};
 ghost use Rattle.stream_filters.specs.StepAnswers.{most_by_step, Answers, AnswersInPlace, is_last, is_spent, says_spent, WasMade};

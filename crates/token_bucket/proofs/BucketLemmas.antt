@@ -1,5 +1,6 @@
 -- What a bucket keeps in one direction, over lists of calls.
-use Rattle.std.proofs.Common.{◌≡◌, ◌∙◌, inl, inr, ℕ, zero, suc, ◌+◌, ◌-◌, ◌*◌, ◌/◌, ◌<◌, ◌≤◌, min, List, [], ◌∷◌, refl, sym, ap, subst, arith}
+use Rattle.std.proofs.Common.{◌≡◌, ◌∙◌, inl, inr, ℕ, zero, suc, ◌+◌, ◌-◌, ◌*◌, ◌/◌, ◌<◌, ◌≤◌, min, List, [], ◌∷◌, refl, sym, ap, subst}
+use Rattle.std.proofs.Common.{arith}
 use Rattle.std.specs.Prelude.{max, if◌then◌else◌}
 use Rattle.std.proofs.lemmas.Bool.Decides.{eqb_tells}
 use Rattle.std.proofs.lemmas.List.Sums.{sum_by-cons}
@@ -7,7 +8,8 @@ use Rattle.std.proofs.Math.Nat.{mul-le-mul_left, mul-add}
 use Rattle.token_bucket.specs.declared.level.Level.{Level}
 use Rattle.token_bucket.specs.Levels.{Limit, with_ticks, refilled, less, held, owed}
 use Rattle.token_bucket.specs.Spells.{Spell, moved_in, since_each, least_with, Beat, Begins, Moves, moved_first, spells, moved_over}
-use Rattle.token_bucket.specs.BucketLaws.{Kept, after_beat, after_beats, kept_at, LevelIsLeast, ChangeKeepsLess, WithinAllowance, LetsThroughAtMost}
+use Rattle.token_bucket.specs.BucketLaws.{Kept, after_beat, after_beats, kept_at, LevelIsLeast, ChangeKeepsLess, WithinAllowance}
+use Rattle.token_bucket.specs.BucketLaws.{LetsThroughAtMost}
 
 -- how short a bucket is once so many ticks began
 abbrev pub short_after : Limit → ℕ → ℕ → ℕ

@@ -1,11 +1,13 @@
 // Calls for one who keeps track himself of what is live, and says by himself what is due. They ask for a known number, look at no
 // liveness, and make nothing due. Those that copy or move bytes have room that was made before, so that none is refused then.
-ghost use Rattle.std.specs.Prelude.{◌≡◌, ◌≢◌, ◌≤◌, ◌<◌, ◌+◌, ◌-◌, ◌^◌, [], true, false, Some, length, slice_index_or, slice_set, OnOk, OnErr, IfOk, IfSome, vec_capacity};
+ghost use Rattle.std.specs.Prelude.{◌≡◌, ◌≢◌, ◌≤◌, ◌<◌, ◌+◌, ◌-◌, ◌^◌, [], true, false, Some, length, slice_index_or, slice_set, OnOk};
+ghost use Rattle.std.specs.Prelude.{OnErr, IfOk, IfSome, vec_capacity};
 ghost use Rattle.stream_filters.specs.StepAnswers.{most_by_step};
 ghost use Rattle.bev_core.specs.Steps.{held, with_enabled, with_marks, with_timeouts, touched, less, ended_at, failed_at};
 ghost use Rattle.bev_filter.specs.Passing.{Crossed, stepping};
 ghost use Rattle.bev_filter.specs.StepRoom.{HasStepRoom, HasRoomFor, IsCounted};
-ghost use Rattle.bev_world.specs.ByNumber.{filter_of, with_spare_in, fed_with_spare, roomless, dropped, target_of, crossed_at, SlotsWent, output_swapped, input_swapped, swapped_across};
+ghost use Rattle.bev_world.specs.ByNumber.{filter_of, with_spare_in, fed_with_spare, roomless, dropped, target_of, crossed_at, SlotsWent};
+ghost use Rattle.bev_world.specs.ByNumber.{output_swapped, input_swapped, swapped_across};
 ghost use Rattle.bev_world.specs.FilterSlots.{slots_crossing};
 ghost use Rattle.bev_world.specs.Filters.{crossing, under_of};
 ghost use Rattle.bev_world.specs.WorldValue.{no_slot, slot_at, bev_at, with_bev};

@@ -1,9 +1,11 @@
 // Bytes that are written to a bufferevent and taken from it, and what then goes from one half of a pair to the other.
-ghost use Rattle.std.specs.Prelude.{◌≡◌, ◌≢◌, ◌≤◌, ◌<◌, ◌++◌, ◌&&◌, nat_lt, true, None, Some, length, min, take, drop, OnOk, OnErr, IfOk, IfSome};
+ghost use Rattle.std.specs.Prelude.{◌≡◌, ◌≢◌, ◌≤◌, ◌<◌, ◌++◌, ◌&&◌, nat_lt, true, None, Some, length, min, take, drop, OnOk, OnErr, IfOk};
+ghost use Rattle.std.specs.Prelude.{IfSome};
 ghost use Rattle.evbuf_chain.specs.Answers.{AnswersOr, fault_of};
 ghost use Rattle.bev_core.specs.BevValue.{new_bev, reaches_low};
 ghost use Rattle.bev_world.specs.declared.fault.WorldFault.TheVariants.{Memory};
-ghost use Rattle.bev_world.specs.Halves.{WrittenTo, TakenFrom, Roomier, with_spare, passed_on, appended, shortened, other_half, count_with, count_without, half_refusal, back_refusal, write_refusal, take_refusal};
+ghost use Rattle.bev_world.specs.Halves.{WrittenTo, TakenFrom, Roomier, with_spare, passed_on, appended, shortened, other_half, count_with};
+ghost use Rattle.bev_world.specs.Halves.{count_without, half_refusal, back_refusal, write_refusal, take_refusal};
 ghost use Rattle.bev_world.specs.Refusals.{length_fault};
 ghost use Rattle.bev_world.specs.Went.{Went};
 ghost use Rattle.bev_world.specs.WorldValue.{bev_at, is_live};

@@ -4,7 +4,8 @@ use Rattle.std.proofs.lemmas.List.Elements.{filter-append}
 use Rattle.ev_port.specs.declared.port.Want.{Want}
 use Rattle.ev_port.specs.Marking.{marks_by, after_marks}
 use Rattle.ev_port.specs.Table.{is_marked, row_by, rows_before}
-use Rattle.ev_port.proofs.MarkLemmas.{after-more, either-within, length-one, marks-more, rows-all, rows-found, walk-behind, walk-end, walk-from, walk-next}
+use Rattle.ev_port.proofs.MarkLemmas.{after-more, either-within, length-one, marks-more, rows-all, rows-found, walk-behind, walk-end}
+use Rattle.ev_port.proofs.MarkLemmas.{walk-from, walk-next}
 use Rattle.ev_port.proofs.table.mark_rows.Goals as goal
 
 pub row_of-requires : goal.row_of-requires

@@ -1,4 +1,5 @@
-use Rattle.std.proofs.Common.{◌≡◌, ◌≤◌, ◌<◌, ◌+◌, ◌-◌, ◌^◌, length, take, drop, ℕ, List, arith, sym, ap, ◌∙◌, length-take, length-drop, drop-drop}
+use Rattle.std.proofs.Common.{◌≡◌, ◌≤◌, ◌<◌, ◌+◌, ◌-◌, ◌^◌, length, take, drop, ℕ, List, arith, sym, ap, ◌∙◌, length-take, length-drop}
+use Rattle.std.proofs.Common.{drop-drop}
 use Rattle.evbuf_scan.specs.Ends.{run_length}
 use Rattle.evbuf_scan.proofs.EndLemmas.{run_length-within, run_length-take, run_length-drop}
 use Rattle.evbuf_scan.proofs.look.length_of_run.Goals as goal

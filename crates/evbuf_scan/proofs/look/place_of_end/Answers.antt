@@ -1,4 +1,5 @@
-use Rattle.std.proofs.Common.{◌≡◌, ◌≤◌, ◌<◌, ◌+◌, ◌-◌, ◌^◌, length, take, drop, ℕ, List, Some, None, arith, sym, ap, ◌∙◌, length-take, length-drop, drop-drop}
+use Rattle.std.proofs.Common.{◌≡◌, ◌≤◌, ◌<◌, ◌+◌, ◌-◌, ◌^◌, length, take, drop, ℕ, List, Some, None, arith, sym, ap, ◌∙◌, length-take}
+use Rattle.std.proofs.Common.{length-drop, drop-drop}
 use Rattle.evbuf_scan.specs.Place.{first_place}
 use Rattle.evbuf_scan.specs.Ends.{is_end}
 use Rattle.evbuf_scan.proofs.PlaceLemmas.{first_place-at, first_place-short, first_place-full, first_place-found}

@@ -15,7 +15,8 @@ use Rattle.relay_drive.proofs.CalmLemmas.{same}
 use Rattle.relay_drive.proofs.TiedLemmas.{all_ends, poll_says}
 use Rattle.relay_drive.proofs.KnownLemmas.{poll_still, known_ready, known_failed}
 use Rattle.relay_drive.proofs.LinkParts.{ready_events-filter}
-use Rattle.relay_drive.proofs.PollLemmas.{want_events-marked, length-want_events, length-marked, Heard-poll, Heard-failed_poll, counted_three}
+use Rattle.relay_drive.proofs.PollLemmas.{want_events-marked, length-want_events, length-marked, Heard-poll, Heard-failed_poll}
+use Rattle.relay_drive.proofs.PollLemmas.{counted_three}
 use Rattle.relay_drive.proofs.poll.ask_poll.Goals as goal
 
 pub returns-in-Ready-clause-went : goal.returns-in-Ready-clause-went

@@ -4,7 +4,8 @@ use Rattle.ev_types.specs.Trace.{Trace}
 use Rattle.relay_state.specs.State.{State}
 use Rattle.relay_drive.specs.Steps.{Then, Each, CutAt}
 use Rattle.relay_drive.specs.Calls.{Ticks}
-use Rattle.relay_drive.specs.Phases.{TicksOnce, ForAllLinks, CutForAllLinks, PassesLink, CutPassingLink, CutTurn, PollsAndAccepts, ServesSide, CutServing}
+use Rattle.relay_drive.specs.Phases.{TicksOnce, ForAllLinks, CutForAllLinks, PassesLink, CutPassingLink, CutTurn, PollsAndAccepts}
+use Rattle.relay_drive.specs.Phases.{ServesSide, CutServing}
 use Rattle.relay_drive.proofs.GoesLemmas.{Known, goes_as, goes_knowing, goes_then, goes_within}
 use Rattle.std.specs.Prelude.{Bool, Option, List}
 use Rattle.ev_types.specs.declared.side.SideId.{SideId}

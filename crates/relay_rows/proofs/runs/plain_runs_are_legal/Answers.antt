@@ -1,4 +1,6 @@
-use Rattle.relay_rows.proofs.PlainRowsReplayed.{bytes_then_end-goes, nothing_may_be_written-goes, byte_by_byte-goes, write_that_fails-goes, request_and_answer-goes, connect_that_fails-goes, drained_at_the_end-goes, time_stands_still-goes, poll_that_fails-fails}
+use Rattle.relay_rows.proofs.PlainRowsReplayed.{bytes_then_end-goes, nothing_may_be_written-goes, byte_by_byte-goes, write_that_fails-goes}
+use Rattle.relay_rows.proofs.PlainRowsReplayed.{request_and_answer-goes, connect_that_fails-goes, drained_at_the_end-goes}
+use Rattle.relay_rows.proofs.PlainRowsReplayed.{time_stands_still-goes, poll_that_fails-fails}
 use Rattle.relay_rows.proofs.runs.plain_runs_are_legal.Goals as goal
 
 pub returns-clause-bytes_then_end : goal.returns-clause-bytes_then_end

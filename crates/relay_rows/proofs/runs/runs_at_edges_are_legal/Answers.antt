@@ -1,4 +1,7 @@
-use Rattle.relay_rows.proofs.EdgeRowsReplayed.{read_filter_stops_at_the_mark-goes, bad_byte_while_held-goes, writing_is_activity-goes, rest_given_after_a_free-goes, both_end_at_once-goes, ended_before_it_connects-goes, nothing_was_ready-goes, bad_byte_behind_the_mark-goes, connects_too_late-goes, failed_and_expired-goes}
+use Rattle.relay_rows.proofs.EdgeRowsReplayed.{read_filter_stops_at_the_mark-goes, bad_byte_while_held-goes, writing_is_activity-goes}
+use Rattle.relay_rows.proofs.EdgeRowsReplayed.{rest_given_after_a_free-goes, both_end_at_once-goes, ended_before_it_connects-goes}
+use Rattle.relay_rows.proofs.EdgeRowsReplayed.{nothing_was_ready-goes, bad_byte_behind_the_mark-goes, connects_too_late-goes}
+use Rattle.relay_rows.proofs.EdgeRowsReplayed.{failed_and_expired-goes}
 use Rattle.relay_rows.proofs.runs.runs_at_edges_are_legal.Goals as goal
 
 pub returns-clause-rest_given_after_a_free : goal.returns-clause-rest_given_after_a_free

@@ -1,4 +1,6 @@
-use Rattle.relay_rows.proofs.AskRowsReplayed.{no_end_behind_a_free-goes, end_and_fault_told-goes, connected_and_written-goes, two_timeouts_joined-goes, low_mark_reached-goes, writing_disabled_for_a_turn-goes, asks_refused-goes, triggered-goes, limit_asked_for-goes}
+use Rattle.relay_rows.proofs.AskRowsReplayed.{no_end_behind_a_free-goes, end_and_fault_told-goes, connected_and_written-goes}
+use Rattle.relay_rows.proofs.AskRowsReplayed.{two_timeouts_joined-goes, low_mark_reached-goes, writing_disabled_for_a_turn-goes}
+use Rattle.relay_rows.proofs.AskRowsReplayed.{asks_refused-goes, triggered-goes, limit_asked_for-goes}
 use Rattle.relay_rows.proofs.runs.runs_of_asks_are_legal.Goals as goal
 
 pub returns-clause-end_and_fault_told : goal.returns-clause-end_and_fault_told

@@ -1,4 +1,5 @@
-use Rattle.relay_rows.proofs.MarkRowsReplayed.{marks_asked_for-goes, write_low_mark_reached-goes, timers_in_order-goes, enabled_behind_the_end-goes, reading_disabled-goes}
+use Rattle.relay_rows.proofs.MarkRowsReplayed.{marks_asked_for-goes, write_low_mark_reached-goes, timers_in_order-goes}
+use Rattle.relay_rows.proofs.MarkRowsReplayed.{enabled_behind_the_end-goes, reading_disabled-goes}
 use Rattle.relay_rows.proofs.runs.runs_of_marks_are_legal.Goals as goal
 
 pub returns-clause-marks_asked_for : goal.returns-clause-marks_asked_for

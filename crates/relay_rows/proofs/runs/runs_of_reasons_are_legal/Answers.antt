@@ -1,4 +1,7 @@
-use Rattle.relay_rows.proofs.ReasonRowsReplayed.{suspended_without_members-goes, reasons_in_order-goes, first_due_first_fired-goes, asks_behind_a_stop-is_stopped, forgotten_with_the_side-goes, timer_replaced_and_cancelled-goes, timeout_asked_for-goes, group_joined_and_left-goes, limit_changed-goes}
+use Rattle.relay_rows.proofs.ReasonRowsReplayed.{suspended_without_members-goes, reasons_in_order-goes, first_due_first_fired-goes}
+use Rattle.relay_rows.proofs.ReasonRowsReplayed.{asks_behind_a_stop-is_stopped, forgotten_with_the_side-goes}
+use Rattle.relay_rows.proofs.ReasonRowsReplayed.{timer_replaced_and_cancelled-goes, timeout_asked_for-goes, group_joined_and_left-goes}
+use Rattle.relay_rows.proofs.ReasonRowsReplayed.{limit_changed-goes}
 use Rattle.relay_rows.proofs.runs.runs_of_reasons_are_legal.Goals as goal
 
 pub returns-clause-reasons_in_order : goal.returns-clause-reasons_in_order

@@ -1,4 +1,6 @@
-use Rattle.relay_rows.proofs.FilterRowsReplayed.{held_and_drained-goes, line_end_in_two_reads-goes, held_to_the_end-goes, line_ends_added-goes, line_end_kept-goes, odd_digit-goes, no_digit-goes, held_back-goes, read_mark_reached-goes}
+use Rattle.relay_rows.proofs.FilterRowsReplayed.{held_and_drained-goes, line_end_in_two_reads-goes, held_to_the_end-goes}
+use Rattle.relay_rows.proofs.FilterRowsReplayed.{line_ends_added-goes, line_end_kept-goes, odd_digit-goes, no_digit-goes, held_back-goes}
+use Rattle.relay_rows.proofs.FilterRowsReplayed.{read_mark_reached-goes}
 use Rattle.relay_rows.proofs.runs.runs_with_filters_are_legal.Goals as goal
 
 pub returns-clause-line_end_in_two_reads : goal.returns-clause-line_end_in_two_reads

@@ -1,4 +1,5 @@
-use Rattle.relay_rows.proofs.HookRowsReplayed.{reading_is_activity-goes, held_byte_dropped-goes, frees_another_link-goes, frees_the_peer_twice-goes, read_timeout-goes, timer_fires-goes, hook_stops-is_stopped}
+use Rattle.relay_rows.proofs.HookRowsReplayed.{reading_is_activity-goes, held_byte_dropped-goes, frees_another_link-goes}
+use Rattle.relay_rows.proofs.HookRowsReplayed.{frees_the_peer_twice-goes, read_timeout-goes, timer_fires-goes, hook_stops-is_stopped}
 use Rattle.relay_rows.proofs.runs.runs_with_hooks_are_legal.Goals as goal
 
 pub returns-clause-held_byte_dropped : goal.returns-clause-held_byte_dropped

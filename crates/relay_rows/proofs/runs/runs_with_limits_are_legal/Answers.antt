@@ -1,4 +1,5 @@
-use Rattle.relay_rows.proofs.RateRowsReplayed.{share_lowered_to_the_rate-goes, written_in_ticks-goes, suspended_for_two_ticks-goes, read_in_ticks-goes, shared_by_three-goes}
+use Rattle.relay_rows.proofs.RateRowsReplayed.{share_lowered_to_the_rate-goes, written_in_ticks-goes, suspended_for_two_ticks-goes}
+use Rattle.relay_rows.proofs.RateRowsReplayed.{read_in_ticks-goes, shared_by_three-goes}
 use Rattle.relay_rows.proofs.runs.runs_with_limits_are_legal.Goals as goal
 
 pub returns-clause-read_in_ticks : goal.returns-clause-read_in_ticks

@@ -1,4 +1,6 @@
-use Rattle.relay_rows.proofs.WrongRowsRefused.{writing_ended_early-is_wrong, peer_gone_without_cause-is_wrong, done_too_early-is_wrong, output_of_a_freed_side_dropped-is_wrong, freed_twice-is_wrong, live_end_closed-is_wrong, wrong_cause-is_wrong}
+use Rattle.relay_rows.proofs.WrongRowsRefused.{writing_ended_early-is_wrong, peer_gone_without_cause-is_wrong, done_too_early-is_wrong}
+use Rattle.relay_rows.proofs.WrongRowsRefused.{output_of_a_freed_side_dropped-is_wrong, freed_twice-is_wrong, live_end_closed-is_wrong}
+use Rattle.relay_rows.proofs.WrongRowsRefused.{wrong_cause-is_wrong}
 use Rattle.relay_rows.proofs.wrong.wrong_closing_is_refused.Goals as goal
 
 pub returns-clause-writing_ended_early : goal.returns-clause-writing_ended_early

@@ -1,4 +1,11 @@
-use Rattle.relay_rows.proofs.WrongEdgesRefused.{link_past_the_64th-is_wrong, link_past_the_last-is_wrong, time_past_the_last-is_wrong, nothing_got-is_wrong, more_than_the_room-is_wrong, ended_side_wanted-is_wrong, written_as_it_connects-is_wrong, writing_ended_while_connecting-is_wrong, held_byte_forgotten-is_wrong, held_byte_given-is_wrong, bad_byte_met_without_room-is_wrong, filled_above_half-is_wrong, wanted_at_the_read_mark-is_wrong, wanted_with_an_empty_bucket-is_wrong, read_while_suspended-is_wrong, fired_below_the_low_mark-is_wrong, timeouts_told_apart-is_wrong, fired_in_the_turn_of_its_ask-is_wrong}
+use Rattle.relay_rows.proofs.WrongEdgesRefused.{link_past_the_64th-is_wrong, link_past_the_last-is_wrong, time_past_the_last-is_wrong}
+use Rattle.relay_rows.proofs.WrongEdgesRefused.{nothing_got-is_wrong, more_than_the_room-is_wrong, ended_side_wanted-is_wrong}
+use Rattle.relay_rows.proofs.WrongEdgesRefused.{written_as_it_connects-is_wrong, writing_ended_while_connecting-is_wrong}
+use Rattle.relay_rows.proofs.WrongEdgesRefused.{held_byte_forgotten-is_wrong, held_byte_given-is_wrong, bad_byte_met_without_room-is_wrong}
+use Rattle.relay_rows.proofs.WrongEdgesRefused.{filled_above_half-is_wrong, wanted_at_the_read_mark-is_wrong}
+use Rattle.relay_rows.proofs.WrongEdgesRefused.{wanted_with_an_empty_bucket-is_wrong, read_while_suspended-is_wrong}
+use Rattle.relay_rows.proofs.WrongEdgesRefused.{fired_below_the_low_mark-is_wrong, timeouts_told_apart-is_wrong}
+use Rattle.relay_rows.proofs.WrongEdgesRefused.{fired_in_the_turn_of_its_ask-is_wrong}
 use Rattle.relay_rows.proofs.wrong.wrong_edges_are_refused.Goals as goal
 
 pub returns-clause-ended_side_wanted : goal.returns-clause-ended_side_wanted

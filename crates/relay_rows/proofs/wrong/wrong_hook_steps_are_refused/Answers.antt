@@ -1,4 +1,6 @@
-use Rattle.relay_rows.proofs.WrongRowsRefused.{fired_on_a_freed_side-is_wrong, write_reason_above_the_low_mark-is_wrong, fired_without_a_reason-is_wrong, fire_after_a_stop-is_wrong, asked_by_another-is_wrong, refused_without_cause-is_wrong, one_ask_too_many-is_wrong}
+use Rattle.relay_rows.proofs.WrongRowsRefused.{fired_on_a_freed_side-is_wrong, write_reason_above_the_low_mark-is_wrong}
+use Rattle.relay_rows.proofs.WrongRowsRefused.{fired_without_a_reason-is_wrong, fire_after_a_stop-is_wrong, asked_by_another-is_wrong}
+use Rattle.relay_rows.proofs.WrongRowsRefused.{refused_without_cause-is_wrong, one_ask_too_many-is_wrong}
 use Rattle.relay_rows.proofs.wrong.wrong_hook_steps_are_refused.Goals as goal
 
 pub returns-clause-fired_on_a_freed_side : goal.returns-clause-fired_on_a_freed_side

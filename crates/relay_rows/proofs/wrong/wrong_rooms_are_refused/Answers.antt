@@ -1,4 +1,5 @@
-use Rattle.relay_rows.proofs.WrongRowsRefused.{want_left_out-is_wrong, mark_not_wanted-is_wrong, read_with_a_wrong_room-is_wrong, read_without_a_mark-is_wrong, write_offers_too_little-is_wrong, wait_too_long-is_wrong}
+use Rattle.relay_rows.proofs.WrongRowsRefused.{want_left_out-is_wrong, mark_not_wanted-is_wrong, read_with_a_wrong_room-is_wrong}
+use Rattle.relay_rows.proofs.WrongRowsRefused.{read_without_a_mark-is_wrong, write_offers_too_little-is_wrong, wait_too_long-is_wrong}
 use Rattle.relay_rows.proofs.wrong.wrong_rooms_are_refused.Goals as goal
 
 pub returns-clause-want_left_out : goal.returns-clause-want_left_out

@@ -1,4 +1,5 @@
-use Rattle.relay_rows.proofs.WrongRowsRefused.{time_falls-is_wrong, turn_after_a_failed_poll-is_wrong, turn_within_a_turn-is_wrong, link_out_of_order-is_wrong}
+use Rattle.relay_rows.proofs.WrongRowsRefused.{time_falls-is_wrong, turn_after_a_failed_poll-is_wrong, turn_within_a_turn-is_wrong}
+use Rattle.relay_rows.proofs.WrongRowsRefused.{link_out_of_order-is_wrong}
 use Rattle.relay_rows.proofs.wrong.wrong_turns_are_refused.Goals as goal
 
 pub returns-clause-time_falls : goal.returns-clause-time_falls

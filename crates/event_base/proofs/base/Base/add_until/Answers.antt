@@ -1,5 +1,6 @@
 -- The event, its timer and its place change together.
-use Rattle.std.proofs.Common.{◌≡◌, ◌∙◌, ℕ, ◌<◌, List, sym, ap, refl, slice_get, set, Some, None, Option, Bool, true, false, cond, option_map, is_some, Ok}
+use Rattle.std.proofs.Common.{◌≡◌, ◌∙◌, ℕ, ◌<◌, List, sym, ap, refl, slice_get, set, Some, None, Option, Bool, true, false, cond}
+use Rattle.std.proofs.Common.{option_map, is_some, Ok}
 use Rattle.std.proofs.lemmas.Bool.{lt-ltb}
 use Rattle.event_base.specs.declared.event.Event.{Event}
 use Rattle.event_base.specs.declared.event.Activation.{Activation}

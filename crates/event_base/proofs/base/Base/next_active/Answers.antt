@@ -1,5 +1,6 @@
 -- The front of the batch starts its callback.
-use Rattle.std.proofs.Common.{◌≡◌, ◌∙◌, ℕ, ◌+◌, ◌-◌, ◌<◌, ◌≤◌, ◌^◌, max, min, sym, ap, subst, refl, [], map, count_by, slice_get, List, length, Some, None, Ok, Err, IfErr, is_some, true, false, arith}
+use Rattle.std.proofs.Common.{◌≡◌, ◌∙◌, ℕ, ◌+◌, ◌-◌, ◌<◌, ◌≤◌, ◌^◌, max, min, sym, ap, subst, refl, [], map, count_by, slice_get, List}
+use Rattle.std.proofs.Common.{length, Some, None, Ok, Err, IfErr, is_some, true, false, arith}
 use Rattle.event_base.specs.declared.base.Base.TheInside.{Inside}
 use Rattle.event_base.specs.declared.event.Event.{Event}
 use Rattle.event_base.specs.Base.{BaseValue}
@@ -13,7 +14,8 @@ use Rattle.event_base.specs.Calls.{IsAnswer, next_active}
 use Rattle.event_base.specs.Fires.{is_past_numbers}
 use Rattle.event_base.proofs.TiedLemmas.{slice_get-within}
 use Rattle.event_base.proofs.FireLemmas.{next_event-is, next-there}
-use Rattle.event_base.proofs.CallLemmas.{next_active-call, next_active-none, next_fire-call, next_fire-none, answer-spent, call-ok, called_base, called-kept, if_err}
+use Rattle.event_base.proofs.CallLemmas.{next_active-call, next_active-none, next_fire-call, next_fire-none, answer-spent, call-ok}
+use Rattle.event_base.proofs.CallLemmas.{called_base, called-kept, if_err}
 use Rattle.event_base.proofs.base.Base.next_active.Goals as goal
 
 -- the event that fires next has a number in range, and is the next of the base

@@ -1,5 +1,6 @@
 -- The queues tell whether an event is active, and the timers the least deadline.
-use Rattle.std.proofs.Common.{◌≡◌, ◌∙◌, ℕ, ◌+◌, ◌-◌, ◌<◌, ◌≤◌, ◌^◌, max, min, sym, ap, subst, refl, [], map, count_by, slice_get, length, Some, None, Ok, Err, is_some, true, false, arith}
+use Rattle.std.proofs.Common.{◌≡◌, ◌∙◌, ℕ, ◌+◌, ◌-◌, ◌<◌, ◌≤◌, ◌^◌, max, min, sym, ap, subst, refl, [], map, count_by, slice_get, length}
+use Rattle.std.proofs.Common.{Some, None, Ok, Err, is_some, true, false, arith}
 use Rattle.event_base.specs.Base.{BaseValue}
 use Rattle.event_base.specs.Events.{made}
 use Rattle.event_base.specs.BaseView.{base_of}

@@ -4,7 +4,8 @@ use Rattle.bev_world.specs.ByNumber.{slot_fed}
 use Rattle.bev_world.specs.WorldValue.{bev_at}
 use Rattle.relay_sides.proofs.BevsLemmas.{number-lt}
 use Rattle.relay_sides.proofs.SidesLemmas.{here, state_found}
-use Rattle.relay_sides.proofs.ServeLemmas.{lower_changed, state_changed, can_read, state_brought, brought-links, brought-sound, brought-room}
+use Rattle.relay_sides.proofs.ServeLemmas.{lower_changed, state_changed, can_read, state_brought, brought-links, brought-sound}
+use Rattle.relay_sides.proofs.ServeLemmas.{brought-room}
 use Rattle.relay_sides.proofs.sides.Sides.bring.Goals as goal
 
 pub feed_at-requires-clause-room : goal.feed_at-requires-clause-room

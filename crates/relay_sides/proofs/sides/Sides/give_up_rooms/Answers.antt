@@ -6,7 +6,8 @@ use Rattle.relay_sides.specs.Bevs.{lower_of, upper_of, twin}
 use Rattle.relay_sides.specs.SidesValue.{SidesValue}
 use Rattle.relay_sides.proofs.BevsLemmas.{number-lt, twin-number, twin-apart}
 use Rattle.relay_sides.proofs.SidesLemmas.{here, peer_number}
-use Rattle.relay_sides.proofs.RoomLemmas.{quiet_links, quiet_sound, lane_is, raw_input_room_is, input_room_is, output_room_is, raw_output_room_is, gave_up, gave_raw_input_up, gave_input_up, gave_output_up, gave_raw_output_up}
+use Rattle.relay_sides.proofs.RoomLemmas.{quiet_links, quiet_sound, lane_is, raw_input_room_is, input_room_is, output_room_is}
+use Rattle.relay_sides.proofs.RoomLemmas.{raw_output_room_is, gave_up, gave_raw_input_up, gave_input_up, gave_output_up, gave_raw_output_up}
 use Rattle.relay_sides.proofs.sides.Sides.give_up_rooms.Goals as goal
 
 pub invariant_of-self : goal.invariant_of-self

@@ -9,7 +9,10 @@ use Rattle.relay_sides.specs.declared.side.SideState.{SideState}
 use Rattle.relay_sides.proofs.SidesLemmas.{flow_seen, lane_seen, peer_number}
 use Rattle.relay_sides.proofs.ReaderLemmas.{own_state, filter_found}
 use Rattle.relay_sides.proofs.sides.Sides.has_spent_count_from.Goals as goal
-use Rattle.relay_sides.proofs.sides.Sides.has_spent_count_from.Goals.{then-used-ge-SPENT, else-used-ge-SPENT, then-own-ge-SPENT, else-own-ge-SPENT, then-used-ge-SPENT-2, else-used-ge-SPENT-2, then-own-ge-SPENT-2, else-own-ge-SPENT-2, then-own-ge-SPENT-3, else-own-ge-SPENT-3}
+use Rattle.relay_sides.proofs.sides.Sides.has_spent_count_from.Goals.{then-used-ge-SPENT, else-used-ge-SPENT, then-own-ge-SPENT}
+use Rattle.relay_sides.proofs.sides.Sides.has_spent_count_from.Goals.{else-own-ge-SPENT, then-used-ge-SPENT-2, else-used-ge-SPENT-2}
+use Rattle.relay_sides.proofs.sides.Sides.has_spent_count_from.Goals.{then-own-ge-SPENT-2, else-own-ge-SPENT-2, then-own-ge-SPENT-3}
+use Rattle.relay_sides.proofs.sides.Sides.has_spent_count_from.Goals.{else-own-ge-SPENT-3}
 
 or_first : (a b v : Bool) → a ≡ true → v ≡ a → v ≡ (a || b)
 or_first true b v h is = is

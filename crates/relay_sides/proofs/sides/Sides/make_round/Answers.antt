@@ -2,7 +2,8 @@ use Rattle.std.proofs.Common.{true, false, ap, sym, ◌∙◌}
 use Rattle.relay_state.specs.Passage.{hold_part, read_part, move_part, write_part}
 use Rattle.relay_sides.specs.Links.{passage_at, with_passage}
 use Rattle.relay_sides.proofs.LinksLemmas.{with_same}
-use Rattle.relay_sides.proofs.RoundParts.{part_then, lane_then, input_room_kept, read_end, output_room_then, keeps_then, keeps_same, whole_round, end_round, no_round, not_so, so}
+use Rattle.relay_sides.proofs.RoundParts.{part_then, lane_then, input_room_kept, read_end, output_room_then, keeps_then, keeps_same}
+use Rattle.relay_sides.proofs.RoundParts.{whole_round, end_round, no_round, not_so, so}
 use Rattle.relay_sides.proofs.sides.Sides.make_round.Goals as goal
 
 pub run_read_filter-requires-clause-room : goal.run_read_filter-requires-clause-room

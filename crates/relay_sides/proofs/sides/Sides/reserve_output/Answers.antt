@@ -10,7 +10,8 @@ use Rattle.relay_sides.specs.SidesValue.{SidesValue}
 use Rattle.relay_sides.specs.SideView.{state_at}
 use Rattle.relay_sides.proofs.BevsLemmas.{number-lt}
 use Rattle.relay_sides.proofs.SidesLemmas.{here, state_found, peer_number}
-use Rattle.relay_sides.proofs.RoomLemmas.{quiet_links, quiet_sound, lower_spared, lower_leaves_upper, input_room_is, has_output_room, output_step_room}
+use Rattle.relay_sides.proofs.RoomLemmas.{quiet_links, quiet_sound, lower_spared, lower_leaves_upper, input_room_is, has_output_room}
+use Rattle.relay_sides.proofs.RoomLemmas.{output_step_room}
 use Rattle.relay_sides.proofs.sides.Sides.reserve_output.Goals as goal
 
 pub invariant_of-self : goal.invariant_of-self
