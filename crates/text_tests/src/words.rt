@@ -1,6 +1,6 @@
 // The words of the two programs' command lines, as a user may give them.
-use command_words::{Route, ScriptKind, WordsFault, mode_words, serve_words};
-use ev_types::{Addr, FilterKind};
+use command_words::{ScriptKind, WordsFault, mode_words, serve_words};
+use ev_types::{Addr, FilterKind, Route};
 use script_text::Settings;
 use std::alloc::Global;
 use std::test::Fail;
