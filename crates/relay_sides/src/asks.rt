@@ -51,7 +51,7 @@ impl Sides {
         requires { side.link < self.old.links.opened }
         ensures { self.new.links
             ≡ change_side side (λ x. record x { timeouts = record { read_ms = read_ms; write_ms = write_ms }; last_read = time; last_write = time })
-                self.old.links }
+            self.old.links }
     {
         self.readable = 0;
         self.world
