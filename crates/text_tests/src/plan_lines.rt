@@ -211,20 +211,28 @@ fn planned(alloc: Global, words: &str) -> Result<Option<(SideId, PlanItem)>, Fai
 }
 
 fn first_other_ask(alloc: Global) -> Result<Option<&'static str>, Fail> {
+    match first_other_of(alloc, asks())? {
+        Some(words) => Ok(Some(words)),
+        None => first_other_of(alloc, more_asks()),
+    }
+}
+
+fn first_other_of(
+    alloc: Global,
+    asks: [(&'static str, Option<Act>); 8],
+) -> Result<Option<&'static str>, Fail> {
     let end = SideId {
         link: 7,
         side: Side::In,
     };
-    for asks in [asks(), more_asks()] {
-        for (words, act) in asks {
-            let item = PlanItem {
-                why: WhyKind::Timer,
-                nth: 3,
-                act,
-            };
-            if planned(alloc, words)? != Some((end, item)) {
-                return Ok(Some(words));
-            }
+    for (words, act) in asks {
+        let item = PlanItem {
+            why: WhyKind::Timer,
+            nth: 3,
+            act,
+        };
+        if planned(alloc, words)? != Some((end, item)) {
+            return Ok(Some(words));
         }
     }
     Ok(None)
