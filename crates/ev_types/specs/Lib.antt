@@ -7,3 +7,4 @@ pub mod ScriptTurn
 pub mod Times
 pub mod Told
 pub mod Usual
+pub mod AskNumbers

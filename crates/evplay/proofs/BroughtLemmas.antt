@@ -30,7 +30,7 @@ use Rattle.script_text.specs.Grammar.{keyword_of, made_of, more_of, of_end, sett
 use Rattle.script_text.specs.GroupsAndPlans.{hooked_of, nth_of, planned_of}
 use Rattle.script_text.specs.ValueGrammar.{why_kind_of}
 use Rattle.script_text.specs.ActGrammar.{planned_ask}
-use Rattle.script_text.specs.declared.plan.PlanItem.{PlanItem}
+use Rattle.ev_types.specs.declared.plan_line.PlanLine.{PlanLine}
 use Rattle.script_text.specs.Order.{may_be_set, group_set, may_follow, with_line, extended}
 use Rattle.script_text.specs.Brought.{brought, all_brought}
 use Rattle.script_text.specs.Given.{with_setting}
@@ -104,7 +104,7 @@ said_by-bytes keyword.On (link ∷ side ∷ why ∷ nth ∷ act) =
     some-then HasBytes _ (λ end.
     some-then HasBytes _ (λ kind.
     some-then HasBytes _ (λ n.
-    some-then HasBytes (λ ask. Some (line.Plan end (let item : PlanItem = record { why = kind; nth = n; act = ask } in item))) (λ ask. tt)
+    some-then HasBytes (λ ask. Some (line.Plan end (let item : PlanLine = record { why = kind; nth = n; act = ask } in item))) (λ ask. tt)
     (planned_ask act)) (nth_of nth)) (why_kind_of why)) (hooked_of link side)
 said_by-bytes _ _ = tt
 

@@ -29,7 +29,7 @@ use Rattle.script_text.specs.FilterNames.{filter_kind_of}
 use Rattle.script_text.specs.Ends.{link_of, end_of, side_of}
 use Rattle.script_text.specs.Limits.{limit_said}
 use Rattle.script_text.specs.declared.limits.GroupSet.{GroupSet}
-use Rattle.script_text.specs.declared.plan.PlanItem.{PlanItem}
+use Rattle.ev_types.specs.declared.plan_line.PlanLine.{PlanLine}
 use Rattle.script_text.specs.ValueGrammar.{why_kind_of}
 use Rattle.script_text.specs.ActGrammar.{planned_ask}
 use Rattle.token_bucket.specs.declared.limit.LimitCfg.{LimitCfg}
@@ -155,7 +155,7 @@ said_by-short keyword.On (link ∷ side ∷ why ∷ nth ∷ act) =
     then-short _ (λ end.
     then-short _ (λ kind.
     then-short _ (λ n.
-    then-short (λ ask. Some (line.Plan end (let item : PlanItem = record { why = kind; nth = n; act = ask } in item))) (λ ask. tt)
+    then-short (λ ask. Some (line.Plan end (let item : PlanLine = record { why = kind; nth = n; act = ask } in item))) (λ ask. tt)
     (planned_ask act)) (nth_of nth)) (why_kind_of why)) (hooked_of link side)
 said_by-short _ _ = tt
 

@@ -4,7 +4,8 @@ use Rattle.std.specs.List.{flat_map}
 use Rattle.ev_types.specs.declared.side.SideId.{SideId}
 use Rattle.ev_types.specs.declared.entry.Entry.TheVariants as entry
 use Rattle.ev_types.specs.Trace.{Event, Trace}
-use Rattle.script_text.specs.TraceLaws.{IsAct, IsSpellable}
+use Rattle.script_text.specs.TraceLaws.{IsSpellable}
+pub use Rattle.ev_types.specs.AskNumbers.{AskFits, AsksFit}
 use Rattle.relay_model.specs.Trace.{bytes_read}
 use Rattle.relay_model.specs.Settings.{Settings}
 use Rattle.relay_model.specs.Stages.{Stage}
@@ -39,15 +40,6 @@ pub record TimeoutsFit (g : Settings) : Type 0 where
   pub in_write : g.in_timeouts.write_ms < 2 ^ 64
   pub out_read : g.out_timeouts.read_ms < 2 ^ 64
   pub out_write : g.out_timeouts.write_ms < 2 ^ 64
-
--- the numbers of what a hook asks fit their types
-abbrev pub AskFits : Event → Type 0
-AskFits (entry.Asked me act answer, bytes) = IsAct act
-AskFits _ = ⊤
-
--- So do those of all asks in a trace.
-abbrev pub AsksFit : Trace → Type 0
-AsksFit t = All AskFits t
 
 -- A trace for which a relay stands can be spelled as text and read back, where what was read fits, links are named by numbers
 -- below 2^32, and timeouts and asks fit.

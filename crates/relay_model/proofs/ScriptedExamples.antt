@@ -16,7 +16,8 @@ use Rattle.relay_model.specs.Settings.{usual}
 use Rattle.relay_model.specs.Rooms.{Want}
 use Rattle.ev_types.specs.declared.turn_line.TurnLine.{TurnLine}
 use Rattle.ev_types.specs.declared.turn_line.TurnLine.TheVariants as line
-use Rattle.relay_model.specs.Plans.{Planned, IsPlanned}
+use Rattle.ev_types.specs.declared.plan_line.PlanLine.{PlanLine}
+use Rattle.relay_model.specs.Plans.{IsPlanned}
 use Rattle.ev_types.specs.ScriptTurn.{ScriptTurn}
 use Rattle.relay_model.specs.Script.{Script, closing_step, run_settings, plan_of}
 use Rattle.relay_model.specs.Hooked.{heard_in, asked_in}
@@ -145,8 +146,8 @@ poll-fails : polled (line.NewLink false ∷ line.Pending i (1 ∷ []) ∷ line.P
 poll-fails = refl
 
 -- The sides with a hook are those for which something is planned and a hook was handed in; each has its own lines.
-abbrev planned : ℕ → Planned
-planned n = record { kind = why_kind.Read; nth = n; act = Some act.Stop }
+abbrev planned : ℕ → PlanLine
+planned n = record { why = why_kind.Read; nth = n; act = Some act.Stop }
 
 abbrev planned_script : Script
 planned_script = record {
@@ -156,7 +157,7 @@ planned_script = record {
   turns = [];
 }
 
-hooks-handed_in : (run_settings planned_script 2).hooks ≡ o ∷ o ∷ []
+hooks-handed_in : (run_settings planned_script 2).hooks ≡ o ∷ []
 hooks-handed_in = refl
 
 hooks-plan : plan_of planned_script o ≡ planned 1 ∷ planned 2 ∷ []

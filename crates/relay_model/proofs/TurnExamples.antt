@@ -25,7 +25,8 @@ use Rattle.relay_model.specs.Groups.{share_among, group_level}
 use Rattle.relay_model.specs.Past.{Past, past}
 use Rattle.relay_model.specs.Rooms.{read_room, write_room, wanted}
 use Rattle.relay_model.specs.Asks.{refusal, done}
-use Rattle.relay_model.specs.Plans.{Planned, acts_behind}
+use Rattle.ev_types.specs.declared.plan_line.PlanLine.{PlanLine}
+use Rattle.relay_model.specs.Plans.{acts_behind}
 use Rattle.relay_model.specs.Moments.{poll_timeout, time_passed}
 use Rattle.relay_model.specs.Round.{round}
 use Rattle.relay_model.specs.Serve.{after_got, after_write}
@@ -264,9 +265,9 @@ timers-in_order : placed (timer 3 5) (placed (timer 2 9) (placed (timer 1 5) (pl
 timers-in_order = refl
 
 -- What is planned: the second line is for the second read, and nothing is no ask.
-abbrev plan : List Planned
-plan = record { kind = kind.Read; nth = 1; act = Some (act.Free (in_of 0)) } ∷ record { kind = kind.Read; nth = 2; act = Some act.Stop }
-    ∷ record { kind = kind.Read; nth = 1; act = None } ∷ record { kind = kind.Event; nth = 1; act = Some (act.Cancel (in_of 1)) } ∷ []
+abbrev plan : List PlanLine
+plan = record { why = kind.Read; nth = 1; act = Some (act.Free (in_of 0)) } ∷ record { why = kind.Read; nth = 2; act = Some act.Stop }
+    ∷ record { why = kind.Read; nth = 1; act = None } ∷ record { why = kind.Event; nth = 1; act = Some (act.Cancel (in_of 1)) } ∷ []
 
 planned-in_order : acts_behind plan [] (why.Read ∷ event 17 ∷ why.Read ∷ event 33 ∷ []) ≡ act.Free (in_of 0) ∷ act.Cancel (in_of 1)
     ∷ act.Stop ∷ []

@@ -8,7 +8,8 @@ use Rattle.ev_types.specs.declared.why.Why.{Why}
 use Rattle.ev_types.specs.declared.entry.Entry.TheVariants as entry
 use Rattle.ev_types.specs.Sides.{same_end}
 use Rattle.ev_types.specs.Trace.{Event, Trace}
-use Rattle.relay_model.specs.Plans.{Planned, IsPlanned}
+use Rattle.ev_types.specs.declared.plan_line.PlanLine.{PlanLine}
+use Rattle.relay_model.specs.Plans.{IsPlanned}
 use Rattle.relay_model.specs.Answers.{TurnAnswer}
 
 abbrev pub heard_by : SideId → Event → List Why
@@ -28,7 +29,7 @@ abbrev pub asked_in : SideId → Trace → List (Act × AskAnswer)
 asked_in e t = flat_map (asked_by e) t
 
 -- Every hook asked what its plan has for what it heard.
-abbrev pub AskedAsPlanned : (SideId → List Planned) → Trace → Type 0
+abbrev pub AskedAsPlanned : (SideId → List PlanLine) → Trace → Type 0
 AskedAsPlanned plan t = (e : SideId) → IsPlanned (plan e) (heard_in e t) (asked_in e t)
 
 -- does an entry stand within a fire
@@ -38,12 +39,12 @@ is_within_fire (entry.Freed side cause moved given, bytes) = true
 is_within_fire _ = false
 
 -- A last fire in which memory was wanting may have asked anything; before it everything was asked as planned.
-abbrev pub CutOffInFire : (SideId → List Planned) → Trace → Type 0
+abbrev pub CutOffInFire : (SideId → List PlanLine) → Trace → Type 0
 CutOffInFire plan t =
     (before fire : Trace) × (side : SideId) × (y : Why) × (t ≡ before ++ (entry.Fired side y, []) ∷ fire)
     × (list_all is_within_fire fire ≡ true) × AskedAsPlanned plan before
 
 -- The hooks of a run with this answer asked what was planned.
-abbrev pub AskPlanned : (SideId → List Planned) → TurnAnswer → Trace → Type 0
+abbrev pub AskPlanned : (SideId → List PlanLine) → TurnAnswer → Trace → Type 0
 AskPlanned plan TurnAnswer.Memory t = AskedAsPlanned plan t ⊎ CutOffInFire plan t
 AskPlanned plan _ t = AskedAsPlanned plan t

@@ -1,6 +1,6 @@
 -- The relay without its bytes: what it keeps of each side, each direction and each timer. The bytes are what the trace
 -- says; how the plain state goes on stands in Turn.
-use Rattle.std.specs.Prelude.{nat_lt, if◌then◌else◌, ℕ, zero, suc, ◌+◌, Bool, true, false, not, List, [], ◌∷◌, ◌++◌, filter, slice_index_or}
+use Rattle.std.specs.Prelude.{nat_lt, if◌then◌else◌, ℕ, zero, suc, ◌+◌, Bool, true, false, not, ◌&&◌, List, [], ◌∷◌, ◌++◌, filter, slice_index_or}
 use Rattle.std.specs.Prelude.{slice_set, Option, None, option_map}
 use Rattle.ev_types.specs.declared.side.Side.{Side}
 use Rattle.ev_types.specs.declared.side.Side.TheVariants.{In, Out}
@@ -106,6 +106,10 @@ change_flow e change s = put_flow e (change (flow_at s e)) s
 abbrev pub sides_from : ℕ → ℕ → List SideId
 sides_from k zero = []
 sides_from k (suc n) = record { link = k; side = In } ∷ record { link = k; side = Out } ∷ sides_from (k + 1) n
+
+-- of the sides with the first numbers, so many, those for which something holds
+abbrev pub sides_where : (SideId → Bool) → ℕ → List SideId
+sides_where holds n = filter (λ e. nat_lt (number e) n && holds e) (sides_from 0 n)
 
 -- all sides of the opened links, in number order
 abbrev pub all_sides : Plain → List SideId

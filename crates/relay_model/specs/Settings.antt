@@ -54,6 +54,10 @@ model_settings g = record {
   hooks = [];
 }
 
+-- the same of a run in which these sides have a hook
+abbrev pub settings_with : code.Settings → List SideId → Settings
+settings_with g hooks = record (model_settings g) { hooks = hooks }
+
 -- the settings of a run of which nothing was said
 abbrev pub usual : Settings
 usual = model_settings code_usual

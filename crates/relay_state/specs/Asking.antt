@@ -12,6 +12,7 @@ use Rattle.ev_types.specs.declared.answer.AskAnswer.TheVariants as ask
 use Rattle.ev_types.specs.declared.entry.Entry.TheVariants as entry
 use Rattle.ev_types.specs.declared.why.Cause.TheVariants as cause
 use Rattle.ev_types.specs.declared.why.Why.{Why}
+use Rattle.ev_types.specs.AskNumbers.{IsAct}
 use Rattle.ev_types.specs.Trace.{Trace}
 use Rattle.ev_types.specs.Sides.{number}
 use Rattle.relay_model.specs.Due.{Reason, batch}
@@ -80,9 +81,10 @@ abbrev pub Answered : Option AskAnswer → State → Act → AskAnswer → State
 Answered (Some refused) s a answer new = (answer ≡ refused) × (new ≡ s)
 Answered None s a answer new = ((answer ≡ ask.Ok) × (new ≡ asked a s)) ⊎ ((answer ≡ ask.Memory) × (may_lack a ≡ true) × (new ≡ s))
 
--- one ask of the hook of a side, with its entries
+-- one ask of the hook of a side, with its entries; its numbers fit their types
 pub record AsksOne (me : SideId) (a : Act) (answer : AskAnswer) (s : State) (added : Trace) (new : State) : Type 0 where
   pub built : is_of_group a ≡ false
+  pub fits : IsAct a
   pub answered : Answered (refusal s.settings s.plain a) s a answer new
   pub entries : added ≡ ask_events me s a answer
 

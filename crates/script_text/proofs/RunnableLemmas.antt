@@ -1,4 +1,4 @@
--- A text none of whose lines is for later spells a script with no limit, group, member and plan.
+-- A text none of whose lines is for later spells a script with no limit, group and member.
 use Rattle.std.proofs.Common.{◌≡◌, ◌+◌, arith, Bool, true, false, ◌||◌, not, List, [], ◌∷◌, ◌++◌, length, Option, Some, None, Result, Ok}
 use Rattle.std.proofs.Common.{Err, refl, ap, sym, subst, ◌∙◌, if◌then◌else◌, ◌&&◌}
 use Rattle.std.specs.Prelude.{ℕ, ◌^◌, ◌-◌, min, nat_lt, IfOk, option_map, option_and_then}
@@ -27,11 +27,10 @@ some-is a b h = cc h
 none-some : {A B : Type 0} (a : A) → None ≡ Some a → B
 none-some a h = absurd (cc h)
 
--- so far no line of limits, groups, members and plans was read
+-- so far no line of limits, groups and members was read
 record IsBare (s : SoFar) : Type 0 where
   pub limits : s.given.limits ≡ no_limits
   pub groups : s.groups ≡ []
-  pub plans : s.plans ≡ []
 
 once-bare : {A : Type 0} (before : Option A) (longer new : Given) → longer.limits ≡ no_limits → once before longer ≡ Some new →
     new.limits ≡ no_limits
@@ -66,19 +65,23 @@ extended-bare s new (line.Set setting) is k h =
     go false (Some g) e p =
         let both = with-bare s.given g setting is k.limits e in
         let longer : SoFar = record s { given = g; groups = s.groups ++ group_set setting } in
-        let bare : IsBare longer = record { limits = both.0; groups = rw (k.groups, both.1) refl; plans = k.plans } in
+        let bare : IsBare longer = record { limits = both.0; groups = rw (k.groups, both.1) refl } in
         subst IsBare (some-is longer new p) bare
-extended-bare s new (line.Plan side item) is k h = absurd (cc is)
+extended-bare s new (line.Plan side item) is k h = go (nat_lt 0 (length s.turns)) h
+  where
+    go : (b : Bool) → (if b then None else Some (record s { plans = s.plans ++ (side, item) ∷ [] })) ≡ Some new → IsBare new
+    go true p = none-some new p
+    go false p = subst IsBare (some-is _ new p) (record { limits = k.limits; groups = k.groups })
 extended-bare s new (line.At ms) is k h = go (nat_lt (length s.turns) 20000) h
   where
     go : (b : Bool) → (if b then Some (record s { turns = s.turns ++ (ms, []) ∷ [] }) else None) ≡ Some new → IsBare new
-    go true p = subst IsBare (some-is _ new p) (record { limits = k.limits; groups = k.groups; plans = k.plans })
+    go true p = subst IsBare (some-is _ new p) (record { limits = k.limits; groups = k.groups })
     go false p = none-some new p
 extended-bare s new line.Skipped is k h = subst IsBare (some-is s new h) k
 extended-bare s new (line.Within x) is k h = go (nat_lt 0 (length s.turns) && may_follow (lines_of s.turns) x) h
   where
     go : (b : Bool) → (if b then Some (record s { turns = with_line s.turns x }) else None) ≡ Some new → IsBare new
-    go true p = subst IsBare (some-is _ new p) (record { limits = k.limits; groups = k.groups; plans = k.plans })
+    go true p = subst IsBare (some-is _ new p) (record { limits = k.limits; groups = k.groups })
     go false p = none-some new p
 
 line-bare : (s new : SoFar) (text : List ℕ) → says_later (said (words text)) ≡ false → IsBare s → line_read s text ≡ Some new → IsBare new
@@ -110,9 +113,9 @@ pub none-for-later : (text : List ℕ) (script : ScriptValue) → first_for_late
     IsRunnable script
 none-for-later text script none h =
     let read = script_of-read text script h in
-    let start : IsBare no_line = record { limits = refl; groups = refl; plans = refl } in
+    let start : IsBare no_line = record { limits = refl; groups = refl } in
     let bare = lines-bare (lines text) no_line read.so_far 0 none start read.read in
-    subst IsRunnable read.is (record { limits = bare.limits; groups = bare.groups; plans = bare.plans })
+    subst IsRunnable read.is (record { limits = bare.limits; groups = bare.groups })
 
 -- a text that spells a script is refused at its line for later
 pub told-later : (line told : ℕ) (r : Result ScriptValue ℕ) (script : ScriptValue) → told ≡ min line (2 ^ 32 - 1) → r ≡ Ok script →

@@ -29,7 +29,7 @@ use Rattle.script_text.specs.Grammar.{keyword_of, made_of, more_of, of_end, sett
 use Rattle.script_text.specs.GroupsAndPlans.{hooked_of, nth_of, planned_of}
 use Rattle.script_text.specs.ValueGrammar.{why_kind_of}
 use Rattle.script_text.specs.ActGrammar.{planned_ask}
-use Rattle.script_text.specs.declared.plan.PlanItem.{PlanItem}
+use Rattle.ev_types.specs.declared.plan_line.PlanLine.{PlanLine}
 use Rattle.script_text.specs.Brought.{brought, all_brought}
 use Rattle.script_text.specs.Order.{may_be_set, group_set, may_follow, with_line, extended}
 use Rattle.script_text.specs.Spelled.{is_plain, line_read, going_on, lines_read, no_line, script_of}
@@ -120,7 +120,7 @@ planned-small n link side why nth act =
     some-then (IsSmall n) _ (λ end.
     some-then (IsSmall n) _ (λ kind.
     some-then (IsSmall n) _ (λ k.
-    some-then (IsSmall n) (λ ask. Some (line.Plan end (let item : PlanItem = record { why = kind; nth = k; act = ask } in item)))
+    some-then (IsSmall n) (λ ask. Some (line.Plan end (let item : PlanLine = record { why = kind; nth = k; act = ask } in item)))
     (λ ask. omega arith) (planned_ask act)) (nth_of nth)) (why_kind_of why)) (hooked_of link side)
 
 -- what a line brings in is spelled in its words

@@ -1,8 +1,8 @@
--- The lines of a script that no run obeys yet: those of limits, groups, members and plans. Until it does, a script is refused at the first
+-- The lines of a script that no run obeys yet: those of limits, groups and members. Until it does, a script is refused at the first
 -- of them.
 use Rattle.std.specs.Prelude.{◌≡◌, ℕ, ◌+◌, min, List, [], ◌∷◌, Bool, true, false, if◌then◌else◌, Option, Some, None, Result, Ok, Err}
 use Rattle.script_text.specs.declared.line.Line.{Line}
-use Rattle.script_text.specs.declared.line.Line.TheVariants.{Set, Plan}
+use Rattle.script_text.specs.declared.line.Line.TheVariants.{Set}
 use Rattle.script_text.specs.declared.setting.Setting.TheVariants.{Rate, Group, Member}
 use Rattle.script_text.specs.Given.{no_limits}
 use Rattle.script_text.specs.Script.{ScriptValue}
@@ -15,7 +15,6 @@ abbrev pub is_for_later : Line → Bool
 is_for_later (Set (Rate side limit)) = true
 is_for_later (Set (Group number group)) = true
 is_for_later (Set (Member side number)) = true
-is_for_later (Plan side item) = true
 is_for_later _ = false
 
 abbrev pub says_later : Option Line → Bool
@@ -38,8 +37,7 @@ refused_at (Some line) (Err bad) = Err (min line bad)
 abbrev pub runnable_script_of : List ℕ → Result ScriptValue ℕ
 runnable_script_of text = refused_at (first_for_later 0 (lines text)) (script_of text)
 
--- a script with no limit, group, member and plan
+-- a script with no limit, group and member
 pub record IsRunnable (script : ScriptValue) : Type 0 where
   pub limits : script.limits ≡ no_limits
   pub groups : script.groups ≡ []
-  pub plans : script.plans ≡ []

@@ -5,7 +5,7 @@ use Rattle.ev_types.specs.declared.settings.Settings.{Settings}
 use Rattle.ev_types.specs.declared.side.SideId.{SideId}
 use Rattle.script_text.specs.declared.limits.Limits.{Limits}
 use Rattle.script_text.specs.declared.limits.GroupSet.{GroupSet}
-use Rattle.script_text.specs.declared.plan.PlanItem.{PlanItem}
+use Rattle.ev_types.specs.declared.plan_line.PlanLine.{PlanLine}
 use Rattle.script_text.specs.declared.setting.Given.{Given}
 use Rattle.script_text.specs.Given.{settings_by}
 
@@ -15,14 +15,14 @@ pub record ScriptValue : Type 0 where
   pub settings : Settings
   pub limits : Limits
   pub groups : List GroupSet
-  pub plans : List (SideId × PlanItem)
+  pub plans : List (SideId × PlanLine)
   pub turns : List ScriptTurn
 
 -- a script of which some lines were read: what its lines give so far
 pub record SoFar : Type 0 where
   pub given : Given
   pub groups : List GroupSet
-  pub plans : List (SideId × PlanItem)
+  pub plans : List (SideId × PlanLine)
   pub turns : List ScriptTurn
 
 -- the script, where no line follows

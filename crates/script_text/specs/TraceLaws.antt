@@ -11,24 +11,15 @@ use Rattle.ev_types.specs.declared.why.Cause.{Cause}
 use Rattle.ev_types.specs.declared.why.Cause.TheVariants as cause
 use Rattle.ev_types.specs.declared.answer.ReadAnswer.TheVariants as read
 use Rattle.ev_types.specs.declared.answer.WriteAnswer.TheVariants as write
-use Rattle.ev_types.specs.declared.act.Act.{Act}
-use Rattle.ev_types.specs.declared.act.Act.TheVariants as act
 use Rattle.ev_types.specs.declared.entry.Entry.{Entry}
 use Rattle.ev_types.specs.declared.entry.Entry.TheVariants.{Turn, Poll, Want, Ready, PollFailed, Opened, Conn, Read, Write, Fired, Asked}
 use Rattle.ev_types.specs.declared.entry.Entry.TheVariants.{Freed, CloseWrite, Close}
 use Rattle.ev_types.specs.Trace.{Trace}
+pub use Rattle.ev_types.specs.AskNumbers.{IsWide, IsEnd, IsAct}
 use Rattle.script_text.specs.Pieces.{lines, words}
 use Rattle.script_text.specs.EntryGrammar.{event_said}
 use Rattle.script_text.specs.TraceText.{trace_text}
 use Rattle.script_text.specs.TraceSpelled.{trace_of}
-
--- a number of 64 bits
-abbrev pub IsWide : ℕ → Type 0
-IsWide n = n < 2 ^ 64
-
--- an end whose link has a number of 32 bits
-abbrev pub IsEnd : SideId → Type 0
-IsEnd end = end.link < 2 ^ 32
 
 -- so many bytes, at least one
 abbrev pub AreBytes : ℕ → List ℕ → Type 0
@@ -46,23 +37,6 @@ IsWhy _ = ⊤
 abbrev pub IsCause : Cause → Type 0
 IsCause (cause.Filter place) = IsWide place
 IsCause _ = ⊤
-
--- The numbers of an ask fit their types. A limit keeps its own rule.
-abbrev pub IsAct : Act → Type 0
-IsAct (act.Free end) = IsEnd end
-IsAct (act.Enable end dir) = IsEnd end
-IsAct (act.Disable end dir) = IsEnd end
-IsAct (act.Marks end dir low high) = IsEnd end × IsWide low × IsWide high
-IsAct (act.Timeouts end read write) = IsEnd end × IsWide read × IsWide write
-IsAct (act.Rate end limit) = IsEnd end
-IsAct (act.Join end group) = IsEnd end × (group < 2 ^ 32)
-IsAct (act.Leave end) = IsEnd end
-IsAct (act.Trigger end dir) = IsEnd end
-IsAct (act.Timer end ms) = IsEnd end × IsWide ms
-IsAct (act.Cancel end) = IsEnd end
-IsAct (act.Incref end) = IsEnd end
-IsAct (act.Decref end) = IsEnd end
-IsAct act.Stop = ⊤
 
 -- The numbers of an entry fit their types, a want or a mark names a direction, only an Out end is connected, and no write
 -- lacked memory.

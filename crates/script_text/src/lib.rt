@@ -24,13 +24,14 @@ mod words;
 mod write;
 
 pub use entry_text::put_entry;
-pub use ev_types::{ByteList, LinkCount as LinkLine, Marks, Settings, Timeouts, TurnLine};
+pub use ev_types::{
+    ByteList, LinkCount as LinkLine, Marks, PlanLine, Settings, Timeouts, TurnLine,
+};
 pub use laws::{
     lines_are_parted, numbers_are_decimal, phrase_has_its_words, refused_at_first_bad,
     trace_refused_at_first_bad, written_is_read,
 };
 pub use limits::{GroupSet, Limits};
-pub use plan::PlanItem;
 pub use read::read_script;
 pub use room::{LINE_ROOM, make_room};
 pub use runnable::read_runnable_script;

@@ -2,7 +2,7 @@
 ghost use Rattle.std.specs.Prelude.{◌≡◌, ◌∷◌, [], IfOk, map};
 ghost use Rattle.script_text.specs.Grammar.{keyword_of, made_of, more_of, is_comment, said, said_by};
 
-use crate::plan::{PlanItem, on_line};
+use crate::plan::on_line;
 use crate::set_words::set_line;
 use crate::setting::Setting;
 use crate::value_words::{read_end, read_link};
@@ -44,7 +44,7 @@ pub enum Line {
     /// The run is started with this.
     Set(Setting),
     /// For the hook of this side something is planned.
-    Plan(SideId, PlanItem),
+    Plan(SideId, PlanLine),
     /// A turn begins at this moment.
     At(u64),
     /// A line of the turn that began last.

@@ -8,23 +8,13 @@ use crate::act_words::read_planned;
 use crate::line::{Keyword, Line};
 use crate::value_words::read_side;
 use crate::words::{is_word, number};
-use ev_types::{Act, SideId, WhyKind};
+use ev_types::{PlanLine, SideId, WhyKind};
 
 /// The last link for whose sides something is planned.
 const MAX_HOOKED: u64 = 31;
 
 /// The last fire for which something is planned.
 const MAX_FIRE: u64 = 1_000_000;
-
-/// At the fire with this number of the hook of a side, counted from 1 among those for a reason of this kind: an ask, or nothing.
-///
-/// Own.
-#[derive(Clone, Copy, Debug, PartialEq, Eq)]
-pub struct PlanItem {
-    pub why: WhyKind,
-    pub nth: u32,
-    pub act: Option<Act>,
-}
 
 /// What a line plans with these words behind `on`.
 pub fn on_line(more: &[&[u8]]) -> Option<Line>
@@ -37,7 +27,7 @@ pub fn on_line(more: &[&[u8]]) -> Option<Line>
     let why = read_kind(why)?;
     let nth = read_nth(nth)?;
     let act = read_planned(act)?;
-    Some(Line::Plan(end, PlanItem { why, nth, act }))
+    Some(Line::Plan(end, PlanLine { why, nth, act }))
 }
 
 /// The side of a planned hook, whether its link is opened or not.

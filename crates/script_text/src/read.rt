@@ -9,7 +9,6 @@ ghost use Rattle.script_text.specs.Spelled.{line_read, no_line, script_of, IsTol
 
 use crate::limits::GroupSet;
 use crate::line::{Line, line_of};
-use crate::plan::PlanItem;
 use crate::setting::{Given, Setting};
 use crate::tally::{count_line, count_link, kept};
 use crate::words::{first_piece, is_plain_text, told, words_of};
@@ -31,7 +30,7 @@ const MAX_LINKS: usize = 256;
 pub struct Reading {
     given: Given,
     groups: Vec<GroupSet>,
-    plans: Vec<(SideId, PlanItem)>,
+    plans: Vec<(SideId, PlanLine)>,
     turns: Vec<(u64, Vec<TurnLine>)>,
     /// Whether the line that opened a link said wait.
     links: Vec<bool>,
@@ -121,7 +120,7 @@ impl Reading {
         Ok(self.given.take(setting))
     }
 
-    fn plan(&mut self, side: SideId, item: PlanItem) -> Result<bool, NoMemory>
+    fn plan(&mut self, side: SideId, item: PlanLine) -> Result<bool, NoMemory>
         ensures { IfOk result (λ fits. (if fits then Some self.new else None)
             ≡ extended self.old (Line.Plan side item)) }
     {

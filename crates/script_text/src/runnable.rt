@@ -1,4 +1,4 @@
-// Reads a script of which a run obeys each line: none of limits, groups, members and plans.
+// Reads a script of which a run obeys each line: none of limits, groups and members.
 ghost use Rattle.std.specs.Prelude.{◌≡◌, ◌≤◌, ◌*◌, Some, length, IfOk, IfErr};
 ghost use Rattle.ev_types.specs.ScriptTurn.{lines_of};
 ghost use Rattle.script_text.specs.Brought.{all_brought};
@@ -15,8 +15,8 @@ use crate::{Script, ScriptFault};
 use ev_types::NoMemory;
 use std::alloc::Global;
 
-/// Reads a whole script, as `read_script`, and refuses it also at its first line of a limit, a group, a member or a plan, which no run
-/// obeys yet. Takes the memory that `read_script` takes, and twice its time.
+/// Reads a whole script, as `read_script`, and refuses it also at its first line of a limit, a group or a member, which no run obeys
+/// yet. Takes the memory that `read_script` takes, and twice its time.
 ///
 /// Own.
 pub fn read_runnable_script(alloc: Global, text: &[u8]) -> Result<Script, ScriptFault>
@@ -76,7 +76,6 @@ fn is_for_later(line: &Line) -> bool
 {
     match line {
         Line::Set(Setting::Rate(..) | Setting::Group(..) | Setting::Member(..)) => true,
-        Line::Plan(..) => true,
         _ => false,
     }
 }

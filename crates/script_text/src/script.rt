@@ -4,7 +4,6 @@ ghost use Rattle.std.specs.Prelude.{◌≡◌};
 ghost use Rattle.script_text.specs.declared.script.ScriptFault.TheVariants.{Memory};
 
 use crate::limits::{GroupSet, Limits};
-use crate::plan::PlanItem;
 use ev_types::{NoMemory, Settings, SideId, TurnLine};
 use std::alloc::{AllocError, AllocFailed};
 use std::marker::Model;
@@ -21,7 +20,7 @@ pub struct Script {
     /// The groups, by their numbers.
     pub groups: Vec<GroupSet>,
     /// What is planned for the hooks of sides, in the order of its lines. A side of which nothing is planned has no hook.
-    pub plans: Vec<(SideId, PlanItem)>,
+    pub plans: Vec<(SideId, PlanLine)>,
     pub turns: Vec<(u64, Vec<TurnLine>)>,
 }
 

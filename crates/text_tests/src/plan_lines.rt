@@ -1,6 +1,6 @@
 // Lines of limits, groups, members and plans: which of them are in the grammar, and what they say.
 use ev_types::{Act, Dir, LimitCfg, Side, SideId, WhyKind};
-use script_text::{GroupSet, PlanItem, Script, ScriptFault, read_runnable_script, read_script};
+use script_text::{GroupSet, PlanLine, Script, ScriptFault, read_runnable_script, read_script};
 use std::alloc::Global;
 use std::test::Fail;
 
@@ -201,7 +201,7 @@ const NO_ASKS: &[&str] = &[
 ];
 
 /// What is planned by these words, where the script has this plan alone.
-fn planned(alloc: Global, words: &str) -> Result<Option<(SideId, PlanItem)>, Fail> {
+fn planned(alloc: Global, words: &str) -> Result<Option<(SideId, PlanLine)>, Fail> {
     let text = format!(in alloc; "on 7 in timer 3 {words}\nat 0\n")?;
     let script = read_script(alloc, text.as_bytes())?;
     match script.plans.as_slice() {
@@ -226,7 +226,7 @@ fn first_other_of(
         side: Side::In,
     };
     for (words, act) in asks {
-        let item = PlanItem {
+        let item = PlanLine {
             why: WhyKind::Timer,
             nth: 3,
             act,
@@ -310,12 +310,13 @@ const REFUSED: &[(&str, Option<u32>)] = &[
     ("set hold 1\nat 0\nopen", None),
     ("set hold 1\n\nset rate in 1 1 1 1 1\nat 0", Some(3)),
     ("set group 0 1 1 1 1 1 1\nset member in 0", Some(1)),
-    ("on 0 in read 1 nop\nat 0", Some(1)),
+    ("on 0 in read 1 nop\nat 0", None),
+    ("on 0 in read 1 nop\nset rate in 1 1 1 1 1", Some(2)),
     // A bad line before it is told, and no bad line behind it.
-    ("x\non 0 in read 1 nop", Some(1)),
+    ("x\nset rate in 1 1 1 1 1", Some(1)),
     ("set hold 0\nset rate in 1 1 1 1 1", Some(1)),
-    ("# one\non 0 in read 1 nop\nx", Some(2)),
-    ("at 0\nx\non 0 in read 1 nop", Some(2)),
+    ("# one\nset group 0 1 1 1 1 1 1\nx", Some(2)),
+    ("at 0\nx\nset group 0 1 1 1 1 1 1", Some(2)),
 ];
 
 fn first_other_refusal(alloc: Global) -> Result<Option<&'static str>, Fail> {

@@ -8,7 +8,7 @@ use Rattle.script_port.specs.ScriptState.{PortState}
 use Rattle.script_port.specs.ScriptPort.{new_port}
 use Rattle.script_text.specs.declared.limits.Limits.{Limits}
 use Rattle.script_text.specs.declared.limits.GroupSet.{GroupSet}
-use Rattle.script_text.specs.declared.plan.PlanItem.{PlanItem}
+use Rattle.ev_types.specs.declared.plan_line.PlanLine.{PlanLine}
 use Rattle.script_text.specs.Given.{no_limits}
 use Rattle.script_text.specs.Runnable.{IsRunnable}
 use Rattle.evplay.specs.Play.{IsRunText}
@@ -47,7 +47,7 @@ over-script script g p set first is =
     ∙ ap (λ z. made script.settings script.limits z [] script.turns) (sym is.groups)
     ∙ ap (λ z. made script.settings script.limits script.groups z script.turns) (sym is.plans)
   where
-    made : Settings → Limits → List GroupSet → List (SideId × PlanItem) → List ScriptTurn → ScriptValue
+    made : Settings → Limits → List GroupSet → List (SideId × PlanLine) → List ScriptTurn → ScriptValue
     made settings limits groups plans turns =
         record { settings = settings; limits = limits; groups = groups; plans = plans; turns = turns }
 
