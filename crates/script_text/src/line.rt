@@ -8,7 +8,7 @@ use crate::setting::Setting;
 use crate::value_words::{read_end, read_link};
 use crate::words::{hex_bytes, is_word, number};
 use crate::{ByteList, TurnLine};
-use ev_types::{NoMemory, SideId};
+use ev_types::{NoMemory, PlanLine, SideId};
 use std::alloc::Global;
 
 /// The last moment of a script, in milliseconds.

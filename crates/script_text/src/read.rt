@@ -13,7 +13,7 @@ use crate::setting::{Given, Setting};
 use crate::tally::{count_line, count_link, kept};
 use crate::words::{first_piece, is_plain_text, told, words_of};
 use crate::{Script, ScriptFault, TurnLine};
-use ev_types::{NoMemory, SideId};
+use ev_types::{NoMemory, PlanLine, SideId};
 use std::alloc::Global;
 use std::marker::Model;
 

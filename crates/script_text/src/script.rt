@@ -4,7 +4,7 @@ ghost use Rattle.std.specs.Prelude.{◌≡◌};
 ghost use Rattle.script_text.specs.declared.script.ScriptFault.TheVariants.{Memory};
 
 use crate::limits::{GroupSet, Limits};
-use ev_types::{NoMemory, Settings, SideId, TurnLine};
+use ev_types::{NoMemory, PlanLine, Settings, SideId, TurnLine};
 use std::alloc::{AllocError, AllocFailed};
 use std::marker::Model;
 use thiserror::Error;
