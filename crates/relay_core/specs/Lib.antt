@@ -1,5 +1,8 @@
 pub mod SettingsView
 pub mod RelayValue
+pub mod Named
+pub mod Questions
+pub mod Fires
 pub mod RelayView
 pub mod Waits
 pub mod Steps

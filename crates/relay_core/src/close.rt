@@ -62,7 +62,7 @@ impl Relay {
         requires { link_of_step step < self.now.state.plain.opened }
         ensures { result ≡ is_some (closing_entry self.now.state (close_step step)) }
     {
-        let sides = &self.sides;
+        let sides = &self.ctl.sides;
         match step {
             Closing::Faulty(side) => {
                 let live = sides.is_live(side);
@@ -100,17 +100,17 @@ impl Relay {
         ensures { self.new.state ≡ after_closing self.old.state step }
     {
         match step {
-            Closing::Faulty(side) | Closing::PeerGone(side) => self.sides.free(side),
-            Closing::EndWriting(side) => self.sides.end_writing(side),
+            Closing::Faulty(side) | Closing::PeerGone(side) => self.ctl.free_side(side),
+            Closing::EndWriting(side) => self.ctl.sides.end_writing(side),
             Closing::BothDone(link) => {
                 let near = SideId {
                     link,
                     side: Side::In,
                 };
-                self.sides.free(near);
-                self.sides.free(near.peer());
+                self.ctl.free_side(near);
+                self.ctl.free_side(near.peer());
             }
-            Closing::Shut(side) => self.sides.shut(side),
+            Closing::Shut(side) => self.ctl.sides.shut(side),
         }
     }
 }

@@ -11,15 +11,15 @@ impl Relay {
     pub fn link(&self, link: u32) -> Option<LinkCount>
         ensures { result ≡ (if nat_lt link self.now.state.plain.opened then Some (link_count self.now.state link) else None) }
     {
-        if link >= self.sides.opened() {
+        if link >= self.ctl.sides.opened() {
             return None;
         }
         let near = SideId {
             link,
             side: Side::In,
         };
-        let near_counts = self.sides.counts(near);
-        let far_counts = self.sides.counts(near.peer());
+        let near_counts = self.ctl.sides.counts(near);
+        let far_counts = self.ctl.sides.counts(near.peer());
         Some(LinkCount {
             state: self.link_state(link),
             in_read: near_counts.read,
@@ -37,8 +37,8 @@ impl Relay {
             link,
             side: Side::In,
         };
-        let flags = self.sides.flags(near);
-        let far_flags = self.sides.flags(near.peer());
+        let flags = self.ctl.sides.flags(near);
+        let far_flags = self.ctl.sides.flags(near.peer());
         if flags.live || far_flags.live {
             LinkState::Live
         } else if flags.write_ended && far_flags.write_ended {
@@ -53,7 +53,7 @@ impl Relay {
         ensures { result ≡ open_below self.now.state self.now.state.plain.opened }
     {
         let mut count = 0;
-        for link in 0..self.sides.opened() {
+        for link in 0..self.ctl.sides.opened() {
             if self.is_open(link) {
                 count += 1;
             }
@@ -72,7 +72,7 @@ impl Relay {
             link,
             side: Side::In,
         };
-        self.sides.is_live(near) || self.sides.is_live(near.peer())
+        self.ctl.sides.is_live(near) || self.ctl.sides.is_live(near.peer())
     }
 
     /// The number of bytes in all buffers of live sides, or 2^64 - 1 where that is more. Linear in the links; takes no
@@ -81,7 +81,7 @@ impl Relay {
         ensures { result ≡ min (buffered_below self.now.state self.now.state.plain.opened) (2 ^ 64 - 1) }
     {
         let mut total: u64 = 0;
-        for link in 0..self.sides.opened() {
+        for link in 0..self.ctl.sides.opened() {
             let near = SideId {
                 link,
                 side: Side::In,
@@ -96,11 +96,11 @@ impl Relay {
         requires { side.link < self.now.state.plain.opened }
         ensures { result ≡ min (buffered_at self.now.state side) (2 ^ 64 - 1) }
     {
-        if !self.sides.is_live(side) {
+        if !self.ctl.sides.is_live(side) {
             return 0;
         }
-        let input = self.sides.input_len(side) as u64;
-        input.saturating_add(self.sides.output_len(side) as u64)
+        let input = self.ctl.sides.input_len(side) as u64;
+        input.saturating_add(self.ctl.sides.output_len(side) as u64)
     }
 
     /// How many turns were begun. Constant; takes no memory.
@@ -109,7 +109,7 @@ impl Relay {
     pub fn turns(&self) -> u64
         ensures { result ≡ self.now.state.plain.turn }
     {
-        self.turns
+        self.ctl.turns
     }
 
     /// Whether a count has come to 2^62: turns, or bytes read from an end, used or made by a filter, moved or given.
@@ -117,6 +117,6 @@ impl Relay {
     pub fn is_spent(&self) -> bool
         ensures { result ≡ is_spent self.now.state }
     {
-        self.turns >= SPENT || self.sides.any_count_is_spent()
+        self.ctl.turns >= SPENT || self.ctl.sides.any_count_is_spent()
     }
 }

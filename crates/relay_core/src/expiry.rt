@@ -1,8 +1,8 @@
 // What time brings: the start of a turn, and for how long a poll may wait. A side that is idle for as long as one of its
-// timeouts expires. Where the settings have no timeouts, no side is looked at.
-ghost use Rattle.std.specs.Prelude.{◌≡◌, ◌^◌, ◌<◌, ◌↔◌, ◌||◌, min, max, fold, IsTrue};
+// timeouts expires. Where no side has a timeout, none is looked at.
+ghost use Rattle.std.specs.Prelude.{◌≡◌, ◌^◌, ◌<◌, ◌||◌, min, max, fold, true};
 ghost use Rattle.std.specs.List.{list_any, flat_map};
-ghost use Rattle.ev_types.specs.Usual.{no_timeouts};
+ghost use Rattle.ev_types.specs.declared.why.Why.TheVariants.{Event};
 ghost use Rattle.relay_model.specs.Plain.{side_at, change_side, all_sides};
 ghost use Rattle.relay_model.specs.Reasons.{raise, happened, timeout_flag};
 ghost use Rattle.relay_model.specs.Moments.{is_timed, active_at, both_ways, timers_taken, has_run_out, expire};
@@ -10,12 +10,12 @@ ghost use Rattle.relay_model.specs.Turn.{turned_to};
 ghost use Rattle.relay_state.specs.State.{with_plain};
 ghost use Rattle.relay_state.specs.Closing.{in_side, out_side};
 ghost use Rattle.relay_state.specs.Rooms.{wants};
-ghost use Rattle.relay_state.specs.Time.{expiry, timed, side_timed, begun, poll_timeout};
+ghost use Rattle.relay_state.specs.Time.{expiry, moments, timed, side_timed, begun, poll_timeout};
 ghost use Rattle.relay_core.specs.Unlimited.{HasNoLimits};
 ghost use Rattle.relay_core.specs.Waits.{earlier, wait_until, is_expired, expiries};
 
 use crate::relay::Relay;
-use ev_types::{Side, SideId};
+use ev_types::{Flags, Side, SideId, Why};
 use relay_sides::Dir;
 
 /// No turn's time is greater: 2^62 milliseconds.
@@ -32,13 +32,23 @@ fn earlier(a: Option<u64>, b: Option<u64>) -> Option<u64>
     }
 }
 
+/// The flags of a timeout of a direction.
+fn timeout_flags(dir: Dir) -> Flags
+    ensures { Event result ≡ happened dir timeout_flag }
+{
+    match dir {
+        Dir::Read => Flags(0x41),
+        Dir::Write => Flags(0x42),
+    }
+}
+
 impl Relay {
     /// Whether the side is live and has a timeout for the direction.
     fn is_timed(&self, side: SideId, dir: Dir) -> bool
         requires { side.link < self.now.state.plain.opened }
         ensures { result ≡ is_timed (side_at self.now.state.plain side) dir }
     {
-        self.sides.is_live(side) && self.sides.timeout(side, dir) >= 1
+        self.ctl.sides.is_live(side) && self.ctl.sides.timeout(side, dir) >= 1
     }
 
     fn wants(&self, side: SideId, dir: Dir) -> bool
@@ -56,21 +66,23 @@ impl Relay {
         requires { side.link < self.now.state.plain.opened }
         ensures { result ≡ has_run_out (side_at self.now.state.plain side) dir self.now.state.plain.time }
     {
-        self.sides.idle_time(side, dir, self.time) >= self.sides.timeout(side, dir)
+        self.ctl.sides.idle_time(side, dir, self.ctl.time) >= self.ctl.sides.timeout(side, dir)
     }
 
     /// The time is held against one direction of a side.
     fn look_at(&mut self, side: SideId, dir: Dir)
         requires { side.link < self.old.state.plain.opened }
-        ensures { self.new.state ≡ timed side self.old.state dir }
+        ensures state { self.new.state ≡ timed side self.old.state dir }
+        ensures untimed { self.new.untimed ≡ self.old.untimed }
     {
         if !self.is_timed(side, dir) {
             return;
         }
         if !self.wants(side, dir) {
-            self.sides.be_active(side, dir, self.time);
+            self.ctl.sides.be_active(side, dir, self.ctl.time);
         } else if self.has_run_out(side, dir) {
-            self.sides.expire(side, dir);
+            self.ctl.sides.expire(side, dir);
+            self.ctl.raise(side, Why::Event(timeout_flags(dir)));
         }
     }
 
@@ -78,6 +90,7 @@ impl Relay {
     fn look_at_side(&mut self, side: SideId)
         requires { side.link < self.old.state.plain.opened }
         ensures state { self.new.state ≡ side_timed self.old.state side }
+        ensures untimed { self.new.untimed ≡ self.old.untimed }
         ensures opened { self.new.state.plain.opened ≡ self.old.state.plain.opened }
     {
         self.look_at(side, Dir::Read);
@@ -87,13 +100,13 @@ impl Relay {
     /// The time is held against all sides, in number order.
     fn look_at_sides(&mut self)
         ensures state { self.new.state ≡ fold side_timed self.old.state (all_sides self.old.state.plain) }
-        ensures still { self.old.state.settings.in_timeouts ≡ no_timeouts → self.old.state.settings.out_timeouts ≡ no_timeouts
-            → self.new.state ≡ self.old.state }
+        ensures still { self.old.untimed ≡ true → self.new.state ≡ self.old.state }
+        ensures untimed { self.new.untimed ≡ self.old.untimed }
     {
-        if self.untimed {
+        if self.ctl.untimed {
             return;
         }
-        for link in 0..self.sides.opened() {
+        for link in 0..self.ctl.sides.opened() {
             let near = SideId {
                 link,
                 side: Side::In,
@@ -107,40 +120,51 @@ impl Relay {
     fn turn_to(&mut self, reading: u64) -> u64
         requires { self.old.state.plain.turn < 2 ^ 62 }
         ensures time { result ≡ max self.old.state.plain.time (min reading (2 ^ 62)) }
-        ensures state { self.new.state
-            ≡ with_plain (timers_taken self.old.state.settings (turned_to result self.old.state.plain)) self.old.state }
-        ensures plain { self.new.state ≡ with_plain (turned_to result self.old.state.plain) self.old.state }
-        ensures unlimited { HasNoLimits self.old.state }
+        ensures state { self.new.state ≡ with_plain (turned_to result self.old.state.plain) self.old.state }
+        ensures untimed { self.new.untimed ≡ self.old.untimed }
     {
-        self.turns += 1;
-        self.time = self.time.max(reading.min(LAST_TIME));
-        self.time
+        self.ctl.turns += 1;
+        self.ctl.time = self.ctl.time.max(reading.min(LAST_TIME));
+        self.ctl.time
     }
 
-    /// Whether the settings have no timeout. Then a turn begins with its time alone, and a poll waits for ever. Constant; takes no
+    /// The timers that have come are taken, and are due.
+    fn take_timers(&mut self)
+        ensures state { self.new.state ≡ with_plain (timers_taken self.old.state.settings self.old.state.plain) self.old.state }
+        ensures untimed { self.new.untimed ≡ self.old.untimed }
+    {
+        while let Some(side) = self.ctl.waits.take_due(self.ctl.time) {
+            self.ctl.raise(side, Why::Timer);
+        }
+    }
+
+    /// Whether no side has a timeout. Then a turn begins with its time and the timers alone, and a poll waits for timers. Constant; takes no
     /// memory.
     ///
     /// Own.
     pub fn is_untimed(&self) -> bool
-        ensures { IsTrue result ↔ ((self.now.state.settings.in_timeouts ≡ no_timeouts) × (self.now.state.settings.out_timeouts ≡ no_timeouts)) }
+        ensures { result ≡ self.now.untimed }
     {
-        self.untimed
+        self.ctl.untimed
     }
 
-    /// A turn begins. A reading of the clock becomes the time, cut at 2^62 and unless the time is greater. Answers the time.
-    /// Where no timeout is set, nothing but the time and the number of turns changes. No side has a limit, so that what its end may move
-    /// doesn't grow with the time. Takes no memory; constant where no timeout is set, else linear in the number of links.
+    /// A turn begins. A reading of the clock becomes the time, cut at 2^62 and unless the time is greater. Answers the time. The timers that
+    /// have come are taken. Where no side has a timeout, nothing else changes. No side has a limit, so that what its end may move doesn't
+    /// grow with the time. Takes no memory; linear in the timers that are taken, and where a side may have a timeout also in the number of
+    /// links.
     ///
     /// Own.
     pub fn begin(&mut self, reading: u64) -> u64
         requires turns { self.old.state.plain.turn < 2 ^ 62 }
         ensures time { result ≡ max self.old.state.plain.time (min reading (2 ^ 62)) }
         ensures state { self.new.state ≡ begun self.old.state result }
-        ensures still { self.old.state.settings.in_timeouts ≡ no_timeouts → self.old.state.settings.out_timeouts ≡ no_timeouts
-            → self.new.state ≡ with_plain (turned_to result self.old.state.plain) self.old.state }
+        ensures still { self.old.untimed ≡ true → self.new.state
+            ≡ with_plain (timers_taken self.old.state.settings (turned_to result self.old.state.plain)) self.old.state }
         ensures unlimited { HasNoLimits self.old.state }
+        ensures untimed { self.new.untimed ≡ self.old.untimed }
     {
         let time = self.turn_to(reading);
+        self.take_timers();
         self.look_at_sides();
         time
     }
@@ -149,7 +173,7 @@ impl Relay {
     fn any_is_expired(&self) -> bool
         ensures { result ≡ list_any (is_expired self.now.state) (all_sides self.now.state.plain) }
     {
-        for link in 0..self.sides.opened() {
+        for link in 0..self.ctl.sides.opened() {
             if self.link_is_expired(link) {
                 return true;
             }
@@ -172,7 +196,7 @@ impl Relay {
         requires { side.link < self.now.state.plain.opened }
         ensures { result ≡ is_expired self.now.state side }
     {
-        let flags = self.sides.flags(side);
+        let flags = self.ctl.sides.flags(side);
         flags.live && flags.expired
     }
 
@@ -184,8 +208,8 @@ impl Relay {
         if !self.is_timed(side, dir) || !self.wants(side, dir) {
             return None;
         }
-        let idle = self.sides.idle_time(side, dir, self.time);
-        Some(self.sides.timeout(side, dir).saturating_sub(idle))
+        let idle = self.ctl.sides.idle_time(side, dir, self.ctl.time);
+        Some(self.ctl.sides.timeout(side, dir).saturating_sub(idle))
     }
 
     fn wait_at(&self, side: SideId) -> Option<u64>
@@ -203,7 +227,7 @@ impl Relay {
         ensures { result ≡ wait_until self.now.state.plain.time (expiries self.now.state (all_sides self.now.state.plain)) }
     {
         let mut least = None;
-        for link in 0..self.sides.opened() {
+        for link in 0..self.ctl.sides.opened() {
             let near = SideId {
                 link,
                 side: Side::In,
@@ -214,17 +238,32 @@ impl Relay {
         least
     }
 
-    /// For how many milliseconds a poll may wait; None is for ever. Constant where no timeout is set, else linear in the number
-    /// of links.
+    /// The least wait of all timers and sides.
+    fn least_wait_of_all(&self) -> Option<u64>
+        ensures { result ≡ wait_until self.now.state.plain.time (moments self.now.state) }
+    {
+        let time = self.ctl.time;
+        let timer = self
+            .ctl
+            .waits
+            .next_deadline()
+            .map(|deadline| deadline.saturating_sub(time));
+        if self.ctl.untimed {
+            return timer;
+        }
+        earlier(timer, self.least_wait())
+    }
+
+    /// For how many milliseconds a poll may wait; None is for ever. Constant where no side has a timeout, else linear in the number of links.
     pub fn poll_timeout(&self) -> Option<u64>
         ensures { result ≡ poll_timeout self.now.state }
     {
-        if self.untimed {
-            return None;
-        }
-        if self.any_is_expired() {
+        if !self.ctl.waits.is_quiet() {
             return Some(0);
         }
-        self.least_wait()
+        if !self.ctl.untimed && self.any_is_expired() {
+            return Some(0);
+        }
+        self.least_wait_of_all()
     }
 }

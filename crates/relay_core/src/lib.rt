@@ -1,20 +1,31 @@
-//! The relay's own state, and the calls that make its changes: links with their sides, the bytes on their way, marks
-//! and timeouts, passing and closing. It reaches no port, keeps no trace and decides no order: the drive above does that.
+//! The relay's own state, and the calls that make its changes: links with their sides, the bytes on their way, marks, timeouts and timers,
+//! passing and closing; and hooks, which are lent that state and may ask for changes of it. It reaches no port, keeps no trace and decides
+//! no order: the drive above does that.
 //!
 //! The whole state is `State` of `relay_state`, and the definitions of its changes stand there. Each call's contract says
 //! the state after it; `specs/RelayView.antt` says how the code keeps it.
 #![tactic(auto)]
 
+mod ask;
+mod asks;
 mod close;
 mod count;
+mod ctl;
 mod expiry;
+mod fault;
+mod fire;
+mod hook;
 mod open;
 mod pass;
+mod questions;
 mod relay;
 mod room;
 mod serve;
 
 pub use close::Closing;
-pub use ev_types::{LinkCount, Marks, Settings, Timeouts};
+pub use ctl::Ctl;
+pub use ev_types::{LinkCount, Marks, PlanLine, Settings, Timeouts};
+pub use fault::AskFault;
+pub use hook::Hook;
 pub use relay::Relay;
-pub use relay_sides::{Counts, SideFlags, Sides};
+pub use relay_sides::{Counts, Lengths, SideFlags, Sides};

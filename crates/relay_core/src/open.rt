@@ -16,14 +16,14 @@ impl Relay {
         ensures count { result ≡ self.now.state.plain.opened }
         ensures pairs { HasPairs self.now.state }
     {
-        self.sides.opened()
+        self.ctl.sides.opened()
     }
 
     /// Whether fewer links were opened than the settings allow. Constant; takes no memory.
     pub fn can_open(&self) -> bool
         ensures { result ≡ nat_lt self.now.state.plain.opened self.now.state.settings.links }
     {
-        self.sides.opened() < self.settings.links
+        self.ctl.sides.opened() < self.ctl.settings.links
     }
 
     /// Makes room for one link more. Takes memory; constant, but where the room grows.
@@ -31,7 +31,7 @@ impl Relay {
         ensures state { self.new.state ≡ self.old.state }
         ensures room { OnOk result (0 < self.new.spare_links) }
     {
-        self.sides.reserve_link()
+        self.ctl.sides.reserve_link()
     }
 
     /// Opens the next link, in room that was made before. Its In end is connected; whether its Out end is, is told. Takes
@@ -41,10 +41,10 @@ impl Relay {
         requires room { 0 < self.old.spare_links }
         ensures { self.new.state ≡ after_opened self.old.state connected }
     {
-        let settings = self.settings;
+        let settings = self.ctl.settings;
         let near = near_side(&settings);
         let far = far_side(&settings, connected);
-        self.sides.open(near, far, self.time);
+        self.ctl.sides.open(near, far, self.ctl.time);
     }
 }
 

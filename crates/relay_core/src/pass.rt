@@ -21,6 +21,6 @@ impl Relay {
             × (round_from self.old.state from (passage_at self.old.state from) ≡ passage_at self.old.state from) }
         ensures apart { result ≡ Ok true → self.new.state ≢ self.old.state }
     {
-        self.sides.pass(from, self.settings.hold)
+        self.ctl.sides.pass(from, self.ctl.settings.hold)
     }
 }

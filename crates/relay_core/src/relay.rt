@@ -1,25 +1,25 @@
 // The relay's state.
-ghost use Rattle.std.specs.Prelude.{◌≡◌, ◌↔◌, IsTrue};
+ghost use Rattle.std.specs.Prelude.{◌≡◌, ◌↔◌, IsTrue, IfOk};
 ghost use Rattle.ev_types.specs.Usual.{no_timeouts};
 ghost use Rattle.relay_state.specs.State.{new_state};
-ghost use Rattle.relay_model.specs.Settings.{model_settings};
+ghost use Rattle.relay_model.specs.Settings.{settings_with};
+ghost use Rattle.relay_core.specs.SettingsView.{hooked_sides};
 
-use ev_types::{Settings, Timeouts};
+use crate::ask::MOST_ASKS;
+use crate::ctl::Ctl;
+use ev_types::{NoMemory, Settings, Side, SideId, Timeouts};
 use relay_sides::Sides;
+use relay_waits::Waits;
 use std::alloc::Global;
 use std::marker::Model;
 
-/// The relay's own state, and whether no side has a timeout. Calls on a side ask that its link was opened. What a call
+/// The relay: links with their sides, what waits, and the hook that runs. Calls on a side ask that its link was opened. What a call
 /// answers, and the state after it, is said by its contract.
 ///
 /// Own; it does what libevent's sample le-proxy does.
 #[derive(Drop)]
 pub struct Relay {
-    pub(crate) settings: Settings,
-    pub(crate) untimed: bool,
-    pub(crate) time: u64,
-    pub(crate) turns: u64,
-    pub(crate) sides: Sides,
+    pub(crate) ctl: Ctl,
 }
 
 impl Model for Relay {
@@ -27,11 +27,7 @@ impl Model for Relay {
 
     ghost Value = { RelayValue };
 
-    ghost use Rattle.relay_core.specs.RelayView.{relay_of, IsSound};
-
-    ghost view = { relay_of };
-
-    ghost invariant = { IsSound };
+    ghost view = { λ r. r.ctl };
 }
 
 /// Whether no side gets a timeout as its link opens.
@@ -42,17 +38,27 @@ fn is_untimed(settings: &Settings) -> bool
 }
 
 impl Relay {
-    /// A relay with no link at time 0. Takes no memory; constant.
-    pub fn new(alloc: Global, settings: Settings) -> Relay
-        ensures { result.state ≡ new_state (model_settings settings) }
+    /// A relay with no link at time 0. The list says of each of the first sides whether it has a hook. Refused for want of memory; takes
+    /// some for each place of the list, and none where there is none. Linear in the list.
+    pub fn new(alloc: Global, settings: Settings, hooked: Vec<bool>) -> Result<Relay, NoMemory>
+        ensures { IfOk result (λ relay. relay.state ≡ new_state (settings_with settings (hooked_sides hooked.items))) }
     {
-        Relay {
+        let ctl = Ctl {
             settings,
             untimed: is_untimed(&settings),
             time: 0,
             turns: 0,
             sides: Sides::new(alloc),
-        }
+            waits: Waits::new(alloc, hooked)?,
+            me: SideId {
+                link: 0,
+                side: Side::In,
+            },
+            asks: MOST_ASKS,
+            stopped: false,
+            log: Vec::new(alloc),
+        };
+        Ok(Relay { ctl })
     }
 
     /// The sides of all links that were opened, and the directions between them, as the state has them: what is so of a side, why it is
@@ -65,13 +71,13 @@ impl Relay {
         ensures flows { result.now.links.flows ≡ self.now.state.plain.flows }
         ensures lanes { result.now.links.lanes ≡ self.now.state.lanes }
     {
-        &self.sides
+        &self.ctl.sides
     }
 
     /// Milliseconds. It never falls. Constant; takes no memory.
     pub fn time(&self) -> u64
         ensures { result ≡ self.now.state.plain.time }
     {
-        self.time
+        self.ctl.time
     }
 }

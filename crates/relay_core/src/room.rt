@@ -13,8 +13,8 @@ impl Relay {
         requires { side.link < self.now.state.plain.opened }
         ensures { result ≡ may_read self.now.state.plain side }
     {
-        let flags = self.sides.flags(side);
-        let peer_live = self.sides.is_live(side.peer());
+        let flags = self.ctl.sides.flags(side);
+        let peer_live = self.ctl.sides.is_live(side.peer());
         flags.live && !flags.connecting && flags.reads && !flags.ended && !flags.failed && peer_live
     }
 
@@ -22,7 +22,7 @@ impl Relay {
         requires { side.link < self.now.state.plain.opened }
         ensures { result ≡ may_write self.now.state.plain side }
     {
-        let flags = self.sides.flags(side);
+        let flags = self.ctl.sides.flags(side);
         flags.live && !flags.connecting && flags.writes && !flags.failed && !flags.write_ended
     }
 
@@ -34,8 +34,8 @@ impl Relay {
         if !self.may_read(side) {
             return 0;
         }
-        let mark = self.sides.read_mark(side) as usize;
-        mark.saturating_sub(self.sides.input_len(side))
+        let mark = self.ctl.sides.read_mark(side) as usize;
+        mark.saturating_sub(self.ctl.sides.input_len(side))
             .min(MOST_AT_ONCE)
     }
 
@@ -47,7 +47,7 @@ impl Relay {
         if !self.may_write(side) {
             return 0;
         }
-        self.sides.waiting_for(side).len().min(MOST_AT_ONCE)
+        self.ctl.sides.waiting_for(side).len().min(MOST_AT_ONCE)
     }
 
     /// The bytes that are given to the side's end now: as many as there is room for. Constant; takes no memory.
@@ -56,7 +56,7 @@ impl Relay {
         ensures { result.now ≡ offer_of self.now.state side }
     {
         let room = self.write_room(side);
-        let (offer, _) = self.sides.waiting_for(side).split_at(room);
+        let (offer, _) = self.ctl.sides.waiting_for(side).split_at(room);
         offer
     }
 
@@ -73,7 +73,7 @@ impl Relay {
         requires { side.link < self.now.state.plain.opened }
         ensures { result ≡ wants self.now.state side Write }
     {
-        let flags = self.sides.flags(side);
+        let flags = self.ctl.sides.flags(side);
         self.write_room(side) > 0 || (flags.live && flags.connecting && !flags.failed)
     }
 }

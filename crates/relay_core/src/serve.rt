@@ -6,7 +6,16 @@ ghost use Rattle.relay_core.specs.Answered.{HasBytes, TakesAtMost};
 ghost use Rattle.relay_core.specs.RelayValue.{spare_read};
 
 use crate::relay::Relay;
-use ev_types::{ConnAnswer, NoMemory, ReadAnswer, SideId, WriteAnswer};
+use ev_types::{ConnAnswer, Flags, NoMemory, ReadAnswer, SideId, Why, WriteAnswer};
+
+/// Reading, with end of file.
+const READ_ENDED: Flags = Flags(0x11);
+
+/// Reading, with an error.
+const READ_ERROR: Flags = Flags(0x21);
+
+/// Writing, with an error.
+const WRITE_ERROR: Flags = Flags(0x22);
 
 impl Relay {
     /// Makes room for a read of so many bytes from the side's end. It is also refused where they could not be counted.
@@ -16,7 +25,7 @@ impl Relay {
         ensures state { self.new.state ≡ self.old.state }
         ensures room { OnOk result (room ≤ spare_read self.new side) }
     {
-        self.sides.reserve_read(side, room)
+        self.ctl.sides.reserve_read(side, room)
     }
 
     /// A read of the side's end was answered, and brought these bytes, in room that was made before. Linear in their number; takes memory
@@ -30,10 +39,19 @@ impl Relay {
         ensures { self.new.state ≡ after_read self.old.state side answer bytes.now }
     {
         match answer {
-            ReadAnswer::Got(_) => self.sides.got(side, bytes, self.time),
-            ReadAnswer::Ended => self.sides.ended(side),
+            ReadAnswer::Got(_) => {
+                self.ctl.sides.got(side, bytes, self.ctl.time);
+                self.ctl.raise_read(side);
+            }
+            ReadAnswer::Ended => {
+                self.ctl.sides.ended(side);
+                self.ctl.raise(side, Why::Event(READ_ENDED));
+            }
             ReadAnswer::NotYet => {}
-            ReadAnswer::Failed => self.sides.read_failed(side),
+            ReadAnswer::Failed => {
+                self.ctl.sides.read_failed(side);
+                self.ctl.raise(side, Why::Event(READ_ERROR));
+            }
         }
     }
 
@@ -47,8 +65,14 @@ impl Relay {
         ensures { self.new.state ≡ after_write self.old.state side answer }
     {
         match answer {
-            WriteAnswer::Took(count) => self.sides.took(side, count, self.time),
-            WriteAnswer::Failed => self.sides.write_failed(side),
+            WriteAnswer::Took(count) => {
+                self.ctl.sides.took(side, count, self.ctl.time);
+                self.ctl.raise_write(side);
+            }
+            WriteAnswer::Failed => {
+                self.ctl.sides.write_failed(side);
+                self.ctl.raise(side, Why::Event(WRITE_ERROR));
+            }
             WriteAnswer::NotYet | WriteAnswer::NoMemory => {}
         }
     }
@@ -61,9 +85,15 @@ impl Relay {
         ensures { self.new.state ≡ after_conn self.old.state side answer }
     {
         match answer {
-            ConnAnswer::Connected => self.sides.connected(side),
+            ConnAnswer::Connected => {
+                self.ctl.sides.connected(side);
+                self.ctl.raise(side, Why::Connected);
+            }
             ConnAnswer::Pending => {}
-            ConnAnswer::Failed => self.sides.write_failed(side),
+            ConnAnswer::Failed => {
+                self.ctl.sides.write_failed(side);
+                self.ctl.raise(side, Why::Event(WRITE_ERROR));
+            }
         }
     }
 }

@@ -2,6 +2,7 @@ pub mod Steps
 pub mod Calls
 pub mod PollPhase
 pub mod ServePhase
+pub mod DispatchPhase
 pub mod PassPhase
 pub mod Links
 pub mod ClosePhase
@@ -11,6 +12,7 @@ pub mod Advances
 pub mod DriveValue
 pub mod Agenda
 pub mod DriveView
+pub mod Seats
 pub mod DriveStands
 pub mod Moves
 pub mod Bounds

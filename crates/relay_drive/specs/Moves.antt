@@ -51,9 +51,10 @@ OnlyForMemory result = MatchResult result (λ _. ⊤) (λ why. why ≡ fault.Mem
 abbrev pub OnlyForMemoryOrListener : {T : Type 0} → Result T DriveFault → Type 0
 OnlyForMemoryOrListener result = MatchResult result (λ _. ⊤) (λ why. (why ≡ fault.Memory) ⊎ (why ≡ fault.OpenFault))
 
--- A turn comes to this point, and for a trace for which the relay stood before, `After` holds of the trace with its entries.
-abbrev pub TurnsTo : {P S : Type 0} → port.Ghosts P → scribe.Ghosts S → Point → Bool → Change → (Trace → State → Type 0) →
+-- A turn comes to this point, and for a trace for which the relay stood before, `After` holds of the trace with its entries. Hooks tell
+-- what the entries say.
+abbrev pub TurnsTo : {P S : Type 0} → port.Ghosts P → scribe.Ghosts S → Point → Bool → Change → (Trace → State → Type 0) → (Trace → Type 0) →
     DriveValue × P × S → DriveValue × P × S → Type 0
-TurnsTo g h is failed R After old new =
-    DriveWent R After failed old.0 new.0 (h.trace old.2) (h.trace new.2) (knows g Point.Between old.1) (knows g is new.1)
+TurnsTo g h is failed R After Tells old new =
+    DriveWent R After Tells failed old.0 new.0 (h.trace old.2) (h.trace new.2) (knows g Point.Between old.1) (knows g is new.1)
     (g.faults old.1) (g.faults new.1)

@@ -10,6 +10,8 @@ use thiserror::Error;
 #[derive(Clone, Copy, Debug, PartialEq, Eq)]
 pub enum TurnEnd {
     Went,
+    /// A hook of this link asked the run to end. Every later turn ends so too, with no call of the port and no entry.
+    Stopped(u32),
 }
 
 /// Why a turn was refused. Every later turn is refused so too.

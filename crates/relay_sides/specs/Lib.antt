@@ -8,3 +8,4 @@ pub mod Rooms
 pub mod SidesValue
 pub mod SidesView
 pub mod Pairs
+pub mod Questions

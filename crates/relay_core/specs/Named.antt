@@ -1,0 +1,21 @@
+-- Of which sides an ask that is not refused speaks.
+use Rattle.std.specs.Prelude.{ℕ, ◌<◌, ⊤, Bool, true, false}
+use Rattle.ev_types.specs.declared.act.Act.{Act}
+use Rattle.ev_types.specs.declared.act.Act.TheVariants as act
+
+-- the link of the side that it names is one of the first, so many
+abbrev pub NamesLinkBelow : ℕ → Act → Type 0
+NamesLinkBelow opened (act.Free e) = e.link < opened
+NamesLinkBelow opened (act.Enable e d) = e.link < opened
+NamesLinkBelow opened (act.Disable e d) = e.link < opened
+NamesLinkBelow opened (act.Marks e d low high) = e.link < opened
+NamesLinkBelow opened (act.Timeouts e read write) = e.link < opened
+NamesLinkBelow opened (act.Rate e cfg) = e.link < opened
+NamesLinkBelow opened (act.Join e group) = e.link < opened
+NamesLinkBelow opened (act.Leave e) = e.link < opened
+NamesLinkBelow opened (act.Trigger e d) = e.link < opened
+NamesLinkBelow opened (act.Timer e delay) = e.link < opened
+NamesLinkBelow opened (act.Cancel e) = e.link < opened
+NamesLinkBelow opened (act.Incref e) = e.link < opened
+NamesLinkBelow opened (act.Decref e) = e.link < opened
+NamesLinkBelow opened act.Stop = ⊤

@@ -1,0 +1,118 @@
+// The relay's own state, of which a hook that runs may ask.
+ghost use Rattle.std.specs.Prelude.{◌≡◌, ◌<◌, ◌≤◌, [], false};
+ghost use Rattle.relay_model.specs.Plain.{is_live};
+ghost use Rattle.relay_model.specs.Reasons.{raise};
+ghost use Rattle.relay_state.specs.State.{with_plain};
+ghost use Rattle.relay_state.specs.Closing.{freed};
+ghost use Rattle.relay_state.specs.Serving.{raise_read, raise_write};
+ghost use Rattle.relay_core.specs.Fires.{SameFire};
+
+use ev_types::{Entry, Settings, SideId, Why};
+use relay_sides::{Dir, Sides};
+use relay_waits::Waits;
+use std::marker::Model;
+
+/// The relay's own state, as a hook that runs is lent it. The hook asks by the calls that answer an `AskFault`: each is refused or done at
+/// once, and recorded, up to 256 in a fire; the other calls are questions, which change nothing. It may free any side, its own too, and
+/// goes on asking then. Only a fire of the relay lends it.
+///
+/// Own; a callback of libevent makes such calls on a bufferevent.
+#[derive(Drop)]
+pub struct Ctl {
+    pub(crate) settings: Settings,
+    pub(crate) untimed: bool,
+    pub(crate) time: u64,
+    pub(crate) turns: u64,
+    pub(crate) sides: Sides,
+    pub(crate) waits: Waits,
+    /// The side whose hook runs, or ran last.
+    pub(crate) me: SideId,
+    /// How many asks it made; 256 while none runs.
+    pub(crate) asks: u32,
+    pub(crate) stopped: bool,
+    pub(crate) log: Vec<Entry>,
+}
+
+impl Model for Ctl {
+    ghost use Rattle.relay_core.specs.RelayValue.{RelayValue};
+
+    ghost Value = { RelayValue };
+
+    ghost use Rattle.relay_core.specs.RelayView.{relay_of, IsSound};
+
+    ghost view = { relay_of };
+
+    ghost invariant = { IsSound };
+}
+
+impl Ctl {
+    /// Whether the side was opened and not freed. Constant; takes no memory.
+    ///
+    /// Own.
+    pub fn live(&self, side: SideId) -> bool
+        ensures { result ≡ is_live self.now.state.plain side }
+    {
+        side.link < self.sides.opened() && self.sides.is_live(side)
+    }
+
+    /// A reason becomes due for a side, where it is live and has a hook.
+    pub(crate) fn raise(&mut self, side: SideId, why: Why)
+        ensures state { self.new.state ≡ with_plain (raise self.old.state.settings side why self.old.state.plain) self.old.state }
+        ensures fire { SameFire self.old self.new }
+    {
+        if self.waits.has_hook(side) && self.live(side) {
+            self.waits.raise(side, why);
+        }
+    }
+
+    /// The read reason becomes due where the input is at least as long as the read low mark.
+    pub(crate) fn raise_read(&mut self, side: SideId)
+        ensures state { self.new.state ≡ raise_read side self.old.state }
+        ensures fire { SameFire self.old self.new }
+    {
+        if !self.waits.has_hook(side) || !self.live(side) {
+            return;
+        }
+        if self.sides.low_mark(side, Dir::Read) <= self.sides.input_len(side) as u64 {
+            self.waits.raise(side, Why::Read);
+        }
+    }
+
+    /// The write reason becomes due where the output is at most as long as the write low mark.
+    pub(crate) fn raise_write(&mut self, side: SideId)
+        ensures state { self.new.state ≡ raise_write side self.old.state }
+        ensures fire { SameFire self.old self.new }
+    {
+        if !self.waits.has_hook(side) || !self.live(side) {
+            return;
+        }
+        if self.sides.output_len(side) as u64 <= self.sides.low_mark(side, Dir::Write) {
+            self.waits.raise(side, Why::Write);
+        }
+    }
+
+    /// The side is freed, with its timer, its reasons and its bytes.
+    pub(crate) fn free_side(&mut self, side: SideId)
+        requires { side.link < self.old.state.plain.opened }
+        ensures state { self.new.state ≡ freed side self.old.state }
+        ensures fire { SameFire self.old self.new }
+    {
+        self.sides.free(side);
+        self.waits.forget(side);
+    }
+
+    /// A fire of a side's hook begins, in room that was made before.
+    pub(crate) fn begin_fire(&mut self, side: SideId)
+        requires { 512 ≤ self.old.fire_room }
+        ensures state { self.new.state ≡ self.old.state }
+        ensures me { self.new.me ≡ side }
+        ensures asks { self.new.asks ≡ 0 }
+        ensures stopped { self.new.stopped ≡ false }
+        ensures log { self.new.log ≡ [] }
+    {
+        self.log.clear();
+        self.me = side;
+        self.asks = 0;
+        self.stopped = false;
+    }
+}
