@@ -2,3 +2,4 @@ pub mod SettingsLemmas
 pub mod RelayLemmas
 pub mod TimeLemmas
 pub mod WaitLemmas
+pub mod FireLemmas

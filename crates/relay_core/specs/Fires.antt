@@ -1,5 +1,5 @@
 -- What a hook does in a fire: asks in a row, each answered and recorded.
-use Rattle.std.specs.Prelude.{◌≡◌, ℕ, ◌+◌, ◌≤◌, ◌<◌, ⊤, Bool, ◌||◌, List, [], ◌∷◌, ◌++◌, length, map, Option, Some, None, option_map, Result, Ok, Err}
+use Rattle.std.specs.Prelude.{◌≡◌, ℕ, ◌+◌, ◌≤◌, ◌<◌, ⊤, Bool, true, false, ◌||◌, IfSome, List, [], ◌∷◌, ◌++◌, length, map, Option, Some, None, option_map, Result, Ok, Err}
 use Rattle.std.specs.List.{list_any}
 use Rattle.ev_types.specs.declared.act.Act.{Act}
 use Rattle.ev_types.specs.declared.act.Act.TheVariants as act
@@ -121,3 +121,14 @@ HasAskedByPlan _ _ _ = ⊤
 abbrev pub HasToldNothing : {A : Type 0} → Option (List A) → Type 0
 HasToldNothing None = ⊤
 HasToldNothing (Some xs) = xs ≡ []
+
+-- can a hook ask this: not for limits and groups yet
+abbrev pub can_ask : Act → Bool
+can_ask (act.Rate e cfg) = false
+can_ask (act.Join e group) = false
+can_ask (act.Leave e) = false
+can_ask _ = true
+
+-- can it be planned
+abbrev pub CanPlan : PlanLine → Type 0
+CanPlan line = IfSome line.act (λ a. can_ask a ≡ true)
