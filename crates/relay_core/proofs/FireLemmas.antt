@@ -108,7 +108,10 @@ one-asked : (me e : SideId) (s : State) (a : Act) (r : AskAnswer) →
     asked_in e (ask_events me s a r) ≡ (if same_end me e then (a, r) ∷ [] else [])
 one-asked me e s (act.Free x) ask.Ok = ends (same_end me e)
   where
-    ends : (b : Bool) → (if b then (act.Free x, ask.Ok) ∷ [] else []) ++ [] ≡ (if b then (act.Free x, ask.Ok) ∷ [] else [])
+    one : List (Act × AskAnswer)
+    one = (act.Free x, ask.Ok) ∷ []
+
+    ends : (b : Bool) → (if b then one else []) ++ [] ≡ (if b then one else [])
     ends true = refl
     ends false = refl
 one-asked me e s (act.Free x) r = append-nil (if same_end me e then (act.Free x, r) ∷ [] else [])
@@ -122,7 +125,10 @@ pub asks-told : (me e : SideId) (xs : List (Act × AskAnswer)) (s new : State) (
     asked_in e added ≡ (if same_end me e then xs else [])
 asks-told me e [] s new added h = ap (asked_in e) h.0 ∙ none (same_end me e)
   where
-    none : (b : Bool) → [] ≡ (if b then [] else [])
+    nothing : List (Act × AskAnswer)
+    nothing = []
+
+    none : (b : Bool) → nothing ≡ (if b then nothing else nothing)
     none true = refl
     none false = refl
 asks-told me e (x ∷ xs) s new added h =
@@ -131,6 +137,9 @@ asks-told me e (x ∷ xs) s new added h =
     ∙ ap (λ z. (if same_end me e then (x.0, x.1) ∷ [] else []) ++ z) (asks-told me e xs h.0 new h.2 h.4)
     ∙ both (same_end me e)
   where
-    both : (b : Bool) → (if b then (x.0, x.1) ∷ [] else []) ++ (if b then xs else []) ≡ (if b then x ∷ xs else [])
+    first : List (Act × AskAnswer)
+    first = (x.0, x.1) ∷ []
+
+    both : (b : Bool) → (if b then first else []) ++ (if b then xs else []) ≡ (if b then x ∷ xs else [])
     both true = refl
     both false = refl

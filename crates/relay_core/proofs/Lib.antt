@@ -3,3 +3,5 @@ pub mod RelayLemmas
 pub mod TimeLemmas
 pub mod WaitLemmas
 pub mod FireLemmas
+pub mod TimerLemmas
+pub mod AskLemmas

@@ -1,7 +1,7 @@
 -- Where nothing is timed, a turn begins with nothing but its time, and a poll waits for ever. Where no side has a limit, it wakes up for
 -- timeouts alone. Looking at sides opens no link.
-use Rattle.std.proofs.Common.{◌≡◌, ℕ, suc, ◌+◌, ◌<◌, ◌-◌, Bool, true, false, ◌&&◌, ◌||◌, nat_le, not, if◌then◌else◌, List, [], ◌∷◌, ◌++◌}
-use Rattle.std.proofs.Common.{length, map, slice_index_or, Option, Some, None, option_map, refl, sym, ◌∙◌, ap, arith, fold, append-nil}
+use Rattle.std.proofs.Common.{◌≡◌, ℕ, zero, suc, ◌==◌, ◌+◌, ◌<◌, ◌-◌, Bool, true, false, ◌&&◌, ◌||◌, nat_le, not, if◌then◌else◌, List, [], ◌∷◌, ◌++◌}
+use Rattle.std.proofs.Common.{length, map, slice_index_or, Option, Some, None, option_map, refl, sym, ◌∙◌, ap, arith, fold, append-nil, append_assoc}
 use Rattle.std.specs.List.{list_any, flat_map}
 use Rattle.token_bucket.specs.declared.limit.Dir.{Dir}
 use Rattle.token_bucket.specs.declared.limit.Dir.TheVariants as dir
@@ -14,7 +14,7 @@ use Rattle.ev_types.specs.Usual.{no_timeouts}
 use Rattle.relay_model.specs.Plain.{Plain, PlainSide, Standing, Timer, no_side, side_at, is_live, sides_from, all_sides, change_side}
 use Rattle.relay_model.specs.Reasons.{has_hook, raise, happened, timeout_flag}
 use Rattle.relay_model.specs.Due.{with_reason}
-use Rattle.relay_model.specs.Moments.{timeout_of, last_activity, is_timed, active_at, both_ways, moment_where, earliest, has_run_out}
+use Rattle.relay_model.specs.Moments.{timeout_of, last_activity, is_timed, active_at, both_ways, moment_where, earliest, has_run_out, is_pressing}
 use Rattle.relay_model.specs.Moments.{expire}
 use Rattle.relay_state.specs.State.{State, with_plain}
 use Rattle.relay_state.specs.Closing.{in_side, out_side}
@@ -103,7 +103,7 @@ moments-unlimited s none =
     (λ i. timers ++ expiries s (all_sides s.plain) ++ gains i) ∙ ends timers (expiries s (all_sides s.plain))
   where
     ends : (xs ys : List ℕ) → xs ++ ys ++ [] ≡ xs ++ ys
-    ends xs ys = grind
+    ends xs ys = append_assoc xs ys [] ∙ ap (λ zs. xs ++ zs) (append-nil ys)
 
 -- where no side has a timeout it wakes up for timers alone
 pub moments-untimed : (s : State) → HasNoLimits s → IsUntimed s → moments s ≡ map (λ (x : Timer). x.deadline) s.plain.timers
@@ -111,26 +111,29 @@ moments-untimed s none u =
     let timers : List ℕ = map (λ (x : Timer). x.deadline) s.plain.timers in
     moments-unlimited s none ∙ ap (λ xs. timers ++ xs) (expiries-none s u (all_sides s.plain)) ∙ append-nil timers
 
--- where nothing presses, a poll waits for the earliest moment
-pub poll_timeout-waits : (s : State) → nat_le 1 (length s.plain.due) ≡ false → list_any (is_expired s) (all_sides s.plain) ≡ false →
-    poll_timeout s ≡ wait_until s.plain.time (moments s)
-poll_timeout-waits s due live = λ i.
-    if due i || live i then Some 0 else option_map (λ moment. moment - s.plain.time) (earliest (moments s))
+-- where nothing presses, a poll waits for the earliest moment, and else not at all
+pub poll_timeout-waits : (s : State) → is_pressing s.plain ≡ false → poll_timeout s ≡ wait_until s.plain.time (moments s)
+poll_timeout-waits s none =
+    ap (λ b. if b then Some 0 else option_map (λ moment. moment - s.plain.time) (earliest (moments s))) none
 
--- and else not at all
-pub poll_timeout-due : (s : State) → nat_le 1 (length s.plain.due) ≡ true → poll_timeout s ≡ Some 0
-poll_timeout-due s due = λ i.
-    if due i || list_any (is_expired s) (all_sides s.plain) then Some 0
-    else option_map (λ moment. moment - s.plain.time) (earliest (moments s))
+pub poll_timeout-presses : (s : State) → is_pressing s.plain ≡ true → poll_timeout s ≡ Some 0
+poll_timeout-presses s some =
+    ap (λ b. if b then Some 0 else option_map (λ moment. moment - s.plain.time) (earliest (moments s))) some
 
-pub poll_timeout-expired : (s : State) → list_any (is_expired s) (all_sides s.plain) ≡ true → poll_timeout s ≡ Some 0
-poll_timeout-expired s live = go (nat_le 1 (length s.plain.due)) (list_any (is_expired s) (all_sides s.plain)) live
+-- it presses where something is due, and else where a side has expired
+pub pressing-due : (s : State) → (length s.plain.due == 0) ≡ false → is_pressing s.plain ≡ true
+pressing-due s h = ap (λ b. b || list_any (is_expired s) (all_sides s.plain)) (some (length s.plain.due) h)
   where
-    go : (a b : Bool) → b ≡ true →
-        (if a || b then Some 0 else option_map (λ moment. moment - s.plain.time) (earliest (moments s))) ≡ Some 0
-    go true b h = refl
-    go false true h = refl
-    go false false h = absurd (let wrong : false ≡ true = h in cc)
+    some : (n : ℕ) → (n == 0) ≡ false → nat_le 1 n ≡ true
+    some zero e = absurd (let wrong : true ≡ false = e in cc)
+    some (suc n) e = refl
+
+pub pressing-quiet : (s : State) → (length s.plain.due == 0) ≡ true → is_pressing s.plain ≡ list_any (is_expired s) (all_sides s.plain)
+pressing-quiet s h = ap (λ b. b || list_any (is_expired s) (all_sides s.plain)) (none (length s.plain.due) h)
+  where
+    none : (n : ℕ) → (n == 0) ≡ true → nat_le 1 n ≡ false
+    none zero e = refl
+    none (suc n) e = absurd (let wrong : false ≡ true = e in cc)
 
 -- no side changes as it is looked at
 pub sides_timed-none : (r : Inside) → IsSound r → r.untimed ≡ true →

@@ -16,7 +16,7 @@ use Rattle.relay_model.specs.Asks.{most_asks, refusal}
 use Rattle.relay_model.specs.Plans.{IsPlanned}
 use Rattle.relay_state.specs.State.{State}
 use Rattle.relay_state.specs.Asking.{AsksOne, AsksAll, ask_events, stops}
-use Rattle.relay_core.specs.Named.{NamesLinkBelow}
+use Rattle.relay_core.specs.Named.{HasRoomForReference, NamesLinkBelow}
 use Rattle.relay_core.specs.RelayValue.{RelayValue}
 use Rattle.relay_core.specs.declared.fault.AskFault.{AskFault}
 use Rattle.relay_core.specs.declared.fault.AskFault.TheVariants as fault
@@ -75,6 +75,7 @@ pub record MayAsk (a : Act) (old new : RelayValue) : Type 0 where
   pub few : old.asks < most_asks
   pub free : refusal old.state.settings old.state.plain a ≡ None
   pub named : NamesLinkBelow old.state.plain.opened a
+  pub room : HasRoomForReference old.state.plain a
 
 -- the hook that runs made this ask, which was answered so and recorded
 pub record Recorded (old : RelayValue) (a : Act) (answer : AskAnswer) (new : RelayValue) : Type 0 where
