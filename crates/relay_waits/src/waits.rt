@@ -136,8 +136,8 @@ impl Waits {
     }
 
     /// Sets the timer of a side to a deadline, in milliseconds; it takes the place of the one that the side has. It comes behind
-    /// those with the same deadline. Takes memory; the place is found in the logarithm of the number of timers, and up to half of
-    /// them are moved in memory.
+    /// those with the same deadline. Takes memory; the place is found in the logarithm of the
+    /// number of timers, and up to half of them are moved in memory, and again where the old one is taken out.
     ///
     /// Refused for want of memory, and once 2^64 - 1 timers were set; then nothing has changed.
     ///
