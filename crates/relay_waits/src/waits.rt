@@ -123,7 +123,11 @@ impl Waits {
     ///
     /// Own.
     pub fn forget(&mut self, side: SideId)
-        ensures { self.new ≡ record self.old { due = without_due side self.old.due; batch = without_reasons side self.old.batch; timers = without_timer side self.old.timers } }
+        ensures { self.new ≡ record self.old {
+          due = without_due side self.old.due;
+          batch = without_reasons side self.old.batch;
+          timers = without_timer side self.old.timers;
+        } }
     {
         let hooked = self.has_hook(side);
         self.timers.cancel(side);
@@ -143,7 +147,9 @@ impl Waits {
     ///
     /// Own.
     pub fn set_timer(&mut self, side: SideId, deadline: u64) -> Result<(), NoMemory>
-        ensures ok { OnOk result (self.new ≡ record self.old { timers = placed (record { side = side; deadline = deadline }) (without_timer side self.old.timers) }) }
+        ensures ok { OnOk result (self.new ≡ record self.old {
+          timers = placed (record { side = side; deadline = deadline }) (without_timer side self.old.timers);
+        }) }
         ensures err { OnErr result (self.new ≡ self.old) }
     {
         self.timers.set(side, deadline)
