@@ -29,7 +29,8 @@ abbrev pub AreWith : ℕ → Option TimerKey → Handles → Handles → Type 0
 AreWith n w old new = (q : ℕ) → lookup (nat_eq q) new ≡ cond (nat_eq n q) w (lookup (nat_eq q) old)
 
 -- what each timer has, each has by its place
-to-all : (P Q : by_number.Timer → Type 0) → ((t : by_number.Timer) → P t → Q t) → (ts : List by_number.Timer) → AllByRecursion P ts → All Q ts
+to-all : (P Q : by_number.Timer → Type 0) → ((t : by_number.Timer) → P t → Q t) → (ts : List by_number.Timer) → AllByRecursion P ts →
+    All Q ts
 to-all P Q f [] h = All-nil Q
 to-all P Q f (t ∷ ts) h = All-cons Q t ts (f t h.0) (to-all P Q f ts h.1)
 
@@ -115,7 +116,7 @@ none-of_key n ts hs each none = all-map (IsTimer hs) (λ (t : by_number.Timer). 
 
 pub has-none : (e : SideId) (ts : List by_number.Timer) → NoneHas (number e) ts → HasNone e ts
 has-none e ts none =
-    to-all (λ (t : by_number.Timer). nat_eq (number e) t.key ≡ false) (λ (t : by_number.Timer). nat_eq (number e) t.key ≡ false) (λ t h. h) ts none
+    let P : by_number.Timer → Type 0 = λ (t : by_number.Timer). nat_eq (number e) t.key ≡ false in to-all P P (λ t h. h) ts none
 
 pub is-handle_of : (e : SideId) (last : ℕ) (h : TimerKey) (ts : List by_number.Timer) (hs : Handles) → AreTimers ts last hs →
     lookup (nat_eq (number e)) hs ≡ Some h → IsHandleOf h e ts
@@ -348,8 +349,8 @@ taken now n d (t ∷ ts) h = split (nat_le t.deadline now) refl
     split false k = absurd (let bad : None ≡ Some (n, d) = sym (ap (λ b. cond b (Some (t.key, t.deadline)) None) k) ∙ h in cc)
 
 -- what is left of the timers, once the first was taken
-pub kept-taken : (now n d last : ℕ) (ts : List by_number.Timer) (old new : Handles) → AreTimers ts last old → first_due now ts ≡ Some (n, d) →
-    AreWith n None old new → AreTimers (after_due now ts) last new
+pub kept-taken : (now n d last : ℕ) (ts : List by_number.Timer) (old new : Handles) → AreTimers ts last old →
+    first_due now ts ≡ Some (n, d) → AreWith n None old new → AreTimers (after_due now ts) last new
 kept-taken now n d last ts old new kept h are =
     let x = taken now n d ts h in
     let all : AreTimers (x.first ∷ x.others) last old = subst (λ us. AreTimers us last old) x.were kept in
@@ -375,5 +376,7 @@ none-first now (t ∷ ts) rise h = split (nat_le t.deadline now) refl
         )
 
 -- the same timers, by another name
-pub kept-as : (last most : ℕ) (ts us : List by_number.Timer) (hs : Handles) → us ≡ ts → most ≡ last → AreTimers ts last hs → AreTimers us most hs
-kept-as last most ts us hs same number kept = subst (λ n. AreTimers us n hs) (sym number) (subst (λ vs. AreTimers vs last hs) (sym same) kept)
+pub kept-as : (last most : ℕ) (ts us : List by_number.Timer) (hs : Handles) → us ≡ ts → most ≡ last → AreTimers ts last hs →
+    AreTimers us most hs
+kept-as last most ts us hs same number kept =
+    subst (λ n. AreTimers us n hs) (sym number) (subst (λ vs. AreTimers vs last hs) (sym same) kept)

@@ -19,7 +19,7 @@ use Rattle.deferred_cb.specs.DueCalls.{Entry, Call, has_entry}
 use Rattle.deferred_cb.specs.DueValue.{DueValue}
 use Rattle.relay_model.specs.Due.{without_due, without_reasons}
 use Rattle.relay_waits.specs.DueSides.{dues, left_to_call, reason_of_call}
-use Rattle.relay_waits.specs.WaitsView.{IsHooked, AreDue}
+use Rattle.relay_waits.specs.WaitsView.{HasHook, AreDue}
 use Rattle.relay_waits.proofs.DueLemmas.{sides-are_forgotten}
 use Rattle.relay_waits.proofs.HookLemmas.{hook-within}
 
@@ -83,7 +83,7 @@ has-room hs waiting firing n due hook none =
     let es = waiting.pending in
     let few = few-distinct (length hs) (n ∷ keys_of es)
     (IsDistinct-cons nat_eq n (keys_of es) (no-key n es none) due.distinct)
-    (hook-within hs n hook, keys-all (IsHooked hs) (λ x. x < length hs) (λ m h. hook-within hs m h.0) es due.entries) in
+    (hook-within hs n hook, keys-all (HasHook hs) (λ x. x < length hs) (λ m h. hook-within hs m h.0) es due.entries) in
     let long = length-keys es in
     let room = due.room in
     omega (arith, few, long, room)
@@ -108,7 +108,8 @@ all_keys-raised P n y (e ∷ es) here all = split (all_keys-raised P n y es here
     split rest true = (all.0, all.1)
     split rest false = (all.0, rest)
 
-distinct-raised : (n : ℕ) (y : Why) (es : List Entry) → IsDistinct nat_eq (keys_of es) → IsDistinct nat_eq (keys_of (by_number.with_reason n y es))
+distinct-raised : (n : ℕ) (y : Why) (es : List Entry) → IsDistinct nat_eq (keys_of es) →
+    IsDistinct nat_eq (keys_of (by_number.with_reason n y es))
 distinct-raised n y [] d = IsDistinct-cons nat_eq n [] tt d
 distinct-raised n y (e ∷ es) d =
     split (distinct-raised n y es (IsDistinct-tail nat_eq e.0 (keys_of es) d)) (nat_eq n e.0) refl
@@ -161,7 +162,8 @@ all-all_calls : (P : ℕ → Type 0) (es : List Entry) → AllByRecursion (λ (e
     AllByRecursion (λ (call : Call). P call.0) (by_number.all_calls es)
 all-all_calls P [] all = tt
 all-all_calls P (e ∷ es) all =
-    all-append (λ (call : Call). P call.0) (by_number.calls_of e) (by_number.all_calls es) (all-calls_of P e all.0) (all-all_calls P es all.1)
+    all-append (λ (call : Call). P call.0) (by_number.calls_of e) (by_number.all_calls es) (all-calls_of P e all.0)
+    (all-all_calls P es all.1)
 
 none-mapped : {A B : Type 0} (f : A → B) (xs : List A) → map f xs ≡ [] → xs ≡ []
 none-mapped f [] h = refl
@@ -177,14 +179,14 @@ unfolding IsDistinct
 distinct_none = tt
 
 -- a reason became due
-pub due-raised : (hs : List Bool) (old new firing : DueValue) (n : ℕ) (y : Why) → AreDue hs old firing → IsHooked hs n →
+pub due-raised : (hs : List Bool) (old new firing : DueValue) (n : ℕ) (y : Why) → AreDue hs old firing → HasHook hs n →
     new.pending ≡ by_number.with_reason n y old.pending → new.batch ≡ old.batch →
     length new.pending + new.spare ≡ length old.pending + old.spare → AreDue hs new firing
 due-raised hs old new firing n y due hook is same kept = record {
   distinct = subst (λ (es : List Entry). IsDistinct nat_eq (keys_of es)) (sym is) (distinct-raised n y old.pending due.distinct);
   entries =
-      subst (λ (es : List Entry). AllByRecursion (λ (e : Entry). IsHooked hs e.0) es) (sym is)
-      (all-raised (IsHooked hs) n y old.pending hook due.entries);
+      subst (λ (es : List Entry). AllByRecursion (λ (e : Entry). HasHook hs e.0) es) (sym is)
+      (all-raised (HasHook hs) n y old.pending hook due.entries);
   calls = due.calls;
   no_batch = same ∙ due.no_batch;
   none_pending = due.none_pending;
@@ -198,10 +200,10 @@ pub due-begun : (hs : List Bool) (old firing waiting began : DueValue) → AreDu
     AreDue hs waiting began
 due-begun hs old firing waiting began due used_up is none fired spare = record {
   distinct = subst (λ (es : List Entry). IsDistinct nat_eq (keys_of es)) (sym nothing) distinct_none;
-  entries = subst (λ (es : List Entry). AllByRecursion (λ (e : Entry). IsHooked hs e.0) es) (sym nothing) tt;
+  entries = subst (λ (es : List Entry). AllByRecursion (λ (e : Entry). HasHook hs e.0) es) (sym nothing) tt;
   calls =
-      subst (λ (calls : List Call). AllByRecursion (λ (call : Call). IsHooked hs call.0) calls) (sym fired)
-      (all-all_calls (IsHooked hs) old.pending due.entries);
+      subst (λ (calls : List Call). AllByRecursion (λ (call : Call). HasHook hs call.0) calls) (sym fired)
+      (all-all_calls (HasHook hs) old.pending due.entries);
   no_batch = ap (λ (d : DueValue). d.batch) is ∙ used_up;
   none_pending = none;
   room =
@@ -224,11 +226,11 @@ due-forgot hs old new firing fired n due pending none kept none_pending calls fi
       subst (λ (es : List Entry). IsDistinct nat_eq (keys_of es)) (sym pending)
       (IsDistinct-keys_filter nat_eq (λ (e : Entry). not (nat_eq n e.0)) old.pending due.distinct);
   entries =
-      subst (λ (es : List Entry). AllByRecursion (λ (e : Entry). IsHooked hs e.0) es) (sym pending)
-      (all-filtered (λ (e : Entry). IsHooked hs e.0) (λ (e : Entry). not (nat_eq n e.0)) old.pending due.entries);
+      subst (λ (es : List Entry). AllByRecursion (λ (e : Entry). HasHook hs e.0) es) (sym pending)
+      (all-filtered (λ (e : Entry). HasHook hs e.0) (λ (e : Entry). not (nat_eq n e.0)) old.pending due.entries);
   calls =
-      subst (λ (cs : List Call). AllByRecursion (λ (call : Call). IsHooked hs call.0) cs) (sym calls)
-      (all-filtered (λ (call : Call). IsHooked hs call.0) (λ (call : Call). not (nat_eq n call.0)) firing.batch due.calls);
+      subst (λ (cs : List Call). AllByRecursion (λ (call : Call). HasHook hs call.0) cs) (sym calls)
+      (all-filtered (λ (call : Call). HasHook hs call.0) (λ (call : Call). not (nat_eq n call.0)) firing.batch due.calls);
   no_batch = none ∙ ap (by_number.without_calls n) due.no_batch;
   none_pending = nothing;
   room = let room = due.room in omega (arith, room, kept);
@@ -244,7 +246,7 @@ due-forgot hs old new firing fired n due pending none kept none_pending calls fi
 
 -- Whether one is forgotten that has no hook, nothing changes
 
-other : (hs : List Bool) (n m : ℕ) → slice_index_or hs n false ≡ false → IsHooked hs m → not (nat_eq n m) ≡ true
+other : (hs : List Bool) (n m : ℕ) → slice_index_or hs n false ≡ false → HasHook hs m → not (nat_eq n m) ≡ true
 other hs n m none hook = elim (eqb_tells n m) [
   | inl same ↦ absurd (let bad = sym none ∙ ap (λ k. slice_index_or hs k false) same.1 ∙ hook.0 in cc)
   | inr apart ↦ ap not apart.0
@@ -255,15 +257,17 @@ all-weaker P Q f [] all = tt
 all-weaker P Q f (x ∷ xs) all = (f x all.0, all-weaker P Q f xs all.1)
 
 pub none-due_without : (hs : List Bool) (e : SideId) (es : List Entry) → slice_index_or hs (number e) false ≡ false →
-    AllByRecursion (λ (x : Entry). IsHooked hs x.0) es → dues es ≡ without_due e (dues es)
+    AllByRecursion (λ (x : Entry). HasHook hs x.0) es → dues es ≡ without_due e (dues es)
 none-due_without hs e es none all =
     ap dues (sym (filter-all (λ (x : Entry). not (nat_eq (number e) x.0)) es
-    (all-weaker (λ (x : Entry). IsHooked hs x.0) (λ (x : Entry). not (nat_eq (number e) x.0) ≡ true) (λ x h. other hs (number e) x.0 none h) es all)))
+    (all-weaker (λ (x : Entry). HasHook hs x.0) (λ (x : Entry). not (nat_eq (number e) x.0) ≡ true)
+    (λ x h. other hs (number e) x.0 none h) es all)))
     ∙ (sides-are_forgotten e es []).0
 
 pub no_reason-without : (hs : List Bool) (e : SideId) (calls : List Call) → slice_index_or hs (number e) false ≡ false →
-    AllByRecursion (λ (x : Call). IsHooked hs x.0) calls → left_to_call calls ≡ without_reasons e (left_to_call calls)
+    AllByRecursion (λ (x : Call). HasHook hs x.0) calls → left_to_call calls ≡ without_reasons e (left_to_call calls)
 no_reason-without hs e calls none all =
     ap left_to_call (sym (filter-all (λ (x : Call). not (nat_eq (number e) x.0)) calls
-    (all-weaker (λ (x : Call). IsHooked hs x.0) (λ (x : Call). not (nat_eq (number e) x.0) ≡ true) (λ x h. other hs (number e) x.0 none h) calls all)))
+    (all-weaker (λ (x : Call). HasHook hs x.0) (λ (x : Call). not (nat_eq (number e) x.0) ≡ true)
+    (λ x h. other hs (number e) x.0 none h) calls all)))
     ∙ (sides-are_forgotten e [] calls).1

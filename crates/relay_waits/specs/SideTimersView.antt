@@ -32,7 +32,8 @@ pub record AreTimers (ts : List by_number.Timer) (last : ℕ) (handles : List (�
   pub each : AllByRecursion (IsTimer handles) ts
   pub one : OneEach ts
   pub given : (n : ℕ) (h : TimerKey) → lookup (nat_eq n) handles ≡ Some h → h.stamp ≤ last
-  pub apart : (m n : ℕ) (g h : TimerKey) → lookup (nat_eq m) handles ≡ Some g → lookup (nat_eq n) handles ≡ Some h → g.stamp ≡ h.stamp → m ≡ n
+  pub apart : (m n : ℕ) (g h : TimerKey) → lookup (nat_eq m) handles ≡ Some g → lookup (nat_eq n) handles ≡ Some h →
+      g.stamp ≡ h.stamp → m ≡ n
 
 abbrev pub KeepsTimers : timers.Inside → Type 0
 KeepsTimers t = AreTimers t.timers.pending t.timers.last t.handles.entries

@@ -17,15 +17,15 @@ waits_value w = record {
 }
 
 -- the number is that of a side with a hook
-abbrev pub IsHooked : List Bool → ℕ → Type 0
-IsHooked hooked n = (slice_index_or hooked n false ≡ true) × (n < 2 ^ 33)
+abbrev pub HasHook : List Bool → ℕ → Type 0
+HasHook hooked n = (slice_index_or hooked n false ≡ true) × (n < 2 ^ 33)
 
 -- Only sides with a hook have entries and reasons, and each of them has room for an entry, in what is pending and in what is
 -- fired. The one has no batch, and in the other nothing is pending.
 pub record AreDue (hooked : List Bool) (waiting firing : DueValue) : Type 0 where
   pub distinct : IsDistinct nat_eq (keys_of waiting.pending)
-  pub entries : AllByRecursion (λ (e : Entry). IsHooked hooked e.0) waiting.pending
-  pub calls : AllByRecursion (λ (call : Call). IsHooked hooked call.0) firing.batch
+  pub entries : AllByRecursion (λ (e : Entry). HasHook hooked e.0) waiting.pending
+  pub calls : AllByRecursion (λ (call : Call). HasHook hooked call.0) firing.batch
   pub no_batch : waiting.batch ≡ []
   pub none_pending : firing.pending ≡ []
   pub room : length hooked ≤ length waiting.pending + waiting.spare

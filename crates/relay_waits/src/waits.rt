@@ -123,7 +123,11 @@ impl Waits {
     ///
     /// Own.
     pub fn forget(&mut self, side: SideId)
-        ensures { self.new ≡ record self.old { due = without_due side self.old.due; batch = without_reasons side self.old.batch; timers = without_timer side self.old.timers } }
+        ensures { self.new ≡ record self.old {
+          due = without_due side self.old.due;
+          batch = without_reasons side self.old.batch;
+          timers = without_timer side self.old.timers;
+        } }
     {
         let hooked = self.has_hook(side);
         self.timers.cancel(side);
@@ -136,14 +140,16 @@ impl Waits {
     }
 
     /// Sets the timer of a side to a deadline, in milliseconds; it takes the place of the one that the side has. It comes behind
-    /// those with the same deadline. Takes memory; the place is found in the logarithm of the number of timers, and up to half of
-    /// them are moved in memory.
+    /// those with the same deadline. Takes memory; the place is found in the logarithm of the
+    /// number of timers, and up to half of them are moved in memory, and again where the old one is taken out.
     ///
     /// Refused for want of memory, and once 2^64 - 1 timers were set; then nothing has changed.
     ///
     /// Own.
     pub fn set_timer(&mut self, side: SideId, deadline: u64) -> Result<(), NoMemory>
-        ensures ok { OnOk result (self.new ≡ record self.old { timers = placed (record { side = side; deadline = deadline }) (without_timer side self.old.timers) }) }
+        ensures ok { OnOk result (self.new ≡ record self.old {
+          timers = placed (record { side = side; deadline = deadline }) (without_timer side self.old.timers);
+        }) }
         ensures err { OnErr result (self.new ≡ self.old) }
     {
         self.timers.set(side, deadline)

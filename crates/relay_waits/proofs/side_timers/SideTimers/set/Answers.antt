@@ -54,8 +54,8 @@ returns-in-Some-clause-ok c =
     let is : lookup (nat_eq n) t.handles.entries ≡ Some h =
     ap (lookup (nat_eq n)) (sym c.reserve.ensures.entries)
     ∙ was-kept c.insert.result c.unwrap.result _ c.unwrap.ensures c.insert.ensures.old ∙ c.in-Some.is in
-    ap timers_of (after-replacing n t.timers.last h timer t.timers.pending c.add.new.self.pending c.cancel.new.self.pending t.handles.entries
-    c.self.invariant is c.in-Ok.ensures.numbered c.in-Ok.ensures.added c.cancel.ensures.left)
+    ap timers_of (after-replacing n t.timers.last h timer t.timers.pending c.add.new.self.pending c.cancel.new.self.pending
+    t.handles.entries c.self.invariant is c.in-Ok.ensures.numbered c.in-Ok.ensures.added c.cancel.ensures.left)
     ∙ replaced e t.timers.last h timer t.timers.pending t.handles.entries c.self.invariant
     (ap (λ m. lookup (nat_eq m) t.handles.entries) (sym key) ∙ is) key
     ∙ ap (λ ts. placed (record { side = e; deadline = c.args.deadline }) (without_timer e ts)) c.self.view_is

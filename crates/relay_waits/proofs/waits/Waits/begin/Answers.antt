@@ -22,7 +22,8 @@ pub returns : goal.returns
 returns c =
     let w = c.self.inside in
     let was : c.swap.new.y ≡ w.waiting = c.swap.ensures.y_after in
-    let due : dues c.swap.new.x.pending ≡ [] = ap dues (ap (λ (d : DueValue). d.pending) c.swap.ensures.x_after ∙ c.self.invariant.none_pending) in
+    let due : dues c.swap.new.x.pending ≡ [] =
+    ap dues (ap (λ (d : DueValue). d.pending) c.swap.ensures.x_after ∙ c.self.invariant.none_pending) in
     let fired : left_to_call c.begin.new.self.batch ≡ batch (dues w.waiting.pending) =
     ap left_to_call (c.begin.ensures.batch ∙ ap (λ (d : DueValue). all_calls d.pending) was) ∙ batches-are_fired w.waiting.pending in
     (λ i. record (waits_value w) { due = due i; batch = fired i })

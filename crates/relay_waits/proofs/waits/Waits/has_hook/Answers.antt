@@ -11,7 +11,8 @@ pub returns-then-number-len : goal.returns-then-number-len
 returns-then-number-len c =
     let hs : List Bool = c.self.inside.hooked.items in
     c.index.ensures
-    ∙ get_or_default hs c.number-number.result c.index.result.now false (omega (arith, c.if-number-len.true, c.len.ensures, c.self.inside.hooked.ok.0))
+    ∙ get_or_default hs c.number-number.result c.index.result.now false
+    (omega (arith, c.if-number-len.true, c.len.ensures, c.self.inside.hooked.ok.0))
     ∙ ap (λ n. slice_index_or hs n false) c.number-number.ensures ∙ sym (hook-by_number hs c.args.side)
     ∙ ap (λ (v : WaitsValue). list_any (λ x. same_end x c.args.side) v.hooks) c.self.view_is
 
