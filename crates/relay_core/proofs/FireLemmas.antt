@@ -1,26 +1,21 @@
 -- Asks in a row: what calls of a hook come to, in the words of a fire, and what their events tell.
-use Rattle.std.proofs.Common.{◌≡◌, ◌≢◌, ◌≤◌, ◌<◌, ◌+◌, ℕ, Bool, true, false, ◌||◌, if◌then◌else◌, List, [], ◌∷◌, ◌++◌, length, Option, Some, None}
-use Rattle.std.proofs.Common.{refl, sym, ◌∙◌, ap, subst, arith, append_assoc, append-nil, length-append, Result}
-use Rattle.std.specs.List.{list_any, flat_map}
+use Rattle.std.proofs.Common.{◌≡◌, ◌≤◌, Bool, true, false, ◌||◌, if◌then◌else◌, List, [], ◌∷◌, ◌++◌, Option, Some, None}
+use Rattle.std.proofs.Common.{refl, sym, ◌∙◌, ap, subst, arith, append_assoc, append-nil, length-append}
+use Rattle.std.specs.List.{list_any}
 use Rattle.std.proofs.lemmas.Grind.{flat_map-append}
 use Rattle.ev_types.specs.declared.act.Act.{Act}
 use Rattle.ev_types.specs.declared.act.Act.TheVariants as act
 use Rattle.ev_types.specs.declared.answer.AskAnswer.{AskAnswer}
 use Rattle.ev_types.specs.declared.answer.AskAnswer.TheVariants as ask
-use Rattle.ev_types.specs.declared.entry.Entry.TheVariants as entry
 use Rattle.ev_types.specs.declared.side.SideId.{SideId}
-use Rattle.ev_types.specs.declared.why.Cause.TheVariants as cause
-use Rattle.ev_types.specs.declared.why.Why.{Why}
 use Rattle.ev_types.specs.Sides.{same_end}
 use Rattle.ev_types.specs.Trace.{Trace}
-use Rattle.relay_model.specs.Asks.{most_asks, refusal}
-use Rattle.relay_model.specs.Close.{freed_entry}
-use Rattle.relay_model.specs.Hooked.{asked_by, asked_in, heard_by, heard_in}
+use Rattle.relay_model.specs.Asks.{most_asks}
+use Rattle.relay_model.specs.Hooked.{asked_by, asked_in}
 use Rattle.relay_state.specs.State.{State}
 use Rattle.relay_state.specs.Asking.{AsksOne, AsksAll, ask_events, stops}
-use Rattle.relay_core.specs.Fires.{Recorded, AsksOnce, Steps, FiresSide, answer_of}
+use Rattle.relay_core.specs.Fires.{Recorded, AsksOnce, Steps, FiresSide}
 use Rattle.relay_core.specs.RelayValue.{RelayValue}
-use Rattle.relay_core.specs.declared.fault.AskFault.{AskFault}
 
 -- Calls in a row
 

@@ -1,6 +1,6 @@
 -- The relay's state as its links change, and what is so of each side: none has a limit, so that rooms are what flags and marks leave, and no
 -- bucket changes.
-use Rattle.std.proofs.Common.{◌≡◌, ℕ, zero, suc, Bool, true, false, Result, Ok, Err, MatchResult, ◌&&◌, nat_le, if◌then◌else◌, List, []}
+use Rattle.std.proofs.Common.{◌≡◌, ℕ, zero, suc, Bool, false, Result, Ok, Err, MatchResult, if◌then◌else◌, List, []}
 use Rattle.std.proofs.Common.{◌∷◌, slice_index_or, Option, None, option_map, ◌*◌, ◌-◌, min, length, length-append, ◌≢◌, refl, sym, ◌∙◌, ap}
 use Rattle.std.proofs.Common.{subst, arith}
 use Rattle.std.proofs.lemmas.List.Elements.{All-set, All-head, All-tail, All-nil, All-cons, All-append}
@@ -11,18 +11,17 @@ use Rattle.token_bucket.specs.declared.limit.Dir.{Dir}
 use Rattle.token_bucket.specs.declared.limit.Dir.TheVariants as dir
 use Rattle.ev_types.specs.declared.side.SideId.{SideId}
 use Rattle.ev_types.specs.Sides.{number, peer}
-use Rattle.relay_model.specs.Settings.{Settings}
 use Rattle.ev_types.specs.declared.settings.Timeouts.{Timeouts}
 use Rattle.relay_model.specs.Plain as plain
 use Rattle.relay_model.specs.Plain.{Plain, PlainSide, Standing, no_side, is_live}
 use Rattle.relay_model.specs.Moments.{active_at}
 use Rattle.relay_model.specs.Rooms.{at_most, most_at_once, read_mark, may_read, may_write}
 use Rattle.relay_state.specs.Running.{no_gauge, gauge_after, held_at}
-use Rattle.relay_state.specs.State.{State, gauge_at, gauges_after, with_plain}
+use Rattle.relay_state.specs.State.{State, gauge_at, gauges_after}
 use Rattle.relay_state.specs.Passage.{Passage, read_part}
 use Rattle.relay_state.specs.Passing as state
 use Rattle.relay_state.specs.Passing.{with_bad, read_run}
-use Rattle.relay_state.specs.Rooms.{input_length, output_length, waiting_for, read_room, write_room}
+use Rattle.relay_state.specs.Rooms.{input_length, waiting_for, read_room, write_room}
 use Rattle.relay_state.specs.Serving.{with_got, with_taken}
 use Rattle.relay_sides.specs.Links as links
 use Rattle.relay_sides.specs.Links.{Links, change_side, opening_side, with_link}

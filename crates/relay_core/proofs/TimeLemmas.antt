@@ -1,8 +1,9 @@
 -- Where nothing is timed, a turn begins with nothing but its time, and a poll waits for ever. Where no side has a limit, it wakes up for
 -- timeouts alone. Looking at sides opens no link.
-use Rattle.std.proofs.Common.{◌≡◌, ℕ, zero, suc, ◌==◌, ◌+◌, ◌<◌, ◌-◌, Bool, true, false, ◌&&◌, ◌||◌, nat_le, not, if◌then◌else◌, List, [], ◌∷◌, ◌++◌}
-use Rattle.std.proofs.Common.{length, map, slice_index_or, Option, Some, None, option_map, refl, sym, ◌∙◌, ap, arith, fold, append-nil, append_assoc}
+use Rattle.std.proofs.Common.{◌≡◌, ◌≢◌, ◌≤◌, ℕ, zero, suc, ◌==◌, ◌+◌, ◌<◌, ◌-◌, Bool, true, false, ◌&&◌, ◌||◌, nat_le, not, if◌then◌else◌, List, [], ◌∷◌, ◌++◌}
+use Rattle.std.proofs.Common.{length, map, slice_index_or, Option, Some, option_map, refl, sym, ◌∙◌, ap, arith, fold, append-nil, append_assoc}
 use Rattle.std.specs.List.{list_any, flat_map}
+use Rattle.std.proofs.lemmas.Bool.{le-leb, lt-leb, eqb-true, eqb-false}
 use Rattle.token_bucket.specs.declared.limit.Dir.{Dir}
 use Rattle.token_bucket.specs.declared.limit.Dir.TheVariants as dir
 use Rattle.ev_types.specs.declared.side.Side.TheVariants.{In, Out}
@@ -24,7 +25,7 @@ use Rattle.relay_core.specs.RelayView.{state_with, IsSound, IsSoundSide}
 use Rattle.relay_core.specs.Unlimited.{HasNoLimits}
 use Rattle.relay_core.specs.Waits.{wait_until, is_expired, expiries}
 use Rattle.relay_core.specs.declared.ctl.Ctl.TheInside.{Inside}
-use Rattle.relay_core.proofs.RelayLemmas.{sound_at, unlimited}
+use Rattle.relay_core.proofs.RelayLemmas.{sound_at}
 
 no_timeout : (d : Dir) (x : PlainSide) → x.timeouts ≡ no_timeouts → is_timed x d ≡ false
 no_timeout d x h = ap (λ t. is_timed (record x { timeouts = t }) d) h ∙ go d x.live
@@ -122,18 +123,18 @@ poll_timeout-presses s some =
 
 -- it presses where something is due, and else where a side has expired
 pub pressing-due : (s : State) → (length s.plain.due == 0) ≡ false → is_pressing s.plain ≡ true
-pressing-due s h = ap (λ b. b || list_any (is_expired s) (all_sides s.plain)) (some (length s.plain.due) h)
+pressing-due s h =
+    let n : ℕ = length s.plain.due in
+    ap (λ b. b || list_any (is_expired s) (all_sides s.plain)) (le-leb 1 n (some n (eqb-false n 0 h)))
   where
-    some : (n : ℕ) → (n == 0) ≡ false → nat_le 1 n ≡ true
-    some zero e = absurd (let wrong : true ≡ false = e in cc)
-    some (suc n) e = refl
+    some : (n : ℕ) → n ≢ 0 → 1 ≤ n
+    some zero e = absurd (e refl)
+    some (suc n) e = omega arith
 
 pub pressing-quiet : (s : State) → (length s.plain.due == 0) ≡ true → is_pressing s.plain ≡ list_any (is_expired s) (all_sides s.plain)
-pressing-quiet s h = ap (λ b. b || list_any (is_expired s) (all_sides s.plain)) (none (length s.plain.due) h)
-  where
-    none : (n : ℕ) → (n == 0) ≡ true → nat_le 1 n ≡ false
-    none zero e = refl
-    none (suc n) e = absurd (let wrong : false ≡ true = e in cc)
+pressing-quiet s h =
+    let n : ℕ = length s.plain.due in
+    ap (λ b. b || list_any (is_expired s) (all_sides s.plain)) (lt-leb 1 n (let e = eqb-true n 0 h in omega (arith, e)))
 
 -- no side changes as it is looked at
 pub sides_timed-none : (r : Inside) → IsSound r → r.untimed ≡ true →

@@ -1,6 +1,5 @@
 -- Timers that have come are taken one by one, each raising its reason, until none is left that has.
-use Rattle.std.proofs.Common.{◌≡◌, ℕ, Bool, true, false, ◌&&◌, if◌then◌else◌, List, [], ◌∷◌, length, filter, fold, refl, sym, ◌∙◌, ap}
-use Rattle.std.specs.Prelude.{nat_le, nat_lt}
+use Rattle.std.proofs.Common.{◌≡◌, ◌<◌, ℕ, Bool, true, false, ◌&&◌, if◌then◌else◌, List, [], length, fold, refl, sym, ◌∙◌, ap, arith}
 use Rattle.ev_types.specs.declared.side.SideId.{SideId}
 use Rattle.ev_types.specs.declared.why.Why.{Why}
 use Rattle.ev_types.specs.declared.why.Why.TheVariants as why
@@ -10,7 +9,10 @@ use Rattle.relay_model.specs.Plain.{Plain, Timer, is_live}
 use Rattle.relay_model.specs.Reasons.{has_hook, raise}
 use Rattle.relay_model.specs.Moments.{timers_taken}
 use Rattle.relay_state.specs.State.{State, with_plain}
-use Rattle.relay_waits.specs.WaitsValue.{due_by, due_after, IsFirstDue}
+use Rattle.relay_waits.specs.WaitsValue.{WaitsValue, due_by, due_after, IsFirstDue}
+use Rattle.relay_core.specs.RelayValue.{RelayValue}
+use Rattle.relay_core.specs.RelayView.{relay_of, state_over, state_with}
+use Rattle.relay_core.specs.declared.ctl.Ctl.TheInside.{Inside}
 
 -- the state once all timers that have come are taken
 abbrev pub with_taken : State → State
@@ -38,6 +40,10 @@ raise-time g e y p = go (has_hook g e && is_live p e)
     go true = refl
     go false = refl
 
+-- how many timers have come
+abbrev pub left_due : State → ℕ
+left_due s = length (due_by s.plain.time s.plain.timers)
+
 -- Where no timer has come, none is taken.
 pub taken-none : (s : State) → due_by s.plain.time s.plain.timers ≡ [] → s.plain.timers ≡ due_after s.plain.time s.plain.timers →
     with_taken s ≡ s
@@ -62,3 +68,35 @@ taken-first s e timers first later =
     ap (λ p. with_plain p s)
     ((λ i. fold R (start i) (due_by (same_time i) (own i)))
     ∙ ap (fold R (with_timers after s.plain)) (sym first.1))
+
+-- One is taken of what waits in the relay.
+module _ (v : RelayValue) (r : Inside) (w : WaitsValue) (e : SideId) (is : relay_of r ≡ v) (rest : w ≡ record (r.waits) { timers = w.timers })
+    (first : IsFirstDue r.time e r.waits.timers w.timers) (new : State)
+    (raised : new ≡ with_plain (raise (state_over r r.sides.links w).settings e why.Timer (state_over r r.sides.links w).plain)
+    (state_over r r.sides.links w)) where
+  abbrev s : State
+  s = state_with r r.sides.links
+
+  abbrev mid : State
+  mid = with_plain (with_timers w.timers s.plain) s
+
+  same_mid : state_over r r.sides.links w ≡ mid
+  same_mid = ap (state_over r r.sides.links) rest
+
+  new_is : new ≡ with_plain (raise mid.settings e why.Timer mid.plain) mid
+  new_is = raised ∙ ap (λ (z : State). with_plain (raise z.settings e why.Timer z.plain) z) same_mid
+
+  pub taken-step : due_after r.time w.timers ≡ due_after r.time r.waits.timers → with_taken new ≡ with_taken v.state
+  taken-step later =
+      ap with_taken new_is ∙ taken-first s e w.timers first later ∙ ap (λ (z : RelayValue). with_taken z.state) is
+
+  pub taken-less : left_due new < left_due v.state
+  taken-less =
+      let g = s.settings in
+      let p : Plain = with_timers w.timers s.plain in
+      let a : left_due new ≡ length (due_by r.time w.timers) =
+      ap left_due new_is
+      ∙ (λ i. length (due_by (raise-time g e why.Timer p i) (ap (λ (q : Plain). q.timers) (raise-timers g e why.Timer w.timers s.plain) i))) in
+      let b : left_due v.state ≡ length (due_by r.time r.waits.timers) = ap (λ (z : RelayValue). left_due z.state) (sym is) in
+      let c = ap length first.1 in
+      omega (arith, a, b, c)

@@ -14,7 +14,6 @@ use Rattle.ev_types.specs.Trace.{Trace}
 use Rattle.ev_types.specs.declared.entry.Entry.TheVariants as entry
 use Rattle.relay_model.specs.Asks.{most_asks, refusal}
 use Rattle.relay_model.specs.Plans.{IsPlanned}
-use Rattle.relay_state.specs.State.{State}
 use Rattle.relay_state.specs.Asking.{AsksOne, AsksAll, ask_events, stops}
 use Rattle.relay_core.specs.Named.{HasRoomForReference, NamesLinkBelow}
 use Rattle.relay_core.specs.RelayValue.{RelayValue}

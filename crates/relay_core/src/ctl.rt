@@ -1,5 +1,5 @@
 // The relay's own state, of which a hook that runs may ask.
-ghost use Rattle.std.specs.Prelude.{◌≡◌, ◌<◌, ◌≤◌, [], true, false};
+ghost use Rattle.std.specs.Prelude.{◌≡◌, ◌<◌, ◌≤◌, ◌+◌, nat_le, [], true, false};
 ghost use Rattle.relay_model.specs.Plain.{is_live};
 ghost use Rattle.relay_model.specs.Reasons.{raise};
 ghost use Rattle.relay_state.specs.State.{with_plain};
@@ -45,6 +45,13 @@ impl Model for Ctl {
     ghost invariant = { IsSound };
 }
 
+/// Whether two numbers come to no more than a third.
+fn add_up_to_at_most(first: u64, second: u64, most: u64) -> bool
+    ensures { result ≡ nat_le (first + second) most }
+{
+    first <= most && second <= most - first
+}
+
 impl Ctl {
     /// Whether the side was opened and not freed. Constant; takes no memory.
     ///
@@ -88,10 +95,8 @@ impl Ctl {
             return;
         }
         let lengths = self.sides.lengths(side);
-        let Some(output) = lengths.output.checked_add(lengths.raw_output) else {
-            return;
-        };
-        if output <= self.sides.low_mark(side, Dir::Write) {
+        let low = self.sides.low_mark(side, Dir::Write);
+        if add_up_to_at_most(lengths.output, lengths.raw_output, low) {
             self.waits.raise(side, Why::Write);
         }
     }

@@ -23,6 +23,6 @@ returns c =
     let r = c.self-inside.inside.0.0 in
     let is = ap (λ (z : Inside). z.ctl) c.self-inside.view_is ∙ c.self.view_is in
     let timers : List ℕ = map (λ (x : Timer). x.deadline) s.plain.timers in
-    c.earlier.ensures ∙ (λ i. earlier (c.timer_wait.ensures i) (c.least_wait.ensures i))
+    c.earlier.ensures ∙ (λ i. earlier (c.timer_wait-2.ensures i) (c.least_wait.ensures i))
     ∙ sym (wait_until-append s.plain.time timers (expiries s (all_sides s.plain)))
     ∙ ap (wait_until s.plain.time) (sym (moments-unlimited s (no_limits c.args.self.now r is c.self-inside.invariant)))

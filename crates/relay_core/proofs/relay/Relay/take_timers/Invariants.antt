@@ -1,7 +1,5 @@
-use Rattle.std.proofs.Common.{◌≡◌, length}
-use Rattle.relay_model.specs.Moments.{timers_taken}
-use Rattle.relay_state.specs.State.{with_plain}
-use Rattle.relay_core.proofs.TimerLemmas.{with_taken}
+use Rattle.std.proofs.Common.{◌≡◌}
+use Rattle.relay_core.proofs.TimerLemmas.{with_taken, left_due}
 use Rattle.relay_core.proofs.relay.Relay.take_timers.Given as goal
 
 abbrev pub invariant-loop-side : goal.invariant-loop-side
@@ -11,4 +9,4 @@ invariant-loop-side l = record {
 }
 
 abbrev pub decreases-loop-side : goal.decreases-loop-side
-decreases-loop-side l = length l.self-inside.ctl.state.plain.timers
+decreases-loop-side l = left_due l.self-inside.ctl.state
