@@ -14,10 +14,10 @@ pub mod MeantFolds
 pub mod BoundSteps
 pub mod BoundLaws
 pub mod MeantServing
+pub mod MeantDispatch
 pub mod MeantTurn
 pub mod WentLemmas
 pub mod OtherLinks
-pub mod UnhookedSteps
 pub mod LinkParts
 pub mod AgendaLemmas
 pub mod FewLemmas
