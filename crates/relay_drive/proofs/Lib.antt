@@ -11,6 +11,7 @@ pub mod ClosingLemmas
 pub mod PollLemmas
 pub mod AcceptLemmas
 pub mod MeantFolds
+pub mod DispatchLemmas
 pub mod BoundSteps
 pub mod BoundLaws
 pub mod MeantServing

@@ -16,7 +16,7 @@ use Rattle.relay_drive.specs.DispatchPhase.CutFire.{no_room, in_fire}
 use Rattle.relay_drive.specs.DispatchPhase.{CutFire}
 use Rattle.relay_steps.specs.HookLaws.{fire_asked}
 use Rattle.relay_steps.specs.Meaning.{StandsFor, LeftFor}
-use Rattle.relay_steps.proofs.AskSteps.{fired-stands}
+use Rattle.relay_steps.proofs.AskSteps.{batch-stands, fired-stands}
 use Rattle.relay_steps.proofs.FireSteps.{asks_are_stood_for, fires_are_stood_for}
 use Rattle.relay_steps.proofs.DispatchSteps.{dispatches_are_stood_for}
 use Rattle.relay_steps.proofs.PollSteps.{served-stands}
@@ -63,10 +63,10 @@ some-fired-stand n t s new a k h = fires-stand n t (dispatching s) new a (served
 -- a fire that is cut off, or none, leaves the relay where memory may be wanting
 fire-leaves : (t : Trace) (s new : State) (a : Trace) → StandsFor t (Stage.Dispatching s.batch) s → CutFire s a new →
     LeftFor TurnAnswer.Memory (t ++ a) new
-fire-leaves t s new a k (no_room h) = record {
+fire-leaves t s new a k (no_room rs h) = record {
   stage = Stage.Dispatching s.batch;
   stands = subst (λ z. StandsFor z (Stage.Dispatching s.batch) new) (sym (ap (λ b. t ++ b) h.0 ∙ append-nil t))
-      (subst (StandsFor t (Stage.Dispatching s.batch)) (sym h.1) k);
+      (subst (StandsFor t (Stage.Dispatching s.batch)) (sym h.1) (batch-stands t (Stage.Dispatching s.batch) s rs k));
   left = tt;
 }
 fire-leaves t s new a k (in_fire w) =
