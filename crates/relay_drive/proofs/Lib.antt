@@ -12,6 +12,8 @@ pub mod PollLemmas
 pub mod AcceptLemmas
 pub mod MeantFolds
 pub mod DispatchLemmas
+pub mod HookEvents
+pub mod HookTells
 pub mod BoundSteps
 pub mod BoundLaws
 pub mod MeantServing
