@@ -21,6 +21,7 @@ pub mod MeantDispatch
 pub mod MeantTurn
 pub mod WentLemmas
 pub mod OtherLinks
+pub mod FreedStays
 pub mod LinkParts
 pub mod AgendaLemmas
 pub mod FewLemmas
