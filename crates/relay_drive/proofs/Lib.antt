@@ -22,6 +22,7 @@ pub mod MeantTurn
 pub mod WentLemmas
 pub mod OtherLinks
 pub mod FreedStays
+pub mod AskedLinks
 pub mod LinkParts
 pub mod AgendaLemmas
 pub mod FewLemmas
