@@ -2,3 +2,6 @@ pub mod SettingsLemmas
 pub mod RelayLemmas
 pub mod TimeLemmas
 pub mod WaitLemmas
+pub mod FireLemmas
+pub mod TimerLemmas
+pub mod AskLemmas

@@ -1,5 +1,5 @@
--- The relay's state as its links change, and what is so of each side: none has a hook, so that no reason becomes due, and none has a limit,
--- so that rooms are what flags and marks leave, and no bucket changes.
+-- The relay's state as its links change, and what is so of each side: none has a limit, so that rooms are what flags and marks leave, and no
+-- bucket changes.
 use Rattle.std.proofs.Common.{◌≡◌, ℕ, zero, suc, Bool, true, false, Result, Ok, Err, MatchResult, ◌&&◌, nat_le, if◌then◌else◌, List, []}
 use Rattle.std.proofs.Common.{◌∷◌, slice_index_or, Option, None, option_map, ◌*◌, ◌-◌, min, length, length-append, ◌≢◌, refl, sym, ◌∙◌, ap}
 use Rattle.std.proofs.Common.{subst, arith}
@@ -10,15 +10,11 @@ use Rattle.std.specs.List.{All}
 use Rattle.token_bucket.specs.declared.limit.Dir.{Dir}
 use Rattle.token_bucket.specs.declared.limit.Dir.TheVariants as dir
 use Rattle.ev_types.specs.declared.side.SideId.{SideId}
-use Rattle.ev_types.specs.declared.why.Why.{Why}
-use Rattle.ev_types.specs.declared.why.Why.TheVariants as why
 use Rattle.ev_types.specs.Sides.{number, peer}
 use Rattle.relay_model.specs.Settings.{Settings}
 use Rattle.ev_types.specs.declared.settings.Timeouts.{Timeouts}
-use Rattle.relay_model.specs.Due.{with_reason}
 use Rattle.relay_model.specs.Plain as plain
 use Rattle.relay_model.specs.Plain.{Plain, PlainSide, Standing, no_side, is_live}
-use Rattle.relay_model.specs.Reasons.{has_hook, raise}
 use Rattle.relay_model.specs.Moments.{active_at}
 use Rattle.relay_model.specs.Rooms.{at_most, most_at_once, read_mark, may_read, may_write}
 use Rattle.relay_state.specs.Running.{no_gauge, gauge_after, held_at}
@@ -27,32 +23,14 @@ use Rattle.relay_state.specs.Passage.{Passage, read_part}
 use Rattle.relay_state.specs.Passing as state
 use Rattle.relay_state.specs.Passing.{with_bad, read_run}
 use Rattle.relay_state.specs.Rooms.{input_length, output_length, waiting_for, read_room, write_room}
-use Rattle.relay_state.specs.Serving.{raise_read, raise_write, with_got, after_got, with_taken, after_took}
+use Rattle.relay_state.specs.Serving.{with_got, with_taken}
 use Rattle.relay_sides.specs.Links as links
 use Rattle.relay_sides.specs.Links.{Links, change_side, opening_side, with_link}
 use Rattle.relay_sides.specs.declared.opening.NewSide.{NewSide}
 use Rattle.relay_core.specs.RelayValue.{RelayValue}
 use Rattle.relay_core.specs.RelayView.{no_gauges, state_with, relay_of, AreSound, IsSound, IsSoundSide}
 use Rattle.relay_core.specs.Unlimited.{HasNoLimits}
-use Rattle.relay_core.specs.declared.relay.Relay.TheInside.{Inside}
-
--- where no side has a hook, no reason becomes due
-pub raise-none : (g : Settings) (e : SideId) (y : Why) (p : Plain) → has_hook g e ≡ false → raise g e y p ≡ p
-raise-none g e y p h = ap (λ b. if b && is_live p e then record p { due = with_reason e y p.due } else p) h
-
-pub raise_read-none : (e : SideId) (s : State) → has_hook s.settings e ≡ false → raise_read e s ≡ s
-raise_read-none e s h = go (nat_le (plain.side_at s.plain e).marks.read_low (input_length s e))
-  where
-    go : (b : Bool) → (if b then with_plain (raise s.settings e why.Read s.plain) s else s) ≡ s
-    go true = ap (λ p. with_plain p s) (raise-none s.settings e why.Read s.plain h)
-    go false = refl
-
-pub raise_write-none : (e : SideId) (s : State) → has_hook s.settings e ≡ false → raise_write e s ≡ s
-raise_write-none e s h = go (nat_le (output_length s e) (plain.side_at s.plain e).marks.write_low)
-  where
-    go : (b : Bool) → (if b then with_plain (raise s.settings e why.Write s.plain) s else s) ≡ s
-    go true = ap (λ p. with_plain p s) (raise-none s.settings e why.Write s.plain h)
-    go false = refl
+use Rattle.relay_core.specs.declared.ctl.Ctl.TheInside.{Inside}
 
 -- where a side has no limit, what is moved there leaves all buckets
 gauges_after-none : (e : SideId) (d : Dir) (n : ℕ) (s : State) → (plain.side_at s.plain e).limit ≡ None → gauges_after e d n s ≡ s.gauges
@@ -101,7 +79,6 @@ module _ (near far : Timeouts) (time : ℕ) (untimed : Bool) where
       j.sides ≡ (change_side e g k).sides → AreSound near far time untimed j
   still_sound k j e g h keeps is = record {
     unset = h.unset;
-    untimed_then = h.untimed_then;
     sides = subst (All (IsSoundSide time untimed)) (sym is)
         (All-set (IsSoundSide time untimed) k.sides (number e) (g (links.side_at k e))
         (keeps (sound_at time untimed k.sides h.sides (number e))) h.sides);
@@ -137,7 +114,6 @@ module _ (near far : Timeouts) (time : ℕ) (untimed : Bool) where
       let q : P (opening_side time b) = (omega arith, omega arith, λ e. (far_is ∙ (h.unset e).1, refl), refl) in
       record {
         unset = h.unset;
-        untimed_then = h.untimed_then;
         sides = subst (All P) (sym (ap (λ (z : Links). z.sides) is))
             (All-append P k.sides (opening_side time a ∷ opening_side time b ∷ []) h.sides
             (All-cons P (opening_side time a) (opening_side time b ∷ []) p (All-cons P (opening_side time b) [] q (All-nil P))));
@@ -145,12 +121,9 @@ module _ (near far : Timeouts) (time : ℕ) (untimed : Bool) where
 
 -- no side has a limit, as it is kept
 pub unlimited : (r : Inside) → IsSound r → HasNoLimits (state_with r r.sides.links)
-unlimited r sound e = (sound_at r.time r.untimed r.sides.links.sides sound.sides (number e)).3
+unlimited r sound e = (sound_at r.time r.untimed r.sides.links.sides sound.timed.sides (number e)).3
 
 module _ (v : RelayValue) (r : Inside) (is : relay_of r ≡ v) where
-  pub no_hook : (e : SideId) → has_hook v.state.settings e ≡ false
-  no_hook e = ap (λ (z : RelayValue). has_hook z.state.settings e) (sym is)
-
   -- and as it is seen
   pub no_limits : IsSound r → HasNoLimits v.state
   no_limits sound = subst (λ (z : RelayValue). HasNoLimits z.state) is (unlimited r sound)
@@ -160,31 +133,22 @@ module _ (v : RelayValue) (r : Inside) (is : relay_of r ≡ v) where
       state_with r (h r.sides.links) ≡ f (state_with r r.sides.links) → state_with r k ≡ f v.state
   carried k h f a b = ap (state_with r) a ∙ b ∙ ap (λ (z : RelayValue). f z.state) is
 
-  -- where a side changes and a reason becomes due where there is a hook: there is none
-  pub changed_raising : (k : Links) (e : SideId) (g : PlainSide → PlainSide) (reason : Why) → k ≡ change_side e g r.sides.links →
-      state_with r k ≡ with_plain (raise v.state.settings e reason (plain.change_side e g v.state.plain)) v.state
-  changed_raising k e g reason a =
-      carried k (change_side e g) (λ s. with_plain (plain.change_side e g s.plain) s) a refl
-      ∙ ap (λ p. with_plain p v.state) (sym (raise-none v.state.settings e reason (plain.change_side e g v.state.plain) (no_hook e)))
-
   -- bytes were got, or taken
 
-  pub got_none : (k : Links) (e : SideId) (bytes : List ℕ) → IsSound r → k ≡ links.after_got r.time e bytes r.sides.links →
-      state_with r k ≡ after_got v.state e bytes
-  got_none k e bytes sound a =
+  pub got_seen : (k : Links) (e : SideId) (bytes : List ℕ) → IsSound r → k ≡ links.after_got r.time e bytes r.sides.links →
+      state_with r k ≡ read_run e (with_got v.state e bytes)
+  got_seen k e bytes sound a =
       let s : State = state_with r r.sides.links in
       let still = sym (gauges_after-none e dir.Read (length bytes) s (unlimited r sound e)) in
       carried k (links.after_got r.time e bytes) (λ z. read_run e (with_got z e bytes)) a
       (ap (λ xs. read_run e (record (with_got s e bytes) { gauges = xs })) still)
-      ∙ sym (raise_read-none e (read_run e (with_got v.state e bytes)) (no_hook e))
 
-  pub taken_none : (k : Links) (e : SideId) (n : ℕ) → IsSound r → k ≡ links.after_took r.time e n r.sides.links →
-      state_with r k ≡ after_took v.state e n
-  taken_none k e n sound a =
+  pub taken_seen : (k : Links) (e : SideId) (n : ℕ) → IsSound r → k ≡ links.after_took r.time e n r.sides.links →
+      state_with r k ≡ with_taken v.state e n
+  taken_seen k e n sound a =
       let s : State = state_with r r.sides.links in
       let still = sym (gauges_after-none e dir.Write n s (unlimited r sound e)) in
       carried k (links.after_took r.time e n) (λ z. with_taken z e n) a (ap (λ xs. record (with_taken s e n) { gauges = xs }) still)
-      ∙ sym (raise_write-none e (with_taken v.state e n) (no_hook e))
 
   -- passing
 

@@ -1,7 +1,7 @@
 -- Where nothing is timed, a turn begins with nothing but its time, and a poll waits for ever. Where no side has a limit, it wakes up for
 -- timeouts alone. Looking at sides opens no link.
-use Rattle.std.proofs.Common.{◌≡◌, ℕ, suc, ◌+◌, ◌<◌, ◌-◌, Bool, true, false, ◌&&◌, ◌||◌, nat_le, not, if◌then◌else◌, List, [], ◌∷◌, ◌++◌}
-use Rattle.std.proofs.Common.{length, map, slice_index_or, Option, Some, None, option_map, refl, sym, ◌∙◌, ap, arith, fold, append-nil}
+use Rattle.std.proofs.Common.{◌≡◌, ℕ, zero, suc, ◌==◌, ◌+◌, ◌<◌, ◌-◌, Bool, true, false, ◌&&◌, ◌||◌, nat_le, not, if◌then◌else◌, List, [], ◌∷◌, ◌++◌}
+use Rattle.std.proofs.Common.{length, map, slice_index_or, Option, Some, None, option_map, refl, sym, ◌∙◌, ap, arith, fold, append-nil, append_assoc}
 use Rattle.std.specs.List.{list_any, flat_map}
 use Rattle.token_bucket.specs.declared.limit.Dir.{Dir}
 use Rattle.token_bucket.specs.declared.limit.Dir.TheVariants as dir
@@ -14,7 +14,7 @@ use Rattle.ev_types.specs.Usual.{no_timeouts}
 use Rattle.relay_model.specs.Plain.{Plain, PlainSide, Standing, Timer, no_side, side_at, is_live, sides_from, all_sides, change_side}
 use Rattle.relay_model.specs.Reasons.{has_hook, raise, happened, timeout_flag}
 use Rattle.relay_model.specs.Due.{with_reason}
-use Rattle.relay_model.specs.Moments.{timeout_of, last_activity, is_timed, active_at, both_ways, moment_where, earliest, has_run_out}
+use Rattle.relay_model.specs.Moments.{timeout_of, last_activity, is_timed, active_at, both_ways, moment_where, earliest, has_run_out, is_pressing}
 use Rattle.relay_model.specs.Moments.{expire}
 use Rattle.relay_state.specs.State.{State, with_plain}
 use Rattle.relay_state.specs.Closing.{in_side, out_side}
@@ -23,7 +23,7 @@ use Rattle.relay_state.specs.Time.{expiry, limit_gain, moments, poll_timeout, ti
 use Rattle.relay_core.specs.RelayView.{state_with, IsSound, IsSoundSide}
 use Rattle.relay_core.specs.Unlimited.{HasNoLimits}
 use Rattle.relay_core.specs.Waits.{wait_until, is_expired, expiries}
-use Rattle.relay_core.specs.declared.relay.Relay.TheInside.{Inside}
+use Rattle.relay_core.specs.declared.ctl.Ctl.TheInside.{Inside}
 use Rattle.relay_core.proofs.RelayLemmas.{sound_at, unlimited}
 
 no_timeout : (d : Dir) (x : PlainSide) → x.timeouts ≡ no_timeouts → is_timed x d ≡ false
@@ -43,7 +43,7 @@ pub record IsUntimed (s : State) : Type 0 where
 pub untimed_seen : (r : Inside) → IsSound r → r.untimed ≡ true → IsUntimed (state_with r r.sides.links)
 untimed_seen r sound h =
     let at : (n : ℕ) → IsSoundSide r.time r.untimed (slice_index_or r.sides.links.sides n no_side) =
-    sound_at r.time r.untimed r.sides.links.sides sound.sides in
+    sound_at r.time r.untimed r.sides.links.sides sound.timed.sides in
     record { timeouts = λ e. ((at (number e)).2 h).0; expired = λ e. ((at (number e)).2 h).1 }
 
 module _ (s : State) (u : IsUntimed s) where
@@ -94,28 +94,46 @@ gains-none s none (e ∷ es) =
     ap (λ (y : Option Standing). limit_gain s e y ++ flat_map (λ e. limit_gain s e (side_at s.plain e).limit) es) (none e)
     ∙ gains-none s none es
 
--- and where no timer runs either, a poll wakes up for the sides' timeouts
-pub moments-none : (s : State) → s.plain.timers ≡ [] → HasNoLimits s → moments s ≡ expiries s (all_sides s.plain)
-moments-none s timers none =
+-- so that a poll wakes up for timers and the sides' timeouts
+pub moments-unlimited : (s : State) → HasNoLimits s →
+    moments s ≡ map (λ (x : Timer). x.deadline) s.plain.timers ++ expiries s (all_sides s.plain)
+moments-unlimited s none =
+    let timers : List ℕ = map (λ (x : Timer). x.deadline) s.plain.timers in
     let gains = gains-none s none (all_sides s.plain) in
-    (λ i. map (λ (x : Timer). x.deadline) (timers i) ++ expiries s (all_sides s.plain) ++ gains i)
-    ∙ append-nil (expiries s (all_sides s.plain))
+    (λ i. timers ++ expiries s (all_sides s.plain) ++ gains i) ∙ ends timers (expiries s (all_sides s.plain))
+  where
+    ends : (xs ys : List ℕ) → xs ++ ys ++ [] ≡ xs ++ ys
+    ends xs ys = append_assoc xs ys [] ∙ ap (λ zs. xs ++ zs) (append-nil ys)
 
--- Where nothing presses either, a poll waits for the earliest of them.
-pub poll_timeout-waits : (s : State) → s.plain.timers ≡ [] → s.plain.due ≡ [] → HasNoLimits s →
-    list_any (is_expired s) (all_sides s.plain) ≡ false → poll_timeout s ≡ wait_until s.plain.time (expiries s (all_sides s.plain))
-poll_timeout-waits s timers due none live = λ i.
-    if nat_le 1 (length (due i)) || live i then Some 0
-    else option_map (λ moment. moment - s.plain.time) (earliest (moments-none s timers none i))
+-- where no side has a timeout it wakes up for timers alone
+pub moments-untimed : (s : State) → HasNoLimits s → IsUntimed s → moments s ≡ map (λ (x : Timer). x.deadline) s.plain.timers
+moments-untimed s none u =
+    let timers : List ℕ = map (λ (x : Timer). x.deadline) s.plain.timers in
+    moments-unlimited s none ∙ ap (λ xs. timers ++ xs) (expiries-none s u (all_sides s.plain)) ∙ append-nil timers
 
--- nothing presses, and there is no moment to wake up for
-pub poll_timeout-none : (r : Inside) → IsSound r → r.untimed ≡ true → poll_timeout (state_with r r.sides.links) ≡ None
-poll_timeout-none r sound h =
-    let s : State = state_with r r.sides.links in
-    let u = untimed_seen r sound h in
-    let none = moments-none s refl (unlimited r sound) ∙ expiries-none s u (all_sides s.plain) in
-    (λ i. if none_expired s u (all_sides s.plain) i then Some 0
-    else option_map (λ moment. moment - s.plain.time) (earliest (none i)))
+-- where nothing presses, a poll waits for the earliest moment, and else not at all
+pub poll_timeout-waits : (s : State) → is_pressing s.plain ≡ false → poll_timeout s ≡ wait_until s.plain.time (moments s)
+poll_timeout-waits s none =
+    ap (λ b. if b then Some 0 else option_map (λ moment. moment - s.plain.time) (earliest (moments s))) none
+
+pub poll_timeout-presses : (s : State) → is_pressing s.plain ≡ true → poll_timeout s ≡ Some 0
+poll_timeout-presses s some =
+    ap (λ b. if b then Some 0 else option_map (λ moment. moment - s.plain.time) (earliest (moments s))) some
+
+-- it presses where something is due, and else where a side has expired
+pub pressing-due : (s : State) → (length s.plain.due == 0) ≡ false → is_pressing s.plain ≡ true
+pressing-due s h = ap (λ b. b || list_any (is_expired s) (all_sides s.plain)) (some (length s.plain.due) h)
+  where
+    some : (n : ℕ) → (n == 0) ≡ false → nat_le 1 n ≡ true
+    some zero e = absurd (let wrong : true ≡ false = e in cc)
+    some (suc n) e = refl
+
+pub pressing-quiet : (s : State) → (length s.plain.due == 0) ≡ true → is_pressing s.plain ≡ list_any (is_expired s) (all_sides s.plain)
+pressing-quiet s h = ap (λ b. b || list_any (is_expired s) (all_sides s.plain)) (none (length s.plain.due) h)
+  where
+    none : (n : ℕ) → (n == 0) ≡ true → nat_le 1 n ≡ false
+    none zero e = refl
+    none (suc n) e = absurd (let wrong : false ≡ true = e in cc)
 
 -- no side changes as it is looked at
 pub sides_timed-none : (r : Inside) → IsSound r → r.untimed ≡ true →

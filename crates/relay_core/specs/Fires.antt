@@ -1,5 +1,5 @@
 -- What a hook does in a fire: asks in a row, each answered and recorded.
-use Rattle.std.specs.Prelude.{◌≡◌, ℕ, ◌+◌, ◌≤◌, ◌<◌, ⊤, Bool, ◌||◌, List, [], ◌∷◌, ◌++◌, length, map, Option, Some, None, option_map, Result, Ok, Err}
+use Rattle.std.specs.Prelude.{◌≡◌, ℕ, ◌+◌, ◌≤◌, ◌<◌, ⊤, Bool, true, false, ◌||◌, IfSome, List, [], ◌∷◌, ◌++◌, length, map, Option, Some, None, option_map, Result, Ok, Err}
 use Rattle.std.specs.List.{list_any}
 use Rattle.ev_types.specs.declared.act.Act.{Act}
 use Rattle.ev_types.specs.declared.act.Act.TheVariants as act
@@ -16,7 +16,7 @@ use Rattle.relay_model.specs.Asks.{most_asks, refusal}
 use Rattle.relay_model.specs.Plans.{IsPlanned}
 use Rattle.relay_state.specs.State.{State}
 use Rattle.relay_state.specs.Asking.{AsksOne, AsksAll, ask_events, stops}
-use Rattle.relay_core.specs.Named.{NamesLinkBelow}
+use Rattle.relay_core.specs.Named.{HasRoomForReference, NamesLinkBelow}
 use Rattle.relay_core.specs.RelayValue.{RelayValue}
 use Rattle.relay_core.specs.declared.fault.AskFault.{AskFault}
 use Rattle.relay_core.specs.declared.fault.AskFault.TheVariants as fault
@@ -75,6 +75,7 @@ pub record MayAsk (a : Act) (old new : RelayValue) : Type 0 where
   pub few : old.asks < most_asks
   pub free : refusal old.state.settings old.state.plain a ≡ None
   pub named : NamesLinkBelow old.state.plain.opened a
+  pub room : HasRoomForReference old.state.plain a
 
 -- the hook that runs made this ask, which was answered so and recorded
 pub record Recorded (old : RelayValue) (a : Act) (answer : AskAnswer) (new : RelayValue) : Type 0 where
@@ -121,3 +122,14 @@ HasAskedByPlan _ _ _ = ⊤
 abbrev pub HasToldNothing : {A : Type 0} → Option (List A) → Type 0
 HasToldNothing None = ⊤
 HasToldNothing (Some xs) = xs ≡ []
+
+-- can a hook ask this: not for limits and groups yet
+abbrev pub can_ask : Act → Bool
+can_ask (act.Rate e cfg) = false
+can_ask (act.Join e group) = false
+can_ask (act.Leave e) = false
+can_ask _ = true
+
+-- can it be planned
+abbrev pub CanPlan : PlanLine → Type 0
+CanPlan line = IfSome line.act (λ a. can_ask a ≡ true)

@@ -1,7 +1,9 @@
--- Of which sides an ask that is not refused speaks.
-use Rattle.std.specs.Prelude.{ℕ, ◌<◌, ⊤, Bool, true, false}
+-- Of which sides an ask that is not refused speaks, and that a reference more can be counted.
+use Rattle.std.specs.Prelude.{ℕ, ◌<◌, ⊤}
 use Rattle.ev_types.specs.declared.act.Act.{Act}
 use Rattle.ev_types.specs.declared.act.Act.TheVariants as act
+use Rattle.relay_model.specs.Asks.{most_references}
+use Rattle.relay_model.specs.Plain.{Plain, side_at}
 
 -- the link of the side that it names is one of the first, so many
 abbrev pub NamesLinkBelow : ℕ → Act → Type 0
@@ -19,3 +21,8 @@ NamesLinkBelow opened (act.Cancel e) = e.link < opened
 NamesLinkBelow opened (act.Incref e) = e.link < opened
 NamesLinkBelow opened (act.Decref e) = e.link < opened
 NamesLinkBelow opened act.Stop = ⊤
+
+-- an ask for one reference more finds fewer than the most
+abbrev pub HasRoomForReference : Plain → Act → Type 0
+HasRoomForReference s (act.Incref e) = (side_at s e).references < most_references
+HasRoomForReference s _ = ⊤

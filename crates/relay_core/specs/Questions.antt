@@ -35,6 +35,6 @@ abbrev pub counts_told : State → SideId → Result Counts AskFault
 counts_told s e = if is_live s.plain e || nat_lt 0 (side_at s.plain e).references then Ok (counts_at s e) else Err fault.NotLive
 
 -- How many bytes were put in front of a slice: as many as the slice has room for and the input has. The rest of the slice stays.
-pub record IsPeeked (s : State) (e : SideId) (old new : List ℕ) (count : ℕ) : Type 0 where
-  pub count : count ≡ min (length old) (length (input_of s e))
-  pub bytes : new ≡ take count (input_of s e) ++ drop count old
+pub record IsPeeked (s : State) (e : SideId) (old new : List ℕ) (copied : ℕ) : Type 0 where
+  pub count : copied ≡ min (length old) (length (input_of s e))
+  pub bytes : new ≡ take copied (input_of s e) ++ drop copied old

@@ -1,8 +1,5 @@
--- What the sides of a new link get of the settings. The end of the In side is connected. And which sides have a hook.
-use Rattle.std.specs.Prelude.{Bool, true, false, List, length, slice_index_or}
-use Rattle.ev_types.specs.declared.side.SideId.{SideId}
-use Rattle.ev_types.specs.Sides.{number}
-use Rattle.relay_model.specs.Plain.{sides_where}
+-- What the sides of a new link get of the settings. The end of the In side is connected.
+use Rattle.std.specs.Prelude.{Bool, true}
 use Rattle.ev_types.specs.declared.settings.Settings.{Settings}
 use Rattle.relay_sides.specs.declared.opening.NewSide.{NewSide}
 
@@ -12,7 +9,3 @@ near_of g = record { marks = g.in_marks; timeouts = g.in_timeouts; read = g.in_r
 abbrev pub far_of : Settings → Bool → NewSide
 far_of g connected =
     record { marks = g.out_marks; timeouts = g.out_timeouts; read = g.out_read; write = g.out_write; connected = connected }
-
--- the sides that have a hook, where a list says so of each of the first ones
-abbrev pub hooked_sides : List Bool → List SideId
-hooked_sides hooked = sides_where (λ e. slice_index_or hooked (number e) false) (length hooked)

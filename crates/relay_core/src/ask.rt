@@ -1,9 +1,10 @@
 // What a hook that runs may ask: whether an ask is refused, and its record.
-ghost use Rattle.std.specs.Prelude.{◌≡◌, ◌<◌, false, Err, OnOk, IfErr};
+ghost use Rattle.std.specs.Prelude.{◌≡◌, ◌<◌, false, Err, None, OnOk, IfErr};
 ghost use Rattle.ev_types.specs.AskNumbers.{IsAct};
 ghost use Rattle.relay_model.specs.Asks.{refusal, names_no_live, has_bad_value, has_too_many, most_asks};
 ghost use Rattle.relay_model.specs.Plain.{side_at};
 ghost use Rattle.relay_state.specs.Asking.{is_of_group};
+ghost use Rattle.relay_core.specs.Named.{HasRoomForReference, NamesLinkBelow};
 ghost use Rattle.relay_core.specs.Fires.{AsksOnce, IsRecorded, MayAsk, answer_of, fault_of};
 
 use crate::ctl::Ctl;
@@ -35,7 +36,8 @@ fn fault_of(refused: AskAnswer) -> AskFault
 impl Ctl {
     /// How many references the side has, opened or not.
     pub(crate) fn references(&self, side: SideId) -> u32
-        ensures { result ≡ (side_at self.now.state.plain side).references }
+        ensures count { result ≡ (side_at self.now.state.plain side).references }
+        ensures opened { 0 < result → side.link < self.now.state.plain.opened }
     {
         if side.link < self.sides.opened() {
             self.sides.references(side)
@@ -46,7 +48,8 @@ impl Ctl {
 
     /// Whether the side that an ask names was never opened or is freed.
     fn names_no_live(&self, act: &Act) -> bool
-        ensures { result ≡ names_no_live self.now.state.plain act.now }
+        ensures live { result ≡ names_no_live self.now.state.plain act.now }
+        ensures opened { result ≡ false → NamesLinkBelow self.now.state.plain.opened act.now }
     {
         match *act {
             Act::Free(side)
@@ -82,7 +85,8 @@ impl Ctl {
 
     /// Whether there would be one reference too many.
     fn has_too_many(&self, act: &Act) -> bool
-        ensures { result ≡ has_too_many self.now.state.plain act.now }
+        ensures many { result ≡ has_too_many self.now.state.plain act.now }
+        ensures room { result ≡ false → HasRoomForReference self.now.state.plain act.now }
     {
         match *act {
             Act::Incref(side) => self.references(side) == u32::MAX,
@@ -93,7 +97,9 @@ impl Ctl {
     /// Why an ask is refused, by the first reason that there is.
     fn refusal(&self, act: &Act) -> Option<AskAnswer>
         requires { is_of_group act.now ≡ false }
-        ensures { result ≡ refusal self.now.state.settings self.now.state.plain act.now }
+        ensures refusal { result ≡ refusal self.now.state.settings self.now.state.plain act.now }
+        ensures opened { result ≡ None → NamesLinkBelow self.now.state.plain.opened act.now }
+        ensures room { result ≡ None → HasRoomForReference self.now.state.plain act.now }
     {
         if self.names_no_live(act) {
             return Some(AskAnswer::NotLive);

@@ -1,5 +1,5 @@
 // The relay's own state, of which a hook that runs may ask.
-ghost use Rattle.std.specs.Prelude.{◌≡◌, ◌<◌, ◌≤◌, [], false};
+ghost use Rattle.std.specs.Prelude.{◌≡◌, ◌<◌, ◌≤◌, [], true, false};
 ghost use Rattle.relay_model.specs.Plain.{is_live};
 ghost use Rattle.relay_model.specs.Reasons.{raise};
 ghost use Rattle.relay_state.specs.State.{with_plain};
@@ -50,7 +50,8 @@ impl Ctl {
     ///
     /// Own.
     pub fn live(&self, side: SideId) -> bool
-        ensures { result ≡ is_live self.now.state.plain side }
+        ensures live { result ≡ is_live self.now.state.plain side }
+        ensures opened { result ≡ true → side.link < self.now.state.plain.opened }
     {
         side.link < self.sides.opened() && self.sides.is_live(side)
     }
@@ -86,7 +87,11 @@ impl Ctl {
         if !self.waits.has_hook(side) || !self.live(side) {
             return;
         }
-        if self.sides.output_len(side) as u64 <= self.sides.low_mark(side, Dir::Write) {
+        let lengths = self.sides.lengths(side);
+        let Some(output) = lengths.output.checked_add(lengths.raw_output) else {
+            return;
+        };
+        if output <= self.sides.low_mark(side, Dir::Write) {
             self.waits.raise(side, Why::Write);
         }
     }

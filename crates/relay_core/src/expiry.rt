@@ -1,11 +1,11 @@
 // What time brings: the start of a turn, and for how long a poll may wait. A side that is idle for as long as one of its
 // timeouts expires. Where no side has a timeout, none is looked at.
-ghost use Rattle.std.specs.Prelude.{◌≡◌, ◌^◌, ◌<◌, ◌||◌, min, max, fold, true};
+ghost use Rattle.std.specs.Prelude.{◌≡◌, ◌^◌, ◌<◌, ◌||◌, min, max, fold, map, true};
 ghost use Rattle.std.specs.List.{list_any, flat_map};
 ghost use Rattle.ev_types.specs.declared.why.Why.TheVariants.{Event};
 ghost use Rattle.relay_model.specs.Plain.{side_at, change_side, all_sides};
 ghost use Rattle.relay_model.specs.Reasons.{raise, happened, timeout_flag};
-ghost use Rattle.relay_model.specs.Moments.{is_timed, active_at, both_ways, timers_taken, has_run_out, expire};
+ghost use Rattle.relay_model.specs.Moments.{is_timed, active_at, both_ways, is_pressing, timers_taken, has_run_out, expire};
 ghost use Rattle.relay_model.specs.Turn.{turned_to};
 ghost use Rattle.relay_state.specs.State.{with_plain};
 ghost use Rattle.relay_state.specs.Closing.{in_side, out_side};
@@ -121,6 +121,7 @@ impl Relay {
         requires { self.old.state.plain.turn < 2 ^ 62 }
         ensures time { result ≡ max self.old.state.plain.time (min reading (2 ^ 62)) }
         ensures state { self.new.state ≡ with_plain (turned_to result self.old.state.plain) self.old.state }
+        ensures unlimited { HasNoLimits self.old.state }
         ensures untimed { self.new.untimed ≡ self.old.untimed }
     {
         self.ctl.turns += 1;
@@ -238,30 +239,42 @@ impl Relay {
         least
     }
 
+    /// The least wait of all timers.
+    fn timer_wait(&self) -> Option<u64>
+        ensures { result ≡ wait_until self.now.state.plain.time (map (λ x. x.deadline) self.now.state.plain.timers) }
+    {
+        let deadline = self.ctl.waits.next_deadline()?;
+        Some(deadline.saturating_sub(self.ctl.time))
+    }
+
+    /// Whether a callback waits for this turn, or a live side has expired.
+    fn is_pressing(&self) -> bool
+        ensures { result ≡ is_pressing self.now.state.plain }
+    {
+        if !self.ctl.waits.is_quiet() {
+            return true;
+        }
+        if self.ctl.untimed {
+            return false;
+        }
+        self.any_is_expired()
+    }
+
     /// The least wait of all timers and sides.
     fn least_wait_of_all(&self) -> Option<u64>
         ensures { result ≡ wait_until self.now.state.plain.time (moments self.now.state) }
     {
-        let time = self.ctl.time;
-        let timer = self
-            .ctl
-            .waits
-            .next_deadline()
-            .map(|deadline| deadline.saturating_sub(time));
         if self.ctl.untimed {
-            return timer;
+            return self.timer_wait();
         }
-        earlier(timer, self.least_wait())
+        earlier(self.timer_wait(), self.least_wait())
     }
 
     /// For how many milliseconds a poll may wait; None is for ever. Constant where no side has a timeout, else linear in the number of links.
     pub fn poll_timeout(&self) -> Option<u64>
         ensures { result ≡ poll_timeout self.now.state }
     {
-        if !self.ctl.waits.is_quiet() {
-            return Some(0);
-        }
-        if !self.ctl.untimed && self.any_is_expired() {
+        if self.is_pressing() {
             return Some(0);
         }
         self.least_wait_of_all()

@@ -3,7 +3,7 @@ ghost use Rattle.std.specs.Prelude.{◌≡◌, ◌↔◌, IsTrue, IfOk};
 ghost use Rattle.ev_types.specs.Usual.{no_timeouts};
 ghost use Rattle.relay_state.specs.State.{new_state};
 ghost use Rattle.relay_model.specs.Settings.{settings_with};
-ghost use Rattle.relay_core.specs.SettingsView.{hooked_sides};
+ghost use Rattle.relay_waits.specs.WaitsValue.{hooks_of};
 
 use crate::ask::MOST_ASKS;
 use crate::ctl::Ctl;
@@ -41,7 +41,7 @@ impl Relay {
     /// A relay with no link at time 0. The list says of each of the first sides whether it has a hook. Refused for want of memory; takes
     /// some for each place of the list, and none where there is none. Linear in the list.
     pub fn new(alloc: Global, settings: Settings, hooked: Vec<bool>) -> Result<Relay, NoMemory>
-        ensures { IfOk result (λ relay. relay.state ≡ new_state (settings_with settings (hooked_sides hooked.items))) }
+        ensures { IfOk result (λ relay. relay.state ≡ new_state (settings_with settings (hooks_of hooked.items))) }
     {
         let ctl = Ctl {
             settings,
@@ -72,6 +72,15 @@ impl Relay {
         ensures lanes { result.now.links.lanes ≡ self.now.state.lanes }
     {
         &self.ctl.sides
+    }
+
+    /// The state as hooks are lent it, to be asked and not to be changed. Constant; takes no memory.
+    ///
+    /// Own.
+    pub fn ctl(&self) -> &Ctl
+        ensures { result.now ≡ self.now }
+    {
+        &self.ctl
     }
 
     /// Milliseconds. It never falls. Constant; takes no memory.

@@ -7,7 +7,8 @@ use Rattle.ev_types.specs.declared.side.SideId.{SideId}
 use Rattle.ev_types.specs.declared.why.Why.{Why}
 use Rattle.ev_types.specs.Trace.{Trace}
 use Rattle.relay_state.specs.State.{State}
-use Rattle.relay_state.specs.Asking.{dispatching, Fires, FiresSome, Dispatches, StopsAt}
+use Rattle.relay_model.specs.Due.{Reason}
+use Rattle.relay_state.specs.Asking.{dispatching, left_to_fire, Fires, FiresSome, Dispatches, StopsAt}
 use Rattle.relay_drive.specs.Steps.{Nothing}
 
 -- All that is due is fired. No more is due than there are sides with a hook, as no side has two entries.
@@ -20,9 +21,9 @@ pub record FiresShort (s : State) (a : Trace) (new : State) : Type 0 where
   pub stopped : Bool
   pub fires : Fires stopped s a new
 
--- Dispatch is cut off between two fires, or by a hook for which memory was wanting.
+-- Dispatch is cut off between two fires, the next reason being taken out or not, or by a hook for which memory was wanting.
 pub data CutFire (s : State) (a : Trace) (new : State) : Type 0 where
-  no_room : Nothing s a new → CutFire s a new
+  no_room : (rs : List Reason) → Nothing (left_to_fire rs s) a new → CutFire s a new
   in_fire : FiresShort s a new → CutFire s a new
 
 -- some reasons were fired, and then it was cut off

@@ -13,6 +13,7 @@ pub mod DriveValue
 pub mod Agenda
 pub mod DriveView
 pub mod Seats
+pub mod Fired
 pub mod DriveStands
 pub mod Moves
 pub mod Bounds

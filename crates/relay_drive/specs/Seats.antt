@@ -1,5 +1,5 @@
 -- The hooks of a drive: each in its slot, or out of it for good once its side was freed; and what they tell of a turn.
-use Rattle.std.specs.Prelude.{◌≡◌, ◌≢◌, ◌<◌, ℕ, ⊤, Bool, true, false, List, length, slice_index_or, Option, Some, None, option_map, MatchOption}
+use Rattle.std.specs.Prelude.{◌≡◌, ◌≢◌, ◌<◌, ℕ, ⊤, Bool, true, false, List, [], ◌∷◌, length, map, slice_index_or, slice_set, if◌then◌else◌, Option, Some, None, MatchOption}
 use Rattle.std.specs.Prelude.{IsSomeAnd, is_some}
 use Rattle.std.specs.Option.{option_or}
 use Rattle.ev_types.specs.declared.act.Act.{Act}
@@ -50,6 +50,21 @@ pub record HooksTell {H : Type 0} (tells : Telling H) (short : Option SideId) (h
 -- of a turn that was cut off, for some side or none
 abbrev pub HooksTellBut : {H : Type 0} → Telling H → List (Option H) → List (Option H) → List (Option H) → List (Option H) → Trace → Type 0
 HooksTellBut tells hooks gone hooks' gone' added = (short : Option SideId) × HooksTell tells short hooks gone hooks' gone' added
+
+-- Whether there is a hook in each slot.
+abbrev pub slots_taken : {H : Type 0} → List (Option H) → List Bool
+slots_taken hooks = map (λ slot. is_some slot) hooks
+
+-- The hook of a side was called for a reason, with these events of what it asked: it was out of its slot, and lies where it belongs: in its
+-- slot where its side is live then, and else out of it for good. Where it didn't want memory it tells the reason and what it asked.
+pub record SeatFired {H : Type 0} (tells : Telling H) (ok live : Bool) (e : SideId) (y : Why) (log : Trace) (hooks gone hooks' gone' : List (Option H)) : Type 0 where
+  pub was : H
+  pub now : H
+  pub there : hook_at hooks (number e) ≡ Some was
+  pub hooks : hooks' ≡ slice_set hooks (number e) (if live then Some now else None)
+  pub gone : gone' ≡ (if live then gone else slice_set gone (number e) (Some now))
+  pub told : ok ≡ true → TellsMore tells was now (y ∷ []) (asked_in e log)
+  pub planned : tells.planned now ≡ tells.planned was
 
 -- There are as many places for hooks that are out of their slots as slots. The sides with a hook are those of which there is one, in its slot
 -- or out of it; it is out of it only where its side was opened and freed.

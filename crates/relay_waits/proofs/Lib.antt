@@ -1,3 +1,6 @@
 pub mod NumberLemmas
 pub mod DueLemmas
 pub mod TimerLemmas
+pub mod HookLemmas
+pub mod KeptLemmas
+pub mod WaitLemmas

@@ -58,7 +58,7 @@ pub timers-are_cancelled : TimersAreCancelled
 timers-are_cancelled = record { one = cancelled; none = none-of }
 
 -- where the first isn't due, none is
-none-due : (now d : ℕ) (ts : List by_number.Timer) → now < d → AllByRecursion (λ (u : by_number.Timer). d ≤ u.deadline) ts →
+pub none-due : (now d : ℕ) (ts : List by_number.Timer) → now < d → AllByRecursion (λ (u : by_number.Timer). d ≤ u.deadline) ts →
     (filter (λ x. nat_le x.deadline now) (timers_of ts) ≡ []) × (filter (λ x. nat_lt now x.deadline) (timers_of ts) ≡ timers_of ts)
 none-due now d [] late all = (refl, refl)
 none-due now d (t ∷ ts) late all =

@@ -1,8 +1,11 @@
--- A text none of whose lines is for later spells a script with no limit, group and member.
+-- A text none of whose lines is for later spells a script with no limit, group and member, and none in what is planned.
 use Rattle.std.proofs.Common.{◌≡◌, ◌+◌, arith, Bool, true, false, ◌||◌, not, List, [], ◌∷◌, ◌++◌, length, Option, Some, None, Result, Ok}
 use Rattle.std.proofs.Common.{Err, refl, ap, sym, subst, ◌∙◌, if◌then◌else◌, ◌&&◌}
 use Rattle.std.specs.Prelude.{ℕ, ◌^◌, ◌-◌, min, nat_lt, IfOk, option_map, option_and_then}
-use Rattle.std.specs.List.{list_all}
+use Rattle.std.specs.List.{All, list_all}
+use Rattle.std.proofs.lemmas.List.Elements.{All-nil, All-cons, All-append}
+use Rattle.ev_types.specs.declared.plan_line.PlanLine.{PlanLine}
+use Rattle.ev_types.specs.declared.side.SideId.{SideId}
 use Rattle.token_bucket.specs.declared.limit.Dir.TheVariants.{Read, Write}
 use Rattle.ev_types.specs.declared.side.Side.TheVariants.{In, Out}
 use Rattle.ev_types.specs.ScriptTurn.{lines_of}
@@ -18,7 +21,7 @@ use Rattle.script_text.specs.Grammar.{said}
 use Rattle.script_text.specs.Order.{group_set, may_be_set, may_follow, with_line, extended}
 use Rattle.script_text.specs.Spelled.{is_plain, line_read, lines_read, going_on, no_line, script_of, IsTold}
 use Rattle.script_text.specs.declared.script.ScriptFault.TheVariants.{BadLine}
-use Rattle.script_text.specs.Runnable.{is_for_later, says_later, first_for_later, refused_at, IsRunnable}
+use Rattle.script_text.specs.Runnable.{is_act_for_later, is_for_later, says_later, first_for_later, refused_at, IsRunnable}
 use Rattle.script_text.proofs.LawLemmas.{script_of-read}
 
 some-is : {A : Type 0} (a b : A) → Some a ≡ Some b → a ≡ b
@@ -27,10 +30,15 @@ some-is a b h = cc h
 none-some : {A B : Type 0} (a : A) → None ≡ Some a → B
 none-some a h = absurd (cc h)
 
--- so far no line of limits, groups and members was read
+-- what is planned is none for later
+abbrev IsPlannedNow : SideId × PlanLine → Type 0
+IsPlannedNow x = is_act_for_later x.1.act ≡ false
+
+-- so far no line of limits, groups and members was read, and none of a plan that asks for such
 record IsBare (s : SoFar) : Type 0 where
   pub limits : s.given.limits ≡ no_limits
   pub groups : s.groups ≡ []
+  pub plans : All IsPlannedNow s.plans
 
 once-bare : {A : Type 0} (before : Option A) (longer new : Given) → longer.limits ≡ no_limits → once before longer ≡ Some new →
     new.limits ≡ no_limits
@@ -65,23 +73,27 @@ extended-bare s new (line.Set setting) is k h =
     go false (Some g) e p =
         let both = with-bare s.given g setting is k.limits e in
         let longer : SoFar = record s { given = g; groups = s.groups ++ group_set setting } in
-        let bare : IsBare longer = record { limits = both.0; groups = rw (k.groups, both.1) refl } in
+        let bare : IsBare longer = record { limits = both.0; groups = rw (k.groups, both.1) refl; plans = k.plans } in
         subst IsBare (some-is longer new p) bare
 extended-bare s new (line.Plan side item) is k h = go (nat_lt 0 (length s.turns)) h
   where
     go : (b : Bool) → (if b then None else Some (record s { plans = s.plans ++ (side, item) ∷ [] })) ≡ Some new → IsBare new
     go true p = none-some new p
-    go false p = subst IsBare (some-is _ new p) (record { limits = k.limits; groups = k.groups })
+    go false p = subst IsBare (some-is _ new p) (record {
+      limits = k.limits;
+      groups = k.groups;
+      plans = All-append IsPlannedNow s.plans ((side, item) ∷ []) k.plans (All-cons IsPlannedNow (side, item) [] is (All-nil IsPlannedNow));
+    })
 extended-bare s new (line.At ms) is k h = go (nat_lt (length s.turns) 20000) h
   where
     go : (b : Bool) → (if b then Some (record s { turns = s.turns ++ (ms, []) ∷ [] }) else None) ≡ Some new → IsBare new
-    go true p = subst IsBare (some-is _ new p) (record { limits = k.limits; groups = k.groups })
+    go true p = subst IsBare (some-is _ new p) (record { limits = k.limits; groups = k.groups; plans = k.plans })
     go false p = none-some new p
 extended-bare s new line.Skipped is k h = subst IsBare (some-is s new h) k
 extended-bare s new (line.Within x) is k h = go (nat_lt 0 (length s.turns) && may_follow (lines_of s.turns) x) h
   where
     go : (b : Bool) → (if b then Some (record s { turns = with_line s.turns x }) else None) ≡ Some new → IsBare new
-    go true p = subst IsBare (some-is _ new p) (record { limits = k.limits; groups = k.groups })
+    go true p = subst IsBare (some-is _ new p) (record { limits = k.limits; groups = k.groups; plans = k.plans })
     go false p = none-some new p
 
 line-bare : (s new : SoFar) (text : List ℕ) → says_later (said (words text)) ≡ false → IsBare s → line_read s text ≡ Some new → IsBare new
@@ -113,9 +125,9 @@ pub none-for-later : (text : List ℕ) (script : ScriptValue) → first_for_late
     IsRunnable script
 none-for-later text script none h =
     let read = script_of-read text script h in
-    let start : IsBare no_line = record { limits = refl; groups = refl } in
+    let start : IsBare no_line = record { limits = refl; groups = refl; plans = All-nil IsPlannedNow } in
     let bare = lines-bare (lines text) no_line read.so_far 0 none start read.read in
-    subst IsRunnable read.is (record { limits = bare.limits; groups = bare.groups })
+    subst IsRunnable read.is (record { limits = bare.limits; groups = bare.groups; plans = bare.plans })
 
 -- a text that spells a script is refused at its line for later
 pub told-later : (line told : ℕ) (r : Result ScriptValue ℕ) (script : ScriptValue) → told ≡ min line (2 ^ 32 - 1) → r ≡ Ok script →

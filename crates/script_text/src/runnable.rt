@@ -1,22 +1,22 @@
-// Reads a script of which a run obeys each line: none of limits, groups and members.
+// Reads a script of which a run obeys each line: none of limits, groups and members, and no plan that asks for such.
 ghost use Rattle.std.specs.Prelude.{◌≡◌, ◌≤◌, ◌*◌, Some, length, IfOk, IfErr};
 ghost use Rattle.ev_types.specs.ScriptTurn.{lines_of};
 ghost use Rattle.script_text.specs.Brought.{all_brought};
 ghost use Rattle.script_text.specs.Pieces.{lines, words};
 ghost use Rattle.script_text.specs.Grammar.{said};
 ghost use Rattle.script_text.specs.Spelled.{script_of, IsTold};
-ghost use Rattle.script_text.specs.Runnable.{is_for_later, says_later, first_for_later, refused_at, runnable_script_of, IsRunnable};
+ghost use Rattle.script_text.specs.Runnable.{is_act_for_later, is_for_later, says_later, first_for_later, refused_at, runnable_script_of, IsRunnable};
 
 use crate::line::{Line, line_of};
 use crate::read::read_script;
 use crate::setting::Setting;
 use crate::words::{first_piece, told, words_of};
 use crate::{Script, ScriptFault};
-use ev_types::NoMemory;
+use ev_types::{Act, NoMemory};
 use std::alloc::Global;
 
-/// Reads a whole script, as `read_script`, and refuses it also at its first line of a limit, a group or a member, which no run obeys
-/// yet. Takes the memory that `read_script` takes, and twice its time.
+/// Reads a whole script, as `read_script`, and refuses it also at its first line of a limit, a group or a member, or of a plan
+/// that asks for such, which no run obeys yet. Takes the memory that `read_script` takes, and twice its time.
 ///
 /// Own.
 pub fn read_runnable_script(alloc: Global, text: &[u8]) -> Result<Script, ScriptFault>
@@ -71,11 +71,19 @@ fn is_line_for_later(alloc: Global, text: &[u8]) -> Result<bool, NoMemory>
     }
 }
 
+/// Is something planned that no run does yet?
+fn is_act_for_later(act: &Option<Act>) -> bool
+    ensures { result ≡ is_act_for_later act.now }
+{
+    matches!(act, Some(Act::Rate(..) | Act::Join(..) | Act::Leave(_)))
+}
+
 fn is_for_later(line: &Line) -> bool
     ensures { result ≡ is_for_later line.now }
 {
     match line {
         Line::Set(Setting::Rate(..) | Setting::Group(..) | Setting::Member(..)) => true,
+        Line::Plan(_, item) => is_act_for_later(&item.act),
         _ => false,
     }
 }

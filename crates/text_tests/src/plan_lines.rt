@@ -312,6 +312,8 @@ const REFUSED: &[(&str, Option<u32>)] = &[
     ("set group 0 1 1 1 1 1 1\nset member in 0", Some(1)),
     ("on 0 in read 1 nop\nat 0", None),
     ("on 0 in read 1 nop\nset rate in 1 1 1 1 1", Some(2)),
+    ("on 0 in read 1 stop\non 0 in read 2 rate 0 in none", Some(2)),
+    ("on 0 in timer 1 leave 0 in\nat 0", Some(1)),
     // A bad line before it is told, and no bad line behind it.
     ("x\nset rate in 1 1 1 1 1", Some(1)),
     ("set hold 0\nset rate in 1 1 1 1 1", Some(1)),

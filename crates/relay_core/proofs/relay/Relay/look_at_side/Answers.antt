@@ -7,5 +7,5 @@ use Rattle.relay_core.proofs.relay.Relay.look_at_side.Goals as goal
 
 pub returns-clause-opened : goal.returns-clause-opened
 returns-clause-opened c =
-    ap (λ (s : State). s.plain.opened) (c.look_at-2.ensures ∙ ap (λ s. timed c.args.side s dir.Write) c.look_at.ensures)
+    ap (λ (s : State). s.plain.opened) (c.look_at-2.ensures.state ∙ ap (λ s. timed c.args.side s dir.Write) c.look_at.ensures.state)
     ∙ side_timed-opened c.args.self.now.state c.args.side

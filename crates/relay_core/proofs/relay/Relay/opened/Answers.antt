@@ -1,15 +1,16 @@
 use Rattle.relay_core.specs.Pairs.{HasPairs}
+use Rattle.relay_core.specs.declared.relay.Relay.TheInside.{Inside}
 use Rattle.relay_core.specs.RelayValue.{RelayValue}
-use Rattle.std.proofs.Common.{subst}
+use Rattle.std.proofs.Common.{◌∙◌, ap, subst}
 use Rattle.relay_core.proofs.RelayLemmas.{no_gauges-length}
 use Rattle.relay_core.proofs.relay.Relay.opened.Goals as goal
 
 pub returns-clause-pairs : goal.returns-clause-pairs
 returns-clause-pairs c =
     let pairs = c.opened.ensures.pairs in
-    subst (λ (z : RelayValue). HasPairs z.state) c.self.view_is (record {
+    subst (λ (z : RelayValue). HasPairs z.state) (ap (λ (z : Inside). z.ctl) c.self-inside.view_is ∙ c.self.view_is) (record {
       sides = pairs.sides;
       flows = pairs.flows;
       lanes = pairs.lanes;
-      gauges = no_gauges-length c.self.inside.sides.links.opened;
+      gauges = no_gauges-length c.self-inside.inside.0.0.sides.links.opened;
     })

@@ -1,0 +1,70 @@
+// The hooks of a drive, which stand outside of the relay.
+ghost use Rattle.std.specs.Prelude.{◌≡◌, ◌<◌, Some, None, true, is_some, length, slice_set, slice_index_or, if◌then◌else◌, map, IfOk, [], ◌∷◌};
+ghost use Rattle.ev_types.specs.Sides.{number};
+ghost use Rattle.relay_drive.specs.Seats.{hook_at, slots_taken};
+
+use ev_types::{NoMemory, SideId};
+use relay_core::Hook;
+use std::alloc::Global;
+
+/// The hooks of a drive, each in the slot of its side's number. A hook that was called while its side was freed, by itself or by what it
+/// asked, leaves its slot for good and is kept, so that what it heard and asked can be said.
+#[derive(Drop)]
+pub struct Seats {
+    pub(crate) hooks: Vec<Option<Box<dyn Hook>>>,
+    pub(crate) gone: Vec<Option<Box<dyn Hook>>>,
+}
+
+/// Whether there is a hook in each slot.
+pub(crate) fn slots_taken(
+    alloc: Global,
+    hooks: &[Option<Box<dyn Hook>>],
+) -> Result<Vec<bool>, NoMemory>
+    ensures { IfOk result (λ taken. taken.items ≡ slots_taken hooks.now) }
+{
+    let mut taken = Vec::new(alloc);
+    for slot in hooks {
+        taken.push(slot.is_some())?;
+    }
+    Ok(taken)
+}
+
+/// So many empty slots.
+pub(crate) fn empty_slots(
+    alloc: Global,
+    count: usize,
+) -> Result<Vec<Option<Box<dyn Hook>>>, NoMemory>
+    ensures many { IfOk result (λ slots. length slots.items ≡ count) }
+    ensures empty { IfOk result (λ slots. (n : ℕ) → hook_at slots.items n ≡ None) }
+{
+    let mut slots = Vec::new(alloc);
+    for _ in 0..count {
+        slots.push(None)?;
+    }
+    Ok(slots)
+}
+
+/// Takes the hook of a side out of its slot.
+pub(crate) fn take_hook(hooks: &mut Vec<Option<Box<dyn Hook>>>, side: SideId) -> Box<dyn Hook>
+    requires { is_some (hook_at hooks.old.items (number side)) ≡ true }
+    ensures taken { hook_at hooks.old.items (number side) ≡ Some result }
+    ensures left { hooks.new.items ≡ slice_set hooks.old.items (number side) None }
+    ensures there { number side < length hooks.old.items }
+{
+    let slot = &mut hooks[side.number()];
+    slot.take().unwrap()
+}
+
+/// Puts a hook where it belongs: into its slot while its side lives, else among those that are gone.
+pub(crate) fn put_back(seats: &mut Seats, side: SideId, hook: Box<dyn Hook>, live: bool)
+    requires there { number side < length seats.old.hooks.items }
+    requires level { length seats.old.gone.items ≡ length seats.old.hooks.items }
+    ensures hooks { seats.new.hooks.items ≡ (if live then slice_set seats.old.hooks.items (number side) (Some hook) else seats.old.hooks.items) }
+    ensures gone { seats.new.gone.items ≡ (if live then seats.old.gone.items else slice_set seats.old.gone.items (number side) (Some hook)) }
+{
+    if live {
+        seats.hooks[side.number()] = Some(hook);
+    } else {
+        seats.gone[side.number()] = Some(hook);
+    }
+}

@@ -1,0 +1,41 @@
+// What a hook heard and asked. It exists only in proofs.
+ghost use Rattle.std.specs.Prelude.{◌≡◌, ◌++◌, ◌∷◌, [], List};
+ghost use Rattle.std.specs.Borrow.{ftrue};
+ghost use Rattle.ev_types.specs.declared.act.Act.{Act};
+ghost use Rattle.ev_types.specs.declared.answer.AskAnswer.{AskAnswer};
+ghost use Rattle.ev_types.specs.declared.why.Why.{Why as WhyOf};
+ghost use Rattle.relay_model.specs.Hooked.{asked_in};
+
+use ev_types::Why;
+use relay_core::Ctl;
+use std::marker::Model;
+
+/// The reasons that a hook was called for, and what it asked and was answered. Only clauses read it; it takes no memory, and its methods do
+/// nothing when they run.
+#[derive(Drop)]
+pub(crate) struct HookLog {
+    ghost heard: { List WhyOf },
+    ghost asked: { List (Act × AskAnswer) },
+}
+
+impl Model for HookLog {
+    ghost also_owns = { λ _. ftrue };
+}
+
+impl HookLog {
+    /// Of no fire.
+    pub(crate) fn new() -> HookLog
+        ensures heard { result.heard ≡ [] }
+        ensures asked { result.asked ≡ [] }
+    {
+        HookLog {}
+    }
+
+    /// With a fire more, as the state that was lent has it.
+    pub(crate) fn then(&self, _why: Why, _ctl: &Ctl) -> HookLog
+        ensures heard { result.heard ≡ self.now.heard ++ _why ∷ [] }
+        ensures asked { result.asked ≡ self.now.asked ++ asked_in _ctl.now.me _ctl.now.log }
+    {
+        HookLog {}
+    }
+}
