@@ -32,12 +32,14 @@ use Rattle.relay_drive.specs.Steps.{Nothing, Then, Each}
 use Rattle.relay_drive.specs.Calls.{Ticks, Checks, Writes}
 use Rattle.relay_drive.specs.Phases.{links_from, want_of, wants_some, wants_of, wants_of_link, wants_of_links, wanted, Polls, OpensOne}
 use Rattle.relay_drive.specs.Phases.{OpensSome, AcceptsWhere, PollsAndAccepts, ReadsWithRoom, ReadsSide, WritesSide, ConnectsSide}
-use Rattle.relay_drive.specs.Phases.{ServesSide, PassesSide, PassesLink, ForAllLinks, closing_events, Closes, LooksAt, ClosesLink, Turns}
+use Rattle.relay_drive.specs.Phases.{ServesSide, DispatchesAll, PassesSide, PassesLink, ForAllLinks, closing_events, Closes, LooksAt}
+use Rattle.relay_drive.specs.Phases.{ClosesLink, Turns}
 use Rattle.relay_drive.specs.Bounds.{StateIsWithin, most_of_turn}
+use Rattle.relay_drive.proofs.DispatchLemmas.{all-dispatch-does}
 
 -- what a step does: the bound rises by at most k, at most k entries are put, and the settings stay
-pub record Raises (links n k : ℕ) (s : State) (a : Trace) (new : State) : Type 0 where
-  pub within : StateIsWithin (n + k) links new
+pub record Raises (links hooks n k : ℕ) (s : State) (a : Trace) (new : State) : Type 0 where
+  pub within : StateIsWithin (n + k) links hooks new
   pub entries : length a ≤ k
   pub settings : new.settings ≡ s.settings
 
@@ -58,46 +60,49 @@ links_from-length : (k n : ℕ) → length (links_from k n) ≡ n
 links_from-length k zero = refl
 links_from-length k (suc n) = let h = links_from-length (k + 1) n in omega (arith, h)
 
-module _ (links : ℕ) where
-  pub within-more : (n m : ℕ) (s : State) → n ≤ m → StateIsWithin n links s → StateIsWithin m links s
+module _ (links hooks : ℕ) where
+  pub within-more : (n m : ℕ) (s : State) → n ≤ m → StateIsWithin n links hooks s → StateIsWithin m links hooks s
   within-more n m s h k = record {
     allowed = k.allowed;
     opened = k.opened;
+    hooked = k.hooked;
     turns = omega (arith, h, k.turns);
     reads = λ i. let a = k.reads i in omega (arith, a, h);
   }
 
   -- what leaves the frame stays within
-  within-frame : (n : ℕ) (s new : State) → Frame s new → StateIsWithin n links s → StateIsWithin n links new
+  within-frame : (n : ℕ) (s new : State) → Frame s new → StateIsWithin n links hooks s → StateIsWithin n links hooks new
   within-frame n s new f k =
       let a = ap (λ (z : Settings). z.links) f.settings in
       let b = f.opened in
       let c = f.turn in
+      let d = ap (λ (z : Settings). length z.hooks) f.settings in
       record {
         allowed = omega (arith, a, k.allowed);
         opened = omega (arith, b, k.opened);
+        hooked = omega (arith, d, k.hooked);
         turns = omega (arith, c, k.turns);
         reads = f.reads n k.reads;
       }
 
   -- Steps in a row
 
-  more : (n k l : ℕ) (s new : State) (a : Trace) → k ≤ l → Raises links n k s a new → Raises links n l s a new
+  more : (n k l : ℕ) (s new : State) (a : Trace) → k ≤ l → Raises links hooks n k s a new → Raises links hooks n l s a new
   more n k l s new a h r = record {
     within = within-more (n + k) (n + l) new (omega (arith, h)) r.within;
     entries = omega (arith, h, r.entries);
     settings = r.settings;
   }
 
-  nothing : (n : ℕ) (s new : State) (a : Trace) → StateIsWithin n links s → Nothing s a new → Raises links n 0 s a new
+  nothing : (n : ℕ) (s new : State) (a : Trace) → StateIsWithin n links hooks s → Nothing s a new → Raises links hooks n 0 s a new
   nothing n s new a k h = record {
-    within = within-more n (n + 0) new (omega arith) (subst (StateIsWithin n links) (sym h.1) k);
+    within = within-more n (n + 0) new (omega arith) (subst (StateIsWithin n links hooks) (sym h.1) k);
     entries = let e = ap length h.0 in omega (arith, e);
     settings = ap (λ (z : State). z.settings) h.1;
   }
 
-  next : (n k l : ℕ) (s m new : State) (a b c : Trace) → Raises links n k s a m → Raises links (n + k) l m b new → c ≡ a ++ b →
-      Raises links n (k + l) s c new
+  next : (n k l : ℕ) (s m new : State) (a b c : Trace) → Raises links hooks n k s a m → Raises links hooks (n + k) l m b new → c ≡ a ++ b →
+      Raises links hooks n (k + l) s c new
   next n k l s m new a b c f g e = record {
     within = within-more ((n + k) + l) (n + (k + l)) new (omega arith) g.within;
     entries = let p = ap length e ∙ length-append a b in omega (arith, p, f.entries, g.entries);
@@ -106,7 +111,7 @@ module _ (links : ℕ) where
 
   -- what raises the bound by at most k, from whatever bound
   abbrev IsRaising : ℕ → (State → Trace → State → Type 0) → Type 0
-  IsRaising k R = (n : ℕ) (s new : State) (a : Trace) → StateIsWithin n links s → R s a new → Raises links n k s a new
+  IsRaising k R = (n : ℕ) (s new : State) (a : Trace) → StateIsWithin n links hooks s → R s a new → Raises links hooks n k s a new
 
   both : {R S : State → Trace → State → Type 0} (k l : ℕ) → IsRaising k R → IsRaising l S → IsRaising (k + l) (Then R S)
   both k l f g n s new a w h =
@@ -125,12 +130,14 @@ module _ (links : ℕ) where
       let ms : ℕ = max s.plain.time (min reading (2 ^ 62)) in
       let f = frame-begun s ms in
       let links_stay = ap (λ (z : Settings). z.links) f.settings in
+      let hooks_stay = ap (λ (z : Settings). length z.hooks) f.settings in
       let opened = f.opened in
       let turn = f.turn in
       record {
-        within = subst (StateIsWithin (n + 1) links) (sym h.state) (record {
+        within = subst (StateIsWithin (n + 1) links hooks) (sym h.state) (record {
           allowed = omega (arith, links_stay, w.allowed);
           opened = omega (arith, opened, w.opened);
+          hooked = omega (arith, hooks_stay, w.hooked);
           turns = omega (arith, turn, w.turns);
           reads = f.reads (n + 1) (λ i. let r = w.reads i in omega (arith, r));
         });
@@ -155,7 +162,7 @@ module _ (links : ℕ) where
       let h = wanted-most s ks in
       omega (arith, a, b, c, d, h)
 
-  marked-most : (n : ℕ) (s : State) (marked : List Want) → StateIsWithin n links s → length marked ≡ length (wanted s) →
+  marked-most : (n : ℕ) (s : State) (marked : List Want) → StateIsWithin n links hooks s → length marked ≡ length (wanted s) →
       length marked ≤ 2 * links
   marked-most n s marked w h =
       let a = wanted-most s (links_from 0 s.plain.opened) in
@@ -179,7 +186,7 @@ module _ (links : ℕ) where
 
   polls : (marked : List Want) (accept : Bool) → IsRaising (1 + 4 * links) (Polls marked accept)
   polls marked accept n s new a w h = record {
-    within = within-more n (n + (1 + 4 * links)) new (omega arith) (subst (StateIsWithin n links) (sym h.state) w);
+    within = within-more n (n + (1 + 4 * links)) new (omega arith) (subst (StateIsWithin n links hooks) (sym h.state) w);
     entries =
         let e = ap length h.entries in
         let p = length-append (want_events marked) (ready_events marked) in
@@ -196,9 +203,10 @@ module _ (links : ℕ) where
   opens n s new a w h =
       let o = h.1 in
       record {
-        within = subst (StateIsWithin (n + 1) links) (sym o.state) (record {
+        within = subst (StateIsWithin (n + 1) links hooks) (sym o.state) (record {
           allowed = w.allowed;
           opened = (let p = o.allowed in omega (arith, p, w.allowed));
+          hooked = w.hooked;
           turns = omega (arith, w.turns);
           reads = push-within (n + 1) s.lanes _ _ (omega arith) (omega arith) (λ i. let r = w.reads i in omega (arith, r));
         });
@@ -233,7 +241,7 @@ module _ (links : ℕ) where
   reads : (e : SideId) (marked : Bool) → IsRaising 16384 (ReadsSide e marked)
   reads e marked n s new a w h = by_bool (marked && wants s e dir.Read) some none h
     where
-      some : ReadsWithRoom e s a new → Raises links n 16384 s a new
+      some : ReadsWithRoom e s a new → Raises links hooks n 16384 s a new
       some r =
           let answer = r.0 in
           let into = r.1 in
@@ -242,12 +250,14 @@ module _ (links : ℕ) where
           omega (arith, p, q, r.2)) in
           let f = frame-read s e answer (got_bytes answer into) in
           let links_stay = ap (λ (z : Settings). z.links) f.settings in
+          let hooks_stay = ap (λ (z : Settings). length z.hooks) f.settings in
           let opened = f.opened in
           let turn = f.turn in
           record {
-            within = subst (StateIsWithin (n + 16384) links) (sym c.state) (record {
+            within = subst (StateIsWithin (n + 16384) links hooks) (sym c.state) (record {
               allowed = omega (arith, links_stay, w.allowed);
               opened = omega (arith, opened, w.opened);
+              hooked = omega (arith, hooks_stay, w.hooked);
               turns = omega (arith, turn, w.turns);
               reads = λ i. let p = f.reads n w.reads i in omega (arith, p, most);
             });
@@ -255,7 +265,7 @@ module _ (links : ℕ) where
             settings = ap (λ (z : State). z.settings) c.state ∙ f.settings;
           }
 
-      none : Nothing s a new → Raises links n 16384 s a new
+      none : Nothing s a new → Raises links hooks n 16384 s a new
       none r = more n 0 16384 s new a (omega arith) (nothing n s new a w r)
 
   write_events-most : (e : SideId) (from : List ℕ) (answer : WriteAnswer) → length (write_events e from answer) ≤ 1
@@ -267,33 +277,33 @@ module _ (links : ℕ) where
   writes : (e : SideId) (marked : Bool) → IsRaising 1 (WritesSide e marked)
   writes e marked n s new a w h = by_bool (marked && nat_lt 0 (write_room s e)) some none h
     where
-      some : (answer : WriteAnswer) × Writes e answer s a new → Raises links n 1 s a new
+      some : (answer : WriteAnswer) × Writes e answer s a new → Raises links hooks n 1 s a new
       some r =
           let c = r.1 in
           let f = frame-write s e r.0 in
           record {
-            within = within-more n (n + 1) new (omega arith) (subst (StateIsWithin n links) (sym c.state) (within-frame n s _ f w));
+            within = within-more n (n + 1) new (omega arith) (subst (StateIsWithin n links hooks) (sym c.state) (within-frame n s _ f w));
             entries = let p = ap length c.entries in let q = write_events-most e (offer s e) r.0 in omega (arith, p, q);
             settings = ap (λ (z : State). z.settings) c.state ∙ f.settings;
           }
 
-      none : Nothing s a new → Raises links n 1 s a new
+      none : Nothing s a new → Raises links hooks n 1 s a new
       none r = more n 0 1 s new a (omega arith) (nothing n s new a w r)
 
   connects : (e : SideId) (marked : Bool) → IsRaising 1 (ConnectsSide e marked)
   connects e marked n s new a w h = by_bool marked some none h
     where
-      some : (answer : ConnAnswer) × Checks e answer s a new → Raises links n 1 s a new
+      some : (answer : ConnAnswer) × Checks e answer s a new → Raises links hooks n 1 s a new
       some r =
           let c = r.1 in
           let f = frame-conn s e r.0 in
           record {
-            within = within-more n (n + 1) new (omega arith) (subst (StateIsWithin n links) (sym c.state) (within-frame n s _ f w));
+            within = within-more n (n + 1) new (omega arith) (subst (StateIsWithin n links hooks) (sym c.state) (within-frame n s _ f w));
             entries = let p = ap length c.entries in omega (arith, p);
             settings = ap (λ (z : State). z.settings) c.state ∙ f.settings;
           }
 
-      none : Nothing s a new → Raises links n 1 s a new
+      none : Nothing s a new → Raises links hooks n 1 s a new
       none r = more n 0 1 s new a (omega arith) (nothing n s new a w r)
 
   serves : (x : Want) → IsRaising 16385 (ServesSide x)
@@ -347,17 +357,17 @@ module _ (links : ℕ) where
   looks : (step : Closing) → IsRaising 2 (LooksAt step)
   looks step n s new a w h = by_bool (is_some (closing_entry s (close_step step))) some none h
     where
-      some : Closes step s a new → Raises links n 2 s a new
+      some : Closes step s a new → Raises links hooks n 2 s a new
       some c =
           let f = frame-closing s step in
           let most = closing-most s step in
           record {
-            within = within-more n (n + 2) new (omega arith) (subst (StateIsWithin n links) (sym c.state) (within-frame n s _ f w));
+            within = within-more n (n + 2) new (omega arith) (subst (StateIsWithin n links hooks) (sym c.state) (within-frame n s _ f w));
             entries = let p = ap length c.entries in omega (arith, p, most);
             settings = ap (λ (z : State). z.settings) c.state ∙ f.settings;
           }
 
-      none : Nothing s a new → Raises links n 2 s a new
+      none : Nothing s a new → Raises links hooks n 2 s a new
       none r = more n 0 2 s new a (omega arith) (nothing n s new a w r)
 
   closes_link : (k : ℕ) → IsRaising 18 (ClosesLink k)
@@ -370,12 +380,24 @@ module _ (links : ℕ) where
       more n (total 18 (links_from 0 s.plain.opened)) (18 * links) s new a (omega (arith, t, l, w.opened))
       (each ClosesLink 18 closes_link (links_from 0 s.plain.opened) n s new a w h)
 
+  -- Dispatch
+
+  dispatches : IsRaising (2565 * hooks) DispatchesAll
+  dispatches n s new a w h =
+      let d = all-dispatch-does h in
+      let few = d.few in
+      record {
+        within = within-more n (n + 2565 * hooks) new (omega arith) (within-frame n s new d.frame w);
+        entries = omega (arith, few, w.hooked);
+        settings = d.frame.settings;
+      }
+
   -- The turn
 
   polls_and_accepts : (marked : List Want) → IsRaising ((1 + 4 * links) + 64) (PollsAndAccepts marked)
   polls_and_accepts marked n s new a w h = both (1 + 4 * links) 64 (polls marked h.0) (accepts h.0) n s new a w h.1
 
-  pub turn_raises : IsRaising (most_of_turn links) Turns
+  pub turn_raises : IsRaising (most_of_turn links hooks) Turns
   turn_raises n s new a w h =
       let marked = h.1 in
       let t = h.2 in
@@ -383,10 +405,11 @@ module _ (links : ℕ) where
       let rest = t.second in
       let many : length marked ≤ 2 * links = marked-most (n + 1) t.middle marked clock.within rest.first.1.first.many in
       let size = (total-is marked).1 in
-      let k : ℕ = 1 + (((1 + 4 * links) + 64) + (total 16385 marked + (0 + 18 * links))) in
-      more n k (most_of_turn links) s new a (omega (arith, size, many))
-      (both 1 (((1 + 4 * links) + 64) + (total 16385 marked + (0 + 18 * links))) (ticks h.0)
-      (both ((1 + 4 * links) + 64) (total 16385 marked + (0 + 18 * links)) (polls_and_accepts marked)
-      (both (total 16385 marked) (0 + 18 * links) (each ServesSide 16385 serves marked)
-      (both 0 (18 * links) passes_all closes_all)))
+      let last : ℕ = 2565 * hooks + (0 + 18 * links) in
+      let k : ℕ = 1 + (((1 + 4 * links) + 64) + (total 16385 marked + last)) in
+      more n k (most_of_turn links hooks) s new a (omega (arith, size, many))
+      (both 1 (((1 + 4 * links) + 64) + (total 16385 marked + last)) (ticks h.0)
+      (both ((1 + 4 * links) + 64) (total 16385 marked + last) (polls_and_accepts marked)
+      (both (total 16385 marked) last (each ServesSide 16385 serves marked)
+      (both (2565 * hooks) (0 + 18 * links) dispatches (both 0 (18 * links) passes_all closes_all))))
       n s new a w t)

@@ -8,10 +8,8 @@ use Rattle.ev_port.specs.declared.port.Want.{Want}
 use Rattle.ev_port.specs.declared.port.Polled.TheVariants as polled
 use Rattle.ev_port.specs.Polling.{IsMarked, AllMarked, poll_events}
 use Rattle.relay_model.specs.Rooms as rooms
-use Rattle.relay_model.specs.Settings.{HasNoHooks}
-use Rattle.relay_model.specs.Due.{batch}
 use Rattle.relay_model.specs.Plain.{sides_from}
-use Rattle.relay_model.specs.Stages.{Halt, Stage, at}
+use Rattle.relay_model.specs.Stages.{Halt, Stage}
 use Rattle.relay_model.specs.Answers.{TurnAnswer}
 use Rattle.relay_state.specs.State.{State}
 use Rattle.relay_state.specs.Closing.{in_side, out_side}
@@ -20,23 +18,25 @@ use Rattle.relay_drive.specs.declared.fault.DriveFault.{DriveFault}
 use Rattle.relay_drive.specs.declared.fault.DriveFault.TheVariants as fault
 use Rattle.relay_drive.specs.Steps.{Then, Each, CutAt}
 use Rattle.relay_drive.specs.Calls.{Ticks}
-use Rattle.relay_drive.specs.DriveStands.{turn_answer_of}
-use Rattle.relay_drive.specs.Phases.CutTurn.{before, in_poll, in_serving, in_passing, in_closing}
+use Rattle.relay_drive.specs.declared.fault.TurnEnd.{TurnEnd}
+use Rattle.relay_drive.specs.declared.fault.TurnEnd.TheVariants as end
+use Rattle.relay_drive.specs.DriveStands.{turn_answer_of, turn_end_of}
+use Rattle.relay_drive.specs.Phases.CutTurn.{before, in_poll, in_serving, in_dispatch, in_passing, in_closing}
 use Rattle.relay_drive.specs.Phases.{links_from, want_of, wants_of, wants_of_links, wanted, Polls, PollFails, OpensSome, AcceptsMore}
 use Rattle.relay_drive.specs.Phases.{AcceptsWhere, PollsAndAccepts, CutPolling, ServesSide, CutServing, PassesLink, CutPassingLink}
-use Rattle.relay_drive.specs.Phases.{ForAllLinks, CutForAllLinks, ClosesLink, CutClosingLink, Turns, CutTurn}
+use Rattle.relay_drive.specs.Phases.{ForAllLinks, CutForAllLinks, ClosesLink, CutClosingLink, DispatchesAll}
+use Rattle.relay_drive.specs.Phases.{CutDispatch, StopsAt, ServedThen, Turns, StopsTurn, EndsTurn, CutTurn}
 use Rattle.relay_steps.specs.Meaning.{StandsFor, LeftFor}
 use Rattle.relay_state.specs.Rooms as state
 use Rattle.relay_state.specs.Time.{poll_timeout}
 use Rattle.relay_model.proofs.QuietLemmas.{state_is_told}
-use Rattle.relay_model.proofs.HooklessLemmas.{asleep}
-use Rattle.relay_steps.proofs.StandsLemmas.{stands-quiet}
 use Rattle.relay_steps.proofs.TimeSteps.{turn-stands}
-use Rattle.relay_steps.proofs.PollSteps.{named, marks_of, MarkedWithin, poll-stands, poll_failed-stands, accepted-stands, fired_all-stands}
+use Rattle.relay_steps.proofs.PollSteps.{named, marks_of, MarkedWithin, poll-stands, poll_failed-stands, accepted-stands}
 use Rattle.relay_steps.proofs.PollSteps.{passed_all-stands, closed_all-stands}
+use Rattle.relay_steps.proofs.DispatchSteps.{stops_are_left}
 use Rattle.relay_steps.proofs.OpenSteps.{opened-stands}
 use Rattle.relay_steps.proofs.FrameLemmas.{frame-begun}
-use Rattle.relay_drive.proofs.UnhookedSteps.{unhooked-served}
+use Rattle.relay_drive.proofs.MeantDispatch.{dispatch-leaves, dispatch-stands}
 use Rattle.relay_drive.proofs.MeantFolds.{StandsWith, Each_is, stands-nothing, all-keeps, cut-leaves}
 use Rattle.relay_drive.proofs.MeantServing.{left-stands, IsBelow, serving, serving-keeps, serving-cut, sides_of-links, link_below}
 use Rattle.relay_drive.proofs.MeantServing.{links-below, passing_links, passing_links-keep, passing_links-cut, model_steps-links}
@@ -221,20 +221,10 @@ accepting-leaves t s new a marked k h =
 
 -- From phase to phase
 
--- Where no side has a hook nothing is due, so that nothing is fired.
-not_fired : (t : Trace) (s : State) → HasNoHooks s.settings → StandsFor t (Stage.Serving []) s →
-    StandsFor t (Stage.Passing [] (sides_from 0 s.plain.opened)) s
-not_fired t s none k =
-    let due = (asleep s.settings t (at (Stage.Serving []) s.plain) none k.reached).due in
-    let fired =
-    stands-quiet t (Stage.Serving []) (Stage.Dispatching []) s k
-    (λ i. at (Stage.Dispatching (batch (sym due i))) (record (s.plain) { due = due i })) in
-    fired_all-stands t s fired
-
-served-pass : (n : ℕ) (t : Trace) (s : State) → HasNoHooks s.settings → StandsWith n t (Stage.Serving []) s →
+to-pass : (t : Trace) (s : State) → StandsFor t (Stage.Passing [] (sides_from 0 s.plain.opened)) s →
     StandsWith s.plain.opened t (passing_links (links_from 0 s.plain.opened)) s
-served-pass n t s none k = record {
-  stands = subst (λ es. StandsFor t (Stage.Passing [] es) s) (sym (sides_of-links 0 s.plain.opened)) (not_fired t s none k.stands);
+to-pass t s k = record {
+  stands = subst (λ es. StandsFor t (Stage.Passing [] es) s) (sym (sides_of-links 0 s.plain.opened)) k;
   opened = refl;
 }
 
@@ -249,10 +239,6 @@ all-below : (n : ℕ) → Each_is (link_below n) (links_from 0 n)
 all-below n = links-below 0 n n (omega arith)
 
 -- one step before others
-joined-stands : (x : Stage) (n : ℕ) (t front back a : Trace) (new : State) → a ≡ front ++ back →
-    StandsWith n ((t ++ front) ++ back) x new → StandsWith n (t ++ a) x new
-joined-stands x n t front back a new j k = subst (λ z. StandsWith n z x new) (append_assoc t front back ∙ ap (λ z. t ++ z) (sym j)) k
-
 joined-leaves : (answer : TurnAnswer) (t front back a : Trace) (new : State) → a ≡ front ++ back →
     LeftFor answer ((t ++ front) ++ back) new → LeftFor answer (t ++ a) new
 joined-leaves answer t front back a new j k = subst (λ z. LeftFor answer z new) (append_assoc t front back ∙ ap (λ z. t ++ z) (sym j)) k
@@ -265,12 +251,12 @@ closes-end n t s new a k h =
     (links_from 0 s.plain.opened) t s
     new a (all-below s.plain.opened) (passed-close n t s k) h).stands
 
-passes-all : (n : ℕ) (t : Trace) (s new : State) (a : Trace) → HasNoHooks s.settings → StandsWith n t (Stage.Serving []) s →
+passes-all : (t : Trace) (s new : State) (a : Trace) → StandsFor t (Stage.Passing [] (sides_from 0 s.plain.opened)) s →
     ForAllLinks PassesLink s a new → StandsWith s.plain.opened (t ++ a) (Stage.Passing [] []) new
-passes-all n t s new a none k h =
+passes-all t s new a k h =
     all-keeps s.plain.opened (link_below s.plain.opened) passing_links PassesLink (passing_links-keep s.plain.opened)
     (links_from 0 s.plain.opened) t s
-    new a (all-below s.plain.opened) (served-pass n t s none k) h
+    new a (all-below s.plain.opened) (to-pass t s k) h
 
 serves-all : (marked : List Want) (t : Trace) (s new : State) (a : Trace) → StandsWith s.plain.opened t (serving marked) s →
     Each_is (IsBelow s.plain.opened) marked → Each ServesSide marked s a new →
@@ -279,28 +265,67 @@ serves-all marked t s new a k below h = all-keeps s.plain.opened (IsBelow s.plai
     (serving-keeps s.plain.opened) marked t
     s new a below k h
 
--- a whole turn: whatever trace the relay stood for before it, it stands for that trace with the turn's entries
-pub turn_keeps : (t : Trace) (s new : State) (a : Trace) → HasNoHooks s.settings → StandsFor t Stage.Between s → Turns s a new →
-    StandsFor (t ++ a) Stage.Between new
-turn_keeps t s new a none k turn =
-    let marked = turn.1 in
-    let h = turn.2 in
-    let tick = tick-stands t s h.middle h.front turn.0 k h.first in
+-- the clock, the poll with accepting, and serving: dispatch comes next
+pub served-stand : (reading : ℕ) (marked : List Want) (t : Trace) (s ticked polled served : State) (a b c : Trace) →
+    StandsFor t Stage.Between s → Ticks reading s a ticked → PollsAndAccepts marked ticked b polled →
+    Each ServesSide marked polled c served → StandsFor (((t ++ a) ++ b) ++ c) (Stage.Serving []) served
+served-stand reading marked t s ticked polled served a b c k tick poll serve =
+    let first = tick-stands t s ticked a reading k tick in
+    let accepted = accepts-stand marked (t ++ a) ticked polled b first.stands poll in
+    (serves-all marked ((t ++ a) ++ b) polled served c accepted.0 accepted.1 serve).stands
+
+-- the same of their entries in a row
+pub prefix-stands : (reading : ℕ) (marked : List Want) (t : Trace) (s new : State) (a : Trace) → StandsFor t Stage.Between s →
+    Then (Ticks reading) (Then (PollsAndAccepts marked) (Each ServesSide marked)) s a new → StandsFor (t ++ a) (Stage.Serving []) new
+prefix-stands reading marked t s new a k h =
     let p = h.second in
-    let poll = accepts-stand marked (t ++ h.front) h.middle p.middle p.front tick.stands p.first in
+    subst (λ z. StandsFor z (Stage.Serving []) new)
+    (append_assoc (t ++ h.front) p.front p.back ∙ append_assoc t h.front (p.front ++ p.back)
+    ∙ ap (λ z. t ++ (h.front ++ z)) (sym p.joined) ∙ ap (λ z. t ++ z) (sym h.joined))
+    (served-stand reading marked t s h.middle p.middle new h.front p.front p.back k h.first p.first p.second)
+
+-- what holds behind serving and something else, holds behind the turn
+served-then : (R : State → Trace → State → Type 0) (P : Trace → State → Type 0) →
+    ((u : Trace) (m z : State) (b : Trace) → StandsFor u (Stage.Serving []) m → R m b z → P (u ++ b) z) →
+    (t : Trace) (s new : State) (a : Trace) → StandsFor t Stage.Between s → ServedThen R s a new → P (t ++ a) new
+served-then R P next t s new a k turn =
+    let h = turn.2 in
+    let p = h.second in
     let v = p.second in
-    let served = serves-all marked ((t ++ h.front) ++ p.front) p.middle v.middle v.front poll.0 poll.1 v.first in
-    let q = v.second in
-    let unhooked = unhooked-served turn.0 marked s h.middle p.middle v.middle h.front p.front v.front none h.first p.first v.first in
-    let passed = passes-all p.middle.plain.opened (((t ++ h.front) ++ p.front) ++ v.front) v.middle q.middle q.front unhooked served
-    q.first in
-    let closed = closes-end v.middle.plain.opened ((((t ++ h.front) ++ p.front) ++ v.front) ++ q.front) q.middle new q.back passed
-    q.second in
-    (joined-stands Stage.Between new.plain.opened t h.front h.back a new h.joined
-    (joined-stands Stage.Between new.plain.opened (t ++ h.front) p.front p.back h.back new p.joined
-    (joined-stands Stage.Between new.plain.opened ((t ++ h.front) ++ p.front) v.front v.back p.back new v.joined
-    (joined-stands Stage.Between new.plain.opened (((t ++ h.front) ++ p.front) ++ v.front) q.front q.back v.back new q.joined
-    (record { stands = closed; opened = refl }))))).stands
+    let served = served-stand turn.0 turn.1 t s h.middle p.middle v.middle h.front p.front v.front k h.first p.first v.first in
+    subst (λ z. P z new)
+    (append_assoc ((t ++ h.front) ++ p.front) v.front v.back ∙ ap (λ z. ((t ++ h.front) ++ p.front) ++ z) (sym v.joined)
+    ∙ append_assoc (t ++ h.front) p.front p.back ∙ ap (λ z. (t ++ h.front) ++ z) (sym p.joined)
+    ∙ append_assoc t h.front h.back ∙ ap (λ z. t ++ z) (sym h.joined))
+    (next (((t ++ h.front) ++ p.front) ++ v.front) v.middle new v.back served v.second)
+
+-- a whole turn: whatever trace the relay stood for before it, it stands for that trace with the turn's entries
+pub turn_keeps : (t : Trace) (s new : State) (a : Trace) → StandsFor t Stage.Between s → Turns s a new →
+    StandsFor (t ++ a) Stage.Between new
+turn_keeps t s new a k turn =
+    served-then (Then DispatchesAll (Then (ForAllLinks PassesLink) (ForAllLinks ClosesLink))) (λ u z. StandsFor u Stage.Between z)
+    (λ u m z b stands h.
+        let q = h.second in
+        let fired = dispatch-stands u m h.middle h.front stands h.first in
+        let passed = passes-all (u ++ h.front) h.middle q.middle q.front fired q.first in
+        let closed = closes-end h.middle.plain.opened ((u ++ h.front) ++ q.front) q.middle z q.back passed q.second in
+        subst (λ w. StandsFor w Stage.Between z)
+        (append_assoc (u ++ h.front) q.front q.back ∙ ap (λ w. (u ++ h.front) ++ w) (sym q.joined)
+        ∙ append_assoc u h.front h.back ∙ ap (λ w. u ++ w) (sym h.joined)) closed)
+    t s new a k turn
+
+-- a turn that a hook of this link ends
+pub stops-leaves : (link : ℕ) (t : Trace) (s new : State) (a : Trace) → StandsFor t Stage.Between s → StopsTurn link s a new →
+    LeftFor (TurnAnswer.Stopped link) (t ++ a) new
+stops-leaves link t s new a k turn =
+    served-then (StopsAt link) (LeftFor (TurnAnswer.Stopped link)) (λ u m z b stands h. stops_are_left link u m z b stands h)
+    t s new a k turn
+
+-- a turn that isn't refused leaves the relay so, by how it ends
+pub ends-leave : (end : TurnEnd) (t : Trace) (s new : State) (a : Trace) → StandsFor t Stage.Between s → EndsTurn end s a new →
+    LeftFor (turn_end_of end) (t ++ a) new
+ends-leave end.Went t s new a k turn = record { stage = Stage.Between; stands = turn_keeps t s new a k turn; left = refl }
+ends-leave (end.Stopped link) t s new a k turn = stops-leaves link t s new a k turn
 
 -- Turns that are cut off
 
@@ -325,12 +350,12 @@ serving-leaves marked t s new a k below h =
     (LeftFor TurnAnswer.Memory)
     (serving-cut s.plain.opened) marked t s new a below k h
 
-passing-leaves : (n : ℕ) (t : Trace) (s new : State) (a : Trace) → HasNoHooks s.settings → StandsWith n t (Stage.Serving []) s →
+passing-leaves : (t : Trace) (s new : State) (a : Trace) → StandsFor t (Stage.Passing [] (sides_from 0 s.plain.opened)) s →
     CutForAllLinks PassesLink CutPassingLink s a new → LeftFor TurnAnswer.Memory (t ++ a) new
-passing-leaves n t s new a none k h =
+passing-leaves t s new a k h =
     cut-leaves s.plain.opened (link_below s.plain.opened) passing_links PassesLink (passing_links-keep s.plain.opened) CutPassingLink
     (LeftFor TurnAnswer.Memory) (passing_links-cut s.plain.opened)
-    (links_from 0 s.plain.opened) t s new a (all-below s.plain.opened) (served-pass n t s none k) h
+    (links_from 0 s.plain.opened) t s new a (all-below s.plain.opened) (to-pass t s k) h
 
 closing-leaves : (n : ℕ) (t : Trace) (s new : State) (a : Trace) → StandsWith n t (Stage.Passing [] []) s →
     CutForAllLinks ClosesLink CutClosingLink s a new → LeftFor TurnAnswer.Memory (t ++ a) new
@@ -340,45 +365,37 @@ closing-leaves n t s new a k h =
     (links_from 0 s.plain.opened) t s new a (all-below s.plain.opened) (passed-close n t s k) h
 
 -- A turn that is cut off leaves the relay standing for the longer trace, at a stage at which a turn may answer so.
-pub cut_turn_leaves : (f : DriveFault) (t : Trace) (s new : State) (a : Trace) → HasNoHooks s.settings → StandsFor t Stage.Between s →
+pub cut_turn_leaves : (f : DriveFault) (t : Trace) (s new : State) (a : Trace) → StandsFor t Stage.Between s →
     CutTurn f s a new → LeftFor (turn_answer_of f) (t ++ a) new
-cut_turn_leaves f t s new a none k (before h) =
+cut_turn_leaves f t s new a k (before h) =
     left-stands s.plain.opened (t ++ a) Stage.Between new tt
     (stands-nothing s.plain.opened t Stage.Between s new a (record { stands = k; opened = refl }) h)
-cut_turn_leaves f t s new a none k (in_poll reading h) =
+cut_turn_leaves f t s new a k (in_poll reading h) =
     let tick = tick-stands t s h.middle h.front reading k h.first in
     joined-leaves (turn_answer_of f) t h.front h.back a new h.joined
     (polling-leaves f (t ++ h.front) h.middle new h.back (record { stands = tick.stands; opened = refl }) h.second)
-cut_turn_leaves f t s new a none k (in_serving reading marked h) =
+cut_turn_leaves f t s new a k (in_serving reading marked h) =
     let tick = tick-stands t s h.middle h.front reading k h.first in
     let p = h.second in
     let poll = accepts-stand marked (t ++ h.front) h.middle p.middle p.front tick.stands p.first in
     joined-leaves TurnAnswer.Memory t h.front h.back a new h.joined
     (joined-leaves TurnAnswer.Memory (t ++ h.front) p.front p.back h.back new p.joined
     (serving-leaves marked ((t ++ h.front) ++ p.front) p.middle new p.back poll.0 poll.1 p.second))
-cut_turn_leaves f t s new a none k (in_passing reading marked h) =
-    let tick = tick-stands t s h.middle h.front reading k h.first in
-    let p = h.second in
-    let poll = accepts-stand marked (t ++ h.front) h.middle p.middle p.front tick.stands p.first in
-    let v = p.second in
-    let served = serves-all marked ((t ++ h.front) ++ p.front) p.middle v.middle v.front poll.0 poll.1 v.first in
-    let unhooked = unhooked-served reading marked s h.middle p.middle v.middle h.front p.front v.front none h.first p.first v.first in
-    joined-leaves TurnAnswer.Memory t h.front h.back a new h.joined
-    (joined-leaves TurnAnswer.Memory (t ++ h.front) p.front p.back h.back new p.joined
-    (joined-leaves TurnAnswer.Memory ((t ++ h.front) ++ p.front) v.front v.back p.back new v.joined
-    (passing-leaves p.middle.plain.opened (((t ++ h.front) ++ p.front) ++ v.front) v.middle new v.back unhooked served v.second)))
-cut_turn_leaves f t s new a none k (in_closing reading marked h) =
-    let tick = tick-stands t s h.middle h.front reading k h.first in
-    let p = h.second in
-    let poll = accepts-stand marked (t ++ h.front) h.middle p.middle p.front tick.stands p.first in
-    let v = p.second in
-    let served = serves-all marked ((t ++ h.front) ++ p.front) p.middle v.middle v.front poll.0 poll.1 v.first in
-    let q = v.second in
-    let unhooked = unhooked-served reading marked s h.middle p.middle v.middle h.front p.front v.front none h.first p.first v.first in
-    let passed = passes-all p.middle.plain.opened (((t ++ h.front) ++ p.front) ++ v.front) v.middle q.middle q.front unhooked served
-    q.first in
-    joined-leaves TurnAnswer.Memory t h.front h.back a new h.joined
-    (joined-leaves TurnAnswer.Memory (t ++ h.front) p.front p.back h.back new p.joined
-    (joined-leaves TurnAnswer.Memory ((t ++ h.front) ++ p.front) v.front v.back p.back new v.joined
-    (joined-leaves TurnAnswer.Memory (((t ++ h.front) ++ p.front) ++ v.front) q.front q.back v.back new q.joined
-    (closing-leaves v.middle.plain.opened ((((t ++ h.front) ++ p.front) ++ v.front) ++ q.front) q.middle new q.back passed q.second))))
+cut_turn_leaves f t s new a k (in_dispatch h) =
+    served-then CutDispatch (LeftFor TurnAnswer.Memory) (λ u m z b stands d. dispatch-leaves u m z b stands d) t s new a k h
+cut_turn_leaves f t s new a k (in_passing h) =
+    served-then (Then DispatchesAll (CutForAllLinks PassesLink CutPassingLink)) (LeftFor TurnAnswer.Memory)
+    (λ u m z b stands d.
+        joined-leaves TurnAnswer.Memory u d.front d.back b z d.joined
+        (passing-leaves (u ++ d.front) d.middle z d.back (dispatch-stands u m d.middle d.front stands d.first) d.second))
+    t s new a k h
+cut_turn_leaves f t s new a k (in_closing h) =
+    served-then (Then DispatchesAll (Then (ForAllLinks PassesLink) (CutForAllLinks ClosesLink CutClosingLink))) (LeftFor TurnAnswer.Memory)
+    (λ u m z b stands d.
+        let q = d.second in
+        let fired = dispatch-stands u m d.middle d.front stands d.first in
+        let passed = passes-all (u ++ d.front) d.middle q.middle q.front fired q.first in
+        joined-leaves TurnAnswer.Memory u d.front d.back b z d.joined
+        (joined-leaves TurnAnswer.Memory (u ++ d.front) q.front q.back d.back z q.joined
+        (closing-leaves d.middle.plain.opened ((u ++ d.front) ++ q.front) q.middle z q.back passed q.second)))
+    t s new a k h

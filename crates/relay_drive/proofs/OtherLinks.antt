@@ -71,7 +71,7 @@ same_link-then k a b = record {
   allowed = λ e h d. b.allowed e h d ∙ a.allowed e h d;
 }
 
-same_link-is : (k : ℕ) {s new : State} → new ≡ s → SameLink k s new
+pub same_link-is : (k : ℕ) {s new : State} → new ≡ s → SameLink k s new
 same_link-is k {s = s} h = subst (SameLink k s) (sym h) (same_link k s)
 
 -- Parts of the state
@@ -90,18 +90,18 @@ left-same : (s new : State) (e : SideId) (d : Dir) → side_at new.plain e ≡ s
 left-same s new e d side gauge time = λ i. left_by (side i).limit (gauge i) d (time i)
 
 -- the sides and directions of this link are as they were, and the time
-record SameParts (k : ℕ) (p new : Plain) : Type 0 where
-  time : new.time ≡ p.time
-  side : (e : SideId) → e.link ≡ k → side_at new e ≡ side_at p e
-  flow : (e : SideId) → e.link ≡ k → flow_at new e ≡ flow_at p e
+pub record SameParts (k : ℕ) (p new : Plain) : Type 0 where
+  pub time : new.time ≡ p.time
+  pub side : (e : SideId) → e.link ≡ k → side_at new e ≡ side_at p e
+  pub flow : (e : SideId) → e.link ≡ k → flow_at new e ≡ flow_at p e
 
-parts-same : (k : ℕ) (p : Plain) → SameParts k p p
+pub parts-same : (k : ℕ) (p : Plain) → SameParts k p p
 parts-same k p = record { time = refl; side = λ e h. refl; flow = λ e h. refl }
 
 parts-then : (k : ℕ) {p mid new : Plain} → SameParts k p mid → SameParts k mid new → SameParts k p new
 parts-then k a b = record { time = b.time ∙ a.time; side = λ e h. b.side e h ∙ a.side e h; flow = λ e h. b.flow e h ∙ a.flow e h }
 
-parts-side : (k : ℕ) (e : SideId) (x : PlainSide) (p : Plain) → k ≢ e.link → SameParts k p (put_side e x p)
+pub parts-side : (k : ℕ) (e : SideId) (x : PlainSide) (p : Plain) → k ≢ e.link → SameParts k p (put_side e x p)
 parts-side k e x p other = record {
   time = refl;
   side = λ z h. get_or-set_other p.sides (number e) (number z) x no_side (numbers-apart k e z other h);
@@ -122,7 +122,7 @@ parts-raise k g e y {p = p} {new = new} h = go (has_hook g e && is_live new e)
     go true = record { time = h.time; side = h.side; flow = h.flow }
     go false = h
 
-by_parts : (k : ℕ) (s : State) (p : Plain) → SameParts k s.plain p → SameLink k s (with_plain p s)
+pub by_parts : (k : ℕ) (s : State) (p : Plain) → SameParts k s.plain p → SameLink k s (with_plain p s)
 by_parts k s p h = record {
   settings = refl;
   side = h.side;
@@ -131,7 +131,7 @@ by_parts k s p h = record {
   allowed = λ e z d. left-same s (with_plain p s) e d (h.side e z) refl h.time;
 }
 
-by_lane : (k : ℕ) (s : State) (e : SideId) (l : Lane) → k ≢ e.link → SameLink k s (with_lane e l s)
+pub by_lane : (k : ℕ) (s : State) (e : SideId) (l : Lane) → k ≢ e.link → SameLink k s (with_lane e l s)
 by_lane k s e l other = record {
   settings = refl;
   side = λ z h. refl;
@@ -141,7 +141,8 @@ by_lane k s e l other = record {
 }
 
 -- the bucket of a side of another link was replaced
-by_gauge : (k : ℕ) (s : State) (e : SideId) (x : Gauge) → k ≢ e.link → SameLink k s (record s { gauges = slice_set s.gauges (number e) x })
+pub by_gauge : (k : ℕ) (s : State) (e : SideId) (x : Gauge) → k ≢ e.link →
+    SameLink k s (record s { gauges = slice_set s.gauges (number e) x })
 by_gauge k s e x other = record {
   settings = refl;
   side = λ z h. refl;
@@ -153,7 +154,7 @@ by_gauge k s e x other = record {
 }
 
 -- what is left to fire belongs to no link
-by_batch : (k : ℕ) (s : State) (e : SideId) → SameLink k s (without_batch e s)
+pub by_batch : (k : ℕ) (s : State) (e : SideId) → SameLink k s (without_batch e s)
 by_batch k s e = record { settings = refl; side = λ z h. refl; flow = λ z h. refl; lane = λ z h. refl; allowed = λ z h d. refl }
 
 -- Passing
@@ -180,14 +181,14 @@ passes-other k j s new a h other =
 
 -- Serving
 
-raise_read-other : (k : ℕ) (s : State) (e : SideId) → SameLink k s (raise_read e s)
+pub raise_read-other : (k : ℕ) (s : State) (e : SideId) → SameLink k s (raise_read e s)
 raise_read-other k s e = go (nat_le (side_at s.plain e).marks.read_low (input_length s e))
   where
     go : (b : Bool) → SameLink k s (if b then with_plain (raise s.settings e why.Read s.plain) s else s)
     go true = by_parts k s _ (parts-raise k s.settings e why.Read (parts-same k s.plain))
     go false = same_link k s
 
-raise_write-other : (k : ℕ) (s : State) (e : SideId) → SameLink k s (raise_write e s)
+pub raise_write-other : (k : ℕ) (s : State) (e : SideId) → SameLink k s (raise_write e s)
 raise_write-other k s e = go (nat_le (output_length s e) (side_at s.plain e).marks.write_low)
   where
     go : (b : Bool) → SameLink k s (if b then with_plain (raise s.settings e why.Write s.plain) s else s)
@@ -272,7 +273,7 @@ serves-other k w s new a h other = go (is_connecting s.plain w.side) h
 -- Closing
 
 -- a side of another link was freed
-freed-other : (k : ℕ) (s : State) (e : SideId) → k ≢ e.link → SameLink k s (freed e s)
+pub freed-other : (k : ℕ) (s : State) (e : SideId) → k ≢ e.link → SameLink k s (freed e s)
 freed-other k s e other =
     let r : State = without_batch e s in
     let p : Plain = plain.freed e s.plain in
