@@ -1,5 +1,5 @@
 // Hooks: what is due becomes a batch, of which one reason after the other is fired at the hook of its side.
-ghost use Rattle.std.specs.Prelude.{◌≡◌, ◌≤◌, [], ◌∷◌, true, OnOk, MatchOption};
+ghost use Rattle.std.specs.Prelude.{◌≡◌, ◌≤◌, [], ◌∷◌, true, length, OnOk, MatchOption};
 ghost use Rattle.relay_model.specs.Plain.{is_live};
 ghost use Rattle.relay_model.specs.Hooked.{asked_in};
 ghost use Rattle.relay_state.specs.Asking.{dispatching, left_to_fire};
@@ -14,12 +14,13 @@ use ev_types::{Entry, NoMemory, SideId, Why};
 const MOST_ENTRIES: usize = 2 * MOST_ASKS as usize;
 
 impl Relay {
-    /// Makes all that is due the batch. It is asked that the batch is used up. Linear in the entries that are due; takes no memory.
+    /// Makes all that is due the batch. It is asked that the batch is used up. No more sides have something due than have a hook. Linear in the entries that are due; takes no memory.
     ///
     /// Own.
     pub fn begin_batch(&mut self)
         requires { self.old.state.batch ≡ [] }
-        ensures { self.new.state ≡ dispatching self.old.state }
+        ensures state { self.new.state ≡ dispatching self.old.state }
+        ensures few { length self.old.state.plain.due ≤ length self.old.state.settings.hooks }
     {
         self.ctl.waits.begin();
     }

@@ -6,6 +6,7 @@ use Rattle.ev_types.specs.declared.side.Side.{Side}
 use Rattle.ev_types.specs.declared.side.Side.TheVariants.{In, Out}
 use Rattle.ev_types.specs.declared.side.SideId.{SideId}
 use Rattle.ev_types.specs.Sides.{half, number, same_side, same_end}
+use Rattle.relay_model.proofs.EndLemmas.{same_end-refl}
 use Rattle.relay_waits.specs.Numbered.{side_numbered}
 
 -- two tests that hold together are one
@@ -67,3 +68,9 @@ side-of_number e =
     links : (s : Side) (l : ℕ) → (2 * l + half s) / 2 ≡ l
     links In l = omega arith
     links Out l = omega arith
+
+-- the number of a number's side is that number
+pub number-of_side : (n : ℕ) → number (side_numbered n) ≡ n
+number-of_side n =
+    let e : SideId = side_numbered n in
+    eqb-true (number e) n (sym (same-number e n) ∙ same_end-refl e)

@@ -13,15 +13,21 @@ use Rattle.std.proofs.lemmas.Map.Made.{length-le_from_is_member, IsDistinct-keys
 use Rattle.ev_types.specs.declared.side.SideId.{SideId}
 use Rattle.ev_types.specs.declared.why.Why.{Why}
 use Rattle.ev_types.specs.declared.why.Why.TheVariants as why
-use Rattle.ev_types.specs.Sides.{number}
+use Rattle.ev_types.specs.Sides.{number, same_end}
 use Rattle.deferred_cb.specs.DueCalls as by_number
 use Rattle.deferred_cb.specs.DueCalls.{Entry, Call, has_entry}
 use Rattle.deferred_cb.specs.DueValue.{DueValue}
 use Rattle.relay_model.specs.Due.{without_due, without_reasons}
-use Rattle.relay_waits.specs.DueSides.{dues, left_to_call, reason_of_call}
+use Rattle.relay_waits.specs.DueSides.{due_of, dues, left_to_call, reason_of_call}
 use Rattle.relay_waits.specs.WaitsView.{HasHook, AreDue}
 use Rattle.relay_waits.proofs.DueLemmas.{sides-are_forgotten}
-use Rattle.relay_waits.proofs.HookLemmas.{hook-within}
+use Rattle.relay_waits.specs.Numbered.{side_numbered}
+use Rattle.relay_waits.specs.WaitsValue.{hooks_of}
+use Rattle.relay_waits.proofs.HookLemmas.{hook-within, hook-by_number}
+use Rattle.relay_waits.proofs.NumberLemmas.{number-of_side}
+use Rattle.relay_model.proofs.EndLemmas.{same_end-eq}
+use Rattle.std.proofs.lemmas.Bool.{eq-eqb}
+use Rattle.std.proofs.lemmas.List.{length-map}
 
 -- Numbers below a bound that are distinct are no more than the bound
 
@@ -87,6 +93,38 @@ has-room hs waiting firing n due hook none =
     let long = length-keys es in
     let room = due.room in
     omega (arith, few, long, room)
+
+-- the number of a side in a list is among the numbers of the list
+number-among : (xs : List SideId) (q : ℕ) → list_any (λ x. same_end x (side_numbered q)) xs ≡ true → is_member nat_eq (map number xs) q ≡ true
+number-among [] q h = absurd (cc)
+number-among (x ∷ xs) q h = split (same_end x (side_numbered q)) refl (number-among xs q)
+  where
+    found : same_end x (side_numbered q) ≡ true → nat_eq q (number x) ≡ true
+    found k =
+        ap (λ z. nat_eq q z) (ap number (same_end-eq x (side_numbered q) k) ∙ number-of_side q) ∙ eq-eqb q q refl
+
+    or-true : (a : Bool) → list_any (nat_eq q) (map number xs) ≡ true → (a || list_any (nat_eq q) (map number xs)) ≡ true
+    or-true true r = refl
+    or-true false r = r
+
+    split : (b : Bool) → same_end x (side_numbered q) ≡ b →
+        (list_any (λ y. same_end y (side_numbered q)) xs ≡ true → is_member nat_eq (map number xs) q ≡ true) →
+        (nat_eq q (number x) || list_any (nat_eq q) (map number xs)) ≡ true
+    split true k rest = ap (λ b. b || list_any (nat_eq q) (map number xs)) (found k)
+    split false k rest = or-true (nat_eq q (number x)) (rest (sym (ap (λ b. b || list_any (λ y. same_end y (side_numbered q)) xs) k) ∙ h))
+
+-- no more sides have an entry than have a hook
+pub due-few : (hs : List Bool) (waiting firing : DueValue) → AreDue hs waiting firing → length (dues waiting.pending) ≤ length (hooks_of hs)
+due-few hs waiting firing due =
+    let es = waiting.pending in
+    let hooks = hooks_of hs in
+    let most = length-le_from_is_member nat_eq_equiv (keys_of es) (map number hooks) due.distinct
+    (λ q is. number-among hooks q (hook-by_number hs (side_numbered q) ∙ ap (λ n. slice_index_or hs n false) (number-of_side q)
+    ∙ (all-member (HasHook hs) (keys_of es) q (keys-all (HasHook hs) (HasHook hs) (λ m h. h) es due.entries) is).0)) in
+    let a = length-map hooks number in
+    let b = length-map es due_of in
+    let c = length-keys es in
+    omega (arith, most, a, b, c)
 
 all-raised : (P : ℕ → Type 0) (n : ℕ) (y : Why) (es : List Entry) → P n → AllByRecursion (λ (e : Entry). P e.0) es →
     AllByRecursion (λ (e : Entry). P e.0) (by_number.with_reason n y es)

@@ -1,5 +1,5 @@
 // What waits in a relay.
-ghost use Rattle.std.specs.Prelude.{◌≡◌, ◌∷◌, ◌==◌, [], true, map, length, IfNone, IfSome, IfOk, OnOk, OnErr};
+ghost use Rattle.std.specs.Prelude.{◌≡◌, ◌≤◌, ◌∷◌, ◌==◌, [], true, map, length, IfNone, IfSome, IfOk, OnOk, OnErr};
 ghost use Rattle.std.specs.List.{list_any};
 ghost use Rattle.ev_types.specs.Sides.{same_end};
 ghost use Rattle.relay_model.specs.Due.{with_reason, without_due, without_reasons, batch as batch_of};
@@ -92,13 +92,14 @@ impl Waits {
         self.waiting.is_empty()
     }
 
-    /// Makes what is pending the batch. It is asked that the batch is used up. Takes no memory; the cost is in the number of
+    /// Makes what is pending the batch. It is asked that the batch is used up. No more sides have an entry than have a hook. Takes no memory; the cost is in the number of
     /// pending entries.
     ///
     /// Own.
     pub fn begin(&mut self)
         requires { self.old.batch ≡ [] }
-        ensures { self.new ≡ record self.old { due = []; batch = batch_of self.old.due } }
+        ensures begun { self.new ≡ record self.old { due = []; batch = batch_of self.old.due } }
+        ensures few { length self.old.due ≤ length self.old.hooks }
     {
         mem::swap(&mut self.waiting, &mut self.firing);
         self.firing.begin();
