@@ -30,8 +30,8 @@ turn_is_bounded n links hooks old new t a w h before after =
     (record { state = r.within; entries = omega (arith, x, y, z, r.entries, l) }, r.settings)
 
 -- the same of what a turn's contract says
-pub went_is_bounded : {Plan : Type 0} {After : Trace → State → Type 0} {Tells : Trace → Type 0} {old new : DriveValue} {log log' : Option Trace}
-    {v v' : Settings → Question Plan → Trace → Type 0} {f f' : Faults} (n links hooks : ℕ) (t : Trace) →
+pub went_is_bounded : {Plan : Type 0} {After : Trace → State → Type 0} {Tells : Trace → Type 0} {old new : DriveValue}
+    {log log' : Option Trace} {v v' : Settings → Question Plan → Trace → Type 0} {f f' : Faults} (n links hooks : ℕ) (t : Trace) →
     IsWithin n links hooks old → DriveStands t old → DriveWent Turns After Tells false old new log log' v v' f f' →
     IsWithin (n + most_of_turn links hooks) links hooks new × (new.state.settings ≡ old.state.settings)
 went_is_bounded {old = old} {new = new} n links hooks t w k h =

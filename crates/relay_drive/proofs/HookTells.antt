@@ -11,7 +11,7 @@ use Rattle.ev_types.specs.declared.why.Why.{Why}
 use Rattle.ev_types.specs.Sides.{number, same_end}
 use Rattle.ev_types.specs.Trace.{Trace}
 use Rattle.relay_core.specs.Fires.{told_more}
-use Rattle.relay_model.proofs.EndLemmas.{number-eq}
+use Rattle.relay_model.proofs.EndLemmas.{number-eq, same_end-refl}
 use Rattle.relay_model.specs.Hooked.{heard_in, asked_in}
 use Rattle.relay_state.specs.Asking.{ask_events, AsksAll, Fires}
 use Rattle.relay_state.specs.State.{State}
@@ -162,18 +162,27 @@ pub fire-asked : {stopped : Bool} {s new : State} {a : Trace} (e : SideId) (h : 
     asked_in e a ≡ (if same_end h.side e then h.asks else [])
 fire-asked e h = ap (asked_in e) h.entries ∙ (all-say h.side e (same_end h.side e) h.asks _ _ h.behind refl h.does).asked
 
+-- what the entries behind the first say of the hook that was fired
+pub asks-told : {stopped : Bool} {s new : State} {a : Trace} (h : Fires stopped s a new) → asked_in h.side h.behind ≡ h.asks
+asks-told h = (all-say h.side h.side true h.asks _ _ h.behind (same_end-refl h.side) h.does).asked
+
 -- The hook of the fired side heard the reason and made these asks, and every other one is where it was. Nothing is said of it where
 -- memory was wanting for it.
 pub tells-fire : {H : Type 0} (tells : Telling H) (short : Option SideId) (hooks gone hooks' gone' : List (Option H)) {stopped : Bool}
-    {s new : State} {a : Trace} (h : Fires stopped s a new) → is_some (seat hooks gone (number h.side)) ≡ true →
-    is_some (seat hooks' gone' (number h.side)) ≡ true →
-    (short ≢ Some h.side → SideTells tells (seat hooks gone (number h.side)) (seat hooks' gone' (number h.side)) (h.reason ∷ []) h.asks) →
+    {s new : State} {a : Trace} (h : Fires stopped s a new) (was now : H) → seat hooks gone (number h.side) ≡ Some was →
+    seat hooks' gone' (number h.side) ≡ Some now → (short ≢ Some h.side → TellsMore tells was now (h.reason ∷ []) h.asks) →
     ((n : ℕ) → n ≢ number h.side → seat hooks' gone' n ≡ seat hooks gone n) → HooksTell tells short hooks gone hooks' gone' a
-tells-fire tells short hooks gone hooks' gone' {a = a} h was now own others = record {
+tells-fire tells short hooks gone hooks' gone' {a = a} h was now before behind own others = record {
   more = λ e other. more_at e other (same_end h.side e) refl;
   kept = λ e. kept_at e (same_end h.side e) refl;
 }
   where
+    mine : short ≢ Some h.side →
+        SideTells tells (seat hooks gone (number h.side)) (seat hooks' gone' (number h.side)) (h.reason ∷ []) h.asks
+    mine other =
+        subst (λ z. SideTells tells z (seat hooks' gone' (number h.side)) (h.reason ∷ []) h.asks) (sym before)
+        (subst (λ z. SideTells tells (Some was) z (h.reason ∷ []) h.asks) (sym behind) (own other))
+
     apart : (e : SideId) → same_end h.side e ≡ false → number e ≢ number h.side
     apart e is same = same_end-false h.side e is (number-eq e h.side same)
 
@@ -185,12 +194,14 @@ tells-fire tells short hooks gone hooks' gone' {a = a} h was now own others = re
     more_at e other true is =
         let here : e ≡ h.side = same_end-true h.side e is in
         side-ps tells (seat hooks gone (number e)) (seat hooks' gone' (number e)) (heard_in e a) (h.reason ∷ []) (asked_in e a) h.asks
-        (fire-heard e h ∙ ap (λ b. if b then h.reason ∷ [] else []) is) (fire-asked e h ∙ ap (λ b. if b then h.asks else []) is)
+        (fire-heard e h ∙ ap (λ b. if b then h.reason ∷ [] else []) is)
+        (fire-asked e h ∙ ap (λ b. if b then h.asks else []) is)
         (subst (λ z. SideTells tells (seat hooks gone (number z)) (seat hooks' gone' (number z)) (h.reason ∷ []) h.asks) (sym here)
-        (own (λ p. other (p ∙ ap Some (sym here)))))
+        (mine (λ p. other (p ∙ ap Some (sym here)))))
     more_at e other false is =
         side-ps tells (seat hooks gone (number e)) (seat hooks' gone' (number e)) (heard_in e a) [] (asked_in e a) []
-        (fire-heard e h ∙ ap (λ b. if b then h.reason ∷ [] else []) is) (fire-asked e h ∙ ap (λ b. if b then h.asks else []) is)
+        (fire-heard e h ∙ ap (λ b. if b then h.reason ∷ [] else []) is)
+        (fire-asked e h ∙ ap (λ b. if b then h.asks else []) is)
         (subst (λ z. SideTells tells (seat hooks gone (number e)) z [] []) (sym (still e is))
         (side-none tells (seat hooks gone (number e))))
 
@@ -198,5 +209,6 @@ tells-fire tells short hooks gone hooks' gone' {a = a} h was now own others = re
         is_some (seat hooks' gone' (number e)) ≡ is_some (seat hooks gone (number e))
     kept_at e true is =
         let here : e ≡ h.side = same_end-true h.side e is in
-        subst (λ z. is_some (seat hooks' gone' (number z)) ≡ is_some (seat hooks gone (number z))) (sym here) (now ∙ sym was)
+        subst (λ z. is_some (seat hooks' gone' (number z)) ≡ is_some (seat hooks gone (number z))) (sym here)
+        (ap is_some behind ∙ sym (ap is_some before))
     kept_at e false is = ap is_some (still e is)

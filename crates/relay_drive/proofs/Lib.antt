@@ -23,6 +23,7 @@ pub mod WentLemmas
 pub mod OtherLinks
 pub mod FreedStays
 pub mod AskedLinks
+pub mod SeatLemmas
 pub mod LinkParts
 pub mod AgendaLemmas
 pub mod FewLemmas
