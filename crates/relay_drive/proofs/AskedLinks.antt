@@ -25,44 +25,14 @@ use Rattle.relay_state.specs.Counting.{has_flown_far, has_read_far}
 use Rattle.relay_state.specs.Rooms.{input_length, output_length}
 use Rattle.relay_state.specs.State.{State, Lane, no_lane, lane_at, with_plain, with_lane, lane_left, lane_lost}
 use Rattle.relay_drive.specs.Agenda.{CountsAreFew}
+use Rattle.relay_drive.specs.Asked.{link_changed, link_changed_by, IsAskedElsewhere}
 use Rattle.relay_drive.specs.Links.{SameLink, has_spent_count_from, has_spent_count}
 use Rattle.relay_drive.proofs.DispatchLemmas.{one-leaves}
 use Rattle.relay_drive.proofs.MeantFolds.{Each_is}
 use Rattle.relay_drive.proofs.OtherLinks.{same_link, same_link-then, same_link-is, by_parts, by_gauge, parts-side, freed-other}
 use Rattle.relay_drive.proofs.OtherLinks.{raise_read-other, raise_write-other}
 
--- Links that an ask names
-
--- the link of the side that an ask names
-abbrev pub link_named : Act → Option ℕ
-link_named (act.Free e) = Some e.link
-link_named (act.Enable e d) = Some e.link
-link_named (act.Disable e d) = Some e.link
-link_named (act.Marks e d low high) = Some e.link
-link_named (act.Timeouts e r w) = Some e.link
-link_named (act.Rate e cfg) = Some e.link
-link_named (act.Join e n) = Some e.link
-link_named (act.Leave e) = Some e.link
-link_named (act.Trigger e d) = Some e.link
-link_named (act.Timer e delay) = Some e.link
-link_named (act.Cancel e) = Some e.link
-link_named (act.Incref e) = Some e.link
-link_named (act.Decref e) = Some e.link
-link_named act.Stop = None
-
--- the link of which it may change something: a timer belongs to none, nor does a reason that becomes due
-abbrev pub link_changed : Act → Option ℕ
-link_changed (act.Trigger e d) = None
-link_changed (act.Timer e delay) = None
-link_changed (act.Cancel e) = None
-link_changed a = link_named a
-
--- a link that isn't named isn't changed
-pub unnamed-unchanged : (k : ℕ) (a : Act) → link_named a ≢ Some k → link_changed a ≢ Some k
-unnamed-unchanged k (act.Trigger e d) h = λ p. absurd (cc)
-unnamed-unchanged k (act.Timer e delay) h = λ p. absurd (cc)
-unnamed-unchanged k (act.Cancel e) h = λ p. absurd (cc)
-unnamed-unchanged k a h = h
+-- Links that an ask changes
 
 apart : (k n : ℕ) → ◌≢◌ {A = Option ℕ} (Some n) (Some k) → k ≢ n
 apart k n h = λ p. h (ap Some (sym p))
@@ -102,19 +72,13 @@ abbrev pub IsElsewhere : ℕ → Act → AskAnswer → Type 0
 IsElsewhere k a ask.Ok = link_changed a ≢ Some k
 IsElsewhere k a _ = ⊤
 
--- and so an entry
-abbrev pub IsAskedElsewhere : ℕ → Event → Type 0
-IsAskedElsewhere k (entry.Asked me a answer, bytes) = IsElsewhere k a answer
-IsAskedElsewhere k _ = ⊤
-
--- where no ask names the link, that is so
-pub unnamed-elsewhere : (k : ℕ) (a : Act) (r : AskAnswer) → link_named a ≢ Some k → IsElsewhere k a r
-unnamed-elsewhere k a ask.Ok h = unnamed-unchanged k a h
-unnamed-elsewhere k a ask.Memory h = tt
-unnamed-elsewhere k a ask.NotLive h = tt
-unnamed-elsewhere k a ask.NoGroup h = tt
-unnamed-elsewhere k a ask.BadValue h = tt
-unnamed-elsewhere k a ask.TooManyRefs h = tt
+elsewhere-of : (k : ℕ) (me : SideId) (a : Act) (r : AskAnswer) → link_changed_by (entry.Asked me a r) ≢ Some k → IsElsewhere k a r
+elsewhere-of k me a ask.Ok h = h
+elsewhere-of k me a ask.Memory h = tt
+elsewhere-of k me a ask.NotLive h = tt
+elsewhere-of k me a ask.NoGroup h = tt
+elsewhere-of k me a ask.BadValue h = tt
+elsewhere-of k me a ask.TooManyRefs h = tt
 
 pub ask-other : (k : ℕ) {me : SideId} {a : Act} {r : AskAnswer} {s new : State} {added : Trace} → AsksOne me a r s added new →
     IsElsewhere k a r → SameLink k s new
@@ -140,8 +104,8 @@ split-elsewhere k (x ∷ t) u h = let rest = split-elsewhere k t u h.1 in ((h.0,
 one-elsewhere : (k : ℕ) (me : SideId) (s : State) (a : Act) (r : AskAnswer) → Each_is (IsAskedElsewhere k) (ask_events me s a r) →
     IsElsewhere k a r
 one-elsewhere k me s (act.Free e) ask.Ok h = h.0
-one-elsewhere k me s (act.Free e) r h = h.0
-one-elsewhere k me s a r h = h.0
+one-elsewhere k me s (act.Free e) r h = elsewhere-of k me (act.Free e) r h.0
+one-elsewhere k me s a r h = elsewhere-of k me a r h.0
 
 events-elsewhere : (k : ℕ) (me : SideId) (xs : List (Act × AskAnswer)) (s new : State) (a : Trace) → AsksAll me xs s a new →
     Each_is (IsAskedElsewhere k) a → SameLink k s new

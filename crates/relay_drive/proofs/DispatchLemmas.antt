@@ -271,9 +271,9 @@ pub ask-does : {me : SideId} {a : Act} {r : AskAnswer} {s new : State} {added : 
 ask-does {me = me} {a = a} {r = r} {s = s} {new = new} h =
     let leaves = elim (one-leaves h) as (λ _. Frame s new × LeavesNoMore s new) [
       | inl k ↦ (
-          subst (Frame s) (sym k.1) (frame-asked a s),
-          subst (LeavesNoMore s) (sym k.1) (asked-shrinks a s),
-        )
+        subst (Frame s) (sym k.1) (frame-asked a s),
+        subst (LeavesNoMore s) (sym k.1) (asked-shrinks a s),
+      )
       | inr k ↦ (subst (Frame s) (sym k) (frame-same s), subst (LeavesNoMore s) (sym k) (omega arith))
     ] in (
       record {

@@ -305,13 +305,13 @@ pub turn_keeps : (t : Trace) (s new : State) (a : Trace) → StandsFor t Stage.B
 turn_keeps t s new a k turn =
     served-then (Then DispatchesAll (Then (ForAllLinks PassesLink) (ForAllLinks ClosesLink))) (λ u z. StandsFor u Stage.Between z)
     (λ u m z b stands h.
-        let q = h.second in
-        let fired = dispatch-stands u m h.middle h.front stands h.first in
-        let passed = passes-all (u ++ h.front) h.middle q.middle q.front fired q.first in
-        let closed = closes-end h.middle.plain.opened ((u ++ h.front) ++ q.front) q.middle z q.back passed q.second in
-        subst (λ w. StandsFor w Stage.Between z)
-        (append_assoc (u ++ h.front) q.front q.back ∙ ap (λ w. (u ++ h.front) ++ w) (sym q.joined)
-        ∙ append_assoc u h.front h.back ∙ ap (λ w. u ++ w) (sym h.joined)) closed)
+    let q = h.second in
+    let fired = dispatch-stands u m h.middle h.front stands h.first in
+    let passed = passes-all (u ++ h.front) h.middle q.middle q.front fired q.first in
+    let closed = closes-end h.middle.plain.opened ((u ++ h.front) ++ q.front) q.middle z q.back passed q.second in
+    subst (λ w. StandsFor w Stage.Between z)
+    (append_assoc (u ++ h.front) q.front q.back ∙ ap (λ w. (u ++ h.front) ++ w) (sym q.joined)
+    ∙ append_assoc u h.front h.back ∙ ap (λ w. u ++ w) (sym h.joined)) closed)
     t s new a k turn
 
 -- a turn that a hook of this link ends
@@ -386,16 +386,16 @@ cut_turn_leaves f t s new a k (in_dispatch h) =
 cut_turn_leaves f t s new a k (in_passing h) =
     served-then (Then DispatchesAll (CutForAllLinks PassesLink CutPassingLink)) (LeftFor TurnAnswer.Memory)
     (λ u m z b stands d.
-        joined-leaves TurnAnswer.Memory u d.front d.back b z d.joined
-        (passing-leaves (u ++ d.front) d.middle z d.back (dispatch-stands u m d.middle d.front stands d.first) d.second))
+    joined-leaves TurnAnswer.Memory u d.front d.back b z d.joined
+    (passing-leaves (u ++ d.front) d.middle z d.back (dispatch-stands u m d.middle d.front stands d.first) d.second))
     t s new a k h
 cut_turn_leaves f t s new a k (in_closing h) =
     served-then (Then DispatchesAll (Then (ForAllLinks PassesLink) (CutForAllLinks ClosesLink CutClosingLink))) (LeftFor TurnAnswer.Memory)
     (λ u m z b stands d.
-        let q = d.second in
-        let fired = dispatch-stands u m d.middle d.front stands d.first in
-        let passed = passes-all (u ++ d.front) d.middle q.middle q.front fired q.first in
-        joined-leaves TurnAnswer.Memory u d.front d.back b z d.joined
-        (joined-leaves TurnAnswer.Memory (u ++ d.front) q.front q.back d.back z q.joined
-        (closing-leaves d.middle.plain.opened ((u ++ d.front) ++ q.front) q.middle z q.back passed q.second)))
+    let q = d.second in
+    let fired = dispatch-stands u m d.middle d.front stands d.first in
+    let passed = passes-all (u ++ d.front) d.middle q.middle q.front fired q.first in
+    joined-leaves TurnAnswer.Memory u d.front d.back b z d.joined
+    (joined-leaves TurnAnswer.Memory (u ++ d.front) q.front q.back d.back z q.joined
+    (closing-leaves d.middle.plain.opened ((u ++ d.front) ++ q.front) q.middle z q.back passed q.second)))
     t s new a k h

@@ -1,17 +1,29 @@
 -- How a drive keeps its value.
-use Rattle.std.specs.Prelude.{◌≡◌, vec_len, None}
+use Rattle.std.specs.Prelude.{◌≡◌, [], vec_len, None}
+use Rattle.ev_port.specs.Table.{WantsValue}
+use Rattle.ev_types.specs.Trace.{Trace}
+use Rattle.relay_core.specs.Pairs.{HasPairs}
+use Rattle.relay_state.specs.State.{State}
+use Rattle.relay_drive.specs.declared.agenda.Agenda.{Agenda}
 use Rattle.relay_drive.specs.declared.drive.Drive.TheInside.{Inside}
-use Rattle.relay_model.specs.Settings.{HasNoHooks}
 use Rattle.relay_drive.specs.DriveValue.{DriveValue}
+use Rattle.relay_drive.specs.DriveStands.{StandsBetween}
 use Rattle.relay_drive.specs.Agenda.{IsKept, IsNamed}
 
 abbrev pub drive_of : Inside → DriveValue
-drive_of d = record { state = d.run.relay.state; entries = d.run.entries; refusal = d.refusal }
+drive_of d = record { state = d.run.relay.state; entries = d.run.entries; kept = d.kept }
 
--- There is room for the longest read, and no side has a hook; and before a refusal it is known at which links nothing is to be done, and
--- what the sides want.
+-- Between two turns it is known at which links nothing is to be done, and what the sides want; each link has two sides, nothing is left
+-- to fire, and the relay stands for some trace.
+pub record IsReady (agenda : Agenda) (wants : WantsValue) (s : State) : Type 0 where
+  pub kept : IsKept agenda s
+  pub named : IsNamed agenda wants s
+  pub pairs : HasPairs s
+  pub bare : s.batch ≡ []
+  pub trace : Trace
+  pub stands : StandsBetween trace s
+
+-- There is room for the longest read; and where no answer is kept it is ready for a turn.
 pub record IsSound (d : Inside) : Type 0 where
   pub inbox : vec_len d.inbox ≡ 16384
-  pub unhooked : HasNoHooks d.run.relay.state.settings
-  pub kept : d.refusal ≡ None → IsKept d.agenda d.run.relay.state
-  pub named : d.refusal ≡ None → IsNamed d.agenda d.wants d.run.relay.state
+  pub ready : d.kept ≡ None → IsReady d.agenda d.wants d.run.relay.state

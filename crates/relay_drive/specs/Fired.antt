@@ -7,7 +7,7 @@ use Rattle.ev_types.specs.Trace.{Trace}
 use Rattle.ev_types.specs.Growth.{Grew}
 use Rattle.ev_port.specs.Counting.{counted}
 use Rattle.relay_state.specs.State.{State}
-use Rattle.relay_state.specs.Asking.{FiresSome}
+use Rattle.relay_state.specs.Asking.{dispatching, FiresSome}
 use Rattle.relay_core.specs.Fires.{FiresSide}
 use Rattle.relay_drive.specs.declared.run.Run.{Run}
 use Rattle.relay_drive.specs.Seats.{Telling, HooksTell}
@@ -28,6 +28,12 @@ pub record FiredAs {H : Type 0} (tells : Telling H) (short : Option SideId) (R :
   pub entries : counted new.entries 0 ≡ counted old.entries (length added)
   pub hooked : HooksTell tells short hooks gone hooks' gone' added
 
--- some reasons were fired
+-- some of what was due was fired
 abbrev pub FiresAny : State → Trace → State → Type 0
-FiresAny s a new = (n : ℕ) × FiresSome n s a new
+FiresAny s a new = (n : ℕ) × FiresSome n (dispatching s) a new
+
+-- what was cut off, for want of memory of some hook or of none
+abbrev pub FiredBut : {H : Type 0} → Telling H → (State → Trace → State → Type 0) → Run → Run → Option Trace → Option Trace → List (Option H) →
+    List (Option H) → List (Option H) → List (Option H) → Type 0
+FiredBut tells R old new log log' hooks gone hooks' gone' =
+    (short : Option SideId) × FiredAs tells short R old new log log' hooks gone hooks' gone'

@@ -1,6 +1,6 @@
 -- How a clause of the drive says what a call does: with the port, the scribe and the run that are called, it tells only what
 -- is done, from which point of the turn to which, and what a refusal leaves.
-use Rattle.std.specs.Prelude.{◌≡◌, ◌⊎◌, ⊤, Bool, false, Result, MatchResult}
+use Rattle.std.specs.Prelude.{◌≡◌, ◌⊎◌, ⊤, Bool, false, List, Option, None, Result, MatchResult}
 use Rattle.ev_types.specs.Trace.{Trace}
 use Rattle.ev_port.specs.declared.port.Port as port
 use Rattle.ev_port.specs.declared.scribe.Scribe as scribe
@@ -10,7 +10,10 @@ use Rattle.relay_drive.specs.declared.fault.DriveFault.{DriveFault}
 use Rattle.relay_drive.specs.declared.fault.DriveFault.TheVariants as fault
 use Rattle.relay_drive.specs.declared.run.Run.{Run}
 use Rattle.relay_drive.specs.DriveValue.{DriveValue}
-use Rattle.relay_drive.specs.Phases.{is_open_fault}
+use Rattle.relay_drive.specs.declared.fault.TurnEnd.{TurnEnd}
+use Rattle.relay_drive.specs.Steps.{Told}
+use Rattle.relay_drive.specs.Phases.{is_open_fault, EndsTurn, CutTurn}
+use Rattle.relay_drive.specs.Seats.{Telling, HooksTell, HooksTellBut}
 use Rattle.relay_drive.specs.Known.{known, Point, Question}
 use Rattle.relay_drive.specs.Advances.{Advances}
 use Rattle.relay_drive.specs.DriveStands.{DriveWent}
@@ -58,3 +61,10 @@ abbrev pub TurnsTo : {P S : Type 0} → port.Ghosts P → scribe.Ghosts S → Po
 TurnsTo g h is failed R After Tells old new =
     DriveWent R After Tells failed old.0 new.0 (h.trace old.2) (h.trace new.2) (knows g Point.Between old.1) (knows g is new.1)
     (g.faults old.1) (g.faults new.1)
+
+-- A turn of a run ends so, or is refused so, and hooks tell what its entries say, but for one that wanted memory where it is refused.
+abbrev pub EndsTold : {P S H : Type 0} → port.Ghosts P → scribe.Ghosts S → Telling H → Result TurnEnd DriveFault → Run × P × S → Run × P × S →
+    List (Option H) → List (Option H) → List (Option H) → List (Option H) → Type 0
+EndsTold g h tells result old new hooks gone hooks' gone' =
+    GetsTo g h result Point.Between Point.Accepted (λ end. Told (EndsTurn end) (HooksTell tells None hooks gone hooks' gone'))
+    (λ fault. Told (CutTurn fault) (HooksTellBut tells hooks gone hooks' gone')) old new

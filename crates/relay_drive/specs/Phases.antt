@@ -1,5 +1,5 @@
 -- A turn as a relation of the relay's state: its phases in their order, and where it can be cut off.
-use Rattle.std.specs.Prelude.{ℕ, Bool, true, false, List}
+use Rattle.std.specs.Prelude.{◌⊎◌, ℕ, Bool, true, false, List}
 use Rattle.ev_types.specs.Trace.{Trace}
 use Rattle.ev_port.specs.declared.port.Want.{Want}
 use Rattle.relay_state.specs.State.{State}
@@ -32,9 +32,23 @@ abbrev pub ServedThen : (State → Trace → State → Type 0) → State → Tra
 ServedThen R s a new = (reading : ℕ) × (marked : List Want) ×
     Then (Ticks reading) (Then (PollsAndAccepts marked) (Then (Each ServesSide marked) R)) s a new
 
+-- what dispatch does that is not refused, by how the turn goes on
+abbrev pub EndsDispatch : TurnEnd → State → Trace → State → Type 0
+EndsDispatch end.Went s a new = DispatchesAll s a new
+EndsDispatch (end.Stopped link) s a new = StopsAt link s a new
+
+-- passing and closing
+abbrev pub PassesAndCloses : State → Trace → State → Type 0
+PassesAndCloses = Then (ForAllLinks PassesLink) (ForAllLinks ClosesLink)
+
+-- one of them was cut off
+abbrev pub CutFinish : State → Trace → State → Type 0
+CutFinish s a new = CutForAllLinks PassesLink CutPassingLink s a new
+    ⊎ Then (ForAllLinks PassesLink) (CutForAllLinks ClosesLink CutClosingLink) s a new
+
 -- a turn goes through its phases with some marks
 abbrev pub Turns : State → Trace → State → Type 0
-Turns s a new = ServedThen (Then DispatchesAll (Then (ForAllLinks PassesLink) (ForAllLinks ClosesLink))) s a new
+Turns s a new = ServedThen (Then DispatchesAll PassesAndCloses) s a new
 
 -- a turn is ended by a hook of this link
 abbrev pub StopsTurn : ℕ → State → Trace → State → Type 0
@@ -44,6 +58,13 @@ StopsTurn link s a new = ServedThen (StopsAt link) s a new
 abbrev pub EndsTurn : TurnEnd → State → Trace → State → Type 0
 EndsTurn end.Went s a new = Turns s a new
 EndsTurn (end.Stopped link) s a new = StopsTurn link s a new
+
+-- a turn is cut off in front of dispatch
+pub data CutStart : DriveFault → State → Trace → State → Type 0 where
+  begin_before : {s new : State} {a : Trace} → Nothing s a new → CutStart fault.Memory s a new
+  begin_in_poll : {f : DriveFault} {s new : State} {a : Trace} (reading : ℕ) → Then (Ticks reading) (CutPolling f) s a new → CutStart f s a new
+  begin_in_serving : {s new : State} {a : Trace} (reading : ℕ) (marked : List Want) →
+      Then (Ticks reading) (Then (PollsAndAccepts marked) (CutAt ServesSide CutServing marked)) s a new → CutStart fault.Memory s a new
 
 -- a turn is cut off behind its phases, in the poll or behind it
 pub data CutTurn : DriveFault → State → Trace → State → Type 0 where

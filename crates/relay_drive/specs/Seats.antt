@@ -33,6 +33,9 @@ pub record Telling (H : Type 0) : Type 0 where
   pub asked : H → Option (List (Act × AskAnswer))
   pub planned : H → Option (List PlanLine)
 
+abbrev pub telling : {H : Type 0} → (H → Option (List Why)) → (H → Option (List (Act × AskAnswer))) → (H → Option (List PlanLine)) → Telling H
+telling heard asked planned = record { heard = heard; asked = asked; planned = planned }
+
 -- It heard and asked this more, where it tells; its plan is as it was, and where it had asked by that, it has.
 pub record TellsMore {H : Type 0} (tells : Telling H) (was now : H) (heard : List Why) (asked : List (Act × AskAnswer)) : Type 0 where
   pub heard : tells.heard now ≡ told_more (tells.heard was) heard
@@ -73,3 +76,8 @@ pub record AreSeated {H : Type 0} (s : State) (hooks gone : List (Option H)) : T
   pub hooked : (e : SideId) → has_hook s.settings e ≡ is_some (seat hooks gone (number e))
   pub freed : (e : SideId) → has_hook s.settings e ≡ true → is_some (hook_at hooks (number e)) ≡ false →
       (e.link < s.plain.opened) × (is_live s.plain e ≡ false)
+
+-- no hook was taken out of its slot yet
+pub record AreFresh {H : Type 0} (hooks gone : List (Option H)) : Type 0 where
+  pub level : length gone ≡ length hooks
+  pub none : (n : ℕ) → hook_at gone n ≡ None

@@ -34,3 +34,7 @@ pub record CutAt {X : Type 0} (R Cut : X → State → Trace → State → Type 
 abbrev pub links_from : ℕ → ℕ → List ℕ
 links_from k zero = []
 links_from k (suc n) = k ∷ links_from (k + 1) n
+
+-- this is done, and so it is told of its entries
+abbrev pub Told : (State → Trace → State → Type 0) → (Trace → Type 0) → State → Trace → State → Type 0
+Told R Tells s a new = R s a new × Tells a

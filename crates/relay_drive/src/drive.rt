@@ -1,20 +1,22 @@
-// The drive: turns in a row, with a refusal kept.
-ghost use Rattle.std.specs.Prelude.{◌≡◌, ◌-◌, ◌^◌, true, false, min, nat_lt, if◌then◌else◌, Some, None, Err, IfSome, MatchResult};
+// The drive: turns in a row, with an answer kept that every later turn gives.
+ghost use Rattle.std.specs.Prelude.{◌≡◌, ◌-◌, ◌^◌, true, false, min, nat_lt, if◌then◌else◌, Some, None, Err, IfOk, IfSome, MatchResult};
 ghost use Rattle.relay_state.specs.Counting.{link_count, open_below, buffered_below};
 ghost use Rattle.relay_drive.specs.declared.fault.DriveFault.TheVariants.{Memory, Spent};
-ghost use Rattle.relay_drive.specs.DriveValue.{new_drive, is_worn, refusal_of};
-ghost use Rattle.relay_drive.specs.Phases.{Turns, CutTurn, is_open_fault};
+ghost use Rattle.relay_drive.specs.DriveValue.{new_drive, is_worn, kept_of};
+ghost use Rattle.relay_drive.specs.Phases.{EndsTurn, CutTurn, is_open_fault};
 ghost use Rattle.relay_drive.specs.Known.{Point};
 ghost use Rattle.relay_drive.specs.Moves.{TurnsTo};
-ghost use Rattle.relay_drive.specs.DriveStands.{turn_answer_of, StandsBetween};
+ghost use Rattle.relay_drive.specs.DriveStands.{turn_answer_of, turn_end_of};
+ghost use Rattle.relay_drive.specs.Seats.{telling, seated_sides, AreFresh, AreSeated, HooksTell, HooksTellBut};
 ghost use Rattle.relay_steps.specs.Meaning.{LeftFor};
 
 use crate::agenda::{Agenda, next_link};
 use crate::fault::{DriveFault, TurnEnd};
 use crate::run::Run;
+use crate::seats::{Seats, slots_taken};
 use crate::turn::next_turn;
 use ev_port::{Port, Scribe, WantTable};
-use relay_core::{LinkCount, Relay, Settings};
+use relay_core::{Hook, LinkCount, Relay, Settings};
 use std::alloc::Global;
 use std::marker::Model;
 
@@ -30,7 +32,7 @@ pub struct Drive {
     agenda: Agenda,
     wants: WantTable,
     inbox: Vec<u8>,
-    refusal: Option<DriveFault>,
+    kept: Option<Result<TurnEnd, DriveFault>>,
 }
 
 impl Model for Drive {
@@ -46,71 +48,85 @@ impl Model for Drive {
 }
 
 impl Drive {
-    /// A drive with no link. It is refused only for want of memory. Takes memory for the longest read; constant cost.
-    pub fn new(alloc: Global, settings: Settings) -> Result<Drive, DriveFault>
-        ensures { MatchResult result (λ drive. drive ≡ new_drive settings) (λ fault. fault ≡ Memory) }
+    /// A drive with no link, for these hooks, none of which was called. It is refused only for want of memory. Takes memory for the
+    /// longest read and for what waits; linear in the slots for hooks.
+    pub fn new(alloc: Global, settings: Settings, seats: &Seats) -> Result<Drive, DriveFault>
+        requires fresh { AreFresh seats.now.hooks.items seats.now.gone.items }
+        ensures value { MatchResult result (λ drive. drive ≡ new_drive settings (seated_sides seats.now.hooks.items)) (λ fault. fault ≡ Memory) }
+        ensures seated { IfOk result (λ drive. AreSeated drive.state seats.now.hooks.items seats.now.gone.items) }
     {
         let Ok(inbox) = vec![in alloc; 0u8; MOST_READ] else {
             return Err(DriveFault::Memory);
         };
+        let taken = slots_taken(alloc, &seats.hooks)?;
         Ok(Drive {
             run: Run {
-                relay: Relay::new(alloc, settings),
+                relay: Relay::new(alloc, settings, taken)?,
                 entries: 0,
             },
             agenda: Agenda::new(alloc),
             wants: WantTable::new(alloc),
             inbox,
-            refusal: None,
+            kept: None,
         })
     }
 
-    /// Makes one turn. After a refusal every later turn is refused so, with no call of the port and no entry. A turn is
-    /// refused as spent where a count, or the number of entries, has come to 2^62 as it begins. Linear in the links at
-    /// which something is to be done and in what it moves, and it looks at a word for each 64 links; linear in all links
-    /// where a side may have a timeout.
+    /// Makes one turn. It ends where a hook asked for that, and after such an end or a refusal every later turn is answered so, with no
+    /// call of the port and no entry. A turn is refused as spent where a count, or the number of entries, has come to 2^62 as it begins.
+    /// Linear in the links at which something is to be done and in what it moves, and it looks at a word for each 64 links; linear in all
+    /// links where a side may have a timeout, or a hook set one.
     pub fn turn<P: Port, S: Scribe>(
         &mut self,
+        seats: &mut Seats,
         port: &mut P,
         scribe: &mut S,
     ) -> Result<TurnEnd, DriveFault>
-        // A kept refusal is answered again, and nothing is done.
-        ensures kept { IfSome self.old.refusal (λ fault.
-            (result ≡ Err fault) × (self.new ≡ self.old) × (port.new ≡ port.old) × (scribe.new ≡ scribe.old)) }
+        // The hooks are those of this drive.
+        requires seated { self.old.kept ≡ None → AreSeated self.old.state seats.old.hooks.items seats.old.gone.items }
+
+        // A kept answer is given again, and nothing is done.
+        ensures kept { IfSome self.old.kept (λ answer.
+            (result ≡ answer) × (self.new ≡ self.old) × (port.new ≡ port.old) × (scribe.new ≡ scribe.old)
+            × (seats.new.hooks.items ≡ seats.old.hooks.items) × (seats.new.gone.items ≡ seats.old.gone.items)) }
 
         // A drive that came too far does nothing.
-        ensures spent { self.old.refusal ≡ None → is_worn self.old ≡ true →
-            (result ≡ Err Spent) × (self.new.state ≡ self.old.state) × (port.new ≡ port.old) × (scribe.new ≡ scribe.old) }
+        ensures spent { self.old.kept ≡ None → is_worn self.old ≡ true →
+            (result ≡ Err Spent) × (self.new.state ≡ self.old.state) × (port.new ≡ port.old) × (scribe.new ≡ scribe.old)
+            × (seats.new.hooks.items ≡ seats.old.hooks.items) × (seats.new.gone.items ≡ seats.old.gone.items) }
 
-        // Every other turn goes through its phases, or is cut off as its answer says. Whatever trace the relay stood for,
-        // it stands for that trace with the turn's entries: between two turns, or where such an answer may come. So the
-        // port vouches for it, is tied to it, and every link that waited was accepted, as it was before.
-        ensures went { self.old.refusal ≡ None → is_worn self.old ≡ false → MatchResult result
-            (λ _. TurnsTo P.Port S.Scribe Point.Accepted false Turns StandsBetween
+        // Every other turn goes through its phases, or a hook ends it, or it is cut off as its answer says. Whatever trace the relay stood
+        // for, it stands for that trace with the turn's entries, where such an answer may come. So the port vouches for it, is tied to it,
+        // and every link that waited was accepted, as it was before. Each hook was called for what the entries say and asked what they
+        // say; but for one that wanted memory, where the turn is refused for that.
+        ensures went { self.old.kept ≡ None → is_worn self.old ≡ false → MatchResult result
+            (λ end. TurnsTo P.Port S.Scribe Point.Accepted false (EndsTurn end) (LeftFor (turn_end_of end))
+            (HooksTell (telling (λ h. heard h) (λ h. asked h) (λ h. planned h)) None seats.old.hooks.items seats.old.gone.items
+            seats.new.hooks.items seats.new.gone.items)
             (self.old, port.old, scribe.old) (self.new, port.new, scribe.new))
             (λ fault. TurnsTo P.Port S.Scribe Point.Accepting (is_open_fault fault) (CutTurn fault) (LeftFor (turn_answer_of fault))
+            (HooksTellBut (telling (λ h. heard h) (λ h. asked h) (λ h. planned h)) seats.old.hooks.items seats.old.gone.items
+            seats.new.hooks.items seats.new.gone.items)
             (self.old, port.old, scribe.old) (self.new, port.new, scribe.new)) }
 
-        ensures refusal { self.new.refusal ≡ refusal_of result }
+        ensures answer { self.new.kept ≡ kept_of result }
+        ensures seated { self.new.kept ≡ None → AreSeated self.new.state seats.new.hooks.items seats.new.gone.items }
     {
-        if let Some(fault) = self.refusal {
-            return Err(fault);
+        if let Some(answer) = self.kept {
+            return answer;
         }
-        let ended = next_turn(
+        let answer = next_turn(
             &mut self.run,
             &mut self.agenda,
             &mut self.wants,
             &mut self.inbox,
+            seats,
             port,
             scribe,
         );
-        match ended {
-            Ok(()) => Ok(TurnEnd::Went),
-            Err(fault) => {
-                self.refusal = Some(fault);
-                Err(fault)
-            }
+        if answer != Ok(TurnEnd::Went) {
+            self.kept = Some(answer);
         }
+        answer
     }
 
     /// How many links were opened. Constant cost.
@@ -120,12 +136,12 @@ impl Drive {
         self.run.relay.opened()
     }
 
-    /// Whether a link has a live side. Before a refusal it looks at few links, whatever their number; takes no memory.
+    /// Whether a link has a live side. Before an answer is kept it looks at few links, whatever their number; takes no memory.
     /// Else the cost is linear in the links.
     pub fn has_open_links(&self) -> bool
         ensures { result ≡ nat_lt 0 (open_below self.now.state self.now.state.plain.opened) }
     {
-        if self.refusal.is_some() {
+        if self.kept.is_some() {
             return self.run.relay.open_links() > 0;
         }
         let mut from = 0;

@@ -1,7 +1,7 @@
 // The hooks of a drive, which stand outside of the relay.
 ghost use Rattle.std.specs.Prelude.{◌≡◌, ◌<◌, Some, None, true, is_some, length, slice_set, slice_index_or, if◌then◌else◌, map, IfOk, [], ◌∷◌};
 ghost use Rattle.ev_types.specs.Sides.{number};
-ghost use Rattle.relay_drive.specs.Seats.{hook_at, slots_taken};
+ghost use Rattle.relay_drive.specs.Seats.{hook_at, slots_taken, AreFresh};
 
 use ev_types::{NoMemory, SideId};
 use relay_core::Hook;
@@ -9,6 +9,8 @@ use std::alloc::Global;
 
 /// The hooks of a drive, each in the slot of its side's number. A hook that was called while its side was freed, by itself or by what it
 /// asked, leaves its slot for good and is kept, so that what it heard and asked can be said.
+///
+/// Own; libevent keeps the callbacks of a bufferevent with it.
 #[derive(Drop)]
 pub struct Seats {
     pub(crate) hooks: Vec<Option<Box<dyn Hook>>>,
@@ -29,19 +31,21 @@ pub(crate) fn slots_taken(
     Ok(taken)
 }
 
-/// So many empty slots.
-pub(crate) fn empty_slots(
-    alloc: Global,
-    count: usize,
-) -> Result<Vec<Option<Box<dyn Hook>>>, NoMemory>
-    ensures many { IfOk result (λ slots. length slots.items ≡ count) }
-    ensures empty { IfOk result (λ slots. (n : ℕ) → hook_at slots.items n ≡ None) }
-{
-    let mut slots = Vec::new(alloc);
-    for _ in 0..count {
-        slots.push(None)?;
+impl Seats {
+    /// These hooks, the first for side In of link 0, the second for side Out of it, and so on, where there is one. None is needed for
+    /// the sides behind the last. Refused for want of memory; takes some for each slot. Linear in the slots.
+    ///
+    /// Own.
+    pub fn new(alloc: Global, hooks: Vec<Option<Box<dyn Hook>>>) -> Result<Seats, NoMemory>
+        ensures hooks { IfOk result (λ seats. seats.hooks.items ≡ hooks.items) }
+        ensures fresh { IfOk result (λ seats. AreFresh seats.hooks.items seats.gone.items) }
+    {
+        let mut gone = Vec::new(alloc);
+        for _ in 0..hooks.len() {
+            gone.push(None)?;
+        }
+        Ok(Seats { hooks, gone })
     }
-    Ok(slots)
 }
 
 /// Takes the hook of a side out of its slot.

@@ -1,25 +1,29 @@
-// One turn: its phases in their order. What time brings is done as the relay begins the turn. There is no hook yet, so that the phase of
-// dispatch has nothing to do.
-ghost use Rattle.std.specs.Prelude.{◌≡◌, ℕ, ◌<◌, ◌^◌, ◌||◌, true, false, nat_le, length, Err, MatchResult, OnOk};
+// One turn: its phases in their order. What time brings is done as the relay begins the turn.
+ghost use Rattle.std.specs.Prelude.{◌≡◌, ℕ, ◌<◌, ◌^◌, ◌||◌, true, false, nat_le, length, Ok, Err, MatchResult, OnOk};
 ghost use Rattle.relay_state.specs.Counting.{is_spent};
 ghost use Rattle.relay_drive.specs.declared.fault.DriveFault.TheVariants.{Spent};
+ghost use Rattle.relay_drive.specs.declared.fault.TurnEnd.TheVariants.{Went};
 ghost use Rattle.relay_drive.specs.Steps.{Nothing};
-ghost use Rattle.relay_drive.specs.Phases.{Turns, CutTurn, TicksOnce};
+ghost use Rattle.relay_drive.specs.Phases.{TicksOnce, ServedThen, CutStart, PassesAndCloses, CutFinish};
 ghost use Rattle.relay_drive.specs.Known.{Point};
-ghost use Rattle.relay_drive.specs.Links.{SameLink, IsUntimed};
+ghost use Rattle.relay_drive.specs.Links.{SameLink};
 ghost use Rattle.relay_drive.specs.Agenda.{HoldsBeside, LinkCountsAreFew, CountsAreFew, IsKept, IsNamed, KeepsNames};
-ghost use Rattle.relay_drive.specs.Moves.{Moves, GetsTo, OnlyForMemory};
+ghost use Rattle.relay_drive.specs.DriveView.{IsReady};
+ghost use Rattle.relay_drive.specs.Seats.{telling, AreSeated};
+ghost use Rattle.relay_drive.specs.Moves.{Moves, GetsTo, Does, EndsTold, OnlyForMemory};
 
 use crate::agenda::{Agenda, next_link};
 use crate::close::close;
-use crate::fault::DriveFault;
+use crate::dispatch::dispatch;
+use crate::fault::{DriveFault, TurnEnd};
 use crate::pass::pass;
 use crate::poll::poll;
 use crate::run::{Run, put};
+use crate::seats::Seats;
 use crate::serve::serve;
 use ev_port::{Port, Scribe, WantTable};
 use ev_types::Entry;
-use relay_core::Relay;
+use relay_core::{Hook, Relay};
 
 /// The number of entries at which a trace is too long for another turn.
 const SPENT: u64 = 1 << 62;
@@ -37,7 +41,7 @@ fn read_clock<P: Port, S: Scribe>(
         (λ _. Moves P.Port S.Scribe Point.Between Point.Between false Nothing
         (run.old, port.old, scribe.old) (run.new, port.new, scribe.new)) }
     ensures opened { OnOk result (run.new.relay.state.plain.opened ≡ run.old.relay.state.plain.opened) }
-    ensures still { OnOk result (IsUntimed run.old.relay.state → (k : ℕ) → SameLink k run.old.relay.state run.new.relay.state) }
+    ensures still { OnOk result (run.old.relay.untimed ≡ true → (k : ℕ) → SameLink k run.old.relay.state run.new.relay.state) }
     ensures few { OnOk result (CountsAreFew run.old.relay.state → CountsAreFew run.new.relay.state) }
     ensures cause { OnlyForMemory result }
 {
@@ -73,8 +77,26 @@ fn clock<P: Port, S: Scribe>(
     Ok(())
 }
 
-/// Goes through all phases once.
-fn turn<P: Port, S: Scribe>(
+/// Passes and closes, once dispatch is over.
+fn finish<P: Port, S: Scribe>(
+    run: &mut Run,
+    agenda: &mut Agenda,
+    port: &mut P,
+    scribe: &mut S,
+) -> Result<(), DriveFault>
+    requires kept { IsKept agenda.old run.old.relay.state }
+    ensures went { Does P.Port S.Scribe result (λ _. PassesAndCloses) CutFinish
+        (run.old, port.old, scribe.old) (run.new, port.new, scribe.new) }
+    ensures kept { OnOk result (IsKept agenda.new run.new.relay.state) }
+    ensures names { OnOk result (KeepsNames agenda.old run.old.relay.state agenda.new run.new.relay.state) }
+    ensures cause { OnlyForMemory result }
+{
+    pass(&mut run.relay, agenda)?;
+    close(run, agenda, port, scribe)
+}
+
+/// Reads the clock, polls, accepts and serves.
+fn start<P: Port, S: Scribe>(
     run: &mut Run,
     agenda: &mut Agenda,
     wants: &mut WantTable,
@@ -87,17 +109,45 @@ fn turn<P: Port, S: Scribe>(
     requires kept { IsKept agenda.old run.old.relay.state }
     requires named { IsNamed agenda.old wants.old run.old.relay.state }
     requires few { CountsAreFew run.old.relay.state }
-    ensures went { GetsTo P.Port S.Scribe result Point.Between Point.Accepted (λ _. Turns) CutTurn
+    ensures went { GetsTo P.Port S.Scribe result Point.Between Point.Accepted (λ _. ServedThen Nothing) CutStart
         (run.old, port.old, scribe.old) (run.new, port.new, scribe.new) }
     ensures kept { OnOk result (IsKept agenda.new run.new.relay.state) }
     ensures named { OnOk result (IsNamed agenda.new wants.new run.new.relay.state) }
+    ensures inbox { length inbox.new ≡ 16384 }
 {
     clock(run, agenda, port, scribe)?;
     poll(run, agenda, wants, port, scribe)?;
-    serve(run, agenda, wants.list(), inbox, port, scribe)?;
-    pass(&mut run.relay, agenda)?;
-    close(run, agenda, port, scribe)?;
-    Ok(())
+    serve(run, agenda, wants.list(), inbox, port, scribe)
+}
+
+/// Goes through all phases once, unless a hook ends the run.
+fn turn<P: Port, S: Scribe>(
+    run: &mut Run,
+    agenda: &mut Agenda,
+    wants: &mut WantTable,
+    inbox: &mut [u8],
+    seats: &mut Seats,
+    port: &mut P,
+    scribe: &mut S,
+) -> Result<TurnEnd, DriveFault>
+    requires inbox { length inbox.old ≡ 16384 }
+    requires turns { run.old.relay.state.plain.turn < 2 ^ 62 }
+    requires ready { IsReady agenda.old wants.old run.old.relay.state }
+    requires few { CountsAreFew run.old.relay.state }
+    requires seated { AreSeated run.old.relay.state seats.old.hooks.items seats.old.gone.items }
+    ensures inbox { length inbox.new ≡ 16384 }
+    ensures went { EndsTold P.Port S.Scribe (telling (λ h. heard h) (λ h. asked h) (λ h. planned h)) result
+        (run.old, port.old, scribe.old) (run.new, port.new, scribe.new)
+        seats.old.hooks.items seats.old.gone.items seats.new.hooks.items seats.new.gone.items }
+    ensures ready { result ≡ Ok Went → IsReady agenda.new wants.new run.new.relay.state }
+    ensures seated { result ≡ Ok Went → AreSeated run.new.relay.state seats.new.hooks.items seats.new.gone.items }
+{
+    start(run, agenda, wants, inbox, port, scribe)?;
+    let end = dispatch(run, agenda, seats, scribe)?;
+    if end == TurnEnd::Went {
+        finish(run, agenda, port, scribe)?;
+    }
+    Ok(end)
 }
 
 /// Whether a count of the relay has come to 2^62. Only the links are looked at where something changed.
@@ -125,23 +175,26 @@ pub(crate) fn next_turn<P: Port, S: Scribe>(
     agenda: &mut Agenda,
     wants: &mut WantTable,
     inbox: &mut [u8],
+    seats: &mut Seats,
     port: &mut P,
     scribe: &mut S,
-) -> Result<(), DriveFault>
+) -> Result<TurnEnd, DriveFault>
     requires inbox { length inbox.old ≡ 16384 }
-    requires kept { IsKept agenda.old run.old.relay.state }
-    requires named { IsNamed agenda.old wants.old run.old.relay.state }
+    requires ready { IsReady agenda.old wants.old run.old.relay.state }
+    requires seated { AreSeated run.old.relay.state seats.old.hooks.items seats.old.gone.items }
     ensures spent { nat_le (2 ^ 62) run.old.entries || is_spent run.old.relay.state ≡ true →
-        (result ≡ Err Spent) × (run.new ≡ run.old) × (port.new ≡ port.old) × (scribe.new ≡ scribe.old) }
+        (result ≡ Err Spent) × (run.new ≡ run.old) × (port.new ≡ port.old) × (scribe.new ≡ scribe.old)
+        × (seats.new.hooks.items ≡ seats.old.hooks.items) × (seats.new.gone.items ≡ seats.old.gone.items) }
     ensures went { nat_le (2 ^ 62) run.old.entries || is_spent run.old.relay.state ≡ false →
-        GetsTo P.Port S.Scribe result Point.Between Point.Accepted (λ _. Turns) CutTurn
-        (run.old, port.old, scribe.old) (run.new, port.new, scribe.new) }
-    ensures settings { run.new.relay.state.settings ≡ run.old.relay.state.settings }
-    ensures kept { OnOk result (IsKept agenda.new run.new.relay.state) }
-    ensures named { OnOk result (IsNamed agenda.new wants.new run.new.relay.state) }
+        EndsTold P.Port S.Scribe (telling (λ h. heard h) (λ h. asked h) (λ h. planned h)) result
+        (run.old, port.old, scribe.old) (run.new, port.new, scribe.new)
+        seats.old.hooks.items seats.old.gone.items seats.new.hooks.items seats.new.gone.items }
+    ensures ready { result ≡ Ok Went → IsReady agenda.new wants.new run.new.relay.state }
+    ensures seated { result ≡ Ok Went → AreSeated run.new.relay.state seats.new.hooks.items seats.new.gone.items }
+    ensures inbox { length inbox.new ≡ 16384 }
 {
     if run.entries >= SPENT || is_spent(&run.relay, agenda) {
         return Err(DriveFault::Spent);
     }
-    turn(run, agenda, wants, inbox, port, scribe)
+    turn(run, agenda, wants, inbox, seats, port, scribe)
 }
