@@ -50,11 +50,11 @@ pub record AtLink (k : ℕ) (s new : State) : Type 0 where
 no_false : {A : Type 0} → true ≡ false → A
 no_false h = absurd (cc)
 
-gone-same : (k : ℕ) (s new : State) → SameLink k s new → IsGone s k → IsGone new k
+pub gone-same : (k : ℕ) (s new : State) → SameLink k s new → IsGone s k → IsGone new k
 gone-same k s new same h = open-same same ∙ h
 
 -- what the table says of a link is still right
-named-same : (t : WantsValue) (k : ℕ) (s new : State) → SameLink k s new → IsNamedRight t s k → IsNamedRight t new k
+pub named-same : (t : WantsValue) (k : ℕ) (s new : State) → SameLink k s new → IsNamedRight t s k → IsNamedRight t new k
 named-same t k s new same h = (
   h.0,
   (h.1.0 ∙ sym (wants-same same (in_side k) refl dir.Read), h.1.1 ∙ sym (wants-same same (in_side k) refl dir.Write)),

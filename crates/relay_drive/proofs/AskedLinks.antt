@@ -29,23 +29,13 @@ use Rattle.relay_drive.specs.Asked.{link_changed, link_changed_by, IsAskedElsewh
 use Rattle.relay_drive.specs.Links.{SameLink, has_spent_count_from, has_spent_count}
 use Rattle.relay_drive.proofs.DispatchLemmas.{one-leaves}
 use Rattle.relay_drive.proofs.MeantFolds.{Each_is}
-use Rattle.relay_drive.proofs.OtherLinks.{same_link, same_link-then, same_link-is, by_parts, by_gauge, parts-side, freed-other}
+use Rattle.relay_drive.proofs.OtherLinks.{same_link, same_link-then, same_link-is, by_parts, by_gauge, parts-side, freed-other, same-waits}
 use Rattle.relay_drive.proofs.OtherLinks.{raise_read-other, raise_write-other}
 
 -- Links that an ask changes
 
 apart : (k n : ℕ) → ◌≢◌ {A = Option ℕ} (Some n) (Some k) → k ≢ n
 apart k n h = λ p. h (ap Some (sym p))
-
--- timers and due reasons belong to no link
-same-waits : (k : ℕ) (s : State) (p : Plain) → p.time ≡ s.plain.time → p.sides ≡ s.plain.sides → p.flows ≡ s.plain.flows →
-    SameLink k s (with_plain p s)
-same-waits k s p time sides flows =
-    by_parts k s p (record {
-      time = time;
-      side = λ e h. ap (λ xs. get_or xs (number e) no_side) sides;
-      flow = λ e h. ap (λ xs. get_or xs (number e) no_flow) flows;
-    })
 
 -- An ask that is done leaves every link as it is that it doesn't change.
 pub asked-other : (k : ℕ) (a : Act) (s : State) → link_changed a ≢ Some k → SameLink k s (asked a s)

@@ -320,7 +320,7 @@ bare-same s = aged-stays (aged-same s)
 abbrev pub StaysBy : (State → Trace → State → Type 0) → Type 0
 StaysBy R = (s new : State) (a : Trace) → R s a new → StaysBare s new
 
-nothing-stays : StaysBy Nothing
+pub nothing-stays : StaysBy Nothing
 nothing-stays s new a h = bare-is s new s h.1 (bare-same s)
 
 pub then-stays : (R S : State → Trace → State → Type 0) → StaysBy R → StaysBy S → StaysBy (Then R S)
@@ -475,7 +475,7 @@ left-stays rs s = record {
   freed = λ p e below dead. dead;
 }
 
-dispatching-stays : (s : State) → Stays s (dispatching s)
+pub dispatching-stays : (s : State) → Stays s (dispatching s)
 dispatching-stays s = record {
   settings = refl;
   opened = omega arith;

@@ -123,7 +123,7 @@ Unhooks R = (s new : State) (a : Trace) → R s a new → IsUnhooked a
 unhooked-is : (a u : Trace) → a ≡ u → IsUnhooked u → IsUnhooked a
 unhooked-is a u j h = subst IsUnhooked (sym j) h
 
-nothing-unhooks : Unhooks Nothing
+pub nothing-unhooks : Unhooks Nothing
 nothing-unhooks s new a h = unhooked-is a [] h.0 refl
 
 pub then-unhooks : (R S : State → Trace → State → Type 0) → Unhooks R → Unhooks S → Unhooks (Then R S)

@@ -3,6 +3,12 @@ pub mod HeardLemmas
 pub mod EndNames
 pub mod CalmLemmas
 pub mod TookLemmas
+pub mod TouchLemmas
+pub mod FiredLemmas
+pub mod TurnTells
+pub mod TurnRuns
+pub mod FreshSeats
+pub mod NewStands
 pub mod TiedLemmas
 pub mod PortLemmas
 pub mod KnownLemmas

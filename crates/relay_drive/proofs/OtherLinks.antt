@@ -1,6 +1,6 @@
 -- What each step of a turn leaves of every other link than the one that it is about, and what was found of a link is still so where
 -- the link is the same.
-use Rattle.std.specs.Prelude.{MatchBool, is_some, slice_index_or, slice_set, Option, option_map}
+use Rattle.std.specs.Prelude.{MatchBool, fold, filter, is_some, slice_index_or, slice_set, Option, option_map}
 use Rattle.std.specs.List.{AllByRecursion, All}
 use Rattle.std.proofs.Common.{◌≡◌, ◌≢◌, ℕ, ◌*◌, ◌<◌, Bool, true, false, ◌&&◌, nat_le, nat_lt, if◌then◌else◌, List, [], ◌∷◌, ◌++◌, length}
 use Rattle.std.proofs.Common.{refl, sym, ◌∙◌, ap, subst, arith, zero, suc, None}
@@ -26,10 +26,10 @@ use Rattle.relay_model.specs.Flow.{Flow, no_flow}
 use Rattle.relay_model.specs.Settings.{Settings}
 use Rattle.relay_model.specs.Due.{with_reason}
 use Rattle.relay_model.specs.Plain as plain
-use Rattle.relay_model.specs.Plain.{Plain, PlainSide, Standing, no_side, side_at, flow_at, put_side, put_flow, change_side, change_flow}
+use Rattle.relay_model.specs.Plain.{Timer, Plain, PlainSide, Standing, no_side, side_at, flow_at, put_side, put_flow, change_side, change_flow}
 use Rattle.relay_model.specs.Plain.{is_live}
 use Rattle.relay_model.specs.Reasons.{has_hook, raise, happened, end_flag, error_flag}
-use Rattle.relay_model.specs.Moments.{active_at}
+use Rattle.relay_model.specs.Moments.{active_at, timers_taken}
 use Rattle.relay_model.specs.Rooms.{is_connecting}
 use Rattle.relay_model.specs.Serve as model
 use Rattle.relay_model.specs.Close.{fault, freed_entry}
@@ -346,6 +346,50 @@ turned-same k ms s none = record {
   allowed = λ e h d.
       ap (λ limit. left_by limit (gauge_at s e) d ms) (none e) ∙ sym (ap (λ limit. left_by limit (gauge_at s e) d s.plain.time) (none e));
 }
+
+-- timers and due reasons belong to no link
+pub same-waits : (k : ℕ) (s : State) (p : Plain) → p.time ≡ s.plain.time → p.sides ≡ s.plain.sides → p.flows ≡ s.plain.flows →
+    SameLink k s (with_plain p s)
+same-waits k s p time sides flows =
+    by_parts k s p (record {
+      time = time;
+      side = λ e h. ap (λ xs. slice_index_or xs (number e) no_side) sides;
+      flow = λ e h. ap (λ xs. slice_index_or xs (number e) no_flow) flows;
+    })
+
+-- what a plain state keeps while timers are taken
+record SameRest (p new : Plain) : Type 0 where
+  time : new.time ≡ p.time
+  sides : new.sides ≡ p.sides
+  flows : new.flows ≡ p.flows
+
+taken-rest : (g : Settings) (p : Plain) → SameRest p (timers_taken g p)
+taken-rest g p =
+    let h = go (record p { timers = filter (λ x. nat_lt p.time x.deadline) p.timers }) (filter (λ x. nat_le x.deadline p.time) p.timers) in
+    record { time = h.time; sides = h.sides; flows = h.flows }
+  where
+    raised : (z : Plain) (x : Timer) → SameRest z (raise g x.side why.Timer z)
+    raised z x = by_hook (has_hook g x.side && is_live z x.side)
+      where
+        by_hook : (b : Bool) → SameRest z (if b then record z { due = with_reason x.side why.Timer z.due } else z)
+        by_hook true = record { time = refl; sides = refl; flows = refl }
+        by_hook false = record { time = refl; sides = refl; flows = refl }
+
+    go : (z : Plain) (xs : List Timer) → SameRest z (fold (λ y x. raise g x.side why.Timer y) z xs)
+    go z [] = record { time = refl; sides = refl; flows = refl }
+    go z (x ∷ xs) =
+        let a = raised z x in
+        let b = go (raise g x.side why.Timer z) xs in
+        record { time = b.time ∙ a.time; sides = b.sides ∙ a.sides; flows = b.flows ∙ a.flows }
+
+-- nor do the timers that are taken as it begins
+pub taken-same : (k ms : ℕ) (s : State) → HasNoLimits s →
+    SameLink k s (with_plain (timers_taken s.settings (turned_to ms s.plain)) s)
+taken-same k ms s none =
+    let turned : State = with_plain (turned_to ms s.plain) s in
+    let rest = taken-rest s.settings (turned_to ms s.plain) in
+    same_link-then k (turned-same k ms s none)
+    (same-waits k turned (timers_taken s.settings (turned_to ms s.plain)) rest.time rest.sides rest.flows)
 
 -- What was found of a link is still so
 

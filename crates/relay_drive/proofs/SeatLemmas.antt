@@ -32,28 +32,6 @@ use Rattle.relay_drive.proofs.HookTells.{asks-told, tells-fire}
 
 -- The fire of a reason that was taken out of the batch
 
--- it is a fire of the relay
-pub fires-side : (s : State) (e : SideId) (y : Why) (rest : List Reason) (mid new : RelayValue) → s.batch ≡ (e, y) ∷ rest →
-    mid.state ≡ left_to_fire rest s → is_live s.plain e ≡ true → FiresSide e mid new →
-    Fires new.stopped s ((entry.Fired e y, []) ∷ new.log) new.state
-fires-side s e y rest mid new first taken live h = record {
-  side = e;
-  reason = y;
-  rest = rest;
-  first = first;
-  live = live;
-  asks = h.asked;
-  few = h.few;
-  behind = new.log;
-  does = subst (λ z. AsksAll e h.asked z new.log new.state) taken h.does;
-  entries = refl;
-  stops = h.stopped;
-}
-
--- by whether it stopped the run
-pub fires-as : (stopped : Bool) {s new : State} {a : Trace} (b : Bool) → b ≡ stopped → Fires b s a new → Fires stopped s a new
-fires-as stopped {s = s} {new = new} {a = a} b is h = subst (λ z. Fires z s a new) is h
-
 -- one fire more
 pub fires-more : (n : ℕ) (s mid new : State) (front back : Trace) → FiresSome n s front mid → Fires false mid back new →
     FiresSome (n + 1) s (front ++ back) new

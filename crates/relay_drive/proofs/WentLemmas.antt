@@ -10,6 +10,7 @@ use Rattle.relay_drive.specs.declared.run.Run.{Run}
 use Rattle.relay_drive.specs.DriveValue.{DriveValue}
 use Rattle.relay_drive.specs.Advances.{Advances}
 use Rattle.relay_drive.specs.DriveStands.{StandsBetween, DriveWent}
+use Rattle.relay_drive.specs.Steps.{Told}
 use Rattle.relay_drive.proofs.GoesLemmas.{Known}
 use Rattle.relay_drive.proofs.HookEvents.{asks_fit-append}
 
@@ -42,3 +43,21 @@ went_of {R = R} {After = After} {Tells = Tells} law fit {failed = failed} {new =
       heard = g.heard;
       hooked = told;
     }))
+
+-- The same where it is told of the entries with what the relay does.
+pub went_told : {Plan : Type 0} → {R : State → Trace → State → Type 0} {After : Trace → State → Type 0} {Tells : Trace → Type 0} →
+    ((t : Trace) (s new : State) (a : Trace) → StandsBetween t s → R s a new → After (t ++ a) new) →
+    ((s new : State) (a : Trace) → R s a new → AsksFit a) →
+    {failed : Bool} {old new : DriveValue} {run run' : Run} {log log' : Option Trace} {v v' : Known Plan} {f f' : Faults}
+    (r r' : Option (Result TurnEnd DriveFault)) → old ≡ drive_value run r → new ≡ drive_value run' r' →
+    Advances (Told R Tells) failed run run' log log' v v' f f' → DriveWent R After Tells failed old new log log' v v' f f'
+went_told {R = R} {Tells = Tells} law fit {run = run} {run' = run'} r r' p q g =
+    went_of {R = R} {Tells = Tells} law fit {run = run} {run' = run'} r r' p q (record {
+      added = g.added;
+      does = g.does.0;
+      entries = g.entries;
+      list = g.list;
+      settings = g.settings;
+      told = g.told;
+      heard = g.heard;
+    }) g.does.1

@@ -37,9 +37,9 @@ abbrev pub telling : {H : Type 0} → (H → Option (List Why)) → (H → Optio
 telling heard asked planned = record { heard = heard; asked = asked; planned = planned }
 
 -- It heard and asked this more, where it tells; its plan is as it was, and where it had asked by that, it has.
-pub record TellsMore {H : Type 0} (tells : Telling H) (was now : H) (heard : List Why) (asked : List (Act × AskAnswer)) : Type 0 where
-  pub heard : tells.heard now ≡ told_more (tells.heard was) heard
-  pub asked : tells.asked now ≡ told_more (tells.asked was) asked
+pub record TellsMore {H : Type 0} (tells : Telling H) (was now : H) (whys : List Why) (asks : List (Act × AskAnswer)) : Type 0 where
+  pub heard : tells.heard now ≡ told_more (tells.heard was) whys
+  pub asked : tells.asked now ≡ told_more (tells.asked was) asks
   pub planned : tells.planned now ≡ tells.planned was
   pub by_plan : HasAskedByPlan (tells.planned was) (tells.heard was) (tells.asked was) →
       HasAskedByPlan (tells.planned now) (tells.heard now) (tells.asked now)
@@ -64,8 +64,8 @@ pub record SeatFired {H : Type 0} (tells : Telling H) (ok live : Bool) (e : Side
   pub was : H
   pub now : H
   pub there : hook_at hooks (number e) ≡ Some was
-  pub hooks : hooks' ≡ slice_set hooks (number e) (if live then Some now else None)
-  pub gone : gone' ≡ (if live then gone else slice_set gone (number e) (Some now))
+  pub slot : hooks' ≡ slice_set hooks (number e) (if live then Some now else None)
+  pub out : gone' ≡ (if live then gone else slice_set gone (number e) (Some now))
   pub told : ok ≡ true → TellsMore tells was now (y ∷ []) (asked_in e log)
   pub planned : tells.planned now ≡ tells.planned was
 

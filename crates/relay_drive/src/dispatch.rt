@@ -9,7 +9,6 @@ ghost use Rattle.relay_model.specs.Plain.{is_live};
 ghost use Rattle.relay_model.specs.Hooked.{asked_in};
 ghost use Rattle.relay_model.specs.Stages.{Stage};
 ghost use Rattle.relay_core.specs.Fires.{events_of, told_more, HasAskedByPlan};
-ghost use Rattle.relay_core.specs.Pairs.{HasPairs};
 ghost use Rattle.relay_steps.specs.Meaning.{StandsFor};
 ghost use Rattle.relay_drive.specs.declared.fault.TurnEnd.TheVariants.{Went};
 ghost use Rattle.relay_drive.specs.Agenda.{IsKept, KeepsNames};
@@ -112,7 +111,6 @@ pub(crate) fn dispatch<S: Scribe>(
 ) -> Result<TurnEnd, DriveFault>
     requires bare { run.old.relay.state.batch ≡ [] }
     requires stood { (t : Trace) × StandsFor t (Stage.Serving []) run.old.relay.state }
-    requires pairs { HasPairs run.old.relay.state }
     requires kept { IsKept agenda.old run.old.relay.state }
     requires seated { AreSeated run.old.relay.state seats.old.hooks.items seats.old.gone.items }
     ensures went { MatchResult result

@@ -47,6 +47,16 @@ impl Model for Drive {
     ghost invariant = { IsSound };
 }
 
+/// What is kept of a turn's answer, for every later turn.
+fn kept_of(answer: Result<TurnEnd, DriveFault>) -> Option<Result<TurnEnd, DriveFault>>
+    ensures { result ≡ kept_of answer }
+{
+    match answer {
+        Ok(TurnEnd::Went) => None,
+        Ok(TurnEnd::Stopped(_)) | Err(_) => Some(answer),
+    }
+}
+
 impl Drive {
     /// A drive with no link, for these hooks, none of which was called. It is refused only for want of memory. Takes memory for the
     /// longest read and for what waits; linear in the slots for hooks.
@@ -123,9 +133,7 @@ impl Drive {
             port,
             scribe,
         );
-        if answer != Ok(TurnEnd::Went) {
-            self.kept = Some(answer);
-        }
+        self.kept = kept_of(answer);
         answer
     }
 

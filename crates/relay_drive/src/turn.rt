@@ -41,6 +41,7 @@ fn read_clock<P: Port, S: Scribe>(
         (λ _. Moves P.Port S.Scribe Point.Between Point.Between false Nothing
         (run.old, port.old, scribe.old) (run.new, port.new, scribe.new)) }
     ensures opened { OnOk result (run.new.relay.state.plain.opened ≡ run.old.relay.state.plain.opened) }
+    ensures untimed { OnOk result (run.new.relay.untimed ≡ run.old.relay.untimed) }
     ensures still { OnOk result (run.old.relay.untimed ≡ true → (k : ℕ) → SameLink k run.old.relay.state run.new.relay.state) }
     ensures few { OnOk result (CountsAreFew run.old.relay.state → CountsAreFew run.new.relay.state) }
     ensures cause { OnlyForMemory result }
@@ -92,7 +93,8 @@ fn finish<P: Port, S: Scribe>(
     ensures cause { OnlyForMemory result }
 {
     pass(&mut run.relay, agenda)?;
-    close(run, agenda, port, scribe)
+    close(run, agenda, port, scribe)?;
+    Ok(())
 }
 
 /// Reads the clock, polls, accepts and serves.
@@ -117,7 +119,8 @@ fn start<P: Port, S: Scribe>(
 {
     clock(run, agenda, port, scribe)?;
     poll(run, agenda, wants, port, scribe)?;
-    serve(run, agenda, wants.list(), inbox, port, scribe)
+    serve(run, agenda, wants.list(), inbox, port, scribe)?;
+    Ok(())
 }
 
 /// Goes through all phases once, unless a hook ends the run.
@@ -143,11 +146,13 @@ fn turn<P: Port, S: Scribe>(
     ensures seated { result ≡ Ok Went → AreSeated run.new.relay.state seats.new.hooks.items seats.new.gone.items }
 {
     start(run, agenda, wants, inbox, port, scribe)?;
-    let end = dispatch(run, agenda, seats, scribe)?;
-    if end == TurnEnd::Went {
-        finish(run, agenda, port, scribe)?;
+    match dispatch(run, agenda, seats, scribe)? {
+        TurnEnd::Went => {
+            finish(run, agenda, port, scribe)?;
+            Ok(TurnEnd::Went)
+        }
+        TurnEnd::Stopped(link) => Ok(TurnEnd::Stopped(link)),
     }
-    Ok(end)
 }
 
 /// Whether a count of the relay has come to 2^62. Only the links are looked at where something changed.

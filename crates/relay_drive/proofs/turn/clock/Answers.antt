@@ -1,5 +1,4 @@
-use Rattle.std.proofs.Common.{sym, ◌∙◌, ap}
-use Rattle.relay_model.specs.Settings.{Settings}
+use Rattle.std.proofs.Common.{sym, ◌∙◌}
 use Rattle.relay_drive.proofs.AgendaLemmas.{kept-all, names-all, kept-same, names-same}
 use Rattle.relay_drive.proofs.turn.clock.Goals as goal
 
@@ -16,19 +15,11 @@ returns-then-not-is_untimed-clause-names g c =
 pub returns-else-not-is_untimed-clause-kept : goal.returns-else-not-is_untimed-clause-kept
 returns-else-not-is_untimed-clause-kept g c =
     let done = c.in_ok-read_clock.ensures in
-    let untimed = c.is_untimed.ensures.0 c.if-not-is_untimed.false in
     kept-same c.args.agenda.now c.args.run.now.relay.state c.read_clock.new.run.relay.state done.opened
-    (done.still (
-      sym (ap (λ (g : Settings). g.in_timeouts) done.went.settings) ∙ untimed.0,
-      sym (ap (λ (g : Settings). g.out_timeouts) done.went.settings) ∙ untimed.1,
-    )) c.requires.kept
+    (done.still (sym done.untimed ∙ sym c.is_untimed.ensures ∙ c.if-not-is_untimed.false)) c.requires.kept
 
 pub returns-else-not-is_untimed-clause-names : goal.returns-else-not-is_untimed-clause-names
 returns-else-not-is_untimed-clause-names g c =
     let done = c.in_ok-read_clock.ensures in
-    let untimed = c.is_untimed.ensures.0 c.if-not-is_untimed.false in
     names-same c.args.agenda.now c.args.run.now.relay.state c.read_clock.new.run.relay.state done.opened
-    (done.still (
-      sym (ap (λ (g : Settings). g.in_timeouts) done.went.settings) ∙ untimed.0,
-      sym (ap (λ (g : Settings). g.out_timeouts) done.went.settings) ∙ untimed.1,
-    ))
+    (done.still (sym done.untimed ∙ sym c.is_untimed.ensures ∙ c.if-not-is_untimed.false))

@@ -6,7 +6,7 @@ use Rattle.relay_state.specs.Time.{begun}
 use Rattle.relay_steps.proofs.FrameLemmas.{frame-begun}
 use Rattle.relay_drive.specs.Links.{SameLink}
 use Rattle.relay_drive.specs.Agenda.{CountsAreFew}
-use Rattle.relay_drive.proofs.OtherLinks.{turned-same}
+use Rattle.relay_drive.proofs.OtherLinks.{taken-same}
 use Rattle.relay_drive.proofs.FewLemmas.{few-begun}
 use Rattle.relay_drive.proofs.GoesLemmas.{Grew-join, goes_by, goes_nowhere}
 use Rattle.relay_drive.proofs.HeardLemmas.{Heard-quiet}
@@ -55,8 +55,7 @@ pub returns-clause-still : goal.returns-clause-still
 returns-clause-still g c =
     let s = c.args.run.now.relay.state in
     λ untimed k.
-    subst (SameLink k s) (sym (c.begin-ms.ensures.still untimed.0 untimed.1))
-    (turned-same k c.begin-ms.result s c.begin-ms.ensures.unlimited)
+    subst (SameLink k s) (sym (c.begin-ms.ensures.still untimed)) (taken-same k c.begin-ms.result s c.begin-ms.ensures.unlimited)
 
 pub returns-clause-few : goal.returns-clause-few
 returns-clause-few g c = λ few. subst CountsAreFew (sym c.begin-ms.ensures.state) (few-begun c.args.run.now.relay.state c.begin-ms.result few)
