@@ -10,6 +10,13 @@ use ev_types::Why;
 use relay_core::Ctl;
 use std::marker::Model;
 
+/// A fire: its reason, and the state that was lent, as the fire left it.
+#[derive(Clone, Copy)]
+pub(crate) struct Fire<'a> {
+    pub(crate) why: Why,
+    pub(crate) ctl: &'a Ctl,
+}
+
 /// The reasons that a hook was called for, and what it asked and was answered. Only clauses read it; it takes no memory, and its methods do
 /// nothing when they run.
 #[derive(Drop)]
@@ -25,16 +32,15 @@ impl Model for HookLog {
 impl HookLog {
     /// Of no fire.
     pub(crate) fn new() -> HookLog
-        ensures heard { result.heard ≡ [] }
-        ensures asked { result.asked ≡ [] }
+        ensures { (result.heard ≡ []) × (result.asked ≡ []) }
     {
         HookLog {}
     }
 
-    /// With a fire more, as the state that was lent has it.
-    pub(crate) fn then(&self, _why: Why, _ctl: &Ctl) -> HookLog
-        ensures heard { result.heard ≡ self.now.heard ++ _why ∷ [] }
-        ensures asked { result.asked ≡ self.now.asked ++ asked_in _ctl.now.me _ctl.now.log }
+    /// With a fire more.
+    pub(crate) fn then(&self, _fire: &Fire<'_>) -> HookLog
+        ensures { (result.heard ≡ self.now.heard ++ _fire.now.why ∷ [])
+            × (result.asked ≡ self.now.asked ++ asked_in _fire.now.ctl.now.me _fire.now.ctl.now.log) }
     {
         HookLog {}
     }

@@ -3,6 +3,7 @@
 #![tactic(auto)]
 
 mod ask;
+mod fire_counts;
 mod hook_log;
 mod script_hook;
 

@@ -1,32 +1,76 @@
 // The hook that a script plans.
-ghost use Rattle.std.specs.Prelude.{◌≡◌, ◌≤◌, ◌+◌, ◌^◌, ◌<◌, [], ◌∷◌, Some, List, IfOk, OnOk, length};
-ghost use Rattle.relay_core.specs.Fires.{Steps, CanPlan};
-ghost use Rattle.script_hook.specs.Planning.{AsksPlanned, HookValue, acts_for};
+ghost use Rattle.std.specs.Prelude.{◌≡◌, Some, []};
+ghost use Rattle.script_hook.specs.Planning.{HookValue};
 
-use crate::ask::ask;
-use crate::hook_log::HookLog;
-use ev_types::{NoMemory, PlanLine, Why, WhyKind};
+use crate::ask::ask_lines;
+use crate::fire_counts::{FireCounts, kind};
+use crate::hook_log::{Fire, HookLog};
+use ev_types::{NoMemory, PlanLine, Why};
 use relay_core::{Ctl, Hook};
 use std::alloc::Global;
 use std::marker::Model;
 
-/// How often a hook was called for each kind of reason.
-#[derive(Clone, Copy, Debug, PartialEq, Eq)]
-struct Fires {
-    connected: u64,
-    read: u64,
-    write: u64,
-    timer: u64,
-    event: u64,
-}
-
 /// A hook that asks what it was planned to ask: at the n-th fire for a kind of reason, what the lines for that kind and number say, in their
-/// order.
+/// order. It goes on behind a refused ask. Its first fire for a kind is the first.
 ///
 /// Own.
 #[derive(Drop)]
 pub struct ScriptHook {
     lines: Vec<PlanLine>,
-    fires: Fires,
+    fires: FireCounts,
     log: HookLog,
+}
+
+impl Model for ScriptHook {
+    ghost use Rattle.std.specs.List.{All};
+    ghost use Rattle.relay_core.specs.Fires.{CanPlan};
+    ghost use Rattle.script_hook.specs.Counts.{Counts};
+    ghost use Rattle.script_hook.specs.Planning.{HookValue};
+
+    ghost Value = { HookValue };
+
+    ghost view = { λ a. record { lines = a.lines.items; heard = a.log.heard; asked = a.log.asked } };
+
+    ghost invariant = { λ a. record { able : All CanPlan a.lines.items; counted : Counts a.fires a.log.heard } };
+}
+
+impl ScriptHook {
+    /// With no lines, and called for nothing yet. Constant; takes no memory.
+    ///
+    /// Own.
+    pub fn new(alloc: Global) -> ScriptHook
+        ensures lines { result.lines ≡ [] }
+        ensures heard { result.heard ≡ [] }
+        ensures asked { result.asked ≡ [] }
+    {
+        ScriptHook {
+            lines: Vec::new(alloc),
+            fires: FireCounts::new(),
+            log: HookLog::new(),
+        }
+    }
+}
+
+/// It tells what it heard, what it asked and its lines.
+impl Hook for ScriptHook {
+    ghost heard = { λ h. Some h.heard };
+
+    ghost asked = { λ h. Some h.asked };
+
+    ghost planned = { λ h. Some h.lines };
+
+    fn plan(&mut self, lines: &[PlanLine]) -> Result<(), NoMemory> {
+        self.lines.reserve(lines.len())?;
+        self.lines.clear();
+        self.lines.extend_from_slice(lines)?;
+        Ok(())
+    }
+
+    fn fire(&mut self, ctl: &mut Ctl, why: Why) -> Result<(), NoMemory> {
+        let kind = kind(why);
+        let nth = self.fires.count(kind)?;
+        ask_lines(ctl, &self.lines, kind, nth);
+        self.log = self.log.then(&Fire { why, ctl });
+        Ok(())
+    }
 }
