@@ -1,16 +1,15 @@
 -- Lines of a plan that are asked one behind another.
-use Rattle.std.proofs.Common.{◌≡◌, ℕ, ◌<◌, ◌≤◌, Bool, true, false, if◌then◌else◌, List, [], ◌∷◌, ◌++◌, length, map, take, Option, Some, None}
+use Rattle.std.proofs.Common.{◌≡◌, ◌<◌, ◌≤◌, Bool, if◌then◌else◌, List, [], ◌∷◌, ◌++◌, length, map, take, Option, Some, None}
 use Rattle.std.proofs.Common.{refl, sym, ◌∙◌, ap, subst, arith, append-nil, length-append}
-use Rattle.std.specs.Prelude.{filter, filter_map}
+use Rattle.std.specs.List.{cons_option}
 use Rattle.std.proofs.Math.Seq.{take-nil}
 use Rattle.std.proofs.lemmas.Grind.{flat_map-append}
 use Rattle.std.proofs.lemmas.List.{map-append, length-map, length-take, take_all, take-append-le}
-use Rattle.std.proofs.lemmas.List.Elements.{filter-append, filter_map-append}
+use Rattle.std.proofs.lemmas.List.Elements.{filter_map-append}
 use Rattle.ev_types.specs.declared.act.Act.{Act}
 use Rattle.ev_types.specs.declared.answer.AskAnswer.{AskAnswer}
 use Rattle.ev_types.specs.declared.plan_line.PlanLine.{PlanLine}
 use Rattle.ev_types.specs.declared.side.SideId.{SideId}
-use Rattle.ev_types.specs.declared.why.WhyKind.{WhyKind}
 use Rattle.ev_types.specs.Trace.{Trace}
 use Rattle.relay_model.specs.Asks.{most_asks}
 use Rattle.relay_model.specs.Hooked.{asked_by, asked_in}
@@ -20,7 +19,7 @@ use Rattle.relay_state.specs.Asking.{AsksOne, ask_events}
 use Rattle.relay_core.specs.Fires.{AsksOnce}
 use Rattle.relay_core.specs.RelayValue.{RelayValue}
 use Rattle.relay_core.proofs.FireLemmas.{asks-told, steps-asked, steps-none}
-use Rattle.script_hook.specs.Planning.{AsksAct, AsksLine, AsksPlanned, acts_for, is_at}
+use Rattle.script_hook.specs.Planning.{AsksAct, AsksPlanned, acts_in}
 
 abbrev Asks : Type 0
 Asks = List (Act × AskAnswer)
@@ -84,29 +83,15 @@ planned-more acts a (Some r) old mid new h k =
           ∙ (let x = h.many in let y = k.asks in omega (arith, x, y));
     }
 
--- the acts of one line more
-acts-push : (lines : List PlanLine) (line : PlanLine) (k : WhyKind) (n : ℕ) → acts_for (lines ++ line ∷ []) k n ≡ acts_for lines k n ++ acts_for (line ∷ []) k n
-acts-push lines line k n =
-    ap (filter_map (λ x. x.act)) (filter-append (is_at k n) lines (line ∷ []))
-    ∙ filter_map-append (λ x. x.act) (filter (is_at k n) lines) (filter (is_at k n) (line ∷ []))
-
-line-more : (acts : List Act) (line : PlanLine) (old mid new : RelayValue) → AsksPlanned acts old mid → (b : Bool)
-    → AsksAct mid (if b then line.act else None) new → AsksPlanned (acts ++ filter_map (λ x. x.act) (if b then line ∷ [] else [])) old new
-line-more acts line old mid new h false k =
-    subst (λ z. AsksPlanned z old new) (sym (append-nil acts)) (subst (AsksPlanned acts old) (sym k) h)
-line-more acts line old mid new h true k = act-more line.act refl k
-  where
-    act-more : (o : Option Act) → line.act ≡ o → AsksAct mid o new → AsksPlanned (acts ++ filter_map (λ x. x.act) (line ∷ [])) old new
-    act-more None is j = rw is (subst (λ z. AsksPlanned z old new) (sym (append-nil acts)) (subst (AsksPlanned acts old) (sym j) h))
-    act-more (Some a) is j = rw is (planned-more acts a j.0 old mid new h j.1)
+-- an act more, or none
+act-more : (acts : List Act) (o : Option Act) (old mid new : RelayValue) → AsksPlanned acts old mid → AsksAct mid o new
+    → AsksPlanned (acts ++ cons_option o []) old new
+act-more acts None old mid new h k = subst (λ z. AsksPlanned z old new) (sym (append-nil acts)) (subst (AsksPlanned acts old) (sym k) h)
+act-more acts (Some a) old mid new h k = planned-more acts a k.0 old mid new h k.1
 
 -- one line more
-pub planned-line : (lines : List PlanLine) (line : PlanLine) (k : WhyKind) (n : ℕ) (old mid new : RelayValue) → AsksPlanned (acts_for lines k n) old mid
-    → AsksLine mid k n line new → AsksPlanned (acts_for (lines ++ line ∷ []) k n) old new
-planned-line lines line k n old mid new h j =
-    subst (λ z. AsksPlanned z old new) (sym (acts-push lines line k n)) (split (is_at k n line) refl (line-more (acts_for lines k n) line old mid new h (is_at k n line) j))
-  where
-    split : (b : Bool) → is_at k n line ≡ b
-        → AsksPlanned (acts_for lines k n ++ filter_map (λ x. x.act) (if is_at k n line then line ∷ [] else [])) old new
-        → AsksPlanned (acts_for lines k n ++ acts_for (line ∷ []) k n) old new
-    split b is x = x
+pub planned-line : (lines : List PlanLine) (line : PlanLine) (old mid new : RelayValue) → AsksPlanned (acts_in lines) old mid
+    → AsksAct mid line.act new → AsksPlanned (acts_in (lines ++ line ∷ [])) old new
+planned-line lines line old mid new h k =
+    subst (λ z. AsksPlanned z old new) (sym (filter_map-append (λ x. x.act) lines (line ∷ [])))
+    (act-more (acts_in lines) line.act old mid new h k)

@@ -1,5 +1,5 @@
 -- A hook that asks what lines plan, and tells all of it.
-use Rattle.std.specs.Prelude.{◌≡◌, ℕ, Bool, ◌==◌, ◌&&◌, if◌then◌else◌, List, map, filter, filter_map, take, length, Option, Some, None}
+use Rattle.std.specs.Prelude.{◌≡◌, ℕ, Bool, ◌==◌, ◌&&◌, List, map, filter_map, take, length, Option, Some, None}
 use Rattle.ev_types.specs.declared.act.Act.{Act}
 use Rattle.ev_types.specs.declared.answer.AskAnswer.{AskAnswer}
 use Rattle.ev_types.specs.declared.plan_line.PlanLine.{PlanLine}
@@ -21,18 +21,14 @@ pub record HookValue : Type 0 where
 abbrev pub is_at : WhyKind → ℕ → PlanLine → Bool
 is_at k n line = same_kind line.why k && line.nth == n
 
--- the acts of the lines for the n-th fire of a kind, in their order, all of them
-abbrev pub acts_for : List PlanLine → WhyKind → ℕ → List Act
-acts_for lines k n = filter_map (λ x. x.act) (filter (λ x. same_kind x.why k && x.nth == n) lines)
+-- the acts of the lines, in their order
+abbrev pub acts_in : List PlanLine → List Act
+acts_in lines = filter_map (λ x. x.act) lines
 
 -- an act is asked, or there is none
 abbrev pub AsksAct : RelayValue → Option Act → RelayValue → Type 0
 AsksAct old None new = new ≡ old
 AsksAct old (Some act) new = (answer : Option AskAnswer) × AsksOnce old act answer new
-
--- what a line says is asked, if it is for this fire
-abbrev pub AsksLine : RelayValue → WhyKind → ℕ → PlanLine → RelayValue → Type 0
-AsksLine old k n line new = AsksAct old (if is_at k n line then line.act else None) new
 
 -- A fire asked these acts, as many of them as are heard.
 pub record AsksPlanned (acts : List Act) (old new : RelayValue) : Type 0 where

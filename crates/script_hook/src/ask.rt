@@ -2,10 +2,9 @@
 ghost use Rattle.std.specs.Prelude.{◌≡◌, [], true, ◌==◌, ◌&&◌};
 ghost use Rattle.std.specs.List.{All};
 ghost use Rattle.relay_core.specs.Fires.{AsksOnce, CanPlan, answer_of, can_ask};
-ghost use Rattle.relay_model.specs.Plans.{same_kind};
-ghost use Rattle.script_hook.specs.Planning.{AsksLine, AsksPlanned, acts_for, is_at};
+ghost use Rattle.script_hook.specs.Planning.{AsksAct, AsksPlanned, acts_in};
 
-use ev_types::{Act, PlanLine, WhyKind};
+use ev_types::{Act, PlanLine};
 use relay_core::{AskFault, Ctl};
 
 /// Asks for an act. It is asked that it is none of limits or groups.
@@ -29,40 +28,24 @@ fn ask(ctl: &mut Ctl, act: Act) -> Result<(), AskFault>
     }
 }
 
-/// Whether two kinds are one.
-fn same_kind(first: WhyKind, second: WhyKind) -> bool
-    ensures { result ≡ same_kind first second }
-{
-    match (first, second) {
-        (WhyKind::Connected, WhyKind::Connected)
-        | (WhyKind::Read, WhyKind::Read)
-        | (WhyKind::Write, WhyKind::Write)
-        | (WhyKind::Timer, WhyKind::Timer)
-        | (WhyKind::Event, WhyKind::Event) => true,
-        _ => false,
-    }
-}
-
-/// Asks what a line says, if it is one for this kind and number.
-fn ask_line(ctl: &mut Ctl, line: &PlanLine, kind: WhyKind, nth: u64)
+/// Asks what a line says.
+fn ask_line(ctl: &mut Ctl, line: &PlanLine)
     requires able { CanPlan line.now }
-    ensures { AsksLine ctl.old kind nth line.now ctl.new }
+    ensures { AsksAct ctl.old line.now.act ctl.new }
 {
-    if same_kind(line.why, kind) && u64::from(line.nth) == nth {
-        if let Some(act) = line.act {
-            let _ = ask(ctl, act);
-        }
+    if let Some(act) = line.act {
+        let _ = ask(ctl, act);
     }
 }
 
-/// Asks what the lines for this kind and number say, in their order. Linear in the lines.
-pub(crate) fn ask_lines(ctl: &mut Ctl, lines: &[PlanLine], kind: WhyKind, nth: u64)
+/// Asks what the lines say, in their order. Linear in them.
+pub(crate) fn ask_lines(ctl: &mut Ctl, lines: &[PlanLine])
     requires able { All CanPlan lines.now }
     requires unasked { ctl.old.asks ≡ 0 }
     requires unrecorded { ctl.old.log ≡ [] }
-    ensures { AsksPlanned (acts_for lines.now kind nth) ctl.old ctl.new }
+    ensures { AsksPlanned (acts_in lines.now) ctl.old ctl.new }
 {
     for line in lines {
-        ask_line(ctl, line, kind, nth);
+        ask_line(ctl, line);
     }
 }

@@ -6,5 +6,6 @@ mod ask;
 mod fire_counts;
 mod hook_log;
 mod script_hook;
+mod sorted_lines;
 
 pub use script_hook::ScriptHook;

@@ -4,7 +4,8 @@ ghost use Rattle.script_hook.specs.Planning.{HookValue};
 
 use crate::ask::ask_lines;
 use crate::fire_counts::{FireCounts, kind};
-use crate::hook_log::{Fire, HookLog};
+use crate::hook_log::{Fire, HookLog, Plan};
+use crate::sorted_lines::{lines_at, sorted};
 use ev_types::{NoMemory, PlanLine, Why};
 use relay_core::{Ctl, Hook};
 use std::alloc::Global;
@@ -16,22 +17,31 @@ use std::marker::Model;
 /// Own.
 #[derive(Drop)]
 pub struct ScriptHook {
-    lines: Vec<PlanLine>,
+    sorted: Vec<PlanLine>,
     fires: FireCounts,
     log: HookLog,
 }
 
 impl Model for ScriptHook {
+    ghost use Rattle.std.specs.Prelude.{ℕ, ◌≡◌, filter};
     ghost use Rattle.std.specs.List.{All};
+    ghost use Rattle.std.specs.List.Sorted.{IsNonDecreasingBy};
+    ghost use Rattle.ev_types.specs.declared.why.WhyKind.{WhyKind};
     ghost use Rattle.relay_core.specs.Fires.{CanPlan};
     ghost use Rattle.script_hook.specs.Counts.{Counts};
-    ghost use Rattle.script_hook.specs.Planning.{HookValue};
+    ghost use Rattle.script_hook.specs.Keys.{line_key};
+    ghost use Rattle.script_hook.specs.Planning.{HookValue, is_at};
 
     ghost Value = { HookValue };
 
-    ghost view = { λ a. record { lines = a.lines.items; heard = a.log.heard; asked = a.log.asked } };
+    ghost view = { λ a. record { lines = a.log.lines; heard = a.log.heard; asked = a.log.asked } };
 
-    ghost invariant = { λ a. record { able : All CanPlan a.lines.items; counted : Counts a.fires a.log.heard } };
+    ghost invariant = { λ a. record {
+      able : All CanPlan a.sorted.items;
+      sorted : IsNonDecreasingBy line_key a.sorted.items;
+      same : (k : WhyKind) → (n : ℕ) → filter (is_at k n) a.sorted.items ≡ filter (is_at k n) a.log.lines;
+      counted : Counts a.fires a.log.heard;
+    } };
 }
 
 impl ScriptHook {
@@ -44,7 +54,7 @@ impl ScriptHook {
         ensures asked { result.asked ≡ [] }
     {
         ScriptHook {
-            lines: Vec::new(alloc),
+            sorted: Vec::new(alloc),
             fires: FireCounts::new(),
             log: HookLog::new(),
         }
@@ -60,16 +70,15 @@ impl Hook for ScriptHook {
     ghost planned = { λ h. Some h.lines };
 
     fn plan(&mut self, lines: &[PlanLine]) -> Result<(), NoMemory> {
-        self.lines.reserve(lines.len())?;
-        self.lines.clear();
-        self.lines.extend_from_slice(lines)?;
+        self.sorted = sorted(*self.sorted.allocator(), lines)?;
+        self.log = self.log.planned(&Plan { lines });
         Ok(())
     }
 
     fn fire(&mut self, ctl: &mut Ctl, why: Why) -> Result<(), NoMemory> {
         let kind = kind(why);
         let nth = self.fires.count(kind)?;
-        ask_lines(ctl, &self.lines, kind, nth);
+        ask_lines(ctl, lines_at(&self.sorted, kind, nth));
         self.log = self.log.then(&Fire { why, ctl });
         Ok(())
     }

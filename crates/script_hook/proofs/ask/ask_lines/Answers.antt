@@ -1,6 +1,6 @@
 use Rattle.std.proofs.Common.{sym, ◌∙◌, ap, subst, arith, take, ◌++◌, ◌∷◌, []}
 use Rattle.std.proofs.lemmas.List.{take_more}
-use Rattle.script_hook.specs.Planning.{AsksPlanned, acts_for}
+use Rattle.script_hook.specs.Planning.{AsksPlanned, acts_in}
 use Rattle.script_hook.proofs.AskLemmas.{planned-line}
 use Rattle.script_hook.proofs.ask.ask_lines.Goals as goal
 
@@ -10,7 +10,7 @@ loop-line-preserved c =
     let i = c.loop-line.line-index in
     let line = c.line-item.result in
     let more =
-    planned-line (take i lines) line c.args.kind c.args.nth c.args.ctl.now c.loop-line.ctl c.ask_line.new.ctl c.loop-line.invariant
+    planned-line (take i lines) line c.args.ctl.now c.loop-line.ctl c.ask_line.new.ctl c.loop-line.invariant
     c.ask_line.ensures in
-    subst (λ z. AsksPlanned (acts_for z c.args.kind c.args.nth) c.args.ctl.now c.ask_line.new.ctl)
+    subst (λ z. AsksPlanned (acts_in z) c.args.ctl.now c.ask_line.new.ctl)
     (sym (take_more lines i line (omega arith) ∙ ap (λ z. take i lines ++ z ∷ []) (sym c.line-item.is))) more

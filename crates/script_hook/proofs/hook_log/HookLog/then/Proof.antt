@@ -63,6 +63,7 @@ module _ {M : Type 1} {𝓤 : Ura M} (𝓛 : Logic 𝓤) (at_mem : Memory → SP
         let u : Val = vptr a.0.ref_ptr.0 a.0.ref_ptr.1 in
         let v : Val = vptr a.1.0.ref_ptr.0 a.1.0.ref_ptr.1 in
         let log : (Log.the_row).Denot = record {
+          lines = a.0.now.lines;
           heard = a.0.now.heard ++ a.1.0.now.why ∷ [];
           asked = a.0.now.asked ++ asked_in a.1.0.now.ctl.now.me a.1.0.now.ctl.now.log;
         } in
@@ -75,7 +76,7 @@ module _ {M : Type 1} {𝓤 : Ura M} (𝓛 : Logic 𝓤) (at_mem : Memory → SP
         sets ! (agg ! (no_more !)) refl (tt, tt) $
         nothing ! $ none_made ! $ fjoin ! $
         returns ! (look_at ! 0 refl) $ free_all ! refl $
-        suffices ! _ (ends_at 𝓛 ended stayed held z none log (tt, (tt, tt)) (tt, (tt, tt))) $ says ! (refl, refl) $
+        suffices ! _ (ends_at 𝓛 ended stayed held z none log (tt, (tt, tt)) (tt, (tt, tt))) $ says ! (refl, refl, refl) $
         nothing ! $ nothing ! $ fjoin ! $ nothing ! $ fjoin ! $ move ! (2 ∷ 0 ∷ 1 ∷ []) $ done !)))
 
   meets : (𝓣 : Tables 𝓤 H) → Meets 𝓛 ended.signature (WpFn 𝓤 H 𝓣.C 𝓣.Λ function) (closing 𝓛 ended held)
