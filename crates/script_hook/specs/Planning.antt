@@ -1,5 +1,5 @@
 -- A hook that asks what lines plan, and tells all of it.
-use Rattle.std.specs.Prelude.{◌≡◌, ℕ, Bool, ◌==◌, ◌&&◌, List, map, filter_map, take, length, Option, Some, None}
+use Rattle.std.specs.Prelude.{◌≡◌, ◌≤◌, ◌+◌, ◌^◌, ℕ, Bool, ◌==◌, ◌&&◌, List, map, filter_map, take, length, Option, Some, None}
 use Rattle.ev_types.specs.declared.act.Act.{Act}
 use Rattle.ev_types.specs.declared.answer.AskAnswer.{AskAnswer}
 use Rattle.ev_types.specs.declared.plan_line.PlanLine.{PlanLine}
@@ -7,7 +7,7 @@ use Rattle.ev_types.specs.declared.why.Why.{Why}
 use Rattle.ev_types.specs.declared.why.WhyKind.{WhyKind}
 use Rattle.relay_model.specs.Asks.{most_asks}
 use Rattle.relay_model.specs.Hooked.{asked_in}
-use Rattle.relay_model.specs.Plans.{same_kind}
+use Rattle.relay_model.specs.Plans.{heard_of, same_kind}
 use Rattle.relay_core.specs.Fires.{AsksOnce, Steps}
 use Rattle.relay_core.specs.RelayValue.{RelayValue}
 
@@ -35,3 +35,7 @@ pub record AsksPlanned (acts : List Act) (old new : RelayValue) : Type 0 where
   pub steps : Steps old new
   pub asked : map (λ x. x.0) (asked_in old.me new.log) ≡ take most_asks acts
   pub many : length (asked_in old.me new.log) ≡ new.asks
+
+-- A hook that heard these reasons was called as often for a kind as is counted.
+abbrev pub IsCountedOut : WhyKind → List Why → Type 0
+IsCountedOut k heard = 2 ^ 64 ≤ heard_of k heard + 1

@@ -1,5 +1,5 @@
 // How often a hook was called.
-ghost use Rattle.std.specs.Prelude.{◌≡◌, ◌+◌, IfOk, OnErr, if◌then◌else◌};
+ghost use Rattle.std.specs.Prelude.{◌≡◌, ◌+◌, ◌^◌, ◌≤◌, IfOk, OnErr, if◌then◌else◌};
 ghost use Rattle.ev_types.specs.declared.why.WhyKind.{WhyKind as KindOf};
 ghost use Rattle.relay_model.specs.Plans.{kind_of, same_kind};
 ghost use Rattle.script_hook.specs.Counts.{count_of};
@@ -32,7 +32,7 @@ pub(crate) struct FireCounts {
 /// Counts one more, where that is below 2^64.
 fn one_more(count: &mut u64) -> Result<u64, NoMemory>
     ensures more { IfOk result (λ n. (n ≡ count.old + 1) × (count.new ≡ n)) }
-    ensures refused { OnErr result (count.new ≡ count.old) }
+    ensures refused { OnErr result ((2 ^ 64 ≤ count.old + 1) × (count.new ≡ count.old)) }
 {
     *count = count.checked_add(1).ok_or(NoMemory)?;
     Ok(*count)
@@ -56,7 +56,7 @@ impl FireCounts {
     pub(crate) fn count(&mut self, kind: WhyKind) -> Result<u64, NoMemory>
         ensures count { IfOk result (λ n. n ≡ count_of self.old kind + 1) }
         ensures counted { IfOk result (λ n. (k : KindOf) → count_of self.new k ≡ count_of self.old k + (if same_kind kind k then 1 else 0)) }
-        ensures refused { OnErr result (self.new ≡ self.old) }
+        ensures refused { OnErr result ((2 ^ 64 ≤ count_of self.old kind + 1) × (self.new ≡ self.old)) }
     {
         match kind {
             WhyKind::Connected => one_more(&mut self.connected),

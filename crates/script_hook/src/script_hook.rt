@@ -1,6 +1,12 @@
 // The hook that a script plans.
-ghost use Rattle.std.specs.Prelude.{◌≡◌, Some, []};
-ghost use Rattle.script_hook.specs.Planning.{HookValue};
+ghost use Rattle.std.specs.Prelude.{◌≡◌, ◌∷◌, [], Some, true, OnErr, OnOk};
+ghost use Rattle.std.specs.List.{All};
+ghost use Rattle.std.specs.Option.{option_map};
+ghost use Rattle.relay_model.specs.Hooked.{asked_in};
+ghost use Rattle.relay_model.specs.Plain.{is_live};
+ghost use Rattle.relay_model.specs.Plans.{kind_of};
+ghost use Rattle.relay_core.specs.Fires.{CanPlan, HasAskedByPlan, HasToldNothing, Steps, told_more};
+ghost use Rattle.script_hook.specs.Planning.{IsCountedOut};
 
 use crate::ask::ask_lines;
 use crate::fire_counts::{FireCounts, kind};
@@ -11,8 +17,13 @@ use relay_core::{Ctl, Hook};
 use std::alloc::Global;
 use std::marker::Model;
 
-/// A hook that asks what it was planned to ask: at the n-th fire for a kind of reason, what the lines for that kind and number say, in their
-/// order. It goes on behind a refused ask. Its first fire for a kind is the first.
+/// A hook that asks what it was planned to ask: at its n-th fire for a kind of reason, the acts of the lines for that kind and number, in
+/// their order. A line without an act asks nothing. It goes on behind an ask that is refused; what it asks beyond 256 in a fire is refused
+/// and not recorded. It tells its lines, what it heard and what it asked.
+///
+/// A plan takes the place of the one before. Planning takes the time of a sort of the lines, and memory for a copy of them and for the
+/// sort; where that is wanting, the hook stays as it was. A fire takes time logarithmic in the lines and linear in those for it, and no
+/// memory but for the timers that it asks for. The 2^64-th fire for a kind is refused as out of memory, and asks nothing.
 ///
 /// Own.
 #[derive(Drop)]
@@ -45,13 +56,13 @@ impl Model for ScriptHook {
 }
 
 impl ScriptHook {
-    /// With no lines, and called for nothing yet. Constant; takes no memory.
+    /// With no lines, called for nothing yet, and having asked nothing. Constant; takes no memory.
     ///
     /// Own.
     pub fn new(alloc: Global) -> ScriptHook
-        ensures lines { result.lines ≡ [] }
-        ensures heard { result.heard ≡ [] }
-        ensures asked { result.asked ≡ [] }
+        ensures heard { ⟦<ScriptHook as Hook>⟧.heard result ≡ Some [] }
+        ensures asked { ⟦<ScriptHook as Hook>⟧.asked result ≡ Some [] }
+        ensures planned { ⟦<ScriptHook as Hook>⟧.planned result ≡ Some [] }
     {
         ScriptHook {
             sorted: Vec::new(alloc),
@@ -61,7 +72,7 @@ impl ScriptHook {
     }
 }
 
-/// It tells what it heard, what it asked and its lines.
+/// It tells all that a hook can tell.
 impl Hook for ScriptHook {
     ghost heard = { λ h. Some h.heard };
 
@@ -69,13 +80,36 @@ impl Hook for ScriptHook {
 
     ghost planned = { λ h. Some h.lines };
 
-    fn plan(&mut self, lines: &[PlanLine]) -> Result<(), NoMemory> {
+    fn plan(&mut self, lines: &[PlanLine]) -> Result<(), NoMemory>
+        requires able { All CanPlan lines.now }
+        requires unheard { HasToldNothing (Some self.old.heard) }
+        requires unasked { HasToldNothing (Some self.old.asked) }
+        ensures refused { OnErr result (self.new ≡ self.old) }
+
+        // What every hook says.
+        ensures heard { Some self.new.heard ≡ Some self.old.heard }
+        ensures asked { Some self.new.asked ≡ Some self.old.asked }
+        ensures planned { OnOk result (Some self.new.lines ≡ option_map (λ _. lines.now) (Some self.old.lines)) }
+    {
         self.sorted = sorted(*self.sorted.allocator(), lines)?;
         self.log = self.log.planned(&Plan { lines });
         Ok(())
     }
 
-    fn fire(&mut self, ctl: &mut Ctl, why: Why) -> Result<(), NoMemory> {
+    fn fire(&mut self, ctl: &mut Ctl, why: Why) -> Result<(), NoMemory>
+        requires live { is_live ctl.old.state.plain ctl.old.me ≡ true }
+        requires unasked { ctl.old.asks ≡ 0 }
+        requires unrecorded { ctl.old.log ≡ [] }
+        ensures refused { OnErr result (IsCountedOut (kind_of why) self.old.heard × (self.new ≡ self.old) × (ctl.new ≡ ctl.old)) }
+
+        // What every hook says.
+        ensures step { Steps ctl.old ctl.new }
+        ensures heard { OnOk result (Some self.new.heard ≡ told_more (Some self.old.heard) (why ∷ [])) }
+        ensures asked { OnOk result (Some self.new.asked ≡ told_more (Some self.old.asked) (asked_in ctl.old.me ctl.new.log)) }
+        ensures planned { Some self.new.lines ≡ Some self.old.lines }
+        ensures by_plan { HasAskedByPlan (Some self.old.lines) (Some self.old.heard) (Some self.old.asked) →
+            OnOk result (HasAskedByPlan (Some self.new.lines) (Some self.new.heard) (Some self.new.asked)) }
+    {
         let kind = kind(why);
         let nth = self.fires.count(kind)?;
         ask_lines(ctl, lines_at(&self.sorted, kind, nth));

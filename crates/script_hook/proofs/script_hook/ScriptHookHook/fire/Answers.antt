@@ -1,4 +1,4 @@
-use Rattle.std.proofs.Common.{◌≡◌, ◌+◌, ◌∙◌, sym, ap, subst, map, take, filter}
+use Rattle.std.proofs.Common.{Result, Ok, Err, OnErr, ◌≤◌, ◌^◌, ◌≡◌, ◌+◌, ◌∙◌, sym, ap, subst, refl, map, take, filter}
 use Rattle.std.specs.List.{All}
 use Rattle.std.specs.List.Sorted.{IsNonDecreasingBy}
 use Rattle.std.proofs.lemmas.List.Elements.{All-filter}
@@ -9,6 +9,7 @@ use Rattle.relay_core.specs.Fires.{CanPlan}
 use Rattle.script_hook.specs.Keys.{line_key}
 use Rattle.script_hook.specs.Planning.{acts_in, is_at}
 use Rattle.script_hook.proofs.PlanLemmas.{planned-push}
+use Rattle.script_hook.specs.Planning.{IsCountedOut}
 use Rattle.script_hook.proofs.script_hook.ScriptHookHook.fire.Goals as goal
 
 pub lines_at-requires : goal.lines_at-requires
@@ -17,7 +18,7 @@ lines_at-requires c = record { sorted = subst (IsNonDecreasingBy line_key) (sym 
 pub ask_lines-requires-clause-able : goal.ask_lines-requires-clause-able
 ask_lines-requires-clause-able c =
     let all = subst (All CanPlan) (sym c.deref.ensures.value) c.self.invariant.able in
-    subst (All CanPlan) (sym c.lines_at.ensures) (All-filter (is_at c.kind-kind.result c.in_ok-nth.nth) CanPlan c.deref.result.now all)
+    subst (All CanPlan) (sym c.lines_at.ensures) (All-filter _ CanPlan c.deref.result.now all)
 
 pub returns-clause-by_plan : goal.returns-clause-by_plan
 returns-clause-by_plan c =
@@ -38,3 +39,18 @@ returns-clause-by_plan c =
     rw (← c.self.view_is)
     (λ before. rw (c.then-self-inside.ensures.0, c.then-self-inside.ensures.1, c.then-self-inside.ensures.2)
     (planned-push hook.log.lines hook.log.heard hook.log.asked (asked_in lent.me lent.log) why before now))
+
+on-err : {T E P : Type 0} (r : Result T E) → P → OnErr r P
+on-err (Ok x) p = tt
+on-err (Err e) p = p
+
+pub returns-in_err-nth-clause-refused : goal.returns-in_err-nth-clause-refused
+returns-in_err-nth-clause-refused c =
+    let hook = c.self.inside in
+    let full = c.in_err-nth.ensures.refused in
+    let counted = c.self.invariant.counted c.kind-kind.result in
+    let out : IsCountedOut c.kind-kind.result hook.log.heard = subst (λ n. 2 ^ 64 ≤ n + 1) counted full.0 in
+    let heard : IsCountedOut (kind_of c.args.why) c.args.self.now.heard =
+    subst (λ h. IsCountedOut (kind_of c.args.why) h) (ap (λ h. h.heard) c.self.view_is)
+    (subst (λ k. IsCountedOut k hook.log.heard) c.kind-kind.ensures out) in
+    on-err c.from_residual.result (heard, c.self.view_is, refl)
