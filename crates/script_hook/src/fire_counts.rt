@@ -20,7 +20,7 @@ pub(crate) fn kind(why: Why) -> WhyKind
 }
 
 /// How often a hook was called for each kind of reason.
-#[derive(Clone, Copy, Debug, PartialEq, Eq)]
+#[derive(Drop)]
 pub(crate) struct FireCounts {
     connected: u64,
     read: u64,
