@@ -1,1 +1,3 @@
+pub mod Counts
+pub mod Keys
 pub mod Planning

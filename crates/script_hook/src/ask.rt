@@ -1,12 +1,14 @@
-// An act that was read becomes a call.
-ghost use Rattle.std.specs.Prelude.{◌≡◌, true};
-ghost use Rattle.relay_core.specs.Fires.{AsksOnce, answer_of, can_ask};
+// Lines of a plan become calls.
+ghost use Rattle.std.specs.Prelude.{◌≡◌, [], true, ◌==◌, ◌&&◌};
+ghost use Rattle.std.specs.List.{All};
+ghost use Rattle.relay_core.specs.Fires.{AsksOnce, CanPlan, answer_of, can_ask};
+ghost use Rattle.script_hook.specs.Planning.{AsksAct, AsksPlanned, acts_in};
 
-use ev_types::Act;
+use ev_types::{Act, PlanLine};
 use relay_core::{AskFault, Ctl};
 
 /// Asks for an act. It is asked that it is none of limits or groups.
-pub(crate) fn ask(ctl: &mut Ctl, act: Act) -> Result<(), AskFault>
+fn ask(ctl: &mut Ctl, act: Act) -> Result<(), AskFault>
     requires { can_ask act ≡ true }
     ensures { AsksOnce ctl.old act (answer_of result) ctl.new }
 {
@@ -23,5 +25,27 @@ pub(crate) fn ask(ctl: &mut Ctl, act: Act) -> Result<(), AskFault>
         Act::Decref(side) => ctl.decref(side),
         Act::Stop => ctl.stop(),
         Act::Rate(..) | Act::Join(..) | Act::Leave(_) => unreachable!(),
+    }
+}
+
+/// Asks what a line says.
+fn ask_line(ctl: &mut Ctl, line: &PlanLine)
+    requires able { CanPlan line.now }
+    ensures { AsksAct ctl.old line.now.act ctl.new }
+{
+    if let Some(act) = line.act {
+        let _ = ask(ctl, act);
+    }
+}
+
+/// Asks what the lines say, in their order. Linear in them.
+pub(crate) fn ask_lines(ctl: &mut Ctl, lines: &[PlanLine])
+    requires able { All CanPlan lines.now }
+    requires unasked { ctl.old.asks ≡ 0 }
+    requires unrecorded { ctl.old.log ≡ [] }
+    ensures { AsksPlanned (acts_in lines.now) ctl.old ctl.new }
+{
+    for line in lines {
+        ask_line(ctl, line);
     }
 }

@@ -3,7 +3,9 @@
 #![tactic(auto)]
 
 mod ask;
+mod fire_counts;
 mod hook_log;
 mod script_hook;
+mod sorted_lines;
 
 pub use script_hook::ScriptHook;

@@ -1,0 +1,4 @@
+pub mod AskLemmas
+pub mod KeyLemmas
+pub mod PlanLemmas
+pub mod Walks
