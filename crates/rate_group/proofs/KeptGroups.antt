@@ -67,7 +67,7 @@ slice_get-front [] n v more h = absurd (cc)
 slice_get-front (g ∷ gs) zero v more h = h
 slice_get-front (g ∷ gs) (suc n) v more h = slice_get-front gs n v more h
 
-slice_get-end : (gs : List GroupValue) (v : GroupValue) → slice_get (gs ++ v ∷ []) (length gs) ≡ Some v
+pub slice_get-end : (gs : List GroupValue) (v : GroupValue) → slice_get (gs ++ v ∷ []) (length gs) ≡ Some v
 slice_get-end [] v = refl
 slice_get-end (g ∷ gs) v = slice_get-end gs v
 
