@@ -199,10 +199,10 @@ pub record Follows (n : ℕ) (d : Dir) (before cs : List GroupsCall) (v w : Grou
   pub kept : kept_of w d ≡ after_steps (limit_of v.cfg d) v.least (kept_of v d) steps
   pub within : WithinShares (limit_of v.cfg d) v.least (kept_of v d) steps
 
-follows-none : (n : ℕ) (d : Dir) (before : List GroupsCall) (v : GroupValue) → Follows n d before [] v v
+pub follows-none : (n : ℕ) (d : Dir) (before : List GroupsCall) (v : GroupValue) → Follows n d before [] v v
 follows-none n d before v = record { steps = []; beats = refl; kept = refl; within = tt }
 
-follows-more : (n : ℕ) (d : Dir) (before cs : List GroupsCall) (c : GroupsCall) (v w u : GroupValue) → w.cfg ≡ v.cfg → w.least ≡ v.least →
+pub follows-more : (n : ℕ) (d : Dir) (before cs : List GroupsCall) (c : GroupsCall) (v w u : GroupValue) → w.cfg ≡ v.cfg → w.least ≡ v.least →
     Follows n d before cs v w → Stays n d (before ++ cs) c w u ⊎ Steps n d (before ++ cs) c w u → Follows n d before (cs ++ c ∷ []) v u
 follows-more n d before cs c v w u cfg least f (inl s) = record {
   steps = f.steps;
@@ -235,10 +235,10 @@ pub record Lives (n : ℕ) (before cs : List GroupsCall) (v : GroupValue) (y : G
   pub least : value.least ≡ v.least
   pub follows : (d : Dir) → Follows n d before cs v value
 
-pub lives-none : (n : ℕ) (before : List GroupsCall) (v : GroupValue) (x : GroupsValue) → slice_get x.groups n ≡ Some v → Lives n before [] v x
+abbrev pub lives-none : (n : ℕ) (before : List GroupsCall) (v : GroupValue) (x : GroupsValue) → slice_get x.groups n ≡ Some v → Lives n before [] v x
 lives-none n before v x at = record { value = v; at = at; cfg = refl; least = refl; follows = λ d. follows-none n d before v }
 
-pub lives-more : (n : ℕ) (before cs : List GroupsCall) (c : GroupsCall) (v : GroupValue) (x y : GroupsValue) (l : Lives n before cs v x) →
+abbrev pub lives-more : (n : ℕ) (before cs : List GroupsCall) (c : GroupsCall) (v : GroupValue) (x y : GroupsValue) (l : Lives n before cs v x) →
     Next n (before ++ cs) c l.value y → Lives n before (cs ++ c ∷ []) v y
 lives-more n before cs c v x y l s = record {
   value = s.value;

@@ -91,7 +91,7 @@ pub record Life (g : Making) (since : List GroupsCall) (x : GroupsValue) : Type 
   pub some : 0 < g.share
   pub lives : Lives g.number (calls_with g []) since (made_by g) x
 
-share-some : (share : ℕ) (x : GroupsValue) → new_group_refusal share x ≡ None → 0 < share
+pub share-some : (share : ℕ) (x : GroupsValue) → new_group_refusal share x ≡ None → 0 < share
 share-some share x h = by share (eqb_tells share 0) h
   where
     positive : (n : ℕ) → (n ≡ 0 → ⊥) → 0 < n
@@ -103,7 +103,7 @@ share-some share x h = by share (eqb_tells share 0) h
         sym (ap (λ b. if b then Some fault.BadShare else (if nat_lt (length x.groups) (2 ^ 32) then None else Some fault.Spent)) e.0) ∙ k in cc)
     by n (inr e) k = positive n e.1
 
-pub life-made : (g : Making) (x y : GroupsValue) → Known g.before x →
+abbrev pub life-made : (g : Making) (x y : GroupsValue) → Known g.before x →
     IsCalled (GroupsCall.NewGroup g.cfg g.share g.moment (Ok g.number)) x y → Life g [] y
 life-made g x y k h = record {
   known = subst (λ l. Known l y) (sym (append-nil (calls_with g [])))
@@ -115,7 +115,7 @@ life-made g x y k h = record {
       ∙ slice_get-end x.groups (made_by g));
 }
 
-pub life-more : (g : Making) (since : List GroupsCall) (c : GroupsCall) (x y : GroupsValue) (l : Life g since x) → IsCalled c x y →
+abbrev pub life-more : (g : Making) (since : List GroupsCall) (c : GroupsCall) (x y : GroupsValue) (l : Life g since x) → IsCalled c x y →
     Next g.number (calls_with g [] ++ since) c l.lives.value y → Life g (since ++ c ∷ []) y
 life-more g since c x y l h n = record {
   known = subst (λ z. Known z y) (append_assoc (calls_with g []) since (c ∷ [])) (known-call (calls_with g [] ++ since) c x y l.known h);

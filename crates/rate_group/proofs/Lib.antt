@@ -5,3 +5,4 @@ pub mod LevelsByCalls
 pub mod ListLemmas
 pub mod ListsOfCalls
 pub mod MemberLemmas
+pub mod SuspensionsByCalls
