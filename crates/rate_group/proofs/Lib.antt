@@ -5,4 +5,5 @@ pub mod LevelsByCalls
 pub mod ListLemmas
 pub mod ListsOfCalls
 pub mod MemberLemmas
+pub mod SharesByCalls
 pub mod SuspensionsByCalls
