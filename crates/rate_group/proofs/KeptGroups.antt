@@ -90,6 +90,10 @@ next-same : (n : ℕ) (before : List GroupsCall) (c : GroupsCall) (v : GroupValu
     ((d : Dir) → beat_behind n d before c ≡ None) → Next n before c v y
 next-same n before c v y at none = record { value = v; at = at; cfg = refl; least = refl; goes = λ d. inl (none d, refl) }
 
+-- the share of a member of this group, or of none
+abbrev pub share_by : GroupsValue → Dir → Option ℕ → Option ℕ
+share_by x d o = option_map (λ n. option_map_or (λ g. share_of g d (count_in n x.members)) (slice_get x.groups n) 0) o
+
 -- bytes that a member of the group moved
 spends : (n : ℕ) (before : List GroupsCall) (v : GroupValue) (m : ℕ) (e : Dir) (k count : ℕ) → is_in n m before ≡ true →
     k ≤ share_of v e count → (d : Dir) →
@@ -166,8 +170,8 @@ next-call n before (GroupsCall.Spend m e b) x y v k at h = by (group_of m x.memb
     within : (group : ℕ) → group_of m x.members ≡ Some group → n ≡ group → b ≤ share_of v e (count_in n x.members)
     within group is same =
         let here : group_of m x.members ≡ Some n = is ∙ ap Some (sym same) in
-        let asked : IsSomeAnd (option_map (λ k. option_map_or (λ g. share_of g e (count_in k x.members)) (slice_get x.groups k) 0) (Some n)) (λ share. b ≤ share) =
-        subst (λ (o : Option ℕ). IsSomeAnd (option_map (λ k. option_map_or (λ g. share_of g e (count_in k x.members)) (slice_get x.groups k) 0) o) (λ share. b ≤ share)) here h.0 in
+        let asked : IsSomeAnd (share_by x e (Some n)) (λ share. b ≤ share) =
+        subst (λ (o : Option ℕ). IsSomeAnd (share_by x e o) (λ share. b ≤ share)) here h.0 in
         subst (λ (o : Option GroupValue). b ≤ option_map_or (λ g. share_of g e (count_in n x.members)) o 0) at asked
 
     at_group : (group : ℕ) → group_of m x.members ≡ Some group →
@@ -187,7 +191,7 @@ next-call n before (GroupsCall.Spend m e b) x y v k at h = by (group_of m x.memb
         (λ d. ap (λ z. if z && same_dir d e then Some (Moves b) else None) (here group is ∙ q.0))
 
     by : (o : Option ℕ) → group_of m x.members ≡ o → Next n before c v y
-    by None is = absurd (subst (λ (o : Option ℕ). IsSomeAnd (option_map (λ k. option_map_or (λ g. share_of g e (count_in k x.members)) (slice_get x.groups k) 0) o) (λ share. b ≤ share)) is h.0)
+    by None is = absurd (subst (λ (o : Option ℕ). IsSomeAnd (share_by x e o) (λ share. b ≤ share)) is h.0)
     by (Some group) is = at_group group is (eqb_tells n group)
 
 -- Over any calls
@@ -202,8 +206,9 @@ pub record Follows (n : ℕ) (d : Dir) (before cs : List GroupsCall) (v w : Grou
 pub follows-none : (n : ℕ) (d : Dir) (before : List GroupsCall) (v : GroupValue) → Follows n d before [] v v
 follows-none n d before v = record { steps = []; beats = refl; kept = refl; within = tt }
 
-pub follows-more : (n : ℕ) (d : Dir) (before cs : List GroupsCall) (c : GroupsCall) (v w u : GroupValue) → w.cfg ≡ v.cfg → w.least ≡ v.least →
-    Follows n d before cs v w → Stays n d (before ++ cs) c w u ⊎ Steps n d (before ++ cs) c w u → Follows n d before (cs ++ c ∷ []) v u
+pub follows-more : (n : ℕ) (d : Dir) (before cs : List GroupsCall) (c : GroupsCall) (v w u : GroupValue) → w.cfg ≡ v.cfg →
+    w.least ≡ v.least → Follows n d before cs v w → Stays n d (before ++ cs) c w u ⊎ Steps n d (before ++ cs) c w u →
+    Follows n d before (cs ++ c ∷ []) v u
 follows-more n d before cs c v w u cfg least f (inl s) = record {
   steps = f.steps;
   beats = f.beats ∙ sym (append-nil (beats_behind n d before cs))
@@ -235,11 +240,12 @@ pub record Lives (n : ℕ) (before cs : List GroupsCall) (v : GroupValue) (y : G
   pub least : value.least ≡ v.least
   pub follows : (d : Dir) → Follows n d before cs v value
 
-abbrev pub lives-none : (n : ℕ) (before : List GroupsCall) (v : GroupValue) (x : GroupsValue) → slice_get x.groups n ≡ Some v → Lives n before [] v x
+abbrev pub lives-none : (n : ℕ) (before : List GroupsCall) (v : GroupValue) (x : GroupsValue) → slice_get x.groups n ≡ Some v →
+    Lives n before [] v x
 lives-none n before v x at = record { value = v; at = at; cfg = refl; least = refl; follows = λ d. follows-none n d before v }
 
-abbrev pub lives-more : (n : ℕ) (before cs : List GroupsCall) (c : GroupsCall) (v : GroupValue) (x y : GroupsValue) (l : Lives n before cs v x) →
-    Next n (before ++ cs) c l.value y → Lives n before (cs ++ c ∷ []) v y
+abbrev pub lives-more : (n : ℕ) (before cs : List GroupsCall) (c : GroupsCall) (v : GroupValue) (x y : GroupsValue)
+    (l : Lives n before cs v x) → Next n (before ++ cs) c l.value y → Lives n before (cs ++ c ∷ []) v y
 lives-more n before cs c v x y l s = record {
   value = s.value;
   at = s.at;

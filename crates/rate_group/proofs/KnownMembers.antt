@@ -12,7 +12,8 @@ use Rattle.std.proofs.lemmas.List.{length-map}
 use Rattle.std.proofs.lemmas.Map.{lookup-remove_entry}
 use Rattle.std.proofs.lemmas.Map.Entries.{option_filter, lookup-filter-values, length-keys_of}
 use Rattle.std.proofs.lemmas.Map.Made.{is_some-lookup, IsDistinct-keys_filter, length-from_same_keys}
-use Rattle.std.proofs.lemmas.Map.Views.{Contains-from_any, list_any-from_Contains, exact_unsigned_eq, lookup-from_Contains, Contains-from_lookup}
+use Rattle.std.proofs.lemmas.Map.Views.{Contains-from_any, list_any-from_Contains, exact_unsigned_eq, lookup-from_Contains}
+use Rattle.std.proofs.lemmas.Map.Views.{Contains-from_lookup}
 use Rattle.std.proofs.lemmas.List.Sums.{length-filter}
 use Rattle.std.specs.Set.{is_member}
 use Rattle.indexmap.specs.IndexMap.{insert_entry}
@@ -136,13 +137,17 @@ pub record Known (cs : List GroupsCall) (x : GroupsValue) : Type 0 where
   pub made : (n : ℕ) → n < length x.groups → IsMade n cs
   pub there : (n : ℕ) → IsMade n cs → n < length x.groups
 
+-- the call makes the group with this number
+abbrev Makes : ℕ → GroupsCall → Type 0
+Makes n c = (cfg : LimitCfg) × (share : ℕ) × (now : ℕ) × (c ≡ GroupsCall.NewGroup cfg share now (Ok n))
+
 -- what a call does to the members, and to how many groups there are
 record Goes (c : GroupsCall) (x y : GroupsValue) : Type 0 where
   group : (m : ℕ) → group_of m y.members ≡ now_in (goes_by m c) (group_of m x.members)
   once : IsDistinct nat_eq (keys_of y.members)
   within : InGroups (length y.groups) y.members
   grows : length x.groups ≤ length y.groups
-  new : (n : ℕ) → n < length y.groups → (n < length x.groups) ⊎ ((cfg : LimitCfg) × (share : ℕ) × (now : ℕ) × (c ≡ GroupsCall.NewGroup cfg share now (Ok n)))
+  new : (n : ℕ) → n < length y.groups → (n < length x.groups) ⊎ Makes n c
   number : (cfg : LimitCfg) (share now n : ℕ) → c ≡ GroupsCall.NewGroup cfg share now (Ok n) → n < length y.groups
 
 now-if : (b : Bool) (to was : Option ℕ) → (if b then to else was) ≡ now_in (if b then Some to else None) was
@@ -212,9 +217,11 @@ goes-call cs (GroupsCall.NewGroup cfg share now (Ok number)) x y k h = subst (λ
     long : length gs ≡ length x.groups + 1
     long = let k = length-append x.groups (made cfg share now ∷ []) in omega (arith, k)
 
-    by : (n : ℕ) → n < length gs → ((nat_eq n (length x.groups) ≡ true) × (n ≡ length x.groups)) ⊎ ((nat_eq n (length x.groups) ≡ false) × (n ≡ length x.groups → ⊥)) →
-        (n < length x.groups) ⊎ ((f : LimitCfg) × (s : ℕ) × (t : ℕ) × (c ≡ GroupsCall.NewGroup f s t (Ok n)))
-    by n within (inl e) = inr (cfg, share, now, let same : number ≡ n = h.1 ∙ sym e.1 in λ i. GroupsCall.NewGroup cfg share now (Ok (same i)))
+    by : (n : ℕ) → n < length gs →
+        ((nat_eq n (length x.groups) ≡ true) × (n ≡ length x.groups)) ⊎ ((nat_eq n (length x.groups) ≡ false) × (n ≡ length x.groups → ⊥)) →
+        (n < length x.groups) ⊎ Makes n c
+    by n within (inl e) =
+        inr (cfg, share, now, let same : number ≡ n = h.1 ∙ sym e.1 in λ i. GroupsCall.NewGroup cfg share now (Ok (same i)))
     by n within (inr e) = inl (let apart = e.1 in omega (arith, within, long, apart))
 goes-call cs (GroupsCall.NewGroup cfg share now (Err f)) x y k h =
     goes-same cs (GroupsCall.NewGroup cfg share now (Err f)) x y k (λ m. refl) (λ a b d n e. absurd (cc)) (ap (λ z. z.members) h.3)
@@ -225,16 +232,16 @@ goes-call cs (GroupsCall.Join group member (Ok done)) x y k h =
     (once-insert member group x.members k.once)
     (known-insert (length x.groups) member group x.members (room-join group member x h.0) k.within)
 goes-call cs (GroupsCall.Join group member (Err f)) x y k h =
-    goes-same cs (GroupsCall.Join group member (Err f)) x y k (λ m. refl) (λ a b d n e. absurd (cc)) (ap (λ (z : GroupsValue). z.members) h.2)
-    (ap (λ (z : GroupsValue). length z.groups) h.2)
+    goes-same cs (GroupsCall.Join group member (Err f)) x y k (λ m. refl) (λ a b d n e. absurd (cc))
+    (ap (λ (z : GroupsValue). z.members) h.2) (ap (λ (z : GroupsValue). length z.groups) h.2)
 goes-call cs (GroupsCall.Change group member (Ok done)) x y k h =
     goes-members (GroupsCall.Change group member (Ok done)) x y (insert_entry nat_eq x.members member group) h.1 (λ a b d n e. absurd (cc))
     (λ m. group-insert m member group x.members ∙ now-if (nat_eq m member) (Some group) (group_of m x.members))
     (once-insert member group x.members k.once)
     (known-insert (length x.groups) member group x.members (room-change group x h.0) k.within)
 goes-call cs (GroupsCall.Change group member (Err f)) x y k h =
-    goes-same cs (GroupsCall.Change group member (Err f)) x y k (λ m. refl) (λ a b d n e. absurd (cc)) (ap (λ (z : GroupsValue). z.members) h.2)
-    (ap (λ (z : GroupsValue). length z.groups) h.2)
+    goes-same cs (GroupsCall.Change group member (Err f)) x y k (λ m. refl) (λ a b d n e. absurd (cc))
+    (ap (λ (z : GroupsValue). z.members) h.2) (ap (λ (z : GroupsValue). length z.groups) h.2)
 goes-call cs (GroupsCall.Leave member (Ok done)) x y k h =
     goes-members (GroupsCall.Leave member (Ok done)) x y (remove_entry (nat_eq member) x.members) h.1 (λ a b d n e. absurd (cc))
     (λ m. group-remove m member x.members k.once ∙ now-if (nat_eq m member) None (group_of m x.members))
@@ -306,15 +313,19 @@ listed-decides n cs x k m = subst (λ b. Decides b (group_by_calls m cs ≡ Some
         at : ((nat_eq n j ≡ true) × (n ≡ j)) ⊎ ((nat_eq n j ≡ false) × (n ≡ j → ⊥)) →
             Decides (is_some (option_filter (nat_eq n) (Some j))) (Some j ≡ Some n)
         at (inl e) = (λ _. ap Some (sym e.1), λ _. ap (λ b. is_some (if b then Some j else None)) e.0)
-        at (inr e) = (λ h. absurd (let bad : false ≡ true = sym (ap (λ b. is_some (if b then Some j else None)) e.0) ∙ h in cc), λ h. absurd (e.1 (let same : j ≡ n = cc in sym same)))
+        at (inr e) = (
+          (λ h. absurd (let bad : false ≡ true = sym (ap (λ b. is_some (if b then Some j else None)) e.0) ∙ h in cc)),
+          (λ h. absurd (e.1 (let same : j ≡ n = cc in sym same))),
+        )
 
 pub are-listed : (n : ℕ) (cs : List GroupsCall) (x : GroupsValue) → Known cs x → AreMembers n cs (listed_in n x.members)
 are-listed n cs x k = record {
   once = IsDistinct-keys_filter nat_eq (λ e. nat_eq n e.1) x.members k.once;
   are = λ m.
-      let d = listed-decides n cs x k m in
-      (λ c. d.0 (list_any-from_Contains nat_eq_equiv m (listed_in n x.members) c),
-      λ e. Contains-from_any exact_unsigned_eq m (listed_in n x.members) (d.1 e));
+      let d = listed-decides n cs x k m in (
+        λ c. d.0 (list_any-from_Contains nat_eq_equiv m (listed_in n x.members) c),
+        λ e. Contains-from_any exact_unsigned_eq m (listed_in n x.members) (d.1 e),
+      );
 }
 
 -- two lists of all members of a group, each once, are as long
@@ -338,9 +349,10 @@ members-by_calls cs x h =
     let k = known-all cs x h in
     record {
       group = k.group;
-      listed = λ m n.
-          (λ c. sym (k.group m) ∙ lookup-from_Contains nat_eq_equiv m n x.members k.once c,
-          λ e. Contains-from_lookup exact_unsigned_eq m n x.members (k.group m ∙ e));
+      listed = λ m n. (
+        λ c. sym (k.group m) ∙ lookup-from_Contains nat_eq_equiv m n x.members k.once c,
+        λ e. Contains-from_lookup exact_unsigned_eq m n x.members (k.group m ∙ e),
+      );
       once = k.once;
       counted = λ n members a. counted-by n cs x k members a;
       listing = λ n. (listed_in n x.members, are-listed n cs x k);

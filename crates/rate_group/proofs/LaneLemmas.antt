@@ -146,7 +146,8 @@ stretch l least x ss some h w =
 pub least-some_of : (cfg : LimitCfg) (share : ℕ) → 0 < share → 0 < least_of cfg share
 least-some_of cfg share some = let a = cfg.reads in let b = cfg.writes in omega (arith, a, b, some)
 
-pub made-owes : (cfg : LimitCfg) (share : ℕ) (d : Dir) → 0 < share → Owes (limit_of cfg d) (least_of cfg share) (first_lane (limit_of cfg d))
+pub made-owes : (cfg : LimitCfg) (share : ℕ) (d : Dir) → 0 < share →
+    Owes (limit_of cfg d) (least_of cfg share) (first_lane (limit_of cfg d))
 made-owes cfg share dir.Read some = record {
   burst = refl;
   debt = let a = least-some_of cfg share some in omega (arith, a);

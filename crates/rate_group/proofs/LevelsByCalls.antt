@@ -97,10 +97,11 @@ share-some share x h = by share (eqb_tells share 0) h
     positive : (n : ℕ) → (n ≡ 0 → ⊥) → 0 < n
     positive n h = omega (arith, h)
 
-    by : (n : ℕ) → ((n == 0) ≡ true) × (n ≡ 0) ⊎ ((n == 0) ≡ false) × (n ≡ 0 → ⊥) →
-        (if n == 0 then Some fault.BadShare else (if nat_lt (length x.groups) (2 ^ 32) then None else Some fault.Spent)) ≡ None → 0 < n
-    by n (inl e) k = absurd (let bad : Some fault.BadShare ≡ None =
-        sym (ap (λ b. if b then Some fault.BadShare else (if nat_lt (length x.groups) (2 ^ 32) then None else Some fault.Spent)) e.0) ∙ k in cc)
+    refusal : Bool → Option GroupFault
+    refusal b = if b then Some fault.BadShare else (if nat_lt (length x.groups) (2 ^ 32) then None else Some fault.Spent)
+
+    by : (n : ℕ) → ((n == 0) ≡ true) × (n ≡ 0) ⊎ ((n == 0) ≡ false) × (n ≡ 0 → ⊥) → refusal (n == 0) ≡ None → 0 < n
+    by n (inl e) k = absurd (let bad : Some fault.BadShare ≡ None = sym (ap refusal e.0) ∙ k in cc)
     by n (inr e) k = positive n e.1
 
 abbrev pub life-made : (g : Making) (x y : GroupsValue) → Known g.before x →
@@ -123,7 +124,8 @@ life-more g since c x y l h n = record {
   lives = lives-more g.number (calls_with g []) since c (made_by g) x y l.lives n;
 }
 
-pub life-on : (g : Making) (since more : List GroupsCall) (x y : GroupsValue) → Life g since x → CallsLead x more y → Life g (since ++ more) y
+pub life-on : (g : Making) (since more : List GroupsCall) (x y : GroupsValue) → Life g since x → CallsLead x more y →
+    Life g (since ++ more) y
 life-on g since more x y l h = record {
   known = subst (λ z. Known z y) (append_assoc (calls_with g []) since more) (known-calls (calls_with g [] ++ since) more x y l.known h);
   some = l.some;

@@ -18,7 +18,7 @@ use Rattle.rate_group.specs.LawsOverCalls.{SharesByCalls, ShareIs, RatesByCalls}
 use Rattle.rate_group.proofs.LaneLemmas.{Owes, stretch, least-some_of}
 use Rattle.rate_group.proofs.ListsOfCalls.{calls-from}
 use Rattle.rate_group.proofs.KnownMembers.{Known, known-all, counted-by}
-use Rattle.rate_group.proofs.KeptGroups.{kept_of, Follows, Lives, lives-none, lives-on}
+use Rattle.rate_group.proofs.KeptGroups.{kept_of, share_by, Follows, Lives, lives-none, lives-on}
 use Rattle.rate_group.proofs.LevelsByCalls.{Life, life-made, life-on, leads-split, begins, life-left, life-owes, life-tick}
 use Rattle.rate_group.proofs.SuspensionsByCalls.{Told, told-all}
 
@@ -28,8 +28,7 @@ use Rattle.rate_group.proofs.SuspensionsByCalls.{Told, told-all}
 share-none : (x : GroupsValue) (m : ℕ) (d : Dir) → (share_in m d x ≡ None) ↔ (group_of m x.members ≡ None)
 share-none x m d = by (group_of m x.members)
   where
-    by : (o : Option ℕ) →
-        (option_map (λ n. option_map_or (λ g. share_of g d (count_in n x.members)) (slice_get x.groups n) 0) o ≡ None) ↔ (o ≡ None)
+    by : (o : Option ℕ) → (share_by x d o ≡ None) ↔ (o ≡ None)
     by None = (λ e. refl, λ e. refl)
     by (Some n) = (λ e. absurd (cc), λ e. absurd (cc))
 
@@ -41,25 +40,35 @@ share-of_group g d since v count members share told left least same is = by (lan
     by : (b : Bool) → (lane_of v d).suspended ≡ b → ShareIs g d since members share
     by true e = inl (told.0 e, is ∙ (λ i. Some (if e i then 0 else max (held (lane_of v d).level / count) v.least)))
     by false e = inr (
-        (λ s. absurd (let bad : false ≡ true = sym e ∙ told.1 s in cc)),
-        is
-        ∙ (λ i. Some (if e i then 0 else max (held (lane_of v d).level / count) v.least))
-        ∙ (λ i. Some (max (left i / same i) (least i))))
+      (λ s. absurd (let bad : false ≡ true = sym e ∙ told.1 s in cc)),
+      is
+          ∙ (λ i. Some (if e i then 0 else max (held (lane_of v d).level / count) v.least))
+          ∙ (λ i. Some (max (left i / same i) (least i))),
+    )
 
 pub shares-by_calls : SharesByCalls
 shares-by_calls cs x m d h =
     let k = known-all cs x h in
-    let none = share-none x m d in
-    ((λ e. sym (k.group m) ∙ none.0 e, λ e. none.1 (k.group m ∙ e)),
-    λ g since members is are at.
-        let t = told-all g d since x (subst (λ z. CallsLead no_groups z x) is h) in
-        let v = t.0.lives.value in
-        share-of_group g d since v (count_in g.number x.members) (length members) (share_in m d x) t.1 (life-left g since x d t.0)
-        t.0.lives.least (counted-by g.number cs x k members are)
-        ((λ i. option_map (λ n. option_map_or (λ g. share_of g d (count_in n x.members)) (slice_get x.groups n) 0) ((k.group m ∙ at) i))
-        ∙ (λ i. Some (option_map_or (λ g'. share_of g' d (count_in g.number x.members)) (t.0.lives.at i) 0))))
+    let none = share-none x m d in (
+      (λ e. sym (k.group m) ∙ none.0 e, λ e. none.1 (k.group m ∙ e)),
+      λ g since members is are at.
+          let t = told-all g d since x (subst (λ z. CallsLead no_groups z x) is h) in
+          let v = t.0.lives.value in
+          share-of_group g d since v (count_in g.number x.members) (length members) (share_in m d x) t.1 (life-left g since x d t.0)
+          t.0.lives.least (counted-by g.number cs x k members are)
+          (ap (share_by x d) (k.group m ∙ at)
+          ∙ (λ i. Some (option_map_or (λ g'. share_of g' d (count_in g.number x.members)) (t.0.lives.at i) 0))),
+    )
 
 -- Rates
+
+-- the members move no more than that over a stretch of calls
+abbrev IsKept : Making → List GroupsCall → List GroupsCall → Dir → Type 0
+IsKept g until more d =
+    let l = limit_of g.cfg d in
+    let from = latest_moment g.moment (beats_since g d until) in
+    let to = latest_moment g.moment (beats_since g d (until ++ more)) in
+    moved_over (beats_behind g.number d (calls_with g until) more) ≤ l.burst + l.rate * ticks l.tick from to + (least_at g - 1)
 
 -- what a group's members move, from a state of it that owes less than the least share
 moved-by : (n : ℕ) (d : Dir) (before cs : List GroupsCall) (v w : GroupValue) (cfg : LimitCfg) (least : ℕ) → v.cfg ≡ cfg →
@@ -77,22 +86,37 @@ moved-by n d before cs v w cfg least is_cfg is_least some owes f =
     let gain = ap (λ (k : KeptLane). l.rate * (k.tick - v.tick)) kept in
     omega (arith, most, moved, gain)
 
+-- from the state behind the first calls to that behind all
+rates-between : (g : Making) (until more : List GroupsCall) (x y : GroupsValue) (d : Dir) (first : Life g until x)
+    (last : Life g (until ++ more) y) (w : GroupValue) → slice_get y.groups g.number ≡ Some w →
+    Follows g.number d (calls_with g [] ++ until) more first.lives.value w →
+    IsKept g until more d
+rates-between g until more x y d first last w at f =
+    let moved = moved-by g.number d (calls_with g [] ++ until) more first.lives.value w g.cfg (least_at g) first.lives.cfg first.lives.least
+    (least-some_of g.cfg g.share first.some) (life-owes g until x d first) f in
+    let same = ap (λ z. moved_over (beats_behind g.number d z more)) (calls-from g until) in
+    let from = life-tick g until x d first in
+    let to = life-tick g (until ++ more) y d last in
+    let one = same_Some w last.lives.value (sym at ∙ last.lives.at) in
+    let gain = ticks-come w.tick first.lives.value.tick _ _ (ap (λ (z : GroupValue). z.tick) one ∙ sym to) (sym from) in
+    omega (arith, moved, same, gain)
+  where
+    ticks-come : (late early later earlier : ℕ) → late ≡ later → early ≡ earlier →
+        (limit_of g.cfg d).rate * (late - early) ≡ (limit_of g.cfg d).rate * (later - earlier)
+    ticks-come late early later earlier a b = λ i. (limit_of g.cfg d).rate * (a i - b i)
+
+rates-stretch : (g : Making) (until more : List GroupsCall) (x y : GroupsValue) (d : Dir) → Life g until x → CallsLead x more y →
+    IsKept g until more d
+rates-stretch g until more x y d first h = by (lives-on g.number (calls_with g [] ++ until) [] more first.lives.value x y
+    (subst (λ z. Known z x) (sym (append-nil (calls_with g [] ++ until))) first.known)
+    (lives-none g.number (calls_with g [] ++ until) first.lives.value x first.lives.at) h)
+  where
+    by : Lives g.number (calls_with g [] ++ until) more first.lives.value y →
+        IsKept g until more d
+    by rest = rates-between g until more x y d first (life-on g until more x y first h) rest.value rest.at (rest.follows d)
+
 pub rates-by_calls : RatesByCalls
 rates-by_calls g until more x d h =
     let b = begins g (until ++ more) x h in
     let p = leads-split until more b.1 x b.4 in
-    let first = life-on g [] until b.1 p.0 (life-made g b.0 b.1 b.2 b.3) p.1 in
-    let last = life-on g until more p.0 x first p.2 in
-    let v = first.lives.value in
-    let rest = lives-on g.number (calls_with g [] ++ until) [] more v p.0 x (subst (λ z. Known z p.0) (sym (append-nil (calls_with g [] ++ until))) first.known)
-    (lives-none g.number (calls_with g [] ++ until) v p.0 first.lives.at) p.2 in
-    let l = limit_of g.cfg d in
-    let moved = moved-by g.number d (calls_with g [] ++ until) more v rest.value g.cfg (least_at g) first.lives.cfg first.lives.least
-    (least-some_of g.cfg g.share first.some) (life-owes g until p.0 d first) (rest.follows d) in
-    let same = ap (λ z. moved_over (beats_behind g.number d z more)) (calls-from g until) in
-    let from = life-tick g until p.0 d first in
-    let to = life-tick g (until ++ more) x d last in
-    let one : rest.value ≡ last.lives.value = same_Some _ _ (sym rest.at ∙ last.lives.at) in
-    let gain : l.rate * (rest.value.tick - v.tick) ≡ l.rate * ticks l.tick (latest_moment g.moment (beats_since g d until)) (latest_moment g.moment (beats_since g d (until ++ more))) =
-    λ i. l.rate * ((ap (λ (z : GroupValue). z.tick) one ∙ sym to) i - sym from i) in
-    omega (arith, moved, same, gain)
+    rates-stretch g until more p.0 x d (life-on g [] until b.1 p.0 (life-made g b.0 b.1 b.2 b.3) p.1) p.2

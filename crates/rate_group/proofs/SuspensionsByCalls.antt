@@ -1,9 +1,10 @@
 -- When a group is suspended after a list of calls.
-use Rattle.std.proofs.Common.{◌≡◌, ◌∙◌, inl, inr, ℕ, ◌-◌, ◌<◌, ◌≤◌, Bool, true, false, List, [], ◌∷◌, ◌++◌, Option, Some, None, refl, sym, ap}
-use Rattle.std.proofs.Common.{subst, arith, append_assoc, append-nil}
+use Rattle.std.proofs.Common.{◌≡◌, ◌∙◌, inl, inr, ℕ, ◌-◌, ◌<◌, ◌≤◌, Bool, true, false, List, [], ◌∷◌, ◌++◌, Option, Some, None, refl, sym}
+use Rattle.std.proofs.Common.{ap, subst, arith, append_assoc, append-nil}
 use Rattle.std.specs.Prelude.{◌⊎◌, ◌↔◌, ◌&&◌, ◌||◌, ◌==◌, if◌then◌else◌, nat_lt, slice_get, Ok, Err}
 use Rattle.std.specs.Option.{option_map}
-use Rattle.std.proofs.lemmas.Bool.{or_cases, or_left, or_right, and_parts, and_from, and_left, eqb-true, eq-eqb, ltb-true, lt-ltb, cases_Bool}
+use Rattle.std.proofs.lemmas.Bool.{or_cases, or_left, or_right, and_parts, and_from, and_left, eqb-true, eq-eqb, ltb-true, lt-ltb}
+use Rattle.std.proofs.lemmas.Bool.{cases_Bool}
 use Rattle.token_bucket.specs.declared.limit.Dir.{Dir}
 use Rattle.token_bucket.specs.declared.limit.Dir.TheVariants as dir
 use Rattle.token_bucket.specs.Levels.{limit_of, held, less, refilled}
@@ -106,9 +107,10 @@ module _ (g : Making) (d : Dir) where
         | inr k ↦
             let same : s.until ++ (k.0 ++ c ∷ []) ≡ cs ++ c ∷ [] =
             sym (append_assoc s.until k.0 (c ∷ [])) ∙ (λ i. sym k.2 i ++ c ∷ []) in
-            is.1
-            (told.1 (suspended-before cs k.0 c (cs ++ c ∷ []) s k.1 k.2),
-            subst (λ z. left_since g d z < least_at g) same (s.too_little k.0 time [] k.1))
+            is.1 (
+              told.1 (suspended-before cs k.0 c (cs ++ c ∷ []) s k.1 k.2),
+              subst (λ z. left_since g d z < least_at g) same (s.too_little k.0 time [] k.1),
+            )
       ]
 
 -- What the group keeps
@@ -214,7 +216,10 @@ module _ (g : Making) (d : Dir) (cs : List GroupsCall) (c : GroupsCall) (x y : G
   told-refills time beat kept =
       subst (λ z. (now.suspended ≡ true) ↔ IsSuspended g d (cs ++ z ∷ [])) (sym is)
       (told-refill g d cs time was.suspended now.suspended (least-some_of g.cfg g.share l.some) told
-      (λ e. none (same ∙ e)) (λ h. (let k = to h in (k.0, subst (λ z. z < least_at g) same k.1)), λ h. from h.0 (subst (λ z. z < least_at g) (sym same) h.1)))
+      (λ e. none (same ∙ e)) (
+        (λ h. let k = to h in (k.0, subst (λ z. z < least_at g) same k.1)),
+        (λ h. from h.0 (subst (λ z. z < least_at g) (sym same) h.1)),
+      ))
     where
       is : c ≡ GroupsCall.Refill time
       is = refill-is g.number d (calls_with g [] ++ cs) c time beat
@@ -238,7 +243,8 @@ module _ (g : Making) (d : Dir) (cs : List GroupsCall) (c : GroupsCall) (x y : G
       none z = elim (cases_Bool was.suspended) [
         | inl k ↦ k
         | inr k ↦ absurd (
-            let some = left-some g (cs ++ c ∷ []) y d m (flag ∙ and_left was.suspended (nat_lt (held behind.level) l.lives.value.least) k) in
+            let not : now.suspended ≡ false = flag ∙ and_left was.suspended (nat_lt (held behind.level) l.lives.value.least) k in
+            let some = left-some g (cs ++ c ∷ []) y d m not in
             let is = left in
             omega (arith, some, is, z))
       ]
@@ -273,7 +279,8 @@ module _ (g : Making) (d : Dir) (cs : List GroupsCall) (c : GroupsCall) (x y : G
 
 -- Any calls
 
-told-on : (g : Making) (d : Dir) (cs more : List GroupsCall) (x y : GroupsValue) → Told g d cs x → CallsLead x more y → Told g d (cs ++ more) y
+told-on : (g : Making) (d : Dir) (cs more : List GroupsCall) (x y : GroupsValue) → Told g d cs x → CallsLead x more y →
+    Told g d (cs ++ more) y
 told-on g d cs [] x y t h =
     subst (λ z. Told g d (cs ++ []) z) (sym h) (subst (λ z. Told g d z x) (sym (append-nil cs)) t)
 told-on g d cs (c ∷ more) x y t h =
@@ -288,11 +295,16 @@ told-none g d x y k h =
     let l = life-made g x y k h in
     let not : (lane_of l.lives.value d).suspended ≡ false = first d in
     let some = left-some g [] y d l not in
-    let left = life-left g [] y d l in
-    (l, (λ e. absurd (let bad : false ≡ true = sym not ∙ e in cc), λ s. absurd (
-    let none = at_start s.until s.rest s.parts in
-    let nothing : left_since g d [] ≡ 0 = ap (left_since g d) (sym none) ∙ s.nothing_left in
-    omega (arith, some, left, nothing))))
+    let left = life-left g [] y d l in (
+      l,
+      (
+        λ e. absurd (let bad : false ≡ true = sym not ∙ e in cc),
+        λ s. absurd (
+            let none = at_start s.until s.rest s.parts in
+            let nothing : left_since g d [] ≡ 0 = ap (left_since g d) (sym none) ∙ s.nothing_left in
+            omega (arith, some, left, nothing)),
+      ),
+    )
   where
     first : (e : Dir) → (lane_of (made g.cfg g.share g.moment) e).suspended ≡ false
     first dir.Read = refl
@@ -302,7 +314,8 @@ told-none g d x y k h =
     at_start [] b e = refl
     at_start (c ∷ a) b e = absurd (cc)
 
-pub told-all : (g : Making) (d : Dir) (since : List GroupsCall) (x : GroupsValue) → CallsLead no_groups (calls_with g since) x → Told g d since x
+pub told-all : (g : Making) (d : Dir) (since : List GroupsCall) (x : GroupsValue) → CallsLead no_groups (calls_with g since) x →
+    Told g d since x
 told-all g d since x h = let b = begins g since x h in told-on g d [] since b.1 x (told-none g d b.0 b.1 b.2 b.3) b.4
 
 pub suspensions-by_calls : SuspensionsByCalls

@@ -51,6 +51,7 @@ IsMade n cs = (g : Making) × (since : List GroupsCall) × (g.number ≡ n) × (
 abbrev pub least_at : Making → ℕ
 least_at g = least_of g.cfg g.share
 
+-- is it the same direction
 abbrev pub same_dir : Dir → Dir → Bool
 same_dir dir.Read dir.Read = true
 same_dir dir.Write dir.Write = true
@@ -63,7 +64,8 @@ is_in group member cs = option_map_or (nat_eq group) (group_by_calls member cs) 
 -- what a call is to a group's bucket, behind others: a refill, or bytes that one who is a member then moved
 abbrev pub beat_behind : ℕ → Dir → List GroupsCall → GroupsCall → Option Beat
 beat_behind group d before (GroupsCall.Refill now) = Some (Begins now)
-beat_behind group d before (GroupsCall.Spend member e n) = if is_in group member before && same_dir d e then Some (Moves n) else None
+beat_behind group d before (GroupsCall.Spend member e n) =
+    if is_in group member before && same_dir d e then Some (Moves n) else None
 beat_behind group d before c = None
 
 -- all that such calls are to it
@@ -71,10 +73,11 @@ abbrev pub beats_behind : ℕ → Dir → List GroupsCall → List GroupsCall �
 beats_behind group d before [] = []
 beats_behind group d before (c ∷ cs) = cons_option (beat_behind group d before c) (beats_behind group d (before ++ c ∷ []) cs)
 
+-- all that the calls since its making are to it
 abbrev pub beats_since : Making → Dir → List GroupsCall → List Beat
 beats_since g d since = beats_behind g.number d (calls_with g []) since
 
--- the latest of a moment and of all refills
+-- the latest of a moment and of the moments of all refills
 abbrev pub latest_moment : ℕ → List Beat → ℕ
 latest_moment time [] = time
 latest_moment time (Begins now ∷ bs) = latest_moment (max time now) bs
