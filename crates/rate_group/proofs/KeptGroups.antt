@@ -1,23 +1,22 @@
 -- One group over a list of calls: each of its directions goes as one that is refilled and whose members move bytes.
-use Rattle.std.proofs.Common.{◌≡◌, ◌∙◌, inl, inr, ℕ, zero, suc, ◌+◌, ◌<◌, ◌≤◌, Bool, true, false, List, [], ◌∷◌, length, map, Option}
-use Rattle.std.proofs.Common.{Some, None, refl, sym, ap, subst, arith, nat_eq, append_assoc, append-nil, length-append}
-use Rattle.std.specs.Prelude.{◌++◌, ◌⊎◌, ◌&&◌, max, if◌then◌else◌, slice_get, Ok, Err}
+use Rattle.std.proofs.Common.{◌≡◌, ◌∙◌, inl, inr, ℕ, zero, suc, ◌≤◌, true, false, List, [], ◌∷◌, length, Option}
+use Rattle.std.proofs.Common.{Some, None, refl, sym, ap, subst, nat_eq, append_assoc, append-nil}
+use Rattle.std.specs.Prelude.{◌++◌, ◌⊎◌, ◌&&◌, if◌then◌else◌, slice_get, Ok, Err}
 use Rattle.std.specs.List.{cons_option}
 use Rattle.std.specs.Option.{option_map, option_map_or, IsSomeAnd}
 use Rattle.std.proofs.lemmas.Bool.Decides.{eqb_tells}
-use Rattle.std.proofs.lemmas.Option.{slice_get-map, slice_get_within}
+use Rattle.std.proofs.lemmas.Option.{slice_get-map}
 use Rattle.token_bucket.specs.declared.limit.Dir.{Dir}
 use Rattle.token_bucket.specs.declared.limit.Dir.TheVariants as dir
-use Rattle.token_bucket.specs.declared.limit.LimitCfg.{LimitCfg}
-use Rattle.token_bucket.specs.Levels.{Limit, limit_of, held}
-use Rattle.token_bucket.specs.Spells.{Beat, Begins, Moves}
+use Rattle.token_bucket.specs.Levels.{Limit, limit_of}
+use Rattle.token_bucket.specs.Spells.{Moves}
 use Rattle.rate_group.specs.GroupValue.{GroupValue, GroupsValue}
-use Rattle.rate_group.specs.Steps.{lane_of, group_of, count_in, changed_at, spent_in, made, refilled_to, share_of, share_in}
+use Rattle.rate_group.specs.Steps.{lane_of, group_of, count_in, changed_at, spent_in, made, refilled_to, share_of}
 use Rattle.rate_group.specs.GroupLaws.{GroupCall, Refills, Spends, KeptLane, after_step, after_steps, WithinShares, beat_of_call, beats_of}
-use Rattle.rate_group.specs.GroupsCalls.{GroupsCall, IsCalled, CallsLead, no_groups}
-use Rattle.rate_group.specs.ToldByCalls.{group_by_calls, same_dir, is_in, beat_behind, beats_behind}
+use Rattle.rate_group.specs.GroupsCalls.{GroupsCall, IsCalled, CallsLead}
+use Rattle.rate_group.specs.ToldByCalls.{same_dir, is_in, beat_behind, beats_behind}
 use Rattle.rate_group.proofs.ListsOfCalls.{beats-more}
-use Rattle.rate_group.proofs.KnownMembers.{Known, known-call, length-changed}
+use Rattle.rate_group.proofs.KnownMembers.{Known, known-call}
 
 -- one direction of a group
 abbrev pub kept_of : GroupValue → Dir → KeptLane

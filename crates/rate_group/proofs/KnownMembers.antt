@@ -1,10 +1,10 @@
 -- What is known of the members after a list of calls, and of the groups that were made.
-use Rattle.std.proofs.Common.{◌≡◌, ◌∙◌, inl, inr, ℕ, zero, suc, ◌+◌, ◌<◌, ◌≤◌, Bool, true, false, cond, List, [], ◌∷◌, length, map}
-use Rattle.std.proofs.Common.{Option, Some, None, refl, sym, ap, subst, arith, nat_eq, eqb, length-append, append_assoc, append-nil}
-use Rattle.std.specs.Prelude.{◌++◌, ◌⊎◌, ◌↔◌, ◌==◌, filter, Decides, not, nat_lt, if◌then◌else◌, is_some, Ok, Err, Result, Contains}
+use Rattle.std.proofs.Common.{◌≡◌, ◌∙◌, inl, inr, ℕ, zero, suc, ◌+◌, ◌<◌, ◌≤◌, Bool, true, false, cond, List, [], ◌∷◌, length}
+use Rattle.std.proofs.Common.{Option, Some, None, refl, sym, ap, subst, arith, nat_eq, length-append, append_assoc, append-nil}
+use Rattle.std.specs.Prelude.{◌++◌, ◌⊎◌, filter, Decides, not, nat_lt, if◌then◌else◌, is_some, Ok, Err}
 use Rattle.std.specs.List.{IsDistinct, AllByRecursion}
 use Rattle.std.specs.Option.{option_map_or}
-use Rattle.std.specs.Map.{keys_of, lookup, remove_entry}
+use Rattle.std.specs.Map.{keys_of, remove_entry}
 use Rattle.std.proofs.lemmas.Bool.{eqb-true, ltb-true}
 use Rattle.std.proofs.lemmas.Bool.Decides.{eqb_tells, same_from_decides}
 use Rattle.std.proofs.lemmas.Cmp.{nat_eq_equiv}
@@ -18,14 +18,13 @@ use Rattle.std.proofs.lemmas.List.Sums.{length-filter}
 use Rattle.std.specs.Set.{is_member}
 use Rattle.indexmap.specs.IndexMap.{insert_entry}
 use Rattle.token_bucket.specs.declared.limit.LimitCfg.{LimitCfg}
-use Rattle.rate_group.specs.declared.fault.GroupFault.{GroupFault}
 use Rattle.rate_group.specs.declared.fault.GroupFault.TheVariants as fault
 use Rattle.rate_group.specs.GroupValue.{GroupValue, GroupsValue}
 use Rattle.rate_group.specs.Steps.{group_of, count_in, changed_at, spent_in, made, refilled_to}
 use Rattle.rate_group.specs.Refusals.{join_refusal, change_refusal}
 use Rattle.rate_group.specs.GroupsCalls.{GroupsCall, IsCalled, CallsLead, no_groups}
-use Rattle.rate_group.specs.ToldByCalls.{goes_by, group_by_calls, Making, calls_with, IsMade, AreMembers}
-use Rattle.rate_group.proofs.ListsOfCalls.{ends-behind, group-more, calls-more, made-more, now_in}
+use Rattle.rate_group.specs.ToldByCalls.{goes_by, group_by_calls, IsMade, AreMembers}
+use Rattle.rate_group.proofs.ListsOfCalls.{ends-behind, group-more, made-more, now_in}
 use Rattle.rate_group.specs.LawsOverCalls.{MembersByCalls}
 use Rattle.rate_group.proofs.MemberLemmas.{Member, InGroups, known-insert, known-remove, known-more, known-group}
 

@@ -1,7 +1,7 @@
 -- One direction of a group over lists of calls.
-use Rattle.std.proofs.Common.{◌≡◌, ◌∙◌, inl, inr, ℕ, zero, suc, ◌+◌, ◌-◌, ◌*◌, ◌/◌, ◌<◌, ◌≤◌, Bool, true, false, ◌||◌, ◌&&◌, cond, min}
+use Rattle.std.proofs.Common.{◌≡◌, ◌∙◌, inl, inr, ℕ, zero, suc, ◌+◌, ◌-◌, ◌*◌, ◌/◌, ◌<◌, ◌≤◌, Bool, true, false, ◌||◌, ◌&&◌}
 use Rattle.std.proofs.Common.{List, [], ◌∷◌, ◌++◌, refl, sym, ap, subst, arith}
-use Rattle.std.specs.Prelude.{max, nat_lt, ◌==◌, if◌then◌else◌}
+use Rattle.std.specs.Prelude.{max, ◌==◌, if◌then◌else◌}
 use Rattle.std.proofs.Math.Nat.{div-le_self}
 use Rattle.std.proofs.lemmas.Bool.{ltb-false}
 use Rattle.std.proofs.lemmas.Bool.Decides.{eqb_tells}
@@ -9,13 +9,13 @@ use Rattle.token_bucket.specs.declared.limit.Dir.{Dir}
 use Rattle.token_bucket.specs.declared.limit.Dir.TheVariants as dir
 use Rattle.token_bucket.specs.declared.limit.LimitCfg.{LimitCfg}
 use Rattle.token_bucket.specs.declared.level.Level.{Level}
-use Rattle.token_bucket.specs.Levels.{Limit, limit_of, refilled, with_ticks, less, held, at_rate}
-use Rattle.token_bucket.specs.Spells.{Beat, Begins, Moves, moved_over, moved_first, moved_in, since_each, least_with, spells}
-use Rattle.token_bucket.specs.BucketLaws.{Kept, after_beat, after_beats, kept_at}
-use Rattle.token_bucket.proofs.BucketLemmas.{level-is_least, moved-short, refilled-is, short_after}
+use Rattle.token_bucket.specs.Levels.{Limit, limit_of, refilled, with_ticks, less, held}
+use Rattle.token_bucket.specs.Spells.{moved_over, since_each, least_with, spells}
+use Rattle.token_bucket.specs.BucketLaws.{Kept, after_beats, kept_at}
+use Rattle.token_bucket.proofs.BucketLemmas.{level-is_least, moved-short}
 use Rattle.rate_group.specs.GroupValue.{Lane}
 use Rattle.rate_group.specs.Steps.{lane_less, lane_refilled, first_lane, least_of}
-use Rattle.rate_group.specs.GroupLaws.{GroupCall, Refills, Spends, KeptLane, after_step, after_steps, made_lane, WithinShares, beat_of_call}
+use Rattle.rate_group.specs.GroupLaws.{GroupCall, Refills, Spends, KeptLane, after_step, after_steps, made_lane, WithinShares}
 use Rattle.rate_group.specs.GroupLaws.{beats_of, GroupLevelIsLeast, GroupKeepsRate}
 
 -- as a bucket keeps it

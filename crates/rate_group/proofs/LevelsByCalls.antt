@@ -16,16 +16,15 @@ use Rattle.token_bucket.specs.Spells.{Spell, Beat, Begins, Moves, moved_over, mo
 use Rattle.rate_group.specs.declared.fault.GroupFault.{GroupFault}
 use Rattle.rate_group.specs.declared.fault.GroupFault.TheVariants as fault
 use Rattle.rate_group.specs.GroupValue.{GroupValue, GroupsValue}
-use Rattle.rate_group.specs.Steps.{lane_of, made, least_of, first_lane}
+use Rattle.rate_group.specs.Steps.{lane_of, made}
 use Rattle.rate_group.specs.Refusals.{new_group_refusal}
 use Rattle.rate_group.specs.GroupLaws.{GroupCall, Refills, Spends, KeptLane, after_step, after_steps, made_lane, beats_of, WithinShares}
 use Rattle.rate_group.specs.GroupsCalls.{GroupsCall, IsCalled, CallsLead, no_groups}
 use Rattle.rate_group.specs.ToldByCalls.{Making, calls_with, least_at, beats_since, latest_moment, left_after, left_since}
 use Rattle.rate_group.specs.LawsOverCalls.{LevelsByCalls}
 use Rattle.rate_group.proofs.LaneLemmas.{Owes, steps-owe, made-owes, least-some_of, group-level_is_least}
-use Rattle.rate_group.proofs.ListsOfCalls.{calls-from}
 use Rattle.rate_group.proofs.KnownMembers.{Known, known-call, known-calls, known-none}
-use Rattle.rate_group.proofs.KeptGroups.{kept_of, slice_get-end, Follows, Lives, lives-none, lives-more, lives-on, Next}
+use Rattle.rate_group.proofs.KeptGroups.{kept_of, slice_get-end, Lives, lives-none, lives-more, lives-on, Next}
 
 -- One direction
 

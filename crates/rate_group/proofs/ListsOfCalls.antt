@@ -5,7 +5,6 @@ use Rattle.std.specs.List.{last_or, cons_option}
 use Rattle.std.specs.Option.{option_flatten, option_or}
 use Rattle.std.proofs.lemmas.List.Elements.{filter_map-append}
 use Rattle.token_bucket.specs.declared.limit.Dir.{Dir}
-use Rattle.token_bucket.specs.Spells.{Beat}
 use Rattle.rate_group.specs.GroupsCalls.{GroupsCall}
 use Rattle.rate_group.specs.ToldByCalls.{goes_by, group_by_calls, beat_behind, beats_behind, Making, calls_with, IsMade}
 

@@ -1,8 +1,8 @@
 -- What a member may move after a list of calls, and what a group's members move over a stretch of them.
-use Rattle.std.proofs.Common.{◌≡◌, ◌∙◌, inl, inr, ℕ, ◌+◌, ◌-◌, ◌*◌, ◌/◌, ◌<◌, ◌≤◌, Bool, true, false, List, [], ◌∷◌, ◌++◌, length}
+use Rattle.std.proofs.Common.{◌≡◌, ◌∙◌, inl, inr, ℕ, ◌+◌, ◌-◌, ◌*◌, ◌/◌, ◌<◌, ◌≤◌, Bool, true, false, List, [], ◌++◌, length}
 use Rattle.std.proofs.Common.{Option, Some, None, refl, sym, ap, subst, arith, append-nil}
-use Rattle.std.specs.Prelude.{◌⊎◌, ◌↔◌, max, if◌then◌else◌, slice_get}
-use Rattle.std.specs.Option.{option_map, option_map_or}
+use Rattle.std.specs.Prelude.{◌↔◌, max, if◌then◌else◌, slice_get}
+use Rattle.std.specs.Option.{option_map_or}
 use Rattle.std.proofs.lemmas.Option.{same_Some}
 use Rattle.token_bucket.specs.declared.limit.Dir.{Dir}
 use Rattle.token_bucket.specs.declared.limit.LimitCfg.{LimitCfg}
@@ -12,7 +12,7 @@ use Rattle.rate_group.specs.GroupValue.{GroupValue, GroupsValue}
 use Rattle.rate_group.specs.Steps.{lane_of, group_of, count_in, share_of, share_in}
 use Rattle.rate_group.specs.GroupLaws.{KeptLane, after_steps, WithinShares}
 use Rattle.rate_group.specs.GroupsCalls.{GroupsCall, CallsLead, no_groups}
-use Rattle.rate_group.specs.ToldByCalls.{group_by_calls, AreMembers, Making, calls_with, least_at, beats_since, beats_behind, latest_moment}
+use Rattle.rate_group.specs.ToldByCalls.{Making, calls_with, least_at, beats_since, beats_behind, latest_moment}
 use Rattle.rate_group.specs.ToldByCalls.{left_since, IsSuspended}
 use Rattle.rate_group.specs.LawsOverCalls.{SharesByCalls, ShareIs, RatesByCalls}
 use Rattle.rate_group.proofs.LaneLemmas.{Owes, stretch, least-some_of}
@@ -20,7 +20,7 @@ use Rattle.rate_group.proofs.ListsOfCalls.{calls-from}
 use Rattle.rate_group.proofs.KnownMembers.{Known, known-all, counted-by}
 use Rattle.rate_group.proofs.KeptGroups.{kept_of, share_by, Follows, Lives, lives-none, lives-on}
 use Rattle.rate_group.proofs.LevelsByCalls.{Life, life-made, life-on, leads-split, begins, life-left, life-owes, life-tick}
-use Rattle.rate_group.proofs.SuspensionsByCalls.{Told, told-all}
+use Rattle.rate_group.proofs.SuspensionsByCalls.{told-all}
 
 -- Shares
 

@@ -1,14 +1,14 @@
 -- When a group is suspended after a list of calls.
-use Rattle.std.proofs.Common.{◌≡◌, ◌∙◌, inl, inr, ℕ, ◌-◌, ◌<◌, ◌≤◌, Bool, true, false, List, [], ◌∷◌, ◌++◌, Option, Some, None, refl, sym}
+use Rattle.std.proofs.Common.{◌≡◌, ◌∙◌, inl, inr, ℕ, ◌<◌, Bool, true, false, List, [], ◌∷◌, ◌++◌, Some, None, refl, sym}
 use Rattle.std.proofs.Common.{ap, subst, arith, append_assoc, append-nil}
-use Rattle.std.specs.Prelude.{◌⊎◌, ◌↔◌, ◌&&◌, ◌||◌, ◌==◌, if◌then◌else◌, nat_lt, slice_get, Ok, Err}
+use Rattle.std.specs.Prelude.{◌⊎◌, ◌↔◌, ◌&&◌, ◌||◌, ◌==◌, if◌then◌else◌, nat_lt, Ok}
 use Rattle.std.specs.Option.{option_map}
 use Rattle.std.proofs.lemmas.Bool.{or_cases, or_left, or_right, and_parts, and_from, and_left, eqb-true, eq-eqb, ltb-true, lt-ltb}
 use Rattle.std.proofs.lemmas.Bool.{cases_Bool}
 use Rattle.token_bucket.specs.declared.limit.Dir.{Dir}
 use Rattle.token_bucket.specs.declared.limit.Dir.TheVariants as dir
-use Rattle.token_bucket.specs.Levels.{limit_of, held, less, refilled}
-use Rattle.token_bucket.specs.Spells.{Beat, Begins, Moves}
+use Rattle.token_bucket.specs.Levels.{limit_of, held, less}
+use Rattle.token_bucket.specs.Spells.{Begins, Moves}
 use Rattle.rate_group.specs.GroupValue.{Lane, GroupValue, GroupsValue}
 use Rattle.rate_group.specs.Steps.{lane_of, made}
 use Rattle.rate_group.specs.GroupLaws.{GroupCall, Refills, Spends, KeptLane, after_step, beat_of_call}
@@ -17,8 +17,8 @@ use Rattle.rate_group.specs.ToldByCalls.{Making, calls_with, least_at, same_dir,
 use Rattle.rate_group.specs.LawsOverCalls.{SuspensionsByCalls}
 use Rattle.rate_group.proofs.ListsOfCalls.{ends-behind, ends-in}
 use Rattle.rate_group.proofs.KnownMembers.{Known}
-use Rattle.rate_group.proofs.KeptGroups.{kept_of, Stays, Steps, Next, next-call}
-use Rattle.rate_group.proofs.LaneLemmas.{Owes, least-some_of}
+use Rattle.rate_group.proofs.KeptGroups.{kept_of, Stays, Steps, next-call}
+use Rattle.rate_group.proofs.LaneLemmas.{least-some_of}
 use Rattle.rate_group.proofs.LevelsByCalls.{Life, life-made, life-more, begins, life-left, life-owes}
 
 -- One call more

@@ -7,7 +7,7 @@ use Rattle.std.specs.Map.{keys_of}
 use Rattle.token_bucket.specs.declared.limit.Dir.{Dir}
 use Rattle.token_bucket.specs.Levels.{limit_of, held}
 use Rattle.token_bucket.specs.Spells.{ticks, moved_over}
-use Rattle.rate_group.specs.GroupValue.{GroupValue, GroupsValue}
+use Rattle.rate_group.specs.GroupValue.{GroupsValue}
 use Rattle.rate_group.specs.Steps.{lane_of, group_of, count_in, share_in}
 use Rattle.rate_group.specs.GroupsCalls.{GroupsCall, CallsLead, no_groups}
 use Rattle.rate_group.specs.ToldByCalls.{group_by_calls, AreMembers, Making, calls_with, IsMade, least_at, beats_since, beats_behind}
