@@ -303,9 +303,9 @@ served_once : (R : State → Trace → State → Type 0) → IsPutting 0 R → (
 served_once R f s new a h = record { first = served-first R s new a h; once = served_then R f s new a h }
 
 -- however a turn ends that is not refused
-pub end-begins : (x : TurnEnd) {s new : State} {a : Trace} → EndsTurn x s a new → BeginsOnce a
-end-begins end.Went {s = s} {new = new} {a = a} h = served_once _ (both 0 0 dispatches passes_and_closes) s new a h
-end-begins (end.Stopped link) {s = s} {new = new} {a = a} h = served_once (StopsAt link) (stops_at link) s new a h
+pub end-begins : (x : TurnEnd) (s new : State) (a : Trace) → EndsTurn x s a new → BeginsOnce a
+end-begins end.Went s new a h = served_once _ (both 0 0 dispatches passes_and_closes) s new a h
+end-begins (end.Stopped link) s new a h = served_once (StopsAt link) (stops_at link) s new a h
 
 pub cut-begins : {f : DriveFault} {s new : State} {a : Trace} → CutTurn f s a new → (a ≡ []) ⊎ BeginsOnce a
 cut-begins (before h) = inl h.0
