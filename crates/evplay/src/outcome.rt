@@ -50,11 +50,7 @@ pub fn outcome_of(
 }
 
 /// What the script of links that the text spells comes to.
-fn relay(
-    alloc: Global,
-    text: &[u8],
-    hooks: Vec<Box<dyn Hook>>,
-) -> Result<Outcome, Status>
+fn relay(alloc: Global, text: &[u8], hooks: Vec<Box<dyn Hook>>) -> Result<Outcome, Status>
     requires short { length text.now ≤ 2 ^ 24 }
     requires fresh { All (IsFresh (telling (λ h. heard h) (λ h. asked h) (λ h. planned h))) hooks.items }
     ensures comes_to { IfOk result (λ outcome. ComesTo Relay (handed_in (telling (λ h. heard h) (λ h. asked h) (λ h. planned h)) hooks.items) text.now outcome.status outcome.text.items) }
