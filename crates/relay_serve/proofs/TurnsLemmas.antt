@@ -21,7 +21,9 @@ use Rattle.relay_laws.proofs.RelayedLemmas.{stood-at}
 use Rattle.relay_laws.proofs.TurnEndLemmas.{ends-none, ends-grow}
 use Rattle.relay_drive.specs.declared.fault.DriveFault.{DriveFault}
 use Rattle.relay_drive.specs.declared.fault.DriveFault.TheVariants as fault
-use Rattle.relay_drive.specs.DriveStands.{DriveStands, DriveWent, StandsBetween, turn_answer_of}
+use Rattle.relay_drive.specs.declared.fault.TurnEnd.{TurnEnd}
+use Rattle.relay_drive.specs.declared.fault.TurnEnd.TheVariants as end
+use Rattle.relay_drive.specs.DriveStands.{DriveStands, DriveWent, StandsBetween, turn_answer_of, turn_end_of}
 use Rattle.relay_drive.specs.DriveValue.{DriveValue, new_drive, is_worn}
 use Rattle.relay_drive.specs.Known.{Question}
 use Rattle.relay_drive.specs.Phases.{CutTurn, in_poll, CutPolling, is_open_fault}
@@ -30,7 +32,8 @@ use Rattle.relay_drive.proofs.GoesLemmas.{Grew-none, Grew-join, Heard-none, Hear
 use Rattle.program_end.proofs.TurnCountLemmas.{BeginsOnce, count-append}
 use Rattle.relay_serve.specs.Seen.{Seen}
 use Rattle.relay_serve.specs.Served.{turns_told}
-use Rattle.relay_serve.specs.Underway.{TurnsWent, TurnsCut}
+use Rattle.relay_serve.specs.Underway.{TurnsWent, TurnsEnd, TurnsCut}
+use Rattle.relay_serve.specs.declared.run.ServeEnd.TheVariants as serve_end
 
 -- no group is set in what words set
 pub built : (g : code.Settings) (hooks : List SideId) → IsBuilt (settings_with g hooks)
@@ -91,25 +94,45 @@ told-next t a turns more was is one =
     let all = count-append t a in
     omega (arith, was, is, one, all)
 
+-- the same turns, of which something else holds
+abbrev with-after : {g : Settings} {After After' : Trace → State → Type 0} {failed : Bool} {old new : Seen} {s : State} →
+    (w : TurnsWent g After failed old new s) → After' w.added s → TurnsWent g After' failed old new s
+with-after w after = record {
+  added = w.added;
+  list = w.list;
+  settings = w.settings;
+  after = after;
+  ends = w.ends;
+  tied = w.tied;
+  heard = w.heard;
+}
+
 -- A whole turn more.
-pub stands-next : {Plan : Type 0} {R : State → Trace → State → Type 0} {Tells : Trace → Type 0} (g : Settings) (old mid new : Seen)
-    (d e : DriveValue) (turns more : ℕ) (v v' : Settings → Question Plan → Trace → Type 0) → (k : Standing g old mid d turns) →
-    (t : DriveWent R (LeftFor TurnAnswer.Went) Tells false d e mid.log new.log v v' mid.faults new.faults) → BeginsOnce t.added →
+pub stands-next : {Plan : Type 0} {R : State → Trace → State → Type 0} {Tells : Trace → Type 0} (x : TurnEnd) (g : Settings) (old mid new : Seen)
+    (d e : DriveValue) (turns more : ℕ) (v v' : Settings → Question Plan → Trace → Type 0) → x ≡ end.Went → (k : Standing g old mid d turns) →
+    (t : DriveWent R (LeftFor (turn_end_of x)) Tells false d e mid.log new.log v v' mid.faults new.faults) → BeginsOnce t.added →
     IsTied g old.told new.told old.ends new.ends (k.0.added ++ t.added) → more ≡ min (turns + 1) (2 ^ 32 - 1) → Standing g old new e more
 unfolding turns-next
-stands-next g old mid new d e turns more v v' k t once tied is =
+stands-next x g old mid new d e turns more v v' went k t once tied is =
     let w = turns-next false g old mid new d e v v' k.0 t (inr once) tied in
     (
-      record {
-        added = w.added;
-        list = w.list;
-        settings = w.settings;
-        after = between-of w.added e.state w.after;
-        ends = w.ends;
-        tied = w.tied;
-        heard = w.heard;
-      },
+      with-after w (between-of w.added e.state (subst (λ z. LeftFor (turn_end_of z) w.added e.state) went w.after)),
       t.stands k.0.added k.1,
+      told-next k.0.added t.added turns more k.2 is once.once,
+    )
+
+-- A turn more that a hook of this link stopped.
+pub stopped-next : {Plan : Type 0} {R : State → Trace → State → Type 0} {Tells : Trace → Type 0} (x : TurnEnd) (link : ℕ) (g : Settings)
+    (old mid new : Seen) (d e : DriveValue) (turns more : ℕ) (v v' : Settings → Question Plan → Trace → Type 0) → x ≡ end.Stopped link →
+    (k : Standing g old mid d turns) →
+    (t : DriveWent R (LeftFor (turn_end_of x)) Tells false d e mid.log new.log v v' mid.faults new.faults) → BeginsOnce t.added →
+    IsTied g old.told new.told old.ends new.ends (k.0.added ++ t.added) → more ≡ min (turns + 1) (2 ^ 32 - 1) →
+    TurnsEnd (serve_end.Stopped link more) g old new e.state
+unfolding turns-next
+stopped-next x link g old mid new d e turns more v v' stopped k t once tied is =
+    let w = turns-next false g old mid new d e v v' k.0 t (inr once) tied in
+    (
+      with-after w (subst (λ z. LeftFor (turn_end_of z) w.added e.state) stopped w.after),
       told-next k.0.added t.added turns more k.2 is once.once,
     )
 
