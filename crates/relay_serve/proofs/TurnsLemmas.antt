@@ -114,8 +114,7 @@ pub stands-next : {Plan : Type 0} {R : State → Trace → State → Type 0} {Te
     IsTied g old.told new.told old.ends new.ends (k.0.added ++ t.added) → more ≡ min (turns + 1) (2 ^ 32 - 1) → Standing g old new e more
 unfolding turns-next
 stands-next x g old mid new d e turns more v v' went k t once tied is =
-    let w = turns-next false g old mid new d e v v' k.0 t (inr once) tied in
-    (
+    let w = turns-next false g old mid new d e v v' k.0 t (inr once) tied in (
       with-after w (between-of w.added e.state (subst (λ z. LeftFor (turn_end_of z) w.added e.state) went w.after)),
       t.stands k.0.added k.1,
       told-next k.0.added t.added turns more k.2 is once.once,
@@ -130,8 +129,7 @@ pub stopped-next : {Plan : Type 0} {R : State → Trace → State → Type 0} {T
     TurnsEnd (serve_end.Stopped link more) g old new e.state
 unfolding turns-next
 stopped-next x link g old mid new d e turns more v v' stopped k t once tied is =
-    let w = turns-next false g old mid new d e v v' k.0 t (inr once) tied in
-    (
+    let w = turns-next false g old mid new d e v v' k.0 t (inr once) tied in (
       with-after w (subst (λ z. LeftFor (turn_end_of z) w.added e.state) stopped w.after),
       told-next k.0.added t.added turns more k.2 is once.once,
     )
