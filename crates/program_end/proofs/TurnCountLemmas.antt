@@ -35,7 +35,7 @@ use Rattle.relay_drive.specs.Steps.{Nothing, Then, Each, CutAt}
 use Rattle.relay_drive.specs.Calls.{Ticks}
 use Rattle.relay_drive.specs.Phases.{links_from, Polls, OpensOne, OpensSome, AcceptsWhere, PollsAndAccepts, ReadsSide, WritesSide}
 use Rattle.relay_drive.specs.Phases.{ConnectsSide, ServesSide, PassesSide, PassesLink, ForAllLinks, closing_events, LooksAt, ClosesLink}
-use Rattle.relay_drive.specs.Phases.{ServedThen, PassesAndCloses, Turns, EndsTurn, DispatchesAll, StopsAt, FiresShort, CutFire, CutDispatch}
+use Rattle.relay_drive.specs.Phases.{ServedThen, PassesAndCloses, Turns, EndsTurn, DispatchesAll, StopsAt, CutFire, CutDispatch}
 use Rattle.relay_drive.specs.Phases.{CutTurn, before, in_poll, in_serving, in_dispatch, in_passing, in_closing, CutPoll, CutAccepting, CutPolling}
 use Rattle.relay_drive.specs.Phases.{AcceptsMore, CutServing, CutPassing, CutPassingLink, CutClosingLink, CutForAllLinks}
 use Rattle.relay_drive.specs.DispatchPhase.{no_room, in_fire}

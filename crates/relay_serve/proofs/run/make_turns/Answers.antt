@@ -1,4 +1,4 @@
-use Rattle.std.proofs.Common.{◌≡◌, ◌++◌, ◌+◌, ◌-◌, ◌^◌, min, Ok, None, false, refl, ◌∙◌, ap, arith}
+use Rattle.std.proofs.Common.{◌≡◌, ◌++◌, ◌+◌, ◌-◌, ◌^◌, min, Ok, None, false, ◌∙◌, ap, arith}
 use Rattle.relay_model.specs.Settings.{Settings, settings_with}
 use Rattle.relay_drive.specs.DriveValue.{DriveValue, is_worn, kept_of}
 use Rattle.relay_drive.specs.Known.{Question}
