@@ -1,4 +1,7 @@
 // A drive over real sockets, in one thread. It fails where its turns don't suffice.
+ghost use Rattle.std.specs.Prelude.{◌≡◌, None};
+ghost use Rattle.relay_drive.specs.Seats.{AreSeated};
+
 use ev_port::{Addr, Mute, Port, Started};
 use mio_port::MioPort;
 use relay_drive::{Drive, DriveFault, Seats, Settings};
@@ -17,6 +20,7 @@ struct Run<'a> {
     seats: Seats,
     port: MioPort<'a, HostRuntime>,
     scribe: Mute,
+    ghost seated: { drive.kept ≡ None → AreSeated drive.state seats.hooks.items seats.gone.items },
 }
 
 impl Run<'_> {
