@@ -74,7 +74,8 @@ fn relay_by<R: Wait, P: Port, K: Sink, E: Sink>(
     errors: &mut E,
 ) -> u8
     ensures served { (ended : Status) × (trace : Trace) × (result ≡ status_number ended)
-        × DidWith (serve_words_of (map string_bytes words.now)) [] ended (seen_by P.Port port.old []) (seen_by P.Port port.new trace) (drained K.Sink sink.old) (drained K.Sink sink.new)
+        × DidWith (serve_words_of (map string_bytes words.now)) [] ended (seen_by P.Port port.old []) (seen_by P.Port port.new trace)
+        (drained K.Sink sink.old) (drained K.Sink sink.new)
         × LeavesSink K.Sink ended sink.old sink.new
         × Says ended (last_entries trace) (E.taken errors.old) (E.taken errors.new) (E.faults errors.old) (E.faults errors.new)
         × LeavesAll ended port.old port.new sink.old sink.new }
@@ -99,7 +100,8 @@ pub fn relay_program<R: Wait, P: Port, K: Sink, E: Sink>(
     errors: &mut E,
 ) -> u8
     ensures served { IfOk words (λ all. (ended : Status) × (trace : Trace) × (result ≡ status_number ended)
-        × DidWith (serve_words_of (map string_bytes all.items)) [] ended (seen_by P.Port port.old []) (seen_by P.Port port.new trace) (drained K.Sink sink.old) (drained K.Sink sink.new)
+        × DidWith (serve_words_of (map string_bytes all.items)) [] ended (seen_by P.Port port.old []) (seen_by P.Port port.new trace)
+        (drained K.Sink sink.old) (drained K.Sink sink.new)
         × LeavesSink K.Sink ended sink.old sink.new
         × Says ended (last_entries trace) (E.taken errors.old) (E.taken errors.new) (E.faults errors.old) (E.faults errors.new)
         × LeavesAll ended port.old port.new sink.old sink.new) }
