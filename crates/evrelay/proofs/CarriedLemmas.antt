@@ -1,5 +1,5 @@
 -- What `serve` says of a run, of a port that was new as it began and tells everything.
-use Rattle.std.proofs.Common.{◌≡◌, ◌⊎◌, inl, inr, ℕ, ◌+◌, ◌-◌, ◌^◌, ◌<◌, Bool, true, false, ◌||◌, List, [], ◌++◌, Option, Some, None, refl}
+use Rattle.std.proofs.Common.{◌≡◌, ◌⊎◌, inl, inr, ℕ, ◌+◌, ◌-◌, ◌^◌, ◌<◌, Bool, true, false, List, [], ◌++◌, Option, Some, None, refl}
 use Rattle.std.proofs.Common.{sym, ◌∙◌, ap, subst, zero-add}
 use Rattle.std.specs.Prelude.{⊤, Result, Ok, Err, IfOk, IsSomeAnd, MatchOption}
 use Rattle.ev_types.specs.declared.side.SideId.{SideId}
