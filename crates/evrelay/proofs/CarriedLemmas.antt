@@ -1,5 +1,5 @@
 -- What `serve` says of a run, of a port that was new as it began and tells everything.
-use Rattle.std.proofs.Common.{◌≡◌, ◌⊎◌, inl, inr, ℕ, ◌+◌, ◌-◌, ◌^◌, ◌<◌, Bool, true, false, ◌||◌, List, [], ◌++◌, Option, Some, None, refl}
+use Rattle.std.proofs.Common.{◌≡◌, ◌⊎◌, inl, inr, ℕ, ◌+◌, ◌-◌, ◌^◌, ◌<◌, Bool, true, false, List, [], ◌++◌, Option, Some, None, refl}
 use Rattle.std.proofs.Common.{sym, ◌∙◌, ap, subst, zero-add}
 use Rattle.std.specs.Prelude.{⊤, Result, Ok, Err, IfOk, IsSomeAnd, MatchOption}
 use Rattle.ev_types.specs.declared.side.SideId.{SideId}
@@ -57,10 +57,10 @@ all-some P a b c x y z is_a is_b is_c h =
 -- a run over the port, or all is as it was
 abbrev Made : Route → Seen → Seen → Type 0
 Made route old new =
-    ((answer : TurnAnswer) × (failed : Bool) × (t : Trace) × (links : List LinkCount) × IsServed route answer failed old new t links)
+    ((answer : TurnAnswer) × (failed : Bool) × (t : Trace) × (links : List LinkCount) × IsServed route [] answer failed old new t links)
     ⊎ (new ≡ old)
 
-made-ended : (route : Route) (ended : Status) (old new : Seen) (t : Trace) (links : List LinkCount) → EndedAs route ended old new t links
+made-ended : (route : Route) (ended : Status) (old new : Seen) (t : Trace) (links : List LinkCount) → EndedAs route [] ended old new t links
     → Made route old new
 made-ended route status.Ok old new t links k = inl (TurnAnswer.Went, false, t, links, k.0)
 made-ended route status.PollFault old new t links k = inl (TurnAnswer.PollFault, false, t, links, k.0)
@@ -71,16 +71,16 @@ made-ended route status.Usage old new t links k = absurd k
 made-ended route (status.BadScript line) old new t links k = absurd k
 made-ended route status.ReadFault old new t links k = absurd k
 made-ended route status.WriteFault old new t links k = absurd k
-made-ended route (status.Stopped link turn) old new t links k = absurd k
+made-ended route (status.Stopped link turn) old new t links k = inl (TurnAnswer.Stopped link, false, t, links, k.0)
 made-ended route status.TooLong old new t links k = absurd k
 made-ended route status.Memory old new t links k = absurd k
 
-made-out : (route : Route) (old new : Seen) → RanOut route old new → Made route old new
+made-out : (route : Route) (old new : Seen) → RanOut route [] old new → Made route old new
 made-out route old new (inl k) = inl (TurnAnswer.Memory, false, k.0, k.1, k.2)
 made-out route old new (inr (inl k)) = made-ended route k.2 old new k.0 k.1 k.3
 made-out route old new (inr (inr same)) = inr same
 
-made-did : (route : Route) (ended : Status) (old new : Seen) (before after : Drained) → Did route ended old new before after
+made-did : (route : Route) (ended : Status) (old new : Seen) (before after : Drained) → Did route [] ended old new before after
     → Made route old new
 made-did route status.Ok old new before after k = made-ended route status.Ok old new k.0 k.1 k.2
 made-did route status.PollFault old new before after k = made-ended route status.PollFault old new k.0 k.1 k.2
@@ -91,7 +91,7 @@ made-did route status.Memory old new before after k = made-out route old new k
 made-did route status.Usage old new before after k = absurd k
 made-did route (status.BadScript line) old new before after k = absurd k
 made-did route status.ReadFault old new before after k = absurd k
-made-did route (status.Stopped link turn) old new before after k = absurd k
+made-did route (status.Stopped link turn) old new before after k = made-ended route (status.Stopped link turn) old new k.0 k.1 k.2
 made-did route status.TooLong old new before after k = absurd k
 
 -- What it carried
@@ -104,10 +104,10 @@ pub record WasNew (old : Seen) : Type 0 where
 
 module _ (old new : Seen) (trace : Trace) (n : WasNew old) (log : new.log ≡ Some trace) where
   abbrev IsCarried : Option Route → Type 0
-  IsCarried o = Carried trace new.told new.ends × MatchOption o ⊤ (λ route. IsPassedOn (settings_on route) new.ends)
+  IsCarried o = Carried trace new.told new.ends × MatchOption o ⊤ (λ route. IsPassedOn (settings_on route []) new.ends)
 
   carried-of : (route : Route) (answer : TurnAnswer) (failed : Bool) (t : Trace) (links : List LinkCount)
-      → IsServed route answer failed old new t links → Carried t new.told new.ends
+      → IsServed route [] answer failed old new t links → Carried t new.told new.ends
   carried-of route answer failed t links k =
       let start = k.start in
       let began : (e : SideId) → EndTold = k.ends_began in
@@ -151,11 +151,11 @@ module _ (old new : Seen) (trace : Trace) (n : WasNew old) (log : new.log ≡ So
   }
 
   carried-served : (route : Route) (answer : TurnAnswer) (failed : Bool) (t : Trace) (links : List LinkCount)
-      → IsServed route answer failed old new t links → IsCarried (Some route)
+      → IsServed route [] answer failed old new t links → IsCarried (Some route)
   carried-served route answer failed t links k =
       let is : trace ≡ t = grown-by [] trace t refl (subst (λ z. Grew (Some []) z t) log (subst (λ z. Grew z new.log t) n.log k.list)) in
       let c : Carried t new.told new.ends = carried-of route answer failed t links k in
-      (subst (λ z. Carried z new.told new.ends) (sym is) c, passed-of (settings_on route) answer t links k.relayed c)
+      (subst (λ z. Carried z new.told new.ends) (sym is) c, passed-of (settings_on route []) answer t links k.relayed c)
 
   -- nothing was done
   module _ (same : new ≡ old) where
@@ -192,10 +192,10 @@ module _ (old new : Seen) (trace : Trace) (n : WasNew old) (log : new.log ≡ So
 
   carried-made : (route : Route) → Made route old new → IsCarried (Some route)
   carried-made route (inl k) = carried-served route k.0 k.1 k.2 k.3 k.4
-  carried-made route (inr same) = (carried-nothing same, passed-nothing same (settings_on route))
+  carried-made route (inr same) = (carried-nothing same, passed-nothing same (settings_on route []))
 
   -- whatever the words were
-  pub carried-with : (o : Option Route) (ended : Status) (before after : Drained) → DidWith o ended old new before after → IsCarried o
+  pub carried-with : (o : Option Route) (ended : Status) (before after : Drained) → DidWith o [] ended old new before after → IsCarried o
   carried-with None ended before after k = (carried-nothing k.1, tt)
   carried-with (Some route) ended before after k = carried-made route (made-did route ended old new before after k)
 

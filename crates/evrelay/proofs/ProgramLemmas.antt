@@ -8,8 +8,13 @@ use Rattle.ev_port.proofs.StreamLemmas.{TookOn-join}
 use Rattle.program_end.specs.Complains.{Complains, TookPart}
 use Rattle.program_end.specs.EndStatus.{complaint}
 use Rattle.program_end.proofs.ComplaintLemmas.{part-first, part-second}
+use Rattle.relay_drive.specs.Seats.{seated_sides}
 use Rattle.evrelay.specs.Program.{shows, said, Says}
 use Rattle.evrelay.specs.RingText.{ring_text}
+
+-- where there are no hooks no side has one
+pub none-seated : {H : Type 0} (hooks : List (Option H)) → hooks ≡ [] → seated_sides hooks ≡ []
+none-seated hooks none = ap (λ z. seated_sides z) none
 
 -- the lines of the entries stand in front of that of the status
 said-shown : (ended : Status) (es : List Entry) → shows ended ≡ true → ring_text es ++ complaint ended ≡ said ended es

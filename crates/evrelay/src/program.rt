@@ -74,7 +74,8 @@ fn relay_by<R: Wait, P: Port, K: Sink, E: Sink>(
     errors: &mut E,
 ) -> u8
     ensures served { (ended : Status) × (trace : Trace) × (result ≡ status_number ended)
-        × DidWith (serve_words_of (map string_bytes words.now)) ended (seen_by P.Port port.old []) (seen_by P.Port port.new trace) (drained K.Sink sink.old) (drained K.Sink sink.new)
+        × DidWith (serve_words_of (map string_bytes words.now)) [] ended (seen_by P.Port port.old []) (seen_by P.Port port.new trace)
+        (drained K.Sink sink.old) (drained K.Sink sink.new)
         × LeavesSink K.Sink ended sink.old sink.new
         × Says ended (last_entries trace) (E.taken errors.old) (E.taken errors.new) (E.faults errors.old) (E.faults errors.new)
         × LeavesAll ended port.old port.new sink.old sink.new }
@@ -82,7 +83,7 @@ fn relay_by<R: Wait, P: Port, K: Sink, E: Sink>(
     let Ok(mut ring) = Ring::new(alloc) else {
         return finish(errors, Status::Memory);
     };
-    let ended = serve(rt, alloc, words, port, &mut ring, sink);
+    let ended = serve(rt, alloc, words, Vec::new(alloc), port, &mut ring, sink);
     say(alloc, errors, ended, &ring)
 }
 
@@ -99,7 +100,8 @@ pub fn relay_program<R: Wait, P: Port, K: Sink, E: Sink>(
     errors: &mut E,
 ) -> u8
     ensures served { IfOk words (λ all. (ended : Status) × (trace : Trace) × (result ≡ status_number ended)
-        × DidWith (serve_words_of (map string_bytes all.items)) ended (seen_by P.Port port.old []) (seen_by P.Port port.new trace) (drained K.Sink sink.old) (drained K.Sink sink.new)
+        × DidWith (serve_words_of (map string_bytes all.items)) [] ended (seen_by P.Port port.old []) (seen_by P.Port port.new trace)
+        (drained K.Sink sink.old) (drained K.Sink sink.new)
         × LeavesSink K.Sink ended sink.old sink.new
         × Says ended (last_entries trace) (E.taken errors.old) (E.taken errors.new) (E.faults errors.old) (E.faults errors.new)
         × LeavesAll ended port.old port.new sink.old sink.new) }
@@ -128,13 +130,13 @@ pub fn relay_told<R: Wait, P: Port, K: Sink, E: Sink>(
 ) -> u8
     requires new { port.old.log.calls ≡ [] }
     ensures served { IfOk words (λ all. (ended : Status) × (trace : Trace) × (result ≡ status_number ended)
-        × DidWith (serve_words_of (map string_bytes all.items)) ended (seen_by ⟦<TellingPort<P> as Port>⟧ port.old [])
+        × DidWith (serve_words_of (map string_bytes all.items)) [] ended (seen_by ⟦<TellingPort<P> as Port>⟧ port.old [])
         (seen_by ⟦<TellingPort<P> as Port>⟧ port.new trace) (drained K.Sink sink.old) (drained K.Sink sink.new)
         × LeavesSink K.Sink ended sink.old sink.new
         × Says ended (last_entries trace) (E.taken errors.old) (E.taken errors.new) (E.faults errors.old) (E.faults errors.new)
         × LeavesAll ended port.old port.new sink.old sink.new
         × Carried trace (told_by port.new.log.calls) (ends_by port.new.log.calls)
-        × MatchOption (serve_words_of (map string_bytes all.items)) ⊤ (λ route. IsPassedOn (settings_on route) (ends_by port.new.log.calls))) }
+        × MatchOption (serve_words_of (map string_bytes all.items)) ⊤ (λ route. IsPassedOn (settings_on route []) (ends_by port.new.log.calls))) }
     ensures refused { IfErr words (λ bad. (result ≡ status_number (words_status bad))
         × Complains (words_status bad) (E.taken errors.old) (E.taken errors.new) (E.faults errors.old) (E.faults errors.new)
         × (port.new ≡ port.old) × (sink.new ≡ sink.old)) }

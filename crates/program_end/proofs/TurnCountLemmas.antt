@@ -35,8 +35,9 @@ use Rattle.relay_drive.specs.Steps.{Nothing, Then, Each, CutAt}
 use Rattle.relay_drive.specs.Calls.{Ticks}
 use Rattle.relay_drive.specs.Phases.{links_from, Polls, OpensOne, OpensSome, AcceptsWhere, PollsAndAccepts, ReadsSide, WritesSide}
 use Rattle.relay_drive.specs.Phases.{ConnectsSide, ServesSide, PassesSide, PassesLink, ForAllLinks, closing_events, LooksAt, ClosesLink}
-use Rattle.relay_drive.specs.Phases.{ServedThen, PassesAndCloses, Turns, EndsTurn, DispatchesAll, StopsAt, FiresShort, CutFire, CutDispatch}
-use Rattle.relay_drive.specs.Phases.{CutTurn, before, in_poll, in_serving, in_dispatch, in_passing, in_closing, CutPoll, CutAccepting, CutPolling}
+use Rattle.relay_drive.specs.Phases.{ServedThen, PassesAndCloses, Turns, EndsTurn, DispatchesAll, StopsAt, CutFire, CutDispatch}
+use Rattle.relay_drive.specs.Phases.{CutTurn, before, in_poll, in_serving, in_dispatch, in_passing, in_closing, CutPoll, CutAccepting}
+use Rattle.relay_drive.specs.Phases.{CutPolling}
 use Rattle.relay_drive.specs.Phases.{AcceptsMore, CutServing, CutPassing, CutPassingLink, CutClosingLink, CutForAllLinks}
 use Rattle.relay_drive.specs.DispatchPhase.{no_room, in_fire}
 use Rattle.relay_drive.specs.declared.fault.TurnEnd.{TurnEnd}
@@ -295,8 +296,8 @@ pub record BeginsOnce (a : Trace) : Type 0 where
   pub first : begins_turn a ≡ true
   pub once : count_by is_turn a ≡ 1
 
-begins_once : (reading : ℕ) (R : State → Trace → State → Type 0) → IsPutting 0 R → (s new : State) (a : Trace) → Then (Ticks reading) R s a new →
-    BeginsOnce a
+begins_once : (reading : ℕ) (R : State → Trace → State → Type 0) → IsPutting 0 R → (s new : State) (a : Trace) →
+    Then (Ticks reading) R s a new → BeginsOnce a
 begins_once reading R f s new a h = record { first = ticks-first reading R s new a h; once = both 1 0 (ticks reading) f s new a h }
 
 served_once : (R : State → Trace → State → Type 0) → IsPutting 0 R → (s new : State) (a : Trace) → ServedThen R s a new → BeginsOnce a

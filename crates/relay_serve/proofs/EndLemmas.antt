@@ -152,7 +152,8 @@ module _ (route : Route) (hooks : List SideId) (old mid new : Seen) (b : Begun r
     heard = Heard-join old.faults mid.faults new.faults [] w.added false failed b.heard w.heard;
   }
 
-  left-served : (answer : TurnAnswer) (failed : Bool) (s : State) → (w : TurnsWent (settings_on route hooks) (LeftFor answer) failed mid new s) →
+  left-served : (answer : TurnAnswer) (failed : Bool) (s : State) →
+      (w : TurnsWent (settings_on route hooks) (LeftFor answer) failed mid new s) →
       IsServed route hooks answer failed old new w.added (lines_below s s.plain.opened)
   left-served answer failed s w = served answer failed w.after.stage s (LeftFor answer) w w.after.stands w.after.left
 
@@ -161,7 +162,8 @@ module _ (route : Route) (hooks : List SideId) (old mid new : Seen) (b : Begun r
   went-served s w = served TurnAnswer.Went false Stage.Between s StandsBetween w w.after refl
 
   -- all was served
-  pub ran-out : (s : State) → TurnsWent (settings_on route hooks) StandsBetween false mid new s → IsServedOut s → RanTo route hooks status.Ok old new s
+  pub ran-out : (s : State) → TurnsWent (settings_on route hooks) StandsBetween false mid new s → IsServedOut s →
+      RanTo route hooks status.Ok old new s
   ran-out s w all = (
     w.added,
     (
@@ -191,7 +193,8 @@ module _ (route : Route) (hooks : List SideId) (old mid new : Seen) (b : Begun r
   ran-cut fault.Spent s w = (w.0.added, (went-served s w.0, w.1))
 
 -- what came of the turns behind a start
-pub ran-of : (route : Route) (hooks : List SideId) (old mid new : Seen) → Begun route old mid false → (s : State) (g : Settings) → g ≡ settings_on route hooks →
+pub ran-of : (route : Route) (hooks : List SideId) (old mid new : Seen) → Begun route old mid false → (s : State) (g : Settings) →
+    g ≡ settings_on route hooks →
     (r : Result ServeEnd DriveFault) → MatchResult r (λ end. TurnsEnd end g mid new s) (λ why. TurnsCut why g mid new s) →
     RanTo route hooks (ended_as r) old new s
 ran-of route hooks old mid new b s g is (Ok serve_end.ServedOut) h =
@@ -220,16 +223,20 @@ module _ (route : Route) (hooks : List SideId) (old new : Seen) (failed : Bool) 
         heard = b.heard;
       }
 
-pub start-failed : (route : Route) (hooks : List SideId) (old new : Seen) → Begun route old new true → RanTo route hooks status.OpenFault old new (new_state (settings_on route hooks))
-start-failed route hooks old new b = ([], (inr (refl, only-started route hooks old new true b TurnAnswer.Went refl), b.heard.listener.fault refl))
+pub start-failed : (route : Route) (hooks : List SideId) (old new : Seen) → Begun route old new true →
+    RanTo route hooks status.OpenFault old new (new_state (settings_on route hooks))
+start-failed route hooks old new b =
+    ([], (inr (refl, only-started route hooks old new true b TurnAnswer.Went refl), b.heard.listener.fault refl))
 
-pub start-lacked : (route : Route) (hooks : List SideId) (old new : Seen) → Begun route old new false → RanTo route hooks status.Memory old new (new_state (settings_on route hooks))
+pub start-lacked : (route : Route) (hooks : List SideId) (old new : Seen) → Begun route old new false →
+    RanTo route hooks status.Memory old new (new_state (settings_on route hooks))
 start-lacked route hooks old new b = ([], only-started route hooks old new false b TurnAnswer.Memory tt)
 
 -- The report
 
 -- What a call did: its run ended so, and its report was written whole, or in part, or not at all.
-pub did : (route : Route) (hooks : List SideId) (ended result : Status) (old new : Seen) (s : State) (before after : Drained) → RanTo route hooks ended old new s →
+pub did : (route : Route) (hooks : List SideId) (ended result : Status) (old new : Seen) (s : State) (before after : Drained) →
+    RanTo route hooks ended old new s →
     Reported ended result (report_text (lines_below s s.plain.opened)) before after → Did route hooks result old new before after
 did route hooks ended result old new s before after ran told = by_result result told
   where
@@ -286,7 +293,8 @@ did route hooks ended result old new s before after ran told = by_result result 
 -- Words
 
 -- The words are not in the grammar, or memory ran out while they were read: nothing was done.
-pub words-ended : (o : Option Route) (hooks : List SideId) (why : WordsFault) (old : Seen) (before : Drained) → (why ≡ words.Usage → o ≡ None) →
+pub words-ended : (o : Option Route) (hooks : List SideId) (why : WordsFault) (old : Seen) (before : Drained) →
+    (why ≡ words.Usage → o ≡ None) →
     DidWith o hooks (status_of_words why) old old before before
 words-ended o hooks words.Usage old before none =
     subst (λ z. DidWith z hooks status.Usage old old before before) (sym (none refl)) (inl refl, refl, refl)

@@ -5,6 +5,8 @@ use Rattle.std.specs.Prelude.{⊤}
 use Rattle.ev_types.specs.declared.side.SideId.{SideId}
 use Rattle.ev_types.specs.Told.{EndTold, PortTold}
 use Rattle.ev_types.specs.Trace.{Trace}
+use Rattle.ev_port.specs.declared.port.Port as port
+use Rattle.ev_port.specs.declared.scribe.Scribe as scribe
 use Rattle.relay_model.specs.Answers.{TurnAnswer}
 use Rattle.relay_model.specs.RatesKept.{is_turn}
 use Rattle.relay_model.specs.Settings.{Settings, settings_with}
@@ -21,16 +23,20 @@ use Rattle.relay_laws.proofs.RelayedLemmas.{stood-at}
 use Rattle.relay_laws.proofs.TurnEndLemmas.{ends-none, ends-grow}
 use Rattle.relay_drive.specs.declared.fault.DriveFault.{DriveFault}
 use Rattle.relay_drive.specs.declared.fault.DriveFault.TheVariants as fault
-use Rattle.relay_drive.specs.DriveStands.{DriveStands, DriveWent, StandsBetween, turn_answer_of}
+use Rattle.relay_drive.specs.declared.fault.TurnEnd.{TurnEnd}
+use Rattle.relay_drive.specs.declared.fault.TurnEnd.TheVariants as end
+use Rattle.relay_drive.specs.DriveStands.{DriveStands, DriveWent, StandsBetween, turn_answer_of, turn_end_of}
 use Rattle.relay_drive.specs.DriveValue.{DriveValue, new_drive, is_worn}
-use Rattle.relay_drive.specs.Known.{Question}
+use Rattle.relay_drive.specs.Known.{Point, Question}
+use Rattle.relay_drive.specs.Moves.{knows}
 use Rattle.relay_drive.specs.Phases.{CutTurn, in_poll, CutPolling, is_open_fault}
 use Rattle.relay_drive.proofs.HookEvents.{asks_fit-none}
 use Rattle.relay_drive.proofs.GoesLemmas.{Grew-none, Grew-join, Heard-none, Heard-join}
 use Rattle.program_end.proofs.TurnCountLemmas.{BeginsOnce, count-append}
-use Rattle.relay_serve.specs.Seen.{Seen}
+use Rattle.relay_serve.specs.Seen.{Seen, seen}
 use Rattle.relay_serve.specs.Served.{turns_told}
-use Rattle.relay_serve.specs.Underway.{TurnsWent, TurnsCut}
+use Rattle.relay_serve.specs.Underway.{TurnsWent, TurnsEnd, TurnsCut}
+use Rattle.relay_serve.specs.declared.run.ServeEnd.TheVariants as serve_end
 
 -- no group is set in what words set
 pub built : (g : code.Settings) (hooks : List SideId) → IsBuilt (settings_with g hooks)
@@ -63,7 +69,8 @@ ends-on g t a s is k ends (inl none) = subst (AtTurnEnds (StoodBetween g)) (sym 
 ends-on g t a s is k ends (inr one) = ends-grow (StoodBetween g) t a ends (stood-at g t Stage.Between s is k) one.first one.once
 
 -- One more turn, of which this is known, or a part of one.
-pub turns-next : {Plan : Type 0} {R : State → Trace → State → Type 0} {After : Trace → State → Type 0} {Tells : Trace → Type 0} (open_failed : Bool) (g : Settings)
+pub turns-next : {Plan : Type 0} {R : State → Trace → State → Type 0} {After : Trace → State → Type 0}
+    {Tells : Trace → Type 0} (open_failed : Bool) (g : Settings)
     (old mid new : Seen) (d e : DriveValue) (v v' : Settings → Question Plan → Trace → Type 0) →
     (w : TurnsWent g StandsBetween false old mid d.state) →
     (t : DriveWent R After Tells open_failed d e mid.log new.log v v' mid.faults new.faults) →
@@ -91,25 +98,44 @@ told-next t a turns more was is one =
     let all = count-append t a in
     omega (arith, was, is, one, all)
 
+-- the same turns, of which something else holds
+abbrev with-after : {g : Settings} {After After' : Trace → State → Type 0} {failed : Bool} {old new : Seen} {s : State} →
+    (w : TurnsWent g After failed old new s) → After' w.added s → TurnsWent g After' failed old new s
+with-after w after = record {
+  added = w.added;
+  list = w.list;
+  settings = w.settings;
+  after = after;
+  ends = w.ends;
+  tied = w.tied;
+  heard = w.heard;
+}
+
 -- A whole turn more.
-pub stands-next : {Plan : Type 0} {R : State → Trace → State → Type 0} {Tells : Trace → Type 0} (g : Settings) (old mid new : Seen)
-    (d e : DriveValue) (turns more : ℕ) (v v' : Settings → Question Plan → Trace → Type 0) → (k : Standing g old mid d turns) →
-    (t : DriveWent R (LeftFor TurnAnswer.Went) Tells false d e mid.log new.log v v' mid.faults new.faults) → BeginsOnce t.added →
+pub stands-next : {Plan : Type 0} {R : State → Trace → State → Type 0} {Tells : Trace → Type 0} (x : TurnEnd) (g : Settings)
+    (old mid new : Seen) (d e : DriveValue) (turns more : ℕ) (v v' : Settings → Question Plan → Trace → Type 0) → x ≡ end.Went →
+    (k : Standing g old mid d turns) →
+    (t : DriveWent R (LeftFor (turn_end_of x)) Tells false d e mid.log new.log v v' mid.faults new.faults) → BeginsOnce t.added →
     IsTied g old.told new.told old.ends new.ends (k.0.added ++ t.added) → more ≡ min (turns + 1) (2 ^ 32 - 1) → Standing g old new e more
 unfolding turns-next
-stands-next g old mid new d e turns more v v' k t once tied is =
-    let w = turns-next false g old mid new d e v v' k.0 t (inr once) tied in
-    (
-      record {
-        added = w.added;
-        list = w.list;
-        settings = w.settings;
-        after = between-of w.added e.state w.after;
-        ends = w.ends;
-        tied = w.tied;
-        heard = w.heard;
-      },
+stands-next x g old mid new d e turns more v v' went k t once tied is =
+    let w = turns-next false g old mid new d e v v' k.0 t (inr once) tied in (
+      with-after w (between-of w.added e.state (subst (λ z. LeftFor (turn_end_of z) w.added e.state) went w.after)),
       t.stands k.0.added k.1,
+      told-next k.0.added t.added turns more k.2 is once.once,
+    )
+
+-- A turn more that a hook of this link stopped.
+pub stopped-next : {Plan : Type 0} {R : State → Trace → State → Type 0} {Tells : Trace → Type 0} (x : TurnEnd) (link : ℕ) (g : Settings)
+    (old mid new : Seen) (d e : DriveValue) (turns more : ℕ) (v v' : Settings → Question Plan → Trace → Type 0) → x ≡ end.Stopped link →
+    (k : Standing g old mid d turns) →
+    (t : DriveWent R (LeftFor (turn_end_of x)) Tells false d e mid.log new.log v v' mid.faults new.faults) → BeginsOnce t.added →
+    IsTied g old.told new.told old.ends new.ends (k.0.added ++ t.added) → more ≡ min (turns + 1) (2 ^ 32 - 1) →
+    TurnsEnd (serve_end.Stopped link more) g old new e.state
+unfolding turns-next
+stopped-next x link g old mid new d e turns more v v' stopped k t once tied is =
+    let w = turns-next false g old mid new d e v v' k.0 t (inr once) tied in (
+      with-after w (subst (λ z. LeftFor (turn_end_of z) w.added e.state) stopped w.after),
       told-next k.0.added t.added turns more k.2 is once.once,
     )
 
@@ -143,11 +169,21 @@ pub cut-else : (f : DriveFault) (g : Settings) (old new : Seen) (s before : Stat
 cut-else f g old new s before a cut w = cut-of f g old new s (λ is. spent-never (subst (λ x. CutTurn x before a s) is cut)) w
 
 -- a port that is tied to a trace is tied to it with the entries of a turn, whatever the settings are called
-pub tied-on : (g s s' : Settings) (began told told' : PortTold) (ends_began ends ends' : SideId → EndTold) (t u : Trace) → s ≡ g → s' ≡ s →
+tied-on : (g s s' : Settings) (began told told' : PortTold) (ends_began ends ends' : SideId → EndTold) (t u : Trace) → s ≡ g → s' ≡ s →
     IsTied g began told ends_began ends t → (IsTied s began told ends_began ends t × ⊤ → IsTied s' began told' ends_began ends' u) →
     IsTied g began told' ends_began ends' u
 tied-on g s s' began told told' ends_began ends ends' t u is same h f =
     subst (λ z. IsTied z began told' ends_began ends' u) (same ∙ is) (f (subst (λ z. IsTied z began told ends_began ends t) (sym is) h, tt))
+
+-- So it is of one more turn, or of a part of one.
+pub tied-next : {P S : Type 0} {R : State → Trace → State → Type 0} {After : Trace → State → Type 0} {Tells : Trace → Type 0}
+    (p : port.Ghosts P) (h : scribe.Ghosts S) (is : Point) (failed : Bool) (g : Settings) (old : Seen) (d e : DriveValue) (was now : P)
+    (s s' : S) (turns : ℕ) → (k : Standing g old (seen p h (was, s)) d turns) →
+    (t : DriveWent R After Tells failed d e (h.trace s) (h.trace s') (knows p Point.Between was) (knows p is now) (p.faults was) (p.faults now)) →
+    IsTied g old.told (p.told now) old.ends (p.ends now) (k.0.added ++ t.added)
+tied-next p h is failed g old d e was now s s' turns k t =
+    tied-on g d.state.settings e.state.settings old.told (p.told was) (p.told now) old.ends (p.ends was) (p.ends now) k.0.added
+    (k.0.added ++ t.added) k.0.settings t.settings k.0.tied (λ x. (t.told (Question.Tied old.told old.ends) k.0.added k.1 x).0)
 
 pub same-fault : {T : Type 0} {f h : DriveFault} → ◌≡◌ {A = Result T DriveFault} (Err f) (Err h) → f ≡ h
 same-fault k = cc k

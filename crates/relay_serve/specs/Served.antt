@@ -35,10 +35,11 @@ pub record BeganSo (route : Route) (old : Seen) (told : PortTold) (ends : SideId
   pub told_of_start : StartedAt old.told told route.listen route.to
   pub ends_stay : AllWent old.ends ends (λ _. no_step)
 
--- The run made this trace, which stands behind what the scribe had; a relay with these settings and hooks made it, and ended with this answer.
--- The port was started with the addresses, and is tied to the trace since then. The counts of its faults rose exactly where the trace
+-- The run made this trace, which stands behind what the scribe had; a relay with these settings and hooks made it, and ended with this
+-- answer. The port was started with the addresses, and is tied to the trace since then. The counts of its faults rose exactly where the trace
 -- tells of a fault, and that of its listener where this says so.
-pub record IsServed (route : Route) (hooks : List SideId) (answer : TurnAnswer) (open_failed : Bool) (old new : Seen) (t : Trace) (links : List LinkCount) : Type 0 where
+pub record IsServed (route : Route) (hooks : List SideId) (answer : TurnAnswer) (open_failed : Bool) (old new : Seen) (t : Trace)
+    (links : List LinkCount) : Type 0 where
   pub list : Grew old.log new.log t
   pub relayed : IsRelayed (settings_on route hooks) answer t links
   pub began : PortTold
@@ -67,7 +68,8 @@ EndedAs route hooks status.Ok old new t links = IsServed route hooks TurnAnswer.
 EndedAs route hooks status.PollFault old new t links =
     IsServed route hooks TurnAnswer.PollFault false old new t links × Rose old.faults.polling new.faults.polling
 EndedAs route hooks status.OpenFault old new t links =
-    (IsServed route hooks TurnAnswer.OpenFault true old new t links ⊎ ((t ≡ []) × IsServed route hooks TurnAnswer.Went true old new t links))
+    (IsServed route hooks TurnAnswer.OpenFault true old new t links
+    ⊎ ((t ≡ []) × IsServed route hooks TurnAnswer.Went true old new t links))
     × Rose old.faults.listener new.faults.listener
 EndedAs route hooks status.Spent old new t links = IsServed route hooks TurnAnswer.Went false old new t links × IsWornOut t
 EndedAs route hooks (status.Stopped link turn) old new t links =

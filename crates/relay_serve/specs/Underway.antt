@@ -59,7 +59,8 @@ TurnsCut fault.Spent g old new s = (went : TurnsWent g StandsBetween false old n
 TurnsCut why g old new s = TurnsWent g (LeftFor (turn_answer_of why)) (is_open_fault why) old new s
 
 -- turns were made until all was served, or until one was stopped or refused
-abbrev pub TurnsGo : {P S : Type 0} → port.Ghosts P → scribe.Ghosts S → Result ServeEnd DriveFault → DriveValue × P × S → DriveValue × P × S → Type 0
+abbrev pub TurnsGo : {P S : Type 0} → port.Ghosts P → scribe.Ghosts S → Result ServeEnd DriveFault → DriveValue × P × S →
+    DriveValue × P × S → Type 0
 TurnsGo p h result old new =
     let g : Settings = old.0.state.settings in
     let before : Seen = seen p h (old.1, old.2) in
@@ -74,7 +75,8 @@ ended_as (Err why) = status_of why
 
 -- A run came to this, with the lines of the relay's report.
 abbrev pub RanTo : Route → List SideId → Status → Seen → Seen → State → Type 0
-RanTo route hooks status.Memory old new s = (t : Trace) × IsServed route hooks TurnAnswer.Memory false old new t (lines_below s s.plain.opened)
+RanTo route hooks status.Memory old new s =
+    (t : Trace) × IsServed route hooks TurnAnswer.Memory false old new t (lines_below s s.plain.opened)
 RanTo route hooks ended old new s = (t : Trace) × EndedAs route hooks ended old new t (lines_below s s.plain.opened)
 
 -- A report of a run that ended so was written whole, or in part, or not at all where memory ran out.

@@ -1,7 +1,10 @@
 // A drive over real sockets, in one thread. It fails where its turns don't suffice.
+ghost use Rattle.std.specs.Prelude.{◌≡◌, None};
+ghost use Rattle.relay_drive.specs.Seats.{AreSeated};
+
 use ev_port::{Addr, Mute, Port, Started};
 use mio_port::MioPort;
-use relay_drive::{Drive, DriveFault, Settings};
+use relay_drive::{Drive, DriveFault, Seats, Settings};
 use std::io;
 use std::io::{Read, Write};
 use std::net::{Ipv4Addr, Shutdown, SocketAddr, TcpListener, TcpStream};
@@ -14,13 +17,16 @@ const MOST_TURNS: u32 = 1000;
 #[derive(Drop)]
 struct Run<'a> {
     drive: Drive,
+    seats: Seats,
     port: MioPort<'a, HostRuntime>,
     scribe: Mute,
+    ghost seated: { drive.kept ≡ None → AreSeated drive.state seats.hooks.items seats.gone.items },
 }
 
 impl Run<'_> {
     fn turn(&mut self) -> Result<(), Fail> {
-        self.drive.turn(&mut self.port, &mut self.scribe)?;
+        self.drive
+            .turn(&mut self.seats, &mut self.port, &mut self.scribe)?;
         Ok(())
     }
 
@@ -68,8 +74,10 @@ fn addr_here(port: u16) -> Addr {
 }
 
 fn new_run(rt: &HostRuntime) -> Result<Run<'_>, DriveFault> {
+    let seats = Seats::new(rt.alloc(), Vec::new(rt.alloc()))?;
     Ok(Run {
-        drive: Drive::new(rt.alloc(), Settings::usual())?,
+        drive: Drive::new(rt.alloc(), Settings::usual(), &seats)?,
+        seats,
         port: MioPort::new(rt),
         scribe: Mute::new(),
     })

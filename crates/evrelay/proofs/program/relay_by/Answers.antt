@@ -1,13 +1,16 @@
 use Rattle.std.proofs.Common.{List, map, string_bytes, refl, inr, [], subst}
 use Rattle.ev_types.specs.Trace.{Trace}
 use Rattle.ev_types.specs.declared.entry.Entry.{Entry}
+use Rattle.ev_types.specs.declared.side.SideId.{SideId}
 use Rattle.ev_types.specs.declared.status.Status.TheVariants as status
 use Rattle.command_words.specs.ServeGrammar.{serve_words_of}
 use Rattle.command_words.specs.declared.fault.WordsFault.TheVariants as words
+use Rattle.relay_drive.specs.Seats.{seated_sides}
 use Rattle.relay_serve.specs.Seen.{drained}
 use Rattle.relay_serve.specs.Served.{DidWith}
 use Rattle.relay_serve.proofs.EndLemmas.{words-ended}
 use Rattle.evrelay.specs.Program.{seen_by, Says}
+use Rattle.evrelay.proofs.ProgramLemmas.{none-seated}
 use Rattle.evrelay.proofs.program.relay_by.Goals as goal
 
 -- There is no memory for the ring, and nothing was done.
@@ -17,7 +20,7 @@ returns-in_default g c = record {
     status.Memory,
     [],
     c.finish.ensures.number,
-    words-ended (serve_words_of (map string_bytes c.args.words.now)) words.Memory (seen_by g.P.Port c.args.port.now [])
+    words-ended (serve_words_of (map string_bytes c.args.words.now)) [] words.Memory (seen_by g.P.Port c.args.port.now [])
         (drained g.K.Sink c.args.sink.now) (λ e. absurd (cc)),
     ((λ e. refl), (λ e. refl)),
     inr (inr c.finish.ensures.line),
@@ -25,13 +28,15 @@ returns-in_default g c = record {
   );
 }
 
--- The ring began with no entry, and what it shows are the last entries of the trace that it was told.
+-- The ring began with no entry, no side had a hook, and what the ring shows are the last entries of the trace that it was told.
 pub returns : goal.returns
 returns g c =
     let port = g.P.Port in
     let ended = c.serve-ended.result in
     let ring = c.serve-ended.new.scribe in
     let route = serve_words_of (map string_bytes c.args.words.now) in
+    let hooks = seated_sides c.new-2.result.items in
+    let now = seen_by port c.serve-ended.new.port ring.told.trace in
     let before = drained g.K.Sink c.args.sink.now in
     let after = drained g.K.Sink c.serve-ended.new.sink in
     let taken = g.E.Sink.taken in
@@ -41,8 +46,10 @@ returns g c =
         ended,
         ring.told.trace,
         c.say.ensures.number,
-        subst (λ (t : Trace). DidWith route ended (seen_by port c.args.port.now t) (seen_by port c.serve-ended.new.port ring.told.trace) before after)
-            c.in-Ok.ensures c.serve-ended.ensures.did,
+        subst (λ (sides : List SideId). DidWith route sides ended (seen_by port c.args.port.now []) now before after)
+            (none-seated c.new-2.result.items c.new-2.ensures.items)
+            (subst (λ (t : Trace). DidWith route hooks ended (seen_by port c.args.port.now t) now before after)
+            c.in-Ok.ensures c.serve-ended.ensures.did),
         (c.serve-ended.ensures.unwritten, c.serve-ended.ensures.write_calm),
         subst (λ (es : List Entry). Says ended es (taken c.args.errors.now) (taken c.say.new.errors) (faults c.args.errors.now) (faults c.say.new.errors))
             ring.kept c.say.ensures.said,

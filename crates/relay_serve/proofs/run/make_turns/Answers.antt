@@ -1,20 +1,85 @@
-use Rattle.std.proofs.Common.{◌≡◌, ◌++◌, false, refl}
+use Rattle.std.proofs.Common.{◌≡◌, ◌+◌, ◌-◌, ◌^◌, min, Ok, None, false, ◌∙◌, ap, arith}
 use Rattle.relay_model.specs.Settings.{Settings, settings_with}
-use Rattle.relay_drive.specs.DriveValue.{is_worn}
-use Rattle.relay_drive.specs.Known.{Question}
+use Rattle.relay_drive.specs.DriveValue.{DriveValue, is_worn, kept_of}
+use Rattle.relay_drive.specs.Known.{Point}
 use Rattle.relay_drive.specs.Seats.{seated_sides}
-use Rattle.relay_drive.specs.declared.fault.TurnEnd.TheVariants as end
 use Rattle.program_end.proofs.TurnCountLemmas.{BeginsOnce, end-begins, cut-begins}
 use Rattle.relay_serve.specs.Seen.{Seen, seen}
 use Rattle.relay_serve.specs.Underway.{TurnsCut, TurnsEnd}
 use Rattle.relay_serve.specs.declared.run.ServeEnd.TheVariants as serve_end
-use Rattle.relay_serve.proofs.TurnsLemmas.{stands-new, stands-next, turns-next, told-next, cut-spent, cut-else, tied-on, unworn, either, same-fault}
+use Rattle.relay_serve.proofs.TurnsLemmas.{stands-new, stands-next, stopped-next, turns-next, tied-next, cut-spent, cut-else}
+use Rattle.relay_serve.proofs.TurnsLemmas.{unworn, either, same-fault}
 use Rattle.relay_serve.proofs.run.make_turns.Goals as goal
 
 pub loop-init : goal.loop-init
-loop-init g c =
-    rw c.requires.new_drive (record {
-      calm = refl;
-      seated = c.requires.seated;
-      went = stands-new c.args.settings.now (seated_sides c.args.seats.now.hooks.items) (seen g.P.Port g.S.Scribe (c.args.port.now, c.args.scribe.now));
-    })
+loop-init g c = record {
+  calm = ap (λ (d : DriveValue). d.kept) c.requires.new_drive;
+  seated = c.requires.seated;
+  went = rw c.requires.new_drive
+      (stands-new c.args.settings.now (seated_sides c.args.seats.now.hooks.items)
+      (seen g.P.Port g.S.Scribe (c.args.port.now, c.args.scribe.now)));
+}
+
+pub loop-preserved : goal.loop-preserved
+loop-preserved g c =
+    let inv = c.loop.invariant in
+    let old : Seen = seen g.P.Port g.S.Scribe (c.args.port.now, c.args.scribe.now) in
+    let mid : Seen = seen g.P.Port g.S.Scribe (c.loop.port, c.loop.scribe) in
+    let new : Seen = seen g.P.Port g.S.Scribe (c.turn.new.port, c.turn.new.scribe) in
+    let model : Settings = settings_with c.args.settings.now (seated_sides c.args.seats.now.hooks.items) in
+    let fresh : is_worn c.loop.drive ≡ false =
+    unworn (is_worn c.loop.drive) (λ h. let k = c.in-Ok-Went.ensures.spent inv.calm h in absurd (cc)) in
+    let w = c.in-Ok-Went.ensures.went inv.calm fresh in
+    let tied = tied-next g.P.Port g.S.Scribe Point.Accepted _ model old c.loop.drive c.turn.new.self c.loop.port c.turn.new.port c.loop.scribe
+    c.turn.new.scribe c.loop.turns inv.went w in
+    let more : c.saturating_add-turns.result ≡ min (c.loop.turns + 1) (2 ^ 32 - 1) = omega (arith, c.saturating_add-turns.ensures) in
+    let once : BeginsOnce w.added = end-begins c.in-Ok-Went.field-0 c.loop.drive.state c.turn.new.self.state w.added w.does in
+    let calm : c.turn.new.self.kept ≡ None = c.in-Ok-Went.ensures.answer ∙ ap (λ x. kept_of (Ok x)) c.in-Ok-Went.field-0-is in
+    record {
+      calm = calm;
+      seated = c.in-Ok-Went.ensures.seated calm;
+      went = stands-next c.in-Ok-Went.field-0 model old mid new c.loop.drive c.turn.new.self c.loop.turns c.saturating_add-turns.result _ _
+          c.in-Ok-Went.field-0-is inv.went w once tied more;
+    }
+
+-- A hook stopped the last turn.
+pub returns-in-Ok-Stopped : goal.returns-in-Ok-Stopped
+returns-in-Ok-Stopped g c =
+    let inv = c.loop.invariant in
+    let old : Seen = seen g.P.Port g.S.Scribe (c.args.port.now, c.args.scribe.now) in
+    let mid : Seen = seen g.P.Port g.S.Scribe (c.loop.port, c.loop.scribe) in
+    let new : Seen = seen g.P.Port g.S.Scribe (c.turn.new.port, c.turn.new.scribe) in
+    let model : Settings = settings_with c.args.settings.now (seated_sides c.args.seats.now.hooks.items) in
+    let fresh : is_worn c.loop.drive ≡ false =
+    unworn (is_worn c.loop.drive) (λ h. let k = c.in-Ok-Stopped.ensures.spent inv.calm h in absurd (cc)) in
+    let w = c.in-Ok-Stopped.ensures.went inv.calm fresh in
+    let tied = tied-next g.P.Port g.S.Scribe Point.Accepted _ model old c.loop.drive c.turn.new.self c.loop.port c.turn.new.port c.loop.scribe
+    c.turn.new.scribe c.loop.turns inv.went w in
+    let more : c.saturating_add-turns.result ≡ min (c.loop.turns + 1) (2 ^ 32 - 1) = omega (arith, c.saturating_add-turns.ensures) in
+    let link = c.in-Ok-Stopped.link in
+    let once : BeginsOnce w.added = end-begins c.in-Ok-Stopped.field-0 c.loop.drive.state c.turn.new.self.state w.added w.does in
+    let last : TurnsEnd (serve_end.Stopped link c.saturating_add-turns.result) model old new c.turn.new.self.state =
+    stopped-next c.in-Ok-Stopped.field-0 link model old mid new c.loop.drive c.turn.new.self c.loop.turns c.saturating_add-turns.result _ _
+    c.in-Ok-Stopped.field-0-is inv.went w once tied more in
+    rw c.requires.new_drive last
+
+-- The last turn was refused.
+pub returns-in-Err : goal.returns-in-Err
+returns-in-Err g c =
+    let inv = c.loop.invariant in
+    let went = inv.went.0 in
+    let old : Seen = seen g.P.Port g.S.Scribe (c.args.port.now, c.args.scribe.now) in
+    let mid : Seen = seen g.P.Port g.S.Scribe (c.loop.port, c.loop.scribe) in
+    let new : Seen = seen g.P.Port g.S.Scribe (c.turn.new.port, c.turn.new.scribe) in
+    let model : Settings = settings_with c.args.settings.now (seated_sides c.args.seats.now.hooks.items) in
+    let cut : TurnsCut c.in-Err.fault model old new c.turn.new.self.state =
+    either (is_worn c.loop.drive)
+    (λ worn. let k = c.in-Err.ensures.spent inv.calm worn in
+    cut-spent model old mid new c.loop.drive c.turn.new.self.state c.in-Err.fault went inv.went.1 worn
+    (λ i. seen g.P.Port g.S.Scribe (k.2 i, k.3 i)) k.1 (same-fault k.0))
+    (λ fresh. let w = c.in-Err.ensures.went inv.calm fresh in
+    let tied = tied-next g.P.Port g.S.Scribe Point.Accepting _ model old c.loop.drive c.turn.new.self c.loop.port c.turn.new.port c.loop.scribe
+    c.turn.new.scribe c.loop.turns inv.went w in
+    cut-else c.in-Err.fault model old new c.turn.new.self.state c.loop.drive.state w.added w.does
+    (turns-next _ model old mid new c.loop.drive c.turn.new.self _ _ went w (cut-begins w.does) tied)) in
+    rw c.requires.new_drive cut

@@ -1,4 +1,4 @@
-use Rattle.std.proofs.Common.{◌≡◌, None, false}
+use Rattle.std.proofs.Common.{◌≡◌, None}
 use Rattle.relay_model.specs.Settings.{settings_with}
 use Rattle.relay_drive.specs.Seats.{seated_sides, AreSeated}
 use Rattle.relay_serve.specs.Seen.{seen}
