@@ -1,5 +1,5 @@
 -- Fires in a row, with their entries behind the trace of a scribe, and what hooks tell of them.
-use Rattle.std.proofs.Common.{◌≡◌, ◌≢◌, ℕ, ◌+◌, ◌≤◌, Bool, true, false, List, [], ◌∷◌, ◌++◌, length, Option, Some, None, refl, sym, ◌∙◌, ap, subst}
+use Rattle.std.proofs.Common.{◌≡◌, ◌≢◌, ◌+◌, ◌≤◌, Bool, true, false, List, [], ◌∷◌, ◌++◌, length, Option, Some, None, refl, sym, ◌∙◌, ap, subst}
 use Rattle.std.proofs.Common.{arith, length-append}
 use Rattle.std.specs.List.{All}
 use Rattle.std.proofs.lemmas.List.Elements.{All-head}
@@ -11,14 +11,14 @@ use Rattle.ev_types.specs.Trace.{Event, Trace}
 use Rattle.ev_port.specs.Counting.{counted}
 use Rattle.relay_model.specs.Due.{Reason}
 use Rattle.relay_model.specs.Plain.{is_live}
-use Rattle.relay_state.specs.Asking.{dispatching, left_to_fire, AsksAll, Fires, FiresSome, Dispatches, StopsAt}
+use Rattle.relay_state.specs.Asking.{dispatching, left_to_fire, AsksAll, Fires, FiresSome, StopsAt}
 use Rattle.relay_state.specs.State.{State}
 use Rattle.relay_model.specs.Stages.{Stage}
 use Rattle.relay_steps.specs.Meaning.{StandsFor}
 use Rattle.relay_steps.specs.ToFire.{IsHooked, ReasonOf}
 use Rattle.relay_steps.proofs.HookedSteps.{waits_are_hooked}
 use Rattle.relay_drive.specs.declared.run.Run.{Run}
-use Rattle.relay_drive.specs.DispatchPhase.{DispatchesAll, FiresShort, CutFire, CutDispatch}
+use Rattle.relay_drive.specs.DispatchPhase.{DispatchesAll, CutFire, CutDispatch}
 use Rattle.relay_drive.specs.DispatchPhase.CutFire.{no_room, in_fire}
 use Rattle.relay_drive.specs.Fired.{HasFired, FiredAs, FiresAny}
 use Rattle.relay_drive.specs.Seats.{Telling, SeatFired}
@@ -68,19 +68,22 @@ module _ {H : Type 0} {tells : Telling H} (stopped : Bool) (short : Option SideI
     (fired : HasFired e y m1 new l1 l') (seat : SeatFired tells ok live e y new.relay.log hooks gone hooks' gone')
     (other : short ≢ Some e → ok ≡ true) (stops : new.relay.stopped ≡ stopped) where
   pub fire : FiresAt stopped e m.relay.state ((entry.Fired e y, []) ∷ new.relay.log) new.relay.state
-  fire = (record {
-    side = e;
-    reason = y;
-    rest = rest;
-    first = first;
-    live = lives;
-    asks = fired.step.asked;
-    few = fired.step.few;
-    behind = new.relay.log;
-    does = subst (λ z. AsksAll e fired.step.asked z new.relay.log new.relay.state) taken fired.step.does;
-    entries = refl;
-    stops = sym stops ∙ fired.step.stopped;
-  }, refl)
+  fire = (
+    record {
+      side = e;
+      reason = y;
+      rest = rest;
+      first = first;
+      live = lives;
+      asks = fired.step.asked;
+      few = fired.step.few;
+      behind = new.relay.log;
+      does = subst (λ z. AsksAll e fired.step.asked z new.relay.log new.relay.state) taken fired.step.does;
+      entries = refl;
+      stops = sym stops ∙ fired.step.stopped;
+    },
+    refl,
+  )
 
   event : Event
   event = (entry.Fired e y, [])
@@ -111,9 +114,11 @@ fired-no_room {tells = tells} m new l l' rest hooks gone state entries grew = re
 -- what some fires and one thing more are
 
 pub to-more : (e : SideId) (s new : State) (a : Trace) → Then FiresAny (FiresAt false e) s a new → FiresAny s a new
-to-more e s new a h =
-    (h.first.0 + 1, subst (λ z. FiresSome (h.first.0 + 1) (dispatching s) z new) (sym h.joined)
-    (fires-more h.first.0 (dispatching s) h.middle new h.front h.back h.first.1 h.second.0))
+to-more e s new a h = (
+  h.first.0 + 1,
+  subst (λ z. FiresSome (h.first.0 + 1) (dispatching s) z new) (sym h.joined)
+      (fires-more h.first.0 (dispatching s) h.middle new h.front h.back h.first.1 h.second.0),
+)
 
 pub to-stop : (e : SideId) (s new : State) (a : Trace) → Then FiresAny (FiresAt true e) s a new → StopsAt e.link s a new
 to-stop e s new a h = record {

@@ -1,21 +1,22 @@
 -- Hooks of which none was called yet are seated, for the sides of the slots that are taken.
 use Rattle.std.proofs.Common.{◌≡◌, inl, inr, ℕ, zero, suc, ◌+◌, ◌<◌, ◌≤◌, Bool, true, false, ◌&&◌, ◌||◌, nat_lt, if◌then◌else◌, List}
-use Rattle.std.proofs.Common.{[], ◌∷◌, length, Option, Some, None, refl, sym, ◌∙◌, ap, subst, arith}
+use Rattle.std.proofs.Common.{[], ◌∷◌, length, Option, Some, None, refl, sym, ◌∙◌, ap, subst, arith, get_or}
 use Rattle.std.specs.Prelude.{filter, is_some}
 use Rattle.std.specs.List.{list_any}
 use Rattle.std.specs.Option.{option_or}
 use Rattle.std.proofs.lemmas.Bool.{ltb-false, ltb-true, cases_lt}
-use Rattle.std.proofs.lemmas.List.{get_or_past}
+use Rattle.std.proofs.lemmas.List.{get_or_past, length-map}
 use Rattle.ev_types.specs.declared.settings.Settings.{Settings}
 use Rattle.ev_types.specs.declared.side.Side.{Side}
 use Rattle.ev_types.specs.declared.side.Side.TheVariants.{In, Out}
 use Rattle.ev_types.specs.declared.side.SideId.{SideId}
 use Rattle.ev_types.specs.Sides.{number, same_end}
 use Rattle.relay_model.proofs.EndLemmas.{same_end-eq, same_end-refl}
-use Rattle.relay_model.specs.Plain.{sides_from}
+use Rattle.relay_model.specs.Plain.{sides_from, sides_where}
 use Rattle.relay_state.specs.Closing.{in_side, out_side}
+use Rattle.relay_waits.specs.WaitsValue.{hooks_of}
 use Rattle.relay_drive.specs.DriveValue.{new_drive}
-use Rattle.relay_drive.specs.Seats.{hook_at, seat, seated_sides, AreFresh, AreSeated}
+use Rattle.relay_drive.specs.Seats.{hook_at, seat, seated_sides, slots_taken, AreFresh, AreSeated}
 
 -- Sides in a list
 
@@ -124,3 +125,14 @@ fresh-seated settings hooks gone h =
   where
     seat-is : (e : SideId) → seat hooks gone (number e) ≡ hook_at hooks (number e)
     seat-is e = ap (λ o. option_or (hook_at hooks (number e)) o) (h.none (number e)) ∙ or-none (hook_at hooks (number e))
+
+-- By slots that are taken the sides are the same.
+taken-at : {H : Type 0} (hooks : List (Option H)) (n : ℕ) → get_or (slots_taken hooks) n false ≡ is_some (hook_at hooks n)
+taken-at [] n = refl
+taken-at (x ∷ hooks) zero = refl
+taken-at (x ∷ hooks) (suc n) = taken-at hooks n
+
+pub taken-hooks : {H : Type 0} (hooks : List (Option H)) → hooks_of (slots_taken hooks) ≡ seated_sides hooks
+taken-hooks hooks =
+    let many = length-map hooks is_some in
+    λ i. sides_where (λ e. taken-at hooks (number e) i) (many i)

@@ -1,5 +1,5 @@
 -- A relay in which no link was opened stands for the trace of no entries, where no side has a group.
-use Rattle.std.proofs.Common.{◌≡◌, ◌<◌, None, Some, refl, arith, []}
+use Rattle.std.proofs.Common.{◌≡◌, None, Some, refl, arith, []}
 use Rattle.relay_model.specs.Settings.{Settings}
 use Rattle.relay_model.specs.Stages.{Stage}
 use Rattle.relay_model.specs.Turn.{Reaches}

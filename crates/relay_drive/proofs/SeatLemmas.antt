@@ -22,7 +22,7 @@ use Rattle.relay_model.specs.Due.{Reason}
 use Rattle.relay_model.specs.Hooked.{asked_in}
 use Rattle.relay_model.specs.Plain.{is_live}
 use Rattle.relay_model.specs.Reasons.{has_hook}
-use Rattle.relay_state.specs.Asking.{AsksAll, Fires, FiresSome, left_to_fire}
+use Rattle.relay_state.specs.Asking.{Fires, FiresSome, left_to_fire}
 use Rattle.relay_state.specs.State.{State}
 use Rattle.relay_drive.specs.Seats.{hook_at, seat, Telling, TellsMore, HooksTell, AreSeated}
 use Rattle.relay_drive.proofs.DispatchLemmas.{AllOwn, asks-do}

@@ -1,15 +1,15 @@
 -- Links that asks change are looked at again, so that what was found of all others still holds.
-use Rattle.std.proofs.Common.{◌≡◌, ℕ, ◌+◌, ◌<◌, ◌≤◌, false, List, [], ◌∷◌, length, drop, get_or, refl, sym, subst, ap, arith}
+use Rattle.std.proofs.Common.{◌≡◌, ℕ, ◌+◌, ◌<◌, ◌≤◌, false, List, [], ◌∷◌, length, drop, get_or, sym, subst, arith}
 use Rattle.std.proofs.lemmas.List.{drop_more, drop_all}
 use Rattle.std.specs.List.{All}
 use Rattle.std.proofs.lemmas.List.Elements.{All-nil, All-cons, All-head}
 use Rattle.ev_types.specs.declared.entry.Entry.{Entry}
-use Rattle.ev_types.specs.Trace.{Event, Trace}
+use Rattle.ev_types.specs.Trace.{Trace}
 use Rattle.number_set.specs.Numbers.{NumberSetValue}
 use Rattle.relay_core.specs.Fires.{events_of}
 use Rattle.relay_state.specs.State.{State}
 use Rattle.relay_drive.specs.declared.agenda.Agenda.{Agenda}
-use Rattle.relay_drive.specs.Agenda.{HoldsBeside, IsKept, IsNamed, IsNamedRight, IsGone, KeepsNames}
+use Rattle.relay_drive.specs.Agenda.{HoldsBeside, IsKept, IsNamedRight, IsGone, KeepsNames}
 use Rattle.relay_drive.specs.Asked.{IsAskedElsewhere, LeavesOut, TouchedAsked}
 use Rattle.relay_drive.specs.Links.{SameLink, IsStill, IsSettled}
 use Rattle.relay_drive.proofs.AgendaLemmas.{gone-same, named-same}
@@ -29,10 +29,12 @@ pub rest-next : (log : List Entry) (i opened : ℕ) (x : Entry) (old mid new : N
 rest-next log i opened x old mid new within at h one k lt out =
     let step = one k lt out in
     let before = h k lt step.0 in
-    let elsewhere : IsAskedElsewhere k (x, []) = All-head (IsAskedElsewhere k) (x, []) [] step.1 in
-    (before.0, λ later. before.1 (subst (λ xs. All (IsAskedElsewhere k) (events_of xs)) (sym (drop_more log i x within))
-    (subst (λ y. All (IsAskedElsewhere k) ((y, []) ∷ events_of (drop (i + 1) log))) (sym at)
-    (All-cons (IsAskedElsewhere k) (x, []) (events_of (drop (i + 1) log)) elsewhere later))))
+    let elsewhere : IsAskedElsewhere k (x, []) = All-head (IsAskedElsewhere k) (x, []) [] step.1 in (
+      before.0,
+      λ later. before.1 (subst (λ xs. All (IsAskedElsewhere k) (events_of xs)) (sym (drop_more log i x within))
+          (subst (λ y. All (IsAskedElsewhere k) ((y, []) ∷ events_of (drop (i + 1) log))) (sym at)
+          (All-cons (IsAskedElsewhere k) (x, []) (events_of (drop (i + 1) log)) elsewhere later))),
+    )
 
 pub rest-ends : (log : List Entry) (i opened : ℕ) (old new : NumberSetValue) → length log ≤ i → LeavesRest log i opened old new →
     LeavesOut (events_of log) opened old new

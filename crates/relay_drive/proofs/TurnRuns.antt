@@ -1,5 +1,5 @@
 -- A turn's parts one behind another: what of them stands between the calls of the port, and how far a turn that is cut off has come.
-use Rattle.std.proofs.Common.{◌≡◌, ℕ, [], ◌∷◌, Bool, false, List, Option, refl, sym, append-nil}
+use Rattle.std.proofs.Common.{ℕ, [], ◌∷◌, Bool, false, List, Option, refl, sym, append-nil}
 use Rattle.ev_types.specs.declared.entry.Entry.{Entry}
 use Rattle.ev_types.specs.declared.side.SideId.{SideId}
 use Rattle.ev_types.specs.Told.{EndTold, PortTold}
@@ -9,7 +9,6 @@ use Rattle.ev_port.specs.Faults.{Faults}
 use Rattle.ev_port.specs.Vouching.{LongerBy}
 use Rattle.ev_port.specs.declared.port.Want.{Want}
 use Rattle.relay_state.specs.State.{State}
-use Rattle.relay_state.specs.Asking.{StopsAt}
 use Rattle.relay_drive.specs.declared.run.Run.{Run}
 use Rattle.relay_drive.specs.Advances.{Advances}
 use Rattle.relay_drive.specs.Agenda.{PollsAndAcceptsListed}

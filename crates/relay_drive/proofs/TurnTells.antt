@@ -1,8 +1,7 @@
 -- What hooks tell of a whole turn: its dispatch alone puts entries of theirs. And what a turn is, from what is done in front of dispatch, in
 -- it and behind it.
-use Rattle.std.proofs.Common.{◌≡◌, inl, inr, ◌++◌, [], None, List, Option, refl, sym, ◌∙◌, ap, subst, append_assoc, append-nil}
+use Rattle.std.proofs.Common.{inl, inr, ◌++◌, [], None, List, Option, refl, sym, ◌∙◌, ap, subst, append_assoc, append-nil}
 use Rattle.ev_types.specs.Trace.{Trace}
-use Rattle.ev_port.specs.declared.port.Want.{Want}
 use Rattle.relay_steps.specs.Meaning.{StandsFor}
 use Rattle.relay_model.specs.Stages.{Stage}
 use Rattle.relay_state.specs.State.{State}
@@ -10,18 +9,18 @@ use Rattle.relay_drive.specs.declared.fault.DriveFault.{DriveFault}
 use Rattle.relay_drive.specs.declared.fault.DriveFault.TheVariants as fault
 use Rattle.relay_drive.specs.Calls.{Ticks}
 use Rattle.relay_drive.specs.Phases.{PollsAndAccepts, ServesSide, ServedThen, PassesAndCloses, CutStart, CutFinish, CutTurn, Turns, DispatchesAll}
-use Rattle.relay_drive.specs.Phases.{CutDispatch, CutServing, CutPolling, ForAllLinks, CutForAllLinks, PassesLink, CutPassingLink, ClosesLink}
+use Rattle.relay_drive.specs.Phases.{CutDispatch, CutPolling, ForAllLinks, CutForAllLinks, PassesLink, CutPassingLink, ClosesLink}
 use Rattle.relay_drive.specs.Phases.{CutClosingLink}
 use Rattle.relay_drive.specs.Phases.CutStart.{begin_before, begin_in_poll, begin_in_serving}
 use Rattle.relay_drive.specs.Phases.CutTurn.{before, in_poll, in_serving, in_dispatch, in_passing, in_closing}
 use Rattle.relay_drive.specs.Seats.{Telling, HooksTell, HooksTellBut}
-use Rattle.relay_drive.specs.Steps.{Nothing, Then, Each, CutAt, Told}
-use Rattle.relay_drive.proofs.FreedStays.{Stays, StaysBare, StaysBy, bare-then, then-stays, ticks-stay, polls_and_accepts-stay, serving-stays}
+use Rattle.relay_drive.specs.Steps.{Nothing, Then, Each, Told}
+use Rattle.relay_drive.proofs.FreedStays.{StaysBy, then-stays, ticks-stay, polls_and_accepts-stay, serving-stays}
 use Rattle.relay_drive.proofs.FreedStays.{nothing-stays, passing-stays, closing-stays}
 use Rattle.relay_drive.proofs.HookEvents.{IsUnhooked, Unhooks, nothing-unhooks, then-unhooks, ticks-unhook, polls_and_accepts-unhook}
 use Rattle.relay_drive.proofs.HookEvents.{serving-unhooks, serving_cut-unhooks, cut_polling-unhooks, passing-unhooks, passing_cut-unhooks}
 use Rattle.relay_drive.proofs.HookEvents.{closing-unhooks, closing_cut-unhooks}
-use Rattle.relay_drive.proofs.HookTells.{tells-none, tells-then, tells-but, tells-then_but, tells-but_then}
+use Rattle.relay_drive.proofs.HookTells.{tells-none, tells-then, tells-then_but, tells-but_then}
 use Rattle.relay_drive.proofs.MeantTurn.{prefix-stands}
 
 -- In front of dispatch
@@ -169,14 +168,20 @@ module _ {H : Type 0} (tells : Telling H) (hooks gone : List (Option H)) where
   start-cut f s new a (begin_before h) = (before h, (None, tells-none tells None hooks gone a (nothing-unhooks s new a h)))
   start-cut f s new a (begin_in_poll reading h) = (
     in_poll reading h,
-    (None, tells-none tells None hooks gone a
-    (then-unhooks (Ticks reading) (CutPolling f) (ticks-unhook reading) (cut_polling-unhooks f) s new a h)),
+    (
+      None,
+      tells-none tells None hooks gone a
+          (then-unhooks (Ticks reading) (CutPolling f) (ticks-unhook reading) (cut_polling-unhooks f) s new a h),
+    ),
   )
   start-cut f s new a (begin_in_serving reading marked h) = (
     in_serving reading marked h,
-    (None, tells-none tells None hooks gone a
-    (then-unhooks (Ticks reading) _ (ticks-unhook reading)
-    (then-unhooks (PollsAndAccepts marked) _ (polls_and_accepts-unhook marked) (serving_cut-unhooks marked)) s new a h)),
+    (
+      None,
+      tells-none tells None hooks gone a
+          (then-unhooks (Ticks reading) _ (ticks-unhook reading)
+          (then-unhooks (PollsAndAccepts marked) _ (polls_and_accepts-unhook marked) (serving_cut-unhooks marked)) s new a h),
+    ),
   )
 
   -- in dispatch

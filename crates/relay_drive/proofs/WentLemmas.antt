@@ -1,18 +1,28 @@
 -- What a run does is what its drive does.
-use Rattle.std.proofs.Common.{◌≡◌, Bool, ◌++◌, Option, Result, sym, subst, arith, length-append}
+use Rattle.std.proofs.Common.{◌≡◌, Bool, false, ◌++◌, List, Option, Some, None, Result, Ok, Err, refl, sym, subst, arith, length-append}
 use Rattle.ev_types.specs.AskNumbers.{AsksFit}
 use Rattle.ev_types.specs.Trace.{Trace}
+use Rattle.ev_port.specs.declared.port.Port as port
+use Rattle.ev_port.specs.declared.scribe.Scribe as scribe
 use Rattle.ev_port.specs.Faults.{Faults}
+use Rattle.relay_steps.specs.Meaning.{LeftFor}
+use Rattle.std.specs.Prelude.{IfSome, MatchResult}
 use Rattle.relay_state.specs.State.{State}
 use Rattle.relay_drive.specs.declared.fault.DriveFault.{DriveFault}
 use Rattle.relay_drive.specs.declared.fault.TurnEnd.{TurnEnd}
+use Rattle.relay_drive.specs.declared.fault.TurnEnd.TheVariants as end
 use Rattle.relay_drive.specs.declared.run.Run.{Run}
-use Rattle.relay_drive.specs.DriveValue.{DriveValue}
+use Rattle.relay_drive.specs.DriveValue.{DriveValue, kept_of}
 use Rattle.relay_drive.specs.Advances.{Advances}
-use Rattle.relay_drive.specs.DriveStands.{StandsBetween, DriveWent}
+use Rattle.relay_drive.specs.DriveStands.{StandsBetween, DriveWent, turn_answer_of, turn_end_of}
+use Rattle.relay_drive.specs.Known.{Point}
+use Rattle.relay_drive.specs.Moves.{EndsTold, TurnsTo}
+use Rattle.relay_drive.specs.Phases.{EndsTurn, CutTurn, is_open_fault}
+use Rattle.relay_drive.specs.Seats.{Telling, HooksTell, HooksTellBut}
 use Rattle.relay_drive.specs.Steps.{Told}
 use Rattle.relay_drive.proofs.GoesLemmas.{Known}
-use Rattle.relay_drive.proofs.HookEvents.{asks_fit-append}
+use Rattle.relay_drive.proofs.HookEvents.{asks_fit-append, ends-fit, cut_turn-fits}
+use Rattle.relay_drive.proofs.MeantTurn.{ends-leave, cut_turn_leaves}
 
 -- a run with a kept answer
 abbrev pub drive_value : Run → Option (Result TurnEnd DriveFault) → DriveValue
@@ -61,3 +71,29 @@ went_told {R = R} {Tells = Tells} law fit {run = run} {run' = run'} r r' p q g =
       told = g.told;
       heard = g.heard;
     }) g.does.1
+
+-- So it is of a turn, whatever it answers.
+pub went_all : {P S H : Type 0} (g : port.Ghosts P) (h : scribe.Ghosts S) (tells : Telling H) (result : Result TurnEnd DriveFault)
+    (x x' : Run × P × S) (hooks gone hooks' gone' : List (Option H)) {old new : DriveValue}
+    (r r' : Option (Result TurnEnd DriveFault)) → old ≡ drive_value x.0 r → new ≡ drive_value x'.0 r' →
+    EndsTold g h tells result x x' hooks gone hooks' gone' →
+    MatchResult result (λ end. TurnsTo g h Point.Accepted false (EndsTurn end) (LeftFor (turn_end_of end))
+    (HooksTell tells None hooks gone hooks' gone') (old, x.1, x.2) (new, x'.1, x'.2))
+    (λ fault. TurnsTo g h Point.Accepting (is_open_fault fault) (CutTurn fault) (LeftFor (turn_answer_of fault))
+    (HooksTellBut tells hooks gone hooks' gone') (old, x.1, x.2) (new, x'.1, x'.2))
+went_all g h tells (Ok end) x x' hooks gone hooks' gone' r r' was now told =
+    went_told (ends-leave end) (ends-fit end) {run = x.0} {run' = x'.0} r r' was now told
+went_all g h tells (Err fault) x x' hooks gone hooks' gone' r r' was now told =
+    went_told (cut_turn_leaves fault) (cut_turn-fits fault) {run = x.0} {run' = x'.0} r r' was now told
+
+-- Kept answers
+
+pub kept-twice : (x : Result TurnEnd DriveFault) → IfSome (kept_of x) (λ a. kept_of a ≡ Some a)
+kept-twice (Ok end.Went) = tt
+kept-twice (Ok (end.Stopped link)) = refl
+kept-twice (Err fault) = refl
+
+pub kept-none : (x : Result TurnEnd DriveFault) → kept_of x ≡ None → x ≡ Ok end.Went
+kept-none (Ok end.Went) h = refl
+kept-none (Ok (end.Stopped link)) h = absurd (cc)
+kept-none (Err fault) h = absurd (cc)

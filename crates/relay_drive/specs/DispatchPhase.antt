@@ -1,14 +1,9 @@
 -- Dispatch as relations of the relay's state: all that is due is fired, or a hook stops the run; and where it can be cut off.
-use Rattle.std.specs.Prelude.{◌≡◌, ◌≤◌, ℕ, ◌∷◌, ◌++◌, [], Bool, List, length}
-use Rattle.ev_types.specs.declared.act.Act.{Act}
-use Rattle.ev_types.specs.declared.answer.AskAnswer.{AskAnswer}
-use Rattle.ev_types.specs.declared.entry.Entry.TheVariants as entry
-use Rattle.ev_types.specs.declared.side.SideId.{SideId}
-use Rattle.ev_types.specs.declared.why.Why.{Why}
+use Rattle.std.specs.Prelude.{◌≡◌, ◌≤◌, ℕ, ◌++◌, Bool, List, length}
 use Rattle.ev_types.specs.Trace.{Trace}
 use Rattle.relay_state.specs.State.{State}
 use Rattle.relay_model.specs.Due.{Reason}
-use Rattle.relay_state.specs.Asking.{dispatching, left_to_fire, Fires, FiresSome, Dispatches, StopsAt}
+use Rattle.relay_state.specs.Asking.{dispatching, left_to_fire, Fires, FiresSome, Dispatches}
 use Rattle.relay_drive.specs.Steps.{Nothing}
 
 -- All that is due is fired. No more is due than there are sides with a hook, as no side has two entries.

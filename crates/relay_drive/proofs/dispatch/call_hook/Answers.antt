@@ -1,4 +1,4 @@
-use Rattle.std.proofs.Common.{sym, ◌∙◌, ap, arith, length}
+use Rattle.std.proofs.Common.{ap, arith, length}
 use Rattle.relay_drive.proofs.SeatLemmas.{fire-bare, fire-most, events-length}
 use Rattle.relay_drive.proofs.dispatch.call_hook.Goals as goal
 

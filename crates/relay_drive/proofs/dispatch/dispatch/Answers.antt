@@ -1,12 +1,10 @@
-use Rattle.std.proofs.Common.{◌≡◌, ◌∷◌, ◌++◌, [], ℕ, true, false, Some, None, List, refl, sym, ◌∙◌, ap, subst, arith}
+use Rattle.std.proofs.Common.{◌∷◌, ◌++◌, [], ℕ, true, false, Some, None, refl, sym, ◌∙◌, ap, subst, arith}
 use Rattle.std.specs.List.{All}
 use Rattle.std.proofs.lemmas.Result.{err_from_is_err_and}
 use Rattle.std.proofs.lemmas.List.Elements.{All-cons}
 use Rattle.ev_types.specs.declared.entry.Entry.TheVariants as entry
-use Rattle.ev_types.specs.Trace.{Event, Trace}
-use Rattle.relay_core.specs.Fires.{events_of}
-use Rattle.relay_model.specs.Due.{Reason}
-use Rattle.relay_state.specs.Asking.{Fires, dispatching}
+use Rattle.ev_types.specs.Trace.{Event}
+use Rattle.relay_state.specs.Asking.{dispatching}
 use Rattle.relay_state.specs.State.{State}
 use Rattle.relay_steps.proofs.FireSteps.{fires_are_stood_for}
 use Rattle.relay_steps.proofs.PollSteps.{served-stands}
@@ -15,7 +13,6 @@ use Rattle.relay_steps.specs.Meaning.{StandsFor}
 use Rattle.relay_model.specs.Stages.{Stage}
 use Rattle.relay_drive.specs.Agenda.{IsKept, KeepsNames}
 use Rattle.relay_drive.specs.Asked.{IsAskedElsewhere, TouchedAsked}
-use Rattle.relay_drive.specs.Links.{SameLink}
 use Rattle.relay_drive.specs.Seats.{AreSeated}
 use Rattle.relay_drive.proofs.AgendaLemmas.{kept-same, names-same}
 use Rattle.relay_drive.proofs.AskedLinks.{dispatching-other, fire-other}
@@ -238,16 +235,16 @@ loop-side-preserved g c =
     let opened = (fire-does f.0).0.frame.opened in
     let seat = c.in_ok-fire_next.ensures.seat in
     let same = λ (k : ℕ) (a : All (IsAskedElsewhere k) log).
-        fire-other k f.0 (All-cons (IsAskedElsewhere k) event log (λ p. absurd (cc)) a) in
+    fire-other k f.0 (All-cons (IsAskedElsewhere k) event log (λ p. absurd (cc)) a) in
     let touched = subst (λ n. TouchedAsked log n c.loop-side.agenda c.touch_asked.new.agenda) (c.opened.ensures.count ∙ opened)
-        (subst (λ x. TouchedAsked x c.opened.result c.loop-side.agenda c.touch_asked.new.agenda) c.fired.ensures c.touch_asked.ensures) in
+    (subst (λ x. TouchedAsked x c.opened.result c.loop-side.agenda c.touch_asked.new.agenda) c.fired.ensures c.touch_asked.ensures) in
     record {
       fired = fired-as (λ x q. to-more e _ _ x q)
           (fired-then None inv.fired (fired-step false None true _ m _ c.fire_next.new.run (g.S.Scribe.trace c.loop-side.scribe)
-    (g.S.Scribe.trace c.make_room.new.scribe) (g.S.Scribe.trace c.fire_next.new.scribe) e c.in-Some.why rest
-    c.loop-side.seats.hooks.items c.loop-side.seats.gone.items c.fire_next.new.seats.hooks.items c.fire_next.new.seats.gone.items
-    c.in-Some.ensures.0 (c.make_room.ensures.state ∙ c.in-Some.ensures.1) refl c.make_room.ensures.list hooked.0
-    inv.seated.level c.in_ok-fire_next.ensures.fired c.in_ok-fire_next.ensures.seat (λ q. refl) going));
+          (g.S.Scribe.trace c.make_room.new.scribe) (g.S.Scribe.trace c.fire_next.new.scribe) e c.in-Some.why rest
+          c.loop-side.seats.hooks.items c.loop-side.seats.gone.items c.fire_next.new.seats.hooks.items c.fire_next.new.seats.gone.items
+          c.in-Some.ensures.0 (c.make_room.ensures.state ∙ c.in-Some.ensures.1) refl c.make_room.ensures.list hooked.0
+          inv.seated.level c.in_ok-fire_next.ensures.fired c.in_ok-fire_next.ensures.seat (λ q. refl) going));
       stood = (inv.stood.0 ++ event ∷ log, fires_are_stood_for false inv.stood.0 s new (event ∷ log) inv.stood.1 f.0);
       kept = asked-kept log c.loop-side.agenda c.touch_asked.new.agenda s new opened touched same inv.kept;
       names = λ t h. asked-names log c.loop-side.agenda c.touch_asked.new.agenda s new opened touched same t (inv.names t h);

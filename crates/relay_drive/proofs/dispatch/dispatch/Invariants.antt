@@ -1,4 +1,4 @@
-use Rattle.std.proofs.Common.{◌≡◌, None, length}
+use Rattle.std.proofs.Common.{None, length}
 use Rattle.ev_types.specs.Trace.{Trace}
 use Rattle.relay_model.specs.Stages.{Stage}
 use Rattle.relay_steps.specs.Meaning.{StandsFor}

@@ -1,10 +1,10 @@
-use Rattle.std.proofs.Common.{◌≡◌, ◌+◌, ◌<◌, ◌∷◌, [], ℕ, List, length, drop, refl, sym, ◌∙◌, ap, subst, arith, get_or}
+use Rattle.std.proofs.Common.{◌≡◌, ◌+◌, ◌<◌, ◌∷◌, [], ℕ, List, length, drop, sym, ◌∙◌, ap, subst, arith, get_or}
 use Rattle.std.proofs.lemmas.List.{drop_more, drop_all}
 use Rattle.std.specs.List.{All}
 use Rattle.std.proofs.lemmas.List.Elements.{All-head, All-tail}
 use Rattle.ev_types.specs.declared.entry.Entry.{Entry}
 use Rattle.ev_types.specs.Growth.{Grew}
-use Rattle.ev_types.specs.Trace.{Trace, bytes_beside}
+use Rattle.ev_types.specs.Trace.{bytes_beside}
 use Rattle.relay_core.specs.Fires.{events_of}
 use Rattle.relay_drive.proofs.GoesLemmas.{Grew-none, Grew-join}
 use Rattle.relay_drive.proofs.dispatch.put_all.Goals as goal

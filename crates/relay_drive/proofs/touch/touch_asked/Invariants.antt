@@ -1,8 +1,4 @@
-use Rattle.std.proofs.Common.{◌≡◌, ◌<◌, drop, false, ℕ}
-use Rattle.std.specs.List.{All}
-use Rattle.number_set.specs.Numbers.{NumberSetValue}
-use Rattle.relay_core.specs.Fires.{events_of}
-use Rattle.relay_drive.specs.Asked.{IsAskedElsewhere}
+use Rattle.std.proofs.Common.{◌≡◌}
 use Rattle.relay_drive.proofs.TouchLemmas.{LeavesRest}
 use Rattle.relay_drive.proofs.touch.touch_asked.Given as goal
 

@@ -1,4 +1,4 @@
-use Rattle.std.proofs.Common.{◌≡◌, ℕ, zero, suc, [], ◌∷◌, ◌++◌, List, None, Option, refl, sym, ◌∙◌, ap, subst, arith, length, length-append}
+use Rattle.std.proofs.Common.{◌≡◌, ℕ, zero, suc, [], ◌∷◌, ◌++◌, List, None, Option, refl, ◌∙◌, ap, arith, length, length-append}
 use Rattle.relay_drive.specs.Seats.{hook_at}
 use Rattle.relay_drive.proofs.seats.Seats.new.Goals as goal
 
