@@ -99,8 +99,8 @@ fn lines(alloc: Global, asks: &[(Ask, AskAnswer)]) -> Result<Vec<PlanLine>, NoMe
     ensures { IfOk result (λ lines. All CanPlan lines.items) }
 {
     let mut lines = Vec::new(alloc);
-    for (ask, _) in asks {
-        lines.push(line(*ask))?;
+    for pair in asks {
+        lines.push(line(pair.0))?;
     }
     Ok(lines)
 }
