@@ -1,7 +1,6 @@
 // A hook that closes links which nobody uses: it sets a timer as its link is connected, and each time that comes it looks whether anything
 // was read meanwhile.
-ghost use Rattle.std.specs.Prelude.{◌≡◌, ◌≤◌, None};
-ghost use Rattle.relay_model.specs.Asks.{most_asks};
+ghost use Rattle.std.specs.Prelude.{◌≡◌, None};
 ghost use Rattle.relay_core.specs.Fires.{Steps};
 ghost use Rattle.library_uses.specs.Level.{IsLevel};
 
@@ -105,10 +104,17 @@ fn wait(ctl: &mut Ctl, after: u64) -> Result<(), NoMemory>
     requires { ctl.old.asks ≡ 0 }
     ensures { Steps ctl.old ctl.new }
 {
-    match ctl.add_timer(ctl.me(), after) {
+    match set_timer(ctl, after) {
         Err(AskFault::Memory) => Err(NoMemory),
         _ => Ok(()),
     }
+}
+
+fn set_timer(ctl: &mut Ctl, after: u64) -> Result<(), AskFault>
+    requires { ctl.old.asks ≡ 0 }
+    ensures { Steps ctl.old ctl.new }
+{
+    ctl.add_timer(ctl.me(), after)
 }
 
 // A side that is gone already is as good as freed.
