@@ -1,10 +1,10 @@
 -- A trace for which a relay stands, over the port of a script, is a run of that script.
-use Rattle.std.proofs.Common.{◌≡◌, ◌+◌, [], length, refl, sym, ◌∙◌, ap, subst, arith}
+use Rattle.std.proofs.Common.{◌≡◌, ◌+◌, true, [], length, refl, sym, ◌∙◌, ap, subst, arith}
 use Rattle.ev_types.specs.Trace.{Trace}
 use Rattle.script_text.specs.Script.{ScriptValue}
 use Rattle.script_text.proofs.TraceReadLemmas.{trace_of-trace_text}
 use Rattle.relay_model.specs.Settings as model
-use Rattle.relay_model.specs.Settings.{HasNoHooks, model_settings}
+use Rattle.relay_model.specs.Settings.{model_settings}
 use Rattle.ev_types.specs.declared.settings.Settings.{Settings}
 use Rattle.relay_model.specs.Stages.{Stage, at}
 use Rattle.relay_model.specs.Turn.{Reaches}
@@ -20,16 +20,16 @@ use Rattle.relay_laws.specs.Relayed.{StoodBetween}
 use Rattle.relay_laws.specs.Spelling.{TimeoutsFit, BringsFit}
 use Rattle.relay_laws.proofs.RelayedLemmas.{relayed-of}
 use Rattle.relay_model.proofs.PollLemmas.{polls_fail_as_scripted}
-use Rattle.relay_laws.proofs.SpellingLemmas.{reads_fit_as_scripted, stood_is_spellable, asks-fit_hookless}
-use Rattle.evplay.specs.Headline.{IsRun, settings_of, script_run}
+use Rattle.relay_laws.proofs.SpellingLemmas.{reads_fit_as_scripted, stood_is_spellable}
+use Rattle.ev_types.specs.AskNumbers.{AsksFit}
+use Rattle.relay_model.specs.Hooked.{AskPlanned}
+use Rattle.relay_model.specs.Script.{plan_of}
+use Rattle.evplay.specs.HandedIn.{HandedIn}
+use Rattle.evplay.specs.Headline.{IsRun, settings_of, settings_on, script_run}
 
 -- no group is set in what a script sets
 pub built : (g : Settings) → IsBuilt (model_settings g)
 built g = record { in_group = refl; out_group = refl; groups = refl }
-
--- and no hook
-hookless : (g : Settings) → HasNoHooks (model_settings g)
-hookless g = record { none = refl }
 
 -- What is played with the usual settings is played with those of a script that sets no number of links: no others tell what a script
 -- answers, or how many links wait.
@@ -42,24 +42,25 @@ as-set script answer t links h = record {
 }
 
 -- What is played, at a stage at which a turn may answer so, is a run that ended with this answer, where what the script brings in
--- fits.
-pub run-of : (script : ScriptValue) (answer : TurnAnswer) (t : Trace) (x : Stage) (s : State) → script.settings.links ≡ 256 →
-    TimeoutsFit (settings_of script) → s.settings ≡ settings_of script →
+-- fits, and what was asked.
+pub run-of : (script : ScriptValue) (handed : HandedIn) (answer : TurnAnswer) (t : Trace) (x : Stage) (s : State) →
+    script.settings.links ≡ 256 → TimeoutsFit (settings_of script) → s.settings ≡ settings_on script handed →
     (k : StandsFor t x s) → LeftAt s.settings answer x s.plain → BringsFit script.turns →
-    Plays (script_played script) 0 answer t →
-    AtTurnEnds (StoodBetween (settings_of script)) t → IsRun script answer t (lines_below s s.plain.opened)
-run-of script answer t x s usual_links timeouts is k left fit played ends =
-    let g : model.Settings = settings_of script in
+    Plays (script_played script) 0 answer t → AsksFit t → (handed.tell ≡ true → AskPlanned (plan_of (script_run script)) answer t) →
+    AtTurnEnds (StoodBetween (settings_on script handed)) t → IsRun script handed answer t (lines_below s s.plain.opened)
+run-of script handed answer t x s usual_links timeouts is k left fit played asks asked ends =
+    let g : model.Settings = settings_on script handed in
     let reached : Reaches g t (at x s.plain) = subst (λ z. Reaches z t (at x s.plain)) is k.reached in
     let reads = reads_fit_as_scripted script.turns (closing_step g) t fit played.answered in
     let left_at : LeftAt g answer x s.plain = subst (λ z. LeftAt z answer x s.plain) is left in
     let legal : EndsWith g answer t = (x, s.plain, reached, left_at) in
-    let asks = asks-fit_hookless g t (hookless script.settings) (at x s.plain, reached) in
     let links : s.settings.links ≡ 256 = ap (λ (z : model.Settings). z.links) is ∙ usual_links in
+    let times : TimeoutsFit g =
+    record { in_read = timeouts.in_read; in_write = timeouts.in_write; out_read = timeouts.out_read; out_write = timeouts.out_write } in
     record {
       relayed = relayed-of g answer t x s is k left ends;
       played = as-set script answer t usual_links played;
       polls = polls_fail_as_scripted g answer script.turns (closing_step g) t played.answered legal;
-      read_back =
-          trace_of-trace_text t (stood_is_spellable t x s k (omega (arith, links)) (subst TimeoutsFit (sym is) timeouts) asks reads);
+      asked = asked;
+      read_back = trace_of-trace_text t (stood_is_spellable t x s k (omega (arith, links)) (subst TimeoutsFit (sym is) times) asks reads);
     }

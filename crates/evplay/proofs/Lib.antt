@@ -6,3 +6,4 @@ pub mod OrderLemmas
 pub mod PlayedLemmas
 pub mod RunLemmas
 pub mod TimeoutLemmas
+pub mod HandedLemmas

@@ -9,38 +9,44 @@ use Rattle.script_text.specs.Script.{ScriptValue}
 use Rattle.script_text.specs.Runnable.{runnable_script_of}
 use Rattle.script_text.specs.TraceText.{trace_text}
 use Rattle.script_text.specs.ReportText.{report_text}
-use Rattle.relay_model.specs.Answers.{TurnAnswer}
 use Rattle.buffers_mode.specs.Text.{answers_of}
 use Rattle.base_mode.specs.Turned as base
 use Rattle.base_mode.specs.Spelled as base_script
 use Rattle.pairs_mode.specs.Run as pairs
 use Rattle.command_words.specs.declared.mode.ScriptKind.{ScriptKind}
 use Rattle.command_words.specs.declared.mode.ScriptKind.TheVariants as mode
+use Rattle.evplay.specs.declared.run.RunEnd.{RunEnd}
+use Rattle.evplay.specs.declared.run.RunEnd.TheVariants as run_end
+use Rattle.evplay.specs.HandedIn.{HandedIn}
 use Rattle.evplay.specs.Headline.{IsRun}
+use Rattle.evplay.specs.Run.{answer_of, TellsTurn}
 
 -- the text of a trace, and the report behind it
 abbrev pub run_text : Trace → List LinkCount → List ℕ
 run_text t links = trace_text t ++ report_text links
 
--- it is the text of a run of the script that ended with this answer, and of its report
-abbrev pub IsRunText : ScriptValue → TurnAnswer → List ℕ → Type 0
-IsRunText script answer text = (t : Trace) × (links : List LinkCount) × IsRun script answer t links × (text ≡ run_text t links)
+-- It is the text of a run of the script that ended so, with these hooks, and of its report.
+abbrev pub IsRunText : ScriptValue → HandedIn → RunEnd → List ℕ → Type 0
+IsRunText script handed end text =
+    (t : Trace) × (links : List LinkCount) × IsRun script handed (answer_of end) t links × TellsTurn end t × (text ≡ run_text t links)
 
 -- a source text spells a script, of which a run obeys each line, and this is the text of one
-abbrev pub Runs : List ℕ → TurnAnswer → List ℕ → Type 0
-Runs source answer text = (script : ScriptValue) × (runnable_script_of source ≡ Ok script) × IsRunText script answer text
+abbrev pub Runs : List ℕ → HandedIn → RunEnd → List ℕ → Type 0
+Runs source handed end text =
+    (script : ScriptValue) × (runnable_script_of source ≡ Ok script) × IsRunText script handed end text
 
--- What a script of this kind comes to: this text, and this status once it is written. A run of the relay ends well or with a
--- failed poll. A script of buffers, of a base or of pairs comes to the answers of its lines; where a number of the base is
+-- What a script of this kind comes to: this text, and this status once it is written. A run of the relay ends well, with a
+-- failed poll, or where a hook stopped it. A script of buffers, of a base or of pairs comes to the answers of its lines; where a number of the base is
 -- spent, to those before.
-abbrev pub ComesTo : ScriptKind → List ℕ → Status → List ℕ → Type 0
-ComesTo mode.Relay source status.Ok text = Runs source TurnAnswer.Went text
-ComesTo mode.Relay source status.PollFault text = Runs source TurnAnswer.PollFault text
-ComesTo mode.Buffers source status.Ok text = answers_of source ≡ Ok (Some text)
-ComesTo mode.Base source status.Ok text = base.answers_of source ≡ Ok (text, false)
-ComesTo mode.Base source status.Spent text = base.answers_of source ≡ Ok (text, true)
-ComesTo mode.Pairs source status.Ok text = pairs.answers_of source ≡ Ok text
-ComesTo _ source _ text = ⊥
+abbrev pub ComesTo : ScriptKind → HandedIn → List ℕ → Status → List ℕ → Type 0
+ComesTo mode.Relay handed source status.Ok text = Runs source handed run_end.Went text
+ComesTo mode.Relay handed source status.PollFault text = Runs source handed run_end.PollFailed text
+ComesTo mode.Relay handed source (status.Stopped link turn) text = Runs source handed (run_end.Stopped link turn) text
+ComesTo mode.Buffers handed source status.Ok text = answers_of source ≡ Ok (Some text)
+ComesTo mode.Base handed source status.Ok text = base.answers_of source ≡ Ok (text, false)
+ComesTo mode.Base handed source status.Spent text = base.answers_of source ≡ Ok (text, true)
+ComesTo mode.Pairs handed source status.Ok text = pairs.answers_of source ≡ Ok text
+ComesTo _ handed source _ text = ⊥
 
 -- The first line of a source text that is not in the grammar of the mode has this number. In a script of links it may also be the first
 -- that no run obeys yet.
@@ -61,35 +67,37 @@ Refuses m source status.Memory = ⊤
 Refuses m source _ = ⊥
 
 -- The source gave a whole text, and the sink took the whole text that it comes to.
-abbrev pub PlayedAll : ScriptKind → Status → Option (List ℕ) → Option (List ℕ) → Option (List ℕ) → Option (List ℕ) → Type 0
-PlayedAll m ended left now_left taken now_taken =
-    (source : List ℕ) × (text : List ℕ) × GaveAll left now_left source × ComesTo m source ended text × TookOn taken now_taken text
+abbrev pub PlayedAll : ScriptKind → HandedIn → Status → Option (List ℕ) → Option (List ℕ) → Option (List ℕ) → Option (List ℕ) → Type 0
+PlayedAll m handed ended left now_left taken now_taken =
+    (source : List ℕ) × (text : List ℕ) × GaveAll left now_left source × ComesTo m handed source ended text × TookOn taken now_taken text
 
 -- the same, but the sink took the first n bytes of the text, and not all
-abbrev pub PlayedPart : ScriptKind → Option (List ℕ) → Option (List ℕ) → Option (List ℕ) → Option (List ℕ) → Type 0
-PlayedPart m left now_left taken now_taken =
-    (source : List ℕ) × (text : List ℕ) × (ended : Status) × (n : ℕ) × GaveAll left now_left source × ComesTo m source ended text
+abbrev pub PlayedPart : ScriptKind → HandedIn → Option (List ℕ) → Option (List ℕ) → Option (List ℕ) → Option (List ℕ) → Type 0
+PlayedPart m handed left now_left taken now_taken =
+    (source : List ℕ) × (text : List ℕ) × (ended : Status) × (n : ℕ) × GaveAll left now_left source × ComesTo m handed source ended text
     × (n < length text) × TookOn taken now_taken (take n text)
 
 -- the source gave a whole text whose first bad line is told
 abbrev pub GaveBad : ScriptKind → Option (List ℕ) → Option (List ℕ) → ℕ → Type 0
 GaveBad m left now_left told = (source : List ℕ) × GaveAll left now_left source × TellsBad m source told
 
--- What a call did, by the mode that its words ask for and by its status. Three statuses never come, and Spent of a base alone.
-abbrev pub Did : ScriptKind → Status → Option (List ℕ) → Option (List ℕ) → Option (List ℕ) → Option (List ℕ) → Type 0
-Did m status.Ok left now_left taken now_taken = PlayedAll m status.Ok left now_left taken now_taken
-Did m status.PollFault left now_left taken now_taken = PlayedAll m status.PollFault left now_left taken now_taken
-Did m status.WriteFault left now_left taken now_taken = PlayedPart m left now_left taken now_taken
-Did m (status.BadScript told) left now_left taken now_taken = GaveBad m left now_left told
-Did m status.ReadFault left now_left taken now_taken = ⊤
-Did m status.TooLong left now_left taken now_taken = ⊤
-Did m status.Memory left now_left taken now_taken = ⊤
-Did m status.Usage left now_left taken now_taken = ⊥
-Did m (status.Stopped link turn) left now_left taken now_taken = ⊥
-Did m status.OpenFault left now_left taken now_taken = ⊥
-Did m status.Spent left now_left taken now_taken = PlayedAll m status.Spent left now_left taken now_taken
+-- What a call did, by the mode that its words ask for and by its status. Two statuses never come, Spent of a base alone, and Stopped of
+-- links alone.
+abbrev pub Did : ScriptKind → HandedIn → Status → Option (List ℕ) → Option (List ℕ) → Option (List ℕ) → Option (List ℕ) → Type 0
+Did m handed status.Ok left now_left taken now_taken = PlayedAll m handed status.Ok left now_left taken now_taken
+Did m handed status.PollFault left now_left taken now_taken = PlayedAll m handed status.PollFault left now_left taken now_taken
+Did m handed status.WriteFault left now_left taken now_taken = PlayedPart m handed left now_left taken now_taken
+Did m handed (status.BadScript told) left now_left taken now_taken = GaveBad m left now_left told
+Did m handed status.ReadFault left now_left taken now_taken = ⊤
+Did m handed status.TooLong left now_left taken now_taken = ⊤
+Did m handed status.Memory left now_left taken now_taken = ⊤
+Did m handed status.Usage left now_left taken now_taken = ⊥
+Did m handed (status.Stopped link turn) left now_left taken now_taken =
+    PlayedAll m handed (status.Stopped link turn) left now_left taken now_taken
+Did m handed status.OpenFault left now_left taken now_taken = ⊥
+Did m handed status.Spent left now_left taken now_taken = PlayedAll m handed status.Spent left now_left taken now_taken
 
 -- Words that ask for no mode are refused, or memory ran out while they were read. What a call did with the others.
-abbrev pub DidWith : Option ScriptKind → Status → Option (List ℕ) → Option (List ℕ) → Option (List ℕ) → Option (List ℕ) → Type 0
-DidWith None ended left now_left taken now_taken = (ended ≡ status.Usage) ⊎ (ended ≡ status.Memory)
-DidWith (Some m) ended left now_left taken now_taken = Did m ended left now_left taken now_taken
+abbrev pub DidWith : Option ScriptKind → HandedIn → Status → Option (List ℕ) → Option (List ℕ) → Option (List ℕ) → Option (List ℕ) → Type 0
+DidWith None handed ended left now_left taken now_taken = (ended ≡ status.Usage) ⊎ (ended ≡ status.Memory)
+DidWith (Some m) handed ended left now_left taken now_taken = Did m handed ended left now_left taken now_taken

@@ -1,5 +1,5 @@
 -- Why a call of `play` ended as it did, by the source and the sink beside their bytes.
-use Rattle.std.specs.Prelude.{◌≡◌, ◌≢◌, ◌+◌, ◌^◌, Option, None}
+use Rattle.std.specs.Prelude.{◌≡◌, ◌≢◌, ◌+◌, ◌^◌, ⊤, Option, None}
 use Rattle.ev_types.specs.declared.status.Status.{Status}
 use Rattle.ev_types.specs.declared.status.Status.TheVariants as status
 use Rattle.ev_port.specs.FaultCounts.{Rose}
@@ -8,6 +8,15 @@ use Rattle.ev_port.specs.declared.stream.Sink as sink
 use Rattle.ev_port.specs.declared.stream.Source as source
 use Rattle.command_words.specs.declared.mode.ScriptKind.{ScriptKind}
 
+-- with this status nothing is written
+abbrev pub IsUnwritten : Status → Type 0
+IsUnwritten status.Ok = ⊥
+IsUnwritten status.PollFault = ⊥
+IsUnwritten (status.Stopped link turn) = ⊥
+IsUnwritten status.Spent = ⊥
+IsUnwritten status.WriteFault = ⊥
+IsUnwritten _ = ⊤
+
 -- The words are looked at before all else; a fault is answered only where its count rose, and with every other answer the counts are as
 -- they were; too long is a text of which 2^24 + 1 bytes were read, and with every other answer no more than 2^24 were. What is not
 -- written wholly or in part is not written at all.
@@ -15,7 +24,7 @@ pub record HasCauses {S K : Type 0} (g : source.Ghosts S) (h : sink.Ghosts K) (m
     (old new : S) (from to : K) : Type 0 where
   pub unread : ended ≡ status.Usage → new ≡ old
   pub no_mode : modes ≡ None → new ≡ old
-  pub unwritten : ended ≢ status.Ok → ended ≢ status.PollFault → ended ≢ status.Spent → ended ≢ status.WriteFault → to ≡ from
+  pub unwritten : IsUnwritten ended → to ≡ from
   pub read_fault : ended ≡ status.ReadFault → Rose (g.faults old) (g.faults new)
   pub read_calm : ended ≢ status.ReadFault → g.faults new ≡ g.faults old
   pub write_fault : ended ≡ status.WriteFault → Rose (h.faults from) (h.faults to)

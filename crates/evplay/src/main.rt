@@ -3,6 +3,7 @@
 //! `play_program` does all that the program does; `main` hands it the words and the streams, and hands on its status.
 #![tactic(auto)]
 
+mod hooks;
 mod input;
 mod outcome;
 mod play;
@@ -12,7 +13,10 @@ mod status;
 
 use command_words::program_words;
 use ev_port::{StdSink, StdSource};
+use ev_types::Status;
+use hooks::script_hooks;
 use program::play_program;
+use program_end::finish;
 use std::io;
 use std::process::ExitCode;
 
@@ -21,5 +25,8 @@ fn main(rt: HostRuntime) -> ExitCode {
     let mut source = StdSource::new(rt.reader());
     let mut sink = StdSink::new(io::writer(&rt));
     let mut errors = StdSink::new(rt.stderr());
-    ExitCode::from(play_program(rt.alloc(), words, &mut source, &mut sink, &mut errors))
+    let Ok(hooks) = script_hooks(rt.alloc()) else {
+        return ExitCode::from(finish(&mut errors, Status::Memory));
+    };
+    ExitCode::from(play_program(rt.alloc(), words, &mut source, &mut sink, &mut errors, hooks))
 }

@@ -1,6 +1,10 @@
 // What a script comes to, by its mode: the text that is to be written, and how the program ends once it is.
 ghost use Rattle.std.specs.Prelude.{◌≤◌, ◌^◌, length, IfOk, IfErr};
 ghost use Rattle.command_words.specs.declared.mode.ScriptKind.TheVariants.{Relay, Buffers, Base, Pairs};
+ghost use Rattle.std.specs.List.{All};
+ghost use Rattle.relay_drive.specs.Seats.{telling};
+ghost use Rattle.program_end.specs.Planned.{IsFresh};
+ghost use Rattle.evplay.specs.HandedIn.{HandedIn, handed_in};
 ghost use Rattle.evplay.specs.Play.{ComesTo, Refuses};
 
 use crate::run::run;
@@ -11,6 +15,7 @@ use command_words::ScriptKind;
 use ev_types::Status;
 use pairs_mode::play_pairs;
 use program_end::fault_status;
+use relay_drive::Hook;
 use script_text::read_runnable_script;
 use std::alloc::Global;
 
@@ -23,15 +28,21 @@ pub struct Outcome {
     pub status: Status,
 }
 
-/// What the script of a text of at most 2^24 bytes comes to. A text that is no script of the mode is refused with its
+/// What the script of a text of at most 2^24 bytes comes to. Hooks are for links alone. A text that is no script of the mode is refused with its
 /// first bad line.
-pub fn outcome_of(alloc: Global, mode: ScriptKind, text: &[u8]) -> Result<Outcome, Status>
-    requires { length text.now ≤ 2 ^ 24 }
-    ensures comes_to { IfOk result (λ outcome. ComesTo mode text.now outcome.status outcome.text.items) }
+pub fn outcome_of(
+    alloc: Global,
+    mode: ScriptKind,
+    text: &[u8],
+    hooks: Vec<Box<dyn Hook>>,
+) -> Result<Outcome, Status>
+    requires short { length text.now ≤ 2 ^ 24 }
+    requires fresh { All (IsFresh (telling (λ h. heard h) (λ h. asked h) (λ h. planned h))) hooks.items }
+    ensures comes_to { IfOk result (λ outcome. ComesTo mode (handed_in (telling (λ h. heard h) (λ h. asked h) (λ h. planned h)) hooks.items) text.now outcome.status outcome.text.items) }
     ensures refused { IfErr result (λ status. Refuses mode text.now status) }
 {
     match mode {
-        ScriptKind::Relay => relay(alloc, text),
+        ScriptKind::Relay => relay(alloc, text, hooks),
         ScriptKind::Buffers => buffers(alloc, text),
         ScriptKind::Base => base(alloc, text),
         ScriptKind::Pairs => pairs(alloc, text),
@@ -39,16 +50,21 @@ pub fn outcome_of(alloc: Global, mode: ScriptKind, text: &[u8]) -> Result<Outcom
 }
 
 /// What the script of links that the text spells comes to.
-fn relay(alloc: Global, text: &[u8]) -> Result<Outcome, Status>
-    requires { length text.now ≤ 2 ^ 24 }
-    ensures comes_to { IfOk result (λ outcome. ComesTo Relay text.now outcome.status outcome.text.items) }
+fn relay(
+    alloc: Global,
+    text: &[u8],
+    hooks: Vec<Box<dyn Hook>>,
+) -> Result<Outcome, Status>
+    requires short { length text.now ≤ 2 ^ 24 }
+    requires fresh { All (IsFresh (telling (λ h. heard h) (λ h. asked h) (λ h. planned h))) hooks.items }
+    ensures comes_to { IfOk result (λ outcome. ComesTo Relay (handed_in (telling (λ h. heard h) (λ h. asked h) (λ h. planned h)) hooks.items) text.now outcome.status outcome.text.items) }
     ensures refused { IfErr result (λ status. Refuses Relay text.now status) }
 {
     let script = match read_runnable_script(alloc, text) {
         Ok(script) => script,
         Err(fault) => return Err(script_status(fault)),
     };
-    match run(alloc, script) {
+    match run(alloc, script, hooks) {
         Ok((text, end)) => Ok(Outcome {
             text,
             status: end.status(),
@@ -60,7 +76,7 @@ fn relay(alloc: Global, text: &[u8]) -> Result<Outcome, Status>
 /// What the script of buffers that the text spells comes to.
 fn buffers(alloc: Global, text: &[u8]) -> Result<Outcome, Status>
     requires { length text.now ≤ 2 ^ 24 }
-    ensures comes_to { IfOk result (λ outcome. ComesTo Buffers text.now outcome.status outcome.text.items) }
+    ensures comes_to { (handed : HandedIn) → IfOk result (λ outcome. ComesTo Buffers handed text.now outcome.status outcome.text.items) }
     ensures refused { IfErr result (λ status. Refuses Buffers text.now status) }
 {
     match play_buffers(alloc, text) {
@@ -74,7 +90,7 @@ fn buffers(alloc: Global, text: &[u8]) -> Result<Outcome, Status>
 
 /// What the script of a base that the text spells comes to. Where a number of the base is spent, its text so far.
 fn base(alloc: Global, text: &[u8]) -> Result<Outcome, Status>
-    ensures comes_to { IfOk result (λ outcome. ComesTo Base text.now outcome.status outcome.text.items) }
+    ensures comes_to { (handed : HandedIn) → IfOk result (λ outcome. ComesTo Base handed text.now outcome.status outcome.text.items) }
     ensures refused { IfErr result (λ status. Refuses Base text.now status) }
 {
     match play_base(alloc, text) {
@@ -92,7 +108,7 @@ fn base(alloc: Global, text: &[u8]) -> Result<Outcome, Status>
 
 /// What the script of pairs that the text spells comes to.
 fn pairs(alloc: Global, text: &[u8]) -> Result<Outcome, Status>
-    ensures comes_to { IfOk result (λ outcome. ComesTo Pairs text.now outcome.status outcome.text.items) }
+    ensures comes_to { (handed : HandedIn) → IfOk result (λ outcome. ComesTo Pairs handed text.now outcome.status outcome.text.items) }
     ensures refused { IfErr result (λ status. Refuses Pairs text.now status) }
 {
     match play_pairs(alloc, text) {

@@ -3,7 +3,12 @@ ghost use Rattle.std.specs.Prelude.{◌≡◌, ◌≢◌, ◌+◌, ◌^◌, None
 ghost use Rattle.ev_port.specs.FaultCounts.{Rose};
 ghost use Rattle.ev_port.specs.StreamBytes.{GaveCount, GaveAtMost};
 ghost use Rattle.command_words.specs.ModeGrammar.{mode_of};
+ghost use Rattle.std.specs.List.{All};
+ghost use Rattle.relay_drive.specs.Seats.{telling};
+ghost use Rattle.program_end.specs.Planned.{IsFresh};
+ghost use Rattle.evplay.specs.HandedIn.{handed_in};
 ghost use Rattle.evplay.specs.Play.{DidWith};
+ghost use Rattle.evplay.specs.PlayCauses.{IsUnwritten};
 
 use crate::input::{ReadStop, read_text};
 use crate::outcome::outcome_of;
@@ -11,10 +16,12 @@ use command_words::mode_words;
 use ev_port::{Sink, Source};
 use ev_types::Status;
 use program_end::write_text;
+use relay_drive::Hook;
 use std::alloc::Global;
 
 /// Plays the script that a source spells, and writes what it comes to to a sink. It always returns. The words are
-/// those after the program's name.
+/// those after the program's name. In a script of links the first hook is for side In of link 0, the second for side Out of it, and so on;
+/// each whose side has `on` lines gets those, and the others are let go. None of them was called yet.
 ///
 /// Own.
 pub fn play<S: Source, K: Sink>(
@@ -22,15 +29,18 @@ pub fn play<S: Source, K: Sink>(
     words: &[String],
     source: &mut S,
     sink: &mut K,
+    hooks: Vec<Box<dyn Hook>>,
 ) -> Status
+    requires fresh { All (IsFresh (telling (λ h. heard h) (λ h. asked h) (λ h. planned h))) hooks.items }
+
     // What the call did, by its status: usage, or else out of memory, for words that are not one mode word, a bad script by
     // its first bad line, and else the whole text that the script comes to, or the part of it before the sink failed.
-    ensures did { DidWith (mode_of (map string_bytes words.now)) result (S.left source.old) (S.left source.new) (K.taken sink.old) (K.taken sink.new) }
+    ensures did { DidWith (mode_of (map string_bytes words.now)) (handed_in (telling (λ h. heard h) (λ h. asked h) (λ h. planned h)) hooks.items) result (S.left source.old) (S.left source.new) (K.taken sink.old) (K.taken sink.new) }
 
     // The words are looked at before all else. What is not written wholly or in part is not written at all.
     ensures unread { result ≡ Status.Usage → source.new ≡ source.old }
     ensures no_mode { mode_of (map string_bytes words.now) ≡ None → source.new ≡ source.old }
-    ensures unwritten { result ≢ Status.Ok → result ≢ Status.PollFault → result ≢ Status.Spent → result ≢ Status.WriteFault → sink.new ≡ sink.old }
+    ensures unwritten { IsUnwritten result → sink.new ≡ sink.old }
 
     // A fault is answered only where its count rose in this call. With every other answer the counts are as they were.
     ensures read_fault { result ≡ Status.ReadFault → Rose (S.faults source.old) (S.faults source.new) }
@@ -52,7 +62,7 @@ pub fn play<S: Source, K: Sink>(
         Err(ReadStop::TooLong) => return Status::TooLong,
         Err(ReadStop::Memory) => return Status::Memory,
     };
-    let outcome = match outcome_of(alloc, mode, &text) {
+    let outcome = match outcome_of(alloc, mode, &text, hooks) {
         Ok(outcome) => outcome,
         Err(status) => return status,
     };

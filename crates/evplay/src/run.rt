@@ -1,19 +1,27 @@
 // Makes the turns of a script over a port that answers by it, and gives the text of what happened.
-ghost use Rattle.std.specs.Prelude.{◌≡◌, ◌≤◌, ◌⊎◌, [], length, Ok, Err, IfOk, IfErr};
+ghost use Rattle.std.specs.Prelude.{◌≡◌, ◌≤◌, ◌<◌, ◌⊎◌, List, [], length, Ok, Err, IfOk, IfErr};
+ghost use Rattle.std.specs.List.{All};
+ghost use Rattle.ev_types.specs.declared.plan_line.PlanLine.{PlanLine};
+ghost use Rattle.ev_types.specs.declared.side.SideId.{SideId};
+ghost use Rattle.ev_types.specs.ScriptTurn.{lines_of};
+ghost use Rattle.ev_types.specs.Sides.{number};
+ghost use Rattle.relay_model.specs.Called.{NamesOpened};
 ghost use Rattle.relay_drive.specs.declared.fault.DriveFault.TheVariants.{Memory};
 ghost use Rattle.relay_drive.specs.DriveValue.{new_drive};
-ghost use Rattle.relay_laws.specs.Spelling.{BringsFit, TimeoutsFit};
-ghost use Rattle.evplay.specs.Headline.{settings_of, IsRun};
-ghost use Rattle.ev_types.specs.ScriptTurn.{lines_of};
-ghost use Rattle.relay_model.specs.Called.{NamesOpened};
+ghost use Rattle.relay_drive.specs.Seats.{telling, seated_sides, AreFresh, AreSeated};
 ghost use Rattle.relay_laws.specs.Report.{lines_below};
+ghost use Rattle.relay_laws.specs.Spelling.{BringsFit, TimeoutsFit};
 ghost use Rattle.script_text.specs.Runnable.{IsRunnable};
+ghost use Rattle.program_end.specs.Planned.{IsFresh};
+ghost use Rattle.evplay.specs.HandedIn.{HandedIn, handed_in, HasSeats};
+ghost use Rattle.evplay.specs.Headline.{settings_of, IsRun};
 ghost use Rattle.evplay.specs.Play.{IsRunText, run_text};
-ghost use Rattle.evplay.specs.Run.{answer_of, ended_as, refused_by, script_over, MayRun};
+ghost use Rattle.evplay.specs.Run.{answer_of, ended_as, refused_by, script_over, MayRun, TellsTurn};
 
+use crate::hooks::attach;
 use ev_types::{NoMemory, Settings, Status};
 use program_end::link_lines;
-use relay_drive::{Drive, DriveFault};
+use relay_drive::{Drive, DriveFault, Hook, Seats, TurnEnd};
 use script_port::ScriptPort;
 use script_text::{Script, write_report};
 use std::alloc::Global;
@@ -28,6 +36,8 @@ pub enum RunEnd {
     Went,
     /// A poll failed.
     PollFailed,
+    /// A hook of this link stopped the run in this turn, counted from 1; one above 2^32 - 1 is told as that number.
+    Stopped(u32, u32),
 }
 
 impl RunEnd {
@@ -38,62 +48,83 @@ impl RunEnd {
         match self {
             RunEnd::Went => Status::Ok,
             RunEnd::PollFailed => Status::PollFault,
+            RunEnd::Stopped(link, turn) => Status::Stopped(link, turn),
         }
     }
 }
 
-/// The text of the trace and of the report of a run, one turn for each of the script or up to a failed poll.
-pub fn run(alloc: Global, script: Script) -> Result<(Vec<u8>, RunEnd), DriveFault>
+/// The text of the trace and of the report of a run, one turn for each of the script or up to a failed poll or to a stop. A hook that was
+/// handed in for a side gets what the script plans for that side; it is let go where that is nothing.
+pub fn run(
+    alloc: Global,
+    script: Script,
+    hooks: Vec<Box<dyn Hook>>,
+) -> Result<(Vec<u8>, RunEnd), DriveFault>
     requires few { length script.turns ≤ 20000 }
     requires names { NamesOpened 0 (lines_of script.turns) }
     requires brings { BringsFit script.turns }
     requires links { script.settings.links ≡ 256 }
     requires timeouts { TimeoutsFit (settings_of script) }
+    requires planned { All (λ x. number x.0 < 64) script.plans }
     requires runnable { IsRunnable script }
-    ensures text { IfOk result (λ ran. IsRunText script (answer_of ran.1) ran.0.items) }
+    requires fresh { All (IsFresh (telling (λ h. heard h) (λ h. asked h) (λ h. planned h))) hooks.items }
+    ensures text { IfOk result (λ ran. IsRunText script (handed_in (telling (λ h. heard h) (λ h. asked h) (λ h. planned h)) hooks.items) ran.1 ran.0.items) }
     ensures only_memory { IfErr result (λ fault. fault ≡ Memory) }
 {
     let turns = script.turns.len();
     let settings = script.settings;
+    let mut seats = Seats::new(alloc, attach(alloc, &script.plans, hooks)?)?;
     let mut port = ScriptPort::new(alloc, script)?;
-    run_over(alloc, turns, &settings, &mut port)
+    run_over(alloc, turns, &settings, &mut seats, &mut port)
 }
 
-/// The text of a run over a port that has not begun.
+/// The text of a run over a port that has not begun, with hooks of which none was called.
 fn run_over(
     alloc: Global,
     turns: usize,
     settings: &Settings,
+    seats: &mut Seats,
     port: &mut ScriptPort,
 ) -> Result<(Vec<u8>, RunEnd), DriveFault>
-    requires { MayRun turns settings.now port.old }
-    ensures text { IfOk result (λ ran. IsRunText (script_over settings.now port.old) (answer_of ran.1) ran.0.items) }
+    requires may_run { MayRun turns settings.now port.old }
+    requires fresh { AreFresh seats.old.hooks.items seats.old.gone.items }
+    requires few { length (seated_sides seats.old.hooks.items) ≤ 64 }
+    ensures text { (plans : List (SideId × PlanLine)) (handed : HandedIn) → HasSeats (telling (λ h. heard h) (λ h. asked h) (λ h. planned h)) plans handed seats.old.hooks.items →
+        IfOk result (λ ran. IsRunText (script_over settings.now plans port.old) handed ran.1 ran.0.items) }
     ensures only_memory { IfErr result (λ fault. fault ≡ Memory) }
 {
-    let mut drive = Drive::new(alloc, *settings)?;
+    let mut drive = Drive::new(alloc, *settings, seats)?;
     let mut scribe = TextScribe::new(alloc);
-    let ended = make_turns(turns, settings, &mut drive, port, &mut scribe);
+    let ended = make_turns(turns, settings, seats, &mut drive, port, &mut scribe);
     text_of(alloc, ended, scribe, &drive)
 }
 
-/// Makes a turn for each of the script, or up to one whose poll fails.
+/// Makes a turn for each of the script, or up to one whose poll fails or which a hook ends.
 fn make_turns(
     turns: usize,
     settings: &Settings,
+    seats: &mut Seats,
     drive: &mut Drive,
     port: &mut ScriptPort,
     scribe: &mut TextScribe,
 ) -> Result<RunEnd, DriveFault>
     requires may_run { MayRun turns settings.now port.old }
-    requires new_drive { drive.old ≡ new_drive settings.now }
+    requires new_drive { drive.old ≡ new_drive settings.now (seated_sides seats.old.hooks.items) }
+    requires fresh { AreFresh seats.old.hooks.items seats.old.gone.items }
+    requires seated { AreSeated drive.old.state seats.old.hooks.items seats.old.gone.items }
+    requires few { length (seated_sides seats.old.hooks.items) ≤ 64 }
     requires no_trace { scribe.old.trace ≡ [] }
-    ensures made { IfOk result (λ end. IsRun (script_over settings.now port.old) (answer_of end) scribe.new.trace
+    ensures made { (plans : List (SideId × PlanLine)) (handed : HandedIn) → HasSeats (telling (λ h. heard h) (λ h. asked h) (λ h. planned h)) plans handed seats.old.hooks.items →
+        IfOk result (λ end. IsRun (script_over settings.now plans port.old) handed (answer_of end) scribe.new.trace
         (lines_below drive.new.state drive.new.state.plain.opened)) }
+    ensures turn { IfOk result (λ end. TellsTurn end scribe.new.trace) }
     ensures only_memory { IfErr result (λ fault. fault ≡ Memory) }
 {
-    for _ in 0..turns {
-        if let Err(fault) = drive.turn(port, scribe) {
-            return end_by(fault);
+    for turn in 0..turns {
+        match drive.turn(seats, port, scribe) {
+            Ok(TurnEnd::Went) => {}
+            Ok(TurnEnd::Stopped(link)) => return Ok(RunEnd::Stopped(link, turn as u32 + 1)),
+            Err(fault) => return end_by(fault),
         }
     }
     Ok(RunEnd::Went)

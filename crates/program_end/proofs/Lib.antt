@@ -1,3 +1,4 @@
 pub mod ListPart
 pub mod ComplaintLemmas
 pub mod TurnCountLemmas
+pub mod PlannedLemmas

@@ -4,6 +4,10 @@ use Rattle.std.proofs.Common.{◌≡◌, ℕ, zero, suc, ◌+◌, Bool, true, fa
 use Rattle.std.proofs.Common.{arith, count_by, inl, inr, ◌⊎◌}
 use Rattle.std.specs.Prelude.{MatchBool, Option, Some, None, is_some, option_map}
 use Rattle.std.proofs.lemmas.List.Sums.{sum_by-append}
+use Rattle.ev_types.specs.declared.act.Act.{Act}
+use Rattle.ev_types.specs.declared.act.Act.TheVariants as act
+use Rattle.ev_types.specs.declared.answer.AskAnswer.{AskAnswer}
+use Rattle.ev_types.specs.declared.answer.AskAnswer.TheVariants as ask
 use Rattle.ev_types.specs.declared.side.SideId.{SideId}
 use Rattle.ev_types.specs.declared.answer.WriteAnswer.{WriteAnswer}
 use Rattle.ev_types.specs.declared.answer.WriteAnswer.TheVariants as write
@@ -21,6 +25,7 @@ use Rattle.relay_model.specs.Rooms.{is_connecting}
 use Rattle.relay_model.specs.Close.{fault, freed_entry}
 use Rattle.relay_core.specs.Steps.{steps_of, close_step, entry_events}
 use Rattle.relay_state.specs.State.{State}
+use Rattle.relay_state.specs.Asking.{ask_events, AsksAll, Fires, FiresSome, dispatching}
 use Rattle.relay_state.specs.Rooms.{wants, write_room, offer}
 use Rattle.relay_state.specs.Closing.{in_side, out_side, closing_entry}
 use Rattle.relay_model.specs.RatesKept.{is_turn}
@@ -30,8 +35,12 @@ use Rattle.relay_drive.specs.Steps.{Nothing, Then, Each, CutAt}
 use Rattle.relay_drive.specs.Calls.{Ticks}
 use Rattle.relay_drive.specs.Phases.{links_from, Polls, OpensOne, OpensSome, AcceptsWhere, PollsAndAccepts, ReadsSide, WritesSide}
 use Rattle.relay_drive.specs.Phases.{ConnectsSide, ServesSide, PassesSide, PassesLink, ForAllLinks, closing_events, LooksAt, ClosesLink}
-use Rattle.relay_drive.specs.Phases.{Turns, CutTurn, before, in_poll, in_serving, in_passing, in_closing, CutPoll, CutAccepting, CutPolling}
+use Rattle.relay_drive.specs.Phases.{ServedThen, PassesAndCloses, Turns, EndsTurn, DispatchesAll, StopsAt, FiresShort, CutFire, CutDispatch}
+use Rattle.relay_drive.specs.Phases.{CutTurn, before, in_poll, in_serving, in_dispatch, in_passing, in_closing, CutPoll, CutAccepting, CutPolling}
 use Rattle.relay_drive.specs.Phases.{AcceptsMore, CutServing, CutPassing, CutPassingLink, CutClosingLink, CutForAllLinks}
+use Rattle.relay_drive.specs.DispatchPhase.{no_room, in_fire}
+use Rattle.relay_drive.specs.declared.fault.TurnEnd.{TurnEnd}
+use Rattle.relay_drive.specs.declared.fault.TurnEnd.TheVariants as end
 use Rattle.relay_drive.specs.declared.fault.DriveFault.{DriveFault}
 use Rattle.relay_drive.specs.declared.fault.DriveFault.TheVariants as fault
 use Rattle.relay_laws.specs.TurnEnds.{begins_turn}
@@ -131,6 +140,49 @@ serves w s new a h =
     by_bool (is_connecting s.plain w.side) (connects w.side w.can_write s new a)
     (both 0 0 (reads w.side w.can_read) (writes w.side w.can_write) s new a) h
 
+-- Hooks
+
+ask_events-none : (me : SideId) (s : State) (a : Act) (answer : AskAnswer) → count_by is_turn (ask_events me s a answer) ≡ 0
+ask_events-none me s (act.Free e) ask.Ok = refl
+ask_events-none me s (act.Free e) answer = refl
+ask_events-none me s a answer = refl
+
+asks : (me : SideId) (xs : List (Act × AskAnswer)) → IsPutting 0 (AsksAll me xs)
+asks me [] s new a h = ap (count_by is_turn) h.0
+asks me (x ∷ xs) s new a (mid, front, back, one, more, joined) =
+    let p = ap (count_by is_turn) one.entries ∙ ask_events-none me s x.0 x.1 in
+    let q = asks me xs mid new back more in
+    ap (count_by is_turn) joined ∙ count-append front back ∙ omega (arith, p, q)
+
+fires : (stopped : Bool) → IsPutting 0 (Fires stopped)
+fires stopped s new a h = ap (count_by is_turn) h.entries ∙ asks h.side h.asks _ new h.behind h.does
+
+fires_some : (n : ℕ) → IsPutting 0 (FiresSome n)
+fires_some zero s new a h = ap (count_by is_turn) h.0
+fires_some (suc n) s new a (mid, front, back, some, one, joined) =
+    let p = fires_some n s mid front some in
+    let q = fires false mid new back one in
+    ap (count_by is_turn) joined ∙ count-append front back ∙ omega (arith, p, q)
+
+dispatches : IsPutting 0 DispatchesAll
+dispatches s new a h = fires_some h.does.many (dispatching s) new a h.does.fires
+
+stops_at : (link : ℕ) → IsPutting 0 (StopsAt link)
+stops_at link s new a h =
+    let p = fires_some h.many (dispatching s) h.middle h.front h.fires in
+    let q = fires true h.middle new h.back h.last in
+    ap (count_by is_turn) h.joined ∙ count-append h.front h.back ∙ omega (arith, p, q)
+
+cut_fire : IsPutting 0 CutFire
+cut_fire s new a (no_room rs h) = ap (count_by is_turn) h.0
+cut_fire s new a (in_fire h) = fires h.stopped s new a h.fires
+
+cut_dispatch : IsPutting 0 CutDispatch
+cut_dispatch s new a h =
+    let p = fires_some h.many (dispatching s) h.middle h.front h.fires in
+    let q = cut_fire h.middle new h.back h.last in
+    ap (count_by is_turn) h.joined ∙ count-append h.front h.back ∙ omega (arith, p, q)
+
 -- Passing and closing
 
 passes : (e : SideId) → IsPutting 0 (PassesSide e)
@@ -158,23 +210,29 @@ looks step s new a h =
 closes_link : (k : ℕ) → IsPutting 0 (ClosesLink k)
 closes_link k = each LooksAt looks (steps_of k)
 
+passes_and_closes : IsPutting 0 PassesAndCloses
+passes_and_closes = both 0 0 (all_links PassesLink passes_link) (all_links ClosesLink closes_link)
+
 -- The turn
 
+-- the clock, the poll, serving, and then something that begins no turn
+served_then : (R : State → Trace → State → Type 0) → IsPutting 0 R → IsPutting 1 (ServedThen R)
+served_then R f s new a h =
+    both 1 0 (ticks h.0) (both 0 0 (polls_and_accepts h.1) (both 0 0 (each ServesSide serves h.1) f)) s new a h.2
+
 pub turn-once : {s new : State} {a : Trace} → Turns s a new → count_by is_turn a ≡ 1
-turn-once {s = s} {new = new} {a = a} h =
-    both 1 0 (ticks h.0)
-    (both 0 0 (polls_and_accepts h.1)
-    (both 0 0 (each ServesSide serves h.1)
-    (both 0 0 (all_links PassesLink passes_link) (all_links ClosesLink closes_link))))
-    s new a h.2
+turn-once {s = s} {new = new} {a = a} h = served_then _ (both 0 0 dispatches passes_and_closes) s new a h
 
 -- it stands in front
 ticks-first : (reading : ℕ) (R : State → Trace → State → Type 0) (s new : State) (a : Trace) → Then (Ticks reading) R s a new →
     begins_turn a ≡ true
 ticks-first reading R s new a h = ap begins_turn (h.joined ∙ ap (λ f. f ++ h.back) h.first.entries)
 
+served-first : (R : State → Trace → State → Type 0) (s new : State) (a : Trace) → ServedThen R s a new → begins_turn a ≡ true
+served-first R s new a h = ticks-first h.0 _ s new a h.2
+
 pub turn-first : {s new : State} {a : Trace} → Turns s a new → begins_turn a ≡ true
-turn-first {s = s} {new = new} {a = a} h = ticks-first h.0 _ s new a h.2
+turn-first {s = s} {new = new} {a = a} h = served-first _ s new a h
 
 -- A turn that is cut off in its poll has one too.
 
@@ -241,17 +299,25 @@ begins_once : (reading : ℕ) (R : State → Trace → State → Type 0) → IsP
     BeginsOnce a
 begins_once reading R f s new a h = record { first = ticks-first reading R s new a h; once = both 1 0 (ticks reading) f s new a h }
 
+served_once : (R : State → Trace → State → Type 0) → IsPutting 0 R → (s new : State) (a : Trace) → ServedThen R s a new → BeginsOnce a
+served_once R f s new a h = record { first = served-first R s new a h; once = served_then R f s new a h }
+
+-- however a turn ends that is not refused
+pub end-begins : (x : TurnEnd) (s new : State) (a : Trace) → EndsTurn x s a new → BeginsOnce a
+end-begins end.Went s new a h = served_once _ (both 0 0 dispatches passes_and_closes) s new a h
+end-begins (end.Stopped link) s new a h = served_once (StopsAt link) (stops_at link) s new a h
+
 pub cut-begins : {f : DriveFault} {s new : State} {a : Trace} → CutTurn f s a new → (a ≡ []) ⊎ BeginsOnce a
 cut-begins (before h) = inl h.0
 cut-begins {f = f} {s = s} {new = new} {a = a} (in_poll reading h) = inr (begins_once reading (CutPolling f) (cut_polling f) s new a h)
 cut-begins {s = s} {new = new} {a = a} (in_serving reading marked h) =
     inr (begins_once reading _ (both 0 0 (polls_and_accepts marked) (cut_at ServesSide CutServing serves cut_serving marked)) s new a h)
-cut-begins {s = s} {new = new} {a = a} (in_passing reading marked h) =
-    inr (begins_once reading _ (both 0 0 (polls_and_accepts marked) (both 0 0 (each ServesSide serves marked)
-    (cut_links PassesLink CutPassingLink passes_link cut_passing_link))) s new a h)
-cut-begins {s = s} {new = new} {a = a} (in_closing reading marked h) =
-    inr (begins_once reading _ (both 0 0 (polls_and_accepts marked) (both 0 0 (each ServesSide serves marked)
-    (both 0 0 (all_links PassesLink passes_link) (cut_links ClosesLink CutClosingLink closes_link cut_closing_link)))) s new a h)
+cut-begins {s = s} {new = new} {a = a} (in_dispatch h) = inr (served_once CutDispatch cut_dispatch s new a h)
+cut-begins {s = s} {new = new} {a = a} (in_passing h) =
+    inr (served_once _ (both 0 0 dispatches (cut_links PassesLink CutPassingLink passes_link cut_passing_link)) s new a h)
+cut-begins {s = s} {new = new} {a = a} (in_closing h) =
+    inr (served_once _ (both 0 0 dispatches (both 0 0 (all_links PassesLink passes_link)
+    (cut_links ClosesLink CutClosingLink closes_link cut_closing_link))) s new a h)
 
 -- as many turns of a script were begun as the trace has
 pub begun-is : (turns : List ScriptTurn) (t : Trace) → begun turns t ≡ count_by is_turn t

@@ -1,2 +1,3 @@
 pub mod EndStatus
 pub mod Complains
+pub mod Planned

@@ -1,7 +1,7 @@
 -- One direction of a group over lists of calls.
-use Rattle.std.proofs.Common.{◌≡◌, ◌∙◌, inl, inr, ℕ, zero, suc, ◌+◌, ◌-◌, ◌*◌, ◌/◌, ◌<◌, ◌≤◌, Bool, true, false, ◌||◌, ◌&&◌, cond, min}
+use Rattle.std.proofs.Common.{◌≡◌, ◌∙◌, inl, inr, ℕ, zero, suc, ◌+◌, ◌-◌, ◌*◌, ◌/◌, ◌<◌, ◌≤◌, Bool, true, false, ◌||◌, ◌&&◌}
 use Rattle.std.proofs.Common.{List, [], ◌∷◌, ◌++◌, refl, sym, ap, subst, arith}
-use Rattle.std.specs.Prelude.{max, nat_lt, ◌==◌, if◌then◌else◌}
+use Rattle.std.specs.Prelude.{max, ◌==◌, if◌then◌else◌}
 use Rattle.std.proofs.Math.Nat.{div-le_self}
 use Rattle.std.proofs.lemmas.Bool.{ltb-false}
 use Rattle.std.proofs.lemmas.Bool.Decides.{eqb_tells}
@@ -9,13 +9,13 @@ use Rattle.token_bucket.specs.declared.limit.Dir.{Dir}
 use Rattle.token_bucket.specs.declared.limit.Dir.TheVariants as dir
 use Rattle.token_bucket.specs.declared.limit.LimitCfg.{LimitCfg}
 use Rattle.token_bucket.specs.declared.level.Level.{Level}
-use Rattle.token_bucket.specs.Levels.{Limit, limit_of, refilled, with_ticks, less, held, at_rate}
-use Rattle.token_bucket.specs.Spells.{Beat, Begins, Moves, moved_over, moved_first, moved_in, since_each, least_with, spells}
-use Rattle.token_bucket.specs.BucketLaws.{Kept, after_beat, after_beats, kept_at}
-use Rattle.token_bucket.proofs.BucketLemmas.{level-is_least, moved-short, refilled-is, short_after}
+use Rattle.token_bucket.specs.Levels.{Limit, limit_of, refilled, with_ticks, less, held}
+use Rattle.token_bucket.specs.Spells.{moved_over, since_each, least_with, spells}
+use Rattle.token_bucket.specs.BucketLaws.{Kept, after_beats, kept_at}
+use Rattle.token_bucket.proofs.BucketLemmas.{level-is_least, moved-short}
 use Rattle.rate_group.specs.GroupValue.{Lane}
 use Rattle.rate_group.specs.Steps.{lane_less, lane_refilled, first_lane, least_of}
-use Rattle.rate_group.specs.GroupLaws.{GroupCall, Refills, Spends, KeptLane, after_step, after_steps, made_lane, WithinShares, beat_of_call}
+use Rattle.rate_group.specs.GroupLaws.{GroupCall, Refills, Spends, KeptLane, after_step, after_steps, made_lane, WithinShares}
 use Rattle.rate_group.specs.GroupLaws.{beats_of, GroupLevelIsLeast, GroupKeepsRate}
 
 -- as a bucket keeps it
@@ -128,7 +128,7 @@ shares-split l least x (Spends count n ∷ before) ss w =
     ((w.0, k.0), k.1)
 
 -- what is moved from a state that owes less than the least share
-stretch : (l : Limit) (least : ℕ) (x : KeptLane) (ss : List GroupCall) → 0 < least → Owes l least x.lane → WithinShares l least x ss →
+pub stretch : (l : Limit) (least : ℕ) (x : KeptLane) (ss : List GroupCall) → 0 < least → Owes l least x.lane → WithinShares l least x ss →
     moved_over (beats_of ss) ≤ l.burst + l.rate * ((after_steps l least x ss).tick - x.tick) + (least - 1)
 stretch l least x ss some h w =
     let follows = lane-follows l least x ss in
@@ -142,29 +142,31 @@ stretch l least x ss some h w =
     let gain = ap (λ (z : Kept). l.rate * (z.tick - x.tick)) same in
     omega (arith, moved, short, debt, gain)
 
+-- the least share of a group that is made, and what its bucket owes then
+pub least-some_of : (cfg : LimitCfg) (share : ℕ) → 0 < share → 0 < least_of cfg share
+least-some_of cfg share some = let a = cfg.reads in let b = cfg.writes in omega (arith, a, b, some)
+
+pub made-owes : (cfg : LimitCfg) (share : ℕ) (d : Dir) → 0 < share →
+    Owes (limit_of cfg d) (least_of cfg share) (first_lane (limit_of cfg d))
+made-owes cfg share dir.Read some = record {
+  burst = refl;
+  debt = let a = least-some_of cfg share some in omega (arith, a);
+  goes = λ f. let a = cfg.reads in let b = cfg.read_within in omega (arith, a, b);
+}
+made-owes cfg share dir.Write some = record {
+  burst = refl;
+  debt = let a = least-some_of cfg share some in omega (arith, a);
+  goes = λ f. let a = cfg.writes in let b = cfg.write_within in omega (arith, a, b);
+}
+
 pub group-keeps_rate : GroupKeepsRate
 group-keeps_rate cfg d share made_at before ss some w =
     let l = limit_of cfg d in
     let least = least_of cfg share in
     let parts = shares-split l least (made_lane l made_at) before ss w in
-    let first = made-owes d in
+    let least-some = least-some_of cfg share some in
     stretch l least (after_steps l least (made_lane l made_at) before) ss least-some
-    (steps-owe l least (made_lane l made_at) before least-some first parts.0) parts.1
-  where
-    least-some : 0 < least_of cfg share
-    least-some = let a = cfg.reads in let b = cfg.writes in omega (arith, a, b, some)
-
-    made-owes : (e : Dir) → Owes (limit_of cfg e) (least_of cfg share) (first_lane (limit_of cfg e))
-    made-owes dir.Read = record {
-      burst = refl;
-      debt = let a = least-some in omega (arith, a);
-      goes = λ f. let a = cfg.reads in let b = cfg.read_within in omega (arith, a, b);
-    }
-    made-owes dir.Write = record {
-      burst = refl;
-      debt = let a = least-some in omega (arith, a);
-      goes = λ f. let a = cfg.writes in let b = cfg.write_within in omega (arith, a, b);
-    }
+    (steps-owe l least (made_lane l made_at) before least-some (made-owes cfg share d some) parts.0) parts.1
 
 pub group-level_is_least : GroupLevelIsLeast
 group-level_is_least cfg d least made_at ss time at =

@@ -1,3 +1,9 @@
+pub mod KeptGroups
+pub mod KnownMembers
 pub mod LaneLemmas
+pub mod LevelsByCalls
 pub mod ListLemmas
+pub mod ListsOfCalls
 pub mod MemberLemmas
+pub mod SharesByCalls
+pub mod SuspensionsByCalls

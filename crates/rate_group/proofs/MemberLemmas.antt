@@ -1,6 +1,6 @@
 -- Members that come and go, and how many each group has.
 use Rattle.std.proofs.Common.{◌≡◌, ◌∙◌, inl, inr, ℕ, zero, suc, ◌+◌, ◌-◌, ◌<◌, ◌≤◌, Bool, true, false, cond, List, [], ◌∷◌, length, set}
-use Rattle.std.proofs.Common.{get_or, Option, Some, None, refl, sym, ap, subst, arith, nat_eq, sum_by, length-append}
+use Rattle.std.proofs.Common.{get_or, Option, Some, refl, sym, ap, subst, arith, nat_eq, length-append}
 use Rattle.std.specs.Prelude.{◌++◌, slice_get}
 use Rattle.std.specs.Option.{option_map, option_map_or, IsSomeAnd}
 use Rattle.std.proofs.lemmas.List.{length-map, length-set}
@@ -8,14 +8,14 @@ use Rattle.std.proofs.lemmas.Option.{slice_get-map, slice_get_read, slice_get_wi
 use Rattle.std.proofs.lemmas.List.Sums.{sum_by-cons, count_by-le-length}
 use Rattle.std.proofs.lemmas.Bool.Decides.{eqb_tells}
 use Rattle.std.specs.List.{AllByRecursion}
-use Rattle.std.specs.Map.{lookup, remove_entry}
+use Rattle.std.specs.Map.{remove_entry}
 use Rattle.indexmap.specs.IndexMap.{insert_entry}
 use Rattle.rate_group.specs.declared.group.Group.{Group}
 use Rattle.rate_group.specs.GroupValue.{GroupValue}
 use Rattle.token_bucket.specs.declared.limit.Dir.{Dir}
 use Rattle.rate_group.specs.GroupList.{group_value, group_values, IsWithinShare, counts_of, one_at, one_of, Counted, CountsMove, HasMember}
 use Rattle.rate_group.specs.Steps.{count_in, group_of, share_of, share_in}
-use Rattle.rate_group.proofs.ListLemmas.{one_more, one_less, count_at}
+use Rattle.rate_group.proofs.ListLemmas.{one_less, count_at}
 
 abbrev pub Member : Type 0
 Member = ℕ × ℕ

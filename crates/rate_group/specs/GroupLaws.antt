@@ -1,10 +1,9 @@
 -- Laws on one direction of a group, whoever joins or leaves.
-use Rattle.std.specs.Prelude.{◌≡◌, ℕ, ◌+◌, ◌-◌, ◌*◌, ◌/◌, ◌<◌, ◌≤◌, max, Bool, false, if◌then◌else◌, ⊤, List, [], ◌∷◌, ◌++◌, map}
+use Rattle.std.specs.Prelude.{◌≡◌, ℕ, ◌+◌, ◌-◌, ◌*◌, ◌/◌, ◌<◌, ◌≤◌, max, if◌then◌else◌, ⊤, List, [], ◌∷◌, ◌++◌}
 use Rattle.token_bucket.specs.declared.limit.Dir.{Dir}
 use Rattle.token_bucket.specs.declared.limit.LimitCfg.{LimitCfg}
-use Rattle.token_bucket.specs.Levels.{Limit, limit_of, at_rate, held}
+use Rattle.token_bucket.specs.Levels.{Limit, limit_of, held}
 use Rattle.token_bucket.specs.Spells.{Beat, Begins, Moves, moved_over, moved_first, moved_in, since_each, least_with, spells}
-use Rattle.token_bucket.specs.BucketLaws.{Kept, after_beats}
 use Rattle.rate_group.specs.GroupValue.{Lane}
 use Rattle.rate_group.specs.Steps.{lane_less, lane_refilled, first_lane, least_of}
 

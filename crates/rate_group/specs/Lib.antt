@@ -2,5 +2,8 @@ pub mod GroupLaws
 pub mod GroupList
 pub mod GroupValue
 pub mod GroupView
+pub mod GroupsCalls
+pub mod LawsOverCalls
 pub mod Refusals
 pub mod Steps
+pub mod ToldByCalls

@@ -1,6 +1,7 @@
 // Groups and their members. The invariants:
 // 1. each group counts its members;
 // 2. each member is in a group that was made.
+// The clause `called` of a call says that it is one of those over which the laws of laws.rt go.
 ghost use Rattle.std.specs.Prelude.{◌≡◌, ◌≤◌, ◌<◌, ◌+◌, ◌-◌, ◌^◌, [], length, map, slice_index, slice_index_or, slice_set, slice_get, IfOk};
 ghost use Rattle.std.specs.Prelude.{OnOk, OnErr};
 ghost use Rattle.std.specs.Option.{option_map, IsSomeAnd};
@@ -42,6 +43,7 @@ impl Groups {
     ghost use Rattle.token_bucket.specs.Limit.{fault_of};
     ghost use Rattle.rate_group.specs.Steps.{with_group, joined, left, share_in, spent, all_refilled, lane_of};
     ghost use Rattle.rate_group.specs.Refusals.{Refuses, new_group_refusal, join_refusal, change_refusal, leave_refusal};
+    ghost use Rattle.rate_group.specs.GroupsCalls.{GroupsCall, IsCalled};
 
     /// No groups and no members. Takes no memory; the cost is constant.
     pub fn new(alloc: Global) -> Groups
@@ -63,6 +65,7 @@ impl Groups {
         ensures number { IfOk result (λ n. n ≡ length self.old.groups) }
         ensures ok { OnOk result (self.new ≡ with_group cfg share now self.old) }
         ensures err { OnErr result (self.new ≡ self.old) }
+        ensures called { IsCalled (GroupsCall.NewGroup cfg share now result) self.old self.new }
     {
         if share == 0 {
             return Err(GroupFault::BadShare);
@@ -82,6 +85,7 @@ impl Groups {
         ensures refused { Refuses result (join_refusal group member self.old) }
         ensures ok { OnOk result (self.new ≡ joined group member self.old) }
         ensures err { OnErr result (self.new ≡ self.old) }
+        ensures called { IsCalled (GroupsCall.Join group member result) self.old self.new }
     {
         if group as usize >= self.groups.len() {
             return Err(GroupFault::NoGroup);
@@ -98,6 +102,7 @@ impl Groups {
         ensures refused { Refuses result (change_refusal group self.old) }
         ensures ok { OnOk result (self.new ≡ joined group member self.old) }
         ensures err { OnErr result (self.new ≡ self.old) }
+        ensures called { IsCalled (GroupsCall.Change group member result) self.old self.new }
     {
         if group as usize >= self.groups.len() {
             return Err(GroupFault::NoGroup);
@@ -116,6 +121,7 @@ impl Groups {
         ensures refused { fault_of result ≡ leave_refusal member self.old }
         ensures ok { OnOk result (self.new ≡ left member self.old) }
         ensures err { OnErr result (self.new ≡ self.old) }
+        ensures called { IsCalled (GroupsCall.Leave member result) self.old self.new }
     {
         let Some(group) = self.members.shift_remove(&member) else {
             return Err(GroupFault::NotMember);
@@ -139,7 +145,8 @@ impl Groups {
     /// asked that n is at most the member's share. Takes no memory; the cost is constant.
     pub fn spend(&mut self, member: u64, dir: Dir, n: u64)
         requires { IsSomeAnd (share_in member dir self.old) (λ share. n ≤ share) }
-        ensures { self.new ≡ spent member dir n self.old }
+        ensures value { self.new ≡ spent member dir n self.old }
+        ensures called { IsCalled (GroupsCall.Spend member dir n) self.old self.new }
     {
         let Some(group) = self.members.get(&member) else {
             return;
@@ -151,7 +158,8 @@ impl Groups {
     /// Adds to all groups what the ticks bring that began since their last refill, up to their bursts. A suspended direction that then
     /// has the least share goes on. A moment before the last one brings nothing. Takes no memory; the cost is in the number of groups.
     pub fn refill(&mut self, now: u64)
-        ensures { self.new ≡ all_refilled now self.old }
+        ensures value { self.new ≡ all_refilled now self.old }
+        ensures called { IsCalled (GroupsCall.Refill now) self.old self.new }
     {
         refill_all(&mut self.groups, now);
     }

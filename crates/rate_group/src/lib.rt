@@ -10,5 +10,8 @@ mod laws;
 
 pub use fault::GroupFault;
 pub use groups::Groups;
-pub use laws::{group_keeps_rate, group_level_is_least};
+pub use laws::{
+    group_keeps_rate, group_level_is_least, groups_keep_rates, levels_follow_from_calls,
+    members_follow_from_calls, shares_follow_from_calls, suspensions_follow_from_calls,
+};
 pub use token_bucket::{Dir, LimitCfg};

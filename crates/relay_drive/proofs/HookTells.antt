@@ -52,16 +52,21 @@ tells_more-then tells was mid now xs ys ps qs h k = record {
 
 -- the hook of one side, by where it was and is
 abbrev pub SideTells : {H : Type 0} → Telling H → Option H → Option H → List Why → List (Act × AskAnswer) → Type 0
-SideTells tells was now heard asked = MatchOption was (now ≡ None) (λ x. IsSomeAnd now (λ y. TellsMore tells x y heard asked))
+SideTells tells was now heard asked = MatchOption was ((now ≡ None) × (heard ≡ []) × (asked ≡ [])) (λ x. IsSomeAnd now (λ y. TellsMore tells x y heard asked))
 
 side-none : {H : Type 0} (tells : Telling H) (o : Option H) → SideTells tells o o [] []
-side-none tells None = refl
+side-none tells None = (refl, refl, refl)
 side-none tells (Some x) = tells_more-none tells x
 
 side-then : {H : Type 0} (tells : Telling H) (a b c : Option H) (xs ys : List Why) (ps qs : List (Act × AskAnswer)) →
     SideTells tells a b xs ps → SideTells tells b c ys qs → SideTells tells a c (xs ++ ys) (ps ++ qs)
-side-then tells None None c xs ys ps qs h k = k
-side-then tells None (Some b) c xs ys ps qs h k = absurd (cc)
+side-then tells None None c xs ys ps qs h k =
+    let a = h.1 in
+    let b = h.2 in
+    let d = k.1 in
+    let e = k.2 in
+    (k.0, (λ i. a i ++ d i), (λ i. b i ++ e i))
+side-then tells None (Some b) c xs ys ps qs h k = absurd (let bad = h.0 in cc)
 side-then tells (Some a) None c xs ys ps qs h k = absurd h
 side-then tells (Some a) (Some b) None xs ys ps qs h k = absurd k
 side-then tells (Some a) (Some b) (Some c) xs ys ps qs h k = tells_more-then tells a b c xs ys ps qs h k

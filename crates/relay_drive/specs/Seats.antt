@@ -44,9 +44,11 @@ pub record TellsMore {H : Type 0} (tells : Telling H) (was now : H) (whys : List
   pub by_plan : HasAskedByPlan (tells.planned was) (tells.heard was) (tells.asked was) →
       HasAskedByPlan (tells.planned now) (tells.heard now) (tells.asked now)
 
--- So it is of the hook of each side, in the words of the entries; but for the side whose hook wanted memory, if there is one.
+-- So it is of the hook of each side, in the words of the entries, and they tell nothing of a side without one; but for the side whose hook
+-- wanted memory, if there is one.
 pub record HooksTell {H : Type 0} (tells : Telling H) (short : Option SideId) (hooks gone hooks' gone' : List (Option H)) (added : Trace) : Type 0 where
-  pub more : (e : SideId) → short ≢ Some e → MatchOption (seat hooks gone (number e)) (seat hooks' gone' (number e) ≡ None)
+  pub more : (e : SideId) → short ≢ Some e → MatchOption (seat hooks gone (number e))
+      ((seat hooks' gone' (number e) ≡ None) × (heard_in e added ≡ []) × (asked_in e added ≡ []))
       (λ was. IsSomeAnd (seat hooks' gone' (number e)) (λ now. TellsMore tells was now (heard_in e added) (asked_in e added)))
   pub kept : (e : SideId) → is_some (seat hooks' gone' (number e)) ≡ is_some (seat hooks gone (number e))
 

@@ -5,6 +5,7 @@ use Rattle.std.specs.Prelude.{MatchResult}
 use Rattle.std.specs.List.{All}
 use Rattle.std.proofs.lemmas.List.Elements.{All-nil, All-cons, All-append}
 use Rattle.ev_types.specs.declared.entry.Entry.TheVariants as entry
+use Rattle.ev_types.specs.declared.side.SideId.{SideId}
 use Rattle.ev_types.specs.declared.status.LinkCount.{LinkCount}
 use Rattle.ev_types.specs.declared.status.LinkState.TheVariants as state
 use Rattle.ev_types.specs.declared.status.Status.{Status}
@@ -45,7 +46,10 @@ use Rattle.command_words.specs.declared.fault.WordsFault.{WordsFault}
 use Rattle.command_words.specs.declared.fault.WordsFault.TheVariants as words
 use Rattle.relay_serve.specs.Seen.{Seen, Drained}
 use Rattle.relay_serve.specs.Served.{settings_on, BeganSo, IsServed, EndedAs, ReportedAll, RanOut, Did, DidWith}
-use Rattle.relay_serve.specs.Underway.{TurnsWent, TurnsCut, IsServedOut, RanTo, Reported, ended_as}
+use Rattle.relay_serve.specs.Served.{turns_told}
+use Rattle.relay_serve.specs.Underway.{TurnsWent, TurnsEnd, TurnsCut, IsServedOut, RanTo, Reported, ended_as}
+use Rattle.relay_serve.specs.declared.run.ServeEnd.{ServeEnd}
+use Rattle.relay_serve.specs.declared.run.ServeEnd.TheVariants as serve_end
 use Rattle.relay_serve.proofs.TurnsLemmas.{built}
 
 -- a sum of which the whole is 0
@@ -133,14 +137,14 @@ begun-by route old mid start_failed log cause ends told = record {
   heard = Heard-open old.faults mid.faults [] start_failed cause (λ e. refl) refl;
 }
 
-module _ (route : Route) (old mid new : Seen) (b : Begun route old mid false) where
+module _ (route : Route) (hooks : List SideId) (old mid new : Seen) (b : Begun route old mid false) where
   -- what turns behind the start came to, where a turn may answer so
   served : (answer : TurnAnswer) (failed : Bool) (x : Stage) (s : State) (After : Trace → State → Type 0) →
-      (w : TurnsWent (settings_on route) After failed mid new s) → StandsFor w.added x s → LeftAt s.settings answer x s.plain →
-      IsServed route answer failed old new w.added (lines_below s s.plain.opened)
+      (w : TurnsWent (settings_on route hooks) After failed mid new s) → StandsFor w.added x s → LeftAt s.settings answer x s.plain →
+      IsServed route hooks answer failed old new w.added (lines_below s s.plain.opened)
   served answer failed x s After w k left = record {
     list = subst (λ z. Grew z new.log w.added) b.log w.list;
-    relayed = relayed-of (settings_on route) answer w.added x s w.settings k left w.ends;
+    relayed = relayed-of (settings_on route hooks) answer w.added x s w.settings k left w.ends;
     began = mid.told;
     ends_began = mid.ends;
     start = b.start;
@@ -148,16 +152,16 @@ module _ (route : Route) (old mid new : Seen) (b : Begun route old mid false) wh
     heard = Heard-join old.faults mid.faults new.faults [] w.added false failed b.heard w.heard;
   }
 
-  left-served : (answer : TurnAnswer) (failed : Bool) (s : State) → (w : TurnsWent (settings_on route) (LeftFor answer) failed mid new s) →
-      IsServed route answer failed old new w.added (lines_below s s.plain.opened)
+  left-served : (answer : TurnAnswer) (failed : Bool) (s : State) → (w : TurnsWent (settings_on route hooks) (LeftFor answer) failed mid new s) →
+      IsServed route hooks answer failed old new w.added (lines_below s s.plain.opened)
   left-served answer failed s w = served answer failed w.after.stage s (LeftFor answer) w w.after.stands w.after.left
 
-  went-served : (s : State) → (w : TurnsWent (settings_on route) StandsBetween false mid new s) →
-      IsServed route TurnAnswer.Went false old new w.added (lines_below s s.plain.opened)
+  went-served : (s : State) → (w : TurnsWent (settings_on route hooks) StandsBetween false mid new s) →
+      IsServed route hooks TurnAnswer.Went false old new w.added (lines_below s s.plain.opened)
   went-served s w = served TurnAnswer.Went false Stage.Between s StandsBetween w w.after refl
 
   -- all was served
-  pub ran-out : (s : State) → TurnsWent (settings_on route) StandsBetween false mid new s → IsServedOut s → RanTo route status.Ok old new s
+  pub ran-out : (s : State) → TurnsWent (settings_on route hooks) StandsBetween false mid new s → IsServedOut s → RanTo route hooks status.Ok old new s
   ran-out s w all = (
     w.added,
     (
@@ -170,8 +174,14 @@ module _ (route : Route) (old mid new : Seen) (b : Begun route old mid false) wh
     ),
   )
 
+  -- a hook stopped a turn
+  pub ran-stopped : (link turn : ℕ) (s : State) →
+      (went : TurnsWent (settings_on route hooks) (LeftFor (TurnAnswer.Stopped link)) false mid new s) × (turn ≡ turns_told went.added) →
+      RanTo route hooks (status.Stopped link turn) old new s
+  ran-stopped link turn s w = (w.0.added, (left-served (TurnAnswer.Stopped link) false s w.0, w.1))
+
   -- a turn was refused
-  pub ran-cut : (f : DriveFault) (s : State) → TurnsCut f (settings_on route) mid new s → RanTo route (status_of f) old new s
+  pub ran-cut : (f : DriveFault) (s : State) → TurnsCut f (settings_on route hooks) mid new s → RanTo route hooks (status_of f) old new s
   ran-cut fault.Memory s w = (w.added, left-served TurnAnswer.Memory false s w)
   ran-cut fault.PollFault s w =
       let v = left-served TurnAnswer.PollFault false s w in
@@ -181,23 +191,25 @@ module _ (route : Route) (old mid new : Seen) (b : Begun route old mid false) wh
   ran-cut fault.Spent s w = (w.0.added, (went-served s w.0, w.1))
 
 -- what came of the turns behind a start
-pub ran-of : (route : Route) (old mid new : Seen) → Begun route old mid false → (s : State) (g : Settings) → g ≡ settings_on route →
-    (r : Result Unit DriveFault) →
-    MatchResult r (λ _. TurnsWent g StandsBetween false mid new s × IsServedOut s) (λ why. TurnsCut why g mid new s) →
-    RanTo route (ended_as r) old new s
-ran-of route old mid new b s g is (Ok done) h =
-    ran-out route old mid new b s (subst (λ z. TurnsWent z StandsBetween false mid new s) is h.0) h.1
-ran-of route old mid new b s g is (Err why) h = ran-cut route old mid new b why s (subst (λ z. TurnsCut why z mid new s) is h)
+pub ran-of : (route : Route) (hooks : List SideId) (old mid new : Seen) → Begun route old mid false → (s : State) (g : Settings) → g ≡ settings_on route hooks →
+    (r : Result ServeEnd DriveFault) → MatchResult r (λ end. TurnsEnd end g mid new s) (λ why. TurnsCut why g mid new s) →
+    RanTo route hooks (ended_as r) old new s
+ran-of route hooks old mid new b s g is (Ok serve_end.ServedOut) h =
+    ran-out route hooks old mid new b s (subst (λ z. TurnsWent z StandsBetween false mid new s) is h.0) h.1
+ran-of route hooks old mid new b s g is (Ok (serve_end.Stopped link turn)) h =
+    ran-stopped route hooks old mid new b link turn s (subst (λ z. TurnsEnd (serve_end.Stopped link turn) z mid new s) is h)
+ran-of route hooks old mid new b s g is (Err why) h =
+    ran-cut route hooks old mid new b why s (subst (λ z. TurnsCut why z mid new s) is h)
 
 -- The start alone
 
 -- nothing was done behind the start
-module _ (route : Route) (old new : Seen) (failed : Bool) (b : Begun route old new failed) where
-  only-started : (answer : TurnAnswer) → LeftAt (settings_on route) answer Stage.Between (new_state (settings_on route)).plain →
-      IsServed route answer failed old new [] []
+module _ (route : Route) (hooks : List SideId) (old new : Seen) (failed : Bool) (b : Begun route old new failed) where
+  only-started : (answer : TurnAnswer) → LeftAt (settings_on route hooks) answer Stage.Between (new_state (settings_on route hooks)).plain →
+      IsServed route hooks answer failed old new [] []
   only-started answer left =
-      let g = settings_on route in
-      let k = new_relay_stands g (built route.settings) in
+      let g = settings_on route hooks in
+      let k = new_relay_stands g (built route.settings hooks) in
       record {
         list = subst (λ z. Grew old.log z []) (sym b.log) (Grew-none old.log);
         relayed = relayed-of g answer [] Stage.Between (new_state g) refl k left (ends-none (StoodBetween g));
@@ -208,27 +220,27 @@ module _ (route : Route) (old new : Seen) (failed : Bool) (b : Begun route old n
         heard = b.heard;
       }
 
-pub start-failed : (route : Route) (old new : Seen) → Begun route old new true → RanTo route status.OpenFault old new (new_state (settings_on route))
-start-failed route old new b = ([], (inr (refl, only-started route old new true b TurnAnswer.Went refl), b.heard.listener.fault refl))
+pub start-failed : (route : Route) (hooks : List SideId) (old new : Seen) → Begun route old new true → RanTo route hooks status.OpenFault old new (new_state (settings_on route hooks))
+start-failed route hooks old new b = ([], (inr (refl, only-started route hooks old new true b TurnAnswer.Went refl), b.heard.listener.fault refl))
 
-pub start-lacked : (route : Route) (old new : Seen) → Begun route old new false → RanTo route status.Memory old new (new_state (settings_on route))
-start-lacked route old new b = ([], only-started route old new false b TurnAnswer.Memory tt)
+pub start-lacked : (route : Route) (hooks : List SideId) (old new : Seen) → Begun route old new false → RanTo route hooks status.Memory old new (new_state (settings_on route hooks))
+start-lacked route hooks old new b = ([], only-started route hooks old new false b TurnAnswer.Memory tt)
 
 -- The report
 
 -- What a call did: its run ended so, and its report was written whole, or in part, or not at all.
-pub did : (route : Route) (ended result : Status) (old new : Seen) (s : State) (before after : Drained) → RanTo route ended old new s →
-    Reported ended result (report_text (lines_below s s.plain.opened)) before after → Did route result old new before after
-did route ended result old new s before after ran told = by_result result told
+pub did : (route : Route) (hooks : List SideId) (ended result : Status) (old new : Seen) (s : State) (before after : Drained) → RanTo route hooks ended old new s →
+    Reported ended result (report_text (lines_below s s.plain.opened)) before after → Did route hooks result old new before after
+did route hooks ended result old new s before after ran told = by_result result told
   where
     links : List LinkCount
     links = lines_below s s.plain.opened
 
     -- a status with which no run ends
-    never : (x : Status) → ended ≡ x → (RanTo route x old new s → ⊥) → ⊥
-    never x is none = none (subst (λ e. RanTo route e old new s) is ran)
+    never : (x : Status) → ended ≡ x → (RanTo route hooks x old new s → ⊥) → ⊥
+    never x is none = none (subst (λ e. RanTo route hooks e old new s) is ran)
 
-    ran-as : (e : Status) → e ≢ status.Memory → RanTo route e old new s → (t : Trace) × EndedAs route e old new t links
+    ran-as : (e : Status) → e ≢ status.Memory → RanTo route hooks e old new s → (t : Trace) × EndedAs route hooks e old new t links
     ran-as status.Memory k r = absurd (k refl)
     ran-as status.Ok k r = r
     ran-as status.Usage k r = r
@@ -241,24 +253,24 @@ did route ended result old new s before after ran told = by_result result told
     ran-as status.OpenFault k r = r
     ran-as status.Spent k r = r
 
-    lacked : (e : Status) → RanTo route e old new s → RanOut route old new
+    lacked : (e : Status) → RanTo route hooks e old new s → RanOut route hooks old new
     lacked status.Memory r = inl (r.0, links, r.1)
     lacked status.Ok r = inr (inl (r.0, links, status.Ok, r.1))
     lacked status.PollFault r = inr (inl (r.0, links, status.PollFault, r.1))
     lacked status.OpenFault r = inr (inl (r.0, links, status.OpenFault, r.1))
     lacked status.Spent r = inr (inl (r.0, links, status.Spent, r.1))
+    lacked (status.Stopped link turn) r = inr (inl (r.0, links, status.Stopped link turn, r.1))
     lacked status.Usage r = absurd r.1
     lacked (status.BadScript line) r = absurd r.1
     lacked status.ReadFault r = absurd r.1
     lacked status.WriteFault r = absurd r.1
-    lacked (status.Stopped link turn) r = absurd r.1
     lacked status.TooLong r = absurd r.1
 
     all : (e : Status) → e ≡ ended → e ≢ status.Memory → TookOn before.taken after.taken (report_text links) →
-        ReportedAll route e old new before after
-    all e is k took = let r = ran-as e k (subst (λ x. RanTo route x old new s) (sym is) ran) in (r.0, links, r.1, took)
+        ReportedAll route hooks e old new before after
+    all e is k took = let r = ran-as e k (subst (λ x. RanTo route hooks x old new s) (sym is) ran) in (r.0, links, r.1, took)
 
-    by_result : (r : Status) → Reported ended r (report_text links) before after → Did route r old new before after
+    by_result : (r : Status) → Reported ended r (report_text links) before after → Did route hooks r old new before after
     by_result status.Memory h = lacked ended ran
     by_result status.WriteFault h = let r = ran-as ended h.0 ran in ((r.0, links, ended, h.1, r.1, h.2, h.3), h.4)
     by_result status.Ok h = all status.Ok h.0 (λ e. absurd (cc)) h.1
@@ -268,15 +280,15 @@ did route ended result old new s before after ran told = by_result result told
     by_result status.Usage h = never status.Usage (sym h.0) (λ r. r.1)
     by_result (status.BadScript line) h = never (status.BadScript line) (sym h.0) (λ r. r.1)
     by_result status.ReadFault h = never status.ReadFault (sym h.0) (λ r. r.1)
-    by_result (status.Stopped link turn) h = never (status.Stopped link turn) (sym h.0) (λ r. r.1)
+    by_result (status.Stopped link turn) h = all (status.Stopped link turn) h.0 (λ e. absurd (cc)) h.1
     by_result status.TooLong h = never status.TooLong (sym h.0) (λ r. r.1)
 
 -- Words
 
 -- The words are not in the grammar, or memory ran out while they were read: nothing was done.
-pub words-ended : (o : Option Route) (why : WordsFault) (old : Seen) (before : Drained) → (why ≡ words.Usage → o ≡ None) →
-    DidWith o (status_of_words why) old old before before
-words-ended o words.Usage old before none =
-    subst (λ z. DidWith z status.Usage old old before before) (sym (none refl)) (inl refl, refl, refl)
-words-ended None words.Memory old before none = (inr refl, refl, refl)
-words-ended (Some route) words.Memory old before none = inr (inr refl)
+pub words-ended : (o : Option Route) (hooks : List SideId) (why : WordsFault) (old : Seen) (before : Drained) → (why ≡ words.Usage → o ≡ None) →
+    DidWith o hooks (status_of_words why) old old before before
+words-ended o hooks words.Usage old before none =
+    subst (λ z. DidWith z hooks status.Usage old old before before) (sym (none refl)) (inl refl, refl, refl)
+words-ended None hooks words.Memory old before none = (inr refl, refl, refl)
+words-ended (Some route) hooks words.Memory old before none = inr (inr refl)

@@ -1,16 +1,19 @@
 -- Turns in a row: none, one more, and one that is cut off.
-use Rattle.std.proofs.Common.{◌≡◌, ◌≢◌, ◌⊎◌, inl, inr, Bool, true, false, [], ◌++◌, refl, sym, ◌∙◌, ap, subst, append-nil, Result, Err}
+use Rattle.std.proofs.Common.{◌≡◌, ◌≢◌, ◌⊎◌, inl, inr, ℕ, ◌+◌, ◌-◌, ◌^◌, min, Bool, true, false, List, [], ◌++◌, refl, sym, ◌∙◌, ap, subst}
+use Rattle.std.proofs.Common.{append-nil, count_by, arith, Result, Err}
 use Rattle.std.specs.Prelude.{⊤}
 use Rattle.ev_types.specs.declared.side.SideId.{SideId}
 use Rattle.ev_types.specs.Told.{EndTold, PortTold}
 use Rattle.ev_types.specs.Trace.{Trace}
-use Rattle.relay_model.specs.Settings.{Settings, model_settings}
+use Rattle.relay_model.specs.Answers.{TurnAnswer}
+use Rattle.relay_model.specs.RatesKept.{is_turn}
+use Rattle.relay_model.specs.Settings.{Settings, settings_with}
 use Rattle.relay_model.specs.Stages.{Stage}
 use Rattle.relay_model.specs.Tied.{IsTied}
 use Rattle.relay_model.proofs.TiedLemmas.{nothing_is_tied}
 use Rattle.ev_types.specs.declared.settings.Settings as code
 use Rattle.relay_state.specs.State.{State}
-use Rattle.relay_steps.specs.Meaning.{IsBuilt, LeftFor}
+use Rattle.relay_steps.specs.Meaning.{IsBuilt, StandsFor, LeftFor}
 use Rattle.relay_laws.specs.Relayed.{StoodBetween}
 use Rattle.relay_laws.specs.TurnEnds.{AtTurnEnds}
 use Rattle.relay_laws.proofs.LawLemmas.{new_relay_stands}
@@ -22,32 +25,35 @@ use Rattle.relay_drive.specs.DriveStands.{DriveStands, DriveWent, StandsBetween,
 use Rattle.relay_drive.specs.DriveValue.{DriveValue, new_drive, is_worn}
 use Rattle.relay_drive.specs.Known.{Question}
 use Rattle.relay_drive.specs.Phases.{CutTurn, in_poll, CutPolling, is_open_fault}
+use Rattle.relay_drive.proofs.HookEvents.{asks_fit-none}
 use Rattle.relay_drive.proofs.GoesLemmas.{Grew-none, Grew-join, Heard-none, Heard-join}
-use Rattle.program_end.proofs.TurnCountLemmas.{BeginsOnce}
+use Rattle.program_end.proofs.TurnCountLemmas.{BeginsOnce, count-append}
 use Rattle.relay_serve.specs.Seen.{Seen}
+use Rattle.relay_serve.specs.Served.{turns_told}
 use Rattle.relay_serve.specs.Underway.{TurnsWent, TurnsCut}
 
 -- no group is set in what words set
-pub built : (g : code.Settings) → IsBuilt (model_settings g)
-built g = record { in_group = refl; out_group = refl; groups = refl }
+pub built : (g : code.Settings) (hooks : List SideId) → IsBuilt (settings_with g hooks)
+built g hooks = record { in_group = refl; out_group = refl; groups = refl }
 
--- a drive went so, and stands for what its turns put
-abbrev pub Standing : Settings → Seen → Seen → DriveValue → Type 0
-Standing g old new d = (w : TurnsWent g StandsBetween false old new d.state) × DriveStands w.added d
+-- a drive went so, stands for what its turns put, and so many turns are told of
+abbrev pub Standing : Settings → Seen → Seen → DriveValue → ℕ → Type 0
+Standing g old new d turns = (w : TurnsWent g StandsBetween false old new d.state) × DriveStands w.added d × (turns ≡ turns_told w.added)
 
 -- before the first turn
-pub stands-new : (g : code.Settings) (old : Seen) → Standing (model_settings g) old old (new_drive g)
-stands-new g old = (
+pub stands-new : (g : code.Settings) (hooks : List SideId) (old : Seen) → Standing (settings_with g hooks) old old (new_drive g hooks) 0
+stands-new g hooks old = (
   record {
     added = [];
     list = Grew-none old.log;
     settings = refl;
-    after = new_relay_stands (model_settings g) (built g);
-    ends = ends-none (StoodBetween (model_settings g));
-    tied = nothing_is_tied (model_settings g) old.told old.ends;
+    after = new_relay_stands (settings_with g hooks) (built g hooks);
+    ends = ends-none (StoodBetween (settings_with g hooks));
+    tied = nothing_is_tied (settings_with g hooks) old.told old.ends;
     heard = Heard-none old.faults;
   },
-  record { fits = record { time = refl; last = refl; opened = refl }; entries = refl },
+  record { fits = record { time = refl; last = refl; opened = refl }; asks = asks_fit-none; entries = refl },
+  refl,
 )
 
 -- wherever a turn ended, the run stood so, with one turn more or none
@@ -57,10 +63,10 @@ ends-on g t a s is k ends (inl none) = subst (AtTurnEnds (StoodBetween g)) (sym 
 ends-on g t a s is k ends (inr one) = ends-grow (StoodBetween g) t a ends (stood-at g t Stage.Between s is k) one.first one.once
 
 -- One more turn, of which this is known, or a part of one.
-pub turns-next : {Plan : Type 0} {R : State → Trace → State → Type 0} {After : Trace → State → Type 0} (open_failed : Bool) (g : Settings)
+pub turns-next : {Plan : Type 0} {R : State → Trace → State → Type 0} {After : Trace → State → Type 0} {Tells : Trace → Type 0} (open_failed : Bool) (g : Settings)
     (old mid new : Seen) (d e : DriveValue) (v v' : Settings → Question Plan → Trace → Type 0) →
     (w : TurnsWent g StandsBetween false old mid d.state) →
-    (t : DriveWent R After open_failed d e mid.log new.log v v' mid.faults new.faults) →
+    (t : DriveWent R After Tells open_failed d e mid.log new.log v v' mid.faults new.faults) →
     (t.added ≡ []) ⊎ BeginsOnce t.added →
     IsTied g old.told new.told old.ends new.ends (w.added ++ t.added) →
     TurnsWent g After open_failed old new e.state
@@ -74,14 +80,38 @@ turns-next open_failed g old mid new d e v v' w t begins tied = record {
   heard = Heard-join old.faults mid.faults new.faults w.added t.added false open_failed w.heard t.heard;
 }
 
+-- a turn that went through its phases left the relay between two turns
+pub between-of : (t : Trace) (s : State) → LeftFor TurnAnswer.Went t s → StandsBetween t s
+between-of t s k = subst (λ x. StandsFor t x s) k.left k.stands
+
+-- one turn more is told of, up to the end of a u32
+pub told-next : (t a : Trace) (turns more : ℕ) → turns ≡ turns_told t → more ≡ min (turns + 1) (2 ^ 32 - 1) → count_by is_turn a ≡ 1 →
+    more ≡ turns_told (t ++ a)
+told-next t a turns more was is one =
+    let all = count-append t a in
+    omega (arith, was, is, one, all)
+
 -- A whole turn more.
-pub stands-next : {Plan : Type 0} {R : State → Trace → State → Type 0} (g : Settings) (old mid new : Seen) (d e : DriveValue)
-    (v v' : Settings → Question Plan → Trace → Type 0) → (k : Standing g old mid d) →
-    (t : DriveWent R StandsBetween false d e mid.log new.log v v' mid.faults new.faults) → BeginsOnce t.added →
-    IsTied g old.told new.told old.ends new.ends (k.0.added ++ t.added) → Standing g old new e
+pub stands-next : {Plan : Type 0} {R : State → Trace → State → Type 0} {Tells : Trace → Type 0} (g : Settings) (old mid new : Seen)
+    (d e : DriveValue) (turns more : ℕ) (v v' : Settings → Question Plan → Trace → Type 0) → (k : Standing g old mid d turns) →
+    (t : DriveWent R (LeftFor TurnAnswer.Went) Tells false d e mid.log new.log v v' mid.faults new.faults) → BeginsOnce t.added →
+    IsTied g old.told new.told old.ends new.ends (k.0.added ++ t.added) → more ≡ min (turns + 1) (2 ^ 32 - 1) → Standing g old new e more
 unfolding turns-next
-stands-next g old mid new d e v v' k t once tied =
-    (turns-next false g old mid new d e v v' k.0 t (inr once) tied, t.stands k.0.added k.1)
+stands-next g old mid new d e turns more v v' k t once tied is =
+    let w = turns-next false g old mid new d e v v' k.0 t (inr once) tied in
+    (
+      record {
+        added = w.added;
+        list = w.list;
+        settings = w.settings;
+        after = between-of w.added e.state w.after;
+        ends = w.ends;
+        tied = w.tied;
+        heard = w.heard;
+      },
+      t.stands k.0.added k.1,
+      told-next k.0.added t.added turns more k.2 is once.once,
+    )
 
 -- no turn is cut off as spent behind its beginning
 pub spent-never : {s new : State} {a : Trace} → CutTurn fault.Spent s a new → ⊥

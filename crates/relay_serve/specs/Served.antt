@@ -1,5 +1,6 @@
 -- What `serve` says of the run that it made over a port.
-use Rattle.std.specs.Prelude.{◌≡◌, ◌≢◌, ◌⊎◌, ℕ, ◌<◌, Bool, true, false, List, [], length, take, All, Option, Some, None}
+use Rattle.std.specs.Prelude.{◌≡◌, ◌≢◌, ◌⊎◌, ℕ, ◌<◌, ◌-◌, ◌^◌, min, Bool, true, false, List, [], length, take, All, Option, Some, None}
+use Rattle.std.specs.Prelude.{count_by}
 use Rattle.ev_types.specs.declared.side.SideId.{SideId}
 use Rattle.ev_types.specs.declared.status.LinkCount.{LinkCount}
 use Rattle.ev_types.specs.declared.status.LinkState.TheVariants as state
@@ -14,7 +15,8 @@ use Rattle.ev_port.specs.Calls.{StartedAt}
 use Rattle.ev_port.specs.EndSteps.{AllWent, no_step}
 use Rattle.script_text.specs.ReportText.{report_text}
 use Rattle.relay_model.specs.Answers.{TurnAnswer}
-use Rattle.relay_model.specs.Settings.{Settings, model_settings}
+use Rattle.relay_model.specs.RatesKept.{is_turn}
+use Rattle.relay_model.specs.Settings.{Settings, settings_with}
 use Rattle.relay_model.specs.Tied.{IsTied}
 use Rattle.relay_model.specs.Totals.{opened}
 use Rattle.ev_types.specs.declared.route.Route.{Route}
@@ -24,25 +26,25 @@ use Rattle.relay_drive.specs.DriveStands.{DriveStands, StandsBetween}
 use Rattle.relay_drive.specs.DriveValue.{DriveValue, is_worn}
 use Rattle.relay_serve.specs.Seen.{Seen, Drained}
 
--- the settings of a run, as the model has them
-abbrev pub settings_on : Route → Settings
-settings_on route = model_settings route.settings
+-- the settings of a run with hooks for these sides, as the model has them
+abbrev pub settings_on : Route → List SideId → Settings
+settings_on route hooks = settings_with route.settings hooks
 
 -- the port was started once, with these addresses, and told this from then on
 pub record BeganSo (route : Route) (old : Seen) (told : PortTold) (ends : SideId → EndTold) : Type 0 where
   pub told_of_start : StartedAt old.told told route.listen route.to
   pub ends_stay : AllWent old.ends ends (λ _. no_step)
 
--- The run made this trace, which stands behind what the scribe had; a relay with these settings made it, and ended with this answer.
+-- The run made this trace, which stands behind what the scribe had; a relay with these settings and hooks made it, and ended with this answer.
 -- The port was started with the addresses, and is tied to the trace since then. The counts of its faults rose exactly where the trace
 -- tells of a fault, and that of its listener where this says so.
-pub record IsServed (route : Route) (answer : TurnAnswer) (open_failed : Bool) (old new : Seen) (t : Trace) (links : List LinkCount) : Type 0 where
+pub record IsServed (route : Route) (hooks : List SideId) (answer : TurnAnswer) (open_failed : Bool) (old new : Seen) (t : Trace) (links : List LinkCount) : Type 0 where
   pub list : Grew old.log new.log t
-  pub relayed : IsRelayed (settings_on route) answer t links
+  pub relayed : IsRelayed (settings_on route hooks) answer t links
   pub began : PortTold
   pub ends_began : SideId → EndTold
   pub start : BeganSo route old began ends_began
-  pub tied : IsTied (settings_on route) began new.told ends_began new.ends t
+  pub tied : IsTied (settings_on route hooks) began new.told ends_began new.ends t
   pub heard : Heard old.faults new.faults t open_failed
 
 -- so many links were opened as were asked for, and none is open
@@ -54,48 +56,53 @@ pub record IsAllServed (route : Route) (t : Trace) (links : List LinkCount) : Ty
 abbrev pub IsWornOut : Trace → Type 0
 IsWornOut t = (d : DriveValue) × DriveStands t d × StandsBetween t d.state × (is_worn d ≡ true)
 
+-- how many turns a status tells of
+abbrev pub turns_told : Trace → ℕ
+turns_told t = min (count_by is_turn t) (2 ^ 32 - 1)
+
 -- How a run ended, by the status with which the program ends once the report is written. The listener failed at the start or in the
--- last turn.
-abbrev pub EndedAs : Route → Status → Seen → Seen → Trace → List LinkCount → Type 0
-EndedAs route status.Ok old new t links = IsServed route TurnAnswer.Went false old new t links × IsAllServed route t links
-EndedAs route status.PollFault old new t links =
-    IsServed route TurnAnswer.PollFault false old new t links × Rose old.faults.polling new.faults.polling
-EndedAs route status.OpenFault old new t links =
-    (IsServed route TurnAnswer.OpenFault true old new t links ⊎ ((t ≡ []) × IsServed route TurnAnswer.Went true old new t links))
+-- last turn. A hook of this link stopped the last turn, and so many turns were made with it, cut at the end of a u32.
+abbrev pub EndedAs : Route → List SideId → Status → Seen → Seen → Trace → List LinkCount → Type 0
+EndedAs route hooks status.Ok old new t links = IsServed route hooks TurnAnswer.Went false old new t links × IsAllServed route t links
+EndedAs route hooks status.PollFault old new t links =
+    IsServed route hooks TurnAnswer.PollFault false old new t links × Rose old.faults.polling new.faults.polling
+EndedAs route hooks status.OpenFault old new t links =
+    (IsServed route hooks TurnAnswer.OpenFault true old new t links ⊎ ((t ≡ []) × IsServed route hooks TurnAnswer.Went true old new t links))
     × Rose old.faults.listener new.faults.listener
-EndedAs route status.Spent old new t links = IsServed route TurnAnswer.Went false old new t links × IsWornOut t
-EndedAs route _ old new t links = ⊥
+EndedAs route hooks status.Spent old new t links = IsServed route hooks TurnAnswer.Went false old new t links × IsWornOut t
+EndedAs route hooks (status.Stopped link turn) old new t links =
+    IsServed route hooks (TurnAnswer.Stopped link) false old new t links × (turn ≡ turns_told t)
+EndedAs route hooks _ old new t links = ⊥
 
 -- the run ended so, and the whole report was written
-abbrev pub ReportedAll : Route → Status → Seen → Seen → Drained → Drained → Type 0
-ReportedAll route ended old new before after =
-    (t : Trace) × (links : List LinkCount) × EndedAs route ended old new t links × TookOn before.taken after.taken (report_text links)
+abbrev pub ReportedAll : Route → List SideId → Status → Seen → Seen → Drained → Drained → Type 0
+ReportedAll route hooks ended old new before after =
+    (t : Trace) × (links : List LinkCount) × EndedAs route hooks ended old new t links × TookOn before.taken after.taken (report_text links)
 
 -- the run ended somehow, and the first n bytes of the report were written, and not all
-abbrev pub ReportedPart : Route → Seen → Seen → Drained → Drained → Type 0
-ReportedPart route old new before after =
-    (t : Trace) × (links : List LinkCount) × (ended : Status) × (n : ℕ) × EndedAs route ended old new t links
+abbrev pub ReportedPart : Route → List SideId → Seen → Seen → Drained → Drained → Type 0
+ReportedPart route hooks old new before after =
+    (t : Trace) × (links : List LinkCount) × (ended : Status) × (n : ℕ) × EndedAs route hooks ended old new t links
     × (n < length (report_text links)) × TookOn before.taken after.taken (take n (report_text links))
 
 -- Memory ran out in the run, or behind it while the report was made; or before there was one.
-abbrev pub RanOut : Route → Seen → Seen → Type 0
-RanOut route old new =
-    ((t : Trace) × (links : List LinkCount) × IsServed route TurnAnswer.Memory false old new t links)
-    ⊎ ((t : Trace) × (links : List LinkCount) × (ended : Status) × EndedAs route ended old new t links)
+abbrev pub RanOut : Route → List SideId → Seen → Seen → Type 0
+RanOut route hooks old new =
+    ((t : Trace) × (links : List LinkCount) × IsServed route hooks TurnAnswer.Memory false old new t links)
+    ⊎ ((t : Trace) × (links : List LinkCount) × (ended : Status) × EndedAs route hooks ended old new t links)
     ⊎ (new ≡ old)
 
 -- What a call did, by its status. The other statuses never come.
-abbrev pub Did : Route → Status → Seen → Seen → Drained → Drained → Type 0
-Did route status.WriteFault old new before after = ReportedPart route old new before after × Rose before.faults after.faults
-Did route status.Memory old new before after = RanOut route old new
-Did route status.Usage old new before after = ⊥
-Did route (status.BadScript line) old new before after = ⊥
-Did route status.ReadFault old new before after = ⊥
-Did route (status.Stopped link turn) old new before after = ⊥
-Did route status.TooLong old new before after = ⊥
-Did route ended old new before after = ReportedAll route ended old new before after
+abbrev pub Did : Route → List SideId → Status → Seen → Seen → Drained → Drained → Type 0
+Did route hooks status.WriteFault old new before after = ReportedPart route hooks old new before after × Rose before.faults after.faults
+Did route hooks status.Memory old new before after = RanOut route hooks old new
+Did route hooks status.Usage old new before after = ⊥
+Did route hooks (status.BadScript line) old new before after = ⊥
+Did route hooks status.ReadFault old new before after = ⊥
+Did route hooks status.TooLong old new before after = ⊥
+Did route hooks ended old new before after = ReportedAll route hooks ended old new before after
 
--- Words that are not in the grammar do nothing, and what a call did with the others.
-abbrev pub DidWith : Option Route → Status → Seen → Seen → Drained → Drained → Type 0
-DidWith None ended old new before after = ((ended ≡ status.Usage) ⊎ (ended ≡ status.Memory)) × (new ≡ old) × (after ≡ before)
-DidWith (Some route) ended old new before after = Did route ended old new before after
+-- Words that are not in the grammar do nothing, and what a call did with the others, and hooks for these sides.
+abbrev pub DidWith : Option Route → List SideId → Status → Seen → Seen → Drained → Drained → Type 0
+DidWith None hooks ended old new before after = ((ended ≡ status.Usage) ⊎ (ended ≡ status.Memory)) × (new ≡ old) × (after ≡ before)
+DidWith (Some route) hooks ended old new before after = Did route hooks ended old new before after

@@ -1,5 +1,6 @@
 -- What a run over a port has done, as far as it came.
 use Rattle.std.specs.Prelude.{◌≡◌, ◌≢◌, ℕ, Bool, false, length, ◌<◌, List, take, Result, Ok, Err, MatchResult}
+use Rattle.ev_types.specs.declared.side.SideId.{SideId}
 use Rattle.ev_types.specs.declared.status.Status.{Status}
 use Rattle.ev_types.specs.declared.status.Status.TheVariants as status
 use Rattle.ev_types.specs.Growth.{Grew}
@@ -26,7 +27,9 @@ use Rattle.relay_drive.specs.DriveValue.{DriveValue}
 use Rattle.relay_drive.specs.Phases.{is_open_fault}
 use Rattle.program_end.specs.EndStatus.{status_of}
 use Rattle.relay_serve.specs.Seen.{Seen, Drained, seen}
-use Rattle.relay_serve.specs.Served.{EndedAs, IsServed, IsWornOut}
+use Rattle.relay_serve.specs.Served.{EndedAs, IsServed, IsWornOut, turns_told}
+use Rattle.relay_serve.specs.declared.run.ServeEnd.{ServeEnd}
+use Rattle.relay_serve.specs.declared.run.ServeEnd.TheVariants as serve_end
 
 -- Turns of a drive that was new put these entries. `After` holds of them and of the relay's state; wherever a turn ended, the run stood
 -- for the trace up to there. The port is tied to them since they began.
@@ -44,29 +47,35 @@ pub record IsServedOut (s : State) : Type 0 where
   pub all_opened : s.plain.opened ≡ s.settings.links
   pub none_open : open_below s s.plain.opened ≡ 0
 
+-- the run ended so: all was served, or a hook stopped the last turn
+abbrev pub TurnsEnd : ServeEnd → Settings → Seen → Seen → State → Type 0
+TurnsEnd serve_end.ServedOut g old new s = TurnsWent g StandsBetween false old new s × IsServedOut s
+TurnsEnd (serve_end.Stopped link turn) g old new s =
+    (went : TurnsWent g (LeftFor (TurnAnswer.Stopped link)) false old new s) × (turn ≡ turns_told went.added)
+
 -- the last turn was refused
 abbrev pub TurnsCut : DriveFault → Settings → Seen → Seen → State → Type 0
 TurnsCut fault.Spent g old new s = (went : TurnsWent g StandsBetween false old new s) × IsWornOut went.added
 TurnsCut why g old new s = TurnsWent g (LeftFor (turn_answer_of why)) (is_open_fault why) old new s
 
--- turns were made until all was served, or until one was refused
-abbrev pub TurnsGo : {P S : Type 0} → port.Ghosts P → scribe.Ghosts S → Result Unit DriveFault → DriveValue × P × S → DriveValue × P × S → Type 0
+-- turns were made until all was served, or until one was stopped or refused
+abbrev pub TurnsGo : {P S : Type 0} → port.Ghosts P → scribe.Ghosts S → Result ServeEnd DriveFault → DriveValue × P × S → DriveValue × P × S → Type 0
 TurnsGo p h result old new =
     let g : Settings = old.0.state.settings in
     let before : Seen = seen p h (old.1, old.2) in
     let now : Seen = seen p h (new.1, new.2) in
-    MatchResult result (λ _. TurnsWent g StandsBetween false before now new.0.state × IsServedOut new.0.state)
-    (λ why. TurnsCut why g before now new.0.state)
+    MatchResult result (λ end. TurnsEnd end g before now new.0.state) (λ why. TurnsCut why g before now new.0.state)
 
 -- the status with which a program ends once its report is written
-abbrev pub ended_as : Result Unit DriveFault → Status
-ended_as (Ok done) = status.Ok
+abbrev pub ended_as : Result ServeEnd DriveFault → Status
+ended_as (Ok serve_end.ServedOut) = status.Ok
+ended_as (Ok (serve_end.Stopped link turn)) = status.Stopped link turn
 ended_as (Err why) = status_of why
 
 -- A run came to this, with the lines of the relay's report.
-abbrev pub RanTo : Route → Status → Seen → Seen → State → Type 0
-RanTo route status.Memory old new s = (t : Trace) × IsServed route TurnAnswer.Memory false old new t (lines_below s s.plain.opened)
-RanTo route ended old new s = (t : Trace) × EndedAs route ended old new t (lines_below s s.plain.opened)
+abbrev pub RanTo : Route → List SideId → Status → Seen → Seen → State → Type 0
+RanTo route hooks status.Memory old new s = (t : Trace) × IsServed route hooks TurnAnswer.Memory false old new t (lines_below s s.plain.opened)
+RanTo route hooks ended old new s = (t : Trace) × EndedAs route hooks ended old new t (lines_below s s.plain.opened)
 
 -- A report of a run that ended so was written whole, or in part, or not at all where memory ran out.
 abbrev pub Reported : Status → Status → List ℕ → Drained → Drained → Type 0

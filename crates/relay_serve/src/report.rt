@@ -6,6 +6,7 @@ ghost use Rattle.relay_laws.specs.Report.{lines_below};
 ghost use Rattle.relay_serve.specs.Seen.{drained};
 ghost use Rattle.relay_serve.specs.Underway.{Reported, ended_as};
 
+use crate::run::ServeEnd;
 use ev_port::Sink;
 use ev_types::{NoMemory, Status};
 use program_end::{fault_status, link_lines, write_text};
@@ -44,7 +45,7 @@ fn write<K: Sink>(alloc: Global, ended: Status, drive: &Drive, sink: &mut K) -> 
 /// Writes the report of a run, and answers how the program ends. Where memory ran out in the run nothing is written.
 pub(crate) fn report<K: Sink>(
     alloc: Global,
-    ended: Result<(), DriveFault>,
+    ended: Result<ServeEnd, DriveFault>,
     drive: &Drive,
     sink: &mut K,
 ) -> Status
@@ -54,7 +55,10 @@ pub(crate) fn report<K: Sink>(
     ensures write_calm { result ≢ WriteFault → K.faults sink.new ≡ K.faults sink.old }
 {
     match ended {
-        Ok(()) => write(alloc, Status::Ok, drive, sink),
+        Ok(ServeEnd::ServedOut) => write(alloc, Status::Ok, drive, sink),
+        Ok(ServeEnd::Stopped(link, turn)) => {
+            write(alloc, Status::Stopped(link, turn), drive, sink)
+        }
         Err(DriveFault::Memory) => Status::Memory,
         Err(fault) => write(alloc, fault_status(fault), drive, sink),
     }

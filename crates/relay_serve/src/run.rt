@@ -1,7 +1,8 @@
-// A run over a port: it is started once, and turns are made until all links were opened and none is open.
+// A run over a port: it is started once, and turns are made until all links were opened and none is open, or a hook stops one.
 ghost use Rattle.std.specs.Prelude.{◌≡◌, ◌≢◌};
 ghost use Rattle.ev_types.specs.declared.status.Status.TheVariants.{WriteFault};
 ghost use Rattle.relay_drive.specs.DriveValue.{new_drive};
+ghost use Rattle.relay_drive.specs.Seats.{seated_sides, AreFresh, AreSeated};
 ghost use Rattle.relay_serve.specs.Seen.{seen, drained};
 ghost use Rattle.relay_serve.specs.Served.{Did};
 ghost use Rattle.relay_serve.specs.Underway.{TurnsGo, RanTo, ended_as};
@@ -9,27 +10,44 @@ ghost use Rattle.relay_serve.specs.Underway.{TurnsGo, RanTo, ended_as};
 use crate::report::report;
 use ev_port::{Port, Scribe, Sink, Started};
 use ev_types::{Route, Settings, Status};
-use relay_drive::{Drive, DriveFault};
+use relay_drive::{Drive, DriveFault, Hook, Seats, TurnEnd};
 use std::alloc::Global;
 use std::sync::Wait;
 
-/// Makes turns until so many links were opened as the settings allow and none is open.
+/// How the turns of a run ended that was not refused.
+///
+/// Own.
+#[derive(Clone, Copy, Debug, PartialEq, Eq)]
+pub enum ServeEnd {
+    /// As many links were opened as may be, and none is open.
+    ServedOut,
+    /// A hook of this link stopped the turn of this number, counted from 1 up to the end of a u32.
+    Stopped(u32, u32),
+}
+
+/// Makes turns until so many links were opened as the settings allow and none is open, or a hook stops one.
 fn make_turns<R: Wait, P: Port, S: Scribe>(
     rt: &R,
     settings: &Settings,
     drive: &mut Drive,
+    seats: &mut Seats,
     port: &mut P,
     scribe: &mut S,
-) -> Result<(), DriveFault>
-    requires { drive.old ≡ new_drive settings.now }
+) -> Result<ServeEnd, DriveFault>
+    requires new_drive { drive.old ≡ new_drive settings.now (seated_sides seats.old.hooks.items) }
+    requires seated { AreSeated drive.old.state seats.old.hooks.items seats.old.gone.items }
     ensures { TurnsGo P.Port S.Scribe result (drive.old, port.old, scribe.old) (drive.new, port.new, scribe.new) }
 {
+    let mut turns = 0u32;
     for _ in rt.forever() {
         if drive.opened() == settings.links && !drive.has_open_links() {
-            return Ok(());
+            return Ok(ServeEnd::ServedOut);
         }
-        if let Err(fault) = drive.turn(port, scribe) {
-            return Err(fault);
+        turns = turns.saturating_add(1);
+        match drive.turn(seats, port, scribe) {
+            Ok(TurnEnd::Went) => {}
+            Ok(TurnEnd::Stopped(link)) => return Ok(ServeEnd::Stopped(link, turns)),
+            Err(fault) => return Err(fault),
         }
     }
     unreachable!()
@@ -40,42 +58,68 @@ fn run<R: Wait, P: Port, S: Scribe>(
     rt: &R,
     route: &Route,
     drive: &mut Drive,
+    seats: &mut Seats,
     port: &mut P,
     scribe: &mut S,
-) -> Result<(), DriveFault>
-    requires { drive.old ≡ new_drive route.now.settings }
-    ensures { RanTo route.now (ended_as result) (seen P.Port S.Scribe (port.old, scribe.old)) (seen P.Port S.Scribe (port.new, scribe.new))
-        drive.new.state }
+) -> Result<ServeEnd, DriveFault>
+    requires new_drive { drive.old ≡ new_drive route.now.settings (seated_sides seats.old.hooks.items) }
+    requires seated { AreSeated drive.old.state seats.old.hooks.items seats.old.gone.items }
+    ensures { RanTo route.now (seated_sides seats.old.hooks.items) (ended_as result) (seen P.Port S.Scribe (port.old, scribe.old))
+        (seen P.Port S.Scribe (port.new, scribe.new)) drive.new.state }
 {
     match port.start(route.listen, route.to) {
-        Started::Started => make_turns(rt, &route.settings, drive, port, scribe),
+        Started::Started => make_turns(rt, &route.settings, drive, seats, port, scribe),
         Started::Failed => Err(DriveFault::OpenFault),
         Started::NoMemory => Err(DriveFault::Memory),
     }
 }
 
+/// Relays with the hooks in these seats, of which none was called.
+fn relay_seated<R: Wait, P: Port, S: Scribe, K: Sink>(
+    rt: &R,
+    alloc: Global,
+    route: &Route,
+    seats: &mut Seats,
+    port: &mut P,
+    scribe: &mut S,
+    sink: &mut K,
+) -> Status
+    requires fresh { AreFresh seats.old.hooks.items seats.old.gone.items }
+    ensures did { Did route.now (seated_sides seats.old.hooks.items) result (seen P.Port S.Scribe (port.old, scribe.old))
+        (seen P.Port S.Scribe (port.new, scribe.new)) (drained K.Sink sink.old) (drained K.Sink sink.new) }
+    ensures write_calm { result ≢ WriteFault → K.faults sink.new ≡ K.faults sink.old }
+    ensures unwritten { result ≡ Status.Memory → sink.new ≡ sink.old }
+{
+    let Ok(mut drive) = Drive::new(alloc, route.settings, seats) else {
+        return Status::Memory;
+    };
+    let ended = run(rt, route, &mut drive, seats, port, scribe);
+    report(alloc, ended, &drive, sink)
+}
+
 /// Relays over a port: starts it once, makes turns until so many links were opened as the settings allow and none is open, and writes
-/// the report. A failed start, a failed poll or accept, and counts that came to 2^62 end the run, and the report is written all the
-/// same; want of memory ends it with nothing written. It may never return. Between two turns constant cost until all
-/// links were opened.
+/// the report. A hook in place i of the list is that of the side with the number i: side In of link 0 has 0, side Out of it 1, and so on.
+/// One that stops the run, a failed start, a failed poll or accept, and counts that came to 2^62 end the run, and the report is written
+/// all the same; want of memory ends it with nothing written. It may never return. Between two turns constant cost until all
+/// links were opened; before the first, linear in the hooks.
 ///
 /// Own.
 pub fn relay<R: Wait, P: Port, S: Scribe, K: Sink>(
     rt: &R,
     alloc: Global,
     route: &Route,
+    hooks: Vec<Option<Box<dyn Hook>>>,
     port: &mut P,
     scribe: &mut S,
     sink: &mut K,
 ) -> Status
-    ensures did { Did route.now result (seen P.Port S.Scribe (port.old, scribe.old)) (seen P.Port S.Scribe (port.new, scribe.new))
-        (drained K.Sink sink.old) (drained K.Sink sink.new) }
+    ensures did { Did route.now (seated_sides hooks.items) result (seen P.Port S.Scribe (port.old, scribe.old))
+        (seen P.Port S.Scribe (port.new, scribe.new)) (drained K.Sink sink.old) (drained K.Sink sink.new) }
     ensures write_calm { result ≢ WriteFault → K.faults sink.new ≡ K.faults sink.old }
     ensures unwritten { result ≡ Status.Memory → sink.new ≡ sink.old }
 {
-    let Ok(mut drive) = Drive::new(alloc, route.settings) else {
+    let Ok(mut seats) = Seats::new(alloc, hooks) else {
         return Status::Memory;
     };
-    let ended = run(rt, route, &mut drive, port, scribe);
-    report(alloc, ended, &drive, sink)
+    relay_seated(rt, alloc, route, &mut seats, port, scribe, sink)
 }

@@ -1,4 +1,4 @@
-use Rattle.std.proofs.Common.{◌≡◌, ◌∙◌, ◌+◌, ◌-◌, ap, sym}
+use Rattle.std.proofs.Common.{◌∙◌, ◌+◌, ap, sym}
 use Rattle.std.proofs.Math.Seq.{map-set_same}
 use Rattle.rate_group.specs.GroupList.{group_value}
 use Rattle.rate_group.proofs.ListLemmas.{counts-changed, count_at}

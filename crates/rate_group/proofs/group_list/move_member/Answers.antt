@@ -1,4 +1,4 @@
-use Rattle.std.proofs.Common.{◌≡◌, ◌∙◌, ◌+◌, List, ap, sym, subst, length, get_or, arith}
+use Rattle.std.proofs.Common.{◌≡◌, ◌∙◌, ◌+◌, List, ap, get_or, arith}
 use Rattle.std.proofs.lemmas.List.{length-map}
 use Rattle.rate_group.specs.declared.group.Group.{Group}
 use Rattle.rate_group.specs.GroupList.{counts_of, one_at, one_of}

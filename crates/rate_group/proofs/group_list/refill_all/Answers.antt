@@ -1,5 +1,5 @@
-use Rattle.std.proofs.Common.{◌≡◌, ◌∙◌, List, length, map, get_or, set, ap, sym, arith, append-nil}
-use Rattle.std.specs.Prelude.{◌++◌, take, drop}
+use Rattle.std.proofs.Common.{◌≡◌, ◌∙◌, List, map, get_or, set, ap, sym, arith, append-nil}
+use Rattle.std.specs.Prelude.{◌++◌}
 use Rattle.std.proofs.Math.Seq.{map-set_same}
 use Rattle.std.proofs.lemmas.List.{map-set, get_or-map, take_all, drop_all, length-map}
 use Rattle.std.proofs.lemmas.List.Edits.{map_over_more}

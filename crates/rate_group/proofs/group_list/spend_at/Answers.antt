@@ -1,4 +1,3 @@
-use Rattle.std.proofs.Common.{◌≡◌}
 use Rattle.std.proofs.Math.Seq.{map-set_same}
 use Rattle.rate_group.specs.declared.group.Group.{Group}
 use Rattle.rate_group.specs.Steps.{spent_in}

@@ -1,14 +1,15 @@
 use Rattle.std.proofs.Common.{◌≡◌, None, false}
-use Rattle.relay_model.specs.Settings.{model_settings}
-use Rattle.relay_drive.specs.DriveStands.{DriveStands, StandsBetween}
+use Rattle.relay_model.specs.Settings.{settings_with}
+use Rattle.relay_drive.specs.Seats.{seated_sides, AreSeated}
 use Rattle.relay_serve.specs.Seen.{seen}
-use Rattle.relay_serve.specs.Underway.{TurnsWent}
+use Rattle.relay_serve.proofs.TurnsLemmas.{Standing}
 use Rattle.relay_serve.proofs.run.make_turns.Given as goal
 
--- The drive keeps no refusal, and stands for what its turns put.
+-- The drive keeps no answer, its hooks are in their seats, and it stands for what its turns put.
 abbrev pub invariant-loop : goal.invariant-loop
 invariant-loop g l = record {
-  calm : l.drive.refusal ≡ None;
-  went : (w : TurnsWent (model_settings l.settings) StandsBetween false (seen g.P.Port g.S.Scribe (l.fn.port, l.fn.scribe))
-      (seen g.P.Port g.S.Scribe (l.port, l.scribe)) l.drive.state) × DriveStands w.added l.drive;
+  calm : l.drive.kept ≡ None;
+  seated : AreSeated l.drive.state l.seats.hooks.items l.seats.gone.items;
+  went : Standing (settings_with l.settings (seated_sides l.fn.seats.hooks.items)) (seen g.P.Port g.S.Scribe (l.fn.port, l.fn.scribe))
+      (seen g.P.Port g.S.Scribe (l.port, l.scribe)) l.drive l.turns;
 }

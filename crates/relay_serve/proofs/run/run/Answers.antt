@@ -1,5 +1,6 @@
 use Rattle.std.proofs.Common.{true, false, refl, ap}
 use Rattle.relay_drive.specs.DriveValue.{DriveValue}
+use Rattle.relay_drive.specs.Seats.{seated_sides}
 use Rattle.relay_serve.specs.Seen.{Seen, seen}
 use Rattle.relay_serve.proofs.EndLemmas.{begun-by, ran-of, start-failed, start-lacked}
 use Rattle.relay_serve.proofs.run.run.Goals as goal
@@ -10,19 +11,19 @@ returns-in-Started g c =
     let mid : Seen = seen g.P.Port g.S.Scribe (c.start.new.self, c.args.scribe.now) in
     let new : Seen = seen g.P.Port g.S.Scribe (c.make_turns.new.port, c.make_turns.new.scribe) in
     let h = c.in-Started.ensures in
-    ran-of c.args.route.now old mid new (begun-by c.args.route.now old mid false refl h.cause h.ends h.told) c.make_turns.new.drive.state
-    c.args.drive.now.state.settings (ap (λ (d : DriveValue). d.state.settings) c.requires) c.make_turns.result c.make_turns.ensures
+    ran-of c.args.route.now (seated_sides c.args.seats.now.hooks.items) old mid new (begun-by c.args.route.now old mid false refl h.cause h.ends h.told) c.make_turns.new.drive.state
+    c.args.drive.now.state.settings (ap (λ (d : DriveValue). d.state.settings) c.requires.new_drive) c.make_turns.result c.make_turns.ensures
 
 pub returns-in-Failed : goal.returns-in-Failed
 returns-in-Failed g c =
     let old : Seen = seen g.P.Port g.S.Scribe (c.args.port.now, c.args.scribe.now) in
     let new : Seen = seen g.P.Port g.S.Scribe (c.start.new.self, c.args.scribe.now) in
     let h = c.in-Failed.ensures in
-    rw c.requires (start-failed c.args.route.now old new (begun-by c.args.route.now old new true refl h.cause h.ends h.told))
+    rw c.requires.new_drive (start-failed c.args.route.now (seated_sides c.args.seats.now.hooks.items) old new (begun-by c.args.route.now old new true refl h.cause h.ends h.told))
 
 pub returns-in-NoMemory : goal.returns-in-NoMemory
 returns-in-NoMemory g c =
     let old : Seen = seen g.P.Port g.S.Scribe (c.args.port.now, c.args.scribe.now) in
     let new : Seen = seen g.P.Port g.S.Scribe (c.start.new.self, c.args.scribe.now) in
     let h = c.in-NoMemory.ensures in
-    rw c.requires (start-lacked c.args.route.now old new (begun-by c.args.route.now old new false refl h.cause h.ends h.told))
+    rw c.requires.new_drive (start-lacked c.args.route.now (seated_sides c.args.seats.now.hooks.items) old new (begun-by c.args.route.now old new false refl h.cause h.ends h.told))

@@ -1,5 +1,6 @@
 use Rattle.std.proofs.Common.{map, string_bytes, sym, subst}
 use Rattle.command_words.specs.ServeGrammar.{serve_words_of}
+use Rattle.relay_drive.specs.Seats.{seated_sides}
 use Rattle.relay_serve.specs.Seen.{seen, drained}
 use Rattle.relay_serve.specs.Served.{DidWith}
 use Rattle.relay_serve.proofs.EndLemmas.{words-ended}
@@ -10,6 +11,7 @@ pub returns-in-Err-clause-did : goal.returns-in-Err-clause-did
 returns-in-Err-clause-did g c =
     let old = seen g.P.Port g.S.Scribe (c.args.port.now, c.args.scribe.now) in
     let before = drained g.K.Sink c.args.sink.now in
+    let hooks = seated_sides c.args.hooks.items in
     let given = serve_words_of (map string_bytes c.args.words.now) in
-    subst (λ ended. DidWith given ended old old before before) (sym c.status.ensures)
-    (words-ended given c.in-Err.fault old before c.in-Err.ensures.refused)
+    subst (λ ended. DidWith given hooks ended old old before before) (sym c.status.ensures)
+    (words-ended given hooks c.in-Err.fault old before c.in-Err.ensures.refused)

@@ -1,13 +1,11 @@
-use Rattle.std.proofs.Common.{◌≡◌, ◌∙◌, ◌+◌, ◌<◌, ◌≤◌, List, length, get_or, sym, ap, subst, arith, Some}
-use Rattle.std.specs.Prelude.{slice_get, nat_eq}
+use Rattle.std.proofs.Common.{◌∙◌, ◌≤◌, List, length, sym, ap, subst, arith}
+use Rattle.std.specs.Prelude.{slice_get}
 use Rattle.std.specs.Option.{IsSomeAnd}
-use Rattle.std.specs.Map.{remove_entry}
 use Rattle.std.proofs.lemmas.List.{with_items_is}
-use Rattle.indexmap.specs.IndexMap.{insert_entry}
 use Rattle.rate_group.specs.declared.group.Group.{Group}
 use Rattle.rate_group.specs.GroupValue.{GroupsValue}
-use Rattle.rate_group.specs.GroupList.{Counted, CountsMove, HasMember, counts_of}
-use Rattle.rate_group.specs.Steps.{group_of, share_in}
+use Rattle.rate_group.specs.GroupList.{Counted}
+use Rattle.rate_group.specs.Steps.{share_in}
 use Rattle.rate_group.proofs.MemberLemmas.{counted-same, long-counts, has-member, within-share}
 use Rattle.rate_group.proofs.groups.Groups.spend.Goals as goal
 
