@@ -1,2 +1,2 @@
-pub mod Level
 pub mod OwnPort
+pub mod Turning

@@ -2,7 +2,7 @@
 // was read meanwhile.
 ghost use Rattle.std.specs.Prelude.{◌≡◌, None};
 ghost use Rattle.relay_core.specs.Fires.{Steps};
-ghost use Rattle.library_uses.specs.Level.{IsLevel};
+ghost use Rattle.library_uses.specs.Turning.{MayTurn};
 
 use ev_port::Mute;
 use ev_types::{NoMemory, PlanLine, SideId, Why};
@@ -164,7 +164,7 @@ pub fn two_links(rt: &impl Print, alloc: Global) -> anyhow::Result<()> {
 
 // The drive is lent, so that it is let go at one place.
 fn five_turns(drive: &mut Drive, seats: &mut Seats, port: &mut ScriptPort) -> anyhow::Result<()>
-    requires { IsLevel drive.old seats.old.hooks.items seats.old.gone.items }
+    requires { MayTurn drive.old seats.old.hooks.items seats.old.gone.items }
 {
     for _ in 0..5 {
         drive.turn(seats, port, &mut Mute::new())?;

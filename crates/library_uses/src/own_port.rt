@@ -3,7 +3,7 @@ ghost use Rattle.std.specs.Prelude.{◌≡◌, ◌<◌, ⊤, false, map, length}
 ghost use Rattle.ev_port.specs.Ends.{ReadWithin, is_failed_read};
 ghost use Rattle.ev_port.specs.Silent.{silent_port, silent_end};
 ghost use Rattle.library_uses.specs.OwnPort.{marked, no_fault};
-ghost use Rattle.library_uses.specs.Level.{IsLevel};
+ghost use Rattle.library_uses.specs.Turning.{MayTurn};
 
 use ev_port::{
     Accepted, Addr, ConnAnswer, Mute, Polled, Port, ReadAnswer, Started, Want, WriteAnswer,
@@ -150,7 +150,7 @@ fn four_turns(
     seats: &mut Seats,
     port: &mut OneCall,
 ) -> anyhow::Result<()>
-    requires { IsLevel drive.old seats.old.hooks.items seats.old.gone.items }
+    requires { MayTurn drive.old seats.old.hooks.items seats.old.gone.items }
 {
     for turn in 1..5u32 {
         drive.turn(seats, port, &mut Mute::new())?;

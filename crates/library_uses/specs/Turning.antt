@@ -4,5 +4,5 @@ use Rattle.relay_drive.specs.DriveValue.{DriveValue}
 use Rattle.relay_drive.specs.Seats.{AreSeated}
 
 -- the hooks are those of the drive, unless an answer is kept
-abbrev pub IsLevel : {H : Type 0} → DriveValue → List (Option H) → List (Option H) → Type 0
-IsLevel d hooks gone = d.kept ≡ None → AreSeated d.state hooks gone
+abbrev pub MayTurn : {H : Type 0} → DriveValue → List (Option H) → List (Option H) → Type 0
+MayTurn d hooks gone = d.kept ≡ None → AreSeated d.state hooks gone
