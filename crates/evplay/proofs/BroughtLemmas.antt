@@ -27,7 +27,7 @@ use Rattle.script_text.specs.Pieces.{lines}
 use Rattle.script_text.specs.Numbers.{number_within, bytes_of}
 use Rattle.script_text.specs.Ends.{link_of, end_of}
 use Rattle.script_text.specs.Grammar.{keyword_of, made_of, more_of, of_end, setting_name_of, set_by, said_by, is_comment, said}
-use Rattle.script_text.specs.GroupsAndPlans.{hooked_of, nth_of, planned_of}
+use Rattle.script_text.specs.GroupsAndPlans.{hooked_of, nth_of}
 use Rattle.script_text.specs.ValueGrammar.{why_kind_of}
 use Rattle.script_text.specs.ActGrammar.{planned_ask}
 use Rattle.ev_types.specs.declared.plan_line.PlanLine.{PlanLine}

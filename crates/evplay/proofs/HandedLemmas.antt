@@ -4,7 +4,7 @@ use Rattle.std.proofs.Common.{◌≡◌, ◌≢◌, inl, inr, ℕ, zero, suc, �
 use Rattle.std.proofs.Common.{[], ◌∷◌, ◌++◌, ◌||◌, length-append, length, Option, Some, None, refl, sym, ◌∙◌, ap, subst, arith}
 use Rattle.std.specs.Prelude.{filter, map, IfSome, is_some}
 use Rattle.std.specs.List.{All, list_any, list_all}
-use Rattle.std.proofs.lemmas.Bool.{and_parts, cases_lt, eq-eqb, eqb-false, eqb-true, lt-ltb, ltb-true}
+use Rattle.std.proofs.lemmas.Bool.{and_parts, cases_lt, eq-eqb, eqb-true, lt-ltb, ltb-true}
 use Rattle.std.proofs.lemmas.List.{get_or_past, get_or_append_left}
 use Rattle.std.proofs.lemmas.List.Elements.{All-head, All-tail, All-nil, All-cons, All-append, All-weaker}
 use Rattle.ev_types.specs.declared.act.Act.{Act}
@@ -13,7 +13,7 @@ use Rattle.ev_types.specs.declared.plan_line.PlanLine.{PlanLine}
 use Rattle.ev_types.specs.declared.side.SideId.{SideId}
 use Rattle.ev_types.specs.Sides.{number, same_end}
 use Rattle.relay_core.specs.Fires.{can_ask, CanPlan}
-use Rattle.relay_model.proofs.EndLemmas.{same_end-eq, same_end-refl, number-eq, number-apart}
+use Rattle.relay_model.proofs.EndLemmas.{same_end-eq, number-apart}
 use Rattle.relay_model.specs.Plain.{sides_from, sides_where}
 use Rattle.relay_state.specs.Closing.{in_side, out_side}
 use Rattle.script_text.specs.Runnable.{is_act_for_later}

@@ -1,6 +1,6 @@
 -- A script plans for the sides of the links 0 to 31 alone.
-use Rattle.std.proofs.Common.{◌≡◌, ◌≤◌, ◌<◌, ◌*◌, ◌+◌, ◌-◌, ◌^◌, ℕ, Bool, true, false, ◌&&◌, ◌||◌, not, nat_lt, nat_le, if◌then◌else◌, List, [], ◌∷◌, ◌++◌}
-use Rattle.std.proofs.Common.{length, codes, Option, Some, None, Ok, refl, sym, ap, ◌∙◌, subst, arith}
+use Rattle.std.proofs.Common.{◌≡◌, ◌≤◌, ◌<◌, ◌^◌, ℕ, Bool, true, false, ◌&&◌, ◌||◌, not, nat_lt, nat_le, if◌then◌else◌, List, [], ◌∷◌, ◌++◌}
+use Rattle.std.proofs.Common.{length, codes, Option, Some, None, Ok, refl, subst, arith}
 use Rattle.std.specs.Prelude.{IfSome, option_map, option_and_then}
 use Rattle.std.specs.List.{All}
 use Rattle.std.specs.Str.{bytes_eq}
@@ -24,12 +24,11 @@ use Rattle.script_text.specs.Script.{ScriptValue, SoFar}
 use Rattle.script_text.specs.Spelled.{no_line, script_of}
 use Rattle.script_text.proofs.LawLemmas.{script_of-read}
 use Rattle.evplay.proofs.ScriptLemmas.{some-is, none-some, keeps-lines}
-use Rattle.ev_types.specs.declared.turn_line.TurnLine.{TurnLine}
 use Rattle.ev_types.specs.declared.turn_line.TurnLine.TheVariants as turn
 use Rattle.script_text.specs.Numbers.{number_within, bytes_of, is_numeral, value_of}
 use Rattle.script_text.specs.Ends.{link_of, end_of, side_of}
 use Rattle.script_text.specs.Grammar.{keyword_of, made_of, more_of, of_end, setting_name_of, set_by, said_by, is_comment, said}
-use Rattle.script_text.specs.GroupsAndPlans.{hooked_of, nth_of, planned_of}
+use Rattle.script_text.specs.GroupsAndPlans.{hooked_of, nth_of}
 use Rattle.script_text.specs.ValueGrammar.{why_kind_of}
 use Rattle.script_text.specs.ActGrammar.{planned_ask}
 use Rattle.evplay.proofs.BroughtLemmas.{some-map, some-then, some-if}

@@ -1,32 +1,25 @@
-use Rattle.std.proofs.Common.{◌≡◌, ◌⊎◌, inl, inr, ◌≤◌, ◌<◌, ◌+◌, ◌*◌, ◌++◌, ◌^◌, ◌-◌, ℕ, List, length, Some, None, false, true, min, refl, ap, sym, ◌∙◌}
-use Rattle.std.proofs.Common.{subst, arith, Result, Ok, Err, IfOk, IfErr}
+use Rattle.std.proofs.Common.{◌≡◌, ◌⊎◌, inl, inr, ◌≤◌, ◌<◌, ◌+◌, ◌*◌, ◌++◌, ◌^◌, ◌-◌, ℕ, length, Some, None, min, refl, ap, sym, ◌∙◌}
+use Rattle.std.proofs.Common.{subst, arith, Ok, IfOk, IfErr}
 use Rattle.std.specs.Prelude.{count_by}
-use Rattle.ev_types.specs.AskNumbers.{AsksFit}
-use Rattle.ev_types.specs.declared.plan_line.PlanLine.{PlanLine}
-use Rattle.ev_types.specs.declared.side.SideId.{SideId}
 use Rattle.ev_types.specs.Trace.{Trace}
 use Rattle.script_text.specs.Script.{ScriptValue}
 use Rattle.script_port.specs.ScriptTold.{script_faults}
-use Rattle.relay_model.specs.Hooked.{AskedAsPlanned}
 use Rattle.relay_model.specs.Script.{plan_of}
 use Rattle.relay_model.specs.Settings.{Settings, settings_with}
 use Rattle.relay_model.specs.Stages.{Stage}
 use Rattle.relay_model.specs.Answers.{TurnAnswer}
 use Rattle.relay_model.specs.RatesKept.{is_turn}
-use Rattle.relay_state.specs.State.{State}
-use Rattle.relay_steps.specs.Meaning.{StandsFor, LeftFor}
+use Rattle.relay_steps.specs.Meaning.{LeftFor}
 use Rattle.relay_drive.proofs.NewStands.{new_relay_stands}
 use Rattle.relay_drive.specs.declared.fault.DriveFault.{DriveFault}
 use Rattle.relay_drive.specs.declared.fault.DriveFault.TheVariants as fault
-use Rattle.relay_drive.specs.declared.fault.TurnEnd.{TurnEnd}
-use Rattle.relay_drive.specs.declared.fault.TurnEnd.TheVariants as end
-use Rattle.relay_drive.specs.DriveValue.{DriveValue, new_drive, is_worn, kept_of}
+use Rattle.relay_drive.specs.DriveValue.{new_drive, kept_of}
 use Rattle.relay_drive.specs.Bounds.{IsWithin, most_of_turn}
 use Rattle.relay_drive.specs.Known.{Question}
 use Rattle.relay_drive.specs.Phases.{CutTurn, EndsTurn, Turns}
 use Rattle.relay_drive.specs.DriveStands as drive
 use Rattle.relay_drive.specs.Seats.{telling, seated_sides, AreSeated}
-use Rattle.relay_drive.proofs.BoundLaws.{new_drive_is_within, within_is_not_worn, turn_is_bounded}
+use Rattle.relay_drive.proofs.BoundLaws.{new_drive_is_within, turn_is_bounded}
 use Rattle.relay_drive.proofs.HookEvents.{asks_fit-none}
 use Rattle.evplay.proofs.FaultLemmas.{memory-or-poll}
 use Rattle.relay_laws.proofs.RelayedLemmas.{stood-at}
@@ -41,7 +34,7 @@ use Rattle.relay_laws.specs.Relayed.{StoodBetween}
 use Rattle.relay_laws.specs.Report.{lines_below}
 use Rattle.evplay.specs.declared.run.RunEnd.{RunEnd}
 use Rattle.evplay.specs.declared.run.RunEnd.TheVariants as run_end
-use Rattle.evplay.specs.Headline.{IsRun, settings_on, script_run}
+use Rattle.evplay.specs.Headline.{IsRun, script_run}
 use Rattle.evplay.specs.Run.{answer_of, refused_by, script_over, TellsTurn}
 use Rattle.evplay.proofs.run.make_turns.Goals as goal
 

@@ -2,13 +2,11 @@ use Rattle.std.proofs.Common.{◌≡◌, [], length, refl, ap, sym, subst, ◌�
 use Rattle.std.proofs.lemmas.List.{length-map}
 use Rattle.std.specs.Prelude.{IfOk, List}
 use Rattle.ev_types.specs.ScriptTurn.{ScriptTurn}
-use Rattle.ev_types.specs.declared.side.SideId.{SideId}
 use Rattle.ev_types.specs.declared.settings.Settings.{Settings}
 use Rattle.script_port.specs.ScriptState.{PortState}
 use Rattle.script_port.specs.ScriptPort.{new_port}
 use Rattle.script_text.specs.declared.limits.Limits.{Limits}
 use Rattle.script_text.specs.declared.limits.GroupSet.{GroupSet}
-use Rattle.ev_types.specs.declared.plan_line.PlanLine.{PlanLine}
 use Rattle.script_text.specs.Given.{no_limits}
 use Rattle.script_text.specs.Runnable.{IsRunnable}
 use Rattle.evplay.specs.Play.{IsRunText}

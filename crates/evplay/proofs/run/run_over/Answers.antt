@@ -1,8 +1,6 @@
-use Rattle.std.proofs.Common.{◌≡◌, ◌⊎◌, inl, inr, ap, subst, Result, Ok, Err, IfOk, IfErr}
-use Rattle.relay_drive.specs.declared.fault.DriveFault.{DriveFault}
+use Rattle.std.proofs.Common.{◌≡◌, ◌⊎◌, inl, inr, subst, Result, Ok, Err, IfOk, IfErr}
 use Rattle.relay_drive.specs.declared.fault.DriveFault.TheVariants as fault
 use Rattle.relay_laws.specs.Report.{lines_below}
-use Rattle.evplay.specs.declared.run.RunEnd.{RunEnd}
 use Rattle.evplay.specs.Headline.{IsRun}
 use Rattle.evplay.specs.Play.{IsRunText}
 use Rattle.evplay.specs.Run.{answer_of, script_over, TellsTurn}
