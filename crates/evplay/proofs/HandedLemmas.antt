@@ -69,7 +69,8 @@ few-from q high k (suc n) = elim (cases_lt k 32) [
     none j (suc m) le =
         let a = high (in_side j) le in
         let b = high (out_side j) le in
-        ap length ((λ i. if a i then in_side j ∷ (if b i then out_side j ∷ filter q (sides_from (j + 1) m) else filter q (sides_from (j + 1) m))
+        ap length ((λ i. if a i then in_side j ∷
+        (if b i then out_side j ∷ filter q (sides_from (j + 1) m) else filter q (sides_from (j + 1) m))
         else (if b i then out_side j ∷ filter q (sides_from (j + 1) m) else filter q (sides_from (j + 1) m))))
         ∙ none (j + 1) m (omega (arith, le))
 
@@ -130,7 +131,8 @@ hook-last [] o = refl
 hook-last (x ∷ xs) o = hook-last xs o
 
 -- the slots so far, of which so many hooks are left
-pub record SlotsSoFar {H : Type 0} (slots : List (Option H)) (tells : Telling H) (plans : List (SideId × PlanLine)) (all : List H) (left : List H) : Type 0 where
+pub record SlotsSoFar {H : Type 0} (slots : List (Option H)) (tells : Telling H) (plans : List (SideId × PlanLine)) (all : List H)
+    (left : List H) : Type 0 where
   pub many : length slots + length left ≡ length all
   pub fresh : All (IsFresh tells) left
   pub tell : list_all (tells_all tells) all ≡ true → list_all (tells_all tells) left ≡ true
@@ -142,8 +144,10 @@ pub slots-none : {H : Type 0} (tells : Telling H) (plans : List (SideId × PlanL
 slots-none tells plans all fresh =
     record { many = omega arith; fresh = fresh; tell = λ h. h; taken = λ n lt. absurd (omega (arith, lt)); told = λ h n. tt }
 
-pub slots-more : {H : Type 0} (slots more : List (Option H)) (tells : Telling H) (plans : List (SideId × PlanLine)) (all : List H) (hook : H)
-    (left : List H) → SlotsSoFar slots tells plans all (hook ∷ left) → AddsSlot tells plans hook slots more → SlotsSoFar more tells plans all left
+pub slots-more : {H : Type 0} (slots more : List (Option H)) (tells : Telling H) (plans : List (SideId × PlanLine)) (all : List H)
+    (hook : H)
+    (left : List H) → SlotsSoFar slots tells plans all (hook ∷ left) → AddsSlot tells plans hook slots more →
+    SlotsSoFar more tells plans all left
 slots-more {H = H} slots more tells plans all hook left so adds =
     let many = so.many in
     let longer = ap length adds.added ∙ length-append slots (adds.slot ∷ []) in
@@ -169,19 +173,23 @@ slots-more {H = H} slots more tells plans all hook left so adds =
         | inl far ↦ past far
         | inr near ↦
             let is : n ≡ length slots = omega (arith, le, near) in
-            subst P (sym (ap (λ xs. hook_at xs n) adds.added ∙ ap (λ k. hook_at (slots ++ adds.slot ∷ []) k) is ∙ hook-last slots adds.slot)) (here is)
+            subst P (sym (ap (λ xs. hook_at xs n) adds.added ∙ ap (λ k. hook_at (slots ++ adds.slot ∷ []) k) is ∙
+            hook-last slots adds.slot)) (here is)
       ]
     ]
 
 -- By a side's number there is a plan exactly where there is one by the side.
-is-planned : (plans : List (SideId × PlanLine)) (e : SideId) → nat_lt 0 (length (lines_at plans (number e))) ≡ list_any (λ x. same_end x.0 e) plans
+is-planned : (plans : List (SideId × PlanLine)) (e : SideId) → nat_lt 0 (length (lines_at plans (number e))) ≡ list_any
+    (λ x. same_end x.0 e) plans
 is-planned [] e = refl
 is-planned (x ∷ plans) e =
-    ap (λ b. nat_lt 0 (length (map (λ x. x.1) (if b then x ∷ filter (λ y. number y.0 == number e) plans else filter (λ y. number y.0 == number e) plans))))
+    ap (λ b. nat_lt 0 (length (map (λ x. x.1)
+    (if b then x ∷ filter (λ y. number y.0 == number e) plans else filter (λ y. number y.0 == number e) plans))))
     (same-number x.0 e) ∙ go (same_end x.0 e) (is-planned plans e)
   where
     go : (b : Bool) → nat_lt 0 (length (lines_at plans (number e))) ≡ list_any (λ x. same_end x.0 e) plans →
-        nat_lt 0 (length (map (λ x. x.1) (if b then x ∷ filter (λ y. number y.0 == number e) plans else filter (λ y. number y.0 == number e) plans)))
+        nat_lt 0 (length (map (λ x. x.1)
+        (if b then x ∷ filter (λ y. number y.0 == number e) plans else filter (λ y. number y.0 == number e) plans)))
         ≡ (b || list_any (λ x. same_end x.0 e) plans)
     go true rest = lt-ltb 0 _ (omega arith)
     go false rest = rest
@@ -199,7 +207,8 @@ slots-all slots tells plans all so =
     }
   where
     same : (e : SideId) (b : Bool) → nat_lt (number e) (length slots) ≡ b →
-        (nat_lt (number e) (length slots) && is_some (hook_at slots (number e))) ≡ (nat_lt (number e) (length slots) && list_any (λ x. same_end x.0 e) plans)
+        (nat_lt (number e) (length slots) && is_some (hook_at slots (number e))) ≡
+        (nat_lt (number e) (length slots) && list_any (λ x. same_end x.0 e) plans)
     same e true is =
         let lt = ltb-true (number e) (length slots) is in
         let there = so.taken (number e) lt ∙ is-planned plans e in
@@ -208,7 +217,8 @@ slots-all slots tells plans all so =
 
 -- as the sides have plans, so by their numbers
 pub have-plans : {H : Type 0} (slots : List (Option H)) (tells : Telling H) (plans : List (SideId × PlanLine)) (handed : HandedIn) →
-    HasSeats slots tells plans handed → handed.tell ≡ true → HavePlans tells (λ e. map (λ x. x.1) (filter (λ x. same_end x.0 e) plans)) slots
+    HasSeats slots tells plans handed → handed.tell ≡ true → HavePlans tells
+    (λ e. map (λ x. x.1) (filter (λ x. same_end x.0 e) plans)) slots
 have-plans slots tells plans handed seats tell e =
     subst (λ lines. IfSome (hook_at slots (number e)) (HasPlan tells lines)) (lines-of_side plans e) (seats.told tell (number e))
 

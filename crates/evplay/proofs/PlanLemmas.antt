@@ -122,7 +122,8 @@ extended-low s new (line.Plan side item) is all h = plan_case (nat_lt 0 (length 
     plan_case : (b : Bool) → (if b then None else Some (record s { plans = s.plans ++ (side, item) ∷ [] })) ≡ Some new → AllLow new
     plan_case true k = none-some new k
     plan_case false k =
-        subst AllLow (some-is _ new k) (All-append IsLow s.plans ((side, item) ∷ []) all (All-cons IsLow (side, item) [] is (All-nil IsLow)))
+        subst AllLow (some-is _ new k) (All-append IsLow s.plans ((side, item) ∷ []) all
+        (All-cons IsLow (side, item) [] is (All-nil IsLow)))
 extended-low s new (line.At ms) is all h = at_case (nat_lt (length s.turns) 20000) h
   where
     at_case : (b : Bool) → (if b then Some (record s { turns = s.turns ++ (ms, []) ∷ [] }) else None) ≡ Some new → AllLow new
@@ -140,5 +141,6 @@ pub plans-low : (text : List ℕ) (script : ScriptValue) → script_of text ≡ 
 plans-low text script h =
     let read = script_of-read text script h in
     subst (λ (z : ScriptValue). All IsLow z.plans) read.is
-    (keeps-lines AllLow (λ s new ws x is all e. extended-low s new x (subst (λ o. IfSome o IsLowLine) is (said-low ws)) all e) no_line read.so_far 0
+    (keeps-lines AllLow (λ s new ws x is all e. extended-low s new x (subst (λ o. IfSome o IsLowLine) is (said-low ws)) all e) no_line
+    read.so_far 0
     (lines text) (All-nil IsLow) read.read)

@@ -19,7 +19,8 @@ use Rattle.relay_drive.proofs.HookEvents.{IsUnhooked, heard_in-append, asked_in-
 use Rattle.relay_drive.proofs.HookEvents.{cut_polling-unhooks}
 
 -- a drive that made at most 20,000 turns can make one more
-pub fresh : (n : ℕ) (d : DriveValue) (t : Trace) → n < 20000 → IsWithin (n * most_of_turn 256 64) 256 64 d → StandsFor t Stage.Between d.state →
+pub fresh : (n : ℕ) (d : DriveValue) (t : Trace) → n < 20000 → IsWithin (n * most_of_turn 256 64) 256 64 d →
+    StandsFor t Stage.Between d.state →
     is_worn d ≡ false
 fresh n d t few w k = within_is_not_worn (n * most_of_turn 256 64) 256 64 d t w k (omega (arith, few))
 
@@ -37,7 +38,8 @@ pub between-of : (t : Trace) (s : State) → LeftFor TurnAnswer.Went t s → Sta
 between-of t s k = subst (λ x. StandsFor t x s) k.left k.stands
 
 -- where no hook was called, all that was asked is planned still
-pub asked-by_none : (plan : SideId → List PlanLine) (t a : Trace) (s new : State) → CutTurn fault.PollFault s a new → AskedAsPlanned plan t →
+pub asked-by_none : (plan : SideId → List PlanLine) (t a : Trace) (s new : State) → CutTurn fault.PollFault s a new →
+    AskedAsPlanned plan t →
     AskedAsPlanned plan (t ++ a)
 asked-by_none plan t a s new cut h e =
     let none : IsUnhooked a = unhooked cut in

@@ -63,7 +63,8 @@ fn attach_next(
 ) -> Result<(), NoMemory>
     requires able { All (λ x. CanPlan x.1) plans.now }
     requires fresh { IsFresh (telling (λ h. heard h) (λ h. asked h) (λ h. planned h)) hook }
-    ensures { OnOk result (AddsSlot (telling (λ h. heard h) (λ h. asked h) (λ h. planned h)) plans.now hook slots.old.items slots.new.items) }
+    ensures { OnOk result (AddsSlot (telling (λ h. heard h) (λ h. asked h) (λ h. planned h)) plans.now hook slots.old.items
+        slots.new.items) }
 {
     let lines = lines_for(alloc, plans, slots.len())?;
     slots.push(with_lines(hook, &lines)?)?;
@@ -79,7 +80,8 @@ pub fn attach(
 ) -> Result<Vec<Option<Box<dyn Hook>>>, NoMemory>
     requires able { All (λ x. CanPlan x.1) plans.now }
     requires fresh { All (IsFresh (telling (λ h. heard h) (λ h. asked h) (λ h. planned h))) hooks.items }
-    ensures { IfOk result (λ slots. HasSeats slots.items (telling (λ h. heard h) (λ h. asked h) (λ h. planned h)) plans.now (handed_in (telling (λ h. heard h) (λ h. asked h) (λ h. planned h)) hooks.items)) }
+    ensures { IfOk result (λ slots. HasSeats slots.items (telling (λ h. heard h) (λ h. asked h) (λ h. planned h)) plans.now
+        (handed_in (telling (λ h. heard h) (λ h. asked h) (λ h. planned h)) hooks.items)) }
 {
     let mut slots = Vec::new(alloc);
     for hook in hooks {

@@ -12,22 +12,28 @@ empty (x ∷ xs) h = absurd (omega (arith, h))
 
 pub attach_next-requires-clause-fresh : goal.attach_next-requires-clause-fresh
 attach_next-requires-clause-fresh g c =
-    All-head (IsFresh (telling (λ h. (goal.Hook-dyn g (h.vtable, h.value)).heard h.value) (λ h. (goal.Hook-dyn g (h.vtable, h.value)).asked h.value)
-    (λ h. (goal.Hook-dyn g (h.vtable, h.value)).planned h.value))) c.in-Some.hook _ (subst (All (IsFresh (telling (λ h. (goal.Hook-dyn g (h.vtable, h.value)).heard h.value) (λ h. (goal.Hook-dyn g (h.vtable, h.value)).asked h.value)
+    All-head (IsFresh (telling (λ h. (goal.Hook-dyn g (h.vtable, h.value)).heard h.value)
+    (λ h. (goal.Hook-dyn g (h.vtable, h.value)).asked h.value)
+    (λ h. (goal.Hook-dyn g (h.vtable, h.value)).planned h.value))) c.in-Some.hook _
+    (subst (All (IsFresh (telling (λ h. (goal.Hook-dyn g (h.vtable, h.value)).heard h.value)
+    (λ h. (goal.Hook-dyn g (h.vtable, h.value)).asked h.value)
     (λ h. (goal.Hook-dyn g (h.vtable, h.value)).planned h.value)))) c.in-Some.ensures.steps.0 c.loop-hook.invariant.fresh)
 
 pub loop-hook-init : goal.loop-hook-init
 loop-hook-init g c =
-    let tells = (telling (λ h. (goal.Hook-dyn g (h.vtable, h.value)).heard h.value) (λ h. (goal.Hook-dyn g (h.vtable, h.value)).asked h.value)
+    let tells = (telling (λ h. (goal.Hook-dyn g (h.vtable, h.value)).heard h.value)
+    (λ h. (goal.Hook-dyn g (h.vtable, h.value)).asked h.value)
     (λ h. (goal.Hook-dyn g (h.vtable, h.value)).planned h.value)) in
     let all = c.args.hooks.items in
-    subst (λ left. SlotsSoFar c.new-slots.result.items tells c.args.plans.now all left) (sym c.into_iter-hook-iterator.ensures.into_iter_gives.0)
+    subst (λ left. SlotsSoFar c.new-slots.result.items tells c.args.plans.now all left)
+    (sym c.into_iter-hook-iterator.ensures.into_iter_gives.0)
     (subst (λ slots. SlotsSoFar slots tells c.args.plans.now all all) (sym c.new-slots.ensures.items)
     (slots-none tells c.args.plans.now all c.requires.fresh))
 
 pub loop-hook-preserved : goal.loop-hook-preserved
 loop-hook-preserved g c =
-    let tells = (telling (λ h. (goal.Hook-dyn g (h.vtable, h.value)).heard h.value) (λ h. (goal.Hook-dyn g (h.vtable, h.value)).asked h.value)
+    let tells = (telling (λ h. (goal.Hook-dyn g (h.vtable, h.value)).heard h.value)
+    (λ h. (goal.Hook-dyn g (h.vtable, h.value)).asked h.value)
     (λ h. (goal.Hook-dyn g (h.vtable, h.value)).planned h.value)) in
     slots-more c.loop-hook.slots.items c.attach_next.new.slots.items tells c.args.plans.now c.args.hooks.items c.in-Some.hook _
     (subst (λ left. SlotsSoFar c.loop-hook.slots.items tells c.args.plans.now c.args.hooks.items left) c.in-Some.ensures.steps.0
@@ -35,7 +41,8 @@ loop-hook-preserved g c =
 
 pub returns : goal.returns
 returns g c =
-    let tells = (telling (λ h. (goal.Hook-dyn g (h.vtable, h.value)).heard h.value) (λ h. (goal.Hook-dyn g (h.vtable, h.value)).asked h.value)
+    let tells = (telling (λ h. (goal.Hook-dyn g (h.vtable, h.value)).heard h.value)
+    (λ h. (goal.Hook-dyn g (h.vtable, h.value)).asked h.value)
     (λ h. (goal.Hook-dyn g (h.vtable, h.value)).planned h.value)) in
     let none = c.in-None.ensures.steps.0 in
     let long = c.loop-hook.hook-iterator.rest.ok.0 in

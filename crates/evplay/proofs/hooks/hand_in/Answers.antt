@@ -7,7 +7,9 @@ use Rattle.evplay.proofs.hooks.hand_in.Goals as goal
 
 pub returns : goal.returns
 returns g c =
-    subst (All (IsFresh (telling (λ h. (goal.Hook-dyn g (h.vtable, h.value)).heard h.value) (λ h. (goal.Hook-dyn g (h.vtable, h.value)).asked h.value)
+    subst (All (IsFresh (telling (λ h. (goal.Hook-dyn g (h.vtable, h.value)).heard h.value)
+    (λ h. (goal.Hook-dyn g (h.vtable, h.value)).asked h.value)
     (λ h. (goal.Hook-dyn g (h.vtable, h.value)).planned h.value)))) (sym c.in_ok-push.ensures.items)
-    (all-one (IsFresh (telling (λ h. (goal.Hook-dyn g (h.vtable, h.value)).heard h.value) (λ h. (goal.Hook-dyn g (h.vtable, h.value)).asked h.value)
+    (all-one (IsFresh (telling (λ h. (goal.Hook-dyn g (h.vtable, h.value)).heard h.value)
+    (λ h. (goal.Hook-dyn g (h.vtable, h.value)).asked h.value)
     (λ h. (goal.Hook-dyn g (h.vtable, h.value)).planned h.value))) c.args.hooks.now.items c.args.hook c.requires.all c.requires.fresh)

@@ -59,7 +59,8 @@ loop-turn-init g c =
           (subst (λ n. IsWithin 0 n (length (seated_sides hooks)) (new_drive c.args.settings.now (seated_sides hooks))) ready.links
           (new_drive_is_within c.args.settings.now (seated_sides hooks)));
       seated = subst (λ d. AreSeated d.state hooks gone) c.requires.new_drive c.requires.seated;
-      told = λ plan have. all_told-none (telling (λ h. (goal.Hook-dyn g (h.vtable, h.value)).heard h.value) (λ h. (goal.Hook-dyn g (h.vtable, h.value)).asked h.value)
+      told = λ plan have. all_told-none
+          (telling (λ h. (goal.Hook-dyn g (h.vtable, h.value)).heard h.value) (λ h. (goal.Hook-dyn g (h.vtable, h.value)).asked h.value)
           (λ h. (goal.Hook-dyn g (h.vtable, h.value)).planned h.value))
           plan hooks gone c.requires.fresh have;
     })
@@ -76,7 +77,8 @@ loop-turn-preserved g c =
     let w = c.in-Ok-Went.ensures.went inv.calm (fresh c.loop-turn.turn c.loop-turn.drive t few inv.within inv.means) in
     let u = t ++ w.added in
     let did : Turns s w.added new = subst (λ x. EndsTurn x s w.added new) c.in-Ok-Went.field-0-is w.does in
-    let left : LeftFor TurnAnswer.Went u new = subst (λ x. LeftFor (drive.turn_end_of x) u new) c.in-Ok-Went.field-0-is (w.means t inv.means) in
+    let left : LeftFor TurnAnswer.Went u new = subst (λ x. LeftFor (drive.turn_end_of x) u new) c.in-Ok-Went.field-0-is
+    (w.means t inv.means) in
     let longer : c.turn.new.scribe.trace ≡ u = same-trace c.turn.new.scribe.trace u w.list in
     let bounded = turn_is_bounded (c.loop-turn.turn * most_of_turn 256 64) 256 64 c.loop-turn.drive c.turn.new.self t w.added inv.within did
     inv.stands (w.stands t inv.stands) in
@@ -91,13 +93,15 @@ loop-turn-preserved g c =
       turns = rw longer counted;
       seen = rw longer (let now = w.told (Question.Took c.args.port.now.turns) t inv.stands inv.seen in (now.0, now.1.0));
       means = rw longer (between-of u new left);
-      ends = rw longer (ends-grow (StoodBetween gs) t w.added inv.ends (stood-at gs t Stage.Between s inv.settings inv.means) (turn-first did) once);
+      ends = rw longer (ends-grow (StoodBetween gs) t w.added inv.ends (stood-at gs t Stage.Between s inv.settings inv.means)
+          (turn-first did) once);
       within = subst (λ n. IsWithin n 256 64 c.turn.new.self) more bounded.0;
       seated = c.in-Ok-Went.ensures.seated calm;
       told = λ plan have. rw longer (all_told-more
           (telling (λ h. (goal.Hook-dyn g (h.vtable, h.value)).heard h.value) (λ h. (goal.Hook-dyn g (h.vtable, h.value)).asked h.value)
           (λ h. (goal.Hook-dyn g (h.vtable, h.value)).planned h.value)) plan
-          c.loop-turn.seats.hooks.items c.loop-turn.seats.gone.items c.turn.new.seats.hooks.items c.turn.new.seats.gone.items t w.added (inv.told plan have) w.hooked);
+          c.loop-turn.seats.hooks.items c.loop-turn.seats.gone.items c.turn.new.seats.hooks.items c.turn.new.seats.gone.items t
+          w.added (inv.told plan have) w.hooked);
     }
 
 -- the settings of the run are those of the script with the hooks that were handed in
@@ -108,12 +112,17 @@ returns-clause-made g c = λ plans handed seats.
     let t = c.loop-turn.scribe.trace in
     let script : ScriptValue = script_over c.args.settings.now plans c.args.port.now in
     let on = ap (λ hs. settings_with c.args.settings.now hs) seats.sides in
-    let all : c.loop-turn.turn ≡ length c.args.port.now.turns = omega (arith, c.loop-turn-test.false, c.loop-turn.auto.turn-end, ready.many) in
+    let all : c.loop-turn.turn ≡ length c.args.port.now.turns = omega
+    (arith, c.loop-turn-test.false, c.loop-turn.auto.turn-end, ready.many) in
     went-run script handed c.loop-turn.port t c.loop-turn.drive.state ready.links ready.timeouts (inv.settings ∙ on) inv.means
     ready.names ready.brings (inv.turns ∙ all) inv.seen inv.stands.asks
-    (λ tell. all_told-planned (telling (λ h. (goal.Hook-dyn g (h.vtable, h.value)).heard h.value) (λ h. (goal.Hook-dyn g (h.vtable, h.value)).asked h.value)
-    (λ h. (goal.Hook-dyn g (h.vtable, h.value)).planned h.value)) (plan_of (script_run script)) c.loop-turn.seats.hooks.items c.loop-turn.seats.gone.items t
-    (inv.told (plan_of (script_run script)) (have-plans c.args.seats.now.hooks.items (telling (λ h. (goal.Hook-dyn g (h.vtable, h.value)).heard h.value) (λ h. (goal.Hook-dyn g (h.vtable, h.value)).asked h.value)
+    (λ tell. all_told-planned (telling (λ h. (goal.Hook-dyn g (h.vtable, h.value)).heard h.value)
+    (λ h. (goal.Hook-dyn g (h.vtable, h.value)).asked h.value)
+    (λ h. (goal.Hook-dyn g (h.vtable, h.value)).planned h.value)) (plan_of (script_run script)) c.loop-turn.seats.hooks.items
+    c.loop-turn.seats.gone.items t
+    (inv.told (plan_of (script_run script))
+    (have-plans c.args.seats.now.hooks.items
+    (telling (λ h. (goal.Hook-dyn g (h.vtable, h.value)).heard h.value) (λ h. (goal.Hook-dyn g (h.vtable, h.value)).asked h.value)
     (λ h. (goal.Hook-dyn g (h.vtable, h.value)).planned h.value)) plans handed seats tell)))
     (subst (λ z. AtTurnEnds (StoodBetween z) t) on inv.ends)
 
@@ -135,15 +144,24 @@ returns-in-Ok-Stopped-clause-made g c = λ plans handed seats.
     subst (λ x. LeftFor (drive.turn_end_of x) u new) c.in-Ok-Stopped.field-0-is (w.means t inv.means) in
     let longer : c.turn.new.scribe.trace ≡ u = same-trace c.turn.new.scribe.trace u w.list in
     let begins = end-begins c.in-Ok-Stopped.field-0 s new w.added w.does in
-    let counted : count_by is_turn u ≤ length c.args.port.now.turns = omega (arith, count-append t w.added, begins.once, inv.turns, below) in
-    let ends = ends-grow (StoodBetween gs) t w.added inv.ends (stood-at gs t Stage.Between s inv.settings inv.means) begins.first begins.once in
-    rw longer (stopped-run script handed c.in-Ok-Stopped.link c.turn.new.port u new ready.links ready.timeouts (w.settings ∙ inv.settings ∙ on) left
+    let counted : count_by is_turn u ≤ length c.args.port.now.turns = omega
+    (arith, count-append t w.added, begins.once, inv.turns, below) in
+    let ends = ends-grow (StoodBetween gs) t w.added inv.ends (stood-at gs t Stage.Between s inv.settings inv.means) begins.first
+    begins.once in
+    rw longer (stopped-run script handed c.in-Ok-Stopped.link c.turn.new.port u new ready.links ready.timeouts
+    (w.settings ∙ inv.settings ∙ on) left
     ready.names ready.brings counted (w.told (Question.Took c.args.port.now.turns) t inv.stands inv.seen) (w.stands t inv.stands).asks
-    (λ tell. all_told-planned (telling (λ h. (goal.Hook-dyn g (h.vtable, h.value)).heard h.value) (λ h. (goal.Hook-dyn g (h.vtable, h.value)).asked h.value)
-    (λ h. (goal.Hook-dyn g (h.vtable, h.value)).planned h.value)) (plan_of (script_run script)) c.turn.new.seats.hooks.items c.turn.new.seats.gone.items u
-    (all_told-more (telling (λ h. (goal.Hook-dyn g (h.vtable, h.value)).heard h.value) (λ h. (goal.Hook-dyn g (h.vtable, h.value)).asked h.value)
-    (λ h. (goal.Hook-dyn g (h.vtable, h.value)).planned h.value)) (plan_of (script_run script)) c.loop-turn.seats.hooks.items c.loop-turn.seats.gone.items c.turn.new.seats.hooks.items c.turn.new.seats.gone.items t w.added
-    (inv.told (plan_of (script_run script)) (have-plans c.args.seats.now.hooks.items (telling (λ h. (goal.Hook-dyn g (h.vtable, h.value)).heard h.value) (λ h. (goal.Hook-dyn g (h.vtable, h.value)).asked h.value)
+    (λ tell. all_told-planned (telling (λ h. (goal.Hook-dyn g (h.vtable, h.value)).heard h.value)
+    (λ h. (goal.Hook-dyn g (h.vtable, h.value)).asked h.value)
+    (λ h. (goal.Hook-dyn g (h.vtable, h.value)).planned h.value)) (plan_of (script_run script)) c.turn.new.seats.hooks.items
+    c.turn.new.seats.gone.items u
+    (all_told-more (telling (λ h. (goal.Hook-dyn g (h.vtable, h.value)).heard h.value)
+    (λ h. (goal.Hook-dyn g (h.vtable, h.value)).asked h.value)
+    (λ h. (goal.Hook-dyn g (h.vtable, h.value)).planned h.value)) (plan_of (script_run script)) c.loop-turn.seats.hooks.items
+    c.loop-turn.seats.gone.items c.turn.new.seats.hooks.items c.turn.new.seats.gone.items t w.added
+    (inv.told (plan_of (script_run script))
+    (have-plans c.args.seats.now.hooks.items
+    (telling (λ h. (goal.Hook-dyn g (h.vtable, h.value)).heard h.value) (λ h. (goal.Hook-dyn g (h.vtable, h.value)).asked h.value)
     (λ h. (goal.Hook-dyn g (h.vtable, h.value)).planned h.value)) plans handed seats tell)) w.hooked))
     (subst (λ z. AtTurnEnds (StoodBetween z) u) on ends))
 
@@ -162,7 +180,8 @@ returns-in-Ok-Stopped-clause-turn g c =
     let longer : c.turn.new.scribe.trace ≡ u = same-trace c.turn.new.scribe.trace u w.list in
     let begins = end-begins c.in-Ok-Stopped.field-0 c.loop-turn.drive.state c.turn.new.self.state w.added w.does in
     let counted : count_by is_turn u ≡ c.loop-turn.turn + 1 = omega (arith, count-append t w.added, begins.once, inv.turns) in
-    subst (λ x. TellsTurn (run_end.Stopped c.in-Ok-Stopped.link (c.loop-turn.turn + 1)) x) (sym longer) (told-is c.loop-turn.turn (count_by is_turn u) few counted)
+    subst (λ x. TellsTurn (run_end.Stopped c.in-Ok-Stopped.link (c.loop-turn.turn + 1)) x) (sym longer)
+    (told-is c.loop-turn.turn (count_by is_turn u) few counted)
 
 -- what follows of a run that ended so by a refused turn
 ended-by : (Q : RunEnd → Type 0) (f : DriveFault) → (f ≡ fault.PollFault → Q run_end.PollFailed) → IfOk (refused_by f) Q
@@ -195,13 +214,19 @@ returns-in-Err-clause-made g c = λ plans handed seats.
     let once : count_by is_turn w.added ≡ 1 = cut-poll-once cut in
     let counted : count_by is_turn u ≤ length c.args.port.now.turns = omega (arith, count-append t w.added, once, inv.turns, below) in
     let seen = w.told (Question.Took c.args.port.now.turns) t inv.stands inv.seen in
-    let ends = ends-grow (StoodBetween gs) t w.added inv.ends (stood-at gs t Stage.Between before inv.settings inv.means) (cut-poll-first cut) once in
-    rw longer (failed-run script handed c.turn.new.port u s ready.links ready.timeouts (w.settings ∙ inv.settings ∙ on) left ready.names ready.brings
+    let ends = ends-grow (StoodBetween gs) t w.added inv.ends (stood-at gs t Stage.Between before inv.settings inv.means)
+    (cut-poll-first cut) once in
+    rw longer (failed-run script handed c.turn.new.port u s ready.links ready.timeouts (w.settings ∙ inv.settings ∙ on) left
+    ready.names ready.brings
     counted seen (w.stands t inv.stands).asks
     (λ tell. asked-by_none (plan_of (script_run script)) t w.added before s cut
-    (all_told-planned (telling (λ h. (goal.Hook-dyn g (h.vtable, h.value)).heard h.value) (λ h. (goal.Hook-dyn g (h.vtable, h.value)).asked h.value)
-    (λ h. (goal.Hook-dyn g (h.vtable, h.value)).planned h.value)) (plan_of (script_run script)) c.loop-turn.seats.hooks.items c.loop-turn.seats.gone.items t
-    (inv.told (plan_of (script_run script)) (have-plans c.args.seats.now.hooks.items (telling (λ h. (goal.Hook-dyn g (h.vtable, h.value)).heard h.value) (λ h. (goal.Hook-dyn g (h.vtable, h.value)).asked h.value)
+    (all_told-planned (telling (λ h. (goal.Hook-dyn g (h.vtable, h.value)).heard h.value)
+    (λ h. (goal.Hook-dyn g (h.vtable, h.value)).asked h.value)
+    (λ h. (goal.Hook-dyn g (h.vtable, h.value)).planned h.value)) (plan_of (script_run script)) c.loop-turn.seats.hooks.items
+    c.loop-turn.seats.gone.items t
+    (inv.told (plan_of (script_run script))
+    (have-plans c.args.seats.now.hooks.items
+    (telling (λ h. (goal.Hook-dyn g (h.vtable, h.value)).heard h.value) (λ h. (goal.Hook-dyn g (h.vtable, h.value)).asked h.value)
     (λ h. (goal.Hook-dyn g (h.vtable, h.value)).planned h.value)) plans handed seats tell))))
     (subst (λ z. AtTurnEnds (StoodBetween z) u) on ends))))
 

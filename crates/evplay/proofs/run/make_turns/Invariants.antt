@@ -32,7 +32,9 @@ invariant-loop-turn g l = record {
   seated : AreSeated l.drive.state l.seats.hooks.items l.seats.gone.items;
   told : (plan : SideId → List PlanLine) →
       HavePlans (telling (λ h. (goal.Hook-dyn g (h.vtable, h.value)).heard h.value)
-      (λ h. (goal.Hook-dyn g (h.vtable, h.value)).asked h.value) (λ h. (goal.Hook-dyn g (h.vtable, h.value)).planned h.value)) plan l.fn.seats.hooks.items →
+      (λ h. (goal.Hook-dyn g (h.vtable, h.value)).asked h.value) (λ h. (goal.Hook-dyn g (h.vtable, h.value)).planned h.value)) plan
+      l.fn.seats.hooks.items →
       AllToldOf (telling (λ h. (goal.Hook-dyn g (h.vtable, h.value)).heard h.value)
-      (λ h. (goal.Hook-dyn g (h.vtable, h.value)).asked h.value) (λ h. (goal.Hook-dyn g (h.vtable, h.value)).planned h.value)) plan l.seats.hooks.items l.seats.gone.items l.scribe.trace;
+      (λ h. (goal.Hook-dyn g (h.vtable, h.value)).asked h.value) (λ h. (goal.Hook-dyn g (h.vtable, h.value)).planned h.value)) plan
+      l.seats.hooks.items l.seats.gone.items l.scribe.trace;
 }

@@ -52,9 +52,11 @@ pub run_over-requires-clause-few : goal.run_over-requires-clause-few
 run_over-requires-clause-few g c =
     let plans = c.args.script.plans in
     let same = c.deref.ensures.value ∙ planned-is c.script.inside c.args.script c.script.view_is in
-    let seats = subst (λ z. HasSeats c.in_ok-attach.field-0.items (telling (λ h. (goal.Hook-dyn g (h.vtable, h.value)).heard h.value) (λ h. (goal.Hook-dyn g (h.vtable, h.value)).asked h.value)
+    let seats = subst (λ z. HasSeats c.in_ok-attach.field-0.items
+    (telling (λ h. (goal.Hook-dyn g (h.vtable, h.value)).heard h.value) (λ h. (goal.Hook-dyn g (h.vtable, h.value)).asked h.value)
     (λ h. (goal.Hook-dyn g (h.vtable, h.value)).planned h.value))
-    z (handed_in (telling (λ h. (goal.Hook-dyn g (h.vtable, h.value)).heard h.value) (λ h. (goal.Hook-dyn g (h.vtable, h.value)).asked h.value)
+    z (handed_in (telling (λ h. (goal.Hook-dyn g (h.vtable, h.value)).heard h.value)
+    (λ h. (goal.Hook-dyn g (h.vtable, h.value)).asked h.value)
     (λ h. (goal.Hook-dyn g (h.vtable, h.value)).planned h.value)) c.args.hooks.items)) same c.in_ok-attach.ensures in
     let few = few-planned plans (length c.args.hooks.items) c.requires.planned in
     let sides = ap length (ap seated_sides c.in_ok-seats.ensures.hooks ∙ seats.sides) in
@@ -75,14 +77,18 @@ over-script script g p set first is =
 
 pub returns-clause-text : goal.returns-clause-text
 returns-clause-text g c =
-    let handed = handed_in (telling (λ h. (goal.Hook-dyn g (h.vtable, h.value)).heard h.value) (λ h. (goal.Hook-dyn g (h.vtable, h.value)).asked h.value)
+    let handed = handed_in (telling (λ h. (goal.Hook-dyn g (h.vtable, h.value)).heard h.value)
+    (λ h. (goal.Hook-dyn g (h.vtable, h.value)).asked h.value)
     (λ h. (goal.Hook-dyn g (h.vtable, h.value)).planned h.value)) c.args.hooks.items in
     let seen : c.script.inside.settings ≡ c.args.script.settings = ap (λ (z : ScriptValue). z.settings) c.script.view_is in
     let same = c.deref.ensures.value ∙ planned-is c.script.inside c.args.script c.script.view_is in
-    let seats = subst (λ z. HasSeats z (telling (λ h. (goal.Hook-dyn g (h.vtable, h.value)).heard h.value) (λ h. (goal.Hook-dyn g (h.vtable, h.value)).asked h.value)
+    let seats = subst (λ z. HasSeats z
+    (telling (λ h. (goal.Hook-dyn g (h.vtable, h.value)).heard h.value) (λ h. (goal.Hook-dyn g (h.vtable, h.value)).asked h.value)
     (λ h. (goal.Hook-dyn g (h.vtable, h.value)).planned h.value))
     c.args.script.plans handed) (sym c.in_ok-seats.ensures.hooks)
-    (subst (λ z. HasSeats c.in_ok-attach.field-0.items (telling (λ h. (goal.Hook-dyn g (h.vtable, h.value)).heard h.value) (λ h. (goal.Hook-dyn g (h.vtable, h.value)).asked h.value)
+    (subst (λ z. HasSeats c.in_ok-attach.field-0.items
+    (telling (λ h. (goal.Hook-dyn g (h.vtable, h.value)).heard h.value) (λ h. (goal.Hook-dyn g (h.vtable, h.value)).asked h.value)
     (λ h. (goal.Hook-dyn g (h.vtable, h.value)).planned h.value)) z handed) same c.in_ok-attach.ensures) in
     subst (λ z. IfOk c.run_over.result (λ ran. IsRunText z handed ran.1 ran.0.items))
-    (over-script c.args.script _ _ seen c.in_ok-port.ensures.at_first c.requires.runnable) (c.run_over.ensures.text c.args.script.plans handed seats)
+    (over-script c.args.script _ _ seen c.in_ok-port.ensures.at_first c.requires.runnable)
+    (c.run_over.ensures.text c.args.script.plans handed seats)

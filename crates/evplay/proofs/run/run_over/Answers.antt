@@ -36,4 +36,5 @@ returns-clause-text g c = λ plans handed seats.
 
 pub returns-clause-only_memory : goal.returns-clause-only_memory
 returns-clause-only_memory g c =
-    err-then (λ f. f ≡ fault.Memory) c.make_turns-ended.result c.text_of.result c.make_turns-ended.ensures.only_memory c.text_of.ensures.refused
+    err-then (λ f. f ≡ fault.Memory) c.make_turns-ended.result c.text_of.result c.make_turns-ended.ensures.only_memory
+    c.text_of.ensures.refused
