@@ -71,7 +71,7 @@ made-ended route status.Usage old new t links k = absurd k
 made-ended route (status.BadScript line) old new t links k = absurd k
 made-ended route status.ReadFault old new t links k = absurd k
 made-ended route status.WriteFault old new t links k = absurd k
-made-ended route (status.Stopped link turn) old new t links k = inl (TurnAnswer.Stopped link, false, t, links, k.0)
+made-ended route (status.Stopped link turn) old new t links k = absurd (k.2 refl)
 made-ended route status.TooLong old new t links k = absurd k
 made-ended route status.Memory old new t links k = absurd k
 

@@ -20,7 +20,7 @@ use Rattle.script_text.specs.ReportText.{report_text}
 use Rattle.relay_model.specs.Answers.{TurnAnswer, LeftAt}
 use Rattle.relay_model.specs.Plain.{side_at}
 use Rattle.relay_model.specs.Settings.{Settings}
-use Rattle.relay_model.specs.Stages.{Stage}
+use Rattle.relay_model.specs.Stages.{Stage, at}
 use Rattle.relay_model.proofs.TiedLemmas.{nothing_is_tied}
 use Rattle.relay_model.proofs.PollLemmas.{Poll, poll_by, poll_at, poll_is_told}
 use Rattle.ev_types.specs.declared.route.Route.{Route}
@@ -50,6 +50,7 @@ use Rattle.relay_serve.specs.Served.{turns_told}
 use Rattle.relay_serve.specs.Underway.{TurnsWent, TurnsEnd, TurnsCut, IsServedOut, RanTo, Reported, ended_as}
 use Rattle.relay_serve.specs.declared.run.ServeEnd.{ServeEnd}
 use Rattle.relay_serve.specs.declared.run.ServeEnd.TheVariants as serve_end
+use Rattle.relay_serve.proofs.StopLemmas.{never_stopped}
 use Rattle.relay_serve.proofs.TurnsLemmas.{built}
 
 -- a sum of which the whole is 0
@@ -181,7 +182,17 @@ module _ (route : Route) (hooks : List SideId) (old mid new : Seen) (b : Begun r
   pub ran-stopped : (link turn : ℕ) (s : State) →
       (went : TurnsWent (settings_on route hooks) (LeftFor (TurnAnswer.Stopped link)) false mid new s) × (turn ≡ turns_told went.added) →
       RanTo route hooks (status.Stopped link turn) old new s
-  ran-stopped link turn s w = (w.0.added, (left-served (TurnAnswer.Stopped link) false s w.0, w.1))
+  ran-stopped link turn s w =
+      let went = w.0 in
+      let stands = went.after.stands in (
+        went.added,
+        (
+          left-served (TurnAnswer.Stopped link) false s went,
+          w.1,
+          (λ empty. never_stopped s.settings went.added (at went.after.stage s.plain) link
+              (record { none = ap (λ (z : Settings). z.hooks) went.settings ∙ empty }) stands.reached went.after.left),
+        ),
+      )
 
   -- a turn was refused
   pub ran-cut : (f : DriveFault) (s : State) → TurnsCut f (settings_on route hooks) mid new s → RanTo route hooks (status_of f) old new s

@@ -62,7 +62,8 @@ abbrev pub turns_told : Trace → ℕ
 turns_told t = min (count_by is_turn t) (2 ^ 32 - 1)
 
 -- How a run ended, by the status with which the program ends once the report is written. The listener failed at the start or in the
--- last turn. A hook of this link stopped the last turn, and so many turns were made with it, cut at the end of a u32.
+-- last turn. A hook of this link stopped the last turn, and so many turns were made with it, cut at the end of a u32; where there are no
+-- hooks, no run ends so.
 abbrev pub EndedAs : Route → List SideId → Status → Seen → Seen → Trace → List LinkCount → Type 0
 EndedAs route hooks status.Ok old new t links = IsServed route hooks TurnAnswer.Went false old new t links × IsAllServed route t links
 EndedAs route hooks status.PollFault old new t links =
@@ -73,7 +74,7 @@ EndedAs route hooks status.OpenFault old new t links =
     × Rose old.faults.listener new.faults.listener
 EndedAs route hooks status.Spent old new t links = IsServed route hooks TurnAnswer.Went false old new t links × IsWornOut t
 EndedAs route hooks (status.Stopped link turn) old new t links =
-    IsServed route hooks (TurnAnswer.Stopped link) false old new t links × (turn ≡ turns_told t)
+    IsServed route hooks (TurnAnswer.Stopped link) false old new t links × (turn ≡ turns_told t) × (hooks ≢ [])
 EndedAs route hooks _ old new t links = ⊥
 
 -- the run ended so, and the whole report was written
