@@ -7,7 +7,8 @@ use Rattle.ev_types.specs.Trace.{Event, Trace}
 use Rattle.relay_model.specs.Plain.{Plain}
 use Rattle.relay_model.specs.Rooms.{Want}
 use Rattle.relay_model.specs.Settings.{Settings, HasNoHooks}
-use Rattle.relay_model.specs.Stages.{Halt, Stage, State, Wanting, Marking, Accepting, Serving, Filtering, Dispatching, Firing, Passing, Closing, Over}
+use Rattle.relay_model.specs.Stages.{Halt, Stage, State, Wanting, Marking, Accepting}
+use Rattle.relay_model.specs.Stages.{Serving, Filtering, Dispatching, Firing, Passing, Closing, Over}
 use Rattle.relay_model.specs.Turn.{after_reading, Quietly, Reaches}
 use Rattle.relay_model.proofs.HooklessLemmas.{Asleep, asleep}
 use Rattle.relay_model.proofs.KindLemmas.{PutKind, put-kind}
@@ -24,7 +25,8 @@ reading-goes side read.Ended ms = refl
 reading-goes side read.NotYet ms = refl
 reading-goes side read.Failed ms = refl
 
-put-goes : (g : Settings) (t : Trace) (s : Plain) (x : Stage) (y : Event) (new : State) → PutKind g t s x y new → is_stopped new.stage ≡ false
+put-goes : (g : Settings) (t : Trace) (s : Plain) (x : Stage) (y : Event) (new : State) → PutKind g t s x y new →
+    is_stopped new.stage ≡ false
 put-goes g t s x y new (PutKind.turned a b) = refl
 put-goes g t s x y new PutKind.polled = refl
 put-goes g t s x y new (PutKind.wanted a) = refl
@@ -40,7 +42,8 @@ put-goes g t s x y new (PutKind.asked same k l) = refl
 put-goes g t s x y new PutKind.recorded = refl
 put-goes g t s x y new (PutKind.closed a) = refl
 
-quiet-goes : (g : Settings) (t : Trace) (x : Stage) (s : Plain) (new : State) → Asleep g x s → Quietly g t x s new → is_stopped new.stage ≡ false
+quiet-goes : (g : Settings) (t : Trace) (x : Stage) (s : Plain) (new : State) → Asleep g x s → Quietly g t x s new →
+    is_stopped new.stage ≡ false
 quiet-goes g t (Wanting []) s new k h = ap (λ z. is_stopped z.stage) h
 quiet-goes g t (Marking (w ∷ ws) marks) s new k h = ap (λ z. is_stopped z.stage) h
 quiet-goes g t (Marking [] marks) s new k h = ap (λ z. is_stopped z.stage) h
