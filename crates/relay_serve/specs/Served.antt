@@ -36,8 +36,8 @@ pub record BeganSo (route : Route) (old : Seen) (told : PortTold) (ends : SideId
   pub ends_stay : AllWent old.ends ends (λ _. no_step)
 
 -- The run made this trace, which stands behind what the scribe had; a relay with these settings and hooks made it, and ended with this
--- answer. The port was started with the addresses, and is tied to the trace since then. The counts of its faults rose exactly where the trace
--- tells of a fault, and that of its listener where this says so.
+-- answer. The port was started with the addresses, and is tied to the trace since then. The counts of its faults rose exactly where the
+-- trace tells of a fault, and that of its listener where this says so.
 pub record IsServed (route : Route) (hooks : List SideId) (answer : TurnAnswer) (open_failed : Bool) (old new : Seen) (t : Trace)
     (links : List LinkCount) : Type 0 where
   pub list : Grew old.log new.log t
