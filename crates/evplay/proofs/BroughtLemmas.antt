@@ -27,7 +27,7 @@ use Rattle.script_text.specs.Pieces.{lines}
 use Rattle.script_text.specs.Numbers.{number_within, bytes_of}
 use Rattle.script_text.specs.Ends.{link_of, end_of}
 use Rattle.script_text.specs.Grammar.{keyword_of, made_of, more_of, of_end, setting_name_of, set_by, said_by, is_comment, said}
-use Rattle.script_text.specs.GroupsAndPlans.{hooked_of, nth_of, planned_of}
+use Rattle.script_text.specs.GroupsAndPlans.{hooked_of, nth_of}
 use Rattle.script_text.specs.ValueGrammar.{why_kind_of}
 use Rattle.script_text.specs.ActGrammar.{planned_ask}
 use Rattle.ev_types.specs.declared.plan_line.PlanLine.{PlanLine}
@@ -51,16 +51,16 @@ abbrev HasBytes : Line → Type 0
 HasBytes (line.Within (turn.Pending side bytes)) = AreBytes bytes
 HasBytes _ = Unit {0}
 
-some-map : {A B : Type 0} (P : B → Type 0) (f : A → B) → ((x : A) → P (f x)) → (o : Option A) → IfSome (option_map f o) P
+pub some-map : {A B : Type 0} (P : B → Type 0) (f : A → B) → ((x : A) → P (f x)) → (o : Option A) → IfSome (option_map f o) P
 some-map P f each None = tt
 some-map P f each (Some x) = each x
 
-some-then : {A B : Type 0} (P : B → Type 0) (f : A → Option B) → ((x : A) → IfSome (f x) P) → (o : Option A) →
+pub some-then : {A B : Type 0} (P : B → Type 0) (f : A → Option B) → ((x : A) → IfSome (f x) P) → (o : Option A) →
     IfSome (option_and_then f o) P
 some-then P f each None = tt
 some-then P f each (Some x) = each x
 
-some-if : {A : Type 0} (P : A → Type 0) (b : Bool) (x y : Option A) → IfSome x P → IfSome y P → IfSome (if b then x else y) P
+pub some-if : {A : Type 0} (P : A → Type 0) (b : Bool) (x y : Option A) → IfSome x P → IfSome y P → IfSome (if b then x else y) P
 some-if P true x y px py = px
 some-if P false x y px py = py
 

@@ -7,3 +7,5 @@ pub mod PlayedLemmas
 pub mod RunLemmas
 pub mod TimeoutLemmas
 pub mod HandedLemmas
+pub mod TurnLemmas
+pub mod PlanLemmas

@@ -26,12 +26,14 @@ pub record IsAttached {H : Type 0} (tells : Telling H) (lines : List PlanLine) (
   pub told : tells_all tells hook ≡ true → IfSome slot (HasPlan tells lines)
 
 -- one slot more, for the side of its number
-pub record AddsSlot {H : Type 0} (tells : Telling H) (plans : List (SideId × PlanLine)) (hook : H) (slots more : List (Option H)) : Type 0 where
+pub record AddsSlot {H : Type 0} (tells : Telling H) (plans : List (SideId × PlanLine)) (hook : H) (slots more : List (Option H)) :
+    Type 0 where
   pub slot : Option H
   pub added : more ≡ slots ++ slot ∷ []
   pub attached : IsAttached tells (lines_at plans (length slots)) hook slot
 
 -- In the slots are the hooks of those sides for which something is planned; each has the lines of its side, where all tell.
-pub record HasSeats {H : Type 0} (tells : Telling H) (plans : List (SideId × PlanLine)) (handed : HandedIn) (slots : List (Option H)) : Type 0 where
+pub record HasSeats {H : Type 0} (slots : List (Option H)) (tells : Telling H) (plans : List (SideId × PlanLine)) (handed : HandedIn)
+    : Type 0 where
   pub sides : seated_sides slots ≡ sides_where (λ e. list_any (λ x. same_end x.0 e) plans) handed.many
   pub told : handed.tell ≡ true → (n : ℕ) → IfSome (hook_at slots n) (HasPlan tells (lines_at plans n))

@@ -36,8 +36,8 @@ Runs source handed end text =
     (script : ScriptValue) × (runnable_script_of source ≡ Ok script) × IsRunText script handed end text
 
 -- What a script of this kind comes to: this text, and this status once it is written. A run of the relay ends well, with a
--- failed poll, or where a hook stopped it. A script of buffers, of a base or of pairs comes to the answers of its lines; where a number of the base is
--- spent, to those before.
+-- failed poll, or where a hook stopped it. A script of buffers, of a base or of pairs comes to the answers of its lines; where a number
+-- of the base is spent, to those before.
 abbrev pub ComesTo : ScriptKind → HandedIn → List ℕ → Status → List ℕ → Type 0
 ComesTo mode.Relay handed source status.Ok text = Runs source handed run_end.Went text
 ComesTo mode.Relay handed source status.PollFault text = Runs source handed run_end.PollFailed text

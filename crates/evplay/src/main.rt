@@ -14,9 +14,11 @@ mod status;
 use command_words::program_words;
 use ev_port::{StdSink, StdSource};
 use ev_types::Status;
-use hooks::script_hooks;
+use hooks::{PLANNED_SIDES, hand_in};
 use program::play_program;
 use program_end::finish;
+use relay_drive::Hook;
+use script_hook::ScriptHook;
 use std::io;
 use std::process::ExitCode;
 
@@ -25,8 +27,21 @@ fn main(rt: HostRuntime) -> ExitCode {
     let mut source = StdSource::new(rt.reader());
     let mut sink = StdSink::new(io::writer(&rt));
     let mut errors = StdSink::new(rt.stderr());
-    let Ok(hooks) = script_hooks(rt.alloc()) else {
-        return ExitCode::from(finish(&mut errors, Status::Memory));
-    };
-    ExitCode::from(play_program(rt.alloc(), words, &mut source, &mut sink, &mut errors, hooks))
+    let mut hooks: Vec<Box<dyn Hook>> = Vec::new(rt.alloc());
+    for _ in 0..PLANNED_SIDES {
+        let Ok(hook) = Box::new(rt.alloc(), ScriptHook::new(rt.alloc())) else {
+            return ExitCode::from(finish(&mut errors, Status::Memory));
+        };
+        let Ok(()) = hand_in(&mut hooks, hook) else {
+            return ExitCode::from(finish(&mut errors, Status::Memory));
+        };
+    }
+    ExitCode::from(play_program(
+        rt.alloc(),
+        words,
+        &mut source,
+        &mut sink,
+        &mut errors,
+        hooks,
+    ))
 }

@@ -28,8 +28,8 @@ pub struct Outcome {
     pub status: Status,
 }
 
-/// What the script of a text of at most 2^24 bytes comes to. Hooks are for links alone. A text that is no script of the mode is refused with its
-/// first bad line.
+/// What the script of a text of at most 2^24 bytes comes to. Hooks are for links alone. A text that is no script of the mode is refused
+/// with its first bad line.
 pub fn outcome_of(
     alloc: Global,
     mode: ScriptKind,
@@ -38,7 +38,8 @@ pub fn outcome_of(
 ) -> Result<Outcome, Status>
     requires short { length text.now ≤ 2 ^ 24 }
     requires fresh { All (IsFresh (telling (λ h. heard h) (λ h. asked h) (λ h. planned h))) hooks.items }
-    ensures comes_to { IfOk result (λ outcome. ComesTo mode (handed_in (telling (λ h. heard h) (λ h. asked h) (λ h. planned h)) hooks.items) text.now outcome.status outcome.text.items) }
+    ensures comes_to { IfOk result (λ outcome. ComesTo mode
+        (handed_in (telling (λ h. heard h) (λ h. asked h) (λ h. planned h)) hooks.items) text.now outcome.status outcome.text.items) }
     ensures refused { IfErr result (λ status. Refuses mode text.now status) }
 {
     match mode {
@@ -50,14 +51,11 @@ pub fn outcome_of(
 }
 
 /// What the script of links that the text spells comes to.
-fn relay(
-    alloc: Global,
-    text: &[u8],
-    hooks: Vec<Box<dyn Hook>>,
-) -> Result<Outcome, Status>
+fn relay(alloc: Global, text: &[u8], hooks: Vec<Box<dyn Hook>>) -> Result<Outcome, Status>
     requires short { length text.now ≤ 2 ^ 24 }
     requires fresh { All (IsFresh (telling (λ h. heard h) (λ h. asked h) (λ h. planned h))) hooks.items }
-    ensures comes_to { IfOk result (λ outcome. ComesTo Relay (handed_in (telling (λ h. heard h) (λ h. asked h) (λ h. planned h)) hooks.items) text.now outcome.status outcome.text.items) }
+    ensures comes_to { IfOk result (λ outcome. ComesTo Relay
+        (handed_in (telling (λ h. heard h) (λ h. asked h) (λ h. planned h)) hooks.items) text.now outcome.status outcome.text.items) }
     ensures refused { IfErr result (λ status. Refuses Relay text.now status) }
 {
     let script = match read_runnable_script(alloc, text) {

@@ -35,7 +35,9 @@ pub fn play<S: Source, K: Sink>(
 
     // What the call did, by its status: usage, or else out of memory, for words that are not one mode word, a bad script by
     // its first bad line, and else the whole text that the script comes to, or the part of it before the sink failed.
-    ensures did { DidWith (mode_of (map string_bytes words.now)) (handed_in (telling (λ h. heard h) (λ h. asked h) (λ h. planned h)) hooks.items) result (S.left source.old) (S.left source.new) (K.taken sink.old) (K.taken sink.new) }
+    ensures did { DidWith (mode_of (map string_bytes words.now))
+        (handed_in (telling (λ h. heard h) (λ h. asked h) (λ h. planned h)) hooks.items) result (S.left source.old)
+        (S.left source.new) (K.taken sink.old) (K.taken sink.new) }
 
     // The words are looked at before all else. What is not written wholly or in part is not written at all.
     ensures unread { result ≡ Status.Usage → source.new ≡ source.old }

@@ -29,8 +29,11 @@ fn play_words<S: Source, K: Sink>(
     hooks: Vec<Box<dyn Hook>>,
 ) -> Status
     requires fresh { All (IsFresh (telling (λ h. heard h) (λ h. asked h) (λ h. planned h))) hooks.items }
-    ensures played { IfOk words (λ all. DidWith (mode_of (map string_bytes all.items)) (handed_in (telling (λ h. heard h) (λ h. asked h) (λ h. planned h)) hooks.items) result (S.left source.old) (S.left source.new) (K.taken sink.old) (K.taken sink.new)) }
-    ensures causes { IfOk words (λ all. HasCauses S.Source K.Sink (mode_of (map string_bytes all.items)) result source.old source.new sink.old sink.new) }
+    ensures played { IfOk words (λ all. DidWith (mode_of (map string_bytes all.items))
+        (handed_in (telling (λ h. heard h) (λ h. asked h) (λ h. planned h)) hooks.items) result (S.left source.old)
+        (S.left source.new) (K.taken sink.old) (K.taken sink.new)) }
+    ensures causes { IfOk words (λ all. HasCauses S.Source K.Sink (mode_of (map string_bytes all.items)) result source.old source.new
+        sink.old sink.new) }
     ensures refused { IfErr words (λ bad. (result ≡ words_status bad) × (source.new ≡ source.old) × (sink.new ≡ sink.old)) }
 {
     match words {
@@ -53,7 +56,9 @@ pub fn play_program<S: Source, K: Sink, E: Sink>(
 ) -> u8
     requires fresh { All (IsFresh (telling (λ h. heard h) (λ h. asked h) (λ h. planned h))) hooks.items }
     ensures played { IfOk words (λ all. (ended : Status) × (result ≡ status_number ended)
-        × DidWith (mode_of (map string_bytes all.items)) (handed_in (telling (λ h. heard h) (λ h. asked h) (λ h. planned h)) hooks.items) ended (S.left source.old) (S.left source.new) (K.taken sink.old) (K.taken sink.new)
+        × DidWith (mode_of (map string_bytes all.items))
+        (handed_in (telling (λ h. heard h) (λ h. asked h) (λ h. planned h)) hooks.items) ended (S.left source.old)
+        (S.left source.new) (K.taken sink.old) (K.taken sink.new)
         × HasCauses S.Source K.Sink (mode_of (map string_bytes all.items)) ended source.old source.new sink.old sink.new
         × Complains ended (E.taken errors.old) (E.taken errors.new) (E.faults errors.old) (E.faults errors.new)) }
     ensures refused { IfErr words (λ bad. (result ≡ status_number (words_status bad)) × (source.new ≡ source.old) × (sink.new ≡ sink.old)

@@ -68,7 +68,8 @@ pub fn run(
     requires planned { All (λ x. number x.0 < 64) script.plans }
     requires runnable { IsRunnable script }
     requires fresh { All (IsFresh (telling (λ h. heard h) (λ h. asked h) (λ h. planned h))) hooks.items }
-    ensures text { IfOk result (λ ran. IsRunText script (handed_in (telling (λ h. heard h) (λ h. asked h) (λ h. planned h)) hooks.items) ran.1 ran.0.items) }
+    ensures text { IfOk result (λ ran. IsRunText script
+        (handed_in (telling (λ h. heard h) (λ h. asked h) (λ h. planned h)) hooks.items) ran.1 ran.0.items) }
     ensures only_memory { IfErr result (λ fault. fault ≡ Memory) }
 {
     let turns = script.turns.len();
@@ -89,7 +90,9 @@ fn run_over(
     requires may_run { MayRun turns settings.now port.old }
     requires fresh { AreFresh seats.old.hooks.items seats.old.gone.items }
     requires few { length (seated_sides seats.old.hooks.items) ≤ 64 }
-    ensures text { (plans : List (SideId × PlanLine)) (handed : HandedIn) → HasSeats (telling (λ h. heard h) (λ h. asked h) (λ h. planned h)) plans handed seats.old.hooks.items →
+    ensures text { (plans : List (SideId × PlanLine)) (handed : HandedIn) →
+        HasSeats seats.old.hooks.items (telling (λ h. heard (h.vtable, h.value)) (λ h. asked (h.vtable, h.value))
+        (λ h. planned (h.vtable, h.value))) plans handed →
         IfOk result (λ ran. IsRunText (script_over settings.now plans port.old) handed ran.1 ran.0.items) }
     ensures only_memory { IfErr result (λ fault. fault ≡ Memory) }
 {
@@ -114,7 +117,9 @@ fn make_turns(
     requires seated { AreSeated drive.old.state seats.old.hooks.items seats.old.gone.items }
     requires few { length (seated_sides seats.old.hooks.items) ≤ 64 }
     requires no_trace { scribe.old.trace ≡ [] }
-    ensures made { (plans : List (SideId × PlanLine)) (handed : HandedIn) → HasSeats (telling (λ h. heard h) (λ h. asked h) (λ h. planned h)) plans handed seats.old.hooks.items →
+    ensures made { (plans : List (SideId × PlanLine)) (handed : HandedIn) →
+        HasSeats seats.old.hooks.items (telling (λ h. heard (h.vtable, h.value)) (λ h. asked (h.vtable, h.value))
+        (λ h. planned (h.vtable, h.value))) plans handed →
         IfOk result (λ end. IsRun (script_over settings.now plans port.old) handed (answer_of end) scribe.new.trace
         (lines_below drive.new.state drive.new.state.plain.opened)) }
     ensures turn { IfOk result (λ end. TellsTurn end scribe.new.trace) }

@@ -1,8 +1,10 @@
 // Turns of a relay over links that are idle.
+ghost use Rattle.std.specs.Prelude.{◌≡◌, None};
+ghost use Rattle.relay_drive.specs.Seats.{AreSeated};
 
 use ev_port::Mute;
 use ev_types::TurnLine;
-use relay_drive::{Drive, Settings};
+use relay_drive::{Drive, Seats, Settings};
 use script_port::ScriptPort;
 use script_text::{Limits, Script};
 use std::alloc::Global;
@@ -24,16 +26,25 @@ fn turns_over(
     turns: u32,
     port: &mut ScriptPort,
 ) -> anyhow::Result<u64> {
-    let mut drive = Drive::new(alloc, settings)?;
-    let made = make_turns(turns, &mut drive, port);
+    let mut seats = Seats::new(alloc, Vec::new(alloc))?;
+    let mut drive = Drive::new(alloc, settings, &seats)?;
+    let made = make_turns(turns, &mut drive, &mut seats, port);
     drop(drive);
+    drop(seats);
     made
 }
 
-fn make_turns(turns: u32, drive: &mut Drive, port: &mut ScriptPort) -> anyhow::Result<u64> {
+fn make_turns(
+    turns: u32,
+    drive: &mut Drive,
+    seats: &mut Seats,
+    port: &mut ScriptPort,
+) -> anyhow::Result<u64>
+    requires { drive.old.kept ≡ None → AreSeated drive.old.state seats.old.hooks.items seats.old.gone.items }
+{
     let mut made = 0u64;
     for _ in 0..turns {
-        drive.turn(port, &mut Mute::new())?;
+        drive.turn(seats, port, &mut Mute::new())?;
         made = made.saturating_add(1);
     }
     Ok(made)

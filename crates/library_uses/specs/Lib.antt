@@ -1,1 +1,2 @@
 pub mod OwnPort
+pub mod Turning

@@ -8,6 +8,7 @@ mod connections;
 mod deadlines;
 mod due;
 mod filters;
+mod idle_links;
 mod limits;
 mod lines;
 mod numbers;
@@ -31,5 +32,6 @@ fn main(rt: HostRuntime) -> anyhow::Result<()> {
     callbacks::callbacks_that_free(&rt, alloc)?;
     numbers::busy_jobs(&rt, alloc)?;
     own_port::one_call(&rt, alloc)?;
+    idle_links::two_links(&rt, alloc)?;
     Ok(())
 }

@@ -3,13 +3,14 @@ ghost use Rattle.std.specs.Prelude.{◌≡◌, ◌<◌, ⊤, false, map, length}
 ghost use Rattle.ev_port.specs.Ends.{ReadWithin, is_failed_read};
 ghost use Rattle.ev_port.specs.Silent.{silent_port, silent_end};
 ghost use Rattle.library_uses.specs.OwnPort.{marked, no_fault};
+ghost use Rattle.library_uses.specs.Turning.{MayTurn};
 
 use ev_port::{
     Accepted, Addr, ConnAnswer, Mute, Polled, Port, ReadAnswer, Started, Want, WriteAnswer,
 };
 use ev_types::{Side, SideId};
 use relay_core::Settings;
-use relay_drive::Drive;
+use relay_drive::{Drive, Seats};
 use std::alloc::Global;
 use std::io::Print;
 
@@ -134,16 +135,25 @@ pub fn one_call(rt: &impl Print, alloc: Global) -> anyhow::Result<()> {
         ended: false,
         turns: 0,
     };
-    let mut drive = Drive::new(alloc, Settings::usual())?;
-    let answer = four_turns(rt, &mut drive, &mut port);
+    let mut seats = Seats::new(alloc, Vec::new(alloc))?;
+    let mut drive = Drive::new(alloc, Settings::usual(), &seats)?;
+    let answer = four_turns(rt, &mut drive, &mut seats, &mut port);
     drop(drive);
+    drop(seats);
     answer
 }
 
 // The drive is lent, so that it is let go at one place.
-fn four_turns(rt: &impl Print, drive: &mut Drive, port: &mut OneCall) -> anyhow::Result<()> {
+fn four_turns(
+    rt: &impl Print,
+    drive: &mut Drive,
+    seats: &mut Seats,
+    port: &mut OneCall,
+) -> anyhow::Result<()>
+    requires { MayTurn drive.old seats.old.hooks.items seats.old.gone.items }
+{
     for turn in 1..5u32 {
-        drive.turn(port, &mut Mute::new())?;
+        drive.turn(seats, port, &mut Mute::new())?;
         println!(rt;
             "turn {turn}: {} open, {} bytes wait, {} were heard",
             drive.open_links(),

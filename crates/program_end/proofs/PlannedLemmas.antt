@@ -18,7 +18,8 @@ use Rattle.program_end.specs.Planned.{HasPlan, HavePlans, ToldOf, AllToldOf}
 
 -- One hook
 
-pub told-none : {H : Type 0} (tells : Telling H) (plan : List PlanLine) (e : SideId) (h : H) → HasPlan tells plan h → ToldOf tells plan e [] h
+pub told-none : {H : Type 0} (tells : Telling H) (plan : List PlanLine) (e : SideId) (h : H) → HasPlan tells plan h →
+    ToldOf tells plan e [] h
 told-none tells plan e h k = record { planned = k.0; heard = k.1; asked = k.2; by_plan = refl }
 
 -- what it tells by the three lists is what its plan has
@@ -58,7 +59,8 @@ told-more tells plan e t a was now k m =
 pub all_told-none : {H : Type 0} (tells : Telling H) (plan : SideId → List PlanLine) (hooks gone : List (Option H)) → AreFresh hooks gone →
     HavePlans tells plan hooks → AllToldOf tells plan hooks gone []
 all_told-none {H = H} tells plan hooks gone fresh have e =
-    subst (λ o. MatchOption (option_or (hook_at hooks (number e)) o) ((heard_in e [] ≡ []) × (asked_in e [] ≡ [])) (ToldOf tells (plan e) e [])) (sym (fresh.none (number e)))
+    subst (λ o. MatchOption (option_or (hook_at hooks (number e)) o) ((heard_in e [] ≡ []) × (asked_in e [] ≡ []))
+    (ToldOf tells (plan e) e [])) (sym (fresh.none (number e)))
     (go (hook_at hooks (number e)) (have e))
   where
     go : (o : Option H) → IfSome o (HasPlan tells (plan e)) → MatchOption (option_or o None) ((heard_in e [] ≡ []) × (asked_in e [] ≡ []))
@@ -67,7 +69,8 @@ all_told-none {H = H} tells plan hooks gone fresh have e =
     go (Some h) k = told-none tells (plan e) e h k
 
 -- through a turn
-pub all_told-more : {H : Type 0} (tells : Telling H) (plan : SideId → List PlanLine) (hooks gone hooks' gone' : List (Option H)) (t a : Trace) →
+pub all_told-more : {H : Type 0} (tells : Telling H) (plan : SideId → List PlanLine) (hooks gone hooks' gone' : List (Option H))
+    (t a : Trace) →
     AllToldOf tells plan hooks gone t → HooksTell tells None hooks gone hooks' gone' a → AllToldOf tells plan hooks' gone' (t ++ a)
 all_told-more {H = H} tells plan hooks gone hooks' gone' t a told h e =
     go (seat hooks gone (number e)) (seat hooks' gone' (number e)) (told e) (h.more e (λ p. absurd (cc)))

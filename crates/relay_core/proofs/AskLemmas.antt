@@ -21,7 +21,8 @@ some-of a b h = cc h
 
 -- a refusal is one of four
 refused-told : (a b c d : Bool) (r : AskAnswer) →
-    (if a then Some ask.NotLive else (if b then Some ask.BadValue else (if c then Some ask.NoGroup else (if d then Some ask.TooManyRefs else None)))) ≡ Some r →
+    (if a then Some ask.NotLive else
+    (if b then Some ask.BadValue else (if c then Some ask.NoGroup else (if d then Some ask.TooManyRefs else None)))) ≡ Some r →
     (answer_of (Err (fault_of r)) ≡ Some r) × (r ≢ ask.Ok)
 refused-told true b c d r h =
     subst (λ z. (answer_of (Err (fault_of z)) ≡ Some z) × (z ≢ ask.Ok)) (some-of ask.NotLive r h) (refl, λ e. absurd (cc e))

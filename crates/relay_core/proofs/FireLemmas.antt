@@ -93,7 +93,8 @@ fires-of e old begun new state me asks stopped log h =
       few = (let x = h.asks in let y = h.few in omega (arith, x, y, asks));
       does =
           subst (λ z. AsksAll e h.asked z new.log new.state) state
-          (subst (λ z. AsksAll e h.asked begun.state z new.state) all (subst (λ z. AsksAll z h.asked begun.state h.added new.state) me h.does));
+          (subst (λ z. AsksAll e h.asked begun.state z new.state) all
+          (subst (λ z. AsksAll z h.asked begun.state h.added new.state) me h.does));
       stopped = h.stopped ∙ ap (λ b. b || list_any stops h.asked) stopped;
     }
 

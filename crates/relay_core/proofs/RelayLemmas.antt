@@ -1,5 +1,5 @@
--- The relay's state as its links change, and what is so of each side: none has a limit, so that rooms are what flags and marks leave, and no
--- bucket changes.
+-- The relay's state as its links change, and what is so of each side: none has a limit, so that rooms are what flags and marks leave,
+-- and no bucket changes.
 use Rattle.std.proofs.Common.{◌≡◌, ℕ, zero, suc, Bool, false, Result, Ok, Err, MatchResult, if◌then◌else◌, List, []}
 use Rattle.std.proofs.Common.{◌∷◌, slice_index_or, Option, None, option_map, ◌*◌, ◌-◌, min, length, length-append, ◌≢◌, refl, sym, ◌∙◌, ap}
 use Rattle.std.proofs.Common.{subst, arith}
@@ -152,14 +152,17 @@ module _ (v : RelayValue) (r : Inside) (is : relay_of r ≡ v) where
   -- passing
 
   pub state_passes : (k : Links) (e : SideId) (T E : Type 0) (result : Result T E) →
-      MatchResult result (λ _. links.PassedFrom r.settings.hold r.sides.links e k) (λ _. links.PartlyPassed r.settings.hold r.sides.links e k) →
+      MatchResult result (λ _. links.PassedFrom r.settings.hold r.sides.links e k)
+      (λ _. links.PartlyPassed r.settings.hold r.sides.links e k) →
       MatchResult result (λ _. state.PassedFrom v.state e (state_with r k)) (λ _. state.PartlyPassed v.state e (state_with r k))
   state_passes k e T E result h =
-      subst (λ (z : RelayValue). MatchResult result (λ _. state.PassedFrom z.state e (state_with r k)) (λ _. state.PartlyPassed z.state e (state_with r k)))
+      subst (λ (z : RelayValue). MatchResult result (λ _. state.PassedFrom z.state e (state_with r k))
+      (λ _. state.PartlyPassed z.state e (state_with r k)))
       is (go result h)
     where
       go : (a : Result T E) →
-          MatchResult a (λ _. links.PassedFrom r.settings.hold r.sides.links e k) (λ _. links.PartlyPassed r.settings.hold r.sides.links e k) →
+          MatchResult a (λ _. links.PassedFrom r.settings.hold r.sides.links e k)
+          (λ _. links.PartlyPassed r.settings.hold r.sides.links e k) →
           MatchResult a (λ _. state.PassedFrom (state_with r r.sides.links) e (state_with r k))
           (λ _. state.PartlyPassed (state_with r r.sides.links) e (state_with r k))
       go (Ok a) p = (p.0, p.1, ap (state_with r) p.2)

@@ -53,7 +53,8 @@ taken-none s none all = λ i.
 -- The first one that has come is taken and becomes due, and then the others.
 pub taken-first : (s : State) (e : SideId) (timers : List Timer) → IsFirstDue s.plain.time e s.plain.timers timers →
     due_after s.plain.time timers ≡ due_after s.plain.time s.plain.timers →
-    with_taken (with_plain (raise s.settings e why.Timer (with_timers timers s.plain)) (with_plain (with_timers timers s.plain) s)) ≡ with_taken s
+    with_taken (with_plain (raise s.settings e why.Timer (with_timers timers s.plain)) (with_plain (with_timers timers s.plain) s)) ≡
+    with_taken s
 taken-first s e timers first later =
     let g : Settings = s.settings in
     let time : ℕ = s.plain.time in
@@ -62,7 +63,8 @@ taken-first s e timers first later =
     let same_time : raised.time ≡ time = raise-time g e why.Timer (with_timers timers s.plain) in
     let own : raised.timers ≡ timers = ap (λ (p : Plain). p.timers) (raise-timers g e why.Timer timers s.plain) in
     let after : List Timer = due_after time s.plain.timers in
-    let start : with_timers (due_after raised.time raised.timers) raised ≡ R (with_timers after s.plain) (record { side = e; deadline = first.0 }) =
+    let start : with_timers (due_after raised.time raised.timers) raised ≡ R (with_timers after s.plain)
+    (record { side = e; deadline = first.0 }) =
     (λ i. with_timers (due_after (same_time i) (own i)) raised) ∙ ap (λ z. with_timers z raised) later
     ∙ sym (raise-timers g e why.Timer after (with_timers timers s.plain)) in
     ap (λ p. with_plain p s)
@@ -70,7 +72,8 @@ taken-first s e timers first later =
     ∙ ap (fold R (with_timers after s.plain)) (sym first.1))
 
 -- One is taken of what waits in the relay.
-module _ (v : RelayValue) (r : Inside) (w : WaitsValue) (e : SideId) (is : relay_of r ≡ v) (rest : w ≡ record (r.waits) { timers = w.timers })
+module _ (v : RelayValue) (r : Inside) (w : WaitsValue) (e : SideId) (is : relay_of r ≡ v)
+    (rest : w ≡ record (r.waits) { timers = w.timers })
     (first : IsFirstDue r.time e r.waits.timers w.timers) (new : State)
     (raised : new ≡ with_plain (raise (state_over r r.sides.links w).settings e why.Timer (state_over r r.sides.links w).plain)
     (state_over r r.sides.links w)) where
@@ -96,7 +99,8 @@ module _ (v : RelayValue) (r : Inside) (w : WaitsValue) (e : SideId) (is : relay
       let p : Plain = with_timers w.timers s.plain in
       let a : left_due new ≡ length (due_by r.time w.timers) =
       ap left_due new_is
-      ∙ (λ i. length (due_by (raise-time g e why.Timer p i) (ap (λ (q : Plain). q.timers) (raise-timers g e why.Timer w.timers s.plain) i))) in
+      ∙ (λ i. length (due_by (raise-time g e why.Timer p i)
+      (ap (λ (q : Plain). q.timers) (raise-timers g e why.Timer w.timers s.plain) i))) in
       let b : left_due v.state ≡ length (due_by r.time r.waits.timers) = ap (λ (z : RelayValue). left_due z.state) (sym is) in
       let c = ap length first.1 in
       omega (arith, a, b, c)

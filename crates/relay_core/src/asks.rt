@@ -136,8 +136,8 @@ impl Ctl {
         Ok(())
     }
 
-    /// Sets the one timer of a side, in the place of the one before, to so many milliseconds from now. It is taken in the first turn at that
-    /// time or later. Logarithmic in the timers but for what is moved; takes memory.
+    /// Sets the one timer of a side, in the place of the one before, to so many milliseconds from now. It is taken in the first turn at
+    /// that time or later. Logarithmic in the timers but for what is moved; takes memory.
     ///
     /// Refused as TooManyAsks, then NotLive, then BadValue where the delay is above 2^40, then for want of memory.
     ///

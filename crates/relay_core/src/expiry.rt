@@ -139,8 +139,8 @@ impl Relay {
         }
     }
 
-    /// Whether no side has a timeout. Then a turn begins with its time and the timers alone, and a poll waits for timers. Constant; takes no
-    /// memory.
+    /// Whether no side has a timeout. Then a turn begins with its time and the timers alone, and a poll waits for timers. Constant;
+    /// takes no memory.
     ///
     /// Own.
     pub fn is_untimed(&self) -> bool
@@ -149,10 +149,10 @@ impl Relay {
         self.ctl.untimed
     }
 
-    /// A turn begins. A reading of the clock becomes the time, cut at 2^62 and unless the time is greater. Answers the time. The timers that
-    /// have come are taken. Where no side has a timeout, nothing else changes. No side has a limit, so that what its end may move doesn't
-    /// grow with the time. Takes no memory; linear in the timers that are taken, and where a side may have a timeout also in the number of
-    /// links.
+    /// A turn begins. A reading of the clock becomes the time, cut at 2^62 and unless the time is greater. Answers the time. The timers
+    /// that have come are taken. Where no side has a timeout, nothing else changes. No side has a limit, so that what its end may move
+    /// doesn't grow with the time. Takes no memory; linear in the timers that are taken, and where a side may have a timeout also in the
+    /// number of links.
     ///
     /// Own.
     pub fn begin(&mut self, reading: u64) -> u64
@@ -270,7 +270,8 @@ impl Relay {
         earlier(self.timer_wait(), self.least_wait())
     }
 
-    /// For how many milliseconds a poll may wait; None is for ever. Constant where no side has a timeout, else linear in the number of links.
+    /// For how many milliseconds a poll may wait; None is for ever. Constant where no side has a timeout, else linear in the number of
+    /// links.
     pub fn poll_timeout(&self) -> Option<u64>
         ensures { result ≡ poll_timeout self.now.state }
     {

@@ -17,8 +17,8 @@ pub enum AskFault {
     TooManyAsks,
     #[error("there is no such group")]
     NoGroup,
-    /// A mark is above 2^24, a timeout or a delay above 2^40, a side that is in no group is to leave it, or a live side that has no reference
-    /// is to give one up.
+    /// A mark is above 2^24, a timeout or a delay above 2^40, a side that is in no group is to leave it, or a live side that has no
+    /// reference is to give one up.
     #[error("the value is out of range")]
     BadValue,
     /// The side has 2^32 - 1 references.

@@ -14,7 +14,8 @@ use ev_types::{Entry, NoMemory, SideId, Why};
 const MOST_ENTRIES: usize = 2 * MOST_ASKS as usize;
 
 impl Relay {
-    /// Makes all that is due the batch. It is asked that the batch is used up. No more sides have something due than have a hook. Linear in the entries that are due; takes no memory.
+    /// Makes all that is due the batch. It is asked that the batch is used up. No more sides have something due than have a hook. Linear
+    /// in the entries that are due; takes no memory.
     ///
     /// Own.
     pub fn begin_batch(&mut self)
@@ -50,7 +51,7 @@ impl Relay {
     }
 
     /// Calls the hook of a live side once, for one reason, in room that was made before, and lends it the relay's state. What it asked is
-    /// kept as entries until the next fire. Takes what memory the hook takes.
+    /// kept as entries until the next fire. Takes what memory the hook takes; costs what the hook costs.
     ///
     /// Own; libevent calls the callbacks of a bufferevent so.
     pub fn fire(&mut self, side: SideId, why: Why, hook: &mut Box<dyn Hook>) -> Result<(), NoMemory>

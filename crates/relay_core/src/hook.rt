@@ -28,8 +28,8 @@ pub trait Hook: Drop {
     /// What it is to ask, where it tells.
     ghost planned: { Self → Option (List PlanLine) };
 
-    /// Is handed what a script plans for it, before it is called for the first time. It is asked that no line asks for a limit or a group, which
-    /// no hook can do yet. Refused for want of memory.
+    /// Is handed what a script plans for it, before it is called for the first time. It is asked that no line asks for a limit or a
+    /// group, which no hook can do yet. Refused for want of memory.
     fn plan(&mut self, lines: &[PlanLine]) -> Result<(), NoMemory>
         requires able { All CanPlan lines.now }
         requires unheard { HasToldNothing (heard self.old) }
@@ -38,8 +38,8 @@ pub trait Hook: Drop {
         ensures asked { asked self.new ≡ asked self.old }
         ensures planned { OnOk result (planned self.new ≡ option_map (λ _. lines.now) (planned self.old)) };
 
-    /// Is called for one reason of the side `me` of the state that it is lent. It calls that as it likes. Refused for want of memory, the turn
-    /// ends with it, once what was asked is recorded.
+    /// Is called for one reason of the side `me` of the state that it is lent. It calls that as it likes. Refused for want of memory,
+    /// the turn ends with it, once what was asked is recorded.
     fn fire(&mut self, ctl: &mut Ctl, why: Why) -> Result<(), NoMemory>
         requires live { is_live ctl.old.state.plain ctl.old.me ≡ true }
         requires unasked { ctl.old.asks ≡ 0 }

@@ -34,7 +34,8 @@ impl Ctl {
     pub fn peek(&self, side: SideId, into: &mut [u8]) -> Result<usize, AskFault>
         ensures copied { IfOk result (λ count. IsPeeked self.now.state side into.old into.new count) }
         ensures live { IfOk result (λ count. is_live self.now.state.plain side ≡ true) }
-        ensures refused { OnErr result ((is_live self.now.state.plain side ≡ false) × (result ≡ Err AskFault.NotLive) × (into.new ≡ into.old)) }
+        ensures refused { OnErr result ((is_live self.now.state.plain side ≡ false) × (result ≡ Err AskFault.NotLive) ×
+            (into.new ≡ into.old)) }
     {
         if !self.live(side) {
             return Err(AskFault::NotLive);
@@ -59,8 +60,8 @@ impl Ctl {
         Ok(self.sides.lengths(side))
     }
 
-    /// What was read from a side's end, moved to its peer and given to its end so far, in bytes. NotLive exactly where it was never opened, or
-    /// is freed and has no reference. Constant; takes no memory.
+    /// What was read from a side's end, moved to its peer and given to its end so far, in bytes. NotLive exactly where it was never
+    /// opened, or is freed and has no reference. Constant; takes no memory.
     ///
     /// Own.
     pub fn counts(&self, side: SideId) -> Result<Counts, AskFault>

@@ -72,10 +72,12 @@ kept-but l l' k s s' b at gone t h =
       close_covers = omega (arith, at.opened, t.close_len, h.close_covers);
       want_covers = omega (arith, at.opened, t.want_len, h.want_covers);
       live_covers = omega (arith, at.opened, t.live_len, h.live_covers);
-      still = beside IsStill l.to_pass l'.to_pass k true s s' t.to_pass (λ e. no_false e) opened (λ j e lt p. still-same (at.others j e) p) h.still;
+      still = beside IsStill l.to_pass l'.to_pass k true s s' t.to_pass (λ e. no_false e) opened
+          (λ j e lt p. still-same (at.others j e) p) h.still;
       settled = beside IsSettled l.to_close l'.to_close k true s s' t.to_close (λ e. no_false e) opened
           (λ j e lt p. settled-same (at.others j e) p) h.settled;
-      gone = beside IsGone l.maybe_open l'.maybe_open k b s s' t.maybe_open (λ e lt. gone e) opened (λ j e lt p. gone-same j s s' (at.others j e) p) h.gone;
+      gone = beside IsGone l.maybe_open l'.maybe_open k b s s' t.maybe_open (λ e lt. gone e) opened
+          (λ j e lt p. gone-same j s s' (at.others j e) p) h.gone;
     }
 
 pub names-but : (l l' : Agenda) (k : ℕ) (s s' : State) (b : Bool) → AtLink k s s' → TouchedBut b k l l' → KeepsNames l s l' s'
@@ -87,7 +89,8 @@ names-but l l' k s s' b at t = λ table h. record {
 
 -- nothing changed, and a link was found at which passing has nothing to do
 pub kept-passed : (l l' : Agenda) (k : ℕ) (s : State) → IsStill s k → l'.to_pass.len ≡ l.to_pass.len →
-    ((n : ℕ) → l'.to_pass.has n ≡ (if n == k then false else l.to_pass.has n)) → l'.to_close ≡ l.to_close → l'.to_name ≡ l.to_name → l'.maybe_open ≡ l.maybe_open →
+    ((n : ℕ) → l'.to_pass.has n ≡ (if n == k then false else l.to_pass.has n)) → l'.to_close ≡ l.to_close → l'.to_name ≡ l.to_name →
+    l'.maybe_open ≡ l.maybe_open →
     IsKept l s → IsKept l' s
 kept-passed l l' k s still len has close want live h = record {
   pass_covers = omega (arith, len, h.pass_covers);
@@ -210,7 +213,8 @@ passes-up l s0 s from to le within untold kept h =
     (λ k a b. still-passes k s (kept.still k (omega (arith, b, within)) (untold k a b))) h
 
 -- and closing did
-pub closes-up : (l : Agenda) (s0 s : State) (a : Trace) (from to : ℕ) → from ≤ to → to ≤ s.plain.opened → IsUntold l.to_close from to → IsKept l s →
+pub closes-up : (l : Agenda) (s0 s : State) (a : Trace) (from to : ℕ) → from ≤ to → to ≤ s.plain.opened →
+    IsUntold l.to_close from to → IsKept l s →
     Each ClosesLink (links_from 0 from) s0 a s → Each ClosesLink (links_from 0 to) s0 a s
 closes-up l s0 s a from to le within untold kept h =
     each-skips ClosesLink from to s0 s a le

@@ -43,16 +43,18 @@ fired-none {tells = tells} l hooks gone state entries = record {
 pub fired-then : {H : Type 0} {tells : Telling H} (short : Option SideId) {R S : State → Trace → State → Type 0} {a b c : Run}
     {l m n : Option Trace} {h1 g1 h2 g2 h3 g3 : List (Option H)} → FiredAs tells None R a b l m h1 g1 h2 g2 →
     FiredAs tells short S b c m n h2 g2 h3 g3 → FiredAs tells short (Then R S) a c l n h1 g1 h3 g3
-fired-then {tells = tells} short {a = a} {b = b} {c = c} {l = l} {m = m} {n = n} {h1 = h1} {g1 = g1} {h2 = h2} {g2 = g2} {h3 = h3} {g3 = g3} f g = record {
-  added = f.added ++ g.added;
-  does = record { middle = b.relay.state; front = f.added; back = g.added; first = f.does; second = g.does; joined = refl };
-  list = Grew-join l m n f.added g.added f.list g.list;
-  entries = (let x = f.entries in let y = g.entries in let z = length-append f.added g.added in omega (arith, x, y, z));
-  hooked = tells-then tells short h1 g1 h2 g2 h3 g3 f.added g.added (tells-but tells short h1 g1 h2 g2 f.added f.hooked) g.hooked;
-}
+fired-then {tells = tells} short {a = a} {b = b} {c = c} {l = l} {m = m} {n = n} {h1 = h1} {g1 = g1} {h2 = h2} {g2 = g2} {h3 = h3}
+    {g3 = g3} f g = record {
+      added = f.added ++ g.added;
+      does = record { middle = b.relay.state; front = f.added; back = g.added; first = f.does; second = g.does; joined = refl };
+      list = Grew-join l m n f.added g.added f.list g.list;
+      entries = (let x = f.entries in let y = g.entries in let z = length-append f.added g.added in omega (arith, x, y, z));
+      hooked = tells-then tells short h1 g1 h2 g2 h3 g3 f.added g.added (tells-but tells short h1 g1 h2 g2 f.added f.hooked) g.hooked;
+    }
 
 pub fired-as : {H : Type 0} {tells : Telling H} {short : Option SideId} {R S : State → Trace → State → Type 0} {a b : Run}
-    {l m : Option Trace} {h1 g1 h2 g2 : List (Option H)} → ((x : Trace) → R a.relay.state x b.relay.state → S a.relay.state x b.relay.state) →
+    {l m : Option Trace} {h1 g1 h2 g2 : List (Option H)} →
+    ((x : Trace) → R a.relay.state x b.relay.state → S a.relay.state x b.relay.state) →
     FiredAs tells short R a b l m h1 g1 h2 g2 → FiredAs tells short S a b l m h1 g1 h2 g2
 fired-as w f = record { added = f.added; does = w f.added f.does; list = f.list; entries = f.entries; hooked = f.hooked }
 
@@ -100,7 +102,8 @@ module _ {H : Type 0} {tells : Telling H} (stopped : Bool) (short : Option SideI
   }
 
 -- there was no room for the next fire
-pub fired-no_room : {H : Type 0} {tells : Telling H} (m new : Run) (l l' : Option Trace) (rest : List Reason) (hooks gone : List (Option H)) →
+pub fired-no_room : {H : Type 0} {tells : Telling H} (m new : Run) (l l' : Option Trace) (rest : List Reason)
+    (hooks gone : List (Option H)) →
     new.relay.state ≡ left_to_fire rest m.relay.state → new.entries ≡ m.entries → Grew l l' [] →
     FiredAs tells None CutFire m new l l' hooks gone hooks gone
 fired-no_room {tells = tells} m new l l' rest hooks gone state entries grew = record {
@@ -154,7 +157,8 @@ to-short b e s new a h = record {
   joined = h.joined;
 }
 
-pub to-all : (s new : State) (a : Trace) → new.batch ≡ [] → length s.plain.due ≤ length s.settings.hooks → FiresAny s a new → DispatchesAll s a new
+pub to-all : (s new : State) (a : Trace) → new.batch ≡ [] → length s.plain.due ≤ length s.settings.hooks → FiresAny s a new →
+    DispatchesAll s a new
 to-all s new a over few h = record { does = record { many = h.0; fires = h.1; over = over }; few = few }
 
 -- where nothing more changed

@@ -52,7 +52,8 @@ tells_more-then tells was mid now xs ys ps qs h k = record {
 
 -- the hook of one side, by where it was and is
 abbrev pub SideTells : {H : Type 0} → Telling H → Option H → Option H → List Why → List (Act × AskAnswer) → Type 0
-SideTells tells was now heard asked = MatchOption was ((now ≡ None) × (heard ≡ []) × (asked ≡ [])) (λ x. IsSomeAnd now (λ y. TellsMore tells x y heard asked))
+SideTells tells was now heard asked = MatchOption was ((now ≡ None) × (heard ≡ []) × (asked ≡ []))
+    (λ x. IsSomeAnd now (λ y. TellsMore tells x y heard asked))
 
 side-none : {H : Type 0} (tells : Telling H) (o : Option H) → SideTells tells o o [] []
 side-none tells None = (refl, refl, refl)

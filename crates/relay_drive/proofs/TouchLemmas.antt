@@ -61,7 +61,8 @@ module _ (log : Trace) (l l' : Agenda) (s s' : State) (opened : s'.plain.opened 
     live_covers = omega (arith, opened, touched.live_len, h.live_covers);
     still = beside-asked IsStill log l.to_pass l'.to_pass s s' opened touched.to_pass (λ k a p. still-same (same k a) p) h.still;
     settled = beside-asked IsSettled log l.to_close l'.to_close s s' opened touched.to_close (λ k a p. settled-same (same k a) p) h.settled;
-    gone = beside-asked IsGone log l.maybe_open l'.maybe_open s s' opened touched.maybe_open (λ k a p. gone-same k s s' (same k a) p) h.gone;
+    gone = beside-asked IsGone log l.maybe_open l'.maybe_open s s' opened touched.maybe_open (λ k a p. gone-same k s s' (same k a) p)
+        h.gone;
   }
 
   pub asked-names : KeepsNames l s l' s'

@@ -80,13 +80,15 @@ marked_cut list h =
 
 -- behind something nothing more
 pub and_nothing : {R : State → Trace → State → Type 0} {s new : State} {a : Trace} → R s a new → Then R Nothing s a new
-and_nothing {new = new} {a = a} h = record { middle = new; front = a; back = []; first = h; second = (refl, refl); joined = sym (append-nil a) }
+and_nothing {new = new} {a = a} h = record
+    { middle = new; front = a; back = []; first = h; second = (refl, refl); joined = sym (append-nil a) }
 
 -- What hooks did, with their entries, once accepting has ended: the port was not called.
 pub goes_fired : {Plan H : Type 0} {R : State → Trace → State → Type 0} {T : Trace → Type 0} {tells : Telling H} {short : Option SideId}
     {old new : Run} {l l' : Option Trace} {h1 g1 h2 g2 : List (Option H)} (v none_waits : Plan → Trace → Type 0) (told : PortTold)
     (ends : SideId → EndTold) (faults : Faults) → WaitsNoMore none_waits → ((e : Entry) → IsUnheard e → LongerBy v v ((e, []) ∷ [])) →
     (f : FiredAs tells short R old new l l' h1 g1 h2 g2) → AllOwn f.added → Same old.relay.state new.relay.state → T f.added →
-    Advances (Told R T) false old new l l' (known Point.Accepted v none_waits told ends) (known Point.Accepted v none_waits told ends) faults faults
+    Advances (Told R T) false old new l l' (known Point.Accepted v none_waits told ends) (known Point.Accepted v none_waits told ends)
+    faults faults
 goes_fired {l = l} {l' = l'} v none_waits told ends faults waits law f own same t =
     goes_own v none_waits told ends waits law l l' faults f.added own (f.does, t) same f.entries f.list

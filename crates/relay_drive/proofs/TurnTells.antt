@@ -1,5 +1,5 @@
--- What hooks tell of a whole turn: its dispatch alone puts entries of theirs. And what a turn is, from what is done in front of dispatch, in
--- it and behind it.
+-- What hooks tell of a whole turn: its dispatch alone puts entries of theirs. And what a turn is, from what is done in front of
+-- dispatch, in it and behind it.
 use Rattle.std.proofs.Common.{inl, inr, ◌++◌, [], None, List, Option, refl, sym, ◌∙◌, ap, subst, append_assoc, append-nil}
 use Rattle.ev_types.specs.Trace.{Trace}
 use Rattle.relay_steps.specs.Meaning.{StandsFor}

@@ -75,9 +75,11 @@ Touched k old new = TouchedBut true k old new
 abbrev pub HasPlace : ℕ → Agenda → Type 0
 HasPlace k l = (k < l.to_pass.len) × (k < l.to_close.len) × (k < l.to_name.len) × (k < l.maybe_open.len)
 
--- Where closing found nothing to do at a link, it isn't looked at again; else all is looked at, and it is among the open ones where it is open.
+-- Where closing found nothing to do at a link, it isn't looked at again; else all is looked at, and it is among the open ones where it
+-- is open.
 abbrev pub ClosingNoted : State → ℕ → Bool → Agenda → Agenda → Type 0
-ClosingNoted s k false old new = (new.to_close.len ≡ old.to_close.len) × ((n : ℕ) → new.to_close.has n ≡ (if n == k then false else old.to_close.has n))
+ClosingNoted s k false old new = (new.to_close.len ≡ old.to_close.len) ×
+    ((n : ℕ) → new.to_close.has n ≡ (if n == k then false else old.to_close.has n))
     × (new.to_pass ≡ old.to_pass) × (new.to_name ≡ old.to_name) × (new.maybe_open ≡ old.maybe_open)
 ClosingNoted s k true old new = TouchedBut (is_open s k) k old new
 
@@ -111,7 +113,8 @@ pub record TouchedAll (old new : Agenda) : Type 0 where
 
 -- only the set of wants to be looked at may have changed, and it is as long
 abbrev pub SameBesideWants : Agenda → Agenda → Type 0
-SameBesideWants old new = (new.to_pass ≡ old.to_pass) × (new.to_close ≡ old.to_close) × (new.maybe_open ≡ old.maybe_open) × (new.to_name.len ≡ old.to_name.len)
+SameBesideWants old new = (new.to_pass ≡ old.to_pass) × (new.to_close ≡ old.to_close) × (new.maybe_open ≡ old.maybe_open) ×
+    (new.to_name.len ≡ old.to_name.len)
 
 -- Of one side the table says what it wants, and of every other one what it said.
 pub record NamedSide (s : State) (e : SideId) (old new : WantsValue) : Type 0 where

@@ -45,7 +45,8 @@ StandsBetween t s = StandsFor t Stage.Between s
 -- trace for which the drive stood, it stands for that trace with these entries, and what was known of the port and the one is
 -- known of the port now and the other. For every trace for which the relay stood in the model, `After` holds of that trace with
 -- these entries. What hooks tell is what those entries say.
-pub record DriveWent {Plan : Type 0} (R : State → Trace → State → Type 0) (After : Trace → State → Type 0) (Tells : Trace → Type 0) (open_failed : Bool)
+pub record DriveWent {Plan : Type 0} (R : State → Trace → State → Type 0) (After : Trace → State → Type 0) (Tells : Trace → Type 0)
+    (open_failed : Bool)
     (old new : DriveValue) (log log' : Option Trace) (known known' : Settings → Question Plan → Trace → Type 0)
     (faults faults' : Faults) : Type 0 where
   pub added : Trace

@@ -33,7 +33,8 @@ abbrev pub FiresAny : State → Trace → State → Type 0
 FiresAny s a new = (n : ℕ) × FiresSome n (dispatching s) a new
 
 -- what was cut off, for want of memory of some hook or of none
-abbrev pub FiredBut : {H : Type 0} → Telling H → (State → Trace → State → Type 0) → Run → Run → Option Trace → Option Trace → List (Option H) →
+abbrev pub FiredBut : {H : Type 0} → Telling H → (State → Trace → State → Type 0) → Run → Run → Option Trace → Option Trace →
+    List (Option H) →
     List (Option H) → List (Option H) → List (Option H) → Type 0
 FiredBut tells R old new log log' hooks gone hooks' gone' =
     (short : Option SideId) × FiredAs tells short R old new log log' hooks gone hooks' gone'

@@ -49,7 +49,8 @@ accepting_if more = if more then Point.Accepting else Point.Accepted
 
 -- A question is answered with yes. What is known of links that waited is only that all were accepted wherever accepting has
 -- ended.
-abbrev pub IsYes : {Plan : Type 0} → (Plan → Trace → Type 0) → (Plan → Trace → Type 0) → PortTold → (SideId → EndTold) → Settings → Question Plan → Trace → Type 0
+abbrev pub IsYes : {Plan : Type 0} → (Plan → Trace → Type 0) → (Plan → Trace → Type 0) → PortTold → (SideId → EndTold) → Settings →
+    Question Plan → Trace → Type 0
 IsYes vouches none_waits told ends g (Question.Vouched plan) t = vouches plan t
 IsYes vouches none_waits told ends g (Question.Took plan) t = vouches plan t × AlwaysAllTaken (none_waits plan) g.links [] t
 IsYes vouches none_waits told ends g (Question.Tied began ends_began) t = IsTiedSince g began told ends_began ends t
@@ -73,5 +74,6 @@ HasCome Point.Accepting none_waits told g x t = ⊤
 HasCome Point.Accepted none_waits told g x t = TookNow none_waits g x t × ClosedNow told g x t
 
 -- what is known of a port that vouches for traces and tells so
-abbrev pub known : {Plan : Type 0} → Point → (Plan → Trace → Type 0) → (Plan → Trace → Type 0) → PortTold → (SideId → EndTold) → Settings → Question Plan → Trace → Type 0
+abbrev pub known : {Plan : Type 0} → Point → (Plan → Trace → Type 0) → (Plan → Trace → Type 0) → PortTold → (SideId → EndTold) →
+    Settings → Question Plan → Trace → Type 0
 known p vouches none_waits told ends g x t = IsYes vouches none_waits told ends g x t × HasCome p none_waits told g x t

@@ -56,14 +56,16 @@ OnlyForMemoryOrListener result = MatchResult result (λ _. ⊤) (λ why. (why �
 
 -- A turn comes to this point, and for a trace for which the relay stood before, `After` holds of the trace with its entries. Hooks tell
 -- what the entries say.
-abbrev pub TurnsTo : {P S : Type 0} → port.Ghosts P → scribe.Ghosts S → Point → Bool → Change → (Trace → State → Type 0) → (Trace → Type 0) →
+abbrev pub TurnsTo : {P S : Type 0} → port.Ghosts P → scribe.Ghosts S → Point → Bool → Change → (Trace → State → Type 0) →
+    (Trace → Type 0) →
     DriveValue × P × S → DriveValue × P × S → Type 0
 TurnsTo g h is failed R After Tells old new =
     DriveWent R After Tells failed old.0 new.0 (h.trace old.2) (h.trace new.2) (knows g Point.Between old.1) (knows g is new.1)
     (g.faults old.1) (g.faults new.1)
 
 -- A turn of a run ends so, or is refused so, and hooks tell what its entries say, but for one that wanted memory where it is refused.
-abbrev pub EndsTold : {P S H : Type 0} → port.Ghosts P → scribe.Ghosts S → Telling H → Result TurnEnd DriveFault → Run × P × S → Run × P × S →
+abbrev pub EndsTold : {P S H : Type 0} → port.Ghosts P → scribe.Ghosts S → Telling H → Result TurnEnd DriveFault → Run × P × S → Run ×
+    P × S →
     List (Option H) → List (Option H) → List (Option H) → List (Option H) → Type 0
 EndsTold g h tells result old new hooks gone hooks' gone' =
     GetsTo g h result Point.Between Point.Accepted (λ end. Told (EndsTurn end) (HooksTell tells None hooks gone hooks' gone'))

@@ -62,7 +62,8 @@ EndsTurn (end.Stopped link) s a new = StopsTurn link s a new
 -- a turn is cut off in front of dispatch
 pub data CutStart : DriveFault → State → Trace → State → Type 0 where
   begin_before : {s new : State} {a : Trace} → Nothing s a new → CutStart fault.Memory s a new
-  begin_in_poll : {f : DriveFault} {s new : State} {a : Trace} (reading : ℕ) → Then (Ticks reading) (CutPolling f) s a new → CutStart f s a new
+  begin_in_poll : {f : DriveFault} {s new : State} {a : Trace} (reading : ℕ) → Then (Ticks reading) (CutPolling f) s a new →
+      CutStart f s a new
   begin_in_serving : {s new : State} {a : Trace} (reading : ℕ) (marked : List Want) →
       Then (Ticks reading) (Then (PollsAndAccepts marked) (CutAt ServesSide CutServing marked)) s a new → CutStart fault.Memory s a new
 

@@ -33,7 +33,8 @@ pub record Telling (H : Type 0) : Type 0 where
   pub asked : H → Option (List (Act × AskAnswer))
   pub planned : H → Option (List PlanLine)
 
-abbrev pub telling : {H : Type 0} → (H → Option (List Why)) → (H → Option (List (Act × AskAnswer))) → (H → Option (List PlanLine)) → Telling H
+abbrev pub telling : {H : Type 0} → (H → Option (List Why)) → (H → Option (List (Act × AskAnswer))) → (H → Option (List PlanLine)) →
+    Telling H
 telling heard asked planned = record { heard = heard; asked = asked; planned = planned }
 
 -- It heard and asked this more, where it tells; its plan is as it was, and where it had asked by that, it has.
@@ -46,7 +47,8 @@ pub record TellsMore {H : Type 0} (tells : Telling H) (was now : H) (whys : List
 
 -- So it is of the hook of each side, in the words of the entries, and they tell nothing of a side without one; but for the side whose hook
 -- wanted memory, if there is one.
-pub record HooksTell {H : Type 0} (tells : Telling H) (short : Option SideId) (hooks gone hooks' gone' : List (Option H)) (added : Trace) : Type 0 where
+pub record HooksTell {H : Type 0} (tells : Telling H) (short : Option SideId) (hooks gone hooks' gone' : List (Option H))
+    (added : Trace) : Type 0 where
   pub more : (e : SideId) → short ≢ Some e → MatchOption (seat hooks gone (number e))
       ((seat hooks' gone' (number e) ≡ None) × (heard_in e added ≡ []) × (asked_in e added ≡ []))
       (λ was. IsSomeAnd (seat hooks' gone' (number e)) (λ now. TellsMore tells was now (heard_in e added) (asked_in e added)))
@@ -62,7 +64,8 @@ slots_taken hooks = map (λ slot. is_some slot) hooks
 
 -- The hook of a side was called for a reason, with these events of what it asked: it was out of its slot, and lies where it belongs: in its
 -- slot where its side is live then, and else out of it for good. Where it didn't want memory it tells the reason and what it asked.
-pub record SeatFired {H : Type 0} (tells : Telling H) (ok live : Bool) (e : SideId) (y : Why) (log : Trace) (hooks gone hooks' gone' : List (Option H)) : Type 0 where
+pub record SeatFired {H : Type 0} (tells : Telling H) (ok live : Bool) (e : SideId) (y : Why) (log : Trace)
+    (hooks gone hooks' gone' : List (Option H)) : Type 0 where
   pub was : H
   pub now : H
   pub there : hook_at hooks (number e) ≡ Some was
@@ -71,8 +74,8 @@ pub record SeatFired {H : Type 0} (tells : Telling H) (ok live : Bool) (e : Side
   pub told : ok ≡ true → TellsMore tells was now (y ∷ []) (asked_in e log)
   pub planned : tells.planned now ≡ tells.planned was
 
--- There are as many places for hooks that are out of their slots as slots. The sides with a hook are those of which there is one, in its slot
--- or out of it; it is out of it only where its side was opened and freed.
+-- There are as many places for hooks that are out of their slots as slots. The sides with a hook are those of which there is one, in its
+-- slot or out of it; it is out of it only where its side was opened and freed.
 pub record AreSeated {H : Type 0} (s : State) (hooks gone : List (Option H)) : Type 0 where
   pub level : length gone ≡ length hooks
   pub hooked : (e : SideId) → has_hook s.settings e ≡ is_some (seat hooks gone (number e))

@@ -23,7 +23,8 @@ Each R [] s a new = Nothing s a new
 Each R (x ∷ xs) s a new = Then (R x) (Each R xs) s a new
 
 -- one thing for each of some of the first of a list, and another for the next
-pub record CutAt {X : Type 0} (R Cut : X → State → Trace → State → Type 0) (xs : List X) (s : State) (a : Trace) (new : State) : Type 0 where
+pub record CutAt {X : Type 0} (R Cut : X → State → Trace → State → Type 0) (xs : List X) (s : State) (a : Trace) (new : State) :
+    Type 0 where
   pub front : List X
   pub last : X
   pub back : List X

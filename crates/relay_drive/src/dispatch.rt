@@ -114,9 +114,11 @@ pub(crate) fn dispatch<S: Scribe>(
     requires kept { IsKept agenda.old run.old.relay.state }
     requires seated { AreSeated run.old.relay.state seats.old.hooks.items seats.old.gone.items }
     ensures went { MatchResult result
-        (λ end. FiredAs (telling (λ h. heard h) (λ h. asked h) (λ h. planned h)) None (EndsDispatch end) run.old run.new (S.trace scribe.old) (S.trace scribe.new)
+        (λ end. FiredAs (telling (λ h. heard h) (λ h. asked h) (λ h. planned h)) None (EndsDispatch end) run.old run.new
+        (S.trace scribe.old) (S.trace scribe.new)
         seats.old.hooks.items seats.old.gone.items seats.new.hooks.items seats.new.gone.items)
-        (λ _. FiredBut (telling (λ h. heard h) (λ h. asked h) (λ h. planned h)) CutDispatch run.old run.new (S.trace scribe.old) (S.trace scribe.new)
+        (λ _. FiredBut (telling (λ h. heard h) (λ h. asked h) (λ h. planned h)) CutDispatch run.old run.new (S.trace scribe.old)
+        (S.trace scribe.new)
         seats.old.hooks.items seats.old.gone.items seats.new.hooks.items seats.new.gone.items) }
     ensures seated { OnOk result (AreSeated run.new.relay.state seats.new.hooks.items seats.new.gone.items) }
     ensures kept { result ≡ Ok Went → IsKept agenda.new run.new.relay.state }

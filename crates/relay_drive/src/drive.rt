@@ -62,7 +62,8 @@ impl Drive {
     /// longest read and for what waits; linear in the slots for hooks.
     pub fn new(alloc: Global, settings: Settings, seats: &Seats) -> Result<Drive, DriveFault>
         requires fresh { AreFresh seats.now.hooks.items seats.now.gone.items }
-        ensures value { MatchResult result (λ drive. drive ≡ new_drive settings (seated_sides seats.now.hooks.items)) (λ fault. fault ≡ Memory) }
+        ensures value { MatchResult result (λ drive. drive ≡ new_drive settings (seated_sides seats.now.hooks.items))
+            (λ fault. fault ≡ Memory) }
         ensures seated { IfOk result (λ drive. AreSeated drive.state seats.now.hooks.items seats.now.gone.items) }
     {
         let Ok(inbox) = vec![in alloc; 0u8; MOST_READ] else {

@@ -63,8 +63,10 @@ pub(crate) fn take_hook(hooks: &mut Vec<Option<Box<dyn Hook>>>, side: SideId) ->
 pub(crate) fn put_back(seats: &mut Seats, side: SideId, hook: Box<dyn Hook>, live: bool)
     requires there { number side < length seats.old.hooks.items }
     requires level { length seats.old.gone.items ≡ length seats.old.hooks.items }
-    ensures hooks { seats.new.hooks.items ≡ (if live then slice_set seats.old.hooks.items (number side) (Some hook) else seats.old.hooks.items) }
-    ensures gone { seats.new.gone.items ≡ (if live then seats.old.gone.items else slice_set seats.old.gone.items (number side) (Some hook)) }
+    ensures hooks { seats.new.hooks.items ≡
+        (if live then slice_set seats.old.hooks.items (number side) (Some hook) else seats.old.hooks.items) }
+    ensures gone { seats.new.gone.items ≡
+        (if live then seats.old.gone.items else slice_set seats.old.gone.items (number side) (Some hook)) }
 {
     if live {
         seats.hooks[side.number()] = Some(hook);

@@ -130,7 +130,8 @@ pub record Begun (route : Route) (old mid : Seen) (start_failed : Bool) : Type 0
   pub heard : Heard old.faults mid.faults [] start_failed
 
 -- so it is where the port says of its start what every port does
-pub begun-by : (route : Route) (old mid : Seen) (start_failed : Bool) → mid.log ≡ old.log → ListenerFaults old.faults mid.faults start_failed →
+pub begun-by : (route : Route) (old mid : Seen) (start_failed : Bool) → mid.log ≡ old.log →
+    ListenerFaults old.faults mid.faults start_failed →
     AllWent old.ends mid.ends (λ _. no_step) → StartedAt old.told mid.told route.listen route.to → Begun route old mid start_failed
 begun-by route old mid start_failed log cause ends told = record {
   log = log;

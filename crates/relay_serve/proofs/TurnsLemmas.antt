@@ -179,7 +179,8 @@ tied-on g s s' began told told' ends_began ends ends' t u is same h f =
 pub tied-next : {P S : Type 0} {R : State → Trace → State → Type 0} {After : Trace → State → Type 0} {Tells : Trace → Type 0}
     (p : port.Ghosts P) (h : scribe.Ghosts S) (is : Point) (failed : Bool) (g : Settings) (old : Seen) (d e : DriveValue) (was now : P)
     (s s' : S) (turns : ℕ) → (k : Standing g old (seen p h (was, s)) d turns) →
-    (t : DriveWent R After Tells failed d e (h.trace s) (h.trace s') (knows p Point.Between was) (knows p is now) (p.faults was) (p.faults now)) →
+    (t : DriveWent R After Tells failed d e (h.trace s) (h.trace s') (knows p Point.Between was) (knows p is now) (p.faults was)
+    (p.faults now)) →
     IsTied g old.told (p.told now) old.ends (p.ends now) (k.0.added ++ t.added)
 tied-next p h is failed g old d e was now s s' turns k t =
     tied-on g d.state.settings e.state.settings old.told (p.told was) (p.told now) old.ends (p.ends was) (p.ends now) k.0.added

@@ -5,6 +5,8 @@
 #[cfg(test)]
 mod calls;
 #[cfg(test)]
+mod fires;
+#[cfg(test)]
 mod links;
 #[cfg(test)]
 mod runs;

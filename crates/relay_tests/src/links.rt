@@ -148,7 +148,9 @@ fn first_wrong(relay: &mut Relay, acts: &[Act]) -> Option<usize> {
 
 /// The same of a new relay.
 fn plays(alloc: Global, settings: Settings, acts: &[Act]) -> Option<usize> {
-    let mut relay = Relay::new(alloc, settings);
+    let Ok(mut relay) = Relay::new(alloc, settings, Vec::new(alloc)) else {
+        return Some(0);
+    };
     first_wrong(&mut relay, acts)
 }
 

@@ -98,7 +98,9 @@ fn goes(alloc: Global, run: &Run) -> bool {
         out_write: run.out_write,
         ..Settings::usual()
     };
-    let mut relay = Relay::new(alloc, settings);
+    let Ok(mut relay) = Relay::new(alloc, settings, Vec::new(alloc)) else {
+        return false;
+    };
     gives(&mut relay, run) && (fault(&relay, IN), fault(&relay, OUT)) == run.faults
 }
 

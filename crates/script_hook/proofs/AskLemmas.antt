@@ -62,7 +62,8 @@ one-more told acts a r h few =
     ∙ sym (take_all most_asks (acts ++ a ∷ []) (omega arith))
 
 -- one act more
-pub planned-more : (acts : List Act) (a : Act) (r : Option AskAnswer) (old mid new : RelayValue) → AsksPlanned acts old mid → AsksOnce mid a r new
+pub planned-more : (acts : List Act) (a : Act) (r : Option AskAnswer) (old mid new : RelayValue) → AsksPlanned acts old mid →
+    AsksOnce mid a r new
     → AsksPlanned (acts ++ a ∷ []) old new
 planned-more acts a None old mid new h k =
     subst (AsksPlanned (acts ++ a ∷ []) old) (sym k.1) (record {
@@ -78,7 +79,8 @@ planned-more acts a (Some r) old mid new h k =
     (subst (λ z. asked_in z (ask_events mid.me mid.state a r) ≡ (a, r) ∷ []) me (one-told mid.me mid.state new.state a r k.does)) in
     record {
       steps = steps-asked old mid new a (Some r) h.steps k;
-      asked = ap acts_of told ∙ one-more (asked_in old.me mid.log) acts a r h.asked (let x = h.many in let y = k.few in omega (arith, x, y));
+      asked = ap acts_of told ∙ one-more (asked_in old.me mid.log) acts a r h.asked
+          (let x = h.many in let y = k.few in omega (arith, x, y));
       many = ap length told ∙ length-append (asked_in old.me mid.log) ((a, r) ∷ [])
           ∙ (let x = h.many in let y = k.asks in omega (arith, x, y));
     }

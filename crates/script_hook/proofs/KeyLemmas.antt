@@ -36,13 +36,15 @@ same-number : (r s x y : ℕ) → r < 8 → s < 8 → (r == s && x == y) ≡ (8 
 same-number r s x y p q = grind (arith, nat_tests)
 
 at-key : (k : WhyKind) (n : ℕ) (line : PlanLine) → is_at k n line ≡ (line_key line == key_at k n)
-at-key k n line = ap (λ b. b && line.nth == n) (same-rank line.why k) ∙ same-number (rank line.why) (rank k) line.nth n (few-ranks line.why) (few-ranks k)
+at-key k n line = ap (λ b. b && line.nth == n) (same-rank line.why k) ∙ same-number (rank line.why) (rank k) line.nth n
+    (few-ranks line.why) (few-ranks k)
 
 ties-number : (x y : ℕ) → ties (λ a b. is_lt (nat_cmp a b)) x y ≡ (y == x)
 ties-number x y = grind (arith, nat_tests)
 
 -- a stable sort leaves those for one fire as they were
-pub same-sorted : (k : WhyKind) (n : ℕ) (xs ys : List PlanLine) → IsStableByKey line_key nat_cmp xs ys → filter (is_at k n) ys ≡ filter (is_at k n) xs
+pub same-sorted : (k : WhyKind) (n : ℕ) (xs ys : List PlanLine) → IsStableByKey line_key nat_cmp xs ys →
+    filter (is_at k n) ys ≡ filter (is_at k n) xs
 same-sorted k n xs ys h =
     let x : PlanLine = record { why = k; nth = n; act = None } in
     let tie : PlanLine → Bool = ties (λ a b. is_lt (nat_cmp (line_key a) (line_key b))) x in
@@ -74,7 +76,8 @@ between x t h k = grind (arith, nat_tests)
 -- from the first that is not below to the first behind it that is above
 here-is : {X : Type 0} (key : X → ℕ) (t : ℕ) (xs : List X) (low many : ℕ) → low ≤ length xs → many ≤ length (drop low xs)
     → AllWithin (λ y. ltb (key y) t ≡ true) xs 0 low → AllWithin (λ y. ltb (key y) t ≡ false) xs low (length xs)
-    → AllWithin (λ y. leb (key y) t ≡ true) (drop low xs) 0 many → AllWithin (λ y. leb (key y) t ≡ false) (drop low xs) many (length (drop low xs))
+    → AllWithin (λ y. leb (key y) t ≡ true) (drop low xs) 0 many → AllWithin
+    (λ y. leb (key y) t ≡ false) (drop low xs) many (length (drop low xs))
     → filter (λ y. key y == t) xs ≡ take many (drop low xs)
 here-is {X} key t xs low many within few below rest upto above =
     let p : X → Bool = λ y. key y == t in
@@ -99,7 +102,8 @@ here-is {X} key t xs low many within few below rest upto above =
     ∙ (λ i. mid i ++ last i) ∙ append-nil (take many ys)
 
 -- those of sorted lines that are for one fire
-pub lines-here : (k : WhyKind) (n at : ℕ) (xs ys here : List PlanLine) (low many : ℕ) → at ≡ key_at k n → low ≤ length xs → many ≤ length ys → ys ≡ drop low xs
+pub lines-here : (k : WhyKind) (n at : ℕ) (xs ys here : List PlanLine) (low many : ℕ) → at ≡ key_at k n → low ≤ length xs →
+    many ≤ length ys → ys ≡ drop low xs
     → here ≡ take many ys → IsPartitionPoint (λ y. ltb (line_key y) at ≡ true) (λ y. ltb (line_key y) at ≡ false) xs low
     → IsPartitionPoint (λ y. leb (line_key y) at ≡ true) (λ y. leb (line_key y) at ≡ false) ys many → here ≡ filter (is_at k n) xs
 lines-here k n at xs ys here low many key within few back front h j =

@@ -9,7 +9,8 @@ use Rattle.relay_model.specs.Plans.{kind_of, acts_at, acts_behind, heard_of, IsP
 
 -- what is asked for one reason more
 behind-push : (plan : List PlanLine) (before ys : List Why) (y : Why)
-    → acts_behind plan before (ys ++ y ∷ []) ≡ acts_behind plan before ys ++ acts_at plan (kind_of y) (heard_of (kind_of y) (before ++ ys) + 1)
+    → acts_behind plan before (ys ++ y ∷ []) ≡ acts_behind plan before ys ++ acts_at plan (kind_of y)
+    (heard_of (kind_of y) (before ++ ys) + 1)
 behind-push plan before [] y =
     append-nil (acts_at plan (kind_of y) (heard_of (kind_of y) before + 1))
     ∙ ap (λ z. acts_at plan (kind_of y) (heard_of (kind_of y) z + 1)) (sym (append-nil before))

@@ -55,7 +55,8 @@ impl FireCounts {
     /// Counts one fire more for a kind, and answers how many that makes. A count that would be 2^64 is refused, and nothing is counted.
     pub(crate) fn count(&mut self, kind: WhyKind) -> Result<u64, NoMemory>
         ensures count { IfOk result (λ n. n ≡ count_of self.old kind + 1) }
-        ensures counted { IfOk result (λ n. (k : KindOf) → count_of self.new k ≡ count_of self.old k + (if same_kind kind k then 1 else 0)) }
+        ensures counted { IfOk result (λ n. (k : KindOf) → count_of self.new k ≡ count_of self.old k +
+            (if same_kind kind k then 1 else 0)) }
         ensures refused { OnErr result ((2 ^ 64 ≤ count_of self.old kind + 1) × (self.new ≡ self.old)) }
     {
         match kind {

@@ -1,5 +1,5 @@
-//! The hook that a script plans: at the n-th fire for a kind of reason it asks what the lines for that kind and number say. It tells what it
-//! heard, what it asked and its plan.
+//! The hook that a script plans: at the n-th fire for a kind of reason it asks what the lines for that kind and number say. It tells
+//! what it heard, what it asked and its plan.
 #![tactic(auto)]
 
 mod ask;

@@ -1,11 +1,9 @@
-use Rattle.std.proofs.Common.{◌≡◌, ◌⊎◌, inl, inr, ap, subst, Result, Ok, Err, IfOk, IfErr}
-use Rattle.relay_drive.specs.declared.fault.DriveFault.{DriveFault}
+use Rattle.std.proofs.Common.{◌≡◌, ◌⊎◌, inl, inr, subst, Result, Ok, Err, IfOk, IfErr}
 use Rattle.relay_drive.specs.declared.fault.DriveFault.TheVariants as fault
 use Rattle.relay_laws.specs.Report.{lines_below}
-use Rattle.evplay.specs.declared.run.RunEnd.{RunEnd}
 use Rattle.evplay.specs.Headline.{IsRun}
 use Rattle.evplay.specs.Play.{IsRunText}
-use Rattle.evplay.specs.Run.{answer_of, script_over}
+use Rattle.evplay.specs.Run.{answer_of, script_over, TellsTurn}
 use Rattle.evplay.proofs.run.run_over.Goals as goal
 
 -- What holds of an answer holds of the one that it is, and a fact of that gives one of what was made of it.
@@ -20,15 +18,23 @@ err-then P ended (Ok b) p q = tt
 err-then P ended (Err e) p (inl h) = h
 err-then P ended (Err e) p (inr h) = subst (λ z. IfErr z P) h p
 
+both : {A E : Type 0} (P Q : A → Type 0) (r : Result A E) → IfOk r P → IfOk r Q → IfOk r (λ a. P a × Q a)
+both P Q (Ok a) p q = (p, q)
+both P Q (Err e) p q = tt
+
 pub returns-clause-text : goal.returns-clause-text
-returns-clause-text c =
-    let script = script_over c.args.settings.now c.args.port.now in
+returns-clause-text g c = λ plans handed seats.
+    let script = script_over c.args.settings.now plans c.args.port.now in
     let s = c.make_turns-ended.new.drive.state in
     let t = c.make_turns-ended.new.scribe.trace in
-    ok-then (λ end. IsRun script (answer_of end) t (lines_below s s.plain.opened)) _ (λ ran. IsRunText script (answer_of ran.1) ran.0.items)
-    (λ ran. ran.1) c.make_turns-ended.result c.text_of.result c.make_turns-ended.ensures.made c.text_of.ensures.text
-    (λ ran made is. (t, lines_below s s.plain.opened, made, is))
+    ok-then (λ end. IsRun script handed (answer_of end) t (lines_below s s.plain.opened) × TellsTurn end t) _
+    (λ ran. IsRunText script handed ran.1 ran.0.items)
+    (λ ran. ran.1) c.make_turns-ended.result c.text_of.result
+    (both (λ end. IsRun script handed (answer_of end) t (lines_below s s.plain.opened)) (λ end. TellsTurn end t) c.make_turns-ended.result
+    (c.make_turns-ended.ensures.made plans handed seats) c.make_turns-ended.ensures.turn) c.text_of.ensures.text
+    (λ ran made is. (t, lines_below s s.plain.opened, made.0, made.1, is))
 
 pub returns-clause-only_memory : goal.returns-clause-only_memory
-returns-clause-only_memory c =
-    err-then (λ f. f ≡ fault.Memory) c.make_turns-ended.result c.text_of.result c.make_turns-ended.ensures.only_memory c.text_of.ensures.refused
+returns-clause-only_memory g c =
+    err-then (λ f. f ≡ fault.Memory) c.make_turns-ended.result c.text_of.result c.make_turns-ended.ensures.only_memory
+    c.text_of.ensures.refused

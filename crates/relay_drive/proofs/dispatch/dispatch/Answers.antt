@@ -37,7 +37,8 @@ loop-side-init g c =
         c.requires.stood.0,
         at (λ z. StandsFor c.requires.stood.0 (Stage.Dispatching z.batch) z) (served-stands c.requires.stood.0 s c.requires.stood.1),
       );
-      kept = at (IsKept c.args.agenda.now) (kept-same c.args.agenda.now s (dispatching s) refl (λ j. dispatching-other j s) c.requires.kept);
+      kept = at (IsKept c.args.agenda.now)
+          (kept-same c.args.agenda.now s (dispatching s) refl (λ j. dispatching-other j s) c.requires.kept);
       names = at (KeepsNames c.args.agenda.now s c.args.agenda.now)
           (names-same c.args.agenda.now s (dispatching s) refl (λ j. dispatching-other j s));
       seated = at (λ z. AreSeated z c.args.seats.now.hooks.items c.args.seats.now.gone.items)
@@ -54,20 +55,23 @@ returns-in_err-make_room-clause-went g c =
       None,
       fired-as (λ x q. to-cut _ _ x q)
           (fired-then None c.loop-side.invariant.fired
-          (fired-no_room m _ (g.S.Scribe.trace c.loop-side.scribe) (g.S.Scribe.trace c.make_room.new.scribe) rest c.loop-side.seats.hooks.items
+          (fired-no_room m _ (g.S.Scribe.trace c.loop-side.scribe) (g.S.Scribe.trace c.make_room.new.scribe) rest
+          c.loop-side.seats.hooks.items
           c.loop-side.seats.gone.items (c.make_room.ensures.state ∙ c.in-Some.ensures.1) refl c.make_room.ensures.list)),
     )
 
 pub fire_next-requires-clause-live : goal.fire_next-requires-clause-live
 fire_next-requires-clause-live g c =
     let s = c.loop-side.run.relay.state in
-    let hooked = due-hooked s c.in-Some.side c.in-Some.why c.next_due.new.self.state.batch c.loop-side.invariant.stood c.in-Some.ensures.0 in
+    let hooked = due-hooked s c.in-Some.side c.in-Some.why c.next_due.new.self.state.batch c.loop-side.invariant.stood
+    c.in-Some.ensures.0 in
     ap (λ (z : State). is_live z.plain c.in-Some.side) (c.make_room.ensures.state ∙ c.in-Some.ensures.1) ∙ hooked.0
 
 pub fire_next-requires-clause-taken : goal.fire_next-requires-clause-taken
 fire_next-requires-clause-taken g c =
     let s = c.loop-side.run.relay.state in
-    let hooked = due-hooked s c.in-Some.side c.in-Some.why c.next_due.new.self.state.batch c.loop-side.invariant.stood c.in-Some.ensures.0 in
+    let hooked = due-hooked s c.in-Some.side c.in-Some.why c.next_due.new.self.state.batch c.loop-side.invariant.stood
+    c.in-Some.ensures.0 in
     slot-full s c.loop-side.seats.hooks.items c.loop-side.seats.gone.items c.in-Some.side c.loop-side.invariant.seated hooked.0 hooked.1
 
 pub returns-in_err-fire_next-clause-went : goal.returns-in_err-fire_next-clause-went
@@ -118,7 +122,8 @@ returns-then-has_stopped-clause-seated g c =
     inv.seated.level c.in_ok-fire_next.ensures.fired c.in_ok-fire_next.ensures.seat (λ q. refl)
     (sym c.has_stopped.ensures ∙ c.if-has_stopped.true) in
     let seat = c.in_ok-fire_next.ensures.seat in
-    seat-seated c.loop-side.seats.hooks.items c.loop-side.seats.gone.items c.fire_next.new.seats.hooks.items c.fire_next.new.seats.gone.items
+    seat-seated c.loop-side.seats.hooks.items c.loop-side.seats.gone.items c.fire_next.new.seats.hooks.items
+    c.fire_next.new.seats.gone.items
     (is_live c.fire_next.new.run.relay.state.plain e) e seat.was seat.now seat.there inv.seated.level seat.slot seat.out f.0 f.1 refl
     (stands-shape inv.stood.0 (Stage.Dispatching s.batch) s inv.stood.1).sides inv.seated
 
@@ -249,7 +254,8 @@ loop-side-preserved g c =
       kept = asked-kept log c.loop-side.agenda c.touch_asked.new.agenda s new opened touched same inv.kept;
       names = λ t h. asked-names log c.loop-side.agenda c.touch_asked.new.agenda s new opened touched same t (inv.names t h);
       seated = seat-seated c.loop-side.seats.hooks.items c.loop-side.seats.gone.items c.fire_next.new.seats.hooks.items
-          c.fire_next.new.seats.gone.items (is_live new.plain e) e seat.was seat.now seat.there inv.seated.level seat.slot seat.out f.0 f.1 refl
+          c.fire_next.new.seats.gone.items (is_live new.plain e) e seat.was seat.now seat.there inv.seated.level seat.slot seat.out
+          f.0 f.1 refl
           (stands-shape inv.stood.0 (Stage.Dispatching s.batch) s inv.stood.1).sides inv.seated;
     }
 
@@ -264,8 +270,10 @@ returns-clause-kept g c = λ went. subst (IsKept c.loop-side.agenda) (sym c.in_d
 
 pub returns-clause-names : goal.returns-clause-names
 returns-clause-names g c = λ went.
-    subst (KeepsNames c.args.agenda.now c.args.run.now.relay.state c.loop-side.agenda) (sym c.in_default.ensures.1) c.loop-side.invariant.names
+    subst (KeepsNames c.args.agenda.now c.args.run.now.relay.state c.loop-side.agenda) (sym c.in_default.ensures.1)
+    c.loop-side.invariant.names
 
 pub returns-clause-seated : goal.returns-clause-seated
 returns-clause-seated g c =
-    subst (λ z. AreSeated z c.loop-side.seats.hooks.items c.loop-side.seats.gone.items) (sym c.in_default.ensures.1) c.loop-side.invariant.seated
+    subst (λ z. AreSeated z c.loop-side.seats.hooks.items c.loop-side.seats.gone.items) (sym c.in_default.ensures.1)
+    c.loop-side.invariant.seated

@@ -9,7 +9,8 @@ use Rattle.relay_drive.proofs.dispatch.dispatch.Given as goal
 
 abbrev pub invariant-loop-side : goal.invariant-loop-side
 invariant-loop-side g l = record {
-  fired : FiredAs (telling (λ h. (goal.Hook-dyn g (h.vtable, h.value)).heard h.value) (λ h. (goal.Hook-dyn g (h.vtable, h.value)).asked h.value)
+  fired : FiredAs (telling (λ h. (goal.Hook-dyn g (h.vtable, h.value)).heard h.value)
+      (λ h. (goal.Hook-dyn g (h.vtable, h.value)).asked h.value)
       (λ h. (goal.Hook-dyn g (h.vtable, h.value)).planned h.value)) None
       FiresAny l.fn.run l.run (g.S.Scribe.trace l.fn.scribe) (g.S.Scribe.trace l.scribe) l.fn.seats.hooks.items l.fn.seats.gone.items
       l.seats.hooks.items l.seats.gone.items;

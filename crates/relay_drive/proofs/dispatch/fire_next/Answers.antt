@@ -31,8 +31,12 @@ returns-clause-seat g c =
       there = c.take_hook-hook.ensures.taken;
       slot = slot-of c.args.seats.now.hooks.items c.take_hook-hook.new.hooks.items c.put_back.new.seats.hooks.items (number c.args.side)
           c.call_hook-answer.new.hook _ c.take_hook-hook.ensures.left
-          (subst (λ b. c.put_back.new.seats.hooks.items ≡ (if b then set c.take_hook-hook.new.hooks.items (number c.args.side) (Some c.call_hook-answer.new.hook) else c.take_hook-hook.new.hooks.items)) live c.put_back.ensures.hooks);
-      out = subst (λ b. c.put_back.new.seats.gone.items ≡ (if b then c.args.seats.now.gone.items else set c.args.seats.now.gone.items (number c.args.side) (Some c.call_hook-answer.new.hook))) live c.put_back.ensures.gone;
+          (subst (λ b. c.put_back.new.seats.hooks.items ≡
+          (if b then set c.take_hook-hook.new.hooks.items (number c.args.side) (Some c.call_hook-answer.new.hook) else
+          c.take_hook-hook.new.hooks.items)) live c.put_back.ensures.hooks);
+      out = subst (λ b. c.put_back.new.seats.gone.items ≡
+          (if b then c.args.seats.now.gone.items else set c.args.seats.now.gone.items (number c.args.side)
+          (Some c.call_hook-answer.new.hook))) live c.put_back.ensures.gone;
       told = λ ok. record {
         heard = on_ok c.call_hook-answer.result ok call.heard;
         asked = on_ok c.call_hook-answer.result ok call.asked;

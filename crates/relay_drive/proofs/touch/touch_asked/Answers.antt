@@ -40,10 +40,14 @@ loop-entry-preserved c =
       close_len = step.close_len ∙ inv.close_len;
       want_len = step.want_len ∙ inv.want_len;
       live_len = step.live_len ∙ inv.live_len;
-      to_pass = rest-next log i c.args.opened x c.args.agenda.now.to_pass c.loop-entry.agenda.to_pass c.touch_entry.new.agenda.to_pass lt at inv.to_pass step.to_pass;
-      to_close = rest-next log i c.args.opened x c.args.agenda.now.to_close c.loop-entry.agenda.to_close c.touch_entry.new.agenda.to_close lt at inv.to_close step.to_close;
-      to_name = rest-next log i c.args.opened x c.args.agenda.now.to_name c.loop-entry.agenda.to_name c.touch_entry.new.agenda.to_name lt at inv.to_name step.to_name;
-      maybe_open = rest-next log i c.args.opened x c.args.agenda.now.maybe_open c.loop-entry.agenda.maybe_open c.touch_entry.new.agenda.maybe_open lt at inv.maybe_open step.maybe_open;
+      to_pass = rest-next log i c.args.opened x c.args.agenda.now.to_pass c.loop-entry.agenda.to_pass c.touch_entry.new.agenda.to_pass
+          lt at inv.to_pass step.to_pass;
+      to_close = rest-next log i c.args.opened x c.args.agenda.now.to_close c.loop-entry.agenda.to_close
+          c.touch_entry.new.agenda.to_close lt at inv.to_close step.to_close;
+      to_name = rest-next log i c.args.opened x c.args.agenda.now.to_name c.loop-entry.agenda.to_name c.touch_entry.new.agenda.to_name
+          lt at inv.to_name step.to_name;
+      maybe_open = rest-next log i c.args.opened x c.args.agenda.now.maybe_open c.loop-entry.agenda.maybe_open
+          c.touch_entry.new.agenda.maybe_open lt at inv.maybe_open step.maybe_open;
     }
 
 pub returns : goal.returns

@@ -4,12 +4,14 @@ use Rattle.relay_drive.proofs.turn.clock.Goals as goal
 
 pub returns-then-not-is_untimed-clause-kept : goal.returns-then-not-is_untimed-clause-kept
 returns-then-not-is_untimed-clause-kept g c =
-    kept-all c.args.agenda.now c.touch_all.new.self c.args.run.now.relay.state c.read_clock.new.run.relay.state c.in_ok-read_clock.ensures.opened
+    kept-all c.args.agenda.now c.touch_all.new.self c.args.run.now.relay.state c.read_clock.new.run.relay.state
+    c.in_ok-read_clock.ensures.opened
     c.touch_all.ensures c.requires.kept
 
 pub returns-then-not-is_untimed-clause-names : goal.returns-then-not-is_untimed-clause-names
 returns-then-not-is_untimed-clause-names g c =
-    names-all c.args.agenda.now c.touch_all.new.self c.args.run.now.relay.state c.read_clock.new.run.relay.state c.in_ok-read_clock.ensures.opened
+    names-all c.args.agenda.now c.touch_all.new.self c.args.run.now.relay.state c.read_clock.new.run.relay.state
+    c.in_ok-read_clock.ensures.opened
     c.touch_all.ensures c.requires.kept
 
 pub returns-else-not-is_untimed-clause-kept : goal.returns-else-not-is_untimed-clause-kept

@@ -58,4 +58,5 @@ returns-clause-still g c =
     subst (SameLink k s) (sym (c.begin-ms.ensures.still untimed)) (taken-same k c.begin-ms.result s c.begin-ms.ensures.unlimited)
 
 pub returns-clause-few : goal.returns-clause-few
-returns-clause-few g c = λ few. subst CountsAreFew (sym c.begin-ms.ensures.state) (few-begun c.args.run.now.relay.state c.begin-ms.result few)
+returns-clause-few g c = λ few. subst CountsAreFew (sym c.begin-ms.ensures.state)
+    (few-begun c.args.run.now.relay.state c.begin-ms.result few)

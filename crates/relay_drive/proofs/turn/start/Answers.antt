@@ -10,7 +10,8 @@ returns-in_err-clock-clause-went g c =
     let p = err_from_is_err_and c.from_residual.result c.from_residual.ensures.1 in
     rw (p.1, p.2, c.in_err-clock.ensures.cause)
     (cut_short Point.Between (g.P.Port.vouches c.clock.new.port) g.P.Port.none_waits
-    (g.P.Port.told c.clock.new.port) (g.P.Port.ends c.clock.new.port) (goes_as (λ a q. CutStart.begin_before q) c.in_err-clock.ensures.went))
+    (g.P.Port.told c.clock.new.port) (g.P.Port.ends c.clock.new.port)
+    (goes_as (λ a q. CutStart.begin_before q) c.in_err-clock.ensures.went))
 
 pub poll-requires-clause-named : goal.poll-requires-clause-named
 poll-requires-clause-named g c = c.in_ok-clock.ensures.names c.args.wants.now c.requires.named
@@ -18,7 +19,8 @@ poll-requires-clause-named g c = c.in_ok-clock.ensures.names c.args.wants.now c.
 pub returns-in_err-poll-clause-went : goal.returns-in_err-poll-clause-went
 returns-in_err-poll-clause-went g c =
     let p = err_from_is_err_and c.from_residual-in_err-poll.result c.from_residual-in_err-poll.ensures.1 in
-    rw (p.1, p.2) (goes_as (λ a q. let t = ticked q in CutStart.begin_in_poll t.0 t.1) (goes_then c.in_ok-clock.ensures.went c.in_err-poll.ensures.went))
+    rw (p.1, p.2) (goes_as (λ a q. let t = ticked q in CutStart.begin_in_poll t.0 t.1)
+    (goes_then c.in_ok-clock.ensures.went c.in_err-poll.ensures.went))
 
 pub returns-in_err-serve-clause-went : goal.returns-in_err-serve-clause-went
 returns-in_err-serve-clause-went g c =

@@ -19,7 +19,8 @@ pub returns-in_err-start-clause-went : goal.returns-in_err-start-clause-went
 returns-in_err-start-clause-went g c =
     let p = err_from_is_err_and c.from_residual.result c.from_residual.ensures.1 in
     rw (p.1, p.2)
-    (goes_as (λ a q. start-cut (telling (λ h. (goal.Hook-dyn g (h.vtable, h.value)).heard h.value) (λ h. (goal.Hook-dyn g (h.vtable, h.value)).asked h.value)
+    (goes_as (λ a q. start-cut (telling (λ h. (goal.Hook-dyn g (h.vtable, h.value)).heard h.value)
+    (λ h. (goal.Hook-dyn g (h.vtable, h.value)).asked h.value)
     (λ h. (goal.Hook-dyn g (h.vtable, h.value)).planned h.value))
     c.args.seats.now.hooks.items c.args.seats.now.gone.items _ _ _ a q) c.in_err-start.ensures.went)
 
@@ -49,7 +50,8 @@ returns-in_err-dispatch-clause-went g c =
     rw (p.1, p.2, c.in_err-dispatch.ensures.cause)
     (cut_short Point.Accepted (g.P.Port.vouches c.start.new.port) g.P.Port.none_waits (g.P.Port.told c.start.new.port)
     (g.P.Port.ends c.start.new.port)
-    (goes_as (λ a x. dispatch-cut (telling (λ h. (goal.Hook-dyn g (h.vtable, h.value)).heard h.value) (λ h. (goal.Hook-dyn g (h.vtable, h.value)).asked h.value)
+    (goes_as (λ a x. dispatch-cut (telling (λ h. (goal.Hook-dyn g (h.vtable, h.value)).heard h.value)
+    (λ h. (goal.Hook-dyn g (h.vtable, h.value)).asked h.value)
     (λ h. (goal.Hook-dyn g (h.vtable, h.value)).planned h.value))
     c.args.seats.now.hooks.items c.args.seats.now.gone.items c.dispatch.new.seats.hooks.items c.dispatch.new.seats.gone.items _ _ a x)
     (goes_then c.in_ok-start.ensures.went
@@ -67,7 +69,8 @@ returns-in_err-finish-in-Went-clause-went g c =
     rw (p.1, p.2, c.in_err-finish-in-Went.ensures.cause)
     (cut_short Point.Accepted (g.P.Port.vouches c.finish.new.port) g.P.Port.none_waits (g.P.Port.told c.finish.new.port)
     (g.P.Port.ends c.finish.new.port)
-    (goes_as (λ a x. finish-cut (telling (λ h. (goal.Hook-dyn g (h.vtable, h.value)).heard h.value) (λ h. (goal.Hook-dyn g (h.vtable, h.value)).asked h.value)
+    (goes_as (λ a x. finish-cut (telling (λ h. (goal.Hook-dyn g (h.vtable, h.value)).heard h.value)
+    (λ h. (goal.Hook-dyn g (h.vtable, h.value)).asked h.value)
     (λ h. (goal.Hook-dyn g (h.vtable, h.value)).planned h.value))
     c.args.seats.now.hooks.items c.args.seats.now.gone.items c.dispatch.new.seats.hooks.items c.dispatch.new.seats.gone.items _ _ a x)
     (goes_then c.in_ok-start.ensures.went
@@ -81,7 +84,8 @@ returns-in_ok-finish-in-Went-clause-went g c =
     (λ x q. subst (λ e. EndsDispatch e c.start.new.run.relay.state x c.dispatch.new.run.relay.state) c.in-Went.is q)
     c.in_ok-dispatch.ensures.went in
     let did = all-dispatch-does fired.does in
-    goes_as (λ a x. turn-told (telling (λ h. (goal.Hook-dyn g (h.vtable, h.value)).heard h.value) (λ h. (goal.Hook-dyn g (h.vtable, h.value)).asked h.value)
+    goes_as (λ a x. turn-told (telling (λ h. (goal.Hook-dyn g (h.vtable, h.value)).heard h.value)
+    (λ h. (goal.Hook-dyn g (h.vtable, h.value)).asked h.value)
     (λ h. (goal.Hook-dyn g (h.vtable, h.value)).planned h.value))
     c.args.seats.now.hooks.items c.args.seats.now.gone.items c.dispatch.new.seats.hooks.items c.dispatch.new.seats.gone.items _ _ a x)
     (goes_then c.in_ok-start.ensures.went
@@ -100,7 +104,8 @@ returns-in_ok-finish-in-Went-clause-ready g c = λ went.
     let end = c.in_ok-finish-in-Went.ensures in
     record {
       kept = end.kept;
-      named = end.names c.start.new.wants (c.in_ok-dispatch.ensures.names (ap Ok c.in-Went.is) c.start.new.wants c.in_ok-start.ensures.named);
+      named = end.names c.start.new.wants
+          (c.in_ok-dispatch.ensures.names (ap Ok c.in-Went.is) c.start.new.wants c.in_ok-start.ensures.named);
       bare = (finish-stays _ _ end.went.added end.went.does).batch fired.does.does.over;
       trace = t ++ all.added;
       stands = turn_keeps t _ _ all.added c.requires.ready.stands all.does.0;
@@ -125,7 +130,8 @@ returns-in-Stopped-clause-went g c =
     (λ x q. subst (λ e. EndsDispatch e c.start.new.run.relay.state x c.dispatch.new.run.relay.state) c.in-Stopped.is q)
     c.in_ok-dispatch.ensures.went in
     let did = stop-does fired.does in
-    goes_as (λ a x. turn-stopped (telling (λ h. (goal.Hook-dyn g (h.vtable, h.value)).heard h.value) (λ h. (goal.Hook-dyn g (h.vtable, h.value)).asked h.value)
+    goes_as (λ a x. turn-stopped (telling (λ h. (goal.Hook-dyn g (h.vtable, h.value)).heard h.value)
+    (λ h. (goal.Hook-dyn g (h.vtable, h.value)).asked h.value)
     (λ h. (goal.Hook-dyn g (h.vtable, h.value)).planned h.value))
     c.args.seats.now.hooks.items c.args.seats.now.gone.items (StopsAt c.in-Stopped.link)
     c.dispatch.new.seats.hooks.items c.dispatch.new.seats.gone.items _ _ a x)

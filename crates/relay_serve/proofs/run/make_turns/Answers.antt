@@ -30,7 +30,8 @@ loop-preserved g c =
     let fresh : is_worn c.loop.drive ≡ false =
     unworn (is_worn c.loop.drive) (λ h. let k = c.in-Ok-Went.ensures.spent inv.calm h in absurd (cc)) in
     let w = c.in-Ok-Went.ensures.went inv.calm fresh in
-    let tied = tied-next g.P.Port g.S.Scribe Point.Accepted _ model old c.loop.drive c.turn.new.self c.loop.port c.turn.new.port c.loop.scribe
+    let tied = tied-next g.P.Port g.S.Scribe Point.Accepted _ model old c.loop.drive c.turn.new.self c.loop.port c.turn.new.port
+    c.loop.scribe
     c.turn.new.scribe c.loop.turns inv.went w in
     let more : c.saturating_add-turns.result ≡ min (c.loop.turns + 1) (2 ^ 32 - 1) = omega (arith, c.saturating_add-turns.ensures) in
     let once : BeginsOnce w.added = end-begins c.in-Ok-Went.field-0 c.loop.drive.state c.turn.new.self.state w.added w.does in
@@ -53,7 +54,8 @@ returns-in-Ok-Stopped g c =
     let fresh : is_worn c.loop.drive ≡ false =
     unworn (is_worn c.loop.drive) (λ h. let k = c.in-Ok-Stopped.ensures.spent inv.calm h in absurd (cc)) in
     let w = c.in-Ok-Stopped.ensures.went inv.calm fresh in
-    let tied = tied-next g.P.Port g.S.Scribe Point.Accepted _ model old c.loop.drive c.turn.new.self c.loop.port c.turn.new.port c.loop.scribe
+    let tied = tied-next g.P.Port g.S.Scribe Point.Accepted _ model old c.loop.drive c.turn.new.self c.loop.port c.turn.new.port
+    c.loop.scribe
     c.turn.new.scribe c.loop.turns inv.went w in
     let more : c.saturating_add-turns.result ≡ min (c.loop.turns + 1) (2 ^ 32 - 1) = omega (arith, c.saturating_add-turns.ensures) in
     let link = c.in-Ok-Stopped.link in
@@ -78,7 +80,8 @@ returns-in-Err g c =
     cut-spent model old mid new c.loop.drive c.turn.new.self.state c.in-Err.fault went inv.went.1 worn
     (λ i. seen g.P.Port g.S.Scribe (k.2 i, k.3 i)) k.1 (same-fault k.0))
     (λ fresh. let w = c.in-Err.ensures.went inv.calm fresh in
-    let tied = tied-next g.P.Port g.S.Scribe Point.Accepting _ model old c.loop.drive c.turn.new.self c.loop.port c.turn.new.port c.loop.scribe
+    let tied = tied-next g.P.Port g.S.Scribe Point.Accepting _ model old c.loop.drive c.turn.new.self c.loop.port c.turn.new.port
+    c.loop.scribe
     c.turn.new.scribe c.loop.turns inv.went w in
     cut-else c.in-Err.fault model old new c.turn.new.self.state c.loop.drive.state w.added w.does
     (turns-next _ model old mid new c.loop.drive c.turn.new.self _ _ went w (cut-begins w.does) tied)) in

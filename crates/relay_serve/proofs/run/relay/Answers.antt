@@ -8,5 +8,6 @@ use Rattle.relay_serve.proofs.run.relay.Goals as goal
 pub returns-clause-did : goal.returns-clause-did
 returns-clause-did g c =
     subst (λ hooks. Did c.args.route.now (seated_sides hooks) c.relay_seated.result
-    (seen g.P.Port g.S.Scribe (c.args.port.now, c.args.scribe.now)) (seen g.P.Port g.S.Scribe (c.relay_seated.new.port, c.relay_seated.new.scribe)) (drained g.K.Sink c.args.sink.now)
+    (seen g.P.Port g.S.Scribe (c.args.port.now, c.args.scribe.now))
+    (seen g.P.Port g.S.Scribe (c.relay_seated.new.port, c.relay_seated.new.scribe)) (drained g.K.Sink c.args.sink.now)
     (drained g.K.Sink c.relay_seated.new.sink)) c.in-Ok.ensures.hooks c.relay_seated.ensures.did

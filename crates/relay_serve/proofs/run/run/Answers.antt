@@ -12,7 +12,8 @@ returns-in-Started g c =
     let new : Seen = seen g.P.Port g.S.Scribe (c.make_turns.new.port, c.make_turns.new.scribe) in
     let h = c.in-Started.ensures in
     let hooks = seated_sides c.args.seats.now.hooks.items in
-    ran-of c.args.route.now hooks old mid new (begun-by c.args.route.now old mid false refl h.cause h.ends h.told) c.make_turns.new.drive.state
+    ran-of c.args.route.now hooks old mid new (begun-by c.args.route.now old mid false refl h.cause h.ends h.told)
+    c.make_turns.new.drive.state
     c.args.drive.now.state.settings
     (ap (λ (d : DriveValue). d.state.settings) c.requires.new_drive) c.make_turns.result c.make_turns.ensures
 
@@ -22,7 +23,8 @@ returns-in-Failed g c =
     let new : Seen = seen g.P.Port g.S.Scribe (c.start.new.self, c.args.scribe.now) in
     let h = c.in-Failed.ensures in
     let hooks = seated_sides c.args.seats.now.hooks.items in
-    rw c.requires.new_drive (start-failed c.args.route.now hooks old new (begun-by c.args.route.now old new true refl h.cause h.ends h.told))
+    rw c.requires.new_drive (start-failed c.args.route.now hooks old new
+    (begun-by c.args.route.now old new true refl h.cause h.ends h.told))
 
 pub returns-in-NoMemory : goal.returns-in-NoMemory
 returns-in-NoMemory g c =
@@ -30,4 +32,5 @@ returns-in-NoMemory g c =
     let new : Seen = seen g.P.Port g.S.Scribe (c.start.new.self, c.args.scribe.now) in
     let h = c.in-NoMemory.ensures in
     let hooks = seated_sides c.args.seats.now.hooks.items in
-    rw c.requires.new_drive (start-lacked c.args.route.now hooks old new (begun-by c.args.route.now old new false refl h.cause h.ends h.told))
+    rw c.requires.new_drive (start-lacked c.args.route.now hooks old new
+    (begun-by c.args.route.now old new false refl h.cause h.ends h.told))

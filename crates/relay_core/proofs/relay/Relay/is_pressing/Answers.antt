@@ -9,6 +9,7 @@ pub returns-then-self : goal.returns-then-self
 returns-then-self c =
     let s = c.args.self.now.state in
     let is = ap (λ (z : Inside). z.ctl) c.self-inside.view_is ∙ c.self.view_is in
-    let untimed = subst (λ (z : RelayValue). IsUntimed z.state) is (untimed_seen c.self-inside.inside.0.0 c.self-inside.invariant c.if-self.true) in
+    let untimed = subst (λ (z : RelayValue). IsUntimed z.state) is
+    (untimed_seen c.self-inside.inside.0.0 c.self-inside.invariant c.if-self.true) in
     let same = ap (λ (z : RelayValue). length z.state.plain.due == 0) (sym is) in
     sym (pressing-quiet s (same ∙ sym c.is_quiet.ensures ∙ c.if-not-is_quiet.false) ∙ none_expired s untimed (all_sides s.plain))

@@ -17,7 +17,8 @@ loop-link-preserved c =
     let near : SideId = record { link = k; side = In } in
     let far : SideId = record { link = k; side = Out } in
     let rest = sides_from (k + 1) (n - (k + 1)) in
-    let same : c.self-inside.inside.0.0.sides.links.opened ≡ n = ap (λ (z : RelayValue). z.state.plain.opened) (ap (λ (z : Inside). z.ctl) c.self-inside.view_is ∙ c.self.view_is) in
+    let same : c.self-inside.inside.0.0.sides.links.opened ≡ n = ap (λ (z : RelayValue). z.state.plain.opened)
+    (ap (λ (z : Inside). z.ctl) c.self-inside.view_is ∙ c.self.view_is) in
     let b = c.wait_at-in-loop-link.ensures ∙ ap (side_wait s) c.peer.ensures in
     let least = c.earlier-least.ensures
     ∙ ap (earlier c.loop-link.least) (c.earlier-wait.ensures ∙ (λ i. earlier (c.wait_at.ensures i) (b i))) in
@@ -31,7 +32,8 @@ pub returns : goal.returns
 returns c =
     let s = c.args.self.now.state in
     let least = c.loop-link.least in
-    let same : c.self-inside.inside.0.0.sides.links.opened ≡ s.plain.opened = ap (λ (z : RelayValue). z.state.plain.opened) (ap (λ (z : Inside). z.ctl) c.self-inside.view_is ∙ c.self.view_is) in
+    let same : c.self-inside.inside.0.0.sides.links.opened ≡ s.plain.opened = ap (λ (z : RelayValue). z.state.plain.opened)
+    (ap (λ (z : Inside). z.ctl) c.self-inside.view_is ∙ c.self.view_is) in
     let over : 0 ≡ s.plain.opened - c.loop-link.link = omega (arith, same, c.loop-link-test.false) in
     sym (earlier-none least)
     ∙ ap (λ m. earlier least (wait_until s.plain.time (expiries s (sides_from c.loop-link.link m)))) over

@@ -6,7 +6,8 @@ use Rattle.relay_core.proofs.relay.Relay.take_timers.Goals as goal
 pub loop-side-smaller : goal.loop-side-smaller
 loop-side-smaller c =
     taken-less c.loop-side.self-inside.ctl c.self-inside.inside.0.0 c.take_due.new.self c.in-Some.side
-    (ap (λ (z : Inside). z.ctl) c.self-inside.view_is) c.take_due.ensures.rest c.in-Some.ensures.first c.raise.new.self.state c.raise.ensures.state
+    (ap (λ (z : Inside). z.ctl) c.self-inside.view_is) c.take_due.ensures.rest c.in-Some.ensures.first c.raise.new.self.state
+    c.raise.ensures.state
 
 pub loop-side-preserved : goal.loop-side-preserved
 loop-side-preserved c = record {

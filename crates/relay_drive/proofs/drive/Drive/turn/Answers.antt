@@ -7,11 +7,13 @@ use Rattle.relay_drive.proofs.drive.Drive.turn.Goals as goal
 
 pub returns-clause-went : goal.returns-clause-went
 returns-clause-went g c none fit =
-    went_all g.P.Port g.S.Scribe (telling (λ h. (goal.Hook-dyn g (h.vtable, h.value)).heard h.value) (λ h. (goal.Hook-dyn g (h.vtable, h.value)).asked h.value)
+    went_all g.P.Port g.S.Scribe (telling (λ h. (goal.Hook-dyn g (h.vtable, h.value)).heard h.value)
+    (λ h. (goal.Hook-dyn g (h.vtable, h.value)).asked h.value)
     (λ h. (goal.Hook-dyn g (h.vtable, h.value)).planned h.value)) c.next_turn-answer.result
     (c.self.inside.run, c.args.port.now, c.args.scribe.now)
     (c.next_turn-answer.new.run, c.next_turn-answer.new.port, c.next_turn-answer.new.scribe)
-    c.args.seats.now.hooks.items c.args.seats.now.gone.items c.next_turn-answer.new.seats.hooks.items c.next_turn-answer.new.seats.gone.items
+    c.args.seats.now.hooks.items c.args.seats.now.gone.items c.next_turn-answer.new.seats.hooks.items
+    c.next_turn-answer.new.seats.gone.items
     c.self.inside.kept c.kept_of-self-inside.result (sym c.self.view_is) refl
     (c.next_turn-answer.ensures.went (ap is_worn c.self.view_is ∙ fit))
 

@@ -26,6 +26,7 @@ loop-preserved g c =
 
 pub returns-clause-fresh : goal.returns-clause-fresh
 returns-clause-fresh g c = record {
-  level = (let a = c.loop.invariant.many in let b = c.loop.auto.counter-end in let d = c.loop-test.false in let n = c.len-end.ensures in omega (arith, a, b, d, n));
+  level = (let a = c.loop.invariant.many in let b = c.loop.auto.counter-end in let d = c.loop-test.false in
+      let n = c.len-end.ensures in omega (arith, a, b, d, n));
   none = c.loop.invariant.none;
 }

@@ -32,7 +32,8 @@ returns-clause-by_plan c =
     c.lines_at.ensures
     ∙ (λ i. filter (is_at (kind i) (counted i)) (c.deref.ensures.value i))
     ∙ c.self.invariant.same (kind_of why) (heard_of (kind_of why) hook.log.heard + 1) in
-    let now : map (λ x. x.0) (asked_in lent.me lent.log) ≡ acts_at hook.log.lines (kind_of why) (heard_of (kind_of why) hook.log.heard + 1) =
+    let now : map (λ x. x.0) (asked_in lent.me lent.log) ≡ acts_at hook.log.lines (kind_of why)
+    (heard_of (kind_of why) hook.log.heard + 1) =
     ap (λ me. map (λ x. x.0) (asked_in me lent.log)) c.ask_lines.ensures.steps.me
     ∙ c.ask_lines.ensures.asked
     ∙ ap (λ z. take most_asks (acts_in z)) lines in
