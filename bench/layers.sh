@@ -13,7 +13,7 @@ measured() { /usr/bin/env time -f '%U %M' "$program" "$@" 2>&1 >/dev/null | tail
 echo "1 GiB in pieces of 16 KiB"
 for word in copy none to-crlf to-lf hex-out hex-in; do
     read -r seconds _ < <(measured "$word")
-    awk -v w="$word" -v s="$seconds" 'BEGIN { printf "  %-8s %6.2f s  %7.0f MiB a second\n", w, s, s > 0 ? 1024 / s : 0 }'
+    awk -v w="$word" -v s="$seconds" 'BEGIN { printf "  %-8s %6.2f s  %7.0f MiB a second\n", w, s, (s > 0 ? 1024 / s : 0) }'
 done
 
 read -r _ little < <(measured nothing)
