@@ -1,6 +1,7 @@
 -- What planned hooks have told of a trace goes on with each turn, and so they asked as planned.
-use Rattle.std.proofs.Common.{◌≡◌, ℕ, List, [], ◌++◌, Option, Some, None, refl, sym, ◌∙◌, ap, subst}
-use Rattle.std.specs.Prelude.{IfSome, MatchOption, IsSomeAnd, map}
+use Rattle.std.proofs.Common.{◌≡◌, List, [], ◌++◌, Option, Some, None, refl, sym, ◌∙◌, ap, subst}
+use Rattle.std.proofs.Common.{◌≢◌, append-nil}
+use Rattle.std.specs.Prelude.{IfSome, MatchOption, IsSomeAnd}
 use Rattle.std.specs.Option.{option_or}
 use Rattle.ev_types.specs.declared.act.Act.{Act}
 use Rattle.ev_types.specs.declared.answer.AskAnswer.{AskAnswer}
@@ -13,7 +14,13 @@ use Rattle.relay_core.specs.Fires.{told_more, HasAskedByPlan}
 use Rattle.relay_model.specs.Hooked.{heard_in, asked_in, AskedAsPlanned}
 use Rattle.relay_model.specs.Plans.{IsPlanned}
 use Rattle.relay_drive.specs.Seats.{seat, hook_at, Telling, TellsMore, HooksTell, AreFresh}
-use Rattle.relay_drive.proofs.HookEvents.{heard_in-append, asked_in-append}
+use Rattle.relay_state.specs.State.{State}
+use Rattle.relay_drive.specs.declared.fault.DriveFault.{DriveFault}
+use Rattle.relay_drive.specs.declared.fault.DriveFault.TheVariants as fault
+use Rattle.relay_drive.specs.Calls.{Ticks}
+use Rattle.relay_drive.specs.Phases.{CutTurn, CutPolling, before, in_poll, in_serving, in_dispatch, in_passing, in_closing}
+use Rattle.relay_drive.proofs.HookEvents.{IsUnhooked, heard_in-append, asked_in-append, unheard-in, unasked-in, then-unhooks, ticks-unhook}
+use Rattle.relay_drive.proofs.HookEvents.{cut_polling-unhooks}
 use Rattle.program_end.specs.Planned.{HasPlan, HavePlans, ToldOf, AllToldOf}
 
 -- One hook
@@ -98,3 +105,27 @@ all_told-planned {H = H} tells plan hooks gone t told e = go (seat hooks gone (n
         IsPlanned (plan e) (heard_in e t) (asked_in e t)
     go None k = subst (λ xs. IsPlanned (plan e) xs (asked_in e t)) (sym k.0) (subst (λ ps. IsPlanned (plan e) [] ps) (sym k.1) refl)
     go (Some h) k = k.by_plan
+
+-- A turn that was cut off
+
+-- for another cause than want of memory it was so before any hook was called
+cut-unhooks : (f : DriveFault) (s new : State) (a : Trace) → f ≢ fault.Memory → CutTurn f s a new → IsUnhooked a
+cut-unhooks f s new a k (before h) = absurd (k refl)
+cut-unhooks f s new a k (in_poll reading h) =
+    then-unhooks (Ticks reading) (CutPolling f) (ticks-unhook reading) (cut_polling-unhooks f) s new a h
+cut-unhooks f s new a k (in_serving reading marked h) = absurd (k refl)
+cut-unhooks f s new a k (in_dispatch h) = absurd (k refl)
+cut-unhooks f s new a k (in_passing h) = absurd (k refl)
+cut-unhooks f s new a k (in_closing h) = absurd (k refl)
+
+-- so what was asked up to then is planned still
+pub planned-cut : (plan : SideId → List PlanLine) (f : DriveFault) (t a : Trace) (s new : State) → f ≢ fault.Memory → CutTurn f s a new →
+    AskedAsPlanned plan t → AskedAsPlanned plan (t ++ a)
+planned-cut plan f t a s new k cut h e =
+    let none : IsUnhooked a = cut-unhooks f s new a k cut in
+    let x = heard_in-append e t a in
+    let y = asked_in-append e t a in
+    let u = unheard-in e a none in
+    let v = unasked-in e a none in
+    subst (λ xs. IsPlanned (plan e) xs (asked_in e (t ++ a))) (sym (x ∙ (λ i. heard_in e t ++ u i) ∙ append-nil (heard_in e t)))
+    (subst (λ ps. IsPlanned (plan e) (heard_in e t) ps) (sym (y ∙ (λ i. asked_in e t ++ v i) ∙ append-nil (asked_in e t))) (h e))

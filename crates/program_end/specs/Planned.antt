@@ -1,5 +1,5 @@
 -- Hooks that tell a plan, and what they have told of a trace.
-use Rattle.std.specs.Prelude.{◌≡◌, ⊤, ℕ, Bool, ◌&&◌, ◌<◌, length, true, List, [], Option, Some, IfSome, MatchOption, is_some}
+use Rattle.std.specs.Prelude.{◌≡◌, Bool, ◌&&◌, List, [], Option, Some, IfSome, MatchOption, is_some}
 use Rattle.ev_types.specs.declared.plan_line.PlanLine.{PlanLine}
 use Rattle.ev_types.specs.declared.side.SideId.{SideId}
 use Rattle.ev_types.specs.Sides.{number}

@@ -302,6 +302,21 @@ did route hooks ended result old new s before after ran told = by_result result 
     by_result (status.Stopped link turn) h = all (status.Stopped link turn) h.0 (λ e. absurd (cc)) h.1
     by_result status.TooLong h = never status.TooLong (sym h.0) (λ r. r.1)
 
+-- Where a call did not run out of memory its run did not.
+pub reported-lasted : (ended result : Status) (text : List ℕ) (before after : Drained) → Reported ended result text before after →
+    result ≢ status.Memory → ended ≢ status.Memory
+reported-lasted ended status.Memory text before after h k = absurd (k refl)
+reported-lasted ended status.WriteFault text before after h k = h.0
+reported-lasted ended status.Ok text before after h k = λ is. absurd (let same = h.0 in cc)
+reported-lasted ended status.Usage text before after h k = λ is. absurd (let same = h.0 in cc)
+reported-lasted ended (status.BadScript line) text before after h k = λ is. absurd (let same = h.0 in cc)
+reported-lasted ended status.ReadFault text before after h k = λ is. absurd (let same = h.0 in cc)
+reported-lasted ended status.PollFault text before after h k = λ is. absurd (let same = h.0 in cc)
+reported-lasted ended (status.Stopped link turn) text before after h k = λ is. absurd (let same = h.0 in cc)
+reported-lasted ended status.TooLong text before after h k = λ is. absurd (let same = h.0 in cc)
+reported-lasted ended status.OpenFault text before after h k = λ is. absurd (let same = h.0 in cc)
+reported-lasted ended status.Spent text before after h k = λ is. absurd (let same = h.0 in cc)
+
 -- Words
 
 -- The words are not in the grammar, or memory ran out while they were read: nothing was done.

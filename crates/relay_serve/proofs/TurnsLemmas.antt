@@ -1,8 +1,10 @@
 -- Turns in a row: none, one more, and one that is cut off.
 use Rattle.std.proofs.Common.{◌≡◌, ◌≢◌, ◌⊎◌, inl, inr, ℕ, ◌+◌, ◌-◌, ◌^◌, min, Bool, true, false, List, [], ◌++◌, refl, sym, ◌∙◌, ap, subst}
-use Rattle.std.proofs.Common.{append-nil, count_by, arith, Result, Err}
+use Rattle.std.proofs.Common.{append-nil, count_by, arith, Result, Err, Option, None}
 use Rattle.std.specs.Prelude.{⊤}
+use Rattle.ev_types.specs.declared.plan_line.PlanLine.{PlanLine}
 use Rattle.ev_types.specs.declared.side.SideId.{SideId}
+use Rattle.ev_types.specs.Growth.{Grew}
 use Rattle.ev_types.specs.Told.{EndTold, PortTold}
 use Rattle.ev_types.specs.Trace.{Trace}
 use Rattle.ev_port.specs.declared.port.Port as port
@@ -28,13 +30,16 @@ use Rattle.relay_drive.specs.declared.fault.TurnEnd.TheVariants as end
 use Rattle.relay_drive.specs.DriveStands.{DriveStands, DriveWent, StandsBetween, turn_answer_of, turn_end_of}
 use Rattle.relay_drive.specs.DriveValue.{DriveValue, new_drive, is_worn}
 use Rattle.relay_drive.specs.Known.{Point, Question}
+use Rattle.relay_drive.specs.Seats.{Telling, HooksTell, AreFresh}
 use Rattle.relay_drive.specs.Moves.{knows}
 use Rattle.relay_drive.specs.Phases.{CutTurn, in_poll, CutPolling, is_open_fault}
 use Rattle.relay_drive.proofs.HookEvents.{asks_fit-none}
 use Rattle.relay_drive.proofs.GoesLemmas.{Grew-none, Grew-join, Heard-none, Heard-join}
+use Rattle.program_end.specs.Planned.{HavePlans, AllToldOf}
+use Rattle.program_end.proofs.PlannedLemmas.{all_told-none, all_told-more, all_told-planned, planned-cut}
 use Rattle.program_end.proofs.TurnCountLemmas.{BeginsOnce, count-append}
 use Rattle.relay_serve.specs.Seen.{Seen, seen}
-use Rattle.relay_serve.specs.Served.{turns_told}
+use Rattle.relay_serve.specs.Served.{turns_told, AskedByPlans}
 use Rattle.relay_serve.specs.Underway.{TurnsWent, TurnsEnd, TurnsCut}
 use Rattle.relay_serve.specs.declared.run.ServeEnd.TheVariants as serve_end
 
@@ -47,7 +52,7 @@ abbrev pub Standing : Settings → Seen → Seen → DriveValue → ℕ → Type
 Standing g old new d turns = (w : TurnsWent g StandsBetween false old new d.state) × DriveStands w.added d × (turns ≡ turns_told w.added)
 
 -- before the first turn
-pub stands-new : (g : code.Settings) (hooks : List SideId) (old : Seen) → Standing (settings_with g hooks) old old (new_drive g hooks) 0
+stands-new : (g : code.Settings) (hooks : List SideId) (old : Seen) → Standing (settings_with g hooks) old old (new_drive g hooks) 0
 stands-new g hooks old = (
   record {
     added = [];
@@ -61,6 +66,18 @@ stands-new g hooks old = (
   record { fits = record { time = refl; last = refl; opened = refl }; asks = asks_fit-none; entries = refl },
   refl,
 )
+
+-- hooks that had plans have told what their turns put
+abbrev pub AllTold : {H : Type 0} → Telling H → List (Option H) → List (Option H) → List (Option H) → Trace → Type 0
+AllTold tells first hooks gone t = (plan : SideId → List PlanLine) → HavePlans tells plan first → AllToldOf tells plan hooks gone t
+
+-- before the first turn, with hooks of which none was called
+pub begins : {H : Type 0} (tells : Telling H) (hooks gone : List (Option H)) (g : code.Settings) (sides : List SideId) (old : Seen) →
+    AreFresh hooks gone →
+    (stood : Standing (settings_with g sides) old old (new_drive g sides) 0) × AllTold tells hooks hooks gone stood.0.added
+unfolding stands-new
+begins tells hooks gone g sides old fresh =
+    (stands-new g sides old, (λ plan have. all_told-none tells plan hooks gone fresh have))
 
 -- wherever a turn ended, the run stood so, with one turn more or none
 ends-on : (g : Settings) (t a : Trace) (s : State) → s.settings ≡ g → StandsBetween t s → AtTurnEnds (StoodBetween g) t →
@@ -116,14 +133,17 @@ pub stands-next : {Plan : Type 0} {R : State → Trace → State → Type 0} {Te
     (old mid new : Seen) (d e : DriveValue) (turns more : ℕ) (v v' : Settings → Question Plan → Trace → Type 0) → x ≡ end.Went →
     (k : Standing g old mid d turns) →
     (t : DriveWent R (LeftFor (turn_end_of x)) Tells false d e mid.log new.log v v' mid.faults new.faults) → BeginsOnce t.added →
-    IsTied g old.told new.told old.ends new.ends (k.0.added ++ t.added) → more ≡ min (turns + 1) (2 ^ 32 - 1) → Standing g old new e more
+    IsTied g old.told new.told old.ends new.ends (k.0.added ++ t.added) → more ≡ min (turns + 1) (2 ^ 32 - 1) →
+    (stood : Standing g old new e more) × (stood.0.added ≡ k.0.added ++ t.added)
 unfolding turns-next
 stands-next x g old mid new d e turns more v v' went k t once tied is =
-    let w = turns-next false g old mid new d e v v' k.0 t (inr once) tied in (
+    let w = turns-next false g old mid new d e v v' k.0 t (inr once) tied in
+    let stood : Standing g old new e more = (
       with-after w (between-of w.added e.state (subst (λ z. LeftFor (turn_end_of z) w.added e.state) went w.after)),
       t.stands k.0.added k.1,
       told-next k.0.added t.added turns more k.2 is once.once,
-    )
+    ) in
+    (stood, refl)
 
 -- A turn more that a hook of this link stopped.
 pub stopped-next : {Plan : Type 0} {R : State → Trace → State → Type 0} {Tells : Trace → Type 0} (x : TurnEnd) (link : ℕ) (g : Settings)
@@ -196,3 +216,32 @@ unworn false k = refl
 pub either : {X : Type 0} (b : Bool) → (b ≡ true → X) → (b ≡ false → X) → X
 either true f h = f refl
 either false f h = h refl
+
+-- What hooks asked
+
+-- one turn more
+pub told-on : {H : Type 0} (tells : Telling H) (first hooks gone hooks' gone' : List (Option H)) (t a u : Trace) → u ≡ t ++ a →
+    AllTold tells first hooks gone t → HooksTell tells None hooks gone hooks' gone' a → AllTold tells first hooks' gone' u
+told-on tells first hooks gone hooks' gone' t a u is told more plan have =
+    subst (λ z. AllToldOf tells plan hooks' gone' z) (sym is) (all_told-more tells plan hooks gone hooks' gone' t a (told plan have) more)
+
+-- so they asked as planned where no turn was cut off
+pub asked-told : {H : Type 0} (tells : Telling H) (first hooks gone : List (Option H)) (t : Trace) (old new : Option Trace) →
+    Grew old new t →
+    AllTold tells first hooks gone t → AskedByPlans tells first old new
+asked-told tells first hooks gone t old new grew told =
+    (t, grew, (λ plan have. all_told-planned tells plan hooks gone t (told plan have)))
+
+-- and where one was for another cause than want of memory
+pub asked-cut : {H : Type 0} (tells : Telling H) (first hooks gone : List (Option H)) (f : DriveFault) (t a : Trace) (s s' : State)
+    (old new : Option Trace) →
+    Grew old new (t ++ a) → f ≢ fault.Memory → CutTurn f s a s' → AllTold tells first hooks gone t → AskedByPlans tells first old new
+asked-cut tells first hooks gone f t a s s' old new grew k cut told = (
+  t ++ a,
+  grew,
+  (λ plan have. planned-cut plan f t a s s' k cut (all_told-planned tells plan hooks gone t (told plan have))),
+)
+
+-- nothing was asked where nothing was put
+pub asked-nothing : {H : Type 0} (tells : Telling H) (first : List (Option H)) (old : Option Trace) → AskedByPlans tells first old old
+asked-nothing tells first old = ([], Grew-none old, (λ plan have e. refl))

@@ -1,6 +1,7 @@
 -- What `serve` says of the run that it made over a port.
 use Rattle.std.specs.Prelude.{◌≡◌, ◌≢◌, ◌⊎◌, ℕ, ◌<◌, ◌-◌, ◌^◌, min, Bool, true, false, List, [], length, take, All, Option, Some, None}
 use Rattle.std.specs.Prelude.{count_by}
+use Rattle.ev_types.specs.declared.plan_line.PlanLine.{PlanLine}
 use Rattle.ev_types.specs.declared.side.SideId.{SideId}
 use Rattle.ev_types.specs.declared.status.LinkCount.{LinkCount}
 use Rattle.ev_types.specs.declared.status.LinkState.TheVariants as state
@@ -15,6 +16,7 @@ use Rattle.ev_port.specs.Calls.{StartedAt}
 use Rattle.ev_port.specs.EndSteps.{AllWent, no_step}
 use Rattle.script_text.specs.ReportText.{report_text}
 use Rattle.relay_model.specs.Answers.{TurnAnswer}
+use Rattle.relay_model.specs.Hooked.{AskedAsPlanned}
 use Rattle.relay_model.specs.RatesKept.{is_turn}
 use Rattle.relay_model.specs.Settings.{Settings, settings_with}
 use Rattle.relay_model.specs.Tied.{IsTied}
@@ -24,6 +26,8 @@ use Rattle.relay_laws.specs.Relayed.{IsRelayed}
 use Rattle.relay_drive.specs.Advances.{Heard}
 use Rattle.relay_drive.specs.DriveStands.{DriveStands, StandsBetween}
 use Rattle.relay_drive.specs.DriveValue.{DriveValue, is_worn}
+use Rattle.relay_drive.specs.Seats.{Telling}
+use Rattle.program_end.specs.Planned.{HavePlans}
 use Rattle.relay_serve.specs.Seen.{Seen, Drained}
 
 -- the settings of a run with hooks for these sides, as the model has them
@@ -109,3 +113,9 @@ Did route hooks ended old new before after = ReportedAll route hooks ended old n
 abbrev pub DidWith : Option Route → List SideId → Status → Seen → Seen → Drained → Drained → Type 0
 DidWith None hooks ended old new before after = ((ended ≡ status.Usage) ⊎ (ended ≡ status.Memory)) × (new ≡ old) × (after ≡ before)
 DidWith (Some route) hooks ended old new before after = Did route hooks ended old new before after
+
+-- The scribe was given these entries. By them each hook that told a plan, and was called for nothing before, asked what the plan has for
+-- what the hook heard.
+abbrev pub AskedByPlans : {H : Type 0} → Telling H → List (Option H) → Option Trace → Option Trace → Type 0
+AskedByPlans tells hooks old new =
+    (t : Trace) × Grew old new t × ((plan : SideId → List PlanLine) → HavePlans tells plan hooks → AskedAsPlanned plan t)

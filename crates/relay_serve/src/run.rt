@@ -2,9 +2,9 @@
 ghost use Rattle.std.specs.Prelude.{◌≡◌, ◌≢◌};
 ghost use Rattle.ev_types.specs.declared.status.Status.TheVariants.{WriteFault};
 ghost use Rattle.relay_drive.specs.DriveValue.{new_drive};
-ghost use Rattle.relay_drive.specs.Seats.{seated_sides, AreFresh, AreSeated};
+ghost use Rattle.relay_drive.specs.Seats.{telling, seated_sides, AreFresh, AreSeated};
 ghost use Rattle.relay_serve.specs.Seen.{seen, drained};
-ghost use Rattle.relay_serve.specs.Served.{Did};
+ghost use Rattle.relay_serve.specs.Served.{Did, AskedByPlans};
 ghost use Rattle.relay_serve.specs.Underway.{TurnsGo, RanTo, ended_as};
 
 use crate::report::report;
@@ -36,7 +36,11 @@ fn make_turns<R: Wait, P: Port, S: Scribe>(
 ) -> Result<ServeEnd, DriveFault>
     requires new_drive { drive.old ≡ new_drive settings.now (seated_sides seats.old.hooks.items) }
     requires seated { AreSeated drive.old.state seats.old.hooks.items seats.old.gone.items }
-    ensures { TurnsGo P.Port S.Scribe result (drive.old, port.old, scribe.old) (drive.new, port.new, scribe.new) }
+    requires fresh { AreFresh seats.old.hooks.items seats.old.gone.items }
+    ensures went { TurnsGo P.Port S.Scribe result (drive.old, port.old, scribe.old) (drive.new, port.new, scribe.new) }
+    ensures asked { ended_as result ≢ Status.Memory → AskedByPlans
+        (telling (λ h. heard (h.vtable, h.value)) (λ h. asked (h.vtable, h.value)) (λ h. planned (h.vtable, h.value)))
+        seats.old.hooks.items (S.trace scribe.old) (S.trace scribe.new) }
 {
     let mut turns = 0u32;
     for _ in rt.forever() {
@@ -64,8 +68,12 @@ fn run<R: Wait, P: Port, S: Scribe>(
 ) -> Result<ServeEnd, DriveFault>
     requires new_drive { drive.old ≡ new_drive route.now.settings (seated_sides seats.old.hooks.items) }
     requires seated { AreSeated drive.old.state seats.old.hooks.items seats.old.gone.items }
-    ensures { RanTo route.now (seated_sides seats.old.hooks.items) (ended_as result) (seen P.Port S.Scribe (port.old, scribe.old))
+    requires fresh { AreFresh seats.old.hooks.items seats.old.gone.items }
+    ensures ran { RanTo route.now (seated_sides seats.old.hooks.items) (ended_as result) (seen P.Port S.Scribe (port.old, scribe.old))
         (seen P.Port S.Scribe (port.new, scribe.new)) drive.new.state }
+    ensures asked { ended_as result ≢ Status.Memory → AskedByPlans
+        (telling (λ h. heard (h.vtable, h.value)) (λ h. asked (h.vtable, h.value)) (λ h. planned (h.vtable, h.value)))
+        seats.old.hooks.items (S.trace scribe.old) (S.trace scribe.new) }
 {
     match port.start(route.listen, route.to) {
         Started::Started => make_turns(rt, &route.settings, drive, seats, port, scribe),
@@ -87,6 +95,9 @@ fn relay_seated<R: Wait, P: Port, S: Scribe, K: Sink>(
     requires fresh { AreFresh seats.old.hooks.items seats.old.gone.items }
     ensures did { Did route.now (seated_sides seats.old.hooks.items) result (seen P.Port S.Scribe (port.old, scribe.old))
         (seen P.Port S.Scribe (port.new, scribe.new)) (drained K.Sink sink.old) (drained K.Sink sink.new) }
+    ensures asked { result ≢ Status.Memory → AskedByPlans
+        (telling (λ h. heard (h.vtable, h.value)) (λ h. asked (h.vtable, h.value)) (λ h. planned (h.vtable, h.value)))
+        seats.old.hooks.items (S.trace scribe.old) (S.trace scribe.new) }
     ensures write_calm { result ≢ WriteFault → K.faults sink.new ≡ K.faults sink.old }
     ensures unwritten { result ≡ Status.Memory → sink.new ≡ sink.old }
 {
@@ -115,6 +126,9 @@ pub fn relay<R: Wait, P: Port, S: Scribe, K: Sink>(
 ) -> Status
     ensures did { Did route.now (seated_sides hooks.items) result (seen P.Port S.Scribe (port.old, scribe.old))
         (seen P.Port S.Scribe (port.new, scribe.new)) (drained K.Sink sink.old) (drained K.Sink sink.new) }
+    // Where memory did not run out, hooks that tell plans asked what those have, by the entries that the scribe was given.
+    ensures asked { result ≢ Status.Memory →
+        AskedByPlans (telling (λ h. heard h) (λ h. asked h) (λ h. planned h)) hooks.items (S.trace scribe.old) (S.trace scribe.new) }
     ensures write_calm { result ≢ WriteFault → K.faults sink.new ≡ K.faults sink.old }
     ensures unwritten { result ≡ Status.Memory → sink.new ≡ sink.old }
 {

@@ -2,9 +2,9 @@
 ghost use Rattle.std.specs.Prelude.{◌≡◌, ◌≢◌, map, string_bytes};
 ghost use Rattle.ev_types.specs.declared.status.Status.TheVariants.{Usage, Memory, WriteFault};
 ghost use Rattle.command_words.specs.ServeGrammar.{serve_words_of};
-ghost use Rattle.relay_drive.specs.Seats.{seated_sides};
+ghost use Rattle.relay_drive.specs.Seats.{telling, seated_sides};
 ghost use Rattle.relay_serve.specs.Seen.{seen, drained};
-ghost use Rattle.relay_serve.specs.Served.{DidWith};
+ghost use Rattle.relay_serve.specs.Served.{DidWith, AskedByPlans};
 
 use crate::run::relay;
 use command_words::serve_words;
@@ -33,6 +33,10 @@ pub fn serve<R: Wait, P: Port, S: Scribe, K: Sink>(
     ensures did { DidWith (serve_words_of (map string_bytes words.now)) (seated_sides hooks.items) result
         (seen P.Port S.Scribe (port.old, scribe.old)) (seen P.Port S.Scribe (port.new, scribe.new))
         (drained K.Sink sink.old) (drained K.Sink sink.new) }
+
+    // Where memory did not run out, hooks that tell plans asked what those have, by the entries that the scribe was given.
+    ensures asked { result ≢ Memory →
+        AskedByPlans (telling (λ h. heard h) (λ h. asked h) (λ h. planned h)) hooks.items (S.trace scribe.old) (S.trace scribe.new) }
 
     // The words are looked at before all else.
     ensures untouched { result ≡ Usage → (port.new ≡ port.old) × (scribe.new ≡ scribe.old) × (sink.new ≡ sink.old) }

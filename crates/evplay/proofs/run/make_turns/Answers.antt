@@ -25,10 +25,10 @@ use Rattle.evplay.proofs.FaultLemmas.{memory-or-poll}
 use Rattle.relay_laws.proofs.RelayedLemmas.{stood-at}
 use Rattle.evplay.proofs.HandedLemmas.{have-plans}
 use Rattle.evplay.proofs.RunLemmas.{went-run, failed-run, stopped-run}
-use Rattle.evplay.proofs.TurnLemmas.{fresh, few-within, between-of, asked-by_none}
+use Rattle.evplay.proofs.TurnLemmas.{fresh, few-within, between-of}
 use Rattle.relay_laws.proofs.TurnEndLemmas.{ends-none, ends-grow}
 use Rattle.program_end.proofs.TurnCountLemmas.{turn-once, turn-first, end-begins, cut-poll-once, cut-poll-first, count-append}
-use Rattle.program_end.proofs.PlannedLemmas.{all_told-none, all_told-more, all_told-planned}
+use Rattle.program_end.proofs.PlannedLemmas.{all_told-none, all_told-more, all_told-planned, planned-cut}
 use Rattle.relay_laws.specs.TurnEnds.{AtTurnEnds}
 use Rattle.relay_laws.specs.Relayed.{StoodBetween}
 use Rattle.relay_laws.specs.Report.{lines_below}
@@ -219,7 +219,7 @@ returns-in-Err-clause-made g c = λ plans handed seats.
     rw longer (failed-run script handed c.turn.new.port u s ready.links ready.timeouts (w.settings ∙ inv.settings ∙ on) left
     ready.names ready.brings
     counted seen (w.stands t inv.stands).asks
-    (λ tell. asked-by_none (plan_of (script_run script)) t w.added before s cut
+    (λ tell. planned-cut (plan_of (script_run script)) fault.PollFault t w.added before s (λ e. absurd (cc)) cut
     (all_told-planned (telling (λ h. (goal.Hook-dyn g (h.vtable, h.value)).heard h.value)
     (λ h. (goal.Hook-dyn g (h.vtable, h.value)).asked h.value)
     (λ h. (goal.Hook-dyn g (h.vtable, h.value)).planned h.value)) (plan_of (script_run script)) c.loop-turn.seats.hooks.items

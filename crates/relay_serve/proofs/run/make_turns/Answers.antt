@@ -1,14 +1,18 @@
-use Rattle.std.proofs.Common.{◌≡◌, ◌+◌, ◌-◌, ◌^◌, min, Ok, None, false, ◌∙◌, ap, arith}
+use Rattle.std.proofs.Common.{◌≡◌, ◌+◌, ◌-◌, ◌^◌, ◌++◌, min, Ok, Option, None, false, refl, sym, ◌∙◌, ap, subst, arith}
+use Rattle.ev_types.specs.Growth.{Grew}
+use Rattle.ev_types.specs.Trace.{Trace}
 use Rattle.relay_model.specs.Settings.{Settings, settings_with}
 use Rattle.relay_drive.specs.DriveValue.{DriveValue, is_worn, kept_of}
 use Rattle.relay_drive.specs.Known.{Point}
-use Rattle.relay_drive.specs.Seats.{seated_sides}
+use Rattle.relay_drive.specs.Seats.{telling, seated_sides}
+use Rattle.relay_drive.proofs.GoesLemmas.{Grew-join}
+use Rattle.program_end.specs.EndStatus.{status_of}
 use Rattle.program_end.proofs.TurnCountLemmas.{BeginsOnce, end-begins, cut-begins}
 use Rattle.relay_serve.specs.Seen.{Seen, seen}
 use Rattle.relay_serve.specs.Underway.{TurnsCut, TurnsEnd}
 use Rattle.relay_serve.specs.declared.run.ServeEnd.TheVariants as serve_end
-use Rattle.relay_serve.proofs.TurnsLemmas.{stands-new, stands-next, stopped-next, turns-next, tied-next, cut-spent, cut-else}
-use Rattle.relay_serve.proofs.TurnsLemmas.{unworn, either, same-fault}
+use Rattle.relay_serve.proofs.TurnsLemmas.{begins, stands-next, stopped-next, turns-next, tied-next, cut-spent, cut-else}
+use Rattle.relay_serve.proofs.TurnsLemmas.{unworn, either, same-fault, told-on, asked-told, asked-cut}
 use Rattle.relay_serve.proofs.run.make_turns.Goals as goal
 
 pub loop-init : goal.loop-init
@@ -16,8 +20,11 @@ loop-init g c = record {
   calm = ap (λ (d : DriveValue). d.kept) c.requires.new_drive;
   seated = c.requires.seated;
   went = rw c.requires.new_drive
-      (stands-new c.args.settings.now (seated_sides c.args.seats.now.hooks.items)
-      (seen g.P.Port g.S.Scribe (c.args.port.now, c.args.scribe.now)));
+      (begins
+      (telling (λ h. (goal.Hook-dyn g (h.vtable, h.value)).heard h.value) (λ h. (goal.Hook-dyn g (h.vtable, h.value)).asked h.value)
+      (λ h. (goal.Hook-dyn g (h.vtable, h.value)).planned h.value))
+      c.args.seats.now.hooks.items c.args.seats.now.gone.items c.args.settings.now (seated_sides c.args.seats.now.hooks.items)
+      (seen g.P.Port g.S.Scribe (c.args.port.now, c.args.scribe.now)) c.requires.fresh);
 }
 
 pub loop-preserved : goal.loop-preserved
@@ -32,20 +39,28 @@ loop-preserved g c =
     let w = c.in-Ok-Went.ensures.went inv.calm fresh in
     let tied = tied-next g.P.Port g.S.Scribe Point.Accepted _ model old c.loop.drive c.turn.new.self c.loop.port c.turn.new.port
     c.loop.scribe
-    c.turn.new.scribe c.loop.turns inv.went w in
+    c.turn.new.scribe c.loop.turns inv.went.0 w in
     let more : c.saturating_add-turns.result ≡ min (c.loop.turns + 1) (2 ^ 32 - 1) = omega (arith, c.saturating_add-turns.ensures) in
     let once : BeginsOnce w.added = end-begins c.in-Ok-Went.field-0 c.loop.drive.state c.turn.new.self.state w.added w.does in
     let calm : c.turn.new.self.kept ≡ None = c.in-Ok-Went.ensures.answer ∙ ap (λ x. kept_of (Ok x)) c.in-Ok-Went.field-0-is in
+    let next = stands-next c.in-Ok-Went.field-0 model old mid new c.loop.drive c.turn.new.self c.loop.turns c.saturating_add-turns.result
+    _ _ c.in-Ok-Went.field-0-is inv.went.0 w once tied more in
     record {
       calm = calm;
       seated = c.in-Ok-Went.ensures.seated calm;
-      went = stands-next c.in-Ok-Went.field-0 model old mid new c.loop.drive c.turn.new.self c.loop.turns c.saturating_add-turns.result _ _
-          c.in-Ok-Went.field-0-is inv.went w once tied more;
+      went = (
+        next.0,
+        told-on
+            (telling (λ h. (goal.Hook-dyn g (h.vtable, h.value)).heard h.value) (λ h. (goal.Hook-dyn g (h.vtable, h.value)).asked h.value)
+            (λ h. (goal.Hook-dyn g (h.vtable, h.value)).planned h.value))
+            c.args.seats.now.hooks.items c.loop.seats.hooks.items c.loop.seats.gone.items c.turn.new.seats.hooks.items
+            c.turn.new.seats.gone.items inv.went.0.0.added w.added next.0.0.added next.1 inv.went.1 w.hooked,
+      );
     }
 
 -- A hook stopped the last turn.
-pub returns-in-Ok-Stopped : goal.returns-in-Ok-Stopped
-returns-in-Ok-Stopped g c =
+pub returns-in-Ok-Stopped-clause-went : goal.returns-in-Ok-Stopped-clause-went
+returns-in-Ok-Stopped-clause-went g c =
     let inv = c.loop.invariant in
     let old : Seen = seen g.P.Port g.S.Scribe (c.args.port.now, c.args.scribe.now) in
     let mid : Seen = seen g.P.Port g.S.Scribe (c.loop.port, c.loop.scribe) in
@@ -56,20 +71,20 @@ returns-in-Ok-Stopped g c =
     let w = c.in-Ok-Stopped.ensures.went inv.calm fresh in
     let tied = tied-next g.P.Port g.S.Scribe Point.Accepted _ model old c.loop.drive c.turn.new.self c.loop.port c.turn.new.port
     c.loop.scribe
-    c.turn.new.scribe c.loop.turns inv.went w in
+    c.turn.new.scribe c.loop.turns inv.went.0 w in
     let more : c.saturating_add-turns.result ≡ min (c.loop.turns + 1) (2 ^ 32 - 1) = omega (arith, c.saturating_add-turns.ensures) in
     let link = c.in-Ok-Stopped.link in
     let once : BeginsOnce w.added = end-begins c.in-Ok-Stopped.field-0 c.loop.drive.state c.turn.new.self.state w.added w.does in
     let last : TurnsEnd (serve_end.Stopped link c.saturating_add-turns.result) model old new c.turn.new.self.state =
     stopped-next c.in-Ok-Stopped.field-0 link model old mid new c.loop.drive c.turn.new.self c.loop.turns c.saturating_add-turns.result _ _
-    c.in-Ok-Stopped.field-0-is inv.went w once tied more in
+    c.in-Ok-Stopped.field-0-is inv.went.0 w once tied more in
     rw c.requires.new_drive last
 
 -- The last turn was refused.
-pub returns-in-Err : goal.returns-in-Err
-returns-in-Err g c =
+pub returns-in-Err-clause-went : goal.returns-in-Err-clause-went
+returns-in-Err-clause-went g c =
     let inv = c.loop.invariant in
-    let went = inv.went.0 in
+    let went = inv.went.0.0 in
     let old : Seen = seen g.P.Port g.S.Scribe (c.args.port.now, c.args.scribe.now) in
     let mid : Seen = seen g.P.Port g.S.Scribe (c.loop.port, c.loop.scribe) in
     let new : Seen = seen g.P.Port g.S.Scribe (c.turn.new.port, c.turn.new.scribe) in
@@ -77,12 +92,68 @@ returns-in-Err g c =
     let cut : TurnsCut c.in-Err.fault model old new c.turn.new.self.state =
     either (is_worn c.loop.drive)
     (λ worn. let k = c.in-Err.ensures.spent inv.calm worn in
-    cut-spent model old mid new c.loop.drive c.turn.new.self.state c.in-Err.fault went inv.went.1 worn
+    cut-spent model old mid new c.loop.drive c.turn.new.self.state c.in-Err.fault went inv.went.0.1 worn
     (λ i. seen g.P.Port g.S.Scribe (k.2 i, k.3 i)) k.1 (same-fault k.0))
     (λ fresh. let w = c.in-Err.ensures.went inv.calm fresh in
     let tied = tied-next g.P.Port g.S.Scribe Point.Accepting _ model old c.loop.drive c.turn.new.self c.loop.port c.turn.new.port
     c.loop.scribe
-    c.turn.new.scribe c.loop.turns inv.went w in
+    c.turn.new.scribe c.loop.turns inv.went.0 w in
     cut-else c.in-Err.fault model old new c.turn.new.self.state c.loop.drive.state w.added w.does
     (turns-next _ model old mid new c.loop.drive c.turn.new.self _ _ went w (cut-begins w.does) tied)) in
     rw c.requires.new_drive cut
+
+-- What hooks asked by their plans
+
+pub returns-then-not-has_open_links-clause-asked : goal.returns-then-not-has_open_links-clause-asked
+returns-then-not-has_open_links-clause-asked g c = λ lasted.
+    let inv = c.loop.invariant in
+    asked-told
+    (telling (λ h. (goal.Hook-dyn g (h.vtable, h.value)).heard h.value) (λ h. (goal.Hook-dyn g (h.vtable, h.value)).asked h.value)
+    (λ h. (goal.Hook-dyn g (h.vtable, h.value)).planned h.value))
+    c.args.seats.now.hooks.items c.loop.seats.hooks.items c.loop.seats.gone.items inv.went.0.0.added
+    (g.S.Scribe.trace c.args.scribe.now) (g.S.Scribe.trace c.loop.scribe) inv.went.0.0.list inv.went.1
+
+pub returns-in-Ok-Stopped-clause-asked : goal.returns-in-Ok-Stopped-clause-asked
+returns-in-Ok-Stopped-clause-asked g c = λ lasted.
+    let inv = c.loop.invariant in
+    let t = inv.went.0.0.added in
+    let old : Option Trace = g.S.Scribe.trace c.args.scribe.now in
+    let mid : Option Trace = g.S.Scribe.trace c.loop.scribe in
+    let new : Option Trace = g.S.Scribe.trace c.turn.new.scribe in
+    let fresh : is_worn c.loop.drive ≡ false =
+    unworn (is_worn c.loop.drive) (λ h. let k = c.in-Ok-Stopped.ensures.spent inv.calm h in absurd (cc)) in
+    let w = c.in-Ok-Stopped.ensures.went inv.calm fresh in
+    let first = c.args.seats.now.hooks.items in
+    asked-told
+    (telling (λ h. (goal.Hook-dyn g (h.vtable, h.value)).heard h.value) (λ h. (goal.Hook-dyn g (h.vtable, h.value)).asked h.value)
+    (λ h. (goal.Hook-dyn g (h.vtable, h.value)).planned h.value))
+    first c.turn.new.seats.hooks.items c.turn.new.seats.gone.items (t ++ w.added) old new
+    (Grew-join old mid new t w.added inv.went.0.0.list w.list)
+    (told-on
+    (telling (λ h. (goal.Hook-dyn g (h.vtable, h.value)).heard h.value) (λ h. (goal.Hook-dyn g (h.vtable, h.value)).asked h.value)
+    (λ h. (goal.Hook-dyn g (h.vtable, h.value)).planned h.value))
+    first c.loop.seats.hooks.items c.loop.seats.gone.items c.turn.new.seats.hooks.items c.turn.new.seats.gone.items t w.added
+    (t ++ w.added) refl inv.went.1 w.hooked)
+
+pub returns-in-Err-clause-asked : goal.returns-in-Err-clause-asked
+returns-in-Err-clause-asked g c = λ lasted.
+    let inv = c.loop.invariant in
+    let went = inv.went.0.0 in
+    let t = went.added in
+    let old : Option Trace = g.S.Scribe.trace c.args.scribe.now in
+    let mid : Option Trace = g.S.Scribe.trace c.loop.scribe in
+    let new : Option Trace = g.S.Scribe.trace c.turn.new.scribe in
+    let first = c.args.seats.now.hooks.items in
+    either (is_worn c.loop.drive)
+    (λ worn. let k = c.in-Err.ensures.spent inv.calm worn in
+    asked-told
+    (telling (λ h. (goal.Hook-dyn g (h.vtable, h.value)).heard h.value) (λ h. (goal.Hook-dyn g (h.vtable, h.value)).asked h.value)
+    (λ h. (goal.Hook-dyn g (h.vtable, h.value)).planned h.value))
+    first c.loop.seats.hooks.items c.loop.seats.gone.items t old new
+    (subst (λ s. Grew old (g.S.Scribe.trace s) t) (sym k.3) went.list) inv.went.1)
+    (λ fresh. let w = c.in-Err.ensures.went inv.calm fresh in
+    asked-cut
+    (telling (λ h. (goal.Hook-dyn g (h.vtable, h.value)).heard h.value) (λ h. (goal.Hook-dyn g (h.vtable, h.value)).asked h.value)
+    (λ h. (goal.Hook-dyn g (h.vtable, h.value)).planned h.value))
+    first c.loop.seats.hooks.items c.loop.seats.gone.items c.in-Err.fault t w.added c.loop.drive.state c.turn.new.self.state old new
+    (Grew-join old mid new t w.added went.list w.list) (λ is. lasted (ap status_of is)) w.does inv.went.1)
