@@ -3,6 +3,7 @@ ghost use Rattle.std.specs.Prelude.{◌≡◌};
 ghost use Rattle.ev_types.specs.Usual.{no_marks, no_timeouts, usual};
 
 use crate::filter::FilterKind;
+use token_bucket::LimitCfg;
 
 /// Marks of a side, in bytes. A high mark of 0 is none.
 ///
@@ -54,8 +55,9 @@ impl Timeouts {
     }
 }
 
-/// What a run is started with: its hold mark in bytes, the filters, marks and timeouts of its In and Out sides, and how many links
-/// are opened at most. What is read at a side goes through its read filter, and what is given to it through its write filter. Marks are at most 2^24, timeouts at most 2^40 ms; nothing else is asked of them.
+/// What a run is started with: its hold mark in bytes, the filters, limits, marks and timeouts of its In and Out sides, and how many
+/// links are opened at most. What is read at a side goes through its read filter, and what is given to it through its write filter. A
+/// limit is each side's own; None is no limit. Marks are at most 2^24, timeouts at most 2^40 ms; nothing else is asked of them.
 ///
 /// Own; the hold mark is that of libevent's sample le-proxy.
 #[derive(Clone, Copy, Debug, PartialEq, Eq)]
@@ -65,6 +67,8 @@ pub struct Settings {
     pub in_write: FilterKind,
     pub out_read: FilterKind,
     pub out_write: FilterKind,
+    pub in_rate: Option<LimitCfg>,
+    pub out_rate: Option<LimitCfg>,
     pub in_marks: Marks,
     pub out_marks: Marks,
     pub in_timeouts: Timeouts,
@@ -73,7 +77,7 @@ pub struct Settings {
 }
 
 impl Settings {
-    /// A hold mark of 524,288 bytes, no filters, no marks, no timeouts, and 256 links. Takes no memory; constant cost.
+    /// A hold mark of 524,288 bytes, no filters, limits, marks and timeouts, and 256 links. Takes no memory; constant cost.
     pub fn usual() -> Settings
         ensures { result ≡ usual }
     {
@@ -83,6 +87,8 @@ impl Settings {
             in_write: FilterKind::None,
             out_read: FilterKind::None,
             out_write: FilterKind::None,
+            in_rate: None,
+            out_rate: None,
             in_marks: Marks::none(),
             out_marks: Marks::none(),
             in_timeouts: Timeouts::none(),

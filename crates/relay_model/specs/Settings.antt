@@ -33,7 +33,7 @@ pub record Settings : Type 0 where
   pub links : ℕ  -- the greatest number of links
   pub hooks : List SideId  -- the sides with a hook
 
--- what a run is started with, and no limits, groups and hooks
+-- what a run is started with, and no groups and hooks
 abbrev pub model_settings : code.Settings → Settings
 model_settings g = record {
   hold = g.hold;
@@ -41,8 +41,8 @@ model_settings g = record {
   in_write = g.in_write;
   out_read = g.out_read;
   out_write = g.out_write;
-  in_rate = None;
-  out_rate = None;
+  in_rate = g.in_rate;
+  out_rate = g.out_rate;
   groups = [];
   in_group = None;
   out_group = None;
