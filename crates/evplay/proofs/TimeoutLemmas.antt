@@ -28,7 +28,7 @@ use Rattle.script_text.specs.Numbers.{number_within, bytes_of}
 use Rattle.script_text.specs.FilterNames.{filter_kind_of}
 use Rattle.script_text.specs.Ends.{link_of, end_of, side_of}
 use Rattle.script_text.specs.Limits.{limit_said}
-use Rattle.script_text.specs.declared.limits.GroupSet.{GroupSet}
+use Rattle.script_text.specs.declared.groups.GroupSet.{GroupSet}
 use Rattle.ev_types.specs.declared.plan_line.PlanLine.{PlanLine}
 use Rattle.script_text.specs.ValueGrammar.{why_kind_of}
 use Rattle.script_text.specs.ActGrammar.{planned_ask}
@@ -187,13 +187,13 @@ with-short g new (setting.Marks Out m) is k h = once-short g.out_marks (record g
 with-short g new (setting.Timeouts In t) is k h = once-short g.in_timeouts (record g { in_timeouts = Some t }) new (is, k.1) h
 with-short g new (setting.Timeouts Out t) is k h = once-short g.out_timeouts (record g { out_timeouts = Some t }) new (k.0, is) h
 with-short g new (setting.Rate In l) is k h =
-    once-short g.limits.in_rate (record g { limits = record g.limits { in_rate = Some l } }) new k h
+    once-short g.in_rate (record g { in_rate = Some l }) new k h
 with-short g new (setting.Rate Out l) is k h =
-    once-short g.limits.out_rate (record g { limits = record g.limits { out_rate = Some l } }) new k h
+    once-short g.out_rate (record g { out_rate = Some l }) new k h
 with-short g new (setting.Member In n) is k h =
-    once-short g.limits.in_group (record g { limits = record g.limits { in_group = Some n } }) new k h
+    once-short g.members.in_group (record g { members = record g.members { in_group = Some n } }) new k h
 with-short g new (setting.Member Out n) is k h =
-    once-short g.limits.out_group (record g { limits = record g.limits { out_group = Some n } }) new k h
+    once-short g.members.out_group (record g { members = record g.members { out_group = Some n } }) new k h
 with-short g new (setting.Group n x) is k h = subst GivenShort (some-is g new h) k
 
 extended-short : (s new : SoFar) (x : Line) → SetsShort x → AllShort s → extended s x ≡ Some new → AllShort new

@@ -14,7 +14,7 @@ use Rattle.relay_model.specs.Called.{NamesOpened}
 use Rattle.script_port.specs.ScriptPort.{new_port}
 use Rattle.script_port.specs.ScriptState.{PortState}
 use Rattle.script_port.specs.ScriptVouched.{ScriptVouches}
-use Rattle.script_text.specs.Given.{no_limits}
+use Rattle.script_text.specs.Given.{no_members}
 use Rattle.script_text.specs.Script.{ScriptValue}
 use Rattle.ev_types.specs.declared.status.Status.{Status}
 use Rattle.ev_types.specs.declared.status.Status.TheVariants as status
@@ -45,7 +45,7 @@ refused_by other = Err other
 
 -- the script with these plans that a port plays under these settings
 abbrev pub script_over : Settings → List (SideId × PlanLine) → PortState → ScriptValue
-script_over settings plans p = record { settings = settings; limits = no_limits; groups = []; plans = plans; turns = p.turns }
+script_over settings plans p = record { settings = settings; members = no_members; groups = []; plans = plans; turns = p.turns }
 
 -- A run of so many turns may begin over a port: it plays a script of so many, none of which it has begun; the script names only links
 -- that it opens, and what it brings in and the timeouts can be counted.

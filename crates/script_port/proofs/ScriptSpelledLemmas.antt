@@ -18,7 +18,7 @@ use Rattle.script_text.specs.declared.setting.Given.{Given}
 use Rattle.script_text.specs.Script.{SoFar}
 use Rattle.script_text.specs.Pieces.{lines, words}
 use Rattle.script_text.specs.Grammar.{said}
-use Rattle.script_text.specs.declared.limits.GroupSet.{GroupSet}
+use Rattle.script_text.specs.declared.groups.GroupSet.{GroupSet}
 use Rattle.script_text.specs.Order.{opened_links, opened, is_ended, is_known, may_follow, with_line, may_be_set, group_set, extended}
 use Rattle.script_text.specs.Spelled.{is_plain, line_read, going_on, lines_read, no_line}
 use Rattle.script_text.proofs.LawLemmas.{script_of-read}

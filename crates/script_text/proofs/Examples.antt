@@ -6,7 +6,7 @@ use Rattle.ev_types.specs.declared.side.Side.TheVariants.{In, Out}
 use Rattle.ev_types.specs.declared.side.SideId.{SideId}
 use Rattle.ev_types.specs.declared.turn_line.TurnLine.TheVariants.{NewLink, Conn, Pending, Eof, ReadFail, Take, WriteFail, Spur, PollFail}
 use Rattle.ev_types.specs.Usual.{no_marks, no_timeouts, usual}
-use Rattle.script_text.specs.Given.{no_limits}
+use Rattle.script_text.specs.Given.{no_members}
 use Rattle.script_text.specs.Pieces.{lines, words}
 use Rattle.script_text.specs.Numbers.{number_within}
 use Rattle.script_text.specs.Spelled.{script_of}
@@ -41,7 +41,7 @@ pub known_script : script_of
     "eof 0 in" ∷ []))
     ≡ Ok (record {
       settings = usual;
-      limits = no_limits;
+      members = no_members;
       groups = [];
       plans = [];
       turns = (5, NewLink false ∷ Take out_end None ∷ Pending in_end (97 ∷ 255 ∷ []) ∷ []) ∷ (3, Eof in_end ∷ []) ∷ [];
@@ -54,7 +54,7 @@ pub known_faults : script_of
     "wfail 0 in" ∷ codes "spur 0 out" ∷ codes "pollfail" ∷ []))
     ≡ Ok (record {
       settings = usual;
-      limits = no_limits;
+      members = no_members;
       groups = [];
       plans = [];
       turns = (
@@ -76,13 +76,15 @@ pub known_settings : script_of
         in_write = kind.None;
         out_read = kind.None;
         out_write = kind.ToCrlf;
+        in_rate = None;
+        out_rate = None;
         in_marks = no_marks;
         out_marks = record { read_low = 0; read_high = 1; write_low = 2; write_high = 16777216 };
         in_timeouts = record { read_ms = 0; write_ms = 1099511627776 };
         out_timeouts = no_timeouts;
         links = 256;
       };
-      limits = no_limits;
+      members = no_members;
       groups = [];
       plans = [];
       turns = (5, []) ∷ [];

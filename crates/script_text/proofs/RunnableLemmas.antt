@@ -1,6 +1,6 @@
--- A text none of whose lines is for later spells a script with no limit, group and member, and none in what is planned.
+-- A text none of whose lines is for later spells a script with no group and member, and none in what is planned.
 use Rattle.std.proofs.Common.{◌≡◌, ◌+◌, arith, Bool, true, false, ◌||◌, not, List, [], ◌∷◌, ◌++◌, length, Option, Some, None, Result, Ok}
-use Rattle.std.proofs.Common.{Err, refl, ap, sym, subst, ◌∙◌, if◌then◌else◌, ◌&&◌}
+use Rattle.std.proofs.Common.{Err, refl, subst, ◌∙◌, if◌then◌else◌, ◌&&◌}
 use Rattle.std.specs.Prelude.{ℕ, ◌^◌, ◌-◌, min, nat_lt, IfOk, option_map, option_and_then}
 use Rattle.std.specs.List.{All, list_all}
 use Rattle.std.proofs.lemmas.List.Elements.{All-nil, All-cons, All-append}
@@ -14,8 +14,8 @@ use Rattle.script_text.specs.declared.line.Line.TheVariants as line
 use Rattle.script_text.specs.declared.setting.Setting.{Setting}
 use Rattle.script_text.specs.declared.setting.Setting.TheVariants as setting
 use Rattle.script_text.specs.declared.setting.Given.{Given}
-use Rattle.script_text.specs.Given.{no_limits, once, with_setting}
-use Rattle.script_text.specs.Script.{ScriptValue, SoFar, whole}
+use Rattle.script_text.specs.Given.{no_members, once, with_setting}
+use Rattle.script_text.specs.Script.{ScriptValue, SoFar}
 use Rattle.script_text.specs.Pieces.{lines, words}
 use Rattle.script_text.specs.Grammar.{said}
 use Rattle.script_text.specs.Order.{group_set, may_be_set, may_follow, with_line, extended}
@@ -34,19 +34,19 @@ none-some a h = absurd (cc h)
 abbrev IsPlannedNow : SideId × PlanLine → Type 0
 IsPlannedNow x = is_act_for_later x.1.act ≡ false
 
--- so far no line of limits, groups and members was read, and none of a plan that asks for such
+-- so far no line of groups and members was read, and none of a plan that joins or leaves one
 record IsBare (s : SoFar) : Type 0 where
-  pub limits : s.given.limits ≡ no_limits
+  pub members : s.given.members ≡ no_members
   pub groups : s.groups ≡ []
   pub plans : All IsPlannedNow s.plans
 
-once-bare : {A : Type 0} (before : Option A) (longer new : Given) → longer.limits ≡ no_limits → once before longer ≡ Some new →
-    new.limits ≡ no_limits
-once-bare None longer new g h = subst (λ (z : Given). z.limits ≡ no_limits) (some-is longer new h) g
+once-bare : {A : Type 0} (before : Option A) (longer new : Given) → longer.members ≡ no_members → once before longer ≡ Some new →
+    new.members ≡ no_members
+once-bare None longer new g h = subst (λ (z : Given). z.members ≡ no_members) (some-is longer new h) g
 once-bare (Some x) longer new g h = none-some new h
 
-with-bare : (g new : Given) (s : Setting) → is_for_later (line.Set s) ≡ false → g.limits ≡ no_limits → with_setting g s ≡ Some new →
-    (new.limits ≡ no_limits) × (group_set s ≡ [])
+with-bare : (g new : Given) (s : Setting) → is_for_later (line.Set s) ≡ false → g.members ≡ no_members → with_setting g s ≡ Some new →
+    (new.members ≡ no_members) × (group_set s ≡ [])
 with-bare g new (setting.Hold n) is k h = (once-bare g.hold (record g { hold = Some n }) new k h, refl)
 with-bare g new (setting.Filter In Read f) is k h = (once-bare g.in_read (record g { in_read = Some f }) new k h, refl)
 with-bare g new (setting.Filter In Write f) is k h = (once-bare g.in_write (record g { in_write = Some f }) new k h, refl)
@@ -56,7 +56,8 @@ with-bare g new (setting.Marks In m) is k h = (once-bare g.in_marks (record g { 
 with-bare g new (setting.Marks Out m) is k h = (once-bare g.out_marks (record g { out_marks = Some m }) new k h, refl)
 with-bare g new (setting.Timeouts In t) is k h = (once-bare g.in_timeouts (record g { in_timeouts = Some t }) new k h, refl)
 with-bare g new (setting.Timeouts Out t) is k h = (once-bare g.out_timeouts (record g { out_timeouts = Some t }) new k h, refl)
-with-bare g new (setting.Rate side limit) is k h = absurd (cc is)
+with-bare g new (setting.Rate In l) is k h = (once-bare g.in_rate (record g { in_rate = Some l }) new k h, refl)
+with-bare g new (setting.Rate Out l) is k h = (once-bare g.out_rate (record g { out_rate = Some l }) new k h, refl)
 with-bare g new (setting.Group number group) is k h = absurd (cc is)
 with-bare g new (setting.Member side number) is k h = absurd (cc is)
 
@@ -71,29 +72,29 @@ extended-bare s new (line.Set setting) is k h =
     go true o e p = none-some new p
     go false None e p = none-some new p
     go false (Some g) e p =
-        let both = with-bare s.given g setting is k.limits e in
+        let both = with-bare s.given g setting is k.members e in
         let longer : SoFar = record s { given = g; groups = s.groups ++ group_set setting } in
-        let bare : IsBare longer = record { limits = both.0; groups = rw (k.groups, both.1) refl; plans = k.plans } in
+        let bare : IsBare longer = record { members = both.0; groups = rw (k.groups, both.1) refl; plans = k.plans } in
         subst IsBare (some-is longer new p) bare
 extended-bare s new (line.Plan side item) is k h = go (nat_lt 0 (length s.turns)) h
   where
     go : (b : Bool) → (if b then None else Some (record s { plans = s.plans ++ (side, item) ∷ [] })) ≡ Some new → IsBare new
     go true p = none-some new p
     go false p = subst IsBare (some-is _ new p) (record {
-      limits = k.limits;
+      members = k.members;
       groups = k.groups;
       plans = All-append IsPlannedNow s.plans ((side, item) ∷ []) k.plans (All-cons IsPlannedNow (side, item) [] is (All-nil IsPlannedNow));
     })
 extended-bare s new (line.At ms) is k h = go (nat_lt (length s.turns) 20000) h
   where
     go : (b : Bool) → (if b then Some (record s { turns = s.turns ++ (ms, []) ∷ [] }) else None) ≡ Some new → IsBare new
-    go true p = subst IsBare (some-is _ new p) (record { limits = k.limits; groups = k.groups; plans = k.plans })
+    go true p = subst IsBare (some-is _ new p) (record { members = k.members; groups = k.groups; plans = k.plans })
     go false p = none-some new p
 extended-bare s new line.Skipped is k h = subst IsBare (some-is s new h) k
 extended-bare s new (line.Within x) is k h = go (nat_lt 0 (length s.turns) && may_follow (lines_of s.turns) x) h
   where
     go : (b : Bool) → (if b then Some (record s { turns = with_line s.turns x }) else None) ≡ Some new → IsBare new
-    go true p = subst IsBare (some-is _ new p) (record { limits = k.limits; groups = k.groups; plans = k.plans })
+    go true p = subst IsBare (some-is _ new p) (record { members = k.members; groups = k.groups; plans = k.plans })
     go false p = none-some new p
 
 line-bare : (s new : SoFar) (text : List ℕ) → says_later (said (words text)) ≡ false → IsBare s → line_read s text ≡ Some new → IsBare new
@@ -125,9 +126,9 @@ pub none-for-later : (text : List ℕ) (script : ScriptValue) → first_for_late
     IsRunnable script
 none-for-later text script none h =
     let read = script_of-read text script h in
-    let start : IsBare no_line = record { limits = refl; groups = refl; plans = All-nil IsPlannedNow } in
+    let start : IsBare no_line = record { members = refl; groups = refl; plans = All-nil IsPlannedNow } in
     let bare = lines-bare (lines text) no_line read.so_far 0 none start read.read in
-    subst IsRunnable read.is (record { limits = bare.limits; groups = bare.groups; plans = bare.plans })
+    subst IsRunnable read.is (record { members = bare.members; groups = bare.groups; plans = bare.plans })
 
 -- a text that spells a script is refused at its line for later
 pub told-later : (line told : ℕ) (r : Result ScriptValue ℕ) (script : ScriptValue) → told ≡ min line (2 ^ 32 - 1) → r ≡ Ok script →

@@ -6,12 +6,12 @@ use Rattle.ev_types.specs.declared.settings.Settings.{Settings}
 use Rattle.ev_types.specs.Usual.{usual}
 use Rattle.script_text.specs.declared.setting.Setting.{Setting}
 use Rattle.script_text.specs.declared.setting.Setting.TheVariants.{Hold, Filter, Marks, Timeouts, Rate, Group, Member}
-use Rattle.script_text.specs.declared.limits.Limits.{Limits}
+use Rattle.script_text.specs.declared.groups.Members.{Members}
 use Rattle.script_text.specs.declared.setting.Given.{Given}
 
--- no side has a limit or a group
-abbrev pub no_limits : Limits
-no_limits = record { in_rate = None; out_rate = None; in_group = None; out_group = None }
+-- no side has a group
+abbrev pub no_members : Members
+no_members = record { in_group = None; out_group = None }
 
 -- no line has set anything
 abbrev pub nothing_given : Given
@@ -25,7 +25,9 @@ nothing_given = record {
   out_marks = None;
   in_timeouts = None;
   out_timeouts = None;
-  limits = no_limits;
+  in_rate = None;
+  out_rate = None;
+  members = no_members;
 }
 
 -- what is given with a line more, where that line's setting was not given before
@@ -46,10 +48,10 @@ with_setting g (Marks In marks) = once g.in_marks (record g { in_marks = Some ma
 with_setting g (Marks Out marks) = once g.out_marks (record g { out_marks = Some marks })
 with_setting g (Timeouts In timeouts) = once g.in_timeouts (record g { in_timeouts = Some timeouts })
 with_setting g (Timeouts Out timeouts) = once g.out_timeouts (record g { out_timeouts = Some timeouts })
-with_setting g (Rate In limit) = once g.limits.in_rate (record g { limits = record g.limits { in_rate = Some limit } })
-with_setting g (Rate Out limit) = once g.limits.out_rate (record g { limits = record g.limits { out_rate = Some limit } })
-with_setting g (Member In group) = once g.limits.in_group (record g { limits = record g.limits { in_group = Some group } })
-with_setting g (Member Out group) = once g.limits.out_group (record g { limits = record g.limits { out_group = Some group } })
+with_setting g (Rate In limit) = once g.in_rate (record g { in_rate = Some limit })
+with_setting g (Rate Out limit) = once g.out_rate (record g { out_rate = Some limit })
+with_setting g (Member In group) = once g.members.in_group (record g { members = record g.members { in_group = Some group } })
+with_setting g (Member Out group) = once g.members.out_group (record g { members = record g.members { out_group = Some group } })
 with_setting g (Group number group) = Some g
 
 -- the settings of a run: what was given, and the usual ones where nothing was
@@ -60,6 +62,8 @@ settings_by g = record usual {
   in_write = unwrap_or g.in_write usual.in_write;
   out_read = unwrap_or g.out_read usual.out_read;
   out_write = unwrap_or g.out_write usual.out_write;
+  in_rate = g.in_rate;
+  out_rate = g.out_rate;
   in_marks = unwrap_or g.in_marks usual.in_marks;
   out_marks = unwrap_or g.out_marks usual.out_marks;
   in_timeouts = unwrap_or g.in_timeouts usual.in_timeouts;

@@ -1,28 +1,26 @@
--- The lines of a script that no run obeys yet: those of limits, groups and members, and plans that ask for such. Until it does, a script is refused at the first
--- of them.
+-- The lines of a script that no run obeys yet: those of groups and members, and plans that join or leave one. Until it does, a script
+-- is refused at the first of them.
 use Rattle.std.specs.Prelude.{◌≡◌, ℕ, ◌+◌, min, List, [], ◌∷◌, Bool, true, false, if◌then◌else◌, Option, Some, None, Result, Ok, Err}
 use Rattle.std.specs.List.{All}
 use Rattle.ev_types.specs.declared.act.Act.{Act}
 use Rattle.ev_types.specs.declared.act.Act.TheVariants as act
 use Rattle.script_text.specs.declared.line.Line.{Line}
 use Rattle.script_text.specs.declared.line.Line.TheVariants.{Set, Plan}
-use Rattle.script_text.specs.declared.setting.Setting.TheVariants.{Rate, Group, Member}
-use Rattle.script_text.specs.Given.{no_limits}
+use Rattle.script_text.specs.declared.setting.Setting.TheVariants.{Group, Member}
+use Rattle.script_text.specs.Given.{no_members}
 use Rattle.script_text.specs.Script.{ScriptValue}
 use Rattle.script_text.specs.Pieces.{lines, words}
 use Rattle.script_text.specs.Grammar.{said}
 use Rattle.script_text.specs.Spelled.{script_of}
 
--- is something planned that no run does yet: a limit, or joining or leaving a group
+-- is something planned that no run does yet: joining or leaving a group
 abbrev pub is_act_for_later : Option Act → Bool
-is_act_for_later (Some (act.Rate end limit)) = true
 is_act_for_later (Some (act.Join end group)) = true
 is_act_for_later (Some (act.Leave end)) = true
 is_act_for_later _ = false
 
 -- does a line say what no run obeys yet
 abbrev pub is_for_later : Line → Bool
-is_for_later (Set (Rate side limit)) = true
 is_for_later (Set (Group number group)) = true
 is_for_later (Set (Member side number)) = true
 is_for_later (Plan side item) = is_act_for_later item.act
@@ -48,8 +46,8 @@ refused_at (Some line) (Err bad) = Err (min line bad)
 abbrev pub runnable_script_of : List ℕ → Result ScriptValue ℕ
 runnable_script_of text = refused_at (first_for_later 0 (lines text)) (script_of text)
 
--- a script with no limit, group and member, and none in what is planned
+-- a script with no group and member, and none in what is planned
 pub record IsRunnable (script : ScriptValue) : Type 0 where
-  pub limits : script.limits ≡ no_limits
+  pub members : script.members ≡ no_members
   pub groups : script.groups ≡ []
   pub plans : All (λ x. is_act_for_later x.1.act ≡ false) script.plans

@@ -3,17 +3,17 @@ use Rattle.std.specs.Prelude.{List}
 use Rattle.ev_types.specs.ScriptTurn.{ScriptTurn}
 use Rattle.ev_types.specs.declared.settings.Settings.{Settings}
 use Rattle.ev_types.specs.declared.side.SideId.{SideId}
-use Rattle.script_text.specs.declared.limits.Limits.{Limits}
-use Rattle.script_text.specs.declared.limits.GroupSet.{GroupSet}
+use Rattle.script_text.specs.declared.groups.Members.{Members}
+use Rattle.script_text.specs.declared.groups.GroupSet.{GroupSet}
 use Rattle.ev_types.specs.declared.plan_line.PlanLine.{PlanLine}
 use Rattle.script_text.specs.declared.setting.Given.{Given}
 use Rattle.script_text.specs.Given.{settings_by}
 
--- the settings and limits that its lines give, the groups by their numbers, what is planned for the hooks of sides, and the turns, in
+-- the settings that its lines give, who is in which group, the groups by their numbers, what is planned for the hooks of sides, and the turns, in
 -- their order
 pub record ScriptValue : Type 0 where
   pub settings : Settings
-  pub limits : Limits
+  pub members : Members
   pub groups : List GroupSet
   pub plans : List (SideId × PlanLine)
   pub turns : List ScriptTurn
@@ -29,7 +29,7 @@ pub record SoFar : Type 0 where
 abbrev pub whole : SoFar → ScriptValue
 whole so_far = record {
   settings = settings_by so_far.given;
-  limits = so_far.given.limits;
+  members = so_far.given.members;
   groups = so_far.groups;
   plans = so_far.plans;
   turns = so_far.turns;

@@ -12,7 +12,7 @@ turn_values turns = map (λ turn. (turn.0, turn.1.items)) turns
 abbrev pub script_value : Inside → ScriptValue
 script_value s = record {
   settings = s.settings;
-  limits = s.limits;
+  members = s.members;
   groups = s.groups.items;
   plans = s.plans.items;
   turns = turn_values s.turns.items;

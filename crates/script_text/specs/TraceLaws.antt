@@ -4,7 +4,6 @@ use Rattle.std.specs.Prelude.{Err}
 use Rattle.hex.specs.Hex.{IsBytes}
 use Rattle.ev_types.specs.declared.side.Side.{Side}
 use Rattle.ev_types.specs.declared.side.Side.TheVariants as side
-use Rattle.ev_types.specs.declared.side.SideId.{SideId}
 use Rattle.ev_types.specs.declared.why.Why.{Why}
 use Rattle.ev_types.specs.declared.why.Why.TheVariants as why
 use Rattle.ev_types.specs.declared.why.Cause.{Cause}

@@ -5,8 +5,8 @@ mod act_text;
 mod act_words;
 mod entry_text;
 mod entry_words;
+mod groups;
 mod laws;
-mod limits;
 mod line;
 mod plan;
 mod push;
@@ -27,11 +27,11 @@ pub use entry_text::put_entry;
 pub use ev_types::{
     ByteList, LinkCount as LinkLine, Marks, PlanLine, Settings, Timeouts, TurnLine,
 };
+pub use groups::{GroupSet, Members};
 pub use laws::{
     lines_are_parted, numbers_are_decimal, phrase_has_its_words, refused_at_first_bad,
     trace_refused_at_first_bad, written_is_read,
 };
-pub use limits::{GroupSet, Limits};
 pub use read::read_script;
 pub use room::{LINE_ROOM, make_room};
 pub use runnable::read_runnable_script;

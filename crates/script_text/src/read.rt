@@ -7,7 +7,7 @@ ghost use Rattle.script_text.specs.Order.{extended, may_be_set, with_line, may_f
 ghost use Rattle.script_text.specs.Script.{whole};
 ghost use Rattle.script_text.specs.Spelled.{line_read, no_line, script_of, IsTold};
 
-use crate::limits::GroupSet;
+use crate::groups::GroupSet;
 use crate::line::{Line, line_of};
 use crate::setting::{Given, Setting};
 use crate::tally::{count_line, count_link, kept};
@@ -206,7 +206,7 @@ impl Reading {
     {
         Script {
             settings: self.given.settings(),
-            limits: self.given.limits,
+            members: self.given.members,
             groups: self.groups,
             plans: self.plans,
             turns: self.turns,

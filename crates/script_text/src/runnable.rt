@@ -1,4 +1,4 @@
-// Reads a script of which a run obeys each line: none of limits, groups and members, and no plan that asks for such.
+// Reads a script of which a run obeys each line: none of groups and members, and no plan that joins or leaves one.
 ghost use Rattle.std.specs.Prelude.{◌≡◌, ◌≤◌, ◌*◌, Some, length, IfOk, IfErr};
 ghost use Rattle.ev_types.specs.ScriptTurn.{lines_of};
 ghost use Rattle.script_text.specs.Brought.{all_brought};
@@ -15,8 +15,8 @@ use crate::{Script, ScriptFault};
 use ev_types::{Act, NoMemory};
 use std::alloc::Global;
 
-/// Reads a whole script, as `read_script`, and refuses it also at its first line of a limit, a group or a member, or of a plan
-/// that asks for such, which no run obeys yet. Takes the memory that `read_script` takes, and twice its time.
+/// Reads a whole script, as `read_script`, and refuses it also at its first line of a group or a member, or of a plan
+/// that joins or leaves one, which no run obeys yet. Takes the memory that `read_script` takes, and twice its time.
 ///
 /// Own.
 pub fn read_runnable_script(alloc: Global, text: &[u8]) -> Result<Script, ScriptFault>
@@ -75,14 +75,14 @@ fn is_line_for_later(alloc: Global, text: &[u8]) -> Result<bool, NoMemory>
 fn is_act_for_later(act: &Option<Act>) -> bool
     ensures { result ≡ is_act_for_later act.now }
 {
-    matches!(act, Some(Act::Rate(..) | Act::Join(..) | Act::Leave(_)))
+    matches!(act, Some(Act::Join(..) | Act::Leave(_)))
 }
 
 fn is_for_later(line: &Line) -> bool
     ensures { result ≡ is_for_later line.now }
 {
     match line {
-        Line::Set(Setting::Rate(..) | Setting::Group(..) | Setting::Member(..)) => true,
+        Line::Set(Setting::Group(..) | Setting::Member(..)) => true,
         Line::Plan(_, item) => is_act_for_later(&item.act),
         _ => false,
     }

@@ -3,20 +3,20 @@
 ghost use Rattle.std.specs.Prelude.{◌≡◌};
 ghost use Rattle.script_text.specs.declared.script.ScriptFault.TheVariants.{Memory};
 
-use crate::limits::{GroupSet, Limits};
+use crate::groups::{GroupSet, Members};
 use ev_types::{NoMemory, PlanLine, Settings, SideId, TurnLine};
 use std::alloc::{AllocError, AllocFailed};
 use std::marker::Model;
 use thiserror::Error;
 
-/// A script: the settings of its run, its limits and groups, what is planned for its hooks, and its turns, each with its moment in
+/// A script: the settings of its run, its groups and who is in them, what is planned for its hooks, and its turns, each with its moment in
 /// milliseconds and its lines.
 ///
 /// Own.
 #[derive(Drop)]
 pub struct Script {
     pub settings: Settings,
-    pub limits: Limits,
+    pub members: Members,
     /// The groups, by their numbers.
     pub groups: Vec<GroupSet>,
     /// What is planned for the hooks of sides, in the order of its lines. A side of which nothing is planned has no hook.

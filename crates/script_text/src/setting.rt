@@ -2,7 +2,7 @@
 ghost use Rattle.std.specs.Prelude.{◌≡◌, Some, None, is_none, if◌then◌else◌};
 ghost use Rattle.script_text.specs.Given.{nothing_given, settings_by, with_setting};
 
-use crate::limits::{GroupSet, Limits};
+use crate::groups::{GroupSet, Members};
 use ev_types::{Dir, FilterKind, LimitCfg, Marks, Settings, Side, Timeouts};
 
 /// Which setting a line names.
@@ -52,7 +52,9 @@ pub struct Given {
     pub out_marks: Option<Marks>,
     pub in_timeouts: Option<Timeouts>,
     pub out_timeouts: Option<Timeouts>,
-    pub limits: Limits,
+    pub in_rate: Option<LimitCfg>,
+    pub out_rate: Option<LimitCfg>,
+    pub members: Members,
 }
 
 impl Given {
@@ -70,7 +72,9 @@ impl Given {
             out_marks: None,
             in_timeouts: None,
             out_timeouts: None,
-            limits: Limits::none(),
+            in_rate: None,
+            out_rate: None,
+            members: Members::none(),
         }
     }
 
@@ -88,10 +92,10 @@ impl Given {
             Setting::Marks(Side::Out, marks) => give(&mut self.out_marks, marks),
             Setting::Timeouts(Side::In, timeouts) => give(&mut self.in_timeouts, timeouts),
             Setting::Timeouts(Side::Out, timeouts) => give(&mut self.out_timeouts, timeouts),
-            Setting::Rate(Side::In, limit) => give(&mut self.limits.in_rate, limit),
-            Setting::Rate(Side::Out, limit) => give(&mut self.limits.out_rate, limit),
-            Setting::Member(Side::In, group) => give(&mut self.limits.in_group, group),
-            Setting::Member(Side::Out, group) => give(&mut self.limits.out_group, group),
+            Setting::Rate(Side::In, limit) => give(&mut self.in_rate, limit),
+            Setting::Rate(Side::Out, limit) => give(&mut self.out_rate, limit),
+            Setting::Member(Side::In, group) => give(&mut self.members.in_group, group),
+            Setting::Member(Side::Out, group) => give(&mut self.members.out_group, group),
             Setting::Group(..) => true,
         }
     }
@@ -107,6 +111,8 @@ impl Given {
             in_write: self.in_write.unwrap_or(usual.in_write),
             out_read: self.out_read.unwrap_or(usual.out_read),
             out_write: self.out_write.unwrap_or(usual.out_write),
+            in_rate: self.in_rate,
+            out_rate: self.out_rate,
             in_marks: self.in_marks.unwrap_or(usual.in_marks),
             out_marks: self.out_marks.unwrap_or(usual.out_marks),
             in_timeouts: self.in_timeouts.unwrap_or(usual.in_timeouts),

@@ -278,7 +278,8 @@ fn says_all(alloc: Global) -> Result<bool, Fail> {
             share: 22,
         },
     ];
-    let limits = script.limits;
+    let settings = script.settings;
+    let members = script.members;
     let rate = LimitCfg::new(7, 8, 9, 10, 11)?;
     let asked = LimitCfg::new(12, 13, 14, 15, 16)?;
     let act = match script.plans.as_slice() {
@@ -291,10 +292,10 @@ fn says_all(alloc: Global) -> Result<bool, Fail> {
     };
     Ok(
         script.groups.as_slice() == groups.as_slice()
-            && limits.in_rate.is_none()
-            && limits.out_rate == Some(rate)
-            && limits.in_group == Some(1)
-            && limits.out_group.is_none()
+            && settings.in_rate.is_none()
+            && settings.out_rate == Some(rate)
+            && members.in_group == Some(1)
+            && members.out_group.is_none()
             && act == Some(Act::Rate(end, Some(asked))),
     )
 }

@@ -5,9 +5,9 @@ use Rattle.ev_types.specs.ScriptTurn.{ScriptTurn}
 use Rattle.ev_types.specs.declared.settings.Settings.{Settings}
 use Rattle.script_port.specs.ScriptState.{PortState}
 use Rattle.script_port.specs.ScriptPort.{new_port}
-use Rattle.script_text.specs.declared.limits.Limits.{Limits}
-use Rattle.script_text.specs.declared.limits.GroupSet.{GroupSet}
-use Rattle.script_text.specs.Given.{no_limits}
+use Rattle.script_text.specs.declared.groups.Members.{Members}
+use Rattle.script_text.specs.declared.groups.GroupSet.{GroupSet}
+use Rattle.script_text.specs.Given.{no_members}
 use Rattle.script_text.specs.Runnable.{IsRunnable}
 use Rattle.evplay.specs.Play.{IsRunText}
 use Rattle.std.specs.List.{All}
@@ -62,18 +62,18 @@ run_over-requires-clause-few g c =
     let sides = ap length (ap seated_sides c.in_ok-seats.ensures.hooks ∙ seats.sides) in
     omega (arith, few, sides)
 
--- what a port plays that was made of a script without limits, groups and members is that script
+-- what a port plays that was made of a script without groups and members is that script
 over-script : (script : ScriptValue) (g : Settings) (p : PortState) → g ≡ script.settings → p ≡ new_port script.turns → IsRunnable script →
     script_over g script.plans p ≡ script
 over-script script g p set first is =
-    ap (λ z. made z no_limits [] p.turns) set
-    ∙ ap (λ (q : PortState). made script.settings no_limits [] q.turns) first
-    ∙ ap (λ z. made script.settings z [] script.turns) (sym is.limits)
-    ∙ ap (λ z. made script.settings script.limits z script.turns) (sym is.groups)
+    ap (λ z. made z no_members [] p.turns) set
+    ∙ ap (λ (q : PortState). made script.settings no_members [] q.turns) first
+    ∙ ap (λ z. made script.settings z [] script.turns) (sym is.members)
+    ∙ ap (λ z. made script.settings script.members z script.turns) (sym is.groups)
   where
-    made : Settings → Limits → List GroupSet → List ScriptTurn → ScriptValue
-    made settings limits groups turns =
-        record { settings = settings; limits = limits; groups = groups; plans = script.plans; turns = turns }
+    made : Settings → Members → List GroupSet → List ScriptTurn → ScriptValue
+    made settings members groups turns =
+        record { settings = settings; members = members; groups = groups; plans = script.plans; turns = turns }
 
 pub returns-clause-text : goal.returns-clause-text
 returns-clause-text g c =
