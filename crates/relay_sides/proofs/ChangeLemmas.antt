@@ -1,15 +1,18 @@
 -- What a change of the bufferevents, and of what is kept beside them, makes of the links. A direction is told by the left part of the
 -- bufferevents of the side that it begins at, by the right part of those of the other side, and by what is counted of it.
-use Rattle.std.proofs.Common.{◌≡◌, ◌≢◌, ℕ, ◌*◌, ◌<◌, Bool, true, false, ◌==◌, List, length, slice_set, refl, sym, ◌∙◌, ap, subst, eqb-true}
+use Rattle.std.proofs.Common.{◌≡◌, ◌≢◌, ℕ, ◌*◌, ◌<◌, Bool, true, false, ◌==◌, List, Option, None, length, slice_set, refl, sym, ◌∙◌, ap, subst}
+use Rattle.std.proofs.Common.{eqb-true}
 use Rattle.std.proofs.lemmas.Bool.{eqb-false}
 use Rattle.std.proofs.lemmas.List.{get_or-set_same, get_or-set_other}
 use Rattle.relay_model.specs.Flow.{Flow}
 use Rattle.filter_model.specs.Running.{Running}
 use Rattle.relay_state.specs.State.{Lane}
+use Rattle.side_limit.specs.LimitValue.{LimitValue}
 use Rattle.bev_world.specs.declared.slot.Slot.{Slot}
 use Rattle.bev_world.specs.declared.slot.Kind.TheVariants.{Filter}
 use Rattle.relay_sides.specs.Bevs.{Bevs, bevs_at, lower_of, twin}
-use Rattle.relay_sides.specs.SideView.{state_at, new_state, plain_at, flow_at, lane_at}
+use Rattle.relay_sides.specs.Table.{tabulate}
+use Rattle.relay_sides.specs.SideView.{state_at, new_state, plain_at, flow_at, lane_at, gauge_at, gauge_by, limit_kept}
 use Rattle.relay_sides.specs.SidesView.{links_of, IsCounted}
 use Rattle.relay_sides.specs.declared.side.SideState.{SideState}
 use Rattle.relay_sides.proofs.TableLemmas.{tabulate-same, tabulate-set}
@@ -33,7 +36,7 @@ pub record Right : Type 0 where
 abbrev pub right_of : Bevs → Right
 right_of b = record { writer = b.upper.write_filter; output = b.upper.bev.output.bytes; raw_output = b.lower.bev.output.bytes }
 
--- what is counted
+-- what is counted, and the limit of the side
 pub record Counted : Type 0 where
   pub held : Bool
   pub read : ℕ
@@ -41,9 +44,18 @@ pub record Counted : Type 0 where
   pub moved : ℕ
   pub write_made : ℕ
   pub given : ℕ
+  pub limit : Option LimitValue
 
 abbrev pub counted_of : SideState → Counted
-counted_of s = record { held = s.held; read = s.read; read_made = s.read_made; moved = s.moved; write_made = s.write_made; given = s.given }
+counted_of s = record {
+  held = s.held;
+  read = s.read;
+  read_made = s.read_made;
+  moved = s.moved;
+  write_made = s.write_made;
+  given = s.given;
+  limit = limit_kept s;
+}
 
 abbrev pub flow_from : Left → Right → Counted → Flow
 flow_from l r c = record {
@@ -76,16 +88,17 @@ everywhere f g n off at m = go (m == n) refl
 
 module _ (sides : List SideState) (j : ℕ) (s : SideState) where
   pub set_state-other : (m : ℕ) → m ≢ j → state_at (slice_set sides j s) m ≡ state_at sides m
-  set_state-other m d = get_or-set_other sides j m s (new_state true) d
+  set_state-other m d = get_or-set_other sides j m s (new_state true None None) d
 
   pub set_state-same : j < length sides → state_at (slice_set sides j s) j ≡ s
-  set_state-same h = get_or-set_same sides j s (new_state true) h
+  set_state-same h = get_or-set_same sides j s (new_state true None None) h
 
--- the directions but one are as they were, and so are all
+-- the directions but one are as they were, with all limits, and so are all
 pub record Apart (d : ℕ) (S S' : List Slot) (K K' : List SideState) : Type 0 where
   pub left : (m : ℕ) → m ≢ d → left_of (bevs_at S' m) ≡ left_of (bevs_at S m)
   pub right : (m : ℕ) → m ≢ twin d → right_of (bevs_at S' m) ≡ right_of (bevs_at S m)
   pub counted : (m : ℕ) → m ≢ d → counted_of (state_at K' m) ≡ counted_of (state_at K m)
+  pub limits : (m : ℕ) → limit_kept (state_at K' m) ≡ limit_kept (state_at K m)
 
 pub record Alike (S S' : List Slot) (K K' : List SideState) : Type 0 where
   pub left : (m : ℕ) → left_of (bevs_at S' m) ≡ left_of (bevs_at S m)
@@ -144,13 +157,22 @@ module _ (S S' : List Slot) (K K' : List SideState) where
   filters-last n l all m h = l.kinds m ∙ all m h
 
   module _ (opened : ℕ) where
+    -- no limit changes
+    pub gauges-same : ((m : ℕ) → limit_kept (state_at K' m) ≡ limit_kept (state_at K m)) →
+        tabulate (gauge_at K') (2 * opened) ≡ tabulate (gauge_at K) (2 * opened)
+    gauges-same h = tabulate-same (gauge_at K) (gauge_at K') (2 * opened) (λ m. ap gauge_by (h m))
+
+    gauges-alike : Alike S S' K K' → tabulate (gauge_at K') (2 * opened) ≡ tabulate (gauge_at K) (2 * opened)
+    gauges-alike a = gauges-same (λ m. ap (λ (z : Counted). z.limit) (a.counted m))
+
     -- nothing is seen of a change
     pub links-alike : Alike S S' K K' → ((m : ℕ) → plain_at S' K' m ≡ plain_at S K m) → links_of opened S' K' ≡ links_of opened S K
     links-alike a p =
         let x = tabulate-same (plain_at S K) (plain_at S' K') (2 * opened) p in
         let f = tabulate-same (flow_at S K) (flow_at S' K') (2 * opened) (flow-alike a) in
         let l = tabulate-same (lane_at S K) (lane_at S' K') (2 * opened) (lane-alike a) in
-        λ i. record { opened = opened; sides = x i; flows = f i; lanes = l i }
+        let g = gauges-alike a in
+        λ i. record { opened = opened; sides = x i; flows = f i; lanes = l i; gauges = g i }
 
     -- one side changes alone
     pub links-side : (n : ℕ) → Alike S S' K K' → SidesApart n S S' K K' →
@@ -159,7 +181,8 @@ module _ (S S' : List Slot) (K K' : List SideState) where
         let x = tabulate-set (plain_at S K) (plain_at S' K') (2 * opened) n p in
         let f = tabulate-same (flow_at S K) (flow_at S' K') (2 * opened) (flow-alike a) in
         let l = tabulate-same (lane_at S K) (lane_at S' K') (2 * opened) (lane-alike a) in
-        λ i. record { opened = opened; sides = x i; flows = f i; lanes = l i }
+        let g = gauges-alike a in
+        λ i. record { opened = opened; sides = x i; flows = f i; lanes = l i; gauges = g i }
 
     -- one side and one direction
     pub links-one : (n d : ℕ) → Apart d S S' K K' → SidesApart n S S' K K' →
@@ -172,4 +195,5 @@ module _ (S S' : List Slot) (K K' : List SideState) where
         let x = tabulate-set (plain_at S K) (plain_at S' K') (2 * opened) n p in
         let f = tabulate-set (flow_at S K) (flow_at S' K') (2 * opened) d (flow-apart d a) in
         let l = tabulate-set (lane_at S K) (lane_at S' K') (2 * opened) d (lane-apart d a) in
-        λ i. record { opened = opened; sides = x i; flows = f i; lanes = l i }
+        let g = gauges-same a.limits in
+        λ i. record { opened = opened; sides = x i; flows = f i; lanes = l i; gauges = g i }

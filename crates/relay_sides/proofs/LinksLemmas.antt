@@ -74,6 +74,7 @@ module _ (k : Links) (e : SideId) where
         sides = length-set (slice_set k.sides n a) t c ∙ length-set k.sides n a ∙ pairs.sides;
         flows = length-set k.flows n x.flow ∙ pairs.flows;
         lanes = length-set k.lanes n x.lane ∙ pairs.lanes;
+        gauges = pairs.gauges;
       }
 
       -- and then another one

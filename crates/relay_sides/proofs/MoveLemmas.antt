@@ -9,7 +9,7 @@ use Rattle.bev_world.specs.declared.slot.Slot.{Slot}
 use Rattle.relay_sides.specs.Bevs.{Bevs, bevs_at, upper_of, twin}
 use Rattle.relay_sides.specs.Links.{passage_at, with_passage, moved}
 use Rattle.relay_sides.specs.SidesValue.{SidesValue}
-use Rattle.relay_sides.specs.SideView.{state_at, flow_at, lane_at, flow_of, lane_of}
+use Rattle.relay_sides.specs.SideView.{state_at, flow_at, lane_at, flow_of, lane_of, limit_kept}
 use Rattle.relay_sides.specs.SidesView.{links_of, sides_of, AreSides, IsCounted}
 use Rattle.relay_sides.specs.declared.sides.Sides.TheInside.{Inside}
 use Rattle.relay_sides.specs.declared.side.SideState.{SideState}
@@ -99,7 +99,7 @@ module _ (v : SidesValue) (r : Inside) (is : sides_of r ≡ v) (sound : AreSides
   pub move_links : links_of r.opened w.slots (slice_set r.sides.items j (record x { moved = x.moved + count }))
       ≡ with_passage e (moved (passage_at v.links e)) v.links
   move_links =
-      part_links v r is e opened w.slots (slice_set K j y) f g y o link refl refl refl moved (ap (unflawed a) own_is) refl
+      part_links v r is e opened w.slots (slice_set K j y) f g y o link refl refl refl (ap limit_kept own_is) moved (ap (unflawed a) own_is) refl
       ((λ i. (let q = passage_by a b x o in let h = q.flow in let l = q.lane in let c = l.buffers in
       record q {
         flow = record h { moved = x.moved + count_is i };
@@ -134,7 +134,7 @@ module _ (v : SidesValue) (r : Inside) (is : sides_of r ≡ v) (sound : AreSides
       IsCounted (flow_at w.slots (slice_set r.sides.items j (record x { moved = x.moved + count })) m)
       (lane_at w.slots (slice_set r.sides.items j (record x { moved = x.moved + count })) m)
   move_fits =
-      part_counted v r is e opened w.slots (slice_set K j y) f g y o link refl refl refl sound
+      part_counted v r is e opened w.slots (slice_set K j y) f g y o link refl refl refl (ap limit_kept own_is) sound
       (record {
         used = fits.used;
         moved = omega (arith, fits.moved, count_is, empty);

@@ -1,5 +1,7 @@
 -- What opening a link adds: four bufferevents, and two states beside them.
 use Rattle.std.proofs.Common.{◌≡◌, ◌≢◌, ℕ, suc, ◌+◌, ◌-◌, ◌*◌, ◌<◌, Bool, true, false, ◌==◌, if◌then◌else◌, List, [], ◌∷◌, ◌++◌, length}
+use Rattle.std.specs.Prelude.{Option, Some, None, option_map, Box}
+use Rattle.std.specs.declared.alloc.Global.{Global}
 use Rattle.std.proofs.Common.{slice_index_or, slice_set, vec_capacity, Result, Ok, Err, refl, sym, ◌∙◌, ap, subst, arith, eqb-true}
 use Rattle.std.proofs.Common.{length-append}
 use Rattle.std.specs.Global.{Vec}
@@ -8,19 +10,24 @@ use Rattle.std.proofs.lemmas.Bool.{eqb-false}
 use Rattle.std.proofs.lemmas.List.{get_or-append-add, get_or_append_left, append_assoc}
 use Rattle.std.proofs.Math.Seq.{get_or-append_seam, set-append_seam}
 use Rattle.token_bucket.specs.declared.limit.Dir.TheVariants.{Read, Write}
-use Rattle.ev_types.specs.declared.filter.FilterKind.TheVariants.{None}
+use Rattle.ev_types.specs.declared.filter.FilterKind.TheVariants as kind
+use Rattle.token_bucket.specs.declared.limit.LimitCfg.{LimitCfg}
 use Rattle.bev_core.specs.BevValue.{BevValue}
 use Rattle.bev_core.specs.Steps.{with_enabled, with_marks, with_timeouts}
 use Rattle.bev_world.specs.WorldValue.{WorldValue, no_slot, new_slot, bev_at, with_slot, with_bev, with_new, with_taken, with_room}
 use Rattle.bev_world.specs.declared.slot.Slot.{Slot}
 use Rattle.bev_world.specs.declared.slot.Kind.TheVariants.{Socket, Filter}
 use Rattle.relay_model.specs.Flow.{Flow, no_flow}
+use Rattle.relay_model.specs.Plain.{PlainSide, Standing, first_limit}
+use Rattle.relay_state.specs.Running.{Gauge, gauge_begun}
+use Rattle.side_limit.specs.LimitValue.{LimitValue}
 use Rattle.relay_state.specs.State.{Lane}
 use Rattle.relay_sides.specs.Bevs.{Bevs, bevs_at, lower_of, upper_of, twin}
 use Rattle.relay_sides.specs.Table.{tabulate}
 use Rattle.relay_sides.specs.Links.{opening_side, fresh_lane, with_link}
+use Rattle.relay_sides.specs.Limits.{kept_value, first_kept}
 use Rattle.relay_sides.specs.Opening.{side_slots}
-use Rattle.relay_sides.specs.SideView.{new_state, state_at, plain_side, plain_at, flow_of, flow_at, lane_of, lane_at}
+use Rattle.relay_sides.specs.SideView.{new_state, state_at, plain_side, plain_at, flow_of, flow_at, lane_of, lane_at, gauge_at, gauge_of, gauge_by}
 use Rattle.relay_sides.specs.SidesView.{links_of, IsCounted, CanRead, AreSides}
 use Rattle.relay_sides.specs.declared.side.SideState.{SideState}
 use Rattle.relay_sides.specs.declared.sides.Sides.TheInside.{Inside}
@@ -73,7 +80,7 @@ module _ (w0 : WorldValue) where
       ∙ set-append_seam w0.slots s (x ∷ []) (record s { taken = true })
 
   pub bevs_added : (w1 w2 w3 w4 w5 w6 : WorldValue) (time : ℕ) (side : NewSide) (n : ℕ) → n ≡ length w0.slots →
-      w1 ≡ with_new (new_slot Socket None None ∷ []) w0 →
+      w1 ≡ with_new (new_slot Socket kind.None kind.None ∷ []) w0 →
       w2 ≡ with_bev w1 n (with_enabled (bev_at w1 n) Read true) →
       w3 ≡ with_bev w2 n (with_marks (bev_at w2 n) Read side.marks.read_low side.marks.read_high) →
       w4 ≡ with_bev w3 n (with_marks (bev_at w3 n) Write side.marks.write_low side.marks.write_high) →
@@ -81,7 +88,7 @@ module _ (w0 : WorldValue) where
       w6 ≡ with_taken (with_new (new_slot (Filter n) side.read side.write ∷ []) w5) n →
       w6.slots ≡ w0.slots ++ side_slots time side (length w0.slots)
   bevs_added w1 w2 w3 w4 w5 w6 time side n h e1 e2 e3 e4 e5 e6 =
-      let s1 : Slot = new_slot Socket None None in
+      let s1 : Slot = new_slot Socket kind.None kind.None in
       let f2 : BevValue → BevValue = λ b. with_enabled b Read true in
       let f3 : BevValue → BevValue = λ b. with_marks b Read side.marks.read_low side.marks.read_high in
       let f4 : BevValue → BevValue = λ b. with_marks b Write side.marks.write_low side.marks.write_high in
@@ -98,22 +105,38 @@ module _ (w0 : WorldValue) where
       ∙ (λ i. (with_taken (with_new (new_slot (Filter (h i)) side.read side.write ∷ []) (g5 i)) (h i)).slots)
       ∙ taken_behind s5 (new_slot (Filter place) side.read side.write)
 
+-- A limit as it opens, and its buckets
+
+standing-begun : (time turn : ℕ) (o : Option LimitCfg) →
+    option_map (λ (x : LimitValue). x.standing) (first_kept time turn o) ≡ option_map (first_limit time turn) o
+standing-begun time turn None = refl
+standing-begun time turn (Some cfg) = refl
+
+gauge-begun : (time turn : ℕ) (o : Option LimitCfg) → gauge_by (first_kept time turn o) ≡ gauge_begun o time
+gauge-begun time turn None = refl
+gauge-begun time turn (Some cfg) = refl
+
 -- The next link
 
+-- what is kept of its sides
+abbrev pub more_sides : NewSide → NewSide → Option (Box LimitValue Global) → Option (Box LimitValue Global) → List SideState
+more_sides near far a b = new_state near.connected a near.group ∷ new_state far.connected b far.group ∷ []
+
 module _ (o : ℕ) (S : List Slot) (K : List SideState) (slots : length S ≡ 4 * o) (sides : length K ≡ 2 * o)
-    (time : ℕ) (near far : NewSide) where
-  -- its bufferevents, and what is kept of its sides
+    (time turn : ℕ) (near far : NewSide) (near_limit far_limit : Option (Box LimitValue Global))
+    (near_is : kept_value near_limit ≡ first_kept time turn near.limit) (far_is : kept_value far_limit ≡ first_kept time turn far.limit) where
+  -- its bufferevents
   abbrev pub more_slots : List Slot
   more_slots = side_slots time near (4 * o) ++ side_slots time far (4 * o + 2)
 
-  abbrev pub more_sides : List SideState
-  more_sides = new_state near.connected ∷ new_state far.connected ∷ []
+  abbrev more : List SideState
+  more = more_sides near far near_limit far_limit
 
   abbrev S3 : List Slot
   S3 = S ++ more_slots
 
   abbrev K3 : List SideState
-  K3 = K ++ more_sides
+  K3 = K ++ more
 
   abbrev near_bevs : Bevs
   near_bevs = record { lower = slice_index_or more_slots 0 no_slot; upper = slice_index_or more_slots 1 no_slot }
@@ -128,13 +151,13 @@ module _ (o : ℕ) (S : List Slot) (K : List SideState) (slots : length S ≡ 4 
       λ i. record { lower = a i; upper = b i }
 
   state_old : (m : ℕ) → m < 2 * o → state_at K3 m ≡ state_at K m
-  state_old m h = get_or_append_left K more_sides (new_state true) m (omega (arith, h, sides))
+  state_old m h = get_or_append_left K more (new_state true None None) m (omega (arith, h, sides))
 
   slot_new : (j k : ℕ) → k ≡ length S + j → slice_index_or S3 k no_slot ≡ slice_index_or more_slots j no_slot
   slot_new j k e = ap (λ n. slice_index_or S3 n no_slot) e ∙ get_or-append-add S more_slots j no_slot
 
-  state_new : (j k : ℕ) → k ≡ length K + j → state_at K3 k ≡ state_at more_sides j
-  state_new j k e = ap (state_at K3) e ∙ get_or-append-add K more_sides j (new_state true)
+  state_new : (j k : ℕ) → k ≡ length K + j → state_at K3 k ≡ state_at more j
+  state_new j k e = ap (state_at K3) e ∙ get_or-append-add K more j (new_state true None None)
 
   bevs_near : bevs_at S3 (2 * o) ≡ near_bevs
   bevs_near =
@@ -148,10 +171,10 @@ module _ (o : ℕ) (S : List Slot) (K : List SideState) (slots : length S ≡ 4 
       let b = slot_new 3 (upper_of (2 * o + 1)) (omega (arith, slots)) in
       λ i. record { lower = a i; upper = b i }
 
-  state_near : state_at K3 (2 * o) ≡ new_state near.connected
+  state_near : state_at K3 (2 * o) ≡ new_state near.connected near_limit near.group
   state_near = state_new 0 (2 * o) (omega (arith, sides))
 
-  state_far : state_at K3 (2 * o + 1) ≡ new_state far.connected
+  state_far : state_at K3 (2 * o + 1) ≡ new_state far.connected far_limit far.group
   state_far = state_new 1 (2 * o + 1) (omega (arith, sides))
 
   twin_near : twin (2 * o) ≡ 2 * o + 1
@@ -187,11 +210,25 @@ module _ (o : ℕ) (S : List Slot) (K : List SideState) (slots : length S ≡ 4 
   lane_far : lane_at S3 K3 (2 * o + 1) ≡ fresh_lane far.read near.write
   lane_far = λ i. lane_of (bevs_far i) (other_far i) (state_far i)
 
-  side_near : plain_at S3 K3 (2 * o) ≡ opening_side time near
-  side_near = λ i. plain_side (bevs_near i).lower.bev (state_near i)
+  -- a side with the limit that it opens with
+  with_limit : (n : NewSide) (b : BevValue) (kept : Option (Box LimitValue Global)) → kept_value kept ≡ first_kept time turn n.limit →
+      plain_side b (new_state n.connected kept n.group)
+      ≡ (let x : PlainSide = plain_side b (new_state n.connected kept n.group) in record x { limit = option_map (first_limit time turn) n.limit })
+  with_limit n b kept is =
+      let all = ap (λ z. option_map (λ (y : LimitValue). y.standing) z) is ∙ standing-begun time turn n.limit in
+      λ i. (let x : PlainSide = plain_side b (new_state n.connected kept n.group) in record x { limit = all i })
 
-  side_far : plain_at S3 K3 (2 * o + 1) ≡ opening_side time far
-  side_far = λ i. plain_side (bevs_far i).lower.bev (state_far i)
+  side_near : plain_at S3 K3 (2 * o) ≡ opening_side time turn near
+  side_near = (λ i. plain_side (bevs_near i).lower.bev (state_near i)) ∙ with_limit near near_bevs.lower.bev near_limit near_is
+
+  side_far : plain_at S3 K3 (2 * o + 1) ≡ opening_side time turn far
+  side_far = (λ i. plain_side (bevs_far i).lower.bev (state_far i)) ∙ with_limit far far_bevs.lower.bev far_limit far_is
+
+  gauge_near : gauge_at K3 (2 * o) ≡ gauge_begun near.limit time
+  gauge_near = ap gauge_of state_near ∙ ap gauge_by near_is ∙ gauge-begun time turn near.limit
+
+  gauge_far : gauge_at K3 (2 * o + 1) ≡ gauge_begun far.limit time
+  gauge_far = ap gauge_of state_far ∙ ap gauge_by far_is ∙ gauge-begun time turn far.limit
 
   two_more : 2 * (o + 1) ≡ suc (suc (2 * o))
   two_more = omega arith
@@ -199,19 +236,21 @@ module _ (o : ℕ) (S : List Slot) (K : List SideState) (slots : length S ≡ 4 
   last_one : suc (2 * o) ≡ 2 * o + 1
   last_one = omega arith
 
-  more : {A : Type 0} (f g : ℕ → A) (a b : A) → ((m : ℕ) → m < 2 * o → g m ≡ f m) → g (2 * o) ≡ a → g (2 * o + 1) ≡ b →
+  two-behind : {A : Type 0} (f g : ℕ → A) (a b : A) → ((m : ℕ) → m < 2 * o → g m ≡ f m) → g (2 * o) ≡ a → g (2 * o + 1) ≡ b →
       tabulate g (2 * (o + 1)) ≡ tabulate f (2 * o) ++ a ∷ b ∷ []
-  more f g a b old p q =
+  two-behind f g a b old p q =
       ap (tabulate g) two_more ∙ tabulate-more f g (2 * o) old
       ∙ (λ i. tabulate f (2 * o) ++ p i ∷ (ap g last_one ∙ q) i ∷ [])
 
-  pub links_more : links_of (o + 1) S3 K3 ≡ with_link time near far (links_of o S K)
+  pub links_more : links_of (o + 1) S3 K3 ≡ with_link time turn near far (links_of o S K)
   links_more =
-      let x = more (plain_at S K) (plain_at S3 K3) (opening_side time near) (opening_side time far)
+      let x = two-behind (plain_at S K) (plain_at S3 K3) (opening_side time turn near) (opening_side time turn far)
       (λ m h. λ i. plain_side (bevs_old m h i).lower.bev (state_old m h i)) side_near side_far in
-      let f = more (flow_at S K) (flow_at S3 K3) no_flow no_flow flow_old flow_near flow_far in
-      let l = more (lane_at S K) (lane_at S3 K3) (fresh_lane near.read far.write) (fresh_lane far.read near.write) lane_old lane_near lane_far in
-      λ i. record { opened = o + 1; sides = x i; flows = f i; lanes = l i }
+      let f = two-behind (flow_at S K) (flow_at S3 K3) no_flow no_flow flow_old flow_near flow_far in
+      let l = two-behind (lane_at S K) (lane_at S3 K3) (fresh_lane near.read far.write) (fresh_lane far.read near.write) lane_old lane_near lane_far in
+      let u = two-behind (gauge_at K) (gauge_at K3) (gauge_begun near.limit time) (gauge_begun far.limit time) (λ m h. ap gauge_of (state_old m h))
+      gauge_near gauge_far in
+      λ i. record { opened = o + 1; sides = x i; flows = f i; lanes = l i; gauges = u i }
 
   -- which of three a number is
   by_place : (P : ℕ → Type 0) → ((m : ℕ) → m < 2 * o → P m) → P (2 * o) → P (2 * o + 1) → (m : ℕ) → m < 2 * (o + 1) → P m
@@ -286,27 +325,31 @@ sound_kept r w k a b sound = record {
 }
 
 -- and so it does where a link was opened
-pub sound_more : (r : Inside) (w : WorldValue) (k : Vec SideState) (time : ℕ) (near far : NewSide) (sound : AreSides r) →
-    w.slots ≡ r.world.slots ++ more_slots r.opened r.world.slots r.sides.items sound.slots sound.sides time near far →
-    k.items ≡ r.sides.items ++ more_sides r.opened r.world.slots r.sides.items sound.slots sound.sides time near far →
-    AreSides (record r { opened = r.opened + 1; world = w; sides = k })
-sound_more r w k time near far sound a b =
+pub sound_more : (r : Inside) (w : WorldValue) (k : Vec SideState) (l : Vec (Box LimitValue Global)) (time turn : ℕ) (near far : NewSide)
+    (near_limit far_limit : Option (Box LimitValue Global))
+    (near_is : kept_value near_limit ≡ first_kept time turn near.limit) (far_is : kept_value far_limit ≡ first_kept time turn far.limit)
+    (sound : AreSides r) →
+    w.slots ≡ r.world.slots ++ (side_slots time near (4 * r.opened) ++ side_slots time far (4 * r.opened + 2)) →
+    k.items ≡ r.sides.items ++ more_sides near far near_limit far_limit →
+    AreSides (record r { opened = r.opened + 1; world = w; sides = k; spare_limits = l })
+sound_more r w k l time turn near far near_limit far_limit near_is far_is sound a b =
     let S : List Slot = r.world.slots in
     let K : List SideState = r.sides.items in
-    let more = more_slots r.opened S K sound.slots sound.sides time near far in
-    let states = more_sides r.opened S K sound.slots sound.sides time near far in
+    let more : List Slot = side_slots time near (4 * r.opened) ++ side_slots time far (4 * r.opened + 2) in
+    let states : List SideState = more_sides near far near_limit far_limit in
     record {
       slots = ap length a ∙ length-append S more ∙ (let h : length S + 4 ≡ 4 * (r.opened + 1) = omega (arith, sound.slots) in h);
       sides = ap length b ∙ length-append K states ∙ (let h : length K + 2 ≡ 2 * (r.opened + 1) = omega (arith, sound.sides) in h);
       filters = λ n h.
           ap (λ (S : List Slot). (bevs_at S n).upper.kind) a
-          ∙ filters_more r.opened S K sound.slots sound.sides time near far sound.filters n h;
+          ∙ filters_more r.opened S K sound.slots sound.sides time turn near far near_limit far_limit near_is far_is sound.filters n h;
       counted = λ n h.
           subst (λ (K : List SideState). IsCounted (flow_at w.slots K n) (lane_at w.slots K n)) (sym b)
           (subst (λ (S : List Slot). IsCounted (flow_at S (K ++ states) n) (lane_at S (K ++ states) n)) (sym a)
-          (counted_more r.opened S K sound.slots sound.sides time near far sound.counted n h));
+          (counted_more r.opened S K sound.slots sound.sides time turn near far near_limit far_limit near_is far_is sound.counted n h));
       read_room = λ h.
-          let can = read_more r.opened S K sound.slots sound.sides time near far r.ready (vec_capacity r.beside) r.spare r.readable
+          let can = read_more r.opened S K sound.slots sound.sides time turn near far near_limit far_limit near_is far_is r.ready
+          (vec_capacity r.beside) r.spare r.readable
           (sound.read_room h) in (
             can.0,
             subst (λ (K : List SideState). CanRead (bevs_at w.slots r.ready) (state_at K r.ready) (vec_capacity r.beside) r.spare r.readable)

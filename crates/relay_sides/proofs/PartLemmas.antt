@@ -10,12 +10,12 @@ use Rattle.bev_world.specs.declared.slot.Slot.{Slot}
 use Rattle.relay_sides.specs.Bevs.{Bevs, bevs_at, twin}
 use Rattle.relay_sides.specs.Links.{passage_at, with_passage}
 use Rattle.relay_sides.specs.SidesValue.{SidesValue}
-use Rattle.relay_sides.specs.SideView.{state_at, plain_side, flow_at, lane_at, flow_of, lane_of}
+use Rattle.relay_sides.specs.SideView.{state_at, plain_side, flow_at, lane_at, flow_of, lane_of, limit_kept}
 use Rattle.relay_sides.specs.SidesView.{links_of, sides_of, AreSides, IsCounted}
 use Rattle.relay_sides.specs.declared.sides.Sides.TheInside.{Inside}
 use Rattle.relay_sides.specs.declared.side.SideState.{SideState}
 use Rattle.relay_sides.proofs.BevsLemmas.{twin-number}
-use Rattle.relay_sides.proofs.ChangeLemmas.{left_of, right_of, counted_of, Apart, counted-apart}
+use Rattle.relay_sides.proofs.ChangeLemmas.{left_of, right_of, counted_of, Counted, everywhere, Apart, counted-apart}
 use Rattle.relay_sides.proofs.SidesLemmas.{side_seen, flow_seen, lane_seen, passage_changed}
 
 -- the direction by what is kept of it
@@ -59,7 +59,8 @@ module _ (v : SidesValue) (r : Inside) (is : sides_of r ≡ v) (e : SideId) (ope
     (l : Link r.world.slots S' r.sides.items K' (number e) from to own other)
     (right : right_of from ≡ right_of (bevs_at r.world.slots (number e)))
     (left : left_of to ≡ left_of (bevs_at r.world.slots (twin (number e))))
-    (counted : counted_of other ≡ counted_of (state_at r.sides.items (twin (number e)))) where
+    (counted : counted_of other ≡ counted_of (state_at r.sides.items (twin (number e))))
+    (limit : limit_kept own ≡ limit_kept (state_at r.sides.items (number e))) where
   abbrev S : List Slot
   S = r.world.slots
 
@@ -83,6 +84,10 @@ module _ (v : SidesValue) (r : Inside) (is : sides_of r ≡ v) (e : SideId) (ope
         (ap right_of l.from_is ∙ right);
     counted = but-one (λ m. counted_of (state_at K m)) (λ m. counted_of (state_at K' m)) n t (λ m a b. ap counted_of (l.states m a b))
         (ap counted_of l.other_is ∙ counted);
+    limits = everywhere (λ m. limit_kept (state_at K m)) (λ m. limit_kept (state_at K' m)) n
+        (but-one (λ m. limit_kept (state_at K m)) (λ m. limit_kept (state_at K' m)) n t (λ m a b. ap limit_kept (l.states m a b))
+        (ap limit_kept l.other_is ∙ ap (λ (z : Counted). z.limit) counted))
+        (ap limit_kept l.own_is ∙ limit);
   }
 
   -- a part of a round was made

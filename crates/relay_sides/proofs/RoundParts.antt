@@ -137,4 +137,5 @@ pairs_back k l e x is pairs =
       );
       flows = omega (arith, pairs.flows, ap (λ (z : Links). length z.flows) is, opened, length-set k.flows n x.flow);
       lanes = omega (arith, pairs.lanes, ap (λ (z : Links). length z.lanes) is, opened, length-set k.lanes n x.lane);
+      gauges = omega (arith, pairs.gauges, ap (λ (z : Links). length z.gauges) is, opened);
     }

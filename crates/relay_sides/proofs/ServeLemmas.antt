@@ -24,7 +24,7 @@ use Rattle.relay_sides.specs.Links as links
 use Rattle.relay_sides.specs.Links.{Links, with_got, after_took, read_mark}
 use Rattle.relay_sides.specs.Rooms.{HasInputRoom}
 use Rattle.relay_sides.specs.SidesValue.{SidesValue, spare_read}
-use Rattle.relay_sides.specs.SideView.{state_at, plain_at, flow_at, lane_at, plain_side, flow_of, lane_of}
+use Rattle.relay_sides.specs.SideView.{state_at, plain_at, flow_at, lane_at, gauge_at, plain_side, flow_of, lane_of, limit_kept}
 use Rattle.relay_sides.specs.SidesView.{links_of, rooms_of, sides_of, AreSides, IsCounted, CanRead}
 use Rattle.relay_sides.specs.declared.sides.Sides.TheInside.{Inside}
 use Rattle.relay_sides.specs.declared.side.SideState.{SideState}
@@ -32,7 +32,7 @@ use Rattle.relay_sides.proofs.TableLemmas.{get-tabulate, tabulate-same, tabulate
 use Rattle.relay_sides.proofs.BevsLemmas.{number-lt, twin-number, twin-twin, twin-apart, peer-apart, set_lower-other, set_lower-same}
 use Rattle.relay_sides.proofs.BevsLemmas.{set_upper-other, set_upper-same}
 use Rattle.relay_sides.proofs.ChangeLemmas.{left_of, right_of, counted_of, everywhere, set_state-other, set_state-same, Apart, flow-apart}
-use Rattle.relay_sides.proofs.ChangeLemmas.{lane-apart, counted-apart, filters-last}
+use Rattle.relay_sides.proofs.ChangeLemmas.{lane-apart, gauges-same, counted-apart, filters-last}
 use Rattle.relay_sides.proofs.SidesLemmas.{here, side_seen, lane_seen}
 use Rattle.relay_sides.proofs.StepLemmas.{room-mono}
 use Rattle.relay_sides.proofs.RoomLemmas.{Sound, lane_is, has_input_room}
@@ -144,6 +144,8 @@ module _ (v : SidesValue) (r : Inside) (is : sides_of r ≡ v) (e : SideId) (ope
     right = λ m d. everywhere (λ m. right_of (bevs_at r.world.slots m)) (λ m. right_of (bevs_at S' m)) (number e)
         (λ m d. ap right_of (p.off m d)) (ap right_of p.at) m;
     counted = λ m d. ap counted_of (q.off m d);
+    limits = everywhere (λ m. limit_kept (state_at r.sides.items m)) (λ m. limit_kept (state_at K' m)) (number e)
+        (λ m d. ap limit_kept (q.off m d)) (ap limit_kept q.at);
   }
 
   flow-there : flow_at S' K' (number e) ≡ flow_at r.world.slots r.sides.items (number e)
@@ -167,11 +169,12 @@ module _ (v : SidesValue) (r : Inside) (is : sides_of r ≡ v) (e : SideId) (ope
       (λ m d. (λ i. plain_side (p.off m d i).lower.bev (q.off m d i))) in
       let flows = tabulate-same (flow_at S K) (flow_at S' K') (2 * r.opened) flow-all in
       let lanes = tabulate-set (lane_at S K) (lane_at S' K') (2 * r.opened) n (lane-apart S S' K K' n brought-apart) in
+      let gauges = gauges-same S S' K K' r.opened brought-apart.limits in
       let here_is : plain_at S' K' n ≡ active_at time Read (plain_at S K n) = λ i. plain_side (p.at i).lower.bev (q.at i) in
       let x = here_is ∙ ap (active_at time Read) (sym own) in
       let l = lane-there ∙ ap (lane_got bytes) (sym (lane_is r.opened S K e (here v r is e opened))) in
-      (λ i. record { opened = r.opened; sides = sides i; flows = flows i; lanes = lanes i })
-      ∙ (λ i. record { opened = r.opened; sides = slice_set k.sides n (x i); flows = k.flows; lanes = slice_set k.lanes n (l i) })
+      (λ i. record { opened = r.opened; sides = sides i; flows = flows i; lanes = lanes i; gauges = gauges i })
+      ∙ (λ i. record k { sides = slice_set k.sides n (x i); lanes = slice_set k.lanes n (l i) })
       ∙ ap (λ (z : SidesValue). with_got time e bytes z.links) is
 
   pub brought-sound : Sound r.opened S' K'
@@ -246,6 +249,8 @@ module _ (v : SidesValue) (r : Inside) (is : sides_of r ≡ v) (e : SideId) (ope
         (λ m d. ap left_of (p.off m d)) (ap left_of p.at) m;
     right = λ m d. ap right_of (p.off m (λ h. d (h ∙ sym (twin-twin (number e)))));
     counted = λ m d. ap counted_of (q.off m d);
+    limits = everywhere (λ m. limit_kept (state_at r.sides.items m)) (λ m. limit_kept (state_at K' m)) (twin (number e))
+        (λ m d. ap limit_kept (q.off m d)) (ap limit_kept q.at);
   }
 
   took-flow : flow_at S' K' (twin (number e)) ≡ flow_given count (flow_at r.world.slots r.sides.items (twin (number e)))
@@ -279,11 +284,13 @@ module _ (v : SidesValue) (r : Inside) (is : sides_of r ≡ v) (e : SideId) (ope
       let x : plain_at S' K' n ≡ active_at time Write (links.side_at k e) =
       took-plain n (bevs_at S' n).lower.bev ∙ ap (λ (z : Bevs). plain_side z.lower.bev (state_at K n)) p.at
       ∙ ap (active_at time Write) (sym own) in
+      let gauges = gauges-same S S' K K' r.opened took-apart.limits in
       let f = took-flow ∙ ap (flow_given count) (sym flow) in
       let l = took-lane ∙ ap (lane_taken count) (sym lane) in
-      (λ i. record { opened = r.opened; sides = sides i; flows = flows i; lanes = lanes i })
+      (λ i. record { opened = r.opened; sides = sides i; flows = flows i; lanes = lanes i; gauges = gauges i })
       ∙ (λ i. record {
         opened = r.opened;
+        gauges = k.gauges;
         sides = slice_set k.sides n (x i);
         flows = slice_set k.flows (sym (twin-number e) i) (f i);
         lanes = slice_set k.lanes (sym (twin-number e) i) (l i);
@@ -407,15 +414,17 @@ module _ (v : SidesValue) (r : Inside) (is : sides_of r ≡ v) (e : SideId) (ope
       ap (λ (z : Bevs). plain_side z.lower.bev (state_at K n)) p.at ∙ ap side_off (sym own) in
       let a = off-own ∙ ap lane_left (sym near) in
       let b = off-other ∙ ap lane_lost (sym far ∙ sym apart) in
-      (λ i. record { opened = r.opened; sides = sides i; flows = flows i; lanes = lanes i })
+      (λ i. record { opened = r.opened; sides = sides i; flows = flows i; lanes = lanes i; gauges = k.gauges })
       ∙ (λ i. record {
         opened = r.opened;
+        gauges = k.gauges;
         sides = slice_set k.sides n (x i);
         flows = k.flows;
         lanes = slice_set (slice_set k.lanes n (a i)) (sym (twin-number e) i) (lane_at S' K (twin n));
       })
       ∙ (λ i. record {
         opened = r.opened;
+        gauges = k.gauges;
         sides = slice_set k.sides n (side_off (links.side_at k e));
         flows = k.flows;
         lanes = slice_set (slice_set k.lanes n (lane_left (links.lane_at k e))) t (b i);

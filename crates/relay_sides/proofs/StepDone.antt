@@ -11,7 +11,7 @@ use Rattle.bev_world.specs.WorldValue.{WorldValue}
 use Rattle.relay_sides.specs.Bevs.{Bevs, bevs_at, lower_of, upper_of, twin}
 use Rattle.relay_sides.specs.Links.{passage_at, with_passage}
 use Rattle.relay_sides.specs.SidesValue.{SidesValue}
-use Rattle.relay_sides.specs.SideView.{state_at, flow_at, lane_at, flow_of, lane_of}
+use Rattle.relay_sides.specs.SideView.{state_at, flow_at, lane_at, flow_of, lane_of, limit_kept}
 use Rattle.relay_sides.specs.SidesView.{links_of, sides_of, AreSides, IsCounted}
 use Rattle.relay_sides.specs.declared.sides.Sides.TheInside.{Inside}
 use Rattle.relay_sides.specs.declared.side.SideState.{SideState}
@@ -72,7 +72,7 @@ module _ (v : SidesValue) (r : Inside) (is : sides_of r ≡ v) (sound : AreSides
         ≡ with_passage e (read_part mark over (passage_at v.links e)) v.links
     read_links =
         part_links v r is e opened w.slots (slice_set K j y) b d y o link (read-right r.world w n mark over x.read_made made g long) refl refl
-        (read_part mark over)
+        (ap limit_kept own_is) (read_part mark over)
         (read-unflawed r.world w n mark over x.read_made made g long d x o bad refl bad_is ∙ ap (unflawed (bevs_at r.world.slots n)) own_is) refl
         (read-made r.world w n mark over x.read_made made g long d x o bad refl bad_is
         ∙ ap (λ z. read_part mark over (passage_by (bevs_at r.world.slots n) d z o)) own_is)
@@ -88,7 +88,7 @@ module _ (v : SidesValue) (r : Inside) (is : sides_of r ≡ v) (sound : AreSides
         IsCounted (flow_at w.slots (slice_set r.sides.items j (record x { read_made = made; bad = bad })) m)
         (lane_at w.slots (slice_set r.sides.items j (record x { read_made = made; bad = bad })) m)
     read_fits =
-        part_counted v r is e opened w.slots (slice_set K j y) b d y o link (read-right r.world w n mark over x.read_made made g long) refl refl sound
+        part_counted v r is e opened w.slots (slice_set K j y) b d y o link (read-right r.world w n mark over x.read_made made g long) refl refl (ap limit_kept own_is) sound
         (read-counted r.world w n mark over x.read_made made g long d x o bad refl bad_is fits)
 
   -- the write filter of the other side
@@ -147,7 +147,7 @@ module _ (v : SidesValue) (r : Inside) (is : sides_of r ≡ v) (sound : AreSides
         ≡ with_passage e (let s = passage_at v.links e in written_by (write_step hold over s.lane) s) v.links
     write_links =
         part_links v r is e opened w.slots (slice_set mid k u) a q y2 u link2 refl
-        (write-left r.world w t hold over x.write_made made g long2) (ap counted_of other_is)
+        (write-left r.world w t hold over x.write_made made g long2) (ap counted_of other_is) (ap limit_kept own_is)
         (λ s. written_by (write_step hold over s.lane) s) (ap (unflawed a) own_is)
         (write-unflawed r.world w t hold over x.write_made made g long2 a x z bad refl bad_is ∙ ap (unflawed (bevs_at r.world.slots t)) other_is)
         (write-made r.world w t hold over x.write_made made g long2 a x z bad refl bad_is
@@ -166,5 +166,5 @@ module _ (v : SidesValue) (r : Inside) (is : sides_of r ≡ v) (sound : AreSides
         (lane_at w.slots (slice_set (slice_set r.sides.items j (record x { write_made = made })) k (record z { bad = bad })) m)
     write_fits =
         part_counted v r is e opened w.slots (slice_set mid k u) a q y2 u link2 refl
-        (write-left r.world w t hold over x.write_made made g long2) (ap counted_of other_is) sound
+        (write-left r.world w t hold over x.write_made made g long2) (ap counted_of other_is) (ap limit_kept own_is) sound
         (write-counted r.world w t hold over x.write_made made g long2 a x z bad refl bad_is fits)

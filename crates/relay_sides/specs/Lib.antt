@@ -4,6 +4,7 @@ pub mod SideView
 pub mod Links
 pub mod Progress
 pub mod Opening
+pub mod Limits
 pub mod Rooms
 pub mod SidesValue
 pub mod SidesView

@@ -1,17 +1,21 @@
 -- The sides and the directions of all links that were opened, and what changes of them.
-use Rattle.std.specs.Prelude.{◌≡◌, ℕ, ◌+◌, Bool, false, ◌==◌, ◌&&◌, ◌||◌, List, [], ◌∷◌, ◌++◌, length, slice_index_or, slice_set, None}
+use Rattle.std.specs.Prelude.{◌≡◌, ℕ, ◌+◌, Bool, false, ◌==◌, ◌&&◌, ◌||◌, List, [], ◌∷◌, ◌++◌, length, slice_index_or, slice_set, min, Option}
+use Rattle.std.specs.Prelude.{Some, None, option_map}
 use Rattle.std.specs.List.{list_any}
+use Rattle.token_bucket.specs.declared.limit.Dir.{Dir}
 use Rattle.token_bucket.specs.declared.limit.Dir.TheVariants as dir
+use Rattle.token_bucket.specs.declared.limit.LimitCfg.{LimitCfg}
 use Rattle.ev_types.specs.declared.side.Side.TheVariants.{In}
 use Rattle.ev_types.specs.declared.filter.FilterKind.{FilterKind}
 use Rattle.ev_types.specs.declared.side.SideId.{SideId}
 use Rattle.ev_types.specs.Sides.{number, peer}
 use Rattle.relay_model.specs.Settings.{usual}
-use Rattle.relay_model.specs.Plain.{PlainSide, no_side, new_side}
+use Rattle.relay_model.specs.Plain.{PlainSide, Standing, first_limit, no_side, new_side}
 use Rattle.relay_model.specs.Flow.{Flow, no_flow}
 use Rattle.filter_model.specs.FilterStep.{begun}
 use Rattle.relay_model.specs.Rooms.{most_at_once, mark_or}
 use Rattle.relay_model.specs.Moments.{active_at}
+use Rattle.relay_state.specs.Running.{Gauge, no_gauge, held_at, gauge_after, gauge_begun, gauge_set}
 use Rattle.relay_state.specs.State.{Lane, no_lane, lane_got, lane_moved, lane_taken, lane_left, lane_lost}
 use Rattle.relay_state.specs.Serving.{flow_given}
 use Rattle.relay_state.specs.Passage.{Passage, read_part, pass_round, SomeRounds, Passed}
@@ -20,16 +24,17 @@ use Rattle.relay_state.specs.Closing.{in_side, out_side}
 use Rattle.relay_state.specs.Counting.{has_flown_far, has_read_far}
 use Rattle.relay_sides.specs.declared.opening.NewSide.{NewSide}
 
--- How many links were opened. Sides stand by their numbers, and so do the flows and lanes of directions, each at the side that it
--- begins at.
+-- How many links were opened. Sides stand by their numbers, and so do their buckets, and the flows and lanes of directions, each at the
+-- side that it begins at.
 pub record Links : Type 0 where
   pub opened : ℕ
   pub sides : List PlainSide
   pub flows : List Flow
   pub lanes : List Lane
+  pub gauges : List Gauge
 
 abbrev pub no_links : Links
-no_links = record { opened = 0; sides = []; flows = []; lanes = [] }
+no_links = record { opened = 0; sides = []; flows = []; lanes = []; gauges = [] }
 
 abbrev pub side_at : Links → SideId → PlainSide
 side_at k e = slice_index_or k.sides (number e) no_side
@@ -40,6 +45,10 @@ flow_at k e = slice_index_or k.flows (number e) no_flow
 abbrev pub lane_at : Links → SideId → Lane
 lane_at k e = slice_index_or k.lanes (number e) no_lane
 
+-- the buckets of a side
+abbrev pub gauge_at : Links → SideId → Gauge
+gauge_at k e = slice_index_or k.gauges (number e) no_gauge
+
 abbrev pub put_side : SideId → PlainSide → Links → Links
 put_side e x k = record k { sides = slice_set k.sides (number e) x }
 
@@ -49,6 +58,9 @@ put_flow e f k = record k { flows = slice_set k.flows (number e) f }
 abbrev pub put_lane : SideId → Lane → Links → Links
 put_lane e l k = record k { lanes = slice_set k.lanes (number e) l }
 
+abbrev pub put_gauge : SideId → Gauge → Links → Links
+put_gauge e x k = record k { gauges = slice_set k.gauges (number e) x }
+
 -- one side is changed
 abbrev pub change_side : SideId → (PlainSide → PlainSide) → Links → Links
 change_side e change k = put_side e (change (side_at k e)) k
@@ -57,23 +69,54 @@ change_side e change k = put_side e (change (side_at k e)) k
 abbrev pub change_flow : SideId → (Flow → Flow) → Links → Links
 change_flow e change k = put_flow e (change (flow_at k e)) k
 
--- a side as its link opens, at a time
-abbrev pub opening_side : ℕ → NewSide → PlainSide
-opening_side time n =
-    let x = new_side usual time 0 In n.connected in record x { marks = n.marks; timeouts = n.timeouts }
+-- a side as its link opens, in a turn and at its time
+abbrev pub opening_side : ℕ → ℕ → NewSide → PlainSide
+opening_side time turn n =
+    let x = new_side usual time turn In n.connected in
+    record x { marks = n.marks; timeouts = n.timeouts; limit = option_map (first_limit time turn) n.limit; group = n.group }
 
 -- a direction of a new link, with these filters
 abbrev pub fresh_lane : FilterKind → FilterKind → Lane
 fresh_lane reader writer = record no_lane { reader = begun reader; writer = begun writer }
 
 -- The next link has these two sides. The direction from a side has the read filter of that side and the write filter of the other.
-abbrev pub with_link : ℕ → NewSide → NewSide → Links → Links
-with_link time near far k = record {
+abbrev pub with_link : ℕ → ℕ → NewSide → NewSide → Links → Links
+with_link time turn near far k = record {
   opened = k.opened + 1;
-  sides = k.sides ++ opening_side time near ∷ opening_side time far ∷ [];
+  sides = k.sides ++ opening_side time turn near ∷ opening_side time turn far ∷ [];
   flows = k.flows ++ no_flow ∷ no_flow ∷ [];
   lanes = k.lanes ++ fresh_lane near.read far.write ∷ fresh_lane far.read near.write ∷ [];
+  gauges = k.gauges ++ gauge_begun near.limit time ∷ gauge_begun far.limit time ∷ [];
 }
+
+-- Limits
+
+-- what a side's own limit leaves it to move in a direction at a time
+abbrev pub allowance_at : ℕ → Links → SideId → Dir → Option ℕ
+allowance_at time k e d = option_map (λ y. held_at y.cfg (gauge_at k e) d time) (side_at k e).limit
+
+-- The limit that stands once another is set, or none, in a turn and at its time. It takes what the buckets hold with it, cut to the new
+-- bursts.
+abbrev pub limit_after : Gauge → ℕ → ℕ → Option Standing → Option LimitCfg → Option Standing
+limit_after x time turn was None = None
+limit_after x time turn None (Some cfg) = Some (first_limit time turn cfg)
+limit_after x time turn (Some was) (Some cfg) = Some (record {
+  cfg = cfg;
+  turn = turn;
+  time = time;
+  read_level = min (held_at was.cfg x dir.Read time) cfg.read_burst;
+  write_level = min (held_at was.cfg x dir.Write time) cfg.write_burst;
+})
+
+-- with such a limit
+abbrev pub limited : ℕ → ℕ → SideId → Option LimitCfg → Links → Links
+limited time turn e cfg k =
+    put_gauge e (gauge_set (side_at k e).limit cfg time (gauge_at k e))
+    (change_side e (λ x. record x { limit = limit_after (gauge_at k e) time turn x.limit cfg }) k)
+
+-- the side moved so many bytes in a direction at a time
+abbrev pub spent : ℕ → SideId → Dir → ℕ → Links → Links
+spent time e d n k = put_gauge e (gauge_after (side_at k e).limit time d n (gauge_at k e)) k
 
 -- Passing
 

@@ -1,6 +1,7 @@
 -- The two bufferevents of a side whose link opens.
-use Rattle.std.specs.Prelude.{ℕ, true, List, [], ◌∷◌}
-use Rattle.ev_types.specs.declared.filter.FilterKind.TheVariants.{None}
+use Rattle.std.specs.Prelude.{ℕ, ◌+◌, true, List, [], ◌∷◌, Option, Some, None}
+use Rattle.ev_types.specs.declared.filter.FilterKind.TheVariants as kind
+use Rattle.token_bucket.specs.declared.limit.LimitCfg.{LimitCfg}
 use Rattle.bev_core.specs.BevValue.{BevValue, new_bev}
 use Rattle.bev_world.specs.WorldValue.{new_slot}
 use Rattle.bev_world.specs.declared.slot.Slot.{Slot}
@@ -24,4 +25,12 @@ opening_bev time side = record new_bev {
 -- both, the first of which has this number; the second is a filter over it
 abbrev pub side_slots : ℕ → NewSide → ℕ → List Slot
 side_slots time side n =
-    record (new_slot Socket None None) { bev = opening_bev time side; taken = true } ∷ new_slot (Filter n) side.read side.write ∷ []
+    record (new_slot Socket kind.None kind.None) { bev = opening_bev time side; taken = true } ∷ new_slot (Filter n) side.read side.write ∷ []
+
+-- for how many limits there must be room
+abbrev pub limits_in : Option LimitCfg → ℕ
+limits_in None = 0
+limits_in (Some cfg) = 1
+
+abbrev pub limits_of : NewSide → NewSide → ℕ
+limits_of near far = limits_in near.limit + limits_in far.limit

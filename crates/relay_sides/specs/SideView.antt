@@ -1,9 +1,12 @@
 -- What contracts see of a side, and of the direction that begins at it: the bufferevents of the two sides, and what is kept beside them.
-use Rattle.std.specs.Prelude.{ℕ, Bool, true, false, not, List, None, slice_index_or}
+use Rattle.std.specs.Prelude.{ℕ, Bool, true, false, not, List, Option, Some, None, option_map, if◌then◌else◌, slice_index_or, Box}
+use Rattle.std.specs.declared.alloc.Global.{Global}
 use Rattle.relay_model.specs.Plain.{PlainSide}
 use Rattle.relay_model.specs.Flow.{Flow}
 use Rattle.relay_model.specs.Conserved.{Buffers}
+use Rattle.relay_state.specs.Running.{Gauge, no_gauge}
 use Rattle.relay_state.specs.State.{Lane}
+use Rattle.side_limit.specs.LimitValue.{LimitValue}
 use Rattle.bev_core.specs.BevValue.{BevValue}
 use Rattle.bev_world.specs.declared.slot.Slot.{Slot}
 use Rattle.relay_sides.specs.Bevs.{Bevs, bevs_at, twin}
@@ -24,9 +27,9 @@ flags_of x = record {
   closed = x.closed;
 }
 
--- what is kept of a side whose end is connected or not, before anything was counted
-abbrev pub new_state : Bool → SideState
-new_state connected = record {
+-- what is kept of a side whose end is connected or not, with its limit and its group, before anything was counted
+abbrev pub new_state : Bool → Option (Box LimitValue Global) → Option ℕ → SideState
+new_state connected limit group = record {
   connecting = not connected;
   expired = false;
   write_ended = false;
@@ -38,12 +41,26 @@ new_state connected = record {
   moved = 0;
   write_made = 0;
   given = 0;
+  limit = limit;
+  group = group;
 }
 
 abbrev pub state_at : List SideState → ℕ → SideState
-state_at sides n = slice_index_or sides n (new_state true)
+state_at sides n = slice_index_or sides n (new_state true None None)
 
--- No side has a limit or a group.
+-- a side's limit with its buckets, where it has one
+abbrev pub limit_kept : SideState → Option LimitValue
+limit_kept s = option_map (λ (b : Box LimitValue Global). b.value) s.limit
+
+-- its buckets
+abbrev pub gauge_by : Option LimitValue → Gauge
+gauge_by None = no_gauge
+gauge_by (Some x) = x.gauge
+
+abbrev pub gauge_of : SideState → Gauge
+gauge_of s = gauge_by (limit_kept s)
+
+-- A freed side is in no group.
 abbrev pub plain_side : BevValue → SideState → PlainSide
 plain_side b s = record {
   live = b.live;
@@ -60,8 +77,8 @@ plain_side b s = record {
   timeouts = record { read_ms = b.read_ms; write_ms = b.write_ms };
   last_read = b.last_read;
   last_write = b.last_write;
-  limit = None;
-  group = None;
+  limit = option_map (λ (x : LimitValue). x.standing) (limit_kept s);
+  group = if b.live then s.group else None;
   references = b.refs;
 }
 
@@ -100,6 +117,9 @@ lane_of from to s = record {
 -- a side by its number, and the direction that begins there
 abbrev pub plain_at : List Slot → List SideState → ℕ → PlainSide
 plain_at slots sides n = plain_side (bevs_at slots n).lower.bev (state_at sides n)
+
+abbrev pub gauge_at : List SideState → ℕ → Gauge
+gauge_at sides n = gauge_of (state_at sides n)
 
 abbrev pub flow_at : List Slot → List SideState → ℕ → Flow
 flow_at slots sides n = flow_of (bevs_at slots n) (bevs_at slots (twin n)) (state_at sides n)

@@ -12,7 +12,7 @@ use Rattle.relay_sides.specs.Table.{tabulate}
 use Rattle.relay_sides.specs.Links.{Links}
 use Rattle.relay_sides.specs.Rooms.{Rooms}
 use Rattle.relay_sides.specs.SidesValue.{SidesValue}
-use Rattle.relay_sides.specs.SideView.{plain_at, flow_at, lane_at, state_at}
+use Rattle.relay_sides.specs.SideView.{plain_at, flow_at, lane_at, gauge_at, state_at}
 use Rattle.relay_sides.specs.declared.sides.Sides.TheInside.{Inside}
 use Rattle.relay_sides.specs.declared.side.SideState.{SideState}
 
@@ -23,6 +23,7 @@ links_of opened slots sides = record {
   sides = tabulate (plain_at slots sides) (2 * opened);
   flows = tabulate (flow_at slots sides) (2 * opened);
   lanes = tabulate (lane_at slots sides) (2 * opened);
+  gauges = tabulate (gauge_at sides) (2 * opened);
 }
 
 abbrev pub rooms_of : ℕ → List Slot → ℕ → Rooms
@@ -43,6 +44,7 @@ abbrev pub sides_of : Inside → SidesValue
 sides_of r = record {
   links = links_of r.opened r.world.slots r.sides.items;
   spare_links = spare_links_of r;
+  spare_limits = vec_len r.spare_limits;
   spare_reads = tabulate (λ n. if n == r.ready then r.readable else 0) (2 * r.opened);
   rooms = rooms_of r.opened r.world.slots (vec_capacity r.beside);
 }

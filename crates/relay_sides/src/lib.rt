@@ -9,6 +9,7 @@ mod asks;
 mod counts;
 mod ends;
 mod flags;
+mod limits;
 mod opening;
 mod pass;
 mod questions;

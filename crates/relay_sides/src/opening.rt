@@ -1,15 +1,17 @@
 // Opening links.
 ghost use Rattle.std.specs.Prelude.{◌≡◌, ◌≤◌, ◌<◌, ◌+◌, ◌-◌, ◌^◌, ◌++◌, length, OnOk};
 ghost use Rattle.relay_sides.specs.Links.{with_link};
-ghost use Rattle.relay_sides.specs.Opening.{side_slots};
+ghost use Rattle.relay_sides.specs.Opening.{side_slots, limits_of};
 
+use crate::limits::first_limit;
 use crate::side::SideState;
 use crate::sides::Sides;
 use bev_core::Dir;
 use bev_world::World;
-use ev_types::{FilterKind, Marks, NoMemory, Timeouts};
+use ev_types::{FilterKind, LimitCfg, Marks, NoMemory, Timeouts};
 
-/// What a side gets as its link opens: its marks and timeouts, its two filters, and whether its end is connected.
+/// What a side gets as its link opens: its marks and timeouts, its two filters, its limit and its group, and whether its end is
+/// connected.
 ///
 /// Own.
 #[derive(Clone, Copy, Debug, PartialEq, Eq)]
@@ -20,6 +22,8 @@ pub struct NewSide {
     pub read: FilterKind,
     /// What is given to its end goes through it.
     pub write: FilterKind,
+    pub limit: Option<LimitCfg>,
+    pub group: Option<u32>,
     pub connected: bool,
 }
 
@@ -42,15 +46,19 @@ impl Sides {
         self.world.reserve(4)
     }
 
-    /// Opens the next link at a time, with its In and its Out side, in room that was made before. Takes no memory; constant.
+    /// Opens the next link in a turn and at its time, with its In and its Out side, in room that was made before. Takes no memory;
+    /// constant.
     ///
     /// Own.
-    pub fn open(&mut self, near: NewSide, far: NewSide, time: u64)
-        requires { 0 < self.old.spare_links }
-        ensures { self.new.links ≡ with_link time near far self.old.links }
+    pub fn open(&mut self, near: NewSide, far: NewSide, time: u64, turn: u64)
+        requires room { 0 < self.old.spare_links }
+        requires limits { limits_of near far ≤ self.old.spare_limits }
+        ensures { self.new.links ≡ with_link time turn near far self.old.links }
     {
-        let near_state = SideState::new(near.connected);
-        let far_state = SideState::new(far.connected);
+        let near_limit = first_limit(&mut self.spare_limits, near.limit, time, turn);
+        let far_limit = first_limit(&mut self.spare_limits, far.limit, time, turn);
+        let near_state = SideState::new(near.connected, near_limit, near.group);
+        let far_state = SideState::new(far.connected, far_limit, far.group);
         add_bevs(&mut self.world, near, time);
         add_bevs(&mut self.world, far, time);
         self.sides.push(near_state).unwrap();

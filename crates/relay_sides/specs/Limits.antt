@@ -1,0 +1,28 @@
+-- Limits of sides, as the code keeps them.
+use Rattle.std.specs.Prelude.{◌≤◌, ◌==◌, ℕ, ⊤, List, [], Option, Some, None, option_map, Box}
+use Rattle.std.specs.List.{list_any}
+use Rattle.std.specs.declared.alloc.Global.{Global}
+use Rattle.token_bucket.specs.declared.limit.LimitCfg.{LimitCfg}
+use Rattle.relay_model.specs.Plain.{Standing}
+use Rattle.relay_model.specs.Moments.{both_ways, moment_where}
+use Rattle.relay_model.specs.Rates.{next_tick}
+use Rattle.relay_state.specs.Running.{Gauge, held_at}
+use Rattle.side_limit.specs.LimitValue.{LimitValue, first_value}
+
+-- no more than is allowed, where there is a limit
+abbrev pub IsWithin : ℕ → Option ℕ → Type 0
+IsWithin n None = ⊤
+IsWithin n (Some most) = n ≤ most
+
+-- a limit in its memory
+abbrev pub kept_value : Option (Box LimitValue Global) → Option LimitValue
+kept_value limit = option_map (λ (b : Box LimitValue Global). b.value) limit
+
+-- a limit that is set for the first time in a turn and at its time, where there is to be one
+abbrev pub first_kept : ℕ → ℕ → Option LimitCfg → Option LimitValue
+first_kept time turn cfg = option_map (λ limit. first_value limit turn time) cfg
+
+-- when a bucket that holds nothing at a time gains again
+abbrev pub limit_gains : ℕ → Gauge → Option Standing → List ℕ
+limit_gains time x None = []
+limit_gains time x (Some y) = moment_where (list_any (λ d. held_at y.cfg x d time == 0) both_ways) (next_tick y.cfg.tick_ms time)

@@ -1,0 +1,135 @@
+// Limits of sides: memory for them is made before they are set.
+ghost use Rattle.std.specs.Prelude.{◌≡◌, ◌<◌, ◌≤◌, ◌+◌, ◌-◌, ◌^◌, true, OnOk, vec_len};
+ghost use Rattle.std.specs.Option.{option_to_list};
+ghost use Rattle.relay_sides.specs.Links.{side_at, gauge_at, change_side, allowance_at, limited, spent};
+ghost use Rattle.relay_sides.specs.Limits.{IsWithin, kept_value, first_kept, limit_gains};
+ghost use Rattle.relay_sides.specs.Opening.{limits_in};
+
+use crate::sides::Sides;
+use bev_core::Dir;
+use ev_types::{LimitCfg, NoMemory, SideId};
+use side_limit::SideLimit;
+
+/// A first limit in memory that was kept ready, where there is to be one, set in a turn and at its time.
+pub(crate) fn first_limit(
+    spare: &mut Vec<Box<SideLimit>>,
+    cfg: Option<LimitCfg>,
+    time: u64,
+    turn: u64,
+) -> Option<Box<SideLimit>>
+    requires { limits_in cfg ≤ vec_len spare.old }
+    ensures limit { kept_value result ≡ first_kept time turn cfg }
+    ensures spare { vec_len spare.new ≡ vec_len spare.old - limits_in cfg }
+{
+    let cfg = cfg?;
+    let mut limit = spare.pop()?;
+    *limit = SideLimit::first(cfg, turn, time);
+    Some(limit)
+}
+
+impl Sides {
+    /// Makes memory for so many limits more than are set. Takes memory for those that are lacking; linear in their number.
+    ///
+    /// Own.
+    pub fn reserve_limits(&mut self, count: usize) -> Result<(), NoMemory>
+        ensures links { self.new.links ≡ self.old.links }
+        ensures links_room { self.new.spare_links ≡ self.old.spare_links }
+        ensures room { OnOk result (count ≤ self.new.spare_limits) }
+    {
+        while self.spare_limits.len() < count {
+            let alloc = *self.spare_limits.allocator();
+            let limit = Box::new(alloc, SideLimit::spare())?;
+            self.spare_limits.push(limit)?;
+        }
+        Ok(())
+    }
+
+    /// What the side's own limit leaves it to move in a direction at a time. None where it has no limit. Constant; takes no memory.
+    ///
+    /// Libevent: event2/bufferevent.h, `bufferevent_get_read_limit` and `bufferevent_get_write_limit`; "Bufferevents: advanced topics".
+    pub fn allowance(&self, side: SideId, dir: Dir, time: u64) -> Option<u64>
+        requires opened { side.link < self.now.links.opened }
+        requires later { (gauge_at self.now.links side).time ≤ time }
+        ensures { result ≡ allowance_at time self.now.links side dir }
+    {
+        let limit = self.sides[side.number()].limit.as_ref()?;
+        Some(limit.allowance(dir, time))
+    }
+
+    /// The side moved so many bytes in a direction at a time. It is asked that its limit allows them. Constant; takes no memory.
+    ///
+    /// Libevent: event2/bufferevent.h, `bufferevent_decrement_read_limit` and `bufferevent_decrement_write_limit`; "Bufferevents: advanced
+    /// topics".
+    pub fn spend(&mut self, side: SideId, dir: Dir, count: u64, time: u64)
+        requires opened { side.link < self.old.links.opened }
+        requires later { (gauge_at self.old.links side).time ≤ time }
+        requires within { IsWithin count (allowance_at time self.old.links side dir) }
+        ensures links { self.new.links ≡ spent time side dir count self.old.links }
+    {
+        self.readable = 0;
+        let own = &mut self.sides[side.number()];
+        if let Some(limit) = own.limit.as_mut() {
+            limit.spend(dir, count, time);
+        }
+    }
+
+    /// Gives the side another limit in a turn and at its time, or takes it away. It is asked that there is memory for one. Constant; takes
+    /// no memory.
+    ///
+    /// Libevent: event2/bufferevent.h, `bufferevent_set_rate_limit`; "Bufferevents: advanced topics".
+    pub fn set_limit(&mut self, side: SideId, cfg: Option<LimitCfg>, time: u64, turn: u64)
+        requires opened { side.link < self.old.links.opened }
+        requires later { (gauge_at self.old.links side).time ≤ time }
+        requires room { 0 < self.old.spare_limits }
+        ensures links { self.new.links ≡ limited time turn side cfg self.old.links }
+        ensures spare { self.old.spare_limits ≤ self.new.spare_limits + 1 }
+    {
+        self.readable = 0;
+        let own = &mut self.sides[side.number()];
+        match (cfg, own.limit.as_mut()) {
+            (Some(cfg), Some(limit)) => limit.change(cfg, turn, time),
+            (cfg, _) => own.limit = first_limit(&mut self.spare_limits, cfg, time, turn),
+        }
+    }
+
+    /// When a bucket of the side's limit that holds nothing at a time gains again. None where both hold something, or there is no limit.
+    /// Constant; takes no memory.
+    ///
+    /// Own; libevent has a timer event for it.
+    pub fn gains_at(&self, side: SideId, time: u64) -> Option<u64>
+        requires opened { side.link < self.now.links.opened }
+        requires later { (gauge_at self.now.links side).time ≤ time }
+        requires near { time ≤ 2 ^ 62 }
+        ensures { option_to_list result ≡ limit_gains time (gauge_at self.now.links side) (side_at self.now.links side).limit }
+    {
+        self.sides[side.number()].limit.as_ref()?.gains_at(time)
+    }
+
+    /// The number of the side's group. None where it is in none, and for a freed side. Constant; takes no memory.
+    ///
+    /// Own.
+    pub fn group(&self, side: SideId) -> Option<u32>
+        requires { side.link < self.now.links.opened }
+        ensures { result ≡ (side_at self.now.links side).group }
+    {
+        if self.is_live(side) {
+            self.sides[side.number()].group
+        } else {
+            None
+        }
+    }
+
+    /// Puts a live side into a group, or takes it out of its own. Constant; takes no memory.
+    ///
+    /// Libevent: event2/bufferevent.h, `bufferevent_add_to_rate_limit_group` and `bufferevent_remove_from_rate_limit_group`;
+    /// "Bufferevents: advanced topics".
+    pub fn set_group(&mut self, side: SideId, group: Option<u32>)
+        requires opened { side.link < self.old.links.opened }
+        requires live { (side_at self.old.links side).live ≡ true }
+        ensures { self.new.links ≡ change_side side (λ x. record x { group = group }) self.old.links }
+    {
+        self.readable = 0;
+        let own = &mut self.sides[side.number()];
+        own.group = group;
+    }
+}
