@@ -1,0 +1,2 @@
+pub mod LimitValue
+pub mod LimitView
