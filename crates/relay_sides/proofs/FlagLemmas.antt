@@ -160,13 +160,18 @@ module _ (v : SidesValue) (r : Inside) (is : sides_of r ≡ v) (sound : AreSides
           (λ m d. ap counted_of (kept_off m d)) (ap counted_of kept_now ∙ counted_is ∙ ap counted_of kept_is);
     }
 
-    pub state_links : (g : PlainSide → PlainSide) → ((z : BevValue) → plain_side z y ≡ g (plain_side z x)) →
+    pub state_links_here : (g : PlainSide → PlainSide) →
+        (let z = (bevs_at r.world.slots (number e)).lower.bev in plain_side z y ≡ g (plain_side z x)) →
         links_of r.opened r.world.slots (slice_set r.sides.items j y) ≡ change_side e g v.links
-    state_links g same =
+    state_links_here g same =
         let z : BevValue = (bevs_at S n).lower.bev in
         side_changed v r is e opened S (slice_set K j y) g kept_alike
         (λ m d. ap (plain_side (bevs_at S m).lower.bev) (kept_off m d))
-        (ap (plain_side z) kept_now ∙ same z ∙ ap (λ k. g (plain_side z k)) kept_is)
+        (ap (plain_side z) kept_now ∙ same ∙ ap (λ k. g (plain_side z k)) kept_is)
+
+    pub state_links : (g : PlainSide → PlainSide) → ((z : BevValue) → plain_side z y ≡ g (plain_side z x)) →
+        links_of r.opened r.world.slots (slice_set r.sides.items j y) ≡ change_side e g v.links
+    state_links g same = state_links_here g (same (bevs_at S n).lower.bev)
 
     pub state_counted : (m : ℕ) → m < 2 * r.opened →
         IsCounted (flow_at r.world.slots (slice_set r.sides.items j y) m) (lane_at r.world.slots (slice_set r.sides.items j y) m)

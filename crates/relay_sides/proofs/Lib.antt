@@ -18,3 +18,4 @@ pub mod ReaderLemmas
 pub mod OpenLemmas
 pub mod RoomLemmas
 pub mod ServeLemmas
+pub mod LimitLemmas

@@ -18,8 +18,8 @@ use Rattle.bev_world.specs.WorldValue.{WorldValue, no_slot, new_slot, bev_at, wi
 use Rattle.bev_world.specs.declared.slot.Slot.{Slot}
 use Rattle.bev_world.specs.declared.slot.Kind.TheVariants.{Socket, Filter}
 use Rattle.relay_model.specs.Flow.{Flow, no_flow}
-use Rattle.relay_model.specs.Plain.{PlainSide, Standing, first_limit}
-use Rattle.relay_state.specs.Running.{Gauge, gauge_begun}
+use Rattle.relay_model.specs.Plain.{PlainSide, first_limit}
+use Rattle.relay_state.specs.Running.{gauge_begun}
 use Rattle.side_limit.specs.LimitValue.{LimitValue}
 use Rattle.relay_state.specs.State.{Lane}
 use Rattle.relay_sides.specs.Bevs.{Bevs, bevs_at, lower_of, upper_of, twin}

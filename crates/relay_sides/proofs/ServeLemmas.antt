@@ -24,7 +24,7 @@ use Rattle.relay_sides.specs.Links as links
 use Rattle.relay_sides.specs.Links.{Links, with_got, after_took, read_mark}
 use Rattle.relay_sides.specs.Rooms.{HasInputRoom}
 use Rattle.relay_sides.specs.SidesValue.{SidesValue, spare_read}
-use Rattle.relay_sides.specs.SideView.{state_at, plain_at, flow_at, lane_at, gauge_at, plain_side, flow_of, lane_of, limit_kept}
+use Rattle.relay_sides.specs.SideView.{state_at, plain_at, flow_at, lane_at, plain_side, flow_of, lane_of, limit_kept}
 use Rattle.relay_sides.specs.SidesView.{links_of, rooms_of, sides_of, AreSides, IsCounted, CanRead}
 use Rattle.relay_sides.specs.declared.sides.Sides.TheInside.{Inside}
 use Rattle.relay_sides.specs.declared.side.SideState.{SideState}

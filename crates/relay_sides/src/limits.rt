@@ -1,8 +1,10 @@
 // Limits of sides: memory for them is made before they are set.
 ghost use Rattle.std.specs.Prelude.{◌≡◌, ◌<◌, ◌≤◌, ◌+◌, ◌-◌, ◌^◌, true, OnOk, vec_len};
-ghost use Rattle.std.specs.Option.{option_to_list};
+ghost use Rattle.std.specs.Option.{option_map, option_to_list};
+ghost use Rattle.side_limit.specs.LimitValue.{holds, spent as spent_value};
 ghost use Rattle.relay_sides.specs.Links.{side_at, gauge_at, change_side, allowance_at, limited, spent};
-ghost use Rattle.relay_sides.specs.Limits.{IsWithin, kept_value, first_kept, limit_gains};
+ghost use Rattle.relay_sides.specs.Limits.{IsWithin, kept_value, first_kept, set_kept, gains_kept, limit_gains};
+ghost use Rattle.relay_sides.specs.SideView.{gauge_by};
 ghost use Rattle.relay_sides.specs.Opening.{limits_in};
 
 use crate::sides::Sides;
@@ -27,6 +29,58 @@ pub(crate) fn first_limit(
     Some(limit)
 }
 
+/// What a limit leaves to move in a direction at a time, where there is one.
+fn allowance_of(limit: &Option<Box<SideLimit>>, dir: Dir, time: u64) -> Option<u64>
+    requires { (gauge_by (kept_value limit.now)).time ≤ time }
+    ensures { result ≡ option_map (λ x. holds x dir time) (kept_value limit.now) }
+{
+    let limit = limit.as_ref()?;
+    Some(limit.allowance(dir, time))
+}
+
+/// Bytes were moved in a direction at a time, as many as the limit allows, where there is one.
+fn spend_of(limit: &mut Option<Box<SideLimit>>, dir: Dir, count: u64, time: u64)
+    requires later { (gauge_by (kept_value limit.old)).time ≤ time }
+    requires within { IsWithin count (option_map (λ x. holds x dir time) (kept_value limit.old)) }
+    ensures { kept_value limit.new ≡ option_map (spent_value dir count time) (kept_value limit.old) }
+{
+    if let Some(limit) = limit.as_mut() {
+        limit.spend(dir, count, time);
+    }
+}
+
+/// Another limit, or none, in the place of this one, in a turn and at its time; a first one in memory that was kept ready.
+fn set_of(
+    limit: &mut Option<Box<SideLimit>>,
+    spare: &mut Vec<Box<SideLimit>>,
+    cfg: Option<LimitCfg>,
+    time: u64,
+    turn: u64,
+)
+    requires later { (gauge_by (kept_value limit.old)).time ≤ time }
+    requires room { 0 < vec_len spare.old }
+    ensures limit { kept_value limit.new ≡ set_kept time turn (kept_value limit.old) cfg }
+    ensures spare { vec_len spare.old ≤ vec_len spare.new + 1 }
+{
+    let Some(cfg) = cfg else {
+        *limit = None;
+        return;
+    };
+    match limit.as_mut() {
+        Some(limit) => limit.change(cfg, turn, time),
+        None => *limit = first_limit(spare, Some(cfg), time, turn),
+    }
+}
+
+/// When a bucket of a limit that holds nothing at a time gains again.
+fn gains_of(limit: &Option<Box<SideLimit>>, time: u64) -> Option<u64>
+    requires later { (gauge_by (kept_value limit.now)).time ≤ time }
+    requires near { time ≤ 2 ^ 62 }
+    ensures { option_to_list result ≡ gains_kept time (kept_value limit.now) }
+{
+    limit.as_ref()?.gains_at(time)
+}
+
 impl Sides {
     /// Makes memory for so many limits more than are set. Takes memory for those that are lacking; linear in their number.
     ///
@@ -36,8 +90,8 @@ impl Sides {
         ensures links_room { self.new.spare_links ≡ self.old.spare_links }
         ensures room { OnOk result (count ≤ self.new.spare_limits) }
     {
-        while self.spare_limits.len() < count {
-            let alloc = *self.spare_limits.allocator();
+        let alloc = *self.spare_limits.allocator();
+        for _ in self.spare_limits.len()..count {
             let limit = Box::new(alloc, SideLimit::spare())?;
             self.spare_limits.push(limit)?;
         }
@@ -52,8 +106,7 @@ impl Sides {
         requires later { (gauge_at self.now.links side).time ≤ time }
         ensures { result ≡ allowance_at time self.now.links side dir }
     {
-        let limit = self.sides[side.number()].limit.as_ref()?;
-        Some(limit.allowance(dir, time))
+        allowance_of(&self.sides[side.number()].limit, dir, time)
     }
 
     /// The side moved so many bytes in a direction at a time. It is asked that its limit allows them. Constant; takes no memory.
@@ -64,13 +117,11 @@ impl Sides {
         requires opened { side.link < self.old.links.opened }
         requires later { (gauge_at self.old.links side).time ≤ time }
         requires within { IsWithin count (allowance_at time self.old.links side dir) }
-        ensures links { self.new.links ≡ spent time side dir count self.old.links }
+        ensures { self.new.links ≡ spent time side dir count self.old.links }
     {
         self.readable = 0;
         let own = &mut self.sides[side.number()];
-        if let Some(limit) = own.limit.as_mut() {
-            limit.spend(dir, count, time);
-        }
+        spend_of(&mut own.limit, dir, count, time);
     }
 
     /// Gives the side another limit in a turn and at its time, or takes it away. It is asked that there is memory for one. Constant; takes
@@ -86,10 +137,7 @@ impl Sides {
     {
         self.readable = 0;
         let own = &mut self.sides[side.number()];
-        match (cfg, own.limit.as_mut()) {
-            (Some(cfg), Some(limit)) => limit.change(cfg, turn, time),
-            (cfg, _) => own.limit = first_limit(&mut self.spare_limits, cfg, time, turn),
-        }
+        set_of(&mut own.limit, &mut self.spare_limits, cfg, time, turn);
     }
 
     /// When a bucket of the side's limit that holds nothing at a time gains again. None where both hold something, or there is no limit.
@@ -102,7 +150,7 @@ impl Sides {
         requires near { time ≤ 2 ^ 62 }
         ensures { option_to_list result ≡ limit_gains time (gauge_at self.now.links side) (side_at self.now.links side).limit }
     {
-        self.sides[side.number()].limit.as_ref()?.gains_at(time)
+        gains_of(&self.sides[side.number()].limit, time)
     }
 
     /// The number of the side's group. None where it is in none, and for a freed side. Constant; takes no memory.

@@ -1,5 +1,4 @@
 use Rattle.std.proofs.Common.{ℕ, ◌-◌, ◌<◌, refl, sym, ap, subst, ◌∙◌}
-use Rattle.ev_types.specs.Sides.{number}
 use Rattle.relay_model.specs.Plain.{PlainSide}
 use Rattle.bev_core.specs.BevValue.{BevValue}
 use Rattle.bev_world.specs.WorldValue.{bev_at}

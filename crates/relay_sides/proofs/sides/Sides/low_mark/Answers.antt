@@ -1,6 +1,4 @@
-use Rattle.std.proofs.Common.{◌≡◌, ℕ, ap, sym, ◌∙◌}
-use Rattle.token_bucket.specs.declared.limit.Dir.TheVariants as dir
-use Rattle.token_bucket.specs.declared.limit.Dir.{Dir}
+use Rattle.std.proofs.Common.{ap, sym, ◌∙◌}
 use Rattle.ev_types.specs.Sides.{number}
 use Rattle.bev_core.specs.BevValue.{BevValue}
 use Rattle.bev_core.specs.declared.state.BevState.{BevState}

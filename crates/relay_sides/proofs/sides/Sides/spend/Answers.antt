@@ -1,0 +1,33 @@
+use Rattle.std.proofs.Common.{refl, sym, subst}
+use Rattle.relay_sides.specs.Limits.{IsWithin}
+use Rattle.relay_sides.proofs.FlagLemmas.{are_sound}
+use Rattle.relay_sides.proofs.LimitLemmas.{allowance-found, later-found, limit_counted, limit_lasting, limit_spent}
+use Rattle.relay_sides.proofs.sides.Sides.spend.Goals as goal
+
+pub spend_of-requires-clause-later : goal.spend_of-requires-clause-later
+spend_of-requires-clause-later c =
+    later-found c.args.self.now c.self.inside c.self.view_is c.self.invariant c.args.side c.requires.opened c.number.result c.number.ensures
+    c.index_mut-own.result.now c.index_mut-own.ensures.value c.args.time c.requires.later
+
+pub spend_of-requires-clause-within : goal.spend_of-requires-clause-within
+spend_of-requires-clause-within c =
+    subst (λ z. IsWithin c.args.count z)
+    (sym (allowance-found c.args.self.now c.self.inside c.self.view_is c.self.invariant c.args.side c.requires.opened c.number.result
+    c.number.ensures c.index_mut-own.result.now c.index_mut-own.ensures.value c.args.dir c.args.time))
+    c.requires.within
+
+pub invariant_of-self : goal.invariant_of-self
+invariant_of-self c =
+    let v = c.args.self.now in
+    let r = c.self.inside in
+    let x = c.index_mut-own.result.now in
+    are_sound r _ c.self.invariant refl refl
+    (limit_lasting v r c.self.view_is c.self.invariant c.args.side c.requires.opened c.number.result c.number.ensures x
+    c.index_mut-own.ensures.value c.spend_of.new.limit)
+    (limit_counted v r c.self.view_is c.self.invariant c.args.side c.requires.opened c.number.result c.number.ensures x
+    c.index_mut-own.ensures.value c.spend_of.new.limit)
+
+pub returns : goal.returns
+returns c =
+    limit_spent c.args.self.now c.self.inside c.self.view_is c.self.invariant c.args.side c.requires.opened c.number.result c.number.ensures
+    c.index_mut-own.result.now c.index_mut-own.ensures.value c.spend_of.new.limit c.args.dir c.args.count c.args.time c.spend_of.ensures
