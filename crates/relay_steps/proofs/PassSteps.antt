@@ -110,6 +110,14 @@ module _ (t : Trace) (x : Stage) (s : State) (h : StandsFor t x s) (e : SideId) 
         (λ inside. other-fits (peer e) inside (peer-apart e))
         (λ apart far inside. other-fits a inside apart)
 
+    same : SameGauged s.plain (plain_passed e y s.plain)
+    same = record {
+      opened = refl;
+      time = refl;
+      rates = λ a. Keeps-side rates_of s.plain _ a (passed-rates e y s.plain);
+      live = λ a. Keeps-side live_of s.plain _ a (passed-live e y s.plain);
+    }
+
     pub stands-with : (stage : Stage) → Reaches s.settings t (at stage (plain_passed e y s.plain)) →
         AccountsFit s.settings t (plain_passed e y s.plain) →
         PassageFits s.settings t (plain_passed e y s.plain) e y → StandsFor t stage (with_passage e y s)
@@ -118,11 +126,11 @@ module _ (t : Trace) (x : Stage) (s : State) (h : StandsFor t x s) (e : SideId) 
       accounts = accounts;
       many = length-set s.lanes (number e) y.lane ∙ h.many;
       each = all-fit k;
-      built = h.built;
+      groups = h.groups;
       gauged =
           gauged-same t t s.plain (plain_passed e y s.plain) s.gauges
-          (record { opened = refl; time = refl; rates = λ a. Keeps-side rates_of s.plain _ a (passed-rates e y s.plain) }) (λ a d. refl)
-          h.gauged;
+          same (turns-same t) h.gauged;
+      grouped = grouped-same s.settings t t s.plain (plain_passed e y s.plain) s.groups same (turns-same t) h.grouped;
     }
 
 -- Passing
@@ -244,14 +252,10 @@ module _ (t : Trace) (e : SideId) (ms : List Want) (s : State) (lt : e.link < s.
     each = λ a inside. subst (λ z. LaneFits g t z a (lane_at ran a)) (sym new_is)
         (fits-same g t t ran.plain (record (ran.plain) { due = dues.0 }) a (lane_at ran a) (lane_at ran a) refl refl
         (all-ran a (subst (λ n. a.link < n) opened inside)));
-    built = h.built;
+    groups = h.groups;
     gauged =
-        gauged-same t t s.plain new s.gauges
-        (record {
-          opened = opened;
-          time = ap (λ z. z.time) new_is;
-          rates = λ a. ap (λ z. rates_of (side_at z a)) new_is ∙ Keeps-side rates_of s.plain _ a (passed-rates e y s.plain);
-        }) (λ a d. refl) h.gauged;
+        gauged-same t t s.plain new s.gauges same (turns-same t) h.gauged;
+    grouped = grouped-same s.settings t t s.plain new s.groups same (turns-same t) h.grouped;
   }
     where
       dues : (ds : List Due) × (reasons.raise_read g P e ran.plain ≡ record (ran.plain) { due = ds })
@@ -262,6 +266,14 @@ module _ (t : Trace) (e : SideId) (ms : List Want) (s : State) (lt : e.link < s.
 
       opened : new.opened ≡ s.plain.opened
       opened = ap (λ z. z.opened) new_is
+
+      same : SameGauged s.plain new
+      same = record {
+        opened = opened;
+        time = ap (λ z. z.time) new_is;
+        rates = λ a. ap (λ z. rates_of (side_at z a)) new_is ∙ Keeps-side rates_of s.plain _ a (passed-rates e y s.plain);
+        live = λ a. ap (λ z. live_of (side_at z a)) new_is ∙ Keeps-side live_of s.plain _ a (passed-live e y s.plain);
+      }
 
   filtering-there : StandsFor t (Stage.Serving ms) (raise_read e (read_run e s))
   filtering-there = subst (StandsFor t (Stage.Serving ms)) (sym raised-is) filtered

@@ -127,7 +127,7 @@ module _ (t : Trace) (s : State) (e : SideId) (r w : Bool) (ms : List Want) (k :
       (still-raised g t p e (λ x. record x { connecting = false }) why.Connected (λ z. refl) (λ z. refl) (λ z. refl)) (λ a. refl)
       (λ a. refl) (λ a. (refl, refl))
   conn-still conn.Pending =
-      still-event t (entry.Conn e conn.Pending, []) p p (still-same t t p (λ a. refl) (λ a. refl) (λ a d. refl)) (λ a. refl) (λ a. refl)
+      still-event t (entry.Conn e conn.Pending, []) p p (still-same t t p (λ a. refl) (λ a. refl) (turns-same t)) (λ a. refl) (λ a. refl)
       (λ a. (refl, refl))
   conn-still conn.Failed =
       still-event t (entry.Conn e conn.Failed, []) p (model.after_conn g e conn.Failed p)
