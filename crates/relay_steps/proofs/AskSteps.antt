@@ -1,5 +1,5 @@
 -- Hooks: a reason is fired, the hook asks of any side, and what the relay stands for goes on.
-use Rattle.std.proofs.Common.{◌≡◌, inl, inr, ◌+◌, ◌-◌, ◌<◌, Bool, true, false, not, if◌then◌else◌, nat_le, List, [], ◌∷◌, ◌++◌, Option}
+use Rattle.std.proofs.Common.{◌≡◌, inl, inr, ℕ, length, ◌+◌, ◌-◌, ◌<◌, Bool, true, false, not, if◌then◌else◌, nat_le, List, [], ◌∷◌, ◌++◌, Option}
 use Rattle.std.proofs.Common.{Some, None, refl, sym, ◌∙◌, ap, subst, arith, append_assoc}
 use Rattle.std.specs.Prelude.{is_some, slice_set}
 use Rattle.std.proofs.lemmas.List.{get_or_past}
@@ -36,6 +36,10 @@ use Rattle.relay_state.specs.Serving.{raise_read, raise_write}
 use Rattle.relay_state.specs.Closing.{freed}
 use Rattle.token_bucket.specs.declared.limit.LimitCfg.{LimitCfg}
 use Rattle.relay_state.specs.Running.{gauge_set}
+use Rattle.rate_group.specs.GroupValue.{GroupsValue}
+use Rattle.rate_group.specs.Steps.{joined, left}
+use Rattle.relay_steps.specs.Grouped.{Grouped}
+use Rattle.relay_steps.proofs.GroupedSteps.{moved_to}
 use Rattle.relay_steps.proofs.RateLemmas.{turns-same}
 use Rattle.relay_steps.proofs.RateSteps.{change-is, set-fits, set-gauged, set-grouped}
 use Rattle.relay_steps.proofs.JoinSteps.{moved-fits, moved-gauges, moved-groups}

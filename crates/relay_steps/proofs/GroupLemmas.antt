@@ -1,7 +1,7 @@
 -- What is kept of a group's bucket step by step is what the model has of all turns: how much it holds, and whether the group is suspended.
 use Rattle.std.proofs.Common.{◌≡◌, ◌⊎◌, inl, inr, ℕ, zero, suc, ◌+◌, ◌-◌, ◌*◌, ◌<◌, ◌≤◌, Bool, true, false, ◌==◌, ◌&&◌, ◌||◌, List, [], ◌∷◌}
 use Rattle.std.proofs.Common.{◌++◌, length, take, refl, sym, ◌∙◌, ap, subst, arith, length-append}
-use Rattle.std.specs.Prelude.{nat_lt, slice_index_or}
+use Rattle.std.specs.Prelude.{nat_lt, slice_index_or, if◌then◌else◌}
 use Rattle.std.proofs.lemmas.List.{take-append-le, take_all, get_or_append_left, get_or_push}
 use Rattle.std.proofs.lemmas.Bool.Decides.{eqb_tells, leb_tells}
 use Rattle.token_bucket.specs.declared.limit.Dir.{Dir}
@@ -16,7 +16,7 @@ use Rattle.rate_group.specs.Steps.{lane_less, lane_refilled, first_lane}
 use Rattle.relay_model.specs.Settings.{GroupSet}
 use Rattle.relay_model.specs.Groups.{no_spell, group_level, suspended_in, is_suspended, least_share}
 use Rattle.relay_state.specs.Running.{refilled, short_after, Ascend, last_of}
-use Rattle.relay_steps.specs.Grouped.{group_short, DirectionFits}
+use Rattle.relay_steps.specs.Grouped.{DirectionFits}
 use Rattle.relay_steps.proofs.BucketLemmas.{running_is_least}
 use Rattle.relay_steps.proofs.RunSteps.{short-append, spells-begins, spells-moves, added, added-none, ascend-push, ascend-last}
 
@@ -101,8 +101,16 @@ less-true a b h = elim (leb_tells (suc a) b) [ inl k ↦ k.0 | inr k ↦ absurd 
 -- a level at a refill
 fill-is : (l : Limit) (n : ℕ) (z : Level) → z.burst ≡ l.burst →
     ((levels.refilled l n z).burst ≡ l.burst) × ((levels.refilled l n z).short ≡ z.short - l.rate * n)
-fill-is l zero z h = (h, omega arith)
-fill-is l (suc n) z h = (refl, omega (arith, h))
+fill-is l n z h = elim (eqb_tells n 0) [
+  | inl none ↦
+      let is : levels.refilled l n z ≡ z = ap (λ b. if b then z else levels.with_ticks l n z) none.0 in
+      let zero_ticks = none.1 in
+      let brings : l.rate * n ≡ 0 = ap (λ m. l.rate * m) zero_ticks ∙ omega arith in
+      (ap (λ (y : Level). y.burst) is ∙ h, ap (λ (y : Level). y.short) is ∙ omega (arith, brings))
+  | inr some ↦
+      let is : levels.refilled l n z ≡ levels.with_ticks l n z = ap (λ b. if b then z else levels.with_ticks l n z) some.0 in
+      (ap (λ (y : Level). y.burst) is, ap (λ (y : Level). y.short) is ∙ omega (arith, h))
+]
 
 module _ (x : GroupSet) (d : Dir) where
   abbrev l : Limit

@@ -31,10 +31,10 @@ use Rattle.relay_model.proofs.PastLemmas.{beats_among-push}
 use Rattle.relay_model.proofs.PlainLemmas.{side_at-new, side_at-old}
 use Rattle.relay_state.specs.State.{new_groups}
 use Rattle.relay_state.specs.Opening.{joined_where}
-use Rattle.relay_steps.specs.Grouped.{sides_in, DirectionFits, GroupFits, Grouped}
+use Rattle.relay_steps.specs.Grouped.{DirectionFits, GroupFits, Grouped}
 use Rattle.relay_steps.specs.Meaning.{HasItsGroups}
 use Rattle.relay_steps.proofs.BucketLemmas.{div-later}
-use Rattle.relay_steps.proofs.EndLemmas.{number-same, number-apart}
+use Rattle.relay_steps.proofs.EndLemmas.{number-same}
 use Rattle.relay_steps.proofs.GroupLemmas.{first-fits, direction-same, begins-fits, moves-fits}
 use Rattle.relay_steps.proofs.MemberSteps.{sides-changed, sides-opened}
 use Rattle.relay_steps.proofs.RateLemmas.{SameTurns, SameGauged, turns-same}
@@ -203,7 +203,7 @@ pub turned-grouped : (g : Settings) (t : Trace) (ms : ℕ) (p q : Plain) (x : Gr
     q.opened ≡ p.opened → q.time ≡ ms → ((a : SideId) → rates_of (side_at q a) ≡ rates_of (side_at p a)) →
     ((a : SideId) → is_live q a ≡ is_live p a) → Grouped g t p x → Grouped g (t ++ (entry.Turn ms, []) ∷ []) q (all_refilled ms x)
 turned-grouped g t ms p q x has later opened time rates live k = record {
-  many = length-map (refilled_to ms) x.groups ∙ k.many;
+  many = length-map x.groups (refilled_to ms) ∙ k.many;
   each = λ n y v a b.
       let w = get_mapped (refilled_to ms) x.groups n v b in
       subst (λ z. GroupFits g (t ++ (entry.Turn ms, []) ∷ []) z n y v) (sym time)
@@ -470,7 +470,7 @@ once-none = tt
 -- Before the first turn all groups are as they are made.
 pub new-grouped : (g : Settings) → Grouped g [] nothing_yet (new_groups g.groups)
 new-grouped g = record {
-  many = length-map (λ y. made y.cfg y.share 0) g.groups;
+  many = length-map g.groups (λ y. made y.cfg y.share 0);
   each = λ n y v a b.
       let w = get_mapped (λ y. made y.cfg y.share 0) g.groups n v b in
       let same : w.0 ≡ y = same_some w.0 y (sym w.1 ∙ a) in

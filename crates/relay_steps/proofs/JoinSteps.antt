@@ -1,5 +1,5 @@
 -- A side goes to a group, or out of its group: its lanes and all buckets go on fitting, and so do the groups.
-use Rattle.std.proofs.Common.{◌≡◌, ◌≢◌, ◌<◌, inl, inr, ℕ, Bool, true, false, [], ◌∷◌, ◌++◌, length, Option, Some, None, refl, sym, ◌∙◌, ap, subst}
+use Rattle.std.proofs.Common.{◌≡◌, ◌≢◌, ◌<◌, inl, inr, ℕ, true, false, [], ◌∷◌, ◌++◌, length, Option, Some, None, refl, sym, ◌∙◌, ap}
 use Rattle.std.specs.Prelude.{is_some}
 use Rattle.std.proofs.lemmas.Bool.Decides.{eqb_tells}
 use Rattle.ev_types.specs.declared.side.SideId.{SideId}
@@ -16,7 +16,7 @@ use Rattle.relay_steps.specs.Grouped.{Grouped}
 use Rattle.relay_steps.specs.Meaning.{LaneFits, StandsFor}
 use Rattle.relay_steps.proofs.EndLemmas.{number-same, read-silent, ended-silent}
 use Rattle.relay_steps.proofs.FitLemmas.{fits-same, side-put, side-put_other}
-use Rattle.relay_steps.proofs.RateLemmas.{Moveless, SameGauged, spells-none, turns-none, gauged-same}
+use Rattle.relay_steps.proofs.RateLemmas.{Moveless, spells-none, turns-none}
 use Rattle.relay_steps.proofs.GaugeSteps.{bucket-same}
 use Rattle.relay_steps.proofs.GroupedSteps.{moved_to, regrouped}
 use Rattle.relay_steps.proofs.StillSteps.{in_sides, sight-of}

@@ -1,7 +1,7 @@
 -- How many sides are in each group, by their numbers, as sides join, leave and are opened.
-use Rattle.std.proofs.Common.{◌≡◌, ◌≢◌, ◌⊎◌, inl, inr, ℕ, zero, suc, ◌+◌, ◌-◌, ◌*◌, ◌<◌, ◌≤◌, Bool, true, false, cond, ◌&&◌, List, [], ◌∷◌}
-use Rattle.std.proofs.Common.{length, Option, Some, None, refl, sym, ◌∙◌, ap, subst, arith, slice_index_or, nat_eq}
-use Rattle.std.specs.Prelude.{count_by, if◌then◌else◌}
+use Rattle.std.proofs.Common.{◌≡◌, ◌≢◌, inl, inr, ℕ, zero, suc, ◌+◌, ◌-◌, ◌*◌, ◌<◌, ◌≤◌, Bool, true, false, cond, ◌&&◌, List, [], ◌∷◌}
+use Rattle.std.proofs.Common.{length, Option, Some, None, refl, sym, ◌∙◌, ap, arith, slice_index_or, nat_eq}
+use Rattle.std.specs.Prelude.{count_by}
 use Rattle.std.proofs.lemmas.Bool.Decides.{eqb_tells}
 use Rattle.std.proofs.lemmas.List.Sums.{sum_by-cons}
 use Rattle.ev_types.specs.declared.side.Side.{Side}
@@ -9,8 +9,7 @@ use Rattle.ev_types.specs.declared.side.Side.TheVariants.{In, Out}
 use Rattle.ev_types.specs.declared.side.SideId.{SideId}
 use Rattle.ev_types.specs.Sides.{half, number}
 use Rattle.rate_group.specs.GroupList.{one_of}
-use Rattle.relay_model.specs.Settings.{Settings}
-use Rattle.relay_model.specs.Plain.{Plain, PlainSide, no_side, side_at, is_live, sides_from, all_sides, with_link}
+use Rattle.relay_model.specs.Plain.{Plain, PlainSide, no_side, side_at, is_live, sides_from, all_sides}
 use Rattle.relay_model.specs.Groups.{same_group, members}
 use Rattle.relay_steps.specs.Grouped.{sides_in}
 
@@ -18,8 +17,8 @@ use Rattle.relay_steps.specs.Grouped.{sides_in}
 abbrev one_where : Bool → ℕ
 one_where b = cond b 1 0
 
-count-cons : {A : Type 0} (f : A → Bool) (a : A) (as : List A) → count_by f (a ∷ as) ≡ one_where (f a) + count_by f as
-count-cons f a as = sum_by-cons (λ z. one_where (f z)) a as
+count-cons : {A : Type 0} (f : A → Bool) (a : A) (xs : List A) → count_by f (a ∷ xs) ≡ one_where (f a) + count_by f xs
+count-cons f a xs = sum_by-cons (λ z. one_where (f z)) a xs
 
 flip : (a b : ℕ) → nat_eq a b ≡ nat_eq b a
 flip a b = elim (eqb_tells a b) [
@@ -59,7 +58,7 @@ module _ (f h : SideId → Bool) where
       count-cons z (in_of k) (out_of k ∷ sides_from (k + 1) n)
       ∙ ap (λ m. one_where (z (in_of k)) + m) (count-cons z (out_of k) (sides_from (k + 1) n))
 
-  Changed : SideId → ℕ → ℕ → Type 0
+  abbrev Changed : SideId → ℕ → ℕ → Type 0
   Changed e k n = count_by h (sides_from k n) + one_where (f e) ≡ count_by f (sides_from k n) + one_where (h e)
 
   -- only for one of them something else holds

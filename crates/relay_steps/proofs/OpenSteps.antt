@@ -21,7 +21,7 @@ use Rattle.filter_model.specs.FilterStep.{begun}
 use Rattle.relay_model.specs.Flow.{no_flow}
 use Rattle.relay_model.specs.Conserved.{all_moved}
 use Rattle.filter_model.specs.Running.{StandsAt}
-use Rattle.relay_model.specs.Settings.{Settings, rate_set, group_set}
+use Rattle.relay_model.specs.Settings.{Settings, rate_set}
 use Rattle.relay_model.specs.Plain.{Plain, with_link, side_at, flow_at, Standing, first_limit}
 use Rattle.relay_model.specs.Rooms.{Want, read_kind, write_kind}
 use Rattle.relay_model.specs.Stages.{Stage, at}

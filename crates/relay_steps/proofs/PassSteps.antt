@@ -31,7 +31,8 @@ use Rattle.relay_state.specs.Serving.{raise_read}
 use Rattle.relay_steps.specs.Meaning.{LaneFits, StandsFor}
 use Rattle.relay_steps.proofs.EndLemmas.{number-below, by_side, peer-apart}
 use Rattle.relay_steps.proofs.FitLemmas.{sight, FitsSight, seen-fits, fits-seen, fits-same, lane-set, lane-set_other}
-use Rattle.relay_steps.proofs.RateLemmas.{gauged-same, passed-rates}
+use Rattle.relay_steps.proofs.RateLemmas.{SameGauged, turns-same, live_of, passed-live, passed-rates, gauged-same}
+use Rattle.relay_steps.proofs.GroupedSteps.{grouped-same}
 use Rattle.relay_steps.proofs.PassedLemmas.{round_of, passed-other_flow, live-same, marks-rise, round-same}
 use Rattle.relay_steps.proofs.PassageLemmas.{PassageFits, read_run-is}
 use Rattle.relay_steps.proofs.PassRounds.{Rises, read-rises, rounds-rise, sides-told, flows-told, ended-told, near-inside, far-inside, Here}

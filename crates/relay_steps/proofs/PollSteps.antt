@@ -23,7 +23,8 @@ use Rattle.relay_state.specs.Time.{poll_timeout}
 use Rattle.relay_steps.specs.Meaning.{StandsFor}
 use Rattle.relay_steps.proofs.EndLemmas.{IsSilent}
 use Rattle.relay_steps.proofs.RoomLemmas.{wanted-is, poll_timeout-is}
-use Rattle.relay_steps.proofs.RateLemmas.{gauged-same}
+use Rattle.relay_steps.proofs.RateLemmas.{turns-same, gauged-same}
+use Rattle.relay_steps.proofs.GroupedSteps.{grouped-same}
 use Rattle.relay_steps.proofs.StandsLemmas.{stands-told, stands-quiet}
 
 silent-poll : (timeout : Option ℕ) (a : SideId) → IsSilent (entry.Poll timeout, []) a

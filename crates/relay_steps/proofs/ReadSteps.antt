@@ -15,7 +15,7 @@ use Rattle.relay_model.specs.Settings.{Settings}
 use Rattle.relay_model.specs.Plain.{Plain, PlainSide, side_at, flow_at, is_live, change_side}
 use Rattle.relay_model.specs.Past.{Past, past}
 use Rattle.relay_model.specs.Moments.{active_at}
-use Rattle.relay_model.specs.Rooms.{Want, most_at_once, read_mark, may_read, is_connecting, at_most}
+use Rattle.relay_model.specs.Rooms.{Want, most_at_once, read_mark, may_read, is_connecting}
 use Rattle.relay_model.specs.Reasons.{happened, end_flag, error_flag}
 use Rattle.relay_model.specs.Serve as model
 use Rattle.relay_model.specs.Serve.{Call, call_for, CarriesGot}
@@ -28,8 +28,10 @@ use Rattle.relay_model.proofs.ToldLemmas.{kept}
 use Rattle.relay_model.proofs.TraceLemmas.{bytes_read-push, has_ended-push}
 use Rattle.relay_model.proofs.AccountedLemmas.{entries_keep_accounts}
 use Rattle.relay_state.specs.State.{State, Lane, lane_at, lane_got}
-use Rattle.relay_state.specs.Rooms.{input_length, read_room, allowance}
+use Rattle.relay_state.specs.Rooms.{input_length, read_room}
 use Rattle.relay_state.specs.Serving.{with_got, after_read}
+use Rattle.relay_state.specs.Rooms.{within_rates}
+use Rattle.relay_steps.proofs.StillSteps.{still-rates}
 use Rattle.relay_steps.specs.Meaning.{LaneFits, StandsFor}
 use Rattle.relay_steps.proofs.EndLemmas.{same_end-apart, read-silent, ended-silent}
 use Rattle.relay_steps.proofs.FitLemmas.{sight, FitsSight, seen-fits, fits-seen, lane-set, lane-set_other}

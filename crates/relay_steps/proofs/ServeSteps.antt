@@ -24,6 +24,7 @@ use Rattle.relay_model.specs.Turn.{Puts}
 use Rattle.relay_state.specs.State.{State}
 use Rattle.relay_state.specs.Rooms.{read_room, write_room}
 use Rattle.relay_state.specs.Serving.{after_conn}
+use Rattle.relay_steps.proofs.RateLemmas.{turns-same}
 use Rattle.relay_steps.specs.Meaning.{StandsFor}
 use Rattle.relay_steps.proofs.RoomLemmas.{read_room-is, write_room-is}
 use Rattle.relay_steps.proofs.StillSteps.{IsStill, put-stands, quiet-stands, still-same, still-event, still-raised}

@@ -73,7 +73,7 @@ pub in_lanes : (t : Trace) (x : Stage) (s : State) (e : SideId) → StandsFor t 
     number e < length s.lanes
 in_lanes t x s e k lt = let a = k.many in omega (arith, a, number-below e s.plain.opened lt)
 
-still-rates : (t u : Trace) (p q : Plain) → IsStill t u p q → SameGauged p q
+pub still-rates : (t u : Trace) (p q : Plain) → IsStill t u p q → SameGauged p q
 still-rates t u p q k = record { opened = k.opened; time = k.time; rates = k.rates; live = k.live }
 
 pub still-gauged : (t u : Trace) (p q : Plain) (xs : List Gauge) → IsStill t u p q → Gauged t p xs → Gauged u q xs

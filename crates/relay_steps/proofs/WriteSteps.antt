@@ -37,6 +37,17 @@ use Rattle.relay_model.proofs.AccountedLemmas.{entries_keep_accounts}
 use Rattle.relay_state.specs.State.{State, Lane, lane_at, with_plain, lane_taken, gauges_after}
 use Rattle.relay_state.specs.Rooms.{waiting_for, output_length, write_room, offer, allowance}
 use Rattle.relay_state.specs.Serving.{flow_given, with_taken, after_took, after_write}
+use Rattle.rate_group.specs.Steps.{spent}
+use Rattle.relay_model.specs.Groups.{same_group, group_after, beat_among}
+use Rattle.relay_model.proofs.PastLemmas.{either_zero}
+use Rattle.relay_model.proofs.RatesLaw.{rated}
+use Rattle.relay_state.specs.Rooms.{share, within_rates}
+use Rattle.relay_steps.specs.Grouped.{Grouped}
+use Rattle.relay_steps.proofs.RateLemmas.{SameGauged, turns-same}
+use Rattle.relay_steps.proofs.GroupedSteps.{MovesAmong, moved-grouped}
+use Rattle.relay_steps.proofs.RoomLemmas.{shared-is}
+use Rattle.relay_steps.proofs.StillSteps.{stands-shape, still-grouped}
+use Rattle.relay_steps.proofs.TurnedLemmas.{served-turned}
 use Rattle.relay_steps.specs.Meaning.{LaneFits, StandsFor}
 use Rattle.relay_steps.proofs.EndLemmas.{same_end-apart, peer-peer, read-silent, ended-silent}
 use Rattle.relay_steps.proofs.FitLemmas.{sight, FitsSight, seen-fits, fits-seen, fits-same, lane-set, lane-set_other, flow-put}
