@@ -3,6 +3,7 @@ use Rattle.std.proofs.Common.{◌≡◌, inl, inr, ℕ, length, ◌+◌, ◌-◌
 use Rattle.std.proofs.Common.{Some, None, refl, sym, ◌∙◌, ap, subst, arith, append_assoc}
 use Rattle.std.specs.Prelude.{is_some, slice_set}
 use Rattle.std.proofs.lemmas.List.{get_or_past}
+use Rattle.std.proofs.lemmas.Option.{same_Some}
 use Rattle.std.proofs.lemmas.Bool.Decides.{leb_tells}
 use Rattle.token_bucket.specs.declared.limit.Dir.TheVariants as dir
 use Rattle.ev_types.specs.declared.side.SideId.{SideId}
@@ -39,10 +40,10 @@ use Rattle.relay_state.specs.Running.{gauge_set}
 use Rattle.rate_group.specs.GroupValue.{GroupsValue}
 use Rattle.rate_group.specs.Steps.{joined, left}
 use Rattle.relay_steps.specs.Grouped.{Grouped}
-use Rattle.relay_steps.proofs.GroupedSteps.{moved_to}
+use Rattle.relay_steps.proofs.MembershipSteps.{moved_to}
 use Rattle.relay_steps.proofs.RateLemmas.{turns-same}
 use Rattle.relay_steps.proofs.RateSteps.{change-is, set-fits, set-gauged, set-grouped}
-use Rattle.relay_steps.proofs.JoinSteps.{moved-fits, moved-gauges, moved-groups}
+use Rattle.relay_steps.proofs.JoinSteps.{joined-fits, joined-gauged, joined-grouped}
 use Rattle.relay_state.specs.Asking.{left_to_fire, asked, ask_events}
 use Rattle.relay_steps.specs.Meaning.{StandsFor}
 use Rattle.relay_steps.proofs.FitLemmas.{fits-same}
@@ -88,9 +89,6 @@ fired-stands t s e y rs k live =
 pub fire_ends-stands : (t : Trace) (s : State) (x : Fire) (rs : List Reason) → StandsFor t (Stage.Firing x rs) s →
     StandsFor t (after_fire x rs) s
 fire_ends-stands t s x rs k = quiet-stands t (Stage.Firing x rs) (after_fire x rs) s k refl
-
-same_some : {A : Type 0} (a b : A) → Some a ≡ Some b → a ≡ b
-same_some a b h = cc
 
 -- a group that doesn't exist is refused
 no_group-refused : (dead none : Bool) → none ≡ true →
@@ -268,12 +266,12 @@ module _ (t : Trace) (s : State) (x : Fire) (rs : List Reason) (k : StandsFor t 
               entries_keep_accounts g t (at z p) (at (after_ask (more x) rs a ask.Ok) q) (entry.Asked x.side a ask.Ok) [] k.reached puts tt
               k.accounts;
           many = k.many;
-          each = moved-fits t z s k e lt o (event a ask.Ok) (λ b. (refl, refl)) (λ b. refl) (λ b. refl);
+          each = joined-fits t z s k e lt o (event a ask.Ok) (λ b. (refl, refl)) (λ b. refl) (λ b. refl);
           groups = k.groups;
-          gauged = moved-gauges t z s k e lt o (event a ask.Ok) (λ b. (refl, refl));
+          gauged = joined-gauged t z s k e lt o (event a ask.Ok) (λ b. (refl, refl));
           grouped =
               subst (Grouped g (t ++ event a ask.Ok ∷ []) q) moved
-              (moved-groups t z s k e lt o (event a ask.Ok) (λ b. (refl, refl)) live within);
+              (joined-grouped t z s k e lt o (event a ask.Ok) (λ b. (refl, refl)) live within);
         }
 
   join-asked : (e : SideId) (n : ℕ) → refusal g p (act.Join e n) ≡ None →
@@ -281,7 +279,7 @@ module _ (t : Trace) (s : State) (x : Fire) (rs : List Reason) (k : StandsFor t 
       (asked (act.Join e n) s)
   join-asked e n ok =
       group-asked (act.Join e n) e (Some n) (joined n (number e) s.groups) ok refl refl
-      (λ m same. subst (λ z. z < length g.groups) (same_some n m same) (there (nat_le (length g.groups) n) refl ok)) refl
+      (λ m same. subst (λ z. z < length g.groups) (same_Some n m same) (there (nat_le (length g.groups) n) refl ok)) refl
     where
       there : (b : Bool) → nat_le (length g.groups) n ≡ b → refusal g p (act.Join e n) ≡ None → n < length g.groups
       there true is h = absurd (let bad = no_group-refused (not (is_live p e)) (nat_le (length g.groups) n) is h in bad)

@@ -18,7 +18,7 @@ use Rattle.relay_state.specs.Closing.{freed, without_batch, without_group}
 use Rattle.relay_model.proofs.RatesTold.{freed-limit}
 use Rattle.relay_steps.specs.Gauges.{Gauged}
 use Rattle.relay_steps.specs.Grouped.{Grouped}
-use Rattle.relay_steps.proofs.GroupedSteps.{regrouped}
+use Rattle.relay_steps.proofs.MembershipSteps.{regrouped}
 use Rattle.relay_steps.proofs.RateLemmas.{Moveless, SameGauged, turns-none, gauged-same}
 use Rattle.relay_steps.specs.Meaning.{LaneFits, StandsFor}
 use Rattle.relay_steps.proofs.EndLemmas.{peer-peer, peer-apart, peer-moves, by_side, number-same, read-silent, ended-silent}

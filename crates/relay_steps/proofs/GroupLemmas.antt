@@ -13,6 +13,7 @@ use Rattle.token_bucket.specs.Levels.{Limit, limit_of, less, held}
 use Rattle.token_bucket.specs.Spells.{ticks, Spell, Beat, Begins, Moves, spells}
 use Rattle.rate_group.specs.GroupValue.{Lane}
 use Rattle.rate_group.specs.Steps.{lane_less, lane_refilled, first_lane}
+use Rattle.rate_group.proofs.LevelsByCalls.{tick-some}
 use Rattle.relay_model.specs.Settings.{GroupSet}
 use Rattle.relay_model.specs.Groups.{no_spell, group_level, suspended_in, is_suspended, least_share}
 use Rattle.relay_state.specs.Running.{refilled, short_after, Ascend, last_of}
@@ -21,10 +22,6 @@ use Rattle.relay_steps.proofs.BucketLemmas.{running_is_least}
 use Rattle.relay_steps.proofs.RunSteps.{short-append, spells-begins, spells-moves, added, added-none, ascend-push, ascend-last}
 
 -- Limits
-
-tick-some : (cfg : LimitCfg) (d : Dir) → 0 < (limit_of cfg d).tick
-tick-some cfg dir.Read = cfg.ticks
-tick-some cfg dir.Write = cfg.ticks
 
 rate-some : (cfg : LimitCfg) (d : Dir) → 0 < (limit_of cfg d).rate
 rate-some cfg dir.Read = cfg.reads

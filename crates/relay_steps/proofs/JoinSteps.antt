@@ -18,7 +18,7 @@ use Rattle.relay_steps.proofs.EndLemmas.{number-same, read-silent, ended-silent}
 use Rattle.relay_steps.proofs.FitLemmas.{fits-same, side-put, side-put_other}
 use Rattle.relay_steps.proofs.RateLemmas.{Moveless, spells-none, turns-none}
 use Rattle.relay_steps.proofs.GaugeSteps.{bucket-same}
-use Rattle.relay_steps.proofs.GroupedSteps.{moved_to, regrouped}
+use Rattle.relay_steps.proofs.MembershipSteps.{moved_to, regrouped}
 use Rattle.relay_steps.proofs.StillSteps.{in_sides, sight-of}
 
 module _ (t : Trace) (x : Stage) (s : State) (k : StandsFor t x s) (e : SideId) (lt : e.link < s.plain.opened) (o : Option ℕ) where
@@ -42,16 +42,16 @@ module _ (t : Trace) (x : Stage) (s : State) (k : StandsFor t x s) (e : SideId) 
     u = t ++ v ∷ []
 
     -- buckets of sides look at no group
-    pub moved-gauges : Gauged u q s.gauges
-    moved-gauges = record {
+    pub joined-gauged : Gauged u q s.gauges
+    joined-gauged = record {
       many = k.gauged.many;
       each = λ a y is d.
           bucket-same t u p.time y a _ d (spells-none t v moves a d)
           (k.gauged.each a y (sym (seen-change (λ z. z.limit) e a (λ z. record z { group = o }) p (λ z. refl)) ∙ is) d);
     }
 
-    pub moved-groups : is_live p e ≡ true → ((n : ℕ) → o ≡ Some n → n < length s.settings.groups) → Grouped g u q (moved_to o e s.groups)
-    moved-groups live within =
+    pub joined-grouped : is_live p e ≡ true → ((n : ℕ) → o ≡ Some n → n < length s.settings.groups) → Grouped g u q (moved_to o e s.groups)
+    joined-grouped live within =
         regrouped g t u p q s.groups e o (turns-none t v moves) k.grouped lt refl refl (ap (λ (z : PlainSide). z.group) here)
         (λ a away. ap (λ (z : PlainSide). z.group) (there a away)) within gone
       where
@@ -68,9 +68,9 @@ module _ (t : Trace) (x : Stage) (s : State) (k : StandsFor t x s) (e : SideId) 
         ]
 
     -- lanes look at no group
-    pub moved-fits : ((a : SideId) → read_by a v ≡ []) → ((a : SideId) → ended_by a v ≡ false) → (a : SideId) →
+    pub joined-fits : ((a : SideId) → read_by a v ≡ []) → ((a : SideId) → ended_by a v ≡ false) → (a : SideId) →
         a.link < p.opened → LaneFits g u q a (lane_at s a)
-    moved-fits read ended a inside =
+    joined-fits read ended a inside =
         fits-same g t u p q a (lane_at s a) (lane_at s a)
         (sight-of t u p q a (bytes_read a t) (has_ended a t) (flow_at p a) (read-silent t v a (read a)) (ended-silent t v a (ended a)) refl
         (λ z. seen-change (λ y. y.live) e z (λ y. record y { group = o }) p (λ y. refl))

@@ -12,6 +12,7 @@ pub mod RateLemmas
 pub mod GroupLemmas
 pub mod MemberSteps
 pub mod GroupedSteps
+pub mod MembershipSteps
 pub mod TurnedLemmas
 pub mod MovedSteps
 pub mod RoomLemmas

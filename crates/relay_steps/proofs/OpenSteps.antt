@@ -46,7 +46,7 @@ use Rattle.relay_state.specs.Running.{Gauge, no_gauge, gauge_begun, first_gauge}
 use Rattle.relay_steps.specs.Gauges.{BucketFits, Gauged}
 use Rattle.relay_steps.proofs.GaugeSteps.{bucket-silent, bucket-first}
 use Rattle.relay_steps.proofs.RateLemmas.{beat-none, turns-none}
-use Rattle.relay_steps.proofs.GroupedSteps.{opened-grouped}
+use Rattle.relay_steps.proofs.MembershipSteps.{opened-grouped}
 use Rattle.relay_steps.proofs.FitLemmas.{Sight, sight, FitsSight, fits-seen, fits-same}
 
 silent-opened : (link : ℕ) (connected : Bool) (a : SideId) → IsSilent (entry.Opened link connected, []) a

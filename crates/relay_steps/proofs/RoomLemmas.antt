@@ -32,6 +32,8 @@ use Rattle.relay_model.proofs.PlainLemmas.{and-first}
 use Rattle.relay_state.specs.State.{State, lane_at, gauge_at}
 use Rattle.relay_state.specs.Rooms.{allowance, share, within_rates, input_length, waiting_for, output_length, read_room, write_room, wants, want_of, wanted}
 use Rattle.relay_state.specs.Time.{limit_gain, group_gains, expiry, moments, poll_timeout}
+use Rattle.std.proofs.lemmas.Option.{slice_get_within}
+use Rattle.relay_steps.specs.BucketLaws.{GroupsTellLevels, GroupsTellShares}
 use Rattle.relay_steps.specs.Gauges.{Gauged}
 use Rattle.relay_steps.specs.Grouped.{GroupFits, Grouped}
 use Rattle.relay_steps.specs.Meaning.{StandsFor}
@@ -328,3 +330,21 @@ module _ (t : Trace) (x : Stage) (s : State) (k : StandsFor t x s) where
 
   pub poll_timeout-is : poll_timeout s ≡ moment.poll_timeout ga Pa s.plain
   poll_timeout-is = ap (λ z. if is_pressing s.plain then Some 0 else option_map (λ moment. moment - s.plain.time) (earliest z)) moments-is
+
+-- Groups
+
+pub groups_tell_levels : GroupsTellLevels
+groups_tell_levels t x s k n y is =
+    let v = get_some s.groups.groups n (let m = k.grouped.many in let l = slice_get_within s.settings.groups n y is in omega (arith, l, m)) in
+    let fit = k.grouped.each n y v.0 is v.1 in (
+      v.0,
+      v.1,
+      counted-is s.settings t s.plain s.groups k.grouped (shape-is_told s.settings t (at x s.plain) k.reached).sides n,
+      λ d. record {
+        holds = group_held-is y d (beats_among s.settings n d [] t) s.plain.time (lane_of v.0 d) (fit.each d);
+        suspended = (fit.each d).suspended;
+      },
+    )
+
+pub groups_tell_shares : GroupsTellShares
+groups_tell_shares t x s k e d = shared-is t s e k.grouped (shape-is_told s.settings t (at x s.plain) k.reached).sides d
