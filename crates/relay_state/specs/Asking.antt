@@ -1,4 +1,4 @@
--- Hooks: what a turn fires, and what an ask changes. No code of the relay fires one yet.
+-- Hooks: what a turn fires, and what an ask changes.
 use Rattle.std.specs.Prelude.{◌≡◌, ◌⊎◌, ℕ, ◌≤◌, zero, suc, Bool, true, false, List, [], ◌∷◌, ◌++◌, length, Option, Some, None, min}
 use Rattle.std.specs.Prelude.{slice_set}
 use Rattle.std.specs.List.{list_any}
@@ -15,6 +15,7 @@ use Rattle.ev_types.specs.declared.why.Why.{Why}
 use Rattle.ev_types.specs.AskNumbers.{IsAct}
 use Rattle.ev_types.specs.Trace.{Trace}
 use Rattle.ev_types.specs.Sides.{number}
+use Rattle.rate_group.specs.Steps.{joined, left}
 use Rattle.relay_model.specs.Due.{Reason, batch}
 use Rattle.relay_model.specs.Plain.{Standing, first_limit, side_at, change_side, is_live}
 use Rattle.relay_model.specs.Past.{Past}
@@ -37,12 +38,6 @@ left_to_fire rs s = record s { batch = rs }
 abbrev pub no_past : Past
 no_past = record { read = λ e. []; turns = λ e d. []; group_turns = λ n d. [] }
 
--- an ask about groups, of which the state keeps nothing yet
-abbrev pub is_of_group : Act → Bool
-is_of_group (act.Join e n) = true
-is_of_group (act.Leave e) = true
-is_of_group _ = false
-
 -- The limit that stands once this one is asked for. Another one takes what the bucket holds with it, cut to the new burst.
 abbrev pub limit_now : State → SideId → Option Standing → Option LimitCfg → Option Standing
 limit_now s e was None = None
@@ -64,6 +59,10 @@ asked (act.Rate e cfg) s =
     record (with_plain (change_side e (λ x. record x { limit = limit_now s e x.limit cfg }) s.plain) s) {
       gauges = slice_set s.gauges (number e) (gauge_set (side_at s.plain e).limit cfg s.plain.time (gauge_at s e));
     }
+asked (act.Join e n) s =
+    record (with_plain (change_side e (λ x. record x { group = Some n }) s.plain) s) { groups = joined n (number e) s.groups }
+asked (act.Leave e) s =
+    record (with_plain (change_side e (λ x. record x { group = None }) s.plain) s) { groups = left (number e) s.groups }
 asked a s = with_plain (done s.settings no_past s.plain a) s
 
 -- and what stands in the trace of it, the hook of this side being the one that asks
@@ -83,7 +82,6 @@ Answered None s a answer new = ((answer ≡ ask.Ok) × (new ≡ asked a s)) ⊎ 
 
 -- one ask of the hook of a side, with its entries; its numbers fit their types
 pub record AsksOne (me : SideId) (a : Act) (answer : AskAnswer) (s : State) (added : Trace) (new : State) : Type 0 where
-  pub built : is_of_group a ≡ false
   pub fits : IsAct a
   pub answered : Answered (refusal s.settings s.plain a) s a answer new
   pub entries : added ≡ ask_events me s a answer

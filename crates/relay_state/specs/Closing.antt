@@ -5,7 +5,8 @@ use Rattle.ev_types.specs.declared.side.SideId.{SideId}
 use Rattle.ev_types.specs.declared.entry.Entry.{Entry}
 use Rattle.ev_types.specs.declared.entry.Entry.TheVariants as entry
 use Rattle.ev_types.specs.declared.why.Cause.TheVariants as cause
-use Rattle.ev_types.specs.Sides.{peer}
+use Rattle.ev_types.specs.Sides.{number, peer}
+use Rattle.rate_group.specs.Steps.{left}
 use Rattle.relay_model.specs.Due.{without_reasons}
 use Rattle.relay_model.specs.Plain as plain
 use Rattle.relay_model.specs.Plain.{side_at, flow_at, is_live}
@@ -45,10 +46,14 @@ closing_entry s (CloseStep.Shut e) = entry_where (not (is_live s.plain e) && not
 abbrev pub without_batch : SideId → State → State
 without_batch e s = record s { batch = without_reasons e s.batch }
 
+-- the side is in no group any more
+abbrev pub without_group : SideId → State → State
+without_group e s = record s { groups = left (number e) s.groups }
+
 -- The side is freed: of the direction that begins at it what was not moved is dropped, and of the one that ends at it what waits.
 abbrev pub freed : SideId → State → State
 freed e s =
-    let own : State = with_lane e (lane_left (lane_at s e)) (with_plain (plain.freed e s.plain) (without_batch e s)) in
+    let own : State = with_lane e (lane_left (lane_at s e)) (with_plain (plain.freed e s.plain) (without_group e (without_batch e s))) in
     with_lane (peer e) (lane_lost (lane_at own (peer e))) own
 
 -- what a step changes

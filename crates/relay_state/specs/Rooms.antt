@@ -4,7 +4,8 @@ use Rattle.std.specs.Prelude.{filter, map}
 use Rattle.token_bucket.specs.declared.limit.Dir.{Dir}
 use Rattle.token_bucket.specs.declared.limit.Dir.TheVariants as dir
 use Rattle.ev_types.specs.declared.side.SideId.{SideId}
-use Rattle.ev_types.specs.Sides.{peer}
+use Rattle.ev_types.specs.Sides.{number, peer}
+use Rattle.rate_group.specs.Steps.{share_in}
 use Rattle.relay_model.specs.Plain.{side_at, all_sides}
 use Rattle.relay_model.specs.Rooms.{Want, at_most, most_at_once, read_mark, may_read, may_write, is_connecting}
 use Rattle.relay_state.specs.State.{State, lane_at, gauge_at}
@@ -26,12 +27,20 @@ output_length s e = length (lane_at s (peer e)).buffers.output + length (waiting
 abbrev pub allowance : State → SideId → Dir → Option ℕ
 allowance s e d = option_map (λ y. held_at y.cfg (gauge_at s e) d s.plain.time) (side_at s.plain e).limit
 
+-- what its group leaves to it, where it is in one
+abbrev pub share : State → SideId → Dir → Option ℕ
+share s e d = share_in (number e) d s.groups
+
+-- what limit and group leave of a number of bytes
+abbrev pub within_rates : State → SideId → Dir → ℕ → ℕ
+within_rates s e d n = at_most (share s e d) (at_most (allowance s e d) n)
+
 -- A read brings at most the most bytes of one read, and no more than the input is short of the read mark.
 abbrev pub read_room : State → SideId → ℕ
-read_room s e = if may_read s.plain e then at_most (allowance s e dir.Read) (min most_at_once (read_mark s.plain e - input_length s e)) else 0
+read_room s e = if may_read s.plain e then within_rates s e dir.Read (min most_at_once (read_mark s.plain e - input_length s e)) else 0
 
 abbrev pub write_room : State → SideId → ℕ
-write_room s e = if may_write s.plain e then at_most (allowance s e dir.Write) (min most_at_once (length (waiting_for s e))) else 0
+write_room s e = if may_write s.plain e then within_rates s e dir.Write (min most_at_once (length (waiting_for s e))) else 0
 
 -- what is given to a side's end now
 abbrev pub offer : State → SideId → List ℕ

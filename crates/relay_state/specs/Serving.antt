@@ -9,7 +9,8 @@ use Rattle.ev_types.specs.declared.answer.ReadAnswer.TheVariants as read
 use Rattle.ev_types.specs.declared.answer.WriteAnswer.{WriteAnswer}
 use Rattle.ev_types.specs.declared.answer.WriteAnswer.TheVariants as write
 use Rattle.ev_types.specs.declared.why.Why.TheVariants as why
-use Rattle.ev_types.specs.Sides.{peer}
+use Rattle.ev_types.specs.Sides.{number, peer}
+use Rattle.rate_group.specs.Steps.{spent}
 use Rattle.relay_model.specs.Flow.{Flow}
 use Rattle.relay_model.specs.Plain.{side_at, change_side, change_flow}
 use Rattle.relay_model.specs.Reasons.{raise}
@@ -35,6 +36,7 @@ abbrev pub with_got : State → SideId → List ℕ → State
 with_got s e bytes =
     record (with_lane e (lane_got bytes (lane_at s e)) (with_plain (model.after_read s.settings e (read.Got (length bytes)) s.plain) s)) {
       gauges = gauges_after e dir.Read (length bytes) s;
+      groups = spent (number e) dir.Read (length bytes) s.groups;
     }
 
 -- Then the read filter runs, and the low mark is looked at.
@@ -58,6 +60,7 @@ with_taken s e n =
     record (with_lane (peer e) (lane_taken n (lane_at s (peer e)))
     (with_plain (change_side e (active_at s.plain.time dir.Write) (change_flow (peer e) (flow_given n) s.plain)) s)) {
       gauges = gauges_after e dir.Write n s;
+      groups = spent (number e) dir.Write n s.groups;
     }
 
 -- Then the low mark is looked at.

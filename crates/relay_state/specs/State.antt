@@ -1,10 +1,12 @@
 -- The state of the relay: what the model keeps of it, and beside each direction its bytes. The changes stand in the files behind.
-use Rattle.std.specs.Prelude.{ℕ, ◌+◌, List, [], ◌++◌, drop, length, slice_index_or, slice_set}
+use Rattle.std.specs.Prelude.{ℕ, ◌+◌, List, [], ◌++◌, drop, length, map, slice_index_or, slice_set}
 use Rattle.token_bucket.specs.declared.limit.Dir.{Dir}
 use Rattle.ev_types.specs.declared.filter.FilterKind.TheVariants as kind
 use Rattle.ev_types.specs.declared.side.SideId.{SideId}
 use Rattle.ev_types.specs.Sides.{number}
-use Rattle.relay_model.specs.Settings.{Settings}
+use Rattle.rate_group.specs.GroupValue.{GroupsValue}
+use Rattle.rate_group.specs.Steps.{made}
+use Rattle.relay_model.specs.Settings.{Settings, GroupSet}
 use Rattle.relay_model.specs.Due.{Reason}
 use Rattle.relay_model.specs.Plain.{Plain, nothing_yet, side_at}
 use Rattle.relay_model.specs.Conserved.{Buffers, no_buffers}
@@ -34,10 +36,22 @@ pub record State : Type 0 where
   pub lanes : List Lane
   pub batch : List Reason  -- what this turn has still to fire
   pub gauges : List Gauge  -- the buckets of each side, by number
+  pub groups : GroupsValue  -- the groups by number, and by numbers of sides who is in which
+
+-- All groups are made at time 0, and nobody is in one yet.
+abbrev pub new_groups : List GroupSet → GroupsValue
+new_groups xs = record { groups = map (λ x. made x.cfg x.share 0) xs; members = [] }
 
 -- before the first turn
 abbrev pub new_state : Settings → State
-new_state settings = record { settings = settings; plain = nothing_yet; lanes = []; batch = []; gauges = [] }
+new_state settings = record {
+  settings = settings;
+  plain = nothing_yet;
+  lanes = [];
+  batch = [];
+  gauges = [];
+  groups = new_groups settings.groups;
+}
 
 -- the buckets of a side
 abbrev pub gauge_in : List Gauge → SideId → Gauge

@@ -28,8 +28,8 @@ use Rattle.relay_steps.specs.Meaning.{StandsFor}
 use Rattle.relay_steps.proofs.EndLemmas.{peer-peer, read-silent, ended-silent}
 use Rattle.relay_steps.proofs.RoomLemmas.{stands-fits, raw_input-fits, input-fits, output-fits, waiting-fits, output_length-is}
 use Rattle.relay_steps.proofs.StillSteps.{put-stands, quiet-stands, still-changed}
-use Rattle.relay_steps.proofs.RateLemmas.{spells-none}
-use Rattle.relay_steps.proofs.FreeSteps.{freed-fits, freed-many, freed-gauged}
+use Rattle.relay_steps.proofs.RateLemmas.{turns-none}
+use Rattle.relay_steps.proofs.FreeSteps.{freed-fits, freed-many, freed-gauged, freed-grouped}
 
 -- the link that a step looks at
 abbrev pub link_of : CloseStep → ℕ
@@ -96,8 +96,9 @@ module _ (t : Trace) (s : State) where
         (freed_entry s.plain e why) [] k.reached (called, refl, ap (at (Stage.Closing (steps_left c cs))) (sym changed)) tt k.accounts;
     many = freed-many t (Stage.Closing (c ∷ cs)) s e k lt;
     each = freed-fits t (Stage.Closing (c ∷ cs)) s e k lt (freed_entry s.plain e why, []) (λ a. refl) (λ a. refl);
-    built = k.built;
+    groups = k.groups;
     gauged = freed-gauged t (Stage.Closing (c ∷ cs)) s e k lt (freed_entry s.plain e why, []) (λ a. (refl, refl));
+    grouped = freed-grouped t (Stage.Closing (c ∷ cs)) s e k lt (freed_entry s.plain e why, []) (λ a. (refl, refl));
   }
 
   -- by what the model puts
@@ -109,7 +110,7 @@ module _ (t : Trace) (s : State) where
       put-stands t (Stage.Closing (c ∷ cs)) (Stage.Closing cs) s (closed_by c s.plain) y [] k (called, refl, refl) tt
       (still-changed t (t ++ (entry.CloseWrite e, []) ∷ []) s.plain e (λ x. record x { write_ended = true }) (λ x. refl) (λ x. refl)
       (λ x. refl) (λ z. read-silent t (entry.CloseWrite e, []) z refl) (λ z. ended-silent t (entry.CloseWrite e, []) z refl)
-      (spells-none t (entry.CloseWrite e, []) (λ a. (refl, refl))))
+      (turns-none t (entry.CloseWrite e, []) (λ a. (refl, refl))))
   kind-stands c cs y lt k called (ClosedKind.in_done {k = n} a b d f) = free-stands c cs (in_side n) cause.Done lt k called refl
   kind-stands c cs y lt k called (ClosedKind.out_done {k = n}) = free-stands c cs (out_side n) cause.Done lt k called refl
   kind-stands c cs y lt k called (ClosedKind.peer_gone {z = e} a b d) = free-stands c cs e cause.PeerGone lt k called refl
@@ -117,7 +118,7 @@ module _ (t : Trace) (s : State) where
       put-stands t (Stage.Closing (c ∷ cs)) (Stage.Closing cs) s (closed_by c s.plain) y [] k (called, refl, refl) tt
       (still-changed t (t ++ (entry.Close e, []) ∷ []) s.plain e (λ x. record x { closed = true }) (λ x. refl) (λ x. refl) (λ x. refl)
       (λ z. read-silent t (entry.Close e, []) z refl) (λ z. ended-silent t (entry.Close e, []) z refl)
-      (spells-none t (entry.Close e, []) (λ a. (refl, refl))))
+      (turns-none t (entry.Close e, []) (λ a. (refl, refl))))
 
 -- a step that is called for is done
 pub closed-stands : (t : Trace) (s : State) (c : CloseStep) (cs : List CloseStep) (y : Entry) → link_of c < s.plain.opened →

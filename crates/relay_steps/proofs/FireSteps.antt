@@ -16,7 +16,7 @@ use Rattle.relay_model.specs.Stages.{Fire, Stage, begun, after_ask}
 use Rattle.relay_model.specs.Turn.{after_fire}
 use Rattle.relay_model.proofs.RatesTold.{refusal-not_ok}
 use Rattle.relay_state.specs.State.{State}
-use Rattle.relay_state.specs.Asking.{is_of_group, asked, ask_events, left_to_fire, Answered, AsksAll, stops}
+use Rattle.relay_state.specs.Asking.{asked, ask_events, left_to_fire, Answered, AsksAll, stops}
 use Rattle.relay_steps.specs.Meaning.{StandsFor}
 use Rattle.relay_steps.specs.HookLaws.{fire_asked, AsksAreStoodFor, FiresAreStoodFor}
 use Rattle.relay_steps.proofs.AskSteps.{more, stage_after, refused-stands, lacking-stands, asked-stands, fired-stands, fire_ends-stands}
@@ -69,22 +69,21 @@ where_raised : (b : Bool) (s raised : State) → raised.batch ≡ s.batch → (i
 where_raised true s raised h = h
 where_raised false s raised h = refl
 
-done-stage : (x : Fire) (s : State) (a : Act) → is_of_group a ≡ false →
-    stage_after x s.batch a ask.Ok ≡ Stage.Firing (fire_asked x (a, ask.Ok)) (asked a s).batch
-done-stage x s (act.Free e) rate = ap (λ z. Stage.Firing z (without_reasons e s.batch)) (still_stopped x (act.Free e) ask.Ok refl)
-done-stage x s act.Stop rate = ap (λ z. Stage.Firing z s.batch) (now_stopped x)
-done-stage x s (act.Rate e cfg) rate = ap (λ z. Stage.Firing z s.batch) (still_stopped x (act.Rate e cfg) ask.Ok refl)
-done-stage x s (act.Join e n) rate = absurd (cc)
-done-stage x s (act.Leave e) rate = absurd (cc)
-done-stage x s (act.Trigger e dir.Read) rate =
+done-stage : (x : Fire) (s : State) (a : Act) → stage_after x s.batch a ask.Ok ≡ Stage.Firing (fire_asked x (a, ask.Ok)) (asked a s).batch
+done-stage x s (act.Free e) = ap (λ z. Stage.Firing z (without_reasons e s.batch)) (still_stopped x (act.Free e) ask.Ok refl)
+done-stage x s act.Stop = ap (λ z. Stage.Firing z s.batch) (now_stopped x)
+done-stage x s (act.Rate e cfg) = ap (λ z. Stage.Firing z s.batch) (still_stopped x (act.Rate e cfg) ask.Ok refl)
+done-stage x s (act.Join e n) = ap (λ z. Stage.Firing z s.batch) (still_stopped x (act.Join e n) ask.Ok refl)
+done-stage x s (act.Leave e) = ap (λ z. Stage.Firing z s.batch) (still_stopped x (act.Leave e) ask.Ok refl)
+done-stage x s (act.Trigger e dir.Read) =
     let a = act.Trigger e dir.Read in
     ap (λ z. Stage.Firing z s.batch) (still_stopped x a ask.Ok refl)
     ∙ ap (Stage.Firing (fire_asked x (a, ask.Ok))) (sym (where_raised _ s _ refl))
-done-stage x s (act.Trigger e dir.Write) rate =
+done-stage x s (act.Trigger e dir.Write) =
     let a = act.Trigger e dir.Write in
     ap (λ z. Stage.Firing z s.batch) (still_stopped x a ask.Ok refl)
     ∙ ap (Stage.Firing (fire_asked x (a, ask.Ok))) (sym (where_raised _ s _ refl))
-done-stage x s a rate = ap (λ z. Stage.Firing z s.batch) (still_stopped x a ask.Ok refl)
+done-stage x s a = ap (λ z. Stage.Firing z s.batch) (still_stopped x a ask.Ok refl)
 
 -- an answer other than Ok leaves one entry
 refused-entry : (me : SideId) (s : State) (a : Act) (r : AskAnswer) → (r ≡ ask.Ok → ⊥) → ask_events me s a r ≡ (entry.Asked me a r, []) ∷ []
@@ -114,8 +113,8 @@ asks_are_stood_for t s new x a r added k few h =
       | inl done ↦
           subst (λ z. StandsFor (t ++ ask_events x.side s a z) (Stage.Firing (fire_asked x (a, z)) new.batch) new) (sym done.0)
           (subst (λ z. StandsFor (t ++ ask_events x.side s a ask.Ok) (Stage.Firing (fire_asked x (a, ask.Ok)) z.batch) z) (sym done.1)
-          (subst (λ z. StandsFor (t ++ ask_events x.side s a ask.Ok) z (asked a s)) (done-stage x s a h.built)
-          (asked-stands t s x s.batch a k few h.built is)))
+          (subst (λ z. StandsFor (t ++ ask_events x.side s a ask.Ok) z (asked a s)) (done-stage x s a)
+          (asked-stands t s x s.batch a k few is)))
       | inr lacks ↦
           as_it_was (λ bad. let no_ok : ask.Ok ≡ ask.Memory = sym bad ∙ lacks.0 in absurd (cc)) lacks.2
           (subst (λ z. StandsFor (t ++ (entry.Asked x.side a z, []) ∷ []) (after_ask (more x) s.batch a z) s) (sym lacks.0)

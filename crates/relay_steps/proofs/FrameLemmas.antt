@@ -23,6 +23,7 @@ use Rattle.relay_model.specs.Moments.{is_timed, active_at, both_ways, timers_tak
 use Rattle.relay_model.specs.Close.{CloseStep}
 use Rattle.relay_model.specs.Round.{Part, parts_of}
 use Rattle.relay_model.specs.Turn.{turned_to}
+use Rattle.rate_group.specs.Steps.{all_refilled}
 use Rattle.relay_state.specs.State.{State, Lane, no_lane, lane_at, with_plain, with_lane, lane_got, lane_moved, lane_taken, lane_left}
 use Rattle.relay_state.specs.State.{lane_lost}
 use Rattle.relay_state.specs.Passage.{Passage, pass_part, pass_round, rounds}
@@ -308,7 +309,7 @@ taken-frame g ms p =
 pub frame-begun : (s : State) (ms : ℕ) → TurnFrame s (begun s ms) ms
 frame-begun s ms =
     let p : Plain = timers_taken s.settings (turned_to ms s.plain) in
-    let at_time : State = with_plain p s in
+    let at_time : State = with_plain p (record s { groups = all_refilled ms s.groups }) in
     let a = taken-frame s.settings ms s.plain in
     let f = frame-fold side_timed (λ z e. frame-fold (timed e) (λ y d. frame-timed y e d) z both_ways) at_time (all_sides at_time.plain) in
     record { settings = f.settings; opened = f.opened ∙ a.0; time = f.time ∙ a.1; turn = f.turn ∙ a.2; reads = λ n k. f.reads n k }

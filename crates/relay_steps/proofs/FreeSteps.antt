@@ -14,10 +14,12 @@ use Rattle.relay_model.specs.Plain.{Plain, PlainSide, side_at, is_live, without_
 use Rattle.relay_model.specs.Trace.{read_by, ended_by}
 use Rattle.relay_model.specs.Stages.{Stage}
 use Rattle.relay_state.specs.State.{State, Lane, lane_at, with_plain, with_lane, lane_left, lane_lost}
-use Rattle.relay_state.specs.Closing.{freed, without_batch}
+use Rattle.relay_state.specs.Closing.{freed, without_batch, without_group}
 use Rattle.relay_model.proofs.RatesTold.{freed-limit}
 use Rattle.relay_steps.specs.Gauges.{Gauged}
-use Rattle.relay_steps.proofs.RateLemmas.{Moveless, SameGauged, spells-none, gauged-same}
+use Rattle.relay_steps.specs.Grouped.{Grouped}
+use Rattle.relay_steps.proofs.MembershipSteps.{regrouped}
+use Rattle.relay_steps.proofs.RateLemmas.{Moveless, SameGauged, turns-none, gauged-same}
 use Rattle.relay_steps.specs.Meaning.{LaneFits, StandsFor}
 use Rattle.relay_steps.proofs.EndLemmas.{peer-peer, peer-apart, peer-moves, by_side, number-same, read-silent, ended-silent}
 use Rattle.relay_steps.proofs.FitLemmas.{Sight, sight, FitsSight, seen-fits, fits-seen, fits-same, lane-set, lane-set_other, side-put}
@@ -80,7 +82,7 @@ module _ (t : Trace) (x : Stage) (s : State) (e : SideId) (k : StandsFor t x s) 
   freed-there a h = side-put_other cleared e a gone h
 
   abbrev base : State
-  base = with_plain q (without_batch e s)
+  base = with_plain q (without_group e (without_batch e s))
 
   abbrev own : State
   own = with_lane e (lane_left (lane_at s e)) base
@@ -173,21 +175,29 @@ module _ (t : Trace) (x : Stage) (s : State) (e : SideId) (k : StandsFor t x s) 
         (λ own far h.
         fits-same g t u p q a (lane_at s a) (lane_at (freed e s) a) (sight-rest a own far) (lane-rest a own far) (k.each a h)) there
 
-  freed-group : (a : SideId) → (side_at q a).group ≡ None
-  freed-group a = elim (eqb_tells (number a) (number e)) [
-    | inl here ↦ subst (λ z. (side_at q z).group ≡ None) (sym (number-same a e here.1)) (ap (λ z. z.group) freed-here)
-    | inr there ↦ ap (λ z. z.group) (freed-there a (λ h. there.1 (ap number h))) ∙ k.gauged.group a
-  ]
-
   pub freed-gauged : (event : Event) → Moveless event → Gauged (t ++ event ∷ []) q s.gauges
   freed-gauged event moves =
-      let same : SameGauged p (record q { sides = p.sides }) = record { opened = refl; time = refl; rates = λ a. refl } in
-      let past = gauged-same t (t ++ event ∷ []) p (record q { sides = p.sides }) s.gauges same (spells-none t event moves) k.gauged in
+      let same : SameGauged p (record q { sides = p.sides }) = record { opened = refl; time = refl; rates = λ a. refl; live = λ a. refl } in
+      let past = gauged-same t (t ++ event ∷ []) p (record q { sides = p.sides }) s.gauges same (turns-none t event moves) k.gauged in
       record {
         many = past.many;
         each = λ a y is d. past.each a y (sym (freed-limit e a p) ∙ is) d;
-        group = freed-group;
       }
+
+  pub freed-grouped : (event : Event) → Moveless event → Grouped s.settings (t ++ event ∷ []) q (freed e s).groups
+  freed-grouped event moves =
+      regrouped g t (t ++ event ∷ []) p q s.groups e None (turns-none t event moves) k.grouped lt refl refl
+      (ap (λ (z : PlainSide). z.group) freed-here) (λ a away. ap (λ (z : PlainSide). z.group) (freed-there a away)) (λ n bad. absurd (cc)) gone
+    where
+      gone : (a : SideId) → is_live q a ≡ false → (side_at q a).group ≡ None
+      gone a dead = elim (eqb_tells (number a) (number e)) [
+        | inl same ↦
+            subst (λ z. (side_at q z).group ≡ None) (sym (number-same a e same.1)) (ap (λ (z : PlainSide). z.group) freed-here)
+        | inr apart ↦
+            let away : a ≢ e = λ h. apart.1 (ap number h) in
+            ap (λ (z : PlainSide). z.group) (freed-there a away)
+            ∙ k.grouped.left a (sym (ap (λ (z : PlainSide). z.live) (freed-there a away)) ∙ dead)
+      ]
 
   pub freed-many : length (freed e s).lanes ≡ 2 * s.plain.opened
   freed-many =

@@ -9,6 +9,11 @@ pub mod BucketLemmas
 pub mod RunSteps
 pub mod GaugeSteps
 pub mod RateLemmas
+pub mod GroupLemmas
+pub mod MemberSteps
+pub mod GroupedSteps
+pub mod MembershipSteps
+pub mod TurnedLemmas
 pub mod MovedSteps
 pub mod RoomLemmas
 pub mod StandsLemmas
@@ -27,6 +32,7 @@ pub mod StillSteps
 pub mod FreeSteps
 pub mod CloseSteps
 pub mod RateSteps
+pub mod JoinSteps
 pub mod AskSteps
 pub mod FireSteps
 pub mod HookedLemmas

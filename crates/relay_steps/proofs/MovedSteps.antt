@@ -90,7 +90,6 @@ module _ (t : Trace) (v : Event) (n : ℕ) (e : SideId) (d : Dir) (s : State) (m
     each = λ a y is f.
         subst (λ z. BucketFits (t ++ v ∷ []) z y a (gauge_in (gauges_after e d n s) a) f) (sym same.time)
         (at_side a y (sym (ap (λ z. z.0) (same.rates a)) ∙ is) f);
-    group = λ a. ap (λ z. z.1) (same.rates a) ∙ k.group a;
   }
     where
       after : Gauge

@@ -21,7 +21,7 @@ use Rattle.filter_model.specs.FilterStep.{begun}
 use Rattle.relay_model.specs.Flow.{no_flow}
 use Rattle.relay_model.specs.Conserved.{all_moved}
 use Rattle.filter_model.specs.Running.{StandsAt}
-use Rattle.relay_model.specs.Settings.{Settings, rate_set, group_set}
+use Rattle.relay_model.specs.Settings.{Settings, rate_set}
 use Rattle.relay_model.specs.Plain.{Plain, with_link, side_at, flow_at, Standing, first_limit}
 use Rattle.relay_model.specs.Rooms.{Want, read_kind, write_kind}
 use Rattle.relay_model.specs.Stages.{Stage, at}
@@ -45,7 +45,8 @@ use Rattle.token_bucket.specs.declared.limit.LimitCfg.{LimitCfg}
 use Rattle.relay_state.specs.Running.{Gauge, no_gauge, gauge_begun, first_gauge}
 use Rattle.relay_steps.specs.Gauges.{BucketFits, Gauged}
 use Rattle.relay_steps.proofs.GaugeSteps.{bucket-silent, bucket-first}
-use Rattle.relay_steps.proofs.RateLemmas.{beat-none}
+use Rattle.relay_steps.proofs.RateLemmas.{beat-none, turns-none}
+use Rattle.relay_steps.proofs.MembershipSteps.{opened-grouped}
 use Rattle.relay_steps.proofs.FitLemmas.{Sight, sight, FitsSight, fits-seen, fits-same}
 
 silent-opened : (link : ℕ) (connected : Bool) (a : SideId) → IsSilent (entry.Opened link connected, []) a
@@ -225,16 +226,8 @@ module _ (t : Trace) (x : Stage) (s : State) (k : StandsFor t x s) (connected : 
           (beat-none (entry.Opened p.opened connected, []) (λ a. (refl, refl)) e d)
           (k.gauged.each e y (sym (ap (λ z. z.limit) (side_at-old g connected p e counts.0 apart.1)) ∙ is) d))
     ];
-    group = λ e. elim (eqb_tells p.opened e.link) [
-      | inl here ↦ ap (λ z. z.group) (side_at-new g connected p e counts.0 here.1) ∙ no_group e.side
-      | inr apart ↦ ap (λ z. z.group) (side_at-old g connected p e counts.0 apart.1) ∙ k.gauged.group e
-    ];
   }
     where
-      no_group : (z : Side) → group_set g z ≡ None
-      no_group In = k.built.in_group
-      no_group Out = k.built.out_group
-
       first : Gauge
       first = gauge_begun (rate_set g In) p.time
 
@@ -293,6 +286,9 @@ opened-stands t s n marks connected k few lt =
       accounts = entries_keep_accounts g t (at x s.plain) (at z p') y [] k.reached (refl, few, lt, refl, refl) tt k.accounts;
       many = length-append s.lanes (new_lane g In Out ∷ new_lane g Out In ∷ []) ∙ (let a = k.many in omega arith);
       each = opened-fits t x s k connected;
-      built = k.built;
+      groups = k.groups;
       gauged = opened-gauged t x s k connected;
+      grouped =
+          opened-grouped g k.groups t (t ++ (y, []) ∷ []) s.plain s.groups connected (turns-none t (y, []) (λ a. (refl, refl)))
+          (shape-is_told g t (at x s.plain) k.reached).sides k.grouped;
     }

@@ -31,7 +31,8 @@ use Rattle.relay_state.specs.Serving.{raise_read}
 use Rattle.relay_steps.specs.Meaning.{LaneFits, StandsFor}
 use Rattle.relay_steps.proofs.EndLemmas.{number-below, by_side, peer-apart}
 use Rattle.relay_steps.proofs.FitLemmas.{sight, FitsSight, seen-fits, fits-seen, fits-same, lane-set, lane-set_other}
-use Rattle.relay_steps.proofs.RateLemmas.{gauged-same, passed-rates}
+use Rattle.relay_steps.proofs.RateLemmas.{SameGauged, turns-same, live_of, passed-live, passed-rates, gauged-same}
+use Rattle.relay_steps.proofs.GroupedSteps.{grouped-same}
 use Rattle.relay_steps.proofs.PassedLemmas.{round_of, passed-other_flow, live-same, marks-rise, round-same}
 use Rattle.relay_steps.proofs.PassageLemmas.{PassageFits, read_run-is}
 use Rattle.relay_steps.proofs.PassRounds.{Rises, read-rises, rounds-rise, sides-told, flows-told, ended-told, near-inside, far-inside, Here}
@@ -110,6 +111,14 @@ module _ (t : Trace) (x : Stage) (s : State) (h : StandsFor t x s) (e : SideId) 
         (λ inside. other-fits (peer e) inside (peer-apart e))
         (λ apart far inside. other-fits a inside apart)
 
+    same : SameGauged s.plain (plain_passed e y s.plain)
+    same = record {
+      opened = refl;
+      time = refl;
+      rates = λ a. Keeps-side rates_of s.plain _ a (passed-rates e y s.plain);
+      live = λ a. Keeps-side live_of s.plain _ a (passed-live e y s.plain);
+    }
+
     pub stands-with : (stage : Stage) → Reaches s.settings t (at stage (plain_passed e y s.plain)) →
         AccountsFit s.settings t (plain_passed e y s.plain) →
         PassageFits s.settings t (plain_passed e y s.plain) e y → StandsFor t stage (with_passage e y s)
@@ -118,11 +127,11 @@ module _ (t : Trace) (x : Stage) (s : State) (h : StandsFor t x s) (e : SideId) 
       accounts = accounts;
       many = length-set s.lanes (number e) y.lane ∙ h.many;
       each = all-fit k;
-      built = h.built;
+      groups = h.groups;
       gauged =
           gauged-same t t s.plain (plain_passed e y s.plain) s.gauges
-          (record { opened = refl; time = refl; rates = λ a. Keeps-side rates_of s.plain _ a (passed-rates e y s.plain) }) (λ a d. refl)
-          h.gauged;
+          same (turns-same t) h.gauged;
+      grouped = grouped-same s.settings t t s.plain (plain_passed e y s.plain) s.groups same (turns-same t) h.grouped;
     }
 
 -- Passing
@@ -244,14 +253,10 @@ module _ (t : Trace) (e : SideId) (ms : List Want) (s : State) (lt : e.link < s.
     each = λ a inside. subst (λ z. LaneFits g t z a (lane_at ran a)) (sym new_is)
         (fits-same g t t ran.plain (record (ran.plain) { due = dues.0 }) a (lane_at ran a) (lane_at ran a) refl refl
         (all-ran a (subst (λ n. a.link < n) opened inside)));
-    built = h.built;
+    groups = h.groups;
     gauged =
-        gauged-same t t s.plain new s.gauges
-        (record {
-          opened = opened;
-          time = ap (λ z. z.time) new_is;
-          rates = λ a. ap (λ z. rates_of (side_at z a)) new_is ∙ Keeps-side rates_of s.plain _ a (passed-rates e y s.plain);
-        }) (λ a d. refl) h.gauged;
+        gauged-same t t s.plain new s.gauges same (turns-same t) h.gauged;
+    grouped = grouped-same s.settings t t s.plain new s.groups same (turns-same t) h.grouped;
   }
     where
       dues : (ds : List Due) × (reasons.raise_read g P e ran.plain ≡ record (ran.plain) { due = ds })
@@ -262,6 +267,14 @@ module _ (t : Trace) (e : SideId) (ms : List Want) (s : State) (lt : e.link < s.
 
       opened : new.opened ≡ s.plain.opened
       opened = ap (λ z. z.opened) new_is
+
+      same : SameGauged s.plain new
+      same = record {
+        opened = opened;
+        time = ap (λ z. z.time) new_is;
+        rates = λ a. ap (λ z. rates_of (side_at z a)) new_is ∙ Keeps-side rates_of s.plain _ a (passed-rates e y s.plain);
+        live = λ a. ap (λ z. live_of (side_at z a)) new_is ∙ Keeps-side live_of s.plain _ a (passed-live e y s.plain);
+      }
 
   filtering-there : StandsFor t (Stage.Serving ms) (raise_read e (read_run e s))
   filtering-there = subst (StandsFor t (Stage.Serving ms)) (sym raised-is) filtered

@@ -23,7 +23,8 @@ use Rattle.relay_state.specs.Time.{poll_timeout}
 use Rattle.relay_steps.specs.Meaning.{StandsFor}
 use Rattle.relay_steps.proofs.EndLemmas.{IsSilent}
 use Rattle.relay_steps.proofs.RoomLemmas.{wanted-is, poll_timeout-is}
-use Rattle.relay_steps.proofs.RateLemmas.{gauged-same}
+use Rattle.relay_steps.proofs.RateLemmas.{turns-same, gauged-same}
+use Rattle.relay_steps.proofs.GroupedSteps.{grouped-same}
 use Rattle.relay_steps.proofs.StandsLemmas.{stands-told, stands-quiet}
 
 silent-poll : (timeout : Option ℕ) (a : SideId) → IsSilent (entry.Poll timeout, []) a
@@ -165,11 +166,13 @@ served-stands t s k = record {
   many = k.many;
   each = λ e lt.
       fits-same s.settings t t s.plain (record (s.plain) { due = [] }) e (lane_at s e) (lane_at (dispatching s) e) refl refl (k.each e lt);
-  built = k.built;
+  groups = k.groups;
   gauged =
-      gauged-same t t s.plain (record (s.plain) { due = [] }) s.gauges (record { opened = refl; time = refl; rates = λ a. refl })
-      (λ a d. refl)
-      k.gauged;
+      gauged-same t t s.plain (record (s.plain) { due = [] }) s.gauges
+      (record { opened = refl; time = refl; rates = λ a. refl; live = λ a. refl }) (turns-same t) k.gauged;
+  grouped =
+      grouped-same s.settings t t s.plain (record (s.plain) { due = [] }) s.groups
+      (record { opened = refl; time = refl; rates = λ a. refl; live = λ a. refl }) (turns-same t) k.grouped;
 }
 
 -- Nothing is left to fire.

@@ -27,7 +27,9 @@ use Rattle.relay_steps.specs.Meaning.{LaneFits, StandsFor}
 use Rattle.relay_steps.proofs.EndLemmas.{number-same, number-apart, number-below, read-silent, ended-silent}
 use Rattle.relay_steps.proofs.FitLemmas.{fits-same, side-put, side-put_other}
 use Rattle.relay_steps.proofs.GaugeSteps.{held-is, bucket-silent, bucket-first, bucket-next}
-use Rattle.relay_steps.proofs.RateLemmas.{Moveless, beat-none}
+use Rattle.relay_steps.specs.Grouped.{Grouped}
+use Rattle.relay_steps.proofs.GroupedSteps.{grouped-still}
+use Rattle.relay_steps.proofs.RateLemmas.{Moveless, beat-none, turns-none}
 use Rattle.relay_steps.proofs.StillSteps.{stands-shape, in_sides, sight-of}
 
 same_some : {A : Type 0} (a b : A) → Some a ≡ Some b → a ≡ b
@@ -114,8 +116,18 @@ module _ (t : Trace) (x : Stage) (s : State) (k : StandsFor t x s) (e : SideId) 
             (sym (ap (λ (z : PlainSide). z.limit)
             (side-put_other p e a (record (side_at p e) { limit = limit_set P p e (side_at p e).limit cfg }) away)) ∙ is) d))
       ];
-      group = λ a. seen-change (λ z. z.group) e a (λ z. record z { limit = limit_set P p e z.limit cfg }) p (λ z. refl) ∙ k.gauged.group a;
     }
+
+    -- groups look at no limit of a side
+    pub set-grouped : Grouped g u q s.groups
+    set-grouped =
+        grouped-still g t u p q s.groups
+        (record {
+          opened = refl;
+          time = refl;
+          group = λ a. seen-change (λ z. z.group) e a (λ z. record z { limit = limit_set P p e z.limit cfg }) p (λ z. refl);
+          live = λ a. seen-change (λ z. z.live) e a (λ z. record z { limit = limit_set P p e z.limit cfg }) p (λ z. refl);
+        }) (turns-none t v moves) k.grouped
 
     -- lanes look at no limit
     pub set-fits : ((a : SideId) → read_by a v ≡ []) → ((a : SideId) → ended_by a v ≡ false) → (a : SideId) →

@@ -15,7 +15,7 @@ use Rattle.relay_model.specs.Settings.{Settings}
 use Rattle.relay_model.specs.Plain.{Plain, PlainSide, side_at, flow_at, is_live, change_side}
 use Rattle.relay_model.specs.Past.{Past, past}
 use Rattle.relay_model.specs.Moments.{active_at}
-use Rattle.relay_model.specs.Rooms.{Want, most_at_once, read_mark, may_read, is_connecting, at_most}
+use Rattle.relay_model.specs.Rooms.{Want, most_at_once, read_mark, may_read, is_connecting}
 use Rattle.relay_model.specs.Reasons.{happened, end_flag, error_flag}
 use Rattle.relay_model.specs.Serve as model
 use Rattle.relay_model.specs.Serve.{Call, call_for, CarriesGot}
@@ -28,15 +28,22 @@ use Rattle.relay_model.proofs.ToldLemmas.{kept}
 use Rattle.relay_model.proofs.TraceLemmas.{bytes_read-push, has_ended-push}
 use Rattle.relay_model.proofs.AccountedLemmas.{entries_keep_accounts}
 use Rattle.relay_state.specs.State.{State, Lane, lane_at, lane_got}
-use Rattle.relay_state.specs.Rooms.{input_length, read_room, allowance}
+use Rattle.relay_state.specs.Rooms.{input_length, read_room}
 use Rattle.relay_state.specs.Serving.{with_got, after_read}
+use Rattle.relay_state.specs.Rooms.{within_rates}
+use Rattle.relay_steps.proofs.StillSteps.{still-rates}
 use Rattle.relay_steps.specs.Meaning.{LaneFits, StandsFor}
 use Rattle.relay_steps.proofs.EndLemmas.{same_end-apart, read-silent, ended-silent}
 use Rattle.relay_steps.proofs.FitLemmas.{sight, FitsSight, seen-fits, fits-seen, lane-set, lane-set_other}
 use Rattle.relay_steps.proofs.PassSteps.{filtering-stands}
 use Rattle.relay_steps.proofs.LaneSteps.{fits-got, fits-ended}
 use Rattle.relay_model.proofs.Frames.{rates_of}
-use Rattle.relay_steps.proofs.RateLemmas.{spells-none, gauged-same}
+use Rattle.relay_model.specs.Groups.{same_group, group_after, beat_among}
+use Rattle.relay_model.proofs.PastLemmas.{either_zero}
+use Rattle.relay_model.proofs.RatesLaw.{rated}
+use Rattle.relay_steps.proofs.RateLemmas.{SameGauged, turns-same, turns-none, gauged-same}
+use Rattle.relay_steps.proofs.GroupedSteps.{MovesAmong, moved-grouped, grouped-same}
+use Rattle.relay_steps.proofs.TurnedLemmas.{served-turned}
 use Rattle.relay_steps.proofs.MovedSteps.{MovesAt, moved-gauged}
 use Rattle.relay_steps.proofs.BeforeLemmas.{set-before}
 use Rattle.relay_model.specs.Rates.{beat_of}
@@ -94,7 +101,7 @@ module _ (t : Trace) (s : State) (e : SideId) (r w : Bool) (ms : List Want) (k :
   parts : MayRead p e
   parts =
       may_read-parts p e
-      (some-may (may_read p e) (at_most (allowance s e dir.Read) (min most_at_once (read_mark p e - input_length s e))) some)
+      (some-may (may_read p e) (within_rates s e dir.Read (min most_at_once (read_mark p e - input_length s e))) some)
 
   -- the trace tells what the plain state has
   not_ended : has_ended e t ≡ false
@@ -155,6 +162,27 @@ module _ (t : Trace) (s : State) (e : SideId) (r w : Bool) (ms : List Want) (k :
         others a h dir.Read = ap (λ b. Moves (if b then n else 0)) (other_end e a h)
         others a h dir.Write = refl
 
+    same : SameGauged p active
+    same = record {
+      opened = refl;
+      time = refl;
+      rates = λ a. seen-change rates_of e a (active_at p.time dir.Read) p (λ x. refl);
+      live = live-same;
+    }
+
+    among : MovesAmong g t e dir.Read (length bytes) event
+    among = record { own = own; across = across }
+      where
+        own : (m : ℕ) → beat_among g m dir.Read t event ≡ Moves (if same_group (group_after g e t) m then length bytes else 0)
+        own m =
+            let b : Bool = same_group (group_after g e t) m in
+            ap (λ c. Moves (if b then (if c then n else 0) else 0)) (same_end-refl e)
+            ∙ ap (λ c. Moves (if b then c else 0)) (sym carries.0)
+
+        across : (m : ℕ) (f : Dir) → f ≢ dir.Read → beat_among g m f t event ≡ Moves 0
+        across m dir.Read h = absurd (h refl)
+        across m dir.Write h = ap Moves (either_zero (same_group (group_after g e t) m))
+
     got-fits : LaneFits g u active e (lane_in lanes e)
     got-fits =
         fits-seen g u active p e (lane_in lanes e)
@@ -173,11 +201,14 @@ module _ (t : Trace) (s : State) (e : SideId) (r w : Bool) (ms : List Want) (k :
           (read-puts (read.Got n) bytes carries) tt k.accounts;
       many = length-set s.lanes (number e) new_lane ∙ k.many;
       each = one-fits t u marked s active lanes e k sight-rest (λ a h. lane-set_other s e a new_lane h) got-fits;
-      built = k.built;
+      groups = k.groups;
       gauged =
           moved-gauged t event (length bytes) e dir.Read s moves active
-          (record { opened = refl; time = refl; rates = λ a. seen-change rates_of e a (active_at p.time dir.Read) p (λ x. refl) }) lt
-          (λ y is. set-before g t p (mark e r w) ms k.reached y is dir.Read) k.gauged;
+          same lt (λ y is. set-before g t p (mark e r w) ms k.reached y is dir.Read) k.gauged;
+      grouped =
+          moved-grouped g t p s.groups e dir.Read (length bytes) event among
+          (λ m. served-turned g t p (mark e r w) ms k.reached m dir.Read) k.grouped active same
+          (sym ((rated g k.reached).told e).group);
     }
 
     got-stands :
@@ -217,10 +248,11 @@ module _ (t : Trace) (s : State) (e : SideId) (r w : Bool) (ms : List Want) (k :
             (read-puts read.Ended [] refl) tt k.accounts;
         many = k.many ∙ ap (λ n. 2 * n) (sym still.opened);
         each = λ a h. each a (subst (λ n. a.link < n) still.opened h);
-        built = k.built;
+        groups = k.groups;
         gauged =
-            gauged-same t u p new s.gauges (record { opened = still.opened; time = still.time; rates = still.rates })
-            (spells-none t x (λ a. (refl, refl))) k.gauged;
+            gauged-same t u p new s.gauges (still-rates t t p new still) (turns-none t x (λ a. (refl, refl))) k.gauged;
+        grouped =
+            grouped-same g t u p new s.groups (still-rates t t p new still) (turns-none t x (λ a. (refl, refl))) k.grouped;
       }
 
   -- a read with exactly the room of the side, whatever is answered
@@ -232,7 +264,7 @@ module _ (t : Trace) (s : State) (e : SideId) (r w : Bool) (ms : List Want) (k :
       (sym carries) ended-stands
   read-stands read.NotYet bytes carries =
       put-stands t marked (Stage.Serving marks) s p (entry.Read e room read.NotYet) bytes k (read-puts read.NotYet bytes carries) tt
-      (still-event t (entry.Read e room read.NotYet, bytes) p p (still-same t t p (λ a. refl) (λ a. refl) (λ a d. refl)) (λ a. refl)
+      (still-event t (entry.Read e room read.NotYet, bytes) p p (still-same t t p (λ a. refl) (λ a. refl) (turns-same t)) (λ a. refl)
       (λ a. refl) (λ a. (refl, refl)))
   read-stands read.Failed bytes carries =
       put-stands t marked (Stage.Serving marks) s (model.after_read g e read.Failed p) (entry.Read e room read.Failed) bytes k

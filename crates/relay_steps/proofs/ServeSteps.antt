@@ -24,6 +24,7 @@ use Rattle.relay_model.specs.Turn.{Puts}
 use Rattle.relay_state.specs.State.{State}
 use Rattle.relay_state.specs.Rooms.{read_room, write_room}
 use Rattle.relay_state.specs.Serving.{after_conn}
+use Rattle.relay_steps.proofs.RateLemmas.{turns-same}
 use Rattle.relay_steps.specs.Meaning.{StandsFor}
 use Rattle.relay_steps.proofs.RoomLemmas.{read_room-is, write_room-is}
 use Rattle.relay_steps.proofs.StillSteps.{IsStill, put-stands, quiet-stands, still-same, still-event, still-raised}
@@ -127,7 +128,7 @@ module _ (t : Trace) (s : State) (e : SideId) (r w : Bool) (ms : List Want) (k :
       (still-raised g t p e (λ x. record x { connecting = false }) why.Connected (λ z. refl) (λ z. refl) (λ z. refl)) (λ a. refl)
       (λ a. refl) (λ a. (refl, refl))
   conn-still conn.Pending =
-      still-event t (entry.Conn e conn.Pending, []) p p (still-same t t p (λ a. refl) (λ a. refl) (λ a d. refl)) (λ a. refl) (λ a. refl)
+      still-event t (entry.Conn e conn.Pending, []) p p (still-same t t p (λ a. refl) (λ a. refl) (turns-same t)) (λ a. refl) (λ a. refl)
       (λ a. (refl, refl))
   conn-still conn.Failed =
       still-event t (entry.Conn e conn.Failed, []) p (model.after_conn g e conn.Failed p)

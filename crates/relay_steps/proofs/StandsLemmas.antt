@@ -1,6 +1,7 @@
 -- How a relay goes on standing where what its lanes look at stays: by a silent step, and by an entry that tells nothing of an end.
 use Rattle.std.proofs.Common.{◌≡◌, Bool, true, false, if◌then◌else◌, List, [], ◌∷◌, ◌++◌, fold, refl, sym, ◌∙◌, ap, subst, slice_index_or}
-use Rattle.std.specs.Prelude.{is_some, ◌*◌, ◌<◌}
+use Rattle.std.specs.Prelude.{is_some, length, ◌*◌, ◌<◌}
+use Rattle.std.proofs.lemmas.List.{length-set}
 use Rattle.ev_types.specs.declared.side.SideId.{SideId}
 use Rattle.ev_types.specs.declared.why.Why.{Why}
 use Rattle.ev_types.specs.Sides.{number, peer}
@@ -25,26 +26,32 @@ use Rattle.relay_model.proofs.PlainLemmas.{seen-change}
 use Rattle.relay_model.proofs.SeenLemmas.{but_expired}
 use Rattle.relay_state.specs.Rooms.{allowance}
 use Rattle.relay_state.specs.State.{State, Lane, lane_at, with_plain}
+use Rattle.rate_group.specs.GroupValue.{GroupsValue}
+use Rattle.rate_group.specs.Steps.{share_in}
 use Rattle.relay_steps.specs.Gauges.{Gauged}
+use Rattle.relay_steps.specs.Grouped.{Grouped}
 use Rattle.relay_steps.specs.Meaning.{LaneFits, StandsFor}
 use Rattle.relay_steps.proofs.EndLemmas.{SameTold, IsSilent, told-same}
 use Rattle.relay_steps.proofs.FitLemmas.{fits-same}
-use Rattle.relay_steps.proofs.RateLemmas.{Moveless, spells-none, gauged-same}
+use Rattle.relay_steps.proofs.RateLemmas.{Moveless, SameGauged, turns-none, gauged-same}
+use Rattle.relay_steps.proofs.GroupedSteps.{grouped-same}
 use Rattle.relay_steps.proofs.RoomLemmas.{SideFits}
 
 -- Two plain states with the same links and directions, and of each side the same but for enabling, activity and expiry.
 pub record SameView (p q : Plain) : Type 0 where
   pub opened : q.opened ≡ p.opened
+  pub sides : length q.sides ≡ length p.sides
   pub flows : q.flows ≡ p.flows
   pub seen : (e : SideId) → but_expired (side_at q e) ≡ but_expired (side_at p e)
   pub rates : (e : SideId) → rates_of (side_at q e) ≡ rates_of (side_at p e)
 
 pub view-same : (p : Plain) → SameView p p
-view-same p = record { opened = refl; flows = refl; seen = λ e. refl; rates = λ e. refl }
+view-same p = record { opened = refl; sides = refl; flows = refl; seen = λ e. refl; rates = λ e. refl }
 
 pub view-then : (p mid q : Plain) → SameView p mid → SameView mid q → SameView p q
 view-then p mid q a b = record {
   opened = b.opened ∙ a.opened;
+  sides = b.sides ∙ a.sides;
   flows = b.flows ∙ a.flows;
   seen = λ e. b.seen e ∙ a.seen e;
   rates = λ e. b.rates e ∙ a.rates e;
@@ -63,6 +70,7 @@ pub view-change : (e : SideId) (f : PlainSide → PlainSide) (p : Plain) → ((x
     ((x : PlainSide) → rates_of (f x) ≡ rates_of x) → SameView p (change_side e f p)
 view-change e f p seen rates = record {
   opened = refl;
+  sides = length-set p.sides (number e) (f (side_at p e));
   flows = refl;
   seen = λ a. seen-change but_expired e a f p seen;
   rates = λ a. seen-change rates_of e a f p rates;
@@ -70,7 +78,7 @@ view-change e f p seen rates = record {
 
 pub view-raise : (g : Settings) (e : SideId) (y : Why) (p : Plain) → SameView p (raise g e y p)
 view-raise g e y p =
-    let r = raised g e y p in subst (SameView p) (sym r.1) (record { opened = refl; flows = refl; seen = λ a. refl; rates = λ a. refl })
+    let r = raised g e y p in subst (SameView p) (sym r.1) (record { opened = refl; sides = refl; flows = refl; seen = λ a. refl; rates = λ a. refl })
 
 -- a lane goes on fitting
 pub view-fits : (g : Settings) (t u : Trace) (p q : Plain) (e : SideId) (l : Lane) → SameTold t u e → SameView p q →
@@ -93,14 +101,15 @@ view-fits g t u p q e l told view k =
     }) refl k
 
 -- what rooms look at of a side stays
-pub view-side : (t u : Trace) (s : State) (p q : Plain) (e : SideId) → ((a : SideId) → SameTold t u a) → SameView p q →
+pub view-side : (t u : Trace) (s : State) (x : GroupsValue) (p q : Plain) (e : SideId) → ((a : SideId) → SameTold t u a) → SameView p q →
     ((d : Dir) → allowance (with_plain q s) e d ≡ model.allowance (past s.settings u) q e d) →
-    SideFits t (with_plain p s) e → SideFits u (with_plain q s) e
-view-side t u s p q e told view allowed k = record {
+    ((d : Dir) → share_in (number e) d x ≡ model.share s.settings (past s.settings u) q e d) →
+    SideFits t (with_plain p s) e → SideFits u (record (with_plain q s) { groups = x }) e
+view-side t u s x p q e told view allowed shared k = record {
   own = k.own ∙ holds e;
   toward = k.toward ∙ holds (peer e);
   allowed = allowed;
-  group = ap (λ z. z.1) (view.rates e) ∙ k.group;
+  shared = shared;
 }
   where
     holds : (a : SideId) →
@@ -116,19 +125,21 @@ view-side t u s p q e told view allowed k = record {
         λ i. left (read_filter s.settings p a) (write_filter s.settings p (peer a)) (r i)
         (x i).live (y i).live (slice_index_or (f i) (number a) no_flow)
 
--- An entry that tells nothing of an end is put, and the plain state goes on with the same view.
-pub stands-put : (t : Trace) (x z : Stage) (s : State) (q : Plain) (y : Event) → StandsFor t x s →
+-- An entry that tells nothing of an end is put, and the plain state goes on with the same view. Groups may go on too.
+pub stands-put : (t : Trace) (x z : Stage) (s : State) (q : Plain) (groups : GroupsValue) (y : Event) → StandsFor t x s →
     Puts s.settings t x s.plain y.0 y.1 (at z q) → TookFirst s.settings t s.plain y → ((a : SideId) → IsSilent y a) → SameView s.plain q →
-    Gauged (t ++ y ∷ []) q s.gauges → StandsFor (t ++ y ∷ []) z (with_plain q s)
-stands-put t x z s q y k put took silent view gauged = record {
+    Gauged (t ++ y ∷ []) q s.gauges → Grouped s.settings (t ++ y ∷ []) q groups →
+    StandsFor (t ++ y ∷ []) z (record (with_plain q s) { groups = groups })
+stands-put t x z s q groups y k put took silent view gauged grouped = record {
   reached = Reaches.puts y.0 y.1 k.reached put;
   accounts = entries_keep_accounts s.settings t (at x s.plain) (at z q) y.0 y.1 k.reached put took k.accounts;
   many = k.many ∙ ap (λ n. 2 * n) (sym view.opened);
   each = λ e lt.
       view-fits s.settings t (t ++ y ∷ []) s.plain q e (lane_at s e) (told-same t y e (silent e)) view
       (k.each e (subst (λ n. e.link < n) view.opened lt));
-  built = k.built;
+  groups = k.groups;
   gauged = gauged;
+  grouped = grouped;
 }
 
 -- Only the stage changes.
@@ -136,9 +147,10 @@ pub stands-told : (t : Trace) (x z : Stage) (s : State) (y : Event) → StandsFo
     Puts s.settings t x s.plain y.0 y.1 (at z s.plain) → TookFirst s.settings t s.plain y →
     ((a : SideId) → IsSilent y a) → Moveless y → StandsFor (t ++ y ∷ []) z s
 stands-told t x z s y k put took silent moves =
-    stands-put t x z s s.plain y k put took silent (view-same s.plain)
-    (gauged-same t (t ++ y ∷ []) s.plain s.plain s.gauges (record { opened = refl; time = refl; rates = λ a. refl })
-    (spells-none t y moves) k.gauged)
+    let same : SameGauged s.plain s.plain = record { opened = refl; time = refl; rates = λ a. refl; live = λ a. refl } in
+    stands-put t x z s s.plain s.groups y k put took silent (view-same s.plain)
+    (gauged-same t (t ++ y ∷ []) s.plain s.plain s.gauges same (turns-none t y moves) k.gauged)
+    (grouped-same s.settings t (t ++ y ∷ []) s.plain s.plain s.groups same (turns-none t y moves) k.grouped)
 
 -- No entry is put, and only the stage changes.
 pub stands-quiet : (t : Trace) (x z : Stage) (s : State) → StandsFor t x s →
@@ -148,6 +160,7 @@ stands-quiet t x z s k quiet = record {
   accounts = k.accounts;
   many = k.many;
   each = k.each;
-  built = k.built;
+  groups = k.groups;
   gauged = k.gauged;
+  grouped = k.grouped;
 }

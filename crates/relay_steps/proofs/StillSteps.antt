@@ -25,13 +25,14 @@ use Rattle.relay_model.proofs.ReachLemmas.{shape-is_told}
 use Rattle.relay_model.proofs.AccountedLemmas.{entries_keep_accounts}
 use Rattle.relay_state.specs.State.{State, Lane, no_lane, lane_at, with_plain}
 use Rattle.relay_state.specs.Running.{Gauge}
-use Rattle.relay_model.specs.Rates.{side_spells}
-use Rattle.token_bucket.specs.declared.limit.Dir.{Dir}
+use Rattle.rate_group.specs.GroupValue.{GroupsValue}
 use Rattle.relay_steps.specs.Gauges.{Gauged}
+use Rattle.relay_steps.specs.Grouped.{Grouped}
 use Rattle.relay_steps.specs.Meaning.{LaneFits, StandsFor}
 use Rattle.relay_steps.proofs.EndLemmas.{number-below, number-same, read-silent, ended-silent}
 use Rattle.relay_steps.proofs.FitLemmas.{sight, fits-same}
-use Rattle.relay_steps.proofs.RateLemmas.{Moveless, spells-none, gauged-same}
+use Rattle.relay_steps.proofs.RateLemmas.{Moveless, SameTurns, SameGauged, turns-same, turns-none, gauged-same}
+use Rattle.relay_steps.proofs.GroupedSteps.{grouped-same}
 
 -- what lanes look at in the second trace and plain state is what they look at in the first
 pub record IsStill (t u : Trace) (p q : Plain) : Type 0 where
@@ -43,7 +44,7 @@ pub record IsStill (t u : Trace) (p q : Plain) : Type 0 where
   pub flow : (a : SideId) → flow_at q a ≡ flow_at p a
   pub rates : (a : SideId) → rates_of (side_at q a) ≡ rates_of (side_at p a)
   pub time : q.time ≡ p.time
-  pub spells : (a : SideId) (d : Dir) → side_spells a d u ≡ side_spells a d t
+  pub turns : SameTurns t u
 
 pub still-sight : (t u : Trace) (p q : Plain) (e : SideId) → IsStill t u p q → sight u q e ≡ sight t p e
 still-sight t u p q e k =
@@ -72,8 +73,14 @@ pub in_lanes : (t : Trace) (x : Stage) (s : State) (e : SideId) → StandsFor t 
     number e < length s.lanes
 in_lanes t x s e k lt = let a = k.many in omega (arith, a, number-below e s.plain.opened lt)
 
+pub still-rates : (t u : Trace) (p q : Plain) → IsStill t u p q → SameGauged p q
+still-rates t u p q k = record { opened = k.opened; time = k.time; rates = k.rates; live = k.live }
+
 pub still-gauged : (t u : Trace) (p q : Plain) (xs : List Gauge) → IsStill t u p q → Gauged t p xs → Gauged u q xs
-still-gauged t u p q xs k h = gauged-same t u p q xs (record { opened = k.opened; time = k.time; rates = k.rates }) k.spells h
+still-gauged t u p q xs k h = gauged-same t u p q xs (still-rates t u p q k) k.turns h
+
+pub still-grouped : (g : Settings) (t u : Trace) (p q : Plain) (x : GroupsValue) → IsStill t u p q → Grouped g t p x → Grouped g u q x
+still-grouped g t u p q x k h = grouped-same g t u p q x (still-rates t u p q k) k.turns h
 
 -- the relay stands where the model came to, as lanes are still
 pub still-stands : (t u : Trace) (x y : Stage) (s : State) (q : Plain) → StandsFor t x s → IsStill t u s.plain q →
@@ -85,8 +92,9 @@ still-stands t u x y s q k still reached accounts = record {
   each = λ e lt.
       fits-same s.settings t u s.plain q e (lane_at s e) (lane_at s e) (still-sight t u s.plain q e still) refl
       (k.each e (subst (λ n. e.link < n) still.opened lt));
-  built = k.built;
+  groups = k.groups;
   gauged = still-gauged t u s.plain q s.gauges still k.gauged;
+  grouped = still-grouped s.settings t u s.plain q s.groups still k.grouped;
 }
 
 -- the model put an entry
@@ -104,15 +112,16 @@ quiet-stands t x y s k quiet = record {
   accounts = k.accounts;
   many = k.many;
   each = k.each;
-  built = k.built;
+  groups = k.groups;
   gauged = k.gauged;
+  grouped = k.grouped;
 }
 
 -- Which states are still
 
 pub still-same : (t u : Trace) (p : Plain) → ((a : SideId) → bytes_read a u ≡ bytes_read a t) →
-    ((a : SideId) → has_ended a u ≡ has_ended a t) → ((a : SideId) (d : Dir) → side_spells a d u ≡ side_spells a d t) → IsStill t u p p
-still-same t u p read ended spells = record {
+    ((a : SideId) → has_ended a u ≡ has_ended a t) → SameTurns t u → IsStill t u p p
+still-same t u p read ended turns = record {
   opened = refl;
   read = read;
   ended = ended;
@@ -121,7 +130,7 @@ still-same t u p read ended spells = record {
   flow = λ a. refl;
   rates = λ a. refl;
   time = refl;
-  spells = spells;
+  turns = turns;
 }
 
 -- a side was changed, and it lives and is marked as before
@@ -129,8 +138,8 @@ pub still-changed : (t u : Trace) (p : Plain) (e : SideId) (change : PlainSide �
     ((x : PlainSide) → (change x).live ≡ x.live) → ((x : PlainSide) → is_some (change x).bad ≡ is_some x.bad) →
     ((x : PlainSide) → rates_of (change x) ≡ rates_of x) →
     ((a : SideId) → bytes_read a u ≡ bytes_read a t) → ((a : SideId) → has_ended a u ≡ has_ended a t) →
-    ((a : SideId) (d : Dir) → side_spells a d u ≡ side_spells a d t) → IsStill t u p (change_side e change p)
-still-changed t u p e change live marked rates read ended spells = record {
+    SameTurns t u → IsStill t u p (change_side e change p)
+still-changed t u p e change live marked rates read ended turns = record {
   opened = refl;
   read = read;
   ended = ended;
@@ -139,7 +148,7 @@ still-changed t u p e change live marked rates read ended spells = record {
   flow = λ a. refl;
   rates = λ a. seen-change rates_of e a change p rates;
   time = refl;
-  spells = spells;
+  turns = turns;
 }
 
 -- pending entries are others
@@ -153,7 +162,7 @@ still-due t u p q r k ds e = subst (IsStill t u p) (sym e) (record {
   flow = k.flow;
   rates = k.rates;
   time = k.time;
-  spells = k.spells;
+  turns = k.turns;
 })
 
 -- an event tells of no read bytes and no end
@@ -168,7 +177,7 @@ still-event t x p q k read ended moves = record {
   flow = k.flow;
   rates = k.rates;
   time = k.time;
-  spells = spells-none t x moves;
+  turns = turns-none t x moves;
 }
 
 -- a side was changed so, and a reason was raised
@@ -178,7 +187,7 @@ pub still-raised : (g : Settings) (t : Trace) (p : Plain) (e : SideId) (change :
 still-raised g t p e change y live marked rates =
     let q : Plain = change_side e change p in
     let k = raised g e y q in
-    still-due t t p q (raise g e y q) (still-changed t t p e change live marked rates (λ a. refl) (λ a. refl) (λ a d. refl)) k.0 k.1
+    still-due t t p q (raise g e y q) (still-changed t t p e change live marked rates (λ a. refl) (λ a. refl) (turns-same t)) k.0 k.1
 
 -- Steps that change what one lane looks at
 

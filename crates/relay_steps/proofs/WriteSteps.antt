@@ -37,6 +37,17 @@ use Rattle.relay_model.proofs.AccountedLemmas.{entries_keep_accounts}
 use Rattle.relay_state.specs.State.{State, Lane, lane_at, with_plain, lane_taken, gauges_after}
 use Rattle.relay_state.specs.Rooms.{waiting_for, output_length, write_room, offer, allowance}
 use Rattle.relay_state.specs.Serving.{flow_given, with_taken, after_took, after_write}
+use Rattle.rate_group.specs.Steps.{spent}
+use Rattle.relay_model.specs.Groups.{same_group, group_after, beat_among}
+use Rattle.relay_model.proofs.PastLemmas.{either_zero}
+use Rattle.relay_model.proofs.RatesLaw.{rated}
+use Rattle.relay_state.specs.Rooms.{share, within_rates}
+use Rattle.relay_steps.specs.Grouped.{Grouped}
+use Rattle.relay_steps.proofs.RateLemmas.{SameGauged, turns-same}
+use Rattle.relay_steps.proofs.GroupedSteps.{MovesAmong, moved-grouped}
+use Rattle.relay_steps.proofs.RoomLemmas.{shared-is}
+use Rattle.relay_steps.proofs.StillSteps.{stands-shape, still-grouped}
+use Rattle.relay_steps.proofs.TurnedLemmas.{served-turned}
 use Rattle.relay_steps.specs.Meaning.{LaneFits, StandsFor}
 use Rattle.relay_steps.proofs.EndLemmas.{same_end-apart, peer-peer, read-silent, ended-silent}
 use Rattle.relay_steps.proofs.FitLemmas.{sight, FitsSight, seen-fits, fits-seen, fits-same, lane-set, lane-set_other, flow-put}
@@ -64,6 +75,12 @@ other_end e a h = same_end-apart e a (λ q. h (sym q))
 at_most-le : (o : Option ℕ) (n : ℕ) → at_most o n ≤ n
 at_most-le None n = omega arith
 at_most-le (Some m) n = omega arith
+
+within_rates-le : (s : State) (e : SideId) (n : ℕ) → within_rates s e dir.Write n ≤ n
+within_rates-le s e n =
+    let a = at_most-le (share s e dir.Write) (at_most (allowance s e dir.Write) n) in
+    let b = at_most-le (allowance s e dir.Write) n in
+    omega (arith, a, b)
 
 module _ (t : Trace) (s : State) (e : SideId) (w : Bool) (ms : List Want) (k : StandsFor t (Stage.Serving (mark e false w ∷ ms)) s)
     (lt : e.link < s.plain.opened) (q : is_connecting s.plain e ≡ false) (l : w ≡ true) (some : nat_lt 0 (write_room s e) ≡ true) where
@@ -98,16 +115,16 @@ module _ (t : Trace) (s : State) (e : SideId) (w : Bool) (ms : List Want) (k : S
   )
 
   may : may_write p e ≡ true
-  may = some-may (may_write p e) (at_most (allowance s e dir.Write) (min most_at_once (length (waiting_for s e)))) some
+  may = some-may (may_write p e) (within_rates s e dir.Write (min most_at_once (length (waiting_for s e)))) some
 
   live : is_live p e ≡ true
   live = may_write-live p e may
 
   room_le : write_room s e ≤ length (waiting_for s e)
   room_le =
-      let a : write_room s e ≡ at_most (allowance s e dir.Write) (min most_at_once (length (waiting_for s e))) =
-      ap (λ (b : Bool). if b then at_most (allowance s e dir.Write) (min most_at_once (length (waiting_for s e))) else 0) may in
-      let b = at_most-le (allowance s e dir.Write) (min most_at_once (length (waiting_for s e))) in
+      let a : write_room s e ≡ within_rates s e dir.Write (min most_at_once (length (waiting_for s e))) =
+      ap (λ (b : Bool). if b then within_rates s e dir.Write (min most_at_once (length (waiting_for s e))) else 0) may in
+      let b = within_rates-le s e (min most_at_once (length (waiting_for s e))) in
       omega (arith, a, b)
 
   -- its end took the first bytes of what was offered
@@ -192,11 +209,34 @@ module _ (t : Trace) (s : State) (e : SideId) (w : Bool) (ms : List Want) (k : S
         others a h dir.Read = refl
         others a h dir.Write = ap (λ b. Moves (if b then n else 0)) (other_end e a h)
 
+    same : SameGauged p took
+    same = record {
+      opened = refl;
+      time = refl;
+      rates = λ a. seen-change rates_of e a (active_at p.time dir.Write) given (λ x. refl);
+      live = live-same;
+    }
+
     took-gauged : Gauged u took (gauges_after e dir.Write n s)
     took-gauged =
         moved-gauged t event n e dir.Write s moves took
-        (record { opened = refl; time = refl; rates = λ a. seen-change rates_of e a (active_at p.time dir.Write) given (λ x. refl) }) lt
-        (λ y is. set-before g t p (mark e false w) ms k.reached y is dir.Write) k.gauged
+        same lt (λ y is. set-before g t p (mark e false w) ms k.reached y is dir.Write) k.gauged
+
+    among : MovesAmong g t e dir.Write n event
+    among = record { own = own; across = across }
+      where
+        own : (m : ℕ) → beat_among g m dir.Write t event ≡ Moves (if same_group (group_after g e t) m then n else 0)
+        own m = ap (λ c. Moves (if same_group (group_after g e t) m then (if c then n else 0) else 0)) (same_end-refl e)
+
+        across : (m : ℕ) (f : Dir) → f ≢ dir.Write → beat_among g m f t event ≡ Moves 0
+        across m dir.Write h = absurd (h refl)
+        across m dir.Read h = ap Moves (either_zero (same_group (group_after g e t) m))
+
+    took-grouped : Grouped g u took (spent (number e) dir.Write n s.groups)
+    took-grouped =
+        moved-grouped g t p s.groups e dir.Write n event among
+        (λ m. served-turned g t p (mark e false w) ms k.reached m dir.Write) k.grouped took same
+        (sym ((rated g k.reached).told e).group)
 
     side-fits : SideFits u (with_taken s e n) e
     side-fits =
@@ -204,7 +244,7 @@ module _ (t : Trace) (s : State) (e : SideId) (w : Bool) (ms : List Want) (k : S
           own = (took-fits e lt).holds.buffers;
           toward = (took-fits (peer e) lt).holds.buffers;
           allowed = allowed-is u (with_taken s e n) e took-gauged;
-          group = took-gauged.group e;
+          shared = shared-is u (with_taken s e n) e took-grouped (length-set p.sides (number e) (active_at p.time dir.Write (side_at given e)) ∙ (stands-shape t marked s k).sides);
         }
 
     -- the low mark is looked at with the model's length
@@ -224,7 +264,7 @@ module _ (t : Trace) (s : State) (e : SideId) (w : Bool) (ms : List Want) (k : S
     still : IsStill u u took (reasons.raise_write g P e took)
     still =
         let r = raised_write g P e took in
-        still-due u u took took (reasons.raise_write g P e took) (still-same u u took (λ a. refl) (λ a. refl) (λ a d. refl)) r.0 r.1
+        still-due u u took took (reasons.raise_write g P e took) (still-same u u took (λ a. refl) (λ a. refl) (turns-same u)) r.0 r.1
 
     took-stands : StandsFor u (Stage.Serving ms) (after_took s e n)
     took-stands =
@@ -237,8 +277,9 @@ module _ (t : Trace) (s : State) (e : SideId) (w : Bool) (ms : List Want) (k : S
           each = λ a h.
               fits-same g u u took (reasons.raise_write g P e took) a (lane_in lanes a) (lane_in lanes a)
               (still-sight u u took (reasons.raise_write g P e took) a still) refl (took-fits a (subst (λ m. a.link < m) still.opened h));
-          built = k.built;
+          groups = k.groups;
           gauged = still-gauged u u took (reasons.raise_write g P e took) (gauges_after e dir.Write n s) still took-gauged;
+          grouped = still-grouped g u u took (reasons.raise_write g P e took) (spent (number e) dir.Write n s.groups) still took-grouped;
         })
 
   -- a write of exactly what is offered to the side, whatever is answered but want of memory
@@ -248,7 +289,7 @@ module _ (t : Trace) (s : State) (e : SideId) (w : Bool) (ms : List Want) (k : S
   write-stands (write.Took n) within done = took-stands n (let a = within.0 in omega arith) within.1
   write-stands write.NotYet within done =
       put-stands t marked (Stage.Serving ms) s p (entry.Write e room write.NotYet) [] k (write-puts write.NotYet [] refl) tt
-      (still-event t (entry.Write e room write.NotYet, []) p p (still-same t t p (λ a. refl) (λ a. refl) (λ a d. refl)) (λ a. refl)
+      (still-event t (entry.Write e room write.NotYet, []) p p (still-same t t p (λ a. refl) (λ a. refl) (turns-same t)) (λ a. refl)
       (λ a. refl) (λ a. (refl, refl)))
   write-stands write.Failed within done =
       put-stands t marked (Stage.Serving ms) s (model.after_write g P e write.Failed p) (entry.Write e room write.Failed) [] k
@@ -264,6 +305,6 @@ pub offer-length : (s : State) (e : SideId) → length (offer s e) ≡ write_roo
 offer-length s e = length-take-le (write_room s e) (waiting_for s e) (by_test (may_write s.plain e))
   where
     by_test : (b : Bool) →
-        (if b then at_most (allowance s e dir.Write) (min most_at_once (length (waiting_for s e))) else 0) ≤ length (waiting_for s e)
-    by_test true = let b = at_most-le (allowance s e dir.Write) (min most_at_once (length (waiting_for s e))) in omega (arith, b)
+        (if b then within_rates s e dir.Write (min most_at_once (length (waiting_for s e))) else 0) ≤ length (waiting_for s e)
+    by_test true = let b = within_rates-le s e (min most_at_once (length (waiting_for s e))) in omega (arith, b)
     by_test false = omega arith

@@ -1,5 +1,5 @@
 -- When the buckets that a relay keeps fit a trace.
-use Rattle.std.specs.Prelude.{◌≡◌, ℕ, ◌*◌, ◌≤◌, ◌<◌, List, length, map, drop, Some, None}
+use Rattle.std.specs.Prelude.{◌≡◌, ℕ, ◌*◌, ◌≤◌, ◌<◌, List, length, map, drop, Some}
 use Rattle.token_bucket.specs.declared.limit.Dir.{Dir}
 use Rattle.ev_types.specs.declared.side.SideId.{SideId}
 use Rattle.ev_types.specs.Trace.{Trace}
@@ -28,8 +28,7 @@ pub record BucketFits (t : Trace) (time : ℕ) (y : Standing) (e : SideId) (x : 
   pub ticks : 0 < (limit_of y.cfg d).tick
   pub kept : x.time ≤ time
 
--- So does each bucket of each side. No side is in a group.
+-- So does each bucket of each side.
 pub record Gauged (t : Trace) (p : Plain) (xs : List Gauge) : Type 0 where
   pub many : length xs ≡ 2 * p.opened
   pub each : (e : SideId) (y : Standing) → (side_at p e).limit ≡ Some y → (d : Dir) → BucketFits t p.time y e (gauge_in xs e) d
-  pub group : (e : SideId) → (side_at p e).group ≡ None

@@ -15,7 +15,7 @@ use Rattle.relay_steps.specs.Meaning.{StandsFor, LeftFor}
 abbrev pub fire_asked : Fire → Act × AskAnswer → Fire
 fire_asked x y = record x { asks = x.asks + 1; stopped = x.stopped || stops y }
 
--- The hook that runs, which has made fewer than 256 asks, makes one more: of any side, but not about groups. However it is answered, the
+-- The hook that runs, which has made fewer than 256 asks, makes one more, of any side. However it is answered, the
 -- relay stands for the trace with the entries of that ask, the fire being one ask further.
 abbrev pub AsksAreStoodFor : Type 0
 AsksAreStoodFor = (t : Trace) (s new : State) (x : Fire) (a : Act) (answer : AskAnswer) (added : Trace) →

@@ -1,4 +1,5 @@
 pub mod Gauges
+pub mod Grouped
 pub mod Meaning
 pub mod HookLaws
 pub mod ToFire

@@ -1,5 +1,6 @@
 -- What the relay's state means in the model: for which traces it stands. What keeps that so stands in the proofs.
-use Rattle.std.specs.Prelude.{◌≡◌, ◌*◌, ◌<◌, true, [], length, None, is_some}
+use Rattle.std.specs.Prelude.{◌≡◌, ◌*◌, ◌<◌, true, length, is_some, IfSome}
+use Rattle.std.specs.List.{AllByRecursion}
 use Rattle.ev_types.specs.declared.side.SideId.{SideId}
 use Rattle.ev_types.specs.Sides.{peer}
 use Rattle.ev_types.specs.Trace.{Trace}
@@ -15,12 +16,13 @@ use Rattle.relay_model.specs.Stands.{DirectionHolds}
 use Rattle.relay_model.specs.StepLaws.{AccountsFit}
 use Rattle.relay_state.specs.State.{State, Lane, lane_at}
 use Rattle.relay_steps.specs.Gauges.{Gauged}
+use Rattle.relay_steps.specs.Grouped.{Grouped}
 
--- What the relay's code can't do yet: no side has a group.
-pub record IsBuilt (g : Settings) : Type 0 where
-  pub in_group : g.in_group ≡ None
-  pub out_group : g.out_group ≡ None
-  pub groups : g.groups ≡ []
+-- Sides that join a group as their link opens join one that there is, and each group has a share above 0.
+pub record HasItsGroups (g : Settings) : Type 0 where
+  pub in_group : IfSome g.in_group (λ n. n < length g.groups)
+  pub out_group : IfSome g.out_group (λ n. n < length g.groups)
+  pub shares : AllByRecursion (λ x. 0 < x.share) g.groups
 
 -- A lane fits a trace and the state of the model that it leads to: it holds exactly the bytes that the counts leave, its filters stand
 -- where the counts say, its own counts are told, and a filter that stopped at a bad place has marked its side.
@@ -39,8 +41,9 @@ pub record StandsFor (t : Trace) (x : Stage) (s : State) : Type 0 where
   pub accounts : AccountsFit s.settings t s.plain
   pub many : length s.lanes ≡ 2 * s.plain.opened
   pub each : (e : SideId) → e.link < s.plain.opened → LaneFits s.settings t s.plain e (lane_at s e)
-  pub built : IsBuilt s.settings
+  pub groups : HasItsGroups s.settings
   pub gauged : Gauged t s.plain s.gauges
+  pub grouped : Grouped s.settings t s.plain s.groups
 
 -- It stands so at a stage at which a turn may answer so.
 pub record LeftFor (answer : TurnAnswer) (t : Trace) (s : State) : Type 0 where

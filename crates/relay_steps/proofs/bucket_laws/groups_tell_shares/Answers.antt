@@ -1,0 +1,5 @@
+use Rattle.relay_steps.proofs.RoomLemmas.{groups_tell_shares}
+use Rattle.relay_steps.proofs.bucket_laws.groups_tell_shares.Goals as goal
+
+pub returns : goal.returns
+returns c = groups_tell_shares
