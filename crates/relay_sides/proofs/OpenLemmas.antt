@@ -325,14 +325,14 @@ sound_kept r w k a b sound = record {
 }
 
 -- and so it does where a link was opened
-pub sound_more : (r : Inside) (w : WorldValue) (k : Vec SideState) (l : Vec (Box LimitValue Global)) (time turn : ℕ) (near far : NewSide)
+pub sound_more : (r : Inside) (w : WorldValue) (k : Vec SideState) (time turn : ℕ) (near far : NewSide)
     (near_limit far_limit : Option (Box LimitValue Global))
     (near_is : kept_value near_limit ≡ first_kept time turn near.limit) (far_is : kept_value far_limit ≡ first_kept time turn far.limit)
     (sound : AreSides r) →
     w.slots ≡ r.world.slots ++ (side_slots time near (4 * r.opened) ++ side_slots time far (4 * r.opened + 2)) →
     k.items ≡ r.sides.items ++ more_sides near far near_limit far_limit →
-    AreSides (record r { opened = r.opened + 1; world = w; sides = k; spare_limits = l })
-sound_more r w k l time turn near far near_limit far_limit near_is far_is sound a b =
+    AreSides (record r { opened = r.opened + 1; world = w; sides = k })
+sound_more r w k time turn near far near_limit far_limit near_is far_is sound a b =
     let S : List Slot = r.world.slots in
     let K : List SideState = r.sides.items in
     let more : List Slot = side_slots time near (4 * r.opened) ++ side_slots time far (4 * r.opened + 2) in

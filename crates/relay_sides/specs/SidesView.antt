@@ -44,7 +44,6 @@ abbrev pub sides_of : Inside → SidesValue
 sides_of r = record {
   links = links_of r.opened r.world.slots r.sides.items;
   spare_links = spare_links_of r;
-  spare_limits = vec_len r.spare_limits;
   spare_reads = tabulate (λ n. if n == r.ready then r.readable else 0) (2 * r.opened);
   rooms = rooms_of r.opened r.world.slots (vec_capacity r.beside);
 }

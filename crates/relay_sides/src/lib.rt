@@ -21,6 +21,7 @@ pub use bev_core::Dir;
 pub use counts::{Counts, SPENT};
 pub use ev_types::{Marks, Timeouts};
 pub use flags::SideFlags;
+pub use limits::SpareLimits;
 pub use opening::NewSide;
 pub use questions::Lengths;
 pub use side::MOST_AT_ONCE;

@@ -11,22 +11,68 @@ use crate::sides::Sides;
 use bev_core::Dir;
 use ev_types::{LimitCfg, NoMemory, SideId};
 use side_limit::SideLimit;
+use std::alloc::Global;
+use std::marker::Model;
 
-/// A first limit in memory that was kept ready, where there is to be one, set in a turn and at its time.
-pub(crate) fn first_limit(
-    spare: &mut Vec<Box<SideLimit>>,
-    cfg: Option<LimitCfg>,
-    time: u64,
-    turn: u64,
-) -> Option<Box<SideLimit>>
-    requires { limits_in cfg ≤ vec_len spare.old }
-    ensures limit { kept_value result ≡ first_kept time turn cfg }
-    ensures spare { vec_len spare.new ≡ vec_len spare.old - limits_in cfg }
-{
-    let cfg = cfg?;
-    let mut limit = spare.pop()?;
-    *limit = SideLimit::first(cfg, turn, time);
-    Some(limit)
+/// Memory for limits that are set later, so that setting one takes none.
+///
+/// Own.
+#[derive(Drop)]
+pub struct SpareLimits {
+    limits: Vec<Box<SideLimit>>,
+}
+
+impl Model for SpareLimits {
+    ghost use Rattle.std.specs.Prelude.{ℕ, vec_len};
+
+    ghost Value = { ℕ };
+
+    ghost view = { λ r. vec_len r.limits };
+}
+
+impl SpareLimits {
+    /// For no limit. Takes no memory; constant.
+    ///
+    /// Own.
+    pub fn new(alloc: Global) -> SpareLimits
+        ensures { result ≡ 0 }
+    {
+        SpareLimits {
+            limits: Vec::new(alloc),
+        }
+    }
+
+    /// Makes memory for so many limits in all. Takes memory for those that are lacking; linear in their number.
+    ///
+    /// Own.
+    pub fn reserve(&mut self, count: usize) -> Result<(), NoMemory>
+        ensures more { self.old ≤ self.new }
+        ensures room { OnOk result (count ≤ self.new) }
+    {
+        let alloc = *self.limits.allocator();
+        for _ in self.limits.len()..count {
+            let limit = Box::new(alloc, SideLimit::spare())?;
+            self.limits.push(limit)?;
+        }
+        Ok(())
+    }
+
+    /// A limit that is set for the first time in a turn and at its time, where there is to be one.
+    pub(crate) fn take_first(
+        &mut self,
+        cfg: Option<LimitCfg>,
+        time: u64,
+        turn: u64,
+    ) -> Option<Box<SideLimit>>
+        requires { limits_in cfg ≤ self.old }
+        ensures limit { kept_value result ≡ first_kept time turn cfg }
+        ensures spare { self.new ≡ self.old - limits_in cfg }
+    {
+        let cfg = cfg?;
+        let mut limit = self.limits.pop()?;
+        *limit = SideLimit::first(cfg, turn, time);
+        Some(limit)
+    }
 }
 
 /// What a limit leaves to move in a direction at a time, where there is one.
@@ -52,15 +98,15 @@ fn spend_of(limit: &mut Option<Box<SideLimit>>, dir: Dir, count: u64, time: u64)
 /// Another limit, or none, in the place of this one, in a turn and at its time; a first one in memory that was kept ready.
 fn set_of(
     limit: &mut Option<Box<SideLimit>>,
-    spare: &mut Vec<Box<SideLimit>>,
+    spare: &mut SpareLimits,
     cfg: Option<LimitCfg>,
     time: u64,
     turn: u64,
 )
     requires later { (gauge_by (kept_value limit.old)).time ≤ time }
-    requires room { 0 < vec_len spare.old }
+    requires room { 0 < spare.old }
     ensures limit { kept_value limit.new ≡ set_kept time turn (kept_value limit.old) cfg }
-    ensures spare { vec_len spare.old ≤ vec_len spare.new + 1 }
+    ensures spare { spare.old ≤ spare.new + 1 }
 {
     let Some(cfg) = cfg else {
         *limit = None;
@@ -68,7 +114,7 @@ fn set_of(
     };
     match limit.as_mut() {
         Some(limit) => limit.change(cfg, turn, time),
-        None => *limit = first_limit(spare, Some(cfg), time, turn),
+        None => *limit = spare.take_first(Some(cfg), time, turn),
     }
 }
 
@@ -82,22 +128,6 @@ fn gains_of(limit: &Option<Box<SideLimit>>, time: u64) -> Option<u64>
 }
 
 impl Sides {
-    /// Makes memory for so many limits more than are set. Takes memory for those that are lacking; linear in their number.
-    ///
-    /// Own.
-    pub fn reserve_limits(&mut self, count: usize) -> Result<(), NoMemory>
-        ensures links { self.new.links ≡ self.old.links }
-        ensures links_room { self.new.spare_links ≡ self.old.spare_links }
-        ensures room { OnOk result (count ≤ self.new.spare_limits) }
-    {
-        let alloc = *self.spare_limits.allocator();
-        for _ in self.spare_limits.len()..count {
-            let limit = Box::new(alloc, SideLimit::spare())?;
-            self.spare_limits.push(limit)?;
-        }
-        Ok(())
-    }
-
     /// What the side's own limit leaves it to move in a direction at a time. None where it has no limit. Constant; takes no memory.
     ///
     /// Libevent: event2/bufferevent.h, `bufferevent_get_read_limit` and `bufferevent_get_write_limit`; "Bufferevents: advanced topics".
@@ -128,16 +158,23 @@ impl Sides {
     /// no memory.
     ///
     /// Libevent: event2/bufferevent.h, `bufferevent_set_rate_limit`; "Bufferevents: advanced topics".
-    pub fn set_limit(&mut self, side: SideId, cfg: Option<LimitCfg>, time: u64, turn: u64)
+    pub fn set_limit(
+        &mut self,
+        side: SideId,
+        cfg: Option<LimitCfg>,
+        time: u64,
+        turn: u64,
+        spare: &mut SpareLimits,
+    )
         requires opened { side.link < self.old.links.opened }
         requires later { (gauge_at self.old.links side).time ≤ time }
-        requires room { 0 < self.old.spare_limits }
+        requires room { 0 < spare.old }
         ensures links { self.new.links ≡ limited time turn side cfg self.old.links }
-        ensures spare { self.old.spare_limits ≤ self.new.spare_limits + 1 }
+        ensures spare { spare.old ≤ spare.new + 1 }
     {
         self.readable = 0;
         let own = &mut self.sides[side.number()];
-        set_of(&mut own.limit, &mut self.spare_limits, cfg, time, turn);
+        set_of(&mut own.limit, spare, cfg, time, turn);
     }
 
     /// When a bucket of the side's limit that holds nothing at a time gains again. None where both hold something, or there is no limit.

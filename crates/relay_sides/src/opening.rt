@@ -3,7 +3,7 @@ ghost use Rattle.std.specs.Prelude.{◌≡◌, ◌≤◌, ◌<◌, ◌+◌, ◌-
 ghost use Rattle.relay_sides.specs.Links.{with_link};
 ghost use Rattle.relay_sides.specs.Opening.{side_slots, limits_of};
 
-use crate::limits::first_limit;
+use crate::limits::SpareLimits;
 use crate::side::SideState;
 use crate::sides::Sides;
 use bev_core::Dir;
@@ -46,17 +46,25 @@ impl Sides {
         self.world.reserve(4)
     }
 
-    /// Opens the next link in a turn and at its time, with its In and its Out side, in room that was made before. Takes no memory;
-    /// constant.
+    /// Opens the next link in a turn and at its time, with its In and its Out side, in room and with memory for their limits that were
+    /// made before. Takes no memory; constant.
     ///
     /// Own.
-    pub fn open(&mut self, near: NewSide, far: NewSide, time: u64, turn: u64)
+    pub fn open(
+        &mut self,
+        near: NewSide,
+        far: NewSide,
+        time: u64,
+        turn: u64,
+        spare: &mut SpareLimits,
+    )
         requires room { 0 < self.old.spare_links }
-        requires limits { limits_of near far ≤ self.old.spare_limits }
-        ensures { self.new.links ≡ with_link time turn near far self.old.links }
+        requires limits { limits_of near far ≤ spare.old }
+        ensures links { self.new.links ≡ with_link time turn near far self.old.links }
+        ensures spare { spare.old ≤ spare.new + limits_of near far }
     {
-        let near_limit = first_limit(&mut self.spare_limits, near.limit, time, turn);
-        let far_limit = first_limit(&mut self.spare_limits, far.limit, time, turn);
+        let near_limit = spare.take_first(near.limit, time, turn);
+        let far_limit = spare.take_first(far.limit, time, turn);
         let near_state = SideState::new(near.connected, near_limit, near.group);
         let far_state = SideState::new(far.connected, far_limit, far.group);
         add_bevs(&mut self.world, near, time);

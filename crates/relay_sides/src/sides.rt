@@ -10,7 +10,6 @@ use crate::side::{MOST_AT_ONCE, SideState, lower, mark_or, upper};
 use bev_core::Dir;
 use bev_world::{SpareRoom, World};
 use ev_types::SideId;
-use side_limit::SideLimit;
 use std::alloc::Global;
 use std::marker::Model;
 
@@ -26,8 +25,6 @@ pub struct Sides {
     pub(crate) opened: u32,
     pub(crate) world: World,
     pub(crate) sides: Vec<SideState>,
-    /// Memory for limits that are set later.
-    pub(crate) spare_limits: Vec<Box<SideLimit>>,
     /// What a filter makes is made here first.
     pub(crate) beside: Vec<u8>,
     /// Where what is read goes if there is no other room for it.
@@ -60,7 +57,6 @@ impl Sides {
             opened: 0,
             world: World::new(alloc),
             sides: Vec::new(alloc),
-            spare_limits: Vec::new(alloc),
             beside: Vec::new(alloc),
             spare: SpareRoom::new(alloc),
             ready: 0,

@@ -11,8 +11,8 @@ invariant_of-self c =
     let r = c.self.inside in
     let near = c.args.near in
     let far = c.args.far in
-    let a = c.first_limit-near_limit.result in
-    let b = c.first_limit-far_limit.result in
+    let a = c.take_first-near_limit.result in
+    let b = c.take_first-far_limit.result in
     let slots = slots_joined r.world.slots c.add_bevs.new.world.slots c.add_bevs-2.new.world.slots r.opened c.args.time near far
     c.self.invariant.slots c.add_bevs.ensures.slots c.add_bevs-2.ensures.slots in
     let states = states_joined r.sides.items c.push.new.self.items c.push-2.new.self.items c.new-near_state.result c.new-far_state.result
@@ -20,16 +20,16 @@ invariant_of-self c =
     (pushed c.push.result c.unwrap.result r.sides.items c.push.new.self.items c.new-near_state.result c.unwrap.ensures c.push.ensures.items)
     (pushed c.push-2.result c.unwrap-2.result c.push.new.self.items c.push-2.new.self.items c.new-far_state.result c.unwrap-2.ensures
     c.push-2.ensures.items) in
-    sound_more r c.add_bevs-2.new.world c.push-2.new.self c.first_limit-far_limit.new.spare c.args.time c.args.turn near far a b
-    c.first_limit-near_limit.ensures.limit c.first_limit-far_limit.ensures.limit c.self.invariant slots states
+    sound_more r c.add_bevs-2.new.world c.push-2.new.self c.args.time c.args.turn near far a b
+    c.take_first-near_limit.ensures.limit c.take_first-far_limit.ensures.limit c.self.invariant slots states
 
-pub returns : goal.returns
-returns c =
+pub returns-clause-links : goal.returns-clause-links
+returns-clause-links c =
     let r = c.self.inside in
     let near = c.args.near in
     let far = c.args.far in
-    let a = c.first_limit-near_limit.result in
-    let b = c.first_limit-far_limit.result in
+    let a = c.take_first-near_limit.result in
+    let b = c.take_first-far_limit.result in
     let slots = slots_joined r.world.slots c.add_bevs.new.world.slots c.add_bevs-2.new.world.slots r.opened c.args.time near far
     c.self.invariant.slots c.add_bevs.ensures.slots c.add_bevs-2.ensures.slots in
     let states = states_joined r.sides.items c.push.new.self.items c.push-2.new.self.items c.new-near_state.result c.new-far_state.result
@@ -39,5 +39,5 @@ returns c =
     c.push-2.ensures.items) in
     (λ i. links_of (r.opened + 1) (slots i) (states i))
     ∙ links_more r.opened r.world.slots r.sides.items c.self.invariant.slots c.self.invariant.sides c.args.time c.args.turn near far a b
-    c.first_limit-near_limit.ensures.limit c.first_limit-far_limit.ensures.limit
+    c.take_first-near_limit.ensures.limit c.take_first-far_limit.ensures.limit
     ∙ ap (λ (z : SidesValue). with_link c.args.time c.args.turn near far z.links) c.self.view_is
