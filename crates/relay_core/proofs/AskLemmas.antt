@@ -12,7 +12,7 @@ use Rattle.relay_model.specs.Settings.{Settings}
 use Rattle.relay_model.specs.Plain.{Plain}
 use Rattle.relay_model.specs.Asks.{most_asks, names_no_live, has_bad_value, names_no_group, has_too_many, refusal}
 use Rattle.relay_state.specs.State.{State}
-use Rattle.relay_state.specs.Asking.{Answered, ask_events, is_of_group, stops}
+use Rattle.relay_state.specs.Asking.{Answered, ask_events, stops}
 use Rattle.relay_core.specs.Fires.{AsksOnce, IsRecorded, Recorded, answer_of, fault_of}
 use Rattle.relay_core.specs.RelayValue.{RelayValue}
 
@@ -55,14 +55,13 @@ or-false true c h = refl
 or-false false c h = sym h
 
 -- A refused ask was recorded.
-pub recorded-refused : (old new : RelayValue) (a : Act) (r : AskAnswer) → is_of_group a ≡ false → IsAct a → old.asks < most_asks →
+pub recorded-refused : (old new : RelayValue) (a : Act) (r : AskAnswer) → IsAct a → old.asks < most_asks →
     refusal old.state.settings old.state.plain a ≡ Some r → IsRecorded a r old new → AsksOnce old a (answer_of (Err (fault_of r))) new
-recorded-refused old new a r built fits few is h =
+recorded-refused old new a r fits few is h =
     let told = refusal-told old.state.settings old.state.plain a r is in
     let recorded : Recorded old a r new = record {
       few = few;
       does = record {
-        built = built;
         fits = fits;
         answered = subst (λ o. Answered o old.state a r new.state) (sym is) (refl, h.state);
         entries = refl;

@@ -1,62 +1,45 @@
--- The relay's state as its links change, and what is so of each side: none has a limit, so that rooms are what flags and marks leave,
--- and no bucket changes.
-use Rattle.std.proofs.Common.{◌≡◌, ℕ, zero, suc, Bool, false, Result, Ok, Err, MatchResult, if◌then◌else◌, List, []}
-use Rattle.std.proofs.Common.{◌∷◌, slice_index_or, Option, None, option_map, ◌*◌, ◌-◌, min, length, length-append, ◌≢◌, refl, sym, ◌∙◌, ap}
-use Rattle.std.proofs.Common.{subst, arith}
+-- The relay's state as its links and its groups change, and what is so of each side.
+use Rattle.std.proofs.Common.{◌≡◌, ◌≢◌, ◌≤◌, ◌<◌, ℕ, zero, suc, Bool, true, false, Result, Ok, Err, MatchResult, if◌then◌else◌, List, []}
+use Rattle.std.proofs.Common.{◌∷◌, slice_index_or, Option, Some, None, option_map, length, nat_eq, refl, sym, ◌∙◌, ap, subst, arith}
 use Rattle.std.proofs.lemmas.List.Elements.{All-set, All-head, All-tail, All-nil, All-cons, All-append}
-use Rattle.std.proofs.lemmas.List.{set-get_or}
-use Rattle.std.specs.Prelude.{slice_set}
+use Rattle.std.specs.Prelude.{slice_set, map}
 use Rattle.std.specs.List.{All}
+use Rattle.std.specs.Map.{remove_entry}
+use Rattle.std.specs.Option.{option_map_or}
 use Rattle.token_bucket.specs.declared.limit.Dir.{Dir}
 use Rattle.token_bucket.specs.declared.limit.Dir.TheVariants as dir
+use Rattle.token_bucket.specs.declared.limit.LimitCfg.{LimitCfg}
 use Rattle.ev_types.specs.declared.side.SideId.{SideId}
 use Rattle.ev_types.specs.Sides.{number, peer}
-use Rattle.ev_types.specs.declared.settings.Timeouts.{Timeouts}
-use Rattle.relay_model.specs.Plain as plain
-use Rattle.relay_model.specs.Plain.{Plain, PlainSide, Standing, no_side, is_live}
+use Rattle.ev_types.specs.declared.settings.Settings.{Settings}
+use Rattle.rate_group.specs.GroupValue.{GroupValue, GroupsValue, GroupsKept}
+use Rattle.rate_group.specs.GroupsCalls.{no_groups}
+use Rattle.rate_group.specs.Steps.{changed_at, spent_in, refilled_to, spent, left, group_of, all_refilled}
+use Rattle.relay_model.specs.Plain.{PlainSide, Standing, no_side, first_limit}
 use Rattle.relay_model.specs.Moments.{active_at}
-use Rattle.relay_model.specs.Rooms.{at_most, most_at_once, read_mark, may_read, may_write}
-use Rattle.relay_state.specs.Running.{no_gauge, gauge_after, held_at}
-use Rattle.relay_state.specs.State.{State, gauge_at, gauges_after}
+use Rattle.relay_state.specs.Running.{Gauge, no_gauge, gauge_after, gauge_begun, gauge_set}
+use Rattle.relay_state.specs.State.{State}
 use Rattle.relay_state.specs.Passage.{Passage, read_part}
 use Rattle.relay_state.specs.Passing as state
 use Rattle.relay_state.specs.Passing.{with_bad, read_run}
-use Rattle.relay_state.specs.Rooms.{input_length, waiting_for, read_room, write_room}
 use Rattle.relay_state.specs.Serving.{with_got, with_taken}
 use Rattle.relay_sides.specs.Links as links
 use Rattle.relay_sides.specs.Links.{Links, change_side, opening_side, with_link}
 use Rattle.relay_sides.specs.declared.opening.NewSide.{NewSide}
 use Rattle.relay_core.specs.RelayValue.{RelayValue}
-use Rattle.relay_core.specs.RelayView.{no_gauges, state_with, relay_of, AreSound, IsSound, IsSoundSide}
-use Rattle.relay_core.specs.Unlimited.{HasNoLimits}
+use Rattle.relay_core.specs.RelayView.{state_with, relay_of, AreSound, HasGroups, IsSound, IsSoundSide}
+use Rattle.relay_core.specs.Rateless.{HasNoRates}
+use Rattle.relay_core.specs.SettingsView.{near_of, far_of}
 use Rattle.relay_core.specs.declared.ctl.Ctl.TheInside.{Inside}
 
--- where a side has no limit, what is moved there leaves all buckets
-gauges_after-none : (e : SideId) (d : Dir) (n : ℕ) (s : State) → (plain.side_at s.plain e).limit ≡ None → gauges_after e d n s ≡ s.gauges
-gauges_after-none e d n s none =
-    ap (λ (y : Option Standing). slice_set s.gauges (number e) (gauge_after y s.plain.time d n (gauge_at s e))) none
-    ∙ set-get_or s.gauges (number e) no_gauge
+length-map : {A B : Type 0} (f : A → B) (xs : List A) → length (map f xs) ≡ length xs
+length-map f [] = refl
+length-map f (x ∷ xs) = ap suc (length-map f xs)
 
--- and its rooms are what flags and marks leave
-pub read_room-none : (e : SideId) (s : State) → (plain.side_at s.plain e).limit ≡ None →
-    read_room s e ≡ (if may_read s.plain e then min most_at_once (read_mark s.plain e - input_length s e) else 0)
-read_room-none e s none =
-    let n : ℕ = min most_at_once (read_mark s.plain e - input_length s e) in
-    ap (λ (y : Option Standing).
-    if may_read s.plain e then at_most (option_map (λ z. held_at z.cfg (gauge_at s e) dir.Read s.plain.time) y) n else 0) none
-
-pub write_room-none : (e : SideId) (s : State) → (plain.side_at s.plain e).limit ≡ None →
-    write_room s e ≡ (if may_write s.plain e then min most_at_once (length (waiting_for s e)) else 0)
-write_room-none e s none =
-    let n : ℕ = min most_at_once (length (waiting_for s e)) in
-    ap (λ (y : Option Standing).
-    if may_write s.plain e then at_most (option_map (λ z. held_at z.cfg (gauge_at s e) dir.Write s.plain.time) y) n else 0) none
-
--- two gauges stand for each link
-pub no_gauges-length : (n : ℕ) → length (no_gauges n) ≡ 2 * n
-no_gauges-length zero = refl
-no_gauges-length (suc n) =
-    let before = no_gauges-length n in omega (arith, before, length-append (no_gauges n) (no_gauge ∷ no_gauge ∷ []))
+-- what is more than nothing has room for the rates of a link
+pub rates-fit : (b : Bool) (n : ℕ) → 0 < (if b then n else 0) → (b ≡ true) × (0 < n)
+rates-fit true n h = (refl, h)
+rates-fit false n h = absurd (omega (arith, h))
 
 -- what is so of each side
 
@@ -69,85 +52,187 @@ all_at P none (x ∷ xs) all (suc n) = all_at P none xs (All-tail P x xs all) n
 
 pub sound_at : (time : ℕ) (untimed : Bool) (xs : List PlainSide) → All (IsSoundSide time untimed) xs → (n : ℕ) →
     IsSoundSide time untimed (slice_index_or xs n no_side)
-sound_at time untimed xs all n = all_at (IsSoundSide time untimed) (omega arith, omega arith, λ e. (refl, refl), refl) xs all n
+sound_at time untimed xs all n = all_at (IsSoundSide time untimed) (omega arith, omega arith, λ e. (refl, refl, refl)) xs all n
 
-module _ (near far : Timeouts) (time : ℕ) (untimed : Bool) where
+-- no bucket is ahead of the time
+pub later_at : (time : ℕ) (xs : List Gauge) → All (λ (x : Gauge). x.time ≤ time) xs → (n : ℕ) → (slice_index_or xs n no_gauge).time ≤ time
+later_at time [] all zero = omega arith
+later_at time [] all (suc n) = omega arith
+later_at time (x ∷ xs) all zero = All-head (λ (x : Gauge). x.time ≤ time) x xs all
+later_at time (x ∷ xs) all (suc n) = later_at time xs (All-tail (λ (x : Gauge). x.time ≤ time) x xs all) n
+
+-- and none is as bytes are moved at the time, as a limit is set, and as a side opens
+
+pub gauge_after-time : (y : Option Standing) (time : ℕ) (d : Dir) (n : ℕ) (x : Gauge) → x.time ≤ time → (gauge_after y time d n x).time ≤ time
+gauge_after-time None time d n x h = h
+gauge_after-time (Some y) time dir.Read n x h = omega arith
+gauge_after-time (Some y) time dir.Write n x h = omega arith
+
+pub gauge_set-time : (y : Option Standing) (cfg : Option LimitCfg) (time : ℕ) (x : Gauge) → (gauge_set y cfg time x).time ≤ time
+gauge_set-time y None time x = omega arith
+gauge_set-time None (Some cfg) time x = omega arith
+gauge_set-time (Some y) (Some cfg) time x = omega arith
+
+gauge_begun-time : (cfg : Option LimitCfg) (time : ℕ) → (gauge_begun cfg time).time ≤ time
+gauge_begun-time None time = omega arith
+gauge_begun-time (Some cfg) time = omega arith
+
+module _ (g : Settings) (time : ℕ) (untimed : Bool) where
   -- They are sound with one changed, where it stays sound.
-  pub still_sound : (k j : Links) (e : SideId) (g : PlainSide → PlainSide) → AreSound near far time untimed k →
-      (IsSoundSide time untimed (links.side_at k e) → IsSoundSide time untimed (g (links.side_at k e))) →
-      j.sides ≡ (change_side e g k).sides → AreSound near far time untimed j
-  still_sound k j e g h keeps is = record {
+  pub still_sound : (k j : Links) (e : SideId) (f : PlainSide → PlainSide) → AreSound g time untimed k →
+      (IsSoundSide time untimed (links.side_at k e) → IsSoundSide time untimed (f (links.side_at k e))) →
+      j.sides ≡ (change_side e f k).sides → j.gauges ≡ k.gauges → AreSound g time untimed j
+  still_sound k j e f h keeps is same = record {
     unset = h.unset;
     sides = subst (All (IsSoundSide time untimed)) (sym is)
-        (All-set (IsSoundSide time untimed) k.sides (number e) (g (links.side_at k e))
+        (All-set (IsSoundSide time untimed) k.sides (number e) (f (links.side_at k e))
         (keeps (sound_at time untimed k.sides h.sides (number e))) h.sides);
+    gauges = subst (All (λ (x : Gauge). x.time ≤ time)) (sym same) h.gauges;
+  }
+
+  -- and with other buckets of a side
+  pub gauge_sound : (k j : Links) (e : SideId) (x : Gauge) → AreSound g time untimed k → x.time ≤ time → j.sides ≡ k.sides →
+      j.gauges ≡ slice_set k.gauges (number e) x → AreSound g time untimed j
+  gauge_sound k j e x h within is same = record {
+    unset = h.unset;
+    sides = subst (All (IsSoundSide time untimed)) (sym is) h.sides;
+    gauges = subst (All (λ (x : Gauge). x.time ≤ time)) (sym same)
+        (All-set (λ (x : Gauge). x.time ≤ time) k.gauges (number e) x within h.gauges);
   }
 
   -- and as a direction is passed
-  passage_sound : (k j : Links) (e : SideId) (x : Passage) → AreSound near far time untimed k → j ≡ links.with_passage e x k →
-      AreSound near far time untimed j
+  passage_sound : (k j : Links) (e : SideId) (x : Passage) → AreSound g time untimed k → j ≡ links.with_passage e x k →
+      AreSound g time untimed j
   passage_sound k j e x h is =
       still_sound (change_side e (with_bad x.from_bad) k) j (peer e) (with_bad x.to_bad)
-      (still_sound k (change_side e (with_bad x.from_bad) k) e (with_bad x.from_bad) h (λ z. z) refl) (λ z. z)
-      (ap (λ (z : Links). z.sides) is)
+      (still_sound k (change_side e (with_bad x.from_bad) k) e (with_bad x.from_bad) h (λ z. z) refl refl) (λ z. z)
+      (ap (λ (z : Links). z.sides) is) (ap (λ (z : Links). z.gauges) is)
 
-  pub passed_sound : (hold : ℕ) (k j : Links) (e : SideId) (T E : Type 0) (result : Result T E) → AreSound near far time untimed k →
-      MatchResult result (λ _. links.PassedFrom hold k e j) (λ _. links.PartlyPassed hold k e j) → AreSound near far time untimed j
+  pub passed_sound : (hold : ℕ) (k j : Links) (e : SideId) (T E : Type 0) (result : Result T E) → AreSound g time untimed k →
+      MatchResult result (λ _. links.PassedFrom hold k e j) (λ _. links.PartlyPassed hold k e j) → AreSound g time untimed j
   passed_sound hold k j e T E (Ok a) h p = passage_sound k j e p.0 h p.2
   passed_sound hold k j e T E (Err a) h p = passage_sound k j e p.0 h p.2
 
   -- and as bytes are got
-  pub got_sound : (k j : Links) (e : SideId) (bytes : List ℕ) → AreSound near far time untimed k → j ≡ links.after_got time e bytes k →
-      AreSound near far time untimed j
+  pub got_sound : (k j : Links) (e : SideId) (bytes : List ℕ) → AreSound g time untimed k → j ≡ links.after_got time e bytes k →
+      AreSound g time untimed j
   got_sound k j e bytes h is =
       let grown : Links = links.with_got time e bytes k in
       passage_sound grown j e (read_part (links.read_mark grown e) false (links.passage_at grown e))
-      (still_sound k grown e (active_at time dir.Read) h (λ z. (omega arith, z.1, z.2, z.3)) refl) is
+      (still_sound k grown e (active_at time dir.Read) h (λ z. (omega arith, z.1, z.2)) refl refl) is
 
   -- and with two more
-  pub opened_sound : (k j : Links) (a b : NewSide) → AreSound near far time untimed k → j ≡ with_link time a b k →
-      a.timeouts ≡ near → b.timeouts ≡ far → AreSound near far time untimed j
-  opened_sound k j a b h is near_is far_is =
+  pub opened_sound : (turn : ℕ) (k j : Links) (in_group out_group : Option ℕ) (connected : Bool) → AreSound g time untimed k →
+      j ≡ with_link time turn (near_of g in_group) (far_of g out_group connected) k → AreSound g time untimed j
+  opened_sound turn k j in_group out_group connected h is =
       let P : PlainSide → Type 0 = IsSoundSide time untimed in
-      let p : P (opening_side time a) = (omega arith, omega arith, λ e. (near_is ∙ (h.unset e).0, refl), refl) in
-      let q : P (opening_side time b) = (omega arith, omega arith, λ e. (far_is ∙ (h.unset e).1, refl), refl) in
+      let Q : Gauge → Type 0 = λ x. x.time ≤ time in
+      let a : NewSide = near_of g in_group in
+      let b : NewSide = far_of g out_group connected in
+      let p : P (opening_side time turn a) =
+      (omega arith, omega arith, λ e. ((h.unset e).in_timeouts, refl, ap (option_map (first_limit time turn)) (h.unset e).in_rate)) in
+      let q : P (opening_side time turn b) =
+      (omega arith, omega arith, λ e. ((h.unset e).out_timeouts, refl, ap (option_map (first_limit time turn)) (h.unset e).out_rate)) in
       record {
         unset = h.unset;
         sides = subst (All P) (sym (ap (λ (z : Links). z.sides) is))
-            (All-append P k.sides (opening_side time a ∷ opening_side time b ∷ []) h.sides
-            (All-cons P (opening_side time a) (opening_side time b ∷ []) p (All-cons P (opening_side time b) [] q (All-nil P))));
+            (All-append P k.sides (opening_side time turn a ∷ opening_side time turn b ∷ []) h.sides
+            (All-cons P (opening_side time turn a) (opening_side time turn b ∷ []) p (All-cons P (opening_side time turn b) [] q (All-nil P))));
+        gauges = subst (All Q) (sym (ap (λ (z : Links). z.gauges) is))
+            (All-append Q k.gauges (gauge_begun g.in_rate time ∷ gauge_begun g.out_rate time ∷ []) h.gauges
+            (All-cons Q (gauge_begun g.in_rate time) (gauge_begun g.out_rate time ∷ []) (gauge_begun-time g.in_rate time)
+            (All-cons Q (gauge_begun g.out_rate time) [] (gauge_begun-time g.out_rate time) (All-nil Q))));
       }
 
--- no side has a limit, as it is kept
-pub unlimited : (r : Inside) → IsSound r → HasNoLimits (state_with r r.sides.links)
-unlimited r sound e = (sound_at r.time r.untimed r.sides.links.sides sound.timed.sides (number e)).3
+-- Groups
+
+-- as many as there were
+pub length-changed : (n : ℕ) (f : GroupValue → GroupValue) (xs : List GroupValue) → length (changed_at n f xs) ≡ length xs
+length-changed n f [] = refl
+length-changed zero f (x ∷ xs) = refl
+length-changed (suc n) f (x ∷ xs) = ap suc (length-changed n f xs)
+
+spent-many : (member : ℕ) (d : Dir) (n : ℕ) (x : GroupsValue) → length (spent member d n x).groups ≡ length x.groups
+spent-many member d n x = go (group_of member x.members)
+  where
+    go : (o : Option ℕ) → length (option_map_or (λ group. changed_at group (spent_in d n) x.groups) o x.groups) ≡ length x.groups
+    go None = refl
+    go (Some k) = length-changed k (spent_in d n) x.groups
+
+-- Groups that change so, and no more or fewer, are sound where they were.
+module _ (r : Inside) (x : GroupsKept) (h : HasGroups r) (many : length x.value.groups ≡ length r.groups.value.groups)
+    (none : r.groups.value ≡ no_groups → x.value ≡ no_groups) where
+  pub groups_sound : HasGroups (record r { groups = x })
+  groups_sound = record {
+    many = many ∙ h.many;
+    in_group = h.in_group;
+    out_group = h.out_group;
+    none = λ e. none (h.none e);
+    untimed = h.untimed;
+  }
+
+pub spent_sound : (r : Inside) (x : GroupsKept) (member : ℕ) (d : Dir) (n : ℕ) → HasGroups r → x.value ≡ spent member d n r.groups.value →
+    HasGroups (record r { groups = x })
+spent_sound r x member d n h is =
+    groups_sound r x h (ap (λ (z : GroupsValue). length z.groups) is ∙ spent-many member d n r.groups.value)
+    (λ e. is ∙ ap (spent member d n) e)
+
+pub refilled_sound : (r : Inside) (x : GroupsKept) (time : ℕ) → HasGroups r → x.value ≡ all_refilled time r.groups.value →
+    HasGroups (record r { groups = x })
+refilled_sound r x time h is =
+    groups_sound r x h (ap (λ (z : GroupsValue). length z.groups) is ∙ length-map (refilled_to time) r.groups.value.groups)
+    (λ e. is ∙ ap (all_refilled time) e)
+
+pub left_sound : (r : Inside) (x : GroupsKept) (member : ℕ) → HasGroups r → x.value ≡ left member r.groups.value →
+    HasGroups (record r { groups = x })
+left_sound r x member h is = groups_sound r x h (ap (λ (z : GroupsValue). length z.groups) is) (λ e. is ∙ ap (left member) e)
+
+-- who is in no group leaves none
+pub left-none : (member : ℕ) (x : GroupsValue) → group_of member x.members ≡ None → left member x ≡ x
+left-none member x h = ap (λ (z : List (ℕ × ℕ)). record x { members = z }) (go x.members h)
+  where
+    go : (es : List (ℕ × ℕ)) → group_of member es ≡ None → remove_entry (nat_eq member) es ≡ es
+    go [] e = refl
+    go (y ∷ es) e = at (nat_eq member y.0) e
+      where
+        at : (b : Bool) → (if b then Some y.1 else group_of member es) ≡ None → (if b then es else y ∷ remove_entry (nat_eq member) es) ≡ y ∷ es
+        at true p = absurd (cc p)
+        at false p = ap (λ z. y ∷ z) (go es p)
+
+-- nothing limits what sides move, as it is kept
+pub rateless : (r : Inside) → IsSound r → r.untimed ≡ true → HasNoRates (state_with r r.sides.links)
+rateless r sound e = record {
+  limits = λ x. ((sound_at r.time r.untimed r.sides.links.sides sound.timed.sides (number x)).2 e).2;
+  groups = sound.grouped.none (sound.grouped.untimed e);
+}
 
 module _ (v : RelayValue) (r : Inside) (is : relay_of r ≡ v) where
   -- and as it is seen
-  pub no_limits : IsSound r → HasNoLimits v.state
-  no_limits sound = subst (λ (z : RelayValue). HasNoLimits z.state) is (unlimited r sound)
+  pub no_rates : IsSound r → r.untimed ≡ true → HasNoRates v.state
+  no_rates sound e = subst (λ (z : RelayValue). HasNoRates z.state) is (rateless r sound e)
 
   -- what is so of the state inside is so of the one that is seen
   pub carried : (k : Links) (h : Links → Links) (f : State → State) → k ≡ h r.sides.links →
       state_with r (h r.sides.links) ≡ f (state_with r r.sides.links) → state_with r k ≡ f v.state
   carried k h f a b = ap (state_with r) a ∙ b ∙ ap (λ (z : RelayValue). f z.state) is
 
-  -- bytes were got, or taken
+  -- bytes were got, or taken, and spent before
 
-  pub got_seen : (k : Links) (e : SideId) (bytes : List ℕ) → IsSound r → k ≡ links.after_got r.time e bytes r.sides.links →
-      state_with r k ≡ read_run e (with_got v.state e bytes)
-  got_seen k e bytes sound a =
-      let s : State = state_with r r.sides.links in
-      let still = sym (gauges_after-none e dir.Read (length bytes) s (unlimited r sound e)) in
-      carried k (links.after_got r.time e bytes) (λ z. read_run e (with_got z e bytes)) a
-      (ap (λ xs. read_run e (record (with_got s e bytes) { gauges = xs })) still)
+  pub got_seen : (k : Links) (x : GroupsKept) (e : SideId) (bytes : List ℕ) →
+      k ≡ links.after_got r.time e bytes (links.spent r.time e dir.Read (length bytes) r.sides.links) →
+      x.value ≡ spent (number e) dir.Read (length bytes) r.groups.value →
+      state_with (record r { groups = x }) k ≡ read_run e (with_got v.state e bytes)
+  got_seen k x e bytes a b =
+      (λ i. (let q : Inside = record r { groups = record x { value = b i } } in state_with q (a i)))
+      ∙ ap (λ (z : RelayValue). read_run e (with_got z.state e bytes)) is
 
-  pub taken_seen : (k : Links) (e : SideId) (n : ℕ) → IsSound r → k ≡ links.after_took r.time e n r.sides.links →
-      state_with r k ≡ with_taken v.state e n
-  taken_seen k e n sound a =
-      let s : State = state_with r r.sides.links in
-      let still = sym (gauges_after-none e dir.Write n s (unlimited r sound e)) in
-      carried k (links.after_took r.time e n) (λ z. with_taken z e n) a (ap (λ xs. record (with_taken s e n) { gauges = xs }) still)
+  pub taken_seen : (k : Links) (x : GroupsKept) (e : SideId) (n : ℕ) →
+      k ≡ links.after_took r.time e n (links.spent r.time e dir.Write n r.sides.links) →
+      x.value ≡ spent (number e) dir.Write n r.groups.value →
+      state_with (record r { groups = x }) k ≡ with_taken v.state e n
+  taken_seen k x e n a b =
+      (λ i. (let q : Inside = record r { groups = record x { value = b i } } in state_with q (a i)))
+      ∙ ap (λ (z : RelayValue). with_taken z.state e n) is
 
   -- passing
 
@@ -183,4 +268,5 @@ module _ (v : RelayValue) (r : Inside) (is : relay_of r ≡ v) where
       let sides = ap (λ (s : State). s.plain.sides) all in
       let flows = ap (λ (s : State). s.plain.flows) all in
       let lanes = ap (λ (s : State). s.lanes) all in
-      differs (λ j. record { opened = opened j; sides = sides j; flows = flows j; lanes = lanes j })
+      let gauges = ap (λ (s : State). s.gauges) all in
+      differs (λ j. record { opened = opened j; sides = sides j; flows = flows j; lanes = lanes j; gauges = gauges j })

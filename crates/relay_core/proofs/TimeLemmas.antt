@@ -1,5 +1,4 @@
--- Where nothing is timed, a turn begins with nothing but its time, and a poll waits for ever. Where no side has a limit, it wakes up for
--- timeouts alone. Looking at sides opens no link.
+-- Where nothing is timed, a turn begins with nothing but its time, and a poll waits for timers alone. Looking at sides opens no link.
 use Rattle.std.proofs.Common.{◌≡◌, ◌≢◌, ◌≤◌, ℕ, zero, suc, ◌==◌, ◌+◌, ◌<◌, ◌-◌, Bool, true, false, ◌&&◌, ◌||◌, nat_le, not, if◌then◌else◌, List, [], ◌∷◌, ◌++◌}
 use Rattle.std.proofs.Common.{length, map, slice_index_or, Option, Some, option_map, refl, sym, ◌∙◌, ap, arith, fold, append-nil, append_assoc}
 use Rattle.std.specs.List.{list_any, flat_map}
@@ -20,9 +19,10 @@ use Rattle.relay_model.specs.Moments.{expire}
 use Rattle.relay_state.specs.State.{State, with_plain}
 use Rattle.relay_state.specs.Closing.{in_side, out_side}
 use Rattle.relay_state.specs.Rooms.{wants}
-use Rattle.relay_state.specs.Time.{expiry, limit_gain, moments, poll_timeout, timed, side_timed}
+use Rattle.relay_state.specs.Time.{expiry, limit_gain, group_gains, moments, poll_timeout, timed, side_timed}
 use Rattle.relay_core.specs.RelayView.{state_with, IsSound, IsSoundSide}
-use Rattle.relay_core.specs.Unlimited.{HasNoLimits}
+use Rattle.rate_group.specs.GroupValue.{GroupsValue}
+use Rattle.relay_core.specs.Rateless.{HasNoRates}
 use Rattle.relay_core.specs.Waits.{wait_until, is_expired, expiries}
 use Rattle.relay_core.specs.declared.ctl.Ctl.TheInside.{Inside}
 use Rattle.relay_core.proofs.RelayLemmas.{sound_at}
@@ -89,28 +89,21 @@ module _ (s : State) (u : IsUntimed s) where
       go false = refl
 
 -- no bucket is waited for where no side has a limit
-gains-none : (s : State) → HasNoLimits s → (es : List SideId) → flat_map (λ e. limit_gain s e (side_at s.plain e).limit) es ≡ []
+gains-none : (s : State) → HasNoRates s → (es : List SideId) → flat_map (λ e. limit_gain s e (side_at s.plain e).limit) es ≡ []
 gains-none s none [] = refl
 gains-none s none (e ∷ es) =
-    ap (λ (y : Option Standing). limit_gain s e y ++ flat_map (λ e. limit_gain s e (side_at s.plain e).limit) es) (none e)
+    ap (λ (y : Option Standing). limit_gain s e y ++ flat_map (λ e. limit_gain s e (side_at s.plain e).limit) es) (none.limits e)
     ∙ gains-none s none es
 
--- so that a poll wakes up for timers and the sides' timeouts
-pub moments-unlimited : (s : State) → HasNoLimits s →
-    moments s ≡ map (λ (x : Timer). x.deadline) s.plain.timers ++ expiries s (all_sides s.plain)
-moments-unlimited s none =
-    let timers : List ℕ = map (λ (x : Timer). x.deadline) s.plain.timers in
-    let gains = gains-none s none (all_sides s.plain) in
-    (λ i. timers ++ expiries s (all_sides s.plain) ++ gains i) ∙ ends timers (expiries s (all_sides s.plain))
-  where
-    ends : (xs ys : List ℕ) → xs ++ ys ++ [] ≡ xs ++ ys
-    ends xs ys = append_assoc xs ys [] ∙ ap (λ zs. xs ++ zs) (append-nil ys)
-
--- where no side has a timeout it wakes up for timers alone
-pub moments-untimed : (s : State) → HasNoLimits s → IsUntimed s → moments s ≡ map (λ (x : Timer). x.deadline) s.plain.timers
+-- where nothing is timed a poll wakes up for timers alone
+pub moments-untimed : (s : State) → HasNoRates s → IsUntimed s → moments s ≡ map (λ (x : Timer). x.deadline) s.plain.timers
 moments-untimed s none u =
     let timers : List ℕ = map (λ (x : Timer). x.deadline) s.plain.timers in
-    moments-unlimited s none ∙ ap (λ xs. timers ++ xs) (expiries-none s u (all_sides s.plain)) ∙ append-nil timers
+    let expires = expiries-none s u (all_sides s.plain) in
+    let gains = gains-none s none (all_sides s.plain) in
+    let groups : group_gains s 0 s.groups.groups ≡ [] = ap (λ (z : GroupsValue). group_gains (record s { groups = z }) 0 z.groups) none.groups in
+    (λ i. ((timers ++ expires i) ++ gains i) ++ groups i)
+    ∙ append-nil ((timers ++ []) ++ []) ∙ append-nil (timers ++ []) ∙ append-nil timers
 
 -- where nothing presses, a poll waits for the earliest moment, and else not at all
 pub poll_timeout-waits : (s : State) → is_pressing s.plain ≡ false → poll_timeout s ≡ wait_until s.plain.time (moments s)
@@ -171,8 +164,8 @@ side_timed-opened s e = timed-opened (timed e s dir.Read) e dir.Write ∙ timed-
 
 pub active_sound : (time : ℕ) (none : Bool) (d : Dir) (x : PlainSide) → IsSoundSide time none x →
     IsSoundSide time none (active_at time d x)
-active_sound time none dir.Read x h = (omega arith, h.1, h.2, h.3)
-active_sound time none dir.Write x h = (h.0, omega arith, h.2, h.3)
+active_sound time none dir.Read x h = (omega arith, h.1, h.2)
+active_sound time none dir.Write x h = (h.0, omega arith, h.2)
 
 untimed_not : (d : Dir) (x : PlainSide) → is_timed x d ≡ true → x.timeouts ≡ no_timeouts → false ≡ true
 untimed_not d x is none = sym (no_timeout d x none) ∙ is
@@ -180,9 +173,9 @@ untimed_not d x is none = sym (no_timeout d x none) ∙ is
 pub expire_sound : (time : ℕ) (none : Bool) (d : Dir) (x : PlainSide) → is_timed x d ≡ true → IsSoundSide time none x →
     IsSoundSide time none (expire d x)
 expire_sound time none dir.Read x is h =
-    (h.0, h.1, λ e. absurd (let wrong : false ≡ true = untimed_not dir.Read x is (h.2 e).0 in cc), h.3)
+    (h.0, h.1, λ e. absurd (let wrong : false ≡ true = untimed_not dir.Read x is (h.2 e).0 in cc))
 expire_sound time none dir.Write x is h =
-    (h.0, h.1, λ e. absurd (let wrong : false ≡ true = untimed_not dir.Write x is (h.2 e).0 in cc), h.3)
+    (h.0, h.1, λ e. absurd (let wrong : false ≡ true = untimed_not dir.Write x is (h.2 e).0 in cc))
 
 -- the sides from a link on are those of it and of the links behind
 pub sides_from-more : (k n : ℕ) → k < n →

@@ -54,14 +54,20 @@ module _ (s : State) where
       let w : List ℕ = expiry s e dir.Write in
       ap (λ ws. earlier (wait_until t r) (wait_until t ws)) (sym (append-nil w)) ∙ sym (wait_until-append t r (w ++ []))
 
-  -- two sides more
+  -- two sides more, each with some moments
+  module _ (f : SideId → List ℕ) where
+    pub waits_more : (least : Option ℕ) (a b : SideId) (es : List SideId) →
+        earlier (earlier least (earlier (wait_until s.plain.time (f a)) (wait_until s.plain.time (f b)))) (wait_until s.plain.time (flat_map f es))
+        ≡ earlier least (wait_until s.plain.time (flat_map f (a ∷ b ∷ es)))
+    waits_more least a b es =
+        let x : List ℕ = f a in
+        let y : List ℕ = f b in
+        let z : List ℕ = flat_map f es in
+        earlier-assoc least (earlier (wait_until t x) (wait_until t y)) (wait_until t z)
+        ∙ ap (earlier least) (earlier-assoc (wait_until t x) (wait_until t y) (wait_until t z)
+        ∙ ap (earlier (wait_until t x)) (sym (wait_until-append t y z)) ∙ sym (wait_until-append t x (y ++ z)))
+
   pub wait_more : (least : Option ℕ) (a b : SideId) (es : List SideId) →
       earlier (earlier least (earlier (side_wait s a) (side_wait s b))) (wait_until s.plain.time (expiries s es))
       ≡ earlier least (wait_until s.plain.time (expiries s (a ∷ b ∷ es)))
-  wait_more least a b es =
-      let x : List ℕ = flat_map (expiry s a) both_ways in
-      let y : List ℕ = flat_map (expiry s b) both_ways in
-      let z : List ℕ = expiries s es in
-      earlier-assoc least (earlier (wait_until t x) (wait_until t y)) (wait_until t z)
-      ∙ ap (earlier least) (earlier-assoc (wait_until t x) (wait_until t y) (wait_until t z)
-      ∙ ap (earlier (wait_until t x)) (sym (wait_until-append t y z)) ∙ sym (wait_until-append t x (y ++ z)))
+  wait_more least a b es = waits_more (λ e. flat_map (expiry s e) both_ways) least a b es

@@ -121,14 +121,3 @@ HasAskedByPlan _ _ _ = ⊤
 abbrev pub HasToldNothing : {A : Type 0} → Option (List A) → Type 0
 HasToldNothing None = ⊤
 HasToldNothing (Some xs) = xs ≡ []
-
--- can a hook ask this: not for limits and groups yet
-abbrev pub can_ask : Act → Bool
-can_ask (act.Rate e cfg) = false
-can_ask (act.Join e group) = false
-can_ask (act.Leave e) = false
-can_ask _ = true
-
--- can it be planned
-abbrev pub CanPlan : PlanLine → Type 0
-CanPlan line = IfSome line.act (λ a. can_ask a ≡ true)

@@ -1,4 +1,5 @@
 pub mod SettingsView
+pub mod Given
 pub mod RelayValue
 pub mod Named
 pub mod Questions
@@ -7,5 +8,5 @@ pub mod RelayView
 pub mod Waits
 pub mod Steps
 pub mod Pairs
-pub mod Unlimited
+pub mod Rateless
 pub mod Answered

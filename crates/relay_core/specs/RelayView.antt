@@ -1,27 +1,25 @@
--- How the relay keeps its state. No side has a limit.
-use Rattle.std.specs.Prelude.{◌≡◌, ℕ, zero, suc, ◌+◌, ◌-◌, ◌*◌, ◌^◌, ◌≤◌, Bool, true, false, List, [], ◌∷◌, ◌++◌, None, vec_len, vec_capacity}
+-- How the relay keeps its state.
+use Rattle.std.specs.Prelude.{◌≡◌, ℕ, ◌+◌, ◌-◌, ◌*◌, ◌^◌, ◌≤◌, ◌<◌, ◌&&◌, ◌||◌, nat_le, min, if◌then◌else◌, Bool, true, false, [], length, None}
+use Rattle.std.specs.Prelude.{vec_len, vec_capacity, IfSome}
 use Rattle.std.specs.List.{All}
 use Rattle.ev_types.specs.Usual.{no_timeouts}
-use Rattle.ev_types.specs.declared.settings.Timeouts.{Timeouts}
+use Rattle.ev_types.specs.declared.settings.Settings.{Settings}
+use Rattle.rate_group.specs.GroupsCalls.{no_groups}
 use Rattle.relay_model.specs.Plain.{PlainSide}
-use Rattle.relay_model.specs.Settings.{settings_with}
-use Rattle.relay_state.specs.Running.{Gauge, no_gauge}
+use Rattle.relay_state.specs.Running.{Gauge}
 use Rattle.relay_state.specs.State.{State}
 use Rattle.relay_sides.specs.Links.{Links}
+use Rattle.relay_sides.specs.Opening.{limits_in}
 use Rattle.relay_waits.specs.WaitsValue.{WaitsValue}
 use Rattle.relay_core.specs.Fires.{events_of}
+use Rattle.relay_core.specs.Given.{settings_given}
 use Rattle.relay_core.specs.RelayValue.{RelayValue}
 use Rattle.relay_core.specs.declared.ctl.Ctl.TheInside.{Inside}
-
--- what stands for the buckets of so many links, of which no side has a limit
-abbrev pub no_gauges : ℕ → List Gauge
-no_gauges zero = []
-no_gauges (suc n) = no_gauges n ++ no_gauge ∷ no_gauge ∷ []
 
 -- with these links, and this that waits
 abbrev pub state_over : Inside → Links → WaitsValue → State
 state_over r k w = record {
-  settings = settings_with r.settings w.hooks;
+  settings = settings_given r.settings r.given w.hooks;
   plain = record {
     time = r.time;
     turn = r.turns;
@@ -33,42 +31,67 @@ state_over r k w = record {
   };
   lanes = k.lanes;
   batch = w.batch;
-  gauges = no_gauges k.opened;
+  gauges = k.gauges;
+  groups = r.groups.value;
 }
 
 -- with these links
 abbrev pub state_with : Inside → Links → State
 state_with r k = state_over r k r.waits
 
+-- There is memory for the limits of a new link, and room for its sides in the groups.
+abbrev pub has_room_for_rates : Inside → Bool
+has_room_for_rates r =
+    nat_le (limits_in r.settings.in_rate + limits_in r.settings.out_rate) r.spare_limits
+    && (nat_le (length r.given.groups.items) 0 || nat_le 2 r.groups.spare)
+
 abbrev pub relay_of : Inside → RelayValue
 relay_of r = record {
   state = state_with r r.sides.links;
-  spare_links = r.sides.spare_links;
+  spare_links = if has_room_for_rates r then r.sides.spare_links else 0;
   spare_reads = r.sides.spare_reads;
   untimed = r.untimed;
   me = r.me;
   asks = r.asks;
   stopped = r.stopped;
   log = events_of r.log.items;
-  fire_room = vec_capacity r.log;
+  fire_room = min (vec_capacity r.log) (2 * r.spare_limits);
 }
 
--- What is so of a side: its activity is not ahead of the time; where nothing is timed it has no timeouts, and none has passed; and it has
--- no limit.
+-- What is so of a side: its activity is not ahead of the time; where nothing is timed it has no timeouts, none has passed, and it has no
+-- limit.
 abbrev pub IsSoundSide : ℕ → Bool → PlainSide → Type 0
 IsSoundSide time untimed x =
-    (x.last_read ≤ time) × (x.last_write ≤ time) × (untimed ≡ true → (x.timeouts ≡ no_timeouts) × (x.expired ≡ false))
-    × (x.limit ≡ None)
+    (x.last_read ≤ time) × (x.last_write ≤ time)
+    × (untimed ≡ true → (x.timeouts ≡ no_timeouts) × (x.expired ≡ false) × (x.limit ≡ None))
 
--- what is so of the sides, with the timeouts that the sides of the next link get
-pub record AreSound (near far : Timeouts) (time : ℕ) (untimed : Bool) (k : Links) : Type 0 where
-  -- where nothing is timed no timeouts are set
-  pub unset : untimed ≡ true → (near ≡ no_timeouts) × (far ≡ no_timeouts)
+-- no side of a new link gets a timeout or a limit
+pub record IsUnset (g : Settings) : Type 0 where
+  pub in_timeouts : g.in_timeouts ≡ no_timeouts
+  pub out_timeouts : g.out_timeouts ≡ no_timeouts
+  pub in_rate : g.in_rate ≡ None
+  pub out_rate : g.out_rate ≡ None
+
+-- what is so of the sides, with the settings of the next link; their buckets have what came no later than the time
+pub record AreSound (g : Settings) (time : ℕ) (untimed : Bool) (k : Links) : Type 0 where
+  pub unset : untimed ≡ true → IsUnset g
   pub sides : All (IsSoundSide time untimed) k.sides
+  pub gauges : All (λ (x : Gauge). x.time ≤ time) k.gauges
 
--- There is room for the events of all asks that the running hook may still make.
+-- What is so of the groups: there are as many as were given, and the sides of a new link join one that there is. Where none was given,
+-- nobody is in one; and so it is where nothing is timed.
+pub record HasGroups (r : Inside) : Type 0 where
+  pub many : length r.groups.value.groups ≡ length r.given.groups.items
+  pub in_group : IfSome r.given.in_group (λ n. n < length r.given.groups.items)
+  pub out_group : IfSome r.given.out_group (λ n. n < length r.given.groups.items)
+  pub none : r.given.groups.items ≡ [] → r.groups.value ≡ no_groups
+  pub untimed : r.untimed ≡ true → r.given.groups.items ≡ []
+
+-- There is room for the events of all asks that the running hook may still make, and memory for the limits that it may set.
 pub record IsSound (r : Inside) : Type 0 where
-  pub timed : AreSound r.settings.in_timeouts r.settings.out_timeouts r.time r.untimed r.sides.links
+  pub timed : AreSound r.settings r.time r.untimed r.sides.links
+  pub grouped : HasGroups r
   pub time : r.time ≤ 2 ^ 62
   pub few : r.asks ≤ 256
   pub room : vec_len r.log + 2 * (256 - r.asks) ≤ vec_capacity r.log
+  pub limits : 256 - r.asks ≤ r.spare_limits

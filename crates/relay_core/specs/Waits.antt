@@ -5,7 +5,7 @@ use Rattle.ev_types.specs.declared.side.SideId.{SideId}
 use Rattle.relay_model.specs.Plain.{side_at}
 use Rattle.relay_model.specs.Moments.{both_ways, earliest}
 use Rattle.relay_state.specs.State.{State}
-use Rattle.relay_state.specs.Time.{expiry}
+use Rattle.relay_state.specs.Time.{expiry, limit_gain}
 
 -- the lesser of two waits, of which none is for ever
 abbrev pub earlier : Option ℕ → Option ℕ → Option ℕ
@@ -24,3 +24,10 @@ is_expired s e = (side_at s.plain e).live && (side_at s.plain e).expired
 -- when these sides expire
 abbrev pub expiries : State → List SideId → List ℕ
 expiries s sides = flat_map (λ e. flat_map (expiry s e) both_ways) sides
+
+-- when a bucket of a side that holds nothing gains again, and when buckets of these sides do
+abbrev pub gain_of : State → SideId → List ℕ
+gain_of s e = limit_gain s e (side_at s.plain e).limit
+
+abbrev pub gains : State → List SideId → List ℕ
+gains s sides = flat_map (gain_of s) sides

@@ -1,9 +1,8 @@
 // What a hook that runs may ask: whether an ask is refused, and its record.
 ghost use Rattle.std.specs.Prelude.{◌≡◌, ◌<◌, false, Err, None, OnOk, IfErr};
 ghost use Rattle.ev_types.specs.AskNumbers.{IsAct};
-ghost use Rattle.relay_model.specs.Asks.{refusal, names_no_live, has_bad_value, has_too_many, most_asks};
+ghost use Rattle.relay_model.specs.Asks.{refusal, names_no_live, has_bad_value, names_no_group, has_too_many, most_asks};
 ghost use Rattle.relay_model.specs.Plain.{side_at};
-ghost use Rattle.relay_state.specs.Asking.{is_of_group};
 ghost use Rattle.relay_core.specs.Named.{HasRoomForReference, NamesLinkBelow};
 ghost use Rattle.relay_core.specs.Fires.{AsksOnce, IsRecorded, MayAsk, answer_of, fault_of};
 
@@ -71,14 +70,35 @@ impl Ctl {
 
     /// Whether a value of an ask is out of range.
     fn has_bad_value(&self, act: &Act) -> bool
-        requires { is_of_group act.now ≡ false }
         ensures { result ≡ has_bad_value self.now.state.plain act.now }
     {
         match *act {
             Act::Marks(_, _, low, high) => low > MOST_MARK || high > MOST_MARK,
             Act::Timeouts(_, read, write) => read > MOST_MS || write > MOST_MS,
+            Act::Leave(side) => self.group(side).is_none(),
             Act::Timer(_, delay) => delay > MOST_MS,
             Act::Decref(side) => self.references(side) == 0,
+            _ => false,
+        }
+    }
+
+    /// The group of a side, opened or not.
+    fn group(&self, side: SideId) -> Option<u32>
+        ensures { result ≡ (side_at self.now.state.plain side).group }
+    {
+        if side.link < self.sides.opened() {
+            self.sides.group(side)
+        } else {
+            None
+        }
+    }
+
+    /// Whether the group that an ask names doesn't exist.
+    fn names_no_group(&self, act: &Act) -> bool
+        ensures { result ≡ names_no_group self.now.state.settings act.now }
+    {
+        match *act {
+            Act::Join(_, group) => group as usize >= self.given.groups.len(),
             _ => false,
         }
     }
@@ -96,7 +116,6 @@ impl Ctl {
 
     /// Why an ask is refused, by the first reason that there is.
     fn refusal(&self, act: &Act) -> Option<AskAnswer>
-        requires { is_of_group act.now ≡ false }
         ensures refusal { result ≡ refusal self.now.state.settings self.now.state.plain act.now }
         ensures opened { result ≡ None → NamesLinkBelow self.now.state.plain.opened act.now }
         ensures room { result ≡ None → HasRoomForReference self.now.state.plain act.now }
@@ -106,6 +125,9 @@ impl Ctl {
         }
         if self.has_bad_value(act) {
             return Some(AskAnswer::BadValue);
+        }
+        if self.names_no_group(act) {
+            return Some(AskAnswer::NoGroup);
         }
         if self.has_too_many(act) {
             return Some(AskAnswer::TooManyRefs);
@@ -130,8 +152,7 @@ impl Ctl {
 
     /// Whether an ask may be done. One that is refused is recorded, but for one too many.
     pub(crate) fn may_ask(&mut self, act: Act) -> Result<(), AskFault>
-        requires built { is_of_group act ≡ false }
-        requires fits { IsAct act }
+        requires { IsAct act }
         ensures may { OnOk result (MayAsk act self.old self.new) }
         ensures refused { IfErr result (λ fault. AsksOnce self.old act (answer_of (Err fault)) self.new) }
     {

@@ -6,7 +6,7 @@ ghost use Rattle.relay_core.specs.Fires.{AsksOnce, FreeRecorded, answer_of};
 
 use crate::ctl::Ctl;
 use crate::fault::AskFault;
-use ev_types::{Act, AskAnswer, Cause, Entry, SideId};
+use ev_types::{Act, AskAnswer, Cause, Entry, LimitCfg, SideId};
 use relay_sides::Dir;
 
 impl Ctl {
@@ -114,6 +114,57 @@ impl Ctl {
         self.untimed = self.untimed && read_ms == 0 && write_ms == 0;
         self.sides.set_timeouts(side, read_ms, write_ms, self.time);
         self.record(Act::Timeouts(side, read_ms, write_ms), AskAnswer::Ok);
+        Ok(())
+    }
+
+    /// Gives a side another limit, or none. A first limit starts with one tick's bytes; another one takes what the buckets hold with it,
+    /// cut to its bursts. Constant; takes no memory, since that was made before the fire.
+    ///
+    /// Refused as TooManyAsks, then NotLive.
+    ///
+    /// Libevent: event2/bufferevent.h, `bufferevent_set_rate_limit`; "Bufferevents: advanced topics".
+    pub fn set_rate(&mut self, side: SideId, cfg: Option<LimitCfg>) -> Result<(), AskFault>
+        ensures { AsksOnce self.old (act.Rate side cfg) (answer_of result) self.new }
+    {
+        self.may_ask(Act::Rate(side, cfg))?;
+        self.untimed = self.untimed && cfg.is_none();
+        let spare = &mut self.spare_limits;
+        self.sides.set_limit(side, cfg, self.time, self.turns, spare);
+        self.record(Act::Rate(side, cfg), AskAnswer::Ok);
+        Ok(())
+    }
+
+    /// Puts a side into a group, out of the one that it was in. In the same group already, nothing changes. Constant, but where memory is
+    /// taken.
+    ///
+    /// Refused as TooManyAsks, then NotLive, then NoGroup, then for want of memory.
+    ///
+    /// Libevent: event2/bufferevent.h, `bufferevent_add_to_rate_limit_group`; "Bufferevents: advanced topics".
+    pub fn join_group(&mut self, side: SideId, group: u32) -> Result<(), AskFault>
+        ensures { AsksOnce self.old (act.Join side group) (answer_of result) self.new }
+    {
+        self.may_ask(Act::Join(side, group))?;
+        if self.groups.change(group, side.number() as u64).is_err() {
+            self.record(Act::Join(side, group), AskAnswer::Memory);
+            return Err(AskFault::Memory);
+        }
+        self.sides.set_group(side, Some(group));
+        self.record(Act::Join(side, group), AskAnswer::Ok);
+        Ok(())
+    }
+
+    /// Takes a side out of its group, which keeps what it owes. Costs what the group's members that joined after it do; takes no memory.
+    ///
+    /// Refused as TooManyAsks, then NotLive, then BadValue where the side is in no group.
+    ///
+    /// Libevent: event2/bufferevent.h, `bufferevent_remove_from_rate_limit_group`; "Bufferevents: advanced topics".
+    pub fn leave_group(&mut self, side: SideId) -> Result<(), AskFault>
+        ensures { AsksOnce self.old (act.Leave side) (answer_of result) self.new }
+    {
+        self.may_ask(Act::Leave(side))?;
+        let _ = self.groups.leave(side.number() as u64);
+        self.sides.set_group(side, None);
+        self.record(Act::Leave(side), AskAnswer::Ok);
         Ok(())
     }
 

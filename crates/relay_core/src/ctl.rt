@@ -8,7 +8,9 @@ ghost use Rattle.relay_state.specs.Serving.{raise_read, raise_write};
 ghost use Rattle.relay_core.specs.Fires.{SameFire};
 
 use ev_types::{Entry, Settings, SideId, Why};
-use relay_sides::{Dir, Sides};
+use crate::rate_groups::RateGroups;
+use rate_group::Groups;
+use relay_sides::{Dir, Sides, SpareLimits};
 use relay_waits::Waits;
 use std::marker::Model;
 
@@ -20,10 +22,15 @@ use std::marker::Model;
 #[derive(Drop)]
 pub struct Ctl {
     pub(crate) settings: Settings,
+    pub(crate) given: RateGroups,
+    /// Whether nothing but timers depends on the time: no side has a timeout or a limit, and there are no groups.
     pub(crate) untimed: bool,
     pub(crate) time: u64,
     pub(crate) turns: u64,
     pub(crate) sides: Sides,
+    /// The groups, of which sides are members by their numbers.
+    pub(crate) groups: Groups,
+    pub(crate) spare_limits: SpareLimits,
     pub(crate) waits: Waits,
     /// The side whose hook runs, or ran last.
     pub(crate) me: SideId,
@@ -101,7 +108,7 @@ impl Ctl {
         }
     }
 
-    /// The side is freed, with its timer, its reasons and its bytes.
+    /// The side is freed, with its timer, its reasons, its membership and its bytes.
     pub(crate) fn free_side(&mut self, side: SideId)
         requires { side.link < self.old.state.plain.opened }
         ensures state { self.new.state ≡ freed side self.old.state }
@@ -109,6 +116,7 @@ impl Ctl {
     {
         self.sides.free(side);
         self.waits.forget(side);
+        let _ = self.groups.leave(side.number() as u64);
     }
 
     /// A fire of a side's hook begins, in room that was made before.

@@ -1,5 +1,5 @@
 // What time brings: the start of a turn, and for how long a poll may wait. A side that is idle for as long as one of its
-// timeouts expires. Where no side has a timeout, none is looked at.
+// timeouts expires. Where no side has a timeout or a limit and there are no groups, none is looked at.
 ghost use Rattle.std.specs.Prelude.{◌≡◌, ◌^◌, ◌<◌, ◌||◌, min, max, fold, map, true};
 ghost use Rattle.std.specs.List.{list_any, flat_map};
 ghost use Rattle.ev_types.specs.declared.why.Why.TheVariants.{Event};
@@ -10,9 +10,9 @@ ghost use Rattle.relay_model.specs.Turn.{turned_to};
 ghost use Rattle.relay_state.specs.State.{with_plain};
 ghost use Rattle.relay_state.specs.Closing.{in_side, out_side};
 ghost use Rattle.relay_state.specs.Rooms.{wants};
-ghost use Rattle.relay_state.specs.Time.{expiry, moments, timed, side_timed, begun, poll_timeout};
-ghost use Rattle.relay_core.specs.Unlimited.{HasNoLimits};
-ghost use Rattle.relay_core.specs.Waits.{earlier, wait_until, is_expired, expiries};
+ghost use Rattle.relay_state.specs.Time.{expiry, group_gains, moments, timed, side_timed, begun, poll_timeout};
+ghost use Rattle.relay_core.specs.Rateless.{HasNoRates};
+ghost use Rattle.relay_core.specs.Waits.{earlier, wait_until, is_expired, expiries, gain_of, gains};
 
 use crate::relay::Relay;
 use ev_types::{Flags, Side, SideId, Why};
@@ -121,7 +121,7 @@ impl Relay {
         requires { self.old.state.plain.turn < 2 ^ 62 }
         ensures time { result ≡ max self.old.state.plain.time (min reading (2 ^ 62)) }
         ensures state { self.new.state ≡ with_plain (turned_to result self.old.state.plain) self.old.state }
-        ensures unlimited { HasNoLimits self.old.state }
+        ensures rateless { self.old.untimed ≡ true → HasNoRates self.old.state }
         ensures untimed { self.new.untimed ≡ self.old.untimed }
     {
         self.ctl.turns += 1;
@@ -139,8 +139,8 @@ impl Relay {
         }
     }
 
-    /// Whether no side has a timeout. Then a turn begins with its time and the timers alone, and a poll waits for timers. Constant;
-    /// takes no memory.
+    /// Whether no side has a timeout or a limit, and there are no groups. Then a turn begins with its time and the timers alone, and a poll
+    /// waits for timers. Constant; takes no memory.
     ///
     /// Own.
     pub fn is_untimed(&self) -> bool
@@ -150,9 +150,9 @@ impl Relay {
     }
 
     /// A turn begins. A reading of the clock becomes the time, cut at 2^62 and unless the time is greater. Answers the time. The timers
-    /// that have come are taken. Where no side has a timeout, nothing else changes. No side has a limit, so that what its end may move
-    /// doesn't grow with the time. Takes no memory; linear in the timers that are taken, and where a side may have a timeout also in the
-    /// number of links.
+    /// that have come are taken, and all groups are refilled. Where no side has a timeout or a limit and there are no groups, nothing else
+    /// changes, and what an end may move doesn't grow with the time. Takes no memory; linear in the timers that are taken, and else also in
+    /// the number of links and of groups.
     ///
     /// Own.
     pub fn begin(&mut self, reading: u64) -> u64
@@ -161,10 +161,11 @@ impl Relay {
         ensures state { self.new.state ≡ begun self.old.state result }
         ensures still { self.old.untimed ≡ true → self.new.state
             ≡ with_plain (timers_taken self.old.state.settings (turned_to result self.old.state.plain)) self.old.state }
-        ensures unlimited { HasNoLimits self.old.state }
+        ensures rateless { self.old.untimed ≡ true → HasNoRates self.old.state }
         ensures untimed { self.new.untimed ≡ self.old.untimed }
     {
         let time = self.turn_to(reading);
+        self.ctl.groups.refill(time);
         self.take_timers();
         self.look_at_sides();
         time
@@ -260,18 +261,56 @@ impl Relay {
         self.any_is_expired()
     }
 
-    /// The least wait of all timers and sides.
+    /// For how long a bucket of a live side that holds nothing has to wait for its next tick.
+    fn gain_wait(&self, side: SideId) -> Option<u64>
+        requires { side.link < self.now.state.plain.opened }
+        ensures { result ≡ wait_until self.now.state.plain.time (gain_of self.now.state side) }
+    {
+        if !self.ctl.sides.is_live(side) {
+            return None;
+        }
+        let moment = self.ctl.sides.gains_at(side, self.ctl.time)?;
+        Some(moment.saturating_sub(self.ctl.time))
+    }
+
+    /// The least such wait of all sides.
+    fn least_gain_wait(&self) -> Option<u64>
+        ensures { result ≡ wait_until self.now.state.plain.time (gains self.now.state (all_sides self.now.state.plain)) }
+    {
+        let mut least = None;
+        for link in 0..self.ctl.sides.opened() {
+            let near = SideId {
+                link,
+                side: Side::In,
+            };
+            let wait = earlier(self.gain_wait(near), self.gain_wait(near.peer()));
+            least = earlier(least, wait);
+        }
+        least
+    }
+
+    /// For how long a suspended group with members has to wait for its next tick.
+    fn group_wait(&self) -> Option<u64>
+        ensures { result ≡ wait_until self.now.state.plain.time (group_gains self.now.state 0 self.now.state.groups.groups) }
+    {
+        let moment = self.ctl.groups.gains_at(self.ctl.time)?;
+        Some(moment.saturating_sub(self.ctl.time))
+    }
+
+    /// The least wait of all timers, sides and groups.
     fn least_wait_of_all(&self) -> Option<u64>
         ensures { result ≡ wait_until self.now.state.plain.time (moments self.now.state) }
     {
         if self.ctl.untimed {
             return self.timer_wait();
         }
-        earlier(self.timer_wait(), self.least_wait())
+        let timed = earlier(self.timer_wait(), self.least_wait());
+        let limited = earlier(timed, self.least_gain_wait());
+        earlier(limited, self.group_wait())
     }
 
-    /// For how many milliseconds a poll may wait; None is for ever. Constant where no side has a timeout, else linear in the number of
-    /// links.
+    /// For how many milliseconds a poll may wait; None is for ever. Constant where no side has a timeout or a limit and there are no
+    /// groups, else linear in the number of links and of groups.
     pub fn poll_timeout(&self) -> Option<u64>
         ensures { result ≡ poll_timeout self.now.state }
     {

@@ -37,7 +37,8 @@ impl Relay {
         self.ctl.waits.next()
     }
 
-    /// Makes room for the entries of one fire. Takes memory for the first one; constant.
+    /// Makes room for the entries of one fire, and memory for the limits that it may set. Takes memory for the first one, and for limits
+    /// that were set since; constant.
     ///
     /// Own.
     pub fn reserve_fire(&mut self) -> Result<(), NoMemory>
@@ -47,7 +48,7 @@ impl Relay {
         self.ctl.log.clear();
         self.ctl.asks = MOST_ASKS;
         self.ctl.log.reserve(MOST_ENTRIES)?;
-        Ok(())
+        self.ctl.spare_limits.reserve(MOST_ASKS as usize)
     }
 
     /// Calls the hook of a live side once, for one reason, in room that was made before, and lends it the relay's state. What it asked is

@@ -1,10 +1,9 @@
 // What is called for a side.
 ghost use Rattle.std.specs.Prelude.{◌≡◌, [], ◌∷◌, true, OnOk};
-ghost use Rattle.std.specs.List.{All};
 ghost use Rattle.std.specs.Option.{option_map};
 ghost use Rattle.relay_model.specs.Plain.{is_live};
 ghost use Rattle.relay_model.specs.Hooked.{asked_in};
-ghost use Rattle.relay_core.specs.Fires.{CanPlan, Steps, told_more, HasAskedByPlan, HasToldNothing};
+ghost use Rattle.relay_core.specs.Fires.{Steps, told_more, HasAskedByPlan, HasToldNothing};
 
 use crate::ctl::Ctl;
 use ev_types::{NoMemory, PlanLine, Why};
@@ -28,10 +27,8 @@ pub trait Hook: Drop {
     /// What it is to ask, where it tells.
     ghost planned: { Self → Option (List PlanLine) };
 
-    /// Is handed what a script plans for it, before it is called for the first time. It is asked that no line asks for a limit or a
-    /// group, which no hook can do yet. Refused for want of memory.
+    /// Is handed what a script plans for it, before it is called for the first time. Refused for want of memory.
     fn plan(&mut self, lines: &[PlanLine]) -> Result<(), NoMemory>
-        requires able { All CanPlan lines.now }
         requires unheard { HasToldNothing (heard self.old) }
         requires unasked { HasToldNothing (asked self.old) }
         ensures heard { heard self.new ≡ heard self.old }

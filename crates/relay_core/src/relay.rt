@@ -1,14 +1,17 @@
 // The relay's state.
-ghost use Rattle.std.specs.Prelude.{◌≡◌, ◌↔◌, IsTrue, IfOk};
+ghost use Rattle.std.specs.Prelude.{◌≡◌, ◌<◌, ◌≤◌, ◌^◌, true, None, length, map, IfOk};
+ghost use Rattle.std.specs.List.{All};
 ghost use Rattle.ev_types.specs.Usual.{no_timeouts};
-ghost use Rattle.relay_state.specs.State.{new_state};
-ghost use Rattle.relay_model.specs.Settings.{settings_with};
+ghost use Rattle.relay_state.specs.State.{new_state, new_groups};
+ghost use Rattle.relay_core.specs.Given.{group_given, settings_given, AreGroups};
 ghost use Rattle.relay_waits.specs.WaitsValue.{hooks_of};
 
 use crate::ask::MOST_ASKS;
 use crate::ctl::Ctl;
+use crate::rate_groups::RateGroups;
 use ev_types::{NoMemory, Settings, Side, SideId, Timeouts};
-use relay_sides::Sides;
+use rate_group::Groups;
+use relay_sides::{Sides, SpareLimits};
 use relay_waits::Waits;
 use std::alloc::Global;
 use std::marker::Model;
@@ -30,25 +33,53 @@ impl Model for Relay {
     ghost view = { λ r. r.ctl };
 }
 
-/// Whether no side gets a timeout as its link opens.
+/// Whether no side gets a timeout or a limit as its link opens.
 fn is_untimed(settings: &Settings) -> bool
-    ensures { IsTrue result ↔ ((settings.now.in_timeouts ≡ no_timeouts) × (settings.now.out_timeouts ≡ no_timeouts)) }
+    ensures timeouts { result ≡ true → (settings.now.in_timeouts ≡ no_timeouts) × (settings.now.out_timeouts ≡ no_timeouts) }
+    ensures rates { result ≡ true → (settings.now.in_rate ≡ None) × (settings.now.out_rate ≡ None) }
 {
-    settings.in_timeouts == Timeouts::none() && settings.out_timeouts == Timeouts::none()
+    settings.in_timeouts == Timeouts::none()
+        && settings.out_timeouts == Timeouts::none()
+        && settings.in_rate.is_none()
+        && settings.out_rate.is_none()
+}
+
+/// Makes the groups of a run, at time 0.
+fn made_groups(alloc: Global, given: &RateGroups) -> Result<Groups, NoMemory>
+    requires few { length given.now.groups.items ≤ 2 ^ 32 }
+    requires shares { All (λ x. 0 < x.share) given.now.groups.items }
+    ensures { IfOk result (λ groups. groups.value ≡ new_groups (map group_given given.now.groups.items)) }
+{
+    let mut groups = Groups::new(alloc);
+    match groups.make_all(&given.groups, 0) {
+        Ok(()) => Ok(groups),
+        Err(_) => Err(NoMemory),
+    }
 }
 
 impl Relay {
-    /// A relay with no link at time 0. The list says of each of the first sides whether it has a hook. Refused for want of memory; takes
-    /// some for each place of the list, and none where there is none. Linear in the list.
-    pub fn new(alloc: Global, settings: Settings, hooked: Vec<bool>) -> Result<Relay, NoMemory>
-        ensures { IfOk result (λ relay. relay.state ≡ new_state (settings_with settings (hooks_of hooked.items))) }
+    /// A relay with no link at time 0, and its groups. The list says of each of the first sides whether it has a hook. Refused for want of
+    /// memory; takes some for each place of the list and for each group, and none where there is none. Linear in both.
+    pub fn new(
+        alloc: Global,
+        settings: Settings,
+        given: RateGroups,
+        hooked: Vec<bool>,
+    ) -> Result<Relay, NoMemory>
+        requires { AreGroups given }
+        ensures { IfOk result (λ relay. relay.state ≡ new_state (settings_given settings given (hooks_of hooked.items))) }
     {
+        let groups = made_groups(alloc, &given)?;
+        let untimed = is_untimed(&settings) && given.groups.is_empty();
         let ctl = Ctl {
             settings,
-            untimed: is_untimed(&settings),
+            given,
+            untimed,
             time: 0,
             turns: 0,
             sides: Sides::new(alloc),
+            groups,
+            spare_limits: SpareLimits::new(alloc),
             waits: Waits::new(alloc, hooked)?,
             me: SideId {
                 link: 0,

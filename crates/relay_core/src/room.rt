@@ -6,7 +6,7 @@ ghost use Rattle.relay_state.specs.Rooms.{read_room, write_room, offer as offer_
 
 use crate::relay::Relay;
 use ev_types::SideId;
-use relay_sides::MOST_AT_ONCE;
+use relay_sides::{Dir, MOST_AT_ONCE};
 
 impl Relay {
     fn may_read(&self, side: SideId) -> bool
@@ -26,7 +26,8 @@ impl Relay {
         flags.live && !flags.connecting && flags.writes && !flags.failed && !flags.write_ended
     }
 
-    /// How many bytes may be read from the side's end now, at most 16,384. Constant; takes no memory.
+    /// How many bytes may be read from the side's end now, at most 16,384 and what its limit and its group leave. Constant; takes no
+    /// memory.
     pub fn read_room(&self, side: SideId) -> usize
         requires { side.link < self.now.state.plain.opened }
         ensures { result ≡ read_room self.now.state side }
@@ -35,11 +36,13 @@ impl Relay {
             return 0;
         }
         let mark = self.ctl.sides.read_mark(side) as usize;
-        mark.saturating_sub(self.ctl.sides.input_len(side))
-            .min(MOST_AT_ONCE)
+        let room = mark.saturating_sub(self.ctl.sides.input_len(side));
+        self.ctl
+            .within_rates(side, Dir::Read, room.min(MOST_AT_ONCE))
     }
 
-    /// How many bytes may be given to the side's end now, at most 16,384. Constant; takes no memory.
+    /// How many bytes may be given to the side's end now, at most 16,384 and what its limit and its group leave. Constant; takes no
+    /// memory.
     pub fn write_room(&self, side: SideId) -> usize
         requires { side.link < self.now.state.plain.opened }
         ensures { result ≡ write_room self.now.state side }
@@ -47,7 +50,9 @@ impl Relay {
         if !self.may_write(side) {
             return 0;
         }
-        self.ctl.sides.waiting_for(side).len().min(MOST_AT_ONCE)
+        let waiting = self.ctl.sides.waiting_for(side).len();
+        self.ctl
+            .within_rates(side, Dir::Write, waiting.min(MOST_AT_ONCE))
     }
 
     /// The bytes that are given to the side's end now: as many as there is room for. Constant; takes no memory.

@@ -1,12 +1,13 @@
 // What the answers to reads, writes and connect checks change.
 ghost use Rattle.std.specs.Prelude.{◌≡◌, ◌<◌, ◌≤◌, OnOk, length};
-ghost use Rattle.relay_state.specs.Rooms.{waiting_for};
+ghost use Rattle.relay_state.specs.Rooms.{read_room, write_room};
 ghost use Rattle.relay_state.specs.Serving.{after_read, after_write, after_conn};
 ghost use Rattle.relay_core.specs.Answered.{HasBytes, TakesAtMost};
 ghost use Rattle.relay_core.specs.RelayValue.{spare_read};
 
 use crate::relay::Relay;
 use ev_types::{ConnAnswer, Flags, NoMemory, ReadAnswer, SideId, Why, WriteAnswer};
+use relay_sides::Dir;
 
 /// Reading, with end of file.
 const READ_ENDED: Flags = Flags(0x11);
@@ -28,7 +29,7 @@ impl Relay {
         self.ctl.sides.reserve_read(side, room)
     }
 
-    /// A read of the side's end was answered, and brought these bytes, in room that was made before. Linear in their number; takes memory
+    /// A read of the side's end was answered, and brought these bytes, in room that was made before and no more than may be read now. Linear in their number; takes memory
     /// for them alone.
     ///
     /// Own; libevent makes this change in the `readcb` of a socket bufferevent.
@@ -36,10 +37,12 @@ impl Relay {
         requires opened { side.link < self.old.state.plain.opened }
         requires some { HasBytes answer bytes.now }
         requires room { length bytes.now ≤ spare_read self.old side }
+        requires within { length bytes.now ≤ read_room self.old.state side }
         ensures { self.new.state ≡ after_read self.old.state side answer bytes.now }
     {
         match answer {
             ReadAnswer::Got(_) => {
+                self.ctl.spend(side, Dir::Read, bytes.len());
                 self.ctl.sides.got(side, bytes, self.ctl.time);
                 self.ctl.raise_read(side);
             }
@@ -55,17 +58,18 @@ impl Relay {
         }
     }
 
-    /// A write to the side's end was answered: it took some of the first bytes that wait for it, or failed. Takes no memory; linear in
+    /// A write to the side's end was answered: it took some of the bytes that are given to it now, or failed. Takes no memory; linear in
     /// what was taken, over many calls.
     ///
     /// Own; libevent makes this change in the `writecb` of a socket bufferevent.
     pub fn write_answered(&mut self, side: SideId, answer: WriteAnswer)
         requires opened { side.link < self.old.state.plain.opened }
-        requires within { TakesAtMost (length (waiting_for self.old.state side)) answer }
+        requires within { TakesAtMost (write_room self.old.state side) answer }
         ensures { self.new.state ≡ after_write self.old.state side answer }
     {
         match answer {
             WriteAnswer::Took(count) => {
+                self.ctl.spend(side, Dir::Write, count);
                 self.ctl.sides.took(side, count, self.ctl.time);
                 self.ctl.raise_write(side);
             }

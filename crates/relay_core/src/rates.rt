@@ -1,0 +1,71 @@
+// What limits and groups leave to sides, and what they lose as bytes are moved.
+ghost use Rattle.std.specs.Prelude.{◌≡◌, ◌<◌, ◌≤◌, ◌+◌, OnErr};
+ghost use Rattle.ev_types.specs.Sides.{number};
+ghost use Rattle.rate_group.specs.Steps.{spent};
+ghost use Rattle.relay_model.specs.Rooms.{at_most};
+ghost use Rattle.relay_state.specs.Opening.{joined_where};
+ghost use Rattle.relay_state.specs.Rooms.{allowance, share, within_rates};
+ghost use Rattle.relay_state.specs.State.{gauges_after};
+ghost use Rattle.relay_sides.specs.Limits.{IsWithin};
+ghost use Rattle.relay_core.specs.Fires.{SameFire};
+
+use crate::ctl::Ctl;
+use ev_types::SideId;
+use rate_group::Groups;
+use relay_sides::Dir;
+
+/// A number of bytes, or less where less is allowed.
+fn at_most(most: Option<u64>, count: usize) -> usize
+    ensures { result ≡ at_most most count }
+{
+    match most {
+        None => count,
+        Some(most) => count.min(most as usize),
+    }
+}
+
+/// A side moved so many bytes in a direction: its group loses them, where it is in one.
+fn spend_share(groups: &mut Groups, side: u64, dir: Dir, count: u64)
+    requires { IsWithin count (share_in side dir groups.old.value) }
+    ensures { groups.new.value ≡ spent side dir count groups.old.value }
+{
+    if groups.share(side, dir).is_some() {
+        groups.spend(side, dir, count);
+    }
+}
+
+/// A side joins a group, in room that was made before, where there is one to join.
+pub(crate) fn join_where(groups: &mut Groups, group: Option<u32>, side: SideId)
+    requires known { IfSome group (λ n. n < length groups.old.value.groups) }
+    requires room { 0 < groups.old.spare }
+    ensures value { groups.new.value ≡ joined_where group side groups.old.value }
+    ensures room { groups.old.spare ≤ groups.new.spare + 1 }
+{
+    if let Some(group) = group {
+        groups.change(group, side.number() as u64).unwrap();
+    }
+}
+
+impl Ctl {
+    /// What limit and group leave of a number of bytes to move at a side.
+    pub(crate) fn within_rates(&self, side: SideId, dir: Dir, count: usize) -> usize
+        requires { side.link < self.now.state.plain.opened }
+        ensures { result ≡ within_rates self.now.state side dir count }
+    {
+        let own = at_most(self.sides.allowance(side, dir, self.time), count);
+        at_most(self.groups.share(side.number() as u64, dir), own)
+    }
+
+    /// The side moves so many bytes in a direction, no more than limit and group leave it.
+    pub(crate) fn spend(&mut self, side: SideId, dir: Dir, count: usize)
+        requires opened { side.link < self.old.state.plain.opened }
+        requires own { IsWithin count (allowance self.old.state side dir) }
+        requires shared { IsWithin count (share self.old.state side dir) }
+        ensures state { self.new.state
+            ≡ (let s = self.old.state in record s { gauges = gauges_after side dir count s; groups = spent (number side) dir count s.groups }) }
+        ensures fire { SameFire self.old self.new }
+    {
+        self.sides.spend(side, dir, count as u64, self.time);
+        spend_share(&mut self.groups, side.number() as u64, dir, count as u64);
+    }
+}
