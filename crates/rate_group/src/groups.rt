@@ -2,13 +2,14 @@
 // 1. each group counts its members;
 // 2. each member is in a group that was made.
 // The clause `called` of a call says that it is one of those over which the laws of laws.rt go.
-ghost use Rattle.std.specs.Prelude.{◌≡◌, ◌≤◌, ◌<◌, ◌+◌, ◌-◌, ◌^◌, [], length, map, slice_index, slice_index_or, slice_set, slice_get, IfOk, IsOk};
+ghost use Rattle.std.specs.Prelude.{◌≡◌, ◌≤◌, ◌<◌, ◌+◌, ◌-◌, ◌^◌, [], All, length, map, slice_index, slice_index_or, slice_set, slice_get, IfOk, IsOk};
 ghost use Rattle.std.specs.Prelude.{OnOk, OnErr};
 ghost use Rattle.std.specs.Option.{option_map, IsSomeAnd};
 
 use crate::fault::GroupFault;
 use crate::group::Group;
-use crate::group_list::{drop_member, move_member, refill_all, spend_at};
+use crate::group_list::{drop_member, first_gain, move_member, push_all, refill_all, spend_at};
+use crate::group_set::GroupSet;
 use indexmap::IndexMap;
 use std::alloc::Global;
 use std::marker::Model;
@@ -41,9 +42,10 @@ impl Model for Groups {
 impl Groups {
     ghost use Rattle.token_bucket.specs.Levels.{signed};
     ghost use Rattle.token_bucket.specs.Limit.{fault_of};
-    ghost use Rattle.rate_group.specs.Steps.{with_group, joined, left, share_in, spent, all_refilled, lane_of};
+    ghost use Rattle.rate_group.specs.Gains.{first_of, group_gains};
+    ghost use Rattle.rate_group.specs.Steps.{with_group, with_groups, joined, left, share_in, spent, all_refilled, lane_of};
     ghost use Rattle.rate_group.specs.Refusals.{Refuses, new_group_refusal, join_refusal, change_refusal, leave_refusal};
-    ghost use Rattle.rate_group.specs.GroupsCalls.{GroupsCall, IsCalled};
+    ghost use Rattle.rate_group.specs.GroupsCalls.{GroupsCall, IsCalled, MakingsLead};
 
     /// No groups and no members. Takes no memory; the cost is constant.
     pub fn new(alloc: Global) -> Groups
@@ -77,6 +79,24 @@ impl Groups {
         }
         self.groups.push(Group::new(cfg, share, now))?;
         Ok(number as u32)
+    }
+
+    /// Makes all these groups at a moment, in order, as calls of `new_group` do. It is asked that each share is above 0 and that there are
+    /// then at most 2^32 groups. Out of memory is the only fault, and none of them is made then. The cost is in the number of groups that
+    /// are made, and of all groups where memory is taken.
+    ///
+    /// Own.
+    pub fn make_all(&mut self, sets: &[GroupSet], now: u64) -> Result<(), GroupFault>
+        requires shares { All (λ s. 0 < s.share) sets.now }
+        requires numbers { length self.old.value.groups + length sets.now ≤ 2 ^ 32 }
+        ensures refused { Refuses result None }
+        ensures ok { OnOk result (self.new.value ≡ with_groups now sets.now self.old.value) }
+        ensures called { OnOk result (MakingsLead now sets.now self.old.value self.new.value) }
+        ensures err { OnErr result (self.new.value ≡ self.old.value) }
+        ensures room { self.new.spare ≡ self.old.spare }
+    {
+        push_all(&mut self.groups, sets, now)?;
+        Ok(())
     }
 
     /// Makes room for so many members more, which then join without memory. The cost is constant, or in the number of members where
@@ -196,5 +216,16 @@ impl Groups {
         ensures { result ≡ option_map (λ g. signed (lane_of g dir).level) (slice_get self.now.value.groups group) }
     {
         Some(self.groups.get(group as usize)?.level(dir))
+    }
+    /// The earliest moment at which a suspended group gains again, of those that have members: the start of the next tick of its limit.
+    /// None exactly where no such group is suspended. It is asked that the time is at most 2^62 ms. Takes no memory; the cost is in the
+    /// number of groups.
+    ///
+    /// Own.
+    pub fn gains_at(&self, time: u64) -> Option<u64>
+        requires { time ≤ 2 ^ 62 }
+        ensures { result ≡ first_of (group_gains time 0 self.now.value.members self.now.value.groups) }
+    {
+        first_gain(&self.groups, time)
     }
 }
