@@ -1,9 +1,11 @@
+pub mod GainLemmas
 pub mod KeptGroups
 pub mod KnownMembers
 pub mod LaneLemmas
 pub mod LevelsByCalls
 pub mod ListLemmas
 pub mod ListsOfCalls
+pub mod MakingLemmas
 pub mod MemberLemmas
 pub mod SharesByCalls
 pub mod SuspensionsByCalls

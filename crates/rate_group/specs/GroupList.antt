@@ -1,11 +1,12 @@
 -- How the code keeps one group, and a list of them.
 use Rattle.std.specs.Prelude.{◌≡◌, ℕ, ◌+◌, ◌<◌, ◌≤◌, List, map, length, slice_get, slice_index_or, nat_eq, if◌then◌else◌, Option, Some}
 use Rattle.std.specs.Prelude.{None}
-use Rattle.std.specs.List.{AllByRecursion}
+use Rattle.std.specs.List.{AllByRecursion, flat_map}
 use Rattle.token_bucket.specs.declared.limit.Dir.{Dir}
 use Rattle.rate_group.specs.declared.group.Group.{Group}
 use Rattle.rate_group.specs.GroupValue.{GroupValue}
 use Rattle.rate_group.specs.Steps.{share_of, count_in}
+use Rattle.rate_group.specs.Gains.{gain_of}
 
 abbrev pub group_value : Group → GroupValue
 group_value g = record {
@@ -26,6 +27,10 @@ counts_of gs = map (λ g. g.count) gs
 -- a group's members may move so many bytes each
 abbrev pub IsWithinShare : List Group → ℕ → Dir → ℕ → Type 0
 IsWithinShare gs at d n = (g : Group) → slice_get gs at ≡ Some g → n ≤ share_of (group_value g) d g.count
+
+-- when each suspended group with members gains again, by how many it counts
+abbrev pub gains_counted : ℕ → List Group → List ℕ
+gains_counted time gs = flat_map (λ g. gain_of time g.count (group_value g)) gs
 
 -- one, where two numbers are the same
 abbrev pub one_at : ℕ → ℕ → ℕ

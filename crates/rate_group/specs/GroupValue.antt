@@ -20,3 +20,8 @@ pub record GroupValue : Type 0 where
 pub record GroupsValue : Type 0 where
   pub groups : List GroupValue
   pub members : List (ℕ × ℕ)
+
+-- the groups, and for how many members more there is room
+pub record GroupsKept : Type 0 where
+  pub value : GroupsValue
+  pub spare : ℕ

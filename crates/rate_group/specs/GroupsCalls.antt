@@ -1,10 +1,11 @@
 -- Calls on groups in a row, each with what it answered, and to which groups they lead.
-use Rattle.std.specs.Prelude.{◌≡◌, ℕ, ◌≤◌, List, [], ◌∷◌, length, Result, IfOk, OnOk, OnErr}
+use Rattle.std.specs.Prelude.{◌≡◌, ℕ, ◌+◌, ◌≤◌, List, [], ◌∷◌, length, Result, Ok, IfOk, OnOk, OnErr}
 use Rattle.std.specs.Option.{IsSomeAnd}
 use Rattle.token_bucket.specs.declared.limit.Dir.{Dir}
 use Rattle.token_bucket.specs.declared.limit.LimitCfg.{LimitCfg}
 use Rattle.token_bucket.specs.Limit.{fault_of}
 use Rattle.rate_group.specs.declared.fault.GroupFault.{GroupFault}
+use Rattle.rate_group.specs.declared.group_set.GroupSet.{GroupSet}
 use Rattle.rate_group.specs.GroupValue.{GroupsValue}
 use Rattle.rate_group.specs.Steps.{with_group, joined, left, spent, all_refilled, share_in}
 use Rattle.rate_group.specs.Refusals.{Refuses, new_group_refusal, join_refusal, change_refusal, leave_refusal}
@@ -38,6 +39,15 @@ IsCalled (GroupsCall.Refill now) x y = y ≡ all_refilled now x
 abbrev pub CallsLead : GroupsValue → List GroupsCall → GroupsValue → Type 0
 CallsLead x [] last = last ≡ x
 CallsLead x (c ∷ cs) last = (next : GroupsValue) × IsCalled c x next × CallsLead next cs last
+
+-- the calls that make these groups at a moment, with numbers from one on
+abbrev pub makings : ℕ → ℕ → List GroupSet → List GroupsCall
+makings now n [] = []
+makings now n (s ∷ ss) = GroupsCall.NewGroup s.cfg s.share now (Ok n) ∷ makings now (n + 1) ss
+
+-- they lead from these groups to those
+abbrev pub MakingsLead : ℕ → List GroupSet → GroupsValue → GroupsValue → Type 0
+MakingsLead now sets x last = CallsLead x (makings now (length x.groups) sets) last
 
 -- new groups, of which there are none yet
 abbrev pub no_groups : GroupsValue

@@ -1,3 +1,4 @@
+pub mod Gains
 pub mod GroupLaws
 pub mod GroupList
 pub mod GroupValue

@@ -8,6 +8,7 @@ use Rattle.token_bucket.specs.declared.limit.Dir.{Dir}
 use Rattle.token_bucket.specs.declared.limit.Dir.TheVariants as dir
 use Rattle.token_bucket.specs.declared.limit.LimitCfg.{LimitCfg}
 use Rattle.token_bucket.specs.Levels.{Limit, limit_of, at_rate, refilled, less, held}
+use Rattle.rate_group.specs.declared.group_set.GroupSet.{GroupSet}
 use Rattle.rate_group.specs.GroupValue.{Lane, GroupValue, GroupsValue}
 
 -- One group
@@ -83,6 +84,14 @@ changed_at (suc n) change (g ∷ gs) = g ∷ changed_at n change gs
 -- a group is made
 abbrev pub with_group : LimitCfg → ℕ → ℕ → GroupsValue → GroupsValue
 with_group cfg share now x = record x { groups = x.groups ++ made cfg share now ∷ [] }
+
+-- groups that are made at a moment, in order
+abbrev pub all_made : ℕ → List GroupSet → List GroupValue
+all_made now sets = map (λ s. made s.cfg s.share now) sets
+
+-- all these groups are made
+abbrev pub with_groups : ℕ → List GroupSet → GroupsValue → GroupsValue
+with_groups now sets x = record x { groups = x.groups ++ all_made now sets }
 
 -- a member joins a group, or moves to it and keeps its place among the members
 abbrev pub joined : ℕ → ℕ → GroupsValue → GroupsValue

@@ -1,7 +1,17 @@
 // One group: its limit, its bucket, and in which directions it is suspended. Who is a member is left to the groups.
 ghost use Rattle.std.specs.Prelude.{◌≡◌, ◌≤◌, ◌<◌, ◌+◌, ◌-◌, ◌^◌, false};
+ghost use Rattle.std.specs.Option.{option_to_list};
+ghost use Rattle.rate_group.specs.Gains.{gain_of, is_waiting, next_tick};
 
 use token_bucket::{Bucket, Dir, LimitCfg};
+
+/// The moment at which the next tick of a limit begins.
+fn tick_after(cfg: &LimitCfg, time: u64) -> u64
+    requires { time ≤ 2 ^ 62 }
+    ensures { result ≡ next_tick cfg.now.tick_ms time }
+{
+    (time / cfg.tick_ms() + 1) * cfg.tick_ms()
+}
 
 /// A group, with how many members it has.
 #[derive(Clone, Copy, Debug)]
@@ -92,6 +102,24 @@ impl Group {
         ensures { result ≡ signed (lane_of (group_value self.now) dir).level }
     {
         self.bucket.level(dir)
+    }
+
+    /// Whether it has members and is suspended in a direction.
+    fn is_waiting(&self) -> bool
+        ensures { result ≡ is_waiting self.now.count (group_value self.now) }
+    {
+        self.count >= 1 && (self.read_suspended || self.write_suspended)
+    }
+
+    /// When it gains again, where it has members and is suspended in a direction.
+    pub(crate) fn gains_at(&self, time: u64) -> Option<u64>
+        requires { time ≤ 2 ^ 62 }
+        ensures { option_to_list result ≡ gain_of time self.now.count (group_value self.now) }
+    {
+        if !self.is_waiting() {
+            return None;
+        }
+        Some(tick_after(&self.cfg, time))
     }
 
     /// Has one member more, of so many members of all groups.

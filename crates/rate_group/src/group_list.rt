@@ -1,9 +1,13 @@
-// One group of a list, or each of them. Which one is left to the groups.
-ghost use Rattle.std.specs.Prelude.{◌≡◌, ◌≤◌, ◌<◌, ◌+◌, ◌-◌, length, map, slice_index_or, slice_set};
-ghost use Rattle.rate_group.specs.GroupList.{group_values, counts_of, one_of, CountsMove, HasMember, IsWithinShare};
-ghost use Rattle.rate_group.specs.Steps.{changed_at, spent_in, refilled_to};
+// One group of a list, or each of them, or more of them. Which one is left to the groups.
+ghost use Rattle.std.specs.Prelude.{◌≡◌, ◌≤◌, ◌<◌, ◌+◌, ◌-◌, ◌^◌, ◌++◌, ℕ, All, List, OnOk, OnErr, length, map, slice_index_or, slice_set};
+ghost use Rattle.std.specs.Option.{option_to_list};
+ghost use Rattle.rate_group.specs.GroupList.{group_values, counts_of, gains_counted, one_of, Counted, CountsMove, HasMember, IsWithinShare};
+ghost use Rattle.rate_group.specs.Gains.{first_of};
+ghost use Rattle.rate_group.specs.Steps.{all_made, changed_at, spent_in, refilled_to};
 
 use crate::group::Group;
+use crate::group_set::GroupSet;
+use std::alloc::AllocError;
 use token_bucket::Dir;
 
 /// Counts one member more in a group, of so many members of all groups.
@@ -59,4 +63,45 @@ pub(crate) fn refill_all(groups: &mut [Group], now: u64)
     for group in groups.iter_mut() {
         group.refill(now);
     }
+}
+
+/// Makes all these groups, with no members. Where memory is out, none is made.
+pub(crate) fn push_all(
+    groups: &mut Vec<Group>,
+    sets: &[GroupSet],
+    now: u64,
+) -> Result<(), AllocError>
+    requires { All (λ s. 0 < s.share) sets.now }
+    ensures ok { OnOk result (group_values groups.new.items ≡ group_values groups.old.items ++ all_made now sets.now) }
+    ensures err { OnErr result (groups.new.items ≡ groups.old.items) }
+    ensures counted { (members : List (ℕ × ℕ)) → Counted groups.old.items members → Counted groups.new.items members }
+{
+    groups.reserve(sets.len())?;
+    for set in sets {
+        groups.push(Group::new(set.cfg, set.share, now)).unwrap();
+    }
+    Ok(())
+}
+
+/// The earlier of two moments, where there are two.
+fn earlier(first: Option<u64>, other: Option<u64>) -> Option<u64>
+    ensures { result ≡ first_of (option_to_list first ++ option_to_list other) }
+{
+    match (first, other) {
+        (Some(a), Some(b)) => Some(a.min(b)),
+        (Some(a), None) => Some(a),
+        (None, other) => other,
+    }
+}
+
+/// When the first of the suspended groups with members gains again.
+pub(crate) fn first_gain(groups: &[Group], time: u64) -> Option<u64>
+    requires { time ≤ 2 ^ 62 }
+    ensures { result ≡ first_of (gains_counted time groups.now) }
+{
+    let mut first = None;
+    for group in groups {
+        first = earlier(first, group.gains_at(time));
+    }
+    first
 }

@@ -5,10 +5,12 @@
 mod fault;
 mod group;
 mod group_list;
+mod group_set;
 mod groups;
 mod laws;
 
 pub use fault::GroupFault;
+pub use group_set::GroupSet;
 pub use groups::Groups;
 pub use laws::{
     group_keeps_rate, group_level_is_least, groups_keep_rates, levels_follow_from_calls,

@@ -1,5 +1,6 @@
 use Rattle.std.proofs.Common.{◌∙◌, List, sym, ap, arith, Some}
 use Rattle.rate_group.specs.declared.group.Group.{Group}
+use Rattle.rate_group.specs.GroupValue.{GroupsKept}
 use Rattle.rate_group.specs.Steps.{share_in}
 use Rattle.rate_group.proofs.MemberLemmas.{has-member, count-read, count-some, share-read}
 use Rattle.rate_group.proofs.groups.Groups.share.Goals as goal
@@ -30,4 +31,4 @@ returns c =
     let has = has-member gs es c.args.member c.self.invariant c.in-Some.group.now known in
     ap Some c.share.ensures
     ∙ share-read gs es c.args.member c.in-Some.group.now c.args.dir c.index.result.now c.self.invariant known has.0 c.index.ensures
-    ∙ ap (share_in c.args.member c.args.dir) c.self.view_is
+    ∙ ap (λ (v : GroupsKept). share_in c.args.member c.args.dir v.value) c.self.view_is

@@ -3,7 +3,7 @@ use Rattle.std.specs.Prelude.{slice_get}
 use Rattle.std.specs.Option.{IsSomeAnd}
 use Rattle.std.proofs.lemmas.List.{with_items_is}
 use Rattle.rate_group.specs.declared.group.Group.{Group}
-use Rattle.rate_group.specs.GroupValue.{GroupsValue}
+use Rattle.rate_group.specs.GroupValue.{GroupsKept}
 use Rattle.rate_group.specs.GroupList.{Counted}
 use Rattle.rate_group.specs.Steps.{share_in}
 use Rattle.rate_group.proofs.MemberLemmas.{counted-same, long-counts, has-member, within-share}
@@ -21,7 +21,7 @@ pub spend_at-requires-clause-within : goal.spend_at-requires-clause-within
 spend_at-requires-clause-within c = λ g at.
     within-share c.self.inside.groups.items c.self.inside.members.entries c.args.member c.in-Some.group.now c.args.dir c.args.n
     c.self.invariant (sym c.in-Some.ensures.value)
-    (subst (λ (v : GroupsValue). IsSomeAnd (share_in c.args.member c.args.dir v) (λ share. c.args.n ≤ share)) (sym c.self.view_is)
+    (subst (λ (v : GroupsKept). IsSomeAnd (share_in c.args.member c.args.dir v.value) (λ share. c.args.n ≤ share)) (sym c.self.view_is)
     c.requires)
     g (ap (λ (z : List Group). slice_get z c.in-Some.group.now) (sym c.deref_mut.ensures.value) ∙ at)
 

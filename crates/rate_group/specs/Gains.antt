@@ -1,0 +1,37 @@
+-- When groups that are suspended gain again.
+use Rattle.std.specs.Prelude.{ℕ, ◌+◌, ◌*◌, ◌/◌, Bool, ◌&&◌, nat_le, if◌then◌else◌, List, [], ◌∷◌, ◌++◌, Option, Some, None}
+use Rattle.std.specs.List.{list_any}
+use Rattle.token_bucket.specs.declared.limit.Dir.{Dir}
+use Rattle.token_bucket.specs.declared.limit.Dir.TheVariants as dir
+use Rattle.token_bucket.specs.Spells.{least_with}
+use Rattle.rate_group.specs.GroupValue.{GroupValue}
+use Rattle.rate_group.specs.Steps.{lane_of, count_in}
+
+abbrev pub both_ways : List Dir
+both_ways = dir.Read ∷ dir.Write ∷ []
+
+-- the moment at which the next tick begins
+abbrev pub next_tick : ℕ → ℕ → ℕ
+next_tick tick time = (time / tick + 1) * tick
+
+-- one moment, where something holds
+abbrev pub moment_where : Bool → ℕ → List ℕ
+moment_where holds moment = if holds then moment ∷ [] else []
+
+-- has a group of so many members one, and is it suspended in a direction
+abbrev pub is_waiting : ℕ → GroupValue → Bool
+is_waiting count x = nat_le 1 count && list_any (λ d. (lane_of x d).suspended) both_ways
+
+-- when such a group gains again
+abbrev pub gain_of : ℕ → ℕ → GroupValue → List ℕ
+gain_of time count x = moment_where (is_waiting count x) (next_tick x.cfg.tick_ms time)
+
+-- when each suspended group with members gains again, the groups counted from a number on
+abbrev pub group_gains : ℕ → ℕ → List (ℕ × ℕ) → List GroupValue → List ℕ
+group_gains time n members [] = []
+group_gains time n members (x ∷ xs) = gain_of time (count_in n members) x ++ group_gains time (n + 1) members xs
+
+-- the first of some moments
+abbrev pub first_of : List ℕ → Option ℕ
+first_of [] = None
+first_of (x ∷ xs) = Some (least_with x xs)
