@@ -78,7 +78,8 @@ module _ (g : Settings) (t : Trace) (time n : ℕ) (x : GroupSet) where
     each = λ d. direction-same x d (beats_among g n d [] t) (beats_among g n d [] u) time (lane_of v d) (same d) (k.each d);
   }
 
-  pushed : (d : Dir) (y : Event) (b : Beat) → beat_among g n d t y ≡ b → beats_among g n d [] (t ++ y ∷ []) ≡ beats_among g n d [] t ++ b ∷ []
+  pushed : (d : Dir) (y : Event) (b : Beat) → beat_among g n d t y ≡ b →
+      beats_among g n d [] (t ++ y ∷ []) ≡ beats_among g n d [] t ++ b ∷ []
   pushed d y b is = beats_among-push g n d [] t y ∙ ap (λ z. beats_among g n d [] t ++ z ∷ []) is
 
   group-silent : (y : Event) (v : GroupValue) → ((d : Dir) → beat_among g n d t y ≡ Moves 0) → GroupFits g t time n x v →
@@ -211,8 +212,8 @@ pub record MovesAmong (g : Settings) (t : Trace) (e : SideId) (d : Dir) (n : ℕ
   pub own : (m : ℕ) → beat_among g m d t y ≡ Moves (if same_group (group_after g e t) m then n else 0)
   pub across : (m : ℕ) (f : Dir) → f ≢ d → beat_among g m f t y ≡ Moves 0
 
-module _ (g : Settings) (t : Trace) (p : Plain) (x : GroupsValue) (e : SideId) (d : Dir) (n : ℕ) (y : Event) (moves : MovesAmong g t e d n y)
-    (begun : (m : ℕ) → 0 < length (group_spells g m d t)) (k : Grouped g t p x) where
+module _ (g : Settings) (t : Trace) (p : Plain) (x : GroupsValue) (e : SideId) (d : Dir) (n : ℕ) (y : Event)
+    (moves : MovesAmong g t e d n y) (begun : (m : ℕ) → 0 < length (group_spells g m d t)) (k : Grouped g t p x) where
   abbrev u : Trace
   u = t ++ y ∷ []
 
@@ -248,7 +249,8 @@ module _ (g : Settings) (t : Trace) (p : Plain) (x : GroupsValue) (e : SideId) (
   spent-long (Some h) = length-changed h (spent_in d n) x.groups
 
   -- A side moves bytes: its group is spent.
-  pub moved-grouped : (q : Plain) → SameGauged p q → group_after g e t ≡ (side_at p e).group → Grouped g (t ++ y ∷ []) q (spent (number e) d n x)
+  pub moved-grouped : (q : Plain) → SameGauged p q → group_after g e t ≡ (side_at p e).group →
+      Grouped g (t ++ y ∷ []) q (spent (number e) d n x)
   moved-grouped q same told =
       let mid : Grouped g u p (spent (number e) d n x) = record {
         many = spent-long (group_of (number e) x.members) ∙ k.many;
