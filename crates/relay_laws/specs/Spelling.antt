@@ -1,8 +1,9 @@
 -- That the trace of a relay can be spelled as text and read back, as far as what was read fits.
-use Rattle.std.specs.Prelude.{ℕ, ◌+◌, ◌*◌, ◌^◌, ◌<◌, ◌≤◌, List, length, All}
+use Rattle.std.specs.Prelude.{ℕ, ◌+◌, ◌*◌, ◌^◌, ◌<◌, ◌≤◌, ⊤, List, length, All}
 use Rattle.std.specs.List.{flat_map}
 use Rattle.ev_types.specs.declared.side.SideId.{SideId}
-use Rattle.ev_types.specs.Trace.{Trace}
+use Rattle.ev_types.specs.declared.entry.Entry.TheVariants as entry
+use Rattle.ev_types.specs.Trace.{Event, Trace}
 use Rattle.script_text.specs.TraceLaws.{IsSpellable}
 pub use Rattle.ev_types.specs.AskNumbers.{AskFits, AsksFit}
 use Rattle.relay_model.specs.Trace.{bytes_read}

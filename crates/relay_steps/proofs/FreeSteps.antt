@@ -197,7 +197,7 @@ module _ (t : Trace) (x : Stage) (s : State) (e : SideId) (k : StandsFor t x s) 
         | inr apart ↦
             let away : a ≢ e = λ h. apart.1 (ap number h) in
             ap (λ (z : PlainSide). z.group) (freed-there a away)
-            ∙ k.grouped.left a (sym (ap (λ (z : PlainSide). z.live) (freed-there a away)) ∙ dead)
+            ∙ k.grouped.freed a (sym (ap (λ (z : PlainSide). z.live) (freed-there a away)) ∙ dead)
       ]
 
   pub freed-many : length (freed e s).lanes ≡ 2 * s.plain.opened

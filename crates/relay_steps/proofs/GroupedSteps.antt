@@ -178,7 +178,7 @@ grouped-still g t u p q x same told k = record {
       k.counted n
       ∙ (λ i. count_by (λ e. same_group ((sym (same.group e)) i) n) (sides_from 0 ((sym same.opened) i)));
   known = λ e n is. k.known e n (sym (same.group e) ∙ is);
-  left = λ e dead. same.group e ∙ k.left e (sym (same.live e) ∙ dead);
+  freed = λ e dead. same.group e ∙ k.freed e (sym (same.live e) ∙ dead);
 }
 
 pub grouped-same : (g : Settings) (t u : Trace) (p q : Plain) (x : GroupsValue) → SameGauged p q → SameTurns t u → Grouped g t p x →
@@ -204,7 +204,7 @@ turned-grouped g t ms p q x has later opened time rates live k = record {
       k.counted n
       ∙ (λ i. count_by (λ e. same_group ((sym (rates e)) i).1 n) (sides_from 0 ((sym opened) i)));
   known = λ e n is. k.known e n (sym (ap (λ z. z.1) (rates e)) ∙ is);
-  left = λ e dead. ap (λ z. z.1) (rates e) ∙ k.left e (sym (live e) ∙ dead);
+  freed = λ e dead. ap (λ z. z.1) (rates e) ∙ k.freed e (sym (live e) ∙ dead);
 }
 
 -- what an event is to each group, by which a side moves bytes in one direction
@@ -259,6 +259,6 @@ module _ (g : Settings) (t : Trace) (p : Plain) (x : GroupsValue) (e : SideId) (
         once = k.once;
         counted = k.counted;
         known = k.known;
-        left = k.left;
+        freed = k.freed;
       } in
       grouped-same g u u p q (spent (number e) d n x) same (turns-same u) mid

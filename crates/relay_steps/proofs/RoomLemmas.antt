@@ -177,7 +177,7 @@ get_some (x ∷ xs) (suc n) h = get_some xs n (omega (arith, h))
 -- each group's members count themselves as the model counts them
 pub counted-is : (g : Settings) (t : Trace) (p : Plain) (x : GroupsValue) → Grouped g t p x → length p.sides ≡ 2 * p.opened → (n : ℕ) →
     count_in n x.members ≡ members p n
-counted-is g t p x k size n = k.counted n ∙ sym (members-are p size k.left n)
+counted-is g t p x k size n = k.counted n ∙ sym (members-are p size k.freed n)
 
 -- what a side's group leaves to it is what the model says
 pub shared-is : (t : Trace) (s : State) (e : SideId) → Grouped s.settings t s.plain s.groups → length s.plain.sides ≡ 2 * s.plain.opened →
