@@ -25,6 +25,7 @@ use Rattle.relay_model.proofs.AccountedLemmas.{nothing_is_accounted}
 use Rattle.relay_state.specs.State.{State, Lane, no_lane, lane_at}
 use Rattle.relay_steps.specs.Meaning.{StandsFor}
 use Rattle.relay_steps.proofs.EndLemmas.{number-below, peer-peer}
+use Rattle.relay_steps.proofs.MembershipSteps.{new-grouped}
 use Rattle.relay_laws.specs.Laws.{NewRelayStands, kept_of, MeansConserved, LeftIsLegal, CountsAreTold}
 
 -- Of an end that no event names nothing is told
@@ -130,17 +131,17 @@ pub means_conserved : MeansConserved
 means_conserved t x s k = conserved t x s k
 
 pub new_relay_stands : NewRelayStands
-new_relay_stands g built = record {
+new_relay_stands g has = record {
   reached = Reaches.begins;
   accounts = nothing_is_accounted g;
   many = refl;
   each = λ e lt. absurd (omega (arith, lt));
-  built = built;
+  groups = has;
   gauged = record {
     many = refl;
     each = λ e y is d. absurd (let unset : None ≡ Some y = is in cc);
-    group = λ e. refl;
   };
+  grouped = new-grouped g;
 }
 
 pub left_is_legal : LeftIsLegal

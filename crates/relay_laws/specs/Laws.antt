@@ -9,11 +9,11 @@ use Rattle.relay_model.specs.Answers.{TurnAnswer, EndsWith}
 use Rattle.relay_model.specs.Stands.{Kept, Stands}
 use Rattle.relay_state.specs.State.{State, new_state}
 use Rattle.relay_state.specs.Counting.{read_of, given_of}
-use Rattle.relay_steps.specs.Meaning.{IsBuilt, StandsFor, LeftFor}
+use Rattle.relay_steps.specs.Meaning.{HasItsGroups, StandsFor, LeftFor}
 
 -- Before the first turn a relay stands for the trace of no entries.
 abbrev pub NewRelayStands : Type 0
-NewRelayStands = (g : Settings) → IsBuilt g → StandsFor [] Stage.Between (new_state g)
+NewRelayStands = (g : Settings) → HasItsGroups g → StandsFor [] Stage.Between (new_state g)
 
 -- all that a relay keeps, as the model's record of that
 abbrev pub kept_of : State → Kept

@@ -187,7 +187,8 @@ module _ (t : Trace) (x : Stage) (s : State) (e : SideId) (k : StandsFor t x s) 
   pub freed-grouped : (event : Event) → Moveless event → Grouped s.settings (t ++ event ∷ []) q (freed e s).groups
   freed-grouped event moves =
       regrouped g t (t ++ event ∷ []) p q s.groups e None (turns-none t event moves) k.grouped lt refl refl
-      (ap (λ (z : PlainSide). z.group) freed-here) (λ a away. ap (λ (z : PlainSide). z.group) (freed-there a away)) (λ n bad. absurd (cc)) gone
+      (ap (λ (z : PlainSide). z.group) freed-here) (λ a away. ap (λ (z : PlainSide). z.group) (freed-there a away))
+      (λ n bad. absurd (cc)) gone
     where
       gone : (a : SideId) → is_live q a ≡ false → (side_at q a).group ≡ None
       gone a dead = elim (eqb_tells (number a) (number e)) [
@@ -196,7 +197,7 @@ module _ (t : Trace) (x : Stage) (s : State) (e : SideId) (k : StandsFor t x s) 
         | inr apart ↦
             let away : a ≢ e = λ h. apart.1 (ap number h) in
             ap (λ (z : PlainSide). z.group) (freed-there a away)
-            ∙ k.grouped.left a (sym (ap (λ (z : PlainSide). z.live) (freed-there a away)) ∙ dead)
+            ∙ k.grouped.freed a (sym (ap (λ (z : PlainSide). z.live) (freed-there a away)) ∙ dead)
       ]
 
   pub freed-many : length (freed e s).lanes ≡ 2 * s.plain.opened

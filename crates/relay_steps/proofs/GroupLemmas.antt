@@ -241,7 +241,8 @@ module _ (x : GroupSet) (d : Dir) where
       by : HasLast (spells bs) → DirectionFits x d (bs ++ Moves n ∷ []) time (lane_less n v)
       by (inl empty) =
           let zero_moved = none empty in
-          let same : spells (bs ++ Moves n ∷ []) ≡ spells bs = spells-moves n bs ∙ ap (λ m. added m (spells bs)) zero_moved ∙ added-none (spells bs) in
+          let same : spells (bs ++ Moves n ∷ []) ≡ spells bs =
+          spells-moves n bs ∙ ap (λ m. added m (spells bs)) zero_moved ∙ added-none (spells bs) in
           let first : v.level.short ≡ l.burst - l.rate = k.short ∙ ap (short_after l 0 (l.burst - l.rate)) empty in
           let b = k.burst in
           let some = rate-some x.cfg d in

@@ -78,7 +78,8 @@ module _ (g : Settings) (t : Trace) (time n : ℕ) (x : GroupSet) where
     each = λ d. direction-same x d (beats_among g n d [] t) (beats_among g n d [] u) time (lane_of v d) (same d) (k.each d);
   }
 
-  pushed : (d : Dir) (y : Event) (b : Beat) → beat_among g n d t y ≡ b → beats_among g n d [] (t ++ y ∷ []) ≡ beats_among g n d [] t ++ b ∷ []
+  pushed : (d : Dir) (y : Event) (b : Beat) → beat_among g n d t y ≡ b →
+      beats_among g n d [] (t ++ y ∷ []) ≡ beats_among g n d [] t ++ b ∷ []
   pushed d y b is = beats_among-push g n d [] t y ∙ ap (λ z. beats_among g n d [] t ++ z ∷ []) is
 
   group-silent : (y : Event) (v : GroupValue) → ((d : Dir) → beat_among g n d t y ≡ Moves 0) → GroupFits g t time n x v →
@@ -177,7 +178,7 @@ grouped-still g t u p q x same told k = record {
       k.counted n
       ∙ (λ i. count_by (λ e. same_group ((sym (same.group e)) i) n) (sides_from 0 ((sym same.opened) i)));
   known = λ e n is. k.known e n (sym (same.group e) ∙ is);
-  left = λ e dead. same.group e ∙ k.left e (sym (same.live e) ∙ dead);
+  freed = λ e dead. same.group e ∙ k.freed e (sym (same.live e) ∙ dead);
 }
 
 pub grouped-same : (g : Settings) (t u : Trace) (p q : Plain) (x : GroupsValue) → SameGauged p q → SameTurns t u → Grouped g t p x →
@@ -203,7 +204,7 @@ turned-grouped g t ms p q x has later opened time rates live k = record {
       k.counted n
       ∙ (λ i. count_by (λ e. same_group ((sym (rates e)) i).1 n) (sides_from 0 ((sym opened) i)));
   known = λ e n is. k.known e n (sym (ap (λ z. z.1) (rates e)) ∙ is);
-  left = λ e dead. ap (λ z. z.1) (rates e) ∙ k.left e (sym (live e) ∙ dead);
+  freed = λ e dead. ap (λ z. z.1) (rates e) ∙ k.freed e (sym (live e) ∙ dead);
 }
 
 -- what an event is to each group, by which a side moves bytes in one direction
@@ -211,8 +212,8 @@ pub record MovesAmong (g : Settings) (t : Trace) (e : SideId) (d : Dir) (n : ℕ
   pub own : (m : ℕ) → beat_among g m d t y ≡ Moves (if same_group (group_after g e t) m then n else 0)
   pub across : (m : ℕ) (f : Dir) → f ≢ d → beat_among g m f t y ≡ Moves 0
 
-module _ (g : Settings) (t : Trace) (p : Plain) (x : GroupsValue) (e : SideId) (d : Dir) (n : ℕ) (y : Event) (moves : MovesAmong g t e d n y)
-    (begun : (m : ℕ) → 0 < length (group_spells g m d t)) (k : Grouped g t p x) where
+module _ (g : Settings) (t : Trace) (p : Plain) (x : GroupsValue) (e : SideId) (d : Dir) (n : ℕ) (y : Event)
+    (moves : MovesAmong g t e d n y) (begun : (m : ℕ) → 0 < length (group_spells g m d t)) (k : Grouped g t p x) where
   abbrev u : Trace
   u = t ++ y ∷ []
 
@@ -248,7 +249,8 @@ module _ (g : Settings) (t : Trace) (p : Plain) (x : GroupsValue) (e : SideId) (
   spent-long (Some h) = length-changed h (spent_in d n) x.groups
 
   -- A side moves bytes: its group is spent.
-  pub moved-grouped : (q : Plain) → SameGauged p q → group_after g e t ≡ (side_at p e).group → Grouped g (t ++ y ∷ []) q (spent (number e) d n x)
+  pub moved-grouped : (q : Plain) → SameGauged p q → group_after g e t ≡ (side_at p e).group →
+      Grouped g (t ++ y ∷ []) q (spent (number e) d n x)
   moved-grouped q same told =
       let mid : Grouped g u p (spent (number e) d n x) = record {
         many = spent-long (group_of (number e) x.members) ∙ k.many;
@@ -257,6 +259,6 @@ module _ (g : Settings) (t : Trace) (p : Plain) (x : GroupsValue) (e : SideId) (
         once = k.once;
         counted = k.counted;
         known = k.known;
-        left = k.left;
+        freed = k.freed;
       } in
       grouped-same g u u p q (spent (number e) d n x) same (turns-same u) mid

@@ -64,7 +64,7 @@ module _ (t : Trace) (x : Stage) (s : State) (k : StandsFor t x s) (e : SideId) 
           | inr apart ↦
               let away : a ≢ e = λ h. apart.1 (ap number h) in
               ap (λ (z : PlainSide). z.group) (there a away)
-              ∙ k.grouped.left a (sym (ap (λ (z : PlainSide). z.live) (there a away)) ∙ dead)
+              ∙ k.grouped.freed a (sym (ap (λ (z : PlainSide). z.live) (there a away)) ∙ dead)
         ]
 
     -- lanes look at no group

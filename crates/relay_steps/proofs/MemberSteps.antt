@@ -79,7 +79,8 @@ module _ (f h : SideId → Bool) where
     where
       rest-same : e.link ≡ k → count_by h (sides_from (k + 1) n) ≡ count_by f (sides_from (k + 1) n)
       rest-same here =
-          count-same (k + 1) n (λ a after before. same a (λ p. let q = ap (λ (z : SideId). z.link) p in absurd (omega (arith, q, here, after))))
+          count-same (k + 1) n (λ a after before.
+          same a (λ p. let q = ap (λ (z : SideId). z.link) p in absurd (omega (arith, q, here, after))))
 
       by_side : (z : Side) → e.side ≡ z → e.link ≡ k → Changed e k (suc n)
       by_side In is here =
@@ -133,7 +134,8 @@ count-places f (suc m) k (x ∷ y ∷ xs) many =
     let rest = count-places f m (k + 1) xs (omega (arith, many)) in
     let moved : count_by here (sides_from (k + 1) m) ≡ count_by there (sides_from (k + 1) m) =
     count-same there here (k + 1) m (λ a from to.
-    ap (λ j. f (slice_index_or (x ∷ y ∷ xs) j no_side)) (let q : number a - 2 * k ≡ suc (suc (number a - 2 * (k + 1))) = omega (arith, from) in q)) in
+    let next : number a - 2 * k ≡ suc (suc (number a - 2 * (k + 1))) = omega (arith, from) in
+    ap (λ j. f (slice_index_or (x ∷ y ∷ xs) j no_side)) next) in
     let zeroth : number (in_of k) - 2 * k ≡ zero = omega arith in
     let first : number (out_of k) - 2 * k ≡ suc zero = omega arith in
     let a : one_where (here (in_of k)) ≡ one_where (f x) = ap (λ j. one_where (f (slice_index_or (x ∷ y ∷ xs) j no_side))) zeroth in
@@ -147,13 +149,13 @@ count-places f (suc m) k (x ∷ y ∷ xs) many =
 members-by : (p : Plain) → length p.sides ≡ 2 * p.opened → (n : ℕ) →
     members p n ≡ count_by (λ e. is_live p e && same_group (side_at p e).group n) (all_sides p)
 members-by p many n =
-    count-places (λ x. x.live && same_group x.group n) p.opened 0 p.sides many
+    let in_it : PlainSide → Bool = λ x. x.live && same_group x.group n in
+    count-places in_it p.opened 0 p.sides many
     ∙ count-same (λ e. is_live p e && same_group (side_at p e).group n)
-    (λ e. (slice_index_or p.sides (number e - 2 * 0) no_side).live && same_group (slice_index_or p.sides (number e - 2 * 0) no_side).group n)
-    0 p.opened
+    (λ e. in_it (slice_index_or p.sides (number e - 2 * 0) no_side)) 0 p.opened
     (λ a from to.
     let same : number a - 2 * 0 ≡ number a = omega arith in
-    ap (λ j. (slice_index_or p.sides j no_side).live && same_group (slice_index_or p.sides j no_side).group n) same)
+    ap (λ j. in_it (slice_index_or p.sides j no_side)) same)
 
 -- where sides are live and have groups as before
 pub members-same : (p q : Plain) → length p.sides ≡ 2 * p.opened → length q.sides ≡ 2 * q.opened → q.opened ≡ p.opened →

@@ -79,7 +79,7 @@ regrouped g t u p q x e o told k lt opened time here others within gone = record
     | inl same ↦ within n (sym here ∙ ap (λ z. (side_at q z).group) (sym (number-same a e same.1)) ∙ is)
     | inr apart ↦ k.known a n (sym (others a (λ h. apart.1 (ap number h))) ∙ is)
   ];
-  left = gone;
+  freed = gone;
 }
   where
     member : (a : SideId) → group_of (number a) (moved_to o e x).members ≡ (side_at q a).group
@@ -212,11 +212,11 @@ module _ (g : Settings) (has : HasItsGroups g) (t u : Trace) (p : Plain) (x : Gr
       | inl here ↦ set-within g has a.side n (sym (new-group a here.1) ∙ is)
       | inr away ↦ k.known a n (sym (old-group a away.1) ∙ is)
     ];
-    left = λ a dead. elim (eqb_tells p.opened a.link) [
+    freed = λ a dead. elim (eqb_tells p.opened a.link) [
       | inl here ↦
           absurd (let bad : true ≡ false = sym (ap (λ z. z.live) (side_at-new g connected p a size here.1)) ∙ dead in cc)
       | inr away ↦
-          old-group a away.1 ∙ k.left a (sym (ap (λ z. z.live) (side_at-old g connected p a size away.1)) ∙ dead)
+          old-group a away.1 ∙ k.freed a (sym (ap (λ z. z.live) (side_at-old g connected p a size away.1)) ∙ dead)
     ];
   }
 
@@ -237,7 +237,7 @@ new-grouped g = record {
   once = once-none;
   counted = λ n. refl;
   known = λ e n is. absurd (cc);
-  left = λ e dead. refl;
+  freed = λ e dead. refl;
 }
   where
     made-fits : (n : ℕ) (y : GroupSet) → GroupFits g [] 0 n y (made y.cfg y.share 0)

@@ -30,7 +30,8 @@ use Rattle.relay_model.specs.Stages.{Stage, at}
 use Rattle.relay_model.proofs.ReachLemmas.{shape-is_told}
 use Rattle.relay_model.proofs.PlainLemmas.{and-first}
 use Rattle.relay_state.specs.State.{State, lane_at, gauge_at}
-use Rattle.relay_state.specs.Rooms.{allowance, share, within_rates, input_length, waiting_for, output_length, read_room, write_room, wants, want_of, wanted}
+use Rattle.relay_state.specs.Rooms.{allowance, share, within_rates, input_length, waiting_for, output_length, read_room, write_room}
+use Rattle.relay_state.specs.Rooms.{wants, want_of, wanted}
 use Rattle.relay_state.specs.Time.{limit_gain, group_gains, expiry, moments, poll_timeout}
 use Rattle.std.proofs.lemmas.Option.{slice_get_within}
 use Rattle.relay_steps.specs.BucketLaws.{GroupsTellLevels, GroupsTellShares}
@@ -176,13 +177,13 @@ get_some (x ∷ xs) (suc n) h = get_some xs n (omega (arith, h))
 -- each group's members count themselves as the model counts them
 pub counted-is : (g : Settings) (t : Trace) (p : Plain) (x : GroupsValue) → Grouped g t p x → length p.sides ≡ 2 * p.opened → (n : ℕ) →
     count_in n x.members ≡ members p n
-counted-is g t p x k size n = k.counted n ∙ sym (members-are p size k.left n)
+counted-is g t p x k size n = k.counted n ∙ sym (members-are p size k.freed n)
 
 -- what a side's group leaves to it is what the model says
 pub shared-is : (t : Trace) (s : State) (e : SideId) → Grouped s.settings t s.plain s.groups → length s.plain.sides ≡ 2 * s.plain.opened →
     (d : Dir) → share s e d ≡ model.share s.settings (past s.settings t) s.plain e d
 shared-is t s e k size d =
-    ap (λ o. option_map (λ n. option_map_or (λ v. share_of v d (count_in n s.groups.members)) (slice_get s.groups.groups n) 0) o) (k.member e)
+    ap (option_map (λ n. option_map_or (λ v. share_of v d (count_in n s.groups.members)) (slice_get s.groups.groups n) 0)) (k.member e)
     ∙ by_group (side_at s.plain e).group refl
   where
     by_group : (o : Option ℕ) → (side_at s.plain e).group ≡ o →
@@ -296,7 +297,8 @@ module _ (t : Trace) (x : Stage) (s : State) (k : StandsFor t x s) where
       0 s.plain.opened (λ e l. gain-is e (side_at s.plain e).limit refl)
 
   groups-gain : (n : ℕ) (ys : List GroupSet) (vs : List GroupValue) → length vs ≡ length ys →
-      ((m : ℕ) (y : GroupSet) (v : GroupValue) → slice_get ys m ≡ Some y → slice_get vs m ≡ Some v → GroupFits ga t s.plain.time (n + m) y v) →
+      ((m : ℕ) (y : GroupSet) (v : GroupValue) → slice_get ys m ≡ Some y → slice_get vs m ≡ Some v →
+      GroupFits ga t s.plain.time (n + m) y v) →
       group_gains s n vs ≡ moment.group_gains Pa s.plain n ys
   groups-gain n [] [] many h = refl
   groups-gain n [] (v ∷ vs) many h = absurd (omega (arith, many))
@@ -335,7 +337,9 @@ module _ (t : Trace) (x : Stage) (s : State) (k : StandsFor t x s) where
 
 pub groups_tell_levels : GroupsTellLevels
 groups_tell_levels t x s k n y is =
-    let v = get_some s.groups.groups n (let m = k.grouped.many in let l = slice_get_within s.settings.groups n y is in omega (arith, l, m)) in
+    let many = k.grouped.many in
+    let within = slice_get_within s.settings.groups n y is in
+    let v = get_some s.groups.groups n (omega (arith, within, many)) in
     let fit = k.grouped.each n y v.0 is v.1 in (
       v.0,
       v.1,

@@ -78,7 +78,8 @@ view-change e f p seen rates = record {
 
 pub view-raise : (g : Settings) (e : SideId) (y : Why) (p : Plain) → SameView p (raise g e y p)
 view-raise g e y p =
-    let r = raised g e y p in subst (SameView p) (sym r.1) (record { opened = refl; sides = refl; flows = refl; seen = λ a. refl; rates = λ a. refl })
+    let r = raised g e y p in
+    subst (SameView p) (sym r.1) (record { opened = refl; sides = refl; flows = refl; seen = λ a. refl; rates = λ a. refl })
 
 -- a lane goes on fitting
 pub view-fits : (g : Settings) (t u : Trace) (p q : Plain) (e : SideId) (l : Lane) → SameTold t u e → SameView p q →

@@ -106,7 +106,8 @@ module _ (u : Trace) (s : State) where
 
   fits-on : (p q : Plain) (e : SideId) → SameView p q → q.time ≡ p.time → length p.sides ≡ 2 * p.opened → Fits p e → Fits q e
   fits-on p q e view time size k =
-      view-side u u s s.groups p q e (λ a. record { read = refl; given = refl; ended = refl; moved = refl; given_free = refl; closed = refl })
+      view-side u u s s.groups p q e
+      (λ a. record { read = refl; given = refl; ended = refl; moved = refl; given_free = refl; closed = refl })
       view
       (λ d. (λ i. option_map (λ y. held_at y.cfg (gauge_at s e) d (time i)) ((view.rates e i).0)) ∙ k.allowed d
       ∙ sym (λ i. option_map (λ y. standing_level y d (side_spells e d u) (time i)) ((view.rates e i).0)))
@@ -211,7 +212,8 @@ turn-stands t s ms k from until =
     let q : Plain = time_passed g (past g u) p in
     let to_p : SameView s.plain p = record { opened = refl; sides = refl; flows = refl; seen = λ e. refl; rates = λ e. refl } in
     subst (StandsFor u Stage.Polling) (sym (begun-is t s ms k from))
-    (stands-put t Stage.Between Stage.Polling s q (all_refilled ms s.groups) (entry.Turn ms, []) k (from, until, refl, refl) tt (silent-turn ms)
+    (stands-put t Stage.Between Stage.Polling s q (all_refilled ms s.groups) (entry.Turn ms, []) k (from, until, refl, refl) tt
+    (silent-turn ms)
     (view-then s.plain p q to_p (view-passed g (past g u) p))
     (let view = view-then s.plain p q to_p (view-passed g (past g u) p) in
     turned-gauged t ms s.plain q s.gauges from view.opened (frame-time_passed g (past g u) p).shape.time view.rates k.gauged)

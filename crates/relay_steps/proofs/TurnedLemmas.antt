@@ -70,8 +70,8 @@ module _ (g : Settings) where
       (put-turned u old.stage old.plain e bytes new (all-turned u old r) h)
 
   -- So it is where a side is served.
-  pub served-turned : (t : Trace) (p : Plain) (m : Want) (ms : List Want) → Reaches g t (at (Stage.Serving (m ∷ ms)) p) → (n : ℕ) (d : Dir) →
-      0 < length (group_spells g n d t)
+  pub served-turned : (t : Trace) (p : Plain) (m : Want) (ms : List Want) → Reaches g t (at (Stage.Serving (m ∷ ms)) p) →
+      (n : ℕ) (d : Dir) → 0 < length (group_spells g n d t)
   served-turned t p m ms r n d =
       let a = all-turned t (at (Stage.Serving (m ∷ ms)) p) r in
       let b = turns-among g n d [] t in

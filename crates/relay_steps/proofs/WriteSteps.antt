@@ -244,7 +244,9 @@ module _ (t : Trace) (s : State) (e : SideId) (w : Bool) (ms : List Want) (k : S
           own = (took-fits e lt).holds.buffers;
           toward = (took-fits (peer e) lt).holds.buffers;
           allowed = allowed-is u (with_taken s e n) e took-gauged;
-          shared = shared-is u (with_taken s e n) e took-grouped (length-set p.sides (number e) (active_at p.time dir.Write (side_at given e)) ∙ (stands-shape t marked s k).sides);
+          shared =
+              shared-is u (with_taken s e n) e took-grouped
+              (length-set p.sides (number e) (active_at p.time dir.Write (side_at given e)) ∙ (stands-shape t marked s k).sides);
         }
 
     -- the low mark is looked at with the model's length

@@ -49,4 +49,4 @@ pub record Grouped (g : Settings) (t : Trace) (p : Plain) (x : GroupsValue) : Ty
   pub once : IsDistinct nat_eq (keys_of x.members)
   pub counted : (n : ℕ) → count_in n x.members ≡ sides_in p n
   pub known : (e : SideId) (n : ℕ) → (side_at p e).group ≡ Some n → n < length g.groups
-  pub left : (e : SideId) → is_live p e ≡ false → (side_at p e).group ≡ None
+  pub freed : (e : SideId) → is_live p e ≡ false → (side_at p e).group ≡ None
