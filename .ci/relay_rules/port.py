@@ -48,11 +48,11 @@ class ScriptPort:
         return self.room[end] > 0 or end in self.wfail
 
     def poll(self, wants):
-        """The marks among these wants, or None where it fails."""
+        """The marks among these wants, and whether a link waits; None where it fails."""
         if self.pollfail:
             return None
         marks = ((end, [way for way in ways if self.can(end, way)]) for end, ways in wants)
-        return [(end, ways) for end, ways in marks if ways]
+        return [(end, ways) for end, ways in marks if ways], self.accepted < len(self.links)
 
     def accept(self):
         """Whether the next link is connected; "notyet" where none waits."""

@@ -106,8 +106,9 @@ class Relay:
         self.time = max(self.time, min(self.port.now(), LATEST))
         self.put("turn", self.time)
         self.pass_time()
-        marks = self.poll()
-        self.accept()
+        marks, waits = self.poll()
+        if waits:
+            self.accept()
         for end, ways in marks:
             self.serve(end, ways)
         self.dispatch()
@@ -160,12 +161,12 @@ class Relay:
         wants = [(end, self.wants(end)) for end, _ in self.live()]
         wants = [(end, ways) for end, ways in wants if ways]
         self.put_ways("want", wants)
-        marks = self.port.poll(wants)
-        if marks is None:
+        polled = self.port.poll(wants)
+        if polled is None:
             self.put("pollfail")
             raise Cut("poll fault")
-        self.put_ways("ready", marks)
-        return marks
+        self.put_ways("ready", polled[0])
+        return polled
 
     def put_ways(self, name, ends):
         for end, ways in ends:
