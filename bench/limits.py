@@ -3,9 +3,10 @@
 
     bench/limits.py [--group] [--ticks N] [PROGRAM]
 
-A side of rate r and burst b moves at most b + r * ticks bytes between two turns. It has r as it opens and b after a rest, and from then on a turn
-each k ticks moves the lesser of b and k * r. Each run goes on for N ticks (1,000), reading at In and again writing at Out. With --group 64 links
-share one limit at In: all of them together move at most its least share - 1 more. It ends with 1 where a figure isn't as it should be."""
+A side of rate r and burst b moves at most b + r * ticks bytes between two turns. It has r as it opens and b after a rest, and from then
+on a turn each k ticks moves the lesser of b and k * r. Each run goes on for N ticks (1,000), reading at In and again writing at Out.
+With --group 64 links share one limit at In: all of them together move at most its least share - 1 more. It ends with 1 where a figure
+isn't as it should be."""
 import argparse
 import subprocess
 import sys
@@ -71,7 +72,8 @@ def side(program, run, way, ticks):
     bound = burst + rate * span
     by_tick = [sum(went[at : at + turns]) for at in range(1, len(went), turns)]
     good = sum(went) == owed and owed <= bound and set(by_tick) == {each}
-    print(f"{way:<6} {what:<42} {rate:>6} {burst:>6} {span:>6} {sum(went):>9} {owed:>9} {bound:>9} {min(by_tick):>7}{'' if good else '  NOT SO'}")
+    figures = f"{rate:>6} {burst:>6} {span:>6} {sum(went):>9} {owed:>9} {bound:>9} {min(by_tick):>7}"
+    print(f"{way:<6} {what:<42} {figures}{'' if good else '  NOT SO'}")
     return good
 
 
@@ -85,7 +87,8 @@ def group(program, ticks):
     each = [sum(turn[str(link)] for turn in turns) for link in range(links)]
     bound = burst + rate * ticks + share - 1
     good = rate * ticks <= sum(went) <= bound
-    print(f"64 members, rate {rate}, burst {burst}, least share {share}, {ticks} ticks: {sum(went)} bytes, at most {bound}; a member {min(each)} to {max(each)}")
+    print(f"{links} members, rate {rate}, burst {burst}, least share {share}, {ticks} ticks:")
+    print(f"{sum(went)} bytes, at most {bound}; a member {min(each)} to {max(each)}{'' if good else '  NOT SO'}")
     return good
 
 

@@ -40,8 +40,8 @@ def play(text):
 
 
 def failing(text):
-    """The run over the script's port; then for each kind of call and each k of 1 to 4 how the run ends whose k-th such call fails, with its trace and
-    report where that call is made."""
+    """The run over the script's port; then for each kind of call and each k of 1 to 4 how the run ends whose k-th such call fails,
+    with its trace and report where that call is made."""
     script = read_script(text)
     yield f"== no call fails\n{text_of(run(script)[0])}"
     for kind in ("poll", "accept", "connect_state", "read", "write"):
