@@ -48,9 +48,9 @@ class Tried:
     def run(self, text, nth):
         refuse = ["--fail-alloc", str(nth)] if nth else []
         ran = subprocess.run(["rt", "try", *refuse, "--", "relay"], input=text, capture_output=True, cwd=HERE.parent / "crates/evplay")
-        out, _, verdict = ran.stdout.rpartition(b"checked: ")
-        status = int(verdict.split(b"status=")[1].split()[0])
-        return status, out, ran.stderr.decode(), True
+        said = ran.stderr.decode()
+        status = said.partition("checked: ended status=")[2].split()
+        return int(status[0]) if status else None, ran.stdout, said, True
 
 
 def spans(numbers):

@@ -72,10 +72,6 @@ def pair(end):
     return (end[0], "out" if end[1] == "in" else "in")
 
 
-def number(end):
-    return 2 * end[0] + SIDES.index(end[1])
-
-
 class Relay:
     def __init__(self, script, port):
         self.settings, self.port, self.trace = script.settings, port, []
