@@ -1,0 +1,111 @@
+"""What a script answers to the calls of the relay, and a port whose k-th call of a kind fails."""
+from collections import defaultdict
+
+
+
+class ScriptPort:
+    def __init__(self, turns):
+        self.turns, self.last, self.links = list(turns), 0, []
+        self.pending, self.room = defaultdict(bytearray), defaultdict(int)
+        self.over, self.wfail, self.decided = {}, set(), {}
+        self.undecided, self.spur, self.pollfail, self.accepted = set(), set(), False, 0
+
+    def now(self):
+        self.spur, self.pollfail = set(), False
+        if self.turns:
+            self.last, lines = self.turns.pop(0)
+            for line in lines:
+                self.apply(*line)
+        return self.last
+
+    def apply(self, name, end=None, value=None):
+        if name == "open":
+            if end:
+                self.undecided.add((len(self.links), "out"))
+            self.links.append(end is None)
+        elif name == "conn":
+            self.decided.setdefault((end, "out"), value)
+        elif name == "r":
+            self.pending[end] += value
+        elif name == "w":
+            self.room[end] += float("inf") if value is None else value
+        elif name in ("eof", "rfail") and self.over.get(end) != "fail":
+            self.over[end] = "end" if name == "eof" else "fail"
+        elif name == "wfail":
+            self.wfail.add(end)
+        elif name == "spur":
+            self.spur.add(end)
+        elif name == "pollfail":
+            self.pollfail = True
+
+    def can(self, end, way):
+        if end in self.spur:
+            return True
+        if way == "read":
+            return bool(self.pending[end]) or end in self.over
+        if end in self.undecided:
+            return end in self.decided
+        return self.room[end] > 0 or end in self.wfail
+
+    def poll(self, wants):
+        """The marks among these wants, and whether a link waits; None where it fails."""
+        if self.pollfail:
+            return None
+        marks = ((end, [way for way in ways if self.can(end, way)]) for end, ways in wants)
+        return [(end, ways) for end, ways in marks if ways], self.accepted < len(self.links)
+
+    def accept(self):
+        """Whether the next link is connected; "notyet" where none waits."""
+        if self.accepted == len(self.links):
+            return "notyet"
+        self.accepted += 1
+        return self.links[self.accepted - 1]
+
+    def connect_state(self, end):
+        if end not in self.decided:
+            return "wait"
+        if not self.decided[end]:
+            return "fail"
+        self.undecided.discard(end)
+        return "ok"
+
+    def read(self, end, room):
+        got = bytes(self.pending[end][:room])
+        del self.pending[end][:room]
+        return got or self.over.get(end, "notyet")
+
+    def write(self, end, data):
+        took = data[: int(min(len(data), self.room[end]))]
+        self.room[end] -= len(took)
+        return took or ("fail" if end in self.wfail else "notyet")
+
+
+class FailPort:
+    """The k-th call of one kind fails, and the port inside hears nothing of it."""
+
+    def __init__(self, inner, kind, k):
+        self.inner, self.kind, self.left = inner, kind, k
+
+    def now(self):
+        return self.inner.now()
+
+    def call(self, kind, *values):
+        self.left -= kind == self.kind
+        if kind == self.kind and self.left == 0:
+            return None if kind == "poll" else "fail"
+        return getattr(self.inner, kind)(*values)
+
+    def poll(self, wants):
+        return self.call("poll", wants)
+
+    def accept(self):
+        return self.call("accept")
+
+    def connect_state(self, end):
+        return self.call("connect_state", end)
+
+    def read(self, end, room):
+        return self.call("read", end, room)
+
+    def write(self, end, data):
+        return self.call("write", end, data)
