@@ -2,7 +2,7 @@
 use Rattle.std.proofs.Common.{◌≡◌, ◌≢◌, ◌≤◌, ◌<◌, ℕ, zero, suc, Bool, true, false, Result, Ok, Err, MatchResult, if◌then◌else◌, List, []}
 use Rattle.std.proofs.Common.{◌∷◌, slice_index_or, Option, Some, None, option_map, length, nat_eq, refl, sym, ◌∙◌, ap, subst, arith}
 use Rattle.std.proofs.lemmas.List.Elements.{All-set, All-head, All-tail, All-nil, All-cons, All-append}
-use Rattle.std.specs.Prelude.{slice_set, map}
+use Rattle.std.specs.Prelude.{slice_set, map, IfSome}
 use Rattle.std.specs.List.{All}
 use Rattle.std.specs.Map.{remove_entry}
 use Rattle.std.specs.Option.{option_map_or}
@@ -12,6 +12,7 @@ use Rattle.token_bucket.specs.declared.limit.LimitCfg.{LimitCfg}
 use Rattle.ev_types.specs.declared.side.SideId.{SideId}
 use Rattle.ev_types.specs.Sides.{number, peer}
 use Rattle.ev_types.specs.declared.settings.Settings.{Settings}
+use Rattle.rate_group.specs.declared.group_set.GroupSet.{GroupSet}
 use Rattle.rate_group.specs.GroupValue.{GroupValue, GroupsValue, GroupsKept}
 use Rattle.rate_group.specs.GroupsCalls.{no_groups}
 use Rattle.rate_group.specs.Steps.{changed_at, spent_in, refilled_to, spent, left, group_of, all_refilled}
@@ -28,6 +29,7 @@ use Rattle.relay_sides.specs.Links.{Links, change_side, opening_side, with_link}
 use Rattle.relay_sides.specs.declared.opening.NewSide.{NewSide}
 use Rattle.relay_core.specs.RelayValue.{RelayValue}
 use Rattle.relay_core.specs.RelayView.{state_with, relay_of, AreSound, HasGroups, IsSound, IsSoundSide}
+use Rattle.relay_core.specs.Given.{group_given}
 use Rattle.relay_core.specs.Rateless.{HasNoRates}
 use Rattle.relay_core.specs.SettingsView.{near_of, far_of}
 use Rattle.relay_core.specs.declared.ctl.Ctl.TheInside.{Inside}
@@ -187,23 +189,37 @@ pub left_sound : (r : Inside) (x : GroupsKept) (member : ℕ) → HasGroups r �
     HasGroups (record r { groups = x })
 left_sound r x member h is = groups_sound r x h (ap (λ (z : GroupsValue). length z.groups) is) (λ e. is ∙ ap (left member) e)
 
+absent-stays : (member : ℕ) (es : List (ℕ × ℕ)) → group_of member es ≡ None → remove_entry (nat_eq member) es ≡ es
+absent-stays member [] e = refl
+absent-stays member (y ∷ es) e = at (absent-stays member es) (nat_eq member y.0) e
+  where
+    at : (group_of member es ≡ None → remove_entry (nat_eq member) es ≡ es) → (b : Bool) →
+        (if b then Some y.1 else group_of member es) ≡ None → (if b then es else y ∷ remove_entry (nat_eq member) es) ≡ y ∷ es
+    at rest true p = absurd (cc p)
+    at rest false p = ap (λ z. y ∷ z) (rest p)
+
+-- Where no group is set none was given, and no side of a new link joins one.
+pub given-none : (xs : List GroupSet) → map group_given xs ≡ [] → xs ≡ []
+given-none [] h = refl
+given-none (x ∷ xs) h = absurd (cc h)
+
+below-none : (o : Option ℕ) (xs : List GroupSet) → IfSome o (λ n. n < length xs) → xs ≡ [] → o ≡ None
+below-none None xs h e = refl
+below-none (Some n) xs h e = absurd (let none = ap length e in omega (arith, h, none))
+
+pub joins-none : (r : Inside) → HasGroups r → r.given.groups.items ≡ [] → (r.given.in_group ≡ None) × (r.given.out_group ≡ None)
+joins-none r h e = (below-none r.given.in_group r.given.groups.items h.in_group e, below-none r.given.out_group r.given.groups.items h.out_group e)
+
 -- who is in no group leaves none
 pub left-none : (member : ℕ) (x : GroupsValue) → group_of member x.members ≡ None → left member x ≡ x
-left-none member x h = ap (λ (z : List (ℕ × ℕ)). record x { members = z }) (go x.members h)
-  where
-    go : (es : List (ℕ × ℕ)) → group_of member es ≡ None → remove_entry (nat_eq member) es ≡ es
-    go [] e = refl
-    go (y ∷ es) e = at (nat_eq member y.0) e
-      where
-        at : (b : Bool) → (if b then Some y.1 else group_of member es) ≡ None → (if b then es else y ∷ remove_entry (nat_eq member) es) ≡ y ∷ es
-        at true p = absurd (cc p)
-        at false p = ap (λ z. y ∷ z) (go es p)
+left-none member x h = ap (λ (z : List (ℕ × ℕ)). record x { members = z }) (absent-stays member x.members h)
 
 -- nothing limits what sides move, as it is kept
 pub rateless : (r : Inside) → IsSound r → r.untimed ≡ true → HasNoRates (state_with r r.sides.links)
 rateless r sound e = record {
   limits = λ x. ((sound_at r.time r.untimed r.sides.links.sides sound.timed.sides (number x)).2 e).2;
   groups = sound.grouped.none (sound.grouped.untimed e);
+  none = ap (map group_given) (sound.grouped.untimed e);
 }
 
 module _ (v : RelayValue) (r : Inside) (is : relay_of r ≡ v) where

@@ -1,7 +1,7 @@
 // What limits and groups leave to sides, and what they lose as bytes are moved.
-ghost use Rattle.std.specs.Prelude.{◌≡◌, ◌<◌, ◌≤◌, ◌+◌, OnErr};
+ghost use Rattle.std.specs.Prelude.{◌≡◌, ◌<◌, ◌≤◌, ◌+◌, length, IfSome};
 ghost use Rattle.ev_types.specs.Sides.{number};
-ghost use Rattle.rate_group.specs.Steps.{spent};
+ghost use Rattle.rate_group.specs.Steps.{share_in, spent};
 ghost use Rattle.relay_model.specs.Rooms.{at_most};
 ghost use Rattle.relay_state.specs.Opening.{joined_where};
 ghost use Rattle.relay_state.specs.Rooms.{allowance, share, within_rates};
