@@ -81,6 +81,6 @@ pub gains-alike : (s : State) (n : ℕ) (xs : List GroupValue) →
 gains-alike s n [] = refl
 gains-alike s n (x ∷ xs) = ap (λ z. gains.gain_of s.plain.time (count_in n s.groups.members) x ++ z) (gains-alike s (n + 1) xs)
 
-pub first-earliest : (xs : List ℕ) → gains.first_of xs ≡ earliest xs
+pub first-earliest : (xs : List ℕ) → gains.first_moment xs ≡ earliest xs
 first-earliest [] = refl
 first-earliest (x ∷ xs) = refl

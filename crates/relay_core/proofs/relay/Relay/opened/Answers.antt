@@ -16,5 +16,5 @@ returns-clause-pairs c =
       lanes = pairs.lanes;
       gauges = pairs.gauges;
       groupless = λ e. grouped.none (given-none r.given.groups.items e);
-      joins = λ e. joins-none r grouped (given-none r.given.groups.items e);
+      joins = λ e. joins-none r.given r.untimed r.groups.value grouped (given-none r.given.groups.items e);
     })
