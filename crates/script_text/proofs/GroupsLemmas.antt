@@ -43,7 +43,8 @@ SetsInRange _ = Unit {0}
 number_within-most : (most : ℕ) (word : List ℕ) → IfSome (number_within most word) (λ n. n ≤ most)
 number_within-most most word = go (is_numeral word && nat_le (value_of word) most) refl
   where
-    go : (b : Bool) → (is_numeral word && nat_le (value_of word) most) ≡ b → IfSome (if b then Some (value_of word) else None) (λ n. n ≤ most)
+    go : (b : Bool) → (is_numeral word && nat_le (value_of word) most) ≡ b →
+        IfSome (if b then Some (value_of word) else None) (λ n. n ≤ most)
     go true h = leb-true (value_of word) most (and_parts (is_numeral word) (nat_le (value_of word) most) h).1
     go false h = tt
 

@@ -54,7 +54,8 @@ module _ (P : Line → Type 0) (sets : (named : SettingName) (ws : List (List �
   said_by-each keyword.Eof (link ∷ side ∷ []) = of_end-each (λ e. turn.Eof e) link side
   said_by-each keyword.ReadFail (link ∷ side ∷ []) = of_end-each (λ e. turn.ReadFail e) link side
   said_by-each keyword.Take (link ∷ side ∷ count ∷ []) =
-      some-then P (λ more. of_end (λ e. turn.Take e more) link side) (λ more. of_end-each (λ e. turn.Take e more) link side) (more_of count)
+      some-then P (λ more. of_end (λ e. turn.Take e more) link side) (λ more. of_end-each (λ e. turn.Take e more) link side)
+      (more_of count)
   said_by-each keyword.WriteFail (link ∷ side ∷ []) = of_end-each (λ e. turn.WriteFail e) link side
   said_by-each keyword.Spur (link ∷ side ∷ []) = of_end-each (λ e. turn.Spur e) link side
   said_by-each keyword.PollFail [] = within turn.PollFail
@@ -63,7 +64,8 @@ module _ (P : Line → Type 0) (sets : (named : SettingName) (ws : List (List �
       some-then P _ (λ kind.
       some-then P _ (λ n.
       some-then P (λ ask. Some (line.Plan end (let item : PlanLine = record { why = kind; nth = n; act = ask } in item)))
-      (λ ask. plans end (record { why = kind; nth = n; act = ask })) (planned_ask act)) (nth_of nth)) (why_kind_of why)) (hooked_of link side)
+      (λ ask. plans end (record { why = kind; nth = n; act = ask })) (planned_ask act)) (nth_of nth)) (why_kind_of why))
+      (hooked_of link side)
   said_by-each _ _ = tt
 
   pub said-each : (ws : List (List ℕ)) → IfSome (said ws) P
@@ -73,10 +75,12 @@ module _ (P : Line → Type 0) (sets : (named : SettingName) (ws : List (List �
       (some-then P (λ k. said_by k more) (λ k. said_by-each k more) (keyword_of first))
 
 -- What each line that is said keeps, a text keeps from its first line to its last.
-module _ (P : SoFar → Type 0) (keeps : (s : SoFar) (ws : List (List ℕ)) (x : Line) → said ws ≡ Some x → P s → IfSome (extended s x) P) where
+module _ (P : SoFar → Type 0)
+    (keeps : (s : SoFar) (ws : List (List ℕ)) (x : Line) → said ws ≡ Some x → P s → IfSome (extended s x) P) where
   line_read-keeps : (s : SoFar) (text : List ℕ) → P s → IfSome (line_read s text) P
   line_read-keeps s text k =
-      some-if P (list_all is_plain text) (option_and_then (λ what. extended s what) (said (words text))) None (go (said (words text)) refl) tt
+      some-if P (list_all is_plain text) (option_and_then (λ what. extended s what) (said (words text))) None
+      (go (said (words text)) refl) tt
     where
       go : (o : Option Line) → said (words text) ≡ o → IfSome (option_and_then (λ what. extended s what) o) P
       go None is = tt
@@ -93,8 +97,8 @@ module _ (P : SoFar → Type 0) (keeps : (s : SoFar) (ws : List (List ℕ)) (x :
       go rest (Some longer) kept on = rest longer kept on
 
   -- so the script of a text is one that keeps it
-  pub script_of-keeps : P no_line → (Q : ScriptValue → Type 0) → ((s : SoFar) → P s → Q (whole s)) → (text : List ℕ) (script : ScriptValue) →
-      script_of text ≡ Ok script → Q script
+  pub script_of-keeps : P no_line → (Q : ScriptValue → Type 0) → ((s : SoFar) → P s → Q (whole s)) →
+      (text : List ℕ) (script : ScriptValue) → script_of text ≡ Ok script → Q script
   script_of-keeps start Q ends text script spelled =
       let r = script_of-read text script spelled in
       subst Q r.is (ends r.so_far (lines_read-keeps (lines text) no_line r.so_far 0 start r.read))
