@@ -1,6 +1,6 @@
 -- Turns in a row: none, one more, and one that is cut off.
 use Rattle.std.proofs.Common.{◌≡◌, ◌≢◌, ◌⊎◌, inl, inr, ℕ, ◌+◌, ◌-◌, ◌^◌, min, Bool, true, false, List, [], ◌++◌, refl, sym, ◌∙◌, ap, subst}
-use Rattle.std.proofs.Common.{append-nil, count_by, arith, Result, Err, Option, None}
+use Rattle.std.proofs.Common.{append-nil, count_by, arith, Result, Err, Option, None, map}
 use Rattle.std.specs.Prelude.{⊤}
 use Rattle.ev_types.specs.declared.plan_line.PlanLine.{PlanLine}
 use Rattle.ev_types.specs.declared.side.SideId.{SideId}
@@ -16,8 +16,10 @@ use Rattle.relay_model.specs.Stages.{Stage}
 use Rattle.relay_model.specs.Tied.{IsTied}
 use Rattle.relay_model.proofs.TiedLemmas.{nothing_is_tied}
 use Rattle.ev_types.specs.declared.settings.Settings as code
-use Rattle.relay_state.specs.State.{State}
-use Rattle.relay_steps.specs.Meaning.{IsBuilt, StandsFor, LeftFor}
+use Rattle.relay_state.specs.State.{State, new_state}
+use Rattle.relay_core.specs.GivenGroups.{group_given}
+use Rattle.relay_core.specs.declared.rate_groups.RateGroups.{RateGroups}
+use Rattle.relay_steps.specs.Meaning.{HasItsGroups, StandsFor, LeftFor}
 use Rattle.relay_laws.specs.Relayed.{StoodBetween}
 use Rattle.relay_laws.specs.TurnEnds.{AtTurnEnds}
 use Rattle.relay_laws.proofs.LawLemmas.{new_relay_stands}
@@ -40,19 +42,28 @@ use Rattle.program_end.proofs.PlannedLemmas.{all_told-none, all_told-more, all_t
 use Rattle.program_end.proofs.TurnCountLemmas.{BeginsOnce, count-append}
 use Rattle.relay_serve.specs.Seen.{Seen, seen}
 use Rattle.relay_serve.specs.Served.{turns_told, AskedByPlans}
-use Rattle.relay_serve.specs.Underway.{TurnsWent, TurnsEnd, TurnsCut}
+use Rattle.relay_serve.specs.Underway.{TurnsWent, TurnsEnd, TurnsCut, groupless_drive}
 use Rattle.relay_serve.specs.declared.run.ServeEnd.TheVariants as serve_end
 
 -- no group is set in what words set
-pub built : (g : code.Settings) (hooks : List SideId) → IsBuilt (settings_with g hooks)
-built g hooks = record { in_group = refl; out_group = refl; groups = refl }
+pub built : (g : code.Settings) (hooks : List SideId) → HasItsGroups (settings_with g hooks)
+built g hooks = record { in_group = tt; out_group = tt; shares = tt }
+
+-- a new drive that is given no groups
+pub none-given : (g : code.Settings) (x : RateGroups) (hooks : List SideId) → x.groups.items ≡ [] → x.in_group ≡ None → x.out_group ≡ None →
+    new_drive g x hooks ≡ groupless_drive g hooks
+none-given g x hooks groups near far = λ i. record {
+  state = new_state (record (settings_with g hooks) { groups = map group_given (groups i); in_group = near i; out_group = far i });
+  entries = 0;
+  kept = None;
+}
 
 -- a drive went so, stands for what its turns put, and so many turns are told of
 abbrev pub Standing : Settings → Seen → Seen → DriveValue → ℕ → Type 0
 Standing g old new d turns = (w : TurnsWent g StandsBetween false old new d.state) × DriveStands w.added d × (turns ≡ turns_told w.added)
 
 -- before the first turn
-stands-new : (g : code.Settings) (hooks : List SideId) (old : Seen) → Standing (settings_with g hooks) old old (new_drive g hooks) 0
+stands-new : (g : code.Settings) (hooks : List SideId) (old : Seen) → Standing (settings_with g hooks) old old (groupless_drive g hooks) 0
 stands-new g hooks old = (
   record {
     added = [];
@@ -74,7 +85,7 @@ AllTold tells first hooks gone t = (plan : SideId → List PlanLine) → HavePla
 -- before the first turn, with hooks of which none was called
 pub begins : {H : Type 0} (tells : Telling H) (hooks gone : List (Option H)) (g : code.Settings) (sides : List SideId) (old : Seen) →
     AreFresh hooks gone →
-    (stood : Standing (settings_with g sides) old old (new_drive g sides) 0) × AllTold tells hooks hooks gone stood.0.added
+    (stood : Standing (settings_with g sides) old old (groupless_drive g sides) 0) × AllTold tells hooks hooks gone stood.0.added
 unfolding stands-new
 begins tells hooks gone g sides old fresh =
     (stands-new g sides old, (λ plan have. all_told-none tells plan hooks gone fresh have))
