@@ -35,6 +35,7 @@ use Rattle.relay_model.specs.Plain.{all_sides}
 use Rattle.relay_model.specs.Reasons.{has_hook, raise, happened, timeout_flag, end_flag, error_flag}
 use Rattle.relay_model.specs.Rooms.{is_connecting}
 use Rattle.relay_model.specs.Turn.{turned_to}
+use Rattle.rate_group.specs.Steps.{all_refilled}
 use Rattle.relay_state.specs.Asking.{asked, dispatching, left_to_fire, AsksAll, Fires, FiresSome, Dispatches, StopsAt}
 use Rattle.relay_state.specs.Closing.{in_side, out_side, closing_entry, freed}
 use Rattle.relay_state.specs.Opening.{after_opened}
@@ -242,8 +243,10 @@ ages-taken s ms =
 
 aged-begun : (s : State) (ms : ℕ) → Aged s (begun s ms)
 aged-begun s ms =
-    let at_time : State = with_plain (timers_taken s.settings (turned_to ms s.plain)) s in
-    aged-then (aged-plain s _ (ages-taken s ms))
+    let refilled : State = record s { groups = all_refilled ms s.groups } in
+    let at_time : State = with_plain (timers_taken s.settings (turned_to ms s.plain)) refilled in
+    let here : Aged s at_time = record { settings = refl; plain = ages-taken s ms; batch = λ h. h } in
+    aged-then here
     (aged-fold side_timed (λ z e. aged-fold (timed e) (λ y d. aged-timed y e d) z both_ways) at_time (all_sides at_time.plain))
 
 -- Asks
@@ -260,8 +263,8 @@ aged-asked (act.Marks e d low high) s = aged-plain s _ (ages-side e _ s.plain (�
 aged-asked (act.Timeouts e r w) s = aged-plain s _ (ages-side e _ s.plain (λ h. h))
 aged-asked (act.Rate e cfg) s =
     record { settings = refl; plain = ages-side e _ s.plain (λ h. h); batch = λ h. h }
-aged-asked (act.Join e n) s = aged-plain s _ (ages-side e _ s.plain (λ h. h))
-aged-asked (act.Leave e) s = aged-plain s _ (ages-side e _ s.plain (λ h. h))
+aged-asked (act.Join e n) s = record { settings = refl; plain = ages-side e _ s.plain (λ h. h); batch = λ h. h }
+aged-asked (act.Leave e) s = record { settings = refl; plain = ages-side e _ s.plain (λ h. h); batch = λ h. h }
 aged-asked (act.Trigger e dir.Read) s = aged-raise_read s e
 aged-asked (act.Trigger e dir.Write) s = aged-raise_write s e
 aged-asked (act.Timer e delay) s = aged-plain s _ (ages-like s.plain _ refl refl)

@@ -27,6 +27,7 @@ pub mod MeantDispatch
 pub mod MeantTurn
 pub mod WentLemmas
 pub mod OtherLinks
+pub mod FoundLemmas
 pub mod FreedStays
 pub mod AskedLinks
 pub mod SeatLemmas

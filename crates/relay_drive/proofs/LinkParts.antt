@@ -31,7 +31,7 @@ use Rattle.relay_drive.specs.ClosePhase.{Closes, LooksAt, ClosesLink}
 use Rattle.relay_sides.specs.Links as links
 use Rattle.relay_sides.specs.Links.{Links}
 use Rattle.relay_drive.specs.Links.{HasPairs, IsStillFrom, IsStill, IsUncalled, IsSettled, has_spent_count_from, has_spent_count}
-pub use Rattle.relay_drive.proofs.OtherLinks.{wants-same, open-same, far-same, still-same, settled-same}
+pub use Rattle.relay_drive.proofs.FoundLemmas.{wants-same, open-same, far-same, still-same, settled-same}
 use Rattle.relay_drive.proofs.EachLemmas.{nothing_then, then_as, each_push, links_from-push}
 
 -- Links for which there is nothing to do

@@ -1,5 +1,5 @@
 use Rattle.std.proofs.Common.{◌≡◌, false, ◌<◌, refl, ◌∙◌, arith}
-use Rattle.relay_drive.proofs.AgendaLemmas.{up-all, untold-next}
+use Rattle.relay_drive.proofs.AgendaLemmas.{up-all, untold-next, named-may_be}
 use Rattle.relay_drive.proofs.TableLemmas.{named-wanted, named-next, named-lengthened}
 use Rattle.relay_drive.proofs.poll.name_wants.Goals as goal
 
@@ -36,3 +36,10 @@ returns-clause-named c =
     let out = up-all (λ k. c.loop-link.agenda.to_name.has k ≡ false) c.loop-link.from s.plain.opened (λ k lt. inv.past k (omega arith) lt)
     (λ k le lt. c.in_default.ensures k le (omega (arith, lt, c.opened.ensures.count))) in
     named-wanted c.loop-link.wants s inv.links (λ k lt. let right = inv.named k lt (out k lt) in (right.1, right.2))
+
+pub returns-clause-right : goal.returns-clause-right
+returns-clause-right c =
+    let inv = c.loop-link.invariant in
+    let s = c.args.relay.now.state in
+    named-may_be c.loop-link.agenda c.loop-link.wants s c.opened.ensures.pairs.groupless
+    (record { links = omega (arith, inv.links); named = inv.named })
