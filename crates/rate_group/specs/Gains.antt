@@ -32,6 +32,6 @@ group_gains time n members [] = []
 group_gains time n members (x ∷ xs) = gain_of time (count_in n members) x ++ group_gains time (n + 1) members xs
 
 -- the first of some moments
-abbrev pub first_of : List ℕ → Option ℕ
-first_of [] = None
-first_of (x ∷ xs) = Some (least_with x xs)
+abbrev pub first_moment : List ℕ → Option ℕ
+first_moment [] = None
+first_moment (x ∷ xs) = Some (least_with x xs)

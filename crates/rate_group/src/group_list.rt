@@ -2,7 +2,7 @@
 ghost use Rattle.std.specs.Prelude.{◌≡◌, ◌≤◌, ◌<◌, ◌+◌, ◌-◌, ◌^◌, ◌++◌, ℕ, All, List, OnOk, OnErr, length, map, slice_index_or, slice_set};
 ghost use Rattle.std.specs.Option.{option_to_list};
 ghost use Rattle.rate_group.specs.GroupList.{group_values, counts_of, gains_counted, one_of, Counted, CountsMove, HasMember, IsWithinShare};
-ghost use Rattle.rate_group.specs.Gains.{first_of};
+ghost use Rattle.rate_group.specs.Gains.{first_moment};
 ghost use Rattle.rate_group.specs.Steps.{all_made, changed_at, spent_in, refilled_to};
 
 use crate::group::Group;
@@ -85,7 +85,7 @@ pub(crate) fn push_all(
 
 /// The earlier of two moments, where there are two.
 fn earlier(first: Option<u64>, other: Option<u64>) -> Option<u64>
-    ensures { result ≡ first_of (option_to_list first ++ option_to_list other) }
+    ensures { result ≡ first_moment (option_to_list first ++ option_to_list other) }
 {
     match (first, other) {
         (Some(a), Some(b)) => Some(a.min(b)),
@@ -97,7 +97,7 @@ fn earlier(first: Option<u64>, other: Option<u64>) -> Option<u64>
 /// When the first of the suspended groups with members gains again.
 pub(crate) fn first_gain(groups: &[Group], time: u64) -> Option<u64>
     requires { time ≤ 2 ^ 62 }
-    ensures { result ≡ first_of (gains_counted time groups.now) }
+    ensures { result ≡ first_moment (gains_counted time groups.now) }
 {
     let mut first = None;
     for group in groups {

@@ -2,7 +2,7 @@
 use Rattle.std.proofs.Common.{◌≡◌, ◌≢◌, ◌≤◌, ◌<◌, ℕ, zero, suc, Bool, true, false, Result, Ok, Err, MatchResult, if◌then◌else◌, List, []}
 use Rattle.std.proofs.Common.{◌∷◌, slice_index_or, Option, Some, None, option_map, length, nat_eq, refl, sym, ◌∙◌, ap, subst, arith}
 use Rattle.std.proofs.lemmas.List.Elements.{All-set, All-head, All-tail, All-nil, All-cons, All-append}
-use Rattle.std.specs.Prelude.{slice_set, map}
+use Rattle.std.specs.Prelude.{slice_set, map, min, ◌-◌, IfSome}
 use Rattle.std.specs.List.{All}
 use Rattle.std.specs.Map.{remove_entry}
 use Rattle.std.specs.Option.{option_map_or}
@@ -12,27 +12,35 @@ use Rattle.token_bucket.specs.declared.limit.LimitCfg.{LimitCfg}
 use Rattle.ev_types.specs.declared.side.SideId.{SideId}
 use Rattle.ev_types.specs.Sides.{number, peer}
 use Rattle.ev_types.specs.declared.settings.Settings.{Settings}
-use Rattle.rate_group.specs.GroupValue.{GroupValue, GroupsValue, GroupsKept}
+use Rattle.rate_group.specs.declared.group_set.GroupSet.{GroupSet}
+use Rattle.rate_group.specs.GroupValue.{GroupValue, GroupsValue}
 use Rattle.rate_group.specs.GroupsCalls.{no_groups}
-use Rattle.rate_group.specs.Steps.{changed_at, spent_in, refilled_to, spent, left, group_of, all_refilled}
+use Rattle.rate_group.specs.Steps.{changed_at, spent_in, refilled_to, spent, joined, left, group_of, all_refilled}
 use Rattle.relay_model.specs.Plain.{PlainSide, Standing, no_side, first_limit}
 use Rattle.relay_model.specs.Moments.{active_at}
 use Rattle.relay_state.specs.Running.{Gauge, no_gauge, gauge_after, gauge_begun, gauge_set}
-use Rattle.relay_state.specs.State.{State}
+use Rattle.relay_state.specs.State.{State, lane_at, lane_got, with_lane, with_plain}
+use Rattle.relay_model.specs.Rooms.{at_most, most_at_once, read_mark, may_read, may_write}
+use Rattle.relay_state.specs.Opening.{joined_where}
 use Rattle.relay_state.specs.Passage.{Passage, read_part}
+use Rattle.relay_state.specs.Rooms.{allowance, share, within_rates, read_room, write_room, waiting_for, input_length}
 use Rattle.relay_state.specs.Passing as state
 use Rattle.relay_state.specs.Passing.{with_bad, read_run}
-use Rattle.relay_state.specs.Serving.{with_got, with_taken}
+use Rattle.ev_types.specs.declared.answer.ReadAnswer.TheVariants as read
+use Rattle.relay_model.specs.Serve as model
 use Rattle.relay_sides.specs.Links as links
 use Rattle.relay_sides.specs.Links.{Links, change_side, opening_side, with_link}
 use Rattle.relay_sides.specs.declared.opening.NewSide.{NewSide}
+use Rattle.relay_sides.specs.Limits.{IsWithin}
 use Rattle.relay_core.specs.RelayValue.{RelayValue}
 use Rattle.relay_core.specs.RelayView.{state_with, relay_of, AreSound, HasGroups, IsSound, IsSoundSide}
+use Rattle.relay_core.specs.Given.{group_given}
 use Rattle.relay_core.specs.Rateless.{HasNoRates}
 use Rattle.relay_core.specs.SettingsView.{near_of, far_of}
 use Rattle.relay_core.specs.declared.ctl.Ctl.TheInside.{Inside}
+use Rattle.relay_core.specs.declared.rate_groups.RateGroups.{RateGroups}
 
-length-map : {A B : Type 0} (f : A → B) (xs : List A) → length (map f xs) ≡ length xs
+pub length-map : {A B : Type 0} (f : A → B) (xs : List A) → length (map f xs) ≡ length xs
 length-map f [] = refl
 length-map f (x ∷ xs) = ap suc (length-map f xs)
 
@@ -40,6 +48,33 @@ length-map f (x ∷ xs) = ap suc (length-map f xs)
 pub rates-fit : (b : Bool) (n : ℕ) → 0 < (if b then n else 0) → (b ≡ true) × (0 < n)
 rates-fit true n h = (refl, h)
 rates-fit false n h = absurd (omega (arith, h))
+
+-- what there is room for is within limit and share, and within what there is
+
+within-parts : (a b : Option ℕ) (k n : ℕ) → k ≤ at_most a (at_most b n) → IsWithin k a × IsWithin k b × (k ≤ n)
+within-parts None None k n h = (tt, tt, h)
+within-parts None (Some m) k n h = (tt, omega (arith, h), omega (arith, h))
+within-parts (Some j) None k n h = (omega (arith, h), tt, omega (arith, h))
+within-parts (Some j) (Some m) k n h = (omega (arith, h), omega (arith, h), omega (arith, h))
+
+within-nothing : (a : Option ℕ) → IsWithin 0 a
+within-nothing None = tt
+within-nothing (Some m) = omega arith
+
+room-parts : (b : Bool) (s : State) (e : SideId) (d : Dir) (k n : ℕ) → k ≤ (if b then within_rates s e d n else 0) →
+    IsWithin k (share s e d) × IsWithin k (allowance s e d) × (k ≤ n)
+room-parts true s e d k n h = within-parts (share s e d) (allowance s e d) k n h
+room-parts false s e d zero n h = (within-nothing (share s e d), within-nothing (allowance s e d), omega arith)
+room-parts false s e d (suc k) n h = absurd (omega (arith, h))
+
+pub read-within : (s : State) (e : SideId) (k : ℕ) → k ≤ read_room s e →
+    IsWithin k (share s e dir.Read) × IsWithin k (allowance s e dir.Read)
+read-within s e k h = let p = room-parts (may_read s.plain e) s e dir.Read k (min most_at_once (read_mark s.plain e - input_length s e)) h in (p.0, p.1)
+
+pub write-within : (s : State) (e : SideId) (k : ℕ) → k ≤ write_room s e →
+    IsWithin k (share s e dir.Write) × IsWithin k (allowance s e dir.Write) × (k ≤ length (waiting_for s e))
+write-within s e k h =
+    let p = room-parts (may_write s.plain e) s e dir.Write k (min most_at_once (length (waiting_for s e))) h in (p.0, p.1, omega (arith, p.2))
 
 -- what is so of each side
 
@@ -159,52 +194,96 @@ spent-many member d n x = go (group_of member x.members)
     go None = refl
     go (Some k) = length-changed k (spent_in d n) x.groups
 
+-- Where no group is set none was given, and no side of a new link joins one.
+pub given-none : (xs : List GroupSet) → map group_given xs ≡ [] → xs ≡ []
+given-none [] h = refl
+given-none (x ∷ xs) h = absurd (cc h)
+
+below-none : (o : Option ℕ) (xs : List GroupSet) → IfSome o (λ n. n < length xs) → xs ≡ [] → o ≡ None
+below-none None xs h e = refl
+below-none (Some n) xs h e = absurd (let none = ap length e in omega (arith, h, none))
+
+pub joins-none : (g : RateGroups) (u : Bool) (x : GroupsValue) → HasGroups g u x → g.groups.items ≡ [] → (g.in_group ≡ None) × (g.out_group ≡ None)
+joins-none g u x h e = (below-none g.in_group g.groups.items h.in_group e, below-none g.out_group g.groups.items h.out_group e)
+
 -- Groups that change so, and no more or fewer, are sound where they were.
-module _ (r : Inside) (x : GroupsKept) (h : HasGroups r) (many : length x.value.groups ≡ length r.groups.value.groups)
-    (none : r.groups.value ≡ no_groups → x.value ≡ no_groups) where
-  pub groups_sound : HasGroups (record r { groups = x })
-  groups_sound = record {
-    many = many ∙ h.many;
-    in_group = h.in_group;
-    out_group = h.out_group;
-    none = λ e. none (h.none e);
-    untimed = h.untimed;
-  }
+groups_sound : (g : RateGroups) (u : Bool) (x y : GroupsValue) → HasGroups g u x → length y.groups ≡ length x.groups →
+    (x ≡ no_groups → y ≡ no_groups) → HasGroups g u y
+groups_sound g u x y h many none = record {
+  many = many ∙ h.many;
+  in_group = h.in_group;
+  out_group = h.out_group;
+  none = λ e. none (h.none e);
+  untimed = h.untimed;
+}
 
-pub spent_sound : (r : Inside) (x : GroupsKept) (member : ℕ) (d : Dir) (n : ℕ) → HasGroups r → x.value ≡ spent member d n r.groups.value →
-    HasGroups (record r { groups = x })
-spent_sound r x member d n h is =
-    groups_sound r x h (ap (λ (z : GroupsValue). length z.groups) is ∙ spent-many member d n r.groups.value)
-    (λ e. is ∙ ap (spent member d n) e)
+pub spent_sound : (g : RateGroups) (u : Bool) (x y : GroupsValue) (member : ℕ) (d : Dir) (n : ℕ) → HasGroups g u x → y ≡ spent member d n x →
+    HasGroups g u y
+spent_sound g u x y member d n h is =
+    groups_sound g u x y h (ap (λ (z : GroupsValue). length z.groups) is ∙ spent-many member d n x) (λ e. is ∙ ap (spent member d n) e)
 
-pub refilled_sound : (r : Inside) (x : GroupsKept) (time : ℕ) → HasGroups r → x.value ≡ all_refilled time r.groups.value →
-    HasGroups (record r { groups = x })
-refilled_sound r x time h is =
-    groups_sound r x h (ap (λ (z : GroupsValue). length z.groups) is ∙ length-map (refilled_to time) r.groups.value.groups)
+-- sides of a new link join, In first
+pub opened_groups_sound : (g : RateGroups) (u : Bool) (x y z : GroupsValue) (a b : SideId) → HasGroups g u x →
+    y ≡ joined_where g.in_group a x → z ≡ joined_where g.out_group b y → HasGroups g u z
+opened_groups_sound g u x y z a b h first second = record {
+  many = ap (λ (w : GroupsValue). length w.groups) second ∙ joined-many g.out_group b y
+      ∙ ap (λ (w : GroupsValue). length w.groups) first ∙ joined-many g.in_group a x ∙ h.many;
+  in_group = h.in_group;
+  out_group = h.out_group;
+  none = λ e.
+      let joins = joins-none g u x h e in
+      second ∙ ap (λ o. joined_where o b y) joins.1 ∙ first ∙ ap (λ o. joined_where o a x) joins.0 ∙ h.none e;
+  untimed = h.untimed;
+}
+  where
+    joined-many : (o : Option ℕ) (e : SideId) (w : GroupsValue) → length (joined_where o e w).groups ≡ length w.groups
+    joined-many None e w = refl
+    joined-many (Some n) e w = refl
+
+-- who joins a group finds one
+pub asked_groups_sound : (g : RateGroups) (u : Bool) (x y : GroupsValue) (n member : ℕ) → HasGroups g u x → n < length g.groups.items →
+    y ≡ joined n member x → HasGroups g u y
+asked_groups_sound g u x y n member h below is = record {
+  many = ap (λ (w : GroupsValue). length w.groups) is ∙ h.many;
+  in_group = h.in_group;
+  out_group = h.out_group;
+  none = λ e. absurd (let none = ap length e in omega (arith, below, none));
+  untimed = h.untimed;
+}
+
+pub refilled_sound : (g : RateGroups) (u : Bool) (x y : GroupsValue) (time : ℕ) → HasGroups g u x → y ≡ all_refilled time x → HasGroups g u y
+refilled_sound g u x y time h is =
+    groups_sound g u x y h (ap (λ (z : GroupsValue). length z.groups) is ∙ length-map (refilled_to time) x.groups)
     (λ e. is ∙ ap (all_refilled time) e)
 
-pub left_sound : (r : Inside) (x : GroupsKept) (member : ℕ) → HasGroups r → x.value ≡ left member r.groups.value →
-    HasGroups (record r { groups = x })
-left_sound r x member h is = groups_sound r x h (ap (λ (z : GroupsValue). length z.groups) is) (λ e. is ∙ ap (left member) e)
+pub left_sound : (g : RateGroups) (u : Bool) (x y : GroupsValue) (member : ℕ) → HasGroups g u x → y ≡ left member x → HasGroups g u y
+left_sound g u x y member h is = groups_sound g u x y h (ap (λ (z : GroupsValue). length z.groups) is) (λ e. is ∙ ap (left member) e)
+
+absent-stays : (member : ℕ) (es : List (ℕ × ℕ)) → group_of member es ≡ None → remove_entry (nat_eq member) es ≡ es
+absent-stays member [] e = refl
+absent-stays member (y ∷ es) e = at (absent-stays member es) (nat_eq member y.0) e
+  where
+    at : (group_of member es ≡ None → remove_entry (nat_eq member) es ≡ es) → (b : Bool) →
+        (if b then Some y.1 else group_of member es) ≡ None → (if b then es else y ∷ remove_entry (nat_eq member) es) ≡ y ∷ es
+    at rest true p = absurd (cc p)
+    at rest false p = ap (λ z. y ∷ z) (rest p)
 
 -- who is in no group leaves none
 pub left-none : (member : ℕ) (x : GroupsValue) → group_of member x.members ≡ None → left member x ≡ x
-left-none member x h = ap (λ (z : List (ℕ × ℕ)). record x { members = z }) (go x.members h)
-  where
-    go : (es : List (ℕ × ℕ)) → group_of member es ≡ None → remove_entry (nat_eq member) es ≡ es
-    go [] e = refl
-    go (y ∷ es) e = at (nat_eq member y.0) e
-      where
-        at : (b : Bool) → (if b then Some y.1 else group_of member es) ≡ None → (if b then es else y ∷ remove_entry (nat_eq member) es) ≡ y ∷ es
-        at true p = absurd (cc p)
-        at false p = ap (λ z. y ∷ z) (go es p)
+left-none member x h = ap (λ (z : List (ℕ × ℕ)). record x { members = z }) (absent-stays member x.members h)
 
 -- nothing limits what sides move, as it is kept
 pub rateless : (r : Inside) → IsSound r → r.untimed ≡ true → HasNoRates (state_with r r.sides.links)
 rateless r sound e = record {
   limits = λ x. ((sound_at r.time r.untimed r.sides.links.sides sound.timed.sides (number x)).2 e).2;
   groups = sound.grouped.none (sound.grouped.untimed e);
+  none = ap (map group_given) (sound.grouped.untimed e);
 }
+
+-- bytes stand behind the raw input, and no bucket has lost them
+abbrev pub got_unspent : State → SideId → List ℕ → State
+got_unspent s e bytes =
+    with_lane e (lane_got bytes (lane_at s e)) (with_plain (model.after_read s.settings e (read.Got (length bytes)) s.plain) s)
 
 module _ (v : RelayValue) (r : Inside) (is : relay_of r ≡ v) where
   -- and as it is seen
@@ -216,23 +295,10 @@ module _ (v : RelayValue) (r : Inside) (is : relay_of r ≡ v) where
       state_with r (h r.sides.links) ≡ f (state_with r r.sides.links) → state_with r k ≡ f v.state
   carried k h f a b = ap (state_with r) a ∙ b ∙ ap (λ (z : RelayValue). f z.state) is
 
-  -- bytes were got, or taken, and spent before
-
-  pub got_seen : (k : Links) (x : GroupsKept) (e : SideId) (bytes : List ℕ) →
-      k ≡ links.after_got r.time e bytes (links.spent r.time e dir.Read (length bytes) r.sides.links) →
-      x.value ≡ spent (number e) dir.Read (length bytes) r.groups.value →
-      state_with (record r { groups = x }) k ≡ read_run e (with_got v.state e bytes)
-  got_seen k x e bytes a b =
-      (λ i. (let q : Inside = record r { groups = record x { value = b i } } in state_with q (a i)))
-      ∙ ap (λ (z : RelayValue). read_run e (with_got z.state e bytes)) is
-
-  pub taken_seen : (k : Links) (x : GroupsKept) (e : SideId) (n : ℕ) →
-      k ≡ links.after_took r.time e n (links.spent r.time e dir.Write n r.sides.links) →
-      x.value ≡ spent (number e) dir.Write n r.groups.value →
-      state_with (record r { groups = x }) k ≡ with_taken v.state e n
-  taken_seen k x e n a b =
-      (λ i. (let q : Inside = record r { groups = record x { value = b i } } in state_with q (a i)))
-      ∙ ap (λ (z : RelayValue). with_taken z.state e n) is
+  -- bytes were got that were spent before
+  pub got_seen : (k : Links) (e : SideId) (bytes : List ℕ) → k ≡ links.after_got r.time e bytes r.sides.links →
+      state_with r k ≡ read_run e (got_unspent v.state e bytes)
+  got_seen k e bytes a = carried k (links.after_got r.time e bytes) (λ z. read_run e (got_unspent z e bytes)) a refl
 
   -- passing
 

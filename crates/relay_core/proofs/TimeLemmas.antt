@@ -1,6 +1,6 @@
 -- Where nothing is timed, a turn begins with nothing but its time, and a poll waits for timers alone. Looking at sides opens no link.
 use Rattle.std.proofs.Common.{◌≡◌, ◌≢◌, ◌≤◌, ℕ, zero, suc, ◌==◌, ◌+◌, ◌<◌, ◌-◌, Bool, true, false, ◌&&◌, ◌||◌, nat_le, not, if◌then◌else◌, List, [], ◌∷◌, ◌++◌}
-use Rattle.std.proofs.Common.{length, map, slice_index_or, Option, Some, option_map, refl, sym, ◌∙◌, ap, arith, fold, append-nil, append_assoc}
+use Rattle.std.proofs.Common.{length, map, slice_index_or, Option, Some, option_map, refl, sym, ◌∙◌, ap, arith, fold, append-nil}
 use Rattle.std.specs.List.{list_any, flat_map}
 use Rattle.std.proofs.lemmas.Bool.{le-leb, lt-leb, eqb-true, eqb-false}
 use Rattle.token_bucket.specs.declared.limit.Dir.{Dir}
@@ -23,7 +23,7 @@ use Rattle.relay_state.specs.Time.{expiry, limit_gain, group_gains, moments, pol
 use Rattle.relay_core.specs.RelayView.{state_with, IsSound, IsSoundSide}
 use Rattle.rate_group.specs.GroupValue.{GroupsValue}
 use Rattle.relay_core.specs.Rateless.{HasNoRates}
-use Rattle.relay_core.specs.Waits.{wait_until, is_expired, expiries}
+use Rattle.relay_core.specs.Waits.{wait_until, is_expired}
 use Rattle.relay_core.specs.declared.ctl.Ctl.TheInside.{Inside}
 use Rattle.relay_core.proofs.RelayLemmas.{sound_at}
 

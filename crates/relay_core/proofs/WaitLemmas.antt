@@ -1,12 +1,15 @@
 -- The earliest of two lists of moments, one after the other, is the lesser of those of each.
-use Rattle.std.proofs.Common.{◌≡◌, ℕ, ◌-◌, min, List, [], ◌∷◌, ◌++◌, Option, Some, None, refl, sym, ◌∙◌, ap, arith, append-nil}
+use Rattle.std.proofs.Common.{◌≡◌, ℕ, ◌+◌, ◌-◌, min, List, [], ◌∷◌, ◌++◌, Option, Some, None, refl, sym, ◌∙◌, ap, arith, append-nil}
 use Rattle.std.specs.List.{flat_map}
 use Rattle.token_bucket.specs.declared.limit.Dir.TheVariants as dir
 use Rattle.ev_types.specs.declared.side.SideId.{SideId}
 use Rattle.token_bucket.specs.Spells.{least_with}
-use Rattle.relay_model.specs.Moments.{both_ways}
+use Rattle.rate_group.specs.GroupValue.{GroupValue}
+use Rattle.rate_group.specs.Gains as gains
+use Rattle.rate_group.specs.Steps.{count_in}
+use Rattle.relay_model.specs.Moments.{both_ways, earliest}
 use Rattle.relay_state.specs.State.{State}
-use Rattle.relay_state.specs.Time.{expiry}
+use Rattle.relay_state.specs.Time.{expiry, group_gains}
 use Rattle.relay_core.specs.Waits.{earlier, wait_until, expiries}
 
 least_with-min : (n m : ℕ) (xs : List ℕ) → least_with (min n m) xs ≡ min n (least_with m xs)
@@ -71,3 +74,13 @@ module _ (s : State) where
       earlier (earlier least (earlier (side_wait s a) (side_wait s b))) (wait_until s.plain.time (expiries s es))
       ≡ earlier least (wait_until s.plain.time (expiries s (a ∷ b ∷ es)))
   wait_more least a b es = waits_more (λ e. flat_map (expiry s e) both_ways) least a b es
+
+-- when groups gain again is told alike by what keeps them and by the state
+pub gains-alike : (s : State) (n : ℕ) (xs : List GroupValue) →
+    gains.group_gains s.plain.time n s.groups.members xs ≡ group_gains s n xs
+gains-alike s n [] = refl
+gains-alike s n (x ∷ xs) = ap (λ z. gains.gain_of s.plain.time (count_in n s.groups.members) x ++ z) (gains-alike s (n + 1) xs)
+
+pub first-earliest : (xs : List ℕ) → gains.first_moment xs ≡ earliest xs
+first-earliest [] = refl
+first-earliest (x ∷ xs) = refl

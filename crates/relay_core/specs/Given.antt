@@ -1,5 +1,5 @@
 -- What the relay is given of limits and groups, as the model's settings have it.
-use Rattle.std.specs.Prelude.{ℕ, ◌<◌, ◌≤◌, ◌^◌, length, map, List, IfSome}
+use Rattle.std.specs.Prelude.{◌<◌, ◌≤◌, ◌^◌, length, map, List, IfSome}
 use Rattle.std.specs.List.{All}
 use Rattle.ev_types.specs.declared.side.SideId.{SideId}
 use Rattle.ev_types.specs.declared.settings.Settings as code

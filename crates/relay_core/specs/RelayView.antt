@@ -4,6 +4,7 @@ use Rattle.std.specs.Prelude.{vec_len, vec_capacity, IfSome}
 use Rattle.std.specs.List.{All}
 use Rattle.ev_types.specs.Usual.{no_timeouts}
 use Rattle.ev_types.specs.declared.settings.Settings.{Settings}
+use Rattle.rate_group.specs.GroupValue.{GroupsValue}
 use Rattle.rate_group.specs.GroupsCalls.{no_groups}
 use Rattle.relay_model.specs.Plain.{PlainSide}
 use Rattle.relay_state.specs.Running.{Gauge}
@@ -15,6 +16,7 @@ use Rattle.relay_core.specs.Fires.{events_of}
 use Rattle.relay_core.specs.Given.{settings_given}
 use Rattle.relay_core.specs.RelayValue.{RelayValue}
 use Rattle.relay_core.specs.declared.ctl.Ctl.TheInside.{Inside}
+use Rattle.relay_core.specs.declared.rate_groups.RateGroups.{RateGroups}
 
 -- with these links, and this that waits
 abbrev pub state_over : Inside → Links → WaitsValue → State
@@ -80,17 +82,17 @@ pub record AreSound (g : Settings) (time : ℕ) (untimed : Bool) (k : Links) : T
 
 -- What is so of the groups: there are as many as were given, and the sides of a new link join one that there is. Where none was given,
 -- nobody is in one; and so it is where nothing is timed.
-pub record HasGroups (r : Inside) : Type 0 where
-  pub many : length r.groups.value.groups ≡ length r.given.groups.items
-  pub in_group : IfSome r.given.in_group (λ n. n < length r.given.groups.items)
-  pub out_group : IfSome r.given.out_group (λ n. n < length r.given.groups.items)
-  pub none : r.given.groups.items ≡ [] → r.groups.value ≡ no_groups
-  pub untimed : r.untimed ≡ true → r.given.groups.items ≡ []
+pub record HasGroups (given : RateGroups) (still : Bool) (x : GroupsValue) : Type 0 where
+  pub many : length x.groups ≡ length given.groups.items
+  pub in_group : IfSome given.in_group (λ n. n < length given.groups.items)
+  pub out_group : IfSome given.out_group (λ n. n < length given.groups.items)
+  pub none : given.groups.items ≡ [] → x ≡ no_groups
+  pub untimed : still ≡ true → given.groups.items ≡ []
 
 -- There is room for the events of all asks that the running hook may still make, and memory for the limits that it may set.
 pub record IsSound (r : Inside) : Type 0 where
   pub timed : AreSound r.settings r.time r.untimed r.sides.links
-  pub grouped : HasGroups r
+  pub grouped : HasGroups r.given r.untimed r.groups.value
   pub time : r.time ≤ 2 ^ 62
   pub few : r.asks ≤ 256
   pub room : vec_len r.log + 2 * (256 - r.asks) ≤ vec_capacity r.log

@@ -6,6 +6,7 @@ ghost use Rattle.relay_core.specs.Fires.{AsksOnce, FreeRecorded, answer_of};
 
 use crate::ctl::Ctl;
 use crate::fault::AskFault;
+use crate::rates::leave;
 use ev_types::{Act, AskAnswer, Cause, Entry, LimitCfg, SideId};
 use relay_sides::Dir;
 
@@ -129,8 +130,15 @@ impl Ctl {
         self.may_ask(Act::Rate(side, cfg))?;
         self.untimed = self.untimed && cfg.is_none();
         let spare = &mut self.spare_limits;
-        self.sides.set_limit(side, cfg, self.time, self.turns, spare);
-        self.record(Act::Rate(side, cfg), AskAnswer::Ok);
+        self.sides
+            .set_limit(side, cfg, self.time, self.turns, spare);
+        let asked = Entry::Asked {
+            side: self.me,
+            act: Act::Rate(side, cfg),
+            answer: AskAnswer::Ok,
+        };
+        self.log.push(asked).unwrap();
+        self.asks += 1;
         Ok(())
     }
 
@@ -162,7 +170,7 @@ impl Ctl {
         ensures { AsksOnce self.old (act.Leave side) (answer_of result) self.new }
     {
         self.may_ask(Act::Leave(side))?;
-        let _ = self.groups.leave(side.number() as u64);
+        leave(&mut self.groups, side);
         self.sides.set_group(side, None);
         self.record(Act::Leave(side), AskAnswer::Ok);
         Ok(())

@@ -7,8 +7,9 @@ ghost use Rattle.relay_state.specs.Closing.{freed};
 ghost use Rattle.relay_state.specs.Serving.{raise_read, raise_write};
 ghost use Rattle.relay_core.specs.Fires.{SameFire};
 
-use ev_types::{Entry, Settings, SideId, Why};
 use crate::rate_groups::RateGroups;
+use crate::rates::leave;
+use ev_types::{Entry, Settings, SideId, Why};
 use rate_group::Groups;
 use relay_sides::{Dir, Sides, SpareLimits};
 use relay_waits::Waits;
@@ -116,7 +117,7 @@ impl Ctl {
     {
         self.sides.free(side);
         self.waits.forget(side);
-        let _ = self.groups.leave(side.number() as u64);
+        leave(&mut self.groups, side);
     }
 
     /// A fire of a side's hook begins, in room that was made before.

@@ -59,7 +59,8 @@ impl Relay {
             side: Side::In,
         };
         ctl.asks = MOST_ASKS;
-        ctl.sides.open(near, far, ctl.time, ctl.turns, &mut ctl.spare_limits);
+        ctl.sides
+            .open(near, far, ctl.time, ctl.turns, &mut ctl.spare_limits);
         join_where(&mut ctl.groups, near.group, first);
         join_where(&mut ctl.groups, far.group, first.peer());
     }

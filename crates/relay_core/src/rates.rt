@@ -1,7 +1,7 @@
 // What limits and groups leave to sides, and what they lose as bytes are moved.
-ghost use Rattle.std.specs.Prelude.{◌≡◌, ◌<◌, ◌≤◌, ◌+◌, OnErr};
+ghost use Rattle.std.specs.Prelude.{◌≡◌, ◌<◌, ◌≤◌, ◌+◌, length, IfSome};
 ghost use Rattle.ev_types.specs.Sides.{number};
-ghost use Rattle.rate_group.specs.Steps.{spent};
+ghost use Rattle.rate_group.specs.Steps.{share_in, spent, left};
 ghost use Rattle.relay_model.specs.Rooms.{at_most};
 ghost use Rattle.relay_state.specs.Opening.{joined_where};
 ghost use Rattle.relay_state.specs.Rooms.{allowance, share, within_rates};
@@ -37,13 +37,20 @@ fn spend_share(groups: &mut Groups, side: u64, dir: Dir, count: u64)
 /// A side joins a group, in room that was made before, where there is one to join.
 pub(crate) fn join_where(groups: &mut Groups, group: Option<u32>, side: SideId)
     requires known { IfSome group (λ n. n < length groups.old.value.groups) }
-    requires room { 0 < groups.old.spare }
+    requires room { IfSome group (λ _. 0 < groups.old.spare) }
     ensures value { groups.new.value ≡ joined_where group side groups.old.value }
     ensures room { groups.old.spare ≤ groups.new.spare + 1 }
 {
     if let Some(group) = group {
         groups.change(group, side.number() as u64).unwrap();
     }
+}
+
+/// A side is in no group any more.
+pub(crate) fn leave(groups: &mut Groups, side: SideId)
+    ensures { groups.new.value ≡ left (number side) groups.old.value }
+{
+    let _ = groups.leave(side.number() as u64);
 }
 
 impl Ctl {
@@ -64,6 +71,7 @@ impl Ctl {
         ensures state { self.new.state
             ≡ (let s = self.old.state in record s { gauges = gauges_after side dir count s; groups = spent (number side) dir count s.groups }) }
         ensures fire { SameFire self.old self.new }
+        ensures reads { self.new.spare_reads ≡ self.old.spare_reads }
     {
         self.sides.spend(side, dir, count as u64, self.time);
         spend_share(&mut self.groups, side.number() as u64, dir, count as u64);

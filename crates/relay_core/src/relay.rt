@@ -1,5 +1,5 @@
 // The relay's state.
-ghost use Rattle.std.specs.Prelude.{◌≡◌, ◌<◌, ◌≤◌, ◌^◌, true, None, length, map, IfOk};
+ghost use Rattle.std.specs.Prelude.{◌≡◌, ◌<◌, ◌≤◌, ◌^◌, true, None, [], length, map, IfOk};
 ghost use Rattle.std.specs.List.{All};
 ghost use Rattle.ev_types.specs.Usual.{no_timeouts};
 ghost use Rattle.relay_state.specs.State.{new_state, new_groups};
@@ -33,15 +33,17 @@ impl Model for Relay {
     ghost view = { λ r. r.ctl };
 }
 
-/// Whether no side gets a timeout or a limit as its link opens.
-fn is_untimed(settings: &Settings) -> bool
+/// Whether no side gets a timeout or a limit as its link opens, and there are no groups.
+fn is_untimed(settings: &Settings, given: &RateGroups) -> bool
     ensures timeouts { result ≡ true → (settings.now.in_timeouts ≡ no_timeouts) × (settings.now.out_timeouts ≡ no_timeouts) }
     ensures rates { result ≡ true → (settings.now.in_rate ≡ None) × (settings.now.out_rate ≡ None) }
+    ensures groups { result ≡ true → given.now.groups.items ≡ [] }
 {
     settings.in_timeouts == Timeouts::none()
         && settings.out_timeouts == Timeouts::none()
         && settings.in_rate.is_none()
         && settings.out_rate.is_none()
+        && given.groups.is_empty()
 }
 
 /// Makes the groups of a run, at time 0.
@@ -70,7 +72,7 @@ impl Relay {
         ensures { IfOk result (λ relay. relay.state ≡ new_state (settings_given settings given (hooks_of hooked.items))) }
     {
         let groups = made_groups(alloc, &given)?;
-        let untimed = is_untimed(&settings) && given.groups.is_empty();
+        let untimed = is_untimed(&settings, &given);
         let ctl = Ctl {
             settings,
             given,

@@ -1,9 +1,10 @@
 -- What a change of a side's limit makes of the links.
 use Rattle.std.proofs.Common.{◌≡◌, ◌≢◌, ℕ, ◌*◌, ◌<◌, ◌≤◌, List, slice_set, get_or, Option, Some, None, option_map}
-use Rattle.std.proofs.Common.{refl, sym, ◌∙◌, ap, subst}
-use Rattle.std.specs.Prelude.{Box}
+use Rattle.std.proofs.Common.{refl, sym, ◌∙◌, ap, subst, arith, ◌+◌, length}
+use Rattle.std.specs.Prelude.{Box, vec_capacity}
+use Rattle.std.specs.Global.{Vec}
 use Rattle.std.specs.declared.alloc.Global.{Global}
-use Rattle.std.proofs.lemmas.List.{set-get_or}
+use Rattle.std.proofs.lemmas.List.{set-get_or, length-set}
 use Rattle.token_bucket.specs.declared.limit.Dir.{Dir}
 use Rattle.token_bucket.specs.declared.limit.LimitCfg.{LimitCfg}
 use Rattle.ev_types.specs.declared.side.SideId.{SideId}
@@ -12,13 +13,15 @@ use Rattle.relay_model.specs.Plain.{PlainSide, Standing, no_side}
 use Rattle.relay_state.specs.Running.{Gauge, held_at, gauge_after, gauge_set}
 use Rattle.side_limit.specs.LimitValue.{LimitValue, holds, spent as spent_value}
 use Rattle.bev_world.specs.declared.slot.Slot.{Slot}
-use Rattle.relay_sides.specs.Bevs.{bevs_at, twin}
+use Rattle.bev_filter.specs.StepRoom.{HasStepRoom}
+use Rattle.relay_model.specs.Rooms.{most_at_once, mark_or}
+use Rattle.relay_sides.specs.Bevs.{Bevs, bevs_at, twin}
 use Rattle.relay_sides.specs.Limits.{kept_value, set_kept, gains_kept, limit_gains}
 use Rattle.relay_sides.specs.Links as links
 use Rattle.relay_sides.specs.Links.{Links, put_side, put_gauge, allowance_at, limit_after, limited, spent}
 use Rattle.relay_sides.specs.SidesValue.{SidesValue}
 use Rattle.relay_sides.specs.SideView.{state_at, plain_side, plain_at, flow_of, flow_at, lane_of, lane_at, gauge_at, gauge_by, limit_kept}
-use Rattle.relay_sides.specs.SidesView.{links_of, sides_of, AreSides, IsCounted}
+use Rattle.relay_sides.specs.SidesView.{links_of, sides_of, AreSides, IsCounted, CanRead}
 use Rattle.relay_sides.specs.declared.sides.Sides.TheInside.{Inside}
 use Rattle.relay_sides.specs.declared.side.SideState.{SideState}
 use Rattle.relay_sides.proofs.TableLemmas.{get-tabulate, tabulate-same, tabulate-set}
@@ -62,6 +65,22 @@ pub set-standing : (x : Option LimitValue) (cfg : Option LimitCfg) (time turn : 
 set-standing x None time turn = refl
 set-standing None (Some cfg) time turn = refl
 set-standing (Some y) (Some cfg) time turn = refl
+
+-- what room for a read looks at of a side
+abbrev counts_of : SideState → ℕ × ℕ
+counts_of s = (s.read, s.read_made)
+
+can_read-as : (b : Bevs) (s t : SideState) (beside spare count : ℕ) → counts_of t ≡ counts_of s → CanRead b s beside spare count →
+    CanRead b t beside spare count
+can_read-as b s t beside spare count same can =
+    let read = ap (λ (z : ℕ × ℕ). z.0) same in
+    let made = ap (λ (z : ℕ × ℕ). z.1) same in
+    record {
+      counted = omega (arith, can.counted, read);
+      kept = can.kept;
+      step = subst (λ z. HasStepRoom b.upper.read_filter.kind (length b.lower.bev.input.bytes + count) (length b.upper.bev.input.bytes)
+          (mark_or b.lower.bev.read_high most_at_once) b.upper.bev.input.spare beside z) (sym made) can.step;
+    }
 
 module _ (v : SidesValue) (r : Inside) (is : sides_of r ≡ v) (sound : AreSides r) (e : SideId) (opened : e.link < v.links.opened)
     (j : ℕ) (j_is : j ≡ number e) (x : SideState) (x_is : x ≡ get_or r.sides.items j x) where
@@ -118,6 +137,29 @@ module _ (v : SidesValue) (r : Inside) (is : sides_of r ≡ v) (sound : AreSides
     limit_counted m h =
         subst (λ z. IsCounted (flow_at S K2 m) z) (sym (lanes m))
         (subst (λ z. IsCounted z (lane_at S K m)) (sym (flows m)) (sound.counted m h))
+
+    counts : (m : ℕ) → counts_of (state_at K2 m) ≡ counts_of (state_at K m)
+    counts = everywhere (λ m. counts_of (state_at K m)) (λ m. counts_of (state_at K2 m)) n (λ m d. ap counts_of (off m d))
+        (ap counts_of at ∙ ap counts_of found)
+
+    -- what is kept is sound, with the room for a read that there was
+    pub limit_sound : (k : Vec SideState) → k.items ≡ slice_set r.sides.items j (record x { limit = l }) → AreSides (record r { sides = k })
+    limit_sound k is =
+        let many = ap length is ∙ length-set K j y in
+        record {
+          slots = sound.slots;
+          sides = many ∙ sound.sides;
+          filters = sound.filters;
+          counted = λ m h.
+              subst (λ z. IsCounted (flow_at S z m) (lane_at S z m)) (sym is) (limit_counted m h);
+          read_room = λ some.
+              let can = sound.read_room some in (
+                can.0,
+                subst (λ z. CanRead (bevs_at S r.ready) (state_at z r.ready) (vec_capacity r.beside) r.spare r.readable) (sym is)
+                    (can_read-as (bevs_at S r.ready) (state_at K r.ready) (state_at K2 r.ready) (vec_capacity r.beside) r.spare r.readable
+                    (counts r.ready) can.1),
+              );
+        }
 
     pub limit_lasting : Lasting r.world.slots r.world.slots r.sides.items (slice_set r.sides.items j (record x { limit = l }))
     limit_lasting = own_lasting v r is sound e opened j j_is y

@@ -147,9 +147,9 @@ impl Sides {
         requires opened { side.link < self.old.links.opened }
         requires later { (gauge_at self.old.links side).time ≤ time }
         requires within { IsWithin count (allowance_at time self.old.links side dir) }
-        ensures { self.new.links ≡ spent time side dir count self.old.links }
+        ensures links { self.new.links ≡ spent time side dir count self.old.links }
+        ensures reads { self.new.spare_reads ≡ self.old.spare_reads }
     {
-        self.readable = 0;
         let own = &mut self.sides[side.number()];
         spend_of(&mut own.limit, dir, count, time);
     }

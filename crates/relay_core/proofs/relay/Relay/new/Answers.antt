@@ -1,17 +1,40 @@
-use Rattle.std.proofs.Common.{sym, subst, arith}
+use Rattle.std.proofs.Common.{◌≡◌, ◌∙◌, ◌≤◌, List, length, sym, ap, subst, arith}
+use Rattle.std.specs.Prelude.{map}
 use Rattle.std.specs.List.{All}
 use Rattle.std.proofs.lemmas.List.Elements.{All-nil}
+use Rattle.rate_group.specs.declared.group_set.GroupSet.{GroupSet}
+use Rattle.rate_group.specs.GroupValue.{GroupsValue}
+use Rattle.relay_state.specs.Running.{Gauge}
+use Rattle.relay_state.specs.State.{new_groups}
 use Rattle.relay_sides.specs.Links.{Links}
+use Rattle.relay_core.specs.Given.{group_given}
 use Rattle.relay_core.specs.RelayView.{IsSoundSide}
+use Rattle.relay_core.proofs.RelayLemmas.{length-map}
 use Rattle.relay_core.proofs.relay.Relay.new.Goals as goal
+
+-- as many groups are made as are given, and none where none is
+made-many : (xs : List GroupSet) → length (new_groups (map group_given xs)).groups ≡ length xs
+made-many xs = length-map _ (map group_given xs) ∙ length-map group_given xs
 
 pub invariant_of-ctl : goal.invariant_of-ctl
 invariant_of-ctl c = record {
   timed = record {
-    unset = c.is_untimed.ensures.0;
-    sides = subst (λ (k : Links). All (IsSoundSide 0 c.is_untimed.result) k.sides) (sym c.new.ensures) (All-nil _);
+    unset = λ e.
+        let t = c.is_untimed-untimed.ensures.timeouts e in
+        let q = c.is_untimed-untimed.ensures.rates e in
+        record { in_timeouts = t.0; out_timeouts = t.1; in_rate = q.0; out_rate = q.1 };
+    sides = subst (λ (k : Links). All (IsSoundSide 0 c.is_untimed-untimed.result) k.sides) (sym c.new.ensures) (All-nil _);
+    gauges = subst (λ (k : Links). All (λ (x : Gauge). x.time ≤ 0) k.gauges) (sym c.new.ensures) (All-nil _);
+  };
+  grouped = record {
+    many = ap (λ (z : GroupsValue). length z.groups) c.in_ok-groups.ensures ∙ made-many c.args.given.groups.items;
+    in_group = c.requires.in_group;
+    out_group = c.requires.out_group;
+    none = λ e. c.in_ok-groups.ensures ∙ ap (λ xs. new_groups (map group_given xs)) e;
+    untimed = c.is_untimed-untimed.ensures.groups;
   };
   time = omega arith;
   few = omega arith;
   room = omega arith;
+  limits = omega arith;
 }

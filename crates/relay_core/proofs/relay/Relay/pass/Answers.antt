@@ -7,10 +7,12 @@ pub invariant_of-self-inside : goal.invariant_of-self-inside
 invariant_of-self-inside c =
     let h = c.self-inside.invariant in
     record {
-      timed = passed_sound _ _ _ _ _ _ _ c.args.from _ _ c.pass.result h.timed c.pass.ensures.passed;
+      timed = passed_sound _ _ _ _ _ _ c.args.from _ _ c.pass.result h.timed c.pass.ensures.passed;
+      grouped = h.grouped;
       time = h.time;
       few = h.few;
       room = h.room;
+      limits = h.limits;
     }
 
 pub returns-clause-passed : goal.returns-clause-passed

@@ -1,7 +1,6 @@
 use Rattle.std.proofs.Common.{refl, sym, subst}
 use Rattle.relay_sides.specs.Limits.{IsWithin}
-use Rattle.relay_sides.proofs.FlagLemmas.{are_sound}
-use Rattle.relay_sides.proofs.LimitLemmas.{allowance-found, later-found, limit_counted, limit_lasting, limit_spent}
+use Rattle.relay_sides.proofs.LimitLemmas.{allowance-found, later-found, limit_sound, limit_spent}
 use Rattle.relay_sides.proofs.sides.Sides.spend.Goals as goal
 
 pub spend_of-requires-clause-later : goal.spend_of-requires-clause-later
@@ -18,16 +17,10 @@ spend_of-requires-clause-within c =
 
 pub invariant_of-self : goal.invariant_of-self
 invariant_of-self c =
-    let v = c.args.self.now in
-    let r = c.self.inside in
-    let x = c.index_mut-own.result.now in
-    are_sound r _ c.self.invariant refl refl
-    (limit_lasting v r c.self.view_is c.self.invariant c.args.side c.requires.opened c.number.result c.number.ensures x
-    c.index_mut-own.ensures.value c.spend_of.new.limit)
-    (limit_counted v r c.self.view_is c.self.invariant c.args.side c.requires.opened c.number.result c.number.ensures x
-    c.index_mut-own.ensures.value c.spend_of.new.limit)
+    limit_sound c.args.self.now c.self.inside c.self.view_is c.self.invariant c.args.side c.requires.opened c.number.result c.number.ensures
+    c.index_mut-own.result.now c.index_mut-own.ensures.value c.spend_of.new.limit _ refl
 
-pub returns : goal.returns
-returns c =
+pub returns-clause-links : goal.returns-clause-links
+returns-clause-links c =
     limit_spent c.args.self.now c.self.inside c.self.view_is c.self.invariant c.args.side c.requires.opened c.number.result c.number.ensures
     c.index_mut-own.result.now c.index_mut-own.ensures.value c.spend_of.new.limit c.args.dir c.args.count c.args.time c.spend_of.ensures

@@ -1,0 +1,27 @@
+use Rattle.std.proofs.Common.{ap}
+use Rattle.ev_types.specs.Sides.{number}
+use Rattle.relay_sides.specs.Links as links
+use Rattle.relay_sides.specs.Links.{Links}
+use Rattle.relay_state.specs.Running.{gauge_after}
+use Rattle.relay_core.proofs.RelayLemmas.{gauge_sound, gauge_after-time, later_at, spent_sound}
+use Rattle.relay_core.proofs.ctl.Ctl.spend.Goals as goal
+
+pub invariant_of-self : goal.invariant_of-self
+invariant_of-self c =
+    let r = c.self.inside in
+    let h = c.self.invariant in
+    let k = r.sides.links in
+    let e = c.args.side in
+    let x = gauge_after (links.side_at k e).limit r.time c.args.dir c.args.count (links.gauge_at k e) in
+    record {
+      timed = gauge_sound r.settings r.time r.untimed k c.spend.new.self.links e x h.timed
+          (gauge_after-time (links.side_at k e).limit r.time c.args.dir c.args.count (links.gauge_at k e)
+          (later_at r.time k.gauges h.timed.gauges (number e)))
+          (ap (λ (z : Links). z.sides) c.spend.ensures.links) (ap (λ (z : Links). z.gauges) c.spend.ensures.links);
+      grouped = spent_sound r.given r.untimed r.groups.value c.spend_share.new.groups.value c.number.result c.args.dir c.args.count h.grouped
+          c.spend_share.ensures;
+      time = h.time;
+      few = h.few;
+      room = h.room;
+      limits = h.limits;
+    }

@@ -1,0 +1,25 @@
+use Rattle.std.proofs.Common.{◌∙◌, ap, arith}
+use Rattle.ev_types.specs.declared.side.Side.TheVariants.{In}
+use Rattle.relay_sides.specs.declared.opening.NewSide.{NewSide}
+use Rattle.relay_sides.specs.Links.{with_link}
+use Rattle.relay_state.specs.Opening.{joined_where}
+use Rattle.relay_core.proofs.RelayLemmas.{opened_sound, opened_groups_sound}
+use Rattle.relay_core.proofs.relay.Relay.open.Goals as goal
+
+pub invariant_of-ctl : goal.invariant_of-ctl
+invariant_of-ctl c =
+    let r = c.ctl.inside in
+    let h = c.ctl.invariant in
+    record {
+      timed = opened_sound r.settings r.time r.untimed r.turns r.sides.links c.open.new.self.links r.given.in_group r.given.out_group
+          c.args.connected h.timed
+          (c.open.ensures.links ∙ (λ i. with_link r.time r.turns (c.near_side-near.ensures i) (c.far_side-far.ensures i) r.sides.links));
+      grouped = opened_groups_sound r.given r.untimed r.groups.value c.join_where.new.groups.value c.join_where-2.new.groups.value
+          (record { link = c.opened.result; side = In }) c.peer.result h.grouped
+          (c.join_where.ensures.value ∙ ap (λ (n : NewSide). joined_where n.group (record { link = c.opened.result; side = In }) r.groups.value) c.near_side-near.ensures)
+          (c.join_where-2.ensures.value ∙ ap (λ (n : NewSide). joined_where n.group c.peer.result c.join_where.new.groups.value) c.far_side-far.ensures);
+      time = h.time;
+      few = omega arith;
+      room = (let room = h.room in let few = h.few in omega (arith, room, few));
+      limits = omega arith;
+    }
