@@ -14,8 +14,9 @@ use Rattle.relay_state.specs.Closing.{in_side, out_side}
 use Rattle.relay_drive.specs.declared.agenda.Agenda.{Agenda}
 use Rattle.relay_model.specs.Settings.{Settings}
 use Rattle.relay_drive.specs.Links.{IsGroupless, SameLink, HasPairs, IsStill, IsSettled}
-use Rattle.relay_drive.specs.Agenda.{MayBeNamed, MayBeNamedRight, HoldsBeside, IsGone, IsKept, IsNamed, IsNamedRight, TouchedBut, TouchedAll, IsCovered, ClosingNoted}
-use Rattle.relay_drive.specs.Agenda.{IsUntold, SameBesideWants, SaysOf, KeepsNames}
+use Rattle.relay_drive.specs.Agenda.{MayBeNamed, MayBeNamedRight, HoldsBeside, IsGone, IsKept, IsNamed, IsNamedRight, TouchedBut}
+use Rattle.relay_drive.specs.Agenda.{TouchedAll, IsCovered, ClosingNoted}
+use Rattle.relay_drive.specs.Agenda.{IsUntold, SameBesideWants, SaysOf, KeepsNames, TellsNames}
 use Rattle.ev_types.specs.Trace.{Trace}
 use Rattle.ev_port.specs.declared.port.Want.{Want}
 use Rattle.relay_drive.specs.Steps.{Each}
@@ -150,8 +151,7 @@ kept-all l l' s s' opened t h = record {
 }
 
 -- then nothing is said of a link, and what the table says is right
-pub names-all : (l l' : Agenda) (s s' : State) → s'.plain.opened ≡ s.plain.opened → TouchedAll l l' → IsKept l s → (t : WantsValue) →
-    MayBeNamed l t s → IsNamed l' t s'
+pub names-all : (l l' : Agenda) (s s' : State) → s'.plain.opened ≡ s.plain.opened → TouchedAll l l' → IsKept l s → TellsNames l s l' s'
 names-all l l' s s' opened t k = λ table h. record {
   links = omega (arith, opened, h.links);
   named = beside-all (IsNamedRight table) l.to_name l'.to_name s' (omega (arith, opened, k.want_covers)) t.to_name;
@@ -213,7 +213,8 @@ kept-covered l l' s s' o c h = record {
 pub names-covered : (l l' : Agenda) (s s' : State) → OpensAtMost s s' → IsCovered s.plain.opened l l' → KeepsNames l s l' s'
 names-covered l l' s s' o c = λ table h. record {
   links = omega (arith, o.least, h.links);
-  named = beside (MayBeNamedRight table) l.to_name l'.to_name s.plain.opened true s s' c.to_name.has (λ e. no_false e) (opened-before s s' o)
+  named = beside (MayBeNamedRight table) l.to_name l'.to_name s.plain.opened true s s' c.to_name.has (λ e. no_false e)
+      (opened-before s s' o)
       (λ j e lt p. named-same table j s s' (o.old j lt) p) h.named;
 }
 

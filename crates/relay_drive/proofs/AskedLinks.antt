@@ -44,7 +44,9 @@ apart k n h = λ p. h (ap Some (sym p))
 -- where no groups are set, there is none to join
 no_group-known : (n : ℕ) (gs : List GroupSet) → gs ≡ [] → nat_le (length gs) n ≡ false → ⊥
 no_group-known n gs none known =
-    absurd (let past : nat_le (length gs) n ≡ true = le-leb (length gs) n (let none_there = ap length none in omega (arith, none_there)) in cc)
+    let empty = ap length none in
+    let past : nat_le (length gs) n ≡ true = le-leb (length gs) n (omega (arith, empty)) in
+    absurd (let bad : true ≡ false = sym past ∙ known in cc)
 
 -- An ask that is done leaves every link as it is that it doesn't change.
 pub asked-other : (k : ℕ) (a : Act) (s : State) → names_no_group s.settings a ≡ false → link_changed a ≢ Some k → SameLink k s (asked a s)

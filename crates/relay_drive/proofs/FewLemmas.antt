@@ -34,7 +34,8 @@ same-counts s = record { flows = refl; lanes = refl }
 counts-then : {a b c : State} → SameCounts a b → SameCounts b c → SameCounts a c
 counts-then f g = record { flows = g.flows ∙ f.flows; lanes = g.lanes ∙ f.lanes }
 
-counts-raise : (s : State) (e : SideId) (y : Why) (p : Plain) → p.flows ≡ s.plain.flows → SameCounts s (with_plain (raise s.settings e y p) s)
+counts-raise : (s : State) (e : SideId) (y : Why) (p : Plain) → p.flows ≡ s.plain.flows →
+    SameCounts s (with_plain (raise s.settings e y p) s)
 counts-raise s e y p h = go (has_hook s.settings e && is_live p e)
   where
     go : (q : Bool) → SameCounts s (with_plain (if q then record p { due = with_reason e y p.due } else p) s)

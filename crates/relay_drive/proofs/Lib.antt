@@ -28,6 +28,7 @@ pub mod MeantTurn
 pub mod WentLemmas
 pub mod OtherLinks
 pub mod FoundLemmas
+pub mod AgedLemmas
 pub mod FreedStays
 pub mod AskedLinks
 pub mod SeatLemmas

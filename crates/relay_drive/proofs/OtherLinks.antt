@@ -22,7 +22,8 @@ use Rattle.relay_model.specs.Flow.{Flow, no_flow}
 use Rattle.relay_model.specs.Settings.{Settings}
 use Rattle.relay_model.specs.Due.{with_reason}
 use Rattle.relay_model.specs.Plain as plain
-use Rattle.relay_model.specs.Plain.{Timer, Plain, PlainSide, Standing, no_side, side_at, flow_at, put_side, put_flow, change_side, change_flow}
+use Rattle.relay_model.specs.Plain.{Timer, Plain, PlainSide, Standing, no_side, side_at, flow_at, put_side, put_flow, change_side}
+use Rattle.relay_model.specs.Plain.{change_flow}
 use Rattle.relay_model.specs.Plain.{is_live}
 use Rattle.relay_model.specs.Reasons.{has_hook, raise, happened, end_flag, error_flag}
 use Rattle.relay_model.specs.Moments.{active_at, timers_taken}
@@ -34,7 +35,8 @@ use Rattle.relay_state.specs.Running.{Gauge, no_gauge, held_at}
 use Rattle.rate_group.specs.GroupValue.{GroupsValue}
 use Rattle.rate_group.specs.GroupsCalls.{no_groups}
 use Rattle.rate_group.specs.Steps.{spent, left}
-use Rattle.relay_state.specs.State.{State, Lane, no_lane, lane_at, gauge_at, gauges_after, with_plain, with_lane, lane_got, lane_taken, lane_left}
+use Rattle.relay_state.specs.State.{State, Lane, no_lane, lane_at, gauge_at, gauges_after, with_plain, with_lane, lane_got, lane_taken}
+use Rattle.relay_state.specs.State.{lane_left}
 use Rattle.relay_state.specs.Passage.{Passage}
 use Rattle.relay_state.specs.Passing.{with_bad, plain_passed, with_passage, PassedFrom, read_run}
 use Rattle.relay_state.specs.Rooms.{wants, allowance, input_length, output_length, read_room, write_room}

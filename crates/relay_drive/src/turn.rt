@@ -7,8 +7,7 @@ ghost use Rattle.relay_drive.specs.Steps.{Nothing};
 ghost use Rattle.relay_drive.specs.Phases.{TicksOnce, ServedThen, CutStart, PassesAndCloses, CutFinish};
 ghost use Rattle.relay_drive.specs.Known.{Point};
 ghost use Rattle.relay_drive.specs.Links.{SameLink};
-ghost use Rattle.relay_drive.specs.Agenda.{HoldsBeside, LinkCountsAreFew, CountsAreFew, IsKept, IsNamed, MayBeNamed, KeepsNames};
-ghost use Rattle.ev_port.specs.Table.{WantsValue};
+ghost use Rattle.relay_drive.specs.Agenda.{HoldsBeside, LinkCountsAreFew, CountsAreFew, IsKept, MayBeNamed, KeepsNames, TellsNames};
 ghost use Rattle.relay_drive.specs.DriveView.{IsReady};
 ghost use Rattle.relay_drive.specs.Seats.{telling, AreSeated};
 ghost use Rattle.relay_drive.specs.Moves.{Moves, GetsTo, Does, EndsTold, OnlyForMemory};
@@ -70,7 +69,7 @@ fn clock<P: Port, S: Scribe>(
         (run.old, port.old, scribe.old) (run.new, port.new, scribe.new)) }
     ensures cause { OnlyForMemory result }
     ensures kept { OnOk result (IsKept agenda.new run.new.relay.state) }
-    ensures named { OnOk result ((t : WantsValue) → MayBeNamed agenda.old t run.old.relay.state → IsNamed agenda.new t run.new.relay.state) }
+    ensures named { OnOk result (TellsNames agenda.old run.old.relay.state agenda.new run.new.relay.state) }
     ensures few { OnOk result (CountsAreFew run.old.relay.state → CountsAreFew run.new.relay.state) }
 {
     read_clock(run, port, scribe)?;

@@ -6,7 +6,8 @@ use Rattle.relay_drive.proofs.poll.name_wants.Goals as goal
 pub loop-link-init : goal.loop-link-init
 loop-link-init c = record {
   links = c.in_ok-lengthen.ensures.links;
-  named = named-lengthened c.args.wants.now c.lengthen.new.wants c.args.agenda.now.to_name c.args.relay.now.state c.in_ok-lengthen.ensures.rows
+  named = named-lengthened c.args.wants.now c.lengthen.new.wants c.args.agenda.now.to_name c.args.relay.now.state
+      c.in_ok-lengthen.ensures.rows
       c.requires.named.named;
   same = (refl, refl, refl, refl);
   within = omega arith;
@@ -22,7 +23,8 @@ loop-link-preserved c =
     let lt : k < s.plain.opened = omega (arith, found.1, c.opened.ensures.count) in
     record {
       links = c.name_link.ensures.links ∙ inv.links;
-      named = named-next c.loop-link.wants c.name_link.new.wants c.loop-link.agenda.to_name c.remove.new.self s k (omega (arith, lt, inv.links))
+      named = named-next c.loop-link.wants c.name_link.new.wants c.loop-link.agenda.to_name c.remove.new.self s k
+          (omega (arith, lt, inv.links))
           c.name_link.ensures c.remove.ensures.members (c.requires.few k lt) inv.named;
       same = (inv.same.0, inv.same.1, inv.same.2, c.remove.ensures.len ∙ inv.same.3);
       within = omega (arith, lt);

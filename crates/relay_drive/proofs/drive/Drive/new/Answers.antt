@@ -15,7 +15,8 @@ state-is : (g : Over) (c : After-new-3 g) →
     c.in_ok-new.field-0.state ≡ new_state (settings_given c.args.settings c.args.given (seated_sides c.args.seats.now.hooks.items))
 state-is g c =
     c.in_ok-new.ensures
-    ∙ ap (λ hs. new_state (settings_given c.args.settings c.args.given (hooks_of hs))) (c.in_ok-taken.ensures ∙ ap slots_taken c.deref.ensures.value)
+    ∙ ap (λ hs. new_state (settings_given c.args.settings c.args.given (hooks_of hs)))
+    (c.in_ok-taken.ensures ∙ ap slots_taken c.deref.ensures.value)
     ∙ ap (λ xs. new_state (settings_given c.args.settings c.args.given xs)) (taken-hooks c.args.seats.now.hooks.items)
 
 pub returns-clause-value : goal.returns-clause-value
