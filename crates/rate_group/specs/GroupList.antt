@@ -6,7 +6,7 @@ use Rattle.token_bucket.specs.declared.limit.Dir.{Dir}
 use Rattle.rate_group.specs.declared.group.Group.{Group}
 use Rattle.rate_group.specs.GroupValue.{GroupValue}
 use Rattle.rate_group.specs.Steps.{share_of, count_in}
-use Rattle.rate_group.specs.Gains.{gain_of}
+use Rattle.rate_group.specs.Gains.{waiting_gain}
 
 abbrev pub group_value : Group → GroupValue
 group_value g = record {
@@ -30,7 +30,7 @@ IsWithinShare gs at d n = (g : Group) → slice_get gs at ≡ Some g → n ≤ s
 
 -- when each suspended group with members gains again, by how many it counts
 abbrev pub gains_counted : ℕ → List Group → List ℕ
-gains_counted time gs = flat_map (λ g. gain_of time g.count (group_value g)) gs
+gains_counted time gs = flat_map (λ g. waiting_gain time g.count (group_value g)) gs
 
 -- one, where two numbers are the same
 abbrev pub one_at : ℕ → ℕ → ℕ

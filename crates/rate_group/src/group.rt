@@ -1,14 +1,14 @@
 // One group: its limit, its bucket, and in which directions it is suspended. Who is a member is left to the groups.
 ghost use Rattle.std.specs.Prelude.{◌≡◌, ◌≤◌, ◌<◌, ◌+◌, ◌-◌, ◌^◌, false};
 ghost use Rattle.std.specs.Option.{option_to_list};
-ghost use Rattle.rate_group.specs.Gains.{gain_of, is_waiting, next_tick};
+ghost use Rattle.rate_group.specs.Gains.{waiting_gain, is_waiting, tick_behind};
 
 use token_bucket::{Bucket, Dir, LimitCfg};
 
 /// The moment at which the next tick of a limit begins.
 fn tick_after(cfg: &LimitCfg, time: u64) -> u64
     requires { time ≤ 2 ^ 62 }
-    ensures { result ≡ next_tick cfg.now.tick_ms time }
+    ensures { result ≡ tick_behind cfg.now.tick_ms time }
 {
     (time / cfg.tick_ms() + 1) * cfg.tick_ms()
 }
@@ -114,7 +114,7 @@ impl Group {
     /// When it gains again, where it has members and is suspended in a direction.
     pub(crate) fn gains_at(&self, time: u64) -> Option<u64>
         requires { time ≤ 2 ^ 62 }
-        ensures { option_to_list result ≡ gain_of time self.now.count (group_value self.now) }
+        ensures { option_to_list result ≡ waiting_gain time self.now.count (group_value self.now) }
     {
         if !self.is_waiting() {
             return None;

@@ -42,7 +42,7 @@ impl Model for Groups {
 impl Groups {
     ghost use Rattle.token_bucket.specs.Levels.{signed};
     ghost use Rattle.token_bucket.specs.Limit.{fault_of};
-    ghost use Rattle.rate_group.specs.Gains.{first_moment, group_gains};
+    ghost use Rattle.rate_group.specs.Gains.{first_moment, waiting_gains};
     ghost use Rattle.rate_group.specs.Steps.{with_group, with_groups, joined, left, share_in, spent, all_refilled, lane_of};
     ghost use Rattle.rate_group.specs.Refusals.{Refuses, new_group_refusal, join_refusal, change_refusal, leave_refusal};
     ghost use Rattle.rate_group.specs.GroupsCalls.{GroupsCall, IsCalled, MakingsLead};
@@ -224,7 +224,7 @@ impl Groups {
     /// Own.
     pub fn gains_at(&self, time: u64) -> Option<u64>
         requires { time ≤ 2 ^ 62 }
-        ensures { result ≡ first_moment (group_gains time 0 self.now.value.members self.now.value.groups) }
+        ensures { result ≡ first_moment (waiting_gains time 0 self.now.value.members self.now.value.groups) }
     {
         first_gain(&self.groups, time)
     }

@@ -31,10 +31,10 @@ use Rattle.relay_model.specs.Serve as model
 use Rattle.relay_sides.specs.Links as links
 use Rattle.relay_sides.specs.Links.{Links, change_side, opening_side, with_link}
 use Rattle.relay_sides.specs.declared.opening.NewSide.{NewSide}
-use Rattle.relay_sides.specs.Limits.{IsWithin}
+use Rattle.relay_sides.specs.KeptLimits.{IsAllowed}
 use Rattle.relay_core.specs.RelayValue.{RelayValue}
 use Rattle.relay_core.specs.RelayView.{state_with, relay_of, AreSound, HasGroups, IsSound, IsSoundSide}
-use Rattle.relay_core.specs.Given.{group_given}
+use Rattle.relay_core.specs.GivenGroups.{group_given}
 use Rattle.relay_core.specs.Rateless.{HasNoRates}
 use Rattle.relay_core.specs.SettingsView.{near_of, far_of}
 use Rattle.relay_core.specs.declared.ctl.Ctl.TheInside.{Inside}
@@ -51,28 +51,28 @@ rates-fit false n h = absurd (omega (arith, h))
 
 -- what there is room for is within limit and share, and within what there is
 
-within-parts : (a b : Option ℕ) (k n : ℕ) → k ≤ at_most a (at_most b n) → IsWithin k a × IsWithin k b × (k ≤ n)
+within-parts : (a b : Option ℕ) (k n : ℕ) → k ≤ at_most a (at_most b n) → IsAllowed k a × IsAllowed k b × (k ≤ n)
 within-parts None None k n h = (tt, tt, h)
 within-parts None (Some m) k n h = (tt, omega (arith, h), omega (arith, h))
 within-parts (Some j) None k n h = (omega (arith, h), tt, omega (arith, h))
 within-parts (Some j) (Some m) k n h = (omega (arith, h), omega (arith, h), omega (arith, h))
 
-within-nothing : (a : Option ℕ) → IsWithin 0 a
+within-nothing : (a : Option ℕ) → IsAllowed 0 a
 within-nothing None = tt
 within-nothing (Some m) = omega arith
 
 room-parts : (b : Bool) (s : State) (e : SideId) (d : Dir) (k n : ℕ) → k ≤ (if b then within_rates s e d n else 0) →
-    IsWithin k (share s e d) × IsWithin k (allowance s e d) × (k ≤ n)
+    IsAllowed k (share s e d) × IsAllowed k (allowance s e d) × (k ≤ n)
 room-parts true s e d k n h = within-parts (share s e d) (allowance s e d) k n h
 room-parts false s e d zero n h = (within-nothing (share s e d), within-nothing (allowance s e d), omega arith)
 room-parts false s e d (suc k) n h = absurd (omega (arith, h))
 
 pub read-within : (s : State) (e : SideId) (k : ℕ) → k ≤ read_room s e →
-    IsWithin k (share s e dir.Read) × IsWithin k (allowance s e dir.Read)
+    IsAllowed k (share s e dir.Read) × IsAllowed k (allowance s e dir.Read)
 read-within s e k h = let p = room-parts (may_read s.plain e) s e dir.Read k (min most_at_once (read_mark s.plain e - input_length s e)) h in (p.0, p.1)
 
 pub write-within : (s : State) (e : SideId) (k : ℕ) → k ≤ write_room s e →
-    IsWithin k (share s e dir.Write) × IsWithin k (allowance s e dir.Write) × (k ≤ length (waiting_for s e))
+    IsAllowed k (share s e dir.Write) × IsAllowed k (allowance s e dir.Write) × (k ≤ length (waiting_for s e))
 write-within s e k h =
     let p = room-parts (may_write s.plain e) s e dir.Write k (min most_at_once (length (waiting_for s e))) h in (p.0, p.1, omega (arith, p.2))
 

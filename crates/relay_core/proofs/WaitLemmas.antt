@@ -77,9 +77,9 @@ module _ (s : State) where
 
 -- when groups gain again is told alike by what keeps them and by the state
 pub gains-alike : (s : State) (n : ℕ) (xs : List GroupValue) →
-    gains.group_gains s.plain.time n s.groups.members xs ≡ group_gains s n xs
+    gains.waiting_gains s.plain.time n s.groups.members xs ≡ group_gains s n xs
 gains-alike s n [] = refl
-gains-alike s n (x ∷ xs) = ap (λ z. gains.gain_of s.plain.time (count_in n s.groups.members) x ++ z) (gains-alike s (n + 1) xs)
+gains-alike s n (x ∷ xs) = ap (λ z. gains.waiting_gain s.plain.time (count_in n s.groups.members) x ++ z) (gains-alike s (n + 1) xs)
 
 pub first-earliest : (xs : List ℕ) → gains.first_moment xs ≡ earliest xs
 first-earliest [] = refl

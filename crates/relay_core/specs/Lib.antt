@@ -1,5 +1,5 @@
 pub mod SettingsView
-pub mod Given
+pub mod GivenGroups
 pub mod RelayValue
 pub mod Named
 pub mod Questions

@@ -13,7 +13,7 @@ use Rattle.relay_sides.specs.Links.{Links}
 use Rattle.relay_sides.specs.Opening.{limits_in}
 use Rattle.relay_waits.specs.WaitsValue.{WaitsValue}
 use Rattle.relay_core.specs.Fires.{events_of}
-use Rattle.relay_core.specs.Given.{settings_given}
+use Rattle.relay_core.specs.GivenGroups.{settings_given}
 use Rattle.relay_core.specs.RelayValue.{RelayValue}
 use Rattle.relay_core.specs.declared.ctl.Ctl.TheInside.{Inside}
 use Rattle.relay_core.specs.declared.rate_groups.RateGroups.{RateGroups}

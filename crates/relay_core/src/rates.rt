@@ -6,7 +6,7 @@ ghost use Rattle.relay_model.specs.Rooms.{at_most};
 ghost use Rattle.relay_state.specs.Opening.{joined_where};
 ghost use Rattle.relay_state.specs.Rooms.{allowance, share, within_rates};
 ghost use Rattle.relay_state.specs.State.{gauges_after};
-ghost use Rattle.relay_sides.specs.Limits.{IsWithin};
+ghost use Rattle.relay_sides.specs.KeptLimits.{IsAllowed};
 ghost use Rattle.relay_core.specs.Fires.{SameFire};
 
 use crate::ctl::Ctl;
@@ -26,7 +26,7 @@ fn at_most(most: Option<u64>, count: usize) -> usize
 
 /// A side moved so many bytes in a direction: its group loses them, where it is in one.
 fn spend_share(groups: &mut Groups, side: u64, dir: Dir, count: u64)
-    requires { IsWithin count (share_in side dir groups.old.value) }
+    requires { IsAllowed count (share_in side dir groups.old.value) }
     ensures { groups.new.value ≡ spent side dir count groups.old.value }
 {
     if groups.share(side, dir).is_some() {
@@ -66,8 +66,8 @@ impl Ctl {
     /// The side moves so many bytes in a direction, no more than limit and group leave it.
     pub(crate) fn spend(&mut self, side: SideId, dir: Dir, count: usize)
         requires opened { side.link < self.old.state.plain.opened }
-        requires own { IsWithin count (allowance self.old.state side dir) }
-        requires shared { IsWithin count (share self.old.state side dir) }
+        requires own { IsAllowed count (allowance self.old.state side dir) }
+        requires shared { IsAllowed count (share self.old.state side dir) }
         ensures state { self.new.state
             ≡ (let s = self.old.state in record s { gauges = gauges_after side dir count s; groups = spent (number side) dir count s.groups }) }
         ensures fire { SameFire self.old self.new }

@@ -3,7 +3,7 @@ ghost use Rattle.std.specs.Prelude.{◌≡◌, ◌<◌, ◌≤◌, ◌^◌, true
 ghost use Rattle.std.specs.List.{All};
 ghost use Rattle.ev_types.specs.Usual.{no_timeouts};
 ghost use Rattle.relay_state.specs.State.{new_state, new_groups};
-ghost use Rattle.relay_core.specs.Given.{group_given, settings_given, AreGroups};
+ghost use Rattle.relay_core.specs.GivenGroups.{group_given, settings_given, AreGroups};
 ghost use Rattle.relay_waits.specs.WaitsValue.{hooks_of};
 
 use crate::ask::MOST_ASKS;

@@ -11,14 +11,14 @@ use Rattle.ev_types.specs.declared.side.SideId.{SideId}
 use Rattle.ev_types.specs.Sides.{number}
 use Rattle.relay_model.specs.Plain.{PlainSide, Standing, no_side}
 use Rattle.relay_state.specs.Running.{Gauge, held_at, gauge_after, gauge_set}
-use Rattle.side_limit.specs.LimitValue.{LimitValue, holds, spent as spent_value}
+use Rattle.side_limit.specs.LimitValue.{LimitValue, bucket_holds, with_spent}
 use Rattle.bev_world.specs.declared.slot.Slot.{Slot}
 use Rattle.bev_filter.specs.StepRoom.{HasStepRoom}
 use Rattle.relay_model.specs.Rooms.{most_at_once, mark_or}
 use Rattle.relay_sides.specs.Bevs.{Bevs, bevs_at, twin}
-use Rattle.relay_sides.specs.Limits.{kept_value, set_kept, gains_kept, limit_gains}
+use Rattle.relay_sides.specs.KeptLimits.{kept_value, set_kept, gains_kept, limit_gains}
 use Rattle.relay_sides.specs.Links as links
-use Rattle.relay_sides.specs.Links.{Links, put_side, put_gauge, allowance_at, limit_after, limited, spent}
+use Rattle.relay_sides.specs.Links.{Links, put_side, put_gauge, allowance_at, limit_set_on, limited, bucket_spent}
 use Rattle.relay_sides.specs.SidesValue.{SidesValue}
 use Rattle.relay_sides.specs.SideView.{state_at, plain_side, plain_at, flow_of, flow_at, lane_of, lane_at, gauge_at, gauge_by, limit_kept}
 use Rattle.relay_sides.specs.SidesView.{links_of, sides_of, AreSides, IsCounted, CanRead}
@@ -37,7 +37,7 @@ standing_by x = option_map (λ (y : LimitValue). y.standing) x
 -- what is asked of a limit says the same of how it stands and of its buckets
 
 pub allowance-kept : (x : Option LimitValue) (d : Dir) (time : ℕ) →
-    option_map (λ y. holds y d time) x ≡ option_map (λ y. held_at y.cfg (gauge_by x) d time) (standing_by x)
+    option_map (λ y. bucket_holds y d time) x ≡ option_map (λ y. held_at y.cfg (gauge_by x) d time) (standing_by x)
 allowance-kept None d time = refl
 allowance-kept (Some y) d time = refl
 
@@ -46,11 +46,11 @@ gains-kept None time = refl
 gains-kept (Some y) time = refl
 
 pub spent-gauge : (x : Option LimitValue) (d : Dir) (n time : ℕ) →
-    gauge_by (option_map (spent_value d n time) x) ≡ gauge_after (standing_by x) time d n (gauge_by x)
+    gauge_by (option_map (with_spent d n time) x) ≡ gauge_after (standing_by x) time d n (gauge_by x)
 spent-gauge None d n time = refl
 spent-gauge (Some y) d n time = refl
 
-pub spent-standing : (x : Option LimitValue) (d : Dir) (n time : ℕ) → standing_by (option_map (spent_value d n time) x) ≡ standing_by x
+pub spent-standing : (x : Option LimitValue) (d : Dir) (n time : ℕ) → standing_by (option_map (with_spent d n time) x) ≡ standing_by x
 spent-standing None d n time = refl
 spent-standing (Some y) d n time = refl
 
@@ -61,7 +61,7 @@ set-gauge None (Some cfg) time turn = refl
 set-gauge (Some y) (Some cfg) time turn = refl
 
 pub set-standing : (x : Option LimitValue) (cfg : Option LimitCfg) (time turn : ℕ) →
-    standing_by (set_kept time turn x cfg) ≡ limit_after (gauge_by x) time turn (standing_by x) cfg
+    standing_by (set_kept time turn x cfg) ≡ limit_set_on (gauge_by x) time turn (standing_by x) cfg
 set-standing x None time turn = refl
 set-standing None (Some cfg) time turn = refl
 set-standing (Some y) (Some cfg) time turn = refl
@@ -102,7 +102,7 @@ module _ (v : SidesValue) (r : Inside) (is : sides_of r ≡ v) (sound : AreSides
   pub limit-found : (links.side_at v.links e).limit ≡ standing_by (limit_kept x)
   limit-found = ap (λ (z : PlainSide). z.limit) (side_seen v r is e opened) ∙ ap (λ z. standing_by (limit_kept z)) (sym found)
 
-  pub allowance-found : (d : Dir) (time : ℕ) → option_map (λ y. holds y d time) (limit_kept x) ≡ allowance_at time v.links e d
+  pub allowance-found : (d : Dir) (time : ℕ) → option_map (λ y. bucket_holds y d time) (limit_kept x) ≡ allowance_at time v.links e d
   allowance-found d time =
       allowance-kept (limit_kept x) d time
       ∙ (λ i. option_map (λ y. held_at y.cfg (sym gauge-found i) d time) (sym limit-found i))
@@ -186,8 +186,8 @@ module _ (v : SidesValue) (r : Inside) (is : sides_of r ≡ v) (sound : AreSides
         ∙ ap (λ (z : SidesValue). put_gauge e (gauge_by (kept_value l)) (links.change_side e g z.links)) is
 
     -- bytes were moved
-    pub limit_spent : (d : Dir) (count time : ℕ) → kept_value l ≡ option_map (spent_value d count time) (limit_kept x) →
-        links_of r.opened r.world.slots (slice_set r.sides.items j (record x { limit = l })) ≡ spent time e d count v.links
+    pub limit_spent : (d : Dir) (count time : ℕ) → kept_value l ≡ option_map (with_spent d count time) (limit_kept x) →
+        links_of r.opened r.world.slots (slice_set r.sides.items j (record x { limit = l })) ≡ bucket_spent time e d count v.links
     limit_spent d count time h =
         let k = v.links in
         let gauge = ap gauge_by h ∙ spent-gauge (limit_kept x) d count time
@@ -206,6 +206,6 @@ module _ (v : SidesValue) (r : Inside) (is : sides_of r ≡ v) (sound : AreSides
         let gauge = ap gauge_by h ∙ set-gauge (limit_kept x) cfg time turn
         ∙ (λ i. gauge_set (sym limit-found i) cfg time (sym gauge-found i)) in
         let standing = ap standing_by h ∙ set-standing (limit_kept x) cfg time turn
-        ∙ (λ i. limit_after (sym gauge-found i) time turn (sym limit-found i) cfg) in
+        ∙ (λ i. limit_set_on (sym gauge-found i) time turn (sym limit-found i) cfg) in
         limit_links
         ∙ (λ i. put_gauge e (gauge i) (links.change_side e (λ z. record z { limit = standing i }) k))

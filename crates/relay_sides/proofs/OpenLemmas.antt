@@ -25,7 +25,7 @@ use Rattle.relay_state.specs.State.{Lane}
 use Rattle.relay_sides.specs.Bevs.{Bevs, bevs_at, lower_of, upper_of, twin}
 use Rattle.relay_sides.specs.Table.{tabulate}
 use Rattle.relay_sides.specs.Links.{opening_side, fresh_lane, with_link}
-use Rattle.relay_sides.specs.Limits.{kept_value, first_kept}
+use Rattle.relay_sides.specs.KeptLimits.{kept_value, first_kept}
 use Rattle.relay_sides.specs.Opening.{side_slots}
 use Rattle.relay_sides.specs.SideView.{new_state, state_at, plain_side, plain_at, flow_of, flow_at, lane_of, lane_at, gauge_at, gauge_of, gauge_by}
 use Rattle.relay_sides.specs.SidesView.{links_of, IsCounted, CanRead, AreSides}

@@ -4,7 +4,7 @@ pub mod SideView
 pub mod Links
 pub mod Progress
 pub mod Opening
-pub mod Limits
+pub mod KeptLimits
 pub mod Rooms
 pub mod SidesValue
 pub mod SidesView

@@ -97,10 +97,10 @@ allowance_at time k e d = option_map (λ y. held_at y.cfg (gauge_at k e) d time)
 
 -- The limit that stands once another is set, or none, in a turn and at its time. It takes what the buckets hold with it, cut to the new
 -- bursts.
-abbrev pub limit_after : Gauge → ℕ → ℕ → Option Standing → Option LimitCfg → Option Standing
-limit_after x time turn was None = None
-limit_after x time turn None (Some cfg) = Some (first_limit time turn cfg)
-limit_after x time turn (Some was) (Some cfg) = Some (record {
+abbrev pub limit_set_on : Gauge → ℕ → ℕ → Option Standing → Option LimitCfg → Option Standing
+limit_set_on x time turn was None = None
+limit_set_on x time turn None (Some cfg) = Some (first_limit time turn cfg)
+limit_set_on x time turn (Some was) (Some cfg) = Some (record {
   cfg = cfg;
   turn = turn;
   time = time;
@@ -112,11 +112,11 @@ limit_after x time turn (Some was) (Some cfg) = Some (record {
 abbrev pub limited : ℕ → ℕ → SideId → Option LimitCfg → Links → Links
 limited time turn e cfg k =
     put_gauge e (gauge_set (side_at k e).limit cfg time (gauge_at k e))
-    (change_side e (λ x. record x { limit = limit_after (gauge_at k e) time turn x.limit cfg }) k)
+    (change_side e (λ x. record x { limit = limit_set_on (gauge_at k e) time turn x.limit cfg }) k)
 
 -- the side moved so many bytes in a direction at a time
-abbrev pub spent : ℕ → SideId → Dir → ℕ → Links → Links
-spent time e d n k = put_gauge e (gauge_after (side_at k e).limit time d n (gauge_at k e)) k
+abbrev pub bucket_spent : ℕ → SideId → Dir → ℕ → Links → Links
+bucket_spent time e d n k = put_gauge e (gauge_after (side_at k e).limit time d n (gauge_at k e)) k
 
 -- Passing
 

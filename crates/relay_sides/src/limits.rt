@@ -1,9 +1,9 @@
 // Limits of sides: memory for them is made before they are set.
 ghost use Rattle.std.specs.Prelude.{◌≡◌, ◌<◌, ◌≤◌, ◌+◌, ◌-◌, ◌^◌, true, OnOk, vec_len};
 ghost use Rattle.std.specs.Option.{option_map, option_to_list};
-ghost use Rattle.side_limit.specs.LimitValue.{holds, spent as spent_value};
-ghost use Rattle.relay_sides.specs.Links.{side_at, gauge_at, change_side, allowance_at, limited, spent};
-ghost use Rattle.relay_sides.specs.Limits.{IsWithin, kept_value, first_kept, set_kept, gains_kept, limit_gains};
+ghost use Rattle.side_limit.specs.LimitValue.{bucket_holds, with_spent};
+ghost use Rattle.relay_sides.specs.Links.{side_at, gauge_at, change_side, allowance_at, limited, bucket_spent};
+ghost use Rattle.relay_sides.specs.KeptLimits.{IsAllowed, kept_value, first_kept, set_kept, gains_kept, limit_gains};
 ghost use Rattle.relay_sides.specs.SideView.{gauge_by};
 ghost use Rattle.relay_sides.specs.Opening.{limits_in};
 
@@ -78,7 +78,7 @@ impl SpareLimits {
 /// What a limit leaves to move in a direction at a time, where there is one.
 fn allowance_of(limit: &Option<Box<SideLimit>>, dir: Dir, time: u64) -> Option<u64>
     requires { (gauge_by (kept_value limit.now)).time ≤ time }
-    ensures { result ≡ option_map (λ x. holds x dir time) (kept_value limit.now) }
+    ensures { result ≡ option_map (λ x. bucket_holds x dir time) (kept_value limit.now) }
 {
     let limit = limit.as_ref()?;
     Some(limit.allowance(dir, time))
@@ -87,8 +87,8 @@ fn allowance_of(limit: &Option<Box<SideLimit>>, dir: Dir, time: u64) -> Option<u
 /// Bytes were moved in a direction at a time, as many as the limit allows, where there is one.
 fn spend_of(limit: &mut Option<Box<SideLimit>>, dir: Dir, count: u64, time: u64)
     requires later { (gauge_by (kept_value limit.old)).time ≤ time }
-    requires within { IsWithin count (option_map (λ x. holds x dir time) (kept_value limit.old)) }
-    ensures { kept_value limit.new ≡ option_map (spent_value dir count time) (kept_value limit.old) }
+    requires within { IsAllowed count (option_map (λ x. bucket_holds x dir time) (kept_value limit.old)) }
+    ensures { kept_value limit.new ≡ option_map (with_spent dir count time) (kept_value limit.old) }
 {
     if let Some(limit) = limit.as_mut() {
         limit.spend(dir, count, time);
@@ -146,8 +146,8 @@ impl Sides {
     pub fn spend(&mut self, side: SideId, dir: Dir, count: u64, time: u64)
         requires opened { side.link < self.old.links.opened }
         requires later { (gauge_at self.old.links side).time ≤ time }
-        requires within { IsWithin count (allowance_at time self.old.links side dir) }
-        ensures links { self.new.links ≡ spent time side dir count self.old.links }
+        requires within { IsAllowed count (allowance_at time self.old.links side dir) }
+        ensures links { self.new.links ≡ bucket_spent time side dir count self.old.links }
         ensures reads { self.new.spare_reads ≡ self.old.spare_reads }
     {
         let own = &mut self.sides[side.number()];

@@ -17,7 +17,7 @@ use Rattle.rate_group.proofs.LevelsByCalls.{tick-some}
 use Rattle.relay_model.specs.Settings.{GroupSet}
 use Rattle.relay_model.specs.Groups.{no_spell, group_level, suspended_in, is_suspended, least_share}
 use Rattle.relay_state.specs.Running.{refilled, short_after, Ascend, last_of}
-use Rattle.relay_steps.specs.Grouped.{DirectionFits}
+use Rattle.relay_steps.specs.Grouped.{GroupLaneFits}
 use Rattle.relay_steps.proofs.BucketLemmas.{running_is_least}
 use Rattle.relay_steps.proofs.RunSteps.{short-append, spells-begins, spells-moves, added, added-none, ascend-push, ascend-last}
 
@@ -150,19 +150,19 @@ module _ (x : GroupSet) (d : Dir) where
   level-is all time h = running_is_least l 0 l.rate all time (tick-some x.cfg d) (rate-within x.cfg d) h
 
   -- what the bucket holds is what the model says
-  pub group_held-is : (bs : List Beat) (time : ℕ) (v : Lane) → DirectionFits x d bs time v → held v.level ≡ group_level x d (spells bs) time
+  pub group_held-is : (bs : List Beat) (time : ℕ) (v : Lane) → GroupLaneFits x d bs time v → held v.level ≡ group_level x d (spells bs) time
   group_held-is bs time v k =
       let burst = k.burst in
       let short = k.short in
       (λ i. burst i - short i) ∙ sym (level-is (spells bs) time k.ascend)
 
   -- a group that has just been made, at time 0
-  pub first-fits : DirectionFits x d [] 0 (first_lane (limit_of x.cfg d))
+  pub first-fits : GroupLaneFits x d [] 0 (first_lane (limit_of x.cfg d))
   first-fits = record { burst = refl; short = refl; suspended = refl; ascend = refl }
 
   -- where the turns are the same
-  pub direction-same : (bs cs : List Beat) (time : ℕ) (v : Lane) → spells cs ≡ spells bs → DirectionFits x d bs time v →
-      DirectionFits x d cs time v
+  pub direction-same : (bs cs : List Beat) (time : ℕ) (v : Lane) → spells cs ≡ spells bs → GroupLaneFits x d bs time v →
+      GroupLaneFits x d cs time v
   direction-same bs cs time v same k = record {
     burst = k.burst;
     short = k.short ∙ ap (short_after l 0 (l.burst - l.rate)) (sym same);
@@ -171,7 +171,7 @@ module _ (x : GroupSet) (d : Dir) where
   }
 
   -- a bucket that holds nothing is suspended
-  used_up : (bs : List Beat) (time : ℕ) (v : Lane) → DirectionFits x d bs time v → held v.level ≡ 0 → v.suspended ≡ true
+  used_up : (bs : List Beat) (time : ℕ) (v : Lane) → GroupLaneFits x d bs time v → held v.level ≡ 0 → v.suspended ≡ true
   used_up bs time v k none = by (has-last (spells bs))
     where
       zero_level : group_level x d (spells bs) time ≡ 0
@@ -197,8 +197,8 @@ module _ (x : GroupSet) (d : Dir) where
 
   -- A turn begins: what came with its ticks is there, and the group stays suspended unless it has the least share.
   pub begins-fits : (bs : List Beat) (time ms n : ℕ) (v : Lane) → time ≤ ms → n ≡ ticks (limit_of x.cfg d).tick time ms →
-      0 < least_share x → DirectionFits x d bs time v →
-      DirectionFits x d (bs ++ Begins ms ∷ []) ms (lane_refilled (limit_of x.cfg d) (least_share x) n v)
+      0 < least_share x → GroupLaneFits x d bs time v →
+      GroupLaneFits x d (bs ++ Begins ms ∷ []) ms (lane_refilled (limit_of x.cfg d) (least_share x) n v)
   begins-fits bs time ms n v later many some k =
       let xs = spells bs in
       let z : Spell = record { time = ms; moved = 0 } in
@@ -234,11 +234,11 @@ module _ (x : GroupSet) (d : Dir) where
       }
 
   -- Bytes are moved: the group is suspended where nothing is left.
-  pub moves-fits : (bs : List Beat) (time n : ℕ) (v : Lane) → (spells bs ≡ [] → n ≡ 0) → DirectionFits x d bs time v →
-      DirectionFits x d (bs ++ Moves n ∷ []) time (lane_less n v)
+  pub moves-fits : (bs : List Beat) (time n : ℕ) (v : Lane) → (spells bs ≡ [] → n ≡ 0) → GroupLaneFits x d bs time v →
+      GroupLaneFits x d (bs ++ Moves n ∷ []) time (lane_less n v)
   moves-fits bs time n v none k = by (has-last (spells bs))
     where
-      by : HasLast (spells bs) → DirectionFits x d (bs ++ Moves n ∷ []) time (lane_less n v)
+      by : HasLast (spells bs) → GroupLaneFits x d (bs ++ Moves n ∷ []) time (lane_less n v)
       by (inl empty) =
           let zero_moved = none empty in
           let same : spells (bs ++ Moves n ∷ []) ≡ spells bs =

@@ -24,7 +24,7 @@ use Rattle.relay_model.specs.Plain.{Plain, side_at, is_live, sides_from}
 use Rattle.relay_model.specs.Groups.{same_group, group_after, beat_among, beats_among, group_spells, least_share}
 use Rattle.relay_model.proofs.Frames.{rates_of}
 use Rattle.relay_model.proofs.PastLemmas.{beats_among-push}
-use Rattle.relay_steps.specs.Grouped.{DirectionFits, GroupFits, Grouped}
+use Rattle.relay_steps.specs.Grouped.{GroupLaneFits, GroupFits, Grouped}
 use Rattle.relay_steps.specs.Meaning.{HasItsGroups}
 use Rattle.relay_steps.proofs.BucketLemmas.{div-later}
 use Rattle.relay_steps.proofs.GroupLemmas.{direction-same, begins-fits, moves-fits}
@@ -97,8 +97,8 @@ module _ (g : Settings) (t : Trace) (time n : ℕ) (x : GroupSet) where
         (λ i. max (k.tick i) (ms / (k.cfg i).tick_ms))
         ∙ (let d = div-later time ms x.cfg.tick_ms x.cfg.ticks later in omega (arith, d));
     each = λ d.
-        subst (λ z. DirectionFits x d z ms (lane_of (refilled_to ms v) d)) (sym (pushed d (entry.Turn ms, []) (Begins ms) refl))
-        (subst (DirectionFits x d (beats_among g n d [] t ++ Begins ms ∷ []) ms) (sym (lane-is d))
+        subst (λ z. GroupLaneFits x d z ms (lane_of (refilled_to ms v) d)) (sym (pushed d (entry.Turn ms, []) (Begins ms) refl))
+        (subst (GroupLaneFits x d (beats_among g n d [] t ++ Begins ms ∷ []) ms) (sym (lane-is d))
         (begins-fits x d (beats_among g n d [] t) time ms brought (lane_of v d) later (same d) some (k.each d)));
   }
     where
@@ -124,13 +124,13 @@ module _ (g : Settings) (t : Trace) (time n : ℕ) (x : GroupSet) where
       some : spells (beats_among g n f [] t) ≡ [] → m ≡ 0
       some empty = let none = ap length empty in absurd (omega (arith, none, begun))
 
-      moved : (d : Dir) → d ≡ f → DirectionFits x d (beats_among g n d [] (t ++ y ∷ [])) time (lane_less m (lane_of v d))
+      moved : (d : Dir) → d ≡ f → GroupLaneFits x d (beats_among g n d [] (t ++ y ∷ [])) time (lane_less m (lane_of v d))
       moved d is =
-          subst (λ e. DirectionFits x e (beats_among g n e [] (t ++ y ∷ [])) time (lane_less m (lane_of v e))) (sym is)
-          (subst (λ z. DirectionFits x f z time (lane_less m (lane_of v f))) (sym (pushed f y (Moves m) own))
+          subst (λ e. GroupLaneFits x e (beats_among g n e [] (t ++ y ∷ [])) time (lane_less m (lane_of v e))) (sym is)
+          (subst (λ z. GroupLaneFits x f z time (lane_less m (lane_of v f))) (sym (pushed f y (Moves m) own))
           (moves-fits x f (beats_among g n f [] t) time m (lane_of v f) some (k.each f)))
 
-      stays : (d : Dir) → d ≢ f → DirectionFits x d (beats_among g n d [] (t ++ y ∷ [])) time (lane_of v d)
+      stays : (d : Dir) → d ≢ f → GroupLaneFits x d (beats_among g n d [] (t ++ y ∷ [])) time (lane_of v d)
       stays d apart =
           direction-same x d (beats_among g n d [] t) (beats_among g n d [] (t ++ y ∷ [])) time (lane_of v d)
           (ap spells (pushed d y (Moves 0) (across d apart)) ∙ none-step (beats_among g n d [] t)) (k.each d)
@@ -143,7 +143,7 @@ module _ (g : Settings) (t : Trace) (time n : ℕ) (x : GroupSet) where
         each = read_each;
       }
         where
-          read_each : (d : Dir) → DirectionFits x d (beats_among g n d [] (t ++ y ∷ [])) time (lane_of (spent_in dir.Read m v) d)
+          read_each : (d : Dir) → GroupLaneFits x d (beats_among g n d [] (t ++ y ∷ [])) time (lane_of (spent_in dir.Read m v) d)
           read_each dir.Read = moved dir.Read is
           read_each dir.Write = stays dir.Write (λ h. let bad : dir.Write ≡ dir.Read = h ∙ sym is in absurd (cc))
       by_dir dir.Write is = record {
@@ -153,7 +153,7 @@ module _ (g : Settings) (t : Trace) (time n : ℕ) (x : GroupSet) where
         each = write_each;
       }
         where
-          write_each : (d : Dir) → DirectionFits x d (beats_among g n d [] (t ++ y ∷ [])) time (lane_of (spent_in dir.Write m v) d)
+          write_each : (d : Dir) → GroupLaneFits x d (beats_among g n d [] (t ++ y ∷ [])) time (lane_of (spent_in dir.Write m v) d)
           write_each dir.Write = moved dir.Write is
           write_each dir.Read = stays dir.Read (λ h. let bad : dir.Read ≡ dir.Write = h ∙ sym is in absurd (cc))
 

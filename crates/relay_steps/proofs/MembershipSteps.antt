@@ -24,7 +24,7 @@ use Rattle.relay_model.specs.Plain.{Plain, no_side, side_at, is_live, with_link,
 use Rattle.relay_model.proofs.PlainLemmas.{side_at-new, side_at-old}
 use Rattle.relay_state.specs.State.{new_groups}
 use Rattle.relay_state.specs.Opening.{joined_where}
-use Rattle.relay_steps.specs.Grouped.{DirectionFits, GroupFits, Grouped}
+use Rattle.relay_steps.specs.Grouped.{GroupLaneFits, GroupFits, Grouped}
 use Rattle.relay_steps.specs.Meaning.{HasItsGroups}
 use Rattle.relay_steps.proofs.EndLemmas.{number-same}
 use Rattle.relay_steps.proofs.GroupLemmas.{first-fits}
@@ -248,6 +248,6 @@ new-grouped g = record {
       each = both;
     }
       where
-        both : (d : Dir) → DirectionFits y d [] 0 (lane_of (made y.cfg y.share 0) d)
+        both : (d : Dir) → GroupLaneFits y d [] 0 (lane_of (made y.cfg y.share 0) d)
         both dir.Read = first-fits y dir.Read
         both dir.Write = first-fits y dir.Write

@@ -25,7 +25,7 @@ group_short x d bs = let l = limit_of x.cfg d in short_after l 0 (l.burst - l.ra
 
 -- One direction of a group fits what happened to its bucket: it is as short of full as that says, and suspended where that says so.
 -- Besides, its turns ascend to the time.
-pub record DirectionFits (x : GroupSet) (d : Dir) (bs : List Beat) (time : ℕ) (v : Lane) : Type 0 where
+pub record GroupLaneFits (x : GroupSet) (d : Dir) (bs : List Beat) (time : ℕ) (v : Lane) : Type 0 where
   pub burst : v.level.burst ≡ (limit_of x.cfg d).burst
   pub short : v.level.short ≡ group_short x d bs
   pub suspended : v.suspended ≡ is_suspended x d (spells bs)
@@ -37,7 +37,7 @@ pub record GroupFits (g : Settings) (t : Trace) (time n : ℕ) (x : GroupSet) (v
   pub cfg : v.cfg ≡ x.cfg
   pub least : v.least ≡ least_share x
   pub tick : v.tick ≡ time / x.cfg.tick_ms
-  pub each : (d : Dir) → DirectionFits x d (beats_among g n d [] t) time (lane_of v d)
+  pub each : (d : Dir) → GroupLaneFits x d (beats_among g n d [] t) time (lane_of v d)
 
 -- So does each group of the settings. The members are the sides that have a group, each once, and each group counts its own. A side's
 -- group is one of the settings, and a side that isn't live has none.

@@ -4,7 +4,8 @@ pub mod TurnLemmas
 pub mod TallyLemmas
 pub mod LawLemmas
 pub mod SpelledLengthLemmas
-pub mod RunnableLemmas
+pub mod SaidLemmas
+pub mod GroupsLemmas
 pub mod LimitLemmas
 pub mod ShapeLemmas
 pub mod BesideLemmas

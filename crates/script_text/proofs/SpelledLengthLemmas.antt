@@ -79,16 +79,16 @@ bytes_in _ = 0
 abbrev IsSmall : ℕ → Line → Type 0
 IsSmall n x = 2 * bytes_in x ≤ n
 
-some-map : {A B : Type 0} (P : B → Type 0) (f : A → B) → ((x : A) → P (f x)) → (o : Option A) → IfSome (option_map f o) P
+pub some-map : {A B : Type 0} (P : B → Type 0) (f : A → B) → ((x : A) → P (f x)) → (o : Option A) → IfSome (option_map f o) P
 some-map P f each None = tt
 some-map P f each (Some x) = each x
 
-some-then : {A B : Type 0} (P : B → Type 0) (f : A → Option B) → ((x : A) → IfSome (f x) P) → (o : Option A) →
+pub some-then : {A B : Type 0} (P : B → Type 0) (f : A → Option B) → ((x : A) → IfSome (f x) P) → (o : Option A) →
     IfSome (option_and_then f o) P
 some-then P f each None = tt
 some-then P f each (Some x) = each x
 
-some-if : {A : Type 0} (P : A → Type 0) (b : Bool) (x y : Option A) → IfSome x P → IfSome y P → IfSome (if b then x else y) P
+pub some-if : {A : Type 0} (P : A → Type 0) (b : Bool) (x y : Option A) → IfSome x P → IfSome y P → IfSome (if b then x else y) P
 some-if P true x y px py = px
 some-if P false x y px py = py
 

@@ -6,7 +6,7 @@ use Rattle.ev_types.specs.declared.settings.Settings.{Settings}
 use Rattle.ev_types.specs.Usual.{usual}
 use Rattle.script_text.specs.declared.setting.Setting.{Setting}
 use Rattle.script_text.specs.declared.setting.Setting.TheVariants.{Hold, Filter, Marks, Timeouts, Rate, Group, Member}
-use Rattle.script_text.specs.declared.groups.Members.{Members}
+use Rattle.script_text.specs.declared.members.Members.{Members}
 use Rattle.script_text.specs.declared.setting.Given.{Given}
 
 -- no side has a group

@@ -6,7 +6,7 @@ use Rattle.script_text.specs.Ends.{side_of}
 use Rattle.script_text.specs.Limits.{limit_said}
 use Rattle.script_text.specs.ActGrammar.{planned_ask}
 use Rattle.script_text.specs.ValueGrammar.{◌>>=◌, why_kind_of}
-use Rattle.script_text.specs.declared.groups.GroupSet.{GroupSet}
+use Rattle.rate_group.specs.declared.group_set.GroupSet.{GroupSet}
 use Rattle.script_text.specs.declared.line.Line.{Line}
 use Rattle.script_text.specs.declared.line.Line.TheVariants as line
 

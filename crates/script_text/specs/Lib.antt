@@ -1,5 +1,6 @@
 pub mod Given
 pub mod Script
+pub mod GroupsAreSet
 pub mod ScriptView
 pub mod Pieces
 pub mod Numbers
@@ -10,7 +11,6 @@ pub mod Grammar
 pub mod Order
 pub mod Brought
 pub mod Spelled
-pub mod Runnable
 pub mod Tally
 pub mod ReadingView
 pub mod Lines

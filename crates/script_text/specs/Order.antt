@@ -10,7 +10,7 @@ use Rattle.script_text.specs.declared.line.Line.{Line}
 use Rattle.script_text.specs.declared.line.Line.TheVariants.{Set, Plan, At, Within, Skipped}
 use Rattle.script_text.specs.declared.setting.Setting.{Setting}
 use Rattle.script_text.specs.declared.setting.Setting.TheVariants.{Group, Member}
-use Rattle.script_text.specs.declared.groups.GroupSet.{GroupSet}
+use Rattle.rate_group.specs.declared.group_set.GroupSet.{GroupSet}
 use Rattle.ev_types.specs.ScriptTurn.{ScriptTurn, lines_of}
 use Rattle.script_text.specs.Given.{with_setting}
 use Rattle.script_text.specs.Script.{SoFar}

@@ -3,8 +3,8 @@ use Rattle.std.specs.Prelude.{List}
 use Rattle.ev_types.specs.ScriptTurn.{ScriptTurn}
 use Rattle.ev_types.specs.declared.settings.Settings.{Settings}
 use Rattle.ev_types.specs.declared.side.SideId.{SideId}
-use Rattle.script_text.specs.declared.groups.Members.{Members}
-use Rattle.script_text.specs.declared.groups.GroupSet.{GroupSet}
+use Rattle.script_text.specs.declared.members.Members.{Members}
+use Rattle.rate_group.specs.declared.group_set.GroupSet.{GroupSet}
 use Rattle.ev_types.specs.declared.plan_line.PlanLine.{PlanLine}
 use Rattle.script_text.specs.declared.setting.Given.{Given}
 use Rattle.script_text.specs.Given.{settings_by}

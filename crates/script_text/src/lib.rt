@@ -5,14 +5,13 @@ mod act_text;
 mod act_words;
 mod entry_text;
 mod entry_words;
-mod groups;
 mod laws;
 mod line;
+mod members;
 mod plan;
 mod push;
 mod read;
 mod room;
-mod runnable;
 mod script;
 mod set_words;
 mod setting;
@@ -27,14 +26,14 @@ pub use entry_text::put_entry;
 pub use ev_types::{
     ByteList, LinkCount as LinkLine, Marks, PlanLine, Settings, Timeouts, TurnLine,
 };
-pub use groups::{GroupSet, Members};
 pub use laws::{
     lines_are_parted, numbers_are_decimal, phrase_has_its_words, refused_at_first_bad,
     trace_refused_at_first_bad, written_is_read,
 };
+pub use members::Members;
+pub use rate_group::GroupSet;
 pub use read::read_script;
 pub use room::{LINE_ROOM, make_room};
-pub use runnable::read_runnable_script;
 pub use script::{Script, ScriptFault};
 pub use trace::read_trace;
 pub use value_words::filter_named;

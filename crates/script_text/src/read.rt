@@ -3,17 +3,18 @@ ghost use Rattle.std.specs.Prelude.{◌≡◌, ◌≤◌, ◌<◌, ◌*◌, not,
 ghost use Rattle.ev_types.specs.Sides.{number};
 ghost use Rattle.ev_types.specs.ScriptTurn.{lines_of};
 ghost use Rattle.script_text.specs.Brought.{all_brought};
+ghost use Rattle.script_text.specs.GroupsAreSet.{GroupsAreSet};
 ghost use Rattle.script_text.specs.Order.{extended, may_be_set, with_line, may_follow, is_known, is_undecided, is_ended};
 ghost use Rattle.script_text.specs.Script.{whole};
 ghost use Rattle.script_text.specs.Spelled.{line_read, no_line, script_of, IsTold};
 
-use crate::groups::GroupSet;
 use crate::line::{Line, line_of};
 use crate::setting::{Given, Setting};
 use crate::tally::{count_line, count_link, kept};
 use crate::words::{first_piece, is_plain_text, told, words_of};
 use crate::{Script, ScriptFault, TurnLine};
 use ev_types::{NoMemory, PlanLine, SideId};
+use rate_group::GroupSet;
 use std::alloc::Global;
 use std::marker::Model;
 
@@ -233,6 +234,7 @@ fn may_be_set(groups: &[GroupSet], setting: Setting) -> bool
 /// Own.
 pub fn read_script(alloc: Global, text: &[u8]) -> Result<Script, ScriptFault>
     ensures script { IfOk result (λ script. script_of text.now ≡ Ok script) }
+    ensures groups { IfOk result (λ script. GroupsAreSet script.groups script.members) }
     ensures bytes { IfOk result (λ script. 2 * all_brought (lines_of script.turns) ≤ length text.now) }
     ensures fault { IfErr result (λ fault. IsTold fault (script_of text.now)) }
 {

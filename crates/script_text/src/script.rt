@@ -3,8 +3,9 @@
 ghost use Rattle.std.specs.Prelude.{◌≡◌};
 ghost use Rattle.script_text.specs.declared.script.ScriptFault.TheVariants.{Memory};
 
-use crate::groups::{GroupSet, Members};
+use crate::members::Members;
 use ev_types::{NoMemory, PlanLine, Settings, SideId, TurnLine};
+use rate_group::GroupSet;
 use std::alloc::{AllocError, AllocFailed};
 use std::marker::Model;
 use thiserror::Error;

@@ -4,12 +4,12 @@ ghost use Rattle.script_text.specs.Grammar.{hold_of, said_by, set_by, setting_na
 ghost use Rattle.script_text.specs.GroupsAndPlans.{group_of, group_set_of, share_of};
 
 use crate::act_words::limit;
-use crate::groups::GroupSet;
 use crate::line::{Keyword, Line};
 use crate::setting::{Setting, SettingName};
 use crate::value_words::{filter_named, read_side};
 use crate::words::{is_word, number};
 use ev_types::{Dir, Marks, Side, Timeouts};
+use rate_group::GroupSet;
 
 /// The most bytes that a mark can have.
 const MAX_MARK: u64 = 1 << 24;

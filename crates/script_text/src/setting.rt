@@ -2,8 +2,9 @@
 ghost use Rattle.std.specs.Prelude.{◌≡◌, Some, None, is_none, if◌then◌else◌};
 ghost use Rattle.script_text.specs.Given.{nothing_given, settings_by, with_setting};
 
-use crate::groups::{GroupSet, Members};
+use crate::members::Members;
 use ev_types::{Dir, FilterKind, LimitCfg, Marks, Settings, Side, Timeouts};
+use rate_group::GroupSet;
 
 /// Which setting a line names.
 ///

@@ -19,31 +19,31 @@ abbrev pub first_value : LimitCfg → ℕ → ℕ → LimitValue
 first_value cfg turn time = record { standing = first_limit time turn cfg; gauge = first_gauge cfg time }
 
 -- what a bucket holds at a time
-abbrev pub holds : LimitValue → Dir → ℕ → ℕ
-holds v d time = held_at v.standing.cfg v.gauge d time
+abbrev pub bucket_holds : LimitValue → Dir → ℕ → ℕ
+bucket_holds v d time = held_at v.standing.cfg v.gauge d time
 
 -- Another limit in its place. It takes what the buckets hold with it, cut to its bursts.
-abbrev pub changed : LimitCfg → ℕ → ℕ → LimitValue → LimitValue
-changed cfg turn time v = record {
+abbrev pub with_cfg : LimitCfg → ℕ → ℕ → LimitValue → LimitValue
+with_cfg cfg turn time v = record {
   standing = record {
     cfg = cfg;
     turn = turn;
     time = time;
-    read_level = min (holds v dir.Read time) cfg.read_burst;
-    write_level = min (holds v dir.Write time) cfg.write_burst;
+    read_level = min (bucket_holds v dir.Read time) cfg.read_burst;
+    write_level = min (bucket_holds v dir.Write time) cfg.write_burst;
   };
   gauge = next_gauge v.standing.cfg cfg time v.gauge;
 }
 
 -- both buckets are brought up to date
-abbrev pub up_to : ℕ → LimitValue → LimitValue
-up_to time v = record v { gauge = brought v.standing.cfg time v.gauge }
+abbrev pub brought_up : ℕ → LimitValue → LimitValue
+brought_up time v = record v { gauge = brought v.standing.cfg time v.gauge }
 
 -- bytes are moved in a direction at a time
-abbrev pub spent : Dir → ℕ → ℕ → LimitValue → LimitValue
-spent d n time v = record v { gauge = spent_by d n (brought v.standing.cfg time v.gauge) }
+abbrev pub with_spent : Dir → ℕ → ℕ → LimitValue → LimitValue
+with_spent d n time v = record v { gauge = spent_by d n (brought v.standing.cfg time v.gauge) }
 
 -- when a bucket that holds nothing at a time gains again: the next tick, or no moment where both hold something
-abbrev pub gains : LimitValue → ℕ → List ℕ
-gains v time =
-    moment_where (list_any (λ d. holds v d time == 0) both_ways) (next_tick v.standing.cfg.tick_ms time)
+abbrev pub next_gains : LimitValue → ℕ → List ℕ
+next_gains v time =
+    moment_where (list_any (λ d. bucket_holds v d time == 0) both_ways) (next_tick v.standing.cfg.tick_ms time)

@@ -40,7 +40,7 @@ impl Model for SideLimit {
 }
 
 impl SideLimit {
-    ghost use Rattle.side_limit.specs.LimitValue.{first_value, holds, changed, up_to, spent, gains};
+    ghost use Rattle.side_limit.specs.LimitValue.{first_value, bucket_holds, with_cfg, brought_up, with_spent, next_gains};
 
     /// A limit that is the first one of its side, set in a turn at its time in milliseconds. Either bucket holds the bytes of one
     /// tick. Takes no memory; constant cost.
@@ -80,7 +80,7 @@ impl SideLimit {
     /// Libevent: `bufferevent_set_rate_limit`.
     pub fn change(&mut self, cfg: LimitCfg, turn: u64, time: u64)
         requires { self.old.gauge.time ≤ time }
-        ensures { self.new ≡ changed cfg turn time self.old }
+        ensures { self.new ≡ with_cfg cfg turn time self.old }
     {
         self.bring(time);
         self.bucket.change(&cfg, time);
@@ -106,7 +106,7 @@ impl SideLimit {
     /// Libevent: `bufferevent_get_max_to_read`, `bufferevent_get_max_to_write`.
     pub fn allowance(&self, dir: Dir, time: u64) -> u64
         requires { self.now.gauge.time ≤ time }
-        ensures { result ≡ holds self.now dir time }
+        ensures { result ≡ bucket_holds self.now dir time }
     {
         let mut bucket = self.bucket;
         bucket.refill(&self.cfg, time);
@@ -116,7 +116,7 @@ impl SideLimit {
     /// Brings both buckets up to a time that is not before theirs.
     fn bring(&mut self, time: u64)
         requires { self.old.gauge.time ≤ time }
-        ensures { self.new ≡ up_to time self.old }
+        ensures { self.new ≡ brought_up time self.old }
     {
         self.bucket.refill(&self.cfg, time);
         self.time = time;
@@ -128,8 +128,8 @@ impl SideLimit {
     /// Libevent: `bufferevent_decrement_read_buckets_`, `bufferevent_decrement_write_buckets_`.
     pub fn spend(&mut self, dir: Dir, n: u64, time: u64)
         requires time { self.old.gauge.time ≤ time }
-        requires held { n ≤ holds self.old dir time }
-        ensures { self.new ≡ spent dir n time self.old }
+        requires held { n ≤ bucket_holds self.old dir time }
+        ensures { self.new ≡ with_spent dir n time self.old }
     {
         self.bring(time);
         self.bucket.spend(dir, n);
@@ -143,7 +143,7 @@ impl SideLimit {
     pub fn gains_at(&self, time: u64) -> Option<u64>
         requires time { self.now.gauge.time ≤ time }
         requires within { time ≤ 2 ^ 62 }
-        ensures { option_to_list result ≡ gains self.now time }
+        ensures { option_to_list result ≡ next_gains self.now time }
     {
         if self.allowance(Dir::Read, time) > 0 && self.allowance(Dir::Write, time) > 0 {
             return None;

@@ -1,6 +1,6 @@
 // Lines of limits, groups, members and plans: which of them are in the grammar, and what they say.
 use ev_types::{Act, Dir, LimitCfg, Side, SideId, WhyKind};
-use script_text::{GroupSet, PlanLine, Script, ScriptFault, read_runnable_script, read_script};
+use script_text::{GroupSet, PlanLine, Script, ScriptFault, read_script};
 use std::alloc::Global;
 use std::test::Fail;
 
@@ -74,6 +74,22 @@ const TEXTS: &[(&str, Option<u32>)] = &[
     ("on 0 in read 1", Some(1)),
     ("on", Some(1)),
     ("at 0\non 0 in read 1 nop", Some(2)),
+    // They stand before the turns in any order, and a plan may name a group that no line sets.
+    ("set hold 1\n\nset rate in 1 1 1 1 1\nat 0\nopen", None),
+    ("set group 0 1 1 1 1 1 1\nset member in 0\nat 0", None),
+    ("on 0 in read 1 nop\nset rate in 1 1 1 1 1\nat 0", None),
+    (
+        "on 0 in read 1 stop\non 0 in read 2 rate 0 in none\nset group 0 1 1 1 1 1 1",
+        None,
+    ),
+    ("on 0 in timer 1 leave 0 in\nat 0", None),
+    ("on 0 in timer 1 join 0 in 5\nat 0", None),
+    // The first bad line is told, before them and behind.
+    ("x\nset rate in 1 1 1 1 1", Some(1)),
+    ("set hold 0\nset rate in 1 1 1 1 1", Some(1)),
+    ("# one\nset group 0 1 1 1 1 1 1\nx", Some(3)),
+    ("on 0 in timer 1 leave 0 in\nset hold 0", Some(2)),
+    ("at 0\nx\nset group 0 1 1 1 1 1 1", Some(2)),
 ];
 
 /// The first bad line of a text, if it has one.
@@ -303,39 +319,5 @@ fn says_all(alloc: Global) -> Result<bool, Fail> {
 #[test]
 fn a_script_has_its_limits_groups_and_plans(rt: HostRuntime) -> Result<(), Fail> {
     assert_eq!(rt; says_all(rt.alloc())?, true);
-    Ok(())
-}
-
-/// Texts, each with the line at which a run refuses it.
-const REFUSED: &[(&str, Option<u32>)] = &[
-    ("set hold 1\nat 0\nopen", None),
-    ("set hold 1\n\nset rate in 1 1 1 1 1\nat 0", Some(3)),
-    ("set group 0 1 1 1 1 1 1\nset member in 0", Some(1)),
-    ("on 0 in read 1 nop\nat 0", None),
-    ("on 0 in read 1 nop\nset rate in 1 1 1 1 1", Some(2)),
-    (
-        "on 0 in read 1 stop\non 0 in read 2 rate 0 in none",
-        Some(2),
-    ),
-    ("on 0 in timer 1 leave 0 in\nat 0", Some(1)),
-    // A bad line before it is told, and no bad line behind it.
-    ("x\nset rate in 1 1 1 1 1", Some(1)),
-    ("set hold 0\nset rate in 1 1 1 1 1", Some(1)),
-    ("# one\nset group 0 1 1 1 1 1 1\nx", Some(2)),
-    ("at 0\nx\nset group 0 1 1 1 1 1 1", Some(2)),
-];
-
-fn first_other_refusal(alloc: Global) -> Result<Option<&'static str>, Fail> {
-    for (text, owed) in REFUSED {
-        if bad_line(read_runnable_script(alloc, text.as_bytes()))? != *owed {
-            return Ok(Some(text));
-        }
-    }
-    Ok(None)
-}
-
-#[test]
-fn what_no_run_obeys_is_refused_at_its_line(rt: HostRuntime) -> Result<(), Fail> {
-    assert_eq!(rt; first_other_refusal(rt.alloc())?, None);
     Ok(())
 }

@@ -115,6 +115,8 @@ const SET: Settings = Settings {
     in_write: FilterKind::None,
     out_read: FilterKind::None,
     out_write: FilterKind::HexOut,
+    in_rate: None,
+    out_rate: None,
     in_marks: Marks {
         read_low: 9,
         read_high: 10,

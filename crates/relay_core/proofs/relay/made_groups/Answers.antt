@@ -4,7 +4,7 @@ use Rattle.rate_group.specs.declared.group_set.GroupSet.{GroupSet}
 use Rattle.rate_group.specs.GroupValue.{GroupValue, GroupsValue}
 use Rattle.rate_group.specs.GroupsCalls.{no_groups}
 use Rattle.rate_group.specs.Steps.{all_made, with_groups, made}
-use Rattle.relay_core.specs.Given.{group_given}
+use Rattle.relay_core.specs.GivenGroups.{group_given}
 use Rattle.relay_state.specs.State.{new_groups}
 use Rattle.relay_core.proofs.relay.made_groups.Goals as goal
 

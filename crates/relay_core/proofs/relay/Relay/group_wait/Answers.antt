@@ -12,7 +12,7 @@ use Rattle.relay_core.proofs.relay.Relay.group_wait.Goals as goal
 
 -- how long it is until the moment that the groups answer
 told : (v : RelayValue) (r : ctl.Inside) → relay_of r ≡ v → (answer : Option ℕ) →
-    answer ≡ gains.first_moment (gains.group_gains r.time 0 r.groups.value.members r.groups.value.groups) →
+    answer ≡ gains.first_moment (gains.waiting_gains r.time 0 r.groups.value.members r.groups.value.groups) →
     option_map (λ moment. moment - r.time) answer ≡ wait_until v.state.plain.time (group_gains v.state 0 v.state.groups.groups)
 told v r is answer h =
     let s : State = state_with r r.sides.links in

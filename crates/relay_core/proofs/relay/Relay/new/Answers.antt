@@ -7,7 +7,7 @@ use Rattle.rate_group.specs.GroupValue.{GroupsValue}
 use Rattle.relay_state.specs.Running.{Gauge}
 use Rattle.relay_state.specs.State.{new_groups}
 use Rattle.relay_sides.specs.Links.{Links}
-use Rattle.relay_core.specs.Given.{group_given}
+use Rattle.relay_core.specs.GivenGroups.{group_given}
 use Rattle.relay_core.specs.RelayView.{IsSoundSide}
 use Rattle.relay_core.proofs.RelayLemmas.{length-map}
 use Rattle.relay_core.proofs.relay.Relay.new.Goals as goal

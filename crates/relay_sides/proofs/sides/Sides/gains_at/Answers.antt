@@ -1,5 +1,5 @@
 use Rattle.std.proofs.Common.{◌∙◌, sym}
-use Rattle.relay_sides.specs.Limits.{limit_gains}
+use Rattle.relay_sides.specs.KeptLimits.{limit_gains}
 use Rattle.relay_sides.specs.SideView.{limit_kept}
 use Rattle.relay_sides.proofs.LimitLemmas.{gains-kept, gauge-found, limit-found, later-found}
 use Rattle.relay_sides.proofs.sides.Sides.gains_at.Goals as goal

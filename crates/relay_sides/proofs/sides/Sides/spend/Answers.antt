@@ -1,5 +1,5 @@
 use Rattle.std.proofs.Common.{refl, sym, subst}
-use Rattle.relay_sides.specs.Limits.{IsWithin}
+use Rattle.relay_sides.specs.KeptLimits.{IsAllowed}
 use Rattle.relay_sides.proofs.LimitLemmas.{allowance-found, later-found, limit_sound, limit_spent}
 use Rattle.relay_sides.proofs.sides.Sides.spend.Goals as goal
 
@@ -10,7 +10,7 @@ spend_of-requires-clause-later c =
 
 pub spend_of-requires-clause-within : goal.spend_of-requires-clause-within
 spend_of-requires-clause-within c =
-    subst (λ z. IsWithin c.args.count z)
+    subst (λ z. IsAllowed c.args.count z)
     (sym (allowance-found c.args.self.now c.self.inside c.self.view_is c.self.invariant c.args.side c.requires.opened c.number.result
     c.number.ensures c.index_mut-own.result.now c.index_mut-own.ensures.value c.args.dir c.args.time))
     c.requires.within

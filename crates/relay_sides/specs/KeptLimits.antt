@@ -7,12 +7,12 @@ use Rattle.relay_model.specs.Plain.{Standing}
 use Rattle.relay_model.specs.Moments.{both_ways, moment_where}
 use Rattle.relay_model.specs.Rates.{next_tick}
 use Rattle.relay_state.specs.Running.{Gauge, held_at}
-use Rattle.side_limit.specs.LimitValue.{LimitValue, first_value, changed, gains}
+use Rattle.side_limit.specs.LimitValue.{LimitValue, first_value, with_cfg, next_gains}
 
 -- no more than is allowed, where there is a limit
-abbrev pub IsWithin : ℕ → Option ℕ → Type 0
-IsWithin n None = ⊤
-IsWithin n (Some most) = n ≤ most
+abbrev pub IsAllowed : ℕ → Option ℕ → Type 0
+IsAllowed n None = ⊤
+IsAllowed n (Some most) = n ≤ most
 
 -- a limit in its memory
 abbrev pub kept_value : Option (Box LimitValue Global) → Option LimitValue
@@ -31,9 +31,9 @@ limit_gains time x (Some y) = moment_where (list_any (λ d. held_at y.cfg x d ti
 abbrev pub set_kept : ℕ → ℕ → Option LimitValue → Option LimitCfg → Option LimitValue
 set_kept time turn was None = None
 set_kept time turn None (Some cfg) = Some (first_value cfg turn time)
-set_kept time turn (Some was) (Some cfg) = Some (changed cfg turn time was)
+set_kept time turn (Some was) (Some cfg) = Some (with_cfg cfg turn time was)
 
 -- when a bucket of it that holds nothing at a time gains again
 abbrev pub gains_kept : ℕ → Option LimitValue → List ℕ
 gains_kept time None = []
-gains_kept time (Some x) = gains x time
+gains_kept time (Some x) = next_gains x time
