@@ -10,8 +10,7 @@ use Rattle.script_text.specs.declared.setting.Given.{Given}
 use Rattle.script_text.specs.Given.{settings_by}
 
 -- the settings that its lines give, who is in which group, the groups by their numbers, what is planned for the hooks of sides, and the
--- turns, in
--- their order
+-- turns, in their order
 pub record ScriptValue : Type 0 where
   pub settings : Settings
   pub members : Members
