@@ -12,17 +12,17 @@ use std::alloc::Global;
 use std::io::Print;
 use token_bucket::LimitCfg;
 
-/// Both say 20 bytes in the first turn, and their targets take all that comes.
+/// Each says 20 bytes at once, and the second one comes a second later. Their targets take all.
 const TWO_CLIENTS: &[u8] = b"
     at 0
     open
     r 0 in 3132333435363738393031323334353637383930
     w 0 out all
+    at 0
+    at 1000
     open
     r 1 in 3132333435363738393031323334353637383930
     w 1 out all
-    at 0
-    at 1000
     at 2000
     at 3000
 ";

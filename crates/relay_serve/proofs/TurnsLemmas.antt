@@ -1,6 +1,6 @@
 -- Turns in a row: none, one more, and one that is cut off.
 use Rattle.std.proofs.Common.{◌≡◌, ◌≢◌, ◌⊎◌, inl, inr, ℕ, ◌+◌, ◌-◌, ◌^◌, min, Bool, true, false, List, [], ◌++◌, refl, sym, ◌∙◌, ap, subst}
-use Rattle.std.proofs.Common.{append-nil, count_by, arith, Result, Err, Option, None, map}
+use Rattle.std.proofs.Common.{append-nil, count_by, arith, Result, Err, Option, None}
 use Rattle.std.specs.Prelude.{⊤}
 use Rattle.ev_types.specs.declared.plan_line.PlanLine.{PlanLine}
 use Rattle.ev_types.specs.declared.side.SideId.{SideId}
@@ -16,9 +16,7 @@ use Rattle.relay_model.specs.Stages.{Stage}
 use Rattle.relay_model.specs.Tied.{IsTied}
 use Rattle.relay_model.proofs.TiedLemmas.{nothing_is_tied}
 use Rattle.ev_types.specs.declared.settings.Settings as code
-use Rattle.relay_state.specs.State.{State, new_state}
-use Rattle.relay_core.specs.GivenGroups.{group_given}
-use Rattle.relay_core.specs.declared.rate_groups.RateGroups.{RateGroups}
+use Rattle.relay_state.specs.State.{State}
 use Rattle.relay_steps.specs.Meaning.{HasItsGroups, StandsFor, LeftFor}
 use Rattle.relay_laws.specs.Relayed.{StoodBetween}
 use Rattle.relay_laws.specs.TurnEnds.{AtTurnEnds}
@@ -30,7 +28,7 @@ use Rattle.relay_drive.specs.declared.fault.DriveFault.TheVariants as fault
 use Rattle.relay_drive.specs.declared.fault.TurnEnd.{TurnEnd}
 use Rattle.relay_drive.specs.declared.fault.TurnEnd.TheVariants as end
 use Rattle.relay_drive.specs.DriveStands.{DriveStands, DriveWent, StandsBetween, turn_answer_of, turn_end_of}
-use Rattle.relay_drive.specs.DriveValue.{DriveValue, new_drive, is_worn}
+use Rattle.relay_drive.specs.DriveValue.{DriveValue, is_worn}
 use Rattle.relay_drive.specs.Known.{Point, Question}
 use Rattle.relay_drive.specs.Seats.{Telling, HooksTell, AreFresh}
 use Rattle.relay_drive.specs.Moves.{knows}
@@ -48,15 +46,6 @@ use Rattle.relay_serve.specs.declared.run.ServeEnd.TheVariants as serve_end
 -- no group is set in what words set
 pub built : (g : code.Settings) (hooks : List SideId) → HasItsGroups (settings_with g hooks)
 built g hooks = record { in_group = tt; out_group = tt; shares = tt }
-
--- a new drive that is given no groups
-pub none-given : (g : code.Settings) (x : RateGroups) (hooks : List SideId) → x.groups.items ≡ [] → x.in_group ≡ None → x.out_group ≡ None →
-    new_drive g x hooks ≡ groupless_drive g hooks
-none-given g x hooks groups near far = λ i. record {
-  state = new_state (record (settings_with g hooks) { groups = map group_given (groups i); in_group = near i; out_group = far i });
-  entries = 0;
-  kept = None;
-}
 
 -- a drive went so, stands for what its turns put, and so many turns are told of
 abbrev pub Standing : Settings → Seen → Seen → DriveValue → ℕ → Type 0
