@@ -1,15 +1,13 @@
 // Lines of a plan become calls.
-ghost use Rattle.std.specs.Prelude.{◌≡◌, [], true, ◌==◌, ◌&&◌};
-ghost use Rattle.std.specs.List.{All};
-ghost use Rattle.relay_core.specs.Fires.{AsksOnce, CanPlan, answer_of, can_ask};
+ghost use Rattle.std.specs.Prelude.{◌≡◌, []};
+ghost use Rattle.relay_core.specs.Fires.{AsksOnce, answer_of};
 ghost use Rattle.script_hook.specs.Planning.{AsksAct, AsksPlanned, acts_in};
 
 use ev_types::{Act, PlanLine};
 use relay_core::{AskFault, Ctl};
 
-/// Asks for an act. It is asked that it is none of limits or groups.
+/// Asks for an act.
 fn ask(ctl: &mut Ctl, act: Act) -> Result<(), AskFault>
-    requires { can_ask act ≡ true }
     ensures { AsksOnce ctl.old act (answer_of result) ctl.new }
 {
     match act {
@@ -18,19 +16,20 @@ fn ask(ctl: &mut Ctl, act: Act) -> Result<(), AskFault>
         Act::Disable(side, dir) => ctl.disable(side, dir),
         Act::Marks(side, dir, low, high) => ctl.set_watermark(side, dir, low, high),
         Act::Timeouts(side, read, write) => ctl.set_timeouts(side, read, write),
+        Act::Rate(side, cfg) => ctl.set_rate(side, cfg),
+        Act::Join(side, group) => ctl.join_group(side, group),
+        Act::Leave(side) => ctl.leave_group(side),
         Act::Trigger(side, dir) => ctl.trigger(side, dir),
         Act::Timer(side, delay) => ctl.add_timer(side, delay),
         Act::Cancel(side) => ctl.cancel_timer(side),
         Act::Incref(side) => ctl.incref(side),
         Act::Decref(side) => ctl.decref(side),
         Act::Stop => ctl.stop(),
-        Act::Rate(..) | Act::Join(..) | Act::Leave(_) => unreachable!(),
     }
 }
 
 /// Asks what a line says.
 fn ask_line(ctl: &mut Ctl, line: &PlanLine)
-    requires able { CanPlan line.now }
     ensures { AsksAct ctl.old line.now.act ctl.new }
 {
     if let Some(act) = line.act {
@@ -40,7 +39,6 @@ fn ask_line(ctl: &mut Ctl, line: &PlanLine)
 
 /// Asks what the lines say, in their order. Linear in them.
 pub(crate) fn ask_lines(ctl: &mut Ctl, lines: &[PlanLine])
-    requires able { All CanPlan lines.now }
     requires unasked { ctl.old.asks ≡ 0 }
     requires unrecorded { ctl.old.log ≡ [] }
     ensures { AsksPlanned (acts_in lines.now) ctl.old ctl.new }

@@ -1,11 +1,10 @@
 // The hook that a script plans.
 ghost use Rattle.std.specs.Prelude.{◌≡◌, ◌∷◌, [], Some, true, OnErr, OnOk};
-ghost use Rattle.std.specs.List.{All};
 ghost use Rattle.std.specs.Option.{option_map};
 ghost use Rattle.relay_model.specs.Hooked.{asked_in};
 ghost use Rattle.relay_model.specs.Plain.{is_live};
 ghost use Rattle.relay_model.specs.Plans.{kind_of};
-ghost use Rattle.relay_core.specs.Fires.{CanPlan, HasAskedByPlan, HasToldNothing, Steps, told_more};
+ghost use Rattle.relay_core.specs.Fires.{HasAskedByPlan, HasToldNothing, Steps, told_more};
 ghost use Rattle.script_hook.specs.Planning.{IsCountedOut};
 
 use crate::ask::ask_lines;
@@ -22,8 +21,9 @@ use std::marker::Model;
 /// and not recorded. It tells its lines, what it heard and what it asked.
 ///
 /// A plan takes the place of the one before. Planning takes the time of a sort of the lines, and memory for a copy of them and for the
-/// sort; where that is wanting, the hook stays as it was. A fire takes time logarithmic in the lines and linear in those for it, and no
-/// memory but for the timers that it asks for. The 2^64-th fire for a kind is refused as out of memory, and asks nothing.
+/// sort; where that is wanting, the hook stays as it was. A fire takes time logarithmic in the lines and linear in those for it, beside
+/// what its asks take, and no memory but for the timers and groups that it asks for. The 2^64-th fire for a kind is refused as out of
+/// memory, and asks nothing.
 ///
 /// Own.
 #[derive(Drop)]
@@ -35,10 +35,8 @@ pub struct ScriptHook {
 
 impl Model for ScriptHook {
     ghost use Rattle.std.specs.Prelude.{ℕ, ◌≡◌, filter};
-    ghost use Rattle.std.specs.List.{All};
     ghost use Rattle.std.specs.List.Sorted.{IsNonDecreasingBy};
     ghost use Rattle.ev_types.specs.declared.why.WhyKind.{WhyKind};
-    ghost use Rattle.relay_core.specs.Fires.{CanPlan};
     ghost use Rattle.script_hook.specs.Counts.{Counts};
     ghost use Rattle.script_hook.specs.Keys.{line_key};
     ghost use Rattle.script_hook.specs.Planning.{HookValue, is_at};
@@ -48,7 +46,6 @@ impl Model for ScriptHook {
     ghost view = { λ a. record { lines = a.log.lines; heard = a.log.heard; asked = a.log.asked } };
 
     ghost invariant = { λ a. record {
-      able : All CanPlan a.sorted.items;
       sorted : IsNonDecreasingBy line_key a.sorted.items;
       same : (k : WhyKind) → (n : ℕ) → filter (is_at k n) a.sorted.items ≡ filter (is_at k n) a.log.lines;
       counted : Counts a.fires a.log.heard;
@@ -81,7 +78,6 @@ impl Hook for ScriptHook {
     ghost planned = { λ h. Some h.lines };
 
     fn plan(&mut self, lines: &[PlanLine]) -> Result<(), NoMemory>
-        requires able { All CanPlan lines.now }
         requires unheard { HasToldNothing (Some self.old.heard) }
         requires unasked { HasToldNothing (Some self.old.asked) }
         ensures refused { OnErr result (self.new ≡ self.old) }

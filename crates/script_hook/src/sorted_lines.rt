@@ -1,9 +1,7 @@
 // The lines of a plan, so sorted that those for one fire stand side by side.
 ghost use Rattle.std.specs.Prelude.{◌≡◌, ℕ, ◌<◌, IfOk, filter};
-ghost use Rattle.std.specs.List.{All};
 ghost use Rattle.std.specs.List.Sorted.{IsNonDecreasingBy};
 ghost use Rattle.ev_types.specs.declared.why.WhyKind.{WhyKind as KindOf};
-ghost use Rattle.relay_core.specs.Fires.{CanPlan};
 ghost use Rattle.script_hook.specs.Keys.{key_at, line_key, rank};
 ghost use Rattle.script_hook.specs.Planning.{is_at};
 
@@ -40,8 +38,6 @@ fn line_key(line: &PlanLine) -> u128
 
 /// The lines, sorted; those for one fire keep their order. Takes time as a sort, and memory for them and for the sort.
 pub(crate) fn sorted(alloc: Global, lines: &[PlanLine]) -> Result<Vec<PlanLine>, NoMemory>
-    requires able { All CanPlan lines.now }
-    ensures able { IfOk result (λ v. All CanPlan v.items) }
     ensures sorted { IfOk result (λ v. IsNonDecreasingBy line_key v.items) }
     ensures same { IfOk result (λ v. (k : KindOf) → (n : ℕ) → filter (is_at k n) v.items ≡ filter (is_at k n) lines.now) }
 {

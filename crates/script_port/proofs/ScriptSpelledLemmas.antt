@@ -1,5 +1,5 @@
 -- The lines of a script that a text spells name links that were opened before.
-use Rattle.std.proofs.Common.{◌≡◌, ℕ, zero, suc, ◌+◌, ◌^◌, ◌<◌, Bool, true, false, ◌&&◌, ◌||◌, not, nat_lt, nat_le, if◌then◌else◌, List, []}
+use Rattle.std.proofs.Common.{◌≡◌, ℕ, zero, suc, ◌+◌, ◌<◌, Bool, true, false, ◌&&◌, ◌||◌, not, nat_lt, if◌then◌else◌, List, []}
 use Rattle.std.proofs.Common.{◌∷◌, ◌++◌, length, get_or, Option, Some, None, Result, Ok, Err, refl, sym, ap, subst, ◌∙◌, arith}
 use Rattle.std.proofs.Common.{append_assoc, append-nil, inl, inr}
 use Rattle.std.specs.Prelude.{option_and_then, option_map}
@@ -15,10 +15,10 @@ use Rattle.script_text.specs.declared.line.Line.TheVariants as text_line
 use Rattle.ev_types.specs.ScriptTurn.{ScriptTurn, lines_of}
 use Rattle.script_text.specs.Given.{with_setting}
 use Rattle.script_text.specs.declared.setting.Given.{Given}
+use Rattle.script_text.specs.declared.setting.Setting.{Setting}
 use Rattle.script_text.specs.Script.{SoFar}
 use Rattle.script_text.specs.Pieces.{lines, words}
 use Rattle.script_text.specs.Grammar.{said}
-use Rattle.script_text.specs.declared.groups.GroupSet.{GroupSet}
 use Rattle.script_text.specs.Order.{opened_links, opened, is_ended, is_known, may_follow, with_line, may_be_set, group_set, extended}
 use Rattle.script_text.specs.Spelled.{is_plain, line_read, going_on, lines_read, no_line}
 use Rattle.script_text.proofs.LawLemmas.{script_of-read}
@@ -97,13 +97,13 @@ abbrev IsNamed : SoFar → Type 0
 IsNamed script = NamesOpened 0 (lines_of script.turns)
 
 -- a setting says nothing of a link
-set_named : (script new : SoFar) (more : List GroupSet) (late : Bool) (o : Option Given) →
-    ◌≡◌ {A = Option SoFar} (if late then None else option_map (λ g. record script { given = g; groups = script.groups ++ more }) o)
+set_named : (script new : SoFar) (s : Setting) (late : Bool) (o : Option Given) →
+    ◌≡◌ {A = Option SoFar} (if late then None else option_map (λ g. record script { given = g; groups = script.groups ++ group_set s }) o)
     (Some new) → IsNamed script → IsNamed new
-set_named script new more true o h named = absurd (cc)
-set_named script new more false None h named = absurd (cc)
-set_named script new more false (Some g) h named =
-    subst IsNamed (from_some (record script { given = g; groups = script.groups ++ more }) new h) named
+set_named script new s true o h named = absurd (cc)
+set_named script new s false None h named = absurd (cc)
+set_named script new s false (Some g) h named =
+    subst IsNamed (from_some (record script { given = g; groups = script.groups ++ group_set s }) new h) named
 
 -- nor does a plan
 plan_named : (script new longer : SoFar) (late : Bool) → lines_of longer.turns ≡ lines_of script.turns →
@@ -114,7 +114,7 @@ plan_named script new longer false same h named =
 
 extended_named : (script new : SoFar) (what : Line) → extended script what ≡ Some new → IsNamed script → IsNamed new
 extended_named script new (text_line.Set setting) h named =
-    set_named script new (group_set setting) (nat_lt 0 (length script.turns) || not (may_be_set script.groups setting))
+    set_named script new setting (nat_lt 0 (length script.turns) || not (may_be_set script.groups setting))
     (with_setting script.given setting) h named
 extended_named script new (text_line.Plan side item) h named =
     plan_named script new (record script { plans = script.plans ++ (side, item) ∷ [] }) (nat_lt 0 (length script.turns)) refl h named

@@ -1,11 +1,8 @@
 use Rattle.std.proofs.Common.{Result, Ok, Err, OnErr, ◌≤◌, ◌^◌, ◌≡◌, ◌+◌, ◌∙◌, sym, ap, subst, refl, map, take, filter}
-use Rattle.std.specs.List.{All}
 use Rattle.std.specs.List.Sorted.{IsNonDecreasingBy}
-use Rattle.std.proofs.lemmas.List.Elements.{All-filter}
 use Rattle.relay_model.specs.Asks.{most_asks}
 use Rattle.relay_model.specs.Hooked.{asked_in}
 use Rattle.relay_model.specs.Plans.{acts_at, heard_of, kind_of}
-use Rattle.relay_core.specs.Fires.{CanPlan}
 use Rattle.script_hook.specs.Keys.{line_key}
 use Rattle.script_hook.specs.Planning.{acts_in, is_at}
 use Rattle.script_hook.proofs.PlanLemmas.{planned-push}
@@ -14,11 +11,6 @@ use Rattle.script_hook.proofs.script_hook.ScriptHookHook.fire.Goals as goal
 
 pub lines_at-requires : goal.lines_at-requires
 lines_at-requires c = record { sorted = subst (IsNonDecreasingBy line_key) (sym c.deref.ensures.value) c.self.invariant.sorted }
-
-pub ask_lines-requires-clause-able : goal.ask_lines-requires-clause-able
-ask_lines-requires-clause-able c =
-    let all = subst (All CanPlan) (sym c.deref.ensures.value) c.self.invariant.able in
-    subst (All CanPlan) (sym c.lines_at.ensures) (All-filter _ CanPlan c.deref.result.now all)
 
 pub returns-clause-by_plan : goal.returns-clause-by_plan
 returns-clause-by_plan c =
