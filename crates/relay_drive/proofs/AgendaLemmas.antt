@@ -7,13 +7,16 @@ use Rattle.ev_types.specs.declared.side.SideId.{SideId}
 use Rattle.ev_types.specs.Sides.{number}
 use Rattle.ev_port.specs.Table.{WantsValue, RowsStay}
 use Rattle.number_set.specs.Numbers.{NumberSetValue}
+use Rattle.rate_group.specs.GroupsCalls.{no_groups}
 use Rattle.relay_state.specs.State.{State}
 use Rattle.relay_state.specs.Counting.{is_open}
 use Rattle.relay_state.specs.Closing.{in_side, out_side}
 use Rattle.relay_drive.specs.declared.agenda.Agenda.{Agenda}
-use Rattle.relay_drive.specs.Links.{SameLink, HasPairs, IsStill, IsSettled}
-use Rattle.relay_drive.specs.Agenda.{HoldsBeside, IsGone, IsKept, IsNamed, IsNamedRight, TouchedBut, TouchedAll, IsCovered, ClosingNoted}
-use Rattle.relay_drive.specs.Agenda.{IsUntold, SameBesideWants, SaysOf, KeepsNames}
+use Rattle.relay_model.specs.Settings.{Settings}
+use Rattle.relay_drive.specs.Links.{IsGroupless, SameLink, HasPairs, IsStill, IsSettled}
+use Rattle.relay_drive.specs.Agenda.{MayBeNamed, MayBeNamedRight, HoldsBeside, IsGone, IsKept, IsNamed, IsNamedRight, TouchedBut}
+use Rattle.relay_drive.specs.Agenda.{TouchedAll, IsCovered, ClosingNoted}
+use Rattle.relay_drive.specs.Agenda.{IsUntold, SameBesideWants, SaysOf, KeepsNames, TellsNames}
 use Rattle.ev_types.specs.Trace.{Trace}
 use Rattle.ev_port.specs.declared.port.Want.{Want}
 use Rattle.relay_drive.specs.Steps.{Each}
@@ -53,13 +56,23 @@ no_false h = absurd (cc)
 pub gone-same : (k : ℕ) (s new : State) → SameLink k s new → IsGone s k → IsGone new k
 gone-same k s new same h = open-same same ∙ h
 
--- what the table says of a link is still right
-pub named-same : (t : WantsValue) (k : ℕ) (s new : State) → SameLink k s new → IsNamedRight t s k → IsNamedRight t new k
-named-same t k s new same h = (
+-- what the table says of a link is still right, where there are no groups
+right-same : (t : WantsValue) (k : ℕ) (s new : State) → SameLink k s new → IsGroupless s → IsNamedRight t s k → IsNamedRight t new k
+right-same t k s new same none h = (
   h.0,
-  (h.1.0 ∙ sym (wants-same same (in_side k) refl dir.Read), h.1.1 ∙ sym (wants-same same (in_side k) refl dir.Write)),
-  (h.2.0 ∙ sym (wants-same same (out_side k) refl dir.Read), h.2.1 ∙ sym (wants-same same (out_side k) refl dir.Write)),
+  (h.1.0 ∙ sym (wants-same same none (in_side k) refl dir.Read), h.1.1 ∙ sym (wants-same same none (in_side k) refl dir.Write)),
+  (h.2.0 ∙ sym (wants-same same none (out_side k) refl dir.Read), h.2.1 ∙ sym (wants-same same none (out_side k) refl dir.Write)),
   far-same same ∙ h.3,
+)
+
+-- and its counts have come as far
+pub named-same : (t : WantsValue) (k : ℕ) (s new : State) → SameLink k s new → MayBeNamedRight t s k → MayBeNamedRight t new k
+named-same t k s new same h = (
+  far-same same ∙ h.0,
+  λ unset.
+      let was : s.settings.groups ≡ [] = ap (λ (g : Settings). g.groups) (sym same.settings) ∙ unset in
+      let before = h.1 was in
+      (same.groups (was, before.0), right-same t k s new same (was, before.0) before.1),
 )
 
 -- A step at one link, behind which this link is looked at, and is among the open ones where it is open
@@ -83,7 +96,7 @@ kept-but l l' k s s' b at gone t h =
 pub names-but : (l l' : Agenda) (k : ℕ) (s s' : State) (b : Bool) → AtLink k s s' → TouchedBut b k l l' → KeepsNames l s l' s'
 names-but l l' k s s' b at t = λ table h. record {
   links = omega (arith, at.opened, h.links);
-  named = beside (IsNamedRight table) l.to_name l'.to_name k true s s' t.to_name (λ e. no_false e)
+  named = beside (MayBeNamedRight table) l.to_name l'.to_name k true s s' t.to_name (λ e. no_false e)
       (λ j e lt. subst (λ m. j < m) at.opened lt) (λ j e lt p. named-same table j s s' (at.others j e) p) h.named;
 }
 
@@ -118,7 +131,7 @@ kept-closed l l' k s settled t h = record {
 pub names-beside : (l l' : Agenda) (s : State) → l'.to_name ≡ l.to_name → KeepsNames l s l' s
 names-beside l l' s want = λ table h. record {
   links = h.links;
-  named = subst (λ z. HoldsBeside z (IsNamedRight table) s) (sym want) h.named;
+  named = subst (λ z. HoldsBeside z (MayBeNamedRight table) s) (sym want) h.named;
 }
 
 -- all links are looked at
@@ -137,7 +150,8 @@ kept-all l l' s s' opened t h = record {
   gone = beside-all IsGone l.maybe_open l'.maybe_open s' (omega (arith, opened, h.live_covers)) t.maybe_open;
 }
 
-pub names-all : (l l' : Agenda) (s s' : State) → s'.plain.opened ≡ s.plain.opened → TouchedAll l l' → IsKept l s → KeepsNames l s l' s'
+-- then nothing is said of a link, and what the table says is right
+pub names-all : (l l' : Agenda) (s s' : State) → s'.plain.opened ≡ s.plain.opened → TouchedAll l l' → IsKept l s → TellsNames l s l' s'
 names-all l l' s s' opened t k = λ table h. record {
   links = omega (arith, opened, h.links);
   named = beside-all (IsNamedRight table) l.to_name l'.to_name s' (omega (arith, opened, k.want_covers)) t.to_name;
@@ -159,6 +173,18 @@ pub names-same : (l : Agenda) (s s' : State) → s'.plain.opened ≡ s.plain.ope
 names-same l s s' opened same = λ table h. record {
   links = omega (arith, opened, h.links);
   named = λ n lt out. named-same table n s s' (same n) (h.named n (subst (λ m. n < m) opened lt) out);
+}
+
+-- Where no groups are set, what may be right is.
+pub named-unset : (l : Agenda) (t : WantsValue) (s : State) → s.settings.groups ≡ [] → MayBeNamed l t s → IsNamed l t s
+named-unset l t s unset h = record { links = h.links; named = λ n lt out. ((h.named n lt out).1 unset).1 }
+
+-- And what is right may be, where there are no groups if none are set.
+pub named-may_be : (l : Agenda) (t : WantsValue) (s : State) → (s.settings.groups ≡ [] → s.groups ≡ no_groups) → IsNamed l t s →
+    MayBeNamed l t s
+named-may_be l t s none h = record {
+  links = h.links;
+  named = λ n lt out. let right = h.named n lt out in (right.3, λ unset. (none unset, right));
 }
 
 -- The next link got its places, and was opened or not.
@@ -187,7 +213,8 @@ kept-covered l l' s s' o c h = record {
 pub names-covered : (l l' : Agenda) (s s' : State) → OpensAtMost s s' → IsCovered s.plain.opened l l' → KeepsNames l s l' s'
 names-covered l l' s s' o c = λ table h. record {
   links = omega (arith, o.least, h.links);
-  named = beside (IsNamedRight table) l.to_name l'.to_name s.plain.opened true s s' c.to_name.has (λ e. no_false e) (opened-before s s' o)
+  named = beside (MayBeNamedRight table) l.to_name l'.to_name s.plain.opened true s s' c.to_name.has (λ e. no_false e)
+      (opened-before s s' o)
       (λ j e lt p. named-same table j s s' (o.old j lt) p) h.named;
 }
 
@@ -289,16 +316,19 @@ kept-beside_wants l l' s same h = record {
 }
 
 -- a table with the same rows says the same
-pub named-rows : (l : Agenda) (t new : WantsValue) (s : State) → RowsStay t new → IsNamed l t s → IsNamed l new s
+pub named-rows : (l : Agenda) (t new : WantsValue) (s : State) → RowsStay t new → MayBeNamed l t s → MayBeNamed l new s
 named-rows l t new s r h = record {
   links = subst (λ n. n ≤ s.plain.opened) (sym r.links) h.links;
-  named = λ k lt out. let right = h.named k lt out in (
-    subst (λ n. k < n) (sym r.links) right.0,
-    says t new s r (in_side k) right.1,
-    says t new s r (out_side k) right.2,
-    right.3,
-  );
+  named = λ k lt out. let before = h.named k lt out in (before.0, λ unset. ((before.1 unset).0, rows (before.1 unset).1));
 }
   where
     says : (t new : WantsValue) (s : State) → RowsStay t new → (e : SideId) → SaysOf t s e → SaysOf new s e
     says t new s r e x = (ap (λ f. f (number e)) r.reads ∙ x.0, ap (λ f. f (number e)) r.writes ∙ x.1)
+
+    rows : {k : ℕ} → IsNamedRight t s k → IsNamedRight new s k
+    rows {k = k} right = (
+      subst (λ n. k < n) (sym r.links) right.0,
+      says t new s r (in_side k) right.1,
+      says t new s r (out_side k) right.2,
+      right.3,
+    )

@@ -15,7 +15,7 @@ use Rattle.relay_drive.specs.Bounds.{IsWithin, most_of_turn, NewDriveIsWithin, T
 use Rattle.relay_drive.proofs.BoundSteps.{within-more, turn_raises}
 
 pub new_drive_is_within : NewDriveIsWithin
-new_drive_is_within settings hooks = record {
+new_drive_is_within settings given hooks = record {
   state = record { allowed = omega arith; opened = omega arith; hooked = omega arith; turns = omega arith; reads = λ i. omega arith };
   entries = omega arith;
 }

@@ -24,7 +24,7 @@ use Rattle.relay_core.specs.declared.close.Closing.{Closing}
 use Rattle.relay_core.specs.declared.close.Closing.TheVariants as closing
 use Rattle.relay_core.specs.Steps.{steps_of, close_step, after_closing, entry_events}
 use Rattle.relay_state.specs.State.{State}
-use Rattle.relay_state.specs.Rooms.{allowance, read_room, input_length, wants, write_room, offer}
+use Rattle.relay_state.specs.Rooms.{allowance, share, read_room, input_length, wants, write_room, offer}
 use Rattle.relay_state.specs.Closing.{in_side, out_side, closing_entry, closed}
 use Rattle.relay_steps.proofs.FrameLemmas.{Frame, frame-then, frame-conn, frame-read, frame-write, frame-passed, frame-closed, frame-begun}
 use Rattle.relay_steps.proofs.FrameLemmas.{push-within}
@@ -231,12 +231,14 @@ module _ (links hooks : ℕ) where
   got-most read.Failed into h = omega arith
 
   room-most : (s : State) (e : SideId) → read_room s e ≤ 16384
-  room-most s e = go (may_read s.plain e) (allowance s e dir.Read) (read_mark s.plain e - input_length s e)
+  room-most s e = go (may_read s.plain e) (share s e dir.Read) (allowance s e dir.Read) (read_mark s.plain e - input_length s e)
     where
-      go : (b : Bool) (left : Option ℕ) (n : ℕ) → (if b then at_most left (min most_at_once n) else 0) ≤ 16384
-      go true None n = omega arith
-      go true (Some m) n = omega arith
-      go false left n = omega arith
+      go : (b : Bool) (part left : Option ℕ) (n : ℕ) → (if b then at_most part (at_most left (min most_at_once n)) else 0) ≤ 16384
+      go true None None n = omega arith
+      go true None (Some m) n = omega arith
+      go true (Some l) None n = omega arith
+      go true (Some l) (Some m) n = omega arith
+      go false part left n = omega arith
 
   reads : (e : SideId) (marked : Bool) → IsRaising 16384 (ReadsSide e marked)
   reads e marked n s new a w h = by_bool (marked && wants s e dir.Read) some none h

@@ -27,7 +27,7 @@ use Rattle.ev_port.specs.EndSteps.{EndWent, no_step}
 use Rattle.ev_port.specs.Faults.{Faults}
 use Rattle.ev_port.specs.Vouching.{LongerBy}
 use Rattle.ev_port.proofs.StepLemmas.{EndWent-none}
-use Rattle.relay_model.specs.Asks.{refusal}
+use Rattle.relay_model.specs.Asks.{names_no_live, has_bad_value, names_no_group, has_too_many, refusal}
 use Rattle.relay_model.specs.Close.{CloseStep, freed_entry}
 use Rattle.relay_model.specs.Due.{Due, Reason, batch, reasons, reason_where, event_reason, with_reason}
 use Rattle.relay_model.specs.Plain.{side_at, is_live}
@@ -172,8 +172,8 @@ frame-asked (act.Disable e d) s = frame-plain s _ refl refl refl
 frame-asked (act.Marks e d low high) s = frame-plain s _ refl refl refl
 frame-asked (act.Timeouts e read write) s = frame-plain s _ refl refl refl
 frame-asked (act.Rate e cfg) s = record { settings = refl; opened = refl; time = refl; turn = refl; reads = λ n k. k }
-frame-asked (act.Join e n) s = frame-plain s _ refl refl refl
-frame-asked (act.Leave e) s = frame-plain s _ refl refl refl
+frame-asked (act.Join e n) s = record { settings = refl; opened = refl; time = refl; turn = refl; reads = λ n k. k }
+frame-asked (act.Leave e) s = record { settings = refl; opened = refl; time = refl; turn = refl; reads = λ n k. k }
 frame-asked (act.Trigger e dir.Read) s =
     frame-if (nat_le (side_at s.plain e).marks.read_low (input_length s e)) s _ s (frame-raised s e why.Read) (frame-same s)
 frame-asked (act.Trigger e dir.Write) s =
@@ -265,6 +265,31 @@ one-leaves {a = a} {r = r} {s = s} {new = new} h = go (refusal s.settings s.plai
     go (Some refused) k = inr k.1
     go None (inl done) = inl done
     go None (inr lacks) = inr lacks.2
+
+-- a group that is named by an ask that nothing refuses is there
+known-group : (a b c d : Bool) →
+    (if a then Some ask.NotLive
+    else (if b then Some ask.BadValue else (if c then Some ask.NoGroup else (if d then Some ask.TooManyRefs else None)))) ≡ None →
+    c ≡ false
+known-group true b c d h = absurd (cc)
+known-group false true c d h = absurd (cc)
+known-group false false true d h = absurd (cc)
+known-group false false false d h = refl
+
+-- and an ask is done only where the group that it names is there
+pub one-done : {me : SideId} {a : Act} {r : AskAnswer} {s new : State} {added : Trace} → AsksOne me a r s added new →
+    ((r ≡ ask.Ok) × (new ≡ asked a s) × (names_no_group s.settings a ≡ false)) ⊎ (new ≡ s)
+one-done {a = a} {r = r} {s = s} {new = new} h = go (refusal s.settings s.plain a) refl h.answered
+  where
+    go : (o : Option AskAnswer) → refusal s.settings s.plain a ≡ o → Answered o s a r new →
+        ((r ≡ ask.Ok) × (new ≡ asked a s) × (names_no_group s.settings a ≡ false)) ⊎ (new ≡ s)
+    go (Some refused) is k = inr k.1
+    go None is (inl done) = inl (
+      done.0,
+      done.1,
+      known-group (names_no_live s.plain a) (has_bad_value s.plain a) (names_no_group s.settings a) (has_too_many s.plain a) is,
+    )
+    go None is (inr lacks) = inr lacks.2
 
 pub ask-does : {me : SideId} {a : Act} {r : AskAnswer} {s new : State} {added : Trace} → AsksOne me a r s added new →
     ByHooks 2 s added new × (length new.batch ≤ length s.batch)

@@ -13,6 +13,7 @@ use Rattle.relay_model.specs.Reasons.{has_hook, raise, happened, timeout_flag}
 use Rattle.relay_model.specs.Moments.{is_timed, active_at, both_ways, timers_taken, has_run_out, expire}
 use Rattle.relay_model.specs.Turn.{turned_to}
 use Rattle.std.specs.Prelude.{slice_index_or, filter, nat_le, nat_lt}
+use Rattle.rate_group.specs.Steps.{all_refilled}
 use Rattle.relay_state.specs.State.{State, no_lane, with_plain}
 use Rattle.relay_state.specs.Rooms.{wants}
 use Rattle.relay_state.specs.Closing.{in_side, out_side}
@@ -33,7 +34,8 @@ same-counts s = record { flows = refl; lanes = refl }
 counts-then : {a b c : State} → SameCounts a b → SameCounts b c → SameCounts a c
 counts-then f g = record { flows = g.flows ∙ f.flows; lanes = g.lanes ∙ f.lanes }
 
-counts-raise : (s : State) (e : SideId) (y : Why) (p : Plain) → p.flows ≡ s.plain.flows → SameCounts s (with_plain (raise s.settings e y p) s)
+counts-raise : (s : State) (e : SideId) (y : Why) (p : Plain) → p.flows ≡ s.plain.flows →
+    SameCounts s (with_plain (raise s.settings e y p) s)
 counts-raise s e y p h = go (has_hook s.settings e && is_live p e)
   where
     go : (q : Bool) → SameCounts s (with_plain (if q then record p { due = with_reason e y p.due } else p) s)
@@ -75,7 +77,8 @@ taken-flows g ms p =
 
 counts-begun : (s : State) (ms : ℕ) → SameCounts s (begun s ms)
 counts-begun s ms =
-    let at_time : State = with_plain (timers_taken s.settings (turned_to ms s.plain)) s in
+    let refilled : State = record s { groups = all_refilled ms s.groups } in
+    let at_time : State = with_plain (timers_taken s.settings (turned_to ms s.plain)) refilled in
     let here : SameCounts s at_time = record { flows = taken-flows s.settings ms s.plain; lanes = refl } in
     counts-then here (counts-fold side_timed (λ z e. counts-fold (timed e) (λ y d. counts-timed y e d) z both_ways) at_time
     (all_sides at_time.plain))

@@ -15,6 +15,7 @@ use Rattle.relay_model.proofs.EndLemmas.{same_end-eq, same_end-refl}
 use Rattle.relay_model.specs.Plain.{sides_from, sides_where}
 use Rattle.relay_state.specs.Closing.{in_side, out_side}
 use Rattle.relay_waits.specs.WaitsValue.{hooks_of}
+use Rattle.relay_core.specs.declared.rate_groups.RateGroups.{RateGroups}
 use Rattle.relay_drive.specs.DriveValue.{new_drive}
 use Rattle.relay_drive.specs.Seats.{hook_at, seat, seated_sides, slots_taken, AreFresh, AreSeated}
 
@@ -114,9 +115,9 @@ or-none None = refl
 or-none (Some x) = refl
 
 -- Hooks of which none was called are seated, for a new drive.
-pub fresh-seated : {H : Type 0} (settings : Settings) (hooks gone : List (Option H)) → AreFresh hooks gone →
-    AreSeated (new_drive settings (seated_sides hooks)).state hooks gone
-fresh-seated settings hooks gone h =
+pub fresh-seated : {H : Type 0} (settings : Settings) (given : RateGroups) (hooks gone : List (Option H)) → AreFresh hooks gone →
+    AreSeated (new_drive settings given (seated_sides hooks)).state hooks gone
+fresh-seated settings given hooks gone h =
     record {
       level = h.level;
       hooked = λ e. taken-sides hooks e ∙ sym (ap is_some (seat-is e));

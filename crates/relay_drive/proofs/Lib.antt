@@ -27,6 +27,8 @@ pub mod MeantDispatch
 pub mod MeantTurn
 pub mod WentLemmas
 pub mod OtherLinks
+pub mod FoundLemmas
+pub mod AgedLemmas
 pub mod FreedStays
 pub mod AskedLinks
 pub mod SeatLemmas

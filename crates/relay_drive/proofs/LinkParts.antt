@@ -31,7 +31,7 @@ use Rattle.relay_drive.specs.ClosePhase.{Closes, LooksAt, ClosesLink}
 use Rattle.relay_sides.specs.Links as links
 use Rattle.relay_sides.specs.Links.{Links}
 use Rattle.relay_drive.specs.Links.{HasPairs, IsStillFrom, IsStill, IsUncalled, IsSettled, has_spent_count_from, has_spent_count}
-pub use Rattle.relay_drive.proofs.OtherLinks.{wants-same, open-same, far-same, still-same, settled-same}
+pub use Rattle.relay_drive.proofs.FoundLemmas.{wants-same, open-same, far-same, still-same, settled-same}
 use Rattle.relay_drive.proofs.EachLemmas.{nothing_then, then_as, each_push, links_from-push}
 
 -- Links for which there is nothing to do
@@ -126,11 +126,13 @@ none-passes p (x ∷ xs) d h =
     ap (λ b. b || list_any p xs) (h 0 (omega arith)) ∙ none-passes p xs d (λ i lt. h (suc i) (omega (arith, lt)))
 
 -- a count of a link has come to 2^62 in the state where it has among the relay's sides
-pub spent-seen : (s : State) (k : Links) (n : ℕ) → k.flows ≡ s.plain.flows → k.lanes ≡ s.lanes → links.has_spent_count k n ≡ has_spent_count s n
+pub spent-seen : (s : State) (k : Links) (n : ℕ) → k.flows ≡ s.plain.flows → k.lanes ≡ s.lanes →
+    links.has_spent_count k n ≡ has_spent_count s n
 spent-seen s k n flows lanes = λ i. has_spent_count (record s { plain = record (s.plain) { flows = flows i }; lanes = lanes i }) n
 
 -- no count has come to 2^62 where that of the turns has not, and none of any link
-pub not-spent : (s : State) → HasPairs s → nat_le (2 ^ 62) s.plain.turn ≡ false → ((k : ℕ) → k < s.plain.opened → has_spent_count s k ≡ false) →
+pub not-spent : (s : State) → HasPairs s → nat_le (2 ^ 62) s.plain.turn ≡ false →
+    ((k : ℕ) → k < s.plain.opened → has_spent_count s k ≡ false) →
     is_spent s ≡ false
 not-spent s pairs turns h = or_from _ _ (or_from _ _ turns flows) lanes
   where

@@ -11,7 +11,7 @@ use Rattle.relay_drive.specs.declared.fault.DriveFault.{DriveFault}
 use Rattle.relay_drive.specs.declared.fault.DriveFault.TheVariants as fault
 use Rattle.relay_drive.specs.Steps.{Then, Each, CutAt}
 use Rattle.relay_drive.specs.Phases.{PollsAndAccepts, AcceptsMore, CutAccepting, ServesSide, CutServing}
-use Rattle.relay_drive.specs.Agenda.{PollsListed, PollsAndAcceptsListed}
+use Rattle.relay_drive.specs.PollPhase.{PollsListed, PollsAndAcceptsListed}
 use Rattle.relay_drive.proofs.EachLemmas.{then_as}
 use Rattle.relay_drive.proofs.LinkParts.{each-unmarked, cut-unmarked, serves-unmarked}
 use Rattle.relay_drive.proofs.PollLemmas.{cut_accepting}

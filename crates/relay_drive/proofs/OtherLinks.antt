@@ -1,9 +1,8 @@
--- What each step of a turn leaves of every other link than the one that it is about, and what was found of a link is still so where
--- the link is the same.
+-- What each step of a turn leaves of every other link than the one that it is about.
 use Rattle.std.specs.Prelude.{MatchBool, fold, filter, is_some, slice_index_or, slice_set, Option, option_map}
-use Rattle.std.specs.List.{AllByRecursion, All}
+use Rattle.std.specs.List.{AllByRecursion}
 use Rattle.std.proofs.Common.{◌≡◌, ◌≢◌, ℕ, ◌*◌, ◌<◌, Bool, true, false, ◌&&◌, nat_le, nat_lt, if◌then◌else◌, List, [], ◌∷◌, ◌++◌, length}
-use Rattle.std.proofs.Common.{refl, sym, ◌∙◌, ap, subst, arith, zero, suc, None}
+use Rattle.std.proofs.Common.{refl, sym, ◌∙◌, ap, subst, arith}
 use Rattle.std.proofs.lemmas.List.{get_or-set_other, get_or_append_left}
 use Rattle.token_bucket.specs.declared.limit.Dir.TheVariants as dir
 use Rattle.token_bucket.specs.declared.limit.Dir.{Dir}
@@ -18,49 +17,56 @@ use Rattle.ev_types.specs.declared.why.Why.{Why}
 use Rattle.ev_types.specs.declared.why.Why.TheVariants as why
 use Rattle.ev_types.specs.Sides.{number, peer}
 use Rattle.ev_types.specs.Trace.{Trace}
-use Rattle.ev_types.specs.declared.why.Cause.{Cause}
-use Rattle.ev_types.specs.declared.entry.Entry.{Entry}
-use Rattle.ev_types.specs.declared.entry.Entry.TheVariants as entry
 use Rattle.ev_port.specs.declared.port.Want.{Want}
 use Rattle.relay_model.specs.Flow.{Flow, no_flow}
 use Rattle.relay_model.specs.Settings.{Settings}
 use Rattle.relay_model.specs.Due.{with_reason}
 use Rattle.relay_model.specs.Plain as plain
-use Rattle.relay_model.specs.Plain.{Timer, Plain, PlainSide, Standing, no_side, side_at, flow_at, put_side, put_flow, change_side, change_flow}
+use Rattle.relay_model.specs.Plain.{Timer, Plain, PlainSide, Standing, no_side, side_at, flow_at, put_side, put_flow, change_side}
+use Rattle.relay_model.specs.Plain.{change_flow}
 use Rattle.relay_model.specs.Plain.{is_live}
 use Rattle.relay_model.specs.Reasons.{has_hook, raise, happened, end_flag, error_flag}
 use Rattle.relay_model.specs.Moments.{active_at, timers_taken}
 use Rattle.relay_model.specs.Rooms.{is_connecting}
 use Rattle.relay_model.specs.Serve as model
-use Rattle.relay_model.specs.Close.{fault, freed_entry}
 use Rattle.relay_model.specs.Turn.{turned_to}
 use Rattle.relay_model.proofs.PlainLemmas.{half-below}
 use Rattle.relay_state.specs.Running.{Gauge, no_gauge, held_at}
-use Rattle.relay_state.specs.State.{State, Lane, no_lane, lane_at, gauge_at, with_plain, with_lane, lane_got, lane_taken, lane_left}
+use Rattle.rate_group.specs.GroupValue.{GroupsValue}
+use Rattle.rate_group.specs.GroupsCalls.{no_groups}
+use Rattle.rate_group.specs.Steps.{spent, left}
+use Rattle.relay_state.specs.State.{State, Lane, no_lane, lane_at, gauge_at, gauges_after, with_plain, with_lane, lane_got, lane_taken}
+use Rattle.relay_state.specs.State.{lane_left}
 use Rattle.relay_state.specs.Passage.{Passage}
-use Rattle.relay_state.specs.Passing.{with_bad, plain_passed, with_passage, PassedFrom, read_run, passage_at, round_from}
+use Rattle.relay_state.specs.Passing.{with_bad, plain_passed, with_passage, PassedFrom, read_run}
 use Rattle.relay_state.specs.Rooms.{wants, allowance, input_length, output_length, read_room, write_room}
-use Rattle.relay_state.specs.Opening.{after_opened}
+use Rattle.relay_state.specs.Opening.{joined_where, after_opened}
 use Rattle.relay_state.specs.Serving.{raise_read, raise_write, after_conn, with_got, after_got, after_read, flow_given, with_taken}
 use Rattle.relay_state.specs.Serving.{after_took, after_write}
-use Rattle.relay_state.specs.Closing.{in_side, out_side, closing_entry, freed, without_batch}
-use Rattle.relay_state.specs.Counting.{is_open}
+use Rattle.relay_state.specs.Closing.{in_side, out_side, closing_entry, freed, without_batch, without_group}
 use Rattle.relay_core.specs.declared.close.Closing.{Closing}
 use Rattle.relay_core.specs.declared.close.Closing.TheVariants as closing
 use Rattle.relay_core.specs.Steps as steps
 use Rattle.relay_core.specs.Steps.{steps_of, link_of_step, after_closing}
-use Rattle.relay_core.specs.Unlimited.{HasNoLimits}
+use Rattle.relay_core.specs.Rateless.{HasNoRates}
 use Rattle.relay_drive.specs.Steps.{Nothing, Then, Each}
 use Rattle.relay_drive.specs.PassPhase.{PassesLink}
 use Rattle.relay_drive.specs.ServePhase.{ReadsSide, WritesSide, ConnectsSide, ServesSide}
 use Rattle.relay_drive.specs.ClosePhase.{Closes, LooksAt, ClosesLink}
 use Rattle.relay_drive.specs.Calls.{Reads, Writes}
 use Rattle.relay_drive.specs.PollPhase.{OpensOne}
-use Rattle.relay_drive.specs.Links.{SameLink, HasPairs, IsStillFrom, IsStill, IsSettled, has_spent_count}
+use Rattle.relay_drive.specs.Links.{SameLink, HasPairs}
 
 -- where nothing changed, and where one change stands behind another
 pub same_link : (k : ℕ) (s : State) → SameLink k s s
-same_link k s = record { settings = refl; side = λ e h. refl; flow = λ e h. refl; lane = λ e h. refl; allowed = λ e h d. refl }
+same_link k s = record {
+  settings = refl;
+  side = λ e h. refl;
+  flow = λ e h. refl;
+  lane = λ e h. refl;
+  allowed = λ e h d. refl;
+  groups = λ h. h.1;
+}
 
 pub same_link-then : (k : ℕ) {s mid new : State} → SameLink k s mid → SameLink k mid new → SameLink k s new
 same_link-then k a b = record {
@@ -69,6 +75,7 @@ same_link-then k a b = record {
   flow = λ e h. b.flow e h ∙ a.flow e h;
   lane = λ e h. b.lane e h ∙ a.lane e h;
   allowed = λ e h d. b.allowed e h d ∙ a.allowed e h d;
+  groups = λ h. b.groups (ap (λ (g : Settings). g.groups) a.settings ∙ h.0, a.groups h);
 }
 
 pub same_link-is : (k : ℕ) {s new : State} → new ≡ s → SameLink k s new
@@ -129,6 +136,7 @@ by_parts k s p h = record {
   flow = h.flow;
   lane = λ e z. refl;
   allowed = λ e z d. left-same s (with_plain p s) e d (h.side e z) refl h.time;
+  groups = λ z. z.1;
 }
 
 pub by_lane : (k : ℕ) (s : State) (e : SideId) (l : Lane) → k ≢ e.link → SameLink k s (with_lane e l s)
@@ -138,6 +146,7 @@ by_lane k s e l other = record {
   flow = λ z h. refl;
   lane = λ z h. get_or-set_other s.lanes (number e) (number z) l no_lane (numbers-apart k e z other h);
   allowed = λ z h d. refl;
+  groups = λ h. h.1;
 }
 
 -- the bucket of a side of another link was replaced
@@ -151,11 +160,41 @@ by_gauge k s e x other = record {
   allowed = λ z h d.
       left-same s (record s { gauges = slice_set s.gauges (number e) x }) z d refl
       (get_or-set_other s.gauges (number e) (number z) x no_gauge (numbers-apart k e z other h)) refl;
+  groups = λ h. h.1;
 }
+
+-- the groups were replaced, and where there were none there are none
+pub by_groups : (k : ℕ) (s : State) (x : GroupsValue) → (s.groups ≡ no_groups → x ≡ no_groups) → SameLink k s (record s { groups = x })
+by_groups k s x none = record {
+  settings = refl;
+  side = λ e h. refl;
+  flow = λ e h. refl;
+  lane = λ e h. refl;
+  allowed = λ e h d. refl;
+  groups = λ h. none h.1;
+}
+
+-- who is in no group spends nothing of one, and leaves none
+spent-none : (n m : ℕ) (d : Dir) (x : GroupsValue) → x ≡ no_groups → spent n d m x ≡ no_groups
+spent-none n m d x h = ap (spent n d m) h
+
+left-none : (n : ℕ) (x : GroupsValue) → x ≡ no_groups → left n x ≡ no_groups
+left-none n x h = ap (left n) h
 
 -- what is left to fire belongs to no link
 pub by_batch : (k : ℕ) (s : State) (e : SideId) → SameLink k s (without_batch e s)
-by_batch k s e = record { settings = refl; side = λ z h. refl; flow = λ z h. refl; lane = λ z h. refl; allowed = λ z h d. refl }
+by_batch k s e = record {
+  settings = refl;
+  side = λ z h. refl;
+  flow = λ z h. refl;
+  lane = λ z h. refl;
+  allowed = λ z h d. refl;
+  groups = λ h. h.1;
+}
+
+-- nor who is in a group: a side left its own
+pub by_leaving : (k : ℕ) (s : State) (e : SideId) → SameLink k s (without_group e s)
+by_leaving k s e = by_groups k s (left (number e) s.groups) (left-none (number e) s.groups)
 
 -- Passing
 
@@ -211,7 +250,10 @@ got-other k s e bytes other =
     let put : State = with_lane e (lane_got bytes (lane_at s e)) (with_plain p s) in
     let before : SameLink k s put = same_link-then k (by_parts k s p (parts-side k e _ s.plain other))
     (by_lane k (with_plain p s) e _ other) in
-    let got : SameLink k s (with_got s e bytes) = same_link-then k before (by_gauge k put e _ other) in
+    let gauges = gauges_after e dir.Read (length bytes) s in
+    let gauged : SameLink k s (record put { gauges = gauges }) = same_link-then k before (by_gauge k put e _ other) in
+    let got : SameLink k s (with_got s e bytes) = same_link-then k gauged
+    (by_groups k (record put { gauges = gauges }) _ (spent-none (number e) (length bytes) dir.Read s.groups)) in
     same_link-then k got
     (same_link-then k (passage-other k (with_got s e bytes) e _ other) (raise_read-other k (read_run e (with_got s e bytes)) e))
 
@@ -230,7 +272,10 @@ took-other k s e n other =
     (parts-side k e (active_at s.plain.time dir.Write (side_at p e)) p other) in
     let put : State = with_lane (peer e) (lane_taken n (lane_at s (peer e))) (with_plain q s) in
     let before : SameLink k s put = same_link-then k (by_parts k s q both) (by_lane k (with_plain q s) (peer e) _ other) in
-    let taken : SameLink k s (with_taken s e n) = same_link-then k before (by_gauge k put e _ other) in
+    let gauges = gauges_after e dir.Write n s in
+    let gauged : SameLink k s (record put { gauges = gauges }) = same_link-then k before (by_gauge k put e _ other) in
+    let taken : SameLink k s (with_taken s e n) = same_link-then k gauged
+    (by_groups k (record put { gauges = gauges }) _ (spent-none (number e) n dir.Write s.groups)) in
     same_link-then k taken (raise_write-other k (with_taken s e n) e)
 
 write-other : (k : ℕ) (s : State) (e : SideId) (answer : WriteAnswer) → k ≢ e.link → SameLink k s (after_write s e answer)
@@ -275,12 +320,13 @@ serves-other k w s new a h other = go (is_connecting s.plain w.side) h
 -- a side of another link was freed
 pub freed-other : (k : ℕ) (s : State) (e : SideId) → k ≢ e.link → SameLink k s (freed e s)
 freed-other k s e other =
-    let r : State = without_batch e s in
+    let r : State = without_group e (without_batch e s) in
     let p : Plain = plain.freed e s.plain in
     let side : SameParts k s.plain p = record { time = refl; side = (parts-side k e _ s.plain other).side; flow = λ z h. refl } in
     let own : State = with_lane e (lane_left (lane_at s e)) (with_plain p r) in
     let first : SameLink k r own = same_link-then k (by_parts k r p side) (by_lane k (with_plain p r) e _ other) in
-    same_link-then k (by_batch k s e) (same_link-then k first (by_lane k own (peer e) _ other))
+    same_link-then k (same_link-then k (by_batch k s e) (by_leaving k (without_batch e s) e))
+    (same_link-then k first (by_lane k own (peer e) _ other))
 
 closing-other : (k : ℕ) (s : State) (step : Closing) → k ≢ link_of_step step → SameLink k s (after_closing s step)
 closing-other k s (closing.Faulty e) other = freed-other k s e other
@@ -332,19 +378,24 @@ opens-other k s new a h pairs below =
       allowed = λ e here d.
           left-same s new e d (kept-place k n s.plain.sides _ no_side e pairs.sides below here)
           (kept-place k n s.gauges _ no_gauge e pairs.gauges below here) refl;
+      groups = λ z.
+          let joins = pairs.joins z.0 in
+          (λ i. joined_where (joins.1 i) (out_side n) (joined_where (joins.0 i) (in_side n) s.groups)) ∙ z.1;
     })
 
 -- A turn begins
 
 -- the time and the number of turns belong to no link, where no bucket is refilled as time goes on
-pub turned-same : (k ms : ℕ) (s : State) → HasNoLimits s → SameLink k s (with_plain (turned_to ms s.plain) s)
+pub turned-same : (k ms : ℕ) (s : State) → HasNoRates s → SameLink k s (with_plain (turned_to ms s.plain) s)
 turned-same k ms s none = record {
   settings = refl;
   side = λ e h. refl;
   flow = λ e h. refl;
   lane = λ e h. refl;
   allowed = λ e h d.
-      ap (λ limit. left_by limit (gauge_at s e) d ms) (none e) ∙ sym (ap (λ limit. left_by limit (gauge_at s e) d s.plain.time) (none e));
+      ap (λ limit. left_by limit (gauge_at s e) d ms) (none.limits e)
+      ∙ sym (ap (λ limit. left_by limit (gauge_at s e) d s.plain.time) (none.limits e));
+  groups = λ h. h.1;
 }
 
 -- timers and due reasons belong to no link
@@ -383,111 +434,10 @@ taken-rest g p =
         record { time = b.time ∙ a.time; sides = b.sides ∙ a.sides; flows = b.flows ∙ a.flows }
 
 -- nor do the timers that are taken as it begins
-pub taken-same : (k ms : ℕ) (s : State) → HasNoLimits s →
+pub taken-same : (k ms : ℕ) (s : State) → HasNoRates s →
     SameLink k s (with_plain (timers_taken s.settings (turned_to ms s.plain)) s)
 taken-same k ms s none =
     let turned : State = with_plain (turned_to ms s.plain) s in
     let rest = taken-rest s.settings (turned_to ms s.plain) in
     same_link-then k (turned-same k ms s none)
     (same-waits k turned (timers_taken s.settings (turned_to ms s.plain)) rest.time rest.sides rest.flows)
-
--- What was found of a link is still so
-
--- the same is there to be passed, and a round makes the same of it
-round-same : (k : ℕ) (s new : State) → SameLink k s new → (e : SideId) → e.link ≡ k → round_from new e (passage_at new e) ≡
-    round_from s e (passage_at s e)
-round-same k s new h e here =
-    let own = h.side e here in
-    let far = h.side (peer e) here in
-    let flow = h.flow e here in
-    let lane = h.lane e here in
-    let settings = h.settings in
-    cc
-
-passage-same : (k : ℕ) (s new : State) → SameLink k s new → (e : SideId) → e.link ≡ k → passage_at new e ≡ passage_at s e
-passage-same k s new h e here =
-    let own = h.side e here in
-    let far = h.side (peer e) here in
-    let flow = h.flow e here in
-    let lane = h.lane e here in
-    cc
-
--- its sides want the same
-pub wants-same : {k : ℕ} {s new : State} → SameLink k s new → (e : SideId) → e.link ≡ k → (d : Dir) → wants new e d ≡ wants s e d
-wants-same h e here dir.Read =
-    let own = h.side e here in
-    let far = h.side (peer e) here in
-    let lane = h.lane e here in
-    let allowed = h.allowed e here dir.Read in
-    cc
-wants-same h e here dir.Write =
-    let own = h.side e here in
-    let lane = h.lane (peer e) here in
-    let allowed = h.allowed e here dir.Write in
-    cc
-
--- a side of it lives as before
-pub open-same : {k : ℕ} {s new : State} → SameLink k s new → is_open new k ≡ is_open s k
-open-same {k = k} h = let own = h.side (in_side k) refl in let far = h.side (out_side k) refl in cc
-
--- its counts have come as far
-pub far-same : {k : ℕ} {s new : State} → SameLink k s new → has_spent_count new k ≡ has_spent_count s k
-far-same {k = k} h =
-    let a = h.flow (in_side k) refl in
-    let b = h.flow (out_side k) refl in
-    let c = h.lane (in_side k) refl in
-    let d = h.lane (out_side k) refl in
-    cc
-
--- the same steps of closing are called for, with the same entries
-entry-same : (k : ℕ) (s new : State) → SameLink k s new → (step : Closing) → link_of_step step ≡ k →
-    closing_entry new (steps.close_step step) ≡ closing_entry s (steps.close_step step)
-entry-same k s new h (closing.Faulty e) here =
-    let own = h.side e here in
-    let flow = h.flow e here in
-    let back = h.flow (peer e) here in
-    let freed : freed_entry new.plain e ≡ freed_entry s.plain e = λ i why. entry.Freed e why (flow i).moved (back i).given in
-    ap (λ (x : PlainSide). if x.live then option_map (freed_entry new.plain e) (fault x) else None) own
-    ∙ ap (λ (f : Cause → Entry). if (side_at s.plain e).live then option_map f (fault (side_at s.plain e)) else None) freed
-entry-same k s new h (closing.EndWriting e) here =
-    let own = h.side e here in
-    let far = h.side (peer e) here in
-    let flow = h.flow (peer e) here in
-    let lane = h.lane (peer e) here in
-    cc
-entry-same k s new h (closing.BothDone j) here =
-    let own = h.side (in_side j) here in
-    let far = h.side (out_side j) here in
-    let flow = h.flow (in_side j) here in
-    let back = h.flow (out_side j) here in
-    cc
-entry-same k s new h (closing.PeerGone e) here =
-    let own = h.side e here in
-    let far = h.side (peer e) here in
-    let flow = h.flow e here in
-    let back = h.flow (peer e) here in
-    let lane = h.lane (peer e) here in
-    cc
-entry-same k s new h (closing.Shut e) here = let own = h.side e here in cc
-
--- passing has nothing to do there still
-pub still-same : {k : ℕ} {s new : State} → SameLink k s new → IsStill s k → IsStill new k
-still-same {k = k} {s = s} {new = new} h still = (one (in_side k) refl still.0, one (out_side k) refl still.1)
-  where
-    one : (e : SideId) → e.link ≡ k → IsStillFrom s e → IsStillFrom new e
-    one e here x = round-same k s new h e here ∙ x ∙ sym (passage-same k s new h e here)
-
--- what holds of each by recursion holds of each by its place
-all_from : {X : Type 0} (P : X → Type 0) (xs : List X) → AllByRecursion P xs → All P xs
-all_from P [] h i d lt = absurd (omega arith)
-all_from P (x ∷ xs) h zero d lt = h.0
-all_from P (x ∷ xs) h (suc i) d lt = all_from P xs h.1 i d (omega arith)
-
-steps-here : (k : ℕ) → All (λ step. link_of_step step ≡ k) (steps_of k)
-steps-here k =
-    all_from (λ step. link_of_step step ≡ k) (steps_of k) (refl, (refl, (refl, (refl, (refl, (refl, (refl, (refl, (refl, tt)))))))))
-
--- closing has nothing to do there still
-pub settled-same : {k : ℕ} {s new : State} → SameLink k s new → IsSettled s k → IsSettled new k
-settled-same {k = k} {s = s} {new = new} h settled i d lt =
-    ap is_some (entry-same k s new h (slice_index_or (steps_of k) i d) (steps-here k i d lt)) ∙ settled i d lt

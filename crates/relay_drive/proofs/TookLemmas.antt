@@ -51,9 +51,9 @@ served-tell_none (x ∷ u) h =
     let parts = and_parts (is_served x) (list_all is_served u) h in
     ap (λ b. b || list_any tells_links u) (served-tells x parts.0) ∙ served-tell_none u parts.1
 
--- what is offered is no more than waits, so that no more is taken
+-- what is offered is no more than may be written, so that no more is taken
 pub taken-offered : (s : State) (e : SideId) (answer : WriteAnswer) → WriteWithin answer (length (offer s e)) →
-    TakesAtMost (length (waiting_for s e)) answer
+    TakesAtMost (write_room s e) answer
 taken-offered s e (write.Took n) h =
     let most = length-take (write_room s e) (waiting_for s e) in
     let within = h.1 in

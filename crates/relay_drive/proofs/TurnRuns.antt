@@ -11,7 +11,7 @@ use Rattle.ev_port.specs.declared.port.Want.{Want}
 use Rattle.relay_state.specs.State.{State}
 use Rattle.relay_drive.specs.declared.run.Run.{Run}
 use Rattle.relay_drive.specs.Advances.{Advances}
-use Rattle.relay_drive.specs.Agenda.{PollsAndAcceptsListed}
+use Rattle.relay_drive.specs.PollPhase.{PollsAndAcceptsListed}
 use Rattle.relay_drive.specs.Calls.{Ticks}
 use Rattle.relay_drive.specs.Fired.{FiredAs}
 use Rattle.relay_drive.specs.Known.{known, Point}

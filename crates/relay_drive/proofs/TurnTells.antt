@@ -8,7 +8,8 @@ use Rattle.relay_state.specs.State.{State}
 use Rattle.relay_drive.specs.declared.fault.DriveFault.{DriveFault}
 use Rattle.relay_drive.specs.declared.fault.DriveFault.TheVariants as fault
 use Rattle.relay_drive.specs.Calls.{Ticks}
-use Rattle.relay_drive.specs.Phases.{PollsAndAccepts, ServesSide, ServedThen, PassesAndCloses, CutStart, CutFinish, CutTurn, Turns, DispatchesAll}
+use Rattle.relay_drive.specs.Phases.{PollsAndAccepts, ServesSide, ServedThen, PassesAndCloses, CutStart, CutFinish, CutTurn, Turns}
+use Rattle.relay_drive.specs.Phases.{DispatchesAll}
 use Rattle.relay_drive.specs.Phases.{CutDispatch, CutPolling, ForAllLinks, CutForAllLinks, PassesLink, CutPassingLink, ClosesLink}
 use Rattle.relay_drive.specs.Phases.{CutClosingLink}
 use Rattle.relay_drive.specs.Phases.CutStart.{begin_before, begin_in_poll, begin_in_serving}

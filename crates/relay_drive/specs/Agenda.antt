@@ -1,21 +1,18 @@
 -- What a drive keeps of its links from turn to turn: at which of them passing and closing have something to do, which are open, and
 -- of which sides the table of wants must be looked at. A set may hold too much, and never too little.
-use Rattle.std.specs.Prelude.{◌≡◌, ◌≢◌, ℕ, ◌*◌, ◌<◌, ◌≤◌, Bool, true, false, ◌==◌, if◌then◌else◌, List, filter}
+use Rattle.std.specs.Prelude.{◌≡◌, ◌≢◌, ℕ, ◌*◌, ◌<◌, ◌≤◌, Bool, true, false, ◌==◌, if◌then◌else◌, []}
 use Rattle.token_bucket.specs.declared.limit.Dir.TheVariants as dir
 use Rattle.ev_types.specs.declared.side.SideId.{SideId}
 use Rattle.ev_types.specs.Sides.{number}
-use Rattle.ev_types.specs.Trace.{Trace}
-use Rattle.ev_port.specs.declared.port.Want.{Want}
-use Rattle.ev_port.specs.Table.{WantsValue, is_marked}
+use Rattle.ev_port.specs.Table.{WantsValue}
 use Rattle.number_set.specs.Numbers.{NumberSetValue}
+use Rattle.rate_group.specs.GroupsCalls.{no_groups}
 use Rattle.relay_state.specs.State.{State}
 use Rattle.relay_state.specs.Rooms.{wants}
 use Rattle.relay_state.specs.Counting.{is_open}
 use Rattle.relay_state.specs.Closing.{in_side, out_side}
 use Rattle.relay_drive.specs.declared.agenda.Agenda.{Agenda}
 use Rattle.relay_drive.specs.Links.{IsStill, IsSettled, has_spent_count}
-use Rattle.relay_drive.specs.Steps.{Then}
-use Rattle.relay_drive.specs.PollPhase.{Polls, AcceptsWhere}
 
 -- what is so of each opened link that is not in a set
 abbrev pub HoldsBeside : NumberSetValue → (State → ℕ → Type 0) → State → Type 0
@@ -55,6 +52,16 @@ IsNamedRight t s k = (k < t.links) × SaysOf t s (in_side k) × SaysOf t s (out_
 pub record IsNamed (l : Agenda) (t : WantsValue) (s : State) : Type 0 where
   pub links : t.links ≤ s.plain.opened
   pub named : HoldsBeside l.to_name (IsNamedRight t) s
+
+-- No count of this link has come far; and where no groups are set there are none, and the table is right of it. With groups, what is
+-- done at other links may change what its sides want.
+abbrev pub MayBeNamedRight : WantsValue → State → ℕ → Type 0
+MayBeNamedRight t s k = LinkCountsAreFew s k × (s.settings.groups ≡ [] → (s.groups ≡ no_groups) × IsNamedRight t s k)
+
+-- so it is for each link that is not to be looked at, while a turn goes on
+pub record MayBeNamed (l : Agenda) (t : WantsValue) (s : State) : Type 0 where
+  pub links : t.links ≤ s.plain.opened
+  pub named : HoldsBeside l.to_name (MayBeNamedRight t) s
 
 -- A link is in all sets, but perhaps in that of open links, and of every other link they say what they said.
 pub record TouchedBut (opened : Bool) (k : ℕ) (old new : Agenda) : Type 0 where
@@ -136,11 +143,8 @@ pub record OldRowsStay (old new : WantsValue) : Type 0 where
 
 -- What was kept is kept, of every table too: from a state and the sets that stood for it to another state and its sets.
 abbrev pub KeepsNames : Agenda → State → Agenda → State → Type 0
-KeepsNames old s new s' = (t : WantsValue) → IsNamed old t s → IsNamed new t s'
+KeepsNames old s new s' = (t : WantsValue) → MayBeNamed old t s → MayBeNamed new t s'
 
--- the poll, of which the list has the wants that were marked
-abbrev pub PollsListed : List Want → Bool → State → Trace → State → Type 0
-PollsListed list accept s a new = (marked : List Want) × (list ≡ filter is_marked marked) × Polls marked accept s a new
-
-abbrev pub PollsAndAcceptsListed : List Want → State → Trace → State → Type 0
-PollsAndAcceptsListed list s a new = (ready : Bool) × Then (PollsListed list ready) (AcceptsWhere ready) s a new
+-- As a turn begins, what may be right is right, of every table: where there are groups, all links are to be looked at then.
+abbrev pub TellsNames : Agenda → State → Agenda → State → Type 0
+TellsNames old s new s' = (t : WantsValue) → MayBeNamed old t s → IsNamed new t s'

@@ -5,6 +5,7 @@ use Rattle.ev_types.specs.Trace.{Trace}
 use Rattle.ev_types.specs.declared.side.SideId.{SideId}
 use Rattle.ev_port.specs.Counting.{counted}
 use Rattle.ev_types.specs.declared.settings.Settings.{Settings}
+use Rattle.relay_core.specs.declared.rate_groups.RateGroups.{RateGroups}
 use Rattle.relay_state.specs.State.{State, no_lane}
 use Rattle.relay_drive.specs.DriveValue.{DriveValue, new_drive, is_worn}
 use Rattle.relay_drive.specs.Phases.{Turns}
@@ -31,7 +32,9 @@ most_of_turn links hooks = 100 + 33000 * links + 2565 * hooks
 
 -- A new drive is within 0.
 abbrev pub NewDriveIsWithin : Type 0
-NewDriveIsWithin = (settings : Settings) (hooks : List SideId) → IsWithin 0 settings.links (length hooks) (new_drive settings hooks)
+NewDriveIsWithin =
+    (settings : Settings) (given : RateGroups) (hooks : List SideId) →
+    IsWithin 0 settings.links (length hooks) (new_drive settings given hooks)
 
 -- A turn that goes through its phases raises the bound by no more than that, and the settings stay.
 abbrev pub TurnIsBounded : Type 0

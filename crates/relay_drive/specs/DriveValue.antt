@@ -2,9 +2,10 @@
 use Rattle.std.specs.Prelude.{ℕ, ◌^◌, Bool, ◌||◌, nat_le, List, Option, Some, None, Result, Ok}
 use Rattle.ev_types.specs.declared.settings.Settings.{Settings}
 use Rattle.ev_types.specs.declared.side.SideId.{SideId}
-use Rattle.relay_model.specs.Settings.{settings_with}
 use Rattle.relay_state.specs.State.{State, new_state}
 use Rattle.relay_state.specs.Counting.{is_spent}
+use Rattle.relay_core.specs.Given.{settings_given}
+use Rattle.relay_core.specs.declared.rate_groups.RateGroups.{RateGroups}
 use Rattle.relay_drive.specs.declared.fault.DriveFault.{DriveFault}
 use Rattle.relay_drive.specs.declared.fault.TurnEnd.{TurnEnd}
 use Rattle.relay_drive.specs.declared.fault.TurnEnd.TheVariants as end
@@ -15,9 +16,9 @@ pub record DriveValue : Type 0 where
   pub entries : ℕ
   pub kept : Option (Result TurnEnd DriveFault)
 
--- with hooks for these sides
-abbrev pub new_drive : Settings → List SideId → DriveValue
-new_drive settings hooks = record { state = new_state (settings_with settings hooks); entries = 0; kept = None }
+-- with these groups, and hooks for these sides
+abbrev pub new_drive : Settings → RateGroups → List SideId → DriveValue
+new_drive settings given hooks = record { state = new_state (settings_given settings given hooks); entries = 0; kept = None }
 
 -- a count of the relay, or the number of entries, has come to 2^62
 abbrev pub is_worn : DriveValue → Bool

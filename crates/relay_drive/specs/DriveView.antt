@@ -7,16 +7,16 @@ use Rattle.relay_drive.specs.declared.agenda.Agenda.{Agenda}
 use Rattle.relay_drive.specs.declared.drive.Drive.TheInside.{Inside}
 use Rattle.relay_drive.specs.DriveValue.{DriveValue, kept_of}
 use Rattle.relay_drive.specs.DriveStands.{StandsBetween}
-use Rattle.relay_drive.specs.Agenda.{IsKept, IsNamed}
+use Rattle.relay_drive.specs.Agenda.{IsKept, MayBeNamed}
 
 abbrev pub drive_of : Inside → DriveValue
 drive_of d = record { state = d.run.relay.state; entries = d.run.entries; kept = d.kept }
 
--- Between two turns it is known at which links nothing is to be done, and what the sides want; nothing is left to fire, and the relay
--- stands for some trace.
+-- Between two turns it is known at which links nothing is to be done, and what the sides want where there are no groups; nothing is left
+-- to fire, and the relay stands for some trace.
 pub record IsReady (agenda : Agenda) (wants : WantsValue) (s : State) : Type 0 where
   pub kept : IsKept agenda s
-  pub named : IsNamed agenda wants s
+  pub named : MayBeNamed agenda wants s
   pub bare : s.batch ≡ []
   pub trace : Trace
   pub stands : StandsBetween trace s

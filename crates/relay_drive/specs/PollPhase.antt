@@ -14,6 +14,7 @@ use Rattle.relay_drive.specs.declared.fault.DriveFault.{DriveFault}
 use Rattle.relay_drive.specs.declared.fault.DriveFault.TheVariants as fault
 use Rattle.relay_drive.specs.Steps.{Nothing, Then, links_from}
 use Rattle.relay_drive.specs.Calls.{Opens}
+use Rattle.ev_port.specs.Table.{is_marked}
 pub use Rattle.ev_port.specs.Table.{wants_some}
 
 -- Polling
@@ -93,6 +94,13 @@ AcceptsWhere ready s a new = MatchBool ready (AcceptsLinks s a new) (Nothing s a
 -- the poll, and links where they are ready
 abbrev pub PollsAndAccepts : List Want → State → Trace → State → Type 0
 PollsAndAccepts marked s a new = (ready : Bool) × Then (Polls marked ready) (AcceptsWhere ready) s a new
+
+-- the poll, of which the list has the wants that were marked
+abbrev pub PollsListed : List Want → Bool → State → Trace → State → Type 0
+PollsListed list accept s a new = (marked : List Want) × (list ≡ filter is_marked marked) × Polls marked accept s a new
+
+abbrev pub PollsAndAcceptsListed : List Want → State → Trace → State → Type 0
+PollsAndAcceptsListed list s a new = (ready : Bool) × Then (PollsListed list ready) (AcceptsWhere ready) s a new
 
 -- accepting was refused behind a poll
 abbrev pub CutAccepting : DriveFault → State → Trace → State → Type 0

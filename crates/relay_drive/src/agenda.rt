@@ -9,7 +9,8 @@ use number_set::NumberSet;
 use std::alloc::Global;
 
 /// The links at which passing and closing may have something to do, those that may have a live side, and those of which the table of wants
-/// may not be right. A link that isn't in a set was looked at, and nothing changed there since.
+/// may not be right. A link that isn't in a set was looked at, and nothing changed there since. Where there are groups, what other links
+/// move may have changed what its sides want; then all links are in all sets as a turn begins.
 #[derive(Drop)]
 pub(crate) struct Agenda {
     pub(crate) to_pass: NumberSet,

@@ -1,6 +1,6 @@
 // One call of the port for one side, with room made before for all that it may bring.
 ghost use Rattle.std.specs.Prelude.{◌≡◌, ◌<◌, ◌≤◌, false, length};
-ghost use Rattle.relay_state.specs.Rooms.{offer};
+ghost use Rattle.relay_state.specs.Rooms.{read_room, offer};
 ghost use Rattle.relay_drive.specs.declared.fault.DriveFault.TheVariants.{Memory};
 ghost use Rattle.relay_drive.specs.Steps.{Nothing};
 ghost use Rattle.relay_drive.specs.Calls.{Checks, Reads, Writes, is_memory};
@@ -12,7 +12,7 @@ use crate::run::{Run, put};
 use ev_port::{Port, Scribe};
 use ev_types::{ConnAnswer, Entry, ReadAnswer, SideId, WriteAnswer};
 
-/// Reads from the side's end as many bytes as there are in `into`.
+/// Reads from the side's end as many bytes as there are in `into`, which is no more than may be read.
 pub(crate) fn ask_read<P: Port, S: Scribe>(
     run: &mut Run,
     side: SideId,
@@ -22,6 +22,7 @@ pub(crate) fn ask_read<P: Port, S: Scribe>(
 ) -> Result<ReadAnswer, DriveFault>
     requires opened { side.link < run.old.relay.state.plain.opened }
     requires some { 0 < length into.old }
+    requires within { length into.old ≤ read_room run.old.relay.state side }
     ensures went { Does P.Port S.Scribe result (λ answer. Reads side answer into.new) Nothing
         (run.old, port.old, scribe.old) (run.new, port.new, scribe.new) }
     ensures cause { OnlyForMemory result }

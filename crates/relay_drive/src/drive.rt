@@ -1,6 +1,7 @@
 // The drive: turns in a row, with an answer kept that every later turn gives.
 ghost use Rattle.std.specs.Prelude.{◌≡◌, ◌-◌, ◌^◌, true, false, min, nat_lt, if◌then◌else◌, Some, None, Err, IfOk, IfSome, MatchResult};
 ghost use Rattle.relay_state.specs.Counting.{link_count, open_below, buffered_below};
+ghost use Rattle.relay_core.specs.Given.{AreGroups};
 ghost use Rattle.relay_drive.specs.declared.fault.DriveFault.TheVariants.{Memory, Spent};
 ghost use Rattle.relay_drive.specs.DriveValue.{new_drive, is_worn, kept_of};
 ghost use Rattle.relay_drive.specs.Phases.{EndsTurn, CutTurn, is_open_fault};
@@ -16,7 +17,7 @@ use crate::run::Run;
 use crate::seats::{Seats, slots_taken};
 use crate::turn::next_turn;
 use ev_port::{Port, Scribe, WantTable};
-use relay_core::{Hook, LinkCount, Relay, Settings};
+use relay_core::{Hook, LinkCount, RateGroups, Relay, Settings};
 use std::alloc::Global;
 use std::marker::Model;
 
@@ -58,11 +59,17 @@ fn kept_of(answer: Result<TurnEnd, DriveFault>) -> Option<Result<TurnEnd, DriveF
 }
 
 impl Drive {
-    /// A drive with no link, for these hooks, none of which was called. It is refused only for want of memory. Takes memory for the
-    /// longest read and for what waits; linear in the slots for hooks.
-    pub fn new(alloc: Global, settings: Settings, seats: &Seats) -> Result<Drive, DriveFault>
+    /// A drive with no link, with these groups, for these hooks, none of which was called. It is refused only for want of memory. Takes
+    /// memory for the longest read, for the groups and for what waits; linear in the groups and in the slots for hooks.
+    pub fn new(
+        alloc: Global,
+        settings: Settings,
+        given: RateGroups,
+        seats: &Seats,
+    ) -> Result<Drive, DriveFault>
+        requires groups { AreGroups given }
         requires fresh { AreFresh seats.now.hooks.items seats.now.gone.items }
-        ensures value { MatchResult result (λ drive. drive ≡ new_drive settings (seated_sides seats.now.hooks.items))
+        ensures value { MatchResult result (λ drive. drive ≡ new_drive settings given (seated_sides seats.now.hooks.items))
             (λ fault. fault ≡ Memory) }
         ensures seated { IfOk result (λ drive. AreSeated drive.state seats.now.hooks.items seats.now.gone.items) }
     {
@@ -72,7 +79,7 @@ impl Drive {
         let taken = slots_taken(alloc, &seats.hooks)?;
         Ok(Drive {
             run: Run {
-                relay: Relay::new(alloc, settings, taken)?,
+                relay: Relay::new(alloc, settings, given, taken)?,
                 entries: 0,
             },
             agenda: Agenda::new(alloc),
@@ -85,7 +92,7 @@ impl Drive {
     /// Makes one turn. It ends where a hook asked for that, and after such an end or a refusal every later turn is answered so, with no
     /// call of the port and no entry. A turn is refused as spent where a count, or the number of entries, has come to 2^62 as it begins.
     /// Linear in the links at which something is to be done and in what it moves, and it looks at a word for each 64 links; linear in all
-    /// links where a side may have a timeout, or a hook set one.
+    /// links where a side may have a timeout or a limit, where a hook set one, or where there are groups.
     pub fn turn<P: Port, S: Scribe>(
         &mut self,
         seats: &mut Seats,

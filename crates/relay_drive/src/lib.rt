@@ -24,5 +24,5 @@ mod turn;
 pub use bounds::{new_drive_is_within, turns_are_bounded, within_is_not_worn};
 pub use drive::Drive;
 pub use fault::{DriveFault, TurnEnd};
-pub use relay_core::{Ctl, Hook, LinkCount, Settings};
+pub use relay_core::{Ctl, GroupSet, Hook, LinkCount, RateGroups, Settings};
 pub use seats::Seats;

@@ -6,8 +6,8 @@ ghost use Rattle.ev_port.specs.Polling.{ready_events};
 ghost use Rattle.ev_port.specs.Table.{named, RowsStay};
 ghost use Rattle.relay_drive.specs.Phases.{wanted, CutPoll, CutPolling, AllOpened};
 ghost use Rattle.relay_drive.specs.Known.{Point, begun_if};
-ghost use Rattle.relay_drive.specs.Agenda.{IsKept, IsNamed, CountsAreFew, NamedSide, NamedLink, OldRowsStay, SameBesideWants, PollsListed};
-ghost use Rattle.relay_drive.specs.Agenda.{PollsAndAcceptsListed};
+ghost use Rattle.relay_drive.specs.Agenda.{IsKept, IsNamed, MayBeNamed, CountsAreFew, NamedSide, NamedLink, OldRowsStay, SameBesideWants};
+ghost use Rattle.relay_drive.specs.PollPhase.{PollsListed, PollsAndAcceptsListed};
 ghost use Rattle.relay_drive.specs.Moves.{Moves, GetsTo, OnlyForMemory};
 
 use crate::accept::accept;
@@ -59,7 +59,7 @@ fn name_wants(relay: &Relay, agenda: &mut Agenda, wants: &mut WantTable) -> Resu
     requires named { IsNamed agenda.old wants.old relay.now.state }
     requires few { CountsAreFew relay.now.state }
     ensures named { OnOk result (named wants.new ≡ wanted relay.now.state) }
-    ensures right { OnOk result (IsNamed agenda.new wants.new relay.now.state) }
+    ensures right { OnOk result (MayBeNamed agenda.new wants.new relay.now.state) }
     ensures same { SameBesideWants agenda.old agenda.new }
     ensures cause { OnlyForMemory result }
 {
@@ -160,7 +160,7 @@ pub(crate) fn poll<P: Port, S: Scribe>(
         (run.old, port.old, scribe.old) (run.new, port.new, scribe.new) }
     ensures opened { OnOk result (AllOpened wants.new.list run.new.relay.state.plain.opened) }
     ensures kept { OnOk result (IsKept agenda.new run.new.relay.state) }
-    ensures named { OnOk result (IsNamed agenda.new wants.new run.new.relay.state) }
+    ensures named { OnOk result (MayBeNamed agenda.new wants.new run.new.relay.state) }
 {
     name_wants(&run.relay, agenda, wants)?;
     let ready = ask_poll(run, wants, port, scribe)?;

@@ -1,5 +1,6 @@
 // The hooks of a drive, which stand outside of the relay.
-ghost use Rattle.std.specs.Prelude.{◌≡◌, ◌<◌, Some, None, true, is_some, length, slice_set, slice_index_or, if◌then◌else◌, map, IfOk, [], ◌∷◌};
+ghost use Rattle.std.specs.Prelude.{◌≡◌, ◌<◌, Some, None, true, is_some, length, slice_set, slice_index_or, if◌then◌else◌, map, IfOk};
+ghost use Rattle.std.specs.Prelude.{[], ◌∷◌};
 ghost use Rattle.ev_types.specs.Sides.{number};
 ghost use Rattle.relay_drive.specs.Seats.{hook_at, slots_taken, AreFresh};
 

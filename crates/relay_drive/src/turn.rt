@@ -1,5 +1,5 @@
 // One turn: its phases in their order. What time brings is done as the relay begins the turn.
-ghost use Rattle.std.specs.Prelude.{◌≡◌, ℕ, ◌<◌, ◌^◌, ◌||◌, true, false, nat_le, length, Ok, Err, MatchResult, OnOk};
+ghost use Rattle.std.specs.Prelude.{◌≡◌, ℕ, ◌<◌, ◌^◌, ◌||◌, true, false, [], nat_le, length, Ok, Err, MatchResult, OnOk};
 ghost use Rattle.relay_state.specs.Counting.{is_spent};
 ghost use Rattle.relay_drive.specs.declared.fault.DriveFault.TheVariants.{Spent};
 ghost use Rattle.relay_drive.specs.declared.fault.TurnEnd.TheVariants.{Went};
@@ -7,7 +7,7 @@ ghost use Rattle.relay_drive.specs.Steps.{Nothing};
 ghost use Rattle.relay_drive.specs.Phases.{TicksOnce, ServedThen, CutStart, PassesAndCloses, CutFinish};
 ghost use Rattle.relay_drive.specs.Known.{Point};
 ghost use Rattle.relay_drive.specs.Links.{SameLink};
-ghost use Rattle.relay_drive.specs.Agenda.{HoldsBeside, LinkCountsAreFew, CountsAreFew, IsKept, IsNamed, KeepsNames};
+ghost use Rattle.relay_drive.specs.Agenda.{HoldsBeside, LinkCountsAreFew, CountsAreFew, IsKept, MayBeNamed, KeepsNames, TellsNames};
 ghost use Rattle.relay_drive.specs.DriveView.{IsReady};
 ghost use Rattle.relay_drive.specs.Seats.{telling, AreSeated};
 ghost use Rattle.relay_drive.specs.Moves.{Moves, GetsTo, Does, EndsTold, OnlyForMemory};
@@ -43,6 +43,7 @@ fn read_clock<P: Port, S: Scribe>(
     ensures opened { OnOk result (run.new.relay.state.plain.opened ≡ run.old.relay.state.plain.opened) }
     ensures untimed { OnOk result (run.new.relay.untimed ≡ run.old.relay.untimed) }
     ensures still { OnOk result (run.old.relay.untimed ≡ true → (k : ℕ) → SameLink k run.old.relay.state run.new.relay.state) }
+    ensures groups { OnOk result (run.old.relay.untimed ≡ true → run.old.relay.state.settings.groups ≡ []) }
     ensures few { OnOk result (CountsAreFew run.old.relay.state → CountsAreFew run.new.relay.state) }
     ensures cause { OnlyForMemory result }
 {
@@ -52,7 +53,7 @@ fn read_clock<P: Port, S: Scribe>(
     Ok(())
 }
 
-/// Reads the port's clock once. Where a side may have a timeout, every link is to be looked at then.
+/// Reads the port's clock once. Where a side may have a timeout or a limit, or there are groups, every link is to be looked at then.
 fn clock<P: Port, S: Scribe>(
     run: &mut Run,
     agenda: &mut Agenda,
@@ -68,7 +69,7 @@ fn clock<P: Port, S: Scribe>(
         (run.old, port.old, scribe.old) (run.new, port.new, scribe.new)) }
     ensures cause { OnlyForMemory result }
     ensures kept { OnOk result (IsKept agenda.new run.new.relay.state) }
-    ensures names { OnOk result (KeepsNames agenda.old run.old.relay.state agenda.new run.new.relay.state) }
+    ensures named { OnOk result (TellsNames agenda.old run.old.relay.state agenda.new run.new.relay.state) }
     ensures few { OnOk result (CountsAreFew run.old.relay.state → CountsAreFew run.new.relay.state) }
 {
     read_clock(run, port, scribe)?;
@@ -109,12 +110,12 @@ fn start<P: Port, S: Scribe>(
     requires inbox { length inbox.old ≡ 16384 }
     requires turns { run.old.relay.state.plain.turn < 2 ^ 62 }
     requires kept { IsKept agenda.old run.old.relay.state }
-    requires named { IsNamed agenda.old wants.old run.old.relay.state }
+    requires named { MayBeNamed agenda.old wants.old run.old.relay.state }
     requires few { CountsAreFew run.old.relay.state }
     ensures went { GetsTo P.Port S.Scribe result Point.Between Point.Accepted (λ _. ServedThen Nothing) CutStart
         (run.old, port.old, scribe.old) (run.new, port.new, scribe.new) }
     ensures kept { OnOk result (IsKept agenda.new run.new.relay.state) }
-    ensures named { OnOk result (IsNamed agenda.new wants.new run.new.relay.state) }
+    ensures named { OnOk result (MayBeNamed agenda.new wants.new run.new.relay.state) }
     ensures inbox { length inbox.new ≡ 16384 }
 {
     clock(run, agenda, port, scribe)?;

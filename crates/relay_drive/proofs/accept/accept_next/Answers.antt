@@ -9,7 +9,8 @@ returns-clause-kept g c =
     let s = c.args.run.now.relay.state in
     let new = c.accept_one.new.run.relay.state in
     MatchResult-weaker c.accept_one.result c.accept_one.ensures.went
-    (λ more went. kept-covered c.args.agenda.now c.cover.new.self s new (opens-at-most more s new went.added c.opened.ensures.pairs went.does)
+    (λ more went. kept-covered c.args.agenda.now c.cover.new.self s new
+    (opens-at-most more s new went.added c.opened.ensures.pairs went.does)
     (subst (λ n. IsCovered n c.args.agenda.now c.cover.new.self) c.opened.ensures.count c.in_ok-cover.ensures.covered) c.requires.kept)
     (λ _ _. tt)
 
@@ -18,6 +19,7 @@ returns-clause-names g c =
     let s = c.args.run.now.relay.state in
     let new = c.accept_one.new.run.relay.state in
     MatchResult-weaker c.accept_one.result c.accept_one.ensures.went
-    (λ more went. names-covered c.args.agenda.now c.cover.new.self s new (opens-at-most more s new went.added c.opened.ensures.pairs went.does)
+    (λ more went. names-covered c.args.agenda.now c.cover.new.self s new
+    (opens-at-most more s new went.added c.opened.ensures.pairs went.does)
     (subst (λ n. IsCovered n c.args.agenda.now c.cover.new.self) c.opened.ensures.count c.in_ok-cover.ensures.covered))
     (λ _ _. tt)

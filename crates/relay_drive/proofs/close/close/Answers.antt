@@ -15,7 +15,8 @@ returns-in_err-close_next-clause-went g c =
     let found = c.in-Some.ensures in
     let lt : k < n = omega (arith, found.1, c.opened.ensures.count, inv.opened) in
     rw (p.1) (goes_as (λ a q. q) (goes_link_cut ClosesLink CutClosingLink k n lt
-    (goes_as (λ a q. closes-up c.loop-link.agenda _ _ a c.loop-link.from k found.0 (omega (arith, lt, inv.opened)) found.3 inv.kept q) inv.went)
+    (goes_as (λ a q. closes-up c.loop-link.agenda _ _ a c.loop-link.from k found.0 (omega (arith, lt, inv.opened)) found.3 inv.kept q)
+    inv.went)
     c.in_err-close_next.ensures.went))
 
 pub loop-link-preserved : goal.loop-link-preserved
@@ -28,7 +29,8 @@ loop-link-preserved g c =
     let step = c.in_ok-close_next.ensures in
     record {
       went = goes_link ClosesLink k
-          (goes_as (λ a q. closes-up c.loop-link.agenda _ _ a c.loop-link.from k found.0 (omega (arith, lt, inv.opened)) found.3 inv.kept q) inv.went)
+          (goes_as (λ a q. closes-up c.loop-link.agenda _ _ a c.loop-link.from k found.0 (omega (arith, lt, inv.opened)) found.3
+          inv.kept q) inv.went)
           step.went;
       kept = step.kept;
       names = λ t h. step.names t (inv.names t h);

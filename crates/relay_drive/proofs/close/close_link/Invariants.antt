@@ -12,6 +12,7 @@ abbrev pub invariant-loop-step : goal.invariant-loop-step
 invariant-loop-step g l = record {
   went : Moves g.P.Port g.S.Scribe Point.Accepted Point.Accepted false (Each LooksAt (take l.step-index (steps_of l.link)))
       (l.fn.run, l.fn.port, l.fn.scribe) (l.run, l.port, l.scribe);
-  uncalled : l.any ≡ false → (l.run.relay.state ≡ l.fn.run.relay.state) × All (IsUncalled l.fn.run.relay.state) (take l.step-index (steps_of l.link));
+  uncalled : l.any ≡ false → (l.run.relay.state ≡ l.fn.run.relay.state) × All (IsUncalled l.fn.run.relay.state)
+      (take l.step-index (steps_of l.link));
   kept : l.run.relay.state.plain.opened ≡ l.fn.run.relay.state.plain.opened;
 }

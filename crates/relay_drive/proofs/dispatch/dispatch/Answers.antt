@@ -17,7 +17,8 @@ use Rattle.relay_drive.specs.Seats.{AreSeated}
 use Rattle.relay_drive.proofs.AgendaLemmas.{kept-same, names-same}
 use Rattle.relay_drive.proofs.AskedLinks.{dispatching-other, fire-other}
 use Rattle.relay_drive.proofs.DispatchLemmas.{fire-does}
-use Rattle.relay_drive.proofs.FiredLemmas.{fired-none, fired-then, fired-as, fire, fired-step, fired-no_room, fired-still, to-more, to-stop, to-cut}
+use Rattle.relay_drive.proofs.FiredLemmas.{fired-none, fired-then, fired-as, fire, fired-step, fired-no_room, fired-still, to-more}
+use Rattle.relay_drive.proofs.FiredLemmas.{to-stop, to-cut}
 use Rattle.relay_drive.proofs.FiredLemmas.{to-short, to-all, due-hooked}
 use Rattle.relay_model.specs.Plain.{is_live}
 use Rattle.relay_drive.proofs.FreedStays.{dispatching-stays, seated-kept}

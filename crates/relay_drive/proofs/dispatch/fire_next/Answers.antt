@@ -1,4 +1,5 @@
-use Rattle.std.proofs.Common.{◌≡◌, ℕ, zero, suc, [], ◌∷◌, refl, Bool, true, false, if◌then◌else◌, List, Option, Some, None, Result, Ok, Err, set, ◌∙◌, ap, subst}
+use Rattle.std.proofs.Common.{◌≡◌, ℕ, zero, suc, [], ◌∷◌, refl, Bool, true, false, if◌then◌else◌, List, Option, Some, None, Result, Ok}
+use Rattle.std.proofs.Common.{Err, set, ◌∙◌, ap, subst}
 use Rattle.std.specs.Prelude.{is_ok, OnOk}
 use Rattle.relay_core.specs.RelayValue.{RelayValue}
 use Rattle.ev_types.specs.Sides.{number}

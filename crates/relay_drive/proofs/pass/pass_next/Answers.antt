@@ -8,7 +8,8 @@ returns-then-branch-clause-kept c =
     let s = c.args.relay.now.state in
     let new = c.pass_link.new.relay.state in
     kept-but c.args.agenda.now c.touch.new.self c.args.link s new true
-    (at-passed c.args.link s new c.in_ok-pass_link.ensures.kept c.in_ok-pass_link.ensures.went) (λ e. absurd (cc)) c.touch.ensures c.requires.kept
+    (at-passed c.args.link s new c.in_ok-pass_link.ensures.kept c.in_ok-pass_link.ensures.went) (λ e. absurd (cc)) c.touch.ensures
+    c.requires.kept
 
 pub returns-then-branch-clause-names : goal.returns-then-branch-clause-names
 returns-then-branch-clause-names c =

@@ -30,7 +30,8 @@ returns-in-Ready-clause-went g c =
     let ws : List Want = named c.args.wants.now in
     let ms : List Want = told.went.marked in
     let names : want_events ms ≡ want_events ws = want_events-marked ws ms told.went.many told.went.marks in
-    let listed : ready_events c.list.result.now ≡ ready_events ms = ap ready_events (c.list.ensures ∙ told.went.list) ∙ ready_events-filter ms in
+    let listed : ready_events c.list.result.now ≡ ready_events ms = ap ready_events (c.list.ensures ∙ told.went.list)
+    ∙ ready_events-filter ms in
     let events = poll_events timeout ms (polled.Ready c.in-Ready.accept) in
     let one : Trace = (entry.Poll timeout, []) ∷ [] in
     let first = Grew-join l0 (g.S.Scribe.trace c.reserve.new.self) (g.S.Scribe.trace c.put.new.scribe) [] one

@@ -12,7 +12,8 @@ loop-link-preserved c =
     let found = c.in-Some.ensures in
     let lt : k < s.plain.opened = omega (arith, found.1, c.opened.ensures.count) in
     record {
-      few = up-next (LinkCountsAreFew s) c.loop-link.from k c.loop-link.invariant.few (λ j le less. c.requires j (omega (arith, less, lt)) (found.3 j le less))
+      few = up-next (LinkCountsAreFew s) c.loop-link.from k c.loop-link.invariant.few
+          (λ j le less. c.requires j (omega (arith, less, lt)) (found.3 j le less))
           (sym (spent-seen s c.sides.result.now.links k c.sides.ensures.flows c.sides.ensures.lanes) ∙ sym c.if-has_spent_count.ensures);
       within = omega (arith, lt);
     }
@@ -28,4 +29,5 @@ returns-clause-spent c =
     let s = c.args.relay.now.state in
     let links_few = up-all (LinkCountsAreFew s) c.loop-link.from s.plain.opened c.loop-link.invariant.few
     (λ j le less. c.requires j less (c.in_default.ensures j le (omega (arith, less, c.opened.ensures.count)))) in
-    sym (not-spent s c.opened.ensures.pairs (lt-leb (2 ^ 62) s.plain.turn (let turns = c.turns.ensures in let few = c.if-turns-ge-SPENT.false in omega (arith, turns, few))) links_few)
+    sym (not-spent s c.opened.ensures.pairs (lt-leb (2 ^ 62) s.plain.turn
+    (let turns = c.turns.ensures in let few = c.if-turns-ge-SPENT.false in omega (arith, turns, few))) links_few)

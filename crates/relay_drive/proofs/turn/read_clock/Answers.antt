@@ -55,7 +55,10 @@ pub returns-clause-still : goal.returns-clause-still
 returns-clause-still g c =
     let s = c.args.run.now.relay.state in
     λ untimed k.
-    subst (SameLink k s) (sym (c.begin-ms.ensures.still untimed)) (taken-same k c.begin-ms.result s c.begin-ms.ensures.unlimited)
+    subst (SameLink k s) (sym (c.begin-ms.ensures.still untimed)) (taken-same k c.begin-ms.result s (c.begin-ms.ensures.rateless untimed))
+
+pub returns-clause-groups : goal.returns-clause-groups
+returns-clause-groups g c = λ untimed. (c.begin-ms.ensures.rateless untimed).none
 
 pub returns-clause-few : goal.returns-clause-few
 returns-clause-few g c = λ few. subst CountsAreFew (sym c.begin-ms.ensures.state)

@@ -14,7 +14,7 @@ returns-in_err-clock-clause-went g c =
     (goes_as (λ a q. CutStart.begin_before q) c.in_err-clock.ensures.went))
 
 pub poll-requires-clause-named : goal.poll-requires-clause-named
-poll-requires-clause-named g c = c.in_ok-clock.ensures.names c.args.wants.now c.requires.named
+poll-requires-clause-named g c = c.in_ok-clock.ensures.named c.args.wants.now c.requires.named
 
 pub returns-in_err-poll-clause-went : goal.returns-in_err-poll-clause-went
 returns-in_err-poll-clause-went g c =

@@ -10,7 +10,8 @@ use Rattle.relay_drive.specs.Phases.{DispatchesAll, EndsDispatch}
 use Rattle.relay_drive.proofs.GoesLemmas.{goes_as, goes_then}
 use Rattle.relay_drive.proofs.MeantTurn.{turn_keeps}
 use Rattle.relay_drive.proofs.TurnRuns.{cut_short, goes_fired}
-use Rattle.relay_drive.proofs.TurnTells.{started-stays, started-stands, finish-stays, start-cut, dispatch-cut, turn-stopped, finish-cut, turn-told}
+use Rattle.relay_drive.proofs.TurnTells.{started-stays, started-stands, finish-stays, start-cut, dispatch-cut, turn-stopped, finish-cut}
+use Rattle.relay_drive.proofs.TurnTells.{turn-told}
 use Rattle.relay_steps.proofs.StillSteps.{stands-shape}
 use Rattle.relay_state.specs.Asking.{StopsAt}
 use Rattle.relay_drive.proofs.turn.turn.Goals as goal

@@ -1,22 +1,23 @@
-use Rattle.std.proofs.Common.{◌≡◌, [], None, refl, sym, ◌∙◌, ap, subst, arith}
-use Rattle.relay_model.specs.Settings.{settings_with}
+use Rattle.std.proofs.Common.{◌≡◌, [], None, sym, ◌∙◌, ap, subst, arith}
+use Rattle.relay_core.specs.Given.{settings_given}
 use Rattle.relay_state.specs.State.{State, new_state}
 use Rattle.relay_waits.specs.WaitsValue.{hooks_of}
 use Rattle.relay_drive.specs.DriveStands.{StandsBetween}
 use Rattle.relay_drive.specs.Seats.{seated_sides, slots_taken, AreSeated}
 use Rattle.relay_drive.proofs.FreshSeats.{fresh-seated, taken-hooks}
-use Rattle.relay_drive.proofs.NewStands.{new_relay_stands}
+use Rattle.relay_drive.proofs.NewStands.{groups-given, new_relay_stands}
 use Rattle.relay_drive.proofs.drive.Drive.new.Given.{Over}
 use Rattle.relay_drive.proofs.drive.Drive.new.Goals.{After-new-3}
 use Rattle.relay_drive.proofs.drive.Drive.new.Goals as goal
 
 -- its sides with a hook are those whose slots are taken
 state-is : (g : Over) (c : After-new-3 g) →
-    c.in_ok-new.field-0.state ≡ new_state (settings_with c.args.settings (seated_sides c.args.seats.now.hooks.items))
+    c.in_ok-new.field-0.state ≡ new_state (settings_given c.args.settings c.args.given (seated_sides c.args.seats.now.hooks.items))
 state-is g c =
     c.in_ok-new.ensures
-    ∙ ap (λ hs. new_state (settings_with c.args.settings (hooks_of hs))) (c.in_ok-taken.ensures ∙ ap slots_taken c.deref.ensures.value)
-    ∙ ap (λ xs. new_state (settings_with c.args.settings xs)) (taken-hooks c.args.seats.now.hooks.items)
+    ∙ ap (λ hs. new_state (settings_given c.args.settings c.args.given (hooks_of hs)))
+    (c.in_ok-taken.ensures ∙ ap slots_taken c.deref.ensures.value)
+    ∙ ap (λ xs. new_state (settings_given c.args.settings c.args.given xs)) (taken-hooks c.args.seats.now.hooks.items)
 
 pub returns-clause-value : goal.returns-clause-value
 returns-clause-value g c =
@@ -25,12 +26,12 @@ returns-clause-value g c =
 pub returns-clause-seated : goal.returns-clause-seated
 returns-clause-seated g c =
     subst (λ z. AreSeated z c.args.seats.now.hooks.items c.args.seats.now.gone.items) (sym (state-is g c))
-    (fresh-seated c.args.settings c.args.seats.now.hooks.items c.args.seats.now.gone.items c.requires.fresh)
+    (fresh-seated c.args.settings c.args.given c.args.seats.now.hooks.items c.args.seats.now.gone.items c.requires.fresh)
 
 pub invariant_of-result : goal.invariant_of-result
 invariant_of-result g c =
     let s = c.in_ok-new.field-0.state in
-    let is : s ≡ new_state (settings_with c.args.settings (hooks_of c.in_ok-taken.taken.items)) = c.in_ok-new.ensures in
+    let is : s ≡ new_state (settings_given c.args.settings c.args.given (hooks_of c.in_ok-taken.taken.items)) = c.in_ok-new.ensures in
     let none : s.plain.opened ≡ 0 = ap (λ (z : State). z.plain.opened) is in
     record {
       inbox = c.in-Ok.ensures.len;
@@ -52,7 +53,7 @@ invariant_of-result g c =
         bare = ap (λ (z : State). z.batch) is;
         trace = [];
         stands = subst (StandsBetween []) (sym is)
-            (new_relay_stands (settings_with c.args.settings (hooks_of c.in_ok-taken.taken.items))
-            (record { in_group = refl; out_group = refl; groups = refl }));
+            (new_relay_stands (settings_given c.args.settings c.args.given (hooks_of c.in_ok-taken.taken.items))
+            (groups-given c.args.settings c.args.given (hooks_of c.in_ok-taken.taken.items) c.requires.groups));
       };
     }
