@@ -11,7 +11,7 @@ use Rattle.relay_model.specs.Plays.{Plays}
 use Rattle.relay_model.specs.Script.{Script, plan_of, run_settings}
 use Rattle.relay_model.specs.Hooked.{AskPlanned}
 use Rattle.relay_model.specs.Polls.{PollsFailed}
-use Rattle.relay_core.specs.Given.{group_given}
+use Rattle.relay_core.specs.GivenGroups.{group_given}
 use Rattle.relay_laws.specs.Relayed.{IsRelayed}
 use Rattle.evplay.specs.HandedIn.{HandedIn}
 

@@ -4,7 +4,7 @@ ghost use Rattle.std.specs.List.{All};
 ghost use Rattle.ev_types.specs.ScriptTurn.{lines_of};
 ghost use Rattle.ev_types.specs.Sides.{number};
 ghost use Rattle.relay_model.specs.Called.{NamesOpened};
-ghost use Rattle.relay_core.specs.Given.{AreGroups, settings_given};
+ghost use Rattle.relay_core.specs.GivenGroups.{AreGroups, settings_given};
 ghost use Rattle.relay_drive.specs.declared.fault.DriveFault.TheVariants.{Memory};
 ghost use Rattle.relay_drive.specs.Seats.{telling, seated_sides, AreFresh, AreSeated};
 ghost use Rattle.relay_laws.specs.Report.{lines_below};

@@ -1,4 +1,4 @@
-use Rattle.std.proofs.Common.{◌≡◌, [], length, refl, ap, sym, subst, ◌∙◌, arith}
+use Rattle.std.proofs.Common.{◌≡◌, ◌<◌, ℕ, [], length, Option, refl, ap, sym, subst, ◌∙◌, arith}
 use Rattle.std.proofs.lemmas.List.{length-map}
 use Rattle.std.specs.Prelude.{IfOk, IfSome, List}
 use Rattle.std.specs.List.{All}
@@ -12,8 +12,10 @@ use Rattle.script_text.specs.declared.script.Script.TheInside.{Inside}
 use Rattle.script_text.specs.GroupsAreSet.{GroupsAreSet}
 use Rattle.script_text.specs.Script.{ScriptValue}
 use Rattle.script_text.specs.ScriptView.{script_value}
+use Rattle.relay_model.specs.Settings as model
+use Rattle.relay_model.specs.Settings.{settings_with}
 use Rattle.relay_laws.specs.Spelling.{TimeoutsFit}
-use Rattle.relay_core.specs.Given.{group_given, settings_given, AreGroups}
+use Rattle.relay_core.specs.GivenGroups.{group_given, settings_given, AreGroups}
 use Rattle.relay_core.specs.declared.rate_groups.RateGroups.{RateGroups}
 use Rattle.relay_drive.specs.Seats.{telling, seated_sides}
 use Rattle.relay_drive.proofs.NewStands.{groups-given}
