@@ -2,7 +2,8 @@
 // 1. each group counts its members;
 // 2. each member is in a group that was made.
 // The clause `called` of a call says that it is one of those over which the laws of laws.rt go.
-ghost use Rattle.std.specs.Prelude.{◌≡◌, ◌≤◌, ◌<◌, ◌+◌, ◌-◌, ◌^◌, [], All, length, map, slice_index, slice_index_or, slice_set, slice_get, IfOk, IsOk};
+ghost use Rattle.std.specs.Prelude.{◌≡◌, ◌≤◌, ◌<◌, ◌+◌, ◌-◌, ◌^◌, [], All, length, map, slice_index, slice_index_or, slice_set};
+ghost use Rattle.std.specs.Prelude.{slice_get, IfOk, IsOk};
 ghost use Rattle.std.specs.Prelude.{OnOk, OnErr};
 ghost use Rattle.std.specs.Option.{option_map, IsSomeAnd};
 

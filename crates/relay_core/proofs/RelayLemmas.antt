@@ -69,12 +69,18 @@ room-parts false s e d (suc k) n h = absurd (omega (arith, h))
 
 pub read-within : (s : State) (e : SideId) (k : ℕ) → k ≤ read_room s e →
     IsAllowed k (share s e dir.Read) × IsAllowed k (allowance s e dir.Read)
-read-within s e k h = let p = room-parts (may_read s.plain e) s e dir.Read k (min most_at_once (read_mark s.plain e - input_length s e)) h in (p.0, p.1)
+read-within s e k h = let p = room-parts (may_read s.plain e) s e dir.Read k (min most_at_once
+    (read_mark s.plain e - input_length s e)) h in (p.0, p.1)
 
 pub write-within : (s : State) (e : SideId) (k : ℕ) → k ≤ write_room s e →
     IsAllowed k (share s e dir.Write) × IsAllowed k (allowance s e dir.Write) × (k ≤ length (waiting_for s e))
 write-within s e k h =
-    let p = room-parts (may_write s.plain e) s e dir.Write k (min most_at_once (length (waiting_for s e))) h in (p.0, p.1, omega (arith, p.2))
+    let p = room-parts (may_write s.plain e) s e dir.Write k (min most_at_once (length (waiting_for s e))) h in (
+      p.0,
+      p.1,
+      omega
+          (arith, p.2),
+    )
 
 -- what is so of each side
 
@@ -98,7 +104,8 @@ later_at time (x ∷ xs) all (suc n) = later_at time xs (All-tail (λ (x : Gauge
 
 -- and none is as bytes are moved at the time, as a limit is set, and as a side opens
 
-pub gauge_after-time : (y : Option Standing) (time : ℕ) (d : Dir) (n : ℕ) (x : Gauge) → x.time ≤ time → (gauge_after y time d n x).time ≤ time
+pub gauge_after-time : (y : Option Standing) (time : ℕ) (d : Dir) (n : ℕ) (x : Gauge) → x.time ≤ time →
+    (gauge_after y time d n x).time ≤ time
 gauge_after-time None time d n x h = h
 gauge_after-time (Some y) time dir.Read n x h = omega arith
 gauge_after-time (Some y) time dir.Write n x h = omega arith
@@ -172,7 +179,8 @@ module _ (g : Settings) (time : ℕ) (untimed : Bool) where
         unset = h.unset;
         sides = subst (All P) (sym (ap (λ (z : Links). z.sides) is))
             (All-append P k.sides (opening_side time turn a ∷ opening_side time turn b ∷ []) h.sides
-            (All-cons P (opening_side time turn a) (opening_side time turn b ∷ []) p (All-cons P (opening_side time turn b) [] q (All-nil P))));
+            (All-cons P (opening_side time turn a) (opening_side time turn b ∷ []) p (All-cons P (opening_side time turn b) [] q
+            (All-nil P))));
         gauges = subst (All Q) (sym (ap (λ (z : Links). z.gauges) is))
             (All-append Q k.gauges (gauge_begun g.in_rate time ∷ gauge_begun g.out_rate time ∷ []) h.gauges
             (All-cons Q (gauge_begun g.in_rate time) (gauge_begun g.out_rate time ∷ []) (gauge_begun-time g.in_rate time)
@@ -203,7 +211,8 @@ below-none : (o : Option ℕ) (xs : List GroupSet) → IfSome o (λ n. n < lengt
 below-none None xs h e = refl
 below-none (Some n) xs h e = absurd (let none = ap length e in omega (arith, h, none))
 
-pub joins-none : (g : RateGroups) (u : Bool) (x : GroupsValue) → HasGroups g u x → g.groups.items ≡ [] → (g.in_group ≡ None) × (g.out_group ≡ None)
+pub joins-none : (g : RateGroups) (u : Bool) (x : GroupsValue) → HasGroups g u x → g.groups.items ≡ [] → (g.in_group ≡ None) ×
+    (g.out_group ≡ None)
 joins-none g u x h e = (below-none g.in_group g.groups.items h.in_group e, below-none g.out_group g.groups.items h.out_group e)
 
 -- Groups that change so, and no more or fewer, are sound where they were.
@@ -217,7 +226,8 @@ groups_sound g u x y h many none = record {
   untimed = h.untimed;
 }
 
-pub spent_sound : (g : RateGroups) (u : Bool) (x y : GroupsValue) (member : ℕ) (d : Dir) (n : ℕ) → HasGroups g u x → y ≡ spent member d n x →
+pub spent_sound : (g : RateGroups) (u : Bool) (x y : GroupsValue) (member : ℕ) (d : Dir) (n : ℕ) → HasGroups g u x → y
+    ≡ spent member d n x →
     HasGroups g u y
 spent_sound g u x y member d n h is =
     groups_sound g u x y h (ap (λ (z : GroupsValue). length z.groups) is ∙ spent-many member d n x) (λ e. is ∙ ap (spent member d n) e)
@@ -251,7 +261,8 @@ asked_groups_sound g u x y n member h below is = record {
   untimed = h.untimed;
 }
 
-pub refilled_sound : (g : RateGroups) (u : Bool) (x y : GroupsValue) (time : ℕ) → HasGroups g u x → y ≡ all_refilled time x → HasGroups g u y
+pub refilled_sound : (g : RateGroups) (u : Bool) (x y : GroupsValue) (time : ℕ) → HasGroups g u x → y ≡ all_refilled time x
+    → HasGroups g u y
 refilled_sound g u x y time h is =
     groups_sound g u x y h (ap (λ (z : GroupsValue). length z.groups) is ∙ length-map (refilled_to time) x.groups)
     (λ e. is ∙ ap (all_refilled time) e)

@@ -101,7 +101,8 @@ moments-untimed s none u =
     let timers : List ℕ = map (λ (x : Timer). x.deadline) s.plain.timers in
     let expires = expiries-none s u (all_sides s.plain) in
     let gains = gains-none s none (all_sides s.plain) in
-    let groups : group_gains s 0 s.groups.groups ≡ [] = ap (λ (z : GroupsValue). group_gains (record s { groups = z }) 0 z.groups) none.groups in
+    let groups : group_gains s 0 s.groups.groups ≡ [] = ap (λ (z : GroupsValue). group_gains
+    (record s { groups = z }) 0 z.groups) none.groups in
     (λ i. ((timers ++ expires i) ++ gains i) ++ groups i)
     ∙ append-nil ((timers ++ []) ++ []) ∙ append-nil (timers ++ []) ∙ append-nil timers
 

@@ -60,7 +60,8 @@ module _ (s : State) where
   -- two sides more, each with some moments
   module _ (f : SideId → List ℕ) where
     pub waits_more : (least : Option ℕ) (a b : SideId) (es : List SideId) →
-        earlier (earlier least (earlier (wait_until s.plain.time (f a)) (wait_until s.plain.time (f b)))) (wait_until s.plain.time (flat_map f es))
+        earlier (earlier least (earlier (wait_until s.plain.time (f a)) (wait_until s.plain.time (f b)))) (wait_until s.plain.time
+        (flat_map f es))
         ≡ earlier least (wait_until s.plain.time (flat_map f (a ∷ b ∷ es)))
     waits_more least a b es =
         let x : List ℕ = f a in

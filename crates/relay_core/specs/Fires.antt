@@ -1,5 +1,6 @@
 -- What a hook does in a fire: asks in a row, each answered and recorded.
-use Rattle.std.specs.Prelude.{◌≡◌, ℕ, ◌+◌, ◌≤◌, ◌<◌, ⊤, ◌||◌, List, [], ◌∷◌, ◌++◌, length, map, Option, Some, None, option_map, Result, Ok, Err}
+use Rattle.std.specs.Prelude.{◌≡◌, ℕ, ◌+◌, ◌≤◌, ◌<◌, ⊤, ◌||◌, List, [], ◌∷◌, ◌++◌, length, map, Option, Some, None, option_map, Result}
+use Rattle.std.specs.Prelude.{Ok, Err}
 use Rattle.std.specs.List.{list_any}
 use Rattle.ev_types.specs.declared.act.Act.{Act}
 use Rattle.ev_types.specs.declared.act.Act.TheVariants as act

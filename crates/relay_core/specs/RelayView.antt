@@ -1,5 +1,6 @@
 -- How the relay keeps its state.
-use Rattle.std.specs.Prelude.{◌≡◌, ℕ, ◌+◌, ◌-◌, ◌*◌, ◌^◌, ◌≤◌, ◌<◌, ◌&&◌, ◌||◌, nat_le, min, if◌then◌else◌, Bool, true, false, [], length, None}
+use Rattle.std.specs.Prelude.{◌≡◌, ℕ, ◌+◌, ◌-◌, ◌*◌, ◌^◌, ◌≤◌, ◌<◌, ◌&&◌, ◌||◌, nat_le, min, if◌then◌else◌, Bool, true, false, [], length}
+use Rattle.std.specs.Prelude.{None}
 use Rattle.std.specs.Prelude.{vec_len, vec_capacity, IfSome}
 use Rattle.std.specs.List.{All}
 use Rattle.ev_types.specs.Usual.{no_timeouts}

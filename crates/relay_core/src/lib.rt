@@ -1,5 +1,6 @@
 //! The relay's own state, and the calls that make its changes: links with their sides, the bytes on their way, marks, timeouts and timers,
-//! limits and rate groups, passing and closing; and hooks, which are lent that state and may ask for changes of it. It reaches no port, keeps no trace and decides
+//! limits and rate groups, passing and closing; and hooks, which are lent that state and may ask for changes of it. It reaches no port,
+//! keeps no trace and decides
 //! no order: the drive above does that.
 //!
 //! The whole state is `State` of `relay_state`, and the definitions of its changes stand there. Each call's contract says

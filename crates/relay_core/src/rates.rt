@@ -69,7 +69,8 @@ impl Ctl {
         requires own { IsAllowed count (allowance self.old.state side dir) }
         requires shared { IsAllowed count (share self.old.state side dir) }
         ensures state { self.new.state
-            ≡ (let s = self.old.state in record s { gauges = gauges_after side dir count s; groups = spent (number side) dir count s.groups }) }
+            ≡ (let s = self.old.state in
+            record s { gauges = gauges_after side dir count s; groups = spent (number side) dir count s.groups }) }
         ensures fire { SameFire self.old self.new }
         ensures reads { self.new.spare_reads ≡ self.old.spare_reads }
     {

@@ -29,8 +29,8 @@ impl Relay {
         self.ctl.sides.reserve_read(side, room)
     }
 
-    /// A read of the side's end was answered, and brought these bytes, in room that was made before and no more than may be read now. Linear in their number; takes memory
-    /// for them alone.
+    /// A read of the side's end was answered, and brought these bytes, in room that was made before and no more than may be read now.
+    /// Linear in their number; takes memory for them alone.
     ///
     /// Own; libevent makes this change in the `readcb` of a socket bufferevent.
     pub fn read_answered(&mut self, side: SideId, answer: ReadAnswer, bytes: &[u8])

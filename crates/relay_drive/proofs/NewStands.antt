@@ -13,7 +13,7 @@ use Rattle.relay_model.specs.Turn.{Reaches}
 use Rattle.relay_state.specs.State.{new_state}
 use Rattle.relay_steps.specs.Meaning.{HasItsGroups, StandsFor}
 use Rattle.relay_steps.proofs.MembershipSteps.{new-grouped}
-use Rattle.relay_core.specs.Given.{group_given, settings_given, AreGroups}
+use Rattle.relay_core.specs.GivenGroups.{group_given, settings_given, AreGroups}
 use Rattle.relay_core.specs.declared.rate_groups.RateGroups.{RateGroups}
 use Rattle.relay_model.proofs.AccountedLemmas.{nothing_is_accounted}
 

@@ -4,7 +4,7 @@ use Rattle.ev_types.specs.declared.settings.Settings.{Settings}
 use Rattle.ev_types.specs.declared.side.SideId.{SideId}
 use Rattle.relay_state.specs.State.{State, new_state}
 use Rattle.relay_state.specs.Counting.{is_spent}
-use Rattle.relay_core.specs.Given.{settings_given}
+use Rattle.relay_core.specs.GivenGroups.{settings_given}
 use Rattle.relay_core.specs.declared.rate_groups.RateGroups.{RateGroups}
 use Rattle.relay_drive.specs.declared.fault.DriveFault.{DriveFault}
 use Rattle.relay_drive.specs.declared.fault.TurnEnd.{TurnEnd}

@@ -1,7 +1,7 @@
 // The drive: turns in a row, with an answer kept that every later turn gives.
 ghost use Rattle.std.specs.Prelude.{◌≡◌, ◌-◌, ◌^◌, true, false, min, nat_lt, if◌then◌else◌, Some, None, Err, IfOk, IfSome, MatchResult};
 ghost use Rattle.relay_state.specs.Counting.{link_count, open_below, buffered_below};
-ghost use Rattle.relay_core.specs.Given.{AreGroups};
+ghost use Rattle.relay_core.specs.GivenGroups.{AreGroups};
 ghost use Rattle.relay_drive.specs.declared.fault.DriveFault.TheVariants.{Memory, Spent};
 ghost use Rattle.relay_drive.specs.DriveValue.{new_drive, is_worn, kept_of};
 ghost use Rattle.relay_drive.specs.Phases.{EndsTurn, CutTurn, is_open_fault};

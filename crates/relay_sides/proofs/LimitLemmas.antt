@@ -174,7 +174,8 @@ module _ (v : SidesValue) (r : Inside) (is : sides_of r ≡ v) (sound : AreSides
         let own : links.side_at k e ≡ plain_at S K n = get-tabulate (plain_at S K) (2 * r.opened) n no_side lt in
         let g : PlainSide → PlainSide = λ z. record z { limit = standing_by (kept_value l) } in
         let b = (bevs_at S n).lower.bev in
-        let sides = tabulate-set (plain_at S K) (plain_at S K2) (2 * r.opened) n (λ m d. ap (plain_side (bevs_at S m).lower.bev) (off m d)) in
+        let sides = tabulate-set (plain_at S K) (plain_at S K2) (2 * r.opened) n (λ m d. ap (plain_side (bevs_at S m).lower.bev)
+        (off m d)) in
         let gauges = tabulate-set (gauge_at K) (gauge_at K2) (2 * r.opened) n (λ m d. ap (λ z. gauge_by (limit_kept z)) (off m d)) in
         let p : plain_at S K2 n ≡ g (links.side_at k e) =
         ap (plain_side b) at ∙ ap (λ z. g (plain_side b z)) found ∙ ap g (sym own) in
@@ -195,7 +196,8 @@ module _ (v : SidesValue) (r : Inside) (is : sides_of r ≡ v) (sound : AreSides
         let standing = ap standing_by h ∙ spent-standing (limit_kept x) d count time ∙ sym limit-found in
         limit_links
         ∙ (λ i. put_gauge e (gauge i) (links.change_side e (λ z. record z { limit = standing i }) k))
-        ∙ ap (λ (zs : List PlainSide). put_gauge e (gauge_after (links.side_at k e).limit time d count (links.gauge_at k e)) (record k { sides = zs }))
+        ∙ ap (λ (zs : List PlainSide). put_gauge e (gauge_after (links.side_at k e).limit time d count (links.gauge_at k e))
+        (record k { sides = zs }))
         (set-get_or k.sides n no_side)
 
     -- another limit was set

@@ -99,7 +99,8 @@ module _ (v : SidesValue) (r : Inside) (is : sides_of r ≡ v) (sound : AreSides
   pub move_links : links_of r.opened w.slots (slice_set r.sides.items j (record x { moved = x.moved + count }))
       ≡ with_passage e (moved (passage_at v.links e)) v.links
   move_links =
-      part_links v r is e opened w.slots (slice_set K j y) f g y o link refl refl refl (ap limit_kept own_is) moved (ap (unflawed a) own_is) refl
+      part_links v r is e opened w.slots (slice_set K j y) f g y o link refl refl refl (ap limit_kept own_is) moved (ap
+      (unflawed a) own_is) refl
       ((λ i. (let q = passage_by a b x o in let h = q.flow in let l = q.lane in let c = l.buffers in
       record q {
         flow = record h { moved = x.moved + count_is i };

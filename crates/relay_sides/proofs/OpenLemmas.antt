@@ -27,7 +27,8 @@ use Rattle.relay_sides.specs.Table.{tabulate}
 use Rattle.relay_sides.specs.Links.{opening_side, fresh_lane, with_link}
 use Rattle.relay_sides.specs.KeptLimits.{kept_value, first_kept}
 use Rattle.relay_sides.specs.Opening.{side_slots}
-use Rattle.relay_sides.specs.SideView.{new_state, state_at, plain_side, plain_at, flow_of, flow_at, lane_of, lane_at, gauge_at, gauge_of, gauge_by}
+use Rattle.relay_sides.specs.SideView.{new_state, state_at, plain_side, plain_at, flow_of, flow_at, lane_of, lane_at, gauge_at, gauge_of}
+use Rattle.relay_sides.specs.SideView.{gauge_by}
 use Rattle.relay_sides.specs.SidesView.{links_of, IsCounted, CanRead, AreSides}
 use Rattle.relay_sides.specs.declared.side.SideState.{SideState}
 use Rattle.relay_sides.specs.declared.sides.Sides.TheInside.{Inside}
@@ -124,7 +125,8 @@ more_sides near far a b = new_state near.connected a near.group ∷ new_state fa
 
 module _ (o : ℕ) (S : List Slot) (K : List SideState) (slots : length S ≡ 4 * o) (sides : length K ≡ 2 * o)
     (time turn : ℕ) (near far : NewSide) (near_limit far_limit : Option (Box LimitValue Global))
-    (near_is : kept_value near_limit ≡ first_kept time turn near.limit) (far_is : kept_value far_limit ≡ first_kept time turn far.limit) where
+    (near_is : kept_value near_limit ≡ first_kept time turn near.limit) (far_is : kept_value far_limit
+    ≡ first_kept time turn far.limit) where
   -- its bufferevents
   abbrev pub more_slots : List Slot
   more_slots = side_slots time near (4 * o) ++ side_slots time far (4 * o + 2)
@@ -213,7 +215,10 @@ module _ (o : ℕ) (S : List Slot) (K : List SideState) (slots : length S ≡ 4 
   -- a side with the limit that it opens with
   with_limit : (n : NewSide) (b : BevValue) (kept : Option (Box LimitValue Global)) → kept_value kept ≡ first_kept time turn n.limit →
       plain_side b (new_state n.connected kept n.group)
-      ≡ (let x : PlainSide = plain_side b (new_state n.connected kept n.group) in record x { limit = option_map (first_limit time turn) n.limit })
+      ≡ (let x : PlainSide = plain_side b (new_state n.connected kept n.group) in record x {
+        limit = option_map
+            (first_limit time turn) n.limit;
+      })
   with_limit n b kept is =
       let all = ap (λ z. option_map (λ (y : LimitValue). y.standing) z) is ∙ standing-begun time turn n.limit in
       λ i. (let x : PlainSide = plain_side b (new_state n.connected kept n.group) in record x { limit = all i })
@@ -247,8 +252,10 @@ module _ (o : ℕ) (S : List Slot) (K : List SideState) (slots : length S ≡ 4 
       let x = two-behind (plain_at S K) (plain_at S3 K3) (opening_side time turn near) (opening_side time turn far)
       (λ m h. λ i. plain_side (bevs_old m h i).lower.bev (state_old m h i)) side_near side_far in
       let f = two-behind (flow_at S K) (flow_at S3 K3) no_flow no_flow flow_old flow_near flow_far in
-      let l = two-behind (lane_at S K) (lane_at S3 K3) (fresh_lane near.read far.write) (fresh_lane far.read near.write) lane_old lane_near lane_far in
-      let u = two-behind (gauge_at K) (gauge_at K3) (gauge_begun near.limit time) (gauge_begun far.limit time) (λ m h. ap gauge_of (state_old m h))
+      let l = two-behind (lane_at S K) (lane_at S3 K3) (fresh_lane near.read far.write)
+      (fresh_lane far.read near.write) lane_old lane_near lane_far in
+      let u = two-behind (gauge_at K) (gauge_at K3) (gauge_begun near.limit time) (gauge_begun far.limit time) (λ m h. ap gauge_of
+      (state_old m h))
       gauge_near gauge_far in
       λ i. record { opened = o + 1; sides = x i; flows = f i; lanes = l i; gauges = u i }
 

@@ -88,7 +88,8 @@ module _ (v : SidesValue) (r : Inside) (is : sides_of r ≡ v) (sound : AreSides
         IsCounted (flow_at w.slots (slice_set r.sides.items j (record x { read_made = made; bad = bad })) m)
         (lane_at w.slots (slice_set r.sides.items j (record x { read_made = made; bad = bad })) m)
     read_fits =
-        part_counted v r is e opened w.slots (slice_set K j y) b d y o link (read-right r.world w n mark over x.read_made made g long) refl refl (ap limit_kept own_is) sound
+        part_counted v r is e opened w.slots (slice_set K j y) b d y o link
+        (read-right r.world w n mark over x.read_made made g long) refl refl (ap limit_kept own_is) sound
         (read-counted r.world w n mark over x.read_made made g long d x o bad refl bad_is fits)
 
   -- the write filter of the other side

@@ -25,7 +25,8 @@ opening_bev time side = record new_bev {
 -- both, the first of which has this number; the second is a filter over it
 abbrev pub side_slots : ℕ → NewSide → ℕ → List Slot
 side_slots time side n =
-    record (new_slot Socket kind.None kind.None) { bev = opening_bev time side; taken = true } ∷ new_slot (Filter n) side.read side.write ∷ []
+    record (new_slot Socket kind.None kind.None) { bev = opening_bev time side; taken = true } ∷ new_slot
+    (Filter n) side.read side.write ∷ []
 
 -- for how many limits there must be room
 abbrev pub limits_in : Option LimitCfg → ℕ

@@ -1,5 +1,6 @@
 //! That each step which a relay makes is what the model does: where the relay stands for a trace, it stands for the longer one. Over
-//! any marks, timeouts, filters, hooks, limits and groups. `specs/Meaning.antt` says what it is to stand for a trace. The steps of the relay's
+//! any marks, timeouts, filters, hooks, limits and groups. `specs/Meaning.antt` says what it is to stand for a trace. The steps of the
+//! relay's
 //! code are lemmas, which that code cites; those of hooks, buckets and groups stand on functions that do nothing.
 #![tactic(auto)]
 

@@ -9,8 +9,8 @@ use Rattle.ev_types.specs.declared.plan_line.PlanLine.{PlanLine}
 use Rattle.script_text.specs.declared.setting.Given.{Given}
 use Rattle.script_text.specs.Given.{settings_by}
 
--- the settings that its lines give, who is in which group, the groups by their numbers, what is planned for the hooks of sides, and the turns, in
--- their order
+-- the settings that its lines give, who is in which group, the groups by their numbers, what is planned for the hooks of sides, and the
+-- turns, in their order
 pub record ScriptValue : Type 0 where
   pub settings : Settings
   pub members : Members

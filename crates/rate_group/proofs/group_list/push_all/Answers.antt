@@ -51,7 +51,8 @@ returns-clause-ok c =
     let sets : List GroupSet = c.args.sets.now in
     let make : GroupSet → GroupValue = λ s. made s.cfg s.share c.args.now in
     c.loop-set.invariant.values
-    ∙ ap (λ (xs : List GroupSet). group_values c.args.groups.now.items ++ map make xs) (take_all c.loop-set.set-index sets c.loop-set-test.false)
+    ∙ ap (λ (xs : List GroupSet). group_values c.args.groups.now.items ++ map make xs)
+    (take_all c.loop-set.set-index sets c.loop-set-test.false)
 
 pub returns-clause-counted : goal.returns-clause-counted
 returns-clause-counted c = c.loop-set.invariant.counted

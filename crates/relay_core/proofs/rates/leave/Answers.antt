@@ -12,7 +12,8 @@ none-left : (o : Option ℕ) (f g : GroupFault) → Some f ≡ (if is_some o the
 none-left None f g h = refl
 none-left (Some n) f g h = absurd (cc h)
 
-told : (member : ℕ) (x y : GroupsValue) (r : Result (Unit {0}) GroupFault) → fault_of r ≡ leave_refusal member x → OnOk r (y ≡ left member x) →
+told : (member : ℕ) (x y : GroupsValue) (r : Result (Unit {0}) GroupFault) → fault_of r ≡ leave_refusal member x → OnOk r (y
+    ≡ left member x) →
     OnErr r (y ≡ x) → y ≡ left member x
 told member x y (Ok done) f a b = a
 told member x y (Err e) f a b = b ∙ sym (left-none member x (none-left (group_of member x.members) e GroupFault.NotMember f))

@@ -15,7 +15,8 @@ made-alike (x ∷ xs) = ap (λ z. made x.cfg x.share 0 ∷ z) (made-alike xs)
 -- all groups are made behind none
 all-made : (x y : GroupsValue) (xs : List GroupSet) → x ≡ no_groups → y ≡ with_groups 0 xs x → y ≡ new_groups (map group_given xs)
 all-made x y xs none is =
-    is ∙ ap (with_groups 0 xs) none ∙ ap (λ (z : List GroupValue). (let w : GroupsValue = record { groups = z; members = [] } in w)) (made-alike xs)
+    is ∙ ap (with_groups 0 xs) none ∙ ap (λ (z : List GroupValue). (let w : GroupsValue = record { groups = z; members = [] } in w))
+    (made-alike xs)
 
 pub returns-in-Ok : goal.returns-in-Ok
 returns-in-Ok c =

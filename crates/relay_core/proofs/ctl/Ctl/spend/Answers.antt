@@ -18,8 +18,8 @@ invariant_of-self c =
           (gauge_after-time (links.side_at k e).limit r.time c.args.dir c.args.count (links.gauge_at k e)
           (later_at r.time k.gauges h.timed.gauges (number e)))
           (ap (λ (z : Links). z.sides) c.spend.ensures.links) (ap (λ (z : Links). z.gauges) c.spend.ensures.links);
-      grouped = spent_sound r.given r.untimed r.groups.value c.spend_share.new.groups.value c.number.result c.args.dir c.args.count h.grouped
-          c.spend_share.ensures;
+      grouped = spent_sound r.given r.untimed r.groups.value c.spend_share.new.groups.value c.number.result c.args.dir
+          c.args.count h.grouped c.spend_share.ensures;
       time = h.time;
       few = h.few;
       room = h.room;

@@ -16,7 +16,8 @@ told : (v : RelayValue) (r : ctl.Inside) → relay_of r ≡ v → (answer : Opti
     option_map (λ moment. moment - r.time) answer ≡ wait_until v.state.plain.time (group_gains v.state 0 v.state.groups.groups)
 told v r is answer h =
     let s : State = state_with r r.sides.links in
-    ap (option_map (λ moment. moment - r.time)) (h ∙ ap gains.first_moment (gains-alike s 0 s.groups.groups) ∙ first-earliest (group_gains s 0 s.groups.groups))
+    ap (option_map (λ moment. moment - r.time)) (h ∙ ap gains.first_moment (gains-alike s 0 s.groups.groups) ∙ first-earliest
+    (group_gains s 0 s.groups.groups))
     ∙ ap (λ (z : RelayValue). wait_until z.state.plain.time (group_gains z.state 0 z.state.groups.groups)) is
 
 pub returns-in_err-moment : goal.returns-in_err-moment

@@ -16,8 +16,10 @@ invariant_of-ctl c =
           (c.open.ensures.links ∙ (λ i. with_link r.time r.turns (c.near_side-near.ensures i) (c.far_side-far.ensures i) r.sides.links));
       grouped = opened_groups_sound r.given r.untimed r.groups.value c.join_where.new.groups.value c.join_where-2.new.groups.value
           (record { link = c.opened.result; side = In }) c.peer.result h.grouped
-          (c.join_where.ensures.value ∙ ap (λ (n : NewSide). joined_where n.group (record { link = c.opened.result; side = In }) r.groups.value) c.near_side-near.ensures)
-          (c.join_where-2.ensures.value ∙ ap (λ (n : NewSide). joined_where n.group c.peer.result c.join_where.new.groups.value) c.far_side-far.ensures);
+          (c.join_where.ensures.value ∙ ap (λ (n : NewSide). joined_where n.group
+          (record { link = c.opened.result; side = In }) r.groups.value) c.near_side-near.ensures)
+          (c.join_where-2.ensures.value ∙ ap (λ
+          (n : NewSide). joined_where n.group c.peer.result c.join_where.new.groups.value) c.far_side-far.ensures);
       time = h.time;
       few = omega arith;
       room = (let room = h.room in let few = h.few in omega (arith, room, few));

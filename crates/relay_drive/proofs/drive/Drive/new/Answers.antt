@@ -1,5 +1,5 @@
 use Rattle.std.proofs.Common.{◌≡◌, [], None, sym, ◌∙◌, ap, subst, arith}
-use Rattle.relay_core.specs.Given.{settings_given}
+use Rattle.relay_core.specs.GivenGroups.{settings_given}
 use Rattle.relay_state.specs.State.{State, new_state}
 use Rattle.relay_waits.specs.WaitsValue.{hooks_of}
 use Rattle.relay_drive.specs.DriveStands.{StandsBetween}

@@ -10,5 +10,5 @@ allowance_of-requires c =
 pub returns : goal.returns
 returns c =
     c.allowance_of.ensures
-    ∙ allowance-found c.args.self.now c.self.inside c.self.view_is c.self.invariant c.args.side c.requires.opened c.number.result c.number.ensures
-    c.index.result.now c.index.ensures c.args.dir c.args.time
+    ∙ allowance-found c.args.self.now c.self.inside c.self.view_is c.self.invariant c.args.side c.requires.opened c.number.result
+    c.number.ensures c.index.result.now c.index.ensures c.args.dir c.args.time

@@ -14,6 +14,8 @@ returns c =
     let v = c.args.self.now in
     let r = c.self.inside in
     let x = c.index.result.now in
-    let gauge = gauge-found v r c.self.view_is c.self.invariant c.args.side c.requires.opened c.number.result c.number.ensures x c.index.ensures in
-    let limit = limit-found v r c.self.view_is c.self.invariant c.args.side c.requires.opened c.number.result c.number.ensures x c.index.ensures in
+    let gauge = gauge-found v r c.self.view_is c.self.invariant c.args.side c.requires.opened c.number.result
+    c.number.ensures x c.index.ensures in
+    let limit = limit-found v r c.self.view_is c.self.invariant c.args.side c.requires.opened c.number.result
+    c.number.ensures x c.index.ensures in
     c.gains_of.ensures ∙ gains-kept (limit_kept x) c.args.time ∙ (λ i. limit_gains c.args.time (sym gauge i) (sym limit i))

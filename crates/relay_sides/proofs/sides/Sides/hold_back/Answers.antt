@@ -27,7 +27,8 @@ invariant_of-self c =
     (c.self.invariant.counted (number e) (number-lt e r.opened (here v r c.self.view_is e c.requires))) in
     are_sound r _ c.self.invariant refl refl (own_lasting v r c.self.view_is c.self.invariant e c.requires c.number.result c.number.ensures y)
     (part_counted v r c.self.view_is e c.requires r.world.slots _ b d y (state_at r.sides.items (twin (number e)))
-    (own_link v r c.self.view_is c.self.invariant e c.requires c.number.result c.number.ensures y) refl refl refl (ap limit_kept x_is) c.self.invariant
+    (own_link v r c.self.view_is c.self.invariant e c.requires c.number.result c.number.ensures y) refl refl refl
+    (ap limit_kept x_is) c.self.invariant
     (record { used = h.used; moved = h.moved; turned = h.turned; given = h.given }))
 
 pub returns-clause-links : goal.returns-clause-links
@@ -46,7 +47,8 @@ returns-clause-links c =
     let held = c.is_held-own.ensures
     ∙ (λ i. if nat_le hold (w i) then true else (if nat_le (w i) (hold / 2) then false else (x_is i).held)) in
     part_links v r c.self.view_is e c.requires r.world.slots _ b d y o
-    (own_link v r c.self.view_is c.self.invariant e c.requires c.number.result c.number.ensures y) refl refl refl (ap limit_kept x_is) (hold_part hold)
+    (own_link v r c.self.view_is c.self.invariant e c.requires c.number.result c.number.ensures y) refl refl refl (ap limit_kept x_is)
+    (hold_part hold)
     (ap (unflawed b) x_is) refl
     (λ i. (let z = x_is i in passage_by b d (record z { held = held i }) o))
 
