@@ -1,5 +1,5 @@
 -- A trace for which a relay stands, and which is played from a script, is that of a run of that script.
-use Rattle.std.proofs.Common.{◌≡◌, true, ap, subst, arith}
+use Rattle.std.proofs.Common.{◌≡◌, true, subst, arith}
 use Rattle.ev_types.specs.Trace.{Trace}
 use Rattle.ev_types.specs.AskNumbers.{AsksFit}
 use Rattle.script_text.specs.Script.{ScriptValue}

@@ -47,16 +47,15 @@ called-for turns t x s k names few = record {
 -- A run that began with these settings over a port, and came to this trace and this state: the settings are those of the script with the
 -- hooks that were handed in, they stayed, the asks fit and are by the plans, and so the run stood wherever a turn ended.
 pub record RanTo (script : ScriptValue) (handed : HandedIn) (n : ℕ) (g : Settings) (first : PortState) (t : Trace) (s : State) : Type 0
-    where
-  pub ready : MayRun n g first
-  pub script_set : g ≡ settings_on script handed
-  pub stayed : s.settings ≡ g
-  pub asks : AsksFit t
-  pub ends : AtTurnEnds (StoodBetween g) t
+  where
+    pub ready : MayRun n g first
+    pub script_set : g ≡ settings_on script handed
+    pub stayed : s.settings ≡ g
+    pub asks : AsksFit t
+    pub ends : AtTurnEnds (StoodBetween g) t
 
 module _ (script : ScriptValue) (handed : HandedIn) (n : ℕ) (g : Settings) (first p : PortState) (t : Trace) (s : State)
     (ran : RanTo script handed n g first t s) where
-
   -- what it comes to where a turn may answer so
   ended-run : (answer : TurnAnswer) (at : Point) → LeftFor answer t s → count_by is_turn t ≤ n → PortKnown at p s first.turns t →
       (IsCalledFor first.turns t → EndsPlayed first.turns s.settings.links (length first.turns + 0) answer t) →

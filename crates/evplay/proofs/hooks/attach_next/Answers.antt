@@ -1,4 +1,4 @@
-use Rattle.std.proofs.Common.{◌≡◌, length, sym, ◌∙◌, ap, subst, arith}
+use Rattle.std.proofs.Common.{◌≡◌, length, ◌∙◌, ap, subst, arith}
 use Rattle.relay_drive.specs.Seats.{telling}
 use Rattle.evplay.specs.HandedIn.{lines_at, IsAttached}
 use Rattle.evplay.proofs.hooks.attach_next.Goals as goal

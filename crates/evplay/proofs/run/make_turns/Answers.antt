@@ -1,4 +1,4 @@
-use Rattle.std.proofs.Common.{◌≡◌, ◌⊎◌, inl, inr, ◌≤◌, ◌<◌, ◌+◌, ◌*◌, ◌++◌, ◌^◌, ◌-◌, ℕ, length, Some, None, min, refl, ap, sym, ◌∙◌}
+use Rattle.std.proofs.Common.{◌≡◌, ◌≢◌, ◌⊎◌, inl, inr, ◌≤◌, ◌<◌, ◌+◌, ◌*◌, ◌++◌, ◌^◌, ◌-◌, ℕ, Some, None, min, refl, ap, sym, ◌∙◌}
 use Rattle.std.proofs.Common.{subst, arith, Ok, IfOk, IfErr}
 use Rattle.std.specs.Prelude.{count_by}
 use Rattle.ev_types.specs.Trace.{Trace}
@@ -106,10 +106,10 @@ returns-clause-made g c = λ script handed on seats.
     let ready = c.requires.may_run in
     let t = c.loop-turn.scribe.trace in
     let s = c.loop-turn.drive.state in
+    let all : c.loop-turn.turn ≡ c.args.turns = omega (arith, c.loop-turn-test.false, c.loop-turn.auto.turn-end) in
     let plan = plan_of (script_run script) in
     let tells = telling (λ h. (goal.Hook-dyn g (h.vtable, h.value)).heard h.value)
     (λ h. (goal.Hook-dyn g (h.vtable, h.value)).asked h.value) (λ h. (goal.Hook-dyn g (h.vtable, h.value)).planned h.value) in
-    let all : c.loop-turn.turn ≡ c.args.turns = omega (arith, c.loop-turn-test.false, c.loop-turn.auto.turn-end) in
     went-run script handed c.args.turns c.args.drive.now.state.settings c.args.port.now c.loop-turn.port t s
     (record { ready = ready; script_set = on; stayed = inv.settings; asks = inv.stands.asks; ends = inv.ends })
     inv.means (inv.turns ∙ all) inv.seen
@@ -177,6 +177,9 @@ ended-by Q fault.Memory q = tt
 ended-by Q fault.OpenFault q = tt
 ended-by Q fault.Spent q = tt
 
+not-memory : fault.PollFault ≢ fault.Memory
+not-memory e = absurd (cc e)
+
 -- A turn that was refused with a failed poll ends the run so.
 pub returns-in-Err-clause-made : goal.returns-in-Err-clause-made
 returns-in-Err-clause-made g c = λ script handed on seats.
@@ -190,9 +193,6 @@ returns-in-Err-clause-made g c = λ script handed on seats.
     let u = t ++ w.added in
     let longer : c.turn.new.scribe.trace ≡ u = same-trace c.turn.new.scribe.trace u w.list in
     let s = c.turn.new.self.state in
-    let plan = plan_of (script_run script) in
-    let tells = telling (λ h. (goal.Hook-dyn g (h.vtable, h.value)).heard h.value)
-    (λ h. (goal.Hook-dyn g (h.vtable, h.value)).asked h.value) (λ h. (goal.Hook-dyn g (h.vtable, h.value)).planned h.value) in
     rw c.end_by.ensures
     (ended-by (λ x. IsRun (script_over script c.args.port.now) handed (answer_of x) c.turn.new.scribe.trace
     (lines_below s s.plain.opened)) c.in-Err.fault
@@ -204,6 +204,9 @@ returns-in-Err-clause-made g c = λ script handed on seats.
     let seen = w.told (Question.Took c.args.port.now.turns) t inv.stands inv.seen in
     let ends = ends-grow (StoodBetween gs) t w.added inv.ends (stood-at gs t Stage.Between before inv.settings inv.means)
     (cut-poll-first cut) once in
+    let plan = plan_of (script_run script) in
+    let tells = telling (λ h. (goal.Hook-dyn g (h.vtable, h.value)).heard h.value)
+    (λ h. (goal.Hook-dyn g (h.vtable, h.value)).asked h.value) (λ h. (goal.Hook-dyn g (h.vtable, h.value)).planned h.value) in
     rw longer (failed-run script handed c.args.turns gs c.args.port.now c.turn.new.port u s
     (record {
       ready = ready;
@@ -213,7 +216,7 @@ returns-in-Err-clause-made g c = λ script handed on seats.
       ends = ends;
     })
     left counted seen
-    (λ tell. planned-cut plan fault.PollFault t w.added before s (λ e. absurd (cc)) cut
+    (λ tell. planned-cut plan fault.PollFault t w.added before s not-memory cut
     (all_told-planned tells plan c.loop-turn.seats.hooks.items c.loop-turn.seats.gone.items t
     (inv.told plan (have-plans c.args.seats.now.hooks.items tells script.plans handed seats tell)))))))
 

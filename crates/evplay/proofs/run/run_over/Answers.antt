@@ -1,5 +1,6 @@
-use Rattle.std.proofs.Common.{◌≡◌, ◌⊎◌, inl, inr, subst, Result, Ok, Err, IfOk, IfErr}
+use Rattle.std.proofs.Common.{◌≡◌, ◌⊎◌, inl, inr, ap, ◌∙◌, subst, Result, Ok, Err, IfOk, IfErr}
 use Rattle.relay_drive.specs.declared.fault.DriveFault.TheVariants as fault
+use Rattle.relay_drive.specs.DriveValue.{DriveValue}
 use Rattle.relay_laws.specs.Report.{lines_below}
 use Rattle.evplay.specs.Headline.{IsRun}
 use Rattle.evplay.specs.Play.{IsRunText}
@@ -25,6 +26,7 @@ both P Q (Err e) p q = tt
 pub returns-clause-text : goal.returns-clause-text
 returns-clause-text g c = λ script handed on seats.
     let over = script_over script c.args.port.now in
+    let began = ap (λ (d : DriveValue). d.state.settings) c.in_ok-drive.ensures.value in
     let s = c.make_turns-ended.new.drive.state in
     let t = c.make_turns-ended.new.scribe.trace in
     ok-then (λ end. IsRun over handed (answer_of end) t (lines_below s s.plain.opened) × TellsTurn end t) _
