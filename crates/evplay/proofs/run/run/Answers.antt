@@ -5,6 +5,7 @@ use Rattle.std.specs.List.{All}
 use Rattle.ev_types.specs.ScriptTurn.{ScriptTurn}
 use Rattle.ev_types.specs.declared.settings.Settings.{Settings}
 use Rattle.ev_types.specs.declared.side.SideId.{SideId}
+use Rattle.ev_types.specs.Sides.{number}
 use Rattle.rate_group.specs.declared.group_set.GroupSet.{GroupSet}
 use Rattle.script_port.specs.ScriptPort.{new_port}
 use Rattle.script_port.specs.ScriptVouched.{ScriptVouches}
@@ -76,6 +77,7 @@ took-set script handed g x hooks set took sides =
     made g groups ins outs hooks =
         record (settings_with g hooks) { groups = map group_given groups; in_group = ins; out_group = outs }
 
+-- in which timeouts fit as they do in the script's
 timed-as : (g : Settings) (x : RateGroups) (hooks : List SideId) (script : ScriptValue) → g ≡ script.settings →
     TimeoutsFit (settings_of script) → TimeoutsFit (settings_given g x hooks)
 timed-as g x hooks script set fit =
@@ -92,12 +94,9 @@ run_over-requires-clause-may_run g c =
     let left = c.script.view_is ∙ e.rest in
     let set = settings-seen now script left in
     let hooks = seated_sides c.in_ok-seats.seats.hooks.items in
-    let tells = telling (λ h. (goal.Hook-dyn g (h.vtable, h.value)).heard h.value)
-    (λ h. (goal.Hook-dyn g (h.vtable, h.value)).asked h.value) (λ h. (goal.Hook-dyn g (h.vtable, h.value)).planned h.value) in
-    let seats = subst (λ z. HasSeats c.in_ok-attach.field-0.items tells z (handed_in tells c.args.hooks.items))
-    (c.deref.ensures.value ∙ plans-seen now script left) c.in_ok-attach.ensures in
-    let sides = ap length (ap seated_sides c.in_ok-seats.ensures.hooks ∙ seats.sides) in
-    let few = few-planned script.plans (length c.args.hooks.items) c.requires.planned in
+    let low = subst (All (λ x. number x.0 < 64)) (sym (c.deref.ensures.value ∙ plans-seen now script left)) c.requires.planned in
+    let few = few-planned c.deref.result.now (length c.args.hooks.items) low in
+    let sides = ap length (ap seated_sides c.in_ok-seats.ensures.hooks ∙ c.in_ok-attach.ensures.sides) in
     let first = c.in_ok-port.ensures.at_first ∙ ap (λ (z : ScriptValue). new_port z.turns) e.rest in
     subst (λ p. MayRun c.len-turns.result (settings_given now.settings given hooks) p) (sym first) (record {
       many = omega (arith, c.len-turns.ensures, now.turns.ok.0, turns-seen now script left);
