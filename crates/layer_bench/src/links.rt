@@ -4,9 +4,9 @@ ghost use Rattle.relay_drive.specs.Seats.{AreSeated};
 
 use ev_port::Mute;
 use ev_types::TurnLine;
-use relay_drive::{Drive, Seats, Settings};
+use relay_drive::{Drive, RateGroups, Seats, Settings};
 use script_port::ScriptPort;
-use script_text::{Limits, Script};
+use script_text::{Members, Script};
 use std::alloc::Global;
 
 /// So many links open, and then so many turns are made in which nothing comes and nobody listens; how many turns were made.
@@ -27,7 +27,8 @@ fn turns_over(
     port: &mut ScriptPort,
 ) -> anyhow::Result<u64> {
     let mut seats = Seats::new(alloc, Vec::new(alloc))?;
-    let mut drive = Drive::new(alloc, settings, &seats)?;
+    let groups = RateGroups::none(alloc);
+    let mut drive = Drive::new(alloc, settings, groups, &seats)?;
     let made = make_turns(turns, &mut drive, &mut seats, port);
     drop(drive);
     drop(seats);
@@ -60,7 +61,7 @@ fn opening(alloc: Global, settings: Settings, links: u32) -> anyhow::Result<Scri
     turns.push((0, lines))?;
     Ok(Script {
         settings,
-        limits: Limits::none(),
+        members: Members::none(),
         groups: Vec::new(alloc),
         plans: Vec::new(alloc),
         turns,

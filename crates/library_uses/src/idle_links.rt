@@ -7,7 +7,7 @@ ghost use Rattle.library_uses.specs.Turning.{MayTurn};
 use ev_port::Mute;
 use ev_types::{NoMemory, PlanLine, SideId, Why};
 use relay_core::{AskFault, Ctl, Hook, Settings};
-use relay_drive::{Drive, Seats};
+use relay_drive::{Drive, RateGroups, Seats};
 use script_port::ScriptPort;
 use script_text::read_script;
 use std::alloc::Global;
@@ -154,7 +154,8 @@ pub fn two_links(rt: &impl Print, alloc: Global) -> anyhow::Result<()> {
     hooks.push(Some(second))?;
     let mut port = ScriptPort::new(alloc, read_script(alloc, TWO_LINKS)?)?;
     let mut seats = Seats::new(alloc, hooks)?;
-    let mut drive = Drive::new(alloc, Settings::usual(), &seats)?;
+    let groups = RateGroups::none(alloc);
+    let mut drive = Drive::new(alloc, Settings::usual(), groups, &seats)?;
     let answer = five_turns(&mut drive, &mut seats, &mut port);
     drop(drive);
     drop(seats);

@@ -9,6 +9,7 @@ mod deadlines;
 mod due;
 mod filters;
 mod idle_links;
+mod limited_links;
 mod limits;
 mod lines;
 mod numbers;
@@ -33,5 +34,6 @@ fn main(rt: HostRuntime) -> anyhow::Result<()> {
     numbers::busy_jobs(&rt, alloc)?;
     own_port::one_call(&rt, alloc)?;
     idle_links::two_links(&rt, alloc)?;
+    limited_links::two_limited_clients(&rt, alloc)?;
     Ok(())
 }

@@ -10,7 +10,7 @@ use ev_port::{
 };
 use ev_types::{Side, SideId};
 use relay_core::Settings;
-use relay_drive::{Drive, Seats};
+use relay_drive::{Drive, RateGroups, Seats};
 use std::alloc::Global;
 use std::io::Print;
 
@@ -136,7 +136,8 @@ pub fn one_call(rt: &impl Print, alloc: Global) -> anyhow::Result<()> {
         turns: 0,
     };
     let mut seats = Seats::new(alloc, Vec::new(alloc))?;
-    let mut drive = Drive::new(alloc, Settings::usual(), &seats)?;
+    let groups = RateGroups::none(alloc);
+    let mut drive = Drive::new(alloc, Settings::usual(), groups, &seats)?;
     let answer = four_turns(rt, &mut drive, &mut seats, &mut port);
     drop(drive);
     drop(seats);

@@ -17,7 +17,7 @@ use Rattle.relay_model.specs.Tied.{IsTied}
 use Rattle.relay_model.proofs.TiedLemmas.{nothing_is_tied}
 use Rattle.ev_types.specs.declared.settings.Settings as code
 use Rattle.relay_state.specs.State.{State}
-use Rattle.relay_steps.specs.Meaning.{IsBuilt, StandsFor, LeftFor}
+use Rattle.relay_steps.specs.Meaning.{HasItsGroups, StandsFor, LeftFor}
 use Rattle.relay_laws.specs.Relayed.{StoodBetween}
 use Rattle.relay_laws.specs.TurnEnds.{AtTurnEnds}
 use Rattle.relay_laws.proofs.LawLemmas.{new_relay_stands}
@@ -28,7 +28,7 @@ use Rattle.relay_drive.specs.declared.fault.DriveFault.TheVariants as fault
 use Rattle.relay_drive.specs.declared.fault.TurnEnd.{TurnEnd}
 use Rattle.relay_drive.specs.declared.fault.TurnEnd.TheVariants as end
 use Rattle.relay_drive.specs.DriveStands.{DriveStands, DriveWent, StandsBetween, turn_answer_of, turn_end_of}
-use Rattle.relay_drive.specs.DriveValue.{DriveValue, new_drive, is_worn}
+use Rattle.relay_drive.specs.DriveValue.{DriveValue, is_worn}
 use Rattle.relay_drive.specs.Known.{Point, Question}
 use Rattle.relay_drive.specs.Seats.{Telling, HooksTell, AreFresh}
 use Rattle.relay_drive.specs.Moves.{knows}
@@ -40,19 +40,19 @@ use Rattle.program_end.proofs.PlannedLemmas.{all_told-none, all_told-more, all_t
 use Rattle.program_end.proofs.TurnCountLemmas.{BeginsOnce, count-append}
 use Rattle.relay_serve.specs.Seen.{Seen, seen}
 use Rattle.relay_serve.specs.Served.{turns_told, AskedByPlans}
-use Rattle.relay_serve.specs.Underway.{TurnsWent, TurnsEnd, TurnsCut}
+use Rattle.relay_serve.specs.Underway.{TurnsWent, TurnsEnd, TurnsCut, groupless_drive}
 use Rattle.relay_serve.specs.declared.run.ServeEnd.TheVariants as serve_end
 
 -- no group is set in what words set
-pub built : (g : code.Settings) (hooks : List SideId) → IsBuilt (settings_with g hooks)
-built g hooks = record { in_group = refl; out_group = refl; groups = refl }
+pub built : (g : code.Settings) (hooks : List SideId) → HasItsGroups (settings_with g hooks)
+built g hooks = record { in_group = tt; out_group = tt; shares = tt }
 
 -- a drive went so, stands for what its turns put, and so many turns are told of
 abbrev pub Standing : Settings → Seen → Seen → DriveValue → ℕ → Type 0
 Standing g old new d turns = (w : TurnsWent g StandsBetween false old new d.state) × DriveStands w.added d × (turns ≡ turns_told w.added)
 
 -- before the first turn
-stands-new : (g : code.Settings) (hooks : List SideId) (old : Seen) → Standing (settings_with g hooks) old old (new_drive g hooks) 0
+stands-new : (g : code.Settings) (hooks : List SideId) (old : Seen) → Standing (settings_with g hooks) old old (groupless_drive g hooks) 0
 stands-new g hooks old = (
   record {
     added = [];
@@ -74,7 +74,7 @@ AllTold tells first hooks gone t = (plan : SideId → List PlanLine) → HavePla
 -- before the first turn, with hooks of which none was called
 pub begins : {H : Type 0} (tells : Telling H) (hooks gone : List (Option H)) (g : code.Settings) (sides : List SideId) (old : Seen) →
     AreFresh hooks gone →
-    (stood : Standing (settings_with g sides) old old (new_drive g sides) 0) × AllTold tells hooks hooks gone stood.0.added
+    (stood : Standing (settings_with g sides) old old (groupless_drive g sides) 0) × AllTold tells hooks hooks gone stood.0.added
 unfolding stands-new
 begins tells hooks gone g sides old fresh =
     (stands-new g sides old, (λ plan have. all_told-none tells plan hooks gone fresh have))

@@ -1,5 +1,5 @@
 -- What a run over a port has done, as far as it came.
-use Rattle.std.specs.Prelude.{◌≡◌, ◌≢◌, ℕ, Bool, false, length, ◌<◌, List, take, Result, Ok, Err, MatchResult}
+use Rattle.std.specs.Prelude.{◌≡◌, ◌≢◌, ℕ, Bool, false, length, ◌<◌, List, take, Result, Ok, Err, None, MatchResult}
 use Rattle.ev_types.specs.declared.side.SideId.{SideId}
 use Rattle.ev_types.specs.declared.status.Status.{Status}
 use Rattle.ev_types.specs.declared.status.Status.TheVariants as status
@@ -10,10 +10,11 @@ use Rattle.ev_port.specs.StreamBytes.{TookOn}
 use Rattle.ev_port.specs.declared.port.Port as port
 use Rattle.ev_port.specs.declared.scribe.Scribe as scribe
 use Rattle.relay_model.specs.Answers.{TurnAnswer}
-use Rattle.relay_model.specs.Settings.{Settings}
+use Rattle.relay_model.specs.Settings.{Settings, settings_with}
 use Rattle.relay_model.specs.Tied.{IsTied}
 use Rattle.ev_types.specs.declared.route.Route.{Route}
-use Rattle.relay_state.specs.State.{State}
+use Rattle.ev_types.specs.declared.settings.Settings as code
+use Rattle.relay_state.specs.State.{State, new_state}
 use Rattle.relay_state.specs.Counting.{open_below}
 use Rattle.relay_steps.specs.Meaning.{LeftFor}
 use Rattle.relay_laws.specs.Relayed.{StoodBetween}
@@ -30,6 +31,10 @@ use Rattle.relay_serve.specs.Seen.{Seen, Drained, seen}
 use Rattle.relay_serve.specs.Served.{EndedAs, IsServed, IsWornOut, turns_told}
 use Rattle.relay_serve.specs.declared.run.ServeEnd.{ServeEnd}
 use Rattle.relay_serve.specs.declared.run.ServeEnd.TheVariants as serve_end
+
+-- a new drive without groups, and with hooks for these sides
+abbrev pub groupless_drive : code.Settings → List SideId → DriveValue
+groupless_drive g hooks = record { state = new_state (settings_with g hooks); entries = 0; kept = None }
 
 -- Turns of a drive that was new put these entries. `After` holds of them and of the relay's state; wherever a turn ended, the run stood
 -- for the trace up to there. The port is tied to them since they began.

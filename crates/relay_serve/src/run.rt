@@ -1,16 +1,15 @@
 // A run over a port: it is started once, and turns are made until all links were opened and none is open, or a hook stops one.
 ghost use Rattle.std.specs.Prelude.{◌≡◌, ◌≢◌};
 ghost use Rattle.ev_types.specs.declared.status.Status.TheVariants.{WriteFault};
-ghost use Rattle.relay_drive.specs.DriveValue.{new_drive};
 ghost use Rattle.relay_drive.specs.Seats.{telling, seated_sides, AreFresh, AreSeated};
 ghost use Rattle.relay_serve.specs.Seen.{seen, drained};
 ghost use Rattle.relay_serve.specs.Served.{Did, AskedByPlans};
-ghost use Rattle.relay_serve.specs.Underway.{TurnsGo, RanTo, ended_as};
+ghost use Rattle.relay_serve.specs.Underway.{TurnsGo, RanTo, ended_as, groupless_drive};
 
 use crate::report::report;
 use ev_port::{Port, Scribe, Sink, Started};
 use ev_types::{Route, Settings, Status};
-use relay_drive::{Drive, DriveFault, Hook, Seats, TurnEnd};
+use relay_drive::{Drive, DriveFault, Hook, RateGroups, Seats, TurnEnd};
 use std::alloc::Global;
 use std::sync::Wait;
 
@@ -34,7 +33,7 @@ fn make_turns<R: Wait, P: Port, S: Scribe>(
     port: &mut P,
     scribe: &mut S,
 ) -> Result<ServeEnd, DriveFault>
-    requires new_drive { drive.old ≡ new_drive settings.now (seated_sides seats.old.hooks.items) }
+    requires new_drive { drive.old ≡ groupless_drive settings.now (seated_sides seats.old.hooks.items) }
     requires seated { AreSeated drive.old.state seats.old.hooks.items seats.old.gone.items }
     requires fresh { AreFresh seats.old.hooks.items seats.old.gone.items }
     ensures went { TurnsGo P.Port S.Scribe result (drive.old, port.old, scribe.old) (drive.new, port.new, scribe.new) }
@@ -66,7 +65,7 @@ fn run<R: Wait, P: Port, S: Scribe>(
     port: &mut P,
     scribe: &mut S,
 ) -> Result<ServeEnd, DriveFault>
-    requires new_drive { drive.old ≡ new_drive route.now.settings (seated_sides seats.old.hooks.items) }
+    requires new_drive { drive.old ≡ groupless_drive route.now.settings (seated_sides seats.old.hooks.items) }
     requires seated { AreSeated drive.old.state seats.old.hooks.items seats.old.gone.items }
     requires fresh { AreFresh seats.old.hooks.items seats.old.gone.items }
     ensures ran { RanTo route.now (seated_sides seats.old.hooks.items) (ended_as result) (seen P.Port S.Scribe (port.old, scribe.old))
@@ -101,7 +100,8 @@ fn relay_seated<R: Wait, P: Port, S: Scribe, K: Sink>(
     ensures write_calm { result ≢ WriteFault → K.faults sink.new ≡ K.faults sink.old }
     ensures unwritten { result ≡ Status.Memory → sink.new ≡ sink.old }
 {
-    let Ok(mut drive) = Drive::new(alloc, route.settings, seats) else {
+    let groups = RateGroups::none(alloc);
+    let Ok(mut drive) = Drive::new(alloc, route.settings, groups, seats) else {
         return Status::Memory;
     };
     let ended = run(rt, route, &mut drive, seats, port, scribe);

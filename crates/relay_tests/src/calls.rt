@@ -23,21 +23,25 @@ pub(crate) fn open(relay: &mut Relay) -> Result<bool, NoMemory> {
     Ok(true)
 }
 
-/// Some bytes are read from an end, or its end where there are none.
+/// Some bytes are read from an end, as many as may be read now, or its end where there are none.
 pub(crate) fn get(relay: &mut Relay, side: SideId, bytes: &[u8]) -> Result<(), NoMemory> {
     if side.link >= relay.opened() {
         return Ok(());
     }
-    relay.reserve_read(side, bytes.len())?;
     if bytes.is_empty() {
         relay.read_answered(side, ReadAnswer::Ended, &[]);
-    } else {
-        relay.read_answered(side, ReadAnswer::Got(bytes.len()), bytes);
+        return Ok(());
     }
+    let (bytes, _) = bytes.split_at(bytes.len().min(relay.read_room(side)));
+    if bytes.is_empty() {
+        return Ok(());
+    }
+    relay.reserve_read(side, bytes.len())?;
+    relay.read_answered(side, ReadAnswer::Got(bytes.len()), bytes);
     Ok(())
 }
 
-/// Some bytes are read from an end, or its end where there are none, and the direction is passed.
+/// Some bytes are read from an end, as many as may be read now, or its end where there are none, and the direction is passed.
 pub(crate) fn read(relay: &mut Relay, side: SideId, bytes: &[u8]) -> Result<(), NoMemory> {
     get(relay, side, bytes)?;
     pass(relay, side)?;
@@ -60,6 +64,14 @@ pub(crate) fn give(relay: &mut Relay, side: SideId, most: usize) -> usize {
     let offered = relay.offer(side).len();
     relay.write_answered(side, WriteAnswer::Took(most.min(offered)));
     offered
+}
+
+/// How many bytes may be read from an end now, and how many given to it.
+pub(crate) fn rooms(relay: &Relay, side: SideId) -> (usize, usize) {
+    if side.link >= relay.opened() {
+        return (0, 0);
+    }
+    (relay.read_room(side), relay.write_room(side))
 }
 
 /// Why a side is to be freed.

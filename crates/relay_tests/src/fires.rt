@@ -1,35 +1,35 @@
 // Fires of hooks over two open links: what is due, what a hook asks, and all that is recorded of it. Each hook asks lines of a script.
-ghost use Rattle.std.specs.Prelude.{◌≡◌, true, [], IfOk};
-ghost use Rattle.std.specs.List.{All};
-ghost use Rattle.relay_core.specs.Fires.{CanPlan, can_ask};
+ghost use Rattle.std.specs.Prelude.{◌≡◌, true, []};
 
-use crate::calls::{IN, OUT, get, give, open};
+use crate::calls::{IN, OUT, get, give, open, pass, rooms};
 use ev_types::{
-    Act, AskAnswer, Cause, ConnAnswer, Dir, Entry, Flags, NoMemory, PlanLine, Settings, Side,
-    SideId, Why, WhyKind,
+    Act, AskAnswer, Cause, ConnAnswer, Dir, Entry, Flags, LimitCfg, NoMemory, PlanLine, Settings,
+    Side, SideId, Why, WhyKind,
 };
-use relay_core::{AskFault, Counts, Hook, Lengths, Relay};
+use relay_core::{AskFault, Counts, Hook, Lengths, RateGroups, Relay};
 use script_hook::ScriptHook;
 use std::alloc::Global;
 
-const OTHER: SideId = SideId {
+pub(crate) const OTHER: SideId = SideId {
     link: 1,
     side: Side::In,
 };
 
 /// A side that is never opened.
-const NOBODY: SideId = SideId {
+pub(crate) const NOBODY: SideId = SideId {
     link: 9,
     side: Side::In,
 };
 
 /// What is done to a relay, and what is seen of it.
 #[derive(Clone, Copy)]
-enum Step {
+pub(crate) enum Step {
     /// A turn begins at a reading of the clock.
     Begins(u64),
-    /// Some bytes are read from an end, or its end where there are none.
+    /// Some bytes are read from an end, as many as may be read now, or its end where there are none.
     Gets(SideId, &'static [u8]),
+    /// The direction from a side is passed.
+    Passes(SideId),
     /// An end takes at most so many bytes.
     Gives(SideId, usize),
     /// A connect check is answered.
@@ -48,16 +48,22 @@ enum Step {
     Counts(SideId, Result<Counts, AskFault>),
     /// The first four bytes of the input of a side.
     Peeks(SideId, [u8; 4]),
+    /// How many bytes may be read from an end now, and how many given to it.
+    Rooms(SideId, usize, usize),
 }
 
 /// An act of a hook, as a constant can have it.
 #[derive(Clone, Copy)]
-enum Ask {
+pub(crate) enum Ask {
     Free(SideId),
     Enable(SideId, Dir),
     Disable(SideId, Dir),
     Marks(SideId, Dir, u64, u64),
     Timeouts(SideId, u64, u64),
+    /// The numbers of a limit, or none: rate and burst of reading, those of writing, and the tick.
+    Rate(SideId, Option<[u64; 5]>),
+    Join(SideId, u32),
+    Leave(SideId),
     Trigger(SideId, Dir),
     Timer(SideId, u64),
     Cancel(SideId),
@@ -66,15 +72,23 @@ enum Ask {
     Stop,
 }
 
-fn act(ask: Ask) -> Act
-    ensures { can_ask result ≡ true }
-{
+pub(crate) fn limit(
+    [read_rate, read_burst, write_rate, write_burst, tick]: [u64; 5],
+) -> Option<LimitCfg> {
+    LimitCfg::new(read_rate, read_burst, write_rate, write_burst, tick).ok()
+}
+
+fn act(ask: Ask) -> Act {
     match ask {
         Ask::Free(side) => Act::Free(side),
         Ask::Enable(side, dir) => Act::Enable(side, dir),
         Ask::Disable(side, dir) => Act::Disable(side, dir),
         Ask::Marks(side, dir, low, high) => Act::Marks(side, dir, low, high),
         Ask::Timeouts(side, read, write) => Act::Timeouts(side, read, write),
+        Ask::Rate(side, None) => Act::Rate(side, None),
+        Ask::Rate(side, Some(numbers)) => Act::Rate(side, limit(numbers)),
+        Ask::Join(side, group) => Act::Join(side, group),
+        Ask::Leave(side) => Act::Leave(side),
         Ask::Trigger(side, dir) => Act::Trigger(side, dir),
         Ask::Timer(side, delay) => Act::Timer(side, delay),
         Ask::Cancel(side) => Act::Cancel(side),
@@ -85,9 +99,7 @@ fn act(ask: Ask) -> Act
 }
 
 /// A line for the first read reason.
-fn line(ask: Ask) -> PlanLine
-    ensures { CanPlan result }
-{
+fn line(ask: Ask) -> PlanLine {
     PlanLine {
         why: WhyKind::Read,
         nth: 1,
@@ -95,9 +107,7 @@ fn line(ask: Ask) -> PlanLine
     }
 }
 
-fn lines(alloc: Global, asks: &[(Ask, AskAnswer)]) -> Result<Vec<PlanLine>, NoMemory>
-    ensures { IfOk result (λ lines. All CanPlan lines.items) }
-{
+fn lines(alloc: Global, asks: &[(Ask, AskAnswer)]) -> Result<Vec<PlanLine>, NoMemory> {
     let mut lines = Vec::new(alloc);
     for pair in asks {
         lines.push(line(pair.0))?;
@@ -222,6 +232,7 @@ fn goes(alloc: Global, relay: &mut Relay, step: Step) -> bool {
     match step {
         Step::Begins(reading) => begins(relay, reading),
         Step::Gets(side, bytes) => get(relay, side, bytes).is_ok(),
+        Step::Passes(side) => pass(relay, side).is_ok(),
         Step::Gives(side, most) => give(relay, side, most) > 0,
         Step::Connects(side, answer) => connects(relay, side, answer),
         Step::Fires(reasons) => fires(relay, reasons),
@@ -231,11 +242,12 @@ fn goes(alloc: Global, relay: &mut Relay, step: Step) -> bool {
         Step::Holds(side, lengths) => relay.ctl().lengths(side) == lengths,
         Step::Counts(side, counts) => relay.ctl().counts(side) == counts,
         Step::Peeks(side, bytes) => peeked(relay, side) == bytes,
+        Step::Rooms(side, read, write) => rooms(relay, side) == (read, write),
     }
 }
 
 /// The place of the first step that does not go as it says.
-fn first_wrong(alloc: Global, relay: &mut Relay, steps: &[Step]) -> Option<usize> {
+pub(crate) fn first_wrong(alloc: Global, relay: &mut Relay, steps: &[Step]) -> Option<usize> {
     if open(relay) != Ok(true) || open(relay) != Ok(true) {
         return Some(0);
     }
@@ -252,7 +264,7 @@ fn plays(alloc: Global, steps: &[Step]) -> Option<usize> {
     let Ok(hooked) = vec![in alloc; true; 3] else {
         return Some(0);
     };
-    let Ok(mut relay) = Relay::new(alloc, Settings::usual(), hooked) else {
+    let Ok(mut relay) = Relay::new(alloc, Settings::usual(), RateGroups::none(alloc), hooked) else {
         return Some(0);
     };
     first_wrong(alloc, &mut relay, steps)
@@ -317,6 +329,11 @@ const REFUSALS: &[Step] = &[Step::Asks(
         (Ask::Timeouts(NOBODY, LONG + 1, 0), AskAnswer::NotLive),
         (Ask::Timeouts(OUT, LONG + 1, 0), AskAnswer::BadValue),
         (Ask::Timeouts(OUT, 0, LONG + 1), AskAnswer::BadValue),
+        (Ask::Rate(NOBODY, None), AskAnswer::NotLive),
+        (Ask::Join(NOBODY, 0), AskAnswer::NotLive),
+        (Ask::Join(OUT, 0), AskAnswer::NoGroup),
+        (Ask::Leave(NOBODY), AskAnswer::NotLive),
+        (Ask::Leave(OUT), AskAnswer::BadValue),
         (Ask::Timer(NOBODY, LONG + 1), AskAnswer::NotLive),
         (Ask::Timer(OUT, LONG + 1), AskAnswer::BadValue),
         (Ask::Timer(OUT, LONG), AskAnswer::Ok),
@@ -450,7 +467,12 @@ fn recorded(alloc: Global, relay: &mut Relay) -> usize {
 }
 
 fn most_recorded(alloc: Global) -> usize {
-    let Ok(mut relay) = Relay::new(alloc, Settings::usual(), Vec::new(alloc)) else {
+    let Ok(mut relay) = Relay::new(
+        alloc,
+        Settings::usual(),
+        RateGroups::none(alloc),
+        Vec::new(alloc),
+    ) else {
         return 0;
     };
     recorded(alloc, &mut relay)

@@ -2,7 +2,7 @@
 
 use crate::calls::{IN, OUT, fault, get, give, open, pass, read};
 use ev_types::{Cause, FilterKind, LinkCount, LinkState, ReadAnswer, SideId};
-use relay_core::{Closing, Marks, Relay, Settings, Timeouts};
+use relay_core::{Closing, Marks, RateGroups, Relay, Settings, Timeouts};
 use std::alloc::Global;
 
 /// A call on a relay with its answer, or what is seen of it then. The link of number 0 is meant.
@@ -14,7 +14,7 @@ enum Act {
     Turns(u64, Option<u64>),
     /// A link is opened whose target is connected.
     Opens,
-    /// Some bytes are read from an end, or its end where there are none.
+    /// Some bytes are read from an end, as many as may be read now, or its end where there are none.
     Gets(SideId, &'static [u8]),
     /// They are read, and the direction is passed.
     Reads(SideId, &'static [u8]),
@@ -148,7 +148,7 @@ fn first_wrong(relay: &mut Relay, acts: &[Act]) -> Option<usize> {
 
 /// The same of a new relay.
 fn plays(alloc: Global, settings: Settings, acts: &[Act]) -> Option<usize> {
-    let Ok(mut relay) = Relay::new(alloc, settings, Vec::new(alloc)) else {
+    let Ok(mut relay) = Relay::new(alloc, settings, RateGroups::none(alloc), Vec::new(alloc)) else {
         return Some(0);
     };
     first_wrong(&mut relay, acts)
@@ -266,6 +266,7 @@ const UP_TO_THE_MARK: &[Act] = &[
     Act::Sees(View::Room(IN, 2)),
     Act::Gets(IN, b"efgh"),
     Act::Sees(View::Room(IN, 0)),
+    Act::Sees(View::Buffered(6)),
     Act::PassesOn(IN),
     Act::Sees(View::Room(IN, 6)),
 ];

@@ -3,7 +3,7 @@
 
 use crate::calls::{IN, OUT, fault, give, open, pass, read};
 use ev_types::{Cause, FilterKind, NoMemory};
-use relay_core::{Relay, Settings};
+use relay_core::{RateGroups, Relay, Settings};
 use std::alloc::Global;
 
 /// A run of one direction: its filters, the hold mark, what is read at In in two pieces before its end, what is given to Out
@@ -98,7 +98,7 @@ fn goes(alloc: Global, run: &Run) -> bool {
         out_write: run.out_write,
         ..Settings::usual()
     };
-    let Ok(mut relay) = Relay::new(alloc, settings, Vec::new(alloc)) else {
+    let Ok(mut relay) = Relay::new(alloc, settings, RateGroups::none(alloc), Vec::new(alloc)) else {
         return false;
     };
     gives(&mut relay, run) && (fault(&relay, IN), fault(&relay, OUT)) == run.faults

@@ -1,8 +1,9 @@
 // Two links beside one another, with the answers of the ends played by hand. The sides are lent, so that they are let go at one
 // place.
+ghost use Rattle.std.specs.Prelude.{◌≡◌, None};
 
 use ev_types::{FilterKind, NoMemory, Side, SideId};
-use relay_sides::{Marks, NewSide, Sides, Timeouts};
+use relay_sides::{Marks, NewSide, Sides, SpareLimits, Timeouts};
 use std::alloc::Global;
 
 const HOLD: u64 = 100;
@@ -42,9 +43,9 @@ enum Act {
 }
 
 /// Whether a call answers as it says, or what is seen is as it says.
-fn answers(sides: &mut Sides, act: Act) -> bool {
+fn answers(sides: &mut Sides, spare: &mut SpareLimits, act: Act) -> bool {
     match act {
-        Act::Opens(write) => open(sides, write).is_ok(),
+        Act::Opens(write) => open(sides, spare, write).is_ok(),
         Act::Opened(count) => sides.opened() == count,
         Act::Reads(from, bytes, changed) => read(sides, from, bytes) == Ok(changed),
         Act::Waiting(to, bytes) => waiting(sides, to) == bytes,
@@ -52,20 +53,24 @@ fn answers(sides: &mut Sides, act: Act) -> bool {
     }
 }
 
-/// What a side is opened with that gives through a filter.
-fn new_side(write: FilterKind) -> NewSide {
+/// What a side is opened with that gives through a filter, without a limit.
+fn new_side(write: FilterKind) -> NewSide
+    ensures { result.limit ≡ None }
+{
     NewSide {
         marks: Marks::none(),
         timeouts: Timeouts::none(),
         read: FilterKind::None,
         write,
+        limit: None,
+        group: None,
         connected: true,
     }
 }
 
-fn open(sides: &mut Sides, write: FilterKind) -> Result<(), NoMemory> {
+fn open(sides: &mut Sides, spare: &mut SpareLimits, write: FilterKind) -> Result<(), NoMemory> {
     sides.reserve_link()?;
-    sides.open(new_side(FilterKind::None), new_side(write), 0);
+    sides.open(new_side(FilterKind::None), new_side(write), 0, 1, spare);
     Ok(())
 }
 
@@ -101,9 +106,9 @@ fn waiting(sides: &Sides, to: SideId) -> [u8; 4] {
 }
 
 /// The place of the first act that does not answer as it says.
-fn first_wrong(sides: &mut Sides, acts: &[Act]) -> Option<usize> {
+fn first_wrong(sides: &mut Sides, spare: &mut SpareLimits, acts: &[Act]) -> Option<usize> {
     for (place, act) in acts.iter().enumerate() {
-        if !answers(sides, *act) {
+        if !answers(sides, spare, *act) {
             return Some(place);
         }
     }
@@ -113,7 +118,8 @@ fn first_wrong(sides: &mut Sides, acts: &[Act]) -> Option<usize> {
 /// The same where no link is open before.
 fn plays(alloc: Global, acts: &[Act]) -> Option<usize> {
     let mut sides = Sides::new(alloc);
-    first_wrong(&mut sides, acts)
+    let mut spare = SpareLimits::new(alloc);
+    first_wrong(&mut sides, &mut spare, acts)
 }
 
 const TWO_LINKS: &[Act] = &[

@@ -4,7 +4,7 @@ ghost use Rattle.relay_drive.specs.Seats.{AreSeated};
 
 use ev_port::{Addr, Mute, Port, Started};
 use mio_port::MioPort;
-use relay_drive::{Drive, DriveFault, Seats, Settings};
+use relay_drive::{Drive, DriveFault, RateGroups, Seats, Settings};
 use std::io;
 use std::io::{Read, Write};
 use std::net::{Ipv4Addr, Shutdown, SocketAddr, TcpListener, TcpStream};
@@ -76,7 +76,12 @@ fn addr_here(port: u16) -> Addr {
 fn new_run(rt: &HostRuntime) -> Result<Run<'_>, DriveFault> {
     let seats = Seats::new(rt.alloc(), Vec::new(rt.alloc()))?;
     Ok(Run {
-        drive: Drive::new(rt.alloc(), Settings::usual(), &seats)?,
+        drive: Drive::new(
+            rt.alloc(),
+            Settings::usual(),
+            RateGroups::none(rt.alloc()),
+            &seats,
+        )?,
         seats,
         port: MioPort::new(rt),
         scribe: Mute::new(),
