@@ -1,22 +1,17 @@
--- Hooks that were handed in: what is planned for a side is what its number's lines say, at most 64 sides have a plan, and no plan asks for
--- what no hook can do yet.
-use Rattle.std.proofs.Common.{◌≡◌, ◌≢◌, inl, inr, ℕ, zero, suc, ◌+◌, ◌*◌, ◌-◌, ◌<◌, ◌≤◌, Bool, true, false, ◌==◌, ◌&&◌, nat_lt, if◌then◌else◌, List}
-use Rattle.std.proofs.Common.{[], ◌∷◌, ◌++◌, ◌||◌, length-append, length, Option, Some, None, refl, sym, ◌∙◌, ap, subst, arith}
+-- Hooks that were handed in: what is planned for a side is what its number's lines say, and at most 64 sides have a plan.
+use Rattle.std.proofs.Common.{◌≡◌, ◌≢◌, inl, inr, ℕ, zero, suc, ◌+◌, ◌*◌, ◌-◌, ◌<◌, ◌≤◌, Bool, true, false, ◌==◌, ◌&&◌, nat_lt, List}
+use Rattle.std.proofs.Common.{if◌then◌else◌, [], ◌∷◌, ◌++◌, ◌||◌, length-append, length, Option, None, refl, sym, ◌∙◌, ap, subst, arith}
 use Rattle.std.specs.Prelude.{filter, map, IfSome, is_some}
 use Rattle.std.specs.List.{All, list_any, list_all}
 use Rattle.std.proofs.lemmas.Bool.{and_parts, cases_lt, eq-eqb, eqb-true, lt-ltb, ltb-true}
 use Rattle.std.proofs.lemmas.List.{get_or_past, get_or_append_left}
-use Rattle.std.proofs.lemmas.List.Elements.{All-head, All-tail, All-nil, All-cons, All-append, All-weaker}
-use Rattle.ev_types.specs.declared.act.Act.{Act}
-use Rattle.ev_types.specs.declared.act.Act.TheVariants as act
+use Rattle.std.proofs.lemmas.List.Elements.{All-head, All-tail, All-nil, All-cons, All-append}
 use Rattle.ev_types.specs.declared.plan_line.PlanLine.{PlanLine}
 use Rattle.ev_types.specs.declared.side.SideId.{SideId}
 use Rattle.ev_types.specs.Sides.{number, same_end}
-use Rattle.relay_core.specs.Fires.{can_ask, CanPlan}
 use Rattle.relay_model.proofs.EndLemmas.{same_end-eq, number-apart}
 use Rattle.relay_model.specs.Plain.{sides_from, sides_where}
 use Rattle.relay_state.specs.Closing.{in_side, out_side}
-use Rattle.script_text.specs.Runnable.{is_act_for_later}
 use Rattle.relay_drive.specs.Seats.{hook_at, Telling}
 use Rattle.program_end.specs.Planned.{tells_all, IsFresh, HasPlan, HavePlans}
 use Rattle.evplay.specs.HandedIn.{HandedIn, handed_in, lines_at, AddsSlot, HasSeats}
@@ -98,28 +93,6 @@ few-planned plans n low =
     and-false : (a b : Bool) → b ≡ false → (a && b) ≡ false
     and-false true b h = h
     and-false false b h = refl
-
--- What can be planned
-
-can-ask : (o : Option Act) → is_act_for_later o ≡ false → IfSome o (λ a. can_ask a ≡ true)
-can-ask None h = tt
-can-ask (Some (act.Rate e cfg)) h = absurd (cc)
-can-ask (Some (act.Join e n)) h = absurd (cc)
-can-ask (Some (act.Leave e)) h = absurd (cc)
-can-ask (Some a) h = refl
-
-pub can-plan : (plans : List (SideId × PlanLine)) → All (λ x. is_act_for_later x.1.act ≡ false) plans → All (λ x. CanPlan x.1) plans
-can-plan plans h = All-weaker (λ x. is_act_for_later x.1.act ≡ false) (λ x. CanPlan x.1) (λ x k. can-ask x.1.act k) plans h
-
--- what is planned for one number can be
-pub can-plan_at : (plans : List (SideId × PlanLine)) (n : ℕ) → All (λ x. CanPlan x.1) plans → All CanPlan (lines_at plans n)
-can-plan_at [] n h = All-nil CanPlan
-can-plan_at (x ∷ plans) n h = go (number x.0 == n) (can-plan_at plans n (All-tail (λ x. CanPlan x.1) x plans h))
-  where
-    go : (b : Bool) → All CanPlan (lines_at plans n) →
-        All CanPlan (map (λ x. x.1) (if b then x ∷ filter (λ y. number y.0 == n) plans else filter (λ y. number y.0 == n) plans))
-    go true rest = All-cons CanPlan x.1 (lines_at plans n) (All-head (λ x. CanPlan x.1) x plans h) rest
-    go false rest = rest
 
 -- Slots
 

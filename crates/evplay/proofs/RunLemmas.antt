@@ -1,34 +1,35 @@
 -- What a drive and a script port keep over the turns of a script is a run of that script.
-use Rattle.std.proofs.Common.{◌≡◌, ◌≤◌, ◌+◌, ℕ, true, List, [], length, refl, ap, ◌∙◌, subst, arith, count_by}
-use Rattle.ev_types.specs.Trace.{Trace}
+use Rattle.std.proofs.Common.{◌≡◌, ◌≤◌, ◌+◌, ℕ, true, List, [], length, sym, ap, ◌∙◌, refl, subst, arith, count_by}
+use Rattle.ev_types.specs.AskNumbers.{AsksFit}
 use Rattle.ev_types.specs.ScriptTurn.{ScriptTurn, lines_of}
+use Rattle.ev_types.specs.Trace.{Trace}
 use Rattle.script_text.specs.Script.{ScriptValue}
+use Rattle.relay_model.specs.Answers.{TurnAnswer}
+use Rattle.relay_model.specs.Called.{NamesOpened, IsCalledFor}
+use Rattle.relay_model.specs.Hooked.{AskPlanned, AskedAsPlanned}
+use Rattle.relay_model.specs.Plays.{AlwaysTookAll, EndsPlayed}
+use Rattle.relay_model.specs.RatesKept.{is_turn}
+use Rattle.relay_model.specs.Script.{plan_of}
 use Rattle.relay_model.specs.Settings.{Settings}
 use Rattle.relay_model.specs.Stages.{Stage, at}
-use Rattle.relay_model.specs.Answers.{TurnAnswer}
-use Rattle.relay_model.specs.RatesKept.{is_turn}
-use Rattle.relay_model.specs.Plays.{TookAll, AlwaysTookAll}
 use Rattle.script_port.specs.ScriptState.{PortState}
 use Rattle.script_port.specs.ScriptTold.{port_told, ends_told}
-use Rattle.relay_model.specs.Called.{NamesOpened, IsCalledFor}
 use Rattle.script_port.specs.ScriptVouched.{NoneWaits, ScriptVouches}
 use Rattle.script_port.proofs.ScriptWaitingLemmas.{always_called, took_called}
 use Rattle.relay_state.specs.State.{State}
 use Rattle.relay_steps.specs.Meaning.{StandsFor, LeftFor}
-use Rattle.relay_laws.specs.Spelling.{TimeoutsFit, BringsFit}
+use Rattle.relay_laws.specs.Relayed.{StoodBetween}
+use Rattle.relay_laws.specs.Report.{lines_below}
+use Rattle.relay_laws.specs.Spelling.{TimeoutsFit}
+use Rattle.relay_laws.specs.TurnEnds.{AtTurnEnds}
 use Rattle.relay_drive.specs.Known.{known, Point, Question}
+use Rattle.program_end.proofs.TurnCountLemmas.{begun-is}
+use Rattle.evplay.specs.HandedIn.{HandedIn}
+use Rattle.evplay.specs.Headline.{IsRun, settings_on, script_run}
+use Rattle.evplay.specs.Run.{script_over, MayRun}
 use Rattle.evplay.proofs.HeadlineLemmas.{run-of}
 use Rattle.evplay.proofs.OrderLemmas.{opens-in-order}
-use Rattle.evplay.proofs.PlayedLemmas.{vouched_played}
-use Rattle.program_end.proofs.TurnCountLemmas.{begun-is}
-use Rattle.relay_laws.specs.TurnEnds.{AtTurnEnds}
-use Rattle.relay_laws.specs.Relayed.{StoodBetween}
-use Rattle.ev_types.specs.AskNumbers.{AsksFit}
-use Rattle.relay_model.specs.Hooked.{AskedAsPlanned}
-use Rattle.relay_model.specs.Script.{plan_of}
-use Rattle.evplay.specs.HandedIn.{HandedIn}
-use Rattle.evplay.specs.Headline.{IsRun, settings_of, settings_on, script_run}
-use Rattle.relay_laws.specs.Report.{lines_below}
+use Rattle.evplay.proofs.PlayedLemmas.{played-of}
 
 -- what is known of a script port and a trace of its script
 abbrev pub PortKnown : Point → PortState → State → List ScriptTurn → Trace → Type 0
@@ -43,56 +44,62 @@ called-for turns t x s k names few = record {
   in_order = opens-in-order s.settings t (at x s.plain, k.reached);
 }
 
-took-of : (turns : List ScriptTurn) (t : Trace) (s : State) → s.settings.links ≡ 256 → AlwaysTookAll turns s.settings.links [] t →
-    AlwaysTookAll turns 256 [] t
-took-of turns t s l h = subst (λ n. AlwaysTookAll turns n [] t) l h
+-- A run that began with these settings over a port, and came to this trace and this state: the settings are those of the script with the
+-- hooks that were handed in, they stayed, the asks fit and are by the plans, and so the run stood wherever a turn ended.
+pub record RanTo (script : ScriptValue) (handed : HandedIn) (n : ℕ) (g : Settings) (first : PortState) (t : Trace) (s : State) : Type 0
+  where
+    pub ready : MayRun n g first
+    pub script_set : g ≡ settings_on script handed
+    pub stayed : s.settings ≡ g
+    pub asks : AsksFit t
+    pub ends : AtTurnEnds (StoodBetween g) t
 
--- All turns were made.
-pub went-run : (script : ScriptValue) (handed : HandedIn) (p : PortState) (t : Trace) (s : State) →
-    script.settings.links ≡ 256 → TimeoutsFit (settings_of script) → s.settings ≡ settings_on script handed →
-    StandsFor t Stage.Between s → NamesOpened 0 (lines_of script.turns) → BringsFit script.turns →
-    count_by is_turn t ≡ length script.turns →
-    PortKnown Point.Between p s script.turns t → AsksFit t → (handed.tell ≡ true → AskedAsPlanned (plan_of (script_run script)) t) →
-    AtTurnEnds (StoodBetween (settings_on script handed)) t → IsRun script handed TurnAnswer.Went t (lines_below s s.plain.opened)
-went-run script handed p t s usual_links timeouts g k names fit all seen asks asked ends =
-    let turns = script.turns in
-    let l : s.settings.links ≡ 256 = ap (λ (z : Settings). z.links) g ∙ usual_links in
-    let called = called-for turns t Stage.Between s k names (omega (arith, all)) in
-    let took = took-of turns t s l (always_called turns s.settings.links [] t called seen.0.1) in
-    let waits : TookAll turns 256 t = subst (λ n. TookAll turns n t) l (took_called turns s.settings.links t called seen.1) in
-    let planned : count_by is_turn t ≡ length turns + 0 = omega (arith, all) in
-    let played = vouched_played script p t 0 TurnAnswer.Went seen.0.0 called took (planned, waits) in
-    run-of script handed TurnAnswer.Went t Stage.Between s usual_links timeouts g k refl fit played asks asked ends
+module _ (script : ScriptValue) (handed : HandedIn) (n : ℕ) (g : Settings) (first p : PortState) (t : Trace) (s : State)
+    (ran : RanTo script handed n g first t s) where
+  -- what it comes to where a turn may answer so
+  ended-run : (answer : TurnAnswer) (at : Point) → LeftFor answer t s → count_by is_turn t ≤ n → PortKnown at p s first.turns t →
+      (IsCalledFor first.turns t → EndsPlayed first.turns s.settings.links (length first.turns + 0) answer t) →
+      (handed.tell ≡ true → AskPlanned (plan_of (script_run script)) answer t) →
+      IsRun (script_over script first) handed answer t (lines_below s s.plain.opened)
+  ended-run answer at k few seen played asked =
+      let ready = ran.ready in
+      let many = ready.many in
+      let over : ScriptValue = script_over script first in
+      let set : s.settings ≡ settings_on over handed = ran.stayed ∙ ran.script_set in
+      let links = ap (λ (z : Settings). z.links) set in
+      let called = called-for first.turns t k.stage s k.stands ready.names (omega (arith, few, many)) in
+      let took = always_called first.turns s.settings.links [] t called seen.0.1 in
+      run-of over handed answer t k.stage s set (ap (λ (z : Settings). z.links) ran.stayed ∙ ready.links)
+      (subst TimeoutsFit (sym ran.stayed) ready.timeouts) ready.brings k.stands k.left
+      (played-of (script_run over) p answer t seen.0.0 called (subst (λ m. AlwaysTookAll first.turns m [] t) links took)
+      (subst (λ m. EndsPlayed first.turns m (length first.turns + 0) answer t) links (played called)))
+      ran.asks asked (subst (λ z. AtTurnEnds (StoodBetween z) t) ran.script_set ran.ends)
 
--- The last turn was refused with a failed poll.
-pub failed-run : (script : ScriptValue) (handed : HandedIn) (p : PortState) (t : Trace) (s : State) →
-    script.settings.links ≡ 256 → TimeoutsFit (settings_of script) → s.settings ≡ settings_on script handed →
-    LeftFor TurnAnswer.PollFault t s → NamesOpened 0 (lines_of script.turns) → BringsFit script.turns →
-    count_by is_turn t ≤ length script.turns →
-    PortKnown Point.Accepting p s script.turns t → AsksFit t → (handed.tell ≡ true → AskedAsPlanned (plan_of (script_run script)) t) →
-    AtTurnEnds (StoodBetween (settings_on script handed)) t → IsRun script handed TurnAnswer.PollFault t (lines_below s s.plain.opened)
-failed-run script handed p t s usual_links timeouts g k names fit few seen asks asked ends =
-    let turns = script.turns in
-    let l : s.settings.links ≡ 256 = ap (λ (z : Settings). z.links) g ∙ usual_links in
-    let called = called-for turns t k.stage s k.stands names few in
-    let took = took-of turns t s l (always_called turns s.settings.links [] t called seen.0.1) in
-    let planned : count_by is_turn t ≤ length turns + 0 = omega (arith, few) in
-    let played = vouched_played script p t 0 TurnAnswer.PollFault seen.0.0 called took planned in
-    run-of script handed TurnAnswer.PollFault t k.stage s usual_links timeouts g k.stands k.left fit played asks asked ends
+  -- All turns were made.
+  pub went-run : StandsFor t Stage.Between s → count_by is_turn t ≡ n → PortKnown Point.Between p s first.turns t →
+      (handed.tell ≡ true → AskedAsPlanned (plan_of (script_run script)) t) →
+      IsRun (script_over script first) handed TurnAnswer.Went t (lines_below s s.plain.opened)
+  went-run k all seen asked =
+      let many = ran.ready.many in
+      let planned : count_by is_turn t ≡ length first.turns + 0 = omega (arith, all, many) in
+      ended-run TurnAnswer.Went Point.Between (record { stage = Stage.Between; stands = k; left = refl }) (omega (arith, all)) seen
+      (λ called. (planned, took_called first.turns s.settings.links t called seen.1)) asked
 
--- A hook of this link stopped the run.
-pub stopped-run : (script : ScriptValue) (handed : HandedIn) (link : ℕ) (p : PortState) (t : Trace) (s : State) →
-    script.settings.links ≡ 256 → TimeoutsFit (settings_of script) → s.settings ≡ settings_on script handed →
-    LeftFor (TurnAnswer.Stopped link) t s → NamesOpened 0 (lines_of script.turns) → BringsFit script.turns →
-    count_by is_turn t ≤ length script.turns →
-    PortKnown Point.Accepted p s script.turns t → AsksFit t → (handed.tell ≡ true → AskedAsPlanned (plan_of (script_run script)) t) →
-    AtTurnEnds (StoodBetween (settings_on script handed)) t → IsRun script handed (TurnAnswer.Stopped link) t (lines_below s s.plain.opened)
-stopped-run script handed link p t s usual_links timeouts g k names fit few seen asks asked ends =
-    let turns = script.turns in
-    let l : s.settings.links ≡ 256 = ap (λ (z : Settings). z.links) g ∙ usual_links in
-    let called = called-for turns t k.stage s k.stands names few in
-    let took = took-of turns t s l (always_called turns s.settings.links [] t called seen.0.1) in
-    let waits : TookAll turns 256 t = subst (λ n. TookAll turns n t) l (took_called turns s.settings.links t called seen.1.0) in
-    let planned : count_by is_turn t ≤ length turns + 0 = omega (arith, few) in
-    let played = vouched_played script p t 0 (TurnAnswer.Stopped link) seen.0.0 called took (planned, waits) in
-    run-of script handed (TurnAnswer.Stopped link) t k.stage s usual_links timeouts g k.stands k.left fit played asks asked ends
+  -- The last turn was refused with a failed poll.
+  pub failed-run : LeftFor TurnAnswer.PollFault t s → count_by is_turn t ≤ n → PortKnown Point.Accepting p s first.turns t →
+      (handed.tell ≡ true → AskedAsPlanned (plan_of (script_run script)) t) →
+      IsRun (script_over script first) handed TurnAnswer.PollFault t (lines_below s s.plain.opened)
+  failed-run k few seen asked =
+      let many = ran.ready.many in
+      let planned : count_by is_turn t ≤ length first.turns + 0 = omega (arith, few, many) in
+      ended-run TurnAnswer.PollFault Point.Accepting k few seen (λ called. planned) asked
+
+  -- A hook of this link stopped the run.
+  pub stopped-run : (link : ℕ) → LeftFor (TurnAnswer.Stopped link) t s → count_by is_turn t ≤ n →
+      PortKnown Point.Accepted p s first.turns t → (handed.tell ≡ true → AskedAsPlanned (plan_of (script_run script)) t) →
+      IsRun (script_over script first) handed (TurnAnswer.Stopped link) t (lines_below s s.plain.opened)
+  stopped-run link k few seen asked =
+      let many = ran.ready.many in
+      let planned : count_by is_turn t ≤ length first.turns + 0 = omega (arith, few, many) in
+      ended-run (TurnAnswer.Stopped link) Point.Accepted k few seen
+      (λ called. (planned, took_called first.turns s.settings.links t called seen.1.0)) asked

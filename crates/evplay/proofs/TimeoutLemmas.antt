@@ -28,7 +28,7 @@ use Rattle.script_text.specs.Numbers.{number_within, bytes_of}
 use Rattle.script_text.specs.FilterNames.{filter_kind_of}
 use Rattle.script_text.specs.Ends.{link_of, end_of, side_of}
 use Rattle.script_text.specs.Limits.{limit_said}
-use Rattle.script_text.specs.declared.groups.GroupSet.{GroupSet}
+use Rattle.rate_group.specs.declared.group_set.GroupSet.{GroupSet}
 use Rattle.ev_types.specs.declared.plan_line.PlanLine.{PlanLine}
 use Rattle.script_text.specs.ValueGrammar.{why_kind_of}
 use Rattle.script_text.specs.ActGrammar.{planned_ask}

@@ -1,5 +1,5 @@
 -- What `play` says of the trace that it writes: a relay made it, and it is played from the script.
-use Rattle.std.specs.Prelude.{◌≡◌, true, Ok, List}
+use Rattle.std.specs.Prelude.{◌≡◌, true, Ok, List, map}
 use Rattle.ev_types.specs.Trace.{Trace}
 use Rattle.ev_types.specs.declared.status.LinkCount.{LinkCount}
 use Rattle.script_text.specs.Script.{ScriptValue}
@@ -11,12 +11,17 @@ use Rattle.relay_model.specs.Plays.{Plays}
 use Rattle.relay_model.specs.Script.{Script, plan_of, run_settings}
 use Rattle.relay_model.specs.Hooked.{AskPlanned}
 use Rattle.relay_model.specs.Polls.{PollsFailed}
+use Rattle.relay_core.specs.GivenGroups.{group_given}
 use Rattle.relay_laws.specs.Relayed.{IsRelayed}
 use Rattle.evplay.specs.HandedIn.{HandedIn}
 
--- the settings of a script's run: what its lines set, and else the usual ones
+-- the settings of a script's run: what its lines set, and else the usual ones; its groups, and those of which its sides are members
 abbrev pub settings_of : ScriptValue → Settings
-settings_of script = model_settings script.settings
+settings_of script = record (model_settings script.settings) {
+  groups = map group_given script.groups;
+  in_group = script.members.in_group;
+  out_group = script.members.out_group;
+}
 
 -- the script as the model plays it
 abbrev pub script_run : ScriptValue → Script

@@ -6,7 +6,7 @@ use Rattle.ev_types.specs.Trace.{Trace}
 use Rattle.ev_port.specs.StreamBytes.{GaveAll, TookOn}
 use Rattle.ev_types.specs.declared.status.LinkCount.{LinkCount}
 use Rattle.script_text.specs.Script.{ScriptValue}
-use Rattle.script_text.specs.Runnable.{runnable_script_of}
+use Rattle.script_text.specs.Spelled.{script_of}
 use Rattle.script_text.specs.TraceText.{trace_text}
 use Rattle.script_text.specs.ReportText.{report_text}
 use Rattle.buffers_mode.specs.Text.{answers_of}
@@ -30,10 +30,10 @@ abbrev pub IsRunText : ScriptValue → HandedIn → RunEnd → List ℕ → Type
 IsRunText script handed end text =
     (t : Trace) × (links : List LinkCount) × IsRun script handed (answer_of end) t links × TellsTurn end t × (text ≡ run_text t links)
 
--- a source text spells a script, of which a run obeys each line, and this is the text of one
+-- a source text spells a script, and this is the text of a run of it
 abbrev pub Runs : List ℕ → HandedIn → RunEnd → List ℕ → Type 0
 Runs source handed end text =
-    (script : ScriptValue) × (runnable_script_of source ≡ Ok script) × IsRunText script handed end text
+    (script : ScriptValue) × (script_of source ≡ Ok script) × IsRunText script handed end text
 
 -- What a script of this kind comes to: this text, and this status once it is written. A run of the relay ends well, with a
 -- failed poll, or where a hook stopped it. A script of buffers, of a base or of pairs comes to the answers of its lines; where a number
@@ -48,10 +48,9 @@ ComesTo mode.Base handed source status.Spent text = base.answers_of source ≡ O
 ComesTo mode.Pairs handed source status.Ok text = pairs.answers_of source ≡ Ok text
 ComesTo _ handed source _ text = ⊥
 
--- The first line of a source text that is not in the grammar of the mode has this number. In a script of links it may also be the first
--- that no run obeys yet.
+-- the first line of a source text that is not in the grammar of the mode has this number
 abbrev pub IsFirstBad : ScriptKind → List ℕ → ℕ → Type 0
-IsFirstBad mode.Relay source line = runnable_script_of source ≡ Err line
+IsFirstBad mode.Relay source line = script_of source ≡ Err line
 IsFirstBad mode.Buffers source line = answers_of source ≡ Err line
 IsFirstBad mode.Base source line = base_script.script_of source ≡ Err line
 IsFirstBad mode.Pairs source line = pairs.answers_of source ≡ Err line

@@ -1,12 +1,12 @@
 -- Runs of a script: when one may begin, and how its turns end, as the answer of the last of them and as the status of the program.
-use Rattle.std.specs.Prelude.{◌≡◌, ◌≤◌, ◌-◌, ◌^◌, ⊤, ℕ, List, [], length, min, count_by, Result, Ok, Err}
+use Rattle.std.specs.Prelude.{◌≡◌, ◌≤◌, ◌-◌, ◌^◌, ⊤, ℕ, [], length, min, count_by, None, Result, Ok, Err}
 use Rattle.ev_types.specs.ScriptTurn.{lines_of}
-use Rattle.ev_types.specs.declared.plan_line.PlanLine.{PlanLine}
-use Rattle.ev_types.specs.declared.settings.Settings.{Settings}
-use Rattle.ev_types.specs.declared.side.SideId.{SideId}
 use Rattle.ev_types.specs.Trace.{Trace}
 use Rattle.relay_model.specs.RatesKept.{is_turn}
-use Rattle.relay_model.specs.Settings.{model_settings}
+use Rattle.relay_model.specs.Settings.{Settings}
+use Rattle.relay_state.specs.State.{new_state}
+use Rattle.relay_steps.specs.Meaning.{HasItsGroups}
+use Rattle.relay_drive.specs.DriveValue.{DriveValue}
 use Rattle.relay_drive.specs.declared.fault.DriveFault.{DriveFault}
 use Rattle.relay_drive.specs.declared.fault.DriveFault.TheVariants as fault
 use Rattle.relay_laws.specs.Spelling.{BringsFit, TimeoutsFit}
@@ -14,7 +14,6 @@ use Rattle.relay_model.specs.Called.{NamesOpened}
 use Rattle.script_port.specs.ScriptPort.{new_port}
 use Rattle.script_port.specs.ScriptState.{PortState}
 use Rattle.script_port.specs.ScriptVouched.{ScriptVouches}
-use Rattle.script_text.specs.Given.{no_members}
 use Rattle.script_text.specs.Script.{ScriptValue}
 use Rattle.ev_types.specs.declared.status.Status.{Status}
 use Rattle.ev_types.specs.declared.status.Status.TheVariants as status
@@ -43,18 +42,25 @@ abbrev pub refused_by : DriveFault → Result RunEnd DriveFault
 refused_by fault.PollFault = Ok run_end.PollFailed
 refused_by other = Err other
 
--- the script with these plans that a port plays under these settings
-abbrev pub script_over : Settings → List (SideId × PlanLine) → PortState → ScriptValue
-script_over settings plans p = record { settings = settings; members = no_members; groups = []; plans = plans; turns = p.turns }
+-- a script, with the turns that a port plays
+abbrev pub script_over : ScriptValue → PortState → ScriptValue
+script_over script p = record script { turns = p.turns }
 
--- A run of so many turns may begin over a port: it plays a script of so many, none of which it has begun; the script names only links
--- that it opens, and what it brings in and the timeouts can be counted.
-pub record MayRun (turns : ℕ) (settings : Settings) (p : PortState) : Type 0 where
+-- a drive of these settings that has made no turn
+abbrev pub first_drive : Settings → DriveValue
+first_drive g = record { state = new_state g; entries = 0; kept = None }
+
+-- A run of so many turns with these settings may begin over a port: it plays a script of so many, none of which it has begun; the script
+-- names only links that it opens, and what it brings in and the timeouts can be counted. There are few hooks, and the groups are in
+-- order.
+pub record MayRun (turns : ℕ) (g : Settings) (p : PortState) : Type 0 where
   pub many : turns ≡ length p.turns
   pub few : length p.turns ≤ 20000
   pub names : NamesOpened 0 (lines_of p.turns)
   pub brings : BringsFit p.turns
-  pub links : settings.links ≡ 256
-  pub timeouts : TimeoutsFit (model_settings settings)
+  pub links : g.links ≡ 256
+  pub hooks : length g.hooks ≤ 64
+  pub groups : HasItsGroups g
+  pub timeouts : TimeoutsFit g
   pub fresh : p ≡ new_port p.turns
   pub vouched : ScriptVouches p p.turns []

@@ -1,7 +1,6 @@
 // The hooks of a run: of those that were handed in, the ones of sides for which the script plans something, each with its lines.
 ghost use Rattle.std.specs.Prelude.{◌≡◌, IfOk, OnOk};
 ghost use Rattle.std.specs.List.{All};
-ghost use Rattle.relay_core.specs.Fires.{CanPlan};
 ghost use Rattle.relay_drive.specs.Seats.{telling};
 ghost use Rattle.program_end.specs.Planned.{IsFresh};
 ghost use Rattle.evplay.specs.HandedIn.{handed_in, lines_at, IsAttached, AddsSlot, HasSeats};
@@ -42,7 +41,6 @@ fn lines_for(
 
 /// A hook with its lines; none where there are no lines.
 fn with_lines(hook: Box<dyn Hook>, lines: &[PlanLine]) -> Result<Option<Box<dyn Hook>>, NoMemory>
-    requires able { All CanPlan lines.now }
     requires fresh { IsFresh (telling (λ h. heard h) (λ h. asked h) (λ h. planned h)) hook }
     ensures { IfOk result (λ slot. IsAttached (telling (λ h. heard h) (λ h. asked h) (λ h. planned h)) lines.now hook slot) }
 {
@@ -61,7 +59,6 @@ fn attach_next(
     hook: Box<dyn Hook>,
     slots: &mut Vec<Option<Box<dyn Hook>>>,
 ) -> Result<(), NoMemory>
-    requires able { All (λ x. CanPlan x.1) plans.now }
     requires fresh { IsFresh (telling (λ h. heard h) (λ h. asked h) (λ h. planned h)) hook }
     ensures { OnOk result (AddsSlot (telling (λ h. heard h) (λ h. asked h) (λ h. planned h)) plans.now hook slots.old.items
         slots.new.items) }
@@ -78,7 +75,6 @@ pub fn attach(
     plans: &[(SideId, PlanLine)],
     hooks: Vec<Box<dyn Hook>>,
 ) -> Result<Vec<Option<Box<dyn Hook>>>, NoMemory>
-    requires able { All (λ x. CanPlan x.1) plans.now }
     requires fresh { All (IsFresh (telling (λ h. heard h) (λ h. asked h) (λ h. planned h))) hooks.items }
     ensures { IfOk result (λ slots. HasSeats slots.items (telling (λ h. heard h) (λ h. asked h) (λ h. planned h)) plans.now
         (handed_in (telling (λ h. heard h) (λ h. asked h) (λ h. planned h)) hooks.items)) }

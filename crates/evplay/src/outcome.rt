@@ -16,7 +16,7 @@ use ev_types::Status;
 use pairs_mode::play_pairs;
 use program_end::fault_status;
 use relay_drive::Hook;
-use script_text::read_runnable_script;
+use script_text::read_script;
 use std::alloc::Global;
 
 /// A text, and the status with which the program ends once it is written.
@@ -58,7 +58,7 @@ fn relay(alloc: Global, text: &[u8], hooks: Vec<Box<dyn Hook>>) -> Result<Outcom
         (handed_in (telling (λ h. heard h) (λ h. asked h) (λ h. planned h)) hooks.items) text.now outcome.status outcome.text.items) }
     ensures refused { IfErr result (λ status. Refuses Relay text.now status) }
 {
-    let script = match read_runnable_script(alloc, text) {
+    let script = match read_script(alloc, text) {
         Ok(script) => script,
         Err(fault) => return Err(script_status(fault)),
     };

@@ -1,30 +1,30 @@
 // Makes the turns of a script over a port that answers by it, and gives the text of what happened.
-ghost use Rattle.std.specs.Prelude.{◌≡◌, ◌≤◌, ◌<◌, ◌⊎◌, List, [], length, Ok, Err, IfOk, IfErr};
+ghost use Rattle.std.specs.Prelude.{◌≡◌, ◌≤◌, ◌<◌, ◌⊎◌, [], length, Ok, Err, IfOk, IfErr};
 ghost use Rattle.std.specs.List.{All};
-ghost use Rattle.ev_types.specs.declared.plan_line.PlanLine.{PlanLine};
-ghost use Rattle.ev_types.specs.declared.side.SideId.{SideId};
 ghost use Rattle.ev_types.specs.ScriptTurn.{lines_of};
 ghost use Rattle.ev_types.specs.Sides.{number};
 ghost use Rattle.relay_model.specs.Called.{NamesOpened};
+ghost use Rattle.relay_core.specs.GivenGroups.{AreGroups, settings_given};
 ghost use Rattle.relay_drive.specs.declared.fault.DriveFault.TheVariants.{Memory};
-ghost use Rattle.relay_drive.specs.DriveValue.{new_drive};
 ghost use Rattle.relay_drive.specs.Seats.{telling, seated_sides, AreFresh, AreSeated};
 ghost use Rattle.relay_laws.specs.Report.{lines_below};
 ghost use Rattle.relay_laws.specs.Spelling.{BringsFit, TimeoutsFit};
-ghost use Rattle.script_text.specs.Runnable.{IsRunnable};
+ghost use Rattle.script_text.specs.GroupsAreSet.{GroupsAreSet};
+ghost use Rattle.script_text.specs.Script.{ScriptValue};
 ghost use Rattle.program_end.specs.Planned.{IsFresh};
 ghost use Rattle.evplay.specs.HandedIn.{HandedIn, handed_in, HasSeats};
-ghost use Rattle.evplay.specs.Headline.{settings_of, IsRun};
+ghost use Rattle.evplay.specs.Headline.{settings_of, settings_on, IsRun};
 ghost use Rattle.evplay.specs.Play.{IsRunText, run_text};
-ghost use Rattle.evplay.specs.Run.{answer_of, ended_as, refused_by, script_over, MayRun, TellsTurn};
+ghost use Rattle.evplay.specs.Run.{answer_of, ended_as, first_drive, refused_by, script_over, MayRun, TellsTurn};
 
 use crate::hooks::attach;
 use ev_types::{NoMemory, Settings, Status};
 use program_end::link_lines;
-use relay_drive::{Drive, DriveFault, Hook, Seats, TurnEnd};
+use relay_drive::{Drive, DriveFault, Hook, RateGroups, Seats, TurnEnd};
 use script_port::ScriptPort;
 use script_text::{Script, write_report};
 use std::alloc::Global;
+use std::mem;
 use text_scribe::TextScribe;
 
 /// How the turns of a script ended.
@@ -66,61 +66,79 @@ pub fn run(
     requires links { script.settings.links ≡ 256 }
     requires timeouts { TimeoutsFit (settings_of script) }
     requires planned { All (λ x. number x.0 < 64) script.plans }
-    requires runnable { IsRunnable script }
+    requires groups { GroupsAreSet script.groups script.members }
     requires fresh { All (IsFresh (telling (λ h. heard h) (λ h. asked h) (λ h. planned h))) hooks.items }
     ensures text { IfOk result (λ ran. IsRunText script
         (handed_in (telling (λ h. heard h) (λ h. asked h) (λ h. planned h)) hooks.items) ran.1 ran.0.items) }
     ensures only_memory { IfErr result (λ fault. fault ≡ Memory) }
 {
+    let mut script = script;
+    let given = take_groups(alloc, &mut script);
     let turns = script.turns.len();
     let settings = script.settings;
     let mut seats = Seats::new(alloc, attach(alloc, &script.plans, hooks)?)?;
     let mut port = ScriptPort::new(alloc, script)?;
-    run_over(alloc, turns, &settings, &mut seats, &mut port)
+    run_over(alloc, turns, settings, given, &mut seats, &mut port)
+}
+
+/// Takes the groups of a script out of it. The port has no use for them.
+fn take_groups(alloc: Global, script: &mut Script) -> RateGroups
+    ensures groups { result.groups.items ≡ script.old.groups }
+    ensures in_group { result.in_group ≡ script.old.members.in_group }
+    ensures out_group { result.out_group ≡ script.old.members.out_group }
+    ensures rest { script.new ≡ record script.old { groups = [] } }
+{
+    RateGroups {
+        groups: mem::replace(&mut script.groups, Vec::new(alloc)),
+        in_group: script.members.in_group,
+        out_group: script.members.out_group,
+    }
 }
 
 /// The text of a run over a port that has not begun, with hooks of which none was called.
 fn run_over(
     alloc: Global,
     turns: usize,
-    settings: &Settings,
+    settings: Settings,
+    given: RateGroups,
     seats: &mut Seats,
     port: &mut ScriptPort,
 ) -> Result<(Vec<u8>, RunEnd), DriveFault>
-    requires may_run { MayRun turns settings.now port.old }
+    requires groups { AreGroups given }
+    requires may_run { MayRun turns (settings_given settings given (seated_sides seats.old.hooks.items)) port.old }
     requires fresh { AreFresh seats.old.hooks.items seats.old.gone.items }
-    requires few { length (seated_sides seats.old.hooks.items) ≤ 64 }
-    ensures text { (plans : List (SideId × PlanLine)) (handed : HandedIn) →
+    ensures text { (script : ScriptValue) (handed : HandedIn) →
+        settings_given settings given (seated_sides seats.old.hooks.items) ≡ settings_on script handed →
         HasSeats seats.old.hooks.items (telling (λ h. heard (h.vtable, h.value)) (λ h. asked (h.vtable, h.value))
-        (λ h. planned (h.vtable, h.value))) plans handed →
-        IfOk result (λ ran. IsRunText (script_over settings.now plans port.old) handed ran.1 ran.0.items) }
+        (λ h. planned (h.vtable, h.value))) script.plans handed →
+        IfOk result (λ ran. IsRunText (script_over script port.old) handed ran.1 ran.0.items) }
     ensures only_memory { IfErr result (λ fault. fault ≡ Memory) }
 {
-    let mut drive = Drive::new(alloc, *settings, seats)?;
+    let mut drive = Drive::new(alloc, settings, given, seats)?;
     let mut scribe = TextScribe::new(alloc);
-    let ended = make_turns(turns, settings, seats, &mut drive, port, &mut scribe);
+    let ended = make_turns(turns, seats, &mut drive, port, &mut scribe);
     text_of(alloc, ended, scribe, &drive)
 }
 
 /// Makes a turn for each of the script, or up to one whose poll fails or which a hook ends.
 fn make_turns(
     turns: usize,
-    settings: &Settings,
     seats: &mut Seats,
     drive: &mut Drive,
     port: &mut ScriptPort,
     scribe: &mut TextScribe,
 ) -> Result<RunEnd, DriveFault>
-    requires may_run { MayRun turns settings.now port.old }
-    requires new_drive { drive.old ≡ new_drive settings.now (seated_sides seats.old.hooks.items) }
+    requires may_run { MayRun turns drive.old.state.settings port.old }
+    requires first { drive.old ≡ first_drive drive.old.state.settings }
     requires fresh { AreFresh seats.old.hooks.items seats.old.gone.items }
     requires seated { AreSeated drive.old.state seats.old.hooks.items seats.old.gone.items }
-    requires few { length (seated_sides seats.old.hooks.items) ≤ 64 }
     requires no_trace { scribe.old.trace ≡ [] }
-    ensures made { (plans : List (SideId × PlanLine)) (handed : HandedIn) →
+
+    // It is a run of every script with these settings and turns, and with what is planned for these hooks.
+    ensures made { (script : ScriptValue) (handed : HandedIn) → drive.old.state.settings ≡ settings_on script handed →
         HasSeats seats.old.hooks.items (telling (λ h. heard (h.vtable, h.value)) (λ h. asked (h.vtable, h.value))
-        (λ h. planned (h.vtable, h.value))) plans handed →
-        IfOk result (λ end. IsRun (script_over settings.now plans port.old) handed (answer_of end) scribe.new.trace
+        (λ h. planned (h.vtable, h.value))) script.plans handed →
+        IfOk result (λ end. IsRun (script_over script port.old) handed (answer_of end) scribe.new.trace
         (lines_below drive.new.state drive.new.state.plain.opened)) }
     ensures turn { IfOk result (λ end. TellsTurn end scribe.new.trace) }
     ensures only_memory { IfErr result (λ fault. fault ≡ Memory) }

@@ -1,7 +1,4 @@
 use Rattle.std.proofs.Common.{◌≡◌, [], ◌∷◌, refl, List, length, sym, subst, arith}
-use Rattle.std.specs.List.{All}
-use Rattle.std.proofs.lemmas.List.Elements.{All-head}
-use Rattle.program_end.specs.Planned.{IsFresh}
 use Rattle.relay_drive.specs.Seats.{telling}
 use Rattle.evplay.proofs.HandedLemmas.{SlotsSoFar, slots-none, slots-more, slots-all}
 use Rattle.evplay.proofs.hooks.attach.Goals as goal
@@ -9,15 +6,6 @@ use Rattle.evplay.proofs.hooks.attach.Goals as goal
 empty : {X : Type 0} (xs : List X) → length xs ≡ 0 → xs ≡ []
 empty [] h = refl
 empty (x ∷ xs) h = absurd (omega (arith, h))
-
-pub attach_next-requires-clause-fresh : goal.attach_next-requires-clause-fresh
-attach_next-requires-clause-fresh g c =
-    All-head (IsFresh (telling (λ h. (goal.Hook-dyn g (h.vtable, h.value)).heard h.value)
-    (λ h. (goal.Hook-dyn g (h.vtable, h.value)).asked h.value)
-    (λ h. (goal.Hook-dyn g (h.vtable, h.value)).planned h.value))) c.in-Some.hook _
-    (subst (All (IsFresh (telling (λ h. (goal.Hook-dyn g (h.vtable, h.value)).heard h.value)
-    (λ h. (goal.Hook-dyn g (h.vtable, h.value)).asked h.value)
-    (λ h. (goal.Hook-dyn g (h.vtable, h.value)).planned h.value)))) c.in-Some.ensures.steps.0 c.loop-hook.invariant.fresh)
 
 pub loop-hook-init : goal.loop-hook-init
 loop-hook-init g c =

@@ -1,14 +1,7 @@
-use Rattle.std.proofs.Common.{◌≡◌, length, sym, ◌∙◌, ap, subst, arith}
+use Rattle.std.proofs.Common.{◌≡◌, length, ◌∙◌, ap, subst, arith}
 use Rattle.relay_drive.specs.Seats.{telling}
 use Rattle.evplay.specs.HandedIn.{lines_at, IsAttached}
-use Rattle.evplay.proofs.HandedLemmas.{can-plan_at}
-use Rattle.relay_core.specs.Fires.{CanPlan}
-use Rattle.std.specs.List.{All}
 use Rattle.evplay.proofs.hooks.attach_next.Goals as goal
-
-pub with_lines-requires-clause-able : goal.with_lines-requires-clause-able
-with_lines-requires-clause-able g c =
-    subst (All CanPlan) (sym (c.deref.ensures.value ∙ c.in_ok-lines.ensures)) (can-plan_at c.args.plans.now c.len.result c.requires.able)
 
 pub returns : goal.returns
 returns g c =

@@ -6,19 +6,19 @@ use Rattle.evplay.proofs.TimeoutLemmas.{timeouts-fit}
 use Rattle.evplay.proofs.outcome.relay.Goals as goal
 
 pub run-requires-clause-few : goal.run-requires-clause-few
-run-requires-clause-few g c = few-turns c.args.text.now c.in-Ok.script c.in-Ok.ensures.spelled
+run-requires-clause-few g c = few-turns c.args.text.now c.in-Ok.script c.in-Ok.ensures.script
 
 pub run-requires-clause-names : goal.run-requires-clause-names
-run-requires-clause-names g c = spelled_names_opened c.args.text.now c.in-Ok.script c.in-Ok.ensures.spelled
+run-requires-clause-names g c = spelled_names_opened c.args.text.now c.in-Ok.script c.in-Ok.ensures.script
 
 pub run-requires-clause-brings : goal.run-requires-clause-brings
-run-requires-clause-brings g c = brings-fit c.args.text.now c.in-Ok.script c.in-Ok.ensures.spelled c.requires.short c.in-Ok.ensures.bytes
+run-requires-clause-brings g c = brings-fit c.args.text.now c.in-Ok.script c.in-Ok.ensures.script c.requires.short c.in-Ok.ensures.bytes
 
 pub run-requires-clause-links : goal.run-requires-clause-links
-run-requires-clause-links g c = links-usual c.args.text.now c.in-Ok.script c.in-Ok.ensures.spelled
+run-requires-clause-links g c = links-usual c.args.text.now c.in-Ok.script c.in-Ok.ensures.script
 
 pub run-requires-clause-timeouts : goal.run-requires-clause-timeouts
-run-requires-clause-timeouts g c = timeouts-fit c.args.text.now c.in-Ok.script c.in-Ok.ensures.spelled
+run-requires-clause-timeouts g c = timeouts-fit c.args.text.now c.in-Ok.script c.in-Ok.ensures.script
 
 pub run-requires-clause-planned : goal.run-requires-clause-planned
-run-requires-clause-planned g c = plans-low c.args.text.now c.in-Ok.script c.in-Ok.ensures.spelled
+run-requires-clause-planned g c = plans-low c.args.text.now c.in-Ok.script c.in-Ok.ensures.script

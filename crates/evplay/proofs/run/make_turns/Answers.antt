@@ -1,11 +1,10 @@
-use Rattle.std.proofs.Common.{◌≡◌, ◌⊎◌, inl, inr, ◌≤◌, ◌<◌, ◌+◌, ◌*◌, ◌++◌, ◌^◌, ◌-◌, ℕ, length, Some, None, min, refl, ap, sym, ◌∙◌}
+use Rattle.std.proofs.Common.{◌≡◌, ◌≢◌, ◌⊎◌, inl, inr, ◌≤◌, ◌<◌, ◌+◌, ◌*◌, ◌++◌, ◌^◌, ◌-◌, ℕ, Some, None, min, refl, ap, sym, ◌∙◌}
 use Rattle.std.proofs.Common.{subst, arith, Ok, IfOk, IfErr}
 use Rattle.std.specs.Prelude.{count_by}
 use Rattle.ev_types.specs.Trace.{Trace}
-use Rattle.script_text.specs.Script.{ScriptValue}
 use Rattle.script_port.specs.ScriptTold.{script_faults}
 use Rattle.relay_model.specs.Script.{plan_of}
-use Rattle.relay_model.specs.Settings.{Settings, settings_with}
+use Rattle.relay_model.specs.Settings.{Settings}
 use Rattle.relay_model.specs.Stages.{Stage}
 use Rattle.relay_model.specs.Answers.{TurnAnswer}
 use Rattle.relay_model.specs.RatesKept.{is_turn}
@@ -13,23 +12,22 @@ use Rattle.relay_steps.specs.Meaning.{LeftFor}
 use Rattle.relay_drive.proofs.NewStands.{new_relay_stands}
 use Rattle.relay_drive.specs.declared.fault.DriveFault.{DriveFault}
 use Rattle.relay_drive.specs.declared.fault.DriveFault.TheVariants as fault
-use Rattle.relay_drive.specs.DriveValue.{new_drive, kept_of}
+use Rattle.relay_drive.specs.DriveValue.{kept_of}
 use Rattle.relay_drive.specs.Bounds.{IsWithin, most_of_turn}
 use Rattle.relay_drive.specs.Known.{Question}
 use Rattle.relay_drive.specs.Phases.{CutTurn, EndsTurn, Turns}
 use Rattle.relay_drive.specs.DriveStands as drive
-use Rattle.relay_drive.specs.Seats.{telling, seated_sides, AreSeated}
-use Rattle.relay_drive.proofs.BoundLaws.{new_drive_is_within, turn_is_bounded}
+use Rattle.relay_drive.specs.Seats.{telling, AreSeated}
+use Rattle.relay_drive.proofs.BoundLaws.{turn_is_bounded}
 use Rattle.relay_drive.proofs.HookEvents.{asks_fit-none}
 use Rattle.evplay.proofs.FaultLemmas.{memory-or-poll}
 use Rattle.relay_laws.proofs.RelayedLemmas.{stood-at}
 use Rattle.evplay.proofs.HandedLemmas.{have-plans}
 use Rattle.evplay.proofs.RunLemmas.{went-run, failed-run, stopped-run}
-use Rattle.evplay.proofs.TurnLemmas.{fresh, few-within, between-of}
+use Rattle.evplay.proofs.TurnLemmas.{fresh, first-within, between-of}
 use Rattle.relay_laws.proofs.TurnEndLemmas.{ends-none, ends-grow}
 use Rattle.program_end.proofs.TurnCountLemmas.{turn-once, turn-first, end-begins, cut-poll-once, cut-poll-first, count-append}
 use Rattle.program_end.proofs.PlannedLemmas.{all_told-none, all_told-more, all_told-planned, planned-cut}
-use Rattle.relay_laws.specs.TurnEnds.{AtTurnEnds}
 use Rattle.relay_laws.specs.Relayed.{StoodBetween}
 use Rattle.relay_laws.specs.Report.{lines_below}
 use Rattle.evplay.specs.declared.run.RunEnd.{RunEnd}
@@ -46,19 +44,17 @@ loop-turn-init g c =
     let ready = c.requires.may_run in
     let hooks = c.args.seats.now.hooks.items in
     let gone = c.args.seats.now.gone.items in
-    let gs : Settings = settings_with c.args.settings.now (seated_sides hooks) in
-    rw (c.requires.new_drive, c.requires.no_trace) (record {
+    let gs : Settings = c.args.drive.now.state.settings in
+    rw (c.requires.first, c.requires.no_trace) (record {
       calm = refl;
       settings = refl;
       stands = record { fits = record { time = refl; last = refl; opened = refl }; asks = asks_fit-none; entries = refl };
       turns = refl;
       seen = ((ready.vouched, tt), inl (λ called. refl));
-      means = new_relay_stands gs (record { in_group = refl; out_group = refl; groups = refl });
+      means = new_relay_stands gs ready.groups;
       ends = ends-none (StoodBetween gs);
-      within = few-within 0 256 (length (seated_sides hooks)) 64 (new_drive c.args.settings.now (seated_sides hooks)) c.requires.few
-          (subst (λ n. IsWithin 0 n (length (seated_sides hooks)) (new_drive c.args.settings.now (seated_sides hooks))) ready.links
-          (new_drive_is_within c.args.settings.now (seated_sides hooks)));
-      seated = subst (λ d. AreSeated d.state hooks gone) c.requires.new_drive c.requires.seated;
+      within = first-within gs ready.links ready.hooks;
+      seated = subst (λ d. AreSeated d.state hooks gone) c.requires.first c.requires.seated;
       told = λ plan have. all_told-none
           (telling (λ h. (goal.Hook-dyn g (h.vtable, h.value)).heard h.value) (λ h. (goal.Hook-dyn g (h.vtable, h.value)).asked h.value)
           (λ h. (goal.Hook-dyn g (h.vtable, h.value)).planned h.value))
@@ -71,7 +67,7 @@ loop-turn-preserved g c =
     let ready = c.requires.may_run in
     let t = c.loop-turn.scribe.trace in
     let few : c.loop-turn.turn < 20000 = omega (arith, c.loop-turn-test.true, ready.many, ready.few) in
-    let gs : Settings = settings_with c.args.settings.now (seated_sides c.args.seats.now.hooks.items) in
+    let gs : Settings = c.args.drive.now.state.settings in
     let s = c.loop-turn.drive.state in
     let new = c.turn.new.self.state in
     let w = c.in-Ok-Went.ensures.went inv.calm (fresh c.loop-turn.turn c.loop-turn.drive t few inv.within inv.means) in
@@ -104,66 +100,57 @@ loop-turn-preserved g c =
           w.added (inv.told plan have) w.hooked);
     }
 
--- the settings of the run are those of the script with the hooks that were handed in
 pub returns-clause-made : goal.returns-clause-made
-returns-clause-made g c = λ plans handed seats.
+returns-clause-made g c = λ script handed on seats.
     let inv = c.loop-turn.invariant in
     let ready = c.requires.may_run in
     let t = c.loop-turn.scribe.trace in
-    let script : ScriptValue = script_over c.args.settings.now plans c.args.port.now in
-    let on = ap (λ hs. settings_with c.args.settings.now hs) seats.sides in
-    let all : c.loop-turn.turn ≡ length c.args.port.now.turns = omega
-    (arith, c.loop-turn-test.false, c.loop-turn.auto.turn-end, ready.many) in
-    went-run script handed c.loop-turn.port t c.loop-turn.drive.state ready.links ready.timeouts (inv.settings ∙ on) inv.means
-    ready.names ready.brings (inv.turns ∙ all) inv.seen inv.stands.asks
-    (λ tell. all_told-planned (telling (λ h. (goal.Hook-dyn g (h.vtable, h.value)).heard h.value)
-    (λ h. (goal.Hook-dyn g (h.vtable, h.value)).asked h.value)
-    (λ h. (goal.Hook-dyn g (h.vtable, h.value)).planned h.value)) (plan_of (script_run script)) c.loop-turn.seats.hooks.items
-    c.loop-turn.seats.gone.items t
-    (inv.told (plan_of (script_run script))
-    (have-plans c.args.seats.now.hooks.items
-    (telling (λ h. (goal.Hook-dyn g (h.vtable, h.value)).heard h.value) (λ h. (goal.Hook-dyn g (h.vtable, h.value)).asked h.value)
-    (λ h. (goal.Hook-dyn g (h.vtable, h.value)).planned h.value)) plans handed seats tell)))
-    (subst (λ z. AtTurnEnds (StoodBetween z) t) on inv.ends)
+    let s = c.loop-turn.drive.state in
+    let all : c.loop-turn.turn ≡ c.args.turns = omega (arith, c.loop-turn-test.false, c.loop-turn.auto.turn-end) in
+    let plan = plan_of (script_run script) in
+    let tells = telling (λ h. (goal.Hook-dyn g (h.vtable, h.value)).heard h.value)
+    (λ h. (goal.Hook-dyn g (h.vtable, h.value)).asked h.value) (λ h. (goal.Hook-dyn g (h.vtable, h.value)).planned h.value) in
+    went-run script handed c.args.turns c.args.drive.now.state.settings c.args.port.now c.loop-turn.port t s
+    (record { ready = ready; script_set = on; stayed = inv.settings; asks = inv.stands.asks; ends = inv.ends })
+    inv.means (inv.turns ∙ all) inv.seen
+    (λ tell. all_told-planned tells plan c.loop-turn.seats.hooks.items c.loop-turn.seats.gone.items t
+    (inv.told plan (have-plans c.args.seats.now.hooks.items tells script.plans handed seats tell)))
 
 pub returns-in-Ok-Stopped-clause-made : goal.returns-in-Ok-Stopped-clause-made
-returns-in-Ok-Stopped-clause-made g c = λ plans handed seats.
+returns-in-Ok-Stopped-clause-made g c = λ script handed on seats.
     let inv = c.loop-turn.invariant in
     let ready = c.requires.may_run in
     let t = c.loop-turn.scribe.trace in
     let few : c.loop-turn.turn < 20000 = omega (arith, c.loop-turn-test.true, ready.many, ready.few) in
-    let gs : Settings = settings_with c.args.settings.now (seated_sides c.args.seats.now.hooks.items) in
-    let script : ScriptValue = script_over c.args.settings.now plans c.args.port.now in
-    let on = ap (λ hs. settings_with c.args.settings.now hs) seats.sides in
+    let gs : Settings = c.args.drive.now.state.settings in
     let s = c.loop-turn.drive.state in
     let new = c.turn.new.self.state in
     let w = c.in-Ok-Stopped.ensures.went inv.calm (fresh c.loop-turn.turn c.loop-turn.drive t few inv.within inv.means) in
     let u = t ++ w.added in
-    let below : c.loop-turn.turn < length c.args.port.now.turns = omega (arith, c.loop-turn-test.true, ready.many) in
     let left : LeftFor (TurnAnswer.Stopped c.in-Ok-Stopped.link) u new =
     subst (λ x. LeftFor (drive.turn_end_of x) u new) c.in-Ok-Stopped.field-0-is (w.means t inv.means) in
     let longer : c.turn.new.scribe.trace ≡ u = same-trace c.turn.new.scribe.trace u w.list in
     let begins = end-begins c.in-Ok-Stopped.field-0 s new w.added w.does in
-    let counted : count_by is_turn u ≤ length c.args.port.now.turns = omega
-    (arith, count-append t w.added, begins.once, inv.turns, below) in
+    let counted : count_by is_turn u ≤ c.args.turns = omega
+    (arith, count-append t w.added, begins.once, inv.turns, c.loop-turn-test.true) in
     let ends = ends-grow (StoodBetween gs) t w.added inv.ends (stood-at gs t Stage.Between s inv.settings inv.means) begins.first
     begins.once in
-    rw longer (stopped-run script handed c.in-Ok-Stopped.link c.turn.new.port u new ready.links ready.timeouts
-    (w.settings ∙ inv.settings ∙ on) left
-    ready.names ready.brings counted (w.told (Question.Took c.args.port.now.turns) t inv.stands inv.seen) (w.stands t inv.stands).asks
-    (λ tell. all_told-planned (telling (λ h. (goal.Hook-dyn g (h.vtable, h.value)).heard h.value)
-    (λ h. (goal.Hook-dyn g (h.vtable, h.value)).asked h.value)
-    (λ h. (goal.Hook-dyn g (h.vtable, h.value)).planned h.value)) (plan_of (script_run script)) c.turn.new.seats.hooks.items
-    c.turn.new.seats.gone.items u
-    (all_told-more (telling (λ h. (goal.Hook-dyn g (h.vtable, h.value)).heard h.value)
-    (λ h. (goal.Hook-dyn g (h.vtable, h.value)).asked h.value)
-    (λ h. (goal.Hook-dyn g (h.vtable, h.value)).planned h.value)) (plan_of (script_run script)) c.loop-turn.seats.hooks.items
-    c.loop-turn.seats.gone.items c.turn.new.seats.hooks.items c.turn.new.seats.gone.items t w.added
-    (inv.told (plan_of (script_run script))
-    (have-plans c.args.seats.now.hooks.items
-    (telling (λ h. (goal.Hook-dyn g (h.vtable, h.value)).heard h.value) (λ h. (goal.Hook-dyn g (h.vtable, h.value)).asked h.value)
-    (λ h. (goal.Hook-dyn g (h.vtable, h.value)).planned h.value)) plans handed seats tell)) w.hooked))
-    (subst (λ z. AtTurnEnds (StoodBetween z) u) on ends))
+    let plan = plan_of (script_run script) in
+    let tells = telling (λ h. (goal.Hook-dyn g (h.vtable, h.value)).heard h.value)
+    (λ h. (goal.Hook-dyn g (h.vtable, h.value)).asked h.value) (λ h. (goal.Hook-dyn g (h.vtable, h.value)).planned h.value) in
+    rw longer (stopped-run script handed c.args.turns gs c.args.port.now c.turn.new.port u new
+    (record {
+      ready = ready;
+      script_set = on;
+      stayed = w.settings ∙ inv.settings;
+      asks = (w.stands t inv.stands).asks;
+      ends = ends;
+    })
+    c.in-Ok-Stopped.link left counted (w.told (Question.Took c.args.port.now.turns) t inv.stands inv.seen)
+    (λ tell. all_told-planned tells plan c.turn.new.seats.hooks.items c.turn.new.seats.gone.items u
+    (all_told-more tells plan c.loop-turn.seats.hooks.items c.loop-turn.seats.gone.items c.turn.new.seats.hooks.items
+    c.turn.new.seats.gone.items t w.added
+    (inv.told plan (have-plans c.args.seats.now.hooks.items tells script.plans handed seats tell)) w.hooked)))
 
 -- the number of a turn, as it is told
 told-is : (n k : ℕ) → n < 20000 → k ≡ n + 1 → n + 1 ≡ min k (2 ^ 32 - 1)
@@ -190,45 +177,48 @@ ended-by Q fault.Memory q = tt
 ended-by Q fault.OpenFault q = tt
 ended-by Q fault.Spent q = tt
 
+not-memory : fault.PollFault ≢ fault.Memory
+not-memory e = absurd (cc e)
+
 -- A turn that was refused with a failed poll ends the run so.
 pub returns-in-Err-clause-made : goal.returns-in-Err-clause-made
-returns-in-Err-clause-made g c = λ plans handed seats.
+returns-in-Err-clause-made g c = λ script handed on seats.
     let inv = c.loop-turn.invariant in
     let ready = c.requires.may_run in
     let t = c.loop-turn.scribe.trace in
     let few : c.loop-turn.turn < 20000 = omega (arith, c.loop-turn-test.true, ready.many, ready.few) in
-    let gs : Settings = settings_with c.args.settings.now (seated_sides c.args.seats.now.hooks.items) in
-    let script : ScriptValue = script_over c.args.settings.now plans c.args.port.now in
-    let on = ap (λ hs. settings_with c.args.settings.now hs) seats.sides in
+    let gs : Settings = c.args.drive.now.state.settings in
     let before = c.loop-turn.drive.state in
-    let below : c.loop-turn.turn < length c.args.port.now.turns = omega (arith, c.loop-turn-test.true, ready.many) in
     let w = c.in-Err.ensures.went inv.calm (fresh c.loop-turn.turn c.loop-turn.drive t few inv.within inv.means) in
     let u = t ++ w.added in
     let longer : c.turn.new.scribe.trace ≡ u = same-trace c.turn.new.scribe.trace u w.list in
     let s = c.turn.new.self.state in
     rw c.end_by.ensures
-    (ended-by (λ x. IsRun script handed (answer_of x) c.turn.new.scribe.trace (lines_below s s.plain.opened)) c.in-Err.fault
+    (ended-by (λ x. IsRun (script_over script c.args.port.now) handed (answer_of x) c.turn.new.scribe.trace
+    (lines_below s s.plain.opened)) c.in-Err.fault
     (λ polled.
     let cut : CutTurn fault.PollFault before w.added s = subst (λ f. CutTurn f before w.added s) polled w.does in
     let left : LeftFor TurnAnswer.PollFault u s = subst (λ f. LeftFor (drive.turn_answer_of f) u s) polled (w.means t inv.means) in
     let once : count_by is_turn w.added ≡ 1 = cut-poll-once cut in
-    let counted : count_by is_turn u ≤ length c.args.port.now.turns = omega (arith, count-append t w.added, once, inv.turns, below) in
+    let counted : count_by is_turn u ≤ c.args.turns = omega (arith, count-append t w.added, once, inv.turns, c.loop-turn-test.true) in
     let seen = w.told (Question.Took c.args.port.now.turns) t inv.stands inv.seen in
     let ends = ends-grow (StoodBetween gs) t w.added inv.ends (stood-at gs t Stage.Between before inv.settings inv.means)
     (cut-poll-first cut) once in
-    rw longer (failed-run script handed c.turn.new.port u s ready.links ready.timeouts (w.settings ∙ inv.settings ∙ on) left
-    ready.names ready.brings
-    counted seen (w.stands t inv.stands).asks
-    (λ tell. planned-cut (plan_of (script_run script)) fault.PollFault t w.added before s (λ e. absurd (cc)) cut
-    (all_told-planned (telling (λ h. (goal.Hook-dyn g (h.vtable, h.value)).heard h.value)
-    (λ h. (goal.Hook-dyn g (h.vtable, h.value)).asked h.value)
-    (λ h. (goal.Hook-dyn g (h.vtable, h.value)).planned h.value)) (plan_of (script_run script)) c.loop-turn.seats.hooks.items
-    c.loop-turn.seats.gone.items t
-    (inv.told (plan_of (script_run script))
-    (have-plans c.args.seats.now.hooks.items
-    (telling (λ h. (goal.Hook-dyn g (h.vtable, h.value)).heard h.value) (λ h. (goal.Hook-dyn g (h.vtable, h.value)).asked h.value)
-    (λ h. (goal.Hook-dyn g (h.vtable, h.value)).planned h.value)) plans handed seats tell))))
-    (subst (λ z. AtTurnEnds (StoodBetween z) u) on ends))))
+    let plan = plan_of (script_run script) in
+    let tells = telling (λ h. (goal.Hook-dyn g (h.vtable, h.value)).heard h.value)
+    (λ h. (goal.Hook-dyn g (h.vtable, h.value)).asked h.value) (λ h. (goal.Hook-dyn g (h.vtable, h.value)).planned h.value) in
+    rw longer (failed-run script handed c.args.turns gs c.args.port.now c.turn.new.port u s
+    (record {
+      ready = ready;
+      script_set = on;
+      stayed = w.settings ∙ inv.settings;
+      asks = (w.stands t inv.stands).asks;
+      ends = ends;
+    })
+    left counted seen
+    (λ tell. planned-cut plan fault.PollFault t w.added before s not-memory cut
+    (all_told-planned tells plan c.loop-turn.seats.hooks.items c.loop-turn.seats.gone.items t
+    (inv.told plan (have-plans c.args.seats.now.hooks.items tells script.plans handed seats tell)))))))
 
 -- Over a port whose listener never fails, every other refusal is want of memory.
 pub returns-in-Err-clause-only_memory : goal.returns-in-Err-clause-only_memory

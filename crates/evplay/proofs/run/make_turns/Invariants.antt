@@ -8,11 +8,10 @@ use Rattle.relay_drive.specs.DriveStands.{DriveStands}
 use Rattle.relay_drive.specs.Bounds.{IsWithin, most_of_turn}
 use Rattle.ev_types.specs.declared.plan_line.PlanLine.{PlanLine}
 use Rattle.ev_types.specs.declared.side.SideId.{SideId}
-use Rattle.relay_drive.specs.Seats.{telling, seated_sides, AreSeated}
+use Rattle.relay_drive.specs.Seats.{telling, AreSeated}
 use Rattle.program_end.specs.Planned.{HavePlans, AllToldOf}
 use Rattle.relay_laws.specs.TurnEnds.{AtTurnEnds}
 use Rattle.relay_laws.specs.Relayed.{StoodBetween}
-use Rattle.relay_model.specs.Settings.{settings_with}
 use Rattle.evplay.proofs.RunLemmas.{PortKnown}
 use Rattle.evplay.proofs.run.make_turns.Given as goal
 
@@ -22,12 +21,12 @@ use Rattle.evplay.proofs.run.make_turns.Given as goal
 abbrev pub invariant-loop-turn : goal.invariant-loop-turn
 invariant-loop-turn g l = record {
   calm : l.drive.kept ≡ None;
-  settings : l.drive.state.settings ≡ settings_with l.fn.settings (seated_sides l.fn.seats.hooks.items);
+  settings : l.drive.state.settings ≡ l.fn.drive.state.settings;
   stands : DriveStands l.scribe.trace l.drive;
   turns : count_by is_turn l.scribe.trace ≡ l.turn;
   seen : PortKnown Point.Between l.port l.drive.state l.fn.port.turns l.scribe.trace;
   means : StandsFor l.scribe.trace Stage.Between l.drive.state;
-  ends : AtTurnEnds (StoodBetween (settings_with l.fn.settings (seated_sides l.fn.seats.hooks.items))) l.scribe.trace;
+  ends : AtTurnEnds (StoodBetween l.fn.drive.state.settings) l.scribe.trace;
   within : IsWithin (l.turn * most_of_turn 256 64) 256 64 l.drive;
   seated : AreSeated l.drive.state l.seats.hooks.items l.seats.gone.items;
   told : (plan : SideId → List PlanLine) →
