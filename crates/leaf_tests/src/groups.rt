@@ -1,6 +1,7 @@
 // Groups over lists of calls, beside numbers that were worked out by hand.
+ghost use Rattle.std.specs.Prelude.{◌≡◌, []};
 
-use rate_group::{Dir, GroupFault, Groups, LimitCfg};
+use rate_group::{Dir, GroupFault, GroupSet, Groups, LimitCfg};
 use std::alloc::Global;
 
 /// A member reads so many bytes, or its share. Answers how many.
@@ -89,4 +90,47 @@ fn run_refusals(alloc: Global) -> Option<[bool; 4]> {
 #[test]
 fn calls_on_groups_are_refused_by_name(rt: HostRuntime) {
     assert_eq!(rt; run_refusals(rt.alloc()), Some([true; 4]));
+}
+
+/// Two groups are made at 300 ms, and two members join the second, in room that was made before: what the second of them may read, and
+/// when its group gains again, as it joined and once both read their shares.
+fn second_of_two(
+    groups: &mut Groups,
+    limit: LimitCfg,
+) -> Result<[(Option<u64>, Option<u64>); 2], GroupFault>
+    requires new { groups.old.value.groups ≡ [] }
+{
+    let sets = [
+        GroupSet {
+            cfg: limit,
+            share: 7,
+        },
+        GroupSet {
+            cfg: limit,
+            share: 64,
+        },
+    ];
+    groups.make_all(&sets, 300)?;
+    groups.reserve_members(2)?;
+    groups.join(1, 5)?;
+    groups.change(1, 6)?;
+    let joined = (groups.share(6, Dir::Read), groups.gains_at(300));
+    read(groups, 5, 64);
+    read(groups, 6, 64);
+    Ok([joined, (groups.share(6, Dir::Read), groups.gains_at(300))])
+}
+
+/// What is left to the second member, where nothing was refused.
+fn run_second_of_two(alloc: Global) -> Option<[(Option<u64>, Option<u64>); 2]> {
+    let limit = hundred()?;
+    let mut groups = Groups::new(alloc);
+    let answer = second_of_two(&mut groups, limit);
+    drop(groups);
+    answer.ok()
+}
+
+#[test]
+fn a_suspended_group_tells_when_it_gains_again(rt: HostRuntime) {
+    let wanted = [(Some(64), None), (Some(0), Some(1_000))];
+    assert_eq!(rt; run_second_of_two(rt.alloc()), Some(wanted));
 }
