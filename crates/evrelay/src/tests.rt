@@ -3,12 +3,13 @@ use crate::program::relay_program;
 use crate::ring::Ring;
 use ev_port::{MemSink, Port, Scribe};
 use ev_types::{Entry, ReadAnswer, Side, SideId};
-use script_port::{FailPort, PortCall, ScriptPort};
+use script_port::ScriptPort;
 use script_text::read_script;
 use std::alloc::{AllocGlobal, Global};
 use std::sync::Wait;
 use std::test::Fail;
 
+mod failed_calls;
 mod sockets;
 
 /// What a run of the program is owed to come to: the status of the process, its report, and what it says on standard error.
@@ -98,61 +99,6 @@ fn first_other_run<R: Wait + AllocGlobal>(rt: &R) -> Result<Option<usize>, Fail>
 #[test]
 fn runs_come_to_their_reports(rt: HostRuntime) -> Result<(), Fail> {
     assert_eq!(rt; first_other_run(&rt)?, None);
-    Ok(())
-}
-
-/// Calls of the port that fail, each with its number and what the run comes to.
-const FAULTS: &[(PortCall, u64, Owed)] = &[
-    (
-        PortCall::Poll,
-        1,
-        (
-            5,
-            "done 0 open 0 gone 0\n",
-            "turn 0\npoll none\npollfail\npoll fault\n",
-        ),
-    ),
-    (
-        PortCall::Poll,
-        3,
-        (
-            5,
-            "link 0 open in 3 0 out 0 0\ndone 0 open 1 gone 0\n",
-            "turn 0\npoll none\nopen 0\nturn 1\npoll none\nwant 0 in r\nwant 0 out r\nready 0 in r\nread 0 in 16384 got 3\n\
-             turn 2\npoll none\nwant 0 in r\nwant 0 out rw\npollfail\npoll fault\n",
-        ),
-    ),
-    (
-        PortCall::Accept,
-        1,
-        (
-            9,
-            "done 0 open 0 gone 0\n",
-            "turn 0\npoll none\nopen fault\n",
-        ),
-    ),
-    // A failed read frees its link, and the run goes well.
-    (
-        PortCall::Read,
-        1,
-        (0, "link 0 gone in 0 0 out 0 0\ndone 0 open 0 gone 1\n", ""),
-    ),
-];
-
-/// The place of the first fault after which a run comes to something else.
-fn first_other_fault<R: Wait + AllocGlobal>(rt: &R) -> Result<Option<usize>, Fail> {
-    for (place, (kind, call, owed)) in FAULTS.iter().enumerate() {
-        let mut port = FailPort::new(port_of(rt.alloc(), BOTH_WAYS)?, *kind, *call);
-        if !comes_to(rt, "1", &mut port, 0, owed)? {
-            return Ok(Some(place));
-        }
-    }
-    Ok(None)
-}
-
-#[test]
-fn a_fault_of_the_port_shows_the_last_entries(rt: HostRuntime) -> Result<(), Fail> {
-    assert_eq!(rt; first_other_fault(&rt)?, None);
     Ok(())
 }
 
