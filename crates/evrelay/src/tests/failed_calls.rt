@@ -1,5 +1,5 @@
-// What a run comes to over a port of which one call fails. No later call is made after a failed poll or accept, and the last entries show on
-// standard error; another failed call frees its side, and the run goes well.
+// What a run comes to over a port of which one call fails. After a failed poll or accept no call is made, and standard error has the
+// last entries; another failed call frees its side, and the run goes well.
 use crate::tests::{Owed, comes_to, port_of};
 use script_port::{FailPort, PortCall};
 use std::alloc::AllocGlobal;
