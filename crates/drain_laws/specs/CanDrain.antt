@@ -1,0 +1,52 @@
+-- What is asked of settings and of a script, so that closing turns bring every link to its end.
+use Rattle.std.specs.Prelude.{◌≡◌, ℕ, ◌+◌, ◌*◌, ◌^◌, ◌≤◌, false, List, length, map, sum_by, All, None, unwrap_or}
+use Rattle.std.specs.List.{flat_map, list_any, last_or}
+use Rattle.ev_types.specs.declared.side.SideId.{SideId}
+use Rattle.ev_types.specs.ScriptTurn.{ScriptTurn, lines_of}
+use Rattle.ev_types.specs.Sides.{peer}
+use Rattle.filter_model.specs.Filter.{filter_of}
+use Rattle.relay_model.specs.Settings.{Settings}
+use Rattle.relay_model.specs.Rooms.{read_kind, write_kind}
+use Rattle.relay_model.specs.Lines.{brings, fails_writes, fails_poll}
+use Rattle.relay_model.specs.Called.{NamesOpened}
+use Rattle.relay_model.specs.Script.{closing_step}
+use Rattle.relay_model.specs.MovingOn.{IsUnhindered}
+use Rattle.relay_model.specs.ClosingTurns.{scripted_links, brought_count, IsDrainable}
+
+-- all that a script brings in at an end, and how many bytes it brings in at all ends
+abbrev pub brought_at : List ScriptTurn → SideId → List ℕ
+brought_at turns e = flat_map (brings e) (lines_of turns)
+
+abbrev pub all_brought : List ScriptTurn → ℕ
+all_brought turns = sum_by brought_count (lines_of turns)
+
+-- the moment of the last turn, or 0 where there is none
+abbrev pub last_moment : List ScriptTurn → ℕ
+last_moment turns = unwrap_or (last_or None (map (λ turn. turn.0) turns)) 0
+
+-- Neither filter of the direction that begins at a side is bad on what the script brings in there: its read filter on that and its end,
+-- the write filter of its peer on what the read filter makes of it.
+pub record HasGoodBytes (g : Settings) (turns : List ScriptTurn) (e : SideId) : Type 0 where
+  pub read : (filter_of (read_kind g e.side)).bad_at_end (brought_at turns e) ≡ None
+  pub write : (filter_of (write_kind g (peer e).side)).bad_at_end ((filter_of (read_kind g e.side)).at_end (brought_at turns e)) ≡ None
+
+-- The settings hinder nothing, and as many links may be opened as the script has. Each of their ends ends; no read, no write, no poll
+-- and no connection fails; no filter is bad on its bytes; and no turn comes later than the last one.
+pub record CanDrain (g : Settings) (turns : List ScriptTurn) : Type 0 where
+  pub unhindered : IsUnhindered g
+  pub links : length (scripted_links turns) ≤ g.links
+  pub drainable : IsDrainable turns
+  pub no_write_fails : (e : SideId) → list_any (fails_writes e) (lines_of turns) ≡ false
+  pub no_poll_fails : list_any fails_poll (lines_of turns) ≡ false
+  pub good : (e : SideId) → HasGoodBytes g turns e
+  pub last_is_greatest : All (λ turn. turn.0 ≤ last_moment turns) turns
+
+-- A bound on the most closing turns that there can be, by the script alone: 4, and 32 for each byte that it brings in, and 72 for each
+-- of its links.
+abbrev pub closing_turn_bound : List ScriptTurn → ℕ
+closing_turn_bound turns = 4 + 32 * all_brought turns + 72 * length (scripted_links turns)
+
+-- Its lines name links that it opened before, and the clock can count so many closing turns.
+pub record IsCountable (g : Settings) (turns : List ScriptTurn) : Type 0 where
+  pub names : NamesOpened 0 (lines_of turns)
+  pub clock : last_moment turns + closing_step g * closing_turn_bound turns ≤ 2 ^ 62

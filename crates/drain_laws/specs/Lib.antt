@@ -1,0 +1,2 @@
+pub mod CanDrain
+pub mod DrainBound
