@@ -1,5 +1,5 @@
 -- That closing turns bring every link to its end, and how few of them do.
-use Rattle.std.specs.Prelude.{◌≡◌, ℕ, ◌+◌, ◌*◌, ◌<◌, ◌≤◌, true, List, ◌++◌, length, sum_by}
+use Rattle.std.specs.Prelude.{◌≡◌, ℕ, ◌+◌, ◌*◌, ◌<◌, ◌≤◌, List, [], ◌++◌, length, sum_by}
 use Rattle.std.specs.List.{flat_map}
 use Rattle.ev_types.specs.declared.side.SideId.{SideId}
 use Rattle.ev_types.specs.declared.status.LinkCount.{LinkCount}
@@ -12,7 +12,7 @@ use Rattle.relay_model.specs.Stages.{Stage, at}
 use Rattle.relay_model.specs.Turn.{Reaches, IsLegal}
 use Rattle.relay_model.specs.Onward.{Leads}
 use Rattle.relay_model.specs.Answers.{TurnAnswer}
-use Rattle.relay_model.specs.Plays.{IsAnswered, AlwaysTookAll}
+use Rattle.relay_model.specs.Plays.{IsAnswered, AlwaysTookAll, TookAll}
 use Rattle.relay_model.specs.Script.{closing_step}
 use Rattle.relay_model.specs.Scripted.{begun, pending, waiting}
 use Rattle.relay_model.specs.Called.{NamesOpened}
@@ -62,4 +62,4 @@ pub record AllLinksDone (turns : List ScriptTurn) (t : Trace) : Type 0 where
 abbrev pub DrainedLinksAreDone : Type 0
 DrainedLinksAreDone = (g : Settings) (turns : List ScriptTurn) (t : Trace) (links : List LinkCount) → CanDrain g turns → IsCountable g turns →
     IsRelayed g TurnAnswer.Went t links → IsAnswered turns (closing_step g) t → AlwaysTookAll turns g.links [] t →
-    Drains turns g TurnAnswer.Went t → AllLinksDone turns t
+    TookAll turns g.links t → Drains turns g TurnAnswer.Went t → AllLinksDone turns t
