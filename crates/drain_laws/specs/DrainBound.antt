@@ -21,6 +21,9 @@ use Rattle.relay_model.specs.OpenLinks.{open_link_count, FreesAreDone}
 use Rattle.relay_model.specs.Work.{PairsMoveOn}
 use Rattle.relay_model.specs.Plain.{sides_from}
 use Rattle.relay_model.specs.ClosingTurns.{scripted_links, unread_count, all_buffered, most_closing_turns, Drains}
+use Rattle.relay_state.specs.State.{State}
+use Rattle.relay_state.specs.Counting.{buffered_below, open_below}
+use Rattle.relay_steps.specs.Meaning.{StandsFor}
 use Rattle.relay_laws.specs.Links.{link_state_in}
 use Rattle.relay_laws.specs.Relayed.{IsRelayed}
 use Rattle.drain_laws.specs.CanDrain.{CanDrain, IsCountable, closing_turn_bound}
@@ -29,6 +32,11 @@ use Rattle.drain_laws.specs.CanDrain.{CanDrain, IsCountable, closing_turn_bound}
 abbrev pub FreesAreOfDone : Type 0
 FreesAreOfDone = (g : Settings) (turns : List ScriptTurn) (closing_by : ℕ) (t : Trace) → CanDrain g turns → IsLegal g t →
     IsAnswered turns closing_by t → FreesAreDone t
+
+-- What a relay counts in buffers, and what links it counts as open, is what these words say of the trace for which it stands.
+abbrev pub CountsAreAsTold : Type 0
+CountsAreAsTold = (t : Trace) (x : Stage) (s : State) → StandsFor t x s →
+    (buffered_below s s.plain.opened ≡ all_buffered s.settings t s.plain) × (open_below s s.plain.opened ≡ open_link_count s.plain)
 
 -- the bytes that came in at the ends of a script's links, and that no read gave yet
 abbrev pub all_pending : List ScriptTurn → Trace → ℕ
@@ -55,7 +63,7 @@ ClosingTurnsAreFew = (g : Settings) (turns : List ScriptTurn) (closing_by : ℕ)
 
 -- every link of a script was opened, and is done
 pub record AllLinksDone (turns : List ScriptTurn) (t : Trace) : Type 0 where
-  pub opened : opened t ≡ length (scripted_links turns)
+  pub all_opened : opened t ≡ length (scripted_links turns)
   pub done : (link : ℕ) → link < opened t → link_state_in t link ≡ state.Done
 
 -- Over a script that can be drained, a run that goes on with closing turns until it ends brings every link to its end.

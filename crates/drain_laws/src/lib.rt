@@ -1,7 +1,13 @@
 //! That closing turns bring every link of a script to its end, within a stated number of them. The laws stand on functions that do nothing.
 #![tactic(auto)]
 
-ghost use Rattle.drain_laws.specs.DrainBound.{ClosingTurnsAreFew, DrainedLinksAreDone, FreesAreOfDone, MostIsBounded, UnreadIsPending};
+ghost use Rattle.drain_laws.specs.DrainBound.{ClosingTurnsAreFew, CountsAreAsTold, DrainedLinksAreDone};
+ghost use Rattle.drain_laws.specs.DrainBound.{FreesAreOfDone, MostIsBounded, UnreadIsPending};
+
+/// What a relay counts in buffers, and as open links, is what the words of the closing turns say.
+pub fn counts_are_as_told()
+    ensures { CountsAreAsTold }
+{}
 
 /// In a run over a script that can be drained each free is of a side that is done.
 pub fn frees_are_of_done()
