@@ -15,6 +15,7 @@ use Rattle.base_mode.specs.Spelled as base_script
 use Rattle.pairs_mode.specs.Run as pairs
 use Rattle.command_words.specs.declared.mode.ScriptKind.{ScriptKind}
 use Rattle.command_words.specs.declared.mode.ScriptKind.TheVariants as mode
+use Rattle.command_words.specs.declared.mode.Ending.{Ending}
 use Rattle.evplay.specs.declared.run.RunEnd.{RunEnd}
 use Rattle.evplay.specs.declared.run.RunEnd.TheVariants as run_end
 use Rattle.evplay.specs.HandedIn.{HandedIn}
@@ -25,23 +26,23 @@ use Rattle.evplay.specs.Run.{answer_of, TellsTurn}
 abbrev pub run_text : Trace → List LinkCount → List ℕ
 run_text t links = trace_text t ++ report_text links
 
--- It is the text of a run of the script that ended so, with these hooks, and of its report.
-abbrev pub IsRunText : ScriptValue → HandedIn → RunEnd → List ℕ → Type 0
-IsRunText script handed end text =
-    (t : Trace) × (links : List LinkCount) × IsRun script handed (answer_of end) t links × TellsTurn end t × (text ≡ run_text t links)
+-- It is the text of a run of the script that was to end so and ended so, with these hooks, and of its report.
+abbrev pub IsRunText : ScriptValue → Ending → HandedIn → RunEnd → List ℕ → Type 0
+IsRunText script how handed end text =
+    (t : Trace) × (links : List LinkCount) × IsRun script how handed (answer_of end) t links × TellsTurn end t × (text ≡ run_text t links)
 
 -- a source text spells a script, and this is the text of a run of it
-abbrev pub Runs : List ℕ → HandedIn → RunEnd → List ℕ → Type 0
-Runs source handed end text =
-    (script : ScriptValue) × (script_of source ≡ Ok script) × IsRunText script handed end text
+abbrev pub Runs : List ℕ → Ending → HandedIn → RunEnd → List ℕ → Type 0
+Runs source how handed end text =
+    (script : ScriptValue) × (script_of source ≡ Ok script) × IsRunText script how handed end text
 
 -- What a script of this kind comes to: this text, and this status once it is written. A run of the relay ends well, with a
 -- failed poll, or where a hook stopped it. A script of buffers, of a base or of pairs comes to the answers of its lines; where a number
 -- of the base is spent, to those before.
 abbrev pub ComesTo : ScriptKind → HandedIn → List ℕ → Status → List ℕ → Type 0
-ComesTo mode.Relay handed source status.Ok text = Runs source handed run_end.Went text
-ComesTo mode.Relay handed source status.PollFault text = Runs source handed run_end.PollFailed text
-ComesTo mode.Relay handed source (status.Stopped link turn) text = Runs source handed (run_end.Stopped link turn) text
+ComesTo (mode.Relay how) handed source status.Ok text = Runs source how handed run_end.Went text
+ComesTo (mode.Relay how) handed source status.PollFault text = Runs source how handed run_end.PollFailed text
+ComesTo (mode.Relay how) handed source (status.Stopped link turn) text = Runs source how handed (run_end.Stopped link turn) text
 ComesTo mode.Buffers handed source status.Ok text = answers_of source ≡ Ok (Some text)
 ComesTo mode.Base handed source status.Ok text = base.answers_of source ≡ Ok (text, false)
 ComesTo mode.Base handed source status.Spent text = base.answers_of source ≡ Ok (text, true)
@@ -50,7 +51,7 @@ ComesTo _ handed source _ text = ⊥
 
 -- the first line of a source text that is not in the grammar of the mode has this number
 abbrev pub IsFirstBad : ScriptKind → List ℕ → ℕ → Type 0
-IsFirstBad mode.Relay source line = script_of source ≡ Err line
+IsFirstBad (mode.Relay how) source line = script_of source ≡ Err line
 IsFirstBad mode.Buffers source line = answers_of source ≡ Err line
 IsFirstBad mode.Base source line = base_script.script_of source ≡ Err line
 IsFirstBad mode.Pairs source line = pairs.answers_of source ≡ Err line

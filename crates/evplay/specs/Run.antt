@@ -1,6 +1,7 @@
 -- Runs of a script: when one may begin, and how its turns end, as the answer of the last of them and as the status of the program.
-use Rattle.std.specs.Prelude.{◌≡◌, ◌≤◌, ◌-◌, ◌^◌, ⊤, ℕ, [], length, min, count_by, None, Result, Ok, Err}
-use Rattle.ev_types.specs.ScriptTurn.{lines_of}
+use Rattle.std.specs.Prelude.{◌≡◌, ◌≤◌, ◌-◌, ◌^◌, ⊤, ℕ, List, [], length, min, count_by, None, Result, Ok, Err}
+use Rattle.std.specs.List.{All}
+use Rattle.ev_types.specs.ScriptTurn.{ScriptTurn, lines_of}
 use Rattle.ev_types.specs.Trace.{Trace}
 use Rattle.relay_model.specs.RatesKept.{is_turn}
 use Rattle.relay_model.specs.Settings.{Settings}
@@ -11,9 +12,12 @@ use Rattle.relay_drive.specs.declared.fault.DriveFault.{DriveFault}
 use Rattle.relay_drive.specs.declared.fault.DriveFault.TheVariants as fault
 use Rattle.relay_laws.specs.Spelling.{BringsFit, TimeoutsFit}
 use Rattle.relay_model.specs.Called.{NamesOpened}
+use Rattle.relay_model.specs.ClosingTurns.{scripted_links}
+use Rattle.script_port.specs.ScriptPlan.{first_plan}
 use Rattle.script_port.specs.ScriptPort.{new_port}
 use Rattle.script_port.specs.ScriptState.{PortState}
 use Rattle.script_port.specs.ScriptVouched.{ScriptVouches}
+use Rattle.script_text.specs.Brought.{all_brought}
 use Rattle.script_text.specs.Script.{ScriptValue}
 use Rattle.ev_types.specs.declared.status.Status.{Status}
 use Rattle.ev_types.specs.declared.status.Status.TheVariants as status
@@ -50,12 +54,20 @@ script_over script p = record script { turns = p.turns }
 abbrev pub first_drive : Settings → DriveValue
 first_drive g = record { state = new_state g; entries = 0; kept = None }
 
+-- So long may the turns of a script be: at most 20,000, in which at most 256 links are opened and 2^23 bytes brought in, at moments of at
+-- most 2^40.
+pub record AreSmall (turns : List ScriptTurn) : Type 0 where
+  pub few : length turns ≤ 20000
+  pub links : length (scripted_links turns) ≤ 256
+  pub bytes : all_brought (lines_of turns) ≤ 2 ^ 23
+  pub moments : All (λ turn. turn.0 ≤ 2 ^ 40) turns
+
 -- A run of so many turns with these settings may begin over a port: it plays a script of so many, none of which it has begun; the script
--- names only links that it opens, and what it brings in and the timeouts can be counted. There are few hooks, and the groups are in
--- order.
+-- names only links that it opens, and what it brings in, its moments and the timeouts can be counted. There are few hooks, and the groups
+-- are in order.
 pub record MayRun (turns : ℕ) (g : Settings) (p : PortState) : Type 0 where
   pub many : turns ≡ length p.turns
-  pub few : length p.turns ≤ 20000
+  pub small : AreSmall p.turns
   pub names : NamesOpened 0 (lines_of p.turns)
   pub brings : BringsFit p.turns
   pub links : g.links ≡ 256
@@ -63,4 +75,4 @@ pub record MayRun (turns : ℕ) (g : Settings) (p : PortState) : Type 0 where
   pub groups : HasItsGroups g
   pub timeouts : TimeoutsFit g
   pub fresh : p ≡ new_port p.turns
-  pub vouched : ScriptVouches p p.turns []
+  pub vouched : (step : ℕ) → ScriptVouches p (first_plan p.turns step) []

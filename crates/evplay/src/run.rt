@@ -1,9 +1,10 @@
 // Makes the turns of a script over a port that answers by it, and gives the text of what happened.
-ghost use Rattle.std.specs.Prelude.{◌≡◌, ◌≤◌, ◌<◌, ◌⊎◌, [], length, Ok, Err, IfOk, IfErr};
+ghost use Rattle.std.specs.Prelude.{◌≡◌, ◌<◌, ◌⊎◌, [], Ok, Some, IfOk, IfErr, IsSomeAnd};
 ghost use Rattle.std.specs.List.{All};
 ghost use Rattle.ev_types.specs.ScriptTurn.{lines_of};
 ghost use Rattle.ev_types.specs.Sides.{number};
 ghost use Rattle.relay_model.specs.Called.{NamesOpened};
+ghost use Rattle.relay_model.specs.Script.{closing_step};
 ghost use Rattle.relay_core.specs.GivenGroups.{AreGroups, settings_given};
 ghost use Rattle.relay_drive.specs.declared.fault.DriveFault.TheVariants.{Memory};
 ghost use Rattle.relay_drive.specs.Seats.{telling, seated_sides, AreFresh, AreSeated};
@@ -15,19 +16,22 @@ ghost use Rattle.program_end.specs.Planned.{IsFresh};
 ghost use Rattle.evplay.specs.HandedIn.{HandedIn, handed_in, HasSeats};
 ghost use Rattle.evplay.specs.Headline.{settings_of, settings_on, IsRun};
 ghost use Rattle.evplay.specs.Play.{IsRunText, run_text};
-ghost use Rattle.evplay.specs.Run.{answer_of, ended_as, first_drive, refused_by, script_over, MayRun, TellsTurn};
+ghost use Rattle.evplay.specs.Run.{answer_of, ended_as, first_drive, script_over, AreSmall, MayRun, TellsTurn};
 
+use crate::closing::closing_step;
 use crate::hooks::attach;
+use crate::turns::make_turns;
+use command_words::Ending;
 use ev_types::{NoMemory, Settings, Status};
 use program_end::link_lines;
-use relay_drive::{Drive, DriveFault, Hook, RateGroups, Seats, TurnEnd};
+use relay_drive::{Drive, DriveFault, Hook, RateGroups, Seats};
 use script_port::ScriptPort;
 use script_text::{Script, write_report};
 use std::alloc::Global;
 use std::mem;
 use text_scribe::TextScribe;
 
-/// How the turns of a script ended.
+/// How the turns of a run ended.
 ///
 /// Own.
 #[derive(Clone, Copy, Debug, PartialEq, Eq)]
@@ -53,14 +57,16 @@ impl RunEnd {
     }
 }
 
-/// The text of the trace and of the report of a run, one turn for each of the script or up to a failed poll or to a stop. A hook that was
-/// handed in for a side gets what the script plans for that side; it is let go where that is nothing.
+/// The text of the trace and of the report of a run, one turn for each of the script and, where it drains its links, closing turns behind
+/// them; or up to a failed poll or to a stop. A hook that was handed in for a side gets what the script plans for that side; it is let go
+/// where that is nothing.
 pub fn run(
     alloc: Global,
     script: Script,
+    how: Ending,
     hooks: Vec<Box<dyn Hook>>,
 ) -> Result<(Vec<u8>, RunEnd), DriveFault>
-    requires few { length script.turns ≤ 20000 }
+    requires small { AreSmall script.turns }
     requires names { NamesOpened 0 (lines_of script.turns) }
     requires brings { BringsFit script.turns }
     requires links { script.settings.links ≡ 256 }
@@ -68,7 +74,7 @@ pub fn run(
     requires planned { All (λ x. number x.0 < 64) script.plans }
     requires groups { GroupsAreSet script.groups script.members }
     requires fresh { All (IsFresh (telling (λ h. heard h) (λ h. asked h) (λ h. planned h))) hooks.items }
-    ensures text { IfOk result (λ ran. IsRunText script
+    ensures text { IfOk result (λ ran. IsRunText script how
         (handed_in (telling (λ h. heard h) (λ h. asked h) (λ h. planned h)) hooks.items) ran.1 ran.0.items) }
     ensures only_memory { IfErr result (λ fault. fault ≡ Memory) }
 {
@@ -78,11 +84,11 @@ pub fn run(
     let settings = script.settings;
     let mut seats = Seats::new(alloc, attach(alloc, &script.plans, hooks)?)?;
     let mut port = ScriptPort::new(alloc, script)?;
-    run_over(alloc, turns, settings, given, &mut seats, &mut port)
+    run_over(alloc, turns, how, settings, given, &mut seats, &mut port)
 }
 
 /// Takes the groups of a script out of it. The port has no use for them.
-fn take_groups(alloc: Global, script: &mut Script) -> RateGroups
+pub(crate) fn take_groups(alloc: Global, script: &mut Script) -> RateGroups
     ensures groups { result.groups.items ≡ script.old.groups }
     ensures in_group { result.in_group ≡ script.old.members.in_group }
     ensures out_group { result.out_group ≡ script.old.members.out_group }
@@ -99,6 +105,7 @@ fn take_groups(alloc: Global, script: &mut Script) -> RateGroups
 fn run_over(
     alloc: Global,
     turns: usize,
+    how: Ending,
     settings: Settings,
     given: RateGroups,
     seats: &mut Seats,
@@ -111,56 +118,14 @@ fn run_over(
         settings_given settings given (seated_sides seats.old.hooks.items) ≡ settings_on script handed →
         HasSeats seats.old.hooks.items (telling (λ h. heard (h.vtable, h.value)) (λ h. asked (h.vtable, h.value))
         (λ h. planned (h.vtable, h.value))) script.plans handed →
-        IfOk result (λ ran. IsRunText (script_over script port.old) handed ran.1 ran.0.items) }
+        IfOk result (λ ran. IsRunText (script_over script port.old) how handed ran.1 ran.0.items) }
     ensures only_memory { IfErr result (λ fault. fault ≡ Memory) }
 {
+    let step = closing_step(&settings, &given);
     let mut drive = Drive::new(alloc, settings, given, seats)?;
     let mut scribe = TextScribe::new(alloc);
-    let ended = make_turns(turns, seats, &mut drive, port, &mut scribe);
+    let ended = make_turns(turns, how, step, seats, &mut drive, port, &mut scribe);
     text_of(alloc, ended, scribe, &drive)
-}
-
-/// Makes a turn for each of the script, or up to one whose poll fails or which a hook ends.
-fn make_turns(
-    turns: usize,
-    seats: &mut Seats,
-    drive: &mut Drive,
-    port: &mut ScriptPort,
-    scribe: &mut TextScribe,
-) -> Result<RunEnd, DriveFault>
-    requires may_run { MayRun turns drive.old.state.settings port.old }
-    requires first { drive.old ≡ first_drive drive.old.state.settings }
-    requires fresh { AreFresh seats.old.hooks.items seats.old.gone.items }
-    requires seated { AreSeated drive.old.state seats.old.hooks.items seats.old.gone.items }
-    requires no_trace { scribe.old.trace ≡ [] }
-
-    // It is a run of every script with these settings and turns, and with what is planned for these hooks.
-    ensures made { (script : ScriptValue) (handed : HandedIn) → drive.old.state.settings ≡ settings_on script handed →
-        HasSeats seats.old.hooks.items (telling (λ h. heard (h.vtable, h.value)) (λ h. asked (h.vtable, h.value))
-        (λ h. planned (h.vtable, h.value))) script.plans handed →
-        IfOk result (λ end. IsRun (script_over script port.old) handed (answer_of end) scribe.new.trace
-        (lines_below drive.new.state drive.new.state.plain.opened)) }
-    ensures turn { IfOk result (λ end. TellsTurn end scribe.new.trace) }
-    ensures only_memory { IfErr result (λ fault. fault ≡ Memory) }
-{
-    for turn in 0..turns {
-        match drive.turn(seats, port, scribe) {
-            Ok(TurnEnd::Went) => {}
-            Ok(TurnEnd::Stopped(link)) => return Ok(RunEnd::Stopped(link, turn as u32 + 1)),
-            Err(fault) => return end_by(fault),
-        }
-    }
-    Ok(RunEnd::Went)
-}
-
-/// A run ends with a failed poll, and every other refusal of a turn is one of the run.
-fn end_by(fault: DriveFault) -> Result<RunEnd, DriveFault>
-    ensures { result ≡ refused_by fault }
-{
-    match fault {
-        DriveFault::PollFault => Ok(RunEnd::PollFailed),
-        DriveFault::Memory | DriveFault::OpenFault | DriveFault::Spent => Err(fault),
-    }
 }
 
 /// The text of a run that ended so, or why it was refused.

@@ -1,0 +1,100 @@
+-- What a text spells is small: its moments are at most 2^40, and it opens at most 256 links.
+use Rattle.std.proofs.Common.{◌≡◌, ◌≤◌, ◌<◌, ◌+◌, ◌*◌, ◌^◌, ℕ, Bool, true, false, ◌&&◌, ◌||◌, not, nat_lt, List, [], ◌∷◌, ◌++◌, length, codes}
+use Rattle.std.proofs.Common.{Option, Some, None, Ok, refl, sym, ap, ◌∙◌, subst, arith, if◌then◌else◌, length-append}
+use Rattle.std.specs.Prelude.{All, IfSome, option_map, option_and_then}
+use Rattle.std.specs.List.{flat_map}
+use Rattle.std.specs.Str.{bytes_eq}
+use Rattle.std.proofs.lemmas.Bool.{and_parts, ltb-true}
+use Rattle.std.proofs.lemmas.Grind.{flat_map-append}
+use Rattle.std.proofs.lemmas.List.Elements.{All-append, All-nil}
+use Rattle.ev_types.specs.declared.plan_line.PlanLine.{PlanLine}
+use Rattle.ev_types.specs.declared.turn_line.TurnLine.{TurnLine}
+use Rattle.ev_types.specs.declared.turn_line.TurnLine.TheVariants as turn
+use Rattle.ev_types.specs.ScriptTurn.{ScriptTurn, lines_of}
+use Rattle.script_text.specs.declared.line.Keyword.{Keyword}
+use Rattle.script_text.specs.declared.line.Keyword.TheVariants as keyword
+use Rattle.script_text.specs.declared.line.Line.{Line}
+use Rattle.script_text.specs.declared.line.Line.TheVariants as line
+use Rattle.script_text.specs.declared.setting.Given.{Given}
+use Rattle.script_text.specs.ActGrammar.{planned_ask}
+use Rattle.script_text.specs.Brought.{all_brought}
+use Rattle.script_text.specs.Ends.{link_of, end_of}
+use Rattle.script_text.specs.Given.{with_setting}
+use Rattle.script_text.specs.Grammar.{keyword_of, made_of, more_of, of_end, setting_name_of, set_by, said_by, is_comment, said}
+use Rattle.script_text.specs.GroupsAndPlans.{hooked_of, nth_of}
+use Rattle.script_text.specs.Numbers.{number_within, bytes_of}
+use Rattle.script_text.specs.Order.{may_be_set, group_set, may_follow, with_line, extended, opened}
+use Rattle.script_text.specs.Pieces.{lines}
+use Rattle.script_text.specs.Script.{ScriptValue, SoFar}
+use Rattle.script_text.specs.Spelled.{no_line, script_of}
+use Rattle.script_text.specs.ValueGrammar.{why_kind_of}
+use Rattle.script_text.proofs.LawLemmas.{script_of-read, decimal-number_within}
+use Rattle.relay_model.specs.Lines.{links_by}
+use Rattle.relay_model.specs.ClosingTurns.{scripted_links}
+use Rattle.evplay.specs.Run.{AreSmall}
+use Rattle.evplay.proofs.BroughtLemmas.{some-map, some-then, some-if, lines_of-turn, lines_of-with_line}
+use Rattle.evplay.proofs.ScriptLemmas.{few-turns, some-is, none-some, keeps-lines}
+
+-- Each line by itself
+
+-- a line begins a turn at a moment of at most 2^40
+abbrev IsSoon : Line → Type 0
+IsSoon (line.At ms) = ms ≤ 2 ^ 40
+IsSoon _ = Unit {0}
+
+at-soon : (ms : List ℕ) → IfSome (option_map (λ n. line.At n) (number_within (2 ^ 40) ms)) IsSoon
+at-soon ms = go (number_within (2 ^ 40) ms) refl
+  where
+    go : (o : Option ℕ) → number_within (2 ^ 40) ms ≡ o → IfSome (option_map (λ n. line.At n) o) IsSoon
+    go None h = tt
+    go (Some n) h = (decimal-number_within (2 ^ 40) n ms (omega arith) h).1
+
+said_by-soon : (k : Keyword) (ws : List (List ℕ)) → IfSome (said_by k ws) IsSoon
+said_by-soon keyword.Set (what ∷ more) =
+    some-then IsSoon (λ named. option_map (λ s. line.Set s) (set_by named more))
+    (λ named. some-map IsSoon (λ s. line.Set s) (λ s. tt) (set_by named more)) (setting_name_of what)
+said_by-soon keyword.At (ms ∷ []) = at-soon ms
+said_by-soon keyword.Open [] = tt
+said_by-soon keyword.Open (word ∷ []) = some-if IsSoon (bytes_eq word (codes "wait")) (Some (line.Within (turn.NewLink true))) None tt tt
+said_by-soon keyword.Conn (link ∷ word ∷ []) =
+    some-then IsSoon (λ made. option_map (λ l. line.Within (turn.Conn l made)) (link_of link))
+    (λ made. some-map IsSoon (λ l. line.Within (turn.Conn l made)) (λ l. tt) (link_of link)) (made_of word)
+said_by-soon keyword.Pending (link ∷ side ∷ digits ∷ []) =
+    some-then IsSoon (λ e. option_map (λ bytes. line.Within (turn.Pending e bytes)) (bytes_of digits))
+    (λ e. some-map IsSoon (λ bytes. line.Within (turn.Pending e bytes)) (λ bytes. tt) (bytes_of digits)) (end_of link side)
+said_by-soon keyword.Eof (link ∷ side ∷ []) = some-map IsSoon (λ e. line.Within (turn.Eof e)) (λ e. tt) (end_of link side)
+said_by-soon keyword.ReadFail (link ∷ side ∷ []) = some-map IsSoon (λ e. line.Within (turn.ReadFail e)) (λ e. tt) (end_of link side)
+said_by-soon keyword.Take (link ∷ side ∷ count ∷ []) =
+    some-then IsSoon (λ more. of_end (λ e. turn.Take e more) link side)
+    (λ more. some-map IsSoon (λ e. line.Within (turn.Take e more)) (λ e. tt) (end_of link side)) (more_of count)
+said_by-soon keyword.WriteFail (link ∷ side ∷ []) = some-map IsSoon (λ e. line.Within (turn.WriteFail e)) (λ e. tt) (end_of link side)
+said_by-soon keyword.Spur (link ∷ side ∷ []) = some-map IsSoon (λ e. line.Within (turn.Spur e)) (λ e. tt) (end_of link side)
+said_by-soon keyword.PollFail [] = tt
+said_by-soon keyword.On (link ∷ side ∷ why ∷ nth ∷ act) =
+    some-then IsSoon _ (λ end.
+    some-then IsSoon _ (λ kind.
+    some-then IsSoon _ (λ n.
+    some-then IsSoon (λ ask. Some (line.Plan end (let item : PlanLine = record { why = kind; nth = n; act = ask } in item))) (λ ask. tt)
+    (planned_ask act)) (nth_of nth)) (why_kind_of why)) (hooked_of link side)
+said_by-soon _ _ = tt
+
+said-soon : (ws : List (List ℕ)) → IfSome (said ws) IsSoon
+said-soon [] = tt
+said-soon (first ∷ more) =
+    some-if IsSoon (is_comment first) (Some line.Skipped) (option_and_then (λ k. said_by k more) (keyword_of first)) tt
+    (some-then IsSoon (λ k. said_by k more) (λ k. said_by-soon k more) (keyword_of first))
+
+-- The lines so far
+
+-- the moments so far are at most 2^40, and the links at most 256
+record IsSmallSoFar (turns : List ScriptTurn) : Type 0 where
+  moments : All (λ (turn : ScriptTurn). turn.0 ≤ 2 ^ 40) turns
+  links : opened (lines_of turns) ≤ 256
+
+moments-with_line : (turns : List ScriptTurn) (x : TurnLine) → All (λ (turn : ScriptTurn). turn.0 ≤ 2 ^ 40) turns →
+    All (λ (turn : ScriptTurn). turn.0 ≤ 2 ^ 40) (with_line turns x)
+moments-with_line [] x h = h
+moments-with_line (t ∷ []) x h = All-cons (λ (turn : ScriptTurn). turn.0 ≤ 2 ^ 40) (t.0, t.1 ++ x ∷ []) [] (All-head _ t [] h) (All-nil _)
+moments-with_line (t ∷ next ∷ more) x h =
+    All-cons (λ (turn : ScriptTurn). turn.0 ≤ 2 ^ 40) t (with_line (next ∷ more) x) (All-head _ t (next ∷ more) h)
+    (moments-with_line (next ∷ more) x (All-tail _ t (next ∷ more) h))
