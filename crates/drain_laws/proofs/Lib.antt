@@ -1,1 +1,3 @@
-
+pub mod UnfailedLemmas
+pub mod GoodByteLemmas
+pub mod FreeCauseLemmas
