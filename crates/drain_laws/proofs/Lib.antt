@@ -1,1 +1,4 @@
 pub mod CountedLemmas
+pub mod UnfailedLemmas
+pub mod GoodByteLemmas
+pub mod FreeCauseLemmas

@@ -1,13 +1,15 @@
 -- What is asked of settings and of a script, so that closing turns bring every link to its end.
-use Rattle.std.specs.Prelude.{◌≡◌, ℕ, ◌+◌, ◌*◌, ◌^◌, ◌≤◌, false, List, length, map, sum_by, All, None, unwrap_or}
+use Rattle.std.specs.Prelude.{◌≡◌, ℕ, ◌+◌, ◌*◌, ◌^◌, ◌≤◌, true, false, List, [], ◌++◌, length, map, sum_by, All}
+use Rattle.std.specs.Prelude.{None, unwrap_or}
 use Rattle.std.specs.List.{flat_map, list_any, last_or}
 use Rattle.ev_types.specs.declared.side.SideId.{SideId}
+use Rattle.ev_types.specs.declared.turn_line.TurnLine.{TurnLine}
 use Rattle.ev_types.specs.ScriptTurn.{ScriptTurn, lines_of}
 use Rattle.ev_types.specs.Sides.{peer}
 use Rattle.filter_model.specs.Filter.{filter_of}
 use Rattle.relay_model.specs.Settings.{Settings}
 use Rattle.relay_model.specs.Rooms.{read_kind, write_kind}
-use Rattle.relay_model.specs.Lines.{brings, fails_writes, fails_poll}
+use Rattle.relay_model.specs.Lines.{brings, ends, fails_writes, fails_poll}
 use Rattle.relay_model.specs.Called.{NamesOpened}
 use Rattle.relay_model.specs.Script.{closing_step}
 use Rattle.relay_model.specs.MovingOn.{IsUnhindered}
@@ -31,13 +33,16 @@ pub record HasGoodBytes (g : Settings) (turns : List ScriptTurn) (e : SideId) : 
   pub write : (filter_of (write_kind g (peer e).side)).bad_at_end ((filter_of (read_kind g e.side)).at_end (brought_at turns e)) ≡ None
 
 -- The settings hinder nothing, and as many links may be opened as the script has. Each of their ends ends; no read, no write, no poll
--- and no connection fails; no filter is bad on its bytes; and no turn comes later than the last one.
+-- and no connection fails; no bytes are brought in at an end behind its end; no filter is bad on its bytes; and no turn comes later than
+-- the last one.
 pub record CanDrain (g : Settings) (turns : List ScriptTurn) : Type 0 where
   pub unhindered : IsUnhindered g
   pub links : length (scripted_links turns) ≤ g.links
   pub drainable : IsDrainable turns
   pub no_write_fails : (e : SideId) → list_any (fails_writes e) (lines_of turns) ≡ false
   pub no_poll_fails : list_any fails_poll (lines_of turns) ≡ false
+  pub none_behind : (before after : List TurnLine) (e : SideId) → lines_of turns ≡ before ++ after → list_any (ends e) before ≡ true →
+      flat_map (brings e) after ≡ []
   pub good : (e : SideId) → HasGoodBytes g turns e
   pub last_is_greatest : All (λ turn. turn.0 ≤ last_moment turns) turns
 
