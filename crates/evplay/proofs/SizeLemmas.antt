@@ -6,7 +6,7 @@ use Rattle.std.specs.List.{flat_map}
 use Rattle.std.specs.Str.{bytes_eq}
 use Rattle.std.proofs.lemmas.Bool.{and_parts, ltb-true}
 use Rattle.std.proofs.lemmas.Grind.{flat_map-append}
-use Rattle.std.proofs.lemmas.List.Elements.{All-append, All-nil}
+use Rattle.std.proofs.lemmas.List.Elements.{All-append, All-cons, All-head, All-nil, All-tail}
 use Rattle.ev_types.specs.declared.plan_line.PlanLine.{PlanLine}
 use Rattle.ev_types.specs.declared.turn_line.TurnLine.{TurnLine}
 use Rattle.ev_types.specs.declared.turn_line.TurnLine.TheVariants as turn
@@ -23,7 +23,7 @@ use Rattle.script_text.specs.Given.{with_setting}
 use Rattle.script_text.specs.Grammar.{keyword_of, made_of, more_of, of_end, setting_name_of, set_by, said_by, is_comment, said}
 use Rattle.script_text.specs.GroupsAndPlans.{hooked_of, nth_of}
 use Rattle.script_text.specs.Numbers.{number_within, bytes_of}
-use Rattle.script_text.specs.Order.{may_be_set, group_set, may_follow, with_line, extended, opened}
+use Rattle.script_text.specs.Order.{may_be_set, group_set, may_follow, with_line, extended, opened, opened_by}
 use Rattle.script_text.specs.Pieces.{lines}
 use Rattle.script_text.specs.Script.{ScriptValue, SoFar}
 use Rattle.script_text.specs.Spelled.{no_line, script_of}
@@ -98,3 +98,107 @@ moments-with_line (t ∷ []) x h = All-cons (λ (turn : ScriptTurn). turn.0 ≤ 
 moments-with_line (t ∷ next ∷ more) x h =
     All-cons (λ (turn : ScriptTurn). turn.0 ≤ 2 ^ 40) t (with_line (next ∷ more) x) (All-head _ t (next ∷ more) h)
     (moments-with_line (next ∷ more) x (All-tail _ t (next ∷ more) h))
+
+opened-push : (xs : List TurnLine) (x : TurnLine) → opened (xs ++ x ∷ []) ≡ opened xs + opened (x ∷ [])
+opened-push xs x =
+    ap length (flat_map-append opened_by xs (x ∷ []))
+    ∙ length-append (flat_map opened_by xs) (flat_map opened_by (x ∷ []))
+
+-- a line opens one link at most, and one only where fewer than 256 are opened
+opens-few : (before : List TurnLine) (x : TurnLine) → may_follow before x ≡ true → opened before ≤ 256 →
+    opened before + opened (x ∷ []) ≤ 256
+opens-few before (turn.NewLink wait) may few = omega (arith, ltb-true (opened before) 256 may)
+opens-few before (turn.Conn link made) may few = omega (arith, few)
+opens-few before (turn.Pending side bytes) may few = omega (arith, few)
+opens-few before (turn.Eof side) may few = omega (arith, few)
+opens-few before (turn.ReadFail side) may few = omega (arith, few)
+opens-few before (turn.Take side more) may few = omega (arith, few)
+opens-few before (turn.WriteFail side) may few = omega (arith, few)
+opens-few before (turn.Spur side) may few = omega (arith, few)
+opens-few before turn.PollFail may few = omega (arith, few)
+
+extended-small : (s new : SoFar) (x : Line) → IsSoon x → IsSmallSoFar s.turns → extended s x ≡ Some new → IsSmallSoFar new.turns
+extended-small s new (line.Set setting) soon small h =
+    set_case (nat_lt 0 (length s.turns) || not (may_be_set s.groups setting)) (with_setting s.given setting) h
+  where
+    set_case : (b : Bool) (o : Option Given) →
+        (if b then None else option_map (λ g. let z : SoFar = record s { given = g; groups = s.groups ++ group_set setting } in z)
+        o) ≡ Some new →
+        IsSmallSoFar new.turns
+    set_case true o k = none-some new k
+    set_case false None k = none-some new k
+    set_case false (Some g) k = subst (λ (z : SoFar). IsSmallSoFar z.turns) (some-is _ new k) small
+extended-small s new (line.Plan side item) soon small h = plan_case (nat_lt 0 (length s.turns)) h
+  where
+    plan_case : (b : Bool) → (if b then None else Some (record s { plans = s.plans ++ (side, item) ∷ [] })) ≡ Some new →
+        IsSmallSoFar new.turns
+    plan_case true k = none-some new k
+    plan_case false k = subst (λ (z : SoFar). IsSmallSoFar z.turns) (some-is _ new k) small
+extended-small s new (line.At ms) soon small h = at_case (nat_lt (length s.turns) 20000) h
+  where
+    longer : IsSmallSoFar (s.turns ++ (ms, []) ∷ [])
+    longer = record {
+      moments = All-append (λ (turn : ScriptTurn). turn.0 ≤ 2 ^ 40) s.turns ((ms, []) ∷ []) small.moments
+          (All-cons (λ (turn : ScriptTurn). turn.0 ≤ 2 ^ 40) (ms, []) [] soon (All-nil _));
+      links = subst (λ z. opened z ≤ 256) (sym (lines_of-turn s.turns ms)) small.links;
+    }
+
+    at_case : (b : Bool) → (if b then Some (record s { turns = s.turns ++ (ms, []) ∷ [] }) else None) ≡ Some new →
+        IsSmallSoFar new.turns
+    at_case true k = subst (λ (z : SoFar). IsSmallSoFar z.turns) (some-is _ new k) longer
+    at_case false k = none-some new k
+extended-small s new line.Skipped soon small h = subst (λ (z : SoFar). IsSmallSoFar z.turns) (some-is s new h) small
+extended-small s new (line.Within x) soon small h =
+    within_case (nat_lt 0 (length s.turns) && may_follow (lines_of s.turns) x) refl h
+  where
+    within_case : (b : Bool) → (nat_lt 0 (length s.turns) && may_follow (lines_of s.turns) x) ≡ b →
+        (if b then Some (record s { turns = with_line s.turns x }) else None) ≡ Some new → IsSmallSoFar new.turns
+    within_case true tests k =
+        let both = and_parts (nat_lt 0 (length s.turns)) (may_follow (lines_of s.turns) x) tests in
+        let longer = lines_of-with_line s.turns x (ltb-true 0 (length s.turns) both.0) in
+        let few = opens-few (lines_of s.turns) x both.1 small.links in
+        subst (λ (z : SoFar). IsSmallSoFar z.turns) (some-is _ new k) (record {
+          moments = moments-with_line s.turns x small.moments;
+          links = subst (λ z. opened z ≤ 256) (sym longer) (subst (λ n. n ≤ 256) (sym (opened-push (lines_of s.turns) x)) few);
+        })
+    within_case false tests k = none-some new k
+
+said-small : (s new : SoFar) (ws : List (List ℕ)) (x : Line) → said ws ≡ Some x → IsSmallSoFar s.turns → extended s x ≡ Some new →
+    IsSmallSoFar new.turns
+said-small s new ws x is small h = extended-small s new x (subst (λ o. IfSome o IsSoon) is (said-soon ws)) small h
+
+-- the links of a script, in the words of its grammar and in those of its meaning
+opened-same : (xs : List TurnLine) → opened xs ≡ length (flat_map links_by xs)
+opened-same [] = refl
+opened-same (x ∷ xs) =
+    length-append (opened_by x) (flat_map opened_by xs)
+    ∙ (let rest = opened-same xs in let one = by_line x in λ i. one i + rest i)
+    ∙ sym (length-append (links_by x) (flat_map links_by xs))
+  where
+    by_line : (y : TurnLine) → length (opened_by y) ≡ length (links_by y)
+    by_line (turn.NewLink wait) = refl
+    by_line (turn.Conn link made) = refl
+    by_line (turn.Pending side bytes) = refl
+    by_line (turn.Eof side) = refl
+    by_line (turn.ReadFail side) = refl
+    by_line (turn.Take side more) = refl
+    by_line (turn.WriteFail side) = refl
+    by_line (turn.Spur side) = refl
+    by_line turn.PollFail = refl
+
+-- a text of at most 2^24 bytes spells a small script
+pub are-small : (text : List ℕ) (script : ScriptValue) → script_of text ≡ Ok script → length text ≤ 2 ^ 24 →
+    2 * all_brought (lines_of script.turns) ≤ length text → AreSmall script.turns
+are-small text script h most half =
+    let read = script_of-read text script h in
+    let start : IsSmallSoFar no_line.turns = record { moments = All-nil _; links = omega arith } in
+    let small : IsSmallSoFar script.turns = subst (λ (z : ScriptValue). IsSmallSoFar z.turns) read.is
+    (keeps-lines (λ s. IsSmallSoFar s.turns) said-small no_line read.so_far 0 (lines text) start read.read) in
+    let links = small.links in
+    let same = opened-same (lines_of script.turns) in
+    record {
+      few = few-turns text script h;
+      links = omega (arith, links, same);
+      bytes = omega (arith, half, most);
+      moments = small.moments;
+    }

@@ -1,20 +1,44 @@
--- One turn more of a run: it is not worn, and it is between two turns.
-use Rattle.std.proofs.Common.{◌≡◌, ◌≤◌, ◌<◌, ◌*◌, ℕ, false, length, subst, arith}
+-- One turn more of a run: it is not worn, and the run stands between two turns again, or the turn ended it.
+use Rattle.std.proofs.Common.{◌≡◌, ◌≢◌, ◌≤◌, ◌<◌, ◌+◌, ◌*◌, ◌^◌, ◌++◌, ℕ, Bool, false, Option, Some, None, [], length, refl, subst, arith, ◌∙◌}
+use Rattle.std.specs.Prelude.{count_by}
+use Rattle.ev_types.specs.Growth.{Grew}
 use Rattle.ev_types.specs.Trace.{Trace}
+use Rattle.ev_port.specs.Faults.{Faults}
 use Rattle.relay_model.specs.Answers.{TurnAnswer}
+use Rattle.relay_model.specs.RatesKept.{is_turn}
 use Rattle.relay_model.specs.Settings.{Settings}
 use Rattle.relay_model.specs.Stages.{Stage}
 use Rattle.relay_state.specs.State.{State}
 use Rattle.relay_steps.specs.Meaning.{StandsFor, LeftFor}
 use Rattle.relay_drive.specs.Bounds.{IsWithin, most_of_turn}
+use Rattle.relay_drive.specs.DriveStands.{DriveWent, turn_answer_of, turn_end_of}
 use Rattle.relay_drive.specs.DriveValue.{DriveValue, is_worn}
-use Rattle.relay_drive.proofs.BoundLaws.{within_is_not_worn}
+use Rattle.relay_drive.specs.Known.{known, Point, Question}
+use Rattle.relay_drive.specs.Phases.{CutTurn, EndsTurn, Turns}
+use Rattle.relay_drive.specs.declared.fault.DriveFault.TheVariants as fault
+use Rattle.relay_drive.specs.declared.fault.TurnEnd.{TurnEnd}
+use Rattle.relay_drive.specs.declared.fault.TurnEnd.TheVariants as turn_end
+use Rattle.relay_drive.proofs.BoundLaws.{turn_is_bounded, within_is_not_worn}
+use Rattle.relay_laws.specs.Relayed.{StoodBetween}
+use Rattle.relay_laws.specs.TurnEnds.{AtTurnEnds}
+use Rattle.relay_laws.proofs.RelayedLemmas.{stood-at}
+use Rattle.relay_laws.proofs.TurnEndLemmas.{ends-grow}
+use Rattle.program_end.proofs.TurnCountLemmas.{turn-once, turn-first, end-begins, cut-poll-once, cut-poll-first, count-append}
+use Rattle.script_port.specs.ScriptPlan.{ScriptPlan}
+use Rattle.script_port.specs.ScriptState.{PortState}
+use Rattle.script_port.specs.ScriptTold.{port_told, ends_told}
+use Rattle.script_port.specs.ScriptVouched.{NoneWaits, ScriptVouches}
 use Rattle.evplay.specs.Run.{first_drive}
+use Rattle.evplay.specs.Runs.{PortKnown, StandsAfter, EndedAt}
+use Rattle.evplay.specs.declared.run.RunEnd.TheVariants as run_end
 
--- a drive that made at most 20,000 turns can make one more
-pub fresh : (n : ℕ) (d : DriveValue) (t : Trace) → n < 20000 → IsWithin (n * most_of_turn 256 64) 256 64 d →
-    StandsFor t Stage.Between d.state →
-    is_worn d ≡ false
+-- what grew from a trace is that trace with what was added
+pub grew-is : (log log' : Option Trace) (t added : Trace) → log ≡ Some t → Grew log log' added → log' ≡ Some (t ++ added)
+grew-is log log' t added is grew = subst (λ z. Grew z log' added) is grew
+
+-- a drive that made few turns can make one more
+pub fresh : (n : ℕ) (d : DriveValue) (t : Trace) → n < 2 ^ 32 → IsWithin (n * most_of_turn 256 64) 256 64 d →
+    StandsFor t Stage.Between d.state → is_worn d ≡ false
 fresh n d t few w k = within_is_not_worn (n * most_of_turn 256 64) 256 64 d t w k (omega (arith, few))
 
 -- as many turns as a run makes can be made of a drive that has made none
@@ -30,5 +54,69 @@ first-within g links hooks = record {
   entries = omega arith;
 }
 
-pub between-of : (t : Trace) (s : State) → LeftFor TurnAnswer.Went t s → StandsFor t Stage.Between s
+between-of : (t : Trace) (s : State) → LeftFor TurnAnswer.Went t s → StandsFor t Stage.Between s
 between-of t s k = subst (λ x. StandsFor t x s) k.left k.stands
+
+-- what is known of a port as a turn leaves it, at a point of the turn
+abbrev KnownBy : Point → PortState → Settings → Question ScriptPlan → Trace → Type 0
+KnownBy at p = known at (ScriptVouches p) NoneWaits (port_told p) (ends_told p.links)
+
+module _ (g : Settings) (n : ℕ) (plan : ScriptPlan) (d new : DriveValue) (p q : PortState) (t : Trace) (log log' : Option Trace)
+    (Tells : Trace → Type 0) (faults faults' : Faults) (inv : StandsAfter g n plan d p t) where
+  -- a turn that went
+  pub stands-more : (end : TurnEnd) → end ≡ turn_end.Went → new.kept ≡ None →
+      (w : DriveWent (EndsTurn end) (LeftFor (turn_end_of end)) Tells false d new log log' (KnownBy Point.Between p)
+      (KnownBy Point.Accepted q) faults faults') → StandsAfter g (n + 1) plan new q (t ++ w.added)
+  stands-more end went calm w =
+      let s = d.state in
+      let u = t ++ w.added in
+      let did : Turns s w.added new.state = subst (λ x. EndsTurn x s w.added new.state) went w.does in
+      let left : LeftFor TurnAnswer.Went u new.state = subst (λ x. LeftFor (turn_end_of x) u new.state) went (w.means t inv.means) in
+      let bounded = turn_is_bounded (n * most_of_turn 256 64) 256 64 d new t w.added inv.within did inv.stands (w.stands t inv.stands) in
+      let more : n * most_of_turn 256 64 + most_of_turn 256 64 ≡ (n + 1) * most_of_turn 256 64 = omega arith in
+      let once : count_by is_turn w.added ≡ 1 = turn-once did in
+      let now = w.told (Question.Took plan) t inv.stands inv.seen in
+      record {
+        calm = calm;
+        settings = w.settings ∙ inv.settings;
+        stands = w.stands t inv.stands;
+        turns = omega (arith, count-append t w.added, once, inv.turns);
+        seen = (now.0, now.1.0);
+        means = between-of u new.state left;
+        ends = ends-grow (StoodBetween g) t w.added inv.ends (stood-at g t Stage.Between s inv.settings inv.means) (turn-first did) once;
+        within = subst (λ m. IsWithin m 256 64 new) more bounded.0;
+      }
+
+  -- a turn that a hook of this link ended
+  pub stopped-more : (end : TurnEnd) (link turn : ℕ) → end ≡ turn_end.Stopped link →
+      (w : DriveWent (EndsTurn end) (LeftFor (turn_end_of end)) Tells false d new log log' (KnownBy Point.Between p)
+      (KnownBy Point.Accepted q) faults faults') → EndedAt g (n + 1) (run_end.Stopped link turn) plan new q (t ++ w.added)
+  stopped-more end link turn stopped w =
+      let s = d.state in
+      let u = t ++ w.added in
+      let begins = end-begins end s new.state w.added w.does in
+      record {
+        settings = w.settings ∙ inv.settings;
+        asks = (w.stands t inv.stands).asks;
+        turns = omega (arith, count-append t w.added, begins.once, inv.turns);
+        seen = w.told (Question.Took plan) t inv.stands inv.seen;
+        left = subst (λ x. LeftFor (turn_end_of x) u new.state) stopped (w.means t inv.means);
+        ends = ends-grow (StoodBetween g) t w.added inv.ends (stood-at g t Stage.Between s inv.settings inv.means) begins.first begins.once;
+      }
+
+  -- a turn that was refused with a failed poll
+  pub failed-more : (w : DriveWent (CutTurn fault.PollFault) (LeftFor (turn_answer_of fault.PollFault)) Tells false d new log log'
+      (KnownBy Point.Between p) (KnownBy Point.Accepting q) faults faults') →
+      EndedAt g (n + 1) run_end.PollFailed plan new q (t ++ w.added)
+  failed-more w =
+      let s = d.state in
+      let once : count_by is_turn w.added ≡ 1 = cut-poll-once w.does in
+      record {
+        settings = w.settings ∙ inv.settings;
+        asks = (w.stands t inv.stands).asks;
+        turns = omega (arith, count-append t w.added, once, inv.turns);
+        seen = w.told (Question.Took plan) t inv.stands inv.seen;
+        left = w.means t inv.means;
+        ends = ends-grow (StoodBetween g) t w.added inv.ends (stood-at g t Stage.Between s inv.settings inv.means)
+            (cut-poll-first w.does) once;
+      }
