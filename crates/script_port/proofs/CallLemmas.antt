@@ -1,6 +1,6 @@
 -- What the calls of a script port tell of its ends.
-use Rattle.std.proofs.Common.{◌≡◌, ◌≢◌, ℕ, Bool, true, false, ◌&&◌, ◌||◌, not, List, [], ◌∷◌, ◌++◌, length, take, drop, Option, Some, None}
-use Rattle.std.proofs.Common.{refl, sym, ap, subst, ◌∙◌, arith, append-nil, inl, inr}
+use Rattle.std.proofs.Common.{◌≡◌, ◌≢◌, ℕ, Bool, true, false, ◌&&◌, ◌||◌, not, List, [], ◌∷◌, ◌++◌, length, take, drop, map, Option, Some}
+use Rattle.std.proofs.Common.{None, refl, sym, ap, subst, ◌∙◌, arith, append-nil, inl, inr}
 use Rattle.std.specs.Prelude.{slice_get, option_map}
 use Rattle.std.specs.Option.{option_map_or}
 use Rattle.std.proofs.lemmas.Bool.{cases_Bool}
@@ -27,11 +27,12 @@ use Rattle.script_port.specs.ScriptEnds.{end_after_line, read_answer, after_read
 use Rattle.script_port.specs.ScriptEnds.{conn_answer, after_check, accepted, after_close_write, after_close, wanted}
 use Rattle.script_port.specs.FailedCalls.{failed_read, failed_write, failed_check}
 use Rattle.script_port.specs.ScriptLinks.{changed, at_end, out_end, end_of, after_line, after_lines, entered, after_wants, accept_answer}
-use Rattle.script_port.specs.ScriptLinks.{accept_first, read_answer_at, pending_at, write_answer_at, WroteAt, conn_answer_at}
+use Rattle.script_port.specs.ScriptLinks.{accept_first, read_answer_at, pending_at, beyond_answer, write_answer_at, WroteAt, conn_answer_at}
 use Rattle.script_port.specs.ScriptKept.{Brings}
-use Rattle.script_port.specs.ScriptPort.{begin_turn}
+use Rattle.script_port.specs.ScriptClosing.{closing_end, is_announced}
+use Rattle.script_port.specs.ScriptPort.{begin_behind, begin_turn}
 use Rattle.script_port.specs.ScriptTold.{told_of_end, nothing_told, ends_told}
-use Rattle.script_port.proofs.ListLemmas.{length-changed, slice_get-changed_same, slice_get-changed_other}
+use Rattle.script_port.proofs.ListLemmas.{length-changed, slice_get-mapped, slice_get-changed_same, slice_get-changed_other}
 use Rattle.ev_port.proofs.StepLemmas.{adds_none, raises_none, counts_none, counts_more, EndWent-none}
 use Rattle.script_port.proofs.ToldLemmas.{same_end_tells, went_if, ends_step, kept_at_end}
 
@@ -96,9 +97,22 @@ line_untold turn (line.Take side more) s = refl
 line_untold turn (line.WriteFail side) s = refl
 line_untold turn (line.Spur side) s = refl
 
+-- what closing turns leave of an end is as before
+pub closing_keeps : {X : Type 0} (g : EndState → X) (d : X) → ((s : EndState) → g (closing_end s) ≡ g s) → (l : LinksState) (e : SideId) →
+    option_map_or g (slice_get (map closing_end l.ends) (number e)) d ≡ option_map_or g (end_of l e) d
+closing_keeps g d h l e = ap (λ o. option_map_or g o d) (slice_get-mapped closing_end l.ends (number e)) ∙ by_end (end_of l e)
+  where
+    by_end : (o : Option EndState) → option_map_or g (option_map closing_end o) d ≡ option_map_or g o d
+    by_end None = refl
+    by_end (Some s) = h s
+
 pub turn_untold : (turn : Option (ℕ × List TurnLine)) (p : PortState) (e : SideId) → ends_told (begin_turn turn p).links e ≡
     ends_told p.links e
-turn_untold None p e = refl
+turn_untold None p e = behind (is_announced p)
+  where
+    behind : (b : Bool) → ends_told (begin_behind b p).links e ≡ ends_told p.links e
+    behind false = refl
+    behind true = closing_keeps told_of_end nothing_told (λ s. refl) p.links e
 turn_untold (Some turn) p e = lines_keep told_of_end nothing_told line_untold turn.1 (entered (Some p.begun) p.links) e
 
 -- One end
@@ -280,7 +294,7 @@ took_ends old new e from answer is w a =
     rw w
     (ends_step old e (λ s. after_write s from) (write_step answer from) (λ s found.
     let same : answer ≡ write_answer s (length from) = a ∙ ap (λ o. option_map_or (λ (t : EndState). write_answer t (length from))
-    o write.NotYet) found in
+    o (beyond_answer old.closing (length from))) found in
     let took : took_bytes answer from ≡ take (taken_of s.may_take (length from)) from = ap (λ b. took_bytes b from) same ∙ took_is s from in
     write_counted s (after_write s from) (take (taken_of s.may_take (length from)) from) (left_to_take s.may_take (length from))
     (is_failed_write (write_answer s (length from))) (length from) (write_step answer from) refl (is ∙ rw took)))

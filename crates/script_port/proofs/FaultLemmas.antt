@@ -1,5 +1,5 @@
 -- Which calls of a script port are counted as faults.
-use Rattle.std.proofs.Common.{◌≡◌, ℕ, suc, ◌-◌, ◌^◌, Bool, true, false, List, [], ◌∷◌, length, Option, Some, None, refl, ap, ◌∙◌, arith}
+use Rattle.std.proofs.Common.{◌≡◌, ℕ, suc, ◌-◌, ◌^◌, Bool, true, false, ◌==◌, ◌&&◌, not, if◌then◌else◌, List, [], ◌∷◌, length, Option, Some, None, refl, ap, ◌∙◌, arith}
 use Rattle.std.proofs.Common.{inl, inr}
 use Rattle.std.specs.Prelude.{slice_get, option_map}
 use Rattle.std.specs.Option.{option_map_or}
@@ -28,12 +28,13 @@ use Rattle.script_port.specs.ScriptState.{EndState, LinksState, PortState}
 use Rattle.script_port.specs.ScriptEnds.{end_after_line, read_answer, after_read, write_answer, after_write, conn_answer, after_check}
 use Rattle.script_port.specs.ScriptEnds.{accepted, wanted}
 use Rattle.script_port.specs.ScriptLinks.{end_of, at_end, out_end, entered, after_wants, accept_answer, accept_first, read_answer_at}
-use Rattle.script_port.specs.ScriptLinks.{write_answer_at, WroteAt, conn_answer_at}
-use Rattle.script_port.specs.ScriptPort.{begin_turn, poll_answer, after_poll, accept_tally}
+use Rattle.script_port.specs.ScriptLinks.{beyond_answer, write_answer_at, WroteAt, conn_answer_at}
+use Rattle.script_port.specs.ScriptClosing.{is_announced}
+use Rattle.script_port.specs.ScriptPort.{begin_behind, begin_turn, poll_answer, after_poll, accept_tally}
 use Rattle.script_port.specs.ScriptTold.{script_faults}
 use Rattle.script_port.proofs.ListLemmas.{slice_get-changed_same, slice_get-changed_other}
 use Rattle.script_port.proofs.ToldLemmas.{other_number, kept_at_end}
-use Rattle.script_port.proofs.CallLemmas.{lines_keep}
+use Rattle.script_port.proofs.CallLemmas.{lines_keep, closing_keeps}
 
 -- A count
 
@@ -80,11 +81,19 @@ line_counts_none turn (line.Spur side) s = refl
 
 pub faults-turn : (turn : Option (ℕ × List TurnLine)) (p : PortState) (e : SideId) → faults_at (begin_turn turn p).links e ≡
     faults_at p.links e
-faults-turn None p e = refl
+faults-turn None p e = behind (is_announced p)
+  where
+    behind : (b : Bool) → faults_at (begin_behind b p).links e ≡ faults_at p.links e
+    behind false = refl
+    behind true = closing_keeps (λ (s : EndState). s.tally.faults) 0 (λ s. refl) p.links e
 faults-turn (Some turn) p e = lines_keep (λ (s : EndState). s.tally.faults) 0 line_counts_none turn.1 (entered (Some p.begun) p.links) e
 
 pub polls-turn : (turn : Option (ℕ × List TurnLine)) (p : PortState) → (begin_turn turn p).tally.poll_faults ≡ p.tally.poll_faults
-polls-turn None p = refl
+polls-turn None p = behind (is_announced p)
+  where
+    behind : (b : Bool) → (begin_behind b p).tally.poll_faults ≡ p.tally.poll_faults
+    behind false = refl
+    behind true = refl
 polls-turn (Some turn) p = refl
 
 pub faults-wants : (ws : List Want) (l : LinksState) (e : SideId) → faults_at (after_wants ws l) e ≡ faults_at l e
@@ -155,12 +164,21 @@ check_faults l new n e answer links is =
     end_faults l new n e after_check (λ s. is_failed_conn (conn_answer s)) (is_failed_conn answer) links
     (ap is_failed_conn is ∙ tested is_failed_conn conn_answer conn.Pending (end_of l e) refl) (λ s. refl)
 
+-- no write to an end of no link fails
+beyond_none : (closing : Bool) (offer : ℕ) → is_failed_write (beyond_answer closing offer) ≡ false
+beyond_none closing offer = by_test (closing && not (offer == 0))
+  where
+    by_test : (b : Bool) → is_failed_write (if b then write.Took offer else write.NotYet) ≡ false
+    by_test true = refl
+    by_test false = refl
+
 answered_faults : (l new : LinksState) (n : ℕ) (e : SideId) (from : List ℕ) (answer : WriteAnswer) → new ≡ at_end e
     (λ s. after_write s from) l → answer ≡ write_answer_at l e (length from) → EndFaults (counts l n) (counts new n) e
     (is_failed_write answer)
 answered_faults l new n e from answer links is =
     end_faults l new n e (λ s. after_write s from) (λ s. is_failed_write (write_answer s (length from))) (is_failed_write answer) links
-    (ap is_failed_write is ∙ tested is_failed_write (λ s. write_answer s (length from)) write.NotYet (end_of l e) refl) (λ s. refl)
+    (ap is_failed_write is ∙ tested is_failed_write (λ s. write_answer s (length from)) (beyond_answer l.closing (length from)) (end_of l e) (beyond_none l.closing (length from)))
+    (λ s. refl)
 
 pub write_faults : (l new : LinksState) (n : ℕ) (e : SideId) (from : List ℕ) (answer : WriteAnswer) → WroteAt l new e from answer →
     EndFaults (counts l n) (counts new n) e (is_failed_write answer)

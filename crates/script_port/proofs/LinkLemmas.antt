@@ -1,6 +1,6 @@
 -- What a call on one end makes of all links.
-use Rattle.std.proofs.Common.{◌≡◌, ℕ, ◌+◌, ◌-◌, ◌^◌, ◌<◌, Bool, true, false, if◌then◌else◌, List, [], ◌∷◌, ◌++◌, length, get_or, set, map}
-use Rattle.std.proofs.Common.{take, drop, Option, Some, refl, sym, ap, subst, ◌∙◌, arith}
+use Rattle.std.proofs.Common.{◌≡◌, ℕ, ◌+◌, ◌-◌, ◌^◌, ◌<◌, Bool, true, false, ◌==◌, ◌&&◌, not, if◌then◌else◌, List, [], ◌∷◌, ◌++◌, length, get_or, set, map}
+use Rattle.std.proofs.Common.{take, drop, Option, Some, None, refl, sym, ap, subst, ◌∙◌, arith}
 use Rattle.std.specs.Prelude.{slice_get, option_map}
 use Rattle.std.specs.Option.{option_map_or}
 use Rattle.std.proofs.Math.Path.{fun_ext}
@@ -15,32 +15,33 @@ use Rattle.ev_port.specs.Marking.{marks_by, after_marks}
 use Rattle.script_port.specs.ScriptState.{EndState, EndKept, LinksKept, LinksState}
 use Rattle.script_port.specs.ScriptKept.{Wrote}
 use Rattle.script_port.specs.ScriptEnds.{after_write, write_answer, can_read, can_write, is_spurred, wanted}
-use Rattle.script_port.specs.ScriptLinks.{at_end, marked, unmarked, polled, after_wants, taken_at, write_answer_at, WroteAt}
+use Rattle.script_port.specs.ScriptLinks.{end_of, at_end, marked, unmarked, polled, after_wants, taken_at, beyond_answer}
+use Rattle.script_port.specs.ScriptLinks.{write_answer_at, WroteAt}
 use Rattle.script_port.specs.ScriptPort.{poll_marks}
 use Rattle.script_port.proofs.ListLemmas.{changed_set, same_set, part_read, slice_get-changed_same, told-changed}
 
 abbrev states : List EndKept → List EndState
 states es = map (λ e. e.state) es
 
-took : (waiting : List Bool) (turn : Option ℕ) (fails : Bool) (es : List EndKept) (e : SideId) (k : ℕ) (x y : EndKept)
+took : (waiting : List Bool) (turn : Option ℕ) (fails closing : Bool) (es : List EndKept) (e : SideId) (k : ℕ) (x y : EndKept)
     (from : List ℕ) → k ≡ number e → k < length es → x ≡ get_or es k x → y ≡ record x { state = after_write x.state from } →
-    ◌≡◌ {A = LinksState} (record { waiting = waiting; ends = states (set es k y); turn = turn; poll_fails = fails })
-    (at_end e (λ s. after_write s from) (record { waiting = waiting; ends = states es; turn = turn; poll_fails = fails }))
-took waiting turn fails es e k x y from n within read w =
+    ◌≡◌ {A = LinksState} (record { waiting = waiting; ends = states (set es k y); turn = turn; poll_fails = fails; closing = closing })
+    (at_end e (λ s. after_write s from) (record { waiting = waiting; ends = states es; turn = turn; poll_fails = fails; closing = closing }))
+took waiting turn fails closing es e k x y from n within read w =
     let whole = changed_set (λ e. e.state) (λ s. after_write s from) es k x y within read (ap (λ e. e.state) w) in
     rw (whole, n)
 
-answers : (waiting : List Bool) (turn : Option ℕ) (fails : Bool) (es : List EndKept) (e : SideId) (k : ℕ) (x : EndKept) (offer : ℕ)
+answers : (waiting : List Bool) (turn : Option ℕ) (fails closing : Bool) (es : List EndKept) (e : SideId) (k : ℕ) (x : EndKept) (offer : ℕ)
     → k ≡ number e → k < length es → x ≡ get_or es k x →
-    write_answer_at (record { waiting = waiting; ends = states es; turn = turn; poll_fails = fails }) e offer ≡ write_answer x.state offer
-answers waiting turn fails es e k x offer n within read =
+    write_answer_at (record { waiting = waiting; ends = states es; turn = turn; poll_fails = fails; closing = closing }) e offer ≡ write_answer x.state offer
+answers waiting turn fails closing es e k x offer n within read =
     let found = part_read (λ e. e.state) es k x within read in
     rw (← n, found)
 
-keeps : (waiting : List Bool) (turn : Option ℕ) (fails : Bool) (es : List EndKept) (e : SideId) (k : ℕ) (x y : EndKept) → k ≡
+keeps : (waiting : List Bool) (turn : Option ℕ) (fails closing : Bool) (es : List EndKept) (e : SideId) (k : ℕ) (x y : EndKept) → k ≡
     number e → k < length es → x ≡ get_or es k x → length y.state.taken < 2 ^ 64 - 1 →
-    length (taken_at (record { waiting = waiting; ends = states (set es k y); turn = turn; poll_fails = fails }) e) < 2 ^ 64 - 1
-keeps waiting turn fails es e k x y n within read h =
+    length (taken_at (record { waiting = waiting; ends = states (set es k y); turn = turn; poll_fails = fails; closing = closing }) e) < 2 ^ 64 - 1
+keeps waiting turn fails closing es e k x y n within read h =
     let whole = changed_set (λ e. e.state) (λ _. y.state) es k x y within read refl in
     let found = part_read (λ e. e.state) es k x within read in
     let here : slice_get (states (set es k y)) (number e) ≡ Some y.state =
@@ -49,35 +50,54 @@ keeps waiting turn fails es e k x y n within read h =
     subst (λ (o : Option EndState). length (option_map_or (λ (s : EndState). s.taken) o []) < 2 ^ 64 - 1) (sym here) h
 
 -- a write to an end that there is
-pub wrote_within : (waiting : List Bool) (turn : Option ℕ) (fails : Bool) (es : List EndKept) (e : SideId) (k : ℕ) (x y : EndKept)
+pub wrote_within : (waiting : List Bool) (turn : Option ℕ) (fails closing : Bool) (es : List EndKept) (e : SideId) (k : ℕ) (x y : EndKept)
     (from : List ℕ) (answer : WriteAnswer) → k ≡ number e → k < length es → x ≡ get_or es k x → Wrote x y from answer →
-    WroteAt (record { waiting = waiting; ends = states es; turn = turn; poll_fails = fails })
-    (record { waiting = waiting; ends = states (set es k y); turn = turn; poll_fails = fails }) e from answer
-wrote_within waiting turn fails es e k x y from write.NoMemory n within read w =
+    WroteAt (record { waiting = waiting; ends = states es; turn = turn; poll_fails = fails; closing = closing })
+    (record { waiting = waiting; ends = states (set es k y); turn = turn; poll_fails = fails; closing = closing }) e from answer
+wrote_within waiting turn fails closing es e k x y from write.NoMemory n within read w =
     let same = same_set (λ e. e.state) es k x y read (ap (λ e. e.state) w.0) in (
       rw same,
-      rw (answers waiting turn fails es e k x (length from) n within read) w.1,
-      rw (answers waiting turn fails es e k x
+      rw (answers waiting turn fails closing es e k x (length from) n within read) w.1,
+      rw (answers waiting turn fails closing es e k x
           (length from) n within read) w.2,
     )
-wrote_within waiting turn fails es e k x y from (write.Took count) n within read w = (
-  took waiting turn fails es e k x y from n within read w.0,
-  w.1 ∙ sym (answers waiting turn fails es e k x (length from) n
+wrote_within waiting turn fails closing es e k x y from (write.Took count) n within read w = (
+  took waiting turn fails closing es e k x y from n within read w.0,
+  w.1 ∙ sym (answers waiting turn fails closing es e k x (length from) n
       within read),
-  keeps waiting turn fails es e k x y n within read w.2,
+  keeps waiting turn fails closing es e k x y n within read w.2,
 )
-wrote_within waiting turn fails es e k x y from write.NotYet n within read w = (
-  took waiting turn fails es e k x y from n within read w.0,
-  w.1 ∙ sym (answers waiting turn fails es e k x (length from) n
+wrote_within waiting turn fails closing es e k x y from write.NotYet n within read w = (
+  took waiting turn fails closing es e k x y from n within read w.0,
+  w.1 ∙ sym (answers waiting turn fails closing es e k x (length from) n
       within read),
-  keeps waiting turn fails es e k x y n within read w.2,
+  keeps waiting turn fails closing es e k x y n within read w.2,
 )
-wrote_within waiting turn fails es e k x y from write.Failed n within read w = (
-  took waiting turn fails es e k x y from n within read w.0,
-  w.1 ∙ sym (answers waiting turn fails es e k x (length from) n
+wrote_within waiting turn fails closing es e k x y from write.Failed n within read w = (
+  took waiting turn fails closing es e k x y from n within read w.0,
+  w.1 ∙ sym (answers waiting turn fails closing es e k x (length from) n
       within read),
-  keeps waiting turn fails es e k x y n within read w.2,
+  keeps waiting turn fails closing es e k x y n within read w.2,
 )
+
+-- a write to an end that there is not
+pub wrote_beyond : (l : LinksState) (e : SideId) (from : List ℕ) → end_of l e ≡ None →
+    WroteAt l (at_end e (λ s. after_write s from) l) e from (beyond_answer l.closing (length from))
+wrote_beyond l e from none = by_test (l.closing && not (length from == 0)) refl
+  where
+    here : end_of (at_end e (λ s. after_write s from) l) e ≡ None
+    here = slice_get-changed_same (λ s. after_write s from) l.ends (number e) ∙ ap (option_map (λ s. after_write s from)) none
+
+    answer : write_answer_at l e (length from) ≡ beyond_answer l.closing (length from)
+    answer = ap (λ (o : Option EndState). option_map_or (λ s. write_answer s (length from)) o (beyond_answer l.closing (length from))) none
+
+    fits : length (taken_at (at_end e (λ s. after_write s from) l) e) < 2 ^ 64 - 1
+    fits = subst (λ (o : Option EndState). length (option_map_or (λ s. s.taken) o []) < 2 ^ 64 - 1) (sym here) (omega arith)
+
+    by_test : (b : Bool) → (l.closing && not (length from == 0)) ≡ b →
+        WroteAt l (at_end e (λ s. after_write s from) l) e from (if b then write.Took (length from) else write.NotYet)
+    by_test true is = (refl, sym (answer ∙ ap (λ b. if b then write.Took (length from) else write.NotYet) is), fits)
+    by_test false is = (refl, sym (answer ∙ ap (λ b. if b then write.Took (length from) else write.NotYet) is), fits)
 
 -- a write leaves the bytes to come
 pub keeps_to_come : (es : List EndKept) (k : ℕ) (x y : EndKept) (from : List ℕ) (answer : WriteAnswer) → x ≡ get_or es k x → Wrote

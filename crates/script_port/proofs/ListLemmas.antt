@@ -1,6 +1,6 @@
 -- A list with one element changed.
 use Rattle.std.proofs.Common.{◌≡◌, ◌≢◌, ℕ, zero, suc, ◌<◌, ◌≤◌, List, [], ◌∷◌, length, get_or, set, map, refl, sym, ap, ◌∙◌, arith, Some}
-use Rattle.std.proofs.Common.{None}
+use Rattle.std.proofs.Common.{None, ◌+◌, ◌++◌, take, drop}
 use Rattle.std.specs.Prelude.{slice_get, option_map}
 use Rattle.std.specs.Option.{option_map_or}
 use Rattle.script_port.specs.ScriptLinks.{changed}
@@ -97,3 +97,17 @@ told-changed p f same d (s ∷ ss) zero zero = same s
 told-changed p f same d (s ∷ ss) zero (suc n) = refl
 told-changed p f same d (s ∷ ss) (suc k) zero = refl
 told-changed p f same d (s ∷ ss) (suc k) (suc n) = told-changed p f same d ss k n
+
+-- the k-th element of a list of which all were changed
+pub slice_get-mapped : {S : Type 0} (f : S → S) (ss : List S) (k : ℕ) → slice_get (map f ss) k ≡ option_map f (slice_get ss k)
+slice_get-mapped f [] k = refl
+slice_get-mapped f (s ∷ ss) zero = refl
+slice_get-mapped f (s ∷ ss) (suc k) = slice_get-mapped f ss k
+
+-- where the first ones are changed, changing the next one
+pub changed-next : {S : Type 0} (f : S → S) (ss : List S) (k : ℕ) → changed k f (map f (take k ss) ++ drop k ss) ≡
+    map f (take (k + 1) ss) ++ drop (k + 1) ss
+changed-next f [] zero = refl
+changed-next f [] (suc k) = refl
+changed-next f (s ∷ ss) zero = refl
+changed-next f (s ∷ ss) (suc k) = ap (λ t. f s ∷ t) (changed-next f ss k)

@@ -32,7 +32,7 @@ use Rattle.script_port.specs.ScriptState.{EndState, LinksState}
 use Rattle.script_port.specs.ScriptEnds.{read_answer, after_read, taken_of, left_to_take, write_answer, after_write, conn_answer}
 use Rattle.script_port.specs.ScriptEnds.{after_check, accepted}
 use Rattle.script_port.specs.ScriptLinks.{end_of, at_end, taken_at, read_answer_at, pending_at, write_answer_at, conn_answer_at}
-use Rattle.script_port.specs.ScriptLinks.{accept_first}
+use Rattle.script_port.specs.ScriptLinks.{accept_first, beyond_answer}
 use Rattle.script_port.specs.ScriptVouched.{TakesOn, MayTake, EndStands, LinksStand}
 use Rattle.relay_model.proofs.EndLemmas.{same_end-eq}
 use Rattle.script_port.proofs.ListLemmas.{slice_get-changed_same, slice_get-changed_other}
@@ -76,13 +76,13 @@ read_bytes side room s =
       | inr some ↦ let same = same_self side in rw (some.0, same) (append-nil (take room s.pending))
     ]
 
-pub read_stands : (waits : List Bool) (ls : List TurnLine) (t : Trace) (side : SideId) (room : ℕ) (l : LinksState) → LinksStand
-    waits ls t l →
-    LinksStand waits ls (t ++ (entry.Read side room (read_answer_at l side room), take room (pending_at l side)) ∷ [])
+pub read_stands : (closing : Bool) (waits : List Bool) (ls : List TurnLine) (t : Trace) (side : SideId) (room : ℕ) (l : LinksState) → LinksStand
+    closing waits ls t l →
+    LinksStand closing waits ls (t ++ (entry.Read side room (read_answer_at l side room), take room (pending_at l side)) ∷ [])
     (at_end side (λ s. after_read s room) l)
-read_stands waits ls t side room l h =
+read_stands closing waits ls t side room l h =
     let u : Trace = (entry.Read side room (read_answer_at l side room), take room (pending_at l side)) ∷ [] in
-    at_end_stands waits ls t u side (λ s. after_read s room) l refl (λ e other. read_silent side e room
+    at_end_stands closing waits ls t u side (λ s. after_read s room) l refl (λ e other. read_silent side e room
     (read_answer_at l side room) (take room (pending_at l side)) other)
     (λ s found k.
     let is : u ≡ (entry.Read side room (read_answer s room), take room s.pending) ∷ [] =
@@ -92,7 +92,7 @@ read_stands waits ls t side room l h =
           room (option_map_or (λ (x : EndState). x.pending) o []),
     ) ∷ []) found in
     let got : bytes_read side u ≡ take room s.pending = ap (bytes_read side) is ∙ read_bytes side room s in
-    end_event waits ls t u side s (after_read s room) k
+    end_event closing waits ls t u side s (after_read s room) k
     (sym (ap (λ z. z ++ drop room s.pending) got ∙ take-append-drop room s.pending))
     (sym (append-nil s.taken)) (same_said s _ _ _ _ _) k.may_take (sym (or_false s.tally.made_connected))
     (sym (or_false s.tally.connected)))
@@ -110,16 +110,16 @@ check_tells side conn.Connected = let same = same_self side in rw same refl
 check_tells side conn.Pending = refl
 check_tells side conn.Failed = refl
 
-pub check_stands : (waits : List Bool) (ls : List TurnLine) (t : Trace) (side : SideId) (l : LinksState) → LinksStand waits ls t l →
-    LinksStand waits ls (t ++ (entry.Conn side (conn_answer_at l side), []) ∷ []) (at_end side after_check l)
-check_stands waits ls t side l h =
+pub check_stands : (closing : Bool) (waits : List Bool) (ls : List TurnLine) (t : Trace) (side : SideId) (l : LinksState) → LinksStand closing waits ls t l →
+    LinksStand closing waits ls (t ++ (entry.Conn side (conn_answer_at l side), []) ∷ []) (at_end side after_check l)
+check_stands closing waits ls t side l h =
     let u : Trace = (entry.Conn side (conn_answer_at l side), []) ∷ [] in
-    at_end_stands waits ls t u side after_check l refl (λ e other. check_silent side e (conn_answer_at l side) other)
+    at_end_stands closing waits ls t u side after_check l refl (λ e other. check_silent side e (conn_answer_at l side) other)
     (λ s found k.
     let is : u ≡ (entry.Conn side (conn_answer s), []) ∷ [] = ap (λ (o : Option EndState).
     (entry.Conn side (option_map_or conn_answer o conn.Pending), []) ∷ []) found in
     let tells : is_connected side u ≡ ends.is_connected (conn_answer s) = ap (is_connected side) is ∙ check_tells side (conn_answer s) in
-    end_event waits ls t u side s (after_check s) k refl (sym (append-nil s.taken)) (same_said s _ _ _ _ _) k.may_take
+    end_event closing waits ls t u side s (after_check s) k refl (sym (append-nil s.taken)) (same_said s _ _ _ _ _) k.may_take
     (sym (or_false s.tally.made_connected))
     (ap (λ z. s.tally.connected || z) (sym tells)))
     h
@@ -164,32 +164,32 @@ write_leaves (Some k) any sum taken from within h =
           (subst (λ n. n < 2 ^ 64 - 1) long within)),
     )
 
-pub write_stands : (waits : List Bool) (ls : List TurnLine) (t : Trace) (side : SideId) (from : List ℕ) (l : LinksState) → length
-    (taken_at (at_end side (λ s. after_write s from) l) side) < 2 ^ 64 - 1 → LinksStand waits ls t l →
-    LinksStand waits ls (t ++ (
+pub write_stands : (closing : Bool) (waits : List Bool) (ls : List TurnLine) (t : Trace) (side : SideId) (from : List ℕ) (l : LinksState) → length
+    (taken_at (at_end side (λ s. after_write s from) l) side) < 2 ^ 64 - 1 → LinksStand closing waits ls t l →
+    LinksStand closing waits ls (t ++ (
       entry.Write side (length from) (write_answer_at l side (length from)),
       took_bytes
           (write_answer_at l side (length from)) from,
     ) ∷ []) (at_end side (λ s. after_write s from) l)
-write_stands waits ls t side from l within h =
+write_stands closing waits ls t side from l within h =
     let answer = write_answer_at l side (length from) in
     let u : Trace = (entry.Write side (length from) answer, took_bytes answer from) ∷ [] in
-    at_end_stands waits ls t u side (λ s. after_write s from) l refl (λ e other. write_silent side e (length from) answer
+    at_end_stands closing waits ls t u side (λ s. after_write s from) l refl (λ e other. write_silent side e (length from) answer
     (took_bytes answer from) other)
     (λ s found k.
     let is : u ≡ (entry.Write side (length from) (write_answer s (length from)), took_bytes (write_answer s (length from)) from) ∷ [] =
     ap (λ (o : Option EndState). (
       entry.Write side (length from) (option_map_or (λ (x : EndState). write_answer x (length from)) o
-          write.NotYet),
-      took_bytes (option_map_or (λ (x : EndState). write_answer x (length from)) o write.NotYet) from,
+          (beyond_answer l.closing (length from))),
+      took_bytes (option_map_or (λ (x : EndState). write_answer x (length from)) o (beyond_answer l.closing (length from))) from,
     ) ∷ []) found in
     let gave : bytes_given side u ≡ take (taken_of s.may_take (length from)) from = ap (bytes_given side) is ∙ write_bytes side from s in
     let here : end_of (at_end side (λ s. after_write s from) l) side ≡ Some (after_write s from) =
     slice_get-changed_same (λ s. after_write s from) l.ends (number side) ∙ ap (option_map (λ s. after_write s from)) found in
     let fits : length (after_write s from).taken < 2 ^ 64 - 1 = subst (λ (o : Option EndState). length
     (option_map_or (λ (x : EndState). x.taken) o []) < 2 ^ 64 - 1) here within in
-    end_event waits ls t u side s (after_write s from) k refl (ap (λ z. s.taken ++ z) (sym gave)) (same_said s _ _ _ _ _)
-    (write_leaves s.may_take (list_any (allows_all side) ls) (sum_by (allows side) ls) s.taken from fits k.may_take)
+    end_event closing waits ls t u side s (after_write s from) k refl (ap (λ z. s.taken ++ z) (sym gave)) (same_said s _ _ _ _ _)
+    (write_leaves s.may_take (closing || list_any (allows_all side) ls) (sum_by (allows side) ls) s.taken from fits k.may_take)
     (sym (or_false s.tally.made_connected)) (sym (or_false s.tally.connected)))
     h
 
@@ -208,8 +208,8 @@ ends_apart link e h k = elim (eqb_tells link e.link) [
     by_side In p q = absurd (cc)
     by_side Out p q = absurd (cc)
 
-module _ (waits : List Bool) (ls : List TurnLine) (t : Trace) (l : LinksState) (wait : Bool) (later : List Bool) (link : ℕ)
-    (h : LinksStand waits ls t l) (waiting : l.waiting ≡ wait ∷ later) where
+module _ (closing : Bool) (waits : List Bool) (ls : List TurnLine) (t : Trace) (l : LinksState) (wait : Bool) (later : List Bool) (link : ℕ)
+    (h : LinksStand closing waits ls t l) (waiting : l.waiting ≡ wait ∷ later) where
   abbrev opens : Trace
   opens = (entry.Opened link (not wait), []) ∷ []
 
@@ -235,24 +235,25 @@ module _ (waits : List Bool) (ls : List TurnLine) (t : Trace) (l : LinksState) (
   same_link : (link == link) ≡ true
   same_link = elim (eqb_tells link link) [ inl t ↦ t.0 | inr t ↦ absurd (t.1 refl) ]
 
-  in_stands : (s : EndState) → EndStands waits ls t in_end s → EndStands waits ls (t ++ opens) in_end (accepted true s)
+  in_stands : (s : EndState) → EndStands closing waits ls t in_end s → EndStands closing waits ls (t ++ opens) in_end (accepted true s)
   in_stands s k =
       let same = same_link in
-      end_event waits ls t opens in_end s (accepted true s) k refl (sym (append-nil s.taken)) (same_said s _ _ _ _ _) k.may_take
+      end_event closing waits ls t opens in_end s (accepted true s) k refl (sym (append-nil s.taken)) (same_said s _ _ _ _ _) k.may_take
       (rw same refl) (sym (or_false s.tally.connected))
 
-  out_stands : (s : EndState) → EndStands waits ls t out_end s → EndStands waits ls (t ++ opens) out_end (accepted (not wait) s)
+  out_stands : (s : EndState) → EndStands closing waits ls t out_end s → EndStands closing waits ls (t ++ opens) out_end (accepted (not wait) s)
   out_stands s k =
       let same = same_link in
       let plain = or_false (not wait) in
-      end_event waits ls t opens out_end s (accepted (not wait) s) k refl (sym (append-nil s.taken)) (same_said s _ _ _ _ _)
+      end_event closing waits ls t opens out_end s (accepted (not wait) s) k refl (sym (append-nil s.taken)) (same_said s _ _ _ _ _)
       k.may_take (rw (same, plain) refl) (sym (or_false s.tally.connected))
 
   opens_silent : (e : SideId) → same_end in_end e ≡ false → same_end out_end e ≡ false → Silent e opens
   opens_silent e p q = let other = ends_apart link e p q in record { read = refl; given = refl; made = rw other refl; connected = refl }
 
-  pub accept_stands : LinksStand waits ls (t ++ opens) (accept_first link (wait ∷ later) l)
+  pub accept_stands : LinksStand closing waits ls (t ++ opens) (accept_first link (wait ∷ later) l)
   accept_stands = record {
+    is_closing = h.is_closing;
     in_order = new_in_order;
     waiting = new_waiting;
     ends = λ e s found. at_out e s (end_changed out_end e (accepted (not wait)) (at_end in_end (accepted true)
@@ -264,13 +265,13 @@ module _ (waits : List Bool) (ls : List TurnLine) (t : Trace) (l : LinksState) (
     where
       at_in : (e : SideId) (s : EndState) → same_end out_end e ≡ false →
           ((same_end in_end e ≡ true) × ((old : EndState) × (end_of l e ≡ Some old) × (s ≡ accepted true old))) ⊎
-          ((same_end in_end e ≡ false) × (end_of l e ≡ Some s)) → EndStands waits ls (t ++ opens) e s
+          ((same_end in_end e ≡ false) × (end_of l e ≡ Some s)) → EndStands closing waits ls (t ++ opens) e s
       at_in e s other (inl own) =
           let is : in_end ≡ e = same_end-eq in_end e own.0 in
-          subst (λ z. EndStands waits ls (t ++ opens) e z) (sym own.1.2)
-          (subst (λ z. EndStands waits ls (t ++ opens) z (accepted true own.1.0)) is (in_stands own.1.0
-          (subst (λ z. EndStands waits ls t z own.1.0) (sym is) (h.ends e own.1.0 own.1.1))))
-      at_in e s other (inr same) = end_silent waits ls t opens e s s (opens_silent e same.0 other) (as_before s) (h.ends e s same.1)
+          subst (λ z. EndStands closing waits ls (t ++ opens) e z) (sym own.1.2)
+          (subst (λ z. EndStands closing waits ls (t ++ opens) z (accepted true own.1.0)) is (in_stands own.1.0
+          (subst (λ z. EndStands closing waits ls t z own.1.0) (sym is) (h.ends e own.1.0 own.1.1))))
+      at_in e s other (inr same) = end_silent closing waits ls t opens e s s (opens_silent e same.0 other) (as_before s) (h.ends e s same.1)
 
       not_both : (e : SideId) → same_end out_end e ≡ true → same_end in_end e ≡ false
       not_both e o =
@@ -287,13 +288,13 @@ module _ (waits : List Bool) (ls : List TurnLine) (t : Trace) (l : LinksState) (
           ((same_end out_end e ≡ true) × ((old : EndState) × (end_of (at_end in_end (accepted true) (record l { waiting = later }))
           e ≡ Some old) × (s ≡ accepted (not wait) old)))
           ⊎ ((same_end out_end e ≡ false) × (end_of (at_end in_end (accepted true) (record l { waiting = later })) e ≡ Some s)) →
-          EndStands waits ls (t ++ opens) e s
+          EndStands closing waits ls (t ++ opens) e s
       at_out e s (inl own) =
           let is : out_end ≡ e = same_end-eq out_end e own.0 in
           let found : end_of l e ≡ Some own.1.0 =
           sym (slice_get-changed_other (accepted true) l.ends (number in_end) (number e) (λ q. elim (same_end_tells in_end e)
           [ inl i ↦ absurd (let a = i.0 in let b = not_both e own.0 in cc) | inr i ↦ i.1 (sym q) ])) ∙ own.1.1 in
-          subst (λ z. EndStands waits ls (t ++ opens) e z) (sym own.1.2)
-          (subst (λ z. EndStands waits ls (t ++ opens) z (accepted (not wait) own.1.0)) is
-          (out_stands own.1.0 (subst (λ z. EndStands waits ls t z own.1.0) (sym is) (h.ends e own.1.0 found))))
+          subst (λ z. EndStands closing waits ls (t ++ opens) e z) (sym own.1.2)
+          (subst (λ z. EndStands closing waits ls (t ++ opens) z (accepted (not wait) own.1.0)) is
+          (out_stands own.1.0 (subst (λ z. EndStands closing waits ls t z own.1.0) (sym is) (h.ends e own.1.0 found))))
       at_out e s (inr same) = at_in e s same.0 (end_changed in_end e (accepted true) (record l { waiting = later }) s same.1)

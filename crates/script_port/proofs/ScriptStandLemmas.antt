@@ -90,8 +90,8 @@ takes-write k allowed taken offer h within =
 
 module _ (waits : List Bool) where
   -- an end with what a line says of it
-  end_line : (ls : List TurnLine) (t : Trace) (e : SideId) (y : TurnLine) (s new : EndState) → EndStands waits ls t e s → Said e y
-      s new → EndStands waits (ls ++ y ∷ []) t e new
+  end_line : (ls : List TurnLine) (t : Trace) (e : SideId) (y : TurnLine) (s new : EndState) → EndStands false waits ls t e s → Said e y
+      s new → EndStands false waits (ls ++ y ∷ []) t e new
   end_line ls t e y s new h is = record {
     came = ap (λ z. bytes_read e t ++ z) is.pending ∙ sym (append_assoc (bytes_read e t) s.pending (brings e y)) ∙ ap
         (λ z. z ++ brings e y) h.came ∙ sym (flat-push (brings e) ls y);
@@ -107,12 +107,12 @@ module _ (waits : List Bool) where
         (is.may_take (list_any (allows_all e) ls) (sum_by (allows e) ls) h.may_take)));
     write_fails = is.write_fails ∙ ap (λ z. z || fails_writes e y) h.write_fails ∙ sym (any-push (fails_writes e) ls y);
     wait = is.wait ∙ h.wait;
-    decision = is.decision (flat_map (decides e.link) ls) h.decision ∙ ap (decided_at e.side) (sym (flat-push (decides e.link) ls y));
+    decision = is.decision (flat_map (decides e.link) ls) h.decision ∙ ap (decided_at false e.side) (sym (flat-push (decides e.link) ls y));
     made_connected = is.made_connected ∙ h.made_connected;
     connected = is.connected ∙ h.connected;
   }
 
-  links-push : (ls : List TurnLine) (t : Trace) (y : TurnLine) (l : LinksState) → links_by y ≡ [] → LinksStand waits ls t l →
+  links-push : (ls : List TurnLine) (t : Trace) (y : TurnLine) (l : LinksState) → links_by y ≡ [] → LinksStand false waits ls t l →
       (opened t ≤ length (flat_map links_by (ls ++ y ∷ []))) × (l.waiting ≡ drop (opened t) (flat_map links_by (ls ++ y ∷ [])))
   links-push ls t y l none h =
       let same : flat_map links_by (ls ++ y ∷ []) ≡ flat_map links_by ls = flat-push links_by ls y ∙ ap
@@ -121,27 +121,29 @@ module _ (waits : List Bool) where
 
   -- one line that names an end
   at_line : (ls : List TurnLine) (t : Trace) (side : SideId) (x : TurnLine) (l : LinksState) → links_by x ≡ [] →
-      ((e : SideId) → is_named x e ≡ same_end side e) → LinksStand waits ls t l →
-      LinksStand waits (ls ++ x ∷ []) t (at_end side (end_after_line l.turn x) l)
+      ((e : SideId) → is_named x e ≡ same_end side e) → LinksStand false waits ls t l →
+      LinksStand false waits (ls ++ x ∷ []) t (at_end side (end_after_line l.turn x) l)
   at_line ls t side x l none named h =
       let lists = links-push ls t x l none h in record {
+        is_closing = h.is_closing;
         in_order = lists.0;
         waiting = lists.1;
         ends = λ e s found.
             elim (end_changed side e (end_after_line l.turn x) l s found) [
               | inl own ↦
                   let old = own.1.0 in
-                  subst (EndStands waits (ls ++ x ∷ []) t e) (sym own.1.2)
+                  subst (EndStands false waits (ls ++ x ∷ []) t e) (sym own.1.2)
                   (end_line ls t e x old (end_after_line l.turn x old) (h.ends e old own.1.1) (said l.turn x e old (named e ∙ own.0)))
               | inr same ↦ end_line ls t e x s s (h.ends e s same.1) (not_said x e s (named e ∙ same.0))
             ];
         beyond = λ e found. h.beyond e (none_changed side e (end_after_line l.turn x) l found);
       }
 
-  pub line_stands : (ls : List TurnLine) (t : Trace) (x : TurnLine) (l : LinksState) → LinksStand waits ls t l → LinksStand waits
+  pub line_stands : (ls : List TurnLine) (t : Trace) (x : TurnLine) (l : LinksState) → LinksStand false waits ls t l → LinksStand false waits
       (ls ++ x ∷ []) t (after_line x l)
   line_stands ls t (line.NewLink wait) l h =
       let more = flat-push links_by ls (line.NewLink wait) in record {
+        is_closing = h.is_closing;
         in_order = (let before = h.in_order in let long = length-append (flat_map links_by ls) (wait ∷ []) in subst
             (λ z. opened t ≤ length z) (sym more) (omega (arith, before, long)));
         waiting = ap (λ z. z ++ wait ∷ []) h.waiting ∙ sym (drop-append-le (opened t) (flat_map links_by ls) (wait ∷ [])
@@ -151,6 +153,7 @@ module _ (waits : List Bool) where
       }
   line_stands ls t line.PollFail l h =
       let lists = links-push ls t line.PollFail l refl h in record {
+        is_closing = h.is_closing;
         in_order = lists.0;
         waiting = lists.1;
         ends = λ e s found. end_line ls t e line.PollFail s s (h.ends e s found) (not_said line.PollFail e s refl);
@@ -165,9 +168,9 @@ module _ (waits : List Bool) where
   line_stands ls t (line.Spur side) l h = at_line ls t side (line.Spur side) l refl (λ e. refl) h
 
   -- lines in their order
-  pub lines_stand : (ls : List TurnLine) (t : Trace) (xs : List TurnLine) (l : LinksState) → LinksStand waits ls t l → LinksStand
+  pub lines_stand : (ls : List TurnLine) (t : Trace) (xs : List TurnLine) (l : LinksState) → LinksStand false waits ls t l → LinksStand false
       waits (ls ++ xs) t (after_lines xs l)
-  lines_stand ls t [] l h = subst (λ z. LinksStand waits z t l) (sym (append-nil ls)) h
+  lines_stand ls t [] l h = subst (λ z. LinksStand false waits z t l) (sym (append-nil ls)) h
   lines_stand ls t (x ∷ xs) l h =
-      subst (λ z. LinksStand waits z t (after_lines (x ∷ xs) l)) (append_assoc ls (x ∷ []) xs)
+      subst (λ z. LinksStand false waits z t (after_lines (x ∷ xs) l)) (append_assoc ls (x ∷ []) xs)
       (lines_stand (ls ++ x ∷ []) t xs (after_line x l) (line_stands ls t x l h))

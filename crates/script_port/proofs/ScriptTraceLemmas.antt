@@ -79,6 +79,7 @@ pub record Like (l new : LinksState) : Type 0 where
   pub waiting : new.waiting ≡ l.waiting
   pub turn : new.turn ≡ l.turn
   pub poll_fails : new.poll_fails ≡ l.poll_fails
+  pub closing : new.closing ≡ l.closing
   pub ends : (e : SideId) (s : EndState) → end_of new e ≡ Some s → (old : EndState) × (end_of l e ≡ Some old) × AsBefore old s
   pub none : (e : SideId) → end_of new e ≡ None → end_of l e ≡ None
 
@@ -111,7 +112,7 @@ pub as_before : (s : EndState) → AsBefore s s
 as_before s = counts_alone s s.tally refl refl
 
 pub like : (l : LinksState) → Like l l
-like l = record { waiting = refl; turn = refl; poll_fails = refl; ends = λ e s found. (s, found, as_before s); none = λ e found. found }
+like l = record { waiting = refl; turn = refl; poll_fails = refl; closing = refl; ends = λ e s found. (s, found, as_before s); none = λ e found. found }
 
 pub like-at_end : (side : SideId) (f : EndState → EndState) (l : LinksState) → ((s : EndState) → AsBefore s (f s)) → Like l
     (at_end side f l)
@@ -119,6 +120,7 @@ like-at_end side f l h = record {
   waiting = refl;
   turn = refl;
   poll_fails = refl;
+  closing = refl;
   ends = λ e s found.
       elim (end_changed side e f l s found) [
         | inl own ↦ (own.1.0, own.1.1, subst (AsBefore own.1.0) (sym own.1.2) (h own.1.0))
@@ -149,6 +151,7 @@ like-trans l m n h k = record {
   waiting = k.waiting ∙ h.waiting;
   turn = k.turn ∙ h.turn;
   poll_fails = k.poll_fails ∙ h.poll_fails;
+  closing = k.closing ∙ h.closing;
   ends = λ e s found.
       let b = k.ends e s found in
       let a = h.ends e b.0 b.1 in
@@ -168,13 +171,13 @@ pub or_false : (a : Bool) → (a || false) ≡ a
 or_false true = refl
 or_false false = refl
 
-module _ (waits : List Bool) (ls : List TurnLine) where
+module _ (closing : Bool) (waits : List Bool) (ls : List TurnLine) where
   -- an end after entries
-  pub end_event : (t u : Trace) (e : SideId) (s new : EndState) → EndStands waits ls t e s → s.pending ≡ bytes_read e u ++
+  pub end_event : (t u : Trace) (e : SideId) (s new : EndState) → EndStands closing waits ls t e s → s.pending ≡ bytes_read e u ++
       new.pending → new.taken ≡ s.taken ++ bytes_given e u → SameSaid s new →
-      MayTake new.may_take (list_any (allows_all e) ls) (sum_by (allows e) ls) (length new.taken) → new.tally.made_connected ≡
+      MayTake new.may_take (closing || list_any (allows_all e) ls) (sum_by (allows e) ls) (length new.taken) → new.tally.made_connected ≡
       (s.tally.made_connected || is_made_connected e u) →
-      new.tally.connected ≡ (s.tally.connected || is_connected e u) → EndStands waits ls (t ++ u) e new
+      new.tally.connected ≡ (s.tally.connected || is_connected e u) → EndStands closing waits ls (t ++ u) e new
   end_event t u e s new h came taken said may made connected = record {
     came =
         ap (λ z. z ++ new.pending) (bytes_read-append e t u) ∙ append_assoc (bytes_read e t) (bytes_read e u) new.pending ∙ ap
@@ -190,18 +193,18 @@ module _ (waits : List Bool) (ls : List TurnLine) where
     connected = connected ∙ ap (λ z. z || is_connected e u) h.connected ∙ sym (list_any-append (connected_by e) t u);
   }
 
-  pub end_silent : (t u : Trace) (e : SideId) (s new : EndState) → Silent e u → AsBefore s new → EndStands waits ls t e s →
-      EndStands waits ls (t ++ u) e new
+  pub end_silent : (t u : Trace) (e : SideId) (s new : EndState) → Silent e u → AsBefore s new → EndStands closing waits ls t e s →
+      EndStands closing waits ls (t ++ u) e new
   end_silent t u e s new q b h =
       end_event t u e s new h (sym b.pending ∙ ap (λ z. z ++ new.pending) (sym q.read))
       (b.taken ∙ sym (append-nil s.taken) ∙ ap (λ z. s.taken ++ z) (sym q.given)) b.said
-      (subst (λ z. MayTake new.may_take (list_any (allows_all e) ls) (sum_by (allows e) ls) (length z)) (sym b.taken)
-      (subst (λ z. MayTake z (list_any (allows_all e) ls) (sum_by (allows e) ls) (length s.taken)) (sym b.may_take) h.may_take))
+      (subst (λ z. MayTake new.may_take (closing || list_any (allows_all e) ls) (sum_by (allows e) ls) (length z)) (sym b.taken)
+      (subst (λ z. MayTake z (closing || list_any (allows_all e) ls) (sum_by (allows e) ls) (length s.taken)) (sym b.may_take) h.may_take))
       (b.made_connected ∙ sym (or_false s.tally.made_connected) ∙ ap (λ z. s.tally.made_connected || z) (sym q.made))
       (b.connected ∙ sym (or_false s.tally.connected) ∙ ap (λ z. s.tally.connected || z) (sym q.connected))
 
   -- links after entries that open none
-  no_link : (t u : Trace) (l new : LinksState) → opened u ≡ 0 → new.waiting ≡ l.waiting → LinksStand waits ls t l →
+  no_link : (t u : Trace) (l new : LinksState) → opened u ≡ 0 → new.waiting ≡ l.waiting → LinksStand closing waits ls t l →
       (opened (t ++ u) ≤ length (flat_map links_by ls)) × (new.waiting ≡ drop (opened (t ++ u)) (flat_map links_by ls))
   no_link t u l new none same h =
       let parts = sum_by-append (λ x. if is_opened x then 1 else 0) t u in
@@ -211,10 +214,11 @@ module _ (waits : List Bool) (ls : List TurnLine) where
             (λ n. drop n (flat_map links_by ls)) (sym count),
       )
 
-  pub links_silent : (t u : Trace) (l new : LinksState) → AllSilent u → Like l new → LinksStand waits ls t l → LinksStand waits ls
+  pub links_silent : (t u : Trace) (l new : LinksState) → AllSilent u → Like l new → LinksStand closing waits ls t l → LinksStand closing waits ls
       (t ++ u) new
   links_silent t u l new q k h =
       let lists = no_link t u l new q.opens k.waiting h in record {
+        is_closing = k.closing ∙ h.is_closing;
         in_order = lists.0;
         waiting = lists.1;
         ends = λ e s found. let old = k.ends e s found in end_silent t u e old.0 s (q.ends e) old.2 (h.ends e old.0 old.1);
@@ -224,10 +228,11 @@ module _ (waits : List Bool) (ls : List TurnLine) where
   -- a call on one end
   pub at_end_stands : (t u : Trace) (side : SideId) (f : EndState → EndState) (l : LinksState) → opened u ≡ 0 →
       ((e : SideId) → same_end side e ≡ false → Silent e u) →
-      ((s : EndState) → end_of l side ≡ Some s → EndStands waits ls t side s → EndStands waits ls (t ++ u) side (f s)) → LinksStand
-      waits ls t l → LinksStand waits ls (t ++ u) (at_end side f l)
+      ((s : EndState) → end_of l side ≡ Some s → EndStands closing waits ls t side s → EndStands closing waits ls (t ++ u) side (f s)) → LinksStand
+      closing waits ls t l → LinksStand closing waits ls (t ++ u) (at_end side f l)
   at_end_stands t u side f l none others here h =
       let lists = no_link t u l (at_end side f l) none refl h in record {
+        is_closing = h.is_closing;
         in_order = lists.0;
         waiting = lists.1;
         ends = λ e s found.
@@ -236,7 +241,7 @@ module _ (waits : List Bool) (ls : List TurnLine) where
                   let same : side ≡ e = same_end-eq side e own.0 in
                   let old = own.1.0 in
                   let there : end_of l side ≡ Some old = subst (λ z. end_of l z ≡ Some old) (sym same) own.1.1 in
-                  subst (λ z. EndStands waits ls (t ++ u) e z) (sym own.1.2) (subst (λ z. EndStands waits ls (t ++ u) z (f old))
+                  subst (λ z. EndStands closing waits ls (t ++ u) e z) (sym own.1.2) (subst (λ z. EndStands closing waits ls (t ++ u) z (f old))
                   same (here old there (h.ends side old there)))
               | inr same ↦ end_silent t u e s s (others e same.0) (as_before s) (h.ends e s same.1)
             ];

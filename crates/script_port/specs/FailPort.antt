@@ -5,7 +5,7 @@ use Rattle.ev_types.specs.Sides.{same_end}
 use Rattle.ev_types.specs.declared.answer.WriteAnswer.{WriteAnswer}
 use Rattle.ev_types.specs.declared.answer.WriteAnswer.TheVariants as write
 use Rattle.ev_types.specs.Trace.{Trace}
-use Rattle.ev_types.specs.ScriptTurn.{ScriptTurn}
+use Rattle.script_port.specs.ScriptPlan.{ScriptPlan}
 use Rattle.script_port.specs.declared.fail_port.FailPlan.{FailPlan}
 use Rattle.script_port.specs.declared.fail_port.FailPlan.TheVariants.{Left, AtPoll, AtAccept, AtEnd}
 use Rattle.script_port.specs.declared.fail_port.FailPort.{FailPort}
@@ -87,5 +87,5 @@ fail_faults p =
     }
 
 -- it vouches for nothing, since no script answers as its failing call does
-abbrev pub vouches_nothing : FailPort → List ScriptTurn → Trace → Type 0
-vouches_nothing p turns t = ⊥
+abbrev pub vouches_nothing : FailPort → ScriptPlan → Trace → Type 0
+vouches_nothing p plan t = ⊥

@@ -7,12 +7,13 @@ pub mod ScriptLinks
 pub mod KeptLines
 pub mod ScriptKept
 pub mod ScriptLinksView
+pub mod ScriptClosing
 pub mod ScriptPort
 pub mod ScriptTold
 pub mod ScriptTurnsView
 pub mod ScriptPortView
-pub mod ScriptPlayed
 pub mod ScriptNow
+pub mod ScriptPlan
 pub mod ScriptVouched
 pub mod ScriptLaws
 pub mod ScriptPlays

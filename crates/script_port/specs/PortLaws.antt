@@ -7,23 +7,27 @@ use Rattle.std.proofs.lemmas.Bool.{false≢true}
 use Rattle.std.proofs.lemmas.List.Sums.{sum_by-cons}
 use Rattle.ev_types.specs.declared.entry.Entry.{Entry}
 use Rattle.ev_types.specs.declared.entry.Entry.TheVariants as entry
-use Rattle.ev_types.specs.ScriptTurn.{ScriptTurn, lines_of}
+use Rattle.ev_types.specs.ScriptTurn.{lines_of}
 use Rattle.ev_types.specs.Trace.{Event, Trace}
 use Rattle.relay_model.specs.RatesKept.{is_turn}
 use Rattle.relay_model.specs.Totals.{is_opened}
 use Rattle.relay_model.specs.Lines.{links_by}
-use Rattle.relay_model.specs.Called.{IsCalledFor}
 use Rattle.ev_port.specs.Vouching.{LongerBy, tells_links, TellsNoLinks}
 use Rattle.ev_port.specs.Calls.{IsUnheard}
 use Rattle.script_port.specs.ScriptState.{PortState}
+use Rattle.script_port.specs.ScriptPlan.{ScriptPlan, closings, IsCalledBy}
 use Rattle.script_port.specs.ScriptVouched.{PortStands, ScriptVouches, NoneWaits}
 
 -- What no port answers changes nothing of what is vouched for.
 pub unheard_vouched : (p : PortState) (x : Entry) → IsUnheard x → LongerBy (ScriptVouches p) (ScriptVouches p) ((x, []) ∷ [])
-unheard_vouched p x h = λ turns t vouched. (
-  vouched.0,
-  λ own unheard. subst (λ z. IsCalledFor turns z → PortStands p z) (sym (append_assoc t ((x, []) ∷ []) own)) (vouched.1 ((x, []) ∷ own) (h, refl, unheard)),
-)
+unheard_vouched p x h = λ plan t vouched. record {
+  turns = vouched.turns;
+  closing = vouched.closing;
+  step = vouched.step;
+  stands = λ own unheard.
+      subst (λ z. IsCalledBy plan z → PortStands p plan.step z) (sym (append_assoc t ((x, []) ∷ []) own))
+      (vouched.stands ((x, []) ∷ own) (h, refl, unheard));
+}
 
 -- No turn begins and no link is opened in entries that tell of none.
 none_counted : (p : Event → Bool) → ((x : Event) → tells_links x ≡ false → p x ≡ false) → (u : Trace) → TellsNoLinks u → count_by p u ≡ 0
@@ -50,14 +54,14 @@ no_link (entry.Opened link connected, bytes) h = absurd (false≢true (sym h))
 no_link _ h = refl
 
 -- Where no link waits, none does behind such entries.
-pub waits_no_more : (turns : List ScriptTurn) (t u : Trace) → TellsNoLinks u → NoneWaits turns t → NoneWaits turns (t ++ u)
-waits_no_more turns t u none waits = λ asked.
+pub waits_no_more : (plan : ScriptPlan) (t u : Trace) → TellsNoLinks u → NoneWaits plan t → NoneWaits plan (t ++ u)
+waits_no_more plan t u none waits = λ asked.
     let begun = same_count is_turn no_turn t u none in
     let opens = same_count is_opened no_link t u none in
-    let before : IsCalledFor turns t = record {
+    let before : IsCalledBy plan t = record {
       lines = asked.lines;
-      turns_left = subst (λ n. n ≤ length turns) begun asked.turns_left;
+      turns_left = subst (λ n. n ≤ length (plan.turns ++ closings plan.closing)) begun asked.turns_left;
       in_order = λ before after link connected bytes is.
           asked.in_order before (after ++ u) link connected bytes (ap (λ z. z ++ u) is ∙ append_assoc before ((entry.Opened link connected, bytes) ∷ after) u);
     } in
-    (λ i. drop (opens i) (flat_map links_by (lines_of (take (begun i) turns)))) ∙ waits before
+    (λ i. drop (opens i) (flat_map links_by (lines_of (take (begun i) plan.turns)))) ∙ waits before

@@ -1,6 +1,6 @@
 -- What the lines of a script and the calls of a port make of the links of the script. A line or a call that names an
 -- end of no such link changes nothing.
-use Rattle.std.specs.Prelude.{◌≡◌, ◌≢◌, ℕ, ◌-◌, ◌^◌, ◌<◌, length, zero, suc, Bool, true, false, ◌&&◌, ◌||◌, not, if◌then◌else◌, List, []}
+use Rattle.std.specs.Prelude.{◌≡◌, ◌≢◌, ℕ, ◌-◌, ◌^◌, ◌<◌, ◌==◌, length, zero, suc, Bool, true, false, ◌&&◌, ◌||◌, not, if◌then◌else◌, List, []}
 use Rattle.std.specs.Prelude.{◌∷◌, ◌++◌, Option, None, slice_get}
 use Rattle.std.specs.Option.{option_map_or}
 use Rattle.ev_types.specs.declared.side.SideId.{SideId}
@@ -40,7 +40,7 @@ new_ends (wait ∷ waits) = new_end false ∷ new_end wait ∷ new_ends waits
 
 -- links of which none waits yet
 abbrev pub new_links : List Bool → LinksState
-new_links waits = record { waiting = []; ends = new_ends waits; turn = None; poll_fails = false }
+new_links waits = record { waiting = []; ends = new_ends waits; turn = None; poll_fails = false; closing = false }
 
 -- Lines
 
@@ -81,7 +81,7 @@ abbrev pub can_read_at : LinksState → SideId → Bool
 can_read_at l e = option_map_or can_read (end_of l e) false
 
 abbrev pub can_write_at : LinksState → SideId → Bool
-can_write_at l e = option_map_or can_write (end_of l e) false
+can_write_at l e = option_map_or can_write (end_of l e) l.closing
 
 abbrev pub is_spurred_at : LinksState → SideId → Bool
 is_spurred_at l e = option_map_or (is_spurred l.turn) (end_of l e) false
@@ -123,8 +123,12 @@ read_answer_at l e room = option_map_or (λ s. read_answer s room) (end_of l e) 
 abbrev pub pending_at : LinksState → SideId → List ℕ
 pending_at l e = option_map_or (λ s. s.pending) (end_of l e) []
 
+-- what a write is answered at an end of no link of the script: only in closing turns all is taken, as at every end
+abbrev pub beyond_answer : Bool → ℕ → WriteAnswer
+beyond_answer closing offer = if closing && not (offer == 0) then write.Took offer else write.NotYet
+
 abbrev pub write_answer_at : LinksState → SideId → ℕ → WriteAnswer
-write_answer_at l e offer = option_map_or (λ s. write_answer s offer) (end_of l e) write.NotYet
+write_answer_at l e offer = option_map_or (λ s. write_answer s offer) (end_of l e) (beyond_answer l.closing offer)
 
 -- the bytes that the end took
 abbrev pub taken_at : LinksState → SideId → List ℕ

@@ -10,6 +10,7 @@ links_kept l = record {
     ends = map (λ e. e.state) l.ends.items;
     turn = l.turn;
     poll_fails = l.poll_fails;
+    closing = l.closing;
   };
   to_open = drop l.opened l.waits.items;
   to_come = map (λ e. e.to_come) l.ends.items;

@@ -1,5 +1,5 @@
 -- What the calls of a script port answer, and what they make of it.
-use Rattle.std.specs.Prelude.{ℕ, ◌+◌, ◌==◌, length, Bool, false, ◌&&◌, not, if◌then◌else◌, List, map, Option, Some, None, slice_get}
+use Rattle.std.specs.Prelude.{ℕ, ◌+◌, ◌==◌, length, Bool, true, false, ◌&&◌, not, if◌then◌else◌, List, map, Option, Some, None, slice_get}
 use Rattle.std.specs.Option.{option_map_or}
 use Rattle.ev_types.specs.ScriptTurn.{ScriptTurn, lines_of}
 use Rattle.ev_port.specs.declared.port.Accepted.{Accepted}
@@ -15,6 +15,7 @@ use Rattle.script_port.specs.EndTallies.{once}
 use Rattle.script_port.specs.ScriptState.{LinksState, PortState}
 use Rattle.script_port.specs.ScriptLinks.{links_of, new_links, after_lines, entered, marked, unmarked, after_wants, accept_answer}
 use Rattle.script_port.specs.ScriptLinks.{accept_first}
+use Rattle.script_port.specs.ScriptClosing.{closing_ends, is_announced}
 
 abbrev pub no_port_calls : PortTally
 no_port_calls = record {
@@ -34,6 +35,8 @@ new_port turns = record {
   turns = turns;
   begun = 0;
   clock = 0;
+  closing = 0;
+  step = 0;
   links = new_links (links_of (lines_of turns));
   tally = no_port_calls;
 }
@@ -44,13 +47,26 @@ new_port turns = record {
 abbrev pub next_turn : PortState → Option ScriptTurn
 next_turn p = slice_get p.turns p.begun
 
--- the moment of the turn that begins, and after the last turn its moment again
-abbrev pub clock_answer : PortState → ℕ
-clock_answer p = option_map_or (λ turn. turn.0) (next_turn p) p.clock
+-- behind the turns of the script an announced closing turn goes on by the step; with none announced it is the last moment again
+abbrev pub clock_behind : PortState → ℕ
+clock_behind p = if is_announced p then p.clock + p.step else p.clock
 
--- the lines of the turn that begins are applied; after the last turn no turn runs
+-- the moment of the turn that begins
+abbrev pub clock_answer : PortState → ℕ
+clock_answer p = option_map_or (λ turn. turn.0) (next_turn p) (clock_behind p)
+
+-- Behind the turns of the script no turn of it runs. An announced closing turn begins.
+abbrev pub begin_behind : Bool → PortState → PortState
+begin_behind false p = record p { links = entered None p.links }
+begin_behind true p = record p {
+  begun = p.begun + 1;
+  clock = p.clock + p.step;
+  links = closing_ends (entered None p.links);
+}
+
+-- the lines of the turn that begins are applied
 abbrev pub begin_turn : Option ScriptTurn → PortState → PortState
-begin_turn None p = record p { links = entered None p.links }
+begin_turn None p = begin_behind (is_announced p) p
 begin_turn (Some turn) p = record p {
   begun = p.begun + 1;
   clock = turn.0;

@@ -29,6 +29,7 @@ pub record LinksState : Type 0 where
   pub ends : List EndState  -- the ends of all links of the script, by the number of their side
   pub turn : Option ℕ  -- the turn of the script that runs, counted from 0; none before the first and after the last
   pub poll_fails : Bool  -- the poll fails in the running turn
+  pub closing : Bool  -- a closing turn began, from which on every end takes every write
 
 -- the links, with those that the script has yet to open and the bytes that it has yet to bring in at each end
 pub record LinksKept : Type 0 where
@@ -39,7 +40,9 @@ pub record LinksKept : Type 0 where
 -- the whole port
 pub record PortState : Type 0 where
   pub turns : List ScriptTurn  -- the script: each turn's moment and its lines
-  pub begun : ℕ  -- how many of its turns began
+  pub begun : ℕ  -- how many turns began, closing turns too
   pub clock : ℕ  -- the moment of the last of these, or 0
+  pub closing : ℕ  -- how many closing turns were announced
+  pub step : ℕ  -- by how much the clock goes on with each of them; 0 before the first
   pub links : LinksState
   pub tally : PortTally

@@ -106,11 +106,10 @@ impl FailPort {
 /// It tells everything of itself and of the ends of the script's links, and nothing of other ends. It vouches for no
 /// trace.
 impl Port for FailPort {
-    ghost use Rattle.std.specs.Prelude.{List};
-    ghost use Rattle.ev_types.specs.ScriptTurn.{ScriptTurn};
+    ghost use Rattle.script_port.specs.ScriptPlan.{ScriptPlan};
     ghost use Rattle.script_port.specs.PortLaws.{waits_no_more};
 
-    ghost Plan = { List ScriptTurn };
+    ghost Plan = { ScriptPlan };
 
     ghost vouches = { vouches_nothing };
 

@@ -14,6 +14,7 @@ mod turns_log;
 
 pub use fail_port::{FailPort, PortCall};
 pub use laws::{
-    lines_bring_bytes, reads_lose_nothing, spelled_scripts_name_opened_links, vouched_is_played,
+    lines_bring_bytes, none_waits_on, pending_is_scripted, reads_lose_nothing,
+    spelled_scripts_name_opened_links, vouched_is_played,
 };
 pub use script_port::ScriptPort;

@@ -5,6 +5,7 @@ ghost use Rattle.ev_port.specs.Ends.{got_bytes};
 ghost use Rattle.script_port.specs.ScriptEnds.{new_end, allowed, decided, can_read, can_write, same_turn, is_spurred, end_marked};
 ghost use Rattle.script_port.specs.ScriptEnds.{read_answer, after_read, conn_answer, after_check, accepted, after_close_write, after_close};
 ghost use Rattle.script_port.specs.ScriptEnds.{wanted};
+ghost use Rattle.script_port.specs.ScriptClosing.{closing_end};
 ghost use Rattle.script_port.specs.FailedCalls.{failed_read, failed_write, failed_check};
 ghost use Rattle.script_port.specs.ScriptKept.{kept_after_line, Wrote};
 ghost use Rattle.relay_model.specs.Scripted.{decided_answer};
@@ -98,6 +99,22 @@ impl ScriptEnd {
         ensures to_come { self.new.to_come ≡ drop count self.old.to_come }
     {
         self.came += count.min(self.bytes.len() - self.came);
+    }
+
+    /// A closing turn begins: from here on the end takes every write, and it is connected unless that was decided.
+    pub fn take_all(&mut self)
+        ensures { self.new ≡ record self.old { state = closing_end self.old.state } }
+    {
+        self.may_take = None;
+        self.write_fails = false;
+        self.decision = decide(self.decision, true);
+    }
+
+    /// How many bytes came in that were not read yet. Constant.
+    pub fn pending(&self) -> usize
+        ensures { result ≡ length self.now.state.pending }
+    {
+        self.came - self.given
     }
 
     fn can_read(&self) -> bool

@@ -6,7 +6,9 @@ ghost use Rattle.ev_port.specs.Ends.{got_bytes};
 ghost use Rattle.ev_port.specs.Table.{RowsStay, is_marked, named};
 ghost use Rattle.script_port.specs.ScriptEnds.{after_read, after_check, after_close_write, after_close, accepted, wanted};
 ghost use Rattle.script_port.specs.ScriptLinks.{at_end, out_end, links_of, entered, marked, unmarked, polled, after_wants, accept_answer};
-ghost use Rattle.script_port.specs.ScriptLinks.{accept_first, read_answer_at, pending_at, WroteAt, conn_answer_at};
+ghost use Rattle.script_port.specs.ScriptLinks.{accept_first, read_answer_at, pending_at, beyond_answer, WroteAt, conn_answer_at};
+ghost use Rattle.script_port.specs.ScriptLinks.{changed};
+ghost use Rattle.script_port.specs.ScriptClosing.{closing_end, closing_ends, unread};
 ghost use Rattle.script_port.specs.ScriptPort.{poll_marks};
 ghost use Rattle.script_port.specs.FailedCalls.{failed_read, failed_write, failed_check};
 ghost use Rattle.script_port.specs.KeptLines.{kept_line};
@@ -22,6 +24,7 @@ use std::marker::Model;
 
 /// All links of the script. Of `waits`, which tells of each whether its line says wait, `opened` links were opened so
 /// far, and `accepted` of these were accepted. `turn` is the place of the running turn, and `poll_fails` of it alone.
+/// `closing` stands from the first closing turn on.
 ///
 /// Own.
 #[derive(Drop)]
@@ -32,6 +35,7 @@ pub(crate) struct ScriptLinks {
     ends: Vec<ScriptEnd>,
     turn: Option<usize>,
     poll_fails: bool,
+    closing: bool,
 }
 
 impl Model for ScriptLinks {
@@ -49,7 +53,7 @@ impl Model for ScriptLinks {
 impl ScriptLinks {
     /// No links. Takes no memory.
     pub fn new(alloc: Global) -> ScriptLinks
-        ensures { result ≡ record { state = record { waiting = []; ends = []; turn = None; poll_fails = false }; to_open = []; to_come = [] } }
+        ensures { result ≡ record { state = record { waiting = []; ends = []; turn = None; poll_fails = false; closing = false }; to_open = []; to_come = [] } }
     {
         ScriptLinks {
             waits: Vec::new(alloc),
@@ -58,6 +62,7 @@ impl ScriptLinks {
             ends: Vec::new(alloc),
             turn: None,
             poll_fails: false,
+            closing: false,
         }
     }
 
@@ -128,6 +133,24 @@ impl ScriptLinks {
         self.poll_fails = false;
     }
 
+    fn take_all_at(&mut self, place: usize)
+        ensures { self.new ≡ record self.old { state = record self.old.state { ends = changed place closing_end self.old.state.ends } } }
+    {
+        if place < self.ends.len() {
+            self.ends[place].take_all();
+        }
+    }
+
+    /// A closing turn begins: from here on every end takes every write. Linear in the number of links.
+    pub fn take_all(&mut self)
+        ensures { self.new ≡ record self.old { state = closing_ends self.old.state } }
+    {
+        for place in 0..self.ends.len() {
+            self.take_all_at(place);
+        }
+        self.closing = true;
+    }
+
     /// Lines of the running turn are applied in their order.
     pub fn apply_all(&mut self, lines: &[KeptLine])
         ensures { self.new ≡ links_after_lines lines.now self.old }
@@ -187,7 +210,7 @@ impl ScriptLinks {
         if number < self.ends.len() {
             self.ends[number].write(from)
         } else {
-            WriteAnswer::NotYet
+            beyond_answer(self.closing, from.len())
         }
     }
 
@@ -286,7 +309,11 @@ impl ScriptLinks {
         if number < self.ends.len() {
             self.ends[number].poll(self.turn, want)
         } else {
-            unmarked(want)
+            Want {
+                can_read: false,
+                can_write: want.write && self.closing,
+                ..want
+            }
         }
     }
 
@@ -327,6 +354,24 @@ impl ScriptLinks {
         ensures after { self.new ≡ record self.old { state = after_wants (poll_marks self.old.state (named wants.old)) self.old.state } }
     {
         wants.mark_each(self);
+    }
+
+    /// How many bytes came in that were not read yet, at all ends. Linear in the number of links.
+    pub fn unread(&self) -> u64
+        ensures { result ≡ unread self.now.state }
+    {
+        let mut sum: u64 = 0;
+        for end in &self.ends {
+            sum = sum.saturating_add(end.pending() as u64);
+        }
+        sum
+    }
+
+    /// How many links wait to be accepted. Constant.
+    pub fn waiting(&self) -> usize
+        ensures { result ≡ length self.now.state.waiting }
+    {
+        self.opened - self.accepted
     }
 
     /// Whether a link waits to be accepted.
@@ -391,6 +436,17 @@ fn out_end(link: u32) -> SideId
     SideId {
         link,
         side: Side::Out,
+    }
+}
+
+/// What a write is answered at an end of no link of the script.
+fn beyond_answer(closing: bool, offer: usize) -> WriteAnswer
+    ensures { result ≡ beyond_answer closing offer }
+{
+    if closing && offer != 0 {
+        WriteAnswer::Took(offer)
+    } else {
+        WriteAnswer::NotYet
     }
 }
 

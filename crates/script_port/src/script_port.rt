@@ -1,7 +1,7 @@
 // A port that answers by a script. Each reading of the clock begins the script's next turn and applies its lines; every
 // other call is answered from what the lines so far left. It waits for nothing, fails where the script says so, and keeps
 // all that it is told and all that it took.
-ghost use Rattle.std.specs.Prelude.{◌≡◌, ◌<◌, [], true, false, length, take, drop, map, filter, IfOk};
+ghost use Rattle.std.specs.Prelude.{◌≡◌, ℕ, ◌<◌, ◌≤◌, [], true, false, length, take, drop, map, filter, IfOk};
 ghost use Rattle.ev_port.specs.Vouching.{LongerBy, NothingWaits};
 ghost use Rattle.ev_port.specs.EndSteps.{EndsWent, AllWent, PortStays, no_step};
 ghost use Rattle.ev_port.specs.Faults.{FaultsStay, EndFaults, PollFaults, ListenerFaults};
@@ -15,10 +15,12 @@ ghost use Rattle.ev_port.specs.Ends.{close_write_step, close_step};
 ghost use Rattle.script_port.specs.ScriptEnds.{after_read, after_check, after_close_write, after_close};
 ghost use Rattle.script_port.specs.FailedCalls.{failed_read, failed_write, failed_check};
 ghost use Rattle.script_port.specs.ScriptLinks.{at_end, unmarked, accept_answer, read_answer_at, pending_at, WroteAt, conn_answer_at};
-ghost use Rattle.script_port.specs.ScriptPort.{new_port, next_turn, begin_turn, clock_answer, after_now, after_start, poll_answer};
+ghost use Rattle.script_port.specs.ScriptPort.{new_port, next_turn, begin_behind, begin_turn, clock_answer, after_now, after_start, poll_answer};
 ghost use Rattle.script_port.specs.ScriptPort.{poll_marks, after_poll, failed_poll, accept_tally, after_accept};
 ghost use Rattle.script_port.specs.ScriptTold.{ends_told, port_told, script_faults};
-ghost use Rattle.script_port.specs.ScriptVouched.{NoneWaits, ScriptVouches};
+ghost use Rattle.script_port.specs.ScriptVouched.{NoneWaits, ScriptVouches, VouchesOn};
+ghost use Rattle.script_port.specs.ScriptPlan.{first_plan};
+ghost use Rattle.script_port.specs.ScriptClosing.{MayClose, is_announced, announced, unread};
 
 use crate::port_tally::PortTally;
 use crate::script_links::{ScriptLinks, unmark};
@@ -30,8 +32,9 @@ use std::alloc::Global;
 use std::marker::Model;
 
 /// A port that answers by a script. Each reading of the clock begins its next turn, in milliseconds as the script has
-/// them, and after the last turn gives that turn's again. Calls fail where its lines say so, and an accept never does. A
-/// call on an end of no link of the script changes nothing. Only `write` takes memory.
+/// them, and after the last turn gives that turn's again, or begins the closing turn that was announced by `closing`. Calls
+/// fail where its lines say so, and an accept never does. A call on an end of no link of the script changes nothing; in
+/// closing turns such an end takes every write, as all do, and the bytes are kept nowhere. Only `write` takes memory.
 ///
 /// Own.
 #[derive(Drop)]
@@ -39,6 +42,8 @@ pub struct ScriptPort {
     turns: ScriptTurns,
     begun: usize,
     clock: u64,
+    closing: usize,
+    step: u64,
     links: ScriptLinks,
     tally: PortTally,
 }
@@ -60,7 +65,7 @@ impl ScriptPort {
     /// goes, so that no line takes memory when its turn begins and no byte is kept twice. Linear in the script.
     pub fn new(alloc: Global, script: Script) -> Result<ScriptPort, NoMemory>
         ensures at_first { IfOk result (λ port. port ≡ new_port script.turns) }
-        ensures vouched { IfOk result (λ port. ScriptVouches port script.turns []) }
+        ensures vouched { (step : ℕ) → IfOk result (λ port. ScriptVouches port (first_plan script.turns step) []) }
     {
         let mut links = ScriptLinks::new(alloc);
         for (_, lines) in &script.turns {
@@ -71,9 +76,45 @@ impl ScriptPort {
             turns,
             begun: 0,
             clock: 0,
+            closing: 0,
+            step: 0,
             links,
             tally: PortTally::new(),
         })
+    }
+
+    /// Announces a closing turn, which the next reading of the clock begins, so many milliseconds after its last one. In
+    /// closing turns every end takes every write, no write fails, and an end that the script leaves undecided is connected.
+    /// All turns must have begun, and the step be that of the closing turns before. Constant; the closing turn itself is
+    /// linear in the number of links.
+    ///
+    /// Own.
+    pub fn closing(&mut self, step: u64)
+        requires { MayClose self.old step }
+        ensures after { self.new ≡ announced step self.old }
+        ensures vouched { VouchesOn step self.old self.new }
+    {
+        self.closing += 1;
+        self.step = step;
+    }
+
+    /// How many bytes came in that were not read yet, at the ends of all links; a number that does not fit stays at the
+    /// greatest. Linear in the number of links.
+    ///
+    /// Own.
+    pub fn pending(&self) -> u64
+        ensures { result ≡ unread self.now.links }
+    {
+        self.links.unread()
+    }
+
+    /// How many links wait to be accepted. Constant.
+    ///
+    /// Own.
+    pub fn waiting(&self) -> usize
+        ensures { result ≡ length self.now.links.waiting }
+    {
+        self.links.waiting()
     }
 
     fn begin_turn(&mut self)
@@ -85,7 +126,20 @@ impl ScriptPort {
             self.links.apply_all(self.turns.lines(self.begun));
             self.begun += 1;
         } else {
-            self.links.enter(None);
+            self.begin_behind();
+        }
+    }
+
+    // Behind the turns of the script a closing turn begins if one was announced.
+    fn begin_behind(&mut self)
+        requires { length self.old.turns ≤ self.old.begun }
+        ensures { self.new ≡ begin_behind (is_announced self.old) self.old }
+    {
+        self.links.enter(None);
+        if self.begun < self.turns.len() + self.closing {
+            self.links.take_all();
+            self.clock += self.step;
+            self.begun += 1;
         }
     }
 
@@ -164,11 +218,10 @@ impl ScriptPort {
 
 /// It tells everything of itself and of the ends of the script's links, and nothing of other ends.
 impl Port for ScriptPort {
-    ghost use Rattle.std.specs.Prelude.{List};
-    ghost use Rattle.ev_types.specs.ScriptTurn.{ScriptTurn};
+    ghost use Rattle.script_port.specs.ScriptPlan.{ScriptPlan};
     ghost use Rattle.script_port.specs.PortLaws.{unheard_vouched, waits_no_more};
 
-    ghost Plan = { List ScriptTurn };
+    ghost Plan = { ScriptPlan };
 
     ghost vouches = { ScriptVouches };
 
