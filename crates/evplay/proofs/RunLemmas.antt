@@ -1,105 +1,110 @@
--- What a drive and a script port keep over the turns of a script is a run of that script.
-use Rattle.std.proofs.Common.{◌≡◌, ◌≤◌, ◌+◌, ℕ, true, List, [], length, sym, ap, ◌∙◌, refl, subst, arith, count_by}
+-- What a drive and a script port keep over the turns of a script, and over closing turns behind them, is a run of that script.
+use Rattle.std.proofs.Common.{◌≡◌, ◌≢◌, ◌⊎◌, ◌≤◌, ◌+◌, ◌*◌, ◌^◌, ℕ, true, List, [], length, sym, ap, ◌∙◌, refl, subst, arith, count_by}
+use Rattle.std.specs.List.{All}
 use Rattle.ev_types.specs.AskNumbers.{AsksFit}
 use Rattle.ev_types.specs.ScriptTurn.{ScriptTurn, lines_of}
 use Rattle.ev_types.specs.Trace.{Trace}
+use Rattle.command_words.specs.declared.mode.Ending.{Ending}
 use Rattle.script_text.specs.Script.{ScriptValue}
 use Rattle.relay_model.specs.Answers.{TurnAnswer}
-use Rattle.relay_model.specs.Called.{NamesOpened, IsCalledFor}
-use Rattle.relay_model.specs.Hooked.{AskPlanned, AskedAsPlanned}
-use Rattle.relay_model.specs.Plays.{AlwaysTookAll, EndsPlayed}
+use Rattle.relay_model.specs.Called.{NamesOpened}
+use Rattle.relay_model.specs.Hooked.{AskPlanned}
+use Rattle.relay_model.specs.Plays.{AlwaysTookAll, EndsPlayed, IsAnswered, Plays, TookAll}
 use Rattle.relay_model.specs.RatesKept.{is_turn}
-use Rattle.relay_model.specs.Script.{plan_of}
+use Rattle.relay_model.specs.Script.{closing_step, plan_of}
 use Rattle.relay_model.specs.Settings.{Settings}
 use Rattle.relay_model.specs.Stages.{Stage, at}
-use Rattle.script_port.specs.ScriptState.{PortState}
-use Rattle.script_port.specs.ScriptTold.{port_told, ends_told}
-use Rattle.script_port.specs.ScriptVouched.{NoneWaits, ScriptVouches}
-use Rattle.script_port.proofs.ScriptWaitingLemmas.{always_called, took_called}
 use Rattle.relay_state.specs.State.{State}
 use Rattle.relay_steps.specs.Meaning.{StandsFor, LeftFor}
 use Rattle.relay_laws.specs.Relayed.{StoodBetween}
 use Rattle.relay_laws.specs.Report.{lines_below}
 use Rattle.relay_laws.specs.Spelling.{TimeoutsFit}
 use Rattle.relay_laws.specs.TurnEnds.{AtTurnEnds}
-use Rattle.relay_drive.specs.Known.{known, Point, Question}
-use Rattle.program_end.proofs.TurnCountLemmas.{begun-is}
+use Rattle.relay_drive.specs.DriveValue.{DriveValue}
+use Rattle.relay_drive.specs.Known.{Point}
+use Rattle.script_port.specs.ScriptPlan.{ScriptPlan, IsCalledBy}
+use Rattle.script_port.specs.ScriptState.{PortState}
+use Rattle.script_port.specs.ScriptVouched.{NoneWaits, ScriptVouches}
+use Rattle.script_port.proofs.ScriptWaitingLemmas.{always_called, took_called}
 use Rattle.evplay.specs.HandedIn.{HandedIn}
-use Rattle.evplay.specs.Headline.{IsRun, settings_on, script_run}
-use Rattle.evplay.specs.Run.{script_over, MayRun}
+use Rattle.evplay.specs.Headline.{EndsAs, IsRun, settings_on, script_run}
+use Rattle.evplay.specs.Run.{answer_of, script_over, MayRun}
+use Rattle.evplay.specs.Runs.{CameTo, EndedAt, PortKnown, StandsAfter, closing_plan, point_of}
+use Rattle.evplay.specs.declared.run.RunEnd.{RunEnd}
+use Rattle.evplay.specs.declared.run.RunEnd.TheVariants as run_end
+use Rattle.evplay.proofs.CalledLemmas.{called-by}
 use Rattle.evplay.proofs.HeadlineLemmas.{run-of}
-use Rattle.evplay.proofs.OrderLemmas.{opens-in-order}
 use Rattle.evplay.proofs.PlayedLemmas.{played-of}
+use Rattle.evplay.proofs.TurnLemmas.{between-of}
 
--- what is known of a script port and a trace of its script
-abbrev pub PortKnown : Point → PortState → State → List ScriptTurn → Trace → Type 0
-PortKnown at p s turns t = known at (ScriptVouches p) NoneWaits (port_told p) (ends_told p.links) s.settings (Question.Took turns) t
-
--- a trace of at most as many turns as there are is called for
-called-for : (turns : List ScriptTurn) (t : Trace) (x : Stage) (s : State) → StandsFor t x s → NamesOpened 0 (lines_of turns) →
-    count_by is_turn t ≤ length turns → IsCalledFor turns t
-called-for turns t x s k names few = record {
-  lines = names;
-  turns_left = omega (arith, begun-is turns t, few);
-  in_order = opens-in-order s.settings t (at x s.plain, k.reached);
+-- a run that stands between two turns has ended with them, as far as it went
+pub ended-between : (g : Settings) (n : ℕ) (plan : ScriptPlan) (d : DriveValue) (p : PortState) (t : Trace) →
+    StandsAfter g n plan d p t → EndedAt g n run_end.Went plan d p t
+ended-between g n plan d p t inv = record {
+  settings = inv.settings;
+  asks = inv.stands.asks;
+  turns = omega (arith, inv.turns);
+  seen = inv.seen;
+  left = record { stage = Stage.Between; stands = inv.means; left = refl };
+  ends = inv.ends;
 }
 
--- A run that began with these settings over a port, and came to this trace and this state: the settings are those of the script with the
--- hooks that were handed in, they stayed, the asks fit and are by the plans, and so the run stood wherever a turn ended.
-pub record RanTo (script : ScriptValue) (handed : HandedIn) (n : ℕ) (g : Settings) (first : PortState) (t : Trace) (s : State) : Type 0
-  where
-    pub ready : MayRun n g first
-    pub script_set : g ≡ settings_on script handed
-    pub stayed : s.settings ≡ g
-    pub asks : AsksFit t
-    pub ends : AtTurnEnds (StoodBetween g) t
+pub ended-of : (g : Settings) (n : ℕ) (end : RunEnd) (plan : ScriptPlan) (d : DriveValue) (p : PortState) (t : Trace) →
+    CameTo g n end plan d p t → EndedAt g n end plan d p t
+ended-of g n run_end.Went plan d p t came = ended-between g n plan d p t came
+ended-of g n run_end.PollFailed plan d p t came = came
+ended-of g n (run_end.Stopped link turn) plan d p t came = came
 
-module _ (script : ScriptValue) (handed : HandedIn) (n : ℕ) (g : Settings) (first p : PortState) (t : Trace) (s : State)
-    (ran : RanTo script handed n g first t s) where
-  -- what it comes to where a turn may answer so
-  ended-run : (answer : TurnAnswer) (at : Point) → LeftFor answer t s → count_by is_turn t ≤ n → PortKnown at p s first.turns t →
-      (IsCalledFor first.turns t → EndsPlayed first.turns s.settings.links (length first.turns + 0) answer t) →
-      (handed.tell ≡ true → AskPlanned (plan_of (script_run script)) answer t) →
-      IsRun (script_over script first) handed answer t (lines_below s s.plain.opened)
-  ended-run answer at k few seen played asked =
-      let ready = ran.ready in
+-- a run that went made all the turns that were planned
+counted-of : (g : Settings) (n : ℕ) (plan : ScriptPlan) (d : DriveValue) (p : PortState) (t : Trace) →
+    CameTo g n run_end.Went plan d p t → count_by is_turn t ≡ n
+counted-of g n plan d p t came = came.turns
+
+-- The turns of a run that came to this end, so many closing turns having been announced.
+module _ (script : ScriptValue) (how : Ending) (handed : HandedIn) (n : ℕ) (g : Settings) (first p : PortState) (closing : ℕ)
+    (d : DriveValue) (t : Trace) (ready : MayRun n g first) (on : g ≡ settings_on script handed) where
+  abbrev plan : ScriptPlan
+  plan = closing_plan first.turns (closing_step g) closing
+
+  abbrev over : ScriptValue
+  over = script_over script first
+
+  -- what its answer says of the turns
+  played-to : (end : RunEnd) → CameTo g (n + closing) end plan d p t → IsCalledBy plan t →
+      EndsPlayed first.turns g.links (length first.turns + closing) (answer_of end) t
+  played-to run_end.Went came called =
       let many = ready.many in
-      let over : ScriptValue = script_over script first in
-      let set : s.settings ≡ settings_on over handed = ran.stayed ∙ ran.script_set in
-      let links = ap (λ (z : Settings). z.links) set in
-      let called = called-for first.turns t k.stage s k.stands ready.names (omega (arith, few, many)) in
-      let took = always_called first.turns s.settings.links [] t called seen.0.1 in
-      run-of over handed answer t k.stage s set (ap (λ (z : Settings). z.links) ran.stayed ∙ ready.links)
-      (subst TimeoutsFit (sym ran.stayed) ready.timeouts) ready.brings k.stands k.left
-      (played-of (script_run over) p answer t seen.0.0 called (subst (λ m. AlwaysTookAll first.turns m [] t) links took)
-      (subst (λ m. EndsPlayed first.turns m (length first.turns + 0) answer t) links (played called)))
-      ran.asks asked (subst (λ z. AtTurnEnds (StoodBetween z) t) ran.script_set ran.ends)
+      let turns = came.turns in
+      let took : TookAll first.turns d.state.settings.links t = took_called plan d.state.settings.links t called came.seen.1 in
+      (omega (arith, turns, many), subst (λ (z : Settings). TookAll first.turns z.links t) came.settings took)
+  played-to run_end.PollFailed came called = let many = ready.many in let turns = came.turns in omega (arith, turns, many)
+  played-to (run_end.Stopped link turn) came called =
+      let many = ready.many in
+      let turns = came.turns in
+      let took : TookAll first.turns d.state.settings.links t = took_called plan d.state.settings.links t called came.seen.1.0 in
+      (omega (arith, turns, many), subst (λ (z : Settings). TookAll first.turns z.links t) came.settings took)
 
-  -- All turns were made.
-  pub went-run : StandsFor t Stage.Between s → count_by is_turn t ≡ n → PortKnown Point.Between p s first.turns t →
-      (handed.tell ≡ true → AskedAsPlanned (plan_of (script_run script)) t) →
-      IsRun (script_over script first) handed TurnAnswer.Went t (lines_below s s.plain.opened)
-  went-run k all seen asked =
-      let many = ran.ready.many in
-      let planned : count_by is_turn t ≡ length first.turns + 0 = omega (arith, all, many) in
-      ended-run TurnAnswer.Went Point.Between (record { stage = Stage.Between; stands = k; left = refl }) (omega (arith, all)) seen
-      (λ called. (planned, took_called first.turns s.settings.links t called seen.1)) asked
-
-  -- The last turn was refused with a failed poll.
-  pub failed-run : LeftFor TurnAnswer.PollFault t s → count_by is_turn t ≤ n → PortKnown Point.Accepting p s first.turns t →
-      (handed.tell ≡ true → AskedAsPlanned (plan_of (script_run script)) t) →
-      IsRun (script_over script first) handed TurnAnswer.PollFault t (lines_below s s.plain.opened)
-  failed-run k few seen asked =
-      let many = ran.ready.many in
-      let planned : count_by is_turn t ≤ length first.turns + 0 = omega (arith, few, many) in
-      ended-run TurnAnswer.PollFault Point.Accepting k few seen (λ called. planned) asked
-
-  -- A hook of this link stopped the run.
-  pub stopped-run : (link : ℕ) → LeftFor (TurnAnswer.Stopped link) t s → count_by is_turn t ≤ n →
-      PortKnown Point.Accepted p s first.turns t → (handed.tell ≡ true → AskedAsPlanned (plan_of (script_run script)) t) →
-      IsRun (script_over script first) handed (TurnAnswer.Stopped link) t (lines_below s s.plain.opened)
-  stopped-run link k few seen asked =
-      let many = ran.ready.many in
-      let planned : count_by is_turn t ≤ length first.turns + 0 = omega (arith, few, many) in
-      ended-run (TurnAnswer.Stopped link) Point.Accepted k few seen
-      (λ called. (planned, took_called first.turns s.settings.links t called seen.1.0)) asked
+  pub run-to : (end : RunEnd) → CameTo g (n + closing) end plan d p t →
+      EndsAs how first.turns g (answer_of end) closing t →
+      (handed.tell ≡ true → AskPlanned (plan_of (script_run script)) (answer_of end) t) →
+      IsRun over how handed (answer_of end) t (lines_below d.state d.state.plain.opened)
+  run-to end came ends asked =
+      let e = ended-of g (n + closing) end plan d p t came in
+      let s = d.state in
+      let many = ready.many in
+      let set : s.settings ≡ settings_on over handed = e.settings ∙ on in
+      let links = ap (λ (z : Settings). z.links) e.settings in
+      let called : IsCalledBy plan t =
+      called-by plan t e.left.stage s e.left.stands ready.names (let turns = e.turns in omega (arith, turns, many)) in
+      let took = always_called plan s.settings.links [] t called e.seen.0.1 in
+      let step : closing_step g ≡ closing_step (settings_on over handed) = ap closing_step on in
+      run-of over how handed (answer_of end) t e.left.stage s closing set (links ∙ ready.links)
+      (subst TimeoutsFit (sym e.settings) ready.timeouts) ready.brings ready.small ready.names e.left.stands e.left.left
+      (played-of (script_run over) p closing (answer_of end) t
+      (subst (λ m. ScriptVouches p (closing_plan first.turns m closing) t) step e.seen.0.0)
+      (subst (λ m. IsCalledBy (closing_plan first.turns m closing) t) step called)
+      (subst (λ (z : Settings). AlwaysTookAll first.turns z.links [] t) set took)
+      (subst (λ (z : Settings). EndsPlayed first.turns z.links (length first.turns + closing) (answer_of end) t) on
+      (played-to end came called)))
+      (subst (λ z. EndsAs how first.turns z (answer_of end) closing t) on ends)
+      e.asks asked (subst (λ z. AtTurnEnds (StoodBetween z) t) on e.ends)
