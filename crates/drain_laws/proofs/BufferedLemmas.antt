@@ -1,29 +1,29 @@
 -- How much the buffers of live sides hold at most, and so how many closing turns there are at most.
-use Rattle.std.proofs.Common.{◌≡◌, ℕ, zero, suc, ◌+◌, ◌-◌, ◌*◌, ◌<◌, ◌≤◌, Bool, true, false, if◌then◌else◌, List, [], ◌∷◌, ◌++◌, length, drop}
-use Rattle.std.proofs.Common.{refl, sym, ◌∙◌, ap, subst, arith, length-append, length-drop}
+use Rattle.std.proofs.Common.{◌≡◌, ℕ, zero, suc, ◌+◌, ◌-◌, ◌*◌, ◌≤◌, Bool, true, false, if◌then◌else◌, List, [], length}
+use Rattle.std.proofs.Common.{refl, ap, arith, length-append, length-drop}
 use Rattle.std.specs.Prelude.{sum_by}
 use Rattle.std.specs.List.{flat_map}
 use Rattle.std.proofs.lemmas.Grind.{flat_map-append}
 use Rattle.std.proofs.lemmas.List.Sums.{sum_by-le-sum_by}
 use Rattle.ev_types.specs.declared.side.SideId.{SideId}
-use Rattle.ev_types.specs.ScriptTurn.{ScriptTurn, lines_of}
+use Rattle.ev_types.specs.ScriptTurn.{ScriptTurn}
 use Rattle.ev_types.specs.Sides.{peer}
-use Rattle.ev_types.specs.Trace.{Event, Trace}
-use Rattle.filter_model.specs.Filter.{filter_of}
+use Rattle.ev_types.specs.Trace.{Trace}
 use Rattle.filter_model.proofs.EveryFilter.{every_filter}
 use Rattle.relay_model.specs.Trace.{bytes_read}
 use Rattle.relay_model.specs.Settings.{Settings}
-use Rattle.relay_model.specs.Flow.{Flow, no_flow, input, output, raw_output}
-use Rattle.relay_model.specs.Plain.{Plain, nothing_yet, sides_from, flow_at, is_live, all_sides}
+use Rattle.relay_model.specs.Flow.{no_flow, input, output, raw_output}
+use Rattle.relay_model.specs.Plain.{Plain, nothing_yet, sides_from, flow_at, is_live}
 use Rattle.relay_model.specs.Past.{past}
-use Rattle.relay_model.specs.Rooms.{read_kind, write_kind, read_filter, write_filter, output_at, raw_output_at, input_length, output_length}
+use Rattle.relay_model.specs.Rooms.{read_kind, write_kind, read_filter, write_filter, output_at, raw_output_at}
+use Rattle.relay_model.specs.Rooms.{input_length, output_length}
 use Rattle.relay_model.specs.Stages.{Stage, State, at, start}
 use Rattle.relay_model.specs.Turn.{Reaches}
 use Rattle.relay_model.specs.Onward.{Leads}
 use Rattle.relay_model.specs.Lines.{links_by}
 use Rattle.relay_model.specs.Totals.{opened}
-use Rattle.relay_model.specs.Scripted.{lines, links, waiting}
-use Rattle.relay_model.specs.OpenLinks.{is_link_open, open_links_below, open_link_count}
+use Rattle.relay_model.specs.Scripted.{lines, links}
+use Rattle.relay_model.specs.OpenLinks.{is_link_open, open_links_below}
 use Rattle.relay_model.specs.Work.{work_left, buffered_from}
 use Rattle.relay_model.specs.ClosingTurns.{scripted_links, got_count, buffered_at, all_buffered}
 use Rattle.relay_model.proofs.EndLemmas.{peer-peer}

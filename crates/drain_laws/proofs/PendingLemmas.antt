@@ -1,10 +1,10 @@
 -- What a script brings in and what a run reads of it, summed over all sides of the script's links.
 use Rattle.std.proofs.Common.{◌≡◌, ℕ, ◌+◌, ◌-◌, ◌<◌, ◌≤◌, Bool, true, false, if◌then◌else◌, List, [], ◌∷◌, ◌++◌, length, take, drop}
-use Rattle.std.proofs.Common.{refl, sym, ◌∙◌, ap, subst, arith, length-append, take-append-drop, take_all, count_by}
+use Rattle.std.proofs.Common.{refl, sym, ◌∙◌, ap, arith, length-append, take-append-drop, take_all}
 use Rattle.std.specs.Prelude.{sum_by}
 use Rattle.std.specs.List.{flat_map}
 use Rattle.std.proofs.lemmas.Grind.{flat_map-append}
-use Rattle.std.proofs.lemmas.List.Sums.{sum_by-cons, sum_by-append, sum_by_push, sum_by-le-sum_by}
+use Rattle.std.proofs.lemmas.List.Sums.{sum_by-cons, sum_by_push, sum_by-le-sum_by}
 use Rattle.ev_types.specs.declared.side.SideId.{SideId}
 use Rattle.ev_types.specs.declared.answer.ReadAnswer.{ReadAnswer}
 use Rattle.ev_types.specs.declared.answer.ReadAnswer.TheVariants as read
@@ -27,7 +27,7 @@ use Rattle.relay_model.specs.Totals.{is_opened, opened}
 use Rattle.relay_model.specs.Told.{names}
 use Rattle.relay_model.specs.Lines.{links_by, brings}
 use Rattle.relay_model.specs.Called.{NamesOpened}
-use Rattle.relay_model.specs.Scripted.{begun, lines, links, pending}
+use Rattle.relay_model.specs.Scripted.{begun, lines, pending}
 use Rattle.relay_model.specs.Plays.{IsAnswered}
 use Rattle.relay_model.specs.ClosingTurns.{scripted_links, brought_count, got_count}
 use Rattle.relay_model.proofs.EndLemmas.{same_end-refl}
