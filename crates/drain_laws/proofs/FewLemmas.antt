@@ -147,47 +147,32 @@ module _ (es : List SideId) where
   abbrev is_covered : Event → Bool
   is_covered y = not (moves_on y) || list_any (λ e. moves_on_in e y) es
 
+  covered-by : (y : Event) (side e : SideId) → moves_on_in e y ≡ true → (Has es side × Has es (peer side) → Has es e) →
+      Covers side (same_end side side) → is_covered y ≡ true
+  covered-by y side e moves pick (inl k) =
+      or_right (not (moves_on y)) (list_any (λ v. moves_on_in v y) es) (any-at (λ v. moves_on_in v y) e es (pick k) moves)
+  covered-by y side e moves pick (inr none) = absurd (let same = same_end-refl side in cc)
+
+  carried : (y : Event) (e : SideId) → (gets_by e y || gives_of e y || ended_by e y) ≡ true → moves_on_in e y ≡ true
+  carried y e h = or_left (carries_on e y) (connected_by e y) h
+
   one-covered : (y : Event) → ((z : SideId) → Covers z (starts_at z y)) → is_covered y ≡ true
-  one-covered (entry.Conn side conn.Connected, bytes) h = go (h side)
-    where
-      y : Event
-      y = (entry.Conn side conn.Connected, bytes)
-
-      go : Covers side (same_end side side) → is_covered (entry.Conn side conn.Connected, bytes) ≡ true
-      go (inl k) = any-at (λ e. moves_on_in e y) side es k.0
-          (or_right (carries_on side y) (connected_by side y) (same_end-refl side))
-      go (inr none) = absurd (let same = same_end-refl side in cc)
-  one-covered (entry.Read side room (read.Got n), bytes) h = go (h side)
-    where
-      y : Event
-      y = (entry.Read side room (read.Got n), bytes)
-
-      go : Covers side (same_end side side) → is_covered (entry.Read side room (read.Got n), bytes) ≡ true
-      go (inl k) = any-at (λ e. moves_on_in e y) side es k.0
-          (or_left (carries_on side y) (connected_by side y) (or_left (gets_by side y || gives_of side y) (ended_by side y)
-          (or_left (gets_by side y) (gives_of side y) (same_end-refl side))))
-      go (inr none) = absurd (let same = same_end-refl side in cc)
-  one-covered (entry.Read side room read.Ended, bytes) h = go (h side)
-    where
-      y : Event
-      y = (entry.Read side room read.Ended, bytes)
-
-      go : Covers side (same_end side side) → is_covered (entry.Read side room read.Ended, bytes) ≡ true
-      go (inl k) = any-at (λ e. moves_on_in e y) side es k.0
-          (or_left (carries_on side y) (connected_by side y)
-          (or_right (gets_by side y || gives_of side y) (ended_by side y) (same_end-refl side)))
-      go (inr none) = absurd (let same = same_end-refl side in cc)
-  one-covered (entry.Write side offered (write.Took n), bytes) h = go (h side)
-    where
-      y : Event
-      y = (entry.Write side offered (write.Took n), bytes)
-
-      go : Covers side (same_end side side) → is_covered (entry.Write side offered (write.Took n), bytes) ≡ true
-      go (inl k) = any-at (λ e. moves_on_in e y) (peer side) es k.1
-          (or_left (carries_on (peer side) y) (connected_by (peer side) y)
-          (or_left (gets_by (peer side) y || gives_of (peer side) y) (ended_by (peer side) y)
-          (or_right (gets_by (peer side) y) (gives_of (peer side) y) (ap (same_end side) (peer-peer side) ∙ same_end-refl side))))
-      go (inr none) = absurd (let same = same_end-refl side in cc)
+  one-covered (entry.Conn side conn.Connected, bytes) h =
+      let y : Event = (entry.Conn side conn.Connected, bytes) in
+      covered-by y side side (or_right (carries_on side y) (connected_by side y) (same_end-refl side)) (λ k. k.0) (h side)
+  one-covered (entry.Read side room (read.Got n), bytes) h =
+      let y : Event = (entry.Read side room (read.Got n), bytes) in
+      covered-by y side side (carried y side (or_left (gets_by side y || gives_of side y) (ended_by side y)
+      (or_left (gets_by side y) (gives_of side y) (same_end-refl side)))) (λ k. k.0) (h side)
+  one-covered (entry.Read side room read.Ended, bytes) h =
+      let y : Event = (entry.Read side room read.Ended, bytes) in
+      covered-by y side side (carried y side (or_right (gets_by side y || gives_of side y) (ended_by side y) (same_end-refl side)))
+      (λ k. k.0) (h side)
+  one-covered (entry.Write side offered (write.Took n), bytes) h =
+      let y : Event = (entry.Write side offered (write.Took n), bytes) in
+      let e : SideId = peer side in
+      covered-by y side e (carried y e (or_left (gets_by e y || gives_of e y) (ended_by e y)
+      (or_right (gets_by e y) (gives_of e y) (ap (same_end side) (peer-peer side) ∙ same_end-refl side)))) (λ k. k.1) (h side)
   one-covered _ h = refl
 
   pub all-covered : (part : Trace) → ((z : SideId) → Covers z (list_any (starts_at z) part)) → MovesAreOf es part
