@@ -2,3 +2,8 @@ pub mod CountedLemmas
 pub mod UnfailedLemmas
 pub mod GoodByteLemmas
 pub mod FreeCauseLemmas
+pub mod SumLemmas
+pub mod PendingLemmas
+pub mod BufferedLemmas
+pub mod FewLemmas
+pub mod FewTurnLemmas
