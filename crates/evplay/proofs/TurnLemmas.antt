@@ -1,6 +1,6 @@
 -- One turn more of a run: it is not worn, and the run stands between two turns again, or the turn ended it.
-use Rattle.std.proofs.Common.{◌≡◌, ◌≢◌, ◌≤◌, ◌<◌, ◌+◌, ◌*◌, ◌^◌, ◌++◌, ℕ, Bool, false, Option, Some, None, [], length, refl, subst, arith, ◌∙◌}
-use Rattle.std.specs.Prelude.{count_by}
+use Rattle.std.proofs.Common.{◌≡◌, ◌≤◌, ◌<◌, ◌+◌, ◌*◌, ◌^◌, ◌++◌, ℕ, false, Option, Some, None, [], length, refl, sym, ap, subst, arith, ◌∙◌, inl}
+use Rattle.std.specs.Prelude.{count_by, unwrap_or, IsSomeAnd}
 use Rattle.ev_types.specs.Growth.{Grew}
 use Rattle.ev_types.specs.Trace.{Trace}
 use Rattle.ev_port.specs.Faults.{Faults}
@@ -14,22 +14,26 @@ use Rattle.relay_drive.specs.Bounds.{IsWithin, most_of_turn}
 use Rattle.relay_drive.specs.DriveStands.{DriveWent, turn_answer_of, turn_end_of}
 use Rattle.relay_drive.specs.DriveValue.{DriveValue, is_worn}
 use Rattle.relay_drive.specs.Known.{known, Point, Question}
-use Rattle.relay_drive.specs.Phases.{CutTurn, EndsTurn, Turns}
+use Rattle.relay_drive.specs.Phases.{CutTurn, EndsTurn, Turns, is_open_fault}
+use Rattle.relay_drive.specs.declared.fault.DriveFault.{DriveFault}
 use Rattle.relay_drive.specs.declared.fault.DriveFault.TheVariants as fault
 use Rattle.relay_drive.specs.declared.fault.TurnEnd.{TurnEnd}
 use Rattle.relay_drive.specs.declared.fault.TurnEnd.TheVariants as turn_end
+use Rattle.relay_drive.proofs.HookEvents.{asks_fit-none}
+use Rattle.relay_drive.proofs.NewStands.{new_relay_stands}
 use Rattle.relay_drive.proofs.BoundLaws.{turn_is_bounded, within_is_not_worn}
 use Rattle.relay_laws.specs.Relayed.{StoodBetween}
 use Rattle.relay_laws.specs.TurnEnds.{AtTurnEnds}
 use Rattle.relay_laws.proofs.RelayedLemmas.{stood-at}
-use Rattle.relay_laws.proofs.TurnEndLemmas.{ends-grow}
+use Rattle.relay_laws.proofs.TurnEndLemmas.{ends-none, ends-grow}
 use Rattle.program_end.proofs.TurnCountLemmas.{turn-once, turn-first, end-begins, cut-poll-once, cut-poll-first, count-append}
-use Rattle.script_port.specs.ScriptPlan.{ScriptPlan}
+use Rattle.script_port.specs.ScriptPlan.{first_plan, ScriptPlan}
 use Rattle.script_port.specs.ScriptState.{PortState}
 use Rattle.script_port.specs.ScriptTold.{port_told, ends_told}
 use Rattle.script_port.specs.ScriptVouched.{NoneWaits, ScriptVouches}
-use Rattle.evplay.specs.Run.{first_drive}
+use Rattle.evplay.specs.Run.{first_drive, MayRun}
 use Rattle.evplay.specs.Runs.{PortKnown, StandsAfter, EndedAt}
+use Rattle.evplay.specs.declared.run.RunEnd.{RunEnd}
 use Rattle.evplay.specs.declared.run.RunEnd.TheVariants as run_end
 
 -- what grew from a trace is that trace with what was added
@@ -105,18 +109,61 @@ module _ (g : Settings) (n : ℕ) (plan : ScriptPlan) (d new : DriveValue) (p q 
       }
 
   -- a turn that was refused with a failed poll
-  pub failed-more : (w : DriveWent (CutTurn fault.PollFault) (LeftFor (turn_answer_of fault.PollFault)) Tells false d new log log'
-      (KnownBy Point.Between p) (KnownBy Point.Accepting q) faults faults') →
+  pub failed-more : (f : DriveFault) → f ≡ fault.PollFault → (w : DriveWent (CutTurn f) (LeftFor (turn_answer_of f)) Tells
+      (is_open_fault f) d new log log' (KnownBy Point.Between p) (KnownBy Point.Accepting q) faults faults') →
       EndedAt g (n + 1) run_end.PollFailed plan new q (t ++ w.added)
-  failed-more w =
+  failed-more f polled w =
       let s = d.state in
-      let once : count_by is_turn w.added ≡ 1 = cut-poll-once w.does in
+      let u = t ++ w.added in
+      let cut : CutTurn fault.PollFault s w.added new.state = subst (λ z. CutTurn z s w.added new.state) polled w.does in
+      let once : count_by is_turn w.added ≡ 1 = cut-poll-once cut in
       record {
         settings = w.settings ∙ inv.settings;
         asks = (w.stands t inv.stands).asks;
         turns = omega (arith, count-append t w.added, once, inv.turns);
         seen = w.told (Question.Took plan) t inv.stands inv.seen;
-        left = w.means t inv.means;
-        ends = ends-grow (StoodBetween g) t w.added inv.ends (stood-at g t Stage.Between s inv.settings inv.means)
-            (cut-poll-first w.does) once;
+        left = subst (λ z. LeftFor (turn_answer_of z) u new.state) polled (w.means t inv.means);
+        ends = ends-grow (StoodBetween g) t w.added inv.ends (stood-at g t Stage.Between s inv.settings inv.means) (cut-poll-first cut) once;
       }
+
+-- it ended with at most more turns
+pub ended-within : {g : Settings} {n m : ℕ} {end : RunEnd} {plan : ScriptPlan} {d : DriveValue} {p : PortState} {t : Trace} →
+    EndedAt g n end plan d p t → n ≤ m → EndedAt g m end plan d p t
+ended-within ended le = let few = ended.turns in record {
+  settings = ended.settings;
+  asks = ended.asks;
+  turns = omega (arith, few, le);
+  seen = ended.seen;
+  left = ended.left;
+  ends = ended.ends;
+}
+
+-- the trace that is told, or none
+abbrev pub trace_in : Option Trace → Trace
+trace_in log = unwrap_or log []
+
+-- what holds of the trace that is told
+pub some-and : (P : Trace → Type 0) (log : Option Trace) (t : Trace) → log ≡ Some t → P t → IsSomeAnd log P
+some-and P log t is p = subst (λ z. IsSomeAnd z P) (sym is) p
+
+-- a log that is told one turn more is that of the longer trace
+pub told-longer : (log log' : Option Trace) (added : Trace) → log ≡ Some (trace_in log) → Grew log log' added →
+    (trace_in log' ≡ trace_in log ++ added) × (log' ≡ Some (trace_in log'))
+told-longer log log' added is grew =
+    let now = grew-is log log' (trace_in log) added is grew in
+    let same : trace_in log' ≡ trace_in log ++ added = ap trace_in now in
+    (same, now ∙ ap Some (sym same))
+
+-- a run as it begins
+pub first-stands : (g : Settings) (n : ℕ) (first : PortState) (step : ℕ) → MayRun n g first →
+    StandsAfter g 0 (first_plan first.turns step) (first_drive g) first []
+first-stands g n first step ready = record {
+  calm = refl;
+  settings = refl;
+  stands = record { fits = record { time = refl; last = refl; opened = refl }; asks = asks_fit-none; entries = refl };
+  turns = refl;
+  seen = ((ready.vouched step, tt), inl (λ called. refl));
+  means = new_relay_stands g ready.groups;
+  ends = ends-none (StoodBetween g);
+  within = first-within g ready.links ready.hooks;
+}
