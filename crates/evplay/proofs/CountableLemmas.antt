@@ -9,7 +9,7 @@ use Rattle.token_bucket.specs.declared.limit.LimitCfg.{LimitCfg}
 use Rattle.ev_types.specs.ScriptTurn.{ScriptTurn, lines_of}
 use Rattle.ev_types.specs.declared.turn_line.TurnLine.{TurnLine}
 use Rattle.ev_types.specs.declared.turn_line.TurnLine.TheVariants as turn
-use Rattle.script_text.specs.Brought.{brought} as text
+use Rattle.script_text.specs.Brought as text
 use Rattle.relay_model.specs.Settings.{GroupSet, Settings}
 use Rattle.relay_model.specs.Called.{NamesOpened}
 use Rattle.relay_model.specs.ClosingTurns.{brought_count, scripted_links}
@@ -18,7 +18,7 @@ use Rattle.drain_laws.specs.CanDrain.{all_brought, closing_turn_bound, last_mome
 use Rattle.evplay.specs.Run.{AreSmall}
 
 -- each number of a list is at most this one
-abbrev AreWithin : ℕ → List ℕ → Type 0
+abbrev pub AreWithin : ℕ → List ℕ → Type 0
 AreWithin m [] = Unit {0}
 AreWithin m (x ∷ xs) = (x ≤ m) × AreWithin m xs
 

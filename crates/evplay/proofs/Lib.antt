@@ -6,6 +6,7 @@ pub mod DrainedLemmas
 pub mod HeadlineLemmas
 pub mod TurnLemmas
 pub mod RunLemmas
+pub mod ClosingLemmas
 pub mod FaultLemmas
 pub mod ScriptLemmas
 pub mod BroughtLemmas
