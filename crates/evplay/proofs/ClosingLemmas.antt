@@ -38,7 +38,7 @@ use Rattle.drain_laws.proofs.CountedLemmas.{counts_are_as_told}
 use Rattle.drain_laws.proofs.PendingLemmas.{unread_is_pending}
 use Rattle.drain_laws.proofs.BufferedLemmas.{most_is_bounded}
 use Rattle.evplay.specs.Run.{AreSmall}
-use Rattle.evplay.specs.Runs.{counted_most, closing_plan, StandsAfter}
+use Rattle.evplay.specs.CameTo.{counted_most, closing_plan, StandsAfter}
 use Rattle.evplay.proofs.CalledLemmas.{called-by}
 use Rattle.evplay.proofs.CountableLemmas.{bound-within, moment-within, product-within, AreWithin}
 use Rattle.evplay.proofs.PlayedLemmas.{stands-there}

@@ -14,7 +14,7 @@ use Rattle.relay_model.specs.Settings.{GroupSet, Settings}
 use Rattle.relay_model.specs.Called.{NamesOpened}
 use Rattle.relay_model.specs.ClosingTurns.{brought_count, scripted_links}
 use Rattle.relay_model.specs.Script.{closing_step, greatest, tick_lengths}
-use Rattle.drain_laws.specs.CanDrain.{all_brought, closing_turn_bound, last_moment, IsCountable}
+use Rattle.drain_laws.specs.CanDrain.{closing_turn_bound, last_moment, IsCountable}
 use Rattle.evplay.specs.Run.{AreSmall}
 
 -- each number of a list is at most this one

@@ -32,7 +32,7 @@ use Rattle.script_port.specs.ScriptState.{PortState}
 use Rattle.script_port.specs.ScriptTold.{port_told, ends_told}
 use Rattle.script_port.specs.ScriptVouched.{NoneWaits, ScriptVouches}
 use Rattle.evplay.specs.Run.{first_drive, MayRun}
-use Rattle.evplay.specs.Runs.{PortKnown, StandsAfter, EndedAt}
+use Rattle.evplay.specs.CameTo.{PortKnown, StandsAfter, EndedAt}
 use Rattle.evplay.specs.declared.run.RunEnd.{RunEnd}
 use Rattle.evplay.specs.declared.run.RunEnd.TheVariants as run_end
 

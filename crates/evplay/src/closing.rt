@@ -12,7 +12,7 @@ ghost use Rattle.relay_drive.specs.Seats.{telling, AreSeated};
 ghost use Rattle.program_end.specs.Planned.{AllToldOf};
 ghost use Rattle.script_port.specs.ScriptPlan.{first_plan};
 ghost use Rattle.evplay.specs.Run.{AreSmall};
-ghost use Rattle.evplay.specs.Runs.{counted_most, CameToEnd, StandsAfter, ToldTo};
+ghost use Rattle.evplay.specs.CameTo.{counted_most, CameToEnd, StandsAfter, ToldTo};
 
 use crate::run::RunEnd;
 use crate::turns::end_by;
