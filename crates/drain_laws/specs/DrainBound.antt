@@ -55,7 +55,7 @@ ClosingTurnsAreFew = (g : Settings) (turns : List ScriptTurn) (closing_by : ℕ)
 
 -- every link of a script was opened, and is done
 pub record AllLinksDone (turns : List ScriptTurn) (t : Trace) : Type 0 where
-  pub opened : opened t ≡ length (scripted_links turns)
+  pub all_opened : opened t ≡ length (scripted_links turns)
   pub done : (link : ℕ) → link < opened t → link_state_in t link ≡ state.Done
 
 -- Over a script that can be drained, a run that goes on with closing turns until it ends brings every link to its end.
