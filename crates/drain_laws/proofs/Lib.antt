@@ -1,1 +1,2 @@
 pub mod AnsweredTurns
+pub mod TurnPlaces
