@@ -1,2 +1,4 @@
 pub mod AnsweredTurns
 pub mod TurnPlaces
+pub mod StepLemmas
+pub mod ClosingPairs
