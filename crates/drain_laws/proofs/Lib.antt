@@ -2,3 +2,4 @@ pub mod AnsweredTurns
 pub mod TurnPlaces
 pub mod StepLemmas
 pub mod ClosingPairs
+pub mod FreshLinks
