@@ -3,3 +3,4 @@ pub mod TurnPlaces
 pub mod StepLemmas
 pub mod ClosingPairs
 pub mod FreshLinks
+pub mod DrainedLemmas
