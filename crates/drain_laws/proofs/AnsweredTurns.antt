@@ -2,9 +2,9 @@
 -- and no turn so far is later than the clock of a closing turn.
 use Rattle.std.proofs.Common.{◌≡◌, ℕ, zero, suc, ◌+◌, ◌-◌, ◌*◌, ◌<◌, ◌≤◌, max, min, Bool, true, false, ◌||◌, if◌then◌else◌, List, []}
 use Rattle.std.proofs.Common.{◌∷◌, ◌++◌, length, map, fold}
-use Rattle.std.proofs.Common.{count_by, Option, None, ◌⊎◌, inl, inr, refl, sym, ◌∙◌, ap, subst, arith}
-use Rattle.std.specs.Prelude.{All, slice_index_or, unwrap_or}
-use Rattle.std.specs.List.{list_any, last_or}
+use Rattle.std.proofs.Common.{count_by, Option, ◌⊎◌, inl, inr, refl, sym, ◌∙◌, ap, subst, arith}
+use Rattle.std.specs.Prelude.{All, slice_index_or}
+use Rattle.std.specs.List.{list_any}
 use Rattle.std.proofs.lemmas.Bool.{cases_lt, or_left, or_right, or_parts}
 use Rattle.std.proofs.lemmas.List.{get_or_past}
 use Rattle.std.proofs.lemmas.List.Elements.{All-get_or}
@@ -170,7 +170,8 @@ module _ (turns : List ScriptTurn) (step : ℕ) where
     pub clock : ms ≡ turn_time before (reading turns step (begun turns before))
 
   abbrev TurnsAnswered : Trace → Type 0
-  TurnsAnswered t = (before after : Trace) (ms : ℕ) (bytes : List ℕ) → t ≡ before ++ (entry.Turn ms, bytes) ∷ after → AnsweredTurn before ms
+  TurnsAnswered t = (before after : Trace) (ms : ℕ) (bytes : List ℕ) → t ≡ before ++ (entry.Turn ms, bytes) ∷ after →
+      AnsweredTurn before ms
 
   turns-push : (t added : Trace) → StepKind t added → IsAnswered turns step t → TurnsAnswered t → TurnsAnswered (t ++ added)
   turns-push t added (inl now) answered h before after ms bytes is =

@@ -1,10 +1,8 @@
 -- Of two closing turns in a row one has an event that moves on: a link is open between them, and the clock goes on by a step before each.
-use Rattle.std.proofs.Common.{◌≡◌, ℕ, ◌+◌, ◌-◌, ◌*◌, ◌≤◌, max, min, Bool, true, false, ◌||◌, List, [], ◌∷◌, ◌++◌, length, count_by, ◌⊎◌, inl, inr}
+use Rattle.std.proofs.Common.{◌≡◌, ℕ, ◌+◌, ◌-◌, ◌*◌, ◌≤◌, max, min, true, false, ◌||◌, List, [], ◌∷◌, ◌++◌, length, count_by, inl, inr}
 use Rattle.std.proofs.Common.{refl, sym, ◌∙◌, ap, subst, arith, append_assoc, append-nil}
 use Rattle.std.specs.List.{flat_map, list_any, AllByRecursion}
 use Rattle.std.proofs.Math.Nat.{mul-le-mul_left}
-use Rattle.ev_types.specs.declared.side.SideId.{SideId}
-use Rattle.ev_types.specs.declared.why.Cause.{Cause}
 use Rattle.ev_types.specs.declared.entry.Entry.TheVariants as entry
 use Rattle.ev_types.specs.declared.status.LinkCount.{LinkCount}
 use Rattle.ev_types.specs.ScriptTurn.{ScriptTurn}
@@ -27,9 +25,10 @@ use Rattle.relay_model.proofs.ClosingGoes.{two_closing_turns_go_on}
 use Rattle.relay_model.proofs.ToldLemmas.{kept}
 use Rattle.relay_laws.specs.Relayed.{IsRelayed, StoodAt, StoodBetween}
 use Rattle.drain_laws.specs.CanDrain.{CanDrain, last_moment}
-use Rattle.drain_laws.proofs.AnsweredTurns.{answered-turn, reading-closing, clock-within, greatest_time-append, last_time-within, begun-append}
+use Rattle.drain_laws.proofs.AnsweredTurns.{answered-turn, reading-closing, clock-within, greatest_time-append, last_time-within}
+use Rattle.drain_laws.proofs.AnsweredTurns.{begun-append}
 use Rattle.drain_laws.proofs.TurnPlaces.{turn-bare, between-one, leads-on, IsTurn, AtEnd, parts-begin}
-use Rattle.drain_laws.proofs.StepLemmas.{side-ticks, group-ticks}
+use Rattle.drain_laws.proofs.ClockSteps.{side-ticks, group-ticks}
 
 -- an event with which a turn begins
 record IsBeginning (y : Event) : Type 0 where
@@ -140,7 +139,9 @@ module _ (g : Settings) (turns : List ScriptTurn) (t : Trace) (links : List Link
 
         draining : IsDraining g u1 s1.plain
         draining = record {
-          some_open = subst (λ (p : Plain). 1 ≤ open_link_count p) (between-one g u1 some_open.0 s1.plain some_open.1 s1.reached) some_open.2;
+          some_open =
+              subst (λ (p : Plain). 1 ≤ open_link_count p)
+              (between-one g u1 some_open.0 s1.plain some_open.1 s1.reached) some_open.2;
           accounted = s1.accounted;
           frees = frees-before t u1 ((entry.Turn two, []) ∷ (second ++ rest)) is1 frees;
         }
@@ -182,7 +183,8 @@ module _ (g : Settings) (turns : List ScriptTurn) (t : Trace) (links : List Link
           list_any is_turn second ≡ false → AtEnd rest → (list_any moves_on first || list_any moves_on second) ≡ true
       pair-goes m one b1 first two b2 second rest cut quiet still end =
           two-go front one first two second rest clean quiet still end
-          (let a = begun-append scripted m in omega (arith, a, all)) (subst (λ v. BetweenTurns g v (λ s. 1 ≤ open_link_count s)) same opens)
+          (let a = begun-append scripted m in omega (arith, a, all))
+          (subst (λ v. BetweenTurns g v (λ s. 1 ≤ open_link_count s)) same opens)
         where
           front : Trace
           front = scripted ++ m

@@ -1,233 +1,166 @@
--- Where a run ends and no link is open, every link of its script was opened and is done: a link that was opened in the last turn would be
--- open, so all were opened before; and each free was of a side that was done.
-use Rattle.std.proofs.Common.{◌≡◌, ℕ, zero, suc, ◌+◌, ◌-◌, ◌<◌, ◌≤◌, Bool, true, false, ◌&&◌, ◌||◌, not, if◌then◌else◌, List, [], ◌∷◌, ◌++◌, length}
-use Rattle.std.proofs.Common.{take, drop, fold, count_by, ◌⊎◌, inl, inr, refl, sym, ◌∙◌, ap, subst, arith}
+-- Over a script that can be drained, closing turns that begin where the last turn of the script ends bring every link to its end: they are
+-- fewer than the most, so none is left open as they end.
+use Rattle.std.proofs.Common.{◌≡◌, ℕ, ◌+◌, ◌-◌, ◌*◌, ◌<◌, ◌≤◌, true, false, ◌&&◌, List, [], ◌∷◌, ◌++◌, length, count_by, inl, inr}
+use Rattle.std.proofs.Common.{sym, ◌∙◌, ap, subst, arith}
+use Rattle.std.specs.Prelude.{nat_lt, nat_le}
 use Rattle.std.specs.List.{flat_map, list_any}
-use Rattle.std.proofs.lemmas.Bool.{cases_lt, or_left, or_right, or_cases, or_parts}
-use Rattle.std.proofs.lemmas.List.{take_all, length-drop}
-use Rattle.std.proofs.lemmas.List.Sums.{sum_by-cons}
-use Rattle.ev_types.specs.declared.side.Side.TheVariants.{In, Out}
-use Rattle.ev_types.specs.declared.side.SideId.{SideId}
-use Rattle.ev_types.specs.declared.why.Cause.{Cause}
-use Rattle.ev_types.specs.declared.why.Cause.TheVariants as cause
+use Rattle.std.proofs.lemmas.Bool.{cases_lt, lt-ltb, le-leb, and_parts, leb-true, or_parts}
+use Rattle.std.proofs.Math.Nat.{mul-le-mul_left}
 use Rattle.ev_types.specs.declared.entry.Entry.TheVariants as entry
-use Rattle.ev_types.specs.declared.status.LinkState.TheVariants as state
-use Rattle.ev_types.specs.ScriptTurn.{ScriptTurn, lines_of}
-use Rattle.ev_types.specs.Sides.{peer}
-use Rattle.ev_types.specs.Trace.{Event, Trace}
-use Rattle.relay_model.specs.Trace.{has_ended, is_write_closed}
+use Rattle.ev_types.specs.declared.status.LinkCount.{LinkCount}
+use Rattle.ev_types.specs.ScriptTurn.{ScriptTurn}
+use Rattle.ev_types.specs.Times.{latest}
+use Rattle.ev_types.specs.Trace.{Trace}
 use Rattle.relay_model.specs.Settings.{Settings}
-use Rattle.relay_model.specs.Plain.{Plain, is_live}
+use Rattle.relay_model.specs.Plain.{Plain}
 use Rattle.relay_model.specs.Stages.{Stage, at}
 use Rattle.relay_model.specs.Turn.{Reaches}
-use Rattle.relay_model.specs.Lines.{links_by}
-use Rattle.relay_model.specs.Causes.{HasCause}
-use Rattle.relay_model.specs.Told.{freed_by, is_freed, SideTold}
-use Rattle.relay_model.specs.Totals.{is_opened, opened, opened_by, opened_in_turn}
-use Rattle.relay_model.specs.Scripted.{begun, lines, links, waiting}
-use Rattle.relay_model.specs.Plays.{IsAnswered, TookAll}
+use Rattle.relay_model.specs.Onward.{Leads}
+use Rattle.relay_model.specs.Answers.{TurnAnswer}
+use Rattle.relay_model.specs.Script.{closing_step}
+use Rattle.relay_model.specs.RatesKept.{is_turn}
+use Rattle.relay_model.specs.Scripted.{begun}
+use Rattle.relay_model.specs.Plays.{IsAnswered, AlwaysTookAll, TookAll}
 use Rattle.relay_model.specs.Stands.{AllAccounted}
-use Rattle.relay_model.specs.OpenLinks.{is_link_open, open_links_below, open_link_count, FreesAreDone}
-use Rattle.relay_model.specs.ClosingTurns.{scripted_links}
-use Rattle.relay_model.proofs.EndLemmas.{same_end-eq}
-use Rattle.relay_model.proofs.FineCalls.{opens-as-scripted}
-use Rattle.relay_model.proofs.ToldLemmas.{Kept, kept}
-use Rattle.relay_model.proofs.TraceLemmas.{is_write_closed-append}
-use Rattle.relay_state.specs.Closing.{in_side, out_side}
-use Rattle.relay_laws.specs.Links.{done_by, is_done, link_state_in}
-use Rattle.drain_laws.specs.DrainBound.{AllLinksDone}
-use Rattle.drain_laws.proofs.FreshLinks.{fresh-links}
+use Rattle.relay_model.specs.OpenLinks.{open_link_count, FreesAreDone}
+use Rattle.relay_model.specs.Work.{PairsMoveOn}
+use Rattle.relay_model.specs.ClosingTurns.{most_closing_turns, makes_one_more, BetweenTurns, Drains}
+use Rattle.relay_model.proofs.DrainLemmas.{drains_in_most}
+use Rattle.relay_laws.specs.Relayed.{IsRelayed}
+use Rattle.relay_laws.specs.TurnEnds.{begins_turn}
+use Rattle.drain_laws.specs.CanDrain.{CanDrain, IsCountable, last_moment, closing_turn_bound}
+use Rattle.drain_laws.specs.DrainBound.{FreesAreOfDone, MostIsBounded, ClosingTurnsAreFew, AllLinksDone}
+use Rattle.drain_laws.proofs.AnsweredTurns.{begun-append}
+use Rattle.drain_laws.proofs.TurnPlaces.{leads-on, between-one, Cut, cut, AtEnd}
+use Rattle.drain_laws.proofs.ClosingPairs.{stood-whole, answered-there, pairs-go}
+use Rattle.drain_laws.proofs.LinksDone.{opened-lives, none-left, all-taken}
 
--- Frees
+-- a trace that begins with a turn has nothing before its first turn
+no-head : (t head rest : Trace) → begins_turn t ≡ true → t ≡ head ++ rest → list_any is_turn head ≡ false → t ≡ rest
+no-head t [] rest begins is quiet = is
+no-head t (y ∷ head) rest begins is quiet =
+    absurd (let a : is_turn y ≡ true = sym (ap begins_turn is) ∙ begins in
+    let b : is_turn y ≡ false = (or_parts (is_turn y) (list_any is_turn head) quiet).0 in
+    let c : true ≡ false = sym a ∙ b in cc)
 
--- the free of a side in a trace
-record FreeAt (e : SideId) (t : Trace) : Type 0 where
-  before : Trace
-  after : Trace
-  why : Cause
-  moved : ℕ
-  given : ℕ
-  bytes : List ℕ
-  is : t ≡ before ++ (entry.Freed e why moved given, bytes) ∷ after
+-- steps lead on over closing turns
+leads-closing : (g : Settings) (t : Trace) (s : Plain) → Reaches g t (at Stage.Between s) → (closing : Trace) →
+    begins_turn closing ≡ true → (after : Plain) → Reaches g (t ++ closing) (at Stage.Between after) →
+    Leads g t (at Stage.Between s) (t ++ closing) (at Stage.Between after)
+leads-closing g t s r [] begins after m = absurd (cc)
+leads-closing g t s r (y ∷ rest) begins after m = leads-on g t s r y begins rest (at Stage.Between after) m
 
-free-at : (e : SideId) (t : Trace) → is_freed e t ≡ true → FreeAt e t
-free-at e [] h = absurd (cc)
-free-at e (y ∷ t) h = go (λ k. free-at e t k) (or_cases (freed_by e y) (is_freed e t) h)
-  where
-    here : (y : Event) → freed_by e y ≡ true → FreeAt e (y ∷ t)
-    here (entry.Freed side why moved given, bytes) k = record {
-      before = [];
-      after = t;
-      why = why;
-      moved = moved;
-      given = given;
-      bytes = bytes;
-      is = ap (λ v. (entry.Freed v why moved given, bytes) ∷ t) (same_end-eq side e k);
-    }
-    here _ k = absurd (cc)
+one-more-open : (turns : List ScriptTurn) (most : ℕ) (t : Trace) (s : Plain) → makes_one_more turns most t s ≡ true → 1 ≤ open_link_count s
+one-more-open turns most t s h =
+    leb-true 1 (open_link_count s) (and_parts (nat_le 1 (open_link_count s)) (nat_lt (begun turns t - length turns) most) h).0
 
-    go : (is_freed e t ≡ true → FreeAt e t) → (freed_by e y ≡ true) ⊎ (is_freed e t ≡ true) → FreeAt e (y ∷ t)
-    go later (inl k) = here y k
-    go later (inr k) =
-        let f = later k in
-        record {
-          before = y ∷ f.before;
-          after = f.after;
-          why = f.why;
-          moved = f.moved;
-          given = f.given;
-          bytes = f.bytes;
-          is = ap (λ v. y ∷ v) f.is;
-        }
-
--- a side that was freed was freed as done
-freed-done : (e : SideId) (t : Trace) → FreesAreDone t → is_freed e t ≡ true → is_done e t ≡ true
-freed-done e [] frees h = absurd (cc)
-freed-done e (y ∷ t) frees h =
-    go (λ k. freed-done e t (λ before after side why moved given bytes is.
-    frees (y ∷ before) after side why moved given bytes (ap (λ v. y ∷ v) is)) k) (or_cases (freed_by e y) (is_freed e t) h)
-  where
-    here : (z : Event) → y ≡ z → freed_by e z ≡ true → done_by e z ≡ true
-    here (entry.Freed side why moved given, bytes) same k =
-        subst (λ w. done_by e (entry.Freed side w moved given, bytes) ≡ true)
-        (sym (frees [] t side why moved given bytes (ap (λ v. v ∷ t) same))) k
-    here _ same k = absurd (cc)
-
-    go : (is_freed e t ≡ true → is_done e t ≡ true) → (freed_by e y ≡ true) ⊎ (is_freed e t ≡ true) → (done_by e y || is_done e t) ≡ true
-    go later (inl k) = or_left (done_by e y) (is_done e t) (here y refl k)
-    go later (inr k) = or_right (done_by e y) (is_done e t) (later k)
-
--- Open links
-
-some-open : (s : Plain) (k n : ℕ) → k < n → is_link_open s k ≡ true → 1 ≤ open_links_below s n
-some-open s k zero lt h = absurd (omega (arith, lt))
-some-open s k (suc n) lt h = elim (cases_lt k n) [
-  | inl less ↦ more (is_link_open s n) (some-open s k n less h)
-  | inr ge ↦ last (is_link_open s n) (ap (λ m. is_link_open s m) (let a : n ≡ k = omega (arith, lt, ge) in a) ∙ h)
+-- where no turn more is made though fewer than the most were, no link is open
+none-more-open : (turns : List ScriptTurn) (most : ℕ) (t : Trace) (s : Plain) → makes_one_more turns most t s ≡ false →
+    begun turns t - length turns < most → open_link_count s ≡ 0
+none-more-open turns most t s h fewer = elim (cases_lt 0 (open_link_count s)) [
+  | inl some ↦
+      absurd (let a = le-leb 1 (open_link_count s) some in let b = lt-ltb (begun turns t - length turns) most fewer in
+      let c : (true && true) ≡ false = sym (λ i. a i && b i) ∙ h in cc)
+  | inr none ↦ omega (arith, none)
 ]
-  where
-    more : (b : Bool) → 1 ≤ open_links_below s n → 1 ≤ open_links_below s n + (if b then 1 else 0)
-    more b a = omega (arith, a)
 
-    last : (b : Bool) → b ≡ true → 1 ≤ open_links_below s n + (if b then 1 else 0)
-    last true a = omega arith
-    last false a = absurd (cc)
+module _ (frees_done : FreesAreOfDone) (bounded : MostIsBounded) (few : ClosingTurnsAreFew) (g : Settings) (turns : List ScriptTurn)
+    (t : Trace) (links : List LinkCount) (can : CanDrain g turns) (countable : IsCountable g turns)
+    (relayed : IsRelayed g TurnAnswer.Went t links) (answered : IsAnswered turns (closing_step g) t) (took : TookAll turns g.links t)
+    (run : Drains turns g TurnAnswer.Went t) where
+  abbrev step : ℕ
+  step = closing_step g
 
--- where no link is open, each is not
-none-open : (s : Plain) (n k : ℕ) → open_links_below s n ≡ 0 → k < n → is_link_open s k ≡ false
-none-open s n k none lt = go (is_link_open s k) refl
-  where
-    go : (b : Bool) → is_link_open s k ≡ b → is_link_open s k ≡ false
-    go false e = e
-    go true e = absurd (let a = some-open s k n lt e in omega (arith, a, none))
+  abbrev most : ℕ
+  most = most_closing_turns turns g run.scripted run.plain
 
-one-opened : (y : Event) (n : ℕ) → opened_by n y ≤ n + (if is_opened y then 1 else 0)
-one-opened (entry.Turn ms, bytes) n = omega arith
-one-opened (entry.Opened link connected, bytes) n = omega arith
-one-opened _ n = omega arith
+  abbrev ended : Plain
+  ended = run.ends.0
 
--- no more were opened in the last turn than in all
-in-turn-fewer : (t : Trace) (n : ℕ) → fold opened_by n t ≤ n + opened t
-in-turn-fewer [] n = omega arith
-in-turn-fewer (y ∷ t) n =
-    let a = one-opened y n in
-    let b = in-turn-fewer t (opened_by n y) in
-    let c = sum_by-cons (λ v. if is_opened v then 1 else 0) y t in
-    let d : opened (y ∷ t) ≡ (if is_opened y then 1 else 0) + opened t = c in
-    omega (arith, a, b, d)
+  end : Reaches g t (at Stage.Between ended)
+  end = run.ends.1
 
-freed-of : (a b c : Bool) → a ≡ not (b || c) → c ≡ false → a ≡ false → b ≡ true
-freed-of a true c h k l = refl
-freed-of a false true h k l = absurd (cc)
-freed-of a false false h k l = absurd (let m : false ≡ true = sym l ∙ h in cc)
+  frees : FreesAreDone t
+  frees = frees_done g turns step t can (at Stage.Between ended, end) answered
 
-module _ (g : Settings) (t : Trace) (s : Plain) (reached : Reaches g t (at Stage.Between s)) (frees : FreesAreDone t) where
-  told : (e : SideId) → e.link < s.opened → SideTold t Stage.Between s e
-  told e lt = (kept g t (at Stage.Between s) reached).each e lt
+  begun_is : begun turns t ≡ length turns + count_by is_turn run.closing
+  begun_is =
+      ap (count_by is_turn) run.is ∙ begun-append run.scripted run.closing ∙ ap (λ n. n + count_by is_turn run.closing) run.all
 
-  dead-freed : (e : SideId) → e.link < s.opened → is_live s e ≡ false → is_freed e t ≡ true
-  dead-freed e lt dead = freed-of (is_live s e) (is_freed e t) false (told e lt).live refl dead
+  -- closing turns that begin where the script's last turn ends are fewer than the most
+  module _ (begins : begins_turn run.closing ≡ true) where
+    answered_before : IsAnswered turns step run.scripted
+    answered_before = answered-there g turns t links relayed answered run.scripted run.closing run.is (inl begins)
 
-  -- A link that was opened in the last turn lives.
-  module _ (accounted : AllAccounted g t s)
-      (causes : (before after : Trace) (e : SideId) (why : Cause) (moved given : ℕ) (bytes : List ℕ) →
-      t ≡ before ++ (entry.Freed e why moved given, bytes) ∷ after → HasCause g before e why) where
-    -- the peer of a side that was freed has ended
-    peer-ended : (e : SideId) → e.link < s.opened → peer (peer e) ≡ e → is_freed e t ≡ true → has_ended (peer e) t ≡ true
-    peer-ended e lt back h =
-        ((accounted.each (peer e) lt).fits.read_done ((accounted.each (peer e) lt).closed closed).read_done).0
-      where
-        f : FreeAt e t
-        f = free-at e t h
+    clock : last_moment turns + step * (begun turns t - length turns) ≤ latest
+    clock =
+        let a = drains_in_most turns g TurnAnswer.Went t run in
+        let b = bounded g turns step run.scripted run.plain countable.names run.reached answered_before in
+        let c : step * (begun turns t - length turns) ≤ step * closing_turn_bound turns =
+        mul-le-mul_left step (omega (arith, a, b)) in
+        let d = countable.clock in
+        omega (arith, c, d)
 
-        has_cause : HasCause g f.before e cause.Done
-        has_cause =
-            subst (HasCause g f.before e) (frees f.before f.after e f.why f.moved f.given f.bytes f.is)
-            (causes f.before f.after e f.why f.moved f.given f.bytes f.is)
+    parts : Cut run.closing
+    parts = cut run.closing
 
-        closed : is_write_closed (peer (peer e)) t ≡ true
-        closed =
-            ap (λ v. is_write_closed v t) back ∙ ap (is_write_closed e) f.is
-            ∙ is_write_closed-append e f.before ((entry.Freed e f.why f.moved f.given, f.bytes) ∷ f.after)
-            ∙ or_left (is_write_closed e f.before) (is_write_closed e ((entry.Freed e f.why f.moved f.given, f.bytes) ∷ f.after)) has_cause.0
+    closing_is : run.closing ≡ flat_map (λ part. part) parts.parts
+    closing_is = no-head run.closing parts.head (flat_map (λ part. part) parts.parts) begins parts.is parts.quiet
 
-    pub opened-lives : 1 ≤ opened_in_turn t → 1 ≤ open_link_count s
-    opened-lives some = go (is_live s e) refl
-      where
-        counts : s.opened ≡ opened t
-        counts = (kept g t (at Stage.Between s) reached).counts.shape.opened
+    each : (before after : Trace) (ms : ℕ) (bytes : List ℕ) → run.closing ≡ before ++ (entry.Turn ms, bytes) ∷ after →
+        BetweenTurns g (run.scripted ++ before) (λ s. 1 ≤ open_link_count s)
+    each before after ms bytes is =
+        let k = run.each before after ms bytes is in
+        (k.0, k.1, one-more-open turns most (run.scripted ++ before) k.0 k.2)
 
-        e : SideId
-        e = record { link = opened t - 1; side = In }
+    pairs : PairsMoveOn parts.parts
+    pairs =
+        pairs-go g turns t links relayed answered can frees clock run.scripted run.closing run.is
+        (let a = run.all in omega (arith, a)) each parts.parts parts.each [] closing_is
 
-        below : e.link < s.opened
-        below = let a = in-turn-fewer t 0 in let b = counts in omega (arith, a, b, some)
+    whole : t ≡ run.scripted ++ flat_map (λ part. part) parts.parts
+    whole = run.is ∙ ap (λ v. run.scripted ++ v) closing_is
 
-        unread : has_ended (peer e) t ≡ false
-        unread = (fresh-links g t (at Stage.Between s) reached).unread (peer e) (omega (arith, some))
+    leads : Leads g run.scripted (at Stage.Between run.plain) (run.scripted ++ flat_map (λ part. part) parts.parts)
+        (at Stage.Between ended)
+    leads =
+        subst (λ v. Leads g run.scripted (at Stage.Between run.plain) (run.scripted ++ v) (at Stage.Between ended)) closing_is
+        (leads-closing g run.scripted run.plain run.reached run.closing begins ended
+        (subst (λ v. Reaches g v (at Stage.Between ended)) run.is end))
 
-        go : (b : Bool) → is_live s e ≡ b → 1 ≤ open_link_count s
-        go true h =
-            some-open s e.link s.opened below
-            (or_left (is_live s (record { link = e.link; side = In })) (is_live s (record { link = e.link; side = Out })) h)
-        go false h = absurd (let ended : true ≡ false = sym (peer-ended e below refl (dead-freed e below h)) ∙ unread in cc)
+    begun-fewer : begun turns t - length turns < most
+    begun-fewer =
+        let a = few g turns step run.scripted run.plain parts.parts ended can countable.names run.reached leads
+        (subst (IsAnswered turns step) whole answered) (let k = run.all in omega (arith, k)) pairs in
+        let b = parts.count in
+        let c = begun_is in
+        omega (arith, a, b, c)
 
-  -- Where no link is open, all are done.
-  pub none-left : (turns : List ScriptTurn) → open_link_count s ≡ 0 → opened t ≡ length (scripted_links turns) → AllLinksDone turns t
-  none-left turns none all = record { all_opened = all; done = λ link lt. done link (let a = counts in omega (arith, a, lt)) }
+  fewer : AtEnd run.closing → begun turns t - length turns < most
+  fewer (inl begins) = begun-fewer begins
+  fewer (inr none) = (let a = begun_is in let b : count_by is_turn run.closing ≡ 0 = ap (count_by is_turn) none in omega (arith, a, b))
+
+  pub links-done : AtEnd run.closing → AllLinksDone turns t
+  links-done starts =
+      none-left g t ended end frees turns none_open
+      (all-taken turns step t answered (let a = begun_is in omega (arith, a)) g can.links took
+      (λ many. let a = opened-lives g t ended end frees accounted relayed.freed (omega (arith, many)) in omega (arith, a, none_open)))
     where
-      counts : s.opened ≡ opened t
-      counts = (kept g t (at Stage.Between s) reached).counts.shape.opened
+      none_open : open_link_count ended ≡ 0
+      none_open = none-more-open turns most t ended run.ends.2 (fewer starts)
 
-      done : (link : ℕ) → link < s.opened → link_state_in t link ≡ state.Done
-      done link lt =
-          let i = in_side link in
-          let o = out_side link in
-          let dead = or_parts (is_live s i) (is_live s o) (none-open s s.opened link none lt) in
-          let first = dead-freed i lt dead.0 in
-          let second = dead-freed o lt dead.1 in
-          let one = freed-done i t frees first in
-          let two = freed-done o t frees second in
-          (λ k. if not (first k && second k) then state.Live else (if one k && two k then state.Done else state.Gone))
+      accounted : AllAccounted g t ended
+      accounted =
+          let k = stood-whole g turns t links relayed answered in
+          subst (AllAccounted g t) (between-one g t k.plain ended k.reached end) k.accounted
 
--- Once all turns of a script were begun, all its links were opened: none waits, or as many were opened as may be, or some in the last turn.
-module _ (turns : List ScriptTurn) (step : ℕ) (t : Trace) (answered : IsAnswered turns step t) (all : length turns ≤ begun turns t) where
-  links-all : links turns t ≡ scripted_links turns
-  links-all = ap (λ ts. flat_map links_by (flat_map (λ turn. turn.1) ts)) (take_all (begun turns t) turns all)
+-- Over a script that can be drained, a run that goes on with whole closing turns until it ends, or with nothing, brings every link to its
+-- end.
+abbrev pub DrainedByWholeTurns : Type 0
+DrainedByWholeTurns = (g : Settings) (turns : List ScriptTurn) (t : Trace) (links : List LinkCount) → CanDrain g turns →
+    IsCountable g turns → IsRelayed g TurnAnswer.Went t links → IsAnswered turns (closing_step g) t → AlwaysTookAll turns g.links [] t →
+    TookAll turns g.links t → (run : Drains turns g TurnAnswer.Went t) → AtEnd run.closing → AllLinksDone turns t
 
-  pub all-taken : (g : Settings) → length (scripted_links turns) ≤ g.links → TookAll turns g.links t → (opened_in_turn t ≡ 64 → ⊥) →
-      opened t ≡ length (scripted_links turns)
-  all-taken g fit took not_last = go took
-    where
-      most : opened t ≤ length (scripted_links turns)
-      most = (opens-as-scripted turns step t answered).1
-
-      go : TookAll turns g.links t → opened t ≡ length (scripted_links turns)
-      go (inl none) =
-          (let a = length-drop (opened t) (links turns t) in
-          let b : length (waiting turns t) ≡ 0 = ap length none in
-          let c = ap length links-all in
-          let d = most in
-          omega (arith, a, b, c, d))
-      go (inr (inl many)) = absurd (not_last many)
-      go (inr (inr full)) = (let d = most in omega (arith, full, fit, d))
+pub drained_by_whole_turns : FreesAreOfDone → MostIsBounded → ClosingTurnsAreFew → DrainedByWholeTurns
+drained_by_whole_turns frees_done bounded few g turns t links can countable relayed answered always took run starts =
+    links-done frees_done bounded few g turns t links can countable relayed answered took run starts

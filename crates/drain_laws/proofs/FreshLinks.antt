@@ -1,9 +1,10 @@
--- A link that was opened in a turn isn't read in it: the marks of the turn name older links. So none of its ends has ended when the turn does.
-use Rattle.std.proofs.Common.{◌≡◌, ℕ, ◌+◌, ◌<◌, ◌≤◌, Bool, true, false, ◌&&◌, ◌||◌, not, if◌then◌else◌, List, [], ◌∷◌, ◌++◌, Some, fold, count_by}
-use Rattle.std.proofs.Common.{◌⊎◌, inl, inr, refl, sym, ◌∙◌, ap, subst, arith}
-use Rattle.std.specs.List.{list_any, AllByRecursion}
+-- A link that was opened in a turn isn't read in it, as the marks of the turn name older links: so none of its ends has ended as the turn
+-- ends.
+use Rattle.std.proofs.Common.{◌≡◌, ℕ, ◌+◌, ◌<◌, ◌≤◌, Bool, true, false, ◌&&◌, not, if◌then◌else◌, List, [], ◌∷◌, ◌++◌, Some}
+use Rattle.std.proofs.Common.{inl, inr, refl, sym, ◌∙◌, ap, subst, arith}
+use Rattle.std.specs.List.{AllByRecursion}
 use Rattle.std.proofs.lemmas.Bool.{or_from}
-use Rattle.std.proofs.lemmas.List.Sums.{fold_push, sum_by-cons}
+use Rattle.std.proofs.lemmas.List.Sums.{fold_push}
 use Rattle.ev_types.specs.declared.side.SideId.{SideId}
 use Rattle.ev_types.specs.declared.answer.ReadAnswer.{ReadAnswer}
 use Rattle.ev_types.specs.declared.answer.ReadAnswer.TheVariants as read
@@ -15,14 +16,15 @@ use Rattle.ev_types.specs.Trace.{Event, Trace}
 use Rattle.relay_model.specs.Trace.{ended_by, has_ended}
 use Rattle.relay_model.specs.Settings.{Settings}
 use Rattle.relay_model.specs.Due.{Reason}
-use Rattle.relay_model.specs.Plain.{Plain, is_live}
+use Rattle.relay_model.specs.Plain.{Plain}
 use Rattle.relay_model.specs.Past.{past}
 use Rattle.relay_model.specs.Rooms.{Want, is_connecting}
 use Rattle.relay_model.specs.Serve.{marks_left}
 use Rattle.relay_model.specs.Close.{CloseStep, closing_entry, freed_entry}
-use Rattle.relay_model.specs.Stages.{Stage, State, Fire, Halt, at, Between, Polling, Wanting, Marking, Accepting, Serving, Filtering, Dispatching}
+use Rattle.relay_model.specs.Stages.{Stage, State, Fire, Halt, at, Between, Polling, Wanting, Marking, Accepting, Serving, Filtering}
+use Rattle.relay_model.specs.Stages.{Dispatching}
 use Rattle.relay_model.specs.Stages.{Firing, Freeing, Passing, Closing, Over}
-use Rattle.relay_model.specs.Turn.{Puts, Quietly, Reaches, after_reading, after_fire}
+use Rattle.relay_model.specs.Turn.{Puts, Quietly, Reaches, after_reading}
 use Rattle.relay_model.specs.RatesKept.{is_turn}
 use Rattle.relay_model.specs.Totals.{is_opened, opened, opened_by, opened_in_turn}
 use Rattle.relay_model.specs.Told.{names}
@@ -132,7 +134,8 @@ older-more n all [] h = tt
 older-more n all (w ∷ ws) h = ((let a = h.0 in omega (arith, a)), older-more n all ws h.1)
 
 -- a turn begins
-turn-fresh : (g : Settings) (t : Trace) (s : Plain) (ms : ℕ) (bytes : List ℕ) → Reaches g t (at Between s) → Fresh (t ++ (entry.Turn ms, bytes) ∷ []) Polling
+turn-fresh : (g : Settings) (t : Trace) (s : Plain) (ms : ℕ) (bytes : List ℕ) → Reaches g t (at Between s) →
+    Fresh (t ++ (entry.Turn ms, bytes) ∷ []) Polling
 turn-fresh g t s ms bytes r = record {
   early = λ h. in_turn;
   older = tt;
@@ -232,7 +235,8 @@ fired-fresh g t s x rs y new (PutKind.asked {next = next} {left = left} same k l
     calm-push t y (Firing x rs) (Firing next left) (record { turn = refl; opens = refl; ends = λ z. refl }) (λ n all h. tt)
     (λ h. absurd (cc)) f
 
-closed-ending : (g : Settings) (t : Trace) (s : Plain) (c : CloseStep) (y : Entry) → closing_entry g (past g t) s c ≡ Some y → is_ending y ≡ true
+closed-ending : (g : Settings) (t : Trace) (s : Plain) (c : CloseStep) (y : Entry) → closing_entry g (past g t) s c ≡ Some y →
+    is_ending y ≡ true
 closed-ending g t s c y h = go (is_ending y) refl
   where
     go : (b : Bool) → is_ending y ≡ b → is_ending y ≡ true

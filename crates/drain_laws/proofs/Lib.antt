@@ -1,6 +1,7 @@
 pub mod AnsweredTurns
 pub mod TurnPlaces
-pub mod StepLemmas
+pub mod ClockSteps
 pub mod ClosingPairs
 pub mod FreshLinks
+pub mod LinksDone
 pub mod DrainedLemmas

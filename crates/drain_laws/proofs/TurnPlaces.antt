@@ -1,7 +1,7 @@
 -- Where turns begin in a run: it stands there between two turns, in one plain state, and from one such place steps lead to the next. A
 -- trace is cut into its turns.
-use Rattle.std.proofs.Common.{◌≡◌, ℕ, ◌+◌, ◌<◌, ◌≤◌, Bool, true, false, ◌||◌, if◌then◌else◌, List, [], ◌∷◌, ◌++◌, length, count_by, ◌⊎◌, inl, inr}
-use Rattle.std.proofs.Common.{refl, sym, ◌∙◌, ap, subst, arith, append_assoc, append-nil, length-append}
+use Rattle.std.proofs.Common.{◌≡◌, ℕ, ◌+◌, ◌≤◌, true, false, ◌||◌, List, [], ◌∷◌, ◌++◌, length, count_by, ◌⊎◌, inl, inr}
+use Rattle.std.proofs.Common.{refl, sym, ◌∙◌, ap, subst, arith, length-append}
 use Rattle.std.specs.List.{flat_map, list_any, AllByRecursion}
 use Rattle.ev_types.specs.declared.entry.Entry.TheVariants as entry
 use Rattle.ev_types.specs.Trace.{Event, Trace}
@@ -24,7 +24,8 @@ pub record TurnPut (x : Stage) (y : Event) : Type 0 where
   pub stage : x ≡ Stage.Between
   pub bytes : y.1 ≡ []
 
-by-kind : (g : Settings) (t : Trace) (s : Plain) (x : Stage) (y : Event) (new : State) → TurnOrNot g t s x y new → is_turn y ≡ true → TurnPut x y
+by-kind : (g : Settings) (t : Trace) (s : Plain) (x : Stage) (y : Event) (new : State) → TurnOrNot g t s x y new →
+    is_turn y ≡ true → TurnPut x y
 by-kind g t s x y new (TurnOrNot.turns) h = record { stage = refl; bytes = refl }
 by-kind g t s x y new (TurnOrNot.stays no_turn) h = absurd (let k : true ≡ false = sym h ∙ no_turn in cc)
 
@@ -50,8 +51,8 @@ leads-longer g t s u new (Leads.puts {u = v} {mid = mid} e bytes l p) =
     let a = leads-longer g t s v mid l in let b = length-append v ((e, bytes) ∷ []) in omega (arith, a, b)
 
 -- with no entry nothing leads away from between two turns
-leads-stay : (g : Settings) (t : Trace) (a : Plain) (u : Trace) (new : State) → Leads g t (at Stage.Between a) u new → length u ≤ length t →
-    new ≡ at Stage.Between a
+leads-stay : (g : Settings) (t : Trace) (a : Plain) (u : Trace) (new : State) → Leads g t (at Stage.Between a) u new →
+    length u ≤ length t → new ≡ at Stage.Between a
 leads-stay g t a u new (Leads.stays) h = refl
 leads-stay g t a u new (Leads.goes {mid = mid} l q) h =
     absurd (subst (λ (v : State). Quietly g u v.stage v.plain new) (leads-stay g t a u mid l h) q)

@@ -1,6 +1,7 @@
 -- A closing turn is a step of the clock behind the one before, and in a step a tick of each limit begins.
-use Rattle.std.proofs.Common.{◌≡◌, ℕ, zero, suc, ◌+◌, ◌-◌, ◌*◌, ◌/◌, ◌<◌, ◌≤◌, max, Bool, true, false, ◌==◌, if◌then◌else◌, List, [], ◌∷◌, ◌++◌, map, fold}
-use Rattle.std.proofs.Common.{Option, Some, None, refl, sym, ap, subst, arith, eqb-true}
+use Rattle.std.proofs.Common.{◌≡◌, ℕ, zero, suc, ◌+◌, ◌-◌, ◌*◌, ◌/◌, ◌<◌, ◌≤◌, max, Bool, true, false, ◌==◌, if◌then◌else◌, List, [], ◌∷◌}
+use Rattle.std.proofs.Common.{◌++◌, map, fold}
+use Rattle.std.proofs.Common.{Option, Some, refl, sym, ap, subst, arith, eqb-true}
 use Rattle.std.specs.Prelude.{slice_get, option_map, option_to_list}
 use Rattle.std.proofs.lemmas.List.Sums.{fold-append}
 use Rattle.std.proofs.lemmas.Nat.{le-div}
@@ -44,7 +45,8 @@ option-most : (o : Option LimitCfg) (m : ℕ) (cfg : LimitCfg) → o ≡ Some cf
 option-most o m cfg is =
     subst (λ v. cfg.tick_ms ≤ most-of m (option_to_list (option_map (λ cfg. cfg.tick_ms) v))) (sym is) (omega arith)
 
-group-most : (xs : List GroupSet) (n m : ℕ) (x : GroupSet) → slice_get xs n ≡ Some x → x.cfg.tick_ms ≤ most-of m (map (λ v. v.cfg.tick_ms) xs)
+group-most : (xs : List GroupSet) (n m : ℕ) (x : GroupSet) → slice_get xs n ≡ Some x →
+    x.cfg.tick_ms ≤ most-of m (map (λ v. v.cfg.tick_ms) xs)
 group-most [] n m x is = absurd (cc)
 group-most (y ∷ xs) zero m x is =
     let same : y.cfg.tick_ms ≡ x.cfg.tick_ms = some-tick y x is in
