@@ -20,7 +20,7 @@ use Rattle.relay_model.specs.Answers.{TurnAnswer}
 use Rattle.relay_model.specs.Script.{closing_step}
 use Rattle.relay_model.specs.RatesKept.{is_turn}
 use Rattle.relay_model.specs.Scripted.{begun}
-use Rattle.relay_model.specs.Plays.{IsAnswered, AlwaysTookAll, TookAll}
+use Rattle.relay_model.specs.Plays.{IsAnswered, TookAll}
 use Rattle.relay_model.specs.Stands.{AllAccounted}
 use Rattle.relay_model.specs.OpenLinks.{open_link_count, FreesAreDone}
 use Rattle.relay_model.specs.Work.{PairsMoveOn}
@@ -29,7 +29,7 @@ use Rattle.relay_model.proofs.DrainLemmas.{drains_in_most}
 use Rattle.relay_laws.specs.Relayed.{IsRelayed}
 use Rattle.relay_laws.specs.TurnEnds.{begins_turn}
 use Rattle.drain_laws.specs.CanDrain.{CanDrain, IsCountable, last_moment, closing_turn_bound}
-use Rattle.drain_laws.specs.DrainBound.{FreesAreOfDone, MostIsBounded, ClosingTurnsAreFew, AllLinksDone}
+use Rattle.drain_laws.specs.DrainBound.{FreesAreOfDone, MostIsBounded, ClosingTurnsAreFew, AllLinksDone, DrainedLinksAreDone}
 use Rattle.drain_laws.proofs.AnsweredTurns.{begun-append}
 use Rattle.drain_laws.proofs.TurnPlaces.{leads-on, between-one, Cut, cut, AtEnd}
 use Rattle.drain_laws.proofs.ClosingPairs.{stood-whole, answered-there, pairs-go}
@@ -154,13 +154,6 @@ module _ (frees_done : FreesAreOfDone) (bounded : MostIsBounded) (few : ClosingT
           let k = stood-whole g turns t links relayed answered in
           subst (AllAccounted g t) (between-one g t k.plain ended k.reached end) k.accounted
 
--- Over a script that can be drained, a run that goes on with whole closing turns until it ends, or with nothing, brings every link to its
--- end.
-abbrev pub DrainedByWholeTurns : Type 0
-DrainedByWholeTurns = (g : Settings) (turns : List ScriptTurn) (t : Trace) (links : List LinkCount) → CanDrain g turns →
-    IsCountable g turns → IsRelayed g TurnAnswer.Went t links → IsAnswered turns (closing_step g) t → AlwaysTookAll turns g.links [] t →
-    TookAll turns g.links t → (run : Drains turns g TurnAnswer.Went t) → AtEnd run.closing → AllLinksDone turns t
-
-pub drained_by_whole_turns : FreesAreOfDone → MostIsBounded → ClosingTurnsAreFew → DrainedByWholeTurns
-drained_by_whole_turns frees_done bounded few g turns t links can countable relayed answered always took run starts =
+pub drained_links_are_done : FreesAreOfDone → MostIsBounded → ClosingTurnsAreFew → DrainedLinksAreDone
+drained_links_are_done frees_done bounded few g turns t links can countable relayed answered always took run starts =
     links-done frees_done bounded few g turns t links can countable relayed answered took run starts
