@@ -1,4 +1,5 @@
-use Rattle.std.proofs.Common.{◌≡◌, ◌≢◌, ◌⊎◌, inl, inr, ◌≤◌, ◌<◌, ◌+◌, ◌++◌, ◌^◌, ◌-◌, ◌&&◌, ℕ, Bool, true, false, Some, None, min, refl, ap, sym, ◌∙◌}
+use Rattle.std.proofs.Common.{◌≡◌, ◌≢◌, ◌⊎◌, inl, inr, ◌≤◌, ◌<◌, ◌+◌, ◌++◌, ◌^◌, ◌-◌, ◌&&◌, ℕ, Bool, true, false, Some, None, min, refl, ap}
+use Rattle.std.proofs.Common.{sym, ◌∙◌}
 use Rattle.std.proofs.Common.{subst, arith, length, Ok, IfOk, IfErr, Option}
 use Rattle.std.specs.Prelude.{count_by, nat_lt, IsSomeAnd}
 use Rattle.ev_types.specs.Trace.{Trace}
