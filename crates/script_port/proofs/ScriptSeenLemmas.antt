@@ -294,7 +294,7 @@ module _ (turns : List ScriptTurn) (t : Trace) (asked : Asked turns t) where
 
     undecided_yet : (e : SideId) (s : EndState) → EndHere e s → length (model.links turns t) ≤ e.link → model.is_closing turns t ≡
         false → s.decision ≡ None
-    undecided_yet e s k far open = k.decision ∙ (λ i. decided_at (open i) e.side ((unsaid e far).decides i)) ∙ decided_none e.side
+    undecided_yet e s k far before = k.decision ∙ (λ i. decided_at (before i) e.side ((unsaid e far).decides i)) ∙ decided_none e.side
 
     -- in closing turns all links were opened
     all_opened : length turns ≤ model.begun turns t → model.links turns t ≡ links_of (lines_of turns)

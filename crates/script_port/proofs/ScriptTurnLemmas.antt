@@ -140,7 +140,7 @@ module _ (p : PortState) (step : ℕ) (t : Trace) (stands : PortStands p step t)
       let begun = stands.begun in
       let here : slice_get p.turns n ≡ Some turn = ap (slice_get p.turns) (sym begun) ∙ next in
       let within : n < length p.turns = slice_get_within p.turns n turn here in
-      let open : model.is_closing p.turns t ≡ false = not_yet (length p.turns) n (omega (arith, within)) in
+      let before : model.is_closing p.turns t ≡ false = not_yet (length p.turns) n (omega (arith, within)) in
       let still_open : model.is_closing p.turns (t ++ u) ≡ false = not_yet (length p.turns) (model.begun p.turns (t ++ u))
       (omega (arith, within, count)) in
       let lines : model.lines p.turns (t ++ u) ≡ model.lines p.turns t ++ turn.1 =
@@ -157,7 +157,7 @@ module _ (p : PortState) (step : ℕ) (t : Trace) (stands : PortStands p step t)
             (subst (λ z. LinksStand false waits z (t ++ u) (after_lines turn.1 running)) (sym lines)
             (lines_stand waits (model.lines p.turns t) (t ++ u) turn.1 running (entered_stands false waits (model.lines p.turns t)
             (t ++ u) (Some p.begun) p.links (links_silent false waits (model.lines p.turns t) t u p.links p.links (silent-turn ms)
-            (like p.links) (subst (λ c. LinksStand c waits (model.lines p.turns t) t p.links) open stands.links)))));
+            (like p.links) (subst (λ c. LinksStand c waits (model.lines p.turns t) t p.links) before stands.links)))));
         now = subst (λ z. RunsTurn z (p.begun + 1) (after_lines turn.1 running))
             (sym (ap (λ k. flat_map (λ turn. turn.1) (drop (k - 1) (take k p.turns))) count ∙ lines_of_turn n p.turns turn here))
             (runs-lines [] p.begun turn.1 running refl (runs-entered (model.lines_now p.turns t) p.begun p.links stands.now));

@@ -1,5 +1,5 @@
 -- With each call a script port vouches for the longer trace.
-use Rattle.std.proofs.Common.{◌≡◌, ◌⊎◌, ℕ, ◌+◌, ◌-◌, ◌^◌, ◌<◌, ◌≤◌, Bool, not, nat_lt, List, [], ◌∷◌, ◌++◌, length, take, drop, map, Option}
+use Rattle.std.proofs.Common.{◌≡◌, ◌⊎◌, ℕ, ◌+◌, ◌-◌, ◌^◌, ◌<◌, ◌≤◌, Bool, true, not, nat_lt, if◌then◌else◌, List, [], ◌∷◌, ◌++◌, length, take, drop, map, Option}
 use Rattle.std.proofs.Common.{Some, None, refl, sym, ap, subst, ◌∙◌, arith, append_assoc, append-nil, length-append, length-take-le, inl, inr}
 use Rattle.std.specs.Prelude.{count_by, option_map}
 use Rattle.std.specs.Option.{option_map_or}
